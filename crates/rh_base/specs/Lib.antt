@@ -1,0 +1,6 @@
+pub mod formers
+pub mod Causes
+pub mod Shelf
+pub mod Sink
+pub mod Kept
+pub mod Refused
