@@ -1,0 +1,59 @@
+-- Runs of programs that commute do not depend on the order.
+use Rattle.std.proofs.Common.{◌≡◌, ℕ, Bool, true, false, cond, ◌==◌, ◌+◌, ◌<◌, List, [], ◌∷◌, ◌++◌, Some, None, refl, sym, ap, ◌∙◌, arith, eqb-true, eq-eqb, zero-add}
+use Rattle.fs_semantics.specs.FileTree.{Tree}
+use Rattle.fs_semantics.specs.Orders.{times}
+use Rattle.fs_semantics.specs.Programs.{Outcome, and_then}
+
+pub and_then_assoc : (r : Outcome) (f g : Tree → Outcome) → and_then (and_then r f) g ≡ and_then r (λ t. and_then (f t) g)
+and_then_assoc None f g = refl
+and_then_assoc (Some t) f g = refl
+
+-- steps by number, one after the other
+abbrev pub run_steps : (ℕ → Tree → Outcome) → List ℕ → Tree → Outcome
+run_steps step [] t = Some t
+run_steps step (i ∷ order) t = and_then (step i t) (run_steps step order)
+
+module _ (step : ℕ → Tree → Outcome) (commute : (i j : ℕ) (t : Tree) → and_then (step i t) (step j) ≡ and_then (step j t) (step i)) where
+  -- a step may be made first
+  to_front : (front : List ℕ) (i : ℕ) (back : List ℕ) (t : Tree) → run_steps step (front ++ i ∷ back) t ≡ run_steps step (i ∷ front ++ back) t
+  to_front [] i back t = refl
+  to_front (j ∷ front) i back t =
+      ap (and_then (step j t)) (λ n u. to_front front i back u n)
+      ∙ sym (and_then_assoc (step j t) (step i) (run_steps step (front ++ back)))
+      ∙ ap (λ r. and_then r (run_steps step (front ++ back))) (commute j i t)
+      ∙ and_then_assoc (step i t) (step j) (run_steps step (front ++ back))
+
+one_more : (b : Bool) (n : ℕ) → cond b 1 0 + n ≡ 0 → b ≡ false
+one_more true n e = absurd (omega arith)
+one_more false n e = refl
+
+times_append : (k : ℕ) (xs ys : List ℕ) → times k (xs ++ ys) ≡ times k xs + times k ys
+times_append k [] ys = omega arith
+times_append k (x ∷ xs) ys = omega (arith, times_append k xs ys)
+
+none_here : (k x : ℕ) (xs : List ℕ) → (x == k) ≡ false → times k (x ∷ xs) ≡ times k xs
+none_here k x xs e = ap (λ b. cond b 1 0 + times k xs) e ∙ zero-add _
+
+-- what is counted is somewhere
+found : (k : ℕ) (xs : List ℕ) → 0 < times k xs → (front : List ℕ) × (back : List ℕ) × (xs ≡ front ++ k ∷ back)
+found k [] h = absurd (omega arith)
+found k (x ∷ xs) h = elim (x == k) as (λ b. (x == k) ≡ b → (front : List ℕ) × (back : List ℕ) × (x ∷ xs ≡ front ++ k ∷ back)) [
+  | true ↦ λ e. ([], xs, ap (λ y. y ∷ xs) (eqb-true x k e))
+  | false ↦ λ e. let rest = found k xs (omega (arith, none_here k x xs e)) in (x ∷ rest.0, rest.1, ap (λ ys. x ∷ ys) rest.2)
+] refl
+
+itself : (x : ℕ) (xs : List ℕ) → times x (x ∷ xs) ≡ 1 + times x xs
+itself x xs = ap (λ b. cond b 1 0 + times x xs) (eq-eqb x x refl)
+
+-- two orders that have each number equally often
+pub same_runs : (step : ℕ → Tree → Outcome) (commute : (i j : ℕ) (t : Tree) → and_then (step i t) (step j) ≡ and_then (step j t) (step i))
+    → (o p : List ℕ) → ((k : ℕ) → times k o ≡ times k p) → (t : Tree) → run_steps step o t ≡ run_steps step p t
+same_runs step commute [] [] h t = refl
+same_runs step commute [] (i ∷ p) h t = absurd (omega (arith, h i, itself i p))
+same_runs step commute (i ∷ o) p h t =
+    let split = found i p (omega (arith, h i, itself i o)) in
+    let rest : (k : ℕ) → times k o ≡ times k (split.0 ++ split.1) = λ k.
+    omega (arith, h k, ap (times k) split.2, times_append k split.0 (i ∷ split.1), times_append k split.0 split.1) in
+    ap (and_then (step i t)) (λ n u. same_runs step commute o (split.0 ++ split.1) rest u n)
+    ∙ sym (to_front step commute split.0 i split.1 t)
+    ∙ ap (λ q. run_steps step q t) (sym split.2)
