@@ -10,10 +10,10 @@ use Rattle.fs_semantics.specs.Programs.{Program, Id, and_then, run}
 use Rattle.fs_semantics.specs.Orders.{times, NoneAhead, outcome, Succeeds}
 use Rattle.fs_semantics.specs.Models.{put}
 use Rattle.fs_semantics.specs.Apart.{IsAncestor, IsApartFrom, AreApart}
-use Rattle.fs_semantics.specs.Plain.{PlainFile, IsFilePath, ArePlain, puts, Unordered}
+use Rattle.fs_semantics.specs.PlainFiles.{PlainFile, IsFilePath, ArePlain, puts, Unordered}
 use Rattle.fs_semantics.proofs.Trees.{path_total, path_eq_refl, path_eq_same}
 use Rattle.fs_semantics.proofs.Puts.{can_put, put_is, can_put_other}
-use Rattle.fs_semantics.proofs.Plain.{not_parent}
+use Rattle.fs_semantics.proofs.PlainFiles.{not_parent}
 
 abbrev In : Path → List Path → Type 0
 In q [] = ⊥

@@ -1,6 +1,6 @@
--- Runs of programs that commute do not depend on the order.
-use Rattle.std.proofs.Common.{◌≡◌, ℕ, Bool, true, false, cond, ◌==◌, ◌+◌, ◌<◌, List, [], ◌∷◌, ◌++◌, Some, None, refl, sym, ap, ◌∙◌, arith, eqb-true, eq-eqb, zero-add}
-use Rattle.fs_semantics.specs.FileTree.{Tree}
+-- Runs of steps that commute do not depend on the order.
+use Rattle.std.proofs.Common.{◌≡◌, ℕ, true, false, cond, ◌==◌, ◌+◌, ◌<◌, List, [], ◌∷◌, ◌++◌, Some, None, refl, sym, ap, ◌∙◌, arith, eqb-true, eq-eqb, zero-add}
+use Rattle.fs_semantics.specs.FileTree.{Tree, IsTree}
 use Rattle.fs_semantics.specs.Orders.{times}
 use Rattle.fs_semantics.specs.Programs.{Outcome, and_then}
 
@@ -8,26 +8,32 @@ pub and_then_assoc : (r : Outcome) (f g : Tree → Outcome) → and_then (and_th
 and_then_assoc None f g = refl
 and_then_assoc (Some t) f g = refl
 
+-- what comes after is the same, where it is the same from the tree that is reached
+pub then_alike : (r : Outcome) (f g : Tree → Outcome) → ((u : Tree) → r ≡ Some u → f u ≡ g u) → and_then r f ≡ and_then r g
+then_alike None f g same = refl
+then_alike (Some t) f g same = same t refl
+
 -- steps by number, one after the other
 abbrev pub run_steps : (ℕ → Tree → Outcome) → List ℕ → Tree → Outcome
 run_steps step [] t = Some t
 run_steps step (i ∷ order) t = and_then (step i t) (run_steps step order)
 
-module _ (step : ℕ → Tree → Outcome) (commute : (i j : ℕ) (t : Tree) → and_then (step i t) (step j) ≡ and_then (step j t) (step i)) where
+-- each step leaves a file tree, and in which order two of them are made is the same
+pub record CommutingSteps (step : ℕ → Tree → Outcome) : Type 0 where
+  pub keeps : (i : ℕ) (t u : Tree) → IsTree t → step i t ≡ Some u → IsTree u
+  pub commute : (i j : ℕ) (t : Tree) → IsTree t → and_then (step i t) (step j) ≡ and_then (step j t) (step i)
+
+module _ (step : ℕ → Tree → Outcome) (steps : CommutingSteps step) where
   -- a step may be made first
-  to_front : (front : List ℕ) (i : ℕ) (back : List ℕ) (t : Tree) → run_steps step (front ++ i ∷ back) t ≡ run_steps step (i ∷ front ++ back) t
-  to_front [] i back t = refl
-  to_front (j ∷ front) i back t =
-      ap (and_then (step j t)) (λ n u. to_front front i back u n)
+  pub to_front : (front : List ℕ) (i : ℕ) (back : List ℕ) (t : Tree) → IsTree t → run_steps step (front ++ i ∷ back) t ≡ run_steps step (i ∷ front ++ back) t
+  to_front [] i back t tree = refl
+  to_front (j ∷ front) i back t tree =
+      then_alike (step j t) (run_steps step (front ++ i ∷ back)) (run_steps step (i ∷ front ++ back)) (λ u is. to_front front i back u (steps.keeps j t u tree is))
       ∙ sym (and_then_assoc (step j t) (step i) (run_steps step (front ++ back)))
-      ∙ ap (λ r. and_then r (run_steps step (front ++ back))) (commute j i t)
+      ∙ ap (λ r. and_then r (run_steps step (front ++ back))) (steps.commute j i t tree)
       ∙ and_then_assoc (step i t) (step j) (run_steps step (front ++ back))
 
-one_more : (b : Bool) (n : ℕ) → cond b 1 0 + n ≡ 0 → b ≡ false
-one_more true n e = absurd (omega arith)
-one_more false n e = refl
-
-times_append : (k : ℕ) (xs ys : List ℕ) → times k (xs ++ ys) ≡ times k xs + times k ys
+pub times_append : (k : ℕ) (xs ys : List ℕ) → times k (xs ++ ys) ≡ times k xs + times k ys
 times_append k [] ys = omega arith
 times_append k (x ∷ xs) ys = omega (arith, times_append k xs ys)
 
@@ -42,18 +48,17 @@ found k (x ∷ xs) h = elim (x == k) as (λ b. (x == k) ≡ b → (front : List 
   | false ↦ λ e. let rest = found k xs (omega (arith, none_here k x xs e)) in (x ∷ rest.0, rest.1, ap (λ ys. x ∷ ys) rest.2)
 ] refl
 
-itself : (x : ℕ) (xs : List ℕ) → times x (x ∷ xs) ≡ 1 + times x xs
+pub itself : (x : ℕ) (xs : List ℕ) → times x (x ∷ xs) ≡ 1 + times x xs
 itself x xs = ap (λ b. cond b 1 0 + times x xs) (eq-eqb x x refl)
 
 -- two orders that have each number equally often
-pub same_runs : (step : ℕ → Tree → Outcome) (commute : (i j : ℕ) (t : Tree) → and_then (step i t) (step j) ≡ and_then (step j t) (step i))
-    → (o p : List ℕ) → ((k : ℕ) → times k o ≡ times k p) → (t : Tree) → run_steps step o t ≡ run_steps step p t
-same_runs step commute [] [] h t = refl
-same_runs step commute [] (i ∷ p) h t = absurd (omega (arith, h i, itself i p))
-same_runs step commute (i ∷ o) p h t =
+pub same_runs : (step : ℕ → Tree → Outcome) → CommutingSteps step → (o p : List ℕ) → ((k : ℕ) → times k o ≡ times k p) → (t : Tree) → IsTree t → run_steps step o t ≡ run_steps step p t
+same_runs step steps [] [] h t tree = refl
+same_runs step steps [] (i ∷ p) h t tree = absurd (omega (arith, h i, itself i p))
+same_runs step steps (i ∷ o) p h t tree =
     let split = found i p (omega (arith, h i, itself i o)) in
     let rest : (k : ℕ) → times k o ≡ times k (split.0 ++ split.1) = λ k.
     omega (arith, h k, ap (times k) split.2, times_append k split.0 (i ∷ split.1), times_append k split.0 split.1) in
-    ap (and_then (step i t)) (λ n u. same_runs step commute o (split.0 ++ split.1) rest u n)
-    ∙ sym (to_front step commute split.0 i split.1 t)
+    then_alike (step i t) (run_steps step o) (run_steps step (split.0 ++ split.1)) (λ u is. same_runs step steps o (split.0 ++ split.1) rest u (steps.keeps i t u tree is))
+    ∙ sym (to_front step steps split.0 i split.1 t tree)
     ∙ ap (λ q. run_steps step q t) (sym split.2)

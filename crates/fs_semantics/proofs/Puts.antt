@@ -1,10 +1,10 @@
 -- What `put` does to a tree, and that two of them at paths that are apart commute.
-use Rattle.std.proofs.Common.{◌≡◌, ◌≢◌, ℕ, Bool, true, false, cond, ◌&&◌, ◌||◌, List, [], ◌∷◌, ◌++◌, Option, Some, None, refl, sym, ap, subst, ◌∙◌}
+use Rattle.std.proofs.Common.{◌≡◌, ◌≢◌, ℕ, Bool, true, false, cond, ◌&&◌, ◌||◌, List, ◌∷◌, Option, Some, None, refl, sym, ap, subst, ◌∙◌}
 use Rattle.std.specs.FinMap as map
-use Rattle.fs_semantics.specs.FileTree.{Path, Entry, Folder, File, Link as LinkTo, Tree, parent, is_dir, is_file_entry, is_folder_entry, is_no_entry}
+use Rattle.fs_semantics.specs.FileTree.{Path, Entry, Folder, File, Link as LinkTo, Tree, parent, is_dir, is_file_entry, is_no_entry}
 use Rattle.fs_semantics.specs.Programs.{Outcome, and_then, run}
 use Rattle.fs_semantics.specs.Models.{put}
-use Rattle.fs_semantics.proofs.Trees.{at_inserted, at_other, at_removed, at_kept, insert-remove, insert-insert, insert-comm, parent_above}
+use Rattle.fs_semantics.proofs.Trees.{at_inserted, at_other, at_removed, at_kept, insert-remove, insert-insert, insert-comm, parent_differs, is_dir_other}
 
 -- the path is free or a file, and its parent is a folder
 abbrev pub can_put : Path → Tree → Bool
@@ -12,18 +12,6 @@ can_put p t = (is_no_entry (map.get t p) || is_file_entry (map.get t p)) && is_d
 
 abbrev pub put_step : Path → List ℕ → Tree → Outcome
 put_step p content t = cond (can_put p t) (Some (map.insert t p (File content))) None
-
--- a change at p leaves whether another path is a folder
-pub is_dir_other : (t u : Tree) (q : Path) → map.get u q ≡ map.get t q → is_dir u q ≡ is_dir t q
-is_dir_other t u [] h = refl
-is_dir_other t u (s ∷ q) h = ap is_folder_entry h
-
-append_longer : (p more : Path) → more ≢ [] → p ≡ p ++ more → ⊥
-append_longer [] more h e = h (sym e)
-append_longer (s ∷ p) more h e = append_longer p more h (cc)
-
-pub parent_differs : (s : List ℕ) (p : Path) → parent (s ∷ p) ≢ s ∷ p
-parent_differs s p e = let up = parent_above s p in append_longer (parent (s ∷ p)) up.0 up.1 (e ∙ up.2)
 
 then_done : (b : Bool) (u : Tree) → and_then (cond b (Some u) None) (λ t. Some t) ≡ cond b (Some u) None
 then_done true u = refl

@@ -5,7 +5,7 @@ use Rattle.std.proofs.lemmas.Cmp.{lists_total}
 use Rattle.std.specs.Ordering.{is_eq}
 use Rattle.std.specs.FinMap as map
 use Rattle.std.specs.FinMap.{IsAntisymmetric, nat_cmp-IsAntisymmetric, slice_cmp-IsAntisymmetric, get-insert, get-remove, same_map}
-use Rattle.fs_semantics.specs.FileTree.{Path, Entry, Tree, path_cmp, path_eq, parent}
+use Rattle.fs_semantics.specs.FileTree.{Path, Entry, Tree, path_cmp, path_eq, parent, is_dir, is_folder_entry}
 
 pub path_total : IsTotalOrder path_cmp
 path_total = lists_total (lists_total nat_cmp_total)
@@ -79,3 +79,15 @@ insert-comm t p q x y h = same_map path_total path_same _ _ (λ r.
 pub parent_above : (s : List ℕ) (p : Path) → (more : Path) × (more ≢ []) × (s ∷ p ≡ parent (s ∷ p) ++ more)
 parent_above s [] = (s ∷ [], (λ e. cc), refl)
 parent_above s (r ∷ p) = let up = parent_above r p in (up.0, up.1, ap (λ q. s ∷ q) up.2)
+
+-- a change at p leaves whether another path is a folder
+pub is_dir_other : (t u : Tree) (q : Path) → map.get u q ≡ map.get t q → is_dir u q ≡ is_dir t q
+is_dir_other t u [] h = refl
+is_dir_other t u (s ∷ q) h = ap is_folder_entry h
+
+append_longer : (p more : Path) → more ≢ [] → p ≡ p ++ more → ⊥
+append_longer [] more h e = h (sym e)
+append_longer (s ∷ p) more h e = append_longer p more h (cc)
+
+pub parent_differs : (s : List ℕ) (p : Path) → parent (s ∷ p) ≢ s ∷ p
+parent_differs s p e = let up = parent_above s p in append_longer (parent (s ∷ p)) up.0 up.1 (e ∙ up.2)

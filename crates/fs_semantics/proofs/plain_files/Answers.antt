@@ -1,5 +1,5 @@
-use Rattle.fs_semantics.specs.Plain.{Unordered}
-use Rattle.fs_semantics.proofs.Plain.{plain_deterministic, plain_idempotent}
+use Rattle.fs_semantics.specs.PlainFiles.{Unordered}
+use Rattle.fs_semantics.proofs.PlainFiles.{plain_deterministic, plain_idempotent}
 use Rattle.fs_semantics.proofs.Ground.{plain_succeeds}
 use Rattle.fs_semantics.proofs.plain_files.Goals as goal
 

@@ -1,0 +1,211 @@
+-- What each construct changes and what it leaves, and that a file tree stays one.
+use Rattle.std.proofs.Common.{◌≡◌, ◌≢◌, ◌⊎◌, inl, inr, ℕ, Bool, true, false, not, cond, ◌&&◌, ◌||◌, List, [], ◌∷◌, Option, Some, None, refl, sym, ap, subst, ◌∙◌}
+use Rattle.std.specs.List.{AllByRecursion, list_any}
+use Rattle.std.specs.Ordering.{eq_by_cmp}
+use Rattle.std.specs.FinMap as map
+use Rattle.std.specs.FinMap.{contains_key-keys}
+use Rattle.std.specs.Prelude.{is_some, IsTrue}
+use Rattle.fs_semantics.specs.FileTree.{Path, IsSegment, Entry, Folder, File, Link as LinkTo, Tree, parent, path_cmp, path_eq, is_root, is_file, is_link, is_dir, is_none, is_empty_dir, is_file_entry, is_link_entry, is_folder_entry, is_no_entry, IsTree}
+use Rattle.fs_semantics.specs.Programs.{Program, Programs, Id, Err, Mkdir, Creat, Link, Rm, Cp, Steps, If, none, next, Outcome, and_then, holds, made, removed, copied, run, run_all}
+use Rattle.fs_semantics.specs.Changes.{Changes, ChangesInSteps, IsProper, AreProperSteps}
+use Rattle.fs_semantics.proofs.Trees.{path_eq_refl, path_eq_same, at_other, at_removed, at_kept, is_dir_other, parent_differs}
+
+guarded : (b : Bool) (u v : Tree) → cond b (Some u) None ≡ Some v → (b ≡ true) × (u ≡ v)
+guarded true u v h = (refl, cc)
+guarded false u v h = (cc, cc)
+
+both : (a b : Bool) → (a && b) ≡ true → (a ≡ true) × (b ≡ true)
+both true b h = (refl, h)
+both false b h = cc
+
+-- ---- a new entry
+
+record Made (p : Path) (x : Entry) (t u : Tree) : Type 0 where
+  free : is_none t p ≡ true
+  above : is_dir t (parent p) ≡ true
+  is : map.insert t p x ≡ u
+
+made_is : (p : Path) (x : Entry) (t u : Tree) → made p x t ≡ Some u → Made p x t u
+made_is p x t u h =
+    let done = guarded (is_none t p && is_dir t (parent p)) (map.insert t p x) u h in
+    let two = both (is_none t p) (is_dir t (parent p)) done.0 in
+    record { free = two.0; above = two.1; is = done.1 }
+
+-- a copy makes a file
+copied_is : (r : Option Entry) (q : Path) (t u : Tree) → copied r q t ≡ Some u → (content : List ℕ) × (made q (File content) t ≡ Some u)
+copied_is None q t u h = cc
+copied_is (Some Folder) q t u h = cc
+copied_is (Some (File content)) q t u h = (content, h)
+copied_is (Some (LinkTo target)) q t u h = cc
+
+made_keeps : (p q : Path) (x : Entry) (t u : Tree) → (q ≡ p → ⊥) → made p x t ≡ Some u → map.get u q ≡ map.get t q
+made_keeps p q x t u other h = let m = made_is p x t u h in ap (λ v. map.get v q) (sym m.is) ∙ at_other t p q x other
+
+removed_is : (p : Path) (t u : Tree) → removed p t ≡ Some u → ((is_file t p || is_link t p || (not (is_root p) && is_empty_dir t p)) ≡ true) × (map.remove t p ≡ u)
+removed_is p t u h = guarded (is_file t p || is_link t p || (not (is_root p) && is_empty_dir t p)) (map.remove t p) u h
+
+pub split_then : (r : Outcome) (f : Tree → Outcome) (u : Tree) → and_then r f ≡ Some u → (t : Tree) × (r ≡ Some t) × (f t ≡ Some u)
+split_then None f u h = cc
+split_then (Some t) f u h = (t, refl, h)
+
+-- ---- what isn't changed stays
+
+mutual
+  pub kept : (e : Program) (q : Path) (t u : Tree) → (Changes e q → ⊥) → run e t ≡ Some u → map.get u q ≡ map.get t q
+  kept Id q t u other h = let same : t ≡ u = cc in ap (λ v. map.get v q) (sym same)
+  kept Err q t u other h = cc
+  kept (Mkdir p) q t u other h = made_keeps p q Folder t u other h
+  kept (Creat p content) q t u other h = made_keeps p q (File content) t u other h
+  kept (Link p target) q t u other h = made_keeps p q (LinkTo target) t u other h
+  kept (Rm p) q t u other h = ap (λ v. map.get v q) (sym (removed_is p t u h).1) ∙ at_kept t p q other
+  kept (Cp from p) q t u other h = let c = copied_is (map.get t from) p t u h in made_keeps p q (File c.0) t u other c.1
+  kept (Steps es) q t u other h = kept_in_steps es q t u other h
+  kept (If a e f) q t u other h = elim (holds a t) as (λ b. cond b (run e t) (run f t) ≡ Some u → map.get u q ≡ map.get t q) [
+    | true ↦ λ k. kept e q t u (λ c. other (inl c)) k
+    | false ↦ λ k. kept f q t u (λ c. other (inr c)) k
+  ] h
+
+  kept_in_steps : (es : Programs) (q : Path) (t u : Tree) → (ChangesInSteps es q → ⊥) → run_all es t ≡ Some u → map.get u q ≡ map.get t q
+  kept_in_steps none q t u other h = let same : t ≡ u = cc in ap (λ v. map.get v q) (sym same)
+  kept_in_steps (next e es) q t u other h =
+      let first = split_then (run e t) (run_all es) u h in
+      kept_in_steps es q first.0 u (λ c. other (inr c)) first.2 ∙ kept e q t first.0 (λ c. other (inl c)) first.1
+
+-- ---- a file tree stays one
+
+none_no_folder : (r : Option Entry) → is_no_entry r ≡ true → is_folder_entry r ≡ true → ⊥
+none_no_folder None h k = cc
+none_no_folder (Some e) h k = cc
+
+free_no_folder : (t : Tree) (p : Path) → is_none t p ≡ true → is_dir t p ≡ true → ⊥
+free_no_folder t [] h k = cc
+free_no_folder t (s ∷ p) h k = none_no_folder (map.get t (s ∷ p)) h k
+
+free_no_root : (t : Tree) (p : Path) → is_none t p ≡ true → p ≢ []
+free_no_root t p h e = let no : is_none t [] ≡ true = subst (λ r. is_none t r ≡ true) e h in cc
+
+parent_other : (p : Path) → p ≢ [] → parent p ≢ p
+parent_other [] h = absurd (h refl)
+parent_other (s ∷ p) h = parent_differs s p
+
+-- a fact of every path is shown at p and at the others
+at_or_other : (P : Path → Type 0) (p q : Path) → P p → (q ≢ p → P q) → P q
+at_or_other P p q here there = elim (path_eq q p) as (λ b. path_eq q p ≡ b → P q) [
+  | true ↦ λ e. subst P (sym (path_eq_same q p e)) here
+  | false ↦ λ e. there (λ same. let no : path_eq q p ≡ true = ap (λ r. path_eq r p) same ∙ path_eq_refl p in cc)
+] refl
+
+still_there : (t u : Tree) (q : Path) → map.get u q ≡ map.get t q → IsTrue (map.contains_key u q) → IsTrue (map.contains_key t q)
+still_there t u q e h = subst (λ r. IsTrue (is_some r)) e h
+
+insert_keeps_tree : (t : Tree) (p : Path) (x : Entry) → IsTree t → AllByRecursion IsSegment p → is_none t p ≡ true → is_dir t (parent p) ≡ true → IsTree (map.insert t p x)
+insert_keeps_tree t p x tree proper free above =
+    let root = free_no_root t p free in
+    record {
+      no_root = at_other t p [] x (λ e. root (sym e)) ∙ tree.no_root;
+      paths = λ q h. at_or_other (λ r. AllByRecursion IsSegment r) p q proper (λ other. tree.paths q (still_there t (map.insert t p x) q (at_other t p q x other) h));
+      parents = λ q h. at_or_other (λ r. is_dir (map.insert t p x) (parent r) ≡ true) p q
+          (is_dir_other t (map.insert t p x) (parent p) (at_other t p (parent p) x (parent_other p root)) ∙ above)
+          (λ other.
+          let there : is_dir t (parent q) ≡ true = tree.parents q (still_there t (map.insert t p x) q (at_other t p q x other) h) in
+          is_dir_other t (map.insert t p x) (parent q) (at_other t p (parent q) x (λ e. free_no_folder t p free (subst (λ r. is_dir t r ≡ true) e there))) ∙ there);
+    }
+
+made_keeps_tree : (t u : Tree) (p : Path) (x : Entry) → IsTree t → AllByRecursion IsSegment p → made p x t ≡ Some u → IsTree u
+made_keeps_tree t u p x tree proper h = let m = made_is p x t u h in subst IsTree m.is (insert_keeps_tree t p x tree proper m.free m.above)
+
+-- a child of p is found among the entries
+or_left : (a b : Bool) → a ≡ true → (a || b) ≡ true
+or_left true b h = refl
+or_left false b h = cc
+
+or_right : (a b : Bool) → b ≡ true → (a || b) ≡ true
+or_right true b h = refl
+or_right false b h = h
+
+or_split : (a b : Bool) → (a || b) ≡ true → (a ≡ true) ⊎ (b ≡ true)
+or_split true b h = inl refl
+or_split false b h = inr h
+
+child_found : (p q : Path) (ks : List Path) → parent q ≡ p → list_any (eq_by_cmp path_cmp q) ks ≡ true → list_any (λ r. path_eq (parent r) p) ks ≡ true
+child_found p q [] e h = cc
+child_found p q (k ∷ ks) e h = elim (or_split (eq_by_cmp path_cmp q k) (list_any (eq_by_cmp path_cmp q) ks) h) [
+  | inl here ↦
+      let same : q ≡ k = path_eq_same q k here in
+      or_left _ _ (ap (λ r. path_eq (parent r) p) (sym same) ∙ ap (λ r. path_eq r p) e ∙ path_eq_refl p)
+  | inr there ↦ or_right (path_eq (parent k) p) _ (child_found p q ks e there)
+]
+
+not_false : (b : Bool) → not b ≡ true → b ≡ true → ⊥
+not_false true h k = cc
+not_false false h k = cc
+
+-- an empty folder has no child
+empty_no_child : (t : Tree) (p q : Path) → is_empty_dir t p ≡ true → IsTrue (map.contains_key t q) → parent q ≢ p
+empty_no_child t p q empty h e =
+    let two = both (is_dir t p) (not (list_any (λ r. path_eq (parent r) p) (map.keys t))) empty in
+    not_false _ two.1 (child_found p q (map.keys t) e (sym (contains_key-keys t q) ∙ h))
+
+folder_only : (r : Option Entry) → is_folder_entry r ≡ true → (is_file_entry r ≡ false) × (is_link_entry r ≡ false)
+folder_only None h = cc
+folder_only (Some Folder) h = (refl, refl)
+folder_only (Some (File content)) h = cc
+folder_only (Some (LinkTo target)) h = cc
+
+only_last : (a b c : Bool) → (a || b || c) ≡ true → a ≡ false → b ≡ false → c ≡ true
+only_last a b c h e d = sym (ap (λ x. x || b || c) e ∙ ap (λ y. false || y || c) d) ∙ h
+
+-- what may be removed isn't the root
+removed_no_root : (t : Tree) (p : Path) → IsTree t → (is_file t p || is_link t p || (not (is_root p) && is_empty_dir t p)) ≡ true → p ≢ []
+removed_no_root t p tree h e =
+    let root : (is_file t [] || is_link t [] || false) ≡ true = subst (λ r. (is_file t r || is_link t r || (not (is_root r) && is_empty_dir t r)) ≡ true) e h in
+    let none : is_file_entry (map.get t []) ≡ false = ap is_file_entry tree.no_root in
+    let no_link : is_link_entry (map.get t []) ≡ false = ap is_link_entry tree.no_root in
+    let no : ◌≡◌ false true = only_last _ _ false root none no_link in cc
+
+-- where it is a folder, it has no children
+removed_childless : (t : Tree) (p q : Path) → p ≢ [] → (is_file t p || is_link t p || (not (is_root p) && is_empty_dir t p)) ≡ true
+    → is_dir t p ≡ true → IsTrue (map.contains_key t q) → parent q ≢ p
+removed_childless t [] q root h dir there = absurd (root refl)
+removed_childless t (s ∷ p) q root h dir there =
+    let kind = folder_only (map.get t (s ∷ p)) dir in
+    empty_no_child t (s ∷ p) q (only_last (is_file t (s ∷ p)) (is_link t (s ∷ p)) (is_empty_dir t (s ∷ p)) h kind.0 kind.1) there
+
+gone : (t : Tree) (p q : Path) → IsTrue (map.contains_key (map.remove t p) q) → q ≢ p
+gone t p q h e =
+    let none : is_some (map.get (map.remove t p) q) ≡ false = ap (λ r. is_some (map.get (map.remove t p) r)) e ∙ ap is_some (at_removed t p) in
+    cc
+
+remove_keeps_tree : (t : Tree) (p : Path) → IsTree t → (is_file t p || is_link t p || (not (is_root p) && is_empty_dir t p)) ≡ true → IsTree (map.remove t p)
+remove_keeps_tree t p tree can =
+    let root = removed_no_root t p tree can in
+    record {
+      no_root = at_kept t p [] (λ e. root (sym e)) ∙ tree.no_root;
+      paths = λ q h. tree.paths q (still_there t (map.remove t p) q (at_kept t p q (gone t p q h)) h);
+      parents = λ q h.
+          let there = still_there t (map.remove t p) q (at_kept t p q (gone t p q h)) h in
+          let dir : is_dir t (parent q) ≡ true = tree.parents q there in
+          is_dir_other t (map.remove t p) (parent q)
+          (at_kept t p (parent q) (λ e. removed_childless t p q root can (subst (λ r. is_dir t r ≡ true) e dir) there e)) ∙ dir;
+    }
+
+mutual
+  pub keeps_tree : (e : Program) (t u : Tree) → IsProper e → IsTree t → run e t ≡ Some u → IsTree u
+  keeps_tree Id t u proper tree h = let same : t ≡ u = cc in subst IsTree same tree
+  keeps_tree Err t u proper tree h = cc
+  keeps_tree (Mkdir p) t u proper tree h = made_keeps_tree t u p Folder tree proper h
+  keeps_tree (Creat p content) t u proper tree h = made_keeps_tree t u p (File content) tree proper h
+  keeps_tree (Link p target) t u proper tree h = made_keeps_tree t u p (LinkTo target) tree proper h
+  keeps_tree (Rm p) t u proper tree h = let r = removed_is p t u h in subst IsTree r.1 (remove_keeps_tree t p tree r.0)
+  keeps_tree (Cp from p) t u proper tree h = let c = copied_is (map.get t from) p t u h in made_keeps_tree t u p (File c.0) tree proper c.1
+  keeps_tree (Steps es) t u proper tree h = steps_keep_tree es t u proper tree h
+  keeps_tree (If a e f) t u proper tree h = elim (holds a t) as (λ b. cond b (run e t) (run f t) ≡ Some u → IsTree u) [
+    | true ↦ λ k. keeps_tree e t u proper.0 tree k
+    | false ↦ λ k. keeps_tree f t u proper.1 tree k
+  ] h
+
+  steps_keep_tree : (es : Programs) (t u : Tree) → AreProperSteps es → IsTree t → run_all es t ≡ Some u → IsTree u
+  steps_keep_tree none t u proper tree h = let same : t ≡ u = cc in subst IsTree same tree
+  steps_keep_tree (next e es) t u proper tree h =
+      let first = split_then (run e t) (run_all es) u h in
+      steps_keep_tree es first.0 u proper.1 (keeps_tree e t first.0 proper.0 tree first.1) first.2
