@@ -3,6 +3,7 @@
 
 mod boxed;
 mod fault;
+pub mod limits;
 mod memory;
 mod outside;
 mod seq;
@@ -18,3 +19,6 @@ pub use seq::Seq;
 pub use shelf::{Fetched, Shelf, ShelfFault};
 pub use sink::{Sink, SinkFault};
 pub use text::{NoMemory, Text};
+
+#[cfg(test)]
+mod tests;

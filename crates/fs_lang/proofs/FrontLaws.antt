@@ -1,0 +1,88 @@
+-- The tests of paths mean what they say.
+use Rattle.std.proofs.Common.{◌≡◌, ◌≢◌, ◌↔◌, ◌<◌, arith, length, length-append, Bool, true, false, not, ◌&&◌, List, [], ◌∷◌, ◌++◌, refl, sym, ap, ◌∙◌}
+use Rattle.std.proofs.lemmas.List.{append-nil}
+use Rattle.std.specs.List.{AllByRecursion}
+use Rattle.std.specs.Str.{bytes_eq}
+use Rattle.std.proofs.lemmas.Slice.Eq.{bytes_eq-Decides}
+use Rattle.fs_semantics.specs.FileTree.{Path}
+use Rattle.fs_semantics.specs.Apart.{IsAncestor, IsApartFrom, AreApart}
+use Rattle.fs_lang.specs.Fronts.{is_front, is_apart, is_apart_from_all, are_apart}
+
+both : (a b : Bool) → (a && b) ≡ true → (a ≡ true) × (b ≡ true)
+both true b h = (refl, h)
+both false b h = cc
+
+both_true : (a b : Bool) → a ≡ true → b ≡ true → (a && b) ≡ true
+both_true true b h k = k
+both_true false b h k = cc
+
+front_of : (p q : Path) → is_front p q ≡ true → (more : Path) × (q ≡ p ++ more)
+front_of [] q h = (q, refl)
+front_of (s ∷ p) [] h = cc
+front_of (s ∷ p) (r ∷ q) h =
+    let two = both (bytes_eq s r) (is_front p q) h in
+    let rest = front_of p q two.1 in
+    let same : s ≡ r = (bytes_eq-Decides s r).0 two.0 in
+    (rest.0, ap (λ t. t ∷ q) (sym same) ∙ ap (λ t. s ∷ t) rest.1)
+
+front_append : (p more : Path) → is_front p (p ++ more) ≡ true
+front_append [] more = refl
+front_append (s ∷ p) more = both_true _ _ ((bytes_eq-Decides s s).1 refl) (front_append p more)
+
+is_not : (b : Bool) → not b ≡ true → b ≡ true → ⊥
+is_not true h k = cc
+is_not false h k = cc
+
+-- the test is true exactly where the paths are apart
+pub apart_found : (p q : Path) → is_apart p q ≡ true → IsApartFrom p q
+apart_found p q h =
+    let two = both (not (is_front p q)) (not (is_front q p)) h in
+    record {
+      differ = λ e. is_not (is_front p q) two.0 (ap (is_front p) (sym e ∙ sym (append-nil p)) ∙ front_append p []);
+      not_above = λ a. is_not (is_front p q) two.0 (ap (is_front p) a.2 ∙ front_append p a.0);
+      not_below = λ a. is_not (is_front q p) two.1 (ap (is_front q) a.2 ∙ front_append q a.0);
+    }
+
+no_front : (p q : Path) → p ≢ q → (IsAncestor p q → ⊥) → (b : Bool) → is_front p q ≡ b → not b ≡ true
+no_front p q differ none false e = refl
+no_front p q differ none true e = let rest = front_of p q e in absurd (longer rest.0 rest.1)
+  where
+    longer : (more : Path) → q ≡ p ++ more → ⊥
+    longer [] e = differ (sym (e ∙ append-nil p))
+    longer (s ∷ more) e = none (s ∷ more, (λ k. cc), e)
+
+pub apart_again : (p q : Path) → IsApartFrom p q → is_apart p q ≡ true
+apart_again p q a = both_true _ _ (no_front p q a.differ a.not_above _ refl) (no_front q p (λ e. a.differ (sym e)) a.not_below _ refl)
+
+all_found : (p : Path) (qs : List Path) → is_apart_from_all p qs ≡ true → AllByRecursion (IsApartFrom p) qs
+all_found p [] h = tt
+all_found p (q ∷ qs) h = let two = both (is_apart p q) (is_apart_from_all p qs) h in (apart_found p q two.0, all_found p qs two.1)
+
+all_again : (p : Path) (qs : List Path) → AllByRecursion (IsApartFrom p) qs → is_apart_from_all p qs ≡ true
+all_again p [] a = refl
+all_again p (q ∷ qs) a = both_true _ _ (apart_again p q a.0) (all_again p qs a.1)
+
+pub are_apart_found : (ps : List Path) → are_apart ps ≡ true → AreApart ps
+are_apart_found [] h = tt
+are_apart_found (p ∷ ps) h = let two = both (is_apart_from_all p ps) (are_apart ps) h in (all_found p ps two.0, are_apart_found ps two.1)
+
+pub are_apart_again : (ps : List Path) → AreApart ps → are_apart ps ≡ true
+are_apart_again [] a = refl
+are_apart_again (p ∷ ps) a = both_true _ _ (all_again p ps a.0) (are_apart_again ps a.1)
+
+longer_front : (p q : Path) → length p < length q → is_front p q ≡ true → IsAncestor p q
+longer_front p q l h =
+    let rest = front_of p q h in
+    (rest.0, (λ e. let same : length q ≡ length p = ap length (rest.1 ∙ ap (λ m. p ++ m) e ∙ append-nil p) in absurd (omega arith)), rest.1)
+
+some_length : (more : Path) → more ≢ [] → 0 < length more
+some_length [] h = absurd (h refl)
+some_length (s ∷ more) h = omega arith
+
+front_longer : (p q : Path) → IsAncestor p q → (length p < length q) × (is_front p q ≡ true)
+front_longer p q a =
+    (omega (arith, ap length a.2, length-append p a.0, some_length a.0 a.1), ap (is_front p) a.2 ∙ front_append p a.0)
+
+-- a path is above another where it is shorter and begins it
+pub ancestor : (p q : Path) → ((length p < length q) × (is_front p q ≡ true)) ↔ IsAncestor p q
+ancestor p q = ((λ h. longer_front p q h.0 h.1), front_longer p q)

@@ -1,0 +1,23 @@
+-- Paths that begin other paths.
+use Rattle.std.specs.Prelude.{Bool, true, false, ◌&&◌, not, List, [], ◌∷◌}
+use Rattle.std.specs.Str.{bytes_eq}
+use Rattle.fs_semantics.specs.FileTree.{Path}
+
+-- q begins with p, or is p
+abbrev pub is_front : Path → Path → Bool
+is_front [] q = true
+is_front (s ∷ p) [] = false
+is_front (s ∷ p) (r ∷ q) = bytes_eq s r && is_front p q
+
+-- neither begins with the other
+abbrev pub is_apart : Path → Path → Bool
+is_apart p q = not (is_front p q) && not (is_front q p)
+
+abbrev pub is_apart_from_all : Path → List Path → Bool
+is_apart_from_all p [] = true
+is_apart_from_all p (q ∷ qs) = is_apart p q && is_apart_from_all p qs
+
+-- each is apart from those after it
+abbrev pub are_apart : List Path → Bool
+are_apart [] = true
+are_apart (p ∷ ps) = is_apart_from_all p ps && are_apart ps

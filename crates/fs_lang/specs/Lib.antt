@@ -1,0 +1,4 @@
+pub mod PathText
+pub mod Meaning
+pub mod Reading
+pub mod Fronts

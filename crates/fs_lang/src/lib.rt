@@ -1,0 +1,14 @@
+//! The language of changes to a file tree: paths, tests and programs.
+#![tactic(auto)]
+
+mod fronts;
+mod path;
+mod program;
+mod reading;
+
+pub use fronts::are_apart;
+pub use path::{Path, PathFault};
+pub use program::{Entry, Program, Test};
+
+#[cfg(test)]
+mod tests;

@@ -1,0 +1,96 @@
+use crate::{Path, PathFault, are_apart};
+use std::alloc::Global;
+use std::process::Abort;
+use std::test::Fail;
+
+fn path(rt: &impl Abort, alloc: Global, text: &str) -> Path {
+    Path::read(alloc, text).ok().expect(rt, "a path")
+}
+
+/// The segments, each after a slash.
+fn spelled(alloc: Global, path: &Path) -> Result<String, Fail> {
+    let mut text = String::new(alloc);
+    for segment in path.segments() {
+        text.push('/')?;
+        text.push_str(segment.as_str())?;
+    }
+    Ok(text)
+}
+
+#[test]
+fn texts_that_are_paths(rt: HostRuntime) -> Result<(), Fail> {
+    let alloc = rt.alloc();
+    for (text, want) in [
+        ("/", ""),
+        ("///", ""),
+        ("/a", "/a"),
+        ("//a//b/", "/a/b"),
+        ("/etc/ntp.conf", "/etc/ntp.conf"),
+        ("/...", "/..."),
+        ("/.rehearsal/x", "/.rehearsal/x"),
+        ("/ü", "/ü"),
+    ] {
+        let read = path(&rt, alloc, text);
+        assert_eq!(rt; spelled(alloc, &read)?.as_str(), want, "{text}");
+        let copy = read.copy(alloc).ok().ok_or("memory")?;
+        assert_eq!(rt; spelled(alloc, &copy)?.as_str(), want, "{text}");
+    }
+    Ok(())
+}
+
+#[test]
+fn texts_that_are_no_paths(rt: HostRuntime) -> Result<(), Fail> {
+    for text in ["", "a", "a/b", "/.", "/a/..", "/../a", "/a\0b", " /a"] {
+        let read = Path::read(rt.alloc(), text).err();
+        assert_eq!(rt; read, Some(PathFault::Bad), "{text}");
+    }
+    Ok(())
+}
+
+#[test]
+fn limits_of_paths(rt: HostRuntime) -> Result<(), Fail> {
+    let alloc = rt.alloc();
+    let mut deep = String::new(alloc);
+    for _ in 0..32 {
+        deep.push_str("/s")?;
+    }
+    assert_eq!(rt; path(&rt, alloc, deep.as_str()).segments().len(), 32);
+    deep.push_str("/s")?;
+    assert_eq!(rt;
+        Path::read(alloc, deep.as_str()).err(),
+        Some(PathFault::Bad)
+    );
+    let mut long = String::from_str(alloc, "/")?;
+    for _ in 0..1023 {
+        long.push('s')?;
+    }
+    assert_eq!(rt; path(&rt, alloc, long.as_str()).segments().len(), 1);
+    long.push('s')?;
+    assert_eq!(rt;
+        Path::read(alloc, long.as_str()).err(),
+        Some(PathFault::Bad)
+    );
+    Ok(())
+}
+
+#[test]
+fn paths_above_others(rt: HostRuntime) -> Result<(), Fail> {
+    let alloc = rt.alloc();
+    for (above, below, want) in [
+        ("/", "/a", true),
+        ("/a", "/a/b/c", true),
+        ("/a", "/a", false),
+        ("/a", "/ab", false),
+        ("/a/b", "/a", false),
+    ] {
+        let answer = path(&rt, alloc, above).is_ancestor(&path(&rt, alloc, below));
+        assert_eq!(rt; answer, want, "{above} {below}");
+    }
+    let apart = vec![in alloc; path(&rt, alloc, "/a/b"), path(&rt, alloc, "/a/c")]?;
+    assert!(rt; are_apart(&apart));
+    let same = vec![in alloc; path(&rt, alloc, "/a/b"), path(&rt, alloc, "//a/b/")]?;
+    assert!(rt; !are_apart(&same));
+    let above = vec![in alloc; path(&rt, alloc, "/a/b"), path(&rt, alloc, "/a")]?;
+    assert!(rt; !are_apart(&above));
+    Ok(())
+}

@@ -1,0 +1,135 @@
+use crate::{
+    Boxed, Fault, Fetched, FileShelf, MemoryShelf, MemorySink, NoMemory, Refusal, Seq, Shelf,
+    ShelfFault, Sink, SinkFault, StdSink, SureShelf, SureSink, Text,
+};
+use std::alloc::{AllocError, Global};
+use std::fs;
+use std::test::Fail;
+
+fn text(alloc: Global, value: &str) -> Result<Text, AllocError> {
+    Ok(Text::from_string(String::from_str(alloc, value)?))
+}
+
+#[test]
+fn texts_and_lists_grow(rt: HostRuntime) -> Result<(), Fail> {
+    let alloc = rt.alloc();
+    let mut word = Text::new(alloc);
+    assert!(rt; word.is_empty());
+    assert!(rt; word.push("etc").is_ok());
+    assert!(rt; word.push("/motd").is_ok());
+    assert_eq!(rt; word.as_str(), "etc/motd");
+    assert_eq!(rt; word.len(), 8);
+    let copy = word.copy(alloc).ok().ok_or("memory")?;
+    assert_eq!(rt; copy.as_str(), "etc/motd");
+    assert_eq!(rt; copy.into_string().as_str(), "etc/motd");
+    let mut numbers = Seq::new(alloc);
+    assert!(rt; numbers.is_empty());
+    assert!(rt; numbers.push(4u32).is_ok());
+    assert!(rt; numbers.push(2u32).is_ok());
+    assert_eq!(rt; numbers.len(), 2);
+    assert_eq!(rt; numbers.as_slice(), [4u32, 2].as_slice());
+    assert_eq!(rt; numbers.into_vec().as_slice(), [4u32, 2].as_slice());
+    Ok(())
+}
+
+#[test]
+fn boxes_and_faults_hold_what_they_are_made_of(rt: HostRuntime) -> Result<(), Fail> {
+    let alloc = rt.alloc();
+    let seven = Boxed::new(alloc, 7u8).ok().ok_or("memory")?;
+    assert_eq!(rt; *seven.get(), 7);
+    assert_eq!(rt; seven.into_inner(), 7);
+    assert_eq!(rt; Boxed::from_box(Box::new(alloc, 9u8)?).into_inner(), 9);
+    let refusal = Refusal::new(alloc, 15, 3, "form").ok().ok_or("memory")?;
+    assert_eq!(rt; refusal.number, 15);
+    assert_eq!(rt; refusal.at, 3);
+    assert_eq!(rt; refusal.name.as_str(), "form");
+    let fault = Fault::Refused(refusal);
+    assert_eq!(rt;
+        format!(in alloc; "{fault}")?.as_str(),
+        "the input is refused"
+    );
+    let fault = Fault::from(NoMemory);
+    assert_eq!(rt; format!(in alloc; "{fault}")?.as_str(), "out of memory");
+    let fault = ShelfFault::Failed;
+    assert_eq!(rt;
+        format!(in alloc; "{fault}")?.as_str(),
+        "the file can't be read"
+    );
+    let fault = SinkFault::Failed;
+    assert_eq!(rt;
+        format!(in alloc; "{fault}")?.as_str(),
+        "the bytes can't be written"
+    );
+    Ok(())
+}
+
+#[test]
+fn shelves_in_memory_give_what_they_hold(rt: HostRuntime) -> Result<(), Fail> {
+    let alloc = rt.alloc();
+    let files = vec![in alloc;
+        (text(alloc, "a")?, b"first".to_vec(alloc)?),
+        (text(alloc, "a")?, b"second".to_vec(alloc)?),
+    ]?;
+    let mut shelf = MemoryShelf::new(files, vec![in alloc; 2u64]?);
+    let mut into = Vec::new(alloc);
+    assert_eq!(rt; shelf.fetch("a", 5, &mut into), Ok(Fetched::Whole));
+    assert_eq!(rt; into.as_slice(), b"first".as_slice());
+    let mut into = Vec::new(alloc);
+    assert_eq!(rt; shelf.fetch("a", 5, &mut into), Err(ShelfFault::Failed));
+    let mut into = Vec::new(alloc);
+    assert_eq!(rt; shelf.fetch("a", 4, &mut into), Ok(Fetched::Longer));
+    let mut into = Vec::new(alloc);
+    assert_eq!(rt; shelf.fetch("b", 4, &mut into), Err(ShelfFault::Failed));
+    let mut sure = SureShelf::new(vec![in alloc; (text(alloc, "a")?, b"first".to_vec(alloc)?)]?);
+    let mut into = Vec::new(alloc);
+    assert_eq!(rt; sure.fetch("a", 5, &mut into), Ok(Fetched::Whole));
+    assert_eq!(rt; into.as_slice(), b"first".as_slice());
+    let mut into = Vec::new(alloc);
+    assert_eq!(rt; sure.fetch("b", 5, &mut into), Ok(Fetched::Whole));
+    assert!(rt; into.is_empty());
+    Ok(())
+}
+
+#[test]
+fn sinks_in_memory_keep_what_is_put(rt: HostRuntime) -> Result<(), Fail> {
+    let alloc = rt.alloc();
+    let mut sink = MemorySink::new(alloc, vec![in alloc; 2u64]?);
+    assert_eq!(rt; sink.put(b""), Ok(()));
+    assert!(rt; sink.reserve(10).is_ok());
+    assert_eq!(rt; sink.put(b"abc"), Ok(()));
+    assert_eq!(rt; sink.put(b"defgh"), Err(SinkFault::Failed));
+    assert_eq!(rt; sink.put(b"xyz"), Ok(()));
+    assert_eq!(rt; sink.bytes(), b"abcdexyz".as_slice());
+    let mut sure = SureSink::new(alloc);
+    assert!(rt; sure.reserve(5).is_ok());
+    assert_eq!(rt; sure.put(b"12345"), Ok(()));
+    assert_eq!(rt; sure.bytes(), b"12345".as_slice());
+    Ok(())
+}
+
+#[test]
+fn files_and_streams_of_the_system(rt: HostRuntime) -> Result<(), Fail> {
+    let alloc = rt.alloc();
+    fs::write(&rt, "shelved.txt", "0123456789")?;
+    let mut out = StdSink::new(rt.stdout());
+    assert_eq!(rt; out.put(b""), Ok(()));
+    assert_eq!(rt; out.put(b"a line on standard output\n"), Ok(()));
+    let mut shelf = FileShelf::new(rt);
+    let mut whole = Vec::new(alloc);
+    let fetched = shelf.fetch("shelved.txt", 10, &mut whole);
+    let mut longer = Vec::new(alloc);
+    let more = shelf.fetch("shelved.txt", 9, &mut longer);
+    let mut none = Vec::new(alloc);
+    let missing = shelf.fetch("no such file", 9, &mut none);
+    let folder = shelf.fetch(".", 9, &mut none);
+    if fetched != Ok(Fetched::Whole) || whole.as_slice() != b"0123456789".as_slice() {
+        return Err(Fail::from("a file within the limit is read whole"));
+    }
+    if more != Ok(Fetched::Longer) || !longer.is_empty() {
+        return Err(Fail::from("a longer file gives nothing"));
+    }
+    if missing != Err(ShelfFault::Failed) || folder != Err(ShelfFault::Failed) {
+        return Err(Fail::from("a missing file and a folder are faults"));
+    }
+    Ok(())
+}
