@@ -1,0 +1,8 @@
+//! Manifests of nothing but file blocks with a content.
+
+mod block;
+mod form;
+mod reading;
+
+pub use block::Block;
+pub use form::first_form;
