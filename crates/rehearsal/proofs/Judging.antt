@@ -1,0 +1,47 @@
+-- What is said of a manifest, from its blocks and their paths.
+use Rattle.std.proofs.Common.{◌≡◌, ℕ, List, length, inl, inr, None, sym, ap, subst, ◌∙◌}
+use Rattle.std.specs.Prelude.{codes}
+use Rattle.rh_base.specs.declared.fault.Refusal.{Refusal}
+use Rattle.rh_base.specs.Refused.{IsRefusal}
+use Rattle.pp_syntax.specs.declared.first.block.Block.{Block}
+use Rattle.pp_syntax.specs.FirstGrammar.{IsFirstForm}
+use Rattle.fs_semantics.specs.FileTree.{Path}
+use Rattle.fs_semantics.specs.Apart.{AreApart}
+use Rattle.fs_semantics.specs.Orders.{IsDeterministic, IsIdempotent, Succeeds}
+use Rattle.fs_semantics.specs.PlainFiles.{PlainFile, ArePlain, puts, Unordered}
+use Rattle.rehearsal.specs.Files.{paths_of, ArePathsOf, PathsAre}
+use Rattle.rehearsal.specs.Judged.{report_of, IsReport, BreaksRule}
+use Rattle.rehearsal.proofs.FileLaws.{files_from, paths_from, proper_paths, length-paths}
+
+-- the laws on files that are put at paths apart
+pub record PlainLaws : Type 0 where
+  pub deterministic : (files : List PlainFile) → ArePlain files → IsDeterministic (puts files) Unordered
+  pub idempotent : (files : List PlainFile) → ArePlain files → IsIdempotent (puts files) Unordered
+  pub succeeds : (files : List PlainFile) → ArePlain files → Succeeds (puts files) Unordered
+
+pub a_report : (manifest report : List ℕ) (blocks : List Block) (ps : List Path) → IsFirstForm manifest blocks → ArePathsOf blocks ps → AreApart ps
+    → report ≡ report_of (length ps) → PlainLaws → IsReport manifest report
+a_report manifest report blocks ps form paths apart text laws =
+    let fs = files_from blocks ps paths in
+    let apart_files : AreApart (paths_of fs.0) = subst AreApart (sym fs.2) apart in
+    let plain : ArePlain fs.0 = record { paths = proper_paths blocks fs.0 fs.1; apart = apart_files } in
+    record {
+      blocks = blocks;
+      form = form;
+      files = fs.0;
+      files_are = fs.1;
+      apart = apart_files;
+      text = text ∙ ap report_of (ap length (sym fs.2) ∙ length-paths fs.0);
+      deterministic = laws.deterministic fs.0 plain;
+      idempotent = laws.idempotent fs.0 plain;
+      succeeds = laws.succeeds fs.0 plain;
+    }
+
+pub a_bad_path : (manifest : List ℕ) (r : Refusal) (blocks : List Block) → IsFirstForm manifest blocks → PathsAre blocks None → IsRefusal 15 0 (codes "path") r → BreaksRule manifest r
+a_bad_path manifest r blocks form none is = inr (inl (is, (blocks, form, (λ files are. none (paths_of files) (paths_from blocks files are)))))
+
+pub paths_meet : (manifest : List ℕ) (r : Refusal) (blocks : List Block) (ps : List Path) → IsFirstForm manifest blocks → ArePathsOf blocks ps → (AreApart ps → ⊥)
+    → IsRefusal 15 0 (codes "apart") r → BreaksRule manifest r
+paths_meet manifest r blocks ps form paths close is =
+    let fs = files_from blocks ps paths in
+    inr (inr (is, (blocks, form, fs.0, fs.1, (λ apart. close (subst AreApart fs.2 apart)))))

@@ -1,0 +1,4 @@
+pub mod FileLaws
+pub mod Telling
+pub mod Endings
+pub mod Judging

@@ -1,0 +1,4 @@
+pub mod Files
+pub mod Judged
+pub mod Inputs
+pub mod Answers

@@ -1,0 +1,82 @@
+//! What is said of a manifest.
+
+ghost use Rattle.std.specs.Prelude.{◌≡◌, ◌↔◌, IsTrue, IfOk, IfErr, codes};
+ghost use Rattle.rh_base.specs.Refused.{IfRefused, IsRefusal};
+ghost use Rattle.rehearsal.specs.Files.{MayBeManaged, ManagedPathIs, PathsAre};
+ghost use Rattle.rehearsal.specs.Judged.{report_of, IsReport, BreaksRule};
+
+use fs_lang::{Path, PathFault, are_apart};
+use fs_semantics::plain_files;
+use pp_syntax::{Block, first_form};
+use rh_base::{Fault, NoMemory, Refusal, Seq, Text};
+use std::alloc::Global;
+
+fn report(alloc: Global, n: usize) -> Result<Text, NoMemory>
+    ensures { IfOk result (λ text. text ≡ report_of n) }
+{
+    let text = format!(in alloc;
+        "resources {n}\npruned {n}\ndeterministic\nidempotent\nsucceeds from some tree\n"
+    )?;
+    Ok(Text::from_string(text))
+}
+
+/// Whether a path with these segments is neither the root nor reserved.
+fn may_be_managed(segments: &[Text]) -> bool
+    ensures { IsTrue result ↔ MayBeManaged segments.now }
+{
+    match segments.first() {
+        None => false,
+        Some(first) => first.as_str() != ".rehearsal",
+    }
+}
+
+/// The path of a file that may be managed.
+fn managed_path(alloc: Global, text: &Text) -> Result<Option<Path>, NoMemory>
+    ensures { IfOk result (ManagedPathIs text.now) }
+{
+    let path = match Path::read(alloc, text.as_str()) {
+        Ok(path) => path,
+        Err(PathFault::Bad) => return Ok(None),
+        Err(PathFault::Memory(m)) => return Err(m),
+    };
+    if !may_be_managed(path.segments()) {
+        return Ok(None);
+    }
+    Ok(Some(path))
+}
+
+/// The paths of the files of blocks, if each has one.
+fn managed_paths(alloc: Global, blocks: &[Block]) -> Result<Option<Seq<Path>>, NoMemory>
+    ensures { IfOk result (PathsAre blocks.now) }
+{
+    let mut paths = Seq::new(alloc);
+    for block in blocks {
+        let Some(path) = managed_path(alloc, &block.path)? else {
+            return Ok(None);
+        };
+        paths.push(path)?;
+    }
+    Ok(Some(paths))
+}
+
+fn refusal(alloc: Global, name: &str) -> Result<Refusal, NoMemory>
+    ensures { IfOk result (IsRefusal 15 0 name.now) }
+{
+    Refusal::new(alloc, 15, 0, name)
+}
+
+/// The report on a manifest, or the first rule that it breaks.
+pub fn judged(alloc: Global, manifest: &[u8]) -> Result<Text, Fault>
+    ensures report { IfOk result (IsReport manifest.now) }
+    ensures refused { IfErr result (λ e. IfRefused e (BreaksRule manifest.now)) }
+{
+    plain_files();
+    let blocks = first_form(alloc, manifest)?;
+    let Some(paths) = managed_paths(alloc, blocks.as_slice())? else {
+        return Err(Fault::Refused(refusal(alloc, "path")?));
+    };
+    if !are_apart(paths.as_slice()) {
+        return Err(Fault::Refused(refusal(alloc, "apart")?));
+    }
+    Ok(report(alloc, paths.len())?)
+}

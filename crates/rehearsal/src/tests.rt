@@ -1,0 +1,214 @@
+use crate::run::rehearse;
+use crate::sure::rehearse_in_memory;
+use rh_base::{MemoryShelf, MemorySink, SureShelf, SureSink, Text};
+use std::alloc::{AllocError, Global};
+use std::test::Fail;
+
+/// What a run ended with: the status, and what was written to out and err.
+#[derive(Drop)]
+struct Told {
+    status: u8,
+    out: String,
+    err: String,
+}
+
+fn string(alloc: Global, bytes: &[u8]) -> Result<String, Fail> {
+    let text = str::from_utf8(bytes).map_err(|_| Fail::from("the output is text"))?;
+    Ok(String::from_str(alloc, text)?)
+}
+
+fn words(alloc: Global, named: &[&str]) -> Result<Vec<String>, AllocError> {
+    let mut words = Vec::new(alloc);
+    for word in named {
+        words.push(String::from_str(alloc, word)?)?;
+    }
+    Ok(words)
+}
+
+fn files(alloc: Global, name: &str, bytes: &[u8]) -> Result<Vec<(Text, Vec<u8>)>, AllocError> {
+    let name = Text::from_string(String::from_str(alloc, name)?);
+    Ok(vec![in alloc; (name, bytes.to_vec(alloc)?)]?)
+}
+
+/// What a manifest gives.
+fn told_of(alloc: Global, manifest: &[u8]) -> Result<Told, Fail> {
+    let mut shelf = SureShelf::new(files(alloc, "site.pp", manifest)?);
+    let mut out = SureSink::new(alloc);
+    let mut err = SureSink::new(alloc);
+    let named = words(alloc, &["site.pp"])?;
+    let status = rehearse_in_memory(alloc, &named, &mut shelf, &mut out, &mut err);
+    Ok(Told {
+        status,
+        out: string(alloc, out.bytes())?,
+        err: string(alloc, err.bytes())?,
+    })
+}
+
+/// What words give over a shelf and sinks of which some calls fail.
+fn told_over(
+    alloc: Global,
+    named: &[&str],
+    failing: (Vec<u64>, Vec<u64>, Vec<u64>),
+) -> Result<Told, Fail> {
+    let (shelf_fails, out_fails, err_fails) = failing;
+    let manifest = b"file { '/etc/motd': content => 'hi' }";
+    let mut shelf = MemoryShelf::new(files(alloc, "site.pp", manifest)?, shelf_fails);
+    let mut out = MemorySink::new(alloc, out_fails);
+    let mut err = MemorySink::new(alloc, err_fails);
+    let named = words(alloc, named)?;
+    let status = rehearse(alloc, &named, &mut shelf, &mut out, &mut err);
+    Ok(Told {
+        status,
+        out: string(alloc, out.bytes())?,
+        err: string(alloc, err.bytes())?,
+    })
+}
+
+const ONE: &str = "resources 1\npruned 1\ndeterministic\nidempotent\nsucceeds from some tree\n";
+
+#[test]
+fn manifests_that_are_judged(rt: HostRuntime) -> Result<(), Fail> {
+    let none = "resources 0\npruned 0\ndeterministic\nidempotent\nsucceeds from some tree\n";
+    let two = "resources 2\npruned 2\ndeterministic\nidempotent\nsucceeds from some tree\n";
+    let rows: [(&str, &str); 5] = [
+        ("", none),
+        (" \n", none),
+        ("file { '/etc/motd': content => 'hi' }", ONE),
+        (
+            "file{'/a':content=>'x',}file { '/b\\'\\\\c': content => '\\n' , } ",
+            two,
+        ),
+        (
+            "file { '/a/b': content => '' } file { '/a/c': content => '' }",
+            two,
+        ),
+    ];
+    for (manifest, report) in rows {
+        let told = told_of(rt.alloc(), manifest.as_bytes())?;
+        assert_eq!(rt; told.status, 0, "{manifest}");
+        assert_eq!(rt; told.out.as_str(), report, "{manifest}");
+        assert_eq!(rt; told.err.as_str(), "", "{manifest}");
+    }
+    Ok(())
+}
+
+#[test]
+fn manifests_that_are_refused(rt: HostRuntime) -> Result<(), Fail> {
+    let rows: [(&str, &str); 9] = [
+        ("package { 'ntp': }", "refused 15 at 0: form\n"),
+        ("file { '/a': content => 'x'", "refused 15 at 0: form\n"),
+        ("file { 'a': content => 'x' }", "refused 15 at 0: path\n"),
+        ("file { '/': content => '' }", "refused 15 at 0: path\n"),
+        (
+            "file { '/a/../b': content => '' }",
+            "refused 15 at 0: path\n",
+        ),
+        (
+            "file { '/.rehearsal': content => '' }",
+            "refused 15 at 0: path\n",
+        ),
+        (
+            "file { '/a': content => 'x' } file { '/.rehearsal/x': content => '' } file { '/a': content => 'x' }",
+            "refused 15 at 0: path\n",
+        ),
+        (
+            "file { '/a': content => 'x' } file { '/a/b': content => 'y' }",
+            "refused 15 at 0: apart\n",
+        ),
+        (
+            "file { '/b': content => 'x' } file { '/a': content => 'x' } file { '/a/': content => 'x' }",
+            "refused 15 at 0: apart\n",
+        ),
+    ];
+    for (manifest, line) in rows {
+        let told = told_of(rt.alloc(), manifest.as_bytes())?;
+        assert_eq!(rt; told.status, 4, "{manifest}");
+        assert_eq!(rt; told.out.as_str(), "", "{manifest}");
+        assert_eq!(rt; told.err.as_str(), line, "{manifest}");
+    }
+    Ok(())
+}
+
+#[test]
+fn many_files(rt: HostRuntime) -> Result<(), Fail> {
+    let alloc = rt.alloc();
+    for n in [256, 257] {
+        let mut manifest = String::new(alloc);
+        for i in 0..n {
+            let k = i + 1;
+            manifest.push_str(format!(in alloc;
+                "file {{ '/f{k}': content => '{k}' }}\n"
+            )?.as_str())?;
+        }
+        let told = told_of(alloc, manifest.as_bytes())?;
+        assert_eq!(rt; told.status, 0);
+        let report = format!(in alloc;
+            "resources {n}\npruned {n}\ndeterministic\nidempotent\nsucceeds from some tree\n"
+        )?;
+        assert_eq!(rt; told.out.as_str(), report.as_str());
+    }
+    Ok(())
+}
+
+#[test]
+fn a_manifest_at_its_limit(rt: HostRuntime) -> Result<(), Fail> {
+    let alloc = rt.alloc();
+    let told = told_of(alloc, &vec![in alloc; b' '; 262_144]?)?;
+    assert_eq!(rt; told.status, 0);
+    let told = told_of(alloc, &vec![in alloc; b' '; 262_145]?)?;
+    assert_eq!(rt; told.status, 4);
+    assert_eq!(rt; told.err.as_str(), "refused 17 at 0: input\n");
+    assert_eq!(rt; told.out.as_str(), "");
+    Ok(())
+}
+
+#[test]
+fn words_that_are_refused(rt: HostRuntime) -> Result<(), Fail> {
+    let alloc = rt.alloc();
+    let rows: [&[&str]; 4] = [&[], &["site.pp", "site.pp"], &["--help"], &["-"]];
+    for named in rows {
+        let none = (Vec::new(alloc), Vec::new(alloc), Vec::new(alloc));
+        let told = told_over(alloc, named, none)?;
+        assert_eq!(rt; told.status, 5);
+        assert_eq!(rt; told.out.as_str(), "");
+        assert_eq!(rt; told.err.as_str(), "usage: rehearsal INPUT\n");
+    }
+    Ok(())
+}
+
+#[test]
+fn reads_that_fail(rt: HostRuntime) -> Result<(), Fail> {
+    let alloc = rt.alloc();
+    let fails = (vec![in alloc; 1]?, Vec::new(alloc), Vec::new(alloc));
+    let told = told_over(alloc, &["site.pp"], fails)?;
+    assert_eq!(rt; told.status, 6);
+    assert_eq!(rt; told.out.as_str(), "");
+    assert_eq!(rt; told.err.as_str(), "read fault: site.pp\n");
+    let none = (Vec::new(alloc), Vec::new(alloc), Vec::new(alloc));
+    let told = told_over(alloc, &["other.pp"], none)?;
+    assert_eq!(rt; told.status, 6);
+    assert_eq!(rt; told.err.as_str(), "read fault: other.pp\n");
+    Ok(())
+}
+
+#[test]
+fn writes_that_fail(rt: HostRuntime) -> Result<(), Fail> {
+    let alloc = rt.alloc();
+    let fails = (Vec::new(alloc), vec![in alloc; 1]?, Vec::new(alloc));
+    let told = told_over(alloc, &["site.pp"], fails)?;
+    assert_eq!(rt; told.status, 7);
+    assert!(rt; ONE.starts_with(told.out.as_str()));
+    assert_eq!(rt; told.err.as_str(), "write fault\n");
+    let fails = (Vec::new(alloc), vec![in alloc; 1]?, vec![in alloc; 1]?);
+    let told = told_over(alloc, &["site.pp"], fails)?;
+    assert_eq!(rt; told.status, 7);
+    let fails = (Vec::new(alloc), Vec::new(alloc), vec![in alloc; 1]?);
+    let told = told_over(alloc, &["-"], fails)?;
+    assert_eq!(rt; told.status, 7);
+    assert_eq!(rt; told.out.as_str(), "");
+    let fails = (vec![in alloc; 1]?, Vec::new(alloc), vec![in alloc; 1]?);
+    let told = told_over(alloc, &["site.pp"], fails)?;
+    assert_eq!(rt; told.status, 7);
+    assert_eq!(rt; told.out.as_str(), "");
+    Ok(())
+}
