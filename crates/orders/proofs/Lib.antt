@@ -2,3 +2,8 @@ pub mod Lists
 pub mod Joins
 pub mod Cells
 pub mod Tables
+pub mod Linking
+pub mod Waits
+pub mod MarkLaws
+pub mod Taking
+pub mod Walks

@@ -4,47 +4,11 @@ ghost use Rattle.std.specs.List.{AllByRecursion};
 ghost use Rattle.fs_semantics.specs.Orders.{IsLinearExtension, NoneAhead};
 ghost use Rattle.orders.specs.Relation.{comes, Comes};
 ghost use Rattle.orders.specs.Extensions.{TakesLeast};
-ghost use Rattle.orders.specs.Counting.{EachOnce, CanGo, waiting};
+ghost use Rattle.orders.specs.Counting.{CanGo, waiting};
 
+use crate::marks::{each_once, unset_marks};
 use crate::order::Order;
 use rh_base::{NoMemory, Seq};
-
-fn clear(marks: &mut [bool])
-    ensures { (k : ℕ) → slice_index_or marks.new k false ≡ false }
-{
-    for mark in marks.iter_mut() {
-        *mark = false;
-    }
-}
-
-fn all_set(marks: &[bool]) -> bool
-    ensures { IsTrue result ↔ ((k : ℕ) → k < length marks.now → slice_index_or marks.now k false ≡ true) }
-{
-    for mark in marks {
-        if !*mark {
-            return false;
-        }
-    }
-    true
-}
-
-/// Whether the list has each number below the count of marks exactly once, and no other.
-fn each_once(list: &[u32], marks: &mut [bool]) -> bool
-    ensures { IsTrue result ↔ EachOnce (length marks.old) list.now }
-{
-    clear(marks);
-    for item in list {
-        let node = *item as usize;
-        if node >= marks.len() {
-            return false;
-        }
-        if marks[node] {
-            return false;
-        }
-        marks[node] = true;
-    }
-    all_set(marks)
-}
 
 /// The least node that isn't taken and waits for none.
 fn first_ready(taken: &[bool], waits: &[u32], n: u32) -> Option<u32>
@@ -147,7 +111,7 @@ impl Order {
         ensures least { IfOk result (TakesLeast self.now.count (Comes self.now) []) }
     {
         let n = self.count();
-        let mut taken = vec![in self.alloc(); false; n as usize]?;
+        let mut taken = unset_marks(self.alloc(), n)?;
         let mut waits = self.waits()?;
         let mut order = Vec::new(self.alloc());
         while let Some(node) = first_ready(taken.as_slice(), waits.as_slice(), n) {

@@ -6,6 +6,7 @@ mod chains;
 mod cycle;
 mod exchange;
 mod extension;
+mod marks;
 mod order;
 mod places;
 mod search;

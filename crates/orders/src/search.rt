@@ -7,6 +7,7 @@ ghost use Rattle.orders.specs.Search.{AreLinks, IsSearch, State, state_of, work,
 
 use crate::bits;
 use crate::cycle::cycle_of;
+use crate::marks::unset_marks;
 use crate::order::OrderFault;
 use rh_base::NoMemory;
 use std::alloc::Global;
@@ -27,8 +28,8 @@ pub fn begin(alloc: Global, n: u32, heads: Vec<usize>) -> Result<Search, NoMemor
 {
     Ok(Search {
         cursors: heads,
-        entered: vec![in alloc; false; n as usize]?,
-        done: vec![in alloc; false; n as usize]?,
+        entered: unset_marks(alloc, n)?,
+        done: unset_marks(alloc, n)?,
         stack: Vec::new(alloc),
         words: bits::empty_table(alloc, n)?,
     })
