@@ -7,3 +7,4 @@ pub mod Waits
 pub mod MarkLaws
 pub mod Taking
 pub mod Walks
+pub mod Cycles

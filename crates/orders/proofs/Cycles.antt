@@ -1,0 +1,74 @@
+-- The cycle along a list of linked nodes, turned so that its least node comes first.
+use Rattle.std.proofs.Common.{◌≡◌, ◌≢◌, ℕ, zero, suc, Bool, ◌+◌, ◌-◌, ◌<◌, ◌≤◌, ◌⊎◌, ⊎_elim, List, [], ◌∷◌, ◌++◌, length, get_or, take, drop, refl, sym, ap, ◌∙◌, subst, arith, append_assoc}
+use Rattle.std.specs.Prelude.{slice_index}
+use Rattle.std.specs.List.{AllByRecursion}
+use Rattle.std.proofs.lemmas.List.{append-nil, take-append-drop, drop_more, length-append, length-drop, get_or-drop, drop-drop}
+use Rattle.fs_semantics.specs.Orders.{times}
+use Rattle.orders.specs.Paths.{HasEdge, Trail, IsCycle}
+use Rattle.orders.specs.Search.{AreLinked}
+use Rattle.orders.proofs.Lists.{times_append, times_found, all_from, split_at}
+
+module _ (edges : List (ℕ × ℕ)) where
+  trail_joined : (a : ℕ) (xs : List ℕ) (c : ℕ) (ys : List ℕ) (b : ℕ) → Trail edges a xs c → Trail edges c ys b → Trail edges a (xs ++ c ∷ ys) b
+  trail_joined a [] c ys b h k = (h, k)
+  trail_joined a (x ∷ xs) c ys b h k = (h.0, trail_joined x xs c ys b h.1 k)
+
+  trail_front : (a : ℕ) (xs : List ℕ) (c : ℕ) (ys : List ℕ) (b : ℕ) → Trail edges a (xs ++ c ∷ ys) b → Trail edges a xs c
+  trail_front a [] c ys b h = h.0
+  trail_front a (x ∷ xs) c ys b h = (h.0, trail_front x xs c ys b h.1)
+
+  trail_back : (a : ℕ) (xs : List ℕ) (c : ℕ) (ys : List ℕ) (b : ℕ) → Trail edges a (xs ++ c ∷ ys) b → Trail edges c ys b
+  trail_back a [] c ys b h = h.1
+  trail_back a (x ∷ xs) c ys b h = trail_back x xs c ys b h.1
+
+  -- a cycle of these nodes, in their order
+  Ring : List ℕ → Type 0
+  Ring [] = ⊥
+  Ring (a ∷ nodes) = Trail edges a nodes a
+
+  turned : (xs : List ℕ) (c : ℕ) (ys : List ℕ) → Ring (xs ++ c ∷ ys) → Ring (c ∷ ys ++ xs)
+  turned [] c ys h = subst (λ (zs : List ℕ). Trail edges c zs c) (sym (append-nil ys)) h
+  turned (a ∷ xs) c ys h = trail_joined c ys a xs c (trail_back a xs c ys a h) (trail_front a xs c ys a h)
+
+  linked_back : (xs ys : List ℕ) → AreLinked edges (xs ++ ys) → AreLinked edges ys
+  linked_back [] ys h = h
+  linked_back (x ∷ []) [] h = tt
+  linked_back (x ∷ []) (y ∷ ys) h = h.1
+  linked_back (x ∷ z ∷ xs) ys h = linked_back (z ∷ xs) ys h.1
+
+  -- linked nodes are a trail to what the last one leads to
+  linked_trail : (a : ℕ) (nodes : List ℕ) (b : ℕ) → AreLinked edges (a ∷ nodes) → HasEdge edges (slice_index (a ∷ nodes) (length nodes)) b → Trail edges a nodes b
+  linked_trail a [] b h e = e
+  linked_trail a (c ∷ nodes) b h e = (h.0, linked_trail c nodes b h.1 e)
+
+-- the last of a list is the last of its end
+last_back : (xs : List ℕ) (y : ℕ) (ys : List ℕ) → slice_index (xs ++ y ∷ ys) (length (xs ++ y ∷ ys) - 1) ≡ slice_index (y ∷ ys) (length ys)
+last_back [] y ys = ap (slice_index (y ∷ ys)) (let e : suc (length ys) - 1 ≡ length ys = omega arith in e)
+last_back (x ∷ xs) y ys =
+    let n = length (xs ++ y ∷ ys) in
+    let e : suc n - 1 ≡ suc (n - 1) = let f = length-append xs (y ∷ ys) in omega arith in
+    ap (slice_index (x ∷ xs ++ y ∷ ys)) e ∙ last_back xs y ys
+
+module _ (list : List ℕ) (start least : ℕ) (node : ℕ) (start_within : start < length list) (found : slice_index list start ≡ node) (once : (k : ℕ) → times k list ≤ 1)
+    (least_within : least < length (drop start list)) (is_least : (k : ℕ) → k < length (drop start list) → slice_index (drop start list) least ≤ slice_index (drop start list) k)
+    (edges : List (ℕ × ℕ)) (linked : AreLinked edges list) (closes : HasEdge edges (slice_index list (length list - 1)) node) where
+  around_is : drop start list ≡ node ∷ drop (start + 1) list
+  around_is = drop_more list start 0 start_within ∙ ap (λ v. v ∷ drop (start + 1) list) found
+
+  list_is : list ≡ take start list ++ node ∷ drop (start + 1) list
+  list_is = sym (take-append-drop start list) ∙ ap (λ (ys : List ℕ). take start list ++ ys) around_is
+
+  ring : Ring edges (drop start list)
+  ring =
+      subst (λ (ys : List ℕ). Ring edges ys) (sym around_is)
+        (linked_trail edges node (drop (start + 1) list) node (linked_back edges (take start list) (node ∷ drop (start + 1) list) (subst (AreLinked edges) list_is linked))
+          (subst (λ (v : ℕ). HasEdge edges v node) (ap (λ (ys : List ℕ). slice_index ys (length ys - 1)) list_is ∙ last_back (take start list) node (drop (start + 1) list)) closes))
+
+  first : ℕ
+  first = get_or (drop start list) least 0
+
+  behind : List ℕ
+  behind = drop (least + 1) (drop start list)
+
+  ahead : List ℕ
+  ahead = take least (drop start list)
