@@ -6,7 +6,9 @@ use Rattle.std.proofs.lemmas.List.{append-nil, take-append-drop, drop_more, leng
 use Rattle.fs_semantics.specs.Orders.{times}
 use Rattle.orders.specs.Paths.{HasEdge, Trail, IsCycle}
 use Rattle.orders.specs.Search.{AreLinked}
-use Rattle.orders.proofs.Lists.{times_append, times_found, all_from, split_at}
+use Rattle.orders.specs.Exchanges.{place}
+use Rattle.orders.proofs.Lists.{times_append, all_from, split_at}
+use Rattle.orders.proofs.Walks.{at_place, place_within}
 
 module _ (edges : List (ℕ × ℕ)) where
   trail_joined : (a : ℕ) (xs : List ℕ) (c : ℕ) (ys : List ℕ) (b : ℕ) → Trail edges a xs c → Trail edges c ys b → Trail edges a (xs ++ c ∷ ys) b
@@ -22,7 +24,7 @@ module _ (edges : List (ℕ × ℕ)) where
   trail_back a (x ∷ xs) c ys b h = trail_back x xs c ys b h.1
 
   -- a cycle of these nodes, in their order
-  Ring : List ℕ → Type 0
+  abbrev Ring : List ℕ → Type 0
   Ring [] = ⊥
   Ring (a ∷ nodes) = Trail edges a nodes a
 
@@ -64,11 +66,46 @@ module _ (list : List ℕ) (start least : ℕ) (node : ℕ) (start_within : star
         (linked_trail edges node (drop (start + 1) list) node (linked_back edges (take start list) (node ∷ drop (start + 1) list) (subst (AreLinked edges) list_is linked))
           (subst (λ (v : ℕ). HasEdge edges v node) (ap (λ (ys : List ℕ). slice_index ys (length ys - 1)) list_is ∙ last_back (take start list) node (drop (start + 1) list)) closes))
 
-  first : ℕ
+  abbrev around : List ℕ
+  around = drop start list
+
+  abbrev first : ℕ
   first = get_or (drop start list) least 0
 
-  behind : List ℕ
+  abbrev behind : List ℕ
   behind = drop (least + 1) (drop start list)
 
-  ahead : List ℕ
+  abbrev ahead : List ℕ
   ahead = take least (drop start list)
+
+  around_parts : around ≡ ahead ++ first ∷ behind
+  around_parts = split_at around least least_within
+
+  nodes_are : drop least around ++ take least around ≡ first ∷ behind ++ ahead
+  nodes_are = ap (λ (ys : List ℕ). ys ++ ahead) (drop_more around least 0 least_within)
+
+  -- each stands around as often as in the nodes
+  counts : (k : ℕ) → times k (first ∷ behind ++ ahead) ≡ times k around
+  counts k =
+      let e = times_append k (first ∷ behind) ahead in
+      let f = times_append k ahead (first ∷ behind) in
+      let g = ap (times k) around_parts in
+      omega arith
+
+  counts_le : (k : ℕ) → times k around ≤ 1
+  counts_le k = let e = times_append k (take start list) around in let f = ap (times k) (take-append-drop start list) in let g = once k in omega arith
+
+  first_le : (k : ℕ) → 1 ≤ times k (behind ++ ahead) → first ≤ k
+  first_le k m =
+      let there : 1 ≤ times k around = let e = counts k in omega arith in
+      subst (λ (v : ℕ). first ≤ v) (at_place k around there) (is_least (place k around) (place_within k around there))
+
+  pub cycle_is : IsCycle edges (drop least around ++ take least around)
+  cycle_is = record {
+    first = first;
+    others = behind ++ ahead;
+    whole = nodes_are;
+    closed = turned edges ahead first behind (subst (λ (ys : List ℕ). Ring edges ys) around_parts ring);
+    least = all_from (λ k. first ≤ k) (behind ++ ahead) first_le;
+    once = λ k. let e = counts k in let f = counts_le k in let g = ap (times k) nodes_are in omega arith;
+  }

@@ -8,3 +8,5 @@ pub mod MarkLaws
 pub mod Taking
 pub mod Walks
 pub mod Cycles
+pub mod Searching
+pub mod Steps

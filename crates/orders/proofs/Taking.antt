@@ -9,7 +9,7 @@ use Rattle.orders.specs.Relation.{Relation, comes, Comes, IsStrictOrder}
 use Rattle.orders.specs.Extensions.{IsReady, IsLeastReady, TakesLeast}
 use Rattle.orders.specs.Counting.{waiting, count_false, CanGo}
 use Rattle.orders.proofs.Lists.{all_from, none_ahead_push}
-use Rattle.orders.proofs.Waits.{waiting_none, waiting_zero, waiting_set, waiting_same}
+use Rattle.orders.proofs.Waits.{waiting_none, waiting_zero, waiting_set, waiting_same, clash}
 use Rattle.orders.proofs.MarkLaws.{count_more}
 
 -- what is taken so far, and how many each node waits for
@@ -22,7 +22,7 @@ pub record IsTaking (order : Relation) (taken : List Bool) (waits list : List �
   pub kept : NoneAhead (Comes order) list
   pub least : TakesLeast order.count (Comes order) [] list
 
-one_or_none : (t : Bool) → 1 ≤ cond t 1 0 → t ≡ true
+pub one_or_none : (t : Bool) → 1 ≤ cond t 1 0 → t ≡ true
 one_or_none true h = refl
 one_or_none false h = absurd (omega arith)
 
@@ -30,10 +30,7 @@ none_then_false : (t : Bool) → ◌≡◌ {A = ℕ} (cond t 1 0) 0 → t ≡ fa
 none_then_false true h = absurd (omega arith)
 none_then_false false h = refl
 
-clash : {t : Bool} → t ≡ false → t ≡ true → ⊥
-clash e f = cc
-
-within_taken : (taken : List Bool) (k : ℕ) → get_or taken k false ≡ true → k < length taken
+pub within_taken : (taken : List Bool) (k : ℕ) → get_or taken k false ≡ true → k < length taken
 within_taken taken k e = ⊎_elim (λ l. l) (λ l. absurd (clash (get_or_past taken k false l) e)) (cases_lt k (length taken))
 
 takes_push : (n : ℕ) (before : ℕ → ℕ → Type 0) (taken list : List ℕ) (k : ℕ) → TakesLeast n before taken list → IsLeastReady n before (taken ++ list) k → TakesLeast n before taken (list ++ k ∷ [])

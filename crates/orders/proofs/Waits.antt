@@ -97,3 +97,6 @@ count_false_set (mark ∷ marks) (suc k) l e = omega (arith, count_false_set mar
 
 pub count_false_less : (marks : List Bool) (k : ℕ) → k < length marks → get_or marks k false ≡ false → count_false (set marks k true) < count_false marks
 count_false_less marks k l e = omega (arith, count_false_set marks k l e)
+
+pub clash : {t : Bool} → t ≡ false → t ≡ true → ⊥
+clash e f = cc

@@ -1,5 +1,5 @@
 -- A search through a graph, depth first: what its arrays mean.
-use Rattle.std.specs.Prelude.{◌≡◌, ℕ, zero, suc, ◌+◌, ◌-◌, ◌*◌, ◌<◌, ◌≤◌, ◌⊎◌, ◌==◌, List, [], ◌∷◌, ◌++◌, Bool, true, false, not, ◌&&◌, length, sum, slice_index, slice_index_or, slice_set, take, if◌then◌else◌}
+use Rattle.std.specs.Prelude.{◌≡◌, ℕ, zero, suc, ◌+◌, ◌-◌, ◌*◌, ◌<◌, ◌≤◌, ◌⊎◌, ◌==◌, List, [], ◌∷◌, ◌++◌, Bool, true, false, not, ◌&&◌, length, slice_index, slice_index_or, slice_set, take, if◌then◌else◌}
 use Rattle.orders.specs.declared.search.Search.{Search}
 use Rattle.orders.specs.Paths.{HasEdge, Path}
 use Rattle.orders.specs.Table.{width_of, cell}
@@ -65,10 +65,16 @@ pub record IsSearch (n : ℕ) (edges : List (ℕ × ℕ)) (s : State) : Type 0 w
   -- the nodes in work are those that were entered and aren't done, each once
   pub in_work : (k : ℕ) → times k s.stack ≡ (if slice_index_or s.entered k false && not (slice_index_or s.done k false) then 1 else 0)
   pub linked : AreLinked edges s.stack
+  pub done_entered : (k : ℕ) → slice_index_or s.done k false ≡ true → slice_index_or s.entered k false ≡ true
+
+-- the numbers of a list added up
+abbrev pub total : List ℕ → ℕ
+total [] = 0
+total (n ∷ list) = n + total list
 
 -- what is left to do, at most
 abbrev pub work : State → ℕ
-work s = sum s.cursors + 2 * count_false s.entered + length s.stack
+work s = total s.cursors + 2 * count_false s.entered + length s.stack
 
 -- b has been entered
 abbrev pub entering : ℕ → State → State
@@ -77,3 +83,14 @@ entering b s = record s { entered = slice_set s.entered b true; stack = s.stack 
 -- all edges of the node that is on top are done with
 abbrev pub finishing : ℕ → State → State
 finishing top s = record s { done = slice_set s.done top true; stack = take (length s.stack - 1) s.stack }
+
+-- a search before its first step
+pub record IsFresh (n : ℕ) (heads : List ℕ) (s : State) : Type 0 where
+  pub cursors : s.cursors ≡ heads
+  pub entered_len : length s.entered ≡ n
+  pub entered : (k : ℕ) → slice_index_or s.entered k false ≡ false
+  pub done_len : length s.done ≡ n
+  pub done : (k : ℕ) → slice_index_or s.done k false ≡ false
+  pub stack : s.stack ≡ []
+  pub words_len : length s.words ≡ n * width_of n
+  pub words : (a b : ℕ) → cell (width_of n) s.words a b ≡ false

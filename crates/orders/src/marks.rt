@@ -12,6 +12,13 @@ pub fn unset_marks(alloc: Global, n: u32) -> Result<Vec<bool>, NoMemory>
     Ok(vec![in alloc; false; n as usize]?)
 }
 
+pub fn is_marked(marks: &[bool], node: u32) -> bool
+    requires { node < length marks.now }
+    ensures { result ≡ slice_index_or marks.now node false }
+{
+    marks[node as usize]
+}
+
 fn clear(marks: &mut [bool])
     ensures { (k : ℕ) → slice_index_or marks.new k false ≡ false }
 {

@@ -3,11 +3,11 @@ ghost use Rattle.std.specs.Prelude.{◌≡◌, ◌==◌, ℕ, ◌-◌, ◌*◌, 
 ghost use Rattle.orders.specs.Paths.{EndsBelow, HasEdge, IsCycle};
 ghost use Rattle.orders.specs.Table.{width_of, cell};
 ghost use Rattle.orders.specs.Faults.{IfCycle};
-ghost use Rattle.orders.specs.Search.{AreLinks, IsSearch, State, state_of, work, entering, finishing, source, target};
+ghost use Rattle.orders.specs.Search.{AreLinks, IsFresh, IsSearch, State, state_of, work, entering, finishing, source, target};
 
 use crate::bits;
 use crate::cycle::cycle_of;
-use crate::marks::unset_marks;
+use crate::marks::{is_marked, unset_marks};
 use crate::order::OrderFault;
 use rh_base::NoMemory;
 use std::alloc::Global;
@@ -24,7 +24,7 @@ pub struct Search {
 }
 
 pub fn begin(alloc: Global, n: u32, heads: Vec<usize>) -> Result<Search, NoMemory>
-    ensures cursors { IfOk result (λ s. s.cursors.items ≡ heads.items) }
+    ensures { IfOk result (λ s. IsFresh n heads.items (state_of s)) }
 {
     Ok(Search {
         cursors: heads,
@@ -74,6 +74,13 @@ fn finish(search: &mut Search, top: u32)
     search.stack.pop();
 }
 
+fn top_of(stack: &[u32]) -> u32
+    requires { 0 < length stack.now }
+    ensures { slice_index stack.now (length stack.now - 1) ≡ result }
+{
+    stack[stack.len() - 1]
+}
+
 /// Follows one edge of the node on top, or leaves that node.
 fn step(
     search: &mut Search,
@@ -90,18 +97,19 @@ fn step(
     ensures entered { IfOk result (λ _. (k : ℕ) → slice_index_or search.old.entered.items k false ≡ true → slice_index_or search.new.entered.items k false ≡ true) }
     ensures cycle { IfErr result (λ e. IfCycle e (IsCycle edges.now)) }
 {
-    let top = search.stack[search.stack.len() - 1];
-    let cursor = search.cursors[top as usize];
+    let top = top_of(search.stack.as_slice());
+    let cursors = search.cursors.as_slice();
+    let cursor = cursors[top as usize];
     if cursor == 0 {
         finish(search, top);
         return Ok(());
     }
     let node = edges[cursor - 1].1;
-    if search.done[node as usize] {
+    if is_marked(search.done.as_slice(), node) {
         pass(search, n, nexts, top, node);
         return Ok(());
     }
-    if search.entered[node as usize] {
+    if is_marked(search.entered.as_slice(), node) {
         let alloc = *search.stack.allocator();
         return Err(OrderFault::Cycle(cycle_of(alloc, search.stack.as_slice(), node)?));
     }
