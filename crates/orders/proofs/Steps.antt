@@ -153,6 +153,17 @@ module _ (n : ℕ) (edges : List (ℕ × ℕ)) (ends : EndsBelow n edges) (s : S
       pub finished_less : work (finishing top s) < work s
       finished_less = let e = length-take (length s.stack - 1) s.stack in omega arith
 
+    -- ---- its next edge
+    module _ (i : ℕ) (cursor : slice_index s.cursors top ≡ suc i) where
+      next_numbered : i < length edges
+      next_numbered = let e = h.cursor_within top top_within in omega arith
+
+      pub next_within : target edges i < n
+      next_within = target_within n edges ends i next_numbered
+
+      pub next_edge : HasEdge edges (slice_index s.stack (length s.stack - 1)) (target edges i)
+      next_edge = subst (λ (v : ℕ). HasEdge edges v (target edges i)) (h.cursor_own top i top_within cursor ∙ sym is) (edge_at edges i next_numbered)
+
     -- ---- its next edge leads to a node that is done
     module _ (i : ℕ) (cursor : slice_index s.cursors top ≡ suc i) (node : ℕ) (node_is : target edges i ≡ node) (ended : get_or s.done node false ≡ true)
         (heads nexts : List ℕ) (links : AreLinks n edges heads nexts) (words : List ℕ) (size : length words ≡ n * width_of n)
@@ -281,3 +292,54 @@ module _ (n : ℕ) (edges : List (ℕ × ℕ)) (ends : EndsBelow n edges) (s : S
           let f = next_is in
           let g = latest_le edges top i in
           omega arith
+
+-- what holds while all that is reached from a root is followed
+pub record IsExploring (n : ℕ) (edges : List (ℕ × ℕ)) (root : ℕ) (before : List Bool) (s : State) : Type 0 where
+  pub search : IsSearch n edges s
+  pub entered_root : get_or s.entered root false ≡ true
+  pub entered : (k : ℕ) → get_or before k false ≡ true → get_or s.entered k false ≡ true
+
+-- ---- the first state
+pub fresh_search : (n : ℕ) (edges : List (ℕ × ℕ)) → EndsBelow n edges → (heads nexts : List ℕ) → AreLinks n edges heads nexts → (s : State) → IsFresh n heads s → IsSearch n edges s
+fresh_search n edges ends heads nexts links s f =
+    let cursor : (a : ℕ) → a < n → slice_index s.cursors a ≡ latest edges a (length edges) = λ a l. ap (λ (xs : List ℕ). slice_index xs a) f.cursors ∙ links.heads_are a l in
+    record {
+      cursors_len = ap (λ (xs : List ℕ). length xs) f.cursors ∙ links.heads_len;
+      entered_len = f.entered_len;
+      done_len = f.done_len;
+      words_len = f.words_len;
+      sound = λ a b ha hb c. absurd (clash (f.words a b) c);
+      cursor_within = λ a l. let e = cursor a l in let g = latest_le edges a (length edges) in omega arith;
+      cursor_own = λ a i l e. latest_own edges a (length edges) i (sym (cursor a l) ∙ e);
+      followed = λ k l c. absurd (latest_none edges (source edges k) (length edges) k (let e = cursor (source edges k) (source_within n edges ends k l) in omega arith) l refl);
+      done_at_end = λ a d. absurd (clash (f.done a) d);
+      acyclic = λ a d p. clash (f.done a) d;
+      in_work = λ k. ap (times k) f.stack ∙ sym (unset_none (get_or s.entered k false) (get_or s.done k false) (f.entered k));
+      linked = subst (AreLinked edges) (sym f.stack) tt;
+      done_entered = λ k d. absurd (clash (f.done k) d);
+    }
+
+-- ---- the last state: all nodes have been entered, and none is in work
+module _ (n : ℕ) (edges : List (ℕ × ℕ)) (ends : EndsBelow n edges) (s : State) (h : IsSearch n edges s) (idle : s.stack ≡ []) (all : (k : ℕ) → k < n → get_or s.entered k false ≡ true) where
+  all_done : (k : ℕ) → k < n → get_or s.done k false ≡ true
+  all_done k l =
+      ⊎_elim (λ t. t)
+        (λ f. let e = in_work_one (get_or s.entered k false) (get_or s.done k false) (all k l) f in
+          let g = h.in_work k in
+          let i = ap (times k) idle in
+          absurd (omega arith)) (told (get_or s.done k false))
+
+  all_followed : (k : ℕ) → k < length edges → IsFollowed n edges s k
+  all_followed k l = h.followed k l (let e = h.done_at_end (source edges k) (all_done (source edges k) (source_within n edges ends k l)) in omega arith)
+
+  pub reached : (a b : ℕ) → Path edges a b → cell (width_of n) s.words a b ≡ true
+  reached a b (edge e) =
+      let k = numbered edges a b e in
+      subst (λ (v : ℕ). cell (width_of n) s.words v b ≡ true) k.2 (subst (λ (v : ℕ). cell (width_of n) s.words (source edges k.0) v ≡ true) k.3 (all_followed k.0 k.1).found)
+  reached a b (and_on {b = c} e p) =
+      let k = numbered edges a c e in
+      subst (λ (v : ℕ). cell (width_of n) s.words v b ≡ true) k.2
+        ((all_followed k.0 k.1).all_found b (path_within n edges ends p).1 (subst (λ (v : ℕ). cell (width_of n) s.words v b ≡ true) (sym k.3) (reached c b p)))
+
+  pub none_circles : (a : ℕ) → Path edges a a → ⊥
+  none_circles a p = h.acyclic a (all_done a (path_within n edges ends p).0) p
