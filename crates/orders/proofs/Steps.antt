@@ -5,12 +5,14 @@ use Rattle.std.proofs.lemmas.Bool.{cases_lt, cases_eq}
 use Rattle.std.proofs.lemmas.List.{get_or-set_same, get_or-set_other, length-set, length-append, length-take, drop_all}
 use Rattle.fs_semantics.specs.Orders.{times}
 use Rattle.orders.specs.Paths.{HasEdge, EndsBelow, Path, edge, and_on}
-use Rattle.orders.specs.Table.{width_of, cell}
+use Rattle.orders.specs.Relation.{Comes, IsStrictOrder}
+use Rattle.orders.specs.Table.{width_of, cell, relation_of, IsOrderTable}
 use Rattle.orders.specs.Counting.{count_false}
 use Rattle.orders.specs.Search.{source, target, latest, AreLinks, State, AreLinked, IsFollowed, IsFresh, IsSearch, total, work, entering, finishing}
 use Rattle.orders.proofs.Lists.{times_append, times_itself, times_other, times_at, split_at}
 use Rattle.orders.proofs.Waits.{count_false_set, clash}
 use Rattle.orders.proofs.Taking.{within_taken}
+use Rattle.orders.proofs.Tables.{comes_cell, comes_within}
 use Rattle.orders.proofs.Searching.{latest_le, latest_own, latest_none, edge_at, numbered, source_within, target_within, path_within, one_at_most, in_work_both, in_work_one, done_none, unset_none, set_keeps, total_set, linked_front, linked_push, or_true, and_true, or_right, or_left}
 
 -- marks as Bool
@@ -343,3 +345,48 @@ module _ (n : ℕ) (edges : List (ℕ × ℕ)) (ends : EndsBelow n edges) (s : S
 
   pub none_circles : (a : ℕ) → Path edges a a → ⊥
   none_circles a p = h.acyclic a (all_done a (path_within n edges ends p).0) p
+
+-- ---- root by root
+pub record IsRooted (n : ℕ) (edges : List (ℕ × ℕ)) (root : ℕ) (s : State) : Type 0 where
+  pub search : IsSearch n edges s
+  pub idle : s.stack ≡ []
+  pub entered : (k : ℕ) → k < root → get_or s.entered k false ≡ true
+
+pub rooted_begun : (n : ℕ) (edges : List (ℕ × ℕ)) → EndsBelow n edges → (heads nexts : List ℕ) → AreLinks n edges heads nexts → (s : State) → IsFresh n heads s → IsRooted n edges 0 s
+rooted_begun n edges ends heads nexts links s f = record {
+  search = fresh_search n edges ends heads nexts links s f;
+  idle = f.stack;
+  entered = λ k l. absurd (omega arith);
+}
+
+pub rooted_more : (n : ℕ) (edges : List (ℕ × ℕ)) (root : ℕ) (s t : State) → ((k : ℕ) → k < root → get_or s.entered k false ≡ true) → IsSearch n edges t → t.stack ≡ [] → get_or t.entered root false ≡ true
+    → ((k : ℕ) → get_or s.entered k false ≡ true → get_or t.entered k false ≡ true) → IsRooted n edges (root + 1) t
+rooted_more n edges root s t before search idle now keeps = record {
+  search = search;
+  idle = idle;
+  entered = λ k l. ⊎_elim (λ m. keeps k (before k m)) (λ m. let e : root ≡ k = omega arith in subst (λ (v : ℕ). get_or t.entered v false ≡ true) e now) (cases_lt k root);
+}
+
+-- the relation that the bits stand for
+module _ (n : ℕ) (edges : List (ℕ × ℕ)) (ends : EndsBelow n edges) (root : ℕ) (all : n ≤ root) (s : State) (h : IsRooted n edges root s) where
+  pub comes_is : (a b : ℕ) → (Comes (relation_of n s.words) a b → Path edges a b) × (Path edges a b → Comes (relation_of n s.words) a b)
+  comes_is a b =
+      (λ c. let w = comes_within n s.words a b c in h.search.sound a b w.0 w.1 (sym (comes_cell n s.words a b w.0 w.1) ∙ c),
+        λ p. let w = path_within n edges ends p in comes_cell n s.words a b w.0 w.1 ∙ reached n edges ends s h.search h.idle (λ k l. h.entered k (omega arith)) a b p)
+
+  pub no_circles : (a : ℕ) → Path edges a a → ⊥
+  no_circles = none_circles n edges ends s h.search h.idle (λ k l. h.entered k (omega arith))
+
+  path_joined : {a b c : ℕ} → Path edges a b → Path edges b c → Path edges a c
+  path_joined (edge e) q = and_on e q
+  path_joined (and_on e p) q = and_on e (path_joined p q)
+
+  pub ordered : IsOrderTable n s.words
+  ordered = record {
+    size = h.search.words_len;
+    strict = record {
+      within = comes_within n s.words;
+      never_itself = λ a c. no_circles a ((comes_is a a).0 c);
+      transitive = λ a b c d e. (comes_is a c).1 (path_joined ((comes_is a b).0 d) ((comes_is b c).0 e));
+    };
+  }

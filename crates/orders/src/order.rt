@@ -6,6 +6,7 @@ ghost use Rattle.orders.specs.declared.order.OrderFault.TheVariants.{Memory};
 
 use crate::bits;
 use crate::chains::link_edges;
+use crate::marks::is_marked;
 use crate::search::{begin, explore};
 use rh_base::{NoMemory, Seq};
 use std::alloc::Global;
@@ -59,7 +60,7 @@ impl Order {
         let links = link_edges(alloc, n, edges)?;
         let mut search = begin(alloc, n, links.heads)?;
         for root in 0..n {
-            if !search.entered[root as usize] {
+            if !is_marked(search.entered.as_slice(), root) {
                 explore(&mut search, n, edges, links.nexts.as_slice(), root)?;
             }
         }
