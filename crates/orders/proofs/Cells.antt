@@ -102,8 +102,8 @@ or_test : (p q : ℕ) → p < 2 → q < 2 → nat_eq (max p q) 1 ≡ (nat_eq q 1
 or_test p q hp hq =
     let P : ℕ → ℕ → Type 0 = λ v w. nat_eq (max v w) 1 ≡ (nat_eq w 1 || nat_eq v 1) in
     ⊎_elim
-      (λ e. ⊎_elim (λ f. subst (λ (v : ℕ). P v q) (sym e) (subst (λ (w : ℕ). P 0 w) (sym f) refl)) (λ f. subst (λ (v : ℕ). P v q) (sym e) (subst (λ (w : ℕ). P 0 w) (sym f) refl)) (bit_cases q hq))
-      (λ e. ⊎_elim (λ f. subst (λ (v : ℕ). P v q) (sym e) (subst (λ (w : ℕ). P 1 w) (sym f) refl)) (λ f. subst (λ (v : ℕ). P v q) (sym e) (subst (λ (w : ℕ). P 1 w) (sym f) refl)) (bit_cases q hq)) (bit_cases p hp)
+    (λ e. ⊎_elim (λ f. subst (λ (v : ℕ). P v q) (sym e) (subst (λ (w : ℕ). P 0 w) (sym f) refl)) (λ f. subst (λ (v : ℕ). P v q) (sym e) (subst (λ (w : ℕ). P 0 w) (sym f) refl)) (bit_cases q hq))
+    (λ e. ⊎_elim (λ f. subst (λ (v : ℕ). P v q) (sym e) (subst (λ (w : ℕ). P 1 w) (sym f) refl)) (λ f. subst (λ (v : ℕ). P v q) (sym e) (subst (λ (w : ℕ). P 1 w) (sym f) refl)) (bit_cases q hq)) (bit_cases p hp)
 
 pub row_end : (n t f w k : ℕ) (old words : List ℕ) → w ≡ width_of n → k ≡ w → IsRowAdded (t * w) (f * w) k old words → IsRowAdded (t * width_of n) (f * width_of n) (width_of n) old words
 row_end n t f w k old words e d h =
@@ -123,10 +123,11 @@ row_all n t f old words h x y hx hy = ⊎_elim here there (cases_eq x t)
     here e =
         let P : ℕ → Type 0 = λ v. cell (width_of n) words v y ≡ (((v == t) && cell (width_of n) old f y) || cell (width_of n) old v y) in
         subst P (sym e)
-          (ap (λ v. nat_eq (bit_at v (y % 64)) 1) (h.added (y / 64) (column_within n y hy))
-            ∙ ap (λ v. nat_eq v 1) (bit_at_or (slice_index old (t * width_of n + y / 64)) (slice_index old (f * width_of n + y / 64)) (y % 64))
-            ∙ or_test (bit_at (slice_index old (t * width_of n + y / 64)) (y % 64)) (bit_at (slice_index old (f * width_of n + y / 64)) (y % 64)) (bit_at-lt _ _) (bit_at-lt _ _)
-            ∙ ap (λ b. (b && cell (width_of n) old f y) || cell (width_of n) old t y) (sym (eq-eqb t t refl)))
+        (ap (λ v. nat_eq (bit_at v (y % 64)) 1) (h.added (y / 64) (column_within n y hy))
+        ∙ ap (λ v. nat_eq v 1) (bit_at_or (slice_index old (t * width_of n + y / 64)) (slice_index old (f * width_of n + y / 64)) (y % 64))
+        ∙ or_test (bit_at (slice_index old (t * width_of n + y / 64)) (y % 64)) (bit_at (slice_index old (f * width_of n + y / 64)) (y % 64)) (bit_at-lt _ _) (bit_at-lt _ _)
+        ∙ ap (λ b. (b && cell (width_of n) old f y) || cell (width_of n) old t y) (sym (eq-eqb t t refl)))
+
     there : (x ≢ t) → cell (width_of n) words x y ≡ (((x == t) && cell (width_of n) old f y) || cell (width_of n) old x y)
     there ne =
         ap (λ v. nat_eq (bit_at v (y % 64)) 1) (h.others (x * width_of n + y / 64) (λ i l e. ne (same_from_place x (y / 64) t i (width_of n) (column_within n y hy) l e).0))
@@ -168,13 +169,13 @@ module _ (n r a b : ℕ) (from old into new : List ℕ) (so_far : IsRowCopied n 
   copied_set t put x y hx hy =
       put x y hx hy ∙ ap (λ v. ((x == a) && (y == b)) || v) (so_far x y hx hy)
       ∙ ⊎_elim
-        (λ e. cases_here (x == a) (y == b) (nat_lt y b) (nat_lt y (b + 1)) (told y) (cell (width_of n) old x y) (eq-eqb y b e) (le-ltb y b (omega arith)) (lt-ltb y (b + 1) (omega arith)) (ap told e ∙ t))
-        (λ ne. cases_there (x == a) (y == b) (nat_lt y b) (nat_lt y (b + 1)) (told y) (cell (width_of n) old x y) (ne_eqb y b ne) (next_lt y b ne)) (cases_eq y b)
+      (λ e. cases_here (x == a) (y == b) (nat_lt y b) (nat_lt y (b + 1)) (told y) (cell (width_of n) old x y) (eq-eqb y b e) (le-ltb y b (omega arith)) (lt-ltb y (b + 1) (omega arith)) (ap told e ∙ t))
+      (λ ne. cases_there (x == a) (y == b) (nat_lt y b) (nat_lt y (b + 1)) (told y) (cell (width_of n) old x y) (ne_eqb y b ne) (next_lt y b ne)) (cases_eq y b)
 
   -- a bit that isn't set there has been left
   pub copied_skip : told b ≡ false → ((x y : ℕ) → x < n → y < n → cell (width_of n) new x y ≡ cell (width_of n) into x y) → IsRowCopied n r a (b + 1) from old new
   copied_skip t kept x y hx hy =
       kept x y hx hy ∙ so_far x y hx hy
       ∙ ⊎_elim
-        (λ e. cases_skip (x == a) (nat_lt y b) (nat_lt y (b + 1)) (told y) (cell (width_of n) old x y) (ap told e ∙ t))
-        (λ ne. ap (λ v. ((x == a) && (v && told y)) || cell (width_of n) old x y) (sym (next_lt y b ne))) (cases_eq y b)
+      (λ e. cases_skip (x == a) (nat_lt y b) (nat_lt y (b + 1)) (told y) (cell (width_of n) old x y) (ap told e ∙ t))
+      (λ ne. ap (λ v. ((x == a) && (v && told y)) || cell (width_of n) old x y) (sym (next_lt y b ne))) (cases_eq y b)

@@ -63,8 +63,8 @@ module _ (list : List ℕ) (start least : ℕ) (node : ℕ) (start_within : star
   ring : Ring edges (drop start list)
   ring =
       subst (λ (ys : List ℕ). Ring edges ys) (sym around_is)
-        (linked_trail edges node (drop (start + 1) list) node (linked_back edges (take start list) (node ∷ drop (start + 1) list) (subst (AreLinked edges) list_is linked))
-          (subst (λ (v : ℕ). HasEdge edges v node) (ap (λ (ys : List ℕ). slice_index ys (length ys - 1)) list_is ∙ last_back (take start list) node (drop (start + 1) list)) closes))
+      (linked_trail edges node (drop (start + 1) list) node (linked_back edges (take start list) (node ∷ drop (start + 1) list) (subst (AreLinked edges) list_is linked))
+      (subst (λ (v : ℕ). HasEdge edges v node) (ap (λ (ys : List ℕ). slice_index ys (length ys - 1)) list_is ∙ last_back (take start list) node (drop (start + 1) list)) closes))
 
   abbrev around : List ℕ
   around = drop start list

@@ -30,7 +30,7 @@ module _ (before : ℕ → ℕ → Type 0) where
       record {
         below = subst (AllByRecursion P) (sym e.is) (all_append P e.front (e.right ∷ e.left ∷ e.back) (all_front P e.front (e.left ∷ e.right ∷ e.back) below) (rest.1.0, (rest.0, rest.1.1)));
         once = λ k h.
-        omega (arith, l.once k h, ap (times k) e.was, ap (times k) e.is, times_append k e.front (e.left ∷ e.right ∷ e.back), times_append k e.front (e.right ∷ e.left ∷ e.back));
+            omega (arith, l.once k h, ap (times k) e.was, ap (times k) e.is, times_append k e.front (e.left ∷ e.right ∷ e.back), times_append k e.front (e.right ∷ e.left ∷ e.back));
         kept = subst (NoneAhead before) (sym e.is) kept;
       }
 
@@ -52,7 +52,7 @@ module _ (before : ℕ → ℕ → Type 0) where
   to_front [] x back h = none
   to_front (z ∷ front) x back h =
       turned_then (turned_on z (to_front front x back h.1))
-        (turn (record { front = []; left = z; right = x; back = front ++ back; was = refl; is = refl; free = h.0 }) none)
+      (turn (record { front = []; left = z; right = x; back = front ++ back; was = refl; is = refl; free = h.0 }) none)
 
   turned : (right left : List ℕ) → ((k : ℕ) → times k left ≡ times k right) → ((k : ℕ) → times k right ≤ 1) → NoneAhead before left → NoneAhead before right → Turned left right
   turned [] [] same_times once l r = none
@@ -68,8 +68,8 @@ module _ (before : ℕ → ℕ → Type 0) where
       let there : 1 ≤ times z right = omega (arith, counts z, same_times z, times_other z x right differ) in
       record { differ = differ; not_before = all_at (λ a. before a x → ⊥) right z r.0 there; not_after = all_at (λ a. before x a → ⊥) front z (none_ahead_behind before front x back kept) m } in
       subst (λ o. Turned o (x ∷ right)) (sym split.2)
-        (turned_then (to_front front x back (all_from (λ z. IsFree before z x) front free))
-          (turned_on x (turned right (front ++ back) (λ k. omega (arith, counts k, same_times k, times_append k front back)) (λ k. omega (arith, once k)) (none_ahead_without before front x back kept) r.1)))
+      (turned_then (to_front front x back (all_from (λ z. IsFree before z x) front free))
+      (turned_on x (turned right (front ++ back) (λ k. omega (arith, counts k, same_times k, times_append k front back)) (λ k. omega (arith, once k)) (none_ahead_without before front x back kept) r.1)))
 
   joined_by : (n : ℕ) {from to : List ℕ} → Turned from to → IsLinearExtension n before from → Joined n before from to
   joined_by n none l = same l

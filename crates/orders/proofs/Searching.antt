@@ -29,7 +29,7 @@ none_step : (edges : List (ℕ × ℕ)) (a i k : ℕ) → (latest edges a i ≤ 
 none_step edges a i k h true t m l e = omega arith
 none_step edges a i k h false t m l e =
     ⊎_elim (λ n. h m n e)
-      (λ n. let same : k ≡ i = omega arith in clash t (eq-eqb (source edges i) a (ap (source edges) (sym same) ∙ e))) (cases_lt k i)
+    (λ n. let same : k ≡ i = omega arith in clash t (eq-eqb (source edges i) a (ap (source edges) (sym same) ∙ e))) (cases_lt k i)
 
 -- behind the latest none begins at a
 pub latest_none : (edges : List (ℕ × ℕ)) (a i k : ℕ) → latest edges a i ≤ k → k < i → source edges k ≡ a → ⊥
@@ -87,7 +87,7 @@ unset_none true d h = cc
 pub set_keeps : (marks : List Bool) (j k : ℕ) → get_or marks k false ≡ true → get_or (set marks j true) k false ≡ true
 set_keeps marks j k h =
     ⊎_elim (λ e. subst (λ (v : ℕ). get_or (set marks j true) v false ≡ true) (sym e) (get_or-set_same marks j true false (subst (λ (v : ℕ). v < length marks) e (within_taken marks k h))))
-      (λ ne. get_or-set_other marks j k true false ne ∙ h) (cases_eq k j)
+    (λ ne. get_or-set_other marks j k true false ne ∙ h) (cases_eq k j)
 
 pub total_set : (xs : List ℕ) (i y : ℕ) → i < length xs → total (set xs i y) + slice_index xs i ≡ total xs + y
 total_set [] i y l = absurd (omega arith)

@@ -39,18 +39,18 @@ module _ (n : ℕ) (edges : List (ℕ × ℕ)) (ends : EndsBelow n edges) (s : S
     entered_counts : (k : ℕ) → times k (s.stack ++ node ∷ []) ≡ cond (get_or (set s.entered node true) k false && not (get_or s.done k false)) 1 0
     entered_counts k =
         ⊎_elim
-          (λ e. let P : ℕ → Type 0 = λ v. times v (s.stack ++ node ∷ []) ≡ cond (get_or (set s.entered node true) v false && not (get_or s.done v false)) 1 0 in
-            let a = times_append node s.stack (node ∷ []) in
-            let b = times_itself node [] in
-            let c = h.in_work node ∙ unset_none (get_or s.entered node false) (get_or s.done node false) fresh in
-            let d = in_work_one (get_or (set s.entered node true) node false) (get_or s.done node false) (get_or-set_same s.entered node true false node_in) not_done in
-            let f : times node (s.stack ++ node ∷ []) ≡ 1 = omega arith in
-            subst P (sym e) (f ∙ sym d))
-          (λ ne. let a = times_append k s.stack (node ∷ []) in
-            let b = times_other k node [] ne in
-            let f : times k (s.stack ++ node ∷ []) ≡ times k s.stack = omega arith in
-            f ∙ h.in_work k ∙ sym (ap (λ e. cond (e && not (get_or s.done k false)) 1 0) (get_or-set_other s.entered node k true false ne)))
-          (cases_eq k node)
+        (λ e. let P : ℕ → Type 0 = λ v. times v (s.stack ++ node ∷ []) ≡ cond (get_or (set s.entered node true) v false && not (get_or s.done v false)) 1 0 in
+        let a = times_append node s.stack (node ∷ []) in
+        let b = times_itself node [] in
+        let c = h.in_work node ∙ unset_none (get_or s.entered node false) (get_or s.done node false) fresh in
+        let d = in_work_one (get_or (set s.entered node true) node false) (get_or s.done node false) (get_or-set_same s.entered node true false node_in) not_done in
+        let f : times node (s.stack ++ node ∷ []) ≡ 1 = omega arith in
+        subst P (sym e) (f ∙ sym d))
+        (λ ne. let a = times_append k s.stack (node ∷ []) in
+        let b = times_other k node [] ne in
+        let f : times k (s.stack ++ node ∷ []) ≡ times k s.stack = omega arith in
+        f ∙ h.in_work k ∙ sym (ap (λ e. cond (e && not (get_or s.done k false)) 1 0) (get_or-set_other s.entered node k true false ne)))
+        (cases_eq k node)
 
     pub entered_search : IsSearch n edges (entering node s)
     entered_search = record {
@@ -120,16 +120,16 @@ module _ (n : ℕ) (edges : List (ℕ × ℕ)) (ends : EndsBelow n edges) (s : S
           let a = ap (times k) stack_is in
           let b = times_append k (take (length s.stack - 1) s.stack) (top ∷ []) in
           ⊎_elim
-            (λ e. let c = in_work_once k in
-              let d = subst (λ (v : ℕ). 1 ≤ times v s.stack) (sym e) top_there in
-              let f : times k (top ∷ []) ≡ 1 = subst (λ (v : ℕ). times v (top ∷ []) ≡ 1) (sym e) (times_itself top []) in
-              let g : times k (take (length s.stack - 1) s.stack) ≡ 0 = omega arith in
-              let i = get_or-set_same s.done top true false (let l = h.done_len in let m = top_within in omega arith) in
-              g ∙ sym (done_none (get_or s.entered k false) (get_or (set s.done top true) k false) (subst (λ (v : ℕ). get_or (set s.done top true) v false ≡ true) (sym e) i)))
-            (λ ne. let c = times_other k top [] ne in
-              let g : times k (take (length s.stack - 1) s.stack) ≡ times k s.stack = omega arith in
-              g ∙ h.in_work k ∙ sym (ap (λ d. cond (get_or s.entered k false && not d) 1 0) (get_or-set_other s.done top k true false ne)))
-            (cases_eq k top)
+          (λ e. let c = in_work_once k in
+          let d = subst (λ (v : ℕ). 1 ≤ times v s.stack) (sym e) top_there in
+          let f : times k (top ∷ []) ≡ 1 = subst (λ (v : ℕ). times v (top ∷ []) ≡ 1) (sym e) (times_itself top []) in
+          let g : times k (take (length s.stack - 1) s.stack) ≡ 0 = omega arith in
+          let i = get_or-set_same s.done top true false (let l = h.done_len in let m = top_within in omega arith) in
+          g ∙ sym (done_none (get_or s.entered k false) (get_or (set s.done top true) k false) (subst (λ (v : ℕ). get_or (set s.done top true) v false ≡ true) (sym e) i)))
+          (λ ne. let c = times_other k top [] ne in
+          let g : times k (take (length s.stack - 1) s.stack) ≡ times k s.stack = omega arith in
+          g ∙ h.in_work k ∙ sym (ap (λ d. cond (get_or s.entered k false && not d) 1 0) (get_or-set_other s.done top k true false ne)))
+          (cases_eq k top)
 
       -- what is done now was done, or is the node on top
       was_done : (a : ℕ) → get_or (set s.done top true) a false ≡ true → (a ≡ top) ⊎ (get_or s.done a false ≡ true)
@@ -223,12 +223,12 @@ module _ (n : ℕ) (edges : List (ℕ × ℕ)) (ends : EndsBelow n edges) (s : S
       sound : (x y : ℕ) → x < n → y < n → cell (width_of n) words x y ≡ true → Path edges x y
       sound x y hx hy c =
           ⊎_elim
-            (λ new.
-              let parts = and_true (x == top) ((y == node) || cell (width_of n) s.words node y) new in
-              subst (λ (v : ℕ). Path edges v y) (sym (eqb-true x top parts.0))
-                (⊎_elim (λ e. subst (λ (v : ℕ). Path edges top v) (sym (eqb-true y node e)) way) (λ e. way_on y (h.sound node y node_within hy e)) (or_true (y == node) (cell (width_of n) s.words node y) parts.1)))
-            (λ old. h.sound x y hx hy old)
-            (or_true ((x == top) && ((y == node) || cell (width_of n) s.words node y)) (cell (width_of n) s.words x y) (sym (put x y hx hy) ∙ c))
+          (λ new.
+          let parts = and_true (x == top) ((y == node) || cell (width_of n) s.words node y) new in
+          subst (λ (v : ℕ). Path edges v y) (sym (eqb-true x top parts.0))
+          (⊎_elim (λ e. subst (λ (v : ℕ). Path edges top v) (sym (eqb-true y node e)) way) (λ e. way_on y (h.sound node y node_within hy e)) (or_true (y == node) (cell (width_of n) s.words node y) parts.1)))
+          (λ old. h.sound x y hx hy old)
+          (or_true ((x == top) && ((y == node) || cell (width_of n) s.words node y)) (cell (width_of n) s.words x y) (sym (put x y hx hy) ∙ c))
 
       -- an edge that had been followed still is
       followed_still : (k : ℕ) → k < length edges → IsFollowed n edges s k → IsFollowed n edges passed k
@@ -236,8 +236,8 @@ module _ (n : ℕ) (edges : List (ℕ × ℕ)) (ends : EndsBelow n edges) (s : S
         done = f.done;
         found = stays (source edges k) (target edges k) (source_within n edges ends k l) (target_within n edges ends k l) f.found;
         all_found = λ x hx c.
-        stays (source edges k) x (source_within n edges ends k l) hx
-          (f.all_found x hx (sym (same_row (target edges k) x (target_within n edges ends k l) hx (not_top (target edges k) f.done)) ∙ c));
+            stays (source edges k) x (source_within n edges ends k l) hx
+            (f.all_found x hx (sym (same_row (target edges k) x (target_within n edges ends k l) hx (not_top (target edges k) f.done)) ∙ c));
       }
 
       -- and this one is now
@@ -245,26 +245,26 @@ module _ (n : ℕ) (edges : List (ℕ × ℕ)) (ends : EndsBelow n edges) (s : S
       followed_now = record {
         done = subst (λ (v : ℕ). get_or s.done v false ≡ true) (sym node_is) ended;
         found = subst (λ (v : ℕ). cell (width_of n) words v (target edges i) ≡ true) (sym own)
-          (subst (λ (v : ℕ). cell (width_of n) words top v ≡ true) (sym node_is)
+            (subst (λ (v : ℕ). cell (width_of n) words top v ≡ true) (sym node_is)
             (top_row node node_within (or_left (node == node) (cell (width_of n) s.words node node) (eq-eqb node node refl))));
         all_found = λ x hx c.
-        subst (λ (v : ℕ). cell (width_of n) words v x ≡ true) (sym own)
-          (top_row x hx (or_right (x == node) (cell (width_of n) s.words node x)
+            subst (λ (v : ℕ). cell (width_of n) words v x ≡ true) (sym own)
+            (top_row x hx (or_right (x == node) (cell (width_of n) s.words node x)
             (sym (same_row node x node_within hx (not_top node ended)) ∙ subst (λ (v : ℕ). cell (width_of n) words v x ≡ true) node_is c)));
       }
 
       followed : (k : ℕ) → k < length edges → slice_index (set s.cursors top next) (source edges k) ≤ k → IsFollowed n edges passed k
       followed k l c =
           ⊎_elim
-            (λ e.
-              let from : next ≤ k = let a = cursor_top in let b = ap (slice_index (set s.cursors top next)) e in omega arith in
-              ⊎_elim
-                (λ m. absurd (latest_none edges top i k (let a = next_is in omega arith) m e))
-                (λ m. ⊎_elim
-                  (λ same. subst (λ (v : ℕ). IsFollowed n edges passed v) (sym same) followed_now)
-                  (λ ne. followed_still k l (h.followed k l (let a = ap (slice_index s.cursors) e in omega arith))) (cases_eq k i)) (cases_lt k i))
-            (λ ne. followed_still k l (h.followed k l (let a = cursor_other (source edges k) ne in omega arith)))
-            (cases_eq (source edges k) top)
+          (λ e.
+          let from : next ≤ k = let a = cursor_top in let b = ap (slice_index (set s.cursors top next)) e in omega arith in
+          ⊎_elim
+          (λ m. absurd (latest_none edges top i k (let a = next_is in omega arith) m e))
+          (λ m. ⊎_elim
+          (λ same. subst (λ (v : ℕ). IsFollowed n edges passed v) (sym same) followed_now)
+          (λ ne. followed_still k l (h.followed k l (let a = ap (slice_index s.cursors) e in omega arith))) (cases_eq k i)) (cases_lt k i))
+          (λ ne. followed_still k l (h.followed k l (let a = cursor_other (source edges k) ne in omega arith)))
+          (cases_eq (source edges k) top)
 
       pub passed_search : IsSearch n edges passed
       passed_search = record {
@@ -274,12 +274,12 @@ module _ (n : ℕ) (edges : List (ℕ × ℕ)) (ends : EndsBelow n edges) (s : S
         words_len = size;
         sound = sound;
         cursor_within = λ a l.
-        ⊎_elim (λ e. let b = ap (slice_index (set s.cursors top next)) e in let c = cursor_top in let d = next_is in let f = latest_le edges top i in let g = edge_within in omega arith)
-          (λ ne. let b = cursor_other a ne in let c = h.cursor_within a l in omega arith) (cases_eq a top);
+            ⊎_elim (λ e. let b = ap (slice_index (set s.cursors top next)) e in let c = cursor_top in let d = next_is in let f = latest_le edges top i in let g = edge_within in omega arith)
+            (λ ne. let b = cursor_other a ne in let c = h.cursor_within a l in omega arith) (cases_eq a top);
         cursor_own = λ a j l e.
-        ⊎_elim
-          (λ same. latest_own edges top i j (sym next_is ∙ sym cursor_top ∙ ap (slice_index (set s.cursors top next)) (sym same) ∙ e) ∙ sym same)
-          (λ ne. h.cursor_own a j l (sym (cursor_other a ne) ∙ e)) (cases_eq a top);
+            ⊎_elim
+            (λ same. latest_own edges top i j (sym next_is ∙ sym cursor_top ∙ ap (slice_index (set s.cursors top next)) (sym same) ∙ e) ∙ sym same)
+            (λ ne. h.cursor_own a j l (sym (cursor_other a ne) ∙ e)) (cases_eq a top);
         followed = followed;
         done_at_end = λ a d. cursor_other a (not_top a d) ∙ h.done_at_end a d;
         acyclic = h.acyclic;
@@ -326,10 +326,10 @@ module _ (n : ℕ) (edges : List (ℕ × ℕ)) (ends : EndsBelow n edges) (s : S
   all_done : (k : ℕ) → k < n → get_or s.done k false ≡ true
   all_done k l =
       ⊎_elim (λ t. t)
-        (λ f. let e = in_work_one (get_or s.entered k false) (get_or s.done k false) (all k l) f in
-          let g = h.in_work k in
-          let i = ap (times k) idle in
-          absurd (omega arith)) (told (get_or s.done k false))
+      (λ f. let e = in_work_one (get_or s.entered k false) (get_or s.done k false) (all k l) f in
+      let g = h.in_work k in
+      let i = ap (times k) idle in
+      absurd (omega arith)) (told (get_or s.done k false))
 
   all_followed : (k : ℕ) → k < length edges → IsFollowed n edges s k
   all_followed k l = h.followed k l (let e = h.done_at_end (source edges k) (all_done (source edges k) (source_within n edges ends k l)) in omega arith)
@@ -341,7 +341,7 @@ module _ (n : ℕ) (edges : List (ℕ × ℕ)) (ends : EndsBelow n edges) (s : S
   reached a b (and_on {b = c} e p) =
       let k = numbered edges a c e in
       subst (λ (v : ℕ). cell (width_of n) s.words v b ≡ true) k.2
-        ((all_followed k.0 k.1).all_found b (path_within n edges ends p).1 (subst (λ (v : ℕ). cell (width_of n) s.words v b ≡ true) (sym k.3) (reached c b p)))
+      ((all_followed k.0 k.1).all_found b (path_within n edges ends p).1 (subst (λ (v : ℕ). cell (width_of n) s.words v b ≡ true) (sym k.3) (reached c b p)))
 
   pub none_circles : (a : ℕ) → Path edges a a → ⊥
   none_circles a p = h.acyclic a (all_done a (path_within n edges ends p).0) p
@@ -370,9 +370,10 @@ rooted_more n edges root s t before search idle now keeps = record {
 -- the relation that the bits stand for
 module _ (n : ℕ) (edges : List (ℕ × ℕ)) (ends : EndsBelow n edges) (root : ℕ) (all : n ≤ root) (s : State) (h : IsRooted n edges root s) where
   pub comes_is : (a b : ℕ) → (Comes (relation_of n s.words) a b → Path edges a b) × (Path edges a b → Comes (relation_of n s.words) a b)
-  comes_is a b =
-      (λ c. let w = comes_within n s.words a b c in h.search.sound a b w.0 w.1 (sym (comes_cell n s.words a b w.0 w.1) ∙ c),
-        λ p. let w = path_within n edges ends p in comes_cell n s.words a b w.0 w.1 ∙ reached n edges ends s h.search h.idle (λ k l. h.entered k (omega arith)) a b p)
+  comes_is a b = (
+    λ c. let w = comes_within n s.words a b c in h.search.sound a b w.0 w.1 (sym (comes_cell n s.words a b w.0 w.1) ∙ c),
+    λ p. let w = path_within n edges ends p in comes_cell n s.words a b w.0 w.1 ∙ reached n edges ends s h.search h.idle (λ k l. h.entered k (omega arith)) a b p,
+  )
 
   pub no_circles : (a : ℕ) → Path edges a a → ⊥
   no_circles = none_circles n edges ends s h.search h.idle (λ k l. h.entered k (omega arith))

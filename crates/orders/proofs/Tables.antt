@@ -35,8 +35,8 @@ not_false b e h = cc
 pub comes_within : (n : ℕ) (words : List ℕ) (a b : ℕ) → Comes (relation_of n words) a b → (a < n) × (b < n)
 comes_within n words a b h =
     ⊎_elim
-      (λ ha. ⊎_elim (λ hb. (ha, hb)) (λ hb. absurd (not_false _ (comes_past_column n words a b ha hb) h)) (cases_lt b n))
-      (λ ha. absurd (not_false _ (comes_past_row n words a b ha) h)) (cases_lt a n)
+    (λ ha. ⊎_elim (λ hb. (ha, hb)) (λ hb. absurd (not_false _ (comes_past_column n words a b ha hb) h)) (cases_lt b n))
+    (λ ha. absurd (not_false _ (comes_past_row n words a b ha) h)) (cases_lt a n)
 
 -- the first a rows have been copied, node r left out
 pub record IsCopied (n r a : ℕ) (from words : List ℕ) : Type 0 where
@@ -64,8 +64,8 @@ module _ (n r a : ℕ) (from words : List ℕ) (all : n ≤ a) (h : IsCopied n r
       within = comes_within n words;
       never_itself = λ x c. let w = comes_within n words x x c in o.strict.never_itself (old_number r x) (sym (rest_is x x w.0 w.0) ∙ c);
       transitive = λ x y z c d.
-      let v = comes_within n words x y c in
-      let w = comes_within n words y z d in
-      rest_is x z v.0 w.1 ∙ o.strict.transitive (old_number r x) (old_number r y) (old_number r z) (sym (rest_is x y v.0 v.1) ∙ c) (sym (rest_is y z w.0 w.1) ∙ d);
+          let v = comes_within n words x y c in
+          let w = comes_within n words y z d in
+          rest_is x z v.0 w.1 ∙ o.strict.transitive (old_number r x) (old_number r y) (old_number r z) (sym (rest_is x y v.0 v.1) ∙ c) (sym (rest_is y z w.0 w.1) ∙ d);
     };
   }

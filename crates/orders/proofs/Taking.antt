@@ -67,8 +67,8 @@ module _ (order : Relation) (ordered : IsStrictOrder order) (taken : List Bool) 
     ready_can j r = record {
       fresh = none_then_false (get_or taken j false) (sym (h.counts j) ∙ r.fresh);
       free =
-      h.waits_are j r.below
-      ∙ waiting_zero (comes order) taken order.count j (λ a l c. one_or_none (get_or taken a false) (let e = h.counts a in let f = r.free a c in omega arith));
+          h.waits_are j r.below
+          ∙ waiting_zero (comes order) taken order.count j (λ a l c. one_or_none (get_or taken a false) (let e = h.counts a in let f = r.free a c in omega arith));
     }
 
     least_ready : IsLeastReady order.count (Comes order) list node
@@ -103,10 +103,10 @@ module _ (order : Relation) (ordered : IsStrictOrder order) (taken : List Bool) 
       taken_len = length-set taken node true ∙ h.taken_len;
       waits_len = len;
       waits_are = λ b l.
-      let e = less b l in
-      let f = waiting_set (comes order) taken order.count b node within_len within can.fresh in
-      let g = h.waits_are b l in
-      omega arith;
+          let e = less b l in
+          let f = waiting_set (comes order) taken order.count b node within_len within can.fresh in
+          let g = h.waits_are b l in
+          omega arith;
       counts = λ k. count_more list taken k node within_len can.fresh (h.counts k);
       closed = closed_more;
       kept = none_ahead_push (Comes order) list node h.kept (all_from (λ b. Comes order node b → ⊥) list not_ahead);
@@ -123,9 +123,13 @@ module _ (order : Relation) (ordered : IsStrictOrder order) (taken : List Bool) 
         next : (m : ℕ) (r : (z : ℕ) × (z < order.count) × (get_or taken z false ≡ false) × ((a : ℕ) → a < m → Comes order a z → get_or taken a false ≡ true))
             → (p : Bool) → comes order m r.0 ≡ p → (t : Bool) → get_or taken m false ≡ t
             → (z : ℕ) × (z < order.count) × (get_or taken z false ≡ false) × ((a : ℕ) → a < suc m → Comes order a z → get_or taken a false ≡ true)
-        next m r true c false t =
-            (m, (ordered.within m r.0 c).0, t, λ a i d.
-              ⊎_elim (λ l. r.3 a l (ordered.transitive a m r.0 d c)) (λ l. let e : a ≡ m = omega arith in absurd (ordered.never_itself m (subst (λ (v : ℕ). Comes order v m) e d))) (cases_lt a m))
+        next m r true c false t = (
+          m,
+          (ordered.within m r.0 c).0,
+          t,
+          λ a i d.
+              ⊎_elim (λ l. r.3 a l (ordered.transitive a m r.0 d c)) (λ l. let e : a ≡ m = omega arith in absurd (ordered.never_itself m (subst (λ (v : ℕ). Comes order v m) e d))) (cases_lt a m),
+        )
         next m r true c true t =
             (r.0, r.1, r.2, λ a i d. ⊎_elim (λ l. r.3 a l d) (λ l. let e : a ≡ m = omega arith in subst (λ (v : ℕ). get_or taken v false ≡ true) (sym e) t) (cases_lt a m))
         next m r false c t u =
@@ -135,16 +139,16 @@ module _ (order : Relation) (ordered : IsStrictOrder order) (taken : List Bool) 
     all_taken k l = elim (get_or taken k false) as (λ t. get_or taken k false ≡ t → t ≡ true) [
       | true ↦ λ e. refl
       | false ↦ λ e.
-        let z = minimal order.count k l e in
-        absurd (none z.0 z.1 (record { fresh = z.2; free = h.waits_are z.0 z.1 ∙ waiting_zero (comes order) taken order.count z.0 z.3 }))
+          let z = minimal order.count k l e in
+          absurd (none z.0 z.1 (record { fresh = z.2; free = h.waits_are z.0 z.1 ∙ waiting_zero (comes order) taken order.count z.0 z.3 }))
     ] refl
 
     pub taken_all : IsLinearExtension order.count (Comes order) list
     taken_all = record {
       below = all_from (λ k. k < order.count) list (λ k m.
-        let t = within_taken taken k (one_or_none (get_or taken k false) (let e = h.counts k in omega arith)) in
-        let e = h.taken_len in
-        omega arith);
+          let t = within_taken taken k (one_or_none (get_or taken k false) (let e = h.counts k in omega arith)) in
+          let e = h.taken_len in
+          omega arith);
       once = λ k l. h.counts k ∙ ap (λ t. cond t 1 0) (all_taken k l);
       kept = h.kept;
     }

@@ -58,10 +58,10 @@ pub waiting_none : (before : ℕ → ℕ → Bool) (taken : List Bool) (n b : �
 waiting_none before taken zero b e a l t = absurd (omega arith)
 waiting_none before taken (suc n) b e a l t =
     ⊎_elim
-      (λ m. waiting_none before taken n b (omega arith) a m t)
-      (λ m. let same : a ≡ n = omega arith in
-        let P : ℕ → Type 0 = λ v. before v b ≡ true → get_or taken v false ≡ true in
-        subst P (sym same) (λ t. none_left (before n b) (get_or taken n false) (waiting before taken n b) t e) t) (cases_lt a n)
+    (λ m. waiting_none before taken n b (omega arith) a m t)
+    (λ m. let same : a ≡ n = omega arith in
+    let P : ℕ → Type 0 = λ v. before v b ≡ true → get_or taken v false ≡ true in
+    subst P (sym same) (λ t. none_left (before n b) (get_or taken n false) (waiting before taken n b) t e) t) (cases_lt a n)
 
 -- and a node with all its predecessors taken waits for none
 pub waiting_zero : (before : ℕ → ℕ → Bool) (taken : List Bool) (n b : ℕ) → ((a : ℕ) → a < n → before a b ≡ true → get_or taken a false ≡ true) → waiting before taken n b ≡ 0
@@ -76,17 +76,17 @@ pub waiting_set : (before : ℕ → ℕ → Bool) (taken : List Bool) (n b x : �
 waiting_set before taken zero b x within l unset = absurd (omega arith)
 waiting_set before taken (suc n) b x within l unset =
     ⊎_elim
-      (λ m. let ih = waiting_set before taken n b x within m unset in
-        let e : holds_up before (set taken x true) n b ≡ holds_up before taken n b = ap (λ t. before n b && not t) (get_or-set_other taken x n true false (λ d. omega arith)) in
-        let f : ◌≡◌ {A = ℕ} (cond (holds_up before (set taken x true) n b) 1 0) (cond (holds_up before taken n b) 1 0) = ap (λ t. cond t 1 0) e in
-        omega arith)
-      (λ m. let same : x ≡ n = omega arith in
-        let below : waiting before (set taken x true) n b ≡ waiting before taken n b = waiting_same before (set taken x true) taken n b (λ k j. get_or-set_other taken x k true false (λ d. omega arith)) in
-        let P : ℕ → Type 0 = λ v. get_or taken v false ≡ false → v < length taken
-          → cond (before v b) 1 0 + (cond (holds_up before (set taken v true) n b) 1 0 + waiting before taken n b) ≡ cond (holds_up before taken n b) 1 0 + waiting before taken n b in
-        ap (λ w. cond (before x b) 1 0 + (cond (holds_up before (set taken x true) n b) 1 0 + w)) below
-        ∙ subst P (sym same)
-          (λ u i. at_itself (before n b) (get_or taken n false) (get_or (set taken n true) n false) (waiting before taken n b) u (get_or-set_same taken n true false i)) unset within) (cases_lt x n)
+    (λ m. let ih = waiting_set before taken n b x within m unset in
+    let e : holds_up before (set taken x true) n b ≡ holds_up before taken n b = ap (λ t. before n b && not t) (get_or-set_other taken x n true false (λ d. omega arith)) in
+    let f : ◌≡◌ {A = ℕ} (cond (holds_up before (set taken x true) n b) 1 0) (cond (holds_up before taken n b) 1 0) = ap (λ t. cond t 1 0) e in
+    omega arith)
+    (λ m. let same : x ≡ n = omega arith in
+    let below : waiting before (set taken x true) n b ≡ waiting before taken n b = waiting_same before (set taken x true) taken n b (λ k j. get_or-set_other taken x k true false (λ d. omega arith)) in
+    let P : ℕ → Type 0 = λ v. get_or taken v false ≡ false → v < length taken
+    → cond (before v b) 1 0 + (cond (holds_up before (set taken v true) n b) 1 0 + waiting before taken n b) ≡ cond (holds_up before taken n b) 1 0 + waiting before taken n b in
+    ap (λ w. cond (before x b) 1 0 + (cond (holds_up before (set taken x true) n b) 1 0 + w)) below
+    ∙ subst P (sym same)
+    (λ u i. at_itself (before n b) (get_or taken n false) (get_or (set taken n true) n false) (waiting before taken n b) u (get_or-set_same taken n true false i)) unset within) (cases_lt x n)
 
 -- setting a mark leaves one less unset
 pub count_false_set : (marks : List Bool) (k : ℕ) → k < length marks → get_or marks k false ≡ false → suc (count_false (set marks k true)) ≡ count_false marks

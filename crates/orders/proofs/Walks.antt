@@ -21,16 +21,16 @@ pub place_within : (k : ℕ) (order : List ℕ) → 1 ≤ times k order → plac
 place_within k [] h = absurd (omega arith)
 place_within k (i ∷ order) h =
     ⊎_elim
-      (λ e. subst (λ (v : ℕ). place k (v ∷ order) < length (v ∷ order)) e (rw place_here (omega arith)))
-      (λ ne. rw (place_on k i order ne) (omega (arith, place_within k order (omega (arith, times_other k i order ne))))) (cases_eq k i)
+    (λ e. subst (λ (v : ℕ). place k (v ∷ order) < length (v ∷ order)) e (rw place_here (omega arith)))
+    (λ ne. rw (place_on k i order ne) (omega (arith, place_within k order (omega (arith, times_other k i order ne))))) (cases_eq k i)
 
 -- what stands at the place of k is k
 pub at_place : (k : ℕ) (order : List ℕ) → 1 ≤ times k order → get_or order (place k order) 0 ≡ k
 at_place k [] h = absurd (omega arith)
 at_place k (i ∷ order) h =
     ⊎_elim
-      (λ e. subst (λ (v : ℕ). get_or (v ∷ order) (place k (v ∷ order)) 0 ≡ k) e (ap (λ p. get_or (k ∷ order) p 0) (place_here k order)))
-      (λ ne. ap (λ p. get_or (i ∷ order) p 0) (place_on k i order ne) ∙ at_place k order (omega (arith, times_other k i order ne))) (cases_eq k i)
+    (λ e. subst (λ (v : ℕ). get_or (v ∷ order) (place k (v ∷ order)) 0 ≡ k) e (ap (λ p. get_or (k ∷ order) p 0) (place_here k order)))
+    (λ ne. ap (λ p. get_or (i ∷ order) p 0) (place_on k i order ne) ∙ at_place k order (omega (arith, times_other k i order ne))) (cases_eq k i)
 
 -- and where nodes stand once, the place of what stands at i is i
 pub place_at : (order : List ℕ) (i : ℕ) → ((k : ℕ) → times k order ≤ 1) → i < length order → place (get_or order i 0) order ≡ i
@@ -47,12 +47,12 @@ pub place_kept : (before : ℕ → ℕ → Type 0) (order : List ℕ) (x y : ℕ
 place_kept before [] x y h m l c = absurd (omega arith)
 place_kept before (z ∷ order) x y h m l c =
     ⊎_elim
-      (λ e. let f : place x (z ∷ order) ≡ 0 = subst (λ (v : ℕ). place x (v ∷ order) ≡ 0) e (place_here x order) in omega arith)
-      (λ ne.
-        let there : 1 ≤ times x order = omega (arith, times_other x z order ne) in
-        ⊎_elim
-          (λ e. all_at (λ a. before a z → ⊥) order x h.0 there (subst (λ (v : ℕ). before x v) e c))
-          (λ d. place_kept before order x y h.1 there (omega (arith, place_on x z order ne, place_on y z order d)) c) (cases_eq y z)) (cases_eq x z)
+    (λ e. let f : place x (z ∷ order) ≡ 0 = subst (λ (v : ℕ). place x (v ∷ order) ≡ 0) e (place_here x order) in omega arith)
+    (λ ne.
+    let there : 1 ≤ times x order = omega (arith, times_other x z order ne) in
+    ⊎_elim
+    (λ e. all_at (λ a. before a z → ⊥) order x h.0 there (subst (λ (v : ℕ). before x v) e c))
+    (λ d. place_kept before order x y h.1 there (omega (arith, place_on x z order ne, place_on y z order d)) c) (cases_eq y z)) (cases_eq x z)
 
 -- ---- exchanges of neighbours
 split_two : (order : List ℕ) (k : ℕ) → suc k < length order → order ≡ take k order ++ get_or order k 0 ∷ get_or order (suc k) 0 ∷ drop (suc (suc k)) order
@@ -94,8 +94,8 @@ each_once_of n before order l = record { below = l.below; once = l.once }
 pub at_most : (n : ℕ) (order : List ℕ) → EachOnce n order → (k : ℕ) → times k order ≤ 1
 at_most n order o k =
     ⊎_elim
-      (λ l. let e = o.once k l in omega arith)
-      (λ l. ⊎_elim (λ m. omega arith) (λ m. let b = all_at (λ j. j < n) order k o.below m in omega arith) (cases_lt (times k order) 1)) (cases_lt k n)
+    (λ l. let e = o.once k l in omega arith)
+    (λ l. ⊎_elim (λ m. omega arith) (λ m. let b = all_at (λ j. j < n) order k o.below m in omega arith) (cases_lt (times k order) 1)) (cases_lt k n)
 
 same_length : (xs ys : List ℕ) → ((k : ℕ) → times k xs ≡ times k ys) → length xs ≡ length ys
 same_length [] [] h = refl
@@ -128,9 +128,9 @@ module _ (order to : List ℕ) (counts : (k : ℕ) → times k order ≡ times k
   rises k l =
       let f : place (get_or order k 0) to ≤ place (get_or order (suc k) 0) to = subst (λ (j : ℕ). place (get_or order k 0) to ≤ place (get_or order j 0) to) (add-one k) (sorted k (omega arith)) in
       ⊎_elim (λ m. m) (λ m.
-        let e : place (get_or order k 0) to ≡ place (get_or order (suc k) 0) to = omega arith in
-        absurd (differ k l (sym (at_place (get_or order k 0) to (there k (omega arith))) ∙ ap (λ p. get_or to p 0) e ∙ at_place (get_or order (suc k) 0) to (there (suc k) l))))
-        (cases_lt (place (get_or order k 0) to) (place (get_or order (suc k) 0) to))
+      let e : place (get_or order k 0) to ≡ place (get_or order (suc k) 0) to = omega arith in
+      absurd (differ k l (sym (at_place (get_or order k 0) to (there k (omega arith))) ∙ ap (λ p. get_or to p 0) e ∙ at_place (get_or order (suc k) 0) to (there (suc k) l))))
+      (cases_lt (place (get_or order k 0) to) (place (get_or order (suc k) 0) to))
 
   at_least : (i : ℕ) → i < length order → i ≤ place (get_or order i 0) to
   at_least zero l = omega arith
@@ -181,7 +181,7 @@ module _ (n : ℕ) (before : ℕ → ℕ → Type 0) (from to order : List ℕ) 
   free = record {
     differ = λ e. let f = ap (λ v. place v to) e in let g = turned' in omega arith;
     not_before = place_kept before to (get_or order k 0) (get_or order (suc k) 0) last.kept
-      (omega (arith, times_at order k (omega arith), same_counts before n order to h.allowed last (get_or order k 0))) turned';
+        (omega (arith, times_at order k (omega arith), same_counts before n order to h.allowed last (get_or order k 0))) turned';
     not_after = (none_ahead_at before (take k order) (get_or order k 0) (get_or order (suc k) 0 ∷ drop (suc (suc k)) order) (subst (NoneAhead before) (split_two order k within') h.allowed.kept)).0;
   }
 
@@ -297,13 +297,13 @@ module _ (n : ℕ) (order : List ℕ) (each : EachOnce n order) (i : ℕ) (place
   placed_more = record {
     len = length-set places (get_or order i 0) i ∙ h.len;
     placed = λ k m.
-    ⊎_elim
-      (λ e. ap (slice_index (set places (get_or order i 0) i)) e
+        ⊎_elim
+        (λ e. ap (slice_index (set places (get_or order i 0) i)) e
         ∙ get_or-set_same places (get_or order i 0) i 0 (rw h.len node_within)
         ∙ sym (ap (λ v. place v order) e ∙ place_at order i (at_most n order each) within))
-      (λ ne. get_or-set_other places (get_or order i 0) k i 0 ne
+        (λ ne. get_or-set_other places (get_or order i 0) k i 0 ne
         ∙ h.placed k (let e = ap (times k) (take_more order i 0 within) in omega (arith, times_append k (take i order) (get_or order i 0 ∷ []), times_other k (get_or order i 0) [] ne)))
-      (cases_eq k (get_or order i 0));
+        (cases_eq k (get_or order i 0));
   }
 
 pub placed_all : (n : ℕ) (order : List ℕ) → EachOnce n order → (i : ℕ) (places : List ℕ) → length order ≤ i → IsPlaced n order i places → (k : ℕ) → k < n → slice_index places k ≡ place k order

@@ -14,5 +14,5 @@ mod search;
 mod tests;
 mod walk;
 
-pub use exchange::exchanges_join;
+pub use exchange::{exchanges_agree, exchanges_join};
 pub use order::{Order, OrderFault};

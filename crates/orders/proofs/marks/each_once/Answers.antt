@@ -6,9 +6,11 @@ use Rattle.orders.proofs.MarkLaws.{marked_more, marked_twice, marked_all}
 use Rattle.orders.proofs.marks.each_once.Goals as goal
 
 pub returns-then-marks-node : goal.returns-then-marks-node
-returns-then-marks-node c =
-    (λ f. absurd (false≢true f), λ o.
-      absurd (marked_twice c.args.list.now c.loop-item.item-index c.loop-item.marks c.loop-item-test.true c.loop-item.invariant (length c.args.marks.now) (omega arith) c.if-node-marks.false c.if-marks-node.true o))
+returns-then-marks-node c = (
+  λ f. absurd (false≢true f),
+  λ o.
+      absurd (marked_twice c.args.list.now c.loop-item.item-index c.loop-item.marks c.loop-item-test.true c.loop-item.invariant (length c.args.marks.now) (omega arith) c.if-node-marks.false c.if-marks-node.true o),
+)
 
 pub loop-item-preserved : goal.loop-item-preserved
 loop-item-preserved c =

@@ -37,8 +37,8 @@ returns-then-is_marked-clause-ok c =
     let cursors : c.pass.new.search.cursors.items ≡ slice_set a.search.now.cursors.items top (slice_index a.nexts.now i) =
     c.pass.ensures.cursors ∙ ap (λ (k : ℕ). slice_set a.search.now.cursors.items top (slice_index a.nexts.now (k - 1))) (sym v) in
     rw (cursors, c.pass.ensures.entered, c.pass.ensures.done, c.pass.ensures.stack)
-      (passed_search a.n a.edges.now c.requires.ends (state_of a.search.now) c.requires.search c.requires.work top is i cursor (target a.edges.now i) refl ended c.requires.links.0 a.nexts.now c.requires.links.1 c.pass.new.search.words.items
-        c.pass.ensures.size c.pass.ensures.words)
+    (passed_search a.n a.edges.now c.requires.ends (state_of a.search.now) c.requires.search c.requires.work top is i cursor (target a.edges.now i) refl ended c.requires.links.0 a.nexts.now c.requires.links.1 c.pass.new.search.words.items
+    c.pass.ensures.size c.pass.ensures.words)
 
 pub returns-then-is_marked-clause-less : goal.returns-then-is_marked-clause-less
 returns-then-is_marked-clause-less c =
@@ -52,8 +52,8 @@ returns-then-is_marked-clause-less c =
     let cursors : c.pass.new.search.cursors.items ≡ slice_set a.search.now.cursors.items top (slice_index a.nexts.now i) =
     c.pass.ensures.cursors ∙ ap (λ (k : ℕ). slice_set a.search.now.cursors.items top (slice_index a.nexts.now (k - 1))) (sym v) in
     rw (cursors, c.pass.ensures.entered, c.pass.ensures.stack)
-      (passed_less a.n a.edges.now c.requires.ends (state_of a.search.now) c.requires.search c.requires.work top is i cursor (target a.edges.now i) refl ended c.requires.links.0 a.nexts.now c.requires.links.1 c.pass.new.search.words.items
-        c.pass.ensures.size c.pass.ensures.words)
+    (passed_less a.n a.edges.now c.requires.ends (state_of a.search.now) c.requires.search c.requires.work top is i cursor (target a.edges.now i) refl ended c.requires.links.0 a.nexts.now c.requires.links.1 c.pass.new.search.words.items
+    c.pass.ensures.size c.pass.ensures.words)
 
 pub returns-then-is_marked-2-clause-cycle : goal.returns-then-is_marked-2-clause-cycle
 returns-then-is_marked-2-clause-cycle c =
@@ -76,9 +76,9 @@ returns-clause-ok c =
     let cursor : slice_index a.search.now.cursors.items top ≡ suc i = let n = c.if-cursor-eq0.false in omega arith in
     let fresh = sym (rw c.as_slice-3.ensures.value at c.is_marked-2.ensures) ∙ c.if-is_marked-2.false in
     rw c.in_ok-enter.ensures
-      (entered_search a.n a.edges.now c.requires.ends (state_of a.search.now) c.requires.search (target a.edges.now i)
-        (next_within a.n a.edges.now c.requires.ends (state_of a.search.now) c.requires.search c.requires.work top is i cursor) fresh
-        (λ _. next_edge a.n a.edges.now c.requires.ends (state_of a.search.now) c.requires.search c.requires.work top is i cursor))
+    (entered_search a.n a.edges.now c.requires.ends (state_of a.search.now) c.requires.search (target a.edges.now i)
+    (next_within a.n a.edges.now c.requires.ends (state_of a.search.now) c.requires.search c.requires.work top is i cursor) fresh
+    (λ _. next_edge a.n a.edges.now c.requires.ends (state_of a.search.now) c.requires.search c.requires.work top is i cursor))
 
 pub returns-clause-less : goal.returns-clause-less
 returns-clause-less c =
@@ -91,6 +91,6 @@ returns-clause-less c =
     let fresh = sym (rw c.as_slice-3.ensures.value at c.is_marked-2.ensures) ∙ c.if-is_marked-2.false in
     let W : State → Type 0 = λ t. work t < work (state_of a.search.now) in
     subst W (sym c.in_ok-enter.ensures)
-      (entered_less a.n a.edges.now c.requires.ends (state_of a.search.now) c.requires.search (target a.edges.now i)
-        (next_within a.n a.edges.now c.requires.ends (state_of a.search.now) c.requires.search c.requires.work top is i cursor) fresh
-        (λ _. next_edge a.n a.edges.now c.requires.ends (state_of a.search.now) c.requires.search c.requires.work top is i cursor))
+    (entered_less a.n a.edges.now c.requires.ends (state_of a.search.now) c.requires.search (target a.edges.now i)
+    (next_within a.n a.edges.now c.requires.ends (state_of a.search.now) c.requires.search c.requires.work top is i cursor) fresh
+    (λ _. next_edge a.n a.edges.now c.requires.ends (state_of a.search.now) c.requires.search c.requires.work top is i cursor))

@@ -7,13 +7,13 @@ use Rattle.orders.proofs.order.Order.first_extension.Goals as goal
 pub loop-node-init : goal.loop-node-init
 loop-node-init c =
     rw c.new-order.ensures.items
-      (begun c.args.self.now c.in_ok-taken.taken.items c.in_ok-waits.waits.items (c.in_ok-taken.ensures.size ∙ c.count-n.ensures.count) c.in_ok-taken.ensures.unset c.in_ok-waits.ensures.len c.in_ok-waits.ensures.waits)
+    (begun c.args.self.now c.in_ok-taken.taken.items c.in_ok-waits.waits.items (c.in_ok-taken.ensures.size ∙ c.count-n.ensures.count) c.in_ok-taken.ensures.unset c.in_ok-waits.ensures.len c.in_ok-waits.ensures.waits)
 
 pub release-requires-clause-some : goal.release-requires-clause-some
 release-requires-clause-some c =
     let can = rw (c.as_slice.ensures.value, c.as_slice-in-loop-node.ensures.value, c.count-n.ensures.count) at c.in-Some.ensures in
     rw c.as_mut_slice.ensures.value
-      (waited c.args.self.now c.count-n.ensures.ordered c.loop-node.taken.items c.loop-node.waits.items c.loop-node.order.items c.loop-node.invariant c.in-Some.node can.0 can.1 can.2)
+    (waited c.args.self.now c.count-n.ensures.ordered c.loop-node.taken.items c.loop-node.waits.items c.loop-node.order.items c.loop-node.invariant c.in-Some.node can.0 can.1 can.2)
 
 pub loop-node-smaller : goal.loop-node-smaller
 loop-node-smaller c =
@@ -27,7 +27,7 @@ loop-node-preserved c =
     let len : length c.release.new.waits ≡ c.args.self.now.count = c.release.auto.waits ∙ ap (λ (w : List ℕ). length w) c.as_mut_slice.ensures.value ∙ c.loop-node.invariant.waits_len in
     let less = rw c.as_mut_slice.ensures.value at c.release.ensures in
     rw (c.in_ok-push.ensures.items, e)
-      (taking_more c.args.self.now c.count-n.ensures.ordered c.loop-node.taken.items c.loop-node.waits.items c.loop-node.order.items c.loop-node.invariant c.in-Some.node can.0 can.1 can.2 c.release.new.waits len less)
+    (taking_more c.args.self.now c.count-n.ensures.ordered c.loop-node.taken.items c.loop-node.waits.items c.loop-node.order.items c.loop-node.invariant c.in-Some.node can.0 can.1 can.2 c.release.new.waits len less)
 
 pub returns-clause-allowed : goal.returns-clause-allowed
 returns-clause-allowed c =

@@ -12,13 +12,13 @@ loop-root-preserved c =
     let old = c.loop-root.invariant in
     elim c.if-not-is_marked.branch [
       | then-not-is_marked+in_ok-explore w ↦
-        rw w.search-is
+          rw w.search-is
           (rooted_more c.args.n c.args.edges.now c.loop-root.root (state_of c.loop-root.search) (state_of w.explore.new.search) old.entered w.in_ok-explore.ensures.ok w.in_ok-explore.ensures.idle w.in_ok-explore.ensures.root
-            w.in_ok-explore.ensures.entered)
+          w.in_ok-explore.ensures.entered)
       | else-not-is_marked w ↦
-        rw w.search-is
+          rw w.search-is
           (rooted_more c.args.n c.args.edges.now c.loop-root.root (state_of c.loop-root.search) (state_of c.loop-root.search) old.entered old.search old.idle
-            (sym (rw c.as_slice.ensures.value at c.is_marked.ensures) ∙ w.if-not-is_marked.false) (λ k h. h))
+          (sym (rw c.as_slice.ensures.value at c.is_marked.ensures) ∙ w.if-not-is_marked.false) (λ k h. h))
     ]
 
 pub invariant_of-result : goal.invariant_of-result

@@ -6,6 +6,8 @@ use Rattle.orders.proofs.Lists.{kept_at}
 use Rattle.orders.proofs.order.Order.is_kept.Goals as goal
 
 pub returns-then-not-none_before : goal.returns-then-not-none_before
-returns-then-not-none_before c =
-    (λ f. absurd (false≢true f), λ h.
-      absurd (false≢true (sym c.if-not-none_before.true ∙ c.none_before.ensures.1 (rw take_rest (kept_at (Comes c.args.self.now) c.args.list.now c.loop-k.k h c.loop-k-test.true)))))
+returns-then-not-none_before c = (
+  λ f. absurd (false≢true f),
+  λ h.
+      absurd (false≢true (sym c.if-not-none_before.true ∙ c.none_before.ensures.1 (rw take_rest (kept_at (Comes c.args.self.now) c.args.list.now c.loop-k.k h c.loop-k-test.true)))),
+)

@@ -38,7 +38,7 @@ returns-clause-walk c =
     let told = rw c.count.ensures.count at c.in_ok-places.ensures.places in
     let sorted = rw (c.as_slice.ensures.value, c.as_slice-in-loop-k.ensures.value) at c.in_default.ensures in
     walked o.count (Comes o) c.args.from.now c.args.to.now c.loop-k.order.items c.loop-k.orders c.requires.to c.loop-k.invariant
-      (sorted_there o.count (Comes o) c.loop-k.order.items c.args.to.now c.in_ok-places.places.items c.loop-k.invariant.allowed told sorted)
+    (sorted_there o.count (Comes o) c.loop-k.order.items c.args.to.now c.in_ok-places.places.items c.loop-k.invariant.allowed told sorted)
 
 pub returns-clause-length : goal.returns-clause-length
 returns-clause-length c =
@@ -46,4 +46,4 @@ returns-clause-length c =
     let told = rw c.count.ensures.count at c.in_ok-places.ensures.places in
     let sorted = rw (c.as_slice.ensures.value, c.as_slice-in-loop-k.ensures.value) at c.in_default.ensures in
     walked_length o.count (Comes o) c.args.from.now c.args.to.now c.loop-k.order.items c.loop-k.orders c.requires.to c.loop-k.invariant
-      (sorted_there o.count (Comes o) c.loop-k.order.items c.args.to.now c.in_ok-places.places.items c.loop-k.invariant.allowed told sorted)
+    (sorted_there o.count (Comes o) c.loop-k.order.items c.args.to.now c.in_ok-places.places.items c.loop-k.invariant.allowed told sorted)
