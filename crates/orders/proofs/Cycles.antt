@@ -1,11 +1,14 @@
 -- The cycle along a list of linked nodes, turned so that its least node comes first.
 use Rattle.std.proofs.Common.{◌≡◌, ◌≢◌, ℕ, zero, suc, Bool, ◌+◌, ◌-◌, ◌<◌, ◌≤◌, ◌⊎◌, ⊎_elim, List, [], ◌∷◌, ◌++◌, length, get_or, take, drop, refl, sym, ap, ◌∙◌, subst, arith, append_assoc}
-use Rattle.std.specs.Prelude.{slice_index}
+use Rattle.std.specs.Prelude.{slice_index, Result, Ok, Err, IsErrAnd, IfErr}
 use Rattle.std.specs.List.{AllByRecursion}
 use Rattle.std.proofs.lemmas.List.{append-nil, take-append-drop, drop_more, length-append, length-drop, get_or-drop, drop-drop}
 use Rattle.fs_semantics.specs.Orders.{times}
-use Rattle.orders.specs.Paths.{HasEdge, Trail, IsCycle}
+use Rattle.orders.specs.Paths.{HasEdge, Path, edge, and_on, Trail, IsCycle}
 use Rattle.orders.specs.Search.{AreLinked}
+use Rattle.orders.specs.declared.order.OrderFault.{OrderFault}
+use Rattle.orders.specs.declared.order.OrderFault.TheVariants.{Cycle, Memory}
+use Rattle.orders.specs.Faults.{IfCycle}
 use Rattle.orders.specs.Exchanges.{place}
 use Rattle.orders.proofs.Lists.{times_append, all_from, split_at}
 use Rattle.orders.proofs.Walks.{at_place, place_within}
@@ -22,6 +25,14 @@ module _ (edges : List (ℕ × ℕ)) where
   trail_back : (a : ℕ) (xs : List ℕ) (c : ℕ) (ys : List ℕ) (b : ℕ) → Trail edges a (xs ++ c ∷ ys) b → Trail edges c ys b
   trail_back a [] c ys b h = h.1
   trail_back a (x ∷ xs) c ys b h = trail_back x xs c ys b h.1
+
+  trail_path : (a : ℕ) (nodes : List ℕ) (b : ℕ) → Trail edges a nodes b → Path edges a b
+  trail_path a [] b h = edge h
+  trail_path a (c ∷ nodes) b h = and_on h.0 (trail_path c nodes b h.1)
+
+  -- a node of a cycle reaches itself
+  pub cycle_path : (nodes : List ℕ) → IsCycle edges nodes → (a : ℕ) × Path edges a a
+  cycle_path nodes h = (h.first, trail_path h.first h.others h.first h.closed)
 
   -- a cycle of these nodes, in their order
   abbrev Ring : List ℕ → Type 0
@@ -109,3 +120,12 @@ module _ (list : List ℕ) (start least : ℕ) (node : ℕ) (start_within : star
     least = all_from (λ k. first ≤ k) (behind ++ ahead) first_le;
     once = λ k. let e = counts k in let f = counts_le k in let g = ap (times k) nodes_are in omega arith;
   }
+
+-- what holds of each such cycle holds where the fault is one
+pub if_cycle_map : (P Q : List ℕ → Type 0) → ((nodes : List ℕ) → P nodes → Q nodes) → (e : OrderFault) → IfCycle e P → IfCycle e Q
+if_cycle_map P Q f (Cycle nodes) h = f nodes h
+if_cycle_map P Q f (Memory m) h = tt
+
+pub err_of : {T : Type 0} (P : List ℕ → Type 0) (r : Result T OrderFault) (e : OrderFault) → IsErrAnd r (λ x. x ≡ e) → IfCycle e P → IfErr r (λ x. IfCycle x P)
+err_of P (Ok t) e h c = tt
+err_of P (Err x) e h c = subst (λ (v : OrderFault). IfCycle v P) (sym h) c

@@ -22,14 +22,16 @@ pub record IsExchange (before : ℕ → ℕ → Type 0) (order next : List ℕ) 
 -- linear extensions, each the one before it with two neighbouring free nodes exchanged, lead from the one to the other
 pub data Joined (n : ℕ) (before : ℕ → ℕ → Type 0) : List ℕ → List ℕ → Type 0 where
   same : {order : List ℕ} → IsLinearExtension n before order → Joined n before order order
-  exchange : {order next last : List ℕ} → IsLinearExtension n before order → IsExchange before order next → Joined n before next last → Joined n before order last
+  exchange : {order next last : List ℕ} → IsLinearExtension n before order → IsExchange before order next → Joined n before next last
+      → Joined n before order last
 
 -- the list of orders begins with `from`, ends with `to`, and each is a linear extension,
 -- which the next one is with two neighbouring free nodes exchanged
 abbrev pub IsWalk : (n : ℕ) → (ℕ → ℕ → Type 0) → List ℕ → List (List ℕ) → List ℕ → Type 0
 IsWalk n before from [] to = ⊥
 IsWalk n before from (order ∷ []) to = (order ≡ from) × IsLinearExtension n before order × (order ≡ to)
-IsWalk n before from (order ∷ next ∷ orders) to = (order ≡ from) × IsLinearExtension n before order × IsExchange before order next × IsWalk n before next (next ∷ orders) to
+IsWalk n before from (order ∷ next ∷ orders) to =
+    (order ≡ from) × IsLinearExtension n before order × IsExchange before order next × IsWalk n before next (next ∷ orders) to
 
 -- how many nodes stand ahead of k
 abbrev pub place : ℕ → List ℕ → ℕ

@@ -36,7 +36,8 @@ pub fn insert(words: &mut [u64], n: u32, a: u32, b: u32)
     requires size { length words.old ≡ n * width_of n }
     requires row { a < n }
     requires column { b < n }
-    ensures { (x y : ℕ) → x < n → y < n → cell (width_of n) words.new x y ≡ (((x == a) && (y == b)) || cell (width_of n) words.old x y) }
+    ensures { (x y : ℕ) → x < n → y < n → cell (width_of n) words.new x y
+        ≡ (((x == a) && (y == b)) || cell (width_of n) words.old x y) }
 {
     let at = a as usize * width(n) + b as usize / 64;
     let word = words[at];
@@ -48,7 +49,8 @@ pub fn insert_row(words: &mut [u64], n: u32, to: u32, from: u32)
     requires size { length words.old ≡ n * width_of n }
     requires to { to < n }
     requires from { from < n }
-    ensures { (x y : ℕ) → x < n → y < n → cell (width_of n) words.new x y ≡ (((x == to) && cell (width_of n) words.old from y) || cell (width_of n) words.old x y) }
+    ensures { (x y : ℕ) → x < n → y < n → cell (width_of n) words.new x y
+        ≡ (((x == to) && cell (width_of n) words.old from y) || cell (width_of n) words.old x y) }
 {
     let width = width(n);
     let target = to as usize * width;
@@ -75,7 +77,9 @@ pub fn copy_row(from: &[u64], r: u32, into: &mut [u64], n: u32, a: u32)
     requires into { length into.old ≡ n * width_of n }
     requires r { r ≤ n }
     requires a { a < n }
-    ensures { (x y : ℕ) → x < n → y < n → cell (width_of n) into.new x y ≡ (((x == a) && cell (width_of (n + 1)) from.now (old_number r a) (old_number r y)) || cell (width_of n) into.old x y) }
+    ensures { (x y : ℕ) → x < n → y < n → cell (width_of n) into.new x y
+        ≡ (((x == a) && cell (width_of (n + 1)) from.now (old_number r a) (old_number r y))
+        || cell (width_of n) into.old x y) }
 {
     let row = old_number_of(r, a);
     for b in 0..n {

@@ -40,7 +40,9 @@ fn index_of_least(list: &[u32]) -> usize
 pub fn cycle_of(alloc: Global, list: &[u32], node: u32) -> Result<Seq<u32>, NoMemory>
     requires there { 1 ≤ times node list.now }
     requires once { (k : ℕ) → times k list.now ≤ 1 }
-    ensures { IfOk result (λ nodes. (edges : List (ℕ × ℕ)) → AreLinked edges list.now → HasEdge edges (slice_index list.now (length list.now - 1)) node → IsCycle edges nodes) }
+    ensures { IfOk result (λ nodes. (edges : List (ℕ × ℕ)) → AreLinked edges list.now
+        → HasEdge edges (slice_index list.now (length list.now - 1)) node
+        → IsCycle edges nodes) }
 {
     let around = &list[index_of(list, node)..];
     let least = index_of_least(around);

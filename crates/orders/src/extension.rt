@@ -14,7 +14,10 @@ use rh_base::{NoMemory, Seq};
 fn first_ready(taken: &[bool], waits: &[u32], n: u32) -> Option<u32>
     requires taken { length taken.now ≡ n }
     requires waits { length waits.now ≡ n }
-    ensures { MatchOption result ((k : ℕ) → k < n → CanGo taken.now waits.now k → ⊥) (λ k. (k < n) × CanGo taken.now waits.now k × ((j : ℕ) → j < k → CanGo taken.now waits.now j → ⊥)) }
+    ensures { MatchOption result
+        ((k : ℕ) → k < n → CanGo taken.now waits.now k → ⊥)
+        (λ k. (k < n) × CanGo taken.now waits.now k
+        × ((j : ℕ) → j < k → CanGo taken.now waits.now j → ⊥)) }
 {
     for node in 0..n {
         let is_taken = taken[node as usize];
@@ -67,7 +70,8 @@ impl Order {
     /// For each node how many come before it.
     fn waits(&self) -> Result<Vec<u32>, NoMemory>
         ensures len { IfOk result (λ waits. length waits.items ≡ self.now.count) }
-        ensures waits { IfOk result (λ waits. (b : ℕ) → b < self.now.count → slice_index waits.items b ≡ waiting (comes self.now) [] self.now.count b) }
+        ensures waits { IfOk result (λ waits. (b : ℕ) → b < self.now.count
+            → slice_index waits.items b ≡ waiting (comes self.now) [] self.now.count b) }
     {
         let n = self.count();
         let mut waits = vec![in self.alloc(); 0; n as usize]?;
@@ -82,7 +86,8 @@ impl Order {
         requires len { length waits.old ≡ self.now.count }
         requires a { a < self.now.count }
         requires few { (b : ℕ) → b < self.now.count → slice_index waits.old b ≤ a }
-        ensures { (b : ℕ) → b < self.now.count → slice_index waits.new b ≡ (if comes self.now a b then 1 else 0) + slice_index waits.old b }
+        ensures { (b : ℕ) → b < self.now.count
+            → slice_index waits.new b ≡ (if comes self.now a b then 1 else 0) + slice_index waits.old b }
     {
         for b in 0..self.count() {
             if self.comes(a, b) {
@@ -96,7 +101,8 @@ impl Order {
         requires len { length waits.old ≡ self.now.count }
         requires a { a < self.now.count }
         requires some { (b : ℕ) → b < self.now.count → IsTrue (comes self.now a b) → 1 ≤ slice_index waits.old b }
-        ensures { (b : ℕ) → b < self.now.count → (if comes self.now a b then 1 else 0) + slice_index waits.new b ≡ slice_index waits.old b }
+        ensures { (b : ℕ) → b < self.now.count
+            → (if comes self.now a b then 1 else 0) + slice_index waits.new b ≡ slice_index waits.old b }
     {
         for b in 0..self.count() {
             if self.comes(a, b) {

@@ -28,7 +28,7 @@ impl From<NoMemory> for OrderFault {
 }
 
 /// A strict partial order of the nodes 0, 1, .. below a count, which contracts see as a finite relation.
-#[derive(Drop)]
+#[derive(Debug, Drop)]
 pub struct Order {
     count: u32,
     words: Vec<u64>,
@@ -53,9 +53,10 @@ impl Order {
         requires { EndsBelow n edges.now }
         ensures count { IfOk result (λ order. order.count ≡ n) }
         ensures before { IfOk result (λ order. (a b : ℕ) → Comes order a b ↔ Path edges.now a b) }
-        // A cycle is answered where there is one, and nothing else than want of memory beside it.
+        // A cycle is answered exactly where a node reaches itself. Beside it there is want of memory alone.
         ensures acyclic { OnOk result ((a : ℕ) → Path edges.now a a → ⊥) }
         ensures cycle { IfErr result (λ e. IfCycle e (IsCycle edges.now)) }
+        ensures circle { IfErr result (λ e. IfCycle e (λ nodes. (a : ℕ) × Path edges.now a a)) }
     {
         let links = link_edges(alloc, n, edges)?;
         let mut search = begin(alloc, n, links.heads)?;
@@ -78,6 +79,7 @@ impl Order {
         self.count
     }
 
+    /// Whether a comes before b.
     pub fn before(&self, a: u32, b: u32) -> bool
         requires a { a < self.now.count }
         requires b { b < self.now.count }
@@ -86,13 +88,14 @@ impl Order {
         self.comes(a, b)
     }
 
+    /// Whether the two differ and may stand in either order.
     pub fn free(&self, a: u32, b: u32) -> bool
         requires a { a < self.now.count }
         requires b { b < self.now.count }
         ensures { IsTrue result ↔ IsFree (Comes self.now) a b }
     {
-        let forth = self.comes(a, b);
-        let back = self.comes(b, a);
+        let forth = self.before(a, b);
+        let back = self.before(b, a);
         a != b && !forth && !back
     }
 
@@ -100,7 +103,8 @@ impl Order {
     pub fn without(&self, r: u32) -> Result<Order, NoMemory>
         requires { r < self.now.count }
         ensures count { IfOk result (λ order. order.count + 1 ≡ self.now.count) }
-        ensures before { IfOk result (λ order. (a b : ℕ) → a < order.count → b < order.count → Comes order a b ↔ Comes self.now (old_number r a) (old_number r b)) }
+        ensures before { IfOk result (λ order. (a b : ℕ) → a < order.count → b < order.count
+            → Comes order a b ↔ Comes self.now (old_number r a) (old_number r b)) }
     {
         let n = self.count - 1;
         let mut words = bits::empty_table(self.alloc(), n)?;
@@ -110,7 +114,7 @@ impl Order {
         Ok(Order { count: n, words })
     }
 
-    /// Whether a comes before b.
+    /// The entry of the table.
     pub(crate) fn comes(&self, a: u32, b: u32) -> bool
         requires a { a < self.now.count }
         requires b { b < self.now.count }

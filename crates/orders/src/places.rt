@@ -22,7 +22,13 @@ pub fn places(alloc: Global, n: u32, order: &[u32]) -> Result<Vec<usize>, NoMemo
 /// The first place whose node stands behind its next one by these places.
 pub fn first_turned(order: &[u32], places: &[usize]) -> Option<usize>
     requires { (k : ℕ) → k < length order.now → slice_index order.now k < length places.now }
-    ensures { MatchOption result ((k : ℕ) → k + 1 < length order.now → slice_index places.now (slice_index order.now k) ≤ slice_index places.now (slice_index order.now (k + 1))) (λ k. (k + 1 < length order.now) × (slice_index places.now (slice_index order.now (k + 1)) < slice_index places.now (slice_index order.now k))) }
+    ensures { MatchOption result
+        ((k : ℕ) → k + 1 < length order.now
+        → slice_index places.now (slice_index order.now k)
+        ≤ slice_index places.now (slice_index order.now (k + 1)))
+        (λ k. (k + 1 < length order.now)
+        × (slice_index places.now (slice_index order.now (k + 1))
+        < slice_index places.now (slice_index order.now k))) }
 {
     for k in 1..order.len() {
         let left = places[order[k - 1] as usize];

@@ -52,12 +52,15 @@ fn pass(search: &mut Search, n: u32, nexts: &[usize], top: u32, node: u32)
     requires node { node < n }
     requires cursor { 0 < slice_index search.old.cursors.items top }
     requires edge { slice_index search.old.cursors.items top - 1 < length nexts.now }
-    ensures cursors { search.new.cursors.items ≡ slice_set search.old.cursors.items top (slice_index nexts.now (slice_index search.old.cursors.items top - 1)) }
+    ensures cursors { search.new.cursors.items ≡ slice_set search.old.cursors.items top
+        (slice_index nexts.now (slice_index search.old.cursors.items top - 1)) }
     ensures entered { search.new.entered.items ≡ search.old.entered.items }
     ensures done { search.new.done.items ≡ search.old.done.items }
     ensures stack { search.new.stack.items ≡ search.old.stack.items }
     ensures size { length search.new.words.items ≡ n * width_of n }
-    ensures words { (x y : ℕ) → x < n → y < n → cell (width_of n) search.new.words.items x y ≡ (((x == top) && ((y == node) || cell (width_of n) search.old.words.items node y)) || cell (width_of n) search.old.words.items x y) }
+    ensures words { (x y : ℕ) → x < n → y < n → cell (width_of n) search.new.words.items x y
+        ≡ (((x == top) && ((y == node) || cell (width_of n) search.old.words.items node y))
+        || cell (width_of n) search.old.words.items x y) }
 {
     bits::insert_row(search.words.as_mut_slice(), n, top, node);
     bits::insert(search.words.as_mut_slice(), n, top, node);
@@ -94,7 +97,8 @@ fn step(
     requires work { 0 < length search.old.stack.items }
     ensures ok { IfOk result (λ _. IsSearch n edges.now (state_of search.new)) }
     ensures less { IfOk result (λ _. work (state_of search.new) < work (state_of search.old)) }
-    ensures entered { IfOk result (λ _. (k : ℕ) → slice_index_or search.old.entered.items k false ≡ true → slice_index_or search.new.entered.items k false ≡ true) }
+    ensures entered { IfOk result (λ _. (k : ℕ) → slice_index_or search.old.entered.items k false ≡ true
+        → slice_index_or search.new.entered.items k false ≡ true) }
     ensures cycle { IfErr result (λ e. IfCycle e (IsCycle edges.now)) }
 {
     let top = top_of(search.stack.as_slice());
@@ -134,7 +138,8 @@ pub fn explore(
     ensures ok { IfOk result (λ _. IsSearch n edges.now (state_of search.new)) }
     ensures idle { IfOk result (λ _. search.new.stack.items ≡ []) }
     ensures root { IfOk result (λ _. slice_index_or search.new.entered.items root false ≡ true) }
-    ensures entered { IfOk result (λ _. (k : ℕ) → slice_index_or search.old.entered.items k false ≡ true → slice_index_or search.new.entered.items k false ≡ true) }
+    ensures entered { IfOk result (λ _. (k : ℕ) → slice_index_or search.old.entered.items k false ≡ true
+        → slice_index_or search.new.entered.items k false ≡ true) }
     ensures cycle { IfErr result (λ e. IfCycle e (IsCycle edges.now)) }
 {
     enter(search, root)?;

@@ -1,4 +1,6 @@
-use Rattle.std.proofs.Common.{sym, ◌∙◌, arith}
+use Rattle.std.proofs.Common.{ℕ, List, sym, ◌∙◌, arith}
+use Rattle.orders.specs.Paths.{Path, IsCycle}
+use Rattle.orders.proofs.Cycles.{cycle_path, if_cycle_map, err_of}
 use Rattle.orders.specs.Search.{state_of}
 use Rattle.orders.proofs.Steps.{comes_is, no_circles, ordered, rooted_begun, rooted_more}
 use Rattle.orders.proofs.order.Order.from_edges.Goals as goal
@@ -29,3 +31,9 @@ returns-clause-before c = comes_is c.args.n c.args.edges.now c.requires c.loop-r
 
 pub returns-clause-acyclic : goal.returns-clause-acyclic
 returns-clause-acyclic c = no_circles c.args.n c.args.edges.now c.requires c.loop-root.root c.loop-root-test.false (state_of c.loop-root.search) c.loop-root.invariant
+
+pub returns-in_err-explore-clause-circle : goal.returns-in_err-explore-clause-circle
+returns-in_err-explore-clause-circle c =
+    let edges = c.args.edges.now in
+    let P : List ℕ → Type 0 = λ nodes. (a : ℕ) × Path edges a a in
+    err_of P c.from_residual-in_err-explore.result c.in_err-explore.field-0.0 c.from_residual-in_err-explore.ensures.1 (if_cycle_map (IsCycle edges) P (cycle_path edges) c.in_err-explore.field-0.0 c.in_err-explore.ensures.cycle)
