@@ -162,23 +162,23 @@ open_goes s r h = goes_by kind.DqOpen r r (code_token (s ++ r)) (ap (λ t. code_
 
 kind_short : (k : Kind) (text : List ℕ) (how : Style) (x : Kind × List ℕ) → of_kind k (joined how text) ≡ Some x → length x.1 ≤ length text
 kind_short k text how x h = elim (joined how text) as (λ r. joined how text ≡ r → of_kind k r ≡ Some x → length x.1 ≤ length text) [
-    | None ↦ λ e f. cc
-    | Some rest ↦ λ e f.
-        let same : ◌≡◌ {A = Kind × List ℕ} (k, rest) x = cc in
-        subst (λ (y : Kind × List ℕ). length y.1 ≤ length text) same (takes_short (Joined how) text rest (joined_takes how text rest e))
-  ] refl h
+  | None ↦ λ e f. cc
+  | Some rest ↦ λ e f.
+      let same : ◌≡◌ {A = Kind × List ℕ} (k, rest) x = cc in
+      subst (λ (y : Kind × List ℕ). length y.1 ≤ length text) same (takes_short (Joined how) text rest (joined_takes how text rest e))
+] refl h
 
 scoped_short : (text : List ℕ) (x : Kind × List ℕ) → scoped (Some text) ≡ Some x → length x.1 ≤ length text
 scoped_short text x h = elim (either_found (of_kind kind.Word (joined style.Word text)) (of_kind kind.Ref (joined style.Ref text)) x h) [
-    | inl f ↦ kind_short kind.Word text style.Word x f
-    | inr f ↦ kind_short kind.Ref text style.Ref x f.1
-  ]
+  | inl f ↦ kind_short kind.Word text style.Word x f
+  | inr f ↦ kind_short kind.Ref text style.Ref x f.1
+]
 
 scoped_far : (a : ℕ) (r : List ℕ) (x : Kind × List ℕ) → scoped (after_colons (a ∷ r)) ≡ Some x → length x.1 < length r
 scoped_far a r x h = elim (after_colons (a ∷ r)) as (λ c. after_colons (a ∷ r) ≡ c → scoped c ≡ Some x → length x.1 < length r) [
-    | None ↦ λ e k. cc
-    | Some behind ↦ λ e k. omega (arith, ap length (colons_are (a ∷ r) behind e), scoped_short behind x k)
-  ] refl h
+  | None ↦ λ e k. cc
+  | Some behind ↦ λ e k. omega (arith, ap length (colons_are (a ∷ r) behind e), scoped_short behind x k)
+] refl h
 
 not_scoped : (a : ℕ) (t r : List ℕ) (x : Kind × List ℕ) → not (a == 58) ≡ true → scoped (after_colons (a ∷ t)) ≡ Some x → length x.1 < length r
 not_scoped a t r x n h =

@@ -27,9 +27,9 @@ begins_lower (b ∷ s) = is_lower b
 
 no_keyword : (s : List ℕ) → begins_lower s ≡ false → is_among keywords s ≡ false
 no_keyword s h = elim (is_among keywords s) as (λ v. is_among keywords s ≡ v → v ≡ false) [
-    | true ↦ λ e. absurd (both_ways (begins_lower s) h (of_each begins_lower keywords s refl e))
-    | false ↦ λ e. refl
-  ] refl
+  | true ↦ λ e. absurd (both_ways (begins_lower s) h (of_each begins_lower keywords s refl e))
+  | false ↦ λ e. refl
+] refl
 
 word_spelled : (s : List ℕ) (v : Bool) → is_among keywords s ≡ v → Joined style.Word s → Spelling (cond v kind.Keyword kind.Word) s
 word_spelled s true e h = e
@@ -67,9 +67,9 @@ scoped_ref text behind rest e h =
 scoped_code : (text : List ℕ) (r : Option (List ℕ)) → after_colons text ≡ r → Code (scoped r) text
 scoped_code text None e x h = cc
 scoped_code text (Some behind) e x h = elim (either_found (of_kind kind.Word (joined style.Word behind)) (of_kind kind.Ref (joined style.Ref behind)) x h) [
-    | inl f ↦ kind_code kind.Word text behind (joined style.Word behind) (λ rest j. scoped_word text behind rest (colons_are text behind e) j) x f
-    | inr f ↦ kind_code kind.Ref text behind (joined style.Ref behind) (λ rest j. scoped_ref text behind rest (colons_are text behind e) j) x f.1
-  ]
+  | inl f ↦ kind_code kind.Word text behind (joined style.Word behind) (λ rest j. scoped_word text behind rest (colons_are text behind e) j) x f
+  | inr f ↦ kind_code kind.Ref text behind (joined style.Ref behind) (λ rest j. scoped_ref text behind rest (colons_are text behind e) j) x f.1
+]
 
 sign_spelled : (k : Kind) (s : List ℕ) → SignText k s → Spelling k s
 sign_spelled kind.Sign s h = h
@@ -114,9 +114,9 @@ takes_as A B text rest f t = record { front = t.front; spelled = f t.front t.spe
 
 colon_or_sign : (text : List ℕ) → Code (scoped_or_sign text) text
 colon_or_sign text x h = elim (either_found (scoped (after_colons text)) (sign text) x h) [
-    | inl f ↦ scoped_code text (after_colons text) refl x f
-    | inr f ↦ takes_as (SignText x.0) (Spelling x.0) text x.1 (sign_spelled x.0) (sign_takes text x f.1)
-  ]
+  | inl f ↦ scoped_code text (after_colons text) refl x f
+  | inr f ↦ takes_as (SignText x.0) (Spelling x.0) text x.1 (sign_spelled x.0) (sign_takes text x f.1)
+]
 
 -- ---- each first byte
 

@@ -75,9 +75,9 @@ braced_case c text n e h =
 unicode_found : (text : List ℕ) (n : ℕ) → unicode_len text ≡ Some n → EscapeFound (117 ∷ text) n
 unicode_found [] n h = cc
 unicode_found (c ∷ text) n h = elim (c == 123) as (λ v. (c == 123) ≡ v → cond v (option_map (λ m. m + 2) (braced_len text)) (four_len (c ∷ text)) ≡ Some n → EscapeFound (117 ∷ c ∷ text) n) [
-    | true ↦ λ e k. braced_case c text n (eqb-true c 123 e) k
-    | false ↦ λ e k. four_found (c ∷ text) n k
-  ] refl h
+  | true ↦ λ e k. braced_case c text n (eqb-true c 123 e) k
+  | false ↦ λ e k. four_found (c ∷ text) n k
+] refl h
 
 -- An escape begins the text, or the backslash stands for itself.
 abbrev pub AtBackslash : List ℕ → ℕ → Type 0
@@ -90,9 +90,9 @@ simple_case c text n false other e h = inr (cc, (e, other))
 pub escape_found : (text : List ℕ) (n : ℕ) → escape_len text ≡ Some n → AtBackslash text n
 escape_found [] n h = inr (cc, tt)
 escape_found (c ∷ text) n h = elim (c == 117) as (λ v. (c == 117) ≡ v → cond v (unicode_len text) (cond (is_simple_escape c) (Some 1) (Some 0)) ≡ Some n → AtBackslash (c ∷ text) n) [
-    | true ↦ λ e k. inl (subst (λ b. EscapeFound (b ∷ text) n) (sym (eqb-true c 117 e)) (unicode_found text n k))
-    | false ↦ λ e k. simple_case c text n (is_simple_escape c) (eqb-false c 117 e) refl k
-  ] refl h
+  | true ↦ λ e k. inl (subst (λ b. EscapeFound (b ∷ text) n) (sym (eqb-true c 117 e)) (unicode_found text n k))
+  | false ↦ λ e k. simple_case c text n (is_simple_escape c) (eqb-false c 117 e) refl k
+] refl h
 
 at_backslash_short : (text : List ℕ) (n : ℕ) → AtBackslash text n → n ≤ length text
 at_backslash_short text n (inl f) = omega (arith, f.size, ap length f.whole, length-append f.front f.rest)
@@ -100,6 +100,6 @@ at_backslash_short text n (inr e) = omega (arith, e.0)
 
 pub escape_short : (text : List ℕ) → IfSome (escape_len text) (λ n. n ≤ length text)
 escape_short text = elim (escape_len text) as (λ r. escape_len text ≡ r → IfSome r (λ n. n ≤ length text)) [
-    | None ↦ λ e. tt
-    | Some n ↦ λ e. at_backslash_short text n (escape_found text n e)
-  ] refl
+  | None ↦ λ e. tt
+  | Some n ↦ λ e. at_backslash_short text n (escape_found text n e)
+] refl

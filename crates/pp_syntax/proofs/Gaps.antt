@@ -16,15 +16,15 @@ use Rattle.pp_syntax.proofs.Names.{no_colons}
 close_takes : (text rest : List ℕ) → after_close text ≡ Some rest → Takes ToClose text rest
 close_takes [] rest h = cc
 close_takes (b ∷ text) rest h = elim ((b == 42) && begins_with 47 text) as (λ v. ((b == 42) && begins_with 47 text) ≡ v → cond v (Some (behind_first text)) (after_close text) ≡ Some rest → Takes ToClose (b ∷ text) rest) [
-    | true ↦ λ e k.
-        let p = and_parts (b == 42) (begins_with 47 text) e in
-        let tail = begins_is 47 text p.1 in
-        let same : behind_first text ≡ rest = cc in
-        record { front = 42 ∷ 47 ∷ []; spelled = close refl; whole = ap (λ c. c ∷ text) (eqb-true b 42 p.0) ∙ ap (λ t. 42 ∷ t) (tail.1 ∙ ap (λ t. 47 ∷ t) (sym (ap behind_first tail.1) ∙ same)) }
-    | false ↦ λ e k.
-        let t = close_takes text rest k in
-        record { front = b ∷ t.front; spelled = more b t.front refl (λ tail f. no_close b text t.front rest tail e t.whole f) t.spelled; whole = ap (λ u. b ∷ u) t.whole }
-  ] refl h
+  | true ↦ λ e k.
+      let p = and_parts (b == 42) (begins_with 47 text) e in
+      let tail = begins_is 47 text p.1 in
+      let same : behind_first text ≡ rest = cc in
+      record { front = 42 ∷ 47 ∷ []; spelled = close refl; whole = ap (λ c. c ∷ text) (eqb-true b 42 p.0) ∙ ap (λ t. 42 ∷ t) (tail.1 ∙ ap (λ t. 47 ∷ t) (sym (ap behind_first tail.1) ∙ same)) }
+  | false ↦ λ e k.
+      let t = close_takes text rest k in
+      record { front = b ∷ t.front; spelled = more b t.front refl (λ tail f. no_close b text t.front rest tail e t.whole f) t.spelled; whole = ap (λ u. b ∷ u) t.whole }
+] refl h
   where
     no_close : (b : ℕ) (text front rest tail : List ℕ) → ((b == 42) && begins_with 47 text) ≡ false → text ≡ front ++ rest → ◌≡◌ {A = List ℕ} (b ∷ front) (42 ∷ 47 ∷ tail) → ⊥
     no_close b text front rest tail e w f =
@@ -60,33 +60,33 @@ close_reads s rest (more b tail e n h) =
 line_end : (text : List ℕ) → AtLineEnd (after_all (λ c. not (c == 10)) text)
 line_end [] = tt
 line_end (b ∷ text) = elim (b == 10) as (λ v. (b == 10) ≡ v → AtLineEnd (cond (not v) (after_all (λ c. not (c == 10)) text) (b ∷ text))) [
-    | true ↦ λ e. eqb-true b 10 e
-    | false ↦ λ e. line_end text
-  ] refl
+  | true ↦ λ e. eqb-true b 10 e
+  | false ↦ λ e. line_end text
+] refl
 
 block_takes : (text rest : List ℕ) → after_block text ≡ Some rest → (body : List ℕ) × ToClose body × (text ≡ 42 ∷ body ++ rest)
 block_takes [] rest h = cc
 block_takes (b ∷ text) rest h = elim (b == 42) as (λ v. (b == 42) ≡ v → cond v (after_close text) None ≡ Some rest → (body : List ℕ) × ToClose body × (b ∷ text ≡ 42 ∷ body ++ rest)) [
-    | true ↦ λ e k. let t = close_takes text rest k in (t.front, t.spelled, ap (λ c. c ∷ text) (eqb-true b 42 e) ∙ ap (λ u. 42 ∷ u) t.whole)
-    | false ↦ λ e k. cc
-  ] refl h
+  | true ↦ λ e k. let t = close_takes text rest k in (t.front, t.spelled, ap (λ c. c ∷ text) (eqb-true b 42 e) ∙ ap (λ u. 42 ∷ u) t.whole)
+  | false ↦ λ e k. cc
+] refl h
 
 pub gap_takes : (text rest : List ℕ) → gap_of text ≡ Some rest → Takes (λ s. IsGap s rest) text rest
 unfolding gap_of
 gap_takes [] rest h = cc
 gap_takes (b ∷ text) rest h = elim (is_blank b) as (λ v. is_blank b ≡ v → cond v (Some text) (cond (b == 35) (Some (after_all (λ c. not (c == 10)) text)) (cond (b == 47) (after_block text) None)) ≡ Some rest → Takes (λ s. IsGap s rest) (b ∷ text) rest) [
-    | true ↦ λ e k. let same : text ≡ rest = cc in record { front = b ∷ []; spelled = blank b refl e; whole = ap (λ t. b ∷ t) same }
-    | false ↦ λ e k. elim (b == 35) as (λ v. (b == 35) ≡ v → cond v (Some (after_all (λ c. not (c == 10)) text)) (cond (b == 47) (after_block text) None) ≡ Some rest → Takes (λ s. IsGap s rest) (b ∷ text) rest) [
-      | true ↦ λ f l.
-          let t = all_takes (λ c. not (c == 10)) text in
-          let same : after_all (λ c. not (c == 10)) text ≡ rest = cc in
-          subst (λ (r : List ℕ). Takes (λ s. IsGap s r) (b ∷ text) r) same (record { front = 35 ∷ t.front; spelled = line t.front refl t.spelled (line_end text); whole = ap (λ c. c ∷ text) (eqb-true b 35 f) ∙ ap (λ u. 35 ∷ u) t.whole })
-      | false ↦ λ f l. elim (b == 47) as (λ v. (b == 47) ≡ v → cond v (after_block text) None ≡ Some rest → Takes (λ s. IsGap s rest) (b ∷ text) rest) [
-        | true ↦ λ g m. let t = block_takes text rest m in record { front = 47 ∷ 42 ∷ t.0; spelled = block t.0 refl t.1; whole = ap (λ c. c ∷ text) (eqb-true b 47 g) ∙ ap (λ u. 47 ∷ u) t.2 }
-        | false ↦ λ g m. cc
-      ] refl l
-    ] refl k
-  ] refl h
+  | true ↦ λ e k. let same : text ≡ rest = cc in record { front = b ∷ []; spelled = blank b refl e; whole = ap (λ t. b ∷ t) same }
+  | false ↦ λ e k. elim (b == 35) as (λ v. (b == 35) ≡ v → cond v (Some (after_all (λ c. not (c == 10)) text)) (cond (b == 47) (after_block text) None) ≡ Some rest → Takes (λ s. IsGap s rest) (b ∷ text) rest) [
+    | true ↦ λ f l.
+        let t = all_takes (λ c. not (c == 10)) text in
+        let same : after_all (λ c. not (c == 10)) text ≡ rest = cc in
+        subst (λ (r : List ℕ). Takes (λ s. IsGap s r) (b ∷ text) r) same (record { front = 35 ∷ t.front; spelled = line t.front refl t.spelled (line_end text); whole = ap (λ c. c ∷ text) (eqb-true b 35 f) ∙ ap (λ u. 35 ∷ u) t.whole })
+    | false ↦ λ f l. elim (b == 47) as (λ v. (b == 47) ≡ v → cond v (after_block text) None ≡ Some rest → Takes (λ s. IsGap s rest) (b ∷ text) rest) [
+      | true ↦ λ g m. let t = block_takes text rest m in record { front = 47 ∷ 42 ∷ t.0; spelled = block t.0 refl t.1; whole = ap (λ c. c ∷ text) (eqb-true b 47 g) ∙ ap (λ u. 47 ∷ u) t.2 }
+      | false ↦ λ g m. cc
+    ] refl l
+  ] refl k
+] refl h
 
 stops : (rest : List ℕ) → AtLineEnd rest → after_all (λ c. not (c == 10)) rest ≡ rest
 stops [] h = refl
@@ -132,15 +132,15 @@ no_hash text = no_token_with 35 text (λ e. both_ways (35 == 58) refl (eq-eqb 35
 
 no_blank : (b : ℕ) (text : List ℕ) → is_blank b ≡ true → code_token (b ∷ text) ≡ None
 no_blank b text h = elim (or_cases ((b == 32) || (b == 9) || (b == 13)) (b == 10) h) [
-    | inl e ↦ elim (or_cases ((b == 32) || (b == 9)) (b == 13) e) [
-      | inl f ↦ elim (or_cases (b == 32) (b == 9) f) [
-        | inl g ↦ ap (λ c. code_token (c ∷ text)) (eqb-true b 32 g) ∙ no_space text
-        | inr g ↦ ap (λ c. code_token (c ∷ text)) (eqb-true b 9 g) ∙ no_tab text
-      ]
-      | inr f ↦ ap (λ c. code_token (c ∷ text)) (eqb-true b 13 f) ∙ no_return text
+  | inl e ↦ elim (or_cases ((b == 32) || (b == 9)) (b == 13) e) [
+    | inl f ↦ elim (or_cases (b == 32) (b == 9) f) [
+      | inl g ↦ ap (λ c. code_token (c ∷ text)) (eqb-true b 32 g) ∙ no_space text
+      | inr g ↦ ap (λ c. code_token (c ∷ text)) (eqb-true b 9 g) ∙ no_tab text
     ]
-    | inr e ↦ ap (λ c. code_token (c ∷ text)) (eqb-true b 10 e) ∙ no_feed text
+    | inr f ↦ ap (λ c. code_token (c ∷ text)) (eqb-true b 13 f) ∙ no_return text
   ]
+  | inr e ↦ ap (λ c. code_token (c ∷ text)) (eqb-true b 10 e) ∙ no_feed text
+]
 
 none_either : (v : Bool) (f : Found) → f ≡ None → cond v None f ≡ None
 none_either true f h = refl

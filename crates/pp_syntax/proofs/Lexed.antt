@@ -138,22 +138,29 @@ token_turn source before after t p now k text rest front more passed u found is_
     let told_is : told after ≡ told before ++ lexeme ∷ [] = ap told is_after ∙ told-append before t ∙ ap (λ (l : Lexeme). told before ++ l ∷ []) (is_token ∙ ap (λ (f : List ℕ). record { kind = k; text = f; at = p.at }) is_front) in
     let done : Completes source (told before ++ lexeme ∷ []) (behind p k s) rest = completes_token source (told before) p k text s rest g.0.whole g.1 reads in
     let at_is : now.at ≡ p.at + length s = ap (λ (q : Place). q.at) now_is in
-    let size : length more ≡ length rest = ap length is_rest in
-    (subst (λ (l : List Lexeme). Completes source l now more) (sym told_is)
-        (subst (λ (q : Place). Completes source (told before ++ lexeme ∷ []) q more) (sym now_is) (subst (λ (r : List ℕ). Completes source (told before ++ lexeme ∷ []) (behind p k s) r) (sym is_rest) done)), omega (arith, at_is, size, g.0.size, sizes), subst (λ (r : List ℕ). IsUtf8 r) (sym is_rest) (cut_utf8 text rest u g.0), omega (arith, size, g.0.shorter))
+    let size : length more ≡ length rest = ap length is_rest in (
+      subst (λ (l : List Lexeme). Completes source l now more) (sym told_is)
+          (subst (λ (q : Place). Completes source (told before ++ lexeme ∷ []) q more) (sym now_is) (subst (λ (r : List ℕ). Completes source (told before ++ lexeme ∷ []) (behind p k s) r) (sym is_rest) done)),
+      omega (arith, at_is, size, g.0.size, sizes),
+      subst (λ (r : List ℕ). IsUtf8 r) (sym is_rest) (cut_utf8 text rest u g.0),
+      omega (arith, size, g.0.shorter),
+    )
 
 -- ---- the ends
 
 -- Nothing stands there.
 pub stuck_at : (source : List ℕ) (before : List Lexeme) (p : Place) (text : List ℕ) → text ≢ [] → gap_at p text ≡ None → token_at p text ≡ None → Completes source before p text → FailsAt source p.at
-stuck_at source before p text some g t reads =
-    (before ++ [], reads [] (Fault p.at) (stuck some
-        (λ s rest e h. none_some (sym g ∙ ap (gap_at p) e ∙ gap_at_reads p s rest h))
-        (λ k s rest e h. none_found (sym t ∙ ap (token_at p) e ∙ token_reads p k s rest h))
-        refl refl))
+stuck_at source before p text some g t reads = (
+  before ++ [],
+  reads [] (Fault p.at) (stuck some
+      (λ s rest e h. none_some (sym g ∙ ap (gap_at p) e ∙ gap_at_reads p s rest h))
+      (λ k s rest e h. none_found (sym t ∙ ap (token_at p) e ∙ token_reads p k s rest h))
+      refl refl),
+)
   where
     none_some : {r : List ℕ} → ◌≡◌ {A = Option (List ℕ)} None (Some r) → ⊥
     none_some {r} e = cc
+
     none_found : {x : Kind × List ℕ} → ◌≡◌ {A = Found} None (Some x) → ⊥
     none_found {x} e = cc
 

@@ -25,24 +25,24 @@ no_comment : (text : List ℕ) → NoComment text → opens_comment text ≡ fal
 no_comment [] n = refl
 no_comment (b ∷ []) n = refl
 no_comment (b ∷ c ∷ rest) n = elim ((b == 47) && (c == 42)) as (λ v. ((b == 47) && (c == 42)) ≡ v → v ≡ false) [
-    | true ↦ λ e.
-        let p = and_parts (b == 47) (c == 42) e in
-        let first = eqb-true b 47 p.0 in
-        let second = eqb-true c 42 p.1 in
-        absurd (n rest cc)
-    | false ↦ λ e. refl
-  ] refl
+  | true ↦ λ e.
+      let p = and_parts (b == 47) (c == 42) e in
+      let first = eqb-true b 47 p.0 in
+      let second = eqb-true c 42 p.1 in
+      absurd (n rest cc)
+  | false ↦ λ e. refl
+] refl
 
 -- ---- one token, longest
 
 found_takes : (q : Bool) (text : List ℕ) (x : Kind × List ℕ) → found_at q text ≡ Some x → Takes (λ s. Fits q x.0 s x.1) text x.1
 found_takes true text x h = quoted_takes text x h
 found_takes false text x h = elim (opens_comment text) as (λ v. opens_comment text ≡ v → cond v None (code_token text) ≡ Some x → Takes (λ s. Fits false x.0 s x.1) text x.1) [
-    | true ↦ λ e k. cc
-    | false ↦ λ e k.
-        let t = code_takes text x k in
-        record { front = t.front; spelled = (t.spelled, subst (λ (u : List ℕ). NoComment u) t.whole (opens_not text e)); whole = t.whole }
-  ] refl h
+  | true ↦ λ e k. cc
+  | false ↦ λ e k.
+      let t = code_takes text x k in
+      record { front = t.front; spelled = (t.spelled, subst (λ (u : List ℕ). NoComment u) t.whole (opens_not text e)); whole = t.whole }
+] refl h
 
 found_goes : (q : Bool) (k : Kind) (s r : List ℕ) → Fits q k s r → Goes k r (found_at q (s ++ r))
 found_goes true k s r h = quoted_goes k s r h
@@ -76,9 +76,9 @@ longest_found q k s r h =
     let g = found_goes q k s r h.fits in
     elim g.2 [
       | inl far ↦
-        let t = found_takes q (s ++ r) g.0 g.1 in
-        let short = h.longest g.0.0 t.front g.0.1 t.spelled (sym t.whole) in
-        absurd (omega (arith, short, far, ap length t.whole, length-append s r, length-append t.front g.0.1))
+          let t = found_takes q (s ++ r) g.0 g.1 in
+          let short = h.longest g.0.0 t.front g.0.1 t.spelled (sym t.whole) in
+          absurd (omega (arith, short, far, ap length t.whole, length-append s r, length-append t.front g.0.1))
       | inr same ↦ g.1 ∙ ap Some same
     ]
 
@@ -153,9 +153,9 @@ checked_takes p text k rest j r h e =
 pub token_takes : (p : Place) (text : List ℕ) (k : Kind) (rest : List ℕ) → token_at p text ≡ Some (k, rest) → Takes (λ s. TokenAt p k s rest) text rest
 unfolding token_at
 token_takes p text k rest h = elim (found_at (in_quotes p.opened) text) as (λ f. found_at (in_quotes p.opened) text ≡ f → checked p text f ≡ Some (k, rest) → Takes (λ s. TokenAt p k s rest) text rest) [
-    | None ↦ λ e g. cc
-    | Some x ↦ λ e g. checked_takes p text k rest x.0 x.1 e g
-  ] refl h
+  | None ↦ λ e g. cc
+  | Some x ↦ λ e g. checked_takes p text k rest x.0 x.1 e g
+] refl h
 
 pub token_reads : (p : Place) (k : Kind) (s rest : List ℕ) → TokenAt p k s rest → token_at p (s ++ rest) ≡ Some (k, rest)
 unfolding token_at
@@ -168,9 +168,9 @@ token_reads p k s rest h =
 
 pub gap_at_takes : (p : Place) (text rest : List ℕ) → gap_at p text ≡ Some rest → Takes (λ s. GapAt p s rest) text rest
 gap_at_takes p text rest h = elim (in_quotes p.opened) as (λ v. in_quotes p.opened ≡ v → cond v None (gap_of text) ≡ Some rest → Takes (λ s. GapAt p s rest) text rest) [
-    | true ↦ λ e k. cc
-    | false ↦ λ e k. let t = gap_takes text rest k in record { front = t.front; spelled = (e, t.spelled); whole = t.whole }
-  ] refl h
+  | true ↦ λ e k. cc
+  | false ↦ λ e k. let t = gap_takes text rest k in record { front = t.front; spelled = (e, t.spelled); whole = t.whole }
+] refl h
 
 pub gap_at_reads : (p : Place) (s rest : List ℕ) → GapAt p s rest → gap_at p (s ++ rest) ≡ Some rest
 gap_at_reads p s rest h = ap (λ v. cond v None (gap_of (s ++ rest))) h.0 ∙ gap_reads s rest h.1

@@ -75,24 +75,24 @@ no_dash_tail b (c ∷ s) h = h
 pub tail_append : (how : Style) (best more r : List ℕ) → Of (goes_on how) more → NoDashLast more → (more ≡ [] → best ≡ r) → tail_from how best (more ++ r) ≡ tail_from how r r
 tail_append how best [] r all last start = ap (λ x. tail_from how x r) (start refl)
 tail_append how best (b ∷ more) r all last start = elim (is_name b) as (λ v. is_name b ≡ v → cond v (tail_from how (more ++ r) (more ++ r)) (cond ((b == 45) && has_dashes how) (tail_from how best (more ++ r)) best) ≡ tail_from how r r) [
-    | true ↦ λ e. tail_append how (more ++ r) more r all.1 (no_dash_tail b more last) (λ none. ap (λ m. m ++ r) none)
-    | false ↦ λ e.
-        let d = only_dash how b all.0 e in
-        ap (λ v. cond v (tail_from how best (more ++ r)) best) d.1
-        ∙ tail_append how best more r all.1 (no_dash_tail b more last) (λ none. absurd (subst (λ (m : List ℕ). NoDashLast (b ∷ m)) none last d.0))
-  ] refl
+  | true ↦ λ e. tail_append how (more ++ r) more r all.1 (no_dash_tail b more last) (λ none. ap (λ m. m ++ r) none)
+  | false ↦ λ e.
+      let d = only_dash how b all.0 e in
+      ap (λ v. cond v (tail_from how best (more ++ r)) best) d.1
+      ∙ tail_append how best more r all.1 (no_dash_tail b more last) (λ none. absurd (subst (λ (m : List ℕ). NoDashLast (b ∷ m)) none last d.0))
+] refl
 
 -- ---- segments
 
 pub segment_takes : (how : Style) (text rest : List ℕ) → segment how text ≡ Some rest → Takes (Segment how) text rest
 segment_takes how [] rest h = cc
 segment_takes how (b ∷ text) rest h = elim (begins how b) as (λ v. begins how b ≡ v → cond v (Some (tail_from how text text)) None ≡ Some rest → Takes (Segment how) (b ∷ text) rest) [
-    | true ↦ λ e k.
-        let more = tail_takes how text in
-        let same : tail_from how text text ≡ rest = cc in
-        subst (λ (r : List ℕ). Takes (Segment how) (b ∷ text) r) same (record { front = b ∷ more.front; spelled = (e, more.spelled.0, more.spelled.1); whole = ap (λ t. b ∷ t) more.whole })
-    | false ↦ λ e k. cc
-  ] refl h
+  | true ↦ λ e k.
+      let more = tail_takes how text in
+      let same : tail_from how text text ≡ rest = cc in
+      subst (λ (r : List ℕ). Takes (Segment how) (b ∷ text) r) same (record { front = b ∷ more.front; spelled = (e, more.spelled.0, more.spelled.1); whole = ap (λ t. b ∷ t) more.whole })
+  | false ↦ λ e k. cc
+] refl h
 
 pub segment_reads : (how : Style) (s r : List ℕ) → Segment how s → segment how (s ++ r) ≡ Some (tail_from how r r)
 segment_reads how [] r h = absurd h
@@ -107,13 +107,13 @@ pub colons_are : (text rest : List ℕ) → after_colons text ≡ Some rest → 
 colons_are [] rest h = cc
 colons_are (b ∷ []) rest h = cc
 colons_are (b ∷ c ∷ text) rest h = elim ((b == 58) && (c == 58)) as (λ v. ((b == 58) && (c == 58)) ≡ v → cond v (Some text) None ≡ Some rest → b ∷ c ∷ text ≡ 58 ∷ 58 ∷ rest) [
-    | true ↦ λ e k.
-        let p = and_parts (b == 58) (c == 58) e in
-        let first = eqb-true b 58 p.0 in
-        let second = eqb-true c 58 p.1 in
-        cc
-    | false ↦ λ e k. cc
-  ] refl h
+  | true ↦ λ e k.
+      let p = and_parts (b == 58) (c == 58) e in
+      let first = eqb-true b 58 p.0 in
+      let second = eqb-true c 58 p.1 in
+      cc
+  | false ↦ λ e k. cc
+] refl h
 
 -- nothing, or `::` and segments
 abbrev MoreOf : Style → List ℕ → Type 0
@@ -133,40 +133,47 @@ more_takes : (n : ℕ) (how : Style) (text : List ℕ) → Takes (MoreOf how) te
 unfolding next_segment
 more_takes zero how text = record { front = []; spelled = inl refl; whole = refl }
 more_takes (suc n) how text = elim (next_segment how text) as (λ r. next_segment how text ≡ r → Takes (MoreOf how) text (go_on (more_segments n how) text r)) [
-    | None ↦ λ e. record { front = []; spelled = inl refl; whole = refl }
-    | Some next ↦ λ e.
-        let a = bind_some (after_colons text) (segment how) next e in
-        let all = joined_more how a.0 next (more_segments n how next) (segment_takes how a.0 next a.2) (more_takes n how next) in
-        record {
-          front = 58 ∷ 58 ∷ all.front;
-          spelled = inr (all.front, refl, all.spelled);
-          whole = colons_are text a.0 a.1 ∙ ap (λ t. 58 ∷ 58 ∷ t) all.whole;
-        }
-  ] refl
+  | None ↦ λ e. record { front = []; spelled = inl refl; whole = refl }
+  | Some next ↦ λ e.
+      let a = bind_some (after_colons text) (segment how) next e in
+      let all = joined_more how a.0 next (more_segments n how next) (segment_takes how a.0 next a.2) (more_takes n how next) in
+      record {
+        front = 58 ∷ 58 ∷ all.front;
+        spelled = inr (all.front, refl, all.spelled);
+        whole = colons_are text a.0 a.1 ∙ ap (λ t. 58 ∷ 58 ∷ t) all.whole;
+      }
+] refl
 
 pub joined_takes : (how : Style) (text rest : List ℕ) → joined how text ≡ Some rest → Takes (Joined how) text rest
 unfolding joined
 joined_takes how text rest h = elim (segment how text) as (λ r. segment how text ≡ r → option_map (all_segments how) r ≡ Some rest → Takes (Joined how) text rest) [
-    | None ↦ λ e k. cc
-    | Some mid ↦ λ e k.
-        let same : all_segments how mid ≡ rest = cc in
-        subst (λ (r : List ℕ). Takes (Joined how) text r) same (joined_more how text mid (all_segments how mid) (segment_takes how text mid e) (more_takes (length mid) how mid))
-  ] refl h
+  | None ↦ λ e k. cc
+  | Some mid ↦ λ e k.
+      let same : all_segments how mid ≡ rest = cc in
+      subst (λ (r : List ℕ). Takes (Joined how) text r) same (joined_more how text mid (all_segments how mid) (segment_takes how text mid e) (more_takes (length mid) how mid))
+] refl h
 
 -- What is spelled is read, up to its end or further.
 joined_goes : (how : Style) (s : List ℕ) (r : List ℕ) → Joined how s → (x : List ℕ) × (segment how (s ++ r) ≡ Some x) × ((n : ℕ) → length x ≤ n → Leaves r (more_segments n how x))
 unfolding next_segment
-joined_goes how s r (one h) = (tail_from how r r, segment_reads how s r h, λ n below. leaves_along r (tail_from how r r) (more_segments n how (tail_from how r r))
-    (takes_leaves (Tail how) r (tail_from how r r) (tail_takes how r)) (takes_leaves (MoreOf how) (tail_from how r r) (more_segments n how (tail_from how r r)) (more_takes n how (tail_from how r r))))
+joined_goes how s r (one h) = (
+  tail_from how r r,
+  segment_reads how s r h,
+  λ n below. leaves_along r (tail_from how r r) (more_segments n how (tail_from how r r))
+      (takes_leaves (Tail how) r (tail_from how r r) (tail_takes how r)) (takes_leaves (MoreOf how) (tail_from how r r) (more_segments n how (tail_from how r r)) (more_takes n how (tail_from how r r))),
+)
 joined_goes how s r (another front back h more e) =
     let next = joined_goes how back r more in
     let colons : List ℕ = 58 ∷ 58 ∷ (back ++ r) in
     let read : segment how (s ++ r) ≡ Some colons = ap (λ t. segment how (t ++ r)) e ∙ ap (segment how) (append_assoc front (58 ∷ 58 ∷ back) r) ∙ segment_reads how front colons h in
-    let shorter : length next.0 ≤ length (back ++ r) = takes_short (Segment how) (back ++ r) next.0 (segment_takes how (back ++ r) next.0 next.1) in
-    (colons, read, λ n. elim n as (λ k. length colons ≤ k → Leaves r (more_segments k how colons)) [
-      | zero ↦ λ below. absurd (omega arith)
-      | suc m ↦ λ below. subst (λ (t : List ℕ). Leaves r t) (sym (ap (go_on (more_segments m how) colons) next.1)) (next.2 m (omega arith))
-    ])
+    let shorter : length next.0 ≤ length (back ++ r) = takes_short (Segment how) (back ++ r) next.0 (segment_takes how (back ++ r) next.0 next.1) in (
+      colons,
+      read,
+      λ n. elim n as (λ k. length colons ≤ k → Leaves r (more_segments k how colons)) [
+        | zero ↦ λ below. absurd (omega arith)
+        | suc m ↦ λ below. subst (λ (t : List ℕ). Leaves r t) (sym (ap (go_on (more_segments m how) colons) next.1)) (next.2 m (omega arith))
+      ],
+    )
 
 pub joined_reaches : (how : Style) (s r : List ℕ) → Joined how s → (rest : List ℕ) × (joined how (s ++ r) ≡ Some rest) × Leaves r rest
 unfolding joined
@@ -195,9 +202,9 @@ joined_no_colons how s r h = let f = joined_first how s h in ap (λ t. after_col
 pub name_takes : (how : Style) (text rest : List ℕ) → name how text ≡ Some rest → Takes (Name how) text rest
 unfolding name
 name_takes how text rest h = elim (after_colons text) as (λ r. after_colons text ≡ r → name_behind how text r ≡ Some rest → Takes (Name how) text rest) [
-    | None ↦ λ e k. let t = joined_takes how text rest k in record { front = t.front; spelled = inl t.spelled; whole = t.whole }
-    | Some more ↦ λ e k. let t = joined_takes how more rest k in record { front = 58 ∷ 58 ∷ t.front; spelled = inr (t.front, refl, t.spelled); whole = colons_are text more e ∙ ap (λ u. 58 ∷ 58 ∷ u) t.whole }
-  ] refl h
+  | None ↦ λ e k. let t = joined_takes how text rest k in record { front = t.front; spelled = inl t.spelled; whole = t.whole }
+  | Some more ↦ λ e k. let t = joined_takes how more rest k in record { front = 58 ∷ 58 ∷ t.front; spelled = inr (t.front, refl, t.spelled); whole = colons_are text more e ∙ ap (λ u. 58 ∷ 58 ∷ u) t.whole }
+] refl h
 
 pub name_reaches : (how : Style) (s r : List ℕ) → Name how s → (rest : List ℕ) × (name how (s ++ r) ≡ Some rest) × Leaves r rest
 unfolding name

@@ -18,16 +18,16 @@ some_takes test b text e = let more = all_takes test text in record { front = b 
 digits_behind_takes : (text rest : List ℕ) → digits_behind text ≡ Some rest → Takes (SomeOf is_digit) text rest
 digits_behind_takes [] rest h = cc
 digits_behind_takes (d ∷ text) rest h = elim (is_digit d) as (λ v. is_digit d ≡ v → cond v (Some (after_all is_digit text)) None ≡ Some rest → Takes (SomeOf is_digit) (d ∷ text) rest) [
-    | true ↦ λ e k. let same : after_all is_digit text ≡ rest = cc in subst (λ (r : List ℕ). Takes (SomeOf is_digit) (d ∷ text) r) same (some_takes is_digit d text e)
-    | false ↦ λ e k. cc
-  ] refl h
+  | true ↦ λ e k. let same : after_all is_digit text ≡ rest = cc in subst (λ (r : List ℕ). Takes (SomeOf is_digit) (d ∷ text) r) same (some_takes is_digit d text e)
+  | false ↦ λ e k. cc
+] refl h
 
 hex_behind_takes : (text rest : List ℕ) → hex_behind text ≡ Some rest → Takes (SomeOf is_hex) text rest
 hex_behind_takes [] rest h = cc
 hex_behind_takes (d ∷ text) rest h = elim (is_hex d) as (λ v. is_hex d ≡ v → cond v (Some (after_all is_hex text)) None ≡ Some rest → Takes (SomeOf is_hex) (d ∷ text) rest) [
-    | true ↦ λ e k. let same : after_all is_hex text ≡ rest = cc in subst (λ (r : List ℕ). Takes (SomeOf is_hex) (d ∷ text) r) same (some_takes is_hex d text e)
-    | false ↦ λ e k. cc
-  ] refl h
+  | true ↦ λ e k. let same : after_all is_hex text ≡ rest = cc in subst (λ (r : List ℕ). Takes (SomeOf is_hex) (d ∷ text) r) same (some_takes is_hex d text e)
+  | false ↦ λ e k. cc
+] refl h
 
 abbrev DotDigits : List ℕ → Type 0
 DotDigits s = (digits : List ℕ) × (s ≡ 46 ∷ digits) × SomeOf is_digit digits
@@ -35,11 +35,11 @@ DotDigits s = (digits : List ℕ) × (s ≡ 46 ∷ digits) × SomeOf is_digit di
 fraction_takes : (text rest : List ℕ) → fraction text ≡ Some rest → Takes DotDigits text rest
 fraction_takes [] rest h = cc
 fraction_takes (b ∷ text) rest h = elim (b == 46) as (λ v. (b == 46) ≡ v → cond v (digits_behind text) None ≡ Some rest → Takes DotDigits (b ∷ text) rest) [
-    | true ↦ λ e k.
-        let t = digits_behind_takes text rest k in
-        record { front = 46 ∷ t.front; spelled = (t.front, refl, t.spelled); whole = ap (λ c. c ∷ text) (eqb-true b 46 e) ∙ ap (λ u. 46 ∷ u) t.whole }
-    | false ↦ λ e k. cc
-  ] refl h
+  | true ↦ λ e k.
+      let t = digits_behind_takes text rest k in
+      record { front = 46 ∷ t.front; spelled = (t.front, refl, t.spelled); whole = ap (λ c. c ∷ text) (eqb-true b 46 e) ∙ ap (λ u. 46 ∷ u) t.whole }
+  | false ↦ λ e k. cc
+] refl h
 
 fraction_short : (text rest : List ℕ) → fraction text ≡ Some rest → length rest < length text
 fraction_short text rest h = let t = fraction_takes text rest h in omega (arith, ap length t.whole, length-append t.front rest, ap length t.spelled.1)
@@ -55,9 +55,9 @@ zero_takes text = record { front = 48 ∷ []; spelled = only_zero refl; whole = 
 
 hex_or_zero : (x : ℕ) (text : List ℕ) → (x ≡ 120) ⊎ (x ≡ 88) → Takes IntText (48 ∷ x ∷ text) (unwrap_rest (x ∷ text) (hex_behind text))
 hex_or_zero x text h = elim (hex_behind text) as (λ r. hex_behind text ≡ r → Takes IntText (48 ∷ x ∷ text) (unwrap_rest (x ∷ text) r)) [
-    | None ↦ λ e. zero_takes (x ∷ text)
-    | Some rest ↦ λ e. let t = hex_behind_takes text rest e in record { front = 48 ∷ x ∷ t.front; spelled = hexadecimal x t.front refl h t.spelled; whole = ap (λ u. 48 ∷ x ∷ u) t.whole }
-  ] refl
+  | None ↦ λ e. zero_takes (x ∷ text)
+  | Some rest ↦ λ e. let t = hex_behind_takes text rest e in record { front = 48 ∷ x ∷ t.front; spelled = hexadecimal x t.front refl h t.spelled; whole = ap (λ u. 48 ∷ x ∷ u) t.whole }
+] refl
 
 is_x : (x : ℕ) → ((x == 120) || (x == 88)) ≡ true → (x ≡ 120) ⊎ (x ≡ 88)
 is_x x h = elim (or_cases (x == 120) (x == 88) h) [ inl e ↦ inl (eqb-true x 120 e) | inr e ↦ inr (eqb-true x 88 e) ]
@@ -65,15 +65,15 @@ is_x x h = elim (or_cases (x == 120) (x == 88) h) [ inl e ↦ inl (eqb-true x 12
 behind_zero : (text : List ℕ) → Takes IntText (48 ∷ text) (after_zero text)
 behind_zero [] = zero_takes []
 behind_zero (x ∷ text) = elim ((x == 120) || (x == 88)) as (λ v. ((x == 120) || (x == 88)) ≡ v → Takes IntText (48 ∷ x ∷ text) (cond v (unwrap_rest (x ∷ text) (hex_behind text)) (after_all is_octal (x ∷ text)))) [
-    | true ↦ λ e. hex_or_zero x text (is_x x e)
-    | false ↦ λ e. let t = all_takes is_octal (x ∷ text) in record { front = 48 ∷ t.front; spelled = octal_text t.front t.spelled; whole = ap (λ u. 48 ∷ u) t.whole }
-  ] refl
+  | true ↦ λ e. hex_or_zero x text (is_x x e)
+  | false ↦ λ e. let t = all_takes is_octal (x ∷ text) in record { front = 48 ∷ t.front; spelled = octal_text t.front t.spelled; whole = ap (λ u. 48 ∷ u) t.whole }
+] refl
 
 int_takes : (b : ℕ) (text : List ℕ) → is_digit b ≡ true → Takes IntText (b ∷ text) (after_int (b ∷ text))
 int_takes b text d = elim (b == 48) as (λ v. (b == 48) ≡ v → Takes IntText (b ∷ text) (cond v (after_zero text) (after_all is_digit text))) [
-    | true ↦ λ e. subst (λ c. Takes IntText (c ∷ text) (after_zero text)) (sym (eqb-true b 48 e)) (behind_zero text)
-    | false ↦ λ e. let t = all_takes is_digit text in record { front = b ∷ t.front; spelled = decimal b t.front refl (eqb-false b 48 e) d t.spelled; whole = ap (λ u. b ∷ u) t.whole }
-  ] refl
+  | true ↦ λ e. subst (λ c. Takes IntText (c ∷ text) (after_zero text)) (sym (eqb-true b 48 e)) (behind_zero text)
+  | false ↦ λ e. let t = all_takes is_digit text in record { front = b ∷ t.front; spelled = decimal b t.front refl (eqb-false b 48 e) d t.spelled; whole = ap (λ u. b ∷ u) t.whole }
+] refl
 
 -- ---- both
 
@@ -94,13 +94,13 @@ float_takes b text rest d h =
 
 number_step : (b : ℕ) (text : List ℕ) (x : Kind × List ℕ) → is_digit b ≡ true → int_or_float (b ∷ text) (fraction (after_all is_digit text)) ≡ Some x → Takes (NumberText x.0) (b ∷ text) x.1
 number_step b text x d h = elim (fraction (after_all is_digit text)) as (λ r. fraction (after_all is_digit text) ≡ r → int_or_float (b ∷ text) r ≡ Some x → Takes (NumberText x.0) (b ∷ text) x.1) [
-    | None ↦ λ e k.
-        let same : ◌≡◌ {A = Kind × List ℕ} (kind.Int, after_int (b ∷ text)) x = cc in
-        subst (λ (y : Kind × List ℕ). Takes (NumberText y.0) (b ∷ text) y.1) same (int_takes b text d)
-    | Some rest ↦ λ e k.
-        let same : ◌≡◌ {A = Kind × List ℕ} (kind.Float, rest) x = cc in
-        subst (λ (y : Kind × List ℕ). Takes (NumberText y.0) (b ∷ text) y.1) same (float_takes b text rest d e)
-  ] refl h
+  | None ↦ λ e k.
+      let same : ◌≡◌ {A = Kind × List ℕ} (kind.Int, after_int (b ∷ text)) x = cc in
+      subst (λ (y : Kind × List ℕ). Takes (NumberText y.0) (b ∷ text) y.1) same (int_takes b text d)
+  | Some rest ↦ λ e k.
+      let same : ◌≡◌ {A = Kind × List ℕ} (kind.Float, rest) x = cc in
+      subst (λ (y : Kind × List ℕ). Takes (NumberText y.0) (b ∷ text) y.1) same (float_takes b text rest d e)
+] refl h
 
 pub number_takes : (b : ℕ) (text : List ℕ) (x : Kind × List ℕ) → is_digit b ≡ true → number (b ∷ text) ≡ Some x → Takes (NumberText x.0) (b ∷ text) x.1
 unfolding number
@@ -120,16 +120,16 @@ octal_no_x b h = grind (arith, nat_tests)
 
 hex_leaves : (x : ℕ) (text : List ℕ) → Leaves (x ∷ text) (unwrap_rest (x ∷ text) (hex_behind text))
 hex_leaves x text = elim (hex_behind text) as (λ r. hex_behind text ≡ r → Leaves (x ∷ text) (unwrap_rest (x ∷ text) r)) [
-    | None ↦ λ e. inr refl
-    | Some rest ↦ λ e. inl (omega (arith, takes_short (SomeOf is_hex) text rest (hex_behind_takes text rest e)))
-  ] refl
+  | None ↦ λ e. inr refl
+  | Some rest ↦ λ e. inl (omega (arith, takes_short (SomeOf is_hex) text rest (hex_behind_takes text rest e)))
+] refl
 
 zero_leaves : (r : List ℕ) → Leaves r (after_zero r)
 zero_leaves [] = inr refl
 zero_leaves (x ∷ text) = elim ((x == 120) || (x == 88)) as (λ v. Leaves (x ∷ text) (cond v (unwrap_rest (x ∷ text) (hex_behind text)) (after_all is_octal (x ∷ text)))) [
-    | true ↦ hex_leaves x text
-    | false ↦ takes_leaves (Of is_octal) (x ∷ text) (after_all is_octal (x ∷ text)) (all_takes is_octal (x ∷ text))
-  ]
+  | true ↦ hex_leaves x text
+  | false ↦ takes_leaves (Of is_octal) (x ∷ text) (after_all is_octal (x ∷ text)) (all_takes is_octal (x ∷ text))
+]
 
 all_leaves : (test : ℕ → Bool) (s r : List ℕ) → Of test s → Leaves r (after_all test (s ++ r))
 all_leaves test s r h = subst (λ (t : List ℕ). Leaves r t) (sym (all_append test s r h)) (takes_leaves (Of test) r (after_all test r) (all_takes test r))
@@ -179,9 +179,9 @@ int_fraction s r rest (hexadecimal x more e is m) h = hex_fraction x more r rest
 pub int_goes : (s r : List ℕ) → IntText s → Goes kind.Int r (number (s ++ r))
 unfolding number
 int_goes s r h = elim (fraction (after_all is_digit (s ++ r))) as (λ v. fraction (after_all is_digit (s ++ r)) ≡ v → Goes kind.Int r (int_or_float (s ++ r) v)) [
-    | None ↦ λ e. goes_by kind.Int r (after_int (s ++ r)) (int_or_float (s ++ r) None) refl (int_leaves s r h)
-    | Some rest ↦ λ e. goes_far kind.Float kind.Int r rest (int_or_float (s ++ r) (Some rest)) refl (int_fraction s r rest h e)
-  ] refl
+  | None ↦ λ e. goes_by kind.Int r (after_int (s ++ r)) (int_or_float (s ++ r) None) refl (int_leaves s r h)
+  | Some rest ↦ λ e. goes_far kind.Float kind.Int r rest (int_or_float (s ++ r) (Some rest)) refl (int_fraction s r rest h e)
+] refl
 
 digits_read : (digits r : List ℕ) → SomeOf is_digit digits → digits_behind (digits ++ r) ≡ Some (after_all is_digit r)
 digits_read [] r h = absurd h

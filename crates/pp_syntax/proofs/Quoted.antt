@@ -22,12 +22,12 @@ use Rattle.pp_syntax.proofs.Signs.{either_found}
 opens_is : (text : List ℕ) → opens text ≡ true → Opens text
 unfolding opens
 opens_is text h = elim (or_cases (begins_with 123 text) (is_some (name style.Var text)) h) [
-    | inl e ↦ inl (begins_is 123 text e)
-    | inr e ↦ elim (name style.Var text) as (λ r. name style.Var text ≡ r → is_some r ≡ true → Opens text) [
-      | None ↦ λ f g. cc
-      | Some rest ↦ λ f g. let t = name_takes style.Var text rest f in inr (t.front, rest, t.spelled, t.whole)
-    ] refl e
-  ]
+  | inl e ↦ inl (begins_is 123 text e)
+  | inr e ↦ elim (name style.Var text) as (λ r. name style.Var text ≡ r → is_some r ≡ true → Opens text) [
+    | None ↦ λ f g. cc
+    | Some rest ↦ λ f g. let t = name_takes style.Var text rest f in inr (t.front, rest, t.spelled, t.whole)
+  ] refl e
+]
 
 opens_test : (text : List ℕ) → Opens text → opens text ≡ true
 unfolding opens
@@ -69,24 +69,24 @@ plain_piece b text n rest p q r e more = (b ∷ more.0, plain b more.0 refl p q 
 unit_piece : (b : ℕ) (text : List ℕ) (n : ℕ) (rest : List ℕ) → unit_len b text ≡ Some n → Piece (drop n text) rest → Piece (b ∷ text) rest
 unfolding unit_len
 unit_piece b text n rest h more = elim (b == 34) as (λ v. (b == 34) ≡ v → cond v None (cond (b == 36) (cond (opens text) None (Some 0)) (cond (b == 92) (escape_len text) (Some 0))) ≡ Some n → Piece (b ∷ text) rest) [
-    | true ↦ λ e k. cc
-    | false ↦ λ e k. elim (b == 36) as (λ v. (b == 36) ≡ v → cond v (cond (opens text) None (Some 0)) (cond (b == 92) (escape_len text) (Some 0)) ≡ Some n → Piece (b ∷ text) rest) [
-      | true ↦ λ f l. dollar_piece b text n rest (opens text) (eqb-true b 36 f) refl l more
-      | false ↦ λ f l. elim (b == 92) as (λ v. (b == 92) ≡ v → cond v (escape_len text) (Some 0) ≡ Some n → Piece (b ∷ text) rest) [
-        | true ↦ λ g m. subst (λ c. Piece (c ∷ text) rest) (sym (eqb-true b 92 g)) (escaped_piece text n rest (escape_found text n m) more)
-        | false ↦ λ g m. plain_piece b text n rest (eqb-false b 34 e) (eqb-false b 36 f) (eqb-false b 92 g) (cc) more
-      ] refl l
-    ] refl k
-  ] refl h
+  | true ↦ λ e k. cc
+  | false ↦ λ e k. elim (b == 36) as (λ v. (b == 36) ≡ v → cond v (cond (opens text) None (Some 0)) (cond (b == 92) (escape_len text) (Some 0)) ≡ Some n → Piece (b ∷ text) rest) [
+    | true ↦ λ f l. dollar_piece b text n rest (opens text) (eqb-true b 36 f) refl l more
+    | false ↦ λ f l. elim (b == 92) as (λ v. (b == 92) ≡ v → cond v (escape_len text) (Some 0) ≡ Some n → Piece (b ∷ text) rest) [
+      | true ↦ λ g m. subst (λ c. Piece (c ∷ text) rest) (sym (eqb-true b 92 g)) (escaped_piece text n rest (escape_found text n m) more)
+      | false ↦ λ g m. plain_piece b text n rest (eqb-false b 34 e) (eqb-false b 36 f) (eqb-false b 92 g) (cc) more
+    ] refl l
+  ] refl k
+] refl h
 
 pub text_takes : (n : ℕ) (text : List ℕ) → Piece (drop n text) (text_from n text)
 text_takes zero [] = ([], nothing refl, refl)
 text_takes (suc n) [] = ([], nothing refl, refl)
 text_takes (suc n) (b ∷ text) = text_takes n text
 text_takes zero (b ∷ text) = elim (unit_len b text) as (λ r. unit_len b text ≡ r → Piece (b ∷ text) (past_unit (λ n. text_from n text) (b ∷ text) r)) [
-    | None ↦ λ e. ([], nothing refl, refl)
-    | Some n ↦ λ e. unit_piece b text n (text_from n text) e (text_takes n text)
-  ] refl
+  | None ↦ λ e. ([], nothing refl, refl)
+  | Some n ↦ λ e. unit_piece b text n (text_from n text) e (text_takes n text)
+] refl
 
 -- ---- and again
 

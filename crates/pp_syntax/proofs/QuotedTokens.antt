@@ -33,36 +33,36 @@ piece_code text x h =
 hole_is : (text rest : List ℕ) → hole text ≡ Some rest → text ≡ 123 ∷ rest
 hole_is [] rest h = cc
 hole_is (b ∷ text) rest h = elim (b == 123) as (λ v. (b == 123) ≡ v → cond v (Some text) None ≡ Some rest → b ∷ text ≡ 123 ∷ rest) [
-    | true ↦ λ e k. let first = eqb-true b 123 e in cc
-    | false ↦ λ e k. cc
-  ] refl h
+  | true ↦ λ e k. let first = eqb-true b 123 e in cc
+  | false ↦ λ e k. cc
+] refl h
 
 hole_code : (text : List ℕ) → InText (of_kind kind.Hole (hole text)) (36 ∷ text)
 hole_code text x h = elim (hole text) as (λ r. hole text ≡ r → of_kind kind.Hole r ≡ Some x → Takes (λ s. InQuotes x.0 s x.1) (36 ∷ text) x.1) [
-    | None ↦ λ e f. cc
-    | Some rest ↦ λ e f.
-        let same : ◌≡◌ {A = Kind × List ℕ} (kind.Hole, rest) x = cc in
-        subst (λ (y : Kind × List ℕ). Takes (λ s. InQuotes y.0 s y.1) (36 ∷ text) y.1) same (record { front = 36 ∷ 123 ∷ []; spelled = refl; whole = ap (λ t. 36 ∷ t) (hole_is text rest e) })
-  ] refl h
+  | None ↦ λ e f. cc
+  | Some rest ↦ λ e f.
+      let same : ◌≡◌ {A = Kind × List ℕ} (kind.Hole, rest) x = cc in
+      subst (λ (y : Kind × List ℕ). Takes (λ s. InQuotes y.0 s y.1) (36 ∷ text) y.1) same (record { front = 36 ∷ 123 ∷ []; spelled = refl; whole = ap (λ t. 36 ∷ t) (hole_is text rest e) })
+] refl h
 
 var_code : (text : List ℕ) → InText (of_kind kind.DqVar (name style.Var text)) (36 ∷ text)
 var_code text x h = elim (name style.Var text) as (λ r. name style.Var text ≡ r → of_kind kind.DqVar r ≡ Some x → Takes (λ s. InQuotes x.0 s x.1) (36 ∷ text) x.1) [
-    | None ↦ λ e f. cc
-    | Some rest ↦ λ e f.
-        let same : ◌≡◌ {A = Kind × List ℕ} (kind.DqVar, rest) x = cc in
-        let t = name_takes style.Var text rest e in
-        subst (λ (y : Kind × List ℕ). Takes (λ s. InQuotes y.0 s y.1) (36 ∷ text) y.1) same (record { front = 36 ∷ t.front; spelled = (t.front, refl, t.spelled); whole = ap (λ u. 36 ∷ u) t.whole })
-  ] refl h
+  | None ↦ λ e f. cc
+  | Some rest ↦ λ e f.
+      let same : ◌≡◌ {A = Kind × List ℕ} (kind.DqVar, rest) x = cc in
+      let t = name_takes style.Var text rest e in
+      subst (λ (y : Kind × List ℕ). Takes (λ s. InQuotes y.0 s y.1) (36 ∷ text) y.1) same (record { front = 36 ∷ t.front; spelled = (t.front, refl, t.spelled); whole = ap (λ u. 36 ∷ u) t.whole })
+] refl h
 
 dollar_code : (text : List ℕ) → InText (scanning.dollar text) (36 ∷ text)
 unfolding scanning.dollar
 dollar_code text x h = elim (either_found (of_kind kind.Hole (hole text)) (or_else (of_kind kind.DqVar (name style.Var text)) (piece (36 ∷ text))) x h) [
-    | inl e ↦ hole_code text x e
-    | inr e ↦ elim (either_found (of_kind kind.DqVar (name style.Var text)) (piece (36 ∷ text)) x e.1) [
-      | inl f ↦ var_code text x f
-      | inr f ↦ piece_code (36 ∷ text) x f.1
-    ]
+  | inl e ↦ hole_code text x e
+  | inr e ↦ elim (either_found (of_kind kind.DqVar (name style.Var text)) (piece (36 ∷ text)) x e.1) [
+    | inl f ↦ var_code text x f
+    | inr f ↦ piece_code (36 ∷ text) x f.1
   ]
+]
 
 close_code : (b : ℕ) (rest : List ℕ) → b ≡ 34 → InText (Some (kind.DqClose, rest)) (b ∷ rest)
 close_code b rest e x h =
@@ -73,12 +73,12 @@ pub quoted_takes : (text : List ℕ) → InText (quoted_token text) text
 unfolding quoted_token
 quoted_takes [] x h = cc
 quoted_takes (b ∷ rest) x h = elim (b == 34) as (λ v. (b == 34) ≡ v → cond v (Some (kind.DqClose, rest)) (cond (b == 36) (scanning.dollar rest) (piece (b ∷ rest))) ≡ Some x → Takes (λ s. InQuotes x.0 s x.1) (b ∷ rest) x.1) [
-    | true ↦ λ e k. close_code b rest (eqb-true b 34 e) x k
-    | false ↦ λ e k. elim (b == 36) as (λ v. (b == 36) ≡ v → cond v (scanning.dollar rest) (piece (b ∷ rest)) ≡ Some x → Takes (λ s. InQuotes x.0 s x.1) (b ∷ rest) x.1) [
-      | true ↦ λ f l. subst (λ c. Takes (λ s. InQuotes x.0 s x.1) (c ∷ rest) x.1) (sym (eqb-true b 36 f)) (dollar_code rest x l)
-      | false ↦ λ f l. piece_code (b ∷ rest) x l
-    ] refl k
-  ] refl h
+  | true ↦ λ e k. close_code b rest (eqb-true b 34 e) x k
+  | false ↦ λ e k. elim (b == 36) as (λ v. (b == 36) ≡ v → cond v (scanning.dollar rest) (piece (b ∷ rest)) ≡ Some x → Takes (λ s. InQuotes x.0 s x.1) (b ∷ rest) x.1) [
+    | true ↦ λ f l. subst (λ c. Takes (λ s. InQuotes x.0 s x.1) (c ∷ rest) x.1) (sym (eqb-true b 36 f)) (dollar_code rest x l)
+    | false ↦ λ f l. piece_code (b ∷ rest) x l
+  ] refl k
+] refl h
 
 -- ---- and again
 
@@ -129,9 +129,9 @@ no_hole_opens text n = elim (hole text) as (λ r. hole text ≡ r → r ≡ None
 
 no_var_opens : (text : List ℕ) → ¬ (Opens text) → name style.Var text ≡ None
 no_var_opens text n = elim (name style.Var text) as (λ r. name style.Var text ≡ r → r ≡ None) [
-    | None ↦ λ e. refl
-    | Some rest ↦ λ e. let t = name_takes style.Var text rest e in absurd (n (inr (t.front, rest, t.spelled, t.whole)))
-  ] refl
+  | None ↦ λ e. refl
+  | Some rest ↦ λ e. let t = name_takes style.Var text rest e in absurd (n (inr (t.front, rest, t.spelled, t.whole)))
+] refl
 
 dollar_text : (text : List ℕ) → ¬ (Opens text) → scanning.dollar text ≡ piece (36 ∷ text)
 unfolding scanning.dollar

@@ -53,12 +53,12 @@ at_gap p text s rest e h = gap_step p text rest (ap (gap_at p) e ∙ gap_at_read
 
 no_gap_with : (p : Place) (text : List ℕ) (x : Kind × List ℕ) → token_at p text ≡ Some x → gap_at p text ≡ None
 no_gap_with p text x h = elim (gap_at p text) as (λ g. gap_at p text ≡ g → g ≡ None) [
-    | None ↦ λ e. refl
-    | Some rest ↦ λ e.
-        let t = gap_at_takes p text rest e in
-        let none : token_at p text ≡ None = ap (token_at p) t.whole ∙ gap_at_no_token p t.front rest t.spelled in
-        absurd (none_some x (sym none ∙ h))
-  ] refl
+  | None ↦ λ e. refl
+  | Some rest ↦ λ e.
+      let t = gap_at_takes p text rest e in
+      let none : token_at p text ≡ None = ap (token_at p) t.whole ∙ gap_at_no_token p t.front rest t.spelled in
+      absurd (none_some x (sym none ∙ h))
+] refl
   where
     none_some : (x : Kind × List ℕ) → ◌≡◌ {A = Found} None (Some x) → ⊥
     none_some x e = cc
@@ -70,15 +70,15 @@ at_token p text k s rest e h =
 
 no_gap : (p : Place) (text : List ℕ) → ((s rest : List ℕ) → text ≡ s ++ rest → ¬ (GapAt p s rest)) → gap_at p text ≡ None
 no_gap p text n = elim (gap_at p text) as (λ g. gap_at p text ≡ g → g ≡ None) [
-    | None ↦ λ e. refl
-    | Some rest ↦ λ e. let t = gap_at_takes p text rest e in absurd (n t.front rest t.whole t.spelled)
-  ] refl
+  | None ↦ λ e. refl
+  | Some rest ↦ λ e. let t = gap_at_takes p text rest e in absurd (n t.front rest t.whole t.spelled)
+] refl
 
 no_token : (p : Place) (text : List ℕ) → ((k : Kind) (s rest : List ℕ) → text ≡ s ++ rest → ¬ (TokenAt p k s rest)) → token_at p text ≡ None
 no_token p text n = elim (token_at p text) as (λ f. token_at p text ≡ f → f ≡ None) [
-    | None ↦ λ e. refl
-    | Some x ↦ λ e. let t = token_takes p text x.0 x.1 e in absurd (n x.0 t.front x.1 t.whole t.spelled)
-  ] refl
+  | None ↦ λ e. refl
+  | Some x ↦ λ e. let t = token_takes p text x.0 x.1 e in absurd (n x.0 t.front x.1 t.whole t.spelled)
+] refl
 
 at_stuck : (p : Place) (text : List ℕ) → text ≢ [] → ((s rest : List ℕ) → text ≡ s ++ rest → ¬ (GapAt p s rest)) → ((k : Kind) (s rest : List ℕ) → text ≡ s ++ rest → ¬ (TokenAt p k s rest)) → step_at p text ≡ Nothing
 at_stuck p text some g t = nothing_step p text some (no_gap p text g) (no_token p text t)

@@ -198,24 +198,24 @@ gap_seam s rest (block body e h) = inl (subst (λ (t : List ℕ). LastAscii t) (
 stop_first : (b : ℕ) (text : List ℕ) → unit_len b text ≡ None → b < 128
 unfolding unit_len
 stop_first b text h = elim (b == 34) as (λ v. (b == 34) ≡ v → cond v None (cond (b == 36) (cond (opens text) None (Some 0)) (cond (b == 92) (escape_len text) (Some 0))) ≡ None → b < 128) [
-    | true ↦ λ e k. omega (arith, eqb-true b 34 e)
-    | false ↦ λ e k. elim (b == 36) as (λ v. (b == 36) ≡ v → cond v (cond (opens text) None (Some 0)) (cond (b == 92) (escape_len text) (Some 0)) ≡ None → b < 128) [
-      | true ↦ λ f l. omega (arith, eqb-true b 36 f)
-      | false ↦ λ f l. elim (b == 92) as (λ v. (b == 92) ≡ v → cond v (escape_len text) (Some 0) ≡ None → b < 128) [
-        | true ↦ λ g m. omega (arith, eqb-true b 92 g)
-        | false ↦ λ g m. cc
-      ] refl l
-    ] refl k
-  ] refl h
+  | true ↦ λ e k. omega (arith, eqb-true b 34 e)
+  | false ↦ λ e k. elim (b == 36) as (λ v. (b == 36) ≡ v → cond v (cond (opens text) None (Some 0)) (cond (b == 92) (escape_len text) (Some 0)) ≡ None → b < 128) [
+    | true ↦ λ f l. omega (arith, eqb-true b 36 f)
+    | false ↦ λ f l. elim (b == 92) as (λ v. (b == 92) ≡ v → cond v (escape_len text) (Some 0) ≡ None → b < 128) [
+      | true ↦ λ g m. omega (arith, eqb-true b 92 g)
+      | false ↦ λ g m. cc
+    ] refl l
+  ] refl k
+] refl h
 
 pub text_first : (n : ℕ) (text : List ℕ) → FirstAscii (text_from n text)
 text_first zero [] = tt
 text_first (suc n) [] = tt
 text_first (suc n) (b ∷ text) = text_first n text
 text_first zero (b ∷ text) = elim (unit_len b text) as (λ r. unit_len b text ≡ r → FirstAscii (past_unit (λ n. text_from n text) (b ∷ text) r)) [
-    | None ↦ λ e. stop_first b text e
-    | Some n ↦ λ e. text_first n text
-  ] refl
+  | None ↦ λ e. stop_first b text e
+  | Some n ↦ λ e. text_first n text
+] refl
 
 -- A piece of text goes up to an ASCII byte.
 abbrev PieceFirst : Found → Type 0
@@ -237,23 +237,23 @@ other_first k (Some t) n rest h = absurd (n (ap (λ (y : Kind × List ℕ). y.0)
 dollar_first : (text : List ℕ) → PieceFirst (scanning.dollar text)
 unfolding scanning.dollar
 dollar_first text rest h = elim (either_found (of_kind kind.Hole (hole text)) (or_else (of_kind kind.DqVar (name style.Var text)) (piece (36 ∷ text))) (kind.DqText, rest) h) [
-    | inl e ↦ other_first kind.Hole (hole text) (λ f. cc) rest e
-    | inr e ↦ elim (either_found (of_kind kind.DqVar (name style.Var text)) (piece (36 ∷ text)) (kind.DqText, rest) e.1) [
-      | inl f ↦ other_first kind.DqVar (name style.Var text) (λ g. cc) rest f
-      | inr f ↦ piece_first (36 ∷ text) rest f.1
-    ]
+  | inl e ↦ other_first kind.Hole (hole text) (λ f. cc) rest e
+  | inr e ↦ elim (either_found (of_kind kind.DqVar (name style.Var text)) (piece (36 ∷ text)) (kind.DqText, rest) e.1) [
+    | inl f ↦ other_first kind.DqVar (name style.Var text) (λ g. cc) rest f
+    | inr f ↦ piece_first (36 ∷ text) rest f.1
   ]
+]
 
 pub quoted_first : (text : List ℕ) → PieceFirst (quoted_token text)
 unfolding quoted_token
 quoted_first [] rest h = cc
 quoted_first (b ∷ text) rest h = elim (b == 34) as (λ v. cond v (Some (kind.DqClose, text)) (cond (b == 36) (scanning.dollar text) (piece (b ∷ text))) ≡ Some (kind.DqText, rest) → FirstAscii rest) [
-    | true ↦ λ k. other_first kind.DqClose (Some text) (λ f. cc) rest k
-    | false ↦ λ k. elim (b == 36) as (λ v. cond v (scanning.dollar text) (piece (b ∷ text)) ≡ Some (kind.DqText, rest) → FirstAscii rest) [
-      | true ↦ λ l. dollar_first text rest l
-      | false ↦ λ l. piece_first (b ∷ text) rest l
-    ] k
-  ] h
+  | true ↦ λ k. other_first kind.DqClose (Some text) (λ f. cc) rest k
+  | false ↦ λ k. elim (b == 36) as (λ v. cond v (scanning.dollar text) (piece (b ∷ text)) ≡ Some (kind.DqText, rest) → FirstAscii rest) [
+    | true ↦ λ l. dollar_first text rest l
+    | false ↦ λ l. piece_first (b ∷ text) rest l
+  ] k
+] h
 
 pub quoted_seam : (k : Kind) (text s rest : List ℕ) → quoted_token text ≡ Some (k, rest) → InQuotes k s rest → Seam s rest
 quoted_seam kind.DqText text s rest e h = inr (quoted_first text rest e)

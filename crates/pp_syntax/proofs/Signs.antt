@@ -23,9 +23,9 @@ all_pass test (t ∷ texts) = test t && all_pass test texts
 pub of_each : (test : List ℕ → Bool) (texts : List (List ℕ)) (s : List ℕ) → all_pass test texts ≡ true → is_among texts s ≡ true → test s ≡ true
 of_each test [] s all h = cc
 of_each test (t ∷ texts) s all h = elim (or_cases (bytes_eq t s) (is_among texts s) h) [
-    | inl e ↦ ap test (sym ((bytes_eq-Decides t s).0 e)) ∙ (and_parts (test t) (all_pass test texts) all).0
-    | inr more ↦ of_each test texts s (and_parts (test t) (all_pass test texts) all).1 more
-  ]
+  | inl e ↦ ap test (sym ((bytes_eq-Decides t s).0 e)) ∙ (and_parts (test t) (all_pass test texts) all).0
+  | inr more ↦ of_each test texts s (and_parts (test t) (all_pass test texts) all).1 more
+]
 
 abbrev pub SignText : Kind → List ℕ → Type 0
 SignText kind.Sign s = is_among signs s ≡ true
@@ -71,12 +71,12 @@ either_found (Some y) g x h = inl h
 pub sign_takes : (text : List ℕ) (x : Kind × List ℕ) → sign text ≡ Some x → Takes (SignText x.0) text x.1
 unfolding sign
 sign_takes text x h = elim (either_found (three_bytes text) (or_else (two_bytes text) (one_byte text)) x h) [
-    | inl e ↦ three_takes text x e
-    | inr e ↦ elim (either_found (two_bytes text) (one_byte text) x e.1) [
-      | inl f ↦ two_takes text x f
-      | inr f ↦ one_takes text x f.1
-    ]
+  | inl e ↦ three_takes text x e
+  | inr e ↦ elim (either_found (two_bytes text) (one_byte text) x e.1) [
+    | inl f ↦ two_takes text x f
+    | inr f ↦ one_takes text x f.1
   ]
+]
 
 -- ---- and again
 

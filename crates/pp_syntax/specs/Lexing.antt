@@ -39,4 +39,3 @@ pub record Cut (text rest : List ℕ) : Type 0 where
   pub back : drop (length text - length rest) text ≡ rest
   pub shorter : length rest < length text
   pub size : length (take (length text - length rest) text) + length rest ≡ length text
-

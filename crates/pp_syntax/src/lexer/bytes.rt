@@ -48,10 +48,7 @@ pub fn is_hex(b: u8) -> bool
 pub fn is_name(b: u8) -> bool
     ensures { result ≡ is_name b }
 {
-    (b >= b'a' && b <= b'z')
-        || (b >= b'A' && b <= b'Z')
-        || (b >= b'0' && b <= b'9')
-        || b == b'_'
+    (b >= b'a' && b <= b'z') || (b >= b'A' && b <= b'Z') || (b >= b'0' && b <= b'9') || b == b'_'
 }
 
 pub fn digit_of(b: u8) -> u8

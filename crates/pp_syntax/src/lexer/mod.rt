@@ -61,7 +61,11 @@ fn tokens_of(alloc: Global, source: &str) -> Result<Vec<Token<'_>>, Fault>
     ensures refused { IfErr result (λ e. IfRefused e (IsLexicalRefusal source.now)) }
 {
     let mut tokens = Vec::new(alloc);
-    let mut place = Place { at: 0, opened: Stack::new(alloc), tight: false };
+    let mut place = Place {
+        at: 0,
+        opened: Stack::new(alloc),
+        tight: false,
+    };
     let mut rest = source;
     while !rest.is_empty() {
         if let Some(behind) = place.gap(rest.as_bytes()) {
@@ -109,5 +113,7 @@ pub fn one_spelling()
     ensures tokens { (text : List ℕ) (ts us : List Lexeme) → Spells text ts → Spells text us → ts ≡ us }
     ensures either { (text : List ℕ) (ts : List Lexeme) (at : ℕ) → Spells text ts → FailsAt text at → ⊥ }
     ensures place { (text : List ℕ) (m n : ℕ) → FailsAt text m → FailsAt text n → m ≡ n }
-{
-}
+{}
+
+#[cfg(test)]
+mod tests;

@@ -29,7 +29,11 @@ impl Place {
             return if self.tight { Kind::Tight } else { Kind::Loose };
         }
         if text == b"}".as_slice() {
-            return if self.opened.in_hole() { Kind::HoleEnd } else { Kind::Sign };
+            return if self.opened.in_hole() {
+                Kind::HoleEnd
+            } else {
+                Kind::Sign
+            };
         }
         Kind::Sign
     }

@@ -59,7 +59,11 @@ fn braced_len(text: &[u8]) -> Option<usize>
     let fits = count > 0 && count <= 6;
     let closed = begins_with(rest, b'}');
     let scalar = are_scalar(digits);
-    if fits && closed && scalar { Some(count + 1) } else { None }
+    if fits && closed && scalar {
+        Some(count + 1)
+    } else {
+        None
+    }
 }
 
 #[tactic(auto, unfolding(crate::specs::Scanning::four_len))]
@@ -71,7 +75,11 @@ fn four_len(text: &[u8]) -> Option<usize>
             let first = is_hex(*a) && is_hex(*b);
             let second = is_hex(*c) && is_hex(*d);
             let scalar = are_scalar(&[*a, *b, *c, *d]);
-            if first && second && scalar { Some(5) } else { None }
+            if first && second && scalar {
+                Some(5)
+            } else {
+                None
+            }
         }
         _ => None,
     }
@@ -95,7 +103,11 @@ fn escape_len(text: &[u8]) -> Option<usize>
         [] => Some(0),
         [b'u', more @ ..] => unicode_len(more),
         [c, ..] => {
-            if is_simple_escape(*c) { Some(1) } else { Some(0) }
+            if is_simple_escape(*c) {
+                Some(1)
+            } else {
+                Some(0)
+            }
         }
     }
 }
@@ -118,9 +130,7 @@ fn unit_len(b: u8, text: &[u8]) -> Option<usize>
 {
     match b {
         b'"' => None,
-        b'$' => {
-            if opens(text) { None } else { Some(0) }
-        }
+        b'$' => { if opens(text) { None } else { Some(0) } }
         b'\\' => escape_len(text),
         _ => Some(0),
     }

@@ -6,8 +6,22 @@ ghost use Rattle.pp_syntax.specs.Scanning.{sign_of, one_byte, two_bytes, three_b
 use crate::token::Kind;
 
 const KEYWORDS: [&[u8]; 16] = [
-    b"and", b"or", b"in", b"if", b"elsif", b"else", b"unless", b"case", b"default", b"class",
-    b"define", b"inherits", b"node", b"undef", b"true", b"false",
+    b"and",
+    b"or",
+    b"in",
+    b"if",
+    b"elsif",
+    b"else",
+    b"unless",
+    b"case",
+    b"default",
+    b"class",
+    b"define",
+    b"inherits",
+    b"node",
+    b"undef",
+    b"true",
+    b"false",
 ];
 
 const SIGNS: [&[u8]; 29] = [
