@@ -1,3 +1,5 @@
+ghost use Rattle.std.specs.Prelude.{◌<◌};
+
 use crate::{
     Boxed, Fault, Fetched, FileShelf, MemoryShelf, MemorySink, NoMemory, Refusal, Seq, Shelf,
     ShelfFault, Sink, SinkFault, StdSink, SureShelf, SureSink, Text,
@@ -108,26 +110,41 @@ fn sinks_in_memory_keep_what_is_put(rt: HostRuntime) -> Result<(), Fail> {
 }
 
 #[test]
-fn files_and_streams_of_the_system(rt: HostRuntime) -> Result<(), Fail> {
-    let alloc = rt.alloc();
-    fs::write(&rt, "shelved.txt", "0123456789")?;
+fn streams_of_the_system(rt: HostRuntime) {
     let mut out = StdSink::new(rt.stdout());
     assert_eq!(rt; out.put(b""), Ok(()));
     assert_eq!(rt; out.put(b"a line on standard output\n"), Ok(()));
+}
+
+/// What a fetch answers, and what it read.
+fn fetched<S: Shelf>(
+    shelf: &mut S,
+    alloc: Global,
+    name: &str,
+    limit: usize,
+) -> (Result<Fetched, ShelfFault>, Vec<u8>)
+    requires { limit < usize.MAX }
+{
+    let mut into = Vec::new(alloc);
+    let answer = shelf.fetch(name, limit, &mut into);
+    (answer, into)
+}
+
+#[test]
+fn files_of_the_system(rt: HostRuntime) -> Result<(), Fail> {
+    let alloc = rt.alloc();
+    fs::write(&rt, "shelved.txt", "0123456789")?;
     let mut shelf = FileShelf::new(rt);
-    let mut whole = Vec::new(alloc);
-    let fetched = shelf.fetch("shelved.txt", 10, &mut whole);
-    let mut longer = Vec::new(alloc);
-    let more = shelf.fetch("shelved.txt", 9, &mut longer);
-    let mut none = Vec::new(alloc);
-    let missing = shelf.fetch("no such file", 9, &mut none);
-    let folder = shelf.fetch(".", 9, &mut none);
-    if fetched != Ok(Fetched::Whole) || whole.as_slice() != b"0123456789".as_slice() {
+    let (answer, whole) = fetched(&mut shelf, alloc, "shelved.txt", 10);
+    if answer != Ok(Fetched::Whole) || whole.as_slice() != b"0123456789".as_slice() {
         return Err(Fail::from("a file within the limit is read whole"));
     }
-    if more != Ok(Fetched::Longer) || !longer.is_empty() {
+    let (answer, none) = fetched(&mut shelf, alloc, "shelved.txt", 9);
+    if answer != Ok(Fetched::Longer) || !none.is_empty() {
         return Err(Fail::from("a longer file gives nothing"));
     }
+    let (missing, _) = fetched(&mut shelf, alloc, "no such file", 9);
+    let (folder, _) = fetched(&mut shelf, alloc, ".", 9);
     if missing != Err(ShelfFault::Failed) || folder != Err(ShelfFault::Failed) {
         return Err(Fail::from("a missing file and a folder are faults"));
     }

@@ -1,0 +1,4 @@
+pub mod Values
+pub mod Growth
+pub mod Place
+pub mod Loops

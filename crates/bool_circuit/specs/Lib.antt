@@ -1,0 +1,4 @@
+pub mod Gates
+pub mod Sharing
+pub mod Placed
+pub mod Agreement

@@ -1,0 +1,167 @@
+use crate::{Circuit, Gate, Wire};
+use rh_base::NoMemory;
+use std::process::Abort;
+use std::test::Fail;
+
+/// The wire of a gate that is asked for over wires that are there.
+fn ask(rt: &impl Abort, circuit: &mut Circuit, gate: Gate) -> Result<Wire, NoMemory> {
+    let wires = circuit.wires();
+    match gate {
+        Gate::Input(_) => circuit.input(),
+        Gate::Constant(b) => circuit.constant(b),
+        Gate::Not(a) => {
+            assert!(rt; a.0 < wires);
+            circuit.not(a)
+        }
+        Gate::And(a, b) => {
+            assert!(rt; a.0 < wires);
+            assert!(rt; b.0 < wires);
+            circuit.and(a, b)
+        }
+        Gate::Mux(c, a, b) => {
+            assert!(rt; c.0 < wires);
+            assert!(rt; a.0 < wires);
+            assert!(rt; b.0 < wires);
+            circuit.mux(c, a, b)
+        }
+    }
+}
+
+const A: Wire = Wire(0);
+
+const B: Wire = Wire(1);
+
+const YES: Wire = Wire(2);
+
+const NO: Wire = Wire(3);
+
+const NOT_A: Wire = Wire(4);
+
+const BOTH: Wire = Wire(5);
+
+const CHOICE: Wire = Wire(6);
+
+/// What each gate is answered with, and how many wires there are then.
+const ASKED: [(Gate, Wire, u64); 23] = [
+    (Gate::Input(0), A, 1),
+    (Gate::Input(1), B, 2),
+    (Gate::Constant(true), YES, 3),
+    (Gate::Constant(false), NO, 4),
+    (Gate::Not(A), NOT_A, 5),
+    (Gate::And(A, B), BOTH, 6),
+    (Gate::Mux(A, B, NOT_A), CHOICE, 7),
+    // from here on nothing is added: equal gates are shared, and what folds is folded
+    (Gate::And(B, A), BOTH, 7),
+    (Gate::Constant(true), YES, 7),
+    (Gate::Not(NOT_A), A, 7),
+    (Gate::Not(YES), NO, 7),
+    (Gate::And(A, A), A, 7),
+    (Gate::And(A, NOT_A), NO, 7),
+    (Gate::And(NOT_A, A), NO, 7),
+    (Gate::And(YES, A), A, 7),
+    (Gate::And(A, NO), NO, 7),
+    (Gate::Mux(B, A, A), A, 7),
+    (Gate::Mux(NO, A, B), B, 7),
+    (Gate::Mux(A, B, NO), BOTH, 7),
+    (Gate::Mux(A, YES, NO), A, 7),
+    (Gate::Mux(A, NO, YES), NOT_A, 7),
+    (Gate::Mux(A, B, NOT_A), CHOICE, 7),
+    (Gate::Input(2), Wire(7), 8),
+];
+
+/// A circuit in which all of these were asked for.
+fn asked(rt: &(impl Abort + AllocGlobal)) -> Result<Circuit, NoMemory> {
+    let mut circuit = Circuit::new(rt.alloc())?;
+    for (gate, wire, wires) in ASKED {
+        let found = ask(rt, &mut circuit, gate)?;
+        assert_eq!(rt; found, wire, "for {gate:?}");
+        assert_eq!(rt; circuit.wires(), wires, "after {gate:?}");
+    }
+    Ok(circuit)
+}
+
+#[test]
+fn equal_gates_are_shared_and_what_folds_is_folded(rt: HostRuntime) -> Result<(), Fail> {
+    let circuit = asked(&rt)?;
+    assert_eq!(rt; circuit.inputs(), 3);
+    for (gate, wire, _) in &ASKED[..7] {
+        assert!(rt; wire.0 < circuit.wires());
+        assert_eq!(rt; circuit.gate(*wire), *gate);
+    }
+    Ok(())
+}
+
+#[test]
+fn wires_have_their_values(rt: HostRuntime) -> Result<(), Fail> {
+    let circuit = asked(&rt)?;
+    // a, b and a third input; a, b, true, false, not a, a and b, b or else not a by a, the third input
+    let rows = [
+        (
+            [false, false, false],
+            [false, false, true, false, true, false, true, false],
+        ),
+        (
+            [false, true, true],
+            [false, true, true, false, true, false, true, true],
+        ),
+        (
+            [true, false, false],
+            [true, false, true, false, false, false, false, false],
+        ),
+        (
+            [true, true, true],
+            [true, true, true, false, false, true, true, true],
+        ),
+    ];
+    for (inputs, wanted) in rows {
+        let mut values = [true; 8];
+        assert_eq!(rt; circuit.inputs(), 3);
+        assert_eq!(rt; circuit.wires(), 8);
+        circuit.value(&inputs, &mut values);
+        assert_eq!(rt; values, wanted, "at {inputs:?}");
+    }
+    Ok(())
+}
+
+#[test]
+fn lists_of_wires_are_compared(rt: HostRuntime) -> Result<(), Fail> {
+    let rows = [
+        (&[A, B][..], &[A, B][..], [true, true, true, true]),
+        (&[A, B][..], &[B, B][..], [true, false, false, true]),
+        (&[NOT_A, YES][..], &[B, YES][..], [false, true, true, false]),
+        (&[][..], &[][..], [true, true, true, true]),
+    ];
+    for (left, right, wanted) in rows {
+        compare(&rt, left, right, wanted)?;
+    }
+    Ok(())
+}
+
+/// The value of the comparison at the four values of the first two inputs.
+fn compare(
+    rt: &(impl Abort + AllocGlobal),
+    left: &[Wire],
+    right: &[Wire],
+    wanted: [bool; 4],
+) -> Result<(), Fail> {
+    let mut circuit = asked(rt)?;
+    let wires = circuit.wires();
+    assert_eq!(rt; left.len(), right.len());
+    assert!(rt; left.iter().all(|w| w.0 < wires));
+    assert!(rt; right.iter().all(|w| w.0 < wires));
+    let equal = circuit.equal(left, right)?;
+    let mut values = vec![in rt.alloc(); false; circuit.wires() as usize]?;
+    for (row, (a, b)) in [(false, false), (false, true), (true, false), (true, true)]
+        .iter()
+        .enumerate()
+    {
+        assert_eq!(rt; circuit.inputs(), 3);
+        assert_eq!(rt; circuit.wires() as usize, values.len());
+        circuit.value(&[*a, *b, false], &mut values);
+        assert_eq!(rt;
+            values.get(equal.0 as usize).copied(),
+            wanted.get(row).copied()
+        );
+    }
+    Ok(())
+}

@@ -1,0 +1,8 @@
+//! The words of the command line.
+#![tactic(auto)]
+
+mod command;
+mod words;
+
+pub use words::{USAGE, WordsFault, input_to_verify};
+

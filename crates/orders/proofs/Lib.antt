@@ -1,0 +1,12 @@
+pub mod Lists
+pub mod Joins
+pub mod Cells
+pub mod Tables
+pub mod Linking
+pub mod Waits
+pub mod MarkLaws
+pub mod Taking
+pub mod Walks
+pub mod Cycles
+pub mod Searching
+pub mod Steps

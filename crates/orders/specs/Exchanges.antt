@@ -1,0 +1,53 @@
+-- Orders that differ by exchanges of two neighbours.
+use Rattle.std.specs.Prelude.{◌≡◌, ◌≢◌, ◌==◌, ℕ, zero, suc, ◌+◌, List, [], ◌∷◌, ◌++◌, Bool, Option, Some, None, nat_lt, IsTrue, if◌then◌else◌}
+use Rattle.std.specs.List.{AllByRecursion}
+use Rattle.fs_semantics.specs.Orders.{IsLinearExtension}
+
+-- a and b differ and neither comes before the other
+pub record IsFree (before : ℕ → ℕ → Type 0) (a b : ℕ) : Type 0 where
+  pub differ : a ≢ b
+  pub not_before : before a b → ⊥
+  pub not_after : before b a → ⊥
+
+-- the second order is the first with two neighbouring free nodes exchanged
+pub record IsExchange (before : ℕ → ℕ → Type 0) (order next : List ℕ) : Type 0 where
+  pub front : List ℕ
+  pub left : ℕ
+  pub right : ℕ
+  pub back : List ℕ
+  pub was : order ≡ front ++ left ∷ right ∷ back
+  pub is : next ≡ front ++ right ∷ left ∷ back
+  pub free : IsFree before left right
+
+-- linear extensions, each the one before it with two neighbouring free nodes exchanged, lead from the one to the other
+pub data Joined (n : ℕ) (before : ℕ → ℕ → Type 0) : List ℕ → List ℕ → Type 0 where
+  same : {order : List ℕ} → IsLinearExtension n before order → Joined n before order order
+  exchange : {order next last : List ℕ} → IsLinearExtension n before order → IsExchange before order next → Joined n before next last
+      → Joined n before order last
+
+-- the list of orders begins with `from`, ends with `to`, and each is a linear extension,
+-- which the next one is with two neighbouring free nodes exchanged
+abbrev pub IsWalk : (n : ℕ) → (ℕ → ℕ → Type 0) → List ℕ → List (List ℕ) → List ℕ → Type 0
+IsWalk n before from [] to = ⊥
+IsWalk n before from (order ∷ []) to = (order ≡ from) × IsLinearExtension n before order × (order ≡ to)
+IsWalk n before from (order ∷ next ∷ orders) to =
+    (order ≡ from) × IsLinearExtension n before order × IsExchange before order next × IsWalk n before next (next ∷ orders) to
+
+-- how many nodes stand ahead of k
+abbrev pub place : ℕ → List ℕ → ℕ
+place k [] = 0
+place k (i ∷ order) = if i == k then 0 else suc (place k order)
+
+-- how many of these nodes stand ahead of k in the order
+abbrev pub count_ahead : List ℕ → ℕ → List ℕ → ℕ
+count_ahead order k [] = 0
+count_ahead order k (i ∷ nodes) = (if nat_lt (place i order) (place k order) then 1 else 0) + count_ahead order k nodes
+
+-- how many pairs of nodes stand in different order in the two lists: the one ahead in `from` stands behind in `to`
+abbrev pub count_turned : List ℕ → List ℕ → ℕ
+count_turned [] to = 0
+count_turned (k ∷ from) to = count_ahead to k from + count_turned from to
+
+-- a relation that is told by a test
+abbrev pub Told : (ℕ → ℕ → Bool) → ℕ → ℕ → Type 0
+Told before a b = IsTrue (before a b)

@@ -1,0 +1,119 @@
+ghost use Rattle.std.specs.Prelude.{◌≡◌, ◌<◌, ◌-◌, ◌^◌, List, [], ◌∷◌, ◌++◌, length, take, OnOk, IfOk, IfErr, MatchResult, IsUtf8, ◌⊎◌, ℕ, codes};
+ghost use Rattle.rh_base.specs.Refused.{IfRefused, IsRefusal};
+ghost use Rattle.pp_syntax.specs.Tokens.{Lexeme};
+ghost use Rattle.pp_syntax.specs.Spelling.{Spells, FailsAt};
+ghost use Rattle.pp_syntax.specs.Lexing.{told, Cut, AreSlices, InOrder, IsTextRefusal, IsLexicalRefusal};
+
+mod bytes;
+mod gaps;
+mod names;
+mod numbers;
+mod opening;
+mod place;
+mod quoted;
+mod scan;
+mod signs;
+
+use crate::lexer::opening::Stack;
+use crate::lexer::place::Place;
+use crate::token::{Kind, Token};
+use rh_base::{Fault, NoMemory, Refusal};
+use std::alloc::Global;
+
+fn lexical(alloc: Global, at: u32) -> Fault
+    ensures { IfRefused result (λ r. IsRefusal 11 at (codes "lexical") r) }
+{
+    match Refusal::new(alloc, 11, at, "lexical") {
+        Ok(refusal) => Fault::Refused(refusal),
+        Err(m) => Fault::Memory(m),
+    }
+}
+
+fn not_text(alloc: Global, at: u32) -> Fault
+    ensures { IfRefused result (λ r. IsRefusal 10 at (codes "utf8") r) }
+{
+    match Refusal::new(alloc, 10, at, "utf8") {
+        Ok(refusal) => Fault::Refused(refusal),
+        Err(m) => Fault::Memory(m),
+    }
+}
+
+/// A text, cut before what is left.
+fn cut<'t>(text: &'t str, behind: &[u8]) -> (&'t str, &'t str)
+    requires { Cut text.now behind.now }
+    ensures front { result.0.now ≡ take (length text.now - length behind.now) text.now }
+    ensures back { result.1.now ≡ behind.now }
+{
+    text.split_at(text.as_bytes().len() - behind.len())
+}
+
+fn add<'t>(tokens: &mut Vec<Token<'t>>, token: Token<'t>) -> Result<(), NoMemory>
+    ensures { OnOk result (tokens.new.items ≡ tokens.old.items ++ token.entry ∷ []) }
+{
+    tokens.push(token)?;
+    Ok(())
+}
+
+/// The tokens of a text.
+fn tokens_of(alloc: Global, source: &str) -> Result<Vec<Token<'_>>, Fault>
+    requires { length source.now < 2 ^ 32 }
+    ensures spelled { IfOk result (λ tokens. Spells source.now (told tokens.items)) }
+    ensures refused { IfErr result (λ e. IfRefused e (IsLexicalRefusal source.now)) }
+{
+    let mut tokens = Vec::new(alloc);
+    let mut place = Place {
+        at: 0,
+        opened: Stack::new(alloc),
+        tight: false,
+    };
+    let mut rest = source;
+    while !rest.is_empty() {
+        if let Some(behind) = place.gap(rest.as_bytes()) {
+            let (front, more) = cut(rest, behind);
+            place.pass_gap(front.as_bytes());
+            rest = more;
+        } else if let Some((kind, behind)) = place.token(rest.as_bytes()) {
+            let (text, more) = cut(rest, behind);
+            let at = place.at;
+            add(&mut tokens, Token { kind, text, at })?;
+            place.pass(kind, text.as_bytes())?;
+            rest = more;
+        } else {
+            return Err(lexical(alloc, place.at));
+        }
+    }
+    match place.opened.unclosed() {
+        None => Ok(tokens),
+        Some(at) => Err(lexical(alloc, at)),
+    }
+}
+
+/// The tokens of a manifest, each with a slice of its text.
+pub fn lex(alloc: Global, text: &[u8]) -> Result<Vec<Token<'_>>, Fault>
+    requires { length text.now < 2 ^ 32 }
+    // the tokens that the text spells
+    ensures spelled { IfOk result (λ tokens. Spells text.now (told tokens.items)) }
+    ensures utf8 { OnOk result (IsUtf8 text.now) }
+    ensures slices { IfOk result (λ tokens. AreSlices text.now (told tokens.items)) }
+    ensures order { IfOk result (λ tokens. InOrder 0 (told tokens.items)) }
+    // Where tokens are spelled the answer is these, unless memory runs out.
+    ensures only { (ts : List Lexeme) → IsUtf8 text.now → Spells text.now ts → MatchResult result (λ tokens. told tokens.items ≡ ts) (λ e. IfRefused e (λ r. ⊥)) }
+    // A refusal says that the text isn't UTF-8, or that it is and no tokens are spelled; and where.
+    ensures refused { IfErr result (λ e. IfRefused e (λ r. IsTextRefusal text.now r ⊎ (IsUtf8 text.now × IsLexicalRefusal text.now r))) }
+{
+    match str::from_utf8(text) {
+        Ok(source) => tokens_of(alloc, source),
+        Err(e) => Err(not_text(alloc, e.valid_up_to() as u32)),
+    }
+}
+
+/// Each text spells one list of tokens, or fails at one place.
+#[tactic(auto, using(crate::proofs::Slices::same_tokens, crate::proofs::Slices::no_failure, crate::proofs::Slices::same_failure))]
+pub fn one_spelling()
+    ensures tokens { (text : List ℕ) (ts us : List Lexeme) → Spells text ts → Spells text us → ts ≡ us }
+    ensures either { (text : List ℕ) (ts : List Lexeme) (at : ℕ) → Spells text ts → FailsAt text at → ⊥ }
+    ensures place { (text : List ℕ) (m n : ℕ) → FailsAt text m → FailsAt text n → m ≡ n }
+{}
+
+#[cfg(test)]
+mod tests;

@@ -1,0 +1,221 @@
+//! The syntax tree of a manifest. Places are offsets in bytes of the source.
+
+use rh_base::{Boxed, Seq, Text};
+
+#[derive(Drop)]
+pub struct Manifest {
+    pub items: Seq<Item>,
+}
+
+/// What stands at the top of a manifest. Names are as they are spelled.
+#[derive(Drop)]
+pub enum Item {
+    Class {
+        at: u32,
+        name: Text,
+        params: Seq<Param>,
+        parent: Option<Text>,
+        body: Seq<Stmt>,
+    },
+    Define {
+        at: u32,
+        name: Text,
+        params: Seq<Param>,
+        body: Seq<Stmt>,
+    },
+    /// The name `None` is `default`.
+    Node {
+        at: u32,
+        names: Seq<Option<Text>>,
+        body: Seq<Stmt>,
+    },
+    Defaults {
+        at: u32,
+        kind: Text,
+        attrs: Seq<Attr>,
+    },
+    Plain(Stmt),
+}
+
+/// A parameter; its name stands without `$`.
+#[derive(Drop)]
+pub struct Param {
+    pub kind: Option<TypeName>,
+    pub name: Text,
+    pub preset: Option<Expr>,
+}
+
+#[derive(Drop)]
+pub enum TypeName {
+    Any,
+    Boolean,
+    Hash,
+    Str {
+        least: i64,
+        most: Option<i64>,
+    },
+    Int {
+        least: Option<i64>,
+        most: Option<i64>,
+    },
+    Array(Option<Boxed<TypeName>>),
+    Optional(Boxed<TypeName>),
+    Enum(Seq<Text>),
+    Variant(Seq<TypeName>),
+}
+
+#[cycle(statement)]
+#[derive(Drop)]
+pub enum Stmt {
+    /// One operand, or several with arrows between them.
+    Chain {
+        at: u32,
+        sides: Seq<Operand>,
+        arrows: Seq<Arrow>,
+    },
+    Assign {
+        at: u32,
+        name: Text,
+        value: Expr,
+    },
+    Call {
+        at: u32,
+        func: Func,
+        args: Seq<Expr>,
+    },
+    If {
+        at: u32,
+        arms: Seq<Arm>,
+        other: Seq<Stmt>,
+    },
+    Unless {
+        at: u32,
+        test: Expr,
+        body: Seq<Stmt>,
+        other: Seq<Stmt>,
+    },
+    Case {
+        at: u32,
+        value: Expr,
+        arms: Seq<CaseArm>,
+    },
+}
+
+#[derive(Drop)]
+pub enum Operand {
+    /// A resource, or with the kind `class` a class; hidden with `@`.
+    Declare {
+        at: u32,
+        hidden: bool,
+        kind: Text,
+        bodies: Seq<Body>,
+    },
+    Collect {
+        at: u32,
+        kind: Text,
+        search: Option<Search>,
+    },
+    /// References.
+    Named(Seq<Expr>),
+}
+
+#[derive(Drop)]
+pub struct Body {
+    pub title: Expr,
+    pub attrs: Seq<Attr>,
+}
+
+#[derive(Drop)]
+pub struct Attr {
+    pub at: u32,
+    pub name: Text,
+    pub value: Expr,
+}
+
+#[cycle(statement)]
+#[derive(Drop)]
+pub struct Arm {
+    pub test: Expr,
+    pub body: Seq<Stmt>,
+}
+
+/// The option `None` is `default`.
+#[cycle(statement)]
+#[derive(Drop)]
+pub struct CaseArm {
+    pub options: Seq<Option<Expr>>,
+    pub body: Seq<Stmt>,
+}
+
+#[derive(Drop)]
+pub enum Search {
+    Or(Seq<Search>),
+    And(Seq<Search>),
+    Equal(Text, Expr),
+    Differ(Text, Expr),
+}
+
+#[cycle(expression)]
+#[derive(Drop)]
+pub struct Expr {
+    pub at: u32,
+    pub form: Form,
+}
+
+/// A chain of operators of one level is one form with a list. Parentheses leave no form.
+#[cycle(expression)]
+#[derive(Drop)]
+pub enum Form {
+    Int(i64),
+    Str(Text),
+    Var(Text),
+    Bool(bool),
+    Undef,
+    List(Seq<Expr>),
+    Map(Seq<(Expr, Expr)>),
+    Refer(Text, Seq<Expr>),
+    /// A text in double quotes, with one member for each piece of text, variable and expression.
+    Join(Seq<Expr>),
+    Chain(Boxed<Expr>, Seq<(Op, Expr)>),
+    Prefix(Seq<Op>, Boxed<Expr>),
+    At(Boxed<Expr>, Boxed<Expr>),
+    /// The option `None` is `default`.
+    Select(Boxed<Expr>, Seq<(Option<Expr>, Expr)>),
+}
+
+#[derive(Clone, Copy, Debug, PartialEq, Eq)]
+pub enum Op {
+    Or,
+    And,
+    Less,
+    Greater,
+    AtMost,
+    AtLeast,
+    Same,
+    NotSame,
+    Plus,
+    Minus,
+    Times,
+    In,
+    Not,
+}
+
+/// `->`, `~>`, `<-` and `<~`
+#[derive(Clone, Copy, Debug, PartialEq, Eq)]
+pub enum Arrow {
+    Before,
+    Notify,
+    After,
+    Follow,
+}
+
+#[derive(Clone, Copy, Debug, PartialEq, Eq)]
+pub enum Func {
+    Include,
+    Require,
+    Contain,
+    Realize,
+    Fail,
+    Notice,
+    Warning,
+}
