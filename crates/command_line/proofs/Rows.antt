@@ -1,5 +1,5 @@
 -- The value of an option, from the rows of the matches.
-use Rattle.std.proofs.Common.{◌≡◌, ◌∙◌, Option}
+use Rattle.std.proofs.Common.{◌≡◌}
 use Rattle.clap.specs.Matches.{first_value}
 use Rattle.clap.specs.Walk.{Text, first_of, rows_of}
 use Rattle.clap.specs.declared.parser.matches.Found.{Found}

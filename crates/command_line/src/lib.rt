@@ -6,3 +6,5 @@ mod words;
 
 pub use words::{USAGE, WordsFault, input_to_verify};
 
+#[cfg(test)]
+mod tests;
