@@ -127,7 +127,7 @@ or_split : (a b : Bool) → (a || b) ≡ true → (a ≡ true) ⊎ (b ≡ true)
 or_split true b h = inl refl
 or_split false b h = inr h
 
-child_found : (p q : Path) (ks : List Path) → parent q ≡ p → list_any (eq_by_cmp path_cmp q) ks ≡ true → list_any (λ r. path_eq (parent r) p) ks ≡ true
+pub child_found : (p q : Path) (ks : List Path) → parent q ≡ p → list_any (eq_by_cmp path_cmp q) ks ≡ true → list_any (λ r. path_eq (parent r) p) ks ≡ true
 child_found p q [] e h = cc
 child_found p q (k ∷ ks) e h = elim (or_split (eq_by_cmp path_cmp q k) (list_any (eq_by_cmp path_cmp q) ks) h) [
   | inl here ↦
@@ -146,7 +146,7 @@ empty_no_child t p q empty h e =
     let two = both (is_dir t p) (not (list_any (λ r. path_eq (parent r) p) (map.keys t))) empty in
     not_false _ two.1 (child_found p q (map.keys t) e (sym (contains_key-keys t q) ∙ h))
 
-folder_only : (r : Option Entry) → is_folder_entry r ≡ true → (is_file_entry r ≡ false) × (is_link_entry r ≡ false)
+pub folder_only : (r : Option Entry) → is_folder_entry r ≡ true → (is_file_entry r ≡ false) × (is_link_entry r ≡ false)
 folder_only None h = cc
 folder_only (Some Folder) h = (refl, refl)
 folder_only (Some (File content)) h = cc

@@ -2,7 +2,7 @@
 //! in `specs/`; each function here does nothing, and its contract is a law that callers may use.
 #![tactic(auto)]
 
-ghost use Rattle.std.specs.Prelude.{◌≡◌, ◌<◌, ◌++◌, ℕ, Bool, IsTrue, List, Some};
+ghost use Rattle.std.specs.Prelude.{◌≡◌, ◌<◌, ◌++◌, ℕ, Bool, IsTrue, List, Some, None};
 ghost use Rattle.std.specs.List.{AllByRecursion};
 ghost use Rattle.std.specs.FinMap as map;
 ghost use Rattle.fs_semantics.specs.FileTree.{Path, Tree, IsTree};
@@ -11,9 +11,11 @@ ghost use Rattle.fs_semantics.specs.Changes.{Changes, IsProper, AllCommute, Sett
 ghost use Rattle.fs_semantics.specs.Orders.{times, IsLinearExtension, outcome, IsDeterministic, IsIdempotent, Succeeds};
 ghost use Rattle.fs_semantics.specs.PlainFiles.{PlainFile, ArePlain, puts, Unordered};
 
-/// What a program leaves: what stands at each path that it doesn't change, and that a file tree is one.
+/// What a program leaves: what stands at each path that it doesn't change, and that a file tree is one. All runs that fail
+/// end alike, whatever they had changed.
 pub fn constructs()
     ensures kept { (e : Program) (t u : Tree) (q : Path) → run e t ≡ Some u → (Changes e q → ⊥) → map.get u q ≡ map.get t q }
+    ensures errors { (e f : Program) (t u : Tree) → run e t ≡ None → run f u ≡ None → run e t ≡ run f u }
     ensures tree { (e : Program) (t u : Tree) → IsProper e → IsTree t → run e t ≡ Some u → IsTree u }
 {}
 
