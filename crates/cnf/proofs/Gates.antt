@@ -1,0 +1,132 @@
+-- Laws of the clauses that define the value of a gate.
+use Rattle.std.proofs.Common.{◌≡◌, ℕ, ◌+◌, Bool, true, false, not, ◌&&◌, ◌||◌, List, refl, sym, ap, ◌∙◌, subst, if◌then◌else◌}
+use Rattle.cnf.specs.declared.lit.Lit.{Lit}
+use Rattle.cnf.specs.Literals.{opposite, lit_true, HasVariable}
+use Rattle.cnf.specs.Formulas.{Formula, IsFormula, Satisfies}
+use Rattle.cnf.specs.Defining.{Defines, yes, with_clauses, constant_clauses, and_clauses, mux_clauses}
+use Rattle.cnf.proofs.ClauseLaws.{lit_true-opposite}
+use Rattle.cnf.proofs.Definitions.{fresh_defines, lit_true-same}
+
+-- ---- constants
+constant_says : (v : ℕ → Bool) (x : ℕ) (b : Bool) → Satisfies v (constant_clauses x b) → v x ≡ b
+constant_says v x true s = by (v x) s.0
+  where
+    by : (y : Bool) → (y || false) ≡ true → y ≡ true
+    by true h = refl
+    by false h = h
+constant_says v x false s = by (v x) s.0
+  where
+    by : (y : Bool) → (not y || false) ≡ true → y ≡ false
+    by true h = sym h
+    by false h = refl
+
+constant_holds : (v : ℕ → Bool) (x : ℕ) (b : Bool) → v x ≡ b → Satisfies v (constant_clauses x b)
+constant_holds v x true h = (ap (λ y. y || false) h, tt)
+constant_holds v x false h = (ap (λ y. not y || false) h, tt)
+
+pub constant_defines : (f : Formula) (b : Bool) → IsFormula f → Defines f (record { vars = f.vars + 1; clauses = with_clauses f.clauses (constant_clauses (f.vars + 1) b) }) (yes (f.vars + 1)) (λ v. b)
+constant_defines f b is = fresh_defines f is (constant_clauses (f.vars + 1) b) (λ v. b) (λ u v same. refl) (λ v s. constant_says v (f.vars + 1) b s) (λ v h. constant_holds v (f.vars + 1) b h)
+
+-- ---- and
+abbrev AndHolds : Bool → Bool → Bool → Bool → Bool → Type 0
+AndHolds x a b not_a not_b = ((not x || (a || false)) ≡ true) × (((not x || (b || false)) ≡ true) × (((x || (not_a || (not_b || false))) ≡ true) × Unit {0}))
+
+and_is : (x a b : Bool) → AndHolds x a b (not a) (not b) → x ≡ (a && b)
+and_is true true true h = refl
+and_is true true false h = sym h.1.0
+and_is true false b h = sym h.0
+and_is false true true h = h.1.1.0
+and_is false true false h = refl
+and_is false false b h = refl
+
+and_true : (a b : Bool) → AndHolds (a && b) a b (not a) (not b)
+and_true true true = (refl, (refl, (refl, tt)))
+and_true true false = (refl, (refl, (refl, tt)))
+and_true false true = (refl, (refl, (refl, tt)))
+and_true false false = (refl, (refl, (refl, tt)))
+
+module _ (v : ℕ → Bool) (x : ℕ) (a b : Lit) where
+  and_says : Satisfies v (and_clauses x a b) → v x ≡ (lit_true v a && lit_true v b)
+  and_says s =
+      and_is (v x) (lit_true v a) (lit_true v b)
+      (subst (λ n. AndHolds (v x) (lit_true v a) (lit_true v b) n (not (lit_true v b))) (lit_true-opposite v a)
+      (subst (λ n. AndHolds (v x) (lit_true v a) (lit_true v b) (lit_true v (opposite a)) n) (lit_true-opposite v b) s))
+
+  and_holds : v x ≡ (lit_true v a && lit_true v b) → Satisfies v (and_clauses x a b)
+  and_holds h =
+      subst (λ n. AndHolds (v x) (lit_true v a) (lit_true v b) (lit_true v (opposite a)) n) (sym (lit_true-opposite v b))
+      (subst (λ n. AndHolds (v x) (lit_true v a) (lit_true v b) n (not (lit_true v b))) (sym (lit_true-opposite v a))
+      (subst (λ y. AndHolds y (lit_true v a) (lit_true v b) (not (lit_true v a)) (not (lit_true v b))) (sym h) (and_true (lit_true v a) (lit_true v b))))
+
+pub and_defines : (f : Formula) (a b : Lit) → IsFormula f → HasVariable f.vars a → HasVariable f.vars b
+    → Defines f (record { vars = f.vars + 1; clauses = with_clauses f.clauses (and_clauses (f.vars + 1) a b) }) (yes (f.vars + 1)) (λ v. lit_true v a && lit_true v b)
+and_defines f a b is ha hb =
+    fresh_defines f is (and_clauses (f.vars + 1) a b) (λ v. lit_true v a && lit_true v b)
+    (λ u v same. ap (λ y. y && lit_true u b) (lit_true-same u v f.vars same a ha) ∙ ap (λ y. lit_true v a && y) (lit_true-same u v f.vars same b hb))
+    (λ v s. and_says v (f.vars + 1) a b s)
+    (λ v h. and_holds v (f.vars + 1) a b h)
+
+-- ---- choice
+abbrev MuxHolds : Bool → Bool → Bool → Bool → Bool → Bool → Bool → Type 0
+MuxHolds x c a b not_c not_a not_b =
+    ((not x || (not_c || (a || false))) ≡ true) × (((not x || (c || (b || false))) ≡ true) × (((x || (not_c || (not_a || false))) ≡ true)
+    × (((x || (c || (not_b || false))) ≡ true) × (((not x || (a || (b || false))) ≡ true) × (((x || (not_a || (not_b || false))) ≡ true) × Unit {0})))))
+
+mux_is : (x c a b : Bool) → MuxHolds x c a b (not c) (not a) (not b) → x ≡ (if c then a else b)
+mux_is true true true b h = refl
+mux_is true true false b h = sym h.0
+mux_is true false a true h = refl
+mux_is true false a false h = sym h.1.0
+mux_is false true true b h = h.1.1.0
+mux_is false true false b h = refl
+mux_is false false a true h = h.1.1.1.0
+mux_is false false a false h = refl
+
+mux_true : (c a b : Bool) → MuxHolds (if c then a else b) c a b (not c) (not a) (not b)
+mux_true true true true = (refl, (refl, (refl, (refl, (refl, (refl, tt))))))
+mux_true true true false = (refl, (refl, (refl, (refl, (refl, (refl, tt))))))
+mux_true true false true = (refl, (refl, (refl, (refl, (refl, (refl, tt))))))
+mux_true true false false = (refl, (refl, (refl, (refl, (refl, (refl, tt))))))
+mux_true false true true = (refl, (refl, (refl, (refl, (refl, (refl, tt))))))
+mux_true false true false = (refl, (refl, (refl, (refl, (refl, (refl, tt))))))
+mux_true false false true = (refl, (refl, (refl, (refl, (refl, (refl, tt))))))
+mux_true false false false = (refl, (refl, (refl, (refl, (refl, (refl, tt))))))
+
+module _ (v : ℕ → Bool) (x : ℕ) (c a b : Lit) where
+  mux_says : Satisfies v (mux_clauses x c a b) → v x ≡ (if lit_true v c then lit_true v a else lit_true v b)
+  mux_says s =
+      mux_is (v x) (lit_true v c) (lit_true v a) (lit_true v b)
+      (subst (λ n. MuxHolds (v x) (lit_true v c) (lit_true v a) (lit_true v b) n (not (lit_true v a)) (not (lit_true v b))) (lit_true-opposite v c)
+      (subst (λ n. MuxHolds (v x) (lit_true v c) (lit_true v a) (lit_true v b) (lit_true v (opposite c)) n (not (lit_true v b))) (lit_true-opposite v a)
+      (subst (λ n. MuxHolds (v x) (lit_true v c) (lit_true v a) (lit_true v b) (lit_true v (opposite c)) (lit_true v (opposite a)) n) (lit_true-opposite v b) s)))
+
+  mux_holds : v x ≡ (if lit_true v c then lit_true v a else lit_true v b) → Satisfies v (mux_clauses x c a b)
+  mux_holds h =
+      subst (λ n. MuxHolds (v x) (lit_true v c) (lit_true v a) (lit_true v b) (lit_true v (opposite c)) (lit_true v (opposite a)) n) (sym (lit_true-opposite v b))
+      (subst (λ n. MuxHolds (v x) (lit_true v c) (lit_true v a) (lit_true v b) (lit_true v (opposite c)) n (not (lit_true v b))) (sym (lit_true-opposite v a))
+      (subst (λ n. MuxHolds (v x) (lit_true v c) (lit_true v a) (lit_true v b) n (not (lit_true v a)) (not (lit_true v b))) (sym (lit_true-opposite v c))
+      (subst (λ y. MuxHolds y (lit_true v c) (lit_true v a) (lit_true v b) (not (lit_true v c)) (not (lit_true v a)) (not (lit_true v b))) (sym h)
+      (mux_true (lit_true v c) (lit_true v a) (lit_true v b)))))
+
+pub mux_defines : (f : Formula) (c a b : Lit) → IsFormula f → HasVariable f.vars c → HasVariable f.vars a → HasVariable f.vars b
+    → Defines f (record { vars = f.vars + 1; clauses = with_clauses f.clauses (mux_clauses (f.vars + 1) c a b) }) (yes (f.vars + 1)) (λ v. if lit_true v c then lit_true v a else lit_true v b)
+mux_defines f c a b is hc ha hb =
+    fresh_defines f is (mux_clauses (f.vars + 1) c a b) (λ v. if lit_true v c then lit_true v a else lit_true v b)
+    (λ u v same.
+    ap (λ y. if y then lit_true u a else lit_true u b) (lit_true-same u v f.vars same c hc)
+    ∙ ap (λ y. if lit_true v c then y else lit_true u b) (lit_true-same u v f.vars same a ha)
+    ∙ ap (λ y. if lit_true v c then lit_true v a else y) (lit_true-same u v f.vars same b hb))
+    (λ v s. mux_says v (f.vars + 1) c a b s)
+    (λ v h. mux_holds v (f.vars + 1) c a b h)
+
+-- the same, of a formula that was made in two steps
+pub defined : (f m g : Formula) (n : ℕ) (more : ℕ → List (List Lit)) (value : (ℕ → Bool) → Bool)
+    → Defines f (record { vars = f.vars + 1; clauses = with_clauses f.clauses (more (f.vars + 1)) }) (yes (f.vars + 1)) value
+    → n ≡ f.vars + 1 → m ≡ record { vars = f.vars + 1; clauses = f.clauses } → g ≡ record { vars = m.vars; clauses = with_clauses m.clauses (more n) }
+    → Defines f g (yes n) value
+defined f m g n more value d en em eg =
+    let whole : g ≡ record { vars = f.vars + 1; clauses = with_clauses f.clauses (more (f.vars + 1)) } =
+    eg
+    ∙ ap (λ (h : Formula). record { vars = h.vars; clauses = with_clauses h.clauses (more n) }) em
+    ∙ ap (λ (k : ℕ). record { vars = f.vars + 1; clauses = with_clauses f.clauses (more k) }) en in
+    subst (λ h. Defines f h (yes n) value) (sym whole) (subst (λ k. Defines f (record { vars = f.vars + 1; clauses = with_clauses f.clauses (more (f.vars + 1)) }) (yes k) value) (sym en) d)

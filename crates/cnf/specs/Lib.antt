@@ -1,0 +1,9 @@
+pub mod Literals
+pub mod Clauses
+pub mod Formulas
+pub mod Proofs
+pub mod LitOrder
+pub mod Store
+pub mod Encoding
+pub mod Defining
+pub mod ProofText

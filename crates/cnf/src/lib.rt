@@ -1,0 +1,19 @@
+//! Clauses, formulas and proofs by resolution, and the formula that a circuit's goal can be true.
+#![tactic(auto)]
+
+mod clause;
+mod encode;
+mod formula;
+mod lit;
+mod log;
+mod text;
+
+pub use clause::Clause;
+pub use encode::from_circuit;
+pub use formula::Cnf;
+pub use lit::Lit;
+pub use log::{Link, Log, Step};
+pub use text::write_proof;
+
+#[cfg(test)]
+mod tests;
