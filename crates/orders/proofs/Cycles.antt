@@ -1,8 +1,7 @@
 -- The cycle along a list of linked nodes, turned so that its least node comes first.
-use Rattle.std.proofs.Common.{◌≡◌, ◌≢◌, ℕ, zero, suc, Bool, ◌+◌, ◌-◌, ◌<◌, ◌≤◌, ◌⊎◌, ⊎_elim, List, [], ◌∷◌, ◌++◌, length, get_or, take, drop, refl, sym, ap, ◌∙◌, subst, arith, append_assoc}
+use Rattle.std.proofs.Common.{◌≡◌, ℕ, suc, ◌+◌, ◌-◌, ◌<◌, ◌≤◌, List, [], ◌∷◌, ◌++◌, length, get_or, take, drop, sym, ap, ◌∙◌, subst, arith}
 use Rattle.std.specs.Prelude.{slice_index, Result, Ok, Err, IsErrAnd, IfErr}
-use Rattle.std.specs.List.{AllByRecursion}
-use Rattle.std.proofs.lemmas.List.{append-nil, take-append-drop, drop_more, length-append, length-drop, get_or-drop, drop-drop}
+use Rattle.std.proofs.lemmas.List.{append-nil, take-append-drop, drop_more, length-append}
 use Rattle.fs_semantics.specs.Orders.{times}
 use Rattle.orders.specs.Paths.{HasEdge, Path, edge, and_on, Trail, IsCycle}
 use Rattle.orders.specs.Search.{AreLinked}

@@ -1,10 +1,10 @@
 -- Exchanges of neighbours keep linear extensions, and join any two.
-use Rattle.std.proofs.Common.{◌≡◌, ◌≢◌, ℕ, Bool, true, false, cond, ◌==◌, ◌+◌, ◌<◌, ◌≤◌, ◌⊎◌, inl, inr, ⊎_elim, List, [], ◌∷◌, ◌++◌, refl, sym, ap, ◌∙◌, subst, arith}
+use Rattle.std.proofs.Common.{◌≡◌, ◌≢◌, ℕ, ◌+◌, ◌<◌, ◌≤◌, ◌⊎◌, inl, inr, ⊎_elim, List, [], ◌∷◌, ◌++◌, refl, sym, ap, ◌∙◌, subst, arith}
 use Rattle.std.proofs.lemmas.Bool.{cases_lt}
 use Rattle.std.specs.List.{AllByRecursion}
 use Rattle.fs_semantics.specs.Orders.{times, NoneAhead, IsLinearExtension}
 use Rattle.orders.specs.Exchanges.{IsFree, IsExchange, Joined, same, exchange}
-use Rattle.orders.proofs.Lists.{times_append, times_itself, times_other, times_found, all_append, all_front, all_back, all_at, all_from, none_ahead_at, none_ahead_behind, none_ahead_without}
+use Rattle.orders.proofs.Lists.{times_append, times_itself, times_other, times_found, all_append, all_front, all_back, all_at, all_from, none_ahead_behind, none_ahead_without}
 
 zero_or : (n : ℕ) → (n ≡ 0) ⊎ (1 ≤ n)
 zero_or n = ⊎_elim (λ h. inl (omega arith)) inr (cases_lt n 1)

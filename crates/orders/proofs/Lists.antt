@@ -1,6 +1,6 @@
 -- Lists of nodes: how often each stands there, what holds of all, what stands ahead.
-use Rattle.std.proofs.Common.{◌≡◌, ◌≢◌, ℕ, Bool, true, false, cond, ◌==◌, ◌+◌, ◌<◌, ◌≤◌, List, [], ◌∷◌, ◌++◌, refl, sym, ap, ◌∙◌, subst, arith, eqb-true, eq-eqb, ne_eqb, zero-add, zero, suc, get_or, take, drop, length}
-use Rattle.std.proofs.lemmas.List.{take-append-drop, drop_more, take_more}
+use Rattle.std.proofs.Common.{◌≡◌, ◌≢◌, ℕ, true, false, cond, ◌==◌, ◌+◌, ◌<◌, ◌≤◌, List, [], ◌∷◌, ◌++◌, refl, sym, ap, ◌∙◌, subst, arith, eqb-true, eq-eqb, ne_eqb, zero-add, suc, get_or, take, drop, length}
+use Rattle.std.proofs.lemmas.List.{take-append-drop, drop_more}
 use Rattle.std.specs.List.{AllByRecursion}
 use Rattle.fs_semantics.specs.Orders.{times, NoneAhead}
 
@@ -48,10 +48,6 @@ pub all_from : (P : ℕ → Type 0) (xs : List ℕ) → ((k : ℕ) → 1 ≤ tim
 all_from P [] h = tt
 all_from P (x ∷ xs) h = (h x (omega (arith, times_itself x xs)), all_from P xs (λ k m. h k (omega arith)))
 
-pub all_map : (P Q : ℕ → Type 0) (xs : List ℕ) → ((k : ℕ) → P k → Q k) → AllByRecursion P xs → AllByRecursion Q xs
-all_map P Q [] f h = tt
-all_map P Q (x ∷ xs) f h = (f x h.0, all_map P Q xs f h.1)
-
 -- of two that stand one ahead of the other, the second doesn't come before the first
 pub none_ahead_at : (before : ℕ → ℕ → Type 0) (front : List ℕ) (x : ℕ) (back : List ℕ) → NoneAhead before (front ++ x ∷ back) → AllByRecursion (λ a. before a x → ⊥) back
 none_ahead_at before [] x back h = h.0
@@ -88,9 +84,6 @@ times_split k xs i h = ap (times k) (split_at xs i h) ∙ times_append k (take i
 
 pub times_at : (xs : List ℕ) (i : ℕ) → i < length xs → 1 ≤ times (get_or xs i 0) xs
 times_at xs i h = omega (arith, times_split (get_or xs i 0) xs i h, times_itself (get_or xs i 0) (drop (i + 1) xs))
-
-pub all_index : (P : ℕ → Type 0) (xs : List ℕ) (i : ℕ) → AllByRecursion P xs → i < length xs → P (get_or xs i 0)
-all_index P xs i h l = all_at P xs (get_or xs i 0) h (times_at xs i l)
 
 pub kept_at : (before : ℕ → ℕ → Type 0) (xs : List ℕ) (i : ℕ) → NoneAhead before xs → i < length xs → AllByRecursion (λ a. before a (get_or xs i 0) → ⊥) (drop (i + 1) xs)
 kept_at before xs i h l = none_ahead_at before (take i xs) (get_or xs i 0) (drop (i + 1) xs) (subst (NoneAhead before) (split_at xs i l) h)

@@ -1,5 +1,5 @@
 -- A list whose members are marked one after the other.
-use Rattle.std.proofs.Common.{◌≡◌, ◌≢◌, ℕ, Bool, true, false, cond, ◌==◌, ◌+◌, ◌<◌, ◌≤◌, ◌⊎◌, ⊎_elim, List, [], ◌∷◌, ◌++◌, length, get_or, set, take, drop, refl, sym, ap, ◌∙◌, subst, arith}
+use Rattle.std.proofs.Common.{◌≡◌, ℕ, Bool, true, false, cond, ◌+◌, ◌<◌, ◌≤◌, ⊎_elim, List, [], ◌∷◌, ◌++◌, length, get_or, set, take, drop, refl, sym, ap, ◌∙◌, subst, arith}
 use Rattle.std.specs.Prelude.{if◌then◌else◌}
 use Rattle.std.specs.List.{AllByRecursion}
 use Rattle.std.proofs.lemmas.Bool.{cases_eq}
@@ -43,9 +43,6 @@ module _ (list : List ℕ) (i : ℕ) (marks : List Bool) (within : i < length li
   marked_twice n len below is o =
       let e : times (get_or list i 0) (take i list) ≡ 1 = h.counts (get_or list i 0) below ∙ ap (λ b. cond b 1 0) is in
       omega (arith, o.once (get_or list i 0) (omega arith), times_split (get_or list i 0) list i within, times_itself (get_or list i 0) (drop (i + 1) list))
-
-  pub marked_beyond : (n : ℕ) → n ≡ length marks → length marks ≤ get_or list i 0 → EachOnce n list → ⊥
-  marked_beyond n len beyond o = omega (arith, all_index (λ k. k < n) list i o.below within)
 
 one_set : (b : Bool) → ◌≡◌ {A = ℕ} (cond b 1 0) 1 → b ≡ true
 one_set true e = refl

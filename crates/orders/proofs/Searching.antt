@@ -1,15 +1,11 @@
 -- Steps of a search through a graph, depth first.
-use Rattle.std.proofs.Common.{◌≡◌, ◌≢◌, ℕ, zero, suc, Bool, true, false, not, cond, ◌==◌, ◌+◌, ◌-◌, ◌*◌, ◌<◌, ◌≤◌, ◌⊎◌, inl, inr, ⊎_elim, List, [], ◌∷◌, ◌++◌, length, get_or, set, take, drop, refl, sym, ap, ◌∙◌, subst, arith, add-one, eq-eqb, ne_eqb, eqb-true}
-use Rattle.std.specs.Prelude.{◌&&◌, ◌||◌, slice_index, slice_index_or}
+use Rattle.std.proofs.Common.{◌≡◌, ℕ, zero, suc, Bool, true, false, not, cond, ◌==◌, ◌+◌, ◌-◌, ◌<◌, ◌≤◌, ◌⊎◌, inl, inr, ⊎_elim, List, [], ◌∷◌, ◌++◌, length, get_or, set, refl, sym, ap, ◌∙◌, subst, arith, eq-eqb, eqb-true}
+use Rattle.std.specs.Prelude.{◌&&◌, ◌||◌, slice_index}
 use Rattle.std.proofs.lemmas.Bool.{cases_lt, cases_eq}
-use Rattle.std.proofs.lemmas.List.{get_or-set_same, get_or-set_other, get_or_past, get_or_default, length-set, length-append, length-take}
-use Rattle.fs_semantics.specs.Orders.{times}
+use Rattle.std.proofs.lemmas.List.{get_or-set_same, get_or-set_other, get_or_default}
 use Rattle.orders.specs.Paths.{HasEdge, EndsBelow, Path, edge, and_on}
-use Rattle.orders.specs.Table.{width_of, cell}
-use Rattle.orders.specs.Counting.{count_false}
-use Rattle.orders.specs.Search.{source, target, latest, AreLinks, State, AreLinked, IsFollowed, IsFresh, IsSearch, total, work, entering, finishing}
-use Rattle.orders.proofs.Lists.{times_append, times_itself, times_other, times_at, split_at}
-use Rattle.orders.proofs.Waits.{count_false_set, clash}
+use Rattle.orders.specs.Search.{source, target, latest, AreLinked, total}
+use Rattle.orders.proofs.Waits.{clash}
 use Rattle.orders.proofs.Taking.{within_taken}
 
 -- ---- chains of edges

@@ -1,14 +1,13 @@
 -- What each step of a search keeps.
-use Rattle.std.proofs.Common.{◌≡◌, ◌≢◌, ℕ, zero, suc, Bool, true, false, not, cond, ◌==◌, ◌+◌, ◌-◌, ◌*◌, ◌<◌, ◌≤◌, ◌⊎◌, inl, inr, ⊎_elim, List, [], ◌∷◌, ◌++◌, length, get_or, set, take, drop, refl, sym, ap, ◌∙◌, subst, arith, add-one, eq-eqb, ne_eqb, eqb-true}
-use Rattle.std.specs.Prelude.{◌&&◌, ◌||◌, slice_index, slice_index_or}
+use Rattle.std.proofs.Common.{◌≡◌, ◌≢◌, ℕ, suc, Bool, true, false, not, cond, ◌==◌, ◌+◌, ◌-◌, ◌*◌, ◌<◌, ◌≤◌, ◌⊎◌, inl, inr, ⊎_elim, List, [], ◌∷◌, ◌++◌, length, get_or, set, take, drop, refl, sym, ap, ◌∙◌, subst, arith, eq-eqb, ne_eqb, eqb-true}
+use Rattle.std.specs.Prelude.{◌&&◌, ◌||◌, slice_index}
 use Rattle.std.proofs.lemmas.Bool.{cases_lt, cases_eq}
 use Rattle.std.proofs.lemmas.List.{get_or-set_same, get_or-set_other, length-set, length-append, length-take, drop_all}
 use Rattle.fs_semantics.specs.Orders.{times}
 use Rattle.orders.specs.Paths.{HasEdge, EndsBelow, Path, edge, and_on}
-use Rattle.orders.specs.Relation.{Comes, IsStrictOrder}
+use Rattle.orders.specs.Relation.{Comes}
 use Rattle.orders.specs.Table.{width_of, cell, relation_of, IsOrderTable}
-use Rattle.orders.specs.Counting.{count_false}
-use Rattle.orders.specs.Search.{source, target, latest, AreLinks, State, AreLinked, IsFollowed, IsFresh, IsSearch, total, work, entering, finishing}
+use Rattle.orders.specs.Search.{source, target, latest, AreLinks, State, AreLinked, IsFollowed, IsFresh, IsSearch, work, entering, finishing}
 use Rattle.orders.proofs.Lists.{times_append, times_itself, times_other, times_at, split_at}
 use Rattle.orders.proofs.Waits.{count_false_set, clash}
 use Rattle.orders.proofs.Taking.{within_taken}
@@ -23,10 +22,6 @@ told false = inr refl
 module _ (n : ℕ) (edges : List (ℕ × ℕ)) (ends : EndsBelow n edges) (s : State) (h : IsSearch n edges s) where
   pub in_work_once : (k : ℕ) → times k s.stack ≤ 1
   in_work_once k = let e = h.in_work k in let f = one_at_most (get_or s.entered k false && not (get_or s.done k false)) in omega arith
-
-  -- what has been entered and isn't done is in work
-  pub in_work_there : (k : ℕ) → get_or s.entered k false ≡ true → get_or s.done k false ≡ false → 1 ≤ times k s.stack
-  in_work_there k e d = let f = h.in_work k ∙ in_work_one (get_or s.entered k false) (get_or s.done k false) e d in omega arith
 
   -- ---- a new node in work
   module _ (node : ℕ) (within : node < n) (fresh : get_or s.entered node false ≡ false) (led : 0 < length s.stack → HasEdge edges (slice_index s.stack (length s.stack - 1)) node) where
@@ -151,9 +146,6 @@ module _ (n : ℕ) (edges : List (ℕ × ℕ)) (ends : EndsBelow n edges) (s : S
         linked = linked_front edges (take (length s.stack - 1) s.stack) (top ∷ []) (subst (AreLinked edges) stack_is h.linked);
         done_entered = λ k d. ⊎_elim (λ e. subst (λ (v : ℕ). get_or s.entered v false ≡ true) (sym e) top_both.0) (h.done_entered k) (was_done k d);
       }
-
-      pub finished_less : work (finishing top s) < work s
-      finished_less = let e = length-take (length s.stack - 1) s.stack in omega arith
 
     -- ---- its next edge
     module _ (i : ℕ) (cursor : slice_index s.cursors top ≡ suc i) where

@@ -1,11 +1,11 @@
 -- The relation that a table of bits stands for.
-use Rattle.std.proofs.Common.{◌≡◌, ◌≢◌, ℕ, Bool, true, false, cond, ◌+◌, ◌*◌, ◌<◌, ◌≤◌, ◌⊎◌, inl, inr, ⊎_elim, List, [], get_or, length, refl, sym, ap, ◌∙◌, subst, arith}
+use Rattle.std.proofs.Common.{◌≡◌, ℕ, Bool, true, false, cond, ◌+◌, ◌*◌, ◌<◌, ◌≤◌, ⊎_elim, List, [], get_or, length, sym, ap, ◌∙◌, arith}
 use Rattle.std.specs.Prelude.{map, IsTrue, nat_lt, ◌&&◌}
 use Rattle.std.specs.List.{range_with_len}
 use Rattle.std.proofs.lemmas.Bool.{cases_lt, lt-ltb}
 use Rattle.std.proofs.lemmas.List.{get_or_past}
 use Rattle.std.proofs.lemmas.List.FromFn.{get_or-map-range_with_len, length-map-range_with_len}
-use Rattle.orders.specs.Relation.{Relation, comes, Comes, IsStrictOrder, old_number}
+use Rattle.orders.specs.Relation.{comes, Comes, old_number}
 use Rattle.orders.specs.Table.{width_of, cell, relation_of, IsOrderTable}
 
 abbrev row : ℕ → List ℕ → ℕ → List Bool

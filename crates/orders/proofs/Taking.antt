@@ -1,13 +1,12 @@
 -- Taking the least node that may come next, until none is left.
-use Rattle.std.proofs.Common.{◌≡◌, ◌≢◌, ℕ, zero, suc, Bool, true, false, not, cond, ◌==◌, ◌+◌, ◌<◌, ◌≤◌, ◌⊎◌, inl, inr, ⊎_elim, List, [], ◌∷◌, ◌++◌, length, get_or, set, replicate, refl, sym, ap, ◌∙◌, subst, arith, append_assoc}
+use Rattle.std.proofs.Common.{◌≡◌, ℕ, zero, suc, Bool, true, false, cond, ◌+◌, ◌<◌, ◌≤◌, ⊎_elim, List, [], ◌∷◌, ◌++◌, length, get_or, set, refl, sym, ap, ◌∙◌, subst, arith, append_assoc}
 use Rattle.std.specs.Prelude.{slice_index, IsTrue, if◌then◌else◌}
-use Rattle.std.specs.List.{AllByRecursion}
 use Rattle.std.proofs.lemmas.Bool.{cases_lt, cases_eq}
-use Rattle.std.proofs.lemmas.List.{append-nil, get_or-set_same, get_or-set_other, get_or_past, length-set, get_or-replicate, length-replicate}
+use Rattle.std.proofs.lemmas.List.{append-nil, get_or-set_same, get_or-set_other, get_or_past, length-set}
 use Rattle.fs_semantics.specs.Orders.{times, NoneAhead, IsLinearExtension}
 use Rattle.orders.specs.Relation.{Relation, comes, Comes, IsStrictOrder}
 use Rattle.orders.specs.Extensions.{IsReady, IsLeastReady, TakesLeast}
-use Rattle.orders.specs.Counting.{waiting, count_false, CanGo}
+use Rattle.orders.specs.Counting.{waiting, CanGo}
 use Rattle.orders.proofs.Lists.{all_from, none_ahead_push}
 use Rattle.orders.proofs.Waits.{waiting_none, waiting_zero, waiting_set, waiting_same, clash}
 use Rattle.orders.proofs.MarkLaws.{count_more}

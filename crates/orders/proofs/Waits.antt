@@ -1,5 +1,5 @@
 -- How many nodes a node waits for.
-use Rattle.std.proofs.Common.{◌≡◌, ◌≢◌, ℕ, zero, suc, Bool, true, false, not, cond, ◌==◌, ◌+◌, ◌<◌, ◌≤◌, ◌⊎◌, inl, inr, ⊎_elim, List, [], ◌∷◌, ◌++◌, length, get_or, set, refl, sym, ap, ◌∙◌, subst, arith, add-one}
+use Rattle.std.proofs.Common.{◌≡◌, ℕ, zero, suc, Bool, true, false, not, cond, ◌+◌, ◌<◌, ◌≤◌, ⊎_elim, List, [], ◌∷◌, length, get_or, set, refl, sym, ap, ◌∙◌, subst, arith, add-one}
 use Rattle.std.specs.Prelude.{slice_index, ◌&&◌, if◌then◌else◌}
 use Rattle.std.proofs.lemmas.Bool.{cases_lt}
 use Rattle.std.proofs.lemmas.List.{get_or-set_same, get_or-set_other}
@@ -33,18 +33,6 @@ at_itself p false false n e f = cc
 pub waiting_le : (before : ℕ → ℕ → Bool) (taken : List Bool) (n b : ℕ) → waiting before taken n b ≤ n
 waiting_le before taken zero b = omega arith
 waiting_le before taken (suc n) b = omega (arith, waiting_le before taken n b, one_at_most (holds_up before taken n b))
-
-and_true : (t : Bool) → (t && true) ≡ t
-and_true true = refl
-and_true false = refl
-
-and_false : (t : Bool) → (t && false) ≡ false
-and_false true = refl
-and_false false = refl
-
--- one node more, while none is taken
-pub waiting_more : (before : ℕ → ℕ → Bool) (n b : ℕ) → waiting before [] (n + 1) b ≡ (if before n b then 1 else 0) + waiting before [] n b
-waiting_more before n b = ap (λ m. waiting before [] m b) (add-one n) ∙ ap (λ t. cond t 1 0 + waiting before [] n b) (and_true (before n b))
 
 -- how many wait goes by the marks below n alone
 pub waiting_same : (before : ℕ → ℕ → Bool) (taken other : List Bool) (n b : ℕ) → ((k : ℕ) → k < n → get_or taken k false ≡ get_or other k false) → waiting before taken n b ≡ waiting before other n b

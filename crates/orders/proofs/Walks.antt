@@ -1,7 +1,6 @@
 -- Walks by exchanges: places, pairs that stand the other way round, and the end of a walk.
-use Rattle.std.proofs.Common.{◌≡◌, ◌≢◌, ℕ, zero, suc, Bool, true, false, cond, ◌==◌, ◌+◌, ◌-◌, ◌<◌, ◌≤◌, ◌⊎◌, ⊎_elim, List, [], ◌∷◌, ◌++◌, length, get_or, set, take, drop, refl, sym, ap, ◌∙◌, subst, arith, add-one, eq-eqb, ne_eqb}
+use Rattle.std.proofs.Common.{◌≡◌, ◌≢◌, ℕ, zero, suc, cond, ◌+◌, ◌-◌, ◌<◌, ◌≤◌, ⊎_elim, List, [], ◌∷◌, ◌++◌, length, get_or, set, take, drop, refl, sym, ap, ◌∙◌, subst, arith, add-one, eq-eqb, ne_eqb}
 use Rattle.std.specs.Prelude.{slice_index, nat_lt, swap}
-use Rattle.std.specs.List.{AllByRecursion}
 use Rattle.std.proofs.lemmas.Bool.{cases_lt, cases_eq, lt-ltb, le-ltb}
 use Rattle.std.proofs.lemmas.List.{length-append, length-set, get_or-set_same, get_or-set_other, ext_get_or, take_more, take_all}
 use Rattle.fs_semantics.specs.Orders.{times, NoneAhead, IsLinearExtension}
@@ -166,9 +165,6 @@ walk_push n before from order next [] h e l = absurd h
 walk_push n before from order next (o ∷ []) h e l = (h.0, h.1, subst (λ (v : List ℕ). IsExchange before v next) (sym h.2) e, (refl, l, refl))
 walk_push n before from order next (o ∷ p ∷ orders) h e l = (h.0, h.1, h.2, walk_push n before p order next (p ∷ orders) h.3 e l)
 
-pub walking_begun : (n : ℕ) (before : ℕ → ℕ → Type 0) (from to : List ℕ) → IsLinearExtension n before from → IsWalking n before from to from (from ∷ [])
-walking_begun n before from to l = record { walk = (refl, l, refl); allowed = l; count = omega arith }
-
 module _ (n : ℕ) (before : ℕ → ℕ → Type 0) (from to order : List ℕ) (orders : List (List ℕ)) (last : IsLinearExtension n before to) (h : IsWalking n before from to order orders)
     (k : ℕ) (within : k + 1 < length order) (turned : place (get_or order (k + 1) 0) to < place (get_or order k 0) to) where
   within' : suc k < length order
@@ -305,6 +301,3 @@ module _ (n : ℕ) (order : List ℕ) (each : EachOnce n order) (i : ℕ) (place
         ∙ h.placed k (let e = ap (times k) (take_more order i 0 within) in omega (arith, times_append k (take i order) (get_or order i 0 ∷ []), times_other k (get_or order i 0) [] ne)))
         (cases_eq k (get_or order i 0));
   }
-
-pub placed_all : (n : ℕ) (order : List ℕ) → EachOnce n order → (i : ℕ) (places : List ℕ) → length order ≤ i → IsPlaced n order i places → (k : ℕ) → k < n → slice_index places k ≡ place k order
-placed_all n order each i places all h k l = h.placed k (let e = ap (times k) (take_all i order all) in let f = each.once k l in omega arith)

@@ -1,6 +1,5 @@
 -- Orders that differ by exchanges of two neighbours.
-use Rattle.std.specs.Prelude.{◌≡◌, ◌≢◌, ◌==◌, ℕ, zero, suc, ◌+◌, List, [], ◌∷◌, ◌++◌, Bool, Option, Some, None, nat_lt, IsTrue, if◌then◌else◌}
-use Rattle.std.specs.List.{AllByRecursion}
+use Rattle.std.specs.Prelude.{◌≡◌, ◌≢◌, ◌==◌, ℕ, suc, ◌+◌, List, [], ◌∷◌, ◌++◌, Bool, nat_lt, IsTrue, if◌then◌else◌}
 use Rattle.fs_semantics.specs.Orders.{IsLinearExtension}
 
 -- a and b differ and neither comes before the other

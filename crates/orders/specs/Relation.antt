@@ -1,5 +1,5 @@
 -- A relation between the nodes 0, 1, .. below a count, as a finite table.
-use Rattle.std.specs.Prelude.{◌≡◌, ℕ, ◌+◌, ◌<◌, List, [], Bool, false, nat_lt, slice_index_or, IsTrue, if◌then◌else◌}
+use Rattle.std.specs.Prelude.{ℕ, ◌+◌, ◌<◌, List, [], Bool, false, nat_lt, slice_index_or, IsTrue, if◌then◌else◌}
 
 -- for each node a row with an entry for each node
 pub record Relation : Type 0 where

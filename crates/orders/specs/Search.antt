@@ -1,5 +1,5 @@
 -- A search through a graph, depth first: what its arrays mean.
-use Rattle.std.specs.Prelude.{◌≡◌, ℕ, zero, suc, ◌+◌, ◌-◌, ◌*◌, ◌<◌, ◌≤◌, ◌⊎◌, ◌==◌, List, [], ◌∷◌, ◌++◌, Bool, true, false, not, ◌&&◌, length, slice_index, slice_index_or, slice_set, take, if◌then◌else◌}
+use Rattle.std.specs.Prelude.{◌≡◌, ℕ, zero, suc, ◌+◌, ◌-◌, ◌*◌, ◌<◌, ◌≤◌, ◌==◌, List, [], ◌∷◌, ◌++◌, Bool, true, false, not, ◌&&◌, length, slice_index, slice_index_or, slice_set, take, if◌then◌else◌}
 use Rattle.orders.specs.declared.search.Search.{Search}
 use Rattle.orders.specs.Paths.{HasEdge, Path}
 use Rattle.orders.specs.Table.{width_of, cell}

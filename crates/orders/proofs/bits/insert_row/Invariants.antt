@@ -1,4 +1,3 @@
-use Rattle.orders.specs.Table.{width_of}
 use Rattle.orders.proofs.Cells.{IsRowAdded}
 use Rattle.orders.proofs.bits.insert_row.Given as goal
 

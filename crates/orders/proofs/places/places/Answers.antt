@@ -1,4 +1,4 @@
-use Rattle.orders.proofs.Walks.{placed_more, placed_all, node_within}
+use Rattle.orders.proofs.Walks.{placed_more}
 use Rattle.orders.proofs.places.places.Goals as goal
 
 pub loop-k-preserved : goal.loop-k-preserved

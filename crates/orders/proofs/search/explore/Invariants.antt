@@ -1,5 +1,4 @@
-use Rattle.std.proofs.Common.{◌≡◌, ℕ, true, false, get_or}
-use Rattle.orders.specs.Search.{work, state_of, IsSearch}
+use Rattle.orders.specs.Search.{work, state_of}
 use Rattle.orders.proofs.Steps.{IsExploring}
 use Rattle.orders.proofs.search.explore.Given as goal
 

@@ -1,4 +1,4 @@
-use Rattle.std.proofs.Common.{◌<◌, ◌≡◌, ap, sym, ◌∙◌, subst, List, ℕ, arith}
+use Rattle.std.proofs.Common.{ap, sym, ◌∙◌, List, ℕ, arith}
 use Rattle.orders.specs.Relation.{Relation, comes}
 use Rattle.orders.specs.Table.{width_of, cell}
 use Rattle.orders.proofs.Tables.{comes_cell}

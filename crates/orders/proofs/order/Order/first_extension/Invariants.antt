@@ -1,4 +1,3 @@
-use Rattle.orders.specs.Relation.{IsStrictOrder}
 use Rattle.orders.specs.Counting.{count_false}
 use Rattle.orders.proofs.Taking.{IsTaking}
 use Rattle.orders.proofs.order.Order.first_extension.Given as goal

@@ -1,4 +1,4 @@
-use Rattle.std.proofs.Common.{ℕ, List, sym, ◌∙◌, arith}
+use Rattle.std.proofs.Common.{ℕ, List, sym, ◌∙◌}
 use Rattle.orders.specs.Paths.{Path, IsCycle}
 use Rattle.orders.proofs.Cycles.{cycle_path, if_cycle_map, err_of}
 use Rattle.orders.specs.Search.{state_of}

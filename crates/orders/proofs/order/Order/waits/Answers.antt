@@ -1,6 +1,6 @@
 use Rattle.std.proofs.Common.{[], arith}
 use Rattle.orders.specs.Relation.{comes}
-use Rattle.orders.proofs.Waits.{waiting_le, waiting_more}
+use Rattle.orders.proofs.Waits.{waiting_le}
 use Rattle.orders.proofs.order.Order.waits.Goals as goal
 
 pub hold-requires-clause-few : goal.hold-requires-clause-few

@@ -2,7 +2,7 @@ use Rattle.std.proofs.Common.{◌≡◌, ℕ, List, [], ◌∷◌, ◌++◌, ◌
 use Rattle.std.proofs.lemmas.List.{with_items_is}
 use Rattle.std.specs.Prelude.{swap}
 use Rattle.orders.specs.Relation.{Comes}
-use Rattle.orders.proofs.Walks.{walking_begun, walking_more, walking_less, walked, walked_length, turned_there, sorted_there}
+use Rattle.orders.proofs.Walks.{walking_more, walking_less, walked, walked_length, turned_there, sorted_there}
 use Rattle.orders.proofs.order.Order.walk.Goals as goal
 
 pub loop-k-smaller : goal.loop-k-smaller

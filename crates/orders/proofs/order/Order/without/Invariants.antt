@@ -1,5 +1,3 @@
-use Rattle.std.proofs.Common.{◌≡◌, ◌*◌, length}
-use Rattle.orders.specs.Table.{width_of}
 use Rattle.orders.proofs.Tables.{IsCopied}
 use Rattle.orders.proofs.order.Order.without.Given as goal
 
