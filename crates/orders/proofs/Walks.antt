@@ -2,7 +2,7 @@
 use Rattle.std.proofs.Common.{◌≡◌, ◌≢◌, ℕ, zero, suc, cond, ◌+◌, ◌-◌, ◌<◌, ◌≤◌, ⊎_elim, List, [], ◌∷◌, ◌++◌, length, get_or, set, take, drop, refl, sym, ap, ◌∙◌, subst, arith, add-one, eq-eqb, ne_eqb}
 use Rattle.std.specs.Prelude.{slice_index, nat_lt, swap}
 use Rattle.std.proofs.lemmas.Bool.{cases_lt, cases_eq, lt-ltb, le-ltb}
-use Rattle.std.proofs.lemmas.List.{length-append, length-set, get_or-set_same, get_or-set_other, ext_get_or, take_more, take_all}
+use Rattle.std.proofs.lemmas.List.{length-append, length-set, get_or-set_same, get_or-set_other, ext_get_or, take_more}
 use Rattle.fs_semantics.specs.Orders.{times, NoneAhead, IsLinearExtension}
 use Rattle.orders.specs.Counting.{EachOnce}
 use Rattle.orders.specs.Exchanges.{IsFree, IsExchange, IsWalk, place, count_ahead, count_turned}
