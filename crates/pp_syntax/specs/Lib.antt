@@ -6,3 +6,6 @@ pub mod Tokens
 pub mod Spelling
 pub mod Scanning
 pub mod Lexing
+pub mod Phrases
+pub mod TokenValues
+pub mod Derivation
