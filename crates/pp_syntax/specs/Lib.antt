@@ -9,3 +9,6 @@ pub mod Lexing
 pub mod Phrases
 pub mod TokenValues
 pub mod Derivation
+pub mod Statements
+pub mod LeftOut
+pub mod Depth
