@@ -29,25 +29,24 @@ abbrev NoneBefore : (List Lexeme → Lexeme → List Lexeme → Type 0) → List
 NoneBefore P all before = (b : List Lexeme) (u : Lexeme) (c : List Lexeme) → all ≡ b ++ u ∷ c → length b < length before → P b u c → ⊥
 
 module _ {S : Type 0} (step : S → Lexeme → S) (test : S → Lexeme → List Lexeme → Bool) (s : S) (P : List Lexeme → Lexeme → List Lexeme → Type 0)
-  (tells : (before : List Lexeme) (t : Lexeme) (behind : List Lexeme) → test (folded step s before) t behind ≡ true → P before t behind)
-  (told_by : (before : List Lexeme) (t : Lexeme) (behind : List Lexeme) → P before t behind → test (folded step s before) t behind ≡ true) where
-
+    (tells : (before : List Lexeme) (t : Lexeme) (behind : List Lexeme) → test (folded step s before) t behind ≡ true → P before t behind)
+    (told_by : (before : List Lexeme) (t : Lexeme) (behind : List Lexeme) → P before t behind → test (folded step s before) t behind ≡ true) where
   none_yet : (all before : List Lexeme) (t : Lexeme) (tokens : List Lexeme) → all ≡ before ++ t ∷ tokens → test (folded step s before) t tokens ≡ false → NoneBefore P all before → NoneBefore P all (before ++ t ∷ [])
   none_yet all before t tokens e fails none b u c f short p = elim (cases_lt (length b) (length before)) [
-      | inl below ↦ none b u c f below p
-      | inr above ↦
+    | inl below ↦ none b u c f below p
+    | inr above ↦
         let same = same_parts before b t u tokens c (sym e ∙ f) (omega (arith, length-append before (t ∷ []))) in
         both_ways (test (folded step s b) u c) (ap (λ (l : List Lexeme). test (folded step s l) u c) (sym same.0) ∙ ap (λ (x : Lexeme). test (folded step s before) x c) (sym same.1) ∙ ap (test (folded step s before) t) (sym same.2) ∙ fails) (told_by b u c p)
-    ]
+  ]
 
   -- what is found
   pub found : (all before tokens : List Lexeme) (x : Lexeme) → all ≡ before ++ tokens → NoneBefore P all before → first_where step test (folded step s before) tokens ≡ Some x → IsFirst P all x
   found all before [] x e none h = cc
   found all before (t ∷ tokens) x e none h = elim (test (folded step s before) t tokens) as (λ v. test (folded step s before) t tokens ≡ v → cond v (Some t) (first_where step test (step (folded step s before) t) tokens) ≡ Some x → IsFirst P all x) [
-      | true ↦ λ f k. subst (λ (y : Lexeme). IsFirst P all y) (some_same t x k) (record { front = before; back = tokens; whole = e; here = tells before t tokens f; first = none })
-      | false ↦ λ f k. found all (before ++ t ∷ []) tokens x (e ∙ sym (append_assoc before (t ∷ []) tokens)) (none_yet all before t tokens e f none)
+    | true ↦ λ f k. subst (λ (y : Lexeme). IsFirst P all y) (some_same t x k) (record { front = before; back = tokens; whole = e; here = tells before t tokens f; first = none })
+    | false ↦ λ f k. found all (before ++ t ∷ []) tokens x (e ∙ sym (append_assoc before (t ∷ []) tokens)) (none_yet all before t tokens e f none)
         (ap (λ (r : S). first_where step test r tokens) (folded-append step s before t) ∙ k)
-    ] refl h
+  ] refl h
     where
       some_same : (y z : Lexeme) → ◌≡◌ {A = Option Lexeme} (Some y) (Some z) → y ≡ z
       some_same y z k = cc
@@ -55,10 +54,10 @@ module _ {S : Type 0} (step : S → Lexeme → S) (test : S → Lexeme → List 
   pub nowhere : (all before tokens : List Lexeme) → all ≡ before ++ tokens → NoneBefore P all before → first_where step test (folded step s before) tokens ≡ None → IsNowhere P all
   nowhere all before [] e none h = λ b u c f p. none b u c f (omega (arith, ap length e, ap length f, length-append before [], length-append b (u ∷ c))) p
   nowhere all before (t ∷ tokens) e none h = elim (test (folded step s before) t tokens) as (λ v. test (folded step s before) t tokens ≡ v → cond v (Some t) (first_where step test (step (folded step s before) t) tokens) ≡ None → IsNowhere P all) [
-      | true ↦ λ f k. absurd (some_none k)
-      | false ↦ λ f k. nowhere all (before ++ t ∷ []) tokens (e ∙ sym (append_assoc before (t ∷ []) tokens)) (none_yet all before t tokens e f none)
+    | true ↦ λ f k. absurd (some_none k)
+    | false ↦ λ f k. nowhere all (before ++ t ∷ []) tokens (e ∙ sym (append_assoc before (t ∷ []) tokens)) (none_yet all before t tokens e f none)
         (ap (λ (r : S). first_where step test r tokens) (folded-append step s before t) ∙ k)
-    ] refl h
+  ] refl h
     where
       some_none : ◌≡◌ {A = Option Lexeme} (Some t) None → ⊥
       some_none k = cc

@@ -48,13 +48,16 @@ begins_test text (t ∷ tokens) h = and_from (is_sign t.kind) (bytes_eq t.text t
 -- ---- `class` and `define`
 
 names_tell : (k : Kind) (text : List ℕ) → names_by k text ≡ true → (k ≡ kind.Keyword) × ((text ≡ codes "class") ⊎ (text ≡ codes "define"))
-names_tell kind.Keyword text h = (refl, elim (or_cases (bytes_eq (codes "class") text) (is_among (codes "define" ∷ []) text) h) [
+names_tell kind.Keyword text h = (
+  refl,
+  elim (or_cases (bytes_eq (codes "class") text) (is_among (codes "define" ∷ []) text) h) [
     | inl e ↦ inl (sym (same_text (codes "class") text e))
     | inr e ↦ elim (or_cases (bytes_eq (codes "define") text) false e) [
       | inl f ↦ inr (sym (same_text (codes "define") text f))
       | inr f ↦ cc
     ]
-  ])
+  ],
+)
 names_tell kind.Sign text h = cc
 names_tell kind.Word text h = cc
 names_tell kind.Ref text h = cc

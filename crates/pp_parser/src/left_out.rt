@@ -11,7 +11,7 @@ const FUNCTIONS: [&str; 7] = [
     "include", "require", "contain", "realize", "fail", "notice", "warning",
 ];
 
-fn is_among(texts: &[&str], s: &str) -> bool
+pub fn is_among(texts: &[&str], s: &str) -> bool
     ensures { result ≡ is_among (map (λ t. t.now) texts.now) s.now }
 {
     for t in texts {
