@@ -10,7 +10,7 @@ use Rattle.pp_syntax.specs.declared.tree.Op.{Op}
 use Rattle.pp_syntax.specs.declared.tree.Op.TheVariants as op
 use Rattle.pp_syntax.specs.Tokens.{Lexeme, int_value}
 use Rattle.pp_syntax.specs.TokenValues.{SqOf, DqOf}
-use Rattle.pp_syntax.specs.Phrases.{◌then◌, Nothing, Token, Some, Sign, Keyword, Tight, Loose, place_of, Listed, MaybeListed}
+use Rattle.pp_syntax.specs.Phrases.{◌then◌, Nothing, Token, Some, Sign, Keyword, Tight, place_of, Listed, MaybeListed}
 
 -- an expression and the tokens that spell it
 abbrev pub Rule : Type 1

@@ -2,7 +2,6 @@
 use Rattle.std.specs.Prelude.{◌≡◌, ◌⊎◌, ℕ, zero, suc, ◌+◌, Bool, true, false, ◌==◌, ℤ, pos, List, [], ◌∷◌, ◌++◌, Option, codes}
 use Rattle.std.specs.Prelude as prelude
 use Rattle.std.specs.List.{list_any}
-use Rattle.pp_syntax.specs.declared.token.Kind.{Kind}
 use Rattle.pp_syntax.specs.declared.token.Kind.TheVariants as kind
 use Rattle.pp_syntax.specs.declared.tree.Expr.{Expr}
 use Rattle.pp_syntax.specs.declared.tree.Form.TheVariants as form
@@ -29,7 +28,7 @@ use Rattle.pp_syntax.specs.declared.tree.Manifest.{Manifest}
 use Rattle.pp_syntax.specs.Tokens.{Lexeme, is_among, int_value}
 use Rattle.pp_syntax.specs.TokenValues.{SqOf}
 use Rattle.pp_syntax.specs.Phrases.{◌then◌, Nothing, Maybe, Token, Some, Sign, Keyword, Tight, Loose, Comma, place_of, Each, Separated, Listed, MaybeListed}
-use Rattle.pp_syntax.specs.Derivation.{OptionOf, StringOf, PostfixOf, ReferenceOf, IsExpr, IsExprAt}
+use Rattle.pp_syntax.specs.Derivation.{OptionOf, StringOf, PostfixOf, ReferenceOf, IsExpr}
 
 -- ---- names
 
@@ -115,7 +114,7 @@ Hidden false = Nothing
 
 pub data OperandOf (E : Expr → List Lexeme → Type 0) (y : Operand) (tokens : List Lexeme) : Type 0 where
   resource : (at : ℕ) (hidden : Bool) (name : List ℕ) (bodies : List Body) → y ≡ operand.Declare at hidden name bodies → at ≡ place_of tokens → is_among functions name ≡ false
-    → (Hidden hidden then Some kind.Word name then InBraces (BodiesOf E bodies)) tokens → OperandOf E y tokens
+      → (Hidden hidden then Some kind.Word name then InBraces (BodiesOf E bodies)) tokens → OperandOf E y tokens
   class : (at : ℕ) (bodies : List Body) → y ≡ operand.Declare at false (codes "class") bodies → (Token kind.Keyword (codes "class") at then InBraces (BodiesOf E bodies)) tokens → OperandOf E y tokens
   collector : (at : ℕ) (name : List ℕ) (sought : Option Search) → y ≡ operand.Collect at name sought → (Token kind.Ref name at then Sign (codes "<|") then MaybeSearch E sought then Sign (codes "|>")) tokens → OperandOf E y tokens
   reference : (x : Expr) → y ≡ operand.Named (x ∷ []) → ReferenceOf E x tokens → OperandOf E y tokens
@@ -180,7 +179,7 @@ pub data StmtOf (E : Expr → List Lexeme → Type 0) (S : Stmt → List Lexeme 
   assign : (at : ℕ) (name : List ℕ) (value : Expr) → y ≡ stmt.Assign at name value → at ≡ place_of tokens → (VariableOf name then Sign (codes "=") then E value) tokens → StmtOf E S y tokens
   call : (at : ℕ) (f : Func) (args : List Expr) → y ≡ stmt.Call at f args → (Token kind.Word (word_of f) at then ArgsOf E args) tokens → StmtOf E S y tokens
   if : (at : ℕ) (first : Arm) (others : List Arm) (other : List Stmt) → y ≡ stmt.If at (first ∷ others) other
-    → (Token kind.Keyword (codes "if") at then ArmOf E S first then Each (Keyword (codes "elsif")) (ArmOf E S) others then ElseOf S other) tokens → StmtOf E S y tokens
+      → (Token kind.Keyword (codes "if") at then ArmOf E S first then Each (Keyword (codes "elsif")) (ArmOf E S) others then ElseOf S other) tokens → StmtOf E S y tokens
   unless : (at : ℕ) (test : Expr) (body other : List Stmt) → y ≡ stmt.Unless at test body other → (Token kind.Keyword (codes "unless") at then E test then BlockOf S body then ElseOf S other) tokens → StmtOf E S y tokens
   case : (at : ℕ) (value : Expr) (arms : List CaseArm) → y ≡ stmt.Case at value arms → (Token kind.Keyword (codes "case") at then E value then InBraces (CaseArms E S arms)) tokens → StmtOf E S y tokens
 
@@ -258,13 +257,13 @@ pub data NodeNameOf (E : Expr → List Lexeme → Type 0) : Option (List ℕ) �
 
 pub data ItemOf (E : Expr → List Lexeme → Type 0) (S : Stmt → List Lexeme → Type 0) (y : Item) (tokens : List Lexeme) : Type 0 where
   class : (at : ℕ) (name : List ℕ) (params : List Param) (parent : Option (List ℕ)) (body : List Stmt) → y ≡ item.Class at name params parent body
-    → (Token kind.Keyword (codes "class") at then Some kind.Word name then ParamsOf E params then ParentOf parent then BlockOf S body) tokens → ItemOf E S y tokens
+      → (Token kind.Keyword (codes "class") at then Some kind.Word name then ParamsOf E params then ParentOf parent then BlockOf S body) tokens → ItemOf E S y tokens
   define : (at : ℕ) (name : List ℕ) (params : List Param) (body : List Stmt) → y ≡ item.Define at name params body
-    → (Token kind.Keyword (codes "define") at then Some kind.Word name then ParamsOf E params then BlockOf S body) tokens → ItemOf E S y tokens
+      → (Token kind.Keyword (codes "define") at then Some kind.Word name then ParamsOf E params then BlockOf S body) tokens → ItemOf E S y tokens
   node : (at : ℕ) (names : List (Option (List ℕ))) (body : List Stmt) → y ≡ item.Node at names body
-    → (Token kind.Keyword (codes "node") at then Listed (NodeNameOf E) names then BlockOf S body) tokens → ItemOf E S y tokens
+      → (Token kind.Keyword (codes "node") at then Listed (NodeNameOf E) names then BlockOf S body) tokens → ItemOf E S y tokens
   defaults : (at : ℕ) (name : List ℕ) (attrs : List Attr) → y ≡ item.Defaults at name attrs
-    → (Token kind.Ref name at then InBraces (MaybeListed (AttrOf E) attrs)) tokens → ItemOf E S y tokens
+      → (Token kind.Ref name at then InBraces (MaybeListed (AttrOf E) attrs)) tokens → ItemOf E S y tokens
   plain : (s : Stmt) → y ≡ item.Plain s → S s tokens → ItemOf E S y tokens
 
 abbrev pub Items : (Expr → List Lexeme → Type 0) → (Stmt → List Lexeme → Type 0) → List Item → List Lexeme → Type 0

@@ -1,5 +1,5 @@
 -- What texts in quotes stand for.
-use Rattle.std.specs.Prelude.{◌≡◌, ◌≢◌, ℕ, ◌≤◌, Bool, ◌==◌, ◌||◌, if◌then◌else◌, List, [], ◌∷◌, ◌++◌, length, IsTrue, encode_utf8}
+use Rattle.std.specs.Prelude.{◌≡◌, ◌≢◌, ℕ, ◌≤◌, ◌==◌, ◌||◌, if◌then◌else◌, List, [], ◌∷◌, ◌++◌, length, IsTrue, encode_utf8}
 use Rattle.pp_syntax.specs.Bytes.{is_hex}
 use Rattle.pp_syntax.specs.Tokens.{Of, is_simple_escape, is_scalar, hex_value, NoEscape}
 
