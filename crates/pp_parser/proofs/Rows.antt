@@ -19,6 +19,7 @@ length_reversed items = sym (length-reverse items)
 pub record IsBelow (n : Nesting) (k : ℕ) : Type 0 where
   pub run : n.run ≤ k
   pub row : n.row ≤ k
+  pub asked : n.asked ≤ k
   pub opened : AllByRecursion (λ r. r ≤ k) n.opened
 
 above : (rows : List ℕ) (k : ℕ) → AllByRecursion (λ r. r ≤ k) rows → AllByRecursion (λ r. r ≤ k + 1) rows
@@ -33,18 +34,14 @@ outer_below : (rows : List ℕ) (k : ℕ) → AllByRecursion (λ r. r ≤ k) row
 outer_below [] k h = tt
 outer_below (r ∷ rows) k h = above rows k h.1
 
-asked_below : (v : Bool) (row k : ℕ) → row ≤ k → cond v (row + 1) 0 ≤ k + 1
-asked_below true row k h = omega arith
-asked_below false row k h = omega arith
-
 pub behind_below : (n : Nesting) (s : Shape) (k : ℕ) → IsBelow n k → IsBelow (behind_shape n s) (k + 1)
-behind_below n Opens k h = record { run = omega arith; row = omega arith; opened = (omega arith, above n.opened k h.opened) }
-behind_below n Indexes k h = record { run = omega arith; row = omega arith; opened = (omega (arith, h.row), above n.opened k h.opened) }
-behind_below n Braces k h = record { run = omega arith; row = omega arith; opened = (asked_below n.asked n.row k h.row, above n.opened k h.opened) }
-behind_below n Closes k h = record { run = omega arith; row = inner_below n.opened k h.opened; opened = outer_below n.opened k h.opened }
-behind_below n Asks k h = record { run = omega arith; row = omega (arith, h.row); opened = above n.opened k h.opened }
-behind_below n Prefixes k h = record { run = omega (arith, h.run); row = omega arith; opened = above n.opened k h.opened }
-behind_below n Other k h = record { run = omega arith; row = omega arith; opened = above n.opened k h.opened }
+behind_below n Opens k h = record { run = omega arith; row = omega arith; asked = omega arith; opened = (omega arith, above n.opened k h.opened) }
+behind_below n Indexes k h = record { run = omega arith; row = omega arith; asked = omega arith; opened = (omega (arith, h.row), above n.opened k h.opened) }
+behind_below n Braces k h = record { run = omega arith; row = omega arith; asked = omega arith; opened = (omega (arith, h.asked), above n.opened k h.opened) }
+behind_below n Closes k h = record { run = omega arith; row = inner_below n.opened k h.opened; asked = omega arith; opened = outer_below n.opened k h.opened }
+behind_below n Asks k h = record { run = omega arith; row = omega arith; asked = omega (arith, h.row); opened = above n.opened k h.opened }
+behind_below n Prefixes k h = record { run = omega (arith, h.run); row = omega arith; asked = omega arith; opened = above n.opened k h.opened }
+behind_below n Other k h = record { run = omega arith; row = omega arith; asked = omega arith; opened = above n.opened k h.opened }
 
 -- A token that isn't too deep is passed.
 pub passes : (n next : Nesting) (tokens : List Token) (i : ℕ) (d : Token) (s : Shape) → i < length tokens → s ≡ shape_of (get_or tokens i d).kind (get_or tokens i d).text.now → depth_of n s ≤ 64 → next ≡ behind_shape n s

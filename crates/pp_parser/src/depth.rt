@@ -1,4 +1,4 @@
-ghost use Rattle.std.specs.Prelude.{◌≡◌, ◌+◌, ◌<◌, ◌^◌, [], ◌∷◌, map, length, codes, OnOk, OnErr, IfOk, false};
+ghost use Rattle.std.specs.Prelude.{◌≡◌, ◌+◌, ◌<◌, ◌^◌, [], ◌∷◌, map, length, codes, OnOk, OnErr, IfOk};
 ghost use Rattle.std.specs.Option.{option_map};
 ghost use Rattle.pp_syntax.specs.Tokens.{is_among};
 ghost use Rattle.pp_syntax.specs.Lexing.{told, lexeme_of};
@@ -75,7 +75,7 @@ pub struct Nesting {
     pub opened: Rows,
     pub run: u64,
     pub row: u64,
-    pub asked: bool,
+    pub asked: u64,
 }
 
 fn sign_shape(text: &str) -> Shape
@@ -119,17 +119,17 @@ impl Nesting {
             opened: Rows::new(alloc),
             run: 0,
             row: 0,
-            asked: false,
+            asked: 0,
         }
     }
 
     fn open(&mut self, row: u64) -> Result<(), NoMemory>
-        ensures { OnOk result (nesting_of self.new ≡ record { opened = row ∷ self.old.opened; run = 0; row = 0; asked = false }) }
+        ensures { OnOk result (nesting_of self.new ≡ record { opened = row ∷ self.old.opened; run = 0; row = 0; asked = 0 }) }
     {
         self.opened.push(row)?;
         self.run = 0;
         self.row = 0;
-        self.asked = false;
+        self.asked = 0;
         Ok(())
     }
 
@@ -142,28 +142,26 @@ impl Nesting {
         match shape {
             Shape::Opens => self.open(0)?,
             Shape::Indexes => self.open(self.row + 1)?,
-            Shape::Braces => {
-                let row = if self.asked { self.row + 1 } else { 0 };
-                self.open(row)?;
-            }
+            Shape::Braces => self.open(self.asked)?,
             Shape::Closes => {
                 self.row = self.opened.pop();
                 self.run = 0;
-                self.asked = false;
+                self.asked = 0;
             }
             Shape::Asks => {
                 self.run = 0;
-                self.asked = true;
+                self.asked = self.row + 1;
+                self.row = 0;
             }
             Shape::Prefixes => {
                 self.run += 1;
                 self.row = 0;
-                self.asked = false;
+                self.asked = 0;
             }
             Shape::Other => {
                 self.run = 0;
                 self.row = 0;
-                self.asked = false;
+                self.asked = 0;
             }
         }
         Ok(())

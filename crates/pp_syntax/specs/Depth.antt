@@ -1,5 +1,5 @@
 -- How deep a token is nested.
-use Rattle.std.specs.Prelude.{ℕ, ◌+◌, ◌<◌, Bool, true, false, if◌then◌else◌, List, [], ◌∷◌, length, codes}
+use Rattle.std.specs.Prelude.{ℕ, ◌+◌, ◌<◌, if◌then◌else◌, List, [], ◌∷◌, length, codes}
 use Rattle.pp_syntax.specs.declared.token.Kind.{Kind}
 use Rattle.pp_syntax.specs.declared.token.Kind.TheVariants as kind
 use Rattle.pp_syntax.specs.Tokens.{Lexeme, is_among}
@@ -12,11 +12,11 @@ pub record Nesting : Type 0 where
   pub run : ℕ
   -- how many postfixes stand in one row
   pub row : ℕ
-  -- whether a `?` is the last token
-  pub asked : Bool
+  -- where a `?` is the last token: how many postfixes in one row end where the `{` behind it is closed
+  pub asked : ℕ
 
 abbrev pub at_start : Nesting
-at_start = record { opened = []; run = 0; row = 0; asked = false }
+at_start = record { opened = []; run = 0; row = 0; asked = 0 }
 
 -- what a token is for the depth: `(`, `[` that isn't tight, `${` and `<|`; the tight `[`; `{`; a closing bracket, of any kind; `?`; `!` and `-`; any other
 pub data Shape : Type 0 where
@@ -54,13 +54,13 @@ outer_of (r ∷ outer) = outer
 
 -- A postfix is a tight `[` with all up to the bracket that closes it, or a `?` with a `{` directly behind it and all up to the bracket that closes that.
 abbrev pub behind_shape : Nesting → Shape → Nesting
-behind_shape n Opens = record { opened = 0 ∷ n.opened; run = 0; row = 0; asked = false }
-behind_shape n Indexes = record { opened = (n.row + 1) ∷ n.opened; run = 0; row = 0; asked = false }
-behind_shape n Braces = record { opened = (if n.asked then n.row + 1 else 0) ∷ n.opened; run = 0; row = 0; asked = false }
-behind_shape n Closes = record { opened = outer_of n.opened; run = 0; row = innermost n.opened; asked = false }
-behind_shape n Asks = record { opened = n.opened; run = 0; row = n.row; asked = true }
-behind_shape n Prefixes = record { opened = n.opened; run = n.run + 1; row = 0; asked = false }
-behind_shape n Other = record { opened = n.opened; run = 0; row = 0; asked = false }
+behind_shape n Opens = record { opened = 0 ∷ n.opened; run = 0; row = 0; asked = 0 }
+behind_shape n Indexes = record { opened = (n.row + 1) ∷ n.opened; run = 0; row = 0; asked = 0 }
+behind_shape n Braces = record { opened = n.asked ∷ n.opened; run = 0; row = 0; asked = 0 }
+behind_shape n Closes = record { opened = outer_of n.opened; run = 0; row = innermost n.opened; asked = 0 }
+behind_shape n Asks = record { opened = n.opened; run = 0; row = 0; asked = n.row + 1 }
+behind_shape n Prefixes = record { opened = n.opened; run = n.run + 1; row = 0; asked = 0 }
+behind_shape n Other = record { opened = n.opened; run = 0; row = 0; asked = 0 }
 
 -- the depth at a token of this shape: the brackets that are open, itself included; the run of `!` and `-` that ends there; and at a postfix those in one row before it
 abbrev pub depth_of : Nesting → Shape → ℕ
