@@ -1,10 +1,10 @@
 -- The token that is found too deep is the first.
-use Rattle.std.proofs.Common.{◌≡◌, ℕ, ◌<◌, Bool, true, List, [], ◌∷◌, ◌++◌, Option, Some, None, refl, sym, ap, ◌∙◌, nat_lt}
+use Rattle.std.proofs.Common.{◌≡◌, true, List, [], ◌∷◌, Some, None, refl, sym, ap, ◌∙◌, nat_lt}
 use Rattle.std.proofs.lemmas.Bool.{ltb-true, lt-ltb}
 use Rattle.pp_syntax.specs.Tokens.{Lexeme}
 use Rattle.pp_syntax.specs.LeftOut.{IsFirst, IsNowhere}
 use Rattle.pp_syntax.specs.Depth.{Nesting, at_start, shape_of, depth_of, nesting_from, depth_at, depth_limit, IsTooDeep}
-use Rattle.pp_parser.specs.Scanning.{first_where, behind, is_too_deep, first_too_deep}
+use Rattle.pp_parser.specs.Scanning.{behind, is_too_deep, first_too_deep}
 use Rattle.pp_parser.proofs.First.{folded, found_all, nowhere_all}
 
 same_nesting : (n : Nesting) (before : List Lexeme) → folded behind n before ≡ nesting_from n before

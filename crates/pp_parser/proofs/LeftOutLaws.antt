@@ -1,5 +1,5 @@
 -- The test for tokens that are left out, against what it means.
-use Rattle.std.proofs.Common.{◌≡◌, ◌≢◌, ◌⊎◌, inl, inr, ℕ, Bool, true, false, cond, ◌&&◌, not, List, [], ◌∷◌, ◌++◌, Option, Some, None, refl, sym, ap, subst, ◌∙◌}
+use Rattle.std.proofs.Common.{◌≡◌, ◌≢◌, ◌⊎◌, inl, inr, ℕ, Bool, true, false, ◌&&◌, not, List, [], ◌∷◌, Some, None, refl, sym, ap, ◌∙◌}
 use Rattle.std.specs.Prelude.{codes}
 use Rattle.std.specs.Str.{bytes_eq}
 use Rattle.std.proofs.lemmas.Bool.{and_parts, and_from, both_ways, not-true, not_from_false, or_cases, cases_Bool}
@@ -9,8 +9,8 @@ use Rattle.pp_syntax.specs.declared.token.Kind.TheVariants as kind
 use Rattle.pp_syntax.specs.Tokens.{Lexeme, is_among}
 use Rattle.pp_syntax.specs.Statements.{functions}
 use Rattle.pp_syntax.specs.LeftOut.{IsFirst, IsNowhere, BeginsWith, NamesFollow, IsLeftOut, sign, float, splat, function}
-use Rattle.pp_parser.specs.Scanning.{is_sign, begins_with, names_by, names_follow, left_out_by, is_left_out, first_where, first_left_out}
-use Rattle.pp_parser.proofs.First.{folded, folded-append, found_all, nowhere_all}
+use Rattle.pp_parser.specs.Scanning.{is_sign, begins_with, names_by, names_follow, left_out_by, is_left_out, first_left_out}
+use Rattle.pp_parser.proofs.First.{folded, found_all, nowhere_all}
 
 same_text : (a b : List ℕ) → bytes_eq a b ≡ true → a ≡ b
 same_text a b h = (bytes_eq-Decides a b).0 h

@@ -1,9 +1,9 @@
 -- The rows of postfixes.
-use Rattle.std.proofs.Common.{◌≡◌, ℕ, ◌+◌, ◌<◌, ◌≤◌, List, [], ◌∷◌, length, reverse, refl, sym, arith}
-use Rattle.std.proofs.Common.{Bool, true, false, cond}
+use Rattle.std.proofs.Common.{◌≡◌, ℕ, ◌+◌, ◌<◌, ◌≤◌, List, [], ◌∷◌, length, reverse, sym, arith}
+use Rattle.std.proofs.Common.{false, cond}
 use Rattle.std.specs.List.{AllByRecursion}
 use Rattle.pp_syntax.specs.Depth.{Nesting, Shape, Opens, Indexes, Braces, Closes, Asks, Prefixes, Other, innermost, outer_of, shape_of, behind_shape, depth_of}
-use Rattle.std.proofs.Common.{suc, add-one, ◌∙◌, ap, subst, drop, get_or, Option, Some, None, nat_lt}
+use Rattle.std.proofs.Common.{add-one, ◌∙◌, ap, subst, drop, get_or, Some, nat_lt}
 use Rattle.std.proofs.Math.Seq.{drop-cons}
 use Rattle.std.proofs.lemmas.Bool.{le-ltb}
 use Rattle.pp_syntax.specs.declared.token.Token.{Token}

@@ -1,5 +1,4 @@
 -- What the program's numbers mean for the depth.
-use Rattle.std.specs.Prelude.{ℕ}
 use Rattle.pp_syntax.specs.Depth as depth
 use Rattle.pp_parser.specs.declared.depth.Shape.{Shape}
 use Rattle.pp_parser.specs.declared.depth.Shape.TheVariants as shape

@@ -1,5 +1,5 @@
 -- Which tokens are refused before they are parsed, and how.
-use Rattle.std.specs.Prelude.{◌≡◌, ◌⊎◌, ℕ, List, codes}
+use Rattle.std.specs.Prelude.{◌⊎◌, List, codes}
 use Rattle.rh_base.specs.declared.fault.Refusal.{Refusal}
 use Rattle.rh_base.specs.Refused.{IsRefusal}
 use Rattle.pp_syntax.specs.Tokens.{Lexeme}
