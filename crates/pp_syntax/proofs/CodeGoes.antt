@@ -1,18 +1,17 @@
 -- Tokens outside of double quotes: what is spelled is read, or more.
-use Rattle.std.proofs.Common.{◌≡◌, ◌≢◌, ◌⊎◌, inl, inr, ℕ, ◌+◌, ◌<◌, ◌≤◌, Bool, true, false, cond, ◌&&◌, ◌||◌, ◌==◌, not, List, [], ◌∷◌, ◌++◌, length, Option, Some, None, refl, sym, ap, subst, ◌∙◌, arith, append_assoc}
-use Rattle.std.specs.Prelude.{IsTrue}
+use Rattle.std.proofs.Common.{◌≡◌, ◌≢◌, inl, inr, ℕ, ◌<◌, ◌≤◌, Bool, true, false, cond, ◌&&◌, ◌==◌, not, List, [], ◌∷◌, ◌++◌, length, Some, None, refl, sym, ap, subst, ◌∙◌, arith, append_assoc}
 use Rattle.std.specs.Option.{option_map}
-use Rattle.std.proofs.lemmas.Bool.{and_parts, eqb-true, eqb-false, ne_eqb, both_ways, or_left, not-true}
+use Rattle.std.proofs.lemmas.Bool.{and_parts, eqb-false, ne_eqb, both_ways, or_left, not-true}
 use Rattle.std.proofs.lemmas.Bool.Decides.{nat_tests}
 use Rattle.pp_syntax.specs.declared.token.Kind.{Kind}
 use Rattle.pp_syntax.specs.declared.token.Kind.TheVariants as kind
 use Rattle.pp_syntax.specs.declared.lexer.bytes.Style.{Style}
 use Rattle.pp_syntax.specs.declared.lexer.bytes.Style.TheVariants as style
 use Rattle.pp_syntax.specs.Bytes.{is_digit, is_upper, is_lower, is_name}
-use Rattle.pp_syntax.specs.Tokens.{Of, begins, goes_on, NoDashLast, Segment, Joined, one, another, Name, is_among, keywords, signs, left_out, Spelling, IntText, FloatText, SqText}
-use Rattle.pp_syntax.specs.Scanning.{Found, front_of, of_kind, or_else, segment, all_segments, tail_from, after_colons, joined, name, word_kind, word_found, number, after_sq, sign_of, sign, scoped, scoped_or_sign, token_by, code_token}
-use Rattle.pp_syntax.proofs.Steps.{Takes, takes_short, front_is, Leaves, Goes, goes_by, goes_far, goes_along}
-use Rattle.pp_syntax.proofs.Names.{joined_takes, joined_reaches, joined_first, name_takes, name_reaches, no_colons, colons_are}
+use Rattle.pp_syntax.specs.Tokens.{Of, begins, goes_on, NoDashLast, Segment, Joined, one, is_among, keywords, signs, left_out, Spelling, IntText, FloatText}
+use Rattle.pp_syntax.specs.Scanning.{front_of, of_kind, or_else, segment, all_segments, tail_from, after_colons, joined, name, word_kind, word_found, number, after_sq, sign_of, sign, scoped, scoped_or_sign, token_by, code_token}
+use Rattle.pp_syntax.proofs.Steps.{takes_short, front_is, Leaves, Goes, goes_by, goes_along}
+use Rattle.pp_syntax.proofs.Names.{joined_takes, joined_reaches, joined_first, name_reaches, no_colons, colons_are}
 use Rattle.pp_syntax.proofs.Numbers.{int_goes, float_goes, int_first, float_first}
 use Rattle.pp_syntax.proofs.Quotes.{sq_reads}
 use Rattle.pp_syntax.proofs.Signs.{either_found, of_each, sign_goes, sign_lead, is_sized, sized_sign, sized_left_out, only_left_out, lead_by_sign, or_goes}

@@ -1,20 +1,17 @@
 -- Tokens outside of double quotes: what is read is spelled, and what is spelled is read, or more.
-use Rattle.std.proofs.Common.{◌≡◌, ◌≢◌, ◌⊎◌, inl, inr, ℕ, ◌+◌, ◌<◌, ◌≤◌, Bool, true, false, cond, ◌&&◌, ◌||◌, ◌==◌, not, List, [], ◌∷◌, ◌++◌, length, Option, Some, None, refl, sym, ap, subst, ◌∙◌, arith, append_assoc}
-use Rattle.std.specs.Prelude.{IsTrue}
-use Rattle.std.proofs.lemmas.Bool.{and_parts, eqb-true, eqb-false, ne_eqb, both_ways, not-true}
-use Rattle.std.proofs.lemmas.Bool.Decides.{nat_tests}
+use Rattle.std.proofs.Common.{◌≡◌, inl, inr, ℕ, Bool, true, false, cond, ◌==◌, List, [], ◌∷◌, Option, Some, None, refl, sym, ap, subst, ◌∙◌}
+use Rattle.std.proofs.lemmas.Bool.{eqb-true, both_ways}
 use Rattle.pp_syntax.specs.declared.token.Kind.{Kind}
 use Rattle.pp_syntax.specs.declared.token.Kind.TheVariants as kind
-use Rattle.pp_syntax.specs.declared.lexer.bytes.Style.{Style}
 use Rattle.pp_syntax.specs.declared.lexer.bytes.Style.TheVariants as style
 use Rattle.pp_syntax.specs.Bytes.{is_digit, is_upper, is_lower}
-use Rattle.pp_syntax.specs.Tokens.{Of, begins, goes_on, NoDashLast, Segment, Joined, one, another, Name, is_among, keywords, signs, left_out, Spelling, IntText, FloatText, SqText}
-use Rattle.pp_syntax.specs.Scanning.{Found, front_of, of_kind, or_else, segment, after_colons, joined, name, word_kind, word_found, number, after_sq, sign_of, sign, scoped, scoped_or_sign, token_by, code_token}
-use Rattle.pp_syntax.proofs.Steps.{Takes, takes_short, front_is, Leaves, Goes, goes_by, goes_far, goes_along}
-use Rattle.pp_syntax.proofs.Names.{joined_takes, joined_reaches, joined_first, name_takes, name_reaches, no_colons, colons_are}
-use Rattle.pp_syntax.proofs.Numbers.{NumberText, number_takes, int_goes, float_goes, int_first, float_first}
-use Rattle.pp_syntax.proofs.Quotes.{SqRest, sq_takes, sq_reads}
-use Rattle.pp_syntax.proofs.Signs.{of_each, SignText, either_found, sign_takes, sign_goes, sign_lead, is_sized, sized_sign, sized_left_out, only_left_out, lead_by_sign, or_goes}
+use Rattle.pp_syntax.specs.Tokens.{begins, Joined, Name, is_among, keywords, Spelling}
+use Rattle.pp_syntax.specs.Scanning.{Found, front_of, of_kind, after_colons, joined, name, word_kind, word_found, number, after_sq, sign, scoped, scoped_or_sign, token_by, code_token}
+use Rattle.pp_syntax.proofs.Steps.{Takes, front_is}
+use Rattle.pp_syntax.proofs.Names.{joined_takes, name_takes, colons_are}
+use Rattle.pp_syntax.proofs.Numbers.{NumberText, number_takes}
+use Rattle.pp_syntax.proofs.Quotes.{SqRest, sq_takes}
+use Rattle.pp_syntax.proofs.Signs.{of_each, SignText, either_found, sign_takes}
 
 abbrev pub Code : Found → List ℕ → Type 0
 Code found text = (x : Kind × List ℕ) → found ≡ Some x → Takes (Spelling x.0) text x.1

@@ -1,12 +1,12 @@
 -- How far an escape in double quotes goes.
-use Rattle.std.proofs.Common.{◌≡◌, ◌≢◌, ◌⊎◌, inl, inr, ℕ, zero, suc, ◌+◌, ◌-◌, ◌<◌, ◌≤◌, Bool, true, false, cond, ◌&&◌, ◌==◌, List, [], ◌∷◌, ◌++◌, length, Option, Some, None, refl, sym, ap, subst, ◌∙◌, arith, append_assoc, length-append}
-use Rattle.std.specs.Prelude.{IfSome, IsTrue}
+use Rattle.std.proofs.Common.{◌≡◌, ◌≢◌, ◌⊎◌, inl, inr, ℕ, ◌+◌, ◌<◌, ◌≤◌, Bool, true, false, cond, ◌==◌, List, [], ◌∷◌, ◌++◌, length, Option, Some, None, refl, sym, ap, subst, ◌∙◌, arith, append_assoc, length-append}
+use Rattle.std.specs.Prelude.{IfSome}
 use Rattle.std.specs.Option.{option_map}
-use Rattle.std.proofs.lemmas.Bool.{and_parts, eqb-true, eqb-false, ltb-true, leb-true, cases_Bool}
+use Rattle.std.proofs.lemmas.Bool.{and_parts, eqb-true, eqb-false, ltb-true, leb-true}
 use Rattle.pp_syntax.specs.Bytes.{is_hex}
-use Rattle.pp_syntax.specs.Tokens.{Of, Escape, simple, four, braced, NoEscape, is_simple_escape, is_scalar, hex_value}
-use Rattle.pp_syntax.specs.Scanning.{front_of, after_all, begins_with, braced_by, braced_len, four_len, unicode_len, escape_len, unit_len, opens}
-use Rattle.pp_syntax.proofs.Steps.{Takes, all_takes, front_is, cond_some}
+use Rattle.pp_syntax.specs.Tokens.{Escape, simple, four, braced, NoEscape, is_simple_escape, is_scalar, hex_value}
+use Rattle.pp_syntax.specs.Scanning.{after_all, begins_with, braced_by, braced_len, four_len, unicode_len, escape_len}
+use Rattle.pp_syntax.proofs.Steps.{all_takes, front_is, cond_some}
 
 -- the first n bytes of the text behind a backslash make an escape with it
 pub record EscapeFound (text : List ℕ) (n : ℕ) : Type 0 where

@@ -1,7 +1,7 @@
 -- What is left behind the front of a text isn't longer than the text.
 use Rattle.std.proofs.Common.{◌≡◌, ℕ, ◌≤◌, Bool, true, false, cond, List, [], ◌∷◌, length, refl, ap, ◌∙◌, arith}
-use Rattle.std.specs.Prelude.{zero, suc, Option, Some, None, drop, ◌==◌, IfSome}
-use Rattle.pp_syntax.specs.Scanning.{after_all, text_from, unit_len, past_unit, escape_len, opens, unicode_len, four_len, braced_len, braced_by}
+use Rattle.std.specs.Prelude.{zero, suc, Some, None, drop}
+use Rattle.pp_syntax.specs.Scanning.{after_all, text_from, unit_len, past_unit}
 
 at_front : (v : Bool) (b : ℕ) (rest text : List ℕ) → length rest ≤ length text → length (cond v rest (b ∷ text)) ≤ length (b ∷ text)
 at_front true b rest text h = omega arith

@@ -1,12 +1,9 @@
 -- Blanks and comments: what is passed is one, and each is passed.
-use Rattle.std.proofs.Common.{◌≡◌, ◌≢◌, ◌⊎◌, inl, inr, ℕ, ◌+◌, ◌<◌, ◌≤◌, Bool, true, false, cond, ◌&&◌, ◌||◌, ◌==◌, not, List, [], ◌∷◌, ◌++◌, length, Option, Some, None, refl, sym, ap, subst, ◌∙◌, arith, append_assoc}
-use Rattle.std.specs.Prelude.{IsTrue}
-use Rattle.std.proofs.lemmas.Bool.{and_parts, and_from, or_cases, or_parts, eqb-true, eqb-false, eq-eqb, ne_eqb, both_ways, not-true, not-false}
-use Rattle.pp_syntax.specs.declared.lexer.bytes.Class.TheVariants as class
+use Rattle.std.proofs.Common.{◌≡◌, ◌≢◌, inl, inr, ℕ, Bool, true, false, cond, ◌&&◌, ◌||◌, ◌==◌, not, List, [], ◌∷◌, ◌++◌, Some, None, refl, sym, ap, subst, ◌∙◌}
+use Rattle.std.proofs.lemmas.Bool.{and_parts, and_from, or_cases, eqb-true, eq-eqb, both_ways}
 use Rattle.pp_syntax.specs.Bytes.{is_blank}
-use Rattle.pp_syntax.specs.Tokens.{Of}
 use Rattle.pp_syntax.specs.Spelling.{ToClose, close, more, AtLineEnd, IsGap, blank, line, block}
-use Rattle.pp_syntax.specs.Scanning.{Found, in_class, after_all, begins_with, behind_first, after_close, after_block, gap_of, sign_of, sign_found, sign, one_byte, two_bytes, three_bytes, token_by, scoped, after_colons, scoped_or_sign, or_else, code_token, opens_comment, found_at}
+use Rattle.pp_syntax.specs.Scanning.{Found, after_all, begins_with, behind_first, after_close, after_block, gap_of, sign_of, sign_found, sign, one_byte, two_bytes, three_bytes, scoped, scoped_or_sign, or_else, code_token, opens_comment, found_at}
 use Rattle.pp_syntax.proofs.Steps.{Takes, all_takes, all_append}
 use Rattle.pp_syntax.proofs.Escapes.{begins_is}
 use Rattle.pp_syntax.proofs.Names.{no_colons}

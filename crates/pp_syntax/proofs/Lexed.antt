@@ -1,16 +1,15 @@
 -- One step of lexing: what it passes, and where the text may be cut behind it.
-use Rattle.std.proofs.Common.{◌≡◌, ◌≢◌, ◌⊎◌, inl, inr, ℕ, ◌+◌, ◌-◌, ◌<◌, ◌≤◌, Bool, true, false, cond, ◌==◌, List, [], ◌∷◌, ◌++◌, length, take, drop, map, Option, Some, None, refl, sym, ap, subst, ◌∙◌, arith, append_assoc, append-nil, length-append}
-use Rattle.std.specs.Prelude.{IsUtf8, IsCharBoundary, codes}
+use Rattle.std.proofs.Common.{◌≡◌, ◌≢◌, inl, ℕ, ◌+◌, ◌-◌, ◌<◌, Bool, true, false, ◌==◌, List, [], ◌∷◌, ◌++◌, length, take, drop, Option, Some, None, refl, sym, ap, subst, ◌∙◌, arith, append_assoc, append-nil, length-append}
+use Rattle.std.specs.Prelude.{IsUtf8, codes}
 use Rattle.std.proofs.lemmas.Str.{IsUtf8-drop}
 use Rattle.std.proofs.lemmas.Bool.{eqb-true, eqb-false}
 use Rattle.std.proofs.Math.Seq.{take-append_seam, drop-append_seam}
 use Rattle.pp_syntax.specs.declared.token.Kind.{Kind}
 use Rattle.pp_syntax.specs.declared.lexer.place.Place.{Place}
 use Rattle.pp_syntax.specs.Opened.{in_quotes, Ending, ending, Whole, Fault}
-use Rattle.pp_syntax.specs.Tokens.{Lexeme, InQuotes, Spelling}
+use Rattle.pp_syntax.specs.Tokens.{Lexeme, InQuotes}
 use Rattle.pp_syntax.specs.Spelling.{Fits, TokenAt, GapAt, IsGap, blank, line, block, behind, behind_gap, Reads, ends, gap, token, stuck, start, FailsAt}
-use Rattle.pp_syntax.specs.Scanning.{Found, code_token, quoted_token, opens_comment, found_at, checked, token_at, gap_at}
-use Rattle.pp_syntax.proofs.Steps.{Takes, cond_some}
+use Rattle.pp_syntax.specs.Scanning.{Found, found_at, token_at, gap_at}
 use Rattle.pp_syntax.proofs.Longest.{longest_found, token_takes, token_reads, gap_at_takes, gap_at_reads}
 use Rattle.pp_syntax.specs.declared.token.Kind.TheVariants as kind
 use Rattle.pp_syntax.specs.declared.token.Token.{Token}

@@ -1,15 +1,14 @@
 -- The token that is read at a place is the one that stands there.
-use Rattle.std.proofs.Common.{◌≡◌, ◌≢◌, ◌⊎◌, inl, inr, ℕ, ◌+◌, ◌^◌, ◌<◌, ◌≤◌, Bool, true, false, cond, ◌&&◌, ◌||◌, ◌==◌, not, nat_lt, List, [], ◌∷◌, ◌++◌, length, Option, Some, None, refl, sym, ap, subst, ◌∙◌, arith, append_assoc, length-append}
-use Rattle.std.specs.Prelude.{IsTrue}
-use Rattle.std.proofs.lemmas.Bool.{and_parts, and_from, and_cases, eqb-true, eqb-false, eq-eqb, ne_eqb, both_ways, not-true, not_from_false, ltb-true, lt-ltb}
+use Rattle.std.proofs.Common.{◌≡◌, inl, inr, ℕ, ◌^◌, ◌≤◌, Bool, true, false, cond, ◌&&◌, ◌==◌, nat_lt, List, [], ◌∷◌, ◌++◌, length, Some, None, refl, sym, ap, subst, ◌∙◌, arith, length-append}
+use Rattle.std.proofs.lemmas.Bool.{and_parts, and_from, eqb-true, both_ways, not-true, not_from_false, ltb-true, lt-ltb}
 use Rattle.pp_syntax.specs.declared.token.Kind.{Kind}
 use Rattle.pp_syntax.specs.declared.token.Kind.TheVariants as kind
 use Rattle.pp_syntax.specs.declared.lexer.place.Place.{Place}
 use Rattle.pp_syntax.specs.Opened.{in_quotes}
-use Rattle.pp_syntax.specs.Tokens.{Spelling, InQuotes, int_value}
+use Rattle.pp_syntax.specs.Tokens.{int_value}
 use Rattle.pp_syntax.specs.Bytes.{is_name}
-use Rattle.pp_syntax.specs.Spelling.{NoComment, Fits, IsLongest, NoNameFirst, NumberStands, kind_at, TokenAt, IsGap, GapAt}
-use Rattle.pp_syntax.specs.Scanning.{Found, front_of, code_token, quoted_token, opens_comment, found_at, no_name_first, number_stands, checked, token_at, gap_of, gap_at}
+use Rattle.pp_syntax.specs.Spelling.{NoComment, Fits, IsLongest, NoNameFirst, NumberStands, kind_at, TokenAt, GapAt}
+use Rattle.pp_syntax.specs.Scanning.{Found, front_of, code_token, opens_comment, found_at, no_name_first, number_stands, checked, token_at, gap_of, gap_at}
 use Rattle.pp_syntax.proofs.Steps.{Takes, takes_short, front_is, Goes, cond_some}
 use Rattle.pp_syntax.proofs.CodeTokens.{code_takes}
 use Rattle.pp_syntax.proofs.CodeGoes.{code_goes}

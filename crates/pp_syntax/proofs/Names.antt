@@ -1,13 +1,12 @@
 -- Names: what is read is spelled, and what is spelled is read, or more.
-use Rattle.std.proofs.Common.{◌≡◌, ◌≢◌, ◌⊎◌, inl, inr, ℕ, zero, suc, ◌+◌, ◌-◌, ◌<◌, ◌≤◌, Bool, true, false, cond, ◌&&◌, ◌||◌, ◌==◌, List, [], ◌∷◌, ◌++◌, length, Option, Some, None, refl, sym, ap, subst, ◌∙◌, arith, append_assoc, append-nil, length-append}
-use Rattle.std.specs.Prelude.{IsTrue}
+use Rattle.std.proofs.Common.{◌≡◌, ◌≢◌, ◌⊎◌, inl, inr, ℕ, zero, suc, ◌≤◌, Bool, true, false, cond, ◌&&◌, ◌||◌, ◌==◌, List, [], ◌∷◌, ◌++◌, length, Some, None, refl, sym, ap, subst, ◌∙◌, arith, append_assoc, append-nil, length-append}
 use Rattle.std.specs.Option.{option_map}
-use Rattle.std.proofs.lemmas.Bool.{ne_eqb, and_parts, and_from, or_left, or_right, eqb-true, eqb-false, cases_Bool, both_ways}
+use Rattle.std.proofs.lemmas.Bool.{ne_eqb, and_parts, and_from, or_left, or_right, eqb-true, both_ways}
 use Rattle.pp_syntax.specs.declared.lexer.bytes.Style.{Style}
 use Rattle.pp_syntax.specs.declared.lexer.bytes.Style.TheVariants as style
 use Rattle.pp_syntax.specs.Bytes.{is_name}
 use Rattle.pp_syntax.specs.Tokens.{Of, begins, goes_on, NoDashLast, Segment, Joined, one, another, Name}
-use Rattle.pp_syntax.specs.Scanning.{◌>>=◌, has_dashes, tail_from, segment, after_colons, next_segment, go_on, more_segments, all_segments, joined, name_behind, name}
+use Rattle.pp_syntax.specs.Scanning.{has_dashes, tail_from, segment, after_colons, next_segment, go_on, more_segments, all_segments, joined, name_behind, name}
 use Rattle.pp_syntax.proofs.Steps.{Takes, bind_some, takes_short, Leaves, takes_leaves, leaves_along}
 
 pub Of-append : (test : ℕ → Bool) (xs ys : List ℕ) → Of test xs → Of test ys → Of test (xs ++ ys)

@@ -1,14 +1,13 @@
 -- Numbers: what is read is spelled, and what is spelled is read, or more.
-use Rattle.std.proofs.Common.{◌≡◌, ◌≢◌, ◌⊎◌, inl, inr, ℕ, zero, suc, ◌+◌, ◌<◌, ◌≤◌, Bool, true, false, cond, ◌&&◌, ◌||◌, ◌==◌, List, [], ◌∷◌, ◌++◌, length, Option, Some, None, refl, sym, ap, subst, ◌∙◌, arith, append_assoc, length-append}
-use Rattle.std.specs.Prelude.{IsTrue}
-use Rattle.std.proofs.lemmas.Bool.{or_cases, or_parts, and_parts, eqb-true, eqb-false, ne_eqb, both_ways, leb-true, le-leb}
+use Rattle.std.proofs.Common.{◌≡◌, ◌⊎◌, inl, inr, ℕ, ◌<◌, Bool, true, false, cond, ◌||◌, ◌==◌, List, [], ◌∷◌, ◌++◌, length, Some, None, refl, sym, ap, subst, ◌∙◌, arith, append_assoc, length-append}
+use Rattle.std.proofs.lemmas.Bool.{or_cases, eqb-true, eqb-false, ne_eqb}
 use Rattle.std.proofs.lemmas.Bool.Decides.{nat_tests}
 use Rattle.pp_syntax.specs.declared.token.Kind.{Kind}
 use Rattle.pp_syntax.specs.declared.token.Kind.TheVariants as kind
 use Rattle.pp_syntax.specs.Bytes.{is_digit, is_octal, is_hex}
 use Rattle.pp_syntax.specs.Tokens.{Of, SomeOf, IntText, only_zero, decimal, octal, hexadecimal, FloatText}
-use Rattle.pp_syntax.specs.Scanning.{Found, after_all, digits_behind, fraction, hex_behind, unwrap_rest, after_zero, after_int, int_or_float, number}
-use Rattle.pp_syntax.proofs.Steps.{Takes, takes_short, all_takes, all_append, Leaves, takes_leaves, Goes, goes_by, goes_far, goes_along}
+use Rattle.pp_syntax.specs.Scanning.{after_all, digits_behind, fraction, hex_behind, unwrap_rest, after_zero, after_int, int_or_float, number}
+use Rattle.pp_syntax.proofs.Steps.{Takes, takes_short, all_takes, all_append, Leaves, takes_leaves, Goes, goes_by, goes_far}
 
 -- ---- digits
 

@@ -1,21 +1,17 @@
 -- Tokens in double quotes: what is read is spelled, and what is spelled is read, or more.
-use Rattle.std.proofs.Common.{◌≡◌, ◌≢◌, ◌⊎◌, inl, inr, ℕ, zero, suc, ◌+◌, ◌<◌, ◌≤◌, Bool, true, false, cond, ◌&&◌, ◌||◌, ◌==◌, nat_lt, nat_le, List, [], ◌∷◌, ◌++◌, length, drop, Option, Some, None, refl, sym, ap, subst, ◌∙◌, arith, append_assoc, length-append}
-use Rattle.std.specs.Prelude.{IsTrue, is_some}
+use Rattle.std.proofs.Common.{◌≡◌, ◌≢◌, ◌⊎◌, inl, inr, ℕ, zero, suc, ◌+◌, ◌≤◌, Bool, true, false, cond, ◌==◌, List, [], ◌∷◌, ◌++◌, length, drop, Some, None, refl, sym, ap, subst, ◌∙◌, arith, append_assoc, length-append}
+use Rattle.std.specs.Prelude.{is_some}
 use Rattle.std.specs.Option.{option_map}
-use Rattle.std.proofs.lemmas.Bool.{and_from, or_cases, or_parts, or_left, or_right, eqb-true, eqb-false, eq-eqb, ne_eqb, both_ways, lt-ltb, ltb-true, le-leb}
+use Rattle.std.proofs.lemmas.Bool.{and_from, or_cases, or_right, eqb-true, eqb-false, eq-eqb, ne_eqb, both_ways, lt-ltb, le-leb}
 use Rattle.std.proofs.Math.Seq.{drop-append_seam}
-use Rattle.pp_syntax.specs.declared.token.Kind.{Kind}
-use Rattle.pp_syntax.specs.declared.token.Kind.TheVariants as kind
 use Rattle.pp_syntax.specs.declared.lexer.bytes.Style.TheVariants as style
 use Rattle.pp_syntax.specs.Bytes.{is_hex}
-use Rattle.pp_syntax.specs.Tokens.{Of, Name, Opens, Escape, simple, four, braced, NoEscape, is_simple_escape, is_scalar, hex_value, DqPiece, nothing, plain, dollar, escape, backslash, InQuotes}
-use Rattle.pp_syntax.specs.Scanning.{Found, of_kind, or_else, name, after_all, begins_with, front_of, braced_by, braced_len, four_len, unicode_len, escape_len, opens, unit_len, past_unit, text_from, piece, hole, quoted_token}
-use Rattle.pp_syntax.specs.Scanning as scanning
-use Rattle.pp_syntax.proofs.Steps.{Takes, takes_short, Leaves, takes_leaves, leaves_along, Goes, goes_by, goes_far, goes_along, all_append, front_is}
+use Rattle.pp_syntax.specs.Tokens.{Of, Opens, Escape, simple, four, braced, NoEscape, is_simple_escape, is_scalar, hex_value, DqPiece, nothing, plain, dollar, escape, backslash}
+use Rattle.pp_syntax.specs.Scanning.{name, after_all, begins_with, front_of, braced_by, braced_len, four_len, unicode_len, escape_len, opens, unit_len, past_unit, text_from}
+use Rattle.pp_syntax.proofs.Steps.{all_append, front_is}
 use Rattle.pp_syntax.proofs.Names.{name_takes, name_reaches}
 use Rattle.pp_syntax.proofs.Escapes.{EscapeFound, escape_found, begins_is}
 use Rattle.pp_syntax.proofs.Fronts.{skip}
-use Rattle.pp_syntax.proofs.Signs.{either_found}
 
 -- ---- what a `$` opens
 

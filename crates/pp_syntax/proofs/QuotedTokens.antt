@@ -1,16 +1,15 @@
 -- Tokens in double quotes: what is read is spelled, and what is spelled is read, or more.
-use Rattle.std.proofs.Common.{◌≡◌, ◌≢◌, ◌⊎◌, inl, inr, ℕ, zero, suc, ◌+◌, ◌<◌, ◌≤◌, Bool, true, false, cond, ◌&&◌, ◌||◌, ◌==◌, nat_lt, List, [], ◌∷◌, ◌++◌, length, drop, Option, Some, None, refl, sym, ap, subst, ◌∙◌, arith, append_assoc, length-append}
-use Rattle.std.specs.Prelude.{IsTrue, is_some}
-use Rattle.std.proofs.lemmas.Bool.{eqb-true, eqb-false, eq-eqb, ne_eqb, both_ways, lt-ltb, ltb-true}
+use Rattle.std.proofs.Common.{◌≡◌, ◌≢◌, inl, inr, ℕ, ◌<◌, true, false, cond, ◌==◌, nat_lt, List, [], ◌∷◌, ◌++◌, length, Some, None, refl, sym, ap, subst, ◌∙◌, arith, length-append}
+use Rattle.std.proofs.lemmas.Bool.{eqb-true, eq-eqb, ne_eqb, both_ways, lt-ltb, ltb-true}
 use Rattle.pp_syntax.specs.declared.token.Kind.{Kind}
 use Rattle.pp_syntax.specs.declared.token.Kind.TheVariants as kind
 use Rattle.pp_syntax.specs.declared.lexer.bytes.Style.TheVariants as style
-use Rattle.pp_syntax.specs.Tokens.{Name, Joined, begins, Opens, DqPiece, nothing, plain, dollar, escape, backslash, InQuotes}
+use Rattle.pp_syntax.specs.Tokens.{Name, begins, Opens, DqPiece, nothing, plain, dollar, escape, backslash, InQuotes}
 use Rattle.pp_syntax.specs.Scanning.{Found, of_kind, or_else, name, text_from, piece, hole, quoted_token}
 use Rattle.pp_syntax.specs.Scanning as scanning
-use Rattle.pp_syntax.proofs.Steps.{Takes, Leaves, leaves_by, Goes, goes_by, goes_along, cond_some}
+use Rattle.pp_syntax.proofs.Steps.{Takes, leaves_by, Goes, goes_by, goes_along, cond_some}
 use Rattle.pp_syntax.proofs.Names.{joined_first, name_takes, name_reaches}
-use Rattle.pp_syntax.proofs.Quoted.{Piece, text_takes, piece_reads}
+use Rattle.pp_syntax.proofs.Quoted.{text_takes, piece_reads}
 use Rattle.pp_syntax.proofs.Signs.{either_found}
 
 abbrev pub InText : Found → List ℕ → Type 0

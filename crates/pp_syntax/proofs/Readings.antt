@@ -1,12 +1,12 @@
 -- A text is read in one way.
-use Rattle.std.proofs.Common.{◌≡◌, ◌≢◌, ◌⊎◌, inl, inr, ℕ, ◌+◌, ◌<◌, ◌≤◌, Bool, true, false, cond, List, [], ◌∷◌, ◌++◌, length, Option, Some, None, refl, sym, ap, subst, ◌∙◌, arith, append_assoc, length-append}
+use Rattle.std.proofs.Common.{◌≡◌, ◌≢◌, ℕ, true, false, cond, List, [], ◌∷◌, ◌++◌, Option, Some, None, refl, sym, ap, subst, ◌∙◌}
 use Rattle.pp_syntax.specs.declared.token.Kind.{Kind}
 use Rattle.pp_syntax.specs.declared.lexer.place.Place.{Place}
-use Rattle.pp_syntax.specs.Opened.{in_quotes, Ending, ending, Whole, Fault}
+use Rattle.pp_syntax.specs.Opened.{in_quotes, Ending}
 use Rattle.pp_syntax.specs.Tokens.{Lexeme}
-use Rattle.pp_syntax.specs.Spelling.{TokenAt, GapAt, IsGap, behind, behind_gap, Reads, ends, gap, token, stuck, start, Spells, FailsAt}
-use Rattle.pp_syntax.specs.Scanning.{Found, front_of, code_token, quoted_token, token_at, gap_at, gap_of, found_at, checked}
-use Rattle.pp_syntax.proofs.Steps.{Takes, front_is}
+use Rattle.pp_syntax.specs.Spelling.{TokenAt, GapAt, behind, behind_gap, Reads, ends, gap, token, stuck}
+use Rattle.pp_syntax.specs.Scanning.{Found, code_token, quoted_token, token_at, gap_at, gap_of, found_at, checked}
+use Rattle.pp_syntax.proofs.Steps.{front_is}
 use Rattle.pp_syntax.proofs.Longest.{token_takes, token_reads, gap_at_takes, gap_at_reads, gap_at_no_token}
 
 -- what stands at the front of a text

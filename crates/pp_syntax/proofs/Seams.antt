@@ -1,19 +1,19 @@
 -- A token, a blank and a comment end where a text may be cut.
-use Rattle.std.proofs.Common.{◌≡◌, ◌≢◌, ◌⊎◌, inl, inr, ℕ, zero, suc, ◌+◌, ◌-◌, ◌<◌, ◌≤◌, Bool, true, false, cond, ◌&&◌, ◌||◌, ◌==◌, nat_lt, List, [], ◌∷◌, ◌++◌, length, take, drop, get_or, Option, Some, None, refl, sym, ap, subst, ◌∙◌, arith, append_assoc, length-append}
-use Rattle.std.specs.Prelude.{IsTrue, IsUtf8, IsCharBoundary}
+use Rattle.std.proofs.Common.{◌≡◌, ◌≢◌, ◌⊎◌, inl, inr, ℕ, zero, suc, ◌+◌, ◌-◌, ◌<◌, Bool, true, false, cond, ◌==◌, nat_lt, List, [], ◌∷◌, ◌++◌, length, get_or, Option, Some, None, refl, sym, ap, subst, ◌∙◌, arith, length-append}
+use Rattle.std.specs.Prelude.{IsUtf8, IsCharBoundary}
 use Rattle.std.proofs.lemmas.Str.{IsCharBoundary-end, IsCharBoundary-before_ascii, IsCharBoundary-after_ascii}
-use Rattle.std.proofs.lemmas.Bool.{and_parts, or_cases, eqb-true, eqb-false, ltb-true}
+use Rattle.std.proofs.lemmas.Bool.{or_cases, eqb-true, ltb-true}
 use Rattle.std.proofs.lemmas.Bool.Decides.{nat_tests}
 use Rattle.pp_syntax.specs.declared.token.Kind.{Kind}
 use Rattle.pp_syntax.specs.declared.token.Kind.TheVariants as kind
 use Rattle.pp_syntax.specs.declared.lexer.bytes.Style.{Style}
 use Rattle.pp_syntax.specs.declared.lexer.bytes.Style.TheVariants as style
-use Rattle.pp_syntax.specs.Bytes.{is_blank, is_digit, is_octal, is_hex, is_name, is_lower, is_upper}
+use Rattle.pp_syntax.specs.Bytes.{is_blank, is_digit, is_octal, is_hex, is_name}
 use Rattle.pp_syntax.specs.Tokens.{Of, SomeOf, begins, goes_on, Segment, Joined, one, another, Name, is_among, keywords, signs, left_out, IntText, only_zero, decimal, octal, hexadecimal, FloatText, Spelling, InQuotes}
 use Rattle.pp_syntax.specs.Spelling.{ToClose, close, more, AtLineEnd, IsGap, blank, line, block}
 use Rattle.pp_syntax.specs.Scanning.{Found, of_kind, or_else, name, hole, piece, escape_len, opens, unit_len, past_unit, text_from, quoted_token, code_token, opens_comment, found_at}
 use Rattle.pp_syntax.specs.Scanning as scanning
-use Rattle.pp_syntax.proofs.Steps.{Takes, cond_some}
+use Rattle.pp_syntax.proofs.Steps.{cond_some}
 use Rattle.pp_syntax.proofs.Names.{Of-append}
 use Rattle.pp_syntax.proofs.Signs.{all_pass, of_each, either_found}
 

@@ -1,7 +1,5 @@
 -- Signs: what is read is one of the table, and what is one of the table is read, or more.
-use Rattle.std.proofs.Common.{◌≡◌, ◌≢◌, ◌⊎◌, inl, inr, ℕ, ◌+◌, ◌<◌, Bool, true, false, cond, ◌&&◌, ◌||◌, ◌==◌, not, List, [], ◌∷◌, ◌++◌, length, Option, Some, None, refl, sym, ap, subst, ◌∙◌, arith}
-use Rattle.std.specs.Prelude.{IsTrue}
-use Rattle.std.specs.List.{list_any, AllByRecursion}
+use Rattle.std.proofs.Common.{◌≡◌, ◌⊎◌, inl, inr, ℕ, ◌<◌, Bool, true, false, cond, ◌&&◌, ◌==◌, not, List, [], ◌∷◌, ◌++◌, length, Option, Some, None, refl, sym, ap, subst, ◌∙◌, arith}
 use Rattle.std.specs.Str.{bytes_eq}
 use Rattle.std.proofs.lemmas.Bool.{or_cases, and_parts, not-true}
 use Rattle.std.proofs.lemmas.Slice.Eq.{bytes_eq-Decides}
@@ -9,11 +7,9 @@ use Rattle.pp_syntax.specs.declared.token.Kind.{Kind}
 use Rattle.pp_syntax.specs.declared.token.Kind.TheVariants as kind
 use Rattle.pp_syntax.specs.Bytes.{is_digit, is_upper}
 use Rattle.pp_syntax.specs.declared.lexer.bytes.Style.TheVariants as style
-use Rattle.pp_syntax.specs.Tokens.{begins, is_among, keywords, signs, left_out}
-use Rattle.pp_syntax.specs.Scanning.{Found, sign_of, sign_found, or_else, of_kind, after_colons, joined, scoped, scoped_or_sign, token_by, one_byte, two_bytes, three_bytes, sign}
-use Rattle.pp_syntax.proofs.Names.{joined_takes, no_colons, colons_are}
-use Rattle.pp_syntax.specs.Tokens.{Joined}
-use Rattle.pp_syntax.proofs.Steps.{Takes, takes_short, Goes, goes_by, goes_far, goes_along}
+use Rattle.pp_syntax.specs.Tokens.{begins, is_among, signs, left_out}
+use Rattle.pp_syntax.specs.Scanning.{Found, sign_of, sign_found, or_else, scoped_or_sign, token_by, one_byte, two_bytes, three_bytes, sign}
+use Rattle.pp_syntax.proofs.Steps.{Takes, Goes, goes_by}
 
 abbrev pub all_pass : (List ℕ → Bool) → List (List ℕ) → Bool
 all_pass test [] = true

@@ -1,5 +1,5 @@
 -- One turn of a loop that has so many.
-use Rattle.std.proofs.Common.{◌≡◌, ℕ, suc, ◌+◌, ◌-◌, ◌<◌, List, Option, Some, ap, ◌∙◌, arith}
+use Rattle.std.proofs.Common.{◌≡◌, ℕ, suc, ◌+◌, ◌-◌, ◌<◌, List, Some, ap, ◌∙◌, arith}
 use Rattle.pp_syntax.specs.declared.lexer.bytes.Style.{Style}
 use Rattle.pp_syntax.specs.Scanning.{next_segment, go_on, more_segments}
 

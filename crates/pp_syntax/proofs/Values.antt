@@ -1,9 +1,9 @@
 -- The numbers that digits stand for.
-use Rattle.std.proofs.Common.{◌≡◌, ℕ, suc, ◌+◌, ◌*◌, ◌^◌, ◌<◌, ◌≤◌, Bool, true, false, nat_lt, List, [], ◌∷◌, length, drop, get_or, refl, arith}
+use Rattle.std.proofs.Common.{◌≡◌, ℕ, suc, ◌+◌, ◌*◌, ◌^◌, ◌<◌, ◌≤◌, true, false, nat_lt, List, [], ◌∷◌, length, drop, get_or, arith}
 use Rattle.std.proofs.Math.Seq.{drop-cons}
 use Rattle.std.proofs.lemmas.Bool.Decides.{nat_tests}
 use Rattle.std.proofs.Math.Nat.{mul-le-mul_left}
-use Rattle.pp_syntax.specs.Tokens.{digit_of, value_from, hex_value, is_scalar}
+use Rattle.pp_syntax.specs.Tokens.{digit_of, value_from, is_scalar}
 
 pub value_grows : (base before : ℕ) (digits : List ℕ) → 1 ≤ base → before ≤ value_from base before digits
 value_grows base before [] h = omega arith

@@ -6,3 +6,9 @@ pub mod Tokens
 pub mod Spelling
 pub mod Scanning
 pub mod Lexing
+pub mod Phrases
+pub mod TokenValues
+pub mod Derivation
+pub mod Statements
+pub mod LeftOut
+pub mod Depth

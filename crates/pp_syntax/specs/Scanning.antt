@@ -1,5 +1,5 @@
 -- Reading one token from the front of a text: what it is, and what is left behind it.
-use Rattle.std.specs.Prelude.{◌≡◌, ℕ, zero, suc, ◌+◌, ◌-◌, ◌*◌, ◌^◌, Bool, true, false, ◌==◌, ◌||◌, ◌&&◌, not, nat_le, nat_lt, if◌then◌else◌, List, [], ◌∷◌, ◌++◌, length, take, Option, Some, None, is_some, codes}
+use Rattle.std.specs.Prelude.{ℕ, zero, suc, ◌+◌, ◌-◌, ◌^◌, Bool, true, false, ◌==◌, ◌||◌, ◌&&◌, not, nat_le, nat_lt, if◌then◌else◌, List, [], ◌∷◌, length, take, Option, Some, None, is_some}
 use Rattle.std.specs.Option.{option_map}
 use Rattle.pp_syntax.specs.declared.token.Kind.{Kind}
 use Rattle.pp_syntax.specs.declared.token.Kind.TheVariants as kind
@@ -8,7 +8,7 @@ use Rattle.pp_syntax.specs.declared.lexer.bytes.Style.TheVariants as style
 use Rattle.pp_syntax.specs.declared.lexer.bytes.Class.{Class}
 use Rattle.pp_syntax.specs.declared.lexer.bytes.Class.TheVariants as class
 use Rattle.pp_syntax.specs.Bytes.{is_blank, is_digit, is_octal, is_hex, is_upper, is_name}
-use Rattle.pp_syntax.specs.Tokens.{begins, is_among, keywords, signs, left_out, int_value, digit_of, hex_value, is_scalar, is_simple_escape}
+use Rattle.pp_syntax.specs.Tokens.{begins, is_among, keywords, signs, left_out, int_value, hex_value, is_scalar, is_simple_escape}
 use Rattle.pp_syntax.specs.declared.lexer.place.Place.{Place}
 use Rattle.pp_syntax.specs.Opened.{in_quotes}
 use Rattle.pp_syntax.specs.Spelling.{kind_at}

@@ -5,6 +5,9 @@ use std::test::Fail;
 
 /// The tokens with their kinds and places, or the refusal.
 fn shown(alloc: Global, text: &[u8]) -> Result<String, Fail> {
+    if text.len() > 1000 {
+        return Err(Fail::from("a long text"));
+    }
     let tokens = match lex(alloc, text) {
         Ok(tokens) => tokens,
         Err(Fault::Refused(refusal)) => {

@@ -1,4 +1,4 @@
-use Rattle.pp_syntax.proofs.Slices.{same_tokens, no_failure, same_failure}
+use Rattle.pp_syntax.proofs.Slices.{no_failure, same_failure}
 use Rattle.pp_syntax.proofs.lexer.one_spelling.Goals as goal
 
 pub returns-clause-either : goal.returns-clause-either

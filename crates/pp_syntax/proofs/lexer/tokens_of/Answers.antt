@@ -1,4 +1,4 @@
-use Rattle.std.proofs.Common.{◌≡◌, Some, None, refl, sym, ap, ◌∙◌}
+use Rattle.std.proofs.Common.{◌≡◌, None, refl, sym, ap, ◌∙◌}
 use Rattle.pp_syntax.specs.Scanning.{gap_at, token_at}
 use Rattle.pp_syntax.proofs.Lexed.{gap_cut, token_cut, gap_turn, token_turn, stuck_at, whole_text, unclosed_text, empty_text, some_text, lexical_refusal}
 use Rattle.pp_syntax.proofs.lexer.tokens_of.Goals as goal

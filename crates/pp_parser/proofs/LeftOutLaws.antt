@@ -1,0 +1,148 @@
+-- The test for tokens that are left out, against what it means.
+use Rattle.std.proofs.Common.{◌≡◌, ◌≢◌, ◌⊎◌, inl, inr, ℕ, Bool, true, false, ◌&&◌, not, List, [], ◌∷◌, Some, None, refl, sym, ap, ◌∙◌}
+use Rattle.std.specs.Prelude.{codes}
+use Rattle.std.specs.Str.{bytes_eq}
+use Rattle.std.proofs.lemmas.Bool.{and_parts, and_from, both_ways, not-true, not_from_false, or_cases, cases_Bool}
+use Rattle.std.proofs.lemmas.Slice.Eq.{bytes_eq-Decides}
+use Rattle.pp_syntax.specs.declared.token.Kind.{Kind}
+use Rattle.pp_syntax.specs.declared.token.Kind.TheVariants as kind
+use Rattle.pp_syntax.specs.Tokens.{Lexeme, is_among}
+use Rattle.pp_syntax.specs.Statements.{functions}
+use Rattle.pp_syntax.specs.LeftOut.{IsFirst, IsNowhere, BeginsWith, NamesFollow, IsLeftOut, sign, float, splat, function}
+use Rattle.pp_parser.specs.Scanning.{is_sign, begins_with, names_by, names_follow, left_out_by, is_left_out, first_left_out}
+use Rattle.pp_parser.proofs.First.{folded, found_all, nowhere_all}
+
+same_text : (a b : List ℕ) → bytes_eq a b ≡ true → a ≡ b
+same_text a b h = (bytes_eq-Decides a b).0 h
+
+text_test : (a b : List ℕ) → a ≡ b → bytes_eq a b ≡ true
+text_test a b h = (bytes_eq-Decides a b).1 h
+
+sign_is : (k : Kind) → is_sign k ≡ true → k ≡ kind.Sign
+sign_is kind.Sign h = refl
+sign_is kind.Word h = cc
+sign_is kind.Ref h = cc
+sign_is kind.Var h = cc
+sign_is kind.Int h = cc
+sign_is kind.Float h = cc
+sign_is kind.Sq h = cc
+sign_is kind.DqOpen h = cc
+sign_is kind.DqText h = cc
+sign_is kind.DqVar h = cc
+sign_is kind.Hole h = cc
+sign_is kind.HoleEnd h = cc
+sign_is kind.DqClose h = cc
+sign_is kind.Tight h = cc
+sign_is kind.Loose h = cc
+sign_is kind.Keyword h = cc
+sign_is kind.LeftOut h = cc
+
+pub begins_tells : (text : List ℕ) (tokens : List Lexeme) → begins_with text tokens ≡ true → BeginsWith text tokens
+begins_tells text [] h = cc
+begins_tells text (t ∷ tokens) h = let p = and_parts (is_sign t.kind) (bytes_eq t.text text) h in (sign_is t.kind p.0, same_text t.text text p.1)
+
+pub begins_test : (text : List ℕ) (tokens : List Lexeme) → BeginsWith text tokens → begins_with text tokens ≡ true
+begins_test text [] h = absurd h
+begins_test text (t ∷ tokens) h = and_from (is_sign t.kind) (bytes_eq t.text text) (ap is_sign h.0) (text_test t.text text h.1)
+
+-- ---- `class` and `define`
+
+names_tell : (k : Kind) (text : List ℕ) → names_by k text ≡ true → (k ≡ kind.Keyword) × ((text ≡ codes "class") ⊎ (text ≡ codes "define"))
+names_tell kind.Keyword text h = (
+  refl,
+  elim (or_cases (bytes_eq (codes "class") text) (is_among (codes "define" ∷ []) text) h) [
+    | inl e ↦ inl (sym (same_text (codes "class") text e))
+    | inr e ↦ elim (or_cases (bytes_eq (codes "define") text) false e) [
+      | inl f ↦ inr (sym (same_text (codes "define") text f))
+      | inr f ↦ cc
+    ]
+  ],
+)
+names_tell kind.Sign text h = cc
+names_tell kind.Word text h = cc
+names_tell kind.Ref text h = cc
+names_tell kind.Var text h = cc
+names_tell kind.Int text h = cc
+names_tell kind.Float text h = cc
+names_tell kind.Sq text h = cc
+names_tell kind.DqOpen text h = cc
+names_tell kind.DqText text h = cc
+names_tell kind.DqVar text h = cc
+names_tell kind.Hole text h = cc
+names_tell kind.HoleEnd text h = cc
+names_tell kind.DqClose text h = cc
+names_tell kind.Tight text h = cc
+names_tell kind.Loose text h = cc
+names_tell kind.LeftOut text h = cc
+
+names_test : (k : Kind) (text : List ℕ) → k ≡ kind.Keyword → (text ≡ codes "class") ⊎ (text ≡ codes "define") → names_by k text ≡ true
+names_test k text e (inl h) = ap (λ (j : Kind). names_by j text) e ∙ ap (λ u. is_among (codes "class" ∷ codes "define" ∷ []) u) h
+names_test k text e (inr h) = ap (λ (j : Kind). names_by j text) e ∙ ap (λ u. is_among (codes "class" ∷ codes "define" ∷ []) u) h
+
+follow_tells : (names : Bool) (tokens : List Lexeme) → tokens ≢ [] → folded names_follow names tokens ≡ true → NamesFollow tokens
+follow_tells names [] some h = absurd (some refl)
+follow_tells names (t ∷ []) some h = names_tell t.kind t.text h
+follow_tells names (t ∷ u ∷ tokens) some h = follow_tells (names_by t.kind t.text) (u ∷ tokens) (λ e. cc) h
+
+follow_start : (tokens : List Lexeme) → folded names_follow false tokens ≡ true → NamesFollow tokens
+follow_start [] h = cc
+follow_start (t ∷ tokens) h = follow_tells false (t ∷ tokens) (λ e. cc) h
+
+follow_test : (names : Bool) (tokens : List Lexeme) → NamesFollow tokens → folded names_follow names tokens ≡ true
+follow_test names [] h = absurd h
+follow_test names (t ∷ []) h = names_test t.kind t.text h.0 h.1
+follow_test names (t ∷ u ∷ tokens) h = follow_test (names_by t.kind t.text) (u ∷ tokens) h
+
+-- ---- the test
+
+abbrev Out : List Lexeme → Lexeme → List Lexeme → Type 0
+Out before t behind = IsLeftOut before t behind
+
+splat_tells : (before : List Lexeme) (t : Lexeme) (behind : List Lexeme) → t.kind ≡ kind.Sign → (bytes_eq t.text (codes "*") && begins_with (codes "=>") behind) ≡ true → Out before t behind
+splat_tells before t behind k h = let p = and_parts (bytes_eq t.text (codes "*")) (begins_with (codes "=>") behind) h in splat k (same_text t.text (codes "*") p.0) (begins_tells (codes "=>") behind p.1)
+
+function_tells : (before : List Lexeme) (t : Lexeme) (behind : List Lexeme) → t.kind ≡ kind.Word → (not (is_among functions t.text) && begins_with (codes "(") behind && not (folded names_follow false before)) ≡ true → Out before t behind
+function_tells before t behind k h =
+    let p = and_parts (not (is_among functions t.text) && begins_with (codes "(") behind) (not (folded names_follow false before)) h in
+    let q = and_parts (not (is_among functions t.text)) (begins_with (codes "(") behind) p.0 in
+    function k (not-true (is_among functions t.text) q.0) (begins_tells (codes "(") behind q.1) (λ n. both_ways (folded names_follow false before) (not-true (folded names_follow false before) p.1) (follow_test false before n))
+
+by_kind : (k : Kind) (before : List Lexeme) (t : Lexeme) (behind : List Lexeme) → t.kind ≡ k → left_out_by k t.text (folded names_follow false before) behind ≡ true → Out before t behind
+by_kind kind.LeftOut before t behind e h = sign e
+by_kind kind.Float before t behind e h = float e
+by_kind kind.Sign before t behind e h = splat_tells before t behind e h
+by_kind kind.Word before t behind e h = function_tells before t behind e h
+by_kind kind.Ref before t behind e h = cc
+by_kind kind.Var before t behind e h = cc
+by_kind kind.Int before t behind e h = cc
+by_kind kind.Sq before t behind e h = cc
+by_kind kind.DqOpen before t behind e h = cc
+by_kind kind.DqText before t behind e h = cc
+by_kind kind.DqVar before t behind e h = cc
+by_kind kind.Hole before t behind e h = cc
+by_kind kind.HoleEnd before t behind e h = cc
+by_kind kind.DqClose before t behind e h = cc
+by_kind kind.Tight before t behind e h = cc
+by_kind kind.Loose before t behind e h = cc
+by_kind kind.Keyword before t behind e h = cc
+
+tells : (before : List Lexeme) (t : Lexeme) (behind : List Lexeme) → is_left_out (folded names_follow false before) t behind ≡ true → Out before t behind
+tells before t behind h = by_kind t.kind before t behind refl h
+
+told_by : (before : List Lexeme) (t : Lexeme) (behind : List Lexeme) → Out before t behind → is_left_out (folded names_follow false before) t behind ≡ true
+told_by before t behind (sign e) = ap (λ (k : Kind). left_out_by k t.text (folded names_follow false before) behind) e
+told_by before t behind (float e) = ap (λ (k : Kind). left_out_by k t.text (folded names_follow false before) behind) e
+told_by before t behind (splat e s n) =
+    ap (λ (k : Kind). left_out_by k t.text (folded names_follow false before) behind) e
+    ∙ and_from (bytes_eq t.text (codes "*")) (begins_with (codes "=>") behind) (text_test t.text (codes "*") s) (begins_test (codes "=>") behind n)
+told_by before t behind (function e f n names) =
+    ap (λ (k : Kind). left_out_by k t.text (folded names_follow false before) behind) e
+    ∙ and_from (not (is_among functions t.text) && begins_with (codes "(") behind) (not (folded names_follow false before))
+    (and_from (not (is_among functions t.text)) (begins_with (codes "(") behind) (not_from_false (is_among functions t.text) f) (begins_test (codes "(") behind n))
+    (not_from_false (folded names_follow false before) (elim (cases_Bool (folded names_follow false before)) [ inl y ↦ absurd (names (follow_start before y)) | inr y ↦ y ]))
+
+pub left_out_found : (tokens : List Lexeme) (t : Lexeme) → first_left_out false tokens ≡ Some t → IsFirst IsLeftOut tokens t
+left_out_found = found_all names_follow is_left_out false IsLeftOut tells told_by
+
+pub none_left_out : (tokens : List Lexeme) → first_left_out false tokens ≡ None → IsNowhere IsLeftOut tokens
+none_left_out = nowhere_all names_follow is_left_out false IsLeftOut tells told_by

@@ -1,0 +1,5 @@
+pub mod First
+pub mod LeftOutLaws
+pub mod Rows
+pub mod DepthLaws
+pub mod Checking

@@ -1,0 +1,23 @@
+-- Which tokens are refused before they are parsed, and how.
+use Rattle.std.specs.Prelude.{◌⊎◌, List, codes}
+use Rattle.rh_base.specs.declared.fault.Refusal.{Refusal}
+use Rattle.rh_base.specs.Refused.{IsRefusal}
+use Rattle.pp_syntax.specs.Tokens.{Lexeme}
+use Rattle.pp_syntax.specs.LeftOut.{IsFirst, IsNowhere, IsLeftOut}
+use Rattle.pp_syntax.specs.Depth.{IsTooDeep}
+
+-- 14 at the first token that is left out, with its text
+pub record IsLeftOutRefusal (tokens : List Lexeme) (r : Refusal) : Type 0 where
+  pub token : Lexeme
+  pub first : IsFirst IsLeftOut tokens token
+  pub refusal : IsRefusal 14 token.at token.text r
+
+-- 13 at the first token that is nested too deep, where none is left out
+pub record IsDepthRefusal (tokens : List Lexeme) (r : Refusal) : Type 0 where
+  pub all_in : IsNowhere IsLeftOut tokens
+  pub token : Lexeme
+  pub first : IsFirst IsTooDeep tokens token
+  pub refusal : IsRefusal 13 token.at (codes "nesting") r
+
+abbrev pub IsCheckRefusal : List Lexeme → Refusal → Type 0
+IsCheckRefusal tokens r = IsLeftOutRefusal tokens r ⊎ IsDepthRefusal tokens r

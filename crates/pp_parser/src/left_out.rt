@@ -1,0 +1,79 @@
+ghost use Rattle.std.specs.Prelude.{◌≡◌, map, codes, [], ◌∷◌, false};
+ghost use Rattle.std.specs.Option.{option_map};
+ghost use Rattle.pp_syntax.specs.Tokens.{is_among};
+ghost use Rattle.pp_syntax.specs.Statements.{functions};
+ghost use Rattle.pp_syntax.specs.Lexing.{told, lexeme_of};
+ghost use Rattle.pp_parser.specs.Scanning.{begins_with, names_by, left_out_by, is_left_out, first_left_out};
+
+use pp_syntax::{Kind, Token};
+
+const FUNCTIONS: [&str; 7] = [
+    "include", "require", "contain", "realize", "fail", "notice", "warning",
+];
+
+pub fn is_among(texts: &[&str], s: &str) -> bool
+    ensures { result ≡ is_among (map (λ t. t.now) texts.now) s.now }
+{
+    for t in texts {
+        if *t == s {
+            return true;
+        }
+    }
+    false
+}
+
+/// The next token is this sign.
+pub fn begins_with(tokens: &[Token<'_>], text: &str) -> bool
+    ensures { result ≡ begins_with text.now (told tokens.now) }
+{
+    match tokens.split_first() {
+        Some((t, _)) => {
+            let same = t.text == text;
+            matches!(t.kind, Kind::Sign) && same
+        }
+        None => false,
+    }
+}
+
+fn names_follow(t: &Token<'_>) -> bool
+    ensures { result ≡ names_by t.now.kind t.now.text.now }
+{
+    match t.kind {
+        Kind::Keyword => is_among(&["class", "define"], t.text),
+        _ => false,
+    }
+}
+
+fn is_left_out(names: bool, t: &Token<'_>, behind: &[Token<'_>]) -> bool
+    ensures { result ≡ is_left_out names (lexeme_of t.now) (told behind.now) }
+{
+    match t.kind {
+        Kind::LeftOut | Kind::Float => true,
+        Kind::Sign => {
+            let star = t.text == "*";
+            let arrow = begins_with(behind, "=>");
+            star && arrow
+        }
+        Kind::Word => {
+            let function = is_among(&FUNCTIONS, t.text);
+            let bracket = begins_with(behind, "(");
+            !function && bracket && !names
+        }
+        _ => false,
+    }
+}
+
+/// The first token that this language leaves out.
+pub fn first_left_out<'s, 't>(tokens: &'s [Token<'t>]) -> Option<&'s Token<'t>>
+    ensures { option_map (λ t. lexeme_of t.now) result ≡ first_left_out false (told tokens.now) }
+{
+    let mut names = false;
+    for (i, t) in tokens.iter().enumerate() {
+        let (_, behind) = tokens.split_at(i + 1);
+        if is_left_out(names, t, behind) {
+            return Some(t);
+        }
+        names = names_follow(t);
+    }
+    None
+}
