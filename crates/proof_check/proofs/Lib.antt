@@ -1,0 +1,3 @@
+pub mod MarkLaws
+pub mod Numbers
+pub mod Chains

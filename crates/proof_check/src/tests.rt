@@ -1,0 +1,209 @@
+use crate::{Cause, CheckFault, Verified, check};
+use cnf::{Clause, Cnf, Link, Lit, Log, Step};
+use rh_base::{NoMemory, Seq};
+use std::alloc::Global;
+use std::process::Abort;
+use std::test::Fail;
+
+/// The literal of a number other than 0, whose sign is the literal's.
+fn lit(n: i8) -> Lit {
+    Lit {
+        var: u64::from(n.unsigned_abs()),
+        positive: n > 0,
+    }
+}
+
+fn lits(alloc: Global, numbers: &[i8]) -> Result<Vec<Lit>, NoMemory> {
+    let mut lits = Vec::new(alloc);
+    for n in numbers {
+        lits.push(lit(*n))?;
+    }
+    Ok(lits)
+}
+
+fn formula(rt: &(impl Abort + AllocGlobal), vars: u64, clauses: &[&[i8]]) -> Result<Cnf, NoMemory> {
+    let mut cnf = Cnf::new(rt.alloc(), vars)?;
+    for clause in clauses {
+        let clause = lits(rt.alloc(), clause)?;
+        let vars = cnf.vars();
+        assert!(rt; clause.iter().all(|l| 1 <= l.var && l.var <= vars));
+        cnf.add(&clause)?;
+    }
+    Ok(cnf)
+}
+
+/// A step as a test states it: its clause, a first clause, and pairs of a number and a pivot.
+type Stated = (&'static [i8], u64, &'static [(u64, i8)]);
+
+fn step(alloc: Global, stated: &Stated) -> Result<Step, NoMemory> {
+    let clause = Clause::from_lits(alloc, &lits(alloc, stated.0)?)?;
+    let mut chain = Seq::new(alloc);
+    for (number, pivot) in stated.2 {
+        chain.push(Link {
+            number: *number,
+            pivot: lit(*pivot),
+        })?;
+    }
+    Ok(Step {
+        clause,
+        start: stated.1,
+        chain,
+    })
+}
+
+fn log(alloc: Global, stated: &[Stated]) -> Result<Log, NoMemory> {
+    let mut steps = Seq::new(alloc);
+    for s in stated {
+        steps.push(step(alloc, s)?)?;
+    }
+    Ok(Log { steps })
+}
+
+/// What a check answers, as the number of the first step that fails and a word for its cause.
+fn answer(
+    rt: &(impl Abort + AllocGlobal),
+    checked: Result<Verified, CheckFault>,
+) -> Result<(u64, String), Fail> {
+    let alloc = rt.alloc();
+    match checked {
+        Ok(_) => Ok((0, String::from_str(alloc, "ok")?)),
+        Err(CheckFault::Memory(_)) => Ok((0, String::from_str(alloc, "memory")?)),
+        Err(CheckFault::Bad(bad)) => Ok((bad.step, word(alloc, &bad.cause)?)),
+    }
+}
+
+fn word(alloc: Global, cause: &Cause) -> Result<String, Fail> {
+    let word = match cause {
+        Cause::NoStep => String::from_str(alloc, "no step")?,
+        Cause::NoClause(n) => format!(in alloc; "no clause {n}")?,
+        Cause::NoPivot(k) => format!(in alloc; "no pivot {k}")?,
+        Cause::Resolvent(c) => {
+            let count = c.lits().len();
+            format!(in alloc; "resolvent of {count}")?
+        }
+        Cause::NotEmpty => String::from_str(alloc, "not empty")?,
+    };
+    Ok(word)
+}
+
+const PIGEONS: [&[i8]; 9] = [
+    &[1, 2],
+    &[3, 4],
+    &[5, 6],
+    &[-1, -3],
+    &[-1, -5],
+    &[-3, -5],
+    &[-2, -4],
+    &[-2, -6],
+    &[-4, -6],
+];
+
+const FIRST: &[(u64, i8)] = &[(3, -6), (2, -4), (4, 3), (5, 5)];
+
+const SECOND: &[(u64, i8)] = &[(3, -5), (2, -3), (8, 6), (7, 4), (1, -2), (10, 1)];
+
+#[test]
+fn three_pigeons_have_no_two_holes(rt: HostRuntime) -> Result<(), Fail> {
+    // the proof; without its literal; without its end; with a pivot that isn't there
+    let rows: [(&[Stated], u64, &str); 4] = [
+        (&[(&[-1], 9, FIRST), (&[], 6, SECOND)], 0, "ok"),
+        (&[(&[], 9, FIRST), (&[], 6, SECOND)], 1, "resolvent of 1"),
+        (&[(&[-1], 9, FIRST)], 1, "not empty"),
+        (&[(&[-1], 9, FIRST), (&[], 6, &[(3, -4)])], 2, "no pivot 1"),
+    ];
+    for (steps, number, wanted) in rows {
+        let cnf = formula(&rt, 6, &PIGEONS)?;
+        let found = answer(&rt, check(rt.alloc(), cnf, log(rt.alloc(), steps)?))?;
+        assert_eq!(rt; found.0, number);
+        assert_eq!(rt; found.1.as_str(), wanted);
+    }
+    Ok(())
+}
+
+/// Checks a log over a formula of one variable.
+fn compare(
+    rt: &(impl Abort + AllocGlobal),
+    clauses: &[&[i8]],
+    steps: &[Stated],
+    number: u64,
+    wanted: &str,
+) -> Result<(), Fail> {
+    let cnf = formula(rt, 1, clauses)?;
+    let found = answer(rt, check(rt.alloc(), cnf, log(rt.alloc(), steps)?))?;
+    assert_eq!(rt; found.0, number);
+    assert_eq!(rt; found.1.as_str(), wanted);
+    Ok(())
+}
+
+#[test]
+fn the_first_fault_is_named(rt: HostRuntime) -> Result<(), Fail> {
+    compare(&rt, &[&[1]], &[], 0, "no step")?;
+    // a step, and a link, that names the step itself
+    compare(&rt, &[&[1]], &[(&[], 2, &[])], 1, "no clause 2")?;
+    compare(&rt, &[&[1]], &[(&[], 1, &[(2, 1)])], 1, "no clause 2")?;
+    compare(&rt, &[&[1]], &[(&[], 0, &[])], 1, "no clause 0")
+}
+
+#[test]
+fn a_resolvent_keeps_the_literal_that_is_not_taken_out(rt: HostRuntime) -> Result<(), Fail> {
+    let clauses: [&[i8]; 2] = [&[1, -1], &[-1]];
+    compare(&rt, &clauses, &[(&[], 1, &[(2, 1)])], 1, "resolvent of 1")?;
+    compare(&rt, &clauses, &[(&[-1], 1, &[(2, 1)])], 1, "not empty")
+}
+
+/// How many variables the long chain has.
+const LONG: u64 = 400_000;
+
+/// The first variable holds, each but the last makes the next one hold, and the last doesn't hold.
+fn long_formula(rt: &(impl Abort + AllocGlobal)) -> Result<Cnf, NoMemory> {
+    let mut cnf = Cnf::new(rt.alloc(), LONG)?;
+    assert_eq!(rt; cnf.vars(), LONG);
+    cnf.add(&[Lit {
+        var: 1,
+        positive: true,
+    }])?;
+    for i in 1..LONG {
+        assert_eq!(rt; cnf.vars(), LONG);
+        let not_this = Lit {
+            var: i,
+            positive: false,
+        };
+        let next = Lit {
+            var: i + 1,
+            positive: true,
+        };
+        cnf.add(&[not_this, next])?;
+    }
+    assert_eq!(rt; cnf.vars(), LONG);
+    cnf.add(&[Lit {
+        var: LONG,
+        positive: false,
+    }])?;
+    Ok(cnf)
+}
+
+#[test]
+fn a_step_may_have_four_hundred_thousand_links(rt: HostRuntime) -> Result<(), Fail> {
+    let mut chain = Seq::new(rt.alloc());
+    for i in 1..LONG + 1 {
+        chain.push(Link {
+            number: i + 1,
+            pivot: Lit {
+                var: i,
+                positive: true,
+            },
+        })?;
+    }
+    let mut steps = Seq::new(rt.alloc());
+    let clause = Clause::from_lits(rt.alloc(), &[])?;
+    steps.push(Step {
+        clause,
+        start: 1,
+        chain,
+    })?;
+    let result = check(rt.alloc(), long_formula(&rt)?, Log { steps });
+    let verified = result.ok().ok_or("refused")?;
+    assert_eq!(rt; verified.cnf().count(), LONG + 1);
+    assert_eq!(rt; verified.log().steps.len(), 1);
+    Ok(())
+}
