@@ -3,3 +3,4 @@ pub mod LeftOutLaws
 pub mod Rows
 pub mod DepthLaws
 pub mod Checking
+pub mod DepthMaps

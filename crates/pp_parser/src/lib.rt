@@ -3,9 +3,11 @@
 
 mod checked;
 mod depth;
+mod laws;
 mod left_out;
 
 pub use checked::check;
+pub use laws::deeper;
 
 #[cfg(test)]
 mod tests;
