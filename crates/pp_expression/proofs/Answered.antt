@@ -1,0 +1,62 @@
+-- From reading functions to what parsing answers.
+use Rattle.std.proofs.Common.{◌≡◌, ℕ, ◌≤◌, List, [], ◌++◌, drop, refl, Option, Some, None, sym, ap, subst, ◌∙◌, arith}
+use Rattle.std.specs.Prelude.{Result, Ok, Err}
+use Rattle.pp_syntax.specs.declared.tree.Expr.{Expr}
+use Rattle.pp_syntax.specs.Tokens.{Lexeme}
+use Rattle.pp_syntax.specs.Derivation.{IsExprAt, ReferenceOf, StringOf}
+use Rattle.pp_expression.specs.declared.misread.Misread.{Misread}
+use Rattle.pp_expression.specs.declared.misread.Misread.TheVariants as misread
+use Rattle.pp_expression.specs.Marks.{Found}
+use Rattle.pp_expression.specs.Parsed.{Begins, NumbersFit, NothingGoesOn, Anything, IsMemory, IsSpelled, IsParsed}
+use Rattle.pp_expression.specs.Reading.{Gives, Fails, expr_at, reference_with, string_with}
+use Rattle.pp_expression.proofs.Finding.{Finds}
+use Rattle.pp_expression.proofs.Found.{reference_found}
+use Rattle.pp_expression.proofs.Operands.{string_found}
+use Rattle.pp_expression.proofs.Solid.{begun_some, expr_begun}
+use Rattle.pp_expression.proofs.Whole.{expr_found}
+use Rattle.pp_expression.proofs.Spelled.{reference_read}
+use Rattle.pp_expression.proofs.Quotes.{string_read, expr_read}
+use Rattle.pp_expression.proofs.DoubleQuotes.{dq_found, dq_read}
+
+spelled : {X : Type 0} (A : X → List Lexeme → Type 0) (f : List Lexeme → Found X) (tokens : List Lexeme) (from : ℕ) (r : Result (X × ℕ) Misread) → Finds f A → Gives (λ x. (x.0, drop x.1 tokens)) r (f (drop from tokens)) → IsSpelled A tokens from r
+spelled A f tokens from (Ok x) finds g = finds (drop from tokens) (x.0, drop x.1 tokens) g
+spelled A f tokens from (Err e) finds g = tt
+
+parsed : {X : Type 0} (A : X → List Lexeme → Type 0) (Follows : List Lexeme → Type 0) (f : List Lexeme → Found X) (tokens : List Lexeme) (from : ℕ) (r : Result (X × ℕ) Misread)
+    → ((y : X) (us rest : List Lexeme) → A y us → NumbersFit us → Follows rest → f (us ++ rest) ≡ Some (y, rest)) → Gives (λ x. (x.0, drop x.1 tokens)) r (f (drop from tokens)) → IsParsed A Follows tokens from r
+parsed {X} A Follows f tokens from (Ok x) reads g y front rest e h n l =
+    let same : ◌≡◌ {A = Found X} (Some (x.0, drop x.1 tokens)) (Some (y, rest)) = sym g ∙ ap f e ∙ reads y front rest h n l in
+    let pair : ◌≡◌ {A = X × List Lexeme} (x.0, drop x.1 tokens) (y, rest) = cc in
+    (ap (λ (p : X × List Lexeme). p.0) pair, ap (λ (p : X × List Lexeme). p.1) pair)
+parsed {X} A Follows f tokens from (Err (misread.Form left)) reads g y front rest e h n l =
+    let same : ◌≡◌ {A = Found X} None (Some (y, rest)) = sym g ∙ ap f e ∙ reads y front rest h n l in
+    cc
+parsed A Follows f tokens from (Err (misread.Memory m)) reads g y front rest e h n l = tt
+
+pub expression_spelled : (depth : ℕ) (tokens : List Lexeme) (from : ℕ) (r : Result (Expr × ℕ) Misread) → Gives (λ x. (x.0, drop x.1 tokens)) r (expr_at depth (drop from tokens)) → IsSpelled (IsExprAt depth) tokens from r
+expression_spelled depth tokens from r g = spelled (IsExprAt depth) (expr_at depth) tokens from r (expr_found dq_found depth) g
+
+pub expression_parsed : (depth : ℕ) (tokens : List Lexeme) (from : ℕ) (r : Result (Expr × ℕ) Misread) → Gives (λ x. (x.0, drop x.1 tokens)) r (expr_at depth (drop from tokens)) → IsParsed (IsExprAt depth) NothingGoesOn tokens from r
+expression_parsed depth tokens from r g = parsed (IsExprAt depth) NothingGoesOn (expr_at depth) tokens from r (λ y us rest h n l. expr_read dq_read depth y us rest h n (omega arith)) g
+
+pub reference_spelled : (depth : ℕ) (tokens : List Lexeme) (from : ℕ) (r : Result (Expr × ℕ) Misread) → Gives (λ x. (x.0, drop x.1 tokens)) r (reference_with (expr_at depth) (drop from tokens)) → IsSpelled (ReferenceOf (IsExprAt depth)) tokens from r
+reference_spelled depth tokens from r g = spelled (ReferenceOf (IsExprAt depth)) (reference_with (expr_at depth)) tokens from r (reference_found (expr_at depth) (IsExprAt depth) (expr_found dq_found depth)) g
+
+pub reference_parsed : (depth : ℕ) (tokens : List Lexeme) (from : ℕ) (r : Result (Expr × ℕ) Misread) → Gives (λ x. (x.0, drop x.1 tokens)) r (reference_with (expr_at depth) (drop from tokens)) → IsParsed (ReferenceOf (IsExprAt depth)) Anything tokens from r
+reference_parsed depth tokens from r g =
+    parsed (ReferenceOf (IsExprAt depth)) Anything (reference_with (expr_at depth)) tokens from r (λ y us rest h n l. reference_read dq_read (expr_at depth) (IsExprAt depth) (expr_read dq_read depth) (expr_begun depth) y us rest h n) g
+
+pub string_spelled : (depth : ℕ) (tokens : List Lexeme) (from : ℕ) (r : Result (Expr × ℕ) Misread) → Gives (λ x. (x.0, drop x.1 tokens)) r (string_with (expr_at depth) (drop from tokens)) → IsSpelled (StringOf (IsExprAt depth)) tokens from r
+string_spelled depth tokens from r g =
+    spelled (StringOf (IsExprAt depth)) (string_with (expr_at depth)) tokens from r (string_found dq_found (expr_at depth) (IsExprAt depth) (expr_found dq_found depth) (λ y s. begun_some [] (expr_begun depth y [] s) refl)) g
+
+pub string_parsed : (depth : ℕ) (tokens : List Lexeme) (from : ℕ) (r : Result (Expr × ℕ) Misread) → Gives (λ x. (x.0, drop x.1 tokens)) r (string_with (expr_at depth) (drop from tokens)) → IsParsed (StringOf (IsExprAt depth)) Anything tokens from r
+string_parsed depth tokens from r g =
+    parsed (StringOf (IsExprAt depth)) Anything (string_with (expr_at depth)) tokens from r (λ y us rest h n l. string_read dq_read (expr_at depth) (IsExprAt depth) (expr_read dq_read depth) (expr_begun depth) y us rest h n) g
+
+-- Tokens spell at most one expression.
+pub same_expression : (depth : ℕ) (y z : Expr) (us : List Lexeme) → IsExprAt depth y us → IsExprAt depth z us → NumbersFit us → y ≡ z
+same_expression depth y z us h k n =
+    let same : ◌≡◌ {A = Found Expr} (Some (y, [])) (Some (z, [])) = sym (expr_read dq_read depth y us [] h n (omega arith)) ∙ expr_read dq_read depth z us [] k n (omega arith) in
+    let pair : ◌≡◌ {A = Expr × List Lexeme} (y, []) (z, []) = cc in
+    ap (λ (p : Expr × List Lexeme). p.0) pair

@@ -1,0 +1,4 @@
+pub mod Marks
+pub mod Values
+pub mod Reading
+pub mod Parsed

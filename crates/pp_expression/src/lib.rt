@@ -1,0 +1,20 @@
+//! Expressions, by rules: their tokens and operators, the values of their tokens, the nodes of their
+//! trees, and the laws that tie a way of reading them to the grammar, both ways.
+#![tactic(auto)]
+
+mod laws;
+mod marks;
+mod misread;
+mod nodes;
+mod values;
+
+pub use laws::{expressions_are_read, one_expression, texts_are_read};
+pub use marks::{
+    begins_suffix, begins_word, expect, first_at, front_of, infix_at, mark, prefixes, turns,
+};
+pub use misread::Misread;
+pub use nodes::{as_variable, chain_of, indexed, joined, prefixed, referred, selected};
+pub use values::{atom, name_of, sq, text_of};
+
+#[cfg(test)]
+mod tests;

@@ -1,0 +1,248 @@
+ghost use Rattle.std.specs.Prelude.{◌≡◌, ◌+◌, ◌<◌, ◌≤◌, drop, length, IfOk, IfSome};
+ghost use Rattle.std.specs.Option.{option_map};
+ghost use Rattle.pp_syntax.specs.Lexing.{told, lexeme_of};
+ghost use Rattle.pp_syntax.specs.Derivation.{level_of};
+ghost use Rattle.pp_expression.specs.Marks.{front_of, first_at, rank, is_kind, mark, sign_operator, keyword_operator, operator_of, infix_at, sign_prefix, prefix_of, prefix_at, is_suffix, begins_suffix};
+ghost use Rattle.pp_expression.specs.Reading.{Gives, begins_word, prefixes};
+
+use crate::misread::Misread;
+use pp_syntax::{Kind, Op, Token};
+use rh_base::{NoMemory, Seq};
+use std::alloc::Global;
+
+fn rank(kind: Kind) -> u8
+    ensures { result ≡ rank kind }
+{
+    match kind {
+        Kind::Word => 0,
+        Kind::Ref => 1,
+        Kind::Var => 2,
+        Kind::Int => 3,
+        Kind::Float => 4,
+        Kind::Sq => 5,
+        Kind::DqOpen => 6,
+        Kind::DqText => 7,
+        Kind::DqVar => 8,
+        Kind::Hole => 9,
+        Kind::HoleEnd => 10,
+        Kind::DqClose => 11,
+        Kind::Tight => 12,
+        Kind::Loose => 13,
+        Kind::Keyword => 14,
+        Kind::Sign => 15,
+        Kind::LeftOut => 16,
+    }
+}
+
+fn is_kind(one: Kind, other: Kind) -> bool
+    ensures { result ≡ is_kind one other }
+{
+    rank(one) == rank(other)
+}
+
+/// The token at this index, and the index behind it.
+pub fn front_of<'a, 't>(tokens: &'a [Token<'t>], from: usize) -> Option<(&'a Token<'t>, usize)>
+    ensures is { option_map (λ x. (lexeme_of x.0.now, drop x.1 (told tokens.now))) result ≡ front_of (drop from (told tokens.now)) }
+    ensures behind { IfSome result (λ x. (x.1 ≡ from + 1) × (from < length tokens.now)) }
+{
+    let token = tokens.get(from)?;
+    Some((token, from + 1))
+}
+
+/// One more than the number of tokens from this index on.
+pub fn turns(tokens: &[Token<'_>], from: usize) -> usize
+    ensures { result ≡ length (drop from (told tokens.now)) + 1 }
+{
+    tokens.len().saturating_sub(from) + 1
+}
+
+/// Where the token of this kind and text stands that is at this index, and the index behind it.
+pub fn mark(kind: Kind, text: &str, tokens: &[Token<'_>], from: usize) -> Option<(u32, usize)>
+    ensures { option_map (λ x. (x.0, drop x.1 (told tokens.now))) result ≡ mark kind text.now (drop from (told tokens.now)) }
+{
+    let (token, rest) = front_of(tokens, from)?;
+    let same = is_kind(token.kind, kind);
+    let spelled = token.text == text;
+    if same && spelled {
+        Some((token.at, rest))
+    } else {
+        None
+    }
+}
+
+/// The same, where nothing else goes on.
+pub fn expect(
+    kind: Kind,
+    text: &str,
+    tokens: &[Token<'_>],
+    from: usize,
+) -> Result<(u32, usize), Misread>
+    ensures { Gives (λ x. (x.0, drop x.1 (told tokens.now))) result (mark kind text.now (drop from (told tokens.now))) }
+{
+    mark(kind, text, tokens, from).ok_or(Misread::Form(from))
+}
+
+/// Where the token at this index stands.
+pub fn first_at(tokens: &[Token<'_>], from: usize) -> u32
+    ensures { result ≡ first_at (drop from (told tokens.now)) }
+{
+    match front_of(tokens, from) {
+        Some((token, _)) => token.at,
+        None => 0,
+    }
+}
+
+/// A WORD stands at this index.
+pub fn begins_word(tokens: &[Token<'_>], from: usize) -> bool
+    ensures { result ≡ begins_word (drop from (told tokens.now)) }
+{
+    match front_of(tokens, from) {
+        Some((token, _)) => matches!(token.kind, Kind::Word),
+        None => false,
+    }
+}
+
+fn sign_operator(text: &str) -> Option<Op>
+    ensures { result ≡ sign_operator text.now }
+{
+    if text == "<" {
+        Some(Op::Less)
+    } else if text == ">" {
+        Some(Op::Greater)
+    } else if text == "<=" {
+        Some(Op::AtMost)
+    } else if text == ">=" {
+        Some(Op::AtLeast)
+    } else if text == "==" {
+        Some(Op::Same)
+    } else if text == "!=" {
+        Some(Op::NotSame)
+    } else if text == "+" {
+        Some(Op::Plus)
+    } else if text == "-" {
+        Some(Op::Minus)
+    } else if text == "*" {
+        Some(Op::Times)
+    } else {
+        None
+    }
+}
+
+fn keyword_operator(text: &str) -> Option<Op>
+    ensures { result ≡ keyword_operator text.now }
+{
+    if text == "or" {
+        Some(Op::Or)
+    } else if text == "and" {
+        Some(Op::And)
+    } else if text == "in" {
+        Some(Op::In)
+    } else {
+        None
+    }
+}
+
+fn operator_of(kind: Kind, text: &str) -> Option<Op>
+    ensures { result ≡ operator_of kind text.now }
+{
+    match kind {
+        Kind::Sign => sign_operator(text),
+        Kind::Keyword => keyword_operator(text),
+        _ => None,
+    }
+}
+
+fn level_of(op: Op) -> u32
+    ensures { result ≡ level_of op }
+{
+    match op {
+        Op::Or => 0,
+        Op::And => 1,
+        Op::Less | Op::Greater | Op::AtMost | Op::AtLeast => 2,
+        Op::Same | Op::NotSame => 3,
+        Op::Plus | Op::Minus => 4,
+        Op::Times => 5,
+        Op::In => 6,
+        Op::Not => 7,
+    }
+}
+
+/// The operator of this level that is at the front.
+pub fn infix_at(level: u32, tokens: &[Token<'_>], from: usize) -> Option<(Op, usize)>
+    ensures { option_map (λ x. (x.0, drop x.1 (told tokens.now))) result ≡ infix_at level (drop from (told tokens.now)) }
+{
+    let (token, rest) = front_of(tokens, from)?;
+    let op = operator_of(token.kind, token.text)?;
+    if level_of(op) == level {
+        Some((op, rest))
+    } else {
+        None
+    }
+}
+
+fn sign_prefix(text: &str) -> Option<Op>
+    ensures { result ≡ sign_prefix text.now }
+{
+    if text == "!" {
+        Some(Op::Not)
+    } else if text == "-" {
+        Some(Op::Minus)
+    } else {
+        None
+    }
+}
+
+fn prefix_of(kind: Kind, text: &str) -> Option<Op>
+    ensures { result ≡ prefix_of kind text.now }
+{
+    match kind {
+        Kind::Sign => sign_prefix(text),
+        _ => None,
+    }
+}
+
+fn is_suffix(kind: Kind, text: &str) -> bool
+    ensures { result ≡ is_suffix kind text.now }
+{
+    match kind {
+        Kind::Tight => text == "[",
+        Kind::Sign => text == "?",
+        _ => false,
+    }
+}
+
+/// What stands at this index indexes what is in front of it, or selects by it.
+pub fn begins_suffix(tokens: &[Token<'_>], from: usize) -> bool
+    ensures { result ≡ begins_suffix (drop from (told tokens.now)) }
+{
+    match front_of(tokens, from) {
+        Some((token, _)) => is_suffix(token.kind, token.text),
+        None => false,
+    }
+}
+
+fn prefix_at(tokens: &[Token<'_>], from: usize) -> Option<(Op, usize)>
+    ensures is { option_map (λ x. (x.0, drop x.1 (told tokens.now))) result ≡ prefix_at (drop from (told tokens.now)) }
+    ensures behind { IfSome result (λ x. (from < x.1) × (x.1 ≤ length tokens.now)) }
+{
+    let (token, rest) = front_of(tokens, from)?;
+    let op = prefix_of(token.kind, token.text)?;
+    Some((op, rest))
+}
+
+/// All `!` and `-` from this index on.
+pub fn prefixes(
+    alloc: Global,
+    tokens: &[Token<'_>],
+    from: usize,
+) -> Result<(Seq<Op>, usize), NoMemory>
+    ensures { IfOk result (λ x. (x.0, drop x.1 (told tokens.now)) ≡ prefixes (drop from (told tokens.now))) }
+{
+    let mut found = Seq::new(alloc);
+    let mut rest = from;
+    while let Some((op, more)) = prefix_at(tokens, rest) {
+        found.push(op)?;
+        rest = more;
+    }
+    Ok((found, rest))
+}
