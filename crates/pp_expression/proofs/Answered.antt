@@ -1,5 +1,5 @@
 -- From reading functions to what parsing answers.
-use Rattle.std.proofs.Common.{◌≡◌, ℕ, ◌≤◌, List, [], ◌++◌, drop, refl, Option, Some, None, sym, ap, subst, ◌∙◌, arith}
+use Rattle.std.proofs.Common.{◌≡◌, ℕ, List, [], ◌++◌, drop, refl, Some, None, sym, ap, ◌∙◌, arith}
 use Rattle.std.specs.Prelude.{Result, Ok, Err}
 use Rattle.pp_syntax.specs.declared.tree.Expr.{Expr}
 use Rattle.pp_syntax.specs.Tokens.{Lexeme}
@@ -7,8 +7,8 @@ use Rattle.pp_syntax.specs.Derivation.{IsExprAt, ReferenceOf, StringOf}
 use Rattle.pp_expression.specs.declared.misread.Misread.{Misread}
 use Rattle.pp_expression.specs.declared.misread.Misread.TheVariants as misread
 use Rattle.pp_expression.specs.Marks.{Found}
-use Rattle.pp_expression.specs.Parsed.{Begins, NumbersFit, NothingGoesOn, Anything, IsMemory, IsSpelled, IsParsed}
-use Rattle.pp_expression.specs.Reading.{Gives, Fails, expr_at, reference_with, string_with}
+use Rattle.pp_expression.specs.Parsed.{NumbersFit, NothingGoesOn, Anything, IsSpelled, IsParsed}
+use Rattle.pp_expression.specs.Reading.{Gives, expr_at, reference_with, string_with}
 use Rattle.pp_expression.proofs.Finding.{Finds}
 use Rattle.pp_expression.proofs.Found.{reference_found}
 use Rattle.pp_expression.proofs.Operands.{string_found}

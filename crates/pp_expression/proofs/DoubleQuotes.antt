@@ -1,8 +1,7 @@
 -- The value of text in double quotes, read and spelled.
-use Rattle.std.proofs.Common.{◌≡◌, ◌≢◌, ◌⊎◌, inl, inr, ℕ, zero, suc, ◌+◌, ◌*◌, ◌==◌, ◌<◌, ◌≤◌, Bool, true, false, ◌&&◌, cond, List, [], ◌∷◌, ◌++◌, length, Option, Some, None, refl, sym, ap, subst, ◌∙◌, append_assoc, length-append, arith, eq-eqb}
+use Rattle.std.proofs.Common.{◌≡◌, ◌≢◌, ℕ, ◌+◌, ◌*◌, ◌==◌, ◌≤◌, Bool, true, false, ◌&&◌, cond, List, [], ◌∷◌, ◌++◌, length, Option, Some, None, refl, sym, ap, subst, ◌∙◌, append_assoc, length-append, arith, eq-eqb}
 use Rattle.std.specs.Prelude.{IsTrue, encode_utf8, not}
 use Rattle.std.proofs.lemmas.Bool.{eqb-true, ne_eqb, eqb-false}
-use Rattle.std.proofs.lemmas.List.{append-nil}
 use Rattle.pp_syntax.specs.Bytes.{is_hex}
 use Rattle.pp_syntax.specs.Tokens.{Of, digit_of, value_from, hex_value, is_scalar, is_simple_escape, NoEscape}
 use Rattle.pp_syntax.specs.TokenValues.{DqOf, nothing, plain, escape, backslash, EscapeOf, simple, four, braced, simple_value}

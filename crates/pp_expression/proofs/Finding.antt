@@ -1,5 +1,5 @@
 -- What is read is spelled: lists and chains, for any rule that is read so.
-use Rattle.std.proofs.Common.{◌≡◌, ◌⊎◌, inl, inr, ℕ, zero, suc, ◌+◌, ◌-◌, ◌==◌, Bool, true, false, ◌||◌, cond, List, [], ◌∷◌, ◌++◌, length, Option, Some, None, refl, sym, ap, subst, ◌∙◌, append_assoc}
+use Rattle.std.proofs.Common.{◌≡◌, inl, inr, ℕ, zero, suc, ◌==◌, Bool, true, false, cond, List, [], ◌∷◌, ◌++◌, Option, Some, None, refl, sym, ap, subst, ◌∙◌, append_assoc}
 use Rattle.std.specs.Prelude.{codes}
 use Rattle.std.specs.Str.{bytes_eq}
 use Rattle.std.proofs.lemmas.Bool.{eqb-true}
@@ -13,7 +13,7 @@ use Rattle.pp_syntax.specs.Tokens.{Lexeme}
 use Rattle.pp_syntax.specs.Phrases as phrases
 use Rattle.pp_syntax.specs.Phrases.{◌then◌, Nothing, Maybe, Sign, Comma, Each, Separated, Listed, MaybeListed}
 use Rattle.pp_syntax.specs.Derivation.{level_of, Infix, Prefixed, Operation, Operations, Prefixes}
-use Rattle.pp_expression.specs.Marks.{Found, front_of, mark, sign_operator, keyword_operator, operator_of, at_level, infix_at, infix_of, sign_prefix, prefix_of}
+use Rattle.pp_expression.specs.Marks.{Found, mark, sign_operator, keyword_operator, operator_of, at_level, infix_at, prefix_of}
 use Rattle.pp_expression.specs.Values.{◌>>=◌}
 use Rattle.pp_expression.specs.Parsed.{Begins}
 use Rattle.pp_expression.specs.Reading.{with_first, operations, operations_or_end, prefixes, prefixes_or_end, separator, separator_or_end, behind_comma, after_comma, more_items, items, items_or_end, maybe_items}

@@ -1,29 +1,22 @@
 -- What is read is spelled: the rules of expressions, where it holds of what stands within brackets.
-use Rattle.std.proofs.Common.{◌≡◌, ◌≢◌, ◌⊎◌, inl, inr, ℕ, zero, suc, ◌+◌, ◌-◌, ◌==◌, ◌<◌, ◌^◌, Bool, true, false, ◌||◌, cond, List, [], ◌∷◌, ◌++◌, length, Option, Some, None, refl, sym, ap, subst, ◌∙◌, append_assoc}
-use Rattle.std.specs.Prelude.{codes, pos, nat_lt}
-use Rattle.std.specs.Option.{option_map}
-use Rattle.std.specs.Str.{bytes_eq}
-use Rattle.std.specs.List.{list_any}
-use Rattle.std.proofs.lemmas.Bool.{eqb-true}
-use Rattle.std.proofs.lemmas.Slice.Eq.{bytes_eq-Decides}
+use Rattle.std.proofs.Common.{◌≡◌, ◌≢◌, ℕ, zero, suc, ◌+◌, Bool, true, false, cond, List, [], ◌∷◌, ◌++◌, length, Option, Some, None, refl, sym, ap, subst, ◌∙◌, append_assoc}
+use Rattle.std.specs.Prelude.{codes}
 use Rattle.pp_syntax.specs.declared.token.Kind.{Kind}
 use Rattle.pp_syntax.specs.declared.token.Kind.TheVariants as kind
 use Rattle.pp_syntax.specs.declared.tree.Expr.{Expr}
-use Rattle.pp_syntax.specs.declared.tree.Form.{Form}
 use Rattle.pp_syntax.specs.declared.tree.Form.TheVariants as form
 use Rattle.pp_syntax.specs.declared.tree.Op.{Op}
-use Rattle.pp_syntax.specs.Tokens.{Lexeme, int_value}
-use Rattle.pp_syntax.specs.TokenValues.{SqOf, DqOf, sq_value}
+use Rattle.pp_syntax.specs.Tokens.{Lexeme}
 use Rattle.pp_syntax.specs.Phrases as phrases
 use Rattle.pp_syntax.specs.Phrases.{◌then◌, Nothing, Maybe, Sign, Keyword, Tight, Comma, Listed, MaybeListed, place_of}
 use Rattle.pp_syntax.specs.Derivation.{ChainOf, operand, chain, Operations, Prefixes, UnaryOf, PostfixOf, PrimaryOf, SuffixOf, SuffixesOf, ReferenceOf, StringOf, MemberOf, Members, InnerOf, ReadAsVariable, PairOf, OptionOf, ChoiceOf, is_part, has_part, kind_of_first, IsExprAt}
 use Rattle.pp_syntax.specs.Derivation as grammar
-use Rattle.pp_expression.specs.Marks.{Found, front_of, first_at, mark, infix_at, prefix_of, is_suffix, begins_suffix}
-use Rattle.pp_expression.specs.Values.{◌>>=◌, name_of, behind_byte, atom, int_form, literal, sq, dq, before_quote}
+use Rattle.pp_expression.specs.Marks.{Found, first_at, mark, begins_suffix}
+use Rattle.pp_expression.specs.Values.{◌>>=◌}
 use Rattle.pp_expression.specs.Parsed.{Begins}
-use Rattle.pp_expression.specs.Reading.{chain_of, chain_with, operations, prefixes, prefixed, items, maybe_items, enclosed_with, pair_with, option_or, option_with, choice_with, titles_with, refer_by, reference_of, reference_with, list_with, map_with, opened_or, index_with, choices_with, selection_with, suffix_by, suffix_of, suffix_with, suffixes, postfix_with, unary_with, levels_with, expr_at, primary_by, primary_of, primary_with, atom_of, atom_at, double_with, quoted_with, members, member_with, member_by, with_member, end_or_member, joined, plain_of, part_with, hole_with, inner_with, inner_of, begins_word, as_variable, form_as_variable}
+use Rattle.pp_expression.specs.Reading.{chain_of, chain_with, operations, items, maybe_items, enclosed_with, pair_with, option_or, option_with, choice_with, titles_with, refer_by, reference_with, list_with, map_with, opened_or, index_with, choices_with, selection_with, suffix_by, suffix_with, suffixes}
 use Rattle.pp_expression.proofs.Tokens.{bind_some, joins, maps, marked, marked_at}
-use Rattle.pp_expression.proofs.Finding.{Finds, nothing, operations_found, prefixes_found, items_found, maybe_items_found, parts}
+use Rattle.pp_expression.proofs.Finding.{Finds, operations_found, items_found, maybe_items_found}
 
 -- The place of what is read is that of its first token.
 pub first_is : (us rest ts : List Lexeme) → ts ≡ us ++ rest → us ≢ [] → first_at ts ≡ place_of us

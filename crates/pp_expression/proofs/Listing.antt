@@ -1,13 +1,13 @@
 -- What is spelled is read: lists with commas between their items, to the sign that closes them.
-use Rattle.std.proofs.Common.{◌≡◌, ◌≢◌, ◌⊎◌, inl, inr, ℕ, zero, suc, ◌+◌, ◌<◌, ◌≤◌, Bool, true, false, List, [], ◌∷◌, ◌++◌, length, Option, Some, None, refl, sym, ap, subst, ◌∙◌, append_assoc, length-append, arith}
+use Rattle.std.proofs.Common.{◌≡◌, inl, inr, ℕ, zero, suc, ◌<◌, ◌≤◌, true, false, List, [], ◌∷◌, ◌++◌, length, Some, None, refl, ap, ◌∙◌, append_assoc, length-append, arith}
 use Rattle.std.specs.Prelude.{codes}
 use Rattle.std.proofs.lemmas.List.{append-nil}
 use Rattle.pp_syntax.specs.declared.token.Kind.TheVariants as kind
 use Rattle.pp_syntax.specs.Tokens.{Lexeme}
-use Rattle.pp_syntax.specs.Phrases.{◌then◌, Nothing, Maybe, Sign, Comma, Each, Separated, Listed, MaybeListed}
+use Rattle.pp_syntax.specs.Phrases.{◌then◌, Maybe, Sign, Comma, Each, Listed, MaybeListed}
 use Rattle.pp_expression.specs.Marks.{Found, mark, reach}
 use Rattle.pp_expression.specs.Values.{◌>>=◌}
-use Rattle.pp_expression.specs.Reading.{with_first, separator, separator_or_end, behind_comma, after_comma, more_items, items, items_or_end, maybe_items}
+use Rattle.pp_expression.specs.Reading.{with_first, separator, separator_or_end, after_comma, more_items, items, items_or_end, maybe_items}
 use Rattle.pp_expression.proofs.Reading.{Fit, fits_first, fits_second, Reads}
 
 -- a sign of this text, here

@@ -1,9 +1,8 @@
 -- What is read is spelled: texts in quotes, operands, and whole expressions.
-use Rattle.std.proofs.Common.{◌≡◌, ◌≢◌, ◌⊎◌, inl, inr, ℕ, zero, suc, ◌+◌, ◌-◌, ◌==◌, ◌<◌, ◌^◌, Bool, true, false, ◌||◌, cond, List, [], ◌∷◌, ◌++◌, length, Option, Some, None, refl, sym, ap, subst, ◌∙◌, append_assoc}
+use Rattle.std.proofs.Common.{◌≡◌, ◌≢◌, ◌⊎◌, inl, inr, ℕ, zero, suc, ◌+◌, ◌==◌, ◌^◌, Bool, true, false, ◌||◌, cond, List, [], ◌∷◌, ◌++◌, length, Option, Some, None, refl, sym, ap, subst, ◌∙◌}
 use Rattle.std.specs.Prelude.{codes, pos, nat_lt}
 use Rattle.std.specs.Option.{option_map}
 use Rattle.std.specs.Str.{bytes_eq}
-use Rattle.std.specs.List.{list_any}
 use Rattle.std.proofs.lemmas.Bool.{eqb-true}
 use Rattle.std.proofs.lemmas.List.{append-nil}
 use Rattle.std.proofs.lemmas.Slice.Eq.{bytes_eq-Decides}
@@ -12,20 +11,19 @@ use Rattle.pp_syntax.specs.declared.token.Kind.TheVariants as kind
 use Rattle.pp_syntax.specs.declared.tree.Expr.{Expr}
 use Rattle.pp_syntax.specs.declared.tree.Form.{Form}
 use Rattle.pp_syntax.specs.declared.tree.Form.TheVariants as form
-use Rattle.pp_syntax.specs.declared.tree.Op.{Op}
 use Rattle.pp_syntax.specs.Tokens.{Lexeme, int_value}
 use Rattle.pp_syntax.specs.TokenValues.{SqOf, DqOf, sq_value}
 use Rattle.pp_syntax.specs.Phrases as phrases
 use Rattle.pp_syntax.specs.Phrases.{◌then◌, Nothing, Maybe, Sign, Keyword, place_of}
 use Rattle.pp_syntax.specs.Derivation.{ChainOf, Prefixes, UnaryOf, PostfixOf, PrimaryOf, SuffixesOf, StringOf, PlainOf, MemberOf, Members, InnerOf, ReadAsVariable, is_part, has_part, kind_of_first, ExprOf, IsExprAt}
 use Rattle.pp_syntax.specs.Derivation as grammar
-use Rattle.pp_expression.specs.Marks.{Found, front_of, first_at, mark}
+use Rattle.pp_expression.specs.Marks.{Found, mark}
 use Rattle.pp_expression.specs.Values.{◌>>=◌, name_of, behind_byte, atom, int_form, literal, sq, dq, before_quote}
 use Rattle.pp_expression.specs.Parsed.{Begins}
-use Rattle.pp_expression.specs.Reading.{prefixes, prefixed, opened_or, suffixes, postfix_with, unary_with, chain_with, levels_with, expr_at, primary_by, primary_with, atom_of, atom_at, string_by, string_with, double_with, quoted_with, members, member_with, member_by, with_member, end_or_member, joined, plain_of, part_with, hole_with, inner_with, inner_of, begins_word, is_word, as_variable, form_as_variable}
+use Rattle.pp_expression.specs.Reading.{primary_by, primary_with, atom_of, atom_at, string_by, string_with, double_with, quoted_with, members, member_with, member_by, with_member, end_or_member, joined, plain_of, part_with, hole_with, inner_with, inner_of, begins_word, is_word, as_variable}
 use Rattle.pp_expression.proofs.Tokens.{bind_some, joins, maps, marked, marked_at}
-use Rattle.pp_expression.proofs.Finding.{Finds, nothing, prefixes_found, parts}
-use Rattle.pp_expression.proofs.Found.{Spells, first_is, solid, chain_found, reference_found, list_found, opened_found, suffixes_found}
+use Rattle.pp_expression.proofs.Finding.{Finds, parts}
+use Rattle.pp_expression.proofs.Found.{Spells, solid, reference_found, list_found, opened_found}
 use Rattle.pp_expression.proofs.Variables.{Stays, variable_found}
 use Rattle.pp_expression.proofs.Escapes.{before_found}
 

@@ -1,12 +1,10 @@
 -- What is spelled is read: texts in quotes, operands, and whole expressions.
-use Rattle.std.proofs.Common.{◌≡◌, ◌≢◌, ◌⊎◌, inl, inr, ℕ, zero, suc, ◌+◌, ◌-◌, ◌<◌, ◌≤◌, ◌^◌, Bool, true, false, ◌||◌, cond, List, [], ◌∷◌, ◌++◌, length, Option, Some, None, refl, sym, ap, subst, ◌∙◌, append_assoc, length-append, arith}
-use Rattle.std.specs.Prelude.{codes, pos, nat_lt}
+use Rattle.std.proofs.Common.{◌≡◌, ◌⊎◌, inl, inr, ℕ, zero, suc, ◌+◌, ◌-◌, ◌<◌, ◌≤◌, ◌^◌, Bool, true, false, cond, List, [], ◌∷◌, ◌++◌, length, Some, None, refl, sym, ap, subst, ◌∙◌, append_assoc, length-append, arith}
+use Rattle.std.specs.Prelude.{codes, pos}
 use Rattle.std.specs.Option.{option_map}
 use Rattle.std.proofs.lemmas.List.{append-nil}
-use Rattle.pp_syntax.specs.declared.token.Kind.{Kind}
 use Rattle.pp_syntax.specs.declared.token.Kind.TheVariants as kind
 use Rattle.pp_syntax.specs.declared.tree.Expr.{Expr}
-use Rattle.pp_syntax.specs.declared.tree.Form.{Form}
 use Rattle.pp_syntax.specs.declared.tree.Form.TheVariants as form
 use Rattle.pp_syntax.specs.declared.tree.Op.{Op}
 use Rattle.pp_syntax.specs.Tokens.{Lexeme, int_value}
@@ -16,13 +14,13 @@ use Rattle.pp_syntax.specs.Phrases.{◌then◌, Sign, place_of}
 use Rattle.pp_syntax.specs.Derivation.{Prefixes, UnaryOf, PostfixOf, PrimaryOf, StringOf, PlainOf, MemberOf, Members, InnerOf, ReadAsVariable, has_part, kind_of_first, IsExprAt}
 use Rattle.pp_syntax.specs.Derivation as grammar
 use Rattle.pp_syntax.proofs.Values.{fits}
-use Rattle.pp_expression.specs.Marks.{Found, first_at, mark, prefix_at, reach}
-use Rattle.pp_expression.specs.Values.{◌>>=◌, behind_byte, before_quote, atom, int_form, sq, dq}
+use Rattle.pp_expression.specs.Marks.{Found, first_at, mark, reach}
+use Rattle.pp_expression.specs.Values.{◌>>=◌, behind_byte, before_quote, sq, dq}
 use Rattle.pp_expression.specs.Reading.{prefixes, prefixed, suffixes, postfix_with, unary_with, levels_with, expr_at, primary_with, opened_or, atom_of, atom_at, string_with, double_with, quoted_with, members, member_with, with_member, end_or_member, joined, plain_of, part_with, hole_with, inner_with, inner_of, begins_word, as_variable}
 use Rattle.pp_expression.proofs.Escapes.{before_here}
 use Rattle.pp_expression.proofs.Variables.{variable_found, Stays}
 use Rattle.pp_expression.proofs.Operands.{part-append}
-use Rattle.pp_expression.proofs.Solid.{Begun, lead, begun_some, primary_lead, postfix_lead, unary_begun, no_prefix_first, LevelOf, level_begun, expr_begun}
+use Rattle.pp_expression.proofs.Solid.{Begun, lead, begun_some, postfix_lead, unary_begun, no_prefix_first, LevelOf, level_begun, expr_begun}
 use Rattle.pp_expression.proofs.Reading.{Fit, fits_first, fits_second, Reads, made, first_place, chain_read, prefixes_read}
 use Rattle.pp_expression.proofs.Listing.{Closes}
 use Rattle.pp_expression.proofs.Spelled.{variable_is, begins_of, word_of, enclosed_read, reference_read, list_read, map_read, suffixes_read}

@@ -1,8 +1,6 @@
 -- What is spelled is read: tokens, chains of operators, and lists.
-use Rattle.std.proofs.Common.{◌≡◌, ◌≢◌, ◌⊎◌, inl, inr, ℕ, zero, suc, ◌+◌, ◌-◌, ◌==◌, ◌<◌, ◌≤◌, ◌^◌, Bool, true, false, ◌||◌, ◌&&◌, cond, List, [], ◌∷◌, ◌++◌, length, Option, Some, None, refl, sym, ap, subst, ◌∙◌, append_assoc, length-append, arith, eq-eqb}
+use Rattle.std.proofs.Common.{◌≡◌, ◌≢◌, ℕ, zero, suc, ◌+◌, ◌<◌, ◌≤◌, Bool, true, false, cond, List, [], ◌∷◌, ◌++◌, length, Option, Some, None, refl, sym, ap, subst, ◌∙◌, append_assoc, length-append, arith, eq-eqb}
 use Rattle.std.specs.Prelude.{codes}
-use Rattle.std.specs.List.{AllByRecursion}
-use Rattle.std.specs.Str.{bytes_eq}
 use Rattle.std.proofs.lemmas.Bool.{ne_eqb}
 use Rattle.std.proofs.lemmas.Slice.Eq.{bytes_eq-Decides}
 use Rattle.pp_syntax.specs.declared.token.Kind.{Kind}
@@ -12,15 +10,14 @@ use Rattle.pp_syntax.specs.declared.tree.Form.{Form}
 use Rattle.pp_syntax.specs.declared.tree.Form.TheVariants as form
 use Rattle.pp_syntax.specs.declared.tree.Op.{Op}
 use Rattle.pp_syntax.specs.declared.tree.Op.TheVariants as op
-use Rattle.pp_syntax.specs.Tokens.{Lexeme, int_value}
-use Rattle.pp_syntax.specs.Phrases as phrases
-use Rattle.pp_syntax.specs.Phrases.{◌then◌, Nothing, Maybe, Sign, Comma, Each, Separated, Listed, MaybeListed, place_of}
+use Rattle.pp_syntax.specs.Tokens.{Lexeme}
+use Rattle.pp_syntax.specs.Phrases.{place_of}
 use Rattle.pp_syntax.specs.Derivation.{level_of, Infix, Prefixed, Operation, Operations, Prefixes, ChainOf}
 use Rattle.pp_syntax.specs.Derivation as grammar
-use Rattle.pp_expression.specs.Marks.{Found, front_of, first_at, mark, operator_of, at_level, infix_at, infix_of, prefix_of, prefix_at, is_suffix, begins_suffix, reach, reach_of}
+use Rattle.pp_expression.specs.Marks.{Found, first_at, operator_of, at_level, infix_at, prefix_at, is_suffix, begins_suffix, reach, reach_of}
 use Rattle.pp_expression.specs.Values.{◌>>=◌}
 use Rattle.pp_expression.specs.Parsed.{NumbersFit}
-use Rattle.pp_expression.specs.Reading.{with_first, operations, operations_or_end, chain_of, chain_with, prefixes, prefixes_or_end, separator, separator_or_end, behind_comma, after_comma, more_items, items, items_or_end, maybe_items}
+use Rattle.pp_expression.specs.Reading.{with_first, operations, operations_or_end, chain_of, chain_with, prefixes}
 use Rattle.pp_expression.proofs.Steps.{prefix_goes_on, prefix_ends}
 use Rattle.pp_expression.proofs.Solid.{Begun, begun_some}
 

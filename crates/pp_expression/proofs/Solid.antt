@@ -1,5 +1,5 @@
 -- What operands and expressions begin with.
-use Rattle.std.proofs.Common.{◌≡◌, ◌≢◌, ◌⊎◌, inl, inr, ℕ, zero, suc, ◌-◌, ◌==◌, ◌&&◌, Bool, true, false, cond, List, [], ◌∷◌, ◌++◌, Option, Some, None, refl, sym, ap, subst, ◌∙◌}
+use Rattle.std.proofs.Common.{◌≡◌, ◌≢◌, ℕ, zero, suc, ◌-◌, ◌&&◌, Bool, true, false, cond, List, [], ◌∷◌, ◌++◌, Some, None, refl, sym, ap, ◌∙◌}
 use Rattle.std.specs.Prelude.{codes}
 use Rattle.std.specs.Str.{bytes_eq}
 use Rattle.pp_syntax.specs.declared.token.Kind.{Kind}
@@ -8,11 +8,9 @@ use Rattle.pp_syntax.specs.declared.tree.Expr.{Expr}
 use Rattle.pp_syntax.specs.declared.tree.Op.{Op}
 use Rattle.pp_syntax.specs.declared.tree.Op.TheVariants as op
 use Rattle.pp_syntax.specs.Tokens.{Lexeme}
-use Rattle.pp_syntax.specs.Phrases as phrases
-use Rattle.pp_syntax.specs.Phrases.{◌then◌, Sign}
 use Rattle.pp_syntax.specs.Derivation.{ChainOf, UnaryOf, PostfixOf, PrimaryOf, StringOf, ReferenceOf, Prefixes, Prefixed, IsExprAt, ExprOf}
 use Rattle.pp_syntax.specs.Derivation as grammar
-use Rattle.pp_expression.specs.Marks.{Found, rank, is_kind, front_of, mark, prefix_at, prefix_of}
+use Rattle.pp_expression.specs.Marks.{is_kind, mark, prefix_at, prefix_of}
 
 -- each token of this kind begins an operand
 abbrev pub is_lead : Kind → Bool

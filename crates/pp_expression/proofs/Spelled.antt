@@ -1,29 +1,23 @@
 -- What is spelled is read: the rules of expressions, where it holds of what stands within brackets.
-use Rattle.std.proofs.Common.{◌≡◌, ◌≢◌, ◌⊎◌, inl, inr, ℕ, zero, suc, ◌+◌, ◌-◌, ◌<◌, ◌≤◌, ◌^◌, Bool, true, false, ◌||◌, cond, List, [], ◌∷◌, ◌++◌, length, Option, Some, None, refl, sym, ap, subst, ◌∙◌, append_assoc, length-append, arith}
-use Rattle.std.specs.Prelude.{codes, pos, nat_lt}
-use Rattle.std.specs.Option.{option_map}
-use Rattle.std.proofs.lemmas.List.{append-nil}
-use Rattle.std.proofs.lemmas.Bool.Decides.{nat_tests}
-use Rattle.pp_syntax.specs.declared.token.Kind.{Kind}
+use Rattle.std.proofs.Common.{◌≡◌, ◌≢◌, ℕ, zero, suc, ◌+◌, ◌<◌, ◌≤◌, true, cond, List, [], ◌∷◌, ◌++◌, length, Option, Some, None, refl, ap, ◌∙◌, append_assoc, length-append, arith}
+use Rattle.std.specs.Prelude.{codes}
 use Rattle.pp_syntax.specs.declared.token.Kind.TheVariants as kind
 use Rattle.pp_syntax.specs.declared.tree.Expr.{Expr}
 use Rattle.pp_syntax.specs.declared.tree.Form.{Form}
 use Rattle.pp_syntax.specs.declared.tree.Form.TheVariants as form
-use Rattle.pp_syntax.specs.declared.tree.Op.{Op}
-use Rattle.pp_syntax.specs.Tokens.{Lexeme, int_value}
-use Rattle.pp_syntax.specs.TokenValues.{SqOf, DqOf, sq_value}
+use Rattle.pp_syntax.specs.Tokens.{Lexeme}
+use Rattle.pp_syntax.specs.TokenValues.{DqOf}
 use Rattle.pp_syntax.specs.Phrases as phrases
 use Rattle.pp_syntax.specs.Phrases.{◌then◌, Nothing, Maybe, Sign, Keyword, Tight, Listed, MaybeListed, place_of}
 use Rattle.pp_syntax.specs.Derivation.{ChainOf, Prefixes, UnaryOf, PostfixOf, PrimaryOf, SuffixOf, SuffixesOf, ReferenceOf, StringOf, PlainOf, MemberOf, Members, InnerOf, ReadAsVariable, PairOf, OptionOf, ChoiceOf, has_part, kind_of_first, IsExprAt}
 use Rattle.pp_syntax.specs.Derivation as grammar
-use Rattle.pp_expression.specs.Marks.{Found, first_at, mark, prefix_at, begins_suffix, reach}
-use Rattle.pp_expression.specs.Values.{◌>>=◌, name_of, behind_byte, before_quote, atom, int_form, sq, dq}
+use Rattle.pp_expression.specs.Marks.{Found, mark, begins_suffix, reach}
+use Rattle.pp_expression.specs.Values.{◌>>=◌, dq}
 use Rattle.pp_expression.specs.Reading.{prefixes, prefixed, items, maybe_items, enclosed_with, pair_with, option_or, option_with, choice_with, titles_with, refer_by, reference_with, list_with, map_with, opened_or, index_with, choices_with, selection_with, suffix_by, suffix_with, suffixes, postfix_with, unary_with, chain_with, levels_with, expr_at, primary_with, atom_of, atom_at, string_with, double_with, quoted_with, members, member_with, member_by, with_member, end_or_member, joined, plain_of, part_with, hole_with, inner_with, inner_of, begins_word, as_variable, form_as_variable}
-use Rattle.pp_expression.proofs.Escapes.{before_here}
-use Rattle.pp_expression.proofs.Variables.{at_as_variable, variable_found, Stays}
+use Rattle.pp_expression.proofs.Variables.{at_as_variable}
 use Rattle.pp_expression.proofs.Operands.{part-append}
-use Rattle.pp_expression.proofs.Solid.{Begun, Lead, lead, begun_some, begun_grows, grows, primary_lead, postfix_lead, unary_begun, no_prefix_first, no_close_first, no_default_first, LevelOf, level_begun, expr_begun}
-use Rattle.pp_expression.proofs.Reading.{Fit, fits_first, fits_second, Reads, made, first_place, suffix_none, chain_read, prefixes_read}
+use Rattle.pp_expression.proofs.Solid.{Begun, begun_some, begun_grows, no_close_first, no_default_first}
+use Rattle.pp_expression.proofs.Reading.{Fit, fits_first, fits_second, Reads, made, suffix_none}
 use Rattle.pp_expression.proofs.Listing.{Closes, bracket_closes, brace_closes, items_read, maybe_items_read}
 
 -- ---- words as variables

@@ -1,6 +1,5 @@
 -- Single tokens, and tokens behind one another.
 use Rattle.std.proofs.Common.{◌≡◌, ℕ, ◌==◌, ◌&&◌, Bool, true, false, cond, List, [], ◌∷◌, ◌++◌, Option, Some, None, refl, sym, ap, ◌∙◌, append_assoc}
-use Rattle.std.specs.Prelude.{codes}
 use Rattle.std.proofs.lemmas.Bool.{eqb-true}
 use Rattle.std.proofs.lemmas.Slice.Eq.{bytes_eq-Decides}
 use Rattle.std.specs.Str.{bytes_eq}
@@ -9,7 +8,7 @@ use Rattle.pp_syntax.specs.declared.token.Kind.TheVariants as kind
 use Rattle.pp_syntax.specs.Tokens.{Lexeme}
 use Rattle.pp_syntax.specs.Phrases as phrases
 use Rattle.pp_syntax.specs.Phrases.{◌then◌}
-use Rattle.pp_expression.specs.Marks.{Found, rank, is_kind, front_of, mark}
+use Rattle.pp_expression.specs.Marks.{rank, is_kind, mark}
 use Rattle.pp_expression.specs.Values.{◌>>=◌}
 use Rattle.pp_expression.specs.Parsed.{Begins}
 

@@ -1,17 +1,17 @@
 -- What is read is spelled: operands with what stands behind and before them, and whole expressions.
-use Rattle.std.proofs.Common.{◌≡◌, ◌≢◌, ℕ, zero, suc, ◌+◌, ◌-◌, List, [], ◌∷◌, ◌++◌, length, Option, Some, None, refl, sym, ap, subst, ◌∙◌, append_assoc}
+use Rattle.std.proofs.Common.{◌≡◌, ℕ, zero, suc, ◌+◌, ◌-◌, List, [], ◌∷◌, ◌++◌, length, Some, refl, sym, ap, subst, ◌∙◌, append_assoc}
 use Rattle.pp_syntax.specs.declared.tree.Expr.{Expr}
 use Rattle.pp_syntax.specs.declared.tree.Op.{Op}
 use Rattle.pp_syntax.specs.Tokens.{Lexeme}
 use Rattle.pp_syntax.specs.TokenValues.{DqOf}
-use Rattle.pp_syntax.specs.Phrases.{◌then◌, place_of}
+use Rattle.pp_syntax.specs.Phrases.{place_of}
 use Rattle.pp_syntax.specs.Derivation.{Prefixes, UnaryOf, PostfixOf, PrimaryOf, SuffixesOf, IsExprAt}
 use Rattle.pp_syntax.specs.Derivation as grammar
 use Rattle.pp_expression.specs.Marks.{Found, first_at}
-use Rattle.pp_expression.specs.Values.{◌>>=◌, dq}
+use Rattle.pp_expression.specs.Values.{dq}
 use Rattle.pp_expression.specs.Parsed.{Begins}
 use Rattle.pp_expression.specs.Reading.{prefixes, prefixed, suffixes, postfix_with, unary_with, primary_with, levels_with, expr_at}
-use Rattle.pp_expression.proofs.Tokens.{bind_some, joins, maps}
+use Rattle.pp_expression.proofs.Tokens.{bind_some, joins}
 use Rattle.pp_expression.proofs.Finding.{Finds, prefixes_found}
 use Rattle.pp_expression.proofs.Found.{Spells, first_is, chain_found, suffixes_found}
 use Rattle.pp_expression.proofs.Operands.{primary_found}

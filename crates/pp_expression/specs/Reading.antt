@@ -1,8 +1,6 @@
 -- Reading expressions from tokens. Each function takes the reader of what stands within brackets.
 use Rattle.std.specs.Prelude.{◌≡◌, ℕ, zero, suc, ◌+◌, ◌-◌, Bool, true, false, ◌||◌, if◌then◌else◌, List, [], ◌∷◌, ◌++◌, length, Option, Some, None, codes}
-use Rattle.std.specs.Option.{option_map}
 use Rattle.std.specs.Prelude.{Result, Ok, Err}
-use Rattle.std.specs.Str.{bytes_eq}
 use Rattle.pp_syntax.specs.declared.token.Kind.{Kind}
 use Rattle.pp_syntax.specs.declared.token.Kind.TheVariants as kind
 use Rattle.pp_syntax.specs.declared.tree.Expr.{Expr}

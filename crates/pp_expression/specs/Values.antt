@@ -1,5 +1,5 @@
 -- What tokens that stand for themselves are worth.
-use Rattle.std.specs.Prelude.{◌≡◌, ◌≢◌, ◌<◌, slice_index, ℕ, zero, suc, ◌+◌, ◌*◌, ◌^◌, not, Bool, true, false, ◌==◌, ◌||◌, ◌&&◌, nat_le, nat_lt, if◌then◌else◌, pos, List, [], ◌∷◌, ◌++◌, length, Option, Some, None, encode_utf8, codes}
+use Rattle.std.specs.Prelude.{◌≢◌, ◌<◌, slice_index, ℕ, ◌+◌, ◌*◌, ◌^◌, not, true, false, ◌==◌, ◌&&◌, nat_lt, if◌then◌else◌, pos, List, [], ◌∷◌, ◌++◌, length, Option, Some, None, encode_utf8, codes}
 use Rattle.std.specs.Option.{option_map}
 use Rattle.std.specs.Str.{bytes_eq}
 use Rattle.pp_syntax.specs.declared.token.Kind.{Kind}

@@ -1,4 +1,3 @@
-use Rattle.std.proofs.Common.{arith}
 use Rattle.pp_expression.proofs.Fronts.{front_told}
 use Rattle.pp_expression.proofs.marks.front_of.Goals as goal
 
