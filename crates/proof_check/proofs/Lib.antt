@@ -1,3 +1,5 @@
 pub mod MarkLaws
 pub mod Numbers
 pub mod Chains
+pub mod WordLaws
+pub mod Spelling

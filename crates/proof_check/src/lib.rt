@@ -1,12 +1,14 @@
-//! The checker of proofs by resolution.
+//! The checker of proofs by resolution: what it accepts has no model.
 #![tactic(auto)]
 
 mod fault;
 mod marks;
 mod steps;
+mod text;
 
 pub use fault::{Bad, Cause, CheckFault};
 pub use steps::{Verified, check};
+pub use text::read_proofs;
 
 #[cfg(test)]
 mod tests;

@@ -1,6 +1,6 @@
 use crate::{Cause, CheckFault, Verified, check};
 use cnf::{Clause, Cnf, Link, Lit, Log, Step};
-use rh_base::{NoMemory, Seq};
+use rh_base::{Fault, NoMemory, Seq};
 use std::alloc::Global;
 use std::process::Abort;
 use std::test::Fail;
@@ -205,5 +205,56 @@ fn a_step_may_have_four_hundred_thousand_links(rt: HostRuntime) -> Result<(), Fa
     let verified = result.ok().ok_or("refused")?;
     assert_eq!(rt; verified.cnf().count(), LONG + 1);
     assert_eq!(rt; verified.log().steps.len(), 1);
+    Ok(())
+}
+
+/// What reading and checking a proof text answers.
+fn read_and_check(rt: &(impl Abort + AllocGlobal), text: &[u8]) -> Result<(u64, String), Fail> {
+    let alloc = rt.alloc();
+    match crate::read_proofs(alloc, text) {
+        Err(Fault::Memory(_)) => Ok((0, String::from_str(alloc, "memory")?)),
+        Err(Fault::Refused(refusal)) => Ok((
+            u64::from(refusal.number),
+            String::from_str(alloc, refusal.name.as_str())?,
+        )),
+        Ok(found) => {
+            let mut last = (0, String::from_str(alloc, "none")?);
+            for (cnf, log) in found {
+                last = answer(rt, check(alloc, cnf, log))?;
+            }
+            Ok(last)
+        }
+    }
+}
+
+#[test]
+fn proof_texts_are_read(rt: HostRuntime) -> Result<(), Fail> {
+    let rows: [(&str, u64, &str); 12] = [
+        ("proofs 0", 0, "none"),
+        (
+            "c a comment\n proofs 1\np cnf 1 1\n1 0\nlog 0\n",
+            0,
+            "no step",
+        ),
+        ("proofs 1 p cnf 1 1 1 0 log 1 0 2 0", 1, "no clause 2"),
+        (
+            "proofs 1\np cnf 1 2\n1 -1 0\n-1 0\nlog 1\n0 1 2 1 0",
+            1,
+            "resolvent of 1",
+        ),
+        ("proofs 1\np cnf 1 9223372036854775807\n", 80, "proof"),
+        ("proofs 1\np cnf 9223372036854775807 0\nlog 0", 80, "proof"),
+        ("proofs 1\np cnf 1 1\n01 0\nlog 0", 80, "proof"),
+        ("proofs 1\np cnf 1 1\n-0 0\nlog 0", 80, "proof"),
+        ("proofs 1\np cnf 1 1\n2 0\nlog 0", 80, "proof"),
+        ("proofs 1\np cnf 1 1\n1 0\nlog 0 0", 80, "proof"),
+        ("proofs", 80, "proof"),
+        ("", 80, "proof"),
+    ];
+    for (text, number, wanted) in rows {
+        let found = read_and_check(&rt, text.as_bytes())?;
+        assert_eq!(rt; found.0, number, "of {text}");
+        assert_eq!(rt; found.1.as_str(), wanted, "of {text}");
+    }
     Ok(())
 }
