@@ -1,5 +1,5 @@
 -- What tokens that stand for themselves are worth.
-use Rattle.std.specs.Prelude.{◌≢◌, ◌<◌, slice_index, ℕ, ◌+◌, ◌*◌, ◌^◌, not, true, false, ◌==◌, ◌&&◌, nat_lt, if◌then◌else◌, pos, List, [], ◌∷◌, ◌++◌, length, Option, Some, None, encode_utf8, codes}
+use Rattle.std.specs.Prelude.{◌≡◌, ◌≢◌, ◌<◌, ◌≤◌, slice_index, ℕ, ◌+◌, ◌*◌, ◌^◌, not, true, false, ◌==◌, ◌&&◌, nat_lt, if◌then◌else◌, pos, List, [], ◌∷◌, ◌++◌, length, Option, Some, None, encode_utf8, codes}
 use Rattle.std.specs.Option.{option_map}
 use Rattle.std.specs.Str.{bytes_eq}
 use Rattle.pp_syntax.specs.declared.token.Kind.{Kind}
@@ -83,3 +83,23 @@ abbrev mutual
   pub dq_braced : ℕ → ℕ → List ℕ → Option (List ℕ)
   dq_braced count value [] = None
   dq_braced count value (b ∷ raw) = if b == 125 then (if count == 0 then None else with_scalar value (dq raw)) else (if is_hex b && not (count == 6) then dq_braced (count + 1) (value * 16 + digit_of b) raw else None)
+
+-- a character with these bytes, and the value of what follows; or none
+abbrev pub GivesChar : Option (ℕ × List ℕ) → Option (List ℕ) → Type 0
+GivesChar None read = read ≡ None
+GivesChar (Some x) read = read ≡ with_bytes (encode_utf8 x.0) (dq x.1)
+
+-- a hexadecimal digit at the front, by its value
+abbrev pub hex_front : List ℕ → Option (ℕ × List ℕ)
+hex_front [] = None
+hex_front (b ∷ s) = if is_hex b then Some (digit_of b, s) else None
+
+-- the character of a simple escape
+abbrev pub simple_front : List ℕ → Option (ℕ × List ℕ)
+simple_front [] = None
+simple_front (c ∷ s) = if is_simple_escape c then Some (simple_value c, s) else None
+
+-- no ASCII character stands first
+abbrev pub NoAsciiFirst : List ℕ → Type 0
+NoAsciiFirst [] = Unit {0}
+NoAsciiFirst (b ∷ s) = 128 ≤ b

@@ -1,11 +1,14 @@
-//! Expressions, by rules: their tokens and operators, the values of their tokens, the nodes of their
+//! The parser of expressions: their tokens and operators, the values of their tokens, the nodes of their
 //! trees, and the laws that tie a way of reading them to the grammar, both ways.
 #![tactic(auto)]
 
+mod expression;
 mod laws;
 mod marks;
 mod misread;
 mod nodes;
+mod parse;
+mod unquoting;
 mod values;
 
 pub use laws::{expressions_are_read, one_expression, texts_are_read};
@@ -14,6 +17,7 @@ pub use marks::{
 };
 pub use misread::Misread;
 pub use nodes::{as_variable, chain_of, indexed, joined, prefixed, referred, selected};
+pub use parse::{parse_expression, parse_reference, parse_string};
 pub use values::{atom, name_of, sq, text_of};
 
 #[cfg(test)]

@@ -35,7 +35,7 @@ fn literal(text: &str) -> Option<Form>
 }
 
 /// What is left behind this ASCII character.
-fn behind(text: &str, c: char) -> Option<&str>
+pub(crate) fn behind(text: &str, c: char) -> Option<&str>
     requires { c < 128 }
     ensures { option_map (λ r. r.now) result ≡ behind_byte c text.now }
 {
@@ -128,7 +128,7 @@ fn int_value(text: &[u8]) -> Option<u64>
     }
 }
 
-fn digit_of(b: u8) -> u8
+pub(crate) fn digit_of(b: u8) -> u8
     ensures { result ≡ digit_of b }
 {
     if b <= b'9' {
@@ -141,7 +141,7 @@ fn digit_of(b: u8) -> u8
 }
 
 /// What stands before the first backslash, and behind it.
-fn cut(text: &str) -> Option<(&str, &str)>
+pub(crate) fn cut(text: &str) -> Option<(&str, &str)>
     ensures { MatchOption result (HasNoBackslash text.now) (λ x. (text.now ≡ x.0.now ++ 92 ∷ x.1.now) × HasNoBackslash x.0.now × (length x.1.now < length text.now)) }
 {
     text.split_once('\\')

@@ -1,0 +1,195 @@
+ghost use Rattle.std.specs.Prelude.{◌≡◌, ◌<◌, ◌≤◌, ◌∷◌, ◌++◌, false, true, length, IfOk, IfSome, OnOk, MatchOption, string_bytes, encode_utf8};
+ghost use Rattle.std.specs.Option.{option_map};
+ghost use Rattle.pp_syntax.specs.Bytes.{is_hex};
+ghost use Rattle.pp_syntax.specs.Tokens.{is_simple_escape, is_scalar};
+ghost use Rattle.pp_syntax.specs.TokenValues.{simple_value};
+ghost use Rattle.pp_expression.specs.Reading.{Gives};
+ghost use Rattle.pp_expression.specs.Values.{GivesChar, NoAsciiFirst, hex_front, simple_front, dq, dq_escaped, dq_unicode, dq_four, dq_braced};
+
+use crate::misread::Misread;
+use crate::values::{behind, cut, digit_of};
+use rh_base::{NoMemory, Text};
+use std::alloc::Global;
+
+fn is_hex(b: u8) -> bool
+    ensures { result ≡ is_hex b }
+{
+    (b >= b'0' && b <= b'9') || (b >= b'a' && b <= b'f') || (b >= b'A' && b <= b'F')
+}
+
+fn is_simple_escape(c: u8) -> bool
+    ensures { result ≡ is_simple_escape c }
+{
+    b"nrts$\"'\\".contains(&c)
+}
+
+fn simple_value(c: u8) -> u8
+    ensures { result ≡ simple_value c }
+{
+    match c {
+        b'n' => b'\n',
+        b'r' => b'\r',
+        b't' => b'\t',
+        b's' => b' ',
+        _ => c,
+    }
+}
+
+/// The character of this number.
+fn scalar(n: u32) -> Option<char>
+    ensures { MatchOption result (is_scalar n ≡ false) (λ c. (is_scalar n ≡ true) × (c ≡ n)) }
+{
+    char::from_u32(n)
+}
+
+/// The first byte, if it is an ASCII character, and what is left behind it.
+fn first(text: &str) -> Option<(u8, &str)>
+    ensures { MatchOption result (NoAsciiFirst text.now) (λ x. (text.now ≡ x.0 ∷ x.1.now) × (x.0 < 128)) }
+{
+    let b = *text.as_bytes().first()?;
+    if b >= 128 {
+        return None;
+    }
+    let rest = behind(text, char::from(b))?;
+    Some((b, rest))
+}
+
+/// The value of the hexadecimal digit at the front, and what is left behind it.
+#[tactic(auto, using(crate::proofs::Digits::hex_here, crate::proofs::Digits::hex_nowhere))]
+fn hex_digit(text: &str) -> Option<(u32, &str)>
+    ensures { option_map (λ x. (x.0, x.1.now)) result ≡ hex_front text.now }
+{
+    let (b, rest) = first(text)?;
+    if is_hex(b) {
+        Some((u32::from(digit_of(b)), rest))
+    } else {
+        None
+    }
+}
+
+/// The character of a simple escape, and what is left behind it.
+#[tactic(auto, using(crate::proofs::Digits::simple_here, crate::proofs::Digits::simple_nowhere))]
+fn simple(text: &str) -> Option<(char, &str)>
+    ensures { option_map (λ x. (x.0, x.1.now)) result ≡ simple_front text.now }
+{
+    let (c, rest) = first(text)?;
+    if is_simple_escape(c) {
+        Some((char::from(simple_value(c)), rest))
+    } else {
+        None
+    }
+}
+
+/// The character that four digits stand for, of which some are read.
+#[tactic(auto, using(crate::proofs::Digits::four_none, crate::proofs::Digits::four_last, crate::proofs::Digits::four_bad, crate::proofs::Digits::four_next, crate::proofs::Digits::four_large, crate::proofs::Digits::hex_shorter, crate::proofs::Digits::hex_small))]
+fn four(count: u32, value: u32, text: &str) -> Option<(char, &str)>
+    requires few { count ≤ 3 }
+    requires small { value < 1114112 }
+    ensures value { GivesChar (option_map (λ x. (x.0, x.1.now)) result) (dq_four count value text.now) }
+    ensures shorter { IfSome result (λ x. length x.1.now < length text.now) }
+{
+    let (digit, rest) = hex_digit(text)?;
+    let next = value * 16 + digit;
+    if count == 3 {
+        let c = scalar(next)?;
+        return Some((c, rest));
+    }
+    if next > 1114111 {
+        return None;
+    }
+    four(count + 1, next, rest)
+}
+
+/// The character that digits up to a `}` stand for, of which some are read.
+#[tactic(auto, using(crate::proofs::Digits::braced_none, crate::proofs::Digits::braced_empty, crate::proofs::Digits::braced_last, crate::proofs::Digits::braced_bad, crate::proofs::Digits::braced_seven, crate::proofs::Digits::braced_next, crate::proofs::Digits::braced_large, crate::proofs::Digits::hex_shorter, crate::proofs::Digits::hex_small, crate::proofs::Digits::behind_shorter))]
+fn braced(count: u32, value: u32, text: &str) -> Option<(char, &str)>
+    requires few { count ≤ 6 }
+    requires small { value < 1114112 }
+    ensures value { GivesChar (option_map (λ x. (x.0, x.1.now)) result) (dq_braced count value text.now) }
+    ensures shorter { IfSome result (λ x. length x.1.now < length text.now) }
+{
+    if let Some(rest) = behind(text, '}') {
+        if count == 0 {
+            return None;
+        }
+        let c = scalar(value)?;
+        return Some((c, rest));
+    }
+    let (digit, rest) = hex_digit(text)?;
+    let next = value * 16 + digit;
+    if count == 6 {
+        return None;
+    }
+    if next > 1114111 {
+        return None;
+    }
+    braced(count + 1, next, rest)
+}
+
+/// The character that `\u` before this text stands for.
+#[tactic(auto, using(crate::proofs::Digits::unicode_brace, crate::proofs::Digits::unicode_none, crate::proofs::Digits::unicode_digit, crate::proofs::Digits::hex_shorter, crate::proofs::Digits::hex_small, crate::proofs::Digits::behind_shorter))]
+fn unicode(text: &str) -> Option<(char, &str)>
+    ensures value { GivesChar (option_map (λ x. (x.0, x.1.now)) result) (dq_unicode text.now) }
+    ensures shorter { IfSome result (λ x. length x.1.now < length text.now) }
+{
+    if let Some(rest) = behind(text, '{') {
+        return braced(0, 0, rest);
+    }
+    let (digit, rest) = hex_digit(text)?;
+    four(1, digit, rest)
+}
+
+/// The character that a backslash before this text stands for, and what is left.
+#[tactic(auto, using(crate::proofs::Digits::escape_simple, crate::proofs::Digits::escape_unicode, crate::proofs::Digits::escape_none, crate::proofs::Digits::simple_shorter, crate::proofs::Digits::behind_shorter))]
+fn escape(text: &str) -> Option<(char, &str)>
+    ensures value { GivesChar (option_map (λ x. (x.0, x.1.now)) result) (dq_escaped text.now) }
+    ensures shorter { IfSome result (λ x. length x.1.now ≤ length text.now) }
+{
+    if let Some((c, rest)) = simple(text) {
+        return Some((c, rest));
+    }
+    if let Some(rest) = behind(text, 'u') {
+        return unicode(rest);
+    }
+    Some(('\\', text))
+}
+
+#[tactic(auto, using(crate::proofs::Digits::dq_end, crate::proofs::Digits::dq_escape, crate::proofs::Digits::dq_stops))]
+fn unescaped(alloc: Global, left: usize, raw: &str) -> Result<String, Misread>
+    ensures { Gives (λ s. string_bytes s) result (dq raw.now) }
+{
+    let mut value = String::new(alloc);
+    let mut rest = raw;
+    while let Some((front, tail)) = cut(rest) {
+        push_str(&mut value, front)?;
+        let Some((c, more)) = escape(tail) else {
+            return Err(Misread::Form(left));
+        };
+        push(&mut value, c)?;
+        rest = more;
+    }
+    push_str(&mut value, rest)?;
+    Ok(value)
+}
+
+fn push_str(value: &mut String, piece: &str) -> Result<(), NoMemory>
+    ensures { OnOk result (string_bytes value.new ≡ string_bytes value.old ++ piece.now) }
+{
+    value.push_str(piece)?;
+    Ok(())
+}
+
+fn push(value: &mut String, c: char) -> Result<(), NoMemory>
+    ensures { OnOk result (string_bytes value.new ≡ string_bytes value.old ++ encode_utf8 c) }
+{
+    value.push(c)?;
+    Ok(())
+}
+
+/// The value of text in double quotes.
+pub fn dq(alloc: Global, left: usize, raw: &str) -> Result<Text, Misread>
+    ensures { Gives (λ t. t) result (dq raw.now) }
+{
+    let value = unescaped(alloc, left, raw)?;
+    Ok(Text::from_string(value))
+}
