@@ -1,5 +1,5 @@
 -- What tokens that stand for themselves are worth.
-use Rattle.std.specs.Prelude.{◌≡◌, ◌≢◌, ◌<◌, ◌≤◌, slice_index, ℕ, ◌+◌, ◌*◌, ◌^◌, not, true, false, ◌==◌, ◌&&◌, nat_lt, if◌then◌else◌, pos, List, [], ◌∷◌, ◌++◌, length, Option, Some, None, encode_utf8, codes}
+use Rattle.std.specs.Prelude.{◌≡◌, ◌≢◌, ◌<◌, ◌≤◌, slice_index, ℕ, ◌+◌, ◌*◌, ◌^◌, not, true, false, ◌==◌, ◌&&◌, nat_lt, if◌then◌else◌, ℤ, pos, List, [], ◌∷◌, ◌++◌, length, Option, Some, None, encode_utf8, codes}
 use Rattle.std.specs.Option.{option_map}
 use Rattle.std.specs.Str.{bytes_eq}
 use Rattle.pp_syntax.specs.declared.token.Kind.{Kind}
@@ -36,6 +36,10 @@ sq s = behind_byte 39 s >>= λ r. option_map sq_value (before_quote r)
 -- a variable's name
 abbrev pub name_of : List ℕ → Option (List ℕ)
 name_of s = behind_byte 36 s
+
+-- the number that an INT stands for, if it fits 64 bits with a sign
+abbrev pub number : List ℕ → Option ℤ
+number s = if nat_lt (int_value s) (2 ^ 63) then Some (pos (int_value s)) else None
 
 abbrev pub int_form : List ℕ → Option Form
 int_form s = if nat_lt (int_value s) (2 ^ 63) then Some (form.Int (pos (int_value s))) else None

@@ -4,7 +4,7 @@ ghost use Rattle.pp_syntax.specs.TokenValues.{sq_value, sq_escaped};
 ghost use Rattle.std.specs.Option.{option_map};
 ghost use Rattle.pp_syntax.specs.Tokens.{value_from, int_value, digit_of};
 ghost use Rattle.pp_expression.specs.Reading.{Gives};
-ghost use Rattle.pp_expression.specs.Values.{literal, behind_byte, before_quote, sq, name_of, int_form, atom, HasNoBackslash};
+ghost use Rattle.pp_expression.specs.Values.{literal, number, behind_byte, before_quote, sq, name_of, int_form, atom, HasNoBackslash};
 
 use crate::misread::Misread;
 use pp_syntax::{Form, Kind};
@@ -93,6 +93,16 @@ fn int_form(text: &str) -> Option<Form>
 {
     match int_value(text.as_bytes()) {
         Some(value) => Some(Form::Int(value as i64)),
+        None => None,
+    }
+}
+
+/// The number that an INT stands for, if it fits 64 bits with a sign.
+pub fn number(text: &str) -> Option<i64>
+    ensures { result ≡ number text.now }
+{
+    match int_value(text.as_bytes()) {
+        Some(value) => Some(value as i64),
         None => None,
     }
 }
