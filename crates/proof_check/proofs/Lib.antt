@@ -2,4 +2,5 @@ pub mod MarkLaws
 pub mod Numbers
 pub mod Chains
 pub mod WordLaws
+pub mod Turns
 pub mod Spelling

@@ -6,3 +6,4 @@ pub mod Refuted
 pub mod ProofWords
 pub mod WordsLeft
 pub mod Reading
+pub mod WordReading

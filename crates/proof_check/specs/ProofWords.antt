@@ -60,6 +60,8 @@ pub record IsStepWritten (vars : ℕ) (step : Step) : Type 0 where
 
 pub record IsWritten (b : Written) : Type 0 where
   pub small : b.vars ≤ 2 ^ 31
+  pub clause_count : length b.clauses < 2 ^ 63
+  pub step_count : length b.steps < 2 ^ 63
   pub clauses : AllByRecursion (HasVariables b.vars) b.clauses
   pub steps : AllByRecursion (IsStepWritten b.vars) b.steps
 
@@ -74,5 +76,6 @@ read_of b = record {
 pub record IsProofText (text : List ℕ) (proofs : List Refutation) : Type 0 where
   pub blocks : List Written
   pub words : words_of text ≡ codes "proofs" ∷ decimal (length blocks) ∷ flat_map block_words blocks
+  pub count : length blocks < 2 ^ 63
   pub valid : AllByRecursion IsWritten blocks
   pub read : proofs ≡ map read_of blocks

@@ -1,10 +1,12 @@
-ghost use Rattle.std.specs.Prelude.{◌≡◌, ◌≢◌, ◌≤◌, ◌<◌, ◌+◌, ◌++◌, ◌∷◌, [], ℕ, Some, slice_get, true, false, take, drop, length};
+ghost use Rattle.std.specs.Prelude.{◌≡◌, ◌≢◌, ◌≤◌, ◌<◌, ◌+◌, ◌++◌, ◌∷◌, [], ℕ, List, Some, slice_get, true, false, take, drop, length, map, codes, OnOk, IfOk, IfErr, MatchResult};
 ghost use Rattle.std.specs.Bool.{OnTrue, OnFalse};
 ghost use Rattle.std.specs.List.{AllByRecursion, flat_map};
 ghost use Rattle.proof_check.specs.WordsLeft.{other_lines, line_words, words_left, is_inner, EndsWord};
-ghost use Rattle.proof_check.specs.Reading.{digits_behind, number_in, SpellsLit, SpellsLits, SpellsLinks, SpellsClauses, SpellsFormula, SpellsStep, SpellsSteps, SpellsLog, SpellsBlocks, refutation};
+ghost use Rattle.proof_check.specs.Refuted.{Refutation, refutation};
+ghost use Rattle.proof_check.specs.Reading.{digits_behind, number_in};
+ghost use Rattle.proof_check.specs.WordReading.{Gives, Takes, word_is, count_in, within, plain, unsigned_in, negative_in, signed, literal_in, pivot_in, lits_in, links_in, formula_of, formula_in, step_in, steps_in, log_in, block_in, blocks_in, proofs_in};
+ghost use Rattle.proof_check.specs.declared.text.Misread.TheVariants.{Memory};
 ghost use Rattle.proof_check.specs.ProofWords.{words_of, IsProofText};
-ghost use Rattle.std.specs.Prelude.{decimal, ◌^◌, IfOk, OnOk, IfSome, IfErr, codes, map, List};
 ghost use Rattle.rh_base.specs.Refused.{IfRefused, IsRefusal};
 
 use cnf::{Clause, Cnf, Link, Lit, Log, Step};
@@ -20,6 +22,8 @@ enum Misread {
 }
 
 impl From<NoMemory> for Misread {
+    ghost from_gives = { λ m e. e ≡ Memory m };
+
     fn from(m: NoMemory) -> Self {
         Misread::Memory(m)
     }
@@ -175,43 +179,58 @@ fn digits(word: &[u8]) -> Option<u64>
     Some(n)
 }
 
-/// A number, as a word spells it.
-#[tactic(auto, using(crate::proofs::Spelling::number_value, crate::proofs::Spelling::number_small))]
-fn value(word: &[u8]) -> Option<u64>
-    ensures spelled { IfSome result (λ n. word.now ≡ decimal n) }
-    ensures fits { IfSome result (λ n. n < 2 ^ 63) }
+/// A literal of a formula with so many variables.
+fn within(var: u64, positive: bool, vars: u64) -> Option<Lit>
+    ensures { result ≡ within vars positive var }
 {
-    number(word)
+    if 1 <= var && var <= vars {
+        Some(Lit { var, positive })
+    } else {
+        None
+    }
+}
+
+/// A literal, or nothing for the number 0.
+fn plain(var: u64, vars: u64) -> Option<Option<Lit>>
+    ensures { result ≡ plain vars var }
+{
+    if var == 0 {
+        return Some(None);
+    }
+    let lit = within(var, true, vars)?;
+    Some(Some(lit))
+}
+
+/// A negative literal, behind its sign.
+fn negative(digits: &[u8], vars: u64) -> Option<Option<Lit>>
+    ensures { result ≡ negative_in vars digits.now }
+{
+    let var = number(digits)?;
+    let lit = within(var, false, vars)?;
+    Some(Some(lit))
+}
+
+fn unsigned(digits: &[u8], vars: u64) -> Option<Option<Lit>>
+    ensures { result ≡ unsigned_in vars digits.now }
+{
+    let var = number(digits)?;
+    plain(var, vars)
 }
 
 /// A literal, or nothing for the word 0.
-#[tactic(auto, using(crate::proofs::Spelling::zero_word))]
-fn literal(word: &[u8], vars: u64) -> Result<Option<Lit>, Misread>
-    ensures { IfOk result (SpellsLit vars word.now) }
+fn literal(word: &[u8], vars: u64) -> Option<Option<Lit>>
+    ensures { result ≡ signed vars word.now }
 {
-    if let [b'-', digits @ ..] = word {
-        let var = value(digits).ok_or(Misread::Form)?;
-        return Ok(Some(within(var, false, vars)?));
+    match word {
+        [] => None,
+        [b'-', digits @ ..] => negative(digits, vars),
+        _ => unsigned(word, vars),
     }
-    let var = value(word).ok_or(Misread::Form)?;
-    if var == 0 {
-        return Ok(None);
-    }
-    Ok(Some(within(var, true, vars)?))
-}
-
-fn within(var: u64, positive: bool, vars: u64) -> Result<Lit, Misread>
-    ensures { IfOk result (λ l. (l ≡ record { var = var; positive = positive }) × (1 ≤ var) × (var ≤ vars)) }
-{
-    if var == 0 || var > vars {
-        return Err(Misread::Form);
-    }
-    Ok(Lit { var, positive })
 }
 
 fn expect(words: &mut Words<'_>, word: &[u8]) -> Result<(), Misread>
     requires { 0 < length word.now }
-    ensures { OnOk result (words.old ≡ word.now ∷ words.new) }
+    ensures { Takes (λ done. done) result words.new (word_is word.now words.old) }
 {
     if words.next() == word {
         Ok(())
@@ -221,60 +240,63 @@ fn expect(words: &mut Words<'_>, word: &[u8]) -> Result<(), Misread>
 }
 
 fn count(words: &mut Words<'_>) -> Result<u64, Misread>
-    ensures words { IfOk result (λ n. words.old ≡ decimal n ∷ words.new) }
-    ensures fits { IfOk result (λ n. n < 2 ^ 63) }
+    ensures takes { Takes (λ n. n) result words.new (count_in words.old) }
+    ensures shorter { IfOk result (λ n. length words.new < length words.old) }
 {
     let word = words.next();
-    if word.is_empty() {
-        return Err(Misread::Form);
-    }
-    value(word).ok_or(Misread::Form)
+    number(word).ok_or(Misread::Form)
 }
 
 /// The next word as a literal, or nothing for the word 0.
 fn next_literal(words: &mut Words<'_>, vars: u64) -> Result<Option<Lit>, Misread>
-    ensures { IfOk result (λ o. (w : List ℕ) × (words.old ≡ w ∷ words.new) × SpellsLit vars w o) }
+    ensures takes { Takes (λ l. l) result words.new (literal_in vars words.old) }
+    ensures shorter { IfOk result (λ l. length words.new < length words.old) }
 {
     let word = words.next();
-    if word.is_empty() {
-        return Err(Misread::Form);
+    literal(word, vars).ok_or(Misread::Form)
+}
+
+/// The next word as a literal.
+fn pivot(words: &mut Words<'_>, vars: u64) -> Result<Lit, Misread>
+    ensures takes { Takes (λ l. l) result words.new (pivot_in vars words.old) }
+    ensures shorter { IfOk result (λ l. length words.new < length words.old) }
+{
+    match next_literal(words, vars)? {
+        Some(lit) => Ok(lit),
+        None => Err(Misread::Form),
     }
-    literal(word, vars)
 }
 
 /// Literals up to the word 0.
+#[tactic(auto, using(crate::proofs::Turns::lits_goes, crate::proofs::Turns::lits_end, crate::proofs::Turns::lits_stop))]
 fn literals(words: &mut Words<'_>, vars: u64, into: &mut Vec<Lit>) -> Result<(), Misread>
-    ensures { OnOk result (SpellsLits vars words.old into.new.items words.new) }
+    ensures { Takes (λ done. into.new.items) result words.new (lits_in vars words.old) }
 {
     into.clear();
-    for turn in 0..u64::MAX {
-        match next_literal(words, vars)? {
-            None => return Ok(()),
-            Some(lit) => into.push(lit).or(Err(Misread::Memory(NoMemory)))?,
-        }
+    while let Some(lit) = next_literal(words, vars)? {
+        into.push(lit).or(Err(Misread::Memory(NoMemory)))?;
     }
-    Err(Misread::Form)
+    Ok(())
 }
 
 /// Links up to the word 0.
-#[tactic(auto, using(crate::proofs::Spelling::links_end))]
+#[tactic(auto, using(crate::proofs::Turns::links_goes, crate::proofs::Turns::links_end, crate::proofs::Turns::links_no_number, crate::proofs::Turns::links_no_pivot, crate::proofs::Turns::first_more))]
 fn links(alloc: Global, words: &mut Words<'_>, vars: u64) -> Result<Seq<Link>, Misread>
-    ensures { IfOk result (λ links. SpellsLinks vars words.old links words.new) }
+    ensures { Takes (λ links. links) result words.new (links_in vars words.old) }
 {
     let mut chain = Seq::new(alloc);
-    for turn in 0..u64::MAX {
+    loop {
         let number = count(words)?;
         if number == 0 {
             return Ok(chain);
         }
-        let pivot = next_literal(words, vars)?.ok_or(Misread::Form)?;
+        let pivot = pivot(words, vars)?;
         chain.push(Link { number, pivot })?;
     }
-    Err(Misread::Form)
 }
 
 /// As many clauses.
-#[tactic(auto, using(crate::proofs::Spelling::lits_fit, crate::proofs::Spelling::clauses_none, crate::proofs::Spelling::clauses_more, crate::proofs::Spelling::clauses_vars))]
+#[tactic(auto, using(crate::proofs::Turns::clauses_goes, crate::proofs::Turns::clauses_stop, crate::proofs::Spelling::lits_have))]
 fn clauses(
     alloc: Global,
     words: &mut Words<'_>,
@@ -282,7 +304,8 @@ fn clauses(
     count: u64,
     lits: &mut Vec<Lit>,
 ) -> Result<Cnf, Misread>
-    ensures { IfOk result (λ f. SpellsClauses count vars words.old f words.new) }
+    requires { vars ≤ 2147483648 }
+    ensures { Takes (λ f. f) result words.new (formula_of vars count words.old) }
 {
     let mut cnf = Cnf::new(alloc, vars)?;
     for clause in 0..count {
@@ -292,9 +315,9 @@ fn clauses(
     Ok(cnf)
 }
 
-#[tactic(auto, using(crate::proofs::Spelling::formula_spelled))]
+#[tactic(auto, unfolding(crate::specs::WordReading::formula_in))]
 fn formula(alloc: Global, words: &mut Words<'_>, lits: &mut Vec<Lit>) -> Result<Cnf, Misread>
-    ensures { IfOk result (λ f. SpellsFormula words.old f words.new) }
+    ensures { Takes (λ f. f) result words.new (formula_in words.old) }
 {
     expect(words, b"p")?;
     expect(words, b"cnf")?;
@@ -306,14 +329,14 @@ fn formula(alloc: Global, words: &mut Words<'_>, lits: &mut Vec<Lit>) -> Result<
     clauses(alloc, words, vars, many, lits)
 }
 
-#[tactic(auto, using(crate::proofs::Spelling::step_spelled))]
+#[tactic(auto, unfolding(crate::specs::WordReading::step_in))]
 fn step(
     alloc: Global,
     words: &mut Words<'_>,
     vars: u64,
     lits: &mut Vec<Lit>,
 ) -> Result<Step, Misread>
-    ensures { IfOk result (λ step. SpellsStep vars words.old step words.new) }
+    ensures { Takes (λ step. step) result words.new (step_in vars words.old) }
 {
     literals(words, vars, lits)?;
     let clause = Clause::from_lits(alloc, lits)?;
@@ -327,7 +350,7 @@ fn step(
 }
 
 /// As many steps.
-#[tactic(auto, using(crate::proofs::Spelling::steps_none, crate::proofs::Spelling::steps_more))]
+#[tactic(auto, using(crate::proofs::Turns::steps_goes, crate::proofs::Turns::steps_stop))]
 fn steps(
     alloc: Global,
     words: &mut Words<'_>,
@@ -335,7 +358,7 @@ fn steps(
     count: u64,
     lits: &mut Vec<Lit>,
 ) -> Result<Seq<Step>, Misread>
-    ensures { IfOk result (λ steps. SpellsSteps count vars words.old steps words.new) }
+    ensures { Takes (λ steps. steps) result words.new (steps_in vars count words.old) }
 {
     let mut steps = Seq::new(alloc);
     for i in 0..count {
@@ -344,9 +367,9 @@ fn steps(
     Ok(steps)
 }
 
-#[tactic(auto, using(crate::proofs::Spelling::log_spelled))]
+#[tactic(auto, unfolding(crate::specs::WordReading::log_in))]
 fn log(alloc: Global, words: &mut Words<'_>, vars: u64, lits: &mut Vec<Lit>) -> Result<Log, Misread>
-    ensures { IfOk result (λ log. SpellsLog vars words.old log.steps words.new) }
+    ensures { Takes (λ log. log.steps) result words.new (log_in vars words.old) }
 {
     expect(words, b"log")?;
     let many = count(words)?;
@@ -354,24 +377,39 @@ fn log(alloc: Global, words: &mut Words<'_>, vars: u64, lits: &mut Vec<Lit>) -> 
     Ok(Log { steps })
 }
 
+#[tactic(auto, unfolding(crate::specs::WordReading::block_in))]
+fn block(alloc: Global, words: &mut Words<'_>, lits: &mut Vec<Lit>) -> Result<(Cnf, Log), Misread>
+    ensures { Takes refutation result words.new (block_in words.old) }
+{
+    let cnf = formula(alloc, words, lits)?;
+    let log = log(alloc, words, cnf.vars(), lits)?;
+    Ok((cnf, log))
+}
+
+fn add(found: &mut Vec<(Cnf, Log)>, block: (Cnf, Log)) -> Result<(), NoMemory>
+    ensures { OnOk result (found.new.items ≡ found.old.items ++ block ∷ []) }
+{
+    found.push(block)?;
+    Ok(())
+}
+
 /// As many formulas and logs.
-#[tactic(auto, using(crate::proofs::Spelling::blocks_none, crate::proofs::Spelling::blocks_more))]
+#[tactic(auto, using(crate::proofs::Turns::blocks_goes, crate::proofs::Turns::blocks_stop))]
 fn blocks(alloc: Global, words: &mut Words<'_>, count: u64) -> Result<Vec<(Cnf, Log)>, Misread>
-    ensures { IfOk result (λ found. SpellsBlocks count words.old found.items words.new) }
+    ensures { Takes (λ found. map refutation found.items) result words.new (blocks_in count words.old) }
 {
     let mut lits = Vec::new(alloc);
     let mut found = Vec::new(alloc);
-    for block in 0..count {
-        let cnf = formula(alloc, words, &mut lits)?;
-        let log = log(alloc, words, cnf.vars(), &mut lits)?;
-        found.push((cnf, log)).or(Err(Misread::Memory(NoMemory)))?;
+    for i in 0..count {
+        let block = block(alloc, words, &mut lits)?;
+        add(&mut found, block)?;
     }
     Ok(found)
 }
 
-#[tactic(auto, using(crate::proofs::Spelling::proof_spelled))]
+#[tactic(auto, unfolding(crate::specs::WordReading::proofs_in))]
 fn proofs(alloc: Global, bytes: &[u8]) -> Result<Vec<(Cnf, Log)>, Misread>
-    ensures { IfOk result (λ found. IsProofText bytes.now (map refutation found.items)) }
+    ensures { Gives (λ found. map refutation found.items) result (proofs_in (words_left true bytes.now)) }
 {
     let mut words = Words {
         rest: bytes,
@@ -387,10 +425,13 @@ fn proofs(alloc: Global, bytes: &[u8]) -> Result<Vec<(Cnf, Log)>, Misread>
     }
 }
 
-/// The formulas and logs of a proof text. That each proof text is read is shown by tests only.
+/// The formulas and logs of a proof text.
 pub fn read_proofs(alloc: Global, bytes: &[u8]) -> Result<Vec<(Cnf, Log)>, Fault>
+    // what the text spells
     ensures spelled { IfOk result (λ found. IsProofText bytes.now (map refutation found.items)) }
-    ensures refused { IfErr result (λ f. IfRefused f (IsRefusal 80 0 (codes "proof"))) }
+    // Where it spells some the answer is these, unless memory runs out.
+    ensures only { (ps : List Refutation) → IsProofText bytes.now ps → MatchResult result (λ found. map refutation found.items ≡ ps) (λ f. IfRefused f (λ r. ⊥)) }
+    ensures refused { IfErr result (λ f. IfRefused f (λ r. IsRefusal 80 0 (codes "proof") r × ((ps : List Refutation) → IsProofText bytes.now ps → ⊥))) }
 {
     match proofs(alloc, bytes) {
         Ok(found) => Ok(found),

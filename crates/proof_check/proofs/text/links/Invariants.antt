@@ -1,11 +1,9 @@
-use Rattle.std.proofs.Common.{◌≡◌, ◌++◌}
-use Rattle.std.specs.List.{flat_map, AllByRecursion}
-use Rattle.cnf.specs.ProofText.{link_words}
-use Rattle.proof_check.specs.ProofWords.{IsLinkWritten}
+use Rattle.std.proofs.Common.{◌≡◌, length}
+use Rattle.proof_check.specs.WordReading.{with_front, links_in}
 use Rattle.proof_check.proofs.text.links.Given as goal
 
-abbrev pub invariant-loop-turn : goal.invariant-loop-turn
-invariant-loop-turn l = record {
-  words : l.initial.words ≡ flat_map link_words l.chain ++ l.words;
-  valid : AllByRecursion (IsLinkWritten l.vars) l.chain;
-}
+abbrev pub invariant-loop-chain : goal.invariant-loop-chain
+invariant-loop-chain l = with_front l.chain (links_in l.vars l.words) ≡ links_in l.vars l.initial.words
+
+abbrev pub decreases-loop-chain : goal.decreases-loop-chain
+decreases-loop-chain l = length l.words

@@ -1,10 +1,9 @@
-use Rattle.std.proofs.Common.{◌≡◌, ◌++◌, map}
-use Rattle.cnf.specs.ProofText.{lit_word}
-use Rattle.cnf.specs.Clauses.{HasVariables}
+use Rattle.std.proofs.Common.{◌≡◌, length}
+use Rattle.proof_check.specs.WordReading.{with_front, lits_in}
 use Rattle.proof_check.proofs.text.literals.Given as goal
 
-abbrev pub invariant-loop-turn : goal.invariant-loop-turn
-invariant-loop-turn l = record {
-  words : l.initial.words ≡ map lit_word l.into.items ++ l.words;
-  valid : HasVariables l.vars l.into.items;
-}
+abbrev pub invariant-loop-lit : goal.invariant-loop-lit
+invariant-loop-lit l = with_front l.into.items (lits_in l.vars l.words) ≡ lits_in l.vars l.initial.words
+
+abbrev pub decreases-loop-lit : goal.decreases-loop-lit
+decreases-loop-lit l = length l.words

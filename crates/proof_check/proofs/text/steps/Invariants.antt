@@ -1,5 +1,6 @@
-use Rattle.proof_check.specs.Reading.{SpellsSteps}
+use Rattle.std.proofs.Common.{◌≡◌, ◌-◌}
+use Rattle.proof_check.specs.WordReading.{with_front, steps_in}
 use Rattle.proof_check.proofs.text.steps.Given as goal
 
 abbrev pub invariant-loop-i : goal.invariant-loop-i
-invariant-loop-i l = SpellsSteps l.i l.vars l.initial.words l.steps l.words
+invariant-loop-i l = with_front l.steps (steps_in l.vars (l.count - l.i) l.words) ≡ steps_in l.vars l.count l.initial.words
