@@ -4,7 +4,7 @@
 mod command;
 mod words;
 
-pub use words::{USAGE, WordsFault, input_to_verify};
+pub use words::{WordsFault, input_to_verify};
 
 #[cfg(test)]
 mod tests;

@@ -12,10 +12,6 @@ use clap::error::ErrorKind;
 use rh_base::{NoMemory, Text};
 use std::alloc::Global;
 
-/// The line that is told where words are refused.
-pub const USAGE: &str =
-    "usage: rehearsal [--facts F] [--packages P] [--node N] [--conflicts C] [--ask A] [--tree T] [--order O] [--workload N] [INPUT]\n";
-
 /// Why words ask for nothing.
 #[derive(Clone, Copy, Debug, PartialEq, Eq)]
 pub enum WordsFault {

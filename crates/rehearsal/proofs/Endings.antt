@@ -6,7 +6,9 @@ use Rattle.rh_base.specs.declared.fault.Refusal.{Refusal}
 use Rattle.rh_base.specs.Causes.{Rose}
 use Rattle.rh_base.specs.Shelf.{Files, told_at, IsMissing}
 use Rattle.rh_base.specs.Sink.{appended}
-use Rattle.rehearsal.specs.Inputs.{input_in, IsHeld, Reports, Refuses, FailsToRead}
+use Rattle.rehearsal.specs.Inputs.{Names, NamesNone, IsHeld, Reports, Refuses, FailsToRead, FailsAt, SaysOf, Says}
+use Rattle.rehearsal.specs.declared.run.Ending.{Ending}
+use Rattle.rehearsal.specs.declared.run.Ending.TheVariants as ending
 use Rattle.rehearsal.specs.Answers.{Run, AppendsFront, HasCause, NoFaults, Answers, Tells, TellsReport, refusal_line, read_fault_line, usage_line, memory_line}
 
 -- a file that is told isn't missing
@@ -18,7 +20,7 @@ abbrev Known : ℕ → Type 0
 Known status = (status ≡ 0) ⊎ ((status ≡ 4) ⊎ ((status ≡ 5) ⊎ ((status ≡ 6) ⊎ ((status ≡ 7) ⊎ (status ≡ 8)))))
 
 abbrev Usage : Run → ℕ → Type 0
-Usage run status = input_in run.words ≡ None → (status ≡ 5) ⊎ ((status ≡ 7) ⊎ (status ≡ 8))
+Usage run status = NamesNone run.words → (status ≡ 5) ⊎ ((status ≡ 7) ⊎ (status ≡ 8))
 
 abbrev Decided : Run → ℕ → Type 0
 Decided run status = IsHeld run.words run.held → NoFaults run → (status ≡ 0) ⊎ ((status ≡ 4) ⊎ (status ≡ 8))
@@ -37,8 +39,12 @@ memory_answers run status is front out = record {
   decided = λ held faults. inr (inr is);
 }
 
-no_input : (words : List (String Global)) (name : List ℕ) → input_in words ≡ Some name → input_in words ≡ None → ⊥
-no_input words name h k = let no : ◌≡◌ {A = Option (List ℕ)} (Some name) None = sym h ∙ k in cc
+no_input : (words : List (String Global)) (name : List ℕ) → Names words name → NamesNone words → ⊥
+no_input words name h k = k name h
+
+-- words name one input at most
+one_input : (words : List (String Global)) (m n : List ℕ) → Names words m → Names words n → m ≡ n
+one_input words m n h k = let both : ◌≡◌ {A = Option (List ℕ)} (Some m) (Some n) = sym h.given.input ∙ k.given.input in cc
 
 -- a report was to be written
 pub report_answers : (run : Run) (status : ℕ) (report : List ℕ) → Reports run.words run.held report
@@ -70,7 +76,7 @@ report_answers run status report reports (inr (inr told)) = memory_answers run s
 -- a line was to be told on err: its cause, and what is known of a cause
 record Cause (run : Run) (at : ℕ) (line : List ℕ) : Type 0 where
   has : HasCause run at line
-  usage : input_in run.words ≡ None → at ≡ 5
+  usage : NamesNone run.words → at ≡ 5
   decided : IsHeld run.words run.held → (Rose run.shelf_before run.shelf_now → ⊥) → at ≡ 4
 
 line_answers : (run : Run) (status at : ℕ) (line : List ℕ) → Cause run at line → run.out_now ≡ run.out_before
@@ -133,7 +139,7 @@ refusal_answers run status r refuses out told =
       decided = λ held shelf. refl;
     }) out told
 
-pub usage_answers : (run : Run) (status : ℕ) → input_in run.words ≡ None → run.out_now ≡ run.out_before
+pub usage_answers : (run : Run) (status : ℕ) → NamesNone run.words → run.out_now ≡ run.out_before
     → Tells 5 usage_line run.err_before run.err_now run.err_faults_before run.err_faults_now status → Answers run status
 usage_answers run status none out told =
     line_answers run status 5 usage_line
@@ -153,7 +159,7 @@ read_fault_answers run status name fails out told =
       decided = λ held shelf. elim fails.cause [
         | inl rose ↦ absurd (shelf rose)
         | inr missing ↦
-            let same : name ≡ held.0 = let both : ◌≡◌ {A = Option (List ℕ)} (Some name) (Some held.0) = sym fails.input ∙ held.2 in cc in
+            let same : name ≡ held.0 = one_input run.words name held.0 fails.input held.2 in
             absurd (not_missing run.held held.0 held.1 held.3 (subst (λ n. IsMissing run.held n) same missing))
       ];
     }) out told
@@ -172,3 +178,12 @@ never_a_read_fault run status answers none held is = elim (answers.decided held 
   | inr (inl e) ↦ absurd (omega (arith, e, is))
   | inr (inr e) ↦ absurd (omega (arith, e, is))
 ]
+
+-- ---- from the input to the words that name it
+
+pub says_named : (words : List (String Global)) (name : List ℕ) (held : Option Files) (before now : ℕ) (e : Ending) → Names words name → SaysOf name held before now e → Says words held before now e
+says_named words name held before now (ending.Report text) named h = record { name = name; input = named; on = h }
+says_named words name held before now (ending.Refused r) named h = record { name = name; input = named; cause = h }
+says_named words name held before now ending.BadWords named h = absurd h
+says_named words name held before now (ending.ReadFault other) named h = record { input = subst (Names words) (sym h.0) named; cause = subst (λ n. FailsAt n held before now) (sym h.0) h.1 }
+says_named words name held before now ending.Memory named h = tt

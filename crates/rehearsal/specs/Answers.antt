@@ -1,12 +1,12 @@
 -- The statuses of the program, and what each one tells.
-use Rattle.std.specs.Prelude.{◌≡◌, ◌⊎◌, ℕ, List, ◌++◌, take, Option, None, codes, String}
+use Rattle.std.specs.Prelude.{◌≡◌, ◌⊎◌, ℕ, List, ◌++◌, take, Option, codes, String}
 use Rattle.std.specs.Fmt.{decimal}
 use Rattle.std.specs.declared.alloc.Global.{Global}
 use Rattle.rh_base.specs.declared.fault.Refusal.{Refusal}
 use Rattle.rh_base.specs.Causes.{Rose}
 use Rattle.rh_base.specs.Shelf.{Files}
 use Rattle.rh_base.specs.Sink.{appended}
-use Rattle.rehearsal.specs.Inputs.{input_in, IsHeld, Reports, Refuses, FailsToRead}
+use Rattle.rehearsal.specs.Inputs.{NamesNone, IsHeld, Reports, Refuses, FailsToRead}
 
 -- ---- lines
 
@@ -17,7 +17,7 @@ abbrev pub read_fault_line : List ℕ → List ℕ
 read_fault_line name = codes "read fault: " ++ (name ++ codes "\n")
 
 abbrev pub usage_line : List ℕ
-usage_line = codes "usage: rehearsal INPUT\n"
+usage_line = codes "usage: rehearsal [--facts F] [--packages P] [--node N] [--conflicts C] [--ask A] [--tree T] [--order O] [--workload N] [INPUT]\n"
 
 abbrev pub write_fault_line : List ℕ
 write_fault_line = codes "write fault\n"
@@ -57,7 +57,7 @@ TellsRefusal run = (r : Refusal) × Refuses run.words run.held r × (run.err_now
 
 -- status 5: the words are refused
 abbrev pub TellsUsage : Run → Type 0
-TellsUsage run = (input_in run.words ≡ None) × (run.err_now ≡ appended usage_line run.err_before) × (run.out_now ≡ run.out_before)
+TellsUsage run = NamesNone run.words × (run.err_now ≡ appended usage_line run.err_before) × (run.out_now ≡ run.out_before)
 
 -- status 6: the file that the words name couldn't be read
 abbrev pub TellsReadFault : Run → Type 0
@@ -68,7 +68,7 @@ TellsReadFault run = (name : List ℕ) × FailsToRead run.words run.held run.she
 abbrev pub HasCause : Run → ℕ → List ℕ → Type 0
 HasCause run status line =
     ((status ≡ 4) × (r : Refusal) × Refuses run.words run.held r × (line ≡ refusal_line r))
-    ⊎ (((status ≡ 5) × (input_in run.words ≡ None) × (line ≡ usage_line))
+    ⊎ (((status ≡ 5) × NamesNone run.words × (line ≡ usage_line))
     ⊎ ((status ≡ 6) × (name : List ℕ) × FailsToRead run.words run.held run.shelf_before run.shelf_now name × (line ≡ read_fault_line name)))
 
 -- Status 7: a put on out failed, and a front of a report stands there; or a put on err failed, where a cause of 4, 5 or 6
@@ -100,7 +100,7 @@ pub record Answers (run : Run) (status : ℕ) : Type 0 where
   pub memory : status ≡ 8 → LacksMemory run
   pub known : (status ≡ 0) ⊎ ((status ≡ 4) ⊎ ((status ≡ 5) ⊎ ((status ≡ 6) ⊎ ((status ≡ 7) ⊎ (status ≡ 8)))))
   -- words that are refused have no other answer
-  pub usage : input_in run.words ≡ None → (status ≡ 5) ⊎ ((status ≡ 7) ⊎ (status ≡ 8))
+  pub usage : NamesNone run.words → (status ≡ 5) ⊎ ((status ≡ 7) ⊎ (status ≡ 8))
   -- an input that is told, without faults, gets a report or a refusal
   pub decided : IsHeld run.words run.held → NoFaults run → (status ≡ 0) ⊎ ((status ≡ 4) ⊎ (status ≡ 8))
 

@@ -5,9 +5,9 @@ ghost use Rattle.rh_base.specs.Refused.{IfRefused, IsRefusal};
 ghost use Rattle.rehearsal.specs.Files.{MayBeManaged, ManagedPathIs, PathsAre};
 ghost use Rattle.rehearsal.specs.Judged.{report_of, IsReport, BreaksRule};
 
+use file_blocks::{Block, first_form};
 use fs_lang::{Path, PathFault, are_apart};
 use fs_semantics::plain_files;
-use file_blocks::{Block, first_form};
 use rh_base::{Fault, NoMemory, Refusal, Seq, Text};
 use std::alloc::Global;
 

@@ -1,12 +1,12 @@
 //! One run of the program: from the words to the status.
 
-ghost use Rattle.std.specs.Prelude.{◌≡◌, IfOk, string_bytes};
-ghost use Rattle.std.specs.Option.{option_map};
-ghost use Rattle.rehearsal.specs.Inputs.{input_in, Says};
+ghost use Rattle.std.specs.Prelude.{◌≡◌};
+ghost use Rattle.rehearsal.specs.Inputs.{Says, SaysOf};
 ghost use Rattle.rehearsal.specs.Answers.{Answers};
 
 use crate::judge::judged;
 use crate::tell::{out_of_memory, tell, tell_read_fault, tell_refusal, write_report};
+use command_line::{WordsFault, input_to_verify};
 use rh_base::limits::MANIFEST_BYTES;
 use rh_base::{Fault, Fetched, Refusal, Shelf, ShelfFault, Sink, Text};
 use std::alloc::Global;
@@ -21,24 +21,11 @@ pub enum Ending {
     Memory,
 }
 
-/// The name of the input.
-fn input(words: &[String]) -> Option<&String>
-    ensures { option_map (λ w. string_bytes w.now) result ≡ input_in words.now }
-{
-    match words {
-        [word] if !word.as_str().starts_with('-') => Some(word),
-        _ => None,
-    }
-}
-
 /// Reads the input and judges it.
-fn decide<S: Shelf>(alloc: Global, words: &[String], shelf: &mut S) -> Ending
+fn read<S: Shelf>(alloc: Global, name: Text, shelf: &mut S) -> Ending
     ensures held { S.holds shelf.new ≡ S.holds shelf.old }
-    ensures says { Says words.now (S.holds shelf.old) (S.faults shelf.old) (S.faults shelf.new) result }
+    ensures says { SaysOf name (S.holds shelf.old) (S.faults shelf.old) (S.faults shelf.new) result }
 {
-    let Some(name) = input(words) else {
-        return Ending::BadWords;
-    };
     let mut bytes = Vec::new(alloc);
     match shelf.fetch(name.as_str(), MANIFEST_BYTES, &mut bytes) {
         Ok(Fetched::Whole) => match judged(alloc, &bytes) {
@@ -50,11 +37,21 @@ fn decide<S: Shelf>(alloc: Global, words: &[String], shelf: &mut S) -> Ending
             Ok(refusal) => Ending::Refused(refusal),
             Err(_) => Ending::Memory,
         },
-        Err(ShelfFault::Failed) => match String::from_str(alloc, name.as_str()) {
-            Ok(name) => Ending::ReadFault(Text::from_string(name)),
-            Err(_) => Ending::Memory,
-        },
+        Err(ShelfFault::Failed) => Ending::ReadFault(name),
         Err(ShelfFault::Memory(_)) => Ending::Memory,
+    }
+}
+
+/// What the words ask for.
+#[tactic(auto, using(crate::proofs::Endings::says_named))]
+fn decide<S: Shelf>(alloc: Global, words: &[String], shelf: &mut S) -> Ending
+    ensures held { S.holds shelf.new ≡ S.holds shelf.old }
+    ensures says { Says words.now (S.holds shelf.old) (S.faults shelf.old) (S.faults shelf.new) result }
+{
+    match input_to_verify(alloc, words) {
+        Ok(name) => read(alloc, name, shelf),
+        Err(WordsFault::Refused) => Ending::BadWords,
+        Err(WordsFault::Memory(_)) => Ending::Memory,
     }
 }
 
@@ -84,7 +81,11 @@ pub fn rehearse<S: Shelf, O: Sink, E: Sink>(
     match decide(alloc, words, shelf) {
         Ending::Report(report) => write_report(&report, out, err),
         Ending::Refused(refusal) => tell_refusal(alloc, &refusal, err),
-        Ending::BadWords => tell(err, 5, b"usage: rehearsal INPUT\n"),
+        Ending::BadWords => tell(
+            err,
+            5,
+            b"usage: rehearsal [--facts F] [--packages P] [--node N] [--conflicts C] [--ask A] [--tree T] [--order O] [--workload N] [INPUT]\n",
+        ),
         Ending::ReadFault(name) => tell_read_fault(alloc, &name, err),
         Ending::Memory => out_of_memory(err),
     }

@@ -165,13 +165,26 @@ fn a_manifest_at_its_limit(rt: HostRuntime) -> Result<(), Fail> {
 #[test]
 fn words_that_are_refused(rt: HostRuntime) -> Result<(), Fail> {
     let alloc = rt.alloc();
-    let rows: [&[&str]; 4] = [&[], &["site.pp", "site.pp"], &["--help"], &["-"]];
+    let rows: [&[&str]; 9] = [
+        &[],
+        &["site.pp", "site.pp"],
+        &["--help"],
+        &["-x"],
+        &["--tree", "t", "site.pp"],
+        &["--ask", "graph", "site.pp"],
+        &["--ask", "all", "site.pp"],
+        &["--facts", "f", "site.pp"],
+        &["--workload", "5"],
+    ];
     for named in rows {
         let none = (Vec::new(alloc), Vec::new(alloc), Vec::new(alloc));
         let told = told_over(alloc, named, none)?;
         assert_eq!(rt; told.status, 5);
         assert_eq!(rt; told.out.as_str(), "");
-        assert_eq!(rt; told.err.as_str(), "usage: rehearsal INPUT\n");
+        assert_eq!(rt;
+            told.err.as_str(),
+            "usage: rehearsal [--facts F] [--packages P] [--node N] [--conflicts C] [--ask A] [--tree T] [--order O] [--workload N] [INPUT]\n"
+        );
     }
     Ok(())
 }
@@ -203,7 +216,7 @@ fn writes_that_fail(rt: HostRuntime) -> Result<(), Fail> {
     let told = told_over(alloc, &["site.pp"], fails)?;
     assert_eq!(rt; told.status, 7);
     let fails = (Vec::new(alloc), Vec::new(alloc), vec![in alloc; 1]?);
-    let told = told_over(alloc, &["-"], fails)?;
+    let told = told_over(alloc, &["-x"], fails)?;
     assert_eq!(rt; told.status, 7);
     assert_eq!(rt; told.out.as_str(), "");
     let fails = (vec![in alloc; 1]?, Vec::new(alloc), vec![in alloc; 1]?);
