@@ -3,19 +3,19 @@ use Rattle.std.proofs.Common.{◌≡◌, ℕ, List, [], ◌++◌, drop, refl, So
 use Rattle.std.specs.Prelude.{Result, Ok, Err}
 use Rattle.pp_syntax.specs.declared.tree.Expr.{Expr}
 use Rattle.pp_syntax.specs.Tokens.{Lexeme}
-use Rattle.pp_syntax.specs.Derivation.{IsExprAt, ReferenceOf, StringOf}
+use Rattle.pp_syntax.specs.Derivation.{IsExprAt, PostfixOf, ReferenceOf, StringOf}
 use Rattle.pp_expression.specs.declared.misread.Misread.{Misread}
 use Rattle.pp_expression.specs.declared.misread.Misread.TheVariants as misread
 use Rattle.pp_expression.specs.Marks.{Found}
-use Rattle.pp_expression.specs.Parsed.{NumbersFit, NothingGoesOn, Anything, IsSpelled, IsParsed}
-use Rattle.pp_expression.specs.Reading.{Gives, expr_at, reference_with, string_with}
+use Rattle.pp_expression.specs.Parsed.{Begins, NumbersFit, NothingGoesOn, NoSuffixGoesOn, Anything, IsSpelled, IsParsed}
+use Rattle.pp_expression.specs.Reading.{Gives, expr_at, postfix_with, reference_with, string_with}
 use Rattle.pp_expression.proofs.Finding.{Finds}
 use Rattle.pp_expression.proofs.Found.{reference_found}
 use Rattle.pp_expression.proofs.Operands.{string_found}
 use Rattle.pp_expression.proofs.Solid.{begun_some, expr_begun}
-use Rattle.pp_expression.proofs.Whole.{expr_found}
+use Rattle.pp_expression.proofs.Whole.{postfix_found, expr_found}
 use Rattle.pp_expression.proofs.Spelled.{reference_read}
-use Rattle.pp_expression.proofs.Quotes.{string_read, expr_read}
+use Rattle.pp_expression.proofs.Quotes.{string_read, postfix_read, expr_read}
 use Rattle.pp_expression.proofs.DoubleQuotes.{dq_found, dq_read}
 
 spelled : {X : Type 0} (A : X → List Lexeme → Type 0) (f : List Lexeme → Found X) (tokens : List Lexeme) (from : ℕ) (r : Result (X × ℕ) Misread) → Finds f A → Gives (λ x. (x.0, drop x.1 tokens)) r (f (drop from tokens)) → IsSpelled A tokens from r
@@ -39,20 +39,43 @@ expression_spelled depth tokens from r g = spelled (IsExprAt depth) (expr_at dep
 pub expression_parsed : (depth : ℕ) (tokens : List Lexeme) (from : ℕ) (r : Result (Expr × ℕ) Misread) → Gives (λ x. (x.0, drop x.1 tokens)) r (expr_at depth (drop from tokens)) → IsParsed (IsExprAt depth) NothingGoesOn tokens from r
 expression_parsed depth tokens from r g = parsed (IsExprAt depth) NothingGoesOn (expr_at depth) tokens from r (λ y us rest h n l. expr_read dq_read depth y us rest h n (omega arith)) g
 
+-- ---- the parts of expressions, both ways
+
+pub postfix_finds : (depth : ℕ) → Finds (postfix_with (expr_at depth)) (PostfixOf (IsExprAt depth))
+postfix_finds depth = postfix_found dq_found (expr_at depth) (IsExprAt depth) (expr_found dq_found depth) (λ y s. begun_some [] (expr_begun depth y [] s) refl)
+
+pub postfix_reads : (depth : ℕ) (y : Expr) (us rest : List Lexeme) → PostfixOf (IsExprAt depth) y us → NumbersFit us → NoSuffixGoesOn rest → postfix_with (expr_at depth) (us ++ rest) ≡ Some (y, rest)
+postfix_reads depth = postfix_read dq_read (expr_at depth) (IsExprAt depth) (expr_read dq_read depth) (expr_begun depth)
+
+pub reference_finds : (depth : ℕ) → Finds (reference_with (expr_at depth)) (ReferenceOf (IsExprAt depth))
+reference_finds depth = reference_found (expr_at depth) (IsExprAt depth) (expr_found dq_found depth)
+
+pub reference_reads : (depth : ℕ) (y : Expr) (us rest : List Lexeme) → ReferenceOf (IsExprAt depth) y us → NumbersFit us → reference_with (expr_at depth) (us ++ rest) ≡ Some (y, rest)
+reference_reads depth = reference_read dq_read (expr_at depth) (IsExprAt depth) (expr_read dq_read depth) (expr_begun depth)
+
+pub string_finds : (depth : ℕ) → Finds (string_with (expr_at depth)) (StringOf (IsExprAt depth))
+string_finds depth = string_found dq_found (expr_at depth) (IsExprAt depth) (expr_found dq_found depth) (λ y s. begun_some [] (expr_begun depth y [] s) refl)
+
+pub string_reads : (depth : ℕ) (y : Expr) (us rest : List Lexeme) → StringOf (IsExprAt depth) y us → NumbersFit us → string_with (expr_at depth) (us ++ rest) ≡ Some (y, rest)
+string_reads depth = string_read dq_read (expr_at depth) (IsExprAt depth) (expr_read dq_read depth) (expr_begun depth)
+
+pub postfix_spelled : (depth : ℕ) (tokens : List Lexeme) (from : ℕ) (r : Result (Expr × ℕ) Misread) → Gives (λ x. (x.0, drop x.1 tokens)) r (postfix_with (expr_at depth) (drop from tokens)) → IsSpelled (PostfixOf (IsExprAt depth)) tokens from r
+postfix_spelled depth tokens from r g = spelled (PostfixOf (IsExprAt depth)) (postfix_with (expr_at depth)) tokens from r (postfix_finds depth) g
+
+pub postfix_parsed : (depth : ℕ) (tokens : List Lexeme) (from : ℕ) (r : Result (Expr × ℕ) Misread) → Gives (λ x. (x.0, drop x.1 tokens)) r (postfix_with (expr_at depth) (drop from tokens)) → IsParsed (PostfixOf (IsExprAt depth)) NoSuffixGoesOn tokens from r
+postfix_parsed depth tokens from r g = parsed (PostfixOf (IsExprAt depth)) NoSuffixGoesOn (postfix_with (expr_at depth)) tokens from r (postfix_reads depth) g
+
 pub reference_spelled : (depth : ℕ) (tokens : List Lexeme) (from : ℕ) (r : Result (Expr × ℕ) Misread) → Gives (λ x. (x.0, drop x.1 tokens)) r (reference_with (expr_at depth) (drop from tokens)) → IsSpelled (ReferenceOf (IsExprAt depth)) tokens from r
-reference_spelled depth tokens from r g = spelled (ReferenceOf (IsExprAt depth)) (reference_with (expr_at depth)) tokens from r (reference_found (expr_at depth) (IsExprAt depth) (expr_found dq_found depth)) g
+reference_spelled depth tokens from r g = spelled (ReferenceOf (IsExprAt depth)) (reference_with (expr_at depth)) tokens from r (reference_finds depth) g
 
 pub reference_parsed : (depth : ℕ) (tokens : List Lexeme) (from : ℕ) (r : Result (Expr × ℕ) Misread) → Gives (λ x. (x.0, drop x.1 tokens)) r (reference_with (expr_at depth) (drop from tokens)) → IsParsed (ReferenceOf (IsExprAt depth)) Anything tokens from r
-reference_parsed depth tokens from r g =
-    parsed (ReferenceOf (IsExprAt depth)) Anything (reference_with (expr_at depth)) tokens from r (λ y us rest h n l. reference_read dq_read (expr_at depth) (IsExprAt depth) (expr_read dq_read depth) (expr_begun depth) y us rest h n) g
+reference_parsed depth tokens from r g = parsed (ReferenceOf (IsExprAt depth)) Anything (reference_with (expr_at depth)) tokens from r (λ y us rest h n l. reference_reads depth y us rest h n) g
 
 pub string_spelled : (depth : ℕ) (tokens : List Lexeme) (from : ℕ) (r : Result (Expr × ℕ) Misread) → Gives (λ x. (x.0, drop x.1 tokens)) r (string_with (expr_at depth) (drop from tokens)) → IsSpelled (StringOf (IsExprAt depth)) tokens from r
-string_spelled depth tokens from r g =
-    spelled (StringOf (IsExprAt depth)) (string_with (expr_at depth)) tokens from r (string_found dq_found (expr_at depth) (IsExprAt depth) (expr_found dq_found depth) (λ y s. begun_some [] (expr_begun depth y [] s) refl)) g
+string_spelled depth tokens from r g = spelled (StringOf (IsExprAt depth)) (string_with (expr_at depth)) tokens from r (string_finds depth) g
 
 pub string_parsed : (depth : ℕ) (tokens : List Lexeme) (from : ℕ) (r : Result (Expr × ℕ) Misread) → Gives (λ x. (x.0, drop x.1 tokens)) r (string_with (expr_at depth) (drop from tokens)) → IsParsed (StringOf (IsExprAt depth)) Anything tokens from r
-string_parsed depth tokens from r g =
-    parsed (StringOf (IsExprAt depth)) Anything (string_with (expr_at depth)) tokens from r (λ y us rest h n l. string_read dq_read (expr_at depth) (IsExprAt depth) (expr_read dq_read depth) (expr_begun depth) y us rest h n) g
+string_parsed depth tokens from r g = parsed (StringOf (IsExprAt depth)) Anything (string_with (expr_at depth)) tokens from r (λ y us rest h n l. string_reads depth y us rest h n) g
 
 -- Tokens spell at most one expression.
 pub same_expression : (depth : ℕ) (y z : Expr) (us : List Lexeme) → IsExprAt depth y us → IsExprAt depth z us → NumbersFit us → y ≡ z

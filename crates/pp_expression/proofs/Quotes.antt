@@ -165,7 +165,7 @@ module _ (dq_read : (raw v : List ℕ) → DqOf v raw → dq raw ≡ Some v) (e 
       let w : us ++ rest ≡ record { kind = kind.Ref; text = r.name; at = y.at } ∷ (r.spelled.back ++ rest) = ap (λ u. u ++ rest) (r.spelled.whole ∙ ap (λ u. u ++ r.spelled.back) r.spelled.first) in
       ap (primary_with e) w ∙ ap (Rattle.pp_expression.specs.Reading.reference_with e) (sym w) ∙ reference_read dq_read e E reads begun y us rest r f
 
-  postfix_read : Reads 7 (postfix_with e) (PostfixOf E)
+  pub postfix_read : Reads 7 (postfix_with e) (PostfixOf E)
   unfolding postfix_with
   postfix_read y us rest p f l =
       let w : us ++ rest ≡ p.front ++ (p.back ++ rest) = ap (λ r. r ++ rest) p.whole ∙ append_assoc p.front p.back rest in

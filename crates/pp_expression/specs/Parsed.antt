@@ -1,5 +1,5 @@
 -- What parsing from an index on answers.
-use Rattle.std.specs.Prelude.{◌≡◌, ◌<◌, ◌^◌, ℕ, List, ◌++◌, drop, Result, IfOk, MatchResult}
+use Rattle.std.specs.Prelude.{◌≡◌, ◌<◌, ◌≤◌, ◌^◌, ℕ, List, ◌++◌, drop, Result, IfOk, MatchResult}
 use Rattle.std.specs.List.{AllByRecursion}
 use Rattle.pp_syntax.specs.declared.token.Kind.TheVariants as kind
 use Rattle.pp_syntax.specs.Tokens.{Lexeme, int_value}
@@ -23,6 +23,10 @@ NumbersFit us = AllByRecursion NumberFits us
 -- No operator, index or selection stands first.
 abbrev pub NothingGoesOn : List Lexeme → Type 0
 NothingGoesOn rest = reach rest ≡ 0
+
+-- No index or selection stands first.
+abbrev pub NoSuffixGoesOn : List Lexeme → Type 0
+NoSuffixGoesOn rest = reach rest ≤ 7
 
 abbrev pub Anything : List Lexeme → Type 0
 Anything rest = Unit {0}

@@ -19,7 +19,7 @@ use std::alloc::Global;
 #[cycle(expression)]
 pub fn expr(
     alloc: Global,
-    depth: u32,
+    depth: usize,
     tokens: &[Token<'_>],
     from: usize,
 ) -> Result<(Expr, usize), Misread>
@@ -36,7 +36,7 @@ pub fn expr(
 #[tactic(auto, unfolding(crate::specs::Reading::chain_with))]
 fn level(
     alloc: Global,
-    depth: u32,
+    depth: usize,
     n: u32,
     tokens: &[Token<'_>],
     from: usize,
@@ -57,7 +57,7 @@ fn level(
 #[cycle(expression)]
 fn operations(
     alloc: Global,
-    depth: u32,
+    depth: usize,
     n: u32,
     turns: usize,
     tokens: &[Token<'_>],
@@ -83,7 +83,7 @@ fn operations(
 #[tactic(auto, unfolding(crate::specs::Reading::unary_with))]
 fn unary(
     alloc: Global,
-    depth: u32,
+    depth: usize,
     tokens: &[Token<'_>],
     from: usize,
 ) -> Result<(Expr, usize), Misread>
@@ -97,9 +97,9 @@ fn unary(
 
 #[cycle(expression)]
 #[tactic(auto, unfolding(crate::specs::Reading::postfix_with))]
-fn postfix(
+pub fn postfix(
     alloc: Global,
-    depth: u32,
+    depth: usize,
     tokens: &[Token<'_>],
     from: usize,
 ) -> Result<(Expr, usize), Misread>
@@ -121,7 +121,7 @@ fn postfix(
 #[cycle(expression)]
 fn suffixes(
     alloc: Global,
-    depth: u32,
+    depth: usize,
     at: u32,
     turns: usize,
     operand: Expr,
@@ -147,7 +147,7 @@ fn suffixes(
 #[cycle(expression)]
 fn suffix(
     alloc: Global,
-    depth: u32,
+    depth: usize,
     at: u32,
     base: Expr,
     tokens: &[Token<'_>],
@@ -169,7 +169,7 @@ fn suffix(
 #[tactic(auto, unfolding(crate::specs::Reading::index_with))]
 fn index(
     alloc: Global,
-    depth: u32,
+    depth: usize,
     at: u32,
     base: Expr,
     tokens: &[Token<'_>],
@@ -187,7 +187,7 @@ fn index(
 #[tactic(auto, unfolding(crate::specs::Reading::selection_with))]
 fn selection(
     alloc: Global,
-    depth: u32,
+    depth: usize,
     at: u32,
     base: Expr,
     tokens: &[Token<'_>],
@@ -204,7 +204,7 @@ fn selection(
 #[tactic(auto, unfolding(crate::specs::Reading::choices_with))]
 fn choices(
     alloc: Global,
-    depth: u32,
+    depth: usize,
     tokens: &[Token<'_>],
     from: usize,
 ) -> Result<(Seq<(Option<Expr>, Expr)>, usize), Misread>
@@ -218,7 +218,7 @@ fn choices(
 #[cycle(expression)]
 fn some_choices(
     alloc: Global,
-    depth: u32,
+    depth: usize,
     turns: usize,
     tokens: &[Token<'_>],
     from: usize,
@@ -243,7 +243,7 @@ fn some_choices(
 #[tactic(auto, unfolding(crate::specs::Reading::choice_with))]
 fn choice(
     alloc: Global,
-    depth: u32,
+    depth: usize,
     tokens: &[Token<'_>],
     from: usize,
 ) -> Result<((Option<Expr>, Expr), usize), Misread>
@@ -259,7 +259,7 @@ fn choice(
 #[cycle(expression)]
 fn option(
     alloc: Global,
-    depth: u32,
+    depth: usize,
     tokens: &[Token<'_>],
     from: usize,
 ) -> Result<(Option<Expr>, usize), Misread>
@@ -276,7 +276,7 @@ fn option(
 #[tactic(auto, unfolding(crate::specs::Reading::pair_with))]
 fn pair(
     alloc: Global,
-    depth: u32,
+    depth: usize,
     tokens: &[Token<'_>],
     from: usize,
 ) -> Result<((Expr, Expr), usize), Misread>
@@ -293,7 +293,7 @@ fn pair(
 #[tactic(auto, unfolding(crate::specs::Reading::enclosed_with))]
 fn enclosed(
     alloc: Global,
-    depth: u32,
+    depth: usize,
     close: &str,
     tokens: &[Token<'_>],
     from: usize,
@@ -305,8 +305,9 @@ fn enclosed(
     Ok((e, rest))
 }
 
-/// Behind an item of a list: whether the list ends here.
-fn separator(close: &str, tokens: &[Token<'_>], from: usize) -> Result<(bool, usize), Misread>
+/// Behind an item of a list that this sign closes: whether the list ends here, and the index behind
+/// the comma or the sign.
+pub fn separator(close: &str, tokens: &[Token<'_>], from: usize) -> Result<(bool, usize), Misread>
     ensures { Gives (λ x. (x.0, drop x.1 (told tokens.now))) result (separator close.now (drop from (told tokens.now))) }
 {
     if let Some((_, rest)) = mark(Kind::Sign, close, tokens, from) {
@@ -323,7 +324,7 @@ fn separator(close: &str, tokens: &[Token<'_>], from: usize) -> Result<(bool, us
 #[cycle(expression)]
 fn exprs(
     alloc: Global,
-    depth: u32,
+    depth: usize,
     close: &str,
     turns: usize,
     tokens: &[Token<'_>],
@@ -348,7 +349,7 @@ fn exprs(
 #[cycle(expression)]
 fn maybe_exprs(
     alloc: Global,
-    depth: u32,
+    depth: usize,
     close: &str,
     tokens: &[Token<'_>],
     from: usize,
@@ -364,7 +365,7 @@ fn maybe_exprs(
 #[cycle(expression)]
 fn pairs(
     alloc: Global,
-    depth: u32,
+    depth: usize,
     turns: usize,
     tokens: &[Token<'_>],
     from: usize,
@@ -388,7 +389,7 @@ fn pairs(
 #[cycle(expression)]
 fn maybe_pairs(
     alloc: Global,
-    depth: u32,
+    depth: usize,
     tokens: &[Token<'_>],
     from: usize,
 ) -> Result<(Seq<(Expr, Expr)>, usize), Misread>
@@ -405,7 +406,7 @@ fn maybe_pairs(
 #[tactic(auto, unfolding(crate::specs::Reading::list_with))]
 fn list(
     alloc: Global,
-    depth: u32,
+    depth: usize,
     tokens: &[Token<'_>],
     from: usize,
 ) -> Result<(Expr, usize), Misread>
@@ -422,7 +423,7 @@ fn list(
 #[tactic(auto, unfolding(crate::specs::Reading::map_with))]
 fn map(
     alloc: Global,
-    depth: u32,
+    depth: usize,
     tokens: &[Token<'_>],
     from: usize,
 ) -> Result<(Expr, usize), Misread>
@@ -439,7 +440,7 @@ fn map(
 #[tactic(auto, unfolding(crate::specs::Reading::titles_with))]
 fn titles(
     alloc: Global,
-    depth: u32,
+    depth: usize,
     tokens: &[Token<'_>],
     from: usize,
 ) -> Result<(Seq<Expr>, usize), Misread>
@@ -452,7 +453,7 @@ fn titles(
 #[cycle(expression)]
 pub fn reference(
     alloc: Global,
-    depth: u32,
+    depth: usize,
     tokens: &[Token<'_>],
     from: usize,
 ) -> Result<(Expr, usize), Misread>
@@ -494,7 +495,7 @@ fn atom_at(alloc: Global, tokens: &[Token<'_>], from: usize) -> Result<(Expr, us
 #[cycle(expression)]
 fn opened(
     alloc: Global,
-    depth: u32,
+    depth: usize,
     tokens: &[Token<'_>],
     from: usize,
 ) -> Result<(Expr, usize), Misread>
@@ -509,7 +510,7 @@ fn opened(
 #[cycle(expression)]
 fn primary(
     alloc: Global,
-    depth: u32,
+    depth: usize,
     tokens: &[Token<'_>],
     from: usize,
 ) -> Result<(Expr, usize), Misread>
@@ -530,7 +531,7 @@ fn primary(
 /// A text in quotes.
 pub fn string(
     alloc: Global,
-    depth: u32,
+    depth: usize,
     tokens: &[Token<'_>],
     from: usize,
 ) -> Result<(Expr, usize), Misread>
@@ -550,7 +551,7 @@ pub fn string(
 #[tactic(auto, unfolding(crate::specs::Reading::double_with))]
 fn double(
     alloc: Global,
-    depth: u32,
+    depth: usize,
     tokens: &[Token<'_>],
     from: usize,
 ) -> Result<(Expr, usize), Misread>
@@ -564,7 +565,7 @@ fn double(
 #[tactic(auto, unfolding(crate::specs::Reading::quoted_with))]
 fn quoted(
     alloc: Global,
-    depth: u32,
+    depth: usize,
     at: u32,
     tokens: &[Token<'_>],
     from: usize,
@@ -586,7 +587,7 @@ fn any_of(one: bool, other: bool) -> bool
 #[cycle(expression)]
 fn members(
     alloc: Global,
-    depth: u32,
+    depth: usize,
     turns: usize,
     tokens: &[Token<'_>],
     from: usize,
@@ -612,7 +613,7 @@ fn members(
 #[cycle(expression)]
 fn member(
     alloc: Global,
-    depth: u32,
+    depth: usize,
     tokens: &[Token<'_>],
     from: usize,
 ) -> Result<((Expr, bool), usize), Misread>
@@ -643,7 +644,7 @@ fn member(
 #[tactic(auto, unfolding(crate::specs::Reading::part_with))]
 fn part(
     alloc: Global,
-    depth: u32,
+    depth: usize,
     tokens: &[Token<'_>],
     from: usize,
 ) -> Result<(Expr, usize), Misread>
@@ -657,7 +658,7 @@ fn part(
 #[tactic(auto, unfolding(crate::specs::Reading::hole_with))]
 fn hole(
     alloc: Global,
-    depth: u32,
+    depth: usize,
     tokens: &[Token<'_>],
     from: usize,
 ) -> Result<(Expr, usize), Misread>
@@ -672,7 +673,7 @@ fn hole(
 #[tactic(auto, unfolding(crate::specs::Reading::inner_with))]
 fn inner(
     alloc: Global,
-    depth: u32,
+    depth: usize,
     tokens: &[Token<'_>],
     from: usize,
 ) -> Result<(Expr, usize), Misread>

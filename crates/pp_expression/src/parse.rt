@@ -1,6 +1,8 @@
+ghost use Rattle.std.specs.Prelude.{drop};
 ghost use Rattle.pp_syntax.specs.Lexing.{told};
-ghost use Rattle.pp_syntax.specs.Derivation.{IsExprAt, ReferenceOf, StringOf};
-ghost use Rattle.pp_expression.specs.Parsed.{IsSpelled, IsParsed, NothingGoesOn, Anything};
+ghost use Rattle.pp_syntax.specs.Derivation.{IsExprAt, PostfixOf, ReferenceOf, StringOf};
+ghost use Rattle.pp_expression.specs.Parsed.{IsSpelled, IsParsed, NothingGoesOn, NoSuffixGoesOn, Anything};
+ghost use Rattle.pp_expression.specs.Reading.{Gives, expr_at, postfix_with, reference_with, string_with};
 
 use crate::expression;
 use crate::misread::Misread;
@@ -11,25 +13,45 @@ use std::alloc::Global;
 /// index behind it.
 pub fn parse_expression(
     alloc: Global,
-    depth: u32,
+    depth: usize,
     tokens: &[Token<'_>],
     from: usize,
 ) -> Result<(Expr, usize), Misread>
     ensures spelled { IsSpelled (IsExprAt depth) (told tokens.now) from result }
     ensures parsed { IsParsed (IsExprAt depth) NothingGoesOn (told tokens.now) from result }
+    // what the way of reading finds, of which the laws say that it is the grammar's
+    ensures reads { Gives (λ x. (x.0, drop x.1 (told tokens.now))) result (expr_at depth (drop from (told tokens.now))) }
 {
     expression::expr(alloc, depth, tokens, from)
+}
+
+/// The operand that begins at this index, with all indexes and selections behind it; no operator is
+/// taken.
+pub fn parse_postfix(
+    alloc: Global,
+    depth: usize,
+    tokens: &[Token<'_>],
+    from: usize,
+) -> Result<(Expr, usize), Misread>
+    ensures spelled { IsSpelled (PostfixOf (IsExprAt depth)) (told tokens.now) from result }
+    ensures parsed { IsParsed (PostfixOf (IsExprAt depth)) NoSuffixGoesOn (told tokens.now) from result }
+    // what the way of reading finds, of which the laws say that it is the grammar's
+    ensures reads { Gives (λ x. (x.0, drop x.1 (told tokens.now))) result (postfix_with (expr_at depth) (drop from (told tokens.now))) }
+{
+    expression::postfix(alloc, depth, tokens, from)
 }
 
 /// The reference that begins at this index.
 pub fn parse_reference(
     alloc: Global,
-    depth: u32,
+    depth: usize,
     tokens: &[Token<'_>],
     from: usize,
 ) -> Result<(Expr, usize), Misread>
     ensures spelled { IsSpelled (ReferenceOf (IsExprAt depth)) (told tokens.now) from result }
     ensures parsed { IsParsed (ReferenceOf (IsExprAt depth)) Anything (told tokens.now) from result }
+    // what the way of reading finds, of which the laws say that it is the grammar's
+    ensures reads { Gives (λ x. (x.0, drop x.1 (told tokens.now))) result (reference_with (expr_at depth) (drop from (told tokens.now))) }
 {
     expression::reference(alloc, depth, tokens, from)
 }
@@ -37,12 +59,14 @@ pub fn parse_reference(
 /// The text in quotes that begins at this index.
 pub fn parse_string(
     alloc: Global,
-    depth: u32,
+    depth: usize,
     tokens: &[Token<'_>],
     from: usize,
 ) -> Result<(Expr, usize), Misread>
     ensures spelled { IsSpelled (StringOf (IsExprAt depth)) (told tokens.now) from result }
     ensures parsed { IsParsed (StringOf (IsExprAt depth)) Anything (told tokens.now) from result }
+    // what the way of reading finds, of which the laws say that it is the grammar's
+    ensures reads { Gives (λ x. (x.0, drop x.1 (told tokens.now))) result (string_with (expr_at depth) (drop from (told tokens.now))) }
 {
     expression::string(alloc, depth, tokens, from)
 }

@@ -1,7 +1,3 @@
-pub mod FirstWords
-pub mod FirstTurns
-pub mod FirstSteps
-pub mod FirstRules
 pub mod Turns
 pub mod Values
 pub mod Steps

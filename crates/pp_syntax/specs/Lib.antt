@@ -1,5 +1,3 @@
-pub mod FirstGrammar
-pub mod FirstReading
 pub mod Opened
 pub mod Bytes
 pub mod Tokens

@@ -3,8 +3,8 @@ use Rattle.std.proofs.Common.{◌≡◌, ℕ, List, length, inl, inr, None, sym,
 use Rattle.std.specs.Prelude.{codes}
 use Rattle.rh_base.specs.declared.fault.Refusal.{Refusal}
 use Rattle.rh_base.specs.Refused.{IsRefusal}
-use Rattle.pp_syntax.specs.declared.first.block.Block.{Block}
-use Rattle.pp_syntax.specs.FirstGrammar.{IsFirstForm}
+use Rattle.file_blocks.specs.declared.block.Block.{Block}
+use Rattle.file_blocks.specs.FirstGrammar.{IsFirstForm}
 use Rattle.fs_semantics.specs.FileTree.{Path}
 use Rattle.fs_semantics.specs.Apart.{AreApart}
 use Rattle.fs_semantics.specs.Orders.{IsDeterministic, IsIdempotent, Succeeds}

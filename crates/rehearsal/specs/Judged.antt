@@ -3,8 +3,8 @@ use Rattle.std.specs.Prelude.{◌≡◌, ◌⊎◌, ℕ, List, ◌++◌, length,
 use Rattle.std.specs.Fmt.{decimal}
 use Rattle.rh_base.specs.declared.fault.Refusal.{Refusal}
 use Rattle.rh_base.specs.Refused.{IsRefusal}
-use Rattle.pp_syntax.specs.declared.first.block.Block.{Block}
-use Rattle.pp_syntax.specs.FirstGrammar.{IsFirstForm}
+use Rattle.file_blocks.specs.declared.block.Block.{Block}
+use Rattle.file_blocks.specs.FirstGrammar.{IsFirstForm}
 use Rattle.fs_semantics.specs.Apart.{AreApart}
 use Rattle.fs_semantics.specs.Orders.{IsDeterministic, IsIdempotent, Succeeds}
 use Rattle.fs_semantics.specs.PlainFiles.{PlainFile, puts, Unordered}

@@ -7,7 +7,7 @@ ghost use Rattle.rehearsal.specs.Judged.{report_of, IsReport, BreaksRule};
 
 use fs_lang::{Path, PathFault, are_apart};
 use fs_semantics::plain_files;
-use pp_syntax::{Block, first_form};
+use file_blocks::{Block, first_form};
 use rh_base::{Fault, NoMemory, Refusal, Seq, Text};
 use std::alloc::Global;
 

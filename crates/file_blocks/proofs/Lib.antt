@@ -1,0 +1,4 @@
+pub mod FirstWords
+pub mod FirstTurns
+pub mod FirstSteps
+pub mod FirstRules

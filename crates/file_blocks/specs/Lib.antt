@@ -1,0 +1,2 @@
+pub mod FirstGrammar
+pub mod FirstReading

@@ -1,5 +1,0 @@
-use Rattle.pp_syntax.proofs.FirstWords.{stripped}
-use Rattle.pp_syntax.proofs.first.reading.after_word.Goals as goal
-
-pub returns : goal.returns
-returns c = stripped c.args.word.now c.args.text.now c.strip_prefix.result c.strip_prefix.ensures.cases

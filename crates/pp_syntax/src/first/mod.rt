@@ -1,8 +1,0 @@
-//! Manifests of nothing but file blocks with a content.
-
-mod block;
-mod form;
-mod reading;
-
-pub use block::Block;
-pub use form::first_form;
