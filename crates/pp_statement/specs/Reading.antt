@@ -19,7 +19,7 @@ use Rattle.pp_syntax.specs.declared.tree.CaseArm.{CaseArm, roll-CaseArm}
 use Rattle.pp_syntax.specs.Tokens.{Lexeme}
 use Rattle.pp_expression.specs.Marks.{Found, front_of, first_at, mark}
 use Rattle.pp_expression.specs.Values.{◌>>=◌}
-use Rattle.pp_expression.specs.Reading.{items, option_with, reference_with, postfix_with}
+use Rattle.pp_expression.specs.Reading.{with_front, items, option_with, reference_with, postfix_with}
 use Rattle.pp_statement.specs.Combining.{Reader, both, made, behind, before, in_braces, begins, many, listed}
 use Rattle.pp_statement.specs.Marks.{taken, name_by, begins_name, variable_by, ref_by, function_by, type_by, arrow_by, begins_arrow, begins_bracket}
 
@@ -49,13 +49,19 @@ bodies_with e ts = if unclosed ts then listed (codes ";") unclosed (body_with e)
 
 -- ---- searches
 
-abbrev pub comparison_or : Reader Expr → List ℕ → Found ℕ → Reader Search
-comparison_or p name None ts = mark kind.Sign (codes "!=") ts >>= λ o. p o.1 >>= λ v. Some (search.Differ name v.0, v.1)
-comparison_or p name (Some o) ts = p o.1 >>= λ v. Some (search.Equal name v.0, v.1)
+abbrev pub equal_with : Reader Expr → List ℕ → Reader Search
+equal_with p name ts = p ts >>= λ v. Some (search.Equal name v.0, v.1)
+
+abbrev pub differ_with : Reader Expr → List ℕ → Reader Search
+differ_with p name = behind kind.Sign (codes "!=") (λ ts. p ts >>= λ v. Some (search.Differ name v.0, v.1))
+
+abbrev pub compared_or : Reader Expr → List ℕ → Found ℕ → Reader Search
+compared_or p name None ts = differ_with p name ts
+compared_or p name (Some o) ts = equal_with p name o.1
 
 -- behind a name
 abbrev pub compared_with : Reader Expr → List ℕ → Reader Search
-compared_with p name ts = comparison_or p name (mark kind.Sign (codes "==") ts) ts
+compared_with p name ts = compared_or p name (mark kind.Sign (codes "==") ts) ts
 
 abbrev pub comparison_with : Reader Expr → Reader Search
 comparison_with p ts = taken name_by ts >>= λ n. compared_with p n.0 n.1
@@ -211,7 +217,7 @@ more_args e = many (begins kind.Sign (codes ",")) (behind kind.Sign (codes ",") 
 
 -- arguments without brackets
 abbrev pub bare_with : Reader Expr → Reader (List Expr)
-bare_with e ts = e ts >>= λ x. more_args e (length x.1 + 1) x.1 >>= λ more. Some (x.0 ∷ more.0, more.1)
+bare_with e ts = e ts >>= λ x. with_front (x.0 ∷ []) (more_args e (length x.1 + 1) x.1)
 
 abbrev pub args_or : Reader Expr → Found ℕ → Reader (List Expr)
 args_or e None ts = if begins_bracket ts then None else bare_with e ts
@@ -249,7 +255,7 @@ more_arms e s = many (begins kind.Keyword (codes "elsif")) (behind kind.Keyword 
 
 -- one or more arms
 abbrev pub arms_with : Reader Expr → Reader Stmt → Reader (List Arm)
-arms_with e s ts = arm_with e s ts >>= λ a. more_arms e s (length a.1 + 1) a.1 >>= λ more. Some (a.0 ∷ more.0, more.1)
+arms_with e s ts = arm_with e s ts >>= λ a. with_front (a.0 ∷ []) (more_arms e s (length a.1 + 1) a.1)
 
 abbrev pub if_of : ℕ → List Arm × List Stmt → Stmt
 if_of at p = stmt.If at p.0 p.1
@@ -287,6 +293,10 @@ abbrev pub called_or : Reader Expr → Found Func → Reader Stmt
 called_or e None ts = chain_with e ts
 called_or e (Some f) ts = call_with e ts
 
+-- what begins with a word
+abbrev pub called_with : Reader Expr → Reader Stmt
+called_with e ts = called_or e (taken function_by ts) ts
+
 abbrev pub keyed_with : Reader Expr → Reader Stmt → List ℕ → Reader Stmt
 keyed_with e s word ts = if bytes_eq word (codes "if") then if_with e s ts else (if bytes_eq word (codes "unless") then unless_with e s ts else (
     if bytes_eq word (codes "case") then case_with e s ts else chain_with e ts))
@@ -294,7 +304,7 @@ keyed_with e s word ts = if bytes_eq word (codes "if") then if_with e s ts else 
 abbrev pub stmt_by : Reader Expr → Reader Stmt → Kind → List ℕ → Reader Stmt
 stmt_by e s kind.Keyword word ts = keyed_with e s word ts
 stmt_by e s kind.Var word ts = assign_with e ts
-stmt_by e s kind.Word word ts = called_or e (taken function_by ts) ts
+stmt_by e s kind.Word word ts = called_with e ts
 stmt_by e s _ word ts = chain_with e ts
 
 abbrev pub stmt_of : Reader Expr → Reader Stmt → Found Lexeme → Reader Stmt
