@@ -1,0 +1,4 @@
+pub mod Combining
+pub mod Names
+pub mod Steps
+pub mod Found

@@ -36,8 +36,11 @@ abbrev pub begins_name : List Lexeme → Bool
 begins_name ts = is_found (taken name_by ts)
 
 -- the name of a variable without `::`
+abbrev pub plain_variable : List ℕ → Option (List ℕ)
+plain_variable s = name_of s >>= plain_name
+
 abbrev pub variable_by : Kind → List ℕ → Option (List ℕ)
-variable_by kind.Var s = name_of s >>= plain_name
+variable_by kind.Var s = plain_variable s
 variable_by _ s = None
 
 abbrev pub ref_by : Kind → List ℕ → Option (List ℕ)

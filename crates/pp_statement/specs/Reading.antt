@@ -73,25 +73,36 @@ atom_or p s (Some o) ts = before s kind.Sign (codes ")") o.1
 abbrev pub atom_with : Reader Expr → Reader Search → Reader Search
 atom_with p s ts = atom_or p s (mark kind.Sign (codes "(") ts) ts
 
-abbrev pub all_of : Search → List Search → Search
-all_of y [] = y
-all_of y (z ∷ more) = search.And (y ∷ z ∷ more)
+-- the one that there is
+abbrev pub only : List Search → Option Search
+only [] = None
+only (y ∷ []) = Some y
+only (y ∷ z ∷ more) = None
+
+abbrev pub are_many : List Search → Bool
+are_many [] = false
+are_many (y ∷ []) = false
+are_many (y ∷ z ∷ more) = true
+
+-- all of these hold
+abbrev pub all_of : List Search → Option Search
+all_of ys = if are_many ys then Some (search.And ys) else only ys
 
 abbrev pub ands_with : Reader Expr → Reader Search → ℕ → Reader (List Search)
 ands_with p s = many (begins kind.Keyword (codes "and")) (behind kind.Keyword (codes "and") (atom_with p s))
 
 abbrev pub conjunction_with : Reader Expr → Reader Search → Reader Search
-conjunction_with p s ts = atom_with p s ts >>= λ y. ands_with p s (length y.1 + 1) y.1 >>= λ more. Some (all_of y.0 more.0, more.1)
+conjunction_with p s ts = atom_with p s ts >>= λ y. with_front (y.0 ∷ []) (ands_with p s (length y.1 + 1) y.1) >>= λ ys. all_of ys.0 >>= λ z. Some (z, ys.1)
 
-abbrev pub any_of : Search → List Search → Search
-any_of y [] = y
-any_of y (z ∷ more) = search.Or (y ∷ z ∷ more)
+-- one of these holds
+abbrev pub any_of : List Search → Option Search
+any_of ys = if are_many ys then Some (search.Or ys) else only ys
 
 abbrev pub ors_with : Reader Expr → Reader Search → ℕ → Reader (List Search)
 ors_with p s = many (begins kind.Keyword (codes "or")) (behind kind.Keyword (codes "or") (conjunction_with p s))
 
 abbrev pub search_with : Reader Expr → Reader Search → Reader Search
-search_with p s ts = conjunction_with p s ts >>= λ y. ors_with p s (length y.1 + 1) y.1 >>= λ more. Some (any_of y.0 more.0, more.1)
+search_with p s ts = conjunction_with p s ts >>= λ y. with_front (y.0 ∷ []) (ors_with p s (length y.1 + 1) y.1) >>= λ ys. any_of ys.0 >>= λ z. Some (z, ys.1)
 
 -- with brackets nested less deep than this
 abbrev pub search_at : Reader Expr → ℕ → Reader Search

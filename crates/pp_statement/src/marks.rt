@@ -3,10 +3,9 @@ ghost use Rattle.std.specs.Option.{option_map};
 ghost use Rattle.pp_syntax.specs.Lexing.{told};
 ghost use Rattle.pp_syntax.specs.Tokens.{is_among};
 ghost use Rattle.pp_syntax.specs.Statements.{has_colon};
-ghost use Rattle.pp_expression.specs.Values.{◌>>=◌, name_of};
 ghost use Rattle.pp_expression.specs.Reading.{Gives};
 ghost use Rattle.pp_statement.specs.Combining.{begins};
-ghost use Rattle.pp_statement.specs.Marks.{taken, plain_name, name_by, begins_name, variable_by, ref_by, function_of, function_by, unless_function, type_by, arrow_of, arrow_by, begins_arrow, begins_bracket};
+ghost use Rattle.pp_statement.specs.Marks.{taken, plain_name, name_by, begins_name, plain_variable, variable_by, ref_by, function_of, function_by, unless_function, type_by, arrow_of, arrow_by, begins_arrow, begins_bracket};
 ghost use Rattle.pp_statement.specs.Reading.{unclosed};
 
 use pp_expression::{Misread, front_of, mark, name_of, text_of};
@@ -115,7 +114,7 @@ fn variable_by(alloc: Global, left: usize, kind: Kind, text: &str) -> Result<Tex
 }
 
 fn plain_variable(alloc: Global, left: usize, text: &str) -> Result<Text, Misread>
-    ensures { Gives (λ x. x) result (name_of text.now >>= plain_name) }
+    ensures { Gives (λ x. x) result (plain_variable text.now) }
 {
     let name = name_of(alloc, left, text)?;
     if has_colon(name.as_str()) {

@@ -1,15 +1,15 @@
-ghost use Rattle.std.specs.Prelude.{◌≡◌, drop, codes, IfOk};
+ghost use Rattle.std.specs.Prelude.{◌≡◌, drop, codes, [], ◌∷◌};
 ghost use Rattle.pp_syntax.specs.Lexing.{told};
 ghost use Rattle.pp_syntax.specs.declared.token.Kind.TheVariants as kind;
-ghost use Rattle.pp_expression.specs.Reading.{Gives, expr_at, postfix_with};
+ghost use Rattle.pp_expression.specs.Reading.{Gives, with_front, expr_at, postfix_with};
 ghost use Rattle.pp_statement.specs.Combining.{behind, before};
-ghost use Rattle.pp_statement.specs.Reading.{equal_with, differ_with, compared_with, comparison_with, atom_with, all_of, ands_with, conjunction_with, any_of, ors_with, search_with, search_at, sought_with};
+ghost use Rattle.pp_statement.specs.Reading.{equal_with, differ_with, compared_with, comparison_with, atom_with, only, are_many, all_of, ands_with, conjunction_with, any_of, ors_with, search_with, search_at, sought_with};
 
 use crate::expressions::postfix;
 use crate::marks::{begins, name};
 use pp_expression::{Misread, expect, mark, turns};
 use pp_syntax::{Kind, Search, Token};
-use rh_base::{NoMemory, Seq, Text};
+use rh_base::{Seq, Text};
 use std::alloc::Global;
 
 fn equal(
@@ -117,13 +117,15 @@ fn ands(
     alloc: Global,
     limit: usize,
     depth: usize,
+    first: Search,
     turns: usize,
     tokens: &[Token<'_>],
     from: usize,
 ) -> Result<(Seq<Search>, usize), Misread>
-    ensures { Gives (λ x. (x.0, drop x.1 (told tokens.now))) result (ands_with (postfix_with (expr_at limit)) (search_at (postfix_with (expr_at limit)) depth) turns (drop from (told tokens.now))) }
+    ensures { Gives (λ x. (x.0, drop x.1 (told tokens.now))) result (with_front (first ∷ []) (ands_with (postfix_with (expr_at limit)) (search_at (postfix_with (expr_at limit)) depth) turns (drop from (told tokens.now)))) }
 {
     let mut found = Seq::new(alloc);
+    found.push(first)?;
     let mut rest = from;
     for _turn in 0..turns {
         if begins(Kind::Keyword, "and", tokens, rest) {
@@ -148,9 +150,9 @@ fn conjunction(
     ensures { Gives (λ x. (x.0, drop x.1 (told tokens.now))) result (conjunction_with (postfix_with (expr_at limit)) (search_at (postfix_with (expr_at limit)) depth) (drop from (told tokens.now))) }
 {
     let (first, rest) = atom(alloc, limit, depth, tokens, from)?;
-    let (more, rest) = ands(alloc, limit, depth, turns(tokens, rest), tokens, rest)?;
-    let found = all_of(alloc, first, more)?;
-    Ok((found, rest))
+    let (found, rest) = ands(alloc, limit, depth, first, turns(tokens, rest), tokens, rest)?;
+    let all = all_of(from, found)?;
+    Ok((all, rest))
 }
 
 #[cycle(search)]
@@ -172,13 +174,15 @@ fn ors(
     alloc: Global,
     limit: usize,
     depth: usize,
+    first: Search,
     turns: usize,
     tokens: &[Token<'_>],
     from: usize,
 ) -> Result<(Seq<Search>, usize), Misread>
-    ensures { Gives (λ x. (x.0, drop x.1 (told tokens.now))) result (ors_with (postfix_with (expr_at limit)) (search_at (postfix_with (expr_at limit)) depth) turns (drop from (told tokens.now))) }
+    ensures { Gives (λ x. (x.0, drop x.1 (told tokens.now))) result (with_front (first ∷ []) (ors_with (postfix_with (expr_at limit)) (search_at (postfix_with (expr_at limit)) depth) turns (drop from (told tokens.now)))) }
 {
     let mut found = Seq::new(alloc);
+    found.push(first)?;
     let mut rest = from;
     for _turn in 0..turns {
         if begins(Kind::Keyword, "or", tokens, rest) {
@@ -203,9 +207,9 @@ fn disjunction(
     ensures { Gives (λ x. (x.0, drop x.1 (told tokens.now))) result (search_with (postfix_with (expr_at limit)) (search_at (postfix_with (expr_at limit)) depth) (drop from (told tokens.now))) }
 {
     let (first, rest) = conjunction(alloc, limit, depth, tokens, from)?;
-    let (more, rest) = ors(alloc, limit, depth, turns(tokens, rest), tokens, rest)?;
-    let found = any_of(alloc, first, more)?;
-    Ok((found, rest))
+    let (found, rest) = ors(alloc, limit, depth, first, turns(tokens, rest), tokens, rest)?;
+    let any = any_of(from, found)?;
+    Ok((any, rest))
 }
 
 /// A search, with brackets nested less deep than this.
@@ -241,32 +245,44 @@ pub fn sought(
     Ok((Some(found), rest))
 }
 
-/// All of these hold.
-fn all_of(alloc: Global, first: Search, more: Seq<Search>) -> Result<Search, NoMemory>
-    ensures { IfOk result (λ y. y ≡ all_of first more) }
+/// The one search that there is.
+fn only(left: usize, found: Seq<Search>) -> Result<Search, Misread>
+    ensures { Gives (λ x. x) result (only found) }
 {
-    if more.is_empty() {
-        return Ok(first);
+    let mut found = found.into_vec();
+    match found.pop() {
+        None => Err(Misread::Form(left)),
+        Some(search) => {
+            if !found.is_empty() {
+                return Err(Misread::Form(left));
+            }
+            Ok(search)
+        }
     }
-    let mut found = Seq::new(alloc);
-    found.push(first)?;
-    for search in more.into_vec() {
-        found.push(search)?;
+}
+
+fn are_many(found: &Seq<Search>) -> bool
+    ensures { result ≡ are_many found.now }
+{
+    matches!(found.as_slice(), [_, _, ..])
+}
+
+/// All of these hold.
+fn all_of(left: usize, found: Seq<Search>) -> Result<Search, Misread>
+    ensures { Gives (λ x. x) result (all_of found) }
+{
+    if are_many(&found) {
+        return Ok(Search::And(found));
     }
-    Ok(Search::And(found))
+    only(left, found)
 }
 
 /// One of these holds.
-fn any_of(alloc: Global, first: Search, more: Seq<Search>) -> Result<Search, NoMemory>
-    ensures { IfOk result (λ y. y ≡ any_of first more) }
+fn any_of(left: usize, found: Seq<Search>) -> Result<Search, Misread>
+    ensures { Gives (λ x. x) result (any_of found) }
 {
-    if more.is_empty() {
-        return Ok(first);
+    if are_many(&found) {
+        return Ok(Search::Or(found));
     }
-    let mut found = Seq::new(alloc);
-    found.push(first)?;
-    for search in more.into_vec() {
-        found.push(search)?;
-    }
-    Ok(Search::Or(found))
+    only(left, found)
 }

@@ -35,7 +35,7 @@ decreases-disjunction l = 16 * l.depth + 8
 
 -- what was read so far, and what reading the rest gives in the turns that are left
 abbrev pub invariant-ands-loop-turn : goal.invariant-ands-loop-turn
-invariant-ands-loop-turn l = with_front l.found (ands_with (postfix_with (expr_at l.limit)) (search_at (postfix_with (expr_at l.limit)) l.depth) (l.turns - l._turn) (drop l.rest (told l.tokens))) ≡ ands_with (postfix_with (expr_at l.limit)) (search_at (postfix_with (expr_at l.limit)) l.depth) l.turns (drop l.from (told l.tokens))
+invariant-ands-loop-turn l = with_front l.found (ands_with (postfix_with (expr_at l.limit)) (search_at (postfix_with (expr_at l.limit)) l.depth) (l.turns - l._turn) (drop l.rest (told l.tokens))) ≡ with_front (l.fn.first ∷ []) (ands_with (postfix_with (expr_at l.limit)) (search_at (postfix_with (expr_at l.limit)) l.depth) l.turns (drop l.from (told l.tokens)))
 
 abbrev pub invariant-ors-loop-turn : goal.invariant-ors-loop-turn
-invariant-ors-loop-turn l = with_front l.found (ors_with (postfix_with (expr_at l.limit)) (search_at (postfix_with (expr_at l.limit)) l.depth) (l.turns - l._turn) (drop l.rest (told l.tokens))) ≡ ors_with (postfix_with (expr_at l.limit)) (search_at (postfix_with (expr_at l.limit)) l.depth) l.turns (drop l.from (told l.tokens))
+invariant-ors-loop-turn l = with_front l.found (ors_with (postfix_with (expr_at l.limit)) (search_at (postfix_with (expr_at l.limit)) l.depth) (l.turns - l._turn) (drop l.rest (told l.tokens))) ≡ with_front (l.fn.first ∷ []) (ors_with (postfix_with (expr_at l.limit)) (search_at (postfix_with (expr_at l.limit)) l.depth) l.turns (drop l.from (told l.tokens)))
