@@ -65,9 +65,9 @@ module _ (e : Reader Expr) (E : Spells Expr) (finds : Finds e E) where
       (both_found (taken name_by) (behind kind.Sign (codes "=>") e) NameOf (λ v. Sign (codes "=>") then E v) name_found (behind_found e E finds kind.Sign (codes "=>")))
       (λ p. then_some (NameOf p.0) (Sign (codes "=>") then E p.1) (name_some p.0)) (λ p us s. (refl, s))
 
-  some_attrs : (as : List Attr) (us : List Lexeme) → ListedBy (codes ",") (AttrOf E) as us → MaybeListed (AttrOf E) as us
+  some_attrs : (qs : List Attr) (us : List Lexeme) → ListedBy (codes ",") (AttrOf E) qs us → MaybeListed (AttrOf E) qs us
   some_attrs [] us h = h
-  some_attrs (a ∷ as) us h = h
+  some_attrs (a ∷ qs) us h = h
 
   pub attrs_found : Finds (attrs_with e) (MaybeListed (AttrOf E))
   attrs_found ts x h = maps (some_attrs x.0) (listed_found (codes ",") begins_name (attr_with e) (AttrOf E) attr_found (length ts + 1) ts x h)
@@ -75,7 +75,7 @@ module _ (e : Reader Expr) (E : Spells Expr) (finds : Finds e E) where
   body_found : Finds (body_with e) (BodyOf E)
   body_found =
       made_found body_of (both e (behind kind.Sign (codes ":") (attrs_with e))) (λ p. E p.0 then (Sign (codes ":") then MaybeListed (AttrOf E) p.1)) (BodyOf E)
-      (both_found e (behind kind.Sign (codes ":") (attrs_with e)) E (λ as. Sign (codes ":") then MaybeListed (AttrOf E) as) finds (behind_found (attrs_with e) (MaybeListed (AttrOf E)) attrs_found kind.Sign (codes ":")))
+      (both_found e (behind kind.Sign (codes ":") (attrs_with e)) E (λ qs. Sign (codes ":") then MaybeListed (AttrOf E) qs) finds (behind_found (attrs_with e) (MaybeListed (AttrOf E)) attrs_found kind.Sign (codes ":")))
       (λ at p us s. s)
 
   some_bodies : (bs : List Body) (us : List Lexeme) → bs ≢ [] → ListedBy (codes ";") (BodyOf E) bs us → BodiesOf E bs us

@@ -2,3 +2,5 @@ pub mod Combining
 pub mod Names
 pub mod Steps
 pub mod Found
+pub mod Operands
+pub mod Blocks
