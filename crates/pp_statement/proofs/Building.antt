@@ -99,7 +99,7 @@ module _ {X : Type 0} (test : List Lexeme → Bool) (item : Reader X) (A : Spell
   longer [] n = absurd (n refl)
   longer (t ∷ us) n = omega arith
 
-  row_quiet : (xs : List X) (us rest : List Lexeme) → R xs us → F rest → G (us ++ rest)
+  pub row_quiet : (xs : List X) (us rest : List Lexeme) → R xs us → F rest → G (us ++ rest)
   row_quiet [] us rest r q = subst (λ u. G (u ++ rest)) (sym (none us r)) (ends rest q)
   row_quiet (x ∷ xs) us rest r q =
       let s = next x xs us r in

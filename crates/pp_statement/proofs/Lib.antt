@@ -4,3 +4,5 @@ pub mod Steps
 pub mod Found
 pub mod Operands
 pub mod Blocks
+pub mod Building
+pub mod ReadBodies
