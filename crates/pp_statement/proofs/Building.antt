@@ -36,11 +36,11 @@ mark_here k s us rest t =
     ∙ ap (λ v. cond (true && v) (Some (t.0, rest)) None) ((bytes_eq-Decides s s).1 refl)
 
 pub mark_not : (k : Kind) (s : List ℕ) (ts : List Lexeme) → ((x : ℕ × List Lexeme) → mark k s ts ≡ Some x → ⊥) → mark k s ts ≡ None
-mark_not k s ts no = by_mark (mark k s ts) refl
+mark_not k s ts never = by_mark (mark k s ts) refl
   where
     by_mark : (r : Found ℕ) → mark k s ts ≡ r → r ≡ None
     by_mark None p = refl
-    by_mark (Some x) p = absurd (no x p)
+    by_mark (Some x) p = absurd (never x p)
 
 -- where a token doesn't begin some tokens, no such token is found
 pub begins_not : (k : Kind) (s : List ℕ) (ts : List Lexeme) → begins k s ts ≡ false → mark k s ts ≡ None

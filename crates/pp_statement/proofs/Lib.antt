@@ -6,3 +6,5 @@ pub mod Operands
 pub mod Blocks
 pub mod Building
 pub mod ReadBodies
+pub mod ReadSearch
+pub mod ReadChains

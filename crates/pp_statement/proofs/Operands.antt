@@ -32,7 +32,7 @@ use Rattle.pp_statement.proofs.Combining.{Spells, both_found, behind_found, befo
 use Rattle.pp_statement.proofs.Names.{TypeName, variable_found, ref_found, function_found, type_found, arrow_found}
 use Rattle.pp_statement.proofs.Found.{front_nil, then_some, front_some, each_next, bodies_found, sought_found}
 
-abbrev some_of : (k : Kind) (s : List ℕ) → phrases.Some k s [] → ⊥
+abbrev pub some_of : (k : Kind) (s : List ℕ) → phrases.Some k s [] → ⊥
 some_of k s t = let no : [] ≡ record { kind = k; text = s; at = t.0 } ∷ [] = t.1 in cc
 
 module _ (e : Reader Expr) (E : Spells Expr) (finds : Finds e E) (refs : Finds (reference_with e) (ReferenceOf E)) (post : Finds (postfix_with e) (PostfixOf E)) (some : (y : Expr) → E y [] → ⊥) where

@@ -81,7 +81,7 @@ arrow_some arrow.After t = some_of kind.Sign (codes "<-") t
 arrow_some arrow.Follow t = some_of kind.Sign (codes "<~") t
 
 -- a token's place may be any
-pub placeless : (k : Kind) (s : List ℕ) (at : ℕ) (B : Phrase) (us : List Lexeme) → (phrases.Token k s at then B) us → (phrases.Some k s then B) us
+abbrev pub placeless : (k : Kind) (s : List ℕ) (at : ℕ) (B : Phrase) (us : List Lexeme) → (phrases.Token k s at then B) us → (phrases.Some k s then B) us
 placeless k s at B us h = record { front = h.front; back = h.back; first = (at, h.first); second = h.second; whole = h.whole }
 
 pub place_is : (k : Kind) (s : List ℕ) (at : ℕ) (B : Phrase) (us : List Lexeme) → (phrases.Token k s at then B) us → place_of us ≡ at
