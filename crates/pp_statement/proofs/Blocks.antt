@@ -50,7 +50,7 @@ to_left A B C us s = record {
 }
 
 -- one or more arms
-pub Arms : (Expr → List Lexeme → Type 0) → (Stmt → List Lexeme → Type 0) → List Arm → List Lexeme → Type 0
+unfoldable pub Arms : (Expr → List Lexeme → Type 0) → (Stmt → List Lexeme → Type 0) → List Arm → List Lexeme → Type 0
 Arms E S [] us = ⊥
 Arms E S (a ∷ qs) us = (ArmOf E S a then Each (Keyword (codes "elsif")) (ArmOf E S) qs) us
 

@@ -8,3 +8,6 @@ pub mod Building
 pub mod ReadBodies
 pub mod ReadSearch
 pub mod ReadChains
+pub mod Leads
+pub mod ReadBlocks
+pub mod Answered

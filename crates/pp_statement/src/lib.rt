@@ -4,11 +4,18 @@
 
 mod chain;
 mod expressions;
+mod laws;
 mod marks;
 mod operand;
+mod parse;
 mod resource;
 mod search;
 mod statement;
+
+pub use laws::{
+    attributes_are_read, blocks_are_read, one_statement, statements_are_read, statements_begin,
+};
+pub use parse::{parse_attributes, parse_block, parse_statement};
 
 #[cfg(test)]
 mod tests;

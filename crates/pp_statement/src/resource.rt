@@ -3,7 +3,7 @@ ghost use Rattle.pp_syntax.specs.Lexing.{told};
 ghost use Rattle.pp_expression.specs.Reading.{Gives, expr_at};
 ghost use Rattle.pp_statement.specs.Combining.{listed, in_braces};
 ghost use Rattle.pp_statement.specs.Marks.{begins_name};
-ghost use Rattle.pp_statement.specs.Reading.{attr_with, attrs_with, body_with, bodies_with, unclosed};
+ghost use Rattle.pp_statement.specs.Reading.{attr_with, attrs_with, body_with, bodies_with, unclosed, attributes_with};
 
 use crate::expressions::expr;
 use crate::marks::{begins_name, name, unclosed};
@@ -132,6 +132,21 @@ pub fn braced_bodies(
 {
     let (_, rest) = expect(Kind::Sign, "{", tokens, from)?;
     let (found, rest) = bodies(alloc, limit, tokens, rest)?;
+    let (_, rest) = expect(Kind::Sign, "}", tokens, rest)?;
+    Ok((found, rest))
+}
+
+/// Attributes in braces.
+pub fn attributes(
+    alloc: Global,
+    limit: usize,
+    tokens: &[Token<'_>],
+    from: usize,
+) -> Result<(Seq<Attr>, usize), Misread>
+    ensures { Gives (λ x. (x.0, drop x.1 (told tokens.now))) result (attributes_with (expr_at limit) (drop from (told tokens.now))) }
+{
+    let (_, rest) = expect(Kind::Sign, "{", tokens, from)?;
+    let (found, rest) = attrs(alloc, limit, tokens, rest)?;
     let (_, rest) = expect(Kind::Sign, "}", tokens, rest)?;
     Ok((found, rest))
 }
