@@ -79,12 +79,7 @@ fn is_named(operand: &Operand) -> bool
 }
 
 /// One side alone is a resource or a collector.
-fn chain_of(
-    left: usize,
-    at: u32,
-    sides: Seq<Operand>,
-    arrows: Seq<Arrow>,
-) -> Result<Stmt, Misread>
+fn chain_of(left: usize, at: u32, sides: Seq<Operand>, arrows: Seq<Arrow>) -> Result<Stmt, Misread>
     ensures { Gives (λ x. x) result (chain_of at (sides, arrows)) }
 {
     match sides.as_slice() {

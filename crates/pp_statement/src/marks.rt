@@ -54,11 +54,7 @@ pub fn begins_name(tokens: &[Token<'_>], from: usize) -> bool
 }
 
 /// An attribute's name, and the index behind it.
-pub fn name(
-    alloc: Global,
-    tokens: &[Token<'_>],
-    from: usize,
-) -> Result<(Text, usize), Misread>
+pub fn name(alloc: Global, tokens: &[Token<'_>], from: usize) -> Result<(Text, usize), Misread>
     ensures { Gives (λ x. (x.0, drop x.1 (told tokens.now))) result (taken name_by (drop from (told tokens.now))) }
 {
     match name_at(tokens, from) {
@@ -88,11 +84,7 @@ fn ref_at<'a, 't>(tokens: &'a [Token<'t>], from: usize) -> Option<(&'t str, usiz
 }
 
 /// The name of a kind of resources as references have it.
-pub fn ref_name(
-    alloc: Global,
-    tokens: &[Token<'_>],
-    from: usize,
-) -> Result<(Text, usize), Misread>
+pub fn ref_name(alloc: Global, tokens: &[Token<'_>], from: usize) -> Result<(Text, usize), Misread>
     ensures { Gives (λ x. (x.0, drop x.1 (told tokens.now))) result (taken ref_by (drop from (told tokens.now))) }
 {
     match ref_at(tokens, from) {
@@ -124,11 +116,7 @@ fn plain_variable(alloc: Global, left: usize, text: &str) -> Result<Text, Misrea
 }
 
 /// A variable's name, without `$`.
-pub fn variable(
-    alloc: Global,
-    tokens: &[Token<'_>],
-    from: usize,
-) -> Result<(Text, usize), Misread>
+pub fn variable(alloc: Global, tokens: &[Token<'_>], from: usize) -> Result<(Text, usize), Misread>
     ensures { Gives (λ x. (x.0, drop x.1 (told tokens.now))) result (taken variable_by (drop from (told tokens.now))) }
 {
     match front_of(tokens, from) {
@@ -207,11 +195,7 @@ fn type_at<'a, 't>(tokens: &'a [Token<'t>], from: usize) -> Option<(&'t str, usi
 }
 
 /// A resource's type.
-pub fn type_name(
-    alloc: Global,
-    tokens: &[Token<'_>],
-    from: usize,
-) -> Result<(Text, usize), Misread>
+pub fn type_name(alloc: Global, tokens: &[Token<'_>], from: usize) -> Result<(Text, usize), Misread>
     ensures { Gives (λ x. (x.0, drop x.1 (told tokens.now))) result (taken type_by (drop from (told tokens.now))) }
 {
     match type_at(tokens, from) {

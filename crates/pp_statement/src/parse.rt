@@ -8,8 +8,7 @@ ghost use Rattle.pp_expression.specs.Reading.{Gives, expr_at};
 ghost use Rattle.pp_statement.specs.Parsed.{NothingFollows};
 ghost use Rattle.pp_statement.specs.Reading.{attributes_with, block_with, stmt_at};
 
-use crate::resource;
-use crate::statement;
+use crate::{resource, statement};
 use pp_expression::Misread;
 use pp_syntax::{Attr, Stmt, Token};
 use rh_base::Seq;

@@ -150,7 +150,15 @@ fn conjunction(
     ensures { Gives (λ x. (x.0, drop x.1 (told tokens.now))) result (conjunction_with (postfix_with (expr_at limit)) (search_at (postfix_with (expr_at limit)) depth) (drop from (told tokens.now))) }
 {
     let (first, rest) = atom(alloc, limit, depth, tokens, from)?;
-    let (found, rest) = ands(alloc, limit, depth, first, turns(tokens, rest), tokens, rest)?;
+    let (found, rest) = ands(
+        alloc,
+        limit,
+        depth,
+        first,
+        turns(tokens, rest),
+        tokens,
+        rest,
+    )?;
     let all = all_of(from, found)?;
     Ok((all, rest))
 }
@@ -207,7 +215,15 @@ fn disjunction(
     ensures { Gives (λ x. (x.0, drop x.1 (told tokens.now))) result (search_with (postfix_with (expr_at limit)) (search_at (postfix_with (expr_at limit)) depth) (drop from (told tokens.now))) }
 {
     let (first, rest) = conjunction(alloc, limit, depth, tokens, from)?;
-    let (found, rest) = ors(alloc, limit, depth, first, turns(tokens, rest), tokens, rest)?;
+    let (found, rest) = ors(
+        alloc,
+        limit,
+        depth,
+        first,
+        turns(tokens, rest),
+        tokens,
+        rest,
+    )?;
     let any = any_of(from, found)?;
     Ok((any, rest))
 }

@@ -217,7 +217,15 @@ fn arms(
     ensures { Gives (λ x. (x.0, drop x.1 (told tokens.now))) result (arms_with (expr_at limit) (stmt_at (expr_at limit) depth) (drop from (told tokens.now))) }
 {
     let (first, rest) = arm(alloc, limit, depth, tokens, from)?;
-    arms_behind(alloc, limit, depth, first, turns(tokens, rest), tokens, rest)
+    arms_behind(
+        alloc,
+        limit,
+        depth,
+        first,
+        turns(tokens, rest),
+        tokens,
+        rest,
+    )
 }
 
 #[cycle(statement)]
