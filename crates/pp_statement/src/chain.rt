@@ -6,10 +6,10 @@ ghost use Rattle.pp_statement.specs.Combining.{behind, many};
 ghost use Rattle.pp_statement.specs.Marks.{begins_arrow};
 ghost use Rattle.pp_statement.specs.Reading.{link_with, with_links, sides_with, is_named, chain_of, chain_with, assign_with, bracketed_with, more_args, bare_with, args_with, call_with};
 
-use crate::expressions::{expr, separator};
+use crate::expressions::expr;
 use crate::marks::{arrow_at, begins, begins_arrow, begins_bracket, function_at, variable};
 use crate::operand::operand;
-use pp_expression::{Misread, expect, first_at, mark, turns};
+use pp_expression::{Misread, expect, first_at, mark, separator, turns};
 use pp_syntax::{Arrow, Expr, Kind, Operand, Stmt, Token};
 use rh_base::Seq;
 use std::alloc::Global;

@@ -1,8 +1,8 @@
 ghost use Rattle.std.specs.Prelude.{◌≡◌, drop};
 ghost use Rattle.pp_syntax.specs.Lexing.{told};
-ghost use Rattle.pp_expression.specs.Reading.{Gives, expr_at, postfix_with, reference_with, option_with, separator};
+ghost use Rattle.pp_expression.specs.Reading.{Gives, expr_at, postfix_with, reference_with, option_with};
 
-use pp_expression::{Misread, expect, mark, parse_expression, parse_postfix, parse_reference};
+use pp_expression::{Misread, mark, parse_expression, parse_postfix, parse_reference};
 use pp_syntax::{Expr, Kind, Token};
 use std::alloc::Global;
 
@@ -55,18 +55,4 @@ pub fn option(
     }
     let (e, rest) = expr(alloc, limit, tokens, from)?;
     Ok((Some(e), rest))
-}
-
-/// Behind an item of a list: whether the list ends here.
-pub fn separator(close: &str, tokens: &[Token<'_>], from: usize) -> Result<(bool, usize), Misread>
-    ensures { Gives (λ x. (x.0, drop x.1 (told tokens.now))) result (separator close.now (drop from (told tokens.now))) }
-{
-    if let Some((_, rest)) = mark(Kind::Sign, close, tokens, from) {
-        return Ok((true, rest));
-    }
-    let (_, behind) = expect(Kind::Sign, ",", tokens, from)?;
-    if let Some((_, rest)) = mark(Kind::Sign, close, tokens, behind) {
-        return Ok((true, rest));
-    }
-    Ok((false, behind))
 }

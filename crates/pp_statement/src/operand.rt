@@ -5,11 +5,11 @@ ghost use Rattle.pp_expression.specs.Reading.{Gives, expr_at, reference_with, po
 ghost use Rattle.pp_statement.specs.Combining.{behind, before};
 ghost use Rattle.pp_statement.specs.Reading.{declared_with, resource_with, hidden_with, class_with, sought_with, collector_with, reference_operand, references_in, references_with, collected_with, operand_with};
 
-use crate::expressions::{reference, separator};
+use crate::expressions::reference;
 use crate::marks::{begins, ref_name, type_name};
 use crate::resource::braced_bodies;
 use crate::search::sought;
-use pp_expression::{Misread, expect, first_at, front_of, text_of, turns};
+use pp_expression::{Misread, expect, first_at, front_of, separator, text_of, turns};
 use pp_syntax::{Body, Expr, Kind, Operand, Search, Token};
 use rh_base::{Seq, Text};
 use std::alloc::Global;

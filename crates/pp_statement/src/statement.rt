@@ -6,9 +6,9 @@ ghost use Rattle.pp_statement.specs.Combining.{behind, many, in_braces};
 ghost use Rattle.pp_statement.specs.Reading.{unclosed, statements_in, block_with, else_with, arm_with, more_arms, arms_with, if_with, unless_with, case_arm_with, case_arms_in, case_with, called_with, keyed_with, stmt_with, stmt_at, chain_with};
 
 use crate::chain::{assign, call, chain};
-use crate::expressions::{expr, option, separator};
+use crate::expressions::{expr, option};
 use crate::marks::{begins, function_at, unclosed};
-use pp_expression::{Misread, expect, first_at, front_of, mark, turns};
+use pp_expression::{Misread, expect, first_at, front_of, mark, separator, turns};
 use pp_syntax::{Arm, CaseArm, Expr, Kind, Stmt, Token};
 use rh_base::Seq;
 use std::alloc::Global;
