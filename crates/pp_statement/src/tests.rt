@@ -14,136 +14,128 @@ fn tokens_of(alloc: Global, text: &str) -> Result<Vec<Token<'_>>, Fail> {
     }
 }
 
-fn side(alloc: Global, operand: &Operand) -> Result<String, Fail> {
-    Ok(match operand {
-        Operand::Declare {
-            at,
-            hidden,
-            kind,
-            bodies,
-        } => { format!(in alloc; "{} {} {} of {}", at, hidden, kind.as_str(), bodies.len())? }
-        Operand::Collect { at, kind, search } => {
-            format!(in alloc; "{} all {} {}", at, kind.as_str(), search.is_some())?
-        }
-        Operand::Named(found) => format!(in alloc; "{} named", found.len())?,
-    })
-}
-
-fn chain(alloc: Global, sides: &[Operand]) -> Result<String, Fail> {
-    let mut line = String::new(alloc);
-    for operand in sides {
-        line.push_str("[")?;
-        line.push_str(side(alloc, operand)?.as_str())?;
-        line.push_str("]")?;
+/// What a statement is, the number of its parts, and that of what stands in its first part or in
+/// its `else`.
+fn shape(stmt: &Stmt) -> (&'static str, usize, usize) {
+    match stmt {
+        Stmt::Chain { sides, .. } => ("chain", sides.len(), in_first(sides.as_slice())),
+        Stmt::Assign { .. } => ("assign", 1, 0),
+        Stmt::Call { args, .. } => ("call", args.len(), 0),
+        Stmt::If { arms, other, .. } => ("if", arms.len(), other.len()),
+        Stmt::Unless { body, other, .. } => ("unless", body.len(), other.len()),
+        Stmt::Case { arms, .. } => ("case", arms.len(), 0),
     }
-    Ok(line)
 }
 
-fn shape(alloc: Global, stmt: &Stmt) -> Result<String, Fail> {
-    Ok(match stmt {
-        Stmt::Chain { at, sides, arrows } => {
-            let line = chain(alloc, sides.as_slice())?;
-            format!(in alloc; "{} {} {:?}", at, line.as_str(), arrows.as_slice())?
-        }
-        Stmt::Assign { at, name, value } => {
-            format!(in alloc; "{} {} = {}", at, name.as_str(), value.at)?
-        }
-        Stmt::Call { at, func, args } => format!(in alloc; "{} {:?} {}", at, func, args.len())?,
-        Stmt::If { at, arms, other } => {
-            format!(in alloc; "{} if {} else {}", at, arms.len(), other.len())?
-        }
-        Stmt::Unless {
-            at,
-            test,
-            body,
-            other,
-        } => {
-            format!(in alloc;
-                "{} unless {} {} else {}",
-                at,
-                test.at,
-                body.len(),
-                other.len()
-            )?
-        }
-        Stmt::Case { at, value, arms } => {
-            format!(in alloc; "{} case {} {}", at, value.at, arms.len())?
-        }
-    })
+fn in_first(sides: &[Operand]) -> usize {
+    match sides {
+        [Operand::Declare { bodies, .. }, ..] => bodies.len(),
+        [Operand::Named(found), ..] => found.len(),
+        _ => 0,
+    }
 }
 
 /// The shape of the statement, and how many tokens it has; or that there is none.
-fn shown(alloc: Global, text: &str) -> Result<String, Fail> {
+fn shown(alloc: Global, text: &str) -> Result<(&'static str, usize, usize, usize), Fail> {
     let tokens = tokens_of(alloc, text)?;
     match parse_statement(alloc, 9, &tokens, 0) {
         Ok((stmt, behind)) => {
-            let line = shape(alloc, &stmt)?;
-            Ok(format!(in alloc; "{}: {}", behind, line.as_str())?)
+            let (what, parts, others) = shape(&stmt);
+            Ok((what, parts, others, behind))
         }
-        Err(Misread::Form(_)) => Ok(format!(in alloc; "none")?),
+        Err(Misread::Form(_)) => Ok(("none", 0, 0, 0)),
         Err(Misread::Memory(_)) => Err(Fail::from("memory")),
     }
 }
 
 #[test]
-fn statements_and_what_is_none(rt: HostRuntime) -> Result<(), Fail> {
-    let rows: [(&str, &str); 34] = [
-        ("file { '/a': }", "5: 0 [0 false file of 1] []"),
+fn statements_have_their_parts(rt: HostRuntime) -> Result<(), Fail> {
+    let rows: [(&str, &str, usize, usize, usize); 19] = [
+        ("file { '/a': }", "chain", 1, 1, 5),
         (
             "file { '/a': mode => '0644', if => 1, ; '/b': ; }",
-            "17: 0 [0 false file of 2] []",
+            "chain",
+            1,
+            2,
+            17,
         ),
-        ("@user { 'u': }", "6: 0 [0 true user of 1] []"),
-        ("class { 'ntp': }", "5: 0 [0 false class of 1] []"),
-        ("::class { 'ntp': }", "5: 0 [0 false ::class of 1] []"),
-        ("File <| |>", "3: 0 [0 all File false] []"),
+        ("@user { 'u': }", "chain", 1, 1, 6),
+        ("class { 'ntp': }", "chain", 1, 1, 5),
+        ("::class { 'ntp': }", "chain", 1, 1, 5),
+        ("File <| |>", "chain", 1, 0, 3),
         (
             "User <| (a == 1 or b != 2) and c == $x[0] |>",
-            "19: 0 [0 all User true] []",
+            "chain",
+            1,
+            0,
+            19,
         ),
         (
             "File['a'] -> File['b', 'c'] ~> [File['d'], File['e'],] <- file { 'f': } <~ File['g']",
-            "35: 0 [1 named][1 named][2 named][58 false file of 1][1 named] [Before, Notify, After, Follow]",
+            "chain",
+            5,
+            1,
+            35,
         ),
-        ("$x = 1 + 2 $y = 3", "5: 0 x = 5"),
-        ("notice 'a', $b", "4: 0 Notice 2"),
-        ("notice('a', $b,)", "7: 0 Notice 2"),
-        ("warning ('a') -1", "4: 0 Warning 1"),
-        ("include a include b", "2: 0 Include 1"),
+        ("$x = 1 + 2 $y = 3", "assign", 1, 0, 5),
+        ("notice 'a', $b", "call", 2, 0, 4),
+        ("notice('a', $b,)", "call", 2, 0, 7),
+        ("warning ('a') -1", "call", 1, 0, 4),
+        ("include a include b", "call", 1, 0, 2),
         (
             "if $x { include a } elsif $y { } elsif $z { } else { fail 'b' fail 'c' }",
-            "21: 0 if 3 else 2",
+            "if",
+            3,
+            2,
+            21,
         ),
-        ("if $x { } else { }", "7: 0 if 1 else 0"),
-        ("if $x { } include b", "4: 0 if 1 else 0"),
+        ("if $x { } else { }", "if", 1, 0, 7),
+        ("if $x { } include b", "if", 1, 0, 4),
         (
             "unless $x { include a } else { include b }",
-            "11: 0 unless 7 1 else 1",
+            "unless",
+            1,
+            1,
+            11,
         ),
         (
             "case $x { 1, 'a': { } default: { include a } }",
-            "16: 0 case 5 2",
+            "case",
+            2,
+            0,
+            16,
         ),
-        ("case $x { }", "4: 0 case 5 0"),
-        ("File['a']", "none"),
-        ("[File['a']]", "none"),
-        ("@class { 'a': }", "none"),
-        ("@include { 'a': }", "none"),
-        ("class a { }", "none"),
-        ("file { }", "none"),
-        ("file { 'a': mode => 1 mode => 2 }", "none"),
-        ("file { 'a': a::b => 1 }", "none"),
-        ("File <| a == 1 and |>", "none"),
-        ("$a::b = 1", "none"),
-        ("notice 'a',", "none"),
-        ("notice()", "none"),
-        ("notice { 'a' => 1 }", "none"),
-        ("else { }", "none"),
-        ("case $x { : { } }", "none"),
+        ("case $x { }", "case", 0, 0, 4),
     ];
-    for (text, shape) in rows {
-        let line = shown(rt.alloc(), text)?;
-        assert_eq!(rt; line.as_str(), shape);
+    for (text, what, parts, others, behind) in rows {
+        let found = shown(rt.alloc(), text)?;
+        assert_eq!(rt; found, (what, parts, others, behind));
+    }
+    Ok(())
+}
+
+#[test]
+fn other_tokens_begin_no_statement(rt: HostRuntime) -> Result<(), Fail> {
+    let rows: [&str; 15] = [
+        "File['a']",
+        "[File['a']]",
+        "@class { 'a': }",
+        "@include { 'a': }",
+        "class a { }",
+        "file { }",
+        "file { 'a': mode => 1 mode => 2 }",
+        "file { 'a': a::b => 1 }",
+        "File <| a == 1 and |>",
+        "$a::b = 1",
+        "notice 'a',",
+        "notice()",
+        "notice { 'a' => 1 }",
+        "else { }",
+        "case $x { : { } }",
+    ];
+    for text in rows {
+        let found = shown(rt.alloc(), text)?;
+        assert_eq!(rt; found, ("none", 0, 0, 0));
     }
     Ok(())
 }
