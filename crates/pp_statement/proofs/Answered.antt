@@ -1,6 +1,5 @@
 -- From reading functions to what parsing answers.
-use Rattle.std.proofs.Common.{◌≡◌, ℕ, List, [], ◌++◌, drop, refl, Some, None, sym, ap, ◌∙◌, arith}
-use Rattle.std.proofs.lemmas.List.{append-nil}
+use Rattle.std.proofs.Common.{◌≡◌, ℕ, List, [], drop, refl, Some, None, sym, ap, ◌∙◌}
 use Rattle.std.specs.Prelude.{Result, Ok, Err}
 use Rattle.pp_syntax.specs.declared.tree.Attr.{Attr}
 use Rattle.pp_syntax.specs.declared.tree.Expr.{Expr}
@@ -12,7 +11,7 @@ use Rattle.pp_syntax.specs.Statements.{AttrOf, InBraces, BlockOf, IsStmtAt}
 use Rattle.pp_expression.specs.declared.misread.Misread.{Misread}
 use Rattle.pp_expression.specs.declared.misread.Misread.TheVariants as misread
 use Rattle.pp_expression.specs.Marks.{Found}
-use Rattle.pp_expression.specs.Parsed.{NumbersFit, Anything, IsSpelled, IsParsed}
+use Rattle.pp_expression.specs.Parsed.{NumbersFit, IsSpelled, IsParsed}
 use Rattle.pp_expression.specs.Reading.{Gives, expr_at, reference_with, postfix_with}
 use Rattle.pp_expression.proofs.Finding.{Finds}
 use Rattle.pp_expression.proofs.Solid.{begun_some, expr_begun}

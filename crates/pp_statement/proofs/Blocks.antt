@@ -1,5 +1,5 @@
 -- What is read is spelled: blocks, and statements with blocks.
-use Rattle.std.proofs.Common.{◌≡◌, ◌≢◌, inl, inr, ℕ, zero, suc, ◌+◌, Bool, true, false, cond, List, [], ◌∷◌, ◌++◌, length, Option, Some, None, refl, sym, ap, subst, ◌∙◌, append_assoc}
+use Rattle.std.proofs.Common.{◌≡◌, inl, inr, ℕ, zero, suc, ◌+◌, Bool, true, false, cond, List, [], ◌∷◌, ◌++◌, length, Some, None, refl, sym, ap, subst, ◌∙◌, append_assoc}
 use Rattle.std.specs.Prelude.{codes}
 use Rattle.std.specs.Str.{bytes_eq}
 use Rattle.pp_syntax.specs.declared.token.Kind.{Kind}
@@ -7,25 +7,22 @@ use Rattle.pp_syntax.specs.declared.token.Kind.TheVariants as kind
 use Rattle.pp_syntax.specs.declared.tree.Expr.{Expr}
 use Rattle.pp_syntax.specs.declared.tree.Func.{Func}
 use Rattle.pp_syntax.specs.declared.tree.Stmt.{Stmt}
-use Rattle.pp_syntax.specs.declared.tree.Stmt.TheVariants as stmt
 use Rattle.pp_syntax.specs.declared.tree.Arm.{Arm}
 use Rattle.pp_syntax.specs.declared.tree.CaseArm.{CaseArm}
 use Rattle.pp_syntax.specs.Tokens.{Lexeme}
-use Rattle.pp_syntax.specs.Phrases as phrases
-use Rattle.pp_syntax.specs.Phrases.{◌then◌, Nothing, Maybe, Sign, Keyword, Each, Listed, place_of}
+use Rattle.pp_syntax.specs.Phrases.{◌then◌, Sign, Keyword, Each, Listed, place_of}
 use Rattle.pp_syntax.specs.Derivation.{OptionOf, PostfixOf, ReferenceOf}
 use Rattle.pp_syntax.specs.Statements.{InBraces, Statements, BlockOf, ElseOf, ArmOf, CaseArmOf, CaseArms, StmtOf, IsStmtAt}
 use Rattle.pp_syntax.specs.Statements as grammar
-use Rattle.pp_expression.specs.Marks.{Found, front_of, mark}
-use Rattle.pp_expression.specs.Values.{◌>>=◌}
+use Rattle.pp_expression.specs.Marks.{Found}
 use Rattle.pp_expression.specs.Parsed.{Begins}
 use Rattle.pp_expression.specs.Reading.{with_front, option_with, reference_with, postfix_with}
 use Rattle.pp_expression.proofs.Tokens.{bind_some, joins, maps}
-use Rattle.pp_expression.proofs.Finding.{Finds, nothing, items_found}
+use Rattle.pp_expression.proofs.Finding.{Finds, items_found}
 use Rattle.pp_expression.proofs.Found.{option_found}
-use Rattle.pp_statement.specs.Combining.{Reader, both, behind, in_braces, begins, many}
+use Rattle.pp_statement.specs.Combining.{Reader, both, behind, in_braces, begins}
 use Rattle.pp_statement.specs.Marks.{taken, function_by}
-use Rattle.pp_statement.specs.Reading.{unclosed, statements_in, block_with, else_with, arm_of, arm_with, more_arms, arms_with, if_of, if_with, unless_of, unless_with, options_with, case_arm_of, case_arm_with, case_arms_in, case_of, case_with, chain_with, called_or, called_with, keyed_with, stmt_by, stmt_with, stmt_at}
+use Rattle.pp_statement.specs.Reading.{unclosed, statements_in, block_with, else_with, arm_of, arm_with, more_arms, arms_with, if_of, if_with, unless_of, unless_with, options_with, case_arm_of, case_arm_with, case_arms_in, case_of, case_with, chain_with, called_or, keyed_with, stmt_by, stmt_with, stmt_at}
 use Rattle.pp_statement.proofs.Combining.{Spells, both_found, behind_found, in_braces_found, made_found, placed_found, first_token, some_token, many_found}
 use Rattle.pp_statement.proofs.Found.{front_some, each_next}
 use Rattle.pp_statement.proofs.Operands.{chain_found, assign_found, call_found}

@@ -1,5 +1,5 @@
 -- What is spelled is read: the ways in which readers are built.
-use Rattle.std.proofs.Common.{◌≡◌, ◌≢◌, inl, inr, ℕ, zero, suc, ◌+◌, ◌<◌, ◌≤◌, ◌&&◌, Bool, true, false, cond, List, [], ◌∷◌, ◌++◌, length, Option, Some, None, refl, sym, ap, subst, ◌∙◌, append_assoc, length-append, arith, eq-eqb}
+use Rattle.std.proofs.Common.{◌≡◌, ◌≢◌, inl, inr, ℕ, zero, suc, ◌<◌, ◌&&◌, Bool, true, false, cond, List, [], ◌∷◌, ◌++◌, length, Option, Some, None, refl, sym, ap, subst, ◌∙◌, append_assoc, length-append, arith, eq-eqb}
 use Rattle.std.specs.Prelude.{codes}
 use Rattle.std.specs.Str.{bytes_eq}
 use Rattle.std.proofs.lemmas.List.{append-nil}
@@ -14,7 +14,6 @@ use Rattle.pp_expression.specs.Marks.{Found, first_at, mark, rank}
 use Rattle.pp_expression.specs.Values.{◌>>=◌}
 use Rattle.pp_expression.specs.Reading.{with_first}
 use Rattle.pp_expression.proofs.Reading.{Fit, fits_first, fits_second, first_place}
-use Rattle.pp_expression.proofs.Tokens.{mark_found}
 use Rattle.pp_statement.specs.Combining.{Reader, both, made, behind, before, in_braces, begins, is_found, many, after_item, listed}
 use Rattle.pp_statement.specs.Marks.{taken}
 use Rattle.pp_statement.proofs.Combining.{Spells, ListedBy}

@@ -73,7 +73,7 @@ first_token k s B us p =
 
 pub some_token : (k : Kind) (s : List ℕ) (B : List Lexeme → Type 0) → (phrases.Some k s then B) [] → ⊥
 some_token k s B p =
-    let e : [] ≡ record { kind = k; text = s; at = p.first.0 } ∷ p.back = p.whole ∙ ap (λ r. r ++ p.back) p.first.1 in
+    let e : ◌≡◌ {A = List Lexeme} [] (record { kind = k; text = s; at = p.first.0 } ∷ p.back) = p.whole ∙ ap (λ r. r ++ p.back) p.first.1 in
     cc
 
 module _ {X : Type 0} (h : Kind → List ℕ → Option X) (A : Spells X) where

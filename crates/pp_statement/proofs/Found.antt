@@ -1,7 +1,6 @@
 -- What is read is spelled: attributes, bodies and searches.
-use Rattle.std.proofs.Common.{◌≡◌, ◌≢◌, inl, inr, ℕ, zero, suc, ◌+◌, Bool, true, false, not, cond, List, [], ◌∷◌, ◌++◌, length, Option, Some, None, refl, sym, ap, subst, ◌∙◌, append_assoc}
+use Rattle.std.proofs.Common.{◌≡◌, ◌≢◌, ℕ, zero, suc, ◌+◌, Bool, true, false, cond, List, [], ◌∷◌, ◌++◌, length, Option, Some, None, refl, sym, ap, subst, ◌∙◌, append_assoc}
 use Rattle.std.specs.Prelude.{codes}
-use Rattle.pp_syntax.specs.declared.token.Kind.{Kind}
 use Rattle.pp_syntax.specs.declared.token.Kind.TheVariants as kind
 use Rattle.pp_syntax.specs.declared.tree.Expr.{Expr}
 use Rattle.pp_syntax.specs.declared.tree.Attr.{Attr}
@@ -9,8 +8,7 @@ use Rattle.pp_syntax.specs.declared.tree.Body.{Body}
 use Rattle.pp_syntax.specs.declared.tree.Search.{Search}
 use Rattle.pp_syntax.specs.declared.tree.Search.TheVariants as search
 use Rattle.pp_syntax.specs.Tokens.{Lexeme}
-use Rattle.pp_syntax.specs.Phrases as phrases
-use Rattle.pp_syntax.specs.Phrases.{◌then◌, Nothing, Maybe, Sign, Keyword, Each, Separated, MaybeListed, place_of}
+use Rattle.pp_syntax.specs.Phrases.{◌then◌, Sign, Keyword, Each, MaybeListed}
 use Rattle.pp_syntax.specs.Derivation.{PostfixOf}
 use Rattle.pp_syntax.specs.Statements.{NameOf, word, keyword, AttrOf, BodyOf, BodiesOf, AtomOf, ConjunctionOf, SearchOf, IsSearchAt, IsSearch, MaybeSearch}
 use Rattle.pp_syntax.specs.Statements as grammar
@@ -20,15 +18,15 @@ use Rattle.pp_expression.specs.Parsed.{Begins}
 use Rattle.pp_expression.specs.Reading.{with_front}
 use Rattle.pp_expression.proofs.Tokens.{bind_some, joins, maps, marked}
 use Rattle.pp_expression.proofs.Finding.{Finds}
-use Rattle.pp_statement.specs.Combining.{Reader, both, made, behind, before, in_braces, begins, many, listed}
+use Rattle.pp_statement.specs.Combining.{Reader, both, behind, begins, listed}
 use Rattle.pp_statement.specs.Marks.{taken, name_by, begins_name}
-use Rattle.pp_statement.specs.Reading.{attr_of, attr_with, attrs_with, body_of, body_with, unclosed, bodies_with, equal_with, differ_with, compared_or, compared_with, comparison_with, atom_or, atom_with, only, are_many, all_of, ands_with, conjunction_with, any_of, ors_with, search_with, search_at, sought_with}
+use Rattle.pp_statement.specs.Reading.{attr_of, attr_with, attrs_with, body_of, body_with, unclosed, bodies_with, compared_or, compared_with, atom_or, atom_with, all_of, ands_with, conjunction_with, any_of, ors_with, search_with, search_at, sought_with}
 use Rattle.pp_statement.proofs.Combining.{Spells, both_found, behind_found, before_found, made_found, placed_found, many_found, ListedBy, listed_found, listed_some}
 use Rattle.pp_statement.proofs.Names.{name_found}
 
 pub name_some : (x : List ℕ) → NameOf x [] → ⊥
-name_some x (word t c) = let no : [] ≡ record { kind = kind.Word; text = x; at = t.0 } ∷ [] = t.1 in cc
-name_some x (keyword t) = let no : [] ≡ record { kind = kind.Keyword; text = x; at = t.0 } ∷ [] = t.1 in cc
+name_some x (word t c) = let no : ◌≡◌ {A = List Lexeme} [] (record { kind = kind.Word; text = x; at = t.0 } ∷ []) = t.1 in cc
+name_some x (keyword t) = let no : ◌≡◌ {A = List Lexeme} [] (record { kind = kind.Keyword; text = x; at = t.0 } ∷ []) = t.1 in cc
 
 pub front_nil : (us vs : List Lexeme) → [] ≡ us ++ vs → us ≡ []
 front_nil [] vs e = refl

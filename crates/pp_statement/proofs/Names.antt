@@ -1,5 +1,5 @@
 -- What is read is spelled: names, functions, types and arrows, each of one token.
-use Rattle.std.proofs.Common.{◌≡◌, ◌≢◌, ◌⊎◌, inl, inr, ℕ, ◌==◌, ◌||◌, Bool, true, false, cond, List, [], ◌∷◌, ◌++◌, Option, Some, None, refl, sym, ap, subst, ◌∙◌}
+use Rattle.std.proofs.Common.{◌≡◌, ℕ, ◌==◌, ◌||◌, Bool, true, false, cond, List, [], ◌∷◌, Option, Some, None, refl, sym, ap, subst, ◌∙◌}
 use Rattle.std.specs.Prelude.{codes}
 use Rattle.std.specs.Str.{bytes_eq}
 use Rattle.std.proofs.lemmas.Bool.{eqb-true}
@@ -13,10 +13,9 @@ use Rattle.pp_syntax.specs.declared.tree.Func.TheVariants as func
 use Rattle.pp_syntax.specs.Tokens.{Lexeme, is_among}
 use Rattle.pp_syntax.specs.Phrases as phrases
 use Rattle.pp_syntax.specs.Statements.{has_colon, NameOf, word, keyword, VariableOf, word_of, functions, ArrowOf}
-use Rattle.pp_expression.specs.Values.{◌>>=◌, behind_byte}
+use Rattle.pp_expression.specs.Values.{behind_byte}
 use Rattle.pp_expression.proofs.Tokens.{bind_some}
 use Rattle.pp_expression.proofs.Finding.{Finds}
-use Rattle.pp_statement.specs.Combining.{Reader}
 use Rattle.pp_statement.specs.Marks.{taken, plain_name, name_by, variable_by, ref_by, function_of, function_by, unless_function, type_by, arrow_of, arrow_by}
 use Rattle.pp_statement.proofs.Combining.{taken_found}
 

@@ -1,5 +1,5 @@
 -- What is read is spelled: operands, chains, assignments and calls.
-use Rattle.std.proofs.Common.{◌≡◌, ◌≢◌, inl, inr, ℕ, zero, suc, ◌+◌, Bool, true, false, cond, List, [], ◌∷◌, ◌++◌, length, Option, Some, None, refl, sym, ap, subst, ◌∙◌, append_assoc}
+use Rattle.std.proofs.Common.{◌≡◌, ◌≢◌, ℕ, ◌+◌, Bool, true, false, cond, List, [], ◌∷◌, ◌++◌, length, Option, Some, None, refl, sym, ap, subst, ◌∙◌, append_assoc}
 use Rattle.std.specs.Prelude.{codes}
 use Rattle.pp_syntax.specs.declared.token.Kind.{Kind}
 use Rattle.pp_syntax.specs.declared.token.Kind.TheVariants as kind
@@ -9,10 +9,9 @@ use Rattle.pp_syntax.specs.declared.tree.Search.{Search}
 use Rattle.pp_syntax.specs.declared.tree.Operand.{Operand}
 use Rattle.pp_syntax.specs.declared.tree.Operand.TheVariants as operand
 use Rattle.pp_syntax.specs.declared.tree.Arrow.{Arrow}
-use Rattle.pp_syntax.specs.declared.tree.Func.{Func}
 use Rattle.pp_syntax.specs.declared.tree.Stmt.{Stmt}
 use Rattle.pp_syntax.specs.declared.tree.Stmt.TheVariants as stmt
-use Rattle.pp_syntax.specs.Tokens.{Lexeme, is_among}
+use Rattle.pp_syntax.specs.Tokens.{Lexeme}
 use Rattle.pp_syntax.specs.Phrases as phrases
 use Rattle.pp_syntax.specs.Phrases.{◌then◌, Nothing, Maybe, Sign, Keyword, Loose, Comma, Each, Separated, Listed, place_of}
 use Rattle.pp_syntax.specs.Derivation.{PostfixOf, ReferenceOf}
@@ -21,19 +20,19 @@ use Rattle.pp_syntax.specs.Statements as grammar
 use Rattle.pp_expression.specs.Marks.{Found, front_of, first_at, mark}
 use Rattle.pp_expression.specs.Values.{◌>>=◌}
 use Rattle.pp_expression.specs.Parsed.{Begins}
-use Rattle.pp_expression.specs.Reading.{with_front, items, reference_with, postfix_with}
+use Rattle.pp_expression.specs.Reading.{with_front, reference_with, postfix_with}
 use Rattle.pp_expression.proofs.Tokens.{bind_some, joins, maps, marked}
 use Rattle.pp_expression.proofs.Finding.{Finds, items_found}
 use Rattle.pp_expression.proofs.Found.{first_is}
-use Rattle.pp_statement.specs.Combining.{Reader, both, made, behind, before, in_braces, begins, many}
+use Rattle.pp_statement.specs.Combining.{Reader, both, behind, before, in_braces, begins, many}
 use Rattle.pp_statement.specs.Marks.{taken, variable_by, ref_by, function_by, type_by, arrow_by, begins_arrow, begins_bracket}
-use Rattle.pp_statement.specs.Reading.{bodies_with, sought_with, resource_of, declared_with, resource_with, hidden_with, class_of, class_with, collector_of, collector_with, named_one, reference_operand, named_all, references_in, references_with, collects, collected_with, operand_by, operand_with, link_with, sides_of, arrows_of, with_links, sides_with, is_named, chain_of, chain_with, assign_of, assign_with, bracketed_with, more_args, bare_with, args_or, args_with, call_of, call_with}
+use Rattle.pp_statement.specs.Reading.{bodies_with, sought_with, resource_of, declared_with, resource_with, hidden_with, class_of, class_with, collector_of, collector_with, named_one, reference_operand, named_all, references_in, references_with, collects, collected_with, operand_by, operand_with, link_with, sides_of, arrows_of, with_links, sides_with, is_named, chain_of, chain_with, assign_of, assign_with, more_args, bare_with, args_or, args_with, call_of, call_with}
 use Rattle.pp_statement.proofs.Combining.{Spells, both_found, behind_found, before_found, in_braces_found, made_found, placed_found, first_token, some_token, many_found}
 use Rattle.pp_statement.proofs.Names.{TypeName, variable_found, ref_found, function_found, type_found, arrow_found}
 use Rattle.pp_statement.proofs.Found.{front_nil, then_some, front_some, each_next, bodies_found, sought_found}
 
-abbrev pub some_of : (k : Kind) (s : List ℕ) → phrases.Some k s [] → ⊥
-some_of k s t = let no : [] ≡ record { kind = k; text = s; at = t.0 } ∷ [] = t.1 in cc
+pub some_of : (k : Kind) (s : List ℕ) → phrases.Some k s [] → ⊥
+some_of k s t = let no : ◌≡◌ {A = List Lexeme} [] (record { kind = k; text = s; at = t.0 } ∷ []) = t.1 in cc
 
 module _ (e : Reader Expr) (E : Spells Expr) (finds : Finds e E) (refs : Finds (reference_with e) (ReferenceOf E)) (post : Finds (postfix_with e) (PostfixOf E)) (some : (y : Expr) → E y [] → ⊥) where
   -- ---- operands
@@ -190,11 +189,11 @@ module _ (e : Reader Expr) (E : Spells Expr) (finds : Finds e E) (refs : Finds (
   operand_some y us (grammar.resource at true name bs p q r s) n = some_token kind.Sign (codes "@") (phrases.Some kind.Word name then InBraces (BodiesOf E bs)) (subst (λ us. (Sign (codes "@") then (phrases.Some kind.Word name then InBraces (BodiesOf E bs))) us) n s)
   operand_some y us (grammar.resource at false name bs p q r s) n =
       some_token kind.Word name (InBraces (BodiesOf E bs)) (subst (λ us. (phrases.Some kind.Word name then InBraces (BodiesOf E bs)) us) (sym (ap (λ r. r ++ s.back) s.first) ∙ sym s.whole ∙ n) s.second)
-  operand_some y us (grammar.OperandOf.class at bs p s) n = let no : [] ≡ record { kind = kind.Keyword; text = codes "class"; at = at } ∷ s.back = sym n ∙ s.whole ∙ ap (λ r. r ++ s.back) s.first in cc
-  operand_some y us (grammar.collector at name sought p s) n = let no : [] ≡ record { kind = kind.Ref; text = name; at = at } ∷ s.back = sym n ∙ s.whole ∙ ap (λ r. r ++ s.back) s.first in cc
+  operand_some y us (grammar.OperandOf.class at bs p s) n = let no : ◌≡◌ {A = List Lexeme} [] (record { kind = kind.Keyword; text = codes "class"; at = at } ∷ s.back) = sym n ∙ s.whole ∙ ap (λ r. r ++ s.back) s.first in cc
+  operand_some y us (grammar.collector at name sought p s) n = let no : ◌≡◌ {A = List Lexeme} [] (record { kind = kind.Ref; text = name; at = at } ∷ s.back) = sym n ∙ s.whole ∙ ap (λ r. r ++ s.back) s.first in cc
   operand_some y us (grammar.OperandOf.reference x p r) n =
       let s = r.spelled in
-      let no : [] ≡ record { kind = kind.Ref; text = r.name; at = x.at } ∷ s.back = sym n ∙ s.whole ∙ ap (λ r. r ++ s.back) s.first in
+      let no : ◌≡◌ {A = List Lexeme} [] (record { kind = kind.Ref; text = r.name; at = x.at } ∷ s.back) = sym n ∙ s.whole ∙ ap (λ r. r ++ s.back) s.first in
       cc
   operand_some y us (grammar.references xs p s) n = some_token kind.Loose (codes "[") (Listed (ReferenceOf E) xs then Sign (codes "]")) (subst (λ us. (Loose then (Listed (ReferenceOf E) xs then Sign (codes "]"))) us) n s)
 

@@ -1,23 +1,21 @@
 -- What is spelled is read: blocks, and statements.
-use Rattle.std.proofs.Common.{◌≡◌, ◌≢◌, inl, inr, ℕ, zero, suc, ◌+◌, ◌<◌, ◌≤◌, Bool, true, false, cond, List, [], ◌∷◌, ◌++◌, length, Option, Some, None, refl, sym, ap, subst, ◌∙◌, append_assoc, length-append, arith}
+use Rattle.std.proofs.Common.{◌≡◌, ◌≢◌, inl, inr, ℕ, zero, suc, ◌+◌, ◌<◌, true, false, cond, List, [], ◌∷◌, ◌++◌, length, Option, Some, None, refl, sym, ap, subst, ◌∙◌, length-append, arith}
 use Rattle.std.specs.Prelude.{codes}
-use Rattle.pp_syntax.specs.declared.token.Kind.{Kind}
 use Rattle.pp_syntax.specs.declared.token.Kind.TheVariants as kind
 use Rattle.pp_syntax.specs.declared.tree.Expr.{Expr}
-use Rattle.pp_syntax.specs.declared.tree.Body.{Body}
 use Rattle.pp_syntax.specs.declared.tree.Operand.{Operand}
 use Rattle.pp_syntax.specs.declared.tree.Func.{Func}
 use Rattle.pp_syntax.specs.declared.tree.Stmt.{Stmt}
 use Rattle.pp_syntax.specs.declared.tree.Stmt.TheVariants as stmt
-use Rattle.pp_syntax.specs.declared.tree.Arm.{Arm, out-Arm, roll-Arm}
-use Rattle.pp_syntax.specs.declared.tree.CaseArm.{CaseArm, out-CaseArm, roll-CaseArm}
-use Rattle.pp_syntax.specs.Tokens.{Lexeme, is_among}
+use Rattle.pp_syntax.specs.declared.tree.Arm.{Arm, out-Arm}
+use Rattle.pp_syntax.specs.declared.tree.CaseArm.{CaseArm, out-CaseArm}
+use Rattle.pp_syntax.specs.Tokens.{Lexeme}
 use Rattle.pp_syntax.specs.Phrases as phrases
 use Rattle.pp_syntax.specs.Phrases.{◌then◌, Nothing, Maybe, Sign, Keyword, Loose, Each, Separated, Listed, place_of}
 use Rattle.pp_syntax.specs.Derivation.{OptionOf, PostfixOf, ReferenceOf}
 use Rattle.pp_syntax.specs.Statements.{BodiesOf, InBraces, OperandOf, VariableOf, word_of, ArgsOf, functions, Statements, BlockOf, ElseOf, ArmOf, CaseArmOf, CaseArms, StmtOf, IsStmtAt}
 use Rattle.pp_syntax.specs.Statements as grammar
-use Rattle.pp_expression.specs.Marks.{Found, front_of, mark, reach}
+use Rattle.pp_expression.specs.Marks.{mark}
 use Rattle.pp_expression.specs.Values.{◌>>=◌}
 use Rattle.pp_expression.specs.Reading.{with_front, option_with, reference_with, postfix_with}
 use Rattle.pp_expression.proofs.Reading.{Fit, fits_first, fits_second}
@@ -25,14 +23,14 @@ use Rattle.pp_expression.proofs.Solid.{Begun, begun_some, no_close_first}
 use Rattle.pp_expression.proofs.Listing.{Closes, items_read}
 use Rattle.pp_expression.proofs.Spelled.{option_read}
 use Rattle.pp_expression.proofs.DoubleQuotes.{dq_read}
-use Rattle.pp_statement.specs.Combining.{Reader, both, made, behind, in_braces, begins, is_found, many}
-use Rattle.pp_statement.specs.Marks.{taken, function_of, function_by, begins_arrow}
+use Rattle.pp_statement.specs.Combining.{Reader, both, behind, in_braces, begins}
+use Rattle.pp_statement.specs.Marks.{taken, function_by}
 use Rattle.pp_statement.specs.Parsed.{NothingFollows, BeginsStatement}
 use Rattle.pp_statement.specs.Reading.{unclosed, statements_in, block_with, else_with, arm_of, arm_with, more_arms, arms_with, if_of, if_with, unless_of, unless_with, options_with, case_arm_of, case_arm_with, case_arms_in, case_of, case_with, chain_with, assign_with, call_with, called_or, called_with, stmt_with, stmt_at}
 use Rattle.pp_statement.proofs.Combining.{Spells}
 use Rattle.pp_statement.proofs.Names.{function_none}
 use Rattle.pp_statement.proofs.Blocks.{Arms, to_left}
-use Rattle.pp_statement.proofs.Building.{Phrase, Always, ReadsBefore, split, both_read, behind_read, in_braces_read, made_read, placed_read, many_read, row_quiet}
+use Rattle.pp_statement.proofs.Building.{Phrase, Always, ReadsBefore, split, both_read, behind_read, in_braces_read, made_read, placed_read, many_read}
 use Rattle.pp_statement.proofs.ReadBodies.{Quiet, Closing, by_first, token_solid, closing_here, closing_stops, unclosed_here}
 use Rattle.pp_statement.proofs.ReadSearch.{NoSuffix, begins_here, each_rest}
 use Rattle.pp_statement.proofs.ReadChains.{placeless, place_is, first_of, function_read, chain_read, assign_read, call_read}

@@ -1,5 +1,5 @@
 -- What is spelled is read: names, attributes and bodies.
-use Rattle.std.proofs.Common.{◌≡◌, ◌≢◌, inl, inr, ℕ, zero, suc, ◌+◌, ◌<◌, ◌≤◌, Bool, true, false, not, cond, List, [], ◌∷◌, ◌++◌, length, Option, Some, None, refl, sym, ap, subst, ◌∙◌, append_assoc, length-append, arith}
+use Rattle.std.proofs.Common.{◌≡◌, ◌≢◌, ℕ, ◌+◌, ◌≤◌, true, false, not, cond, List, [], ◌∷◌, ◌++◌, length, Some, None, refl, sym, ap, subst, ◌∙◌, length-append, arith}
 use Rattle.std.specs.Prelude.{codes}
 use Rattle.pp_syntax.specs.declared.token.Kind.{Kind}
 use Rattle.pp_syntax.specs.declared.token.Kind.TheVariants as kind
@@ -10,11 +10,9 @@ use Rattle.pp_syntax.specs.Tokens.{Lexeme}
 use Rattle.pp_syntax.specs.Phrases as phrases
 use Rattle.pp_syntax.specs.Phrases.{◌then◌, Nothing, Maybe, Sign, Each, Separated, MaybeListed, place_of}
 use Rattle.pp_syntax.specs.Statements.{NameOf, word, keyword, AttrOf, BodyOf, BodiesOf, InBraces}
-use Rattle.pp_expression.specs.Marks.{Found, mark, reach}
-use Rattle.pp_expression.specs.Values.{◌>>=◌}
-use Rattle.pp_expression.proofs.Reading.{Fit}
+use Rattle.pp_expression.specs.Marks.{mark, reach}
 use Rattle.pp_expression.proofs.Solid.{Begun, begun_some, begun_grows, no_close_first}
-use Rattle.pp_statement.specs.Combining.{Reader, both, made, behind, in_braces, begins, is_found, listed}
+use Rattle.pp_statement.specs.Combining.{Reader, both, behind, in_braces, is_found, listed}
 use Rattle.pp_statement.specs.Marks.{taken, name_by, begins_name}
 use Rattle.pp_statement.specs.Reading.{attr_of, attr_with, attrs_with, body_of, body_with, unclosed, bodies_with}
 use Rattle.pp_statement.proofs.Combining.{Spells, ListedBy, some_token}

@@ -1,5 +1,5 @@
 -- What is spelled is read: operands, chains, assignments and calls.
-use Rattle.std.proofs.Common.{◌≡◌, ◌≢◌, inl, inr, ℕ, zero, suc, ◌+◌, ◌<◌, ◌≤◌, Bool, true, false, cond, List, [], ◌∷◌, ◌++◌, length, Option, Some, None, refl, sym, ap, subst, ◌∙◌, append_assoc, length-append, arith}
+use Rattle.std.proofs.Common.{◌≡◌, ◌≢◌, ℕ, ◌+◌, ◌<◌, true, false, cond, List, [], ◌∷◌, ◌++◌, length, Option, Some, None, refl, sym, ap, subst, ◌∙◌, length-append, arith}
 use Rattle.std.specs.Prelude.{codes}
 use Rattle.pp_syntax.specs.declared.token.Kind.{Kind}
 use Rattle.pp_syntax.specs.declared.token.Kind.TheVariants as kind
@@ -12,7 +12,6 @@ use Rattle.pp_syntax.specs.declared.tree.Arrow.{Arrow}
 use Rattle.pp_syntax.specs.declared.tree.Arrow.TheVariants as arrow
 use Rattle.pp_syntax.specs.declared.tree.Func.{Func}
 use Rattle.pp_syntax.specs.declared.tree.Func.TheVariants as func
-use Rattle.pp_syntax.specs.declared.tree.Stmt.{Stmt}
 use Rattle.pp_syntax.specs.declared.tree.Stmt.TheVariants as stmt
 use Rattle.pp_syntax.specs.Tokens.{Lexeme, is_among}
 use Rattle.pp_syntax.specs.Phrases as phrases
@@ -20,23 +19,23 @@ use Rattle.pp_syntax.specs.Phrases.{◌then◌, Nothing, Maybe, Sign, Keyword, T
 use Rattle.pp_syntax.specs.Derivation.{PostfixOf, ReferenceOf}
 use Rattle.pp_syntax.specs.Statements.{BodiesOf, InBraces, MaybeSearch, OperandOf, ArrowOf, Links, StandsAlone, VariableOf, word_of, ArgsOf, begins_with_bracket, functions, has_colon}
 use Rattle.pp_syntax.specs.Statements as grammar
-use Rattle.pp_expression.specs.Marks.{Found, front_of, first_at, mark, reach}
+use Rattle.pp_expression.specs.Marks.{first_at, mark}
 use Rattle.pp_expression.specs.Values.{◌>>=◌}
-use Rattle.pp_expression.specs.Reading.{with_front, items, reference_with, postfix_with}
+use Rattle.pp_expression.specs.Reading.{with_front, reference_with, postfix_with}
 use Rattle.pp_expression.proofs.Reading.{Fit, fits_first, fits_second, first_place}
 use Rattle.pp_expression.proofs.Solid.{Begun, begun_some, no_close_first}
 use Rattle.pp_expression.proofs.Listing.{Closes, bracket_closes, items_read}
 use Rattle.pp_expression.proofs.Tokens.{mark_found}
-use Rattle.pp_statement.specs.Combining.{Reader, both, made, behind, before, in_braces, begins, is_found, many}
-use Rattle.pp_statement.specs.Marks.{taken, plain_name, variable_by, ref_by, function_of, function_by, unless_function, type_by, arrow_by, begins_arrow, begins_bracket}
-use Rattle.pp_statement.specs.Reading.{bodies_with, sought_with, resource_of, declared_with, resource_with, hidden_with, class_of, class_with, collector_of, collector_with, named_one, reference_operand, named_all, references_in, references_with, collected_with, operand_with, link_with, sides_of, arrows_of, with_links, sides_with, chain_of, chain_with, assign_of, assign_with, bracketed_with, more_args, bare_with, args_or, args_with, call_of, call_with}
-use Rattle.pp_statement.proofs.Combining.{Spells, some_token}
+use Rattle.pp_statement.specs.Combining.{Reader, both, behind, before, in_braces, begins, is_found, many}
+use Rattle.pp_statement.specs.Marks.{taken, variable_by, ref_by, function_of, function_by, unless_function, type_by, arrow_by, begins_arrow, begins_bracket}
+use Rattle.pp_statement.specs.Reading.{bodies_with, sought_with, resource_of, declared_with, resource_with, hidden_with, class_of, class_with, collector_of, collector_with, named_one, reference_operand, named_all, references_in, references_with, operand_with, link_with, sides_of, arrows_of, with_links, sides_with, chain_of, chain_with, assign_of, assign_with, more_args, bare_with, args_or, args_with, call_of, call_with}
+use Rattle.pp_statement.proofs.Combining.{Spells}
 use Rattle.pp_statement.proofs.Names.{TypeName, function_none}
 use Rattle.pp_statement.proofs.Found.{then_some}
 use Rattle.pp_statement.proofs.Operands.{some_of}
 use Rattle.pp_statement.proofs.Blocks.{to_left}
-use Rattle.pp_statement.proofs.Building.{Phrase, Always, ReadsBefore, mark_here, mark_not, begins_not, split, both_read, behind_read, before_read, made_read, placed_read, taken_read, many_read, row_quiet}
-use Rattle.pp_statement.proofs.ReadBodies.{Quiet, by_token, by_first, token_solid, braced_read}
+use Rattle.pp_statement.proofs.Building.{Phrase, Always, ReadsBefore, mark_here, mark_not, split, both_read, behind_read, before_read, made_read, placed_read, taken_read, many_read, row_quiet}
+use Rattle.pp_statement.proofs.ReadBodies.{Quiet, by_first, token_solid, braced_read}
 use Rattle.pp_statement.proofs.ReadSearch.{NoSuffix, Collected, sought_read, begins_here, each_rest}
 
 pub paren_closes : Closes (codes ")")

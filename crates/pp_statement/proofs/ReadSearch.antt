@@ -1,5 +1,5 @@
 -- What is spelled is read: searches.
-use Rattle.std.proofs.Common.{◌≡◌, ◌≢◌, inl, inr, ℕ, zero, suc, ◌+◌, ◌<◌, ◌≤◌, Bool, true, false, cond, List, [], ◌∷◌, ◌++◌, length, Option, Some, None, refl, sym, ap, subst, ◌∙◌, append_assoc, length-append, arith}
+use Rattle.std.proofs.Common.{◌≡◌, ℕ, zero, suc, ◌+◌, ◌<◌, ◌≤◌, true, false, cond, List, [], ◌∷◌, ◌++◌, length, Some, None, refl, sym, ap, ◌∙◌, length-append, arith}
 use Rattle.std.specs.Prelude.{codes}
 use Rattle.std.proofs.lemmas.List.{append-nil}
 use Rattle.pp_syntax.specs.declared.token.Kind.{Kind}
@@ -13,18 +13,16 @@ use Rattle.pp_syntax.specs.Phrases.{◌then◌, Nothing, Sign, Keyword, Each, Se
 use Rattle.pp_syntax.specs.Derivation.{PostfixOf}
 use Rattle.pp_syntax.specs.Statements.{NameOf, word, keyword, AtomOf, ConjunctionOf, SearchOf, IsSearchAt, IsSearch, MaybeSearch}
 use Rattle.pp_syntax.specs.Statements as grammar
-use Rattle.pp_expression.specs.Marks.{Found, mark, reach}
+use Rattle.pp_expression.specs.Marks.{mark, reach}
 use Rattle.pp_expression.specs.Values.{◌>>=◌}
 use Rattle.pp_expression.specs.Reading.{with_front}
 use Rattle.pp_expression.proofs.Reading.{Fit, fits_first, fits_second}
 use Rattle.pp_expression.proofs.Tokens.{mark_found}
-use Rattle.pp_statement.specs.Combining.{Reader, behind, before, begins, is_found, many}
-use Rattle.pp_statement.specs.Marks.{taken, name_by}
-use Rattle.pp_statement.specs.Reading.{equal_with, differ_with, compared_or, compared_with, comparison_with, atom_or, atom_with, all_of, ands_with, conjunction_with, any_of, ors_with, search_with, search_at, sought_with}
+use Rattle.pp_statement.specs.Combining.{Reader, behind, begins, is_found}
+use Rattle.pp_statement.specs.Reading.{compared_or, compared_with, atom_or, atom_with, all_of, ands_with, conjunction_with, any_of, ors_with, search_with, search_at, sought_with}
 use Rattle.pp_statement.proofs.Combining.{Spells}
-use Rattle.pp_statement.proofs.Found.{then_some, name_some}
 use Rattle.pp_statement.proofs.Blocks.{to_left}
-use Rattle.pp_statement.proofs.Building.{Phrase, Always, ReadsBefore, mark_here, mark_not, split, behind_read, before_read, many_read, row_quiet}
+use Rattle.pp_statement.proofs.Building.{Phrase, ReadsBefore, mark_here, mark_not, split, behind_read, before_read, many_read, row_quiet}
 use Rattle.pp_statement.proofs.ReadBodies.{Quiet, by_token, by_first, token_solid, name_read}
 
 -- no index and no selection stands first; no `and` either; no operator at all

@@ -1,10 +1,9 @@
-use Rattle.std.proofs.Common.{◌+◌, ◌-◌, [], ◌∷◌, ◌++◌, sym, ap, ◌∙◌, drop}
-use Rattle.std.specs.Prelude.{codes}
+use Rattle.std.proofs.Common.{◌+◌, ◌-◌, sym, ◌∙◌, drop}
 use Rattle.pp_syntax.specs.Lexing.{told}
 use Rattle.pp_expression.specs.Reading.{expr_at}
 use Rattle.pp_statement.specs.Combining.{many}
 use Rattle.pp_statement.specs.Marks.{begins_arrow}
-use Rattle.pp_statement.specs.Reading.{with_links, link_with}
+use Rattle.pp_statement.specs.Reading.{link_with}
 use Rattle.pp_statement.proofs.Steps.{same_links, links_go_on, links_end}
 use Rattle.pp_statement.proofs.chain.sides_behind.Goals as goal
 
