@@ -1,0 +1,13 @@
+pub mod Combining
+pub mod Names
+pub mod Steps
+pub mod Found
+pub mod Operands
+pub mod Blocks
+pub mod Building
+pub mod ReadBodies
+pub mod ReadSearch
+pub mod ReadChains
+pub mod Leads
+pub mod ReadBlocks
+pub mod Answered

@@ -1,0 +1,11 @@
+use Rattle.std.proofs.Common.{◌≡◌, ◌-◌, [], ◌∷◌, drop}
+use Rattle.pp_syntax.specs.Lexing.{told}
+use Rattle.pp_expression.specs.Reading.{expr_at}
+use Rattle.pp_statement.specs.Combining.{many}
+use Rattle.pp_statement.specs.Marks.{begins_arrow}
+use Rattle.pp_statement.specs.Reading.{with_links, link_with}
+use Rattle.pp_statement.proofs.chain.sides_behind.Given as goal
+
+-- what was read so far, and what reading the rest gives in the turns that are left
+abbrev pub invariant-loop-turn : goal.invariant-loop-turn
+invariant-loop-turn l = with_links l.sides l.arrows (many begins_arrow (link_with (expr_at l.limit)) (l.turns - l._turn) (drop l.rest (told l.tokens))) ≡ with_links (l.fn.first ∷ []) [] (many begins_arrow (link_with (expr_at l.limit)) l.turns (drop l.from (told l.tokens)))

@@ -1,0 +1,14 @@
+use Rattle.std.proofs.Common.{◌+◌, ◌-◌, Some, sym, ap, ◌∙◌, drop}
+use Rattle.std.specs.Prelude.{codes}
+use Rattle.pp_syntax.specs.Lexing.{told}
+use Rattle.pp_expression.specs.Reading.{with_front, items, reference_with, expr_at}
+use Rattle.pp_expression.proofs.Steps.{item_goes_on}
+use Rattle.pp_statement.proofs.operand.some_references.Goals as goal
+
+pub loop-turn-preserved : goal.loop-turn-preserved
+loop-turn-preserved c =
+    let ts = told c.args.tokens.now in
+    ap (λ xs. with_front xs (items (codes "]") (reference_with (expr_at c.args.limit)) (c.args.turns - (c.loop-turn._turn + 1)) (drop c.in_ok-ends.more ts))) c.in_ok-push.ensures.ok
+    ∙ sym (item_goes_on (codes "]") (reference_with (expr_at c.args.limit)) c.loop-turn.found c.args.turns c.loop-turn._turn (drop c.loop-turn.rest ts) (drop c.in_ok-item.more ts) (drop c.in_ok-ends.more ts) c.in_ok-item.item
+    c.loop-turn-test.true c.in_ok-item.ensures (c.in_ok-ends.ensures ∙ ap (λ b. Some (b, drop c.in_ok-ends.more ts)) c.if-ends.false))
+    ∙ c.loop-turn.invariant

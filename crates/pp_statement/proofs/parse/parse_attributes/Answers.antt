@@ -1,0 +1,17 @@
+use Rattle.pp_syntax.specs.Lexing.{told}
+use Rattle.pp_expression.specs.Parsed.{Anything}
+use Rattle.pp_expression.specs.Reading.{expr_at}
+use Rattle.pp_statement.specs.Reading.{attributes_with}
+use Rattle.pp_statement.proofs.Answered.{AttributesOf}
+use Rattle.pp_statement.proofs.Answered.{spelled, parsed, attributes_finds, attributes_reads}
+use Rattle.pp_statement.proofs.parse.parse_attributes.Goals as goal
+
+pub returns-clause-spelled : goal.returns-clause-spelled
+returns-clause-spelled c =
+    let d = c.args.depth in
+    spelled (AttributesOf d) (attributes_with (expr_at d)) (told c.args.tokens.now) c.args.from c.attributes.result (attributes_finds d) c.attributes.ensures
+
+pub returns-clause-parsed : goal.returns-clause-parsed
+returns-clause-parsed c =
+    let d = c.args.depth in
+    parsed (AttributesOf d) Anything (attributes_with (expr_at d)) (told c.args.tokens.now) c.args.from c.attributes.result (attributes_reads d) c.attributes.ensures

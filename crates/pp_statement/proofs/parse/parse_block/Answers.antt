@@ -1,0 +1,18 @@
+use Rattle.pp_syntax.specs.Lexing.{told}
+use Rattle.pp_syntax.specs.Derivation.{IsExprAt}
+use Rattle.pp_syntax.specs.Statements.{BlockOf, IsStmtAt}
+use Rattle.pp_expression.specs.Reading.{expr_at}
+use Rattle.pp_expression.specs.Parsed.{Anything}
+use Rattle.pp_statement.specs.Reading.{block_with, stmt_at}
+use Rattle.pp_statement.proofs.Answered.{spelled, parsed, block_finds, block_reads}
+use Rattle.pp_statement.proofs.parse.parse_block.Goals as goal
+
+pub returns-clause-spelled : goal.returns-clause-spelled
+returns-clause-spelled c =
+    let d = c.args.depth in
+    spelled (BlockOf (IsStmtAt (IsExprAt d) d)) (block_with (stmt_at (expr_at d) d)) (told c.args.tokens.now) c.args.from c.block.result (block_finds d d) c.block.ensures
+
+pub returns-clause-parsed : goal.returns-clause-parsed
+returns-clause-parsed c =
+    let d = c.args.depth in
+    parsed (BlockOf (IsStmtAt (IsExprAt d) d)) Anything (block_with (stmt_at (expr_at d) d)) (told c.args.tokens.now) c.args.from c.block.result (block_reads d d) c.block.ensures

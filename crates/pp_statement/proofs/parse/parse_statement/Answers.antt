@@ -1,0 +1,18 @@
+use Rattle.pp_syntax.specs.Lexing.{told}
+use Rattle.pp_syntax.specs.Derivation.{IsExprAt}
+use Rattle.pp_syntax.specs.Statements.{IsStmtAt}
+use Rattle.pp_expression.specs.Reading.{expr_at}
+use Rattle.pp_statement.specs.Parsed.{NothingFollows}
+use Rattle.pp_statement.specs.Reading.{stmt_at}
+use Rattle.pp_statement.proofs.Answered.{spelled, parsed, statement_finds, statement_reads}
+use Rattle.pp_statement.proofs.parse.parse_statement.Goals as goal
+
+pub returns-clause-spelled : goal.returns-clause-spelled
+returns-clause-spelled c =
+    let d = c.args.depth in
+    spelled (IsStmtAt (IsExprAt d) d) (stmt_at (expr_at d) d) (told c.args.tokens.now) c.args.from c.statement.result (statement_finds d d) c.statement.ensures
+
+pub returns-clause-parsed : goal.returns-clause-parsed
+returns-clause-parsed c =
+    let d = c.args.depth in
+    parsed (IsStmtAt (IsExprAt d) d) NothingFollows (stmt_at (expr_at d) d) (told c.args.tokens.now) c.args.from c.statement.result (statement_reads d d) c.statement.ensures

@@ -1,0 +1,4 @@
+pub mod Combining
+pub mod Marks
+pub mod Reading
+pub mod Parsed

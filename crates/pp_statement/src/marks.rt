@@ -1,0 +1,287 @@
+ghost use Rattle.std.specs.Prelude.{◌≡◌, drop, [], ◌∷◌, codes};
+ghost use Rattle.std.specs.Option.{option_map};
+ghost use Rattle.pp_syntax.specs.Lexing.{told};
+ghost use Rattle.pp_syntax.specs.Tokens.{is_among};
+ghost use Rattle.pp_syntax.specs.Statements.{has_colon};
+ghost use Rattle.pp_expression.specs.Reading.{Gives};
+ghost use Rattle.pp_statement.specs.Combining.{begins};
+ghost use Rattle.pp_statement.specs.Marks.{taken, plain_name, name_by, begins_name, plain_variable, variable_by, ref_by, function_of, function_by, unless_function, type_by, arrow_of, arrow_by, begins_arrow, begins_bracket};
+ghost use Rattle.pp_statement.specs.Reading.{unclosed};
+
+use pp_expression::{Misread, front_of, mark, name_of, text_of};
+use pp_syntax::{Arrow, Func, Kind, Token};
+use rh_base::Text;
+use std::alloc::Global;
+
+fn has_colon(name: &str) -> bool
+    ensures { result ≡ has_colon name.now }
+{
+    name.as_bytes().contains(&b':')
+}
+
+fn plain_name(name: &str) -> Option<&str>
+    ensures { option_map (λ s. s.now) result ≡ plain_name name.now }
+{
+    if has_colon(name) { None } else { Some(name) }
+}
+
+fn name_by(kind: Kind, text: &str) -> Option<&str>
+    ensures { option_map (λ s. s.now) result ≡ name_by kind text.now }
+{
+    match kind {
+        Kind::Word => plain_name(text),
+        Kind::Keyword => Some(text),
+        _ => None,
+    }
+}
+
+fn name_at<'a, 't>(tokens: &'a [Token<'t>], from: usize) -> Option<(&'t str, usize)>
+    ensures { option_map (λ x. (x.0.now, drop x.1 (told tokens.now))) result ≡ taken name_by (drop from (told tokens.now)) }
+{
+    let (token, rest) = front_of(tokens, from)?;
+    let name = name_by(token.kind, token.text)?;
+    Some((name, rest))
+}
+
+/// An attribute's name stands at this index.
+pub fn begins_name(tokens: &[Token<'_>], from: usize) -> bool
+    ensures { result ≡ begins_name (drop from (told tokens.now)) }
+{
+    match name_at(tokens, from) {
+        Some(_) => true,
+        None => false,
+    }
+}
+
+/// An attribute's name, and the index behind it.
+pub fn name(alloc: Global, tokens: &[Token<'_>], from: usize) -> Result<(Text, usize), Misread>
+    ensures { Gives (λ x. (x.0, drop x.1 (told tokens.now))) result (taken name_by (drop from (told tokens.now))) }
+{
+    match name_at(tokens, from) {
+        Some((name, rest)) => {
+            let name = text_of(alloc, name)?;
+            Ok((name, rest))
+        }
+        None => Err(Misread::Form(from)),
+    }
+}
+
+fn ref_by(kind: Kind, text: &str) -> Option<&str>
+    ensures { option_map (λ s. s.now) result ≡ ref_by kind text.now }
+{
+    match kind {
+        Kind::Ref => Some(text),
+        _ => None,
+    }
+}
+
+fn ref_at<'a, 't>(tokens: &'a [Token<'t>], from: usize) -> Option<(&'t str, usize)>
+    ensures { option_map (λ x. (x.0.now, drop x.1 (told tokens.now))) result ≡ taken ref_by (drop from (told tokens.now)) }
+{
+    let (token, rest) = front_of(tokens, from)?;
+    let name = ref_by(token.kind, token.text)?;
+    Some((name, rest))
+}
+
+/// The name of a kind of resources as references have it.
+pub fn ref_name(alloc: Global, tokens: &[Token<'_>], from: usize) -> Result<(Text, usize), Misread>
+    ensures { Gives (λ x. (x.0, drop x.1 (told tokens.now))) result (taken ref_by (drop from (told tokens.now))) }
+{
+    match ref_at(tokens, from) {
+        Some((name, rest)) => {
+            let name = text_of(alloc, name)?;
+            Ok((name, rest))
+        }
+        None => Err(Misread::Form(from)),
+    }
+}
+
+fn variable_by(alloc: Global, left: usize, kind: Kind, text: &str) -> Result<Text, Misread>
+    ensures { Gives (λ x. x) result (variable_by kind text.now) }
+{
+    match kind {
+        Kind::Var => plain_variable(alloc, left, text),
+        _ => Err(Misread::Form(left)),
+    }
+}
+
+fn plain_variable(alloc: Global, left: usize, text: &str) -> Result<Text, Misread>
+    ensures { Gives (λ x. x) result (plain_variable text.now) }
+{
+    let name = name_of(alloc, left, text)?;
+    if has_colon(name.as_str()) {
+        return Err(Misread::Form(left));
+    }
+    Ok(name)
+}
+
+/// A variable's name, without `$`.
+pub fn variable(alloc: Global, tokens: &[Token<'_>], from: usize) -> Result<(Text, usize), Misread>
+    ensures { Gives (λ x. (x.0, drop x.1 (told tokens.now))) result (taken variable_by (drop from (told tokens.now))) }
+{
+    match front_of(tokens, from) {
+        Some((token, rest)) => {
+            let name = variable_by(alloc, from, token.kind, token.text)?;
+            Ok((name, rest))
+        }
+        None => Err(Misread::Form(from)),
+    }
+}
+
+fn function_of(text: &str) -> Option<Func>
+    ensures { result ≡ function_of text.now }
+{
+    if text == "include" {
+        Some(Func::Include)
+    } else if text == "require" {
+        Some(Func::Require)
+    } else if text == "contain" {
+        Some(Func::Contain)
+    } else if text == "realize" {
+        Some(Func::Realize)
+    } else if text == "fail" {
+        Some(Func::Fail)
+    } else if text == "notice" {
+        Some(Func::Notice)
+    } else if text == "warning" {
+        Some(Func::Warning)
+    } else {
+        None
+    }
+}
+
+fn function_by(kind: Kind, text: &str) -> Option<Func>
+    ensures { result ≡ function_by kind text.now }
+{
+    match kind {
+        Kind::Word => function_of(text),
+        _ => None,
+    }
+}
+
+/// The function whose word stands at this index.
+pub fn function_at(tokens: &[Token<'_>], from: usize) -> Option<(Func, usize)>
+    ensures { option_map (λ x. (x.0, drop x.1 (told tokens.now))) result ≡ taken function_by (drop from (told tokens.now)) }
+{
+    let (token, rest) = front_of(tokens, from)?;
+    let func = function_by(token.kind, token.text)?;
+    Some((func, rest))
+}
+
+fn type_of(text: &str) -> Option<&str>
+    ensures { option_map (λ s. s.now) result ≡ unless_function text.now (function_of text.now) }
+{
+    match function_of(text) {
+        Some(_) => None,
+        None => Some(text),
+    }
+}
+
+fn type_by(kind: Kind, text: &str) -> Option<&str>
+    ensures { option_map (λ s. s.now) result ≡ type_by kind text.now }
+{
+    match kind {
+        Kind::Word => type_of(text),
+        _ => None,
+    }
+}
+
+fn type_at<'a, 't>(tokens: &'a [Token<'t>], from: usize) -> Option<(&'t str, usize)>
+    ensures { option_map (λ x. (x.0.now, drop x.1 (told tokens.now))) result ≡ taken type_by (drop from (told tokens.now)) }
+{
+    let (token, rest) = front_of(tokens, from)?;
+    let name = type_by(token.kind, token.text)?;
+    Some((name, rest))
+}
+
+/// A resource's type.
+pub fn type_name(alloc: Global, tokens: &[Token<'_>], from: usize) -> Result<(Text, usize), Misread>
+    ensures { Gives (λ x. (x.0, drop x.1 (told tokens.now))) result (taken type_by (drop from (told tokens.now))) }
+{
+    match type_at(tokens, from) {
+        Some((name, rest)) => {
+            let name = text_of(alloc, name)?;
+            Ok((name, rest))
+        }
+        None => Err(Misread::Form(from)),
+    }
+}
+
+fn arrow_of(text: &str) -> Option<Arrow>
+    ensures { result ≡ arrow_of text.now }
+{
+    if text == "->" {
+        Some(Arrow::Before)
+    } else if text == "~>" {
+        Some(Arrow::Notify)
+    } else if text == "<-" {
+        Some(Arrow::After)
+    } else if text == "<~" {
+        Some(Arrow::Follow)
+    } else {
+        None
+    }
+}
+
+fn arrow_by(kind: Kind, text: &str) -> Option<Arrow>
+    ensures { result ≡ arrow_by kind text.now }
+{
+    match kind {
+        Kind::Sign => arrow_of(text),
+        _ => None,
+    }
+}
+
+/// The arrow at this index.
+pub fn arrow_at(tokens: &[Token<'_>], from: usize) -> Option<(Arrow, usize)>
+    ensures { option_map (λ x. (x.0, drop x.1 (told tokens.now))) result ≡ taken arrow_by (drop from (told tokens.now)) }
+{
+    let (token, rest) = front_of(tokens, from)?;
+    let arrow = arrow_by(token.kind, token.text)?;
+    Some((arrow, rest))
+}
+
+/// An arrow stands at this index.
+pub fn begins_arrow(tokens: &[Token<'_>], from: usize) -> bool
+    ensures { result ≡ begins_arrow (drop from (told tokens.now)) }
+{
+    match arrow_at(tokens, from) {
+        Some(_) => true,
+        None => false,
+    }
+}
+
+/// A token of this kind and text stands at this index.
+pub fn begins(kind: Kind, text: &str, tokens: &[Token<'_>], from: usize) -> bool
+    ensures { result ≡ begins kind text.now (drop from (told tokens.now)) }
+{
+    match mark(kind, text, tokens, from) {
+        Some(_) => true,
+        None => false,
+    }
+}
+
+/// No `}` stands at this index.
+pub fn unclosed(tokens: &[Token<'_>], from: usize) -> bool
+    ensures { result ≡ unclosed (drop from (told tokens.now)) }
+{
+    !begins(Kind::Sign, "}", tokens, from)
+}
+
+fn is_bracket(text: &str) -> bool
+    ensures { result ≡ is_among (codes "(" ∷ codes "{" ∷ []) text.now }
+{
+    let round = "(" == text;
+    let brace = "{" == text;
+    round || brace
+}
+
+/// The token at this index is spelled `(` or `{`.
+pub fn begins_bracket(tokens: &[Token<'_>], from: usize) -> bool
+    ensures { result ≡ begins_bracket (drop from (told tokens.now)) }
+{
+    match front_of(tokens, from) {
+        Some((token, _)) => is_bracket(token.text),
+        None => false,
+    }
+}
