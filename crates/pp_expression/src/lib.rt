@@ -13,8 +13,8 @@ mod values;
 
 pub use expression::separator;
 pub use laws::{
-    expressions_are_read, one_expression, postfixes_are_read, references_are_read, strings_are_read,
-    texts_are_read,
+    expressions_are_read, one_expression, postfixes_are_read, references_are_read,
+    strings_are_read, texts_are_read,
 };
 pub use marks::{
     begins_suffix, begins_word, expect, first_at, front_of, infix_at, mark, prefixes, turns,

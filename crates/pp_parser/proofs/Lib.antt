@@ -3,4 +3,14 @@ pub mod LeftOutLaws
 pub mod Rows
 pub mod DepthLaws
 pub mod Checking
-pub mod DepthMaps
+pub mod Within
+pub mod WithinStatements
+pub mod Turns
+pub mod TypesFound
+pub mod Quiet
+pub mod TypesRead
+pub mod ItemsFound
+pub mod ItemsWhole
+pub mod ItemsRead
+pub mod ItemsLeads
+pub mod TreeLaws

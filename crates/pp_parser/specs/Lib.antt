@@ -1,3 +1,6 @@
 pub mod Scanning
 pub mod Nested
 pub mod Refusing
+pub mod Bounded
+pub mod TypeReading
+pub mod ItemReading

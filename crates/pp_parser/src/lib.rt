@@ -3,11 +3,16 @@
 
 mod checked;
 mod depth;
+mod items;
 mod laws;
 mod left_out;
+mod parsing;
+mod types;
+mod words;
 
 pub use checked::check;
-pub use laws::deeper;
+pub use laws::{items_are_read, nesting_is_bounded, one_manifest, types_are_read};
+pub use parsing::parse;
 
 #[cfg(test)]
 mod tests;

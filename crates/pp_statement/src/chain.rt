@@ -78,7 +78,7 @@ fn is_named(operand: &Operand) -> bool
     matches!(operand, Operand::Named(_))
 }
 
-/// One side alone is a resource or a collector.
+/// One side alone is a resource or a collector; left: the index behind the sides.
 fn chain_of(left: usize, at: u32, sides: Seq<Operand>, arrows: Seq<Arrow>) -> Result<Stmt, Misread>
     ensures { Gives (λ x. x) result (chain_of at (sides, arrows)) }
 {
@@ -104,7 +104,7 @@ pub fn chain(
     ensures { Gives (λ x. (x.0, drop x.1 (told tokens.now))) result (chain_with (expr_at limit) (drop from (told tokens.now))) }
 {
     let ((sides, arrows), rest) = sides(alloc, limit, tokens, from)?;
-    let stmt = chain_of(from, first_at(tokens, from), sides, arrows)?;
+    let stmt = chain_of(rest, first_at(tokens, from), sides, arrows)?;
     Ok((stmt, rest))
 }
 

@@ -15,6 +15,7 @@ mod statement;
 pub use laws::{
     attributes_are_read, blocks_are_read, one_statement, statements_are_read, statements_begin,
 };
+pub use marks::{begins, ref_name, variable};
 pub use parse::{parse_attributes, parse_block, parse_statement};
 
 #[cfg(test)]

@@ -1,0 +1,18 @@
+-- Before what can't go on behind an expression no index stands.
+use Rattle.std.proofs.Common.{◌≡◌, ℕ, ◌≤◌, ◌+◌, Bool, true, false, cond, List, [], ◌∷◌, Option, Some, None, refl, sym, ap, ◌∙◌, arith}
+use Rattle.std.specs.Prelude.{codes}
+use Rattle.pp_syntax.specs.declared.token.Kind.TheVariants as kind
+use Rattle.pp_syntax.specs.Tokens.{Lexeme}
+use Rattle.pp_expression.specs.Marks.{Found, mark, reach}
+use Rattle.pp_expression.proofs.Tokens.{mark_found}
+use Rattle.pp_statement.specs.Combining.{begins, is_found}
+use Rattle.pp_statement.proofs.ReadBodies.{Quiet}
+
+pub tight_none : (rest : List Lexeme) → Quiet rest → begins kind.Tight (codes "[") rest ≡ false
+tight_none rest q = by_mark (mark kind.Tight (codes "[") rest) refl
+  where
+    by_mark : (r : Found ℕ) → mark kind.Tight (codes "[") rest ≡ r → is_found r ≡ false
+    by_mark None p = refl
+    by_mark (Some x) p =
+        let far : reach rest ≡ 8 = ap reach (mark_found kind.Tight (codes "[") rest x p) in
+        absurd (omega (arith, q, far))

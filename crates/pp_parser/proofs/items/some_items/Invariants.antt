@@ -1,0 +1,12 @@
+use Rattle.std.proofs.Common.{◌≡◌, ◌-◌, drop}
+use Rattle.pp_syntax.specs.Lexing.{told}
+use Rattle.pp_expression.specs.Reading.{with_front, expr_at}
+use Rattle.pp_statement.specs.Combining.{many}
+use Rattle.pp_statement.specs.Reading.{stmt_at}
+use Rattle.pp_parser.specs.TypeReading.{type_at}
+use Rattle.pp_parser.specs.ItemReading.{has_token, item_with}
+use Rattle.pp_parser.proofs.items.some_items.Given as goal
+
+-- what was read so far, and what reading the rest gives in the turns that are left
+abbrev pub invariant-loop-turn : goal.invariant-loop-turn
+invariant-loop-turn l = with_front l.found (many has_token (item_with (expr_at l.depth) (type_at l.depth) (stmt_at (expr_at l.depth) l.depth)) (l.turns - l._turn) (drop l.rest (told l.tokens))) ≡ many has_token (item_with (expr_at l.depth) (type_at l.depth) (stmt_at (expr_at l.depth) l.depth)) l.turns (drop l.from (told l.tokens))
