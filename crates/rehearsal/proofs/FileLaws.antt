@@ -3,7 +3,7 @@ use Rattle.std.proofs.lemmas.List.{take-append-drop}
 use Rattle.std.proofs.Math.Seq.{take-suc, drop-cons}
 use Rattle.std.proofs.Common.{get_or, add-one, ◌≡◌, ℕ, suc, ◌+◌, ◌<◌, List, [], ◌∷◌, ◌++◌, length, take, drop, None, refl, sym, ap, subst, ◌∙◌}
 use Rattle.std.specs.List.{AllByRecursion}
-use Rattle.file_blocks.specs.declared.block.Block.{Block}
+use Rattle.rehearsal.specs.declared.form.Block.{Block}
 use Rattle.fs_lang.specs.PathText.{IsPathText}
 use Rattle.fs_semantics.specs.FileTree.{Path}
 use Rattle.fs_semantics.specs.PlainFiles.{PlainFile, IsFilePath}

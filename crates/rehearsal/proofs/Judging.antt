@@ -2,15 +2,16 @@
 use Rattle.std.proofs.Common.{◌≡◌, ℕ, List, length, inl, inr, None, sym, ap, subst, ◌∙◌}
 use Rattle.std.specs.Prelude.{codes}
 use Rattle.rh_base.specs.declared.fault.Refusal.{Refusal}
-use Rattle.rh_base.specs.Refused.{IsRefusal}
-use Rattle.file_blocks.specs.declared.block.Block.{Block}
-use Rattle.file_blocks.specs.FirstGrammar.{IsFirstForm}
+use Rattle.rh_base.specs.declared.fault.Fault.{Fault}
+use Rattle.rh_base.specs.declared.fault.Fault.TheVariants.{Refused, Memory}
+use Rattle.rh_base.specs.Refused.{IfRefused, IsRefusal}
+use Rattle.rehearsal.specs.declared.form.Block.{Block}
 use Rattle.fs_semantics.specs.FileTree.{Path}
 use Rattle.fs_semantics.specs.Apart.{AreApart}
 use Rattle.fs_semantics.specs.Orders.{IsDeterministic, IsIdempotent, Succeeds}
 use Rattle.fs_semantics.specs.PlainFiles.{PlainFile, ArePlain, puts, Unordered}
 use Rattle.rehearsal.specs.Files.{paths_of, ArePathsOf, PathsAre}
-use Rattle.rehearsal.specs.Judged.{report_of, IsReport, BreaksRule}
+use Rattle.rehearsal.specs.Judged.{report_of, IsWithin, IsReport, BreaksRule}
 use Rattle.rehearsal.proofs.FileLaws.{files_from, paths_from, proper_paths, length-paths}
 
 -- the laws on files that are put at paths apart
@@ -19,7 +20,7 @@ pub record PlainLaws : Type 0 where
   pub idempotent : (files : List PlainFile) → ArePlain files → IsIdempotent (puts files) Unordered
   pub succeeds : (files : List PlainFile) → ArePlain files → Succeeds (puts files) Unordered
 
-pub a_report : (manifest report : List ℕ) (blocks : List Block) (ps : List Path) → IsFirstForm manifest blocks → ArePathsOf blocks ps → AreApart ps
+pub a_report : (manifest report : List ℕ) (blocks : List Block) (ps : List Path) → IsWithin manifest blocks → ArePathsOf blocks ps → AreApart ps
     → report ≡ report_of (length ps) → PlainLaws → IsReport manifest report
 a_report manifest report blocks ps form paths apart text laws =
     let fs = files_from blocks ps paths in
@@ -37,11 +38,16 @@ a_report manifest report blocks ps form paths apart text laws =
       succeeds = laws.succeeds fs.0 plain;
     }
 
-pub a_bad_path : (manifest : List ℕ) (r : Refusal) (blocks : List Block) → IsFirstForm manifest blocks → PathsAre blocks None → IsRefusal 15 0 (codes "path") r → BreaksRule manifest r
-a_bad_path manifest r blocks form none is = inr (inl (is, (blocks, form, (λ files are. none (paths_of files) (paths_from blocks files are)))))
+-- what is refused for one reason is refused for another that follows
+pub broken : (e : Fault) (P Q : Refusal → Type 0) → ((r : Refusal) → P r → Q r) → IfRefused e P → IfRefused e Q
+broken (Refused r) P Q f h = f r h
+broken (Memory m) P Q f h = tt
 
-pub paths_meet : (manifest : List ℕ) (r : Refusal) (blocks : List Block) (ps : List Path) → IsFirstForm manifest blocks → ArePathsOf blocks ps → (AreApart ps → ⊥)
+pub a_bad_path : (manifest : List ℕ) (r : Refusal) (blocks : List Block) → IsWithin manifest blocks → PathsAre blocks None → IsRefusal 15 0 (codes "path") r → BreaksRule manifest r
+a_bad_path manifest r blocks form none is = inr (inr (inr (inl (is, (blocks, form, (λ files are. none (paths_of files) (paths_from blocks files are)))))))
+
+pub paths_meet : (manifest : List ℕ) (r : Refusal) (blocks : List Block) (ps : List Path) → IsWithin manifest blocks → ArePathsOf blocks ps → (AreApart ps → ⊥)
     → IsRefusal 15 0 (codes "apart") r → BreaksRule manifest r
 paths_meet manifest r blocks ps form paths close is =
     let fs = files_from blocks ps paths in
-    inr (inr (is, (blocks, form, fs.0, fs.1, (λ apart. close (subst AreApart fs.2 apart)))))
+    inr (inr (inr (inr (is, (blocks, form, fs.0, fs.1, (λ apart. close (subst AreApart fs.2 apart)))))))

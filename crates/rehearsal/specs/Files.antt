@@ -1,6 +1,6 @@
 -- The files that the blocks of a manifest put.
 use Rattle.std.specs.Prelude.{◌≡◌, ◌≢◌, ℕ, List, [], ◌∷◌, map, Option, Some, None, codes}
-use Rattle.file_blocks.specs.declared.block.Block.{Block}
+use Rattle.rehearsal.specs.declared.form.Block.{Block}
 use Rattle.fs_lang.specs.PathText.{IsPathText}
 use Rattle.fs_semantics.specs.FileTree.{Path}
 use Rattle.fs_semantics.specs.PlainFiles.{PlainFile}

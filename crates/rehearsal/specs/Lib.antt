@@ -1,3 +1,4 @@
+pub mod FileForm
 pub mod Files
 pub mod Judged
 pub mod Inputs

@@ -1,13 +1,16 @@
 //! What is said of a manifest.
 
-ghost use Rattle.std.specs.Prelude.{◌≡◌, ◌↔◌, IsTrue, IfOk, IfErr, codes};
+ghost use Rattle.std.specs.Prelude.{◌≡◌, ◌↔◌, ◌<◌, ◌^◌, length, IsTrue, IfOk, IfErr, codes};
 ghost use Rattle.rh_base.specs.Refused.{IfRefused, IsRefusal};
 ghost use Rattle.rehearsal.specs.Files.{MayBeManaged, ManagedPathIs, PathsAre};
-ghost use Rattle.rehearsal.specs.Judged.{report_of, IsReport, BreaksRule};
+ghost use Rattle.rehearsal.specs.Judged.{report_of, IsParsed, IsWithin, IsReport, IsSourceRefusal, BreaksRule};
 
-use file_blocks::{Block, first_form};
+use crate::form::{Block, file_blocks};
 use fs_lang::{Path, PathFault, are_apart};
 use fs_semantics::plain_files;
+use pp_parser::parse;
+use pp_syntax::{Manifest, lex};
+use rh_base::limits::RESOURCES;
 use rh_base::{Fault, NoMemory, Refusal, Seq, Text};
 use std::alloc::Global;
 
@@ -59,24 +62,54 @@ fn managed_paths(alloc: Global, blocks: &[Block]) -> Result<Option<Seq<Path>>, N
     Ok(Some(paths))
 }
 
-fn refusal(alloc: Global, name: &str) -> Result<Refusal, NoMemory>
-    ensures { IfOk result (IsRefusal 15 0 name.now) }
+fn refusal(alloc: Global, number: u16, name: &str) -> Fault
+    ensures { IfRefused result (IsRefusal number 0 name.now) }
 {
-    Refusal::new(alloc, 15, 0, name)
+    match Refusal::new(alloc, number, 0, name) {
+        Ok(refusal) => Fault::Refused(refusal),
+        Err(m) => Fault::Memory(m),
+    }
+}
+
+/// The tree that a manifest spells.
+fn tree_of(alloc: Global, manifest: &[u8]) -> Result<Manifest, Fault>
+    requires { length manifest.now < 2 ^ 32 }
+    ensures parsed { IfOk result (IsParsed manifest.now) }
+    ensures refused { IfErr result (λ e. IfRefused e (IsSourceRefusal manifest.now)) }
+{
+    let tokens = lex(alloc, manifest)?;
+    parse(alloc, &tokens)
+}
+
+/// The files that a manifest declares, if it declares nothing else and no more than can be judged.
+fn blocks_of(alloc: Global, manifest: &[u8]) -> Result<Seq<Block>, Fault>
+    requires { length manifest.now < 2 ^ 32 }
+    ensures found { IfOk result (IsWithin manifest.now) }
+    ensures refused { IfErr result (λ e. IfRefused e (BreaksRule manifest.now)) }
+{
+    let tree = tree_of(alloc, manifest)?;
+    let Some(blocks) = file_blocks(alloc, &tree)? else {
+        return Err(refusal(alloc, 15, "form"));
+    };
+    if blocks.len() > RESOURCES as usize {
+        return Err(refusal(alloc, 32, "resources"));
+    }
+    Ok(blocks)
 }
 
 /// The report on a manifest, or the first rule that it breaks.
 pub fn judged(alloc: Global, manifest: &[u8]) -> Result<Text, Fault>
+    requires { length manifest.now < 2 ^ 32 }
     ensures report { IfOk result (IsReport manifest.now) }
     ensures refused { IfErr result (λ e. IfRefused e (BreaksRule manifest.now)) }
 {
     plain_files();
-    let blocks = first_form(alloc, manifest)?;
+    let blocks = blocks_of(alloc, manifest)?;
     let Some(paths) = managed_paths(alloc, blocks.as_slice())? else {
-        return Err(Fault::Refused(refusal(alloc, "path")?));
+        return Err(refusal(alloc, 15, "path"));
     };
     if !are_apart(paths.as_slice()) {
-        return Err(Fault::Refused(refusal(alloc, "apart")?));
+        return Err(refusal(alloc, 15, "apart"));
     }
     Ok(report(alloc, paths.len())?)
 }

@@ -1,6 +1,7 @@
 //! Says of a manifest whether it is deterministic and idempotent.
 #![tactic(auto)]
 
+mod form;
 mod judge;
 mod run;
 mod sure;

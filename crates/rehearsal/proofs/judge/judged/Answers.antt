@@ -1,20 +1,24 @@
 use Rattle.std.proofs.Common.{None, sym, ap, subst, ◌∙◌}
+use Rattle.std.specs.Prelude.{codes}
 use Rattle.fs_semantics.specs.Apart.{AreApart}
 use Rattle.rehearsal.specs.Files.{ArePathsOf, PathsAre}
-use Rattle.rehearsal.specs.Judged.{report_of}
-use Rattle.rehearsal.proofs.Judging.{a_report, a_bad_path, paths_meet}
+use Rattle.rh_base.specs.Refused.{IsRefusal}
+use Rattle.rehearsal.specs.Judged.{report_of, BreaksRule}
+use Rattle.rehearsal.proofs.Judging.{broken, a_report, a_bad_path, paths_meet}
 use Rattle.rehearsal.proofs.judge.judged.Goals as goal
 
 pub returns-in_default-clause-refused : goal.returns-in_default-clause-refused
 returns-in_default-clause-refused c =
     let none : PathsAre c.in_ok-blocks.blocks None = subst (λ bs. PathsAre bs None) c.as_slice.ensures (subst (PathsAre c.as_slice.result.now) c.in_default.is c.in_ok-paths.ensures) in
-    a_bad_path c.args.manifest.now c.in_ok-refusal.field-0 c.in_ok-blocks.blocks c.in_ok-blocks.ensures.found none c.in_ok-refusal.ensures
+    broken c.refusal.result (IsRefusal 15 0 (codes "path")) (BreaksRule c.args.manifest.now)
+    (λ r is. a_bad_path c.args.manifest.now r c.in_ok-blocks.blocks c.in_ok-blocks.ensures.found none is) c.refusal.ensures
 
 pub returns-then-not-are_apart-clause-refused : goal.returns-then-not-are_apart-clause-refused
 returns-then-not-are_apart-clause-refused c =
     let paths : ArePathsOf c.in_ok-blocks.blocks c.in-Some.paths = subst (λ bs. ArePathsOf bs c.in-Some.paths) c.as_slice.ensures (subst (PathsAre c.as_slice.result.now) c.in-Some.is c.in_ok-paths.ensures) in
-    paths_meet c.args.manifest.now c.in_ok-refusal-2.field-0 c.in_ok-blocks.blocks c.in-Some.paths c.in_ok-blocks.ensures.found paths
-    (λ apart. let yes = c.are_apart.ensures.1 (subst AreApart (sym c.as_slice-2.ensures) apart) in let none = c.if-not-are_apart.true in cc) c.in_ok-refusal-2.ensures
+    let meet : AreApart c.in-Some.paths → ⊥ = λ apart. let yes = c.are_apart.ensures.1 (subst AreApart (sym c.as_slice-2.ensures) apart) in let none = c.if-not-are_apart.true in cc in
+    broken c.refusal-then-not-are_apart.result (IsRefusal 15 0 (codes "apart")) (BreaksRule c.args.manifest.now)
+    (λ r is. paths_meet c.args.manifest.now r c.in_ok-blocks.blocks c.in-Some.paths c.in_ok-blocks.ensures.found paths meet is) c.refusal-then-not-are_apart.ensures
 
 pub returns-clause-report : goal.returns-clause-report
 returns-clause-report c =

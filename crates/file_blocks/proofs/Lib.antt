@@ -1,4 +1,0 @@
-pub mod FirstWords
-pub mod FirstTurns
-pub mod FirstSteps
-pub mod FirstRules

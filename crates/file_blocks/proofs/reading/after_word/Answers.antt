@@ -1,5 +1,0 @@
-use Rattle.file_blocks.proofs.FirstWords.{stripped}
-use Rattle.file_blocks.proofs.reading.after_word.Goals as goal
-
-pub returns : goal.returns
-returns c = stripped c.args.word.now c.args.text.now c.strip_prefix.result c.strip_prefix.ensures.cases

@@ -1,2 +1,0 @@
-pub mod FirstGrammar
-pub mod FirstReading
