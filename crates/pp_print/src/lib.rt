@@ -1,0 +1,6 @@
+//! Printing: the canonical text of a manifest.
+#![tactic(auto)]
+
+mod words;
+
+pub use words::Word;
