@@ -1,5 +1,5 @@
 -- The words of each form, by those of the expressions in it.
-use Rattle.std.proofs.Common.{◌≡◌, ℕ, List, [], ◌∷◌, ◌++◌, map, refl, sym, ap, ◌∙◌}
+use Rattle.std.proofs.Common.{◌≡◌, ℕ, List, [], ◌∷◌, ◌++◌, map, refl, sym, ap, ◌∙◌, append_assoc}
 use Rattle.std.specs.Prelude.{ℤ, Bool, Option, option_map, ◌+◌}
 use Rattle.std.specs.Prelude as prelude
 use Rattle.std.specs.List.{flat_map, join_by}
@@ -12,10 +12,11 @@ use Rattle.pp_syntax.specs.declared.tree.Form.TheVariants.{rolls-Int, rolls-Str,
 use Rattle.pp_syntax.specs.declared.tree.Form.TheShapes.{former-Form-Select-1-at-3}
 use Rattle.pp_syntax.specs.declared.tree.Op.{Op}
 use Rattle.pp_print.specs.declared.words.Word.{Word}
-use Rattle.pp_print.specs.Expressions.{Printed, operand, form_by, printed_form, printed, level_in, option_by, operator, at_level, whole, pair_by, choice_by, hole_by, operation_by, chain_by}
+use Rattle.pp_print.specs.Expressions.{Printed, operand, form_by, printed_form, printed, level_in, option_by, operator, at_level, whole, pair_by, choice_by, hole_by, operation_by, chain_by, indexed, expr_words}
 use Rattle.pp_print.specs.Words.{word, sign, comma, listed, in_loose, in_braces, in_tight}
 use Rattle.pp_syntax.specs.declared.token.Kind.TheVariants as kind
-use Rattle.std.specs.Prelude.{codes, true, false}
+use Rattle.std.specs.Prelude.{codes, true, false, Result, Ok, Err, OnOk}
+use Rattle.rh_base.specs.declared.text.NoMemory.{NoMemory}
 
 -- ---- lists of what is mapped
 
@@ -112,3 +113,27 @@ printed_at base key = sym (ap printed_form (rolls-At base key)) ∙ printed_roll
 pub printed_select : (base : Expr) (choices : List (Option Expr × Expr)) → printed_form (form.Select base choices) ≡ form_by printed {Y = Form} (plain.Select base choices)
 printed_select base choices = sym (ap printed_form (rolls-Select base choices)) ∙ printed_rolled (plain.Select base choices)
 
+pub ruleset forms = (printed_int, printed_str, printed_var, printed_bool, printed_undef, printed_list, printed_map, printed_refer, printed_join, printed_chain, printed_prefix, printed_at, printed_select)
+
+-- ---- what is written in two steps
+
+pub in_two : (r : Result (Unit {0}) NoMemory) (old mid new a b all : List Word) → mid ≡ old ++ a → OnOk r (new ≡ mid ++ b) → all ≡ a ++ b → OnOk r (new ≡ old ++ all)
+in_two (Ok x) old mid new a b all first second same = second ∙ ap (λ (w : List Word). w ++ b) first ∙ append_assoc old a b ∙ ap (λ (w : List Word). old ++ w) (sym same)
+in_two (Err e) old mid new a b all first second same = tt
+
+pub chain_in_two : (f : Form) (first x : Expr) (more ys zs : List (Op × Expr)) (level : ℕ) → f ≡ form.Chain first more → x ≡ first → ys ≡ more → zs ≡ more → level ≡ level_in ys
+    → (printed_form f).words ≡ at_level (level + 1) (printed x) ++ flat_map (operation_by printed level) zs
+chain_in_two f first x more ys zs level is x_is ys_is zs_is level_is = ap (λ (g : Form). (printed_form g).words) is ∙ ap (λ (p : Printed). p.words) (printed_chain first more)
+    ∙ ap (λ (n : ℕ). at_level (n + 1) (printed first) ++ flat_map (operation_by printed n) more) (sym (level_is ∙ ap (λ (os : List (Op × Expr)). level_in os) ys_is))
+    ∙ ap (λ (y : Expr). at_level (level + 1) (printed y) ++ flat_map (operation_by printed level) more) (sym x_is)
+    ∙ ap (λ (os : List (Op × Expr)). at_level (level + 1) (printed x) ++ flat_map (operation_by printed level) os) (sym zs_is)
+
+pub index_in_two : (f : Form) (base key b k : Expr) → f ≡ form.At base key → b ≡ base → k ≡ key → (printed_form f).words ≡ indexed (printed b) ++ in_tight (expr_words k)
+index_in_two f base key b k is b_is k_is = ap (λ (g : Form). (printed_form g).words) is ∙ ap (λ (p : Printed). p.words) (printed_at base key)
+    ∙ ap (λ (x : Expr). indexed (printed x) ++ in_tight (expr_words key)) (sym b_is) ∙ ap (λ (x : Expr). indexed (printed b) ++ in_tight (expr_words x)) (sym k_is)
+
+pub select_in_two : (f : Form) (base b : Expr) (choices cs : List (Option Expr × Expr)) → f ≡ form.Select base choices → b ≡ base → cs ≡ choices
+    → (printed_form f).words ≡ at_level 8 (printed b) ++ (sign (codes "?") ++ in_braces (listed (choice_by printed) cs))
+select_in_two f base b choices cs is b_is cs_is = ap (λ (g : Form). (printed_form g).words) is ∙ ap (λ (p : Printed). p.words) (printed_select base choices)
+    ∙ ap (λ (x : Expr). at_level 8 (printed x) ++ (sign (codes "?") ++ in_braces (listed (choice_by printed) choices))) (sym b_is)
+    ∙ ap (λ (ds : List (Option Expr × Expr)). at_level 8 (printed b) ++ (sign (codes "?") ++ in_braces (listed (choice_by printed) ds))) (sym cs_is)
