@@ -15,6 +15,8 @@ use Rattle.pp_syntax.specs.declared.tree.Arrow.TheVariants as arrow
 use Rattle.pp_syntax.specs.declared.tree.Stmt.{Stmt, Stmt-F, fold-Stmt}
 use Rattle.pp_syntax.specs.declared.tree.Stmt.TheOpen as stmt
 use Rattle.pp_syntax.specs.declared.tree.Stmt.TheOpen.{Arm-F, CaseArm-F}
+use Rattle.pp_syntax.specs.declared.tree.Arm.{Arm, out-Arm}
+use Rattle.pp_syntax.specs.declared.tree.CaseArm.{CaseArm, out-CaseArm}
 use Rattle.pp_syntax.specs.declared.tree.TypeName.{TypeName, TypeName-F, fold-TypeName}
 use Rattle.pp_syntax.specs.declared.tree.TypeName.TheOpen as type
 use Rattle.pp_syntax.specs.declared.tree.Param.{Param}
@@ -123,6 +125,12 @@ case_arm_by s arm = listed (option_by expr_words) arm.options ++ (sign (codes ":
 
 unfoldable pub stmt_words : Stmt → List Word
 stmt_words s = fold-Stmt (List Word) (List Word) (List Word) (stmt_by (λ w. w) (λ w. w) (λ w. w)) (arm_by (λ w. w)) (case_arm_by (λ w. w)) s
+
+abbrev pub arm_words : Arm → List Word
+arm_words a = arm_by stmt_words (out-Arm a)
+
+abbrev pub case_arm_words : CaseArm → List Word
+case_arm_words a = case_arm_by stmt_words (out-CaseArm a)
 
 -- ---- types of parameters
 

@@ -2,6 +2,12 @@
 #![tactic(auto)]
 
 mod expression;
+mod item;
+mod manifest;
+mod resource;
+mod search;
+mod statement;
+mod types;
 mod words;
 
-pub use words::Word;
+pub use manifest::print;
