@@ -1,5 +1,6 @@
 -- The words of searches, statements and types, by those of what stands in them.
-use Rattle.std.proofs.Common.{◌≡◌, ℕ, List, [], ◌∷◌, ◌++◌, map, refl, sym, ap, ◌∙◌, append_assoc}
+use Rattle.std.proofs.Common.{◌≡◌, ℕ, List, [], ◌∷◌, ◌++◌, map, refl, sym, ap, ◌∙◌, append_assoc, length, arith}
+use Rattle.std.proofs.lemmas.List.{append-nil}
 use Rattle.std.specs.Prelude.{ℤ, Option, codes, Result, OnOk}
 use Rattle.std.specs.Prelude as prelude
 use Rattle.std.specs.List.{flat_map, join_by}
@@ -27,7 +28,7 @@ use Rattle.pp_syntax.specs.declared.tree.TypeName.TheShapes.{former-TypeName-Arr
 use Rattle.pp_print.specs.declared.words.Word.{Word}
 use Rattle.pp_print.specs.Words.{word, sign, keyword, comma, listed, in_braces, in_tight}
 use Rattle.pp_print.specs.Expressions.{expr_words, option_by}
-use Rattle.pp_print.specs.Statements.{Sought, search_by, sought, sought_at, stmt_by, stmt_words, arm_by, arm_words, case_arm_by, case_arm_words, block_by, else_by, type_by, type_words, type_word, member_by}
+use Rattle.pp_print.specs.Statements.{Sought, search_by, sought, sought_at, stmt_by, stmt_words, arm_by, arm_words, case_arm_by, case_arm_words, block_by, else_by, links, type_by, type_words, type_word, member_by}
 use Rattle.pp_print.proofs.Forms.{flat_mapped, join_mapped}
 
 -- ---- searches
@@ -166,3 +167,28 @@ pub type_variant : (members : List TypeName) → type_words (type.Variant member
 type_variant members = sym (ap type_words (rolls-Variant members)) ∙ type_rolled (plain_type.Variant members)
 
 pub ruleset types = (type_any, type_boolean, type_hash, type_str, type_int, type_array, type_optional, type_enum, type_variant)
+
+-- ---- what is written in two steps
+
+pub if_in_two : (s : Stmt) (at : ℕ) (arms ys : List Arm) (other zs : List Stmt) → s ≡ stmt.If at arms other → ys ≡ arms → zs ≡ other
+    → stmt_words s ≡ (keyword (codes "if") ++ join_by arm_words (keyword (codes "elsif")) ys) ++ else_by stmt_words zs
+if_in_two s at arms ys other zs is ys_is zs_is = ap stmt_words is ∙ words_if at arms other
+    ∙ ap (λ (xs : List Arm). keyword (codes "if") ++ (join_by arm_words (keyword (codes "elsif")) xs ++ else_by stmt_words other)) (sym ys_is)
+    ∙ ap (λ (xs : List Stmt). keyword (codes "if") ++ (join_by arm_words (keyword (codes "elsif")) ys ++ else_by stmt_words xs)) (sym zs_is)
+
+pub unless_in_two : (s : Stmt) (at : ℕ) (test t : Expr) (body ys other zs : List Stmt) → s ≡ stmt.Unless at test body other → t ≡ test → ys ≡ body → zs ≡ other
+    → stmt_words s ≡ (keyword (codes "unless") ++ (expr_words t ++ block_by stmt_words ys)) ++ else_by stmt_words zs
+unless_in_two s at test t body ys other zs is t_is ys_is zs_is = ap stmt_words is ∙ words_unless at test body other
+    ∙ ap (λ (x : Expr). keyword (codes "unless") ++ (expr_words x ++ (block_by stmt_words body ++ else_by stmt_words other))) (sym t_is)
+    ∙ ap (λ (xs : List Stmt). keyword (codes "unless") ++ (expr_words t ++ (block_by stmt_words xs ++ else_by stmt_words other))) (sym ys_is)
+    ∙ ap (λ (xs : List Stmt). keyword (codes "unless") ++ (expr_words t ++ (block_by stmt_words ys ++ else_by stmt_words xs))) (sym zs_is)
+    ∙ ap (λ (w : List Word). keyword (codes "unless") ++ w) (sym (append_assoc (expr_words t) (block_by stmt_words ys) (else_by stmt_words zs)))
+
+nothing_linked : (arrows : List Arrow) (rest : List Operand) → length rest ≡ 0 → links arrows rest ≡ []
+nothing_linked [] rest none = refl
+nothing_linked (a ∷ arrows) [] none = refl
+nothing_linked (a ∷ arrows) (y ∷ rest) none = absurd (omega (arith, none))
+
+-- Where no operand is left, no arrow is written.
+pub no_sides : (words old : List Word) (left all : List Arrow) (rest sides : List Operand) → length rest ≡ 0 → words ++ links left rest ≡ old ++ links all sides → words ≡ old ++ links all sides
+no_sides words old left all rest sides none same = sym (ap (λ (w : List Word). words ++ w) (nothing_linked left rest none) ∙ append-nil words) ∙ same
