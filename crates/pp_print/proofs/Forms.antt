@@ -38,7 +38,6 @@ join_same f g sep same (x ∷ xs) = ap (λ (r : List Word). r ++ flat_map (λ y.
 
 -- ---- what a form's words are, from those of the expressions in it
 
-
 choice_mapped : (h : Expr → Printed) (c : Option Expr × Expr) → choice_by (λ (p : Printed). p) (former-Form-Select-1-at-3.map Expr Printed h c) ≡ choice_by h c
 choice_mapped h (prelude.None, x) = refl
 choice_mapped h (prelude.Some y, x) = refl

@@ -3,6 +3,7 @@
 
 mod expression;
 mod item;
+mod laws;
 mod manifest;
 mod resource;
 mod search;
@@ -10,4 +11,8 @@ mod statement;
 mod types;
 mod words;
 
+pub use laws::fewest_backslashes;
 pub use manifest::print;
+
+#[cfg(test)]
+mod tests;

@@ -1,4 +1,4 @@
-ghost use Rattle.std.specs.Prelude.{◌≡◌, ◌++◌, OnOk, OnErr};
+ghost use Rattle.std.specs.Prelude.{◌≡◌, ◌++◌, IfOk, OnOk, OnErr};
 ghost use Rattle.pp_print.specs.Words.{clings, holds, text_from, text_of};
 ghost use Rattle.pp_print.specs.Statements.{manifest_words};
 ghost use Rattle.pp_print.specs.Canonical.{IsSpelled, canonical};
@@ -36,16 +36,24 @@ fn push_text(text: &mut Vec<u8>, words: &[Word]) -> Result<(), NoMemory>
     Ok(())
 }
 
+/// The canonical text of a manifest.
+pub(crate) fn canonical(alloc: Global, manifest: &Manifest) -> Result<Vec<u8>, NoMemory>
+    ensures { IfOk result (λ text. text.items ≡ canonical manifest.now) }
+{
+    let mut words = Words::new(alloc);
+    items(&mut words, manifest.items.as_slice())?;
+    let mut text = Vec::new(alloc);
+    push_text(&mut text, words.as_slice())?;
+    Ok(text)
+}
+
 /// Appends the canonical text of a manifest.
 pub fn print(alloc: Global, manifest: &Manifest, into: &mut Vec<u8>) -> Result<(), NoMemory>
     requires { IsSpelled manifest.now }
     ensures ok { OnOk result (into.new.items ≡ into.old.items ++ canonical manifest.now) }
     ensures err { OnErr result (into.new.items ≡ into.old.items) }
 {
-    let mut words = Words::new(alloc);
-    items(&mut words, manifest.items.as_slice())?;
-    let mut text = Vec::new(alloc);
-    push_text(&mut text, words.as_slice())?;
+    let text = canonical(alloc, manifest)?;
     into.extend_from_slice(&text)?;
     Ok(())
 }

@@ -65,12 +65,7 @@ fn sought_at(words: &mut Words, least: u32, s: &Search) -> Result<(), NoMemory>
 
 /// Searches of at least this level, with a keyword between them.
 #[cycle(search)]
-fn searches(
-    words: &mut Words,
-    least: u32,
-    between: &str,
-    all: &[Search],
-) -> Result<(), NoMemory>
+fn searches(words: &mut Words, least: u32, between: &str, all: &[Search]) -> Result<(), NoMemory>
     ensures { OnOk result (words.new ≡ words.old ++ join_by (λ s. sought_at least (sought s)) (keyword between.now) all.now) }
 {
     let Some((first, more)) = all.split_first() else {
