@@ -90,15 +90,15 @@ plain_short b v h = ap (λ t. length (cond t (92 ∷ b ∷ []) (b ∷ []) ++ esc
 
 pub fewest : (raw : List ℕ) → SqText raw → length (escaped (sq_value raw)) ≤ length raw
 fewest [] h = omega arith
-fewest (b ∷ raw) (inl h) = subst (λ (v : List ℕ). length (escaped v) ≤ length raw + 1) (sym (ap (λ t. cond t (sq_escaped raw) (b ∷ sq_value raw)) (ne_eqb b 92 h.1)))
+fewest (b ∷ raw) (inl h) = subst (λ (v : List ℕ). length (escaped v) ≤ length (b ∷ raw)) (sym (ap (λ t. cond t (sq_escaped raw) (b ∷ sq_value raw)) (ne_eqb b 92 h.1)))
     (omega (arith, plain_short b (sq_value raw) (plain_byte b (sq_value raw) h.1 h.0), fewest raw h.2))
 fewest (b ∷ []) (inr h) = absurd h.1
-fewest (b ∷ c ∷ raw) (inr h) = subst (λ x. length (escaped (cond (x == 92) (sq_escaped (c ∷ raw)) (x ∷ sq_value (c ∷ raw)))) ≤ length raw + 2) (sym h.0) (elim (special c) as (λ t. special c ≡ t → length (escaped (cond t (c ∷ sq_value raw) (92 ∷ c ∷ sq_value raw))) ≤ length raw + 2) [
+fewest (b ∷ c ∷ raw) (inr h) = subst (λ x. length (escaped (cond (x == 92) (sq_escaped (c ∷ raw)) (x ∷ sq_value (c ∷ raw)))) ≤ length (x ∷ c ∷ raw)) (sym h.0) (elim (special c) as (λ t. special c ≡ t → length (escaped (cond t (c ∷ sq_value raw) (92 ∷ c ∷ sq_value raw))) ≤ length (92 ∷ c ∷ raw)) [
   | true ↦ λ e. omega (arith, short_byte c (sq_value raw), fewest raw h.1)
   | false ↦ λ e. two c e (fewest raw h.1)
 ] refl)
   where
-    two : (c : ℕ) → special c ≡ false → length (escaped (sq_value raw)) ≤ length raw → length (escaped (92 ∷ c ∷ sq_value raw)) ≤ length raw + 2
+    two : (c : ℕ) → special c ≡ false → length (escaped (sq_value raw)) ≤ length raw → length (escaped (92 ∷ c ∷ sq_value raw)) ≤ length (92 ∷ c ∷ raw)
     two c e less =
         let n = escapes_special c (sq_value raw) e in
         omega (arith, plain_short 92 (c ∷ sq_value raw) e, plain_short c (sq_value raw) (plain_byte c (sq_value raw) n.0 n.1), less)
