@@ -1,3 +1,9 @@
 pub mod Forms
 pub mod Blocks
 pub mod Escapes
+pub mod Phrases
+pub mod Decimals
+pub mod TypeLaws
+pub mod Unplaced
+pub mod Reprints
+pub mod Standing
