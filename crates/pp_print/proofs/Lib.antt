@@ -6,4 +6,6 @@ pub mod Decimals
 pub mod TypeLaws
 pub mod Unplaced
 pub mod Reprints
+pub mod Postfixes
+pub mod Inners
 pub mod Standing

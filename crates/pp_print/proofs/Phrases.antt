@@ -1,5 +1,5 @@
 -- Tokens that have given words: how they are taken apart, and how they spell a list again.
-use Rattle.std.proofs.Common.{◌≡◌, ◌⊎◌, inl, inr, ℕ, ◌<◌, ◌^◌, true, false, List, [], ◌∷◌, ◌++◌, map, refl, sym, ap, subst, ◌∙◌, append_assoc, append-nil}
+use Rattle.std.proofs.Common.{◌≡◌, ◌⊎◌, inl, inr, ℕ, ◌<◌, ◌^◌, true, false, List, [], ◌∷◌, ◌++◌, map, refl, sym, ap, subst, ◌∙◌, append_assoc, append-nil, length, length-append, arith}
 use Rattle.std.specs.List.{AllByRecursion, flat_map, join_by}
 use Rattle.pp_syntax.specs.declared.token.Kind.{Kind}
 use Rattle.pp_syntax.specs.declared.token.Kind.TheVariants as kind
@@ -70,31 +70,40 @@ Stands _ s = Unit {0}
 abbrev pub AllStand : List Lexeme → Type 0
 AllStand ts = AllByRecursion (λ t. Stands t.kind t.text) ts
 
-pub both_stand : (ts us : List Lexeme) → AllStand (ts ++ us) → AllStand ts × AllStand us
+-- They stand in a text, and are fewer than d.
+abbrev pub Small : ℕ → List Lexeme → Type 0
+Small d ts = AllStand ts × (length ts < d)
+
+both_stand : (ts us : List Lexeme) → AllStand (ts ++ us) → AllStand ts × AllStand us
 both_stand [] us h = (tt, h)
 both_stand (t ∷ ts) us h = let r = both_stand ts us h.1 in ((h.0, r.0), r.1)
 
-pub parts_stand : (A B : Phrase) (ts : List Lexeme) (d : (A then B) ts) → AllStand ts → AllStand d.front × AllStand d.back
-parts_stand A B ts d h = both_stand d.front d.back (subst (λ (r : List Lexeme). AllStand r) d.whole h)
+pub both_small : (d : ℕ) (ts us whole : List Lexeme) → whole ≡ ts ++ us → Small d whole → Small d ts × Small d us
+both_small d ts us whole e h =
+    let r = both_stand ts us (subst (λ (r : List Lexeme). AllStand r) e h.0) in
+    ((r.0, omega (arith, h.1, ap length e, length-append ts us)), (r.1, omega (arith, h.1, ap length e, length-append ts us)))
+
+pub parts_stand : (d : ℕ) (A B : Phrase) (ts : List Lexeme) (h : (A then B) ts) → Small d ts → Small d h.front × Small d h.back
+parts_stand d A B ts h good = both_small d h.front h.back ts h.whole good
 
 -- ---- lists
 
 -- What is spelled by the one rule is spelled by the other in any tokens with its words, the same but for what h takes away.
-module _ {X Y : Type 0} (A B : X → List Lexeme → Type 0) (f : X → List Word) (h : X → Y) where
+module _ (n : ℕ) {X Y : Type 0} (A B : X → List Lexeme → Type 0) (f : X → List Word) (h : X → Y) where
   abbrev pub Renewed : X → List Lexeme → Type 0
   Renewed x us = (y : X) × B y us × (h x ≡ h y)
 
   abbrev pub Renews : Type 0
-  Renews = (x : X) (ts : List Lexeme) → A x ts → AllStand ts → (us : List Lexeme) → words_in us ≡ f x → Renewed x us
+  Renews = (x : X) (ts : List Lexeme) → A x ts → Small n ts → (us : List Lexeme) → words_in us ≡ f x → Renewed x us
 
-module _ {X Y : Type 0} (A B : X → List Lexeme → Type 0) (f : X → List Word) (h : X → Y) (again : Renews A B f h) (S T : Phrase) (sep : List Word) (between : (us : List Lexeme) → words_in us ≡ sep → T us) where
-  pub each_again : (xs : List X) (ts : List Lexeme) → Each S A xs ts → AllStand ts → (us : List Lexeme) → words_in us ≡ flat_map (λ x. sep ++ f x) xs → (ys : List X) × Each T B ys us × (map h xs ≡ map h ys)
+module _ (n : ℕ) {X Y : Type 0} (A B : X → List Lexeme → Type 0) (f : X → List Word) (h : X → Y) (again : Renews n A B f h) (S T : Phrase) (sep : List Word) (between : (us : List Lexeme) → words_in us ≡ sep → T us) where
+  pub each_again : (xs : List X) (ts : List Lexeme) → Each S A xs ts → Small n ts → (us : List Lexeme) → words_in us ≡ flat_map (λ x. sep ++ f x) xs → (ys : List X) × Each T B ys us × (map h xs ≡ map h ys)
   each_again [] ts d good us w = ([], no_word us w, refl)
   each_again (x ∷ xs) ts d good us w =
       let p = parts us (sep ++ f x) (flat_map (λ x. sep ++ f x) xs) w in
       let q = parts p.front sep (f x) p.first in
-      let g = parts_stand S (A x then Each S A xs) ts d good in
-      let k = parts_stand (A x) (Each S A xs) d.back d.second g.1 in
+      let g = parts_stand n S (A x then Each S A xs) ts d good in
+      let k = parts_stand n (A x) (Each S A xs) d.back d.second g.1 in
       let here = again x d.second.front d.second.first k.0 q.back q.second in
       let rest = each_again xs d.second.back d.second.second k.1 p.back p.second in (
         here.0 ∷ rest.0,
@@ -108,11 +117,11 @@ module _ {X Y : Type 0} (A B : X → List Lexeme → Type 0) (f : X → List Wor
         ap (λ (y : Y). y ∷ map h xs) here.2 ∙ ap (λ (r : List Y). h here.0 ∷ r) rest.2,
       )
 
-  pub separated_again : (xs : List X) (ts : List Lexeme) → Separated S A xs ts → AllStand ts → (us : List Lexeme) → words_in us ≡ join_by f sep xs → (ys : List X) × Separated T B ys us × (map h xs ≡ map h ys)
+  pub separated_again : (xs : List X) (ts : List Lexeme) → Separated S A xs ts → Small n ts → (us : List Lexeme) → words_in us ≡ join_by f sep xs → (ys : List X) × Separated T B ys us × (map h xs ≡ map h ys)
   separated_again [] ts d good us w = absurd d
   separated_again (x ∷ xs) ts d good us w =
       let p = parts us (f x) (flat_map (λ x. sep ++ f x) xs) w in
-      let g = parts_stand (A x) (Each S A xs) ts d good in
+      let g = parts_stand n (A x) (Each S A xs) ts d good in
       let here = again x d.front d.first g.0 p.front p.first in
       let rest = each_again xs d.back d.second g.1 p.back p.second in (
         here.0 ∷ rest.0,
@@ -120,18 +129,18 @@ module _ {X Y : Type 0} (A B : X → List Lexeme → Type 0) (f : X → List Wor
         ap (λ (y : Y). y ∷ map h xs) here.2 ∙ ap (λ (r : List Y). h here.0 ∷ r) rest.2,
       )
 
-module _ {X Y : Type 0} (A B : X → List Lexeme → Type 0) (f : X → List Word) (h : X → Y) (again : Renews A B f h) where
+module _ (n : ℕ) {X Y : Type 0} (A B : X → List Lexeme → Type 0) (f : X → List Word) (h : X → Y) (again : Renews n A B f h) where
   is_comma : (us : List Lexeme) → words_in us ≡ comma → Comma us
   is_comma us w = one_word kind.Sign (44 ∷ []) us w
 
   -- The comma at the end is left out.
-  pub listed_again : (xs : List X) (ts : List Lexeme) → Listed A xs ts → AllStand ts → (us : List Lexeme) → words_in us ≡ listed f xs → (ys : List X) × Listed B ys us × (map h xs ≡ map h ys)
+  pub listed_again : (xs : List X) (ts : List Lexeme) → Listed A xs ts → Small n ts → (us : List Lexeme) → words_in us ≡ listed f xs → (ys : List X) × Listed B ys us × (map h xs ≡ map h ys)
   listed_again xs ts d good us w =
-      let g = both_stand d.front d.back (subst (λ (r : List Lexeme). AllStand r) d.whole good) in
-      let s = separated_again A B f h again Comma Comma comma is_comma xs d.front d.first g.0 us w in
+      let g = both_small n d.front d.back ts d.whole good in
+      let s = separated_again n A B f h again Comma Comma comma is_comma xs d.front d.first g.0 us w in
       (s.0, record { front = us; back = []; first = s.1; second = inl refl; whole = sym (append-nil us) }, s.2)
 
-  pub maybe_listed_again : (xs : List X) (ts : List Lexeme) → MaybeListed A xs ts → AllStand ts → (us : List Lexeme) → words_in us ≡ listed f xs → (ys : List X) × MaybeListed B ys us × (map h xs ≡ map h ys)
+  pub maybe_listed_again : (xs : List X) (ts : List Lexeme) → MaybeListed A xs ts → Small n ts → (us : List Lexeme) → words_in us ≡ listed f xs → (ys : List X) × MaybeListed B ys us × (map h xs ≡ map h ys)
   maybe_listed_again [] ts d good us w = ([], no_word us w, refl)
   maybe_listed_again (x ∷ xs) ts d good us w = some (listed_again (x ∷ xs) ts d good us w)
     where

@@ -20,7 +20,7 @@ use Rattle.pp_print.specs.Expressions.{Printed, printed, printed_form, expr_word
 use Rattle.pp_print.specs.Places.{unplaced, unplaced_form}
 use Rattle.pp_print.proofs.Forms.{printed_chain, printed_prefix}
 use Rattle.pp_print.proofs.Unplaced.{unplaced_operation, unplaced_chain, unplaced_prefix}
-use Rattle.pp_print.proofs.Phrases.{words_in, Parts, parts, no_word, one_word, together, AllStand, parts_stand}
+use Rattle.pp_print.proofs.Phrases.{words_in, Parts, parts, no_word, one_word, together, Small, parts_stand}
 
 -- Any tokens with these words spell it by the rule, places aside.
 abbrev pub Again : Rule → Expr → List Word → Type 0
@@ -49,10 +49,10 @@ looser_by : (F : Rule) (k n : ℕ) (y : Expr) (us : List Lexeme) → loose F n y
 looser_by F zero n y us h = let same : n ≡ zero + n = omega arith in subst (λ m. loose F m y us) same h
 looser_by F (suc k) n y us h = let same : suc (k + n) ≡ suc k + n = omega arith in subst (λ m. loose F m y us) same (looser F (k + n) y us (looser_by F k n y us h))
 
-looser_to : (F : Rule) (m n : ℕ) (y : Expr) (us : List Lexeme) → m ≤ n → loose F m y us → loose F n y us
+pub looser_to : (F : Rule) (m n : ℕ) (y : Expr) (us : List Lexeme) → m ≤ n → loose F m y us → loose F n y us
 looser_to F m n y us below h = let same : (n - m) + m ≡ n = omega (arith, below) in subst (λ k. loose F k y us) same (looser_by F (n - m) m y us h)
 
-enclosed_again : (F : Rule) (x : Expr) (us : List Lexeme) → Again F x (expr_words x) → words_in us ≡ in_parens (expr_words x) → (y : Expr) × PostfixOf F y us × (unplaced x ≡ unplaced y)
+pub enclosed_again : (F : Rule) (x : Expr) (us : List Lexeme) → Again F x (expr_words x) → words_in us ≡ in_parens (expr_words x) → (y : Expr) × PostfixOf F y us × (unplaced x ≡ unplaced y)
 enclosed_again F x us again w =
     let p = parts us (sign (codes "(")) (expr_words x ++ sign (codes ")")) w in
     let q = parts p.back (expr_words x) (sign (codes ")")) p.second in
@@ -130,18 +130,18 @@ level_most op.Times = omega arith
 level_most op.In = omega arith
 level_most op.Not = omega arith
 
-module _ (F A : Rule) (level : ℕ) (most : level ≤ 6) (next : (x : Expr) (ts : List Lexeme) → A x ts → AllStand ts → Reprint F (level + 1) x) where
+module _ (n : ℕ) (F A : Rule) (level : ℕ) (most : level ≤ 6) (next : (x : Expr) (ts : List Lexeme) → A x ts → Small n ts → Reprint F (level + 1) x) where
   abbrev Next : Rule
   Next = RuleAt F (level + 1)
 
-  operations_again : (os : List (Op × Expr)) (ts : List Lexeme) → Operations level A os ts → AllStand ts → (us : List Lexeme) → words_in us ≡ flat_map (operation_by printed level) os
+  operations_again : (os : List (Op × Expr)) (ts : List Lexeme) → Operations level A os ts → Small n ts → (us : List Lexeme) → words_in us ≡ flat_map (operation_by printed level) os
       → (ps : List (Op × Expr)) × Operations level Next ps us × (map unplaced_operation os ≡ map unplaced_operation ps)
   operations_again [] ts d good us w = ([], no_word us w, refl)
   operations_again (o ∷ os) ts d good us w =
       let p = parts us (operation_by printed level o) (flat_map (operation_by printed level) os) w in
       let q = parts p.front (operator o.0) (at_level (level + 1) (printed o.1)) p.first in
-      let g = parts_stand (Operation level A o) (Operations level A os) ts d good in
-      let k = parts_stand (Infix o.0) (A o.1) d.front d.first.1 g.0 in
+      let g = parts_stand n (Operation level A o) (Operations level A os) ts d good in
+      let k = parts_stand n (Infix o.0) (A o.1) d.front d.first.1 g.0 in
       let here = at_level_again F (level + 1) o.1 (omega (arith, most)) (next o.1 d.first.1.back d.first.1.second k.1) q.back q.second in
       let rest = operations_again os d.back d.second g.1 p.back p.second in
       let mark : Infix o.0 q.front = infix_again o.0 d.first.1.front q.front d.first.1.first q.first in (
@@ -151,12 +151,12 @@ module _ (F A : Rule) (level : ℕ) (most : level ≤ 6) (next : (x : Expr) (ts 
         ap (λ (x : Expr). (o.0, x) ∷ map unplaced_operation os) here.2 ∙ ap (λ (r : List (Op × Expr)). (o.0, unplaced here.0) ∷ r) rest.2,
       )
 
-  chain_parts : (x : Expr) (o : Op × Expr) (os : List (Op × Expr)) (ts : List Lexeme) → (A x then Operations level A (o ∷ os)) ts → AllStand ts → (us : List Lexeme)
+  chain_parts : (x : Expr) (o : Op × Expr) (os : List (Op × Expr)) (ts : List Lexeme) → (A x then Operations level A (o ∷ os)) ts → Small n ts → (us : List Lexeme)
       → words_in us ≡ at_level (level + 1) (printed x) ++ flat_map (operation_by printed level) (o ∷ os)
       → (y : Expr) × (ps : List (Op × Expr)) × (Next y then Operations level Next ps) us × (unplaced x ≡ unplaced y) × (map unplaced_operation (o ∷ os) ≡ map unplaced_operation ps)
   chain_parts x o os ts d good us w =
       let p = parts us (at_level (level + 1) (printed x)) (flat_map (operation_by printed level) (o ∷ os)) w in
-      let g = parts_stand (A x) (Operations level A (o ∷ os)) ts d good in
+      let g = parts_stand n (A x) (Operations level A (o ∷ os)) ts d good in
       let first = at_level_again F (level + 1) x (omega (arith, most)) (next x d.front d.first g.0) p.front p.first in
       let rest = operations_again (o ∷ os) d.back d.second g.1 p.back p.second in
       (first.0, rest.0, together (Next first.0) (Operations level Next rest.0) us (at_level (level + 1) (printed x)) (flat_map (operation_by printed level) (o ∷ os)) p first.1 rest.1, first.2, rest.2)
@@ -172,7 +172,7 @@ module _ (F A : Rule) (level : ℕ) (most : level ≤ 6) (next : (x : Expr) (ts 
         (ap unplaced_form e ∙ unplaced_chain x (o ∷ os) ∙ ap (λ (w : Expr). form.Chain w (map unplaced_operation (o ∷ os))) same ∙ ap (λ (r : List (Op × Expr)). form.Chain (unplaced z) r) others ∙ sym (unplaced_chain z (p ∷ ps))),
   )
 
-  pub chain_again : ((z : Expr) (us : List Lexeme) → ChainOf level Next z us → RuleAt F level z us) → (y : Expr) (ts : List Lexeme) → ChainOf level A y ts → AllStand ts → Reprint F level y
+  pub chain_again : ((z : Expr) (us : List Lexeme) → ChainOf level Next z us → RuleAt F level z us) → (y : Expr) (ts : List Lexeme) → ChainOf level A y ts → Small n ts → Reprint F level y
   chain_again own y ts (rule.operand d) good = weaker F level (level + 1) y (omega arith) (next y ts d good)
   chain_again own y ts (rule.chain x o os e at d) good =
       let is : (printed y) ≡ form_by printed {Y = Form} (plain.Chain x (o ∷ os)) = ap printed_form e ∙ printed_chain x (o ∷ os) in
@@ -189,13 +189,13 @@ module _ (F A : Rule) (level : ℕ) (most : level ≤ 6) (next : (x : Expr) (ts 
 
 -- ---- prefixes
 
-module _ (F A : Rule) (next : (x : Expr) (ts : List Lexeme) → PostfixOf A x ts → AllStand ts → Reprint F 8 x) where
-  pub unary_again : (y : Expr) (ts : List Lexeme) → UnaryOf A y ts → AllStand ts → Reprint F 7 y
+module _ (n : ℕ) (F A : Rule) (next : (x : Expr) (ts : List Lexeme) → PostfixOf A x ts → Small n ts → Reprint F 8 x) where
+  pub unary_again : (y : Expr) (ts : List Lexeme) → UnaryOf A y ts → Small n ts → Reprint F 7 y
   unary_again y ts (rule.operand d) good = weaker F 7 8 y (omega arith) (next y ts d good)
   unary_again y ts (rule.prefixed o ops x e at d) good =
       let is : (printed y) ≡ form_by printed {Y = Form} (plain.Prefix (o ∷ ops) x) = ap printed_form e ∙ printed_prefix (o ∷ ops) x in
       let level_is : (printed y).level ≡ 7 = ap (λ (p : Printed). p.level) is in
-      let g = parts_stand (Prefixes (o ∷ ops)) (PostfixOf A x) ts d good in
+      let g = parts_stand n (Prefixes (o ∷ ops)) (PostfixOf A x) ts d good in
       record {
         below = omega (arith, level_is);
         own = λ us w.
@@ -212,25 +212,25 @@ module _ (F A : Rule) (next : (x : Expr) (ts : List Lexeme) → PostfixOf A x ts
 
 -- ---- expressions
 
-module _ (F E : Rule) (next : (x : Expr) (ts : List Lexeme) → PostfixOf E x ts → AllStand ts → Reprint F 8 x) where
-  in_again : (y : Expr) (ts : List Lexeme) → InOf E y ts → AllStand ts → Reprint F 6 y
-  in_again = chain_again F (UnaryOf E) 6 (omega arith) (unary_again F E next) (λ z us h. h)
+module _ (n : ℕ) (F E : Rule) (next : (x : Expr) (ts : List Lexeme) → PostfixOf E x ts → Small n ts → Reprint F 8 x) where
+  in_again : (y : Expr) (ts : List Lexeme) → InOf E y ts → Small n ts → Reprint F 6 y
+  in_again = chain_again n F (UnaryOf E) 6 (omega arith) (unary_again n F E next) (λ z us h. h)
 
-  product_again : (y : Expr) (ts : List Lexeme) → ProductOf E y ts → AllStand ts → Reprint F 5 y
-  product_again = chain_again F (InOf E) 5 (omega arith) in_again (λ z us h. h)
+  product_again : (y : Expr) (ts : List Lexeme) → ProductOf E y ts → Small n ts → Reprint F 5 y
+  product_again = chain_again n F (InOf E) 5 (omega arith) in_again (λ z us h. h)
 
-  sum_again : (y : Expr) (ts : List Lexeme) → SumOf E y ts → AllStand ts → Reprint F 4 y
-  sum_again = chain_again F (ProductOf E) 4 (omega arith) product_again (λ z us h. h)
+  sum_again : (y : Expr) (ts : List Lexeme) → SumOf E y ts → Small n ts → Reprint F 4 y
+  sum_again = chain_again n F (ProductOf E) 4 (omega arith) product_again (λ z us h. h)
 
-  equality_again : (y : Expr) (ts : List Lexeme) → EqualityOf E y ts → AllStand ts → Reprint F 3 y
-  equality_again = chain_again F (SumOf E) 3 (omega arith) sum_again (λ z us h. h)
+  equality_again : (y : Expr) (ts : List Lexeme) → EqualityOf E y ts → Small n ts → Reprint F 3 y
+  equality_again = chain_again n F (SumOf E) 3 (omega arith) sum_again (λ z us h. h)
 
-  comparison_again : (y : Expr) (ts : List Lexeme) → ComparisonOf E y ts → AllStand ts → Reprint F 2 y
-  comparison_again = chain_again F (EqualityOf E) 2 (omega arith) equality_again (λ z us h. h)
+  comparison_again : (y : Expr) (ts : List Lexeme) → ComparisonOf E y ts → Small n ts → Reprint F 2 y
+  comparison_again = chain_again n F (EqualityOf E) 2 (omega arith) equality_again (λ z us h. h)
 
-  and_again : (y : Expr) (ts : List Lexeme) → AndOf E y ts → AllStand ts → Reprint F 1 y
-  and_again = chain_again F (ComparisonOf E) 1 (omega arith) comparison_again (λ z us h. h)
+  and_again : (y : Expr) (ts : List Lexeme) → AndOf E y ts → Small n ts → Reprint F 1 y
+  and_again = chain_again n F (ComparisonOf E) 1 (omega arith) comparison_again (λ z us h. h)
 
   -- An expression is spelled again where each postfix is.
-  pub expr_again : (y : Expr) (ts : List Lexeme) → ExprOf E y ts → AllStand ts → Reprint F 0 y
-  expr_again = chain_again F (AndOf E) 0 (omega arith) and_again (λ z us h. h)
+  pub expr_again : (y : Expr) (ts : List Lexeme) → ExprOf E y ts → Small n ts → Reprint F 0 y
+  expr_again = chain_again n F (AndOf E) 0 (omega arith) and_again (λ z us h. h)

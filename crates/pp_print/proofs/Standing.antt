@@ -11,6 +11,11 @@ use Rattle.pp_syntax.specs.Bytes.{is_name}
 use Rattle.pp_syntax.specs.Opened.{in_quotes, in_hole, Ending}
 use Rattle.pp_syntax.specs.Tokens.{Lexeme, Of, begins, Segment, Joined, one, another, Name}
 use Rattle.pp_syntax.specs.Spelling.{Fits, NumberStands, kind_at, TokenAt, Reads, ends, gap, token, stuck, Spells}
+use Rattle.pp_syntax.specs.declared.tree.Item.{Item}
+use Rattle.pp_syntax.specs.declared.tree.Manifest.{Manifest}
+use Rattle.pp_syntax.specs.Derivation.{IsExpr}
+use Rattle.pp_syntax.specs.Statements.{IsStmtAt, Items}
+use Rattle.pp_print.specs.Canonical.{IsSpelled}
 use Rattle.pp_print.specs.Words.{has_dash}
 use Rattle.pp_print.proofs.Phrases.{Stands, AllStand}
 
@@ -125,3 +130,6 @@ read_stand p text tokens e (stuck a b c d f) = subst (λ (ts : List Lexeme). All
 
 pub spelled_stand : (text : List ℕ) (tokens : List Lexeme) → Spells text tokens → AllStand tokens
 spelled_stand text tokens h = read_stand _ text tokens _ h
+
+pub empty_spelled : (m : Manifest) → m.items ≡ [] → IsSpelled m
+empty_spelled m e = ([], [], ends refl refl refl, (0, subst (λ (items : List Item). Items IsExpr (IsStmtAt IsExpr 0) items []) (sym e) refl))

@@ -17,7 +17,7 @@ folded_is : (x : Expr) → folded x ≡ unplaced x
 unfolding folded unplaced_form
 folded_is x = fold_out-Expr Form Expr roll-Form (λ x. record { at = 0; form = x.form }) x
 
-rolled : (d : Form-F Form Expr) → unplaced_form (roll-Form d) ≡ roll-Form (map-Form Form Expr Form Expr unplaced_form unplaced d)
+pub rolled : (d : Form-F Form Expr) → unplaced_form (roll-Form d) ≡ roll-Form (map-Form Form Expr Form Expr unplaced_form unplaced d)
 unfolding folded unplaced_form
 rolled d = fold-roll-Form Form Expr roll-Form (λ x. record { at = 0; form = x.form }) d ∙ ap (λ (h : Expr → Expr). roll-Form (map-Form Form Expr Form Expr unplaced_form h d)) (λ i. λ x. folded_is x i)
 
