@@ -7,14 +7,10 @@ use Rattle.pp_syntax.specs.Tokens.{Lexeme, is_among, keywords, int_value}
 use Rattle.pp_syntax.specs.Phrases.{◌then◌, Some, Each, Separated, Listed, MaybeListed, Comma}
 use Rattle.pp_print.specs.declared.words.Word.{Word}
 use Rattle.pp_print.specs.Words.{word, comma, has_dash, listed}
+pub use Rattle.pp_print.specs.Words.{words_in}
 
 abbrev pub Phrase : Type 1
 Phrase = List Lexeme → Type 0
-
--- the words of tokens
-abbrev pub words_in : List Lexeme → List Word
-words_in [] = []
-words_in (t ∷ ts) = record { kind = t.kind; text = t.text } ∷ words_in ts
 
 -- ---- taken apart
 
@@ -74,7 +70,7 @@ AllStand ts = AllByRecursion (λ t. Stands t.kind t.text) ts
 abbrev pub Small : ℕ → List Lexeme → Type 0
 Small d ts = AllStand ts × (length ts < d)
 
-both_stand : (ts us : List Lexeme) → AllStand (ts ++ us) → AllStand ts × AllStand us
+pub both_stand : (ts us : List Lexeme) → AllStand (ts ++ us) → AllStand ts × AllStand us
 both_stand [] us h = (tt, h)
 both_stand (t ∷ ts) us h = let r = both_stand ts us h.1 in ((h.0, r.0), r.1)
 

@@ -3,7 +3,7 @@ use Rattle.std.specs.Prelude.{ℕ, Bool, true, false, ◌==◌, ◌||◌, ◌&&�
 use Rattle.std.specs.List.{list_any, flat_map, join_by}
 use Rattle.pp_syntax.specs.declared.token.Kind.{Kind}
 use Rattle.pp_syntax.specs.declared.token.Kind.TheVariants as kind
-use Rattle.pp_syntax.specs.Tokens.{is_among, keywords}
+use Rattle.pp_syntax.specs.Tokens.{Lexeme, is_among, keywords}
 use Rattle.pp_print.specs.declared.words.Word.{Word}
 
 abbrev pub word : Kind → List ℕ → List Word
@@ -17,6 +17,11 @@ keyword text = word kind.Keyword text
 
 abbrev pub comma : List Word
 comma = sign (codes ",")
+
+-- the words of tokens
+abbrev pub words_in : List Lexeme → List Word
+words_in [] = []
+words_in (t ∷ ts) = record { kind = t.kind; text = t.text } ∷ words_in ts
 
 -- ---- the text
 
