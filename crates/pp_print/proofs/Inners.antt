@@ -93,15 +93,19 @@ unplaced_var name = sym (ap unplaced_form (rolls-Var name)) ∙ rolled (plain.Va
 -- What is the same as a text with indexes, places aside, is one too, and so are the two with a variable in its place.
 transport : (y z w : Expr) → unplaced y ≡ unplaced z → ReadAsVariable z w → (v : Expr) × ReadAsVariable y v × (unplaced v ≡ unplaced w)
 transport y z w same (base name e f g) =
-    let h : unplaced_form y.form ≡ roll-Form (plain.Str name) = ap (λ (x : Expr). x.form) same ∙ ap unplaced_form e ∙ unplaced_str name ∙ sym (rolls-Str name) in
-    (record { at = y.at; form = form.Var name }, base name (str_case name y.form (out-Form y.form) (sym (roll-out-Form y.form)) (by_out y.form (plain.Str name) h)) refl refl,
-    ap (λ (k : Form). record { at = 0; form = k }) (ap unplaced_form (sym f)))
+    let h : unplaced_form y.form ≡ roll-Form (plain.Str name) = ap (λ (x : Expr). x.form) same ∙ ap unplaced_form e ∙ unplaced_str name ∙ sym (rolls-Str name) in (
+      record { at = y.at; form = form.Var name },
+      base name (str_case name y.form (out-Form y.form) (sym (roll-out-Form y.form)) (by_out y.form (plain.Str name) h)) refl refl,
+      ap (λ (k : Form). record { at = 0; form = k }) (ap unplaced_form (sym f)),
+    )
 transport y z w same (index a b k e f g r) =
     let h : unplaced_form y.form ≡ roll-Form (plain.At (unplaced a) (unplaced k)) = ap (λ (x : Expr). x.form) same ∙ ap unplaced_form e ∙ unplaced_at a k ∙ sym (rolls-At (unplaced a) (unplaced k)) in
     let c = at_case (unplaced a) (unplaced k) y.form (out-Form y.form) (sym (roll-out-Form y.form)) (by_out y.form (plain.At (unplaced a) (unplaced k)) h) in
-    let t = transport c.0 a b c.3 r in
-    (record { at = y.at; form = form.At t.0 c.1 }, index c.0 t.0 c.1 c.2 refl refl t.1,
-    ap (λ (q : Form). record { at = 0; form = q }) (unplaced_at t.0 c.1 ∙ ap (λ (p : Expr). form.At p (unplaced c.1)) t.2 ∙ ap (λ (p : Expr). form.At (unplaced b) p) c.4 ∙ sym (unplaced_at b k) ∙ ap unplaced_form (sym f)))
+    let t = transport c.0 a b c.3 r in (
+      record { at = y.at; form = form.At t.0 c.1 },
+      index c.0 t.0 c.1 c.2 refl refl t.1,
+      ap (λ (q : Form). record { at = 0; form = q }) (unplaced_at t.0 c.1 ∙ ap (λ (p : Expr). form.At p (unplaced c.1)) t.2 ∙ ap (λ (p : Expr). form.At (unplaced b) p) c.4 ∙ sym (unplaced_at b k) ∙ ap unplaced_form (sym f)),
+    )
 
 -- ---- words
 
@@ -129,8 +133,8 @@ texts_of x y (base name e f g) = record {
 texts_of x y (index a b k e f g r) =
     let t = texts_of a b r in
     let step : (p q : Expr) (n : List Word) → p.form ≡ form.At q k → (printed q).indexable ≡ true → expr_words q ≡ n ++ t.more → expr_words p ≡ n ++ (t.more ++ in_tight (expr_words k)) =
-        λ p q n is i w. ap (λ (z : Form). (printed_form z).words) is ∙ ap (λ (z : Printed). z.words) (printed_at q k) ∙ ap (λ v. cond v (expr_words q) (in_parens (expr_words q)) ++ in_tight (expr_words k)) i
-        ∙ ap (λ (z : List Word). z ++ in_tight (expr_words k)) w ∙ append_assoc n t.more (in_tight (expr_words k)) in
+    λ p q n is i w. ap (λ (z : Form). (printed_form z).words) is ∙ ap (λ (z : Printed). z.words) (printed_at q k) ∙ ap (λ v. cond v (expr_words q) (in_parens (expr_words q)) ++ in_tight (expr_words k)) i
+    ∙ ap (λ (z : List Word). z ++ in_tight (expr_words k)) w ∙ append_assoc n t.more (in_tight (expr_words k)) in
     record {
       name = t.name;
       more = t.more ++ in_tight (expr_words k);
@@ -281,15 +285,22 @@ module _ (m : ℕ) (nested : (e : ℕ) (x : Expr) (ts : List Lexeme) → IsExprA
       let t = one_word k s p.front p.first in
       let q : Lexeme = record { kind = kind.Sq; text = 39 ∷ (escaped name ++ 39 ∷ []); at = t.0 } in
       let again = known.inside (q ∷ p.back) (ap (λ (ws : List Word). quoted name ++ ws) p.second ∙ sym words) in
-      let moved = transport again.0 x y (sym again.2) r in
-      (t.0, p.back, again.0, moved.0, p.whole ∙ ap (λ (z : List Lexeme). z ++ p.back) t.1, moved.1, sym moved.2,
-      begun (IsExprAt e) again.0 moved.0 q p.back name (unwrap (IsExprAt e) again.0 moved.0 (q ∷ p.back) moved.1 again.1) moved.1 refl refl)
+      let moved = transport again.0 x y (sym again.2) r in (
+        t.0,
+        p.back,
+        again.0,
+        moved.0,
+        p.whole ∙ ap (λ (z : List Lexeme). z ++ p.back) t.1,
+        moved.1,
+        sym moved.2,
+        begun (IsExprAt e) again.0 moved.0 q p.back name (unwrap (IsExprAt e) again.0 moved.0 (q ∷ p.back) moved.1 again.1) moved.1 refl refl,
+      )
 
   postfix_by : (G : Rule) (x z : Expr) (k : Kind) (s : List ℕ) (at : ℕ) (rest us : List Lexeme) → us ≡ record { kind = k; text = s; at = at } ∷ rest → PrimaryOf G x (record { kind = k; text = s; at = at } ∷ []) → SuffixesOf G at x z rest → ExprOf G z us
   postfix_by G x z k s at rest us e d more = subst (λ (u : List Lexeme). ExprOf G z u) (sym e)
       (looser_to G 0 8 z (record { kind = k; text = s; at = at } ∷ rest) (omega arith) (record { operand = x; front = record { kind = k; text = s; at = at } ∷ []; back = rest; primary = d; suffixes = more; whole = refl }))
 
-  inner_again : (e : ℕ) (y : Expr) (ts : List Lexeme) → InnerOf (IsExprAt m) y ts → Small e ts → (us : List Lexeme) → words_in us ≡ expr_words y → (z : Expr) × InnerOf (IsExprAt (suc e)) z us × (unplaced y ≡ unplaced z)
+  pub inner_again : (e : ℕ) (y : Expr) (ts : List Lexeme) → InnerOf (IsExprAt m) y ts → Small e ts → (us : List Lexeme) → words_in us ≡ expr_words y → (z : Expr) × InnerOf (IsExprAt (suc e)) z us × (unplaced y ≡ unplaced z)
   inner_again e y ts (rule.other d n) good us w =
       let r = (nested e y ts d good).inside us w in
       (r.0, rule.other r.1 (λ first v q. let back = transport y r.0 v r.2 q in let t = texts_of y back.0 back.1 in no_word_first us (39 ∷ (escaped t.name ++ 39 ∷ [])) t.more (w ∙ t.text) first), r.2)
@@ -307,9 +318,12 @@ module _ (m : ℕ) (nested : (e : ℕ) (x : Expr) (ts : List Lexeme) → IsExprA
 
       by_variable : (name : List ℕ) → (at : ℕ) × (rest : List Lexeme) × (x2 : Expr) × (v : Expr) × (us ≡ record { kind = kind.Var; text = 36 ∷ name; at = at } ∷ rest) × ReadAsVariable x2 v × (unplaced y ≡ unplaced v)
           × Begun (IsExprAt e) x2 v (record { kind = kind.Sq; text = 39 ∷ (escaped name ++ 39 ∷ []); at = at }) rest name → (z : Expr) × InnerOf (IsExprAt (suc e)) z us × (unplaced y ≡ unplaced z)
-      by_variable name (at, rest, x2, v, us_is, read, same, g) =
-          (v, rule.other (postfix_by (IsExprAt e) g.read v kind.Var (36 ∷ name) at rest us us_is (rule.variable name (ap (λ n. record { kind = kind.Var; text = 36 ∷ name; at = n } ∷ []) (sym g.read_placed)) g.is_read) g.behind_read)
-              (λ first z q. let bad : ◌≡◌ {A = Option Kind} (prelude.Some kind.Var) (prelude.Some kind.Word) = sym (ap kind_of_first us_is) ∙ first in cc), same)
+      by_variable name (at, rest, x2, v, us_is, read, same, g) = (
+        v,
+        rule.other (postfix_by (IsExprAt e) g.read v kind.Var (36 ∷ name) at rest us us_is (rule.variable name (ap (λ n. record { kind = kind.Var; text = 36 ∷ name; at = n } ∷ []) (sym g.read_placed)) g.is_read) g.behind_read)
+            (λ first z q. let bad : ◌≡◌ {A = Option Kind} (prelude.Some kind.Var) (prelude.Some kind.Word) = sym (ap kind_of_first us_is) ∙ first in cc),
+        same,
+      )
 
 -- ---- expressions at any depth
 

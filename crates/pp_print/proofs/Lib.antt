@@ -9,3 +9,5 @@ pub mod Reprints
 pub mod Postfixes
 pub mod Inners
 pub mod Standing
+pub mod Widening
+pub mod Bodies

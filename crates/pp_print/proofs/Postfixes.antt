@@ -115,18 +115,23 @@ module _ (E : Rule) (e : ℕ) (nested : (x : Expr) (ts : List Lexeme) → E x ts
       let g = parts_stand e (E p.0) (Sign (codes "=>") then E p.1) ts d good in
       let k = parts_stand e (Sign (codes "=>")) (E p.1) d.back d.second g.1 in
       let x = inside_again p.0 d.front d.first g.0 a.front a.first in
-      let y = inside_again p.1 d.second.back d.second.second k.1 b.back b.second in
-      ((x.0, y.0), together (F x.0) (Sign (codes "=>") then F y.0) us (expr_words p.0) (sign (codes "=>") ++ expr_words p.1) a x.1
-          (together (Sign (codes "=>")) (F y.0) a.back (sign (codes "=>")) (expr_words p.1) b (one_word kind.Sign (codes "=>") b.front b.first) y.1),
-      ap (λ (z : Expr). record { 0 = z; 1 = unplaced p.1 }) x.2 ∙ ap (λ (z : Expr). record { 0 = unplaced x.0; 1 = z }) y.2)
+      let y = inside_again p.1 d.second.back d.second.second k.1 b.back b.second in (
+        (x.0, y.0),
+        together (F x.0) (Sign (codes "=>") then F y.0) us (expr_words p.0) (sign (codes "=>") ++ expr_words p.1) a x.1
+            (together (Sign (codes "=>")) (F y.0) a.back (sign (codes "=>")) (expr_words p.1) b (one_word kind.Sign (codes "=>") b.front b.first) y.1),
+        ap (λ (z : Expr). record { 0 = z; 1 = unplaced p.1 }) x.2 ∙ ap (λ (z : Expr). record { 0 = unplaced x.0; 1 = z }) y.2,
+      )
 
   in_tight_again : (xs : List Expr) (ts : List Lexeme) → Listed E xs ts → Small e ts → (us : List Lexeme) → words_in us ≡ in_tight (listed expr_words xs) → (ys : List Expr) × (Tight then Listed F ys then Sign (codes "]")) us × (map unplaced xs ≡ map unplaced ys)
   in_tight_again xs ts d good us w =
       let p = parts us (word kind.Tight (codes "[")) (listed expr_words xs ++ sign (codes "]")) w in
       let q = parts p.back (listed expr_words xs) (sign (codes "]")) p.second in
-      let r = listed_again e E F expr_words unplaced inside_again xs ts d good q.front q.first in
-      (r.0, together Tight (Listed F r.0 then Sign (codes "]")) us (word kind.Tight (codes "[")) (listed expr_words xs ++ sign (codes "]")) p (one_word kind.Tight (codes "[") p.front p.first)
-          (together (Listed F r.0) (Sign (codes "]")) p.back (listed expr_words xs) (sign (codes "]")) q r.1 (one_word kind.Sign (codes "]") q.back q.second)), r.2)
+      let r = listed_again e E F expr_words unplaced inside_again xs ts d good q.front q.first in (
+        r.0,
+        together Tight (Listed F r.0 then Sign (codes "]")) us (word kind.Tight (codes "[")) (listed expr_words xs ++ sign (codes "]")) p (one_word kind.Tight (codes "[") p.front p.first)
+            (together (Listed F r.0) (Sign (codes "]")) p.back (listed expr_words xs) (sign (codes "]")) q r.1 (one_word kind.Sign (codes "]") q.back q.second)),
+        r.2,
+      )
 
   list_reprint : (y : Expr) (members : List Expr) (ts : List Lexeme) → y.form ≡ form.List members → MaybeListed E members ts → Small e ts → Reprint F 8 y
   list_reprint y members ts f d good = solid_reprint F y (in_loose (listed expr_words members)) true (ap printed_form f ∙ printed_list members) (λ us w.
@@ -134,10 +139,12 @@ module _ (E : Rule) (e : ℕ) (nested : (x : Expr) (ts : List Lexeme) → E x ts
       let q = parts p.back (listed expr_words members) (sign (codes "]")) p.second in
       let t = one_word kind.Loose (codes "[") p.front p.first in
       let r = maybe_listed_again e E F expr_words unplaced inside_again members ts d good q.front q.first in
-      let z : Expr = record { at = t.0; form = form.List r.0 } in
-      (z, primary_postfix F z us (rule.list r.0 (together (Token kind.Loose (codes "[") t.0) (MaybeListed F r.0 then Sign (codes "]")) us (word kind.Loose (codes "[")) (listed expr_words members ++ sign (codes "]")) p t.1
-          (together (MaybeListed F r.0) (Sign (codes "]")) p.back (listed expr_words members) (sign (codes "]")) q r.1 (one_word kind.Sign (codes "]") q.back q.second))) refl),
-      same_form y (form.List members) (form.List r.0) t.0 f (unplaced_list members ∙ ap (λ (xs : List Expr). form.List xs) r.2 ∙ sym (unplaced_list r.0))))
+      let z : Expr = record { at = t.0; form = form.List r.0 } in (
+        z,
+        primary_postfix F z us (rule.list r.0 (together (Token kind.Loose (codes "[") t.0) (MaybeListed F r.0 then Sign (codes "]")) us (word kind.Loose (codes "[")) (listed expr_words members ++ sign (codes "]")) p t.1
+            (together (MaybeListed F r.0) (Sign (codes "]")) p.back (listed expr_words members) (sign (codes "]")) q r.1 (one_word kind.Sign (codes "]") q.back q.second))) refl),
+        same_form y (form.List members) (form.List r.0) t.0 f (unplaced_list members ∙ ap (λ (xs : List Expr). form.List xs) r.2 ∙ sym (unplaced_list r.0)),
+      ))
 
   map_reprint : (y : Expr) (pairs : List (Expr × Expr)) (ts : List Lexeme) → y.form ≡ form.Map pairs → MaybeListed (PairOf E) pairs ts → Small e ts → Reprint F 8 y
   map_reprint y pairs ts f d good = solid_reprint F y (in_braces (listed (pair_by printed) pairs)) false (ap printed_form f ∙ printed_map pairs) (λ us w.
@@ -145,23 +152,28 @@ module _ (E : Rule) (e : ℕ) (nested : (x : Expr) (ts : List Lexeme) → E x ts
       let q = parts p.back (listed (pair_by printed) pairs) (sign (codes "}")) p.second in
       let t = one_word kind.Sign (codes "{") p.front p.first in
       let r = maybe_listed_again e (PairOf E) (PairOf F) (pair_by printed) unplaced_pair pair_again pairs ts d good q.front q.first in
-      let z : Expr = record { at = t.0; form = form.Map r.0 } in
-      (z, primary_postfix F z us (rule.map r.0 (together (Token kind.Sign (codes "{") t.0) (MaybeListed (PairOf F) r.0 then Sign (codes "}")) us (sign (codes "{")) (listed (pair_by printed) pairs ++ sign (codes "}")) p t.1
-          (together (MaybeListed (PairOf F) r.0) (Sign (codes "}")) p.back (listed (pair_by printed) pairs) (sign (codes "}")) q r.1 (one_word kind.Sign (codes "}") q.back q.second))) refl),
-      same_form y (form.Map pairs) (form.Map r.0) t.0 f (unplaced_map pairs ∙ ap (λ (xs : List (Expr × Expr)). form.Map xs) r.2 ∙ sym (unplaced_map r.0))))
+      let z : Expr = record { at = t.0; form = form.Map r.0 } in (
+        z,
+        primary_postfix F z us (rule.map r.0 (together (Token kind.Sign (codes "{") t.0) (MaybeListed (PairOf F) r.0 then Sign (codes "}")) us (sign (codes "{")) (listed (pair_by printed) pairs ++ sign (codes "}")) p t.1
+            (together (MaybeListed (PairOf F) r.0) (Sign (codes "}")) p.back (listed (pair_by printed) pairs) (sign (codes "}")) q r.1 (one_word kind.Sign (codes "}") q.back q.second))) refl),
+        same_form y (form.Map pairs) (form.Map r.0) t.0 f (unplaced_map pairs ∙ ap (λ (xs : List (Expr × Expr)). form.Map xs) r.2 ∙ sym (unplaced_map r.0)),
+      ))
 
   pub refer_again : (y : Expr) (name : List ℕ) (titles : List Expr) (ts : List Lexeme) → y.form ≡ form.Refer name titles → Listed E titles ts → Small e ts → (us : List Lexeme) → words_in us ≡ refer_by printed name titles
       → (z : Expr) × ReferenceOf F z us × (unplaced y ≡ unplaced z)
   refer_again y name titles ts f d good us w =
       let p = parts us (word kind.Ref name) (in_tight (listed expr_words titles)) w in
       let t = one_word kind.Ref name p.front p.first in
-      let r = in_tight_again titles ts d good p.back p.second in
-      (record { at = t.0; form = form.Refer name r.0 }, record {
-        name = name;
-        titles = r.0;
-        spelled = together (Token kind.Ref name t.0) (Tight then Listed F r.0 then Sign (codes "]")) us (word kind.Ref name) (in_tight (listed expr_words titles)) p t.1 r.1;
-        form_is = refl;
-      }, same_form y (form.Refer name titles) (form.Refer name r.0) t.0 f (unplaced_refer name titles ∙ ap (λ (xs : List Expr). form.Refer name xs) r.2 ∙ sym (unplaced_refer name r.0)))
+      let r = in_tight_again titles ts d good p.back p.second in (
+        record { at = t.0; form = form.Refer name r.0 },
+        record {
+          name = name;
+          titles = r.0;
+          spelled = together (Token kind.Ref name t.0) (Tight then Listed F r.0 then Sign (codes "]")) us (word kind.Ref name) (in_tight (listed expr_words titles)) p t.1 r.1;
+          form_is = refl;
+        },
+        same_form y (form.Refer name titles) (form.Refer name r.0) t.0 f (unplaced_refer name titles ∙ ap (λ (xs : List Expr). form.Refer name xs) r.2 ∙ sym (unplaced_refer name r.0)),
+      )
 
   refer_reprint : (y : Expr) (name : List ℕ) (titles : List Expr) (ts : List Lexeme) → y.form ≡ form.Refer name titles → Listed E titles ts → Small e ts → Reprint F 8 y
   refer_reprint y name titles ts f d good = solid_reprint F y (refer_by printed name titles) true (ap printed_form f ∙ printed_refer name titles) (λ us w.
@@ -175,9 +187,12 @@ module _ (E : Rule) (e : ℕ) (nested : (x : Expr) (ts : List Lexeme) → E x ts
     hole_again y again us w =
         let p = parts us (word kind.Hole (codes "${")) (expr_words y ++ word kind.HoleEnd (codes "}")) w in
         let q = parts p.back (expr_words y) (word kind.HoleEnd (codes "}")) p.second in
-        let r = again q.front q.first in
-        (r.0, rule.hole (together (Some kind.Hole (codes "${")) (InnerOf F r.0 then Some kind.HoleEnd (codes "}")) us (word kind.Hole (codes "${")) (expr_words y ++ word kind.HoleEnd (codes "}")) p (one_word kind.Hole (codes "${") p.front p.first)
-            (together (InnerOf F r.0) (Some kind.HoleEnd (codes "}")) p.back (expr_words y) (word kind.HoleEnd (codes "}")) q r.1 (one_word kind.HoleEnd (codes "}") q.back q.second))), r.2)
+        let r = again q.front q.first in (
+          r.0,
+          rule.hole (together (Some kind.Hole (codes "${")) (InnerOf F r.0 then Some kind.HoleEnd (codes "}")) us (word kind.Hole (codes "${")) (expr_words y ++ word kind.HoleEnd (codes "}")) p (one_word kind.Hole (codes "${") p.front p.first)
+              (together (InnerOf F r.0) (Some kind.HoleEnd (codes "}")) p.back (expr_words y) (word kind.HoleEnd (codes "}")) q r.1 (one_word kind.HoleEnd (codes "}") q.back q.second))),
+          r.2,
+        )
 
     -- one token in a hole, which is no word
     leaf_inner : (y : Expr) (f : Form) (k : Kind) (s : List ℕ) (b : Bool) → y.form ≡ f → printed_form f ≡ operand (word k s) b → k ≢ kind.Word → Leaf (IsExprAt e) f k s
@@ -206,9 +221,11 @@ module _ (E : Rule) (e : ℕ) (nested : (x : Expr) (ts : List Lexeme) → E x ts
         let p = parts us (hole_by printed y) (flat_map (hole_by printed) ms) w in
         let g = parts_stand e (MemberOf E y) (Members E ms) ts d good in
         let here = member_again y d.front d.first g.0 p.front p.first in
-        let rest = members_again ms d.back d.second g.1 p.back p.second in
-        (here.0 ∷ rest.0, together (MemberOf F here.0) (Members F rest.0) us (hole_by printed y) (flat_map (hole_by printed) ms) p here.1 rest.1,
-        ap (λ (x : Expr). x ∷ map unplaced ms) here.2 ∙ ap (λ (r : List Expr). unplaced here.0 ∷ r) rest.2)
+        let rest = members_again ms d.back d.second g.1 p.back p.second in (
+          here.0 ∷ rest.0,
+          together (MemberOf F here.0) (Members F rest.0) us (hole_by printed y) (flat_map (hole_by printed) ms) p here.1 rest.1,
+          ap (λ (x : Expr). x ∷ map unplaced ms) here.2 ∙ ap (λ (r : List Expr). unplaced here.0 ∷ r) rest.2,
+        )
 
     hole_part : (us : List Lexeme) (ws : List Word) → words_in us ≡ word kind.Hole (codes "${") ++ ws → has_part us ≡ true
     hole_part [] ws h = cc
@@ -229,10 +246,12 @@ module _ (E : Rule) (e : ℕ) (nested : (x : Expr) (ts : List Lexeme) → E x ts
         let q = parts p.back (flat_map (hole_by printed) ms) (word kind.DqClose (codes "\"")) p.second in
         let t = one_word kind.DqOpen (codes "\"") p.front p.first in
         let r = members_again ms ts d.0 good q.front q.first in
-        let z : Expr = record { at = t.0; form = form.Join r.0 } in
-        (z, primary_postfix F z us (rule.string (rule.joined r.0 (together (Token kind.DqOpen (codes "\"") t.0) (Joined F r.0 then Some kind.DqClose (codes "\"")) us (word kind.DqOpen (codes "\"")) (flat_map (hole_by printed) ms ++ word kind.DqClose (codes "\"")) p t.1
-            (together (Joined F r.0) (Some kind.DqClose (codes "\"")) p.back (flat_map (hole_by printed) ms) (word kind.DqClose (codes "\"")) q (r.1, some_part ms ts q.front d.0 d.1 q.first) (one_word kind.DqClose (codes "\"") q.back q.second))) refl)),
-        same_form y (form.Join ms) (form.Join r.0) t.0 f (unplaced_join ms ∙ ap (λ (xs : List Expr). form.Join xs) r.2 ∙ sym (unplaced_join r.0))))
+        let z : Expr = record { at = t.0; form = form.Join r.0 } in (
+          z,
+          primary_postfix F z us (rule.string (rule.joined r.0 (together (Token kind.DqOpen (codes "\"") t.0) (Joined F r.0 then Some kind.DqClose (codes "\"")) us (word kind.DqOpen (codes "\"")) (flat_map (hole_by printed) ms ++ word kind.DqClose (codes "\"")) p t.1
+              (together (Joined F r.0) (Some kind.DqClose (codes "\"")) p.back (flat_map (hole_by printed) ms) (word kind.DqClose (codes "\"")) q (r.1, some_part ms ts q.front d.0 d.1 q.first) (one_word kind.DqClose (codes "\"") q.back q.second))) refl)),
+          same_form y (form.Join ms) (form.Join r.0) t.0 f (unplaced_join ms ∙ ap (λ (xs : List Expr). form.Join xs) r.2 ∙ sym (unplaced_join r.0)),
+        ))
 
     -- ---- all of them
 
@@ -373,10 +392,12 @@ module _ (E : Rule) (nested : (e : ℕ) (x : Expr) (ts : List Lexeme) → E x ts
       let g = parts_stand e (OptionOf E c.0) (Sign (codes "=>") then E c.1) ts d good in
       let k = parts_stand e (Sign (codes "=>")) (E c.1) d.back d.second g.1 in
       let o = option_again e c.0 d.front d.first g.0 a.front a.first in
-      let x = (nested e c.1 d.second.back d.second.second k.1).inside b.back b.second in
-      ((o.0, x.0), together (OptionOf (IsExprAt (suc e)) o.0) (Sign (codes "=>") then IsExprAt (suc e) x.0) us (option_by expr_words c.0) (sign (codes "=>") ++ expr_words c.1) a o.1
-          (together (Sign (codes "=>")) (IsExprAt (suc e) x.0) a.back (sign (codes "=>")) (expr_words c.1) b (one_word kind.Sign (codes "=>") b.front b.first) x.1),
-      choice_same c (o.0, x.0) o.2 x.2)
+      let x = (nested e c.1 d.second.back d.second.second k.1).inside b.back b.second in (
+        (o.0, x.0),
+        together (OptionOf (IsExprAt (suc e)) o.0) (Sign (codes "=>") then IsExprAt (suc e) x.0) us (option_by expr_words c.0) (sign (codes "=>") ++ expr_words c.1) a o.1
+            (together (Sign (codes "=>")) (IsExprAt (suc e) x.0) a.back (sign (codes "=>")) (expr_words c.1) b (one_word kind.Sign (codes "=>") b.front b.first) x.1),
+        choice_same c (o.0, x.0) o.2 x.2,
+      )
 
   index_again : (e : ℕ) (x z key : Expr) (ts : List Lexeme) → Reprint (IsExprAt (suc (suc e))) 8 x → Reprint (IsExprAt (suc e)) 8 x → (Tight then E key then Sign (codes "]")) ts → Small (suc (suc e)) ts → z.form ≡ form.At x key → Reprint (IsExprAt (suc (suc e))) 8 z
   index_again e x z key ts r s d good f =
@@ -392,9 +413,11 @@ module _ (E : Rule) (nested : (e : ℕ) (x : Expr) (ts : List Lexeme) → E x ts
       let inside = key_known.inside t.front t.first in
       let y : Expr = record { at = place_of us; form = form.At base.0 inside.0 } in
       let suffix : SuffixOf (IsExprAt (suc (suc e))) base.0 y p.back = rule.index inside.0 (together Tight (IsExprAt (suc (suc e)) inside.0 then Sign (codes "]")) p.back (word kind.Tight (codes "[")) (expr_words key ++ sign (codes "]")) q (one_word kind.Tight (codes "[") q.front q.first)
-          (together (IsExprAt (suc (suc e)) inside.0) (Sign (codes "]")) q.back (expr_words key) (sign (codes "]")) t inside.1 (one_word kind.Sign (codes "]") t.back t.second))) refl in
-      (y, extend (IsExprAt (suc (suc e))) base.0 y p.front p.back us base.1 suffix p.whole refl,
-      same_form z (form.At x key) (form.At base.0 inside.0) (place_of us) f (unplaced_at x key ∙ ap (λ (v : Expr). form.At v (unplaced key)) base.2 ∙ ap (λ (v : Expr). form.At (unplaced base.0) v) inside.2 ∙ sym (unplaced_at base.0 inside.0))))
+      (together (IsExprAt (suc (suc e)) inside.0) (Sign (codes "]")) q.back (expr_words key) (sign (codes "]")) t inside.1 (one_word kind.Sign (codes "]") t.back t.second))) refl in (
+        y,
+        extend (IsExprAt (suc (suc e))) base.0 y p.front p.back us base.1 suffix p.whole refl,
+        same_form z (form.At x key) (form.At base.0 inside.0) (place_of us) f (unplaced_at x key ∙ ap (λ (v : Expr). form.At v (unplaced key)) base.2 ∙ ap (λ (v : Expr). form.At (unplaced base.0) v) inside.2 ∙ sym (unplaced_at base.0 inside.0)),
+      ))
 
   selection_again : (e : ℕ) (choices : List (Option Expr × Expr)) (ts : List Lexeme) → (Sign (codes "?") then Sign (codes "{") then Listed (ChoiceOf E) choices then Sign (codes "}")) ts → Small e ts → (us : List Lexeme)
       → words_in us ≡ sign (codes "?") ++ in_braces (listed (choice_by printed) choices)
@@ -406,20 +429,25 @@ module _ (E : Rule) (nested : (e : ℕ) (x : Expr) (ts : List Lexeme) → E x ts
       let g = parts_stand e (Sign (codes "?")) (Sign (codes "{") then Listed (ChoiceOf E) choices then Sign (codes "}")) ts d good in
       let k = parts_stand e (Sign (codes "{")) (Listed (ChoiceOf E) choices then Sign (codes "}")) d.back d.second g.1 in
       let m = parts_stand e (Listed (ChoiceOf E) choices) (Sign (codes "}")) d.second.back d.second.second k.1 in
-      let r = listed_again e (ChoiceOf E) (ChoiceOf (IsExprAt (suc e))) (choice_by printed) unplaced_choice (choice_again e) choices d.second.second.front d.second.second.first m.0 t.front t.first in
-      (r.0, together (Sign (codes "?")) (Sign (codes "{") then Listed (ChoiceOf (IsExprAt (suc e))) r.0 then Sign (codes "}")) us (sign (codes "?")) (in_braces (listed (choice_by printed) choices)) p (one_word kind.Sign (codes "?") p.front p.first)
-          (together (Sign (codes "{")) (Listed (ChoiceOf (IsExprAt (suc e))) r.0 then Sign (codes "}")) p.back (sign (codes "{")) (listed (choice_by printed) choices ++ sign (codes "}")) q (one_word kind.Sign (codes "{") q.front q.first)
-          (together (Listed (ChoiceOf (IsExprAt (suc e))) r.0) (Sign (codes "}")) q.back (listed (choice_by printed) choices) (sign (codes "}")) t r.1 (one_word kind.Sign (codes "}") t.back t.second))), r.2)
+      let r = listed_again e (ChoiceOf E) (ChoiceOf (IsExprAt (suc e))) (choice_by printed) unplaced_choice (choice_again e) choices d.second.second.front d.second.second.first m.0 t.front t.first in (
+        r.0,
+        together (Sign (codes "?")) (Sign (codes "{") then Listed (ChoiceOf (IsExprAt (suc e))) r.0 then Sign (codes "}")) us (sign (codes "?")) (in_braces (listed (choice_by printed) choices)) p (one_word kind.Sign (codes "?") p.front p.first)
+            (together (Sign (codes "{")) (Listed (ChoiceOf (IsExprAt (suc e))) r.0 then Sign (codes "}")) p.back (sign (codes "{")) (listed (choice_by printed) choices ++ sign (codes "}")) q (one_word kind.Sign (codes "{") q.front q.first)
+            (together (Listed (ChoiceOf (IsExprAt (suc e))) r.0) (Sign (codes "}")) q.back (listed (choice_by printed) choices) (sign (codes "}")) t r.1 (one_word kind.Sign (codes "}") t.back t.second))),
+        r.2,
+      )
 
   select_again : (e : ℕ) (x z : Expr) (choices : List (Option Expr × Expr)) (ts : List Lexeme) → Reprint (IsExprAt (suc e)) 8 x → (Sign (codes "?") then Sign (codes "{") then Listed (ChoiceOf E) choices then Sign (codes "}")) ts → Small e ts → z.form ≡ form.Select x choices → Reprint (IsExprAt (suc e)) 8 z
   select_again e x z choices ts r d good f = solid_reprint (IsExprAt (suc e)) z (select_by printed x choices) false (ap printed_form f ∙ printed_select x choices) (λ us w.
       let p = parts us (at_level 8 (printed x)) (sign (codes "?") ++ in_braces (listed (choice_by printed) choices)) w in
       let base = at_level_again (IsExprAt (suc e)) 8 x (omega arith) r p.front p.first in
       let more = selection_again e choices ts d good p.back p.second in
-      let y : Expr = record { at = place_of us; form = form.Select base.0 more.0 } in
-      (y, extend (IsExprAt (suc e)) base.0 y p.front p.back us base.1 (rule.selection more.0 more.1 refl) p.whole refl,
-      same_form z (form.Select x choices) (form.Select base.0 more.0) (place_of us) f
-          (unplaced_select x choices ∙ ap (λ (v : Expr). form.Select v (map unplaced_choice choices)) base.2 ∙ ap (λ (v : List (Option Expr × Expr)). form.Select (unplaced base.0) v) more.2 ∙ sym (unplaced_select base.0 more.0))))
+      let y : Expr = record { at = place_of us; form = form.Select base.0 more.0 } in (
+        y,
+        extend (IsExprAt (suc e)) base.0 y p.front p.back us base.1 (rule.selection more.0 more.1 refl) p.whole refl,
+        same_form z (form.Select x choices) (form.Select base.0 more.0) (place_of us) f
+            (unplaced_select x choices ∙ ap (λ (v : Expr). form.Select v (map unplaced_choice choices)) base.2 ∙ ap (λ (v : List (Option Expr × Expr)). form.Select (unplaced base.0) v) more.2 ∙ sym (unplaced_select base.0 more.0)),
+      ))
 
   suffix_again : (n : ℕ) (x z : Expr) (ts : List Lexeme) → From n x → SuffixOf E x z ts → AllStand ts → 1 ≤ n → (e : ℕ) → n + length ts ≤ e → Reprint (IsExprAt (suc e)) 8 z
   suffix_again n x z ts base (rule.index key d f) good some zero most = absurd (omega (arith, some, most))
@@ -441,7 +469,7 @@ module _ (E : Rule) (nested : (e : ℕ) (x : Expr) (ts : List Lexeme) → E x ts
   some_long [] n = absurd (n refl)
   some_long (t ∷ ts) n = omega arith
 
-  postfix_again : (e : ℕ) (y : Expr) (ts : List Lexeme) → PostfixOf E y ts → Small (suc e) ts → Reprint (IsExprAt (suc e)) 8 y
+  pub postfix_again : (e : ℕ) (y : Expr) (ts : List Lexeme) → PostfixOf E y ts → Small (suc e) ts → Reprint (IsExprAt (suc e)) 8 y
   postfix_again e y ts h good =
       let g = both_small (suc e) h.front h.back ts h.whole good in
       suffixes_again (place_of ts) (length h.front) h.operand y h.back h.suffixes (λ k most. primary_again E k (nested k) (inner k) h.operand h.front h.primary (g.0.0, omega (arith, most))) g.1.0
