@@ -11,3 +11,4 @@ pub mod Inners
 pub mod Standing
 pub mod Widening
 pub mod Bodies
+pub mod Searches
