@@ -34,7 +34,7 @@ inner_expr : (e : ℕ) (y : Expr) (ts : List Lexeme) → InnerOf IsExpr y ts →
 inner_expr e y ts (rule.variable x first d r) good us w = inner_again d.0 (spelled_again d.0) e y ts (rule.variable x first d.1 r) good us w
 inner_expr e y ts (rule.other d n) good us w = inner_again d.0 (spelled_again d.0) e y ts (rule.other d.1 n) good us w
 
-widen : (k : ℕ) (x : Expr) (us : List Lexeme) → IsExprAt k x us → IsExpr x us
+pub widen : (k : ℕ) (x : Expr) (us : List Lexeme) → IsExprAt k x us → IsExpr x us
 widen k x us d = (k, d)
 
 -- the operand of a comparison

@@ -12,3 +12,6 @@ pub mod Standing
 pub mod Widening
 pub mod Bodies
 pub mod Searches
+pub mod Chains
+pub mod StatementLaws
+pub mod ItemLaws
