@@ -3,9 +3,7 @@ use Rattle.std.proofs.Common.{◌≡◌, ℕ, List, [], ◌∷◌, ◌++◌, map
 use Rattle.std.proofs.lemmas.List.{append-nil}
 use Rattle.std.specs.Prelude.{ℤ, Option, codes, Result, OnOk}
 use Rattle.std.specs.Prelude as prelude
-use Rattle.std.specs.List.{flat_map, join_by}
-use Rattle.rh_base.specs.declared.text.NoMemory.{NoMemory}
-use Rattle.pp_syntax.specs.declared.token.Kind.TheVariants as kind
+use Rattle.std.specs.List.{join_by}
 use Rattle.pp_syntax.specs.declared.tree.Expr.{Expr}
 use Rattle.pp_syntax.specs.declared.tree.Operand.{Operand}
 use Rattle.pp_syntax.specs.declared.tree.Arrow.{Arrow}
@@ -14,7 +12,7 @@ use Rattle.pp_syntax.specs.declared.tree.Search.{Search, Search-F, fold-roll-Sea
 use Rattle.pp_syntax.specs.declared.tree.Search.TheOpen as plain_search
 use Rattle.pp_syntax.specs.declared.tree.Search.TheVariants as search
 use Rattle.pp_syntax.specs.declared.tree.Search.TheVariants.{rolls-Or, rolls-And, rolls-Equal, rolls-Differ}
-use Rattle.pp_syntax.specs.declared.tree.Stmt.{Stmt, Stmt-F, fold-Stmt, fold-roll-Stmt, roll-Stmt, map-Stmt}
+use Rattle.pp_syntax.specs.declared.tree.Stmt.{Stmt, Stmt-F, fold-roll-Stmt, roll-Stmt, map-Stmt}
 use Rattle.pp_syntax.specs.declared.tree.Stmt.TheOpen as plain_stmt
 use Rattle.pp_syntax.specs.declared.tree.Stmt.TheVariants as stmt
 use Rattle.pp_syntax.specs.declared.tree.Stmt.TheVariants.{rolls-Chain, rolls-Assign, rolls-Call, rolls-If, rolls-Unless, rolls-Case}
@@ -26,7 +24,7 @@ use Rattle.pp_syntax.specs.declared.tree.TypeName.TheVariants as type
 use Rattle.pp_syntax.specs.declared.tree.TypeName.TheVariants.{rolls-Any, rolls-Boolean, rolls-Hash, rolls-Str, rolls-Int, rolls-Array, rolls-Optional, rolls-Enum, rolls-Variant}
 use Rattle.pp_syntax.specs.declared.tree.TypeName.TheShapes.{former-TypeName-Array-0-at-2}
 use Rattle.pp_print.specs.declared.words.Word.{Word}
-use Rattle.pp_print.specs.Words.{word, sign, keyword, comma, listed, in_braces, in_tight}
+use Rattle.pp_print.specs.Words.{sign, keyword, comma, listed, in_braces, in_tight}
 use Rattle.pp_print.specs.Expressions.{expr_words, option_by}
 use Rattle.pp_print.specs.Statements.{Sought, search_by, sought, sought_at, stmt_by, stmt_words, arm_by, arm_words, case_arm_by, case_arm_words, block_by, else_by, links, type_by, type_words, type_word, member_by}
 use Rattle.pp_print.proofs.Forms.{flat_mapped, join_mapped}

@@ -1,29 +1,27 @@
 -- The words of what stands in resources spell it again, places aside.
-use Rattle.std.proofs.Common.{◌≡◌, ◌⊎◌, inl, inr, ℕ, suc, ◌+◌, ◌<◌, Bool, true, false, cond, List, [], ◌∷◌, ◌++◌, length, map, refl, sym, ap, subst, ◌∙◌, append-nil, arith}
+use Rattle.std.proofs.Common.{◌≡◌, inl, ℕ, suc, true, false, cond, List, [], ◌++◌, length, map, refl, sym, ap, subst, ◌∙◌, append-nil, arith}
 use Rattle.std.specs.Prelude.{Option, codes}
 use Rattle.std.specs.Prelude as prelude
 use Rattle.std.specs.Option.{option_map}
-use Rattle.std.specs.List.{AllByRecursion, join_by}
 use Rattle.pp_syntax.specs.declared.token.Kind.TheVariants as kind
 use Rattle.pp_syntax.specs.declared.tree.Expr.{Expr}
 use Rattle.pp_syntax.specs.declared.tree.Attr.{Attr}
 use Rattle.pp_syntax.specs.declared.tree.Body.{Body}
 use Rattle.pp_syntax.specs.Tokens.{Lexeme, is_among, keywords}
-use Rattle.pp_syntax.specs.Phrases.{◌then◌, Some, Sign, Keyword, Maybe, MaybeListed, Separated, place_of}
+use Rattle.pp_syntax.specs.Phrases.{◌then◌, Sign, Maybe, MaybeListed, Separated, place_of}
 use Rattle.pp_syntax.specs.Derivation.{InnerOf, PostfixOf, ReferenceOf, OptionOf, IsExprAt, IsExpr}
 use Rattle.pp_syntax.specs.Derivation as rule
 use Rattle.pp_syntax.specs.Statements.{NameOf, has_colon, AttrOf, BodyOf, BodiesOf}
 use Rattle.pp_syntax.specs.Statements as statement
-use Rattle.pp_print.specs.declared.words.Word.{Word}
-use Rattle.pp_print.specs.Words.{word, sign, keyword, named, listed}
+use Rattle.pp_print.specs.Words.{word, sign, named, listed}
 use Rattle.pp_print.specs.Expressions.{printed, expr_words, at_level, option_by}
 use Rattle.pp_print.specs.Statements.{attr_words, body_words, bodies_words}
 use Rattle.pp_print.specs.Places.{unplaced, unplaced_attr, unplaced_body}
 use Rattle.pp_print.proofs.Phrases.{words_in, parts, one_word, together, AllStand, Small, parts_stand, separated_again, maybe_listed_again}
-use Rattle.pp_print.proofs.Reprints.{Reprint, at_level_again}
-use Rattle.pp_print.proofs.Postfixes.{Nested, postfix_again, refer_again}
+use Rattle.pp_print.proofs.Reprints.{at_level_again}
+use Rattle.pp_print.proofs.Postfixes.{Nested, postfix_again}
 use Rattle.pp_print.proofs.Inners.{inner_again, spelled_again, expression_reads}
-use Rattle.pp_print.proofs.Widening.{postfix_wide, reference_wide}
+use Rattle.pp_print.proofs.Widening.{postfix_wide}
 
 -- ---- expressions
 
@@ -67,10 +65,15 @@ attr_reads n a ts d good us w =
     let q = parts p.back (sign (codes "=>")) (expr_words a.value) p.second in
     let g = parts_stand n (NameOf a.name) (Sign (codes "=>") then IsExpr a.value) ts d.1 good in
     let k = parts_stand n (Sign (codes "=>")) (IsExpr a.value) d.1.back d.1.second g.1 in
-    let r = expr_reads n a.value d.1.second.back d.1.second.second k.1 q.back q.second in
-    (record { at = place_of us; name = a.name; value = r.0 }, (refl, together (NameOf a.name) (Sign (codes "=>") then IsExpr r.0) us (named a.name) (sign (codes "=>") ++ expr_words a.value) p (name_reads n a.name d.1.front d.1.first g.0 p.front p.first)
-        (together (Sign (codes "=>")) (IsExpr r.0) p.back (sign (codes "=>")) (expr_words a.value) q (one_word kind.Sign (codes "=>") q.front q.first) r.1)),
-    ap (λ (v : Expr). record { at = 0; name = a.name; value = v }) r.2)
+    let r = expr_reads n a.value d.1.second.back d.1.second.second k.1 q.back q.second in (
+      record { at = place_of us; name = a.name; value = r.0 },
+      (
+        refl,
+        together (NameOf a.name) (Sign (codes "=>") then IsExpr r.0) us (named a.name) (sign (codes "=>") ++ expr_words a.value) p (name_reads n a.name d.1.front d.1.first g.0 p.front p.first)
+            (together (Sign (codes "=>")) (IsExpr r.0) p.back (sign (codes "=>")) (expr_words a.value) q (one_word kind.Sign (codes "=>") q.front q.first) r.1),
+      ),
+      ap (λ (v : Expr). record { at = 0; name = a.name; value = v }) r.2,
+    )
 
 pub attrs_read : (n : ℕ) (xs : List Attr) (ts : List Lexeme) → MaybeListed (AttrOf IsExpr) xs ts → Small n ts → (us : List Lexeme) → words_in us ≡ listed attr_words xs → (bs : List Attr) × MaybeListed (AttrOf IsExpr) bs us × (map unplaced_attr xs ≡ map unplaced_attr bs)
 attrs_read n xs ts d good us w = maybe_listed_again n (AttrOf IsExpr) (AttrOf IsExpr) attr_words unplaced_attr (attr_reads n) xs ts d good us w
@@ -82,10 +85,12 @@ body_reads n b ts d good us w =
     let g = parts_stand n (IsExpr b.title) (Sign (codes ":") then MaybeListed (AttrOf IsExpr) b.attrs) ts d good in
     let k = parts_stand n (Sign (codes ":")) (MaybeListed (AttrOf IsExpr) b.attrs) d.back d.second g.1 in
     let r = expr_reads n b.title d.front d.first g.0 p.front p.first in
-    let s = attrs_read n b.attrs d.second.back d.second.second k.1 q.back q.second in
-    (record { title = r.0; attrs = s.0 }, together (IsExpr r.0) (Sign (codes ":") then MaybeListed (AttrOf IsExpr) s.0) us (expr_words b.title) (sign (codes ":") ++ listed attr_words b.attrs) p r.1
-        (together (Sign (codes ":")) (MaybeListed (AttrOf IsExpr) s.0) p.back (sign (codes ":")) (listed attr_words b.attrs) q (one_word kind.Sign (codes ":") q.front q.first) s.1),
-    ap (λ (v : Expr). record { title = v; attrs = map unplaced_attr b.attrs }) r.2 ∙ ap (λ (v : List Attr). record { title = unplaced r.0; attrs = v }) s.2)
+    let s = attrs_read n b.attrs d.second.back d.second.second k.1 q.back q.second in (
+      record { title = r.0; attrs = s.0 },
+      together (IsExpr r.0) (Sign (codes ":") then MaybeListed (AttrOf IsExpr) s.0) us (expr_words b.title) (sign (codes ":") ++ listed attr_words b.attrs) p r.1
+          (together (Sign (codes ":")) (MaybeListed (AttrOf IsExpr) s.0) p.back (sign (codes ":")) (listed attr_words b.attrs) q (one_word kind.Sign (codes ":") q.front q.first) s.1),
+      ap (λ (v : Expr). record { title = v; attrs = map unplaced_attr b.attrs }) r.2 ∙ ap (λ (v : List Attr). record { title = unplaced r.0; attrs = v }) s.2,
+    )
 
 -- The `;` at the end is left out.
 pub bodies_read : (n : ℕ) (bs : List Body) (ts : List Lexeme) → BodiesOf IsExpr bs ts → Small n ts → (us : List Lexeme) → words_in us ≡ bodies_words bs → (cs : List Body) × BodiesOf IsExpr cs us × (map unplaced_body bs ≡ map unplaced_body cs)

@@ -1,8 +1,6 @@
 -- The words of resources, collectors and references, and of chains of them, spell them again, places aside.
-use Rattle.std.proofs.Common.{◌≡◌, ◌⊎◌, inl, inr, ℕ, suc, ◌+◌, Bool, true, false, cond, List, [], ◌∷◌, ◌++◌, length, map, refl, sym, ap, subst, ◌∙◌, append-nil, arith}
+use Rattle.std.proofs.Common.{◌≡◌, ℕ, suc, Bool, true, false, cond, List, [], ◌∷◌, ◌++◌, map, refl, sym, ap, subst, ◌∙◌}
 use Rattle.std.specs.Prelude.{Option, codes}
-use Rattle.std.specs.Prelude as prelude
-use Rattle.std.specs.Option.{option_map}
 use Rattle.pp_syntax.specs.declared.token.Kind.TheVariants as kind
 use Rattle.pp_syntax.specs.declared.tree.Expr.{Expr}
 use Rattle.pp_syntax.specs.declared.tree.Form.{Form}
@@ -18,11 +16,11 @@ use Rattle.pp_syntax.specs.Derivation.{ReferenceOf, IsExprAt, IsExpr}
 use Rattle.pp_syntax.specs.Statements.{BodiesOf, InBraces, MaybeSearch, Hidden, OperandOf, ArrowOf, Links, StandsAlone}
 use Rattle.pp_syntax.specs.Statements as rule
 use Rattle.pp_print.specs.declared.words.Word.{Word}
-use Rattle.pp_print.specs.Words.{word, sign, keyword, named, in_braces, in_loose, in_tight, listed}
+use Rattle.pp_print.specs.Words.{word, sign, keyword, named, in_braces, listed}
 use Rattle.pp_print.specs.Expressions.{Printed, printed_form, expr_words, refer_by}
 use Rattle.pp_print.specs.Expressions as expressions
-use Rattle.pp_print.specs.Statements.{bodies_words, hidden_words, maybe_search, references, operand_words, arrow_words, links}
-use Rattle.pp_print.specs.Places.{unplaced, unplaced_body, unplaced_search, unplaced_operand}
+use Rattle.pp_print.specs.Statements.{bodies_words, hidden_words, maybe_search, operand_words, arrow_words, links}
+use Rattle.pp_print.specs.Places.{unplaced, unplaced_operand}
 use Rattle.pp_print.proofs.Forms.{printed_refer}
 use Rattle.pp_print.proofs.Phrases.{Phrase, words_in, parts, no_word, one_word, together, AllStand, Small, parts_stand, listed_again}
 use Rattle.pp_print.proofs.Postfixes.{refer_again}
@@ -86,11 +84,13 @@ resource_reads n at hidden name bodies ts free d good us w =
     let b = braced q.back (bodies_words bodies) q.second in
     let g = parts_stand n (Hidden hidden) (Some kind.Word name then InBraces (BodiesOf IsExpr bodies)) ts d good in
     let k = parts_stand n (Some kind.Word name) (InBraces (BodiesOf IsExpr bodies)) d.back d.second g.1 in
-    let r = bodies_read n bodies d.second.second.second.front d.second.second.second.first (braces_small n (BodiesOf IsExpr bodies) d.second.back d.second.second k.1) b.inner b.words in
-    (operand.Declare (place_of us) hidden name r.0, rule.resource (place_of us) hidden name r.0 refl refl free
-        (together (Hidden hidden) (Some kind.Word name then InBraces (BodiesOf IsExpr r.0)) us (hidden_words hidden) (named name ++ in_braces (bodies_words bodies)) p (hidden_again hidden p.front p.first)
-        (together (Some kind.Word name) (InBraces (BodiesOf IsExpr r.0)) p.back (named name) (in_braces (bodies_words bodies)) q (word_named n name d.second.front q.front d.second.first k.0 q.first) (b.build (BodiesOf IsExpr r.0) r.1))),
-    ap (λ (bs : List Body). operand.Declare 0 hidden name bs) r.2)
+    let r = bodies_read n bodies d.second.second.second.front d.second.second.second.first (braces_small n (BodiesOf IsExpr bodies) d.second.back d.second.second k.1) b.inner b.words in (
+      operand.Declare (place_of us) hidden name r.0,
+      rule.resource (place_of us) hidden name r.0 refl refl free
+          (together (Hidden hidden) (Some kind.Word name then InBraces (BodiesOf IsExpr r.0)) us (hidden_words hidden) (named name ++ in_braces (bodies_words bodies)) p (hidden_again hidden p.front p.first)
+          (together (Some kind.Word name) (InBraces (BodiesOf IsExpr r.0)) p.back (named name) (in_braces (bodies_words bodies)) q (word_named n name d.second.front q.front d.second.first k.0 q.first) (b.build (BodiesOf IsExpr r.0) r.1))),
+      ap (λ (bs : List Body). operand.Declare 0 hidden name bs) r.2,
+    )
 
 class_reads : (n at : ℕ) (bodies : List Body) (ts : List Lexeme) → (Token kind.Keyword (codes "class") at then InBraces (BodiesOf IsExpr bodies)) ts → Small n ts → (us : List Lexeme) → OperandReads n (operand.Declare at false (codes "class") bodies) us
 class_reads n at bodies ts d good us w =
@@ -98,10 +98,12 @@ class_reads n at bodies ts d good us w =
     let t = one_word kind.Keyword (codes "class") p.front p.first in
     let b = braced p.back (bodies_words bodies) p.second in
     let g = parts_stand n (Token kind.Keyword (codes "class") at) (InBraces (BodiesOf IsExpr bodies)) ts d good in
-    let r = bodies_read n bodies d.second.second.front d.second.second.first (braces_small n (BodiesOf IsExpr bodies) d.back d.second g.1) b.inner b.words in
-    (operand.Declare t.0 false (codes "class") r.0, rule.class t.0 r.0 refl
-        (together (Token kind.Keyword (codes "class") t.0) (InBraces (BodiesOf IsExpr r.0)) us (keyword (codes "class")) (in_braces (bodies_words bodies)) p t.1 (b.build (BodiesOf IsExpr r.0) r.1)),
-    ap (λ (bs : List Body). operand.Declare 0 false (codes "class") bs) r.2)
+    let r = bodies_read n bodies d.second.second.front d.second.second.first (braces_small n (BodiesOf IsExpr bodies) d.back d.second g.1) b.inner b.words in (
+      operand.Declare t.0 false (codes "class") r.0,
+      rule.class t.0 r.0 refl
+          (together (Token kind.Keyword (codes "class") t.0) (InBraces (BodiesOf IsExpr r.0)) us (keyword (codes "class")) (in_braces (bodies_words bodies)) p t.1 (b.build (BodiesOf IsExpr r.0) r.1)),
+      ap (λ (bs : List Body). operand.Declare 0 false (codes "class") bs) r.2,
+    )
 
 collector_reads : (n at : ℕ) (name : List ℕ) (s : Option Search) (ts : List Lexeme) → (Token kind.Ref name at then Sign (codes "<|") then MaybeSearch IsExpr s then Sign (codes "|>")) ts → Small n ts → (us : List Lexeme) → OperandReads n (operand.Collect at name s) us
 collector_reads n at name s ts d good us w =
@@ -112,12 +114,14 @@ collector_reads n at name s ts d good us w =
     let g = parts_stand n (Token kind.Ref name at) (Sign (codes "<|") then MaybeSearch IsExpr s then Sign (codes "|>")) ts d good in
     let k = parts_stand n (Sign (codes "<|")) (MaybeSearch IsExpr s then Sign (codes "|>")) d.back d.second g.1 in
     let m = parts_stand n (MaybeSearch IsExpr s) (Sign (codes "|>")) d.second.back d.second.second k.1 in
-    let r = maybe_search_reads n s d.second.second.front d.second.second.first m.0 v.front v.first in
-    (operand.Collect t.0 name r.0, rule.collector t.0 name r.0 refl
-        (together (Token kind.Ref name t.0) (Sign (codes "<|") then MaybeSearch IsExpr r.0 then Sign (codes "|>")) us (word kind.Ref name) (sign (codes "<|") ++ (maybe_search s ++ sign (codes "|>"))) p t.1
-        (together (Sign (codes "<|")) (MaybeSearch IsExpr r.0 then Sign (codes "|>")) p.back (sign (codes "<|")) (maybe_search s ++ sign (codes "|>")) q (one_word kind.Sign (codes "<|") q.front q.first)
-        (together (MaybeSearch IsExpr r.0) (Sign (codes "|>")) q.back (maybe_search s) (sign (codes "|>")) v r.1 (one_word kind.Sign (codes "|>") v.back v.second)))),
-    ap (λ (o : Option Search). operand.Collect 0 name o) r.2)
+    let r = maybe_search_reads n s d.second.second.front d.second.second.first m.0 v.front v.first in (
+      operand.Collect t.0 name r.0,
+      rule.collector t.0 name r.0 refl
+          (together (Token kind.Ref name t.0) (Sign (codes "<|") then MaybeSearch IsExpr r.0 then Sign (codes "|>")) us (word kind.Ref name) (sign (codes "<|") ++ (maybe_search s ++ sign (codes "|>"))) p t.1
+          (together (Sign (codes "<|")) (MaybeSearch IsExpr r.0 then Sign (codes "|>")) p.back (sign (codes "<|")) (maybe_search s ++ sign (codes "|>")) q (one_word kind.Sign (codes "<|") q.front q.first)
+          (together (MaybeSearch IsExpr r.0) (Sign (codes "|>")) q.back (maybe_search s) (sign (codes "|>")) v r.1 (one_word kind.Sign (codes "|>") v.back v.second)))),
+      ap (λ (o : Option Search). operand.Collect 0 name o) r.2,
+    )
 
 one_reference : (n : ℕ) (x : Expr) (ts : List Lexeme) → ReferenceOf IsExpr x ts → Small n ts → (us : List Lexeme) → OperandReads n (operand.Named (x ∷ [])) us
 one_reference n x ts d good us w = let r = reference_reads n x ts d good us w in (operand.Named (r.0 ∷ []), rule.reference r.0 refl r.1, ap (λ (y : Expr). operand.Named (y ∷ [])) r.2)
@@ -126,10 +130,12 @@ some_references : (n : ℕ) (x y : Expr) (more : List Expr) (ts : List Lexeme) �
 some_references n x y more ts d good us w =
     let p = parts us (word kind.Loose (codes "[")) (listed expr_words (x ∷ y ∷ more) ++ sign (codes "]")) w in
     let q = parts p.back (listed expr_words (x ∷ y ∷ more)) (sign (codes "]")) p.second in
-    let r = listed_again n (ReferenceOf IsExpr) (ReferenceOf IsExpr) expr_words unplaced (reference_reads n) (x ∷ y ∷ more) ts d good q.front q.first in
-    (operand.Named r.0, rule.references r.0 refl (together Loose (Listed (ReferenceOf IsExpr) r.0 then Sign (codes "]")) us (word kind.Loose (codes "[")) (listed expr_words (x ∷ y ∷ more) ++ sign (codes "]")) p (one_word kind.Loose (codes "[") p.front p.first)
-        (together (Listed (ReferenceOf IsExpr) r.0) (Sign (codes "]")) p.back (listed expr_words (x ∷ y ∷ more)) (sign (codes "]")) q r.1 (one_word kind.Sign (codes "]") q.back q.second))),
-    ap (λ (zs : List Expr). operand.Named zs) r.2)
+    let r = listed_again n (ReferenceOf IsExpr) (ReferenceOf IsExpr) expr_words unplaced (reference_reads n) (x ∷ y ∷ more) ts d good q.front q.first in (
+      operand.Named r.0,
+      rule.references r.0 refl (together Loose (Listed (ReferenceOf IsExpr) r.0 then Sign (codes "]")) us (word kind.Loose (codes "[")) (listed expr_words (x ∷ y ∷ more) ++ sign (codes "]")) p (one_word kind.Loose (codes "[") p.front p.first)
+          (together (Listed (ReferenceOf IsExpr) r.0) (Sign (codes "]")) p.back (listed expr_words (x ∷ y ∷ more)) (sign (codes "]")) q r.1 (one_word kind.Sign (codes "]") q.back q.second))),
+      ap (λ (zs : List Expr). operand.Named zs) r.2,
+    )
 
 listed_one : (n : ℕ) (x : Expr) (ts : List Lexeme) → (d : Listed (ReferenceOf IsExpr) (x ∷ []) ts) → Small n ts → (front : List Lexeme) × ReferenceOf IsExpr x front × Small n front
 listed_one n x ts d good =
@@ -170,10 +176,12 @@ links_read n (a ∷ arrows) (y ∷ ys) ts d good us w =
     let g = parts_stand n (ArrowOf a) (OperandOf IsExpr y then Links IsExpr arrows ys) ts d good in
     let k = parts_stand n (OperandOf IsExpr y) (Links IsExpr arrows ys) d.back d.second g.1 in
     let here = operand_reads n y d.second.front d.second.first k.0 q.front q.first in
-    let rest = links_read n arrows ys d.second.back d.second.second k.1 q.back q.second in
-    (here.0 ∷ rest.0, together (ArrowOf a) (OperandOf IsExpr here.0 then Links IsExpr arrows rest.0) us (arrow_words a) (operand_words y ++ links arrows ys) p (arrow_again a p.front p.first)
-        (together (OperandOf IsExpr here.0) (Links IsExpr arrows rest.0) p.back (operand_words y) (links arrows ys) q here.1 rest.1),
-    ap (λ (z : Operand). z ∷ map unplaced_operand ys) here.2 ∙ ap (λ (r : List Operand). unplaced_operand here.0 ∷ r) rest.2)
+    let rest = links_read n arrows ys d.second.back d.second.second k.1 q.back q.second in (
+      here.0 ∷ rest.0,
+      together (ArrowOf a) (OperandOf IsExpr here.0 then Links IsExpr arrows rest.0) us (arrow_words a) (operand_words y ++ links arrows ys) p (arrow_again a p.front p.first)
+          (together (OperandOf IsExpr here.0) (Links IsExpr arrows rest.0) p.back (operand_words y) (links arrows ys) q here.1 rest.1),
+      ap (λ (z : Operand). z ∷ map unplaced_operand ys) here.2 ∙ ap (λ (r : List Operand). unplaced_operand here.0 ∷ r) rest.2,
+    )
 
 pub alone_again : (y z : Operand) (ys zs : List Operand) → unplaced_operand y ≡ unplaced_operand z → map unplaced_operand ys ≡ map unplaced_operand zs → StandsAlone y ys → StandsAlone z zs
 alone_again y (operand.Declare at hidden name bodies) ys zs same others h = tt

@@ -1,7 +1,7 @@
 -- A text in single quotes is written with the fewest backslashes.
-use Rattle.std.proofs.Common.{◌≡◌, ◌≢◌, ◌⊎◌, inl, inr, ℕ, ◌+◌, ◌≤◌, Bool, true, false, cond, ◌||◌, ◌&&◌, ◌==◌, List, [], ◌∷◌, ◌++◌, length, refl, sym, ap, subst, ◌∙◌, arith}
+use Rattle.std.proofs.Common.{◌≡◌, ◌≢◌, inl, inr, ℕ, ◌+◌, ◌≤◌, Bool, true, false, cond, ◌||◌, ◌&&◌, ◌==◌, List, [], ◌∷◌, ◌++◌, length, refl, sym, ap, subst, ◌∙◌, arith}
 use Rattle.std.proofs.lemmas.Bool.{or_cases, or_left, or_right, and_parts, eqb-true, eqb-false, ne_eqb}
-use Rattle.pp_syntax.specs.Tokens.{SqText, SqEscaped}
+use Rattle.pp_syntax.specs.Tokens.{SqText}
 use Rattle.pp_syntax.specs.TokenValues.{sq_value, sq_escaped, SqOf}
 use Rattle.pp_print.specs.Words.{escapes, must_escape, escaped}
 

@@ -4,7 +4,7 @@ use Rattle.std.specs.Prelude.{ℤ, Bool, Option, option_map, ◌+◌}
 use Rattle.std.specs.Prelude as prelude
 use Rattle.std.specs.List.{flat_map, join_by}
 use Rattle.pp_syntax.specs.declared.tree.Expr.{Expr}
-use Rattle.pp_syntax.specs.declared.tree.Form.{Form, Form-F, fold-Form, fold-roll-Form, roll-Form, map-Form}
+use Rattle.pp_syntax.specs.declared.tree.Form.{Form, Form-F, fold-roll-Form, roll-Form, map-Form}
 use Rattle.pp_syntax.specs.declared.tree.Expr.{fold-Expr, fold_out-Expr}
 use Rattle.pp_syntax.specs.declared.tree.Form.TheOpen as plain
 use Rattle.pp_syntax.specs.declared.tree.Form.TheVariants as form
@@ -12,7 +12,7 @@ use Rattle.pp_syntax.specs.declared.tree.Form.TheVariants.{rolls-Int, rolls-Str,
 use Rattle.pp_syntax.specs.declared.tree.Form.TheShapes.{former-Form-Select-1-at-3}
 use Rattle.pp_syntax.specs.declared.tree.Op.{Op}
 use Rattle.pp_print.specs.declared.words.Word.{Word}
-use Rattle.pp_print.specs.Expressions.{Printed, operand, form_by, printed_form, printed, level_in, option_by, operator, at_level, whole, pair_by, choice_by, hole_by, operation_by, chain_by, indexed, expr_words}
+use Rattle.pp_print.specs.Expressions.{Printed, operand, form_by, printed_form, printed, level_in, at_level, whole, pair_by, choice_by, hole_by, operation_by, indexed, expr_words}
 use Rattle.pp_print.specs.Words.{word, sign, comma, listed, in_loose, in_braces, in_tight}
 use Rattle.pp_syntax.specs.declared.token.Kind.TheVariants as kind
 use Rattle.std.specs.Prelude.{codes, true, false, Result, Ok, Err, OnOk}

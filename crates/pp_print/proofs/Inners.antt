@@ -1,5 +1,5 @@
 -- What stands within `${` and `}` is spelled again: a word there, with nothing but indexes behind it, is a variable.
-use Rattle.std.proofs.Common.{◌≡◌, ◌≢◌, ◌⊎◌, inl, inr, ℕ, zero, suc, ◌+◌, ◌-◌, Bool, true, false, cond, List, [], ◌∷◌, ◌++◌, length, map, refl, sym, ap, subst, ◌∙◌, append_assoc, arith}
+use Rattle.std.proofs.Common.{◌≡◌, inr, ℕ, zero, suc, ◌+◌, Bool, true, false, cond, List, [], ◌∷◌, ◌++◌, length, refl, sym, ap, subst, ◌∙◌, append_assoc, arith}
 use Rattle.std.specs.Prelude.{Option, codes}
 use Rattle.std.specs.Prelude as prelude
 use Rattle.pp_syntax.specs.declared.token.Kind.{Kind}
@@ -11,13 +11,13 @@ use Rattle.pp_syntax.specs.declared.tree.Form.TheVariants.{outs-Str, outs-At, ou
 use Rattle.pp_syntax.specs.declared.tree.Form.TheOpen as plain
 use Rattle.pp_syntax.specs.declared.tree.Op.{Op}
 use Rattle.pp_syntax.specs.Tokens.{Lexeme}
-use Rattle.pp_syntax.specs.Phrases.{◌then◌, place_of, Token}
+use Rattle.pp_syntax.specs.Phrases.{◌then◌, Token}
 use Rattle.pp_syntax.specs.Derivation.{Rule, ReadAsVariable, base, index, kind_of_first, InnerOf, ChainOf, UnaryOf, PrimaryOf, SuffixOf, SuffixesOf, PostfixOf, ExprOf, IsExprAt, IsExpr}
 use Rattle.pp_syntax.specs.Derivation as rule
 use Rattle.pp_syntax.specs.TokenValues.{SqOf, sq_value}
 use Rattle.pp_print.specs.declared.words.Word.{Word}
 use Rattle.pp_print.specs.Words.{word, quoted, variable, has_dash, escaped, in_parens, in_tight}
-use Rattle.pp_print.specs.Expressions.{Printed, printed, printed_form, expr_words, indexed}
+use Rattle.pp_print.specs.Expressions.{Printed, printed, printed_form, expr_words}
 use Rattle.pp_print.specs.Places.{unplaced, unplaced_form}
 use Rattle.pp_print.proofs.Forms.{printed_str, printed_var, printed_at}
 use Rattle.pp_print.proofs.Unplaced.{rolled, unplaced_at}

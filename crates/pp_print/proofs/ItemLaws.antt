@@ -1,5 +1,5 @@
 -- The words of a manifest spell it again, places aside.
-use Rattle.std.proofs.Common.{◌≡◌, ◌⊎◌, inl, inr, ℕ, ◌+◌, cond, List, [], ◌∷◌, ◌++◌, length, map, refl, sym, ap, subst, ◌∙◌, arith}
+use Rattle.std.proofs.Common.{◌≡◌, inl, ℕ, ◌+◌, List, [], ◌∷◌, ◌++◌, length, map, refl, sym, ap, subst, ◌∙◌, arith}
 use Rattle.std.specs.Prelude.{Option, codes}
 use Rattle.std.specs.Prelude as prelude
 use Rattle.std.specs.Option.{option_map}
@@ -20,11 +20,10 @@ use Rattle.pp_syntax.specs.Derivation.{IsExpr}
 use Rattle.pp_syntax.specs.Derivation as derivation
 use Rattle.pp_syntax.specs.Statements.{VariableOf, AttrOf, InBraces, BlockOf, IsStmtAt, MaybeType, PresetOf, ParamOf, ParamsOf, ParentOf, NodeNameOf, ItemOf, Items, IsManifest}
 use Rattle.pp_syntax.specs.Statements as rule
-use Rattle.pp_print.specs.declared.words.Word.{Word}
-use Rattle.pp_print.specs.Words.{word, sign, keyword, quoted, escaped, in_parens, in_braces, listed}
+use Rattle.pp_print.specs.Words.{word, sign, keyword, quoted, escaped, in_braces, listed}
 use Rattle.pp_print.specs.Expressions.{expr_words, option_by}
-use Rattle.pp_print.specs.Statements.{attr_words, stmt_words, block_by, block_words, maybe_type, preset_words, param_words, params_words, parent_words, item_words, manifest_words}
-use Rattle.pp_print.specs.Places.{unplaced, unplaced_attr, unplaced_stmt, unplaced_param, unplaced_item, SameButPlaces}
+use Rattle.pp_print.specs.Statements.{attr_words, block_words, maybe_type, preset_words, param_words, params_words, parent_words, item_words, manifest_words}
+use Rattle.pp_print.specs.Places.{unplaced, unplaced_stmt, unplaced_param, unplaced_item, SameButPlaces}
 use Rattle.pp_print.proofs.Escapes.{quoted_is}
 use Rattle.pp_print.proofs.TypeLaws.{type_reads}
 use Rattle.pp_print.proofs.Phrases.{words_in, Parts, parts, no_word, one_word, together, AllStand, Small, parts_stand, listed_again}
@@ -52,17 +51,22 @@ param_reads n x ts d good us w =
     let q = parts p.back (word kind.Var (36 ∷ x.name)) (preset_words x.preset) p.second in
     let g = parts_stand n (MaybeType x.kind) (VariableOf x.name then PresetOf IsExpr x.preset) ts d good in
     let k = parts_stand n (VariableOf x.name) (PresetOf IsExpr x.preset) d.back d.second g.1 in
-    let r = preset_reads n x.preset d.second.back d.second.second k.1 q.back q.second in
-    (record { kind = x.kind; name = x.name; preset = r.0 },
-    together (MaybeType x.kind) (VariableOf x.name then PresetOf IsExpr r.0) us (maybe_type x.kind) (word kind.Var (36 ∷ x.name) ++ preset_words x.preset) p (type_again n x.kind d.front d.first g.0 p.front p.first)
-        (together (VariableOf x.name) (PresetOf IsExpr r.0) p.back (word kind.Var (36 ∷ x.name)) (preset_words x.preset) q (one_word kind.Var (36 ∷ x.name) q.front q.first, d.second.first.1) r.1),
-    ap (λ (o : Option Expr). record { kind = x.kind; name = x.name; preset = o }) r.2)
+    let r = preset_reads n x.preset d.second.back d.second.second k.1 q.back q.second in (
+      record { kind = x.kind; name = x.name; preset = r.0 },
+      together (MaybeType x.kind) (VariableOf x.name then PresetOf IsExpr r.0) us (maybe_type x.kind) (word kind.Var (36 ∷ x.name) ++ preset_words x.preset) p (type_again n x.kind d.front d.first g.0 p.front p.first)
+          (together (VariableOf x.name) (PresetOf IsExpr r.0) p.back (word kind.Var (36 ∷ x.name)) (preset_words x.preset) q (one_word kind.Var (36 ∷ x.name) q.front q.first, d.second.first.1) r.1),
+      ap (λ (o : Option Expr). record { kind = x.kind; name = x.name; preset = o }) r.2,
+    )
 
 some_params : (x : Param) (more : List Param) (us : List Lexeme) (p : Parts us (sign (codes "(")) (listed param_words (x ∷ more) ++ sign (codes ")"))) (q : Parts p.back (listed param_words (x ∷ more)) (sign (codes ")")))
     → (ys : List Param) × Listed (ParamOf IsExpr) ys q.front × (map unplaced_param (x ∷ more) ≡ map unplaced_param ys) → (ys : List Param) × ParamsOf IsExpr ys us × (map unplaced_param (x ∷ more) ≡ map unplaced_param ys)
 some_params x more us p q ([], d, same) = cc
-some_params x more us p q (y ∷ ys, d, same) = (y ∷ ys, together (Sign (codes "(")) (Listed (ParamOf IsExpr) (y ∷ ys) then Sign (codes ")")) us (sign (codes "(")) (listed param_words (x ∷ more) ++ sign (codes ")")) p (one_word kind.Sign (codes "(") p.front p.first)
-    (together (Listed (ParamOf IsExpr) (y ∷ ys)) (Sign (codes ")")) p.back (listed param_words (x ∷ more)) (sign (codes ")")) q d (one_word kind.Sign (codes ")") q.back q.second)), same)
+some_params x more us p q (y ∷ ys, d, same) = (
+  y ∷ ys,
+  together (Sign (codes "(")) (Listed (ParamOf IsExpr) (y ∷ ys) then Sign (codes ")")) us (sign (codes "(")) (listed param_words (x ∷ more) ++ sign (codes ")")) p (one_word kind.Sign (codes "(") p.front p.first)
+      (together (Listed (ParamOf IsExpr) (y ∷ ys)) (Sign (codes ")")) p.back (listed param_words (x ∷ more)) (sign (codes ")")) q d (one_word kind.Sign (codes ")") q.back q.second)),
+  same,
+)
 
 params_read : (n : ℕ) (xs : List Param) (ts : List Lexeme) → ParamsOf IsExpr xs ts → Small n ts → (us : List Lexeme) → words_in us ≡ params_words xs → (ys : List Param) × ParamsOf IsExpr ys us × (map unplaced_param xs ≡ map unplaced_param ys)
 params_read n [] ts d good us w = ([], inl (no_word us w), refl)
@@ -124,13 +128,15 @@ module _ (n m : ℕ) where
       let l = parts_stand n (ParamsOf IsExpr params) (ParentOf parent then BlockOf S body) d.second.back d.second.second k.1 in
       let o = parts_stand n (ParentOf parent) (BlockOf S body) d.second.second.back d.second.second.second l.1 in
       let x = params_read n params d.second.second.front d.second.second.first l.0 v.front v.first in
-      let b = body_again body d.second.second.second.back d.second.second.second.second o.1 z.back z.second in
-      (item.Class t.0 name x.0 parent b.0, rule.class t.0 name x.0 parent b.0 refl
-          (together (Token kind.Keyword (codes "class") t.0) (Some kind.Word name then ParamsOf IsExpr x.0 then ParentOf parent then BlockOf S b.0) us (keyword (codes "class")) (word kind.Word name ++ (params_words params ++ (parent_words parent ++ block_words body))) p t.1
-          (together (Some kind.Word name) (ParamsOf IsExpr x.0 then ParentOf parent then BlockOf S b.0) p.back (word kind.Word name) (params_words params ++ (parent_words parent ++ block_words body)) q (one_word kind.Word name q.front q.first)
-          (together (ParamsOf IsExpr x.0) (ParentOf parent then BlockOf S b.0) q.back (params_words params) (parent_words parent ++ block_words body) v x.1
-          (together (ParentOf parent) (BlockOf S b.0) v.back (parent_words parent) (block_words body) z (parent_again parent z.front z.first) b.1)))),
-      ap (λ (c : List Param). item.Class 0 name c parent (map unplaced_stmt body)) x.2 ∙ ap (λ (c : List Stmt). item.Class 0 name (map unplaced_param x.0) parent c) b.2)
+      let b = body_again body d.second.second.second.back d.second.second.second.second o.1 z.back z.second in (
+        item.Class t.0 name x.0 parent b.0,
+        rule.class t.0 name x.0 parent b.0 refl
+            (together (Token kind.Keyword (codes "class") t.0) (Some kind.Word name then ParamsOf IsExpr x.0 then ParentOf parent then BlockOf S b.0) us (keyword (codes "class")) (word kind.Word name ++ (params_words params ++ (parent_words parent ++ block_words body))) p t.1
+            (together (Some kind.Word name) (ParamsOf IsExpr x.0 then ParentOf parent then BlockOf S b.0) p.back (word kind.Word name) (params_words params ++ (parent_words parent ++ block_words body)) q (one_word kind.Word name q.front q.first)
+            (together (ParamsOf IsExpr x.0) (ParentOf parent then BlockOf S b.0) q.back (params_words params) (parent_words parent ++ block_words body) v x.1
+            (together (ParentOf parent) (BlockOf S b.0) v.back (parent_words parent) (block_words body) z (parent_again parent z.front z.first) b.1)))),
+        ap (λ (c : List Param). item.Class 0 name c parent (map unplaced_stmt body)) x.2 ∙ ap (λ (c : List Stmt). item.Class 0 name (map unplaced_param x.0) parent c) b.2,
+      )
 
   define_reads : (at : ℕ) (name : List ℕ) (params : List Param) (body : List Stmt) (ts : List Lexeme) → (Token kind.Keyword (codes "define") at then Some kind.Word name then ParamsOf IsExpr params then BlockOf S body) ts → Small n ts → (us : List Lexeme) → Reads (item.Define at name params body) us
   define_reads at name params body ts d good us w =
@@ -142,12 +148,14 @@ module _ (n m : ℕ) where
       let k = parts_stand n (Some kind.Word name) (ParamsOf IsExpr params then BlockOf S body) d.back d.second g.1 in
       let l = parts_stand n (ParamsOf IsExpr params) (BlockOf S body) d.second.back d.second.second k.1 in
       let x = params_read n params d.second.second.front d.second.second.first l.0 v.front v.first in
-      let b = body_again body d.second.second.back d.second.second.second l.1 v.back v.second in
-      (item.Define t.0 name x.0 b.0, rule.define t.0 name x.0 b.0 refl
-          (together (Token kind.Keyword (codes "define") t.0) (Some kind.Word name then ParamsOf IsExpr x.0 then BlockOf S b.0) us (keyword (codes "define")) (word kind.Word name ++ (params_words params ++ block_words body)) p t.1
-          (together (Some kind.Word name) (ParamsOf IsExpr x.0 then BlockOf S b.0) p.back (word kind.Word name) (params_words params ++ block_words body) q (one_word kind.Word name q.front q.first)
-          (together (ParamsOf IsExpr x.0) (BlockOf S b.0) q.back (params_words params) (block_words body) v x.1 b.1))),
-      ap (λ (c : List Param). item.Define 0 name c (map unplaced_stmt body)) x.2 ∙ ap (λ (c : List Stmt). item.Define 0 name (map unplaced_param x.0) c) b.2)
+      let b = body_again body d.second.second.back d.second.second.second l.1 v.back v.second in (
+        item.Define t.0 name x.0 b.0,
+        rule.define t.0 name x.0 b.0 refl
+            (together (Token kind.Keyword (codes "define") t.0) (Some kind.Word name then ParamsOf IsExpr x.0 then BlockOf S b.0) us (keyword (codes "define")) (word kind.Word name ++ (params_words params ++ block_words body)) p t.1
+            (together (Some kind.Word name) (ParamsOf IsExpr x.0 then BlockOf S b.0) p.back (word kind.Word name) (params_words params ++ block_words body) q (one_word kind.Word name q.front q.first)
+            (together (ParamsOf IsExpr x.0) (BlockOf S b.0) q.back (params_words params) (block_words body) v x.1 b.1))),
+        ap (λ (c : List Param). item.Define 0 name c (map unplaced_stmt body)) x.2 ∙ ap (λ (c : List Stmt). item.Define 0 name (map unplaced_param x.0) c) b.2,
+      )
 
   node_reads : (at : ℕ) (names : List (Option (List ℕ))) (body : List Stmt) (ts : List Lexeme) → (Token kind.Keyword (codes "node") at then Listed (NodeNameOf IsExpr) names then BlockOf S body) ts → Small n ts → (us : List Lexeme) → Reads (item.Node at names body) us
   node_reads at names body ts d good us w =
@@ -156,11 +164,13 @@ module _ (n m : ℕ) where
       let t = one_word kind.Keyword (codes "node") p.front p.first in
       let g = parts_stand n (Token kind.Keyword (codes "node") at) (Listed (NodeNameOf IsExpr) names then BlockOf S body) ts d good in
       let k = parts_stand n (Listed (NodeNameOf IsExpr) names) (BlockOf S body) d.back d.second g.1 in
-      let b = body_again body d.second.back d.second.second k.1 q.back q.second in
-      (item.Node t.0 names b.0, rule.node t.0 names b.0 refl
-          (together (Token kind.Keyword (codes "node") t.0) (Listed (NodeNameOf IsExpr) names then BlockOf S b.0) us (keyword (codes "node")) (listed (option_by quoted) names ++ block_words body) p t.1
-          (together (Listed (NodeNameOf IsExpr) names) (BlockOf S b.0) p.back (listed (option_by quoted) names) (block_words body) q (names_read n names d.second.front d.second.first k.0 q.front q.first) b.1)),
-      ap (λ (c : List Stmt). item.Node 0 names c) b.2)
+      let b = body_again body d.second.back d.second.second k.1 q.back q.second in (
+        item.Node t.0 names b.0,
+        rule.node t.0 names b.0 refl
+            (together (Token kind.Keyword (codes "node") t.0) (Listed (NodeNameOf IsExpr) names then BlockOf S b.0) us (keyword (codes "node")) (listed (option_by quoted) names ++ block_words body) p t.1
+            (together (Listed (NodeNameOf IsExpr) names) (BlockOf S b.0) p.back (listed (option_by quoted) names) (block_words body) q (names_read n names d.second.front d.second.first k.0 q.front q.first) b.1)),
+        ap (λ (c : List Stmt). item.Node 0 names c) b.2,
+      )
 
   defaults_reads : (at : ℕ) (name : List ℕ) (attrs : List Attr) (ts : List Lexeme) → (Token kind.Ref name at then InBraces (MaybeListed (AttrOf IsExpr) attrs)) ts → Small n ts → (us : List Lexeme) → Reads (item.Defaults at name attrs) us
   defaults_reads at name attrs ts d good us w =
@@ -168,9 +178,11 @@ module _ (n m : ℕ) where
       let b = braced p.back (listed attr_words attrs) p.second in
       let t = one_word kind.Ref name p.front p.first in
       let g = parts_stand n (Token kind.Ref name at) (InBraces (MaybeListed (AttrOf IsExpr) attrs)) ts d good in
-      let r = attrs_read n attrs d.second.second.front d.second.second.first (braces_small n (MaybeListed (AttrOf IsExpr) attrs) d.back d.second g.1) b.inner b.words in
-      (item.Defaults t.0 name r.0, rule.defaults t.0 name r.0 refl (together (Token kind.Ref name t.0) (InBraces (MaybeListed (AttrOf IsExpr) r.0)) us (word kind.Ref name) (in_braces (listed attr_words attrs)) p t.1 (b.build (MaybeListed (AttrOf IsExpr) r.0) r.1)),
-      ap (λ (c : List Attr). item.Defaults 0 name c) r.2)
+      let r = attrs_read n attrs d.second.second.front d.second.second.first (braces_small n (MaybeListed (AttrOf IsExpr) attrs) d.back d.second g.1) b.inner b.words in (
+        item.Defaults t.0 name r.0,
+        rule.defaults t.0 name r.0 refl (together (Token kind.Ref name t.0) (InBraces (MaybeListed (AttrOf IsExpr) r.0)) us (word kind.Ref name) (in_braces (listed attr_words attrs)) p t.1 (b.build (MaybeListed (AttrOf IsExpr) r.0) r.1)),
+        ap (λ (c : List Attr). item.Defaults 0 name c) r.2,
+      )
 
   item_reads : (x : Item) (ts : List Lexeme) → ItemOf IsExpr S x ts → Small n ts → (us : List Lexeme) → Reads x us
   item_reads x ts (rule.class at name params parent body is d) good us = subst (λ (y : Item). Reads y us) (sym is) (class_reads at name params parent body ts d good us)
@@ -185,9 +197,11 @@ module _ (n m : ℕ) where
       let p = parts us (item_words x) (flat_map item_words xs) w in
       let g = parts_stand n (ItemOf IsExpr S x) (Items IsExpr S xs) ts d good in
       let here = item_reads x d.front d.first g.0 p.front p.first in
-      let rest = items_read xs d.back d.second g.1 p.back p.second in
-      (here.0 ∷ rest.0, together (ItemOf IsExpr S here.0) (Items IsExpr S rest.0) us (item_words x) (flat_map item_words xs) p here.1 rest.1,
-      ap (λ (z : Item). z ∷ map unplaced_item xs) here.2 ∙ ap (λ (r : List Item). unplaced_item here.0 ∷ r) rest.2)
+      let rest = items_read xs d.back d.second g.1 p.back p.second in (
+        here.0 ∷ rest.0,
+        together (ItemOf IsExpr S here.0) (Items IsExpr S rest.0) us (item_words x) (flat_map item_words xs) p here.1 rest.1,
+        ap (λ (z : Item). z ∷ map unplaced_item xs) here.2 ∙ ap (λ (r : List Item). unplaced_item here.0 ∷ r) rest.2,
+      )
 
 -- Any tokens with the words of a manifest that tokens of a text spell, spell one that is the same, places aside.
 pub manifest_reads : (m : Manifest) (ts : List Lexeme) → IsManifest m ts → AllStand ts → (us : List Lexeme) → words_in us ≡ manifest_words m → (k : Manifest) × IsManifest k us × SameButPlaces m k

@@ -1,30 +1,29 @@
 -- The words of an operand with its indexes and selections spell it again, places aside.
-use Rattle.std.proofs.Common.{◌≡◌, ◌≢◌, ◌⊎◌, inl, inr, ℕ, zero, suc, ◌+◌, ◌-◌, ◌≤◌, ◌<◌, ◌^◌, Bool, true, false, cond, ◌||◌, List, [], ◌∷◌, ◌++◌, length, map, refl, sym, ap, subst, ◌∙◌, append_assoc, append-nil, length-append, arith}
+use Rattle.std.proofs.Common.{◌≡◌, ◌≢◌, inl, ℕ, zero, suc, ◌+◌, ◌-◌, ◌≤◌, ◌<◌, ◌^◌, Bool, true, false, cond, ◌||◌, List, [], ◌∷◌, ◌++◌, length, map, refl, sym, ap, subst, ◌∙◌, append_assoc, append-nil, length-append, arith}
 use Rattle.std.specs.Prelude.{ℤ, pos, Option, codes, decimal}
 use Rattle.std.specs.Option.{option_map}
 use Rattle.std.specs.Prelude as prelude
 use Rattle.std.specs.List.{flat_map, list_any}
-use Rattle.std.proofs.lemmas.Bool.{both_ways}
 use Rattle.pp_syntax.specs.declared.token.Kind.{Kind}
 use Rattle.pp_syntax.specs.declared.token.Kind.TheVariants as kind
 use Rattle.pp_syntax.specs.declared.tree.Expr.{Expr}
-use Rattle.pp_syntax.specs.declared.tree.Form.{Form, Form-F, out-Form, roll-Form, roll-out-Form}
+use Rattle.pp_syntax.specs.declared.tree.Form.{Form, Form-F, out-Form, roll-out-Form}
 use Rattle.pp_syntax.specs.declared.tree.Form.TheVariants as form
 use Rattle.pp_syntax.specs.declared.tree.Form.TheOpen as plain
 use Rattle.pp_syntax.specs.Tokens.{Lexeme, int_value}
-use Rattle.pp_syntax.specs.Phrases.{◌then◌, Some, Token, Sign, Keyword, Tight, Listed, MaybeListed, place_of}
+use Rattle.pp_syntax.specs.Phrases.{◌then◌, Some, Token, Sign, Tight, Listed, MaybeListed, place_of}
 use Rattle.pp_syntax.specs.Derivation.{Rule, is_part, has_part, kind_of_first, InnerOf, MemberOf, Members, StringOf, ReferenceOf, PairOf, OptionOf, ChoiceOf, PrimaryOf, SuffixOf, SuffixesOf, PostfixOf, ExprOf, IsExprAt}
 use Rattle.pp_syntax.specs.Derivation as rule
 use Rattle.pp_print.specs.declared.words.Word.{Word}
-use Rattle.pp_print.specs.Words.{word, sign, keyword, quoted, number, variable, has_dash, escaped, in_parens, in_tight, in_loose, in_braces, listed}
+use Rattle.pp_print.specs.Words.{word, sign, keyword, variable, has_dash, escaped, in_parens, in_tight, in_loose, in_braces, listed}
 use Rattle.pp_print.specs.Expressions.{Printed, operand, printed, printed_form, expr_words, at_level, indexed, option_by, form_by, pair_by, choice_by, hole_by, joined_by, refer_by, index_by, select_by}
 use Rattle.pp_print.specs.Places.{unplaced, unplaced_form}
 use Rattle.pp_print.proofs.Forms.{printed_rolled, printed_int, printed_str, printed_var, printed_bool, printed_undef, printed_list, printed_map, printed_refer, printed_join, printed_at, printed_select}
 use Rattle.pp_print.proofs.Unplaced.{unplaced_pair, unplaced_choice, unplaced_list, unplaced_map, unplaced_refer, unplaced_join, unplaced_at, unplaced_select}
 use Rattle.pp_print.proofs.Escapes.{quoted_is}
 use Rattle.pp_print.proofs.Decimals.{int_decimal}
-use Rattle.pp_print.proofs.Phrases.{words_in, Parts, parts, no_word, one_word, together, AllStand, Small, both_small, parts_stand, listed_again, maybe_listed_again}
-use Rattle.pp_print.proofs.Reprints.{Again, loose, RuleAt, Reprint, looser_to, at_level_again, enclosed_again, expr_again}
+use Rattle.pp_print.proofs.Phrases.{words_in, parts, no_word, one_word, together, AllStand, Small, both_small, parts_stand, listed_again, maybe_listed_again}
+use Rattle.pp_print.proofs.Reprints.{Again, RuleAt, Reprint, looser_to, at_level_again, enclosed_again, expr_again}
 
 -- ---- what can be indexed is an operand
 

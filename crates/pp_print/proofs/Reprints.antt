@@ -1,5 +1,5 @@
 -- The words of an expression spell it again, places aside: chains of operators and prefixes, from their operands.
-use Rattle.std.proofs.Common.{◌≡◌, ◌⊎◌, inl, inr, ℕ, zero, suc, ◌+◌, ◌-◌, ◌≤◌, Bool, true, false, cond, nat_le, List, [], ◌∷◌, ◌++◌, map, refl, sym, ap, subst, ◌∙◌, append_assoc, append-nil, arith}
+use Rattle.std.proofs.Common.{◌≡◌, ◌⊎◌, inl, inr, ℕ, zero, suc, ◌+◌, ◌-◌, ◌≤◌, true, false, cond, nat_le, List, [], ◌∷◌, ◌++◌, map, refl, sym, ap, subst, ◌∙◌, append-nil, arith}
 use Rattle.std.specs.Prelude.{codes}
 use Rattle.std.specs.List.{flat_map}
 use Rattle.std.proofs.lemmas.Bool.{leb-true, le-leb, both_ways}
@@ -11,16 +11,16 @@ use Rattle.pp_syntax.specs.declared.tree.Form.TheOpen as plain
 use Rattle.pp_syntax.specs.declared.tree.Op.{Op}
 use Rattle.pp_syntax.specs.declared.tree.Op.TheVariants as op
 use Rattle.pp_syntax.specs.Tokens.{Lexeme}
-use Rattle.pp_syntax.specs.Phrases.{◌then◌, Some, Sign, place_of}
+use Rattle.pp_syntax.specs.Phrases.{◌then◌, Sign, place_of}
 use Rattle.pp_syntax.specs.Derivation.{Rule, level_of, Infix, Prefixed, Operation, Operations, ChainOf, PrimaryOf, PostfixOf, UnaryOf, Prefixes, ExprOf, AndOf, ComparisonOf, EqualityOf, SumOf, ProductOf, InOf, none}
 use Rattle.pp_syntax.specs.Derivation as rule
 use Rattle.pp_print.specs.declared.words.Word.{Word}
-use Rattle.pp_print.specs.Words.{word, sign, keyword, in_parens}
-use Rattle.pp_print.specs.Expressions.{Printed, printed, printed_form, expr_words, at_level, operator, level_in, form_by, operation_by}
+use Rattle.pp_print.specs.Words.{sign, in_parens}
+use Rattle.pp_print.specs.Expressions.{Printed, printed, printed_form, expr_words, at_level, operator, form_by, operation_by}
 use Rattle.pp_print.specs.Places.{unplaced, unplaced_form}
 use Rattle.pp_print.proofs.Forms.{printed_chain, printed_prefix}
 use Rattle.pp_print.proofs.Unplaced.{unplaced_operation, unplaced_chain, unplaced_prefix}
-use Rattle.pp_print.proofs.Phrases.{words_in, Parts, parts, no_word, one_word, together, Small, parts_stand}
+use Rattle.pp_print.proofs.Phrases.{words_in, parts, no_word, one_word, together, Small, parts_stand}
 
 -- Any tokens with these words spell it by the rule, places aside.
 abbrev pub Again : Rule → Expr → List Word → Type 0

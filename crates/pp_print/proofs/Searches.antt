@@ -17,12 +17,12 @@ use Rattle.pp_syntax.specs.Derivation.{PostfixOf, IsExpr}
 use Rattle.pp_syntax.specs.Statements.{NameOf, AtomOf, ConjunctionOf, SearchOf, IsSearchAt, IsSearch, MaybeSearch}
 use Rattle.pp_syntax.specs.Statements as rule
 use Rattle.pp_print.specs.declared.words.Word.{Word}
-use Rattle.pp_print.specs.Words.{word, sign, keyword, named, in_parens}
+use Rattle.pp_print.specs.Words.{sign, keyword, named, in_parens}
 use Rattle.pp_print.specs.Expressions.{printed, at_level}
-use Rattle.pp_print.specs.Statements.{Sought, search_by, sought, sought_at, compared, maybe_search}
+use Rattle.pp_print.specs.Statements.{Sought, sought, sought_at, compared, maybe_search}
 use Rattle.pp_print.specs.Places.{unplaced, search_step, unplaced_search}
 use Rattle.pp_print.proofs.Blocks.{sought_or, sought_and, sought_equal, sought_differ}
-use Rattle.pp_print.proofs.Phrases.{words_in, parts, no_word, one_word, together, Small, both_small, parts_stand, separated_again}
+use Rattle.pp_print.proofs.Phrases.{words_in, parts, no_word, one_word, together, Small, parts_stand, separated_again}
 use Rattle.pp_print.proofs.Bodies.{name_reads, postfix_reads}
 
 -- ---- searches without places
@@ -78,9 +78,12 @@ enclosed_again : (S : SearchRule) (x : Search) (us : List Lexeme) → Again S x 
 enclosed_again S x us again w =
     let p = parts us (sign (codes "(")) ((sought x).words ++ sign (codes ")")) w in
     let q = parts p.back (sought x).words (sign (codes ")")) p.second in
-    let r = again q.front q.first in
-    (r.0, rule.enclosed (together (Sign (codes "(")) (S r.0 then Sign (codes ")")) us (sign (codes "(")) ((sought x).words ++ sign (codes ")")) p (one_word kind.Sign (codes "(") p.front p.first)
-        (together (S r.0) (Sign (codes ")")) p.back (sought x).words (sign (codes ")")) q r.1 (one_word kind.Sign (codes ")") q.back q.second))), r.2)
+    let r = again q.front q.first in (
+      r.0,
+      rule.enclosed (together (Sign (codes "(")) (S r.0 then Sign (codes ")")) us (sign (codes "(")) ((sought x).words ++ sign (codes ")")) p (one_word kind.Sign (codes "(") p.front p.first)
+          (together (S r.0) (Sign (codes ")")) p.back (sought x).words (sign (codes ")")) q r.1 (one_word kind.Sign (codes ")") q.back q.second))),
+      r.2,
+    )
 
 at_again : (S : SearchRule) (n : ℕ) (x : Search) → n ≤ 2 → Reprint S n x → Again (loose S (2 - n)) x (sought_at n (sought x))
 at_again S n x most r us w = elim (nat_le n (sought x).level) as (λ v. nat_le n (sought x).level ≡ v → words_in us ≡ cond v (sought x).words (in_parens (sought x).words) → (y : Search) × loose S (2 - n) y us × (unplaced_search x ≡ unplaced_search y)) [
@@ -112,9 +115,12 @@ compared_again n mark name value ts d good us w =
     let q = parts p.back (sign mark) (at_level 8 (printed value)) p.second in
     let g = parts_stand n (NameOf name) (Sign mark then PostfixOf IsExpr value) ts d good in
     let k = parts_stand n (Sign mark) (PostfixOf IsExpr value) d.back d.second g.1 in
-    let r = postfix_reads n value d.second.back d.second.second k.1 q.back q.second in
-    (r.0, together (NameOf name) (Sign mark then PostfixOf IsExpr r.0) us (named name) (sign mark ++ at_level 8 (printed value)) p (name_reads n name d.front d.first g.0 p.front p.first)
-        (together (Sign mark) (PostfixOf IsExpr r.0) p.back (sign mark) (at_level 8 (printed value)) q (one_word kind.Sign mark q.front q.first) r.1), r.2)
+    let r = postfix_reads n value d.second.back d.second.second k.1 q.back q.second in (
+      r.0,
+      together (NameOf name) (Sign mark then PostfixOf IsExpr r.0) us (named name) (sign mark ++ at_level 8 (printed value)) p (name_reads n name d.front d.first g.0 p.front p.first)
+          (together (Sign mark) (PostfixOf IsExpr r.0) p.back (sign mark) (at_level 8 (printed value)) q (one_word kind.Sign mark q.front q.first) r.1),
+      r.2,
+    )
 
 pub record Nested (e : ℕ) (x : Search) : Type 0 where
   pub own : Reprint (IsSearchAt IsExpr (suc e)) 2 x
@@ -149,8 +155,11 @@ module _ (S : SearchRule) (e : ℕ) (nested : (x : Search) (ts : List Lexeme) �
       two : (us : List Lexeme) → (ys : List Search) × Separated (Keyword (codes "and")) (AtomOf IsExpr T) ys us × (map unplaced_search (a ∷ b ∷ more) ≡ map unplaced_search ys) → (z : Search) × ConjunctionOf IsExpr T z us × (unplaced_search y ≡ unplaced_search z)
       two us ([], s, same) = cc
       two us (c ∷ [], s, same) = cc
-      two us (c ∷ f ∷ zs, s, same) = (search.And (c ∷ f ∷ zs), rule.conjunction c f zs refl s,
-        ap unplaced_search is ∙ unplaced_and (a ∷ b ∷ more) ∙ ap (λ (xs : List Search). search.And xs) same ∙ sym (unplaced_and (c ∷ f ∷ zs)))
+      two us (c ∷ f ∷ zs, s, same) = (
+        search.And (c ∷ f ∷ zs),
+        rule.conjunction c f zs refl s,
+        ap unplaced_search is ∙ unplaced_and (a ∷ b ∷ more) ∙ ap (λ (xs : List Search). search.And xs) same ∙ sym (unplaced_and (c ∷ f ∷ zs)),
+      )
 
   conjunctions_again : (x : Search) (ts : List Lexeme) → ConjunctionOf IsExpr S x ts → Small (suc e) ts → (us : List Lexeme) → words_in us ≡ sought_at 1 (sought x) → (y : Search) × ConjunctionOf IsExpr T y us × (unplaced_search x ≡ unplaced_search y)
   conjunctions_again x ts d good us w = at_again T 1 x (omega arith) (conjunction_again x ts d good) us w
@@ -164,8 +173,11 @@ module _ (S : SearchRule) (e : ℕ) (nested : (x : Search) (ts : List Lexeme) �
       two : (us : List Lexeme) → (ys : List Search) × Separated (Keyword (codes "or")) (ConjunctionOf IsExpr T) ys us × (map unplaced_search (a ∷ b ∷ more) ≡ map unplaced_search ys) → (z : Search) × SearchOf IsExpr T z us × (unplaced_search y ≡ unplaced_search z)
       two us ([], s, same) = cc
       two us (c ∷ [], s, same) = cc
-      two us (c ∷ f ∷ zs, s, same) = (search.Or (c ∷ f ∷ zs), rule.disjunction c f zs refl s,
-        ap unplaced_search is ∙ unplaced_or (a ∷ b ∷ more) ∙ ap (λ (xs : List Search). search.Or xs) same ∙ sym (unplaced_or (c ∷ f ∷ zs)))
+      two us (c ∷ f ∷ zs, s, same) = (
+        search.Or (c ∷ f ∷ zs),
+        rule.disjunction c f zs refl s,
+        ap unplaced_search is ∙ unplaced_or (a ∷ b ∷ more) ∙ ap (λ (xs : List Search). search.Or xs) same ∙ sym (unplaced_or (c ∷ f ∷ zs)),
+      )
 
 inside_of : (S : SearchRule) (n : ℕ) (x : Search) → Reprint S n x → Again (SearchOf IsExpr S) x (sought x).words
 inside_of S n x r us w = let a = r.own us w in (a.0, looser_to S (2 - (sought x).level) 2 a.0 us (omega arith) a.1, a.2)

@@ -1,22 +1,21 @@
 -- The words of a type spell it again.
-use Rattle.std.proofs.Common.{◌≡◌, inl, inr, ℕ, zero, suc, ◌≤◌, ◌<◌, ◌^◌, ◌==◌, cond, true, false, List, [], ◌∷◌, ◌++◌, ◌+◌, length, map, refl, sym, ap, subst, ◌∙◌, append_assoc, arith}
+use Rattle.std.proofs.Common.{◌≡◌, ℕ, zero, suc, ◌≤◌, ◌<◌, ◌^◌, ◌==◌, cond, true, false, List, [], ◌∷◌, ◌++◌, ◌+◌, length, map, refl, sym, ap, subst, ◌∙◌, append_assoc, arith}
 use Rattle.std.specs.Prelude.{ℤ, pos, Option, codes, unsigned_abs, decimal}
 use Rattle.std.specs.Prelude as prelude
 use Rattle.std.proofs.lemmas.Bool.{eqb-true}
 use Rattle.pp_syntax.specs.declared.token.Kind.TheVariants as kind
 use Rattle.pp_syntax.specs.declared.tree.TypeName.{TypeName}
-use Rattle.pp_syntax.specs.declared.tree.TypeName.TheVariants as type
 use Rattle.pp_syntax.specs.Tokens.{Lexeme, int_value}
 use Rattle.pp_syntax.specs.Phrases.{◌then◌, Some, Sign, Tight, Comma, Listed}
 use Rattle.pp_syntax.specs.Statements.{TextBounds, NumberBounds, TypeWord, QuotedText, TypeOf, IsTypeAt, IsType}
 use Rattle.pp_syntax.specs.Statements as rule
 use Rattle.pp_print.specs.declared.words.Word.{Word}
 use Rattle.pp_print.specs.Words.{word, sign, comma, quoted, number, in_tight, listed}
-use Rattle.pp_print.specs.Statements.{text_bounds, number_bounds, type_word, member_by, type_words}
+use Rattle.pp_print.specs.Statements.{text_bounds, number_bounds, type_word, type_words}
 use Rattle.pp_print.proofs.Blocks.{type_any, type_boolean, type_hash, type_str, type_int, type_array, type_optional, type_enum, type_variant}
 use Rattle.pp_print.proofs.Escapes.{quoted_is}
 use Rattle.pp_print.proofs.Decimals.{int_decimal}
-use Rattle.pp_print.proofs.Phrases.{words_in, Parts, parts, no_word, one_word, together, AllStand, Small, parts_stand, listed_again}
+use Rattle.pp_print.proofs.Phrases.{words_in, parts, no_word, one_word, together, AllStand, Small, parts_stand, listed_again}
 
 map_same : {X : Type 0} (xs : List X) → map (λ (x : X). x) xs ≡ xs
 map_same [] = refl

@@ -1,5 +1,5 @@
 -- What is spelled with brackets nested to some depth is spelled.
-use Rattle.std.proofs.Common.{◌≡◌, inl, inr, ℕ, List, [], ◌∷◌, refl}
+use Rattle.std.proofs.Common.{ℕ, List, [], ◌∷◌}
 use Rattle.std.specs.Prelude.{Option, codes}
 use Rattle.std.specs.Prelude as prelude
 use Rattle.pp_syntax.specs.declared.tree.Expr.{Expr}

@@ -4,7 +4,7 @@ use Rattle.std.specs.Prelude as prelude
 use Rattle.std.specs.List.{flat_map}
 use Rattle.pp_syntax.specs.declared.token.Kind.TheVariants as kind
 use Rattle.pp_syntax.specs.declared.tree.Expr.{Expr}
-use Rattle.pp_syntax.specs.declared.tree.Form.{Form, Form-F, fold-Form, roll-Form}
+use Rattle.pp_syntax.specs.declared.tree.Form.{Form, Form-F, fold-Form}
 use Rattle.pp_syntax.specs.declared.tree.Form.TheOpen as form
 use Rattle.pp_syntax.specs.declared.tree.Op.{Op}
 use Rattle.pp_syntax.specs.declared.tree.Op.TheVariants as op

@@ -1,6 +1,6 @@
 -- Words, of which a text is written, and their text.
 use Rattle.std.specs.Prelude.{ℕ, Bool, true, false, ◌==◌, ◌||◌, ◌&&◌, if◌then◌else◌, List, [], ◌∷◌, ◌++◌, ℤ, unsigned_abs, decimal, codes}
-use Rattle.std.specs.List.{list_any, flat_map, join_by}
+use Rattle.std.specs.List.{list_any, join_by}
 use Rattle.pp_syntax.specs.declared.token.Kind.{Kind}
 use Rattle.pp_syntax.specs.declared.token.Kind.TheVariants as kind
 use Rattle.pp_syntax.specs.Tokens.{Lexeme, is_among, keywords}

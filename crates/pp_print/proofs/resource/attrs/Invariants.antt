@@ -1,7 +1,6 @@
 use Rattle.std.proofs.Common.{◌≡◌, ◌++◌, take}
-use Rattle.std.specs.Prelude.{codes}
 use Rattle.std.specs.List.{flat_map}
-use Rattle.pp_print.specs.Words.{sign, comma}
+use Rattle.pp_print.specs.Words.{comma}
 use Rattle.pp_print.specs.Statements.{attr_words}
 use Rattle.pp_print.proofs.resource.attrs.Given as goal
 

@@ -1,7 +1,7 @@
 use Rattle.std.proofs.Common.{◌≡◌, ◌++◌, take}
 use Rattle.std.specs.Prelude.{codes}
 use Rattle.std.specs.List.{flat_map}
-use Rattle.pp_print.specs.Words.{sign, comma}
+use Rattle.pp_print.specs.Words.{sign}
 use Rattle.pp_print.specs.Statements.{body_words}
 use Rattle.pp_print.proofs.resource.bodies.Given as goal
 
