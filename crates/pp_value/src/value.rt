@@ -1,6 +1,10 @@
-use rh_base::{Seq, Text};
+ghost use Rattle.std.specs.Prelude.{◌≡◌, ◌↔◌, [], ◌∷◌, ◌++◌, length, None, IsTrue, IfOk, OnOk, OnErr, option_map};
+ghost use Rattle.pp_value.specs.Values.{HasDistinctKeys, value_at};
 
-/// A resource or a class.
+use rh_base::{NoMemory, Seq, Text};
+use std::alloc::Global;
+
+/// A resource or a class: its kind in lower case, and its title.
 #[derive(Debug, Drop)]
 pub struct Ref {
     pub kind: Text,
@@ -17,10 +21,11 @@ pub enum Value {
     List(Seq<Value>),
     Map(Pairs),
     Refer(Ref),
-    /// A number of the facts that isn't a whole one in i64.
+    /// A number of the facts that isn't a whole one of 64 bits.
     Opaque,
 }
 
+/// The pairs of a map, with distinct keys, in order of insertion.
 #[cycle(value)]
 #[derive(Drop)]
 pub struct Pairs {
@@ -28,7 +33,73 @@ pub struct Pairs {
 }
 
 impl Pairs {
-    pub fn len(&self) -> usize {
+    pub fn new(alloc: Global) -> Pairs
+        ensures { result.pairs ≡ [] }
+    {
+        Pairs {
+            pairs: Seq::new(alloc),
+        }
+    }
+
+    pub fn from_vec(pairs: Vec<(Text, Value)>) -> Pairs
+        requires { HasDistinctKeys pairs.items }
+        ensures { result.pairs ≡ pairs.items }
+    {
+        Pairs {
+            pairs: Seq::from_vec(pairs),
+        }
+    }
+
+    pub fn into_vec(self) -> Vec<(Text, Value)>
+        ensures { result.items ≡ self.pairs }
+    {
+        let Pairs { pairs } = self;
+        pairs.into_vec()
+    }
+
+    pub fn len(&self) -> usize
+        ensures { result ≡ length self.now.pairs }
+    {
         self.pairs.len()
     }
+
+    pub fn is_empty(&self) -> bool
+        ensures { IsTrue result ↔ (self.now.pairs ≡ []) }
+    {
+        self.pairs.is_empty()
+    }
+
+    pub fn as_slice(&self) -> &[(Text, Value)]
+        ensures { result.now ≡ self.now.pairs }
+    {
+        self.pairs.as_slice()
+    }
+
+    /// Adds a pair at the end.
+    pub fn push(&mut self, key: Text, value: Value) -> Result<(), NoMemory>
+        requires { value_at key self.old.pairs ≡ None }
+        ensures ok { OnOk result (self.new.pairs ≡ self.old.pairs ++ (key, value) ∷ []) }
+        ensures err { OnErr result (self.new ≡ self.old) }
+    {
+        self.pairs.push((key, value))
+    }
+
+    /// The value of a key, compared exactly.
+    pub fn find(&self, key: &str) -> Option<&Value>
+        ensures { option_map (λ x. x.now) result ≡ value_at key.now self.now.pairs }
+    {
+        value_of(self.pairs.as_slice(), key)
+    }
+}
+
+/// The value of a key among some pairs.
+pub fn value_of<'v>(pairs: &'v [(Text, Value)], key: &str) -> Option<&'v Value>
+    ensures { option_map (λ x. x.now) result ≡ value_at key.now pairs.now }
+{
+    for pair in pairs {
+        if pair.0.as_str() == key {
+            return Some(&pair.1);
+        }
+    }
+    None
 }
