@@ -4,3 +4,4 @@ pub mod Values
 pub mod Table
 pub mod Shown
 pub mod Types
+pub mod Levels

@@ -1,0 +1,4 @@
+pub mod TextLaws
+pub mod Opaque
+pub mod Tables
+pub mod WordLaws
