@@ -4,6 +4,7 @@
 mod compare;
 mod fault;
 mod numbers;
+mod operations;
 mod sizes;
 mod texts;
 mod value;
@@ -11,5 +12,6 @@ mod value;
 pub use compare::{equal, less, within};
 pub use fault::{Misfit, ValueFault};
 pub use numbers::{multiply, negate, subtract};
+pub use operations::add;
 pub use sizes::size;
 pub use value::{Pairs, Ref, Value};

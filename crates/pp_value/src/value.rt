@@ -11,6 +11,17 @@ pub struct Ref {
     pub title: Text,
 }
 
+impl Ref {
+    /// An equal reference.
+    pub fn copy(&self, alloc: Global) -> Result<Ref, NoMemory>
+        ensures { IfOk result (λ r. r ≡ self.now) }
+    {
+        let kind = self.kind.copy(alloc)?;
+        let title = self.title.copy(alloc)?;
+        Ok(Ref { kind, title })
+    }
+}
+
 #[cycle(value)]
 #[derive(Drop)]
 pub enum Value {
@@ -32,7 +43,66 @@ pub struct Pairs {
     pairs: Seq<(Text, Value)>,
 }
 
+impl Value {
+    /// An equal value.
+    #[cycle(copy)]
+    pub fn copy(&self, alloc: Global) -> Result<Value, NoMemory>
+        ensures { IfOk result (λ v. v ≡ self.now) }
+    {
+        match self {
+            Value::Undef => Ok(Value::Undef),
+            Value::Bool(b) => Ok(Value::Bool(*b)),
+            Value::Int(n) => Ok(Value::Int(*n)),
+            Value::Str(text) => Ok(Value::Str(text.copy(alloc)?)),
+            Value::List(items) => {
+                let copies = copy_all(alloc, items.as_slice())?;
+                Ok(Value::List(Seq::from_vec(copies)))
+            }
+            Value::Map(pairs) => Ok(Value::Map(pairs.copy(alloc)?)),
+            Value::Refer(r) => Ok(Value::Refer(r.copy(alloc)?)),
+            Value::Opaque => Ok(Value::Opaque),
+        }
+    }
+}
+
+/// Copies of some values.
+#[cycle(copy)]
+pub fn copy_all(alloc: Global, items: &[Value]) -> Result<Vec<Value>, NoMemory>
+    ensures { IfOk result (λ v. v.items ≡ items.now) }
+{
+    let mut copies = Vec::new(alloc);
+    for item in items {
+        copies.push(item.copy(alloc)?)?;
+    }
+    Ok(copies)
+}
+
+/// Copies of some pairs.
+#[cycle(copy)]
+pub fn copy_pairs(alloc: Global, pairs: &[(Text, Value)]) -> Result<Vec<(Text, Value)>, NoMemory>
+    ensures { IfOk result (λ v. v.items ≡ pairs.now) }
+{
+    let mut copies = Vec::new(alloc);
+    for pair in pairs {
+        let key = pair.0.copy(alloc)?;
+        let value = pair.1.copy(alloc)?;
+        copies.push((key, value))?;
+    }
+    Ok(copies)
+}
+
 impl Pairs {
+    /// Equal pairs.
+    #[cycle(copy)]
+    pub fn copy(&self, alloc: Global) -> Result<Pairs, NoMemory>
+        ensures { IfOk result (λ p. p ≡ self.now) }
+    {
+        let copies = copy_pairs(alloc, self.pairs.as_slice())?;
+        Ok(Pairs {
+            pairs: Seq::from_vec(copies),
+        })
+    }
+
     pub fn new(alloc: Global) -> Pairs
         ensures { result.pairs ≡ [] }
     {
