@@ -2,3 +2,4 @@ pub mod TextLaws
 pub mod Opaque
 pub mod Tables
 pub mod WordLaws
+pub mod Capitals

@@ -1,5 +1,6 @@
 -- Values as texts.
-use Rattle.std.specs.Prelude.{ℕ, ◌+◌, ℤ, pos, negsuc, Bool, true, false, if◌then◌else◌, List, [], ◌∷◌, ◌++◌, length, codes, decimal, Result, Ok, Err}
+use Rattle.std.specs.Prelude.{ℕ, ◌+◌, ℤ, Bool, true, false, if◌then◌else◌, List, [], ◌∷◌, ◌++◌, length, codes, Result, Ok, Err}
+use Rattle.std.specs.Fmt.{signed_decimal}
 use Rattle.pp_value.specs.declared.value.Ref.{Ref}
 use Rattle.pp_value.specs.declared.value.Value.{Value, Row_of-Value, end_of-Value, more_of-Value, Row_of-Pairs-pairs-2, end_of-Pairs-pairs-2, more_of-Pairs-pairs-2}
 use Rattle.pp_value.specs.declared.value.Value.TheVariants as v
@@ -9,8 +10,7 @@ use Rattle.pp_value.specs.Texts.{capitalized}
 use Rattle.pp_value.specs.Values.{has_opaque}
 
 abbrev pub shown_int : ℤ → List ℕ
-shown_int (pos n) = decimal n
-shown_int (negsuc n) = codes "-" ++ decimal (n + 1)
+shown_int n = signed_decimal n
 
 abbrev pub shown_bool : Bool → List ℕ
 shown_bool true = codes "true"

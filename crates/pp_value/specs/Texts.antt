@@ -1,5 +1,5 @@
 -- Texts, ASCII case aside.
-use Rattle.std.specs.Prelude.{ℕ, Bool, true, false, ◌||◌, ◌&&◌, ◌==◌, if◌then◌else◌, List, [], ◌∷◌, map}
+use Rattle.std.specs.Prelude.{ℕ, Bool, true, false, ◌||◌, ◌&&◌, ◌==◌, if◌then◌else◌, List, [], ◌∷◌, map, chars, encode_utf8_all}
 use Rattle.std.specs.Char.{to_ascii_lowercase, to_ascii_uppercase}
 use Rattle.std.specs.Cmp.Lexicographic.{slice_cmp}
 use Rattle.std.specs.Ordering.{nat_cmp, is_lt}
@@ -27,11 +27,14 @@ abbrev pub is_part : List ℕ → List ℕ → Bool
 is_part part [] = begins part []
 is_part part (c ∷ text) = begins part (c ∷ text) || is_part part text
 
--- the first letter, and each behind a colon, in upper case
+abbrev pub capital_if : Bool → ℕ → ℕ
+capital_if first c = if first then to_ascii_uppercase c else c
+
+-- the first character, and each behind a colon, in upper case if it is an ASCII letter
 abbrev pub with_capitals : Bool → List ℕ → List ℕ
 with_capitals first [] = []
-with_capitals first (c ∷ text) = (if first then to_ascii_uppercase c else c) ∷ with_capitals (c == 58) text
+with_capitals first (c ∷ text) = capital_if first c ∷ with_capitals (c == 58) text
 
 -- a kind as it is shown: each of its segments with a capital
 abbrev pub capitalized : List ℕ → List ℕ
-capitalized kind = with_capitals true kind
+capitalized kind = encode_utf8_all (with_capitals true (chars kind))

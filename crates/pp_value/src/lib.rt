@@ -5,13 +5,17 @@ mod compare;
 mod fault;
 mod numbers;
 mod operations;
+mod showing;
 mod sizes;
 mod texts;
+mod types;
 mod value;
 
 pub use compare::{equal, less, within};
 pub use fault::{Misfit, ValueFault};
 pub use numbers::{multiply, negate, subtract};
-pub use operations::add;
+pub use operations::{add, index};
+pub use showing::show;
 pub use sizes::size;
+pub use types::fits;
 pub use value::{Pairs, Ref, Value};

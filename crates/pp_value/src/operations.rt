@@ -95,7 +95,7 @@ fn merged(
 {
     let mut pairs = all_renewed(alloc, left, right)?;
     add_new(alloc, left, right, &mut pairs)?;
-    Ok(Value::Map(Pairs::from_vec(pairs)))
+    Ok(Value::Map(Pairs::of(pairs)))
 }
 
 /// The sum of two numbers, two lists one after the other, or two maps as one, in which the right one's values win and
@@ -120,4 +120,41 @@ fn limited_copy(alloc: Global, value: &Value) -> Result<Value, ValueFault>
         return Err(ValueFault::Large);
     }
     Ok(value.copy(alloc)?)
+}
+
+/// The member at a place from 0, or from the end where the number is negative.
+fn member(items: &[Value], n: i64) -> Option<&Value>
+    ensures { or_undef (option_map (λ x. x.now) result) ≡ member_at items.now n }
+{
+    if n >= 0 {
+        return items.get(n as usize);
+    }
+    let back = n.unsigned_abs() as usize;
+    if back > items.len() {
+        return None;
+    }
+    items.get(items.len() - back)
+}
+
+/// A copy of a value that was found, or undef.
+fn found(alloc: Global, value: Option<&Value>) -> Result<Value, ValueFault>
+    ensures { Gives size_of (Ok (or_undef (option_map (λ x. x.now) value.entry))) result }
+{
+    match value {
+        Some(value) => limited_copy(alloc, value),
+        None => Ok(Value::Undef),
+    }
+}
+
+/// The member of a list at a place, from 0 or, where negative, from the end, or the value of a map's key, compared
+/// exactly; undef where there is none.
+#[tactic(auto, using(crate::proofs::Tables::index_list, crate::proofs::Tables::index_map))]
+pub fn index(alloc: Global, a: &Value, key: &Value) -> Result<Value, ValueFault>
+    ensures { Gives size_of (index_table a.now key.now) result }
+{
+    match (a, key) {
+        (Value::List(items), Value::Int(n)) => found(alloc, member(items.as_slice(), *n)),
+        (Value::Map(pairs), Value::Str(name)) => found(alloc, pairs.find(name.as_str())),
+        _ => Err(ValueFault::Operand),
+    }
 }

@@ -120,6 +120,15 @@ impl Pairs {
         }
     }
 
+    /// Pairs whose keys are known to be distinct where those of some operands are.
+    pub(crate) fn of(pairs: Vec<(Text, Value)>) -> Pairs
+        ensures { result.pairs ≡ pairs.items }
+    {
+        Pairs {
+            pairs: Seq::from_vec(pairs),
+        }
+    }
+
     pub fn into_vec(self) -> Vec<(Text, Value)>
         ensures { result.items ≡ self.pairs }
     {
