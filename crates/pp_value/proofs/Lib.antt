@@ -3,3 +3,4 @@ pub mod Opaque
 pub mod Tables
 pub mod WordLaws
 pub mod Capitals
+pub mod PutLaws

@@ -5,3 +5,4 @@ pub mod Table
 pub mod Shown
 pub mod Types
 pub mod Levels
+pub mod Puts

@@ -49,6 +49,11 @@ abbrev pub value_at : List ℕ → List Pair → Option Value
 value_at key [] = None
 value_at key (p ∷ pairs) = if bytes_eq p.0 key then Some p.1 else value_at key pairs
 
+-- a key that stands already takes the value and keeps its place, and a new key goes last
+abbrev pub with_pair : List ℕ → Value → List Pair → List Pair
+with_pair key x [] = (key, x) ∷ []
+with_pair key x (p ∷ pairs) = if bytes_eq p.0 key then (p.0, x) ∷ pairs else p ∷ with_pair key x pairs
+
 abbrev pub passes : (Value → Bool) → Option Value → Bool
 passes test None = false
 passes test (Some x) = test x

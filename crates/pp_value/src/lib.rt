@@ -19,3 +19,6 @@ pub use showing::show;
 pub use sizes::size;
 pub use types::fits;
 pub use value::{Pairs, Ref, Value};
+
+#[cfg(test)]
+mod tests;

@@ -1,5 +1,6 @@
-ghost use Rattle.std.specs.Prelude.{◌≡◌, ◌↔◌, [], ◌∷◌, ◌++◌, length, None, IsTrue, IfOk, OnOk, OnErr, option_map};
-ghost use Rattle.pp_value.specs.Values.{HasDistinctKeys, value_at};
+ghost use Rattle.std.specs.Prelude.{◌≡◌, ◌<◌, ◌↔◌, [], ◌∷◌, ◌++◌, length, None, IsTrue, IfOk, OnOk, OnErr, option_map};
+ghost use Rattle.pp_value.specs.Puts.{place_of, with_value_at};
+ghost use Rattle.pp_value.specs.Values.{HasDistinctKeys, value_at, with_pair};
 
 use rh_base::{NoMemory, Seq, Text};
 use std::alloc::Global;
@@ -163,12 +164,49 @@ impl Pairs {
         self.pairs.push((key, value))
     }
 
+    /// Gives a key a value: a key that stands already keeps its place, and a new one goes last.
+    pub fn with(self, key: Text, value: Value) -> Result<Pairs, NoMemory>
+        ensures { IfOk result (λ p. p.pairs ≡ with_pair key value self.pairs) }
+    {
+        let mut pairs = self.into_vec();
+        let place = place_of(pairs.as_slice(), key.as_str());
+        if place < pairs.len() {
+            set_value(&mut pairs, place, value);
+            return Ok(Pairs::of(pairs));
+        }
+        pairs.push((key, value))?;
+        Ok(Pairs::of(pairs))
+    }
+
     /// The value of a key, compared exactly.
     pub fn find(&self, key: &str) -> Option<&Value>
         ensures { option_map (λ x. x.now) result ≡ value_at key.now self.now.pairs }
     {
         value_of(self.pairs.as_slice(), key)
     }
+}
+
+/// The index of a key among some pairs, or their number.
+fn place_of(pairs: &[(Text, Value)], key: &str) -> usize
+    ensures { result ≡ place_of key.now pairs.now }
+{
+    let mut place = 0usize;
+    for pair in pairs {
+        if pair.0.as_str() == key {
+            return place;
+        }
+        place += 1;
+    }
+    place
+}
+
+/// Gives the pair at an index another value.
+fn set_value(pairs: &mut Vec<(Text, Value)>, place: usize, value: Value)
+    requires { place < length pairs.old.items }
+    ensures { pairs.new.items ≡ with_value_at place value pairs.old.items }
+{
+    let pair = &mut pairs[place];
+    pair.1 = value;
 }
 
 /// The value of a key among some pairs.
