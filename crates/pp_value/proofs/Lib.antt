@@ -4,3 +4,4 @@ pub mod Tables
 pub mod WordLaws
 pub mod Capitals
 pub mod PutLaws
+pub mod Distinct

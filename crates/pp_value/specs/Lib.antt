@@ -6,3 +6,4 @@ pub mod Shown
 pub mod Types
 pub mod Levels
 pub mod Puts
+pub mod Proper
