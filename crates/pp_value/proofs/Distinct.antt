@@ -8,20 +8,20 @@ use Rattle.pp_value.specs.Values.{Pair, value_at, HasDistinctKeys}
 
 -- ---- tests of keys
 
-by_test : (t : Bool) (P : Type 0) → (t ≡ true → P) → (t ≡ false → P) → P
+pub by_test : (t : Bool) (P : Type 0) → (t ≡ true → P) → (t ≡ false → P) → P
 by_test true P yes_ no_ = yes_ refl
 by_test false P yes_ no_ = no_ refl
 
-same_key : (a b : List ℕ) → bytes_eq a b ≡ true → a ≡ b
+pub same_key : (a b : List ℕ) → bytes_eq a b ≡ true → a ≡ b
 same_key a b h = (bytes_eq-Decides a b).0 h
 
-key_itself : (a : List ℕ) → bytes_eq a a ≡ true
+pub key_itself : (a : List ℕ) → bytes_eq a a ≡ true
 key_itself a = (bytes_eq-Decides a a).1 refl
 
-at_first : (key : List ℕ) (p : Pair) (pairs : List Pair) → bytes_eq p.0 key ≡ true → value_at key (p ∷ pairs) ≡ Some p.1
+pub at_first : (key : List ℕ) (p : Pair) (pairs : List Pair) → bytes_eq p.0 key ≡ true → value_at key (p ∷ pairs) ≡ Some p.1
 at_first key p pairs h = ap (λ t. cond t (Some p.1) (value_at key pairs)) h
 
-at_later : (key : List ℕ) (p : Pair) (pairs : List Pair) → bytes_eq p.0 key ≡ false → value_at key (p ∷ pairs) ≡ value_at key pairs
+pub at_later : (key : List ℕ) (p : Pair) (pairs : List Pair) → bytes_eq p.0 key ≡ false → value_at key (p ∷ pairs) ≡ value_at key pairs
 at_later key p pairs h = ap (λ t. cond t (Some p.1) (value_at key pairs)) h
 
 -- ---- the pairs without the first of a key
@@ -30,7 +30,7 @@ abbrev without : List ℕ → List Pair → List Pair
 without key [] = []
 without key (p ∷ pairs) = cond (bytes_eq p.0 key) pairs (p ∷ without key pairs)
 
-abbrev IsIn : List Pair → List ℕ → Type 0
+abbrev pub IsIn : List Pair → List ℕ → Type 0
 IsIn pairs key = value_at key pairs ≡ None → ⊥
 
 shorter_head : (key : List ℕ) (p : Pair) (pairs : List Pair) → (IsIn pairs key → length (without key pairs) + 1 ≡ length pairs)
@@ -57,7 +57,7 @@ kept key other (p ∷ pairs) differ =
 
 -- ---- counting
 
-abbrev AllIn : List Pair → List Pair → Type 0
+abbrev pub AllIn : List Pair → List Pair → Type 0
 AllIn ys xs = AllByRecursion (λ p. IsIn ys p.0) xs
 
 -- no value of this key: its pairs have other keys
@@ -77,7 +77,7 @@ no_more (p ∷ xs) ys distinct all =
     omega arith
 
 -- where they are as many, each of the others stands among them
-each_back : (xs ys : List Pair) (key : List ℕ) → HasDistinctKeys xs → AllIn ys xs → length xs ≡ length ys → IsIn ys key → IsIn xs key
+pub each_back : (xs ys : List Pair) (key : List ℕ) → HasDistinctKeys xs → AllIn ys xs → length xs ≡ length ys → IsIn ys key → IsIn xs key
 each_back xs ys key distinct all many here none =
     let rest = no_more xs (without key ys) distinct (others key xs ys none all) in
     let fewer = shorter key ys here in

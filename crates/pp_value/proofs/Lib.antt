@@ -5,3 +5,4 @@ pub mod WordLaws
 pub mod Capitals
 pub mod PutLaws
 pub mod Distinct
+pub mod Symmetry

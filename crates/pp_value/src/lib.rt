@@ -3,6 +3,7 @@
 
 mod compare;
 mod fault;
+mod laws;
 mod numbers;
 mod operations;
 mod showing;
@@ -13,6 +14,7 @@ mod value;
 
 pub use compare::{equal, less, within};
 pub use fault::{Misfit, ValueFault};
+pub use laws::{equality_is_symmetric, text_shows_itself};
 pub use numbers::{multiply, negate, subtract};
 pub use operations::{add, index};
 pub use showing::show;
