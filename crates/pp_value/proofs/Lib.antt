@@ -6,3 +6,4 @@ pub mod Capitals
 pub mod PutLaws
 pub mod Distinct
 pub mod Symmetry
+pub mod Results
