@@ -1,5 +1,5 @@
 -- Lists of pairs with distinct keys.
-use Rattle.std.proofs.Common.{◌≡◌, ℕ, suc, ◌+◌, ◌<◌, ◌≤◌, Bool, true, false, cond, List, [], ◌∷◌, length, Option, Some, None, refl, ap, sym, ◌∙◌, subst, add-one, arith}
+use Rattle.std.proofs.Common.{◌≡◌, ℕ, suc, ◌+◌, ◌≤◌, Bool, true, false, cond, List, [], ◌∷◌, length, Option, Some, None, refl, ap, sym, ◌∙◌, arith}
 use Rattle.std.specs.List.{AllByRecursion}
 use Rattle.std.specs.Str.{bytes_eq}
 use Rattle.std.proofs.lemmas.Slice.Eq.{bytes_eq-Decides}
@@ -48,12 +48,12 @@ kept key other [] differ = refl
 kept key other (p ∷ pairs) differ =
     by_test (bytes_eq p.0 key) (value_at other (without key (p ∷ pairs)) ≡ value_at other (p ∷ pairs))
     (λ here.
-      let gone : without key (p ∷ pairs) ≡ pairs = ap (λ t. cond t pairs (p ∷ without key pairs)) here in
-      let not_other : bytes_eq p.0 other ≡ false = by_test (bytes_eq p.0 other) (bytes_eq p.0 other ≡ false) (λ e. absurd (differ (sym (same_key p.0 key here) ∙ same_key p.0 other e))) (λ e. e) in
-      ap (value_at other) gone ∙ sym (at_later other p pairs not_other))
+    let gone : without key (p ∷ pairs) ≡ pairs = ap (λ t. cond t pairs (p ∷ without key pairs)) here in
+    let not_other : bytes_eq p.0 other ≡ false = by_test (bytes_eq p.0 other) (bytes_eq p.0 other ≡ false) (λ e. absurd (differ (sym (same_key p.0 key here) ∙ same_key p.0 other e))) (λ e. e) in
+    ap (value_at other) gone ∙ sym (at_later other p pairs not_other))
     (λ there.
-      let stays : without key (p ∷ pairs) ≡ p ∷ without key pairs = ap (λ t. cond t pairs (p ∷ without key pairs)) there in
-      ap (value_at other) stays ∙ ap (cond (bytes_eq p.0 other) (Some p.1)) (kept key other pairs differ))
+    let stays : without key (p ∷ pairs) ≡ p ∷ without key pairs = ap (λ t. cond t pairs (p ∷ without key pairs)) there in
+    ap (value_at other) stays ∙ ap (cond (bytes_eq p.0 other) (Some p.1)) (kept key other pairs differ))
 
 -- ---- counting
 

@@ -7,3 +7,4 @@ pub mod PutLaws
 pub mod Distinct
 pub mod Symmetry
 pub mod Results
+pub mod ProperResults

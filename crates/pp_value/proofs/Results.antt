@@ -1,16 +1,11 @@
 -- What the operations make of values whose maps have distinct keys is such a value.
-use Rattle.std.proofs.Common.{◌≡◌, ℕ, zero, suc, ℤ, pos, negsuc, ◌+◌, ◌-◌, ◌<◌, Bool, true, false, cond, List, [], ◌∷◌, ◌++◌, length, map, Option, Some, None, Result, Ok, Err, refl, ap, sym, ◌∙◌, subst, arith}
-use Rattle.std.specs.Prelude.{filter, is_none, unwrap_or, slice_get, nat_lt}
+use Rattle.std.proofs.Common.{◌≡◌, ℕ, true, false, cond, List, [], ◌∷◌, ◌++◌, map, Option, Some, None, refl, ap, sym, ◌∙◌, subst}
+use Rattle.std.specs.Prelude.{filter, is_none}
 use Rattle.std.specs.List.{AllByRecursion}
 use Rattle.std.specs.Str.{bytes_eq}
-use Rattle.pp_value.specs.declared.value.Value.{Value, Row_of-Value, end_of-Value, more_of-Value, Row_of-Pairs-pairs-2, end_of-Pairs-pairs-2, more_of-Pairs-pairs-2, items-the_row-Value, items-the_row-Pairs-pairs-2, items_hidden-the_row-Pairs-pairs-2-1}
-use Rattle.pp_value.specs.declared.value.Value.TheVariants as v
-use Rattle.pp_value.specs.declared.value.Value.TheBlock as block
-use Rattle.pp_value.specs.declared.fault.Misfit.{Misfit}
-use Rattle.pp_value.specs.declared.fault.Misfit.TheVariants.{Operand, Range}
+use Rattle.pp_value.specs.declared.value.Value.{Value}
 use Rattle.pp_value.specs.Values.{Pair, value_at, with_pair, HasDistinctKeys}
-use Rattle.pp_value.specs.Table.{renewed, is_new, merged, map_of, number, fits_word, add_table, index_table, or_undef, member_at}
-use Rattle.pp_value.specs.Proper.{IsProper, AreProper, HaveProper}
+use Rattle.pp_value.specs.Table.{renewed, is_new, merged}
 use Rattle.pp_value.proofs.Distinct.{by_test, same_key, key_itself, at_first, at_later}
 
 -- ---- keys
@@ -35,7 +30,7 @@ distinct_renewed right [] h = tt
 distinct_renewed right (p ∷ xs) h = (none_renewed p.0 right xs h.0, distinct_renewed right xs h.1)
 
 -- filtering by cases
-kept_or_not : (left : List Pair) (p : Pair) (right : List Pair) (P : List Pair → Type 0) → (is_new left p ≡ true → P (p ∷ filter (is_new left) right)) → (is_new left p ≡ false → P (filter (is_new left) right)) → P (filter (is_new left) (p ∷ right))
+pub kept_or_not : (left : List Pair) (p : Pair) (right : List Pair) (P : List Pair → Type 0) → (is_new left p ≡ true → P (p ∷ filter (is_new left) right)) → (is_new left p ≡ false → P (filter (is_new left) right)) → P (filter (is_new left) (p ∷ right))
 kept_or_not left p right P f g =
     by_test (is_new left p) (P (filter (is_new left) (p ∷ right)))
     (λ e. let same : filter (is_new left) (p ∷ right) ≡ p ∷ filter (is_new left) right = ap (λ t. cond t (p ∷ filter (is_new left) right) (filter (is_new left) right)) e in subst P (sym same) (f e))
@@ -47,8 +42,8 @@ none_filtered key left (p ∷ right) h =
     by_test (bytes_eq p.0 key) (value_at key (filter (is_new left) (p ∷ right)) ≡ None)
     (λ e. let clash : ◌≡◌ {A = Option Value} (Some p.1) None = sym (at_first key p right e) ∙ h in cc)
     (λ e.
-      let rest = none_filtered key left right (sym (at_later key p right e) ∙ h) in
-      kept_or_not left p right (λ xs. value_at key xs ≡ None) (λ _. at_later key p (filter (is_new left) right) e ∙ rest) (λ _. rest))
+    let rest = none_filtered key left right (sym (at_later key p right e) ∙ h) in
+    kept_or_not left p right (λ xs. value_at key xs ≡ None) (λ _. at_later key p (filter (is_new left) right) e ∙ rest) (λ _. rest))
 
 distinct_filtered : (left right : List Pair) → HasDistinctKeys right → HasDistinctKeys (filter (is_new left) right)
 distinct_filtered left [] h = tt
@@ -63,8 +58,8 @@ none_new key left (p ∷ right) h =
     let rest = none_new key left right h in
     kept_or_not left p right (λ xs. value_at key xs ≡ None)
     (λ new. by_test (bytes_eq p.0 key) (value_at key (p ∷ filter (is_new left) right) ≡ None)
-      (λ e. let clash : true ≡ false = sym new ∙ (ap (λ k. is_none (value_at k left)) (same_key p.0 key e) ∙ h) in cc)
-      (λ e. at_later key p (filter (is_new left) right) e ∙ rest))
+    (λ e. let clash : true ≡ false = sym new ∙ (ap (λ k. is_none (value_at k left)) (same_key p.0 key e) ∙ h) in cc)
+    (λ e. at_later key p (filter (is_new left) right) e ∙ rest))
     (λ _. rest)
 
 distinct_append : (xs ys : List Pair) → HasDistinctKeys xs → HasDistinctKeys ys → AllByRecursion (λ p. value_at p.0 ys ≡ None) xs → HasDistinctKeys (xs ++ ys)
@@ -104,10 +99,10 @@ none_with key other x (p ∷ pairs) differ h =
     by_test (bytes_eq p.0 other) (value_at other (with_pair key x (p ∷ pairs)) ≡ None)
     (λ e. let clash : ◌≡◌ {A = Option Value} (Some p.1) None = sym (at_first other p pairs e) ∙ h in cc)
     (λ e.
-      let rest : value_at other pairs ≡ None = sym (at_later other p pairs e) ∙ h in
-      by_test (bytes_eq p.0 key) (value_at other (with_pair key x (p ∷ pairs)) ≡ None)
-      (λ here. ap (λ t. value_at other (cond t ((p.0, x) ∷ pairs) (p ∷ with_pair key x pairs))) here ∙ (at_later other (p.0, x) pairs e ∙ rest))
-      (λ there. ap (λ t. value_at other (cond t ((p.0, x) ∷ pairs) (p ∷ with_pair key x pairs))) there ∙ (at_later other p (with_pair key x pairs) e ∙ none_with key other x pairs differ rest)))
+    let rest : value_at other pairs ≡ None = sym (at_later other p pairs e) ∙ h in
+    by_test (bytes_eq p.0 key) (value_at other (with_pair key x (p ∷ pairs)) ≡ None)
+    (λ here. ap (λ t. value_at other (cond t ((p.0, x) ∷ pairs) (p ∷ with_pair key x pairs))) here ∙ (at_later other (p.0, x) pairs e ∙ rest))
+    (λ there. ap (λ t. value_at other (cond t ((p.0, x) ∷ pairs) (p ∷ with_pair key x pairs))) there ∙ (at_later other p (with_pair key x pairs) e ∙ none_with key other x pairs differ rest)))
 
 pub distinct_with : (key : List ℕ) (x : Value) (pairs : List Pair) → HasDistinctKeys pairs → HasDistinctKeys (with_pair key x pairs)
 distinct_with key x [] h = (refl, tt)
@@ -115,5 +110,5 @@ distinct_with key x (p ∷ pairs) h =
     by_test (bytes_eq p.0 key) (HasDistinctKeys (with_pair key x (p ∷ pairs)))
     (λ here. subst HasDistinctKeys (sym (ap (λ t. cond t ((p.0, x) ∷ pairs) (p ∷ with_pair key x pairs)) here)) h)
     (λ there.
-      let differ : bytes_eq key p.0 ≡ false = by_test (bytes_eq key p.0) (bytes_eq key p.0 ≡ false) (λ e. let clash : true ≡ false = sym (key_itself p.0) ∙ (ap (bytes_eq p.0) (sym (same_key key p.0 e)) ∙ there) in cc) (λ e. e) in
-      subst HasDistinctKeys (sym (ap (λ t. cond t ((p.0, x) ∷ pairs) (p ∷ with_pair key x pairs)) there)) (none_with key p.0 x pairs differ h.0, distinct_with key x pairs h.1))
+    let differ : bytes_eq key p.0 ≡ false = by_test (bytes_eq key p.0) (bytes_eq key p.0 ≡ false) (λ e. let clash : true ≡ false = sym (key_itself p.0) ∙ (ap (bytes_eq p.0) (sym (same_key key p.0 e)) ∙ there) in cc) (λ e. e) in
+    subst HasDistinctKeys (sym (ap (λ t. cond t ((p.0, x) ∷ pairs) (p ∷ with_pair key x pairs)) there)) (none_with key p.0 x pairs differ h.0, distinct_with key x pairs h.1))

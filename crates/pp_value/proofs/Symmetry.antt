@@ -1,5 +1,5 @@
 -- Equality is symmetric, where maps have distinct keys.
-use Rattle.std.proofs.Common.{◌≡◌, ℕ, ℤ, suc, ◌+◌, Bool, true, false, cond, ◌&&◌, ◌||◌, ◌==◌, List, [], ◌∷◌, length, Option, Some, None, Result, Ok, Err, refl, ap, sym, ◌∙◌, subst, add-one, arith}
+use Rattle.std.proofs.Common.{◌≡◌, ℕ, ℤ, Bool, true, false, cond, ◌&&◌, ◌||◌, ◌==◌, List, [], ◌∷◌, length, Option, Some, None, Ok, Err, refl, ap, sym, ◌∙◌, subst, arith}
 use Rattle.std.specs.List.{AllByRecursion}
 use Rattle.std.specs.Ordering.{int_eq}
 use Rattle.std.specs.Str.{bytes_eq}
@@ -8,13 +8,12 @@ use Rattle.std.proofs.lemmas.Bool.Decides.{Decides-int_eq, Decides-eqb}
 use Rattle.pp_value.specs.declared.value.Ref.{Ref}
 use Rattle.pp_value.specs.declared.value.Value.{Value, Row_of-Value, end_of-Value, more_of-Value, Row_of-Pairs-pairs-2, end_of-Pairs-pairs-2, more_of-Pairs-pairs-2, items-the_row-Value, items-the_row-Pairs-pairs-2}
 use Rattle.pp_value.specs.declared.value.Value.TheVariants as v
-use Rattle.pp_value.specs.declared.fault.Misfit.{Misfit}
 use Rattle.pp_value.specs.declared.fault.Misfit.TheVariants.{Operand}
-use Rattle.pp_value.specs.Texts.{lowered, same_text}
-use Rattle.pp_value.specs.Values.{Pair, value_at, passes, HasDistinctKeys, has_opaque, same, same_row, same_pairs, pairs_in, same_bool, same_int, same_ref}
+use Rattle.pp_value.specs.Texts.{lowered}
+use Rattle.pp_value.specs.Values.{Pair, value_at, passes, HasDistinctKeys, has_opaque, same, same_row, same_pairs, pairs_in, same_bool, same_ref}
 use Rattle.pp_value.specs.Table.{equal_table}
 use Rattle.pp_value.specs.Proper.{IsProper, AreProper, HaveProper}
-use Rattle.pp_value.proofs.Distinct.{by_test, same_key, key_itself, at_first, at_later, IsIn, AllIn, each_back}
+use Rattle.pp_value.proofs.Distinct.{by_test, same_key, key_itself, at_first, at_later, AllIn, each_back}
 
 -- ---- truth values
 
@@ -69,8 +68,8 @@ at_key [] ys key x all h = cc
 at_key (p ∷ xs) ys key x all h =
     by_test (bytes_eq p.0 key) ((y : Value) × ((value_at key ys ≡ Some y) × (same y x ≡ true)))
     (λ e.
-      let value : p.1 ≡ x = let both : ◌≡◌ {A = Option Value} (Some p.1) (Some x) = sym (at_first key p xs e) ∙ h in cc in
-      (all.0.0, (ap (λ k. value_at k ys) (sym (same_key p.0 key e)) ∙ all.0.1.0, ap (same all.0.0) (sym value) ∙ all.0.1.1)))
+    let value : p.1 ≡ x = let both : ◌≡◌ {A = Option Value} (Some p.1) (Some x) = sym (at_first key p xs e) ∙ h in cc in
+    (all.0.0, (ap (λ k. value_at k ys) (sym (same_key p.0 key e)) ∙ all.0.1.0, ap (same all.0.0) (sym value) ∙ all.0.1.1)))
     (λ e. at_key xs ys key x all.1 (sym (at_later key p xs e) ∙ h))
 
 back_at : (xs ys : List Pair) (key : List ℕ) (y : Value) (o : Option Value) → value_at key xs ≡ o → HasDistinctKeys xs → Alike ys xs → length xs ≡ length ys → value_at key ys ≡ Some y → passes (same y) o ≡ true
@@ -137,9 +136,10 @@ mutual
 
   alike : {m n : _} (row : Row_of-Pairs-pairs-2 m) (other : Row_of-Pairs-pairs-2 n) → HaveProper row → HaveProper other → same_pairs row (items-the_row-Pairs-pairs-2 _ other) ≡ true → Alike (items-the_row-Pairs-pairs-2 _ other) (items-the_row-Pairs-pairs-2 _ row)
   alike end_of-Pairs-pairs-2 other p q h = tt
-  alike (more_of-Pairs-pairs-2 key x row) other p q h =
-      (one_alike key x other (value_at key (items-the_row-Pairs-pairs-2 _ other)) refl (λ y r. same_back x y p.0 r) q (and_left _ _ h),
-      alike row other p.1 q (and_right (passes (same x) (value_at key (items-the_row-Pairs-pairs-2 _ other))) _ h))
+  alike (more_of-Pairs-pairs-2 key x row) other p q h = (
+    one_alike key x other (value_at key (items-the_row-Pairs-pairs-2 _ other)) refl (λ y r. same_back x y p.0 r) q (and_left _ _ h),
+    alike row other p.1 q (and_right (passes (same x) (value_at key (items-the_row-Pairs-pairs-2 _ other))) _ h),
+  )
 
 or_back : (a b : Bool) → (a || b) ≡ (b || a)
 or_back true true = refl

@@ -1,11 +1,11 @@
 -- The tables at lists and maps.
-use Rattle.std.proofs.Common.{◌≡◌, ℕ, ℤ, Bool, List, ◌++◌, refl, ap, Result, Ok, Err, map}
+use Rattle.std.proofs.Common.{◌≡◌, ℕ, ℤ, List, ◌++◌, refl, ap, Ok}
 use Rattle.std.specs.List.{list_any}
 use Rattle.pp_value.specs.declared.value.Pairs.{Pairs}
-use Rattle.pp_value.specs.declared.value.Value.{Value, items-the_row-Value, items-the_row-Pairs-pairs-2, items_hidden-the_row-Value-0, items_hidden-the_row-Pairs-pairs-2-1}
+use Rattle.pp_value.specs.declared.value.Value.{Value, items_hidden-the_row-Value-0, items_hidden-the_row-Pairs-pairs-2-1}
 use Rattle.pp_value.specs.declared.value.Value.TheVariants as v
 use Rattle.pp_value.specs.Texts.{lowered, is_part, same_text}
-use Rattle.pp_value.specs.Values.{Pair, value_at}
+use Rattle.pp_value.specs.Values.{value_at}
 use Rattle.pp_value.specs.Table.{member_table, within_table, add_table, index_table, merged, map_of, member_at, or_undef}
 
 pub in_list : (x : Value) (items : List Value) → within_table x (v.List items) ≡ member_table x items

@@ -1,13 +1,12 @@
 -- Whole numbers of 64 bits with a sign.
-use Rattle.std.proofs.Common.{◌≡◌, ℕ, ℤ, pos, negsuc, ◌<◌, ◌≤◌, ◌^◌, Bool, true, false, cond, Result, Ok, Err, refl, ap, ◌∙◌, sym, subst, arith}
-use Rattle.std.specs.Prelude.{FitsSigned, Option, Some, None, SomeIff, nat_lt, unsigned_abs}
+use Rattle.std.proofs.Common.{◌≡◌, ℤ, pos, negsuc, Bool, true, false, cond, Result, Ok, Err, refl, ap, ◌∙◌, sym, subst}
+use Rattle.std.specs.Prelude.{FitsSigned, Option, Some, None, SomeIff}
 use Rattle.std.specs.Int.{w64}
 use Rattle.std.proofs.lemmas.Bool.Decides.{Decides-ltb}
-use Rattle.std.proofs.lemmas.Bool.{ltb-false, le-ltb}
 use Rattle.pp_value.specs.declared.value.Value.{Value}
 use Rattle.pp_value.specs.declared.value.Value.TheVariants as v
 use Rattle.pp_value.specs.declared.fault.Misfit.{Misfit}
-use Rattle.pp_value.specs.declared.fault.Misfit.TheVariants.{Operand, Range}
+use Rattle.pp_value.specs.declared.fault.Misfit.TheVariants.{Range}
 use Rattle.pp_value.specs.Table.{number, fits_word}
 
 fits_test : (z : ℤ) → FitsSigned w64 z → fits_word z ≡ true

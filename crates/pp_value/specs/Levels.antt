@@ -1,7 +1,7 @@
 -- What the definitions say of a list and of a map, in the words of lists.
-use Rattle.std.specs.Prelude.{◌≡◌, ℕ, ◌+◌, Bool, true, false, ◌||◌, ◌&&◌, ◌==◌, List, [], ◌∷◌, ◌++◌, length, map, codes, refl, Option, None, Some}
+use Rattle.std.specs.Prelude.{◌≡◌, ℕ, ◌+◌, Bool, true, false, ◌||◌, ◌&&◌, ◌==◌, List, [], ◌∷◌, ◌++◌, length, map, codes, refl, Some}
 use Rattle.std.specs.List.{list_any, list_all}
-use Rattle.std.proofs.Common.{ap, ◌∙◌, sym, arith}
+use Rattle.std.proofs.Common.{ap, ◌∙◌, arith}
 use Rattle.pp_syntax.specs.declared.tree.TypeName.{TypeName}
 use Rattle.pp_syntax.specs.declared.tree.TypeName.TheVariants as t
 use Rattle.pp_syntax.specs.declared.tree.TypeName.TheBlock as kinds
@@ -72,11 +72,11 @@ same_with xs (v.Int x) = refl
 same_with xs (v.Str x) = refl
 same_with xs (v.List' shape row) = rows xs (items-the_row-Value _ row)
   where
-  rows : (xs ys : List Value) → same_row (block.hidden-the_row-Value-0 xs) ys ≡ all_same xs ys
-  rows [] [] = refl
-  rows [] (y ∷ ys) = refl
-  rows (x ∷ xs) [] = refl
-  rows (x ∷ xs) (y ∷ ys) = ap (λ b. same x y && b) (rows xs ys)
+    rows : (xs ys : List Value) → same_row (block.hidden-the_row-Value-0 xs) ys ≡ all_same xs ys
+    rows [] [] = refl
+    rows [] (y ∷ ys) = refl
+    rows (x ∷ xs) [] = refl
+    rows (x ∷ xs) (y ∷ ys) = ap (λ b. same x y && b) (rows xs ys)
 same_with xs (v.Map' shape row) = refl
 same_with xs (v.Refer x) = refl
 same_with xs v.Opaque = refl
@@ -126,17 +126,17 @@ pub shown_list : (xs : List Value) → shown (v.List xs) ≡ codes "[" ++ (liste
 unfolding block.hidden-the_row-Value-0 denote.Hole.Carrier.hidden
 shown_list xs = ap (λ texts. codes "[" ++ (listed texts ++ codes "]")) (rows xs)
   where
-  rows : (xs : List Value) → shown_row (block.hidden-the_row-Value-0 xs) ≡ map shown xs
-  rows [] = refl
-  rows (x ∷ xs) = ap (λ texts. shown x ∷ texts) (rows xs)
+    rows : (xs : List Value) → shown_row (block.hidden-the_row-Value-0 xs) ≡ map shown xs
+    rows [] = refl
+    rows (x ∷ xs) = ap (λ texts. shown x ∷ texts) (rows xs)
 
 pub shown_map : (p : Pairs) → shown (v.Map p) ≡ codes "{" ++ (listed (map pair_text p.pairs) ++ codes "}")
 unfolding block.hidden-the_row-Pairs-pairs-2-1 denote.Hole.Carrier.hidden
 shown_map p = ap (λ texts. codes "{" ++ (listed texts ++ codes "}")) (rows p.pairs)
   where
-  rows : (xs : List Pair) → shown_pairs (block.hidden-the_row-Pairs-pairs-2-1 xs) ≡ map pair_text xs
-  rows [] = refl
-  rows (q ∷ xs) = ap (λ texts. pair_text q ∷ texts) (rows xs)
+    rows : (xs : List Pair) → shown_pairs (block.hidden-the_row-Pairs-pairs-2-1 xs) ≡ map pair_text xs
+    rows [] = refl
+    rows (q ∷ xs) = ap (λ texts. pair_text q ∷ texts) (rows xs)
 
 -- ---- types
 
@@ -152,9 +152,9 @@ is_fit_array kind (v.Int x) = refl
 is_fit_array kind (v.Str x) = refl
 is_fit_array kind (v.List' shape row) = all_fit (items-the_row-Value _ row)
   where
-  all_fit : (xs : List Value) → list_all (λ x. is_fit kind x || false) xs ≡ list_all (is_fit kind) xs
-  all_fit [] = refl
-  all_fit (x ∷ xs) = λ i. or_false (is_fit kind x) i && all_fit xs i
+    all_fit : (xs : List Value) → list_all (λ x. is_fit kind x || false) xs ≡ list_all (is_fit kind) xs
+    all_fit [] = refl
+    all_fit (x ∷ xs) = λ i. or_false (is_fit kind x) i && all_fit xs i
 is_fit_array kind (v.Map' shape row) = refl
 is_fit_array kind (v.Refer x) = refl
 is_fit_array kind v.Opaque = refl

@@ -1,5 +1,4 @@
 -- Values whose maps have distinct keys, as all that are made here of such values.
-use Rattle.std.specs.Prelude.{ℕ, Bool, List}
 use Rattle.pp_value.specs.declared.value.Value.{Value, Row_of-Value, end_of-Value, more_of-Value, Row_of-Pairs-pairs-2, end_of-Pairs-pairs-2, more_of-Pairs-pairs-2, items-the_row-Pairs-pairs-2}
 use Rattle.pp_value.specs.declared.value.Value.TheVariants as v
 use Rattle.pp_value.specs.Values.{HasDistinctKeys}

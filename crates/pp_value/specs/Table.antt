@@ -1,5 +1,5 @@
 -- The operations on values: what each gives, as a table by the kinds of its operands, and `Operand` for anything else.
-use Rattle.std.specs.Prelude.{◌≡◌, ℕ, ◌+◌, ◌-◌, ◌≤◌, ◌<◌, ℤ, pos, negsuc, ◌+ℤ◌, ◌-ℤ◌, ◌*ℤ◌, neg_ℤ, Bool, ◌||◌, nat_lt, int_lt, if◌then◌else◌, List, [], ◌∷◌, ◌++◌, length, map, filter, slice_get, Option, Some, None, is_none, unwrap_or, Result, Ok, Err}
+use Rattle.std.specs.Prelude.{◌≡◌, ℕ, ◌+◌, ◌-◌, ◌≤◌, ◌<◌, ℤ, pos, negsuc, ◌+ℤ◌, ◌-ℤ◌, ◌*ℤ◌, neg_ℤ, Bool, ◌||◌, nat_lt, int_lt, if◌then◌else◌, List, ◌++◌, length, map, filter, slice_get, Option, Some, None, is_none, unwrap_or, Result, Ok, Err}
 use Rattle.std.specs.List.{list_any}
 use Rattle.pp_value.specs.declared.value.Value.{Value, items-the_row-Value, items-the_row-Pairs-pairs-2}
 use Rattle.pp_value.specs.declared.value.Value.TheVariants as v
@@ -8,7 +8,7 @@ use Rattle.pp_value.specs.declared.fault.Misfit.TheVariants.{Operand, Range}
 use Rattle.pp_value.specs.declared.fault.ValueFault.{ValueFault}
 use Rattle.pp_value.specs.declared.fault.ValueFault.TheVariants as fault
 use Rattle.pp_value.specs.Texts.{lowered, same_text, less_text, is_part}
-use Rattle.pp_value.specs.Values.{Pair, has_opaque, same, size_of, value_at}
+use Rattle.pp_value.specs.Values.{Pair, has_opaque, same, value_at}
 
 -- `==`: refused where an opaque value stands anywhere in either
 abbrev pub equal_table : Value → Value → Result Bool Misfit

@@ -1,5 +1,5 @@
 -- Texts, ASCII case aside.
-use Rattle.std.specs.Prelude.{ℕ, Bool, true, false, ◌||◌, ◌&&◌, ◌==◌, if◌then◌else◌, List, [], ◌∷◌, map, chars, encode_utf8_all}
+use Rattle.std.specs.Prelude.{◌≡◌, ℕ, Bool, true, false, ◌||◌, ◌&&◌, ◌==◌, if◌then◌else◌, List, [], ◌∷◌, ◌++◌, map, chars, encode_utf8_all}
 use Rattle.std.specs.Char.{to_ascii_lowercase, to_ascii_uppercase}
 use Rattle.std.specs.Cmp.Lexicographic.{slice_cmp}
 use Rattle.std.specs.Ordering.{nat_cmp, is_lt}
@@ -21,6 +21,12 @@ abbrev pub begins : List ℕ → List ℕ → Bool
 begins [] text = true
 begins (x ∷ front) [] = false
 begins (x ∷ front) (y ∷ text) = (x == y) && begins front text
+
+-- what stands before and behind the first in the second
+pub record StandsIn (part text : List ℕ) : Type 0 where
+  pub front : List ℕ
+  pub back : List ℕ
+  pub whole : text ≡ front ++ (part ++ back)
 
 -- the first stands somewhere in the second
 abbrev pub is_part : List ℕ → List ℕ → Bool

@@ -1,5 +1,5 @@
 -- Which values fit a type.
-use Rattle.std.specs.Prelude.{ℕ, ◌+◌, ℤ, pos, Bool, true, false, ◌||◌, ◌&&◌, int_le, List, length, Option, Some, None, chars}
+use Rattle.std.specs.Prelude.{ℤ, pos, Bool, true, false, ◌||◌, ◌&&◌, int_le, length, Option, Some, None, chars}
 use Rattle.std.specs.List.{list_any, list_all}
 use Rattle.std.specs.Str.{bytes_eq}
 use Rattle.pp_syntax.specs.declared.tree.TypeName.{TypeName, Row_of-TypeName, end_of-TypeName, more_of-TypeName, None', Some'}

@@ -14,7 +14,10 @@ mod value;
 
 pub use compare::{equal, less, within};
 pub use fault::{Misfit, ValueFault};
-pub use laws::{equality_is_symmetric, text_shows_itself};
+pub use laws::{
+    equality_is_symmetric, members_are_proper, pairs_stay_distinct, parts_stand_within,
+    sums_are_proper, text_shows_itself,
+};
 pub use numbers::{multiply, negate, subtract};
 pub use operations::{add, index};
 pub use showing::show;

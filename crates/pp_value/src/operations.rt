@@ -86,11 +86,7 @@ fn add_new(
 }
 
 /// Two maps as one, in which the right one's values win.
-fn merged(
-    alloc: Global,
-    left: &[(Text, Value)],
-    right: &[(Text, Value)],
-) -> Result<Value, NoMemory>
+fn merged(alloc: Global, left: &[(Text, Value)], right: &[(Text, Value)]) -> Result<Value, NoMemory>
     ensures { IfOk result (λ x. x ≡ map_of (merged left.now right.now)) }
 {
     let mut pairs = all_renewed(alloc, left, right)?;

@@ -105,11 +105,7 @@ fn push_map(alloc: Global, into: &mut Text, pairs: &[(Text, Value)]) -> Result<(
 }
 
 #[cycle(show)]
-fn push_pairs(
-    alloc: Global,
-    into: &mut Text,
-    pairs: &[(Text, Value)],
-) -> Result<(), NoMemory>
+fn push_pairs(alloc: Global, into: &mut Text, pairs: &[(Text, Value)]) -> Result<(), NoMemory>
     ensures { OnOk result (into.new ≡ into.old ++ listed (map pair_text pairs.now)) }
 {
     let Some((first, rest)) = pairs.split_first() else {

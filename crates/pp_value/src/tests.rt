@@ -43,8 +43,14 @@ fn texts_are_compared_without_case(rt: HostRuntime) -> Result<(), Fail> {
     let (low, high) = (string(alloc, "b")?, string(alloc, "B")?);
     assert_eq!(rt; equal(&low, &high), Ok(true));
     assert_eq!(rt; equal(&low, &Value::Opaque), Err(Misfit::Operand));
-    assert_eq!(rt; within(&string(alloc, "bc")?, &string(alloc, "aBCd")?), Ok(true));
-    assert_eq!(rt; within(&string(alloc, "K")?, &map(alloc, "k", Value::Undef)?), Ok(true));
+    assert_eq!(rt;
+        within(&string(alloc, "bc")?, &string(alloc, "aBCd")?),
+        Ok(true)
+    );
+    assert_eq!(rt;
+        within(&string(alloc, "K")?, &map(alloc, "k", Value::Undef)?),
+        Ok(true)
+    );
     assert_eq!(rt; less(&Value::Int(1), &Value::Int(2)), Ok(true));
     assert_eq!(rt; less(&Value::Int(1), &low), Err(Misfit::Operand));
     Ok(())
@@ -66,9 +72,18 @@ fn numbers_stay_in_64_bits(rt: HostRuntime) {
 fn lists_and_maps_are_read_and_joined(rt: HostRuntime) -> Result<(), Fail> {
     let alloc = rt.alloc();
     let two = list(vec![in alloc; Value::Int(1), Value::Int(2)]?);
-    assert_eq!(rt; shown(alloc, index(alloc, &two, &Value::Int(-1)))?.as_str(), "2");
-    assert_eq!(rt; shown(alloc, index(alloc, &two, &Value::Int(5)))?.as_str(), "");
-    assert_eq!(rt; shown(alloc, add(alloc, &two, &two))?.as_str(), "[1, 2, 1, 2]");
+    assert_eq!(rt;
+        shown(alloc, index(alloc, &two, &Value::Int(-1)))?.as_str(),
+        "2"
+    );
+    assert_eq!(rt;
+        shown(alloc, index(alloc, &two, &Value::Int(5)))?.as_str(),
+        ""
+    );
+    assert_eq!(rt;
+        shown(alloc, add(alloc, &two, &two))?.as_str(),
+        "[1, 2, 1, 2]"
+    );
     let mixed = list(vec![in alloc; Value::Int(1), string(alloc, "b")?]?);
     assert_eq!(rt; show(alloc, &mixed)?.as_str(), "[1, b]");
     let left = map(alloc, "a", Value::Int(1))?;
@@ -94,8 +109,14 @@ fn references_have_capitals(rt: HostRuntime) -> Result<(), Fail> {
         kind: text(alloc, "web::vhost")?,
         title: text(alloc, "x")?,
     };
-    assert_eq!(rt; show(alloc, &Value::Refer(nested))?.as_str(), "Web::Vhost[x]");
-    assert_eq!(rt; show(alloc, &Value::Opaque).err(), Some(ValueFault::Operand));
+    assert_eq!(rt;
+        show(alloc, &Value::Refer(nested))?.as_str(),
+        "Web::Vhost[x]"
+    );
+    assert_eq!(rt;
+        show(alloc, &Value::Opaque).err(),
+        Some(ValueFault::Operand)
+    );
     Ok(())
 }
 

@@ -13,15 +13,15 @@ use rh_base::Text;
 fn within(least: Option<i64>, most: Option<i64>, n: i64) -> bool
     ensures { result ≡ within least most n }
 {
-    let low = match least {
+    let above = match least {
         None => true,
         Some(least) => least <= n,
     };
-    let high = match most {
+    let below = match most {
         None => true,
         Some(most) => n <= most,
     };
-    low && high
+    above && below
 }
 
 fn counts_within(least: i64, most: Option<i64>, count: usize) -> bool

@@ -1,4 +1,4 @@
-use Rattle.std.proofs.Common.{◌≡◌, length, drop}
+use Rattle.std.proofs.Common.{◌≡◌, drop}
 use Rattle.std.specs.List.{list_all}
 use Rattle.pp_value.specs.Levels.{all_same, has_same}
 use Rattle.pp_value.proofs.compare.+same.Given as goal

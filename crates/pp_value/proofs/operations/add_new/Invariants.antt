@@ -1,6 +1,6 @@
-use Rattle.std.proofs.Common.{◌≡◌, ◌++◌, take, map}
+use Rattle.std.proofs.Common.{◌≡◌, ◌++◌, take}
 use Rattle.std.specs.Prelude.{filter}
-use Rattle.pp_value.specs.Table.{renewed, is_new}
+use Rattle.pp_value.specs.Table.{is_new}
 use Rattle.pp_value.proofs.operations.add_new.Given as goal
 
 abbrev pub invariant-loop-pair : goal.invariant-loop-pair

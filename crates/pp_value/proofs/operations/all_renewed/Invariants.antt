@@ -1,6 +1,5 @@
-use Rattle.std.proofs.Common.{◌≡◌, ◌++◌, take, map}
-use Rattle.std.specs.Prelude.{filter}
-use Rattle.pp_value.specs.Table.{renewed, is_new}
+use Rattle.std.proofs.Common.{◌≡◌, take, map}
+use Rattle.pp_value.specs.Table.{renewed}
 use Rattle.pp_value.proofs.operations.all_renewed.Given as goal
 
 abbrev pub invariant-loop-pair : goal.invariant-loop-pair

@@ -1,6 +1,4 @@
-use Rattle.std.proofs.Common.{◌≡◌, ◌++◌, take, map}
-use Rattle.std.specs.Prelude.{filter}
-use Rattle.pp_value.specs.Table.{renewed, is_new}
+use Rattle.std.proofs.Common.{◌≡◌, ◌++◌, take}
 use Rattle.pp_value.proofs.operations.joined.Given as goal
 
 abbrev pub invariant-loop-item : goal.invariant-loop-item

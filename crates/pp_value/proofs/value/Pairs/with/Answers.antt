@@ -1,4 +1,4 @@
-use Rattle.std.proofs.Common.{◌≡◌, ℕ, ◌<◌, ◌≤◌, List, [], ◌∷◌, ◌++◌, length, ◌∙◌, sym, subst, ap, arith}
+use Rattle.std.proofs.Common.{◌≡◌, ℕ, ◌<◌, ◌≤◌, List, [], ◌∷◌, ◌++◌, length, ◌∙◌, subst, arith}
 use Rattle.pp_value.specs.declared.value.Value.{Value}
 use Rattle.pp_value.specs.Values.{Pair, with_pair}
 use Rattle.pp_value.specs.Puts.{place_of, with_value_at}
