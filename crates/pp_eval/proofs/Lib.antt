@@ -1,1 +1,4 @@
 pub mod FactLaws
+pub mod BindingLaws
+pub mod NameLaws
+pub mod LineageLaws
