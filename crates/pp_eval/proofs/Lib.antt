@@ -2,3 +2,4 @@ pub mod FactLaws
 pub mod BindingLaws
 pub mod NameLaws
 pub mod LineageLaws
+pub mod ScopeLaws

@@ -1,7 +1,9 @@
 -- The look-up of a variable in scopes, each an association list.
-use Rattle.std.specs.Prelude.{◌≡◌, ℕ, zero, suc, ◌-◌, Bool, true, false, ◌&&◌, nat_lt, if◌then◌else◌, List, [], ◌∷◌, ◌++◌, length, slice_get, Option, Some, None, option_and_then, Result, Ok, Err}
+use Rattle.std.specs.Prelude.{◌≡◌, ℕ, zero, suc, ◌+◌, ◌-◌, Bool, true, false, ◌&&◌, ◌||◌, ◌==◌, nat_lt, codes, take, is_none, unwrap_or, if◌then◌else◌, List, [], ◌∷◌, ◌++◌, length, slice_get, Option, Some, None, option_and_then, Result, Ok, Err}
 use Rattle.std.specs.List.{list_all}
+use Rattle.std.specs.Char.{is_ascii_lowercase, is_ascii_uppercase, is_ascii_digit}
 use Rattle.pp_value.specs.declared.value.Value.{Value}
+use Rattle.pp_value.specs.declared.value.Value.TheVariants as v
 use Rattle.pp_value.specs.Values.{Pair, value_at}
 use Rattle.pp_value.specs.Texts.{same_text}
 use Rattle.pp_eval.specs.declared.scope.Scope.{Scope}
@@ -103,3 +105,75 @@ abbrev pub with_bindings_at : ℕ → List Pair → List Scope → List Scope
 with_bindings_at place bindings [] = []
 with_bindings_at zero bindings (s ∷ scopes) = record { sort = s.sort; parent = s.parent; bindings = bindings } ∷ scopes
 with_bindings_at (suc place) bindings (s ∷ scopes) = s ∷ with_bindings_at place bindings scopes
+
+abbrev pub bindings_at : ℕ → List Scope → List Pair
+bindings_at place [] = []
+bindings_at zero (s ∷ scopes) = s.bindings
+bindings_at (suc place) (s ∷ scopes) = bindings_at place scopes
+
+-- binding in the scope at a place, where the others stay
+abbrev pub BindsAt : ℕ → List Scope → List ℕ → Value → List Scope → Result (Unit {0}) BindFault → Type 0
+BindsAt place old name x new (Ok done) = (value_at name (bindings_at place old) ≡ None) × (new ≡ with_bindings_at place (bindings_at place old ++ (name, x) ∷ []) old)
+BindsAt place old name x new (Err fault.Again) = ((value_at name (bindings_at place old) ≡ None) → ⊥) × (new ≡ old)
+BindsAt place old name x new (Err (fault.Memory m)) = new ≡ old
+
+abbrev pub place_now : List ℕ → ℕ
+place_now open_ones = unwrap_or (current_place open_ones) 0
+
+-- binding in the current scope
+abbrev pub BindsNow : Scoped → List ℕ → Value → Scoped → Result (Unit {0}) BindFault → Type 0
+BindsNow old name x new r = BindsAt (place_now old.1) old.0 name x new.0 r × (new.1 ≡ old.1)
+
+-- ---- entering and leaving
+
+-- one more scope, which is the current one
+abbrev pub entered : Scoped → Scope → Scoped
+entered s scope = (s.0 ++ scope ∷ [], s.1 ++ length s.0 ∷ [])
+
+-- the scope that was current before is current again
+abbrev pub left : Scoped → Scoped
+left s = (s.0, take (length s.1 - 1) s.1)
+
+-- the place of a class's scope, where those given are counted from n on
+abbrev pub class_place : ℕ → List Scope → List ℕ → Option ℕ
+class_place n [] name = None
+class_place n (c ∷ scopes) name = if is_class_of name c.sort then Some n else class_place (n + 1) scopes name
+
+abbrev pub class_scope : List Scope → List ℕ → Option (List ℕ) → Scope
+class_scope scopes name parent = record { sort = sort.Class name; parent = option_and_then (class_place 0 scopes) parent; bindings = [] }
+
+abbrev pub defined_scope : Scope
+defined_scope = record { sort = sort.Defined; parent = None; bindings = [] }
+
+abbrev pub node_scope_new : Scope
+node_scope_new = record { sort = sort.Node; parent = None; bindings = [] }
+
+-- the scope of a class or of a defined resource
+abbrev pub IsInnerSort : Sort → Type 0
+IsInnerSort sort.Top = ⊥
+IsInnerSort sort.Node = ⊥
+IsInnerSort (sort.Class class) = Unit {0}
+IsInnerSort sort.Defined = Unit {0}
+
+abbrev pub IsInner : Option Scope → Type 0
+IsInner None = ⊥
+IsInner (Some scope) = IsInnerSort scope.sort
+
+-- ---- the top
+
+abbrev pub is_name_byte : ℕ → Bool
+is_name_byte c = is_ascii_lowercase c || is_ascii_uppercase c || is_ascii_digit c || c == 95
+
+-- the name of a variable without `::`
+abbrev pub is_variable : List ℕ → Bool
+is_variable [] = false
+is_variable (c ∷ name) = (is_ascii_lowercase c || c == 95) && list_all is_name_byte name
+
+-- the bindings, and those of the pairs whose keys are names of variables; a name that stands already stays as it is
+abbrev pub with_facts : List Pair → List Pair → List Pair
+with_facts bindings [] = bindings
+with_facts bindings (p ∷ pairs) = if is_variable p.0 && is_none (value_at p.0 bindings) then with_facts (bindings ++ p ∷ []) pairs else with_facts bindings pairs
+
+-- the top begins with `facts`, the whole map, and a binding for each fact
+abbrev pub at_start : List Pair → Scoped
+at_start facts = (record { sort = sort.Top; parent = None; bindings = with_facts ((codes "facts", v.Map (record { pairs = facts })) ∷ []) facts } ∷ [], 0 ∷ [])

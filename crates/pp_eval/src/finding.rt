@@ -51,7 +51,7 @@ fn in_lineage<'s>(
     None
 }
 
-fn is_class_of(sort: &Sort, name: &[u8]) -> bool
+pub fn is_class_of(sort: &Sort, name: &[u8]) -> bool
     ensures { result ≡ is_class_of name.now sort.now }
 {
     match sort {
@@ -91,27 +91,27 @@ fn node_in(scope: Option<&Scope>) -> Option<&Scope>
     }
 }
 
-fn open_at(open: &[usize], index: usize) -> Option<usize>
-    ensures { result ≡ slice_get open.now index }
+fn open_at(opened: &[usize], index: usize) -> Option<usize>
+    ensures { result ≡ slice_get opened.now index }
 {
-    open.get(index).copied()
+    opened.get(index).copied()
 }
 
-fn last_open(open: &[usize]) -> Option<usize>
-    ensures { result ≡ slice_get open.now (length open.now - 1) }
+fn last_open(opened: &[usize]) -> Option<usize>
+    ensures { result ≡ slice_get opened.now (length opened.now - 1) }
 {
-    open.last().copied()
+    opened.last().copied()
 }
 
 /// The value of a name in the current scope, in those of the inherited classes, in the node's or at the top.
-fn find_plain<'s>(scopes: &'s [Scope], open: &[usize], name: &str) -> Option<&'s Value>
-    ensures { option_map (λ x. x.now) result ≡ find_plain (scopes.now, open.now) name.now }
+fn find_plain<'s>(scopes: &'s [Scope], opened: &[usize], name: &str) -> Option<&'s Value>
+    ensures { option_map (λ x. x.now) result ≡ find_plain (scopes.now, opened.now) name.now }
 {
-    let current = scope_at(scopes, last_open(open));
+    let current = scope_at(scopes, last_open(opened));
     if let Some(value) = in_lineage(scopes, current, name) {
         return Some(value);
     }
-    let node = node_in(scope_at(scopes, open_at(open, 1)));
+    let node = node_in(scope_at(scopes, open_at(opened, 1)));
     if let Some(value) = in_scope(node, name) {
         return Some(value);
     }
@@ -121,11 +121,11 @@ fn find_plain<'s>(scopes: &'s [Scope], open: &[usize], name: &str) -> Option<&'s
 /// The value of a name at the top, or in a class and its inherited ones.
 fn find_qualified<'s>(
     scopes: &'s [Scope],
-    open: &[usize],
+    opened: &[usize],
     class: &[u8],
     name: &str,
 ) -> Option<&'s Value>
-    ensures { option_map (λ x. x.now) result ≡ find_qualified (scopes.now, open.now) class.now name.now }
+    ensures { option_map (λ x. x.now) result ≡ find_qualified (scopes.now, opened.now) class.now name.now }
 {
     if class.is_empty() {
         return in_scope(scopes.first(), name);
@@ -139,10 +139,10 @@ impl Scopes {
         ensures { option_map (λ x. x.now) result ≡ find_in self.now name.now }
     {
         let scopes = self.scopes.as_slice();
-        let open = self.open.as_slice();
+        let opened = self.open.as_slice();
         if is_qualified(name) {
-            return find_qualified(scopes, open, scope_in(name), variable_in(name));
+            return find_qualified(scopes, opened, scope_in(name), variable_in(name));
         }
-        find_plain(scopes, open, name)
+        find_plain(scopes, opened, name)
     }
 }

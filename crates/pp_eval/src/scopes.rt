@@ -1,12 +1,14 @@
 //! The scopes in which expressions are evaluated.
 
-ghost use Rattle.std.specs.Prelude.{◌≡◌};
-ghost use Rattle.pp_eval.specs.Scoping.{Binds};
+ghost use Rattle.std.specs.Prelude.{◌≡◌, ◌<◌, ◌∷◌, ◌++◌, [], length, None, Some, IsTrue, IfOk, OnOk, OnErr, option_map, is_some, IsSome, IfSome};
+ghost use Rattle.pp_eval.specs.Scoping.{Binds, BindsAt, BindsNow, place_now, current_place, class_of, class_place, class_scope, defined_scope, node_scope_new, node_scope, entered, left, current_scope, IsInner, are_open};
 
 use crate::bindings::Bindings;
-use crate::scope::Scope;
+use crate::finding::is_class_of;
+use crate::scope::{Scope, Sort};
 use pp_value::Value;
-use rh_base::NoMemory;
+use rh_base::{NoMemory, Text};
+use std::alloc::Global;
 use std::marker::Model;
 
 /// Why a name isn't bound.
@@ -60,4 +62,60 @@ fn bind_in(bindings: &mut Bindings, name: &str, value: Value) -> Result<(), Bind
     }
     bindings.add(name, value)?;
     Ok(())
+}
+
+/// Binds a name in the scope at a place.
+fn bind_at(
+    scopes: &mut Vec<Scope>,
+    place: usize,
+    name: &str,
+    value: Value,
+) -> Result<(), BindFault>
+    requires { place < length scopes.old.items }
+    ensures { BindsAt place scopes.old.items name.now value scopes.new.items result }
+{
+    let scope = &mut scopes[place];
+    bind_in(&mut scope.bindings, name, value)
+}
+
+/// The current scope's place.
+fn place_now(opened: &[usize]) -> usize
+    ensures { result ≡ place_now opened.now }
+{
+    match opened.last() {
+        Some(place) => *place,
+        None => 0,
+    }
+}
+
+/// Adds a scope, which is the current one from then on.
+fn enter(scopes: &mut Vec<Scope>, opened: &mut Vec<usize>, scope: Scope) -> Result<(), NoMemory>
+    ensures scopes_ok { OnOk result (scopes.new.items ≡ scopes.old.items ++ scope ∷ []) }
+    ensures open_ok { OnOk result (opened.new.items ≡ opened.old.items ++ length scopes.old.items ∷ []) }
+    ensures scopes_err { OnErr result (scopes.new.items ≡ scopes.old.items) }
+    ensures open_err { OnErr result (opened.new.items ≡ opened.old.items) }
+{
+    let place = scopes.len();
+    scopes.push(scope)?;
+    match opened.push(place) {
+        Ok(()) => Ok(()),
+        Err(_) => {
+            drop(scopes.pop());
+            Err(NoMemory)
+        }
+    }
+}
+
+/// The place of a class's scope.
+fn class_place(scopes: &[Scope], name: &[u8]) -> Option<usize>
+    ensures { result ≡ class_place 0 scopes.now name.now }
+{
+    let mut place = 0usize;
+    for scope in scopes {
+        if is_class_of(&scope.sort, name) {
+            return Some(place);
+        }
+        place += 1;
+    }
+    None
 }
