@@ -36,3 +36,21 @@ added [] key value h = refl
 added (e ∷ entries) key value h =
     ap (λ t. map pair_of (cond t ((e.0, value) ∷ entries) (e ∷ insert_entry string_eq entries key value))) (bytes_turned (string_bytes key) (string_bytes e.0))
     ∙ added_head key value e entries (added entries key value) (bytes_eq (string_bytes e.0) (string_bytes key)) refl h
+
+-- ---- one more binding
+
+last_other : (name other : List ℕ) (x : Value) (t : Bool) → bytes_eq name other ≡ t → (name ≡ other → ⊥) → cond t (Some x) None ≡ None
+last_other name other x true e differ = absurd (differ ((bytes_eq-Decides name other).0 e))
+last_other name other x false e differ = refl
+
+pub others_stay : (bindings : List Pair) (name other : List ℕ) (x : Value) → (name ≡ other → ⊥) → value_at other (bindings ++ (name, x) ∷ []) ≡ value_at other bindings
+others_stay [] name other x differ = last_other name other x (bytes_eq name other) refl differ
+others_stay (p ∷ bindings) name other x differ = ap (cond (bytes_eq p.0 other) (Some p.1)) (others_stay bindings name other x differ)
+
+later_found : (t : Bool) (y x : Value) (rest whole : Option Value) → (rest ≡ None → whole ≡ Some x) → cond t (Some y) rest ≡ None → cond t (Some y) whole ≡ Some x
+later_found true y x rest whole f h = cc
+later_found false y x rest whole f h = f h
+
+pub is_found : (bindings : List Pair) (name : List ℕ) (x : Value) → value_at name bindings ≡ None → value_at name (bindings ++ (name, x) ∷ []) ≡ Some x
+is_found [] name x h = ap (λ t. cond t (Some x) None) ((bytes_eq-Decides name name).1 refl)
+is_found (p ∷ bindings) name x h = later_found (bytes_eq p.0 name) p.1 x (value_at name bindings) (value_at name (bindings ++ (name, x) ∷ [])) (is_found bindings name x) h

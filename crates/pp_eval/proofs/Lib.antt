@@ -3,3 +3,5 @@ pub mod BindingLaws
 pub mod NameLaws
 pub mod LineageLaws
 pub mod ScopeLaws
+pub mod StartLaws
+pub mod OpenLaws

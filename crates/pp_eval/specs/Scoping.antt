@@ -2,7 +2,7 @@
 use Rattle.std.specs.Prelude.{◌≡◌, ℕ, zero, suc, ◌+◌, ◌-◌, Bool, true, false, ◌&&◌, ◌||◌, ◌==◌, nat_lt, codes, take, is_none, unwrap_or, if◌then◌else◌, List, [], ◌∷◌, ◌++◌, length, slice_get, Option, Some, None, option_and_then, Result, Ok, Err}
 use Rattle.std.specs.List.{list_all}
 use Rattle.std.specs.Char.{is_ascii_lowercase, is_ascii_uppercase, is_ascii_digit}
-use Rattle.pp_value.specs.declared.value.Value.{Value}
+use Rattle.pp_value.specs.declared.value.Value.{Value, items-the_row-Pairs-pairs-2}
 use Rattle.pp_value.specs.declared.value.Value.TheVariants as v
 use Rattle.pp_value.specs.Values.{Pair, value_at}
 use Rattle.pp_value.specs.Texts.{same_text}
@@ -174,6 +174,13 @@ abbrev pub with_facts : List Pair → List Pair → List Pair
 with_facts bindings [] = bindings
 with_facts bindings (p ∷ pairs) = if is_variable p.0 && is_none (value_at p.0 bindings) then with_facts (bindings ++ p ∷ []) pairs else with_facts bindings pairs
 
+abbrev pub pairs_in : Value → List Pair
+pairs_in (v.Map' shape row) = items-the_row-Pairs-pairs-2 _ row
+pairs_in _ = []
+
 -- the top begins with `facts`, the whole map, and a binding for each fact
-abbrev pub at_start : List Pair → Scoped
-at_start facts = (record { sort = sort.Top; parent = None; bindings = with_facts ((codes "facts", v.Map (record { pairs = facts })) ∷ []) facts } ∷ [], 0 ∷ [])
+abbrev pub top_of : Value → List Pair
+top_of facts = with_facts ((codes "facts", facts) ∷ []) (pairs_in facts)
+
+abbrev pub at_start : Value → Scoped
+at_start facts = (record { sort = sort.Top; parent = None; bindings = top_of facts } ∷ [], 0 ∷ [])

@@ -4,9 +4,15 @@
 mod bindings;
 mod facts;
 mod finding;
+mod laws;
 mod names;
 mod scope;
 mod scopes;
+mod start;
 
 pub use facts::facts_from_json;
+pub use laws::{bound_names_are_found, other_names_stay};
 pub use scopes::{BindFault, Scopes};
+
+#[cfg(test)]
+mod tests;

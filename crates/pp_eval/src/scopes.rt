@@ -1,10 +1,11 @@
 //! The scopes in which expressions are evaluated.
 
-ghost use Rattle.std.specs.Prelude.{◌≡◌, ◌<◌, ◌∷◌, ◌++◌, [], length, None, Some, IsTrue, IfOk, OnOk, OnErr, option_map, is_some, IsSome, IfSome};
-ghost use Rattle.pp_eval.specs.Scoping.{Binds, BindsAt, BindsNow, place_now, current_place, class_of, class_place, class_scope, defined_scope, node_scope_new, node_scope, entered, left, current_scope, IsInner, are_open};
+ghost use Rattle.std.specs.Prelude.{◌≡◌, ◌<◌, ◌∷◌, ◌++◌, [], length, None, IfOk, OnOk, OnErr, option_map, option_and_then, IsSome, IfSome};
+ghost use Rattle.pp_eval.specs.Scoping.{Binds, BindsAt, BindsNow, place_now, with_facts, top_of, at_start, class_of, class_place, class_scope, defined_scope, node_scope_new, entered, left, current_scope, IsInner};
 
 use crate::bindings::Bindings;
 use crate::finding::is_class_of;
+use crate::start::top_of;
 use crate::scope::{Scope, Sort};
 use pp_value::Value;
 use rh_base::{NoMemory, Text};
@@ -34,6 +35,7 @@ impl From<NoMemory> for BindFault {
 pub struct Scopes {
     pub(crate) scopes: Vec<Scope>,
     pub(crate) open: Vec<usize>,
+    pub(crate) alloc: Global,
 }
 
 impl Model for Scopes {
@@ -118,4 +120,101 @@ fn class_place(scopes: &[Scope], name: &[u8]) -> Option<usize>
         place += 1;
     }
     None
+}
+
+fn place_of_parent(scopes: &[Scope], parent: Option<&str>) -> Option<usize>
+    ensures { result ≡ option_and_then (class_place 0 scopes.now) (option_map (λ p. p.now) parent.entry) }
+{
+    match parent {
+        Some(parent) => class_place(scopes, parent.as_bytes()),
+        None => None,
+    }
+}
+
+impl Scopes {
+    /// Scopes with the top alone, where the facts stand.
+    pub fn new(alloc: Global, facts: &Value) -> Result<Scopes, NoMemory>
+        ensures { IfOk result (λ s. s ≡ at_start facts.now) }
+    {
+        let bindings = top_of(alloc, facts)?;
+        let top = Scope {
+            sort: Sort::Top,
+            parent: None,
+            bindings,
+        };
+        let mut scopes = Vec::new(alloc);
+        scopes.push(top)?;
+        let mut open = Vec::new(alloc);
+        open.push(0usize)?;
+        Ok(Scopes {
+            scopes,
+            open,
+            alloc,
+        })
+    }
+
+    /// Binds a name, without `$`, in the current scope.
+    #[tactic(auto, using(crate::proofs::OpenLaws::place_below, crate::proofs::OpenLaws::bound_open))]
+    pub fn bind(&mut self, name: &str, value: Value) -> Result<(), BindFault>
+        ensures { BindsNow self.old name.now value self.new result }
+    {
+        let place = place_now(self.open.as_slice());
+        bind_at(&mut self.scopes, place, name, value)
+    }
+
+    /// Enters the scope of a class, which inherits the parent's.
+    #[tactic(auto, using(crate::proofs::OpenLaws::entered_open))]
+    pub fn enter_class(&mut self, name: &str, parent: Option<&str>) -> Result<(), NoMemory>
+        requires new_name { class_of self.old.0 name.now ≡ None }
+        requires known_parent { IfSome parent (λ p. IsSome (class_of self.old.0 p.now)) }
+        ensures ok { OnOk result (self.new ≡ entered self.old (class_scope self.old.0 name.now (option_map (λ p. p.now) parent.entry))) }
+        ensures err { OnErr result (self.new ≡ self.old) }
+    {
+        let parent = place_of_parent(self.scopes.as_slice(), parent);
+        let class = Text::from_string(String::from_str(self.alloc, name)?);
+        let scope = Scope {
+            sort: Sort::Class(class),
+            parent,
+            bindings: Bindings::new(self.alloc),
+        };
+        enter(&mut self.scopes, &mut self.open, scope)
+    }
+
+    /// Enters the scope of a defined resource.
+    #[tactic(auto, using(crate::proofs::OpenLaws::entered_open))]
+    pub fn enter_defined(&mut self) -> Result<(), NoMemory>
+        ensures ok { OnOk result (self.new ≡ entered self.old defined_scope) }
+        ensures err { OnErr result (self.new ≡ self.old) }
+    {
+        let scope = Scope {
+            sort: Sort::Defined,
+            parent: None,
+            bindings: Bindings::new(self.alloc),
+        };
+        enter(&mut self.scopes, &mut self.open, scope)
+    }
+
+    /// Enters the scope of a node, which stays open.
+    #[tactic(auto, using(crate::proofs::OpenLaws::entered_open))]
+    pub fn enter_node(&mut self) -> Result<(), NoMemory>
+        requires at_top { length self.old.1 ≡ 1 }
+        ensures ok { OnOk result (self.new ≡ entered self.old node_scope_new) }
+        ensures err { OnErr result (self.new ≡ self.old) }
+    {
+        let scope = Scope {
+            sort: Sort::Node,
+            parent: None,
+            bindings: Bindings::new(self.alloc),
+        };
+        enter(&mut self.scopes, &mut self.open, scope)
+    }
+
+    /// Goes back to the scope that was current before.
+    #[tactic(auto, using(crate::proofs::OpenLaws::left_open))]
+    pub fn leave(&mut self)
+        requires { IsInner (current_scope self.old) }
+        ensures { self.new ≡ left self.old }
+    {
+        drop(self.open.pop());
+    }
 }
