@@ -26,9 +26,9 @@ none_after k (e ∷ es) h =
     let other : bytes_eq (string_bytes e.0) (string_bytes k) ≡ false = turned (string_bytes k) (string_bytes e.0) (bytes_eq (string_bytes e.0) (string_bytes k)) refl differ in
     ap (λ t. cond t (Some (fact_of (view e.1))) (value_at (string_bytes k) (pairs_of (members_view es)))) other ∙ none_after k es h.1
   where
-  turned : (a b : List ℕ) (t : Bool) → bytes_eq b a ≡ t → bytes_eq a b ≡ false → t ≡ false
-  turned a b true e differ = let same : b ≡ a = (bytes_eq-Decides b a).0 e in let clash : true ≡ false = sym ((bytes_eq-Decides a b).1 (sym same)) ∙ differ in cc
-  turned a b false e differ = refl
+    turned : (a b : List ℕ) (t : Bool) → bytes_eq b a ≡ t → bytes_eq a b ≡ false → t ≡ false
+    turned a b true e differ = let same : b ≡ a = (bytes_eq-Decides b a).0 e in let clash : true ≡ false = sym ((bytes_eq-Decides a b).1 (sym same)) ∙ differ in cc
+    turned a b false e differ = refl
 
 pub distinct : (es : List Entry) → IsStrictlySortedBy string_cmp (keys_of es) → HasDistinctKeys (pairs_of (members_view es))
 unfolding IsStrictlySortedBy

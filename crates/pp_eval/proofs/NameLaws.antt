@@ -1,7 +1,6 @@
 -- Names between colons.
 use Rattle.std.proofs.Common.{◌≡◌, ◌≢◌, ℕ, suc, ◌+◌, ◌<◌, Bool, true, false, cond, ◌||◌, ◌==◌, List, [], ◌∷◌, ◌++◌, length, slice_index, Option, Some, None, MatchOption, Bor, length-append, refl, ap, sym, ◌∙◌, arith}
 use Rattle.std.specs.List.{list_any}
-
 use Rattle.std.proofs.lemmas.Str.Pattern.{split_parts, IsSplitOnceResult}
 use Rattle.std.proofs.lemmas.Bool.Decides.{Decides-eqb}
 use Rattle.pp_eval.specs.Names.{is_colon, variable_in}
@@ -18,9 +17,9 @@ any_here : (front back : List ℕ) → list_any is_colon (front ++ 58 ∷ back) 
 any_here [] back = refl
 any_here (c ∷ front) back = either (is_colon c) (any_here front back)
   where
-  either : (a : Bool) {b : Bool} → b ≡ true → (a || b) ≡ true
-  either true h = refl
-  either false h = h
+    either : (a : Bool) {b : Bool} → b ≡ true → (a || b) ≡ true
+    either true h = refl
+    either false h = h
 
 pub past_colon : (front back : List ℕ) → variable_in (front ++ 58 ∷ back) ≡ variable_in back
 past_colon [] back = refl

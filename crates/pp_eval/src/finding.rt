@@ -31,11 +31,7 @@ fn in_scope<'s>(scope: Option<&'s Scope>, name: &str) -> Option<&'s Value>
 }
 
 /// In a scope and those of the inherited classes.
-fn in_lineage<'s>(
-    scopes: &'s [Scope],
-    start: Option<&'s Scope>,
-    name: &str,
-) -> Option<&'s Value>
+fn in_lineage<'s>(scopes: &'s [Scope], start: Option<&'s Scope>, name: &str) -> Option<&'s Value>
     ensures { option_map (λ x. x.now) result ≡ in_lineage scopes.now name.now (option_map (λ c. c.now) start.entry) }
 {
     let mut scope = start;

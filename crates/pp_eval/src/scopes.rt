@@ -5,8 +5,8 @@ ghost use Rattle.pp_eval.specs.Scoping.{Binds, BindsAt, BindsNow, place_now, wit
 
 use crate::bindings::Bindings;
 use crate::finding::is_class_of;
-use crate::start::top_of;
 use crate::scope::{Scope, Sort};
+use crate::start::top_of;
 use pp_value::Value;
 use rh_base::{NoMemory, Text};
 use std::alloc::Global;
@@ -22,6 +22,7 @@ pub enum BindFault {
 
 impl From<NoMemory> for BindFault {
     ghost use Rattle.pp_eval.specs.declared.scopes.BindFault.TheVariants as fault;
+
     ghost from_gives = { λ m e. e ≡ fault.Memory m };
 
     fn from(m: NoMemory) -> Self {
@@ -67,12 +68,7 @@ fn bind_in(bindings: &mut Bindings, name: &str, value: Value) -> Result<(), Bind
 }
 
 /// Binds a name in the scope at a place.
-fn bind_at(
-    scopes: &mut Vec<Scope>,
-    place: usize,
-    name: &str,
-    value: Value,
-) -> Result<(), BindFault>
+fn bind_at(scopes: &mut Vec<Scope>, place: usize, name: &str, value: Value) -> Result<(), BindFault>
     requires { place < length scopes.old.items }
     ensures { BindsAt place scopes.old.items name.now value scopes.new.items result }
 {

@@ -5,9 +5,10 @@ use std::alloc::Global;
 use std::test::Fail;
 
 fn facts(alloc: Global, text: &str) -> Result<Value, Fail> {
-    facts_from_json(alloc, text.as_bytes())
-        .ok()
-        .ok_or(Fail::from("no facts"))
+    match facts_from_json(alloc, text.as_bytes()) {
+        Ok(facts) => Ok(facts),
+        Err(_) => Err(Fail::from("no facts")),
+    }
 }
 
 /// The number of the refusal of a text of facts, or 0.
@@ -29,7 +30,10 @@ fn number(value: Option<&Value>) -> i64 {
 fn facts_are_a_json_object(rt: HostRuntime) -> Result<(), Fail> {
     let alloc = rt.alloc();
     let map = facts(alloc, "{\"b\": [1, true, null], \"a\": {\"c\": \"x\"}}")?;
-    assert_eq!(rt; show(alloc, &map)?.as_str(), "{a => {c => x}, b => [1, true, ]}");
+    assert_eq!(rt;
+        show(alloc, &map)?.as_str(),
+        "{a => {c => x}, b => [1, true, ]}"
+    );
     assert_eq!(rt; refused(alloc, b"[1]"), 60);
     assert_eq!(rt; refused(alloc, b"{\"a\": }"), 60);
     assert_eq!(rt; refused(alloc, b"{\"a\": \"\xff\"}"), 60);
