@@ -6,12 +6,14 @@ mod facts;
 mod finding;
 mod laws;
 mod names;
+mod operations;
 mod scope;
 mod scopes;
 mod start;
 
 pub use facts::facts_from_json;
 pub use laws::{bound_names_are_found, other_names_stay};
+pub use operations::{operate, truth_of};
 pub use scopes::{BindFault, Scopes};
 
 #[cfg(test)]
