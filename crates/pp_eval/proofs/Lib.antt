@@ -5,3 +5,4 @@ pub mod LineageLaws
 pub mod ScopeLaws
 pub mod StartLaws
 pub mod OpenLaws
+pub mod RootLaws

@@ -2,3 +2,4 @@ pub mod Facts
 pub mod Names
 pub mod Scoping
 pub mod Operations
+pub mod References

@@ -7,6 +7,7 @@ mod finding;
 mod laws;
 mod names;
 mod operations;
+mod references;
 mod scope;
 mod scopes;
 mod start;
@@ -14,6 +15,7 @@ mod start;
 pub use facts::facts_from_json;
 pub use laws::{bound_names_are_found, other_names_stay};
 pub use operations::{operate, truth_of};
+pub use references::{plain_name, ref_of};
 pub use scopes::{BindFault, Scopes};
 
 #[cfg(test)]
