@@ -6,3 +6,4 @@ pub mod ScopeLaws
 pub mod StartLaws
 pub mod OpenLaws
 pub mod RootLaws
+pub mod Inheritance

@@ -1,5 +1,5 @@
 -- One class further among the inherited ones.
-use Rattle.std.proofs.Common.{◌≡◌, ℕ, suc, List, Option, Some, None, refl, ap, sym, ◌∙◌, slice_get}
+use Rattle.std.proofs.Common.{◌≡◌, ℕ, suc, List, Option, Some, None, sym, ◌∙◌, slice_get}
 use Rattle.std.specs.Prelude.{option_and_then}
 use Rattle.pp_value.specs.declared.value.Value.{Value}
 use Rattle.pp_value.specs.Values.{value_at}

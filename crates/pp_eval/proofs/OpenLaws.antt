@@ -1,5 +1,5 @@
 -- The open scopes stay among all.
-use Rattle.std.proofs.Common.{◌≡◌, ℕ, zero, suc, ◌+◌, ◌-◌, ◌<◌, ◌≤◌, Bool, true, false, ◌&&◌, nat_lt, List, [], ◌∷◌, ◌++◌, length, take, Option, Some, None, Result, Ok, Err, IsTrue, refl, ap, sym, ◌∙◌, subst, length-append, arith}
+use Rattle.std.proofs.Common.{◌≡◌, ℕ, zero, suc, ◌+◌, ◌-◌, ◌<◌, ◌≤◌, Bool, true, false, ◌&&◌, nat_lt, List, [], ◌∷◌, ◌++◌, length, take, Result, Ok, Err, IsTrue, refl, ap, ◌∙◌, length-append, arith}
 use Rattle.std.specs.Prelude.{slice_get, unwrap_or}
 use Rattle.std.specs.List.{list_all}
 use Rattle.std.proofs.lemmas.Bool.Decides.{Decides-ltb}
@@ -8,7 +8,7 @@ use Rattle.pp_value.specs.Values.{Pair}
 use Rattle.pp_eval.specs.declared.scope.Scope.{Scope}
 use Rattle.pp_eval.specs.declared.scopes.BindFault.{BindFault}
 use Rattle.pp_eval.specs.declared.scopes.BindFault.TheVariants as fault
-use Rattle.pp_eval.specs.Scoping.{are_open, place_now, current_place, BindsAt, bindings_at, with_bindings_at}
+use Rattle.pp_eval.specs.Scoping.{are_open, place_now, BindsAt, bindings_at, with_bindings_at}
 
 and_left : (a b : Bool) → (a && b) ≡ true → a ≡ true
 and_left true b h = refl

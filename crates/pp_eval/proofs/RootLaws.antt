@@ -24,9 +24,9 @@ no_colon (c ∷ d ∷ name) h = ap (λ t. cond (t && is_colon d) name (c ∷ d �
 pub one_colon : (name one : List ℕ) → name ≡ 58 ∷ one → begins_with_colon one ≡ false → unrooted name ≡ name
 one_colon name one e h = ap unrooted e ∙ (at one h ∙ sym e)
   where
-  at : (one : List ℕ) → begins_with_colon one ≡ false → unrooted (58 ∷ one) ≡ 58 ∷ one
-  at [] h = refl
-  at (d ∷ more) h = ap (λ t. cond t more (58 ∷ d ∷ more)) h
+    at : (one : List ℕ) → begins_with_colon one ≡ false → unrooted (58 ∷ one) ≡ 58 ∷ one
+    at [] h = refl
+    at (d ∷ more) h = ap (λ t. cond t more (58 ∷ d ∷ more)) h
 
 pub two_colons : (name one rest : List ℕ) → name ≡ 58 ∷ one → one ≡ 58 ∷ rest → unrooted name ≡ rest
 two_colons name one rest e f = ap unrooted (e ∙ ap (λ more. 58 ∷ more) f)

@@ -3,3 +3,4 @@ pub mod Names
 pub mod Scoping
 pub mod Operations
 pub mod References
+pub mod Inheriting

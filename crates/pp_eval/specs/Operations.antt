@@ -1,5 +1,5 @@
 -- What an operator makes of the values of its operands, and what is refused where.
-use Rattle.std.specs.Prelude.{◌≡◌, ◌⊎◌, ℕ, ◌<◌, ◌≤◌, Bool, true, false, not, List, codes, Option, Some, None, Result, Ok, Err}
+use Rattle.std.specs.Prelude.{◌≡◌, ◌⊎◌, ℕ, ◌<◌, ◌≤◌, Bool, true, false, not, codes, Option, Some, None, Result, Ok, Err}
 use Rattle.rh_base.specs.declared.fault.Fault.{Fault}
 use Rattle.rh_base.specs.declared.fault.Fault.TheVariants as fault
 use Rattle.rh_base.specs.declared.fault.Refusal.{Refusal}
@@ -11,7 +11,7 @@ use Rattle.pp_value.specs.declared.value.Value.TheVariants as v
 use Rattle.pp_value.specs.declared.fault.Misfit.{Misfit}
 use Rattle.pp_value.specs.declared.fault.Misfit.TheVariants.{Operand, Range}
 use Rattle.pp_value.specs.Values.{size_of}
-use Rattle.pp_value.specs.Table.{equal_table, less_table, within_table, add_table, subtract_table, multiply_table, negate_table, size_limit}
+use Rattle.pp_value.specs.Table.{equal_table, less_table, within_table, add_table, subtract_table, multiply_table, size_limit}
 
 -- a truth value as it is, or turned round
 abbrev pub as_value : Result Bool Misfit → Result Value Misfit

@@ -13,7 +13,7 @@ mod scopes;
 mod start;
 
 pub use facts::facts_from_json;
-pub use laws::{bound_names_are_found, other_names_stay};
+pub use laws::{bound_names_are_found, inheriting_ends, other_names_stay, parents_stand_before};
 pub use operations::{operate, truth_of};
 pub use references::{plain_name, ref_of};
 pub use scopes::{BindFault, Scopes};

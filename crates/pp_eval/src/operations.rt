@@ -5,9 +5,7 @@ ghost use Rattle.pp_value.specs.Table.{add_table};
 ghost use Rattle.pp_eval.specs.Operations.{as_value, turned, operation, truth_of, Answers};
 
 use pp_syntax::Op;
-use pp_value::{
-    Misfit, Value, ValueFault, add, equal, less, multiply, size, subtract, within,
-};
+use pp_value::{Misfit, Value, ValueFault, add, equal, less, multiply, size, subtract, within};
 use rh_base::limits::VALUE_SIZE;
 use rh_base::{Fault, Refusal};
 use std::alloc::Global;

@@ -1,4 +1,4 @@
-use Rattle.std.proofs.Common.{◌≡◌, [], ◌++◌, sym, ap, ◌∙◌, subst, append-nil}
+use Rattle.std.proofs.Common.{◌≡◌, ◌++◌, sym, ◌∙◌, subst, append-nil}
 use Rattle.serde_json.specs.View.{members_view}
 use Rattle.pp_value.specs.Values.{HasDistinctKeys}
 use Rattle.pp_eval.specs.Facts.{pairs_of}

@@ -1,6 +1,5 @@
-use Rattle.std.proofs.Common.{◌≡◌, List, ◌++◌, drop}
+use Rattle.std.proofs.Common.{◌≡◌, ◌++◌, drop}
 use Rattle.serde_json.specs.View.{items_view, members_view}
-use Rattle.serde_json.proofs.Views.{Entry}
 use Rattle.pp_eval.specs.Facts.{facts_of, pairs_of}
 use Rattle.pp_eval.proofs.facts.+convert.Given as goal
 
