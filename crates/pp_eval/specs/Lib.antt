@@ -1,0 +1,6 @@
+pub mod Facts
+pub mod Names
+pub mod Scoping
+pub mod Operations
+pub mod References
+pub mod Inheriting

@@ -1,0 +1,62 @@
+-- What an operator makes of the values of its operands, and what is refused where.
+use Rattle.std.specs.Prelude.{◌≡◌, ◌⊎◌, ℕ, ◌<◌, ◌≤◌, Bool, true, false, not, codes, Option, Some, None, Result, Ok, Err}
+use Rattle.rh_base.specs.declared.fault.Fault.{Fault}
+use Rattle.rh_base.specs.declared.fault.Fault.TheVariants as fault
+use Rattle.rh_base.specs.declared.fault.Refusal.{Refusal}
+use Rattle.rh_base.specs.Refused.{IsRefusal}
+use Rattle.pp_syntax.specs.declared.tree.Op.{Op}
+use Rattle.pp_syntax.specs.declared.tree.Op.TheVariants as op
+use Rattle.pp_value.specs.declared.value.Value.{Value}
+use Rattle.pp_value.specs.declared.value.Value.TheVariants as v
+use Rattle.pp_value.specs.declared.fault.Misfit.{Misfit}
+use Rattle.pp_value.specs.declared.fault.Misfit.TheVariants.{Operand, Range}
+use Rattle.pp_value.specs.Values.{size_of}
+use Rattle.pp_value.specs.Table.{equal_table, less_table, within_table, add_table, subtract_table, multiply_table, size_limit}
+
+-- a truth value as it is, or turned round
+abbrev pub as_value : Result Bool Misfit → Result Value Misfit
+as_value (Ok b) = Ok (v.Bool b)
+as_value (Err m) = Err m
+
+abbrev pub turned : Result Bool Misfit → Result Value Misfit
+turned (Ok b) = Ok (v.Bool (not b))
+turned (Err m) = Err m
+
+-- an operator between two operands whose values both count; `and`, `or` and `!` are none
+abbrev pub operation : Op → Value → Value → Result Value Misfit
+operation op.Less a b = as_value (less_table a b)
+operation op.Greater a b = as_value (less_table b a)
+operation op.AtMost a b = turned (less_table b a)
+operation op.AtLeast a b = turned (less_table a b)
+operation op.Same a b = as_value (equal_table a b)
+operation op.NotSame a b = turned (equal_table a b)
+operation op.Plus a b = add_table a b
+operation op.Minus a b = subtract_table a b
+operation op.Times a b = multiply_table a b
+operation op.In a b = as_value (within_table a b)
+operation op.Or a b = Err Operand
+operation op.And a b = Err Operand
+operation op.Not a b = Err Operand
+
+-- `undef` and `false` are false, every other value is true, the empty text too; an opaque value has no truth
+abbrev pub truth_of : Value → Option Bool
+truth_of v.Undef = Some false
+truth_of (v.Bool b) = Some b
+truth_of (v.Int n) = Some true
+truth_of (v.Str text) = Some true
+truth_of (v.List' shape row) = Some true
+truth_of (v.Map' shape row) = Some true
+truth_of (v.Refer r) = Some true
+truth_of v.Opaque = None
+
+-- The refusal of an expression at this place: 29 where there is no result, 33 where a whole number leaves 64 bits, 32 where the result is too large.
+abbrev pub Refuses : ℕ → Result Value Misfit → Refusal → Type 0
+Refuses at table r = ((table ≡ Err Operand) × IsRefusal 29 at (codes "operand") r)
+    ⊎ (((table ≡ Err Range) × IsRefusal 33 at (codes "integer") r)
+    ⊎ ((x : Value) × ((table ≡ Ok x) × (size_limit < size_of x) × IsRefusal 32 at (codes "value") r)))
+
+-- What an operation answers at a place: its result where that isn't too large, or its refusal. Memory may always be refused.
+abbrev pub Answers : ℕ → Result Value Misfit → Result Value Fault → Type 0
+Answers at table (Ok x) = (table ≡ Ok x) × (size_of x ≤ size_limit)
+Answers at table (Err (fault.Refused r)) = Refuses at table r
+Answers at table (Err (fault.Memory m)) = Unit {0}

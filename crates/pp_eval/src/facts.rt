@@ -1,0 +1,82 @@
+//! The facts of a machine, from JSON.
+
+ghost use Rattle.std.specs.Prelude.{◌≡◌, IfOk, IfErr, codes};
+ghost use Rattle.rh_base.specs.Refused.{IfRefused, IsRefusal};
+ghost use Rattle.serde_json.specs.View.{view, items_view, members_view};
+ghost use Rattle.pp_value.specs.declared.value.Value.{Value as V};
+ghost use Rattle.pp_eval.specs.Facts.{fact_of, facts_of, pairs_of, AreFacts};
+
+use pp_value::{Pairs, Value};
+use rh_base::{Fault, NoMemory, Refusal, Seq, Text};
+use serde_json::{Category, Map, Value as Json};
+use std::alloc::Global;
+
+/// The value of what JSON has.
+#[cycle(convert)]
+#[tactic(auto, using(crate::proofs::FactLaws::of_array, crate::proofs::FactLaws::of_object))]
+fn convert(alloc: Global, json: &Json) -> Result<Value, NoMemory>
+    ensures { IfOk result (λ x. x ≡ fact_of (view json.now)) }
+{
+    match json {
+        Json::Null => Ok(Value::Undef),
+        Json::Bool(b) => Ok(Value::Bool(*b)),
+        Json::Number(n) => match n.as_i64() {
+            Some(n) => Ok(Value::Int(n)),
+            None => Ok(Value::Opaque),
+        },
+        Json::String(text) => {
+            let text = String::from_str(alloc, text.as_str())?;
+            Ok(Value::Str(Text::from_string(text)))
+        }
+        Json::Array(items) => {
+            let values = convert_all(alloc, items)?;
+            Ok(Value::List(Seq::from_vec(values)))
+        }
+        Json::Object(members) => Ok(Value::Map(convert_members(alloc, members)?)),
+    }
+}
+
+#[cycle(convert)]
+fn convert_all(alloc: Global, items: &Vec<Json>) -> Result<Vec<Value>, NoMemory>
+    ensures { IfOk result (λ values. values.items ≡ facts_of (items_view items.now.items)) }
+{
+    let mut values = Vec::new(alloc);
+    for item in items {
+        values.push(convert(alloc, item)?)?;
+    }
+    Ok(values)
+}
+
+#[cycle(convert)]
+fn convert_members(alloc: Global, members: &Map<String, Json>) -> Result<Pairs, NoMemory>
+    ensures { IfOk result (λ p. p.pairs ≡ pairs_of (members_view members.now.entries)) }
+{
+    let mut pairs = Vec::new(alloc);
+    for (key, member) in members.iter() {
+        let name = Text::from_string(String::from_str(alloc, key.as_str())?);
+        let value = convert(alloc, member)?;
+        pairs.push((name, value))?;
+    }
+    Ok(Pairs::from_vec(pairs))
+}
+
+/// The facts of a JSON object; any other text is refused.
+pub fn facts_from_json(alloc: Global, bytes: &[u8]) -> Result<Value, Fault>
+    ensures facts { IfOk result (AreFacts bytes.now) }
+    ensures refused { IfErr result (λ e. IfRefused e (λ r. IsRefusal 60 0 (codes "facts") r × ((x : V) → AreFacts bytes.now x → ⊥))) }
+{
+    let json = match Json::from_slice(alloc, bytes) {
+        Ok(json) => json,
+        Err(e) => {
+            if e.classify() == Category::Memory {
+                return Err(Fault::Memory(NoMemory));
+            }
+            return Err(Fault::Refused(Refusal::new(alloc, 60, 0, "facts")?));
+        }
+    };
+    let Json::Object(members) = &json else {
+        return Err(Fault::Refused(Refusal::new(alloc, 60, 0, "facts")?));
+    };
+    let pairs = convert_members(alloc, members)?;
+    Ok(Value::Map(pairs))
+}

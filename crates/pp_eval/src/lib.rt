@@ -1,0 +1,22 @@
+//! Expressions and what they are evaluated in: facts and scopes.
+#![tactic(auto)]
+
+mod bindings;
+mod facts;
+mod finding;
+mod laws;
+mod names;
+mod operations;
+mod references;
+mod scope;
+mod scopes;
+mod start;
+
+pub use facts::facts_from_json;
+pub use laws::{bound_names_are_found, inheriting_ends, other_names_stay, parents_stand_before};
+pub use operations::{operate, truth_of};
+pub use references::{plain_name, ref_of};
+pub use scopes::{BindFault, Scopes};
+
+#[cfg(test)]
+mod tests;

@@ -1,0 +1,21 @@
+//! One scope.
+
+use crate::bindings::Bindings;
+use rh_base::Text;
+
+/// What a scope is of: the top, a node, a class of a name, or a defined resource.
+#[derive(Drop)]
+pub enum Sort {
+    Top,
+    Node,
+    Class(Text),
+    Defined,
+}
+
+/// A scope; a class that inherits has the place of its parent's scope among all.
+#[derive(Drop)]
+pub struct Scope {
+    pub sort: Sort,
+    pub parent: Option<usize>,
+    pub bindings: Bindings,
+}

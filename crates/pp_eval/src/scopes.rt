@@ -1,0 +1,216 @@
+//! The scopes in which expressions are evaluated.
+
+ghost use Rattle.std.specs.Prelude.{◌≡◌, ◌<◌, ◌∷◌, ◌++◌, [], length, None, IfOk, OnOk, OnErr, option_map, option_and_then, IsSome, IfSome};
+ghost use Rattle.pp_eval.specs.Scoping.{Binds, BindsAt, BindsNow, place_now, with_facts, top_of, at_start, class_of, class_place, class_scope, defined_scope, node_scope_new, entered, left, current_scope, IsInner};
+
+use crate::bindings::Bindings;
+use crate::finding::is_class_of;
+use crate::scope::{Scope, Sort};
+use crate::start::top_of;
+use pp_value::Value;
+use rh_base::{NoMemory, Text};
+use std::alloc::Global;
+use std::marker::Model;
+
+/// Why a name isn't bound.
+#[derive(Clone, Copy, Debug, PartialEq, Eq)]
+pub enum BindFault {
+    /// The current scope has a binding of it.
+    Again,
+    Memory(NoMemory),
+}
+
+impl From<NoMemory> for BindFault {
+    ghost use Rattle.pp_eval.specs.declared.scopes.BindFault.TheVariants as fault;
+
+    ghost from_gives = { λ m e. e ≡ fault.Memory m };
+
+    fn from(m: NoMemory) -> Self {
+        BindFault::Memory(m)
+    }
+}
+
+/// All scopes in the order in which they were entered, the top first, and the places of those that are open, the current
+/// one last.
+#[derive(Drop)]
+pub struct Scopes {
+    pub(crate) scopes: Vec<Scope>,
+    pub(crate) open: Vec<usize>,
+    pub(crate) alloc: Global,
+}
+
+impl Model for Scopes {
+    ghost use Rattle.std.specs.Prelude.{List, ℕ, IsTrue};
+    ghost use Rattle.std.specs.Coded.{coded_list, coded×, coded_ℕ};
+    ghost use Rattle.pp_eval.specs.declared.scope.Scope.{Scope};
+    ghost use Rattle.pp_eval.specs.contracts.scope.Scope as scope;
+
+    ghost Value = { List Scope × List ℕ };
+
+    ghost coded = { coded× (coded_list scope.the_row.coded) (coded_list coded_ℕ) };
+
+    ghost use Rattle.pp_eval.specs.Scoping.{are_open};
+
+    ghost view = { λ s. (s.scopes.items, s.open.items) };
+
+    ghost invariant = { λ s. IsTrue (are_open s.scopes.items s.open.items) };
+}
+
+/// Binds a name that has no binding there.
+fn bind_in(bindings: &mut Bindings, name: &str, value: Value) -> Result<(), BindFault>
+    ensures { Binds bindings.old name.now value bindings.new result }
+{
+    if bindings.find(name).is_some() {
+        return Err(BindFault::Again);
+    }
+    bindings.add(name, value)?;
+    Ok(())
+}
+
+/// Binds a name in the scope at a place.
+fn bind_at(scopes: &mut Vec<Scope>, place: usize, name: &str, value: Value) -> Result<(), BindFault>
+    requires { place < length scopes.old.items }
+    ensures { BindsAt place scopes.old.items name.now value scopes.new.items result }
+{
+    let scope = &mut scopes[place];
+    bind_in(&mut scope.bindings, name, value)
+}
+
+/// The current scope's place.
+fn place_now(opened: &[usize]) -> usize
+    ensures { result ≡ place_now opened.now }
+{
+    match opened.last() {
+        Some(place) => *place,
+        None => 0,
+    }
+}
+
+/// Adds a scope, which is the current one from then on.
+fn enter(scopes: &mut Vec<Scope>, opened: &mut Vec<usize>, scope: Scope) -> Result<(), NoMemory>
+    ensures scopes_ok { OnOk result (scopes.new.items ≡ scopes.old.items ++ scope ∷ []) }
+    ensures open_ok { OnOk result (opened.new.items ≡ opened.old.items ++ length scopes.old.items ∷ []) }
+    ensures scopes_err { OnErr result (scopes.new.items ≡ scopes.old.items) }
+    ensures open_err { OnErr result (opened.new.items ≡ opened.old.items) }
+{
+    let place = scopes.len();
+    scopes.push(scope)?;
+    match opened.push(place) {
+        Ok(()) => Ok(()),
+        Err(_) => {
+            drop(scopes.pop());
+            Err(NoMemory)
+        }
+    }
+}
+
+/// The place of a class's scope.
+fn class_place(scopes: &[Scope], name: &[u8]) -> Option<usize>
+    ensures { result ≡ class_place 0 scopes.now name.now }
+{
+    let mut place = 0usize;
+    for scope in scopes {
+        if is_class_of(&scope.sort, name) {
+            return Some(place);
+        }
+        place += 1;
+    }
+    None
+}
+
+fn place_of_parent(scopes: &[Scope], parent: Option<&str>) -> Option<usize>
+    ensures { result ≡ option_and_then (class_place 0 scopes.now) (option_map (λ p. p.now) parent.entry) }
+{
+    match parent {
+        Some(parent) => class_place(scopes, parent.as_bytes()),
+        None => None,
+    }
+}
+
+impl Scopes {
+    /// Scopes with the top alone, where the facts stand.
+    pub fn new(alloc: Global, facts: &Value) -> Result<Scopes, NoMemory>
+        ensures { IfOk result (λ s. s ≡ at_start facts.now) }
+    {
+        let bindings = top_of(alloc, facts)?;
+        let top = Scope {
+            sort: Sort::Top,
+            parent: None,
+            bindings,
+        };
+        let mut scopes = Vec::new(alloc);
+        scopes.push(top)?;
+        let mut open = Vec::new(alloc);
+        open.push(0usize)?;
+        Ok(Scopes {
+            scopes,
+            open,
+            alloc,
+        })
+    }
+
+    /// Binds a name, without `$`, in the current scope.
+    #[tactic(auto, using(crate::proofs::OpenLaws::place_below, crate::proofs::OpenLaws::bound_open))]
+    pub fn bind(&mut self, name: &str, value: Value) -> Result<(), BindFault>
+        ensures { BindsNow self.old name.now value self.new result }
+    {
+        let place = place_now(self.open.as_slice());
+        bind_at(&mut self.scopes, place, name, value)
+    }
+
+    /// Enters the scope of a class, which inherits the parent's.
+    #[tactic(auto, using(crate::proofs::OpenLaws::entered_open))]
+    pub fn enter_class(&mut self, name: &str, parent: Option<&str>) -> Result<(), NoMemory>
+        requires new_name { class_of self.old.0 name.now ≡ None }
+        requires known_parent { IfSome parent (λ p. IsSome (class_of self.old.0 p.now)) }
+        ensures ok { OnOk result (self.new ≡ entered self.old (class_scope self.old.0 name.now (option_map (λ p. p.now) parent.entry))) }
+        ensures err { OnErr result (self.new ≡ self.old) }
+    {
+        let parent = place_of_parent(self.scopes.as_slice(), parent);
+        let class = Text::from_string(String::from_str(self.alloc, name)?);
+        let scope = Scope {
+            sort: Sort::Class(class),
+            parent,
+            bindings: Bindings::new(self.alloc),
+        };
+        enter(&mut self.scopes, &mut self.open, scope)
+    }
+
+    /// Enters the scope of a defined resource.
+    #[tactic(auto, using(crate::proofs::OpenLaws::entered_open))]
+    pub fn enter_defined(&mut self) -> Result<(), NoMemory>
+        ensures ok { OnOk result (self.new ≡ entered self.old defined_scope) }
+        ensures err { OnErr result (self.new ≡ self.old) }
+    {
+        let scope = Scope {
+            sort: Sort::Defined,
+            parent: None,
+            bindings: Bindings::new(self.alloc),
+        };
+        enter(&mut self.scopes, &mut self.open, scope)
+    }
+
+    /// Enters the scope of a node, which stays open.
+    #[tactic(auto, using(crate::proofs::OpenLaws::entered_open))]
+    pub fn enter_node(&mut self) -> Result<(), NoMemory>
+        requires at_top { length self.old.1 ≡ 1 }
+        ensures ok { OnOk result (self.new ≡ entered self.old node_scope_new) }
+        ensures err { OnErr result (self.new ≡ self.old) }
+    {
+        let scope = Scope {
+            sort: Sort::Node,
+            parent: None,
+            bindings: Bindings::new(self.alloc),
+        };
+        enter(&mut self.scopes, &mut self.open, scope)
+    }
+
+    /// Goes back to the scope that was current before.
+    #[tactic(auto, using(crate::proofs::OpenLaws::left_open))]
+    pub fn leave(&mut self)
+        requires { IsInner (current_scope self.old) }
+        ensures { self.new ≡ left self.old }
+    {
+        drop(self.open.pop());
+    }
+}

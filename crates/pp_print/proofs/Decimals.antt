@@ -1,0 +1,46 @@
+-- A number that is written in decimal is read again.
+use Rattle.std.proofs.Common.{◌≡◌, ℕ, zero, suc, ◌+◌, ◌-◌, ◌*◌, ◌/◌, ◌%◌, ◌^◌, ◌<◌, true, false, cond, ◌==◌, nat_le, List, [], ◌∷◌, get_or, refl, sym, ap, subst, ◌∙◌, arith}
+use Rattle.std.specs.Prelude.{decimal}
+use Rattle.std.proofs.lemmas.Bool.{eqb-true, eqb-false, ne_eqb, lt-ltb, le-leb}
+use Rattle.std.proofs.lemmas.Fmt.{first_decimal}
+use Rattle.std.specs.Fmt.{digits, digits_onto, digit_glyph}
+use Rattle.pp_syntax.specs.Tokens.{digit_of, value_from, int_value, value_after_zero}
+
+digit_back : (d : ℕ) → d < 10 → digit_of (digit_glyph false d) ≡ d
+digit_back d h =
+    ap (λ v. digit_of (cond v (48 + d) (87 + d))) (lt-ltb d 10 h)
+    ∙ ap (λ v. cond v ((48 + d) - 48) (cond (nat_le (48 + d) 70) ((48 + d) - 55) ((48 + d) - 87))) (le-leb (48 + d) 57 (omega arith))
+    ∙ omega arith
+
+-- 10 to this power
+abbrev power : ℕ → ℕ
+power zero = 1
+power (suc k) = 10 * power k
+
+next_digit : (before n : ℕ) (acc : List ℕ) → value_from 10 before (digit_glyph false (n % 10) ∷ acc) ≡ value_from 10 (before * 10 + n % 10) acc
+next_digit before n acc = ap (λ d. value_from 10 (before * 10 + d) acc) (digit_back (n % 10) (omega arith))
+
+value_onto : (k n : ℕ) (acc : List ℕ) → n < power k → value_from 10 0 (digits_onto k 10 false n acc) ≡ value_from 10 n acc
+value_onto zero n acc h = ap (λ m. value_from 10 m acc) (omega (arith, h))
+value_onto (suc k) n acc h = elim (n / 10 == 0) as (λ v. (n / 10 == 0) ≡ v → value_from 10 0 (cond v (digit_glyph false (n % 10) ∷ acc) (digits_onto k 10 false (n / 10) (digit_glyph false (n % 10) ∷ acc))) ≡ value_from 10 n acc) [
+  | true ↦ λ e. let f = eqb-true (n / 10) 0 e in next_digit 0 n acc ∙ ap (λ m. value_from 10 m acc) (omega (arith, f))
+  | false ↦ λ e. value_onto k (n / 10) (digit_glyph false (n % 10) ∷ acc) (omega (arith, h)) ∙ next_digit (n / 10) n acc ∙ ap (λ m. value_from 10 m acc) (omega arith)
+] refl
+
+value_all : (n : ℕ) → n < 2 ^ 63 → value_from 10 0 (decimal n) ≡ n
+unfolding digits
+value_all n h = value_onto 64 n [] (omega (arith, h))
+
+by_first : (s : List ℕ) → 48 < get_or s 0 0 → int_value s ≡ value_from 10 0 s
+by_first [] h = absurd (omega arith)
+by_first (b ∷ more) h = ap (λ v. cond v (value_after_zero more) (value_from 10 0 (b ∷ more))) (ne_eqb b 48 (λ e. absurd (omega (arith, e, h))))
+
+int_zero : (n : ℕ) → n ≡ 0 → int_value (decimal n) ≡ n
+unfolding digits
+int_zero n e = subst (λ m. int_value (decimal m) ≡ m) (sym e) refl
+
+pub int_decimal : (n : ℕ) → n < 2 ^ 63 → int_value (decimal n) ≡ n
+int_decimal n h = elim (n == 0) as (λ v. (n == 0) ≡ v → int_value (decimal n) ≡ n) [
+  | true ↦ λ e. int_zero n (eqb-true n 0 e)
+  | false ↦ λ e. let f = eqb-false n 0 e in by_first (decimal n) (first_decimal n (omega (arith, f)) (omega (arith, h))) ∙ value_all n h
+] refl

@@ -1,0 +1,17 @@
+pub mod Forms
+pub mod Blocks
+pub mod Escapes
+pub mod Phrases
+pub mod Decimals
+pub mod TypeLaws
+pub mod Unplaced
+pub mod Reprints
+pub mod Postfixes
+pub mod Inners
+pub mod Standing
+pub mod Widening
+pub mod Bodies
+pub mod Searches
+pub mod Chains
+pub mod StatementLaws
+pub mod ItemLaws

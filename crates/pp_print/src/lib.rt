@@ -1,0 +1,18 @@
+//! Printing: the canonical text of a manifest.
+#![tactic(auto)]
+
+mod expression;
+mod item;
+mod laws;
+mod manifest;
+mod resource;
+mod search;
+mod statement;
+mod types;
+mod words;
+
+pub use laws::{fewest_backslashes, words_spell_again};
+pub use manifest::print;
+
+#[cfg(test)]
+mod tests;

@@ -1,0 +1,154 @@
+-- Equality is symmetric, where maps have distinct keys.
+use Rattle.std.proofs.Common.{◌≡◌, ℕ, ℤ, Bool, true, false, cond, ◌&&◌, ◌||◌, ◌==◌, List, [], ◌∷◌, length, Option, Some, None, Ok, Err, refl, ap, sym, ◌∙◌, subst, arith}
+use Rattle.std.specs.List.{AllByRecursion}
+use Rattle.std.specs.Ordering.{int_eq}
+use Rattle.std.specs.Str.{bytes_eq}
+use Rattle.std.proofs.lemmas.Slice.Eq.{bytes_eq-Decides}
+use Rattle.std.proofs.lemmas.Bool.Decides.{Decides-int_eq, Decides-eqb}
+use Rattle.pp_value.specs.declared.value.Ref.{Ref}
+use Rattle.pp_value.specs.declared.value.Value.{Value, Row_of-Value, end_of-Value, more_of-Value, Row_of-Pairs-pairs-2, end_of-Pairs-pairs-2, more_of-Pairs-pairs-2, items-the_row-Value, items-the_row-Pairs-pairs-2}
+use Rattle.pp_value.specs.declared.value.Value.TheVariants as v
+use Rattle.pp_value.specs.declared.fault.Misfit.TheVariants.{Operand}
+use Rattle.pp_value.specs.Texts.{lowered}
+use Rattle.pp_value.specs.Values.{Pair, value_at, passes, HasDistinctKeys, has_opaque, same, same_row, same_pairs, pairs_in, same_bool, same_ref}
+use Rattle.pp_value.specs.Table.{equal_table}
+use Rattle.pp_value.specs.Proper.{IsProper, AreProper, HaveProper}
+use Rattle.pp_value.proofs.Distinct.{by_test, same_key, key_itself, at_first, at_later, AllIn, each_back}
+
+-- ---- truth values
+
+and_left : (a b : Bool) → (a && b) ≡ true → a ≡ true
+and_left true b h = refl
+and_left false b h = h
+
+and_right : (a b : Bool) → (a && b) ≡ true → b ≡ true
+and_right true b h = h
+and_right false b h = cc
+
+and_both : (a b : Bool) → a ≡ true → b ≡ true → (a && b) ≡ true
+and_both true b h k = k
+and_both false b h k = h
+
+one_bool : (a b : Bool) → (a ≡ true → b ≡ true) → (b ≡ true → a ≡ true) → a ≡ b
+one_bool true b f g = sym (f refl)
+one_bool false true f g = g refl
+one_bool false false f g = refl
+
+-- ---- what has no members
+
+bool_back : (a b : Bool) → same_bool a b ≡ true → same_bool b a ≡ true
+bool_back true true h = refl
+bool_back true false h = h
+bool_back false true h = h
+bool_back false false h = refl
+
+int_back : (a b : ℤ) → int_eq a b ≡ true → int_eq b a ≡ true
+int_back a b h = (Decides-int_eq b a).1 (sym ((Decides-int_eq a b).0 h))
+
+bytes_back : (a b : List ℕ) → bytes_eq a b ≡ true → bytes_eq b a ≡ true
+bytes_back a b h = (bytes_eq-Decides b a).1 (sym ((bytes_eq-Decides a b).0 h))
+
+ref_back : (a b : Ref) → same_ref a b ≡ true → same_ref b a ≡ true
+ref_back a b h = and_both _ _ (bytes_back a.kind b.kind (and_left _ _ h)) (bytes_back a.title b.title (and_right (bytes_eq a.kind b.kind) _ h))
+
+-- ---- pairs
+
+abbrev Matches : List Pair → Pair → Type 0
+Matches ys p = (y : Value) × ((value_at p.0 ys ≡ Some y) × (same y p.1 ≡ true))
+
+abbrev Alike : List Pair → List Pair → Type 0
+Alike ys xs = AllByRecursion (Matches ys) xs
+
+all_in : (xs ys : List Pair) → Alike ys xs → AllIn ys xs
+all_in [] ys all = tt
+all_in (p ∷ xs) ys all = ((λ none. let clash : ◌≡◌ {A = Option Value} (Some all.0.0) None = sym all.0.1.0 ∙ none in cc), all_in xs ys all.1)
+
+at_key : (xs ys : List Pair) (key : List ℕ) (x : Value) → Alike ys xs → value_at key xs ≡ Some x → (y : Value) × ((value_at key ys ≡ Some y) × (same y x ≡ true))
+at_key [] ys key x all h = cc
+at_key (p ∷ xs) ys key x all h =
+    by_test (bytes_eq p.0 key) ((y : Value) × ((value_at key ys ≡ Some y) × (same y x ≡ true)))
+    (λ e.
+    let value : p.1 ≡ x = let both : ◌≡◌ {A = Option Value} (Some p.1) (Some x) = sym (at_first key p xs e) ∙ h in cc in
+    (all.0.0, (ap (λ k. value_at k ys) (sym (same_key p.0 key e)) ∙ all.0.1.0, ap (same all.0.0) (sym value) ∙ all.0.1.1)))
+    (λ e. at_key xs ys key x all.1 (sym (at_later key p xs e) ∙ h))
+
+back_at : (xs ys : List Pair) (key : List ℕ) (y : Value) (o : Option Value) → value_at key xs ≡ o → HasDistinctKeys xs → Alike ys xs → length xs ≡ length ys → value_at key ys ≡ Some y → passes (same y) o ≡ true
+back_at xs ys key y (Some x) e distinct all many h =
+    let found = at_key xs ys key x all e in
+    let value : found.0 ≡ y = let both : ◌≡◌ {A = Option Value} (Some found.0) (Some y) = sym found.1.0 ∙ h in cc in
+    ap (λ z. same z x) (sym value) ∙ found.1.1
+back_at xs ys key y None e distinct all many h =
+    absurd (each_back xs ys key distinct (all_in xs ys all) many (λ none. let clash : ◌≡◌ {A = Option Value} (Some y) None = sym h ∙ none in cc) e)
+
+-- the value of a key further on is that of the whole
+further : (p : Pair) (pairs : List Pair) (key : List ℕ) (y : Value) → value_at p.0 pairs ≡ None → value_at key pairs ≡ Some y → value_at key (p ∷ pairs) ≡ Some y
+further p pairs key y none h =
+    by_test (bytes_eq p.0 key) (value_at key (p ∷ pairs) ≡ Some y)
+    (λ e. let clash : ◌≡◌ {A = Option Value} (Some y) None = sym h ∙ (ap (λ k. value_at k pairs) (sym (same_key p.0 key e)) ∙ none) in cc)
+    (λ e. at_later key p pairs e ∙ h)
+
+pairs_back : {m : _} (row : Row_of-Pairs-pairs-2 m) (xs : List Pair) → HasDistinctKeys (items-the_row-Pairs-pairs-2 _ row) → ((key : List ℕ) (y : Value) → value_at key (items-the_row-Pairs-pairs-2 _ row) ≡ Some y → passes (same y) (value_at key xs) ≡ true) → same_pairs row xs ≡ true
+pairs_back end_of-Pairs-pairs-2 xs distinct f = refl
+pairs_back (more_of-Pairs-pairs-2 key x row) xs distinct f =
+    and_both _ _ (f key x (at_first key (key, x) (items-the_row-Pairs-pairs-2 _ row) (key_itself key)))
+    (pairs_back row xs distinct.1 (λ k y h. f k y (further (key, x) (items-the_row-Pairs-pairs-2 _ row) k y distinct.0 h)))
+
+count_items : {m : _} (row : Row_of-Pairs-pairs-2 m) → pairs_in row ≡ length (items-the_row-Pairs-pairs-2 _ row)
+count_items end_of-Pairs-pairs-2 = refl
+count_items (more_of-Pairs-pairs-2 key x row) = let rest = count_items row in omega arith
+
+value_proper : {m : _} (row : Row_of-Pairs-pairs-2 m) (key : List ℕ) (y : Value) → HaveProper row → value_at key (items-the_row-Pairs-pairs-2 _ row) ≡ Some y → IsProper y
+value_proper end_of-Pairs-pairs-2 key y all h = cc
+value_proper (more_of-Pairs-pairs-2 k x row) key y all h =
+    by_test (bytes_eq k key) (IsProper y)
+    (λ e. let value : x ≡ y = let both : ◌≡◌ {A = Option Value} (Some x) (Some y) = sym (at_first key (k, x) (items-the_row-Pairs-pairs-2 _ row) e) ∙ h in cc in subst IsProper value all.0)
+    (λ e. value_proper row key y all.1 (sym (at_later key (k, x) (items-the_row-Pairs-pairs-2 _ row) e) ∙ h))
+
+one_alike : {n : _} (key : List ℕ) (x : Value) (other : Row_of-Pairs-pairs-2 n) (o : Option Value) → value_at key (items-the_row-Pairs-pairs-2 _ other) ≡ o → ((y : Value) → IsProper y → same x y ≡ true → same y x ≡ true) → HaveProper other → passes (same x) o ≡ true → Matches (items-the_row-Pairs-pairs-2 _ other) (key, x)
+one_alike key x other (Some y) e back q h = (y, (e, back y (value_proper other key y q e) h))
+one_alike key x other None e back q h = cc
+
+-- ---- values
+
+mutual
+  same_back : (a b : Value) → IsProper a → IsProper b → same a b ≡ true → same b a ≡ true
+  same_back v.Undef v.Undef p q h = refl
+  same_back (v.Bool x) (v.Bool y) p q h = bool_back x y h
+  same_back (v.Int x) (v.Int y) p q h = int_back x y h
+  same_back (v.Str x) (v.Str y) p q h = bytes_back (lowered x) (lowered y) h
+  same_back (v.List' s row) (v.List' s' row') p q h = rows_back row row' p q h
+  same_back (v.Map' s row) (v.Map' s' row') p q h =
+      let xs = items-the_row-Pairs-pairs-2 _ row in
+      let ys = items-the_row-Pairs-pairs-2 _ row' in
+      let many : length xs ≡ length ys = sym (count_items row) ∙ (Decides-eqb (pairs_in row) (length ys)).0 (and_left _ _ h) in
+      let all : Alike ys xs = alike row row' p.1 q.1 (and_right (pairs_in row == length ys) _ h) in
+      and_both _ _ ((Decides-eqb (pairs_in row') (length xs)).1 (count_items row' ∙ sym many))
+      (pairs_back row' xs q.0 (λ key y e. back_at xs ys key y (value_at key xs) refl p.0 all many e))
+  same_back (v.Refer x) (v.Refer y) p q h = ref_back x y h
+  same_back _ _ p q h = cc
+
+  rows_back : {m n : _} (row : Row_of-Value m) (other : Row_of-Value n) → AreProper row → AreProper other → same_row row (items-the_row-Value _ other) ≡ true → same_row other (items-the_row-Value _ row) ≡ true
+  rows_back end_of-Value end_of-Value p q h = refl
+  rows_back end_of-Value (more_of-Value y other) p q h = h
+  rows_back (more_of-Value x row) end_of-Value p q h = h
+  rows_back (more_of-Value x row) (more_of-Value y other) p q h =
+      and_both _ _ (same_back x y p.0 q.0 (and_left _ _ h)) (rows_back row other p.1 q.1 (and_right (same x y) _ h))
+
+  alike : {m n : _} (row : Row_of-Pairs-pairs-2 m) (other : Row_of-Pairs-pairs-2 n) → HaveProper row → HaveProper other → same_pairs row (items-the_row-Pairs-pairs-2 _ other) ≡ true → Alike (items-the_row-Pairs-pairs-2 _ other) (items-the_row-Pairs-pairs-2 _ row)
+  alike end_of-Pairs-pairs-2 other p q h = tt
+  alike (more_of-Pairs-pairs-2 key x row) other p q h = (
+    one_alike key x other (value_at key (items-the_row-Pairs-pairs-2 _ other)) refl (λ y r. same_back x y p.0 r) q (and_left _ _ h),
+    alike row other p.1 q (and_right (passes (same x) (value_at key (items-the_row-Pairs-pairs-2 _ other))) _ h),
+  )
+
+or_back : (a b : Bool) → (a || b) ≡ (b || a)
+or_back true true = refl
+or_back true false = refl
+or_back false true = refl
+or_back false false = refl
+
+pub symmetric : (a b : Value) → IsProper a → IsProper b → equal_table a b ≡ equal_table b a
+symmetric a b p q =
+    let opaque = or_back (has_opaque a) (has_opaque b) in
+    let equal = one_bool (same a b) (same b a) (same_back a b p q) (same_back b a q p) in
+    λ i. cond (opaque i) (Err Operand) (Ok (equal i))

@@ -1,0 +1,40 @@
+//! Laws of the operations, as functions that do nothing.
+
+ghost use Rattle.std.specs.Prelude.{◌≡◌, ◌↔◌, ℕ, true, List, Ok, IsTrue};
+ghost use Rattle.pp_value.specs.declared.value.Value.{Value};
+ghost use Rattle.pp_value.specs.declared.value.Value.TheVariants as v;
+ghost use Rattle.pp_value.specs.Proper.{IsProper};
+ghost use Rattle.pp_value.specs.Table.{equal_table, add_table, index_table};
+ghost use Rattle.pp_value.specs.Values.{Pair, HasDistinctKeys, with_pair};
+ghost use Rattle.pp_value.specs.Texts.{is_part, StandsIn};
+ghost use Rattle.pp_value.specs.Shown.{show_table};
+
+/// `==` answers the same both ways round, for values whose maps have distinct keys.
+pub fn equality_is_symmetric()
+    ensures { (a b : Value) → IsProper a → IsProper b → equal_table a b ≡ equal_table b a }
+{}
+
+/// A text is shown as it is.
+pub fn text_shows_itself()
+    ensures { (text : List ℕ) → show_table (v.Str text) ≡ Ok text }
+{}
+
+/// The sum of values whose maps have distinct keys is such a value.
+pub fn sums_are_proper()
+    ensures { (a b x : Value) → IsProper a → IsProper b → add_table a b ≡ Ok x → IsProper x }
+{}
+
+/// A member of a value whose maps have distinct keys is such a value.
+pub fn members_are_proper()
+    ensures { (a key x : Value) → IsProper a → index_table a key ≡ Ok x → IsProper x }
+{}
+
+/// A map with distinct keys keeps them with one more pair.
+pub fn pairs_stay_distinct()
+    ensures { (key : List ℕ) (x : Value) (pairs : List Pair) → HasDistinctKeys pairs → HasDistinctKeys (with_pair key x pairs) }
+{}
+
+/// A text is a part of another exactly where it stands between two others in it.
+pub fn parts_stand_within()
+    ensures { (part text : List ℕ) → IsTrue (is_part part text) ↔ StandsIn part text }
+{}
