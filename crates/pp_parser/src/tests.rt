@@ -93,6 +93,9 @@ fn tokens_that_are_nested_too_deep(rt: HostRuntime) -> Result<(), Fail> {
 
 /// How many items a text has, or its refusal.
 fn parsed(alloc: Global, text: &str) -> Result<String, Fail> {
+    if text.len() > 1000 {
+        return Err(Fail::from("a long text"));
+    }
     let tokens = match lex(alloc, text.as_bytes()) {
         Ok(tokens) => tokens,
         Err(Fault::Refused(refusal)) => return line_of(alloc, &refusal),
