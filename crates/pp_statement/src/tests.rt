@@ -140,27 +140,65 @@ fn other_tokens_begin_no_statement(rt: HostRuntime) -> Result<(), Fail> {
     Ok(())
 }
 
+/// What a search is, and the number of its parts.
+fn kind_of(search: &Search) -> (&'static str, usize) {
+    match search {
+        Search::Or(all) => ("or", all.len()),
+        Search::And(all) => ("and", all.len()),
+        Search::Equal(..) => ("equal", 0),
+        Search::Differ(..) => ("differ", 0),
+    }
+}
+
+fn kind_of_last(all: &[Search]) -> (&'static str, usize) {
+    match all.last() {
+        Some(last) => kind_of(last),
+        None => ("none", 0),
+    }
+}
+
+/// A search, and the last part of it.
+fn with_last(search: &Search) -> (&'static str, usize, &'static str, usize) {
+    let (what, parts) = kind_of(search);
+    let (last, others) = match search {
+        Search::Or(all) => kind_of_last(all.as_slice()),
+        Search::And(all) => kind_of_last(all.as_slice()),
+        _ => ("none", 0),
+    };
+    (what, parts, last, others)
+}
+
+fn first_search(sides: &[Operand]) -> Option<&Search> {
+    match sides.first() {
+        Some(Operand::Collect { search, .. }) => search.as_ref(),
+        _ => None,
+    }
+}
+
+fn search_of(stmt: &Stmt) -> Option<&Search> {
+    match stmt {
+        Stmt::Chain { sides, .. } => first_search(sides.as_slice()),
+        _ => None,
+    }
+}
+
+fn searched(alloc: Global, text: &str) -> Result<(&'static str, usize, &'static str, usize), Fail> {
+    let tokens = tokens_of(alloc, text)?;
+    let Ok((stmt, _)) = parse_statement(alloc, 1, &tokens, 0) else {
+        return Err(Fail::from("no statement"));
+    };
+    match search_of(&stmt) {
+        Some(search) => Ok(with_last(search)),
+        None => Err(Fail::from("no search")),
+    }
+}
+
 #[test]
 fn and_binds_tighter_than_or(rt: HostRuntime) -> Result<(), Fail> {
-    let tokens = tokens_of(rt.alloc(), "File <| a == 1 or b == 2 and c == 3 |>")?;
-    let (stmt, _) = parse_statement(rt.alloc(), 1, &tokens, 0)?;
-    let Stmt::Chain { sides, .. } = &stmt else {
-        return Err(Fail::from("a chain"));
-    };
-    let Some(
-        Operand::Collect {
-            search: Some(Search::Or(either)),
-            ..
-        },
-    ) = sides.as_slice().first()
-    else {
-        return Err(Fail::from("a search with or"));
-    };
-    let [Search::Equal(name, _), Search::And(both)] = either.as_slice() else {
-        return Err(Fail::from("a comparison and a conjunction"));
-    };
-    assert_eq!(rt; name.as_str(), "a");
-    assert_eq!(rt; both.len(), 2);
+    let found = searched(rt.alloc(), "File <| a == 1 or b == 2 and c == 3 |>")?;
+    assert_eq!(rt; found, ("or", 2, "and", 2));
+    let found = searched(rt.alloc(), "File <| (a == 1 or b == 2) and c != 3 |>")?;
+    assert_eq!(rt; found, ("and", 2, "differ", 0));
     Ok(())
 }
 
