@@ -258,3 +258,31 @@ fn proof_texts_are_read(rt: HostRuntime) -> Result<(), Fail> {
     }
     Ok(())
 }
+
+const PIGEONS_TEXT: &str = "proofs 1
+p cnf 6 9
+1 2 0
+3 4 0
+5 6 0
+-1 -3 0
+-1 -5 0
+-3 -5 0
+-2 -4 0
+-2 -6 0
+-4 -6 0
+log 2
+-1 0 9 3 -6 2 -4 4 3 5 5 0
+0 6 3 -5 2 -3 8 6 7 4 1 -2 10 1 0
+";
+
+#[test]
+fn the_text_of_three_pigeons_is_read(rt: HostRuntime) -> Result<(), Fail> {
+    let found = read_and_check(&rt, PIGEONS_TEXT.as_bytes())?;
+    assert_eq!(rt; found.0, 0);
+    assert_eq!(rt; found.1.as_str(), "ok");
+    let text = PIGEONS_TEXT.replace(rt.alloc(), "\n-1 0 9", "\n0 9")?;
+    let found = read_and_check(&rt, text.as_str().as_bytes())?;
+    assert_eq!(rt; found.0, 1);
+    assert_eq!(rt; found.1.as_str(), "resolvent of 1");
+    Ok(())
+}
