@@ -7,14 +7,15 @@ ghost use Rattle.pp_value.specs.declared.value.Value.{Value as V};
 ghost use Rattle.pp_eval.specs.Facts.{fact_of, facts_of, pairs_of, AreFacts};
 
 use pp_value::{Pairs, Value};
-use rh_base::{Fault, NoMemory, Refusal, Seq, Text};
+use rh_base::{Fault, NoMemory, Seq, Text};
 use serde_json::{Category, Map, Value as Json};
 use std::alloc::Global;
 
-/// The value of what JSON has.
-#[cycle(convert)]
+/// The value of what JSON has: whole numbers of 64 bits, texts, truth values, null as undef, arrays and
+/// objects, whose pairs come in the byte order of their keys; other numbers are opaque.
+#[cycle(value_of_json)]
 #[tactic(auto, using(crate::proofs::FactLaws::of_array, crate::proofs::FactLaws::of_object))]
-fn convert(alloc: Global, json: &Json) -> Result<Value, NoMemory>
+pub fn value_of_json(alloc: Global, json: &Json) -> Result<Value, NoMemory>
     ensures { IfOk result (λ x. x ≡ fact_of (view json.now)) }
 {
     match json {
@@ -29,32 +30,33 @@ fn convert(alloc: Global, json: &Json) -> Result<Value, NoMemory>
             Ok(Value::Str(Text::from_string(text)))
         }
         Json::Array(items) => {
-            let values = convert_all(alloc, items)?;
+            let values = values_of_json(alloc, items)?;
             Ok(Value::List(Seq::from_vec(values)))
         }
-        Json::Object(members) => Ok(Value::Map(convert_members(alloc, members)?)),
+        Json::Object(members) => Ok(Value::Map(pairs_of_json(alloc, members)?)),
     }
 }
 
-#[cycle(convert)]
-fn convert_all(alloc: Global, items: &Vec<Json>) -> Result<Vec<Value>, NoMemory>
+#[cycle(value_of_json)]
+fn values_of_json(alloc: Global, items: &Vec<Json>) -> Result<Vec<Value>, NoMemory>
     ensures { IfOk result (λ values. values.items ≡ facts_of (items_view items.now.items)) }
 {
     let mut values = Vec::new(alloc);
     for item in items {
-        values.push(convert(alloc, item)?)?;
+        values.push(value_of_json(alloc, item)?)?;
     }
     Ok(values)
 }
 
-#[cycle(convert)]
-fn convert_members(alloc: Global, members: &Map<String, Json>) -> Result<Pairs, NoMemory>
+/// The pairs of a JSON object.
+#[cycle(value_of_json)]
+pub fn pairs_of_json(alloc: Global, members: &Map<String, Json>) -> Result<Pairs, NoMemory>
     ensures { IfOk result (λ p. p.pairs ≡ pairs_of (members_view members.now.entries)) }
 {
     let mut pairs = Vec::new(alloc);
     for (key, member) in members.iter() {
         let name = Text::from_string(String::from_str(alloc, key.as_str())?);
-        let value = convert(alloc, member)?;
+        let value = value_of_json(alloc, member)?;
         pairs.push((name, value))?;
     }
     Ok(Pairs::from_vec(pairs))
@@ -71,12 +73,12 @@ pub fn facts_from_json(alloc: Global, bytes: &[u8]) -> Result<Value, Fault>
             if e.classify() == Category::Memory {
                 return Err(Fault::Memory(NoMemory));
             }
-            return Err(Fault::Refused(Refusal::new(alloc, 60, 0, "facts")?));
+            return Err(Fault::refused(alloc, 60, 0, "facts"));
         }
     };
     let Json::Object(members) = &json else {
-        return Err(Fault::Refused(Refusal::new(alloc, 60, 0, "facts")?));
+        return Err(Fault::refused(alloc, 60, 0, "facts"));
     };
-    let pairs = convert_members(alloc, members)?;
+    let pairs = pairs_of_json(alloc, members)?;
     Ok(Value::Map(pairs))
 }

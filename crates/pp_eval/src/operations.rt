@@ -6,8 +6,8 @@ ghost use Rattle.pp_eval.specs.Operations.{as_value, turned, operation, truth_of
 
 use pp_syntax::Op;
 use pp_value::{Misfit, Value, ValueFault, add, equal, less, multiply, size, subtract, within};
+use rh_base::Fault;
 use rh_base::limits::VALUE_SIZE;
-use rh_base::{Fault, Refusal};
 use std::alloc::Global;
 
 /// The truth of a value; an opaque one has none.
@@ -47,12 +47,12 @@ fn answered(alloc: Global, at: u32, outcome: Result<Value, Misfit>) -> Result<Va
     match outcome {
         Ok(value) => {
             if size(&value) > VALUE_SIZE {
-                return Err(Fault::Refused(Refusal::new(alloc, 32, at, "value")?));
+                return Err(Fault::refused(alloc, 32, at, "value"));
             }
             Ok(value)
         }
-        Err(Misfit::Operand) => Err(Fault::Refused(Refusal::new(alloc, 29, at, "operand")?)),
-        Err(Misfit::Range) => Err(Fault::Refused(Refusal::new(alloc, 33, at, "integer")?)),
+        Err(Misfit::Operand) => Err(Fault::refused(alloc, 29, at, "operand")),
+        Err(Misfit::Range) => Err(Fault::refused(alloc, 33, at, "integer")),
     }
 }
 
@@ -62,9 +62,9 @@ fn summed(alloc: Global, at: u32, a: &Value, b: &Value) -> Result<Value, Fault>
 {
     match add(alloc, a, b) {
         Ok(value) => Ok(value),
-        Err(ValueFault::Operand) => Err(Fault::Refused(Refusal::new(alloc, 29, at, "operand")?)),
-        Err(ValueFault::Range) => Err(Fault::Refused(Refusal::new(alloc, 33, at, "integer")?)),
-        Err(ValueFault::Large) => Err(Fault::Refused(Refusal::new(alloc, 32, at, "value")?)),
+        Err(ValueFault::Operand) => Err(Fault::refused(alloc, 29, at, "operand")),
+        Err(ValueFault::Range) => Err(Fault::refused(alloc, 33, at, "integer")),
+        Err(ValueFault::Large) => Err(Fault::refused(alloc, 32, at, "value")),
         Err(ValueFault::Memory(m)) => Err(Fault::Memory(m)),
     }
 }

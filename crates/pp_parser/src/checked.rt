@@ -1,5 +1,5 @@
 ghost use Rattle.std.specs.Prelude.{OnOk, IfErr};
-ghost use Rattle.rh_base.specs.Refused.{IfRefused, IsRefusal};
+ghost use Rattle.rh_base.specs.Refused.{IfRefused};
 ghost use Rattle.pp_syntax.specs.Lexing.{told, lexeme_of};
 ghost use Rattle.pp_syntax.specs.LeftOut.{IsNowhere, IsLeftOut};
 ghost use Rattle.pp_syntax.specs.Depth.{IsTooDeep};
@@ -8,17 +8,8 @@ ghost use Rattle.pp_parser.specs.Refusing.{IsCheckRefusal};
 use crate::depth::first_too_deep;
 use crate::left_out::first_left_out;
 use pp_syntax::Token;
-use rh_base::{Fault, Refusal};
+use rh_base::Fault;
 use std::alloc::Global;
-
-fn refused(alloc: Global, number: u16, at: u32, name: &str) -> Fault
-    ensures { IfRefused result (λ r. IsRefusal number at name.now r) }
-{
-    match Refusal::new(alloc, number, at, name) {
-        Ok(refusal) => Fault::Refused(refusal),
-        Err(m) => Fault::Memory(m),
-    }
-}
 
 /// Looks for tokens that are left out, and then for those that are nested too deep.
 pub fn check(alloc: Global, tokens: &[Token<'_>]) -> Result<(), Fault>
@@ -28,10 +19,10 @@ pub fn check(alloc: Global, tokens: &[Token<'_>]) -> Result<(), Fault>
     ensures refused { IfErr result (λ e. IfRefused e (IsCheckRefusal (told tokens.now))) }
 {
     if let Some(t) = first_left_out(tokens) {
-        return Err(refused(alloc, 14, t.at, t.text));
+        return Err(Fault::refused(alloc, 14, t.at, t.text));
     }
     if let Some(t) = first_too_deep(alloc, tokens)? {
-        return Err(refused(alloc, 13, t.at, "nesting"));
+        return Err(Fault::refused(alloc, 13, t.at, "nesting"));
     }
     Ok(())
 }

@@ -1,5 +1,5 @@
-ghost use Rattle.std.specs.Prelude.{◌≡◌, OnOk, IfOk, IfErr, MatchResult, codes, ℕ};
-ghost use Rattle.rh_base.specs.Refused.{IfRefused, IsRefusal};
+ghost use Rattle.std.specs.Prelude.{◌≡◌, OnOk, IfOk, IfErr, MatchResult, ℕ};
+ghost use Rattle.rh_base.specs.Refused.{IfRefused};
 ghost use Rattle.pp_syntax.specs.declared.tree.Manifest.{Manifest as Tree};
 ghost use Rattle.pp_syntax.specs.Lexing.{told};
 ghost use Rattle.pp_syntax.specs.Statements.{IsManifest};
@@ -11,7 +11,7 @@ use crate::checked::check;
 use crate::items::items;
 use pp_expression::Misread;
 use pp_syntax::{Manifest, Token};
-use rh_base::{Fault, Refusal};
+use rh_base::Fault;
 use std::alloc::Global;
 
 /// Where the token at this index begins, or where the last one ends.
@@ -31,16 +31,12 @@ fn place_at(tokens: &[Token<'_>], index: usize) -> u32 {
 fn syntax(alloc: Global, tokens: &[Token<'_>], index: usize) -> Fault
     ensures { IfRefused result RefusesSyntax }
 {
-    let at = place_at(tokens, index);
-    match Refusal::new(alloc, 12, at, "syntax") {
-        Ok(refusal) => Fault::Refused(refusal),
-        Err(m) => Fault::Memory(m),
-    }
+    Fault::refused(alloc, 12, place_at(tokens, index), "syntax")
 }
 
 /// The tree that the tokens of a text spell. Tokens that the language leaves out are refused first,
-/// then those that are nested too deep; the place of a refusal of the syntax is the first token with
-/// which no tree goes on, or the end of the last token.
+/// then those that are nested too deep; the place of a refusal of the syntax is where reading stopped,
+/// at a token or at the end of the last one.
 pub fn parse(alloc: Global, tokens: &[Token<'_>]) -> Result<Manifest, Fault>
     requires lexed { AreLexed (told tokens.now) }
     ensures spelled { IfOk result (λ m. IsManifest m (told tokens.now)) }

@@ -10,7 +10,7 @@ ghost use Rattle.proof_check.specs.ProofWords.{words_of, IsProofText};
 ghost use Rattle.rh_base.specs.Refused.{IfRefused, IsRefusal};
 
 use cnf::{Clause, Cnf, Link, Lit, Log, Step};
-use rh_base::{Fault, NoMemory, Refusal, Seq};
+use rh_base::{Fault, NoMemory, Seq};
 use std::alloc::Global;
 use std::marker::Model;
 
@@ -435,7 +435,7 @@ pub fn read_proofs(alloc: Global, bytes: &[u8]) -> Result<Vec<(Cnf, Log)>, Fault
 {
     match proofs(alloc, bytes) {
         Ok(found) => Ok(found),
-        Err(Misread::Form) => Err(Fault::Refused(Refusal::new(alloc, 80, 0, "proof")?)),
+        Err(Misread::Form) => Err(Fault::refused(alloc, 80, 0, "proof")),
         Err(Misread::Memory(m)) => Err(Fault::Memory(m)),
     }
 }

@@ -1,7 +1,7 @@
 //! What is said of a manifest.
 
-ghost use Rattle.std.specs.Prelude.{◌≡◌, ◌↔◌, ◌<◌, ◌^◌, length, IsTrue, IfOk, IfErr, codes};
-ghost use Rattle.rh_base.specs.Refused.{IfRefused, IsRefusal};
+ghost use Rattle.std.specs.Prelude.{◌≡◌, ◌↔◌, ◌<◌, ◌^◌, length, IsTrue, IfOk, IfErr};
+ghost use Rattle.rh_base.specs.Refused.{IfRefused};
 ghost use Rattle.rehearsal.specs.Files.{MayBeManaged, ManagedPathIs, PathsAre};
 ghost use Rattle.rehearsal.specs.Judged.{report_of, IsParsed, IsWithin, IsReport, IsSourceRefusal, BreaksRule};
 
@@ -11,7 +11,7 @@ use fs_semantics::plain_files;
 use pp_parser::parse;
 use pp_syntax::{Manifest, lex};
 use rh_base::limits::RESOURCES;
-use rh_base::{Fault, NoMemory, Refusal, Seq, Text};
+use rh_base::{Fault, NoMemory, Seq, Text};
 use std::alloc::Global;
 
 fn report(alloc: Global, n: usize) -> Result<Text, NoMemory>
@@ -62,15 +62,6 @@ fn managed_paths(alloc: Global, blocks: &[Block]) -> Result<Option<Seq<Path>>, N
     Ok(Some(paths))
 }
 
-fn refusal(alloc: Global, number: u16, name: &str) -> Fault
-    ensures { IfRefused result (IsRefusal number 0 name.now) }
-{
-    match Refusal::new(alloc, number, 0, name) {
-        Ok(refusal) => Fault::Refused(refusal),
-        Err(m) => Fault::Memory(m),
-    }
-}
-
 /// The tree that a manifest spells.
 fn tree_of(alloc: Global, manifest: &[u8]) -> Result<Manifest, Fault>
     requires { length manifest.now < 2 ^ 32 }
@@ -89,10 +80,10 @@ fn blocks_of(alloc: Global, manifest: &[u8]) -> Result<Seq<Block>, Fault>
 {
     let tree = tree_of(alloc, manifest)?;
     let Some(blocks) = file_blocks(alloc, &tree)? else {
-        return Err(refusal(alloc, 15, "form"));
+        return Err(Fault::refused(alloc, 15, 0, "form"));
     };
     if blocks.len() > RESOURCES as usize {
-        return Err(refusal(alloc, 32, "resources"));
+        return Err(Fault::refused(alloc, 32, 0, "resources"));
     }
     Ok(blocks)
 }
@@ -106,10 +97,10 @@ pub fn judged(alloc: Global, manifest: &[u8]) -> Result<Text, Fault>
     plain_files();
     let blocks = blocks_of(alloc, manifest)?;
     let Some(paths) = managed_paths(alloc, blocks.as_slice())? else {
-        return Err(refusal(alloc, 15, "path"));
+        return Err(Fault::refused(alloc, 15, 0, "path"));
     };
     if !are_apart(paths.as_slice()) {
-        return Err(refusal(alloc, 15, "apart"));
+        return Err(Fault::refused(alloc, 15, 0, "apart"));
     }
     Ok(report(alloc, paths.len())?)
 }

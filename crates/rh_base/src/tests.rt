@@ -45,7 +45,8 @@ fn boxes_and_faults_hold_what_they_are_made_of(rt: HostRuntime) -> Result<(), Fa
     assert_eq!(rt; refusal.number, 15);
     assert_eq!(rt; refusal.at, 3);
     assert_eq!(rt; refusal.name.as_str(), "form");
-    let fault = Fault::Refused(refusal);
+    let fault = Fault::refused(alloc, 15, 3, "form");
+    assert!(rt; matches!(&fault, Fault::Refused(r) if r.number == 15 && r.at == 3));
     assert_eq!(rt;
         format!(in alloc; "{fault}")?.as_str(),
         "the input is refused"

@@ -1,5 +1,5 @@
-ghost use Rattle.std.specs.Prelude.{◌≡◌, ◌<◌, ◌-◌, ◌^◌, List, [], ◌∷◌, ◌++◌, length, take, OnOk, IfOk, IfErr, MatchResult, IsUtf8, ◌⊎◌, ℕ, codes};
-ghost use Rattle.rh_base.specs.Refused.{IfRefused, IsRefusal};
+ghost use Rattle.std.specs.Prelude.{◌≡◌, ◌<◌, ◌-◌, ◌^◌, List, [], ◌∷◌, ◌++◌, length, take, OnOk, IfOk, IfErr, MatchResult, IsUtf8, ◌⊎◌, ℕ};
+ghost use Rattle.rh_base.specs.Refused.{IfRefused};
 ghost use Rattle.pp_syntax.specs.Tokens.{Lexeme};
 ghost use Rattle.pp_syntax.specs.Spelling.{Spells, FailsAt};
 ghost use Rattle.pp_syntax.specs.Lexing.{told, Cut, AreSlices, InOrder, IsTextRefusal, IsLexicalRefusal};
@@ -17,26 +17,8 @@ mod signs;
 use crate::lexer::opening::Stack;
 use crate::lexer::place::Place;
 use crate::token::{Kind, Token};
-use rh_base::{Fault, NoMemory, Refusal};
+use rh_base::{Fault, NoMemory};
 use std::alloc::Global;
-
-fn lexical(alloc: Global, at: u32) -> Fault
-    ensures { IfRefused result (λ r. IsRefusal 11 at (codes "lexical") r) }
-{
-    match Refusal::new(alloc, 11, at, "lexical") {
-        Ok(refusal) => Fault::Refused(refusal),
-        Err(m) => Fault::Memory(m),
-    }
-}
-
-fn not_text(alloc: Global, at: u32) -> Fault
-    ensures { IfRefused result (λ r. IsRefusal 10 at (codes "utf8") r) }
-{
-    match Refusal::new(alloc, 10, at, "utf8") {
-        Ok(refusal) => Fault::Refused(refusal),
-        Err(m) => Fault::Memory(m),
-    }
-}
 
 /// A text, cut before what is left.
 fn cut<'t>(text: &'t str, behind: &[u8]) -> (&'t str, &'t str)
@@ -79,12 +61,12 @@ fn tokens_of(alloc: Global, source: &str) -> Result<Vec<Token<'_>>, Fault>
             place.pass(kind, text.as_bytes())?;
             rest = more;
         } else {
-            return Err(lexical(alloc, place.at));
+            return Err(Fault::refused(alloc, 11, place.at, "lexical"));
         }
     }
     match place.opened.unclosed() {
         None => Ok(tokens),
-        Some(at) => Err(lexical(alloc, at)),
+        Some(at) => Err(Fault::refused(alloc, 11, at, "lexical")),
     }
 }
 
@@ -103,7 +85,7 @@ pub fn lex(alloc: Global, text: &[u8]) -> Result<Vec<Token<'_>>, Fault>
 {
     match str::from_utf8(text) {
         Ok(source) => tokens_of(alloc, source),
-        Err(e) => Err(not_text(alloc, e.valid_up_to() as u32)),
+        Err(e) => Err(Fault::refused(alloc, 10, e.valid_up_to() as u32, "utf8")),
     }
 }
 

@@ -1,4 +1,4 @@
-use Rattle.std.proofs.Common.{◌≡◌, ◌/◌, ◌++◌, length, take, Some, arith, ap, rules}
+use Rattle.std.proofs.Common.{◌/◌, length, rules}
 use Rattle.rh_base.proofs.memory.sinks.MemorySinkSink.put.Goals as goal
 
 -- the front that was appended is the first half
