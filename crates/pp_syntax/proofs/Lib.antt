@@ -17,3 +17,4 @@ pub mod Readings
 pub mod Seams
 pub mod Lexed
 pub mod Slices
+pub mod Apart

@@ -9,4 +9,5 @@ pub mod TokenValues
 pub mod Derivation
 pub mod Statements
 pub mod LeftOut
+pub mod SetApart
 pub mod Depth

@@ -1,7 +1,12 @@
-ghost use Rattle.std.specs.Prelude.{◌≡◌, ◌<◌, ◌-◌, ◌^◌, List, [], ◌∷◌, ◌++◌, length, take, OnOk, IfOk, IfErr, MatchResult, IsUtf8, ◌⊎◌, ℕ};
+ghost use Rattle.std.specs.Prelude.{◌≡◌, ◌<◌, ◌-◌, ◌^◌, List, [], ◌∷◌, ◌++◌, length, take, OnOk, IfOk, IfErr, MatchResult, IsUtf8, ◌⊎◌, ℕ, true, false, codes};
 ghost use Rattle.rh_base.specs.Refused.{IfRefused};
-ghost use Rattle.pp_syntax.specs.Tokens.{Lexeme};
-ghost use Rattle.pp_syntax.specs.Spelling.{Spells, FailsAt};
+ghost use Rattle.pp_syntax.specs.declared.token.Kind.{Kind as Sort};
+ghost use Rattle.pp_syntax.specs.declared.token.Kind.TheVariants as kind;
+ghost use Rattle.pp_syntax.specs.declared.lexer.place.Place.{Place as Opened};
+ghost use Rattle.pp_syntax.specs.Opened.{in_quotes};
+ghost use Rattle.pp_syntax.specs.Tokens.{Lexeme, Spelling};
+ghost use Rattle.pp_syntax.specs.Spelling.{Spells, FailsAt, NumberStands, kind_at, TokenAt};
+ghost use Rattle.pp_syntax.specs.SetApart.{IsSetApart};
 ghost use Rattle.pp_syntax.specs.Lexing.{told, Cut, AreSlices, InOrder, IsTextRefusal, IsLexicalRefusal};
 
 mod bytes;
@@ -95,6 +100,16 @@ pub fn one_spelling()
     ensures tokens { (text : List ℕ) (ts us : List Lexeme) → Spells text ts → Spells text us → ts ≡ us }
     ensures either { (text : List ℕ) (ts : List Lexeme) (at : ℕ) → Spells text ts → FailsAt text at → ⊥ }
     ensures place { (text : List ℕ) (m n : ℕ) → FailsAt text m → FailsAt text n → m ≡ n }
+{}
+
+/// What stands as a token before a given rest: a spelling that is set apart; a `"`, a `}` and a `${` before
+/// whatever there is.
+pub fn set_apart_tokens_stand()
+    ensures spelled { (p : Opened) (k : Sort) (s rest : List ℕ) → in_quotes p.opened ≡ false → Spelling k s → NumberStands k s rest → IsSetApart rest → TokenAt p (kind_at p k s) s rest }
+    ensures quote { (p : Opened) (rest : List ℕ) → in_quotes p.opened ≡ false → TokenAt p kind.DqOpen (codes "\"") rest }
+    ensures brace { (p : Opened) (rest : List ℕ) → in_quotes p.opened ≡ false → TokenAt p (kind_at p kind.Sign (codes "}")) (codes "}") rest }
+    ensures hole { (p : Opened) (rest : List ℕ) → in_quotes p.opened ≡ true → TokenAt p kind.Hole (codes "${") rest }
+    ensures close { (p : Opened) (rest : List ℕ) → in_quotes p.opened ≡ true → TokenAt p kind.DqClose (codes "\"") rest }
 {}
 
 #[cfg(test)]

@@ -44,8 +44,8 @@ pub returns-in_default-token-clause-refused : goal.returns-in_default-token-clau
 returns-in_default-token-clause-refused c =
     let none : gap_at c.loop-rest.place c.loop-rest.rest.now ≡ None = ap (gap_at c.loop-rest.place) (sym c.as_bytes.ensures.value) ∙ sym c.in_default.ensures in
     let no_token : token_at c.loop-rest.place c.loop-rest.rest.now ≡ None = ap (token_at c.loop-rest.place) (sym c.as_bytes-in_default.ensures.value) ∙ sym c.in_default-token.ensures in
-    lexical_refusal c.args.source.now c.loop-rest.place.at c.lexical.result
-    (stuck_at c.args.source.now _ c.loop-rest.place c.loop-rest.rest.now (some_text c.loop-rest.rest.now (sym c.is_empty.ensures ∙ c.loop-rest-test.true)) none no_token c.loop-rest.invariant.reads) c.lexical.ensures
+    lexical_refusal c.args.source.now c.loop-rest.place.at c.refused.result
+    (stuck_at c.args.source.now _ c.loop-rest.place c.loop-rest.rest.now (some_text c.loop-rest.rest.now (sym c.is_empty.ensures ∙ c.loop-rest-test.true)) none no_token c.loop-rest.invariant.reads) c.refused.ensures
 
 pub returns-in-None-clause-spelled : goal.returns-in-None-clause-spelled
 returns-in-None-clause-spelled c =
@@ -53,6 +53,6 @@ returns-in-None-clause-spelled c =
 
 pub returns-clause-refused : goal.returns-clause-refused
 returns-clause-refused c =
-    lexical_refusal c.args.source.now c.in-Some-unclosed.at c.lexical-in-Some-unclosed.result
+    lexical_refusal c.args.source.now c.in-Some-unclosed.at c.refused-in-Some-unclosed.result
     (unclosed_text c.args.source.now _ c.loop-rest.place c.loop-rest.rest.now c.in-Some-unclosed.at (empty_text c.loop-rest.rest.now (sym c.is_empty.ensures ∙ c.loop-rest-test.false)) c.loop-rest.invariant.reads (sym c.in-Some-unclosed.ensures))
-    c.lexical-in-Some-unclosed.ensures
+    c.refused-in-Some-unclosed.ensures
