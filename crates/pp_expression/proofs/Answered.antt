@@ -7,7 +7,7 @@ use Rattle.pp_syntax.specs.Derivation.{IsExprAt, PostfixOf, ReferenceOf, StringO
 use Rattle.pp_expression.specs.declared.misread.Misread.{Misread}
 use Rattle.pp_expression.specs.declared.misread.Misread.TheVariants as misread
 use Rattle.pp_expression.specs.Marks.{Found}
-use Rattle.pp_expression.specs.Parsed.{Begins, NumbersFit, NothingGoesOn, NoSuffixGoesOn, Anything, IsSpelled, IsParsed}
+use Rattle.pp_expression.specs.Parsed.{NumbersFit, NothingGoesOn, NoSuffixGoesOn, Anything, IsSpelled, IsParsed}
 use Rattle.pp_expression.specs.Reading.{Gives, expr_at, postfix_with, reference_with, string_with}
 use Rattle.pp_expression.proofs.Finding.{Finds}
 use Rattle.pp_expression.proofs.Found.{reference_found}

@@ -1,4 +1,4 @@
-use Rattle.std.proofs.Common.{◌≡◌, ◌++◌, sym, ap, ◌∙◌, rules, string_bytes}
+use Rattle.std.proofs.Common.{◌++◌, sym, ap, ◌∙◌, rules, string_bytes}
 use Rattle.std.specs.Prelude.{encode_utf8}
 use Rattle.pp_expression.specs.Values.{dq, with_bytes}
 use Rattle.pp_expression.proofs.Digits.{dq_escape}
