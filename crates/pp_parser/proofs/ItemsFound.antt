@@ -1,19 +1,16 @@
 -- What is read is spelled: parameters, definitions, and whole manifests.
-use Rattle.std.proofs.Common.{◌≡◌, ◌≢◌, inl, inr, ℕ, zero, suc, ◌+◌, Bool, true, false, cond, List, [], ◌∷◌, ◌++◌, length, Option, Some, None, refl, sym, ap, subst, ◌∙◌, append_assoc}
+use Rattle.std.proofs.Common.{◌≡◌, ◌≢◌, inl, inr, ℕ, ◌+◌, Bool, true, false, cond, List, [], ◌∷◌, ◌++◌, length, Option, Some, None, refl, sym, ap, subst, ◌∙◌}
 use Rattle.std.specs.Prelude.{codes}
 use Rattle.std.specs.Str.{bytes_eq}
-use Rattle.std.proofs.lemmas.Slice.Eq.{bytes_eq-Decides}
 use Rattle.pp_syntax.specs.declared.token.Kind.{Kind}
 use Rattle.pp_syntax.specs.declared.token.Kind.TheVariants as kind
 use Rattle.pp_syntax.specs.declared.tree.Expr.{Expr}
 use Rattle.pp_syntax.specs.declared.tree.Form.{Form}
 use Rattle.pp_syntax.specs.declared.tree.Form.TheVariants as form
 use Rattle.pp_syntax.specs.declared.tree.Form.TheBlock as block
-use Rattle.pp_syntax.specs.declared.tree.Attr.{Attr}
 use Rattle.pp_syntax.specs.declared.tree.Stmt.{Stmt}
 use Rattle.pp_syntax.specs.declared.tree.TypeName.{TypeName}
 use Rattle.pp_syntax.specs.declared.tree.Param.{Param}
-use Rattle.pp_syntax.specs.declared.tree.Item.{Item}
 use Rattle.pp_syntax.specs.declared.tree.Item.TheVariants as item
 use Rattle.pp_syntax.specs.Tokens.{Lexeme}
 use Rattle.pp_syntax.specs.Phrases as phrases
@@ -21,19 +18,18 @@ use Rattle.pp_syntax.specs.Phrases.{◌then◌, Nothing, Maybe, Sign, Keyword, L
 use Rattle.pp_syntax.specs.Derivation.{StringOf}
 use Rattle.pp_syntax.specs.Statements.{AttrOf, InBraces, BlockOf, IsType, MaybeType, VariableOf, PresetOf, ParamOf, ParamsOf, ParentOf, NodeNameOf, ItemOf, Items}
 use Rattle.pp_syntax.specs.Statements as grammar
-use Rattle.pp_expression.specs.Marks.{Found, front_of, mark}
+use Rattle.pp_expression.specs.Marks.{mark}
 use Rattle.pp_expression.specs.Values.{◌>>=◌}
 use Rattle.pp_expression.specs.Parsed.{Begins}
 use Rattle.pp_expression.specs.Reading.{string_with}
-use Rattle.pp_expression.proofs.Tokens.{bind_some, joins, maps, marked}
-use Rattle.pp_expression.proofs.Finding.{Finds, nothing, maybe_items_found}
-use Rattle.pp_statement.specs.Combining.{Reader, both, made, behind, begins, many, listed}
+use Rattle.pp_expression.proofs.Tokens.{bind_some, maps, marked}
+use Rattle.pp_expression.proofs.Finding.{Finds, maybe_items_found}
+use Rattle.pp_statement.specs.Combining.{Reader, both, behind, begins, listed}
 use Rattle.pp_statement.specs.Marks.{taken, variable_by, ref_by}
 use Rattle.pp_statement.specs.Reading.{attributes_with, block_with}
 use Rattle.pp_statement.proofs.Combining.{Spells, both_found, behind_found, placed_found, first_token, some_token, taken_found, many_found, ListedBy, listed_found, listed_some}
 use Rattle.pp_statement.proofs.Names.{variable_found, ref_found}
-use Rattle.pp_parser.specs.TypeReading.{optional, shaped}
-use Rattle.pp_parser.specs.ItemReading.{begins_type, param_of, maybe_type, preset_with, param_with, params_in, params_with, word_by, parent_with, class_of, class_with, define_of, define_with, text_of, text_name, default_name, word_name, node_name_by, node_name_of, node_name_with, unopened, node_names_with, node_of, node_with, defaults_of, defaults_with, plain_with, class_or_plain, keyed_with, defaults_or_plain, item_by, item_of, item_with, has_token, items_with}
+use Rattle.pp_parser.specs.ItemReading.{begins_type, param_of, maybe_type, preset_with, param_with, params_in, params_with, word_by, parent_with, class_of, class_with, define_of, define_with, text_of, text_name, default_name, word_name, node_name_by, node_name_with, unopened, node_names_with, node_of, node_with, defaults_of, defaults_with, plain_with, class_or_plain, keyed_with, defaults_or_plain, item_by, item_with, has_token, items_with}
 use Rattle.pp_parser.proofs.TypesFound.{Perhaps, optional_found, shaped_found}
 
 word_is : (k : Kind) (s x : List ℕ) (at : ℕ) → word_by k s ≡ Some x → phrases.Some kind.Word x (record { kind = k; text = s; at = at } ∷ [])

@@ -1,5 +1,5 @@
 -- How types, texts and statements begin, so that items are told apart.
-use Rattle.std.proofs.Common.{◌≡◌, ◌≢◌, ℕ, zero, suc, Bool, true, false, List, [], ◌∷◌, ◌++◌, Option, Some, None, refl, sym, ap, subst, ◌∙◌}
+use Rattle.std.proofs.Common.{◌≡◌, ◌≢◌, ℕ, zero, suc, true, false, List, [], ◌∷◌, ◌++◌, None, refl, sym, ap, subst, ◌∙◌}
 use Rattle.std.specs.Prelude.{codes}
 use Rattle.pp_syntax.specs.declared.token.Kind.TheVariants as kind
 use Rattle.pp_syntax.specs.declared.tree.Expr.{Expr}
@@ -7,8 +7,6 @@ use Rattle.pp_syntax.specs.declared.tree.Operand.{Operand}
 use Rattle.pp_syntax.specs.declared.tree.Stmt.{Stmt}
 use Rattle.pp_syntax.specs.declared.tree.TypeName.{TypeName}
 use Rattle.pp_syntax.specs.Tokens.{Lexeme}
-use Rattle.pp_syntax.specs.Phrases as phrases
-use Rattle.pp_syntax.specs.Phrases.{◌then◌, Sign, Keyword, Listed}
 use Rattle.pp_syntax.specs.Derivation.{StringOf, ReferenceOf}
 use Rattle.pp_syntax.specs.Derivation as derive
 use Rattle.pp_syntax.specs.Statements.{BodiesOf, InBraces, OperandOf, MaybeSearch, StmtOf, IsType, IsStmtAt}

@@ -1,14 +1,12 @@
 -- What is spelled is read: parameters, definitions, and whole manifests.
-use Rattle.std.proofs.Common.{◌≡◌, ◌≢◌, inl, inr, ℕ, zero, suc, ◌+◌, ◌<◌, ◌≤◌, Bool, true, false, not, cond, List, [], ◌∷◌, ◌++◌, length, Option, Some, None, refl, sym, ap, subst, ◌∙◌, append_assoc, length-append, arith}
+use Rattle.std.proofs.Common.{◌≡◌, ◌≢◌, inl, inr, ℕ, zero, suc, ◌+◌, ◌<◌, true, false, cond, List, [], ◌∷◌, ◌++◌, length, Option, Some, None, refl, sym, ap, subst, ◌∙◌, append_assoc, length-append, arith}
 use Rattle.std.specs.Prelude.{codes}
 use Rattle.std.proofs.lemmas.List.{append-nil}
 use Rattle.pp_syntax.specs.declared.token.Kind.{Kind}
 use Rattle.pp_syntax.specs.declared.token.Kind.TheVariants as kind
 use Rattle.pp_syntax.specs.declared.tree.Expr.{Expr}
 use Rattle.pp_syntax.specs.declared.tree.Form.{Form}
-use Rattle.pp_syntax.specs.declared.tree.Form.TheVariants as form
 use Rattle.pp_syntax.specs.declared.tree.Attr.{Attr}
-use Rattle.pp_syntax.specs.declared.tree.Operand.{Operand}
 use Rattle.pp_syntax.specs.declared.tree.Stmt.{Stmt}
 use Rattle.pp_syntax.specs.declared.tree.TypeName.{TypeName}
 use Rattle.pp_syntax.specs.declared.tree.Param.{Param}
@@ -17,27 +15,25 @@ use Rattle.pp_syntax.specs.declared.tree.Item.TheVariants as item
 use Rattle.pp_syntax.specs.Tokens.{Lexeme}
 use Rattle.pp_syntax.specs.Phrases as phrases
 use Rattle.pp_syntax.specs.Phrases.{◌then◌, Nothing, Maybe, Sign, Keyword, Comma, Each, Listed, MaybeListed, place_of}
-use Rattle.pp_syntax.specs.Derivation.{StringOf, ReferenceOf}
-use Rattle.pp_syntax.specs.Derivation as derive
+use Rattle.pp_syntax.specs.Derivation.{StringOf}
 use Rattle.pp_syntax.specs.Statements.{AttrOf, InBraces, BlockOf, BodiesOf, OperandOf, StmtOf, IsType, MaybeType, MaybeSearch, VariableOf, PresetOf, ParamOf, ParamsOf, ParentOf, NodeNameOf, ItemOf, Items, Statements, word_of, Links}
 use Rattle.pp_syntax.specs.Statements as grammar
-use Rattle.pp_expression.specs.Marks.{Found, front_of, mark, reach}
+use Rattle.pp_expression.specs.Marks.{mark}
 use Rattle.pp_expression.specs.Values.{◌>>=◌}
 use Rattle.pp_expression.specs.Reading.{with_first, string_with, separator, separator_or_end, after_comma, more_items, items, items_or_end, maybe_items}
 use Rattle.pp_expression.proofs.Reading.{Fit, fits_first, fits_second}
 use Rattle.pp_expression.proofs.Listing.{sign, Closes}
-use Rattle.pp_statement.specs.Combining.{Reader, both, made, behind, begins, is_found, many, listed}
+use Rattle.pp_statement.specs.Combining.{Reader, both, behind, begins, is_found, listed}
 use Rattle.pp_statement.specs.Marks.{taken, variable_by, ref_by}
 use Rattle.pp_statement.specs.Parsed.{NothingFollows, BeginsStatement}
 use Rattle.pp_statement.specs.Reading.{attributes_with, block_with}
 use Rattle.pp_statement.proofs.Combining.{Spells, ListedBy}
 use Rattle.pp_statement.proofs.Found.{front_nil}
 use Rattle.pp_statement.proofs.Building.{Phrase, Always, ReadsBefore, split, mark_here, both_read, behind_read, placed_read, taken_read, many_read, listed_read}
-use Rattle.pp_statement.proofs.ReadBodies.{Quiet, by_token, by_first, token_solid}
+use Rattle.pp_statement.proofs.ReadBodies.{Quiet, by_first, token_solid}
 use Rattle.pp_statement.proofs.ReadChains.{paren_closes, placeless, place_is, first_of}
 use Rattle.pp_statement.proofs.Leads.{nothing_follows, leads_more, leads_some}
-use Rattle.pp_parser.specs.TypeReading.{optional, shaped}
-use Rattle.pp_parser.specs.ItemReading.{begins_type, param_of, maybe_type, preset_with, param_with, params_in, params_with, word_by, parent_with, class_of, class_with, define_of, define_with, text_of, text_name, default_name, word_name, node_name_with, unopened, node_names_with, node_of, node_with, defaults_of, defaults_with, plain_with, class_or_plain, keyed_with, defaults_or_plain, item_with, has_token, items_with}
+use Rattle.pp_parser.specs.ItemReading.{begins_type, param_of, maybe_type, preset_with, param_with, params_in, params_with, word_by, parent_with, class_of, class_with, define_of, define_with, text_of, text_name, node_name_with, unopened, node_names_with, node_of, node_with, defaults_of, defaults_with, plain_with, item_with, has_token, items_with}
 use Rattle.pp_parser.proofs.Within.{front_short, back_short, maybe_listed_within, first_within, second_within}
 use Rattle.pp_parser.proofs.TypesFound.{Perhaps}
 use Rattle.pp_parser.proofs.TypesRead.{Not, optional_read, shaped_read}

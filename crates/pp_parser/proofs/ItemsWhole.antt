@@ -1,5 +1,5 @@
 -- Items from the first token to the last.
-use Rattle.std.proofs.Common.{◌≡◌, ℕ, ◌<◌, List, [], ◌++◌, length, Some, sym, subst, ◌∙◌}
+use Rattle.std.proofs.Common.{◌≡◌, ℕ, ◌<◌, List, [], length, Some, sym, subst, ◌∙◌}
 use Rattle.std.proofs.lemmas.List.{append-nil}
 use Rattle.pp_syntax.specs.declared.tree.Item.{Item}
 use Rattle.pp_syntax.specs.Tokens.{Lexeme}
@@ -15,7 +15,6 @@ use Rattle.pp_expression.specs.Parsed.{NumbersFit}
 use Rattle.pp_statement.specs.Reading.{stmt_at}
 use Rattle.pp_statement.proofs.Answered.{statement_finds, block_finds, attributes_finds, statement_reads, block_reads, attributes_reads}
 use Rattle.pp_statement.proofs.Leads.{leads_at}
-use Rattle.pp_parser.proofs.Within.{Within}
 use Rattle.pp_parser.proofs.WithinStatements.{few_types}
 use Rattle.pp_parser.proofs.TypesRead.{type_at_read}
 use Rattle.pp_parser.proofs.ItemsLeads.{type_begins, string_begins, stays_at}

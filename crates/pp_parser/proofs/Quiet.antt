@@ -1,5 +1,5 @@
 -- Before what can't go on behind an expression no index stands.
-use Rattle.std.proofs.Common.{◌≡◌, ℕ, ◌≤◌, ◌+◌, Bool, true, false, cond, List, [], ◌∷◌, Option, Some, None, refl, sym, ap, ◌∙◌, arith}
+use Rattle.std.proofs.Common.{◌≡◌, ℕ, false, List, Some, None, refl, ap, arith}
 use Rattle.std.specs.Prelude.{codes}
 use Rattle.pp_syntax.specs.declared.token.Kind.TheVariants as kind
 use Rattle.pp_syntax.specs.Tokens.{Lexeme}

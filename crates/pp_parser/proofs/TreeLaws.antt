@@ -1,5 +1,5 @@
 -- From what reading items finds to what parsing answers.
-use Rattle.std.proofs.Common.{◌≡◌, inl, inr, ℕ, zero, suc, ◌+◌, ◌<◌, ◌^◌, Bool, true, false, cond, List, [], ◌∷◌, ◌++◌, length, map, Option, Some, None, refl, sym, ap, subst, ◌∙◌, arith}
+use Rattle.std.proofs.Common.{◌≡◌, inr, ℕ, zero, suc, ◌+◌, ◌<◌, ◌^◌, Bool, true, false, cond, List, [], ◌∷◌, length, Option, Some, None, refl, sym, ap, subst, ◌∙◌, arith}
 use Rattle.std.specs.Str.{bytes_eq}
 use Rattle.std.proofs.lemmas.List.{length-map}
 use Rattle.std.specs.Prelude.{codes}
@@ -16,20 +16,20 @@ use Rattle.pp_syntax.specs.declared.tree.Item.{Item}
 use Rattle.pp_syntax.specs.declared.tree.Manifest.{Manifest}
 use Rattle.pp_syntax.specs.Opened.{Ending, in_hole}
 use Rattle.pp_syntax.specs.Tokens.{Lexeme, int_value}
-use Rattle.pp_syntax.specs.Spelling.{Reads, ends, gap, token, stuck, Spells, NumberStands, kind_at, bracket_kind}
+use Rattle.pp_syntax.specs.Spelling.{Reads, ends, gap, token, stuck, NumberStands, kind_at, bracket_kind}
 use Rattle.pp_syntax.specs.Lexing.{told, lexeme_of}
 use Rattle.pp_syntax.specs.LeftOut.{IsNowhere, IsLeftOut}
 use Rattle.pp_syntax.specs.Depth.{IsTooDeep}
 use Rattle.pp_syntax.specs.Statements.{IsManifest}
 use Rattle.pp_expression.specs.Marks.{Found}
 use Rattle.pp_expression.specs.Values.{◌>>=◌}
-use Rattle.pp_expression.specs.Parsed.{NumberFits, NumbersFit}
+use Rattle.pp_expression.specs.Parsed.{NumbersFit}
 use Rattle.pp_expression.specs.Reading.{with_first, Fails}
 use Rattle.pp_expression.proofs.Tokens.{bind_some}
 use Rattle.pp_expression.proofs.Finding.{with_first_some}
 use Rattle.pp_statement.specs.Combining.{Reader, many}
 use Rattle.pp_parser.specs.ItemReading.{has_token, items_at}
-use Rattle.pp_parser.specs.Refusing.{AreLexed, RefusesSyntax, IsSyntaxRefusal, IsParseRefusal}
+use Rattle.pp_parser.specs.Refusing.{AreLexed, RefusesSyntax, IsParseRefusal}
 use Rattle.pp_parser.proofs.ItemsWhole.{items_at_found, items_at_read}
 use Rattle.pp_parser.proofs.WithinStatements.{bounded, unbounded}
 

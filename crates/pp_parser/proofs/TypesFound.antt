@@ -1,5 +1,5 @@
 -- What is read is spelled: types of parameters.
-use Rattle.std.proofs.Common.{◌≡◌, inl, inr, ℕ, zero, suc, Bool, true, false, cond, ◌^◌, ◌+◌, append_assoc, List, [], ◌∷◌, ◌++◌, length, Option, Some, None, refl, sym, ap, subst, ◌∙◌}
+use Rattle.std.proofs.Common.{◌≡◌, ℕ, zero, suc, Bool, true, false, cond, ◌^◌, ◌+◌, append_assoc, List, [], ◌∷◌, ◌++◌, length, Option, Some, None, refl, sym, ap, subst, ◌∙◌}
 use Rattle.std.specs.Prelude.{codes, ℤ, pos, nat_lt}
 use Rattle.std.specs.Str.{bytes_eq}
 use Rattle.std.proofs.lemmas.List.{append-nil}
@@ -9,15 +9,13 @@ use Rattle.pp_syntax.specs.declared.token.Kind.TheVariants as kind
 use Rattle.pp_syntax.specs.declared.tree.TypeName.{TypeName}
 use Rattle.pp_syntax.specs.declared.tree.TypeName.TheVariants as type
 use Rattle.pp_syntax.specs.Tokens.{Lexeme, int_value}
-use Rattle.pp_syntax.specs.TokenValues.{SqOf}
 use Rattle.pp_syntax.specs.Phrases as phrases
 use Rattle.pp_syntax.specs.Phrases.{◌then◌, Nothing, Sign, Tight, Listed}
 use Rattle.pp_syntax.specs.Statements.{TextBounds, NumberBounds, QuotedText, TypeOf, IsTypeAt}
 use Rattle.pp_syntax.specs.Statements as grammar
-use Rattle.pp_expression.specs.Marks.{Found, mark}
-use Rattle.pp_expression.specs.Values.{◌>>=◌, number, sq}
+use Rattle.pp_expression.specs.Values.{◌>>=◌, number}
 use Rattle.pp_expression.specs.Parsed.{Begins}
-use Rattle.pp_expression.proofs.Tokens.{bind_some, joins, maps}
+use Rattle.pp_expression.proofs.Tokens.{bind_some, maps}
 use Rattle.pp_expression.proofs.Finding.{Finds, nothing, items_found}
 use Rattle.pp_expression.proofs.Operands.{sq_found}
 use Rattle.pp_statement.specs.Combining.{Reader, both, behind, before, begins}

@@ -1,5 +1,5 @@
 -- Rules that agree on short lists of tokens make rules that agree on lists one token longer, where brackets stand around.
-use Rattle.std.proofs.Common.{◌≡◌, inl, inr, ℕ, zero, suc, ◌+◌, ◌<◌, List, [], ◌∷◌, ◌++◌, length, length-append, subst, sym, ap, arith, refl}
+use Rattle.std.proofs.Common.{◌≡◌, inl, inr, ℕ, zero, suc, ◌<◌, List, [], ◌∷◌, ◌++◌, length, length-append, subst, sym, ap, arith}
 use Rattle.std.specs.Prelude.{codes, Option}
 use Rattle.std.specs.Prelude as prelude
 use Rattle.pp_syntax.specs.declared.token.Kind.{Kind}

@@ -1,5 +1,5 @@
 -- The same of statements and items.
-use Rattle.std.proofs.Common.{◌≡◌, inl, inr, ℕ, zero, suc, ◌+◌, ◌<◌, Bool, true, false, List, [], ◌∷◌, ◌++◌, length, subst, arith}
+use Rattle.std.proofs.Common.{◌≡◌, ℕ, zero, suc, ◌+◌, List, [], ◌∷◌, length, subst, arith}
 use Rattle.std.specs.Prelude.{codes, Option}
 use Rattle.std.specs.Prelude as prelude
 use Rattle.pp_syntax.specs.declared.token.Kind.TheVariants as kind
@@ -18,9 +18,9 @@ use Rattle.pp_syntax.specs.declared.tree.Item.{Item}
 use Rattle.pp_syntax.specs.Tokens.{Lexeme}
 use Rattle.pp_syntax.specs.Phrases.{◌then◌, Maybe, Each, Separated, Listed, MaybeListed, Sign, Keyword, Tight, Loose}
 use Rattle.pp_syntax.specs.Phrases as phrase
-use Rattle.pp_syntax.specs.Derivation.{OptionOf, StringOf, PostfixOf, ReferenceOf, IsExpr, IsExprAt}
+use Rattle.pp_syntax.specs.Derivation.{OptionOf, PostfixOf, ReferenceOf, IsExpr, IsExprAt}
 use Rattle.pp_syntax.specs.Statements as rule
-use Rattle.pp_parser.proofs.Within.{Phrase, few_brackets, Within, then_within, second_within, first_within, weaker, a_token, some_token, token_then, maybe_within, each_within, separated_within, listed_within, maybe_listed_within, string_within, option_within, reference_within, postfix_within}
+use Rattle.pp_parser.proofs.Within.{Phrase, few_brackets, Within, then_within, second_within, first_within, weaker, some_token, token_then, maybe_within, each_within, separated_within, listed_within, maybe_listed_within, string_within, option_within, reference_within, postfix_within}
 
 -- ---- types of parameters
 

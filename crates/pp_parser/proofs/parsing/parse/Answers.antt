@@ -1,5 +1,4 @@
-use Rattle.std.proofs.Common.{◌≡◌, ◌+◌, length, drop, None, sym}
-use Rattle.rh_base.specs.Refused.{IfRefused}
+use Rattle.std.proofs.Common.{◌+◌, length, drop}
 use Rattle.pp_syntax.specs.Lexing.{told}
 use Rattle.pp_expression.specs.declared.misread.Misread.TheVariants.{Form}
 use Rattle.pp_parser.specs.ItemReading.{items_at}
