@@ -15,3 +15,6 @@ pub mod Searches
 pub mod Chains
 pub mod StatementLaws
 pub mod ItemLaws
+pub mod Walks
+pub mod ReadBack
+pub mod NoneLeftOut
