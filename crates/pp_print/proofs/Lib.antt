@@ -18,3 +18,4 @@ pub mod ItemLaws
 pub mod Walks
 pub mod ReadBack
 pub mod NoneLeftOut
+pub mod WordLists
