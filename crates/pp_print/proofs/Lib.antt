@@ -19,3 +19,5 @@ pub mod Walks
 pub mod ReadBack
 pub mod NoneLeftOut
 pub mod WordLists
+pub mod ExpressionWalks
+pub mod ReadAsWords

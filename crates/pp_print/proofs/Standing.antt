@@ -71,7 +71,7 @@ Sound _ s = Unit {0}
 abbrev pub AllSound : List Lexeme → Type 0
 AllSound ts = AllByRecursion (λ t. Sound t.kind t.text) ts
 
-sound_stands : (k : Kind) (s : List ℕ) → Sound k s → Stands k s
+pub sound_stands : (k : Kind) (s : List ℕ) → Sound k s → Stands k s
 sound_stands kind.Word s h = h.1
 sound_stands kind.Ref s h = tt
 sound_stands kind.Var s h = no_dash s h.0 h.1 h.2
