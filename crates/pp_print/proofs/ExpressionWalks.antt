@@ -19,7 +19,7 @@ use Rattle.pp_syntax.specs.Derivation.{Rule, Infix, Operation, Operations, Chain
 use Rattle.pp_syntax.specs.Derivation as rule
 use Rattle.pp_print.specs.declared.words.Word.{Word}
 use Rattle.pp_print.specs.Words.{word, sign, keyword, variable, has_dash, in_parens, in_tight, in_loose, in_braces, listed}
-use Rattle.pp_print.specs.Expressions.{Printed, operand, printed, printed_form, expr_words, at_level, indexed, option_by, operator, pair_by, choice_by, hole_by, operation_by, level_in}
+use Rattle.pp_print.specs.Expressions.{Printed, operand, printed, printed_form, expr_words, at_level, indexed, option_by, operator, pair_by, choice_by, hole_by, operation_by, level_in, refer_by}
 use Rattle.pp_print.proofs.Forms.{printed_int, printed_str, printed_var, printed_bool, printed_undef, printed_list, printed_map, printed_refer, printed_join, printed_chain, printed_prefix, printed_at, printed_select}
 use Rattle.pp_print.proofs.Postfixes.{variable_words}
 use Rattle.pp_print.proofs.Inners.{str_no, at_no, same_at, no_select, texts_of, unwrap, other_kind, begins_other}
@@ -120,14 +120,20 @@ module _ (E : Rule) (goes : (x : Expr) (ts : List Lexeme) → E x ts → AllSoun
       let k = parts_sound d.second g.1 in
       seq (option_takes c.0 d.front d.first g.0) (seq (arrow_takes is_free refl) (inside c.1 d.second.back d.second.second k.1))
 
-  pub reference_goes : (y : Expr) (ts : List Lexeme) → ReferenceOf E y ts → AllSound ts → Goes y
-  reference_goes y ts r h =
+  refer_takes : (P : Last → Bool) (y : Expr) (ts : List Lexeme) (r : ReferenceOf E y ts) → AllSound ts → Takes P is_closed (refer_by printed r.name r.titles)
+  refer_takes P y ts r h =
       let d = r.spelled in
       let g = parts_sound d h in
       let k = parts_sound d.second g.1 in
       let m = parts_sound d.second.second k.1 in
-      closed_goes y _ true (ap printed_form r.form_is ∙ printed_refer r.name r.titles)
-      (seq (reference_takes is_free r.name (token_sound kind.Ref r.name y.at d.front d.first g.0)) (in_tight_takes is_closed (listed_takes E expr_words is_free is_done inside refl r.titles d.second.second.front d.second.second.first m.0) refl refl))
+      seq (reference_takes P r.name (token_sound kind.Ref r.name y.at d.front d.first g.0)) (in_tight_takes is_closed (listed_takes E expr_words is_free is_done inside refl r.titles d.second.second.front d.second.second.first m.0) refl refl)
+
+  -- A reference may stand behind any word.
+  pub reference_words : (P : Last → Bool) (y : Expr) (ts : List Lexeme) → ReferenceOf E y ts → AllSound ts → Takes P is_closed (expr_words y)
+  reference_words P y ts r h = by_words (ap (λ (f : Form). (printed_form f).words) r.form_is ∙ ap (λ (p : Printed). p.words) (printed_refer r.name r.titles)) (refer_takes P y ts r h)
+
+  reference_goes : (y : Expr) (ts : List Lexeme) → ReferenceOf E y ts → AllSound ts → Goes y
+  reference_goes y ts r h = closed_goes y _ true (ap printed_form r.form_is ∙ printed_refer r.name r.titles) (refer_takes is_free y ts r h)
 
   module _ (inner : (y : Expr) (ts : List Lexeme) → InnerOf E y ts → AllSound ts → Takes is_free is_done (expr_words y)) where
     member_in_quotes : (y : Expr) (ts : List Lexeme) → MemberOf E y ts → AllSound ts → InQuotes (hole_by printed y)

@@ -21,3 +21,4 @@ pub mod NoneLeftOut
 pub mod WordLists
 pub mod ExpressionWalks
 pub mod ReadAsWords
+pub mod ResourceWalks
