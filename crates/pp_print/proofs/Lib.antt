@@ -22,3 +22,4 @@ pub mod WordLists
 pub mod ExpressionWalks
 pub mod ReadAsWords
 pub mod ResourceWalks
+pub mod StatementWalks
