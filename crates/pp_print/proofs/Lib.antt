@@ -23,3 +23,4 @@ pub mod ExpressionWalks
 pub mod ReadAsWords
 pub mod ResourceWalks
 pub mod StatementWalks
+pub mod RoundTrip

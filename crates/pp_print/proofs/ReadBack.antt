@@ -15,6 +15,7 @@ use Rattle.pp_syntax.specs.Tokens.{Lexeme, Spelling, is_among}
 use Rattle.pp_syntax.specs.Statements.{functions}
 use Rattle.pp_syntax.specs.Spelling.{NoNameFirst, NumberStands, kind_at, TokenAt, GapAt, opened_behind, ends_tight, behind, behind_gap, Reads, Spells, start}
 use Rattle.pp_syntax.specs.Spelling as spelling
+use Rattle.pp_syntax.specs.SetApart.{IsSetApart}
 use Rattle.pp_print.specs.declared.words.Word.{Word}
 use Rattle.pp_print.specs.Words.{words_in, clings, holds, text_from, text_of}
 use Rattle.pp_print.proofs.Walks.{Mark, InText, InHole, InBrace, Last, Held, Closed, Called, Star, Heading, Other, outside, in_text, in_hole, in_brace, is_held, is_closed, is_heading, SignStands, May, outer, opened_by, last_of, Walks, called_closed}
@@ -159,11 +160,6 @@ held_loose Heading h = cc
 held_loose Other h = cc
 
 -- ---- what stands before the text behind a word
-
--- nothing, a space, or the bracket of an index
-abbrev pub IsSetApart : List ℕ → Type 0
-IsSetApart [] = Unit {0}
-IsSetApart (b ∷ rest) = (b ≡ 32) ⊎ (b ≡ 91)
 
 apart_by : (st : List Mark) (l : Last) (k : Kind) (s rest : List ℕ) → May st l k s → IsSetApart (cond (clings k) [] (32 ∷ []) ++ (s ++ rest))
 apart_by st l kind.Tight s rest h = subst (λ (t : List ℕ). IsSetApart (t ++ rest)) (sym h.2) (inr refl)

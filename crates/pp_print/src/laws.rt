@@ -11,6 +11,9 @@ ghost use Rattle.pp_print.specs.Words.{words_in, escaped};
 ghost use Rattle.pp_print.specs.Expressions.{expr_words};
 ghost use Rattle.pp_print.specs.Statements.{type_words, manifest_words};
 ghost use Rattle.pp_print.specs.Places.{unplaced, SameButPlaces};
+ghost use Rattle.pp_print.specs.Canonical.{IsSpelled, canonical, ReadsBack};
+
+use pp_syntax::set_apart_tokens_stand;
 
 /// A text in single quotes is written with the fewest backslashes that spell it.
 pub fn fewest_backslashes()
@@ -25,3 +28,10 @@ pub fn words_spell_again()
     ensures expressions { (x : Expr) (text : List ℕ) (before ts behind us : List Lexeme) → Spells text (before ++ (ts ++ behind)) → IsExpr x ts → words_in us ≡ expr_words x → (y : Expr) × IsExpr y us × (unplaced x ≡ unplaced y) }
     ensures types { (t : TypeName) (text : List ℕ) (before ts behind us : List Lexeme) → Spells text (before ++ (ts ++ behind)) → IsType t ts → words_in us ≡ type_words t → IsType t us }
 {}
+
+/// The canonical text of a manifest is read back: it is tokens, and these spell the manifest, places aside.
+pub fn canonical_text_is_read()
+    ensures { (m : Manifest) → IsSpelled m → ReadsBack (canonical m) m }
+{
+    set_apart_tokens_stand();
+}

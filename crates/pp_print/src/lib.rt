@@ -11,7 +11,7 @@ mod statement;
 mod types;
 mod words;
 
-pub use laws::{fewest_backslashes, words_spell_again};
+pub use laws::{canonical_text_is_read, fewest_backslashes, words_spell_again};
 pub use manifest::print;
 
 #[cfg(test)]
