@@ -1,5 +1,6 @@
 -- The canonical text of a manifest that some text spells is read back.
-use Rattle.std.proofs.Common.{List, [], ◌≡◌, sym, subst}
+use Rattle.std.proofs.Common.{◌≡◌, ℕ, List, [], ◌++◌, sym, subst, ◌∙◌}
+use Rattle.std.proofs.lemmas.List.{append_cancel_left}
 use Rattle.pp_syntax.specs.declared.tree.Manifest.{Manifest}
 use Rattle.pp_print.specs.declared.words.Word.{Word}
 use Rattle.pp_print.specs.Words.{words_in}
@@ -25,3 +26,7 @@ read_back apart m h =
       derived = again.1;
       same = again.2;
     }
+
+-- what is appended
+pub appended : (old new : List ℕ) (m : Manifest) → new ≡ old ++ canonical m → ReadsBack (canonical m) m → (text : List ℕ) → new ≡ old ++ text → ReadsBack text m
+appended old new m e h text f = subst (λ (t : List ℕ). ReadsBack t m) (append_cancel_left old (canonical m) text (sym e ∙ f)) h
