@@ -1,31 +1,28 @@
 -- The words of an expression that tokens of a text spell may stand one behind the other.
-use Rattle.std.proofs.Common.{◌≡◌, ℕ, zero, suc, ◌+◌, ◌<◌, ◌^◌, Bool, true, false, cond, ◌||◌, nat_le, List, [], ◌∷◌, ◌++◌, refl, sym, ap, subst, ◌∙◌}
+use Rattle.std.proofs.Common.{◌≡◌, ℕ, ◌+◌, Bool, true, false, cond, nat_le, List, [], ◌∷◌, ◌++◌, refl, ap, subst, ◌∙◌}
 use Rattle.std.specs.Prelude.{pos, Option, codes}
 use Rattle.std.specs.Prelude as prelude
 use Rattle.std.specs.List.{flat_map}
 use Rattle.std.proofs.lemmas.Bool.{both_ways}
-use Rattle.pp_syntax.specs.declared.token.Kind.{Kind}
 use Rattle.pp_syntax.specs.declared.token.Kind.TheVariants as kind
 use Rattle.pp_syntax.specs.declared.tree.Expr.{Expr}
-use Rattle.pp_syntax.specs.declared.tree.Form.{Form, Form-F}
+use Rattle.pp_syntax.specs.declared.tree.Form.{Form}
 use Rattle.pp_syntax.specs.declared.tree.Form.TheVariants as form
 use Rattle.pp_syntax.specs.declared.tree.Form.TheVariants.{outs-Str, outs-At}
-use Rattle.pp_syntax.specs.declared.tree.Form.TheOpen as plain
 use Rattle.pp_syntax.specs.declared.tree.Op.{Op}
 use Rattle.pp_syntax.specs.declared.tree.Op.TheVariants as op
 use Rattle.pp_syntax.specs.Tokens.{Lexeme, Spelling, int_value}
-use Rattle.pp_syntax.specs.Phrases.{◌then◌, Token, Some, Sign, Tight, Listed, MaybeListed, place_of}
+use Rattle.pp_syntax.specs.Phrases.{place_of}
 use Rattle.pp_syntax.specs.Derivation.{Rule, Infix, Operation, Operations, ChainOf, ReadAsVariable, base, index, kind_of_first, InnerOf, MemberOf, Members, StringOf, ReferenceOf, PairOf, OptionOf, ChoiceOf, PrimaryOf, SuffixOf, SuffixesOf, PostfixOf, Prefixes, UnaryOf, ExprOf, AndOf, ComparisonOf, EqualityOf, SumOf, ProductOf, InOf, IsExprAt}
 use Rattle.pp_syntax.specs.Derivation as rule
 use Rattle.pp_print.specs.declared.words.Word.{Word}
-use Rattle.pp_print.specs.Words.{word, sign, keyword, variable, has_dash, in_parens, in_tight, in_loose, in_braces, listed}
+use Rattle.pp_print.specs.Words.{word, variable, has_dash, in_parens}
 use Rattle.pp_print.specs.Expressions.{Printed, operand, printed, printed_form, expr_words, at_level, indexed, option_by, operator, pair_by, choice_by, hole_by, operation_by, level_in, refer_by}
 use Rattle.pp_print.proofs.Forms.{printed_int, printed_str, printed_var, printed_bool, printed_undef, printed_list, printed_map, printed_refer, printed_join, printed_chain, printed_prefix, printed_at, printed_select}
 use Rattle.pp_print.proofs.Postfixes.{variable_words}
-use Rattle.pp_print.proofs.Inners.{str_no, at_no, same_at, no_select, texts_of, unwrap, other_kind, begins_other}
-use Rattle.pp_print.proofs.Standing.{Sound, AllSound, sound_stands}
-use Rattle.pp_print.proofs.Walks.{Mark, InText, InHole, Last, Held, Closed, Other, any, outside, is_free, is_closed, is_done, is_other, Walks, join, Takes, seq, nothing, narrow, loosen, by_words, closed_done, other_free, other_done, sign_takes, arrow_takes, keyword_takes, quoted_takes, reference_takes, variable_takes, in_parens_takes, in_tight_takes, in_loose_takes, in_braces_takes}
-use Rattle.pp_print.proofs.WordLists.{parts_sound, halves_sound, token_sound, listed_takes, maybe_listed_takes, number_takes, read_takes}
+use Rattle.pp_print.proofs.Standing.{AllSound, sound_stands}
+use Rattle.pp_print.proofs.Walks.{Mark, InText, InHole, Last, Held, Closed, Other, any, is_free, is_closed, is_done, Walks, join, Takes, seq, nothing, loosen, by_words, closed_done, sign_takes, arrow_takes, keyword_takes, quoted_takes, reference_takes, variable_takes, in_parens_takes, in_tight_takes, in_loose_takes, in_braces_takes}
+use Rattle.pp_print.proofs.WordLists.{parts_sound, halves_sound, token_sound, listed_takes, maybe_listed_takes, number_takes}
 
 -- An expression may stand behind any word behind which a `(` may; where it can be indexed, a `[` behind it is tight.
 pub record Goes (x : Expr) : Type 0 where

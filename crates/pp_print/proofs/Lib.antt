@@ -24,3 +24,4 @@ pub mod ReadAsWords
 pub mod ResourceWalks
 pub mod StatementWalks
 pub mod RoundTrip
+pub mod Alike

@@ -1,5 +1,5 @@
 -- The words of what stands within `${` and `}`, where a word is read as a variable, and so of each expression, may stand one behind the other.
-use Rattle.std.proofs.Common.{◌≡◌, ℕ, zero, suc, true, cond, List, [], ◌∷◌, ◌++◌, refl, sym, ap, subst, ◌∙◌}
+use Rattle.std.proofs.Common.{◌≡◌, ℕ, zero, suc, cond, List, [], ◌∷◌, ◌++◌, refl, sym, ap, subst, ◌∙◌}
 use Rattle.std.specs.Prelude.{Option, codes}
 use Rattle.std.specs.Prelude as prelude
 use Rattle.pp_syntax.specs.declared.token.Kind.{Kind}
@@ -13,10 +13,10 @@ use Rattle.pp_syntax.specs.Tokens.{Lexeme, Spelling}
 use Rattle.pp_syntax.specs.Phrases.{Token, place_of}
 use Rattle.pp_syntax.specs.Derivation.{Rule, ReadAsVariable, base, index, kind_of_first, InnerOf, PrimaryOf, SuffixesOf, PostfixOf, ExprOf, IsExprAt, IsExpr}
 use Rattle.pp_syntax.specs.Derivation as rule
-use Rattle.pp_print.specs.Words.{variable, in_parens, in_tight}
+use Rattle.pp_print.specs.Words.{in_parens, in_tight}
 use Rattle.pp_print.specs.Expressions.{Printed, printed, printed_form, expr_words, at_level}
 use Rattle.pp_print.proofs.Forms.{printed_var, printed_at}
-use Rattle.pp_print.proofs.Inners.{str_no, at_no, same_at, no_select, texts_of, unwrap, other_kind, begins_other, first_token}
+use Rattle.pp_print.proofs.Inners.{str_no, same_at, no_select, texts_of, unwrap, other_kind, begins_other}
 use Rattle.pp_print.proofs.Standing.{AllSound}
 use Rattle.pp_print.proofs.Walks.{is_free, is_closed, is_done, Takes, seq, loosen, by_words, closed_done, in_tight_takes}
 use Rattle.pp_print.proofs.WordLists.{parts_sound, halves_sound, token_sound, read_takes}

@@ -1,8 +1,7 @@
 -- The words of types, searches, resources and chains of them may stand one behind the other.
-use Rattle.std.proofs.Common.{◌≡◌, ℕ, zero, suc, ◌<◌, ◌^◌, Bool, true, false, cond, ◌==◌, nat_le, List, [], ◌∷◌, ◌++◌, refl, sym, ap, subst, ◌∙◌}
+use Rattle.std.proofs.Common.{ℕ, zero, suc, Bool, true, false, cond, ◌==◌, nat_le, List, [], ◌∷◌, ◌++◌, refl, ap, ◌∙◌}
 use Rattle.std.specs.Prelude.{ℤ, pos, Option, codes}
 use Rattle.std.specs.Prelude as prelude
-use Rattle.std.specs.List.{flat_map, join_by}
 use Rattle.pp_syntax.specs.declared.token.Kind.TheVariants as kind
 use Rattle.pp_syntax.specs.declared.tree.Expr.{Expr}
 use Rattle.pp_syntax.specs.declared.tree.Attr.{Attr}
@@ -14,13 +13,13 @@ use Rattle.pp_syntax.specs.declared.tree.Arrow.{Arrow}
 use Rattle.pp_syntax.specs.declared.tree.Arrow.TheVariants as arrow
 use Rattle.pp_syntax.specs.declared.tree.TypeName.{TypeName}
 use Rattle.pp_syntax.specs.Tokens.{Lexeme, int_value}
-use Rattle.pp_syntax.specs.Phrases.{◌then◌, Token, Some, Sign, Keyword, Tight, Loose, Comma, Each, Separated, Listed, MaybeListed}
+use Rattle.pp_syntax.specs.Phrases.{◌then◌, Token, Some, Sign, Keyword, Tight, Comma, Listed, MaybeListed}
 use Rattle.pp_syntax.specs.Derivation.{PostfixOf, ReferenceOf, IsExpr}
 use Rattle.pp_syntax.specs.Statements.{NameOf, AttrOf, BodyOf, BodiesOf, InBraces, AtomOf, ConjunctionOf, SearchOf, IsSearchAt, MaybeSearch, Hidden, OperandOf, Links, TextBounds, NumberBounds, TypeWord, QuotedText, TypeOf, IsTypeAt, IsType}
 use Rattle.pp_syntax.specs.Statements as rule
 use Rattle.pp_print.specs.declared.words.Word.{Word}
-use Rattle.pp_print.specs.Words.{word, sign, keyword, comma, quoted, number, named, in_parens, in_tight, in_loose, listed}
-use Rattle.pp_print.specs.Expressions.{printed, expr_words, at_level}
+use Rattle.pp_print.specs.Words.{sign, keyword, comma, quoted, number, named, in_parens, in_tight, listed}
+use Rattle.pp_print.specs.Expressions.{expr_words}
 use Rattle.pp_print.specs.Statements.{attr_words, body_words, bodies_words, Sought, sought, sought_at, compared, hidden_words, maybe_search, references, operand_words, arrow_words, links, text_bounds, number_bounds, type_word, type_words}
 use Rattle.pp_print.proofs.Blocks.{sought_or, sought_and, sought_equal, sought_differ, type_any, type_boolean, type_hash, type_str, type_int, type_array, type_optional, type_enum, type_variant}
 use Rattle.pp_print.proofs.Standing.{AllSound}

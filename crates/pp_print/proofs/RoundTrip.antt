@@ -3,7 +3,6 @@ use Rattle.std.proofs.Common.{◌≡◌, ℕ, List, [], ◌++◌, sym, subst, �
 use Rattle.std.proofs.lemmas.List.{append_cancel_left}
 use Rattle.pp_syntax.specs.declared.tree.Manifest.{Manifest}
 use Rattle.pp_print.specs.declared.words.Word.{Word}
-use Rattle.pp_print.specs.Words.{words_in}
 use Rattle.pp_print.specs.Statements.{manifest_words}
 use Rattle.pp_print.specs.Canonical.{IsSpelled, canonical, ReadsBack}
 use Rattle.pp_print.proofs.Standing.{all_sound, spelled_stand}

@@ -1,13 +1,10 @@
 -- The words of statements and of manifests may stand one behind the other.
-use Rattle.std.proofs.Common.{◌≡◌, ℕ, zero, suc, Bool, true, List, [], ◌∷◌, ◌++◌, refl, sym, ap, subst, ◌∙◌}
+use Rattle.std.proofs.Common.{◌≡◌, ℕ, zero, suc, Bool, true, List, [], ◌∷◌, ◌++◌, refl, ap, ◌∙◌}
 use Rattle.std.specs.Prelude.{Option, codes}
 use Rattle.std.specs.Prelude as prelude
 use Rattle.std.specs.List.{flat_map}
 use Rattle.pp_syntax.specs.declared.token.Kind.TheVariants as kind
 use Rattle.pp_syntax.specs.declared.tree.Expr.{Expr}
-use Rattle.pp_syntax.specs.declared.tree.Attr.{Attr}
-use Rattle.pp_syntax.specs.declared.tree.Operand.{Operand}
-use Rattle.pp_syntax.specs.declared.tree.Arrow.{Arrow}
 use Rattle.pp_syntax.specs.declared.tree.Func.{Func}
 use Rattle.pp_syntax.specs.declared.tree.Func.TheVariants as func
 use Rattle.pp_syntax.specs.declared.tree.Stmt.{Stmt}
@@ -20,17 +17,16 @@ use Rattle.pp_syntax.specs.declared.tree.Item.{Item}
 use Rattle.pp_syntax.specs.declared.tree.Item.TheVariants as item
 use Rattle.pp_syntax.specs.declared.tree.Manifest.{Manifest}
 use Rattle.pp_syntax.specs.Tokens.{Lexeme, is_among}
-use Rattle.pp_syntax.specs.Phrases.{◌then◌, Token, Some, Sign, Keyword, Comma, Each, Listed, MaybeListed}
+use Rattle.pp_syntax.specs.Phrases.{◌then◌, Token, Some, Keyword, Comma, Each}
 use Rattle.pp_syntax.specs.Derivation.{OptionOf, IsExpr}
 use Rattle.pp_syntax.specs.Statements.{word_of, functions, VariableOf, InBraces, ArgsOf, Statements, BlockOf, ElseOf, ArmOf, CaseArmOf, CaseArms, StmtOf, IsStmtAt, AttrOf, MaybeType, PresetOf, ParamOf, ParamsOf, ParentOf, NodeNameOf, ItemOf, Items, IsManifest}
 use Rattle.pp_syntax.specs.Statements as rule
-use Rattle.pp_print.specs.declared.words.Word.{Word}
-use Rattle.pp_print.specs.Words.{word, sign, keyword, comma, quoted, in_parens, in_braces, listed}
+use Rattle.pp_print.specs.Words.{keyword, comma, quoted, in_parens, listed}
 use Rattle.pp_print.specs.Expressions.{expr_words, option_by}
-use Rattle.pp_print.specs.Statements.{stmt_words, arm_words, case_arm_words, block_by, block_words, else_by, attr_words, maybe_type, preset_words, param_words, params_words, parent_words, item_words, manifest_words}
+use Rattle.pp_print.specs.Statements.{stmt_words, arm_words, case_arm_words, block_by, block_words, else_by, maybe_type, preset_words, param_words, params_words, parent_words, item_words, manifest_words}
 use Rattle.pp_print.proofs.Blocks.{words_chain, words_assign, words_call, words_if, words_unless, words_case}
 use Rattle.pp_print.proofs.Standing.{AllSound}
-use Rattle.pp_print.proofs.Walks.{Mark, Last, Held, Other, any, is_free, is_closed, is_done, is_other, is_heading, Walks, Takes, seq, nothing, narrow, loosen, by_words, closed_done, sign_takes, keyword_takes, comma_takes, quoted_takes, reference_takes, variable_takes, word_takes, function_takes, heading_takes, in_parens_takes, in_braces_takes}
+use Rattle.pp_print.proofs.Walks.{Last, Held, Other, any, is_free, is_closed, is_done, is_heading, Walks, Takes, seq, nothing, narrow, loosen, by_words, closed_done, sign_takes, keyword_takes, comma_takes, quoted_takes, reference_takes, variable_takes, word_takes, function_takes, heading_takes, in_parens_takes, in_braces_takes}
 use Rattle.pp_print.proofs.WordLists.{parts_sound, token_sound, some_sound, each_takes, separated_takes, listed_takes}
 use Rattle.pp_print.proofs.ExpressionWalks.{option_takes}
 use Rattle.pp_print.proofs.ReadAsWords.{expression_goes, expression_takes}

@@ -1,12 +1,12 @@
 -- The words of a list, and of numbers and names, may stand one behind the other.
-use Rattle.std.proofs.Common.{◌≡◌, inl, inr, ℕ, zero, suc, ◌<◌, ◌^◌, Bool, true, false, cond, ◌||◌, ◌==◌, List, [], ◌∷◌, ◌++◌, get_or, refl, sym, ap, subst, ◌∙◌, arith}
+use Rattle.std.proofs.Common.{◌≡◌, inl, inr, ℕ, ◌<◌, ◌^◌, Bool, true, false, cond, ◌||◌, ◌==◌, List, [], ◌∷◌, ◌++◌, refl, sym, ap, subst, ◌∙◌}
 use Rattle.std.specs.Prelude.{codes, pos, decimal}
 use Rattle.std.specs.List.{flat_map, join_by}
 use Rattle.pp_syntax.specs.declared.token.Kind.{Kind}
 use Rattle.pp_syntax.specs.declared.token.Kind.TheVariants as kind
 use Rattle.pp_syntax.specs.declared.lexer.bytes.Style.TheVariants as style
 use Rattle.pp_syntax.specs.Bytes.{is_name}
-use Rattle.pp_syntax.specs.Tokens.{Lexeme, Of, begins, goes_on, NoDashLast, Segment, Joined, one, another, Name, Spelling, is_among, keywords, IntText, int_value}
+use Rattle.pp_syntax.specs.Tokens.{Lexeme, Of, goes_on, Segment, Joined, one, another, Name, Spelling, is_among, keywords}
 use Rattle.pp_syntax.specs.Phrases.{◌then◌, Token, Some, Comma, Each, Separated, Listed, MaybeListed}
 use Rattle.pp_print.specs.declared.words.Word.{Word}
 use Rattle.pp_print.specs.Words.{word, comma, number, variable, named, has_dash, listed}

@@ -35,3 +35,8 @@ pub fn canonical_text_is_read()
 {
     set_apart_tokens_stand();
 }
+
+/// Manifests that differ at most in their places have one canonical text: what is read back is printed as it was.
+pub fn same_trees_print_alike()
+    ensures { (m n : Manifest) → SameButPlaces m n → canonical m ≡ canonical n }
+{}

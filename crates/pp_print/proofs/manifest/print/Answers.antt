@@ -1,4 +1,4 @@
-use Rattle.std.proofs.Common.{◌≡◌, ◌++◌, ℕ, List, ap, sym, ◌∙◌}
+use Rattle.std.proofs.Common.{◌++◌, ℕ, List, ap, ◌∙◌}
 use Rattle.pp_print.proofs.RoundTrip.{appended}
 use Rattle.pp_print.proofs.manifest.print.Goals as goal
 
