@@ -25,3 +25,4 @@ pub mod ResourceWalks
 pub mod StatementWalks
 pub mod RoundTrip
 pub mod Alike
+pub mod Utf8

@@ -1,6 +1,7 @@
 -- Words that may stand one behind the other: what each asks of those before it, and what it leaves behind.
 use Rattle.std.proofs.Common.{◌≡◌, ℕ, ◌<◌, ◌^◌, Bool, true, false, cond, List, [], ◌∷◌, ◌++◌, refl, sym, ap, subst, ◌∙◌}
 use Rattle.std.specs.Prelude.{codes, IsTrue}
+use Rattle.std.specs.List.{AllByRecursion}
 use Rattle.std.specs.Str.{bytes_eq}
 use Rattle.std.proofs.lemmas.Bool.{both_ways}
 use Rattle.pp_syntax.specs.declared.token.Kind.{Kind}
@@ -160,29 +161,23 @@ join st l (w ∷ a) b st1 l1 st2 l2 h k = (h.0, join (opened_by w.kind w.text st
 
 -- ---- phrases
 
--- Outside of double quotes, behind a word of the first sort, these words may stand, leave nothing open, and end with one of the second sort.
-pub record Takes (P Q : Last → Bool) (ws : List Word) : Type 0 where
+-- Texts in single quotes are written of texts of this sort.
+abbrev pub GoodWord : (List ℕ → Type 0) → Kind → List ℕ → Type 0
+GoodWord U kind.Sq s = (text : List ℕ) × (s ≡ 39 ∷ (escaped text ++ 39 ∷ [])) × U text
+GoodWord U _ s = Unit {0}
+
+abbrev pub AllGood : (List ℕ → Type 0) → List Word → Type 0
+AllGood U ws = AllByRecursion (λ w. GoodWord U w.kind w.text) ws
+
+pub both_good : (U : List ℕ → Type 0) (a b : List Word) → AllGood U a → AllGood U b → AllGood U (a ++ b)
+both_good U [] b h k = k
+both_good U (w ∷ a) b h k = (h.0, both_good U a b h.1 k)
+
+-- Outside of double quotes, behind a word of the first sort, these words may stand, leave nothing open, and end with one of the second sort;
+-- and what is quoted is good.
+pub record Takes (U : List ℕ → Type 0) (P Q : Last → Bool) (ws : List Word) : Type 0 where
   pub walk : (st : List Mark) → outside st ≡ true → (l : Last) → P l ≡ true → (l2 : Last) × (Q l2 ≡ true) × Walks st l ws st l2
-
-pub seq : {P Q R : Last → Bool} {a b : List Word} → Takes P Q a → Takes Q R b → Takes P R (a ++ b)
-seq {a = a} {b = b} f g = record {
-  walk = λ st out l p.
-      let x = f.walk st out l p in
-      let y = g.walk st out x.0 x.1 in
-      (y.0, y.1, join st l a b st x.0 st y.0 x.2 y.2);
-}
-
-pub nothing : (P Q : Last → Bool) → ((l : Last) → P l ≡ true → Q l ≡ true) → Takes P Q []
-nothing P Q f = record { walk = λ st out l p. (l, f l p, (refl, refl)) }
-
-pub narrow : (P : Last → Bool) {Q R : Last → Bool} {ws : List Word} → ((l : Last) → P l ≡ true → Q l ≡ true) → Takes Q R ws → Takes P R ws
-narrow P f h = record { walk = λ st out l p. h.walk st out l (f l p) }
-
-pub loosen : {P Q : Last → Bool} (R : Last → Bool) {ws : List Word} → ((l : Last) → Q l ≡ true → R l ≡ true) → Takes P Q ws → Takes P R ws
-loosen R f h = record { walk = λ st out l p. let x = h.walk st out l p in (x.0, f x.0 x.1, x.2) }
-
-pub by_words : {P Q : Last → Bool} {a b : List Word} → a ≡ b → Takes P Q b → Takes P Q a
-by_words {P = P} {Q = Q} e h = subst (λ ws. Takes P Q ws) (sym e) h
+  pub good : AllGood U ws
 
 pub closed_done : (l : Last) → is_closed l ≡ true → is_done l ≡ true
 closed_done Held h = cc
@@ -218,10 +213,6 @@ other_free Other h = refl
 
 -- ---- single words
 
--- a word that opens and closes nothing
-pub one : (P Q : Last → Bool) (k : Kind) (s : List ℕ) → ((st : List Mark) → opened_by k s st ≡ st) → ((st : List Mark) → outside st ≡ true → (l : Last) → P l ≡ true → May st l k s) → ((l : Last) → P l ≡ true → Q (last_of l k s) ≡ true) → Takes P Q (word k s)
-one P Q k s keeps may next = record { walk = λ st out l p. (last_of l k s, next l p, (may st out l p, (keeps st, refl))) }
-
 -- a sign that opens and closes nothing, and may stand behind any word
 abbrev pub IsPlain : List ℕ → Type 0
 IsPlain s = IsTrue (is_among signs s) × (bytes_eq s (codes "[") ≡ false) × (bytes_eq s (codes "}") ≡ false) × (bytes_eq s (codes "{") ≡ false) × (bytes_eq s (codes "(") ≡ false) × (bytes_eq s (codes "=>") ≡ false)
@@ -229,80 +220,107 @@ IsPlain s = IsTrue (is_among signs s) × (bytes_eq s (codes "[") ≡ false) × (
 no_brace : (s : List ℕ) (st : List Mark) → bytes_eq s (codes "{") ≡ false → bytes_eq s (codes "}") ≡ false → opened_by kind.Sign s st ≡ st
 no_brace s st h k = ap (λ v. cond v (InBrace ∷ st) (cond (bytes_eq s (codes "}")) (outer st) st)) h ∙ ap (λ v. cond v (outer st) st) k
 
-pub sign_takes : (P Q : Last → Bool) (s : List ℕ) → IsPlain s → Q (last_of Other kind.Sign s) ≡ true → Takes P Q (sign s)
-sign_takes P Q s h next = one P Q kind.Sign s (λ st. no_brace s st h.3 h.2)
-    (λ st out l p. (out, record { among = h.0; no_bracket = h.1; brace = λ e. absurd (both_ways (bytes_eq s (codes "}")) h.2 e); paren = λ e. absurd (both_ways (bytes_eq s (codes "(")) h.4 e); arrow = λ e. absurd (both_ways (bytes_eq s (codes "=>")) h.5 e) }))
-    (λ l p. next)
-
-pub arrow_takes : (Q : Last → Bool) → Q Other ≡ true → Takes is_done Q (sign (codes "=>"))
-arrow_takes Q next = one is_done Q kind.Sign (codes "=>") (λ st. refl) (λ st out l p. (out, record { among = refl; no_bracket = refl; brace = λ e. cc; paren = λ e. cc; arrow = λ e. p })) (λ l p. next)
-
-pub paren_takes : (Q : Last → Bool) → Q Other ≡ true → Takes is_free Q (sign (codes "("))
-paren_takes Q next = one is_free Q kind.Sign (codes "(") (λ st. refl) (λ st out l p. (out, record { among = refl; no_bracket = refl; brace = λ e. cc; paren = λ e. p; arrow = λ e. cc })) (λ l p. next)
-
-pub tight_takes : (Q : Last → Bool) → Q Other ≡ true → Takes is_closed Q (word kind.Tight (codes "["))
-tight_takes Q next = one is_closed Q kind.Tight (codes "[") (λ st. refl) (λ st out l p. (out, p, refl)) (λ l p. next)
-
-pub loose_takes : (P Q : Last → Bool) → Q Other ≡ true → Takes P Q (word kind.Loose (codes "["))
-loose_takes P Q next = one P Q kind.Loose (codes "[") (λ st. refl) (λ st out l p. (out, refl)) (λ l p. next)
-
-pub keyword_takes : (P Q : Last → Bool) (s : List ℕ) → IsTrue (is_among keywords s) → Q (last_of Other kind.Keyword s) ≡ true → Takes P Q (keyword s)
-keyword_takes P Q s h next = one P Q kind.Keyword s (λ st. refl) (λ st out l p. (out, h)) (λ l p. next)
-
-pub comma_takes : (P Q : Last → Bool) → Q Other ≡ true → Takes P Q comma
-comma_takes P Q next = sign_takes P Q (codes ",") (refl, refl, refl, refl, refl, refl) next
-
-pub quoted_takes : (P : Last → Bool) (text : List ℕ) → Takes P is_closed (quoted text)
-quoted_takes P text = one P is_closed kind.Sq (39 ∷ (escaped text ++ 39 ∷ [])) (λ st. refl) (λ st out l p. (out, (escaped text, refl, (escaped_reads text).1))) (λ l p. refl)
-
-pub reference_takes : (P : Last → Bool) (name : List ℕ) → Spelling kind.Ref name → Takes P is_closed (word kind.Ref name)
-reference_takes P name h = one P is_closed kind.Ref name (λ st. refl) (λ st out l p. (out, h)) (λ l p. refl)
-
-pub variable_takes : (P : Last → Bool) (name : List ℕ) → Spelling kind.Var name → Takes P is_closed (word kind.Var name)
-variable_takes P name h = one P is_closed kind.Var name (λ st. refl) (λ st out l p. (out, h)) (λ l p. refl)
-
 pub called_closed : (a b : Bool) → true ≡ is_closed (cond a Closed (cond b Closed Called))
 called_closed true b = refl
 called_closed false true = refl
 called_closed false false = refl
 
-pub word_takes : (P : Last → Bool) (name : List ℕ) → Spelling kind.Word name → Takes P is_closed (word kind.Word name)
-word_takes P name h = one P is_closed kind.Word name (λ st. refl) (λ st out l p. (out, h)) (λ l p. sym (called_closed (is_heading l) (is_among functions name)))
-
--- the name of a function
-pub function_takes : (P : Last → Bool) (name : List ℕ) → Spelling kind.Word name → is_among functions name ≡ true → Takes P is_free (word kind.Word name)
-function_takes P name h f = one P is_free kind.Word name (λ st. refl) (λ st out l p. (out, h)) (λ l p. by_function (is_heading l) (is_among functions name) f)
-  where
-    by_function : (a b : Bool) → b ≡ true → is_free (cond a Closed (cond b Closed Called)) ≡ true
-    by_function true b e = refl
-    by_function false true e = refl
-    by_function false false e = cc
-
--- the name of a class or a defined type
-pub heading_takes : (name : List ℕ) → Spelling kind.Word name → Takes is_heading is_free (word kind.Word name)
-heading_takes name h = one is_heading is_free kind.Word name (λ st. refl) (λ st out l p. (out, h)) (λ l p. ap (λ v. is_free (cond v Closed (cond (is_among functions name) Closed Called))) p)
-
 -- ---- in brackets
 
-pub in_parens_takes : {P Q : Last → Bool} (R : Last → Bool) {ws : List Word} → Takes P Q ws → P Other ≡ true → R Closed ≡ true → Takes is_free R (in_parens ws)
-in_parens_takes {P = P} {Q = Q} R h first next = seq (paren_takes P first) (seq h (sign_takes Q R (codes ")") (refl, refl, refl, refl, refl, refl) next))
+module _ {U : List ℕ → Type 0} where
+  pub seq : {P Q R : Last → Bool} {a b : List Word} → Takes U P Q a → Takes U Q R b → Takes U P R (a ++ b)
+  seq {a = a} {b = b} f g = record {
+    walk = λ st out l p.
+        let x = f.walk st out l p in
+        let y = g.walk st out x.0 x.1 in
+        (y.0, y.1, join st l a b st x.0 st y.0 x.2 y.2);
+    good = both_good U a b f.good g.good;
+  }
 
-pub in_tight_takes : {P Q : Last → Bool} (R : Last → Bool) {ws : List Word} → Takes P Q ws → P Other ≡ true → R Closed ≡ true → Takes is_closed R (in_tight ws)
-in_tight_takes {P = P} {Q = Q} R h first next = seq (tight_takes P first) (seq h (sign_takes Q R (codes "]") (refl, refl, refl, refl, refl, refl) next))
+  pub nothing : (P Q : Last → Bool) → ((l : Last) → P l ≡ true → Q l ≡ true) → Takes U P Q []
+  nothing P Q f = record { walk = λ st out l p. (l, f l p, (refl, refl)); good = tt }
 
-pub in_loose_takes : {P Q : Last → Bool} (O R : Last → Bool) {ws : List Word} → Takes P Q ws → P Other ≡ true → R Closed ≡ true → Takes O R (in_loose ws)
-in_loose_takes {P = P} {Q = Q} O R h first next = seq (loose_takes O P first) (seq h (sign_takes Q R (codes "]") (refl, refl, refl, refl, refl, refl) next))
+  pub narrow : (P : Last → Bool) {Q R : Last → Bool} {ws : List Word} → ((l : Last) → P l ≡ true → Q l ≡ true) → Takes U Q R ws → Takes U P R ws
+  narrow P f h = record { walk = λ st out l p. h.walk st out l (f l p); good = h.good }
 
-pub in_braces_takes : {P Q : Last → Bool} (O R : Last → Bool) {ws : List Word} → Takes P Q ws → P Other ≡ true → R Other ≡ true → Takes O R (in_braces ws)
-in_braces_takes O R {ws = ws} h first next = record {
-  walk = λ st out l p.
-      let x = h.walk (InBrace ∷ st) refl Other first in (
-        Other,
-        next,
-        (
-          (out, record { among = refl; no_bracket = refl; brace = λ e. cc; paren = λ e. cc; arrow = λ e. cc }),
-          join (InBrace ∷ st) Other ws (sign (codes "}")) (InBrace ∷ st) x.0 st Other x.2
-              ((refl, record { among = refl; no_bracket = refl; brace = λ e. refl; paren = λ e. cc; arrow = λ e. cc }), (refl, refl)),
-        ),
-      );
-}
+  pub loosen : {P Q : Last → Bool} (R : Last → Bool) {ws : List Word} → ((l : Last) → Q l ≡ true → R l ≡ true) → Takes U P Q ws → Takes U P R ws
+  loosen R f h = record { walk = λ st out l p. let x = h.walk st out l p in (x.0, f x.0 x.1, x.2); good = h.good }
+
+  pub by_words : {P Q : Last → Bool} {a b : List Word} → a ≡ b → Takes U P Q b → Takes U P Q a
+  by_words {P = P} {Q = Q} e h = subst (λ ws. Takes U P Q ws) (sym e) h
+
+  -- a word that opens and closes nothing
+  pub one : (P Q : Last → Bool) (k : Kind) (s : List ℕ) → ((st : List Mark) → opened_by k s st ≡ st) → ((st : List Mark) → outside st ≡ true → (l : Last) → P l ≡ true → May st l k s) → ((l : Last) → P l ≡ true → Q (last_of l k s) ≡ true) → GoodWord U k s → Takes U P Q (word k s)
+  one P Q k s keeps may next good = record { walk = λ st out l p. (last_of l k s, next l p, (may st out l p, (keeps st, refl))); good = (good, tt) }
+
+  pub sign_takes : (P Q : Last → Bool) (s : List ℕ) → IsPlain s → Q (last_of Other kind.Sign s) ≡ true → Takes U P Q (sign s)
+  sign_takes P Q s h next = one P Q kind.Sign s (λ st. no_brace s st h.3 h.2)
+      (λ st out l p. (out, record { among = h.0; no_bracket = h.1; brace = λ e. absurd (both_ways (bytes_eq s (codes "}")) h.2 e); paren = λ e. absurd (both_ways (bytes_eq s (codes "(")) h.4 e); arrow = λ e. absurd (both_ways (bytes_eq s (codes "=>")) h.5 e) }))
+      (λ l p. next) tt
+
+  pub arrow_takes : (Q : Last → Bool) → Q Other ≡ true → Takes U is_done Q (sign (codes "=>"))
+  arrow_takes Q next = one is_done Q kind.Sign (codes "=>") (λ st. refl) (λ st out l p. (out, record { among = refl; no_bracket = refl; brace = λ e. cc; paren = λ e. cc; arrow = λ e. p })) (λ l p. next) tt
+
+  pub paren_takes : (Q : Last → Bool) → Q Other ≡ true → Takes U is_free Q (sign (codes "("))
+  paren_takes Q next = one is_free Q kind.Sign (codes "(") (λ st. refl) (λ st out l p. (out, record { among = refl; no_bracket = refl; brace = λ e. cc; paren = λ e. p; arrow = λ e. cc })) (λ l p. next) tt
+
+  pub tight_takes : (Q : Last → Bool) → Q Other ≡ true → Takes U is_closed Q (word kind.Tight (codes "["))
+  tight_takes Q next = one is_closed Q kind.Tight (codes "[") (λ st. refl) (λ st out l p. (out, p, refl)) (λ l p. next) tt
+
+  pub loose_takes : (P Q : Last → Bool) → Q Other ≡ true → Takes U P Q (word kind.Loose (codes "["))
+  loose_takes P Q next = one P Q kind.Loose (codes "[") (λ st. refl) (λ st out l p. (out, refl)) (λ l p. next) tt
+
+  pub keyword_takes : (P Q : Last → Bool) (s : List ℕ) → IsTrue (is_among keywords s) → Q (last_of Other kind.Keyword s) ≡ true → Takes U P Q (keyword s)
+  keyword_takes P Q s h next = one P Q kind.Keyword s (λ st. refl) (λ st out l p. (out, h)) (λ l p. next) tt
+
+  pub comma_takes : (P Q : Last → Bool) → Q Other ≡ true → Takes U P Q comma
+  comma_takes P Q next = sign_takes P Q (codes ",") (refl, refl, refl, refl, refl, refl) next
+
+  pub quoted_takes : (P : Last → Bool) (text : List ℕ) → U text → Takes U P is_closed (quoted text)
+  quoted_takes P text good = one P is_closed kind.Sq (39 ∷ (escaped text ++ 39 ∷ [])) (λ st. refl) (λ st out l p. (out, (escaped text, refl, (escaped_reads text).1))) (λ l p. refl) (text, refl, good)
+
+  pub reference_takes : (P : Last → Bool) (name : List ℕ) → Spelling kind.Ref name → Takes U P is_closed (word kind.Ref name)
+  reference_takes P name h = one P is_closed kind.Ref name (λ st. refl) (λ st out l p. (out, h)) (λ l p. refl) tt
+
+  pub variable_takes : (P : Last → Bool) (name : List ℕ) → Spelling kind.Var name → Takes U P is_closed (word kind.Var name)
+  variable_takes P name h = one P is_closed kind.Var name (λ st. refl) (λ st out l p. (out, h)) (λ l p. refl) tt
+
+  pub word_takes : (P : Last → Bool) (name : List ℕ) → Spelling kind.Word name → Takes U P is_closed (word kind.Word name)
+  word_takes P name h = one P is_closed kind.Word name (λ st. refl) (λ st out l p. (out, h)) (λ l p. sym (called_closed (is_heading l) (is_among functions name))) tt
+
+  -- the name of a function
+  pub function_takes : (P : Last → Bool) (name : List ℕ) → Spelling kind.Word name → is_among functions name ≡ true → Takes U P is_free (word kind.Word name)
+  function_takes P name h f = one P is_free kind.Word name (λ st. refl) (λ st out l p. (out, h)) (λ l p. by_function (is_heading l) (is_among functions name) f) tt
+    where
+      by_function : (a b : Bool) → b ≡ true → is_free (cond a Closed (cond b Closed Called)) ≡ true
+      by_function true b e = refl
+      by_function false true e = refl
+      by_function false false e = cc
+
+  -- the name of a class or a defined type
+  pub heading_takes : (name : List ℕ) → Spelling kind.Word name → Takes U is_heading is_free (word kind.Word name)
+  heading_takes name h = one is_heading is_free kind.Word name (λ st. refl) (λ st out l p. (out, h)) (λ l p. ap (λ v. is_free (cond v Closed (cond (is_among functions name) Closed Called))) p) tt
+
+  pub in_parens_takes : {P Q : Last → Bool} (R : Last → Bool) {ws : List Word} → Takes U P Q ws → P Other ≡ true → R Closed ≡ true → Takes U is_free R (in_parens ws)
+  in_parens_takes {P = P} {Q = Q} R h first next = seq (paren_takes P first) (seq h (sign_takes Q R (codes ")") (refl, refl, refl, refl, refl, refl) next))
+
+  pub in_tight_takes : {P Q : Last → Bool} (R : Last → Bool) {ws : List Word} → Takes U P Q ws → P Other ≡ true → R Closed ≡ true → Takes U is_closed R (in_tight ws)
+  in_tight_takes {P = P} {Q = Q} R h first next = seq (tight_takes P first) (seq h (sign_takes Q R (codes "]") (refl, refl, refl, refl, refl, refl) next))
+
+  pub in_loose_takes : {P Q : Last → Bool} (O R : Last → Bool) {ws : List Word} → Takes U P Q ws → P Other ≡ true → R Closed ≡ true → Takes U O R (in_loose ws)
+  in_loose_takes {P = P} {Q = Q} O R h first next = seq (loose_takes O P first) (seq h (sign_takes Q R (codes "]") (refl, refl, refl, refl, refl, refl) next))
+
+  pub in_braces_takes : {P Q : Last → Bool} (O R : Last → Bool) {ws : List Word} → Takes U P Q ws → P Other ≡ true → R Other ≡ true → Takes U O R (in_braces ws)
+  in_braces_takes O R {ws = ws} h first next = record {
+    walk = λ st out l p.
+        let x = h.walk (InBrace ∷ st) refl Other first in (
+          Other,
+          next,
+          (
+            (out, record { among = refl; no_bracket = refl; brace = λ e. cc; paren = λ e. cc; arrow = λ e. cc }),
+            join (InBrace ∷ st) Other ws (sign (codes "}")) (InBrace ∷ st) x.0 st Other x.2
+                ((refl, record { among = refl; no_bracket = refl; brace = λ e. refl; paren = λ e. cc; arrow = λ e. cc }), (refl, refl)),
+          ),
+        );
+    good = (tt, both_good U ws (sign (codes "}")) h.good (tt, tt));
+  }

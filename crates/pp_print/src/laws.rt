@@ -1,4 +1,4 @@
-ghost use Rattle.std.specs.Prelude.{◌≡◌, ◌≤◌, ◌++◌, ℕ, List, length};
+ghost use Rattle.std.specs.Prelude.{◌≡◌, ◌≤◌, ◌++◌, ℕ, List, length, IsUtf8};
 ghost use Rattle.pp_syntax.specs.declared.tree.Expr.{Expr};
 ghost use Rattle.pp_syntax.specs.declared.tree.Manifest.{Manifest};
 ghost use Rattle.pp_syntax.specs.declared.tree.TypeName.{TypeName};
@@ -39,4 +39,9 @@ pub fn canonical_text_is_read()
 /// Manifests that differ at most in their places have one canonical text: what is read back is printed as it was.
 pub fn same_trees_print_alike()
     ensures { (m n : Manifest) → SameButPlaces m n → canonical m ≡ canonical n }
+{}
+
+/// The canonical text of what a UTF-8 text spells is UTF-8.
+pub fn canonical_text_is_utf8()
+    ensures { (m : Manifest) (text : List ℕ) (tokens : List Lexeme) → IsUtf8 text → Spells text tokens → IsManifest m tokens → IsUtf8 (canonical m) }
 {}
