@@ -31,15 +31,15 @@ use Rattle.pp_print.proofs.Forms.{flat_mapped, join_mapped}
 
 -- ---- searches
 
-search_natural : (d : Search-F Search) (h : Search → Sought) → search_by (λ (p : Sought). p) (map-Search Search Sought h d) ≡ search_by h d
-search_natural (plain_search.Or all) h = ap (λ (w : List Word). record { words = w; level = 0 }) (join_mapped (λ (p : Sought). sought_at 1 p) (keyword (codes "or")) h all)
-search_natural (plain_search.And all) h = ap (λ (w : List Word). record { words = w; level = 1 }) (join_mapped (λ (p : Sought). sought_at 2 p) (keyword (codes "and")) h all)
-search_natural (plain_search.Equal name value) h = refl
-search_natural (plain_search.Differ name value) h = refl
+pub search_natural : {A X : Type 0} (f : X → Sought) (h : A → X) (d : Search-F A) → search_by f (map-Search A X h d) ≡ search_by (λ x. f (h x)) d
+search_natural f h (plain_search.Or all) = ap (λ (w : List Word). record { words = w; level = 0 }) (join_mapped (λ x. sought_at 1 (f x)) (keyword (codes "or")) h all)
+search_natural f h (plain_search.And all) = ap (λ (w : List Word). record { words = w; level = 1 }) (join_mapped (λ x. sought_at 2 (f x)) (keyword (codes "and")) h all)
+search_natural f h (plain_search.Equal name value) = refl
+search_natural f h (plain_search.Differ name value) = refl
 
-search_rolled : (d : Search-F Search) → sought (roll-Search d) ≡ search_by sought d
+pub search_rolled : (d : Search-F Search) → sought (roll-Search d) ≡ search_by sought d
 unfolding sought
-search_rolled d = fold-roll-Search Sought (search_by (λ p. p)) d ∙ search_natural d sought
+search_rolled d = fold-roll-Search Sought (search_by (λ p. p)) d ∙ search_natural (λ (p : Sought). p) sought d
 
 pub sought_or : (all : List Search) → sought (search.Or all) ≡ search_by sought (plain_search.Or all)
 sought_or all = sym (ap sought (rolls-Or all)) ∙ search_rolled (plain_search.Or all)
@@ -57,23 +57,22 @@ pub ruleset searches = (sought_or, sought_and, sought_equal, sought_differ)
 
 -- ---- statements
 
-else_mapped : {S : Type 0} (h : S → List Word) (body : List S) → else_by (λ (w : List Word). w) (map h body) ≡ else_by h body
-else_mapped h [] = refl
-else_mapped h (s ∷ more) = ap (λ (w : List Word). keyword (codes "else") ++ in_braces (h s ++ w)) (flat_mapped (λ (w : List Word). w) h more)
+else_mapped : {S T : Type 0} (f : T → List Word) (h : S → T) (body : List S) → else_by f (map h body) ≡ else_by (λ x. f (h x)) body
+else_mapped f h [] = refl
+else_mapped f h (s ∷ more) = ap (λ (w : List Word). keyword (codes "else") ++ in_braces (f (h s) ++ w)) (flat_mapped f h more)
 
-block_mapped : {S : Type 0} (h : S → List Word) (body : List S) → block_by (λ (w : List Word). w) (map h body) ≡ block_by h body
-block_mapped h body = ap (λ (w : List Word). in_braces w) (flat_mapped (λ (w : List Word). w) h body)
+block_mapped : {S T : Type 0} (f : T → List Word) (h : S → T) (body : List S) → block_by f (map h body) ≡ block_by (λ x. f (h x)) body
+block_mapped f h body = ap (λ (w : List Word). in_braces w) (flat_mapped f h body)
 
-stmt_natural : (d : Stmt-F Stmt Arm CaseArm) (s : Stmt → List Word) (a : Arm → List Word) (c : CaseArm → List Word)
-    → stmt_by (λ (w : List Word). w) (λ (w : List Word). w) (λ (w : List Word). w) (map-Stmt Stmt Arm CaseArm (List Word) (List Word) (List Word) s a c d) ≡ stmt_by s a c d
-stmt_natural (plain_stmt.Chain at sides arrows) s a c = refl
-stmt_natural (plain_stmt.Assign at name value) s a c = refl
-stmt_natural (plain_stmt.Call at func args) s a c = refl
-stmt_natural (plain_stmt.If at arms other) s a c = ap (λ (w : List Word). keyword (codes "if") ++ (w ++ else_by (λ (w : List Word). w) (map s other))) (join_mapped (λ (w : List Word). w) (keyword (codes "elsif")) a arms)
-    ∙ ap (λ (w : List Word). keyword (codes "if") ++ (join_by a (keyword (codes "elsif")) arms ++ w)) (else_mapped s other)
-stmt_natural (plain_stmt.Unless at test body other) s a c = ap (λ (w : List Word). keyword (codes "unless") ++ (expr_words test ++ (w ++ else_by (λ (w : List Word). w) (map s other)))) (block_mapped s body)
-    ∙ ap (λ (w : List Word). keyword (codes "unless") ++ (expr_words test ++ (block_by s body ++ w))) (else_mapped s other)
-stmt_natural (plain_stmt.Case at value arms) s a c = ap (λ (w : List Word). keyword (codes "case") ++ (expr_words value ++ in_braces w)) (flat_mapped (λ (w : List Word). w) c arms)
+pub stmt_natural : {S A C T B D : Type 0} (s : T → List Word) (a : B → List Word) (c : D → List Word) (f : S → T) (g : A → B) (h : C → D) (d : Stmt-F S A C) → stmt_by s a c (map-Stmt S A C T B D f g h d) ≡ stmt_by (λ x. s (f x)) (λ x. a (g x)) (λ x. c (h x)) d
+stmt_natural s a c f g h (plain_stmt.Chain at sides arrows) = refl
+stmt_natural s a c f g h (plain_stmt.Assign at name value) = refl
+stmt_natural s a c f g h (plain_stmt.Call at func args) = refl
+stmt_natural s a c f g h (plain_stmt.If at arms other) = ap (λ (w : List Word). keyword (codes "if") ++ (w ++ else_by s (map f other))) (join_mapped a (keyword (codes "elsif")) g arms)
+    ∙ ap (λ (w : List Word). keyword (codes "if") ++ (join_by (λ x. a (g x)) (keyword (codes "elsif")) arms ++ w)) (else_mapped s f other)
+stmt_natural s a c f g h (plain_stmt.Unless at test body other) = ap (λ (w : List Word). keyword (codes "unless") ++ (expr_words test ++ (w ++ else_by s (map f other)))) (block_mapped s f body)
+    ∙ ap (λ (w : List Word). keyword (codes "unless") ++ (expr_words test ++ (block_by (λ x. s (f x)) body ++ w))) (else_mapped s f other)
+stmt_natural s a c f g h (plain_stmt.Case at value arms) = ap (λ (w : List Word). keyword (codes "case") ++ (expr_words value ++ in_braces w)) (flat_mapped c h arms)
 
 arm_folded : Arm → List Word
 arm_folded a = fold-Arm (List Word) (List Word) (List Word) (stmt_by (λ w. w) (λ w. w) (λ w. w)) (arm_by (λ w. w)) (case_arm_by (λ w. w)) a
@@ -84,16 +83,16 @@ case_arm_folded a = fold-CaseArm (List Word) (List Word) (List Word) (stmt_by (�
 arm_is : (a : Arm) → arm_folded a ≡ arm_words a
 unfolding arm_folded stmt_words
 arm_is a = fold_out-Arm (List Word) (List Word) (List Word) (stmt_by (λ w. w) (λ w. w) (λ w. w)) (arm_by (λ w. w)) (case_arm_by (λ w. w)) a
-    ∙ ap (λ (w : List Word). expr_words (out-Arm a).test ++ w) (block_mapped stmt_words (out-Arm a).body)
+    ∙ ap (λ (w : List Word). expr_words (out-Arm a).test ++ w) (block_mapped (λ (w : List Word). w) stmt_words (out-Arm a).body)
 
 case_arm_is : (a : CaseArm) → case_arm_folded a ≡ case_arm_words a
 unfolding case_arm_folded stmt_words
 case_arm_is a = fold_out-CaseArm (List Word) (List Word) (List Word) (stmt_by (λ w. w) (λ w. w) (λ w. w)) (arm_by (λ w. w)) (case_arm_by (λ w. w)) a
-    ∙ ap (λ (w : List Word). listed (option_by expr_words) (out-CaseArm a).options ++ (sign (codes ":") ++ w)) (block_mapped stmt_words (out-CaseArm a).body)
+    ∙ ap (λ (w : List Word). listed (option_by expr_words) (out-CaseArm a).options ++ (sign (codes ":") ++ w)) (block_mapped (λ (w : List Word). w) stmt_words (out-CaseArm a).body)
 
-stmt_rolled : (d : Stmt-F Stmt Arm CaseArm) → stmt_words (roll-Stmt d) ≡ stmt_by stmt_words arm_words case_arm_words d
+pub stmt_rolled : (d : Stmt-F Stmt Arm CaseArm) → stmt_words (roll-Stmt d) ≡ stmt_by stmt_words arm_words case_arm_words d
 unfolding arm_folded case_arm_folded stmt_words
-stmt_rolled d = fold-roll-Stmt (List Word) (List Word) (List Word) (stmt_by (λ w. w) (λ w. w) (λ w. w)) (arm_by (λ w. w)) (case_arm_by (λ w. w)) d ∙ stmt_natural d stmt_words arm_folded case_arm_folded
+stmt_rolled d = fold-roll-Stmt (List Word) (List Word) (List Word) (stmt_by (λ w. w) (λ w. w) (λ w. w)) (arm_by (λ w. w)) (case_arm_by (λ w. w)) d ∙ stmt_natural (λ (w : List Word). w) (λ (w : List Word). w) (λ (w : List Word). w) stmt_words arm_folded case_arm_folded d
     ∙ ap (λ (a : Arm → List Word). stmt_by stmt_words a case_arm_folded d) (λ i. λ x. arm_is x i) ∙ ap (λ (c : CaseArm → List Word). stmt_by stmt_words arm_words c d) (λ i. λ x. case_arm_is x i)
 
 pub words_chain : (at : ℕ) (sides : List Operand) (arrows : List Arrow) → stmt_words (stmt.Chain at sides arrows) ≡ stmt_by stmt_words arm_words case_arm_words (plain_stmt.Chain at sides arrows)

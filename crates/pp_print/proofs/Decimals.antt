@@ -1,10 +1,12 @@
 -- A number that is written in decimal is read again.
-use Rattle.std.proofs.Common.{◌≡◌, ℕ, zero, suc, ◌+◌, ◌-◌, ◌*◌, ◌/◌, ◌%◌, ◌^◌, ◌<◌, true, false, cond, ◌==◌, nat_le, List, [], ◌∷◌, get_or, refl, sym, ap, subst, ◌∙◌, arith}
+use Rattle.std.proofs.Common.{◌≡◌, ℕ, zero, suc, ◌+◌, ◌-◌, ◌*◌, ◌/◌, ◌%◌, ◌^◌, ◌<◌, true, false, cond, ◌&&◌, ◌==◌, nat_le, List, [], ◌∷◌, ◌++◌, get_or, refl, sym, ap, subst, ◌∙◌, arith}
 use Rattle.std.specs.Prelude.{decimal}
 use Rattle.std.proofs.lemmas.Bool.{eqb-true, eqb-false, ne_eqb, lt-ltb, le-leb}
-use Rattle.std.proofs.lemmas.Fmt.{first_decimal}
+use Rattle.std.proofs.lemmas.Fmt.{first_decimal, decimal_by_steps}
 use Rattle.std.specs.Fmt.{digits, digits_onto, digit_glyph}
-use Rattle.pp_syntax.specs.Tokens.{digit_of, value_from, int_value, value_after_zero}
+use Rattle.pp_syntax.specs.Bytes.{is_digit}
+use Rattle.pp_syntax.specs.Tokens as syntax
+use Rattle.pp_syntax.specs.Tokens.{Of, IntText, digit_of, value_from, int_value, value_after_zero}
 
 digit_back : (d : ℕ) → d < 10 → digit_of (digit_glyph false d) ≡ d
 digit_back d h =
@@ -43,4 +45,30 @@ pub int_decimal : (n : ℕ) → n < 2 ^ 63 → int_value (decimal n) ≡ n
 int_decimal n h = elim (n == 0) as (λ v. (n == 0) ≡ v → int_value (decimal n) ≡ n) [
   | true ↦ λ e. int_zero n (eqb-true n 0 e)
   | false ↦ λ e. let f = eqb-false n 0 e in by_first (decimal n) (first_decimal n (omega (arith, f)) (omega (arith, h))) ∙ value_all n h
+] refl
+
+-- ---- a number in decimal is spelled as one
+
+glyph_digit : (d : ℕ) → d < 10 → is_digit (48 + d) ≡ true
+glyph_digit d h = ap (λ v. v && nat_le (48 + d) 57) (le-leb 48 (48 + d) (omega arith)) ∙ le-leb (48 + d) 57 (omega (arith, h))
+
+digit_behind : (ds : List ℕ) (b : ℕ) → Of is_digit ds → is_digit b ≡ true → Of is_digit (ds ++ b ∷ [])
+digit_behind [] b h k = (k, tt)
+digit_behind (c ∷ ds) b h k = (h.0, digit_behind ds b h.1 k)
+
+all_digits : (n : ℕ) → n < 2 ^ 64 → Of is_digit (decimal n)
+all_digits = decimal_by_steps (λ m ds. Of is_digit ds) (λ m l. (glyph_digit m l, tt)) (λ m ds l h. digit_behind ds (48 + m % 10) h (glyph_digit (m % 10) (omega arith)))
+
+by_first_digit : (s : List ℕ) → 48 < get_or s 0 0 → Of is_digit s → IntText s
+by_first_digit [] h d = absurd (omega (arith, h))
+by_first_digit (b ∷ more) h d = syntax.decimal b more refl (λ e. absurd (omega (arith, e, h))) d.0 d.1
+
+zero_text : (n : ℕ) → n ≡ 0 → IntText (decimal n)
+unfolding digits
+zero_text n e = subst (λ m. IntText (decimal m)) (sym e) (syntax.only_zero refl)
+
+pub decimal_int : (n : ℕ) → n < 2 ^ 63 → IntText (decimal n)
+decimal_int n h = elim (n == 0) as (λ v. (n == 0) ≡ v → IntText (decimal n)) [
+  | true ↦ λ e. zero_text n (eqb-true n 0 e)
+  | false ↦ λ e. let f = eqb-false n 0 e in by_first_digit (decimal n) (first_decimal n (omega (arith, f)) (omega (arith, h))) (all_digits n (omega (arith, h)))
 ] refl

@@ -6,10 +6,10 @@ use Rattle.pp_syntax.specs.TokenValues.{sq_value, sq_escaped, SqOf}
 use Rattle.pp_print.specs.Words.{escapes, must_escape, escaped}
 
 -- a backslash or a quote
-abbrev special : ℕ → Bool
+abbrev pub special : ℕ → Bool
 special b = (b == 92) || (b == 39)
 
-must_special : (b : ℕ) (v : List ℕ) → must_escape b v ≡ true → special b ≡ true
+pub must_special : (b : ℕ) (v : List ℕ) → must_escape b v ≡ true → special b ≡ true
 must_special b v h = elim (or_cases (b == 39) ((b == 92) && escapes v) h) [
   | inl e ↦ or_right (b == 92) (b == 39) e
   | inr e ↦ or_left (b == 92) (b == 39) (and_parts (b == 92) (escapes v) e).0

@@ -38,27 +38,27 @@ join_same f g sep same (x ∷ xs) = ap (λ (r : List Word). r ++ flat_map (λ y.
 
 -- ---- what a form's words are, from those of the expressions in it
 
-choice_mapped : (h : Expr → Printed) (c : Option Expr × Expr) → choice_by (λ (p : Printed). p) (former-Form-Select-1-at-3.map Expr Printed h c) ≡ choice_by h c
-choice_mapped h (prelude.None, x) = refl
-choice_mapped h (prelude.Some y, x) = refl
+choice_mapped : {B X : Type 0} (f : X → Printed) (h : B → X) (c : Option B × B) → choice_by f (former-Form-Select-1-at-3.map B X h c) ≡ choice_by (λ x. f (h x)) c
+choice_mapped f h (prelude.None, x) = refl
+choice_mapped f h (prelude.Some y, x) = refl
 
-natural : (d : Form-F Form Expr) (g : Form → Printed) (h : Expr → Printed) → form_by (λ (p : Printed). p) (map-Form Form Expr Printed Printed g h d) ≡ form_by h d
-natural (plain.Int n) g h = refl
-natural (plain.Str text) g h = refl
-natural (plain.Var name) g h = refl
-natural (plain.Bool b) g h = refl
-natural plain.Undef g h = refl
-natural (plain.List members) g h = ap (λ (r : List Word). operand (in_loose r) true) (join_mapped (whole (λ (p : Printed). p)) comma h members)
-natural (plain.Map pairs) g h = ap (λ (r : List Word). operand (in_braces r) false) (join_mapped (pair_by (λ (p : Printed). p)) comma (λ (p : Expr × Expr). record { 0 = h p.0; 1 = h p.1 }) pairs)
-natural (plain.Refer name titles) g h = ap (λ (r : List Word). operand (word kind.Ref name ++ in_tight r) true) (join_mapped (whole (λ (p : Printed). p)) comma h titles)
-natural (plain.Join members) g h = ap (λ (r : List Word). operand (word kind.DqOpen (codes "\"") ++ (r ++ word kind.DqClose (codes "\""))) true) (flat_mapped (hole_by (λ (p : Printed). p)) h members)
-natural (plain.Chain first []) g h = refl
-natural (plain.Chain first (o ∷ more)) g h = ap (λ (r : List Word). record { words = at_level (level_in (o ∷ more) + 1) (h first) ++ (operation_by h (level_in (o ∷ more)) o ++ r); level = level_in (o ∷ more); indexable = false })
-    (flat_mapped (operation_by (λ (p : Printed). p) (level_in (o ∷ more))) (λ (p : Op × Expr). record { 0 = p.0; 1 = h p.1 }) more)
-natural (plain.Prefix ops x) g h = refl
-natural (plain.At base key) g h = refl
-natural (plain.Select base choices) g h = ap (λ (r : List Word). operand (at_level 8 (h base) ++ (sign (codes "?") ++ in_braces r)) false)
-    (join_mapped (choice_by (λ (p : Printed). p)) comma (former-Form-Select-1-at-3.map Expr Printed h) choices ∙ join_same (λ c. choice_by (λ (p : Printed). p) (former-Form-Select-1-at-3.map Expr Printed h c)) (choice_by h) comma (choice_mapped h) choices)
+pub form_natural : {A B G X : Type 0} (f : X → Printed) (g : A → G) (h : B → X) (d : Form-F A B) → form_by f (map-Form A B G X g h d) ≡ form_by (λ x. f (h x)) d
+form_natural f g h (plain.Int n) = refl
+form_natural f g h (plain.Str text) = refl
+form_natural f g h (plain.Var name) = refl
+form_natural f g h (plain.Bool b) = refl
+form_natural f g h plain.Undef = refl
+form_natural f g h (plain.List members) = ap (λ (r : List Word). operand (in_loose r) true) (join_mapped (whole f) comma h members)
+form_natural {B = B} {X = X} f g h (plain.Map pairs) = ap (λ (r : List Word). operand (in_braces r) false) (join_mapped (pair_by f) comma (λ (p : B × B). record { 0 = h p.0; 1 = h p.1 }) pairs)
+form_natural f g h (plain.Refer name titles) = ap (λ (r : List Word). operand (word kind.Ref name ++ in_tight r) true) (join_mapped (whole f) comma h titles)
+form_natural f g h (plain.Join members) = ap (λ (r : List Word). operand (word kind.DqOpen (codes "\"") ++ (r ++ word kind.DqClose (codes "\""))) true) (flat_mapped (hole_by f) h members)
+form_natural f g h (plain.Chain first []) = refl
+form_natural {B = B} {X = X} f g h (plain.Chain first (o ∷ more)) = ap (λ (r : List Word). record { words = at_level (level_in (o ∷ more) + 1) (f (h first)) ++ (operation_by (λ x. f (h x)) (level_in (o ∷ more)) o ++ r); level = level_in (o ∷ more); indexable = false })
+    (flat_mapped (operation_by f (level_in (o ∷ more))) (λ (p : Op × B). record { 0 = p.0; 1 = h p.1 }) more)
+form_natural f g h (plain.Prefix ops x) = refl
+form_natural f g h (plain.At base key) = refl
+form_natural {B = B} {X = X} f g h (plain.Select base choices) = ap (λ (r : List Word). operand (at_level 8 (f (h base)) ++ (sign (codes "?") ++ in_braces r)) false)
+    (join_mapped (choice_by f) comma (former-Form-Select-1-at-3.map B X h) choices ∙ join_same (λ c. choice_by f (former-Form-Select-1-at-3.map B X h c)) (choice_by (λ x. f (h x))) comma (choice_mapped f h) choices)
 
 folded : Expr → Printed
 folded x = fold-Expr Printed Printed (form_by (λ p. p)) (λ x. x.form) x
@@ -69,7 +69,7 @@ folded_is x = fold_out-Expr Printed Printed (form_by (λ p. p)) (λ x. x.form) x
 
 pub printed_rolled : (d : Form-F Form Expr) → printed_form (roll-Form d) ≡ form_by printed d
 unfolding folded printed_form
-printed_rolled d = fold-roll-Form Printed Printed (form_by (λ p. p)) (λ x. x.form) d ∙ natural d printed_form folded ∙ ap (λ (h : Expr → Printed). form_by h d) (λ i. λ x. folded_is x i)
+printed_rolled d = fold-roll-Form Printed Printed (form_by (λ p. p)) (λ x. x.form) d ∙ form_natural (λ (p : Printed). p) printed_form folded d ∙ ap (λ (h : Expr → Printed). form_by h d) (λ i. λ x. folded_is x i)
 
 -- ---- the same for each form
 

@@ -31,10 +31,10 @@ Open = Form-F Form Expr
 
 -- ---- forms told apart
 
-str_no : (name : List ℕ) (f : Form) (d : Open) → form.Str name ≡ f → out-Form f ≡ d → plain.Str name ≡ d
+pub str_no : (name : List ℕ) (f : Form) (d : Open) → form.Str name ≡ f → out-Form f ≡ d → plain.Str name ≡ d
 str_no name f d e h = sym (outs-Str name) ∙ ap out-Form e ∙ h
 
-at_no : (a k : Expr) (f : Form) (d : Open) → form.At a k ≡ f → out-Form f ≡ d → ◌≡◌ {A = Open} (plain.At a k) d
+pub at_no : (a k : Expr) (f : Form) (d : Open) → form.At a k ≡ f → out-Form f ≡ d → ◌≡◌ {A = Open} (plain.At a k) d
 at_no a k f d e h = sym (outs-At a k) ∙ ap out-Form e ∙ h
 
 no_chain : (x v first : Expr) (more : List (Op × Expr)) → ReadAsVariable x v → x.form ≡ form.Chain first more → ⊥
@@ -45,7 +45,7 @@ no_prefix : (x v z : Expr) (ops : List Op) → ReadAsVariable x v → x.form ≡
 no_prefix x v z ops (base name e f g) h = let p : ◌≡◌ {A = Open} (plain.Str name) (plain.Prefix ops z) = str_no name (form.Prefix ops z) (plain.Prefix ops z) (sym e ∙ h) (outs-Prefix ops z) in cc
 no_prefix x v z ops (index a b k e f g r) h = let p : ◌≡◌ {A = Open} (plain.At a k) (plain.Prefix ops z) = at_no a k (form.Prefix ops z) (plain.Prefix ops z) (sym e ∙ h) (outs-Prefix ops z) in cc
 
-no_select : (x v z : Expr) (cs : List (Option Expr × Expr)) → ReadAsVariable x v → x.form ≡ form.Select z cs → ⊥
+pub no_select : (x v z : Expr) (cs : List (Option Expr × Expr)) → ReadAsVariable x v → x.form ≡ form.Select z cs → ⊥
 no_select x v z cs (base name e f g) h = let p : ◌≡◌ {A = Open} (plain.Str name) (plain.Select z cs) = str_no name (form.Select z cs) (plain.Select z cs) (sym e ∙ h) (outs-Select z cs) in cc
 no_select x v z cs (index a b k e f g r) h = let p : ◌≡◌ {A = Open} (plain.At a k) (plain.Select z cs) = at_no a k (form.Select z cs) (plain.Select z cs) (sym e ∙ h) (outs-Select z cs) in cc
 
@@ -117,7 +117,7 @@ pub record Texts (x y : Expr) : Type 0 where
   pub text_indexed : (printed x).indexable ≡ true
   pub read_indexed : (printed y).indexable ≡ true
 
-texts_of : (x y : Expr) → ReadAsVariable x y → Texts x y
+pub texts_of : (x y : Expr) → ReadAsVariable x y → Texts x y
 texts_of x y (base name e f g) = record {
   name = name;
   more = [];
@@ -154,10 +154,10 @@ unprefix : (G : Rule) (x v : Expr) (ts : List Lexeme) → ReadAsVariable x v →
 unprefix G x v ts r (rule.operand d) = d
 unprefix G x v ts r (rule.prefixed o ops z e at d) = absurd (no_prefix x v z (o ∷ ops) r e)
 
-unwrap : (G : Rule) (x v : Expr) (ts : List Lexeme) → ReadAsVariable x v → ExprOf G x ts → PostfixOf G x ts
+pub unwrap : (G : Rule) (x v : Expr) (ts : List Lexeme) → ReadAsVariable x v → ExprOf G x ts → PostfixOf G x ts
 unwrap G x v ts r d = unprefix G x v ts r (unchain _ 6 x v ts r (unchain _ 5 x v ts r (unchain _ 4 x v ts r (unchain _ 3 x v ts r (unchain _ 2 x v ts r (unchain _ 1 x v ts r (unchain _ 0 x v ts r d)))))))
 
-same_at : (a k b j : Expr) → form.At a k ≡ form.At b j → (a ≡ b) × (k ≡ j)
+pub same_at : (a k b j : Expr) → form.At a k ≡ form.At b j → (a ≡ b) × (k ≡ j)
 same_at a k b j h =
     let same : ◌≡◌ {A = Open} (plain.At a k) (plain.At b j) = at_no a k (form.At b j) (plain.At b j) h (outs-At b j) in
     let first : a ≡ b = cc in
@@ -209,17 +209,17 @@ value_is name value raw e v =
     let tails : v.0 ++ 39 ∷ [] ≡ escaped name ++ 39 ∷ [] = cc in
     v.2 ∙ ap sq_value (snoc_same v.0 (escaped name) 39 tails) ∙ (escaped_reads name).0
 
-first_token : (k : Kind) (s : List ℕ) (at : ℕ) (front back rest : List Lexeme) (t : Lexeme) → Token k s at front → t ∷ rest ≡ front ++ back → (t ≡ record { kind = k; text = s; at = at }) × (rest ≡ back)
+pub first_token : (k : Kind) (s : List ℕ) (at : ℕ) (front back rest : List Lexeme) (t : Lexeme) → Token k s at front → t ∷ rest ≡ front ++ back → (t ≡ record { kind = k; text = s; at = at }) × (rest ≡ back)
 first_token k s at front back rest t d h =
     let same : ◌≡◌ {A = List Lexeme} (t ∷ rest) (record { kind = k; text = s; at = at } ∷ back) = h ∙ ap (λ (r : List Lexeme). r ++ back) d in
     let head : ◌≡◌ {A = Lexeme} t (record { kind = k; text = s; at = at }) = cc in
     let tail : rest ≡ back = cc in
     (head, tail)
 
-other_kind : (k : Kind) (s : List ℕ) (at : ℕ) (front back rest : List Lexeme) (t : Lexeme) → Token k s at front → t ∷ rest ≡ front ++ back → t.kind ≡ kind.Sq → k ≡ kind.Sq
+pub other_kind : {j : Kind} (k : Kind) (s : List ℕ) (at : ℕ) (front back rest : List Lexeme) (t : Lexeme) → Token k s at front → t ∷ rest ≡ front ++ back → t.kind ≡ j → k ≡ j
 other_kind k s at front back rest t d h e = sym (ap (λ (u : Lexeme). u.kind) (first_token k s at front back rest t d h).0) ∙ e
 
-begins_other : (A B : List Lexeme → Type 0) (k : Kind) (s : List ℕ) (at : ℕ) (front back rest : List Lexeme) (t : Lexeme) (d : (A then B) front) → Token k s at d.front → t ∷ rest ≡ front ++ back → t.kind ≡ kind.Sq → k ≡ kind.Sq
+pub begins_other : {j : Kind} (A B : List Lexeme → Type 0) (k : Kind) (s : List ℕ) (at : ℕ) (front back rest : List Lexeme) (t : Lexeme) (d : (A then B) front) → Token k s at d.front → t ∷ rest ≡ front ++ back → t.kind ≡ j → k ≡ j
 begins_other A B k s at front back rest t d tok h e = other_kind k s at d.front (d.back ++ back) rest t tok (h ∙ ap (λ (r : List Lexeme). r ++ back) d.whole ∙ append_assoc d.front d.back back) e
 
 -- An operand that begins with a text in single quotes is that text.

@@ -15,3 +15,14 @@ pub mod Searches
 pub mod Chains
 pub mod StatementLaws
 pub mod ItemLaws
+pub mod Walks
+pub mod ReadBack
+pub mod NoneLeftOut
+pub mod WordLists
+pub mod ExpressionWalks
+pub mod ReadAsWords
+pub mod ResourceWalks
+pub mod StatementWalks
+pub mod RoundTrip
+pub mod Alike
+pub mod Utf8

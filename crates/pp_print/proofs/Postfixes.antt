@@ -80,7 +80,7 @@ text_leaf F value at us t = rule.string (rule.single value (39 ∷ (escaped valu
 text_reprint : (F : Rule) (y : Expr) (value : List ℕ) → y.form ≡ form.Str value → Reprint F 8 y
 text_reprint F y value e = leaf_reprint F y (form.Str value) (form.Str value) kind.Sq (39 ∷ (escaped value ++ 39 ∷ [])) true e refl (ap printed_form e ∙ printed_str value) (text_leaf F value)
 
-variable_words : (name : List ℕ) → has_dash name ≡ false → variable name ≡ word kind.Var (36 ∷ name)
+pub variable_words : (name : List ℕ) → has_dash name ≡ false → variable name ≡ word kind.Var (36 ∷ name)
 variable_words name h = ap (λ v. cond v (word kind.Word name) (word kind.Var (36 ∷ name))) h
 
 variable_reprint : (F : Rule) (y : Expr) (name : List ℕ) → y.form ≡ form.Var name → has_dash name ≡ false → Reprint F 8 y

@@ -27,7 +27,7 @@ use Rattle.pp_print.proofs.Bodies.{name_reads, postfix_reads}
 
 -- ---- searches without places
 
-rolled : (d : Search-F Search) → unplaced_search (roll-Search d) ≡ roll-Search (search_step (map-Search Search Search unplaced_search d))
+pub rolled : (d : Search-F Search) → unplaced_search (roll-Search d) ≡ roll-Search (search_step (map-Search Search Search unplaced_search d))
 unfolding unplaced_search
 rolled d = fold-roll-Search Search (λ x. roll-Search (search_step x)) d
 

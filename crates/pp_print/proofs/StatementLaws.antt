@@ -32,10 +32,10 @@ use Rattle.pp_print.proofs.Chains.{braced, braces_small, operand_reads, links_re
 
 -- ---- statements without places
 
-pub unplaced_arm : Arm → Arm
+unfoldable pub unplaced_arm : Arm → Arm
 unplaced_arm a = roll-Arm (record { test = unplaced (out-Arm a).test; body = map unplaced_stmt (out-Arm a).body })
 
-pub unplaced_case_arm : CaseArm → CaseArm
+unfoldable pub unplaced_case_arm : CaseArm → CaseArm
 unplaced_case_arm a = roll-CaseArm (record { options = map (option_map unplaced) (out-CaseArm a).options; body = map unplaced_stmt (out-CaseArm a).body })
 
 arm_folded : Arm → Arm
@@ -52,7 +52,7 @@ case_arm_is : (a : CaseArm) → case_arm_folded a ≡ unplaced_case_arm a
 unfolding case_arm_folded unplaced_case_arm unplaced_stmt
 case_arm_is a = fold_out-CaseArm Stmt Arm CaseArm (λ x. roll-Stmt (stmt_step x)) arm_step case_arm_step a
 
-rolled : (d : Stmt-F Stmt Arm CaseArm) → unplaced_stmt (roll-Stmt d) ≡ roll-Stmt (stmt_step (map-Stmt Stmt Arm CaseArm Stmt Arm CaseArm unplaced_stmt unplaced_arm unplaced_case_arm d))
+pub rolled : (d : Stmt-F Stmt Arm CaseArm) → unplaced_stmt (roll-Stmt d) ≡ roll-Stmt (stmt_step (map-Stmt Stmt Arm CaseArm Stmt Arm CaseArm unplaced_stmt unplaced_arm unplaced_case_arm d))
 unfolding arm_folded case_arm_folded unplaced_stmt
 rolled d = fold-roll-Stmt Stmt Arm CaseArm (λ x. roll-Stmt (stmt_step x)) arm_step case_arm_step d
     ∙ ap (λ (a : Arm → Arm). roll-Stmt (stmt_step (map-Stmt Stmt Arm CaseArm Stmt Arm CaseArm unplaced_stmt a case_arm_folded d))) (λ i. λ x. arm_is x i)

@@ -3,9 +3,11 @@ use Rattle.std.specs.Prelude.{ℕ, List}
 use Rattle.pp_syntax.specs.declared.tree.Manifest.{Manifest}
 use Rattle.pp_syntax.specs.Tokens.{Lexeme}
 use Rattle.pp_syntax.specs.Spelling.{Spells}
+use Rattle.pp_syntax.specs.LeftOut.{IsNowhere, IsLeftOut}
 use Rattle.pp_syntax.specs.Statements.{IsManifest}
 use Rattle.pp_print.specs.Words.{text_of}
 use Rattle.pp_print.specs.Statements.{manifest_words}
+use Rattle.pp_print.specs.Places.{SameButPlaces}
 
 -- Some text spells the manifest.
 abbrev pub IsSpelled : Manifest → Type 0
@@ -13,3 +15,12 @@ IsSpelled m = (text : List ℕ) × (tokens : List Lexeme) × Spells text tokens 
 
 abbrev pub canonical : Manifest → List ℕ
 canonical m = text_of (manifest_words m)
+
+-- The text is tokens of which none is left out of the language, and they spell this manifest, places aside.
+pub record ReadsBack (text : List ℕ) (m : Manifest) : Type 0 where
+  pub tokens : List Lexeme
+  pub spelled : Spells text tokens
+  pub all_in : IsNowhere IsLeftOut tokens
+  pub tree : Manifest
+  pub derived : IsManifest tree tokens
+  pub same : SameButPlaces m tree

@@ -1,5 +1,5 @@
 pub mod Words
 pub mod Expressions
 pub mod Statements
-pub mod Canonical
 pub mod Places
+pub mod Canonical

@@ -1,4 +1,4 @@
-ghost use Rattle.std.specs.Prelude.{◌≡◌, ◌≤◌, ◌++◌, ℕ, List, length};
+ghost use Rattle.std.specs.Prelude.{◌≡◌, ◌≤◌, ◌++◌, ℕ, List, length, IsUtf8};
 ghost use Rattle.pp_syntax.specs.declared.tree.Expr.{Expr};
 ghost use Rattle.pp_syntax.specs.declared.tree.Manifest.{Manifest};
 ghost use Rattle.pp_syntax.specs.declared.tree.TypeName.{TypeName};
@@ -11,6 +11,9 @@ ghost use Rattle.pp_print.specs.Words.{words_in, escaped};
 ghost use Rattle.pp_print.specs.Expressions.{expr_words};
 ghost use Rattle.pp_print.specs.Statements.{type_words, manifest_words};
 ghost use Rattle.pp_print.specs.Places.{unplaced, SameButPlaces};
+ghost use Rattle.pp_print.specs.Canonical.{IsSpelled, canonical, ReadsBack};
+
+use pp_syntax::set_apart_tokens_stand;
 
 /// A text in single quotes is written with the fewest backslashes that spell it.
 pub fn fewest_backslashes()
@@ -24,4 +27,21 @@ pub fn words_spell_again()
     ensures manifests { (m : Manifest) (text : List ℕ) (ts us : List Lexeme) → Spells text ts → IsManifest m ts → words_in us ≡ manifest_words m → (k : Manifest) × IsManifest k us × SameButPlaces m k }
     ensures expressions { (x : Expr) (text : List ℕ) (before ts behind us : List Lexeme) → Spells text (before ++ (ts ++ behind)) → IsExpr x ts → words_in us ≡ expr_words x → (y : Expr) × IsExpr y us × (unplaced x ≡ unplaced y) }
     ensures types { (t : TypeName) (text : List ℕ) (before ts behind us : List Lexeme) → Spells text (before ++ (ts ++ behind)) → IsType t ts → words_in us ≡ type_words t → IsType t us }
+{}
+
+/// The canonical text of a manifest is read back: it is tokens, and these spell the manifest, places aside.
+pub fn canonical_text_is_read()
+    ensures { (m : Manifest) → IsSpelled m → ReadsBack (canonical m) m }
+{
+    set_apart_tokens_stand();
+}
+
+/// Manifests that differ at most in their places have one canonical text: what is read back is printed as it was.
+pub fn same_trees_print_alike()
+    ensures { (m n : Manifest) → SameButPlaces m n → canonical m ≡ canonical n }
+{}
+
+/// The canonical text of what a UTF-8 text spells is UTF-8.
+pub fn canonical_text_is_utf8()
+    ensures { (m : Manifest) (text : List ℕ) (tokens : List Lexeme) → IsUtf8 text → Spells text tokens → IsManifest m tokens → IsUtf8 (canonical m) }
 {}

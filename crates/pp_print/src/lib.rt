@@ -11,7 +11,10 @@ mod statement;
 mod types;
 mod words;
 
-pub use laws::{fewest_backslashes, words_spell_again};
+pub use laws::{
+    canonical_text_is_read, canonical_text_is_utf8, fewest_backslashes, same_trees_print_alike,
+    words_spell_again,
+};
 pub use manifest::print;
 
 #[cfg(test)]

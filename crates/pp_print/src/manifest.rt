@@ -1,9 +1,10 @@
-ghost use Rattle.std.specs.Prelude.{◌≡◌, ◌++◌, IfOk, OnOk, OnErr};
+ghost use Rattle.std.specs.Prelude.{◌≡◌, ◌++◌, ℕ, List, IfOk, OnOk, OnErr};
 ghost use Rattle.pp_print.specs.Words.{clings, holds, text_from, text_of};
 ghost use Rattle.pp_print.specs.Statements.{manifest_words};
-ghost use Rattle.pp_print.specs.Canonical.{IsSpelled, canonical};
+ghost use Rattle.pp_print.specs.Canonical.{IsSpelled, canonical, ReadsBack};
 
 use crate::item::items;
+use crate::laws::canonical_text_is_read;
 use crate::words::{Word, Words};
 use pp_syntax::{Kind, Manifest};
 use rh_base::NoMemory;
@@ -52,7 +53,10 @@ pub fn print(alloc: Global, manifest: &Manifest, into: &mut Vec<u8>) -> Result<(
     requires { IsSpelled manifest.now }
     ensures ok { OnOk result (into.new.items ≡ into.old.items ++ canonical manifest.now) }
     ensures err { OnErr result (into.new.items ≡ into.old.items) }
+    // What is appended spells the manifest again, places aside.
+    ensures reads { OnOk result ((text : List ℕ) → into.new.items ≡ into.old.items ++ text → ReadsBack text manifest.now) }
 {
+    canonical_text_is_read();
     let text = canonical(alloc, manifest)?;
     into.extend_from_slice(&text)?;
     Ok(())

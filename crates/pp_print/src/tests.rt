@@ -1,5 +1,5 @@
 use crate::manifest::{canonical, print};
-use pp_syntax::{Arm, Expr, Form, Item, Manifest, Op, Stmt};
+use pp_syntax::{Arm, Expr, Form, Func, Item, Manifest, Op, Stmt};
 use rh_base::{Boxed, NoMemory, Seq, Text};
 use std::alloc::Global;
 use std::test::Fail;
@@ -136,6 +136,16 @@ fn an_else_of_no_statements_is_left_out(rt: HostRuntime) -> Result<(), Fail> {
     let other = Seq::new(alloc);
     let what = written(alloc, Stmt::If { at: 0, arms, other })?;
     same(&what, "if 1 { }")
+}
+
+#[test]
+fn a_call_has_its_parentheses(rt: HostRuntime) -> Result<(), Fail> {
+    let alloc = rt.alloc();
+    let mut args = one(alloc, string(alloc, "a")?)?;
+    args.push(string(alloc, "b")?)?;
+    let func = Func::Include;
+    let what = written(alloc, Stmt::Call { at: 0, func, args })?;
+    same(&what, "include ( 'a' , 'b' )")
 }
 
 #[test]
