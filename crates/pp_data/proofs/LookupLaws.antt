@@ -44,6 +44,24 @@ all_met_by facts (w ∷ wants) h = ap (λ t. t && list_all (is_met facts) wants)
 pub applies_where : (facts : List Pair) (level : Level) → (applies facts level ≡ true) ↔ Applies facts level
 applies_where facts level = (all_met facts level.when.pairs, all_met_by facts level.when.pairs)
 
+one_unmet : (facts before behind : List Pair) (wanted : Pair) → is_met facts wanted ≡ false → list_all (is_met facts) (before ++ wanted ∷ behind) ≡ false
+one_unmet facts [] behind wanted h = ap (λ t. t && list_all (is_met facts) behind) h
+one_unmet facts (w ∷ before) behind wanted h = either (is_met facts w) (one_unmet facts before behind wanted h)
+  where
+    either : (a : Bool) {b : Bool} → b ≡ false → (a && b) ≡ false
+    either true h = h
+    either false h = refl
+
+kept_out : (facts : List Pair) (level : Level) (before behind : List Pair) (wanted : Pair) → level.when.pairs ≡ before ++ wanted ∷ behind → is_met facts wanted ≡ false → applies facts level ≡ false
+kept_out facts level before behind wanted whole h = ap (list_all (is_met facts)) whole ∙ one_unmet facts before behind wanted h
+
+pub missing_out : (facts : List Pair) (level : Level) (before behind : List Pair) (wanted : Pair) → level.when.pairs ≡ before ++ wanted ∷ behind → value_at wanted.0 facts ≡ None → applies facts level ≡ false
+missing_out facts level before behind wanted whole h = kept_out facts level before behind wanted whole (ap (passes (λ x. gives_true (equal_table x wanted.1))) h)
+
+pub no_result_out : (facts : List Pair) (level : Level) (before behind : List Pair) (wanted : Pair) (x : Value) (m : Misfit) → level.when.pairs ≡ before ++ wanted ∷ behind → value_at wanted.0 facts ≡ Some x → equal_table x wanted.1 ≡ Err m → applies facts level ≡ false
+no_result_out facts level before behind wanted x m whole stands none =
+    kept_out facts level before behind wanted whole (ap (passes (λ x. gives_true (equal_table x wanted.1))) stands ∙ ap gives_true none)
+
 -- ---- what one level gives
 
 undef_only : (x : Value) → is_undef x ≡ true → x ≡ v.Undef

@@ -33,7 +33,7 @@ impl From<NoMemory> for Misread {
     }
 }
 
-/// Whether an object has no other keys than these two.
+/// Whether an object has no other keys than these two, which may be one.
 fn has_only(members: &Map<String, Json>, a: &str, b: &str) -> bool
     ensures { result ≡ has_only a.now b.now (members_view members.now.entries) }
 {
