@@ -1,7 +1,7 @@
 //! Which levels apply, and what they say of a key.
 
 ghost use Rattle.std.specs.Prelude.{◌≡◌, None, IfOk, option_map, if◌then◌else◌};
-ghost use Rattle.pp_value.specs.Values.{value_at, is_undef};
+ghost use Rattle.pp_value.specs.Values.{value_at};
 ghost use Rattle.pp_eval.specs.Scoping.{pairs_in};
 ghost use Rattle.pp_data.specs.Lookup.{key_of, is_met, applies, value_in, lookup};
 

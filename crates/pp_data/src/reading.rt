@@ -2,7 +2,6 @@
 
 ghost use Rattle.std.specs.Prelude.{◌≡◌, List, IfOk, IfErr, option_map, codes};
 ghost use Rattle.rh_base.specs.Refused.{IfRefused, IsRefusal};
-ghost use Rattle.serde_json.specs.Find.{get_member};
 ghost use Rattle.serde_json.specs.View.{view, items_view, members_view};
 ghost use Rattle.pp_data.specs.declared.data.Level.{Level as L};
 ghost use Rattle.pp_data.specs.Form.{AreData};
@@ -34,19 +33,20 @@ impl From<NoMemory> for Misread {
 }
 
 /// Whether an object has no other keys than these two, which may be one.
-fn has_only(members: &Map<String, Json>, a: &str, b: &str) -> bool
-    ensures { result ≡ has_only a.now b.now (members_view members.now.entries) }
+fn has_only(members: &Map<String, Json>, one: &str, other: &str) -> bool
+    ensures { result ≡ has_only one.now other.now (members_view members.now.entries) }
 {
     for (key, _) in members.iter() {
-        let is_first = key.as_str() == a;
-        let is_second = key.as_str() == b;
-        if !(is_first || is_second) {
+        let is_one = key.as_str() == one;
+        let is_other = key.as_str() == other;
+        if !(is_one || is_other) {
             return false;
         }
     }
     true
 }
 
+/// The pairs of an object.
 fn pairs_in(alloc: Global, json: &Json) -> Result<Pairs, Misread>
     ensures { Gives (λ p. p.pairs) result (pairs_in (view json.now)) }
 {
@@ -54,6 +54,7 @@ fn pairs_in(alloc: Global, json: &Json) -> Result<Pairs, Misread>
     Ok(pairs_of_json(alloc, members)?)
 }
 
+/// What a level asks for: nothing, where `when` is left out.
 fn when_in(alloc: Global, json: Option<&Json>) -> Result<Pairs, Misread>
     ensures { Gives (λ p. p.pairs) result (when_in (option_map (λ d. view d.now) json.entry)) }
 {

@@ -4,4 +4,4 @@ use Rattle.pp_data.specs.Reading.{has_only}
 use Rattle.pp_data.proofs.reading.has_only.Given as goal
 
 abbrev pub invariant-loop-key : goal.invariant-loop-key
-invariant-loop-key l = has_only l.a l.b (members_view l.key-iterator) ≡ has_only l.a l.b (members_view l.members.entries)
+invariant-loop-key l = has_only l.one l.other (members_view l.key-iterator) ≡ has_only l.one l.other (members_view l.members.entries)
