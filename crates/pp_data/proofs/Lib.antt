@@ -1,0 +1,2 @@
+pub mod LookupLaws
+pub mod FormLaws

@@ -1,0 +1,172 @@
+-- Which levels apply, and which of them counts.
+use Rattle.std.proofs.Common.{◌≡◌, ◌≢◌, ◌↔◌, ℕ, Bool, true, false, true≢false, cond, ◌&&◌, List, [], ◌∷◌, ◌++◌, filter, Option, Some, None, Result, Ok, Err, refl, ap, sym, ◌∙◌}
+use Rattle.std.specs.Option.{option_or, option_and_then}
+use Rattle.std.specs.List.{list_all, AllByRecursion}
+use Rattle.pp_value.specs.declared.fault.Misfit.{Misfit}
+use Rattle.pp_value.specs.declared.value.Value.{Value}
+use Rattle.pp_value.specs.declared.value.Value.TheVariants as v
+use Rattle.pp_value.specs.Table.{equal_table}
+use Rattle.pp_value.specs.Values.{Pair, value_at, passes, is_undef}
+use Rattle.pp_data.specs.declared.data.Level.{Level}
+use Rattle.pp_data.specs.Lookup.{gives_true, is_met, applies, unless_undef, value_in, first_value, lookup, IsMet, Applies, Gives, NoneGives, IsFirst}
+
+-- ---- what applies
+
+both : (a b : Bool) → (a && b) ≡ true → (a ≡ true) × (b ≡ true)
+both true b h = (refl, h)
+both false b h = absurd (true≢false (sym h))
+
+no_value : {X : Type 0} (x : X) → None ≡ Some x → ⊥
+no_value x h = cc
+
+is_true : (r : Result Bool Misfit) → gives_true r ≡ true → r ≡ Ok true
+is_true (Ok b) h = ap Ok h
+is_true (Err m) h = absurd (true≢false (sym h))
+
+met : (facts : List Pair) (wanted : Pair) → is_met facts wanted ≡ true → IsMet facts wanted
+met facts wanted h = at (value_at wanted.0 facts) refl h
+  where
+    at : (found : Option Value) → value_at wanted.0 facts ≡ found → passes (λ x. gives_true (equal_table x wanted.1)) found ≡ true → IsMet facts wanted
+    at None e h = absurd (true≢false (sym h))
+    at (Some x) e h = record { value = x; stands = e; same = is_true (equal_table x wanted.1) h }
+
+is_met_by : (facts : List Pair) (wanted : Pair) → IsMet facts wanted → is_met facts wanted ≡ true
+is_met_by facts wanted m = ap (passes (λ x. gives_true (equal_table x wanted.1))) m.stands ∙ ap gives_true m.same
+
+all_met : (facts wants : List Pair) → list_all (is_met facts) wants ≡ true → AllByRecursion (IsMet facts) wants
+all_met facts [] h = tt
+all_met facts (w ∷ wants) h = let parts = both (is_met facts w) (list_all (is_met facts) wants) h in (met facts w parts.0, all_met facts wants parts.1)
+
+all_met_by : (facts wants : List Pair) → AllByRecursion (IsMet facts) wants → list_all (is_met facts) wants ≡ true
+all_met_by facts [] h = refl
+all_met_by facts (w ∷ wants) h = ap (λ t. t && list_all (is_met facts) wants) (is_met_by facts w h.0) ∙ all_met_by facts wants h.1
+
+pub applies_where : (facts : List Pair) (level : Level) → (applies facts level ≡ true) ↔ Applies facts level
+applies_where facts level = (all_met facts level.when.pairs, all_met_by facts level.when.pairs)
+
+one_unmet : (facts before behind : List Pair) (wanted : Pair) → is_met facts wanted ≡ false → list_all (is_met facts) (before ++ wanted ∷ behind) ≡ false
+one_unmet facts [] behind wanted h = ap (λ t. t && list_all (is_met facts) behind) h
+one_unmet facts (w ∷ before) behind wanted h = either (is_met facts w) (one_unmet facts before behind wanted h)
+  where
+    either : (a : Bool) {b : Bool} → b ≡ false → (a && b) ≡ false
+    either true h = h
+    either false h = refl
+
+kept_out : (facts : List Pair) (level : Level) (before behind : List Pair) (wanted : Pair) → level.when.pairs ≡ before ++ wanted ∷ behind → is_met facts wanted ≡ false → applies facts level ≡ false
+kept_out facts level before behind wanted whole h = ap (list_all (is_met facts)) whole ∙ one_unmet facts before behind wanted h
+
+pub missing_out : (facts : List Pair) (level : Level) (before behind : List Pair) (wanted : Pair) → level.when.pairs ≡ before ++ wanted ∷ behind → value_at wanted.0 facts ≡ None → applies facts level ≡ false
+missing_out facts level before behind wanted whole h = kept_out facts level before behind wanted whole (ap (passes (λ x. gives_true (equal_table x wanted.1))) h)
+
+pub no_result_out : (facts : List Pair) (level : Level) (before behind : List Pair) (wanted : Pair) (x : Value) (m : Misfit) → level.when.pairs ≡ before ++ wanted ∷ behind → value_at wanted.0 facts ≡ Some x → equal_table x wanted.1 ≡ Err m → applies facts level ≡ false
+no_result_out facts level before behind wanted x m whole stands none =
+    kept_out facts level before behind wanted whole (ap (passes (λ x. gives_true (equal_table x wanted.1))) stands ∙ ap gives_true none)
+
+-- ---- what one level gives
+
+undef_only : (x : Value) → is_undef x ≡ true → x ≡ v.Undef
+undef_only v.Undef h = refl
+undef_only (v.Bool b) h = absurd (true≢false (sym h))
+undef_only (v.Int n) h = absurd (true≢false (sym h))
+undef_only (v.Str text) h = absurd (true≢false (sym h))
+undef_only (v.List' shape row) h = absurd (true≢false (sym h))
+undef_only (v.Map' shape row) h = absurd (true≢false (sym h))
+undef_only (v.Refer r) h = absurd (true≢false (sym h))
+undef_only v.Opaque h = absurd (true≢false (sym h))
+
+not_undef : (y x : Value) → unless_undef y ≡ Some x → (y ≡ x) × (x ≢ v.Undef)
+not_undef y x h = at (is_undef y) refl h
+  where
+    at : (t : Bool) → is_undef y ≡ t → cond t None (Some y) ≡ Some x → (y ≡ x) × (x ≢ v.Undef)
+    at true e h = absurd (no_value x h)
+    at false e h = let same : y ≡ x = cc in (same, λ u. true≢false (sym (ap is_undef (same ∙ u)) ∙ e))
+
+is_kept : (x : Value) → x ≢ v.Undef → unless_undef x ≡ Some x
+is_kept x other = at (is_undef x) refl
+  where
+    at : (t : Bool) → is_undef x ≡ t → cond t None (Some x) ≡ Some x
+    at true e = absurd (other (undef_only x e))
+    at false e = refl
+
+has_value : (key : List ℕ) (level : Level) (x : Value) → value_in key level ≡ Some x → (value_at key level.values.pairs ≡ Some x) × (x ≢ v.Undef)
+has_value key level x h = at (value_at key level.values.pairs) refl h
+  where
+    at : (found : Option Value) → value_at key level.values.pairs ≡ found → option_and_then unless_undef found ≡ Some x → (value_at key level.values.pairs ≡ Some x) × (x ≢ v.Undef)
+    at None e h = absurd (no_value x h)
+    at (Some y) e h = let parts = not_undef y x h in (e ∙ ap Some parts.0, parts.1)
+
+-- what a level gives: its value where it applies
+abbrev pub given : List Pair → List ℕ → Level → Option Value
+given facts key level = cond (applies facts level) (value_in key level) None
+
+gives : (facts : List Pair) (key : List ℕ) (level : Level) (x : Value) → given facts key level ≡ Some x → Gives facts key level x
+gives facts key level x h = at (applies facts level) refl h
+  where
+    at : (t : Bool) → applies facts level ≡ t → cond t (value_in key level) None ≡ Some x → Gives facts key level x
+    at true e h = let parts = has_value key level x h in record { applies = (applies_where facts level).0 e; stands = parts.0; other = parts.1 }
+    at false e h = absurd (no_value x h)
+
+is_given : (facts : List Pair) (key : List ℕ) (level : Level) (x : Value) → Gives facts key level x → given facts key level ≡ Some x
+is_given facts key level x g = ap (λ t. cond t (value_in key level) None) ((applies_where facts level).1 g.applies) ∙ (ap (option_and_then unless_undef) g.stands ∙ is_kept x g.other)
+
+gives_none : (facts : List Pair) (key : List ℕ) (level : Level) → given facts key level ≡ None → (x : Value) → Gives facts key level x → ⊥
+gives_none facts key level h x g = no_value x (sym h ∙ is_given facts key level x g)
+
+none_given : (facts : List Pair) (key : List ℕ) (level : Level) → ((x : Value) → Gives facts key level x → ⊥) → given facts key level ≡ None
+none_given facts key level h = at (given facts key level) refl
+  where
+    at : (o : Option Value) → given facts key level ≡ o → o ≡ None
+    at None e = refl
+    at (Some x) e = absurd (h x (gives facts key level x e))
+
+-- ---- the first level
+
+pub next_level : (level : Level) (levels : List Level) (facts : List Pair) (key : List ℕ) → lookup (level ∷ levels) facts key ≡ option_or (cond (applies facts level) (value_in key level) None) (lookup levels facts key)
+next_level level levels facts key = at (applies facts level)
+  where
+    at : (t : Bool) → first_value key (cond t (level ∷ filter (applies facts) levels) (filter (applies facts) levels)) ≡ option_or (cond t (value_in key level) None) (first_value key (filter (applies facts) levels))
+    at true = refl
+    at false = refl
+
+is_first : (levels : List Level) (facts : List Pair) (key : List ℕ) (x : Value) → lookup levels facts key ≡ Some x → IsFirst levels facts key x
+is_first [] facts key x h = absurd (no_value x h)
+is_first (level ∷ levels) facts key x h = at (given facts key level) refl (sym (next_level level levels facts key) ∙ h) (is_first levels facts key x)
+  where
+    at : (o : Option Value) → given facts key level ≡ o → option_or o (lookup levels facts key) ≡ Some x → (lookup levels facts key ≡ Some x → IsFirst levels facts key x) → IsFirst (level ∷ levels) facts key x
+    at None e h later =
+        let r = later h in
+        record { before = level ∷ r.before; level = r.level; behind = r.behind; whole = ap (λ more. level ∷ more) r.whole; none_before = (gives_none facts key level e, r.none_before); gives = r.gives }
+    at (Some y) e h later = record { before = []; level = level; behind = levels; whole = refl; none_before = tt; gives = gives facts key level x (e ∙ h) }
+
+first_found : (before : List Level) (level : Level) (behind : List Level) (facts : List Pair) (key : List ℕ) (x : Value) → NoneGives facts key before → Gives facts key level x → lookup (before ++ level ∷ behind) facts key ≡ Some x
+first_found [] level behind facts key x n g = next_level level behind facts key ∙ ap (λ o. option_or o (lookup behind facts key)) (is_given facts key level x g)
+first_found (b ∷ before) level behind facts key x n g =
+    next_level b (before ++ level ∷ behind) facts key
+    ∙ (ap (λ o. option_or o (lookup (before ++ level ∷ behind) facts key)) (none_given facts key b n.0) ∙ first_found before level behind facts key x n.1 g)
+
+pub found_first : (levels : List Level) (facts : List Pair) (key : List ℕ) (x : Value) → (lookup levels facts key ≡ Some x) ↔ IsFirst levels facts key x
+found_first levels facts key x = (
+  is_first levels facts key x,
+  λ f. ap (λ ls. lookup ls facts key) f.whole ∙ first_found f.before f.level f.behind facts key x f.none_before f.gives,
+)
+
+none_gives : (levels : List Level) (facts : List Pair) (key : List ℕ) → lookup levels facts key ≡ None → NoneGives facts key levels
+none_gives [] facts key h = tt
+none_gives (level ∷ levels) facts key h = at (given facts key level) refl (sym (next_level level levels facts key) ∙ h) (none_gives levels facts key)
+  where
+    at : (o : Option Value) → given facts key level ≡ o → option_or o (lookup levels facts key) ≡ None → (lookup levels facts key ≡ None → NoneGives facts key levels) → NoneGives facts key (level ∷ levels)
+    at None e h later = (gives_none facts key level e, later h)
+    at (Some y) e h later = absurd (no_value y (sym h))
+
+none_found : (levels : List Level) (facts : List Pair) (key : List ℕ) → NoneGives facts key levels → lookup levels facts key ≡ None
+none_found [] facts key n = refl
+none_found (level ∷ levels) facts key n =
+    next_level level levels facts key ∙ (ap (λ o. option_or o (lookup levels facts key)) (none_given facts key level n.0) ∙ none_found levels facts key n.1)
+
+pub found_none : (levels : List Level) (facts : List Pair) (key : List ℕ) → (lookup levels facts key ≡ None) ↔ NoneGives facts key levels
+found_none levels facts key = (none_gives levels facts key, none_found levels facts key)
+
+pub silent : (before behind : List Level) (level : Level) (facts : List Pair) (key : List ℕ) → applies facts level ≡ false → lookup (before ++ level ∷ behind) facts key ≡ lookup (before ++ behind) facts key
+silent [] behind level facts key h = next_level level behind facts key ∙ ap (λ t. option_or (cond t (value_in key level) None) (lookup behind facts key)) h
+silent (b ∷ before) behind level facts key h =
+    next_level b (before ++ level ∷ behind) facts key ∙ (ap (option_or (given facts key b)) (silent before behind level facts key h) ∙ sym (next_level b (before ++ behind) facts key))
