@@ -132,12 +132,17 @@ refer_at at kind members = do
 abbrev pub shown_of : Value → Option (List ℕ)
 shown_of x = if has_opaque x then None else Some (shown x)
 
+-- a text, unless it is too large
+abbrev pub limited_text : ℕ → List ℕ → Result (List ℕ) Refusal
+limited_text at text = do
+  _ ← limited at (v.Str text)
+  Ok text
+
 -- a text with a member behind it: the member is asked for its kind, and what stands so far for its size
 abbrev pub longer : ℕ → List ℕ → ℕ → Value → Result (List ℕ) Refusal
 longer at text here x = do
   more ← if_there here (shown_of x)
-  _ ← limited at (v.Str (text ++ more))
-  Ok (text ++ more)
+  limited_text at (text ++ more)
 
 -- the members behind a text, each asked before the next is evaluated
 abbrev pub joined_to : ℕ → List ℕ → List Evaluated → Verdict
@@ -197,11 +202,16 @@ prefix_at at (o ∷ ops) verdict = do
   x ← prefix_at at ops verdict
   prefixed at o x
 
+-- a value at an index
+abbrev pub indexed : ℕ → Value → Verdict → Verdict
+indexed at x key = do
+  k ← key
+  made at (index_table x k)
+
 abbrev pub index_at : ℕ → Evaluated → Evaluated → Verdict
 index_at at base key = do
   x ← base.verdict
-  k ← key.verdict
-  made at (index_table x k)
+  indexed at x key.verdict
 
 -- ---- selectors
 
