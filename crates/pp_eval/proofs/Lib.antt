@@ -7,3 +7,7 @@ pub mod StartLaws
 pub mod OpenLaws
 pub mod RootLaws
 pub mod Inheritance
+pub mod Refusing
+pub mod Forms
+pub mod Steps
+pub mod TextLaws
