@@ -5,6 +5,8 @@ pub mod LineageLaws
 pub mod ScopeLaws
 pub mod StartLaws
 pub mod OpenLaws
+pub mod ClassNameLaws
+pub mod ClassPlaces
 pub mod RootLaws
 pub mod Inheritance
 pub mod Refusing

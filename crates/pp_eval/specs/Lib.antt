@@ -1,6 +1,7 @@
 pub mod Facts
 pub mod Names
 pub mod Scoping
+pub mod ClassNames
 pub mod Operations
 pub mod References
 pub mod Verdicts

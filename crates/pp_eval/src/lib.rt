@@ -3,6 +3,7 @@
 
 mod answers;
 mod bindings;
+mod classes;
 mod evaluation;
 mod facts;
 mod finding;
