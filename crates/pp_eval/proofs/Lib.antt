@@ -11,3 +11,4 @@ pub mod Refusing
 pub mod Forms
 pub mod Steps
 pub mod TextLaws
+pub mod WithinLimit
