@@ -1,11 +1,11 @@
 -- What is evaluated stays within the limit on the size of a value.
-use Rattle.std.proofs.Common.{◌≡◌, ℕ, ◌≤◌, ◌<◌, ◌+◌, Bool, true, false, cond, List, [], ◌∷◌, ◌++◌, map, Result, Ok, Err, Option, Some, None, refl, sym, ap, ◌∙◌, subst, arith}
+use Rattle.std.proofs.Common.{◌≡◌, ℕ, ◌≤◌, Bool, true, false, cond, List, [], ◌∷◌, ◌++◌, map, Result, Ok, Err, Option, Some, None, refl, sym, subst, arith}
 use Rattle.std.specs.Prelude.{nat_lt}
 use Rattle.std.specs.List.{AllByRecursion}
 use Rattle.std.proofs.lemmas.Bool.{ltb-false}
 use Rattle.rh_base.specs.declared.fault.Refusal.{Refusal}
-use Rattle.pp_syntax.specs.declared.tree.Expr.{Expr, roll-Expr, fold-Expr, fold_out-Expr}
-use Rattle.pp_syntax.specs.declared.tree.Form.{Form, Form-F, map-Form, roll-Form, ind-Form, fold-roll-Form}
+use Rattle.pp_syntax.specs.declared.tree.Expr.{Expr, roll-Expr}
+use Rattle.pp_syntax.specs.declared.tree.Form.{Form, Form-F, map-Form, roll-Form, ind-Form}
 use Rattle.pp_syntax.specs.declared.tree.Form.TheOpen as plain
 use Rattle.pp_syntax.specs.declared.tree.Form.TheShapes.{former-Form-Select-1-at-3}
 use Rattle.pp_syntax.specs.declared.tree.Op.{Op}
@@ -18,8 +18,9 @@ use Rattle.pp_value.specs.Values.{size_of}
 use Rattle.pp_value.specs.Table.{size_limit, negate_table, index_table, map_of}
 use Rattle.pp_eval.specs.Operations.{operation}
 use Rattle.pp_eval.specs.Scoping.{Scoped, find_in}
+use Rattle.pp_eval.proofs.Forms.{rolled}
 use Rattle.pp_eval.specs.Verdicts.{Verdict, Evaluated, ◌>>=◌, too_large, limited, made, if_there}
-use Rattle.pp_eval.specs.Evaluation.{bound_to, values_in, list_at, keyed_in, map_at, references_in, one_or_list, refer_at, is_equal, shown_of, limited_text, longer, joined_to, truth_at, as_truth, operated, chain_from, chain_at, prefixed, prefix_at, indexed, index_at, first_equal, default_in, chosen, selected, select_at, form_at, value_in, value_of, evaluated, pair_by, operand_by}
+use Rattle.pp_eval.specs.Evaluation.{bound_to, values_in, list_at, keyed_in, map_at, references_in, one_or_list, refer_at, is_equal, shown_of, limited_text, longer, joined_to, truth_at, as_truth, operated, chain_from, chain_at, prefixed, prefix_at, index_at, first_equal, default_in, chosen, select_at, form_at, value_in, value_of, evaluated, pair_by, operand_by}
 
 abbrev pub IsWithin : Verdict → Type 0
 IsWithin (Ok x) = size_of x ≤ size_limit
@@ -180,18 +181,6 @@ var_within at name (Some x) h = h x refl
 var_within at name None h = tt
 
 -- ---- each form, where the expressions in it stay within
-
-folded : Scoped → Expr → Evaluated
-folded s x = fold-Expr (ℕ → Verdict) Evaluated (form_at s) (λ x. record { at = x.at; verdict = x.form x.at }) x
-
-folded_is : (s : Scoped) (x : Expr) → folded s x ≡ evaluated s x
-unfolding folded value_in
-folded_is s x = fold_out-Expr (ℕ → Verdict) Evaluated (form_at s) (λ x. record { at = x.at; verdict = x.form x.at }) x
-
-rolled : (s : Scoped) (d : Form-F Form Expr) (at : ℕ) → value_in s (roll-Form d) at ≡ form_at s (map-Form Form Expr (ℕ → Verdict) Evaluated (value_in s) (evaluated s) d) at
-unfolding folded value_in
-rolled s d at = ap (λ (f : ℕ → Verdict). f at) (fold-roll-Form (ℕ → Verdict) Evaluated (form_at s) (λ x. record { at = x.at; verdict = x.form x.at }) d)
-    ∙ ap (λ (h : Expr → Evaluated). form_at s (map-Form Form Expr (ℕ → Verdict) Evaluated (value_in s) h d) at) (λ i. λ x. folded_is s x i)
 
 module _ (s : Scoped) (bound : (name : List ℕ) (x : Value) → find_in s name ≡ Some x → size_of x ≤ size_limit) where
   abbrev FormWithin : Form → Type 0
