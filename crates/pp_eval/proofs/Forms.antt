@@ -1,5 +1,5 @@
 -- The value of each form, by those of the expressions in it.
-use Rattle.std.proofs.Common.{◌≡◌, ℕ, List, [], ◌∷◌, map, refl, sym, ap, ◌∙◌}
+use Rattle.std.proofs.Common.{◌≡◌, ℕ, List, [], map, refl, sym, ap, ◌∙◌}
 use Rattle.std.specs.Prelude.{ℤ, Bool, Option, option_map}
 use Rattle.std.specs.Prelude as prelude
 use Rattle.pp_syntax.specs.declared.tree.Expr.{Expr, fold-Expr, fold_out-Expr}
@@ -21,7 +21,7 @@ folded_is : (s : Scoped) (x : Expr) → folded s x ≡ evaluated s x
 unfolding folded value_in
 folded_is s x = fold_out-Expr (ℕ → Verdict) Evaluated (form_at s) (λ x. record { at = x.at; verdict = x.form x.at }) x
 
-rolled : (s : Scoped) (d : Form-F Form Expr) (at : ℕ) → value_in s (roll-Form d) at ≡ form_at s (map-Form Form Expr (ℕ → Verdict) Evaluated (value_in s) (evaluated s) d) at
+pub rolled : (s : Scoped) (d : Form-F Form Expr) (at : ℕ) → value_in s (roll-Form d) at ≡ form_at s (map-Form Form Expr (ℕ → Verdict) Evaluated (value_in s) (evaluated s) d) at
 unfolding folded value_in
 rolled s d at = ap (λ (f : ℕ → Verdict). f at) (fold-roll-Form (ℕ → Verdict) Evaluated (form_at s) (λ x. record { at = x.at; verdict = x.form x.at }) d)
     ∙ ap (λ (h : Expr → Evaluated). form_at s (map-Form Form Expr (ℕ → Verdict) Evaluated (value_in s) h d) at) (λ i. λ x. folded_is s x i)

@@ -13,3 +13,4 @@ pub mod Refusing
 pub mod Forms
 pub mod Steps
 pub mod TextLaws
+pub mod WithinLimit

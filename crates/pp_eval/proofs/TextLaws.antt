@@ -10,9 +10,8 @@ use Rattle.pp_value.specs.declared.fault.Misfit.TheVariants.{Operand}
 use Rattle.pp_value.specs.Values.{has_opaque}
 use Rattle.pp_value.specs.Table.{size_limit}
 use Rattle.pp_value.specs.Shown.{show_table, shown, size_of_text}
-use Rattle.rh_base.specs.declared.fault.Refusal.{Refusal}
 use Rattle.pp_eval.specs.Verdicts.{◌>>=◌, if_there, too_large}
-use Rattle.pp_eval.specs.Evaluation.{shown_of, longer, limited_text}
+use Rattle.pp_eval.specs.Evaluation.{longer, limited_text}
 
 is_over : (text more : List ℕ) → size_limit < size_of_text more → nat_lt size_limit (1 + length (text ++ more)) ≡ true
 is_over text more large = let sum = length-append text more in lt-ltb size_limit (1 + length (text ++ more)) (omega arith)

@@ -1,5 +1,5 @@
 -- The value of an expression, form by form, each by the verdicts of the expressions in it. What isn't evaluated has no say: its verdict isn't looked at.
-use Rattle.std.specs.Prelude.{◌≡◌, ℕ, ◌+◌, ℤ, Bool, true, false, not, if◌then◌else◌, List, [], ◌∷◌, ◌++◌, map, Option, Some, None, option_map, option_and_then, is_none, Result, Ok, Err}
+use Rattle.std.specs.Prelude.{ℕ, Bool, true, false, not, if◌then◌else◌, List, [], ◌∷◌, ◌++◌, map, Option, Some, None, option_map, option_and_then, is_none, Result, Ok, Err}
 use Rattle.rh_base.specs.declared.fault.Refusal.{Refusal}
 use Rattle.pp_syntax.specs.declared.tree.Expr.{Expr}
 use Rattle.pp_syntax.specs.declared.tree.Form.{Form, Form-F, fold-Form}
@@ -12,7 +12,7 @@ use Rattle.pp_value.specs.declared.fault.Misfit.{Misfit}
 use Rattle.pp_value.specs.Values.{Pair, has_opaque, with_pair}
 use Rattle.pp_value.specs.Table.{equal_table, negate_table, index_table, map_of}
 use Rattle.pp_value.specs.Shown.{shown, shown_int}
-use Rattle.pp_eval.specs.Verdicts.{Verdict, Evaluated, ◌>>=◌, refusal, unbound, no_option, no_result, limited, made, if_there}
+use Rattle.pp_eval.specs.Verdicts.{Verdict, Evaluated, ◌>>=◌, unbound, no_option, no_result, limited, made, if_there}
 use Rattle.pp_eval.specs.Operations.{operation, truth_of}
 use Rattle.pp_eval.specs.References.{ref_of}
 use Rattle.pp_eval.specs.Scoping.{Scoped, find_in}

@@ -59,6 +59,7 @@ fn values(alloc: Global, members: &[Expr], scopes: &Scopes) -> Result<Seq<Value>
     Ok(values)
 }
 
+/// A list of these members.
 #[cycle(evaluation)]
 fn list(alloc: Global, at: u32, members: &[Expr], scopes: &Scopes) -> Result<Value, Fault>
     ensures { Answers (list_at at (map (evaluated scopes.now) members.now)) result }
@@ -92,6 +93,7 @@ fn pairs(alloc: Global, members: &[(Expr, Expr)], scopes: &Scopes) -> Result<Pai
     Ok(pairs)
 }
 
+/// A map of these pairs.
 #[cycle(evaluation)]
 fn map(alloc: Global, at: u32, members: &[(Expr, Expr)], scopes: &Scopes) -> Result<Value, Fault>
     ensures { Answers (map_at at (map (pair_by (evaluated scopes.now)) members.now)) result }
@@ -119,6 +121,7 @@ fn references(
     Ok(references)
 }
 
+/// The reference to a title, or a list of those to any other number of them.
 #[cycle(evaluation)]
 fn refer(
     alloc: Global,
@@ -206,6 +209,7 @@ fn chain(
     Ok(value)
 }
 
+/// The value of operators before an operand.
 #[cycle(evaluation)]
 #[tactic(auto, using(crate::proofs::Steps::refused_operand))]
 fn prefix(alloc: Global, at: u32, ops: &[Op], x: &Expr, scopes: &Scopes) -> Result<Value, Fault>

@@ -162,8 +162,8 @@ fn difference(alloc: Global) -> Result<Expr, NoMemory> {
 }
 
 /// `1 + 'a'`
-fn misfit(alloc: Global, at: u32) -> Result<Expr, NoMemory> {
-    chain(alloc, at, int(at, 1), Op::Plus, word(alloc, at + 4, "a")?)
+fn misfit(alloc: Global) -> Result<Expr, NoMemory> {
+    chain(alloc, 0, int(0, 1), Op::Plus, word(alloc, 4, "a")?)
 }
 
 /// `9223372036854775807 + 1`
@@ -180,10 +180,7 @@ fn operators_go_by_their_tables(rt: HostRuntime) -> Result<(), Fail> {
     assert_eq!(rt; answer(alloc, opposite)?.as_str(), "number -2");
     let less = chain(alloc, 0, int(0, 1), Op::Less, int(4, 2));
     assert_eq!(rt; answer(alloc, less)?.as_str(), "truth true");
-    assert_eq!(rt;
-        answer(alloc, misfit(alloc, 0))?.as_str(),
-        "29 at 0: operand"
-    );
+    assert_eq!(rt; answer(alloc, misfit(alloc))?.as_str(), "29 at 0: operand");
     assert_eq!(rt; answer(alloc, beyond(alloc))?.as_str(), "33 at 5: integer");
     Ok(())
 }
@@ -193,26 +190,48 @@ fn before_unbound(alloc: Global, left: bool, op: Op) -> Result<Expr, NoMemory> {
     chain(alloc, 0, truth(0, left), op, var(alloc, 9, "z")?)
 }
 
-/// An operator between the opaque `$load` and a number.
-fn opaque(alloc: Global, at: u32, op: Op) -> Result<Expr, NoMemory> {
-    chain(alloc, at, var(alloc, at, "load")?, op, int(at + 9, 1))
+/// An operator at 3 between the opaque `$load` and a number.
+fn opaque(alloc: Global, op: Op) -> Result<Expr, NoMemory> {
+    chain(alloc, 3, var(alloc, 3, "load")?, op, int(12, 1))
 }
 
 #[test]
 fn and_and_or_stop_at_the_answer(rt: HostRuntime) -> Result<(), Fail> {
     let alloc = rt.alloc();
-    let rows = [
-        (before_unbound(alloc, false, Op::And), "truth false"),
-        (before_unbound(alloc, true, Op::And), "20 at 9: $z"),
-        (before_unbound(alloc, true, Op::Or), "truth true"),
-        (before_unbound(alloc, false, Op::Or), "20 at 9: $z"),
-        (opaque(alloc, 3, Op::And), "29 at 3: operand"),
-        (opaque(alloc, 3, Op::Same), "29 at 3: operand"),
-        (opaque(alloc, 3, Op::Plus), "29 at 3: operand"),
-    ];
-    for (e, want) in rows {
-        assert_eq!(rt; answer(alloc, e)?.as_str(), want);
-    }
+    assert_eq!(rt;
+        answer(alloc, before_unbound(alloc, false, Op::And))?.as_str(),
+        "truth false"
+    );
+    assert_eq!(rt;
+        answer(alloc, before_unbound(alloc, true, Op::And))?.as_str(),
+        "20 at 9: $z"
+    );
+    assert_eq!(rt;
+        answer(alloc, before_unbound(alloc, true, Op::Or))?.as_str(),
+        "truth true"
+    );
+    assert_eq!(rt;
+        answer(alloc, before_unbound(alloc, false, Op::Or))?.as_str(),
+        "20 at 9: $z"
+    );
+    Ok(())
+}
+
+#[test]
+fn opaque_operands_have_no_result(rt: HostRuntime) -> Result<(), Fail> {
+    let alloc = rt.alloc();
+    assert_eq!(rt;
+        answer(alloc, opaque(alloc, Op::And))?.as_str(),
+        "29 at 3: operand"
+    );
+    assert_eq!(rt;
+        answer(alloc, opaque(alloc, Op::Same))?.as_str(),
+        "29 at 3: operand"
+    );
+    assert_eq!(rt;
+        answer(alloc, opaque(alloc, Op::Plus))?.as_str(),
+        "29 at 3: operand"
+    );
     Ok(())
 }
 
@@ -330,19 +349,35 @@ fn opaque_control(alloc: Global, is_compared: bool) -> Result<Expr, NoMemory> {
 #[test]
 fn the_first_equal_option_is_chosen(rt: HostRuntime) -> Result<(), Fail> {
     let alloc = rt.alloc();
-    let rows = [
-        (default_first(alloc), "number 2"),
-        (default_only(alloc), "number 1"),
-        (no_option(alloc), "28 at 0: selector"),
-        (stops(alloc), "number 1"),
-        (unbound_option(alloc), "20 at 8: $z"),
-        (nested(alloc), "28 at 30: selector"),
-        (opaque_control(alloc, false), "number 2"),
-        (opaque_control(alloc, true), "29 at 3: operand"),
-    ];
-    for (e, want) in rows {
-        assert_eq!(rt; answer(alloc, e)?.as_str(), want);
-    }
+    assert_eq!(rt; answer(alloc, default_first(alloc))?.as_str(), "number 2");
+    assert_eq!(rt; answer(alloc, default_only(alloc))?.as_str(), "number 1");
+    assert_eq!(rt;
+        answer(alloc, no_option(alloc))?.as_str(),
+        "28 at 0: selector"
+    );
+    assert_eq!(rt; answer(alloc, stops(alloc))?.as_str(), "number 1");
+    Ok(())
+}
+
+#[test]
+fn options_are_evaluated_where_they_are_compared(rt: HostRuntime) -> Result<(), Fail> {
+    let alloc = rt.alloc();
+    assert_eq!(rt;
+        answer(alloc, unbound_option(alloc))?.as_str(),
+        "20 at 8: $z"
+    );
+    assert_eq!(rt;
+        answer(alloc, nested(alloc))?.as_str(),
+        "28 at 30: selector"
+    );
+    assert_eq!(rt;
+        answer(alloc, opaque_control(alloc, false))?.as_str(),
+        "number 2"
+    );
+    assert_eq!(rt;
+        answer(alloc, opaque_control(alloc, true))?.as_str(),
+        "29 at 3: operand"
+    );
     Ok(())
 }
 
@@ -461,31 +496,48 @@ fn outcome(alloc: Global, e: Result<Expr, NoMemory>) -> Result<String, Fail> {
 #[test]
 fn the_size_of_the_whole_is_asked_last(rt: HostRuntime) -> Result<(), Fail> {
     let alloc = rt.alloc();
+    assert_eq!(rt;
+        outcome(alloc, long_list(alloc, 131070, None))?.as_str(),
+        "list"
+    );
+    assert_eq!(rt;
+        outcome(alloc, long_list(alloc, 131071, None))?.as_str(),
+        "32 at 5: value"
+    );
     let unbound = Some(var(alloc, 8, "z")?);
-    let rows = [
-        (long_list(alloc, 131070, None), "list"),
-        (long_list(alloc, 131071, None), "32 at 5: value"),
-        (long_list(alloc, 131071, unbound), "20 at 8: $z"),
-        (long(alloc, 3, 262143), "text"),
-        (long(alloc, 3, 262144), "32 at 3: value"),
-    ];
-    for (e, want) in rows {
-        assert_eq!(rt; outcome(alloc, e)?.as_str(), want);
-    }
+    assert_eq!(rt;
+        outcome(alloc, long_list(alloc, 131071, unbound))?.as_str(),
+        "20 at 8: $z"
+    );
+    Ok(())
+}
+
+#[test]
+fn texts_have_a_size(rt: HostRuntime) -> Result<(), Fail> {
+    let alloc = rt.alloc();
+    assert_eq!(rt; outcome(alloc, long(alloc, 3, 262143))?.as_str(), "text");
+    assert_eq!(rt;
+        outcome(alloc, long(alloc, 3, 262144))?.as_str(),
+        "32 at 3: value"
+    );
     Ok(())
 }
 
 #[test]
 fn the_size_of_a_text_is_asked_behind_each_member(rt: HostRuntime) -> Result<(), Fail> {
     let alloc = rt.alloc();
+    assert_eq!(rt;
+        outcome(alloc, long_text(alloc, 131071, None))?.as_str(),
+        "text"
+    );
+    assert_eq!(rt;
+        outcome(alloc, long_text(alloc, 131072, None))?.as_str(),
+        "32 at 0: value"
+    );
     let unbound = Some(var(alloc, 8, "z")?);
-    let rows = [
-        (long_text(alloc, 131071, None), "text"),
-        (long_text(alloc, 131072, None), "32 at 0: value"),
-        (long_text(alloc, 131072, unbound), "32 at 0: value"),
-    ];
-    for (e, want) in rows {
-        assert_eq!(rt; outcome(alloc, e)?.as_str(), want);
-    }
+    assert_eq!(rt;
+        outcome(alloc, long_text(alloc, 131072, unbound))?.as_str(),
+        "32 at 0: value"
+    );
     Ok(())
 }

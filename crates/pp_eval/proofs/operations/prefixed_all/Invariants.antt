@@ -1,4 +1,4 @@
-use Rattle.std.proofs.Common.{◌≡◌, ℕ, length, Ok}
+use Rattle.std.proofs.Common.{◌≡◌, length, Ok}
 use Rattle.pp_eval.specs.Evaluation.{prefix_at}
 use Rattle.pp_eval.proofs.operations.prefixed_all.Given as goal
 
