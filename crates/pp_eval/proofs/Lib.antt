@@ -5,5 +5,12 @@ pub mod LineageLaws
 pub mod ScopeLaws
 pub mod StartLaws
 pub mod OpenLaws
+pub mod ClassNameLaws
+pub mod ClassPlaces
 pub mod RootLaws
 pub mod Inheritance
+pub mod Refusing
+pub mod Forms
+pub mod Steps
+pub mod TextLaws
+pub mod WithinLimit

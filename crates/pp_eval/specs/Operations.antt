@@ -1,17 +1,12 @@
--- What an operator makes of the values of its operands, and what is refused where.
-use Rattle.std.specs.Prelude.{◌≡◌, ◌⊎◌, ℕ, ◌<◌, ◌≤◌, Bool, true, false, not, codes, Option, Some, None, Result, Ok, Err}
-use Rattle.rh_base.specs.declared.fault.Fault.{Fault}
-use Rattle.rh_base.specs.declared.fault.Fault.TheVariants as fault
-use Rattle.rh_base.specs.declared.fault.Refusal.{Refusal}
-use Rattle.rh_base.specs.Refused.{IsRefusal}
+-- What an operator makes of the values of its operands.
+use Rattle.std.specs.Prelude.{Bool, true, false, not, Option, Some, None, Result, Ok, Err}
 use Rattle.pp_syntax.specs.declared.tree.Op.{Op}
 use Rattle.pp_syntax.specs.declared.tree.Op.TheVariants as op
 use Rattle.pp_value.specs.declared.value.Value.{Value}
 use Rattle.pp_value.specs.declared.value.Value.TheVariants as v
 use Rattle.pp_value.specs.declared.fault.Misfit.{Misfit}
-use Rattle.pp_value.specs.declared.fault.Misfit.TheVariants.{Operand, Range}
-use Rattle.pp_value.specs.Values.{size_of}
-use Rattle.pp_value.specs.Table.{equal_table, less_table, within_table, add_table, subtract_table, multiply_table, size_limit}
+use Rattle.pp_value.specs.declared.fault.Misfit.TheVariants.{Operand}
+use Rattle.pp_value.specs.Table.{equal_table, less_table, within_table, add_table, subtract_table, multiply_table}
 
 -- a truth value as it is, or turned round
 abbrev pub as_value : Result Bool Misfit → Result Value Misfit
@@ -48,15 +43,3 @@ truth_of (v.List' shape row) = Some true
 truth_of (v.Map' shape row) = Some true
 truth_of (v.Refer r) = Some true
 truth_of v.Opaque = None
-
--- The refusal of an expression at this place: 29 where there is no result, 33 where a whole number leaves 64 bits, 32 where the result is too large.
-abbrev pub Refuses : ℕ → Result Value Misfit → Refusal → Type 0
-Refuses at table r = ((table ≡ Err Operand) × IsRefusal 29 at (codes "operand") r)
-    ⊎ (((table ≡ Err Range) × IsRefusal 33 at (codes "integer") r)
-    ⊎ ((x : Value) × ((table ≡ Ok x) × (size_limit < size_of x) × IsRefusal 32 at (codes "value") r)))
-
--- What an operation answers at a place: its result where that isn't too large, or its refusal. Memory may always be refused.
-abbrev pub Answers : ℕ → Result Value Misfit → Result Value Fault → Type 0
-Answers at table (Ok x) = (table ≡ Ok x) × (size_of x ≤ size_limit)
-Answers at table (Err (fault.Refused r)) = Refuses at table r
-Answers at table (Err (fault.Memory m)) = Unit {0}

@@ -1,10 +1,11 @@
 //! The look-up of a variable.
 
 ghost use Rattle.std.specs.Prelude.{◌≡◌, ◌-◌, option_map, length, slice_get, option_and_then};
-ghost use Rattle.pp_value.specs.Texts.{same_text};
 ghost use Rattle.pp_eval.specs.Names.{is_qualified};
-ghost use Rattle.pp_eval.specs.Scoping.{in_scope, in_lineage, is_class_of, class_of, node_in, find_plain, find_qualified, find_in};
+ghost use Rattle.pp_eval.specs.ClassNames.{classes_in};
+ghost use Rattle.pp_eval.specs.Scoping.{in_scope, in_lineage, class_of, node_in, find_plain, find_qualified, find_in};
 
+use crate::classes::Classes;
 use crate::names::{is_qualified, scope_in, variable_in};
 use crate::scope::{Scope, Sort};
 use crate::scopes::Scopes;
@@ -47,31 +48,13 @@ fn in_lineage<'s>(scopes: &'s [Scope], start: Option<&'s Scope>, name: &str) -> 
     None
 }
 
-pub fn is_class_of(sort: &Sort, name: &[u8]) -> bool
-    ensures { result ≡ is_class_of name.now sort.now }
-{
-    match sort {
-        Sort::Class(class) => same_name(class.as_str(), name),
-        _ => false,
-    }
-}
-
-fn same_name(a: &str, b: &[u8]) -> bool
-    ensures { result ≡ same_text a.now b.now }
-{
-    a.as_bytes().eq_ignore_ascii_case(b)
-}
-
 /// The scope of a class, ASCII case aside.
-fn class_of<'s>(scopes: &'s [Scope], name: &[u8]) -> Option<&'s Scope>
+#[tactic(auto, using(crate::proofs::ClassPlaces::found_scope))]
+fn class_of<'s>(scopes: &'s [Scope], classes: &Classes, name: &[u8]) -> Option<&'s Scope>
+    requires { classes.now ≡ classes_in 0 scopes.now }
     ensures { option_map (λ c. c.now) result ≡ class_of scopes.now name.now }
 {
-    for scope in scopes {
-        if is_class_of(&scope.sort, name) {
-            return Some(scope);
-        }
-    }
-    None
+    scope_at(scopes, classes.find(name))
 }
 
 /// The scope, if it is a node's.
@@ -118,15 +101,17 @@ fn find_plain<'s>(scopes: &'s [Scope], opened: &[usize], name: &str) -> Option<&
 fn find_qualified<'s>(
     scopes: &'s [Scope],
     opened: &[usize],
+    classes: &Classes,
     class: &[u8],
     name: &str,
 ) -> Option<&'s Value>
+    requires { classes.now ≡ classes_in 0 scopes.now }
     ensures { option_map (λ x. x.now) result ≡ find_qualified (scopes.now, opened.now) class.now name.now }
 {
     if class.is_empty() {
         return in_scope(scopes.first(), name);
     }
-    in_lineage(scopes, class_of(scopes, class), name)
+    in_lineage(scopes, class_of(scopes, classes, class), name)
 }
 
 impl Scopes {
@@ -137,7 +122,13 @@ impl Scopes {
         let scopes = self.scopes.as_slice();
         let opened = self.open.as_slice();
         if is_qualified(name) {
-            return find_qualified(scopes, opened, scope_in(name), variable_in(name));
+            return find_qualified(
+                scopes,
+                opened,
+                &self.classes,
+                scope_in(name),
+                variable_in(name),
+            );
         }
         find_plain(scopes, opened, name)
     }

@@ -1,11 +1,14 @@
 //! Laws of the scopes, as functions that do nothing.
 
-ghost use Rattle.std.specs.Prelude.{◌≡◌, ◌≢◌, ◌<◌, ℕ, List, [], ◌∷◌, ◌++◌, slice_get, Option, None, Some};
+ghost use Rattle.std.specs.Prelude.{◌≡◌, ◌≢◌, ◌<◌, ◌≤◌, ℕ, List, [], ◌∷◌, ◌++◌, slice_get, Option, None, Some, Ok};
+ghost use Rattle.pp_syntax.specs.declared.tree.Expr.{Expr};
 ghost use Rattle.pp_value.specs.declared.value.Value.{Value};
 ghost use Rattle.pp_eval.specs.declared.scope.Scope.{Scope};
-ghost use Rattle.pp_eval.specs.Scoping.{Scoped, in_class, class_scope, entered};
+ghost use Rattle.pp_eval.specs.Scoping.{Scoped, in_class, class_scope, entered, find_in};
+ghost use Rattle.pp_eval.specs.Evaluation.{value_of};
 ghost use Rattle.pp_eval.specs.Inheriting.{ParentsStandBefore};
-ghost use Rattle.pp_value.specs.Values.{Pair, value_at};
+ghost use Rattle.pp_value.specs.Values.{Pair, value_at, size_of};
+ghost use Rattle.pp_value.specs.Table.{size_limit};
 
 /// A look-up doesn't depend on the bindings of other names.
 pub fn other_names_stay()
@@ -25,4 +28,9 @@ pub fn parents_stand_before()
 /// Where parents stand before the classes that inherit them, looking through these ends: no larger bound finds more.
 pub fn inheriting_ends()
     ensures { (n m : ℕ) (scopes : List Scope) (name : List ℕ) (place : ℕ) → ParentsStandBefore scopes → place < n → place < m → in_class n scopes name (slice_get scopes place) ≡ in_class m scopes name (slice_get scopes place) }
+{}
+
+/// Where no value that is bound is too large, no value of an expression is.
+pub fn values_stay_within()
+    ensures { (s : Scoped) → ((name : List ℕ) (x : Value) → find_in s name ≡ Some x → size_of x ≤ size_limit) → (e : Expr) (x : Value) → value_of s e ≡ Ok x → size_of x ≤ size_limit }
 {}

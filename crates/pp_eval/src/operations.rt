@@ -1,13 +1,20 @@
 //! Operators on values, and their refusals.
 
-ghost use Rattle.std.specs.Prelude.{◌≡◌};
-ghost use Rattle.pp_value.specs.Table.{add_table};
-ghost use Rattle.pp_eval.specs.Operations.{as_value, turned, operation, truth_of, Answers};
+ghost use Rattle.std.specs.Prelude.{◌≡◌, Result, Ok, Err};
+ghost use Rattle.pp_value.specs.declared.value.Value.{Value};
+ghost use Rattle.pp_value.specs.declared.fault.Misfit.{Misfit};
+ghost use Rattle.pp_value.specs.Values.{size_of};
+ghost use Rattle.pp_value.specs.Table.{Gives, equal_table, add_table, index_table};
+ghost use Rattle.pp_eval.specs.Verdicts.{AnswersBy, Answers, Refuses, made};
+ghost use Rattle.pp_eval.specs.Operations.{as_value, turned, operation, truth_of};
+ghost use Rattle.pp_eval.specs.Evaluation.{truth_at, asked, prefixed, prefix_at};
 
+use crate::answers::{limited, no_result, out_of_range, too_large};
 use pp_syntax::Op;
-use pp_value::{Misfit, Value, ValueFault, add, equal, less, multiply, size, subtract, within};
+use pp_value::{
+    Misfit, Value, ValueFault, add, equal, index, less, multiply, negate, subtract, within,
+};
 use rh_base::Fault;
-use rh_base::limits::VALUE_SIZE;
 use std::alloc::Global;
 
 /// The truth of a value; an opaque one has none.
@@ -19,6 +26,26 @@ pub fn truth_of(value: &Value) -> Option<bool>
         Value::Bool(b) => Some(*b),
         Value::Opaque => None,
         _ => Some(true),
+    }
+}
+
+/// The truth of an operand of the operation at a place.
+pub fn truth_at(alloc: Global, at: u32, value: &Value) -> Result<bool, Fault>
+    ensures { AnswersBy (λ b. b) (truth_at at value.now) result }
+{
+    match truth_of(value) {
+        Some(b) => Ok(b),
+        None => Err(no_result(alloc, at)),
+    }
+}
+
+/// Whether two values are equal, for a selector at a place.
+pub fn compared(alloc: Global, at: u32, a: &Value, b: &Value) -> Result<bool, Fault>
+    ensures { AnswersBy (λ b. b) (asked at (equal_table a.now b.now)) result }
+{
+    match equal(a, b) {
+        Ok(same) => Ok(same),
+        Err(_) => Err(no_result(alloc, at)),
     }
 }
 
@@ -42,36 +69,40 @@ fn turned(outcome: Result<bool, Misfit>) -> Result<Value, Misfit>
 
 /// The answer of an operation that takes no memory, with its refusal.
 fn answered(alloc: Global, at: u32, outcome: Result<Value, Misfit>) -> Result<Value, Fault>
-    ensures { Answers at outcome result }
+    ensures { Answers (made at outcome) result }
 {
     match outcome {
-        Ok(value) => {
-            if size(&value) > VALUE_SIZE {
-                return Err(Fault::refused(alloc, 32, at, "value"));
-            }
-            Ok(value)
-        }
-        Err(Misfit::Operand) => Err(Fault::refused(alloc, 29, at, "operand")),
-        Err(Misfit::Range) => Err(Fault::refused(alloc, 33, at, "integer")),
+        Ok(value) => limited(alloc, at, value),
+        Err(Misfit::Operand) => Err(no_result(alloc, at)),
+        Err(Misfit::Range) => Err(out_of_range(alloc, at)),
+    }
+}
+
+/// The refusal of an operation that takes memory.
+fn refused(alloc: Global, at: u32, fault: ValueFault) -> Fault
+    ensures { (table : Result Value Misfit) → Gives size_of table (Err fault) → Refuses (made at table) result }
+{
+    match fault {
+        ValueFault::Operand => no_result(alloc, at),
+        ValueFault::Range => out_of_range(alloc, at),
+        ValueFault::Large => too_large(alloc, at),
+        ValueFault::Memory(m) => Fault::Memory(m),
     }
 }
 
 /// The sum of two values, with its refusal.
 fn summed(alloc: Global, at: u32, a: &Value, b: &Value) -> Result<Value, Fault>
-    ensures { Answers at (add_table a.now b.now) result }
+    ensures { Answers (made at (add_table a.now b.now)) result }
 {
     match add(alloc, a, b) {
         Ok(value) => Ok(value),
-        Err(ValueFault::Operand) => Err(Fault::refused(alloc, 29, at, "operand")),
-        Err(ValueFault::Range) => Err(Fault::refused(alloc, 33, at, "integer")),
-        Err(ValueFault::Large) => Err(Fault::refused(alloc, 32, at, "value")),
-        Err(ValueFault::Memory(m)) => Err(Fault::Memory(m)),
+        Err(fault) => Err(refused(alloc, at, fault)),
     }
 }
 
 /// The value of an operator between two operands whose values both count, or its refusal at a place.
 pub fn operate(alloc: Global, at: u32, op: Op, a: &Value, b: &Value) -> Result<Value, Fault>
-    ensures { Answers at (operation op a.now b.now) result }
+    ensures { Answers (made at (operation op a.now b.now)) result }
 {
     match op {
         Op::Less => answered(alloc, at, as_value(less(a, b))),
@@ -86,4 +117,42 @@ pub fn operate(alloc: Global, at: u32, op: Op, a: &Value, b: &Value) -> Result<V
         Op::In => answered(alloc, at, as_value(within(a, b))),
         Op::Or | Op::And | Op::Not => answered(alloc, at, Err(Misfit::Operand)),
     }
+}
+
+/// The member at an index or a key, or its refusal at a place.
+pub fn index_of(alloc: Global, at: u32, base: &Value, key: &Value) -> Result<Value, Fault>
+    ensures { Answers (made at (index_table base.now key.now)) result }
+{
+    match index(alloc, base, key) {
+        Ok(value) => Ok(value),
+        Err(fault) => Err(refused(alloc, at, fault)),
+    }
+}
+
+/// The value of an operator before an operand.
+fn prefixed(alloc: Global, at: u32, op: Op, value: &Value) -> Result<Value, Fault>
+    ensures { Answers (prefixed at op value.now) result }
+{
+    match op {
+        Op::Not => {
+            let truth = truth_at(alloc, at, value)?;
+            Ok(Value::Bool(!truth))
+        }
+        Op::Minus => answered(alloc, at, negate(value)),
+        _ => Err(no_result(alloc, at)),
+    }
+}
+
+/// The value of operators before an operand, of which the last comes first.
+#[tactic(auto, using(crate::proofs::Steps::last_first, crate::proofs::Steps::refused_operand))]
+pub fn prefixed_all(alloc: Global, at: u32, ops: &[Op], value: Value) -> Result<Value, Fault>
+    ensures { Answers (prefix_at at ops.now (Ok value)) result }
+{
+    let mut rest = ops;
+    let mut value = value;
+    while let Some((op, front)) = rest.split_last() {
+        value = prefixed(alloc, at, *op, &value)?;
+        rest = front;
+    }
+    Ok(value)
 }

@@ -1,11 +1,14 @@
 //! References to resources and classes.
 
-ghost use Rattle.std.specs.Prelude.{◌≡◌, ◌∷◌, false, if◌then◌else◌, MatchOption, IfOk};
+ghost use Rattle.std.specs.Prelude.{◌≡◌, [], ◌∷◌, ◌++◌, false, if◌then◌else◌, Ok, MatchOption, IfOk, OnOk};
 ghost use Rattle.pp_eval.specs.Names.{unrooted};
 ghost use Rattle.pp_eval.specs.References.{begins_with_colon, plain_name, ref_of};
+ghost use Rattle.pp_eval.specs.Verdicts.{AnswersBy, if_there};
+ghost use Rattle.pp_eval.specs.Evaluation.{texts_of, titles_of, refer_to, with_references, one_or_list};
 
-use pp_value::Ref;
-use rh_base::{NoMemory, Text};
+use crate::answers::no_result;
+use pp_value::{Ref, Value};
+use rh_base::{Fault, NoMemory, Seq, Text};
 use std::alloc::Global;
 
 fn behind_colon(text: &str) -> Option<&str>
@@ -54,4 +57,67 @@ fn title_of(alloc: Global, is_class: bool, title: &str) -> Result<Text, NoMemory
         return plain_name(alloc, title);
     }
     Ok(Text::from_string(String::from_str(alloc, title)?))
+}
+
+/// Appends the reference to a resource or class.
+fn add_reference(
+    alloc: Global,
+    kind: &str,
+    title: &str,
+    references: &mut Seq<Value>,
+) -> Result<(), NoMemory>
+    ensures { OnOk result (references.new ≡ references.old ++ refer_to kind.now title.now ∷ []) }
+{
+    references.push(Value::Refer(ref_of(alloc, kind, title)?))
+}
+
+/// Appends the references to the titles that a list has.
+#[tactic(auto, using(crate::proofs::Steps::next_text))]
+fn add_listed(
+    alloc: Global,
+    at: u32,
+    kind: &str,
+    titles: &[Value],
+    references: &mut Seq<Value>,
+) -> Result<(), Fault>
+    ensures { AnswersBy (λ done. references.new) (with_references kind.now references.old (if_there at (texts_of titles.now))) result }
+{
+    for title in titles {
+        let Value::Str(title) = title else {
+            return Err(no_result(alloc, at));
+        };
+        add_reference(alloc, kind, title.as_str(), references)?;
+    }
+    Ok(())
+}
+
+/// Appends the references to a title, or to those of a list.
+pub fn add_references(
+    alloc: Global,
+    at: u32,
+    kind: &str,
+    title: &Value,
+    references: &mut Seq<Value>,
+) -> Result<(), Fault>
+    ensures { AnswersBy (λ done. references.new) (with_references kind.now references.old (if_there at (titles_of title.now))) result }
+{
+    match title {
+        Value::Str(title) => Ok(add_reference(alloc, kind, title.as_str(), references)?),
+        Value::List(titles) => add_listed(alloc, at, kind, titles.as_slice(), references),
+        _ => Err(no_result(alloc, at)),
+    }
+}
+
+/// One reference, or a list of any other number of them.
+pub fn one_or_list(references: Seq<Value>) -> Value
+    ensures { result ≡ one_or_list references }
+{
+    if references.len() != 1 {
+        return Value::List(references);
+    }
+    let mut references = references.into_vec();
+    match references.pop() {
+        Some(reference) => reference,
+        None => Value::List(Seq::from_vec(references)),
+    }
 }

@@ -1,10 +1,12 @@
 //! The scopes in which expressions are evaluated.
 
 ghost use Rattle.std.specs.Prelude.{◌≡◌, ◌<◌, ◌∷◌, ◌++◌, [], length, None, IfOk, OnOk, OnErr, option_map, option_and_then, IsSome, IfSome};
-ghost use Rattle.pp_eval.specs.Scoping.{Binds, BindsAt, BindsNow, place_now, with_facts, top_of, at_start, class_of, class_place, class_scope, defined_scope, node_scope_new, entered, left, current_scope, IsInner};
+ghost use Rattle.pp_value.specs.Texts.{lowered};
+ghost use Rattle.pp_eval.specs.ClassNames.{place_among};
+ghost use Rattle.pp_eval.specs.Scoping.{Binds, BindsAt, BindsNow, place_now, with_facts, top_of, at_start, class_of, class_scope, defined_scope, node_scope_new, entered, left, current_scope, IsInner};
 
 use crate::bindings::Bindings;
-use crate::finding::is_class_of;
+use crate::classes::Classes;
 use crate::scope::{Scope, Sort};
 use crate::start::top_of;
 use pp_value::Value;
@@ -35,6 +37,8 @@ impl From<NoMemory> for BindFault {
 #[derive(Drop)]
 pub struct Scopes {
     pub(crate) scopes: Vec<Scope>,
+    /// The places of the classes' scopes.
+    pub(crate) classes: Classes,
     pub(crate) open: Vec<usize>,
     pub(crate) alloc: Global,
 }
@@ -53,7 +57,10 @@ impl Model for Scopes {
 
     ghost view = { λ s. (s.scopes.items, s.open.items) };
 
-    ghost invariant = { λ s. IsTrue (are_open s.scopes.items s.open.items) };
+    ghost use Rattle.std.specs.Prelude.{◌≡◌};
+    ghost use Rattle.pp_eval.specs.ClassNames.{classes_in};
+
+    ghost invariant = { λ s. IsTrue (are_open s.scopes.items s.open.items) × (s.classes ≡ classes_in 0 s.scopes.items) };
 }
 
 /// Binds a name that has no binding there.
@@ -104,25 +111,40 @@ fn enter(scopes: &mut Vec<Scope>, opened: &mut Vec<usize>, scope: Scope) -> Resu
     }
 }
 
-/// The place of a class's scope.
-fn class_place(scopes: &[Scope], name: &[u8]) -> Option<usize>
-    ensures { result ≡ class_place 0 scopes.now name.now }
+/// Adds the scope of a class, which is the current one from then on.
+fn enter_named(
+    scopes: &mut Vec<Scope>,
+    opened: &mut Vec<usize>,
+    classes: &mut Classes,
+    scope: Scope,
+    name: &str,
+) -> Result<(), NoMemory>
+    requires { place_among name.now classes.old ≡ None }
+    ensures scopes_ok { OnOk result (scopes.new.items ≡ scopes.old.items ++ scope ∷ []) }
+    ensures open_ok { OnOk result (opened.new.items ≡ opened.old.items ++ length scopes.old.items ∷ []) }
+    ensures classes_ok { OnOk result (classes.new ≡ classes.old ++ (lowered name.now, length scopes.old.items) ∷ []) }
+    ensures scopes_err { OnErr result (scopes.new.items ≡ scopes.old.items) }
+    ensures open_err { OnErr result (opened.new.items ≡ opened.old.items) }
+    ensures classes_err { OnErr result (classes.new ≡ classes.old) }
 {
-    let mut place = 0usize;
-    for scope in scopes {
-        if is_class_of(&scope.sort, name) {
-            return Some(place);
+    let place = scopes.len();
+    enter(scopes, opened, scope)?;
+    match classes.add(name.as_bytes(), place) {
+        Ok(()) => Ok(()),
+        Err(m) => {
+            drop(scopes.pop());
+            drop(opened.pop());
+            Err(m)
         }
-        place += 1;
     }
-    None
 }
 
-fn place_of_parent(scopes: &[Scope], parent: Option<&str>) -> Option<usize>
-    ensures { result ≡ option_and_then (class_place 0 scopes.now) (option_map (λ p. p.now) parent.entry) }
+/// The place of a parent's scope.
+fn place_of_parent(classes: &Classes, parent: Option<&str>) -> Option<usize>
+    ensures { result ≡ option_and_then (λ p. place_among p classes.now) (option_map (λ p. p.now) parent.entry) }
 {
     match parent {
-        Some(parent) => class_place(scopes, parent.as_bytes()),
+        Some(parent) => classes.find(parent.as_bytes()),
         None => None,
     }
 }
@@ -144,13 +166,14 @@ impl Scopes {
         open.push(0usize)?;
         Ok(Scopes {
             scopes,
+            classes: Classes::new(alloc),
             open,
             alloc,
         })
     }
 
     /// Binds a name, without `$`, in the current scope.
-    #[tactic(auto, using(crate::proofs::OpenLaws::place_below, crate::proofs::OpenLaws::bound_open))]
+    #[tactic(auto, using(crate::proofs::OpenLaws::place_below, crate::proofs::OpenLaws::bound_open, crate::proofs::ClassPlaces::bound_classes))]
     pub fn bind(&mut self, name: &str, value: Value) -> Result<(), BindFault>
         ensures { BindsNow self.old name.now value self.new result }
     {
@@ -159,25 +182,29 @@ impl Scopes {
     }
 
     /// Enters the scope of a class, which inherits the parent's.
-    #[tactic(auto, using(crate::proofs::OpenLaws::entered_open))]
     pub fn enter_class(&mut self, name: &str, parent: Option<&str>) -> Result<(), NoMemory>
         requires new_name { class_of self.old.0 name.now ≡ None }
         requires known_parent { IfSome parent (λ p. IsSome (class_of self.old.0 p.now)) }
         ensures ok { OnOk result (self.new ≡ entered self.old (class_scope self.old.0 name.now (option_map (λ p. p.now) parent.entry))) }
         ensures err { OnErr result (self.new ≡ self.old) }
     {
-        let parent = place_of_parent(self.scopes.as_slice(), parent);
+        let parent = place_of_parent(&self.classes, parent);
         let class = Text::from_string(String::from_str(self.alloc, name)?);
         let scope = Scope {
             sort: Sort::Class(class),
             parent,
             bindings: Bindings::new(self.alloc),
         };
-        enter(&mut self.scopes, &mut self.open, scope)
+        enter_named(
+            &mut self.scopes,
+            &mut self.open,
+            &mut self.classes,
+            scope,
+            name,
+        )
     }
 
     /// Enters the scope of a defined resource.
-    #[tactic(auto, using(crate::proofs::OpenLaws::entered_open))]
     pub fn enter_defined(&mut self) -> Result<(), NoMemory>
         ensures ok { OnOk result (self.new ≡ entered self.old defined_scope) }
         ensures err { OnErr result (self.new ≡ self.old) }
@@ -191,7 +218,6 @@ impl Scopes {
     }
 
     /// Enters the scope of a node, which stays open.
-    #[tactic(auto, using(crate::proofs::OpenLaws::entered_open))]
     pub fn enter_node(&mut self) -> Result<(), NoMemory>
         requires at_top { length self.old.1 ≡ 1 }
         ensures ok { OnOk result (self.new ≡ entered self.old node_scope_new) }

@@ -1,0 +1,45 @@
+-- Look-ups of classes.
+use Rattle.std.proofs.Common.{◌≡◌, ℕ, Bool, true, false, cond, List, [], ◌∷◌, ◌++◌, map, Option, Some, None, refl, ap, sym, ◌∙◌, Vec, Global, bytes_eq}
+use Rattle.std.specs.Map.{lookup}
+use Rattle.std.specs.Cmp.Lexicographic.{pointwise}
+use Rattle.std.specs.Prelude.{nat_eq}
+use Rattle.std.proofs.lemmas.Slice.Eq.{bytes_eq-Decides}
+use Rattle.indexmap.specs.IndexMap.{insert_entry}
+use Rattle.pp_value.specs.Texts.{lowered}
+use Rattle.pp_eval.specs.ClassNames.{place_among}
+
+abbrev Entry : Type 0
+Entry = Vec ℕ Global × ℕ
+
+abbrev pub named : Entry → List ℕ × ℕ
+named e = (e.0.items, e.1)
+
+one_bool : (a b : Bool) → (a ≡ true → b ≡ true) → (b ≡ true → a ≡ true) → a ≡ b
+one_bool true b f g = sym (f refl)
+one_bool false true f g = g refl
+one_bool false false f g = refl
+
+bytes_turned : (a b : List ℕ) → bytes_eq a b ≡ bytes_eq b a
+bytes_turned a b = one_bool _ _ (λ h. (bytes_eq-Decides b a).1 (sym ((bytes_eq-Decides a b).0 h))) (λ h. (bytes_eq-Decides a b).1 (sym ((bytes_eq-Decides b a).0 h)))
+
+pub found : (name : List ℕ) (entries : List Entry) → lookup (λ k. bytes_eq (lowered name) k.items) entries ≡ place_among name (map (λ e. (e.0.items, e.1)) entries)
+found name [] = refl
+found name (e ∷ entries) = λ i. cond (bytes_turned (lowered name) e.0.items i) (Some e.1) (found name entries i)
+
+abbrev pub same_key : Vec ℕ Global → Vec ℕ Global → Bool
+same_key x y = pointwise nat_eq x.items y.items
+
+added_head : (name : List ℕ) (key : Vec ℕ Global) (place : ℕ) (x : Entry) (entries : List Entry)
+    → (place_among name (map named entries) ≡ None → map named (insert_entry same_key entries key place) ≡ map named entries ++ (lowered name, place) ∷ [])
+    → (t : Bool) → cond t (Some x.1) (place_among name (map named entries)) ≡ None
+    → map named (cond t ((x.0, place) ∷ entries) (x ∷ insert_entry same_key entries key place)) ≡ named x ∷ (map named entries ++ (lowered name, place) ∷ [])
+added_head name key place x entries rest true h = cc
+added_head name key place x entries rest false h = ap (λ more. named x ∷ more) (rest h)
+
+pub added : (entries : List Entry) (name : List ℕ) (key : Vec ℕ Global) (place : ℕ) → key.items ≡ lowered name → place_among name (map named entries) ≡ None
+    → map named (insert_entry same_key entries key place) ≡ map named entries ++ (lowered name, place) ∷ []
+added [] name key place e h = ap (λ (k : List ℕ). (k, place) ∷ []) e
+added (x ∷ entries) name key place e h =
+    let same : same_key key x.0 ≡ bytes_eq x.0.items (lowered name) = ap (λ (k : List ℕ). bytes_eq k x.0.items) e ∙ bytes_turned (lowered name) x.0.items in
+    ap (λ t. map named (cond t ((x.0, place) ∷ entries) (x ∷ insert_entry same_key entries key place))) same
+    ∙ added_head name key place x entries (added entries name key place e) (bytes_eq x.0.items (lowered name)) h
