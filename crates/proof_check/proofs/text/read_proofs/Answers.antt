@@ -27,5 +27,5 @@ returns-in-Err-Form-clause-only c ps h = absurd (text_none c.args.bytes.now ps (
 
 pub returns-in-Err-Form-clause-refused : goal.returns-in-Err-Form-clause-refused
 returns-in-Err-Form-clause-refused c =
-    also c.refused-in-Err-Form.result (IsRefusal 80 0 (codes "proof")) ((ps : List Refutation) → IsProofText c.args.bytes.now ps → ⊥)
-    (λ ps h. text_none c.args.bytes.now ps (subst (λ (m : Misread). Fails m (proofs_in (words_left true c.args.bytes.now))) c.in-Err-Form.field-0-is c.in-Err-Form.ensures) h) c.refused-in-Err-Form.ensures
+    also c.refused.result (IsRefusal 80 0 (codes "proof")) ((ps : List Refutation) → IsProofText c.args.bytes.now ps → ⊥)
+    (λ ps h. text_none c.args.bytes.now ps (subst (λ (m : Misread). Fails m (proofs_in (words_left true c.args.bytes.now))) c.in-Err-Form.field-0-is c.in-Err-Form.ensures) h) c.refused.ensures
