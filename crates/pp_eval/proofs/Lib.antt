@@ -13,4 +13,6 @@ pub mod Refusing
 pub mod Forms
 pub mod Steps
 pub mod TextLaws
+pub mod EveryValue
 pub mod WithinLimit
+pub mod DistinctKeys

@@ -9,6 +9,7 @@ ghost use Rattle.pp_eval.specs.Evaluation.{value_of};
 ghost use Rattle.pp_eval.specs.Inheriting.{ParentsStandBefore};
 ghost use Rattle.pp_value.specs.Values.{Pair, value_at, size_of};
 ghost use Rattle.pp_value.specs.Table.{size_limit};
+ghost use Rattle.pp_value.specs.Proper.{IsProper};
 
 /// A look-up doesn't depend on the bindings of other names.
 pub fn other_names_stay()
@@ -33,4 +34,9 @@ pub fn inheriting_ends()
 /// Where no value that is bound is too large, no value of an expression is.
 pub fn values_stay_within()
     ensures { (s : Scoped) → ((name : List ℕ) (x : Value) → find_in s name ≡ Some x → size_of x ≤ size_limit) → (e : Expr) (x : Value) → value_of s e ≡ Ok x → size_of x ≤ size_limit }
+{}
+
+/// Where the maps of all values that are bound have distinct keys, so have those of every value of an expression.
+pub fn values_stay_proper()
+    ensures { (s : Scoped) → ((name : List ℕ) (x : Value) → find_in s name ≡ Some x → IsProper x) → (e : Expr) (x : Value) → value_of s e ≡ Ok x → IsProper x }
 {}
