@@ -6,6 +6,7 @@ use Rattle.rh_base.specs.declared.fault.Refusal.{Refusal}
 use Rattle.pp_syntax.specs.declared.tree.Expr.{Expr}
 use Rattle.pp_syntax.specs.declared.tree.Op.{Op}
 use Rattle.pp_syntax.specs.declared.tree.Op.TheVariants as op
+use Rattle.pp_value.specs.declared.value.Pairs.{Pairs}
 use Rattle.pp_value.specs.declared.value.Value.{Value}
 use Rattle.pp_value.specs.declared.value.Value.TheVariants as v
 use Rattle.pp_value.specs.declared.value.Value.TheBlock as block
@@ -34,6 +35,9 @@ pub list_proper : (xs : List Value) → AllProper xs → IsProper (v.List xs)
 unfolding block.hidden-the_row-Value-0 denote.Hole.Carrier.hidden
 list_proper [] h = tt
 list_proper (x ∷ xs) h = (h.0, list_proper xs h.1)
+
+pub map_is_proper : (p : Pairs) → HasDistinctKeys p.pairs → PairsProper p.pairs → IsProper (v.Map p)
+map_is_proper p h k = map_proper p.pairs h k
 
 abbrev ProperMap : List Pair → Type 0
 ProperMap xs = HasDistinctKeys xs × PairsProper xs

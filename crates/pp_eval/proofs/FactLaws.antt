@@ -1,5 +1,5 @@
 -- Facts of arrays and objects.
-use Rattle.std.proofs.Common.{◌≡◌, ℕ, Bool, true, false, cond, List, [], ◌∷◌, Some, None, Less, is_eq, refl, ap, sym, ◌∙◌, Vec, BTreeMap, String, Global, string_bytes, string_cmp, bytes_eq}
+use Rattle.std.proofs.Common.{◌≡◌, ℕ, Bool, true, false, cond, List, [], ◌∷◌, ◌++◌, Some, None, Less, is_eq, refl, ap, sym, ◌∙◌, subst, append-nil, Vec, BTreeMap, String, Global, string_bytes, string_cmp, bytes_eq}
 use Rattle.std.specs.List.{AllByRecursion}
 use Rattle.std.specs.List.Sorted.{IsStrictlySortedBy}
 use Rattle.std.specs.Map.{keys_of}
@@ -9,7 +9,7 @@ use Rattle.serde_json.specs.View.{view, items_view, members_view}
 use Rattle.serde_json.specs.declared.value.Value as json
 use Rattle.serde_json.proofs.Views.{Entry, view-Array, view-Object}
 use Rattle.pp_value.specs.declared.value.Value.TheVariants as v
-use Rattle.pp_value.specs.Values.{value_at, HasDistinctKeys}
+use Rattle.pp_value.specs.Values.{Pair, value_at, HasDistinctKeys}
 use Rattle.pp_eval.specs.Facts.{fact_of, facts_of, pairs_of}
 
 pub of_array : (items : Vec json.Value Global) → fact_of (view (json.Array items)) ≡ v.List (facts_of (items_view items.items))
@@ -34,3 +34,8 @@ pub distinct : (es : List Entry) → IsStrictlySortedBy string_cmp (keys_of es) 
 unfolding IsStrictlySortedBy
 distinct [] h = tt
 distinct (e ∷ es) h = (none_after e.0 es h.0, distinct es h.1)
+
+pub read_distinct : (xs : List Pair) (left : List Entry) (es : List Entry) → left ≡ [] → xs ++ pairs_of (members_view left) ≡ pairs_of (members_view es) → IsStrictlySortedBy string_cmp (keys_of es) → HasDistinctKeys xs
+read_distinct xs left es ended same ordered =
+    let all : xs ≡ pairs_of (members_view es) = sym (append-nil xs) ∙ ((λ i. xs ++ pairs_of (members_view (sym ended i))) ∙ same) in
+    subst HasDistinctKeys (sym all) (distinct es ordered)

@@ -1,9 +1,12 @@
 //! The facts of a machine, from JSON.
 
 ghost use Rattle.std.specs.Prelude.{◌≡◌, IfOk, IfErr, codes};
+ghost use Rattle.std.specs.List.{AllByRecursion};
 ghost use Rattle.rh_base.specs.Refused.{IfRefused, IsRefusal};
 ghost use Rattle.serde_json.specs.View.{view, items_view, members_view};
 ghost use Rattle.pp_value.specs.declared.value.Value.{Value as V};
+ghost use Rattle.pp_value.specs.Proper.{IsProper};
+ghost use Rattle.pp_value.specs.Values.{HasDistinctKeys};
 ghost use Rattle.pp_eval.specs.Facts.{fact_of, facts_of, pairs_of, AreFacts};
 
 use pp_value::{Pairs, Value};
@@ -14,9 +17,10 @@ use std::alloc::Global;
 /// The value of what JSON has: whole numbers of 64 bits, texts, truth values, null as undef, arrays and
 /// objects, whose pairs come in the byte order of their keys; other numbers are opaque.
 #[cycle(value_of_json)]
-#[tactic(auto, using(crate::proofs::FactLaws::of_array, crate::proofs::FactLaws::of_object))]
+#[tactic(auto, using(crate::proofs::FactLaws::of_array, crate::proofs::FactLaws::of_object, crate::proofs::DistinctKeys::list_proper, crate::proofs::DistinctKeys::map_is_proper))]
 pub fn value_of_json(alloc: Global, json: &Json) -> Result<Value, NoMemory>
-    ensures { IfOk result (λ x. x ≡ fact_of (view json.now)) }
+    ensures value { IfOk result (λ x. x ≡ fact_of (view json.now)) }
+    ensures proper { IfOk result IsProper }
 {
     match json {
         Json::Null => Ok(Value::Undef),
@@ -39,7 +43,8 @@ pub fn value_of_json(alloc: Global, json: &Json) -> Result<Value, NoMemory>
 
 #[cycle(value_of_json)]
 fn values_of_json(alloc: Global, items: &Vec<Json>) -> Result<Vec<Value>, NoMemory>
-    ensures { IfOk result (λ values. values.items ≡ facts_of (items_view items.now.items)) }
+    ensures values { IfOk result (λ values. values.items ≡ facts_of (items_view items.now.items)) }
+    ensures proper { IfOk result (λ values. AllByRecursion IsProper values.items) }
 {
     let mut values = Vec::new(alloc);
     for item in items {
@@ -51,7 +56,9 @@ fn values_of_json(alloc: Global, items: &Vec<Json>) -> Result<Vec<Value>, NoMemo
 /// The pairs of a JSON object.
 #[cycle(value_of_json)]
 pub fn pairs_of_json(alloc: Global, members: &Map<String, Json>) -> Result<Pairs, NoMemory>
-    ensures { IfOk result (λ p. p.pairs ≡ pairs_of (members_view members.now.entries)) }
+    ensures pairs { IfOk result (λ p. p.pairs ≡ pairs_of (members_view members.now.entries)) }
+    ensures distinct { IfOk result (λ p. HasDistinctKeys p.pairs) }
+    ensures proper { IfOk result (λ p. AllByRecursion (λ pair. IsProper pair.1) p.pairs) }
 {
     let mut pairs = Vec::new(alloc);
     for (key, member) in members.iter() {
@@ -63,8 +70,10 @@ pub fn pairs_of_json(alloc: Global, members: &Map<String, Json>) -> Result<Pairs
 }
 
 /// The facts of a JSON object; any other text is refused.
+#[tactic(auto, using(crate::proofs::DistinctKeys::map_is_proper))]
 pub fn facts_from_json(alloc: Global, bytes: &[u8]) -> Result<Value, Fault>
     ensures facts { IfOk result (AreFacts bytes.now) }
+    ensures proper { IfOk result IsProper }
     ensures refused { IfErr result (λ e. IfRefused e (λ r. IsRefusal 60 0 (codes "facts") r × ((x : V) → AreFacts bytes.now x → ⊥))) }
 {
     let json = match Json::from_slice(alloc, bytes) {
