@@ -208,19 +208,19 @@ joined_proper at text (m ∷ members) = step_each IsProper m.verdict _ (λ x. st
 -- ---- every expression
 
 forms_keep : FormsKeep IsProper
-forms_keep = record
-    { int = λ at n. limited_proper at (v.Int n) tt
-    ; str = λ at text. limited_proper at (v.Str text) tt
-    ; bool = λ at b. limited_proper at (v.Bool b) tt
-    ; undef = λ at. limited_proper at v.Undef tt
-    ; list = of_list
-    ; pairs = of_map
-    ; refer = of_refer
-    ; join = λ at members. joined_proper at [] members
-    ; chain = chain_proper
-    ; prefix = prefix_proper
-    ; index = at_proper
-    }
+forms_keep = record {
+  int = λ at n. limited_proper at (v.Int n) tt;
+  str = λ at text. limited_proper at (v.Str text) tt;
+  bool = λ at b. limited_proper at (v.Bool b) tt;
+  undef = λ at. limited_proper at v.Undef tt;
+  list = of_list;
+  pairs = of_map;
+  refer = of_refer;
+  join = λ at members. joined_proper at [] members;
+  chain = chain_proper;
+  prefix = prefix_proper;
+  index = at_proper;
+}
 
 pub stays_proper : (s : Scoped) → ((name : List ℕ) (x : Value) → find_in s name ≡ Some x → IsProper x) → (e : Expr) (x : Value) → value_of s e ≡ Ok x → IsProper x
 stays_proper s bound e x h = so_of_each IsProper forms_keep s bound e x h

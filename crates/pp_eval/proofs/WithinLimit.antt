@@ -126,19 +126,19 @@ joined_within at text (m ∷ members) h = step_each Fits m.verdict _ (λ x. then
 -- ---- every expression
 
 forms_keep : FormsKeep Fits
-forms_keep = record
-    { int = λ at n. limited_within at (v.Int n)
-    ; str = λ at text. limited_within at (v.Str text)
-    ; bool = λ at b. limited_within at (v.Bool b)
-    ; undef = λ at. limited_within at v.Undef
-    ; list = λ at members h. list_within at members
-    ; pairs = λ at members h. map_within at members
-    ; refer = refer_within
-    ; join = λ at members. joined_within at [] members (omega arith)
-    ; chain = λ at first more h k. chain_within at first more h
-    ; prefix = prefix_within
-    ; index = λ at base key h. index_within at base key
-    }
+forms_keep = record {
+  int = λ at n. limited_within at (v.Int n);
+  str = λ at text. limited_within at (v.Str text);
+  bool = λ at b. limited_within at (v.Bool b);
+  undef = λ at. limited_within at v.Undef;
+  list = λ at members h. list_within at members;
+  pairs = λ at members h. map_within at members;
+  refer = refer_within;
+  join = λ at members. joined_within at [] members (omega arith);
+  chain = λ at first more h k. chain_within at first more h;
+  prefix = prefix_within;
+  index = λ at base key h. index_within at base key;
+}
 
 pub stays_within : (s : Scoped) → ((name : List ℕ) (x : Value) → find_in s name ≡ Some x → Fits x) → (e : Expr) (x : Value) → value_of s e ≡ Ok x → Fits x
 stays_within s bound e x h = so_of_each Fits forms_keep s bound e x h

@@ -57,3 +57,34 @@ fn names_are_found_outwards(rt: HostRuntime) -> Result<(), Fail> {
     assert!(rt; scopes.find("z").is_none());
     Ok(())
 }
+
+#[test]
+fn classes_are_found_whatever_their_case(rt: HostRuntime) -> Result<(), Fail> {
+    let alloc = rt.alloc();
+    let mut scopes = Scopes::new(alloc, &Value::Undef)?;
+    scopes.enter_class("Apache", None)?;
+    scopes.enter_class("apache::mod", Some("aPACHE"))?;
+    assert_eq!(rt; scopes.bind("port", Value::Int(80)), Ok(()));
+    assert_eq!(rt; number(scopes.find("port")), 80);
+    assert_eq!(rt; number(scopes.find("apache::mod::port")), 80);
+    assert_eq!(rt; number(scopes.find("::aPache::MOD::port")), 80);
+    assert!(rt; scopes.find("apache::port").is_none());
+    assert!(rt; scopes.find("apache::other::port").is_none());
+    assert!(rt; scopes.find("::port").is_none());
+    Ok(())
+}
+
+#[test]
+fn what_a_class_inherits_is_found(rt: HostRuntime) -> Result<(), Fail> {
+    let alloc = rt.alloc();
+    let mut scopes = Scopes::new(alloc, &Value::Undef)?;
+    scopes.enter_class("Base", None)?;
+    scopes.leave();
+    scopes.enter_node()?;
+    scopes.enter_defined()?;
+    scopes.leave();
+    assert_eq!(rt; scopes.bind("port", Value::Int(80)), Ok(()));
+    assert_eq!(rt; number(scopes.find("port")), 80);
+    assert!(rt; scopes.find("base::port").is_none());
+    Ok(())
+}
