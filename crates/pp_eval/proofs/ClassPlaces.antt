@@ -1,11 +1,10 @@
 -- The places that are kept of classes are those of their scopes.
 use Rattle.std.proofs.Common.{◌≡◌, ℕ, zero, suc, ◌+◌, Bool, true, false, cond, List, [], ◌∷◌, ◌++◌, length, Option, Some, None, Result, Ok, Err, OnOk, OnErr, IsTrue, refl, sym, ap, subst, ◌∙◌, append_assoc, append-nil, length-append, arith}
-use Rattle.std.specs.Prelude.{slice_get, option_and_then, option_map}
-use Rattle.std.specs.Str.{bytes_eq}
+use Rattle.std.specs.Prelude.{slice_get, option_and_then}
 use Rattle.rh_base.specs.declared.text.NoMemory.{NoMemory}
 use Rattle.pp_value.specs.declared.value.Value.{Value}
 use Rattle.pp_value.specs.Values.{Pair}
-use Rattle.pp_value.specs.Texts.{lowered, same_text}
+use Rattle.pp_value.specs.Texts.{lowered}
 use Rattle.pp_eval.specs.declared.scope.Scope.{Scope}
 use Rattle.pp_eval.specs.declared.scope.Sort.{Sort}
 use Rattle.pp_eval.specs.declared.scope.Sort.TheVariants as sort
