@@ -1,8 +1,7 @@
 -- What is evaluated of values whose maps have distinct keys is such a value.
-use Rattle.std.proofs.Common.{◌≡◌, ℕ, ℤ, Bool, true, false, cond, List, [], ◌∷◌, map, Result, Ok, Err, Option, Some, None, refl}
-use Rattle.std.specs.Prelude.{nat_lt, ◌-ℤ◌, ◌*ℤ◌, neg_ℤ, not}
+use Rattle.std.proofs.Common.{◌≡◌, ℕ, ℤ, Bool, true, false, cond, List, [], ◌∷◌, map, Result, Ok, Err, Some, refl}
+use Rattle.std.specs.Prelude.{nat_lt, ◌-ℤ◌, ◌*ℤ◌, neg_ℤ}
 use Rattle.std.specs.List.{AllByRecursion}
-use Rattle.rh_base.specs.declared.fault.Refusal.{Refusal}
 use Rattle.pp_syntax.specs.declared.tree.Expr.{Expr}
 use Rattle.pp_syntax.specs.declared.tree.Op.{Op}
 use Rattle.pp_syntax.specs.declared.tree.Op.TheVariants as op

@@ -1,4 +1,4 @@
-use Rattle.std.proofs.Common.{◌≡◌, ◌∷◌, ◌++◌, [], ◌∙◌, None, ap, subst, sym, map, List, ℕ}
+use Rattle.std.proofs.Common.{◌≡◌, ◌∷◌, ◌++◌, [], ◌∙◌, None, ap, map, List, ℕ}
 use Rattle.pp_value.specs.Texts.{lowered}
 use Rattle.pp_eval.specs.ClassNames.{place_among}
 use Rattle.pp_eval.proofs.ClassNameLaws.{added, named}

@@ -1,5 +1,4 @@
-use Rattle.std.proofs.Common.{◌≡◌, refl, ap, ◌∙◌, Option, Some, None, option_map, Bor, ℕ}
-use Rattle.std.specs.Option.{option_copied}
+use Rattle.std.proofs.Common.{ap, ◌∙◌}
 use Rattle.pp_eval.specs.ClassNames.{place_among}
 use Rattle.pp_eval.proofs.ClassNameLaws.{found}
 use Rattle.pp_eval.proofs.classes.Classes.find.Goals as goal

@@ -1,4 +1,4 @@
-use Rattle.std.proofs.Common.{◌≡◌, ap, sym, ◌∙◌, refl, None}
+use Rattle.std.proofs.Common.{ap, ◌∙◌}
 use Rattle.pp_eval.specs.declared.scope.Sort.TheVariants as sort
 use Rattle.pp_eval.specs.ClassNames.{place_among}
 use Rattle.pp_eval.specs.Scoping.{class_of}
