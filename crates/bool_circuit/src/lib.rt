@@ -6,6 +6,3 @@ mod gate;
 
 pub use circuit::Circuit;
 pub use gate::{Gate, Wire};
-
-#[cfg(test)]
-mod tests;

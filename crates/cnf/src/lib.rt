@@ -14,6 +14,3 @@ pub use formula::Cnf;
 pub use lit::Lit;
 pub use log::{Link, Log, Step};
 pub use text::write_proof;
-
-#[cfg(test)]
-mod tests;

@@ -10,8 +10,6 @@ mod marks;
 mod order;
 mod places;
 mod search;
-#[cfg(test)]
-mod tests;
 mod walk;
 
 pub use exchange::{exchanges_agree, exchanges_join};

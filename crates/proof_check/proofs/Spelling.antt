@@ -26,7 +26,8 @@ use Rattle.proof_check.specs.ProofWords.{Written, block_words, IsWritten, IsLink
 use Rattle.proof_check.specs.WordsLeft.{words_left}
 use Rattle.proof_check.proofs.WordLaws.{words_left-all}
 use Rattle.proof_check.specs.Reading.{digits_behind, number_in}
-use Rattle.proof_check.specs.WordReading.{Found, ◌>>=◌, with_words, with_first, word_is, count_in, within, plain, unsigned_in, negative_in, signed, lits_or, lits_in, with_link, links_in, links_behind, clauses_in, formula_of, formula_in, step_in, steps_in, log_in, block_in, blocks_in, ended, proofs_in}
+use Rattle.rh_base.specs.Reading.{◌>>=◌}
+use Rattle.proof_check.specs.WordReading.{Found, with_words, with_first, word_is, count_in, within, plain, unsigned_in, negative_in, signed, lits_or, lits_in, with_link, links_in, links_behind, clauses_in, formula_of, formula_in, step_in, steps_in, log_in, block_in, blocks_in, ended, proofs_in}
 
 -- ---- numbers
 

@@ -10,9 +10,10 @@ use Rattle.cnf.specs.ProofText.{Word}
 use Rattle.proof_check.specs.Reading.{number_in}
 use Rattle.std.specs.Prelude.{Result, Ok, Err}
 use Rattle.std.specs.Result.{IsErrAnd}
-use Rattle.proof_check.specs.declared.text.Misread.{Misread}
-use Rattle.proof_check.specs.declared.text.Misread.TheVariants as misread
-use Rattle.proof_check.specs.WordReading.{Found, Fails, Gives, with_front, with_words, with_first, count_in, signed, literal_in, lits_or, lits_in, pivot_of, pivot_in, ◌>>=◌, with_link, links_in, links_behind, clauses_in, step_in, steps_in, block_in, blocks_in}
+use Rattle.rh_base.specs.declared.misread.Misread.{Misread}
+use Rattle.rh_base.specs.declared.misread.Misread.TheVariants as misread
+use Rattle.rh_base.specs.Reading.{Fails, Gives, ◌>>=◌}
+use Rattle.proof_check.specs.WordReading.{Found, with_front, with_words, with_first, count_in, signed, literal_in, lits_or, lits_in, pivot_of, pivot_in, with_link, links_in, links_behind, clauses_in, step_in, steps_in, block_in, blocks_in}
 
 -- the parts of what is read with the words behind it
 with_some : {X : Type 0} (ws : List Word) (o : Option X) (x : X) (rest : List Word) → with_words ws o ≡ Some (x, rest) → (o ≡ Some x) × (ws ≡ rest)

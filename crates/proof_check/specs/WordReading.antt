@@ -1,5 +1,5 @@
 -- How the words of a proof text are read: what stands at the front, and the words behind it.
-use Rattle.std.specs.Prelude.{◌≡◌, ◌==◌, ◌&&◌, nat_le, Bool, ℕ, zero, suc, ◌^◌, if◌then◌else◌, List, [], ◌∷◌, ◌++◌, codes, Option, Some, None, Result, Ok, Err, true, false}
+use Rattle.std.specs.Prelude.{◌==◌, ◌&&◌, nat_le, Bool, ℕ, zero, suc, ◌^◌, if◌then◌else◌, List, [], ◌∷◌, ◌++◌, codes, Option, Some, None, Result, true, false}
 use Rattle.std.specs.Option.{option_map}
 use Rattle.std.specs.Str.{bytes_eq}
 use Rattle.cnf.specs.declared.lit.Lit.{Lit}
@@ -10,25 +10,11 @@ use Rattle.cnf.specs.Formulas.{Formula}
 use Rattle.cnf.specs.ProofText.{Word}
 use Rattle.proof_check.specs.Refuted.{Refutation}
 use Rattle.proof_check.specs.Reading.{number_in}
-use Rattle.proof_check.specs.declared.text.Misread.{Misread}
-use Rattle.proof_check.specs.declared.text.Misread.TheVariants as misread
+use Rattle.rh_base.specs.declared.misread.Misread.{Misread}
+use Rattle.rh_base.specs.Reading.{◌>>=◌, Gives}
 
 abbrev pub Found : Type 0 → Type 0
 Found X = Option (X × List Word)
-
-infixl 10 ◌>>=◌
-abbrev pub ◌>>=◌ : {A B : Type 0} → Option A → (A → Option B) → Option B
-(Some x) >>= f = f x
-None >>= f = None
-
--- what code answers for what is read: the same, or Form where nothing is; want of memory is free
-abbrev pub Fails : {Y : Type 0} → Misread → Option Y → Type 0
-Fails misread.Form read = read ≡ None
-Fails (misread.Memory m) read = Unit {0}
-
-abbrev pub Gives : {X Y : Type 0} → (X → Y) → Result X Misread → Option Y → Type 0
-Gives view (Ok x) read = read ≡ Some (view x)
-Gives view (Err e) read = Fails e read
 
 -- the same, where these words are left
 abbrev pub Takes : {X Y : Type 0} → (X → Y) → Result X Misread → List Word → Found Y → Type 0

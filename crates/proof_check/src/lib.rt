@@ -9,6 +9,3 @@ mod text;
 pub use fault::{Bad, Cause, CheckFault};
 pub use steps::{Verified, check};
 pub use text::read_proofs;
-
-#[cfg(test)]
-mod tests;

@@ -1,33 +1,20 @@
+//! The texts of proofs, read.
+
 ghost use Rattle.std.specs.Prelude.{◌≡◌, ◌≢◌, ◌≤◌, ◌<◌, ◌+◌, ◌++◌, ◌∷◌, [], ℕ, List, Some, slice_get, true, false, take, drop, length, map, codes, OnOk, IfOk, IfErr, MatchResult};
 ghost use Rattle.std.specs.Bool.{OnTrue, OnFalse};
 ghost use Rattle.std.specs.List.{AllByRecursion, flat_map};
 ghost use Rattle.proof_check.specs.WordsLeft.{other_lines, line_words, words_left, is_inner, EndsWord};
 ghost use Rattle.proof_check.specs.Refuted.{Refutation, refutation};
 ghost use Rattle.proof_check.specs.Reading.{digits_behind, number_in};
-ghost use Rattle.proof_check.specs.WordReading.{Gives, Takes, word_is, count_in, within, plain, unsigned_in, negative_in, signed, literal_in, pivot_in, lits_in, links_in, formula_of, formula_in, step_in, steps_in, log_in, block_in, blocks_in, proofs_in};
-ghost use Rattle.proof_check.specs.declared.text.Misread.TheVariants.{Memory};
+ghost use Rattle.proof_check.specs.WordReading.{Takes, word_is, count_in, within, plain, unsigned_in, negative_in, signed, literal_in, pivot_in, lits_in, links_in, formula_of, formula_in, step_in, steps_in, log_in, block_in, blocks_in, proofs_in};
+ghost use Rattle.rh_base.specs.Reading.{Gives};
 ghost use Rattle.proof_check.specs.ProofWords.{words_of, IsProofText};
 ghost use Rattle.rh_base.specs.Refused.{IfRefused, IsRefusal};
 
 use cnf::{Clause, Cnf, Link, Lit, Log, Step};
-use rh_base::{Fault, NoMemory, Seq};
+use rh_base::{Fault, Misread, NoMemory, Seq};
 use std::alloc::Global;
 use std::marker::Model;
-
-/// Why a text wasn't read.
-#[derive(Drop)]
-enum Misread {
-    Form,
-    Memory(NoMemory),
-}
-
-impl From<NoMemory> for Misread {
-    ghost from_gives = { λ m e. e ≡ Memory m };
-
-    fn from(m: NoMemory) -> Self {
-        Misread::Memory(m)
-    }
-}
 
 /// Whether a byte stands in a word.
 fn is_inner(b: u8) -> bool

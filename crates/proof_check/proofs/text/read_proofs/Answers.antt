@@ -1,13 +1,14 @@
-use Rattle.std.proofs.Common.{map, subst, true, ℕ, List}
+use Rattle.std.proofs.Common.{map, subst, true, List}
 use Rattle.std.specs.Prelude.{codes}
 use Rattle.rh_base.specs.declared.fault.Fault.{Fault}
 use Rattle.rh_base.specs.declared.fault.Fault.TheVariants.{Refused, Memory}
 use Rattle.rh_base.specs.declared.fault.Refusal.{Refusal}
 use Rattle.rh_base.specs.Refused.{IfRefused, IsRefusal}
-use Rattle.proof_check.specs.declared.text.Misread.{Misread}
+use Rattle.rh_base.specs.declared.misread.Misread.{Misread}
 use Rattle.proof_check.specs.ProofWords.{IsProofText}
 use Rattle.proof_check.specs.WordsLeft.{words_left}
-use Rattle.proof_check.specs.WordReading.{Fails, proofs_in}
+use Rattle.rh_base.specs.Reading.{Fails}
+use Rattle.proof_check.specs.WordReading.{proofs_in}
 use Rattle.proof_check.specs.Refuted.{Refutation, refutation}
 use Rattle.proof_check.proofs.Spelling.{text_found, text_same, text_none}
 use Rattle.proof_check.proofs.text.read_proofs.Goals as goal

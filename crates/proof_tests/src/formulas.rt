@@ -1,25 +1,10 @@
-use crate::{Clause, Cnf, Link, Lit, Log, Step, from_circuit, write_proof};
+//! Clauses, formulas, and the formula of a goal.
+
+use crate::common::{FIRST, PIGEONS, PIGEONS_TEXT, SECOND, ask, formula, lit, lits, log};
 use bool_circuit::{Circuit, Gate, Wire};
-use rh_base::{NoMemory, Seq};
-use std::alloc::Global;
+use cnf::{Clause, Cnf, from_circuit, write_proof};
 use std::process::Abort;
 use std::test::Fail;
-
-/// The literal of a number other than 0, whose sign is the literal's.
-fn lit(n: i8) -> Lit {
-    Lit {
-        var: u64::from(n.unsigned_abs()),
-        positive: n > 0,
-    }
-}
-
-fn lits(alloc: Global, numbers: &[i8]) -> Result<Vec<Lit>, NoMemory> {
-    let mut lits = Vec::new(alloc);
-    for n in numbers {
-        lits.push(lit(*n))?;
-    }
-    Ok(lits)
-}
 
 #[test]
 fn a_clause_is_in_order_and_has_each_literal_once(rt: HostRuntime) -> Result<(), Fail> {
@@ -33,18 +18,6 @@ fn a_clause_is_in_order_and_has_each_literal_once(rt: HostRuntime) -> Result<(),
         assert_eq!(rt; clause.lits(), lits(rt.alloc(), wanted)?.as_slice());
     }
     Ok(())
-}
-
-/// A formula of these clauses.
-fn formula(rt: &(impl Abort + AllocGlobal), vars: u64, clauses: &[&[i8]]) -> Result<Cnf, NoMemory> {
-    let mut cnf = Cnf::new(rt.alloc(), vars)?;
-    for clause in clauses {
-        let clause = lits(rt.alloc(), clause)?;
-        let vars = cnf.vars();
-        assert!(rt; clause.iter().all(|l| 1 <= l.var && l.var <= vars));
-        cnf.add(&clause)?;
-    }
-    Ok(cnf)
 }
 
 #[test]
@@ -78,30 +51,6 @@ fn satisfies(rt: &impl Abort, cnf: &Cnf, valuation: u32) -> bool {
         }
     }
     true
-}
-
-/// The wire of a gate over wires that are there.
-fn ask(rt: &impl Abort, circuit: &mut Circuit, gate: Gate) -> Result<Wire, NoMemory> {
-    let wires = circuit.wires();
-    match gate {
-        Gate::Input(_) => circuit.input(),
-        Gate::Constant(b) => circuit.constant(b),
-        Gate::Not(a) => {
-            assert!(rt; a.0 < wires);
-            circuit.not(a)
-        }
-        Gate::And(a, b) => {
-            assert!(rt; a.0 < wires);
-            assert!(rt; b.0 < wires);
-            circuit.and(a, b)
-        }
-        Gate::Mux(c, a, b) => {
-            assert!(rt; c.0 < wires);
-            assert!(rt; a.0 < wires);
-            assert!(rt; b.0 < wires);
-            circuit.mux(c, a, b)
-        }
-    }
 }
 
 /// Wires 0 to 7: three inputs, the opposite of the first, an and, a choice, true, and an and of these.
@@ -153,63 +102,14 @@ fn models_begin_with_inputs_that_make_the_goal_true(rt: HostRuntime) -> Result<(
     Ok(())
 }
 
-/// A step: its clause, and its chain as a first clause and pairs of a number and a pivot.
-fn step(alloc: Global, clause: &[i8], start: u64, chain: &[(u64, i8)]) -> Result<Step, NoMemory> {
-    let clause = Clause::from_lits(alloc, &lits(alloc, clause)?)?;
-    let mut links = Seq::new(alloc);
-    for (number, pivot) in chain {
-        links.push(Link {
-            number: *number,
-            pivot: lit(*pivot),
-        })?;
-    }
-    Ok(Step {
-        clause,
-        start,
-        chain: links,
-    })
-}
-
-const PIGEONS: &[u8] = b"p cnf 6 9
-1 2 0
-3 4 0
-5 6 0
--1 -3 0
--1 -5 0
--3 -5 0
--2 -4 0
--2 -6 0
--4 -6 0
-log 2
--1 0 9 3 -6 2 -4 4 3 5 5 0
-0 6 3 -5 2 -3 8 6 7 4 1 -2 10 1 0
-";
-
 #[test]
 fn three_pigeons_in_two_holes_are_written(rt: HostRuntime) -> Result<(), Fail> {
-    let cnf = formula(
-        &rt,
-        6,
-        &[
-            &[2, 1],
-            &[3, 4],
-            &[5, 6],
-            &[-1, -3],
-            &[-1, -5],
-            &[-3, -5],
-            &[-2, -4],
-            &[-2, -6],
-            &[-4, -6],
-        ],
-    )?;
     let alloc = rt.alloc();
-    let mut steps = Seq::new(alloc);
-    let first = step(alloc, &[-1], 9, &[(3, -6), (2, -4), (4, 3), (5, 5)])?;
-    steps.push(first)?;
-    let second = [(3, -5), (2, -3), (8, 6), (7, 4), (1, -2), (10, 1)];
-    steps.push(step(alloc, &[], 6, &second)?)?;
+    let cnf = formula(&rt, 6, &PIGEONS)?;
+    let log = log(alloc, &[(&[-1], 9, FIRST), (&[], 6, SECOND)])?;
     let mut text = Vec::new(alloc);
-    write_proof(&cnf, &Log { steps }, &mut text)?;
-    assert_eq!(rt; text.as_slice(), PIGEONS);
+    write_proof(&cnf, &log, &mut text)?;
+    let block = PIGEONS_TEXT.strip_prefix("proofs 1\n").ok_or("a count")?;
+    assert_eq!(rt; text.as_slice(), block.as_bytes());
     Ok(())
 }

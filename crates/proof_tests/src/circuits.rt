@@ -1,31 +1,10 @@
-use crate::{Circuit, Gate, Wire};
+//! Circuits: equal gates are shared, and wires have their values.
+
+use crate::common::ask;
+use bool_circuit::{Circuit, Gate, Wire};
 use rh_base::NoMemory;
 use std::process::Abort;
 use std::test::Fail;
-
-/// The wire of a gate that is asked for over wires that are there.
-fn ask(rt: &impl Abort, circuit: &mut Circuit, gate: Gate) -> Result<Wire, NoMemory> {
-    let wires = circuit.wires();
-    match gate {
-        Gate::Input(_) => circuit.input(),
-        Gate::Constant(b) => circuit.constant(b),
-        Gate::Not(a) => {
-            assert!(rt; a.0 < wires);
-            circuit.not(a)
-        }
-        Gate::And(a, b) => {
-            assert!(rt; a.0 < wires);
-            assert!(rt; b.0 < wires);
-            circuit.and(a, b)
-        }
-        Gate::Mux(c, a, b) => {
-            assert!(rt; c.0 < wires);
-            assert!(rt; a.0 < wires);
-            assert!(rt; b.0 < wires);
-            circuit.mux(c, a, b)
-        }
-    }
-}
 
 const A: Wire = Wire(0);
 

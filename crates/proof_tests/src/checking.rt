@@ -1,63 +1,12 @@
-use crate::{Cause, CheckFault, Verified, check};
+//! Proofs that are accepted, the first fault of others, and the texts of proofs.
+
+use crate::common::{FIRST, PIGEONS, PIGEONS_TEXT, SECOND, Stated, formula, log};
 use cnf::{Clause, Cnf, Link, Lit, Log, Step};
+use proof_check::{Cause, CheckFault, Verified, check, read_proofs};
 use rh_base::{Fault, NoMemory, Seq};
 use std::alloc::Global;
 use std::process::Abort;
 use std::test::Fail;
-
-/// The literal of a number other than 0, whose sign is the literal's.
-fn lit(n: i8) -> Lit {
-    Lit {
-        var: u64::from(n.unsigned_abs()),
-        positive: n > 0,
-    }
-}
-
-fn lits(alloc: Global, numbers: &[i8]) -> Result<Vec<Lit>, NoMemory> {
-    let mut lits = Vec::new(alloc);
-    for n in numbers {
-        lits.push(lit(*n))?;
-    }
-    Ok(lits)
-}
-
-fn formula(rt: &(impl Abort + AllocGlobal), vars: u64, clauses: &[&[i8]]) -> Result<Cnf, NoMemory> {
-    let mut cnf = Cnf::new(rt.alloc(), vars)?;
-    for clause in clauses {
-        let clause = lits(rt.alloc(), clause)?;
-        let vars = cnf.vars();
-        assert!(rt; clause.iter().all(|l| 1 <= l.var && l.var <= vars));
-        cnf.add(&clause)?;
-    }
-    Ok(cnf)
-}
-
-/// A step as a test states it: its clause, a first clause, and pairs of a number and a pivot.
-type Stated = (&'static [i8], u64, &'static [(u64, i8)]);
-
-fn step(alloc: Global, stated: &Stated) -> Result<Step, NoMemory> {
-    let clause = Clause::from_lits(alloc, &lits(alloc, stated.0)?)?;
-    let mut chain = Seq::new(alloc);
-    for (number, pivot) in stated.2 {
-        chain.push(Link {
-            number: *number,
-            pivot: lit(*pivot),
-        })?;
-    }
-    Ok(Step {
-        clause,
-        start: stated.1,
-        chain,
-    })
-}
-
-fn log(alloc: Global, stated: &[Stated]) -> Result<Log, NoMemory> {
-    let mut steps = Seq::new(alloc);
-    for s in stated {
-        steps.push(step(alloc, s)?)?;
-    }
-    Ok(Log { steps })
-}
 
 /// What a check answers, as the number of the first step that fails and a word for its cause.
 fn answer(
@@ -85,22 +34,6 @@ fn word(alloc: Global, cause: &Cause) -> Result<String, Fail> {
     };
     Ok(word)
 }
-
-const PIGEONS: [&[i8]; 9] = [
-    &[1, 2],
-    &[3, 4],
-    &[5, 6],
-    &[-1, -3],
-    &[-1, -5],
-    &[-3, -5],
-    &[-2, -4],
-    &[-2, -6],
-    &[-4, -6],
-];
-
-const FIRST: &[(u64, i8)] = &[(3, -6), (2, -4), (4, 3), (5, 5)];
-
-const SECOND: &[(u64, i8)] = &[(3, -5), (2, -3), (8, 6), (7, 4), (1, -2), (10, 1)];
 
 #[test]
 fn three_pigeons_have_no_two_holes(rt: HostRuntime) -> Result<(), Fail> {
@@ -211,7 +144,7 @@ fn a_step_may_have_four_hundred_thousand_links(rt: HostRuntime) -> Result<(), Fa
 /// What reading and checking a proof text answers.
 fn read_and_check(rt: &(impl Abort + AllocGlobal), text: &[u8]) -> Result<(u64, String), Fail> {
     let alloc = rt.alloc();
-    match crate::read_proofs(alloc, text) {
+    match read_proofs(alloc, text) {
         Err(Fault::Memory(_)) => Ok((0, String::from_str(alloc, "memory")?)),
         Err(Fault::Refused(refusal)) => Ok((
             u64::from(refusal.number),
@@ -258,22 +191,6 @@ fn proof_texts_are_read(rt: HostRuntime) -> Result<(), Fail> {
     }
     Ok(())
 }
-
-const PIGEONS_TEXT: &str = "proofs 1
-p cnf 6 9
-1 2 0
-3 4 0
-5 6 0
--1 -3 0
--1 -5 0
--3 -5 0
--2 -4 0
--2 -6 0
--4 -6 0
-log 2
--1 0 9 3 -6 2 -4 4 3 5 5 0
-0 6 3 -5 2 -3 8 6 7 4 1 -2 10 1 0
-";
 
 #[test]
 fn the_text_of_three_pigeons_is_read(rt: HostRuntime) -> Result<(), Fail> {

@@ -1,6 +1,8 @@
+//! Orders from edges: what comes before what, cycles, extensions and walks.
+
 ghost use Rattle.orders.specs.Paths.{EndsBelow};
 
-use super::*;
+use orders::{Order, OrderFault, exchanges_agree, exchanges_join};
 use rh_base::Seq;
 use std::alloc::Global;
 use std::test::Fail;

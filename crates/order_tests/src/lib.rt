@@ -1,0 +1,5 @@
+//! Tests of orders.
+#![tactic(auto)]
+
+#[cfg(test)]
+mod relations;

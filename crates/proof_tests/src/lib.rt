@@ -1,0 +1,11 @@
+//! Tests of circuits, formulas and proofs.
+#![tactic(auto)]
+
+#[cfg(test)]
+mod checking;
+#[cfg(test)]
+mod circuits;
+#[cfg(test)]
+mod common;
+#[cfg(test)]
+mod formulas;
