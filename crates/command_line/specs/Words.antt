@@ -1,9 +1,13 @@
 -- What the words of the command line ask for.
-use Rattle.std.specs.Prelude.{◌≡◌, ◌⊎◌, List, [], ◌∷◌, Option, Some, None, true, codes}
+use Rattle.std.specs.Prelude.{◌≡◌, List, [], ◌∷◌, Option, Some, None, true, codes, if◌then◌else◌}
+use Rattle.std.specs.Str.{bytes_eq}
 use Rattle.std.specs.List.{AllByRecursion}
 use Rattle.clap.specs.Walk.{Row, Rule, Text, first_of}
 use Rattle.clap.specs.Simple.{App, new_app, new_rule, with_rule, on_top, matches_of}
 use Rattle.clap.specs.Faults.{fault_of}
+use Rattle.command_line.specs.declared.asks.Ask.{Ask}
+use Rattle.command_line.specs.declared.asks.Ask.TheVariants as ask
+use Rattle.command_line.specs.declared.asks.Request.{Request}
 use Rattle.command_line.specs.declared.words.WordsFault.{WordsFault}
 use Rattle.command_line.specs.declared.words.WordsFault.TheVariants as fault
 
@@ -32,21 +36,32 @@ synopsis = with_rule asked (new_rule (codes "INPUT"))
 abbrev pub unbuilt : List Text
 unbuilt = codes "facts" ∷ codes "packages" ∷ codes "node" ∷ codes "conflicts" ∷ codes "tree" ∷ codes "order" ∷ codes "workload" ∷ []
 
--- what was given: the input has this name, `--ask` is left out or says `verify`, and nothing else is there
-pub record GivesInput (rows : List Row) (name : Text) : Type 0 where
-  pub input : first_of (codes "INPUT") rows ≡ Some name
-  pub ask : (first_of (codes "ask") rows ≡ None) ⊎ (first_of (codes "ask") rows ≡ Some (codes "verify"))
+-- what a word of `--ask` asks for
+abbrev pub ask_named : Text → Option Ask
+ask_named word =
+    if bytes_eq word (codes "verify") then Some ask.Verify
+    else (if bytes_eq word (codes "check") then Some ask.Check else None)
+
+-- what `--ask` asks for; where it is left out, to verify
+abbrev pub ask_in : Option Text → Option Ask
+ask_in None = Some ask.Verify
+ask_in (Some word) = ask_named word
+
+-- what was given: this is asked for, the input has this name, and nothing else is there
+pub record GivesRequest (rows : List Row) (request : Request) : Type 0 where
+  pub ask : ask_in (first_of (codes "ask") rows) ≡ Some request.ask
+  pub input : first_of (codes "INPUT") rows ≡ Some request.input
   pub others : AllByRecursion (λ id. first_of id rows ≡ None) unbuilt
 
--- the name of the input that was given so, or that none was
-abbrev pub InputIs : List Row → Option Text → Type 0
-InputIs rows (Some name) = GivesInput rows name
-InputIs rows None = (name : Text) → GivesInput rows name → ⊥
+-- the request that was given so, or that none was
+abbrev pub RequestIs : List Row → Option Request → Type 0
+RequestIs rows (Some request) = GivesRequest rows request
+RequestIs rows None = (request : Request) → GivesRequest rows request → ⊥
 
--- The words are those of the command, and ask to verify the manifest of this name.
-pub record AsksToVerify (words : List Text) (name : Text) : Type 0 where
+-- The words are those of the command, and make this request.
+pub record Makes (words : List Text) (request : Request) : Type 0 where
   pub taken : fault_of synopsis words ≡ []
-  pub given : GivesInput (matches_of synopsis words) name
+  pub given : GivesRequest (matches_of synopsis words) request
 
 -- a fact where the fault is that the words are refused
 abbrev pub IfRefused : WordsFault → Type 0 → Type 0

@@ -1,10 +1,9 @@
 //! The words of the command line.
 #![tactic(auto)]
 
+mod asks;
 mod command;
 mod words;
 
-pub use words::{WordsFault, input_to_verify};
-
-#[cfg(test)]
-mod tests;
+pub use asks::{Ask, Request};
+pub use words::{WordsFault, read_request};

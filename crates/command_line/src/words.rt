@@ -1,11 +1,12 @@
 //! What the words ask for.
 
-ghost use Rattle.std.specs.Prelude.{◌≡◌, ◌≢◌, ◌⊎◌, ◌↔◌, List, [], ℕ, map, string_bytes, None, Some, IsTrue, IfOk, IfErr, OnOk, codes};
+ghost use Rattle.std.specs.Prelude.{◌≡◌, ◌≢◌, ◌↔◌, [], map, string_bytes, None, IsTrue, IfOk, IfErr, OnOk, codes};
 ghost use Rattle.std.specs.List.{AllByRecursion};
 ghost use Rattle.std.specs.Option.{option_map};
 ghost use Rattle.clap.specs.Words.{found_of, rows_of, first_of, matches_of, fault_of};
-ghost use Rattle.command_line.specs.Words.{synopsis, unbuilt, InputIs, AsksToVerify, IfRefused};
+ghost use Rattle.command_line.specs.Words.{synopsis, unbuilt, ask_in, RequestIs, Makes, IfRefused};
 
+use crate::asks::{Ask, Request};
 use crate::command::synopsis;
 use clap::ArgMatches;
 use clap::error::ErrorKind;
@@ -38,13 +39,13 @@ fn value<'a>(matches: &ArgMatches<'a>, id: &str) -> Option<&'a str>
     matches.get_str(id)
 }
 
-/// Whether `--ask` is left out or asks to verify.
-fn asks_to_verify(matches: &ArgMatches<'_>) -> bool
-    ensures { IsTrue result ↔ ((first_of (codes "ask") (rows_of (found_of matches.now)) ≡ None) ⊎ (first_of (codes "ask") (rows_of (found_of matches.now)) ≡ Some (codes "verify"))) }
+/// What `--ask` asks for; where it is left out, to verify.
+fn ask_of(matches: &ArgMatches<'_>) -> Option<Ask>
+    ensures { result ≡ ask_in (first_of (codes "ask") (rows_of (found_of matches.now))) }
 {
     match value(matches, "ask") {
-        None => true,
-        Some(ask) => ask == "verify",
+        None => Some(Ask::Verify),
+        Some(word) => Ask::named(word),
     }
 }
 
@@ -69,17 +70,17 @@ fn are_others_absent(matches: &ArgMatches<'_>) -> bool
     facts && packages && node && conflicts && tree && order && workload
 }
 
-/// The name of the input, where that is all that is asked.
-fn input_of<'a>(matches: &ArgMatches<'a>) -> Option<&'a str>
-    ensures { InputIs (rows_of (found_of matches.now)) (option_map (λ s. s.now) result) }
+/// What is asked for, and of which input, where nothing else is given.
+fn asked_of<'a>(matches: &ArgMatches<'a>) -> Option<(Ask, &'a str)>
+    ensures { RequestIs (rows_of (found_of matches.now)) (option_map (λ x. record { ask = x.0; input = x.1.now }) result) }
 {
-    let may_verify = asks_to_verify(matches);
     let is_alone = are_others_absent(matches);
-    if may_verify && is_alone {
-        value(matches, "INPUT")
-    } else {
-        None
+    if !is_alone {
+        return None;
     }
+    let ask = ask_of(matches)?;
+    let input = value(matches, "INPUT")?;
+    Some((ask, input))
 }
 
 /// What `clap` makes of the words.
@@ -100,16 +101,19 @@ fn parsed<'a>(alloc: Global, words: &'a [String]) -> Result<ArgMatches<'a>, Word
     }
 }
 
-/// The name of the manifest that the words ask to verify.
-pub fn input_to_verify(alloc: Global, words: &[String]) -> Result<Text, WordsFault>
-    ensures named { IfOk result (λ name. AsksToVerify (map string_bytes words.now) name) }
-    // The words are refused exactly where they name none.
-    ensures refused { IfErr result (λ e. IfRefused e ((name : List ℕ) → AsksToVerify (map string_bytes words.now) name → ⊥)) }
+/// The request that the words make.
+pub fn read_request(alloc: Global, words: &[String]) -> Result<Request, WordsFault>
+    ensures made { IfOk result (λ request. Makes (map string_bytes words.now) request) }
+    // The words are refused exactly where they make none.
+    ensures refused { IfErr result (λ e. IfRefused e ((request : Request) → Makes (map string_bytes words.now) request → ⊥)) }
 {
     let matches = parsed(alloc, words)?;
-    match input_of(&matches) {
-        Some(name) => match String::from_str(alloc, name) {
-            Ok(name) => Ok(Text::from_string(name)),
+    match asked_of(&matches) {
+        Some((ask, input)) => match String::from_str(alloc, input) {
+            Ok(name) => Ok(Request {
+                ask,
+                input: Text::from_string(name),
+            }),
             Err(_) => Err(WordsFault::Memory(NoMemory)),
         },
         None => Err(WordsFault::Refused),

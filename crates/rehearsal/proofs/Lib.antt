@@ -1,4 +1,0 @@
-pub mod FileLaws
-pub mod Telling
-pub mod Endings
-pub mod Judging

@@ -1,5 +1,0 @@
-pub mod FileForm
-pub mod Files
-pub mod Judged
-pub mod Inputs
-pub mod Answers

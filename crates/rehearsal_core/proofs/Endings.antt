@@ -1,0 +1,224 @@
+-- From what there is to say, and how it was told, to what the status tells.
+use Rattle.std.proofs.Common.{◌≡◌, ◌≢◌, inl, inr, ℕ, List, Option, Some, None, refl, sym, ap, subst, ◌∙◌, arith}
+use Rattle.std.specs.Prelude.{String}
+use Rattle.std.specs.declared.alloc.Global.{Global}
+use Rattle.rh_base.specs.declared.fault.Refusal.{Refusal}
+use Rattle.rh_base.specs.Causes.{Rose}
+use Rattle.rh_base.specs.Shelf.{Files, told_at, IsMissing}
+use Rattle.rh_base.specs.Sink.{appended}
+use Rattle.command_line.specs.declared.asks.Request.{Request}
+use Rattle.rehearsal_core.specs.Inputs.{Requests, RequestsNone, IsHeld, Reports, Refuses, FailsToRead, SaysOf, Says}
+use Rattle.rehearsal_core.specs.declared.run.Ending.{Ending}
+use Rattle.rehearsal_core.specs.declared.run.Ending.TheVariants as ending
+use Rattle.rehearsal_core.specs.Answers.{Run, Appends, IsLeft, IsSound, HasFailed, AppendsFront, HasCause, NoFaults, Tells, Owes, Answers, TellsLine, TellsReport, refusal_line, read_fault_line, usage_line, memory_line}
+
+-- a file that is told isn't missing
+not_missing : (held : Option Files) (name bytes : List ℕ) → told_at held name ≡ Some bytes → IsMissing held name → ⊥
+not_missing None name bytes h k = k
+not_missing (Some files) name bytes h k = let no : ◌≡◌ {A = Option (List ℕ)} (Some bytes) None = sym h ∙ k in cc
+
+none_made : (words : List (String Global)) (request : Request) → Requests words request → RequestsNone words → ⊥
+none_made words request made none = none request made
+
+-- words name one input at most
+one_input : (words : List (String Global)) (r s : Request) → Requests words r → Requests words s → r.input ≡ s.input
+one_input words r s h k = let both : ◌≡◌ {A = Option (List ℕ)} (Some r.input) (Some s.input) = sym h.given.input ∙ k.given.input in cc
+
+-- ---- what each status tells, and what follows of which there are
+
+-- memory was refused
+memory_tells : (run : Run) (status : ℕ) → status ≡ 8 → AppendsFront memory_line run.err → IsLeft run.out → Tells run status
+memory_tells run status is front out = record {
+  report = λ e. absurd (omega (arith, is, e));
+  refused = λ e. absurd (omega (arith, is, e));
+  words = λ e. absurd (omega (arith, is, e));
+  read = λ e. absurd (omega (arith, is, e));
+  write = λ e. absurd (omega (arith, is, e));
+  memory = λ e. (front, out);
+  known = inr (inr (inr (inr (inr is))));
+}
+
+memory_owes : (run : Run) (status : ℕ) → status ≡ 8 → IsSound run.out → Owes run status
+memory_owes run status is sound = record {
+  usage = λ none. inr (inr is);
+  decided = λ held faults. inr (inr is);
+  unread = λ read. inr (inr is);
+  unwritten = λ failed. absurd (failed sound);
+  untold = λ failed. inr is;
+}
+
+pub memory_answers : (run : Run) (status : ℕ) → status ≡ 8 → AppendsFront memory_line run.err → IsLeft run.out → IsSound run.out → Answers run status
+memory_answers run status is front out sound = record { tells = memory_tells run status is front out; owes = memory_owes run status is sound }
+
+-- a report was to be written
+pub report_answers : (run : Run) (status : ℕ) (report : List ℕ) → Reports run.words run.held report → run.shelf_now ≡ run.shelf_before
+    → TellsReport report run.out run.err status → Answers run status
+report_answers run status report reports read (inl told) = record {
+  tells = record {
+    report = λ e. (report, reports, told.1, told.3);
+    refused = λ e. absurd (omega (arith, told.0, e));
+    words = λ e. absurd (omega (arith, told.0, e));
+    read = λ e. absurd (omega (arith, told.0, e));
+    write = λ e. absurd (omega (arith, told.0, e));
+    memory = λ e. absurd (omega (arith, told.0, e));
+    known = inl told.0;
+  };
+  owes = record {
+    usage = λ none. absurd (none_made run.words reports.request reports.made none);
+    decided = λ held faults. inl told.0;
+    unread = λ failed. absurd (failed read);
+    unwritten = λ failed. absurd (failed told.2);
+    untold = λ failed. absurd (failed told.4);
+  };
+}
+report_answers run status report reports read (inr (inl told)) = record {
+  tells = record {
+    report = λ e. absurd (omega (arith, told.0, e));
+    refused = λ e. absurd (omega (arith, told.0, e));
+    words = λ e. absurd (omega (arith, told.0, e));
+    read = λ e. absurd (omega (arith, told.0, e));
+    write = λ e. inl (told.1, report, reports, told.2, told.3);
+    memory = λ e. absurd (omega (arith, told.0, e));
+    known = inr (inr (inr (inr (inl told.0))));
+  };
+  owes = record {
+    usage = λ none. inr (inl told.0);
+    decided = λ held faults. absurd (faults.out told.1);
+    unread = λ failed. absurd (failed read);
+    unwritten = λ failed. told.0;
+    untold = λ failed. inl told.0;
+  };
+}
+report_answers run status report reports read (inr (inr told)) = memory_answers run status told.0 told.3 told.1 told.2
+
+-- a line was to be told on err: its cause, and what is known of a cause
+record Cause (run : Run) (at : ℕ) (line : List ℕ) : Type 0 where
+  has : HasCause run at line
+  usage : RequestsNone run.words → at ≡ 5
+  decided : IsHeld run.words run.held → (Rose run.shelf_before run.shelf_now → ⊥) → at ≡ 4
+  unread : run.shelf_now ≢ run.shelf_before → at ≡ 6
+
+told_line : (run : Run) (status at : ℕ) (line : List ℕ) → HasCause run at line → IsLeft run.out → status ≡ at → Appends line run.err → Tells run status
+told_line run status at line cause out is told = elim cause [
+  | inl c ↦ record {
+    report = λ e. absurd (omega (arith, is, c.0, e));
+    refused = λ e. (c.1, c.2, told ∙ ap (λ l. appended l run.err.before) c.3, out);
+    words = λ e. absurd (omega (arith, is, c.0, e));
+    read = λ e. absurd (omega (arith, is, c.0, e));
+    write = λ e. absurd (omega (arith, is, c.0, e));
+    memory = λ e. absurd (omega (arith, is, c.0, e));
+    known = inr (inl (is ∙ c.0));
+  }
+  | inr (inl c) ↦ record {
+    report = λ e. absurd (omega (arith, is, c.0, e));
+    refused = λ e. absurd (omega (arith, is, c.0, e));
+    words = λ e. (c.1, told ∙ ap (λ l. appended l run.err.before) c.2, out);
+    read = λ e. absurd (omega (arith, is, c.0, e));
+    write = λ e. absurd (omega (arith, is, c.0, e));
+    memory = λ e. absurd (omega (arith, is, c.0, e));
+    known = inr (inr (inl (is ∙ c.0)));
+  }
+  | inr (inr c) ↦ record {
+    report = λ e. absurd (omega (arith, is, c.0, e));
+    refused = λ e. absurd (omega (arith, is, c.0, e));
+    words = λ e. absurd (omega (arith, is, c.0, e));
+    read = λ e. (c.1, c.2, told ∙ ap (λ l. appended l run.err.before) c.3, out);
+    write = λ e. absurd (omega (arith, is, c.0, e));
+    memory = λ e. absurd (omega (arith, is, c.0, e));
+    known = inr (inr (inr (inl (is ∙ c.0))));
+  }
+]
+
+line_answers : (run : Run) (status at : ℕ) (line : List ℕ) → Cause run at line → IsLeft run.out → IsSound run.out → TellsLine at line run.err status → Answers run status
+line_answers run status at line cause out sound (inl told) = record {
+  tells = told_line run status at line cause.has out told.0 told.1;
+  owes = record {
+    usage = λ none. inl (told.0 ∙ cause.usage none);
+    decided = λ held faults. inr (inl (told.0 ∙ cause.decided held faults.shelf));
+    unread = λ failed. inl (told.0 ∙ cause.unread failed);
+    unwritten = λ failed. absurd (failed sound);
+    untold = λ failed. absurd (failed told.2);
+  };
+}
+line_answers run status at line cause out sound (inr (inl told)) = record {
+  tells = record {
+    report = λ e. absurd (omega (arith, told.0, e));
+    refused = λ e. absurd (omega (arith, told.0, e));
+    words = λ e. absurd (omega (arith, told.0, e));
+    read = λ e. absurd (omega (arith, told.0, e));
+    write = λ e. inr (told.1, at, line, cause.has, told.2, out);
+    memory = λ e. absurd (omega (arith, told.0, e));
+    known = inr (inr (inr (inr (inl told.0))));
+  };
+  owes = record {
+    usage = λ none. inr (inl told.0);
+    decided = λ held faults. absurd (faults.err told.1);
+    unread = λ failed. inr (inl told.0);
+    unwritten = λ failed. absurd (failed sound);
+    untold = λ failed. inl told.0;
+  };
+}
+line_answers run status at line cause out sound (inr (inr told)) = memory_answers run status told.0 told.1 out sound
+
+pub refusal_answers : (run : Run) (status : ℕ) (r : Refusal) → Refuses run.words run.held r → run.shelf_now ≡ run.shelf_before → IsLeft run.out → IsSound run.out
+    → TellsLine 4 (refusal_line r) run.err status → Answers run status
+refusal_answers run status r refuses read out sound told =
+    line_answers run status 4 (refusal_line r)
+    (record {
+      has = inl (refl, r, refuses, refl);
+      usage = λ none. absurd (none_made run.words refuses.request refuses.made none);
+      decided = λ held shelf. refl;
+      unread = λ failed. absurd (failed read);
+    }) out sound told
+
+pub usage_answers : (run : Run) (status : ℕ) → RequestsNone run.words → run.shelf_now ≡ run.shelf_before → IsLeft run.out → IsSound run.out
+    → TellsLine 5 usage_line run.err status → Answers run status
+usage_answers run status none read out sound told =
+    line_answers run status 5 usage_line
+    (record {
+      has = inr (inl (refl, none, refl));
+      usage = λ again. refl;
+      decided = λ held shelf. absurd (none_made run.words held.request held.made none);
+      unread = λ failed. absurd (failed read);
+    }) out sound told
+
+pub read_fault_answers : (run : Run) (status : ℕ) (name : List ℕ) → FailsToRead run.words run.held run.shelf_before run.shelf_now name → IsLeft run.out → IsSound run.out
+    → TellsLine 6 (read_fault_line name) run.err status → Answers run status
+read_fault_answers run status name fails out sound told =
+    line_answers run status 6 (read_fault_line name)
+    (record {
+      has = inr (inr (refl, name, fails, refl));
+      usage = λ none. absurd (none_made run.words fails.request fails.made none);
+      decided = λ held shelf. elim fails.cause [
+        | inl rose ↦ absurd (shelf rose)
+        | inr missing ↦
+            let same : name ≡ held.request.input = fails.named ∙ one_input run.words fails.request held.request fails.made held.made in
+            absurd (not_missing run.held held.request.input held.bytes held.told (subst (λ n. IsMissing run.held n) same missing))
+      ];
+      unread = λ failed. refl;
+    }) out sound told
+
+-- ---- where no count of faults can rise
+
+pub never_rose : Rose 0 0 → ⊥
+never_rose h = absurd (omega (arith, h))
+
+pub never_a_write_fault : (run : Run) (status : ℕ) → Answers run status → (HasFailed run.out → ⊥) → (HasFailed run.err → ⊥) → status ≡ 7 → ⊥
+never_a_write_fault run status answers out err is = elim (answers.tells.write is) [ inl o ↦ out o.0 | inr e ↦ err e.0 ]
+
+pub never_a_read_fault : (run : Run) (status : ℕ) → Answers run status → NoFaults run → IsHeld run.words run.held → status ≡ 6 → ⊥
+never_a_read_fault run status answers none held is = elim (answers.owes.decided held none) [
+  | inl e ↦ absurd (omega (arith, e, is))
+  | inr (inl e) ↦ absurd (omega (arith, e, is))
+  | inr (inr e) ↦ absurd (omega (arith, e, is))
+]
+
+-- ---- from the request to the words that make it
+
+pub says_of_words : (words : List (String Global)) (request : Request) (held : Option Files) (before now : ℕ) (e : Ending)
+    → Requests words request → SaysOf request held before now e → Says words held before now e
+says_of_words words request held before now (ending.Report text) made h = (h.0, record { request = request; made = made; on = h.1 })
+says_of_words words request held before now (ending.Refused r) made h = (h.0, record { request = request; made = made; cause = h.1 })
+says_of_words words request held before now ending.BadWords made h = absurd h
+says_of_words words request held before now (ending.ReadFault name) made h = record { request = request; made = made; named = h.0; cause = h.1 }
+says_of_words words request held before now ending.Memory made h = h

@@ -1,0 +1,53 @@
+-- What is said of a manifest, from its blocks and their paths.
+use Rattle.std.proofs.Common.{◌≡◌, ℕ, List, length, inl, inr, None, sym, ap, subst, ◌∙◌}
+use Rattle.std.specs.Prelude.{codes}
+use Rattle.rh_base.specs.declared.fault.Refusal.{Refusal}
+use Rattle.rh_base.specs.declared.fault.Fault.{Fault}
+use Rattle.rh_base.specs.declared.fault.Fault.TheVariants.{Refused, Memory}
+use Rattle.rh_base.specs.Refused.{IfRefused, IsRefusal}
+use Rattle.rehearsal_core.specs.declared.form.Block.{Block}
+use Rattle.fs_semantics.specs.FileTree.{Path}
+use Rattle.fs_semantics.specs.Apart.{AreApart}
+use Rattle.fs_semantics.specs.Orders.{IsDeterministic, IsIdempotent, Succeeds}
+use Rattle.fs_semantics.specs.PlainFiles.{PlainFile, ArePlain, puts, Unordered}
+use Rattle.rehearsal_core.specs.Files.{paths_of, ArePathsOf, PathsAre}
+use Rattle.rehearsal_core.specs.Judged.{report_of, IsWithin, IsReport, BreaksRule}
+use Rattle.rehearsal_core.proofs.FileLaws.{files_from, paths_from, proper_paths, length-paths}
+
+-- the laws on files that are put at paths apart
+pub record PlainLaws : Type 0 where
+  pub deterministic : (files : List PlainFile) → ArePlain files → IsDeterministic (puts files) Unordered
+  pub idempotent : (files : List PlainFile) → ArePlain files → IsIdempotent (puts files) Unordered
+  pub succeeds : (files : List PlainFile) → ArePlain files → Succeeds (puts files) Unordered
+
+pub a_report : (manifest report : List ℕ) (blocks : List Block) (ps : List Path) → IsWithin manifest blocks → ArePathsOf blocks ps → AreApart ps
+    → report ≡ report_of (length ps) → PlainLaws → IsReport manifest report
+a_report manifest report blocks ps form paths apart text laws =
+    let fs = files_from blocks ps paths in
+    let apart_files : AreApart (paths_of fs.0) = subst AreApart (sym fs.2) apart in
+    let plain : ArePlain fs.0 = record { paths = proper_paths blocks fs.0 fs.1; apart = apart_files } in
+    record {
+      blocks = blocks;
+      form = form;
+      files = fs.0;
+      files_are = fs.1;
+      apart = apart_files;
+      text = text ∙ ap report_of (ap length (sym fs.2) ∙ length-paths fs.0);
+      deterministic = laws.deterministic fs.0 plain;
+      idempotent = laws.idempotent fs.0 plain;
+      succeeds = laws.succeeds fs.0 plain;
+    }
+
+-- what is refused for one reason is refused for another that follows
+pub broken : (e : Fault) (P Q : Refusal → Type 0) → ((r : Refusal) → P r → Q r) → IfRefused e P → IfRefused e Q
+broken (Refused r) P Q f h = f r h
+broken (Memory m) P Q f h = tt
+
+pub a_bad_path : (manifest : List ℕ) (r : Refusal) (blocks : List Block) → IsWithin manifest blocks → PathsAre blocks None → IsRefusal 15 0 (codes "path") r → BreaksRule manifest r
+a_bad_path manifest r blocks form none is = inr (inr (inr (inl (is, (blocks, form, (λ files are. none (paths_of files) (paths_from blocks files are)))))))
+
+pub paths_meet : (manifest : List ℕ) (r : Refusal) (blocks : List Block) (ps : List Path) → IsWithin manifest blocks → ArePathsOf blocks ps → (AreApart ps → ⊥)
+    → IsRefusal 15 0 (codes "apart") r → BreaksRule manifest r
+paths_meet manifest r blocks ps form paths close is =
+    let fs = files_from blocks ps paths in
+    inr (inr (inr (inr (is, (blocks, form, fs.0, fs.1, (λ apart. close (subst AreApart fs.2 apart)))))))

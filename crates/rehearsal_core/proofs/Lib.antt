@@ -1,0 +1,5 @@
+pub mod FileLaws
+pub mod Telling
+pub mod Endings
+pub mod Judging
+pub mod ProofLaws

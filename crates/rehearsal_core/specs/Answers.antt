@@ -1,0 +1,153 @@
+-- The statuses of the program, and what each one tells.
+use Rattle.std.specs.Prelude.{◌≡◌, ◌≢◌, ◌⊎◌, ℕ, List, ◌++◌, take, Option, codes, String}
+use Rattle.std.specs.Fmt.{decimal}
+use Rattle.std.specs.declared.alloc.Global.{Global}
+use Rattle.rh_base.specs.declared.fault.Refusal.{Refusal}
+use Rattle.rh_base.specs.Causes.{Rose}
+use Rattle.rh_base.specs.Shelf.{Files}
+use Rattle.rh_base.specs.Sink.{appended}
+use Rattle.rehearsal_core.specs.Inputs.{RequestsNone, IsHeld, Reports, Refuses, FailsToRead}
+
+-- ---- lines
+
+abbrev pub refusal_line : Refusal → List ℕ
+refusal_line r = codes "refused " ++ (decimal r.number ++ (codes " at " ++ (decimal r.at ++ (codes ": " ++ (r.name ++ codes "\n")))))
+
+abbrev pub read_fault_line : List ℕ → List ℕ
+read_fault_line name = codes "read fault: " ++ (name ++ codes "\n")
+
+abbrev pub usage_line : List ℕ
+usage_line = codes "usage: rehearsal [--facts F] [--packages P] [--node N] [--conflicts C] [--ask A] [--tree T] [--order O] [--workload N] [INPUT]\n"
+
+abbrev pub write_fault_line : List ℕ
+write_fault_line = codes "write fault\n"
+
+abbrev pub memory_line : List ℕ
+memory_line = codes "out of memory\n"
+
+-- ---- what is put on a sink
+
+-- a sink's bytes, where it tells them, and its count of faults, before and now
+pub record Put : Type 0 where
+  pub before : Option (List ℕ)
+  pub now : Option (List ℕ)
+  pub faults_before : ℕ
+  pub faults_now : ℕ
+
+abbrev pub put_of : {S : Type 0} → (S → Option (List ℕ)) → (S → ℕ) → S → S → Put
+put_of written faults old new = record { before = written old; now = written new; faults_before = faults old; faults_now = faults new }
+
+-- just this was appended
+abbrev pub Appends : List ℕ → Put → Type 0
+Appends text sink = sink.now ≡ appended text sink.before
+
+-- a front of the text was appended, perhaps none or all of it
+abbrev pub AppendsFront : List ℕ → Put → Type 0
+AppendsFront text sink = (n : ℕ) × Appends (take n text) sink
+
+-- nothing was appended
+abbrev pub IsLeft : Put → Type 0
+IsLeft sink = sink.now ≡ sink.before
+
+-- no put failed
+abbrev pub IsSound : Put → Type 0
+IsSound sink = sink.faults_now ≡ sink.faults_before
+
+-- the count of faults rose
+abbrev pub HasFailed : Put → Type 0
+HasFailed sink = Rose sink.faults_before sink.faults_now
+
+-- ---- a run of the program, and its answer
+
+-- the words, what the shelf tells and its count of faults before and now, and the two sinks
+pub record Run : Type 0 where
+  pub words : List (String Global)
+  pub held : Option Files
+  pub shelf_before : ℕ
+  pub shelf_now : ℕ
+  pub out : Put
+  pub err : Put
+
+-- status 0: a report was written to out, and nothing to err
+abbrev pub WritesReport : Run → Type 0
+WritesReport run = (report : List ℕ) × Reports run.words run.held report × Appends report run.out × IsLeft run.err
+
+-- status 4: the first refusal was told on err, and nothing on out
+abbrev pub TellsRefusal : Run → Type 0
+TellsRefusal run = (r : Refusal) × Refuses run.words run.held r × Appends (refusal_line r) run.err × IsLeft run.out
+
+-- status 5: the words are refused
+abbrev pub TellsUsage : Run → Type 0
+TellsUsage run = RequestsNone run.words × Appends usage_line run.err × IsLeft run.out
+
+-- status 6: the file that the words name couldn't be read
+abbrev pub TellsReadFault : Run → Type 0
+TellsReadFault run = (name : List ℕ) × FailsToRead run.words run.held run.shelf_before run.shelf_now name
+    × Appends (read_fault_line name) run.err × IsLeft run.out
+
+-- the line that a cause of status 4, 5 or 6 puts on err
+abbrev pub HasCause : Run → ℕ → List ℕ → Type 0
+HasCause run status line =
+    ((status ≡ 4) × (r : Refusal) × Refuses run.words run.held r × (line ≡ refusal_line r))
+    ⊎ (((status ≡ 5) × RequestsNone run.words × (line ≡ usage_line))
+    ⊎ ((status ≡ 6) × (name : List ℕ) × FailsToRead run.words run.held run.shelf_before run.shelf_now name × (line ≡ read_fault_line name)))
+
+-- Status 7: a put on out failed, and a front of a report stands there; or a put on err failed, where a cause of 4, 5 or 6
+-- was to be told, and nothing was put on out.
+abbrev pub FailsToWrite : Run → Type 0
+FailsToWrite run =
+    (HasFailed run.out × (report : List ℕ) × Reports run.words run.held report × AppendsFront report run.out × AppendsFront write_fault_line run.err)
+    ⊎ (HasFailed run.err × (status : ℕ) × (line : List ℕ) × HasCause run status line × AppendsFront line run.err × IsLeft run.out)
+
+-- status 8: memory was refused, and nothing was put on out
+abbrev pub LacksMemory : Run → Type 0
+LacksMemory run = AppendsFront memory_line run.err × IsLeft run.out
+
+-- no count of faults rose
+pub record NoFaults (run : Run) : Type 0 where
+  pub shelf : Rose run.shelf_before run.shelf_now → ⊥
+  pub out : HasFailed run.out → ⊥
+  pub err : HasFailed run.err → ⊥
+
+-- What each status tells.
+pub record Tells (run : Run) (status : ℕ) : Type 0 where
+  pub report : status ≡ 0 → WritesReport run
+  pub refused : status ≡ 4 → TellsRefusal run
+  pub words : status ≡ 5 → TellsUsage run
+  pub read : status ≡ 6 → TellsReadFault run
+  pub write : status ≡ 7 → FailsToWrite run
+  pub memory : status ≡ 8 → LacksMemory run
+  pub known : (status ≡ 0) ⊎ ((status ≡ 4) ⊎ ((status ≡ 5) ⊎ ((status ≡ 6) ⊎ ((status ≡ 7) ⊎ (status ≡ 8)))))
+
+-- Which statuses there are, by what was given and what failed.
+pub record Owes (run : Run) (status : ℕ) : Type 0 where
+  -- words that are refused have no other answer
+  pub usage : RequestsNone run.words → (status ≡ 5) ⊎ ((status ≡ 7) ⊎ (status ≡ 8))
+  -- an input that is told, without faults, gets a report or a refusal
+  pub decided : IsHeld run.words run.held → NoFaults run → (status ≡ 0) ⊎ ((status ≡ 4) ⊎ (status ≡ 8))
+  -- a read that failed is told, and so is a write to out
+  pub unread : run.shelf_now ≢ run.shelf_before → (status ≡ 6) ⊎ ((status ≡ 7) ⊎ (status ≡ 8))
+  pub unwritten : (IsSound run.out → ⊥) → status ≡ 7
+  -- a write to err that failed leaves nothing else to be told
+  pub untold : (IsSound run.err → ⊥) → (status ≡ 7) ⊎ (status ≡ 8)
+
+-- What a run answers.
+pub record Answers (run : Run) (status : ℕ) : Type 0 where
+  pub tells : Tells run status
+  pub owes : Owes run status
+
+-- ---- steps of telling
+
+-- the line was told and the status is the given one; or the put failed; or memory was refused
+abbrev pub TellsLine : ℕ → List ℕ → Put → ℕ → Type 0
+TellsLine status line err result =
+    ((result ≡ status) × Appends line err × IsSound err)
+    ⊎ (((result ≡ 7) × HasFailed err × AppendsFront line err)
+    ⊎ ((result ≡ 8) × AppendsFront memory_line err))
+
+-- the report was written; or the put failed; or memory was refused
+abbrev pub TellsReport : List ℕ → Put → Put → ℕ → Type 0
+TellsReport report out err result =
+    ((result ≡ 0) × Appends report out × IsSound out × IsLeft err × IsSound err)
+    ⊎ (((result ≡ 7) × HasFailed out × AppendsFront report out × AppendsFront write_fault_line err)
+    ⊎ ((result ≡ 8) × IsLeft out × IsSound out × AppendsFront memory_line err))

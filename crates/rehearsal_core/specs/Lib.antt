@@ -1,0 +1,6 @@
+pub mod FileForm
+pub mod Files
+pub mod Judged
+pub mod Verified
+pub mod Inputs
+pub mod Answers

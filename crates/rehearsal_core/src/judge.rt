@@ -1,0 +1,106 @@
+//! What is said of a manifest.
+
+ghost use Rattle.std.specs.Prelude.{◌≡◌, ◌↔◌, ◌<◌, ◌^◌, length, IsTrue, IfOk, IfErr};
+ghost use Rattle.rh_base.specs.Refused.{IfRefused};
+ghost use Rattle.rehearsal_core.specs.Files.{MayBeManaged, ManagedPathIs, PathsAre};
+ghost use Rattle.rehearsal_core.specs.Judged.{report_of, IsParsed, IsWithin, IsReport, IsSourceRefusal, BreaksRule};
+
+use crate::form::{Block, file_blocks};
+use fs_lang::{Path, PathFault, are_apart};
+use fs_semantics::plain_files;
+use pp_parser::parse;
+use pp_syntax::{Manifest, lex};
+use rh_base::limits::RESOURCES;
+use rh_base::{Fault, NoMemory, Seq, Text};
+use std::alloc::Global;
+
+fn report(alloc: Global, n: usize) -> Result<Text, NoMemory>
+    ensures { IfOk result (λ text. text ≡ report_of n) }
+{
+    let text = format!(in alloc;
+        "resources {n}\npruned {n}\ndeterministic\nidempotent\nsucceeds from some tree\n"
+    )?;
+    Ok(Text::from_string(text))
+}
+
+/// Whether a path with these segments is neither the root nor reserved.
+fn may_be_managed(segments: &[Text]) -> bool
+    ensures { IsTrue result ↔ MayBeManaged segments.now }
+{
+    match segments.first() {
+        None => false,
+        Some(first) => first.as_str() != ".rehearsal",
+    }
+}
+
+/// The path of a file that may be managed.
+fn managed_path(alloc: Global, text: &Text) -> Result<Option<Path>, NoMemory>
+    ensures { IfOk result (ManagedPathIs text.now) }
+{
+    let path = match Path::read(alloc, text.as_str()) {
+        Ok(path) => path,
+        Err(PathFault::Bad) => return Ok(None),
+        Err(PathFault::Memory(m)) => return Err(m),
+    };
+    if !may_be_managed(path.segments()) {
+        return Ok(None);
+    }
+    Ok(Some(path))
+}
+
+/// The paths of the files of blocks, if each has one.
+fn managed_paths(alloc: Global, blocks: &[Block]) -> Result<Option<Seq<Path>>, NoMemory>
+    ensures { IfOk result (PathsAre blocks.now) }
+{
+    let mut paths = Seq::new(alloc);
+    for block in blocks {
+        let Some(path) = managed_path(alloc, &block.path)? else {
+            return Ok(None);
+        };
+        paths.push(path)?;
+    }
+    Ok(Some(paths))
+}
+
+/// The tree that a manifest spells.
+fn tree_of(alloc: Global, manifest: &[u8]) -> Result<Manifest, Fault>
+    requires { length manifest.now < 2 ^ 32 }
+    ensures parsed { IfOk result (IsParsed manifest.now) }
+    ensures refused { IfErr result (λ e. IfRefused e (IsSourceRefusal manifest.now)) }
+{
+    let tokens = lex(alloc, manifest)?;
+    parse(alloc, &tokens)
+}
+
+/// The files that a manifest declares, if it declares nothing else and no more than can be judged.
+fn blocks_of(alloc: Global, manifest: &[u8]) -> Result<Seq<Block>, Fault>
+    requires { length manifest.now < 2 ^ 32 }
+    ensures found { IfOk result (IsWithin manifest.now) }
+    ensures refused { IfErr result (λ e. IfRefused e (BreaksRule manifest.now)) }
+{
+    let tree = tree_of(alloc, manifest)?;
+    let Some(blocks) = file_blocks(alloc, &tree)? else {
+        return Err(Fault::refused(alloc, 15, 0, "form"));
+    };
+    if blocks.len() > RESOURCES as usize {
+        return Err(Fault::refused(alloc, 32, 0, "resources"));
+    }
+    Ok(blocks)
+}
+
+/// The report on a manifest, or the first rule that it breaks.
+pub fn judged(alloc: Global, manifest: &[u8]) -> Result<Text, Fault>
+    requires { length manifest.now < 2 ^ 32 }
+    ensures report { IfOk result (IsReport manifest.now) }
+    ensures refused { IfErr result (λ e. IfRefused e (BreaksRule manifest.now)) }
+{
+    plain_files();
+    let blocks = blocks_of(alloc, manifest)?;
+    let Some(paths) = managed_paths(alloc, blocks.as_slice())? else {
+        return Err(Fault::refused(alloc, 15, 0, "path"));
+    };
+    if !are_apart(paths.as_slice()) {
+        return Err(Fault::refused(alloc, 15, 0, "apart"));
+    }
+    Ok(report(alloc, paths.len())?)
+}

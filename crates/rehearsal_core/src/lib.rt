@@ -1,0 +1,13 @@
+//! What the program answers: from words, a shelf and two sinks to a status.
+#![tactic(auto)]
+
+mod checking;
+mod form;
+mod judge;
+mod run;
+mod sure;
+mod tell;
+
+pub use run::rehearse;
+pub use sure::rehearse_in_memory;
+pub use tell::{out_of_memory, tell_usage};

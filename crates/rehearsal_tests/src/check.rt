@@ -1,0 +1,57 @@
+//! Texts of proofs that are checked.
+
+use crate::common::{compare, run};
+use std::test::Fail;
+
+const PIGEONS: &str = "proofs 1
+p cnf 6 9
+1 2 0
+3 4 0
+5 6 0
+-1 -3 0
+-1 -5 0
+-3 -5 0
+-2 -4 0
+-2 -6 0
+-4 -6 0
+log 2
+-1 0 9 3 -6 2 -4 4 3 5 5 0
+0 6 3 -5 2 -3 8 6 7 4 1 -2 10 1 0
+";
+
+#[test]
+fn proofs_that_are_verified(rt: HostRuntime) -> Result<(), Fail> {
+    let rows: [(&str, &str); 3] = [
+        (PIGEONS, "verified 1\n"),
+        ("proofs 0", "verified 0\n"),
+        (
+            "c two\nproofs 2 p cnf 1 2 1 0 -1 0 log 1 0 1 2 1 0\np cnf 0 1 0 log 1 0 1 0",
+            "verified 2\n",
+        ),
+    ];
+    for (text, report) in rows {
+        let told = run(rt.alloc(), &["--ask", "check", "site.pp"], text.as_bytes())?;
+        compare(&rt, &told, 0, report, "", text);
+    }
+    Ok(())
+}
+
+#[test]
+fn texts_that_are_refused(rt: HostRuntime) -> Result<(), Fail> {
+    let cut = PIGEONS.replace(rt.alloc(), "\n-1 0 9", "\n0 9")?;
+    let rows: [(&str, &str); 5] = [
+        (cut.as_str(), "refused 81 at 0: proof 1 step 1\n"),
+        (
+            "proofs 2 p cnf 1 2 1 0 -1 0 log 1 0 1 2 1 0 p cnf 1 1 1 0 log 0",
+            "refused 81 at 0: proof 2 step 0\n",
+        ),
+        ("proofs", "refused 80 at 0: proof\n"),
+        ("proofs 1 p cnf 1 1 01 0 log 0", "refused 80 at 0: proof\n"),
+        ("file { '/a': content => 'x' }", "refused 80 at 0: proof\n"),
+    ];
+    for (text, line) in rows {
+        let told = run(rt.alloc(), &["site.pp", "--ask=check"], text.as_bytes())?;
+        compare(&rt, &told, 4, "", line, text);
+    }
+    Ok(())
+}

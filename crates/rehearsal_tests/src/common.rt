@@ -1,0 +1,71 @@
+//! The drivers: a run over files and sinks in memory.
+
+use rehearsal_core::{rehearse, rehearse_in_memory};
+use rh_base::{MemoryShelf, MemorySink, SureShelf, SureSink, Text};
+use std::alloc::{AllocError, Global};
+use std::process::Abort;
+use std::test::Fail;
+
+/// What a run ended with: the status, and what was written to out and err.
+#[derive(Drop)]
+pub struct Told {
+    pub status: u8,
+    pub out: String,
+    pub err: String,
+}
+
+fn string(alloc: Global, bytes: &[u8]) -> Result<String, Fail> {
+    let text = str::from_utf8(bytes).map_err(|_| Fail::from("the output is text"))?;
+    Ok(String::from_str(alloc, text)?)
+}
+
+fn ending(alloc: Global, status: u8, out: &[u8], err: &[u8]) -> Result<Told, Fail> {
+    let out = string(alloc, out)?;
+    let err = string(alloc, err)?;
+    Ok(Told { status, out, err })
+}
+
+fn words(alloc: Global, named: &[&str]) -> Result<Vec<String>, AllocError> {
+    let mut words = Vec::new(alloc);
+    for word in named {
+        words.push(String::from_str(alloc, word)?)?;
+    }
+    Ok(words)
+}
+
+fn files(alloc: Global, name: &str, bytes: &[u8]) -> Result<Vec<(Text, Vec<u8>)>, AllocError> {
+    let name = Text::from_string(String::from_str(alloc, name)?);
+    Ok(vec![in alloc; (name, bytes.to_vec(alloc)?)]?)
+}
+
+/// What words give where the file `site.pp` has these bytes and nothing fails.
+pub fn run(alloc: Global, named: &[&str], bytes: &[u8]) -> Result<Told, Fail> {
+    let mut shelf = SureShelf::new(files(alloc, "site.pp", bytes)?);
+    let mut out = SureSink::new(alloc);
+    let mut err = SureSink::new(alloc);
+    let named = words(alloc, named)?;
+    let status = rehearse_in_memory(alloc, &named, &mut shelf, &mut out, &mut err);
+    ending(alloc, status, out.bytes(), err.bytes())
+}
+
+/// The numbers of the calls that are to fail: of reading, of out and of err.
+pub type Failing = (&'static [u64], &'static [u64], &'static [u64]);
+
+/// What words give over a shelf and sinks of which some calls fail.
+pub fn run_failing(alloc: Global, named: &[&str], failing: &Failing) -> Result<Told, Fail> {
+    let manifest = b"file { '/etc/motd': content => 'hi' }";
+    let files = files(alloc, "site.pp", manifest)?;
+    let mut shelf = MemoryShelf::new(files, failing.0.to_vec(alloc)?);
+    let mut out = MemorySink::new(alloc, failing.1.to_vec(alloc)?);
+    let mut err = MemorySink::new(alloc, failing.2.to_vec(alloc)?);
+    let named = words(alloc, named)?;
+    let status = rehearse(alloc, &named, &mut shelf, &mut out, &mut err);
+    ending(alloc, status, out.bytes(), err.bytes())
+}
+
+/// Compares what was told with a status, a report and a line on err.
+pub fn compare(rt: &impl Abort, told: &Told, status: u8, out: &str, err: &str, row: &str) {
+    assert_eq!(rt; told.out.as_str(), out, "{row}");
+    assert_eq!(rt; told.err.as_str(), err, "{row}");
+    assert_eq!(rt; told.status, status, "{row}");
+}

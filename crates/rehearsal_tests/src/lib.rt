@@ -1,0 +1,13 @@
+//! Tests of the whole program: words and files in, what is written and the status out.
+#![tactic(auto)]
+
+#[cfg(test)]
+mod check;
+#[cfg(test)]
+mod common;
+#[cfg(test)]
+mod faults;
+#[cfg(test)]
+mod verify;
+#[cfg(test)]
+mod words;

@@ -1,0 +1,164 @@
+//! Manifests that are judged, and manifests that are refused.
+
+use crate::common::{Told, compare, run};
+use std::alloc::Global;
+use std::test::Fail;
+
+/// What a manifest gives.
+fn told_of(alloc: Global, manifest: &[u8]) -> Result<Told, Fail> {
+    run(alloc, &["site.pp"], manifest)
+}
+
+const ONE: &str = "resources 1\npruned 1\ndeterministic\nidempotent\nsucceeds from some tree\n";
+
+#[test]
+fn manifests_that_are_judged(rt: HostRuntime) -> Result<(), Fail> {
+    let none = "resources 0\npruned 0\ndeterministic\nidempotent\nsucceeds from some tree\n";
+    let two = "resources 2\npruned 2\ndeterministic\nidempotent\nsucceeds from some tree\n";
+    let rows: [(&str, &str); 7] = [
+        ("", none),
+        (" \n", none),
+        (
+            "# one file\nfile { '/etc/motd': /* its text */ content => \"hi\" }",
+            ONE,
+        ),
+        ("file { '/a': content => 'x'; '/b': content => 'y'; }", two),
+        ("file { '/etc/motd': content => 'hi' }", ONE),
+        (
+            "file{'/a':content=>'x',}file { '/b\\'\\\\c': content => '\\n' , } ",
+            two,
+        ),
+        (
+            "file { '/a/b': content => '' } file { '/a/c': content => '' }",
+            two,
+        ),
+    ];
+    for (manifest, report) in rows {
+        let told = told_of(rt.alloc(), manifest.as_bytes())?;
+        compare(&rt, &told, 0, report, "", manifest);
+    }
+    Ok(())
+}
+
+#[test]
+fn manifests_that_are_refused(rt: HostRuntime) -> Result<(), Fail> {
+    let rows: [(&str, &str); 16] = [
+        ("package { 'ntp': }", "refused 15 at 0: form\n"),
+        ("package {'ntp':}", "refused 15 at 0: form\n"),
+        ("$x = 010", "refused 15 at 0: form\n"),
+        ("$x = 1.5", "refused 14 at 5: 1.5\n"),
+        ("$x = 09", "refused 11 at 5: lexical\n"),
+        ("$x = a.b", "refused 14 at 6: .\n"),
+        ("file { '/a': content => 'x'", "refused 12 at 27: syntax\n"),
+        ("file { '/a': content => $x }", "refused 15 at 0: form\n"),
+        ("file { 'a': content => 'x' }", "refused 15 at 0: path\n"),
+        ("file { '/': content => '' }", "refused 15 at 0: path\n"),
+        (
+            "file { '/a/../b': content => '' }",
+            "refused 15 at 0: path\n",
+        ),
+        (
+            "file { '/.rehearsal': content => '' }",
+            "refused 15 at 0: path\n",
+        ),
+        (
+            "file { '/a': content => 'x' } file { '/.rehearsal/x': content => '' } file { '/a': content => 'x' }",
+            "refused 15 at 0: path\n",
+        ),
+        (
+            "file { '/a': content => 'x' } file { '/a/b': content => 'y' }",
+            "refused 15 at 0: apart\n",
+        ),
+        (
+            "file { '/a': content => 'x'; '/a/b': content => 'y' }",
+            "refused 15 at 0: apart\n",
+        ),
+        (
+            "file { '/b': content => 'x' } file { '/a': content => 'x' } file { '/a/': content => 'x' }",
+            "refused 15 at 0: apart\n",
+        ),
+    ];
+    for (manifest, line) in rows {
+        let told = told_of(rt.alloc(), manifest.as_bytes())?;
+        compare(&rt, &told, 4, "", line, manifest);
+    }
+    Ok(())
+}
+
+/// What is told of a manifest that is refused.
+fn refusal_of(alloc: Global, manifest: &[u8]) -> Result<String, Fail> {
+    let told = told_of(alloc, manifest)?;
+    if told.status != 4 || !told.out.as_str().is_empty() {
+        return Err(Fail::from("a refusal"));
+    }
+    Ok(told.err)
+}
+
+#[test]
+fn bytes_that_are_no_text(rt: HostRuntime) -> Result<(), Fail> {
+    assert_eq!(rt;
+        refusal_of(rt.alloc(), b"\xff")?.as_str(),
+        "refused 10 at 0: utf8\n"
+    );
+    assert_eq!(rt;
+        refusal_of(rt.alloc(), b"file { '/a': content => '\xff' }")?.as_str(),
+        "refused 10 at 25: utf8\n"
+    );
+    Ok(())
+}
+
+#[test]
+fn brackets_that_nest_too_deep(rt: HostRuntime) -> Result<(), Fail> {
+    let alloc = rt.alloc();
+    for (depth, line) in [
+        (64, "refused 15 at 0: form\n"),
+        (65, "refused 13 at 69: nesting\n"),
+    ] {
+        let mut manifest = String::from_str(alloc, "$x = ")?;
+        for bracket in ["[", "]"] {
+            for _ in 0..depth {
+                manifest.push_str(bracket)?;
+            }
+        }
+        assert_eq!(rt; refusal_of(alloc, manifest.as_bytes())?.as_str(), line);
+    }
+    Ok(())
+}
+
+/// So many files, each at a path of its own.
+fn files_apart(alloc: Global, count: u32) -> Result<String, Fail> {
+    let mut manifest = String::new(alloc);
+    for i in 0..count {
+        let line = format!(in alloc; "file {{ '/f{i}': content => '{i}' }}\n")?;
+        manifest.push_str(line.as_str())?;
+    }
+    Ok(manifest)
+}
+
+#[test]
+fn many_files(rt: HostRuntime) -> Result<(), Fail> {
+    let alloc = rt.alloc();
+    let told = told_of(alloc, files_apart(alloc, 256)?.as_bytes())?;
+    assert_eq!(rt; told.status, 0);
+    assert_eq!(rt;
+        told.out.as_str(),
+        "resources 256\npruned 256\ndeterministic\nidempotent\nsucceeds from some tree\n"
+    );
+    assert_eq!(rt;
+        refusal_of(alloc, files_apart(alloc, 257)?.as_bytes())?.as_str(),
+        "refused 32 at 0: resources\n"
+    );
+    Ok(())
+}
+
+#[test]
+fn a_manifest_at_its_limit(rt: HostRuntime) -> Result<(), Fail> {
+    let alloc = rt.alloc();
+    let told = told_of(alloc, &vec![in alloc; b' '; 262_144]?)?;
+    assert_eq!(rt; told.status, 0);
+    let told = told_of(alloc, &vec![in alloc; b' '; 262_145]?)?;
+    assert_eq!(rt; told.status, 4);
+    assert_eq!(rt; told.err.as_str(), "refused 17 at 0: input\n");
+    assert_eq!(rt; told.out.as_str(), "");
+    Ok(())
+}

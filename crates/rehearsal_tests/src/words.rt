@@ -1,0 +1,56 @@
+//! Words that are taken and words that are refused.
+
+use crate::common::{compare, run};
+use std::test::Fail;
+
+const USAGE: &str =
+    "usage: rehearsal [--facts F] [--packages P] [--node N] [--conflicts C] [--ask A] [--tree T] [--order O] [--workload N] [INPUT]\n";
+
+const NONE: &str = "resources 0\npruned 0\ndeterministic\nidempotent\nsucceeds from some tree\n";
+
+#[test]
+fn words_that_ask_to_verify(rt: HostRuntime) -> Result<(), Fail> {
+    let rows: [&[&str]; 5] = [
+        &["site.pp"],
+        &["--ask", "verify", "site.pp"],
+        &["--ask=verify", "site.pp"],
+        &["site.pp", "--ask", "verify"],
+        &["--", "site.pp"],
+    ];
+    for words in rows {
+        let told = run(rt.alloc(), words, b"")?;
+        compare(&rt, &told, 0, NONE, "", "words that ask to verify");
+    }
+    Ok(())
+}
+
+#[test]
+fn words_that_are_refused(rt: HostRuntime) -> Result<(), Fail> {
+    let rows: [&[&str]; 20] = [
+        &[],
+        &["site.pp", "site.pp"],
+        &["--help"],
+        &["-h"],
+        &["--version"],
+        &["-x"],
+        &["--unknown", "site.pp"],
+        &["--ask", "site.pp"],
+        &["--ask"],
+        &["--ask", "verify"],
+        &["--ask", "graph", "site.pp"],
+        &["--ask", "all", "site.pp"],
+        &["--ask", "Check", "site.pp"],
+        &["--ask", "verify", "--ask", "verify", "site.pp"],
+        &["--tree", "t", "site.pp"],
+        &["--facts", "f", "site.pp"],
+        &["--conflicts", "1", "site.pp"],
+        &["--workload", "5"],
+        &["--node", "n", "site.pp"],
+        &["--order", "o", "--ask", "check", "site.pp"],
+    ];
+    for words in rows {
+        let told = run(rt.alloc(), words, b"")?;
+        compare(&rt, &told, 5, "", USAGE, "words that are refused");
+    }
+    Ok(())
+}
