@@ -6,7 +6,7 @@ mod path;
 mod program;
 mod reading;
 
-pub use fronts::are_apart;
+pub use fronts::are_disjoint;
 pub use path::{Path, PathFault};
 pub use program::{Entry, Program, Test};
 
