@@ -2,3 +2,4 @@ pub mod Bytes
 pub mod Pieces
 pub mod PathLaws
 pub mod FrontLaws
+pub mod SizeLaws

@@ -1,6 +1,7 @@
 //! The language of changes to a file tree: paths, tests and programs.
 #![tactic(auto)]
 
+mod copies;
 mod fronts;
 mod path;
 mod program;
