@@ -5,8 +5,8 @@ use Rattle.std.specs.List.{AllByRecursion}
 use Rattle.std.specs.Str.{bytes_eq}
 use Rattle.std.proofs.lemmas.Slice.Eq.{bytes_eq-Decides}
 use Rattle.fs_semantics.specs.FileTree.{Path}
-use Rattle.fs_semantics.specs.Apart.{IsAncestor, IsApartFrom, AreApart}
-use Rattle.fs_lang.specs.Fronts.{is_front, is_apart, is_apart_from_all, are_apart}
+use Rattle.fs_semantics.specs.Disjoint.{IsAncestor, IsDisjointFrom, AreDisjoint}
+use Rattle.fs_lang.specs.Fronts.{is_front, is_disjoint, is_disjoint_from_all, are_disjoint}
 
 both : (a b : Bool) → (a && b) ≡ true → (a ≡ true) × (b ≡ true)
 both true b h = (refl, h)
@@ -33,9 +33,9 @@ is_not : (b : Bool) → not b ≡ true → b ≡ true → ⊥
 is_not true h k = cc
 is_not false h k = cc
 
--- the test is true exactly where the paths are apart
-pub apart_found : (p q : Path) → is_apart p q ≡ true → IsApartFrom p q
-apart_found p q h =
+-- the test is true exactly where the paths are disjoint
+pub disjoint_found : (p q : Path) → is_disjoint p q ≡ true → IsDisjointFrom p q
+disjoint_found p q h =
     let two = both (not (is_front p q)) (not (is_front q p)) h in
     record {
       differ = λ e. is_not (is_front p q) two.0 (ap (is_front p) (sym e ∙ sym (append-nil p)) ∙ front_append p []);
@@ -51,24 +51,24 @@ no_front p q differ none true e = let rest = front_of p q e in absurd (longer re
     longer [] e = differ (sym (e ∙ append-nil p))
     longer (s ∷ more) e = none (s ∷ more, (λ k. cc), e)
 
-pub apart_again : (p q : Path) → IsApartFrom p q → is_apart p q ≡ true
-apart_again p q a = both_true _ _ (no_front p q a.differ a.not_above _ refl) (no_front q p (λ e. a.differ (sym e)) a.not_below _ refl)
+pub disjoint_again : (p q : Path) → IsDisjointFrom p q → is_disjoint p q ≡ true
+disjoint_again p q a = both_true _ _ (no_front p q a.differ a.not_above _ refl) (no_front q p (λ e. a.differ (sym e)) a.not_below _ refl)
 
-all_found : (p : Path) (qs : List Path) → is_apart_from_all p qs ≡ true → AllByRecursion (IsApartFrom p) qs
+all_found : (p : Path) (qs : List Path) → is_disjoint_from_all p qs ≡ true → AllByRecursion (IsDisjointFrom p) qs
 all_found p [] h = tt
-all_found p (q ∷ qs) h = let two = both (is_apart p q) (is_apart_from_all p qs) h in (apart_found p q two.0, all_found p qs two.1)
+all_found p (q ∷ qs) h = let two = both (is_disjoint p q) (is_disjoint_from_all p qs) h in (disjoint_found p q two.0, all_found p qs two.1)
 
-all_again : (p : Path) (qs : List Path) → AllByRecursion (IsApartFrom p) qs → is_apart_from_all p qs ≡ true
+all_again : (p : Path) (qs : List Path) → AllByRecursion (IsDisjointFrom p) qs → is_disjoint_from_all p qs ≡ true
 all_again p [] a = refl
-all_again p (q ∷ qs) a = both_true _ _ (apart_again p q a.0) (all_again p qs a.1)
+all_again p (q ∷ qs) a = both_true _ _ (disjoint_again p q a.0) (all_again p qs a.1)
 
-pub are_apart_found : (ps : List Path) → are_apart ps ≡ true → AreApart ps
-are_apart_found [] h = tt
-are_apart_found (p ∷ ps) h = let two = both (is_apart_from_all p ps) (are_apart ps) h in (all_found p ps two.0, are_apart_found ps two.1)
+pub are_disjoint_found : (ps : List Path) → are_disjoint ps ≡ true → AreDisjoint ps
+are_disjoint_found [] h = tt
+are_disjoint_found (p ∷ ps) h = let two = both (is_disjoint_from_all p ps) (are_disjoint ps) h in (all_found p ps two.0, are_disjoint_found ps two.1)
 
-pub are_apart_again : (ps : List Path) → AreApart ps → are_apart ps ≡ true
-are_apart_again [] a = refl
-are_apart_again (p ∷ ps) a = both_true _ _ (all_again p ps a.0) (are_apart_again ps a.1)
+pub are_disjoint_again : (ps : List Path) → AreDisjoint ps → are_disjoint ps ≡ true
+are_disjoint_again [] a = refl
+are_disjoint_again (p ∷ ps) a = both_true _ _ (all_again p ps a.0) (are_disjoint_again ps a.1)
 
 longer_front : (p q : Path) → length p < length q → is_front p q ≡ true → IsAncestor p q
 longer_front p q l h =

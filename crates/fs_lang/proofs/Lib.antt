@@ -1,3 +1,5 @@
+pub mod Bytes
 pub mod Pieces
 pub mod PathLaws
 pub mod FrontLaws
+pub mod SizeLaws

@@ -6,8 +6,8 @@ use Rattle.std.proofs.lemmas.Slice.Eq.{bytes_eq-Decides}
 use Rattle.std.specs.Prelude.{codes}
 use Rattle.std.specs.List.{AllByRecursion, list_any}
 use Rattle.std.specs.Str.{bytes_eq}
-use Rattle.fs_semantics.specs.FileTree.{Path, IsSegment}
-use Rattle.std.proofs.Common.{inl, inr, ◌⊎◌, zero, suc, ◌≤◌, arith, leb-true}
+use Rattle.fs_semantics.specs.FileTree.{Path, IsBytes, IsSegment}
+use Rattle.std.proofs.Common.{inl, inr, ◌⊎◌, zero, suc, ◌≤◌, ◌<◌, arith, leb-true}
 use Rattle.std.proofs.lemmas.List.{append-nil}
 use Rattle.rh_base.specs.declared.limits.TheConstants.{PATH_BYTES, PATH_SEGMENTS}
 use Rattle.fs_lang.specs.PathText.{AreSlashes, Segments, IsPathText}
@@ -28,6 +28,17 @@ pieces_clean (b ∷ text) = elim (b == 47) as (λ v. (b == 47) ≡ v → AllByRe
   | false ↦ λ e. with_byte_clean b (pieces text) (eqb-false b 47 e) (pieces_clean text)
 ] refl
 
+with_byte_bytes : (b : ℕ) (ps : List (List ℕ)) → b < 256 → AllByRecursion IsBytes ps → AllByRecursion IsBytes (with_byte b ps)
+with_byte_bytes b [] n all = ((n, tt), tt)
+with_byte_bytes b (p ∷ ps) n all = ((n, all.0), all.1)
+
+pieces_bytes : (text : List ℕ) → IsBytes text → AllByRecursion IsBytes (pieces text)
+pieces_bytes [] h = (tt, tt)
+pieces_bytes (b ∷ text) h = elim (b == 47) as (λ v. AllByRecursion IsBytes (cond v ([] ∷ pieces text) (with_byte b (pieces text)))) [
+  | true ↦ (tt, pieces_bytes text h.1)
+  | false ↦ with_byte_bytes b (pieces text) h.0 (pieces_bytes text h.1)
+]
+
 both : (a b : Bool) → (a && b) ≡ true → (a ≡ true) × (b ≡ true)
 both true b h = (refl, h)
 both false b h = cc
@@ -44,11 +55,12 @@ no_zero : (p : List ℕ) → not (list_any (λ b. b == 0) p) ≡ true → HasNon
 no_zero [] h = tt
 no_zero (b ∷ p) h = let two = neither (b == 0) (list_any (λ b. b == 0) p) h in ((λ e. two.0 (eq-eqb b 0 e)), no_zero p two.1)
 
-good_segment : (b : ℕ) (p : List ℕ) → HasNone 47 (b ∷ p) → is_good (b ∷ p) ≡ true → IsSegment (b ∷ p)
-good_segment b p clean h =
+good_segment : (b : ℕ) (p : List ℕ) → IsBytes (b ∷ p) → HasNone 47 (b ∷ p) → is_good (b ∷ p) ≡ true → IsSegment (b ∷ p)
+good_segment b p bytes clean h =
     let rest = both (not (bytes_eq (b ∷ p) (codes ".")) && not (bytes_eq (b ∷ p) (codes ".."))) (not (list_any (λ b. b == 0) (b ∷ p))) h in
     let dots = both (not (bytes_eq (b ∷ p) (codes "."))) (not (bytes_eq (b ∷ p) (codes ".."))) rest.0 in
     record {
+      bytes = bytes;
       nonempty = λ e. cc;
       no_slash = clean;
       no_zero = no_zero (b ∷ p) rest.1;
@@ -59,10 +71,10 @@ good_segment b p clean h =
 piece_is : (b : ℕ) (p : List ℕ) → piece_of (b ∷ p) ≡ cond (is_good (b ∷ p)) (Some ((b ∷ p) ∷ [])) None
 piece_is b p = ap (λ v. cond v (Some []) (cond (is_good (b ∷ p)) (Some ((b ∷ p) ∷ [])) None)) (eqb-suc-zero (length p))
 
-piece_segments : (p : List ℕ) (k : Path) → HasNone 47 p → piece_of p ≡ Some k → AllByRecursion IsSegment k
-piece_segments [] k clean h = let same : ◌≡◌ {A = Path} [] k = cc in subst (λ q. AllByRecursion IsSegment q) same tt
-piece_segments (b ∷ p) k clean h = elim (is_good (b ∷ p)) as (λ v. is_good (b ∷ p) ≡ v → cond v (Some ((b ∷ p) ∷ [])) None ≡ Some k → AllByRecursion IsSegment k) [
-  | true ↦ λ e m. let same : ◌≡◌ {A = Path} ((b ∷ p) ∷ []) k = cc in subst (λ q. AllByRecursion IsSegment q) same (good_segment b p clean e, tt)
+piece_segments : (p : List ℕ) (k : Path) → IsBytes p → HasNone 47 p → piece_of p ≡ Some k → AllByRecursion IsSegment k
+piece_segments [] k bytes clean h = let same : ◌≡◌ {A = Path} [] k = cc in subst (λ q. AllByRecursion IsSegment q) same tt
+piece_segments (b ∷ p) k bytes clean h = elim (is_good (b ∷ p)) as (λ v. is_good (b ∷ p) ≡ v → cond v (Some ((b ∷ p) ∷ [])) None ≡ Some k → AllByRecursion IsSegment k) [
+  | true ↦ λ e m. let same : ◌≡◌ {A = Path} ((b ∷ p) ∷ []) k = cc in subst (λ q. AllByRecursion IsSegment q) same (good_segment b p bytes clean e, tt)
   | false ↦ λ e m. cc
 ] refl (sym (piece_is b p) ∙ h)
 
@@ -75,11 +87,11 @@ joined_some None b p h = cc
 joined_some (Some q) None p h = cc
 joined_some (Some q) (Some r) p h = (q, r, refl, refl, cc)
 
-segments_proper : (ps : List (List ℕ)) (p : Path) → AllByRecursion (HasNone 47) ps → segments_of ps ≡ Some p → AllByRecursion IsSegment p
-segments_proper [] p clean h = let same : ◌≡◌ {A = Path} [] p = cc in subst (λ q. AllByRecursion IsSegment q) same tt
-segments_proper (q ∷ ps) p clean h =
+segments_proper : (ps : List (List ℕ)) (p : Path) → AllByRecursion IsBytes ps → AllByRecursion (HasNone 47) ps → segments_of ps ≡ Some p → AllByRecursion IsSegment p
+segments_proper [] p bytes clean h = let same : ◌≡◌ {A = Path} [] p = cc in subst (λ q. AllByRecursion IsSegment q) same tt
+segments_proper (q ∷ ps) p bytes clean h =
     let two = joined_some (piece_of q) (segments_of ps) p h in
-    subst (λ r. AllByRecursion IsSegment r) two.4 (all_append IsSegment two.0 two.1 (piece_segments q two.0 clean.0 two.2) (segments_proper ps two.1 clean.1 two.3))
+    subst (λ r. AllByRecursion IsSegment r) two.4 (all_append IsSegment two.0 two.1 (piece_segments q two.0 bytes.0 clean.0 two.2) (segments_proper ps two.1 bytes.1 clean.1 two.3))
 
 guarded : {X : Type 0} (b : Bool) (x : Option X) (y : X) → cond b x None ≡ Some y → x ≡ Some y
 guarded true x y h = h
@@ -90,8 +102,8 @@ within_some None p h = cc
 within_some (Some q) p h = guarded _ (Some q) p h
 
 -- the segments of a path that is read
-pub path_in_proper : (text : List ℕ) (p : Path) → path_in text ≡ Some p → AllByRecursion IsSegment p
-path_in_proper text p h = segments_proper (pieces text) p (pieces_clean text) (within_some _ p (guarded _ (within (segments_of (pieces text))) p h))
+pub path_in_proper : (text : List ℕ) (p : Path) → IsBytes text → path_in text ≡ Some p → AllByRecursion IsSegment p
+path_in_proper text p bytes h = segments_proper (pieces text) p (pieces_bytes text bytes) (pieces_clean text) (within_some _ p (guarded _ (within (segments_of (pieces text))) p h))
 
 -- ---- the text that the pieces make
 
@@ -191,15 +203,15 @@ found_is text p h =
     let rest = guarded (nat_le (length text) PATH_BYTES && begins_with_slash text) (within (segments_of (pieces text))) p h in
     record { short = ok.0; slash = ok.1; read = within_some (segments_of (pieces text)) p rest; shallow = within_shallow (segments_of (pieces text)) p rest }
 
-pub path_found : (text : List ℕ) (p : Path) → path_in text ≡ Some p → IsPathText text p
-path_found text p h =
+pub path_found : (text : List ℕ) (p : Path) → IsBytes text → path_in text ≡ Some p → IsPathText text p
+path_found text p bytes h =
     let f = found_is text p h in
     let w = with_slash text f.slash in
     let read : segments_of (pieces w.0) ≡ Some p = sym (after_slash (segments_of (pieces w.0))) ∙ ap (λ t. segments_of (pieces t)) (sym w.1) ∙ f.read in
     record {
       not_empty = λ e. let no : 47 ∷ w.0 ≡ [] = sym w.1 ∙ e in cc;
       spelled = subst (Segments p) (sym w.1) (text_spelled w.0 p read);
-      segments = path_in_proper text p h;
+      segments = path_in_proper text p bytes h;
       bytes = leb-true (length text) PATH_BYTES f.short;
       depth = leb-true (length p) PATH_SEGMENTS f.shallow;
     }
@@ -288,8 +300,8 @@ pub one_path : (text : List ℕ) (p q : Path) → IsPathText text p → IsPathTe
 one_path text p q a b = let same : Some p ≡ Some q = sym (path_again text p a) ∙ path_again text q b in cc
 
 -- what reading tests, one after the other
-pub path_read : (text : List ℕ) (p : Path) → length text ≤ PATH_BYTES → begins_with_slash text ≡ true → segments_of (pieces text) ≡ Some p → length p ≤ PATH_SEGMENTS → IsPathText text p
-path_read text p short slash read shallow =
-    path_found text p
+pub path_read : (text : List ℕ) (p : Path) → IsBytes text → length text ≤ PATH_BYTES → begins_with_slash text ≡ true → segments_of (pieces text) ≡ Some p → length p ≤ PATH_SEGMENTS → IsPathText text p
+path_read text p bytes short slash read shallow =
+    path_found text p bytes
     (ap (λ b. cond b (within (segments_of (pieces text))) None) (ap (λ b. b && begins_with_slash text) (le-leb (length text) PATH_BYTES short) ∙ slash)
     ∙ ap within read ∙ ap (λ b. cond b (Some p) None) (le-leb (length p) PATH_SEGMENTS shallow))

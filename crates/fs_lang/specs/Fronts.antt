@@ -10,14 +10,14 @@ is_front (s ∷ p) [] = false
 is_front (s ∷ p) (r ∷ q) = bytes_eq s r && is_front p q
 
 -- neither begins with the other
-abbrev pub is_apart : Path → Path → Bool
-is_apart p q = not (is_front p q) && not (is_front q p)
+abbrev pub is_disjoint : Path → Path → Bool
+is_disjoint p q = not (is_front p q) && not (is_front q p)
 
-abbrev pub is_apart_from_all : Path → List Path → Bool
-is_apart_from_all p [] = true
-is_apart_from_all p (q ∷ qs) = is_apart p q && is_apart_from_all p qs
+abbrev pub is_disjoint_from_all : Path → List Path → Bool
+is_disjoint_from_all p [] = true
+is_disjoint_from_all p (q ∷ qs) = is_disjoint p q && is_disjoint_from_all p qs
 
--- each is apart from those after it
-abbrev pub are_apart : List Path → Bool
-are_apart [] = true
-are_apart (p ∷ ps) = is_apart_from_all p ps && are_apart ps
+-- each is disjoint from those after it
+abbrev pub are_disjoint : List Path → Bool
+are_disjoint [] = true
+are_disjoint (p ∷ ps) = is_disjoint_from_all p ps && are_disjoint ps

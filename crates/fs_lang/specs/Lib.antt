@@ -2,3 +2,4 @@ pub mod PathText
 pub mod Meaning
 pub mod Reading
 pub mod Fronts
+pub mod Sizes

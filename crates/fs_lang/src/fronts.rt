@@ -1,8 +1,8 @@
 //! Paths that begin other paths.
 
 ghost use Rattle.std.specs.Prelude.{◌≡◌, ◌↔◌, IsTrue};
-ghost use Rattle.fs_semantics.specs.Apart.{IsAncestor, AreApart};
-ghost use Rattle.fs_lang.specs.Fronts.{is_front, is_apart, is_apart_from_all, are_apart};
+ghost use Rattle.fs_semantics.specs.Disjoint.{IsAncestor, AreDisjoint};
+ghost use Rattle.fs_lang.specs.Fronts.{is_front, is_disjoint, is_disjoint_from_all, are_disjoint};
 
 use crate::Path;
 use rh_base::Text;
@@ -32,19 +32,19 @@ pub fn is_proper_front(p: &[Text], q: &[Text]) -> bool
     p.len() < q.len() && is_front(p, q)
 }
 
-fn is_apart(p: &Path, q: &Path) -> bool
-    ensures { result ≡ is_apart p.now q.now }
+fn is_disjoint(p: &Path, q: &Path) -> bool
+    ensures { result ≡ is_disjoint p.now q.now }
 {
     let above = is_front(p.segments(), q.segments());
     let below = is_front(q.segments(), p.segments());
     !above && !below
 }
 
-fn is_apart_from_all(p: &Path, paths: &[Path]) -> bool
-    ensures { result ≡ is_apart_from_all p.now paths.now }
+fn is_disjoint_from_all(p: &Path, paths: &[Path]) -> bool
+    ensures { result ≡ is_disjoint_from_all p.now paths.now }
 {
     for q in paths {
-        if !is_apart(p, q) {
+        if !is_disjoint(p, q) {
             return false;
         }
     }
@@ -52,11 +52,11 @@ fn is_apart_from_all(p: &Path, paths: &[Path]) -> bool
 }
 
 fn test_all(paths: &[Path]) -> bool
-    ensures { result ≡ are_apart paths.now }
+    ensures { result ≡ are_disjoint paths.now }
 {
     let mut rest = paths;
     while let Some((p, others)) = rest.split_first() {
-        if !is_apart_from_all(p, others) {
+        if !is_disjoint_from_all(p, others) {
             return false;
         }
         rest = others;
@@ -65,8 +65,8 @@ fn test_all(paths: &[Path]) -> bool
 }
 
 /// Whether no path is another one or above it.
-pub fn are_apart(paths: &[Path]) -> bool
-    ensures { IsTrue result ↔ AreApart paths.now }
+pub fn are_disjoint(paths: &[Path]) -> bool
+    ensures { IsTrue result ↔ AreDisjoint paths.now }
 {
     test_all(paths)
 }

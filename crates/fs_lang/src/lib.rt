@@ -1,12 +1,13 @@
 //! The language of changes to a file tree: paths, tests and programs.
 #![tactic(auto)]
 
+mod copies;
 mod fronts;
 mod path;
 mod program;
 mod reading;
 
-pub use fronts::are_apart;
+pub use fronts::are_disjoint;
 pub use path::{Path, PathFault};
 pub use program::{Entry, Program, Test};
 

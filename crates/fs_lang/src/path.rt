@@ -45,7 +45,7 @@ impl Path {
     ghost use Rattle.std.specs.Prelude.{◌≡◌, ◌↔◌, IsTrue, IfOk, IfErr};
     ghost use Rattle.std.specs.List.{AllByRecursion};
     ghost use Rattle.fs_semantics.specs.FileTree.{Path as Segments, IsSegment};
-    ghost use Rattle.fs_semantics.specs.Apart.{IsAncestor};
+    ghost use Rattle.fs_semantics.specs.Disjoint.{IsAncestor};
     ghost use Rattle.fs_lang.specs.PathText.{IsPathText, IfBad};
 
     /// The path that a text spells.

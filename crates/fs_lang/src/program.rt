@@ -1,5 +1,7 @@
+//! Tests and programs of the language of changes, and what stands at a path.
+
 use crate::Path;
-use rh_base::{Seq, Text};
+use rh_base::{Boxed, Seq, Text};
 
 /// What stands at a path: a folder, a file with its content, or a symbolic link with its target.
 #[derive(Debug, Drop)]
@@ -14,9 +16,9 @@ pub enum Entry {
 pub enum Test {
     True,
     False,
-    Not(Box<Test>),
-    And(Box<Test>, Box<Test>),
-    Or(Box<Test>, Box<Test>),
+    Not(Boxed<Test>),
+    And(Boxed<Test>, Boxed<Test>),
+    Or(Boxed<Test>, Boxed<Test>),
     IsFile(Path),
     IsLink(Path),
     IsDir(Path),
@@ -35,5 +37,5 @@ pub enum Program {
     Rm(Path),
     Cp(Path, Path),
     Steps(Seq<Program>),
-    If(Test, Box<Program>, Box<Program>),
+    If(Test, Boxed<Program>, Boxed<Program>),
 }

@@ -1,4 +1,4 @@
-use crate::{Path, PathFault, are_apart};
+use crate::{Path, PathFault, are_disjoint};
 use std::alloc::Global;
 use std::process::Abort;
 use std::test::Fail;
@@ -87,10 +87,10 @@ fn paths_above_others(rt: HostRuntime) -> Result<(), Fail> {
         assert_eq!(rt; answer, want, "{above} {below}");
     }
     let apart = vec![in alloc; path(&rt, alloc, "/a/b"), path(&rt, alloc, "/a/c")]?;
-    assert!(rt; are_apart(&apart));
+    assert!(rt; are_disjoint(&apart));
     let same = vec![in alloc; path(&rt, alloc, "/a/b"), path(&rt, alloc, "//a/b/")]?;
-    assert!(rt; !are_apart(&same));
+    assert!(rt; !are_disjoint(&same));
     let above = vec![in alloc; path(&rt, alloc, "/a/b"), path(&rt, alloc, "/a")]?;
-    assert!(rt; !are_apart(&above));
+    assert!(rt; !are_disjoint(&above));
     Ok(())
 }

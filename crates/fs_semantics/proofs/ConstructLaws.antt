@@ -5,10 +5,10 @@ use Rattle.std.specs.Ordering.{eq_by_cmp}
 use Rattle.std.specs.FinMap as map
 use Rattle.std.specs.FinMap.{contains_key-keys}
 use Rattle.std.specs.Prelude.{is_some, IsTrue}
-use Rattle.fs_semantics.specs.FileTree.{Path, IsSegment, Entry, Folder, File, Link as LinkTo, Tree, parent, path_cmp, path_eq, is_root, is_file, is_link, is_dir, is_none, is_empty_dir, is_file_entry, is_link_entry, is_folder_entry, is_no_entry, IsTree}
+use Rattle.fs_semantics.specs.FileTree.{Path, IsSegment, IsBytes, HasText, Entry, Folder, File, Link as LinkTo, Tree, parent, path_cmp, path_eq, is_root, is_file, is_link, is_dir, is_none, is_empty_dir, is_file_entry, is_link_entry, is_folder_entry, is_no_entry, IsTree}
 use Rattle.fs_semantics.specs.Programs.{Program, Programs, Id, Err, Mkdir, Creat, Link, Rm, Cp, Steps, If, none, next, Outcome, and_then, holds, made, removed, copied, run, run_all}
 use Rattle.fs_semantics.specs.Changes.{Changes, ChangesInSteps, IsProper, AreProperSteps}
-use Rattle.fs_semantics.proofs.Trees.{path_eq_refl, path_eq_same, at_other, at_removed, at_kept, is_dir_other, parent_differs}
+use Rattle.fs_semantics.proofs.Trees.{path_eq_refl, path_eq_same, at_inserted, at_other, at_removed, at_kept, is_dir_other, parent_differs}
 
 guarded : (b : Bool) (u v : Tree) → cond b (Some u) None ≡ Some v → (b ≡ true) × (u ≡ v)
 guarded true u v h = (refl, cc)
@@ -20,28 +20,28 @@ both false b h = cc
 
 -- ---- a new entry
 
-record Made (p : Path) (x : Entry) (t u : Tree) : Type 0 where
-  free : is_none t p ≡ true
-  above : is_dir t (parent p) ≡ true
-  is : map.insert t p x ≡ u
+pub record Made (p : Path) (x : Entry) (t u : Tree) : Type 0 where
+  pub free : is_none t p ≡ true
+  pub above : is_dir t (parent p) ≡ true
+  pub is : map.insert t p x ≡ u
 
-made_is : (p : Path) (x : Entry) (t u : Tree) → made p x t ≡ Some u → Made p x t u
+pub made_is : (p : Path) (x : Entry) (t u : Tree) → made p x t ≡ Some u → Made p x t u
 made_is p x t u h =
     let done = guarded (is_none t p && is_dir t (parent p)) (map.insert t p x) u h in
     let two = both (is_none t p) (is_dir t (parent p)) done.0 in
     record { free = two.0; above = two.1; is = done.1 }
 
 -- a copy makes a file
-copied_is : (r : Option Entry) (q : Path) (t u : Tree) → copied r q t ≡ Some u → (content : List ℕ) × (made q (File content) t ≡ Some u)
+pub copied_is : (r : Option Entry) (q : Path) (t u : Tree) → copied r q t ≡ Some u → (content : List ℕ) × (r ≡ Some (File content)) × (made q (File content) t ≡ Some u)
 copied_is None q t u h = cc
 copied_is (Some Folder) q t u h = cc
-copied_is (Some (File content)) q t u h = (content, h)
+copied_is (Some (File content)) q t u h = (content, refl, h)
 copied_is (Some (LinkTo target)) q t u h = cc
 
 made_keeps : (p q : Path) (x : Entry) (t u : Tree) → (q ≡ p → ⊥) → made p x t ≡ Some u → map.get u q ≡ map.get t q
 made_keeps p q x t u other h = let m = made_is p x t u h in ap (λ v. map.get v q) (sym m.is) ∙ at_other t p q x other
 
-removed_is : (p : Path) (t u : Tree) → removed p t ≡ Some u → ((is_file t p || is_link t p || (not (is_root p) && is_empty_dir t p)) ≡ true) × (map.remove t p ≡ u)
+pub removed_is : (p : Path) (t u : Tree) → removed p t ≡ Some u → ((is_file t p || is_link t p || (not (is_root p) && is_empty_dir t p)) ≡ true) × (map.remove t p ≡ u)
 removed_is p t u h = guarded (is_file t p || is_link t p || (not (is_root p) && is_empty_dir t p)) (map.remove t p) u h
 
 pub split_then : (r : Outcome) (f : Tree → Outcome) (u : Tree) → and_then r f ≡ Some u → (t : Tree) × (r ≡ Some t) × (f t ≡ Some u)
@@ -58,7 +58,7 @@ mutual
   kept (Creat p content) q t u other h = made_keeps p q (File content) t u other h
   kept (Link p target) q t u other h = made_keeps p q (LinkTo target) t u other h
   kept (Rm p) q t u other h = ap (λ v. map.get v q) (sym (removed_is p t u h).1) ∙ at_kept t p q other
-  kept (Cp from p) q t u other h = let c = copied_is (map.get t from) p t u h in made_keeps p q (File c.0) t u other c.1
+  kept (Cp from p) q t u other h = let c = copied_is (map.get t from) p t u h in made_keeps p q (File c.0) t u other c.2
   kept (Steps es) q t u other h = kept_in_steps es q t u other h
   kept (If a e f) q t u other h = elim (holds a t) as (λ b. cond b (run e t) (run f t) ≡ Some u → map.get u q ≡ map.get t q) [
     | true ↦ λ k. kept e q t u (λ c. other (inl c)) k
@@ -89,7 +89,7 @@ parent_other [] h = absurd (h refl)
 parent_other (s ∷ p) h = parent_differs s p
 
 -- a fact of every path is shown at p and at the others
-at_or_other : (P : Path → Type 0) (p q : Path) → P p → (q ≢ p → P q) → P q
+pub at_or_other : (P : Path → Type 0) (p q : Path) → P p → (q ≢ p → P q) → P q
 at_or_other P p q here there = elim (path_eq q p) as (λ b. path_eq q p ≡ b → P q) [
   | true ↦ λ e. subst P (sym (path_eq_same q p e)) here
   | false ↦ λ e. there (λ same. let no : path_eq q p ≡ true = ap (λ r. path_eq r p) same ∙ path_eq_refl p in cc)
@@ -98,8 +98,12 @@ at_or_other P p q here there = elim (path_eq q p) as (λ b. path_eq q p ≡ b �
 still_there : (t u : Tree) (q : Path) → map.get u q ≡ map.get t q → IsTrue (map.contains_key u q) → IsTrue (map.contains_key t q)
 still_there t u q e h = subst (λ r. IsTrue (is_some r)) e h
 
-insert_keeps_tree : (t : Tree) (p : Path) (x : Entry) → IsTree t → AllByRecursion IsSegment p → is_none t p ≡ true → is_dir t (parent p) ≡ true → IsTree (map.insert t p x)
-insert_keeps_tree t p x tree proper free above =
+-- contents and targets of the entry are of bytes
+abbrev HasBytes : Option Entry → Type 0
+HasBytes r = (text : List ℕ) → HasText r text → IsBytes text
+
+insert_keeps_tree : (t : Tree) (p : Path) (x : Entry) → IsTree t → AllByRecursion IsSegment p → HasBytes (Some x) → is_none t p ≡ true → is_dir t (parent p) ≡ true → IsTree (map.insert t p x)
+insert_keeps_tree t p x tree proper bytes free above =
     let root = free_no_root t p free in
     record {
       no_root = at_other t p [] x (λ e. root (sym e)) ∙ tree.no_root;
@@ -109,10 +113,11 @@ insert_keeps_tree t p x tree proper free above =
           (λ other.
           let there : is_dir t (parent q) ≡ true = tree.parents q (still_there t (map.insert t p x) q (at_other t p q x other) h) in
           is_dir_other t (map.insert t p x) (parent q) (at_other t p (parent q) x (λ e. free_no_folder t p free (subst (λ r. is_dir t r ≡ true) e there))) ∙ there);
+      texts = λ q. at_or_other (λ r. HasBytes (map.get (map.insert t p x) r)) p q (subst HasBytes (sym (at_inserted t p x)) bytes) (λ other. subst HasBytes (sym (at_other t p q x other)) (tree.texts q));
     }
 
-made_keeps_tree : (t u : Tree) (p : Path) (x : Entry) → IsTree t → AllByRecursion IsSegment p → made p x t ≡ Some u → IsTree u
-made_keeps_tree t u p x tree proper h = let m = made_is p x t u h in subst IsTree m.is (insert_keeps_tree t p x tree proper m.free m.above)
+made_keeps_tree : (t u : Tree) (p : Path) (x : Entry) → IsTree t → AllByRecursion IsSegment p → HasBytes (Some x) → made p x t ≡ Some u → IsTree u
+made_keeps_tree t u p x tree proper bytes h = let m = made_is p x t u h in subst IsTree m.is (insert_keeps_tree t p x tree proper bytes m.free m.above)
 
 -- a child of p is found among the entries
 or_left : (a b : Bool) → a ≡ true → (a || b) ≡ true
@@ -187,17 +192,18 @@ remove_keeps_tree t p tree can =
           let dir : is_dir t (parent q) ≡ true = tree.parents q there in
           is_dir_other t (map.remove t p) (parent q)
           (at_kept t p (parent q) (λ e. removed_childless t p q root can (subst (λ r. is_dir t r ≡ true) e dir) there e)) ∙ dir;
+      texts = λ q. at_or_other (λ r. HasBytes (map.get (map.remove t p) r)) p q (λ text h. absurd (subst (λ r. HasText r text) (at_removed t p) h)) (λ other. subst HasBytes (sym (at_kept t p q other)) (tree.texts q));
     }
 
 mutual
   pub keeps_tree : (e : Program) (t u : Tree) → IsProper e → IsTree t → run e t ≡ Some u → IsTree u
   keeps_tree Id t u proper tree h = let same : t ≡ u = cc in subst IsTree same tree
   keeps_tree Err t u proper tree h = cc
-  keeps_tree (Mkdir p) t u proper tree h = made_keeps_tree t u p Folder tree proper h
-  keeps_tree (Creat p content) t u proper tree h = made_keeps_tree t u p (File content) tree proper h
-  keeps_tree (Link p target) t u proper tree h = made_keeps_tree t u p (LinkTo target) tree proper h
+  keeps_tree (Mkdir p) t u proper tree h = made_keeps_tree t u p Folder tree proper (λ text k. absurd k) h
+  keeps_tree (Creat p content) t u proper tree h = made_keeps_tree t u p (File content) tree proper.0 (λ text k. subst IsBytes (sym k) proper.1) h
+  keeps_tree (Link p target) t u proper tree h = made_keeps_tree t u p (LinkTo target) tree proper.0 (λ text k. subst IsBytes (sym k) proper.1) h
   keeps_tree (Rm p) t u proper tree h = let r = removed_is p t u h in subst IsTree r.1 (remove_keeps_tree t p tree r.0)
-  keeps_tree (Cp from p) t u proper tree h = let c = copied_is (map.get t from) p t u h in made_keeps_tree t u p (File c.0) tree proper c.1
+  keeps_tree (Cp from p) t u proper tree h = let c = copied_is (map.get t from) p t u h in made_keeps_tree t u p (File c.0) tree proper (λ text k. tree.texts from text (subst (λ r. HasText r text) (sym c.1) k)) c.2
   keeps_tree (Steps es) t u proper tree h = steps_keep_tree es t u proper tree h
   keeps_tree (If a e f) t u proper tree h = elim (holds a t) as (λ b. cond b (run e t) (run f t) ≡ Some u → IsTree u) [
     | true ↦ λ k. keeps_tree e t u proper.0 tree k

@@ -5,7 +5,7 @@ use Rattle.std.specs.List.{list_any}
 use Rattle.std.specs.FinMap as map
 use Rattle.std.specs.FinMap.{get-empty, contains_key-keys}
 use Rattle.fs_semantics.specs.FileTree.{Path, File, Link as LinkTo, Tree, path_cmp, path_eq, parent, is_dir, is_file, is_link}
-use Rattle.fs_semantics.specs.Programs.{Err, Mkdir, Creat, Rm, run, holds, IsDir, IsNone}
+use Rattle.fs_semantics.specs.Programs.{Err, Mkdir, Creat, Link, Rm, Cp, Steps, next, none, run, holds, IsDir, IsNone}
 use Rattle.fs_semantics.specs.Models.{put}
 use Rattle.fs_semantics.proofs.Puts.{put_is}
 use Rattle.fs_semantics.proofs.ConstructLaws.{folder_only, child_found}
@@ -46,3 +46,24 @@ full_folder_stays t s p q dir there up =
 -- a run that fails before it changed anything, and one that fails after it made a folder, have one outcome
 errors_are_alike : (t u : Tree) → run (Creat (codes "a" ∷ codes "b" ∷ []) []) map.empty ≡ run Err t
 errors_are_alike t u = rw (get-empty path_cmp (codes "a" ∷ codes "b" ∷ []), get-empty path_cmp (codes "a" ∷ [])) refl
+
+-- the folder that was made before the error isn't seen
+failing_after_a_change : (t : Tree) → run (Steps (next (Mkdir (codes "a" ∷ [])) (next Err none))) map.empty ≡ run Err t
+failing_after_a_change t = rw (get-empty path_cmp (codes "a" ∷ [])) refl
+
+-- a copy is a file with the same content
+copied_file : (t : Tree) (content : List ℕ) → map.get t (codes "a" ∷ []) ≡ Some (File content) → map.get t (codes "b" ∷ []) ≡ None
+    → run (Cp (codes "a" ∷ []) (codes "b" ∷ [])) t ≡ Some (map.insert t (codes "b" ∷ []) (File content))
+copied_file t content h k = rw (h, k) refl
+
+-- a link isn't copied, nor what it leads to
+copied_link : (t : Tree) (target : List ℕ) → map.get t (codes "a" ∷ []) ≡ Some (LinkTo target) → run (Cp (codes "a" ∷ []) (codes "b" ∷ [])) t ≡ None
+copied_link t target h = rw h refl
+
+-- a link is made whether or not its target is there
+made_link : (target : List ℕ) → run (Link (codes "a" ∷ []) target) map.empty ≡ Some (map.insert map.empty (codes "a" ∷ []) (LinkTo target))
+made_link target = rw (get-empty path_cmp (codes "a" ∷ [])) refl
+
+-- a link goes, and what it leads to stays
+removed_link : (t : Tree) (target : List ℕ) → map.get t (codes "a" ∷ []) ≡ Some (LinkTo target) → run (Rm (codes "a" ∷ [])) t ≡ Some (map.remove t (codes "a" ∷ []))
+removed_link t target h = rw h refl

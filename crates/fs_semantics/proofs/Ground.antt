@@ -1,19 +1,20 @@
--- A tree on which files at paths apart can be put: the folders above them, and nothing else.
-use Rattle.std.proofs.Common.{◌≡◌, ◌≢◌, ◌⊎◌, inl, inr, ℕ, zero, suc, ◌+◌, ◌<◌, ◌≤◌, ◌==◌, Bool, true, false, cond, List, [], ◌∷◌, ◌++◌, length, get_or, Some, None, refl, sym, ap, subst, ◌∙◌, arith, eqb-true}
+-- A tree on which files at paths disjoint can be put: the folders above them, and nothing else.
+use Rattle.std.proofs.Common.{◌≡◌, ◌≢◌, ◌⊎◌, inl, inr, ℕ, zero, suc, ◌+◌, ◌<◌, ◌≤◌, ◌==◌, Bool, true, false, cond, List, [], ◌∷◌, ◌++◌, length, get_or, Option, Some, None, refl, sym, ap, subst, ◌∙◌, arith, eqb-true}
 use Rattle.std.proofs.lemmas.Bool.{ne_eqb, eqb-false}
 use Rattle.std.specs.Prelude.{map, is_some, IsSome}
 use Rattle.std.specs.List.{AllByRecursion}
 use Rattle.std.specs.FinMap as finite
 use Rattle.std.specs.FinMap.{get-empty, get-insert}
-use Rattle.fs_semantics.specs.FileTree.{Path, IsSegment, parent, path_cmp, path_eq, Entry, Folder, File, Tree, is_folder_entry, is_dir, IsTree}
+use Rattle.fs_semantics.specs.FileTree.{Path, IsSegment, parent, path_cmp, path_eq, Entry, Folder, File, Tree, HasText, is_folder_entry, is_dir, IsTree}
 use Rattle.fs_semantics.specs.Programs.{Program, Id, and_then, run}
-use Rattle.fs_semantics.specs.Orders.{times, NoneAhead, outcome, Succeeds}
+use Rattle.fs_semantics.specs.Orders.{times, NoneAhead, up_from, IsLinearExtension, outcome, Succeeds}
 use Rattle.fs_semantics.specs.Models.{put}
-use Rattle.fs_semantics.specs.Apart.{IsAncestor, IsApartFrom, AreApart}
+use Rattle.fs_semantics.specs.Disjoint.{IsAncestor, IsDisjointFrom, AreDisjoint}
 use Rattle.fs_semantics.specs.PlainFiles.{PlainFile, IsFilePath, ArePlain, puts, Unordered}
 use Rattle.fs_semantics.proofs.Trees.{path_total, path_eq_refl, path_eq_same}
 use Rattle.fs_semantics.proofs.Puts.{can_put, put_is, can_put_other}
-use Rattle.fs_semantics.proofs.PlainFiles.{not_parent}
+use Rattle.fs_semantics.proofs.PlainFiles.{not_parent, plain_alike}
+use Rattle.fs_semantics.proofs.Commuting.{same_times_of}
 
 abbrev In : Path → List Path → Type 0
 In q [] = ⊥
@@ -117,6 +118,20 @@ some_at q (p ∷ ps) h = elim (path_eq q p) as (λ b. path_eq q p ≡ b → is_s
   | false ↦ λ e k. inr (some_at q ps k)
 ] refl (ap is_some (sym (get-insert path_total (folders ps) p Folder q)) ∙ h)
 
+only_folders : (q : Path) (ps : List Path) → (finite.get (folders ps) q ≡ None) ⊎ (finite.get (folders ps) q ≡ Some Folder)
+only_folders q ps = elim (is_some (finite.get (folders ps) q)) as (λ b. is_some (finite.get (folders ps) q) ≡ b → (finite.get (folders ps) q ≡ None) ⊎ (finite.get (folders ps) q ≡ Some Folder)) [
+  | true ↦ λ e. inr (folder_at q ps (some_at q ps e))
+  | false ↦ λ e. inl (nothing (finite.get (folders ps) q) e)
+] refl
+  where
+    nothing : (r : Option Entry) → is_some r ≡ false → r ≡ None
+    nothing None h = refl
+    nothing (Some x) h = cc
+
+no_text : (r : Option Entry) (text : List ℕ) → (r ≡ None) ⊎ (r ≡ Some Folder) → HasText r text → ⊥
+no_text r text (inl e) h = subst (λ s. HasText s text) e h
+no_text r text (inr e) h = subst (λ s. HasText s text) e h
+
 none_at : (q : Path) (ps : List Path) → (In q ps → ⊥) → finite.get (folders ps) q ≡ None
 none_at q ps h = elim (finite.get (folders ps) q) as (λ r. finite.get (folders ps) q ≡ r → r ≡ None) [ None ↦ λ e. refl | Some x ↦ λ e. absurd (h (some_at q ps (ap is_some e))) ] refl
 
@@ -166,6 +181,7 @@ ground_is_tree ps proper = record {
       front_segments q f.above.0 (subst (AllByRecursion IsSegment) f.above.2 (all_in (AllByRecursion IsSegment) ps one.0 proper one.1));
   parents = λ q h. let one = of_one q ps (some_at q (all_fronts ps) h) in
       dir_at (parent q) ps (up_to_all (parent q) one.0 ps one.1 (front_is q one.0 one.2).parent_too);
+  texts = λ q text h. absurd (no_text (finite.get (folders (all_fronts ps)) q) text (only_folders q (all_fronts ps)) h);
 }
 
 -- ---- each file can be put on it
@@ -174,76 +190,67 @@ In-to_all : (P : Path → Type 0) (ps : List Path) → ((p : Path) → In p ps �
 In-to_all P [] h = tt
 In-to_all P (p ∷ ps) h = (h p (inl refl), In-to_all P ps (λ q k. h q (inr k)))
 
-apart_in : (p q : Path) (ps : List Path) → AreApart ps → In p ps → In q ps → IsAncestor p q → ⊥
-apart_in p q [] apart h k a = h
-apart_in p q (r ∷ ps) apart (inl e) (inl d) a = no_self q a.0 a.1 (a.2 ∙ ap (λ x. x ++ a.0) (e ∙ sym d))
+disjoint_in : (p q : Path) (ps : List Path) → AreDisjoint ps → In p ps → In q ps → IsAncestor p q → ⊥
+disjoint_in p q [] disjoint h k a = h
+disjoint_in p q (r ∷ ps) disjoint (inl e) (inl d) a = no_self q a.0 a.1 (a.2 ∙ ap (λ x. x ++ a.0) (e ∙ sym d))
   where
     no_self : (x more : Path) → more ≢ [] → x ≡ x ++ more → ⊥
     no_self [] more n e = n (sym e)
     no_self (s ∷ x) more n e = no_self x more n cc
-apart_in p q (r ∷ ps) apart (inl e) (inr k) a = (all_in (IsApartFrom r) ps q apart.0 k).not_above (a.0, a.1, a.2 ∙ ap (λ x. x ++ a.0) e)
-apart_in p q (r ∷ ps) apart (inr h) (inl d) a = (all_in (IsApartFrom r) ps p apart.0 h).not_below (a.0, a.1, sym d ∙ a.2)
-apart_in p q (r ∷ ps) apart (inr h) (inr k) a = apart_in p q ps apart.1 h k a
+disjoint_in p q (r ∷ ps) disjoint (inl e) (inr k) a = (all_in (IsDisjointFrom r) ps q disjoint.0 k).not_above (a.0, a.1, a.2 ∙ ap (λ x. x ++ a.0) e)
+disjoint_in p q (r ∷ ps) disjoint (inr h) (inl d) a = (all_in (IsDisjointFrom r) ps p disjoint.0 h).not_below (a.0, a.1, sym d ∙ a.2)
+disjoint_in p q (r ∷ ps) disjoint (inr h) (inr k) a = disjoint_in p q ps disjoint.1 h k a
 
-free_on_ground : (p : Path) (ps : List Path) → AreApart ps → In p ps → p ≢ [] → can_put p (ground ps) ≡ true
+free_on_ground : (p : Path) (ps : List Path) → AreDisjoint ps → In p ps → p ≢ [] → can_put p (ground ps) ≡ true
 unfolding ground
-free_on_ground [] ps apart h n = absurd (n refl)
-free_on_ground (s ∷ p) ps apart h n =
+free_on_ground [] ps disjoint h n = absurd (n refl)
+free_on_ground (s ∷ p) ps disjoint h n =
     let free : finite.get (folders (all_fronts ps)) (s ∷ p) ≡ None = none_at (s ∷ p) (all_fronts ps) (λ k.
-    let one = of_one (s ∷ p) ps k in apart_in (s ∷ p) one.0 ps apart h one.1 (front_is (s ∷ p) one.0 one.2).above) in
+    let one = of_one (s ∷ p) ps k in disjoint_in (s ∷ p) one.0 ps disjoint h one.1 (front_is (s ∷ p) one.0 one.2).above) in
     let up : is_dir (folders (all_fronts ps)) (parent (s ∷ p)) ≡ true = dir_at (parent (s ∷ p)) ps (up_to_all (parent (s ∷ p)) (s ∷ p) ps h (parent_in s p)) in
     rw (free, up) refl
 
 -- ---- and all of them, one after the other
 
-up_from : ℕ → ℕ → List ℕ
-up_from k zero = []
-up_from k (suc n) = k ∷ up_from (suc k) n
-
 shifted : (e : Program) (es : List Program) (k n : ℕ) (t : Tree) → outcome (e ∷ es) (up_from (suc k) n) t ≡ outcome es (up_from k n) t
-unfolding up_from
 shifted e es k zero t = refl
 shifted e es k (suc n) t = ap (and_then (run (get_or es k Id) t)) (λ i u. shifted e es (suc k) n u i)
 
 abbrev AllCanPut : List PlainFile → Tree → Type 0
 AllCanPut files t = AllByRecursion (λ f. can_put f.0 t ≡ true) files
 
-stay_free : (p : Path) (x : Entry) (files : List PlainFile) (t : Tree) → p ≢ [] → AllByRecursion (λ f. IsFilePath f.0) files → AllByRecursion (IsApartFrom p) (map (λ f. f.0) files)
+stay_free : (p : Path) (x : Entry) (files : List PlainFile) (t : Tree) → p ≢ [] → AllByRecursion (λ f. IsFilePath f.0) files → AllByRecursion (IsDisjointFrom p) (map (λ f. f.0) files)
     → AllCanPut files t → AllCanPut files (finite.insert t p x)
-stay_free p x [] t n paths apart can = tt
-stay_free p x (f ∷ files) t n paths apart can = (
-  can_put_other f.0 p x t (λ e. apart.0.differ (sym e)) (not_parent f.0 p paths.0.not_root apart.0.not_above) ∙ can.0,
-  stay_free p x files t n paths.1 apart.1 can.1,
+stay_free p x [] t n paths disjoint can = tt
+stay_free p x (f ∷ files) t n paths disjoint can = (
+  can_put_other f.0 p x t (λ e. disjoint.0.differ (sym e)) (not_parent f.0 p paths.0.not_root disjoint.0.not_above) ∙ can.0,
+  stay_free p x files t n paths.1 disjoint.1 can.1,
 )
 
 put_done : (p : Path) (c : List ℕ) (t : Tree) → p ≢ [] → can_put p t ≡ true → run (put p c) t ≡ Some (finite.insert t p (File c))
 put_done [] c t n can = absurd (n refl)
 put_done (s ∷ p) c t n can = put_is s p c t ∙ ap (λ b. cond b (Some (finite.insert t (s ∷ p) (File c))) None) can
 
-all_done : (files : List PlainFile) (t : Tree) → AllByRecursion (λ f. IsFilePath f.0) files → AreApart (map (λ f. f.0) files) → AllCanPut files t → IsSome (outcome (puts files) (up_from 0 (length files)) t)
-unfolding up_from
-all_done [] t paths apart can = refl
-all_done (f ∷ files) t paths apart can =
+all_done : (files : List PlainFile) (t : Tree) → AllByRecursion (λ f. IsFilePath f.0) files → AreDisjoint (map (λ f. f.0) files) → AllCanPut files t → IsSome (outcome (puts files) (up_from 0 (length files)) t)
+all_done [] t paths disjoint can = refl
+all_done (f ∷ files) t paths disjoint can =
     let first = put_done f.0 f.1 t paths.0.not_root can.0 in
     let u = finite.insert t f.0 (File f.1) in
-    let rest = all_done files (finite.insert t f.0 (File f.1)) paths.1 apart.1 (stay_free f.0 (File f.1) files t paths.0.not_root paths.1 apart.0 can.1) in
+    let rest = all_done files (finite.insert t f.0 (File f.1)) paths.1 disjoint.1 (stay_free f.0 (File f.1) files t paths.0.not_root paths.1 disjoint.0 can.1) in
     subst (λ r. IsSome (and_then r (outcome (puts (f ∷ files)) (up_from 1 (length files))))) (sym first)
     (subst (λ r. IsSome r) (sym (shifted (put f.0 f.1) (puts files) 0 (length files) (finite.insert t f.0 (File f.1)))) rest)
 
 -- ---- the order by number is allowed
 
 up_below : (k n m : ℕ) → k + n ≤ m → AllByRecursion (λ i. i < m) (up_from k n)
-unfolding up_from
 up_below k zero m h = tt
 up_below k (suc n) m h = (omega arith, up_below (suc k) n m (omega arith))
 
 none_before : (k n j : ℕ) → j < k → times j (up_from k n) ≡ 0
-unfolding up_from
 none_before k zero j h = refl
 none_before k (suc n) j h = ap (λ b. cond b 1 0 + times j (up_from (suc k) n)) (ne_eqb k j (omega arith)) ∙ omega (arith, none_before (suc k) n j (omega arith))
 
 once_up : (k n j : ℕ) → k ≤ j → j < k + n → times j (up_from k n) ≡ 1
-unfolding up_from
 once_up k zero j h l = absurd (omega arith)
 once_up k (suc n) j h l = elim (k == j) as (λ b. (k == j) ≡ b → cond b 1 0 + times j (up_from (suc k) n) ≡ 1) [
   | true ↦ λ e. let same : k ≡ j = eqb-true k j e in omega (arith, none_before (suc k) n j (omega arith))
@@ -256,7 +263,7 @@ no_order (i ∷ o) = (nothing o, no_order o)
   where
     nothing : (p : List ℕ) → AllByRecursion (λ a. Unordered a i → ⊥) p
     nothing [] = tt
-    nothing (j ∷ p) = ((λ h. h), nothing p)
+    nothing (j ∷ p) = ((λ h. cc), nothing p)
 
 map_all : (files : List PlainFile) → AllByRecursion (λ f. IsFilePath f.0) files → AllByRecursion (AllByRecursion IsSegment) (map (λ f. f.0) files)
 map_all [] all = tt
@@ -270,18 +277,28 @@ length-puts : (files : List PlainFile) → length (puts files) ≡ length files
 length-puts [] = refl
 length-puts (f ∷ files) = ap suc (length-puts files)
 
-pub plain_succeeds : (files : List PlainFile) → ArePlain files → Succeeds (puts files) Unordered
-plain_succeeds files plain =
+pub unordered_allowed : (n : ℕ) → IsLinearExtension n Unordered (up_from 0 n)
+unordered_allowed n = record { below = up_below 0 n n (omega arith); once = λ k h. once_up 0 n k (omega arith) (omega (arith, h)); kept = no_order (up_from 0 n) }
+
+-- from the folders above the files every order ends in a tree
+on_ground : (files : List PlainFile) → ArePlain files → IsSome (outcome (puts files) (up_from 0 (length files)) (ground (map (λ f. f.0) files)))
+on_ground files plain =
     let paths = map (λ f. f.0) files in
+    all_done files (ground (map (λ f. f.0) files)) plain.paths plain.disjoint
+    (can_from files (ground (map (λ f. f.0) files)) (λ f h n. free_on_ground f.0 (map (λ f. f.0) files) plain.disjoint h n) plain.paths)
+
+pub plain_succeeds : (files : List PlainFile) (before : ℕ → ℕ → Type 0) (o : List ℕ) → ArePlain files → IsLinearExtension (length (puts files)) before o → Succeeds (puts files) before
+plain_succeeds files before o plain allowed =
+    let n = length (puts files) in
+    let first = unordered_allowed (length (puts files)) in
+    let same : (k : ℕ) → times k (up_from 0 (length (puts files))) ≡ times k o = λ k.
+    same_times_of (length (puts files)) (up_from 0 (length (puts files))) o first.below first.once allowed.below allowed.once k in
+    let ends : IsSome (outcome (puts files) (up_from 0 (length (puts files))) (ground (map (λ f. f.0) files))) =
+    subst (λ m. IsSome (outcome (puts files) (up_from 0 m) (ground (map (λ f. f.0) files)))) (sym (length-puts files)) (on_ground files plain) in
     record {
       tree = ground (map (λ f. f.0) files);
       is_tree = ground_is_tree (map (λ f. f.0) files) (map_all files plain.paths);
-      order = up_from 0 (length files);
-      allowed = record {
-        below = up_below 0 (length files) (length (puts files)) (omega (arith, length-puts files));
-        once = λ k h. once_up 0 (length files) k (omega arith) (omega (arith, length-puts files));
-        kept = no_order (up_from 0 (length files));
-      };
-      ends = all_done files (ground (map (λ f. f.0) files)) plain.paths plain.apart
-          (can_from files (ground (map (λ f. f.0) files)) (λ f h n. free_on_ground f.0 (map (λ f. f.0) files) plain.apart h n) plain.paths);
+      order = o;
+      allowed = allowed;
+      ends = subst IsSome (plain_alike files plain (up_from 0 (length (puts files))) o same (ground (map (λ f. f.0) files))) ends;
     }

@@ -1,6 +1,6 @@
 -- Runs of steps that commute do not depend on the order.
 use Rattle.std.proofs.Common.{◌≡◌, ℕ, true, false, cond, ◌==◌, ◌+◌, ◌<◌, List, [], ◌∷◌, ◌++◌, Some, None, refl, sym, ap, ◌∙◌, arith, eqb-true, eq-eqb, zero-add}
-use Rattle.fs_semantics.specs.FileTree.{Tree, IsTree}
+use Rattle.fs_semantics.specs.FileTree.{Tree}
 use Rattle.fs_semantics.specs.Orders.{times}
 use Rattle.fs_semantics.specs.Programs.{Outcome, and_then}
 
@@ -18,19 +18,19 @@ abbrev pub run_steps : (ℕ → Tree → Outcome) → List ℕ → Tree → Outc
 run_steps step [] t = Some t
 run_steps step (i ∷ order) t = and_then (step i t) (run_steps step order)
 
--- each step leaves a file tree, and in which order two of them are made is the same
-pub record CommutingSteps (step : ℕ → Tree → Outcome) : Type 0 where
-  pub keeps : (i : ℕ) (t u : Tree) → IsTree t → step i t ≡ Some u → IsTree u
-  pub commute : (i j : ℕ) (t : Tree) → IsTree t → and_then (step i t) (step j) ≡ and_then (step j t) (step i)
+-- each step leaves such a tree, and in which order two of them are made is the same
+pub record CommutingSteps (P : Tree → Type 0) (step : ℕ → Tree → Outcome) : Type 0 where
+  pub keeps : (i : ℕ) (t u : Tree) → P t → step i t ≡ Some u → P u
+  pub commute : (i j : ℕ) (t : Tree) → P t → and_then (step i t) (step j) ≡ and_then (step j t) (step i)
 
-module _ (step : ℕ → Tree → Outcome) (steps : CommutingSteps step) where
+module _ (P : Tree → Type 0) (step : ℕ → Tree → Outcome) (steps : CommutingSteps P step) where
   -- a step may be made first
-  pub to_front : (front : List ℕ) (i : ℕ) (back : List ℕ) (t : Tree) → IsTree t → run_steps step (front ++ i ∷ back) t ≡ run_steps step (i ∷ front ++ back) t
-  to_front [] i back t tree = refl
-  to_front (j ∷ front) i back t tree =
-      then_alike (step j t) (run_steps step (front ++ i ∷ back)) (run_steps step (i ∷ front ++ back)) (λ u is. to_front front i back u (steps.keeps j t u tree is))
+  pub to_front : (front : List ℕ) (i : ℕ) (back : List ℕ) (t : Tree) → P t → run_steps step (front ++ i ∷ back) t ≡ run_steps step (i ∷ front ++ back) t
+  to_front [] i back t good = refl
+  to_front (j ∷ front) i back t good =
+      then_alike (step j t) (run_steps step (front ++ i ∷ back)) (run_steps step (i ∷ front ++ back)) (λ u is. to_front front i back u (steps.keeps j t u good is))
       ∙ sym (and_then_assoc (step j t) (step i) (run_steps step (front ++ back)))
-      ∙ ap (λ r. and_then r (run_steps step (front ++ back))) (steps.commute j i t tree)
+      ∙ ap (λ r. and_then r (run_steps step (front ++ back))) (steps.commute j i t good)
       ∙ and_then_assoc (step i t) (step j) (run_steps step (front ++ back))
 
 pub times_append : (k : ℕ) (xs ys : List ℕ) → times k (xs ++ ys) ≡ times k xs + times k ys
@@ -41,7 +41,7 @@ none_here : (k x : ℕ) (xs : List ℕ) → (x == k) ≡ false → times k (x �
 none_here k x xs e = ap (λ b. cond b 1 0 + times k xs) e ∙ zero-add _
 
 -- what is counted is somewhere
-found : (k : ℕ) (xs : List ℕ) → 0 < times k xs → (front : List ℕ) × (back : List ℕ) × (xs ≡ front ++ k ∷ back)
+pub found : (k : ℕ) (xs : List ℕ) → 0 < times k xs → (front : List ℕ) × (back : List ℕ) × (xs ≡ front ++ k ∷ back)
 found k [] h = absurd (omega arith)
 found k (x ∷ xs) h = elim (x == k) as (λ b. (x == k) ≡ b → (front : List ℕ) × (back : List ℕ) × (x ∷ xs ≡ front ++ k ∷ back)) [
   | true ↦ λ e. ([], xs, ap (λ y. y ∷ xs) (eqb-true x k e))
@@ -52,13 +52,13 @@ pub itself : (x : ℕ) (xs : List ℕ) → times x (x ∷ xs) ≡ 1 + times x xs
 itself x xs = ap (λ b. cond b 1 0 + times x xs) (eq-eqb x x refl)
 
 -- two orders that have each number equally often
-pub same_runs : (step : ℕ → Tree → Outcome) → CommutingSteps step → (o p : List ℕ) → ((k : ℕ) → times k o ≡ times k p) → (t : Tree) → IsTree t → run_steps step o t ≡ run_steps step p t
-same_runs step steps [] [] h t tree = refl
-same_runs step steps [] (i ∷ p) h t tree = absurd (omega (arith, h i, itself i p))
-same_runs step steps (i ∷ o) p h t tree =
+pub same_runs : (P : Tree → Type 0) (step : ℕ → Tree → Outcome) → CommutingSteps P step → (o p : List ℕ) → ((k : ℕ) → times k o ≡ times k p) → (t : Tree) → P t → run_steps step o t ≡ run_steps step p t
+same_runs P step steps [] [] h t good = refl
+same_runs P step steps [] (i ∷ p) h t good = absurd (omega (arith, h i, itself i p))
+same_runs P step steps (i ∷ o) p h t good =
     let split = found i p (omega (arith, h i, itself i o)) in
     let rest : (k : ℕ) → times k o ≡ times k (split.0 ++ split.1) = λ k.
     omega (arith, h k, ap (times k) split.2, times_append k split.0 (i ∷ split.1), times_append k split.0 split.1) in
-    then_alike (step i t) (run_steps step o) (run_steps step (split.0 ++ split.1)) (λ u is. same_runs step steps o (split.0 ++ split.1) rest u (steps.keeps i t u tree is))
-    ∙ sym (to_front step steps split.0 i split.1 t tree)
+    then_alike (step i t) (run_steps step o) (run_steps step (split.0 ++ split.1)) (λ u is. same_runs P step steps o (split.0 ++ split.1) rest u (steps.keeps i t u good is))
+    ∙ sym (to_front P step steps split.0 i split.1 t good)
     ∙ ap (λ q. run_steps step q t) (sym split.2)

@@ -1,4 +1,4 @@
--- What `put` does to a tree, and that two of them at paths that are apart commute.
+-- What `put` does to a tree, and that two of them at disjoint paths commute.
 use Rattle.std.proofs.Common.{◌≡◌, ◌≢◌, ℕ, Bool, true, false, cond, ◌&&◌, ◌||◌, List, ◌∷◌, Option, Some, None, refl, sym, ap, subst, ◌∙◌}
 use Rattle.std.specs.FinMap as map
 use Rattle.fs_semantics.specs.FileTree.{Path, Entry, Folder, File, Link as LinkTo, Tree, parent, is_dir, is_file_entry, is_no_entry}

@@ -1,11 +1,14 @@
 -- Laws of trees as maps from paths.
-use Rattle.std.proofs.Common.{◌≡◌, ◌≢◌, ℕ, Bool, true, false, cond, List, [], ◌∷◌, ◌++◌, Some, None, refl, sym, ap, ◌∙◌}
+use Rattle.std.proofs.Common.{◌≡◌, ◌≢◌, ◌⊎◌, inl, inr, ℕ, Bool, true, false, cond, List, [], ◌∷◌, ◌++◌, Some, None, refl, sym, ap, ◌∙◌}
 use Rattle.std.specs.Cmp.{IsTotalOrder, nat_cmp_total, tied_itself, Equal-is}
 use Rattle.std.proofs.lemmas.Cmp.{lists_total}
 use Rattle.std.specs.Ordering.{is_eq}
 use Rattle.std.specs.FinMap as map
 use Rattle.std.specs.FinMap.{IsAntisymmetric, nat_cmp-IsAntisymmetric, slice_cmp-IsAntisymmetric, get-insert, get-remove, same_map}
-use Rattle.fs_semantics.specs.FileTree.{Path, Entry, Tree, path_cmp, path_eq, parent, is_dir, is_folder_entry}
+use Rattle.std.specs.Prelude.{◌↔◌, IsTrue}
+use Rattle.std.proofs.lemmas.Bool.{or_cases, or_left, or_right}
+use Rattle.fs_semantics.specs.FileTree.{Path, Entry, Tree, path_cmp, path_eq, is_among, parent, is_dir, is_folder_entry}
+use Rattle.fs_semantics.specs.Disjoint.{IsAncestor}
 
 pub path_total : IsTotalOrder path_cmp
 path_total = lists_total (lists_total nat_cmp_total)
@@ -91,3 +94,28 @@ append_longer (s ∷ p) more h e = append_longer p more h (cc)
 
 pub parent_differs : (s : List ℕ) (p : Path) → parent (s ∷ p) ≢ s ∷ p
 parent_differs s p e = let up = parent_above s p in append_longer (parent (s ∷ p)) up.0 up.1 (e ∙ up.2)
+
+-- ---- in words
+
+pub path_eq_word : (p q : Path) → IsTrue (path_eq p q) ↔ (p ≡ q)
+path_eq_word p q = (path_eq_same p q, (λ e. ap (λ r. path_eq r q) e ∙ path_eq_refl q))
+
+pub among_word : (p q : Path) (ps : List Path) → IsTrue (is_among p (q ∷ ps)) ↔ ((p ≡ q) ⊎ IsTrue (is_among p ps))
+among_word p q ps = (
+  (λ h. elim (or_cases (path_eq p q) (is_among p ps) h) [ inl e ↦ inl (path_eq_same p q e) | inr k ↦ inr k ]),
+  (λ h. elim h [ inl e ↦ or_left _ _ ((path_eq_word p q).1 e) | inr k ↦ or_right _ _ k ]),
+)
+
+pub parent_is_above : (p : Path) → p ≢ [] → IsAncestor (parent p) p
+parent_is_above [] h = absurd (h refl)
+parent_is_above (s ∷ p) h = parent_above s p
+
+pub parent_of_child : (p : Path) (s : List ℕ) → parent (p ++ s ∷ []) ≡ p
+parent_of_child [] s = refl
+parent_of_child (r ∷ []) s = refl
+parent_of_child (r ∷ q ∷ p) s = ap (λ v. r ∷ v) (parent_of_child (q ∷ p) s)
+
+pub parent_and_last : (p : Path) → p ≢ [] → (s : List ℕ) × (p ≡ parent p ++ s ∷ [])
+parent_and_last [] h = absurd (h refl)
+parent_and_last (s ∷ []) h = (s, refl)
+parent_and_last (s ∷ r ∷ p) h = let more = parent_and_last (r ∷ p) (λ e. cc) in (more.0, ap (λ v. s ∷ v) more.1)

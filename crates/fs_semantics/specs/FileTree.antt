@@ -1,5 +1,5 @@
 -- File trees: finite maps from paths to entries.
-use Rattle.std.specs.Prelude.{◌≡◌, ◌≢◌, ℕ, Bool, true, false, not, ◌&&◌, List, [], ◌∷◌, IsTrue, Option, Some, None}
+use Rattle.std.specs.Prelude.{◌≡◌, ◌≢◌, ℕ, ◌<◌, Bool, true, false, not, ◌&&◌, List, [], ◌∷◌, IsTrue, Option, Some, None}
 use Rattle.std.specs.declared.cmp.Ordering.{Ordering}
 use Rattle.std.specs.Ordering.{nat_cmp, is_eq}
 use Rattle.std.specs.Cmp.Lexicographic.{slice_cmp}
@@ -13,8 +13,13 @@ Segment = List ℕ
 abbrev pub Path : Type 0
 Path = List Segment
 
--- nonempty, without a slash or a zero, and neither one dot nor two
+-- each number is a byte
+abbrev pub IsBytes : List ℕ → Type 0
+IsBytes text = AllByRecursion (λ b. b < 256) text
+
+-- nonempty, of bytes, without a slash or a zero, and neither one dot nor two
 pub record IsSegment (s : Segment) : Type 0 where
+  pub bytes : IsBytes s
   pub nonempty : s ≢ []
   pub no_slash : AllByRecursion (λ b. b ≢ 47) s
   pub no_zero : AllByRecursion (λ b. b ≢ 0) s
@@ -34,11 +39,22 @@ path_cmp = slice_cmp (slice_cmp nat_cmp)
 abbrev pub path_eq : Path → Path → Bool
 path_eq p q = is_eq (path_cmp p q)
 
+-- the path stands in the list
+abbrev pub is_among : Path → List Path → Bool
+is_among p ps = list_any (path_eq p) ps
+
 -- a folder, a file with its content, or a symbolic link with its target, which isn't followed
 pub data Entry : Type 0 where
   Folder : Entry
   File : List ℕ → Entry
   Link : List ℕ → Entry
+
+-- the text is the content or the target of the entry
+abbrev pub HasText : Option Entry → List ℕ → Type 0
+HasText None text = ⊥
+HasText (Some Folder) text = ⊥
+HasText (Some (File content)) text = text ≡ content
+HasText (Some (Link target)) text = text ≡ target
 
 -- What stands at which path: a finite map. Two of them are equal where they have the same entries.
 abbrev pub Tree : Type 0
@@ -90,8 +106,10 @@ is_root (s ∷ p) = false
 abbrev pub is_empty_dir : Tree → Path → Bool
 is_empty_dir t p = is_dir t p && not (list_any (λ q. path_eq (parent q) p) (map.keys t))
 
--- A file tree: the root has no entry, each path is made of segments, and the parent of each entry is the root or a folder.
+-- A file tree: the root has no entry, each path is made of segments, the parent of each entry is the root or a folder, and
+-- contents and targets are of bytes.
 pub record IsTree (t : Tree) : Type 0 where
   pub no_root : map.get t [] ≡ None
   pub paths : (p : Path) → IsTrue (map.contains_key t p) → AllByRecursion IsSegment p
   pub parents : (p : Path) → IsTrue (map.contains_key t p) → IsTrue (is_dir t (parent p))
+  pub texts : (p : Path) (text : List ℕ) → HasText (map.get t p) text → IsBytes text

@@ -1,8 +1,13 @@
 -- Orders of resources, and what is said of all of them.
-use Rattle.std.specs.Prelude.{◌≡◌, ◌≢◌, ◌==◌, ℕ, ◌+◌, ◌<◌, List, [], ◌∷◌, length, slice_index_or, IsSome, Some, if◌then◌else◌}
+use Rattle.std.specs.Prelude.{◌≡◌, ◌≢◌, ◌==◌, ℕ, zero, suc, ◌+◌, ◌<◌, Bool, IsTrue, List, [], ◌∷◌, ◌++◌, length, slice_index_or, IsSome, Some, if◌then◌else◌}
 use Rattle.std.specs.List.{AllByRecursion}
 use Rattle.fs_semantics.specs.FileTree.{Tree, IsTree}
 use Rattle.fs_semantics.specs.Programs.{Program, Id, Outcome, and_then, run}
+use Rattle.fs_semantics.specs.Changes.{Commutes}
+
+-- a relation that is told by a test
+abbrev pub Told : (ℕ → ℕ → Bool) → ℕ → ℕ → Type 0
+Told before a b = IsTrue (before a b)
 
 -- no b stands ahead of an a with before a b
 abbrev pub NoneAhead : (ℕ → ℕ → Type 0) → List ℕ → Type 0
@@ -19,6 +24,27 @@ pub record IsLinearExtension (n : ℕ) (before : ℕ → ℕ → Type 0) (order 
   pub below : AllByRecursion (λ k. k < n) order
   pub once : (k : ℕ) → k < n → times k order ≡ 1
   pub kept : NoneAhead before order
+
+-- n numbers from k on
+abbrev pub up_from : ℕ → ℕ → List ℕ
+up_from k zero = []
+up_from k (suc n) = k ∷ up_from (suc k) n
+
+-- a and b differ and neither comes before the other
+pub record IsFree (before : ℕ → ℕ → Type 0) (a b : ℕ) : Type 0 where
+  pub differ : a ≢ b
+  pub not_before : before a b → ⊥
+  pub not_after : before b a → ⊥
+
+-- the second order is the first with two free neighbours exchanged
+pub record IsExchange (before : ℕ → ℕ → Type 0) (order other : List ℕ) : Type 0 where
+  pub front : List ℕ
+  pub left : ℕ
+  pub right : ℕ
+  pub back : List ℕ
+  pub was : order ≡ front ++ left ∷ right ∷ back
+  pub is : other ≡ front ++ right ∷ left ∷ back
+  pub free : IsFree before left right
 
 -- the programs in this order, one after the other
 abbrev pub outcome : List Program → List ℕ → Tree → Outcome
@@ -59,3 +85,14 @@ pub record IsSecondRunCounterexample (programs : List Program) (before : ℕ →
   pub after : Tree
   pub ends : outcome programs order tree ≡ Some after
   pub changes : outcome programs order after ≢ Some after
+
+-- Allowed orders that differ by one exchange of free neighbours end alike.
+abbrev pub NeighboursAgree : List Program → (ℕ → ℕ → Type 0) → Type 0
+NeighboursAgree programs before = (t : Tree) → IsTree t → (o p : List ℕ)
+    → IsLinearExtension (length programs) before o → IsLinearExtension (length programs) before p → IsExchange before o p
+    → outcome programs o t ≡ outcome programs p t
+
+-- Programs of which neither comes before the other commute.
+abbrev pub FreeCommute : List Program → (ℕ → ℕ → Type 0) → Type 0
+FreeCommute programs before = (a b : ℕ) → a < length programs → b < length programs → IsFree before a b
+    → Commutes (slice_index_or programs a Id) (slice_index_or programs b Id)

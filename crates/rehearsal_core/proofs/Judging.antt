@@ -7,7 +7,7 @@ use Rattle.rh_base.specs.declared.fault.Fault.TheVariants.{Refused, Memory}
 use Rattle.rh_base.specs.Refused.{IfRefused, IsRefusal}
 use Rattle.rehearsal_core.specs.declared.form.Block.{Block}
 use Rattle.fs_semantics.specs.FileTree.{Path}
-use Rattle.fs_semantics.specs.Apart.{AreApart}
+use Rattle.fs_semantics.specs.Disjoint.{AreDisjoint}
 use Rattle.fs_semantics.specs.Orders.{IsDeterministic, IsIdempotent, Succeeds}
 use Rattle.fs_semantics.specs.PlainFiles.{PlainFile, ArePlain, puts, Unordered}
 use Rattle.rehearsal_core.specs.Files.{paths_of, ArePathsOf, PathsAre}
@@ -20,12 +20,12 @@ pub record PlainLaws : Type 0 where
   pub idempotent : (files : List PlainFile) → ArePlain files → IsIdempotent (puts files) Unordered
   pub succeeds : (files : List PlainFile) → ArePlain files → Succeeds (puts files) Unordered
 
-pub a_report : (manifest report : List ℕ) (blocks : List Block) (ps : List Path) → IsWithin manifest blocks → ArePathsOf blocks ps → AreApart ps
+pub a_report : (manifest report : List ℕ) (blocks : List Block) (ps : List Path) → IsWithin manifest blocks → ArePathsOf blocks ps → AreDisjoint ps
     → report ≡ report_of (length ps) → PlainLaws → IsReport manifest report
 a_report manifest report blocks ps form paths apart text laws =
     let fs = files_from blocks ps paths in
-    let apart_files : AreApart (paths_of fs.0) = subst AreApart (sym fs.2) apart in
-    let plain : ArePlain fs.0 = record { paths = proper_paths blocks fs.0 fs.1; apart = apart_files } in
+    let apart_files : AreDisjoint (paths_of fs.0) = subst AreDisjoint (sym fs.2) apart in
+    let plain : ArePlain fs.0 = record { paths = proper_paths blocks fs.0 fs.1; disjoint = apart_files } in
     record {
       blocks = blocks;
       form = form;
@@ -46,8 +46,8 @@ broken (Memory m) P Q f h = tt
 pub a_bad_path : (manifest : List ℕ) (r : Refusal) (blocks : List Block) → IsWithin manifest blocks → PathsAre blocks None → IsRefusal 15 0 (codes "path") r → BreaksRule manifest r
 a_bad_path manifest r blocks form none is = inr (inr (inr (inl (is, (blocks, form, (λ files are. none (paths_of files) (paths_from blocks files are)))))))
 
-pub paths_meet : (manifest : List ℕ) (r : Refusal) (blocks : List Block) (ps : List Path) → IsWithin manifest blocks → ArePathsOf blocks ps → (AreApart ps → ⊥)
+pub paths_meet : (manifest : List ℕ) (r : Refusal) (blocks : List Block) (ps : List Path) → IsWithin manifest blocks → ArePathsOf blocks ps → (AreDisjoint ps → ⊥)
     → IsRefusal 15 0 (codes "apart") r → BreaksRule manifest r
 paths_meet manifest r blocks ps form paths close is =
     let fs = files_from blocks ps paths in
-    inr (inr (inr (inr (is, (blocks, form, fs.0, fs.1, (λ apart. close (subst AreApart fs.2 apart)))))))
+    inr (inr (inr (inr (is, (blocks, form, fs.0, fs.1, (λ apart. close (subst AreDisjoint fs.2 apart)))))))

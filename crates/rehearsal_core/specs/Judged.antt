@@ -12,7 +12,7 @@ use Rattle.pp_syntax.specs.Depth.{IsTooDeep}
 use Rattle.pp_syntax.specs.Statements.{IsManifest}
 use Rattle.pp_syntax.specs.Lexing.{IsTextRefusal, IsLexicalRefusal}
 use Rattle.pp_parser.specs.Refusing.{IsParseRefusal}
-use Rattle.fs_semantics.specs.Apart.{AreApart}
+use Rattle.fs_semantics.specs.Disjoint.{AreDisjoint}
 use Rattle.fs_semantics.specs.Orders.{IsDeterministic, IsIdempotent, Succeeds}
 use Rattle.fs_semantics.specs.PlainFiles.{PlainFile, puts, Unordered}
 use Rattle.rehearsal_core.specs.declared.form.Block.{Block}
@@ -51,7 +51,7 @@ pub record IsReport (manifest report : List ℕ) : Type 0 where
   pub form : IsWithin manifest blocks
   pub files : List PlainFile
   pub files_are : AreFilesOf blocks files
-  pub apart : AreApart (paths_of files)
+  pub apart : AreDisjoint (paths_of files)
   pub text : report ≡ report_of (length files)
   pub deterministic : IsDeterministic (puts files) Unordered
   pub idempotent : IsIdempotent (puts files) Unordered
@@ -79,7 +79,7 @@ HasBadPath manifest = (blocks : List Block) × IsWithin manifest blocks × ((fil
 
 -- two paths are equal, or one is above the other
 abbrev pub HasPathsThatMeet : List ℕ → Type 0
-HasPathsThatMeet manifest = (blocks : List Block) × IsWithin manifest blocks × (files : List PlainFile) × AreFilesOf blocks files × (AreApart (paths_of files) → ⊥)
+HasPathsThatMeet manifest = (blocks : List Block) × IsWithin manifest blocks × (files : List PlainFile) × AreFilesOf blocks files × (AreDisjoint (paths_of files) → ⊥)
 
 -- the first rule that the manifest breaks, in the order of the rules
 abbrev pub BreaksRule : List ℕ → Refusal → Type 0

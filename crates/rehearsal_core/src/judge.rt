@@ -6,8 +6,8 @@ ghost use Rattle.rehearsal_core.specs.Files.{MayBeManaged, ManagedPathIs, PathsA
 ghost use Rattle.rehearsal_core.specs.Judged.{report_of, IsParsed, IsWithin, IsReport, IsSourceRefusal, BreaksRule};
 
 use crate::form::{Block, file_blocks};
-use fs_lang::{Path, PathFault, are_apart};
-use fs_semantics::plain_files;
+use fs_lang::{Path, PathFault, are_disjoint};
+use fs_semantics::{linear_extensions, plain_files};
 use pp_parser::parse;
 use pp_syntax::{Manifest, lex};
 use rh_base::limits::RESOURCES;
@@ -95,11 +95,12 @@ pub fn judged(alloc: Global, manifest: &[u8]) -> Result<Text, Fault>
     ensures refused { IfErr result (λ e. IfRefused e (BreaksRule manifest.now)) }
 {
     plain_files();
+    linear_extensions();
     let blocks = blocks_of(alloc, manifest)?;
     let Some(paths) = managed_paths(alloc, blocks.as_slice())? else {
         return Err(Fault::refused(alloc, 15, 0, "path"));
     };
-    if !are_apart(paths.as_slice()) {
+    if !are_disjoint(paths.as_slice()) {
         return Err(Fault::refused(alloc, 15, 0, "apart"));
     }
     Ok(report(alloc, paths.len())?)

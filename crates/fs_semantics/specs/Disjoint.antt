@@ -1,4 +1,4 @@
--- Paths that are neither equal nor one above the other.
+-- Paths of which none is another one or above it.
 use Rattle.std.specs.Prelude.{◌≡◌, ◌≢◌, List, [], ◌∷◌, ◌++◌}
 use Rattle.std.specs.List.{AllByRecursion}
 use Rattle.fs_semantics.specs.FileTree.{Path}
@@ -7,12 +7,13 @@ use Rattle.fs_semantics.specs.FileTree.{Path}
 abbrev pub IsAncestor : Path → Path → Type 0
 IsAncestor p q = (more : Path) × (more ≢ []) × (q ≡ p ++ more)
 
-pub record IsApartFrom (p q : Path) : Type 0 where
+-- what lies at and below p has nothing in common with what lies at and below q
+pub record IsDisjointFrom (p q : Path) : Type 0 where
   pub differ : p ≢ q
   pub not_above : IsAncestor p q → ⊥
   pub not_below : IsAncestor q p → ⊥
 
--- each is apart from those after it
-abbrev pub AreApart : List Path → Type 0
-AreApart [] = Unit {0}
-AreApart (p ∷ ps) = AllByRecursion (IsApartFrom p) ps × AreApart ps
+-- each is disjoint from those after it
+abbrev pub AreDisjoint : List Path → Type 0
+AreDisjoint [] = Unit {0}
+AreDisjoint (p ∷ ps) = AllByRecursion (IsDisjointFrom p) ps × AreDisjoint ps
