@@ -163,9 +163,9 @@ module _ (e : List Lexeme → Found Expr) (E : Expr → List Lexeme → Type 0) 
   index_found : (at : ℕ) (b : Expr) (ts : List Lexeme) (x : Expr × List Lexeme) → index_with e at b ts ≡ Some x → Begins (SuffixOf E b x.0) ts x.1 × (x.0.at ≡ at)
   unfolding index_with
   index_found at b ts x h =
-      let o = bind_some (mark kind.Tight (codes "[") ts) (λ o. enclosed_with e (codes "]") o.1 >>= λ key. Some (record { at = at; form = form.At b key.0 }, key.1)) x h in
-      let k = bind_some (enclosed_with e (codes "]") o.0.1) (λ key. Some (record { at = at; form = form.At b key.0 }, key.1)) x o.2 in
-      let same : ◌≡◌ {A = Expr × List Lexeme} (record { at = at; form = form.At b k.0.0 }, k.0.1) x = cc in
+      let o = bind_some (mark kind.Tight (codes "[") ts) (λ o. enclosed_with e (codes "]") o.1 >>= λ key. Some (record { at = at; form = form.Index b key.0 }, key.1)) x h in
+      let k = bind_some (enclosed_with e (codes "]") o.0.1) (λ key. Some (record { at = at; form = form.Index b key.0 }, key.1)) x o.2 in
+      let same : ◌≡◌ {A = Expr × List Lexeme} (record { at = at; form = form.Index b k.0.0 }, k.0.1) x = cc in
       subst (λ (y : Expr × List Lexeme). Begins (SuffixOf E b y.0) ts y.1 × (y.0.at ≡ at)) same
       (maps (λ us s. grammar.index k.0.0 s refl) (joins (marked kind.Tight (codes "[") ts o.0 o.1) (enclosed_found (codes "]") o.0.1 k.0 k.1)), refl)
 

@@ -26,8 +26,8 @@ pub variable_is : {x y : Expr} → ReadAsVariable x y → as_variable x ≡ y
 variable_is {x} {y} (grammar.base name e g h) = ap (λ (f : Form). record { at = x.at; form = form_as_variable f }) e ∙ made y x.at (form.Var name) h g
 variable_is {x} {y} (grammar.index a b key e g h r) =
     ap (λ (f : Form). record { at = x.at; form = form_as_variable f }) e
-    ∙ ap (λ (f : Form). record { at = x.at; form = f }) (at_as_variable a key ∙ ap (λ (c : Expr). form.At c key) (variable_is r))
-    ∙ made y x.at (form.At b key) h g
+    ∙ ap (λ (f : Form). record { at = x.at; form = f }) (at_as_variable a key ∙ ap (λ (c : Expr). form.Index c key) (variable_is r))
+    ∙ made y x.at (form.Index b key) h g
 
 pub begins_of : (us rest : List Lexeme) → kind_of_first us ≡ Some kind.Word → begins_word (us ++ rest) ≡ true
 begins_of [] rest h = cc
@@ -144,8 +144,8 @@ module _ (dq_read : (raw v : List ℕ) → DqOf v raw → dq raw ≡ Some v) (e 
       let w : us ++ rest ≡ record { kind = kind.Tight; text = codes "["; at = s.first.0 } ∷ (s.back ++ rest) = ap (λ u. u ++ rest) (s.whole ∙ ap (λ u. u ++ s.back) s.first.1) in (
         ap begins_suffix w,
         ap (suffix_with e at x) w
-            ∙ ap (λ r. r >>= λ key. Some (record { at = at; form = form.At x key.0 }, key.1)) (enclosed_read (codes "]") bracket_closes key s.back rest s.second (fits_second s.front s.back s.whole f))
-            ∙ ap (λ y. Some (y, rest)) (made z at (form.At x key) place is),
+            ∙ ap (λ r. r >>= λ key. Some (record { at = at; form = form.Index x key.0 }, key.1)) (enclosed_read (codes "]") bracket_closes key s.back rest s.second (fits_second s.front s.back s.whole f))
+            ∙ ap (λ y. Some (y, rest)) (made z at (form.Index x key) place is),
         omega (arith, ap length s.whole, length-append s.front s.back, ap length s.first.1),
       )
   suffix_read at x z us rest (grammar.selection choices s is) place f =

@@ -101,11 +101,11 @@ member_goes_on e front part n i ts more m h c s =
     ∙ member_more front part m (members e (n - (i + 1)) more)
 
 pub index_step : (e : List Lexeme → Found Expr) (at : ℕ) (x : Expr) (ts : List Lexeme) (o : ℕ × List Lexeme) (k : Expr × List Lexeme) → mark kind.Tight (codes "[") ts ≡ Some o → enclosed_with e (codes "]") o.1 ≡ Some k
-    → index_with e at x ts ≡ Some (record { at = at; form = form.At x k.0 }, k.1)
+    → index_with e at x ts ≡ Some (record { at = at; form = form.Index x k.0 }, k.1)
 unfolding index_with
 index_step e at x ts o k p q =
-    ap (λ r. r >>= λ o. enclosed_with e (codes "]") o.1 >>= λ key. Some (record { at = at; form = form.At x key.0 }, key.1)) p
-    ∙ ap (λ r. r >>= λ key. Some (record { at = at; form = form.At x key.0 }, key.1)) q
+    ap (λ r. r >>= λ o. enclosed_with e (codes "]") o.1 >>= λ key. Some (record { at = at; form = form.Index x key.0 }, key.1)) p
+    ∙ ap (λ r. r >>= λ key. Some (record { at = at; form = form.Index x key.0 }, key.1)) q
 
 pub member_hole : (e : List Lexeme → Found Expr) (ts : List Lexeme) (t : Lexeme × List Lexeme) (x : Expr × List Lexeme) → front_of ts ≡ Some t → t.0.kind ≡ kind.Hole → part_with e ts ≡ Some x → member_with e ts ≡ Some ((x.0, true), x.1)
 member_hole e ts t x p q s = ap (λ r. member_of e r ts) p ∙ ap (λ k. member_by e k t.0 t.1 ts) q ∙ ap (λ r. r >>= λ x. Some ((x.0, true), x.1)) s

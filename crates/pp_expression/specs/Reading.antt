@@ -6,7 +6,7 @@ use Rattle.pp_syntax.specs.declared.token.Kind.TheVariants as kind
 use Rattle.pp_syntax.specs.declared.tree.Expr.{Expr}
 use Rattle.pp_syntax.specs.declared.tree.Form.{Form}
 use Rattle.pp_syntax.specs.declared.tree.Form.TheVariants as form
-use Rattle.pp_syntax.specs.declared.tree.Form.TheBlock.{At', more_of-Expr}
+use Rattle.pp_syntax.specs.declared.tree.Form.TheBlock.{Index', more_of-Expr}
 use Rattle.pp_syntax.specs.declared.tree.Op.{Op}
 use Rattle.pp_syntax.specs.Tokens.{Lexeme}
 use Rattle.pp_expression.specs.declared.misread.Misread.{Misread}
@@ -107,7 +107,7 @@ maybe_items close item n ts = items_or_end (mark kind.Sign close ts) (items clos
 -- where a WORD with nothing but indexes behind it stands, the same with a variable in its place
 abbrev pub form_as_variable : Form → Form
 form_as_variable (form.Str name) = form.Var name
-form_as_variable (At' shape (more_of-Expr at base none) shape' key) = At' shape (more_of-Expr at (form_as_variable base) none) shape' key
+form_as_variable (Index' shape (more_of-Expr at base none) shape' key) = Index' shape (more_of-Expr at (form_as_variable base) none) shape' key
 form_as_variable f = f
 
 abbrev pub as_variable : Expr → Expr
@@ -293,7 +293,7 @@ unfoldable pub index_with : (List Lexeme → Found Expr) → ℕ → Expr → Li
 index_with e at x ts = do
   o ← mark kind.Tight (codes "[") ts
   key ← enclosed_with e (codes "]") o.1
-  Some (record { at = at; form = form.At x key.0 }, key.1)
+  Some (record { at = at; form = form.Index x key.0 }, key.1)
 
 unfoldable pub choices_with : (List Lexeme → Found Expr) → List Lexeme → Found (List (Option Expr × Expr))
 choices_with e ts = do

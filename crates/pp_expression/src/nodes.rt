@@ -39,11 +39,11 @@ pub fn prefixed(alloc: Global, at: u32, ops: Seq<Op>, operand: Expr) -> Result<E
 
 /// An index into an operand.
 pub fn indexed(alloc: Global, at: u32, base: Expr, key: Expr) -> Result<Expr, NoMemory>
-    ensures { IfOk result (λ e. e ≡ record { at = at; form = form.At base key }) }
+    ensures { IfOk result (λ e. e ≡ record { at = at; form = form.Index base key }) }
 {
     let base = Boxed::new(alloc, base)?;
     let key = Boxed::new(alloc, key)?;
-    let form = Form::At(base, key);
+    let form = Form::Index(base, key);
     Ok(Expr { at, form })
 }
 
@@ -120,12 +120,12 @@ pub fn as_variable(alloc: Global, e: Expr) -> Result<Expr, NoMemory>
             at,
             form: Form::Var(name),
         }),
-        Form::At(base, key) => {
+        Form::Index(base, key) => {
             let base = as_variable(alloc, base.into_inner())?;
             let base = Boxed::new(alloc, base)?;
             Ok(Expr {
                 at,
-                form: Form::At(base, key),
+                form: Form::Index(base, key),
             })
         }
         form => Ok(Expr { at, form }),

@@ -39,13 +39,13 @@ abbrev pub maybe_type : Reader TypeName → Reader (Option TypeName)
 maybe_type t = optional begins_type t
 
 abbrev pub param_of : Option TypeName × (List ℕ × Option Expr) → Param
-param_of p = record { kind = p.0; name = p.1.0; preset = p.1.1 }
+param_of p = record { kind = p.0; name = p.1.0; default = p.1.1 }
 
-abbrev pub preset_with : Reader Expr → Reader (Option Expr)
-preset_with e = optional (begins kind.Sign (codes "=")) (behind kind.Sign (codes "=") e)
+abbrev pub default_with : Reader Expr → Reader (Option Expr)
+default_with e = optional (begins kind.Sign (codes "=")) (behind kind.Sign (codes "=") e)
 
 abbrev pub param_with : Reader Expr → Reader TypeName → Reader Param
-param_with e t = shaped param_of (both (maybe_type t) (both (taken variable_by) (preset_with e)))
+param_with e t = shaped param_of (both (maybe_type t) (both (taken variable_by) (default_with e)))
 
 abbrev pub params_in : Reader Expr → Reader TypeName → Reader (List Param)
 params_in e t ts = maybe_items (codes ")") (param_with e t) (length ts + 1) ts

@@ -5,7 +5,7 @@ ghost use Rattle.pp_expression.specs.Reading.{Gives, items, maybe_items, expr_at
 ghost use Rattle.pp_statement.specs.Combining.{listed, many};
 ghost use Rattle.pp_statement.specs.Reading.{stmt_at};
 ghost use Rattle.pp_parser.specs.TypeReading.{shaped, type_at};
-ghost use Rattle.pp_parser.specs.ItemReading.{maybe_type, preset_with, param_with, params_in, params_with, parent_with, class_with, define_with, text_of, text_name, default_name, word_name, node_name_with, unopened, node_names_with, node_with, defaults_with, plain_with, keyed_with, class_or_plain, defaults_or_plain, item_with, has_token, items_with, items_at};
+ghost use Rattle.pp_parser.specs.ItemReading.{maybe_type, default_with, param_with, params_in, params_with, parent_with, class_with, define_with, text_of, text_name, default_name, word_name, node_name_with, unopened, node_names_with, node_with, defaults_with, plain_with, keyed_with, class_or_plain, defaults_or_plain, item_with, has_token, items_with, items_at};
 
 use crate::types::type_at;
 use crate::words::{begins_type, has_token, unopened, word};
@@ -35,13 +35,13 @@ fn kind_of(
     }
 }
 
-fn preset(
+fn default(
     alloc: Global,
     depth: usize,
     tokens: &[Token<'_>],
     from: usize,
 ) -> Result<(Option<Expr>, usize), Misread>
-    ensures { Gives (λ x. (x.0, drop x.1 (told tokens.now))) result (preset_with (expr_at depth) (drop from (told tokens.now))) }
+    ensures { Gives (λ x. (x.0, drop x.1 (told tokens.now))) result (default_with (expr_at depth) (drop from (told tokens.now))) }
 {
     let Some((_, behind)) = mark(Kind::Sign, "=", tokens, from) else {
         return Ok((None, from));
@@ -60,8 +60,8 @@ fn param(
 {
     let (kind, rest) = kind_of(alloc, depth, tokens, from)?;
     let (name, rest) = variable(alloc, tokens, rest)?;
-    let (preset, rest) = preset(alloc, depth, tokens, rest)?;
-    Ok((Param { kind, name, preset }, rest))
+    let (default, rest) = default(alloc, depth, tokens, rest)?;
+    Ok((Param { kind, name, default }, rest))
 }
 
 fn some_params(

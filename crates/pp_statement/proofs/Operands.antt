@@ -26,7 +26,7 @@ use Rattle.pp_expression.proofs.Finding.{Finds, items_found}
 use Rattle.pp_expression.proofs.Found.{first_is}
 use Rattle.pp_statement.specs.Combining.{Reader, both, behind, before, in_braces, begins, many}
 use Rattle.pp_statement.specs.Marks.{taken, variable_by, ref_by, function_by, type_by, arrow_by, begins_arrow, begins_bracket}
-use Rattle.pp_statement.specs.Reading.{bodies_with, sought_with, resource_of, declared_with, resource_with, hidden_with, class_of, class_with, collector_of, collector_with, named_one, reference_operand, named_all, references_in, references_with, collects, collected_with, operand_by, operand_with, link_with, sides_of, arrows_of, with_links, sides_with, is_named, chain_of, chain_with, assign_of, assign_with, more_args, bare_with, args_or, args_with, call_of, call_with}
+use Rattle.pp_statement.specs.Reading.{bodies_with, sought_with, resource_of, declared_with, resource_with, virtual_with, class_of, class_with, collector_of, collector_with, named_one, reference_operand, named_all, references_in, references_with, collects, collected_with, operand_by, operand_with, link_with, sides_of, arrows_of, with_links, sides_with, is_named, chain_of, chain_with, assign_of, assign_with, more_args, bare_with, args_or, args_with, call_of, call_with}
 use Rattle.pp_statement.proofs.Combining.{Spells, both_found, behind_found, before_found, in_braces_found, made_found, placed_found, first_token, some_token, many_found}
 use Rattle.pp_statement.proofs.Names.{TypeName, variable_found, ref_found, function_found, type_found, arrow_found}
 use Rattle.pp_statement.proofs.Found.{front_nil, then_some, front_some, each_next, bodies_found, sought_found}
@@ -54,16 +54,16 @@ module _ (e : Reader Expr) (E : Spells Expr) (finds : Finds e E) (refs : Finds (
   resource_found : Finds (resource_with e) (OperandOf E)
   resource_found = placed_found (resource_of false) (declared_with e) Declared (OperandOf E) declared_found (λ p. then_some (TypeName p.0) (InBraces (BodiesOf E p.1)) (λ t. some_of kind.Word p.0 t.0)) is_resource
 
-  is_hidden : (p : List ℕ × List Body) (us : List Lexeme) → (Sign (codes "@") then Declared p) us → OperandOf E (resource_of true (place_of us) p) us
-  is_hidden p us h =
+  is_virtual : (p : List ℕ × List Body) (us : List Lexeme) → (Sign (codes "@") then Declared p) us → OperandOf E (resource_of true (place_of us) p) us
+  is_virtual p us h =
       let s = h.second in
       let words : (phrases.Some kind.Word p.0 then InBraces (BodiesOf E p.1)) h.back = record { front = s.front; back = s.back; first = s.first.0; second = s.second; whole = s.whole } in
       grammar.resource (place_of us) true p.0 p.1 refl refl s.first.1 (record { front = h.front; back = h.back; first = h.first; second = words; whole = h.whole })
 
-  hidden_found : Finds (hidden_with e) (OperandOf E)
-  hidden_found =
+  virtual_found : Finds (virtual_with e) (OperandOf E)
+  virtual_found =
       placed_found (resource_of true) (behind kind.Sign (codes "@") (declared_with e)) (λ p. Sign (codes "@") then Declared p) (OperandOf E) (behind_found (declared_with e) Declared declared_found kind.Sign (codes "@"))
-      (λ p. some_token kind.Sign (codes "@") (Declared p)) is_hidden
+      (λ p. some_token kind.Sign (codes "@") (Declared p)) is_virtual
 
   class_found : Finds (class_with e) (OperandOf E)
   class_found =
@@ -101,7 +101,7 @@ module _ (e : Reader Expr) (E : Spells Expr) (finds : Finds e E) (refs : Finds (
 
   operand_kind : (k : Kind) (ts : List Lexeme) (x : Operand × List Lexeme) → operand_by e k ts ≡ Some x → Begins (OperandOf E x.0) ts x.1
   operand_kind kind.Word ts x h = resource_found ts x h
-  operand_kind kind.Sign ts x h = hidden_found ts x h
+  operand_kind kind.Sign ts x h = virtual_found ts x h
   operand_kind kind.Keyword ts x h = class_found ts x h
   operand_kind kind.Ref ts x h = collected_found ts x h
   operand_kind kind.Loose ts x h = references_found ts x h
@@ -162,12 +162,12 @@ module _ (e : Reader Expr) (E : Spells Expr) (finds : Finds e E) (refs : Finds (
       subst (λ (y : (List Operand × List Arrow) × List Lexeme). Begins (Sides y.0) ts y.1) l.2 (joins (operand_found ts a.0 a.1) (links_found (length a.0.1 + 1) a.0.1 l.0 l.1))
 
   alone : (y : Operand) → is_named y ≡ false → StandsAlone y []
-  alone (operand.Declare at hidden name bodies) h = tt
+  alone (operand.Declare at virtual name bodies) h = tt
   alone (operand.Collect at name sought) h = tt
   alone (operand.Named xs) h = cc
 
   in_company : (y z : Operand) (ys : List Operand) → StandsAlone y (z ∷ ys)
-  in_company (operand.Declare at hidden name bodies) z ys = tt
+  in_company (operand.Declare at virtual name bodies) z ys = tt
   in_company (operand.Collect at name sought) z ys = tt
   in_company (operand.Named xs) z ys = tt
 

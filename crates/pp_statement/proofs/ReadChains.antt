@@ -28,7 +28,7 @@ use Rattle.pp_expression.proofs.Listing.{Closes, bracket_closes, items_read}
 use Rattle.pp_expression.proofs.Tokens.{mark_found}
 use Rattle.pp_statement.specs.Combining.{Reader, both, behind, before, in_braces, begins, is_found, many}
 use Rattle.pp_statement.specs.Marks.{taken, variable_by, ref_by, function_of, function_by, unless_function, type_by, arrow_by, begins_arrow, begins_bracket}
-use Rattle.pp_statement.specs.Reading.{bodies_with, sought_with, resource_of, declared_with, resource_with, hidden_with, class_of, class_with, collector_of, collector_with, named_one, reference_operand, named_all, references_in, references_with, operand_with, link_with, sides_of, arrows_of, with_links, sides_with, chain_of, chain_with, assign_of, assign_with, more_args, bare_with, args_or, args_with, call_of, call_with}
+use Rattle.pp_statement.specs.Reading.{bodies_with, sought_with, resource_of, declared_with, resource_with, virtual_with, class_of, class_with, collector_of, collector_with, named_one, reference_operand, named_all, references_in, references_with, operand_with, link_with, sides_of, arrows_of, with_links, sides_with, chain_of, chain_with, assign_of, assign_with, more_args, bare_with, args_or, args_with, call_of, call_with}
 use Rattle.pp_statement.proofs.Combining.{Spells}
 use Rattle.pp_statement.proofs.Names.{TypeName, function_none}
 use Rattle.pp_statement.proofs.Found.{then_some}
@@ -112,12 +112,12 @@ module _ (e : Reader Expr) (E : Spells Expr) (reads : ReadsBefore Quiet e E) (be
       ∙ placed_read (resource_of false) (declared_with e) (λ p. TypeName p.0 then Braced p.1) Always declared_read (name, bs) (operand.Declare at false name bs) us rest (typed name bs us n h) f tt (token_solid kind.Word name (Braced bs) us h)
       (ap (λ (a : ℕ). operand.Declare a false name bs) (sym p))
 
-  hidden_read : (at : ℕ) (name : List ℕ) (bs : List Body) (us rest : List Lexeme) → at ≡ place_of us → is_among functions name ≡ false → (Sign (codes "@") then (phrases.Some kind.Word name then Braced bs)) us → Fit us
+  virtual_read : (at : ℕ) (name : List ℕ) (bs : List Body) (us rest : List Lexeme) → at ≡ place_of us → is_among functions name ≡ false → (Sign (codes "@") then (phrases.Some kind.Word name then Braced bs)) us → Fit us
       → operand_with e (us ++ rest) ≡ Some (operand.Declare at true name bs, rest)
-  hidden_read at name bs us rest p n h f =
+  virtual_read at name bs us rest p n h f =
       let w = first_of kind.Sign (codes "@") (phrases.Some kind.Word name then Braced bs) us rest h in
       let t : (Sign (codes "@") then (TypeName name then Braced bs)) us = record { front = h.front; back = h.back; first = h.first; second = typed name bs h.back n h.second; whole = h.whole } in
-      ap (operand_with e) w ∙ ap (hidden_with e) (sym w)
+      ap (operand_with e) w ∙ ap (virtual_with e) (sym w)
       ∙ placed_read (resource_of true) (behind kind.Sign (codes "@") (declared_with e)) (λ p. Sign (codes "@") then (TypeName p.0 then Braced p.1)) Always
       (behind_read (declared_with e) (λ p. TypeName p.0 then Braced p.1) Always declared_read kind.Sign (codes "@")) (name, bs) (operand.Declare at true name bs) us rest t f tt (token_solid kind.Sign (codes "@") (TypeName name then Braced bs) us t)
       (ap (λ (a : ℕ). operand.Declare a true name bs) (sym p))
@@ -181,7 +181,7 @@ module _ (e : Reader Expr) (E : Spells Expr) (reads : ReadsBefore Quiet e E) (be
   operand_read y us rest (grammar.resource at false name bs is p n s) f q =
       let h : (phrases.Some kind.Word name then Braced bs) us = subst (λ us. (phrases.Some kind.Word name then Braced bs) us) (sym (s.whole ∙ ap (λ r. r ++ s.back) s.first)) s.second in
       plain_read at name bs us rest p n h f ∙ ap (λ z. Some (z, rest)) (sym is)
-  operand_read y us rest (grammar.resource at true name bs is p n s) f q = hidden_read at name bs us rest p n s f ∙ ap (λ z. Some (z, rest)) (sym is)
+  operand_read y us rest (grammar.resource at true name bs is p n s) f q = virtual_read at name bs us rest p n s f ∙ ap (λ z. Some (z, rest)) (sym is)
   operand_read y us rest (grammar.OperandOf.class at bs is s) f q = class_read at bs us rest s f ∙ ap (λ z. Some (z, rest)) (sym is)
   operand_read y us rest (grammar.collector at name sought is s) f q = collector_read at name sought us rest s f ∙ ap (λ z. Some (z, rest)) (sym is)
   operand_read y us rest (grammar.OperandOf.reference x is r) f q = one_reference x us rest r f ∙ ap (λ z. Some (z, rest)) (sym is)
@@ -240,7 +240,7 @@ module _ (e : Reader Expr) (E : Spells Expr) (reads : ReadsBefore Quiet e E) (be
       }
 
   stands : (at : ℕ) (y : Operand) (ys : List Operand) (arrows : List Arrow) → StandsAlone y ys → chain_of at (y ∷ ys, arrows) ≡ Some (stmt.Chain at (y ∷ ys) arrows)
-  stands at (operand.Declare a hidden name bodies) [] arrows s = refl
+  stands at (operand.Declare a virtual name bodies) [] arrows s = refl
   stands at (operand.Collect a name sought) [] arrows s = refl
   stands at (operand.Named xs) [] arrows s = absurd s
   stands at y (z ∷ ys) arrows s = refl

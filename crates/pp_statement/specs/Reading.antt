@@ -116,7 +116,7 @@ sought_with p ts = if begins kind.Sign (codes "|>") ts then Some (None, ts) else
 -- ---- operands of a chain
 
 abbrev pub resource_of : Bool → ℕ → List ℕ × List Body → Operand
-resource_of hidden at p = operand.Declare at hidden p.0 p.1
+resource_of virtual at p = operand.Declare at virtual p.0 p.1
 
 abbrev pub declared_with : Reader Expr → Reader (List ℕ × List Body)
 declared_with e = both (taken type_by) (in_braces (bodies_with e))
@@ -124,8 +124,8 @@ declared_with e = both (taken type_by) (in_braces (bodies_with e))
 abbrev pub resource_with : Reader Expr → Reader Operand
 resource_with e = made (resource_of false) (declared_with e)
 
-abbrev pub hidden_with : Reader Expr → Reader Operand
-hidden_with e = made (resource_of true) (behind kind.Sign (codes "@") (declared_with e))
+abbrev pub virtual_with : Reader Expr → Reader Operand
+virtual_with e = made (resource_of true) (behind kind.Sign (codes "@") (declared_with e))
 
 abbrev pub class_of : ℕ → List Body → Operand
 class_of at bodies = operand.Declare at false (codes "class") bodies
@@ -164,7 +164,7 @@ collected_with e ts = if collects (front_of ts) then collector_with e ts else re
 
 abbrev pub operand_by : Reader Expr → Kind → Reader Operand
 operand_by e kind.Word ts = resource_with e ts
-operand_by e kind.Sign ts = hidden_with e ts
+operand_by e kind.Sign ts = virtual_with e ts
 operand_by e kind.Keyword ts = class_with e ts
 operand_by e kind.Ref ts = collected_with e ts
 operand_by e kind.Loose ts = references_with e ts
@@ -199,7 +199,7 @@ abbrev pub sides_with : Reader Expr → Reader (List Operand × List Arrow)
 sides_with e ts = operand_with e ts >>= λ y. with_links (y.0 ∷ []) [] (many begins_arrow (link_with e) (length y.1 + 1) y.1)
 
 abbrev pub is_named : Operand → Bool
-is_named (operand.Declare at hidden name bodies) = false
+is_named (operand.Declare at virtual name bodies) = false
 is_named (operand.Collect at name sought) = false
 is_named (operand.Named xs) = true
 

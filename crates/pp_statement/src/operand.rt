@@ -3,7 +3,7 @@ ghost use Rattle.pp_syntax.specs.Lexing.{told};
 ghost use Rattle.pp_syntax.specs.declared.token.Kind.TheVariants as kind;
 ghost use Rattle.pp_expression.specs.Reading.{Gives, expr_at, reference_with, postfix_with, items};
 ghost use Rattle.pp_statement.specs.Combining.{behind, before};
-ghost use Rattle.pp_statement.specs.Reading.{declared_with, resource_with, hidden_with, class_with, sought_with, collector_with, reference_operand, references_in, references_with, collected_with, operand_with};
+ghost use Rattle.pp_statement.specs.Reading.{declared_with, resource_with, virtual_with, class_with, sought_with, collector_with, reference_operand, references_in, references_with, collected_with, operand_with};
 
 use crate::expressions::reference;
 use crate::marks::{begins, ref_name, type_name};
@@ -38,11 +38,11 @@ fn resource(
 {
     let ((kind, bodies), rest) = declared(alloc, limit, tokens, from)?;
     let at = first_at(tokens, from);
-    let hidden = false;
+    let is_virtual = false;
     Ok((
         Operand::Declare {
             at,
-            hidden,
+            is_virtual,
             kind,
             bodies,
         },
@@ -51,22 +51,22 @@ fn resource(
 }
 
 /// A resource behind `@`.
-fn hidden(
+fn virtual_resource(
     alloc: Global,
     limit: usize,
     tokens: &[Token<'_>],
     from: usize,
 ) -> Result<(Operand, usize), Misread>
-    ensures { Gives (λ x. (x.0, drop x.1 (told tokens.now))) result (hidden_with (expr_at limit) (drop from (told tokens.now))) }
+    ensures { Gives (λ x. (x.0, drop x.1 (told tokens.now))) result (virtual_with (expr_at limit) (drop from (told tokens.now))) }
 {
     let (_, rest) = expect(Kind::Sign, "@", tokens, from)?;
     let ((kind, bodies), rest) = declared(alloc, limit, tokens, rest)?;
     let at = first_at(tokens, from);
-    let hidden = true;
+    let is_virtual = true;
     Ok((
         Operand::Declare {
             at,
-            hidden,
+            is_virtual,
             kind,
             bodies,
         },
@@ -86,11 +86,11 @@ fn class(
     let (bodies, rest) = braced_bodies(alloc, limit, tokens, rest)?;
     let kind = text_of(alloc, "class")?;
     let at = first_at(tokens, from);
-    let hidden = false;
+    let is_virtual = false;
     Ok((
         Operand::Declare {
             at,
-            hidden,
+            is_virtual,
             kind,
             bodies,
         },
@@ -210,7 +210,7 @@ pub fn operand(
     match front_of(tokens, from) {
         Some((token, _)) => match token.kind {
             Kind::Word => resource(alloc, limit, tokens, from),
-            Kind::Sign => hidden(alloc, limit, tokens, from),
+            Kind::Sign => virtual_resource(alloc, limit, tokens, from),
             Kind::Keyword => class(alloc, limit, tokens, from),
             Kind::Ref => collected(alloc, limit, tokens, from),
             Kind::Loose => references(alloc, limit, tokens, from),

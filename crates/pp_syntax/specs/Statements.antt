@@ -107,14 +107,14 @@ MaybeSearch E (prelude.Some y) = IsSearch E y
 
 -- ---- chains of resources, collectors and references
 
--- `@` before a hidden resource
-abbrev pub Hidden : Bool → List Lexeme → Type 0
-Hidden true = Sign (codes "@")
-Hidden false = Nothing
+-- `@` before a virtual resource
+abbrev pub Virtual : Bool → List Lexeme → Type 0
+Virtual true = Sign (codes "@")
+Virtual false = Nothing
 
 pub data OperandOf (E : Expr → List Lexeme → Type 0) (y : Operand) (tokens : List Lexeme) : Type 0 where
-  resource : (at : ℕ) (hidden : Bool) (name : List ℕ) (bodies : List Body) → y ≡ operand.Declare at hidden name bodies → at ≡ place_of tokens → is_among functions name ≡ false
-      → (Hidden hidden then Some kind.Word name then InBraces (BodiesOf E bodies)) tokens → OperandOf E y tokens
+  resource : (at : ℕ) (virtual : Bool) (name : List ℕ) (bodies : List Body) → y ≡ operand.Declare at virtual name bodies → at ≡ place_of tokens → is_among functions name ≡ false
+      → (Virtual virtual then Some kind.Word name then InBraces (BodiesOf E bodies)) tokens → OperandOf E y tokens
   class : (at : ℕ) (bodies : List Body) → y ≡ operand.Declare at false (codes "class") bodies → (Token kind.Keyword (codes "class") at then InBraces (BodiesOf E bodies)) tokens → OperandOf E y tokens
   collector : (at : ℕ) (name : List ℕ) (sought : Option Search) → y ≡ operand.Collect at name sought → (Token kind.Ref name at then Sign (codes "<|") then MaybeSearch E sought then Sign (codes "|>")) tokens → OperandOf E y tokens
   reference : (x : Expr) → y ≡ operand.Named (x ∷ []) → ReferenceOf E x tokens → OperandOf E y tokens
@@ -135,7 +135,7 @@ Links E (a ∷ arrows) (y ∷ ys) = ArrowOf a then OperandOf E y then Links E ar
 
 -- A chain of one operand is a resource or a collector.
 abbrev pub StandsAlone : Operand → List Operand → Type 0
-StandsAlone (operand.Declare at hidden name bodies) others = Unit {0}
+StandsAlone (operand.Declare at virtual name bodies) others = Unit {0}
 StandsAlone (operand.Collect at name sought) others = Unit {0}
 StandsAlone (operand.Named xs) [] = ⊥
 StandsAlone (operand.Named xs) (y ∷ others) = Unit {0}
@@ -233,12 +233,12 @@ abbrev pub MaybeType : Option TypeName → List Lexeme → Type 0
 MaybeType prelude.None = Nothing
 MaybeType (prelude.Some y) = IsType y
 
-abbrev pub PresetOf : (Expr → List Lexeme → Type 0) → Option Expr → List Lexeme → Type 0
-PresetOf E prelude.None = Nothing
-PresetOf E (prelude.Some x) = Sign (codes "=") then E x
+abbrev pub DefaultOf : (Expr → List Lexeme → Type 0) → Option Expr → List Lexeme → Type 0
+DefaultOf E prelude.None = Nothing
+DefaultOf E (prelude.Some x) = Sign (codes "=") then E x
 
 abbrev pub ParamOf : (Expr → List Lexeme → Type 0) → Param → List Lexeme → Type 0
-ParamOf E p = MaybeType p.kind then VariableOf p.name then PresetOf E p.preset
+ParamOf E p = MaybeType p.kind then VariableOf p.name then DefaultOf E p.default
 
 -- No parameters may be left out with their brackets.
 abbrev pub ParamsOf : (Expr → List Lexeme → Type 0) → List Param → List Lexeme → Type 0

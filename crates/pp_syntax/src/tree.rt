@@ -42,7 +42,7 @@ pub enum Item {
 pub struct Param {
     pub kind: Option<TypeName>,
     pub name: Text,
-    pub preset: Option<Expr>,
+    pub default: Option<Expr>,
 }
 
 #[derive(Drop)]
@@ -103,10 +103,10 @@ pub enum Stmt {
 
 #[derive(Drop)]
 pub enum Operand {
-    /// A resource, or with the kind `class` a class; hidden with `@`.
+    /// A resource, or with the kind `class` a class; virtual with `@`.
     Declare {
         at: u32,
-        hidden: bool,
+        is_virtual: bool,
         kind: Text,
         bodies: Seq<Body>,
     },
@@ -178,7 +178,7 @@ pub enum Form {
     Join(Seq<Expr>),
     Chain(Boxed<Expr>, Seq<(Op, Expr)>),
     Prefix(Seq<Op>, Boxed<Expr>),
-    At(Boxed<Expr>, Boxed<Expr>),
+    Index(Boxed<Expr>, Boxed<Expr>),
     /// The option `None` is `default`.
     Select(Boxed<Expr>, Seq<(Option<Expr>, Expr)>),
 }
