@@ -23,6 +23,3 @@ pub use misread::Misread;
 pub use nodes::{as_variable, chain_of, indexed, joined, prefixed, referred, selected};
 pub use parse::{parse_expression, parse_postfix, parse_reference, parse_string};
 pub use values::{atom, name_of, number, sq, text_of};
-
-#[cfg(test)]
-mod tests;

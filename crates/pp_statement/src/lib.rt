@@ -17,6 +17,3 @@ pub use laws::{
 };
 pub use marks::{begins, ref_name, variable};
 pub use parse::{parse_attributes, parse_block, parse_statement};
-
-#[cfg(test)]
-mod tests;

@@ -111,6 +111,3 @@ pub fn set_apart_tokens_stand()
     ensures hole { (p : Opened) (rest : List ℕ) → in_quotes p.opened ≡ true → TokenAt p kind.Hole (codes "${") rest }
     ensures close { (p : Opened) (rest : List ℕ) → in_quotes p.opened ≡ true → TokenAt p kind.DqClose (codes "\"") rest }
 {}
-
-#[cfg(test)]
-mod tests;

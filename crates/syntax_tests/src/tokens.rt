@@ -1,32 +1,6 @@
-use crate::lex;
-use rh_base::Fault;
-use std::alloc::Global;
+//! Rows of tokens, and of texts that spell none.
+use crate::answers::tokens_of;
 use std::test::Fail;
-
-/// The tokens with their kinds and places, or the refusal.
-fn shown(alloc: Global, text: &[u8]) -> Result<String, Fail> {
-    if text.len() > 1000 {
-        return Err(Fail::from("a long text"));
-    }
-    let tokens = match lex(alloc, text) {
-        Ok(tokens) => tokens,
-        Err(Fault::Refused(refusal)) => {
-            return Ok(format!(in alloc;
-                "refused {} at {}: {}",
-                refusal.number,
-                refusal.at,
-                refusal.name.as_str()
-            )?);
-        }
-        Err(Fault::Memory(_)) => return Err(Fail::from("memory")),
-    };
-    let mut line = String::new(alloc);
-    for token in &tokens {
-        let piece = format!(in alloc; "{}:{:?}({}) ", token.at, token.kind, token.text)?;
-        line.push_str(piece.as_str())?;
-    }
-    Ok(line)
-}
 
 #[test]
 fn tokens_of_each_kind(rt: HostRuntime) -> Result<(), Fail> {
@@ -74,7 +48,7 @@ fn tokens_of_each_kind(rt: HostRuntime) -> Result<(), Fail> {
     ];
     for (text, want) in rows {
         assert_eq!(rt;
-            shown(rt.alloc(), text.as_bytes())?.as_str(),
+            tokens_of(rt.alloc(), text.as_bytes())?.as_str(),
             want,
             "{text}"
         );
@@ -85,28 +59,28 @@ fn tokens_of_each_kind(rt: HostRuntime) -> Result<(), Fail> {
 #[test]
 fn texts_that_spell_no_tokens(rt: HostRuntime) -> Result<(), Fail> {
     let rows: [(&str, &str); 18] = [
-        ("$x = 09", "refused 11 at 5: lexical"),
-        ("$x = 0x", "refused 11 at 5: lexical"),
-        ("12ab", "refused 11 at 0: lexical"),
-        ("1.5_", "refused 11 at 0: lexical"),
-        ("a 9223372036854775808", "refused 11 at 2: lexical"),
-        ("$ x", "refused 11 at 0: lexical"),
-        ("a ~ b", "refused 11 at 2: lexical"),
-        ("a \u{e9}", "refused 11 at 2: lexical"),
-        ("a 'b", "refused 11 at 2: lexical"),
-        ("a 'b\\'", "refused 11 at 2: lexical"),
-        ("a /* b *", "refused 11 at 2: lexical"),
-        ("a \"b", "refused 11 at 2: lexical"),
-        ("a \"b\\", "refused 11 at 2: lexical"),
-        ("\"a ${ b", "refused 11 at 3: lexical"),
-        ("\"a ${ \"b\" 'c", "refused 11 at 10: lexical"),
-        ("\"ab\\u12\"", "refused 11 at 3: lexical"),
-        ("\"\\ud800\"", "refused 11 at 1: lexical"),
-        ("\"\\u{110000}\"", "refused 11 at 1: lexical"),
+        ("$x = 09", "11 at 5: lexical"),
+        ("$x = 0x", "11 at 5: lexical"),
+        ("12ab", "11 at 0: lexical"),
+        ("1.5_", "11 at 0: lexical"),
+        ("a 9223372036854775808", "11 at 2: lexical"),
+        ("$ x", "11 at 0: lexical"),
+        ("a ~ b", "11 at 2: lexical"),
+        ("a \u{e9}", "11 at 2: lexical"),
+        ("a 'b", "11 at 2: lexical"),
+        ("a 'b\\'", "11 at 2: lexical"),
+        ("a /* b *", "11 at 2: lexical"),
+        ("a \"b", "11 at 2: lexical"),
+        ("a \"b\\", "11 at 2: lexical"),
+        ("\"a ${ b", "11 at 3: lexical"),
+        ("\"a ${ \"b\" 'c", "11 at 10: lexical"),
+        ("\"ab\\u12\"", "11 at 3: lexical"),
+        ("\"\\ud800\"", "11 at 1: lexical"),
+        ("\"\\u{110000}\"", "11 at 1: lexical"),
     ];
     for (text, want) in rows {
         assert_eq!(rt;
-            shown(rt.alloc(), text.as_bytes())?.as_str(),
+            tokens_of(rt.alloc(), text.as_bytes())?.as_str(),
             want,
             "{text}"
         );
@@ -117,12 +91,12 @@ fn texts_that_spell_no_tokens(rt: HostRuntime) -> Result<(), Fail> {
 #[test]
 fn bytes_that_are_no_text(rt: HostRuntime) -> Result<(), Fail> {
     let rows: [(&[u8], &str); 3] = [
-        (b"\xff", "refused 10 at 0: utf8"),
-        (b"'a' \xc3(", "refused 10 at 4: utf8"),
-        (b"\xc3\xa9\xc3", "refused 10 at 2: utf8"),
+        (b"\xff", "10 at 0: utf8"),
+        (b"'a' \xc3(", "10 at 4: utf8"),
+        (b"\xc3\xa9\xc3", "10 at 2: utf8"),
     ];
     for (text, want) in rows {
-        assert_eq!(rt; shown(rt.alloc(), text)?.as_str(), want);
+        assert_eq!(rt; tokens_of(rt.alloc(), text)?.as_str(), want);
     }
     Ok(())
 }
