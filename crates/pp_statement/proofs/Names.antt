@@ -12,7 +12,7 @@ use Rattle.pp_syntax.specs.declared.tree.Func.{Func}
 use Rattle.pp_syntax.specs.declared.tree.Func.TheVariants as func
 use Rattle.pp_syntax.specs.Tokens.{Lexeme, is_among}
 use Rattle.pp_syntax.specs.Phrases as phrases
-use Rattle.pp_syntax.specs.Statements.{has_colon, NameOf, word, keyword, VariableOf, word_of, functions, ArrowOf}
+use Rattle.pp_syntax.specs.Statements.{is_qualified, NameOf, word, keyword, VariableOf, word_of, functions, ArrowOf}
 use Rattle.pp_expression.specs.Values.{behind_byte}
 use Rattle.pp_expression.proofs.Tokens.{bind_some}
 use Rattle.pp_expression.proofs.Finding.{Finds}
@@ -22,12 +22,12 @@ use Rattle.pp_statement.proofs.Combining.{taken_found}
 abbrev token : Kind → List ℕ → ℕ → List Lexeme
 token k s at = record { kind = k; text = s; at = at } ∷ []
 
-plain_found : (s x : List ℕ) → plain_name s ≡ Some x → (s ≡ x) × (has_colon x ≡ false)
-plain_found s x h = by_test (has_colon s) refl h
+plain_found : (s x : List ℕ) → plain_name s ≡ Some x → (s ≡ x) × (is_qualified x ≡ false)
+plain_found s x h = by_test (is_qualified s) refl h
   where
-    by_test : (v : Bool) → has_colon s ≡ v → cond v None (Some s) ≡ Some x → (s ≡ x) × (has_colon x ≡ false)
+    by_test : (v : Bool) → is_qualified s ≡ v → cond v None (Some s) ≡ Some x → (s ≡ x) × (is_qualified x ≡ false)
     by_test true p k = cc
-    by_test false p k = let e : s ≡ x = cc in (e, subst (λ (u : List ℕ). has_colon u ≡ false) e p)
+    by_test false p k = let e : s ≡ x = cc in (e, subst (λ (u : List ℕ). is_qualified u ≡ false) e p)
 
 name_is : (k : Kind) (s x : List ℕ) (at : ℕ) → name_by k s ≡ Some x → NameOf x (token k s at)
 name_is kind.Word s x at h = let p = plain_found s x h in word (at, ap (λ (u : List ℕ). token kind.Word u at) p.0) p.1

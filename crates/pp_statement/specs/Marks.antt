@@ -6,9 +6,8 @@ use Rattle.pp_syntax.specs.declared.token.Kind.TheVariants as kind
 use Rattle.pp_syntax.specs.declared.tree.Arrow.{Arrow}
 use Rattle.pp_syntax.specs.declared.tree.Arrow.TheVariants as arrow
 use Rattle.pp_syntax.specs.declared.tree.Func.{Func}
-use Rattle.pp_syntax.specs.declared.tree.Func.TheVariants as func
 use Rattle.pp_syntax.specs.Tokens.{Lexeme, is_among}
-use Rattle.pp_syntax.specs.Statements.{has_colon}
+use Rattle.pp_syntax.specs.Statements.{is_qualified, function_of}
 use Rattle.pp_expression.specs.Marks.{Found, front_of}
 use Rattle.pp_expression.specs.Values.{◌>>=◌, name_of}
 use Rattle.pp_statement.specs.Combining.{Reader, is_found}
@@ -24,7 +23,7 @@ taken h ts = taken_in h (front_of ts)
 -- ---- names
 
 abbrev pub plain_name : List ℕ → Option (List ℕ)
-plain_name s = if has_colon s then None else Some s
+plain_name s = if is_qualified s then None else Some s
 
 -- a word without `::`, or a keyword
 abbrev pub name_by : Kind → List ℕ → Option (List ℕ)
@@ -48,12 +47,6 @@ ref_by kind.Ref s = Some s
 ref_by _ s = None
 
 -- ---- functions and types
-
-abbrev pub function_of : List ℕ → Option Func
-function_of s = if bytes_eq s (codes "include") then Some func.Include else (if bytes_eq s (codes "require") then Some func.Require else (
-    if bytes_eq s (codes "contain") then Some func.Contain else (if bytes_eq s (codes "realize") then Some func.Realize else (
-    if bytes_eq s (codes "fail") then Some func.Fail else (if bytes_eq s (codes "notice") then Some func.Notice else (
-    if bytes_eq s (codes "warning") then Some func.Warning else None))))))
 
 -- a word that is a function
 abbrev pub function_by : Kind → List ℕ → Option Func

@@ -2,7 +2,7 @@ ghost use Rattle.std.specs.Prelude.{◌≡◌, drop, [], ◌∷◌, codes};
 ghost use Rattle.std.specs.Option.{option_map};
 ghost use Rattle.pp_syntax.specs.Lexing.{told};
 ghost use Rattle.pp_syntax.specs.Tokens.{is_among};
-ghost use Rattle.pp_syntax.specs.Statements.{has_colon};
+ghost use Rattle.pp_syntax.specs.Statements.{is_qualified};
 ghost use Rattle.pp_expression.specs.Reading.{Gives};
 ghost use Rattle.pp_statement.specs.Combining.{begins};
 ghost use Rattle.pp_statement.specs.Marks.{taken, plain_name, name_by, begins_name, plain_variable, variable_by, ref_by, function_of, function_by, unless_function, type_by, arrow_of, arrow_by, begins_arrow, begins_bracket};
@@ -13,8 +13,8 @@ use pp_syntax::{Arrow, Func, Kind, Token};
 use rh_base::Text;
 use std::alloc::Global;
 
-fn has_colon(name: &str) -> bool
-    ensures { result ≡ has_colon name.now }
+fn is_qualified(name: &str) -> bool
+    ensures { result ≡ is_qualified name.now }
 {
     name.as_bytes().contains(&b':')
 }
@@ -22,7 +22,7 @@ fn has_colon(name: &str) -> bool
 fn plain_name(name: &str) -> Option<&str>
     ensures { option_map (λ s. s.now) result ≡ plain_name name.now }
 {
-    if has_colon(name) { None } else { Some(name) }
+    if is_qualified(name) { None } else { Some(name) }
 }
 
 fn name_by(kind: Kind, text: &str) -> Option<&str>
@@ -109,7 +109,7 @@ fn plain_variable(alloc: Global, left: usize, text: &str) -> Result<Text, Misrea
     ensures { Gives (λ x. x) result (plain_variable text.now) }
 {
     let name = name_of(alloc, left, text)?;
-    if has_colon(name.as_str()) {
+    if is_qualified(name.as_str()) {
         return Err(Misread::Form(left));
     }
     Ok(name)

@@ -1,7 +1,8 @@
 -- Which tokens spell a statement, and a manifest. Each rule takes the rule for expressions, and that for the statements of a block, as arguments.
-use Rattle.std.specs.Prelude.{◌≡◌, ◌⊎◌, ℕ, zero, suc, ◌+◌, Bool, true, false, ◌==◌, ℤ, pos, List, [], ◌∷◌, ◌++◌, Option, codes}
+use Rattle.std.specs.Prelude.{◌≡◌, ◌⊎◌, ℕ, zero, suc, ◌+◌, Bool, true, false, ◌==◌, if◌then◌else◌, ℤ, pos, List, [], ◌∷◌, ◌++◌, Option, codes}
 use Rattle.std.specs.Prelude as prelude
 use Rattle.std.specs.List.{list_any}
+use Rattle.std.specs.Str.{bytes_eq}
 use Rattle.pp_syntax.specs.declared.token.Kind.TheVariants as kind
 use Rattle.pp_syntax.specs.declared.tree.Expr.{Expr}
 use Rattle.pp_syntax.specs.declared.tree.Form.TheVariants as form
@@ -32,18 +33,18 @@ use Rattle.pp_syntax.specs.Derivation.{OptionOf, StringOf, PostfixOf, ReferenceO
 
 -- ---- names
 
--- no `:` in it
-abbrev pub has_colon : List ℕ → Bool
-has_colon name = list_any (λ b. b == 58) name
+-- a name of several segments: a `:` stands in names only as part of `::`
+abbrev pub is_qualified : List ℕ → Bool
+is_qualified name = list_any (λ b. b == 58) name
 
 -- a WORD without `::`, or a keyword
 pub data NameOf (name : List ℕ) (tokens : List Lexeme) : Type 0 where
-  word : Some kind.Word name tokens → has_colon name ≡ false → NameOf name tokens
+  word : Some kind.Word name tokens → is_qualified name ≡ false → NameOf name tokens
   keyword : Keyword name tokens → NameOf name tokens
 
 -- a variable without `::`
 abbrev pub VariableOf : List ℕ → List Lexeme → Type 0
-VariableOf name tokens = Some kind.Var (36 ∷ name) tokens × (has_colon name ≡ false)
+VariableOf name tokens = Some kind.Var (36 ∷ name) tokens × (is_qualified name ≡ false)
 
 -- the words that are functions
 abbrev pub word_of : Func → List ℕ
@@ -54,6 +55,13 @@ word_of func.Realize = codes "realize"
 word_of func.Fail = codes "fail"
 word_of func.Notice = codes "notice"
 word_of func.Warning = codes "warning"
+
+-- the function that a word is
+abbrev pub function_of : List ℕ → Option Func
+function_of s = if bytes_eq s (codes "include") then prelude.Some func.Include else (if bytes_eq s (codes "require") then prelude.Some func.Require else (
+    if bytes_eq s (codes "contain") then prelude.Some func.Contain else (if bytes_eq s (codes "realize") then prelude.Some func.Realize else (
+    if bytes_eq s (codes "fail") then prelude.Some func.Fail else (if bytes_eq s (codes "notice") then prelude.Some func.Notice else (
+    if bytes_eq s (codes "warning") then prelude.Some func.Warning else prelude.None))))))
 
 abbrev pub functions : List (List ℕ)
 functions = codes "include" ∷ codes "require" ∷ codes "contain" ∷ codes "realize" ∷ codes "fail" ∷ codes "notice" ∷ codes "warning" ∷ []
