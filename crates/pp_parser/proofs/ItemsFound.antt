@@ -18,17 +18,17 @@ use Rattle.pp_syntax.specs.Phrases.{◌then◌, Nothing, Maybe, Sign, Keyword, L
 use Rattle.pp_syntax.specs.Derivation.{StringOf}
 use Rattle.pp_syntax.specs.Statements.{AttrOf, InBraces, BlockOf, IsType, MaybeType, VariableOf, DefaultOf, ParamOf, ParamsOf, ParentOf, NodeNameOf, ItemOf, Items}
 use Rattle.pp_syntax.specs.Statements as grammar
-use Rattle.pp_expression.specs.Marks.{mark}
-use Rattle.pp_expression.specs.Values.{◌>>=◌}
-use Rattle.pp_expression.specs.Parsed.{Begins}
-use Rattle.pp_expression.specs.Reading.{string_with}
-use Rattle.pp_expression.proofs.Tokens.{bind_some, maps, marked}
-use Rattle.pp_expression.proofs.Finding.{Finds, maybe_items_found}
-use Rattle.pp_statement.specs.Combining.{Reader, both, behind, begins, listed}
-use Rattle.pp_statement.specs.Marks.{taken, variable_by, ref_by}
-use Rattle.pp_statement.specs.Reading.{attributes_with, block_with}
-use Rattle.pp_statement.proofs.Combining.{Spells, both_found, behind_found, placed_found, first_token, some_token, taken_found, many_found, ListedBy, listed_found, listed_some}
-use Rattle.pp_statement.proofs.Names.{variable_found, ref_found}
+use Rattle.pp_readers.specs.Marks.{mark}
+use Rattle.rh_base.specs.Reading.{◌>>=◌}
+use Rattle.pp_readers.specs.Parsed.{Begins}
+use Rattle.pp_readers.specs.Expressions.{string_with}
+use Rattle.pp_readers.proofs.Tokens.{bind_some, maps, marked}
+use Rattle.pp_readers.proofs.Finding.{Finds, maybe_items_found}
+use Rattle.pp_readers.specs.Combining.{Reader, both, behind, begins, listed}
+use Rattle.pp_readers.specs.Names.{taken, variable_by, ref_by}
+use Rattle.pp_readers.specs.Statements.{attributes_with, block_with}
+use Rattle.pp_readers.proofs.Combining.{Spells, both_found, behind_found, placed_found, first_token, some_token, taken_found, many_found, ListedBy, listed_found, listed_some}
+use Rattle.pp_readers.proofs.Names.{variable_found, ref_found}
 use Rattle.pp_parser.specs.ItemReading.{begins_type, param_of, maybe_type, default_with, param_with, params_in, params_with, word_by, parent_with, class_of, class_with, define_of, define_with, text_of, text_name, default_name, word_name, node_name_by, node_name_with, unopened, node_names_with, node_of, node_with, defaults_of, defaults_with, plain_with, class_or_plain, keyed_with, defaults_or_plain, item_by, item_with, has_token, items_with}
 use Rattle.pp_parser.proofs.TypesFound.{Perhaps, optional_found, shaped_found}
 

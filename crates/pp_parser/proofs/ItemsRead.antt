@@ -18,21 +18,21 @@ use Rattle.pp_syntax.specs.Phrases.{◌then◌, Nothing, Maybe, Sign, Keyword, C
 use Rattle.pp_syntax.specs.Derivation.{StringOf}
 use Rattle.pp_syntax.specs.Statements.{AttrOf, InBraces, BlockOf, BodiesOf, OperandOf, StmtOf, IsType, MaybeType, MaybeSearch, VariableOf, DefaultOf, ParamOf, ParamsOf, ParentOf, NodeNameOf, ItemOf, Items, Statements, word_of, Links}
 use Rattle.pp_syntax.specs.Statements as grammar
-use Rattle.pp_expression.specs.Marks.{mark}
-use Rattle.pp_expression.specs.Values.{◌>>=◌}
-use Rattle.pp_expression.specs.Reading.{with_first, string_with, separator, separator_or_end, after_comma, more_items, items, items_or_end, maybe_items}
-use Rattle.pp_expression.proofs.Reading.{Fit, fits_first, fits_second}
-use Rattle.pp_expression.proofs.Listing.{sign, Closes}
-use Rattle.pp_statement.specs.Combining.{Reader, both, behind, begins, is_found, listed}
-use Rattle.pp_statement.specs.Marks.{taken, variable_by, ref_by}
-use Rattle.pp_statement.specs.Parsed.{NothingFollows, BeginsStatement}
-use Rattle.pp_statement.specs.Reading.{attributes_with, block_with}
-use Rattle.pp_statement.proofs.Combining.{Spells, ListedBy}
-use Rattle.pp_statement.proofs.Found.{front_nil}
-use Rattle.pp_statement.proofs.Building.{Phrase, Always, ReadsBefore, split, mark_here, both_read, behind_read, placed_read, taken_read, many_read, listed_read}
-use Rattle.pp_statement.proofs.ReadBodies.{Quiet, by_first, token_solid}
-use Rattle.pp_statement.proofs.ReadChains.{paren_closes, placeless, place_is, first_of}
-use Rattle.pp_statement.proofs.Leads.{nothing_follows, leads_more, leads_some}
+use Rattle.pp_readers.specs.Marks.{mark}
+use Rattle.rh_base.specs.Reading.{◌>>=◌}
+use Rattle.pp_readers.specs.Expressions.{with_first, string_with, separator, separator_or_end, after_comma, more_items, items, items_or_end, maybe_items}
+use Rattle.pp_readers.proofs.Reading.{Fit, fits_first, fits_second}
+use Rattle.pp_readers.proofs.Listing.{sign, Closes}
+use Rattle.pp_readers.specs.Combining.{Reader, both, behind, begins, is_found, listed}
+use Rattle.pp_readers.specs.Names.{taken, variable_by, ref_by}
+use Rattle.pp_readers.specs.Leads.{NothingFollows, BeginsStatement}
+use Rattle.pp_readers.specs.Statements.{attributes_with, block_with}
+use Rattle.pp_readers.proofs.Combining.{Spells, ListedBy}
+use Rattle.pp_readers.proofs.BodiesFound.{front_nil}
+use Rattle.pp_readers.proofs.Building.{Phrase, Always, ReadsBefore, split, mark_here, both_read, behind_read, placed_read, taken_read, many_read, listed_read}
+use Rattle.pp_readers.proofs.ReadBodies.{Quiet, by_first, token_solid}
+use Rattle.pp_readers.proofs.ReadChains.{paren_closes, placeless, place_is, first_of}
+use Rattle.pp_readers.proofs.Leads.{nothing_follows, leads_more, leads_some}
 use Rattle.pp_parser.specs.ItemReading.{begins_type, param_of, maybe_type, default_with, param_with, params_in, params_with, word_by, parent_with, class_of, class_with, define_of, define_with, text_of, text_name, node_name_with, unopened, node_names_with, node_of, node_with, defaults_of, defaults_with, plain_with, item_with, has_token, items_with}
 use Rattle.pp_parser.proofs.Within.{front_short, back_short, maybe_listed_within, first_within, second_within}
 use Rattle.pp_parser.proofs.TypesFound.{Perhaps}

@@ -13,12 +13,12 @@ use Rattle.pp_syntax.specs.declared.tree.Param.{Param}
 use Rattle.pp_syntax.specs.declared.tree.Item.{Item}
 use Rattle.pp_syntax.specs.declared.tree.Item.TheVariants as item
 use Rattle.pp_syntax.specs.Tokens.{Lexeme}
-use Rattle.pp_expression.specs.Marks.{Found, front_of, mark}
-use Rattle.pp_expression.specs.Values.{◌>>=◌}
-use Rattle.pp_expression.specs.Reading.{maybe_items, string_with, expr_at}
-use Rattle.pp_statement.specs.Combining.{Reader, both, made, behind, begins, many, listed}
-use Rattle.pp_statement.specs.Marks.{taken, variable_by, ref_by}
-use Rattle.pp_statement.specs.Reading.{attributes_with, block_with, stmt_at}
+use Rattle.pp_readers.specs.Marks.{Found, front_of, mark}
+use Rattle.rh_base.specs.Reading.{◌>>=◌}
+use Rattle.pp_readers.specs.Expressions.{maybe_items, string_with, expr_at}
+use Rattle.pp_readers.specs.Combining.{Reader, both, made, behind, begins, many, listed}
+use Rattle.pp_readers.specs.Names.{taken, variable_by, ref_by}
+use Rattle.pp_readers.specs.Statements.{attributes_with, block_with, stmt_at}
 use Rattle.pp_parser.specs.TypeReading.{optional, shaped, type_at}
 
 -- ---- parameters
