@@ -1,3 +1,4 @@
+//! The parser of expressions, one function for each rule of the grammar.
 ghost use Rattle.std.specs.Prelude.{◌≡◌, ◌+◌, ◌-◌, ◌≤◌, ◌<◌, ◌||◌, drop, length, codes};
 ghost use Rattle.pp_syntax.specs.Lexing.{told, lexeme_of};
 ghost use Rattle.pp_syntax.specs.declared.token.Kind.TheVariants as kind;

@@ -1,3 +1,4 @@
+//! The token at an index: which one it is, and which operator.
 ghost use Rattle.std.specs.Prelude.{◌≡◌, ◌+◌, ◌<◌, ◌≤◌, drop, length, IfOk, IfSome};
 ghost use Rattle.std.specs.Option.{option_map};
 ghost use Rattle.pp_syntax.specs.Lexing.{told, lexeme_of};

@@ -1,3 +1,4 @@
+//! What the crates above call.
 ghost use Rattle.pp_syntax.specs.Lexing.{told};
 ghost use Rattle.pp_syntax.specs.Derivation.{IsExprAt, PostfixOf, ReferenceOf, StringOf};
 ghost use Rattle.pp_readers.specs.Parsed.{Reads, IsSpelled, IsParsed, NothingGoesOn, NoSuffixGoesOn, Anything};

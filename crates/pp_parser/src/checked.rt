@@ -1,3 +1,4 @@
+//! What is refused before tokens are parsed.
 ghost use Rattle.std.specs.Prelude.{OnOk, IfErr};
 ghost use Rattle.rh_base.specs.Refused.{IfRefused};
 ghost use Rattle.pp_syntax.specs.Lexing.{told};

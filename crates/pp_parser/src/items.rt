@@ -1,3 +1,4 @@
+//! The parser of what stands at the top of a manifest.
 ghost use Rattle.std.specs.Prelude.{◌≡◌, drop, codes, Some};
 ghost use Rattle.pp_syntax.specs.Lexing.{told};
 ghost use Rattle.pp_readers.specs.Parsed.{Gives, Reads};

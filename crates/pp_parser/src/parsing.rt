@@ -1,3 +1,4 @@
+//! From tokens to a manifest.
 ghost use Rattle.std.specs.Prelude.{◌≡◌, OnOk, IfOk, IfErr, MatchResult};
 ghost use Rattle.rh_base.specs.Refused.{IfRefused};
 ghost use Rattle.pp_syntax.specs.declared.tree.Manifest.{Manifest as Tree};
@@ -35,8 +36,8 @@ fn syntax(alloc: Global, tokens: &[Token<'_>], index: usize) -> Fault
 }
 
 /// The tree that the tokens of a text spell. Tokens that the language leaves out are refused first,
-/// then those that are nested too deep; the place of a refusal of the syntax is where reading stopped,
-/// at a token or at the end of the last one.
+/// then those that are nested too deep. The place of a refusal of the syntax is the first byte of a token or the
+/// end of the last one; which of them, no clause says.
 pub fn parse(alloc: Global, tokens: &[Token<'_>]) -> Result<Manifest, Fault>
     requires lexed { AreLexed (told tokens.now) }
     ensures spelled { IfOk result (λ m. IsManifest m (told tokens.now)) }

@@ -1,3 +1,4 @@
+//! The parser of the types of parameters.
 ghost use Rattle.std.specs.Prelude.{◌≡◌, codes, IfOk, Some};
 ghost use Rattle.pp_readers.specs.Parsed.{Reads};
 ghost use Rattle.pp_readers.specs.Expressions.{items};

@@ -1,3 +1,4 @@
+//! The words of what stands at the top of a manifest.
 ghost use Rattle.std.specs.Prelude.{◌≡◌, ◌∷◌, ◌++◌, codes, OnOk};
 ghost use Rattle.std.specs.List.{flat_map};
 ghost use Rattle.pp_syntax.specs.declared.token.Kind.TheVariants as kind;

@@ -1,3 +1,4 @@
+//! What canonical text is for, as laws.
 ghost use Rattle.std.specs.Prelude.{◌≡◌, ◌≤◌, ◌++◌, ℕ, List, length, IsUtf8};
 ghost use Rattle.pp_syntax.specs.declared.tree.Expr.{Expr};
 ghost use Rattle.pp_syntax.specs.declared.tree.Manifest.{Manifest};

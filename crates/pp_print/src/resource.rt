@@ -1,3 +1,4 @@
+//! The words of resources, collectors and references.
 ghost use Rattle.std.specs.Prelude.{◌≡◌, ◌++◌, codes, OnOk};
 ghost use Rattle.pp_syntax.specs.declared.token.Kind.TheVariants as kind;
 ghost use Rattle.pp_syntax.specs.declared.tree.Operand.TheVariants as operand;

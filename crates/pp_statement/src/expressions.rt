@@ -1,3 +1,4 @@
+//! The expressions within statements.
 ghost use Rattle.pp_readers.specs.Parsed.{Reads};
 ghost use Rattle.pp_readers.specs.Expressions.{expr_at, postfix_with, reference_with, option_with};
 

@@ -1,3 +1,4 @@
+//! The parser of the operands of a chain.
 ghost use Rattle.std.specs.Prelude.{codes};
 ghost use Rattle.pp_syntax.specs.declared.token.Kind.TheVariants as kind;
 ghost use Rattle.pp_readers.specs.Parsed.{Reads};

@@ -1,3 +1,4 @@
+//! What the crate above calls.
 ghost use Rattle.pp_syntax.specs.Lexing.{told};
 ghost use Rattle.pp_syntax.specs.Phrases.{MaybeListed};
 ghost use Rattle.pp_syntax.specs.Derivation.{IsExprAt};

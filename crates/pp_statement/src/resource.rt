@@ -1,3 +1,4 @@
+//! The parser of the bodies and attributes of resources.
 ghost use Rattle.std.specs.Prelude.{codes};
 ghost use Rattle.pp_readers.specs.Parsed.{Reads};
 ghost use Rattle.pp_readers.specs.Expressions.{expr_at};
