@@ -1,5 +1,5 @@
 -- What is counted from left to right is the depth: the brackets that stand open, and what a token adds to them.
-use Rattle.std.proofs.Common.{◌≡◌, ◌⊎◌, inl, inr, ℕ, zero, suc, ◌+◌, ◌-◌, ◌<◌, ◌≤◌, Bool, true, false, cond, List, [], ◌∷◌, ◌++◌, length, refl, sym, ap, subst, ◌∙◌, arith, append_assoc, append-nil, add-one}
+use Rattle.std.proofs.Common.{◌≡◌, ◌⊎◌, inl, inr, ℕ, zero, suc, ◌+◌, ◌-◌, ◌<◌, ◌≤◌, Bool, true, false, cond, ◌||◌, List, [], ◌∷◌, ◌++◌, length, refl, sym, ap, subst, ◌∙◌, arith, append_assoc, append-nil, add-one}
 use Rattle.std.specs.Prelude.{codes}
 use Rattle.std.specs.List.{AllByRecursion}
 use Rattle.std.specs.Str.{bytes_eq}
@@ -38,13 +38,16 @@ turned : (s x : List ℕ) → bytes_eq s x ≡ true → ShapedAs kind.Sign x →
 turned s x e h = subst (ShapedAs kind.Sign) (sym ((bytes_eq-Decides s x).0 e)) h
 
 -- the tests of a sign, one behind the other
-chosen : (a b c d f : Bool) → Shape
+abbrev chosen : Bool → Bool → Bool → Bool → Bool → Shape
 chosen a b c d f = cond a Opens (cond b Braces (cond c Closes (cond d Asks (cond f Prefixes Other))))
 
 -- Where no test holds, the sign opens nothing.
 none_opens : (s : List ℕ) → is_among (codes "(" ∷ codes "<|" ∷ []) s ≡ false → bytes_eq s (codes "{") ≡ false → is_among (codes "(" ∷ codes "{" ∷ codes "<|" ∷ []) s ≡ false
-none_opens s h e = by_tests (bytes_eq (codes "(") s) (bytes_eq (codes "{") s) (bytes_eq (codes "<|") s) h (same_test (codes "{") s ∙ e)
+none_opens s h e = by_tests (bytes_eq (codes "(") s) (bytes_eq (codes "{") s) (bytes_eq (codes "<|") s) h (no_brace (bytes_eq (codes "{") s) refl)
   where
+    no_brace : (v : Bool) → bytes_eq (codes "{") s ≡ v → v ≡ false
+    no_brace false h = refl
+    no_brace true h = sym ((bytes_eq-Decides s (codes "{")).1 (sym ((bytes_eq-Decides (codes "{") s).0 h))) ∙ e
     by_tests : (a b c : Bool) → (a || (c || false)) ≡ false → b ≡ false → (a || (b || (c || false))) ≡ false
     by_tests true b c h e = cc
     by_tests false true c h e = cc
@@ -191,8 +194,8 @@ keeps_one n t o c = by_shape (shaped t)
 -- A bracket, what is closed, and a bracket that closes: the row is what was put there for it.
 closed_row : (n : Nesting) (inner : List Lexeme) (c : Lexeme) (e : ℕ) (rows : List ℕ) → ((m : Nesting) → (passed m inner).opened ≡ m.opened) → closes c ≡ true → n.opened ≡ e ∷ rows
     → ((passed n (inner ++ c ∷ [])).opened ≡ rows) × ((passed n (inner ++ c ∷ [])).row ≡ e)
-closed_row n inner c e rows keeps closing is =
-    let whole : passed n (inner ++ c ∷ []) ≡ behind_shape (passed n inner) Closes = passed_append n inner (c ∷ []) ∙ closes_one (passed n inner) c closing in
+closed_row n inner c e rows keeps shut is =
+    let whole : passed n (inner ++ c ∷ []) ≡ behind_shape (passed n inner) Closes = passed_append n inner (c ∷ []) ∙ closes_one (passed n inner) c shut in
     let before : (passed n inner).opened ≡ e ∷ rows = keeps n ∙ is in
     (ap (λ (m : Nesting). m.opened) whole ∙ ap outer_of before, ap (λ (m : Nesting). m.row) whole ∙ ap innermost before)
 

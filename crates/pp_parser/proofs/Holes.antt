@@ -47,9 +47,10 @@ indexes_spelled : (n at : ℕ) {b y : Expr} {ts : List Lexeme} → IndexesOf IsE
 indexes_spelled n at (hole.none e t) l a r = (a, SuffixesOf.none refl t, subst (ReadAsVariable a) e r)
 indexes_spelled n at {b} (hole.one z key front back w d is here more) l a r =
     let x : Expr = record { at = at; form = form.Index a key } in
-    let size = omega (arith, l, ap length w, length-append front back) in
-    let rest = indexes_spelled n at more (omega (arith, l, ap length w, length-append front back)) x (index a b key refl is here r) in
-    (rest.0, SuffixesOf.one x front back w (SuffixOf.index key (key_within n key front (omega (arith, l, ap length w, length-append front back)) d) refl) refl rest.1, rest.2)
+    let short : length front < n = omega (arith, l, ap length w, length-append front back) in
+    let rest_short : length back < n = omega (arith, l, ap length w, length-append front back) in
+    let rest = indexes_spelled n at more rest_short x (index a b key refl is here r) in
+    (rest.0, SuffixesOf.one x front back w (SuffixOf.index key (key_within n key front short d) refl) refl rest.1, rest.2)
 
 record Spelled (y : Expr) (ts : List Lexeme) : Type 0 where
   x : Expr
@@ -121,9 +122,9 @@ key_any d key us h = record {
 
 suffixes_are : (d at : ℕ) {a x : Expr} {ts : List Lexeme} → SuffixesOf (IsExprAt d) at a x ts → (y : Expr) → ReadAsVariable x y → (b : Expr) × ReadAsVariable a b × IndexesOf IsExpr at b y ts
 suffixes_are d at {a} (SuffixesOf.none e t) y r = (y, subst (λ (c : Expr). ReadAsVariable c y) (sym e) r, hole.none refl t)
-suffixes_are d at {a} (SuffixesOf.one z front back w s here more) y r = by_suffix s (suffixes_are d at more y r)
+suffixes_are d at {a} {x} {ts} (SuffixesOf.one z front back w s here more) y r = by_suffix s (suffixes_are d at more y r)
   where
-    by_suffix : SuffixOf (IsExprAt d) a z front → (b : Expr) × ReadAsVariable z b × IndexesOf IsExpr at b y back → (b : Expr) × ReadAsVariable a b × IndexesOf IsExpr at b y _
+    by_suffix : SuffixOf (IsExprAt d) a z front → (b : Expr) × ReadAsVariable z b × IndexesOf IsExpr at b y back → (b : Expr) × ReadAsVariable a b × IndexesOf IsExpr at b y ts
     by_suffix (SuffixOf.index key k is) rest =
         let c = based z rest.0 a key rest.1 is in
         (c.1.b, c.1.read, hole.one rest.0 key front back w (key_any d key front k) c.1.form_is (c.0 ∙ here) rest.2)

@@ -2,6 +2,7 @@
 ghost use Rattle.std.specs.Prelude.{◌≡◌, false};
 ghost use Rattle.std.specs.Option.{option_map};
 ghost use Rattle.pp_syntax.specs.Tokens.{is_among};
+ghost use Rattle.pp_syntax.specs.Statements.{functions};
 ghost use Rattle.pp_syntax.specs.Lexing.{told, lexeme_of};
 ghost use Rattle.pp_parser.specs.Scanning.{begins_with, names_by, is_left_out, first_left_out};
 
@@ -9,11 +10,14 @@ use pp_syntax::{Func, Kind, Token, is_among};
 
 const NAMED: [&[u8]; 2] = [b"class", b"define"];
 
-#[tactic(auto, using(pp_readers::proofs::Names::no_function, crate::proofs::LeftOutLaws::a_function))]
+#[tactic(auto, using(crate::proofs::LeftOutLaws::other_word))]
 fn is_function(word: &str) -> bool
     ensures { result ≡ is_among functions word.now }
 {
-    Func::of(word).is_some()
+    match Func::of(word) {
+        Some(_) => true,
+        None => false,
+    }
 }
 
 /// The next token is this sign.
