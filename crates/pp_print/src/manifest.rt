@@ -1,3 +1,4 @@
+//! The canonical text of a manifest.
 ghost use Rattle.std.specs.Prelude.{◌≡◌, ◌++◌, ℕ, List, IfOk, OnOk, OnErr};
 ghost use Rattle.pp_print.specs.Words.{clings, holds, text_from, text_of};
 ghost use Rattle.pp_print.specs.Statements.{manifest_words};

@@ -1,3 +1,4 @@
+//! The words of statements.
 ghost use Rattle.std.specs.Prelude.{◌≡◌, ◌∷◌, ◌++◌, codes, OnOk};
 ghost use Rattle.std.specs.List.{flat_map, join_by};
 ghost use Rattle.pp_syntax.specs.declared.token.Kind.TheVariants as kind;

@@ -1,3 +1,4 @@
+//! Words: tokens that are to be written.
 ghost use Rattle.std.specs.Prelude.{◌≡◌, [], ◌∷◌, ◌++◌, map, codes, if◌then◌else◌, decimal, unsigned_abs, OnOk};
 ghost use Rattle.pp_syntax.specs.declared.token.Kind.TheVariants as kind;
 ghost use Rattle.pp_syntax.specs.Tokens.{is_among, keywords};
