@@ -7,7 +7,7 @@ use Rattle.rehearsal_core.specs.declared.form.Block.{Block}
 use Rattle.fs_lang.specs.PathText.{IsPathText}
 use Rattle.fs_semantics.specs.FileTree.{Path}
 use Rattle.fs_semantics.specs.PlainFiles.{PlainFile, IsFilePath}
-use Rattle.rehearsal_core.specs.Files.{MayBeManaged, IsManagedPath, AreFilesOf, paths_of, ArePathsOf, ManagedPathIs, PathsAre}
+use Rattle.rehearsal_core.specs.Files.{MayBeManaged, IsManagedPath, AreFilesOf, paths_of, files_at, ArePathsOf, ManagedPathIs, PathsAre}
 
 -- a text without a path has no managed one
 pub no_path : (text : List ℕ) → ((p : Path) → IsPathText text p → ⊥) → ManagedPathIs text None
@@ -35,13 +35,13 @@ no_paths (c ∷ front) b back none (p ∷ ps) h = no_paths front b back none ps 
 -- ---- files and paths
 
 -- blocks with paths have files
-pub files_from : (blocks : List Block) (ps : List Path) → ArePathsOf blocks ps → (files : List PlainFile) × AreFilesOf blocks files × (paths_of files ≡ ps)
-files_from [] [] h = ([], tt, refl)
+pub files_from : (blocks : List Block) (ps : List Path) → ArePathsOf blocks ps → (files : List PlainFile) × AreFilesOf blocks files × ((paths_of files ≡ ps) × (files ≡ files_at blocks ps))
+files_from [] [] h = ([], tt, (refl, refl))
 files_from [] (p ∷ ps) h = absurd h
 files_from (b ∷ blocks) [] h = absurd h
 files_from (b ∷ blocks) (p ∷ ps) h =
     let more = files_from blocks ps h.1 in
-    ((p, b.content) ∷ more.0, (record { path = h.0; content = refl }, more.1), ap (λ qs. p ∷ qs) more.2)
+    ((p, b.content) ∷ more.0, (record { path = h.0; content = refl }, more.1), (ap (λ qs. p ∷ qs) more.2.0, ap (λ fs. (p, b.content) ∷ fs) more.2.1))
 
 -- files of blocks have their paths
 pub paths_from : (blocks : List Block) (files : List PlainFile) → AreFilesOf blocks files → ArePathsOf blocks (paths_of files)
@@ -56,10 +56,6 @@ proper_paths [] (f ∷ files) h = absurd h
 proper_paths (b ∷ blocks) [] h = absurd h
 proper_paths (b ∷ blocks) (f ∷ files) h =
     (record { not_root = h.0.path.managed.0; segments = h.0.path.spelled.segments }, proper_paths blocks files h.1)
-
-pub length-paths : (files : List PlainFile) → length (paths_of files) ≡ length files
-length-paths [] = refl
-length-paths (f ∷ files) = ap suc (length-paths files)
 
 -- ---- a block by its place
 

@@ -3,3 +3,4 @@ pub mod Telling
 pub mod Endings
 pub mod Judging
 pub mod ProofLaws
+pub mod PutLaws

@@ -38,10 +38,10 @@ blocks_of (body ∷ bodies) = option_and_then (λ block. option_map (λ blocks. 
 
 -- what a resource declares, if it is a file and not virtual
 abbrev pub bodies_in : Bool → List ℕ → List Body → Option (List Body)
-bodies_in hidden kind bodies = if hidden || not (bytes_eq kind (codes "file")) then None else Some bodies
+bodies_in is_virtual kind bodies = if is_virtual || not (bytes_eq kind (codes "file")) then None else Some bodies
 
 abbrev pub declared_by : List Operand → Option (List Body)
-declared_by (operand.Declare at hidden kind bodies ∷ []) = bodies_in hidden kind bodies
+declared_by (operand.Declare at is_virtual kind bodies ∷ []) = bodies_in is_virtual kind bodies
 declared_by _ = None
 
 -- what an item declares, if it is files and nothing else

@@ -34,6 +34,12 @@ AreFilesOf (block ∷ blocks) (file ∷ files) = IsFileOf block file × AreFiles
 abbrev pub paths_of : List PlainFile → List Path
 paths_of files = map (λ f. f.0) files
 
+-- the files of blocks at these paths
+abbrev pub files_at : List Block → List Path → List PlainFile
+files_at [] ps = []
+files_at (block ∷ blocks) [] = []
+files_at (block ∷ blocks) (p ∷ ps) = (p, block.content) ∷ files_at blocks ps
+
 -- the paths of the files of blocks
 abbrev pub ArePathsOf : List Block → List Path → Type 0
 ArePathsOf [] [] = Unit {0}

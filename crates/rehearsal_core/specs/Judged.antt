@@ -1,5 +1,5 @@
 -- What the program may say of a manifest.
-use Rattle.std.specs.Prelude.{◌≡◌, ◌⊎◌, ℕ, ◌<◌, ◌≤◌, List, ◌++◌, length, Some, None, codes, IsUtf8}
+use Rattle.std.specs.Prelude.{◌≡◌, ◌⊎◌, ℕ, ◌<◌, ◌≤◌, List, ◌++◌, length, map, Some, None, codes, IsUtf8}
 use Rattle.std.specs.Fmt.{decimal}
 use Rattle.rh_base.specs.declared.fault.Refusal.{Refusal}
 use Rattle.rh_base.specs.declared.limits.TheConstants.{RESOURCES}
@@ -12,6 +12,8 @@ use Rattle.pp_syntax.specs.Depth.{IsTooDeep}
 use Rattle.pp_syntax.specs.Statements.{IsManifest}
 use Rattle.pp_syntax.specs.Lexing.{IsTextRefusal, IsLexicalRefusal}
 use Rattle.pp_parser.specs.Refusing.{IsParseRefusal}
+use Rattle.fs_lang.specs.declared.program.Program.{Program}
+use Rattle.fs_lang.specs.Meaning.{program_of}
 use Rattle.fs_semantics.specs.Disjoint.{AreDisjoint}
 use Rattle.fs_semantics.specs.Orders.{IsDeterministic, IsIdempotent, Succeeds}
 use Rattle.fs_semantics.specs.PlainFiles.{PlainFile, puts, Unordered}
@@ -43,19 +45,21 @@ pub record IsWithin (source : List ℕ) (blocks : List Block) : Type 0 where
   pub form : IsFirstForm source blocks
   pub within : length blocks ≤ RESOURCES
 
--- The headline: a report on a manifest, and what holds where it is given. Each block puts a file, with no order between
--- them; from every file tree all orders end in one same tree or all in error, a second run changes nothing, and from some
--- tree the files are put.
+-- The headline: a report on a manifest, and what holds where it is given. The programs are those that the blocks' files
+-- are put by, with no order between them: from every file tree all orders end in one same tree or all in error, a second
+-- run changes nothing, and from some tree the files are put.
 pub record IsReport (manifest report : List ℕ) : Type 0 where
   pub blocks : List Block
   pub form : IsWithin manifest blocks
   pub files : List PlainFile
   pub files_are : AreFilesOf blocks files
-  pub apart : AreDisjoint (paths_of files)
-  pub text : report ≡ report_of (length files)
-  pub deterministic : IsDeterministic (puts files) Unordered
-  pub idempotent : IsIdempotent (puts files) Unordered
-  pub succeeds : Succeeds (puts files) Unordered
+  pub disjoint : AreDisjoint (paths_of files)
+  pub programs : List Program
+  pub puts_are : map program_of programs ≡ puts files
+  pub text : report ≡ report_of (length programs)
+  pub deterministic : IsDeterministic (map program_of programs) Unordered
+  pub idempotent : IsIdempotent (map program_of programs) Unordered
+  pub succeeds : Succeeds (map program_of programs) Unordered
 
 -- the manifest's tokens are refused, or spell no tree
 abbrev pub IsSyntaxFault : List ℕ → Refusal → Type 0

@@ -57,12 +57,12 @@ fn bodies_of(item: &Item) -> Option<&[Body]>
     }
     match side {
         Operand::Declare {
-            hidden,
+            is_virtual,
             kind,
             bodies,
             ..
         } => {
-            if *hidden || kind.as_str() != "file" {
+            if *is_virtual || kind.as_str() != "file" {
                 return None;
             }
             Some(bodies.as_slice())

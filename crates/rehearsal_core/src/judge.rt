@@ -1,15 +1,18 @@
 //! What is said of a manifest.
 
-ghost use Rattle.std.specs.Prelude.{◌≡◌, ◌↔◌, ◌<◌, ◌^◌, length, IsTrue, IfOk, IfErr};
+ghost use Rattle.std.specs.Prelude.{◌≡◌, ◌↔◌, ◌<◌, ◌^◌, length, map, IsTrue, IfOk, IfErr};
 ghost use Rattle.rh_base.specs.Refused.{IfRefused};
-ghost use Rattle.rehearsal_core.specs.Files.{MayBeManaged, ManagedPathIs, PathsAre};
+ghost use Rattle.fs_lang.specs.Meaning.{program_of};
+ghost use Rattle.fs_semantics.specs.PlainFiles.{puts};
+ghost use Rattle.rehearsal_core.specs.Files.{MayBeManaged, ManagedPathIs, PathsAre, files_at};
 ghost use Rattle.rehearsal_core.specs.Judged.{report_of, IsParsed, IsWithin, IsReport, IsSourceRefusal, BreaksRule};
 
 use crate::form::{Block, file_blocks};
-use fs_lang::{Path, PathFault, are_disjoint};
+use fs_lang::{Path, PathFault, Program, are_disjoint};
 use fs_semantics::{linear_extensions, plain_files};
 use pp_parser::parse;
 use pp_syntax::{Manifest, lex};
+use res_models::put;
 use rh_base::limits::RESOURCES;
 use rh_base::{Fault, NoMemory, Seq, Text};
 use std::alloc::Global;
@@ -88,6 +91,23 @@ fn blocks_of(alloc: Global, manifest: &[u8]) -> Result<Seq<Block>, Fault>
     Ok(blocks)
 }
 
+/// The programs that put the files of blocks at these paths.
+#[tactic(auto, using(crate::proofs::PutLaws::one_more, crate::proofs::PutLaws::all_put))]
+fn puts(alloc: Global, blocks: &[Block], paths: &[Path]) -> Result<Seq<Program>, NoMemory>
+    ensures { IfOk result (λ programs. map program_of programs ≡ puts (files_at blocks.now paths.now)) }
+{
+    let mut programs = Seq::new(alloc);
+    let mut rest = paths;
+    for block in blocks {
+        let Some((path, more)) = rest.split_first() else {
+            break;
+        };
+        programs.push(put(alloc, path, &block.content)?)?;
+        rest = more;
+    }
+    Ok(programs)
+}
+
 /// The report on a manifest, or the first rule that it breaks.
 pub fn judged(alloc: Global, manifest: &[u8]) -> Result<Text, Fault>
     requires { length manifest.now < 2 ^ 32 }
@@ -103,5 +123,6 @@ pub fn judged(alloc: Global, manifest: &[u8]) -> Result<Text, Fault>
     if !are_disjoint(paths.as_slice()) {
         return Err(Fault::refused(alloc, 15, 0, "apart"));
     }
-    Ok(report(alloc, paths.len())?)
+    let programs = puts(alloc, blocks.as_slice(), paths.as_slice())?;
+    Ok(report(alloc, programs.len())?)
 }

@@ -3,12 +3,12 @@
 
 ghost use Rattle.std.specs.Prelude.{◌≡◌, IfOk};
 ghost use Rattle.fs_lang.specs.declared.program.Program.TheVariants.{Creat, Rm};
-ghost use Rattle.fs_lang.specs.Meaning.{program_of};
+ghost use Rattle.fs_lang.specs.Meaning.{test_of, program_of};
 ghost use Rattle.fs_semantics.specs.Models as model;
 ghost use Rattle.fs_semantics.specs.Programs as language;
 
 use fs_lang::{Path, Program, Test};
-use rh_base::{NoMemory, Seq, Text};
+use rh_base::{Boxed, NoMemory, Seq, Text};
 use std::alloc::Global;
 
 fn creation(alloc: Global, path: &Path, content: &Text) -> Result<Program, NoMemory>
@@ -33,6 +33,15 @@ fn two_steps(alloc: Global, first: Program, second: Program) -> Result<Program, 
     Ok(Program::Steps(steps))
 }
 
+#[tactic(auto, using(fs_lang::specs::Meaning::program_of_if))]
+fn choice(alloc: Global, test: Test, one: Program, other: Program) -> Result<Program, NoMemory>
+    ensures { IfOk result (λ e. program_of e ≡ language.If (test_of test) (program_of one) (program_of other)) }
+{
+    let one = Boxed::new(alloc, one)?;
+    let other = Boxed::new(alloc, other)?;
+    Ok(Program::If(test, one, other))
+}
+
 /// Puts a file with this content, whether one was there or not.
 pub fn put(alloc: Global, path: &Path, content: &Text) -> Result<Program, NoMemory>
     ensures { IfOk result (λ e. program_of e ≡ model.put path.now content.now) }
@@ -42,10 +51,7 @@ pub fn put(alloc: Global, path: &Path, content: &Text) -> Result<Program, NoMemo
         removal(alloc, path)?,
         creation(alloc, path, content)?,
     )?;
-    let over = Box::new(alloc, over)?;
-    let fresh = Box::new(alloc, creation(alloc, path, content)?)?;
-    Ok(Program::If(Test::IsFile(path.copy(alloc)?), over, fresh))
+    let fresh = creation(alloc, path, content)?;
+    let test = Test::IsFile(path.copy(alloc)?);
+    choice(alloc, test, over, fresh)
 }
-
-#[cfg(test)]
-mod tests;

@@ -1,9 +1,10 @@
-use Rattle.std.proofs.Common.{length, None, sym, ap, subst, ◌∙◌}
+use Rattle.std.proofs.Common.{◌≡◌, length, map, None, sym, ap, ap₂, subst, ◌∙◌}
 use Rattle.std.specs.Prelude.{codes}
+use Rattle.fs_lang.specs.Meaning.{program_of}
 use Rattle.fs_semantics.specs.Disjoint.{AreDisjoint}
 use Rattle.fs_semantics.specs.Orders.{up_from}
 use Rattle.fs_semantics.specs.PlainFiles.{puts, never}
-use Rattle.rehearsal_core.specs.Files.{ArePathsOf, PathsAre}
+use Rattle.rehearsal_core.specs.Files.{files_at, ArePathsOf, PathsAre}
 use Rattle.rh_base.specs.Refused.{IsRefusal}
 use Rattle.rehearsal_core.specs.Judged.{report_of, BreaksRule}
 use Rattle.rehearsal_core.proofs.Judging.{broken, a_report, a_bad_path, paths_meet}
@@ -25,8 +26,10 @@ returns-then-not-are_disjoint-clause-refused c =
 pub returns-clause-report : goal.returns-clause-report
 returns-clause-report c =
     let paths : ArePathsOf c.in_ok-blocks.blocks c.in-Some.paths = subst (λ bs. ArePathsOf bs c.in-Some.paths) c.as_slice.ensures (subst (PathsAre c.as_slice.result.now) c.in-Some.is c.in_ok-paths.ensures) in
-    a_report c.args.manifest.now c.in_ok-report.field-0 c.in_ok-blocks.blocks c.in-Some.paths c.in_ok-blocks.ensures.found paths
-    (subst AreDisjoint c.as_slice-2.ensures (c.are_disjoint.ensures.0 c.if-not-are_disjoint.false)) (c.in_ok-report.ensures ∙ ap report_of c.len.ensures)
+    let made : map program_of c.in_ok-programs.programs ≡ puts (files_at c.in_ok-blocks.blocks c.in-Some.paths) =
+        c.in_ok-programs.ensures ∙ ap₂ (λ bs ps. puts (files_at bs ps)) c.as_slice-3.ensures c.as_slice-4.ensures in
+    a_report c.args.manifest.now c.in_ok-report.field-0 c.in_ok-blocks.blocks c.in-Some.paths c.in_ok-programs.programs c.in_ok-blocks.ensures.found paths
+    (subst AreDisjoint c.as_slice-2.ensures (c.are_disjoint.ensures.0 c.if-not-are_disjoint.false)) made (c.in_ok-report.ensures ∙ ap report_of c.len.ensures)
     (record {
       deterministic = λ files plain. c.plain_files.ensures.deterministic files never plain;
       idempotent = λ files plain. c.plain_files.ensures.idempotent files never plain;
