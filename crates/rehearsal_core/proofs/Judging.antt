@@ -1,6 +1,12 @@
 -- What is said of a manifest, from its blocks and their paths.
-use Rattle.std.proofs.Common.{◌≡◌, ℕ, List, length, map, inl, inr, None, sym, ap, subst, ◌∙◌}
-use Rattle.std.specs.Prelude.{codes}
+use Rattle.std.proofs.Common.{◌≡◌, ℕ, List, length, map, inl, inr, None, Result, Ok, Err, sym, ap, subst, ◌∙◌}
+use Rattle.std.specs.Prelude.{codes, IsUtf8, IfOk, OnOk}
+use Rattle.pp_syntax.specs.declared.tree.Manifest.{Manifest}
+use Rattle.pp_syntax.specs.Tokens.{Lexeme}
+use Rattle.pp_syntax.specs.Spelling.{Spells}
+use Rattle.pp_syntax.specs.LeftOut.{IsNowhere, IsLeftOut}
+use Rattle.pp_syntax.specs.Depth.{IsTooDeep}
+use Rattle.pp_syntax.specs.Statements.{IsManifest}
 use Rattle.rh_base.specs.declared.fault.Refusal.{Refusal}
 use Rattle.rh_base.specs.declared.fault.Fault.{Fault}
 use Rattle.rh_base.specs.declared.fault.Fault.TheVariants.{Refused, Memory}
@@ -13,7 +19,7 @@ use Rattle.fs_semantics.specs.Disjoint.{AreDisjoint}
 use Rattle.fs_semantics.specs.Orders.{IsDeterministic, IsIdempotent, Succeeds}
 use Rattle.fs_semantics.specs.PlainFiles.{PlainFile, ArePlain, puts, Unordered}
 use Rattle.rehearsal_core.specs.Files.{paths_of, files_at, ArePathsOf, PathsAre}
-use Rattle.rehearsal_core.specs.Judged.{report_of, IsWithin, IsReport, BreaksRule}
+use Rattle.rehearsal_core.specs.Judged.{report_of, IsParsed, IsWithin, IsReport, BreaksRule}
 use Rattle.rehearsal_core.proofs.FileLaws.{files_from, paths_from, proper_paths}
 
 -- the laws on files that are put at paths apart
@@ -56,3 +62,9 @@ pub paths_meet : (manifest : List ℕ) (r : Refusal) (blocks : List Block) (ps :
 paths_meet manifest r blocks ps form paths close is =
     let fs = files_from blocks ps paths in
     inr (inr (inr (inr (is, (blocks, form, fs.0, fs.1, (λ disjoint. close (subst AreDisjoint fs.2.0 disjoint)))))))
+
+-- what is parsed of a text's tokens is the tree of the text
+pub tree_parsed : (source : List ℕ) (tokens : List Lexeme) (result : Result Manifest Fault) → IsUtf8 source → Spells source tokens
+    → IfOk result (λ m. IsManifest m tokens) → OnOk result (IsNowhere IsLeftOut tokens) → OnOk result (IsNowhere IsTooDeep tokens) → IfOk result (IsParsed source)
+tree_parsed source tokens (Ok m) utf8 lexed spelled all_in shallow = record { utf8 = utf8; tokens = tokens; lexed = lexed; all_in = all_in; shallow = shallow; parsed = spelled }
+tree_parsed source tokens (Err e) utf8 lexed spelled all_in shallow = tt

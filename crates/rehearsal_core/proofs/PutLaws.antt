@@ -1,10 +1,9 @@
 -- The programs that put files, one more at a time.
-use Rattle.std.proofs.Common.{◌≡◌, ℕ, map, List, [], ◌∷◌, ◌++◌, refl, sym, ap, ◌∙◌}
+use Rattle.std.proofs.Common.{◌≡◌, map, List, [], ◌∷◌, ◌++◌, refl, ap}
 use Rattle.std.proofs.lemmas.List.{append-nil}
 use Rattle.fs_lang.specs.declared.program.Program.{Program}
 use Rattle.fs_lang.specs.Meaning.{program_of}
 use Rattle.fs_semantics.specs.Programs as model
-use Rattle.fs_semantics.specs.Models.{put}
 use Rattle.fs_semantics.specs.PlainFiles.{puts}
 use Rattle.fs_semantics.specs.FileTree.{Path}
 use Rattle.rehearsal_core.specs.declared.form.Block.{Block}

@@ -27,7 +27,7 @@ pub returns-clause-report : goal.returns-clause-report
 returns-clause-report c =
     let paths : ArePathsOf c.in_ok-blocks.blocks c.in-Some.paths = subst (λ bs. ArePathsOf bs c.in-Some.paths) c.as_slice.ensures (subst (PathsAre c.as_slice.result.now) c.in-Some.is c.in_ok-paths.ensures) in
     let made : map program_of c.in_ok-programs.programs ≡ puts (files_at c.in_ok-blocks.blocks c.in-Some.paths) =
-        c.in_ok-programs.ensures ∙ ap₂ (λ bs ps. puts (files_at bs ps)) c.as_slice-3.ensures c.as_slice-4.ensures in
+    c.in_ok-programs.ensures ∙ ap₂ (λ bs ps. puts (files_at bs ps)) c.as_slice-3.ensures c.as_slice-4.ensures in
     a_report c.args.manifest.now c.in_ok-report.field-0 c.in_ok-blocks.blocks c.in-Some.paths c.in_ok-programs.programs c.in_ok-blocks.ensures.found paths
     (subst AreDisjoint c.as_slice-2.ensures (c.are_disjoint.ensures.0 c.if-not-are_disjoint.false)) made (c.in_ok-report.ensures ∙ ap report_of c.len.ensures)
     (record {
