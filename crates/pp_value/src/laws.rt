@@ -1,11 +1,13 @@
 //! Laws of the operations, as functions that do nothing.
 
-ghost use Rattle.std.specs.Prelude.{◌≡◌, ◌↔◌, ℕ, true, List, Ok, IsTrue};
+ghost use Rattle.std.specs.Prelude.{◌≡◌, ◌↔◌, ℕ, false, List, Ok, IsTrue};
+ghost use Rattle.std.specs.Option.{option_or};
 ghost use Rattle.pp_value.specs.declared.value.Value.{Value};
 ghost use Rattle.pp_value.specs.declared.value.Value.TheVariants as v;
+ghost use Rattle.pp_value.specs.Keys.{with_pairs};
 ghost use Rattle.pp_value.specs.Proper.{IsProper};
 ghost use Rattle.pp_value.specs.Table.{equal_table, add_table, index_table};
-ghost use Rattle.pp_value.specs.Values.{Pair, HasDistinctKeys, with_pair};
+ghost use Rattle.pp_value.specs.Values.{Pair, HasDistinctKeys, value_at, with_pair, exceeds_limits};
 ghost use Rattle.pp_value.specs.Texts.{is_part, StandsIn};
 ghost use Rattle.pp_value.specs.Shown.{show_table};
 
@@ -19,6 +21,11 @@ pub fn text_shows_itself()
     ensures { (text : List ℕ) → show_table (v.Str text) ≡ Ok text }
 {}
 
+/// In the sum of two maps a key has its value from the right one, or else from the left one.
+pub fn right_values_win()
+    ensures { (left right : List Pair) → HasDistinctKeys right → (key : List ℕ) → value_at key (with_pairs left right) ≡ option_or (value_at key right) (value_at key left) }
+{}
+
 /// The sum of values whose maps have distinct keys is such a value.
 pub fn sums_are_proper()
     ensures { (a b x : Value) → IsProper a → IsProper b → add_table a b ≡ Ok x → IsProper x }
@@ -27,6 +34,11 @@ pub fn sums_are_proper()
 /// A member of a value whose maps have distinct keys is such a value.
 pub fn members_are_proper()
     ensures { (a key x : Value) → IsProper a → index_table a key ≡ Ok x → IsProper x }
+{}
+
+/// A member of a value that doesn't exceed the limits doesn't either.
+pub fn members_stay_within()
+    ensures { (a key x : Value) → exceeds_limits a ≡ false → index_table a key ≡ Ok x → exceeds_limits x ≡ false }
 {}
 
 /// A map with distinct keys keeps them with one more pair.
