@@ -4,3 +4,4 @@ pub mod Shelf
 pub mod Sink
 pub mod Kept
 pub mod Refused
+pub mod Reading

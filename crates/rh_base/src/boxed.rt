@@ -1,3 +1,5 @@
+//! Boxes of values.
+
 ghost use Rattle.std.specs.Prelude.{◌≡◌, IfOk};
 
 use crate::text::NoMemory;

@@ -5,6 +5,7 @@ mod boxed;
 mod fault;
 pub mod limits;
 mod memory;
+mod misread;
 mod outside;
 mod seq;
 mod shelf;
@@ -14,11 +15,9 @@ mod text;
 pub use boxed::Boxed;
 pub use fault::{Fault, Refusal};
 pub use memory::{MemoryShelf, MemorySink, SureShelf, SureSink};
+pub use misread::Misread;
 pub use outside::{FileShelf, StdSink};
 pub use seq::Seq;
 pub use shelf::{Fetched, Shelf, ShelfFault};
 pub use sink::{Sink, SinkFault};
 pub use text::{NoMemory, Text};
-
-#[cfg(test)]
-mod tests;

@@ -1,8 +1,10 @@
+//! Shelves and sinks, in memory and of the system.
+
 ghost use Rattle.std.specs.Prelude.{◌<◌};
 
-use crate::{
-    Boxed, Fault, Fetched, FileShelf, MemoryShelf, MemorySink, NoMemory, Refusal, Seq, Shelf,
-    ShelfFault, Sink, SinkFault, StdSink, SureShelf, SureSink, Text,
+use rh_base::{
+    Fetched, FileShelf, MemoryShelf, MemorySink, Shelf, ShelfFault, Sink, SinkFault, StdSink,
+    SureShelf, SureSink, Text,
 };
 use std::alloc::{AllocError, Global};
 use std::fs;
@@ -10,60 +12,6 @@ use std::test::Fail;
 
 fn text(alloc: Global, value: &str) -> Result<Text, AllocError> {
     Ok(Text::from_string(String::from_str(alloc, value)?))
-}
-
-#[test]
-fn texts_and_lists_grow(rt: HostRuntime) -> Result<(), Fail> {
-    let alloc = rt.alloc();
-    let mut word = Text::new(alloc);
-    assert!(rt; word.is_empty());
-    assert!(rt; word.push("etc").is_ok());
-    assert!(rt; word.push("/motd").is_ok());
-    assert_eq!(rt; word.as_str(), "etc/motd");
-    assert_eq!(rt; word.len(), 8);
-    let copy = word.copy(alloc).ok().ok_or("memory")?;
-    assert_eq!(rt; copy.as_str(), "etc/motd");
-    assert_eq!(rt; copy.into_string().as_str(), "etc/motd");
-    let mut numbers = Seq::new(alloc);
-    assert!(rt; numbers.is_empty());
-    assert!(rt; numbers.push(4u32).is_ok());
-    assert!(rt; numbers.push(2u32).is_ok());
-    assert_eq!(rt; numbers.len(), 2);
-    assert_eq!(rt; numbers.as_slice(), [4u32, 2].as_slice());
-    assert_eq!(rt; numbers.into_vec().as_slice(), [4u32, 2].as_slice());
-    Ok(())
-}
-
-#[test]
-fn boxes_and_faults_hold_what_they_are_made_of(rt: HostRuntime) -> Result<(), Fail> {
-    let alloc = rt.alloc();
-    let seven = Boxed::new(alloc, 7u8).ok().ok_or("memory")?;
-    assert_eq!(rt; *seven.get(), 7);
-    assert_eq!(rt; seven.into_inner(), 7);
-    assert_eq!(rt; Boxed::from_box(Box::new(alloc, 9u8)?).into_inner(), 9);
-    let refusal = Refusal::new(alloc, 15, 3, "form").ok().ok_or("memory")?;
-    assert_eq!(rt; refusal.number, 15);
-    assert_eq!(rt; refusal.at, 3);
-    assert_eq!(rt; refusal.name.as_str(), "form");
-    let fault = Fault::refused(alloc, 15, 3, "form");
-    assert!(rt; matches!(&fault, Fault::Refused(r) if r.number == 15 && r.at == 3));
-    assert_eq!(rt;
-        format!(in alloc; "{fault}")?.as_str(),
-        "the input is refused"
-    );
-    let fault = Fault::from(NoMemory);
-    assert_eq!(rt; format!(in alloc; "{fault}")?.as_str(), "out of memory");
-    let fault = ShelfFault::Failed;
-    assert_eq!(rt;
-        format!(in alloc; "{fault}")?.as_str(),
-        "the file can't be read"
-    );
-    let fault = SinkFault::Failed;
-    assert_eq!(rt;
-        format!(in alloc; "{fault}")?.as_str(),
-        "the bytes can't be written"
-    );
-    Ok(())
 }
 
 #[test]
