@@ -3,7 +3,7 @@ use Rattle.std.proofs.Common.{◌≡◌, ℕ, zero, suc, ◌+◌, ◌<◌, List,
 use Rattle.pp_syntax.specs.declared.token.Token.{Token}
 use Rattle.pp_syntax.specs.Tokens.{Lexeme}
 use Rattle.pp_syntax.specs.Lexing.{told, lexeme_of}
-use Rattle.pp_expression.specs.Marks.{Found, front_of}
+use Rattle.pp_readers.specs.Marks.{Found, front_of}
 
 front_suc : (ts : List Token) (i : ℕ) (t : Token) → i < length ts → t ≡ get_or ts i t → ◌≡◌ {A = Found Lexeme} (Some (lexeme_of t, drop (suc i) (told ts))) (front_of (drop i (told ts)))
 front_suc [] i t h e = absurd (omega arith)

@@ -1,17 +1,1 @@
-pub mod Digits
 pub mod Fronts
-pub mod Escapes
-pub mod Variables
-pub mod Steps
-pub mod Tokens
-pub mod Finding
-pub mod Found
-pub mod Operands
-pub mod Solid
-pub mod Whole
-pub mod Reading
-pub mod Listing
-pub mod Spelled
-pub mod Quotes
-pub mod DoubleQuotes
-pub mod Answered

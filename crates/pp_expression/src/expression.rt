@@ -1,16 +1,17 @@
 ghost use Rattle.std.specs.Prelude.{◌≡◌, ◌+◌, ◌-◌, ◌≤◌, ◌<◌, ◌||◌, drop, length, codes};
 ghost use Rattle.pp_syntax.specs.Lexing.{told, lexeme_of};
 ghost use Rattle.pp_syntax.specs.declared.token.Kind.TheVariants as kind;
-ghost use Rattle.pp_expression.specs.Marks.{front_of, mark};
-ghost use Rattle.pp_expression.specs.Reading.{Gives, operations, levels_with, unary_with, postfix_with, primary_with, suffixes, suffix_with, index_with, choices_with, selection_with, choice_with, option_with, pair_with, enclosed_with, items, maybe_items, separator, list_with, map_with, reference_with, titles_with, double_with, quoted_with, members, member_with, part_with, hole_with, inner_with, opened_or, string_with, atom_of, atom_in, expr_at};
+ghost use Rattle.pp_readers.specs.Marks.{front_of, mark};
+ghost use Rattle.pp_readers.specs.Parsed.{Gives, Reads};
+ghost use Rattle.pp_readers.specs.Expressions.{operations, levels_with, unary_with, postfix_with, primary_with, suffixes, suffix_with, index_with, choices_with, selection_with, choice_with, option_with, pair_with, enclosed_with, items, maybe_items, separator, list_with, map_with, reference_with, titles_with, double_with, quoted_with, members, member_with, part_with, hole_with, inner_with, opened_or, string_with, atom_of, atom_in, expr_at};
 
 use crate::marks::{
     begins_suffix, begins_word, expect, first_at, front_of, infix_at, mark, prefixes, turns,
 };
-use crate::misread::Misread;
 use crate::nodes::{as_variable, chain_of, indexed, joined, prefixed, referred, selected};
 use crate::unquoting::dq;
 use crate::values::{atom, name_of};
+use pp_readers::{Misread, Read};
 use pp_syntax::{Expr, Form, Kind, Op, Token};
 use rh_base::Seq;
 use std::alloc::Global;
@@ -22,8 +23,8 @@ pub fn expr(
     depth: usize,
     tokens: &[Token<'_>],
     from: usize,
-) -> Result<(Expr, usize), Misread>
-    ensures { Gives (λ x. (x.0, drop x.1 (told tokens.now))) result (expr_at depth (drop from (told tokens.now))) }
+) -> Read<Expr>
+    ensures { Reads (expr_at depth) tokens.now from result }
 {
     if depth == 0 {
         return Err(Misread::Form(from));
@@ -33,16 +34,16 @@ pub fn expr(
 
 /// What the nth rule from the tightest reads.
 #[cycle(expression)]
-#[tactic(auto, unfolding(crate::specs::Reading::chain_with))]
+#[tactic(auto, unfolding(pp_readers::specs::Expressions::chain_with))]
 fn level(
     alloc: Global,
     depth: usize,
     n: u32,
     tokens: &[Token<'_>],
     from: usize,
-) -> Result<(Expr, usize), Misread>
+) -> Read<Expr>
     requires { n ≤ 7 }
-    ensures { Gives (λ x. (x.0, drop x.1 (told tokens.now))) result (levels_with (expr_at depth) n (drop from (told tokens.now))) }
+    ensures { Reads (levels_with (expr_at depth) n) tokens.now from result }
 {
     if n == 0 {
         return unary(alloc, depth, tokens, from);
@@ -62,9 +63,9 @@ fn operations(
     turns: usize,
     tokens: &[Token<'_>],
     from: usize,
-) -> Result<(Seq<(Op, Expr)>, usize), Misread>
+) -> Read<Seq<(Op, Expr)>>
     requires { n < 7 }
-    ensures { Gives (λ x. (x.0, drop x.1 (told tokens.now))) result (operations (6 - n) (levels_with (expr_at depth) n) turns (drop from (told tokens.now))) }
+    ensures { Reads (operations (6 - n) (levels_with (expr_at depth) n) turns) tokens.now from result }
 {
     let mut found = Seq::new(alloc);
     let mut rest = from;
@@ -80,14 +81,14 @@ fn operations(
 }
 
 #[cycle(expression)]
-#[tactic(auto, unfolding(crate::specs::Reading::unary_with))]
+#[tactic(auto, unfolding(pp_readers::specs::Expressions::unary_with))]
 fn unary(
     alloc: Global,
     depth: usize,
     tokens: &[Token<'_>],
     from: usize,
-) -> Result<(Expr, usize), Misread>
-    ensures { Gives (λ x. (x.0, drop x.1 (told tokens.now))) result (unary_with (expr_at depth) (drop from (told tokens.now))) }
+) -> Read<Expr>
+    ensures { Reads (unary_with (expr_at depth)) tokens.now from result }
 {
     let (ops, rest) = prefixes(alloc, tokens, from)?;
     let (operand, rest) = postfix(alloc, depth, tokens, rest)?;
@@ -96,14 +97,14 @@ fn unary(
 }
 
 #[cycle(expression)]
-#[tactic(auto, unfolding(crate::specs::Reading::postfix_with))]
+#[tactic(auto, unfolding(pp_readers::specs::Expressions::postfix_with))]
 pub fn postfix(
     alloc: Global,
     depth: usize,
     tokens: &[Token<'_>],
     from: usize,
-) -> Result<(Expr, usize), Misread>
-    ensures { Gives (λ x. (x.0, drop x.1 (told tokens.now))) result (postfix_with (expr_at depth) (drop from (told tokens.now))) }
+) -> Read<Expr>
+    ensures { Reads (postfix_with (expr_at depth)) tokens.now from result }
 {
     let (operand, rest) = primary(alloc, depth, tokens, from)?;
     suffixes(
@@ -127,8 +128,8 @@ fn suffixes(
     operand: Expr,
     tokens: &[Token<'_>],
     from: usize,
-) -> Result<(Expr, usize), Misread>
-    ensures { Gives (λ x. (x.0, drop x.1 (told tokens.now))) result (suffixes (expr_at depth) at turns operand (drop from (told tokens.now))) }
+) -> Read<Expr>
+    ensures { Reads (suffixes (expr_at depth) at turns operand) tokens.now from result }
 {
     let mut base = operand;
     let mut rest = from;
@@ -152,8 +153,8 @@ fn suffix(
     base: Expr,
     tokens: &[Token<'_>],
     from: usize,
-) -> Result<(Expr, usize), Misread>
-    ensures { Gives (λ x. (x.0, drop x.1 (told tokens.now))) result (suffix_with (expr_at depth) at base (drop from (told tokens.now))) }
+) -> Read<Expr>
+    ensures { Reads (suffix_with (expr_at depth) at base) tokens.now from result }
 {
     match front_of(tokens, from) {
         Some((token, _)) => match token.kind {
@@ -166,7 +167,7 @@ fn suffix(
 }
 
 #[cycle(expression)]
-#[tactic(auto, unfolding(crate::specs::Reading::index_with))]
+#[tactic(auto, unfolding(pp_readers::specs::Expressions::index_with))]
 fn index(
     alloc: Global,
     depth: usize,
@@ -174,8 +175,8 @@ fn index(
     base: Expr,
     tokens: &[Token<'_>],
     from: usize,
-) -> Result<(Expr, usize), Misread>
-    ensures { Gives (λ x. (x.0, drop x.1 (told tokens.now))) result (index_with (expr_at depth) at base (drop from (told tokens.now))) }
+) -> Read<Expr>
+    ensures { Reads (index_with (expr_at depth) at base) tokens.now from result }
 {
     let (_, rest) = expect(Kind::Tight, "[", tokens, from)?;
     let (key, rest) = enclosed(alloc, depth, "]", tokens, rest)?;
@@ -184,7 +185,7 @@ fn index(
 }
 
 #[cycle(expression)]
-#[tactic(auto, unfolding(crate::specs::Reading::selection_with))]
+#[tactic(auto, unfolding(pp_readers::specs::Expressions::selection_with))]
 fn selection(
     alloc: Global,
     depth: usize,
@@ -192,8 +193,8 @@ fn selection(
     base: Expr,
     tokens: &[Token<'_>],
     from: usize,
-) -> Result<(Expr, usize), Misread>
-    ensures { Gives (λ x. (x.0, drop x.1 (told tokens.now))) result (selection_with (expr_at depth) at base (drop from (told tokens.now))) }
+) -> Read<Expr>
+    ensures { Reads (selection_with (expr_at depth) at base) tokens.now from result }
 {
     let (found, rest) = choices(alloc, depth, tokens, from)?;
     let e = selected(alloc, at, base, found)?;
@@ -201,14 +202,14 @@ fn selection(
 }
 
 #[cycle(expression)]
-#[tactic(auto, unfolding(crate::specs::Reading::choices_with))]
+#[tactic(auto, unfolding(pp_readers::specs::Expressions::choices_with))]
 fn choices(
     alloc: Global,
     depth: usize,
     tokens: &[Token<'_>],
     from: usize,
-) -> Result<(Seq<(Option<Expr>, Expr)>, usize), Misread>
-    ensures { Gives (λ x. (x.0, drop x.1 (told tokens.now))) result (choices_with (expr_at depth) (drop from (told tokens.now))) }
+) -> Read<Seq<(Option<Expr>, Expr)>>
+    ensures { Reads (choices_with (expr_at depth)) tokens.now from result }
 {
     let (_, rest) = expect(Kind::Sign, "?", tokens, from)?;
     let (_, rest) = expect(Kind::Sign, "{", tokens, rest)?;
@@ -222,8 +223,8 @@ fn some_choices(
     turns: usize,
     tokens: &[Token<'_>],
     from: usize,
-) -> Result<(Seq<(Option<Expr>, Expr)>, usize), Misread>
-    ensures { Gives (λ x. (x.0, drop x.1 (told tokens.now))) result (items (codes "}") (choice_with (expr_at depth)) turns (drop from (told tokens.now))) }
+) -> Read<Seq<(Option<Expr>, Expr)>>
+    ensures { Reads (items (codes "}") (choice_with (expr_at depth)) turns) tokens.now from result }
 {
     let mut found = Seq::new(alloc);
     let mut rest = from;
@@ -240,14 +241,14 @@ fn some_choices(
 }
 
 #[cycle(expression)]
-#[tactic(auto, unfolding(crate::specs::Reading::choice_with))]
+#[tactic(auto, unfolding(pp_readers::specs::Expressions::choice_with))]
 fn choice(
     alloc: Global,
     depth: usize,
     tokens: &[Token<'_>],
     from: usize,
-) -> Result<((Option<Expr>, Expr), usize), Misread>
-    ensures { Gives (λ x. (x.0, drop x.1 (told tokens.now))) result (choice_with (expr_at depth) (drop from (told tokens.now))) }
+) -> Read<(Option<Expr>, Expr)>
+    ensures { Reads (choice_with (expr_at depth)) tokens.now from result }
 {
     let (key, rest) = option(alloc, depth, tokens, from)?;
     let (_, rest) = expect(Kind::Sign, "=>", tokens, rest)?;
@@ -262,8 +263,8 @@ fn option(
     depth: usize,
     tokens: &[Token<'_>],
     from: usize,
-) -> Result<(Option<Expr>, usize), Misread>
-    ensures { Gives (λ x. (x.0, drop x.1 (told tokens.now))) result (option_with (expr_at depth) (drop from (told tokens.now))) }
+) -> Read<Option<Expr>>
+    ensures { Reads (option_with (expr_at depth)) tokens.now from result }
 {
     if let Some((_, rest)) = mark(Kind::Keyword, "default", tokens, from) {
         return Ok((None, rest));
@@ -273,14 +274,14 @@ fn option(
 }
 
 #[cycle(expression)]
-#[tactic(auto, unfolding(crate::specs::Reading::pair_with))]
+#[tactic(auto, unfolding(pp_readers::specs::Expressions::pair_with))]
 fn pair(
     alloc: Global,
     depth: usize,
     tokens: &[Token<'_>],
     from: usize,
-) -> Result<((Expr, Expr), usize), Misread>
-    ensures { Gives (λ x. (x.0, drop x.1 (told tokens.now))) result (pair_with (expr_at depth) (drop from (told tokens.now))) }
+) -> Read<(Expr, Expr)>
+    ensures { Reads (pair_with (expr_at depth)) tokens.now from result }
 {
     let (key, rest) = expr(alloc, depth, tokens, from)?;
     let (_, rest) = expect(Kind::Sign, "=>", tokens, rest)?;
@@ -290,15 +291,15 @@ fn pair(
 
 /// An expression, and the sign that closes it.
 #[cycle(expression)]
-#[tactic(auto, unfolding(crate::specs::Reading::enclosed_with))]
+#[tactic(auto, unfolding(pp_readers::specs::Expressions::enclosed_with))]
 fn enclosed(
     alloc: Global,
     depth: usize,
     close: &str,
     tokens: &[Token<'_>],
     from: usize,
-) -> Result<(Expr, usize), Misread>
-    ensures { Gives (λ x. (x.0, drop x.1 (told tokens.now))) result (enclosed_with (expr_at depth) close.now (drop from (told tokens.now))) }
+) -> Read<Expr>
+    ensures { Reads (enclosed_with (expr_at depth) close.now) tokens.now from result }
 {
     let (e, rest) = expr(alloc, depth, tokens, from)?;
     let (_, rest) = expect(Kind::Sign, close, tokens, rest)?;
@@ -307,8 +308,8 @@ fn enclosed(
 
 /// Behind an item of a list that this sign closes: whether the list ends here, and the index behind
 /// the comma or the sign.
-pub fn separator(close: &str, tokens: &[Token<'_>], from: usize) -> Result<(bool, usize), Misread>
-    ensures { Gives (λ x. (x.0, drop x.1 (told tokens.now))) result (separator close.now (drop from (told tokens.now))) }
+pub fn separator(close: &str, tokens: &[Token<'_>], from: usize) -> Read<bool>
+    ensures { Reads (separator close.now) tokens.now from result }
 {
     if let Some((_, rest)) = mark(Kind::Sign, close, tokens, from) {
         return Ok((true, rest));
@@ -329,8 +330,8 @@ fn exprs(
     turns: usize,
     tokens: &[Token<'_>],
     from: usize,
-) -> Result<(Seq<Expr>, usize), Misread>
-    ensures { Gives (λ x. (x.0, drop x.1 (told tokens.now))) result (items close.now (expr_at depth) turns (drop from (told tokens.now))) }
+) -> Read<Seq<Expr>>
+    ensures { Reads (items close.now (expr_at depth) turns) tokens.now from result }
 {
     let mut found = Seq::new(alloc);
     let mut rest = from;
@@ -353,8 +354,8 @@ fn maybe_exprs(
     close: &str,
     tokens: &[Token<'_>],
     from: usize,
-) -> Result<(Seq<Expr>, usize), Misread>
-    ensures { Gives (λ x. (x.0, drop x.1 (told tokens.now))) result (maybe_items close.now (expr_at depth) (length (drop from (told tokens.now)) + 1) (drop from (told tokens.now))) }
+) -> Read<Seq<Expr>>
+    ensures { Reads (maybe_items close.now (expr_at depth) (length (drop from (told tokens.now)) + 1)) tokens.now from result }
 {
     if let Some((_, rest)) = mark(Kind::Sign, close, tokens, from) {
         return Ok((Seq::new(alloc), rest));
@@ -369,8 +370,8 @@ fn pairs(
     turns: usize,
     tokens: &[Token<'_>],
     from: usize,
-) -> Result<(Seq<(Expr, Expr)>, usize), Misread>
-    ensures { Gives (λ x. (x.0, drop x.1 (told tokens.now))) result (items (codes "}") (pair_with (expr_at depth)) turns (drop from (told tokens.now))) }
+) -> Read<Seq<(Expr, Expr)>>
+    ensures { Reads (items (codes "}") (pair_with (expr_at depth)) turns) tokens.now from result }
 {
     let mut found = Seq::new(alloc);
     let mut rest = from;
@@ -392,8 +393,8 @@ fn maybe_pairs(
     depth: usize,
     tokens: &[Token<'_>],
     from: usize,
-) -> Result<(Seq<(Expr, Expr)>, usize), Misread>
-    ensures { Gives (λ x. (x.0, drop x.1 (told tokens.now))) result (maybe_items (codes "}") (pair_with (expr_at depth)) (length (drop from (told tokens.now)) + 1) (drop from (told tokens.now))) }
+) -> Read<Seq<(Expr, Expr)>>
+    ensures { Reads (maybe_items (codes "}") (pair_with (expr_at depth)) (length (drop from (told tokens.now)) + 1)) tokens.now from result }
 {
     if let Some((_, rest)) = mark(Kind::Sign, "}", tokens, from) {
         return Ok((Seq::new(alloc), rest));
@@ -403,14 +404,14 @@ fn maybe_pairs(
 
 /// A list in brackets.
 #[cycle(expression)]
-#[tactic(auto, unfolding(crate::specs::Reading::list_with))]
+#[tactic(auto, unfolding(pp_readers::specs::Expressions::list_with))]
 fn list(
     alloc: Global,
     depth: usize,
     tokens: &[Token<'_>],
     from: usize,
-) -> Result<(Expr, usize), Misread>
-    ensures { Gives (λ x. (x.0, drop x.1 (told tokens.now))) result (list_with (expr_at depth) (drop from (told tokens.now))) }
+) -> Read<Expr>
+    ensures { Reads (list_with (expr_at depth)) tokens.now from result }
 {
     let (at, rest) = expect(Kind::Loose, "[", tokens, from)?;
     let (found, rest) = maybe_exprs(alloc, depth, "]", tokens, rest)?;
@@ -420,14 +421,14 @@ fn list(
 
 /// A map in braces.
 #[cycle(expression)]
-#[tactic(auto, unfolding(crate::specs::Reading::map_with))]
+#[tactic(auto, unfolding(pp_readers::specs::Expressions::map_with))]
 fn map(
     alloc: Global,
     depth: usize,
     tokens: &[Token<'_>],
     from: usize,
-) -> Result<(Expr, usize), Misread>
-    ensures { Gives (λ x. (x.0, drop x.1 (told tokens.now))) result (map_with (expr_at depth) (drop from (told tokens.now))) }
+) -> Read<Expr>
+    ensures { Reads (map_with (expr_at depth)) tokens.now from result }
 {
     let (at, rest) = expect(Kind::Sign, "{", tokens, from)?;
     let (found, rest) = maybe_pairs(alloc, depth, tokens, rest)?;
@@ -437,14 +438,14 @@ fn map(
 
 /// What a reference refers to, in brackets.
 #[cycle(expression)]
-#[tactic(auto, unfolding(crate::specs::Reading::titles_with))]
+#[tactic(auto, unfolding(pp_readers::specs::Expressions::titles_with))]
 fn titles(
     alloc: Global,
     depth: usize,
     tokens: &[Token<'_>],
     from: usize,
-) -> Result<(Seq<Expr>, usize), Misread>
-    ensures { Gives (λ x. (x.0, drop x.1 (told tokens.now))) result (titles_with (expr_at depth) (drop from (told tokens.now))) }
+) -> Read<Seq<Expr>>
+    ensures { Reads (titles_with (expr_at depth)) tokens.now from result }
 {
     let (_, rest) = expect(Kind::Tight, "[", tokens, from)?;
     exprs(alloc, depth, "]", turns(tokens, rest), tokens, rest)
@@ -456,8 +457,8 @@ pub fn reference(
     depth: usize,
     tokens: &[Token<'_>],
     from: usize,
-) -> Result<(Expr, usize), Misread>
-    ensures { Gives (λ x. (x.0, drop x.1 (told tokens.now))) result (reference_with (expr_at depth) (drop from (told tokens.now))) }
+) -> Read<Expr>
+    ensures { Reads (reference_with (expr_at depth)) tokens.now from result }
 {
     match front_of(tokens, from) {
         Some((token, rest)) => match token.kind {
@@ -473,15 +474,15 @@ pub fn reference(
 }
 
 /// A token that is an operand by itself.
-fn atom_of(alloc: Global, left: usize, token: &Token<'_>) -> Result<Expr, Misread>
+fn atom_of(alloc: Global, index: usize, token: &Token<'_>) -> Result<Expr, Misread>
     ensures { Gives (λ x. x) result (atom_of (lexeme_of token.now)) }
 {
-    let form = atom(alloc, left, token.kind, token.text)?;
+    let form = atom(alloc, index, token.kind, token.text)?;
     Ok(Expr { at: token.at, form })
 }
 
-fn atom_at(alloc: Global, tokens: &[Token<'_>], from: usize) -> Result<(Expr, usize), Misread>
-    ensures { Gives (λ x. (x.0, drop x.1 (told tokens.now))) result (atom_in (front_of (drop from (told tokens.now)))) }
+fn atom_at(alloc: Global, tokens: &[Token<'_>], from: usize) -> Read<Expr>
+    ensures { Reads (λ ts. atom_in (front_of ts)) tokens.now from result }
 {
     match front_of(tokens, from) {
         Some((token, rest)) => {
@@ -498,8 +499,8 @@ fn opened(
     depth: usize,
     tokens: &[Token<'_>],
     from: usize,
-) -> Result<(Expr, usize), Misread>
-    ensures { Gives (λ x. (x.0, drop x.1 (told tokens.now))) result (opened_or (expr_at depth) (mark kind.Sign (codes "(") (drop from (told tokens.now))) (drop from (told tokens.now))) }
+) -> Read<Expr>
+    ensures { Reads (λ ts. opened_or (expr_at depth) (mark kind.Sign (codes "(") ts) ts) tokens.now from result }
 {
     if let Some((_, rest)) = mark(Kind::Sign, "(", tokens, from) {
         return enclosed(alloc, depth, ")", tokens, rest);
@@ -513,8 +514,8 @@ fn primary(
     depth: usize,
     tokens: &[Token<'_>],
     from: usize,
-) -> Result<(Expr, usize), Misread>
-    ensures { Gives (λ x. (x.0, drop x.1 (told tokens.now))) result (primary_with (expr_at depth) (drop from (told tokens.now))) }
+) -> Read<Expr>
+    ensures { Reads (primary_with (expr_at depth)) tokens.now from result }
 {
     match front_of(tokens, from) {
         Some((token, _)) => match token.kind {
@@ -534,8 +535,8 @@ pub fn string(
     depth: usize,
     tokens: &[Token<'_>],
     from: usize,
-) -> Result<(Expr, usize), Misread>
-    ensures { Gives (λ x. (x.0, drop x.1 (told tokens.now))) result (string_with (expr_at depth) (drop from (told tokens.now))) }
+) -> Read<Expr>
+    ensures { Reads (string_with (expr_at depth)) tokens.now from result }
 {
     match front_of(tokens, from) {
         Some((token, _)) => match token.kind {
@@ -548,29 +549,29 @@ pub fn string(
 }
 
 #[cycle(expression)]
-#[tactic(auto, unfolding(crate::specs::Reading::double_with))]
+#[tactic(auto, unfolding(pp_readers::specs::Expressions::double_with))]
 fn double(
     alloc: Global,
     depth: usize,
     tokens: &[Token<'_>],
     from: usize,
-) -> Result<(Expr, usize), Misread>
-    ensures { Gives (λ x. (x.0, drop x.1 (told tokens.now))) result (double_with (expr_at depth) (drop from (told tokens.now))) }
+) -> Read<Expr>
+    ensures { Reads (double_with (expr_at depth)) tokens.now from result }
 {
     let (at, rest) = expect(Kind::DqOpen, "\"", tokens, from)?;
     quoted(alloc, depth, at, tokens, rest)
 }
 
 #[cycle(expression)]
-#[tactic(auto, unfolding(crate::specs::Reading::quoted_with))]
+#[tactic(auto, unfolding(pp_readers::specs::Expressions::quoted_with))]
 fn quoted(
     alloc: Global,
     depth: usize,
     at: u32,
     tokens: &[Token<'_>],
     from: usize,
-) -> Result<(Expr, usize), Misread>
-    ensures { Gives (λ x. (x.0, drop x.1 (told tokens.now))) result (quoted_with (expr_at depth) at (drop from (told tokens.now))) }
+) -> Read<Expr>
+    ensures { Reads (quoted_with (expr_at depth) at) tokens.now from result }
 {
     let ((found, part), rest) = members(alloc, depth, turns(tokens, from), tokens, from)?;
     let e = joined(alloc, from, at, found, part)?;
@@ -591,8 +592,8 @@ fn members(
     turns: usize,
     tokens: &[Token<'_>],
     from: usize,
-) -> Result<((Seq<Expr>, bool), usize), Misread>
-    ensures { Gives (λ x. (x.0, drop x.1 (told tokens.now))) result (members (expr_at depth) turns (drop from (told tokens.now))) }
+) -> Read<(Seq<Expr>, bool)>
+    ensures { Reads (members (expr_at depth) turns) tokens.now from result }
 {
     let mut found = Seq::new(alloc);
     let mut part = false;
@@ -616,8 +617,8 @@ fn member(
     depth: usize,
     tokens: &[Token<'_>],
     from: usize,
-) -> Result<((Expr, bool), usize), Misread>
-    ensures { Gives (λ x. (x.0, drop x.1 (told tokens.now))) result (member_with (expr_at depth) (drop from (told tokens.now))) }
+) -> Read<(Expr, bool)>
+    ensures { Reads (member_with (expr_at depth)) tokens.now from result }
 {
     match front_of(tokens, from) {
         Some((token, rest)) => match token.kind {
@@ -641,28 +642,28 @@ fn member(
 
 /// An expression between `${` and `}`.
 #[cycle(expression)]
-#[tactic(auto, unfolding(crate::specs::Reading::part_with))]
+#[tactic(auto, unfolding(pp_readers::specs::Expressions::part_with))]
 fn part(
     alloc: Global,
     depth: usize,
     tokens: &[Token<'_>],
     from: usize,
-) -> Result<(Expr, usize), Misread>
-    ensures { Gives (λ x. (x.0, drop x.1 (told tokens.now))) result (part_with (expr_at depth) (drop from (told tokens.now))) }
+) -> Read<Expr>
+    ensures { Reads (part_with (expr_at depth)) tokens.now from result }
 {
     let (_, rest) = expect(Kind::Hole, "${", tokens, from)?;
     hole(alloc, depth, tokens, rest)
 }
 
 #[cycle(expression)]
-#[tactic(auto, unfolding(crate::specs::Reading::hole_with))]
+#[tactic(auto, unfolding(pp_readers::specs::Expressions::hole_with))]
 fn hole(
     alloc: Global,
     depth: usize,
     tokens: &[Token<'_>],
     from: usize,
-) -> Result<(Expr, usize), Misread>
-    ensures { Gives (λ x. (x.0, drop x.1 (told tokens.now))) result (hole_with (expr_at depth) (drop from (told tokens.now))) }
+) -> Read<Expr>
+    ensures { Reads (hole_with (expr_at depth)) tokens.now from result }
 {
     let (e, rest) = inner(alloc, depth, tokens, from)?;
     let (_, rest) = expect(Kind::HoleEnd, "}", tokens, rest)?;
@@ -670,14 +671,14 @@ fn hole(
 }
 
 #[cycle(expression)]
-#[tactic(auto, unfolding(crate::specs::Reading::inner_with))]
+#[tactic(auto, unfolding(pp_readers::specs::Expressions::inner_with))]
 fn inner(
     alloc: Global,
     depth: usize,
     tokens: &[Token<'_>],
     from: usize,
-) -> Result<(Expr, usize), Misread>
-    ensures { Gives (λ x. (x.0, drop x.1 (told tokens.now))) result (inner_with (expr_at depth) (drop from (told tokens.now))) }
+) -> Read<Expr>
+    ensures { Reads (inner_with (expr_at depth)) tokens.now from result }
 {
     let (e, rest) = expr(alloc, depth, tokens, from)?;
     if begins_word(tokens, from) {

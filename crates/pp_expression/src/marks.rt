@@ -1,44 +1,14 @@
 ghost use Rattle.std.specs.Prelude.{◌≡◌, ◌+◌, ◌<◌, ◌≤◌, drop, length, IfOk, IfSome};
 ghost use Rattle.std.specs.Option.{option_map};
 ghost use Rattle.pp_syntax.specs.Lexing.{told, lexeme_of};
-ghost use Rattle.pp_syntax.specs.Derivation.{level_of};
-ghost use Rattle.pp_expression.specs.Marks.{front_of, first_at, rank, is_kind, mark, sign_operator, keyword_operator, operator_of, infix_at, sign_prefix, prefix_of, prefix_at, is_suffix, begins_suffix};
-ghost use Rattle.pp_expression.specs.Reading.{Gives, begins_word, prefixes};
+ghost use Rattle.pp_readers.specs.Marks.{front_of, first_at, mark, sign_operator, keyword_operator, operator_of, infix_at, sign_prefix, prefix_of, prefix_at, is_suffix, begins_suffix};
+ghost use Rattle.pp_readers.specs.Parsed.{Reads, Sees};
+ghost use Rattle.pp_readers.specs.Expressions.{begins_word, prefixes};
 
-use crate::misread::Misread;
+use pp_readers::{Misread, Read};
 use pp_syntax::{Kind, Op, Token};
 use rh_base::{NoMemory, Seq};
 use std::alloc::Global;
-
-fn rank(kind: Kind) -> u8
-    ensures { result ≡ rank kind }
-{
-    match kind {
-        Kind::Word => 0,
-        Kind::Ref => 1,
-        Kind::Var => 2,
-        Kind::Int => 3,
-        Kind::Float => 4,
-        Kind::Sq => 5,
-        Kind::DqOpen => 6,
-        Kind::DqText => 7,
-        Kind::DqVar => 8,
-        Kind::Hole => 9,
-        Kind::HoleEnd => 10,
-        Kind::DqClose => 11,
-        Kind::Tight => 12,
-        Kind::Loose => 13,
-        Kind::Keyword => 14,
-        Kind::Sign => 15,
-        Kind::LeftOut => 16,
-    }
-}
-
-fn is_kind(one: Kind, other: Kind) -> bool
-    ensures { result ≡ is_kind one other }
-{
-    rank(one) == rank(other)
-}
 
 /// The token at this index, and the index behind it.
 pub fn front_of<'a, 't>(tokens: &'a [Token<'t>], from: usize) -> Option<(&'a Token<'t>, usize)>
@@ -58,10 +28,10 @@ pub fn turns(tokens: &[Token<'_>], from: usize) -> usize
 
 /// Where the token of this kind and text stands that is at this index, and the index behind it.
 pub fn mark(kind: Kind, text: &str, tokens: &[Token<'_>], from: usize) -> Option<(u32, usize)>
-    ensures { option_map (λ x. (x.0, drop x.1 (told tokens.now))) result ≡ mark kind text.now (drop from (told tokens.now)) }
+    ensures { Sees (mark kind text.now) tokens.now from result }
 {
     let (token, rest) = front_of(tokens, from)?;
-    let same = is_kind(token.kind, kind);
+    let same = token.kind == kind;
     let spelled = token.text == text;
     if same && spelled {
         Some((token.at, rest))
@@ -76,8 +46,8 @@ pub fn expect(
     text: &str,
     tokens: &[Token<'_>],
     from: usize,
-) -> Result<(u32, usize), Misread>
-    ensures { Gives (λ x. (x.0, drop x.1 (told tokens.now))) result (mark kind text.now (drop from (told tokens.now))) }
+) -> Read<u32>
+    ensures { Reads (mark kind text.now) tokens.now from result }
 {
     mark(kind, text, tokens, from).ok_or(Misread::Form(from))
 }
@@ -152,28 +122,13 @@ fn operator_of(kind: Kind, text: &str) -> Option<Op>
     }
 }
 
-fn level_of(op: Op) -> u32
-    ensures { result ≡ level_of op }
-{
-    match op {
-        Op::Or => 0,
-        Op::And => 1,
-        Op::Less | Op::Greater | Op::AtMost | Op::AtLeast => 2,
-        Op::Same | Op::NotSame => 3,
-        Op::Plus | Op::Minus => 4,
-        Op::Times => 5,
-        Op::In => 6,
-        Op::Not => 7,
-    }
-}
-
 /// The operator of this level that is at the front.
 pub fn infix_at(level: u32, tokens: &[Token<'_>], from: usize) -> Option<(Op, usize)>
-    ensures { option_map (λ x. (x.0, drop x.1 (told tokens.now))) result ≡ infix_at level (drop from (told tokens.now)) }
+    ensures { Sees (infix_at level) tokens.now from result }
 {
     let (token, rest) = front_of(tokens, from)?;
     let op = operator_of(token.kind, token.text)?;
-    if level_of(op) == level {
+    if op.level() == level {
         Some((op, rest))
     } else {
         None
@@ -222,7 +177,7 @@ pub fn begins_suffix(tokens: &[Token<'_>], from: usize) -> bool
 }
 
 fn prefix_at(tokens: &[Token<'_>], from: usize) -> Option<(Op, usize)>
-    ensures is { option_map (λ x. (x.0, drop x.1 (told tokens.now))) result ≡ prefix_at (drop from (told tokens.now)) }
+    ensures is { Sees prefix_at tokens.now from result }
     ensures behind { IfSome result (λ x. (from < x.1) × (x.1 ≤ length tokens.now)) }
 {
     let (token, rest) = front_of(tokens, from)?;

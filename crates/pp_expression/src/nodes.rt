@@ -1,9 +1,10 @@
 ghost use Rattle.std.specs.Prelude.{◌≡◌, IfOk};
 ghost use Rattle.pp_syntax.specs.declared.tree.Form.TheVariants as form;
-ghost use Rattle.pp_expression.specs.Reading.{Gives, chain_of, prefixed, plain_of, joined, as_variable};
+ghost use Rattle.pp_readers.specs.Parsed.{Gives};
+ghost use Rattle.pp_readers.specs.Expressions.{chain_of, prefixed, plain_of, joined, as_variable};
 
-use crate::misread::Misread;
 use crate::values::text_of;
+use pp_readers::Misread;
 use pp_syntax::{Expr, Form, Op};
 use rh_base::{Boxed, NoMemory, Seq, Text};
 use std::alloc::Global;
@@ -39,11 +40,11 @@ pub fn prefixed(alloc: Global, at: u32, ops: Seq<Op>, operand: Expr) -> Result<E
 
 /// An index into an operand.
 pub fn indexed(alloc: Global, at: u32, base: Expr, key: Expr) -> Result<Expr, NoMemory>
-    ensures { IfOk result (λ e. e ≡ record { at = at; form = form.At base key }) }
+    ensures { IfOk result (λ e. e ≡ record { at = at; form = form.Index base key }) }
 {
     let base = Boxed::new(alloc, base)?;
     let key = Boxed::new(alloc, key)?;
-    let form = Form::At(base, key);
+    let form = Form::Index(base, key);
     Ok(Expr { at, form })
 }
 
@@ -71,7 +72,7 @@ pub fn selected(
 }
 
 /// Text in double quotes that has no variables and expressions.
-fn plain_of(alloc: Global, left: usize, at: u32, members: Seq<Expr>) -> Result<Expr, Misread>
+fn plain_of(alloc: Global, index: usize, at: u32, members: Seq<Expr>) -> Result<Expr, Misread>
     ensures { Gives (λ x. x) result (plain_of at members) }
 {
     let mut members = members.into_vec();
@@ -82,7 +83,7 @@ fn plain_of(alloc: Global, left: usize, at: u32, members: Seq<Expr>) -> Result<E
         }),
         Some(member) => {
             if !members.is_empty() {
-                return Err(Misread::Form(left));
+                return Err(Misread::Form(index));
             }
             let Expr { at: _, form } = member;
             Ok(Expr { at, form })
@@ -93,7 +94,7 @@ fn plain_of(alloc: Global, left: usize, at: u32, members: Seq<Expr>) -> Result<E
 /// A text in double quotes of these members; part: a variable or an expression is among them.
 pub fn joined(
     alloc: Global,
-    left: usize,
+    index: usize,
     at: u32,
     members: Seq<Expr>,
     part: bool,
@@ -106,11 +107,11 @@ pub fn joined(
             form: Form::Join(members),
         });
     }
-    plain_of(alloc, left, at, members)
+    plain_of(alloc, index, at, members)
 }
 
 /// A word with nothing but indexes behind it, as the variable of that name. Any other expression stays.
-#[tactic(auto, using(crate::proofs::Variables::at_as_variable))]
+#[tactic(auto, using(pp_readers::proofs::Variables::at_as_variable))]
 pub fn as_variable(alloc: Global, e: Expr) -> Result<Expr, NoMemory>
     ensures { IfOk result (λ v. v ≡ as_variable e) }
 {
@@ -120,12 +121,12 @@ pub fn as_variable(alloc: Global, e: Expr) -> Result<Expr, NoMemory>
             at,
             form: Form::Var(name),
         }),
-        Form::At(base, key) => {
+        Form::Index(base, key) => {
             let base = as_variable(alloc, base.into_inner())?;
             let base = Boxed::new(alloc, base)?;
             Ok(Expr {
                 at,
-                form: Form::At(base, key),
+                form: Form::Index(base, key),
             })
         }
         form => Ok(Expr { at, form }),

@@ -1,11 +1,10 @@
-ghost use Rattle.std.specs.Prelude.{drop};
 ghost use Rattle.pp_syntax.specs.Lexing.{told};
 ghost use Rattle.pp_syntax.specs.Derivation.{IsExprAt, PostfixOf, ReferenceOf, StringOf};
-ghost use Rattle.pp_expression.specs.Parsed.{IsSpelled, IsParsed, NothingGoesOn, NoSuffixGoesOn, Anything};
-ghost use Rattle.pp_expression.specs.Reading.{Gives, expr_at, postfix_with, reference_with, string_with};
+ghost use Rattle.pp_readers.specs.Parsed.{Reads, IsSpelled, IsParsed, NothingGoesOn, NoSuffixGoesOn, Anything};
+ghost use Rattle.pp_readers.specs.Expressions.{expr_at, postfix_with, reference_with, string_with};
 
 use crate::expression;
-use crate::misread::Misread;
+use pp_readers::Read;
 use pp_syntax::{Expr, Token};
 use std::alloc::Global;
 
@@ -16,11 +15,11 @@ pub fn parse_expression(
     depth: usize,
     tokens: &[Token<'_>],
     from: usize,
-) -> Result<(Expr, usize), Misread>
+) -> Read<Expr>
     ensures spelled { IsSpelled (IsExprAt depth) (told tokens.now) from result }
     ensures parsed { IsParsed (IsExprAt depth) NothingGoesOn (told tokens.now) from result }
     // what the way of reading finds, of which the laws say that it is the grammar's
-    ensures reads { Gives (λ x. (x.0, drop x.1 (told tokens.now))) result (expr_at depth (drop from (told tokens.now))) }
+    ensures reads { Reads (expr_at depth) tokens.now from result }
 {
     expression::expr(alloc, depth, tokens, from)
 }
@@ -32,11 +31,11 @@ pub fn parse_postfix(
     depth: usize,
     tokens: &[Token<'_>],
     from: usize,
-) -> Result<(Expr, usize), Misread>
+) -> Read<Expr>
     ensures spelled { IsSpelled (PostfixOf (IsExprAt depth)) (told tokens.now) from result }
     ensures parsed { IsParsed (PostfixOf (IsExprAt depth)) NoSuffixGoesOn (told tokens.now) from result }
     // what the way of reading finds, of which the laws say that it is the grammar's
-    ensures reads { Gives (λ x. (x.0, drop x.1 (told tokens.now))) result (postfix_with (expr_at depth) (drop from (told tokens.now))) }
+    ensures reads { Reads (postfix_with (expr_at depth)) tokens.now from result }
 {
     expression::postfix(alloc, depth, tokens, from)
 }
@@ -47,11 +46,11 @@ pub fn parse_reference(
     depth: usize,
     tokens: &[Token<'_>],
     from: usize,
-) -> Result<(Expr, usize), Misread>
+) -> Read<Expr>
     ensures spelled { IsSpelled (ReferenceOf (IsExprAt depth)) (told tokens.now) from result }
     ensures parsed { IsParsed (ReferenceOf (IsExprAt depth)) Anything (told tokens.now) from result }
     // what the way of reading finds, of which the laws say that it is the grammar's
-    ensures reads { Gives (λ x. (x.0, drop x.1 (told tokens.now))) result (reference_with (expr_at depth) (drop from (told tokens.now))) }
+    ensures reads { Reads (reference_with (expr_at depth)) tokens.now from result }
 {
     expression::reference(alloc, depth, tokens, from)
 }
@@ -62,11 +61,11 @@ pub fn parse_string(
     depth: usize,
     tokens: &[Token<'_>],
     from: usize,
-) -> Result<(Expr, usize), Misread>
+) -> Read<Expr>
     ensures spelled { IsSpelled (StringOf (IsExprAt depth)) (told tokens.now) from result }
     ensures parsed { IsParsed (StringOf (IsExprAt depth)) Anything (told tokens.now) from result }
     // what the way of reading finds, of which the laws say that it is the grammar's
-    ensures reads { Gives (λ x. (x.0, drop x.1 (told tokens.now))) result (string_with (expr_at depth) (drop from (told tokens.now))) }
+    ensures reads { Reads (string_with (expr_at depth)) tokens.now from result }
 {
     expression::string(alloc, depth, tokens, from)
 }

@@ -1,27 +1,16 @@
-ghost use Rattle.std.specs.Prelude.{◌≡◌, ◌<◌, ◌≤◌, ◌∷◌, ◌++◌, false, true, length, IfOk, IfSome, OnOk, MatchOption, string_bytes, encode_utf8};
+ghost use Rattle.std.specs.Prelude.{◌≡◌, ◌<◌, ◌≤◌, ◌∷◌, ◌++◌, false, true, length, IfSome, OnOk, MatchOption, string_bytes, encode_utf8};
 ghost use Rattle.std.specs.Option.{option_map};
 ghost use Rattle.pp_syntax.specs.Bytes.{is_hex};
 ghost use Rattle.pp_syntax.specs.Tokens.{is_simple_escape, is_scalar};
 ghost use Rattle.pp_syntax.specs.TokenValues.{simple_value};
-ghost use Rattle.pp_expression.specs.Reading.{Gives};
-ghost use Rattle.pp_expression.specs.Values.{GivesChar, NoAsciiFirst, hex_front, simple_front, dq, dq_escaped, dq_unicode, dq_four, dq_braced};
+ghost use Rattle.pp_readers.specs.Parsed.{Gives};
+ghost use Rattle.pp_readers.specs.Values.{GivesChar, NoAsciiFirst, hex_front, simple_front, dq, dq_escaped, dq_unicode, dq_four, dq_braced};
 
-use crate::misread::Misread;
-use crate::values::{behind, cut, digit_of};
+use crate::values::{behind, cut};
+use pp_readers::Misread;
+use pp_syntax::{digit_of, is_hex, is_simple_escape};
 use rh_base::{NoMemory, Text};
 use std::alloc::Global;
-
-fn is_hex(b: u8) -> bool
-    ensures { result ≡ is_hex b }
-{
-    (b >= b'0' && b <= b'9') || (b >= b'a' && b <= b'f') || (b >= b'A' && b <= b'F')
-}
-
-fn is_simple_escape(c: u8) -> bool
-    ensures { result ≡ is_simple_escape c }
-{
-    b"nrts$\"'\\".contains(&c)
-}
 
 fn simple_value(c: u8) -> u8
     ensures { result ≡ simple_value c }
@@ -42,7 +31,7 @@ fn scalar(n: u32) -> Option<char>
     char::from_u32(n)
 }
 
-/// The first byte, if it is an ASCII character, and what is left behind it.
+/// The first byte, if it is an ASCII character, and what is index behind it.
 fn first(text: &str) -> Option<(u8, &str)>
     ensures { MatchOption result (NoAsciiFirst text.now) (λ x. (text.now ≡ x.0 ∷ x.1.now) × (x.0 < 128)) }
 {
@@ -54,8 +43,8 @@ fn first(text: &str) -> Option<(u8, &str)>
     Some((b, rest))
 }
 
-/// The value of the hexadecimal digit at the front, and what is left behind it.
-#[tactic(auto, using(crate::proofs::Digits::hex_here, crate::proofs::Digits::hex_nowhere))]
+/// The value of the hexadecimal digit at the front, and what is index behind it.
+#[tactic(auto, using(pp_readers::proofs::Digits::hex_here, pp_readers::proofs::Digits::hex_nowhere))]
 fn hex_digit(text: &str) -> Option<(u32, &str)>
     ensures { option_map (λ x. (x.0, x.1.now)) result ≡ hex_front text.now }
 {
@@ -67,8 +56,8 @@ fn hex_digit(text: &str) -> Option<(u32, &str)>
     }
 }
 
-/// The character of a simple escape, and what is left behind it.
-#[tactic(auto, using(crate::proofs::Digits::simple_here, crate::proofs::Digits::simple_nowhere))]
+/// The character of a simple escape, and what is index behind it.
+#[tactic(auto, using(pp_readers::proofs::Digits::simple_here, pp_readers::proofs::Digits::simple_nowhere))]
 fn simple(text: &str) -> Option<(char, &str)>
     ensures { option_map (λ x. (x.0, x.1.now)) result ≡ simple_front text.now }
 {
@@ -81,7 +70,7 @@ fn simple(text: &str) -> Option<(char, &str)>
 }
 
 /// The character that four digits stand for, of which some are read.
-#[tactic(auto, using(crate::proofs::Digits::four_none, crate::proofs::Digits::four_last, crate::proofs::Digits::four_bad, crate::proofs::Digits::four_next, crate::proofs::Digits::four_large, crate::proofs::Digits::hex_shorter, crate::proofs::Digits::hex_small))]
+#[tactic(auto, using(pp_readers::proofs::Digits::four_none, pp_readers::proofs::Digits::four_last, pp_readers::proofs::Digits::four_bad, pp_readers::proofs::Digits::four_next, pp_readers::proofs::Digits::four_large, pp_readers::proofs::Digits::hex_shorter, pp_readers::proofs::Digits::hex_small))]
 fn four(count: u32, value: u32, text: &str) -> Option<(char, &str)>
     requires few { count ≤ 3 }
     requires small { value < 1114112 }
@@ -101,7 +90,7 @@ fn four(count: u32, value: u32, text: &str) -> Option<(char, &str)>
 }
 
 /// The character that digits up to a `}` stand for, of which some are read.
-#[tactic(auto, using(crate::proofs::Digits::braced_none, crate::proofs::Digits::braced_empty, crate::proofs::Digits::braced_last, crate::proofs::Digits::braced_bad, crate::proofs::Digits::braced_seven, crate::proofs::Digits::braced_next, crate::proofs::Digits::braced_large, crate::proofs::Digits::hex_shorter, crate::proofs::Digits::hex_small, crate::proofs::Digits::behind_shorter))]
+#[tactic(auto, using(pp_readers::proofs::Digits::braced_none, pp_readers::proofs::Digits::braced_empty, pp_readers::proofs::Digits::braced_last, pp_readers::proofs::Digits::braced_bad, pp_readers::proofs::Digits::braced_seven, pp_readers::proofs::Digits::braced_next, pp_readers::proofs::Digits::braced_large, pp_readers::proofs::Digits::hex_shorter, pp_readers::proofs::Digits::hex_small, pp_readers::proofs::Digits::behind_shorter))]
 fn braced(count: u32, value: u32, text: &str) -> Option<(char, &str)>
     requires few { count ≤ 6 }
     requires small { value < 1114112 }
@@ -127,7 +116,7 @@ fn braced(count: u32, value: u32, text: &str) -> Option<(char, &str)>
 }
 
 /// The character that `\u` before this text stands for.
-#[tactic(auto, using(crate::proofs::Digits::unicode_brace, crate::proofs::Digits::unicode_none, crate::proofs::Digits::unicode_digit, crate::proofs::Digits::hex_shorter, crate::proofs::Digits::hex_small, crate::proofs::Digits::behind_shorter))]
+#[tactic(auto, using(pp_readers::proofs::Digits::unicode_brace, pp_readers::proofs::Digits::unicode_none, pp_readers::proofs::Digits::unicode_digit, pp_readers::proofs::Digits::hex_shorter, pp_readers::proofs::Digits::hex_small, pp_readers::proofs::Digits::behind_shorter))]
 fn unicode(text: &str) -> Option<(char, &str)>
     ensures value { GivesChar (option_map (λ x. (x.0, x.1.now)) result) (dq_unicode text.now) }
     ensures shorter { IfSome result (λ x. length x.1.now < length text.now) }
@@ -139,8 +128,8 @@ fn unicode(text: &str) -> Option<(char, &str)>
     four(1, digit, rest)
 }
 
-/// The character that a backslash before this text stands for, and what is left.
-#[tactic(auto, using(crate::proofs::Digits::escape_simple, crate::proofs::Digits::escape_unicode, crate::proofs::Digits::escape_none, crate::proofs::Digits::simple_shorter, crate::proofs::Digits::behind_shorter))]
+/// The character that a backslash before this text stands for, and what is index.
+#[tactic(auto, using(pp_readers::proofs::Digits::escape_simple, pp_readers::proofs::Digits::escape_unicode, pp_readers::proofs::Digits::escape_none, pp_readers::proofs::Digits::simple_shorter, pp_readers::proofs::Digits::behind_shorter))]
 fn escape(text: &str) -> Option<(char, &str)>
     ensures value { GivesChar (option_map (λ x. (x.0, x.1.now)) result) (dq_escaped text.now) }
     ensures shorter { IfSome result (λ x. length x.1.now ≤ length text.now) }
@@ -154,8 +143,8 @@ fn escape(text: &str) -> Option<(char, &str)>
     Some(('\\', text))
 }
 
-#[tactic(auto, using(crate::proofs::Digits::dq_end, crate::proofs::Digits::dq_escape, crate::proofs::Digits::dq_stops))]
-fn unescaped(alloc: Global, left: usize, raw: &str) -> Result<String, Misread>
+#[tactic(auto, using(pp_readers::proofs::Digits::dq_end, pp_readers::proofs::Digits::dq_escape, pp_readers::proofs::Digits::dq_stops))]
+fn unescaped(alloc: Global, index: usize, raw: &str) -> Result<String, Misread>
     ensures { Gives (λ s. string_bytes s) result (dq raw.now) }
 {
     let mut value = String::new(alloc);
@@ -163,7 +152,7 @@ fn unescaped(alloc: Global, left: usize, raw: &str) -> Result<String, Misread>
     while let Some((front, tail)) = cut(rest) {
         push_str(&mut value, front)?;
         let Some((c, more)) = escape(tail) else {
-            return Err(Misread::Form(left));
+            return Err(Misread::Form(index));
         };
         push(&mut value, c)?;
         rest = more;
@@ -187,9 +176,9 @@ fn push(value: &mut String, c: char) -> Result<(), NoMemory>
 }
 
 /// The value of text in double quotes.
-pub fn dq(alloc: Global, left: usize, raw: &str) -> Result<Text, Misread>
+pub fn dq(alloc: Global, index: usize, raw: &str) -> Result<Text, Misread>
     ensures { Gives (λ t. t) result (dq raw.now) }
 {
-    let value = unescaped(alloc, left, raw)?;
+    let value = unescaped(alloc, index, raw)?;
     Ok(Text::from_string(value))
 }

@@ -1,13 +1,13 @@
-ghost use Rattle.std.specs.Prelude.{◌≡◌, ◌<◌, ◌≤◌, ◌^◌, ◌∷◌, ◌++◌, length, IfOk, MatchOption, Some, string_bytes};
+ghost use Rattle.std.specs.Prelude.{◌≡◌, ◌<◌, ◌≤◌, ◌∷◌, ◌++◌, length, IfOk, MatchOption, Some, string_bytes};
 ghost use Rattle.pp_syntax.specs.declared.tree.Form.TheVariants as form;
 ghost use Rattle.pp_syntax.specs.TokenValues.{sq_value, sq_escaped};
 ghost use Rattle.std.specs.Option.{option_map};
-ghost use Rattle.pp_syntax.specs.Tokens.{value_from, int_value, digit_of};
-ghost use Rattle.pp_expression.specs.Reading.{Gives};
-ghost use Rattle.pp_expression.specs.Values.{literal, number, behind_byte, before_quote, sq, name_of, int_form, atom, HasNoBackslash};
+ghost use Rattle.pp_syntax.specs.Tokens.{int_value};
+ghost use Rattle.pp_readers.specs.Parsed.{Gives};
+ghost use Rattle.pp_readers.specs.Values.{literal, number, behind_byte, before_quote, sq, name_of, int_form, atom, HasNoBackslash};
 
-use crate::misread::Misread;
-use pp_syntax::{Form, Kind};
+use pp_readers::Misread;
+use pp_syntax::{Form, Kind, int_value};
 use rh_base::{NoMemory, Text};
 use std::alloc::{AllocError, Global};
 
@@ -34,7 +34,7 @@ fn literal(text: &str) -> Option<Form>
     }
 }
 
-/// What is left behind this ASCII character.
+/// What is index behind this ASCII character.
 pub(crate) fn behind(text: &str, c: char) -> Option<&str>
     requires { c < 128 }
     ensures { option_map (λ r. r.now) result ≡ behind_byte c text.now }
@@ -49,17 +49,17 @@ fn before_quote(text: &str) -> Option<&str>
 }
 
 /// The name of a variable.
-pub fn name_of(alloc: Global, left: usize, text: &str) -> Result<Text, Misread>
+pub fn name_of(alloc: Global, index: usize, text: &str) -> Result<Text, Misread>
     ensures { Gives (λ t. t) result (name_of text.now) }
 {
-    let name = behind(text, '$').ok_or(Misread::Form(left))?;
+    let name = behind(text, '$').ok_or(Misread::Form(index))?;
     Ok(text_of(alloc, name)?)
 }
 
-fn variable(alloc: Global, left: usize, text: &str) -> Result<Form, Misread>
+fn variable(alloc: Global, index: usize, text: &str) -> Result<Form, Misread>
     ensures { Gives (λ t. t) result (option_map form.Var (name_of text.now)) }
 {
-    Ok(Form::Var(name_of(alloc, left, text)?))
+    Ok(Form::Var(name_of(alloc, index, text)?))
 }
 
 fn word(alloc: Global, text: &str) -> Result<Form, Misread>
@@ -68,23 +68,23 @@ fn word(alloc: Global, text: &str) -> Result<Form, Misread>
     Ok(Form::Str(text_of(alloc, text)?))
 }
 
-fn single(alloc: Global, left: usize, text: &str) -> Result<Form, Misread>
+fn single(alloc: Global, index: usize, text: &str) -> Result<Form, Misread>
     ensures { Gives (λ t. t) result (option_map form.Str (sq text.now)) }
 {
-    Ok(Form::Str(sq(alloc, left, text)?))
+    Ok(Form::Str(sq(alloc, index, text)?))
 }
 
 /// The form of a token that is an operand by itself.
-pub fn atom(alloc: Global, left: usize, kind: Kind, text: &str) -> Result<Form, Misread>
+pub fn atom(alloc: Global, index: usize, kind: Kind, text: &str) -> Result<Form, Misread>
     ensures { Gives (λ f. f) result (atom kind text.now) }
 {
     match kind {
-        Kind::Int => int_form(text).ok_or(Misread::Form(left)),
-        Kind::Sq => single(alloc, left, text),
+        Kind::Int => int_form(text).ok_or(Misread::Form(index)),
+        Kind::Sq => single(alloc, index, text),
         Kind::Word => word(alloc, text),
-        Kind::Var => variable(alloc, left, text),
-        Kind::Keyword => literal(text).ok_or(Misread::Form(left)),
-        _ => Err(Misread::Form(left)),
+        Kind::Var => variable(alloc, index, text),
+        Kind::Keyword => literal(text).ok_or(Misread::Form(index)),
+        _ => Err(Misread::Form(index)),
     }
 }
 
@@ -104,49 +104,6 @@ pub fn number(text: &str) -> Option<i64>
     match int_value(text.as_bytes()) {
         Some(value) => Some(value as i64),
         None => None,
-    }
-}
-
-/// The number that digits stand for, if it fits 64 bits with a sign.
-#[tactic(auto, using(pp_syntax::proofs::Values::value_grows))]
-fn value_in(base: u8, digits: &[u8]) -> Option<u64>
-    requires least { 8 ≤ base }
-    requires most { base ≤ 16 }
-    ensures { MatchOption result (2 ^ 63 ≤ value_from base 0 digits.now) (λ v. (v ≡ value_from base 0 digits.now) × (v < 2 ^ 63)) }
-{
-    let mut value = 0u64;
-    for d in digits {
-        let next = u128::from(value) * u128::from(base) + u128::from(digit_of(*d));
-        if next >= 0x8000_0000_0000_0000 {
-            return None;
-        }
-        value = next as u64;
-    }
-    Some(value)
-}
-
-/// The number that an INT stands for, if it fits 64 bits with a sign.
-fn int_value(text: &[u8]) -> Option<u64>
-    ensures { MatchOption result (2 ^ 63 ≤ int_value text.now) (λ v. (v ≡ int_value text.now) × (v < 2 ^ 63)) }
-{
-    match text {
-        [] => Some(0),
-        [b'0'] => Some(0),
-        [b'0', x, digits @ ..] if *x == b'x' || *x == b'X' => value_in(16, digits),
-        [b'0', digits @ ..] => value_in(8, digits),
-        [_, ..] => value_in(10, text),
-    }
-}
-
-pub(crate) fn digit_of(b: u8) -> u8
-    ensures { result ≡ digit_of b }
-{
-    if b <= b'9' {
-        b.saturating_sub(b'0')
-    } else if b <= b'F' {
-        b.saturating_sub(55)
-    } else {
-        b.saturating_sub(87)
     }
 }
 
@@ -173,7 +130,7 @@ fn escape_sq(text: &str) -> (char, &str)
 }
 
 /// The value of what stands between single quotes.
-#[tactic(auto, using(crate::proofs::Escapes::one_escape, crate::proofs::Escapes::at_end))]
+#[tactic(auto, using(pp_readers::proofs::Escapes::one_escape, pp_readers::proofs::Escapes::at_end))]
 fn unescaped(alloc: Global, raw: &str) -> Result<String, AllocError>
     ensures { IfOk result (λ s. string_bytes s ≡ sq_value raw.now) }
 {
@@ -190,12 +147,12 @@ fn unescaped(alloc: Global, raw: &str) -> Result<String, AllocError>
 }
 
 /// The value of a text with its single quotes.
-#[tactic(auto, unfolding(crate::specs::Values::sq))]
-pub fn sq(alloc: Global, left: usize, text: &str) -> Result<Text, Misread>
+#[tactic(auto, unfolding(pp_readers::specs::Values::sq))]
+pub fn sq(alloc: Global, index: usize, text: &str) -> Result<Text, Misread>
     ensures { Gives (λ t. t) result (sq text.now) }
 {
-    let rest = behind(text, '\'').ok_or(Misread::Form(left))?;
-    let raw = before_quote(rest).ok_or(Misread::Form(left))?;
+    let rest = behind(text, '\'').ok_or(Misread::Form(index))?;
+    let raw = before_quote(rest).ok_or(Misread::Form(index))?;
     sq_of(alloc, raw)
 }
 

@@ -16,20 +16,20 @@ use Rattle.pp_syntax.specs.Tokens.{Lexeme}
 use Rattle.pp_syntax.specs.Phrases as phrases
 use Rattle.pp_syntax.specs.Phrases.{◌then◌, Nothing, Maybe, Sign, Keyword, Listed, MaybeListed, place_of}
 use Rattle.pp_syntax.specs.Derivation.{StringOf}
-use Rattle.pp_syntax.specs.Statements.{AttrOf, InBraces, BlockOf, IsType, MaybeType, VariableOf, PresetOf, ParamOf, ParamsOf, ParentOf, NodeNameOf, ItemOf, Items}
+use Rattle.pp_syntax.specs.Statements.{AttrOf, InBraces, BlockOf, IsType, MaybeType, VariableOf, DefaultOf, ParamOf, ParamsOf, ParentOf, NodeNameOf, ItemOf, Items}
 use Rattle.pp_syntax.specs.Statements as grammar
-use Rattle.pp_expression.specs.Marks.{mark}
-use Rattle.pp_expression.specs.Values.{◌>>=◌}
-use Rattle.pp_expression.specs.Parsed.{Begins}
-use Rattle.pp_expression.specs.Reading.{string_with}
-use Rattle.pp_expression.proofs.Tokens.{bind_some, maps, marked}
-use Rattle.pp_expression.proofs.Finding.{Finds, maybe_items_found}
-use Rattle.pp_statement.specs.Combining.{Reader, both, behind, begins, listed}
-use Rattle.pp_statement.specs.Marks.{taken, variable_by, ref_by}
-use Rattle.pp_statement.specs.Reading.{attributes_with, block_with}
-use Rattle.pp_statement.proofs.Combining.{Spells, both_found, behind_found, placed_found, first_token, some_token, taken_found, many_found, ListedBy, listed_found, listed_some}
-use Rattle.pp_statement.proofs.Names.{variable_found, ref_found}
-use Rattle.pp_parser.specs.ItemReading.{begins_type, param_of, maybe_type, preset_with, param_with, params_in, params_with, word_by, parent_with, class_of, class_with, define_of, define_with, text_of, text_name, default_name, word_name, node_name_by, node_name_with, unopened, node_names_with, node_of, node_with, defaults_of, defaults_with, plain_with, class_or_plain, keyed_with, defaults_or_plain, item_by, item_with, has_token, items_with}
+use Rattle.pp_readers.specs.Marks.{mark}
+use Rattle.rh_base.specs.Reading.{◌>>=◌}
+use Rattle.pp_readers.specs.Parsed.{Begins}
+use Rattle.pp_readers.specs.Expressions.{string_with}
+use Rattle.pp_readers.proofs.Tokens.{bind_some, maps, marked}
+use Rattle.pp_readers.proofs.Finding.{Finds, maybe_items_found}
+use Rattle.pp_readers.specs.Combining.{Reader, both, behind, begins, listed}
+use Rattle.pp_readers.specs.Names.{taken, variable_by, ref_by}
+use Rattle.pp_readers.specs.Statements.{attributes_with, block_with}
+use Rattle.pp_readers.proofs.Combining.{Spells, both_found, behind_found, placed_found, first_token, some_token, taken_found, many_found, ListedBy, listed_found, listed_some}
+use Rattle.pp_readers.proofs.Names.{variable_found, ref_found}
+use Rattle.pp_parser.specs.ItemReading.{begins_type, param_of, maybe_type, default_with, param_with, params_in, params_with, word_by, parent_with, class_of, class_with, define_of, define_with, text_of, text_name, default_name, word_name, node_name_by, node_name_with, unopened, node_names_with, node_of, node_with, defaults_of, defaults_with, plain_with, class_or_plain, keyed_with, defaults_or_plain, item_by, item_with, has_token, items_with}
 use Rattle.pp_parser.proofs.TypesFound.{Perhaps, optional_found, shaped_found}
 
 word_is : (k : Kind) (s x : List ℕ) (at : ℕ) → word_by k s ≡ Some x → phrases.Some kind.Word x (record { kind = k; text = s; at = at } ∷ [])
@@ -75,18 +75,18 @@ text_name_is (block.Join' u r) name h = cc
 text_name_is (block.Chain' u r v q) name h = cc
 text_name_is (block.Prefix' ops u r) name h = cc
 text_name_is (block.Select' u r v q) name h = cc
-text_name_is (block.At' u r v q) name h = cc
+text_name_is (block.Index' u r v q) name h = cc
 
 module _ (e : Reader Expr) (E : Spells Expr) (finds : Finds e E) (strings : Finds (string_with e) (StringOf E)) (t : Reader TypeName) (T : Spells TypeName) (types : Finds t T) (typed : (y : TypeName) (us : List Lexeme) → T y us → IsType y us)
     (s : Reader Stmt) (S : Spells Stmt) (inner : Finds s S) (blocks : Finds (block_with s) (BlockOf S)) (attributes : Finds (attributes_with e) (λ ys. InBraces (MaybeListed (AttrOf E) ys))) where
   -- ---- parameters
 
-  preset_found : Finds (preset_with e) (PresetOf E)
-  preset_found ts x h = maps (is_preset x.0) (optional_found (begins kind.Sign (codes "=")) (behind kind.Sign (codes "=") e) (λ v. Sign (codes "=") then E v) (behind_found e E finds kind.Sign (codes "=")) ts x h)
+  default_found : Finds (default_with e) (DefaultOf E)
+  default_found ts x h = maps (is_default x.0) (optional_found (begins kind.Sign (codes "=")) (behind kind.Sign (codes "=") e) (λ v. Sign (codes "=") then E v) (behind_found e E finds kind.Sign (codes "=")) ts x h)
     where
-      is_preset : (o : Option Expr) (us : List Lexeme) → Perhaps (λ v. Sign (codes "=") then E v) o us → PresetOf E o us
-      is_preset None us n = n
-      is_preset (Some v) us p = p
+      is_default : (o : Option Expr) (us : List Lexeme) → Perhaps (λ v. Sign (codes "=") then E v) o us → DefaultOf E o us
+      is_default None us n = n
+      is_default (Some v) us p = p
 
   type_found : Finds (maybe_type t) MaybeType
   type_found ts x h = maps (is_type x.0) (optional_found begins_type t T types ts x h)
@@ -96,9 +96,9 @@ module _ (e : Reader Expr) (E : Spells Expr) (finds : Finds e E) (strings : Find
       is_type (Some y) us p = typed y us p
 
   param_found : Finds (param_with e t) (ParamOf E)
-  param_found = shaped_found param_of (both (maybe_type t) (both (taken variable_by) (preset_with e))) (λ p. MaybeType p.0 then (VariableOf p.1.0 then PresetOf E p.1.1)) (ParamOf E)
-      (both_found (maybe_type t) (both (taken variable_by) (preset_with e)) MaybeType (λ p. VariableOf p.0 then PresetOf E p.1) type_found
-      (both_found (taken variable_by) (preset_with e) VariableOf (PresetOf E) variable_found preset_found)) (λ p us h. h)
+  param_found = shaped_found param_of (both (maybe_type t) (both (taken variable_by) (default_with e))) (λ p. MaybeType p.0 then (VariableOf p.1.0 then DefaultOf E p.1.1)) (ParamOf E)
+      (both_found (maybe_type t) (both (taken variable_by) (default_with e)) MaybeType (λ p. VariableOf p.0 then DefaultOf E p.1) type_found
+      (both_found (taken variable_by) (default_with e) VariableOf (DefaultOf E) variable_found default_found)) (λ p us h. h)
 
   params_found : Finds (params_with e t) (ParamsOf E)
   params_found ts x h = by_test (begins kind.Sign (codes "(") ts) h

@@ -11,10 +11,10 @@ use Rattle.pp_syntax.specs.Derivation.{StringOf, ReferenceOf}
 use Rattle.pp_syntax.specs.Derivation as derive
 use Rattle.pp_syntax.specs.Statements.{BodiesOf, InBraces, OperandOf, MaybeSearch, StmtOf, IsType, IsStmtAt}
 use Rattle.pp_syntax.specs.Statements as grammar
-use Rattle.pp_expression.specs.Marks.{mark}
-use Rattle.pp_statement.specs.Combining.{Reader}
-use Rattle.pp_statement.proofs.Combining.{Spells}
-use Rattle.pp_statement.proofs.Building.{split}
+use Rattle.pp_readers.specs.Marks.{mark}
+use Rattle.pp_readers.specs.Combining.{Reader}
+use Rattle.pp_readers.proofs.Combining.{Spells}
+use Rattle.pp_readers.proofs.Building.{split}
 use Rattle.pp_parser.specs.ItemReading.{begins_type, text_name, node_name_with, unopened, plain_with, item_with}
 use Rattle.pp_parser.proofs.TypesRead.{leads_at}
 

@@ -16,24 +16,24 @@ use Rattle.pp_syntax.specs.Tokens.{Lexeme}
 use Rattle.pp_syntax.specs.Phrases as phrases
 use Rattle.pp_syntax.specs.Phrases.{◌then◌, Nothing, Maybe, Sign, Keyword, Comma, Each, Listed, MaybeListed, place_of}
 use Rattle.pp_syntax.specs.Derivation.{StringOf}
-use Rattle.pp_syntax.specs.Statements.{AttrOf, InBraces, BlockOf, BodiesOf, OperandOf, StmtOf, IsType, MaybeType, MaybeSearch, VariableOf, PresetOf, ParamOf, ParamsOf, ParentOf, NodeNameOf, ItemOf, Items, Statements, word_of, Links}
+use Rattle.pp_syntax.specs.Statements.{AttrOf, InBraces, BlockOf, BodiesOf, OperandOf, StmtOf, IsType, MaybeType, MaybeSearch, VariableOf, DefaultOf, ParamOf, ParamsOf, ParentOf, NodeNameOf, ItemOf, Items, Statements, word_of, Links}
 use Rattle.pp_syntax.specs.Statements as grammar
-use Rattle.pp_expression.specs.Marks.{mark}
-use Rattle.pp_expression.specs.Values.{◌>>=◌}
-use Rattle.pp_expression.specs.Reading.{with_first, string_with, separator, separator_or_end, after_comma, more_items, items, items_or_end, maybe_items}
-use Rattle.pp_expression.proofs.Reading.{Fit, fits_first, fits_second}
-use Rattle.pp_expression.proofs.Listing.{sign, Closes}
-use Rattle.pp_statement.specs.Combining.{Reader, both, behind, begins, is_found, listed}
-use Rattle.pp_statement.specs.Marks.{taken, variable_by, ref_by}
-use Rattle.pp_statement.specs.Parsed.{NothingFollows, BeginsStatement}
-use Rattle.pp_statement.specs.Reading.{attributes_with, block_with}
-use Rattle.pp_statement.proofs.Combining.{Spells, ListedBy}
-use Rattle.pp_statement.proofs.Found.{front_nil}
-use Rattle.pp_statement.proofs.Building.{Phrase, Always, ReadsBefore, split, mark_here, both_read, behind_read, placed_read, taken_read, many_read, listed_read}
-use Rattle.pp_statement.proofs.ReadBodies.{Quiet, by_first, token_solid}
-use Rattle.pp_statement.proofs.ReadChains.{paren_closes, placeless, place_is, first_of}
-use Rattle.pp_statement.proofs.Leads.{nothing_follows, leads_more, leads_some}
-use Rattle.pp_parser.specs.ItemReading.{begins_type, param_of, maybe_type, preset_with, param_with, params_in, params_with, word_by, parent_with, class_of, class_with, define_of, define_with, text_of, text_name, node_name_with, unopened, node_names_with, node_of, node_with, defaults_of, defaults_with, plain_with, item_with, has_token, items_with}
+use Rattle.pp_readers.specs.Marks.{mark}
+use Rattle.rh_base.specs.Reading.{◌>>=◌}
+use Rattle.pp_readers.specs.Expressions.{with_first, string_with, separator, separator_or_end, after_comma, more_items, items, items_or_end, maybe_items}
+use Rattle.pp_readers.proofs.Reading.{Fit, fits_first, fits_second}
+use Rattle.pp_readers.proofs.Listing.{sign, Closes}
+use Rattle.pp_readers.specs.Combining.{Reader, both, behind, begins, is_found, listed}
+use Rattle.pp_readers.specs.Names.{taken, variable_by, ref_by}
+use Rattle.pp_readers.specs.Leads.{NothingFollows, BeginsStatement}
+use Rattle.pp_readers.specs.Statements.{attributes_with, block_with}
+use Rattle.pp_readers.proofs.Combining.{Spells, ListedBy}
+use Rattle.pp_readers.proofs.BodiesFound.{front_nil}
+use Rattle.pp_readers.proofs.Building.{Phrase, Always, ReadsBefore, split, mark_here, both_read, behind_read, placed_read, taken_read, many_read, listed_read}
+use Rattle.pp_readers.proofs.ReadBodies.{Quiet, by_first, token_solid}
+use Rattle.pp_readers.proofs.ReadChains.{paren_closes, placeless, place_is, first_of}
+use Rattle.pp_readers.proofs.Leads.{nothing_follows, leads_more, leads_some}
+use Rattle.pp_parser.specs.ItemReading.{begins_type, param_of, maybe_type, default_with, param_with, params_in, params_with, word_by, parent_with, class_of, class_with, define_of, define_with, text_of, text_name, node_name_with, unopened, node_names_with, node_of, node_with, defaults_of, defaults_with, plain_with, item_with, has_token, items_with}
 use Rattle.pp_parser.proofs.Within.{front_short, back_short, maybe_listed_within, first_within, second_within}
 use Rattle.pp_parser.proofs.TypesFound.{Perhaps}
 use Rattle.pp_parser.proofs.TypesRead.{Not, optional_read, shaped_read}
@@ -158,12 +158,12 @@ module _ (n : ℕ) (e : Reader Expr) (E : Spells Expr) (reads : ReadsBefore Quie
   abbrev EndsParam : Phrase
   EndsParam rest = Quiet rest × Not (begins kind.Sign (codes "=")) rest
 
-  preset_read : ReadsBefore EndsParam (preset_with e) (PresetOf E)
-  preset_read o us rest h f q =
+  default_read : ReadsBefore EndsParam (default_with e) (DefaultOf E)
+  default_read o us rest h f q =
       optional_read (begins kind.Sign (codes "=")) (behind kind.Sign (codes "=") e) (λ v. Sign (codes "=") then E v) Quiet (behind_read e E Quiet reads kind.Sign (codes "="))
       (λ v us rest p. begins_first kind.Sign (codes "=") (E v) us rest p) o us rest (perhaps o us h) f q.0 q.1
     where
-      perhaps : (o : Option Expr) (us : List Lexeme) → PresetOf E o us → Perhaps (λ v. Sign (codes "=") then E v) o us
+      perhaps : (o : Option Expr) (us : List Lexeme) → DefaultOf E o us → Perhaps (λ v. Sign (codes "=") then E v) o us
       perhaps None us n = n
       perhaps (Some v) us p = p
 
@@ -179,25 +179,25 @@ module _ (n : ℕ) (e : Reader Expr) (E : Spells Expr) (reads : ReadsBefore Quie
       perhaps None us p = p.0
       perhaps (Some y) us p = p
 
-  named_quiet : (p : List ℕ × Option Expr) (us rest : List Lexeme) → (VariableOf p.0 then PresetOf E p.1) us → EndsType (us ++ rest)
+  named_quiet : (p : List ℕ × Option Expr) (us rest : List Lexeme) → (VariableOf p.0 then DefaultOf E p.1) us → EndsType (us ++ rest)
   named_quiet p us rest h = subst EndsType (sym (split h.front h.back rest us h.whole ∙ ap (λ r. r ++ (h.back ++ rest)) h.first.0.1)) (omega arith, refl)
 
   param_read : ReadsBefore EndsParam (param_with e t) (Short n (ParamOf E))
   param_read p us rest h f q =
-      shaped_read param_of (both (maybe_type t) (both (taken variable_by) (preset_with e))) (λ p. Short n MaybeType p.0 then (VariableOf p.1.0 then PresetOf E p.1.1)) EndsParam
-      (both_read (maybe_type t) (both (taken variable_by) (preset_with e)) (Short n MaybeType) (λ p. VariableOf p.0 then PresetOf E p.1) EndsType EndsParam type_read
-      (both_read (taken variable_by) (preset_with e) VariableOf (PresetOf E) Always EndsParam variable_read preset_read (λ y us rest b g. tt)) (λ p us rest b g. named_quiet p us rest b))
-      (p.kind, (p.name, p.preset)) p us rest
-      (first_within n (MaybeType p.kind) (VariableOf p.name then PresetOf E p.preset) (Short n MaybeType p.kind) (λ vs l k. (k, l)) us h.1 h.0) f q refl
+      shaped_read param_of (both (maybe_type t) (both (taken variable_by) (default_with e))) (λ p. Short n MaybeType p.0 then (VariableOf p.1.0 then DefaultOf E p.1.1)) EndsParam
+      (both_read (maybe_type t) (both (taken variable_by) (default_with e)) (Short n MaybeType) (λ p. VariableOf p.0 then DefaultOf E p.1) EndsType EndsParam type_read
+      (both_read (taken variable_by) (default_with e) VariableOf (DefaultOf E) Always EndsParam variable_read default_read (λ y us rest b g. tt)) (λ p us rest b g. named_quiet p us rest b))
+      (p.kind, (p.name, p.default)) p us rest
+      (first_within n (MaybeType p.kind) (VariableOf p.name then DefaultOf E p.default) (Short n MaybeType p.kind) (λ vs l k. (k, l)) us h.1 h.0) f q refl
 
   param_first : (p : Param) (us rest : List Lexeme) → ParamOf E p us → (mark kind.Sign (codes ")") (us ++ rest) ≡ None) × (us ≢ [])
   param_first p us rest h = by_kind p.kind h.front h.back h.first h.second h.whole
     where
-      by_kind : (o : Option TypeName) (front back : List Lexeme) → MaybeType o front → (VariableOf p.name then PresetOf E p.preset) back → us ≡ front ++ back → (mark kind.Sign (codes ")") (us ++ rest) ≡ None) × (us ≢ [])
+      by_kind : (o : Option TypeName) (front back : List Lexeme) → MaybeType o front → (VariableOf p.name then DefaultOf E p.default) back → us ≡ front ++ back → (mark kind.Sign (codes ")") (us ++ rest) ≡ None) × (us ≢ [])
       by_kind None front back m v w =
           let e : us ≡ back = w ∙ ap (λ r. r ++ back) m in (
             ap (λ r. mark kind.Sign (codes ")") (r ++ rest)) (e ∙ v.whole ∙ ap (λ r. r ++ v.back) v.first.0.1),
-            λ empty. token_solid kind.Var (36 ∷ p.name) (PresetOf E p.preset) us (subst (phrases.Some kind.Var (36 ∷ p.name) then PresetOf E p.preset) (sym e)
+            λ empty. token_solid kind.Var (36 ∷ p.name) (DefaultOf E p.default) us (subst (phrases.Some kind.Var (36 ∷ p.name) then DefaultOf E p.default) (sym e)
                 (record { front = v.front; back = v.back; first = v.first.0; second = v.second; whole = v.whole })) empty,
           )
       by_kind (Some y) front back m v w =

@@ -5,16 +5,16 @@ use Rattle.pp_syntax.specs.declared.tree.Item.{Item}
 use Rattle.pp_syntax.specs.Tokens.{Lexeme}
 use Rattle.pp_syntax.specs.Derivation.{IsExprAt}
 use Rattle.pp_syntax.specs.Statements.{Items, IsStmtAt, IsTypeAt}
-use Rattle.pp_expression.specs.Reading.{expr_at}
-use Rattle.pp_expression.proofs.Whole.{expr_found}
-use Rattle.pp_expression.proofs.DoubleQuotes.{dq_found}
-use Rattle.pp_expression.proofs.Answered.{string_finds, string_reads}
-use Rattle.pp_expression.proofs.Quotes.{expr_read}
-use Rattle.pp_expression.proofs.DoubleQuotes.{dq_read}
-use Rattle.pp_expression.specs.Parsed.{NumbersFit}
-use Rattle.pp_statement.specs.Reading.{stmt_at}
-use Rattle.pp_statement.proofs.Answered.{statement_finds, block_finds, attributes_finds, statement_reads, block_reads, attributes_reads}
-use Rattle.pp_statement.proofs.Leads.{leads_at}
+use Rattle.pp_readers.specs.Expressions.{expr_at}
+use Rattle.pp_readers.proofs.Whole.{expr_found}
+use Rattle.pp_readers.proofs.DoubleQuotes.{dq_found}
+use Rattle.pp_readers.proofs.ExpressionLaws.{string_finds, string_reads}
+use Rattle.pp_readers.proofs.Quotes.{expr_read}
+use Rattle.pp_readers.proofs.DoubleQuotes.{dq_read}
+use Rattle.pp_readers.specs.Parsed.{NumbersFit}
+use Rattle.pp_readers.specs.Statements.{stmt_at}
+use Rattle.pp_readers.proofs.StatementLaws.{statement_finds, block_finds, attributes_finds, statement_reads, block_reads, attributes_reads}
+use Rattle.pp_readers.proofs.Leads.{leads_at}
 use Rattle.pp_parser.proofs.WithinStatements.{few_types}
 use Rattle.pp_parser.proofs.TypesRead.{type_at_read}
 use Rattle.pp_parser.proofs.ItemsLeads.{type_begins, string_begins, stays_at}

@@ -3,10 +3,10 @@ use Rattle.std.proofs.Common.{◌≡◌, ℕ, false, List, Some, None, refl, ap,
 use Rattle.std.specs.Prelude.{codes}
 use Rattle.pp_syntax.specs.declared.token.Kind.TheVariants as kind
 use Rattle.pp_syntax.specs.Tokens.{Lexeme}
-use Rattle.pp_expression.specs.Marks.{Found, mark, reach}
-use Rattle.pp_expression.proofs.Tokens.{mark_found}
-use Rattle.pp_statement.specs.Combining.{begins, is_found}
-use Rattle.pp_statement.proofs.ReadBodies.{Quiet}
+use Rattle.pp_readers.specs.Marks.{Found, mark, reach}
+use Rattle.pp_readers.proofs.Tokens.{mark_found}
+use Rattle.pp_readers.specs.Combining.{begins, is_found}
+use Rattle.pp_readers.proofs.ReadBodies.{Quiet}
 
 pub tight_none : (rest : List Lexeme) → Quiet rest → begins kind.Tight (codes "[") rest ≡ false
 tight_none rest q = by_mark (mark kind.Tight (codes "[") rest) refl

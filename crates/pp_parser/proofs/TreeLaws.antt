@@ -7,7 +7,7 @@ use Rattle.rh_base.specs.declared.fault.Refusal.{Refusal}
 use Rattle.rh_base.specs.declared.fault.Fault.{Fault}
 use Rattle.rh_base.specs.declared.fault.Fault.TheVariants as fault
 use Rattle.rh_base.specs.Refused.{IfRefused}
-use Rattle.pp_expression.specs.declared.misread.Misread.{Misread}
+use Rattle.pp_readers.specs.declared.misread.Misread.{Misread}
 use Rattle.pp_syntax.specs.declared.token.Kind.{Kind}
 use Rattle.pp_syntax.specs.declared.token.Kind.TheVariants as kind
 use Rattle.pp_syntax.specs.declared.token.Token.{Token}
@@ -21,13 +21,13 @@ use Rattle.pp_syntax.specs.Lexing.{told, lexeme_of}
 use Rattle.pp_syntax.specs.LeftOut.{IsNowhere, IsLeftOut}
 use Rattle.pp_syntax.specs.Depth.{IsTooDeep}
 use Rattle.pp_syntax.specs.Statements.{IsManifest}
-use Rattle.pp_expression.specs.Marks.{Found}
-use Rattle.pp_expression.specs.Values.{◌>>=◌}
-use Rattle.pp_expression.specs.Parsed.{NumbersFit}
-use Rattle.pp_expression.specs.Reading.{with_first, Fails}
-use Rattle.pp_expression.proofs.Tokens.{bind_some}
-use Rattle.pp_expression.proofs.Finding.{with_first_some}
-use Rattle.pp_statement.specs.Combining.{Reader, many}
+use Rattle.pp_readers.specs.Marks.{Found}
+use Rattle.rh_base.specs.Reading.{◌>>=◌}
+use Rattle.pp_readers.specs.Parsed.{NumbersFit, Fails}
+use Rattle.pp_readers.specs.Expressions.{with_first}
+use Rattle.pp_readers.proofs.Tokens.{bind_some}
+use Rattle.pp_readers.proofs.Finding.{with_first_some}
+use Rattle.pp_readers.specs.Combining.{Reader, many}
 use Rattle.pp_parser.specs.ItemReading.{has_token, items_at}
 use Rattle.pp_parser.specs.Refusing.{AreLexed, RefusesSyntax, IsParseRefusal}
 use Rattle.pp_parser.proofs.ItemsWhole.{items_at_found, items_at_read}

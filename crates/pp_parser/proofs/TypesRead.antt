@@ -11,16 +11,17 @@ use Rattle.pp_syntax.specs.Phrases as phrases
 use Rattle.pp_syntax.specs.Phrases.{◌then◌, Nothing, Sign, Tight, Listed}
 use Rattle.pp_syntax.specs.Statements.{TextBounds, NumberBounds, QuotedText, TypeOf, IsTypeAt}
 use Rattle.pp_syntax.specs.Statements as grammar
-use Rattle.pp_expression.specs.Marks.{mark}
-use Rattle.pp_expression.specs.Values.{◌>>=◌, number}
-use Rattle.pp_expression.proofs.Reading.{Fit, fits_second}
-use Rattle.pp_expression.proofs.Listing.{bracket_closes, items_read}
-use Rattle.pp_expression.proofs.Quotes.{sq_read}
-use Rattle.pp_statement.specs.Combining.{Reader, both, behind, before, begins, is_found}
-use Rattle.pp_statement.specs.Marks.{taken}
-use Rattle.pp_statement.proofs.Combining.{Spells}
-use Rattle.pp_statement.proofs.Building.{Phrase, Always, ReadsBefore, split, mark_here, both_read, behind_read, before_read, taken_read}
-use Rattle.pp_statement.proofs.ReadBodies.{Quiet, by_token}
+use Rattle.pp_readers.specs.Marks.{mark}
+use Rattle.rh_base.specs.Reading.{◌>>=◌}
+use Rattle.pp_readers.specs.Values.{number}
+use Rattle.pp_readers.proofs.Reading.{Fit, fits_second}
+use Rattle.pp_readers.proofs.Listing.{bracket_closes, items_read}
+use Rattle.pp_readers.proofs.Quotes.{sq_read}
+use Rattle.pp_readers.specs.Combining.{Reader, both, behind, before, begins, is_found}
+use Rattle.pp_readers.specs.Names.{taken}
+use Rattle.pp_readers.proofs.Combining.{Spells}
+use Rattle.pp_readers.proofs.Building.{Phrase, Always, ReadsBefore, split, mark_here, both_read, behind_read, before_read, taken_read}
+use Rattle.pp_readers.proofs.ReadBodies.{Quiet, by_token}
 use Rattle.pp_parser.specs.TypeReading.{optional, shaped, type_word, type_word_by, number_by, quoted_by, upper_with, bounds_with, maybe_bounds, text_type, number_type, member_with, maybe_member, members_in, members_with, texts_in, texts_with, type_by, type_with, type_at}
 use Rattle.pp_parser.specs.declared.words.TypeWord.{TypeWord}
 use Rattle.pp_parser.specs.declared.words.TypeWord.TheVariants as word

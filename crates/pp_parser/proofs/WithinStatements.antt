@@ -103,8 +103,8 @@ module _ (n : ℕ) (E F : Expr → List Lexeme → Type 0) (f : (y : Expr) → W
   sought_within (prelude.Some y) us l h = (h.0, search_at_within h.0 y us l h.1)
 
   operand_within : (y : Operand) → Within (suc n) (rule.OperandOf E y) (rule.OperandOf F y)
-  operand_within y us l (rule.OperandOf.resource at hidden name bs e here named h) = rule.OperandOf.resource at hidden name bs e here named
-      (second_within (suc n) (rule.Hidden hidden) (phrase.Some kind.Word name then rule.InBraces (rule.BodiesOf E bs)) (phrase.Some kind.Word name then rule.InBraces (rule.BodiesOf F bs))
+  operand_within y us l (rule.OperandOf.resource at virtual name bs e here named h) = rule.OperandOf.resource at virtual name bs e here named
+      (second_within (suc n) (rule.Virtual virtual) (phrase.Some kind.Word name then rule.InBraces (rule.BodiesOf E bs)) (phrase.Some kind.Word name then rule.InBraces (rule.BodiesOf F bs))
       (second_within (suc n) (phrase.Some kind.Word name) (rule.InBraces (rule.BodiesOf E bs)) (rule.InBraces (rule.BodiesOf F bs)) (braces_within (rule.BodiesOf E bs) (rule.BodiesOf F bs) (bodies_within bs))) us l h)
   operand_within y us l (rule.OperandOf.class at bs e h) = rule.OperandOf.class at bs e
       (second_within (suc n) (phrase.Token kind.Keyword (codes "class") at) (rule.InBraces (rule.BodiesOf E bs)) (rule.InBraces (rule.BodiesOf F bs)) (braces_within (rule.BodiesOf E bs) (rule.BodiesOf F bs) (bodies_within bs)) us l h)
@@ -129,13 +129,13 @@ module _ (n : ℕ) (E F : Expr → List Lexeme → Type 0) (f : (y : Expr) → W
       (second_within (suc n) (Sign (codes "(")) (Listed E args then Sign (codes ")")) (Listed F args then Sign (codes ")")) (first_within (suc n) (Listed E args) (Sign (codes ")")) (Listed F args) (listed_within (suc n) E F f args)) us l h)
   args_within args us l (rule.bare h none) = rule.bare (separated_within (suc n) E F f phrase.Comma args us l h) none
 
-  preset_within : (p : Option Expr) → Within (suc n) (rule.PresetOf E p) (rule.PresetOf F p)
-  preset_within prelude.None us l h = h
-  preset_within (prelude.Some x) us l h = second_within (suc n) (Sign (codes "=")) (E x) (F x) (f x) us l h
+  default_within : (p : Option Expr) → Within (suc n) (rule.DefaultOf E p) (rule.DefaultOf F p)
+  default_within prelude.None us l h = h
+  default_within (prelude.Some x) us l h = second_within (suc n) (Sign (codes "=")) (E x) (F x) (f x) us l h
 
   param_within : (p : Param) → Within (suc n) (rule.ParamOf E p) (rule.ParamOf F p)
-  param_within p = second_within (suc n) (rule.MaybeType p.kind) (rule.VariableOf p.name then rule.PresetOf E p.preset) (rule.VariableOf p.name then rule.PresetOf F p.preset)
-      (second_within (suc n) (rule.VariableOf p.name) (rule.PresetOf E p.preset) (rule.PresetOf F p.preset) (preset_within p.preset))
+  param_within p = second_within (suc n) (rule.MaybeType p.kind) (rule.VariableOf p.name then rule.DefaultOf E p.default) (rule.VariableOf p.name then rule.DefaultOf F p.default)
+      (second_within (suc n) (rule.VariableOf p.name) (rule.DefaultOf E p.default) (rule.DefaultOf F p.default) (default_within p.default))
 
   params_within : (ps : List Param) → Within (suc n) (rule.ParamsOf E ps) (rule.ParamsOf F ps)
   params_within [] us l h = h

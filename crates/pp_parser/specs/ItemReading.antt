@@ -13,12 +13,12 @@ use Rattle.pp_syntax.specs.declared.tree.Param.{Param}
 use Rattle.pp_syntax.specs.declared.tree.Item.{Item}
 use Rattle.pp_syntax.specs.declared.tree.Item.TheVariants as item
 use Rattle.pp_syntax.specs.Tokens.{Lexeme}
-use Rattle.pp_expression.specs.Marks.{Found, front_of, mark}
-use Rattle.pp_expression.specs.Values.{◌>>=◌}
-use Rattle.pp_expression.specs.Reading.{maybe_items, string_with, expr_at}
-use Rattle.pp_statement.specs.Combining.{Reader, both, made, behind, begins, many, listed}
-use Rattle.pp_statement.specs.Marks.{taken, variable_by, ref_by}
-use Rattle.pp_statement.specs.Reading.{attributes_with, block_with, stmt_at}
+use Rattle.pp_readers.specs.Marks.{Found, front_of, mark}
+use Rattle.rh_base.specs.Reading.{◌>>=◌}
+use Rattle.pp_readers.specs.Expressions.{maybe_items, string_with, expr_at}
+use Rattle.pp_readers.specs.Combining.{Reader, both, made, behind, begins, many, listed}
+use Rattle.pp_readers.specs.Names.{taken, variable_by, ref_by}
+use Rattle.pp_readers.specs.Statements.{attributes_with, block_with, stmt_at}
 use Rattle.pp_parser.specs.TypeReading.{optional, shaped, type_at}
 
 -- ---- parameters
@@ -39,13 +39,13 @@ abbrev pub maybe_type : Reader TypeName → Reader (Option TypeName)
 maybe_type t = optional begins_type t
 
 abbrev pub param_of : Option TypeName × (List ℕ × Option Expr) → Param
-param_of p = record { kind = p.0; name = p.1.0; preset = p.1.1 }
+param_of p = record { kind = p.0; name = p.1.0; default = p.1.1 }
 
-abbrev pub preset_with : Reader Expr → Reader (Option Expr)
-preset_with e = optional (begins kind.Sign (codes "=")) (behind kind.Sign (codes "=") e)
+abbrev pub default_with : Reader Expr → Reader (Option Expr)
+default_with e = optional (begins kind.Sign (codes "=")) (behind kind.Sign (codes "=") e)
 
 abbrev pub param_with : Reader Expr → Reader TypeName → Reader Param
-param_with e t = shaped param_of (both (maybe_type t) (both (taken variable_by) (preset_with e)))
+param_with e t = shaped param_of (both (maybe_type t) (both (taken variable_by) (default_with e)))
 
 abbrev pub params_in : Reader Expr → Reader TypeName → Reader (List Param)
 params_in e t ts = maybe_items (codes ")") (param_with e t) (length ts + 1) ts

@@ -6,10 +6,11 @@ use Rattle.pp_syntax.specs.declared.token.Kind.TheVariants as kind
 use Rattle.pp_syntax.specs.declared.tree.TypeName.{TypeName}
 use Rattle.pp_syntax.specs.declared.tree.TypeName.TheVariants as type
 use Rattle.pp_syntax.specs.Tokens.{Lexeme}
-use Rattle.pp_expression.specs.Values.{◌>>=◌, number, sq}
-use Rattle.pp_expression.specs.Reading.{items}
-use Rattle.pp_statement.specs.Combining.{Reader, both, behind, before, begins}
-use Rattle.pp_statement.specs.Marks.{taken}
+use Rattle.rh_base.specs.Reading.{◌>>=◌}
+use Rattle.pp_readers.specs.Values.{number, sq}
+use Rattle.pp_readers.specs.Expressions.{items}
+use Rattle.pp_readers.specs.Combining.{Reader, both, behind, before, begins}
+use Rattle.pp_readers.specs.Names.{taken}
 use Rattle.pp_parser.specs.declared.words.TypeWord.{TypeWord}
 use Rattle.pp_parser.specs.declared.words.TypeWord.TheVariants as word
 

@@ -1,18 +1,19 @@
-ghost use Rattle.std.specs.Prelude.{◌≡◌, drop, codes, length, ◌+◌, IfOk, Some};
-ghost use Rattle.std.specs.Option.{option_map};
+ghost use Rattle.std.specs.Prelude.{◌≡◌, drop, codes, Some};
 ghost use Rattle.pp_syntax.specs.Lexing.{told};
-ghost use Rattle.pp_expression.specs.Reading.{Gives, items, maybe_items, expr_at};
-ghost use Rattle.pp_statement.specs.Combining.{listed, many};
-ghost use Rattle.pp_statement.specs.Reading.{stmt_at};
-ghost use Rattle.pp_parser.specs.TypeReading.{shaped, type_at};
-ghost use Rattle.pp_parser.specs.ItemReading.{maybe_type, preset_with, param_with, params_in, params_with, parent_with, class_with, define_with, text_of, text_name, default_name, word_name, node_name_with, unopened, node_names_with, node_with, defaults_with, plain_with, keyed_with, class_or_plain, defaults_or_plain, item_with, has_token, items_with, items_at};
+ghost use Rattle.pp_readers.specs.Parsed.{Gives, Reads};
+ghost use Rattle.pp_readers.specs.Expressions.{items, expr_at};
+ghost use Rattle.pp_readers.specs.Combining.{listed, many};
+ghost use Rattle.pp_readers.specs.Statements.{stmt_at};
+ghost use Rattle.pp_parser.specs.TypeReading.{type_at};
+ghost use Rattle.pp_parser.specs.ItemReading.{maybe_type, default_with, param_with, params_in, params_with, parent_with, class_with, define_with, text_of, text_name, default_name, word_name, node_name_with, unopened, node_names_with, node_with, defaults_with, plain_with, keyed_with, class_or_plain, defaults_or_plain, item_with, has_token, items_at};
 
 use crate::types::type_at;
 use crate::words::{begins_type, has_token, unopened, word};
 use pp_expression::{
-    Misread, expect, first_at, front_of, mark, parse_expression, parse_string, separator, turns,
+    expect, first_at, front_of, mark, parse_expression, parse_string, separator, turns,
 };
 use pp_statement::{parse_attributes, parse_block, parse_statement, ref_name, variable};
+use pp_readers::{Misread, Read};
 use pp_syntax::{Expr, Form, Item, Kind, Param, Stmt, Token, TypeName};
 use rh_base::{Seq, Text};
 use std::alloc::Global;
@@ -24,8 +25,8 @@ fn kind_of(
     depth: usize,
     tokens: &[Token<'_>],
     from: usize,
-) -> Result<(Option<TypeName>, usize), Misread>
-    ensures { Gives (λ x. (x.0, drop x.1 (told tokens.now))) result (maybe_type (type_at depth) (drop from (told tokens.now))) }
+) -> Read<Option<TypeName>>
+    ensures { Reads (maybe_type (type_at depth)) tokens.now from result }
 {
     if begins_type(tokens, from) {
         let (found, rest) = type_at(alloc, depth, tokens, from)?;
@@ -35,13 +36,13 @@ fn kind_of(
     }
 }
 
-fn preset(
+fn default(
     alloc: Global,
     depth: usize,
     tokens: &[Token<'_>],
     from: usize,
-) -> Result<(Option<Expr>, usize), Misread>
-    ensures { Gives (λ x. (x.0, drop x.1 (told tokens.now))) result (preset_with (expr_at depth) (drop from (told tokens.now))) }
+) -> Read<Option<Expr>>
+    ensures { Reads (default_with (expr_at depth)) tokens.now from result }
 {
     let Some((_, behind)) = mark(Kind::Sign, "=", tokens, from) else {
         return Ok((None, from));
@@ -55,13 +56,13 @@ fn param(
     depth: usize,
     tokens: &[Token<'_>],
     from: usize,
-) -> Result<(Param, usize), Misread>
-    ensures { Gives (λ x. (x.0, drop x.1 (told tokens.now))) result (param_with (expr_at depth) (type_at depth) (drop from (told tokens.now))) }
+) -> Read<Param>
+    ensures { Reads (param_with (expr_at depth) (type_at depth)) tokens.now from result }
 {
     let (kind, rest) = kind_of(alloc, depth, tokens, from)?;
     let (name, rest) = variable(alloc, tokens, rest)?;
-    let (preset, rest) = preset(alloc, depth, tokens, rest)?;
-    Ok((Param { kind, name, preset }, rest))
+    let (default, rest) = default(alloc, depth, tokens, rest)?;
+    Ok((Param { kind, name, default }, rest))
 }
 
 fn some_params(
@@ -70,8 +71,8 @@ fn some_params(
     turns: usize,
     tokens: &[Token<'_>],
     from: usize,
-) -> Result<(Seq<Param>, usize), Misread>
-    ensures { Gives (λ x. (x.0, drop x.1 (told tokens.now))) result (items (codes ")") (param_with (expr_at depth) (type_at depth)) turns (drop from (told tokens.now))) }
+) -> Read<Seq<Param>>
+    ensures { Reads (items (codes ")") (param_with (expr_at depth) (type_at depth)) turns) tokens.now from result }
 {
     let mut found = Seq::new(alloc);
     let mut rest = from;
@@ -92,8 +93,8 @@ fn params_behind(
     depth: usize,
     tokens: &[Token<'_>],
     from: usize,
-) -> Result<(Seq<Param>, usize), Misread>
-    ensures { Gives (λ x. (x.0, drop x.1 (told tokens.now))) result (params_in (expr_at depth) (type_at depth) (drop from (told tokens.now))) }
+) -> Read<Seq<Param>>
+    ensures { Reads (params_in (expr_at depth) (type_at depth)) tokens.now from result }
 {
     if let Some((_, rest)) = mark(Kind::Sign, ")", tokens, from) {
         return Ok((Seq::new(alloc), rest));
@@ -107,8 +108,8 @@ fn params(
     depth: usize,
     tokens: &[Token<'_>],
     from: usize,
-) -> Result<(Seq<Param>, usize), Misread>
-    ensures { Gives (λ x. (x.0, drop x.1 (told tokens.now))) result (params_with (expr_at depth) (type_at depth) (drop from (told tokens.now))) }
+) -> Read<Seq<Param>>
+    ensures { Reads (params_with (expr_at depth) (type_at depth)) tokens.now from result }
 {
     match mark(Kind::Sign, "(", tokens, from) {
         Some((_, rest)) => params_behind(alloc, depth, tokens, rest),
@@ -122,8 +123,8 @@ fn parent(
     alloc: Global,
     tokens: &[Token<'_>],
     from: usize,
-) -> Result<(Option<Text>, usize), Misread>
-    ensures { Gives (λ x. (x.0, drop x.1 (told tokens.now))) result (parent_with (drop from (told tokens.now))) }
+) -> Read<Option<Text>>
+    ensures { Reads parent_with tokens.now from result }
 {
     let Some((_, behind)) = mark(Kind::Keyword, "inherits", tokens, from) else {
         return Ok((None, from));
@@ -137,8 +138,8 @@ fn class(
     depth: usize,
     tokens: &[Token<'_>],
     from: usize,
-) -> Result<(Item, usize), Misread>
-    ensures { Gives (λ x. (x.0, drop x.1 (told tokens.now))) result (class_with (expr_at depth) (type_at depth) (stmt_at (expr_at depth) depth) (drop from (told tokens.now))) }
+) -> Read<Item>
+    ensures { Reads (class_with (expr_at depth) (type_at depth) (stmt_at (expr_at depth) depth)) tokens.now from result }
 {
     let (_, rest) = expect(Kind::Keyword, "class", tokens, from)?;
     let (name, rest) = word(alloc, tokens, rest)?;
@@ -163,8 +164,8 @@ fn define(
     depth: usize,
     tokens: &[Token<'_>],
     from: usize,
-) -> Result<(Item, usize), Misread>
-    ensures { Gives (λ x. (x.0, drop x.1 (told tokens.now))) result (define_with (expr_at depth) (type_at depth) (stmt_at (expr_at depth) depth) (drop from (told tokens.now))) }
+) -> Read<Item>
+    ensures { Reads (define_with (expr_at depth) (type_at depth) (stmt_at (expr_at depth) depth)) tokens.now from result }
 {
     let (_, rest) = expect(Kind::Keyword, "define", tokens, from)?;
     let (name, rest) = word(alloc, tokens, rest)?;
@@ -196,8 +197,8 @@ fn text_name(
     depth: usize,
     tokens: &[Token<'_>],
     from: usize,
-) -> Result<(Option<Text>, usize), Misread>
-    ensures { Gives (λ x. (x.0, drop x.1 (told tokens.now))) result (text_name (expr_at depth) (drop from (told tokens.now))) }
+) -> Read<Option<Text>>
+    ensures { Reads (text_name (expr_at depth)) tokens.now from result }
 {
     let (text, rest) = parse_string(alloc, depth, tokens, from)?;
     let Expr { at: _, form } = text;
@@ -205,8 +206,8 @@ fn text_name(
     Ok((Some(name), rest))
 }
 
-fn default_name(tokens: &[Token<'_>], from: usize) -> Result<(Option<Text>, usize), Misread>
-    ensures { Gives (λ x. (x.0, drop x.1 (told tokens.now))) result (default_name (drop from (told tokens.now))) }
+fn default_name(tokens: &[Token<'_>], from: usize) -> Read<Option<Text>>
+    ensures { Reads default_name tokens.now from result }
 {
     let (_, rest) = expect(Kind::Keyword, "default", tokens, from)?;
     Ok((None, rest))
@@ -216,8 +217,8 @@ fn word_name(
     alloc: Global,
     tokens: &[Token<'_>],
     from: usize,
-) -> Result<(Option<Text>, usize), Misread>
-    ensures { Gives (λ x. (x.0, drop x.1 (told tokens.now))) result (word_name (drop from (told tokens.now))) }
+) -> Read<Option<Text>>
+    ensures { Reads word_name tokens.now from result }
 {
     let (name, rest) = word(alloc, tokens, from)?;
     Ok((Some(name), rest))
@@ -228,8 +229,8 @@ fn node_name(
     depth: usize,
     tokens: &[Token<'_>],
     from: usize,
-) -> Result<(Option<Text>, usize), Misread>
-    ensures { Gives (λ x. (x.0, drop x.1 (told tokens.now))) result (node_name_with (expr_at depth) (drop from (told tokens.now))) }
+) -> Read<Option<Text>>
+    ensures { Reads (node_name_with (expr_at depth)) tokens.now from result }
 {
     match front_of(tokens, from) {
         Some((token, _)) => match token.kind {
@@ -247,8 +248,8 @@ fn some_node_names(
     turns: usize,
     tokens: &[Token<'_>],
     from: usize,
-) -> Result<(Seq<Option<Text>>, usize), Misread>
-    ensures { Gives (λ x. (x.0, drop x.1 (told tokens.now))) result (listed (codes ",") unopened (node_name_with (expr_at depth)) turns (drop from (told tokens.now))) }
+) -> Read<Seq<Option<Text>>>
+    ensures { Reads (listed (codes ",") unopened (node_name_with (expr_at depth)) turns) tokens.now from result }
 {
     let mut found = Seq::new(alloc);
     let mut rest = from;
@@ -272,8 +273,8 @@ fn node_names(
     depth: usize,
     tokens: &[Token<'_>],
     from: usize,
-) -> Result<(Seq<Option<Text>>, usize), Misread>
-    ensures { Gives (λ x. (x.0, drop x.1 (told tokens.now))) result (node_names_with (expr_at depth) (drop from (told tokens.now))) }
+) -> Read<Seq<Option<Text>>>
+    ensures { Reads (node_names_with (expr_at depth)) tokens.now from result }
 {
     if unopened(tokens, from) {
         some_node_names(alloc, depth, turns(tokens, from), tokens, from)
@@ -287,8 +288,8 @@ fn node(
     depth: usize,
     tokens: &[Token<'_>],
     from: usize,
-) -> Result<(Item, usize), Misread>
-    ensures { Gives (λ x. (x.0, drop x.1 (told tokens.now))) result (node_with (expr_at depth) (stmt_at (expr_at depth) depth) (drop from (told tokens.now))) }
+) -> Read<Item>
+    ensures { Reads (node_with (expr_at depth) (stmt_at (expr_at depth) depth)) tokens.now from result }
 {
     let (_, rest) = expect(Kind::Keyword, "node", tokens, from)?;
     let (names, rest) = node_names(alloc, depth, tokens, rest)?;
@@ -302,8 +303,8 @@ fn defaults(
     depth: usize,
     tokens: &[Token<'_>],
     from: usize,
-) -> Result<(Item, usize), Misread>
-    ensures { Gives (λ x. (x.0, drop x.1 (told tokens.now))) result (defaults_with (expr_at depth) (drop from (told tokens.now))) }
+) -> Read<Item>
+    ensures { Reads (defaults_with (expr_at depth)) tokens.now from result }
 {
     let (kind, rest) = ref_name(alloc, tokens, from)?;
     let (attrs, rest) = parse_attributes(alloc, depth, tokens, rest)?;
@@ -318,8 +319,8 @@ fn plain(
     depth: usize,
     tokens: &[Token<'_>],
     from: usize,
-) -> Result<(Item, usize), Misread>
-    ensures { Gives (λ x. (x.0, drop x.1 (told tokens.now))) result (plain_with (stmt_at (expr_at depth) depth) (drop from (told tokens.now))) }
+) -> Read<Item>
+    ensures { Reads (plain_with (stmt_at (expr_at depth) depth)) tokens.now from result }
 {
     let (found, rest) = parse_statement(alloc, depth, tokens, from)?;
     Ok((Item::Plain(found), rest))
@@ -333,8 +334,8 @@ fn keyed(
     named: bool,
     tokens: &[Token<'_>],
     from: usize,
-) -> Result<(Item, usize), Misread>
-    ensures { Gives (λ x. (x.0, drop x.1 (told tokens.now))) result (keyed_with (expr_at depth) (type_at depth) (stmt_at (expr_at depth) depth) word.now named (drop from (told tokens.now))) }
+) -> Read<Item>
+    ensures { Reads (keyed_with (expr_at depth) (type_at depth) (stmt_at (expr_at depth) depth) word.now named) tokens.now from result }
 {
     if word == "class" {
         class_or_plain(alloc, depth, named, tokens, from)
@@ -353,8 +354,8 @@ fn class_or_plain(
     named: bool,
     tokens: &[Token<'_>],
     from: usize,
-) -> Result<(Item, usize), Misread>
-    ensures { Gives (λ x. (x.0, drop x.1 (told tokens.now))) result (class_or_plain (expr_at depth) (type_at depth) (stmt_at (expr_at depth) depth) named (drop from (told tokens.now))) }
+) -> Read<Item>
+    ensures { Reads (class_or_plain (expr_at depth) (type_at depth) (stmt_at (expr_at depth) depth) named) tokens.now from result }
 {
     if named {
         class(alloc, depth, tokens, from)
@@ -369,8 +370,8 @@ fn defaults_or_plain(
     named: bool,
     tokens: &[Token<'_>],
     from: usize,
-) -> Result<(Item, usize), Misread>
-    ensures { Gives (λ x. (x.0, drop x.1 (told tokens.now))) result (defaults_or_plain (expr_at depth) (stmt_at (expr_at depth) depth) named (drop from (told tokens.now))) }
+) -> Read<Item>
+    ensures { Reads (defaults_or_plain (expr_at depth) (stmt_at (expr_at depth) depth) named) tokens.now from result }
 {
     if named {
         plain(alloc, depth, tokens, from)
@@ -384,8 +385,8 @@ fn item(
     depth: usize,
     tokens: &[Token<'_>],
     from: usize,
-) -> Result<(Item, usize), Misread>
-    ensures { Gives (λ x. (x.0, drop x.1 (told tokens.now))) result (item_with (expr_at depth) (type_at depth) (stmt_at (expr_at depth) depth) (drop from (told tokens.now))) }
+) -> Read<Item>
+    ensures { Reads (item_with (expr_at depth) (type_at depth) (stmt_at (expr_at depth) depth)) tokens.now from result }
 {
     match front_of(tokens, from) {
         Some((token, behind)) => {
@@ -406,8 +407,8 @@ fn some_items(
     turns: usize,
     tokens: &[Token<'_>],
     from: usize,
-) -> Result<(Seq<Item>, usize), Misread>
-    ensures { Gives (λ x. (x.0, drop x.1 (told tokens.now))) result (many has_token (item_with (expr_at depth) (type_at depth) (stmt_at (expr_at depth) depth)) turns (drop from (told tokens.now))) }
+) -> Read<Seq<Item>>
+    ensures { Reads (many has_token (item_with (expr_at depth) (type_at depth) (stmt_at (expr_at depth) depth)) turns) tokens.now from result }
 {
     let mut found = Seq::new(alloc);
     let mut rest = from;
@@ -428,7 +429,7 @@ pub fn items(
     alloc: Global,
     depth: usize,
     tokens: &[Token<'_>],
-) -> Result<(Seq<Item>, usize), Misread>
+) -> Read<Seq<Item>>
     ensures { Gives (λ x. (x.0, drop x.1 (told tokens.now))) result (items_at depth (told tokens.now)) }
 {
     some_items(alloc, depth, turns(tokens, 0), tokens, 0)

@@ -1,7 +1,7 @@
 ghost use Rattle.std.specs.Prelude.{◌≡◌, ◌++◌, ◌<◌, ℕ, ◌+◌, List, [], Some, length};
 ghost use Rattle.pp_syntax.specs.declared.tree.TypeName.{TypeName};
 ghost use Rattle.pp_syntax.specs.Statements.{IsTypeAt, IsStmtAt, Items};
-ghost use Rattle.pp_expression.specs.Parsed.{Begins, NumbersFit, NothingGoesOn};
+ghost use Rattle.pp_readers.specs.Parsed.{NothingGoesOn, Begins, NumbersFit};
 ghost use Rattle.pp_syntax.specs.declared.tree.Item.{Item};
 ghost use Rattle.pp_syntax.specs.Derivation.{IsExprAt};
 ghost use Rattle.pp_parser.specs.TypeReading.{type_at};

@@ -1,9 +1,8 @@
-ghost use Rattle.std.specs.Prelude.{◌≡◌, map, codes, [], ◌∷◌, false};
+ghost use Rattle.std.specs.Prelude.{◌≡◌, map, false};
 ghost use Rattle.std.specs.Option.{option_map};
 ghost use Rattle.pp_syntax.specs.Tokens.{is_among};
-ghost use Rattle.pp_syntax.specs.Statements.{functions};
 ghost use Rattle.pp_syntax.specs.Lexing.{told, lexeme_of};
-ghost use Rattle.pp_parser.specs.Scanning.{begins_with, names_by, left_out_by, is_left_out, first_left_out};
+ghost use Rattle.pp_parser.specs.Scanning.{begins_with, names_by, is_left_out, first_left_out};
 
 use pp_syntax::{Kind, Token};
 

@@ -13,6 +13,3 @@ mod words;
 pub use checked::check;
 pub use laws::{items_are_read, nesting_is_bounded, one_manifest, types_are_read};
 pub use parsing::parse;
-
-#[cfg(test)]
-mod tests;

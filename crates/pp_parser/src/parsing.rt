@@ -1,4 +1,4 @@
-ghost use Rattle.std.specs.Prelude.{◌≡◌, OnOk, IfOk, IfErr, MatchResult, ℕ};
+ghost use Rattle.std.specs.Prelude.{◌≡◌, OnOk, IfOk, IfErr, MatchResult};
 ghost use Rattle.rh_base.specs.Refused.{IfRefused};
 ghost use Rattle.pp_syntax.specs.declared.tree.Manifest.{Manifest as Tree};
 ghost use Rattle.pp_syntax.specs.Lexing.{told};
@@ -9,7 +9,7 @@ ghost use Rattle.pp_parser.specs.Refusing.{AreLexed, IsParseRefusal, RefusesSynt
 
 use crate::checked::check;
 use crate::items::items;
-use pp_expression::Misread;
+use pp_readers::Misread;
 use pp_syntax::{Manifest, Token};
 use rh_base::Fault;
 use std::alloc::Global;
@@ -42,9 +42,9 @@ pub fn parse(alloc: Global, tokens: &[Token<'_>]) -> Result<Manifest, Fault>
     ensures spelled { IfOk result (λ m. IsManifest m (told tokens.now)) }
     ensures all_in { OnOk result (IsNowhere IsLeftOut (told tokens.now)) }
     ensures shallow { OnOk result (IsNowhere IsTooDeep (told tokens.now)) }
-    // Where the tokens spell a tree, none is left out and none is nested too deep, the answer is that tree, unless memory runs out.
+    // Where the tokens spell a tree, none is index out and none is nested too deep, the answer is that tree, unless memory runs out.
     ensures only { (m : Tree) → IsManifest m (told tokens.now) → IsNowhere IsLeftOut (told tokens.now) → IsNowhere IsTooDeep (told tokens.now) → MatchResult result (λ n. n ≡ m) (λ e. IfRefused e (λ r. ⊥)) }
-    // The first token that is left out; else the first that is nested too deep; else no tree is spelled.
+    // The first token that is index out; else the first that is nested too deep; else no tree is spelled.
     ensures refused { IfErr result (λ e. IfRefused e (IsParseRefusal (told tokens.now))) }
 {
     check(alloc, tokens)?;

@@ -1,20 +1,21 @@
-ghost use Rattle.std.specs.Prelude.{◌≡◌, drop, codes, IfOk, Some};
-ghost use Rattle.pp_syntax.specs.Lexing.{told};
-ghost use Rattle.pp_expression.specs.Reading.{Gives, items};
+ghost use Rattle.std.specs.Prelude.{◌≡◌, codes, IfOk, Some};
+ghost use Rattle.pp_readers.specs.Parsed.{Reads};
+ghost use Rattle.pp_readers.specs.Expressions.{items};
 ghost use Rattle.pp_syntax.specs.declared.tree.TypeName.TheVariants as type;
-ghost use Rattle.pp_statement.specs.Marks.{taken};
-ghost use Rattle.pp_parser.specs.TypeReading.{upper_with, bounds_with, maybe_bounds, text_type, number_type, member_with, maybe_member, members_in, members_with, texts_in, texts_with, shaped, quoted_by, type_by, type_with, type_at};
+ghost use Rattle.pp_readers.specs.Names.{taken};
+ghost use Rattle.pp_parser.specs.TypeReading.{upper_with, bounds_with, maybe_bounds, text_type, number_type, member_with, maybe_member, members_with, texts_with, shaped, quoted_by, type_by, type_with, type_at};
 
 use crate::words::{TypeWord, bound, quoted, type_word_at};
-use pp_expression::{Misread, expect, mark, separator, turns};
+use pp_expression::{expect, mark, separator, turns};
 use pp_statement::begins;
+use pp_readers::{Misread, Read};
 use pp_syntax::{Kind, Token, TypeName};
 use rh_base::{Boxed, NoMemory, Seq, Text};
 use std::alloc::Global;
 
 /// The upper bound behind a comma, if there is one.
-fn upper(tokens: &[Token<'_>], from: usize) -> Result<(Option<i64>, usize), Misread>
-    ensures { Gives (λ x. (x.0, drop x.1 (told tokens.now))) result (upper_with (drop from (told tokens.now))) }
+fn upper(tokens: &[Token<'_>], from: usize) -> Read<Option<i64>>
+    ensures { Reads upper_with tokens.now from result }
 {
     let Some((_, behind)) = mark(Kind::Sign, ",", tokens, from) else {
         return Ok((None, from));
@@ -24,8 +25,8 @@ fn upper(tokens: &[Token<'_>], from: usize) -> Result<(Option<i64>, usize), Misr
 }
 
 /// One or two bounds, and the bracket that closes them.
-fn bounds(tokens: &[Token<'_>], from: usize) -> Result<((i64, Option<i64>), usize), Misread>
-    ensures { Gives (λ x. (x.0, drop x.1 (told tokens.now))) result (bounds_with (drop from (told tokens.now))) }
+fn bounds(tokens: &[Token<'_>], from: usize) -> Read<(i64, Option<i64>)>
+    ensures { Reads bounds_with tokens.now from result }
 {
     let (least, rest) = bound(tokens, from)?;
     let (most, rest) = upper(tokens, rest)?;
@@ -36,8 +37,8 @@ fn bounds(tokens: &[Token<'_>], from: usize) -> Result<((i64, Option<i64>), usiz
 fn some_bounds(
     tokens: &[Token<'_>],
     from: usize,
-) -> Result<(Option<(i64, Option<i64>)>, usize), Misread>
-    ensures { Gives (λ x. (x.0, drop x.1 (told tokens.now))) result (maybe_bounds (drop from (told tokens.now))) }
+) -> Read<Option<(i64, Option<i64>)>>
+    ensures { Reads maybe_bounds tokens.now from result }
 {
     let Some((_, behind)) = mark(Kind::Tight, "[", tokens, from) else {
         return Ok((None, from));
@@ -79,8 +80,8 @@ fn texts(
     turns: usize,
     tokens: &[Token<'_>],
     from: usize,
-) -> Result<(Seq<Text>, usize), Misread>
-    ensures { Gives (λ x. (x.0, drop x.1 (told tokens.now))) result (items (codes "]") (taken quoted_by) turns (drop from (told tokens.now))) }
+) -> Read<Seq<Text>>
+    ensures { Reads (items (codes "]") (taken quoted_by) turns) tokens.now from result }
 {
     let mut found = Seq::new(alloc);
     let mut rest = from;
@@ -100,8 +101,8 @@ fn enumerated(
     alloc: Global,
     tokens: &[Token<'_>],
     from: usize,
-) -> Result<(Seq<Text>, usize), Misread>
-    ensures { Gives (λ x. (x.0, drop x.1 (told tokens.now))) result (texts_with (drop from (told tokens.now))) }
+) -> Read<Seq<Text>>
+    ensures { Reads texts_with tokens.now from result }
 {
     let (_, rest) = expect(Kind::Tight, "[", tokens, from)?;
     texts(alloc, turns(tokens, rest), tokens, rest)
@@ -114,8 +115,8 @@ pub fn type_at(
     depth: usize,
     tokens: &[Token<'_>],
     from: usize,
-) -> Result<(TypeName, usize), Misread>
-    ensures { Gives (λ x. (x.0, drop x.1 (told tokens.now))) result (type_at depth (drop from (told tokens.now))) }
+) -> Read<TypeName>
+    ensures { Reads (type_at depth) tokens.now from result }
 {
     if depth == 0 {
         return Err(Misread::Form(from));
@@ -129,8 +130,8 @@ fn any_type(
     depth: usize,
     tokens: &[Token<'_>],
     from: usize,
-) -> Result<(TypeName, usize), Misread>
-    ensures { Gives (λ x. (x.0, drop x.1 (told tokens.now))) result (type_with (type_at depth) (drop from (told tokens.now))) }
+) -> Read<TypeName>
+    ensures { Reads (type_with (type_at depth)) tokens.now from result }
 {
     match type_word_at(tokens, from) {
         Some((word, rest)) => type_behind(alloc, depth, word, tokens, rest),
@@ -146,8 +147,8 @@ fn type_behind(
     word: TypeWord,
     tokens: &[Token<'_>],
     from: usize,
-) -> Result<(TypeName, usize), Misread>
-    ensures { Gives (λ x. (x.0, drop x.1 (told tokens.now))) result (type_by (type_at depth) word (drop from (told tokens.now))) }
+) -> Read<TypeName>
+    ensures { Reads (type_by (type_at depth) word) tokens.now from result }
 {
     match word {
         TypeWord::Any => Ok((TypeName::Any, from)),
@@ -162,15 +163,15 @@ fn type_behind(
     }
 }
 
-fn text_behind(tokens: &[Token<'_>], from: usize) -> Result<(TypeName, usize), Misread>
-    ensures { Gives (λ x. (x.0, drop x.1 (told tokens.now))) result (shaped text_type maybe_bounds (drop from (told tokens.now))) }
+fn text_behind(tokens: &[Token<'_>], from: usize) -> Read<TypeName>
+    ensures { Reads (shaped text_type maybe_bounds) tokens.now from result }
 {
     let (found, rest) = some_bounds(tokens, from)?;
     Ok((text_type(found), rest))
 }
 
-fn number_behind(tokens: &[Token<'_>], from: usize) -> Result<(TypeName, usize), Misread>
-    ensures { Gives (λ x. (x.0, drop x.1 (told tokens.now))) result (shaped number_type maybe_bounds (drop from (told tokens.now))) }
+fn number_behind(tokens: &[Token<'_>], from: usize) -> Read<TypeName>
+    ensures { Reads (shaped number_type maybe_bounds) tokens.now from result }
 {
     let (found, rest) = some_bounds(tokens, from)?;
     Ok((number_type(found), rest))
@@ -180,8 +181,8 @@ fn enum_behind(
     alloc: Global,
     tokens: &[Token<'_>],
     from: usize,
-) -> Result<(TypeName, usize), Misread>
-    ensures { Gives (λ x. (x.0, drop x.1 (told tokens.now))) result (shaped type.Enum texts_with (drop from (told tokens.now))) }
+) -> Read<TypeName>
+    ensures { Reads (shaped type.Enum texts_with) tokens.now from result }
 {
     let (found, rest) = enumerated(alloc, tokens, from)?;
     Ok((TypeName::Enum(found), rest))
@@ -194,8 +195,8 @@ fn member(
     depth: usize,
     tokens: &[Token<'_>],
     from: usize,
-) -> Result<(TypeName, usize), Misread>
-    ensures { Gives (λ x. (x.0, drop x.1 (told tokens.now))) result (member_with (type_at depth) (drop from (told tokens.now))) }
+) -> Read<TypeName>
+    ensures { Reads (member_with (type_at depth)) tokens.now from result }
 {
     let (_, rest) = expect(Kind::Tight, "[", tokens, from)?;
     let (found, rest) = type_at(alloc, depth, tokens, rest)?;
@@ -223,8 +224,8 @@ fn array_behind(
     depth: usize,
     tokens: &[Token<'_>],
     from: usize,
-) -> Result<(TypeName, usize), Misread>
-    ensures { Gives (λ x. (x.0, drop x.1 (told tokens.now))) result (shaped type.Array (maybe_member (type_at depth)) (drop from (told tokens.now))) }
+) -> Read<TypeName>
+    ensures { Reads (shaped type.Array (maybe_member (type_at depth))) tokens.now from result }
 {
     if begins(Kind::Tight, "[", tokens, from) {
         let (found, rest) = member(alloc, depth, tokens, from)?;
@@ -241,8 +242,8 @@ fn optional_behind(
     depth: usize,
     tokens: &[Token<'_>],
     from: usize,
-) -> Result<(TypeName, usize), Misread>
-    ensures { Gives (λ x. (x.0, drop x.1 (told tokens.now))) result (shaped type.Optional (member_with (type_at depth)) (drop from (told tokens.now))) }
+) -> Read<TypeName>
+    ensures { Reads (shaped type.Optional (member_with (type_at depth))) tokens.now from result }
 {
     let (found, rest) = member(alloc, depth, tokens, from)?;
     let found = optional_of(alloc, found)?;
@@ -257,8 +258,8 @@ fn types(
     turns: usize,
     tokens: &[Token<'_>],
     from: usize,
-) -> Result<(Seq<TypeName>, usize), Misread>
-    ensures { Gives (λ x. (x.0, drop x.1 (told tokens.now))) result (items (codes "]") (type_at depth) turns (drop from (told tokens.now))) }
+) -> Read<Seq<TypeName>>
+    ensures { Reads (items (codes "]") (type_at depth) turns) tokens.now from result }
 {
     let mut found = Seq::new(alloc);
     let mut rest = from;
@@ -280,8 +281,8 @@ fn variant_behind(
     depth: usize,
     tokens: &[Token<'_>],
     from: usize,
-) -> Result<(TypeName, usize), Misread>
-    ensures { Gives (λ x. (x.0, drop x.1 (told tokens.now))) result (shaped type.Variant (members_with (type_at depth)) (drop from (told tokens.now))) }
+) -> Read<TypeName>
+    ensures { Reads (shaped type.Variant (members_with (type_at depth))) tokens.now from result }
 {
     let (_, rest) = expect(Kind::Tight, "[", tokens, from)?;
     let (found, rest) = types(alloc, depth, turns(tokens, rest), tokens, rest)?;

@@ -1,13 +1,14 @@
 ghost use Rattle.std.specs.Prelude.{◌≡◌, drop};
 ghost use Rattle.std.specs.Option.{option_map};
 ghost use Rattle.pp_syntax.specs.Lexing.{told};
-ghost use Rattle.pp_expression.specs.Reading.{Gives};
-ghost use Rattle.pp_statement.specs.Marks.{taken};
+ghost use Rattle.pp_readers.specs.Parsed.{Gives, Reads, Sees};
+ghost use Rattle.pp_readers.specs.Names.{taken};
 ghost use Rattle.pp_parser.specs.TypeReading.{type_word, type_word_by, number_by, quoted_by};
 ghost use Rattle.pp_parser.specs.ItemReading.{word_by, begins_type, unopened, has_token};
 
-use pp_expression::{Misread, front_of, number, sq, text_of};
+use pp_expression::{front_of, number, sq, text_of};
 use pp_statement::begins;
+use pp_readers::{Misread, Read};
 use pp_syntax::{Kind, Token};
 use rh_base::Text;
 use std::alloc::Global;
@@ -63,7 +64,7 @@ fn type_word_by(kind: Kind, text: &str) -> Option<TypeWord>
 
 /// The word of a type at this index.
 pub fn type_word_at(tokens: &[Token<'_>], from: usize) -> Option<(TypeWord, usize)>
-    ensures { option_map (λ x. (x.0, drop x.1 (told tokens.now))) result ≡ taken type_word_by (drop from (told tokens.now)) }
+    ensures { Sees (taken type_word_by) tokens.now from result }
 {
     let (token, rest) = front_of(tokens, from)?;
     let word = type_word_by(token.kind, token.text)?;
@@ -80,7 +81,7 @@ fn number_by(kind: Kind, text: &str) -> Option<i64>
 }
 
 fn number_at(tokens: &[Token<'_>], from: usize) -> Option<(i64, usize)>
-    ensures { option_map (λ x. (x.0, drop x.1 (told tokens.now))) result ≡ taken number_by (drop from (told tokens.now)) }
+    ensures { Sees (taken number_by) tokens.now from result }
 {
     let (token, rest) = front_of(tokens, from)?;
     let value = number_by(token.kind, token.text)?;
@@ -88,24 +89,24 @@ fn number_at(tokens: &[Token<'_>], from: usize) -> Option<(i64, usize)>
 }
 
 /// The number at this index.
-pub fn bound(tokens: &[Token<'_>], from: usize) -> Result<(i64, usize), Misread>
-    ensures { Gives (λ x. (x.0, drop x.1 (told tokens.now))) result (taken number_by (drop from (told tokens.now))) }
+pub fn bound(tokens: &[Token<'_>], from: usize) -> Read<i64>
+    ensures { Reads (taken number_by) tokens.now from result }
 {
     number_at(tokens, from).ok_or(Misread::Form(from))
 }
 
-fn quoted_by(alloc: Global, left: usize, kind: Kind, text: &str) -> Result<Text, Misread>
+fn quoted_by(alloc: Global, index: usize, kind: Kind, text: &str) -> Result<Text, Misread>
     ensures { Gives (λ x. x) result (quoted_by kind text.now) }
 {
     match kind {
-        Kind::Sq => sq(alloc, left, text),
-        _ => Err(Misread::Form(left)),
+        Kind::Sq => sq(alloc, index, text),
+        _ => Err(Misread::Form(index)),
     }
 }
 
 /// The value of the text in single quotes at this index.
-pub fn quoted(alloc: Global, tokens: &[Token<'_>], from: usize) -> Result<(Text, usize), Misread>
-    ensures { Gives (λ x. (x.0, drop x.1 (told tokens.now))) result (taken quoted_by (drop from (told tokens.now))) }
+pub fn quoted(alloc: Global, tokens: &[Token<'_>], from: usize) -> Read<Text>
+    ensures { Reads (taken quoted_by) tokens.now from result }
 {
     match front_of(tokens, from) {
         Some((token, rest)) => {
@@ -134,8 +135,8 @@ fn word_at<'a, 't>(tokens: &'a [Token<'t>], from: usize) -> Option<(&'t str, usi
 }
 
 /// The WORD at this index.
-pub fn word(alloc: Global, tokens: &[Token<'_>], from: usize) -> Result<(Text, usize), Misread>
-    ensures { Gives (λ x. (x.0, drop x.1 (told tokens.now))) result (taken word_by (drop from (told tokens.now))) }
+pub fn word(alloc: Global, tokens: &[Token<'_>], from: usize) -> Read<Text>
+    ensures { Reads (taken word_by) tokens.now from result }
 {
     match word_at(tokens, from) {
         Some((name, rest)) => {

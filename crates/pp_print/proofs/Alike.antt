@@ -27,7 +27,7 @@ use Rattle.pp_syntax.specs.Statements.{word_of}
 use Rattle.pp_print.specs.declared.words.Word.{Word}
 use Rattle.pp_print.specs.Words.{word, sign, keyword, comma, quoted, named, in_parens, in_braces, in_loose, listed, text_of}
 use Rattle.pp_print.specs.Expressions.{Printed, form_by, printed_form, printed, expr_words, at_level, option_by}
-use Rattle.pp_print.specs.Statements.{attr_words, body_words, Sought, search_by, sought, compared, hidden_words, maybe_search, references, operand_words, arrow_words, links, chain_words, block_by, else_by, stmt_by, arm_by, case_arm_by, stmt_words, arm_words, case_arm_words, maybe_type, preset_words, param_words, params_words, parent_words, block_words, item_words, manifest_words}
+use Rattle.pp_print.specs.Statements.{attr_words, body_words, Sought, search_by, sought, compared, virtual_words, maybe_search, references, operand_words, arrow_words, links, chain_words, block_by, else_by, stmt_by, arm_by, case_arm_by, stmt_words, arm_words, case_arm_words, maybe_type, default_words, param_words, params_words, parent_words, block_words, item_words, manifest_words}
 use Rattle.pp_print.specs.Places.{unplaced, unplaced_form, unplaced_attr, unplaced_body, search_step, unplaced_search, unplaced_operand, stmt_step, unplaced_stmt, unplaced_param, unplaced_item, unplaced_manifest, SameButPlaces}
 use Rattle.pp_print.specs.Canonical.{canonical}
 use Rattle.pp_print.proofs.Forms.{form_natural, printed_rolled, join_mapped, flat_mapped}
@@ -120,7 +120,7 @@ references_alike (x ∷ []) = words_alike x
 references_alike (x ∷ y ∷ more) = ap (λ (w : List Word). in_loose w) (join_alike expr_words comma unplaced words_alike (x ∷ y ∷ more))
 
 operand_alike : (y : Operand) → operand_words (unplaced_operand y) ≡ operand_words y
-operand_alike (operand.Declare at hidden name bodies) = ap (λ (w : List Word). hidden_words hidden ++ (named name ++ in_braces w)) (join_alike body_words (sign (codes ";")) unplaced_body body_alike bodies)
+operand_alike (operand.Declare at virtual name bodies) = ap (λ (w : List Word). virtual_words virtual ++ (named name ++ in_braces w)) (join_alike body_words (sign (codes ";")) unplaced_body body_alike bodies)
 operand_alike (operand.Collect at name s) = ap (λ (w : List Word). word kind.Ref name ++ (sign (codes "<|") ++ (w ++ sign (codes "|>")))) (maybe_search_alike s)
 operand_alike (operand.Named xs) = references_alike xs
 
@@ -208,12 +208,12 @@ stmt_alike = ind-Stmt StmtAlike ArmAlike CaseArmAlike stmt_step_alike arm_step_a
 
 -- ---- items
 
-preset_alike : (o : Option Expr) → preset_words (option_map unplaced o) ≡ preset_words o
-preset_alike prelude.None = refl
-preset_alike (prelude.Some x) = ap (λ (w : List Word). sign (codes "=") ++ w) (words_alike x)
+default_alike : (o : Option Expr) → default_words (option_map unplaced o) ≡ default_words o
+default_alike prelude.None = refl
+default_alike (prelude.Some x) = ap (λ (w : List Word). sign (codes "=") ++ w) (words_alike x)
 
 param_alike : (p : Param) → param_words (unplaced_param p) ≡ param_words p
-param_alike p = ap (λ (w : List Word). maybe_type p.kind ++ (word kind.Var (36 ∷ p.name) ++ w)) (preset_alike p.preset)
+param_alike p = ap (λ (w : List Word). maybe_type p.kind ++ (word kind.Var (36 ∷ p.name) ++ w)) (default_alike p.default)
 
 params_alike : (ps : List Param) → params_words (map unplaced_param ps) ≡ params_words ps
 params_alike [] = refl

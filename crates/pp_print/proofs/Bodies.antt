@@ -11,7 +11,7 @@ use Rattle.pp_syntax.specs.Tokens.{Lexeme, is_among, keywords}
 use Rattle.pp_syntax.specs.Phrases.{◌then◌, Sign, Maybe, MaybeListed, Separated, place_of}
 use Rattle.pp_syntax.specs.Derivation.{InnerOf, PostfixOf, ReferenceOf, OptionOf, IsExprAt, IsExpr}
 use Rattle.pp_syntax.specs.Derivation as rule
-use Rattle.pp_syntax.specs.Statements.{NameOf, has_colon, AttrOf, BodyOf, BodiesOf}
+use Rattle.pp_syntax.specs.Statements.{NameOf, is_qualified, AttrOf, BodyOf, BodiesOf}
 use Rattle.pp_syntax.specs.Statements as statement
 use Rattle.pp_print.specs.Words.{word, sign, named, listed}
 use Rattle.pp_print.specs.Expressions.{printed, expr_words, at_level, option_by}

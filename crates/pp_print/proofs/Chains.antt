@@ -13,13 +13,13 @@ use Rattle.pp_syntax.specs.declared.tree.Arrow.TheVariants as arrow
 use Rattle.pp_syntax.specs.Tokens.{Lexeme, is_among, keywords}
 use Rattle.pp_syntax.specs.Phrases.{◌then◌, Some, Token, Sign, Tight, Loose, Listed, Separated, Each, Comma, Maybe, place_of}
 use Rattle.pp_syntax.specs.Derivation.{ReferenceOf, IsExprAt, IsExpr}
-use Rattle.pp_syntax.specs.Statements.{BodiesOf, InBraces, MaybeSearch, Hidden, OperandOf, ArrowOf, Links, StandsAlone}
+use Rattle.pp_syntax.specs.Statements.{BodiesOf, InBraces, MaybeSearch, Virtual, OperandOf, ArrowOf, Links, StandsAlone}
 use Rattle.pp_syntax.specs.Statements as rule
 use Rattle.pp_print.specs.declared.words.Word.{Word}
 use Rattle.pp_print.specs.Words.{word, sign, keyword, named, in_braces, listed}
 use Rattle.pp_print.specs.Expressions.{Printed, printed_form, expr_words, refer_by}
 use Rattle.pp_print.specs.Expressions as expressions
-use Rattle.pp_print.specs.Statements.{bodies_words, hidden_words, maybe_search, operand_words, arrow_words, links}
+use Rattle.pp_print.specs.Statements.{bodies_words, virtual_words, maybe_search, operand_words, arrow_words, links}
 use Rattle.pp_print.specs.Places.{unplaced, unplaced_operand}
 use Rattle.pp_print.proofs.Forms.{printed_refer}
 use Rattle.pp_print.proofs.Phrases.{Phrase, words_in, parts, no_word, one_word, together, AllStand, Small, parts_stand, listed_again}
@@ -70,26 +70,26 @@ word_named n name ts us d good w =
     let h : is_among keywords name ≡ false = (subst (λ (r : List Lexeme). AllStand r) d.1 good.0).0 in
     one_word kind.Word name us (w ∙ ap (λ b. word (cond b kind.Keyword kind.Word) name) h)
 
-hidden_again : (hidden : Bool) (us : List Lexeme) → words_in us ≡ hidden_words hidden → Hidden hidden us
-hidden_again true us w = one_word kind.Sign (codes "@") us w
-hidden_again false us w = no_word us w
+virtual_again : (virtual : Bool) (us : List Lexeme) → words_in us ≡ virtual_words virtual → Virtual virtual us
+virtual_again true us w = one_word kind.Sign (codes "@") us w
+virtual_again false us w = no_word us w
 
 abbrev pub OperandReads : ℕ → Operand → List Lexeme → Type 0
 OperandReads n y us = words_in us ≡ operand_words y → (z : Operand) × OperandOf IsExpr z us × (unplaced_operand y ≡ unplaced_operand z)
 
-resource_reads : (n at : ℕ) (hidden : Bool) (name : List ℕ) (bodies : List Body) (ts : List Lexeme) → is_among rule.functions name ≡ false → (Hidden hidden then Some kind.Word name then InBraces (BodiesOf IsExpr bodies)) ts → Small n ts → (us : List Lexeme) → OperandReads n (operand.Declare at hidden name bodies) us
-resource_reads n at hidden name bodies ts free d good us w =
-    let p = parts us (hidden_words hidden) (named name ++ in_braces (bodies_words bodies)) w in
+resource_reads : (n at : ℕ) (virtual : Bool) (name : List ℕ) (bodies : List Body) (ts : List Lexeme) → is_among rule.functions name ≡ false → (Virtual virtual then Some kind.Word name then InBraces (BodiesOf IsExpr bodies)) ts → Small n ts → (us : List Lexeme) → OperandReads n (operand.Declare at virtual name bodies) us
+resource_reads n at virtual name bodies ts free d good us w =
+    let p = parts us (virtual_words virtual) (named name ++ in_braces (bodies_words bodies)) w in
     let q = parts p.back (named name) (in_braces (bodies_words bodies)) p.second in
     let b = braced q.back (bodies_words bodies) q.second in
-    let g = parts_stand n (Hidden hidden) (Some kind.Word name then InBraces (BodiesOf IsExpr bodies)) ts d good in
+    let g = parts_stand n (Virtual virtual) (Some kind.Word name then InBraces (BodiesOf IsExpr bodies)) ts d good in
     let k = parts_stand n (Some kind.Word name) (InBraces (BodiesOf IsExpr bodies)) d.back d.second g.1 in
     let r = bodies_read n bodies d.second.second.second.front d.second.second.second.first (braces_small n (BodiesOf IsExpr bodies) d.second.back d.second.second k.1) b.inner b.words in (
-      operand.Declare (place_of us) hidden name r.0,
-      rule.resource (place_of us) hidden name r.0 refl refl free
-          (together (Hidden hidden) (Some kind.Word name then InBraces (BodiesOf IsExpr r.0)) us (hidden_words hidden) (named name ++ in_braces (bodies_words bodies)) p (hidden_again hidden p.front p.first)
+      operand.Declare (place_of us) virtual name r.0,
+      rule.resource (place_of us) virtual name r.0 refl refl free
+          (together (Virtual virtual) (Some kind.Word name then InBraces (BodiesOf IsExpr r.0)) us (virtual_words virtual) (named name ++ in_braces (bodies_words bodies)) p (virtual_again virtual p.front p.first)
           (together (Some kind.Word name) (InBraces (BodiesOf IsExpr r.0)) p.back (named name) (in_braces (bodies_words bodies)) q (word_named n name d.second.front q.front d.second.first k.0 q.first) (b.build (BodiesOf IsExpr r.0) r.1))),
-      ap (λ (bs : List Body). operand.Declare 0 hidden name bs) r.2,
+      ap (λ (bs : List Body). operand.Declare 0 virtual name bs) r.2,
     )
 
 class_reads : (n at : ℕ) (bodies : List Body) (ts : List Lexeme) → (Token kind.Keyword (codes "class") at then InBraces (BodiesOf IsExpr bodies)) ts → Small n ts → (us : List Lexeme) → OperandReads n (operand.Declare at false (codes "class") bodies) us
@@ -149,7 +149,7 @@ references_read n (x ∷ []) ts d good us w = let o = listed_one n x ts d good i
 references_read n (x ∷ y ∷ more) ts d good us w = some_references n x y more ts d good us w
 
 pub operand_reads : (n : ℕ) (y : Operand) (ts : List Lexeme) → OperandOf IsExpr y ts → Small n ts → (us : List Lexeme) → OperandReads n y us
-operand_reads n y ts (rule.resource at hidden name bodies is at_is free d) good us = subst (λ (o : Operand). OperandReads n o us) (sym is) (resource_reads n at hidden name bodies ts free d good us)
+operand_reads n y ts (rule.resource at virtual name bodies is at_is free d) good us = subst (λ (o : Operand). OperandReads n o us) (sym is) (resource_reads n at virtual name bodies ts free d good us)
 operand_reads n y ts (rule.class at bodies is d) good us = subst (λ (o : Operand). OperandReads n o us) (sym is) (class_reads n at bodies ts d good us)
 operand_reads n y ts (rule.collector at name s is d) good us = subst (λ (o : Operand). OperandReads n o us) (sym is) (collector_reads n at name s ts d good us)
 operand_reads n y ts (rule.reference x is d) good us = subst (λ (o : Operand). OperandReads n o us) (sym is) (one_reference n x ts d good us)
@@ -184,10 +184,10 @@ links_read n (a ∷ arrows) (y ∷ ys) ts d good us w =
     )
 
 pub alone_again : (y z : Operand) (ys zs : List Operand) → unplaced_operand y ≡ unplaced_operand z → map unplaced_operand ys ≡ map unplaced_operand zs → StandsAlone y ys → StandsAlone z zs
-alone_again y (operand.Declare at hidden name bodies) ys zs same others h = tt
+alone_again y (operand.Declare at virtual name bodies) ys zs same others h = tt
 alone_again y (operand.Collect at name s) ys zs same others h = tt
 alone_again y (operand.Named xs) ys (v ∷ zs) same others h = tt
 alone_again (operand.Named ws) (operand.Named xs) [] [] same others h = h
 alone_again (operand.Named ws) (operand.Named xs) (u ∷ ys) [] same others h = cc
-alone_again (operand.Declare at hidden name bodies) (operand.Named xs) ys [] same others h = cc
+alone_again (operand.Declare at virtual name bodies) (operand.Named xs) ys [] same others h = cc
 alone_again (operand.Collect at name s) (operand.Named xs) ys [] same others h = cc

@@ -8,7 +8,7 @@ use Rattle.pp_syntax.specs.declared.token.Kind.TheVariants as kind
 use Rattle.pp_syntax.specs.declared.tree.Expr.{Expr}
 use Rattle.pp_syntax.specs.declared.tree.Form.{Form}
 use Rattle.pp_syntax.specs.declared.tree.Form.TheVariants as form
-use Rattle.pp_syntax.specs.declared.tree.Form.TheVariants.{outs-Str, outs-At}
+use Rattle.pp_syntax.specs.declared.tree.Form.TheVariants.{outs-Str, outs-Index}
 use Rattle.pp_syntax.specs.declared.tree.Op.{Op}
 use Rattle.pp_syntax.specs.declared.tree.Op.TheVariants as op
 use Rattle.pp_syntax.specs.Tokens.{Lexeme, Spelling, int_value}
@@ -202,7 +202,7 @@ module _ {U : List ℕ → Type 0} where
 
       -- ---- indexes and selections
 
-      index_goes : (x z key : Expr) → Goes U x → Goes U key → z.form ≡ form.At x key → Goes U z
+      index_goes : (x z key : Expr) → Goes U x → Goes U key → z.form ≡ form.Index x key → Goes U z
       index_goes x z key gx gk f = closed_goes z _ true (ap printed_form f ∙ printed_at x key) (seq (indexed_goes x gx) (in_tight_takes is_closed gk.words refl refl))
 
       suffix_goes : (x z : Expr) (ts : List Lexeme) → Goes U x → SuffixOf E x z ts → Fine U ts → Goes U z

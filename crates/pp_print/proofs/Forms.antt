@@ -8,7 +8,7 @@ use Rattle.pp_syntax.specs.declared.tree.Form.{Form, Form-F, fold-roll-Form, rol
 use Rattle.pp_syntax.specs.declared.tree.Expr.{fold-Expr, fold_out-Expr}
 use Rattle.pp_syntax.specs.declared.tree.Form.TheOpen as plain
 use Rattle.pp_syntax.specs.declared.tree.Form.TheVariants as form
-use Rattle.pp_syntax.specs.declared.tree.Form.TheVariants.{rolls-Int, rolls-Str, rolls-Var, rolls-Bool, rolls-Undef, rolls-List, rolls-Map, rolls-Refer, rolls-Join, rolls-Chain, rolls-Prefix, rolls-At, rolls-Select}
+use Rattle.pp_syntax.specs.declared.tree.Form.TheVariants.{rolls-Int, rolls-Str, rolls-Var, rolls-Bool, rolls-Undef, rolls-List, rolls-Map, rolls-Refer, rolls-Join, rolls-Chain, rolls-Prefix, rolls-Index, rolls-Select}
 use Rattle.pp_syntax.specs.declared.tree.Form.TheShapes.{former-Form-Select-1-at-3}
 use Rattle.pp_syntax.specs.declared.tree.Op.{Op}
 use Rattle.pp_print.specs.declared.words.Word.{Word}
@@ -56,7 +56,7 @@ form_natural f g h (plain.Chain first []) = refl
 form_natural {B = B} {X = X} f g h (plain.Chain first (o ∷ more)) = ap (λ (r : List Word). record { words = at_level (level_in (o ∷ more) + 1) (f (h first)) ++ (operation_by (λ x. f (h x)) (level_in (o ∷ more)) o ++ r); level = level_in (o ∷ more); indexable = false })
     (flat_mapped (operation_by f (level_in (o ∷ more))) (λ (p : Op × B). record { 0 = p.0; 1 = h p.1 }) more)
 form_natural f g h (plain.Prefix ops x) = refl
-form_natural f g h (plain.At base key) = refl
+form_natural f g h (plain.Index base key) = refl
 form_natural {B = B} {X = X} f g h (plain.Select base choices) = ap (λ (r : List Word). operand (at_level 8 (f (h base)) ++ (sign (codes "?") ++ in_braces r)) false)
     (join_mapped (choice_by f) comma (former-Form-Select-1-at-3.map B X h) choices ∙ join_same (λ c. choice_by f (former-Form-Select-1-at-3.map B X h c)) (choice_by (λ x. f (h x))) comma (choice_mapped f h) choices)
 
@@ -106,8 +106,8 @@ printed_chain first more = sym (ap printed_form (rolls-Chain first more)) ∙ pr
 pub printed_prefix : (ops : List Op) (x : Expr) → printed_form (form.Prefix ops x) ≡ form_by printed {Y = Form} (plain.Prefix ops x)
 printed_prefix ops x = sym (ap printed_form (rolls-Prefix ops x)) ∙ printed_rolled (plain.Prefix ops x)
 
-pub printed_at : (base key : Expr) → printed_form (form.At base key) ≡ form_by printed {Y = Form} (plain.At base key)
-printed_at base key = sym (ap printed_form (rolls-At base key)) ∙ printed_rolled (plain.At base key)
+pub printed_at : (base key : Expr) → printed_form (form.Index base key) ≡ form_by printed {Y = Form} (plain.Index base key)
+printed_at base key = sym (ap printed_form (rolls-Index base key)) ∙ printed_rolled (plain.Index base key)
 
 pub printed_select : (base : Expr) (choices : List (Option Expr × Expr)) → printed_form (form.Select base choices) ≡ form_by printed {Y = Form} (plain.Select base choices)
 printed_select base choices = sym (ap printed_form (rolls-Select base choices)) ∙ printed_rolled (plain.Select base choices)
@@ -127,7 +127,7 @@ chain_in_two f first x more ys zs level is x_is ys_is zs_is level_is = ap (λ (g
     ∙ ap (λ (y : Expr). at_level (level + 1) (printed y) ++ flat_map (operation_by printed level) more) (sym x_is)
     ∙ ap (λ (os : List (Op × Expr)). at_level (level + 1) (printed x) ++ flat_map (operation_by printed level) os) (sym zs_is)
 
-pub index_in_two : (f : Form) (base key b k : Expr) → f ≡ form.At base key → b ≡ base → k ≡ key → (printed_form f).words ≡ indexed (printed b) ++ in_tight (expr_words k)
+pub index_in_two : (f : Form) (base key b k : Expr) → f ≡ form.Index base key → b ≡ base → k ≡ key → (printed_form f).words ≡ indexed (printed b) ++ in_tight (expr_words k)
 index_in_two f base key b k is b_is k_is = ap (λ (g : Form). (printed_form g).words) is ∙ ap (λ (p : Printed). p.words) (printed_at base key)
     ∙ ap (λ (x : Expr). indexed (printed x) ++ in_tight (expr_words key)) (sym b_is) ∙ ap (λ (x : Expr). indexed (printed b) ++ in_tight (expr_words x)) (sym k_is)
 

@@ -7,7 +7,7 @@ use Rattle.pp_syntax.specs.declared.token.Kind.TheVariants as kind
 use Rattle.pp_syntax.specs.declared.tree.Expr.{Expr}
 use Rattle.pp_syntax.specs.declared.tree.Form.{Form, Form-F, out-Form, roll-Form, map-Form, roll-out-Form, out-roll-Form}
 use Rattle.pp_syntax.specs.declared.tree.Form.TheVariants as form
-use Rattle.pp_syntax.specs.declared.tree.Form.TheVariants.{outs-Str, outs-At, outs-Chain, outs-Prefix, outs-Select, rolls-Str, rolls-At, rolls-Var}
+use Rattle.pp_syntax.specs.declared.tree.Form.TheVariants.{outs-Str, outs-Index, outs-Chain, outs-Prefix, outs-Select, rolls-Str, rolls-Index, rolls-Var}
 use Rattle.pp_syntax.specs.declared.tree.Form.TheOpen as plain
 use Rattle.pp_syntax.specs.declared.tree.Op.{Op}
 use Rattle.pp_syntax.specs.Tokens.{Lexeme}
@@ -34,20 +34,20 @@ Open = Form-F Form Expr
 pub str_no : (name : List ℕ) (f : Form) (d : Open) → form.Str name ≡ f → out-Form f ≡ d → plain.Str name ≡ d
 str_no name f d e h = sym (outs-Str name) ∙ ap out-Form e ∙ h
 
-pub at_no : (a k : Expr) (f : Form) (d : Open) → form.At a k ≡ f → out-Form f ≡ d → ◌≡◌ {A = Open} (plain.At a k) d
-at_no a k f d e h = sym (outs-At a k) ∙ ap out-Form e ∙ h
+pub at_no : (a k : Expr) (f : Form) (d : Open) → form.Index a k ≡ f → out-Form f ≡ d → ◌≡◌ {A = Open} (plain.Index a k) d
+at_no a k f d e h = sym (outs-Index a k) ∙ ap out-Form e ∙ h
 
 no_chain : (x v first : Expr) (more : List (Op × Expr)) → ReadAsVariable x v → x.form ≡ form.Chain first more → ⊥
 no_chain x v first more (base name e f g) h = let p : ◌≡◌ {A = Open} (plain.Str name) (plain.Chain first more) = str_no name (form.Chain first more) (plain.Chain first more) (sym e ∙ h) (outs-Chain first more) in cc
-no_chain x v first more (index a b k e f g r) h = let p : ◌≡◌ {A = Open} (plain.At a k) (plain.Chain first more) = at_no a k (form.Chain first more) (plain.Chain first more) (sym e ∙ h) (outs-Chain first more) in cc
+no_chain x v first more (index a b k e f g r) h = let p : ◌≡◌ {A = Open} (plain.Index a k) (plain.Chain first more) = at_no a k (form.Chain first more) (plain.Chain first more) (sym e ∙ h) (outs-Chain first more) in cc
 
 no_prefix : (x v z : Expr) (ops : List Op) → ReadAsVariable x v → x.form ≡ form.Prefix ops z → ⊥
 no_prefix x v z ops (base name e f g) h = let p : ◌≡◌ {A = Open} (plain.Str name) (plain.Prefix ops z) = str_no name (form.Prefix ops z) (plain.Prefix ops z) (sym e ∙ h) (outs-Prefix ops z) in cc
-no_prefix x v z ops (index a b k e f g r) h = let p : ◌≡◌ {A = Open} (plain.At a k) (plain.Prefix ops z) = at_no a k (form.Prefix ops z) (plain.Prefix ops z) (sym e ∙ h) (outs-Prefix ops z) in cc
+no_prefix x v z ops (index a b k e f g r) h = let p : ◌≡◌ {A = Open} (plain.Index a k) (plain.Prefix ops z) = at_no a k (form.Prefix ops z) (plain.Prefix ops z) (sym e ∙ h) (outs-Prefix ops z) in cc
 
 pub no_select : (x v z : Expr) (cs : List (Option Expr × Expr)) → ReadAsVariable x v → x.form ≡ form.Select z cs → ⊥
 no_select x v z cs (base name e f g) h = let p : ◌≡◌ {A = Open} (plain.Str name) (plain.Select z cs) = str_no name (form.Select z cs) (plain.Select z cs) (sym e ∙ h) (outs-Select z cs) in cc
-no_select x v z cs (index a b k e f g r) h = let p : ◌≡◌ {A = Open} (plain.At a k) (plain.Select z cs) = at_no a k (form.Select z cs) (plain.Select z cs) (sym e ∙ h) (outs-Select z cs) in cc
+no_select x v z cs (index a b k e f g r) h = let p : ◌≡◌ {A = Open} (plain.Index a k) (plain.Select z cs) = at_no a k (form.Select z cs) (plain.Select z cs) (sym e ∙ h) (outs-Select z cs) in cc
 
 -- ---- the same, places aside
 
@@ -66,11 +66,11 @@ str_case name f (plain.Refer n xs) e h = cc
 str_case name f (plain.Join xs) e h = cc
 str_case name f (plain.Chain x more) e h = cc
 str_case name f (plain.Prefix ops x) e h = cc
-str_case name f (plain.At a k) e h = cc
+str_case name f (plain.Index a k) e h = cc
 str_case name f (plain.Select x cs) e h = cc
 
-at_case : (a k : Expr) (f : Form) (d : Open) → f ≡ roll-Form d → map-Form Form Expr Form Expr unplaced_form unplaced d ≡ plain.At a k → (b : Expr) × (j : Expr) × (f ≡ form.At b j) × (unplaced b ≡ a) × (unplaced j ≡ k)
-at_case a k f (plain.At b j) e h = let left : unplaced b ≡ a = cc in let right : unplaced j ≡ k = cc in (b, j, e ∙ rolls-At b j, left, right)
+at_case : (a k : Expr) (f : Form) (d : Open) → f ≡ roll-Form d → map-Form Form Expr Form Expr unplaced_form unplaced d ≡ plain.Index a k → (b : Expr) × (j : Expr) × (f ≡ form.Index b j) × (unplaced b ≡ a) × (unplaced j ≡ k)
+at_case a k f (plain.Index b j) e h = let left : unplaced b ≡ a = cc in let right : unplaced j ≡ k = cc in (b, j, e ∙ rolls-Index b j, left, right)
 at_case a k f (plain.Str text) e h = cc
 at_case a k f (plain.Int n) e h = cc
 at_case a k f (plain.Var n) e h = cc
@@ -99,12 +99,12 @@ transport y z w same (base name e f g) =
       ap (λ (k : Form). record { at = 0; form = k }) (ap unplaced_form (sym f)),
     )
 transport y z w same (index a b k e f g r) =
-    let h : unplaced_form y.form ≡ roll-Form (plain.At (unplaced a) (unplaced k)) = ap (λ (x : Expr). x.form) same ∙ ap unplaced_form e ∙ unplaced_at a k ∙ sym (rolls-At (unplaced a) (unplaced k)) in
-    let c = at_case (unplaced a) (unplaced k) y.form (out-Form y.form) (sym (roll-out-Form y.form)) (by_out y.form (plain.At (unplaced a) (unplaced k)) h) in
+    let h : unplaced_form y.form ≡ roll-Form (plain.Index (unplaced a) (unplaced k)) = ap (λ (x : Expr). x.form) same ∙ ap unplaced_form e ∙ unplaced_at a k ∙ sym (rolls-Index (unplaced a) (unplaced k)) in
+    let c = at_case (unplaced a) (unplaced k) y.form (out-Form y.form) (sym (roll-out-Form y.form)) (by_out y.form (plain.Index (unplaced a) (unplaced k)) h) in
     let t = transport c.0 a b c.3 r in (
-      record { at = y.at; form = form.At t.0 c.1 },
+      record { at = y.at; form = form.Index t.0 c.1 },
       index c.0 t.0 c.1 c.2 refl refl t.1,
-      ap (λ (q : Form). record { at = 0; form = q }) (unplaced_at t.0 c.1 ∙ ap (λ (p : Expr). form.At p (unplaced c.1)) t.2 ∙ ap (λ (p : Expr). form.At (unplaced b) p) c.4 ∙ sym (unplaced_at b k) ∙ ap unplaced_form (sym f)),
+      ap (λ (q : Form). record { at = 0; form = q }) (unplaced_at t.0 c.1 ∙ ap (λ (p : Expr). form.Index p (unplaced c.1)) t.2 ∙ ap (λ (p : Expr). form.Index (unplaced b) p) c.4 ∙ sym (unplaced_at b k) ∙ ap unplaced_form (sym f)),
     )
 
 -- ---- words
@@ -132,7 +132,7 @@ texts_of x y (base name e f g) = record {
     by_dash false = refl
 texts_of x y (index a b k e f g r) =
     let t = texts_of a b r in
-    let step : (p q : Expr) (n : List Word) → p.form ≡ form.At q k → (printed q).indexable ≡ true → expr_words q ≡ n ++ t.more → expr_words p ≡ n ++ (t.more ++ in_tight (expr_words k)) =
+    let step : (p q : Expr) (n : List Word) → p.form ≡ form.Index q k → (printed q).indexable ≡ true → expr_words q ≡ n ++ t.more → expr_words p ≡ n ++ (t.more ++ in_tight (expr_words k)) =
     λ p q n is i w. ap (λ (z : Form). (printed_form z).words) is ∙ ap (λ (z : Printed). z.words) (printed_at q k) ∙ ap (λ v. cond v (expr_words q) (in_parens (expr_words q)) ++ in_tight (expr_words k)) i
     ∙ ap (λ (z : List Word). z ++ in_tight (expr_words k)) w ∙ append_assoc n t.more (in_tight (expr_words k)) in
     record {
@@ -157,9 +157,9 @@ unprefix G x v ts r (rule.prefixed o ops z e at d) = absurd (no_prefix x v z (o 
 pub unwrap : (G : Rule) (x v : Expr) (ts : List Lexeme) → ReadAsVariable x v → ExprOf G x ts → PostfixOf G x ts
 unwrap G x v ts r d = unprefix G x v ts r (unchain _ 6 x v ts r (unchain _ 5 x v ts r (unchain _ 4 x v ts r (unchain _ 3 x v ts r (unchain _ 2 x v ts r (unchain _ 1 x v ts r (unchain _ 0 x v ts r d)))))))
 
-pub same_at : (a k b j : Expr) → form.At a k ≡ form.At b j → (a ≡ b) × (k ≡ j)
+pub same_at : (a k b j : Expr) → form.Index a k ≡ form.Index b j → (a ≡ b) × (k ≡ j)
 same_at a k b j h =
-    let same : ◌≡◌ {A = Open} (plain.At a k) (plain.At b j) = at_no a k (form.At b j) (plain.At b j) h (outs-At b j) in
+    let same : ◌≡◌ {A = Open} (plain.Index a k) (plain.Index b j) = at_no a k (form.Index b j) (plain.Index b j) h (outs-Index b j) in
     let first : a ≡ b = cc in
     let second : k ≡ j = cc in
     (first, second)
@@ -176,10 +176,10 @@ swapped G at a x v ts (rule.one z front back e (rule.index key d f) z_at more) r
   where
     behind : (c : Expr) → ReadAsVariable z c → SuffixesOf G at c v back → (b : Expr) × ReadAsVariable a b × SuffixesOf G at b v ts
     behind c (base name g h k) others =
-        let p : ◌≡◌ {A = Open} (plain.Str name) (plain.At a key) = str_no name (form.At a key) (plain.At a key) (sym g ∙ f) (outs-At a key) in cc
+        let p : ◌≡◌ {A = Open} (plain.Str name) (plain.Index a key) = str_no name (form.Index a key) (plain.Index a key) (sym g ∙ f) (outs-Index a key) in cc
     behind c (index a0 b0 k0 g h k q) others =
         let same = same_at a0 k0 a key (sym g ∙ f) in
-        (b0, subst (λ (z : Expr). ReadAsVariable z b0) same.0 q, rule.one c front back e (rule.index key d (h ∙ ap (λ (j : Expr). form.At b0 j) same.1)) (k ∙ z_at) others)
+        (b0, subst (λ (z : Expr). ReadAsVariable z b0) same.0 q, rule.one c front back e (rule.index key d (h ∙ ap (λ (j : Expr). form.Index b0 j) same.1)) (k ∙ z_at) others)
 
 -- the token that begins it, and the expression of that token alone
 pub record Begun (G : Rule) (x v : Expr) (t : Lexeme) (rest : List Lexeme) (name : List ℕ) : Type 0 where
@@ -248,7 +248,7 @@ begun G x v t rest name h r e text =
   where
     of_read : (b : Expr) → ReadAsVariable h.operand b → SuffixesOf G t.at b v h.back → (value : List ℕ) → h.operand.form ≡ form.Str value → h.operand.at ≡ t.at → value ≡ name → rest ≡ h.back → Begun G x v t rest name
     of_read b (index a c k f g q p) others value is at_is same tail =
-        let bad : ◌≡◌ {A = Open} (plain.Str value) (plain.At a k) = str_no value (form.At a k) (plain.At a k) (sym is ∙ f) (outs-At a k) in cc
+        let bad : ◌≡◌ {A = Open} (plain.Str value) (plain.Index a k) = str_no value (form.Index a k) (plain.Index a k) (sym is ∙ f) (outs-Index a k) in cc
     of_read b (base n f g q) others value is at_is same tail =
         let names : ◌≡◌ {A = Open} (plain.Str value) (plain.Str n) = str_no value (form.Str n) (plain.Str n) (sym is ∙ f) (outs-Str n) in
         let n_is : n ≡ value = cc in

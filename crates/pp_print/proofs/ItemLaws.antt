@@ -18,11 +18,11 @@ use Rattle.pp_syntax.specs.Tokens.{Lexeme}
 use Rattle.pp_syntax.specs.Phrases.{◌then◌, Some, Token, Sign, Keyword, Listed, MaybeListed}
 use Rattle.pp_syntax.specs.Derivation.{IsExpr}
 use Rattle.pp_syntax.specs.Derivation as derivation
-use Rattle.pp_syntax.specs.Statements.{VariableOf, AttrOf, InBraces, BlockOf, IsStmtAt, MaybeType, PresetOf, ParamOf, ParamsOf, ParentOf, NodeNameOf, ItemOf, Items, IsManifest}
+use Rattle.pp_syntax.specs.Statements.{VariableOf, AttrOf, InBraces, BlockOf, IsStmtAt, MaybeType, DefaultOf, ParamOf, ParamsOf, ParentOf, NodeNameOf, ItemOf, Items, IsManifest}
 use Rattle.pp_syntax.specs.Statements as rule
 use Rattle.pp_print.specs.Words.{word, sign, keyword, quoted, escaped, in_braces, listed}
 use Rattle.pp_print.specs.Expressions.{expr_words, option_by}
-use Rattle.pp_print.specs.Statements.{attr_words, block_words, maybe_type, preset_words, param_words, params_words, parent_words, item_words, manifest_words}
+use Rattle.pp_print.specs.Statements.{attr_words, block_words, maybe_type, default_words, param_words, params_words, parent_words, item_words, manifest_words}
 use Rattle.pp_print.specs.Places.{unplaced, unplaced_stmt, unplaced_param, unplaced_item, SameButPlaces}
 use Rattle.pp_print.proofs.Escapes.{quoted_is}
 use Rattle.pp_print.proofs.TypeLaws.{type_reads}
@@ -37,9 +37,9 @@ type_again : (n : ℕ) (o : Option TypeName) (ts : List Lexeme) → MaybeType o 
 type_again n prelude.None ts d good us w = no_word us w
 type_again n (prelude.Some t) ts d good us w = type_reads t ts d good.0 us w
 
-preset_reads : (n : ℕ) (o : Option Expr) (ts : List Lexeme) → PresetOf IsExpr o ts → Small n ts → (us : List Lexeme) → words_in us ≡ preset_words o → (p : Option Expr) × PresetOf IsExpr p us × (option_map unplaced o ≡ option_map unplaced p)
-preset_reads n prelude.None ts d good us w = (prelude.None, no_word us w, refl)
-preset_reads n (prelude.Some x) ts d good us w =
+default_reads : (n : ℕ) (o : Option Expr) (ts : List Lexeme) → DefaultOf IsExpr o ts → Small n ts → (us : List Lexeme) → words_in us ≡ default_words o → (p : Option Expr) × DefaultOf IsExpr p us × (option_map unplaced o ≡ option_map unplaced p)
+default_reads n prelude.None ts d good us w = (prelude.None, no_word us w, refl)
+default_reads n (prelude.Some x) ts d good us w =
     let p = parts us (sign (codes "=")) (expr_words x) w in
     let g = parts_stand n (Sign (codes "=")) (IsExpr x) ts d good in
     let r = expr_reads n x d.back d.second g.1 p.back p.second in
@@ -47,15 +47,15 @@ preset_reads n (prelude.Some x) ts d good us w =
 
 param_reads : (n : ℕ) (x : Param) (ts : List Lexeme) → ParamOf IsExpr x ts → Small n ts → (us : List Lexeme) → words_in us ≡ param_words x → (y : Param) × ParamOf IsExpr y us × (unplaced_param x ≡ unplaced_param y)
 param_reads n x ts d good us w =
-    let p = parts us (maybe_type x.kind) (word kind.Var (36 ∷ x.name) ++ preset_words x.preset) w in
-    let q = parts p.back (word kind.Var (36 ∷ x.name)) (preset_words x.preset) p.second in
-    let g = parts_stand n (MaybeType x.kind) (VariableOf x.name then PresetOf IsExpr x.preset) ts d good in
-    let k = parts_stand n (VariableOf x.name) (PresetOf IsExpr x.preset) d.back d.second g.1 in
-    let r = preset_reads n x.preset d.second.back d.second.second k.1 q.back q.second in (
-      record { kind = x.kind; name = x.name; preset = r.0 },
-      together (MaybeType x.kind) (VariableOf x.name then PresetOf IsExpr r.0) us (maybe_type x.kind) (word kind.Var (36 ∷ x.name) ++ preset_words x.preset) p (type_again n x.kind d.front d.first g.0 p.front p.first)
-          (together (VariableOf x.name) (PresetOf IsExpr r.0) p.back (word kind.Var (36 ∷ x.name)) (preset_words x.preset) q (one_word kind.Var (36 ∷ x.name) q.front q.first, d.second.first.1) r.1),
-      ap (λ (o : Option Expr). record { kind = x.kind; name = x.name; preset = o }) r.2,
+    let p = parts us (maybe_type x.kind) (word kind.Var (36 ∷ x.name) ++ default_words x.default) w in
+    let q = parts p.back (word kind.Var (36 ∷ x.name)) (default_words x.default) p.second in
+    let g = parts_stand n (MaybeType x.kind) (VariableOf x.name then DefaultOf IsExpr x.default) ts d good in
+    let k = parts_stand n (VariableOf x.name) (DefaultOf IsExpr x.default) d.back d.second g.1 in
+    let r = default_reads n x.default d.second.back d.second.second k.1 q.back q.second in (
+      record { kind = x.kind; name = x.name; default = r.0 },
+      together (MaybeType x.kind) (VariableOf x.name then DefaultOf IsExpr r.0) us (maybe_type x.kind) (word kind.Var (36 ∷ x.name) ++ default_words x.default) p (type_again n x.kind d.front d.first g.0 p.front p.first)
+          (together (VariableOf x.name) (DefaultOf IsExpr r.0) p.back (word kind.Var (36 ∷ x.name)) (default_words x.default) q (one_word kind.Var (36 ∷ x.name) q.front q.first, d.second.first.1) r.1),
+      ap (λ (o : Option Expr). record { kind = x.kind; name = x.name; default = o }) r.2,
     )
 
 some_params : (x : Param) (more : List Param) (us : List Lexeme) (p : Parts us (sign (codes "(")) (listed param_words (x ∷ more) ++ sign (codes ")"))) (q : Parts p.back (listed param_words (x ∷ more)) (sign (codes ")")))

@@ -39,7 +39,7 @@ indexable_form (plain.Refer name titles) h = refl
 indexable_form (plain.Join members) h = refl
 indexable_form (plain.Chain first more) h = cc
 indexable_form (plain.Prefix ops x) h = cc
-indexable_form (plain.At base key) h = refl
+indexable_form (plain.Index base key) h = refl
 indexable_form (plain.Select base choices) h = refl
 
 indexable_level : (x : Expr) → (printed x).indexable ≡ true → (printed x).level ≡ 8
@@ -398,7 +398,7 @@ module _ (E : Rule) (nested : (e : ℕ) (x : Expr) (ts : List Lexeme) → E x ts
         choice_same c (o.0, x.0) o.2 x.2,
       )
 
-  index_again : (e : ℕ) (x z key : Expr) (ts : List Lexeme) → Reprint (IsExprAt (suc (suc e))) 8 x → Reprint (IsExprAt (suc e)) 8 x → (Tight then E key then Sign (codes "]")) ts → Small (suc (suc e)) ts → z.form ≡ form.At x key → Reprint (IsExprAt (suc (suc e))) 8 z
+  index_again : (e : ℕ) (x z key : Expr) (ts : List Lexeme) → Reprint (IsExprAt (suc (suc e))) 8 x → Reprint (IsExprAt (suc e)) 8 x → (Tight then E key then Sign (codes "]")) ts → Small (suc (suc e)) ts → z.form ≡ form.Index x key → Reprint (IsExprAt (suc (suc e))) 8 z
   index_again e x z key ts r s d good f =
       let g = parts_stand (suc (suc e)) Tight (E key then Sign (codes "]")) ts d good in
       let back_small : Small (suc e) d.back = (g.1.0, omega (arith, good.1, ap length d.first.1, ap length d.whole, length-append d.front d.back)) in
@@ -410,12 +410,12 @@ module _ (E : Rule) (nested : (e : ℕ) (x : Expr) (ts : List Lexeme) → E x ts
       let t = parts q.back (expr_words key) (sign (codes "]")) q.second in
       let base = indexed_again (IsExprAt (suc e)) x r s p.front p.first in
       let inside = key_known.inside t.front t.first in
-      let y : Expr = record { at = place_of us; form = form.At base.0 inside.0 } in
+      let y : Expr = record { at = place_of us; form = form.Index base.0 inside.0 } in
       let suffix : SuffixOf (IsExprAt (suc (suc e))) base.0 y p.back = rule.index inside.0 (together Tight (IsExprAt (suc (suc e)) inside.0 then Sign (codes "]")) p.back (word kind.Tight (codes "[")) (expr_words key ++ sign (codes "]")) q (one_word kind.Tight (codes "[") q.front q.first)
       (together (IsExprAt (suc (suc e)) inside.0) (Sign (codes "]")) q.back (expr_words key) (sign (codes "]")) t inside.1 (one_word kind.Sign (codes "]") t.back t.second))) refl in (
         y,
         extend (IsExprAt (suc (suc e))) base.0 y p.front p.back us base.1 suffix p.whole refl,
-        same_form z (form.At x key) (form.At base.0 inside.0) (place_of us) f (unplaced_at x key ∙ ap (λ (v : Expr). form.At v (unplaced key)) base.2 ∙ ap (λ (v : Expr). form.At (unplaced base.0) v) inside.2 ∙ sym (unplaced_at base.0 inside.0)),
+        same_form z (form.Index x key) (form.Index base.0 inside.0) (place_of us) f (unplaced_at x key ∙ ap (λ (v : Expr). form.Index v (unplaced key)) base.2 ∙ ap (λ (v : Expr). form.Index (unplaced base.0) v) inside.2 ∙ sym (unplaced_at base.0 inside.0)),
       ))
 
   selection_again : (e : ℕ) (choices : List (Option Expr × Expr)) (ts : List Lexeme) → (Sign (codes "?") then Sign (codes "{") then Listed (ChoiceOf E) choices then Sign (codes "}")) ts → Small e ts → (us : List Lexeme)

@@ -7,7 +7,7 @@ use Rattle.pp_syntax.specs.declared.token.Kind.TheVariants as kind
 use Rattle.pp_syntax.specs.declared.tree.Expr.{Expr}
 use Rattle.pp_syntax.specs.declared.tree.Form.{Form, Form-F}
 use Rattle.pp_syntax.specs.declared.tree.Form.TheVariants as form
-use Rattle.pp_syntax.specs.declared.tree.Form.TheVariants.{outs-Str, outs-At}
+use Rattle.pp_syntax.specs.declared.tree.Form.TheVariants.{outs-Str, outs-Index}
 use Rattle.pp_syntax.specs.declared.tree.Form.TheOpen as plain
 use Rattle.pp_syntax.specs.Tokens.{Lexeme, Spelling}
 use Rattle.pp_syntax.specs.Phrases.{Token, place_of}
@@ -57,15 +57,15 @@ module _ {U : List ℕ → Type 0} where
       let same : n ≡ name = cc in
       by_words (ap (λ (g : Form). (printed_form g).words) f ∙ ap (λ (p : Printed). p.words) (printed_var n)) (read_takes is_free n (subst (λ (s : List ℕ). Spelling kind.Word s) (sym same) h))
   word_read x name is h y (index a b k e f at r) =
-      let bad : ◌≡◌ {A = Open} (plain.Str name) (plain.At a k) = str_no name (form.At a k) (plain.At a k) (sym is ∙ e) (outs-At a k) in cc
+      let bad : ◌≡◌ {A = Open} (plain.Str name) (plain.Index a k) = str_no name (form.Index a k) (plain.Index a k) (sym is ∙ e) (outs-Index a k) in cc
 
   -- ---- the indexes behind it
 
   module _ (G : Rule) (goes : (x : Expr) (ts : List Lexeme) → G x ts → Fine U ts → Goes U x) where
     -- one more index
-    index_read : (a z key : Expr) → ReadGoes U a → Goes U key → z.form ≡ form.At a key → ReadGoes U z
+    index_read : (a z key : Expr) → ReadGoes U a → Goes U key → z.form ≡ form.Index a key → ReadGoes U z
     index_read a z key known g f y (base name e h at) =
-        let bad : ◌≡◌ {A = Open} (plain.Str name) (plain.At a key) = str_no name (form.At a key) (plain.At a key) (sym e ∙ f) (outs-At a key) in cc
+        let bad : ◌≡◌ {A = Open} (plain.Str name) (plain.Index a key) = str_no name (form.Index a key) (plain.Index a key) (sym e ∙ f) (outs-Index a key) in cc
     index_read a z key known g f y (index a0 b k e h at r) =
         let same = same_at a0 k a key (sym e ∙ f) in
         let front : Takes U is_free is_closed (expr_words b) = known b (subst (λ (v : Expr). ReadAsVariable v b) same.0 r) in

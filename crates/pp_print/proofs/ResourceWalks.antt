@@ -15,12 +15,12 @@ use Rattle.pp_syntax.specs.declared.tree.TypeName.{TypeName}
 use Rattle.pp_syntax.specs.Tokens.{Lexeme, int_value}
 use Rattle.pp_syntax.specs.Phrases.{◌then◌, Token, Some, Sign, Keyword, Tight, Comma, Listed, MaybeListed}
 use Rattle.pp_syntax.specs.Derivation.{PostfixOf, ReferenceOf, IsExpr}
-use Rattle.pp_syntax.specs.Statements.{NameOf, AttrOf, BodyOf, BodiesOf, InBraces, AtomOf, ConjunctionOf, SearchOf, IsSearchAt, MaybeSearch, Hidden, OperandOf, Links, TextBounds, NumberBounds, TypeWord, QuotedText, TypeOf, IsTypeAt, IsType}
+use Rattle.pp_syntax.specs.Statements.{NameOf, AttrOf, BodyOf, BodiesOf, InBraces, AtomOf, ConjunctionOf, SearchOf, IsSearchAt, MaybeSearch, Virtual, OperandOf, Links, TextBounds, NumberBounds, TypeWord, QuotedText, TypeOf, IsTypeAt, IsType}
 use Rattle.pp_syntax.specs.Statements as rule
 use Rattle.pp_print.specs.declared.words.Word.{Word}
 use Rattle.pp_print.specs.Words.{sign, keyword, comma, quoted, number, named, in_parens, in_tight, listed}
 use Rattle.pp_print.specs.Expressions.{expr_words}
-use Rattle.pp_print.specs.Statements.{attr_words, body_words, bodies_words, Sought, sought, sought_at, compared, hidden_words, maybe_search, references, operand_words, arrow_words, links, text_bounds, number_bounds, type_word, type_words}
+use Rattle.pp_print.specs.Statements.{attr_words, body_words, bodies_words, Sought, sought, sought_at, compared, virtual_words, maybe_search, references, operand_words, arrow_words, links, text_bounds, number_bounds, type_word, type_words}
 use Rattle.pp_print.proofs.Blocks.{sought_or, sought_and, sought_equal, sought_differ, type_any, type_boolean, type_hash, type_str, type_int, type_array, type_optional, type_enum, type_variant}
 use Rattle.pp_print.proofs.Walks.{Last, any, is_free, is_closed, is_done, is_other, Takes, seq, nothing, narrow, loosen, by_words, closed_done, other_done, other_free, sign_takes, arrow_takes, keyword_takes, comma_takes, quoted_takes, reference_takes, in_parens_takes, in_tight_takes, in_loose_takes, in_braces_takes}
 use Rattle.pp_print.proofs.WordLists.{Fine, token_good, parts_sound, token_sound, some_sound, listed_takes, maybe_listed_takes, separated_takes, number_takes, word_named, keyword_named}
@@ -176,15 +176,15 @@ module _ {U : List ℕ → Type 0} where
 
   -- ---- resources, collectors and references
 
-  hidden_takes : (hidden : Bool) → Takes U any any (hidden_words hidden)
-  hidden_takes true = sign_takes any any (codes "@") (refl, refl, refl, refl, refl, refl) refl
-  hidden_takes false = nothing any any (λ l p. p)
+  virtual_takes : (virtual : Bool) → Takes U any any (virtual_words virtual)
+  virtual_takes true = sign_takes any any (codes "@") (refl, refl, refl, refl, refl, refl) refl
+  virtual_takes false = nothing any any (λ l p. p)
 
-  declare_takes : (hidden : Bool) (name : List ℕ) (bodies : List Body) (at : ℕ) (ts : List Lexeme) → Takes U any is_done (named name) → InBraces (BodiesOf IsExpr bodies) ts → Fine U ts → Takes U any is_done (operand_words (operand.Declare at hidden name bodies))
-  declare_takes hidden name bodies at ts known d h =
+  declare_takes : (virtual : Bool) (name : List ℕ) (bodies : List Body) (at : ℕ) (ts : List Lexeme) → Takes U any is_done (named name) → InBraces (BodiesOf IsExpr bodies) ts → Fine U ts → Takes U any is_done (operand_words (operand.Declare at virtual name bodies))
+  declare_takes virtual name bodies at ts known d h =
       let g = parts_sound d h in
       let k = parts_sound d.second g.1 in
-      seq (hidden_takes hidden) (seq known (in_braces_takes is_done is_done (bodies_take bodies d.second.front d.second.first k.0) refl refl))
+      seq (virtual_takes virtual) (seq known (in_braces_takes is_done is_done (bodies_take bodies d.second.front d.second.first k.0) refl refl))
 
   collect_takes : (name : List ℕ) (s : Option Search) (at at2 : ℕ) (ts : List Lexeme) → (Token kind.Ref name at then Sign (codes "<|") then MaybeSearch IsExpr s then Sign (codes "|>")) ts → Fine U ts → Takes U any is_done (operand_words (operand.Collect at2 name s))
   collect_takes name s at at2 ts d h =
@@ -206,10 +206,10 @@ module _ {U : List ℕ → Type 0} where
   references_take (x ∷ y ∷ more) ts d h = in_loose_takes any is_done (listed_takes (ReferenceOf IsExpr) expr_words any is_done one_reference refl (x ∷ y ∷ more) ts d h) refl refl
 
   operand_takes : (y : Operand) (ts : List Lexeme) → OperandOf IsExpr y ts → Fine U ts → Takes U any is_done (operand_words y)
-  operand_takes y ts (rule.resource at hidden name bodies is at_is free d) h =
+  operand_takes y ts (rule.resource at virtual name bodies is at_is free d) h =
       let g = parts_sound d h in
       let k = parts_sound d.second g.1 in
-      by_words (ap operand_words is) (declare_takes hidden name bodies at d.second.back (word_named any name (some_sound kind.Word name d.second.front d.second.first k.0)) d.second.second k.1)
+      by_words (ap operand_words is) (declare_takes virtual name bodies at d.second.back (word_named any name (some_sound kind.Word name d.second.front d.second.first k.0)) d.second.second k.1)
   operand_takes y ts (rule.class at bodies is d) h = by_words (ap operand_words is) (declare_takes false (codes "class") bodies at d.back (keyword_named any (codes "class") refl) d.second (parts_sound d h).1)
   operand_takes y ts (rule.collector at name s is d) h = by_words (ap operand_words is) (collect_takes name s at at ts d h)
   operand_takes y ts (rule.reference x is d) h = by_words (ap operand_words is) (one_reference x ts d h)

@@ -10,14 +10,16 @@ use Rattle.pp_print.proofs.Walks.{Held, Walks}
 use Rattle.pp_print.proofs.ReadBack.{Apart, text_read}
 use Rattle.pp_print.proofs.NoneLeftOut.{none_left_out}
 use Rattle.pp_print.proofs.StatementWalks.{manifest_walks}
+use Rattle.pp_print.proofs.Utf8.{canonical_utf8}
 use Rattle.pp_print.proofs.ItemLaws.{manifest_reads}
 
 pub read_back : Apart → (m : Manifest) → IsSpelled m → ReadsBack (canonical m) m
 read_back apart m h =
-    let walk = manifest_walks m h.1 h.3 (all_sound h.0 h.1 h.2) in
+    let walk = manifest_walks m h.tokens h.derived (all_sound h.text h.tokens h.spelled) in
     let read = text_read apart (manifest_words m) walk.0 walk.1 in
-    let again = manifest_reads m h.1 h.3 (spelled_stand h.0 h.1 h.2) read.0 read.2 in
+    let again = manifest_reads m h.tokens h.derived (spelled_stand h.text h.tokens h.spelled) read.0 read.2 in
     record {
+      utf8 = canonical_utf8 m h.text h.tokens h.utf8 h.spelled h.derived;
       tokens = read.0;
       spelled = read.1;
       all_in = none_left_out read.0 walk.0 (subst (λ (ws : List Word). Walks [] Held ws [] walk.0) (sym read.2) walk.1);

@@ -16,7 +16,6 @@ use Rattle.pp_syntax.specs.declared.tree.Item.{Item}
 use Rattle.pp_syntax.specs.declared.tree.Manifest.{Manifest}
 use Rattle.pp_syntax.specs.Derivation.{IsExpr}
 use Rattle.pp_syntax.specs.Statements.{IsStmtAt, Items}
-use Rattle.pp_print.specs.Canonical.{IsSpelled}
 use Rattle.pp_print.specs.Words.{has_dash}
 use Rattle.pp_print.proofs.Phrases.{Stands, AllStand}
 
@@ -170,6 +169,3 @@ all_sound text tokens h = read_sound _ text tokens _ h
 
 pub spelled_stand : (text : List ℕ) (tokens : List Lexeme) → Spells text tokens → AllStand tokens
 spelled_stand text tokens h = all_stand tokens (all_sound text tokens h)
-
-pub empty_spelled : (m : Manifest) → m.items ≡ [] → IsSpelled m
-empty_spelled m e = ([], [], ends refl refl refl, (0, subst (λ (items : List Item). Items IsExpr (IsStmtAt IsExpr 0) items []) (sym e) refl))

@@ -25,11 +25,11 @@ use Rattle.pp_syntax.specs.Tokens.{Lexeme, is_among}
 use Rattle.pp_syntax.specs.Phrases.{◌then◌, Token, Some, Keyword, Comma, Each}
 use Rattle.pp_syntax.specs.Derivation.{OptionOf, StringOf, IsExpr}
 use Rattle.pp_syntax.specs.Derivation as derivation
-use Rattle.pp_syntax.specs.Statements.{word_of, functions, VariableOf, InBraces, ArgsOf, Statements, BlockOf, ElseOf, ArmOf, CaseArmOf, CaseArms, StmtOf, IsStmtAt, AttrOf, MaybeType, PresetOf, ParamOf, ParamsOf, ParentOf, NodeNameOf, ItemOf, Items, IsManifest}
+use Rattle.pp_syntax.specs.Statements.{word_of, functions, VariableOf, InBraces, ArgsOf, Statements, BlockOf, ElseOf, ArmOf, CaseArmOf, CaseArms, StmtOf, IsStmtAt, AttrOf, MaybeType, DefaultOf, ParamOf, ParamsOf, ParentOf, NodeNameOf, ItemOf, Items, IsManifest}
 use Rattle.pp_syntax.specs.Statements as rule
 use Rattle.pp_print.specs.Words.{keyword, comma, quoted, in_parens, listed}
 use Rattle.pp_print.specs.Expressions.{expr_words, option_by}
-use Rattle.pp_print.specs.Statements.{stmt_words, arm_words, case_arm_words, block_by, block_words, else_by, maybe_type, preset_words, param_words, params_words, parent_words, item_words, manifest_words}
+use Rattle.pp_print.specs.Statements.{stmt_words, arm_words, case_arm_words, block_by, block_words, else_by, maybe_type, default_words, param_words, params_words, parent_words, item_words, manifest_words}
 use Rattle.pp_print.proofs.Blocks.{words_chain, words_assign, words_call, words_if, words_unless, words_case}
 use Rattle.pp_print.proofs.Inners.{str_no}
 use Rattle.pp_print.proofs.Standing.{AllSound}
@@ -163,16 +163,16 @@ module _ {U : List ℕ → Type 0} where
   maybe_type_takes prelude.None ts d h = nothing any any (λ l p. p)
   maybe_type_takes (prelude.Some t) ts d h = loosen any (λ l p. refl) (type_goes t ts d h)
 
-  preset_takes : (o : Option Expr) (ts : List Lexeme) → PresetOf IsExpr o ts → Fine U ts → Takes U is_closed is_done (preset_words o)
-  preset_takes prelude.None ts d h = nothing is_closed is_done closed_done
-  preset_takes (prelude.Some x) ts d h = seq (sign_takes is_closed is_free (codes "=") (refl, refl, refl, refl, refl, refl) refl) (expression_takes x d.back d.second (parts_sound d h).1)
+  default_takes : (o : Option Expr) (ts : List Lexeme) → DefaultOf IsExpr o ts → Fine U ts → Takes U is_closed is_done (default_words o)
+  default_takes prelude.None ts d h = nothing is_closed is_done closed_done
+  default_takes (prelude.Some x) ts d h = seq (sign_takes is_closed is_free (codes "=") (refl, refl, refl, refl, refl, refl) refl) (expression_takes x d.back d.second (parts_sound d h).1)
 
   param_takes : (x : Param) (ts : List Lexeme) → ParamOf IsExpr x ts → Fine U ts → Takes U any is_done (param_words x)
   param_takes x ts d h =
       let g = parts_sound d h in
       let k = parts_sound d.second g.1 in
       seq (maybe_type_takes x.kind d.front d.first g.0)
-      (seq (variable_takes any (36 ∷ x.name) (some_sound kind.Var (36 ∷ x.name) d.second.front d.second.first.0 k.0)) (preset_takes x.preset d.second.back d.second.second k.1))
+      (seq (variable_takes any (36 ∷ x.name) (some_sound kind.Var (36 ∷ x.name) d.second.front d.second.first.0 k.0)) (default_takes x.default d.second.back d.second.second k.1))
 
   params_take : (xs : List Param) (ts : List Lexeme) → ParamsOf IsExpr xs ts → Fine U ts → Takes U is_free is_free (params_words xs)
   params_take [] ts d h = nothing is_free is_free (λ l p. p)

@@ -5,7 +5,7 @@ use Rattle.pp_syntax.specs.declared.tree.Expr.{Expr, fold-Expr, fold_out-Expr}
 use Rattle.pp_syntax.specs.declared.tree.Form.{Form, Form-F, fold-roll-Form, roll-Form, map-Form}
 use Rattle.pp_syntax.specs.declared.tree.Form.TheOpen as plain
 use Rattle.pp_syntax.specs.declared.tree.Form.TheVariants as form
-use Rattle.pp_syntax.specs.declared.tree.Form.TheVariants.{rolls-Int, rolls-Str, rolls-Var, rolls-Bool, rolls-Undef, rolls-List, rolls-Map, rolls-Refer, rolls-Join, rolls-Chain, rolls-Prefix, rolls-At, rolls-Select}
+use Rattle.pp_syntax.specs.declared.tree.Form.TheVariants.{rolls-Int, rolls-Str, rolls-Var, rolls-Bool, rolls-Undef, rolls-List, rolls-Map, rolls-Refer, rolls-Join, rolls-Chain, rolls-Prefix, rolls-Index, rolls-Select}
 use Rattle.pp_syntax.specs.declared.tree.Form.TheShapes.{former-Form-Select-1-at-3}
 use Rattle.pp_syntax.specs.declared.tree.Op.{Op}
 use Rattle.pp_print.specs.Places.{unplaced_form, unplaced}
@@ -48,8 +48,8 @@ unplaced_chain x os = sym (ap unplaced_form (rolls-Chain x os)) ∙ rolled (plai
 pub unplaced_prefix : (ops : List Op) (x : Expr) → unplaced_form (form.Prefix ops x) ≡ form.Prefix ops (unplaced x)
 unplaced_prefix ops x = sym (ap unplaced_form (rolls-Prefix ops x)) ∙ rolled (plain.Prefix ops x) ∙ rolls-Prefix ops (unplaced x)
 
-pub unplaced_at : (x k : Expr) → unplaced_form (form.At x k) ≡ form.At (unplaced x) (unplaced k)
-unplaced_at x k = sym (ap unplaced_form (rolls-At x k)) ∙ rolled (plain.At x k) ∙ rolls-At (unplaced x) (unplaced k)
+pub unplaced_at : (x k : Expr) → unplaced_form (form.Index x k) ≡ form.Index (unplaced x) (unplaced k)
+unplaced_at x k = sym (ap unplaced_form (rolls-Index x k)) ∙ rolled (plain.Index x k) ∙ rolls-Index (unplaced x) (unplaced k)
 
 pub unplaced_select : (x : Expr) (cs : List (Option Expr × Expr)) → unplaced_form (form.Select x cs) ≡ form.Select (unplaced x) (map unplaced_choice cs)
 unplaced_select x cs = sym (ap unplaced_form (rolls-Select x cs)) ∙ rolled (plain.Select x cs) ∙ rolls-Select (unplaced x) (map unplaced_choice cs)

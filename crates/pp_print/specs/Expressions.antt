@@ -106,7 +106,7 @@ module _ {X : Type 0} (f : X → Printed) where
   form_by (form.Join members) = operand (joined_by members) true
   form_by (form.Chain first more) = record { words = chain_by (level_in more) first more; level = level_in more; indexable = false }
   form_by (form.Prefix ops x) = record { words = prefix_by ops x; level = 7; indexable = false }
-  form_by (form.At base key) = operand (index_by base key) true
+  form_by (form.Index base key) = operand (index_by base key) true
   form_by (form.Select base choices) = operand (select_by base choices) false
 
 -- ---- expressions

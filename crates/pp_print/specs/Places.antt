@@ -43,7 +43,7 @@ unfoldable pub unplaced_search : Search → Search
 unplaced_search s = fold-Search Search (λ x. roll-Search (search_step x)) s
 
 abbrev pub unplaced_operand : Operand → Operand
-unplaced_operand (operand.Declare at hidden name bodies) = operand.Declare 0 hidden name (map unplaced_body bodies)
+unplaced_operand (operand.Declare at virtual name bodies) = operand.Declare 0 virtual name (map unplaced_body bodies)
 unplaced_operand (operand.Collect at name sought) = operand.Collect 0 name (option_map unplaced_search sought)
 unplaced_operand (operand.Named xs) = operand.Named (map unplaced xs)
 
@@ -65,7 +65,7 @@ unfoldable pub unplaced_stmt : Stmt → Stmt
 unplaced_stmt s = fold-Stmt Stmt Arm CaseArm (λ x. roll-Stmt (stmt_step x)) arm_step case_arm_step s
 
 abbrev pub unplaced_param : Param → Param
-unplaced_param p = record { kind = p.kind; name = p.name; preset = option_map unplaced p.preset }
+unplaced_param p = record { kind = p.kind; name = p.name; default = option_map unplaced p.default }
 
 abbrev pub unplaced_item : Item → Item
 unplaced_item (item.Class at name params parent body) = item.Class 0 name (map unplaced_param params) parent (map unplaced_stmt body)

@@ -63,9 +63,9 @@ sought s = fold-Search Sought (search_by (λ p. p)) s
 
 -- ---- chains of resources, collectors and references
 
-abbrev pub hidden_words : Bool → List Word
-hidden_words true = sign (codes "@")
-hidden_words false = []
+abbrev pub virtual_words : Bool → List Word
+virtual_words true = sign (codes "@")
+virtual_words false = []
 
 abbrev pub maybe_search : Option Search → List Word
 maybe_search prelude.None = []
@@ -78,7 +78,7 @@ references (x ∷ []) = expr_words x
 references (x ∷ y ∷ more) = in_loose (listed expr_words (x ∷ y ∷ more))
 
 abbrev pub operand_words : Operand → List Word
-operand_words (operand.Declare at hidden name bodies) = hidden_words hidden ++ (named name ++ in_braces (bodies_words bodies))
+operand_words (operand.Declare at virtual name bodies) = virtual_words virtual ++ (named name ++ in_braces (bodies_words bodies))
 operand_words (operand.Collect at name s) = word kind.Ref name ++ (sign (codes "<|") ++ (maybe_search s ++ sign (codes "|>")))
 operand_words (operand.Named xs) = references xs
 
@@ -171,12 +171,12 @@ abbrev pub maybe_type : Option TypeName → List Word
 maybe_type prelude.None = []
 maybe_type (prelude.Some t) = type_words t
 
-abbrev pub preset_words : Option Expr → List Word
-preset_words prelude.None = []
-preset_words (prelude.Some x) = sign (codes "=") ++ expr_words x
+abbrev pub default_words : Option Expr → List Word
+default_words prelude.None = []
+default_words (prelude.Some x) = sign (codes "=") ++ expr_words x
 
 abbrev pub param_words : Param → List Word
-param_words p = maybe_type p.kind ++ (word kind.Var (36 ∷ p.name) ++ preset_words p.preset)
+param_words p = maybe_type p.kind ++ (word kind.Var (36 ∷ p.name) ++ default_words p.default)
 
 -- No parameters are left out with their brackets.
 abbrev pub params_words : List Param → List Word

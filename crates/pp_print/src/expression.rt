@@ -53,7 +53,7 @@ fn level(e: &Expr) -> u32
         | Form::Map(_)
         | Form::Refer(_, _)
         | Form::Join(_)
-        | Form::At(_, _)
+        | Form::Index(_, _)
         | Form::Select(_, _) => 8,
     }
 }
@@ -69,7 +69,7 @@ fn is_indexable(e: &Expr) -> bool
         | Form::List(_)
         | Form::Refer(_, _)
         | Form::Join(_)
-        | Form::At(_, _) => true,
+        | Form::Index(_, _) => true,
         Form::Int(_)
         | Form::Bool(_)
         | Form::Undef
@@ -137,7 +137,7 @@ pub fn expr(words: &mut Words, e: &Expr) -> Result<(), NoMemory>
             operations(words, level, more.as_slice())
         }
         Form::Prefix(ops, x) => prefix(words, ops.as_slice(), x.get()),
-        Form::At(base, key) => {
+        Form::Index(base, key) => {
             indexed(words, base.get())?;
             index(words, key.get())
         }

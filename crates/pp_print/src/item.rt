@@ -4,7 +4,7 @@ ghost use Rattle.pp_syntax.specs.declared.token.Kind.TheVariants as kind;
 ghost use Rattle.pp_syntax.specs.declared.tree.Item.TheVariants as item;
 ghost use Rattle.pp_print.specs.Words.{word, quoted, listed};
 ghost use Rattle.pp_print.specs.Expressions.{option_by};
-ghost use Rattle.pp_print.specs.Statements.{maybe_type, preset_words, param_words, params_words, parent_words, item_words, manifest_words};
+ghost use Rattle.pp_print.specs.Statements.{maybe_type, default_words, param_words, params_words, parent_words, item_words, manifest_words};
 
 use crate::expression::expr;
 use crate::resource::attrs;
@@ -23,8 +23,8 @@ fn maybe_type(words: &mut Words, t: &Option<TypeName>) -> Result<(), NoMemory>
     }
 }
 
-fn preset(words: &mut Words, value: &Option<Expr>) -> Result<(), NoMemory>
-    ensures { OnOk result (words.new ≡ words.old ++ preset_words value.now) }
+fn default(words: &mut Words, value: &Option<Expr>) -> Result<(), NoMemory>
+    ensures { OnOk result (words.new ≡ words.old ++ default_words value.now) }
 {
     match value {
         None => Ok(()),
@@ -40,7 +40,7 @@ fn param(words: &mut Words, p: &Param) -> Result<(), NoMemory>
 {
     maybe_type(words, &p.kind)?;
     words.var(p.name.as_str())?;
-    preset(words, &p.preset)
+    default(words, &p.default)
 }
 
 /// Parameters with commas between them.

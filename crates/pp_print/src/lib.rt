@@ -12,10 +12,6 @@ mod types;
 mod words;
 
 pub use laws::{
-    canonical_text_is_read, canonical_text_is_utf8, fewest_backslashes, same_trees_print_alike,
-    words_spell_again,
+    canonical_text_is_read, fewest_backslashes, same_trees_print_alike, words_spell_again,
 };
 pub use manifest::print;
-
-#[cfg(test)]
-mod tests;

@@ -3,7 +3,7 @@ ghost use Rattle.pp_syntax.specs.declared.token.Kind.TheVariants as kind;
 ghost use Rattle.pp_syntax.specs.declared.tree.Operand.TheVariants as operand;
 ghost use Rattle.pp_print.specs.Words.{word, sign, in_braces, in_loose, listed};
 ghost use Rattle.pp_print.specs.Expressions.{expr_words};
-ghost use Rattle.pp_print.specs.Statements.{attr_words, body_words, bodies_words, hidden_words, references, maybe_search, operand_words, arrow_words, links, chain_words};
+ghost use Rattle.pp_print.specs.Statements.{attr_words, body_words, bodies_words, virtual_words, references, maybe_search, operand_words, arrow_words, links, chain_words};
 
 use crate::expression::{expr, exprs};
 use crate::search::maybe_search;
@@ -56,8 +56,8 @@ fn bodies(words: &mut Words, all: &[Body]) -> Result<(), NoMemory>
     Ok(())
 }
 
-fn hidden(words: &mut Words, is: bool) -> Result<(), NoMemory>
-    ensures { OnOk result (words.new ≡ words.old ++ hidden_words is) }
+fn virtual_sign(words: &mut Words, is: bool) -> Result<(), NoMemory>
+    ensures { OnOk result (words.new ≡ words.old ++ virtual_words is) }
 {
     if is {
         return words.sign("@");
@@ -65,10 +65,10 @@ fn hidden(words: &mut Words, is: bool) -> Result<(), NoMemory>
     Ok(())
 }
 
-fn declared(words: &mut Words, is_hidden: bool, name: &str, all: &[Body]) -> Result<(), NoMemory>
-    ensures { OnOk result (words.new ≡ words.old ++ operand_words (operand.Declare 0 is_hidden name.now all.now)) }
+fn declared(words: &mut Words, is_virtual: bool, name: &str, all: &[Body]) -> Result<(), NoMemory>
+    ensures { OnOk result (words.new ≡ words.old ++ operand_words (operand.Declare 0 is_virtual name.now all.now)) }
 {
-    hidden(words, is_hidden)?;
+    virtual_sign(words, is_virtual)?;
     words.named(name)?;
     words.sign("{")?;
     bodies(words, all)?;
@@ -109,10 +109,10 @@ fn operand(words: &mut Words, y: &Operand) -> Result<(), NoMemory>
     match y {
         Operand::Declare {
             at: _,
-            hidden,
+            is_virtual,
             kind,
             bodies,
-        } => declared(words, *hidden, kind.as_str(), bodies.as_slice()),
+        } => declared(words, *is_virtual, kind.as_str(), bodies.as_slice()),
         Operand::Collect {
             at: _,
             kind,

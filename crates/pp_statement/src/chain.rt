@@ -1,15 +1,16 @@
-ghost use Rattle.std.specs.Prelude.{◌≡◌, drop, codes, [], ◌∷◌};
-ghost use Rattle.pp_syntax.specs.Lexing.{told};
+ghost use Rattle.std.specs.Prelude.{◌≡◌, codes, [], ◌∷◌};
 ghost use Rattle.pp_syntax.specs.declared.token.Kind.TheVariants as kind;
-ghost use Rattle.pp_expression.specs.Reading.{Gives, expr_at, items, with_front};
-ghost use Rattle.pp_statement.specs.Combining.{behind, many};
-ghost use Rattle.pp_statement.specs.Marks.{begins_arrow};
-ghost use Rattle.pp_statement.specs.Reading.{link_with, with_links, sides_with, is_named, chain_of, chain_with, assign_with, bracketed_with, more_args, bare_with, args_with, call_with};
+ghost use Rattle.pp_readers.specs.Parsed.{Gives, Reads};
+ghost use Rattle.pp_readers.specs.Expressions.{expr_at, items, with_front};
+ghost use Rattle.pp_readers.specs.Combining.{behind, many};
+ghost use Rattle.pp_readers.specs.Names.{begins_arrow};
+ghost use Rattle.pp_readers.specs.Statements.{link_with, with_links, sides_with, is_named, chain_of, chain_with, assign_with, more_args, bare_with, args_with, call_with};
 
 use crate::expressions::expr;
 use crate::marks::{arrow_at, begins, begins_arrow, begins_bracket, function_at, variable};
 use crate::operand::operand;
-use pp_expression::{Misread, expect, first_at, mark, separator, turns};
+use pp_expression::{expect, first_at, mark, separator, turns};
+use pp_readers::{Misread, Read};
 use pp_syntax::{Arrow, Expr, Kind, Operand, Stmt, Token};
 use rh_base::Seq;
 use std::alloc::Global;
@@ -20,8 +21,8 @@ fn link(
     limit: usize,
     tokens: &[Token<'_>],
     from: usize,
-) -> Result<((Arrow, Operand), usize), Misread>
-    ensures { Gives (λ x. (x.0, drop x.1 (told tokens.now))) result (link_with (expr_at limit) (drop from (told tokens.now))) }
+) -> Read<(Arrow, Operand)>
+    ensures { Reads (link_with (expr_at limit)) tokens.now from result }
 {
     match arrow_at(tokens, from) {
         Some((arrow, rest)) => {
@@ -40,8 +41,8 @@ fn sides_behind(
     turns: usize,
     tokens: &[Token<'_>],
     from: usize,
-) -> Result<((Seq<Operand>, Seq<Arrow>), usize), Misread>
-    ensures { Gives (λ x. (x.0, drop x.1 (told tokens.now))) result (with_links (first ∷ []) [] (many begins_arrow (link_with (expr_at limit)) turns (drop from (told tokens.now)))) }
+) -> Read<(Seq<Operand>, Seq<Arrow>)>
+    ensures { Reads (λ ts. with_links (first ∷ []) [] (many begins_arrow (link_with (expr_at limit)) turns ts)) tokens.now from result }
 {
     let mut sides = Seq::new(alloc);
     sides.push(first)?;
@@ -65,8 +66,8 @@ fn sides(
     limit: usize,
     tokens: &[Token<'_>],
     from: usize,
-) -> Result<((Seq<Operand>, Seq<Arrow>), usize), Misread>
-    ensures { Gives (λ x. (x.0, drop x.1 (told tokens.now))) result (sides_with (expr_at limit) (drop from (told tokens.now))) }
+) -> Read<(Seq<Operand>, Seq<Arrow>)>
+    ensures { Reads (sides_with (expr_at limit)) tokens.now from result }
 {
     let (first, rest) = operand(alloc, limit, tokens, from)?;
     sides_behind(alloc, limit, first, turns(tokens, rest), tokens, rest)
@@ -78,15 +79,15 @@ fn is_named(operand: &Operand) -> bool
     matches!(operand, Operand::Named(_))
 }
 
-/// One side alone is a resource or a collector; left: the index behind the sides.
-fn chain_of(left: usize, at: u32, sides: Seq<Operand>, arrows: Seq<Arrow>) -> Result<Stmt, Misread>
+/// One side alone is a resource or a collector; index: the index behind the sides.
+fn chain_of(index: usize, at: u32, sides: Seq<Operand>, arrows: Seq<Arrow>) -> Result<Stmt, Misread>
     ensures { Gives (λ x. x) result (chain_of at (sides, arrows)) }
 {
     match sides.as_slice() {
-        [] => return Err(Misread::Form(left)),
+        [] => return Err(Misread::Form(index)),
         [side] => {
             if is_named(side) {
-                return Err(Misread::Form(left));
+                return Err(Misread::Form(index));
             }
         }
         _ => {}
@@ -100,8 +101,8 @@ pub fn chain(
     limit: usize,
     tokens: &[Token<'_>],
     from: usize,
-) -> Result<(Stmt, usize), Misread>
-    ensures { Gives (λ x. (x.0, drop x.1 (told tokens.now))) result (chain_with (expr_at limit) (drop from (told tokens.now))) }
+) -> Read<Stmt>
+    ensures { Reads (chain_with (expr_at limit)) tokens.now from result }
 {
     let ((sides, arrows), rest) = sides(alloc, limit, tokens, from)?;
     let stmt = chain_of(rest, first_at(tokens, from), sides, arrows)?;
@@ -114,8 +115,8 @@ pub fn assign(
     limit: usize,
     tokens: &[Token<'_>],
     from: usize,
-) -> Result<(Stmt, usize), Misread>
-    ensures { Gives (λ x. (x.0, drop x.1 (told tokens.now))) result (assign_with (expr_at limit) (drop from (told tokens.now))) }
+) -> Read<Stmt>
+    ensures { Reads (assign_with (expr_at limit)) tokens.now from result }
 {
     let (name, rest) = variable(alloc, tokens, from)?;
     let (_, rest) = expect(Kind::Sign, "=", tokens, rest)?;
@@ -130,8 +131,8 @@ fn bracketed(
     turns: usize,
     tokens: &[Token<'_>],
     from: usize,
-) -> Result<(Seq<Expr>, usize), Misread>
-    ensures { Gives (λ x. (x.0, drop x.1 (told tokens.now))) result (items (codes ")") (expr_at limit) turns (drop from (told tokens.now))) }
+) -> Read<Seq<Expr>>
+    ensures { Reads (items (codes ")") (expr_at limit) turns) tokens.now from result }
 {
     let mut found = Seq::new(alloc);
     let mut rest = from;
@@ -152,8 +153,8 @@ fn next_arg(
     limit: usize,
     tokens: &[Token<'_>],
     from: usize,
-) -> Result<(Expr, usize), Misread>
-    ensures { Gives (λ x. (x.0, drop x.1 (told tokens.now))) result (behind kind.Sign (codes ",") (expr_at limit) (drop from (told tokens.now))) }
+) -> Read<Expr>
+    ensures { Reads (behind kind.Sign (codes ",") (expr_at limit)) tokens.now from result }
 {
     let (_, rest) = expect(Kind::Sign, ",", tokens, from)?;
     expr(alloc, limit, tokens, rest)
@@ -167,8 +168,8 @@ fn args_behind(
     turns: usize,
     tokens: &[Token<'_>],
     from: usize,
-) -> Result<(Seq<Expr>, usize), Misread>
-    ensures { Gives (λ x. (x.0, drop x.1 (told tokens.now))) result (with_front (first ∷ []) (more_args (expr_at limit) turns (drop from (told tokens.now)))) }
+) -> Read<Seq<Expr>>
+    ensures { Reads (λ ts. with_front (first ∷ []) (more_args (expr_at limit) turns ts)) tokens.now from result }
 {
     let mut found = Seq::new(alloc);
     found.push(first)?;
@@ -190,8 +191,8 @@ fn bare(
     limit: usize,
     tokens: &[Token<'_>],
     from: usize,
-) -> Result<(Seq<Expr>, usize), Misread>
-    ensures { Gives (λ x. (x.0, drop x.1 (told tokens.now))) result (bare_with (expr_at limit) (drop from (told tokens.now))) }
+) -> Read<Seq<Expr>>
+    ensures { Reads (bare_with (expr_at limit)) tokens.now from result }
 {
     let (first, rest) = expr(alloc, limit, tokens, from)?;
     args_behind(alloc, limit, first, turns(tokens, rest), tokens, rest)
@@ -203,8 +204,8 @@ fn args(
     limit: usize,
     tokens: &[Token<'_>],
     from: usize,
-) -> Result<(Seq<Expr>, usize), Misread>
-    ensures { Gives (λ x. (x.0, drop x.1 (told tokens.now))) result (args_with (expr_at limit) (drop from (told tokens.now))) }
+) -> Read<Seq<Expr>>
+    ensures { Reads (args_with (expr_at limit)) tokens.now from result }
 {
     if let Some((_, rest)) = mark(Kind::Sign, "(", tokens, from) {
         return bracketed(alloc, limit, turns(tokens, rest), tokens, rest);
@@ -221,8 +222,8 @@ pub fn call(
     limit: usize,
     tokens: &[Token<'_>],
     from: usize,
-) -> Result<(Stmt, usize), Misread>
-    ensures { Gives (λ x. (x.0, drop x.1 (told tokens.now))) result (call_with (expr_at limit) (drop from (told tokens.now))) }
+) -> Read<Stmt>
+    ensures { Reads (call_with (expr_at limit)) tokens.now from result }
 {
     match function_at(tokens, from) {
         Some((func, rest)) => {

@@ -1,8 +1,8 @@
-ghost use Rattle.std.specs.Prelude.{◌≡◌, drop};
-ghost use Rattle.pp_syntax.specs.Lexing.{told};
-ghost use Rattle.pp_expression.specs.Reading.{Gives, expr_at, postfix_with, reference_with, option_with};
+ghost use Rattle.pp_readers.specs.Parsed.{Reads};
+ghost use Rattle.pp_readers.specs.Expressions.{expr_at, postfix_with, reference_with, option_with};
 
-use pp_expression::{Misread, mark, parse_expression, parse_postfix, parse_reference};
+use pp_expression::{mark, parse_expression, parse_postfix, parse_reference};
+use pp_readers::Read;
 use pp_syntax::{Expr, Kind, Token};
 use std::alloc::Global;
 
@@ -12,8 +12,8 @@ pub fn expr(
     limit: usize,
     tokens: &[Token<'_>],
     from: usize,
-) -> Result<(Expr, usize), Misread>
-    ensures { Gives (λ x. (x.0, drop x.1 (told tokens.now))) result (expr_at limit (drop from (told tokens.now))) }
+) -> Read<Expr>
+    ensures { Reads (expr_at limit) tokens.now from result }
 {
     parse_expression(alloc, limit, tokens, from)
 }
@@ -24,8 +24,8 @@ pub fn postfix(
     limit: usize,
     tokens: &[Token<'_>],
     from: usize,
-) -> Result<(Expr, usize), Misread>
-    ensures { Gives (λ x. (x.0, drop x.1 (told tokens.now))) result (postfix_with (expr_at limit) (drop from (told tokens.now))) }
+) -> Read<Expr>
+    ensures { Reads (postfix_with (expr_at limit)) tokens.now from result }
 {
     parse_postfix(alloc, limit, tokens, from)
 }
@@ -35,8 +35,8 @@ pub fn reference(
     limit: usize,
     tokens: &[Token<'_>],
     from: usize,
-) -> Result<(Expr, usize), Misread>
-    ensures { Gives (λ x. (x.0, drop x.1 (told tokens.now))) result (reference_with (expr_at limit) (drop from (told tokens.now))) }
+) -> Read<Expr>
+    ensures { Reads (reference_with (expr_at limit)) tokens.now from result }
 {
     parse_reference(alloc, limit, tokens, from)
 }
@@ -47,8 +47,8 @@ pub fn option(
     limit: usize,
     tokens: &[Token<'_>],
     from: usize,
-) -> Result<(Option<Expr>, usize), Misread>
-    ensures { Gives (λ x. (x.0, drop x.1 (told tokens.now))) result (option_with (expr_at limit) (drop from (told tokens.now))) }
+) -> Read<Option<Expr>>
+    ensures { Reads (option_with (expr_at limit)) tokens.now from result }
 {
     if let Some((_, rest)) = mark(Kind::Keyword, "default", tokens, from) {
         return Ok((None, rest));

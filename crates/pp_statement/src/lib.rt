@@ -1,10 +1,8 @@
-//! The parser of statements and of what stands between an expression and a statement, and the laws that tie
-//! a way of reading them to the grammar, both ways.
+//! The parser of statements and of what stands between an expression and a statement.
 #![tactic(auto)]
 
 mod chain;
 mod expressions;
-mod laws;
 mod marks;
 mod operand;
 mod parse;
@@ -12,11 +10,5 @@ mod resource;
 mod search;
 mod statement;
 
-pub use laws::{
-    attributes_are_read, blocks_are_read, one_statement, statements_are_read, statements_begin,
-};
 pub use marks::{begins, ref_name, variable};
 pub use parse::{parse_attributes, parse_block, parse_statement};
-
-#[cfg(test)]
-mod tests;

@@ -2,19 +2,21 @@ ghost use Rattle.std.specs.Prelude.{◌≡◌, drop, [], ◌∷◌, codes};
 ghost use Rattle.std.specs.Option.{option_map};
 ghost use Rattle.pp_syntax.specs.Lexing.{told};
 ghost use Rattle.pp_syntax.specs.Tokens.{is_among};
-ghost use Rattle.pp_syntax.specs.Statements.{has_colon};
-ghost use Rattle.pp_expression.specs.Reading.{Gives};
-ghost use Rattle.pp_statement.specs.Combining.{begins};
-ghost use Rattle.pp_statement.specs.Marks.{taken, plain_name, name_by, begins_name, plain_variable, variable_by, ref_by, function_of, function_by, unless_function, type_by, arrow_of, arrow_by, begins_arrow, begins_bracket};
-ghost use Rattle.pp_statement.specs.Reading.{unclosed};
+ghost use Rattle.pp_syntax.specs.Statements.{is_qualified};
+ghost use Rattle.pp_readers.specs.Parsed.{Gives, Reads, Sees};
+ghost use Rattle.pp_readers.specs.Combining.{begins};
+ghost use Rattle.pp_syntax.specs.Statements.{function_of};
+ghost use Rattle.pp_readers.specs.Names.{taken, plain_name, name_by, begins_name, plain_variable, variable_by, ref_by, function_by, unless_function, type_by, arrow_of, arrow_by, begins_arrow, begins_bracket};
+ghost use Rattle.pp_readers.specs.Statements.{unclosed};
 
-use pp_expression::{Misread, front_of, mark, name_of, text_of};
+use pp_expression::{front_of, mark, name_of, text_of};
+use pp_readers::{Misread, Read};
 use pp_syntax::{Arrow, Func, Kind, Token};
 use rh_base::Text;
 use std::alloc::Global;
 
-fn has_colon(name: &str) -> bool
-    ensures { result ≡ has_colon name.now }
+fn is_qualified(name: &str) -> bool
+    ensures { result ≡ is_qualified name.now }
 {
     name.as_bytes().contains(&b':')
 }
@@ -22,7 +24,7 @@ fn has_colon(name: &str) -> bool
 fn plain_name(name: &str) -> Option<&str>
     ensures { option_map (λ s. s.now) result ≡ plain_name name.now }
 {
-    if has_colon(name) { None } else { Some(name) }
+    if is_qualified(name) { None } else { Some(name) }
 }
 
 fn name_by(kind: Kind, text: &str) -> Option<&str>
@@ -54,8 +56,8 @@ pub fn begins_name(tokens: &[Token<'_>], from: usize) -> bool
 }
 
 /// An attribute's name, and the index behind it.
-pub fn name(alloc: Global, tokens: &[Token<'_>], from: usize) -> Result<(Text, usize), Misread>
-    ensures { Gives (λ x. (x.0, drop x.1 (told tokens.now))) result (taken name_by (drop from (told tokens.now))) }
+pub fn name(alloc: Global, tokens: &[Token<'_>], from: usize) -> Read<Text>
+    ensures { Reads (taken name_by) tokens.now from result }
 {
     match name_at(tokens, from) {
         Some((name, rest)) => {
@@ -84,8 +86,8 @@ fn ref_at<'a, 't>(tokens: &'a [Token<'t>], from: usize) -> Option<(&'t str, usiz
 }
 
 /// The name of a kind of resources as references have it.
-pub fn ref_name(alloc: Global, tokens: &[Token<'_>], from: usize) -> Result<(Text, usize), Misread>
-    ensures { Gives (λ x. (x.0, drop x.1 (told tokens.now))) result (taken ref_by (drop from (told tokens.now))) }
+pub fn ref_name(alloc: Global, tokens: &[Token<'_>], from: usize) -> Read<Text>
+    ensures { Reads (taken ref_by) tokens.now from result }
 {
     match ref_at(tokens, from) {
         Some((name, rest)) => {
@@ -96,28 +98,28 @@ pub fn ref_name(alloc: Global, tokens: &[Token<'_>], from: usize) -> Result<(Tex
     }
 }
 
-fn variable_by(alloc: Global, left: usize, kind: Kind, text: &str) -> Result<Text, Misread>
+fn variable_by(alloc: Global, index: usize, kind: Kind, text: &str) -> Result<Text, Misread>
     ensures { Gives (λ x. x) result (variable_by kind text.now) }
 {
     match kind {
-        Kind::Var => plain_variable(alloc, left, text),
-        _ => Err(Misread::Form(left)),
+        Kind::Var => plain_variable(alloc, index, text),
+        _ => Err(Misread::Form(index)),
     }
 }
 
-fn plain_variable(alloc: Global, left: usize, text: &str) -> Result<Text, Misread>
+fn plain_variable(alloc: Global, index: usize, text: &str) -> Result<Text, Misread>
     ensures { Gives (λ x. x) result (plain_variable text.now) }
 {
-    let name = name_of(alloc, left, text)?;
-    if has_colon(name.as_str()) {
-        return Err(Misread::Form(left));
+    let name = name_of(alloc, index, text)?;
+    if is_qualified(name.as_str()) {
+        return Err(Misread::Form(index));
     }
     Ok(name)
 }
 
 /// A variable's name, without `$`.
-pub fn variable(alloc: Global, tokens: &[Token<'_>], from: usize) -> Result<(Text, usize), Misread>
-    ensures { Gives (λ x. (x.0, drop x.1 (told tokens.now))) result (taken variable_by (drop from (told tokens.now))) }
+pub fn variable(alloc: Global, tokens: &[Token<'_>], from: usize) -> Read<Text>
+    ensures { Reads (taken variable_by) tokens.now from result }
 {
     match front_of(tokens, from) {
         Some((token, rest)) => {
@@ -128,40 +130,18 @@ pub fn variable(alloc: Global, tokens: &[Token<'_>], from: usize) -> Result<(Tex
     }
 }
 
-fn function_of(text: &str) -> Option<Func>
-    ensures { result ≡ function_of text.now }
-{
-    if text == "include" {
-        Some(Func::Include)
-    } else if text == "require" {
-        Some(Func::Require)
-    } else if text == "contain" {
-        Some(Func::Contain)
-    } else if text == "realize" {
-        Some(Func::Realize)
-    } else if text == "fail" {
-        Some(Func::Fail)
-    } else if text == "notice" {
-        Some(Func::Notice)
-    } else if text == "warning" {
-        Some(Func::Warning)
-    } else {
-        None
-    }
-}
-
 fn function_by(kind: Kind, text: &str) -> Option<Func>
     ensures { result ≡ function_by kind text.now }
 {
     match kind {
-        Kind::Word => function_of(text),
+        Kind::Word => Func::of(text),
         _ => None,
     }
 }
 
 /// The function whose word stands at this index.
 pub fn function_at(tokens: &[Token<'_>], from: usize) -> Option<(Func, usize)>
-    ensures { option_map (λ x. (x.0, drop x.1 (told tokens.now))) result ≡ taken function_by (drop from (told tokens.now)) }
+    ensures { Sees (taken function_by) tokens.now from result }
 {
     let (token, rest) = front_of(tokens, from)?;
     let func = function_by(token.kind, token.text)?;
@@ -171,7 +151,7 @@ pub fn function_at(tokens: &[Token<'_>], from: usize) -> Option<(Func, usize)>
 fn type_of(text: &str) -> Option<&str>
     ensures { option_map (λ s. s.now) result ≡ unless_function text.now (function_of text.now) }
 {
-    match function_of(text) {
+    match Func::of(text) {
         Some(_) => None,
         None => Some(text),
     }
@@ -195,8 +175,8 @@ fn type_at<'a, 't>(tokens: &'a [Token<'t>], from: usize) -> Option<(&'t str, usi
 }
 
 /// A resource's type.
-pub fn type_name(alloc: Global, tokens: &[Token<'_>], from: usize) -> Result<(Text, usize), Misread>
-    ensures { Gives (λ x. (x.0, drop x.1 (told tokens.now))) result (taken type_by (drop from (told tokens.now))) }
+pub fn type_name(alloc: Global, tokens: &[Token<'_>], from: usize) -> Read<Text>
+    ensures { Reads (taken type_by) tokens.now from result }
 {
     match type_at(tokens, from) {
         Some((name, rest)) => {
@@ -234,7 +214,7 @@ fn arrow_by(kind: Kind, text: &str) -> Option<Arrow>
 
 /// The arrow at this index.
 pub fn arrow_at(tokens: &[Token<'_>], from: usize) -> Option<(Arrow, usize)>
-    ensures { option_map (λ x. (x.0, drop x.1 (told tokens.now))) result ≡ taken arrow_by (drop from (told tokens.now)) }
+    ensures { Sees (taken arrow_by) tokens.now from result }
 {
     let (token, rest) = front_of(tokens, from)?;
     let arrow = arrow_by(token.kind, token.text)?;

@@ -1,15 +1,16 @@
-ghost use Rattle.std.specs.Prelude.{◌≡◌, drop, codes};
-ghost use Rattle.pp_syntax.specs.Lexing.{told};
+ghost use Rattle.std.specs.Prelude.{codes};
 ghost use Rattle.pp_syntax.specs.declared.token.Kind.TheVariants as kind;
-ghost use Rattle.pp_expression.specs.Reading.{Gives, expr_at, reference_with, postfix_with, items};
-ghost use Rattle.pp_statement.specs.Combining.{behind, before};
-ghost use Rattle.pp_statement.specs.Reading.{declared_with, resource_with, hidden_with, class_with, sought_with, collector_with, reference_operand, references_in, references_with, collected_with, operand_with};
+ghost use Rattle.pp_readers.specs.Parsed.{Reads};
+ghost use Rattle.pp_readers.specs.Expressions.{expr_at, reference_with, postfix_with, items};
+ghost use Rattle.pp_readers.specs.Combining.{behind, before};
+ghost use Rattle.pp_readers.specs.Statements.{declared_with, resource_with, virtual_with, class_with, sought_with, collector_with, reference_operand, references_with, collected_with, operand_with};
 
 use crate::expressions::reference;
 use crate::marks::{begins, ref_name, type_name};
 use crate::resource::braced_bodies;
 use crate::search::sought;
-use pp_expression::{Misread, expect, first_at, front_of, separator, text_of, turns};
+use pp_expression::{expect, first_at, front_of, separator, text_of, turns};
+use pp_readers::{Misread, Read};
 use pp_syntax::{Body, Expr, Kind, Operand, Search, Token};
 use rh_base::{Seq, Text};
 use std::alloc::Global;
@@ -20,8 +21,8 @@ fn declared(
     limit: usize,
     tokens: &[Token<'_>],
     from: usize,
-) -> Result<((Text, Seq<Body>), usize), Misread>
-    ensures { Gives (λ x. (x.0, drop x.1 (told tokens.now))) result (declared_with (expr_at limit) (drop from (told tokens.now))) }
+) -> Read<(Text, Seq<Body>)>
+    ensures { Reads (declared_with (expr_at limit)) tokens.now from result }
 {
     let (kind, rest) = type_name(alloc, tokens, from)?;
     let (bodies, rest) = braced_bodies(alloc, limit, tokens, rest)?;
@@ -33,16 +34,16 @@ fn resource(
     limit: usize,
     tokens: &[Token<'_>],
     from: usize,
-) -> Result<(Operand, usize), Misread>
-    ensures { Gives (λ x. (x.0, drop x.1 (told tokens.now))) result (resource_with (expr_at limit) (drop from (told tokens.now))) }
+) -> Read<Operand>
+    ensures { Reads (resource_with (expr_at limit)) tokens.now from result }
 {
     let ((kind, bodies), rest) = declared(alloc, limit, tokens, from)?;
     let at = first_at(tokens, from);
-    let hidden = false;
+    let is_virtual = false;
     Ok((
         Operand::Declare {
             at,
-            hidden,
+            is_virtual,
             kind,
             bodies,
         },
@@ -51,22 +52,22 @@ fn resource(
 }
 
 /// A resource behind `@`.
-fn hidden(
+fn virtual_resource(
     alloc: Global,
     limit: usize,
     tokens: &[Token<'_>],
     from: usize,
-) -> Result<(Operand, usize), Misread>
-    ensures { Gives (λ x. (x.0, drop x.1 (told tokens.now))) result (hidden_with (expr_at limit) (drop from (told tokens.now))) }
+) -> Read<Operand>
+    ensures { Reads (virtual_with (expr_at limit)) tokens.now from result }
 {
     let (_, rest) = expect(Kind::Sign, "@", tokens, from)?;
     let ((kind, bodies), rest) = declared(alloc, limit, tokens, rest)?;
     let at = first_at(tokens, from);
-    let hidden = true;
+    let is_virtual = true;
     Ok((
         Operand::Declare {
             at,
-            hidden,
+            is_virtual,
             kind,
             bodies,
         },
@@ -79,18 +80,18 @@ fn class(
     limit: usize,
     tokens: &[Token<'_>],
     from: usize,
-) -> Result<(Operand, usize), Misread>
-    ensures { Gives (λ x. (x.0, drop x.1 (told tokens.now))) result (class_with (expr_at limit) (drop from (told tokens.now))) }
+) -> Read<Operand>
+    ensures { Reads (class_with (expr_at limit)) tokens.now from result }
 {
     let (_, rest) = expect(Kind::Keyword, "class", tokens, from)?;
     let (bodies, rest) = braced_bodies(alloc, limit, tokens, rest)?;
     let kind = text_of(alloc, "class")?;
     let at = first_at(tokens, from);
-    let hidden = false;
+    let is_virtual = false;
     Ok((
         Operand::Declare {
             at,
-            hidden,
+            is_virtual,
             kind,
             bodies,
         },
@@ -103,8 +104,8 @@ fn enclosed_search(
     limit: usize,
     tokens: &[Token<'_>],
     from: usize,
-) -> Result<(Option<Search>, usize), Misread>
-    ensures { Gives (λ x. (x.0, drop x.1 (told tokens.now))) result (behind kind.Sign (codes "<|") (before (sought_with (postfix_with (expr_at limit))) kind.Sign (codes "|>")) (drop from (told tokens.now))) }
+) -> Read<Option<Search>>
+    ensures { Reads (behind kind.Sign (codes "<|") (before (sought_with (postfix_with (expr_at limit))) kind.Sign (codes "|>"))) tokens.now from result }
 {
     let (_, rest) = expect(Kind::Sign, "<|", tokens, from)?;
     let (search, rest) = sought(alloc, limit, tokens, rest)?;
@@ -117,8 +118,8 @@ fn collector(
     limit: usize,
     tokens: &[Token<'_>],
     from: usize,
-) -> Result<(Operand, usize), Misread>
-    ensures { Gives (λ x. (x.0, drop x.1 (told tokens.now))) result (collector_with (expr_at limit) (drop from (told tokens.now))) }
+) -> Read<Operand>
+    ensures { Reads (collector_with (expr_at limit)) tokens.now from result }
 {
     let (kind, rest) = ref_name(alloc, tokens, from)?;
     let (search, rest) = enclosed_search(alloc, limit, tokens, rest)?;
@@ -131,8 +132,8 @@ fn reference_operand(
     limit: usize,
     tokens: &[Token<'_>],
     from: usize,
-) -> Result<(Operand, usize), Misread>
-    ensures { Gives (λ x. (x.0, drop x.1 (told tokens.now))) result (reference_operand (expr_at limit) (drop from (told tokens.now))) }
+) -> Read<Operand>
+    ensures { Reads (reference_operand (expr_at limit)) tokens.now from result }
 {
     let (e, rest) = reference(alloc, limit, tokens, from)?;
     let mut found = Seq::new(alloc);
@@ -146,8 +147,8 @@ fn some_references(
     turns: usize,
     tokens: &[Token<'_>],
     from: usize,
-) -> Result<(Seq<Expr>, usize), Misread>
-    ensures { Gives (λ x. (x.0, drop x.1 (told tokens.now))) result (items (codes "]") (reference_with (expr_at limit)) turns (drop from (told tokens.now))) }
+) -> Read<Seq<Expr>>
+    ensures { Reads (items (codes "]") (reference_with (expr_at limit)) turns) tokens.now from result }
 {
     let mut found = Seq::new(alloc);
     let mut rest = from;
@@ -169,8 +170,8 @@ fn references(
     limit: usize,
     tokens: &[Token<'_>],
     from: usize,
-) -> Result<(Operand, usize), Misread>
-    ensures { Gives (λ x. (x.0, drop x.1 (told tokens.now))) result (references_with (expr_at limit) (drop from (told tokens.now))) }
+) -> Read<Operand>
+    ensures { Reads (references_with (expr_at limit)) tokens.now from result }
 {
     let (_, rest) = expect(Kind::Loose, "[", tokens, from)?;
     let (found, rest) = some_references(alloc, limit, turns(tokens, rest), tokens, rest)?;
@@ -183,8 +184,8 @@ fn collected(
     limit: usize,
     tokens: &[Token<'_>],
     from: usize,
-) -> Result<(Operand, usize), Misread>
-    ensures { Gives (λ x. (x.0, drop x.1 (told tokens.now))) result (collected_with (expr_at limit) (drop from (told tokens.now))) }
+) -> Read<Operand>
+    ensures { Reads (collected_with (expr_at limit)) tokens.now from result }
 {
     match front_of(tokens, from) {
         Some((_, behind)) => {
@@ -204,13 +205,13 @@ pub fn operand(
     limit: usize,
     tokens: &[Token<'_>],
     from: usize,
-) -> Result<(Operand, usize), Misread>
-    ensures { Gives (λ x. (x.0, drop x.1 (told tokens.now))) result (operand_with (expr_at limit) (drop from (told tokens.now))) }
+) -> Read<Operand>
+    ensures { Reads (operand_with (expr_at limit)) tokens.now from result }
 {
     match front_of(tokens, from) {
         Some((token, _)) => match token.kind {
             Kind::Word => resource(alloc, limit, tokens, from),
-            Kind::Sign => hidden(alloc, limit, tokens, from),
+            Kind::Sign => virtual_resource(alloc, limit, tokens, from),
             Kind::Keyword => class(alloc, limit, tokens, from),
             Kind::Ref => collected(alloc, limit, tokens, from),
             Kind::Loose => references(alloc, limit, tokens, from),

@@ -1,15 +1,14 @@
-ghost use Rattle.std.specs.Prelude.{drop};
 ghost use Rattle.pp_syntax.specs.Lexing.{told};
 ghost use Rattle.pp_syntax.specs.Phrases.{MaybeListed};
 ghost use Rattle.pp_syntax.specs.Derivation.{IsExprAt};
 ghost use Rattle.pp_syntax.specs.Statements.{AttrOf, InBraces, BlockOf, IsStmtAt};
-ghost use Rattle.pp_expression.specs.Parsed.{IsSpelled, IsParsed, Anything};
-ghost use Rattle.pp_expression.specs.Reading.{Gives, expr_at};
-ghost use Rattle.pp_statement.specs.Parsed.{NothingFollows};
-ghost use Rattle.pp_statement.specs.Reading.{attributes_with, block_with, stmt_at};
+ghost use Rattle.pp_readers.specs.Parsed.{Reads, IsSpelled, IsParsed, Anything};
+ghost use Rattle.pp_readers.specs.Expressions.{expr_at};
+ghost use Rattle.pp_readers.specs.Leads.{NothingFollows};
+ghost use Rattle.pp_readers.specs.Statements.{attributes_with, block_with, stmt_at};
 
 use crate::{resource, statement};
-use pp_expression::Misread;
+use pp_readers::Read;
 use pp_syntax::{Attr, Stmt, Token};
 use rh_base::Seq;
 use std::alloc::Global;
@@ -21,11 +20,11 @@ pub fn parse_statement(
     depth: usize,
     tokens: &[Token<'_>],
     from: usize,
-) -> Result<(Stmt, usize), Misread>
+) -> Read<Stmt>
     ensures spelled { IsSpelled (IsStmtAt (IsExprAt depth) depth) (told tokens.now) from result }
     ensures parsed { IsParsed (IsStmtAt (IsExprAt depth) depth) NothingFollows (told tokens.now) from result }
     // what the way of reading finds, of which the laws say that it is the grammar's
-    ensures reads { Gives (λ x. (x.0, drop x.1 (told tokens.now))) result (stmt_at (expr_at depth) depth (drop from (told tokens.now))) }
+    ensures reads { Reads (stmt_at (expr_at depth) depth) tokens.now from result }
 {
     statement::statement(alloc, depth, depth, tokens, from)
 }
@@ -36,11 +35,11 @@ pub fn parse_block(
     depth: usize,
     tokens: &[Token<'_>],
     from: usize,
-) -> Result<(Seq<Stmt>, usize), Misread>
+) -> Read<Seq<Stmt>>
     ensures spelled { IsSpelled (BlockOf (IsStmtAt (IsExprAt depth) depth)) (told tokens.now) from result }
     ensures parsed { IsParsed (BlockOf (IsStmtAt (IsExprAt depth) depth)) Anything (told tokens.now) from result }
     // what the way of reading finds, of which the laws say that it is the grammar's
-    ensures reads { Gives (λ x. (x.0, drop x.1 (told tokens.now))) result (block_with (stmt_at (expr_at depth) depth) (drop from (told tokens.now))) }
+    ensures reads { Reads (block_with (stmt_at (expr_at depth) depth)) tokens.now from result }
 {
     statement::block(alloc, depth, depth, tokens, from)
 }
@@ -51,11 +50,11 @@ pub fn parse_attributes(
     depth: usize,
     tokens: &[Token<'_>],
     from: usize,
-) -> Result<(Seq<Attr>, usize), Misread>
+) -> Read<Seq<Attr>>
     ensures spelled { IsSpelled (λ attrs. InBraces (MaybeListed (AttrOf (IsExprAt depth)) attrs)) (told tokens.now) from result }
     ensures parsed { IsParsed (λ attrs. InBraces (MaybeListed (AttrOf (IsExprAt depth)) attrs)) Anything (told tokens.now) from result }
     // what the way of reading finds, of which the laws say that it is the grammar's
-    ensures reads { Gives (λ x. (x.0, drop x.1 (told tokens.now))) result (attributes_with (expr_at depth) (drop from (told tokens.now))) }
+    ensures reads { Reads (attributes_with (expr_at depth)) tokens.now from result }
 {
     resource::attributes(alloc, depth, tokens, from)
 }

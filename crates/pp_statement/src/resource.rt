@@ -1,13 +1,14 @@
-ghost use Rattle.std.specs.Prelude.{◌≡◌, drop, codes};
-ghost use Rattle.pp_syntax.specs.Lexing.{told};
-ghost use Rattle.pp_expression.specs.Reading.{Gives, expr_at};
-ghost use Rattle.pp_statement.specs.Combining.{listed, in_braces};
-ghost use Rattle.pp_statement.specs.Marks.{begins_name};
-ghost use Rattle.pp_statement.specs.Reading.{attr_with, attrs_with, body_with, bodies_with, unclosed, attributes_with};
+ghost use Rattle.std.specs.Prelude.{codes};
+ghost use Rattle.pp_readers.specs.Parsed.{Reads};
+ghost use Rattle.pp_readers.specs.Expressions.{expr_at};
+ghost use Rattle.pp_readers.specs.Combining.{listed, in_braces};
+ghost use Rattle.pp_readers.specs.Names.{begins_name};
+ghost use Rattle.pp_readers.specs.Statements.{attr_with, attrs_with, body_with, bodies_with, unclosed, attributes_with};
 
 use crate::expressions::expr;
 use crate::marks::{begins_name, name, unclosed};
-use pp_expression::{Misread, expect, first_at, mark, turns};
+use pp_expression::{expect, first_at, mark, turns};
+use pp_readers::{Misread, Read};
 use pp_syntax::{Attr, Body, Kind, Token};
 use rh_base::Seq;
 use std::alloc::Global;
@@ -17,8 +18,8 @@ fn attr(
     limit: usize,
     tokens: &[Token<'_>],
     from: usize,
-) -> Result<(Attr, usize), Misread>
-    ensures { Gives (λ x. (x.0, drop x.1 (told tokens.now))) result (attr_with (expr_at limit) (drop from (told tokens.now))) }
+) -> Read<Attr>
+    ensures { Reads (attr_with (expr_at limit)) tokens.now from result }
 {
     let (name, rest) = name(alloc, tokens, from)?;
     let (_, rest) = expect(Kind::Sign, "=>", tokens, rest)?;
@@ -33,8 +34,8 @@ fn some_attrs(
     turns: usize,
     tokens: &[Token<'_>],
     from: usize,
-) -> Result<(Seq<Attr>, usize), Misread>
-    ensures { Gives (λ x. (x.0, drop x.1 (told tokens.now))) result (listed (codes ",") begins_name (attr_with (expr_at limit)) turns (drop from (told tokens.now))) }
+) -> Read<Seq<Attr>>
+    ensures { Reads (listed (codes ",") begins_name (attr_with (expr_at limit)) turns) tokens.now from result }
 {
     let mut found = Seq::new(alloc);
     let mut rest = from;
@@ -59,8 +60,8 @@ pub fn attrs(
     limit: usize,
     tokens: &[Token<'_>],
     from: usize,
-) -> Result<(Seq<Attr>, usize), Misread>
-    ensures { Gives (λ x. (x.0, drop x.1 (told tokens.now))) result (attrs_with (expr_at limit) (drop from (told tokens.now))) }
+) -> Read<Seq<Attr>>
+    ensures { Reads (attrs_with (expr_at limit)) tokens.now from result }
 {
     some_attrs(alloc, limit, turns(tokens, from), tokens, from)
 }
@@ -71,8 +72,8 @@ fn body(
     limit: usize,
     tokens: &[Token<'_>],
     from: usize,
-) -> Result<(Body, usize), Misread>
-    ensures { Gives (λ x. (x.0, drop x.1 (told tokens.now))) result (body_with (expr_at limit) (drop from (told tokens.now))) }
+) -> Read<Body>
+    ensures { Reads (body_with (expr_at limit)) tokens.now from result }
 {
     let (title, rest) = expr(alloc, limit, tokens, from)?;
     let (_, rest) = expect(Kind::Sign, ":", tokens, rest)?;
@@ -86,8 +87,8 @@ fn some_bodies(
     turns: usize,
     tokens: &[Token<'_>],
     from: usize,
-) -> Result<(Seq<Body>, usize), Misread>
-    ensures { Gives (λ x. (x.0, drop x.1 (told tokens.now))) result (listed (codes ";") unclosed (body_with (expr_at limit)) turns (drop from (told tokens.now))) }
+) -> Read<Seq<Body>>
+    ensures { Reads (listed (codes ";") unclosed (body_with (expr_at limit)) turns) tokens.now from result }
 {
     let mut found = Seq::new(alloc);
     let mut rest = from;
@@ -112,8 +113,8 @@ fn bodies(
     limit: usize,
     tokens: &[Token<'_>],
     from: usize,
-) -> Result<(Seq<Body>, usize), Misread>
-    ensures { Gives (λ x. (x.0, drop x.1 (told tokens.now))) result (bodies_with (expr_at limit) (drop from (told tokens.now))) }
+) -> Read<Seq<Body>>
+    ensures { Reads (bodies_with (expr_at limit)) tokens.now from result }
 {
     if unclosed(tokens, from) {
         some_bodies(alloc, limit, turns(tokens, from), tokens, from)
@@ -127,8 +128,8 @@ pub fn braced_bodies(
     limit: usize,
     tokens: &[Token<'_>],
     from: usize,
-) -> Result<(Seq<Body>, usize), Misread>
-    ensures { Gives (λ x. (x.0, drop x.1 (told tokens.now))) result (in_braces (bodies_with (expr_at limit)) (drop from (told tokens.now))) }
+) -> Read<Seq<Body>>
+    ensures { Reads (in_braces (bodies_with (expr_at limit))) tokens.now from result }
 {
     let (_, rest) = expect(Kind::Sign, "{", tokens, from)?;
     let (found, rest) = bodies(alloc, limit, tokens, rest)?;
@@ -142,8 +143,8 @@ pub fn attributes(
     limit: usize,
     tokens: &[Token<'_>],
     from: usize,
-) -> Result<(Seq<Attr>, usize), Misread>
-    ensures { Gives (λ x. (x.0, drop x.1 (told tokens.now))) result (attributes_with (expr_at limit) (drop from (told tokens.now))) }
+) -> Read<Seq<Attr>>
+    ensures { Reads (attributes_with (expr_at limit)) tokens.now from result }
 {
     let (_, rest) = expect(Kind::Sign, "{", tokens, from)?;
     let (found, rest) = attrs(alloc, limit, tokens, rest)?;

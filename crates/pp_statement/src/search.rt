@@ -1,13 +1,14 @@
-ghost use Rattle.std.specs.Prelude.{◌≡◌, drop, codes, [], ◌∷◌};
-ghost use Rattle.pp_syntax.specs.Lexing.{told};
+ghost use Rattle.std.specs.Prelude.{◌≡◌, codes, [], ◌∷◌};
 ghost use Rattle.pp_syntax.specs.declared.token.Kind.TheVariants as kind;
-ghost use Rattle.pp_expression.specs.Reading.{Gives, with_front, expr_at, postfix_with};
-ghost use Rattle.pp_statement.specs.Combining.{behind, before};
-ghost use Rattle.pp_statement.specs.Reading.{equal_with, differ_with, compared_with, comparison_with, atom_with, only, are_many, all_of, ands_with, conjunction_with, any_of, ors_with, search_with, search_at, sought_with};
+ghost use Rattle.pp_readers.specs.Parsed.{Gives, Reads};
+ghost use Rattle.pp_readers.specs.Expressions.{with_front, expr_at, postfix_with};
+ghost use Rattle.pp_readers.specs.Combining.{behind, before};
+ghost use Rattle.pp_readers.specs.Statements.{equal_with, differ_with, compared_with, comparison_with, atom_with, only, are_many, all_of, ands_with, conjunction_with, any_of, ors_with, search_with, search_at, sought_with};
 
 use crate::expressions::postfix;
 use crate::marks::{begins, name};
-use pp_expression::{Misread, expect, mark, turns};
+use pp_expression::{expect, mark, turns};
+use pp_readers::{Misread, Read};
 use pp_syntax::{Kind, Search, Token};
 use rh_base::{Seq, Text};
 use std::alloc::Global;
@@ -18,8 +19,8 @@ fn equal(
     name: Text,
     tokens: &[Token<'_>],
     from: usize,
-) -> Result<(Search, usize), Misread>
-    ensures { Gives (λ x. (x.0, drop x.1 (told tokens.now))) result (equal_with (postfix_with (expr_at limit)) name (drop from (told tokens.now))) }
+) -> Read<Search>
+    ensures { Reads (equal_with (postfix_with (expr_at limit)) name) tokens.now from result }
 {
     let (value, rest) = postfix(alloc, limit, tokens, from)?;
     Ok((Search::Equal(name, value), rest))
@@ -31,8 +32,8 @@ fn differ(
     name: Text,
     tokens: &[Token<'_>],
     from: usize,
-) -> Result<(Search, usize), Misread>
-    ensures { Gives (λ x. (x.0, drop x.1 (told tokens.now))) result (differ_with (postfix_with (expr_at limit)) name (drop from (told tokens.now))) }
+) -> Read<Search>
+    ensures { Reads (differ_with (postfix_with (expr_at limit)) name) tokens.now from result }
 {
     let (_, rest) = expect(Kind::Sign, "!=", tokens, from)?;
     let (value, rest) = postfix(alloc, limit, tokens, rest)?;
@@ -46,8 +47,8 @@ fn compared(
     name: Text,
     tokens: &[Token<'_>],
     from: usize,
-) -> Result<(Search, usize), Misread>
-    ensures { Gives (λ x. (x.0, drop x.1 (told tokens.now))) result (compared_with (postfix_with (expr_at limit)) name (drop from (told tokens.now))) }
+) -> Read<Search>
+    ensures { Reads (compared_with (postfix_with (expr_at limit)) name) tokens.now from result }
 {
     if let Some((_, rest)) = mark(Kind::Sign, "==", tokens, from) {
         return equal(alloc, limit, name, tokens, rest);
@@ -60,8 +61,8 @@ fn comparison(
     limit: usize,
     tokens: &[Token<'_>],
     from: usize,
-) -> Result<(Search, usize), Misread>
-    ensures { Gives (λ x. (x.0, drop x.1 (told tokens.now))) result (comparison_with (postfix_with (expr_at limit)) (drop from (told tokens.now))) }
+) -> Read<Search>
+    ensures { Reads (comparison_with (postfix_with (expr_at limit))) tokens.now from result }
 {
     let (name, rest) = name(alloc, tokens, from)?;
     compared(alloc, limit, name, tokens, rest)
@@ -74,8 +75,8 @@ fn enclosed(
     depth: usize,
     tokens: &[Token<'_>],
     from: usize,
-) -> Result<(Search, usize), Misread>
-    ensures { Gives (λ x. (x.0, drop x.1 (told tokens.now))) result (before (search_at (postfix_with (expr_at limit)) depth) kind.Sign (codes ")") (drop from (told tokens.now))) }
+) -> Read<Search>
+    ensures { Reads (before (search_at (postfix_with (expr_at limit)) depth) kind.Sign (codes ")")) tokens.now from result }
 {
     let (found, rest) = search(alloc, limit, depth, tokens, from)?;
     let (_, rest) = expect(Kind::Sign, ")", tokens, rest)?;
@@ -89,8 +90,8 @@ fn atom(
     depth: usize,
     tokens: &[Token<'_>],
     from: usize,
-) -> Result<(Search, usize), Misread>
-    ensures { Gives (λ x. (x.0, drop x.1 (told tokens.now))) result (atom_with (postfix_with (expr_at limit)) (search_at (postfix_with (expr_at limit)) depth) (drop from (told tokens.now))) }
+) -> Read<Search>
+    ensures { Reads (atom_with (postfix_with (expr_at limit)) (search_at (postfix_with (expr_at limit)) depth)) tokens.now from result }
 {
     if let Some((_, rest)) = mark(Kind::Sign, "(", tokens, from) {
         return enclosed(alloc, limit, depth, tokens, rest);
@@ -105,8 +106,8 @@ fn next_atom(
     depth: usize,
     tokens: &[Token<'_>],
     from: usize,
-) -> Result<(Search, usize), Misread>
-    ensures { Gives (λ x. (x.0, drop x.1 (told tokens.now))) result (behind kind.Keyword (codes "and") (atom_with (postfix_with (expr_at limit)) (search_at (postfix_with (expr_at limit)) depth)) (drop from (told tokens.now))) }
+) -> Read<Search>
+    ensures { Reads (behind kind.Keyword (codes "and") (atom_with (postfix_with (expr_at limit)) (search_at (postfix_with (expr_at limit)) depth))) tokens.now from result }
 {
     let (_, rest) = expect(Kind::Keyword, "and", tokens, from)?;
     atom(alloc, limit, depth, tokens, rest)
@@ -121,8 +122,8 @@ fn ands(
     turns: usize,
     tokens: &[Token<'_>],
     from: usize,
-) -> Result<(Seq<Search>, usize), Misread>
-    ensures { Gives (λ x. (x.0, drop x.1 (told tokens.now))) result (with_front (first ∷ []) (ands_with (postfix_with (expr_at limit)) (search_at (postfix_with (expr_at limit)) depth) turns (drop from (told tokens.now)))) }
+) -> Read<Seq<Search>>
+    ensures { Reads (λ ts. with_front (first ∷ []) (ands_with (postfix_with (expr_at limit)) (search_at (postfix_with (expr_at limit)) depth) turns ts)) tokens.now from result }
 {
     let mut found = Seq::new(alloc);
     found.push(first)?;
@@ -146,8 +147,8 @@ fn conjunction(
     depth: usize,
     tokens: &[Token<'_>],
     from: usize,
-) -> Result<(Search, usize), Misread>
-    ensures { Gives (λ x. (x.0, drop x.1 (told tokens.now))) result (conjunction_with (postfix_with (expr_at limit)) (search_at (postfix_with (expr_at limit)) depth) (drop from (told tokens.now))) }
+) -> Read<Search>
+    ensures { Reads (conjunction_with (postfix_with (expr_at limit)) (search_at (postfix_with (expr_at limit)) depth)) tokens.now from result }
 {
     let (first, rest) = atom(alloc, limit, depth, tokens, from)?;
     let (found, rest) = ands(
@@ -170,8 +171,8 @@ fn next_conjunction(
     depth: usize,
     tokens: &[Token<'_>],
     from: usize,
-) -> Result<(Search, usize), Misread>
-    ensures { Gives (λ x. (x.0, drop x.1 (told tokens.now))) result (behind kind.Keyword (codes "or") (conjunction_with (postfix_with (expr_at limit)) (search_at (postfix_with (expr_at limit)) depth)) (drop from (told tokens.now))) }
+) -> Read<Search>
+    ensures { Reads (behind kind.Keyword (codes "or") (conjunction_with (postfix_with (expr_at limit)) (search_at (postfix_with (expr_at limit)) depth))) tokens.now from result }
 {
     let (_, rest) = expect(Kind::Keyword, "or", tokens, from)?;
     conjunction(alloc, limit, depth, tokens, rest)
@@ -186,8 +187,8 @@ fn ors(
     turns: usize,
     tokens: &[Token<'_>],
     from: usize,
-) -> Result<(Seq<Search>, usize), Misread>
-    ensures { Gives (λ x. (x.0, drop x.1 (told tokens.now))) result (with_front (first ∷ []) (ors_with (postfix_with (expr_at limit)) (search_at (postfix_with (expr_at limit)) depth) turns (drop from (told tokens.now)))) }
+) -> Read<Seq<Search>>
+    ensures { Reads (λ ts. with_front (first ∷ []) (ors_with (postfix_with (expr_at limit)) (search_at (postfix_with (expr_at limit)) depth) turns ts)) tokens.now from result }
 {
     let mut found = Seq::new(alloc);
     found.push(first)?;
@@ -211,8 +212,8 @@ fn disjunction(
     depth: usize,
     tokens: &[Token<'_>],
     from: usize,
-) -> Result<(Search, usize), Misread>
-    ensures { Gives (λ x. (x.0, drop x.1 (told tokens.now))) result (search_with (postfix_with (expr_at limit)) (search_at (postfix_with (expr_at limit)) depth) (drop from (told tokens.now))) }
+) -> Read<Search>
+    ensures { Reads (search_with (postfix_with (expr_at limit)) (search_at (postfix_with (expr_at limit)) depth)) tokens.now from result }
 {
     let (first, rest) = conjunction(alloc, limit, depth, tokens, from)?;
     let (found, rest) = ors(
@@ -236,8 +237,8 @@ fn search(
     depth: usize,
     tokens: &[Token<'_>],
     from: usize,
-) -> Result<(Search, usize), Misread>
-    ensures { Gives (λ x. (x.0, drop x.1 (told tokens.now))) result (search_at (postfix_with (expr_at limit)) depth (drop from (told tokens.now))) }
+) -> Read<Search>
+    ensures { Reads (search_at (postfix_with (expr_at limit)) depth) tokens.now from result }
 {
     if depth == 0 {
         return Err(Misread::Form(from));
@@ -251,8 +252,8 @@ pub fn sought(
     limit: usize,
     tokens: &[Token<'_>],
     from: usize,
-) -> Result<(Option<Search>, usize), Misread>
-    ensures { Gives (λ x. (x.0, drop x.1 (told tokens.now))) result (sought_with (postfix_with (expr_at limit)) (drop from (told tokens.now))) }
+) -> Read<Option<Search>>
+    ensures { Reads (sought_with (postfix_with (expr_at limit))) tokens.now from result }
 {
     if begins(Kind::Sign, "|>", tokens, from) {
         return Ok((None, from));
@@ -262,15 +263,15 @@ pub fn sought(
 }
 
 /// The one search that there is.
-fn only(left: usize, found: Seq<Search>) -> Result<Search, Misread>
+fn only(index: usize, found: Seq<Search>) -> Result<Search, Misread>
     ensures { Gives (λ x. x) result (only found) }
 {
     let mut found = found.into_vec();
     match found.pop() {
-        None => Err(Misread::Form(left)),
+        None => Err(Misread::Form(index)),
         Some(search) => {
             if !found.is_empty() {
-                return Err(Misread::Form(left));
+                return Err(Misread::Form(index));
             }
             Ok(search)
         }
@@ -284,21 +285,21 @@ fn are_many(found: &Seq<Search>) -> bool
 }
 
 /// All of these hold.
-fn all_of(left: usize, found: Seq<Search>) -> Result<Search, Misread>
+fn all_of(index: usize, found: Seq<Search>) -> Result<Search, Misread>
     ensures { Gives (λ x. x) result (all_of found) }
 {
     if are_many(&found) {
         return Ok(Search::And(found));
     }
-    only(left, found)
+    only(index, found)
 }
 
 /// One of these holds.
-fn any_of(left: usize, found: Seq<Search>) -> Result<Search, Misread>
+fn any_of(index: usize, found: Seq<Search>) -> Result<Search, Misread>
     ensures { Gives (λ x. x) result (any_of found) }
 {
     if are_many(&found) {
         return Ok(Search::Or(found));
     }
-    only(left, found)
+    only(index, found)
 }

@@ -1,14 +1,15 @@
-ghost use Rattle.std.specs.Prelude.{◌≡◌, drop, codes, [], ◌∷◌};
-ghost use Rattle.pp_syntax.specs.Lexing.{told};
+ghost use Rattle.std.specs.Prelude.{codes, [], ◌∷◌};
 ghost use Rattle.pp_syntax.specs.declared.token.Kind.TheVariants as kind;
-ghost use Rattle.pp_expression.specs.Reading.{Gives, expr_at, option_with, items, with_front};
-ghost use Rattle.pp_statement.specs.Combining.{behind, many, in_braces};
-ghost use Rattle.pp_statement.specs.Reading.{unclosed, statements_in, block_with, else_with, arm_with, more_arms, arms_with, if_with, unless_with, case_arm_with, case_arms_in, case_with, called_with, keyed_with, stmt_with, stmt_at, chain_with};
+ghost use Rattle.pp_readers.specs.Parsed.{Reads};
+ghost use Rattle.pp_readers.specs.Expressions.{expr_at, option_with, items, with_front};
+ghost use Rattle.pp_readers.specs.Combining.{behind, many, in_braces};
+ghost use Rattle.pp_readers.specs.Statements.{unclosed, block_with, else_with, arm_with, more_arms, arms_with, if_with, unless_with, case_arm_with, case_arms_in, case_with, called_with, keyed_with, stmt_with, stmt_at};
 
 use crate::chain::{assign, call, chain};
 use crate::expressions::{expr, option};
 use crate::marks::{begins, function_at, unclosed};
-use pp_expression::{Misread, expect, first_at, front_of, mark, separator, turns};
+use pp_expression::{expect, first_at, front_of, mark, separator, turns};
+use pp_readers::{Misread, Read};
 use pp_syntax::{Arm, CaseArm, Expr, Kind, Stmt, Token};
 use rh_base::Seq;
 use std::alloc::Global;
@@ -21,8 +22,8 @@ pub fn statement(
     depth: usize,
     tokens: &[Token<'_>],
     from: usize,
-) -> Result<(Stmt, usize), Misread>
-    ensures { Gives (λ x. (x.0, drop x.1 (told tokens.now))) result (stmt_at (expr_at limit) depth (drop from (told tokens.now))) }
+) -> Read<Stmt>
+    ensures { Reads (stmt_at (expr_at limit) depth) tokens.now from result }
 {
     if depth == 0 {
         return Err(Misread::Form(from));
@@ -37,8 +38,8 @@ fn any_statement(
     depth: usize,
     tokens: &[Token<'_>],
     from: usize,
-) -> Result<(Stmt, usize), Misread>
-    ensures { Gives (λ x. (x.0, drop x.1 (told tokens.now))) result (stmt_with (expr_at limit) (stmt_at (expr_at limit) depth) (drop from (told tokens.now))) }
+) -> Read<Stmt>
+    ensures { Reads (stmt_with (expr_at limit) (stmt_at (expr_at limit) depth)) tokens.now from result }
 {
     match front_of(tokens, from) {
         Some((token, _)) => match token.kind {
@@ -57,8 +58,8 @@ fn called(
     limit: usize,
     tokens: &[Token<'_>],
     from: usize,
-) -> Result<(Stmt, usize), Misread>
-    ensures { Gives (λ x. (x.0, drop x.1 (told tokens.now))) result (called_with (expr_at limit) (drop from (told tokens.now))) }
+) -> Read<Stmt>
+    ensures { Reads (called_with (expr_at limit)) tokens.now from result }
 {
     match function_at(tokens, from) {
         Some(_) => call(alloc, limit, tokens, from),
@@ -75,8 +76,8 @@ fn keyed(
     word: &str,
     tokens: &[Token<'_>],
     from: usize,
-) -> Result<(Stmt, usize), Misread>
-    ensures { Gives (λ x. (x.0, drop x.1 (told tokens.now))) result (keyed_with (expr_at limit) (stmt_at (expr_at limit) depth) word.now (drop from (told tokens.now))) }
+) -> Read<Stmt>
+    ensures { Reads (keyed_with (expr_at limit) (stmt_at (expr_at limit) depth) word.now) tokens.now from result }
 {
     if word == "if" {
         if_statement(alloc, limit, depth, tokens, from)
@@ -98,8 +99,8 @@ fn statements(
     turns: usize,
     tokens: &[Token<'_>],
     from: usize,
-) -> Result<(Seq<Stmt>, usize), Misread>
-    ensures { Gives (λ x. (x.0, drop x.1 (told tokens.now))) result (many unclosed (stmt_at (expr_at limit) depth) turns (drop from (told tokens.now))) }
+) -> Read<Seq<Stmt>>
+    ensures { Reads (many unclosed (stmt_at (expr_at limit) depth) turns) tokens.now from result }
 {
     let mut found = Seq::new(alloc);
     let mut rest = from;
@@ -123,8 +124,8 @@ pub fn block(
     depth: usize,
     tokens: &[Token<'_>],
     from: usize,
-) -> Result<(Seq<Stmt>, usize), Misread>
-    ensures { Gives (λ x. (x.0, drop x.1 (told tokens.now))) result (block_with (stmt_at (expr_at limit) depth) (drop from (told tokens.now))) }
+) -> Read<Seq<Stmt>>
+    ensures { Reads (block_with (stmt_at (expr_at limit) depth)) tokens.now from result }
 {
     let (_, rest) = expect(Kind::Sign, "{", tokens, from)?;
     let (found, rest) = statements(alloc, limit, depth, turns(tokens, rest), tokens, rest)?;
@@ -140,8 +141,8 @@ fn other(
     depth: usize,
     tokens: &[Token<'_>],
     from: usize,
-) -> Result<(Seq<Stmt>, usize), Misread>
-    ensures { Gives (λ x. (x.0, drop x.1 (told tokens.now))) result (else_with (stmt_at (expr_at limit) depth) (drop from (told tokens.now))) }
+) -> Read<Seq<Stmt>>
+    ensures { Reads (else_with (stmt_at (expr_at limit) depth)) tokens.now from result }
 {
     if let Some((_, rest)) = mark(Kind::Keyword, "else", tokens, from) {
         return block(alloc, limit, depth, tokens, rest);
@@ -156,8 +157,8 @@ fn arm(
     depth: usize,
     tokens: &[Token<'_>],
     from: usize,
-) -> Result<(Arm, usize), Misread>
-    ensures { Gives (λ x. (x.0, drop x.1 (told tokens.now))) result (arm_with (expr_at limit) (stmt_at (expr_at limit) depth) (drop from (told tokens.now))) }
+) -> Read<Arm>
+    ensures { Reads (arm_with (expr_at limit) (stmt_at (expr_at limit) depth)) tokens.now from result }
 {
     let (test, rest) = expr(alloc, limit, tokens, from)?;
     let (body, rest) = block(alloc, limit, depth, tokens, rest)?;
@@ -171,8 +172,8 @@ fn next_arm(
     depth: usize,
     tokens: &[Token<'_>],
     from: usize,
-) -> Result<(Arm, usize), Misread>
-    ensures { Gives (λ x. (x.0, drop x.1 (told tokens.now))) result (behind kind.Keyword (codes "elsif") (arm_with (expr_at limit) (stmt_at (expr_at limit) depth)) (drop from (told tokens.now))) }
+) -> Read<Arm>
+    ensures { Reads (behind kind.Keyword (codes "elsif") (arm_with (expr_at limit) (stmt_at (expr_at limit) depth))) tokens.now from result }
 {
     let (_, rest) = expect(Kind::Keyword, "elsif", tokens, from)?;
     arm(alloc, limit, depth, tokens, rest)
@@ -188,8 +189,8 @@ fn arms_behind(
     turns: usize,
     tokens: &[Token<'_>],
     from: usize,
-) -> Result<(Seq<Arm>, usize), Misread>
-    ensures { Gives (λ x. (x.0, drop x.1 (told tokens.now))) result (with_front (first ∷ []) (more_arms (expr_at limit) (stmt_at (expr_at limit) depth) turns (drop from (told tokens.now)))) }
+) -> Read<Seq<Arm>>
+    ensures { Reads (λ ts. with_front (first ∷ []) (more_arms (expr_at limit) (stmt_at (expr_at limit) depth) turns ts)) tokens.now from result }
 {
     let mut found = Seq::new(alloc);
     found.push(first)?;
@@ -213,8 +214,8 @@ fn arms(
     depth: usize,
     tokens: &[Token<'_>],
     from: usize,
-) -> Result<(Seq<Arm>, usize), Misread>
-    ensures { Gives (λ x. (x.0, drop x.1 (told tokens.now))) result (arms_with (expr_at limit) (stmt_at (expr_at limit) depth) (drop from (told tokens.now))) }
+) -> Read<Seq<Arm>>
+    ensures { Reads (arms_with (expr_at limit) (stmt_at (expr_at limit) depth)) tokens.now from result }
 {
     let (first, rest) = arm(alloc, limit, depth, tokens, from)?;
     arms_behind(
@@ -235,8 +236,8 @@ fn if_statement(
     depth: usize,
     tokens: &[Token<'_>],
     from: usize,
-) -> Result<(Stmt, usize), Misread>
-    ensures { Gives (λ x. (x.0, drop x.1 (told tokens.now))) result (if_with (expr_at limit) (stmt_at (expr_at limit) depth) (drop from (told tokens.now))) }
+) -> Read<Stmt>
+    ensures { Reads (if_with (expr_at limit) (stmt_at (expr_at limit) depth)) tokens.now from result }
 {
     let (_, rest) = expect(Kind::Keyword, "if", tokens, from)?;
     let (arms, rest) = arms(alloc, limit, depth, tokens, rest)?;
@@ -252,8 +253,8 @@ fn unless_statement(
     depth: usize,
     tokens: &[Token<'_>],
     from: usize,
-) -> Result<(Stmt, usize), Misread>
-    ensures { Gives (λ x. (x.0, drop x.1 (told tokens.now))) result (unless_with (expr_at limit) (stmt_at (expr_at limit) depth) (drop from (told tokens.now))) }
+) -> Read<Stmt>
+    ensures { Reads (unless_with (expr_at limit) (stmt_at (expr_at limit) depth)) tokens.now from result }
 {
     let (_, rest) = expect(Kind::Keyword, "unless", tokens, from)?;
     let (test, rest) = expr(alloc, limit, tokens, rest)?;
@@ -278,8 +279,8 @@ fn options(
     turns: usize,
     tokens: &[Token<'_>],
     from: usize,
-) -> Result<(Seq<Option<Expr>>, usize), Misread>
-    ensures { Gives (λ x. (x.0, drop x.1 (told tokens.now))) result (items (codes ":") (option_with (expr_at limit)) turns (drop from (told tokens.now))) }
+) -> Read<Seq<Option<Expr>>>
+    ensures { Reads (items (codes ":") (option_with (expr_at limit)) turns) tokens.now from result }
 {
     let mut found = Seq::new(alloc);
     let mut rest = from;
@@ -302,8 +303,8 @@ fn case_arm(
     depth: usize,
     tokens: &[Token<'_>],
     from: usize,
-) -> Result<(CaseArm, usize), Misread>
-    ensures { Gives (λ x. (x.0, drop x.1 (told tokens.now))) result (case_arm_with (expr_at limit) (stmt_at (expr_at limit) depth) (drop from (told tokens.now))) }
+) -> Read<CaseArm>
+    ensures { Reads (case_arm_with (expr_at limit) (stmt_at (expr_at limit) depth)) tokens.now from result }
 {
     let (options, rest) = options(alloc, limit, turns(tokens, from), tokens, from)?;
     let (body, rest) = block(alloc, limit, depth, tokens, rest)?;
@@ -318,8 +319,8 @@ fn case_arms(
     turns: usize,
     tokens: &[Token<'_>],
     from: usize,
-) -> Result<(Seq<CaseArm>, usize), Misread>
-    ensures { Gives (λ x. (x.0, drop x.1 (told tokens.now))) result (many unclosed (case_arm_with (expr_at limit) (stmt_at (expr_at limit) depth)) turns (drop from (told tokens.now))) }
+) -> Read<Seq<CaseArm>>
+    ensures { Reads (many unclosed (case_arm_with (expr_at limit) (stmt_at (expr_at limit) depth)) turns) tokens.now from result }
 {
     let mut found = Seq::new(alloc);
     let mut rest = from;
@@ -342,8 +343,8 @@ fn braced_arms(
     depth: usize,
     tokens: &[Token<'_>],
     from: usize,
-) -> Result<(Seq<CaseArm>, usize), Misread>
-    ensures { Gives (λ x. (x.0, drop x.1 (told tokens.now))) result (in_braces (case_arms_in (expr_at limit) (stmt_at (expr_at limit) depth)) (drop from (told tokens.now))) }
+) -> Read<Seq<CaseArm>>
+    ensures { Reads (in_braces (case_arms_in (expr_at limit) (stmt_at (expr_at limit) depth))) tokens.now from result }
 {
     let (_, rest) = expect(Kind::Sign, "{", tokens, from)?;
     let (found, rest) = case_arms(alloc, limit, depth, turns(tokens, rest), tokens, rest)?;
@@ -358,8 +359,8 @@ fn case_statement(
     depth: usize,
     tokens: &[Token<'_>],
     from: usize,
-) -> Result<(Stmt, usize), Misread>
-    ensures { Gives (λ x. (x.0, drop x.1 (told tokens.now))) result (case_with (expr_at limit) (stmt_at (expr_at limit) depth) (drop from (told tokens.now))) }
+) -> Read<Stmt>
+    ensures { Reads (case_with (expr_at limit) (stmt_at (expr_at limit) depth)) tokens.now from result }
 {
     let (_, rest) = expect(Kind::Keyword, "case", tokens, from)?;
     let (value, rest) = expr(alloc, limit, tokens, rest)?;

@@ -1,7 +1,9 @@
 -- One step of lexing: what it passes, and where the text may be cut behind it.
 use Rattle.std.proofs.Common.{◌≡◌, ◌≢◌, inl, ℕ, ◌+◌, ◌-◌, ◌<◌, Bool, true, false, ◌==◌, List, [], ◌∷◌, ◌++◌, length, take, drop, Option, Some, None, refl, sym, ap, subst, ◌∙◌, arith, append_assoc, append-nil, length-append}
 use Rattle.std.specs.Prelude.{IsUtf8, codes}
-use Rattle.std.proofs.lemmas.Str.{IsUtf8-drop}
+use Rattle.std.specs.List.{AllByRecursion}
+use Rattle.std.proofs.lemmas.Str.{IsUtf8-take, IsUtf8-drop}
+use Rattle.std.proofs.lemmas.List.{append_cancel_right}
 use Rattle.std.proofs.lemmas.Bool.{eqb-true, eqb-false}
 use Rattle.std.proofs.Math.Seq.{take-append_seam, drop-append_seam}
 use Rattle.pp_syntax.specs.declared.token.Kind.{Kind}
@@ -97,6 +99,28 @@ cut_utf8 text rest u c = subst (λ (t : List ℕ). IsUtf8 t) c.back (IsUtf8-drop
 -- ---- what is read so far, and the rest
 
 -- Whatever stands for the rest completes what was read.
+-- ---- the tokens of a text in UTF-8
+
+token_utf8 : (p : Place) (k : Kind) (s rest : List ℕ) → TokenAt p k s rest → IsUtf8 (s ++ rest) → IsUtf8 s × IsUtf8 rest
+token_utf8 p k s rest h u =
+    let cut = (token_cut p (s ++ rest) k rest u (token_reads p k s rest h)).0 in
+    (subst (λ (t : List ℕ). IsUtf8 t) (sym (append_cancel_right s _ rest cut.whole)) (IsUtf8-take (s ++ rest) _ u cut.may), cut_utf8 (s ++ rest) rest u cut)
+
+abbrev AllUtf8 : List Lexeme → Type 0
+AllUtf8 ts = AllByRecursion (λ t. IsUtf8 t.text) ts
+
+pub read_utf8 : (p : Place) (text : List ℕ) (tokens : List Lexeme) (e : Ending) → Reads p text tokens e → IsUtf8 text → AllUtf8 tokens
+read_utf8 p text tokens e (ends a b c) u = subst (λ (ts : List Lexeme). AllUtf8 ts) (sym b) tt
+read_utf8 p text tokens e (gap s rest a b r) u =
+    let v = subst (λ (t : List ℕ). IsUtf8 t) a u in
+    read_utf8 _ rest tokens e r (cut_utf8 (s ++ rest) rest v (gap_cut p (s ++ rest) rest v (gap_at_reads p s rest b)).0)
+read_utf8 p text tokens e (token k s rest more a b c r) u =
+    let v = token_utf8 p k s rest b (subst (λ (t : List ℕ). IsUtf8 t) a u) in
+    subst (λ (ts : List Lexeme). AllUtf8 ts) (sym c) (v.0, read_utf8 _ rest more e r v.1)
+read_utf8 p text tokens e (stuck a b c d f) u = subst (λ (ts : List Lexeme). AllUtf8 ts) (sym d) tt
+
+-- ---- the turns of the loop
+
 abbrev pub Completes : List ℕ → List Lexeme → Place → List ℕ → Type 0
 Completes source before p rest = (tokens : List Lexeme) (e : Ending) → Reads p rest tokens e → Reads start source (before ++ tokens) e
 

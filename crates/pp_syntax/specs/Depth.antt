@@ -1,88 +1,78 @@
 -- How deep a token is nested.
-use Rattle.std.specs.Prelude.{ℕ, ◌+◌, ◌<◌, if◌then◌else◌, List, [], ◌∷◌, length, codes}
+use Rattle.std.specs.Prelude.{◌≡◌, ◌⊎◌, ℕ, zero, suc, ◌+◌, ◌-◌, ◌<◌, Bool, true, false, if◌then◌else◌, List, [], ◌∷◌, ◌++◌, codes}
 use Rattle.pp_syntax.specs.declared.token.Kind.{Kind}
 use Rattle.pp_syntax.specs.declared.token.Kind.TheVariants as kind
 use Rattle.pp_syntax.specs.Tokens.{Lexeme, is_among}
 
--- What counts at the end of some tokens.
-pub record Nesting : Type 0 where
-  -- the brackets that are open, the innermost first, each as the number of postfixes in one row that end where it is closed
-  pub opened : List ℕ
-  -- the length of the run of `!` and `-`
-  pub run : ℕ
-  -- how many postfixes stand in one row
-  pub row : ℕ
-  -- where a `?` is the last token: how many postfixes in one row end where the `{` behind it is closed
-  pub asked : ℕ
+-- ---- brackets
 
-abbrev pub at_start : Nesting
-at_start = record { opened = []; run = 0; row = 0; asked = 0 }
+abbrev pub opens_by : Kind → List ℕ → Bool
+opens_by kind.Tight text = true
+opens_by kind.Loose text = true
+opens_by kind.Hole text = true
+opens_by kind.Sign text = is_among (codes "(" ∷ codes "{" ∷ codes "<|" ∷ []) text
+opens_by _ text = false
 
--- what a token is for the depth: `(`, `[` that isn't tight, `${` and `<|`; the tight `[`; `{`; a closing bracket, of any kind; `?`; `!` and `-`; any other
-pub data Shape : Type 0 where
-  Opens : Shape
-  Indexes : Shape
-  Braces : Shape
-  Closes : Shape
-  Asks : Shape
-  Prefixes : Shape
-  Other : Shape
+abbrev pub closes_by : Kind → List ℕ → Bool
+closes_by kind.HoleEnd text = true
+closes_by kind.Sign text = is_among (codes ")" ∷ codes "]" ∷ codes "}" ∷ codes "|>" ∷ []) text
+closes_by _ text = false
 
-abbrev pub sign_shape : List ℕ → Shape
-sign_shape text = if is_among (codes "(" ∷ codes "<|" ∷ []) text then Opens
-    else (if is_among (codes "{" ∷ []) text then Braces
-    else (if is_among (codes ")" ∷ codes "]" ∷ codes "}" ∷ codes "|>" ∷ []) text then Closes
-    else (if is_among (codes "?" ∷ []) text then Asks
-    else (if is_among (codes "!" ∷ codes "-" ∷ []) text then Prefixes
-    else Other))))
+-- The token is one of `( [ { ${ <|`, or one of `) ] } |>` and the `}` that ends a `${`.
+abbrev pub opens : Lexeme → Bool
+opens t = opens_by t.kind t.text
 
-abbrev pub shape_of : Kind → List ℕ → Shape
-shape_of kind.Loose text = Opens
-shape_of kind.Hole text = Opens
-shape_of kind.Tight text = Indexes
-shape_of kind.HoleEnd text = Closes
-shape_of kind.Sign text = sign_shape text
-shape_of _ text = Other
+abbrev pub closes : Lexeme → Bool
+closes t = closes_by t.kind t.text
 
-abbrev pub innermost : List ℕ → ℕ
-innermost [] = 0
-innermost (r ∷ outer) = r
+-- how many brackets stand open behind these tokens, where so many did before them; a closing bracket closes the last one, whatever its kind
+abbrev pub open_from : ℕ → List Lexeme → ℕ
+open_from n [] = n
+open_from n (t ∷ tokens) = open_from (if opens t then n + 1 else (if closes t then n - 1 else n)) tokens
 
-abbrev pub outer_of : List ℕ → List ℕ
-outer_of [] = []
-outer_of (r ∷ outer) = outer
+-- Each bracket that is opened in these tokens is closed in them, and no other is closed.
+pub data AreClosed : List Lexeme → Type 0 where
+  nothing : {tokens : List Lexeme} → tokens ≡ [] → AreClosed tokens
+  other : {tokens : List Lexeme} (t : Lexeme) (more : List Lexeme) → tokens ≡ t ∷ more → opens t ≡ false → closes t ≡ false → AreClosed more → AreClosed tokens
+  bracket : {tokens : List Lexeme} (o c : Lexeme) (inner more : List Lexeme) → tokens ≡ o ∷ (inner ++ c ∷ more) → opens o ≡ true → AreClosed inner → closes c ≡ true → AreClosed more → AreClosed tokens
 
--- A postfix is a tight `[` with all up to the bracket that closes it, or a `?` with a `{` directly behind it and all up to the bracket that closes that.
-abbrev pub behind_shape : Nesting → Shape → Nesting
-behind_shape n Opens = record { opened = 0 ∷ n.opened; run = 0; row = 0; asked = 0 }
-behind_shape n Indexes = record { opened = (n.row + 1) ∷ n.opened; run = 0; row = 0; asked = 0 }
-behind_shape n Braces = record { opened = n.asked ∷ n.opened; run = 0; row = 0; asked = 0 }
-behind_shape n Closes = record { opened = outer_of n.opened; run = 0; row = innermost n.opened; asked = 0 }
-behind_shape n Asks = record { opened = n.opened; run = 0; row = 0; asked = n.row + 1 }
-behind_shape n Prefixes = record { opened = n.opened; run = n.run + 1; row = 0; asked = 0 }
-behind_shape n Other = record { opened = n.opened; run = 0; row = 0; asked = 0 }
+-- ---- what stands in one row
 
--- the depth at a token of this shape: the brackets that are open, itself included; the run of `!` and `-` that ends there; and at a postfix those in one row before it
-abbrev pub depth_of : Nesting → Shape → ℕ
-depth_of n Opens = length n.opened + 1
-depth_of n Indexes = length n.opened + 1 + n.row
-depth_of n Braces = length n.opened + 1
-depth_of n Closes = length n.opened
-depth_of n Asks = length n.opened + n.row
-depth_of n Prefixes = length n.opened + n.run + 1
-depth_of n Other = length n.opened
+abbrev pub IsSign : List ℕ → Lexeme → Type 0
+IsSign text t = (t.kind ≡ kind.Sign) × (t.text ≡ text)
 
--- what counts at the end of these tokens, from here on
-abbrev pub nesting_from : Nesting → List Lexeme → Nesting
-nesting_from n [] = n
-nesting_from n (t ∷ tokens) = nesting_from (behind_shape n (shape_of t.kind t.text)) tokens
+-- a tight `[`, or a `?` with a `{` directly behind it, with all up to the bracket that closes it
+pub data IsPostfix (tokens : List Lexeme) : Type 0 where
+  index : (o c : Lexeme) (inner : List Lexeme) → tokens ≡ o ∷ (inner ++ c ∷ []) → o.kind ≡ kind.Tight → AreClosed inner → closes c ≡ true → IsPostfix tokens
+  selection : (q o c : Lexeme) (inner : List Lexeme) → tokens ≡ q ∷ o ∷ (inner ++ c ∷ []) → IsSign (codes "?") q → IsSign (codes "{") o → AreClosed inner → closes c ≡ true → IsPostfix tokens
 
-abbrev pub depth_at : List Lexeme → Lexeme → ℕ
-depth_at before t = depth_of (nesting_from at_start before) (shape_of t.kind t.text)
+-- The tokens end with so many postfixes in one row.
+abbrev pub EndWithPostfixes : ℕ → List Lexeme → Type 0
+EndWithPostfixes zero tokens = Unit {0}
+EndWithPostfixes (suc n) tokens = (front : List Lexeme) × (last : List Lexeme) × (tokens ≡ front ++ last) × IsPostfix last × EndWithPostfixes n front
+
+abbrev pub IsPrefix : Lexeme → Type 0
+IsPrefix t = IsSign (codes "!") t ⊎ IsSign (codes "-") t
+
+-- The tokens end with so many `!` and `-` in one run.
+abbrev pub EndWithPrefixes : ℕ → List Lexeme → Type 0
+EndWithPrefixes zero tokens = Unit {0}
+EndWithPrefixes (suc n) tokens = (front : List Lexeme) × (last : Lexeme) × (tokens ≡ front ++ last ∷ []) × IsPrefix last × EndWithPrefixes n front
+
+-- ---- the depth
+
+-- what a token adds to the brackets that stand open before it: an opening bracket itself; a tight `[` and a `?` the postfixes that stand in one row directly before; `!` and `-` the run that ends there
+pub data Adds (before : List Lexeme) (t : Lexeme) (n : ℕ) : Type 0 where
+  nothing : n ≡ 0 → Adds before t n
+  itself : opens t ≡ true → n ≡ 1 → Adds before t n
+  index : (row : ℕ) → t.kind ≡ kind.Tight → EndWithPostfixes row before → n ≡ 1 + row → Adds before t n
+  selection : (row : ℕ) → IsSign (codes "?") t → EndWithPostfixes row before → n ≡ row → Adds before t n
+  prefix : (run : ℕ) → IsPrefix t → EndWithPrefixes run before → n ≡ 1 + run → Adds before t n
 
 -- the greatest depth of a manifest
 abbrev pub depth_limit : ℕ
 depth_limit = 64
 
+-- With what it adds, more brackets stand open than the limit.
 abbrev pub IsTooDeep : List Lexeme → Lexeme → List Lexeme → Type 0
-IsTooDeep before t behind = depth_limit < depth_at before t
+IsTooDeep before t behind = (n : ℕ) × Adds before t n × (depth_limit < open_from 0 before + n)

@@ -86,7 +86,7 @@ kind_of_first (t ∷ tokens) = prelude.Some t.kind
 -- x is a text with nothing but indexes behind it, and y the same with a variable in its place
 pub data ReadAsVariable : Expr → Expr → Type 0 where
   base : {x y : Expr} (name : List ℕ) → x.form ≡ form.Str name → y.form ≡ form.Var name → y.at ≡ x.at → ReadAsVariable x y
-  index : {x y : Expr} (a b key : Expr) → x.form ≡ form.At a key → y.form ≡ form.At b key → y.at ≡ x.at → ReadAsVariable a b → ReadAsVariable x y
+  index : {x y : Expr} (a b key : Expr) → x.form ≡ form.Index a key → y.form ≡ form.Index b key → y.at ≡ x.at → ReadAsVariable a b → ReadAsVariable x y
 
 -- an expression within `${` and `}`; where it is a WORD with nothing but indexes behind it, that is read as a variable
 pub data InnerOf (E : Expr → List Lexeme → Type 0) (y : Expr) (tokens : List Lexeme) : Type 0 where
@@ -149,7 +149,7 @@ pub data PrimaryOf (E : Expr → List Lexeme → Type 0) (y : Expr) (tokens : Li
 
 -- an index or a selection behind x, which makes y of it
 pub data SuffixOf (E : Expr → List Lexeme → Type 0) (x y : Expr) (tokens : List Lexeme) : Type 0 where
-  index : (key : Expr) → (Tight then E key then Sign (codes "]")) tokens → y.form ≡ form.At x key → SuffixOf E x y tokens
+  index : (key : Expr) → (Tight then E key then Sign (codes "]")) tokens → y.form ≡ form.Index x key → SuffixOf E x y tokens
   selection : (choices : List (Option Expr × Expr)) → (Sign (codes "?") then Sign (codes "{") then Listed (ChoiceOf E) choices then Sign (codes "}")) tokens → y.form ≡ form.Select x choices → SuffixOf E x y tokens
 
 -- any number of them, which make y of x; each expression on the way begins at the same place

@@ -1,7 +1,8 @@
 -- Which tokens spell a statement, and a manifest. Each rule takes the rule for expressions, and that for the statements of a block, as arguments.
-use Rattle.std.specs.Prelude.{◌≡◌, ◌⊎◌, ℕ, zero, suc, ◌+◌, Bool, true, false, ◌==◌, ℤ, pos, List, [], ◌∷◌, ◌++◌, Option, codes}
+use Rattle.std.specs.Prelude.{◌≡◌, ◌⊎◌, ℕ, zero, suc, ◌+◌, Bool, true, false, ◌==◌, if◌then◌else◌, ℤ, pos, List, [], ◌∷◌, ◌++◌, Option, codes}
 use Rattle.std.specs.Prelude as prelude
 use Rattle.std.specs.List.{list_any}
+use Rattle.std.specs.Str.{bytes_eq}
 use Rattle.pp_syntax.specs.declared.token.Kind.TheVariants as kind
 use Rattle.pp_syntax.specs.declared.tree.Expr.{Expr}
 use Rattle.pp_syntax.specs.declared.tree.Form.TheVariants as form
@@ -32,18 +33,18 @@ use Rattle.pp_syntax.specs.Derivation.{OptionOf, StringOf, PostfixOf, ReferenceO
 
 -- ---- names
 
--- no `:` in it
-abbrev pub has_colon : List ℕ → Bool
-has_colon name = list_any (λ b. b == 58) name
+-- a name of several segments: a `:` stands in names only as part of `::`
+abbrev pub is_qualified : List ℕ → Bool
+is_qualified name = list_any (λ b. b == 58) name
 
 -- a WORD without `::`, or a keyword
 pub data NameOf (name : List ℕ) (tokens : List Lexeme) : Type 0 where
-  word : Some kind.Word name tokens → has_colon name ≡ false → NameOf name tokens
+  word : Some kind.Word name tokens → is_qualified name ≡ false → NameOf name tokens
   keyword : Keyword name tokens → NameOf name tokens
 
 -- a variable without `::`
 abbrev pub VariableOf : List ℕ → List Lexeme → Type 0
-VariableOf name tokens = Some kind.Var (36 ∷ name) tokens × (has_colon name ≡ false)
+VariableOf name tokens = Some kind.Var (36 ∷ name) tokens × (is_qualified name ≡ false)
 
 -- the words that are functions
 abbrev pub word_of : Func → List ℕ
@@ -54,6 +55,13 @@ word_of func.Realize = codes "realize"
 word_of func.Fail = codes "fail"
 word_of func.Notice = codes "notice"
 word_of func.Warning = codes "warning"
+
+-- the function that a word is
+abbrev pub function_of : List ℕ → Option Func
+function_of s = if bytes_eq s (codes "include") then prelude.Some func.Include else (if bytes_eq s (codes "require") then prelude.Some func.Require else (
+    if bytes_eq s (codes "contain") then prelude.Some func.Contain else (if bytes_eq s (codes "realize") then prelude.Some func.Realize else (
+    if bytes_eq s (codes "fail") then prelude.Some func.Fail else (if bytes_eq s (codes "notice") then prelude.Some func.Notice else (
+    if bytes_eq s (codes "warning") then prelude.Some func.Warning else prelude.None))))))
 
 abbrev pub functions : List (List ℕ)
 functions = codes "include" ∷ codes "require" ∷ codes "contain" ∷ codes "realize" ∷ codes "fail" ∷ codes "notice" ∷ codes "warning" ∷ []
@@ -107,14 +115,14 @@ MaybeSearch E (prelude.Some y) = IsSearch E y
 
 -- ---- chains of resources, collectors and references
 
--- `@` before a hidden resource
-abbrev pub Hidden : Bool → List Lexeme → Type 0
-Hidden true = Sign (codes "@")
-Hidden false = Nothing
+-- `@` before a virtual resource
+abbrev pub Virtual : Bool → List Lexeme → Type 0
+Virtual true = Sign (codes "@")
+Virtual false = Nothing
 
 pub data OperandOf (E : Expr → List Lexeme → Type 0) (y : Operand) (tokens : List Lexeme) : Type 0 where
-  resource : (at : ℕ) (hidden : Bool) (name : List ℕ) (bodies : List Body) → y ≡ operand.Declare at hidden name bodies → at ≡ place_of tokens → is_among functions name ≡ false
-      → (Hidden hidden then Some kind.Word name then InBraces (BodiesOf E bodies)) tokens → OperandOf E y tokens
+  resource : (at : ℕ) (virtual : Bool) (name : List ℕ) (bodies : List Body) → y ≡ operand.Declare at virtual name bodies → at ≡ place_of tokens → is_among functions name ≡ false
+      → (Virtual virtual then Some kind.Word name then InBraces (BodiesOf E bodies)) tokens → OperandOf E y tokens
   class : (at : ℕ) (bodies : List Body) → y ≡ operand.Declare at false (codes "class") bodies → (Token kind.Keyword (codes "class") at then InBraces (BodiesOf E bodies)) tokens → OperandOf E y tokens
   collector : (at : ℕ) (name : List ℕ) (sought : Option Search) → y ≡ operand.Collect at name sought → (Token kind.Ref name at then Sign (codes "<|") then MaybeSearch E sought then Sign (codes "|>")) tokens → OperandOf E y tokens
   reference : (x : Expr) → y ≡ operand.Named (x ∷ []) → ReferenceOf E x tokens → OperandOf E y tokens
@@ -135,7 +143,7 @@ Links E (a ∷ arrows) (y ∷ ys) = ArrowOf a then OperandOf E y then Links E ar
 
 -- A chain of one operand is a resource or a collector.
 abbrev pub StandsAlone : Operand → List Operand → Type 0
-StandsAlone (operand.Declare at hidden name bodies) others = Unit {0}
+StandsAlone (operand.Declare at virtual name bodies) others = Unit {0}
 StandsAlone (operand.Collect at name sought) others = Unit {0}
 StandsAlone (operand.Named xs) [] = ⊥
 StandsAlone (operand.Named xs) (y ∷ others) = Unit {0}
@@ -233,12 +241,12 @@ abbrev pub MaybeType : Option TypeName → List Lexeme → Type 0
 MaybeType prelude.None = Nothing
 MaybeType (prelude.Some y) = IsType y
 
-abbrev pub PresetOf : (Expr → List Lexeme → Type 0) → Option Expr → List Lexeme → Type 0
-PresetOf E prelude.None = Nothing
-PresetOf E (prelude.Some x) = Sign (codes "=") then E x
+abbrev pub DefaultOf : (Expr → List Lexeme → Type 0) → Option Expr → List Lexeme → Type 0
+DefaultOf E prelude.None = Nothing
+DefaultOf E (prelude.Some x) = Sign (codes "=") then E x
 
 abbrev pub ParamOf : (Expr → List Lexeme → Type 0) → Param → List Lexeme → Type 0
-ParamOf E p = MaybeType p.kind then VariableOf p.name then PresetOf E p.preset
+ParamOf E p = MaybeType p.kind then VariableOf p.name then DefaultOf E p.default
 
 -- No parameters may be left out with their brackets.
 abbrev pub ParamsOf : (Expr → List Lexeme → Type 0) → List Param → List Lexeme → Type 0

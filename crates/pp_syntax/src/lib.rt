@@ -5,7 +5,10 @@ mod lexer;
 mod token;
 mod tree;
 
-pub use lexer::{lex, one_spelling, set_apart_tokens_stand};
+pub use lexer::{
+    digit_of, int_value, is_among, is_hex, is_keyword, is_simple_escape, lex, one_spelling,
+    set_apart_tokens_stand, tokens_are_utf8,
+};
 pub use token::{Kind, Token};
 pub use tree::{
     Arm, Arrow, Attr, Body, CaseArm, Expr, Form, Func, Item, Manifest, Op, Operand, Param, Search,

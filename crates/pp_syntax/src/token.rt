@@ -1,3 +1,5 @@
+//! Tokens.
+
 /// What a token is. The text of a keyword, a sign or a spelling that is left out tells which one it is.
 #[derive(Clone, Copy, Debug, PartialEq, Eq)]
 pub enum Kind {

@@ -1,4 +1,7 @@
 //! The syntax tree of a manifest. Places are offsets in bytes of the source.
+ghost use Rattle.std.specs.Prelude.{◌≡◌};
+ghost use Rattle.pp_syntax.specs.Derivation.{level_of};
+ghost use Rattle.pp_syntax.specs.Statements.{word_of, function_of};
 
 use rh_base::{Boxed, Seq, Text};
 
@@ -42,7 +45,7 @@ pub enum Item {
 pub struct Param {
     pub kind: Option<TypeName>,
     pub name: Text,
-    pub preset: Option<Expr>,
+    pub default: Option<Expr>,
 }
 
 #[derive(Drop)]
@@ -103,10 +106,10 @@ pub enum Stmt {
 
 #[derive(Drop)]
 pub enum Operand {
-    /// A resource, or with the kind `class` a class; hidden with `@`.
+    /// A resource, or with the kind `class` a class; virtual with `@`.
     Declare {
         at: u32,
-        hidden: bool,
+        is_virtual: bool,
         kind: Text,
         bodies: Seq<Body>,
     },
@@ -178,7 +181,7 @@ pub enum Form {
     Join(Seq<Expr>),
     Chain(Boxed<Expr>, Seq<(Op, Expr)>),
     Prefix(Seq<Op>, Boxed<Expr>),
-    At(Boxed<Expr>, Boxed<Expr>),
+    Index(Boxed<Expr>, Boxed<Expr>),
     /// The option `None` is `default`.
     Select(Boxed<Expr>, Seq<(Option<Expr>, Expr)>),
 }
@@ -200,6 +203,24 @@ pub enum Op {
     Not,
 }
 
+impl Op {
+    /// The level at which the operator binds; the greater, the tighter.
+    pub fn level(self) -> u32
+        ensures { result ≡ level_of self }
+    {
+        match self {
+            Op::Or => 0,
+            Op::And => 1,
+            Op::Less | Op::Greater | Op::AtMost | Op::AtLeast => 2,
+            Op::Same | Op::NotSame => 3,
+            Op::Plus | Op::Minus => 4,
+            Op::Times => 5,
+            Op::In => 6,
+            Op::Not => 7,
+        }
+    }
+}
+
 /// `->`, `~>`, `<-` and `<~`
 #[derive(Clone, Copy, Debug, PartialEq, Eq)]
 pub enum Arrow {
@@ -218,4 +239,44 @@ pub enum Func {
     Fail,
     Notice,
     Warning,
+}
+
+impl Func {
+    /// The word that is the function.
+    pub fn word(self) -> &'static str
+        ensures { result.now ≡ word_of self }
+    {
+        match self {
+            Func::Include => "include",
+            Func::Require => "require",
+            Func::Contain => "contain",
+            Func::Realize => "realize",
+            Func::Fail => "fail",
+            Func::Notice => "notice",
+            Func::Warning => "warning",
+        }
+    }
+
+    /// The function that a word is.
+    pub fn of(word: &str) -> Option<Func>
+        ensures { result ≡ function_of word.now }
+    {
+        if word == "include" {
+            Some(Func::Include)
+        } else if word == "require" {
+            Some(Func::Require)
+        } else if word == "contain" {
+            Some(Func::Contain)
+        } else if word == "realize" {
+            Some(Func::Realize)
+        } else if word == "fail" {
+            Some(Func::Fail)
+        } else if word == "notice" {
+            Some(Func::Notice)
+        } else if word == "warning" {
+            Some(Func::Warning)
+        } else {
+            None
+        }
+    }
 }

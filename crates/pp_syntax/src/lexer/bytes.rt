@@ -1,3 +1,4 @@
+//! Sets of bytes.
 ghost use Rattle.std.specs.Prelude.{◌≡◌, ◌≤◌, length};
 ghost use Rattle.pp_syntax.specs.Bytes.{is_blank, is_digit, is_hex, is_upper, is_name};
 ghost use Rattle.pp_syntax.specs.Tokens.{begins, digit_of};

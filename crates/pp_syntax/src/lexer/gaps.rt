@@ -1,3 +1,4 @@
+//! Blanks and comments.
 ghost use Rattle.std.specs.Prelude.{◌≡◌};
 ghost use Rattle.std.specs.Option.{option_map};
 ghost use Rattle.pp_syntax.specs.Scanning.{after_close, after_block, gap_of};

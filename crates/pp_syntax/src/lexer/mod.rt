@@ -1,4 +1,6 @@
+//! From a text to its tokens.
 ghost use Rattle.std.specs.Prelude.{◌≡◌, ◌<◌, ◌-◌, ◌^◌, List, [], ◌∷◌, ◌++◌, length, take, OnOk, IfOk, IfErr, MatchResult, IsUtf8, ◌⊎◌, ℕ, true, false, codes};
+ghost use Rattle.std.specs.List.{AllByRecursion};
 ghost use Rattle.rh_base.specs.Refused.{IfRefused};
 ghost use Rattle.pp_syntax.specs.declared.token.Kind.{Kind as Sort};
 ghost use Rattle.pp_syntax.specs.declared.token.Kind.TheVariants as kind;
@@ -18,6 +20,11 @@ mod place;
 mod quoted;
 mod scan;
 mod signs;
+
+pub use crate::lexer::bytes::{digit_of, is_hex};
+pub use crate::lexer::numbers::int_value;
+pub use crate::lexer::quoted::is_simple_escape;
+pub use crate::lexer::signs::{is_among, is_keyword};
 
 use crate::lexer::opening::Stack;
 use crate::lexer::place::Place;
@@ -102,6 +109,11 @@ pub fn one_spelling()
     ensures place { (text : List ℕ) (m n : ℕ) → FailsAt text m → FailsAt text n → m ≡ n }
 {}
 
+/// The tokens of a text in UTF-8 are UTF-8.
+pub fn tokens_are_utf8()
+    ensures { (text : List ℕ) (ts : List Lexeme) → IsUtf8 text → Spells text ts → AllByRecursion (λ t. IsUtf8 t.text) ts }
+{}
+
 /// What stands as a token before a given rest: a spelling that is set apart; a `"`, a `}` and a `${` before
 /// whatever there is.
 pub fn set_apart_tokens_stand()
@@ -111,6 +123,3 @@ pub fn set_apart_tokens_stand()
     ensures hole { (p : Opened) (rest : List ℕ) → in_quotes p.opened ≡ true → TokenAt p kind.Hole (codes "${") rest }
     ensures close { (p : Opened) (rest : List ℕ) → in_quotes p.opened ≡ true → TokenAt p kind.DqClose (codes "\"") rest }
 {}
-
-#[cfg(test)]
-mod tests;

@@ -1,3 +1,4 @@
+//! Names at the front of a text.
 ghost use Rattle.std.specs.Prelude.{◌≡◌};
 ghost use Rattle.std.specs.Option.{option_map};
 ghost use Rattle.pp_syntax.specs.Scanning.{tail_from, segment, after_colons, next_segment, more_segments, joined, name, name_behind};

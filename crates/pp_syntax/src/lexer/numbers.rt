@@ -1,3 +1,4 @@
+//! Numbers at the front of a text, and what they stand for.
 ghost use Rattle.std.specs.Prelude.{◌≡◌, ◌≤◌, ◌<◌, ◌^◌, MatchOption};
 ghost use Rattle.std.specs.Option.{option_map};
 ghost use Rattle.pp_syntax.specs.Tokens.{value_from, int_value};

@@ -1,3 +1,4 @@
+//! What is open at a place: braces, double quotes and `${`.
 ghost use Rattle.std.specs.Prelude.{◌≡◌, [], ◌∷◌, OnOk, OnErr};
 ghost use Rattle.pp_syntax.specs.Opened.{in_quotes, in_hole, outer_of, closed_brace, ending, ending_of};
 

@@ -1,3 +1,4 @@
+//! Places in a text, and the token or gap that stands there.
 ghost use Rattle.std.specs.Prelude.{◌≡◌, ◌+◌, ◌<◌, ◌^◌, [], ◌∷◌, length, codes, OnOk};
 ghost use Rattle.pp_syntax.specs.Opened.{in_quotes};
 ghost use Rattle.pp_syntax.specs.Tokens.{is_among};

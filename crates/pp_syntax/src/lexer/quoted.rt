@@ -1,3 +1,4 @@
+//! Texts in quotes.
 ghost use Rattle.std.specs.Prelude.{◌≡◌, ◌≤◌, IfSome, length};
 ghost use Rattle.std.specs.Option.{option_map};
 ghost use Rattle.pp_syntax.specs.Tokens.{is_simple_escape, is_scalar, hex_value};
@@ -24,7 +25,8 @@ pub fn after_sq(text: &[u8]) -> Option<&[u8]>
     }
 }
 
-fn is_simple_escape(c: u8) -> bool
+/// The byte behind a backslash makes an escape of two bytes.
+pub fn is_simple_escape(c: u8) -> bool
     ensures { result ≡ is_simple_escape c }
 {
     b"nrts$\"'\\".contains(&c)

@@ -1,3 +1,4 @@
+//! The token at the front of a text outside of double quotes.
 ghost use Rattle.std.specs.Prelude.{◌≡◌, ◌≤◌, length};
 ghost use Rattle.std.specs.Option.{option_map};
 ghost use Rattle.pp_syntax.specs.Scanning.{word_found, joined, of_kind, scoped, after_colons, scoped_or_sign, code_token, opens_comment, no_name_first, number_stands};

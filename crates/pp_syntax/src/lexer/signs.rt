@@ -1,6 +1,7 @@
+//! Tables of keywords and signs.
 ghost use Rattle.std.specs.Prelude.{◌≡◌, map};
 ghost use Rattle.std.specs.Option.{option_map};
-ghost use Rattle.pp_syntax.specs.Tokens.{is_among};
+ghost use Rattle.pp_syntax.specs.Tokens.{is_among, keywords};
 ghost use Rattle.pp_syntax.specs.Scanning.{sign_of, one_byte, two_bytes, three_bytes, sign, word_kind};
 
 use crate::token::Kind;
@@ -33,7 +34,8 @@ const LEFT_OUT: [&[u8]; 13] = [
     b"@@", b"<<|", b"|>>", b"+>", b"=~", b"!~", b"/", b"%", b"<<", b">>", b"@(", b"|", b".",
 ];
 
-fn is_among(texts: &[&[u8]], s: &[u8]) -> bool
+/// A text is one of these.
+pub fn is_among(texts: &[&[u8]], s: &[u8]) -> bool
     ensures { result ≡ is_among (map (λ t. t.now) texts.now) s.now }
 {
     for t in texts {
@@ -44,11 +46,17 @@ fn is_among(texts: &[&[u8]], s: &[u8]) -> bool
     false
 }
 
+pub fn is_keyword(text: &[u8]) -> bool
+    ensures { result ≡ is_among keywords text.now }
+{
+    is_among(&KEYWORDS, text)
+}
+
 /// What a word is, by its text.
 pub fn word_kind(text: &[u8]) -> Kind
     ensures { result ≡ word_kind text.now }
 {
-    if is_among(&KEYWORDS, text) {
+    if is_keyword(text) {
         Kind::Keyword
     } else {
         Kind::Word

@@ -1,8 +1,8 @@
 use Rattle.std.proofs.Common.{◌+◌, ◌-◌, ◌∷◌, [], ◌++◌, Some, sym, ap, ◌∙◌, drop}
 use Rattle.std.specs.Prelude.{codes}
 use Rattle.pp_syntax.specs.Lexing.{told, lexeme_of}
-use Rattle.pp_expression.specs.Reading.{levels_with, operations, items, separator, pair_with, choice_with, members, expr_at, with_front, with_members}
-use Rattle.pp_expression.proofs.Steps.{operation_goes_on, operation_ends, item_goes_on, item_ends, suffix_goes_on, separator_stops, gives_err, member_goes_on, index_step, member_hole, reference_ref}
+use Rattle.pp_readers.specs.Expressions.{levels_with, operations, items, separator, pair_with, choice_with, members, expr_at, with_front, with_members}
+use Rattle.pp_readers.proofs.Steps.{operation_goes_on, operation_ends, item_goes_on, item_ends, suffix_goes_on, separator_stops, gives_err, member_goes_on, index_step, member_hole, reference_ref}
 use Rattle.pp_expression.proofs.expression.+expression.Goals as goal
 
 pub operations-loop-turn-preserved : goal.operations-loop-turn-preserved

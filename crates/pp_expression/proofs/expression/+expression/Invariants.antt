@@ -1,7 +1,7 @@
 use Rattle.std.proofs.Common.{◌≡◌, ◌+◌, ◌-◌, ◌*◌, drop}
 use Rattle.std.specs.Prelude.{codes}
 use Rattle.pp_syntax.specs.Lexing.{told}
-use Rattle.pp_expression.specs.Reading.{operations, levels_with, items, pair_with, choice_with, suffixes, members, expr_at, with_front, with_members}
+use Rattle.pp_readers.specs.Expressions.{operations, levels_with, items, pair_with, choice_with, suffixes, members, expr_at, with_front, with_members}
 use Rattle.pp_expression.proofs.expression.+expression.Given as goal
 
 -- Every rule is read at the depth that is left for what is nested in it; a rule calls those below it in this order.

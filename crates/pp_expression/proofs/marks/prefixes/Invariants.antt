@@ -1,6 +1,6 @@
 use Rattle.std.proofs.Common.{◌≡◌, ◌++◌, ◌-◌, length, drop}
 use Rattle.pp_syntax.specs.Lexing.{told}
-use Rattle.pp_expression.specs.Reading.{prefixes}
+use Rattle.pp_readers.specs.Expressions.{prefixes}
 use Rattle.pp_expression.proofs.marks.prefixes.Given as goal
 
 -- the prefixes so far, and those of the rest

@@ -1,5 +1,5 @@
 use Rattle.pp_syntax.specs.Lexing.{told}
-use Rattle.pp_expression.proofs.Answered.{expression_spelled, expression_parsed}
+use Rattle.pp_readers.proofs.ExpressionLaws.{expression_spelled, expression_parsed}
 use Rattle.pp_expression.proofs.parse.parse_expression.Goals as goal
 
 pub returns-clause-spelled : goal.returns-clause-spelled

@@ -1,5 +1,5 @@
 use Rattle.pp_syntax.specs.Lexing.{told}
-use Rattle.pp_expression.proofs.Answered.{postfix_spelled, postfix_parsed}
+use Rattle.pp_readers.proofs.ExpressionLaws.{postfix_spelled, postfix_parsed}
 use Rattle.pp_expression.proofs.parse.parse_postfix.Goals as goal
 
 pub returns-clause-spelled : goal.returns-clause-spelled

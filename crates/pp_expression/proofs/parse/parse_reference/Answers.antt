@@ -1,5 +1,5 @@
 use Rattle.pp_syntax.specs.Lexing.{told}
-use Rattle.pp_expression.proofs.Answered.{reference_spelled, reference_parsed}
+use Rattle.pp_readers.proofs.ExpressionLaws.{reference_spelled, reference_parsed}
 use Rattle.pp_expression.proofs.parse.parse_reference.Goals as goal
 
 pub returns-clause-spelled : goal.returns-clause-spelled

@@ -1,5 +1,5 @@
 use Rattle.pp_syntax.specs.Lexing.{told}
-use Rattle.pp_expression.proofs.Answered.{string_spelled, string_parsed}
+use Rattle.pp_readers.proofs.ExpressionLaws.{string_spelled, string_parsed}
 use Rattle.pp_expression.proofs.parse.parse_string.Goals as goal
 
 pub returns-clause-spelled : goal.returns-clause-spelled

@@ -1,5 +1,5 @@
 use Rattle.std.proofs.Common.{◌+◌, ◌*◌, sym, ◌∙◌}
-use Rattle.pp_expression.proofs.Digits.{braced_next, braced_large}
+use Rattle.pp_readers.proofs.Digits.{braced_next, braced_large}
 use Rattle.pp_expression.proofs.unquoting.+braced.Goals as goal
 
 pub returns-then-next-gt1114111-clause-value : goal.returns-then-next-gt1114111-clause-value

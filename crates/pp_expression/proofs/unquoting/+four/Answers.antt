@@ -1,5 +1,5 @@
 use Rattle.std.proofs.Common.{◌+◌, ◌*◌, sym, ◌∙◌}
-use Rattle.pp_expression.proofs.Digits.{four_next, four_large}
+use Rattle.pp_readers.proofs.Digits.{four_next, four_large}
 use Rattle.pp_expression.proofs.unquoting.+four.Goals as goal
 
 pub returns-then-next-gt1114111-clause-value : goal.returns-then-next-gt1114111-clause-value

@@ -1,7 +1,7 @@
 use Rattle.std.proofs.Common.{◌++◌, sym, ap, ◌∙◌, rules, string_bytes}
 use Rattle.std.specs.Prelude.{encode_utf8}
-use Rattle.pp_expression.specs.Values.{dq, with_bytes}
-use Rattle.pp_expression.proofs.Digits.{dq_escape}
+use Rattle.pp_readers.specs.Values.{dq, with_bytes}
+use Rattle.pp_readers.proofs.Digits.{dq_escape}
 use Rattle.pp_expression.proofs.unquoting.unescaped.Goals as goal
 
 pub loop-front-preserved : goal.loop-front-preserved

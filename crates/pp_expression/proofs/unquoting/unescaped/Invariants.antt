@@ -1,7 +1,7 @@
 use Rattle.std.proofs.Common.{◌≡◌, length, string_bytes}
 use denote.Shadow.{shadow}
 use denote.Text.{Utf8}
-use Rattle.pp_expression.specs.Values.{dq, with_bytes}
+use Rattle.pp_readers.specs.Values.{dq, with_bytes}
 use Rattle.pp_expression.proofs.unquoting.unescaped.Given as goal
 
 -- the value so far, and that of the rest

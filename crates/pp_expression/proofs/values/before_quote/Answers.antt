@@ -1,6 +1,6 @@
 use Rattle.std.proofs.Common.{arith}
 use Rattle.std.proofs.lemmas.Str.Pattern.{strip_suffix_char}
-use Rattle.pp_expression.proofs.Escapes.{before_is}
+use Rattle.pp_readers.proofs.Escapes.{before_is}
 use Rattle.pp_expression.proofs.values.before_quote.Goals as goal
 
 pub returns : goal.returns

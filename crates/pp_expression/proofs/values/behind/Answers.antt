@@ -1,5 +1,5 @@
 use Rattle.std.proofs.lemmas.Str.Pattern.{strip_prefix_char}
-use Rattle.pp_expression.proofs.Escapes.{behind_is}
+use Rattle.pp_readers.proofs.Escapes.{behind_is}
 use Rattle.pp_expression.proofs.values.behind.Goals as goal
 
 pub returns : goal.returns

@@ -1,4 +1,4 @@
-use Rattle.pp_expression.proofs.Escapes.{cut_at}
+use Rattle.pp_readers.proofs.Escapes.{cut_at}
 use Rattle.pp_expression.proofs.values.cut.Goals as goal
 
 pub returns : goal.returns

@@ -1,6 +1,6 @@
 use Rattle.std.proofs.Common.{◌++◌, ap, ◌∙◌, rules, string_bytes}
 use Rattle.std.specs.Prelude.{encode_utf8}
-use Rattle.pp_expression.proofs.Escapes.{one_escape}
+use Rattle.pp_readers.proofs.Escapes.{one_escape}
 use Rattle.pp_expression.proofs.values.unescaped.Goals as goal
 
 pub loop-front-preserved : goal.loop-front-preserved

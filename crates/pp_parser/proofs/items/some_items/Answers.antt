@@ -1,9 +1,9 @@
 use Rattle.std.proofs.Common.{◌+◌, ◌-◌, sym, ap, ◌∙◌, drop}
 use Rattle.pp_syntax.specs.Lexing.{told}
-use Rattle.pp_expression.specs.Reading.{with_front, expr_at}
-use Rattle.pp_statement.specs.Combining.{many}
-use Rattle.pp_statement.specs.Reading.{stmt_at}
-use Rattle.pp_statement.proofs.Steps.{many_goes_on, many_ends}
+use Rattle.pp_readers.specs.Expressions.{with_front, expr_at}
+use Rattle.pp_readers.specs.Combining.{many}
+use Rattle.pp_readers.specs.Statements.{stmt_at}
+use Rattle.pp_readers.proofs.StatementSteps.{many_goes_on, many_ends}
 use Rattle.pp_parser.specs.TypeReading.{type_at}
 use Rattle.pp_parser.specs.ItemReading.{has_token, item_with}
 use Rattle.pp_parser.proofs.items.some_items.Goals as goal

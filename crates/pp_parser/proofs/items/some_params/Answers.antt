@@ -1,8 +1,8 @@
 use Rattle.std.proofs.Common.{◌+◌, ◌-◌, Some, sym, ap, ◌∙◌, drop}
 use Rattle.std.specs.Prelude.{codes}
 use Rattle.pp_syntax.specs.Lexing.{told}
-use Rattle.pp_expression.specs.Reading.{with_front, items, separator, expr_at}
-use Rattle.pp_expression.proofs.Steps.{item_goes_on, item_ends, separator_stops, gives_err}
+use Rattle.pp_readers.specs.Expressions.{with_front, items, separator, expr_at}
+use Rattle.pp_readers.proofs.Steps.{item_goes_on, item_ends, separator_stops, gives_err}
 use Rattle.pp_parser.specs.TypeReading.{type_at}
 use Rattle.pp_parser.specs.ItemReading.{param_with}
 use Rattle.pp_parser.proofs.items.some_params.Goals as goal

@@ -1,7 +1,7 @@
 use Rattle.std.proofs.Common.{◌≡◌, ◌-◌, drop}
 use Rattle.std.specs.Prelude.{codes}
 use Rattle.pp_syntax.specs.Lexing.{told}
-use Rattle.pp_expression.specs.Reading.{with_front, items, expr_at}
+use Rattle.pp_readers.specs.Expressions.{with_front, items, expr_at}
 use Rattle.pp_parser.specs.TypeReading.{type_at}
 use Rattle.pp_parser.specs.ItemReading.{param_with}
 use Rattle.pp_parser.proofs.items.some_params.Given as goal

@@ -1,6 +1,6 @@
 use Rattle.std.proofs.Common.{◌+◌, length, drop}
 use Rattle.pp_syntax.specs.Lexing.{told}
-use Rattle.pp_expression.specs.declared.misread.Misread.TheVariants.{Form}
+use Rattle.pp_readers.specs.declared.misread.Misread.TheVariants.{Form}
 use Rattle.pp_parser.specs.ItemReading.{items_at}
 use Rattle.pp_parser.proofs.TreeLaws.{lexed_fit, tree_found, same_tree, no_tree, turns_are, fails_as, refused_never, refuses_syntax}
 use Rattle.pp_parser.proofs.parsing.parse.Goals as goal

@@ -2,8 +2,9 @@ use Rattle.std.proofs.Common.{◌+◌, ◌-◌, Some, sym, ap, ◌∙◌, drop, 
 use Rattle.std.specs.Prelude.{codes}
 use Rattle.std.proofs.lemmas.Bool.{ne_eqb}
 use Rattle.pp_syntax.specs.Lexing.{told}
-use Rattle.pp_expression.specs.Reading.{Gives, with_front, items}
-use Rattle.pp_expression.proofs.Steps.{item_goes_on}
+use Rattle.pp_readers.specs.Parsed.{Gives}
+use Rattle.pp_readers.specs.Expressions.{with_front, items}
+use Rattle.pp_readers.proofs.Steps.{item_goes_on}
 use Rattle.pp_parser.specs.TypeReading.{type_at}
 use Rattle.pp_parser.proofs.Turns.{type_step}
 use Rattle.pp_parser.proofs.types.+types.Goals as goal

@@ -1,7 +1,7 @@
 use Rattle.std.proofs.Common.{◌≡◌, ◌+◌, ◌-◌, ◌*◌, drop}
 use Rattle.std.specs.Prelude.{codes}
 use Rattle.pp_syntax.specs.Lexing.{told}
-use Rattle.pp_expression.specs.Reading.{with_front, items}
+use Rattle.pp_readers.specs.Expressions.{with_front, items}
 use Rattle.pp_parser.specs.TypeReading.{type_at}
 use Rattle.pp_parser.proofs.types.+types.Given as goal
 

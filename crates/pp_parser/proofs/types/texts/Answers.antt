@@ -1,9 +1,9 @@
 use Rattle.std.proofs.Common.{◌+◌, ◌-◌, Some, sym, ap, ◌∙◌, drop}
 use Rattle.std.specs.Prelude.{codes}
 use Rattle.pp_syntax.specs.Lexing.{told}
-use Rattle.pp_expression.specs.Reading.{with_front, items, separator}
-use Rattle.pp_expression.proofs.Steps.{item_goes_on, item_ends, separator_stops, gives_err}
-use Rattle.pp_statement.specs.Marks.{taken}
+use Rattle.pp_readers.specs.Expressions.{with_front, items, separator}
+use Rattle.pp_readers.proofs.Steps.{item_goes_on, item_ends, separator_stops, gives_err}
+use Rattle.pp_readers.specs.Names.{taken}
 use Rattle.pp_parser.specs.TypeReading.{quoted_by}
 use Rattle.pp_parser.proofs.types.texts.Goals as goal
 

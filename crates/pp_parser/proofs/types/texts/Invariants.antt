@@ -1,8 +1,8 @@
 use Rattle.std.proofs.Common.{◌≡◌, ◌-◌, drop}
 use Rattle.std.specs.Prelude.{codes}
 use Rattle.pp_syntax.specs.Lexing.{told}
-use Rattle.pp_expression.specs.Reading.{with_front, items}
-use Rattle.pp_statement.specs.Marks.{taken}
+use Rattle.pp_readers.specs.Expressions.{with_front, items}
+use Rattle.pp_readers.specs.Names.{taken}
 use Rattle.pp_parser.specs.TypeReading.{quoted_by}
 use Rattle.pp_parser.proofs.types.texts.Given as goal
 

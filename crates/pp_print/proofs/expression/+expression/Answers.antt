@@ -19,8 +19,8 @@ expr-returns-in_ok-at_level-in-Select t c =
     (printed_form c.args.e.now.form).words c.in_ok-at_level-in-Select.ensures c.selection.ensures
     (select_in_two c.args.e.now.form c.in-Select.base c.get-in-Select.result.now c.in-Select.choices c.as_slice-in-Select.result.now c.in-Select.is c.get-in-Select.ensures c.as_slice-in-Select.ensures)
 
-pub expr-returns-in_ok-indexed-in-At : goal.expr-returns-in_ok-indexed-in-At
-expr-returns-in_ok-indexed-in-At t c =
-    in_two c.index.result c.args.words.now c.indexed.new.words c.index.new.words (indexed (printed c.get-in-At.result.now)) (in_tight (expr_words c.get-in-At-2.result.now))
-    (printed_form c.args.e.now.form).words c.in_ok-indexed-in-At.ensures c.index.ensures
-    (index_in_two c.args.e.now.form c.in-At.base c.in-At.key c.get-in-At.result.now c.get-in-At-2.result.now c.in-At.is c.get-in-At.ensures c.get-in-At-2.ensures)
+pub expr-returns-in_ok-indexed-in-Index : goal.expr-returns-in_ok-indexed-in-Index
+expr-returns-in_ok-indexed-in-Index t c =
+    in_two c.index.result c.args.words.now c.indexed.new.words c.index.new.words (indexed (printed c.get-in-Index.result.now)) (in_tight (expr_words c.get-in-Index-2.result.now))
+    (printed_form c.args.e.now.form).words c.in_ok-indexed-in-Index.ensures c.index.ensures
+    (index_in_two c.args.e.now.form c.in-Index.base c.in-Index.key c.get-in-Index.result.now c.get-in-Index-2.result.now c.in-Index.is c.get-in-Index.ensures c.get-in-Index-2.ensures)

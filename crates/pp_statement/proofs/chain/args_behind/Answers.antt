@@ -2,10 +2,10 @@ use Rattle.std.proofs.Common.{◌+◌, ◌-◌, sym, ap, ◌∙◌, drop}
 use Rattle.std.specs.Prelude.{codes}
 use Rattle.pp_syntax.specs.Lexing.{told}
 use Rattle.pp_syntax.specs.declared.token.Kind.TheVariants as kind
-use Rattle.pp_expression.specs.Reading.{with_front, expr_at}
-use Rattle.pp_statement.specs.Combining.{begins, behind}
-use Rattle.pp_statement.specs.Reading.{more_args}
-use Rattle.pp_statement.proofs.Steps.{many_goes_on, many_ends}
+use Rattle.pp_readers.specs.Expressions.{with_front, expr_at}
+use Rattle.pp_readers.specs.Combining.{begins, behind}
+use Rattle.pp_readers.specs.Statements.{more_args}
+use Rattle.pp_readers.proofs.StatementSteps.{many_goes_on, many_ends}
 use Rattle.pp_statement.proofs.chain.args_behind.Goals as goal
 
 pub loop-turn-preserved : goal.loop-turn-preserved

@@ -1,8 +1,8 @@
 use Rattle.std.proofs.Common.{◌+◌, ◌-◌, Some, sym, ap, ◌∙◌, drop}
 use Rattle.std.specs.Prelude.{codes}
 use Rattle.pp_syntax.specs.Lexing.{told}
-use Rattle.pp_expression.specs.Reading.{with_front, items, expr_at}
-use Rattle.pp_expression.proofs.Steps.{item_goes_on}
+use Rattle.pp_readers.specs.Expressions.{with_front, items, expr_at}
+use Rattle.pp_readers.proofs.Steps.{item_goes_on}
 use Rattle.pp_statement.proofs.chain.bracketed.Goals as goal
 
 pub loop-turn-preserved : goal.loop-turn-preserved

@@ -1,10 +1,10 @@
 use Rattle.std.proofs.Common.{◌+◌, ◌-◌, sym, ◌∙◌, drop}
 use Rattle.pp_syntax.specs.Lexing.{told}
-use Rattle.pp_expression.specs.Reading.{expr_at}
-use Rattle.pp_statement.specs.Combining.{many}
-use Rattle.pp_statement.specs.Marks.{begins_arrow}
-use Rattle.pp_statement.specs.Reading.{link_with}
-use Rattle.pp_statement.proofs.Steps.{same_links, links_go_on, links_end}
+use Rattle.pp_readers.specs.Expressions.{expr_at}
+use Rattle.pp_readers.specs.Combining.{many}
+use Rattle.pp_readers.specs.Names.{begins_arrow}
+use Rattle.pp_readers.specs.Statements.{link_with}
+use Rattle.pp_readers.proofs.StatementSteps.{same_links, links_go_on, links_end}
 use Rattle.pp_statement.proofs.chain.sides_behind.Goals as goal
 
 pub loop-turn-preserved : goal.loop-turn-preserved

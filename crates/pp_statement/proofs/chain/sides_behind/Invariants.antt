@@ -1,9 +1,9 @@
 use Rattle.std.proofs.Common.{◌≡◌, ◌-◌, [], ◌∷◌, drop}
 use Rattle.pp_syntax.specs.Lexing.{told}
-use Rattle.pp_expression.specs.Reading.{expr_at}
-use Rattle.pp_statement.specs.Combining.{many}
-use Rattle.pp_statement.specs.Marks.{begins_arrow}
-use Rattle.pp_statement.specs.Reading.{with_links, link_with}
+use Rattle.pp_readers.specs.Expressions.{expr_at}
+use Rattle.pp_readers.specs.Combining.{many}
+use Rattle.pp_readers.specs.Names.{begins_arrow}
+use Rattle.pp_readers.specs.Statements.{with_links, link_with}
 use Rattle.pp_statement.proofs.chain.sides_behind.Given as goal
 
 -- what was read so far, and what reading the rest gives in the turns that are left

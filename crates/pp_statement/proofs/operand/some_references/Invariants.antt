@@ -1,7 +1,7 @@
 use Rattle.std.proofs.Common.{◌≡◌, ◌-◌, drop}
 use Rattle.std.specs.Prelude.{codes}
 use Rattle.pp_syntax.specs.Lexing.{told}
-use Rattle.pp_expression.specs.Reading.{with_front, items, reference_with, expr_at}
+use Rattle.pp_readers.specs.Expressions.{with_front, items, reference_with, expr_at}
 use Rattle.pp_statement.proofs.operand.some_references.Given as goal
 
 -- what was read so far, and what reading the rest gives in the turns that are left

@@ -1,9 +1,10 @@
 use Rattle.pp_syntax.specs.Lexing.{told}
-use Rattle.pp_expression.specs.Parsed.{Anything}
-use Rattle.pp_expression.specs.Reading.{expr_at}
-use Rattle.pp_statement.specs.Reading.{attributes_with}
-use Rattle.pp_statement.proofs.Answered.{AttributesOf}
-use Rattle.pp_statement.proofs.Answered.{spelled, parsed, attributes_finds, attributes_reads}
+use Rattle.pp_readers.specs.Parsed.{Anything}
+use Rattle.pp_readers.specs.Expressions.{expr_at}
+use Rattle.pp_readers.specs.Statements.{attributes_with}
+use Rattle.pp_readers.proofs.StatementLaws.{AttributesOf}
+use Rattle.pp_readers.proofs.ExpressionLaws.{spelled, parsed}
+use Rattle.pp_readers.proofs.StatementLaws.{attributes_finds, attributes_reads}
 use Rattle.pp_statement.proofs.parse.parse_attributes.Goals as goal
 
 pub returns-clause-spelled : goal.returns-clause-spelled

@@ -1,10 +1,11 @@
 use Rattle.pp_syntax.specs.Lexing.{told}
 use Rattle.pp_syntax.specs.Derivation.{IsExprAt}
 use Rattle.pp_syntax.specs.Statements.{BlockOf, IsStmtAt}
-use Rattle.pp_expression.specs.Reading.{expr_at}
-use Rattle.pp_expression.specs.Parsed.{Anything}
-use Rattle.pp_statement.specs.Reading.{block_with, stmt_at}
-use Rattle.pp_statement.proofs.Answered.{spelled, parsed, block_finds, block_reads}
+use Rattle.pp_readers.specs.Expressions.{expr_at}
+use Rattle.pp_readers.specs.Parsed.{Anything}
+use Rattle.pp_readers.specs.Statements.{block_with, stmt_at}
+use Rattle.pp_readers.proofs.ExpressionLaws.{spelled, parsed}
+use Rattle.pp_readers.proofs.StatementLaws.{block_finds, block_reads}
 use Rattle.pp_statement.proofs.parse.parse_block.Goals as goal
 
 pub returns-clause-spelled : goal.returns-clause-spelled

@@ -1,10 +1,11 @@
 use Rattle.pp_syntax.specs.Lexing.{told}
 use Rattle.pp_syntax.specs.Derivation.{IsExprAt}
 use Rattle.pp_syntax.specs.Statements.{IsStmtAt}
-use Rattle.pp_expression.specs.Reading.{expr_at}
-use Rattle.pp_statement.specs.Parsed.{NothingFollows}
-use Rattle.pp_statement.specs.Reading.{stmt_at}
-use Rattle.pp_statement.proofs.Answered.{spelled, parsed, statement_finds, statement_reads}
+use Rattle.pp_readers.specs.Expressions.{expr_at}
+use Rattle.pp_readers.specs.Leads.{NothingFollows}
+use Rattle.pp_readers.specs.Statements.{stmt_at}
+use Rattle.pp_readers.proofs.ExpressionLaws.{spelled, parsed}
+use Rattle.pp_readers.proofs.StatementLaws.{statement_finds, statement_reads}
 use Rattle.pp_statement.proofs.parse.parse_statement.Goals as goal
 
 pub returns-clause-spelled : goal.returns-clause-spelled

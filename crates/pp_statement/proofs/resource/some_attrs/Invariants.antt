@@ -1,10 +1,10 @@
 use Rattle.std.proofs.Common.{◌≡◌, ◌-◌, drop}
 use Rattle.std.specs.Prelude.{codes}
 use Rattle.pp_syntax.specs.Lexing.{told}
-use Rattle.pp_expression.specs.Reading.{with_front, expr_at}
-use Rattle.pp_statement.specs.Combining.{listed}
-use Rattle.pp_statement.specs.Marks.{begins_name}
-use Rattle.pp_statement.specs.Reading.{attr_with}
+use Rattle.pp_readers.specs.Expressions.{with_front, expr_at}
+use Rattle.pp_readers.specs.Combining.{listed}
+use Rattle.pp_readers.specs.Names.{begins_name}
+use Rattle.pp_readers.specs.Statements.{attr_with}
 use Rattle.pp_statement.proofs.resource.some_attrs.Given as goal
 
 -- what was read so far, and what reading the rest gives in the turns that are left

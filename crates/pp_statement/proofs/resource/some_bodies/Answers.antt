@@ -1,10 +1,10 @@
 use Rattle.std.proofs.Common.{◌+◌, ◌-◌, Some, sym, ap, ◌∙◌, drop}
 use Rattle.std.specs.Prelude.{codes}
 use Rattle.pp_syntax.specs.Lexing.{told}
-use Rattle.pp_expression.specs.Reading.{with_front, expr_at}
-use Rattle.pp_statement.specs.Combining.{listed}
-use Rattle.pp_statement.specs.Reading.{unclosed, body_with}
-use Rattle.pp_statement.proofs.Steps.{listed_goes_on, listed_last, listed_ends}
+use Rattle.pp_readers.specs.Expressions.{with_front, expr_at}
+use Rattle.pp_readers.specs.Combining.{listed}
+use Rattle.pp_readers.specs.Statements.{unclosed, body_with}
+use Rattle.pp_readers.proofs.StatementSteps.{listed_goes_on, listed_last, listed_ends}
 use Rattle.pp_statement.proofs.resource.some_bodies.Goals as goal
 
 pub loop-turn-preserved : goal.loop-turn-preserved

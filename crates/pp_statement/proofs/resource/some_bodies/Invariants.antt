@@ -1,9 +1,9 @@
 use Rattle.std.proofs.Common.{◌≡◌, ◌-◌, drop}
 use Rattle.std.specs.Prelude.{codes}
 use Rattle.pp_syntax.specs.Lexing.{told}
-use Rattle.pp_expression.specs.Reading.{with_front, expr_at}
-use Rattle.pp_statement.specs.Combining.{listed}
-use Rattle.pp_statement.specs.Reading.{unclosed, body_with}
+use Rattle.pp_readers.specs.Expressions.{with_front, expr_at}
+use Rattle.pp_readers.specs.Combining.{listed}
+use Rattle.pp_readers.specs.Statements.{unclosed, body_with}
 use Rattle.pp_statement.proofs.resource.some_bodies.Given as goal
 
 -- what was read so far, and what reading the rest gives in the turns that are left

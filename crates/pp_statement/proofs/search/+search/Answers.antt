@@ -2,10 +2,11 @@ use Rattle.std.proofs.Common.{◌+◌, ◌-◌, sym, ap, ◌∙◌, drop, subst}
 use Rattle.std.specs.Prelude.{codes}
 use Rattle.pp_syntax.specs.Lexing.{told}
 use Rattle.pp_syntax.specs.declared.token.Kind.TheVariants as kind
-use Rattle.pp_expression.specs.Reading.{Gives, with_front, expr_at, postfix_with}
-use Rattle.pp_statement.specs.Combining.{begins, behind}
-use Rattle.pp_statement.specs.Reading.{atom_with, ands_with, conjunction_with, ors_with, search_at}
-use Rattle.pp_statement.proofs.Steps.{search_step, many_goes_on, many_ends}
+use Rattle.pp_readers.specs.Parsed.{Gives}
+use Rattle.pp_readers.specs.Expressions.{with_front, expr_at, postfix_with}
+use Rattle.pp_readers.specs.Combining.{begins, behind}
+use Rattle.pp_readers.specs.Statements.{atom_with, ands_with, conjunction_with, ors_with, search_at}
+use Rattle.pp_readers.proofs.StatementSteps.{search_step, many_goes_on, many_ends}
 use Rattle.pp_statement.proofs.search.+search.Goals as goal
 
 pub search-returns : goal.search-returns

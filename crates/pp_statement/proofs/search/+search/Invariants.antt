@@ -1,7 +1,7 @@
 use Rattle.std.proofs.Common.{◌≡◌, ◌+◌, ◌-◌, ◌*◌, [], ◌∷◌, drop}
 use Rattle.pp_syntax.specs.Lexing.{told}
-use Rattle.pp_expression.specs.Reading.{with_front, expr_at, postfix_with}
-use Rattle.pp_statement.specs.Reading.{ands_with, ors_with, search_at}
+use Rattle.pp_readers.specs.Expressions.{with_front, expr_at, postfix_with}
+use Rattle.pp_readers.specs.Statements.{ands_with, ors_with, search_at}
 use Rattle.pp_statement.proofs.search.+search.Given as goal
 
 -- A search is read at the depth that is left for what is nested in it; a rule calls those below it in this order.

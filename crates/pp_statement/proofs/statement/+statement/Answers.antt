@@ -2,11 +2,12 @@ use Rattle.std.proofs.Common.{◌+◌, ◌-◌, sym, ap, ◌∙◌, drop, subst}
 use Rattle.std.specs.Prelude.{codes}
 use Rattle.pp_syntax.specs.Lexing.{told}
 use Rattle.pp_syntax.specs.declared.token.Kind.TheVariants as kind
-use Rattle.pp_expression.specs.Reading.{Gives, with_front, expr_at}
-use Rattle.pp_expression.proofs.Steps.{gives_err}
-use Rattle.pp_statement.specs.Combining.{begins, behind, many}
-use Rattle.pp_statement.specs.Reading.{unclosed, arm_with, more_arms, case_arm_with, stmt_at}
-use Rattle.pp_statement.proofs.Steps.{stmt_step, many_goes_on, many_ends, many_stops}
+use Rattle.pp_readers.specs.Parsed.{Gives}
+use Rattle.pp_readers.specs.Expressions.{with_front, expr_at}
+use Rattle.pp_readers.proofs.Steps.{gives_err}
+use Rattle.pp_readers.specs.Combining.{begins, behind, many}
+use Rattle.pp_readers.specs.Statements.{unclosed, arm_with, more_arms, case_arm_with, stmt_at}
+use Rattle.pp_readers.proofs.StatementSteps.{stmt_step, many_goes_on, many_ends, many_stops}
 use Rattle.pp_statement.proofs.statement.+statement.Goals as goal
 
 pub statement-returns : goal.statement-returns

@@ -1,8 +1,8 @@
 use Rattle.std.proofs.Common.{◌≡◌, ◌+◌, ◌-◌, ◌*◌, [], ◌∷◌, drop}
 use Rattle.pp_syntax.specs.Lexing.{told}
-use Rattle.pp_expression.specs.Reading.{with_front, expr_at}
-use Rattle.pp_statement.specs.Combining.{many}
-use Rattle.pp_statement.specs.Reading.{unclosed, case_arm_with, more_arms, stmt_at}
+use Rattle.pp_readers.specs.Expressions.{with_front, expr_at}
+use Rattle.pp_readers.specs.Combining.{many}
+use Rattle.pp_readers.specs.Statements.{unclosed, case_arm_with, more_arms, stmt_at}
 use Rattle.pp_statement.proofs.statement.+statement.Given as goal
 
 -- A statement is read at the depth that is left for the statements of its blocks; a rule calls those below it in this order.

@@ -1,4 +1,0 @@
-pub mod Marks
-pub mod Values
-pub mod Reading
-pub mod Parsed

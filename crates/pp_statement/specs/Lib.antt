@@ -1,4 +1,0 @@
-pub mod Combining
-pub mod Marks
-pub mod Reading
-pub mod Parsed

@@ -1,0 +1,99 @@
+//! What is answered to a text, as the rows have it.
+ghost use Rattle.std.specs.Prelude.{◌<◌, ◌^◌, length};
+
+use pp_parser::parse;
+use pp_print::print;
+use pp_syntax::{Token, lex};
+use rh_base::{Fault, Refusal};
+use std::alloc::Global;
+use std::test::Fail;
+
+fn line_of(alloc: Global, refusal: &Refusal) -> Result<String, Fail> {
+    let number = refusal.number;
+    let at = refusal.at;
+    let name = refusal.name.as_str();
+    Ok(format!(in alloc; "{number} at {at}: {name}")?)
+}
+
+/// A refusal, as `12 at 27: syntax`.
+fn refused(alloc: Global, fault: &Fault) -> Result<String, Fail> {
+    match fault {
+        Fault::Refused(refusal) => line_of(alloc, refusal),
+        Fault::Memory(_) => Err(Fail::from("memory")),
+    }
+}
+
+/// The canonical text of what a text spells, behind what was written before.
+fn print_behind(alloc: Global, text: &[u8], into: &mut Vec<u8>) -> Result<(), Fault>
+    requires { length text.now < 2 ^ 32 }
+{
+    let tokens = lex(alloc, text)?;
+    let manifest = parse(alloc, &tokens)?;
+    print(alloc, &manifest, into)?;
+    Ok(())
+}
+
+/// What was written before, with the canonical text of what a text spells behind it, or the refusal.
+pub fn printed_behind(alloc: Global, front: &str, text: &str) -> Result<String, Fail> {
+    if text.len() > 100_000 {
+        return Err(Fail::from("a long text"));
+    }
+    let mut into = Vec::new(alloc);
+    into.extend_from_slice(front.as_bytes())?;
+    match print_behind(alloc, text.as_bytes(), &mut into) {
+        Ok(()) => as_text(into),
+        Err(fault) => refused(alloc, &fault),
+    }
+}
+
+fn as_text(bytes: Vec<u8>) -> Result<String, Fail> {
+    match String::from_utf8(bytes) {
+        Ok(text) => Ok(text),
+        Err(_) => Err(Fail::from("not UTF-8")),
+    }
+}
+
+/// The canonical text of what a text spells, or the refusal.
+pub fn printed(alloc: Global, text: &str) -> Result<String, Fail> {
+    printed_behind(alloc, "", text)
+}
+
+/// Each token as `4:Word(ntp)`.
+fn line_of_tokens(alloc: Global, tokens: &[Token<'_>]) -> Result<String, Fail> {
+    let mut line = String::new(alloc);
+    for token in tokens {
+        let piece = format!(in alloc; "{}:{:?}({}) ", token.at, token.kind, token.text)?;
+        line.push_str(piece.as_str())?;
+    }
+    Ok(line)
+}
+
+/// The tokens of a text with their places and kinds, or the refusal.
+pub fn tokens_of(alloc: Global, text: &[u8]) -> Result<String, Fail> {
+    if text.len() > 100_000 {
+        return Err(Fail::from("a long text"));
+    }
+    match lex(alloc, text) {
+        Ok(tokens) => line_of_tokens(alloc, &tokens),
+        Err(fault) => refused(alloc, &fault),
+    }
+}
+
+/// The refusal of a text, or `none`.
+pub fn refusal_of(alloc: Global, text: &str) -> Result<String, Fail> {
+    if text.len() > 100_000 {
+        return Err(Fail::from("a long text"));
+    }
+    match check(alloc, text.as_bytes()) {
+        Ok(()) => Ok(String::from_str(alloc, "none")?),
+        Err(fault) => refused(alloc, &fault),
+    }
+}
+
+fn check(alloc: Global, text: &[u8]) -> Result<(), Fault>
+    requires { length text.now < 2 ^ 32 }
+{
+    let tokens = lex(alloc, text)?;
+    let _manifest = parse(alloc, &tokens)?;
+    Ok(())
+}

@@ -1,0 +1,58 @@
+//! Rows of the depth at which a token is refused.
+use crate::answers::refusal_of;
+use std::alloc::Global;
+use std::test::Fail;
+
+fn push_times(text: &mut String, piece: &str, count: u32) -> Result<(), Fail> {
+    for _ in 0..count {
+        text.push_str(piece)?;
+    }
+    Ok(())
+}
+
+/// A front, a piece so many times, a middle, and another piece as many times.
+fn nested(alloc: Global, (front, open, middle, close): Pieces, count: u32) -> Result<String, Fail> {
+    let mut text = String::from_str(alloc, front)?;
+    push_times(&mut text, open, count)?;
+    text.push_str(middle)?;
+    push_times(&mut text, close, count)?;
+    Ok(text)
+}
+
+type Pieces = (&'static str, &'static str, &'static str, &'static str);
+
+#[test]
+fn tokens_nest_up_to_the_limit(rt: HostRuntime) -> Result<(), Fail> {
+    let rows: [(Pieces, u32, &str); 21] = [
+        (("$x = ", "[", "", "]"), 64, "none"),
+        (("$x = ", "[", "", "]"), 65, "13 at 69: nesting"),
+        (("$x = ", "[", "", ""), 64, "12 at 69: syntax"),
+        (("$x = ", "(", "1", ")"), 64, "none"),
+        (("$x = ", "(", "1", ")"), 65, "13 at 69: nesting"),
+        (("$x = ", "(", "", ""), 63, "12 at 68: syntax"),
+        (("$x = ", "!", "$y", ""), 64, "none"),
+        (("$x = ", "!", "$y", ""), 65, "13 at 69: nesting"),
+        (("$x = [", "!", "$y]", ""), 63, "none"),
+        (("$x = [", "!", "$y]", ""), 64, "13 at 69: nesting"),
+        (("$x = $y", "[0]", "", ""), 64, "none"),
+        (("$x = $y", "[0]", "", ""), 65, "13 at 199: nesting"),
+        (("$x = $y", "?{a=>1}", "", ""), 65, "none"),
+        (("$x = $y", "?{a=>1}", "", ""), 66, "13 at 462: nesting"),
+        (("$x = ", "\"${", "1", "}\""), 64, "none"),
+        (("$x = ", "\"${", "1", "}\""), 65, "13 at 198: nesting"),
+        (("", "if true { ", "", "}"), 64, "none"),
+        (("", "if true { ", "", "}"), 65, "13 at 648: nesting"),
+        (("$x = [", "[$y[0],-1],", "]", ""), 99, "none"),
+        (("User <| ", "(", "a==1", ")"), 63, "12 at 138: syntax"),
+        (("User <| ", "(", "a==1", ")"), 64, "13 at 71: nesting"),
+    ];
+    for (pieces, count, want) in rows {
+        let text = nested(rt.alloc(), pieces, count)?;
+        assert_eq!(rt;
+            refusal_of(rt.alloc(), text.as_str())?.as_str(),
+            want,
+            "{text}"
+        );
+    }
+    Ok(())
+}
