@@ -18,8 +18,9 @@ pub use compare::{equal, has_opaque, less, within};
 pub use fault::{Misfit, ValueFault};
 pub use keyed::Keyed;
 pub use laws::{
-    equality_is_symmetric, members_are_proper, members_stay_within, pairs_stay_distinct,
-    parts_stand_within, right_values_win, sums_are_proper, text_shows_itself,
+    distinct_pairs_are_kept, equality_is_symmetric, members_are_proper, members_stay_within,
+    pairs_stay_proper, parts_stand_within, right_values_win, sums_are_proper, text_shows_itself,
+    wholes_are_proper,
 };
 pub use numbers::{multiply, negate, subtract};
 pub use operations::{add, member};

@@ -7,7 +7,7 @@ use rh_base::{NoMemory, Seq, Text};
 use std::alloc::Global;
 
 /// A resource or a class: its kind in lower case, and its title.
-#[derive(Debug, Drop)]
+#[derive(Debug, Drop, PartialEq, Eq, Hash)]
 pub struct Ref {
     pub kind: Text,
     pub title: Text,
