@@ -27,4 +27,4 @@ pub use operations::{add, member};
 pub use showing::show;
 pub use sizes::{exceeds_limits, size};
 pub use types::fits;
-pub use value::{Pairs, Ref, Value};
+pub use value::{Pairs, Ref, Value, copy_pairs};
