@@ -121,21 +121,21 @@ level_is d level h =
       members = members;
       is_object = object_is d members object_step.1;
       only = only (codes "when") (codes "values") IsKeyOfLevel (λ key k. k) members keys.0;
-      when = when_is (get_member (codes "when") members) level.when.pairs (when_step.1 ∙ ap (λ l. Some l.when.pairs) when_step.2);
+      when = when_is (get_member (codes "when") members) level.when (when_step.1 ∙ ap (λ l. Some l.when) when_step.2);
       given = given_step.0;
       stands = given_step.1;
-      values = pairs_are given_step.0 level.values.pairs (given_step.2 ∙ ap (λ l. Some l.values.pairs) when_step.2);
+      values = pairs_are given_step.0 level.values (given_step.2 ∙ ap (λ l. Some l.values) when_step.2);
     }
 
 level_back : (d : Data) (level : Level) → IsLevel level d → level_in d ≡ Some level
 level_back d level l =
     let keys = only_back (codes "when") (codes "values") IsKeyOfLevel (λ key k. k) l.members l.only in
-    let when = when_back (get_member (codes "when") l.members) level.when.pairs l.when in
-    let values : option_and_then pairs_in (get_member (codes "values") l.members) ≡ Some level.values.pairs = ap (option_and_then pairs_in) l.stands ∙ pairs_back l.given level.values.pairs l.values in
+    let when = when_back (get_member (codes "when") l.members) level.when l.when in
+    let values : option_and_then pairs_in (get_member (codes "values") l.members) ≡ Some level.values = ap (option_and_then pairs_in) l.stands ∙ pairs_back l.given level.values l.values in
     ap level_in l.is_object
     ∙ (ap (λ t. cond t (option_and_then (level_with (when_in (get_member (codes "when") l.members))) (option_and_then pairs_in (get_member (codes "values") l.members))) None) keys
     ∙ (ap (option_and_then (level_with (when_in (get_member (codes "when") l.members)))) values
-    ∙ ap (λ w. level_with w level.values.pairs) when))
+    ∙ ap (λ w. level_with w level.values) when))
 
 levels_are : (items : Items) (levels : List Level) → levels_in items ≡ Some levels → AreLevels levels items
 levels_are no_items levels h = let same : [] ≡ levels = cc in subst (λ ls. AreLevels ls no_items) same tt

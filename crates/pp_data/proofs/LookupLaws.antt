@@ -1,5 +1,5 @@
 -- Which levels apply, and which of them counts.
-use Rattle.std.proofs.Common.{◌≡◌, ◌≢◌, ◌↔◌, ℕ, Bool, true, false, true≢false, cond, ◌&&◌, List, [], ◌∷◌, ◌++◌, filter, Option, Some, None, Result, Ok, Err, refl, ap, sym, ◌∙◌}
+use Rattle.std.proofs.Common.{◌≡◌, ◌≢◌, ◌↔◌, ℕ, Bool, true, false, true≢false, cond, ◌&&◌, List, [], ◌∷◌, ◌++◌, filter, Option, Some, None, Result, Ok, Err, refl, ap, sym, ◌∙◌, subst}
 use Rattle.std.specs.Option.{option_or, option_and_then}
 use Rattle.std.specs.List.{list_all, AllByRecursion}
 use Rattle.pp_value.specs.declared.fault.Misfit.{Misfit}
@@ -8,7 +8,9 @@ use Rattle.pp_value.specs.declared.value.Value.TheVariants as v
 use Rattle.pp_value.specs.Table.{equal_table}
 use Rattle.pp_value.specs.Values.{Pair, value_at, passes, is_undef}
 use Rattle.pp_data.specs.declared.data.Level.{Level}
-use Rattle.pp_data.specs.Lookup.{gives_true, is_met, applies, unless_undef, value_in, first_value, lookup, IsMet, Applies, Gives, NoneGives, IsFirst}
+use Rattle.pp_data.specs.Lookup.{gives_true, is_met, applies, unless_undef, value_in, first_value, lookup, IsMet, Applies, Gives, NoneGives, IsFirst, IsProperLevel}
+use Rattle.pp_value.specs.Proper.{IsProper}
+use Rattle.std.specs.Str.{bytes_eq}
 
 -- ---- what applies
 
@@ -42,7 +44,7 @@ all_met_by facts [] h = refl
 all_met_by facts (w ∷ wants) h = ap (λ t. t && list_all (is_met facts) wants) (is_met_by facts w h.0) ∙ all_met_by facts wants h.1
 
 pub applies_where : (facts : List Pair) (level : Level) → (applies facts level ≡ true) ↔ Applies facts level
-applies_where facts level = (all_met facts level.when.pairs, all_met_by facts level.when.pairs)
+applies_where facts level = (all_met facts level.when, all_met_by facts level.when)
 
 one_unmet : (facts before behind : List Pair) (wanted : Pair) → is_met facts wanted ≡ false → list_all (is_met facts) (before ++ wanted ∷ behind) ≡ false
 one_unmet facts [] behind wanted h = ap (λ t. t && list_all (is_met facts) behind) h
@@ -52,13 +54,13 @@ one_unmet facts (w ∷ before) behind wanted h = either (is_met facts w) (one_un
     either true h = h
     either false h = refl
 
-kept_out : (facts : List Pair) (level : Level) (before behind : List Pair) (wanted : Pair) → level.when.pairs ≡ before ++ wanted ∷ behind → is_met facts wanted ≡ false → applies facts level ≡ false
+kept_out : (facts : List Pair) (level : Level) (before behind : List Pair) (wanted : Pair) → level.when ≡ before ++ wanted ∷ behind → is_met facts wanted ≡ false → applies facts level ≡ false
 kept_out facts level before behind wanted whole h = ap (list_all (is_met facts)) whole ∙ one_unmet facts before behind wanted h
 
-pub missing_out : (facts : List Pair) (level : Level) (before behind : List Pair) (wanted : Pair) → level.when.pairs ≡ before ++ wanted ∷ behind → value_at wanted.0 facts ≡ None → applies facts level ≡ false
+pub missing_out : (facts : List Pair) (level : Level) (before behind : List Pair) (wanted : Pair) → level.when ≡ before ++ wanted ∷ behind → value_at wanted.0 facts ≡ None → applies facts level ≡ false
 missing_out facts level before behind wanted whole h = kept_out facts level before behind wanted whole (ap (passes (λ x. gives_true (equal_table x wanted.1))) h)
 
-pub no_result_out : (facts : List Pair) (level : Level) (before behind : List Pair) (wanted : Pair) (x : Value) (m : Misfit) → level.when.pairs ≡ before ++ wanted ∷ behind → value_at wanted.0 facts ≡ Some x → equal_table x wanted.1 ≡ Err m → applies facts level ≡ false
+pub no_result_out : (facts : List Pair) (level : Level) (before behind : List Pair) (wanted : Pair) (x : Value) (m : Misfit) → level.when ≡ before ++ wanted ∷ behind → value_at wanted.0 facts ≡ Some x → equal_table x wanted.1 ≡ Err m → applies facts level ≡ false
 no_result_out facts level before behind wanted x m whole stands none =
     kept_out facts level before behind wanted whole (ap (passes (λ x. gives_true (equal_table x wanted.1))) stands ∙ ap gives_true none)
 
@@ -88,10 +90,10 @@ is_kept x other = at (is_undef x) refl
     at true e = absurd (other (undef_only x e))
     at false e = refl
 
-has_value : (key : List ℕ) (level : Level) (x : Value) → value_in key level ≡ Some x → (value_at key level.values.pairs ≡ Some x) × (x ≢ v.Undef)
-has_value key level x h = at (value_at key level.values.pairs) refl h
+has_value : (key : List ℕ) (level : Level) (x : Value) → value_in key level ≡ Some x → (value_at key level.values ≡ Some x) × (x ≢ v.Undef)
+has_value key level x h = at (value_at key level.values) refl h
   where
-    at : (found : Option Value) → value_at key level.values.pairs ≡ found → option_and_then unless_undef found ≡ Some x → (value_at key level.values.pairs ≡ Some x) × (x ≢ v.Undef)
+    at : (found : Option Value) → value_at key level.values ≡ found → option_and_then unless_undef found ≡ Some x → (value_at key level.values ≡ Some x) × (x ≢ v.Undef)
     at None e h = absurd (no_value x h)
     at (Some y) e h = let parts = not_undef y x h in (e ∙ ap Some parts.0, parts.1)
 
@@ -170,3 +172,49 @@ pub silent : (before behind : List Level) (level : Level) (facts : List Pair) (k
 silent [] behind level facts key h = next_level level behind facts key ∙ ap (λ t. option_or (cond t (value_in key level) None) (lookup behind facts key)) h
 silent (b ∷ before) behind level facts key h =
     next_level b (before ++ level ∷ behind) facts key ∙ (ap (option_or (given facts key b)) (silent before behind level facts key h) ∙ sym (next_level b (before ++ behind) facts key))
+
+-- ---- what is found is proper
+
+key_proper : (key : List ℕ) (pairs : List Pair) (x : Value) → AllByRecursion (λ p. IsProper p.1) pairs → value_at key pairs ≡ Some x → IsProper x
+key_proper key [] x h e = absurd (no_value x e)
+key_proper key (p ∷ pairs) x h e = at (bytes_eq p.0 key) (key_proper key pairs x h.1) e
+  where
+    same : (a b : Value) → IsProper a → ◌≡◌ {A = Option Value} (Some a) (Some b) → IsProper b
+    same a b k f = let is : a ≡ b = cc in subst IsProper is k
+
+    at : (t : Bool) → (value_at key pairs ≡ Some x → IsProper x) → cond t (Some p.1) (value_at key pairs) ≡ Some x → IsProper x
+    at true f k = same p.1 x h.0 k
+    at false f k = f k
+
+in_proper : (o : Option Value) (x : Value) → ((y : Value) → o ≡ Some y → IsProper y) → option_and_then unless_undef o ≡ Some x → IsProper x
+in_proper None x h e = absurd (no_value x e)
+in_proper (Some y) x h e = at (is_undef y) e
+  where
+    same : (a b : Value) → IsProper a → ◌≡◌ {A = Option Value} (Some a) (Some b) → IsProper b
+    same a b k f = let is : a ≡ b = cc in subst IsProper is k
+
+    at : (t : Bool) → cond t None (Some y) ≡ Some x → IsProper x
+    at true k = absurd (no_value x k)
+    at false k = same y x (h y refl) k
+
+either_proper : (o r : Option Value) (x : Value) → (o ≡ Some x → IsProper x) → (r ≡ Some x → IsProper x) → option_or o r ≡ Some x → IsProper x
+either_proper None r x f g e = g e
+either_proper (Some y) r x f g e = f e
+
+level_proper : (key : List ℕ) (level : Level) (x : Value) → IsProperLevel level → value_in key level ≡ Some x → IsProper x
+level_proper key level x h e = in_proper (value_at key level.values) x (λ y k. key_proper key level.values y h.1.1 k) e
+
+pub found_proper : (levels : List Level) (facts : List Pair) (key : List ℕ) (x : Value) → AllByRecursion IsProperLevel levels → lookup levels facts key ≡ Some x → IsProper x
+found_proper [] facts key x h e = absurd (no_value x e)
+found_proper (level ∷ levels) facts key x h e = at (applies facts level) (found_proper levels facts key x h.1) e
+  where
+    at : (t : Bool) → (first_value key (filter (applies facts) levels) ≡ Some x → IsProper x) → first_value key (cond t (level ∷ filter (applies facts) levels) (filter (applies facts) levels)) ≡ Some x → IsProper x
+    at true f k = either_proper (value_in key level) (first_value key (filter (applies facts) levels)) x (level_proper key level x h.0) f k
+    at false f k = f k
+
+all_append : (levels more : List Level) → AllByRecursion IsProperLevel levels → AllByRecursion IsProperLevel more → AllByRecursion IsProperLevel (levels ++ more)
+all_append [] more h k = k
+all_append (level ∷ levels) more h k = (h.0, all_append levels more h.1 k)
+
+pub all_pushed : (levels new : List Level) (level : Level) → new ≡ levels ++ level ∷ [] → AllByRecursion IsProperLevel levels → IsProperLevel level → AllByRecursion IsProperLevel new
+all_pushed levels new level e h k = subst (λ (ls : List Level). AllByRecursion IsProperLevel ls) (sym e) (all_append levels (level ∷ []) h (k, tt))

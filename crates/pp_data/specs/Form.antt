@@ -31,10 +31,10 @@ pub record IsLevel (level : Level) (d : Data) : Type 0 where
   pub members : Members
   pub is_object : d ≡ object members
   pub only : HasOnly IsKeyOfLevel members
-  pub when : IsWhen level.when.pairs (get_member (codes "when") members)
+  pub when : IsWhen level.when (get_member (codes "when") members)
   pub given : Data
   pub stands : get_member (codes "values") members ≡ Some given
-  pub values : ArePairs level.values.pairs given
+  pub values : ArePairs level.values given
 
 -- an array of levels, in order
 abbrev pub AreLevels : List Level → Items → Type 0

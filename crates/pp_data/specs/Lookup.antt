@@ -6,7 +6,8 @@ use Rattle.pp_value.specs.declared.fault.Misfit.{Misfit}
 use Rattle.pp_value.specs.declared.value.Value.{Value}
 use Rattle.pp_value.specs.declared.value.Value.TheVariants as v
 use Rattle.pp_value.specs.Table.{equal_table}
-use Rattle.pp_value.specs.Values.{Pair, value_at, passes, is_undef}
+use Rattle.pp_value.specs.Values.{Pair, value_at, passes, is_undef, HasDistinctKeys}
+use Rattle.pp_value.specs.Proper.{IsProper}
 use Rattle.pp_eval.specs.References.{plain_name}
 use Rattle.pp_data.specs.declared.data.Level.{Level}
 
@@ -27,7 +28,7 @@ is_met facts wanted = passes (λ x. gives_true (equal_table x wanted.1)) (value_
 
 -- each fact that the level asks for is met
 abbrev pub applies : List Pair → Level → Bool
-applies facts level = list_all (is_met facts) level.when.pairs
+applies facts level = list_all (is_met facts) level.when
 
 -- ---- the value of a key
 
@@ -36,7 +37,7 @@ unless_undef x = if is_undef x then None else Some x
 
 -- the value that a level has for the key, other than undef
 abbrev pub value_in : List ℕ → Level → Option Value
-value_in key level = option_and_then unless_undef (value_at key level.values.pairs)
+value_in key level = option_and_then unless_undef (value_at key level.values)
 
 abbrev pub first_value : List ℕ → List Level → Option Value
 first_value key [] = None
@@ -45,6 +46,14 @@ first_value key (level ∷ levels) = option_or (value_in key level) (first_value
 -- the value of the first of the levels that apply which has one
 abbrev pub lookup : List Level → List Pair → List ℕ → Option Value
 lookup levels facts key = first_value key (filter (applies facts) levels)
+
+-- ---- levels whose maps have distinct keys
+
+abbrev pub AreProper : List Pair → Type 0
+AreProper pairs = HasDistinctKeys pairs × AllByRecursion (λ p. IsProper p.1) pairs
+
+abbrev pub IsProperLevel : Level → Type 0
+IsProperLevel level = AreProper level.when × AreProper level.values
 
 -- ---- the same, as it is said of one level and those before it
 
@@ -55,12 +64,12 @@ pub record IsMet (facts : List Pair) (wanted : Pair) : Type 0 where
   pub same : equal_table value wanted.1 ≡ Ok true
 
 abbrev pub Applies : List Pair → Level → Type 0
-Applies facts level = AllByRecursion (IsMet facts) level.when.pairs
+Applies facts level = AllByRecursion (IsMet facts) level.when
 
 -- the level applies, and has this value for the key, other than undef
 pub record Gives (facts : List Pair) (key : List ℕ) (level : Level) (x : Value) : Type 0 where
   pub applies : Applies facts level
-  pub stands : value_at key level.values.pairs ≡ Some x
+  pub stands : value_at key level.values ≡ Some x
   pub other : x ≢ v.Undef
 
 -- none of the levels gives the key a value

@@ -6,8 +6,8 @@ use Rattle.serde_json.specs.Find.{get_member, as_object, as_array}
 use Rattle.pp_value.specs.Values.{Pair}
 use Rattle.pp_eval.specs.Facts.{pairs_of}
 use Rattle.pp_data.specs.declared.data.Level.{Level}
-use Rattle.pp_data.specs.declared.reading.Misread.{Misread}
-use Rattle.pp_data.specs.declared.reading.Misread.TheVariants as misread
+use Rattle.rh_base.specs.declared.misread.Misread.{Misread}
+use Rattle.rh_base.specs.declared.misread.Misread.TheVariants as misread
 
 -- What a function returned, seen by view, is what reading gives, unless memory ran out.
 abbrev pub Fails : {Y : Type 0} → Misread → Option Y → Type 0
@@ -32,7 +32,7 @@ when_in None = Some []
 when_in (Some d) = pairs_in d
 
 abbrev pub level_of : List Pair → List Pair → Level
-level_of when values = record { when = record { pairs = when }; values = record { pairs = values } }
+level_of when values = record { when = when; values = values }
 
 abbrev pub level_with : Option (List Pair) → List Pair → Option Level
 level_with when values = option_map (λ w. level_of w values) when

@@ -1,9 +1,11 @@
+//! Class data: its levels, and what they say of a parameter.
+
 ghost use Rattle.std.specs.Prelude.{◌≡◌, [], IfOk};
 ghost use Rattle.pp_eval.specs.Scoping.{pairs_in};
 ghost use Rattle.pp_data.specs.Lookup.{lookup, key_of};
 
 use crate::looking::{key_of, lookup};
-use pp_value::{Pairs, Value};
+use pp_value::{Pairs, Value, copy_pairs};
 use rh_base::{NoMemory, Seq};
 use std::alloc::Global;
 use std::marker::Model;
@@ -21,8 +23,8 @@ impl Level {
     pub fn copy(&self, alloc: Global) -> Result<Level, NoMemory>
         ensures { IfOk result (λ level. level ≡ self.now) }
     {
-        let when = self.when.copy(alloc)?;
-        let values = self.values.copy(alloc)?;
+        let when = copy_pairs(alloc, &self.when)?;
+        let values = copy_pairs(alloc, &self.values)?;
         Ok(Level { when, values })
     }
 }

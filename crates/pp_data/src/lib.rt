@@ -8,10 +8,7 @@ mod reading;
 
 pub use data::Data;
 pub use laws::{
-    facts_decide_what_applies, first_level_counts, others_are_silent, text_has_one_data,
-    unmet_facts_keep_a_level_out,
+    facts_decide_what_applies, first_level_counts, found_values_are_proper, others_are_silent,
+    text_has_one_data, unmet_facts_keep_a_level_out,
 };
 pub use reading::data_from_json;
-
-#[cfg(test)]
-mod tests;

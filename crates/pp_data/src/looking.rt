@@ -22,7 +22,7 @@ pub fn key_of(alloc: Global, class: &str, parameter: &str) -> Result<Text, NoMem
 }
 
 /// The value of a fact.
-#[tactic(auto, using(pp_eval::proofs::StartLaws::in_map))]
+#[tactic(auto, using(pp_eval::specs::Scoping::pairs_in_map))]
 fn fact<'v>(facts: &'v Value, name: &str) -> Option<&'v Value>
     ensures { option_map (λ x. x.now) result ≡ value_at name.now (pairs_in facts.now) }
 {

@@ -4,33 +4,17 @@ ghost use Rattle.std.specs.Prelude.{◌≡◌, List, IfOk, IfErr, option_map, co
 ghost use Rattle.rh_base.specs.Refused.{IfRefused, IsRefusal};
 ghost use Rattle.serde_json.specs.View.{view, items_view, members_view};
 ghost use Rattle.pp_data.specs.declared.data.Level.{Level as L};
+ghost use Rattle.std.specs.List.{AllByRecursion};
 ghost use Rattle.pp_data.specs.Form.{AreData};
+ghost use Rattle.pp_data.specs.Lookup.{AreProper, IsProperLevel};
 ghost use Rattle.pp_data.specs.Reading.{Gives, has_only, pairs_in, when_in, level_in, levels_in, data_in};
 
 use crate::data::{Data, Level};
 use pp_eval::pairs_of_json;
 use pp_value::Pairs;
-use rh_base::{Fault, NoMemory, Seq};
+use rh_base::{Fault, Misread, NoMemory, Seq};
 use serde_json::{Category, Map, Value as Json};
 use std::alloc::Global;
-
-/// Why JSON gives no levels.
-#[derive(Drop)]
-pub enum Misread {
-    /// It has another form.
-    Form,
-    Memory(NoMemory),
-}
-
-impl From<NoMemory> for Misread {
-    ghost use Rattle.pp_data.specs.declared.reading.Misread.TheVariants as misread;
-
-    ghost from_gives = { λ m e. e ≡ misread.Memory m };
-
-    fn from(m: NoMemory) -> Self {
-        Misread::Memory(m)
-    }
-}
 
 /// Whether an object has no other keys than these two, which may be one.
 fn has_only(members: &Map<String, Json>, one: &str, other: &str) -> bool
@@ -48,7 +32,8 @@ fn has_only(members: &Map<String, Json>, one: &str, other: &str) -> bool
 
 /// The pairs of an object.
 fn pairs_in(alloc: Global, json: &Json) -> Result<Pairs, Misread>
-    ensures { Gives (λ p. p.pairs) result (pairs_in (view json.now)) }
+    ensures pairs { Gives (λ p. p) result (pairs_in (view json.now)) }
+    ensures proper { IfOk result AreProper }
 {
     let members = json.as_object().ok_or(Misread::Form)?;
     Ok(pairs_of_json(alloc, members)?)
@@ -56,7 +41,8 @@ fn pairs_in(alloc: Global, json: &Json) -> Result<Pairs, Misread>
 
 /// What a level asks for: nothing, where `when` is left out.
 fn when_in(alloc: Global, json: Option<&Json>) -> Result<Pairs, Misread>
-    ensures { Gives (λ p. p.pairs) result (when_in (option_map (λ d. view d.now) json.entry)) }
+    ensures pairs { Gives (λ p. p) result (when_in (option_map (λ d. view d.now) json.entry)) }
+    ensures proper { IfOk result AreProper }
 {
     match json {
         Some(json) => pairs_in(alloc, json),
@@ -66,7 +52,8 @@ fn when_in(alloc: Global, json: Option<&Json>) -> Result<Pairs, Misread>
 
 #[tactic(auto, using(crate::proofs::FormLaws::got))]
 fn level_in(alloc: Global, json: &Json) -> Result<Level, Misread>
-    ensures { Gives (λ level. level) result (level_in (view json.now)) }
+    ensures level { Gives (λ level. level) result (level_in (view json.now)) }
+    ensures proper { IfOk result IsProperLevel }
 {
     let members = json.as_object().ok_or(Misread::Form)?;
     if !has_only(members, "when", "values") {
@@ -79,7 +66,8 @@ fn level_in(alloc: Global, json: &Json) -> Result<Level, Misread>
 }
 
 fn levels_in(alloc: Global, items: &Vec<Json>) -> Result<Seq<Level>, Misread>
-    ensures { Gives (λ levels. levels) result (levels_in (items_view items.now.items)) }
+    ensures levels { Gives (λ levels. levels) result (levels_in (items_view items.now.items)) }
+    ensures proper { IfOk result (AllByRecursion IsProperLevel) }
 {
     let mut levels = Seq::new(alloc);
     for item in items {
@@ -90,7 +78,8 @@ fn levels_in(alloc: Global, items: &Vec<Json>) -> Result<Seq<Level>, Misread>
 
 #[tactic(auto, using(crate::proofs::FormLaws::got))]
 fn data_in(alloc: Global, json: &Json) -> Result<Data, Misread>
-    ensures { Gives (λ d. d) result (data_in (view json.now)) }
+    ensures levels { Gives (λ d. d) result (data_in (view json.now)) }
+    ensures proper { IfOk result (AllByRecursion IsProperLevel) }
 {
     let members = json.as_object().ok_or(Misread::Form)?;
     if !has_only(members, "levels", "levels") {
@@ -109,6 +98,7 @@ fn data_in(alloc: Global, json: &Json) -> Result<Data, Misread>
 #[tactic(auto, using(crate::proofs::FormLaws::read_data))]
 pub fn data_from_json(alloc: Global, bytes: &[u8]) -> Result<Data, Fault>
     ensures levels { IfOk result (AreData bytes.now) }
+    ensures proper { IfOk result (AllByRecursion IsProperLevel) }
     ensures refused { IfErr result (λ e. IfRefused e (λ r. IsRefusal 64 0 (codes "data") r × ((levels : List L) → AreData bytes.now levels → ⊥))) }
 {
     let json = match Json::from_slice(alloc, bytes) {

@@ -11,8 +11,9 @@ use Rattle.pp_eval.specs.declared.scope.Sort.TheVariants as sort
 use Rattle.pp_eval.specs.declared.scopes.BindFault.{BindFault}
 use Rattle.pp_eval.specs.declared.scopes.BindFault.TheVariants as fault
 use Rattle.pp_eval.specs.ClassNames.{Named, place_among, if_class, classes_in}
-use Rattle.pp_eval.proofs.OpenLaws.{entered_open}
-use Rattle.pp_eval.specs.Scoping.{Scoped, entered, class_scope, are_open, is_class_of, class_of, class_place, with_bindings_at, BindsAt, bindings_at}
+use Rattle.pp_eval.proofs.OpenLaws.{PlaceBelow, entered_are}
+use Rattle.pp_eval.proofs.Inheritance.{parent_within}
+use Rattle.pp_eval.specs.Scoping.{Scoped, entered, class_scope, AreScopes, is_class_of, class_of, class_place, with_bindings_at, BindsAt, bindings_at}
 
 -- ---- looking up
 
@@ -79,37 +80,45 @@ same_classes (suc place) n b (s ∷ scopes) = ap (λ more. if_class n s.sort ++ 
 pub bound_classes : (place : ℕ) (old : List Scope) (name : List ℕ) (x : Value) (new : List Scope) (r : Result (Unit {0}) BindFault) → BindsAt place old name x new r → classes_in 0 new ≡ classes_in 0 old
 bound_classes place old name x new (Ok done) h = ap (classes_in 0) h.1 ∙ same_classes place 0 (bindings_at place old ++ (name, x) ∷ []) old
 bound_classes place old name x new (Err fault.Again) h = ap (classes_in 0) h.1
-bound_classes place old name x new (Err (fault.Memory m)) h = ap (classes_in 0) h
+bound_classes place old name x new (Err (fault.Memory m)) h = ap (classes_in 0) h.1
 
 -- ---- entering a scope
 
 -- what is kept of all scopes
 abbrev pub Inside : List Scope → List ℕ → List Named → Type 0
-Inside scopes opened classes = IsTrue (are_open scopes opened) × (classes ≡ classes_in 0 scopes)
+Inside scopes opened classes = AreScopes scopes opened × (classes ≡ classes_in 0 scopes)
 
 stays : (scopes new : List Scope) (opened more : List ℕ) (classes kept : List Named) → new ≡ scopes → more ≡ opened → kept ≡ classes → Inside scopes opened classes → Inside new more kept
-stays scopes new opened more classes kept e f g h = (subst (λ (o : List ℕ). IsTrue (are_open new o)) (sym f) (subst (λ (s : List Scope). IsTrue (are_open s opened)) (sym e) h.0), g ∙ h.1 ∙ ap (classes_in 0) (sym e))
+stays scopes new opened more classes kept e f g h = (subst (λ (o : List ℕ). AreScopes new o) (sym f) (subst (λ (s : List Scope). AreScopes s opened) (sym e) h.0), g ∙ (h.1 ∙ ap (classes_in 0) (sym e)))
 
-grows : (scopes new : List Scope) (s : Scope) (opened more : List ℕ) (classes kept : List Named) → new ≡ scopes ++ s ∷ [] → more ≡ opened ++ length scopes ∷ [] → kept ≡ classes ++ if_class (length scopes) s.sort → Inside scopes opened classes → Inside new more kept
-grows scopes new s opened more classes kept e f g h =
+grows : (scopes new : List Scope) (s : Scope) (opened more : List ℕ) (classes kept : List Named) → PlaceBelow (length scopes) s.parent → new ≡ scopes ++ s ∷ [] → more ≡ opened ++ length scopes ∷ [] → kept ≡ classes ++ if_class (length scopes) s.sort → Inside scopes opened classes → Inside new more kept
+grows scopes new s opened more classes kept low e f g h =
     let zero_more : 0 + length scopes ≡ length scopes = omega arith in
     let all : classes_in 0 (scopes ++ s ∷ []) ≡ classes_in 0 scopes ++ if_class (length scopes) s.sort = with_last 0 scopes s ∙ ap (λ m. classes_in 0 scopes ++ if_class m s.sort) zero_more in (
-      subst (λ (o : List ℕ). IsTrue (are_open new o)) (sym f) (subst (λ (t : List Scope). IsTrue (are_open t (opened ++ length scopes ∷ []))) (sym e) (entered_open scopes opened s h.0)),
-      g ∙ ap (λ cs. cs ++ if_class (length scopes) s.sort) h.1 ∙ sym all ∙ ap (classes_in 0) (sym e),
+      subst (λ (o : List ℕ). AreScopes new o) (sym f) (subst (λ (t : List Scope). AreScopes t (opened ++ length scopes ∷ [])) (sym e) (entered_are scopes opened s h.0 low)),
+      g ∙ (ap (λ cs. cs ++ if_class (length scopes) s.sort) h.1 ∙ (sym all ∙ ap (classes_in 0) (sym e))),
     )
 
-pub entered_inside : (scopes new : List Scope) (s : Scope) (opened more : List ℕ) (classes : List Named) (r : Result (Unit {0}) NoMemory) → if_class (length scopes) s.sort ≡ [] → Inside scopes opened classes
-    → OnOk r (new ≡ scopes ++ s ∷ []) → OnOk r (more ≡ opened ++ length scopes ∷ []) → OnErr r (new ≡ scopes) → OnErr r (more ≡ opened) → Inside new more classes
-entered_inside scopes new s opened more classes (Ok done) none h e f c d =
-    grows scopes new s opened more classes classes e f (sym (append-nil classes) ∙ ap (λ cs. classes ++ cs) (sym none)) h
-entered_inside scopes new s opened more classes (Err m) none h a b e f = stays scopes new opened more classes classes e f refl h
+none_below : (n : ℕ) (o : Option ℕ) → o ≡ None → PlaceBelow n o
+none_below n o none place h = let clash : ◌≡◌ {A = Option ℕ} None (Some place) = sym none ∙ h in cc
 
-pub class_inside : (scopes new : List Scope) (s : Scope) (name : List ℕ) (opened more : List ℕ) (classes kept : List Named) (r : Result (Unit {0}) NoMemory) → s.sort ≡ sort.Class name → Inside scopes opened classes
+pub entered_inside : (scopes new : List Scope) (s : Scope) (opened more : List ℕ) (classes : List Named) (r : Result (Unit {0}) NoMemory) → if_class (length scopes) s.sort ≡ [] → s.parent ≡ None → Inside scopes opened classes
+    → OnOk r (new ≡ scopes ++ s ∷ []) → OnOk r (more ≡ opened ++ length scopes ∷ []) → OnErr r (new ≡ scopes) → OnErr r (more ≡ opened) → Inside new more classes
+entered_inside scopes new s opened more classes (Ok done) none alone h e f c d =
+    grows scopes new s opened more classes classes (none_below (length scopes) s.parent alone) e f (sym (append-nil classes) ∙ ap (λ cs. classes ++ cs) (sym none)) h
+entered_inside scopes new s opened more classes (Err m) none alone h a b e f = stays scopes new opened more classes classes e f refl h
+
+-- the place of a parent that is kept is that of a class
+pub parent_below : (scopes : List Scope) (o : Option ℕ) (classes : List Named) (parent : Option (List ℕ)) → classes ≡ classes_in 0 scopes → o ≡ option_and_then (λ p. place_among p classes) parent → PlaceBelow (length scopes) o
+parent_below scopes o classes parent kept is place h =
+    parent_within scopes parent place (sym (parent_place scopes parent) ∙ (ap (λ cs. option_and_then (λ p. place_among p cs) parent) (sym kept) ∙ (sym is ∙ h)))
+
+pub class_inside : (scopes new : List Scope) (s : Scope) (name : List ℕ) (opened more : List ℕ) (classes kept : List Named) (r : Result (Unit {0}) NoMemory) → s.sort ≡ sort.Class name → PlaceBelow (length scopes) s.parent → Inside scopes opened classes
     → OnOk r (new ≡ scopes ++ s ∷ []) → OnOk r (more ≡ opened ++ length scopes ∷ []) → OnOk r (kept ≡ classes ++ (lowered name, length scopes) ∷ [])
     → OnErr r (new ≡ scopes) → OnErr r (more ≡ opened) → OnErr r (kept ≡ classes) → Inside new more kept
-class_inside scopes new s name opened more classes kept (Ok done) is h e f g a b c =
-    grows scopes new s opened more classes kept e f (g ∙ ap (λ (k : Sort). classes ++ if_class (length scopes) k) (sym is)) h
-class_inside scopes new s name opened more classes kept (Err m) is h a b c e f g = stays scopes new opened more classes kept e f g h
+class_inside scopes new s name opened more classes kept (Ok done) is low h e f g a b c =
+    grows scopes new s opened more classes kept low e f (g ∙ ap (λ (k : Sort). classes ++ if_class (length scopes) k) (sym is)) h
+class_inside scopes new s name opened more classes kept (Err m) is low h a b c e f g = stays scopes new opened more classes kept e f g h
 
 -- the scope of a class, behind those that are there
 pub class_entered : (scopes new : List Scope) (opened more : List ℕ) (self : Scoped) (classes : List Named) (name class : List ℕ) (parent : Option (List ℕ)) (place : Option ℕ) (bindings : List Pair) (r : Result (Unit {0}) NoMemory)

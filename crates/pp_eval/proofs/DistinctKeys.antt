@@ -1,25 +1,22 @@
 -- What is evaluated of values whose maps have distinct keys is such a value.
 use Rattle.std.proofs.Common.{◌≡◌, ℕ, ℤ, Bool, true, false, cond, List, [], ◌∷◌, map, Result, Ok, Err, Some, refl}
-use Rattle.std.specs.Prelude.{nat_lt, ◌-ℤ◌, ◌*ℤ◌, neg_ℤ}
+use Rattle.std.specs.Prelude.{◌-ℤ◌, ◌*ℤ◌, neg_ℤ}
 use Rattle.std.specs.List.{AllByRecursion}
 use Rattle.pp_syntax.specs.declared.tree.Expr.{Expr}
 use Rattle.pp_syntax.specs.declared.tree.Op.{Op}
 use Rattle.pp_syntax.specs.declared.tree.Op.TheVariants as op
-use Rattle.pp_value.specs.declared.value.Pairs.{Pairs}
 use Rattle.pp_value.specs.declared.value.Value.{Value}
 use Rattle.pp_value.specs.declared.value.Value.TheVariants as v
-use Rattle.pp_value.specs.declared.value.Value.TheBlock as block
 use Rattle.pp_value.specs.declared.fault.Misfit.{Misfit}
 use Rattle.pp_value.specs.declared.fault.Misfit.TheVariants.{Operand, Range}
-use Rattle.pp_value.specs.Values.{Pair, size_of, with_pair, HasDistinctKeys}
+use Rattle.pp_value.specs.Keys.{with_pairs}
+use Rattle.pp_value.specs.Values.{Pair, exceeds_limits, HasDistinctKeys}
 use Rattle.pp_value.specs.Proper.{IsProper}
-use Rattle.pp_value.specs.Table.{size_limit, equal_table, less_table, within_table, fits_word, number, add_table, subtract_table, multiply_table, negate_table, index_table, map_of}
-use Rattle.pp_value.proofs.ProperResults.{sum_proper, index_proper, map_proper, with_proper}
-use Rattle.pp_value.proofs.Results.{distinct_with}
+use Rattle.pp_value.specs.Table.{equal_table, less_table, within_table, fits_word, number, add_table, subtract_table, multiply_table, negate_table, index_table}
 use Rattle.pp_eval.specs.Operations.{operation, as_value, turned}
 use Rattle.pp_eval.specs.Scoping.{Scoped, find_in}
-use Rattle.pp_eval.specs.Verdicts.{Verdict, Evaluated, ◌>>=◌, too_large, limited, made, if_there}
-use Rattle.pp_eval.specs.Evaluation.{values_in, list_at, key_of, pair_in, pairs_in, with_pairs, keyed_in, map_at, titles_in, refer_to, one_or_list, refer_at, longer, joined_to, truth_at, as_truth, operated, chain_from, chain_at, prefixed, prefix_at, index_at, value_of}
+use Rattle.pp_eval.specs.Verdicts.{Verdict, Evaluated, ◌>>=◌, too_large, limited, told, made, if_there}
+use Rattle.pp_eval.specs.Evaluation.{values_in, list_at, key_of, pair_in, pairs_in, keyed_in, map_at, titles_in, refer_to, one_or_list, refer_at, longer, joined_to, truth_at, as_truth, operated, chain_from, chain_at, prefixed, prefix_at, index_at, value_of}
 use Rattle.pp_eval.proofs.EveryValue.{Each, step_each, then_each, if_each, FormsKeep, so_of_each}
 
 -- ---- values of a list and of a map
@@ -30,20 +27,17 @@ AllProper xs = AllByRecursion IsProper xs
 abbrev pub PairsProper : List Pair → Type 0
 PairsProper xs = AllByRecursion (λ p. IsProper p.1) xs
 
-pub list_proper : (xs : List Value) → AllProper xs → IsProper (v.List xs)
-unfolding block.hidden-the_row-Value-0 denote.Hole.Carrier.hidden
-list_proper [] h = tt
-list_proper (x ∷ xs) h = (h.0, list_proper xs h.1)
-
-pub map_is_proper : (p : Pairs) → HasDistinctKeys p.pairs → PairsProper p.pairs → IsProper (v.Map p)
-map_is_proper p h k = map_proper p.pairs h k
-
 abbrev ProperMap : List Pair → Type 0
 ProperMap xs = HasDistinctKeys xs × PairsProper xs
 
-with_all : (pairs more : List Pair) → ProperMap pairs → PairsProper more → ProperMap (with_pairs pairs more)
-with_all pairs [] h k = h
-with_all pairs (p ∷ more) h k = with_all (with_pair p.0 p.1 pairs) more (distinct_with p.0 p.1 pairs h.0, with_proper p.0 p.1 pairs k.0 h.1) k.1
+-- what is known of values
+pub record Known : Type 0 where
+  pub sums : (a b x : Value) → IsProper a → IsProper b → add_table a b ≡ Ok x → IsProper x
+  pub members : (a key x : Value) → IsProper a → index_table a key ≡ Ok x → IsProper x
+  pub lists : (items : List Value) → AllByRecursion IsProper items → IsProper (v.List items)
+  pub maps : (pairs : List Pair) → HasDistinctKeys pairs → AllByRecursion (λ p. IsProper p.1) pairs → IsProper (v.Map pairs)
+  pub distinct : (pairs more : List Pair) → HasDistinctKeys pairs → HasDistinctKeys (with_pairs pairs more)
+  pub proper : (pairs more : List Pair) → AllByRecursion (λ p. IsProper p.1) pairs → AllByRecursion (λ p. IsProper p.1) more → AllByRecursion (λ p. IsProper p.1) (with_pairs pairs more)
 
 -- ---- what is made
 
@@ -52,7 +46,7 @@ by_size true at x h = tt
 by_size false at x h = h
 
 limited_proper : (at : ℕ) (x : Value) → IsProper x → Each IsProper (limited at x)
-limited_proper at x h = by_size (nat_lt size_limit (size_of x)) at x h
+limited_proper at x h = by_size (exceeds_limits x) at x h
 
 abbrev Gives : Result Value Misfit → Type 0
 Gives (Ok x) = IsProper x
@@ -94,132 +88,138 @@ negate_gives : (a : Value) → Gives (negate_table a)
 negate_gives (v.Int n) = number_gives (neg_ℤ n)
 negate_gives _ = tt
 
--- ---- operators
+told_proper : (at : ℕ) (t : Result Value Misfit) → Gives t → Each IsProper (told at t)
+told_proper at (Ok x) h = h
+told_proper at (Err Operand) h = tt
+told_proper at (Err Range) h = tt
 
-operation_gives : (o : Op) (a b : Value) → IsProper a → IsProper b → Gives (operation o a b)
-operation_gives op.Less a b h k = truth_gives (less_table a b)
-operation_gives op.Greater a b h k = truth_gives (less_table b a)
-operation_gives op.AtMost a b h k = turned_gives (less_table b a)
-operation_gives op.AtLeast a b h k = turned_gives (less_table a b)
-operation_gives op.Same a b h k = truth_gives (equal_table a b)
-operation_gives op.NotSame a b h k = turned_gives (equal_table a b)
-operation_gives op.Plus a b h k = gives_by (add_table a b) (λ x e. sum_proper a b x h k e)
-operation_gives op.Minus a b h k = subtract_gives a b
-operation_gives op.Times a b h k = multiply_gives a b
-operation_gives op.In a b h k = truth_gives (within_table a b)
-operation_gives op.Or a b h k = tt
-operation_gives op.And a b h k = tt
-operation_gives op.Not a b h k = tt
+module _ (known : Known) where
+  -- ---- operators
 
-truth_proper : (at : ℕ) (r : Verdict) → Each IsProper (as_truth at r)
-truth_proper at r = step_each IsProper r _ (λ x. step_each IsProper (truth_at at x) _ (λ b. tt))
+  operation_gives : (o : Op) (a b : Value) → IsProper a → IsProper b → Gives (operation o a b)
+  operation_gives op.Less a b h k = truth_gives (less_table a b)
+  operation_gives op.Greater a b h k = truth_gives (less_table b a)
+  operation_gives op.AtMost a b h k = turned_gives (less_table b a)
+  operation_gives op.AtLeast a b h k = turned_gives (less_table a b)
+  operation_gives op.Same a b h k = truth_gives (equal_table a b)
+  operation_gives op.NotSame a b h k = turned_gives (equal_table a b)
+  operation_gives op.Plus a b h k = gives_by (add_table a b) (λ x e. known.sums a b x h k e)
+  operation_gives op.Minus a b h k = subtract_gives a b
+  operation_gives op.Times a b h k = multiply_gives a b
+  operation_gives op.In a b h k = truth_gives (within_table a b)
+  operation_gives op.Or a b h k = tt
+  operation_gives op.And a b h k = tt
+  operation_gives op.Not a b h k = tt
 
-by_table : (at : ℕ) (o : Op) (x : Value) (r : Verdict) → IsProper x → Each IsProper r → Each IsProper (r >>= λ y. made at (operation o x y))
-by_table at o x r h k = then_each IsProper IsProper r _ k (λ y p. made_proper at (operation o x y) (operation_gives o x y h p))
+  truth_proper : (at : ℕ) (r : Verdict) → Each IsProper (as_truth at r)
+  truth_proper at r = step_each IsProper r _ (λ x. step_each IsProper (truth_at at x) _ (λ b. tt))
 
-operated_proper : (at : ℕ) (o : Op) (x : Value) (r : Verdict) → IsProper x → Each IsProper r → Each IsProper (operated at o x r)
-operated_proper at op.And x r h k = step_each IsProper (truth_at at x) _ (λ b. if_each IsProper b (as_truth at r) (Ok (v.Bool false)) (truth_proper at r) tt)
-operated_proper at op.Or x r h k = step_each IsProper (truth_at at x) _ (λ b. if_each IsProper b (Ok (v.Bool true)) (as_truth at r) tt (truth_proper at r))
-operated_proper at op.Less x r h k = by_table at op.Less x r h k
-operated_proper at op.Greater x r h k = by_table at op.Greater x r h k
-operated_proper at op.AtMost x r h k = by_table at op.AtMost x r h k
-operated_proper at op.AtLeast x r h k = by_table at op.AtLeast x r h k
-operated_proper at op.Same x r h k = by_table at op.Same x r h k
-operated_proper at op.NotSame x r h k = by_table at op.NotSame x r h k
-operated_proper at op.Plus x r h k = by_table at op.Plus x r h k
-operated_proper at op.Minus x r h k = by_table at op.Minus x r h k
-operated_proper at op.Times x r h k = by_table at op.Times x r h k
-operated_proper at op.In x r h k = by_table at op.In x r h k
-operated_proper at op.Not x r h k = by_table at op.Not x r h k
+  by_table : (at : ℕ) (o : Op) (x : Value) (r : Verdict) → IsProper x → Each IsProper r → Each IsProper (r >>= λ y. made at (operation o x y))
+  by_table at o x r h k = then_each IsProper IsProper r _ k (λ y p. made_proper at (operation o x y) (operation_gives o x y h p))
 
-from_proper : (at : ℕ) (x : Value) (more : List (Op × Evaluated)) → IsProper x → AllByRecursion (λ o. Each IsProper o.1.verdict) more → Each IsProper (chain_from at x more)
-from_proper at x [] h k = h
-from_proper at x (o ∷ more) h k =
-    then_each IsProper IsProper (operated at o.0 x o.1.verdict) _ (operated_proper at o.0 x o.1.verdict h k.0) (λ y p. from_proper at y more p k.1)
+  operated_proper : (at : ℕ) (o : Op) (x : Value) (r : Verdict) → IsProper x → Each IsProper r → Each IsProper (operated at o x r)
+  operated_proper at op.And x r h k = step_each IsProper (truth_at at x) _ (λ b. if_each IsProper b (as_truth at r) (Ok (v.Bool false)) (truth_proper at r) tt)
+  operated_proper at op.Or x r h k = step_each IsProper (truth_at at x) _ (λ b. if_each IsProper b (Ok (v.Bool true)) (as_truth at r) tt (truth_proper at r))
+  operated_proper at op.Less x r h k = by_table at op.Less x r h k
+  operated_proper at op.Greater x r h k = by_table at op.Greater x r h k
+  operated_proper at op.AtMost x r h k = by_table at op.AtMost x r h k
+  operated_proper at op.AtLeast x r h k = by_table at op.AtLeast x r h k
+  operated_proper at op.Same x r h k = by_table at op.Same x r h k
+  operated_proper at op.NotSame x r h k = by_table at op.NotSame x r h k
+  operated_proper at op.Plus x r h k = by_table at op.Plus x r h k
+  operated_proper at op.Minus x r h k = by_table at op.Minus x r h k
+  operated_proper at op.Times x r h k = by_table at op.Times x r h k
+  operated_proper at op.In x r h k = by_table at op.In x r h k
+  operated_proper at op.Not x r h k = by_table at op.Not x r h k
 
-chain_proper : (at : ℕ) (first : Evaluated) (more : List (Op × Evaluated)) → Each IsProper first.verdict → AllByRecursion (λ o. Each IsProper o.1.verdict) more → Each IsProper (chain_at at first more)
-chain_proper at first more h k = then_each IsProper IsProper first.verdict _ h (λ x p. from_proper at x more p k)
+  from_proper : (at : ℕ) (x : Value) (more : List (Op × Evaluated)) → IsProper x → AllByRecursion (λ o. Each IsProper o.1.verdict) more → Each IsProper (chain_from at x more)
+  from_proper at x [] h k = h
+  from_proper at x (o ∷ more) h k =
+      then_each IsProper IsProper (operated at o.0 x o.1.verdict) _ (operated_proper at o.0 x o.1.verdict h k.0) (λ y p. from_proper at y more p k.1)
 
-prefixed_proper : (at : ℕ) (o : Op) (x : Value) → Each IsProper (prefixed at o x)
-prefixed_proper at op.Not x = step_each IsProper (truth_at at x) _ (λ b. tt)
-prefixed_proper at op.Minus x = made_proper at (negate_table x) (negate_gives x)
-prefixed_proper at op.And x = tt
-prefixed_proper at op.Or x = tt
-prefixed_proper at op.Less x = tt
-prefixed_proper at op.Greater x = tt
-prefixed_proper at op.AtMost x = tt
-prefixed_proper at op.AtLeast x = tt
-prefixed_proper at op.Same x = tt
-prefixed_proper at op.NotSame x = tt
-prefixed_proper at op.Plus x = tt
-prefixed_proper at op.Times x = tt
-prefixed_proper at op.In x = tt
+  chain_proper : (at : ℕ) (first : Evaluated) (more : List (Op × Evaluated)) → Each IsProper first.verdict → AllByRecursion (λ o. Each IsProper o.1.verdict) more → Each IsProper (chain_at at first more)
+  chain_proper at first more h k = then_each IsProper IsProper first.verdict _ h (λ x p. from_proper at x more p k)
 
-prefix_proper : (at : ℕ) (ops : List Op) (r : Verdict) → Each IsProper r → Each IsProper (prefix_at at ops r)
-prefix_proper at [] r h = h
-prefix_proper at (o ∷ ops) r h = step_each IsProper (prefix_at at ops r) _ (λ x. prefixed_proper at o x)
+  prefixed_proper : (at : ℕ) (o : Op) (x : Value) → Each IsProper (prefixed at o x)
+  prefixed_proper at op.Not x = step_each IsProper (truth_at at x) _ (λ b. tt)
+  prefixed_proper at op.Minus x = made_proper at (negate_table x) (negate_gives x)
+  prefixed_proper at op.And x = tt
+  prefixed_proper at op.Or x = tt
+  prefixed_proper at op.Less x = tt
+  prefixed_proper at op.Greater x = tt
+  prefixed_proper at op.AtMost x = tt
+  prefixed_proper at op.AtLeast x = tt
+  prefixed_proper at op.Same x = tt
+  prefixed_proper at op.NotSame x = tt
+  prefixed_proper at op.Plus x = tt
+  prefixed_proper at op.Times x = tt
+  prefixed_proper at op.In x = tt
 
-at_proper : (at : ℕ) (base key : Evaluated) → Each IsProper base.verdict → Each IsProper (index_at at base key)
-at_proper at base key h =
-    then_each IsProper IsProper base.verdict _ h (λ x p. step_each IsProper key.verdict _ (λ k. made_proper at (index_table x k) (gives_by (index_table x k) (λ y e. index_proper x k y p e))))
+  prefix_proper : (at : ℕ) (ops : List Op) (r : Verdict) → Each IsProper r → Each IsProper (prefix_at at ops r)
+  prefix_proper at [] r h = h
+  prefix_proper at (o ∷ ops) r h = step_each IsProper (prefix_at at ops r) _ (λ x. prefixed_proper at o x)
 
--- ---- lists, maps, references and texts
+  at_proper : (at : ℕ) (base key : Evaluated) → Each IsProper base.verdict → Each IsProper (index_at at base key)
+  at_proper at base key h =
+      then_each IsProper IsProper base.verdict _ h (λ x p. step_each IsProper key.verdict _ (λ k. told_proper at (index_table x k) (gives_by (index_table x k) (λ y e. known.members x k y p e))))
 
-values_proper : (members : List Evaluated) → AllByRecursion (λ m. Each IsProper m.verdict) members → Each AllProper (values_in members)
-values_proper [] h = tt
-values_proper (m ∷ members) h =
-    then_each IsProper AllProper m.verdict _ h.0 (λ x p. then_each AllProper AllProper (values_in members) _ (values_proper members h.1) (λ xs ps. (p, ps)))
+  -- ---- lists, maps, references and texts
 
-of_list : (at : ℕ) (members : List Evaluated) → AllByRecursion (λ m. Each IsProper m.verdict) members → Each IsProper (list_at at members)
-of_list at members h = then_each AllProper IsProper (values_in members) _ (values_proper members h) (λ xs ps. limited_proper at (v.List xs) (list_proper xs ps))
+  values_proper : (members : List Evaluated) → AllByRecursion (λ m. Each IsProper m.verdict) members → Each AllProper (values_in members)
+  values_proper [] h = tt
+  values_proper (m ∷ members) h =
+      then_each IsProper AllProper m.verdict _ h.0 (λ x p. then_each AllProper AllProper (values_in members) _ (values_proper members h.1) (λ xs ps. (p, ps)))
 
-pair_proper : (left right : Evaluated) → Each IsProper right.verdict → Each (λ (p : Pair). IsProper p.1) (pair_in left right)
-pair_proper left right h =
-    step_each (λ (p : Pair). IsProper p.1) left.verdict _ (λ k. step_each (λ (p : Pair). IsProper p.1) (if_there left.at (key_of k)) _ (λ key. then_each IsProper (λ (p : Pair). IsProper p.1) right.verdict _ h (λ x p. p)))
+  of_list : (at : ℕ) (members : List Evaluated) → AllByRecursion (λ m. Each IsProper m.verdict) members → Each IsProper (list_at at members)
+  of_list at members h = then_each AllProper IsProper (values_in members) _ (values_proper members h) (λ xs ps. limited_proper at (v.List xs) (known.lists xs ps))
 
-pairs_proper : (members : List (Evaluated × Evaluated)) → AllByRecursion (λ m. Each IsProper m.1.verdict) members → Each PairsProper (pairs_in members)
-pairs_proper [] h = tt
-pairs_proper (m ∷ members) h =
-    then_each (λ (p : Pair). IsProper p.1) PairsProper (pair_in m.0 m.1) _ (pair_proper m.0 m.1 h.0) (λ x p. then_each PairsProper PairsProper (pairs_in members) _ (pairs_proper members h.1) (λ xs ps. (p, ps)))
+  pair_proper : (left right : Evaluated) → Each IsProper right.verdict → Each (λ (p : Pair). IsProper p.1) (pair_in left right)
+  pair_proper left right h =
+      step_each (λ (p : Pair). IsProper p.1) left.verdict _ (λ k. step_each (λ (p : Pair). IsProper p.1) (if_there left.at (key_of k)) _ (λ key. then_each IsProper (λ (p : Pair). IsProper p.1) right.verdict _ h (λ x p. p)))
 
-of_map : (at : ℕ) (members : List (Evaluated × Evaluated)) → AllByRecursion (λ m. Each IsProper m.1.verdict) members → Each IsProper (map_at at members)
-of_map at members h =
-    let keyed : Each ProperMap (keyed_in members) = then_each PairsProper ProperMap (pairs_in members) _ (pairs_proper members h) (λ xs ps. with_all [] xs (tt, tt) ps) in
-    then_each ProperMap IsProper (keyed_in members) _ keyed (λ xs ps. limited_proper at (map_of xs) (map_proper xs ps.0 ps.1))
+  pairs_proper : (members : List (Evaluated × Evaluated)) → AllByRecursion (λ m. Each IsProper m.1.verdict) members → Each PairsProper (pairs_in members)
+  pairs_proper [] h = tt
+  pairs_proper (m ∷ members) h =
+      then_each (λ (p : Pair). IsProper p.1) PairsProper (pair_in m.0 m.1) _ (pair_proper m.0 m.1 h.0) (λ x p. then_each PairsProper PairsProper (pairs_in members) _ (pairs_proper members h.1) (λ xs ps. (p, ps)))
 
-refers_proper : (kind : List ℕ) (titles : List (List ℕ)) → AllProper (map (refer_to kind) titles)
-refers_proper kind [] = tt
-refers_proper kind (t ∷ titles) = (tt, refers_proper kind titles)
+  of_map : (at : ℕ) (members : List (Evaluated × Evaluated)) → AllByRecursion (λ m. Each IsProper m.1.verdict) members → Each IsProper (map_at at members)
+  of_map at members h =
+      let keyed : Each ProperMap (keyed_in members) = then_each PairsProper ProperMap (pairs_in members) _ (pairs_proper members h) (λ xs ps. (known.distinct [] xs tt, known.proper [] xs tt ps)) in
+      then_each ProperMap IsProper (keyed_in members) _ keyed (λ xs ps. limited_proper at (v.Map xs) (known.maps xs ps.0 ps.1))
 
-one_proper : (xs : List Value) → AllProper xs → IsProper (one_or_list xs)
-one_proper [] h = list_proper [] h
-one_proper (x ∷ []) h = h.0
-one_proper (x ∷ y ∷ more) h = list_proper (x ∷ y ∷ more) h
+  refers_proper : (kind : List ℕ) (titles : List (List ℕ)) → AllProper (map (refer_to kind) titles)
+  refers_proper kind [] = tt
+  refers_proper kind (t ∷ titles) = (tt, refers_proper kind titles)
 
-of_refer : (at : ℕ) (kind : List ℕ) (titles : List Evaluated) → Each IsProper (refer_at at kind titles)
-of_refer at kind titles =
-    then_each AllProper IsProper _ _ (step_each AllProper (titles_in titles) _ (λ found. refers_proper kind found)) (λ xs ps. limited_proper at (one_or_list xs) (one_proper xs ps))
+  one_proper : (xs : List Value) → AllProper xs → IsProper (one_or_list xs)
+  one_proper [] h = known.lists [] h
+  one_proper (x ∷ []) h = h.0
+  one_proper (x ∷ y ∷ more) h = known.lists (x ∷ y ∷ more) h
 
-joined_proper : (at : ℕ) (text : List ℕ) (members : List Evaluated) → Each IsProper (joined_to at text members)
-joined_proper at text [] = tt
-joined_proper at text (m ∷ members) = step_each IsProper m.verdict _ (λ x. step_each IsProper (longer at text m.at x) _ (λ new. joined_proper at new members))
+  of_refer : (at : ℕ) (kind : List ℕ) (titles : List Evaluated) → Each IsProper (refer_at at kind titles)
+  of_refer at kind titles =
+      then_each AllProper IsProper _ _ (step_each AllProper (titles_in titles) _ (λ found. refers_proper kind found)) (λ xs ps. limited_proper at (one_or_list xs) (one_proper xs ps))
 
--- ---- every expression
+  joined_proper : (at : ℕ) (text : List ℕ) (members : List Evaluated) → Each IsProper (joined_to at text members)
+  joined_proper at text [] = tt
+  joined_proper at text (m ∷ members) = step_each IsProper m.verdict _ (λ x. step_each IsProper (longer at text m.at x) _ (λ new. joined_proper at new members))
 
-forms_keep : FormsKeep IsProper
-forms_keep = record {
-  int = λ at n. limited_proper at (v.Int n) tt;
-  str = λ at text. limited_proper at (v.Str text) tt;
-  bool = λ at b. limited_proper at (v.Bool b) tt;
-  undef = λ at. limited_proper at v.Undef tt;
-  list = of_list;
-  pairs = of_map;
-  refer = of_refer;
-  join = λ at members. joined_proper at [] members;
-  chain = chain_proper;
-  prefix = prefix_proper;
-  index = at_proper;
-}
+  -- ---- every expression
 
-pub stays_proper : (s : Scoped) → ((name : List ℕ) (x : Value) → find_in s name ≡ Some x → IsProper x) → (e : Expr) (x : Value) → value_of s e ≡ Ok x → IsProper x
-stays_proper s bound e x h = so_of_each IsProper forms_keep s bound e x h
+  forms_keep : FormsKeep IsProper
+  forms_keep = record {
+    int = λ at n. limited_proper at (v.Int n) tt;
+    str = λ at text. limited_proper at (v.Str text) tt;
+    bool = λ at b. limited_proper at (v.Bool b) tt;
+    undef = λ at. limited_proper at v.Undef tt;
+    list = of_list;
+    pairs = of_map;
+    refer = of_refer;
+    join = λ at members. joined_proper at [] members;
+    chain = chain_proper;
+    prefix = prefix_proper;
+    index = at_proper;
+  }
+
+  pub stays_proper : (s : Scoped) → ((name : List ℕ) (x : Value) → find_in s name ≡ Some x → IsProper x) → (e : Expr) (x : Value) → value_of s e ≡ Ok x → IsProper x
+  stays_proper s bound e x h = so_of_each IsProper forms_keep s bound e x h

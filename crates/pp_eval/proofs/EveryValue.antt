@@ -11,6 +11,7 @@ use Rattle.pp_value.specs.declared.value.Value.{Value}
 use Rattle.pp_value.specs.declared.value.Value.TheVariants as v
 use Rattle.pp_eval.specs.Scoping.{Scoped, find_in}
 use Rattle.pp_eval.proofs.Forms.{rolled}
+use Rattle.pp_eval.specs.declared.blame.Blame.TheVariants as blame
 use Rattle.pp_eval.specs.Verdicts.{Verdict, Evaluated, ◌>>=◌, limited}
 use Rattle.pp_eval.specs.Evaluation.{bound_to, list_at, map_at, refer_at, is_equal, joined_to, chain_at, prefix_at, index_at, first_equal, default_in, chosen, select_at, form_at, value_in, value_of, evaluated, pair_by, operand_by}
 
@@ -50,7 +51,7 @@ tested P (Err r) e rest h k = tt
 
 first_each : (P : Value → Type 0) (at : ℕ) (x : Value) (choices : List (Option Evaluated × Evaluated)) → AreEach P choices → Each (IfEach P) (first_equal at x choices)
 first_each P at x [] h = tt
-first_each P at x (c ∷ choices) h = tested P (is_equal at x c.0) c.1 (first_equal at x choices) h.0 (first_each P at x choices h.1)
+first_each P at x (c ∷ choices) h = tested P (is_equal (blame.Selector at) x c.0) c.1 (first_equal at x choices) h.0 (first_each P at x choices h.1)
 
 default_each : (P : Value → Type 0) (choices : List (Option Evaluated × Evaluated)) → AreEach P choices → IfEach P (default_in choices)
 default_each P [] h = tt
@@ -135,7 +136,7 @@ module _ (P : Value → Type 0) (keep : FormsKeep P) (s : Scoped) (bound : (name
   layer_each (plain.Join members) at = keep.join at (map (evaluated s) (map inner members))
   layer_each (plain.Chain first more) at = keep.chain at (evaluated s first.0) (map (operand_by (evaluated s)) (map (operand_by inner) more)) first.1 (operands_each more)
   layer_each (plain.Prefix ops x) at = keep.prefix at ops (value_of s x.0) x.1
-  layer_each (plain.At base key) at = keep.index at (evaluated s base.0) (evaluated s key.0) base.1
+  layer_each (plain.Index base key) at = keep.index at (evaluated s base.0) (evaluated s key.0) base.1
   layer_each (plain.Select control choices) at = select_each P at (evaluated s control.0) (map (former-Form-Select-1-at-3.map Expr Evaluated (evaluated s)) (map (former-Form-Select-1-at-3.map KnownExpr Expr inner) choices)) (choices_each choices)
 
   form_each : (f : Form) → FormEach f

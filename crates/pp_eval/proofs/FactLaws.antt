@@ -1,5 +1,5 @@
 -- Facts of arrays and objects.
-use Rattle.std.proofs.Common.{◌≡◌, ℕ, Bool, true, false, cond, List, [], ◌∷◌, ◌++◌, Some, None, Less, is_eq, refl, ap, sym, ◌∙◌, subst, append-nil, Vec, BTreeMap, String, Global, string_bytes, string_cmp, bytes_eq}
+use Rattle.std.proofs.Common.{◌≡◌, ℕ, Bool, true, false, cond, List, [], ◌∷◌, ◌++◌, Some, None, Result, Ok, Err, OnOk, Less, is_eq, refl, ap, sym, ◌∙◌, subst, append-nil, Vec, BTreeMap, String, Global, string_bytes, string_cmp, bytes_eq}
 use Rattle.std.specs.List.{AllByRecursion}
 use Rattle.std.specs.List.Sorted.{IsStrictlySortedBy}
 use Rattle.std.specs.Map.{keys_of}
@@ -9,13 +9,17 @@ use Rattle.serde_json.specs.View.{view, items_view, members_view}
 use Rattle.serde_json.specs.declared.value.Value as json
 use Rattle.serde_json.proofs.Views.{Entry, view-Array, view-Object}
 use Rattle.pp_value.specs.declared.value.Value.TheVariants as v
-use Rattle.pp_value.specs.Values.{Pair, value_at, HasDistinctKeys}
+use Rattle.pp_value.specs.Keys.{with_pairs}
+use Rattle.pp_value.specs.Values.{Pair, value_at, with_pair, HasDistinctKeys}
+use Rattle.pp_value.specs.Proper.{IsProper}
+use Rattle.pp_value.specs.declared.value.Value.{Value}
+use Rattle.rh_base.specs.declared.text.NoMemory.{NoMemory}
 use Rattle.pp_eval.specs.Facts.{fact_of, facts_of, pairs_of}
 
 pub of_array : (items : Vec json.Value Global) → fact_of (view (json.Array items)) ≡ v.List (facts_of (items_view items.items))
 of_array items = ap fact_of (view-Array items)
 
-pub of_object : (members : BTreeMap (String Global) json.Value) → fact_of (view (json.Object members)) ≡ v.Map (record { pairs = pairs_of (members_view members.entries) })
+pub of_object : (members : BTreeMap (String Global) json.Value) → fact_of (view (json.Object members)) ≡ v.Map (pairs_of (members_view members.entries))
 of_object members = ap fact_of (view-Object members)
 
 -- no later key is an earlier one
@@ -35,7 +39,14 @@ unfolding IsStrictlySortedBy
 distinct [] h = tt
 distinct (e ∷ es) h = (none_after e.0 es h.0, distinct es h.1)
 
-pub read_distinct : (xs : List Pair) (left : List Entry) (es : List Entry) → left ≡ [] → xs ++ pairs_of (members_view left) ≡ pairs_of (members_view es) → IsStrictlySortedBy string_cmp (keys_of es) → HasDistinctKeys xs
-read_distinct xs left es ended same ordered =
-    let all : xs ≡ pairs_of (members_view es) = sym (append-nil xs) ∙ ((λ i. xs ++ pairs_of (members_view (sym ended i))) ∙ same) in
-    subst HasDistinctKeys (sym all) (distinct es ordered)
+-- the pairs that were put are those of the object
+pub read_all : (xs : List Pair) (left es : List Entry) → ((pairs : List Pair) → HasDistinctKeys pairs → with_pairs [] pairs ≡ pairs) → left ≡ [] → with_pairs xs (pairs_of (members_view left)) ≡ with_pairs [] (pairs_of (members_view es))
+    → IsStrictlySortedBy string_cmp (keys_of es) → xs ≡ pairs_of (members_view es)
+read_all xs left es kept ended same ordered =
+    (λ i. with_pairs xs (pairs_of (members_view (sym ended i)))) ∙ (same ∙ kept (pairs_of (members_view es)) (distinct es ordered))
+
+-- one more pair whose value is proper
+pub put_proper : ((pairs more : List Pair) → AllByRecursion (λ p. IsProper p.1) pairs → AllByRecursion (λ p. IsProper p.1) more → AllByRecursion (λ p. IsProper p.1) (with_pairs pairs more))
+    → (old new : List Pair) (name : List ℕ) (x : Value) (r : Result (Unit {0}) NoMemory) → IsProper x → OnOk r (new ≡ with_pair name x old) → OnOk r (AllByRecursion (λ p. IsProper p.1) old → AllByRecursion (λ p. IsProper p.1) new)
+put_proper law old new name x (Ok done) h e = λ before. subst (λ (ps : List Pair). AllByRecursion (λ p. IsProper p.1) ps) (sym e) (law old ((name, x) ∷ []) before (h, tt))
+put_proper law old new name x (Err m) h e = tt

@@ -6,7 +6,7 @@ use Rattle.pp_syntax.specs.declared.tree.Expr.{Expr, fold-Expr, fold_out-Expr}
 use Rattle.pp_syntax.specs.declared.tree.Form.{Form, Form-F, fold-roll-Form, roll-Form, map-Form}
 use Rattle.pp_syntax.specs.declared.tree.Form.TheOpen as plain
 use Rattle.pp_syntax.specs.declared.tree.Form.TheVariants as form
-use Rattle.pp_syntax.specs.declared.tree.Form.TheVariants.{rolls-Int, rolls-Str, rolls-Var, rolls-Bool, rolls-Undef, rolls-List, rolls-Map, rolls-Refer, rolls-Join, rolls-Chain, rolls-Prefix, rolls-At, rolls-Select}
+use Rattle.pp_syntax.specs.declared.tree.Form.TheVariants.{rolls-Int, rolls-Str, rolls-Var, rolls-Bool, rolls-Undef, rolls-List, rolls-Map, rolls-Refer, rolls-Join, rolls-Chain, rolls-Prefix, rolls-Index, rolls-Select}
 use Rattle.pp_syntax.specs.declared.tree.Form.TheShapes.{former-Form-Select-1-at-3}
 use Rattle.pp_syntax.specs.declared.tree.Op.{Op}
 use Rattle.pp_value.specs.declared.value.Value.TheVariants as v
@@ -70,8 +70,8 @@ value_chain s first more at = of s (form.Chain first more) (plain.Chain first mo
 pub value_prefix : (s : Scoped) (ops : List Op) (x : Expr) (at : ℕ) → value_in s (form.Prefix ops x) at ≡ prefix_at at ops (value_of s x)
 value_prefix s ops x at = of s (form.Prefix ops x) (plain.Prefix ops x) at (rolls-Prefix ops x)
 
-pub value_at : (s : Scoped) (base key : Expr) (at : ℕ) → value_in s (form.At base key) at ≡ index_at at (evaluated s base) (evaluated s key)
-value_at s base key at = of s (form.At base key) (plain.At base key) at (rolls-At base key)
+pub value_at : (s : Scoped) (base key : Expr) (at : ℕ) → value_in s (form.Index base key) at ≡ index_at at (evaluated s base) (evaluated s key)
+value_at s base key at = of s (form.Index base key) (plain.Index base key) at (rolls-Index base key)
 
 pub value_select : (s : Scoped) (control : Expr) (choices : List (Option Expr × Expr)) (at : ℕ) → value_in s (form.Select control choices) at ≡ select_at at (evaluated s control) (map (choice_by (evaluated s)) choices)
 value_select s control choices at = of s (form.Select control choices) (plain.Select control choices) at (rolls-Select control choices)
@@ -85,10 +85,9 @@ chain_is s e first x more given is x_is same = ap (λ (f : Form). value_in s f e
     ∙ ap (λ (z : Expr). value_of s z >>= λ y. chain_from e.at y (map (operand_by (evaluated s)) more)) (sym x_is)
     ∙ ap (λ (os : List (Op × Expr)). value_of s x >>= λ y. chain_from e.at y (map (operand_by (evaluated s)) os)) (sym same)
 
-pub at_is : (s : Scoped) (e base key x k : Expr) → e.form ≡ form.At base key → x ≡ base → k ≡ key → value_of s e ≡ (value_of s x >>= λ y. indexed e.at y (value_of s k))
-at_is s e base key x k is x_is k_is = ap (λ (f : Form). value_in s f e.at) is ∙ value_at s base key e.at
-    ∙ ap (λ (z : Expr). value_of s z >>= λ y. indexed e.at y (value_of s key)) (sym x_is)
-    ∙ ap (λ (z : Expr). value_of s x >>= λ y. indexed e.at y (value_of s z)) (sym k_is)
+pub index_is : (s : Scoped) (e base key x k : Expr) → e.form ≡ form.Index base key → x ≡ base → k ≡ key → value_of s e ≡ index_at e.at (evaluated s x) (evaluated s k)
+index_is s e base key x k is x_is k_is = ap (λ (f : Form). value_in s f e.at) is ∙ (value_at s base key e.at
+    ∙ (λ i. index_at e.at (evaluated s (sym x_is i)) (evaluated s (sym k_is i))))
 
 pub select_is : (s : Scoped) (e control x : Expr) (choices given : List (Option Expr × Expr)) → e.form ≡ form.Select control choices → x ≡ control → given ≡ choices
     → value_of s e ≡ (value_of s x >>= λ y. selected e.at y (map (choice_by (evaluated s)) given))

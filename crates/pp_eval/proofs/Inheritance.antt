@@ -28,7 +28,7 @@ enough zero m scopes name place before h k = absurd (omega arith)
 enough (suc n) zero scopes name place before h k = absurd (omega arith)
 enough (suc n) (suc m) scopes name place before h k = enough_at n m scopes name place (slice_get scopes place) refl before h k (λ p low also. enough n m scopes name p before low also)
 
-last_or_not : (scopes : List Scope) (x : Scope) (place : ℕ) (s : Scope) → slice_get (scopes ++ x ∷ []) place ≡ Some s → (slice_get scopes place ≡ Some s) ⊎ ((place ≡ length scopes) × (x ≡ s))
+pub last_or_not : (scopes : List Scope) (x : Scope) (place : ℕ) (s : Scope) → slice_get (scopes ++ x ∷ []) place ≡ Some s → (slice_get scopes place ≡ Some s) ⊎ ((place ≡ length scopes) × (x ≡ s))
 last_or_not [] x zero s h = let same : x ≡ s = cc in inr (refl, same)
 last_or_not [] x (suc place) s h = cc
 last_or_not (p ∷ scopes) x zero s h = inl h
@@ -46,7 +46,7 @@ place_within : (n : ℕ) (scopes : List Scope) (name : List ℕ) (place : ℕ) �
 place_within n [] name place h = cc
 place_within n (c ∷ scopes) name place h = place_head n scopes name place (is_class_of name c.sort) (place_within (n + 1) scopes name place) h
 
-parent_within : (scopes : List Scope) (o : Option (List ℕ)) (parent : ℕ) → option_and_then (class_place 0 scopes) o ≡ Some parent → parent < length scopes
+pub parent_within : (scopes : List Scope) (o : Option (List ℕ)) (parent : ℕ) → option_and_then (class_place 0 scopes) o ≡ Some parent → parent < length scopes
 parent_within scopes None parent h = cc
 parent_within scopes (Some name) parent h = let low = place_within 0 scopes name parent h in omega arith
 

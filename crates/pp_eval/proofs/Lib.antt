@@ -3,14 +3,15 @@ pub mod BindingLaws
 pub mod NameLaws
 pub mod LineageLaws
 pub mod ScopeLaws
-pub mod StartLaws
+pub mod Inheritance
 pub mod OpenLaws
 pub mod ClassNameLaws
 pub mod ClassPlaces
+pub mod Growing
 pub mod RootLaws
-pub mod Inheritance
 pub mod Refusing
 pub mod Forms
+pub mod Agreement
 pub mod Steps
 pub mod TextLaws
 pub mod EveryValue

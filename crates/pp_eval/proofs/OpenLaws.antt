@@ -1,77 +1,144 @@
--- The open scopes stay among all.
-use Rattle.std.proofs.Common.{◌≡◌, ℕ, zero, suc, ◌+◌, ◌-◌, ◌<◌, ◌≤◌, Bool, true, false, ◌&&◌, nat_lt, List, [], ◌∷◌, ◌++◌, length, take, Result, Ok, Err, IsTrue, refl, ap, ◌∙◌, length-append, arith}
-use Rattle.std.specs.Prelude.{slice_get, unwrap_or}
-use Rattle.std.specs.List.{list_all}
-use Rattle.std.proofs.lemmas.Bool.Decides.{Decides-ltb}
+-- What all scopes are stays so.
+use Rattle.std.proofs.Common.{◌≡◌, ◌⊎◌, inl, inr, ℕ, zero, suc, ◌+◌, ◌-◌, ◌<◌, ◌≤◌, List, [], ◌∷◌, ◌++◌, length, take, Option, Some, None, Result, Ok, Err, refl, sym, ap, subst, ◌∙◌, length-append, arith}
+use Rattle.std.specs.Prelude.{slice_get, unwrap_or, option_and_then}
+use Rattle.std.specs.List.{AllByRecursion}
 use Rattle.pp_value.specs.declared.value.Value.{Value}
 use Rattle.pp_value.specs.Values.{Pair}
 use Rattle.pp_eval.specs.declared.scope.Scope.{Scope}
+use Rattle.pp_eval.specs.declared.scope.Sort.{Sort}
+use Rattle.pp_eval.specs.declared.scope.Sort.TheVariants as sort
 use Rattle.pp_eval.specs.declared.scopes.BindFault.{BindFault}
 use Rattle.pp_eval.specs.declared.scopes.BindFault.TheVariants as fault
-use Rattle.pp_eval.specs.Scoping.{are_open, place_now, BindsAt, bindings_at, with_bindings_at}
+use Rattle.pp_eval.specs.Inheriting.{ParentsStandBefore}
+use Rattle.pp_eval.specs.Scoping.{AreScopes, HasTop, BeginsWithTop, place_now, current_place, current_scope, IsInner, IsInnerSort, BindsAt, bindings_at, with_bindings_at}
+use Rattle.pp_eval.proofs.Inheritance.{last_or_not}
 
-and_left : (a b : Bool) → (a && b) ≡ true → a ≡ true
-and_left true b h = refl
-and_left false b h = h
+abbrev Below : ℕ → List ℕ → Type 0
+Below n places = AllByRecursion (λ place. place < n) places
 
-and_right : (a b : Bool) → (a && b) ≡ true → b ≡ true
-and_right true b h = h
-and_right false b h = cc
+some_scope : (scopes : List Scope) → HasTop scopes → 0 < length scopes
+some_scope [] h = absurd h
+some_scope (s ∷ scopes) h = omega arith
 
-and_both : (a b : Bool) → a ≡ true → b ≡ true → (a && b) ≡ true
-and_both true b h k = k
-and_both false b h k = h
+below_get : (n : ℕ) (places : List ℕ) (i : ℕ) → 0 < n → Below n places → unwrap_or (slice_get places i) 0 < n
+below_get n [] i some h = some
+below_get n (x ∷ places) zero some h = h.0
+below_get n (x ∷ places) (suc i) some h = below_get n places i some h.1
 
-less : (a b : ℕ) → nat_lt a b ≡ true → a < b
-less a b h = (Decides-ltb a b).0 h
+pub place_below : (scopes : List Scope) (opened : List ℕ) → AreScopes scopes opened → place_now opened < length scopes
+place_below scopes opened h = below_get (length scopes) opened (length opened - 1) (some_scope scopes h.top) h.below
 
-is_less : (a b : ℕ) → a < b → nat_lt a b ≡ true
-is_less a b h = (Decides-ltb a b).1 h
+-- ---- entering
 
-all_later : (n m : ℕ) (xs : List ℕ) → n ≤ m → list_all (λ place. nat_lt place n) xs ≡ true → list_all (λ place. nat_lt place m) xs ≡ true
-all_later n m [] h all = refl
-all_later n m (x ∷ xs) h all = let low = less x n (and_left _ _ all) in and_both _ _ (is_less x m (omega arith)) (all_later n m xs h (and_right (nat_lt x n) _ all))
+below_later : (n m : ℕ) (places : List ℕ) → n ≤ m → Below n places → Below m places
+below_later n m [] h all = tt
+below_later n m (x ∷ places) h all = let low = all.0 in (omega arith, below_later n m places h all.1)
 
-all_append : (n : ℕ) (xs ys : List ℕ) → list_all (λ place. nat_lt place n) xs ≡ true → list_all (λ place. nat_lt place n) ys ≡ true → list_all (λ place. nat_lt place n) (xs ++ ys) ≡ true
-all_append n [] ys h k = k
-all_append n (x ∷ xs) ys h k = and_both _ _ (and_left _ _ h) (all_append n xs ys (and_right (nat_lt x n) _ h) k)
+below_append : (n : ℕ) (xs ys : List ℕ) → Below n xs → Below n ys → Below n (xs ++ ys)
+below_append n [] ys h k = k
+below_append n (x ∷ xs) ys h k = (h.0, below_append n xs ys h.1 k)
 
-all_take : (n k : ℕ) (xs : List ℕ) → list_all (λ place. nat_lt place n) xs ≡ true → list_all (λ place. nat_lt place n) (take k xs) ≡ true
-all_take n zero xs h = refl
-all_take n (suc k) [] h = refl
-all_take n (suc k) (x ∷ xs) h = and_both _ _ (and_left _ _ h) (all_take n k xs (and_right (nat_lt x n) _ h))
+top_append : (scopes more : List Scope) → HasTop scopes → HasTop (scopes ++ more)
+top_append [] more h = absurd h
+top_append (s ∷ scopes) more h = h
 
-all_get : (n : ℕ) (xs : List ℕ) (i : ℕ) → 0 < n → list_all (λ place. nat_lt place n) xs ≡ true → unwrap_or (slice_get xs i) 0 < n
-all_get n [] i some h = some
-all_get n (x ∷ xs) zero some h = less x n (and_left _ _ h)
-all_get n (x ∷ xs) (suc i) some h = all_get n xs i some (and_right (nat_lt x n) _ h)
+begins_append : (opened more : List ℕ) → BeginsWithTop opened → BeginsWithTop (opened ++ more)
+begins_append [] more h = absurd h
+begins_append (p ∷ opened) more h = h
 
-pub place_below : (scopes : List Scope) (opened : List ℕ) → IsTrue (are_open scopes opened) → place_now opened < length scopes
-place_below scopes opened h = all_get (length scopes) opened (length opened - 1) (less 0 (length scopes) (and_left _ _ h)) (and_right (nat_lt 0 (length scopes)) _ h)
+abbrev pub PlaceBelow : ℕ → Option ℕ → Type 0
+PlaceBelow n o = (place : ℕ) → o ≡ Some place → place < n
 
-pub entered_open : (scopes : List Scope) (opened : List ℕ) (s : Scope) → IsTrue (are_open scopes opened) → IsTrue (are_open (scopes ++ s ∷ []) (opened ++ length scopes ∷ []))
-entered_open scopes opened s h =
-    let n = length scopes in
-    let more : length (scopes ++ s ∷ []) ≡ n + 1 = length-append scopes (s ∷ []) in
-    let some = less 0 n (and_left _ _ h) in
-    let front = all_later n (length (scopes ++ s ∷ [])) opened (omega arith) (and_right (nat_lt 0 n) _ h) in
-    let last = and_both (nat_lt n (length (scopes ++ s ∷ []))) true (is_less n _ (omega arith)) refl in
-    and_both _ _ (is_less 0 (length (scopes ++ s ∷ [])) (omega arith)) (all_append (length (scopes ++ s ∷ [])) opened (n ∷ []) front last)
+parents_append : (scopes : List Scope) (s : Scope) → ParentsStandBefore scopes → PlaceBelow (length scopes) s.parent → ParentsStandBefore (scopes ++ s ∷ [])
+parents_append scopes s before low place parent c here is = either (last_or_not scopes s place c here)
+  where
+    either : (slice_get scopes place ≡ Some c) ⊎ ((place ≡ length scopes) × (s ≡ c)) → parent < place
+    either (inl e) = before place parent c e is
+    either (inr e) = let below = low parent (ap (λ (x : Scope). x.parent) e.1 ∙ is) in let at = e.0 in omega arith
 
-pub left_open : (scopes : List Scope) (opened : List ℕ) (k : ℕ) → IsTrue (are_open scopes opened) → IsTrue (are_open scopes (take k opened))
-left_open scopes opened k h = and_both _ _ (and_left _ _ h) (all_take (length scopes) k opened (and_right (nat_lt 0 (length scopes)) _ h))
+pub entered_are : (scopes : List Scope) (opened : List ℕ) (s : Scope) → AreScopes scopes opened → PlaceBelow (length scopes) s.parent → AreScopes (scopes ++ s ∷ []) (opened ++ length scopes ∷ [])
+entered_are scopes opened s h low =
+    let more : length (scopes ++ s ∷ []) ≡ length scopes + 1 = length-append scopes (s ∷ []) in
+    record {
+      top = top_append scopes (s ∷ []) h.top;
+      begins = begins_append opened (length scopes ∷ []) h.begins;
+      below = below_append (length (scopes ++ s ∷ [])) opened (length scopes ∷ []) (below_later (length scopes) (length (scopes ++ s ∷ [])) opened (omega arith) h.below) (omega arith, tt);
+      parents = parents_append scopes s h.parents low;
+    }
+
+-- ---- leaving
+
+below_take : (n k : ℕ) (places : List ℕ) → Below n places → Below n (take k places)
+below_take n zero places h = tt
+below_take n (suc k) [] h = tt
+below_take n (suc k) (x ∷ places) h = (h.0, below_take n k places h.1)
+
+no_inner_top : (scopes : List Scope) → HasTop scopes → IsInner (slice_get scopes 0) → ⊥
+no_inner_top [] h k = k
+no_inner_top (s ∷ scopes) h k = subst IsInnerSort h k
+
+begins_take : (scopes : List Scope) (opened : List ℕ) → HasTop scopes → BeginsWithTop opened → IsInner (current_scope (scopes, opened)) → BeginsWithTop (take (length opened - 1) opened)
+begins_take scopes [] top h k = absurd h
+begins_take scopes (p ∷ []) top h k = absurd (no_inner_top scopes top (subst (λ n. IsInner (slice_get scopes n)) h k))
+begins_take scopes (p ∷ q ∷ opened) top h k =
+    let many : length (p ∷ q ∷ opened) - 1 ≡ suc (length opened) = omega arith in
+    subst (λ n. BeginsWithTop (take n (p ∷ q ∷ opened))) (sym many) h
+
+pub left_are : (scopes : List Scope) (opened : List ℕ) → AreScopes scopes opened → IsInner (current_scope (scopes, opened)) → AreScopes scopes (take (length opened - 1) opened)
+left_are scopes opened h k = record {
+  top = h.top;
+  begins = begins_take scopes opened h.top h.begins k;
+  below = below_take (length scopes) (length opened - 1) opened h.below;
+  parents = h.parents;
+}
+
+-- ---- binding
 
 as_many : (place : ℕ) (b : List Pair) (scopes : List Scope) → length (with_bindings_at place b scopes) ≡ length scopes
 as_many place b [] = refl
 as_many zero b (s ∷ scopes) = refl
 as_many (suc place) b (s ∷ scopes) = ap suc (as_many place b scopes)
 
-bound_length : (place : ℕ) (old : List Scope) (name : List ℕ) (x : Value) (new : List Scope) (r : Result (Unit {0}) BindFault) → BindsAt place old name x new r → length new ≡ length old
-bound_length place old name x new (Ok done) h = ap length h.1 ∙ as_many place (bindings_at place old ++ (name, x) ∷ []) old
-bound_length place old name x new (Err fault.Again) h = ap length h.1
-bound_length place old name x new (Err (fault.Memory m)) h = ap length h
+top_kept : (place : ℕ) (b : List Pair) (scopes : List Scope) → HasTop scopes → HasTop (with_bindings_at place b scopes)
+top_kept place b [] h = h
+top_kept zero b (s ∷ scopes) h = h
+top_kept (suc place) b (s ∷ scopes) h = h
 
-pub bound_open : (place : ℕ) (old : List Scope) (name : List ℕ) (x : Value) (new : List Scope) (r : Result (Unit {0}) BindFault) (opened : List ℕ) → BindsAt place old name x new r → IsTrue (are_open old opened) → IsTrue (are_open new opened)
-bound_open place old name x new r opened h all =
-    let same = bound_length place old name x new r h in
-    (λ i. nat_lt 0 (same i) && list_all (λ p. nat_lt p (same i)) opened) ∙ all
+parent_kept : (place : ℕ) (b : List Pair) (scopes : List Scope) (i : ℕ) (s : Scope) → slice_get (with_bindings_at place b scopes) i ≡ Some s → (t : Scope) × ((slice_get scopes i ≡ Some t) × (t.parent ≡ s.parent))
+parent_kept place b [] i s h = cc
+parent_kept zero b (t ∷ scopes) zero s h = (t, (refl, parent_of (record { sort = t.sort; parent = t.parent; bindings = b }) s h))
+  where
+    parent_of : (x y : Scope) → ◌≡◌ {A = Option Scope} (Some x) (Some y) → x.parent ≡ y.parent
+    parent_of x y e = let same : x ≡ y = cc in ap (λ (z : Scope). z.parent) same
+parent_kept zero b (t ∷ scopes) (suc i) s h = (s, (h, refl))
+parent_kept (suc place) b (t ∷ scopes) zero s h = (s, (h, refl))
+parent_kept (suc place) b (t ∷ scopes) (suc i) s h = parent_kept place b scopes i s h
+
+with_bindings_are : (place : ℕ) (b : List Pair) (scopes : List Scope) (opened : List ℕ) → AreScopes scopes opened → AreScopes (with_bindings_at place b scopes) opened
+with_bindings_are place b scopes opened h = record {
+  top = top_kept place b scopes h.top;
+  begins = h.begins;
+  below = subst (λ n. Below n opened) (sym (as_many place b scopes)) h.below;
+  parents = λ i parent s here is. let t = parent_kept place b scopes i s here in h.parents i parent t.0 t.1.0 (t.1.1 ∙ is);
+}
+
+pub bound_are : (place : ℕ) (old : List Scope) (name : List ℕ) (x : Value) (new : List Scope) (r : Result (Unit {0}) BindFault) (opened : List ℕ) → BindsAt place old name x new r → AreScopes old opened → AreScopes new opened
+bound_are place old name x new (Ok done) opened h are =
+    subst (λ (s : List Scope). AreScopes s opened) (sym h.1) (with_bindings_are place (bindings_at place old ++ (name, x) ∷ []) old opened are)
+bound_are place old name x new (Err fault.Again) opened h are = subst (λ (s : List Scope). AreScopes s opened) (sym h.1) are
+bound_are place old name x new (Err (fault.Memory m)) opened h are = subst (λ (s : List Scope). AreScopes s opened) (sym h.1) are
+
+-- ---- the start
+
+no_parent : (s c : Scope) (place parent : ℕ) → s.parent ≡ None → slice_get (s ∷ []) place ≡ Some c → c.parent ≡ Some parent → ⊥
+no_parent s c zero parent none here is =
+    let same : s ≡ c = of_some s c here in
+    let clash : ◌≡◌ {A = Option ℕ} None (Some parent) = sym none ∙ (ap (λ (z : Scope). z.parent) same ∙ is) in
+    cc
+  where
+    of_some : (x y : Scope) → ◌≡◌ {A = Option Scope} (Some x) (Some y) → x ≡ y
+    of_some x y e = cc
+no_parent s c (suc place) parent none here is = cc
+
+pub start_are : (s : Scope) → s.sort ≡ sort.Top → s.parent ≡ None → AreScopes (s ∷ []) (0 ∷ [])
+start_are s is none = record { top = is; begins = refl; below = (omega arith, tt); parents = λ place parent c here k. absurd (no_parent s c place parent none here k) }

@@ -36,4 +36,6 @@ bound_at scopes place d s name x b (Ok done) h within binds =
 bound_at scopes place d s name x b (Err fault.Again) h within binds =
     let at = here scopes place d s h within in
     ((λ none. binds.0 (ap (value_at name) at ∙ none)), written scopes place d s b h within binds.1)
-bound_at scopes place d s name x b (Err (fault.Memory m)) h within binds = written scopes place d s b h within binds
+bound_at scopes place d s name x b (Err (fault.Memory m)) h within binds =
+    let at = here scopes place d s h within in
+    (ap (value_at name) (sym at) ∙ binds.0, written scopes place d s b h within binds.1)

@@ -5,9 +5,10 @@ use Rattle.std.proofs.lemmas.List.{map-append}
 use Rattle.rh_base.specs.declared.fault.Refusal.{Refusal}
 use Rattle.pp_syntax.specs.declared.tree.Op.{Op}
 use Rattle.pp_value.specs.declared.value.Value.{Value}
+use Rattle.pp_value.specs.Keys.{with_pairs}
 use Rattle.pp_value.specs.Values.{Pair, with_pair}
 use Rattle.pp_eval.specs.Verdicts.{Verdict, ◌>>=◌, if_there}
-use Rattle.pp_eval.specs.Evaluation.{with_pairs, refer_to, with_references, prefixed, prefix_at}
+use Rattle.pp_eval.specs.Evaluation.{refer_to, with_references, prefixed, prefix_at}
 
 -- ---- what stands before the rest
 

@@ -9,10 +9,13 @@ use Rattle.pp_syntax.specs.declared.tree.Op.TheVariants as op
 use Rattle.pp_value.specs.declared.value.Value.{Value, items-the_row-Value}
 use Rattle.pp_value.specs.declared.value.Value.TheVariants as v
 use Rattle.pp_value.specs.declared.fault.Misfit.{Misfit}
-use Rattle.pp_value.specs.Values.{Pair, has_opaque, with_pair}
-use Rattle.pp_value.specs.Table.{equal_table, negate_table, index_table, map_of}
+use Rattle.pp_value.specs.Keys.{with_pairs}
+use Rattle.pp_value.specs.Values.{Pair, has_opaque}
+use Rattle.pp_value.specs.Table.{equal_table, negate_table, index_table}
 use Rattle.pp_value.specs.Shown.{shown, shown_int}
-use Rattle.pp_eval.specs.Verdicts.{Verdict, Evaluated, ◌>>=◌, unbound, no_option, no_result, limited, made, if_there}
+use Rattle.pp_eval.specs.Verdicts.{Verdict, Evaluated, ◌>>=◌, unbound, no_option, no_result, limited, told, made, if_there}
+use Rattle.pp_eval.specs.declared.blame.Blame.{Blame}
+use Rattle.pp_eval.specs.declared.blame.Blame.TheVariants as blame
 use Rattle.pp_eval.specs.Operations.{operation, truth_of}
 use Rattle.pp_eval.specs.References.{ref_of}
 use Rattle.pp_eval.specs.Scoping.{Scoped, find_in}
@@ -62,11 +65,7 @@ pairs_in (m ∷ members) = do
   pairs ← pairs_in members
   Ok (p ∷ pairs)
 
--- one pair after the other: a key that stands again takes the last value and keeps its place
-abbrev pub with_pairs : List Pair → List Pair → List Pair
-with_pairs pairs [] = pairs
-with_pairs pairs (p ∷ more) = with_pairs (with_pair p.0 p.1 pairs) more
-
+-- a key that stands again takes the last value and keeps its place
 abbrev pub keyed_in : List (Evaluated × Evaluated) → Result (List Pair) Refusal
 keyed_in members = do
   pairs ← pairs_in members
@@ -75,7 +74,7 @@ keyed_in members = do
 abbrev pub map_at : ℕ → List (Evaluated × Evaluated) → Verdict
 map_at at members = do
   pairs ← keyed_in members
-  limited at (map_of pairs)
+  limited at (v.Map pairs)
 
 -- ---- references
 
@@ -202,11 +201,11 @@ prefix_at at (o ∷ ops) verdict = do
   x ← prefix_at at ops verdict
   prefixed at o x
 
--- a value at an index
+-- the member of a value, which isn't made here
 abbrev pub indexed : ℕ → Value → Verdict → Verdict
 indexed at x key = do
   k ← key
-  made at (index_table x k)
+  told at (index_table x k)
 
 abbrev pub index_at : ℕ → Evaluated → Evaluated → Verdict
 index_at at base key = do
@@ -220,18 +219,31 @@ abbrev pub asked : ℕ → Result Bool Misfit → Result Bool Refusal
 asked at (Ok b) = Ok b
 asked at (Err m) = Err (no_result at)
 
+-- where a comparison with an opaque value is refused: a selector's at the selector, that of a `case` at its value if that holds the opaque one, or else at
+-- the option
+abbrev pub blamed : Blame → Value → ℕ → ℕ
+blamed (blame.Selector at) x option = at
+blamed (blame.Case at) x option = if has_opaque x then at else option
+
 -- an option is evaluated where it is compared; `default` is passed over
-abbrev pub is_equal : ℕ → Value → Option Evaluated → Result Bool Refusal
-is_equal at x None = Ok false
-is_equal at x (Some option) = do
+abbrev pub is_equal : Blame → Value → Option Evaluated → Result Bool Refusal
+is_equal b x None = Ok false
+is_equal b x (Some option) = do
   y ← option.verdict
-  asked at (equal_table x y)
+  asked (blamed b x option.at) (equal_table x y)
+
+-- one of some options is equal, from the left
+abbrev pub is_among : Blame → Value → List (Option Evaluated) → Result Bool Refusal
+is_among b x [] = Ok false
+is_among b x (option ∷ options) = do
+  same ← is_equal b x option
+  if same then Ok true else is_among b x options
 
 -- what stands behind the first option that is equal, from the left
 abbrev pub first_equal : ℕ → Value → List (Option Evaluated × Evaluated) → Result (Option Evaluated) Refusal
 first_equal at x [] = Ok None
 first_equal at x (c ∷ choices) = do
-  same ← is_equal at x c.0
+  same ← is_equal (blame.Selector at) x c.0
   if same then Ok (Some c.1) else first_equal at x choices
 
 -- what stands behind `default`, wherever that stands
@@ -269,7 +281,7 @@ form_at s (form.Refer kind titles) at = refer_at at kind titles
 form_at s (form.Join members) at = joined_to at [] members
 form_at s (form.Chain first more) at = chain_at at first more
 form_at s (form.Prefix ops x) at = prefix_at at ops x.verdict
-form_at s (form.At base key) at = index_at at base key
+form_at s (form.Index base key) at = index_at at base key
 form_at s (form.Select control choices) at = select_at at control choices
 
 -- a form at a place, in these scopes

@@ -20,7 +20,7 @@ abbrev mutual
   fact_of (number n) = whole_or_opaque (as_i64 n)
   fact_of (string text) = v.Str text
   fact_of (array items) = v.List (facts_of items)
-  fact_of (object members) = v.Map (record { pairs = pairs_of members })
+  fact_of (object members) = v.Map (pairs_of members)
 
   pub facts_of : Items → List Value
   facts_of no_items = []

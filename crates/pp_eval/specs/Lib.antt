@@ -1,9 +1,11 @@
 pub mod Facts
 pub mod Names
+pub mod Inheriting
+pub mod Verdicts
 pub mod Scoping
+pub mod Extending
 pub mod ClassNames
 pub mod Operations
 pub mod References
-pub mod Verdicts
 pub mod Evaluation
-pub mod Inheriting
+pub mod Lending

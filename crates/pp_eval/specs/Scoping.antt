@@ -1,25 +1,42 @@
 -- The look-up of a variable in scopes, each an association list.
-use Rattle.std.specs.Prelude.{◌≡◌, ℕ, zero, suc, ◌+◌, ◌-◌, Bool, true, false, ◌&&◌, ◌||◌, ◌==◌, nat_lt, codes, take, is_none, unwrap_or, if◌then◌else◌, List, [], ◌∷◌, ◌++◌, length, slice_get, Option, Some, None, option_and_then, Result, Ok, Err}
-use Rattle.std.specs.List.{list_all}
+use Rattle.std.specs.Prelude.{◌≡◌, ℕ, zero, suc, ◌+◌, ◌-◌, ◌<◌, Bool, true, false, ◌&&◌, ◌||◌, ◌==◌, codes, take, is_none, unwrap_or, if◌then◌else◌, List, [], ◌∷◌, ◌++◌, length, slice_get, Option, Some, None, option_and_then, Result, Ok, Err}
+use Rattle.std.specs.List.{list_all, AllByRecursion}
+use Rattle.rh_base.specs.declared.fault.Refusal.{Refusal}
 use Rattle.std.specs.Char.{is_ascii_lowercase, is_ascii_uppercase, is_ascii_digit}
-use Rattle.pp_value.specs.declared.value.Value.{Value, items-the_row-Pairs-pairs-2}
+use Rattle.pp_value.specs.declared.value.Value.{Value}
 use Rattle.pp_value.specs.declared.value.Value.TheVariants as v
-use Rattle.pp_value.specs.Values.{Pair, value_at}
+use Rattle.pp_value.specs.Values.{Pair, keyed, value_at}
+use Rattle.pp_value.specs.Levels.{keyed_is}
 use Rattle.pp_value.specs.Texts.{same_text}
 use Rattle.pp_eval.specs.declared.scope.Scope.{Scope}
 use Rattle.pp_eval.specs.declared.scope.Sort.{Sort}
 use Rattle.pp_eval.specs.declared.scope.Sort.TheVariants as sort
 use Rattle.pp_eval.specs.declared.scopes.BindFault.{BindFault}
 use Rattle.pp_eval.specs.declared.scopes.BindFault.TheVariants as fault
+use Rattle.pp_eval.specs.Inheriting.{ParentsStandBefore}
 use Rattle.pp_eval.specs.Names.{variable_in, scope_in, is_qualified}
+use Rattle.pp_eval.specs.Verdicts.{bound_again}
 
 -- all scopes, the top first, and the places of the open ones, the current one last
 abbrev pub Scoped : Type 0
 Scoped = List Scope × List ℕ
 
--- the open places are places of scopes, and there is a top
-abbrev pub are_open : List Scope → List ℕ → Bool
-are_open scopes open_ones = nat_lt 0 (length scopes) && list_all (λ place. nat_lt place (length scopes)) open_ones
+-- ---- what all scopes are
+
+abbrev pub HasTop : List Scope → Type 0
+HasTop [] = ⊥
+HasTop (s ∷ scopes) = s.sort ≡ sort.Top
+
+abbrev pub BeginsWithTop : List ℕ → Type 0
+BeginsWithTop [] = ⊥
+BeginsWithTop (place ∷ places) = place ≡ 0
+
+-- The first scope is the top, the first open one is that, the open ones are among all, and a parent stands before the classes that inherit it.
+pub record AreScopes (scopes : List Scope) (open_ones : List ℕ) : Type 0 where
+  pub top : HasTop scopes
+  pub begins : BeginsWithTop open_ones
+  pub below : AllByRecursion (λ place. place < length scopes) open_ones
+  pub parents : ParentsStandBefore scopes
 
 -- ---- looking up
 
@@ -98,7 +115,7 @@ find_in s name = if is_qualified name then find_qualified s (scope_in name) (var
 abbrev pub Binds : List Pair → List ℕ → Value → List Pair → Result (Unit {0}) BindFault → Type 0
 Binds old name x new (Ok done) = (value_at name old ≡ None) × (new ≡ old ++ (name, x) ∷ [])
 Binds old name x new (Err fault.Again) = ((value_at name old ≡ None) → ⊥) × (new ≡ old)
-Binds old name x new (Err (fault.Memory m)) = new ≡ old
+Binds old name x new (Err (fault.Memory m)) = (value_at name old ≡ None) × (new ≡ old)
 
 -- the scopes with other bindings in the one at a place
 abbrev pub with_bindings_at : ℕ → List Pair → List Scope → List Scope
@@ -115,14 +132,27 @@ bindings_at (suc place) (s ∷ scopes) = bindings_at place scopes
 abbrev pub BindsAt : ℕ → List Scope → List ℕ → Value → List Scope → Result (Unit {0}) BindFault → Type 0
 BindsAt place old name x new (Ok done) = (value_at name (bindings_at place old) ≡ None) × (new ≡ with_bindings_at place (bindings_at place old ++ (name, x) ∷ []) old)
 BindsAt place old name x new (Err fault.Again) = ((value_at name (bindings_at place old) ≡ None) → ⊥) × (new ≡ old)
-BindsAt place old name x new (Err (fault.Memory m)) = new ≡ old
+BindsAt place old name x new (Err (fault.Memory m)) = (value_at name (bindings_at place old) ≡ None) × (new ≡ old)
 
 abbrev pub place_now : List ℕ → ℕ
 place_now open_ones = unwrap_or (current_place open_ones) 0
 
--- binding in the current scope
+abbrev pub bindings_now : Scoped → List Pair
+bindings_now s = bindings_at (place_now s.1) s.0
+
+-- one more binding in the current scope
+abbrev pub with_binding : List ℕ → Value → Scoped → Scoped
+with_binding name x s = (with_bindings_at (place_now s.1) (bindings_now s ++ (name, x) ∷ []) s.0, s.1)
+
+-- Binding in the current scope: one more binding where the name has none there, and else none; without memory all stays as it is.
 abbrev pub BindsNow : Scoped → List ℕ → Value → Scoped → Result (Unit {0}) BindFault → Type 0
-BindsNow old name x new r = BindsAt (place_now old.1) old.0 name x new.0 r × (new.1 ≡ old.1)
+BindsNow old name x new (Ok done) = (value_at name (bindings_now old) ≡ None) × (new ≡ with_binding name x old)
+BindsNow old name x new (Err fault.Again) = ((value_at name (bindings_now old) ≡ None) → ⊥) × (new ≡ old)
+BindsNow old name x new (Err (fault.Memory m)) = (value_at name (bindings_now old) ≡ None) × (new ≡ old)
+
+-- the same as a verdict, where the name stands at a place
+abbrev pub bound : ℕ → List ℕ → Value → Scoped → Result Scoped Refusal
+bound at name x s = if is_none (value_at name (bindings_now s)) then Ok (with_binding name x s) else Err (bound_again at name)
 
 -- ---- entering and leaving
 
@@ -175,8 +205,11 @@ with_facts bindings [] = bindings
 with_facts bindings (p ∷ pairs) = if is_variable p.0 && is_none (value_at p.0 bindings) then with_facts (bindings ++ p ∷ []) pairs else with_facts bindings pairs
 
 abbrev pub pairs_in : Value → List Pair
-pairs_in (v.Map' shape row) = items-the_row-Pairs-pairs-2 _ row
+pairs_in (v.Map' keys row) = keyed keys row
 pairs_in _ = []
+
+pub pairs_in_map : (pairs : List Pair) → pairs_in (v.Map pairs) ≡ pairs
+pairs_in_map pairs = keyed_is pairs
 
 -- the top begins with `facts`, the whole map, and a binding for each fact
 abbrev pub top_of : Value → List Pair

@@ -1,13 +1,12 @@
 -- What an expression gives: a value, or one refusal at one place.
-use Rattle.std.specs.Prelude.{◌≡◌, ℕ, nat_lt, if◌then◌else◌, List, ◌∷◌, codes, Option, Some, None, Result, Ok, Err}
+use Rattle.std.specs.Prelude.{◌≡◌, ℕ, if◌then◌else◌, List, ◌∷◌, codes, Option, Some, None, Result, Ok, Err}
 use Rattle.rh_base.specs.declared.fault.Fault.{Fault}
 use Rattle.rh_base.specs.declared.fault.Fault.TheVariants as fault
 use Rattle.rh_base.specs.declared.fault.Refusal.{Refusal}
 use Rattle.pp_value.specs.declared.value.Value.{Value}
 use Rattle.pp_value.specs.declared.fault.Misfit.{Misfit}
 use Rattle.pp_value.specs.declared.fault.Misfit.TheVariants.{Operand, Range}
-use Rattle.pp_value.specs.Values.{size_of}
-use Rattle.pp_value.specs.Table.{size_limit}
+use Rattle.pp_value.specs.Values.{exceeds_limits}
 
 abbrev pub Verdict : Type 0
 Verdict = Result Value Refusal
@@ -32,6 +31,10 @@ refusal number at name = record { number = number; at = at; name = name }
 abbrev pub unbound : ℕ → List ℕ → Refusal
 unbound at name = refusal 20 at (36 ∷ name)
 
+-- the scope has a binding of the variable already
+abbrev pub bound_again : ℕ → List ℕ → Refusal
+bound_again at name = refusal 21 at (36 ∷ name)
+
 -- no option of a selector is equal
 abbrev pub no_option : ℕ → Refusal
 no_option at = refusal 28 at (codes "selector")
@@ -40,7 +43,7 @@ no_option at = refusal 28 at (codes "selector")
 abbrev pub no_result : ℕ → Refusal
 no_result at = refusal 29 at (codes "operand")
 
--- the size of the value is over the limit
+-- the value exceeds the limits
 abbrev pub too_large : ℕ → Refusal
 too_large at = refusal 32 at (codes "value")
 
@@ -50,11 +53,17 @@ out_of_range at = refusal 33 at (codes "integer")
 
 -- ---- what is made at a place
 
--- a value, unless it is too large
+-- a value, unless it exceeds the limits
 abbrev pub limited : ℕ → Value → Verdict
-limited at x = if nat_lt size_limit (size_of x) then Err (too_large at) else Ok x
+limited at x = if exceeds_limits x then Err (too_large at) else Ok x
 
--- what a table names, unless it is too large
+-- what a table names
+abbrev pub told : ℕ → Result Value Misfit → Verdict
+told at (Ok x) = Ok x
+told at (Err Operand) = Err (no_result at)
+told at (Err Range) = Err (out_of_range at)
+
+-- what a table names, unless it exceeds the limits
 abbrev pub made : ℕ → Result Value Misfit → Verdict
 made at (Ok x) = limited at x
 made at (Err Operand) = Err (no_result at)

@@ -1,29 +1,34 @@
 //! The evaluation of expressions, from left to right.
 
 ghost use Rattle.std.specs.Prelude.{◌≡◌, [], None, map, option_map};
-ghost use Rattle.pp_eval.specs.Verdicts.{AnswersBy, Answers};
-ghost use Rattle.pp_eval.specs.Evaluation.{value_of, evaluated, pair_by, operand_by, choice_by, values_in, list_at, pair_in, keyed_in, map_at, references_in, refer_at, joined_to, as_truth, operated, chain_from, prefix_at, indexed, is_equal, default_in, chosen, selected};
+ghost use Rattle.pp_value.specs.declared.value.Value.TheVariants as v;
+ghost use Rattle.pp_eval.specs.Scoping.{find_in};
+ghost use Rattle.pp_eval.specs.Verdicts.{AnswersBy, Answers, Refuses};
+ghost use Rattle.pp_eval.specs.Evaluation.{value_of, evaluated, pair_by, operand_by, choice_by, values_in, list_at, pair_in, keyed_in, map_at, references_in, refer_at, joined_to, as_truth, operated, chain_from, prefix_at, indexed, bound_to, is_equal, is_among, default_in, chosen, selected};
+ghost use Rattle.pp_eval.specs.Lending.{Lends};
 
-use crate::answers::{limited, no_option, text_at, value_of_variable};
-use crate::operations::{compared, index_of, operate, prefixed_all, truth_at};
+use crate::answers::{limited, no_option, no_result, text_at, unbound};
+use crate::blame::{Blame, blamed};
+use crate::lent::Lent;
+use crate::operations::{compared, operate, prefixed_all, truth_at};
 use crate::references::{add_references, one_or_list};
 use crate::scopes::Scopes;
 use crate::texts::{key_of, push_shown};
 use pp_syntax::{Expr, Form, Op};
-use pp_value::{Pairs, Value};
+use pp_value::{Pairs, Value, member};
 use rh_base::{Fault, Seq, Text};
 use std::alloc::Global;
 
 /// The value of an expression, or its refusal at the place of the smallest expression that is refused.
 #[cycle(evaluation)]
-#[tactic(auto, using(crate::proofs::Forms::forms, crate::proofs::Forms::chain_is, crate::proofs::Forms::at_is, crate::proofs::Forms::select_is))]
+#[tactic(auto, using(crate::proofs::Forms::forms, crate::proofs::Forms::chain_is, crate::proofs::Forms::index_is, crate::proofs::Forms::select_is))]
 pub fn eval(alloc: Global, e: &Expr, scopes: &Scopes) -> Result<Value, Fault>
     ensures { Answers (value_of scopes.now e.now) result }
 {
     match &e.form {
         Form::Int(n) => Ok(Value::Int(*n)),
         Form::Str(text) => text_at(alloc, e.at, text),
-        Form::Var(name) => value_of_variable(alloc, e.at, name.as_str(), scopes),
+        Form::Var(name) => variable(alloc, e.at, name.as_str(), scopes),
         Form::Bool(b) => Ok(Value::Bool(*b)),
         Form::Undef => Ok(Value::Undef),
         Form::List(members) => list(alloc, e.at, members.as_slice(), scopes),
@@ -35,10 +40,15 @@ pub fn eval(alloc: Global, e: &Expr, scopes: &Scopes) -> Result<Value, Fault>
             chain(alloc, e.at, more.as_slice(), value, scopes)
         }
         Form::Prefix(ops, x) => prefix(alloc, e.at, ops.as_slice(), x.get(), scopes),
-        Form::At(base, key) => {
-            let base = eval(alloc, base.get(), scopes)?;
-            index(alloc, e.at, key.get(), &base, scopes)
-        }
+        Form::Index(base, key) => match lend(alloc, base.get(), scopes) {
+            Ok(Lent::Found(base)) => copy_member(alloc, e.at, key.get(), base, scopes),
+            Ok(Lent::Undef) => Err(no_member(alloc, e.at, key.get(), scopes)),
+            Ok(Lent::Nothing) => {
+                let base = eval(alloc, base.get(), scopes)?;
+                copy_member(alloc, e.at, key.get(), &base, scopes)
+            }
+            Err(fault) => Err(fault),
+        },
         Form::Select(control, choices) => {
             let value = eval(alloc, control.get(), scopes)?;
             select(alloc, e.at, choices.as_slice(), &value, scopes)
@@ -46,10 +56,20 @@ pub fn eval(alloc: Global, e: &Expr, scopes: &Scopes) -> Result<Value, Fault>
     }
 }
 
-/// The values of some expressions.
+/// A copy of the value that a variable is bound to.
+fn variable(alloc: Global, at: u32, name: &str, scopes: &Scopes) -> Result<Value, Fault>
+    ensures { Answers (bound_to at name.now (find_in scopes.now name.now)) result }
+{
+    match scopes.find(name) {
+        Some(value) => Ok(value.copy(alloc)?),
+        None => Err(unbound(alloc, at, name)),
+    }
+}
+
+/// The values of some expressions, from the left.
 #[cycle(evaluation)]
 #[tactic(auto, using(crate::proofs::Steps::nothing_before, crate::proofs::Steps::next_value))]
-fn values(alloc: Global, members: &[Expr], scopes: &Scopes) -> Result<Seq<Value>, Fault>
+pub fn eval_all(alloc: Global, members: &[Expr], scopes: &Scopes) -> Result<Seq<Value>, Fault>
     ensures { AnswersBy (λ xs. xs) (values_in (map (evaluated scopes.now) members.now)) result }
 {
     let mut values = Seq::new(alloc);
@@ -64,7 +84,7 @@ fn values(alloc: Global, members: &[Expr], scopes: &Scopes) -> Result<Seq<Value>
 fn list(alloc: Global, at: u32, members: &[Expr], scopes: &Scopes) -> Result<Value, Fault>
     ensures { Answers (list_at at (map (evaluated scopes.now) members.now)) result }
 {
-    let values = values(alloc, members, scopes)?;
+    let values = eval_all(alloc, members, scopes)?;
     limited(alloc, at, Value::List(values))
 }
 
@@ -83,12 +103,12 @@ fn pair(alloc: Global, member: &(Expr, Expr), scopes: &Scopes) -> Result<(Text, 
 #[cycle(evaluation)]
 #[tactic(auto, using(crate::proofs::Steps::next_pair))]
 fn pairs(alloc: Global, members: &[(Expr, Expr)], scopes: &Scopes) -> Result<Pairs, Fault>
-    ensures { AnswersBy (λ p. p.pairs) (keyed_in (map (pair_by (evaluated scopes.now)) members.now)) result }
+    ensures { AnswersBy (λ p. p) (keyed_in (map (pair_by (evaluated scopes.now)) members.now)) result }
 {
     let mut pairs = Pairs::new(alloc);
     for member in members {
         let (key, value) = pair(alloc, member, scopes)?;
-        pairs = pairs.with(key, value)?;
+        pairs.put(key, value)?;
     }
     Ok(pairs)
 }
@@ -164,21 +184,21 @@ fn operated(
     alloc: Global,
     at: u32,
     o: &(Op, Expr),
-    left: &Value,
+    left: Value,
     scopes: &Scopes,
 ) -> Result<Value, Fault>
-    ensures { Answers (operated at o.now.0 left.now (value_of scopes.now o.now.1)) result }
+    ensures { Answers (operated at o.now.0 left (value_of scopes.now o.now.1)) result }
 {
     match o.0 {
         Op::And => {
-            if truth_at(alloc, at, left)? {
+            if truth_at(alloc, at, &left)? {
                 truth(alloc, at, &o.1, scopes)
             } else {
                 Ok(Value::Bool(false))
             }
         }
         Op::Or => {
-            if truth_at(alloc, at, left)? {
+            if truth_at(alloc, at, &left)? {
                 Ok(Value::Bool(true))
             } else {
                 truth(alloc, at, &o.1, scopes)
@@ -204,7 +224,7 @@ fn chain(
 {
     let mut value = first;
     for o in more {
-        value = operated(alloc, at, o, &value, scopes)?;
+        value = operated(alloc, at, o, value, scopes)?;
     }
     Ok(value)
 }
@@ -219,31 +239,110 @@ fn prefix(alloc: Global, at: u32, ops: &[Op], x: &Expr, scopes: &Scopes) -> Resu
     prefixed_all(alloc, at, ops, value)
 }
 
-/// The member of a value at an index or a key.
+/// The member, at an index or a key, of a value that is bound.
 #[cycle(evaluation)]
-fn index(alloc: Global, at: u32, key: &Expr, base: &Value, scopes: &Scopes) -> Result<Value, Fault>
+fn lend_member<'s>(
+    alloc: Global,
+    at: u32,
+    key: &Expr,
+    base: &'s Value,
+    scopes: &Scopes,
+) -> Result<Lent<'s>, Fault>
+    ensures { Lends (indexed at base.now (value_of scopes.now key.now)) result }
+{
+    let key = eval(alloc, key, scopes)?;
+    match member(base, &key) {
+        Ok(Some(value)) => Ok(Lent::Found(value)),
+        Ok(None) => Ok(Lent::Undef),
+        Err(_) => Err(no_result(alloc, at)),
+    }
+}
+
+/// Undef has no members.
+#[cycle(evaluation)]
+fn no_member(alloc: Global, at: u32, key: &Expr, scopes: &Scopes) -> Fault
+    ensures { Refuses (indexed at v.Undef (value_of scopes.now key.now)) result }
+{
+    match eval(alloc, key, scopes) {
+        Ok(_) => no_result(alloc, at),
+        Err(fault) => fault,
+    }
+}
+
+/// What is bound to a variable, or a member of it.
+#[cycle(evaluation)]
+#[tactic(auto, using(crate::proofs::Forms::forms, crate::proofs::Forms::index_is))]
+fn lend<'s>(alloc: Global, e: &Expr, scopes: &'s Scopes) -> Result<Lent<'s>, Fault>
+    ensures { Lends (value_of scopes.now e.now) result }
+{
+    match &e.form {
+        Form::Var(name) => match scopes.find(name.as_str()) {
+            Some(value) => Ok(Lent::Found(value)),
+            None => Err(unbound(alloc, e.at, name.as_str())),
+        },
+        Form::Index(base, key) => match lend(alloc, base.get(), scopes) {
+            Ok(Lent::Found(base)) => lend_member(alloc, e.at, key.get(), base, scopes),
+            Ok(Lent::Undef) => Err(no_member(alloc, e.at, key.get(), scopes)),
+            Ok(Lent::Nothing) => Ok(Lent::Nothing),
+            Err(fault) => Err(fault),
+        },
+        _ => Ok(Lent::Nothing),
+    }
+}
+
+/// A copy of the member, at an index or a key, of a value.
+#[cycle(evaluation)]
+fn copy_member(
+    alloc: Global,
+    at: u32,
+    key: &Expr,
+    base: &Value,
+    scopes: &Scopes,
+) -> Result<Value, Fault>
     ensures { Answers (indexed at base.now (value_of scopes.now key.now)) result }
 {
     let key = eval(alloc, key, scopes)?;
-    index_of(alloc, at, base, &key)
+    match member(base, &key) {
+        Ok(Some(value)) => Ok(value.copy(alloc)?),
+        Ok(None) => Ok(Value::Undef),
+        Err(_) => Err(no_result(alloc, at)),
+    }
 }
 
 /// Whether an option is equal; `default` isn't compared.
 #[cycle(evaluation)]
 fn is_equal(
     alloc: Global,
-    at: u32,
+    blame: Blame,
     option: &Option<Expr>,
     value: &Value,
     scopes: &Scopes,
 ) -> Result<bool, Fault>
-    ensures { AnswersBy (λ b. b) (is_equal at value.now (option_map (evaluated scopes.now) option.now)) result }
+    ensures { AnswersBy (λ b. b) (is_equal blame value.now (option_map (evaluated scopes.now) option.now)) result }
 {
     let Some(option) = option else {
         return Ok(false);
     };
-    let option = eval(alloc, option, scopes)?;
-    compared(alloc, at, value, &option)
+    let other = eval(alloc, option, scopes)?;
+    compared(alloc, blamed(blame, value, option.at), value, &other)
+}
+
+/// Whether one of the options of an arm of a `case` is equal, from the left.
+pub fn is_among(
+    alloc: Global,
+    blame: Blame,
+    options: &[Option<Expr>],
+    value: &Value,
+    scopes: &Scopes,
+) -> Result<bool, Fault>
+    ensures { AnswersBy (λ b. b) (is_among blame value.now (map (option_map (evaluated scopes.now)) options.now)) result }
+{
+    for option in options {
+        if is_equal(alloc, blame, option, value, scopes)? {
+            return Ok(true);
+        }
+    }
+    Ok(false)
 }
 
 /// What stands behind `default`.
@@ -276,7 +375,7 @@ fn select(
     ensures { Answers (selected at value.now (map (choice_by (evaluated scopes.now)) choices.now)) result }
 {
     for choice in choices {
-        if is_equal(alloc, at, &choice.0, value, scopes)? {
+        if is_equal(alloc, Blame::Selector(at), &choice.0, value, scopes)? {
             return eval(alloc, &choice.1, scopes);
         }
     }

@@ -3,22 +3,20 @@
 ghost use Rattle.std.specs.Prelude.{◌≡◌, Result, Ok, Err};
 ghost use Rattle.pp_value.specs.declared.value.Value.{Value};
 ghost use Rattle.pp_value.specs.declared.fault.Misfit.{Misfit};
-ghost use Rattle.pp_value.specs.Values.{size_of};
-ghost use Rattle.pp_value.specs.Table.{Gives, equal_table, add_table, index_table};
+ghost use Rattle.pp_value.specs.Values.{exceeds_limits};
+ghost use Rattle.pp_value.specs.Table.{Gives, equal_table, add_table};
 ghost use Rattle.pp_eval.specs.Verdicts.{AnswersBy, Answers, Refuses, made};
 ghost use Rattle.pp_eval.specs.Operations.{as_value, turned, operation, truth_of};
 ghost use Rattle.pp_eval.specs.Evaluation.{truth_at, asked, prefixed, prefix_at};
 
 use crate::answers::{limited, no_result, out_of_range, too_large};
 use pp_syntax::Op;
-use pp_value::{
-    Misfit, Value, ValueFault, add, equal, index, less, multiply, negate, subtract, within,
-};
+use pp_value::{Misfit, Value, ValueFault, add, equal, less, multiply, negate, subtract, within};
 use rh_base::Fault;
 use std::alloc::Global;
 
 /// The truth of a value; an opaque one has none.
-pub fn truth_of(value: &Value) -> Option<bool>
+fn truth_of(value: &Value) -> Option<bool>
     ensures { result ≡ truth_of value.now }
 {
     match value {
@@ -39,7 +37,7 @@ pub fn truth_at(alloc: Global, at: u32, value: &Value) -> Result<bool, Fault>
     }
 }
 
-/// Whether two values are equal, for a selector at a place.
+/// Whether two values are equal, with the refusal at a place.
 pub fn compared(alloc: Global, at: u32, a: &Value, b: &Value) -> Result<bool, Fault>
     ensures { AnswersBy (λ b. b) (asked at (equal_table a.now b.now)) result }
 {
@@ -80,7 +78,7 @@ fn answered(alloc: Global, at: u32, outcome: Result<Value, Misfit>) -> Result<Va
 
 /// The refusal of an operation that takes memory.
 fn refused(alloc: Global, at: u32, fault: ValueFault) -> Fault
-    ensures { (table : Result Value Misfit) → Gives size_of table (Err fault) → Refuses (made at table) result }
+    ensures { (table : Result Value Misfit) → Gives exceeds_limits table (Err fault) → Refuses (made at table) result }
 {
     match fault {
         ValueFault::Operand => no_result(alloc, at),
@@ -91,8 +89,8 @@ fn refused(alloc: Global, at: u32, fault: ValueFault) -> Fault
 }
 
 /// The sum of two values, with its refusal.
-fn summed(alloc: Global, at: u32, a: &Value, b: &Value) -> Result<Value, Fault>
-    ensures { Answers (made at (add_table a.now b.now)) result }
+fn summed(alloc: Global, at: u32, a: Value, b: &Value) -> Result<Value, Fault>
+    ensures { Answers (made at (add_table a b.now)) result }
 {
     match add(alloc, a, b) {
         Ok(value) => Ok(value),
@@ -101,31 +99,21 @@ fn summed(alloc: Global, at: u32, a: &Value, b: &Value) -> Result<Value, Fault>
 }
 
 /// The value of an operator between two operands whose values both count, or its refusal at a place.
-pub fn operate(alloc: Global, at: u32, op: Op, a: &Value, b: &Value) -> Result<Value, Fault>
-    ensures { Answers (made at (operation op a.now b.now)) result }
+pub fn operate(alloc: Global, at: u32, op: Op, a: Value, b: &Value) -> Result<Value, Fault>
+    ensures { Answers (made at (operation op a b.now)) result }
 {
     match op {
-        Op::Less => answered(alloc, at, as_value(less(a, b))),
-        Op::Greater => answered(alloc, at, as_value(less(b, a))),
-        Op::AtMost => answered(alloc, at, turned(less(b, a))),
-        Op::AtLeast => answered(alloc, at, turned(less(a, b))),
-        Op::Same => answered(alloc, at, as_value(equal(a, b))),
-        Op::NotSame => answered(alloc, at, turned(equal(a, b))),
+        Op::Less => answered(alloc, at, as_value(less(&a, b))),
+        Op::Greater => answered(alloc, at, as_value(less(b, &a))),
+        Op::AtMost => answered(alloc, at, turned(less(b, &a))),
+        Op::AtLeast => answered(alloc, at, turned(less(&a, b))),
+        Op::Same => answered(alloc, at, as_value(equal(&a, b))),
+        Op::NotSame => answered(alloc, at, turned(equal(&a, b))),
         Op::Plus => summed(alloc, at, a, b),
-        Op::Minus => answered(alloc, at, subtract(a, b)),
-        Op::Times => answered(alloc, at, multiply(a, b)),
-        Op::In => answered(alloc, at, as_value(within(a, b))),
+        Op::Minus => answered(alloc, at, subtract(&a, b)),
+        Op::Times => answered(alloc, at, multiply(&a, b)),
+        Op::In => answered(alloc, at, as_value(within(&a, b))),
         Op::Or | Op::And | Op::Not => answered(alloc, at, Err(Misfit::Operand)),
-    }
-}
-
-/// The member at an index or a key, or its refusal at a place.
-pub fn index_of(alloc: Global, at: u32, base: &Value, key: &Value) -> Result<Value, Fault>
-    ensures { Answers (made at (index_table base.now key.now)) result }
-{
-    match index(alloc, base, key) {
-        Ok(value) => Ok(value),
-        Err(fault) => Err(refused(alloc, at, fault)),
     }
 }
 

@@ -1,6 +1,6 @@
 //! One scope.
 
-use crate::bindings::Bindings;
+use pp_value::Pairs;
 use rh_base::Text;
 
 /// What a scope is of: the top, a node, a class of a name, or a defined resource.
@@ -12,10 +12,10 @@ pub enum Sort {
     Defined,
 }
 
-/// A scope; a class that inherits has the place of its parent's scope among all.
+/// A scope, with what is bound in it; a class that inherits has the place of its parent's scope among all.
 #[derive(Drop)]
 pub struct Scope {
     pub sort: Sort,
     pub parent: Option<usize>,
-    pub bindings: Bindings,
+    pub bindings: Pairs,
 }

@@ -3,14 +3,15 @@
 ghost use Rattle.std.specs.Prelude.{◌≡◌, ◌<◌, ◌∷◌, ◌++◌, [], length, None, IfOk, OnOk, OnErr, option_map, option_and_then, IsSome, IfSome};
 ghost use Rattle.pp_value.specs.Texts.{lowered};
 ghost use Rattle.pp_eval.specs.ClassNames.{place_among};
-ghost use Rattle.pp_eval.specs.Scoping.{Binds, BindsAt, BindsNow, place_now, with_facts, top_of, at_start, class_of, class_scope, defined_scope, node_scope_new, entered, left, current_scope, IsInner};
+ghost use Rattle.pp_eval.specs.Verdicts.{AnswersBy};
+ghost use Rattle.pp_eval.specs.Scoping.{Binds, BindsAt, BindsNow, bound, place_now, at_start, class_of, class_scope, defined_scope, node_scope_new, entered, left, current_scope, IsInner};
 
-use crate::bindings::Bindings;
+use crate::answers::bound_again;
 use crate::classes::Classes;
 use crate::scope::{Scope, Sort};
 use crate::start::top_of;
-use pp_value::Value;
-use rh_base::{NoMemory, Text};
+use pp_value::{Pairs, Value};
+use rh_base::{Fault, NoMemory, Text};
 use std::alloc::Global;
 use std::marker::Model;
 
@@ -44,7 +45,7 @@ pub struct Scopes {
 }
 
 impl Model for Scopes {
-    ghost use Rattle.std.specs.Prelude.{List, ℕ, IsTrue};
+    ghost use Rattle.std.specs.Prelude.{List, ℕ};
     ghost use Rattle.std.specs.Coded.{coded_list, coded×, coded_ℕ};
     ghost use Rattle.pp_eval.specs.declared.scope.Scope.{Scope};
     ghost use Rattle.pp_eval.specs.contracts.scope.Scope as scope;
@@ -53,34 +54,48 @@ impl Model for Scopes {
 
     ghost coded = { coded× (coded_list scope.the_row.coded) (coded_list coded_ℕ) };
 
-    ghost use Rattle.pp_eval.specs.Scoping.{are_open};
+    ghost use Rattle.pp_eval.specs.Scoping.{AreScopes};
 
     ghost view = { λ s. (s.scopes.items, s.open.items) };
 
     ghost use Rattle.std.specs.Prelude.{◌≡◌};
     ghost use Rattle.pp_eval.specs.ClassNames.{classes_in};
 
-    ghost invariant = { λ s. IsTrue (are_open s.scopes.items s.open.items) × (s.classes ≡ classes_in 0 s.scopes.items) };
+    ghost invariant = { λ s. AreScopes s.scopes.items s.open.items × (s.classes ≡ classes_in 0 s.scopes.items) };
+}
+
+/// A text of its own.
+fn owned(alloc: Global, name: &str) -> Result<Text, NoMemory>
+    ensures { IfOk result (λ text. text ≡ name.now) }
+{
+    Ok(Text::from_string(String::from_str(alloc, name)?))
 }
 
 /// Binds a name that has no binding there.
-fn bind_in(bindings: &mut Bindings, name: &str, value: Value) -> Result<(), BindFault>
+fn bind_in(alloc: Global, bindings: &mut Pairs, name: &str, value: Value) -> Result<(), BindFault>
     ensures { Binds bindings.old name.now value bindings.new result }
 {
     if bindings.find(name).is_some() {
         return Err(BindFault::Again);
     }
-    bindings.add(name, value)?;
+    let name = owned(alloc, name)?;
+    bindings.push(name, value)?;
     Ok(())
 }
 
 /// Binds a name in the scope at a place.
-fn bind_at(scopes: &mut Vec<Scope>, place: usize, name: &str, value: Value) -> Result<(), BindFault>
+fn bind_at(
+    alloc: Global,
+    scopes: &mut Vec<Scope>,
+    place: usize,
+    name: &str,
+    value: Value,
+) -> Result<(), BindFault>
     requires { place < length scopes.old.items }
     ensures { BindsAt place scopes.old.items name.now value scopes.new.items result }
 {
     let scope = &mut scopes[place];
-    bind_in(&mut scope.bindings, name, value)
+    bind_in(alloc, &mut scope.bindings, name, value)
 }
 
 /// The current scope's place.
@@ -173,12 +188,23 @@ impl Scopes {
     }
 
     /// Binds a name, without `$`, in the current scope.
-    #[tactic(auto, using(crate::proofs::OpenLaws::place_below, crate::proofs::OpenLaws::bound_open, crate::proofs::ClassPlaces::bound_classes))]
     pub fn bind(&mut self, name: &str, value: Value) -> Result<(), BindFault>
         ensures { BindsNow self.old name.now value self.new result }
     {
         let place = place_now(self.open.as_slice());
-        bind_at(&mut self.scopes, place, name, value)
+        bind_at(self.alloc, &mut self.scopes, place, name, value)
+    }
+
+    /// Binds a name, without `$`, that stands at a place, in the current scope.
+    pub fn bind_or_refuse(&mut self, at: u32, name: &str, value: Value) -> Result<(), Fault>
+        ensures answers { AnswersBy (λ done. self.new) (bound at name.now value self.old) result }
+        ensures err { OnErr result (self.new ≡ self.old) }
+    {
+        match self.bind(name, value) {
+            Ok(()) => Ok(()),
+            Err(BindFault::Again) => Err(bound_again(self.alloc, at, name)),
+            Err(BindFault::Memory(m)) => Err(Fault::Memory(m)),
+        }
     }
 
     /// Enters the scope of a class, which inherits the parent's.
@@ -189,11 +215,11 @@ impl Scopes {
         ensures err { OnErr result (self.new ≡ self.old) }
     {
         let parent = place_of_parent(&self.classes, parent);
-        let class = Text::from_string(String::from_str(self.alloc, name)?);
+        let class = owned(self.alloc, name)?;
         let scope = Scope {
             sort: Sort::Class(class),
             parent,
-            bindings: Bindings::new(self.alloc),
+            bindings: Pairs::new(self.alloc),
         };
         enter_named(
             &mut self.scopes,
@@ -212,7 +238,7 @@ impl Scopes {
         let scope = Scope {
             sort: Sort::Defined,
             parent: None,
-            bindings: Bindings::new(self.alloc),
+            bindings: Pairs::new(self.alloc),
         };
         enter(&mut self.scopes, &mut self.open, scope)
     }
@@ -226,13 +252,12 @@ impl Scopes {
         let scope = Scope {
             sort: Sort::Node,
             parent: None,
-            bindings: Bindings::new(self.alloc),
+            bindings: Pairs::new(self.alloc),
         };
         enter(&mut self.scopes, &mut self.open, scope)
     }
 
     /// Goes back to the scope that was current before.
-    #[tactic(auto, using(crate::proofs::OpenLaws::left_open))]
     pub fn leave(&mut self)
         requires { IsInner (current_scope self.old) }
         ensures { self.new ≡ left self.old }

@@ -2,10 +2,9 @@
 
 ghost use Rattle.std.specs.Prelude.{◌≡◌, ◌∷◌, [], codes, IfOk, OnOk};
 ghost use Rattle.std.specs.List.{list_all};
-ghost use Rattle.pp_eval.specs.Scoping.{is_name_byte, is_variable, with_facts, top_of};
+ghost use Rattle.pp_eval.specs.Scoping.{is_name_byte, is_variable, with_facts, pairs_in, top_of};
 
-use crate::bindings::Bindings;
-use pp_value::Value;
+use pp_value::{Pairs, Value};
 use rh_base::{NoMemory, Text};
 use std::alloc::Global;
 
@@ -40,12 +39,8 @@ fn is_variable(name: &[u8]) -> bool
     first && others
 }
 
-/// Binds each fact whose key is the name of a variable.
-fn bind_facts(
-    alloc: Global,
-    bindings: &mut Bindings,
-    pairs: &[(Text, Value)],
-) -> Result<(), NoMemory>
+/// Binds each of these whose key is the name of a variable.
+fn bind_pairs(alloc: Global, bindings: &mut Pairs, pairs: &[(Text, Value)]) -> Result<(), NoMemory>
     ensures { OnOk result (bindings.new ≡ with_facts bindings.old pairs.now) }
 {
     for pair in pairs {
@@ -53,21 +48,39 @@ fn bind_facts(
         let fits = is_variable(name.as_bytes());
         let is_free = bindings.find(name).is_none();
         if fits && is_free {
-            bindings.add(name, pair.1.copy(alloc)?)?;
+            let name = pair.0.copy(alloc)?;
+            bindings.push(name, pair.1.copy(alloc)?)?;
         }
     }
     Ok(())
 }
 
+/// Binds each fact whose key is the name of a variable.
+#[tactic(auto, using(crate::specs::Scoping::pairs_in_map))]
+fn bind_facts(alloc: Global, bindings: &mut Pairs, facts: &Value) -> Result<(), NoMemory>
+    ensures { OnOk result (bindings.new ≡ with_facts bindings.old (pairs_in facts.now)) }
+{
+    match facts {
+        Value::Map(pairs) => bind_pairs(alloc, bindings, pairs.as_slice()),
+        _ => Ok(()),
+    }
+}
+
+/// The binding of the whole map of the facts.
+fn with_whole(alloc: Global, facts: &Value) -> Result<Pairs, NoMemory>
+    ensures { IfOk result (λ b. b ≡ (codes "facts", facts.now) ∷ []) }
+{
+    let mut bindings = Pairs::new(alloc);
+    let name = Text::from_string(String::from_str(alloc, "facts")?);
+    bindings.push(name, facts.copy(alloc)?)?;
+    Ok(bindings)
+}
+
 /// The bindings of the top.
-#[tactic(auto, using(crate::proofs::StartLaws::in_map))]
-pub fn top_of(alloc: Global, facts: &Value) -> Result<Bindings, NoMemory>
+pub fn top_of(alloc: Global, facts: &Value) -> Result<Pairs, NoMemory>
     ensures { IfOk result (λ b. b ≡ top_of facts.now) }
 {
-    let mut bindings = Bindings::new(alloc);
-    bindings.add("facts", facts.copy(alloc)?)?;
-    if let Value::Map(pairs) = facts {
-        bind_facts(alloc, &mut bindings, pairs.as_slice())?;
-    }
+    let mut bindings = with_whole(alloc, facts)?;
+    bind_facts(alloc, &mut bindings, facts)?;
     Ok(bindings)
 }

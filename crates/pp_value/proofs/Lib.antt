@@ -1,10 +1,10 @@
+pub mod PlaceLaws
 pub mod TextLaws
-pub mod Opaque
 pub mod Tables
 pub mod WordLaws
 pub mod Capitals
-pub mod PutLaws
 pub mod Distinct
 pub mod Symmetry
-pub mod Results
+pub mod Members
 pub mod ProperResults
+pub mod LimitLaws

@@ -5,14 +5,16 @@ use Rattle.std.specs.Ordering.{int_eq}
 use Rattle.std.specs.Str.{bytes_eq}
 use Rattle.std.proofs.lemmas.Slice.Eq.{bytes_eq-Decides}
 use Rattle.std.proofs.lemmas.Bool.Decides.{Decides-int_eq, Decides-eqb}
+use mathlib.Core.Former.{this, arity}
+use Rattle.pp_value.specs.formers.keyed.Keyed.{the_former}
 use Rattle.pp_value.specs.declared.value.Ref.{Ref}
-use Rattle.pp_value.specs.declared.value.Value.{Value, Row_of-Value, end_of-Value, more_of-Value, Row_of-Pairs-pairs-2, end_of-Pairs-pairs-2, more_of-Pairs-pairs-2, items-the_row-Value, items-the_row-Pairs-pairs-2}
+use Rattle.pp_value.specs.declared.value.Value.{Value, Row_of-Value, end_of-Value, more_of-Value, items-the_row-Value}
 use Rattle.pp_value.specs.declared.value.Value.TheVariants as v
 use Rattle.pp_value.specs.declared.fault.Misfit.TheVariants.{Operand}
 use Rattle.pp_value.specs.Texts.{lowered}
-use Rattle.pp_value.specs.Values.{Pair, value_at, passes, HasDistinctKeys, has_opaque, same, same_row, same_pairs, pairs_in, same_bool, same_ref}
+use Rattle.pp_value.specs.Values.{Pair, Keys, keyed, value_at, passes, HasDistinctKeys, has_opaque, same, same_row, same_pairs, same_bool, same_ref}
 use Rattle.pp_value.specs.Table.{equal_table}
-use Rattle.pp_value.specs.Proper.{IsProper, AreProper, HaveProper}
+use Rattle.pp_value.specs.Proper.{IsProper, AreProper}
 use Rattle.pp_value.proofs.Distinct.{by_test, same_key, key_itself, at_first, at_later, AllIn, each_back}
 
 -- ---- truth values
@@ -87,26 +89,29 @@ further p pairs key y none h =
     (λ e. let clash : ◌≡◌ {A = Option Value} (Some y) None = sym h ∙ (ap (λ k. value_at k pairs) (sym (same_key p.0 key e)) ∙ none) in cc)
     (λ e. at_later key p pairs e ∙ h)
 
-pairs_back : {m : _} (row : Row_of-Pairs-pairs-2 m) (xs : List Pair) → HasDistinctKeys (items-the_row-Pairs-pairs-2 _ row) → ((key : List ℕ) (y : Value) → value_at key (items-the_row-Pairs-pairs-2 _ row) ≡ Some y → passes (same y) (value_at key xs) ≡ true) → same_pairs row xs ≡ true
-pairs_back end_of-Pairs-pairs-2 xs distinct f = refl
-pairs_back (more_of-Pairs-pairs-2 key x row) xs distinct f =
-    and_both _ _ (f key x (at_first key (key, x) (items-the_row-Pairs-pairs-2 _ row) (key_itself key)))
-    (pairs_back row xs distinct.1 (λ k y h. f k y (further (key, x) (items-the_row-Pairs-pairs-2 _ row) k y distinct.0 h)))
+pairs_back : {m : _} (keys : Keys) (row : Row_of-Value m) (xs : List Pair) → HasDistinctKeys (keyed keys row) → ((key : List ℕ) (y : Value) → value_at key (keyed keys row) ≡ Some y → passes (same y) (value_at key xs) ≡ true) → same_pairs keys row xs ≡ true
+pairs_back [] row xs distinct f = refl
+pairs_back (k ∷ keys) end_of-Value xs distinct f = refl
+pairs_back (k ∷ keys) (more_of-Value x row) xs distinct f =
+    and_both _ _ (f k.0 x (at_first k.0 (k.0, x) (keyed keys row) (key_itself k.0)))
+    (pairs_back keys row xs distinct.1 (λ key y h. f key y (further (k.0, x) (keyed keys row) key y distinct.0 h)))
 
-count_items : {m : _} (row : Row_of-Pairs-pairs-2 m) → pairs_in row ≡ length (items-the_row-Pairs-pairs-2 _ row)
-count_items end_of-Pairs-pairs-2 = refl
-count_items (more_of-Pairs-pairs-2 key x row) = let rest = count_items row in omega arith
+-- beside each key stands a value
+count_keys : (keys : Keys) (row : Row_of-Value (arity (the_former this) keys)) → length keys ≡ length (keyed keys row)
+count_keys [] row = refl
+count_keys (k ∷ keys) (more_of-Value x row) = let rest = count_keys keys row in omega arith
 
-value_proper : {m : _} (row : Row_of-Pairs-pairs-2 m) (key : List ℕ) (y : Value) → HaveProper row → value_at key (items-the_row-Pairs-pairs-2 _ row) ≡ Some y → IsProper y
-value_proper end_of-Pairs-pairs-2 key y all h = cc
-value_proper (more_of-Pairs-pairs-2 k x row) key y all h =
-    by_test (bytes_eq k key) (IsProper y)
-    (λ e. let value : x ≡ y = let both : ◌≡◌ {A = Option Value} (Some x) (Some y) = sym (at_first key (k, x) (items-the_row-Pairs-pairs-2 _ row) e) ∙ h in cc in subst IsProper value all.0)
-    (λ e. value_proper row key y all.1 (sym (at_later key (k, x) (items-the_row-Pairs-pairs-2 _ row) e) ∙ h))
+value_proper : {m : _} (keys : Keys) (row : Row_of-Value m) (key : List ℕ) (y : Value) → AreProper row → value_at key (keyed keys row) ≡ Some y → IsProper y
+value_proper [] row key y all h = cc
+value_proper (k ∷ keys) end_of-Value key y all h = cc
+value_proper (k ∷ keys) (more_of-Value x row) key y all h =
+    by_test (bytes_eq k.0 key) (IsProper y)
+    (λ e. let value : x ≡ y = let both : ◌≡◌ {A = Option Value} (Some x) (Some y) = sym (at_first key (k.0, x) (keyed keys row) e) ∙ h in cc in subst IsProper value all.0)
+    (λ e. value_proper keys row key y all.1 (sym (at_later key (k.0, x) (keyed keys row) e) ∙ h))
 
-one_alike : {n : _} (key : List ℕ) (x : Value) (other : Row_of-Pairs-pairs-2 n) (o : Option Value) → value_at key (items-the_row-Pairs-pairs-2 _ other) ≡ o → ((y : Value) → IsProper y → same x y ≡ true → same y x ≡ true) → HaveProper other → passes (same x) o ≡ true → Matches (items-the_row-Pairs-pairs-2 _ other) (key, x)
-one_alike key x other (Some y) e back q h = (y, (e, back y (value_proper other key y q e) h))
-one_alike key x other None e back q h = cc
+one_alike : {n : _} (key : List ℕ) (x : Value) (others : Keys) (other : Row_of-Value n) (o : Option Value) → value_at key (keyed others other) ≡ o → ((y : Value) → IsProper y → same x y ≡ true → same y x ≡ true) → AreProper other → passes (same x) o ≡ true → Matches (keyed others other) (key, x)
+one_alike key x others other (Some y) e back q h = (y, (e, back y (value_proper others other key y q e) h))
+one_alike key x others other None e back q h = cc
 
 -- ---- values
 
@@ -117,13 +122,13 @@ mutual
   same_back (v.Int x) (v.Int y) p q h = int_back x y h
   same_back (v.Str x) (v.Str y) p q h = bytes_back (lowered x) (lowered y) h
   same_back (v.List' s row) (v.List' s' row') p q h = rows_back row row' p q h
-  same_back (v.Map' s row) (v.Map' s' row') p q h =
-      let xs = items-the_row-Pairs-pairs-2 _ row in
-      let ys = items-the_row-Pairs-pairs-2 _ row' in
-      let many : length xs ≡ length ys = sym (count_items row) ∙ (Decides-eqb (pairs_in row) (length ys)).0 (and_left _ _ h) in
-      let all : Alike ys xs = alike row row' p.1 q.1 (and_right (pairs_in row == length ys) _ h) in
-      and_both _ _ ((Decides-eqb (pairs_in row') (length xs)).1 (count_items row' ∙ sym many))
-      (pairs_back row' xs q.0 (λ key y e. back_at xs ys key y (value_at key xs) refl p.0 all many e))
+  same_back (v.Map' keys row) (v.Map' others other) p q h =
+      let xs = keyed keys row in
+      let ys = keyed others other in
+      let many : length xs ≡ length ys = sym (count_keys keys row) ∙ (Decides-eqb (length keys) (length ys)).0 (and_left _ _ h) in
+      let all : Alike ys xs = alike keys row others other p.1 q.1 (and_right (length keys == length ys) _ h) in
+      and_both _ _ ((Decides-eqb (length others) (length xs)).1 (count_keys others other ∙ sym many))
+      (pairs_back others other xs q.0 (λ key y e. back_at xs ys key y (value_at key xs) refl p.0 all many e))
   same_back (v.Refer x) (v.Refer y) p q h = ref_back x y h
   same_back _ _ p q h = cc
 
@@ -134,11 +139,12 @@ mutual
   rows_back (more_of-Value x row) (more_of-Value y other) p q h =
       and_both _ _ (same_back x y p.0 q.0 (and_left _ _ h)) (rows_back row other p.1 q.1 (and_right (same x y) _ h))
 
-  alike : {m n : _} (row : Row_of-Pairs-pairs-2 m) (other : Row_of-Pairs-pairs-2 n) → HaveProper row → HaveProper other → same_pairs row (items-the_row-Pairs-pairs-2 _ other) ≡ true → Alike (items-the_row-Pairs-pairs-2 _ other) (items-the_row-Pairs-pairs-2 _ row)
-  alike end_of-Pairs-pairs-2 other p q h = tt
-  alike (more_of-Pairs-pairs-2 key x row) other p q h = (
-    one_alike key x other (value_at key (items-the_row-Pairs-pairs-2 _ other)) refl (λ y r. same_back x y p.0 r) q (and_left _ _ h),
-    alike row other p.1 q (and_right (passes (same x) (value_at key (items-the_row-Pairs-pairs-2 _ other))) _ h),
+  alike : {m n : _} (keys : Keys) (row : Row_of-Value m) (others : Keys) (other : Row_of-Value n) → AreProper row → AreProper other → same_pairs keys row (keyed others other) ≡ true → Alike (keyed others other) (keyed keys row)
+  alike [] row others other p q h = tt
+  alike (k ∷ keys) end_of-Value others other p q h = tt
+  alike (k ∷ keys) (more_of-Value x row) others other p q h = (
+    one_alike k.0 x others other (value_at k.0 (keyed others other)) refl (λ y r. same_back x y p.0 r) q (and_left _ _ h),
+    alike keys row others other p.1 q (and_right (passes (same x) (value_at k.0 (keyed others other))) _ h),
   )
 
 or_back : (a b : Bool) → (a || b) ≡ (b || a)

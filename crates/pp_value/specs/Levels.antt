@@ -1,23 +1,28 @@
 -- What the definitions say of a list and of a map, in the words of lists.
-use Rattle.std.specs.Prelude.{◌≡◌, ℕ, ◌+◌, Bool, true, false, ◌||◌, ◌&&◌, ◌==◌, List, [], ◌∷◌, ◌++◌, length, map, codes, refl, Some}
+use Rattle.std.specs.Prelude.{◌≡◌, ℕ, ◌+◌, max, Bool, true, false, ◌||◌, ◌&&◌, ◌==◌, List, [], ◌∷◌, ◌++◌, length, map, codes, refl, Some}
 use Rattle.std.specs.List.{list_any, list_all}
 use Rattle.std.proofs.Common.{ap, ◌∙◌, arith}
 use Rattle.pp_syntax.specs.declared.tree.TypeName.{TypeName}
 use Rattle.pp_syntax.specs.declared.tree.TypeName.TheVariants as t
 use Rattle.pp_syntax.specs.declared.tree.TypeName.TheBlock as kinds
-use Rattle.pp_value.specs.declared.value.Pairs.{Pairs}
-use Rattle.pp_value.specs.declared.value.Value.{Value, items-the_row-Value, items-the_row-Pairs-pairs-2, items_hidden-the_row-Value-0, items_hidden-the_row-Pairs-pairs-2-1}
+use Rattle.pp_value.specs.declared.value.Value.{Value, items-the_row-Value, items_hidden-the_row-Value-0}
 use Rattle.pp_value.specs.declared.value.Value.TheVariants as v
 use Rattle.pp_value.specs.declared.value.Value.TheBlock as block
-use Rattle.pp_value.specs.Values.{Pair, on_list, on_map, has_opaque, same, size_of, passes, value_at, is_undef, same_row, same_pairs, pairs_in}
-use Rattle.pp_value.specs.Shown.{shown, shown_row, shown_pairs, listed}
+use Rattle.pp_value.specs.Values.{Pair, keyed, on_list, on_map, has_opaque, same, size_of, depth_of, passes, value_at, is_undef, same_row, same_pairs}
+use Rattle.pp_value.specs.Shown.{shown, shown_row, shown_keyed, listed}
 use Rattle.pp_value.specs.Types.{is_fit}
 
 pub on_list_of : (test : List Value → Bool) (xs : List Value) → on_list test (v.List xs) ≡ test xs
 on_list_of test xs = ap test (items_hidden-the_row-Value-0 xs)
 
-pub on_map_of : (test : List Pair → Bool) (p : Pairs) → on_map test (v.Map p) ≡ test p.pairs
-on_map_of test p = ap test (items_hidden-the_row-Pairs-pairs-2-1 p.pairs)
+-- a map has the pairs that it is made of
+pub keyed_is : (xs : List Pair) → keyed (block.shape-the_row-Value-1 xs) (block.hidden-the_row-Value-1 xs) ≡ xs
+unfolding block.shape-the_row-Value-1 block.hidden-the_row-Value-1 denote.Hole.Carrier.hidden
+keyed_is [] = refl
+keyed_is (p ∷ xs) = ap (λ more. p ∷ more) (keyed_is xs)
+
+pub on_map_of : (test : List Pair → Bool) (xs : List Pair) → on_map test (v.Map xs) ≡ test xs
+on_map_of test xs = ap test (keyed_is xs)
 
 -- ---- opaque values
 
@@ -26,10 +31,10 @@ unfolding block.hidden-the_row-Value-0 denote.Hole.Carrier.hidden
 has_opaque_list [] = refl
 has_opaque_list (x ∷ xs) = ap (λ b. has_opaque x || b) (has_opaque_list xs)
 
-pub has_opaque_pairs : (xs : List Pair) → has_opaque (v.Map (record { pairs = xs })) ≡ list_any (λ p. has_opaque p.1) xs
-unfolding block.hidden-the_row-Pairs-pairs-2-1 denote.Hole.Carrier.hidden
-has_opaque_pairs [] = refl
-has_opaque_pairs (p ∷ xs) = ap (λ b. has_opaque p.1 || b) (has_opaque_pairs xs)
+pub has_opaque_map : (xs : List Pair) → has_opaque (v.Map xs) ≡ list_any (λ p. has_opaque p.1) xs
+unfolding block.shape-the_row-Value-1 block.hidden-the_row-Value-1 denote.Hole.Carrier.hidden
+has_opaque_map [] = refl
+has_opaque_map (p ∷ xs) = ap (λ b. has_opaque p.1 || b) (has_opaque_map xs)
 
 -- ---- sizes
 
@@ -46,10 +51,30 @@ unfolding block.hidden-the_row-Value-0 denote.Hole.Carrier.hidden
 size_of_list [] = refl
 size_of_list (x ∷ xs) = let rest = size_of_list xs in omega arith
 
-pub size_of_map : (xs : List Pair) → size_of (v.Map (record { pairs = xs })) ≡ 1 + size_of_each xs
-unfolding block.hidden-the_row-Pairs-pairs-2-1 denote.Hole.Carrier.hidden
+pub size_of_map : (xs : List Pair) → size_of (v.Map xs) ≡ 1 + size_of_each xs
+unfolding block.shape-the_row-Value-1 block.hidden-the_row-Value-1 denote.Hole.Carrier.hidden
 size_of_map [] = refl
 size_of_map (p ∷ xs) = let rest = size_of_map xs in omega arith
+
+-- ---- depth
+
+abbrev pub depth_of_all : List Value → ℕ
+depth_of_all [] = 0
+depth_of_all (x ∷ xs) = max (depth_of x) (depth_of_all xs)
+
+abbrev pub depth_of_each : List Pair → ℕ
+depth_of_each [] = 0
+depth_of_each (p ∷ xs) = max (depth_of p.1) (depth_of_each xs)
+
+pub depth_of_list : (xs : List Value) → depth_of (v.List xs) ≡ 1 + depth_of_all xs
+unfolding block.hidden-the_row-Value-0 denote.Hole.Carrier.hidden
+depth_of_list [] = refl
+depth_of_list (x ∷ xs) = let rest = depth_of_list xs in omega arith
+
+pub depth_of_map : (xs : List Pair) → depth_of (v.Map xs) ≡ 1 + depth_of_each xs
+unfolding block.shape-the_row-Value-1 block.hidden-the_row-Value-1 denote.Hole.Carrier.hidden
+depth_of_map [] = refl
+depth_of_map (p ∷ xs) = let rest = depth_of_map xs in omega arith
 
 -- ---- equal values
 
@@ -90,32 +115,28 @@ same_list_other xs b = same_with xs b
 abbrev pub same_in : List Pair → List Pair → Bool
 same_in xs ys = (length xs == length ys) && list_all (has_same ys) xs
 
-pairs_rows : (xs ys : List Pair) → same_pairs (block.hidden-the_row-Pairs-pairs-2-1 xs) ys ≡ list_all (has_same ys) xs
-unfolding block.hidden-the_row-Pairs-pairs-2-1 denote.Hole.Carrier.hidden
+pairs_rows : (xs : List Pair) (ys : List Pair) → same_pairs (block.shape-the_row-Value-1 xs) (block.hidden-the_row-Value-1 xs) ys ≡ list_all (has_same ys) xs
+unfolding block.shape-the_row-Value-1 block.hidden-the_row-Value-1 denote.Hole.Carrier.hidden
 pairs_rows [] ys = refl
 pairs_rows (p ∷ xs) ys = ap (λ b. has_same ys p && b) (pairs_rows xs ys)
 
-pairs_count : (xs : List Pair) → pairs_in (block.hidden-the_row-Pairs-pairs-2-1 xs) ≡ length xs
-unfolding block.hidden-the_row-Pairs-pairs-2-1 denote.Hole.Carrier.hidden
-pairs_count [] = refl
-pairs_count (p ∷ xs) = let rest = pairs_count xs in omega arith
+keys_count : (xs : List Pair) → length (block.shape-the_row-Value-1 xs) ≡ length xs
+unfolding block.shape-the_row-Value-1
+keys_count [] = refl
+keys_count (p ∷ xs) = let rest = keys_count xs in omega arith
 
-pub same_map_other : (p : Pairs) (b : Value) → same (v.Map p) b ≡ on_map (same_in p.pairs) b
-same_map_other p v.Undef = refl
-same_map_other p (v.Bool x) = refl
-same_map_other p (v.Int x) = refl
-same_map_other p (v.Str x) = refl
-same_map_other p (v.List' shape row) = refl
-same_map_other p (v.Map' shape row) =
-    let ys = items-the_row-Pairs-pairs-2 _ row in
-    let count = pairs_count p.pairs in
-    let each = pairs_rows p.pairs ys in
-    λ i. (count i == length ys) && each i
-same_map_other p (v.Refer x) = refl
-same_map_other p v.Opaque = refl
+pub same_map_other : (xs : List Pair) (b : Value) → same (v.Map xs) b ≡ on_map (same_in xs) b
+same_map_other xs v.Undef = refl
+same_map_other xs (v.Bool x) = refl
+same_map_other xs (v.Int x) = refl
+same_map_other xs (v.Str x) = refl
+same_map_other xs (v.List' shape row) = refl
+same_map_other xs (v.Map' keys row) = let ys = keyed keys row in λ i. (keys_count xs i == length ys) && pairs_rows xs ys i
+same_map_other xs (v.Refer x) = refl
+same_map_other xs v.Opaque = refl
 
-pub same_maps : (p q : Pairs) → same (v.Map p) (v.Map q) ≡ same_in p.pairs q.pairs
-same_maps p q = same_map_other p (v.Map q) ∙ on_map_of (same_in p.pairs) q
+pub same_maps : (xs ys : List Pair) → same (v.Map xs) (v.Map ys) ≡ same_in xs ys
+same_maps xs ys = same_map_other xs (v.Map ys) ∙ on_map_of (same_in xs) ys
 
 -- ---- texts
 
@@ -130,11 +151,11 @@ shown_list xs = ap (λ texts. codes "[" ++ (listed texts ++ codes "]")) (rows xs
     rows [] = refl
     rows (x ∷ xs) = ap (λ texts. shown x ∷ texts) (rows xs)
 
-pub shown_map : (p : Pairs) → shown (v.Map p) ≡ codes "{" ++ (listed (map pair_text p.pairs) ++ codes "}")
-unfolding block.hidden-the_row-Pairs-pairs-2-1 denote.Hole.Carrier.hidden
-shown_map p = ap (λ texts. codes "{" ++ (listed texts ++ codes "}")) (rows p.pairs)
+pub shown_map : (xs : List Pair) → shown (v.Map xs) ≡ codes "{" ++ (listed (map pair_text xs) ++ codes "}")
+unfolding block.shape-the_row-Value-1 block.hidden-the_row-Value-1 denote.Hole.Carrier.hidden
+shown_map xs = ap (λ texts. codes "{" ++ (listed texts ++ codes "}")) (rows xs)
   where
-    rows : (xs : List Pair) → shown_pairs (block.hidden-the_row-Pairs-pairs-2-1 xs) ≡ map pair_text xs
+    rows : (xs : List Pair) → shown_keyed (block.shape-the_row-Value-1 xs) (block.hidden-the_row-Value-1 xs) ≡ map pair_text xs
     rows [] = refl
     rows (q ∷ xs) = ap (λ texts. pair_text q ∷ texts) (rows xs)
 

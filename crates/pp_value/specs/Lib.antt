@@ -1,3 +1,5 @@
+pub mod formers
+pub mod Keys
 pub mod Faults
 pub mod Texts
 pub mod Values
@@ -5,5 +7,4 @@ pub mod Table
 pub mod Shown
 pub mod Types
 pub mod Levels
-pub mod Puts
 pub mod Proper

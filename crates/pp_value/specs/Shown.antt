@@ -1,13 +1,13 @@
 -- Values as texts.
-use Rattle.std.specs.Prelude.{ℕ, ◌+◌, ℤ, Bool, true, false, if◌then◌else◌, List, [], ◌∷◌, ◌++◌, length, codes, Result, Ok, Err}
+use Rattle.std.specs.Prelude.{ℕ, ◌+◌, ℤ, Bool, true, false, nat_lt, if◌then◌else◌, List, [], ◌∷◌, ◌++◌, length, codes, Result, Ok, Err}
 use Rattle.std.specs.Fmt.{signed_decimal}
 use Rattle.pp_value.specs.declared.value.Ref.{Ref}
-use Rattle.pp_value.specs.declared.value.Value.{Value, Row_of-Value, end_of-Value, more_of-Value, Row_of-Pairs-pairs-2, end_of-Pairs-pairs-2, more_of-Pairs-pairs-2}
+use Rattle.pp_value.specs.declared.value.Value.{Value, Row_of-Value, end_of-Value, more_of-Value}
 use Rattle.pp_value.specs.declared.value.Value.TheVariants as v
 use Rattle.pp_value.specs.declared.fault.Misfit.{Misfit}
 use Rattle.pp_value.specs.declared.fault.Misfit.TheVariants.{Operand}
 use Rattle.pp_value.specs.Texts.{capitalized}
-use Rattle.pp_value.specs.Values.{has_opaque}
+use Rattle.pp_value.specs.Values.{Keys, has_opaque, size_limit}
 
 abbrev pub shown_int : ℤ → List ℕ
 shown_int n = signed_decimal n
@@ -39,7 +39,7 @@ abbrev mutual
   shown (v.Int n) = shown_int n
   shown (v.Str text) = text
   shown (v.List' shape row) = codes "[" ++ (listed (shown_row row) ++ codes "]")
-  shown (v.Map' shape row) = codes "{" ++ (listed (shown_pairs row) ++ codes "}")
+  shown (v.Map' keys row) = codes "{" ++ (listed (shown_keyed keys row) ++ codes "}")
   shown (v.Refer r) = shown_ref r
   shown v.Opaque = []
 
@@ -47,14 +47,15 @@ abbrev mutual
   shown_row end_of-Value = []
   shown_row (more_of-Value x row) = shown x ∷ shown_row row
 
-  pub shown_pairs : {m : _} → Row_of-Pairs-pairs-2 m → List (List ℕ)
-  shown_pairs end_of-Pairs-pairs-2 = []
-  shown_pairs (more_of-Pairs-pairs-2 key x row) = (key ++ (codes " => " ++ shown x)) ∷ shown_pairs row
+  pub shown_keyed : {m : _} → Keys → Row_of-Value m → List (List ℕ)
+  shown_keyed [] row = []
+  shown_keyed (k ∷ keys) end_of-Value = []
+  shown_keyed (k ∷ keys) (more_of-Value x row) = (k.0 ++ (codes " => " ++ shown x)) ∷ shown_keyed keys row
 
 -- `show`: refused where an opaque value stands anywhere in it
 abbrev pub show_table : Value → Result (List ℕ) Misfit
 show_table x = if has_opaque x then Err Operand else Ok (shown x)
 
--- the size of a text as a value
-abbrev pub size_of_text : List ℕ → ℕ
-size_of_text text = 1 + length text
+-- a text that exceeds the limits of a value
+abbrev pub is_long_text : List ℕ → Bool
+is_long_text text = nat_lt size_limit (1 + length text)

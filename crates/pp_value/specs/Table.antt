@@ -1,14 +1,15 @@
 -- The operations on values: what each gives, as a table by the kinds of its operands, and `Operand` for anything else.
-use Rattle.std.specs.Prelude.{◌≡◌, ℕ, ◌+◌, ◌-◌, ◌≤◌, ◌<◌, ℤ, pos, negsuc, ◌+ℤ◌, ◌-ℤ◌, ◌*ℤ◌, neg_ℤ, Bool, ◌||◌, nat_lt, int_lt, if◌then◌else◌, List, ◌++◌, length, map, filter, slice_get, Option, Some, None, is_none, unwrap_or, Result, Ok, Err}
+use Rattle.std.specs.Prelude.{◌≡◌, ◌+◌, ◌-◌, ℤ, pos, negsuc, ◌+ℤ◌, ◌-ℤ◌, ◌*ℤ◌, neg_ℤ, Bool, true, false, ◌||◌, nat_lt, int_lt, if◌then◌else◌, List, ◌++◌, length, slice_get, Option, Some, None, Result, Ok, Err}
 use Rattle.std.specs.List.{list_any}
-use Rattle.pp_value.specs.declared.value.Value.{Value, items-the_row-Value, items-the_row-Pairs-pairs-2}
+use Rattle.pp_value.specs.declared.value.Value.{Value, items-the_row-Value}
 use Rattle.pp_value.specs.declared.value.Value.TheVariants as v
 use Rattle.pp_value.specs.declared.fault.Misfit.{Misfit}
 use Rattle.pp_value.specs.declared.fault.Misfit.TheVariants.{Operand, Range}
 use Rattle.pp_value.specs.declared.fault.ValueFault.{ValueFault}
 use Rattle.pp_value.specs.declared.fault.ValueFault.TheVariants as fault
 use Rattle.pp_value.specs.Texts.{lowered, same_text, less_text, is_part}
-use Rattle.pp_value.specs.Values.{Pair, has_opaque, same, value_at}
+use Rattle.pp_value.specs.Keys.{with_pairs}
+use Rattle.pp_value.specs.Values.{keyed, has_opaque, same, value_at}
 
 -- `==`: refused where an opaque value stands anywhere in either
 abbrev pub equal_table : Value → Value → Result Bool Misfit
@@ -28,7 +29,7 @@ member_table x items = if has_opaque x || list_any has_opaque items then Err Ope
 abbrev pub within_table : Value → Value → Result Bool Misfit
 within_table (v.Str part) (v.Str text) = Ok (is_part (lowered part) (lowered text))
 within_table x (v.List' shape row) = member_table x (items-the_row-Value _ row)
-within_table (v.Str key) (v.Map' shape row) = Ok (list_any (λ p. same_text key p.0) (items-the_row-Pairs-pairs-2 _ row))
+within_table (v.Str key) (v.Map' keys row) = Ok (list_any (λ p. same_text key p.0) (keyed keys row))
 within_table _ _ = Err Operand
 
 -- whole numbers are those of 64 bits with a sign
@@ -39,26 +40,11 @@ fits_word (negsuc n) = nat_lt n 0x8000_0000_0000_0000
 abbrev pub number : ℤ → Result Value Misfit
 number n = if fits_word n then Ok (v.Int n) else Err Range
 
--- a pair with the value that the right map has for its key, if it has one
-abbrev pub renewed : List Pair → Pair → Pair
-renewed right p = (p.0, unwrap_or (value_at p.0 right) p.1)
-
-abbrev pub is_new : List Pair → Pair → Bool
-is_new left p = is_none (value_at p.0 left)
-
--- the right map's values win, and its new keys go last
-abbrev pub merged : List Pair → List Pair → List Pair
-merged left right = map (renewed right) left ++ filter (is_new left) right
-
--- a map of these pairs
-abbrev pub map_of : List Pair → Value
-map_of pairs = v.Map (record { pairs = pairs })
-
--- `+`: two numbers, two lists, which are joined, or two maps
+-- `+`: two numbers, two lists, which are joined, or two maps: the right one's values win, and its new keys go last
 abbrev pub add_table : Value → Value → Result Value Misfit
 add_table (v.Int m) (v.Int n) = number (m +ℤ n)
 add_table (v.List' shape row) (v.List' shape_2 row_2) = Ok (v.List (items-the_row-Value _ row ++ items-the_row-Value _ row_2))
-add_table (v.Map' shape row) (v.Map' shape_2 row_2) = Ok (map_of (merged (items-the_row-Pairs-pairs-2 _ row) (items-the_row-Pairs-pairs-2 _ row_2)))
+add_table (v.Map' keys row) (v.Map' keys_2 row_2) = Ok (v.Map (with_pairs (keyed keys row) (keyed keys_2 row_2)))
 add_table _ _ = Err Operand
 
 abbrev pub subtract_table : Value → Value → Result Value Misfit
@@ -85,18 +71,14 @@ member_at items (negsuc n) = if nat_lt n (length items) then or_undef (slice_get
 -- `v[k]`: a list and a number, or a map and a text, by exact key
 abbrev pub index_table : Value → Value → Result Value Misfit
 index_table (v.List' shape row) (v.Int n) = Ok (member_at (items-the_row-Value _ row) n)
-index_table (v.Map' shape row) (v.Str key) = Ok (or_undef (value_at key (items-the_row-Pairs-pairs-2 _ row)))
+index_table (v.Map' keys row) (v.Str key) = Ok (or_undef (value_at key (keyed keys row)))
 index_table _ _ = Err Operand
 
--- the greatest size of one value
-abbrev pub size_limit : ℕ
-size_limit = 262144
-
--- What a call gives whose result may be too large, and may want memory: what the table names, `Large` exactly where its size is over
--- the limit, and the table's refusal.
-abbrev pub Gives : {X : Type 0} → (X → ℕ) → Result X Misfit → Result X ValueFault → Type 0
-Gives size table (Ok x) = (table ≡ Ok x) × (size x ≤ size_limit)
-Gives size table (Err fault.Operand) = table ≡ Err Operand
-Gives size table (Err fault.Range) = table ≡ Err Range
-Gives {X} size table (Err fault.Large) = (x : X) × ((table ≡ Ok x) × (size_limit < size x))
-Gives size table (Err (fault.Memory m)) = Unit {0}
+-- What a call gives whose result may exceed the limits, and may want memory: what the table names, `Large` exactly where that exceeds
+-- them, and the table's refusal.
+abbrev pub Gives : {X : Type 0} → (X → Bool) → Result X Misfit → Result X ValueFault → Type 0
+Gives exceeds table (Ok x) = (table ≡ Ok x) × (exceeds x ≡ false)
+Gives exceeds table (Err fault.Operand) = table ≡ Err Operand
+Gives exceeds table (Err fault.Range) = table ≡ Err Range
+Gives {X} exceeds table (Err fault.Large) = (x : X) × ((table ≡ Ok x) × (exceeds x ≡ true))
+Gives exceeds table (Err (fault.Memory m)) = Unit {0}

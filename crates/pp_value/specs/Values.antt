@@ -1,15 +1,26 @@
--- Values: which are equal, which hold an opaque one, and how large they are.
-use Rattle.std.specs.Prelude.{◌≡◌, ℕ, ◌+◌, ℤ, Bool, true, false, ◌||◌, ◌&&◌, ◌==◌, if◌then◌else◌, List, [], ◌∷◌, length, Option, Some, None}
+-- Values: which are equal, which hold an opaque one, and how large and how deep they are.
+use Rattle.std.specs.Prelude.{ℕ, ◌+◌, ℤ, Bool, true, false, ◌||◌, ◌&&◌, ◌==◌, nat_lt, max, List, [], ◌∷◌, length, Option, Some, None}
 use Rattle.std.specs.Str.{bytes_eq}
 use Rattle.std.specs.Ordering.{int_eq}
+pub use Rattle.pp_value.specs.Keys.{value_at, with_pair, HasDistinctKeys}
 use Rattle.pp_value.specs.declared.value.Ref.{Ref}
-use Rattle.pp_value.specs.declared.value.Value.{Value, Row_of-Value, end_of-Value, more_of-Value, Row_of-Pairs-pairs-2, end_of-Pairs-pairs-2, more_of-Pairs-pairs-2, items-the_row-Value, items-the_row-Pairs-pairs-2}
+use Rattle.pp_value.specs.declared.value.Value.{Value, Row_of-Value, end_of-Value, more_of-Value, items-the_row-Value}
 use Rattle.pp_value.specs.declared.value.Value.TheVariants as v
 use Rattle.pp_value.specs.Texts.{same_text}
 
 -- a key and its value
 abbrev pub Pair : Type 0
 Pair = List ℕ × Value
+
+-- the keys of a map, beside which its values stand in a row
+abbrev pub Keys : Type 0
+Keys = List (List ℕ × Unit {0})
+
+-- the keys of a map, each with its value
+abbrev pub keyed : {m : _} → Keys → Row_of-Value m → List Pair
+keyed [] row = []
+keyed (k ∷ keys) end_of-Value = []
+keyed (k ∷ keys) (more_of-Value x row) = (k.0, x) ∷ keyed keys row
 
 -- ---- one level of a value
 
@@ -35,32 +46,16 @@ on_list test (v.List' shape row) = test (items-the_row-Value _ row)
 on_list test _ = false
 
 abbrev pub on_map : (List Pair → Bool) → Value → Bool
-on_map test (v.Map' shape row) = test (items-the_row-Pairs-pairs-2 _ row)
+on_map test (v.Map' keys row) = test (keyed keys row)
 on_map test _ = false
 
 abbrev pub on_refer : (Ref → Bool) → Value → Bool
 on_refer test (v.Refer r) = test r
 on_refer test _ = false
 
--- ---- maps as lists of pairs
-
--- the value of a key
-abbrev pub value_at : List ℕ → List Pair → Option Value
-value_at key [] = None
-value_at key (p ∷ pairs) = if bytes_eq p.0 key then Some p.1 else value_at key pairs
-
--- a key that stands already takes the value and keeps its place, and a new key goes last
-abbrev pub with_pair : List ℕ → Value → List Pair → List Pair
-with_pair key x [] = (key, x) ∷ []
-with_pair key x (p ∷ pairs) = if bytes_eq p.0 key then (p.0, x) ∷ pairs else p ∷ with_pair key x pairs
-
 abbrev pub passes : (Value → Bool) → Option Value → Bool
 passes test None = false
 passes test (Some x) = test x
-
-abbrev pub HasDistinctKeys : List Pair → Type 0
-HasDistinctKeys [] = Unit {0}
-HasDistinctKeys (p ∷ pairs) = (value_at p.0 pairs ≡ None) × HasDistinctKeys pairs
 
 -- ---- opaque values
 
@@ -72,17 +67,13 @@ abbrev mutual
   has_opaque (v.Int n) = false
   has_opaque (v.Str text) = false
   has_opaque (v.List' shape row) = opaque_in_row row
-  has_opaque (v.Map' shape row) = opaque_in_pairs row
+  has_opaque (v.Map' keys row) = opaque_in_row row
   has_opaque (v.Refer r) = false
   has_opaque v.Opaque = true
 
   pub opaque_in_row : {m : _} → Row_of-Value m → Bool
   opaque_in_row end_of-Value = false
   opaque_in_row (more_of-Value x row) = has_opaque x || opaque_in_row row
-
-  pub opaque_in_pairs : {m : _} → Row_of-Pairs-pairs-2 m → Bool
-  opaque_in_pairs end_of-Pairs-pairs-2 = false
-  opaque_in_pairs (more_of-Pairs-pairs-2 key x row) = has_opaque x || opaque_in_pairs row
 
 -- ---- equal values
 
@@ -107,7 +98,7 @@ abbrev mutual
   same (v.Int n) b = on_int (same_int n) b
   same (v.Str text) b = on_text (same_text text) b
   same (v.List' shape row) b = on_list (same_row row) b
-  same (v.Map' shape row) b = on_map (λ pairs. (pairs_in row == length pairs) && same_pairs row pairs) b
+  same (v.Map' keys row) b = on_map (λ pairs. (length keys == length pairs) && same_pairs keys row pairs) b
   same (v.Refer r) b = on_refer (same_ref r) b
   same v.Opaque b = false
 
@@ -117,15 +108,16 @@ abbrev mutual
   same_row (more_of-Value x row) [] = false
   same_row (more_of-Value x row) (y ∷ ys) = same x y && same_row row ys
 
-  pub same_pairs : {m : _} → Row_of-Pairs-pairs-2 m → List Pair → Bool
-  same_pairs end_of-Pairs-pairs-2 pairs = true
-  same_pairs (more_of-Pairs-pairs-2 key x row) pairs = passes (same x) (value_at key pairs) && same_pairs row pairs
-
-  pub pairs_in : {m : _} → Row_of-Pairs-pairs-2 m → ℕ
-  pairs_in end_of-Pairs-pairs-2 = 0
-  pairs_in (more_of-Pairs-pairs-2 key x row) = pairs_in row + 1
+  pub same_pairs : {m : _} → Keys → Row_of-Value m → List Pair → Bool
+  same_pairs [] row pairs = true
+  same_pairs (k ∷ keys) end_of-Value pairs = true
+  same_pairs (k ∷ keys) (more_of-Value x row) pairs = passes (same x) (value_at k.0 pairs) && same_pairs keys row pairs
 
 -- ---- sizes
+
+abbrev pub size_of_keys : Keys → ℕ
+size_of_keys [] = 0
+size_of_keys (k ∷ keys) = (1 + length k.0) + size_of_keys keys
 
 -- 1 for undef, truth values, numbers and opaque values; 1 and the bytes for texts, and for both texts of a reference;
 -- 1 and the sizes of the members for a list; 1 and for each pair 1, the bytes of the key and the size of the value for a map
@@ -136,7 +128,7 @@ abbrev mutual
   size_of (v.Int n) = 1
   size_of (v.Str text) = 1 + length text
   size_of (v.List' shape row) = 1 + size_of_row row
-  size_of (v.Map' shape row) = 1 + size_of_pairs row
+  size_of (v.Map' keys row) = 1 + (size_of_keys keys + size_of_row row)
   size_of (v.Refer r) = 1 + (length r.kind + length r.title)
   size_of v.Opaque = 1
 
@@ -144,6 +136,34 @@ abbrev mutual
   size_of_row end_of-Value = 0
   size_of_row (more_of-Value x row) = size_of x + size_of_row row
 
-  pub size_of_pairs : {m : _} → Row_of-Pairs-pairs-2 m → ℕ
-  size_of_pairs end_of-Pairs-pairs-2 = 0
-  size_of_pairs (more_of-Pairs-pairs-2 key x row) = (1 + length key + size_of x) + size_of_pairs row
+-- ---- depth
+
+-- none for what has no members; a list and a map nest one level deeper than the deepest of their members
+abbrev mutual
+  pub depth_of : Value → ℕ
+  depth_of v.Undef = 0
+  depth_of (v.Bool b) = 0
+  depth_of (v.Int n) = 0
+  depth_of (v.Str text) = 0
+  depth_of (v.List' shape row) = 1 + depth_of_row row
+  depth_of (v.Map' keys row) = 1 + depth_of_row row
+  depth_of (v.Refer r) = 0
+  depth_of v.Opaque = 0
+
+  pub depth_of_row : {m : _} → Row_of-Value m → ℕ
+  depth_of_row end_of-Value = 0
+  depth_of_row (more_of-Value x row) = max (depth_of x) (depth_of_row row)
+
+-- ---- limits
+
+-- the greatest size of one value
+abbrev pub size_limit : ℕ
+size_limit = 262144
+
+-- how deep one value nests at most
+abbrev pub depth_limit : ℕ
+depth_limit = 1000
+
+-- it is larger than a value may be, or nests deeper
+abbrev pub exceeds_limits : Value → Bool
+exceeds_limits x = nat_lt size_limit (size_of x) || nat_lt depth_limit (depth_of x)

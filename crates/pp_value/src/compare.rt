@@ -1,26 +1,26 @@
 //! Which values are equal, less, or within another.
 
-ghost use Rattle.std.specs.Prelude.{◌≡◌, ◌||◌, ◌&&◌, ◌==◌, length};
-ghost use Rattle.std.specs.List.{list_any, list_all};
-ghost use Rattle.pp_value.specs.Values.{has_opaque, same, same_ref, passes, value_at};
+ghost use Rattle.std.specs.Prelude.{◌≡◌};
+ghost use Rattle.std.specs.List.{list_any};
+ghost use Rattle.pp_value.specs.Values.{has_opaque, same, same_ref};
 ghost use Rattle.pp_value.specs.Texts.{same_text};
-ghost use Rattle.pp_value.specs.Levels.{all_same, has_same, same_in};
+ghost use Rattle.pp_value.specs.Levels.{all_same, same_in};
 ghost use Rattle.pp_value.specs.Table.{equal_table, less_table, member_table, within_table};
 
 use crate::fault::Misfit;
 use crate::texts::{is_part, less_text, same_text};
-use crate::value::{Ref, Value, value_of};
+use crate::value::{Pairs, Ref, Value};
 use rh_base::Text;
 
 /// Whether an opaque value stands anywhere in it.
 #[cycle(opaque)]
-#[tactic(auto, using(crate::proofs::Opaque::of_list, crate::proofs::Opaque::of_map))]
+#[tactic(auto, using(crate::specs::Levels::has_opaque_list, crate::specs::Levels::has_opaque_map))]
 pub fn has_opaque(value: &Value) -> bool
     ensures { result ≡ has_opaque value.now }
 {
     match value {
         Value::List(items) => any_opaque(items.as_slice()),
-        Value::Map(pairs) => any_opaque_value(pairs.as_slice()),
+        Value::Map(pairs) => any_opaque_value(pairs),
         Value::Opaque => true,
         _ => false,
     }
@@ -39,10 +39,10 @@ fn any_opaque(items: &[Value]) -> bool
 }
 
 #[cycle(opaque)]
-fn any_opaque_value(pairs: &[(Text, Value)]) -> bool
+fn any_opaque_value(pairs: &Pairs) -> bool
     ensures { result ≡ list_any (λ p. has_opaque p.1) pairs.now }
 {
-    for pair in pairs {
+    for pair in pairs.as_slice() {
         if has_opaque(&pair.1) {
             return true;
         }
@@ -70,7 +70,7 @@ pub fn same(a: &Value, b: &Value) -> bool
         (Value::Int(x), Value::Int(y)) => *x == *y,
         (Value::Str(x), Value::Str(y)) => same_text(x.as_str(), y.as_str()),
         (Value::List(x), Value::List(y)) => all_same(x.as_slice(), y.as_slice()),
-        (Value::Map(x), Value::Map(y)) => same_pairs(x.as_slice(), y.as_slice()),
+        (Value::Map(x), Value::Map(y)) => same_pairs(x, y),
         (Value::Refer(x), Value::Refer(y)) => same_ref(x, y),
         _ => false,
     }
@@ -94,18 +94,14 @@ fn all_same(xs: &[Value], ys: &[Value]) -> bool
 }
 
 #[cycle(same)]
-fn same_pairs(xs: &[(Text, Value)], ys: &[(Text, Value)]) -> bool
+fn same_pairs(xs: &Pairs, ys: &Pairs) -> bool
     ensures { result ≡ same_in xs.now ys.now }
 {
-    xs.len() == ys.len() && all_have_same(xs, ys)
-}
-
-#[cycle(same)]
-fn all_have_same(xs: &[(Text, Value)], ys: &[(Text, Value)]) -> bool
-    ensures { result ≡ list_all (has_same ys.now) xs.now }
-{
-    for pair in xs {
-        let Some(other) = value_of(ys, pair.0.as_str()) else {
+    if xs.len() != ys.len() {
+        return false;
+    }
+    for pair in xs.as_slice() {
+        let Some(other) = ys.find(pair.0.as_str()) else {
             return false;
         };
         if !same(&pair.1, other) {

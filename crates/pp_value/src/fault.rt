@@ -1,3 +1,5 @@
+//! Why an operation has no result.
+
 ghost use Rattle.std.specs.Prelude.{◌≡◌};
 ghost use Rattle.pp_value.specs.declared.fault.ValueFault.TheVariants as fault;
 ghost use Rattle.pp_value.specs.Faults.{as_fault};
@@ -23,8 +25,8 @@ pub enum ValueFault {
     Operand,
     #[error("a whole number leaves 64 bits")]
     Range,
-    /// The result's size is over the limit of one value.
-    #[error("the value is too large")]
+    /// The result exceeds the limits of one value.
+    #[error("the value is too large or too deep")]
     Large,
     #[error("out of memory")]
     Memory(NoMemory),

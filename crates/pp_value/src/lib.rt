@@ -3,27 +3,28 @@
 
 mod compare;
 mod fault;
+mod keyed;
 mod laws;
 mod numbers;
 mod operations;
+mod places;
 mod showing;
 mod sizes;
 mod texts;
 mod types;
 mod value;
 
-pub use compare::{equal, less, within};
+pub use compare::{equal, has_opaque, less, within};
 pub use fault::{Misfit, ValueFault};
+pub use keyed::Keyed;
 pub use laws::{
-    equality_is_symmetric, members_are_proper, pairs_stay_distinct, parts_stand_within,
-    sums_are_proper, text_shows_itself,
+    distinct_pairs_are_kept, equality_is_symmetric, members_are_proper, members_stay_within,
+    pairs_stay_proper, parts_stand_within, right_values_win, sums_are_proper, text_shows_itself,
+    wholes_are_proper,
 };
 pub use numbers::{multiply, negate, subtract};
-pub use operations::{add, index};
+pub use operations::{add, member};
 pub use showing::show;
-pub use sizes::size;
+pub use sizes::{exceeds_limits, size};
 pub use types::fits;
-pub use value::{Pairs, Ref, Value};
-
-#[cfg(test)]
-mod tests;
+pub use value::{Pairs, Ref, Value, copy_pairs};

@@ -5,11 +5,11 @@ ghost use Rattle.pp_value.specs.Values.{has_opaque};
 ghost use Rattle.pp_value.specs.Levels.{pair_text};
 ghost use Rattle.pp_value.specs.Table.{Gives};
 ghost use Rattle.pp_value.specs.Texts.{capitalized, capital_if};
-ghost use Rattle.pp_value.specs.Shown.{shown, shown_int, shown_ref, listed, behind, show_table, size_of_text};
+ghost use Rattle.pp_value.specs.Shown.{shown, shown_int, shown_ref, listed, behind, show_table, is_long_text};
 
 use crate::compare::has_opaque;
 use crate::fault::ValueFault;
-use crate::value::{Ref, Value};
+use crate::value::{Pairs, Ref, Value};
 use rh_base::limits::VALUE_SIZE;
 use rh_base::{NoMemory, Text};
 use std::alloc::Global;
@@ -65,7 +65,7 @@ fn push_value(alloc: Global, into: &mut Text, v: &Value) -> Result<(), NoMemory>
         Value::Int(n) => push_int(alloc, into, *n),
         Value::Str(text) => into.push(text.as_str()),
         Value::List(items) => push_list(alloc, into, items.as_slice()),
-        Value::Map(pairs) => push_map(alloc, into, pairs.as_slice()),
+        Value::Map(pairs) => push_map(alloc, into, pairs),
         Value::Refer(r) => push_ref(alloc, into, r),
         Value::Opaque => Ok(()),
     }
@@ -96,7 +96,7 @@ fn push_all(alloc: Global, into: &mut Text, items: &[Value]) -> Result<(), NoMem
 }
 
 #[cycle(show)]
-fn push_map(alloc: Global, into: &mut Text, pairs: &[(Text, Value)]) -> Result<(), NoMemory>
+fn push_map(alloc: Global, into: &mut Text, pairs: &Pairs) -> Result<(), NoMemory>
     ensures { OnOk result (into.new ≡ into.old ++ (codes "{" ++ (listed (map pair_text pairs.now) ++ codes "}"))) }
 {
     into.push("{")?;
@@ -105,10 +105,10 @@ fn push_map(alloc: Global, into: &mut Text, pairs: &[(Text, Value)]) -> Result<(
 }
 
 #[cycle(show)]
-fn push_pairs(alloc: Global, into: &mut Text, pairs: &[(Text, Value)]) -> Result<(), NoMemory>
+fn push_pairs(alloc: Global, into: &mut Text, pairs: &Pairs) -> Result<(), NoMemory>
     ensures { OnOk result (into.new ≡ into.old ++ listed (map pair_text pairs.now)) }
 {
-    let Some((first, rest)) = pairs.split_first() else {
+    let Some((first, rest)) = pairs.as_slice().split_first() else {
         return Ok(());
     };
     push_pair(alloc, into, first.0.as_str(), &first.1)?;
@@ -130,7 +130,7 @@ fn push_pair(alloc: Global, into: &mut Text, key: &str, value: &Value) -> Result
 
 /// A value as a text.
 pub fn show(alloc: Global, v: &Value) -> Result<Text, ValueFault>
-    ensures { Gives size_of_text (show_table v.now) result }
+    ensures { Gives is_long_text (show_table v.now) result }
 {
     if has_opaque(v) {
         return Err(ValueFault::Operand);

@@ -7,11 +7,11 @@ use Rattle.pp_eval.proofs.evaluation.+evaluation.Given as goal
 
 -- What stands so far, and what is left, are the whole.
 
-abbrev pub invariant-values-loop-member : goal.invariant-values-loop-member
-invariant-values-loop-member l = behind l.values (values_in (map (evaluated l.scopes) (drop l.member-index l.members))) ≡ values_in (map (evaluated l.scopes) l.members)
+abbrev pub invariant-eval_all-loop-member : goal.invariant-eval_all-loop-member
+invariant-eval_all-loop-member l = behind l.values (values_in (map (evaluated l.scopes) (drop l.member-index l.members))) ≡ values_in (map (evaluated l.scopes) l.members)
 
 abbrev pub invariant-pairs-loop-member : goal.invariant-pairs-loop-member
-invariant-pairs-loop-member l = put_into l.pairs.pairs (pairs_in (map (pair_by (evaluated l.scopes)) (drop l.member-index l.members))) ≡ put_into [] (pairs_in (map (pair_by (evaluated l.scopes)) l.members))
+invariant-pairs-loop-member l = put_into l.pairs (pairs_in (map (pair_by (evaluated l.scopes)) (drop l.member-index l.members))) ≡ put_into [] (pairs_in (map (pair_by (evaluated l.scopes)) l.members))
 
 abbrev pub invariant-references-loop-title : goal.invariant-references-loop-title
 invariant-references-loop-title l = with_references l.kind l.references (titles_in (map (evaluated l.scopes) (drop l.title-index l.titles))) ≡ with_references l.kind [] (titles_in (map (evaluated l.scopes) l.titles))
@@ -33,8 +33,8 @@ invariant-default-loop-choice l = chosen l.at None (default_in (map (choice_by (
 abbrev pub decreases-eval : goal.decreases-eval
 decreases-eval l = 8 * goal.size-eval l + 0
 
-abbrev pub decreases-values : goal.decreases-values
-decreases-values l = 8 * goal.size-values l + 1
+abbrev pub decreases-eval_all : goal.decreases-eval_all
+decreases-eval_all l = 8 * goal.size-eval_all l + 1
 
 abbrev pub decreases-list : goal.decreases-list
 decreases-list l = 8 * goal.size-list l + 2
@@ -69,8 +69,17 @@ decreases-chain l = 8 * goal.size-chain l + 3
 abbrev pub decreases-prefix : goal.decreases-prefix
 decreases-prefix l = 8 * goal.size-prefix l + 1
 
-abbrev pub decreases-index : goal.decreases-index
-decreases-index l = 8 * goal.size-index l + 1
+abbrev pub decreases-lend_member : goal.decreases-lend_member
+decreases-lend_member l = 8 * goal.size-lend_member l + 1
+
+abbrev pub decreases-no_member : goal.decreases-no_member
+decreases-no_member l = 8 * goal.size-no_member l + 1
+
+abbrev pub decreases-lend : goal.decreases-lend
+decreases-lend l = 8 * goal.size-lend l + 0
+
+abbrev pub decreases-copy_member : goal.decreases-copy_member
+decreases-copy_member l = 8 * goal.size-copy_member l + 1
 
 abbrev pub decreases-is_equal : goal.decreases-is_equal
 decreases-is_equal l = 8 * goal.size-is_equal l + 1

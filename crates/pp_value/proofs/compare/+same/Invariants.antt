@@ -6,5 +6,5 @@ use Rattle.pp_value.proofs.compare.+same.Given as goal
 abbrev pub invariant-all_same-loop-x : goal.invariant-all_same-loop-x
 invariant-all_same-loop-x l = all_same (drop l.x-index l.xs) l.rest ≡ all_same l.xs l.ys
 
-abbrev pub invariant-all_have_same-loop-pair : goal.invariant-all_have_same-loop-pair
-invariant-all_have_same-loop-pair l = list_all (has_same l.ys) (drop l.pair-index l.xs) ≡ list_all (has_same l.ys) l.xs
+abbrev pub invariant-same_pairs-loop-pair : goal.invariant-same_pairs-loop-pair
+invariant-same_pairs-loop-pair l = list_all (has_same l.ys) (drop l.pair-index l.xs) ≡ list_all (has_same l.ys) l.xs

@@ -2,4 +2,4 @@ use Rattle.std.proofs.Common.{◌≡◌, ◌++◌, take}
 use Rattle.pp_value.proofs.operations.joined.Given as goal
 
 abbrev pub invariant-loop-item : goal.invariant-loop-item
-invariant-loop-item l = l.items.items ≡ l.left ++ take l.item-index l.right
+invariant-loop-item l = l.items ≡ l.initial.items ++ take l.item-index l.right

@@ -2,7 +2,7 @@ use Rattle.std.proofs.Common.{ap, ◌∙◌}
 use Rattle.pp_eval.specs.declared.scope.Sort.TheVariants as sort
 use Rattle.pp_eval.specs.ClassNames.{place_among}
 use Rattle.pp_eval.specs.Scoping.{class_of}
-use Rattle.pp_eval.proofs.ClassPlaces.{class_inside, class_entered, is_free}
+use Rattle.pp_eval.proofs.ClassPlaces.{class_inside, class_entered, is_free, parent_below}
 use Rattle.pp_eval.proofs.scopes.Scopes.enter_class.Goals as goal
 
 pub enter_named-requires : goal.enter_named-requires
@@ -12,10 +12,10 @@ enter_named-requires c =
 pub invariant_of-self : goal.invariant_of-self
 invariant_of-self c =
     class_inside c.self.inside.scopes.items c.enter_named.new.scopes.items _ c.args.name.now c.self.inside.open.items c.enter_named.new.opened.items c.self.inside.classes c.enter_named.new.classes c.enter_named.result
-    (ap sort.Class (c.from_string-class.ensures ∙ c.in_ok-from_str.ensures.ok)) c.self.invariant
+    (ap sort.Class c.in_ok-class.ensures) (parent_below c.self.inside.scopes.items _ c.self.inside.classes _ c.self.invariant.1 c.place_of_parent-parent.ensures) c.self.invariant
     c.enter_named.ensures.scopes_ok c.enter_named.ensures.open_ok c.enter_named.ensures.classes_ok c.enter_named.ensures.scopes_err c.enter_named.ensures.open_err c.enter_named.ensures.classes_err
 
 pub returns-clause-ok : goal.returns-clause-ok
 returns-clause-ok c =
-    class_entered c.self.inside.scopes.items c.enter_named.new.scopes.items c.self.inside.open.items c.enter_named.new.opened.items c.args.self.now c.self.inside.classes c.args.name.now c.from_string-class.result
-    _ _ _ c.enter_named.result c.self.view_is c.self.invariant.1 (c.from_string-class.ensures ∙ c.in_ok-from_str.ensures.ok) c.new.ensures c.place_of_parent-parent.ensures c.enter_named.ensures.scopes_ok c.enter_named.ensures.open_ok
+    class_entered c.self.inside.scopes.items c.enter_named.new.scopes.items c.self.inside.open.items c.enter_named.new.opened.items c.args.self.now c.self.inside.classes c.args.name.now c.in_ok-class.class
+    _ _ _ c.enter_named.result c.self.view_is c.self.invariant.1 c.in_ok-class.ensures c.new.ensures c.place_of_parent-parent.ensures c.enter_named.ensures.scopes_ok c.enter_named.ensures.open_ok

@@ -1,0 +1,32 @@
+-- Scopes that agree on what is looked up give one verdict.
+use Rattle.std.proofs.Common.{◌≡◌, ℕ, List, Option, refl, ap}
+use Rattle.pp_syntax.specs.declared.tree.Expr.{Expr}
+use Rattle.pp_syntax.specs.declared.tree.Form.{Form, Form-F, fold-Form}
+use Rattle.pp_syntax.specs.declared.tree.Form.TheOpen as plain
+use Rattle.pp_value.specs.declared.value.Value.{Value}
+use Rattle.pp_eval.specs.Scoping.{Scoped, find_in}
+use Rattle.pp_eval.specs.Verdicts.{Verdict, Evaluated}
+use Rattle.pp_eval.specs.Evaluation.{bound_to, form_at, value_in, value_of}
+
+module _ (s t : Scoped) (agree : (name : List ℕ) → find_in s name ≡ find_in t name) where
+  one_form : {Y : Type 0} (f : Form-F Y Evaluated) (at : ℕ) → form_at s f at ≡ form_at t f at
+  one_form (plain.Int n) at = refl
+  one_form (plain.Str text) at = refl
+  one_form (plain.Var name) at = ap (bound_to at name) (agree name)
+  one_form (plain.Bool b) at = refl
+  one_form plain.Undef at = refl
+  one_form (plain.List members) at = refl
+  one_form (plain.Map members) at = refl
+  one_form (plain.Refer kind titles) at = refl
+  one_form (plain.Join members) at = refl
+  one_form (plain.Chain first more) at = refl
+  one_form (plain.Prefix ops x) at = refl
+  one_form (plain.Index base key) at = refl
+  one_form (plain.Select control choices) at = refl
+
+  one_value : (f : Form) → value_in s f ≡ value_in t f
+  unfolding value_in
+  one_value f = ap (λ (step : Form-F (ℕ → Verdict) Evaluated → ℕ → Verdict). fold-Form (ℕ → Verdict) Evaluated step (λ x. record { at = x.at; verdict = x.form x.at }) f) (λ i. λ y at. one_form y at i)
+
+  pub one_verdict : (e : Expr) → value_of s e ≡ value_of t e
+  one_verdict e = ap (λ (f : ℕ → Verdict). f e.at) (one_value e.form)

@@ -1,0 +1,5 @@
+use Rattle.pp_eval.proofs.Growing.{class_stays}
+use Rattle.pp_eval.proofs.laws.classes_stay.Goals as goal
+
+pub returns : goal.returns
+returns c = class_stays

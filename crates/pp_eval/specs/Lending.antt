@@ -1,0 +1,14 @@
+-- What an expression lends of what is bound.
+use Rattle.std.specs.Prelude.{◌≡◌, Result, Ok, Err}
+use Rattle.rh_base.specs.declared.fault.Fault.{Fault}
+use Rattle.pp_value.specs.declared.value.Value.TheVariants as v
+use Rattle.pp_eval.specs.declared.lent.Lent.{Lent}
+use Rattle.pp_eval.specs.declared.lent.Lent.TheVariants as lent
+use Rattle.pp_eval.specs.Verdicts.{Verdict, Refuses}
+
+-- What is lent is the value that is due, or the refusal that is due is answered; nothing is lent where the expression is no such one.
+abbrev pub Lends : Verdict → Result Lent Fault → Type 0
+Lends verdict (Ok lent.Nothing) = Unit {0}
+Lends verdict (Ok lent.Undef) = verdict ≡ Ok v.Undef
+Lends verdict (Ok (lent.Found x)) = verdict ≡ Ok x.now
+Lends verdict (Err e) = Refuses verdict e

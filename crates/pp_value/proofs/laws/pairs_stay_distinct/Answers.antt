@@ -1,5 +1,0 @@
-use Rattle.pp_value.proofs.Results.{distinct_with}
-use Rattle.pp_value.proofs.laws.pairs_stay_distinct.Goals as goal
-
-pub returns : goal.returns
-returns c = distinct_with

@@ -1,0 +1,232 @@
+//! Rows of class data: what the levels say of a parameter, and which texts are refused.
+use pp_data::{Data, data_from_json};
+use pp_eval::facts_from_json;
+use pp_value::{Value, show};
+use rh_base::Fault;
+use std::alloc::Global;
+use std::test::Fail;
+
+/// A level for machines in production, and one for all.
+const TWO_LEVELS: &str =
+    "{\"levels\":[{\"when\":{\"env\":\"prod\"},\"values\":{\"c::p\":\"y\"}},{\"values\":{\"c::p\":\"z\"}}]}";
+
+fn data(alloc: Global, text: &str) -> Result<Data, Fail> {
+    match data_from_json(alloc, text.as_bytes()) {
+        Ok(data) => Ok(data),
+        Err(_) => Err(Fail::from("no data")),
+    }
+}
+
+fn facts(alloc: Global, text: &str) -> Result<Value, Fail> {
+    match facts_from_json(alloc, text.as_bytes()) {
+        Ok(facts) => Ok(facts),
+        Err(_) => Err(Fail::from("no facts")),
+    }
+}
+
+/// A value as it is shown, or `none`.
+fn shown(alloc: Global, found: &Option<Value>) -> Result<String, Fail> {
+    match found {
+        Some(value) => Ok(show(alloc, value)?.into_string()),
+        None => Ok(String::from_str(alloc, "none")?),
+    }
+}
+
+/// What data have for the parameter `p` of a class.
+fn looked_up(alloc: Global, data: &Data, facts: &Value, class: &str) -> Result<String, Fail> {
+    let found = data.find(alloc, facts, class, "p")?;
+    shown(alloc, &found)
+}
+
+/// What a text of data has for the parameter `p` of a class, under a text of facts.
+fn found(alloc: Global, text: &str, facts_text: &str, class: &str) -> Result<String, Fail> {
+    let data = data(alloc, text)?;
+    let facts = facts(alloc, facts_text)?;
+    looked_up(alloc, &data, &facts, class)
+}
+
+/// The same of a copy of the data.
+fn found_in_copy(alloc: Global, text: &str, facts_text: &str) -> Result<String, Fail> {
+    let copy = data(alloc, text)?.copy(alloc)?;
+    let facts = facts(alloc, facts_text)?;
+    looked_up(alloc, &copy, &facts, "c")
+}
+
+/// Whether a text is refused as 64 `data` at 0.
+fn is_refused(alloc: Global, text: &[u8]) -> bool {
+    match data_from_json(alloc, text) {
+        Err(Fault::Refused(refusal)) => {
+            refusal.number == 64 && refusal.at == 0 && refusal.name.as_str() == "data"
+        }
+        _ => false,
+    }
+}
+
+#[test]
+fn the_first_level_that_applies_counts(rt: HostRuntime) -> Result<(), Fail> {
+    let rows: [(&str, &str, &str); 7] = [
+        ("{\"env\":\"Prod\"}", "c", "y"),
+        ("{}", "c", "z"),
+        ("{\"env\":\"test\"}", "c", "z"),
+        ("{\"ENV\":\"prod\"}", "c", "z"),
+        ("{\"env\":\"prod\"}", "::C", "y"),
+        ("{\"env\":\"prod\"}", "C", "y"),
+        ("{\"env\":\"prod\"}", "d", "none"),
+    ];
+    for (facts, class, want) in rows {
+        assert_eq!(rt;
+            found(rt.alloc(), TWO_LEVELS, facts, class)?.as_str(),
+            want,
+            "{facts} {class}"
+        );
+    }
+    Ok(())
+}
+
+/// What one level has for `c::p`, of the texts of its `when`, its `values` and the facts.
+fn in_level(alloc: Global, when: &str, values: &str, facts: &str) -> Result<String, Fail> {
+    let text = format!(in alloc; "{{\"levels\":[{{\"when\":{when},\"values\":{values}}}]}}")?;
+    found(alloc, text.as_str(), facts, "c")
+}
+
+#[test]
+fn a_level_asks_for_each_fact(rt: HostRuntime) -> Result<(), Fail> {
+    let rows: [(&str, &str, &str); 8] = [
+        // an opaque number meets nothing, not even itself
+        ("{\"n\":1.5}", "{\"n\":1.5}", "none"),
+        ("{\"n\":[1.5]}", "{\"n\":2}", "none"),
+        // what isn't there isn't null
+        ("{\"n\":null}", "{}", "none"),
+        ("{\"n\":null}", "{\"n\":null}", "7"),
+        ("{\"a\":1,\"b\":2}", "{\"a\":1,\"b\":3}", "none"),
+        ("{\"a\":1,\"b\":2}", "{\"b\":2,\"a\":1}", "7"),
+        // maps in any order, texts of any case
+        (
+            "{\"os\":{\"x\":\"A\",\"y\":[1]}}",
+            "{\"os\":{\"y\":[1],\"x\":\"a\"}}",
+            "7",
+        ),
+        ("{}", "{}", "7"),
+    ];
+    for (when, facts, want) in rows {
+        assert_eq!(rt;
+            in_level(rt.alloc(), when, "{\"c::p\":7}", facts)?.as_str(),
+            want,
+            "{when}"
+        );
+    }
+    Ok(())
+}
+
+#[test]
+fn values_are_read_as_facts_are(rt: HostRuntime) -> Result<(), Fail> {
+    let rows: [(&str, &str); 6] = [
+        ("{\"c::p\":null}", "none"),
+        ("{}", "none"),
+        ("{\"c::p\":[1,{\"k\":false}]}", "[1, {k => false}]"),
+        // nothing is put into texts
+        ("{\"c::p\":\"%{env}\"}", "%{env}"),
+        // any text is a key, and keys are compared exactly
+        ("{\"\":1,\"C::p\":2,\"p\":3}", "none"),
+        // of equal keys the last counts
+        ("{\"c::p\":1,\"c::p\":2}", "2"),
+    ];
+    for (values, want) in rows {
+        assert_eq!(rt;
+            in_level(rt.alloc(), "{}", values, "{}")?.as_str(),
+            want,
+            "{values}"
+        );
+    }
+    Ok(())
+}
+
+#[test]
+fn null_passes_on(rt: HostRuntime) -> Result<(), Fail> {
+    let text = "{\"levels\":[{\"values\":{\"c::p\":null}},{\"values\":{\"c::p\":\"z\"}}]}";
+    assert_eq!(rt; found(rt.alloc(), text, "{}", "c")?.as_str(), "z");
+    Ok(())
+}
+
+#[test]
+fn other_texts_are_refused(rt: HostRuntime) {
+    let rows: [&str; 14] = [
+        "{\"levels\":{}}",
+        "{}",
+        "[]",
+        "",
+        "{\"levels\":[",
+        "{\"levels\":[],\"merge\":true}",
+        "{\"Levels\":[]}",
+        "{\"levels\":[7]}",
+        "{\"levels\":[{}]}",
+        "{\"levels\":[{\"values\":{},\"name\":\"n\"}]}",
+        "{\"levels\":[{\"values\":null}]}",
+        "{\"levels\":[{\"when\":null,\"values\":{}}]}",
+        "{\"levels\":[{\"when\":\"env\",\"values\":{}}]}",
+        "{\"levels\":[{\"values\":{}},{\"when\":{}}]}",
+    ];
+    for text in rows {
+        assert!(rt; is_refused(rt.alloc(), text.as_bytes()), "{text}");
+    }
+    assert!(rt;
+        is_refused(
+            rt.alloc(),
+            b"{\"levels\":[{\"values\":{\"c::p\":\"\xff\"}}]}"
+        )
+    );
+    assert!(rt; !is_refused(rt.alloc(), b" {\"levels\" : [ {\"values\":{}} ] } "));
+}
+
+#[test]
+fn a_copy_has_the_same(rt: HostRuntime) -> Result<(), Fail> {
+    assert_eq!(rt;
+        found_in_copy(rt.alloc(), TWO_LEVELS, "{\"env\":\"prod\"}")?.as_str(),
+        "y"
+    );
+    assert_eq!(rt; found_in_copy(rt.alloc(), TWO_LEVELS, "{}")?.as_str(), "z");
+    Ok(())
+}
+
+#[test]
+fn facts_that_are_no_map_have_no_keys(rt: HostRuntime) -> Result<(), Fail> {
+    let levels = data(rt.alloc(), TWO_LEVELS)?;
+    assert_eq!(rt;
+        looked_up(rt.alloc(), &levels, &Value::Undef, "c")?.as_str(),
+        "z"
+    );
+    Ok(())
+}
+
+#[test]
+fn empty_data_have_nothing(rt: HostRuntime) -> Result<(), Fail> {
+    let empty = Data::empty(rt.alloc());
+    assert_eq!(rt;
+        looked_up(rt.alloc(), &empty, &Value::Undef, "c")?.as_str(),
+        "none"
+    );
+    Ok(())
+}
+
+/// The number of the refusal of a text of facts, or 0.
+fn refused(alloc: Global, text: &[u8]) -> u16 {
+    match facts_from_json(alloc, text) {
+        Err(Fault::Refused(refusal)) => refusal.number,
+        _ => 0,
+    }
+}
+
+#[test]
+fn facts_are_a_json_object(rt: HostRuntime) {
+    let rows: [(&str, u16); 5] = [
+        ("[1]", 60),
+        ("{\"a\": }", 60),
+        ("{\"a\": 1}", 0),
+        ("", 60),
+        ("{} {}", 60),
+    ];
+    for (text, want) in rows {
+        assert_eq!(rt; refused(rt.alloc(), text.as_bytes()), want, "{text}");
+    }
+    assert_eq!(rt; refused(rt.alloc(), b"{\"a\": \"\xff\"}"), 60);
+}

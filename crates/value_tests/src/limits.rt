@@ -1,0 +1,87 @@
+//! Rows at the limits of one value: its size and its depth.
+use crate::answers::{FACTS, assigned, repeated};
+use std::alloc::Global;
+use std::test::Fail;
+
+/// The kind of the value that is assigned behind `$a`, a text of so many bytes, or its refusal.
+fn behind_long(alloc: Global, bytes: usize, text: &str) -> Result<String, Fail> {
+    let letters = repeated(alloc, "x", bytes)?;
+    let text = format!(in alloc; "$a = '{}' {}", letters.as_str(), text)?;
+    let answer = assigned(alloc, FACTS, text.as_str())?;
+    kind_in(alloc, answer.as_str())
+}
+
+/// What stands before the first blank of a value, or a whole refusal, whose place isn't told.
+fn kind_in(alloc: Global, answer: &str) -> Result<String, Fail> {
+    match answer.split_once(' ') {
+        Some((kind, rest)) => with_name(alloc, kind, rest),
+        None => Ok(String::from_str(alloc, answer)?),
+    }
+}
+
+fn with_name(alloc: Global, kind: &str, rest: &str) -> Result<String, Fail> {
+    match rest.split_once(": ") {
+        Some((_, name)) => Ok(format!(in alloc; "{kind} {name}")?),
+        None => Ok(String::from_str(alloc, kind)?),
+    }
+}
+
+#[test]
+fn a_value_has_a_greatest_size(rt: HostRuntime) -> Result<(), Fail> {
+    let rows: [(usize, &str, &str); 10] = [
+        (131_070, "$r = [$a] + [$a]", "list"),
+        (131_071, "$r = [$a] + [$a]", "32 value"),
+        (131_070, "$r = [$a, $a]", "list"),
+        (131_071, "$r = [$a, $a]", "32 value"),
+        (131_071, "$r = [$a, $a, $z]", "20 $z"),
+        (131_071, "$r = \"${a}${a}\"", "text"),
+        (131_072, "$r = \"${a}${a}\"", "32 value"),
+        (131_072, "$r = \"${a}${a}${z}\"", "32 value"),
+        (131_068, "$r = {'a' => $a} + {'b' => $a}", "map"),
+        (131_069, "$r = {'a' => $a} + {'b' => $a}", "32 value"),
+    ];
+    for (bytes, text, want) in rows {
+        assert_eq!(rt;
+            behind_long(rt.alloc(), bytes, text)?.as_str(),
+            want,
+            "{bytes} {text}"
+        );
+    }
+    Ok(())
+}
+
+/// The kind of a list of lists of so many levels, or its refusal.
+fn nested(alloc: Global, levels: usize, last: &str) -> Result<String, Fail> {
+    let mut text = String::from_str(alloc, "$a1 = [] ")?;
+    for level in 1..levels {
+        let line = format!(in alloc; "$a{} = [$a{}] ", level + 1, level)?;
+        text.push_str(line.as_str())?;
+    }
+    outcome_of(alloc, text.as_str(), levels, last)
+}
+
+fn outcome_of(alloc: Global, text: &str, levels: usize, last: &str) -> Result<String, Fail> {
+    let text = format!(in alloc; "{text}$b = $a{levels} {last}")?;
+    let answer = assigned(alloc, FACTS, text.as_str())?;
+    kind_in(alloc, answer.as_str())
+}
+
+#[test]
+fn a_value_nests_a_thousand_levels(rt: HostRuntime) -> Result<(), Fail> {
+    let rows: [(usize, &str, &str); 6] = [
+        (999, "$r = [$b]", "list"),
+        (1_000, "$r = [$b]", "32 value"),
+        (999, "$r = {'k' => $b}", "map"),
+        (1_000, "$r = {'k' => $b}", "32 value"),
+        (1_000, "$r = $b == $b", "truth"),
+        (1_000, "$r = \"${b}\"", "text"),
+    ];
+    for (levels, last, want) in rows {
+        assert_eq!(rt;
+            nested(rt.alloc(), levels, last)?.as_str(),
+            want,
+            "{levels} {last}"
+        );
+    }
+    Ok(())
+}
