@@ -48,6 +48,7 @@ none_opens s h e = by_tests (bytes_eq (codes "(") s) (bytes_eq (codes "{") s) (b
     no_brace : (v : Bool) → bytes_eq (codes "{") s ≡ v → v ≡ false
     no_brace false h = refl
     no_brace true h = sym ((bytes_eq-Decides s (codes "{")).1 (sym ((bytes_eq-Decides (codes "{") s).0 h))) ∙ e
+
     by_tests : (a b c : Bool) → (a || (c || false)) ≡ false → b ≡ false → (a || (b || (c || false))) ≡ false
     by_tests true b c h e = cc
     by_tests false true c h e = cc
@@ -134,10 +135,13 @@ one_open n t = by_shape (shaped t)
   where
     count : (s : Shape) → shape_of t.kind t.text ≡ s → length (behind n t).opened ≡ length (behind_shape n s).opened
     count s h = ap (λ (m : Nesting). length m.opened) (moved n t s h)
+
     opened_one : opens t ≡ true → open_with (opens t) (closes t) (length n.opened) ≡ length n.opened + 1
     opened_one o = ap (λ u. open_with u (closes t) (length n.opened)) o
+
     same : opens t ≡ false → closes t ≡ false → open_with (opens t) (closes t) (length n.opened) ≡ length n.opened
     same o c = open_is (opens t) (closes t) false false (length n.opened) o c
+
     by_shape : ShapedAs t.kind t.text → length (behind n t).opened ≡ open_with (opens t) (closes t) (length n.opened)
     by_shape (opening h o c) = omega (arith, count Opens h, opened_one o)
     by_shape (indexing h o c k) = omega (arith, count Indexes h, opened_one o)
@@ -308,8 +312,10 @@ good_step n front t g = by_shape (shaped t)
   where
     to : (s : Shape) → shape_of t.kind t.text ≡ s → Good (behind_shape n s) (front ++ t ∷ []) → Good (behind n t) (front ++ t ∷ [])
     to s h k = subst (λ (m : Nesting). Good m (front ++ t ∷ [])) (sym (moved n t s h)) k
+
     open_with_row : (e : ℕ) → opens t ≡ true → Entry e front t → Opened (e ∷ n.opened) (front ++ t ∷ [])
     open_with_row e o k = (front, t, [], refl, o, nothing refl, k, g.opened)
+
     by_shape : ShapedAs t.kind t.text → Good (behind n t) (front ++ t ∷ [])
     by_shape (opening h o c) = to Opens h (record { row = tt; run = tt; asked = tt; opened = open_with_row 0 o tt })
     by_shape (indexing h o c k) = to Indexes h (record { row = tt; run = tt; asked = tt; opened = open_with_row (n.row + 1) o (subst (λ e. Entry e front t) (sym (add-one n.row)) (inl (k, g.row))) })
@@ -356,10 +362,13 @@ counted limit before t h = by_shape (shaped t)
   where
     n : Nesting
     n = passed at_start before
+
     g : Good n before
     g = all_good before
+
     size : length n.opened ≡ open_from 0 before
     size = all_open at_start before
+
     by_shape : ShapedAs t.kind t.text → (k : ℕ) × Adds before t k × (limit < open_from 0 before + k)
     by_shape (opening e o c) = (1, Adds.itself o refl, omega (arith, h, size, depth_is n t Opens e))
     by_shape (indexing e o c k) = (1 + n.row, Adds.index n.row k g.row refl, omega (arith, h, size, depth_is n t Indexes e))
@@ -375,8 +384,10 @@ deep limit before t k a h = by_what a
   where
     n : Nesting
     n = passed at_start before
+
     size : length n.opened ≡ open_from 0 before
     size = all_open at_start before
+
     by_itself : opens t ≡ true → k ≡ 1 → ShapedAs t.kind t.text → limit < depth_of n (shape_of t.kind t.text)
     by_itself o e (opening d p c) = omega (arith, h, e, size, depth_is n t Opens d)
     by_itself o e (indexing d p c f) = omega (arith, h, e, size, depth_is n t Indexes d)
@@ -385,6 +396,7 @@ deep limit before t k a h = by_what a
     by_itself o e (asking d p c f) = absurd (never (opens t) o p)
     by_itself o e (negating d p c f) = absurd (never (opens t) o p)
     by_itself o e (plain d p c) = absurd (never (opens t) o p)
+
     by_what : Adds before t k → limit < depth_of n (shape_of t.kind t.text)
     by_what (Adds.nothing e) = omega (arith, h, e, size, deeper n (shape_of t.kind t.text))
     by_what (Adds.itself o e) = by_itself o e (shaped t)
