@@ -5,7 +5,7 @@ use Rattle.std.specs.Ordering.{eq_by_cmp}
 use Rattle.std.specs.FinMap as map
 use Rattle.std.specs.FinMap.{contains_key-keys}
 use Rattle.std.specs.Prelude.{is_some, IsTrue}
-use Rattle.fs_semantics.specs.FileTree.{Path, IsSegment, IsBytes, HasText, Entry, Folder, File, Link as LinkTo, Tree, parent, path_cmp, path_eq, is_root, is_file, is_link, is_dir, is_none, is_empty_dir, is_file_entry, is_link_entry, is_folder_entry, is_no_entry, IsTree}
+use Rattle.fs_semantics.specs.FileTree.{Path, IsSegment, IsBytes, HasText, Entry, Folder, File, Link as LinkTo, Tree, parent, path_cmp, path_eq, is_root, is_file, is_link, is_dir, is_none, is_empty_dir, is_file_entry, is_link_entry, is_folder_entry, is_no_entry, IsTree, HasParents}
 use Rattle.fs_semantics.specs.Programs.{Program, Programs, Id, Err, Mkdir, Creat, Link, Rm, Cp, Steps, If, none, next, Outcome, and_then, holds, made, removed, copied, run, run_all}
 use Rattle.fs_semantics.specs.Changes.{Changes, ChangesInSteps, IsProper, AreProperSteps}
 use Rattle.fs_semantics.proofs.Trees.{path_eq_refl, path_eq_same, at_inserted, at_other, at_removed, at_kept, is_dir_other, parent_differs}
@@ -99,22 +99,36 @@ still_there : (t u : Tree) (q : Path) → map.get u q ≡ map.get t q → IsTrue
 still_there t u q e h = subst (λ r. IsTrue (is_some r)) e h
 
 -- contents and targets of the entry are of bytes
-abbrev HasBytes : Option Entry → Type 0
+abbrev pub HasBytes : Option Entry → Type 0
 HasBytes r = (text : List ℕ) → HasText r text → IsBytes text
 
-insert_keeps_tree : (t : Tree) (p : Path) (x : Entry) → IsTree t → AllByRecursion IsSegment p → HasBytes (Some x) → is_none t p ≡ true → is_dir t (parent p) ≡ true → IsTree (map.insert t p x)
-insert_keeps_tree t p x tree proper bytes free above =
+insert_keeps_parents : (t : Tree) (p : Path) (x : Entry) → HasParents t → is_none t p ≡ true → is_dir t (parent p) ≡ true → HasParents (map.insert t p x)
+insert_keeps_parents t p x has free above =
     let root = free_no_root t p free in
     record {
-      no_root = at_other t p [] x (λ e. root (sym e)) ∙ tree.no_root;
-      paths = λ q h. at_or_other (λ r. AllByRecursion IsSegment r) p q proper (λ other. tree.paths q (still_there t (map.insert t p x) q (at_other t p q x other) h));
+      no_root = at_other t p [] x (λ e. root (sym e)) ∙ has.no_root;
       parents = λ q h. at_or_other (λ r. is_dir (map.insert t p x) (parent r) ≡ true) p q
           (is_dir_other t (map.insert t p x) (parent p) (at_other t p (parent p) x (parent_other p root)) ∙ above)
           (λ other.
-          let there : is_dir t (parent q) ≡ true = tree.parents q (still_there t (map.insert t p x) q (at_other t p q x other) h) in
+          let there : is_dir t (parent q) ≡ true = has.parents q (still_there t (map.insert t p x) q (at_other t p q x other) h) in
           is_dir_other t (map.insert t p x) (parent q) (at_other t p (parent q) x (λ e. free_no_folder t p free (subst (λ r. is_dir t r ≡ true) e there))) ∙ there);
+    }
+
+pub parents_of : (t : Tree) → IsTree t → HasParents t
+parents_of t tree = record { no_root = tree.no_root; parents = tree.parents }
+
+pub insert_keeps_tree : (t : Tree) (p : Path) (x : Entry) → IsTree t → AllByRecursion IsSegment p → HasBytes (Some x) → is_none t p ≡ true → is_dir t (parent p) ≡ true → IsTree (map.insert t p x)
+insert_keeps_tree t p x tree proper bytes free above =
+    let has = insert_keeps_parents t p x (parents_of t tree) free above in
+    record {
+      no_root = has.no_root;
+      paths = λ q h. at_or_other (λ r. AllByRecursion IsSegment r) p q proper (λ other. tree.paths q (still_there t (map.insert t p x) q (at_other t p q x other) h));
+      parents = has.parents;
       texts = λ q. at_or_other (λ r. HasBytes (map.get (map.insert t p x) r)) p q (subst HasBytes (sym (at_inserted t p x)) bytes) (λ other. subst HasBytes (sym (at_other t p q x other)) (tree.texts q));
     }
+
+made_keeps_parents : (t u : Tree) (p : Path) (x : Entry) → HasParents t → made p x t ≡ Some u → HasParents u
+made_keeps_parents t u p x has h = let m = made_is p x t u h in subst HasParents m.is (insert_keeps_parents t p x has m.free m.above)
 
 made_keeps_tree : (t u : Tree) (p : Path) (x : Entry) → IsTree t → AllByRecursion IsSegment p → HasBytes (Some x) → made p x t ≡ Some u → IsTree u
 made_keeps_tree t u p x tree proper bytes h = let m = made_is p x t u h in subst IsTree m.is (insert_keeps_tree t p x tree proper bytes m.free m.above)
@@ -161,7 +175,7 @@ only_last : (a b c : Bool) → (a || b || c) ≡ true → a ≡ false → b ≡ 
 only_last a b c h e d = sym (ap (λ x. x || b || c) e ∙ ap (λ y. false || y || c) d) ∙ h
 
 -- what may be removed isn't the root
-removed_no_root : (t : Tree) (p : Path) → IsTree t → (is_file t p || is_link t p || (not (is_root p) && is_empty_dir t p)) ≡ true → p ≢ []
+removed_no_root : (t : Tree) (p : Path) → HasParents t → (is_file t p || is_link t p || (not (is_root p) && is_empty_dir t p)) ≡ true → p ≢ []
 removed_no_root t p tree h e =
     let root : (is_file t [] || is_link t [] || false) ≡ true = subst (λ r. (is_file t r || is_link t r || (not (is_root r) && is_empty_dir t r)) ≡ true) e h in
     let none : is_file_entry (map.get t []) ≡ false = ap is_file_entry tree.no_root in
@@ -181,19 +195,48 @@ gone t p q h e =
     let none : is_some (map.get (map.remove t p) q) ≡ false = ap (λ r. is_some (map.get (map.remove t p) r)) e ∙ ap is_some (at_removed t p) in
     cc
 
-remove_keeps_tree : (t : Tree) (p : Path) → IsTree t → (is_file t p || is_link t p || (not (is_root p) && is_empty_dir t p)) ≡ true → IsTree (map.remove t p)
-remove_keeps_tree t p tree can =
-    let root = removed_no_root t p tree can in
+remove_keeps_parents : (t : Tree) (p : Path) → HasParents t → (is_file t p || is_link t p || (not (is_root p) && is_empty_dir t p)) ≡ true → HasParents (map.remove t p)
+remove_keeps_parents t p has can =
+    let root = removed_no_root t p has can in
     record {
-      no_root = at_kept t p [] (λ e. root (sym e)) ∙ tree.no_root;
-      paths = λ q h. tree.paths q (still_there t (map.remove t p) q (at_kept t p q (gone t p q h)) h);
+      no_root = at_kept t p [] (λ e. root (sym e)) ∙ has.no_root;
       parents = λ q h.
           let there = still_there t (map.remove t p) q (at_kept t p q (gone t p q h)) h in
-          let dir : is_dir t (parent q) ≡ true = tree.parents q there in
+          let dir : is_dir t (parent q) ≡ true = has.parents q there in
           is_dir_other t (map.remove t p) (parent q)
           (at_kept t p (parent q) (λ e. removed_childless t p q root can (subst (λ r. is_dir t r ≡ true) e dir) there e)) ∙ dir;
+    }
+
+remove_keeps_tree : (t : Tree) (p : Path) → IsTree t → (is_file t p || is_link t p || (not (is_root p) && is_empty_dir t p)) ≡ true → IsTree (map.remove t p)
+remove_keeps_tree t p tree can =
+    let has = remove_keeps_parents t p (parents_of t tree) can in
+    record {
+      no_root = has.no_root;
+      paths = λ q h. tree.paths q (still_there t (map.remove t p) q (at_kept t p q (gone t p q h)) h);
+      parents = has.parents;
       texts = λ q. at_or_other (λ r. HasBytes (map.get (map.remove t p) r)) p q (λ text h. absurd (subst (λ r. HasText r text) (at_removed t p) h)) (λ other. subst HasBytes (sym (at_kept t p q other)) (tree.texts q));
     }
+
+mutual
+  pub keeps_parents : (e : Program) (t u : Tree) → HasParents t → run e t ≡ Some u → HasParents u
+  keeps_parents Id t u has h = let same : t ≡ u = cc in subst HasParents same has
+  keeps_parents Err t u has h = cc
+  keeps_parents (Mkdir p) t u has h = made_keeps_parents t u p Folder has h
+  keeps_parents (Creat p content) t u has h = made_keeps_parents t u p (File content) has h
+  keeps_parents (Link p target) t u has h = made_keeps_parents t u p (LinkTo target) has h
+  keeps_parents (Rm p) t u has h = let r = removed_is p t u h in subst HasParents r.1 (remove_keeps_parents t p has r.0)
+  keeps_parents (Cp from p) t u has h = let c = copied_is (map.get t from) p t u h in made_keeps_parents t u p (File c.0) has c.2
+  keeps_parents (Steps es) t u has h = steps_keep_parents es t u has h
+  keeps_parents (If a e f) t u has h = elim (holds a t) as (λ b. cond b (run e t) (run f t) ≡ Some u → HasParents u) [
+    | true ↦ λ k. keeps_parents e t u has k
+    | false ↦ λ k. keeps_parents f t u has k
+  ] h
+
+  steps_keep_parents : (es : Programs) (t u : Tree) → HasParents t → run_all es t ≡ Some u → HasParents u
+  steps_keep_parents none t u has h = let same : t ≡ u = cc in subst HasParents same has
+  steps_keep_parents (next e es) t u has h =
+      let first = split_then (run e t) (run_all es) u h in
+      steps_keep_parents es first.0 u (keeps_parents e t first.0 has first.1) first.2
 
 mutual
   pub keeps_tree : (e : Program) (t u : Tree) → IsProper e → IsTree t → run e t ≡ Some u → IsTree u

@@ -113,3 +113,8 @@ pub record IsTree (t : Tree) : Type 0 where
   pub paths : (p : Path) → IsTrue (map.contains_key t p) → AllByRecursion IsSegment p
   pub parents : (p : Path) → IsTrue (map.contains_key t p) → IsTrue (is_dir t (parent p))
   pub texts : (p : Path) (text : List ℕ) → HasText (map.get t p) text → IsBytes text
+
+-- The rule on parents alone: the root has no entry, and the parent of each entry is the root or a folder.
+pub record HasParents (t : Tree) : Type 0 where
+  pub no_root : map.get t [] ≡ None
+  pub parents : (p : Path) → IsTrue (map.contains_key t p) → IsTrue (is_dir t (parent p))

@@ -2,7 +2,7 @@
 
 ghost use Rattle.std.specs.Prelude.{◌≡◌, ◌↔◌, ◌⊎◌, IsTrue, List, ℕ, Some, None};
 ghost use Rattle.std.specs.FinMap as map;
-ghost use Rattle.fs_semantics.specs.FileTree.{Path, Folder, File, Link as LinkTo, Tree, IsTree};
+ghost use Rattle.fs_semantics.specs.FileTree.{Path, Folder, File, Link as LinkTo, Tree, IsTree, HasParents};
 ghost use Rattle.fs_semantics.specs.Entries.{IsFileAt, IsLinkAt, IsFolderAt, IsFreeAt, HasNoChild, Makes, Removes, Copies};
 ghost use Rattle.fs_semantics.specs.Programs.{Test, True, False, Not, And, Or, IsFile, IsLink, IsDir, IsEmpty, IsNone, Program, Programs, Id, Err, Mkdir, Creat, Link, Rm, Cp, Steps, If, none, next, holds, run};
 ghost use Rattle.fs_semantics.specs.Changes.{Changes, IsProper};
@@ -41,6 +41,7 @@ pub fn changes()
 pub fn constructs()
     ensures kept { (e : Program) (t u : Tree) (q : Path) → run e t ≡ Some u → (Changes e q → ⊥) → map.get u q ≡ map.get t q }
     ensures tree { (e : Program) (t u : Tree) → IsProper e → IsTree t → run e t ≡ Some u → IsTree u }
+    ensures parents { (e : Program) (t u : Tree) → HasParents t → run e t ≡ Some u → HasParents u }
     ensures alike { (e : Program) (t u : Tree) → AgreeOn e t u → AreAlike (AgreeOn e) (run e t) (run e u) }
     ensures asked { (e : Program) (q : Path) → Changes e q → Reads e q }
 {}
