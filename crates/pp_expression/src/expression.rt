@@ -1,3 +1,4 @@
+//! The parser of expressions, one function for each rule of the grammar.
 ghost use Rattle.std.specs.Prelude.{◌≡◌, ◌+◌, ◌-◌, ◌≤◌, ◌<◌, ◌||◌, drop, length, codes};
 ghost use Rattle.pp_syntax.specs.Lexing.{told, lexeme_of};
 ghost use Rattle.pp_syntax.specs.declared.token.Kind.TheVariants as kind;
@@ -18,12 +19,7 @@ use std::alloc::Global;
 
 /// An expression, with brackets nested less deep than this.
 #[cycle(expression)]
-pub fn expr(
-    alloc: Global,
-    depth: usize,
-    tokens: &[Token<'_>],
-    from: usize,
-) -> Read<Expr>
+pub fn expr(alloc: Global, depth: usize, tokens: &[Token<'_>], from: usize) -> Read<Expr>
     ensures { Reads (expr_at depth) tokens.now from result }
 {
     if depth == 0 {
@@ -35,13 +31,7 @@ pub fn expr(
 /// What the nth rule from the tightest reads.
 #[cycle(expression)]
 #[tactic(auto, unfolding(pp_readers::specs::Expressions::chain_with))]
-fn level(
-    alloc: Global,
-    depth: usize,
-    n: u32,
-    tokens: &[Token<'_>],
-    from: usize,
-) -> Read<Expr>
+fn level(alloc: Global, depth: usize, n: u32, tokens: &[Token<'_>], from: usize) -> Read<Expr>
     requires { n ≤ 7 }
     ensures { Reads (levels_with (expr_at depth) n) tokens.now from result }
 {
@@ -82,12 +72,7 @@ fn operations(
 
 #[cycle(expression)]
 #[tactic(auto, unfolding(pp_readers::specs::Expressions::unary_with))]
-fn unary(
-    alloc: Global,
-    depth: usize,
-    tokens: &[Token<'_>],
-    from: usize,
-) -> Read<Expr>
+fn unary(alloc: Global, depth: usize, tokens: &[Token<'_>], from: usize) -> Read<Expr>
     ensures { Reads (unary_with (expr_at depth)) tokens.now from result }
 {
     let (ops, rest) = prefixes(alloc, tokens, from)?;
@@ -98,12 +83,7 @@ fn unary(
 
 #[cycle(expression)]
 #[tactic(auto, unfolding(pp_readers::specs::Expressions::postfix_with))]
-pub fn postfix(
-    alloc: Global,
-    depth: usize,
-    tokens: &[Token<'_>],
-    from: usize,
-) -> Read<Expr>
+pub fn postfix(alloc: Global, depth: usize, tokens: &[Token<'_>], from: usize) -> Read<Expr>
     ensures { Reads (postfix_with (expr_at depth)) tokens.now from result }
 {
     let (operand, rest) = primary(alloc, depth, tokens, from)?;
@@ -258,12 +238,7 @@ fn choice(
 
 /// An expression or `default`.
 #[cycle(expression)]
-fn option(
-    alloc: Global,
-    depth: usize,
-    tokens: &[Token<'_>],
-    from: usize,
-) -> Read<Option<Expr>>
+fn option(alloc: Global, depth: usize, tokens: &[Token<'_>], from: usize) -> Read<Option<Expr>>
     ensures { Reads (option_with (expr_at depth)) tokens.now from result }
 {
     if let Some((_, rest)) = mark(Kind::Keyword, "default", tokens, from) {
@@ -275,12 +250,7 @@ fn option(
 
 #[cycle(expression)]
 #[tactic(auto, unfolding(pp_readers::specs::Expressions::pair_with))]
-fn pair(
-    alloc: Global,
-    depth: usize,
-    tokens: &[Token<'_>],
-    from: usize,
-) -> Read<(Expr, Expr)>
+fn pair(alloc: Global, depth: usize, tokens: &[Token<'_>], from: usize) -> Read<(Expr, Expr)>
     ensures { Reads (pair_with (expr_at depth)) tokens.now from result }
 {
     let (key, rest) = expr(alloc, depth, tokens, from)?;
@@ -405,12 +375,7 @@ fn maybe_pairs(
 /// A list in brackets.
 #[cycle(expression)]
 #[tactic(auto, unfolding(pp_readers::specs::Expressions::list_with))]
-fn list(
-    alloc: Global,
-    depth: usize,
-    tokens: &[Token<'_>],
-    from: usize,
-) -> Read<Expr>
+fn list(alloc: Global, depth: usize, tokens: &[Token<'_>], from: usize) -> Read<Expr>
     ensures { Reads (list_with (expr_at depth)) tokens.now from result }
 {
     let (at, rest) = expect(Kind::Loose, "[", tokens, from)?;
@@ -422,12 +387,7 @@ fn list(
 /// A map in braces.
 #[cycle(expression)]
 #[tactic(auto, unfolding(pp_readers::specs::Expressions::map_with))]
-fn map(
-    alloc: Global,
-    depth: usize,
-    tokens: &[Token<'_>],
-    from: usize,
-) -> Read<Expr>
+fn map(alloc: Global, depth: usize, tokens: &[Token<'_>], from: usize) -> Read<Expr>
     ensures { Reads (map_with (expr_at depth)) tokens.now from result }
 {
     let (at, rest) = expect(Kind::Sign, "{", tokens, from)?;
@@ -439,12 +399,7 @@ fn map(
 /// What a reference refers to, in brackets.
 #[cycle(expression)]
 #[tactic(auto, unfolding(pp_readers::specs::Expressions::titles_with))]
-fn titles(
-    alloc: Global,
-    depth: usize,
-    tokens: &[Token<'_>],
-    from: usize,
-) -> Read<Seq<Expr>>
+fn titles(alloc: Global, depth: usize, tokens: &[Token<'_>], from: usize) -> Read<Seq<Expr>>
     ensures { Reads (titles_with (expr_at depth)) tokens.now from result }
 {
     let (_, rest) = expect(Kind::Tight, "[", tokens, from)?;
@@ -452,12 +407,7 @@ fn titles(
 }
 
 #[cycle(expression)]
-pub fn reference(
-    alloc: Global,
-    depth: usize,
-    tokens: &[Token<'_>],
-    from: usize,
-) -> Read<Expr>
+pub fn reference(alloc: Global, depth: usize, tokens: &[Token<'_>], from: usize) -> Read<Expr>
     ensures { Reads (reference_with (expr_at depth)) tokens.now from result }
 {
     match front_of(tokens, from) {
@@ -494,12 +444,7 @@ fn atom_at(alloc: Global, tokens: &[Token<'_>], from: usize) -> Read<Expr>
 }
 
 #[cycle(expression)]
-fn opened(
-    alloc: Global,
-    depth: usize,
-    tokens: &[Token<'_>],
-    from: usize,
-) -> Read<Expr>
+fn opened(alloc: Global, depth: usize, tokens: &[Token<'_>], from: usize) -> Read<Expr>
     ensures { Reads (λ ts. opened_or (expr_at depth) (mark kind.Sign (codes "(") ts) ts) tokens.now from result }
 {
     if let Some((_, rest)) = mark(Kind::Sign, "(", tokens, from) {
@@ -509,12 +454,7 @@ fn opened(
 }
 
 #[cycle(expression)]
-fn primary(
-    alloc: Global,
-    depth: usize,
-    tokens: &[Token<'_>],
-    from: usize,
-) -> Read<Expr>
+fn primary(alloc: Global, depth: usize, tokens: &[Token<'_>], from: usize) -> Read<Expr>
     ensures { Reads (primary_with (expr_at depth)) tokens.now from result }
 {
     match front_of(tokens, from) {
@@ -530,12 +470,7 @@ fn primary(
 }
 
 /// A text in quotes.
-pub fn string(
-    alloc: Global,
-    depth: usize,
-    tokens: &[Token<'_>],
-    from: usize,
-) -> Read<Expr>
+pub fn string(alloc: Global, depth: usize, tokens: &[Token<'_>], from: usize) -> Read<Expr>
     ensures { Reads (string_with (expr_at depth)) tokens.now from result }
 {
     match front_of(tokens, from) {
@@ -550,12 +485,7 @@ pub fn string(
 
 #[cycle(expression)]
 #[tactic(auto, unfolding(pp_readers::specs::Expressions::double_with))]
-fn double(
-    alloc: Global,
-    depth: usize,
-    tokens: &[Token<'_>],
-    from: usize,
-) -> Read<Expr>
+fn double(alloc: Global, depth: usize, tokens: &[Token<'_>], from: usize) -> Read<Expr>
     ensures { Reads (double_with (expr_at depth)) tokens.now from result }
 {
     let (at, rest) = expect(Kind::DqOpen, "\"", tokens, from)?;
@@ -564,13 +494,7 @@ fn double(
 
 #[cycle(expression)]
 #[tactic(auto, unfolding(pp_readers::specs::Expressions::quoted_with))]
-fn quoted(
-    alloc: Global,
-    depth: usize,
-    at: u32,
-    tokens: &[Token<'_>],
-    from: usize,
-) -> Read<Expr>
+fn quoted(alloc: Global, depth: usize, at: u32, tokens: &[Token<'_>], from: usize) -> Read<Expr>
     ensures { Reads (quoted_with (expr_at depth) at) tokens.now from result }
 {
     let ((found, part), rest) = members(alloc, depth, turns(tokens, from), tokens, from)?;
@@ -612,12 +536,7 @@ fn members(
 }
 
 #[cycle(expression)]
-fn member(
-    alloc: Global,
-    depth: usize,
-    tokens: &[Token<'_>],
-    from: usize,
-) -> Read<(Expr, bool)>
+fn member(alloc: Global, depth: usize, tokens: &[Token<'_>], from: usize) -> Read<(Expr, bool)>
     ensures { Reads (member_with (expr_at depth)) tokens.now from result }
 {
     match front_of(tokens, from) {
@@ -643,12 +562,7 @@ fn member(
 /// An expression between `${` and `}`.
 #[cycle(expression)]
 #[tactic(auto, unfolding(pp_readers::specs::Expressions::part_with))]
-fn part(
-    alloc: Global,
-    depth: usize,
-    tokens: &[Token<'_>],
-    from: usize,
-) -> Read<Expr>
+fn part(alloc: Global, depth: usize, tokens: &[Token<'_>], from: usize) -> Read<Expr>
     ensures { Reads (part_with (expr_at depth)) tokens.now from result }
 {
     let (_, rest) = expect(Kind::Hole, "${", tokens, from)?;
@@ -657,12 +571,7 @@ fn part(
 
 #[cycle(expression)]
 #[tactic(auto, unfolding(pp_readers::specs::Expressions::hole_with))]
-fn hole(
-    alloc: Global,
-    depth: usize,
-    tokens: &[Token<'_>],
-    from: usize,
-) -> Read<Expr>
+fn hole(alloc: Global, depth: usize, tokens: &[Token<'_>], from: usize) -> Read<Expr>
     ensures { Reads (hole_with (expr_at depth)) tokens.now from result }
 {
     let (e, rest) = inner(alloc, depth, tokens, from)?;
@@ -672,12 +581,7 @@ fn hole(
 
 #[cycle(expression)]
 #[tactic(auto, unfolding(pp_readers::specs::Expressions::inner_with))]
-fn inner(
-    alloc: Global,
-    depth: usize,
-    tokens: &[Token<'_>],
-    from: usize,
-) -> Read<Expr>
+fn inner(alloc: Global, depth: usize, tokens: &[Token<'_>], from: usize) -> Read<Expr>
     ensures { Reads (inner_with (expr_at depth)) tokens.now from result }
 {
     let (e, rest) = expr(alloc, depth, tokens, from)?;

@@ -1,3 +1,4 @@
+//! The token at an index: which one it is, and which operator.
 ghost use Rattle.std.specs.Prelude.{◌≡◌, ◌+◌, ◌<◌, ◌≤◌, drop, length, IfOk, IfSome};
 ghost use Rattle.std.specs.Option.{option_map};
 ghost use Rattle.pp_syntax.specs.Lexing.{told, lexeme_of};
@@ -41,12 +42,7 @@ pub fn mark(kind: Kind, text: &str, tokens: &[Token<'_>], from: usize) -> Option
 }
 
 /// The same, where nothing else goes on.
-pub fn expect(
-    kind: Kind,
-    text: &str,
-    tokens: &[Token<'_>],
-    from: usize,
-) -> Read<u32>
+pub fn expect(kind: Kind, text: &str, tokens: &[Token<'_>], from: usize) -> Read<u32>
     ensures { Reads (mark kind text.now) tokens.now from result }
 {
     mark(kind, text, tokens, from).ok_or(Misread::Form(from))

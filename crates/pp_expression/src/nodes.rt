@@ -1,3 +1,4 @@
+//! The nodes of the trees of expressions.
 ghost use Rattle.std.specs.Prelude.{◌≡◌, IfOk};
 ghost use Rattle.pp_syntax.specs.declared.tree.Form.TheVariants as form;
 ghost use Rattle.pp_readers.specs.Parsed.{Gives};

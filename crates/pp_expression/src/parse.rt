@@ -1,3 +1,4 @@
+//! What the crates above call.
 ghost use Rattle.pp_syntax.specs.Lexing.{told};
 ghost use Rattle.pp_syntax.specs.Derivation.{IsExprAt, PostfixOf, ReferenceOf, StringOf};
 ghost use Rattle.pp_readers.specs.Parsed.{Reads, IsSpelled, IsParsed, NothingGoesOn, NoSuffixGoesOn, Anything};
@@ -26,12 +27,7 @@ pub fn parse_expression(
 
 /// The operand that begins at this index, with all indexes and selections behind it; no operator is
 /// taken.
-pub fn parse_postfix(
-    alloc: Global,
-    depth: usize,
-    tokens: &[Token<'_>],
-    from: usize,
-) -> Read<Expr>
+pub fn parse_postfix(alloc: Global, depth: usize, tokens: &[Token<'_>], from: usize) -> Read<Expr>
     ensures spelled { IsSpelled (PostfixOf (IsExprAt depth)) (told tokens.now) from result }
     ensures parsed { IsParsed (PostfixOf (IsExprAt depth)) NoSuffixGoesOn (told tokens.now) from result }
     // what the way of reading finds, of which the laws say that it is the grammar's
@@ -41,12 +37,7 @@ pub fn parse_postfix(
 }
 
 /// The reference that begins at this index.
-pub fn parse_reference(
-    alloc: Global,
-    depth: usize,
-    tokens: &[Token<'_>],
-    from: usize,
-) -> Read<Expr>
+pub fn parse_reference(alloc: Global, depth: usize, tokens: &[Token<'_>], from: usize) -> Read<Expr>
     ensures spelled { IsSpelled (ReferenceOf (IsExprAt depth)) (told tokens.now) from result }
     ensures parsed { IsParsed (ReferenceOf (IsExprAt depth)) Anything (told tokens.now) from result }
     // what the way of reading finds, of which the laws say that it is the grammar's
@@ -56,12 +47,7 @@ pub fn parse_reference(
 }
 
 /// The text in quotes that begins at this index.
-pub fn parse_string(
-    alloc: Global,
-    depth: usize,
-    tokens: &[Token<'_>],
-    from: usize,
-) -> Read<Expr>
+pub fn parse_string(alloc: Global, depth: usize, tokens: &[Token<'_>], from: usize) -> Read<Expr>
     ensures spelled { IsSpelled (StringOf (IsExprAt depth)) (told tokens.now) from result }
     ensures parsed { IsParsed (StringOf (IsExprAt depth)) Anything (told tokens.now) from result }
     // what the way of reading finds, of which the laws say that it is the grammar's

@@ -1,3 +1,4 @@
+//! The values of texts in double quotes.
 ghost use Rattle.std.specs.Prelude.{◌≡◌, ◌<◌, ◌≤◌, ◌∷◌, ◌++◌, false, true, length, IfSome, OnOk, MatchOption, string_bytes, encode_utf8};
 ghost use Rattle.std.specs.Option.{option_map};
 ghost use Rattle.pp_syntax.specs.Bytes.{is_hex};

@@ -1,3 +1,4 @@
+//! The values of tokens that are operands by themselves.
 ghost use Rattle.std.specs.Prelude.{◌≡◌, ◌<◌, ◌≤◌, ◌∷◌, ◌++◌, length, IfOk, MatchOption, Some, string_bytes};
 ghost use Rattle.pp_syntax.specs.declared.tree.Form.TheVariants as form;
 ghost use Rattle.pp_syntax.specs.TokenValues.{sq_value, sq_escaped};

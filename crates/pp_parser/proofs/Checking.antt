@@ -5,7 +5,7 @@ use Rattle.rh_base.specs.declared.fault.Fault as rh
 use Rattle.rh_base.specs.declared.fault.Fault.TheVariants as faults
 use Rattle.rh_base.specs.Refused.{IfRefused, IsRefusal}
 use Rattle.pp_syntax.specs.Tokens.{Lexeme}
-use Rattle.pp_syntax.specs.Depth.{at_start}
+use Rattle.pp_parser.specs.Nested.{at_start}
 use Rattle.pp_parser.specs.Scanning.{first_left_out, first_too_deep}
 use Rattle.pp_parser.specs.Refusing.{IsCheckRefusal}
 use Rattle.pp_parser.proofs.LeftOutLaws.{left_out_found, none_left_out}

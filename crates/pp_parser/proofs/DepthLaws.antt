@@ -1,21 +1,19 @@
 -- The token that is found too deep is the first.
-use Rattle.std.proofs.Common.{◌≡◌, true, List, [], ◌∷◌, Some, None, refl, sym, ap, ◌∙◌, nat_lt}
+use Rattle.std.proofs.Common.{◌≡◌, true, List, Some, None}
 use Rattle.std.proofs.lemmas.Bool.{ltb-true, lt-ltb}
 use Rattle.pp_syntax.specs.Tokens.{Lexeme}
 use Rattle.pp_syntax.specs.LeftOut.{IsFirst, IsNowhere}
-use Rattle.pp_syntax.specs.Depth.{Nesting, at_start, shape_of, depth_of, nesting_from, depth_at, depth_limit, IsTooDeep}
+use Rattle.pp_syntax.specs.Depth.{depth_limit, IsTooDeep}
+use Rattle.pp_parser.specs.Nested.{at_start, shape_of, depth_of}
 use Rattle.pp_parser.specs.Scanning.{behind, is_too_deep, first_too_deep}
 use Rattle.pp_parser.proofs.First.{folded, found_all, nowhere_all}
-
-same_nesting : (n : Nesting) (before : List Lexeme) → folded behind n before ≡ nesting_from n before
-same_nesting n [] = refl
-same_nesting n (t ∷ before) = same_nesting (behind n t) before
+use Rattle.pp_parser.proofs.Counting.{counted, deep}
 
 tells : (before : List Lexeme) (t : Lexeme) (rest : List Lexeme) → is_too_deep (folded behind at_start before) t rest ≡ true → IsTooDeep before t rest
-tells before t rest h = ltb-true depth_limit (depth_at before t) (ap (λ (n : Nesting). nat_lt depth_limit (depth_of n (shape_of t.kind t.text))) (sym (same_nesting at_start before)) ∙ h)
+tells before t rest h = counted depth_limit before t (ltb-true depth_limit (depth_of (folded behind at_start before) (shape_of t.kind t.text)) h)
 
 told_by : (before : List Lexeme) (t : Lexeme) (rest : List Lexeme) → IsTooDeep before t rest → is_too_deep (folded behind at_start before) t rest ≡ true
-told_by before t rest h = ap (λ (n : Nesting). nat_lt depth_limit (depth_of n (shape_of t.kind t.text))) (same_nesting at_start before) ∙ lt-ltb depth_limit (depth_at before t) h
+told_by before t rest h = lt-ltb depth_limit (depth_of (folded behind at_start before) (shape_of t.kind t.text)) (deep depth_limit before t h.0 h.1 h.2)
 
 pub too_deep_found : (tokens : List Lexeme) (t : Lexeme) → first_too_deep at_start tokens ≡ Some t → IsFirst IsTooDeep tokens t
 too_deep_found = found_all behind is_too_deep at_start IsTooDeep tells told_by

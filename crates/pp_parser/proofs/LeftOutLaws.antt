@@ -1,5 +1,5 @@
 -- The test for tokens that are left out, against what it means.
-use Rattle.std.proofs.Common.{◌≡◌, ◌≢◌, ◌⊎◌, inl, inr, ℕ, Bool, true, false, ◌&&◌, not, List, [], ◌∷◌, Some, None, refl, sym, ap, ◌∙◌}
+use Rattle.std.proofs.Common.{◌≡◌, ◌≢◌, ◌⊎◌, inl, inr, ℕ, Bool, true, false, ◌&&◌, not, List, [], ◌∷◌, Option, Some, None, refl, sym, ap, ◌∙◌}
 use Rattle.std.specs.Prelude.{codes}
 use Rattle.std.specs.Str.{bytes_eq}
 use Rattle.std.proofs.lemmas.Bool.{and_parts, and_from, both_ways, not-true, not_from_false, or_cases, cases_Bool}
@@ -7,7 +7,9 @@ use Rattle.std.proofs.lemmas.Slice.Eq.{bytes_eq-Decides}
 use Rattle.pp_syntax.specs.declared.token.Kind.{Kind}
 use Rattle.pp_syntax.specs.declared.token.Kind.TheVariants as kind
 use Rattle.pp_syntax.specs.Tokens.{Lexeme, is_among}
-use Rattle.pp_syntax.specs.Statements.{functions}
+use Rattle.pp_syntax.specs.declared.tree.Func.{Func}
+use Rattle.pp_syntax.specs.Statements.{functions, function_of}
+use Rattle.pp_readers.proofs.Names.{no_function, function_none}
 use Rattle.pp_syntax.specs.LeftOut.{IsFirst, IsNowhere, BeginsWith, NamesFollow, IsLeftOut, sign, float, splat, function}
 use Rattle.pp_parser.specs.Scanning.{is_sign, begins_with, names_by, names_follow, left_out_by, is_left_out, first_left_out}
 use Rattle.pp_parser.proofs.First.{folded, found_all, nowhere_all}
@@ -44,6 +46,16 @@ begins_tells text (t ∷ tokens) h = let p = and_parts (is_sign t.kind) (bytes_e
 pub begins_test : (text : List ℕ) (tokens : List Lexeme) → BeginsWith text tokens → begins_with text tokens ≡ true
 begins_test text [] h = absurd h
 begins_test text (t ∷ tokens) h = and_from (is_sign t.kind) (bytes_eq t.text text) (ap is_sign h.0) (text_test t.text text h.1)
+
+-- the test for a function
+pub a_function : (s : List ℕ) (f : Func) → Some f ≡ function_of s → is_among functions s ≡ true
+a_function s f h = elim (cases_Bool (is_among functions s)) [ inl y ↦ y | inr n ↦ absurd (some_none (h ∙ function_none s n)) ]
+  where
+    some_none : ◌≡◌ {A = Option Func} (Some f) None → ⊥
+    some_none k = cc
+
+pub other_word : (s : List ℕ) → None ≡ function_of s → is_among functions s ≡ false
+other_word s h = no_function s (sym h)
 
 -- ---- `class` and `define`
 

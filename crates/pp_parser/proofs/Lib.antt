@@ -1,10 +1,12 @@
 pub mod First
 pub mod LeftOutLaws
 pub mod Rows
+pub mod Counting
 pub mod DepthLaws
 pub mod Checking
 pub mod Within
 pub mod WithinStatements
+pub mod Holes
 pub mod Turns
 pub mod TypesFound
 pub mod Quiet

@@ -2,7 +2,10 @@
 use Rattle.std.proofs.Common.{◌≡◌, ℕ, ◌+◌, ◌<◌, ◌≤◌, List, [], ◌∷◌, length, reverse, sym, arith}
 use Rattle.std.proofs.Common.{false, cond}
 use Rattle.std.specs.List.{AllByRecursion}
-use Rattle.pp_syntax.specs.Depth.{Nesting, Shape, Opens, Indexes, Braces, Closes, Asks, Prefixes, Other, innermost, outer_of, shape_of, behind_shape, depth_of}
+use Rattle.pp_parser.specs.declared.depth.Shape.{Shape}
+use Rattle.pp_parser.specs.declared.depth.Shape.TheVariants.{Opens, Indexes, Braces, Closes, Asks, Prefixes, Other}
+use Rattle.pp_parser.specs.declared.depth.Nesting.{Nesting}
+use Rattle.pp_parser.specs.Nested.{innermost, outer_of, shape_of, behind_shape, depth_of}
 use Rattle.std.proofs.Common.{add-one, ◌∙◌, ap, subst, drop, get_or, Some, nat_lt}
 use Rattle.std.proofs.Math.Seq.{drop-cons}
 use Rattle.std.proofs.lemmas.Bool.{le-ltb}

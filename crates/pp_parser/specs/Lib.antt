@@ -1,6 +1,5 @@
 pub mod Scanning
 pub mod Nested
 pub mod Refusing
-pub mod Bounded
 pub mod TypeReading
 pub mod ItemReading

@@ -5,7 +5,9 @@ use Rattle.pp_syntax.specs.declared.token.Kind.{Kind}
 use Rattle.pp_syntax.specs.declared.token.Kind.TheVariants as kind
 use Rattle.pp_syntax.specs.Tokens.{Lexeme, is_among}
 use Rattle.pp_syntax.specs.Statements.{functions}
-use Rattle.pp_syntax.specs.Depth.{Nesting, shape_of, behind_shape, depth_of, depth_limit}
+use Rattle.pp_syntax.specs.Depth.{depth_limit}
+use Rattle.pp_parser.specs.declared.depth.Nesting.{Nesting}
+use Rattle.pp_parser.specs.Nested.{shape_of, behind_shape, depth_of}
 
 abbrev pub is_sign : Kind → Bool
 is_sign kind.Sign = true

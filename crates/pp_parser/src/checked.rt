@@ -1,3 +1,4 @@
+//! What is refused before tokens are parsed.
 ghost use Rattle.std.specs.Prelude.{OnOk, IfErr};
 ghost use Rattle.rh_base.specs.Refused.{IfRefused};
 ghost use Rattle.pp_syntax.specs.Lexing.{told};
@@ -11,11 +12,11 @@ use pp_syntax::Token;
 use rh_base::Fault;
 use std::alloc::Global;
 
-/// Looks for tokens that are index out, and then for those that are nested too deep.
+/// Looks for tokens that are left out, and then for those that are nested too deep.
 pub fn check(alloc: Global, tokens: &[Token<'_>]) -> Result<(), Fault>
     ensures all_in { OnOk result (IsNowhere IsLeftOut (told tokens.now)) }
     ensures shallow { OnOk result (IsNowhere IsTooDeep (told tokens.now)) }
-    // The first that is index out, or else the first that is too deep.
+    // The first that is left out, or else the first that is too deep.
     ensures refused { IfErr result (λ e. IfRefused e (IsCheckRefusal (told tokens.now))) }
 {
     if let Some(t) = first_left_out(tokens) {

@@ -1,30 +1,43 @@
+//! Where tokens are nested too deep.
 ghost use Rattle.std.specs.Prelude.{◌≡◌, ◌+◌, ◌<◌, ◌^◌, [], ◌∷◌, length, OnOk, IfOk};
 ghost use Rattle.std.specs.Option.{option_map};
 ghost use Rattle.pp_syntax.specs.Tokens.{is_among};
 ghost use Rattle.pp_syntax.specs.Lexing.{told, lexeme_of};
-ghost use Rattle.pp_syntax.specs.Depth.{at_start, innermost, outer_of, sign_shape, shape_of, behind_shape, depth_of};
-ghost use Rattle.pp_parser.specs.Nested.{shape_as, nesting_of};
+ghost use Rattle.pp_parser.specs.Nested.{at_start, innermost, outer_of, sign_shape, shape_of, behind_shape, depth_of};
 ghost use Rattle.pp_parser.specs.Scanning.{first_too_deep};
 
-use crate::left_out::is_among;
-use pp_syntax::{Kind, Token};
+use pp_syntax::{Kind, Token, is_among};
 use rh_base::NoMemory;
+use rh_base::limits::NESTING;
 use std::alloc::Global;
 use std::marker::Model;
+
+const OPENING: [&[u8]; 2] = [b"(", b"<|"];
+
+const CLOSING: [&[u8]; 4] = [b")", b"]", b"}", b"|>"];
+
+const PREFIXES: [&[u8]; 2] = [b"!", b"-"];
 
 /// What a token is for the depth.
 #[derive(Clone, Copy, Debug, PartialEq, Eq)]
 pub enum Shape {
+    /// `(`, a `[` that isn't tight, `${` or `<|`
     Opens,
+    /// a tight `[`
     Indexes,
+    /// `{`
     Braces,
+    /// a closing bracket of any kind
     Closes,
+    /// `?`
     Asks,
+    /// `!` or `-`
     Prefixes,
     Other,
 }
 
-/// The rows of postfixes that end where the open brackets close, which contracts see with the innermost first.
+/// The open brackets, each as the number of postfixes in one row that end where it is closed, which contracts see
+/// with the innermost first.
 #[derive(Debug, Drop)]
 pub struct Rows {
     items: Vec<u64>,
@@ -73,34 +86,37 @@ impl Rows {
 #[derive(Debug, Drop)]
 pub struct Nesting {
     pub opened: Rows,
+    /// The length of the run of `!` and `-`.
     pub run: u64,
+    /// How many postfixes stand in one row.
     pub row: u64,
+    /// Where a `?` is the last token: how many postfixes in one row end where the `{` behind it is closed.
     pub asked: u64,
 }
 
 fn sign_shape(text: &str) -> Shape
-    ensures { shape_as result ≡ sign_shape text.now }
+    ensures { result ≡ sign_shape text.now }
 {
-    if is_among(&["(", "<|"], text) {
+    if is_among(&OPENING, text.as_bytes()) {
         return Shape::Opens;
     }
-    if is_among(&["{"], text) {
+    if text == "{" {
         return Shape::Braces;
     }
-    if is_among(&[")", "]", "}", "|>"], text) {
+    if is_among(&CLOSING, text.as_bytes()) {
         return Shape::Closes;
     }
-    if is_among(&["?"], text) {
+    if text == "?" {
         return Shape::Asks;
     }
-    if is_among(&["!", "-"], text) {
+    if is_among(&PREFIXES, text.as_bytes()) {
         return Shape::Prefixes;
     }
     Shape::Other
 }
 
 fn shape_of(t: &Token<'_>) -> Shape
-    ensures { shape_as result ≡ shape_of t.now.kind t.now.text.now }
+    ensures { result ≡ shape_of t.now.kind t.now.text.now }
 {
     match t.kind {
         Kind::Loose | Kind::Hole => Shape::Opens,
@@ -113,7 +129,7 @@ fn shape_of(t: &Token<'_>) -> Shape
 
 impl Nesting {
     fn new(alloc: Global) -> Nesting
-        ensures { nesting_of result ≡ at_start }
+        ensures { result ≡ at_start }
     {
         Nesting {
             opened: Rows::new(alloc),
@@ -124,7 +140,7 @@ impl Nesting {
     }
 
     fn open(&mut self, row: u64) -> Result<(), NoMemory>
-        ensures { OnOk result (nesting_of self.new ≡ record { opened = row ∷ self.old.opened; run = 0; row = 0; asked = 0 }) }
+        ensures { OnOk result (self.new ≡ record { opened = row ∷ self.old.opened; run = 0; row = 0; asked = 0 }) }
     {
         self.opened.push(row)?;
         self.run = 0;
@@ -137,7 +153,7 @@ impl Nesting {
     fn pass(&mut self, shape: Shape) -> Result<(), NoMemory>
         requires row { self.old.row + 1 < 2 ^ 64 }
         requires run { self.old.run + 1 < 2 ^ 64 }
-        ensures { OnOk result (nesting_of self.new ≡ behind_shape (nesting_of self.old) (shape_as shape)) }
+        ensures { OnOk result (self.new ≡ behind_shape self.old shape) }
     {
         match shape {
             Shape::Opens => self.open(0)?,
@@ -169,7 +185,7 @@ impl Nesting {
 
     fn depth_of(&self, shape: Shape) -> u128
         requires { self.now.row < 2 ^ 64 }
-        ensures { result ≡ depth_of (nesting_of self.now) (shape_as shape) }
+        ensures { result ≡ depth_of self.now shape }
     {
         let open = self.opened.len() as u128;
         let row = u128::from(self.row);
@@ -194,7 +210,7 @@ pub fn first_too_deep<'s, 't>(
     let mut nesting = Nesting::new(alloc);
     for t in tokens {
         let shape = shape_of(t);
-        if nesting.depth_of(shape) > 64 {
+        if nesting.depth_of(shape) > u128::from(NESTING) {
             return Ok(Some(t));
         }
         nesting.pass(shape)?;

@@ -1,3 +1,4 @@
+//! The parser of what stands at the top of a manifest.
 ghost use Rattle.std.specs.Prelude.{◌≡◌, drop, codes, Some};
 ghost use Rattle.pp_syntax.specs.Lexing.{told};
 ghost use Rattle.pp_readers.specs.Parsed.{Gives, Reads};
@@ -12,20 +13,15 @@ use crate::words::{begins_type, has_token, unopened, word};
 use pp_expression::{
     expect, first_at, front_of, mark, parse_expression, parse_string, separator, turns,
 };
-use pp_statement::{parse_attributes, parse_block, parse_statement, ref_name, variable};
 use pp_readers::{Misread, Read};
+use pp_statement::{parse_attributes, parse_block, parse_statement, ref_name, variable};
 use pp_syntax::{Expr, Form, Item, Kind, Param, Stmt, Token, TypeName};
 use rh_base::{Seq, Text};
 use std::alloc::Global;
 
 // ---- parameters
 
-fn kind_of(
-    alloc: Global,
-    depth: usize,
-    tokens: &[Token<'_>],
-    from: usize,
-) -> Read<Option<TypeName>>
+fn kind_of(alloc: Global, depth: usize, tokens: &[Token<'_>], from: usize) -> Read<Option<TypeName>>
     ensures { Reads (maybe_type (type_at depth)) tokens.now from result }
 {
     if begins_type(tokens, from) {
@@ -36,12 +32,7 @@ fn kind_of(
     }
 }
 
-fn default(
-    alloc: Global,
-    depth: usize,
-    tokens: &[Token<'_>],
-    from: usize,
-) -> Read<Option<Expr>>
+fn default(alloc: Global, depth: usize, tokens: &[Token<'_>], from: usize) -> Read<Option<Expr>>
     ensures { Reads (default_with (expr_at depth)) tokens.now from result }
 {
     let Some((_, behind)) = mark(Kind::Sign, "=", tokens, from) else {
@@ -51,18 +42,20 @@ fn default(
     Ok((Some(found), rest))
 }
 
-fn param(
-    alloc: Global,
-    depth: usize,
-    tokens: &[Token<'_>],
-    from: usize,
-) -> Read<Param>
+fn param(alloc: Global, depth: usize, tokens: &[Token<'_>], from: usize) -> Read<Param>
     ensures { Reads (param_with (expr_at depth) (type_at depth)) tokens.now from result }
 {
     let (kind, rest) = kind_of(alloc, depth, tokens, from)?;
     let (name, rest) = variable(alloc, tokens, rest)?;
     let (default, rest) = default(alloc, depth, tokens, rest)?;
-    Ok((Param { kind, name, default }, rest))
+    Ok((
+        Param {
+            kind,
+            name,
+            default,
+        },
+        rest,
+    ))
 }
 
 fn some_params(
@@ -88,12 +81,7 @@ fn some_params(
     Err(Misread::Form(rest))
 }
 
-fn params_behind(
-    alloc: Global,
-    depth: usize,
-    tokens: &[Token<'_>],
-    from: usize,
-) -> Read<Seq<Param>>
+fn params_behind(alloc: Global, depth: usize, tokens: &[Token<'_>], from: usize) -> Read<Seq<Param>>
     ensures { Reads (params_in (expr_at depth) (type_at depth)) tokens.now from result }
 {
     if let Some((_, rest)) = mark(Kind::Sign, ")", tokens, from) {
@@ -103,12 +91,7 @@ fn params_behind(
 }
 
 /// Parameters in brackets, or none.
-fn params(
-    alloc: Global,
-    depth: usize,
-    tokens: &[Token<'_>],
-    from: usize,
-) -> Read<Seq<Param>>
+fn params(alloc: Global, depth: usize, tokens: &[Token<'_>], from: usize) -> Read<Seq<Param>>
     ensures { Reads (params_with (expr_at depth) (type_at depth)) tokens.now from result }
 {
     match mark(Kind::Sign, "(", tokens, from) {
@@ -119,11 +102,7 @@ fn params(
 
 // ---- definitions
 
-fn parent(
-    alloc: Global,
-    tokens: &[Token<'_>],
-    from: usize,
-) -> Read<Option<Text>>
+fn parent(alloc: Global, tokens: &[Token<'_>], from: usize) -> Read<Option<Text>>
     ensures { Reads parent_with tokens.now from result }
 {
     let Some((_, behind)) = mark(Kind::Keyword, "inherits", tokens, from) else {
@@ -133,12 +112,7 @@ fn parent(
     Ok((Some(name), rest))
 }
 
-fn class(
-    alloc: Global,
-    depth: usize,
-    tokens: &[Token<'_>],
-    from: usize,
-) -> Read<Item>
+fn class(alloc: Global, depth: usize, tokens: &[Token<'_>], from: usize) -> Read<Item>
     ensures { Reads (class_with (expr_at depth) (type_at depth) (stmt_at (expr_at depth) depth)) tokens.now from result }
 {
     let (_, rest) = expect(Kind::Keyword, "class", tokens, from)?;
@@ -159,12 +133,7 @@ fn class(
     ))
 }
 
-fn define(
-    alloc: Global,
-    depth: usize,
-    tokens: &[Token<'_>],
-    from: usize,
-) -> Read<Item>
+fn define(alloc: Global, depth: usize, tokens: &[Token<'_>], from: usize) -> Read<Item>
     ensures { Reads (define_with (expr_at depth) (type_at depth) (stmt_at (expr_at depth) depth)) tokens.now from result }
 {
     let (_, rest) = expect(Kind::Keyword, "define", tokens, from)?;
@@ -192,12 +161,7 @@ fn text_of(form: Form) -> Option<Text>
     }
 }
 
-fn text_name(
-    alloc: Global,
-    depth: usize,
-    tokens: &[Token<'_>],
-    from: usize,
-) -> Read<Option<Text>>
+fn text_name(alloc: Global, depth: usize, tokens: &[Token<'_>], from: usize) -> Read<Option<Text>>
     ensures { Reads (text_name (expr_at depth)) tokens.now from result }
 {
     let (text, rest) = parse_string(alloc, depth, tokens, from)?;
@@ -213,23 +177,14 @@ fn default_name(tokens: &[Token<'_>], from: usize) -> Read<Option<Text>>
     Ok((None, rest))
 }
 
-fn word_name(
-    alloc: Global,
-    tokens: &[Token<'_>],
-    from: usize,
-) -> Read<Option<Text>>
+fn word_name(alloc: Global, tokens: &[Token<'_>], from: usize) -> Read<Option<Text>>
     ensures { Reads word_name tokens.now from result }
 {
     let (name, rest) = word(alloc, tokens, from)?;
     Ok((Some(name), rest))
 }
 
-fn node_name(
-    alloc: Global,
-    depth: usize,
-    tokens: &[Token<'_>],
-    from: usize,
-) -> Read<Option<Text>>
+fn node_name(alloc: Global, depth: usize, tokens: &[Token<'_>], from: usize) -> Read<Option<Text>>
     ensures { Reads (node_name_with (expr_at depth)) tokens.now from result }
 {
     match front_of(tokens, from) {
@@ -283,12 +238,7 @@ fn node_names(
     }
 }
 
-fn node(
-    alloc: Global,
-    depth: usize,
-    tokens: &[Token<'_>],
-    from: usize,
-) -> Read<Item>
+fn node(alloc: Global, depth: usize, tokens: &[Token<'_>], from: usize) -> Read<Item>
     ensures { Reads (node_with (expr_at depth) (stmt_at (expr_at depth) depth)) tokens.now from result }
 {
     let (_, rest) = expect(Kind::Keyword, "node", tokens, from)?;
@@ -298,12 +248,7 @@ fn node(
     Ok((Item::Node { at, names, body }, rest))
 }
 
-fn defaults(
-    alloc: Global,
-    depth: usize,
-    tokens: &[Token<'_>],
-    from: usize,
-) -> Read<Item>
+fn defaults(alloc: Global, depth: usize, tokens: &[Token<'_>], from: usize) -> Read<Item>
     ensures { Reads (defaults_with (expr_at depth)) tokens.now from result }
 {
     let (kind, rest) = ref_name(alloc, tokens, from)?;
@@ -314,12 +259,7 @@ fn defaults(
 
 // ---- items
 
-fn plain(
-    alloc: Global,
-    depth: usize,
-    tokens: &[Token<'_>],
-    from: usize,
-) -> Read<Item>
+fn plain(alloc: Global, depth: usize, tokens: &[Token<'_>], from: usize) -> Read<Item>
     ensures { Reads (plain_with (stmt_at (expr_at depth) depth)) tokens.now from result }
 {
     let (found, rest) = parse_statement(alloc, depth, tokens, from)?;
@@ -380,12 +320,7 @@ fn defaults_or_plain(
     }
 }
 
-fn item(
-    alloc: Global,
-    depth: usize,
-    tokens: &[Token<'_>],
-    from: usize,
-) -> Read<Item>
+fn item(alloc: Global, depth: usize, tokens: &[Token<'_>], from: usize) -> Read<Item>
     ensures { Reads (item_with (expr_at depth) (type_at depth) (stmt_at (expr_at depth) depth)) tokens.now from result }
 {
     match front_of(tokens, from) {
@@ -425,11 +360,7 @@ fn some_items(
 }
 
 /// All items, with brackets and blocks nested less deep than this.
-pub fn items(
-    alloc: Global,
-    depth: usize,
-    tokens: &[Token<'_>],
-) -> Read<Seq<Item>>
+pub fn items(alloc: Global, depth: usize, tokens: &[Token<'_>]) -> Read<Seq<Item>>
     ensures { Gives (λ x. (x.0, drop x.1 (told tokens.now))) result (items_at depth (told tokens.now)) }
 {
     some_items(alloc, depth, turns(tokens, 0), tokens, 0)

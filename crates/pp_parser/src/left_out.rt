@@ -1,28 +1,27 @@
-ghost use Rattle.std.specs.Prelude.{◌≡◌, map, false};
+//! Tokens that this language leaves out.
+ghost use Rattle.std.specs.Prelude.{◌≡◌, false};
 ghost use Rattle.std.specs.Option.{option_map};
 ghost use Rattle.pp_syntax.specs.Tokens.{is_among};
+ghost use Rattle.pp_syntax.specs.Statements.{functions};
 ghost use Rattle.pp_syntax.specs.Lexing.{told, lexeme_of};
 ghost use Rattle.pp_parser.specs.Scanning.{begins_with, names_by, is_left_out, first_left_out};
 
-use pp_syntax::{Kind, Token};
+use pp_syntax::{Func, Kind, Token, is_among};
 
-const FUNCTIONS: [&str; 7] = [
-    "include", "require", "contain", "realize", "fail", "notice", "warning",
-];
+const NAMED: [&[u8]; 2] = [b"class", b"define"];
 
-pub fn is_among(texts: &[&str], s: &str) -> bool
-    ensures { result ≡ is_among (map (λ t. t.now) texts.now) s.now }
+#[tactic(auto, using(crate::proofs::LeftOutLaws::other_word))]
+fn is_function(word: &str) -> bool
+    ensures { result ≡ is_among functions word.now }
 {
-    for t in texts {
-        if *t == s {
-            return true;
-        }
+    match Func::of(word) {
+        Some(_) => true,
+        None => false,
     }
-    false
 }
 
 /// The next token is this sign.
-pub fn begins_with(tokens: &[Token<'_>], text: &str) -> bool
+fn begins_with(tokens: &[Token<'_>], text: &str) -> bool
     ensures { result ≡ begins_with text.now (told tokens.now) }
 {
     match tokens.split_first() {
@@ -38,7 +37,7 @@ fn names_follow(t: &Token<'_>) -> bool
     ensures { result ≡ names_by t.now.kind t.now.text.now }
 {
     match t.kind {
-        Kind::Keyword => is_among(&["class", "define"], t.text),
+        Kind::Keyword => is_among(&NAMED, t.text.as_bytes()),
         _ => false,
     }
 }
@@ -54,7 +53,7 @@ fn is_left_out(names: bool, t: &Token<'_>, behind: &[Token<'_>]) -> bool
             star && arrow
         }
         Kind::Word => {
-            let function = is_among(&FUNCTIONS, t.text);
+            let function = is_function(t.text);
             let bracket = begins_with(behind, "(");
             !function && bracket && !names
         }

@@ -10,6 +10,5 @@ mod parsing;
 mod types;
 mod words;
 
-pub use checked::check;
-pub use laws::{items_are_read, nesting_is_bounded, one_manifest, types_are_read};
+pub use laws::{one_manifest, words_in_holes_are_variables};
 pub use parsing::parse;

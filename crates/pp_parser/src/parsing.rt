@@ -1,3 +1,4 @@
+//! From tokens to a manifest.
 ghost use Rattle.std.specs.Prelude.{◌≡◌, OnOk, IfOk, IfErr, MatchResult};
 ghost use Rattle.rh_base.specs.Refused.{IfRefused};
 ghost use Rattle.pp_syntax.specs.declared.tree.Manifest.{Manifest as Tree};
@@ -35,16 +36,16 @@ fn syntax(alloc: Global, tokens: &[Token<'_>], index: usize) -> Fault
 }
 
 /// The tree that the tokens of a text spell. Tokens that the language leaves out are refused first,
-/// then those that are nested too deep; the place of a refusal of the syntax is where reading stopped,
-/// at a token or at the end of the last one.
+/// then those that are nested too deep. The place of a refusal of the syntax is the first byte of a token or the
+/// end of the last one; which of them, no clause says.
 pub fn parse(alloc: Global, tokens: &[Token<'_>]) -> Result<Manifest, Fault>
     requires lexed { AreLexed (told tokens.now) }
     ensures spelled { IfOk result (λ m. IsManifest m (told tokens.now)) }
     ensures all_in { OnOk result (IsNowhere IsLeftOut (told tokens.now)) }
     ensures shallow { OnOk result (IsNowhere IsTooDeep (told tokens.now)) }
-    // Where the tokens spell a tree, none is index out and none is nested too deep, the answer is that tree, unless memory runs out.
+    // Where the tokens spell a tree, none is left out and none is nested too deep, the answer is that tree, unless memory runs out.
     ensures only { (m : Tree) → IsManifest m (told tokens.now) → IsNowhere IsLeftOut (told tokens.now) → IsNowhere IsTooDeep (told tokens.now) → MatchResult result (λ n. n ≡ m) (λ e. IfRefused e (λ r. ⊥)) }
-    // The first token that is index out; else the first that is nested too deep; else no tree is spelled.
+    // The first token that is left out; else the first that is nested too deep; else no tree is spelled.
     ensures refused { IfErr result (λ e. IfRefused e (IsParseRefusal (told tokens.now))) }
 {
     check(alloc, tokens)?;

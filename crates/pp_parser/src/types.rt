@@ -1,3 +1,4 @@
+//! The parser of the types of parameters.
 ghost use Rattle.std.specs.Prelude.{◌≡◌, codes, IfOk, Some};
 ghost use Rattle.pp_readers.specs.Parsed.{Reads};
 ghost use Rattle.pp_readers.specs.Expressions.{items};
@@ -7,8 +8,8 @@ ghost use Rattle.pp_parser.specs.TypeReading.{upper_with, bounds_with, maybe_bou
 
 use crate::words::{TypeWord, bound, quoted, type_word_at};
 use pp_expression::{expect, mark, separator, turns};
-use pp_statement::begins;
 use pp_readers::{Misread, Read};
+use pp_statement::begins;
 use pp_syntax::{Kind, Token, TypeName};
 use rh_base::{Boxed, NoMemory, Seq, Text};
 use std::alloc::Global;
@@ -34,10 +35,7 @@ fn bounds(tokens: &[Token<'_>], from: usize) -> Read<(i64, Option<i64>)>
     Ok(((least, most), rest))
 }
 
-fn some_bounds(
-    tokens: &[Token<'_>],
-    from: usize,
-) -> Read<Option<(i64, Option<i64>)>>
+fn some_bounds(tokens: &[Token<'_>], from: usize) -> Read<Option<(i64, Option<i64>)>>
     ensures { Reads maybe_bounds tokens.now from result }
 {
     let Some((_, behind)) = mark(Kind::Tight, "[", tokens, from) else {
@@ -75,12 +73,7 @@ fn number_type(bounds: Option<(i64, Option<i64>)>) -> TypeName
 }
 
 /// Texts in single quotes with commas between them, and the bracket that closes them.
-fn texts(
-    alloc: Global,
-    turns: usize,
-    tokens: &[Token<'_>],
-    from: usize,
-) -> Read<Seq<Text>>
+fn texts(alloc: Global, turns: usize, tokens: &[Token<'_>], from: usize) -> Read<Seq<Text>>
     ensures { Reads (items (codes "]") (taken quoted_by) turns) tokens.now from result }
 {
     let mut found = Seq::new(alloc);
@@ -97,11 +90,7 @@ fn texts(
     Err(Misread::Form(rest))
 }
 
-fn enumerated(
-    alloc: Global,
-    tokens: &[Token<'_>],
-    from: usize,
-) -> Read<Seq<Text>>
+fn enumerated(alloc: Global, tokens: &[Token<'_>], from: usize) -> Read<Seq<Text>>
     ensures { Reads texts_with tokens.now from result }
 {
     let (_, rest) = expect(Kind::Tight, "[", tokens, from)?;
@@ -110,12 +99,7 @@ fn enumerated(
 
 /// A type, with brackets nested less deep than this.
 #[cycle(types)]
-pub fn type_at(
-    alloc: Global,
-    depth: usize,
-    tokens: &[Token<'_>],
-    from: usize,
-) -> Read<TypeName>
+pub fn type_at(alloc: Global, depth: usize, tokens: &[Token<'_>], from: usize) -> Read<TypeName>
     ensures { Reads (type_at depth) tokens.now from result }
 {
     if depth == 0 {
@@ -125,12 +109,7 @@ pub fn type_at(
 }
 
 #[cycle(types)]
-fn any_type(
-    alloc: Global,
-    depth: usize,
-    tokens: &[Token<'_>],
-    from: usize,
-) -> Read<TypeName>
+fn any_type(alloc: Global, depth: usize, tokens: &[Token<'_>], from: usize) -> Read<TypeName>
     ensures { Reads (type_with (type_at depth)) tokens.now from result }
 {
     match type_word_at(tokens, from) {
@@ -177,11 +156,7 @@ fn number_behind(tokens: &[Token<'_>], from: usize) -> Read<TypeName>
     Ok((number_type(found), rest))
 }
 
-fn enum_behind(
-    alloc: Global,
-    tokens: &[Token<'_>],
-    from: usize,
-) -> Read<TypeName>
+fn enum_behind(alloc: Global, tokens: &[Token<'_>], from: usize) -> Read<TypeName>
     ensures { Reads (shaped type.Enum texts_with) tokens.now from result }
 {
     let (found, rest) = enumerated(alloc, tokens, from)?;
@@ -190,12 +165,7 @@ fn enum_behind(
 
 /// A type in brackets.
 #[cycle(types)]
-fn member(
-    alloc: Global,
-    depth: usize,
-    tokens: &[Token<'_>],
-    from: usize,
-) -> Read<TypeName>
+fn member(alloc: Global, depth: usize, tokens: &[Token<'_>], from: usize) -> Read<TypeName>
     ensures { Reads (member_with (type_at depth)) tokens.now from result }
 {
     let (_, rest) = expect(Kind::Tight, "[", tokens, from)?;
@@ -219,12 +189,7 @@ fn optional_of(alloc: Global, member: TypeName) -> Result<TypeName, NoMemory>
 }
 
 #[cycle(types)]
-fn array_behind(
-    alloc: Global,
-    depth: usize,
-    tokens: &[Token<'_>],
-    from: usize,
-) -> Read<TypeName>
+fn array_behind(alloc: Global, depth: usize, tokens: &[Token<'_>], from: usize) -> Read<TypeName>
     ensures { Reads (shaped type.Array (maybe_member (type_at depth))) tokens.now from result }
 {
     if begins(Kind::Tight, "[", tokens, from) {
@@ -237,12 +202,7 @@ fn array_behind(
 }
 
 #[cycle(types)]
-fn optional_behind(
-    alloc: Global,
-    depth: usize,
-    tokens: &[Token<'_>],
-    from: usize,
-) -> Read<TypeName>
+fn optional_behind(alloc: Global, depth: usize, tokens: &[Token<'_>], from: usize) -> Read<TypeName>
     ensures { Reads (shaped type.Optional (member_with (type_at depth))) tokens.now from result }
 {
     let (found, rest) = member(alloc, depth, tokens, from)?;
@@ -276,12 +236,7 @@ fn types(
 }
 
 #[cycle(types)]
-fn variant_behind(
-    alloc: Global,
-    depth: usize,
-    tokens: &[Token<'_>],
-    from: usize,
-) -> Read<TypeName>
+fn variant_behind(alloc: Global, depth: usize, tokens: &[Token<'_>], from: usize) -> Read<TypeName>
     ensures { Reads (shaped type.Variant (members_with (type_at depth))) tokens.now from result }
 {
     let (_, rest) = expect(Kind::Tight, "[", tokens, from)?;

@@ -1,3 +1,4 @@
+//! The tokens that stand for types, numbers and names.
 ghost use Rattle.std.specs.Prelude.{◌≡◌, drop};
 ghost use Rattle.std.specs.Option.{option_map};
 ghost use Rattle.pp_syntax.specs.Lexing.{told};
@@ -7,8 +8,8 @@ ghost use Rattle.pp_parser.specs.TypeReading.{type_word, type_word_by, number_by
 ghost use Rattle.pp_parser.specs.ItemReading.{word_by, begins_type, unopened, has_token};
 
 use pp_expression::{front_of, number, sq, text_of};
-use pp_statement::begins;
 use pp_readers::{Misread, Read};
+use pp_statement::begins;
 use pp_syntax::{Kind, Token};
 use rh_base::Text;
 use std::alloc::Global;

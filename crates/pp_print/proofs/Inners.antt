@@ -87,9 +87,6 @@ at_case a k f (plain.Select x cs) e h = cc
 unplaced_str : (name : List ℕ) → unplaced_form (form.Str name) ≡ form.Str name
 unplaced_str name = sym (ap unplaced_form (rolls-Str name)) ∙ rolled (plain.Str name) ∙ rolls-Str name
 
-unplaced_var : (name : List ℕ) → unplaced_form (form.Var name) ≡ form.Var name
-unplaced_var name = sym (ap unplaced_form (rolls-Var name)) ∙ rolled (plain.Var name) ∙ rolls-Var name
-
 -- What is the same as a text with indexes, places aside, is one too, and so are the two with a variable in its place.
 transport : (y z w : Expr) → unplaced y ≡ unplaced z → ReadAsVariable z w → (v : Expr) × ReadAsVariable y v × (unplaced v ≡ unplaced w)
 transport y z w same (base name e f g) =

@@ -115,21 +115,6 @@ prefixes_again (o ∷ ops) ts us d w =
 
 -- ---- chains of one level
 
-level_most : (o : Op) → level_of o ≤ 7
-level_most op.Or = omega arith
-level_most op.And = omega arith
-level_most op.Less = omega arith
-level_most op.Greater = omega arith
-level_most op.AtMost = omega arith
-level_most op.AtLeast = omega arith
-level_most op.Same = omega arith
-level_most op.NotSame = omega arith
-level_most op.Plus = omega arith
-level_most op.Minus = omega arith
-level_most op.Times = omega arith
-level_most op.In = omega arith
-level_most op.Not = omega arith
-
 module _ (n : ℕ) (F A : Rule) (level : ℕ) (most : level ≤ 6) (next : (x : Expr) (ts : List Lexeme) → A x ts → Small n ts → Reprint F (level + 1) x) where
   abbrev Next : Rule
   Next = RuleAt F (level + 1)

@@ -2,8 +2,10 @@
 use Rattle.std.proofs.Common.{◌≡◌, inl, inr, ℕ, zero, suc, ◌+◌, ◌<◌, Bool, true, false, cond, ◌||◌, ◌&&◌, ◌==◌, nat_lt, List, [], ◌∷◌, ◌++◌, length, drop, get_or, refl, sym, ap, subst, ◌∙◌, arith, append_assoc, length-append}
 use Rattle.std.specs.Prelude.{IsUtf8, codes, encode_utf8}
 use Rattle.std.specs.List.{AllByRecursion, list_any}
+use Rattle.std.specs.Str.{bytes_eq}
+use Rattle.std.proofs.lemmas.Slice.Eq.{bytes_eq-Decides}
 use Rattle.std.proofs.Math.Seq.{take-append_seam, drop-append_seam}
-use Rattle.std.proofs.lemmas.Bool.{or_cases, eqb-true, ltb-true}
+use Rattle.std.proofs.lemmas.Bool.{and_parts, or_cases, eqb-true, ltb-true}
 use Rattle.std.proofs.lemmas.Bool.Decides.{nat_tests}
 use Rattle.std.proofs.lemmas.List.{append_cancel_right}
 use Rattle.std.proofs.lemmas.Str.{IsUtf8-append, IsUtf8-nil, IsUtf8-take, IsUtf8-drop, IsUtf8-encode, IsUtf8-from_ascii, IsCharBoundary-before_ascii, IsCharBoundary-after_ascii}
@@ -19,9 +21,6 @@ use Rattle.pp_syntax.specs.Tokens.{Lexeme, Of, SomeOf, begins, goes_on, Segment,
 use Rattle.pp_syntax.specs.TokenValues.{sq_value, SqOf, simple_value, EscapeOf, simple, four, braced, DqOf, nothing, plain, escape, backslash}
 use Rattle.pp_syntax.specs.Spelling.{TokenAt, Reads, ends, gap, token, stuck, Spells, start}
 use Rattle.pp_syntax.specs.Statements.{IsManifest}
-use Rattle.pp_syntax.proofs.Signs.{all_pass, of_each}
-use Rattle.pp_syntax.proofs.Longest.{token_reads, gap_at_reads}
-use Rattle.pp_syntax.proofs.Lexed.{gap_cut, token_cut, cut_utf8}
 use Rattle.pp_print.specs.declared.words.Word.{Word}
 use Rattle.pp_print.specs.Words.{must_escape, escaped, clings, holds, text_from}
 use Rattle.pp_print.specs.Statements.{manifest_words}
@@ -199,24 +198,12 @@ good_token kind.Keyword s u = tt
 good_token kind.Sign s u = tt
 good_token kind.LeftOut s u = tt
 
--- a token of a UTF-8 text, and the text behind it
-token_utf8 : (p : Place) (k : Kind) (s rest : List ℕ) → TokenAt p k s rest → IsUtf8 (s ++ rest) → IsUtf8 s × IsUtf8 rest
-token_utf8 p k s rest h u =
-    let cut = (token_cut p (s ++ rest) k rest u (token_reads p k s rest h)).0 in
-    (subst (λ (t : List ℕ). IsUtf8 t) (sym (append_cancel_right s _ rest cut.whole)) (IsUtf8-take (s ++ rest) _ u cut.may), cut_utf8 (s ++ rest) rest u cut)
+abbrev AllUtf8 : List Lexeme → Type 0
+AllUtf8 ts = AllByRecursion (λ t. IsUtf8 t.text) ts
 
-abbrev AllGoodTokens : List Lexeme → Type 0
-AllGoodTokens ts = AllByRecursion (λ t. GoodToken (λ s. IsUtf8 s) t.kind t.text) ts
-
-read_good : (p : Place) (text : List ℕ) (tokens : List Lexeme) (e : Ending) → Reads p text tokens e → IsUtf8 text → AllGoodTokens tokens
-read_good p text tokens e (ends a b c) u = subst (λ (ts : List Lexeme). AllGoodTokens ts) (sym b) tt
-read_good p text tokens e (gap s rest a b r) u =
-    let v = subst (λ (t : List ℕ). IsUtf8 t) a u in
-    read_good _ rest tokens e r (cut_utf8 (s ++ rest) rest v (gap_cut p (s ++ rest) rest v (gap_at_reads p s rest b)).0)
-read_good p text tokens e (token k s rest more a b c r) u =
-    let v = token_utf8 p k s rest b (subst (λ (t : List ℕ). IsUtf8 t) a u) in
-    subst (λ (ts : List Lexeme). AllGoodTokens ts) (sym c) (good_token k s v.0, read_good _ rest more e r v.1)
-read_good p text tokens e (stuck a b c d f) u = subst (λ (ts : List Lexeme). AllGoodTokens ts) (sym d) tt
+good_tokens : (ts : List Lexeme) → AllUtf8 ts → AllByRecursion (λ t. GoodToken (λ s. IsUtf8 s) t.kind t.text) ts
+good_tokens [] h = tt
+good_tokens (t ∷ ts) h = (good_token t.kind t.text h.0, good_tokens ts h.1)
 
 -- ---- words
 
@@ -264,14 +251,21 @@ int_ascii s (hexadecimal x more e (inr f) h) = subst (λ (t : List ℕ). Of is_a
 
 spread : (s : List ℕ) → all_ascii s ≡ true → Of is_ascii s
 spread [] h = tt
-spread (b ∷ s) h = let p = parts (is_ascii b) (all_ascii s) h in (p.0, spread s p.1)
-  where
-    parts : (x y : Bool) → (x && y) ≡ true → (x ≡ true) × (y ≡ true)
-    parts true y e = (refl, e)
-    parts false y e = cc
+spread (b ∷ s) h = let p = and_parts (is_ascii b) (all_ascii s) h in (p.0, spread s p.1)
 
-among_utf8 : (texts : List (List ℕ)) (s : List ℕ) → all_pass all_ascii texts ≡ true → is_among texts s ≡ true → IsUtf8 s
-among_utf8 texts s all h = ascii_utf8 s (spread s (of_each all_ascii texts s all h))
+abbrev each_ascii : List (List ℕ) → Bool
+each_ascii [] = true
+each_ascii (t ∷ texts) = all_ascii t && each_ascii texts
+
+one_ascii : (texts : List (List ℕ)) (s : List ℕ) → each_ascii texts ≡ true → is_among texts s ≡ true → all_ascii s ≡ true
+one_ascii [] s all h = cc
+one_ascii (t ∷ texts) s all h = elim (or_cases (bytes_eq t s) (is_among texts s) h) [
+  | inl e ↦ ap all_ascii (sym ((bytes_eq-Decides t s).0 e)) ∙ (and_parts (all_ascii t) (each_ascii texts) all).0
+  | inr more ↦ one_ascii texts s (and_parts (all_ascii t) (each_ascii texts) all).1 more
+]
+
+among_utf8 : (texts : List (List ℕ)) (s : List ℕ) → each_ascii texts ≡ true → is_among texts s ≡ true → IsUtf8 s
+among_utf8 texts s all h = ascii_utf8 s (spread s (one_ascii texts s all h))
 
 written : (s t : List ℕ) → s ≡ t → Of is_ascii t → IsUtf8 s
 written s t e h = subst (λ (r : List ℕ). IsUtf8 r) (sym e) (ascii_utf8 t h)
@@ -305,8 +299,8 @@ words_utf8 held (w ∷ ws) st st2 l l2 h g =
     IsUtf8-append (cond (held || clings w.kind) [] (32 ∷ [])) (w.text ++ text_from (holds w.kind) ws) (space_utf8 (held || clings w.kind))
     (IsUtf8-append w.text (text_from (holds w.kind) ws) (word_utf8 st l w.kind w.text h.0 g.0) (words_utf8 (holds w.kind) ws (opened_by w.kind w.text st) st2 (last_of l w.kind w.text) l2 h.1 g.1))
 
-pub canonical_utf8 : (m : Manifest) (text : List ℕ) (tokens : List Lexeme) → IsUtf8 text → Spells text tokens → IsManifest m tokens → IsUtf8 (canonical m)
-canonical_utf8 m text tokens u h d =
-    let fine : Fine (λ t. IsUtf8 t) tokens = record { sound = all_sound text tokens h; good = read_good start text tokens _ h u; empty = IsUtf8-nil } in
+pub canonical_utf8 : ((text : List ℕ) (tokens : List Lexeme) → IsUtf8 text → Spells text tokens → AllUtf8 tokens) → (m : Manifest) (text : List ℕ) (tokens : List Lexeme) → IsUtf8 text → Spells text tokens → IsManifest m tokens → IsUtf8 (canonical m)
+canonical_utf8 utf8 m text tokens u h d =
+    let fine : Fine (λ t. IsUtf8 t) tokens = record { sound = all_sound text tokens h; good = good_tokens tokens (utf8 text tokens u h); empty = IsUtf8-nil } in
     let r = manifest_good (λ t. IsUtf8 t) m tokens d fine in
     words_utf8 true (manifest_words m) [] [] _ r.0.0 r.0.1 r.1

@@ -1,29 +1,13 @@
-ghost use Rattle.std.specs.Prelude.{◌≡◌, ◌+◌, ◌<◌, ◌∷◌, ◌++◌, codes, if◌then◌else◌, OnOk};
-ghost use Rattle.std.specs.Option.{option_map};
+//! The words of expressions.
+ghost use Rattle.std.specs.Prelude.{◌≡◌, ◌+◌, ◌<◌, ◌++◌, codes, if◌then◌else◌, OnOk};
 ghost use Rattle.std.specs.List.{flat_map};
 ghost use Rattle.pp_syntax.specs.declared.token.Kind.TheVariants as kind;
-ghost use Rattle.pp_syntax.specs.Derivation.{level_of};
-ghost use Rattle.pp_print.specs.Words.{word, sign, keyword, in_parens, in_loose, in_braces, in_tight, listed};
+ghost use Rattle.pp_print.specs.Words.{sign, keyword, in_parens, in_loose, in_braces, in_tight, listed};
 ghost use Rattle.pp_print.specs.Expressions.{printed, expr_words, at_level, indexed, option_by, operator, level_in, pair_by, choice_by, hole_by, operation_by, joined_by, refer_by, prefix_by};
 
 use crate::words::Words;
 use pp_syntax::{Expr, Form, Kind, Op};
 use rh_base::NoMemory;
-
-fn level_of(op: Op) -> u32
-    ensures { result ≡ level_of op }
-{
-    match op {
-        Op::Or => 0,
-        Op::And => 1,
-        Op::Less | Op::Greater | Op::AtMost | Op::AtLeast => 2,
-        Op::Same | Op::NotSame => 3,
-        Op::Plus | Op::Minus => 4,
-        Op::Times => 5,
-        Op::In => 6,
-        Op::Not => 7,
-    }
-}
 
 /// The level of a chain with these operators.
 fn level_in(more: &[(Op, Expr)]) -> u32
@@ -31,7 +15,7 @@ fn level_in(more: &[(Op, Expr)]) -> u32
     ensures most { result < 9 }
 {
     match more.split_first() {
-        Some((o, _)) => level_of(o.0),
+        Some((o, _)) => o.0.level(),
         None => 8,
     }
 }

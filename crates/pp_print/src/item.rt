@@ -1,10 +1,11 @@
-ghost use Rattle.std.specs.Prelude.{◌≡◌, ◌∷◌, ◌++◌, codes, OnOk};
+//! The words of what stands at the top of a manifest.
+ghost use Rattle.std.specs.Prelude.{◌≡◌, ◌++◌, OnOk};
 ghost use Rattle.std.specs.List.{flat_map};
 ghost use Rattle.pp_syntax.specs.declared.token.Kind.TheVariants as kind;
 ghost use Rattle.pp_syntax.specs.declared.tree.Item.TheVariants as item;
-ghost use Rattle.pp_print.specs.Words.{word, quoted, listed};
+ghost use Rattle.pp_print.specs.Words.{quoted, listed};
 ghost use Rattle.pp_print.specs.Expressions.{option_by};
-ghost use Rattle.pp_print.specs.Statements.{maybe_type, default_words, param_words, params_words, parent_words, item_words, manifest_words};
+ghost use Rattle.pp_print.specs.Statements.{maybe_type, default_words, param_words, params_words, parent_words, item_words};
 
 use crate::expression::expr;
 use crate::resource::attrs;

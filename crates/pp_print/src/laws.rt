@@ -1,4 +1,5 @@
-ghost use Rattle.std.specs.Prelude.{◌≡◌, ◌≤◌, ◌++◌, ℕ, List, length, IsUtf8};
+//! What canonical text is for, as laws.
+ghost use Rattle.std.specs.Prelude.{◌≡◌, ◌≤◌, ◌++◌, ℕ, List, length};
 ghost use Rattle.pp_syntax.specs.declared.tree.Expr.{Expr};
 ghost use Rattle.pp_syntax.specs.declared.tree.Manifest.{Manifest};
 ghost use Rattle.pp_syntax.specs.declared.tree.TypeName.{TypeName};
@@ -13,7 +14,7 @@ ghost use Rattle.pp_print.specs.Statements.{type_words, manifest_words};
 ghost use Rattle.pp_print.specs.Places.{unplaced, SameButPlaces};
 ghost use Rattle.pp_print.specs.Canonical.{IsSpelled, canonical, ReadsBack};
 
-use pp_syntax::set_apart_tokens_stand;
+use pp_syntax::{set_apart_tokens_stand, tokens_are_utf8};
 
 /// A text in single quotes is written with the fewest backslashes that spell it.
 pub fn fewest_backslashes()
@@ -34,6 +35,7 @@ pub fn canonical_text_is_read()
     ensures { (m : Manifest) → IsSpelled m → ReadsBack (canonical m) m }
 {
     set_apart_tokens_stand();
+    tokens_are_utf8();
 }
 
 /// Manifests that differ at most in their places have one canonical text: what is read back is printed as it was.

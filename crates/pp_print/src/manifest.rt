@@ -1,6 +1,6 @@
+//! The canonical text of a manifest.
 ghost use Rattle.std.specs.Prelude.{◌≡◌, ◌++◌, ℕ, List, IfOk, OnOk, OnErr};
-ghost use Rattle.pp_print.specs.Words.{clings, holds, text_from, text_of};
-ghost use Rattle.pp_print.specs.Statements.{manifest_words};
+ghost use Rattle.pp_print.specs.Words.{clings, holds, text_of};
 ghost use Rattle.pp_print.specs.Canonical.{IsSpelled, canonical, ReadsBack};
 
 use crate::item::items;

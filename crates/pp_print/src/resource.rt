@@ -1,7 +1,8 @@
-ghost use Rattle.std.specs.Prelude.{◌≡◌, ◌++◌, codes, OnOk};
+//! The words of resources, collectors and references.
+ghost use Rattle.std.specs.Prelude.{◌≡◌, ◌++◌, OnOk};
 ghost use Rattle.pp_syntax.specs.declared.token.Kind.TheVariants as kind;
 ghost use Rattle.pp_syntax.specs.declared.tree.Operand.TheVariants as operand;
-ghost use Rattle.pp_print.specs.Words.{word, sign, in_braces, in_loose, listed};
+ghost use Rattle.pp_print.specs.Words.{sign, in_loose, listed};
 ghost use Rattle.pp_print.specs.Expressions.{expr_words};
 ghost use Rattle.pp_print.specs.Statements.{attr_words, body_words, bodies_words, virtual_words, references, maybe_search, operand_words, arrow_words, links, chain_words};
 

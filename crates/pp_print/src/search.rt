@@ -1,3 +1,4 @@
+//! The words of searches.
 ghost use Rattle.std.specs.Prelude.{◌≡◌, ◌++◌, OnOk};
 ghost use Rattle.std.specs.List.{join_by};
 ghost use Rattle.pp_print.specs.Words.{keyword, in_parens};

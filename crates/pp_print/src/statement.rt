@@ -1,30 +1,17 @@
+//! The words of statements.
 ghost use Rattle.std.specs.Prelude.{◌≡◌, ◌∷◌, ◌++◌, codes, OnOk};
 ghost use Rattle.std.specs.List.{flat_map, join_by};
 ghost use Rattle.pp_syntax.specs.declared.token.Kind.TheVariants as kind;
 ghost use Rattle.pp_syntax.specs.Statements.{word_of};
 ghost use Rattle.pp_print.specs.Words.{word, sign, keyword, in_parens, in_braces, listed};
 ghost use Rattle.pp_print.specs.Expressions.{expr_words, option_by};
-ghost use Rattle.pp_print.specs.Statements.{stmt_words, block_by, block_words, else_by, arm_words, case_arm_words};
+ghost use Rattle.pp_print.specs.Statements.{stmt_words, block_words, else_by, arm_words, case_arm_words};
 
 use crate::expression::{expr, exprs, option};
 use crate::resource::chain;
 use crate::words::Words;
 use pp_syntax::{Arm, CaseArm, Expr, Func, Kind, Stmt};
 use rh_base::NoMemory;
-
-fn word_of(func: Func) -> &'static str
-    ensures { result.now ≡ word_of func }
-{
-    match func {
-        Func::Include => "include",
-        Func::Require => "require",
-        Func::Contain => "contain",
-        Func::Realize => "realize",
-        Func::Fail => "fail",
-        Func::Notice => "notice",
-        Func::Warning => "warning",
-    }
-}
 
 fn assign(words: &mut Words, name: &str, value: &Expr) -> Result<(), NoMemory>
     ensures { OnOk result (words.new ≡ words.old ++ (word kind.Var (36 ∷ name.now) ++ (sign (codes "=") ++ expr_words value.now))) }
@@ -37,7 +24,7 @@ fn assign(words: &mut Words, name: &str, value: &Expr) -> Result<(), NoMemory>
 fn call(words: &mut Words, func: Func, args: &[Expr]) -> Result<(), NoMemory>
     ensures { OnOk result (words.new ≡ words.old ++ (word kind.Word (word_of func) ++ in_parens (listed expr_words args.now))) }
 {
-    words.push(Kind::Word, word_of(func).as_bytes())?;
+    words.push(Kind::Word, func.word().as_bytes())?;
     words.sign("(")?;
     exprs(words, args)?;
     words.sign(")")

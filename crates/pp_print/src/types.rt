@@ -1,5 +1,5 @@
+//! The words of the types of parameters.
 ghost use Rattle.std.specs.Prelude.{◌≡◌, ◌++◌, codes, OnOk};
-ghost use Rattle.pp_syntax.specs.declared.token.Kind.TheVariants as kind;
 ghost use Rattle.pp_print.specs.Words.{number, comma, quoted, in_tight, listed};
 ghost use Rattle.pp_print.specs.Statements.{text_bounds, number_bounds, type_word, member_by, type_words};
 

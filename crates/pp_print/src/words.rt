@@ -1,9 +1,9 @@
-ghost use Rattle.std.specs.Prelude.{◌≡◌, [], ◌∷◌, ◌++◌, map, codes, if◌then◌else◌, decimal, unsigned_abs, OnOk};
+//! Words: tokens that are to be written.
+ghost use Rattle.std.specs.Prelude.{◌≡◌, [], ◌∷◌, ◌++◌, unsigned_abs, OnOk};
 ghost use Rattle.pp_syntax.specs.declared.token.Kind.TheVariants as kind;
-ghost use Rattle.pp_syntax.specs.Tokens.{is_among, keywords};
-ghost use Rattle.pp_print.specs.Words.{word, sign, keyword, comma, escapes, must_escape, escaped, quoted, number, has_dash, variable, named};
+ghost use Rattle.pp_print.specs.Words.{word, sign, keyword, escapes, must_escape, escaped, quoted, number, has_dash, variable, named};
 
-use pp_syntax::Kind;
+use pp_syntax::{Kind, is_keyword};
 use rh_base::{NoMemory, Seq};
 use std::alloc::Global;
 use std::marker::Model;
@@ -121,7 +121,7 @@ impl Words {
     pub fn named(&mut self, name: &str) -> Result<(), NoMemory>
         ensures { OnOk result (self.new ≡ self.old ++ named name.now) }
     {
-        let kind = if is_keyword(name) {
+        let kind = if is_keyword(name.as_bytes()) {
             Kind::Keyword
         } else {
             Kind::Word
@@ -175,27 +175,4 @@ fn has_dash(name: &[u8]) -> bool
         }
     }
     false
-}
-
-fn is_among(texts: &[&str], text: &str) -> bool
-    ensures { result ≡ is_among (map (λ t. t.now) texts.now) text.now }
-{
-    for t in texts {
-        if *t == text {
-            return true;
-        }
-    }
-    false
-}
-
-fn is_keyword(text: &str) -> bool
-    ensures { result ≡ is_among keywords text.now }
-{
-    is_among(
-        &[
-            "and", "or", "in", "if", "elsif", "else", "unless", "case", "default", "class",
-            "define", "inherits", "node", "undef", "true", "false",
-        ],
-        text,
-    )
 }

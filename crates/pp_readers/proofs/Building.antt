@@ -14,7 +14,7 @@ use Rattle.pp_readers.specs.Marks.{Found, first_at, mark, rank}
 use Rattle.rh_base.specs.Reading.{◌>>=◌}
 use Rattle.pp_readers.specs.Expressions.{with_first}
 use Rattle.pp_readers.proofs.Reading.{Fit, fits_first, fits_second, first_place}
-use Rattle.pp_readers.specs.Combining.{Reader, both, made, behind, before, in_braces, begins, is_found, many, after_item, listed}
+use Rattle.pp_readers.specs.Combining.{Reader, both, made, behind, before, in_braces, many, after_item, listed}
 use Rattle.pp_readers.specs.Names.{taken}
 use Rattle.pp_readers.proofs.Combining.{Spells, ListedBy}
 
@@ -40,14 +40,6 @@ mark_not k s ts never = by_mark (mark k s ts) refl
     by_mark : (r : Found ℕ) → mark k s ts ≡ r → r ≡ None
     by_mark None p = refl
     by_mark (Some x) p = absurd (never x p)
-
--- where a token doesn't begin some tokens, no such token is found
-pub begins_not : (k : Kind) (s : List ℕ) (ts : List Lexeme) → begins k s ts ≡ false → mark k s ts ≡ None
-begins_not k s ts h = by_mark (mark k s ts) h
-  where
-    by_mark : (r : Found ℕ) → is_found r ≡ false → r ≡ None
-    by_mark None p = refl
-    by_mark (Some x) p = cc
 
 pub split : (a b rest us : List Lexeme) → us ≡ a ++ b → us ++ rest ≡ a ++ (b ++ rest)
 split a b rest us w = ap (λ r. r ++ rest) w ∙ append_assoc a b rest

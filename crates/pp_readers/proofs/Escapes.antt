@@ -29,14 +29,6 @@ escaped t r c e f = ap sq_escaped e ∙ ap (λ v. cond v (c ∷ sq_value r) (92 
     test (inl e) = ap (λ d. (d == 92) || (d == 39)) e
     test (inr e) = ap (λ d. (d == 92) || (d == 39)) e
 
--- a backslash that stands for itself
-pub not_escaped : (t : List ℕ) → ((r : List ℕ) → t ≢ 92 ∷ r) → ((r : List ℕ) → t ≢ 39 ∷ r) → sq_escaped t ≡ 92 ∷ sq_value t
-not_escaped [] n m = refl
-not_escaped (c ∷ t) n m =
-    let first : (c == 92) ≡ false = ne_eqb c 92 (λ e. n t (ap (λ d. d ∷ t) e)) in
-    let second : (c == 39) ≡ false = ne_eqb c 39 (λ e. m t (ap (λ d. d ∷ t) e)) in
-    rw (first, second) refl
-
 -- the value so far, a front, and an escape
 pub one_escape : (v w raw t a r more : List ℕ) (c : ℕ) → v ++ sq_value t ≡ sq_value raw → t ≡ a ++ 92 ∷ r → HasNoBackslash a → sq_escaped r ≡ c ∷ sq_value more → w ≡ (v ++ a) ++ c ∷ []
     → w ++ sq_value more ≡ sq_value raw

@@ -81,9 +81,6 @@ operator_found kind.Tight s p at h = cc
 operator_found kind.Loose s p at h = cc
 operator_found kind.LeftOut s p at h = cc
 
-abbrev LevelInfix : ℕ → Op → List Lexeme → Type 0
-LevelInfix level o ts = (level_of o ≡ level) × Infix o ts
-
 level_found : (level : ℕ) (t : Lexeme) (ts : List Lexeme) (r : Option Op) (x : Op × List Lexeme) → operator_of t.kind t.text ≡ r → at_level level r ts ≡ Some x → Begins (λ us. (level_of x.0 ≡ level) × Infix x.0 us) (t ∷ ts) x.1
 level_found level t ts None x e h = cc
 level_found level t ts (Some o) x e h = by_test (level_of o == level) refl h

@@ -1,6 +1,5 @@
 -- From reading functions to what parsing answers.
-use Rattle.std.proofs.Common.{◌≡◌, ℕ, List, [], drop, refl, Some, None, sym, ap, ◌∙◌}
-use Rattle.std.specs.Prelude.{Result, Ok, Err}
+use Rattle.std.proofs.Common.{◌≡◌, ℕ, List, [], refl, Some, sym, ap, ◌∙◌}
 use Rattle.pp_syntax.specs.declared.tree.Attr.{Attr}
 use Rattle.pp_syntax.specs.declared.tree.Expr.{Expr}
 use Rattle.pp_syntax.specs.declared.tree.Stmt.{Stmt}
@@ -9,7 +8,7 @@ use Rattle.pp_syntax.specs.Phrases.{MaybeListed}
 use Rattle.pp_syntax.specs.Derivation.{IsExprAt, PostfixOf, ReferenceOf}
 use Rattle.pp_syntax.specs.Statements.{AttrOf, InBraces, BlockOf, IsStmtAt}
 use Rattle.pp_readers.specs.Marks.{Found}
-use Rattle.pp_readers.specs.Parsed.{NumbersFit, IsSpelled, IsParsed, Gives}
+use Rattle.pp_readers.specs.Parsed.{NumbersFit}
 use Rattle.pp_readers.specs.Expressions.{expr_at, reference_with, postfix_with}
 use Rattle.pp_readers.proofs.Finding.{Finds}
 use Rattle.pp_readers.proofs.Solid.{begun_some, expr_begun}

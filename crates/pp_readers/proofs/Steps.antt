@@ -68,12 +68,6 @@ item_ends close item front n i ts behind more x h p s =
     ∙ ap (λ r. r >>= λ x. separator close x.1 >>= λ s. with_first x.0 (more_items s.0 (items close item (n - (i + 1))) s.1)) p
     ∙ ap (λ r. r >>= λ s. with_first x (more_items s.0 (items close item (n - (i + 1))) s.1)) s)
 
-pub item_stops : {X : Type 0} (close : List ℕ) (item : List Lexeme → Found X) (front : List X) (n i : ℕ) (ts : List Lexeme) → i < n → item ts ≡ None → with_front front (items close item (n - i) ts) ≡ None
-item_stops close item front n i ts h p =
-    let e : n - i ≡ suc (n - (i + 1)) = omega arith in
-    ap (with_front front) (ap (λ k. items close item k ts) e
-    ∙ ap (λ r. r >>= λ x. separator close x.1 >>= λ s. with_first x.0 (more_items s.0 (items close item (n - (i + 1))) s.1)) p)
-
 pub separator_stops : {X : Type 0} (close : List ℕ) (item : List Lexeme → Found X) (front : List X) (n i : ℕ) (ts behind : List Lexeme) (x : X) → i < n → item ts ≡ Some (x, behind) → separator close behind ≡ None
     → with_front front (items close item (n - i) ts) ≡ None
 separator_stops close item front n i ts behind x h p s =

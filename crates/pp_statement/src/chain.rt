@@ -1,3 +1,4 @@
+//! The parser of chains, assignments and calls.
 ghost use Rattle.std.specs.Prelude.{◌≡◌, codes, [], ◌∷◌};
 ghost use Rattle.pp_syntax.specs.declared.token.Kind.TheVariants as kind;
 ghost use Rattle.pp_readers.specs.Parsed.{Gives, Reads};
@@ -16,12 +17,7 @@ use rh_base::Seq;
 use std::alloc::Global;
 
 /// An arrow and the operand behind it.
-fn link(
-    alloc: Global,
-    limit: usize,
-    tokens: &[Token<'_>],
-    from: usize,
-) -> Read<(Arrow, Operand)>
+fn link(alloc: Global, limit: usize, tokens: &[Token<'_>], from: usize) -> Read<(Arrow, Operand)>
     ensures { Reads (link_with (expr_at limit)) tokens.now from result }
 {
     match arrow_at(tokens, from) {
@@ -96,12 +92,7 @@ fn chain_of(index: usize, at: u32, sides: Seq<Operand>, arrows: Seq<Arrow>) -> R
 }
 
 /// Operands with arrows between them.
-pub fn chain(
-    alloc: Global,
-    limit: usize,
-    tokens: &[Token<'_>],
-    from: usize,
-) -> Read<Stmt>
+pub fn chain(alloc: Global, limit: usize, tokens: &[Token<'_>], from: usize) -> Read<Stmt>
     ensures { Reads (chain_with (expr_at limit)) tokens.now from result }
 {
     let ((sides, arrows), rest) = sides(alloc, limit, tokens, from)?;
@@ -110,12 +101,7 @@ pub fn chain(
 }
 
 /// An assignment.
-pub fn assign(
-    alloc: Global,
-    limit: usize,
-    tokens: &[Token<'_>],
-    from: usize,
-) -> Read<Stmt>
+pub fn assign(alloc: Global, limit: usize, tokens: &[Token<'_>], from: usize) -> Read<Stmt>
     ensures { Reads (assign_with (expr_at limit)) tokens.now from result }
 {
     let (name, rest) = variable(alloc, tokens, from)?;
@@ -148,12 +134,7 @@ fn bracketed(
     Err(Misread::Form(rest))
 }
 
-fn next_arg(
-    alloc: Global,
-    limit: usize,
-    tokens: &[Token<'_>],
-    from: usize,
-) -> Read<Expr>
+fn next_arg(alloc: Global, limit: usize, tokens: &[Token<'_>], from: usize) -> Read<Expr>
     ensures { Reads (behind kind.Sign (codes ",") (expr_at limit)) tokens.now from result }
 {
     let (_, rest) = expect(Kind::Sign, ",", tokens, from)?;
@@ -186,12 +167,7 @@ fn args_behind(
     Err(Misread::Form(rest))
 }
 
-fn bare(
-    alloc: Global,
-    limit: usize,
-    tokens: &[Token<'_>],
-    from: usize,
-) -> Read<Seq<Expr>>
+fn bare(alloc: Global, limit: usize, tokens: &[Token<'_>], from: usize) -> Read<Seq<Expr>>
     ensures { Reads (bare_with (expr_at limit)) tokens.now from result }
 {
     let (first, rest) = expr(alloc, limit, tokens, from)?;
@@ -199,12 +175,7 @@ fn bare(
 }
 
 /// The arguments of a call, with or without brackets.
-fn args(
-    alloc: Global,
-    limit: usize,
-    tokens: &[Token<'_>],
-    from: usize,
-) -> Read<Seq<Expr>>
+fn args(alloc: Global, limit: usize, tokens: &[Token<'_>], from: usize) -> Read<Seq<Expr>>
     ensures { Reads (args_with (expr_at limit)) tokens.now from result }
 {
     if let Some((_, rest)) = mark(Kind::Sign, "(", tokens, from) {
@@ -217,12 +188,7 @@ fn args(
 }
 
 /// A call of a function.
-pub fn call(
-    alloc: Global,
-    limit: usize,
-    tokens: &[Token<'_>],
-    from: usize,
-) -> Read<Stmt>
+pub fn call(alloc: Global, limit: usize, tokens: &[Token<'_>], from: usize) -> Read<Stmt>
     ensures { Reads (call_with (expr_at limit)) tokens.now from result }
 {
     match function_at(tokens, from) {

@@ -1,3 +1,4 @@
+//! The expressions within statements.
 ghost use Rattle.pp_readers.specs.Parsed.{Reads};
 ghost use Rattle.pp_readers.specs.Expressions.{expr_at, postfix_with, reference_with, option_with};
 
@@ -7,47 +8,27 @@ use pp_syntax::{Expr, Kind, Token};
 use std::alloc::Global;
 
 /// An expression, with brackets nested less deep than the limit.
-pub fn expr(
-    alloc: Global,
-    limit: usize,
-    tokens: &[Token<'_>],
-    from: usize,
-) -> Read<Expr>
+pub fn expr(alloc: Global, limit: usize, tokens: &[Token<'_>], from: usize) -> Read<Expr>
     ensures { Reads (expr_at limit) tokens.now from result }
 {
     parse_expression(alloc, limit, tokens, from)
 }
 
 /// An operand with what stands behind it.
-pub fn postfix(
-    alloc: Global,
-    limit: usize,
-    tokens: &[Token<'_>],
-    from: usize,
-) -> Read<Expr>
+pub fn postfix(alloc: Global, limit: usize, tokens: &[Token<'_>], from: usize) -> Read<Expr>
     ensures { Reads (postfix_with (expr_at limit)) tokens.now from result }
 {
     parse_postfix(alloc, limit, tokens, from)
 }
 
-pub fn reference(
-    alloc: Global,
-    limit: usize,
-    tokens: &[Token<'_>],
-    from: usize,
-) -> Read<Expr>
+pub fn reference(alloc: Global, limit: usize, tokens: &[Token<'_>], from: usize) -> Read<Expr>
     ensures { Reads (reference_with (expr_at limit)) tokens.now from result }
 {
     parse_reference(alloc, limit, tokens, from)
 }
 
 /// An expression or `default`.
-pub fn option(
-    alloc: Global,
-    limit: usize,
-    tokens: &[Token<'_>],
-    from: usize,
-) -> Read<Option<Expr>>
+pub fn option(alloc: Global, limit: usize, tokens: &[Token<'_>], from: usize) -> Read<Option<Expr>>
     ensures { Reads (option_with (expr_at limit)) tokens.now from result }
 {
     if let Some((_, rest)) = mark(Kind::Keyword, "default", tokens, from) {

@@ -1,3 +1,4 @@
+//! The tokens that stand for names, functions and arrows.
 ghost use Rattle.std.specs.Prelude.{◌≡◌, drop, [], ◌∷◌, codes};
 ghost use Rattle.std.specs.Option.{option_map};
 ghost use Rattle.pp_syntax.specs.Lexing.{told};

@@ -1,3 +1,4 @@
+//! The parser of the operands of a chain.
 ghost use Rattle.std.specs.Prelude.{codes};
 ghost use Rattle.pp_syntax.specs.declared.token.Kind.TheVariants as kind;
 ghost use Rattle.pp_readers.specs.Parsed.{Reads};
@@ -29,12 +30,7 @@ fn declared(
     Ok(((kind, bodies), rest))
 }
 
-fn resource(
-    alloc: Global,
-    limit: usize,
-    tokens: &[Token<'_>],
-    from: usize,
-) -> Read<Operand>
+fn resource(alloc: Global, limit: usize, tokens: &[Token<'_>], from: usize) -> Read<Operand>
     ensures { Reads (resource_with (expr_at limit)) tokens.now from result }
 {
     let ((kind, bodies), rest) = declared(alloc, limit, tokens, from)?;
@@ -52,12 +48,7 @@ fn resource(
 }
 
 /// A resource behind `@`.
-fn virtual_resource(
-    alloc: Global,
-    limit: usize,
-    tokens: &[Token<'_>],
-    from: usize,
-) -> Read<Operand>
+fn virtual_resource(alloc: Global, limit: usize, tokens: &[Token<'_>], from: usize) -> Read<Operand>
     ensures { Reads (virtual_with (expr_at limit)) tokens.now from result }
 {
     let (_, rest) = expect(Kind::Sign, "@", tokens, from)?;
@@ -75,12 +66,7 @@ fn virtual_resource(
     ))
 }
 
-fn class(
-    alloc: Global,
-    limit: usize,
-    tokens: &[Token<'_>],
-    from: usize,
-) -> Read<Operand>
+fn class(alloc: Global, limit: usize, tokens: &[Token<'_>], from: usize) -> Read<Operand>
     ensures { Reads (class_with (expr_at limit)) tokens.now from result }
 {
     let (_, rest) = expect(Kind::Keyword, "class", tokens, from)?;
@@ -113,12 +99,7 @@ fn enclosed_search(
     Ok((search, rest))
 }
 
-fn collector(
-    alloc: Global,
-    limit: usize,
-    tokens: &[Token<'_>],
-    from: usize,
-) -> Read<Operand>
+fn collector(alloc: Global, limit: usize, tokens: &[Token<'_>], from: usize) -> Read<Operand>
     ensures { Reads (collector_with (expr_at limit)) tokens.now from result }
 {
     let (kind, rest) = ref_name(alloc, tokens, from)?;
@@ -165,12 +146,7 @@ fn some_references(
 }
 
 /// References in brackets.
-fn references(
-    alloc: Global,
-    limit: usize,
-    tokens: &[Token<'_>],
-    from: usize,
-) -> Read<Operand>
+fn references(alloc: Global, limit: usize, tokens: &[Token<'_>], from: usize) -> Read<Operand>
     ensures { Reads (references_with (expr_at limit)) tokens.now from result }
 {
     let (_, rest) = expect(Kind::Loose, "[", tokens, from)?;
@@ -179,12 +155,7 @@ fn references(
 }
 
 /// A collector or a reference.
-fn collected(
-    alloc: Global,
-    limit: usize,
-    tokens: &[Token<'_>],
-    from: usize,
-) -> Read<Operand>
+fn collected(alloc: Global, limit: usize, tokens: &[Token<'_>], from: usize) -> Read<Operand>
     ensures { Reads (collected_with (expr_at limit)) tokens.now from result }
 {
     match front_of(tokens, from) {
@@ -200,12 +171,7 @@ fn collected(
 }
 
 /// A resource, a class, a collector or references.
-pub fn operand(
-    alloc: Global,
-    limit: usize,
-    tokens: &[Token<'_>],
-    from: usize,
-) -> Read<Operand>
+pub fn operand(alloc: Global, limit: usize, tokens: &[Token<'_>], from: usize) -> Read<Operand>
     ensures { Reads (operand_with (expr_at limit)) tokens.now from result }
 {
     match front_of(tokens, from) {

@@ -1,3 +1,4 @@
+//! What the crate above calls.
 ghost use Rattle.pp_syntax.specs.Lexing.{told};
 ghost use Rattle.pp_syntax.specs.Phrases.{MaybeListed};
 ghost use Rattle.pp_syntax.specs.Derivation.{IsExprAt};
@@ -15,12 +16,7 @@ use std::alloc::Global;
 
 /// The statement that begins at this index, with brackets and blocks nested less deep than this, and
 /// the index behind it.
-pub fn parse_statement(
-    alloc: Global,
-    depth: usize,
-    tokens: &[Token<'_>],
-    from: usize,
-) -> Read<Stmt>
+pub fn parse_statement(alloc: Global, depth: usize, tokens: &[Token<'_>], from: usize) -> Read<Stmt>
     ensures spelled { IsSpelled (IsStmtAt (IsExprAt depth) depth) (told tokens.now) from result }
     ensures parsed { IsParsed (IsStmtAt (IsExprAt depth) depth) NothingFollows (told tokens.now) from result }
     // what the way of reading finds, of which the laws say that it is the grammar's

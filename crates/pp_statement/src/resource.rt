@@ -1,3 +1,4 @@
+//! The parser of the bodies and attributes of resources.
 ghost use Rattle.std.specs.Prelude.{codes};
 ghost use Rattle.pp_readers.specs.Parsed.{Reads};
 ghost use Rattle.pp_readers.specs.Expressions.{expr_at};
@@ -13,12 +14,7 @@ use pp_syntax::{Attr, Body, Kind, Token};
 use rh_base::Seq;
 use std::alloc::Global;
 
-fn attr(
-    alloc: Global,
-    limit: usize,
-    tokens: &[Token<'_>],
-    from: usize,
-) -> Read<Attr>
+fn attr(alloc: Global, limit: usize, tokens: &[Token<'_>], from: usize) -> Read<Attr>
     ensures { Reads (attr_with (expr_at limit)) tokens.now from result }
 {
     let (name, rest) = name(alloc, tokens, from)?;
@@ -55,24 +51,14 @@ fn some_attrs(
 }
 
 /// Attributes with commas between them.
-pub fn attrs(
-    alloc: Global,
-    limit: usize,
-    tokens: &[Token<'_>],
-    from: usize,
-) -> Read<Seq<Attr>>
+pub fn attrs(alloc: Global, limit: usize, tokens: &[Token<'_>], from: usize) -> Read<Seq<Attr>>
     ensures { Reads (attrs_with (expr_at limit)) tokens.now from result }
 {
     some_attrs(alloc, limit, turns(tokens, from), tokens, from)
 }
 
 /// A title and its attributes.
-fn body(
-    alloc: Global,
-    limit: usize,
-    tokens: &[Token<'_>],
-    from: usize,
-) -> Read<Body>
+fn body(alloc: Global, limit: usize, tokens: &[Token<'_>], from: usize) -> Read<Body>
     ensures { Reads (body_with (expr_at limit)) tokens.now from result }
 {
     let (title, rest) = expr(alloc, limit, tokens, from)?;
@@ -108,12 +94,7 @@ fn some_bodies(
 }
 
 /// One or more bodies, with semicolons between them.
-fn bodies(
-    alloc: Global,
-    limit: usize,
-    tokens: &[Token<'_>],
-    from: usize,
-) -> Read<Seq<Body>>
+fn bodies(alloc: Global, limit: usize, tokens: &[Token<'_>], from: usize) -> Read<Seq<Body>>
     ensures { Reads (bodies_with (expr_at limit)) tokens.now from result }
 {
     if unclosed(tokens, from) {
@@ -138,12 +119,7 @@ pub fn braced_bodies(
 }
 
 /// Attributes in braces.
-pub fn attributes(
-    alloc: Global,
-    limit: usize,
-    tokens: &[Token<'_>],
-    from: usize,
-) -> Read<Seq<Attr>>
+pub fn attributes(alloc: Global, limit: usize, tokens: &[Token<'_>], from: usize) -> Read<Seq<Attr>>
     ensures { Reads (attributes_with (expr_at limit)) tokens.now from result }
 {
     let (_, rest) = expect(Kind::Sign, "{", tokens, from)?;

@@ -1,3 +1,4 @@
+//! The parser of searches.
 ghost use Rattle.std.specs.Prelude.{◌≡◌, codes, [], ◌∷◌};
 ghost use Rattle.pp_syntax.specs.declared.token.Kind.TheVariants as kind;
 ghost use Rattle.pp_readers.specs.Parsed.{Gives, Reads};
@@ -13,13 +14,7 @@ use pp_syntax::{Kind, Search, Token};
 use rh_base::{Seq, Text};
 use std::alloc::Global;
 
-fn equal(
-    alloc: Global,
-    limit: usize,
-    name: Text,
-    tokens: &[Token<'_>],
-    from: usize,
-) -> Read<Search>
+fn equal(alloc: Global, limit: usize, name: Text, tokens: &[Token<'_>], from: usize) -> Read<Search>
     ensures { Reads (equal_with (postfix_with (expr_at limit)) name) tokens.now from result }
 {
     let (value, rest) = postfix(alloc, limit, tokens, from)?;
@@ -56,12 +51,7 @@ fn compared(
     differ(alloc, limit, name, tokens, from)
 }
 
-fn comparison(
-    alloc: Global,
-    limit: usize,
-    tokens: &[Token<'_>],
-    from: usize,
-) -> Read<Search>
+fn comparison(alloc: Global, limit: usize, tokens: &[Token<'_>], from: usize) -> Read<Search>
     ensures { Reads (comparison_with (postfix_with (expr_at limit))) tokens.now from result }
 {
     let (name, rest) = name(alloc, tokens, from)?;

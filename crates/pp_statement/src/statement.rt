@@ -1,3 +1,4 @@
+//! The parser of statements and blocks.
 ghost use Rattle.std.specs.Prelude.{codes, [], ◌∷◌};
 ghost use Rattle.pp_syntax.specs.declared.token.Kind.TheVariants as kind;
 ghost use Rattle.pp_readers.specs.Parsed.{Reads};
@@ -53,12 +54,7 @@ fn any_statement(
 }
 
 /// What begins with a word.
-fn called(
-    alloc: Global,
-    limit: usize,
-    tokens: &[Token<'_>],
-    from: usize,
-) -> Read<Stmt>
+fn called(alloc: Global, limit: usize, tokens: &[Token<'_>], from: usize) -> Read<Stmt>
     ensures { Reads (called_with (expr_at limit)) tokens.now from result }
 {
     match function_at(tokens, from) {
@@ -151,13 +147,7 @@ fn other(
 }
 
 #[cycle(statement)]
-fn arm(
-    alloc: Global,
-    limit: usize,
-    depth: usize,
-    tokens: &[Token<'_>],
-    from: usize,
-) -> Read<Arm>
+fn arm(alloc: Global, limit: usize, depth: usize, tokens: &[Token<'_>], from: usize) -> Read<Arm>
     ensures { Reads (arm_with (expr_at limit) (stmt_at (expr_at limit) depth)) tokens.now from result }
 {
     let (test, rest) = expr(alloc, limit, tokens, from)?;

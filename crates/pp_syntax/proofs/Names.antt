@@ -1,5 +1,5 @@
 -- Names: what is read is spelled, and what is spelled is read, or more.
-use Rattle.std.proofs.Common.{◌≡◌, ◌≢◌, ◌⊎◌, inl, inr, ℕ, zero, suc, ◌≤◌, Bool, true, false, cond, ◌&&◌, ◌||◌, ◌==◌, List, [], ◌∷◌, ◌++◌, length, Some, None, refl, sym, ap, subst, ◌∙◌, arith, append_assoc, append-nil, length-append}
+use Rattle.std.proofs.Common.{◌≡◌, ◌≢◌, ◌⊎◌, inl, inr, ℕ, zero, suc, ◌≤◌, Bool, true, false, cond, ◌&&◌, ◌||◌, ◌==◌, List, [], ◌∷◌, ◌++◌, length, Some, None, refl, sym, ap, subst, ◌∙◌, arith, append_assoc, append-nil}
 use Rattle.std.specs.Option.{option_map}
 use Rattle.std.proofs.lemmas.Bool.{ne_eqb, and_parts, and_from, or_left, or_right, eqb-true, both_ways}
 use Rattle.pp_syntax.specs.declared.lexer.bytes.Style.{Style}
@@ -96,9 +96,6 @@ segment_takes how (b ∷ text) rest h = elim (begins how b) as (λ v. begins how
 pub segment_reads : (how : Style) (s r : List ℕ) → Segment how s → segment how (s ++ r) ≡ Some (tail_from how r r)
 segment_reads how [] r h = absurd h
 segment_reads how (b ∷ more) r h = ap (λ v. cond v (Some (tail_from how (more ++ r) (more ++ r))) None) h.0 ∙ ap Some (tail_append how (more ++ r) more r h.1 h.2 (λ none. ap (λ m. m ++ r) none))
-
-pub tail_short : (how : Style) (text : List ℕ) → length (tail_from how text text) ≤ length text
-tail_short how text = let t = tail_takes how text in omega (arith, ap length t.whole, length-append t.front (tail_from how text text))
 
 -- ---- segments behind `::`
 

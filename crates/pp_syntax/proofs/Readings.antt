@@ -80,9 +80,6 @@ no_token p text n = elim (token_at p text) as (λ f. token_at p text ≡ f → f
   | Some x ↦ λ e. let t = token_takes p text x.0 x.1 e in absurd (n x.0 t.front x.1 t.whole t.spelled)
 ] refl
 
-at_stuck : (p : Place) (text : List ℕ) → text ≢ [] → ((s rest : List ℕ) → text ≡ s ++ rest → ¬ (GapAt p s rest)) → ((k : Kind) (s rest : List ℕ) → text ≡ s ++ rest → ¬ (TokenAt p k s rest)) → step_at p text ≡ Nothing
-at_stuck p text some g t = nothing_step p text some (no_gap p text g) (no_token p text t)
-
 same_front : (text s rest t : List ℕ) → text ≡ s ++ rest → text ≡ t ++ rest → s ≡ t
 same_front text s rest t e f = sym (front_is text s rest e) ∙ front_is text t rest f
 

@@ -127,9 +127,6 @@ unfolding three_bytes
 three_further a b [] x h = cc
 three_further a b (c ∷ r) x h = omega (arith, ap length (rest_is kind.Sign (sign_of (a ∷ b ∷ c ∷ [])) r x h))
 
-goes_further : (k : Kind) (r : List ℕ) (x : Kind × List ℕ) (found : Found) → found ≡ Some x → length x.1 < length r → Goes k r found
-goes_further k r x found e h = (x, e, inl h)
-
 pub or_goes : (k : Kind) (r : List ℕ) (f g : Found) → ((x : Kind × List ℕ) → f ≡ Some x → length x.1 < length r) → Goes k r g → Goes k r (or_else f g)
 or_goes k r None g far h = h
 or_goes k r (Some x) g far h = (x, refl, inl (far x refl))

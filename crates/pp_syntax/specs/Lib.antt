@@ -7,6 +7,7 @@ pub mod Lexing
 pub mod Phrases
 pub mod TokenValues
 pub mod Derivation
+pub mod Holes
 pub mod Statements
 pub mod LeftOut
 pub mod SetApart

@@ -6,6 +6,7 @@ use pp_print::print;
 use pp_syntax::{Token, lex};
 use rh_base::{Fault, Refusal};
 use std::alloc::Global;
+use std::process::Abort;
 use std::test::Fail;
 
 fn line_of(alloc: Global, refusal: &Refusal) -> Result<String, Fail> {
@@ -77,6 +78,33 @@ pub fn tokens_of(alloc: Global, text: &[u8]) -> Result<String, Fail> {
         Ok(tokens) => line_of_tokens(alloc, &tokens),
         Err(fault) => refused(alloc, &fault),
     }
+}
+
+/// Each text has the canonical text beside it, or the refusal.
+pub fn are_printed(rt: &impl Abort, alloc: Global, rows: &[(&str, &str)]) -> Result<(), Fail> {
+    for (text, want) in rows {
+        let found = printed(alloc, text)?;
+        assert_eq!(rt; found.as_str(), *want, "{text}");
+    }
+    Ok(())
+}
+
+/// Each text has the tokens beside it, or the refusal.
+pub fn are_tokens(rt: &impl Abort, alloc: Global, rows: &[(&str, &str)]) -> Result<(), Fail> {
+    for (text, want) in rows {
+        let found = tokens_of(alloc, text.as_bytes())?;
+        assert_eq!(rt; found.as_str(), *want, "{text}");
+    }
+    Ok(())
+}
+
+/// The same of bytes that are no text.
+pub fn are_bytes(rt: &impl Abort, alloc: Global, rows: &[(&[u8], &str)]) -> Result<(), Fail> {
+    for (text, want) in rows {
+        let found = tokens_of(alloc, text)?;
+        assert_eq!(rt; found.as_str(), *want);
+    }
+    Ok(())
 }
 
 /// The refusal of a text, or `none`.

@@ -1,101 +1,95 @@
 //! Rows of manifests: each with its canonical text or the refusal.
-use crate::answers::{printed, printed_behind};
+use crate::answers::{are_printed, printed, printed_behind};
 use std::alloc::Global;
 use std::test::Fail;
 
+const MANIFESTS_HAVE_THEIR_ITEMS: [(&str, &str); 14] = [
+    ("", ""),
+    ("$a = 1 $b = 2", "$a = 1 $b = 2"),
+    (
+        r#"file{'/a':content=>"x${y}z",}"#,
+        r#"file { '/a' : content => "${ 'x' }${ $y }${ 'z' }" }"#,
+    ),
+    (
+        "class empty { } include empty file { ['/a', '/b']: } File['/a'] -> Class['empty'] -> File['/b']",
+        "class empty { } include ( 'empty' ) file { [ '/a' , '/b' ] : } File[ '/a' ] -> Class[ 'empty' ] -> File[ '/b' ]",
+    ),
+    (
+        "class a inherits b { } class c($x, String[1] $y = 'z',) { file { $x: } }",
+        "class a inherits b { } class c ( $x , String[ 1 ] $y = 'z' ) { file { $x : } }",
+    ),
+    ("class a() { } define b() { }", "class a { } define b { }"),
+    (
+        "define d(Variant[Integer[1, 3], Array[String], Enum['a', 'b']] $p) { fail('x') }",
+        "define d ( Variant[ Integer[ 1 , 3 ] , Array[ String ] , Enum[ 'a' , 'b' ] ] $p ) { fail ( 'x' ) }",
+    ),
+    (
+        "define d(Optional[Hash] $p, Any $q, Boolean $r, Array $s, Integer[2] $t, String[0] $u) { }",
+        "define d ( Optional[ Hash ] $p , Any $q , Boolean $r , Array $s , Integer[ 2 ] $t , String $u ) { }",
+    ),
+    (
+        "node 'a.b', c, default { notice 'x' }",
+        "node 'a.b' , 'c' , default { notice ( 'x' ) }",
+    ),
+    (
+        "File { mode => '0644' } file { '/a': content => 'x' }",
+        "File { mode => '0644' } file { '/a' : content => 'x' }",
+    ),
+    ("Apache::Mod { if => 1, }", "Apache::Mod { if => 1 }"),
+    ("class { 'a': } class a { }", "class { 'a' : } class a { }"),
+    (
+        "@file { '/v': content => 'x' } realize File['/v']",
+        "@ file { '/v' : content => 'x' } realize ( File[ '/v' ] )",
+    ),
+    (
+        "file { '/a': content => 'x'; '/b': }",
+        "file { '/a' : content => 'x' ; '/b' : }",
+    ),
+];
+
 #[test]
 fn manifests_have_their_items(rt: HostRuntime) -> Result<(), Fail> {
-    let rows: [(&str, &str); 14] = [
-        ("", ""),
-        ("$a = 1 $b = 2", "$a = 1 $b = 2"),
-        (
-            r#"file{'/a':content=>"x${y}z",}"#,
-            r#"file { '/a' : content => "${ 'x' }${ $y }${ 'z' }" }"#,
-        ),
-        (
-            "class empty { } include empty file { ['/a', '/b']: } File['/a'] -> Class['empty'] -> File['/b']",
-            "class empty { } include ( 'empty' ) file { [ '/a' , '/b' ] : } File[ '/a' ] -> Class[ 'empty' ] -> File[ '/b' ]",
-        ),
-        (
-            "class a inherits b { } class c($x, String[1] $y = 'z',) { file { $x: } }",
-            "class a inherits b { } class c ( $x , String[ 1 ] $y = 'z' ) { file { $x : } }",
-        ),
-        ("class a() { } define b() { }", "class a { } define b { }"),
-        (
-            "define d(Variant[Integer[1, 3], Array[String], Enum['a', 'b']] $p) { fail('x') }",
-            "define d ( Variant[ Integer[ 1 , 3 ] , Array[ String ] , Enum[ 'a' , 'b' ] ] $p ) { fail ( 'x' ) }",
-        ),
-        (
-            "define d(Optional[Hash] $p, Any $q, Boolean $r, Array $s, Integer[2] $t, String[0] $u) { }",
-            "define d ( Optional[ Hash ] $p , Any $q , Boolean $r , Array $s , Integer[ 2 ] $t , String $u ) { }",
-        ),
-        (
-            "node 'a.b', c, default { notice 'x' }",
-            "node 'a.b' , 'c' , default { notice ( 'x' ) }",
-        ),
-        (
-            "File { mode => '0644' } file { '/a': content => 'x' }",
-            "File { mode => '0644' } file { '/a' : content => 'x' }",
-        ),
-        ("Apache::Mod { if => 1, }", "Apache::Mod { if => 1 }"),
-        ("class { 'a': } class a { }", "class { 'a' : } class a { }"),
-        (
-            "@file { '/v': content => 'x' } realize File['/v']",
-            "@ file { '/v' : content => 'x' } realize ( File[ '/v' ] )",
-        ),
-        (
-            "file { '/a': content => 'x'; '/b': }",
-            "file { '/a' : content => 'x' ; '/b' : }",
-        ),
-    ];
-    for (text, want) in rows {
-        assert_eq!(rt; printed(rt.alloc(), text)?.as_str(), want, "{text}");
-    }
-    Ok(())
+    are_printed(&rt, rt.alloc(), &MANIFESTS_HAVE_THEIR_ITEMS)
 }
+
+const MANIFESTS_THAT_ARE_REFUSED: [(&str, &str); 12] = [
+    ("file { '/a': content => 'x'", "12 at 27: syntax"),
+    ("class a { class b { } }", "12 at 16: syntax"),
+    ("define d(String $p $q) { }", "12 at 19: syntax"),
+    ("define d(Text $p) { }", "12 at 9: syntax"),
+    ("define d($a::b) { }", "12 at 9: syntax"),
+    ("node { }", "12 at 5: syntax"),
+    (r#"node "a${b}" { }"#, "12 at 5: syntax"),
+    ("$x = 1.5", "14 at 5: 1.5"),
+    ("$x = 09", "11 at 5: lexical"),
+    ("$x = a.b [", "14 at 6: ."),
+    ("$x = ) 1.5", "14 at 7: 1.5"),
+    ("a 'b", "11 at 2: lexical"),
+];
 
 #[test]
 fn manifests_that_are_refused(rt: HostRuntime) -> Result<(), Fail> {
-    let rows: [(&str, &str); 12] = [
-        ("file { '/a': content => 'x'", "12 at 27: syntax"),
-        ("class a { class b { } }", "12 at 16: syntax"),
-        ("define d(String $p $q) { }", "12 at 19: syntax"),
-        ("define d(Text $p) { }", "12 at 9: syntax"),
-        ("define d($a::b) { }", "12 at 9: syntax"),
-        ("node { }", "12 at 5: syntax"),
-        (r#"node "a${b}" { }"#, "12 at 5: syntax"),
-        ("$x = 1.5", "14 at 5: 1.5"),
-        ("$x = 09", "11 at 5: lexical"),
-        ("$x = a.b [", "14 at 6: ."),
-        ("$x = ) 1.5", "14 at 7: 1.5"),
-        ("a 'b", "11 at 2: lexical"),
-    ];
-    for (text, want) in rows {
-        assert_eq!(rt; printed(rt.alloc(), text)?.as_str(), want, "{text}");
-    }
-    Ok(())
+    are_printed(&rt, rt.alloc(), &MANIFESTS_THAT_ARE_REFUSED)
 }
+
+const TOKENS_THAT_ARE_LEFT_OUT: [(&str, &str); 12] = [
+    ("$x = a.b", "14 at 6: ."),
+    ("$x = $y =~ 1", "14 at 8: =~"),
+    ("$x = 1 / 2", "14 at 7: /"),
+    ("@@file { '/a': }", "14 at 0: @@"),
+    ("file { '/a': * => $x }", "14 at 13: *"),
+    ("$x = 2 * 3", "$x = 2 * 3"),
+    ("$x = split ('a', 'b')", "14 at 5: split"),
+    ("notice ('a')", "notice ( 'a' )"),
+    ("class a ($b) { }", "class a ( $b ) { }"),
+    ("define a($b) { }", "define a ( $b ) { }"),
+    ("if ($a) { }", "if $a { }"),
+    ("f(1) / 2", "14 at 0: f"),
+];
 
 #[test]
 fn tokens_that_are_left_out(rt: HostRuntime) -> Result<(), Fail> {
-    let rows: [(&str, &str); 12] = [
-        ("$x = a.b", "14 at 6: ."),
-        ("$x = $y =~ 1", "14 at 8: =~"),
-        ("$x = 1 / 2", "14 at 7: /"),
-        ("@@file { '/a': }", "14 at 0: @@"),
-        ("file { '/a': * => $x }", "14 at 13: *"),
-        ("$x = 2 * 3", "$x = 2 * 3"),
-        ("$x = split ('a', 'b')", "14 at 5: split"),
-        ("notice ('a')", "notice ( 'a' )"),
-        ("class a ($b) { }", "class a ( $b ) { }"),
-        ("define a($b) { }", "define a ( $b ) { }"),
-        ("if ($a) { }", "if $a { }"),
-        ("f(1) / 2", "14 at 0: f"),
-    ];
-    for (text, want) in rows {
-        assert_eq!(rt; printed(rt.alloc(), text)?.as_str(), want, "{text}");
-    }
-    Ok(())
+    are_printed(&rt, rt.alloc(), &TOKENS_THAT_ARE_LEFT_OUT)
 }
 
 /// A manifest that has every form of the grammar.

@@ -23,11 +23,10 @@ mod signs;
 
 pub use crate::lexer::bytes::{digit_of, is_hex};
 pub use crate::lexer::numbers::int_value;
-pub use crate::lexer::quoted::is_simple_escape;
-pub use crate::lexer::signs::{is_among, is_keyword};
-
 use crate::lexer::opening::Stack;
 use crate::lexer::place::Place;
+pub use crate::lexer::quoted::is_simple_escape;
+pub use crate::lexer::signs::{is_among, is_keyword};
 use crate::token::{Kind, Token};
 use rh_base::{Fault, NoMemory};
 use std::alloc::Global;

@@ -1,13 +1,12 @@
 use Rattle.std.proofs.Common.{◌≡◌, drop}
 use Rattle.pp_syntax.specs.Lexing.{told}
-use Rattle.pp_syntax.specs.Depth.{at_start}
-use Rattle.pp_parser.specs.Nested.{nesting_of}
+use Rattle.pp_parser.specs.Nested.{at_start}
 use Rattle.pp_parser.specs.Scanning.{first_too_deep}
 use Rattle.pp_parser.proofs.Rows.{IsBelow}
 use Rattle.pp_parser.proofs.depth.first_too_deep.Given as goal
 
 abbrev pub invariant-loop-t : goal.invariant-loop-t
 invariant-loop-t l = record {
-  first : first_too_deep (nesting_of l.nesting) (told (drop l.t-index l.tokens)) ≡ first_too_deep at_start (told l.tokens);
-  below : IsBelow (nesting_of l.nesting) l.t-index;
+  first : first_too_deep l.nesting (told (drop l.t-index l.tokens)) ≡ first_too_deep at_start (told l.tokens);
+  below : IsBelow l.nesting l.t-index;
 }
