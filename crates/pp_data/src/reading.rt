@@ -65,7 +65,6 @@ fn level_in(alloc: Global, json: &Json) -> Result<Level, Misread>
     Ok(Level { when, values })
 }
 
-#[tactic(auto, using(crate::proofs::FormLaws::next_level, crate::proofs::LookupLaws::all_pushed))]
 fn levels_in(alloc: Global, items: &Vec<Json>) -> Result<Seq<Level>, Misread>
     ensures levels { Gives (λ levels. levels) result (levels_in (items_view items.now.items)) }
     ensures proper { IfOk result (AllByRecursion IsProperLevel) }
