@@ -20,9 +20,11 @@ use Rattle.catalog_semantics.specs.Effects.{effect_of}
 use Rattle.catalog_semantics.specs.Catalogs.{main_code, main_ended, first_state, made_real, realized, has_run, is_defined_sort, is_due}
 use Rattle.catalog_semantics.specs.Catalogs.{next_due, marked, type_runs, resource_runs, run_and_go_on, rounds, state_after, round_limit}
 use Rattle.catalog_semantics.specs.Catalogs.{IsSettled}
-use Rattle.catalog_semantics.specs.Frames.{Each, Begins, Extends, Fits}
+use Rattle.pp_eval.specs.Extending.{Begins}
+use Rattle.catalog_semantics.specs.Frames.{Each, Extends, Fits}
 use Rattle.catalog_semantics.proofs.Keeping.{Keeps, IsFrame, step_each, then_each, if_each, bound_each, body_keeps, statement_keeps}
-use Rattle.catalog_semantics.proofs.Extending.{begins_same, extending}
+use Rattle.pp_eval.specs.Growing.{begins_same}
+use Rattle.catalog_semantics.proofs.Extending.{extending}
 use Rattle.catalog_semantics.proofs.Settled.{realized_again}
 use Rattle.catalog_semantics.proofs.Whole.{IsMainFrame, IsWholeFrame, Same, ends_same, mapped, main_keeps, type_keeps}
 

@@ -1,5 +1,5 @@
 -- What each statement does to a state.
-use Rattle.std.specs.Prelude.{ℕ, suc, zero, Bool, false, if◌then◌else◌, List, [], ◌∷◌, ◌++◌, map, length, codes, Option, Some, None, Result}
+use Rattle.std.specs.Prelude.{ℕ, suc, zero, Bool, false, if◌then◌else◌, List, [], ◌∷◌, ◌++◌, map, length, codes, Option, Some, None, option_map, Result}
 use Rattle.std.specs.Prelude.{Ok}
 use Rattle.std.specs.List.{flat_map}
 use Rattle.std.specs.Str.{bytes_eq}
