@@ -1,8 +1,11 @@
 -- The levels that are read are those of the form, both ways.
-use Rattle.std.proofs.Common.{◌≡◌, ◌⊎◌, inl, inr, ℕ, Bool, true, false, true≢false, cond, ◌||◌, ◌&&◌, List, [], ◌∷◌, Option, Some, None, option_map, IsUtf8, codes, bytes_eq, refl, ap, sym, ◌∙◌, subst}
+use Rattle.std.proofs.Common.{◌≡◌, ◌⊎◌, inl, inr, ℕ, Bool, true, false, true≢false, cond, ◌||◌, ◌&&◌, ◌+◌, ◌<◌, List, [], ◌∷◌, ◌++◌, length, drop, get_or, append_assoc, add-one, Option, Some, None, option_map, IsUtf8, codes, bytes_eq, refl, ap, sym, ◌∙◌, subst}
 use Rattle.std.specs.Option.{option_and_then}
 use Rattle.std.proofs.lemmas.Slice.Eq.{bytes_eq-Decides}
 use Rattle.serde_json.specs.Data.{Data, null, boolean, number, string, array, object, Items, no_items, item, Members, no_members, member}
+use Rattle.serde_json.specs.View.{view, items_view}
+use Rattle.serde_json.specs.declared.value.Value as json
+use Rattle.std.proofs.Math.Seq.{drop-cons}
 use Rattle.serde_json.specs.Find.{get, get_member, as_object, as_array}
 use Rattle.serde_json.specs.Read.{read}
 use Rattle.rh_base.specs.Refused.{IfRefused, IsRefusal}
@@ -205,3 +208,17 @@ one_data bytes a b x y = at a b (sym (data_back x.json a x.is_data) ∙ same_jso
   where
     at : (x y : List Level) → Some x ≡ Some y → x ≡ y
     at x y h = cc
+
+-- one more level that is read
+pub next_level : (levels new : List Level) (d : Data) (rest : Items) (level : Level) (whole : Option (List Level)) → new ≡ levels ++ level ∷ [] → level_in d ≡ Some level
+    → option_map (λ more. levels ++ more) (levels_in (item d rest)) ≡ whole → option_map (λ more. new ++ more) (levels_in rest) ≡ whole
+next_level levels new d rest level whole pushed is before =
+    by_rest (levels_in rest) ∙ (ap (λ o. option_map (λ more. levels ++ more) (option_and_then (level_before (levels_in rest)) o)) (sym is) ∙ before)
+  where
+    by_rest : (o : Option (List Level)) → option_map (λ more. new ++ more) o ≡ option_map (λ more. levels ++ more) (level_before o level)
+    by_rest None = refl
+    by_rest (Some more) = ap (λ (ls : List Level). Some (ls ++ more)) pushed ∙ ap (λ (ls : List Level). Some ls) (append_assoc levels (level ∷ []) more)
+
+-- the items from a place on
+pub items_from : (xs : List json.Value) (i : ℕ) (x : json.Value) → i < length xs → x ≡ get_or xs i x → items_view (drop i xs) ≡ item (view x) (items_view (drop (i + 1) xs))
+items_from xs i x inside is = ap items_view (drop-cons xs i x inside ∙ (λ k. sym is k ∷ drop (sym (add-one i) k) xs))

@@ -7,7 +7,6 @@ pub mod Inheritance
 pub mod OpenLaws
 pub mod ClassNameLaws
 pub mod ClassPlaces
-pub mod Growing
 pub mod RootLaws
 pub mod Refusing
 pub mod Forms

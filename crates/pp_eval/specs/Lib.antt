@@ -4,6 +4,7 @@ pub mod Inheriting
 pub mod Verdicts
 pub mod Scoping
 pub mod Extending
+pub mod Growing
 pub mod ClassNames
 pub mod Operations
 pub mod References

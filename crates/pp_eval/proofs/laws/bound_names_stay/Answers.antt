@@ -1,4 +1,4 @@
-use Rattle.pp_eval.proofs.Growing.{bound_stays}
+use Rattle.pp_eval.specs.Growing.{bound_stays}
 use Rattle.pp_eval.proofs.laws.bound_names_stay.Goals as goal
 
 pub returns : goal.returns

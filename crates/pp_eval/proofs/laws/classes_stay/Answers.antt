@@ -1,4 +1,4 @@
-use Rattle.pp_eval.proofs.Growing.{class_stays}
+use Rattle.pp_eval.specs.Growing.{class_stays}
 use Rattle.pp_eval.proofs.laws.classes_stay.Goals as goal
 
 pub returns : goal.returns

@@ -1,4 +1,4 @@
-use Rattle.pp_eval.proofs.Growing.{same_extends, extends_joined}
+use Rattle.pp_eval.specs.Growing.{same_extends, extends_joined}
 use Rattle.pp_eval.proofs.laws.extensions_join.Goals as goal
 
 pub returns-clause-none : goal.returns-clause-none

@@ -1,4 +1,4 @@
--- What only adds to scopes.
+-- What only adds to scopes, as laws that the crates above cite.
 use Rattle.std.proofs.Common.{◌≡◌, ℕ, zero, suc, ◌-◌, Bool, true, false, cond, List, [], ◌∷◌, ◌++◌, length, take, Option, Some, None, refl, sym, ap, subst, ◌∙◌, append_assoc, length-append, arith}
 use Rattle.std.specs.Prelude.{slice_get, option_and_then, IsSome}
 use Rattle.std.proofs.lemmas.List.{append-nil, take_at}
@@ -10,13 +10,13 @@ use Rattle.pp_eval.specs.declared.scope.Sort.{Sort}
 use Rattle.pp_eval.specs.Scoping.{Scoped, bindings_at, with_bindings_at, with_binding, bindings_now, place_now, entered, left, current_place, current_scope, IsInner, IsInnerSort, class_of, is_class_of}
 use Rattle.pp_eval.specs.Extending.{Begins, ScopesGrow, Extends}
 
-begins_same : {A : Type 0} (xs : List A) → Begins xs xs
+pub begins_same : {A : Type 0} (xs : List A) → Begins xs xs
 begins_same xs = ([], sym (append-nil xs))
 
-begins_joined : {A : Type 0} (xs ys zs : List A) → Begins xs ys → Begins ys zs → Begins xs zs
+pub begins_joined : {A : Type 0} (xs ys zs : List A) → Begins xs ys → Begins ys zs → Begins xs zs
 begins_joined xs ys zs h k = (h.0 ++ k.0, k.1 ∙ (ap (λ w. w ++ k.0) h.1 ∙ append_assoc xs h.0 k.0))
 
-begins_more : {A : Type 0} (xs more : List A) → Begins xs (xs ++ more)
+pub begins_more : {A : Type 0} (xs more : List A) → Begins xs (xs ++ more)
 begins_more xs more = (more, refl)
 
 grow_same : (scopes : List Scope) → ScopesGrow scopes scopes

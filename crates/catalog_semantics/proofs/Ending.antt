@@ -1,0 +1,309 @@
+-- The rounds end, and no larger bound finds more.
+use Rattle.std.proofs.Common.{◌≡◌, ℕ, zero, suc, ◌+◌, ◌<◌, ◌≤◌, Bool, true, false, cond, not, ◌&&◌, ◌||◌, List, [], ◌∷◌, ◌++◌, length, ◌⊎◌}
+use Rattle.std.proofs.Common.{inl, inr, ⊎_elim, Option, Some, None, Result, Ok, Err, refl, sym, ap, subst, ◌∙◌, length-append, arith}
+use Rattle.std.proofs.lemmas.List.{length-map}
+use Rattle.std.proofs.lemmas.Bool.{eqb-true, eqb-false, ne_eqb, ltb-true}
+use Rattle.std.proofs.lemmas.Map.Keys.{IsDistinct-head, IsDistinct-tail, IsDistinct-cons}
+use Rattle.std.proofs.lemmas.Map.Steps.{length-le_from_distinct_below}
+use Rattle.std.proofs.Math.Dec.{eqb}
+use Rattle.std.specs.Prelude.{nat_lt}
+use Rattle.std.specs.List.{AllByRecursion, IsDistinct, list_any}
+use Rattle.rh_base.specs.declared.fault.Refusal.{Refusal}
+use Rattle.pp_syntax.specs.declared.tree.Item.{Item}
+use Rattle.pp_value.specs.declared.value.Value.{Value}
+use Rattle.pp_eval.specs.Verdicts.{◌>>=◌}
+use Rattle.pp_eval.specs.Scoping.{defined_scope}
+use Rattle.catalog_semantics.specs.declared.catalog.Resource.{Resource}
+use Rattle.catalog_semantics.specs.Sites.{Definition, Site, definition_of}
+use Rattle.catalog_semantics.specs.States.{State, Effect, is_new, has_room, as_added, with_resource, added, declared_limit}
+use Rattle.catalog_semantics.specs.Effects.{effect_of}
+use Rattle.catalog_semantics.specs.Catalogs.{main_code, main_ended, first_state, made_real, realized, has_run, is_defined_sort, is_due}
+use Rattle.catalog_semantics.specs.Catalogs.{next_due, marked, type_runs, resource_runs, run_and_go_on, rounds, state_after, round_limit}
+use Rattle.catalog_semantics.specs.Catalogs.{IsSettled}
+use Rattle.pp_eval.specs.Extending.{Begins}
+use Rattle.catalog_semantics.specs.Frames.{Each, Extends, Fits}
+use Rattle.catalog_semantics.proofs.Keeping.{Keeps, IsFrame, step_each, then_each, if_each, bound_each, body_keeps, statement_keeps}
+use Rattle.pp_eval.specs.Growing.{begins_same}
+use Rattle.catalog_semantics.proofs.Extending.{extending}
+use Rattle.catalog_semantics.proofs.Settled.{realized_again}
+use Rattle.catalog_semantics.proofs.Whole.{IsMainFrame, IsWholeFrame, Same, ends_same, mapped, main_keeps, type_keeps}
+
+-- ---- how many resources are declared
+
+abbrev FitStill : State → State → Type 0
+FitStill s t = Fits s → Fits t
+
+if_true : {A B : Type 0} (Q : B → Type 0) (b : Bool) (e : Refusal) (x : A) (f : A → Result B Refusal) → (b ≡ true → Each Q (f x))
+    → Each Q (cond b (Ok x) (Err e) >>= f)
+if_true Q true e x f h = h refl
+if_true Q false e x f h = tt
+
+adds_fit : (r : Resource) → Keeps FitStill (added r)
+adds_fit r s =
+    step_each (FitStill s) (is_new r s) _ (λ new. if_true (FitStill s) (nat_lt (length s.resources) declared_limit) _ s _ (λ room.
+    if_each (FitStill s) _ (Err _) (Ok (with_resource s (as_added s r))) tt
+    (λ h. omega (arith, ltb-true (length s.resources) declared_limit room, length-append s.resources (as_added s r ∷ [])))))
+
+fitting_frame : IsFrame FitStill
+fitting_frame = record {
+  same = λ s h. h;
+  joined = λ s t u h k x. k (h x);
+  binds = λ at name x s. bound_each (FitStill s) at name x s (λ h. h);
+  adds = λ r sound. adds_fit r;
+  bodies = λ place scope s t u h k x. k (h x);
+  holds = λ outer class s h. h;
+  ties = λ ties s h. h;
+  collects = λ c s h. h;
+  wants = λ more s h. h;
+}
+
+same_length : (s t : State) → Same s.resources s t → length t.resources ≡ length s.resources
+same_length s t h = sym (length-map t.resources (λ (r : Resource). r.id)) ∙ ap length h.0 ∙ length-map s.resources (λ (r : Resource). r.id)
+
+main_fits : IsMainFrame FitStill
+main_fits = record {
+  frame = fitting_frame;
+  gives = λ kind attributes clean s h. h;
+  enters = λ s h. h;
+  fills =
+      λ s. mapped (Same s.resources s) (FitStill s) (main_ended s) (λ t e h. subst (λ n. n ≤ declared_limit) (sym (same_length s t e)) h)
+      (ends_same s);
+}
+
+pub whole_fits : IsWholeFrame FitStill
+whole_fits = record {
+  main = main_fits;
+  realizes = λ s h. subst (λ n. n ≤ declared_limit) (sym (length-map s.resources (made_real s))) h;
+  marks = λ place s h. h;
+}
+
+-- ---- what has run before the rounds
+
+abbrev RanStays : State → State → Type 0
+RanStays s t = t.ran ≡ s.ran
+
+main_runs_none : IsMainFrame RanStays
+main_runs_none = record {
+  frame = record {
+    same = λ s. refl;
+    joined = λ s t u h k. k ∙ h;
+    binds = λ at name x s. bound_each (RanStays s) at name x s refl;
+    adds = λ r sound s. step_each (RanStays s) (is_new r s) _
+        (λ new. step_each (RanStays s) (has_room r s) _
+        (λ room. if_each (RanStays s) _ (Err _) (Ok (with_resource s (as_added s r))) tt refl));
+    bodies =
+        λ place scope s t u h k. k ∙ h;
+    holds = λ outer class s. refl;
+    ties = λ ties s. refl;
+    collects = λ c s. refl;
+    wants = λ more s. refl;
+  };
+  gives = λ kind attributes clean s. refl;
+  enters = λ s. refl;
+  fills = λ s. mapped (Same s.resources s) (RanStays s) (main_ended s) (λ t e. e.1) (ends_same s);
+}
+
+-- ---- what is due
+
+not_run : (a b c : Bool) → (a && b && not c) ≡ true → c ≡ false
+not_run true true false h = refl
+not_run true true true h = sym h
+not_run true false c h = cc
+not_run false b c h = cc
+
+abbrev IsNext : State → ℕ → ℕ × Resource → Type 0
+IsNext s end x = (x.0 < end) × (has_run s x.0 ≡ false)
+
+due_case : (b : Bool) (s : State) (n end : ℕ) (r : Resource) (x : ℕ × Resource) (later : Option (ℕ × Resource)) → n < end
+    → (b ≡ true → has_run s n ≡ false) → (later ≡ Some x → IsNext s end x) → cond b (Some (n, r)) later ≡ Some x → IsNext s end x
+due_case true s n end r x later h k l is =
+    let e : ◌≡◌ {A = ℕ × Resource} (n, r) x = cc in subst (λ (y : ℕ × Resource). IsNext s end y) e (h, k refl)
+due_case false s n end r x later h k l is = l is
+
+next_is : (s : State) (n end : ℕ) (resources : List Resource) (x : ℕ × Resource) → n + length resources ≡ end
+    → next_due s n resources ≡ Some x → IsNext s end x
+next_is s n end [] x h is = absurd (cc)
+next_is s n end (r ∷ resources) x h is =
+    due_case (is_due s n r) s n end r x (next_due s (n + 1) resources) (omega arith)
+    (not_run (is_defined_sort r.sort) (not r.is_virtual) (has_run s n)) (next_is s (n + 1) end resources x (omega arith)) is
+
+-- ---- one run
+
+abbrev Runs : ℕ → State → State → Type 0
+Runs place s t = (t.ran ≡ s.ran ++ place ∷ []) × Begins s.resources t.resources
+
+runs_one : (site : Site) (place : ℕ) (r : Resource) (d : Option Definition) (s : State) → Each (Runs place s) (type_runs site place r d s)
+runs_one site place r None s = (refl, begins_same s.resources)
+runs_one site place r (Some d) s =
+    mapped (Extends (marked place s)) (Runs place s) (type_runs site place r (Some d) s) (λ t e. (e.ran, e.resources))
+    (body_keeps Extends extending (effect_of site) (statement_keeps Extends extending site) d place r defined_scope (marked place s))
+
+-- ---- how often
+
+pub record RunsOnce (s : State) : Type 0 where
+  pub distinct : IsDistinct eqb s.ran
+  pub below : (q : ℕ) → list_any (eqb q) s.ran ≡ true → q < length s.resources
+
+other : (x y : ℕ) → eqb y x ≡ false → eqb x y ≡ false
+other x y h = ne_eqb x y (λ e. eqb-false y x h (sym e))
+
+all_more : (x y : ℕ) (xs : List ℕ) → AllByRecursion (λ z. eqb x z ≡ false) xs → eqb x y ≡ false
+    → AllByRecursion (λ z. eqb x z ≡ false) (xs ++ y ∷ [])
+all_more x y [] h k = (k, tt)
+all_more x y (z ∷ xs) h k = (h.0, all_more x y xs h.1 k)
+
+or_false : (a b : Bool) → (a || b) ≡ false → (a ≡ false) × (b ≡ false)
+or_false true b h = cc
+or_false false b h = (refl, h)
+
+distinct_more : (xs : List ℕ) (y : ℕ) → IsDistinct eqb xs → list_any (eqb y) xs ≡ false → IsDistinct eqb (xs ++ y ∷ [])
+distinct_more [] y h k = IsDistinct-cons eqb y [] tt h
+distinct_more (x ∷ xs) y h k = let both = or_false (eqb y x) (list_any (eqb y) xs) k in
+    IsDistinct-cons eqb x (xs ++ y ∷ []) (all_more x y xs (IsDistinct-head eqb x xs h) (other x y both.0))
+    (distinct_more xs y (IsDistinct-tail eqb x xs h) both.1)
+
+or_true : (a b : Bool) → (a || b) ≡ true → (a ≡ true) ⊎ (b ≡ true)
+or_true true b h = inl refl
+or_true false b h = inr h
+
+in_more : (q y : ℕ) (xs : List ℕ) → list_any (eqb q) (xs ++ y ∷ []) ≡ true → (list_any (eqb q) xs ≡ true) ⊎ (q ≡ y)
+in_more q y [] h = ⊎_elim (λ a. inr (eqb-true q y a)) (λ b. inl b) (or_true (eqb q y) false h)
+in_more q y (x ∷ xs) h =
+    ⊎_elim (λ a. inl (ap (λ w. w || list_any (eqb q) xs) a))
+    (λ b. ⊎_elim (λ c. inl (either_true (eqb q x) c)) (λ c. inr c) (in_more q y xs b))
+    (or_true (eqb q x) (list_any (eqb q) (xs ++ y ∷ [])) h)
+  where
+    either_true : (a : Bool) {b : Bool} → b ≡ true → (a || b) ≡ true
+    either_true true h = refl
+    either_true false h = h
+
+longer : (s t : State) → Begins s.resources t.resources → length s.resources ≤ length t.resources
+longer s t h = omega (arith, ap length h.1, length-append s.resources h.0)
+
+-- a run keeps it that places are distinct and below
+once_more : (place : ℕ) (s t : State) → place < length s.resources → has_run s place ≡ false → Runs place s t → RunsOnce s → RunsOnce t
+once_more place s t below new runs h = record {
+  distinct = subst (IsDistinct eqb) (sym runs.0) (distinct_more s.ran place h.distinct new);
+  below = λ q is. let grows = longer s t runs.1 in
+      ⊎_elim (λ old. let lower = h.below q old in omega arith) (λ e. omega arith)
+      (in_more q place s.ran (subst (λ (w : List ℕ). list_any (eqb q) w ≡ true) runs.0 is));
+}
+
+at_most : (s : State) → RunsOnce s → Fits s → length s.ran ≤ declared_limit
+at_most s h fits = let few = length-le_from_distinct_below s.ran (length s.resources) h.distinct h.below in omega arith
+
+real_once : (s : State) → RunsOnce s → RunsOnce (realized s)
+real_once s h =
+    record { distinct = h.distinct; below = λ q is. subst (λ n. q < n) (sym (length-map s.resources (made_real s))) (h.below q is) }
+
+-- ---- the rounds
+
+abbrev Enough : ℕ → State → Type 0
+Enough n s = declared_limit + 1 ≤ length s.ran + n
+
+-- where what follows the run is the same, so is the whole
+run_same : (site : Site) (f g : Effect) (s : State) (x : ℕ × Resource) (Q : State → Type 0) → Each Q (resource_runs site x s)
+    → ((t : State) → Q t → f t ≡ g t) → run_and_go_on site f (Some x) s ≡ run_and_go_on site g (Some x) s
+run_same site f g s x Q h same = behind (resource_runs site x s) h
+  where
+    behind : (r : Result State Refusal) → Each Q r → (r >>= f) ≡ (r >>= g)
+    behind (Ok t) h = same t h
+    behind (Err e) h = refl
+
+next_same : (site : Site) (f g : Effect) (s : State) (found : Option (ℕ × Resource))
+    → ((x : ℕ × Resource) → found ≡ Some x → run_and_go_on site f (Some x) s ≡ run_and_go_on site g (Some x) s)
+    → run_and_go_on site f found s ≡ run_and_go_on site g found s
+next_same site f g s None h = refl
+next_same site f g s (Some x) h = h x refl
+
+-- what a run of the resource at a place gives
+abbrev After : Site → ℕ → State → State → Type 0
+After site place s t = Runs place s t × FitStill s t
+
+each_both : (P Q : State → Type 0) (x : Result State Refusal) → Each P x → Each Q x → Each (λ t. P t × Q t) x
+each_both P Q (Ok t) h k = (h, k)
+each_both P Q (Err e) h k = tt
+
+run_gives : (site : Site) (x : ℕ × Resource) (s : State) → Each (After site x.0 s) (resource_runs site x s)
+run_gives site x s =
+    each_both (Runs x.0 s) (FitStill s) (resource_runs site x s) (runs_one site x.0 x.1 (definition_of x.1.id.kind site.defined_types) s)
+    (type_keeps FitStill whole_fits site x.0 x.1 (definition_of x.1.id.kind site.defined_types) s)
+
+pub rounds_same : (site : Site) (n m : ℕ) (s : State) → RunsOnce s → Fits s → declared_limit + 1 ≤ length s.ran + n
+    → declared_limit + 1 ≤ length s.ran + m → rounds n site s ≡ rounds m site s
+rounds_same site zero m s once fits h k = let few = at_most s once fits in absurd (omega arith)
+rounds_same site (suc n) zero s once fits h k = let few = at_most s once fits in absurd (omega arith)
+rounds_same site (suc n) (suc m) s once fits h k =
+    next_same site (rounds n site) (rounds m site) (realized s) (next_due (realized s) 0 (realized s).resources) (λ x is.
+    let real = real_once s once in
+    let room : Fits (realized s) = whole_fits.realizes s fits in
+    let next = next_is (realized s) 0 (length (realized s).resources) (realized s).resources x (omega arith) is in
+    run_same site (rounds n site) (rounds m site) (realized s) x (After site x.0 (realized s)) (run_gives site x (realized s)) (λ t after.
+    let more : length t.ran ≡ length s.ran + 1 = ap length after.0.0 ∙ length-append s.ran (x.0 ∷ []) in
+    rounds_same site n m t (once_more x.0 (realized s) t next.0 next.1 after.0 real) (after.1 room) (omega arith) (omega arith)))
+
+-- ---- the whole
+
+none_distinct : IsDistinct eqb []
+unfolding IsDistinct
+none_distinct = tt
+
+none_run : (s : State) → s.ran ≡ [] → RunsOnce s
+none_run s h =
+    record {
+      distinct = subst (IsDistinct eqb) (sym h) none_distinct;
+      below = λ q is. absurd (nowhere q (subst (λ (w : List ℕ). list_any (eqb q) w ≡ true) h is));
+    }
+  where
+    nowhere : (q : ℕ) → list_any (eqb q) [] ≡ true → ⊥
+    nowhere q h = cc
+
+-- From the end of the main code on, as many rounds as may be declared and one more are enough.
+pub enough_rounds : (site : Site) (items : List Item) (facts : Value) (n : ℕ) → round_limit ≤ n
+    → state_after n site items facts ≡ state_after round_limit site items facts
+enough_rounds site items facts n h =
+    behind (main_code site items (first_state facts)) (main_keeps RanStays main_runs_none site items (first_state facts))
+    (main_keeps FitStill main_fits site items (first_state facts))
+  where
+    behind : (r : Result State Refusal) → Each (RanStays (first_state facts)) r → Each (FitStill (first_state facts)) r
+        → (r >>= rounds n site) ≡ (r >>= rounds round_limit site)
+    behind (Ok s) a b =
+        let none : length s.ran ≡ 0 = ap length a in
+        rounds_same site n round_limit s (none_run s a) (b (omega arith)) (omega arith) (omega arith)
+    behind (Err e) a b = refl
+
+-- ---- what the rounds reach
+
+abbrev FoundAt : State → Option (ℕ × Resource) → Type 0
+FoundAt s found = next_due s 0 s.resources ≡ found
+
+step_settles : (site : Site) (go_on : Effect) (s : State) (found : Option (ℕ × Resource)) → FoundAt s found → realized s ≡ s
+    → ((x : ℕ × Resource) → found ≡ Some x → Each IsSettled (run_and_go_on site go_on (Some x) s))
+    → Each IsSettled (run_and_go_on site go_on found s)
+step_settles site go_on s None e real h = record { real = real; none_due = e }
+step_settles site go_on s (Some x) e real h = h x refl
+
+settles : (site : Site) (n : ℕ) (s : State) → RunsOnce s → Fits s → declared_limit + 1 ≤ length s.ran + n → Each IsSettled (rounds n site s)
+settles site zero s once fits h = let few = at_most s once fits in absurd (omega arith)
+settles site (suc n) s once fits h =
+    step_settles site (rounds n site) (realized s) (next_due (realized s) 0 (realized s).resources) refl (realized_again s) (λ x is.
+    let real = real_once s once in
+    let room : Fits (realized s) = whole_fits.realizes s fits in
+    let next = next_is (realized s) 0 (length (realized s).resources) (realized s).resources x (omega arith) is in
+    then_each (After site x.0 (realized s)) IsSettled (resource_runs site x (realized s)) (rounds n site) (run_gives site x (realized s))
+    (λ t after.
+    let more : length t.ran ≡ length s.ran + 1 = ap length after.0.0 ∙ length-append s.ran (x.0 ∷ []) in
+    settles site n t (once_more x.0 (realized s) t next.0 next.1 after.0 real) (after.1 room) (omega arith)))
+
+-- After all rounds another one changes nothing.
+pub all_settle : (site : Site) (items : List Item) (facts : Value) (t : State) → state_after round_limit site items facts ≡ Ok t
+    → IsSettled t
+all_settle site items facts t h =
+    subst (Each IsSettled) h (behind (main_code site items (first_state facts))
+    (main_keeps RanStays main_runs_none site items (first_state facts)) (main_keeps FitStill main_fits site items (first_state facts)))
+  where
+    behind : (r : Result State Refusal) → Each (RanStays (first_state facts)) r → Each (FitStill (first_state facts)) r
+        → Each IsSettled (r >>= rounds round_limit site)
+    behind (Ok s) a b =
+        let none : length s.ran ≡ 0 = ap length a in settles site round_limit s (none_run s a) (b (omega arith)) (omega arith)
+    behind (Err e) a b = tt

@@ -1,0 +1,178 @@
+-- Statements only add.
+use Rattle.std.proofs.Common.{◌≡◌, ℕ, List, [], ◌∷◌, ◌++◌, Ok, Err, refl, subst, ◌∙◌}
+use Rattle.pp_syntax.specs.declared.tree.Stmt.{Stmt}
+use Rattle.pp_value.specs.declared.value.Value.{Value}
+use Rattle.pp_eval.specs.declared.scope.Scope.{Scope}
+use Rattle.pp_eval.specs.Scoping.{Scoped, entered, with_binding}
+use Rattle.pp_eval.specs.Extending.{Extends as ScopesExtend}
+use Rattle.pp_eval.specs.Growing.{begins_same, begins_joined, begins_more, same_extends as scopes_same, extends_joined as scopes_joined, bound_extends, body_extends}
+use Rattle.catalog_semantics.specs.declared.catalog.Resource.{Resource}
+use Rattle.catalog_semantics.specs.declared.state.Collector.{Collector}
+use Rattle.catalog_semantics.specs.declared.state.Pending.{Pending}
+use Rattle.catalog_semantics.specs.declared.state.Tie.{Tie}
+use Rattle.catalog_semantics.specs.Sites.{Site}
+use Rattle.catalog_semantics.specs.States.{State, with_scopes, bound, as_added, with_resource, is_new, has_room}
+use Rattle.catalog_semantics.specs.States.{added, held, tied, collected, wanted}
+use Rattle.catalog_semantics.specs.Declaring.{entering, begun, ended}
+use Rattle.catalog_semantics.specs.Effects.{effect_of}
+use Rattle.catalog_semantics.specs.Frames.{Each, Extends}
+use Rattle.catalog_semantics.proofs.Keeping.{Keeps, IsFrame, step_each, if_each, bound_each, statement_keeps}
+
+-- ---- states
+
+extends_same : (s : State) → Extends s s
+extends_same s = record {
+  running = refl;
+  main_has_ended = refl;
+  scopes = scopes_same s.scopes;
+  defaults = refl;
+  ran = refl;
+  resources =
+      begins_same s.resources;
+  holdings = begins_same s.holdings;
+  ties = begins_same s.ties;
+  collectors = begins_same s.collectors;
+  pending = begins_same s.pending;
+}
+
+pub extends_joined : (s t u : State) → Extends s t → Extends t u → Extends s u
+extends_joined s t u h k = record {
+  running = k.running ∙ h.running;
+  main_has_ended = k.main_has_ended ∙ h.main_has_ended;
+  scopes = scopes_joined s.scopes t.scopes u.scopes h.scopes k.scopes;
+  defaults = k.defaults ∙ h.defaults;
+  ran = k.ran ∙ h.ran;
+  resources = begins_joined s.resources t.resources u.resources h.resources k.resources;
+  holdings = begins_joined s.holdings t.holdings u.holdings h.holdings k.holdings;
+  ties = begins_joined s.ties t.ties u.ties h.ties k.ties;
+  collectors = begins_joined s.collectors t.collectors u.collectors h.collectors k.collectors;
+  pending = begins_joined s.pending t.pending u.pending h.pending k.pending;
+}
+
+scopes_extend : (s : State) (scopes : Scoped) → ScopesExtend s.scopes scopes → Extends s (with_scopes scopes s)
+scopes_extend s scopes h = record {
+  running = refl;
+  main_has_ended = refl;
+  scopes = h;
+  defaults = refl;
+  ran = refl;
+  resources =
+      begins_same s.resources;
+  holdings = begins_same s.holdings;
+  ties = begins_same s.ties;
+  collectors = begins_same s.collectors;
+  pending = begins_same s.pending;
+}
+
+resources_extend : (s : State) (more : List Resource) → Extends s (record s { resources = s.resources ++ more })
+resources_extend s more = record {
+  running = refl;
+  main_has_ended = refl;
+  scopes = scopes_same s.scopes;
+  defaults = refl;
+  ran = refl;
+  resources =
+      begins_more s.resources more;
+  holdings = begins_same s.holdings;
+  ties = begins_same s.ties;
+  collectors = begins_same s.collectors;
+  pending = begins_same s.pending;
+}
+
+holds_extend : (outer class : ℕ) (s : State) → Extends s (held outer class s)
+holds_extend outer class s = record {
+  running = refl;
+  main_has_ended = refl;
+  scopes = scopes_same s.scopes;
+  defaults = refl;
+  ran = refl;
+  resources =
+      begins_same s.resources;
+  holdings = begins_more s.holdings (record { outer = outer; class = class } ∷ []);
+  ties = begins_same s.ties;
+  collectors = begins_same s.collectors;
+  pending = begins_same s.pending;
+}
+
+ties_extend : (ties : List Tie) (s : State) → Extends s (tied ties s)
+ties_extend ties s = record {
+  running = refl;
+  main_has_ended = refl;
+  scopes = scopes_same s.scopes;
+  defaults = refl;
+  ran = refl;
+  resources =
+      begins_same s.resources;
+  holdings = begins_same s.holdings;
+  ties = begins_more s.ties ties;
+  collectors = begins_same s.collectors;
+  pending = begins_same s.pending;
+}
+
+collects_extend : (c : Collector) (s : State) → Extends s (collected c s)
+collects_extend c s = record {
+  running = refl;
+  main_has_ended = refl;
+  scopes = scopes_same s.scopes;
+  defaults = refl;
+  ran = refl;
+  resources =
+      begins_same s.resources;
+  holdings = begins_same s.holdings;
+  ties = begins_same s.ties;
+  collectors = begins_more s.collectors (c ∷ []);
+  pending = begins_same s.pending;
+}
+
+wants_extend : (more : List Pending) (s : State) → Extends s (wanted more s)
+wants_extend more s = record {
+  running = refl;
+  main_has_ended = refl;
+  scopes = scopes_same s.scopes;
+  defaults = refl;
+  ran = refl;
+  resources =
+      begins_same s.resources;
+  holdings = begins_same s.holdings;
+  ties = begins_same s.ties;
+  collectors = begins_same s.collectors;
+  pending = begins_more s.pending more;
+}
+
+binds_extend : (at : ℕ) (name : List ℕ) (x : Value) → Keeps Extends (bound at name x)
+binds_extend at name x s = bound_each (Extends s) at name x s (scopes_extend s (with_binding name x s.scopes) (bound_extends s.scopes name x))
+
+adds_extend : (r : Resource) → Keeps Extends (added r)
+adds_extend r s = step_each (Extends s) (is_new r s) _ (λ new. step_each (Extends s) (has_room r s) _ (λ room.
+    if_each (Extends s) _ (Err _) (Ok (with_resource s (as_added s r))) tt (resources_extend s (as_added s r ∷ []))))
+
+bodies_extend : (place : ℕ) (scope : Scope) (s t u : State) → Extends (entering scope s) t → Extends (begun place t) u
+    → Extends s (ended s u)
+bodies_extend place scope s t u h k = record {
+  running = refl;
+  main_has_ended = k.main_has_ended ∙ h.main_has_ended;
+  scopes = body_extends s.scopes u.scopes scope (scopes_joined (entered s.scopes scope) t.scopes u.scopes h.scopes k.scopes);
+  defaults = k.defaults ∙ h.defaults;
+  ran = k.ran ∙ h.ran;
+  resources = begins_joined s.resources t.resources u.resources h.resources k.resources;
+  holdings = begins_joined s.holdings t.holdings u.holdings h.holdings k.holdings;
+  ties = begins_joined s.ties t.ties u.ties h.ties k.ties;
+  collectors = begins_joined s.collectors t.collectors u.collectors h.collectors k.collectors;
+  pending = begins_joined s.pending t.pending u.pending h.pending k.pending;
+}
+
+pub extending : IsFrame Extends
+extending = record {
+  same = extends_same;
+  joined = extends_joined;
+  binds = binds_extend;
+  adds = λ r sound. adds_extend r;
+  bodies = bodies_extend;
+  holds = holds_extend;
+  ties = ties_extend;
+  collects = collects_extend;
+  wants = wants_extend;
+}
+
+pub only_adds : (site : Site) (x : Stmt) (s t : State) → effect_of site x s ≡ Ok t → Extends s t
+only_adds site x s t h = subst (Each (Extends s)) h (statement_keeps Extends extending site x s)

@@ -1,0 +1,335 @@
+-- What needs fewer open bodies of classes is the same where more may be open.
+use Rattle.std.proofs.Common.{◌≡◌, inl, inr, ℕ, zero, suc, Bool, true, false, cond, List, [], ◌∷◌, ◌++◌, map, length, Option, Some, None}
+use Rattle.std.proofs.Common.{Result, Ok, Err, refl, sym, ap, subst}
+use Rattle.std.specs.Prelude.{codes}
+use Rattle.std.specs.Str.{bytes_eq}
+use Rattle.std.specs.List.{flat_map}
+use Rattle.rh_base.specs.declared.fault.Refusal.{Refusal}
+use Rattle.pp_syntax.specs.declared.tree.Expr.{Expr}
+use Rattle.pp_syntax.specs.declared.tree.Func.{Func}
+use Rattle.pp_syntax.specs.declared.tree.Func.TheVariants as func
+use Rattle.pp_syntax.specs.declared.tree.Body.{Body}
+use Rattle.pp_syntax.specs.declared.tree.Operand.{Operand}
+use Rattle.pp_syntax.specs.declared.tree.Operand.TheVariants as operand
+use Rattle.pp_syntax.specs.declared.tree.Arrow.{Arrow}
+use Rattle.pp_syntax.specs.declared.tree.Stmt.{Stmt, Stmt-F, roll-Stmt, map-Stmt, ind-Stmt}
+use Rattle.pp_syntax.specs.declared.tree.Stmt.TheOpen as plain
+use Rattle.pp_syntax.specs.declared.tree.Stmt.TheOpen.{Arm-F, CaseArm-F}
+use Rattle.pp_syntax.specs.declared.tree.Arm.{Arm, roll-Arm, map-Arm}
+use Rattle.pp_syntax.specs.declared.tree.CaseArm.{CaseArm, roll-CaseArm, map-CaseArm}
+use Rattle.pp_value.specs.declared.value.Ref.{Ref}
+use Rattle.pp_value.specs.declared.value.Value.{Value}
+use Rattle.pp_value.specs.Values.{Pair}
+use Rattle.pp_eval.specs.declared.scope.Scope.{Scope}
+use Rattle.pp_eval.specs.References.{plain_name}
+use Rattle.pp_eval.specs.Verdicts.{◌>>=◌, if_there}
+use Rattle.pp_eval.specs.Scoping.{class_scope}
+use Rattle.pp_eval.specs.Evaluation.{value_of}
+use Rattle.catalog_semantics.specs.declared.catalog.Resource.{Resource}
+use Rattle.catalog_semantics.specs.Sites.{Definition, Site}
+use Rattle.catalog_semantics.specs.States.{State, Effect, in_turn, is_declared, is_new, added}
+use Rattle.catalog_semantics.specs.Attributes.{titles_at, attributes_at}
+use Rattle.catalog_semantics.specs.Declaring.{Bodies, all_known, opened, begun, body_runs, class_ref, class_resource, class_named}
+use Rattle.catalog_semantics.specs.Declaring.{class_runs, no_circle, parents_of, class_declared, class_included, body_declared}
+use Rattle.catalog_semantics.specs.Declaring.{bodies_declared, resources_declared, classes_declared}
+use Rattle.catalog_semantics.specs.Functions.{Argument, arguments, class_names, contained, required, included_then, each_class, calls}
+use Rattle.catalog_semantics.specs.Effects.{test_of, is_option, first_true, unless_true, first_option, default_block, chosen_block}
+use Rattle.catalog_semantics.specs.Effects.{options_of, selected_block, declared_by, side_of, sides_of, chained, called, Arms, CaseArms}
+use Rattle.catalog_semantics.specs.Effects.{effect_with, effect_at}
+use Rattle.catalog_semantics.proofs.Rolled.{in_arm, in_case_arm, layer_of, rolled, rolled_arm, rolled_case_arm}
+use Rattle.catalog_semantics.specs.Nesting.{Deeper}
+
+abbrev AreDeeper : Effect → Effect → Type 0
+AreDeeper f g = (s : State) → Deeper (f s) (g s)
+
+same_deeper : {A : Type 0} (x : Result A Refusal) → Deeper x x
+same_deeper x = inl refl
+
+on_deeper : {A B : Type 0} (x : Result A Refusal) (f g : A → Result B Refusal) → ((a : A) → Deeper (f a) (g a)) → Deeper (x >>= f) (x >>= g)
+on_deeper (Ok a) f g h = h a
+on_deeper (Err e) f g h = inl refl
+
+then_deeper : {A B : Type 0} (x y : Result A Refusal) (f g : A → Result B Refusal) → Deeper x y → ((a : A) → Deeper (f a) (g a))
+    → Deeper (x >>= f) (y >>= g)
+then_deeper x y f g (inl e) h = subst (λ (z : Result _ Refusal). Deeper (x >>= f) (z >>= g)) e (on_deeper x f g h)
+then_deeper x y f g (inr deep) h = inr (deep.0, ap (λ r. r >>= f) deep.1)
+
+if_deeper : {A : Type 0} (b : Bool) (x y x' y' : Result A Refusal) → Deeper x x' → Deeper y y' → Deeper (cond b x y) (cond b x' y')
+if_deeper true x y x' y' h k = h
+if_deeper false x y x' y' h k = k
+
+all_deeper : {A : Type 0} (f g : A → Effect) → ((x : A) → AreDeeper (f x) (g x)) → (xs : List A)
+    → AreDeeper (in_turn (map f xs)) (in_turn (map g xs))
+all_deeper f g h [] s = inl refl
+all_deeper f g h (x ∷ xs) s = then_deeper (f x s) (g x s) (in_turn (map f xs)) (in_turn (map g xs)) (h x s) (all_deeper f g h xs)
+
+body_deeper : (run more : Stmt → Effect) → ((x : Stmt) → AreDeeper (run x) (more x))
+    → (d : Definition) (place : ℕ) (r : Resource) (scope : Scope)
+    → AreDeeper (body_runs run d place r scope) (body_runs more d place r scope)
+body_deeper run more h d place r scope s =
+    on_deeper (all_known r.at d.parameters r.attrs s) _ _ (λ known. on_deeper (opened d r scope s) _ _ (λ t.
+    then_deeper (in_turn (map run d.body) (begun place t)) (in_turn (map more d.body) (begun place t)) _ _
+    (all_deeper run more h d.body (begun place t)) (λ u. inl refl)))
+
+abbrev pub BodiesDeeper : Bodies → Bodies → Type 0
+BodiesDeeper None more = Unit {0}
+BodiesDeeper (Some run) None = ⊥
+BodiesDeeper (Some run) (Some more) = (x : Stmt) → AreDeeper (run x) (more x)
+
+class_deeper : (bodies more : Bodies) → BodiesDeeper bodies more → (d : Definition) (r : Resource)
+    → AreDeeper (class_runs bodies d r) (class_runs more d r)
+class_deeper None more h d r s = on_deeper (is_new r s) _ _ (λ new. inr (r.at, refl))
+class_deeper (Some run) None h d r s = absurd h
+class_deeper (Some run) (Some more) h d r s =
+    on_deeper (is_new r s) _ _ (λ new. on_deeper (added r s) _ _
+    (λ t. body_deeper run more h d (length s.resources) r (class_scope t.scopes.0 d.name d.parent) t))
+
+module _ (site : Site) (bodies more : Bodies) (deep : BodiesDeeper bodies more) where
+  declared_deeper : (at : ℕ) (attributes : List Pair) (name : List ℕ)
+      → AreDeeper (class_declared site bodies at attributes name) (class_declared site more at attributes name)
+  declared_deeper at attributes name s =
+      on_deeper (class_named site at name) _ _ (λ d. on_deeper (no_circle site d) _ _
+      (λ fine. on_deeper (parents_of site s d) _ _ (λ parents.
+      then_deeper (in_turn (map (λ e. class_runs bodies e (class_resource at e.name [])) parents) s)
+      (in_turn (map (λ e. class_runs more e (class_resource at e.name [])) parents) s) _ _
+      (all_deeper (λ (e : Definition). class_runs bodies e (class_resource at e.name []))
+      (λ (e : Definition). class_runs more e (class_resource at e.name []))
+      (λ e. class_deeper bodies more deep e (class_resource at e.name [])) parents s)
+      (class_deeper bodies more deep d (class_resource at d.name attributes)))))
+
+  included_deeper : (at : ℕ) (name : List ℕ) → AreDeeper (class_included site bodies at name) (class_included site more at name)
+  included_deeper at name s =
+      if_deeper (is_declared (class_ref name) s) (Ok s) (class_declared site bodies at [] name s) (Ok s)
+      (class_declared site more at [] name s) (inl refl) (declared_deeper at [] name s)
+
+  abbrev ShowDeeper : {A : Type 0} → (State → Result (A × State) Refusal) → (State → Result (A × State) Refusal) → Type 0
+  ShowDeeper f g = (s : State) → Deeper (f s) (g s)
+
+  one_body_deeper : (declare other : ℕ → List Pair → List ℕ → Effect) (refer : List ℕ → Ref)
+      → ((at : ℕ) (attributes : List Pair) (title : List ℕ) → AreDeeper (declare at attributes title) (other at attributes title))
+      → (b : Body) → ShowDeeper (body_declared declare refer b) (body_declared other refer b)
+  one_body_deeper declare other refer h b s =
+      on_deeper (titles_at s.scopes b.title) _ _ (λ titles. on_deeper (attributes_at s.scopes b.attrs) _ _ (λ attributes.
+      then_deeper (in_turn (map (declare b.title.at attributes) titles) s) (in_turn (map (other b.title.at attributes) titles) s) _ _
+      (all_deeper (declare b.title.at attributes) (other b.title.at attributes) (h b.title.at attributes) titles s) (λ t. inl refl)))
+
+  bodies_deeper : (declare other : ℕ → List Pair → List ℕ → Effect) (refer : List ℕ → Ref)
+      → ((at : ℕ) (attributes : List Pair) (title : List ℕ) → AreDeeper (declare at attributes title) (other at attributes title))
+      → (bs : List Body) → ShowDeeper (bodies_declared declare refer bs) (bodies_declared other refer bs)
+  bodies_deeper declare other refer h [] s = inl refl
+  bodies_deeper declare other refer h (b ∷ bs) s =
+      then_deeper (body_declared declare refer b s) (body_declared other refer b s) _ _ (one_body_deeper declare other refer h b s)
+      (λ first.
+      then_deeper (bodies_declared declare refer bs first.1) (bodies_declared other refer bs first.1) _ _
+      (bodies_deeper declare other refer h bs first.1) (λ rest. inl refl))
+
+  classes_deeper : (bs : List Body) → ShowDeeper (classes_declared site bodies bs) (classes_declared site more bs)
+  classes_deeper bs =
+      bodies_deeper (λ here attributes title. class_declared site bodies here attributes (plain_name title))
+      (λ here attributes title. class_declared site more here attributes (plain_name title)) (λ title. class_ref (plain_name title))
+      (λ here attributes title. declared_deeper here attributes (plain_name title)) bs
+
+  -- ---- functions
+
+  include_deeper : (next : List ℕ → State → State) (at : ℕ) (name : List ℕ)
+      → AreDeeper (included_then next site bodies at name) (included_then next site more at name)
+  include_deeper next at name s =
+      then_deeper (class_included site bodies at name s) (class_included site more at name s) _ _ (included_deeper at name s)
+      (λ t. inl refl)
+
+  argument_deeper : (next : List ℕ → State → State) (at : ℕ) (x : Argument)
+      → AreDeeper (each_class (included_then next site bodies at) x) (each_class (included_then next site more at) x)
+  argument_deeper next at x s =
+      on_deeper (if_there x.0 (class_names x.1)) _ _
+      (λ names. all_deeper (included_then next site bodies at) (included_then next site more at) (include_deeper next at) names s)
+
+  calls_deeper : (at : ℕ) (f : Func) (xs : List Argument) → AreDeeper (calls site bodies at f xs) (calls site more at f xs)
+  calls_deeper at func.Include xs =
+      all_deeper (each_class (included_then (λ name t. t) site bodies at)) (each_class (included_then (λ name t. t) site more at))
+      (argument_deeper (λ name t. t) at) xs
+  calls_deeper at func.Contain xs =
+      all_deeper (each_class (included_then contained site bodies at)) (each_class (included_then contained site more at))
+      (argument_deeper contained at) xs
+  calls_deeper at func.Require xs =
+      all_deeper (each_class (included_then (required at) site bodies at)) (each_class (included_then (required at) site more at))
+      (argument_deeper (required at) at) xs
+  calls_deeper at func.Realize xs = λ s. inl refl
+  calls_deeper at func.Fail xs = λ s. inl refl
+  calls_deeper at func.Notice xs = λ s. inl refl
+  calls_deeper at func.Warning xs = λ s. inl refl
+
+  -- ---- chains
+
+  side_deeper : (x : Operand) → ShowDeeper (side_of site bodies x) (side_of site more x)
+  side_deeper (operand.Declare at is_virtual kind declared) s =
+      then_deeper (declared_by site bodies at is_virtual kind declared s) (declared_by site more at is_virtual kind declared s) _ _
+      (if_deeper (bytes_eq kind (codes "class")) (classes_declared site bodies declared s)
+      (resources_declared site at is_virtual kind declared s) (classes_declared site more declared s)
+      (resources_declared site at is_virtual kind declared s) (classes_deeper declared s) (inl refl)) (λ x. inl refl)
+  side_deeper (operand.Collect at kind sought) s = inl refl
+  side_deeper (operand.Named es) s = inl refl
+
+  sides_deeper : (xs : List Operand) → ShowDeeper (sides_of site bodies xs) (sides_of site more xs)
+  sides_deeper [] s = inl refl
+  sides_deeper (x ∷ xs) s = then_deeper (side_of site bodies x s) (side_of site more x s) _ _ (side_deeper x s) (λ first.
+      then_deeper (sides_of site bodies xs first.1) (sides_of site more xs first.1) _ _ (sides_deeper xs first.1) (λ rest. inl refl))
+
+  chained_deeper : (at : ℕ) (xs : List Operand) (arrows : List Arrow)
+      → AreDeeper (chained site bodies at xs arrows) (chained site more at xs arrows)
+  chained_deeper at xs arrows s = then_deeper (sides_of site bodies xs s) (sides_of site more xs s) _ _ (sides_deeper xs s) (λ x. inl refl)
+
+  called_deeper : (at : ℕ) (f : Func) (args : List Expr) → AreDeeper (called site bodies at f args) (called site more at f args)
+  called_deeper at f args s = on_deeper (arguments s.scopes args) _ _ (λ xs. calls_deeper at f xs s)
+
+  unless_deeper : (e : Expr) (body other body' other' : Effect) → AreDeeper body body' → AreDeeper other other'
+      → AreDeeper (unless_true e body other) (unless_true e body' other')
+  unless_deeper e body other body' other' h k s =
+      on_deeper (test_of s.scopes e) _ _ (λ b. if_deeper b (other s) (body s) (other' s) (body' s) (k s) (h s))
+
+  -- ---- every statement
+
+  abbrev arm_in : Arm → Arms
+  arm_in a = in_arm site bodies a
+
+  abbrev arm_more : Arm → Arms
+  arm_more a = in_arm site more a
+
+  abbrev case_in : CaseArm → CaseArms
+  case_in a = in_case_arm site bodies a
+
+  abbrev case_more : CaseArm → CaseArms
+  case_more a = in_case_arm site more a
+
+  abbrev ArmDeeper : Arms → Arms → Type 0
+  ArmDeeper a b = (a.0 ≡ b.0) × AreDeeper a.1 b.1
+
+  abbrev CaseDeeper : CaseArms → CaseArms → Type 0
+  CaseDeeper a b = (a.0 ≡ b.0) × AreDeeper a.1 b.1
+
+  abbrev KnownStmt : Type 0
+  KnownStmt = (x : Stmt) × AreDeeper (effect_with site bodies x) (effect_with site more x)
+
+  abbrev KnownArm : Type 0
+  KnownArm = (a : Arm) × ArmDeeper (arm_in a) (arm_more a)
+
+  abbrev KnownCaseArm : Type 0
+  KnownCaseArm = (a : CaseArm) × CaseDeeper (case_in a) (case_more a)
+
+  block_deeper : (xs : List KnownStmt) → AreDeeper (in_turn (map (effect_with site bodies) (map (λ (x : KnownStmt). x.0) xs)))
+      (in_turn (map (effect_with site more) (map (λ (x : KnownStmt). x.0) xs)))
+  block_deeper [] s = inl refl
+  block_deeper (x ∷ xs) s = then_deeper (effect_with site bodies x.0 s) (effect_with site more x.0 s) _ _ (x.1 s) (block_deeper xs)
+
+  if_arms_deeper : (xs : List KnownArm) (other other' : Effect) → AreDeeper other other'
+      → AreDeeper (first_true (map arm_in (map (λ (x : KnownArm). x.0) xs)) other)
+      (first_true (map arm_more (map (λ (x : KnownArm). x.0) xs)) other')
+  if_arms_deeper [] other other' h s = h s
+  if_arms_deeper (x ∷ xs) other other' h s =
+      then_deeper (test_of s.scopes (arm_in x.0).0) (test_of s.scopes (arm_more x.0).0) _ _ (inl (ap (test_of s.scopes) x.1.0)) (λ b.
+      if_deeper b ((arm_in x.0).1 s) _ ((arm_more x.0).1 s) _ (x.1.1 s) (if_arms_deeper xs other other' h s))
+
+  abbrev ChoicesDeeper : List (Option Expr × Effect) → List (Option Expr × Effect) → Type 0
+  ChoicesDeeper [] [] = Unit {0}
+  ChoicesDeeper [] (d ∷ ds) = ⊥
+  ChoicesDeeper (c ∷ cs) [] = ⊥
+  ChoicesDeeper (c ∷ cs) (d ∷ ds) = ((c.0 ≡ d.0) × AreDeeper c.1 d.1) × ChoicesDeeper cs ds
+
+  abbrev OptionDeeper : Option Effect → Option Effect → Type 0
+  OptionDeeper None None = Unit {0}
+  OptionDeeper None (Some g) = ⊥
+  OptionDeeper (Some f) None = ⊥
+  OptionDeeper (Some f) (Some g) = AreDeeper f g
+
+  same_options : (o : Option Expr) (options : List (Option Expr)) (f g : Effect) → AreDeeper f g → (cs ds : List (Option Expr × Effect))
+      → ChoicesDeeper cs ds → ChoicesDeeper (map (λ (option : Option Expr). (option, f)) options ++ cs)
+      (map (λ (option : Option Expr). (option, g)) options ++ ds)
+  same_options o [] f g h cs ds k = k
+  same_options o (p ∷ options) f g h cs ds k = ((refl, h), same_options o options f g h cs ds k)
+
+  choices_deeper : (xs : List KnownCaseArm)
+      → ChoicesDeeper (flat_map options_of (map case_in (map (λ (x : KnownCaseArm). x.0) xs)))
+      (flat_map options_of (map case_more (map (λ (x : KnownCaseArm). x.0) xs)))
+  choices_deeper [] = tt
+  choices_deeper (x ∷ xs) =
+      subst (λ (w : List (Option Expr)). ChoicesDeeper
+      (map (λ (option : Option Expr). (option, (case_in x.0).1)) (case_in x.0).0
+      ++ flat_map options_of (map case_in (map (λ (x : KnownCaseArm). x.0) xs)))
+      (map (λ (option : Option Expr). (option, (case_more x.0).1)) w
+      ++ flat_map options_of (map case_more (map (λ (x : KnownCaseArm). x.0) xs))))
+      x.1.0 (same_options None (case_in x.0).0 (case_in x.0).1 (case_more x.0).1 x.1.1 _ _ (choices_deeper xs))
+
+  default_deeper : (cs ds : List (Option Expr × Effect)) → ChoicesDeeper cs ds → OptionDeeper (default_block cs) (default_block ds)
+  default_deeper [] [] h = tt
+  default_deeper [] (d ∷ ds) h = absurd h
+  default_deeper (c ∷ cs) [] h = absurd h
+  default_deeper ((None, f) ∷ cs) ((None, g) ∷ ds) h = h.0.1
+  default_deeper ((None, f) ∷ cs) ((Some e, g) ∷ ds) h = cc (h.0.0)
+  default_deeper ((Some e, f) ∷ cs) ((None, g) ∷ ds) h = cc (h.0.0)
+  default_deeper ((Some e, f) ∷ cs) ((Some d, g) ∷ ds) h = default_deeper cs ds h.1
+
+  chosen_deeper : (o p : Option Effect) → OptionDeeper o p → AreDeeper (chosen_block None o) (chosen_block None p)
+  chosen_deeper None None h s = inl refl
+  chosen_deeper None (Some g) h s = absurd h
+  chosen_deeper (Some f) None h s = absurd h
+  chosen_deeper (Some f) (Some g) h s = h s
+
+  found_deeper : (s : State) (at : ℕ) (x : Value) (cs ds : List (Option Expr × Effect)) → ChoicesDeeper cs ds → (o p : Option Effect)
+      → OptionDeeper o p
+      → Deeper (first_option s.scopes at x cs >>= λ found. chosen_block found o s)
+      (first_option s.scopes at x ds >>= λ found. chosen_block found p s)
+  found_deeper s at x [] [] h o p k = chosen_deeper o p k s
+  found_deeper s at x [] (d ∷ ds) h o p k = absurd h
+  found_deeper s at x (c ∷ cs) [] h o p k = absurd h
+  found_deeper s at x (c ∷ cs) (d ∷ ds) h o p k =
+      subst (λ (w : Option Expr). Deeper (first_option s.scopes at x (c ∷ cs) >>= λ found. chosen_block found o s)
+      ((is_option s.scopes at x w >>= λ b. cond b (Ok (Some d.1)) (first_option s.scopes at x ds)) >>= λ found. chosen_block found p s))
+      h.0.0 (tested (is_option s.scopes at x c.0) (found_deeper s at x cs ds h.1 o p k))
+    where
+      tested : (r : Result Bool Refusal) → Deeper (first_option s.scopes at x cs >>= λ found. chosen_block found o s)
+          (first_option s.scopes at x ds >>= λ found. chosen_block found p s)
+          → Deeper ((r >>= λ b. cond b (Ok (Some c.1)) (first_option s.scopes at x cs)) >>= λ found. chosen_block found o s)
+          ((r >>= λ b. cond b (Ok (Some d.1)) (first_option s.scopes at x ds)) >>= λ found. chosen_block found p s)
+      tested (Ok true) rest = h.0.1 s
+      tested (Ok false) rest = rest
+      tested (Err e) rest = inl refl
+
+  selected_deeper : (e : Expr) (cs ds : List (Option Expr × Effect)) → ChoicesDeeper cs ds
+      → AreDeeper (selected_block e cs) (selected_block e ds)
+  selected_deeper e cs ds h s =
+      on_deeper (value_of s.scopes e) _ _ (λ x. found_deeper s e.at x cs ds h (default_block cs) (default_block ds)
+      (default_deeper cs ds h))
+
+  abbrev inner : Stmt-F KnownStmt KnownArm KnownCaseArm → Stmt-F Stmt Arm CaseArm
+  inner y = map-Stmt KnownStmt KnownArm KnownCaseArm Stmt Arm CaseArm (λ x. x.0) (λ a. a.0) (λ c. c.0) y
+
+  layer_deeper : (y : Stmt-F KnownStmt KnownArm KnownCaseArm) → AreDeeper (layer_of site bodies (inner y)) (layer_of site more (inner y))
+  layer_deeper (plain.Chain at operands arrows) = chained_deeper at operands arrows
+  layer_deeper (plain.Assign at name value) = λ s. inl refl
+  layer_deeper (plain.Call at f args) = called_deeper at f args
+  layer_deeper (plain.If at arms other) = if_arms_deeper arms _ _ (block_deeper other)
+  layer_deeper (plain.Unless at test body other) = unless_deeper test _ _ _ _ (block_deeper body) (block_deeper other)
+  layer_deeper (plain.Case at value arms) = selected_deeper value _ _ (choices_deeper arms)
+
+  effects_deeper : (x : Stmt) → AreDeeper (effect_with site bodies x) (effect_with site more x)
+  effects_deeper =
+      ind-Stmt (λ x. AreDeeper (effect_with site bodies x) (effect_with site more x)) (λ a. ArmDeeper (arm_in a) (arm_more a))
+      (λ c. CaseDeeper (case_in c) (case_more c))
+      (λ x y is. subst (λ (z : Stmt-F Stmt Arm CaseArm). AreDeeper (effect_with site bodies (roll-Stmt z))
+      (effect_with site more (roll-Stmt z))) is
+      (subst (λ (f : Effect). AreDeeper f (effect_with site more (roll-Stmt (inner y)))) (sym (rolled site bodies (inner y)))
+      (subst (λ (f : Effect). AreDeeper (layer_of site bodies (inner y)) f) (sym (rolled site more (inner y))) (layer_deeper y))))
+      (λ x y is. subst (λ (z : Arm-F Stmt Arm CaseArm). ArmDeeper (arm_in (roll-Arm z)) (arm_more (roll-Arm z))) is
+      (let d = map-Arm KnownStmt KnownArm KnownCaseArm Stmt Arm CaseArm (λ x. x.0) (λ a. a.0) (λ c. c.0) y in
+      subst (λ (a : Arms). ArmDeeper a (arm_more (roll-Arm d))) (sym (rolled_arm site bodies d))
+      (subst (λ (a : Arms). ArmDeeper (d.test, in_turn (map (effect_with site bodies) d.body)) a) (sym (rolled_arm site more d))
+      (refl, block_deeper y.body))))
+      (λ x y is. subst (λ (z : CaseArm-F Stmt Arm CaseArm). CaseDeeper (case_in (roll-CaseArm z)) (case_more (roll-CaseArm z))) is
+      (let d = map-CaseArm KnownStmt KnownArm KnownCaseArm Stmt Arm CaseArm (λ x. x.0) (λ a. a.0) (λ c. c.0) y in
+      subst (λ (a : CaseArms). CaseDeeper a (case_more (roll-CaseArm d))) (sym (rolled_case_arm site bodies d))
+      (subst (λ (a : CaseArms). CaseDeeper (d.options, in_turn (map (effect_with site bodies) d.body)) a)
+      (sym (rolled_case_arm site more d)) (refl, block_deeper y.body))))
+
+-- One more open body changes nothing but what was too deep.
+pub one_deeper : (n : ℕ) (site : Site) (x : Stmt) (s : State) → Deeper (effect_at n site x s) (effect_at (suc n) site x s)
+one_deeper zero site x s = effects_deeper site None (Some (effect_at zero site)) tt x s
+one_deeper (suc n) site x s = effects_deeper site (Some (effect_at n site)) (Some (effect_at (suc n) site)) (one_deeper n site) x s

@@ -1,0 +1,140 @@
+-- The resources of a catalog are sound.
+use Rattle.std.proofs.Common.{◌≡◌, ℕ, Bool, true, false, cond, List, [], ◌∷◌, ◌++◌, map, Result, Ok, Err, sym, subst}
+use Rattle.std.specs.Prelude.{filter}
+use Rattle.std.specs.List.{AllByRecursion}
+use Rattle.std.specs.Str.{bytes_eq}
+use Rattle.rh_base.specs.declared.fault.Refusal.{Refusal}
+use Rattle.pp_syntax.specs.declared.tree.Manifest.{Manifest}
+use Rattle.pp_value.specs.declared.value.Value.{Value}
+use Rattle.pp_value.specs.Values.{Pair}
+use Rattle.pp_eval.specs.Verdicts.{◌>>=◌}
+use Rattle.pp_eval.specs.Scoping.{pairs_in}
+use Rattle.pp_data.specs.declared.data.Level.{Level}
+use Rattle.catalog_semantics.specs.declared.catalog.Resource.{Resource}
+use Rattle.catalog_semantics.specs.Sites.{site_of}
+use Rattle.catalog_semantics.specs.States.{State, Default, defaults_of, lacks, is_class, filled, as_added, with_resource, is_new, has_room}
+use Rattle.catalog_semantics.specs.States.{has_size, added}
+use Rattle.catalog_semantics.specs.Attributes.{AreClean}
+use Rattle.catalog_semantics.specs.Catalogs.{filled_behind, main_ended, first_state, is_called_for, made_real, state_after, round_limit}
+use Rattle.catalog_semantics.specs.Catalogs.{all_there, few_enough, Catalog, catalog_in, catalog_of}
+use Rattle.catalog_semantics.specs.Frames.{Each, IsSound, AreSound}
+use Rattle.catalog_semantics.proofs.Keeping.{Keeps, step_each, then_each, if_each, bound_each}
+use Rattle.catalog_semantics.proofs.Clean.{both_clean}
+use Rattle.catalog_semantics.proofs.Whole.{IsWholeFrame, whole_keeps, few_is}
+
+-- the resources are sound, and the defaults clean
+pub record SoundState (s : State) : Type 0 where
+  pub resources : AreSound s.resources
+  pub defaults : AllByRecursion (λ (d : Default). AreClean d.attributes) s.defaults
+
+abbrev StaySound : State → State → Type 0
+StaySound s t = SoundState s → SoundState t
+
+each_more : {A : Type 0} (P : A → Type 0) (xs : List A) (y : A) → AllByRecursion P xs → P y → AllByRecursion P (xs ++ y ∷ [])
+each_more P [] y h k = (k, tt)
+each_more P (x ∷ xs) y h k = (h.0, each_more P xs y h.1 k)
+
+each_both : {A : Type 0} (P : A → Type 0) (xs ys : List A) → AllByRecursion P xs → AllByRecursion P ys → AllByRecursion P (xs ++ ys)
+each_both P [] ys h k = k
+each_both P (x ∷ xs) ys h k = (h.0, each_both P xs ys h.1 k)
+
+if_clean : (b : Bool) (xs ys : List Pair) → AreClean xs → AreClean ys → AreClean (cond b xs ys)
+if_clean true xs ys h k = h
+if_clean false xs ys h k = k
+
+defaults_clean : (kind : List ℕ) (defaults : List Default) → AllByRecursion (λ (d : Default). AreClean d.attributes) defaults
+    → AreClean (defaults_of kind defaults)
+defaults_clean kind [] h = tt
+defaults_clean kind (d ∷ defaults) h =
+    if_clean (bytes_eq d.kind kind) _ _ (both_clean d.attributes (defaults_of kind defaults) h.0 (defaults_clean kind defaults h.1))
+    (defaults_clean kind defaults h.1)
+
+filter_clean : (test : Pair → Bool) (xs : List Pair) → AreClean xs → AreClean (filter test xs)
+filter_clean test [] h = tt
+filter_clean test (x ∷ xs) h =
+    if_clean (test x) (x ∷ filter test xs) (filter test xs) (h.0, filter_clean test xs h.1) (filter_clean test xs h.1)
+
+if_sound : (b : Bool) (x y : Resource) → IsSound x → IsSound y → IsSound (cond b x y)
+if_sound true x y h k = h
+if_sound false x y h k = k
+
+filled_sound : (defaults : List Default) (r : Resource) → AllByRecursion (λ (d : Default). AreClean d.attributes) defaults → IsSound r
+    → IsSound (filled defaults r)
+filled_sound defaults r d h =
+    if_sound (is_class r) r _ h (
+      both_clean r.attrs _ h.0
+          (filter_clean (lacks r.attrs) (defaults_of r.id.kind defaults) (defaults_clean r.id.kind defaults d)),
+      h.1,
+    )
+
+adds_sound : (r : Resource) → IsSound r → Keeps StaySound (added r)
+adds_sound r sound s = step_each (StaySound s) (is_new r s) _ (λ new. step_each (StaySound s) (has_room r s) _ (λ room.
+    if_each (StaySound s) _ (Err _) (Ok (with_resource s (as_added s r))) tt (λ h. record {
+      resources =
+          each_more IsSound s.resources (as_added s r) h.resources
+          (if_sound s.main_has_ended (filled s.defaults r) r (filled_sound s.defaults r h.defaults sound) sound);
+      defaults = h.defaults;
+    })))
+
+fills_sound : (done resources : List Resource) (s : State) → AllByRecursion (λ (d : Default). AreClean d.attributes) s.defaults
+    → AreSound done → AreSound resources → Each SoundState (filled_behind done resources s)
+fills_sound done [] s d h k = record { resources = h; defaults = d }
+fills_sound done (r ∷ resources) s d h k =
+    step_each SoundState (has_size r.at (record s { resources = done ++ filled s.defaults r ∷ resources })) _ (λ fits.
+    fills_sound (done ++ filled s.defaults r ∷ []) resources s d
+    (each_more IsSound done (filled s.defaults r) h (filled_sound s.defaults r d k.0)) k.1)
+
+under : (P Q : State → Type 0) (A : Type 0) (x : Result State Refusal) → (A → Each Q x) → Each (λ t. A → Q t) x
+under P Q A (Ok t) h = h
+under P Q A (Err e) h = tt
+
+real_sound : (s : State) (resources : List Resource) → AreSound resources → AreSound (map (made_real s) resources)
+real_sound s [] h = tt
+real_sound s (r ∷ resources) h = (if_sound (is_called_for s r) (record r { is_virtual = false }) r h.0 h.0, real_sound s resources h.1)
+
+whole_sound : IsWholeFrame StaySound
+whole_sound = record {
+  main = record {
+    frame = record {
+      same = λ s h. h;
+      joined = λ s t u h k x. k (h x);
+      binds = λ at name x s. bound_each (StaySound s) at name x s (λ h. record { resources = h.resources; defaults = h.defaults });
+      adds = adds_sound;
+      bodies =
+          λ place scope s t u h k x. let a = h (record { resources = x.resources; defaults = x.defaults }) in
+          let b = k (record { resources = a.resources; defaults = a.defaults }) in
+          record { resources = b.resources; defaults = b.defaults };
+      holds = λ outer class s h. record { resources = h.resources; defaults = h.defaults };
+      ties = λ ties s h. record { resources = h.resources; defaults = h.defaults };
+      collects = λ c s h. record { resources = h.resources; defaults = h.defaults };
+      wants = λ more s h. record { resources = h.resources; defaults = h.defaults };
+    };
+    gives =
+        λ kind attributes clean s h. record {
+          resources = h.resources;
+          defaults = each_more (λ (d : Default). AreClean d.attributes) s.defaults _ h.defaults clean;
+        };
+    enters = λ s h. record { resources = h.resources; defaults = h.defaults };
+    fills =
+        λ s. under SoundState SoundState (SoundState s) (main_ended s)
+        (λ h. fills_sound [] s.resources (record s { main_has_ended = true }) h.defaults tt h.resources);
+  };
+  realizes = λ s h. record { resources = real_sound s s.resources h.resources; defaults = h.defaults };
+  marks = λ place s h. record { resources = h.resources; defaults = h.defaults };
+}
+
+abbrev CatalogSound : Catalog → Type 0
+CatalogSound c = AreSound c.resources
+
+ends_sound : (t : State) → SoundState t → Each CatalogSound (all_there t.pending t >>= λ there. few_enough t >>= λ u. Ok (catalog_in u))
+ends_sound t h = step_each CatalogSound (all_there t.pending t) _ (λ there.
+    then_each (λ (u : State). u ≡ t) CatalogSound (few_enough t) _ (few_is t)
+    (λ u e. subst (λ (w : State). AreSound w.resources) (sym e) h.resources))
+
+pub catalog_sound : (m : Manifest) (facts : Value) (node_name : List ℕ) (data_levels : List Level) (c : Catalog)
+    → catalog_of m facts node_name data_levels ≡ Ok c → AreSound c.resources
+catalog_sound m facts node_name data_levels c h =
+    subst (Each CatalogSound) h (step_each CatalogSound (site_of m data_levels (pairs_in facts) node_name) _ (λ site.
+    then_each (StaySound (first_state facts)) CatalogSound (state_after round_limit site m.items facts) _
+    (whole_keeps StaySound whole_sound site m.items round_limit (first_state facts))
+    (λ t k. ends_sound t (k (record { resources = tt; defaults = tt })))))

@@ -1,0 +1,185 @@
+-- What is so of a whole manifest, where each single change and each round keeps it.
+use Rattle.std.proofs.Common.{◌≡◌, ℕ, zero, suc, Bool, true, false, cond, List, [], ◌∷◌, ◌++◌, map, Option, Some, None, Result, Ok, Err}
+use Rattle.std.proofs.Common.{refl, sym, ap, subst, ◌∙◌, append_assoc}
+use Rattle.std.proofs.lemmas.List.{append-nil}
+use Rattle.rh_base.specs.declared.fault.Refusal.{Refusal}
+use Rattle.pp_syntax.specs.declared.tree.Attr.{Attr}
+use Rattle.pp_syntax.specs.declared.tree.Item.{Item}
+use Rattle.pp_syntax.specs.declared.tree.Item.TheVariants as item
+use Rattle.pp_syntax.specs.declared.tree.Manifest.{Manifest}
+use Rattle.pp_value.specs.declared.value.Ref.{Ref}
+use Rattle.pp_value.specs.declared.value.Value.{Value}
+use Rattle.pp_value.specs.Values.{Pair}
+use Rattle.pp_eval.specs.References.{plain_name}
+use Rattle.pp_eval.specs.Verdicts.{◌>>=◌}
+use Rattle.pp_eval.specs.Scoping.{entered, node_scope_new, defined_scope, pairs_in}
+use Rattle.pp_data.specs.declared.data.Level.{Level}
+use Rattle.catalog_semantics.specs.declared.catalog.Resource.{Resource}
+use Rattle.catalog_semantics.specs.Sites.{Definition, Node, Site, site_of, definition_of, node_block}
+use Rattle.catalog_semantics.specs.States.{State, Effect, in_turn, references_of, defaults_of, filled, has_size}
+use Rattle.catalog_semantics.specs.Attributes.{attributes_behind, AreClean}
+use Rattle.catalog_semantics.proofs.Clean.{all_clean}
+use Rattle.catalog_semantics.specs.Declaring.{named_type}
+use Rattle.catalog_semantics.specs.Effects.{effect_of}
+use Rattle.catalog_semantics.specs.Catalogs.{names_of, with_default, default_given, filled_behind, item_effect, node_effect, main_ended}
+use Rattle.catalog_semantics.specs.Catalogs.{first_state, main_code, is_called_for, made_real, realized, next_due, marked, type_runs}
+use Rattle.catalog_semantics.specs.Catalogs.{resource_runs, run_and_go_on, rounds, state_after, round_limit, all_there, few_enough, Catalog}
+use Rattle.catalog_semantics.specs.Catalogs.{catalog_in, catalog_from, catalog_of}
+use Rattle.catalog_semantics.specs.Frames.{Each, StandOnce}
+use Rattle.catalog_semantics.proofs.Keeping.{Keeps, IsFrame, step_each, then_each, if_each, then_keep, all_keep, body_keeps}
+use Rattle.catalog_semantics.proofs.Keeping.{statement_keeps}
+use Rattle.catalog_semantics.proofs.Once.{StandStill, standing, filled_id}
+
+-- what the main code keeps between its statements too
+pub record IsMainFrame (R : State → State → Type 0) : Type 0 where
+  pub frame : IsFrame R
+  pub gives : (kind : List ℕ) (attributes : List Pair) → AreClean attributes → (s : State) → R s (with_default kind attributes s)
+  pub enters : (s : State) → R s (record s { scopes = entered s.scopes node_scope_new })
+  pub fills : Keeps R main_ended
+
+-- and what the rounds keep
+pub record IsWholeFrame (R : State → State → Type 0) : Type 0 where
+  pub main : IsMainFrame R
+  pub realizes : (s : State) → R s (realized s)
+  pub marks : (place : ℕ) (s : State) → R s (marked place s)
+
+module _ (R : State → State → Type 0) (whole : IsMainFrame R) (site : Site) where
+  default_keeps : (at : ℕ) (kind : List ℕ) (attrs : List Attr) → Keeps R (default_given site at kind attrs)
+  default_keeps at kind attrs s = step_each (R s) (named_type site at (plain_name kind)) _ (λ known.
+      then_each AreClean (R s) (attributes_behind s.scopes (names_of (defaults_of known s.defaults)) attrs) _
+      (all_clean s.scopes (names_of (defaults_of known s.defaults)) attrs) (λ attributes clean. whole.gives known attributes clean s))
+
+  item_keeps : (x : Item) → Keeps R (item_effect site x)
+  item_keeps (item.Class at name params parent body) = whole.frame.same
+  item_keeps (item.Define at name params body) = whole.frame.same
+  item_keeps (item.Node at names body) = whole.frame.same
+  item_keeps (item.Defaults at kind attrs) = default_keeps at kind attrs
+  item_keeps (item.Plain x) = statement_keeps R whole.frame site x
+
+  from_there : (s t : State) → R s t → (x : Result State Refusal) → Each (R t) x → Each (R s) x
+  from_there s t h (Ok u) k = whole.frame.joined s t u h k
+  from_there s t h (Err e) k = tt
+
+  node_keeps : (node : Option Node) → Keeps R (node_effect site node)
+  node_keeps None s = whole.frame.same s
+  node_keeps (Some node) s =
+      from_there s (record s { scopes = entered s.scopes node_scope_new }) (whole.enters s) _
+      (all_keep R whole.frame (effect_of site) node.body (statement_keeps R whole.frame site)
+      (record s { scopes = entered s.scopes node_scope_new }))
+
+  pub main_keeps : (items : List Item) → Keeps R (main_code site items)
+  main_keeps items s =
+      then_keep R whole.frame s (in_turn (map (item_effect site) items) s) (λ t. node_effect site (node_block site) t >>= main_ended)
+      (all_keep R whole.frame (item_effect site) items item_keeps s) (λ t.
+      then_keep R whole.frame t (node_effect site (node_block site) t) main_ended (node_keeps (node_block site) t) whole.fills)
+
+module _ (R : State → State → Type 0) (whole : IsWholeFrame R) (site : Site) where
+  begins_there : (s t : State) → R s t → (x : Result State Refusal) → Each (R t) x → Each (R s) x
+  begins_there s t h (Ok u) k = whole.main.frame.joined s t u h k
+  begins_there s t h (Err e) k = tt
+
+  pub type_keeps : (place : ℕ) (r : Resource) (d : Option Definition) → Keeps R (type_runs site place r d)
+  type_keeps place r None s = whole.marks place s
+  type_keeps place r (Some d) s =
+      begins_there s (marked place s) (whole.marks place s) _
+      (body_keeps R whole.main.frame (effect_of site) (statement_keeps R whole.main.frame site) d place r defined_scope (marked place s))
+
+  run_keeps : (go_on : Effect) → Keeps R go_on → (x : Option (ℕ × Resource)) → Keeps R (run_and_go_on site go_on x)
+  run_keeps go_on h None s = whole.main.frame.same s
+  run_keeps go_on h (Some x) s =
+      then_keep R whole.main.frame s (resource_runs site x s) go_on (type_keeps x.0 x.1 (definition_of x.1.id.kind site.defined_types) s) h
+
+  pub rounds_keep : (n : ℕ) → Keeps R (rounds n site)
+  rounds_keep zero s = whole.main.frame.same s
+  rounds_keep (suc n) s =
+      begins_there s (realized s) (whole.realizes s) _
+      (run_keeps (rounds n site) (rounds_keep n) (next_due (realized s) 0 (realized s).resources) (realized s))
+
+  -- the main code and then the rounds
+  pub whole_keeps : (items : List Item) (n : ℕ) (s : State) → Each (R s) (main_code site items s >>= rounds n site)
+  whole_keeps items n s =
+      then_keep R whole.main.frame s (main_code site items s) (rounds n site) (main_keeps R whole.main site items s) (rounds_keep n)
+
+-- ---- references
+
+-- the references of these resources, and what has run
+abbrev pub Same : List Resource → State → State → Type 0
+Same resources s t = (references_of t.resources ≡ references_of resources) × (t.ran ≡ s.ran)
+
+fills_same : (done resources : List Resource) (s : State) → Each (Same (done ++ resources) s) (filled_behind done resources s)
+fills_same done [] s = (ap references_of (sym (append-nil done)), refl)
+fills_same done (r ∷ resources) s =
+    step_each _ (has_size r.at (record s { resources = done ++ filled s.defaults r ∷ resources })) _ (λ fits.
+    behind (filled_behind (done ++ filled s.defaults r ∷ []) resources s) (fills_same (done ++ filled s.defaults r ∷ []) resources s))
+  where
+    same_refs : (done : List Resource) → references_of (done ++ filled s.defaults r ∷ resources) ≡ references_of (done ++ r ∷ resources)
+    same_refs [] = ap (λ (w : Ref). w ∷ references_of resources) (filled_id s.defaults r)
+    same_refs (q ∷ done) = ap (λ (w : List Ref). q.id ∷ w) (same_refs done)
+
+    behind : (x : Result State Refusal) → Each (Same ((done ++ filled s.defaults r ∷ []) ++ resources) s) x
+        → Each (Same (done ++ r ∷ resources) s) x
+    behind (Ok t) h = (h.0 ∙ ap references_of (append_assoc done (filled s.defaults r ∷ []) resources) ∙ same_refs done, h.1)
+    behind (Err e) h = tt
+
+pub ends_same : (s : State) → Each (Same s.resources s) (main_ended s)
+ends_same s = fills_same [] s.resources (record s { main_has_ended = true })
+
+real_id : (s : State) (r : Resource) → (made_real s r).id ≡ r.id
+real_id s r = either (is_called_for s r)
+  where
+    either : (b : Bool) → (cond b (record r { is_virtual = false }) r).id ≡ r.id
+    either true = refl
+    either false = refl
+
+real_refs : (s : State) (resources : List Resource) → references_of (map (made_real s) resources) ≡ references_of resources
+real_refs s [] = refl
+real_refs s (r ∷ resources) = λ i. real_id s r i ∷ real_refs s resources i
+
+pub mapped : (P Q : State → Type 0) (x : Result State Refusal) → ((t : State) → P t → Q t) → Each P x → Each Q x
+mapped P Q (Ok t) h k = h t k
+mapped P Q (Err e) h k = tt
+
+main_standing : IsMainFrame StandStill
+main_standing = record {
+  frame = standing;
+  gives = λ kind attributes clean s h. h;
+  enters = λ s h. h;
+  fills = λ s. mapped (Same s.resources s) (StandStill s) (main_ended s) (λ t e h. subst StandOnce (sym e.0) h) (ends_same s);
+}
+
+pub whole_standing : IsWholeFrame StandStill
+whole_standing = record {
+  main = main_standing;
+  realizes = λ s h. subst StandOnce (sym (real_refs s s.resources)) h;
+  marks = λ place s h. h;
+}
+
+-- ---- the catalog
+
+pub there_is : (pending : List _) (s : State) → Each (λ t. t ≡ s) (all_there pending s)
+there_is [] s = refl
+there_is (p ∷ pending) s = if_each (λ (t : State). t ≡ s) _ (all_there pending s) (Err _) (there_is pending s) tt
+
+pub few_is : (s : State) → Each (λ t. t ≡ s) (few_enough s)
+few_is s = if_each (λ (t : State). t ≡ s) _ (Err _) (Ok s) tt refl
+
+abbrev pub CatalogStands : Catalog → Type 0
+CatalogStands c = StandOnce (references_of c.resources)
+
+ends_standing : (t : State) → StandOnce (references_of t.resources)
+    → Each CatalogStands (all_there t.pending t >>= λ there. few_enough t >>= λ u. Ok (catalog_in u))
+ends_standing t h = step_each CatalogStands (all_there t.pending t) _ (λ there.
+    then_each (λ (u : State). u ≡ t) CatalogStands (few_enough t) _ (few_is t)
+    (λ u e. subst (λ (w : State). StandOnce (references_of w.resources)) (sym e) h))
+
+from_standing : (site : Site) (items : List Item) (facts : Value) → Each CatalogStands (catalog_from site items facts)
+from_standing site items facts =
+    then_each (StandStill (first_state facts)) CatalogStands (state_after round_limit site items facts) _
+    (whole_keeps StandStill whole_standing site items round_limit (first_state facts)) (λ t k. ends_standing t (k tt))
+
+-- Each reference stands once in the catalog of a manifest.
+pub catalog_stands : (m : Manifest) (facts : Value) (node_name : List ℕ) (data_levels : List Level) (c : Catalog)
+    → catalog_of m facts node_name data_levels ≡ Ok c → StandOnce (references_of c.resources)
+catalog_stands m facts node_name data_levels c h =
+    subst (Each CatalogStands) h (step_each CatalogStands (site_of m data_levels (pairs_in facts) node_name) _
+    (λ site. from_standing site m.items facts))

@@ -1,0 +1,113 @@
+-- Which of two values counts, and where a reference stands.
+use Rattle.std.proofs.Common.{◌≡◌, ℕ, zero, suc, ◌<◌, Bool, true, false, cond, not, ◌&&◌, ◌||◌, List, [], ◌∷◌, ◌++◌}
+use Rattle.std.proofs.Common.{Option, Some, None, Ok, refl, sym, ap, subst, append_assoc, slice_get, take, ⊎_elim, arith, filter}
+use Rattle.std.proofs.lemmas.Bool.{cases_lt}
+use Rattle.std.proofs.lemmas.List.{append-nil}
+use Rattle.std.proofs.lemmas.Slice.Eq.{bytes_eq-Decides}
+use Rattle.std.specs.Option.{option_or}
+use Rattle.std.specs.Str.{bytes_eq}
+use Rattle.pp_value.specs.declared.value.Ref.{Ref}
+use Rattle.pp_value.specs.declared.value.Value.{Value}
+use Rattle.pp_value.specs.Values.{Pair, value_at, same_ref}
+use Rattle.pp_eval.specs.Verdicts.{limited}
+use Rattle.catalog_semantics.specs.declared.catalog.Resource.{Resource}
+use Rattle.catalog_semantics.specs.Sites.{Parameter, Node, Site, node_of, node_block}
+use Rattle.catalog_semantics.specs.States.{State, Default, stands_in, defaults_of, lacks, is_class, filled}
+use Rattle.catalog_semantics.specs.Declaring.{given_or_else, looked_up}
+use Rattle.catalog_semantics.specs.Frames.{AreNewBehind, StandOnce}
+use Rattle.catalog_semantics.specs.Catalogs.{is_called_for, made_real}
+
+pub given_wins : (r : Resource) (p : Parameter) (x : Value) (s : State) → given_or_else r p (Some x) s ≡ Ok x
+given_wins r p x s = refl
+
+pub data_wins : (r : Resource) (p : Parameter) (x : Value) (s : State) → p.from_data ≡ Some x → given_or_else r p None s ≡ limited r.at x
+data_wins r p x s h = ap (λ (o : Option Value). looked_up r p o s) h
+
+if_first : (b : Bool) (a c d : Option Value) (x : Value) → (c ≡ Some x → d ≡ Some x) → cond b a c ≡ Some x → cond b a d ≡ Some x
+if_first true a c d x h e = e
+if_first false a c d x h e = h e
+
+stays_first : (name : List ℕ) (x : Value) (pairs more : List Pair) → value_at name pairs ≡ Some x → value_at name (pairs ++ more) ≡ Some x
+stays_first name x [] more h = cc
+stays_first name x (p ∷ pairs) more h =
+    if_first (bytes_eq p.0 name) (Some p.1) (value_at name pairs) (value_at name (pairs ++ more)) x (stays_first name x pairs more) h
+
+pub attribute_wins : (defaults : List Default) (r : Resource) (name : List ℕ) (x : Value) → value_at name r.attrs ≡ Some x
+    → value_at name (filled defaults r).attrs ≡ Some x
+attribute_wins defaults r name x h = either (is_class r)
+  where
+    more : List Pair
+    more = filter (lacks r.attrs) (defaults_of r.id.kind defaults)
+
+    either : (b : Bool) → value_at name (cond b r
+        (record r {
+          attrs = (r.attrs ++ filter (lacks r.attrs) (defaults_of r.id.kind defaults));
+        })).attrs ≡ Some x
+    either true = h
+    either false = stays_first name x r.attrs _ h
+
+pub node_wins : (site : Site) (n : Node) → node_of (Some site.node_name) site.nodes ≡ Some n → node_block site ≡ Some n
+node_wins site n h = ap (λ (o : Option Node). option_or o (node_of None site.nodes)) h
+
+pub real_is : (s : State) (r : Resource) → (made_real s r).is_virtual ≡ (r.is_virtual && not (is_called_for s r))
+real_is s r = either (is_called_for s r)
+  where
+    and_true : (a : Bool) → a ≡ (a && true)
+    and_true true = refl
+    and_true false = refl
+
+    and_false : (a : Bool) → false ≡ (a && false)
+    and_false true = refl
+    and_false false = refl
+
+    either : (b : Bool) → (cond b (record r { is_virtual = false }) r).is_virtual ≡ (r.is_virtual && not b)
+    either true = and_false r.is_virtual
+    either false = and_true r.is_virtual
+
+-- ---- places
+
+same_self : (r : Ref) → same_ref r r ≡ true
+same_self r = both (bytes_eq r.kind r.kind) (bytes_eq r.title r.title) (text_self r.kind) (text_self r.title)
+  where
+    both : (a b : Bool) → a ≡ true → b ≡ true → (a && b) ≡ true
+    both true b h k = k
+    both false b h k = h
+
+    text_self : (xs : List ℕ) → bytes_eq xs xs ≡ true
+    text_self xs = (bytes_eq-Decides xs xs).1 refl
+
+or_holds : (a b : Bool) → a ≡ true → (a || b) ≡ true
+or_holds true b h = refl
+or_holds false b h = cc
+
+or_behind : (a b : Bool) → b ≡ true → (a || b) ≡ true
+or_behind true b h = refl
+or_behind false b h = h
+
+is_same : (q r : Ref) → ◌≡◌ {A = Option Ref} (Some q) (Some r) → q ≡ r
+is_same q r h = cc
+
+stands_at : (refs : List Ref) (i j : ℕ) (r : Ref) → i < j → slice_get refs i ≡ Some r → stands_in r (take j refs) ≡ true
+stands_at refs i zero r h is = absurd (omega arith)
+stands_at [] i (suc j) r h is = cc
+stands_at (q ∷ refs) zero (suc j) r h is =
+    or_holds (same_ref q r) _ (subst (λ (w : Ref). same_ref q w ≡ true) (is_same q r is) (same_self q))
+stands_at (q ∷ refs) (suc i) (suc j) r h is = or_behind (same_ref q r) _ (stands_at refs i j r (omega arith) is)
+
+new_there : (before refs : List Ref) (j : ℕ) (r : Ref) → AreNewBehind before refs → slice_get refs j ≡ Some r
+    → stands_in r (before ++ take j refs) ≡ false
+new_there before [] j r h is = cc
+new_there before (q ∷ refs) zero r h is =
+    subst (λ (w : List Ref). stands_in r w ≡ false) (sym (append-nil before))
+    (subst (λ (w : Ref). stands_in w before ≡ false) (is_same q r is) h.0)
+new_there before (q ∷ refs) (suc j) r h is =
+    subst (λ (w : List Ref). stands_in r w ≡ false) (append_assoc before (q ∷ []) (take j refs))
+    (new_there (before ++ q ∷ []) refs j r h.1 is)
+
+not_before : (refs : List Ref) (i j : ℕ) (r : Ref) → StandOnce refs → slice_get refs i ≡ Some r → slice_get refs j ≡ Some r → i < j → ⊥
+not_before refs i j r h a b less = let yes_there = stands_at refs i j r less a in let not_there = new_there [] refs j r h b in cc
+
+pub one_place : (refs : List Ref) (i j : ℕ) (r : Ref) → StandOnce refs → slice_get refs i ≡ Some r → slice_get refs j ≡ Some r → i ≡ j
+one_place refs i j r h a b =
+    ⊎_elim (λ less. absurd (not_before refs i j r h a b less))
+    (λ more. ⊎_elim (λ less. absurd (not_before refs j i r h b a less)) (λ other. omega arith) (cases_lt j i)) (cases_lt i j)

@@ -1,0 +1,136 @@
+//! Laws of catalogs, as functions that do nothing.
+
+ghost use Rattle.std.specs.Prelude.{◌≡◌, ◌≤◌, suc, ℕ, Bool, true, false, ◌&&◌, ◌||◌};
+ghost use Rattle.std.specs.Prelude.{not, List, map, slice_get, Option, Some, None, Ok, length};
+ghost use Rattle.pp_syntax.specs.declared.tree.Item.{Item};
+ghost use Rattle.pp_syntax.specs.declared.tree.Manifest.{Manifest};
+ghost use Rattle.std.specs.List.{flat_map};
+ghost use Rattle.pp_syntax.specs.declared.tree.Stmt.{Stmt};
+ghost use Rattle.pp_syntax.specs.declared.tree.Stmt.TheVariants as stmt;
+ghost use Rattle.pp_syntax.specs.declared.tree.Expr.{Expr};
+ghost use Rattle.pp_syntax.specs.declared.tree.Func.{Func};
+ghost use Rattle.pp_syntax.specs.declared.tree.Operand.{Operand};
+ghost use Rattle.pp_syntax.specs.declared.tree.Arrow.{Arrow};
+ghost use Rattle.pp_syntax.specs.declared.tree.Arm.{Arm};
+ghost use Rattle.pp_syntax.specs.declared.tree.CaseArm.{CaseArm};
+ghost use Rattle.pp_value.specs.declared.value.Ref.{Ref};
+ghost use Rattle.pp_value.specs.declared.value.Value.{Value};
+ghost use Rattle.pp_value.specs.Values.{Pair, value_at};
+ghost use Rattle.pp_eval.specs.Verdicts.{limited};
+ghost use Rattle.pp_eval.specs.Scoping.{pairs_in};
+ghost use Rattle.pp_data.specs.declared.data.Level.{Level};
+ghost use Rattle.pp_data.specs.Lookup.{lookup};
+ghost use Rattle.catalog_semantics.specs.declared.catalog.Resource.{Resource};
+ghost use Rattle.catalog_semantics.specs.Sites.{Parameter, Definition, Node, Site, node_of, node_block};
+ghost use Rattle.catalog_semantics.specs.States.{State, Default, references_of, is_declared, filled};
+ghost use Rattle.catalog_semantics.specs.Declaring.{given_or_else, Bodies, class_ref, class_resource, class_runs, class_included};
+ghost use Rattle.catalog_semantics.specs.Effects.{assigned, chained, called, first_true, unless_true, selected_block, effect_with};
+ghost use Rattle.catalog_semantics.specs.Effects.{block_with, arm_with, options_with, effect_of, effect_at, bodies_at};
+ghost use Rattle.catalog_semantics.specs.Catalogs.{is_called_for, made_real, state_after, round_limit, IsSettled, Catalog, catalog_of};
+ghost use Rattle.catalog_semantics.specs.Frames.{Extends, StandOnce, AgreeOn, AreSound};
+ghost use Rattle.catalog_semantics.specs.Nesting.{Deeper};
+
+/// A statement only adds: to scopes, resources, holdings, ties, collectors and realizations. It ends in
+/// the scope and the body where it began.
+pub fn statements_only_add()
+    ensures { (site : Site) (x : Stmt) (s t : State) → effect_of site x s ≡ Ok t → Extends s t }
+{}
+
+/// What only adds may be followed by what only adds.
+pub fn additions_join()
+    ensures { (s t u : State) → Extends s t → Extends t u → Extends s u }
+{}
+
+/// A statement keeps it that each reference stands once.
+pub fn references_stay_apart()
+    ensures { (site : Site) (x : Stmt) (s t : State) → effect_of site x s ≡ Ok t → StandOnce (references_of s.resources)
+        → StandOnce (references_of t.resources) }
+{}
+
+/// In a catalog each reference stands once.
+pub fn references_stand_once()
+    ensures { (m : Manifest) (facts : Value) (node_name : List ℕ) (data_levels : List Level) (c : Catalog)
+        → catalog_of m facts node_name data_levels ≡ Ok c → StandOnce (references_of c.resources) }
+{}
+
+/// Where a class's body has run, the class wasn't declared before, and is from then on.
+pub fn bodies_run_once()
+    ensures before { (bodies : Bodies) (d : Definition) (at : ℕ) (attributes : List Pair) (s t : State)
+        → class_runs bodies d (class_resource at d.name attributes) s ≡ Ok t → is_declared (class_ref d.name) s ≡ false }
+    ensures stays { (ref : Ref) (s t : State) → Extends s t → is_declared ref s ≡ true → is_declared ref t ≡ true }
+    ensures again { (site : Site) (bodies : Bodies) (at : ℕ) (name : List ℕ) (s : State) → is_declared (class_ref name) s ≡ true
+        → class_included site bodies at name s ≡ Ok s }
+{}
+
+/// Class data whose look-ups agree, under the facts, for every parameter of every class that the manifest defines,
+/// give one catalog or one refusal.
+pub fn equal_look_ups_give_one_catalog()
+    ensures { (m : Manifest) (facts : Value) (node_name : List ℕ) (data_levels others : List Level)
+        → AgreeOn (lookup data_levels (pairs_in facts)) (lookup others (pairs_in facts)) m.items
+        → catalog_of m facts node_name data_levels ≡ catalog_of m facts node_name others }
+{}
+
+/// The rounds end: more of them than may be declared, and one more, change nothing. Then what is called for is real, and nothing is due.
+pub fn rounds_end()
+    ensures settled { (site : Site) (items : List Item) (facts : Value) (t : State) → state_after round_limit site items facts ≡ Ok t
+        → IsSettled t }
+    ensures enough { (site : Site) (items : List Item) (facts : Value) (n : ℕ) → round_limit ≤ n
+        → state_after n site items facts ≡ state_after round_limit site items facts }
+{}
+
+/// What one more open body of a class may change is only that too much was declared.
+pub fn nesting_decides_nothing_else()
+    ensures { (n : ℕ) (site : Site) (x : Stmt) (s : State) → Deeper (effect_at n site x s) (effect_at (suc n) site x s) }
+{}
+
+/// What a statement does, by what those in it do.
+pub fn statements_do_what_they_say()
+    ensures nested { (n : ℕ) (site : Site) → effect_at n site ≡ effect_with site (bodies_at n site) }
+    ensures chain { (site : Site) (bodies : Bodies) (at : ℕ) (operands : List Operand) (arrows : List Arrow)
+        → effect_with site bodies (stmt.Chain at operands arrows) ≡ chained site bodies at operands arrows }
+    ensures assign { (site : Site) (bodies : Bodies) (at : ℕ) (name : List ℕ) (value : Expr)
+        → effect_with site bodies (stmt.Assign at name value) ≡ assigned at name value }
+    ensures call { (site : Site) (bodies : Bodies) (at : ℕ) (func : Func) (args : List Expr)
+        → effect_with site bodies (stmt.Call at func args) ≡ called site bodies at func args }
+    ensures if_first { (site : Site) (bodies : Bodies) (at : ℕ) (arms : List Arm) (other : List Stmt)
+        → effect_with site bodies (stmt.If at arms other) ≡ first_true (map (arm_with site bodies) arms) (block_with site bodies other) }
+    ensures unless { (site : Site) (bodies : Bodies) (at : ℕ) (test : Expr) (body other : List Stmt)
+        → effect_with site bodies (stmt.Unless at test body other) ≡ unless_true test (block_with site bodies body)
+        (block_with site bodies other) }
+    ensures case { (site : Site) (bodies : Bodies) (at : ℕ) (value : Expr) (arms : List CaseArm)
+        → effect_with site bodies (stmt.Case at value arms) ≡ selected_block value (flat_map (options_with site bodies) arms) }
+{}
+
+/// Of a parameter the given value wins over that from class data, and this over the default.
+pub fn given_values_win()
+    ensures given { (r : Resource) (p : Parameter) (x : Value) (s : State) → given_or_else r p (Some x) s ≡ Ok x }
+    ensures data { (r : Resource) (p : Parameter) (x : Value) (s : State) → p.from_data ≡ Some x
+        → given_or_else r p None s ≡ limited r.at x }
+{}
+
+/// An attribute that a resource has wins over a default.
+pub fn attributes_win_over_defaults()
+    ensures { (defaults : List Default) (r : Resource) (name : List ℕ) (x : Value) → value_at name r.attrs ≡ Some x
+        → value_at name (filled defaults r).attrs ≡ Some x }
+{}
+
+/// The block of the node's name wins over that of `default`.
+pub fn named_nodes_win()
+    ensures { (site : Site) (n : Node) → node_of (Some site.node_name) site.nodes ≡ Some n → node_block site ≡ Some n }
+{}
+
+/// A round makes real exactly the virtual resources that a collector matches or a realization names.
+pub fn rounds_make_real()
+    ensures { (s : State) (r : Resource) → (made_real s r).is_virtual ≡ (r.is_virtual && not (is_called_for s r)) }
+{}
+
+/// Where each reference stands once, a reference has one place.
+pub fn references_have_one_place()
+    ensures { (refs : List Ref) (i j : ℕ) (r : Ref) → StandOnce refs → slice_get refs i ≡ Some r → slice_get refs j ≡ Some r → i ≡ j }
+{}
+
+/// In a catalog no attribute holds an opaque value, a metaparameter's value is references, and a plain resource is of a built-in type.
+pub fn catalogs_are_sound()
+    ensures { (m : Manifest) (facts : Value) (node_name : List ℕ) (data_levels : List Level) (c : Catalog)
+        → catalog_of m facts node_name data_levels ≡ Ok c → AreSound c.resources }
+{}
