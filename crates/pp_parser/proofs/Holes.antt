@@ -1,5 +1,5 @@
 -- The two cases of the grammar within `${` and `}` are those of the derivation.
-use Rattle.std.proofs.Common.{◌≡◌, ℕ, zero, suc, ◌+◌, ◌<◌, List, [], ◌∷◌, ◌++◌, length, refl, sym, ap, subst, ◌∙◌, arith, length-append, append_assoc}
+use Rattle.std.proofs.Common.{◌≡◌, ℕ, zero, suc, ◌<◌, List, [], ◌∷◌, ◌++◌, length, refl, sym, ap, subst, ◌∙◌, arith, length-append, append_assoc}
 use Rattle.std.specs.Prelude.{Option, codes}
 use Rattle.std.specs.Prelude as prelude
 use Rattle.pp_syntax.specs.declared.token.Kind.{Kind}
@@ -13,7 +13,6 @@ use Rattle.pp_syntax.specs.declared.tree.Form.TheOpen as plain
 use Rattle.pp_syntax.specs.Tokens.{Lexeme}
 use Rattle.pp_syntax.specs.Phrases.{◌then◌, Token, Sign, Tight, place_of}
 use Rattle.pp_syntax.specs.Derivation.{ReadAsVariable, base, index, kind_of_first, InnerOf, ChainOf, UnaryOf, StringOf, PrimaryOf, SuffixOf, SuffixesOf, PostfixOf, ExprOf, IsExprAt, IsExpr}
-use Rattle.pp_syntax.specs.Derivation as rule
 use Rattle.pp_syntax.specs.Holes.{IndexesOf, WordOf, IsInner}
 use Rattle.pp_syntax.specs.Holes as hole
 use Rattle.pp_readers.specs.Parsed.{NumbersFit}

@@ -38,6 +38,13 @@ module _ (e : Reader Expr) (E : Spells Expr) (t : Reader TypeName) (s : Reader S
   abbrev Stays : List Lexeme → Type 0
   Stays ts = item_with e t s ts ≡ plain_with s ts
 
+  -- one token and what is behind it, or two
+  by_one : (us more rest : List Lexeme) (a : Lexeme) → us ≡ a ∷ more → ((ts : List Lexeme) → Stays (a ∷ ts)) → Stays (us ++ rest)
+  by_one us more rest a w h = subst (λ u. Stays (u ++ rest)) (sym w) (h (more ++ rest))
+
+  by_two : (us more rest : List Lexeme) (a b : Lexeme) → us ≡ a ∷ b ∷ more → ((ts : List Lexeme) → Stays (a ∷ b ∷ ts)) → Stays (us ++ rest)
+  by_two us more rest a b w h = subst (λ u. Stays (u ++ rest)) (sym w) (h (more ++ rest))
+
   operand_stays : (y : Operand) (us rest : List Lexeme) → OperandOf E y us → Stays (us ++ rest)
   operand_stays y us rest (grammar.OperandOf.resource at true name bs p q r h) =
       by_one us h.back rest (record { kind = kind.Sign; text = codes "@"; at = h.first.0 }) (h.whole ∙ ap (λ r. r ++ h.back) h.first.1) (λ ts. refl)

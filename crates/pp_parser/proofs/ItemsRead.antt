@@ -1,5 +1,5 @@
 -- What is spelled is read: parameters, definitions, and whole manifests.
-use Rattle.std.proofs.Common.{◌≡◌, ◌≢◌, inl, inr, ℕ, zero, suc, ◌+◌, ◌<◌, true, false, cond, List, [], ◌∷◌, ◌++◌, length, Option, Some, None, refl, sym, ap, subst, ◌∙◌, append_assoc, length-append, arith}
+use Rattle.std.proofs.Common.{◌≡◌, ◌≢◌, inl, inr, ℕ, ◌+◌, ◌<◌, true, cond, List, [], ◌∷◌, ◌++◌, length, Option, Some, None, refl, sym, ap, subst, ◌∙◌, length-append, arith}
 use Rattle.std.specs.Prelude.{codes}
 use Rattle.std.proofs.lemmas.List.{append-nil}
 use Rattle.pp_syntax.specs.declared.token.Kind.{Kind}
@@ -20,9 +20,9 @@ use Rattle.pp_syntax.specs.Statements.{AttrOf, InBraces, BlockOf, BodiesOf, Oper
 use Rattle.pp_syntax.specs.Statements as grammar
 use Rattle.pp_readers.specs.Marks.{mark}
 use Rattle.rh_base.specs.Reading.{◌>>=◌}
-use Rattle.pp_readers.specs.Expressions.{with_first, string_with, separator, separator_or_end, after_comma, more_items, items, items_or_end, maybe_items}
-use Rattle.pp_readers.proofs.Reading.{Fit, fits_first, fits_second}
-use Rattle.pp_readers.proofs.Listing.{sign, maybe_row_read}
+use Rattle.pp_readers.specs.Expressions.{string_with}
+use Rattle.pp_readers.proofs.Reading.{Fit, fits_second}
+use Rattle.pp_readers.proofs.Listing.{maybe_row_read}
 use Rattle.pp_readers.specs.Combining.{Reader, both, behind, begins, is_found, listed}
 use Rattle.pp_readers.specs.Names.{taken, variable_by, ref_by}
 use Rattle.pp_readers.specs.Leads.{NothingFollows, BeginsStatement}

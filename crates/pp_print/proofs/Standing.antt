@@ -12,10 +12,6 @@ use Rattle.pp_syntax.specs.Bytes.{is_name}
 use Rattle.pp_syntax.specs.Opened.{in_quotes, in_hole, Ending}
 use Rattle.pp_syntax.specs.Tokens.{Lexeme, Of, begins, Segment, Joined, one, another, Name, Spelling, int_value}
 use Rattle.pp_syntax.specs.Spelling.{Fits, NumberStands, kind_at, TokenAt, Reads, ends, gap, token, stuck, Spells}
-use Rattle.pp_syntax.specs.declared.tree.Item.{Item}
-use Rattle.pp_syntax.specs.declared.tree.Manifest.{Manifest}
-use Rattle.pp_syntax.specs.Derivation.{IsExpr}
-use Rattle.pp_syntax.specs.Statements.{IsStmtAt, Items}
 use Rattle.pp_print.specs.Words.{has_dash}
 use Rattle.pp_print.proofs.Phrases.{Stands, AllStand}
 

@@ -7,19 +7,16 @@ use Rattle.std.proofs.lemmas.Slice.Eq.{bytes_eq-Decides}
 use Rattle.std.proofs.Math.Seq.{take-append_seam, drop-append_seam}
 use Rattle.std.proofs.lemmas.Bool.{and_parts, or_cases, eqb-true, ltb-true}
 use Rattle.std.proofs.lemmas.Bool.Decides.{nat_tests}
-use Rattle.std.proofs.lemmas.List.{append_cancel_right}
 use Rattle.std.proofs.lemmas.Str.{IsUtf8-append, IsUtf8-nil, IsUtf8-take, IsUtf8-drop, IsUtf8-encode, IsUtf8-from_ascii, IsCharBoundary-before_ascii, IsCharBoundary-after_ascii}
 use Rattle.pp_syntax.specs.declared.token.Kind.{Kind}
 use Rattle.pp_syntax.specs.declared.token.Kind.TheVariants as kind
-use Rattle.pp_syntax.specs.declared.lexer.place.Place.{Place}
 use Rattle.pp_syntax.specs.declared.lexer.bytes.Style.{Style}
 use Rattle.pp_syntax.specs.declared.lexer.bytes.Style.TheVariants as style
 use Rattle.pp_syntax.specs.declared.tree.Manifest.{Manifest}
 use Rattle.pp_syntax.specs.Bytes.{is_digit, is_octal, is_hex, is_name}
-use Rattle.pp_syntax.specs.Opened.{Ending}
 use Rattle.pp_syntax.specs.Tokens.{Lexeme, Of, SomeOf, begins, goes_on, Segment, Joined, one, another, Name, is_among, keywords, signs, IntText, only_zero, decimal, octal, hexadecimal, is_simple_escape, is_scalar, hex_value}
 use Rattle.pp_syntax.specs.TokenValues.{sq_value, SqOf, simple_value, EscapeOf, simple, four, braced, DqOf, nothing, plain, escape, backslash}
-use Rattle.pp_syntax.specs.Spelling.{TokenAt, Reads, ends, gap, token, stuck, Spells, start}
+use Rattle.pp_syntax.specs.Spelling.{Spells}
 use Rattle.pp_syntax.specs.Statements.{IsManifest}
 use Rattle.pp_print.specs.declared.words.Word.{Word}
 use Rattle.pp_print.specs.Words.{must_escape, escaped, clings, holds, text_from}
