@@ -63,7 +63,7 @@ same_length s t h = sym (length-map t.resources (λ (r : Resource). r.id)) ∙ a
 main_fits : IsMainFrame FitStill
 main_fits = record {
   frame = fitting_frame;
-  gives = λ kind attributes clean s h. h;
+  gives = λ kind attributes s fit h. h;
   enters = λ s h. h;
   fills =
       λ s. mapped (Same s.resources s) (FitStill s) (main_ended s) (λ t e h. subst (λ n. n ≤ declared_limit) (sym (same_length s t e)) h)
@@ -98,7 +98,7 @@ main_runs_none = record {
     collects = λ c s. refl;
     wants = λ more s. refl;
   };
-  gives = λ kind attributes clean s. refl;
+  gives = λ kind attributes s fit. refl;
   enters = λ s. refl;
   fills = λ s. mapped (Same s.resources s) (RanStays s) (main_ended s) (λ t e. e.1) (ends_same s);
 }

@@ -45,11 +45,10 @@ use Rattle.catalog_semantics.specs.Collecting.{collector_of}
 use Rattle.catalog_semantics.specs.Effects.{assigned, test_of, first_true, unless_true, first_option, default_block, chosen_block}
 use Rattle.catalog_semantics.specs.Effects.{options_of, selected_block, named_refs, as_named, declared_by, side_of, sides_of, ties_of}
 use Rattle.catalog_semantics.specs.Effects.{chained, called, Arms, CaseArms, effect_with, effect_at, body_limit, effect_of}
-use Rattle.catalog_semantics.specs.Frames.{Each, IsSound}
-use Rattle.catalog_semantics.specs.Attributes.{AreClean}
+use Rattle.catalog_semantics.specs.Frames.{Each, IsSound, AreSoundAttributes}
 use Rattle.catalog_semantics.specs.Catalogs.{is_plain_sort}
 use Rattle.catalog_semantics.specs.declared.catalog.Sort.TheVariants as sort
-use Rattle.catalog_semantics.proofs.Clean.{all_clean}
+use Rattle.catalog_semantics.proofs.DistinctNames.{all_sound}
 use Rattle.catalog_semantics.proofs.Rolled.{in_arm, in_case_arm, layer_of, rolled, rolled_arm, rolled_case_arm}
 
 -- each effect leads to a state that stands in this relation to the one before
@@ -162,10 +161,10 @@ module _ (R : State → State → Type 0) (frame : IsFrame R) where
         (frame.adds r sound s)
         (λ t. body_keeps run h d (length s.resources) r (class_scope t.scopes.0 d.name d.parent) t)))
 
-    class_sound : (at : ℕ) (name : List ℕ) (attributes : List Pair) → AreClean attributes → IsSound (class_resource at name attributes)
+    class_sound : (at : ℕ) (name : List ℕ) (attributes : List Pair) → AreSoundAttributes attributes → IsSound (class_resource at name attributes)
     class_sound at name attributes clean = (clean, λ h. cc)
 
-    declared_keeps : (at : ℕ) (attributes : List Pair) → AreClean attributes → (name : List ℕ)
+    declared_keeps : (at : ℕ) (attributes : List Pair) → AreSoundAttributes attributes → (name : List ℕ)
         → Keeps R (class_declared site bodies at attributes name)
     declared_keeps at attributes clean name s = step_each (R s) (class_named site at name) _ (λ d.
         step_each (R s) (no_circle site d) _ (λ fine.
@@ -173,13 +172,13 @@ module _ (R : State → State → Type 0) (frame : IsFrame R) where
         then_keep s (in_turn (map (λ e. class_runs bodies e (class_resource at e.name [])) parents) s)
         (class_runs bodies d (class_resource at d.name attributes))
         (all_keep (λ (e : Definition). class_runs bodies e (class_resource at e.name [])) parents
-        (λ e. class_runs_keeps e (class_resource at e.name []) (class_sound at e.name [] tt)) s)
+        (λ e. class_runs_keeps e (class_resource at e.name []) (class_sound at e.name [] (tt, tt))) s)
         (class_runs_keeps d (class_resource at d.name attributes) (class_sound at d.name attributes clean)))))
 
     included_keeps : (at : ℕ) (name : List ℕ) → Keeps R (class_included site bodies at name)
     included_keeps at name s =
         if_each (R s) (is_declared (class_ref name) s) (Ok s) (class_declared site bodies at [] name s) (frame.same s)
-        (declared_keeps at [] tt name s)
+        (declared_keeps at [] (tt, tt) name s)
 
     -- ---- resources
 
@@ -187,15 +186,15 @@ module _ (R : State → State → Type 0) (frame : IsFrame R) where
     Shows f = (s : State) → Each (λ x. R s x.1) (f s)
 
     one_body_keeps : (declare : ℕ → List Pair → List ℕ → Effect) (refer : List ℕ → Ref)
-        → ((at : ℕ) (attributes : List Pair) → AreClean attributes → (title : List ℕ) → Keeps R (declare at attributes title)) → (b : Body)
+        → ((at : ℕ) (attributes : List Pair) → AreSoundAttributes attributes → (title : List ℕ) → Keeps R (declare at attributes title)) → (b : Body)
         → Shows (body_declared declare refer b)
     one_body_keeps declare refer h b s = step_each _ (titles_at s.scopes b.title) _ (λ titles.
-        then_each AreClean _ (attributes_at s.scopes b.attrs) _ (all_clean s.scopes [] b.attrs) (λ attributes clean.
+        then_each AreSoundAttributes _ (attributes_at s.scopes b.attrs) _ (all_sound s.scopes [] b.attrs) (λ attributes clean.
         then_each (R s) _ (in_turn (map (declare b.title.at attributes) titles) s) _
         (all_keep (declare b.title.at attributes) titles (h b.title.at attributes clean) s) (λ t k. k)))
 
     bodies_keep : (declare : ℕ → List Pair → List ℕ → Effect) (refer : List ℕ → Ref)
-        → ((at : ℕ) (attributes : List Pair) → AreClean attributes → (title : List ℕ) → Keeps R (declare at attributes title))
+        → ((at : ℕ) (attributes : List Pair) → AreSoundAttributes attributes → (title : List ℕ) → Keeps R (declare at attributes title))
         → (bs : List Body)
         → Shows (bodies_declared declare refer bs)
     bodies_keep declare refer h [] s = frame.same s

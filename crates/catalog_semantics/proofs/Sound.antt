@@ -1,12 +1,12 @@
 -- The resources of a catalog are sound.
-use Rattle.std.proofs.Common.{◌≡◌, ℕ, Bool, true, false, cond, List, [], ◌∷◌, ◌++◌, map, Result, Ok, Err, sym, subst}
+use Rattle.std.proofs.Common.{◌≡◌, ℕ, Bool, true, false, cond, List, [], ◌∷◌, ◌++◌, map, Result, Ok, Err, refl, ap, sym, ◌∙◌, subst, append_assoc}
 use Rattle.std.specs.Prelude.{filter}
 use Rattle.std.specs.List.{AllByRecursion}
 use Rattle.std.specs.Str.{bytes_eq}
 use Rattle.rh_base.specs.declared.fault.Refusal.{Refusal}
 use Rattle.pp_syntax.specs.declared.tree.Manifest.{Manifest}
 use Rattle.pp_value.specs.declared.value.Value.{Value}
-use Rattle.pp_value.specs.Values.{Pair}
+use Rattle.pp_value.specs.Values.{Pair, HasDistinctKeys}
 use Rattle.pp_eval.specs.Verdicts.{◌>>=◌}
 use Rattle.pp_eval.specs.Scoping.{pairs_in}
 use Rattle.pp_data.specs.declared.data.Level.{Level}
@@ -14,7 +14,10 @@ use Rattle.catalog_semantics.specs.declared.catalog.Resource.{Resource}
 use Rattle.catalog_semantics.specs.Sites.{site_of}
 use Rattle.catalog_semantics.specs.States.{State, Default, defaults_of, lacks, is_class, filled, as_added, with_resource, is_new, has_room}
 use Rattle.catalog_semantics.specs.States.{has_size, added}
-use Rattle.catalog_semantics.specs.Attributes.{AreClean}
+use Rattle.catalog_semantics.specs.Attributes.{names_of, AreClean, AreDistinct}
+use Rattle.catalog_semantics.proofs.DistinctNames.{distinct_behind, distinct_filled}
+use Rattle.std.proofs.lemmas.List.{append-nil}
+use Rattle.std.proofs.lemmas.Slice.Eq.{bytes_eq-Decides}
 use Rattle.catalog_semantics.specs.Catalogs.{filled_behind, main_ended, first_state, is_called_for, made_real, state_after, round_limit}
 use Rattle.catalog_semantics.specs.Catalogs.{all_there, few_enough, Catalog, catalog_in, catalog_of}
 use Rattle.catalog_semantics.specs.Frames.{Each, IsSound, AreSound}
@@ -22,10 +25,15 @@ use Rattle.catalog_semantics.proofs.Keeping.{Keeps, step_each, then_each, if_eac
 use Rattle.catalog_semantics.proofs.Clean.{both_clean}
 use Rattle.catalog_semantics.proofs.Whole.{IsWholeFrame, whole_keeps, few_is}
 
--- the resources are sound, and the defaults clean
+-- the defaults are clean, and no name stands twice among those of a type
+pub record SoundDefaults (defaults : List Default) : Type 0 where
+  pub clean : AllByRecursion (λ (d : Default). AreClean d.attributes) defaults
+  pub named : (kind : List ℕ) → HasDistinctKeys (defaults_of kind defaults)
+
+-- the resources are sound, and the defaults
 pub record SoundState (s : State) : Type 0 where
   pub resources : AreSound s.resources
-  pub defaults : AllByRecursion (λ (d : Default). AreClean d.attributes) s.defaults
+  pub defaults : SoundDefaults s.defaults
 
 abbrev StaySound : State → State → Type 0
 StaySound s t = SoundState s → SoundState t
@@ -58,14 +66,41 @@ if_sound : (b : Bool) (x y : Resource) → IsSound x → IsSound y → IsSound (
 if_sound true x y h k = h
 if_sound false x y h k = k
 
-filled_sound : (defaults : List Default) (r : Resource) → AllByRecursion (λ (d : Default). AreClean d.attributes) defaults → IsSound r
-    → IsSound (filled defaults r)
+filled_sound : (defaults : List Default) (r : Resource) → SoundDefaults defaults → IsSound r → IsSound (filled defaults r)
 filled_sound defaults r d h =
     if_sound (is_class r) r _ h (
-      both_clean r.attrs _ h.0
-          (filter_clean (lacks r.attrs) (defaults_of r.id.kind defaults) (defaults_clean r.id.kind defaults d)),
+      (
+        both_clean r.attrs _ h.0.0 (filter_clean (lacks r.attrs) (defaults_of r.id.kind defaults) (defaults_clean r.id.kind defaults d.clean)),
+        distinct_filled r.attrs (defaults_of r.id.kind defaults) h.0.1 (d.named r.id.kind),
+      ),
       h.1,
     )
+
+-- ---- one more default
+
+behind : (kind : List ℕ) (defaults : List Default) (d : Default) → defaults_of kind (defaults ++ d ∷ []) ≡ defaults_of kind defaults ++ cond (bytes_eq d.kind kind) d.attributes []
+behind kind [] d = by_test (bytes_eq d.kind kind)
+  where
+    by_test : (t : Bool) → cond t (d.attributes ++ []) [] ≡ cond t d.attributes []
+    by_test true = append-nil d.attributes
+    by_test false = refl
+behind kind (e ∷ defaults) d = by_test (bytes_eq e.kind kind) (behind kind defaults d)
+  where
+    by_test : (t : Bool) → defaults_of kind (defaults ++ d ∷ []) ≡ defaults_of kind defaults ++ cond (bytes_eq d.kind kind) d.attributes []
+        → cond t (e.attributes ++ defaults_of kind (defaults ++ d ∷ [])) (defaults_of kind (defaults ++ d ∷ [])) ≡ cond t (e.attributes ++ defaults_of kind defaults) (defaults_of kind defaults) ++ cond (bytes_eq d.kind kind) d.attributes []
+    by_test true h = ap (λ (ps : List Pair). e.attributes ++ ps) h ∙ sym (append_assoc e.attributes (defaults_of kind defaults) (cond (bytes_eq d.kind kind) d.attributes []))
+    by_test false h = h
+
+named_more : (kind : List ℕ) (attributes : List Pair) (defaults : List Default) → ((k : List ℕ) → HasDistinctKeys (defaults_of k defaults)) → AreDistinct (names_of (defaults_of kind defaults)) attributes
+    → (k : List ℕ) → HasDistinctKeys (defaults_of k (defaults ++ record { kind = kind; attributes = attributes } ∷ []))
+named_more kind attributes defaults named fit k =
+    subst HasDistinctKeys (sym (behind k defaults (record { kind = kind; attributes = attributes }))) (by_test (bytes_eq kind k) refl)
+  where
+    by_test : (t : Bool) → bytes_eq kind k ≡ t → HasDistinctKeys (defaults_of k defaults ++ cond t attributes [])
+    by_test true e =
+        let same : kind ≡ k = (bytes_eq-Decides kind k).0 e in
+        distinct_behind (defaults_of k defaults) attributes (named k) (subst (λ (w : List ℕ). AreDistinct (names_of (defaults_of w defaults)) attributes) same fit)
+    by_test false e = subst HasDistinctKeys (sym (append-nil (defaults_of k defaults))) (named k)
 
 adds_sound : (r : Resource) → IsSound r → Keeps StaySound (added r)
 adds_sound r sound s = step_each (StaySound s) (is_new r s) _ (λ new. step_each (StaySound s) (has_room r s) _ (λ room.
@@ -76,7 +111,7 @@ adds_sound r sound s = step_each (StaySound s) (is_new r s) _ (λ new. step_each
       defaults = h.defaults;
     })))
 
-fills_sound : (done resources : List Resource) (s : State) → AllByRecursion (λ (d : Default). AreClean d.attributes) s.defaults
+fills_sound : (done resources : List Resource) (s : State) → SoundDefaults s.defaults
     → AreSound done → AreSound resources → Each SoundState (filled_behind done resources s)
 fills_sound done [] s d h k = record { resources = h; defaults = d }
 fills_sound done (r ∷ resources) s d h k =
@@ -110,9 +145,12 @@ whole_sound = record {
       wants = λ more s h. record { resources = h.resources; defaults = h.defaults };
     };
     gives =
-        λ kind attributes clean s h. record {
+        λ kind attributes s fit h. record {
           resources = h.resources;
-          defaults = each_more (λ (d : Default). AreClean d.attributes) s.defaults _ h.defaults clean;
+          defaults = record {
+            clean = each_more (λ (d : Default). AreClean d.attributes) s.defaults _ h.defaults.clean fit.0;
+            named = named_more kind attributes s.defaults h.defaults.named fit.1;
+          };
         };
     enters = λ s h. record { resources = h.resources; defaults = h.defaults };
     fills =
@@ -137,4 +175,4 @@ catalog_sound m facts node_name data_levels c h =
     subst (Each CatalogSound) h (step_each CatalogSound (site_of m data_levels (pairs_in facts) node_name) _ (λ site.
     then_each (StaySound (first_state facts)) CatalogSound (state_after round_limit site m.items facts) _
     (whole_keeps StaySound whole_sound site m.items round_limit (first_state facts))
-    (λ t k. ends_sound t (k (record { resources = tt; defaults = tt })))))
+    (λ t k. ends_sound t (k (record { resources = tt; defaults = record { clean = tt; named = λ kind. tt } })))))

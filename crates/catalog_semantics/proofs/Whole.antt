@@ -17,11 +17,11 @@ use Rattle.pp_data.specs.declared.data.Level.{Level}
 use Rattle.catalog_semantics.specs.declared.catalog.Resource.{Resource}
 use Rattle.catalog_semantics.specs.Sites.{Definition, Node, Site, site_of, definition_of, node_block}
 use Rattle.catalog_semantics.specs.States.{State, Effect, in_turn, references_of, defaults_of, filled, has_size}
-use Rattle.catalog_semantics.specs.Attributes.{attributes_behind, AreClean}
-use Rattle.catalog_semantics.proofs.Clean.{all_clean}
+use Rattle.catalog_semantics.specs.Attributes.{attributes_behind, names_of, AreFit}
+use Rattle.catalog_semantics.proofs.DistinctNames.{all_fit}
 use Rattle.catalog_semantics.specs.Declaring.{named_type}
 use Rattle.catalog_semantics.specs.Effects.{effect_of}
-use Rattle.catalog_semantics.specs.Catalogs.{names_of, with_default, default_given, filled_behind, item_effect, node_effect, main_ended}
+use Rattle.catalog_semantics.specs.Catalogs.{with_default, default_given, filled_behind, item_effect, node_effect, main_ended}
 use Rattle.catalog_semantics.specs.Catalogs.{first_state, main_code, is_called_for, made_real, realized, next_due, marked, type_runs}
 use Rattle.catalog_semantics.specs.Catalogs.{resource_runs, run_and_go_on, rounds, state_after, round_limit, all_there, few_enough, Catalog}
 use Rattle.catalog_semantics.specs.Catalogs.{catalog_in, catalog_from, catalog_of}
@@ -33,7 +33,7 @@ use Rattle.catalog_semantics.proofs.Once.{StandStill, standing, filled_id}
 -- what the main code keeps between its statements too
 pub record IsMainFrame (R : State → State → Type 0) : Type 0 where
   pub frame : IsFrame R
-  pub gives : (kind : List ℕ) (attributes : List Pair) → AreClean attributes → (s : State) → R s (with_default kind attributes s)
+  pub gives : (kind : List ℕ) (attributes : List Pair) (s : State) → AreFit (names_of (defaults_of kind s.defaults)) attributes → R s (with_default kind attributes s)
   pub enters : (s : State) → R s (record s { scopes = entered s.scopes node_scope_new })
   pub fills : Keeps R main_ended
 
@@ -46,8 +46,8 @@ pub record IsWholeFrame (R : State → State → Type 0) : Type 0 where
 module _ (R : State → State → Type 0) (whole : IsMainFrame R) (site : Site) where
   default_keeps : (at : ℕ) (kind : List ℕ) (attrs : List Attr) → Keeps R (default_given site at kind attrs)
   default_keeps at kind attrs s = step_each (R s) (named_type site at (plain_name kind)) _ (λ known.
-      then_each AreClean (R s) (attributes_behind s.scopes (names_of (defaults_of known s.defaults)) attrs) _
-      (all_clean s.scopes (names_of (defaults_of known s.defaults)) attrs) (λ attributes clean. whole.gives known attributes clean s))
+      then_each (AreFit (names_of (defaults_of known s.defaults))) (R s) (attributes_behind s.scopes (names_of (defaults_of known s.defaults)) attrs) _
+      (all_fit s.scopes (names_of (defaults_of known s.defaults)) attrs) (λ attributes fit. whole.gives known attributes s fit))
 
   item_keeps : (x : Item) → Keeps R (item_effect site x)
   item_keeps (item.Class at name params parent body) = whole.frame.same
@@ -142,7 +142,7 @@ mapped P Q (Err e) h k = tt
 main_standing : IsMainFrame StandStill
 main_standing = record {
   frame = standing;
-  gives = λ kind attributes clean s h. h;
+  gives = λ kind attributes s fit h. h;
   enters = λ s h. h;
   fills = λ s. mapped (Same s.resources s) (StandStill s) (main_ended s) (λ t e h. subst StandOnce (sym e.0) h) (ends_same s);
 }

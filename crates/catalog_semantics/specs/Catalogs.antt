@@ -29,15 +29,12 @@ use Rattle.catalog_semantics.specs.declared.state.Side.TheVariants as side
 use Rattle.catalog_semantics.specs.declared.state.Tie.{Tie}
 use Rattle.catalog_semantics.specs.Sites.{Definition, Node, Site, site_of, definition_of, node_block}
 use Rattle.catalog_semantics.specs.States.{Holding, State, Effect, in_turn, is_declared, defaults_of, filled, has_size, declared_limit}
-use Rattle.catalog_semantics.specs.Attributes.{attributes_behind}
+use Rattle.catalog_semantics.specs.Attributes.{attributes_behind, names_of}
 use Rattle.catalog_semantics.specs.Declaring.{named_type, body_runs}
 use Rattle.catalog_semantics.specs.Collecting.{matches}
 use Rattle.catalog_semantics.specs.Effects.{effect_of}
 
 -- ---- defaults
-
-abbrev pub names_of : List Pair → List (List ℕ)
-names_of pairs = map (λ p. p.0) pairs
 
 abbrev pub with_default : List ℕ → List Pair → State → State
 with_default kind attributes s =

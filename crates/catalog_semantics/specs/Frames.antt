@@ -8,6 +8,7 @@ use Rattle.pp_value.specs.declared.value.Ref.{Ref}
 use Rattle.pp_value.specs.declared.value.Value.{Value}
 use Rattle.pp_eval.specs.Extending.{Begins, Extends as ScopesExtend}
 use Rattle.catalog_semantics.specs.declared.catalog.Resource.{Resource}
+use Rattle.pp_value.specs.Values.{Pair, HasDistinctKeys}
 use Rattle.catalog_semantics.specs.Attributes.{AreClean}
 use Rattle.catalog_semantics.specs.Sites.{is_built_in}
 use Rattle.catalog_semantics.specs.Catalogs.{is_plain_sort}
@@ -57,9 +58,13 @@ AgreeOn find other items = AllByRecursion (AgreeOnItem find other) items
 abbrev pub Fits : State → Type 0
 Fits s = length s.resources ≤ declared_limit
 
--- The attributes are clean, and a resource of no class and no defined type is of a built-in type.
+-- The attributes are clean, and no name of them stands twice.
+abbrev pub AreSoundAttributes : List Pair → Type 0
+AreSoundAttributes attributes = AreClean attributes × HasDistinctKeys attributes
+
+-- The attributes are sound, and a resource of no class and no defined type is of a built-in type.
 abbrev pub IsSound : Resource → Type 0
-IsSound r = AreClean r.attrs × (is_plain_sort r.sort ≡ true → is_built_in r.id.kind ≡ true)
+IsSound r = AreSoundAttributes r.attrs × (is_plain_sort r.sort ≡ true → is_built_in r.id.kind ≡ true)
 
 abbrev pub AreSound : List Resource → Type 0
 AreSound resources = AllByRecursion IsSound resources
