@@ -3,12 +3,15 @@
 
 mod copies;
 mod fronts;
+mod order;
 mod path;
 mod program;
 mod reading;
+mod tree;
 
 pub use fronts::are_disjoint;
 pub use path::{Path, PathFault};
+pub use tree::Tree;
 pub use program::{Entry, Program, Test};
 
 #[cfg(test)]
