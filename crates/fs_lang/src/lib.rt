@@ -11,8 +11,5 @@ mod tree;
 
 pub use fronts::are_disjoint;
 pub use path::{Path, PathFault};
-pub use tree::Tree;
 pub use program::{Entry, Program, Test};
-
-#[cfg(test)]
-mod tests;
+pub use tree::Tree;

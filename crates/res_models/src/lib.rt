@@ -2,13 +2,13 @@
 #![tactic(auto)]
 
 ghost use Rattle.std.specs.Prelude.{◌≡◌, IfOk};
-ghost use Rattle.fs_lang.specs.declared.program.Program.TheVariants.{Creat, Rm};
+ghost use Rattle.fs_lang.specs.declared.program.Program.TheVariants.{Creat, Rm, If};
 ghost use Rattle.fs_lang.specs.Meaning.{program_of};
 ghost use Rattle.fs_semantics.specs.Models as model;
 ghost use Rattle.fs_semantics.specs.Programs as language;
 
 use fs_lang::{Path, Program, Test};
-use rh_base::{NoMemory, Seq, Text};
+use rh_base::{Boxed, NoMemory, Seq, Text};
 use std::alloc::Global;
 
 fn creation(alloc: Global, path: &Path, content: &Text) -> Result<Program, NoMemory>
@@ -33,6 +33,13 @@ fn two_steps(alloc: Global, first: Program, second: Program) -> Result<Program, 
     Ok(Program::Steps(steps))
 }
 
+fn choice(alloc: Global, a: Test, e: Program, f: Program) -> Result<Program, NoMemory>
+    ensures { IfOk result (λ program. program ≡ If a e f) }
+{
+    let left = Boxed::new(alloc, e)?;
+    Ok(Program::If(a, left, Boxed::new(alloc, f)?))
+}
+
 /// Puts a file with this content, whether one was there or not.
 pub fn put(alloc: Global, path: &Path, content: &Text) -> Result<Program, NoMemory>
     ensures { IfOk result (λ e. program_of e ≡ model.put path.now content.now) }
@@ -42,10 +49,6 @@ pub fn put(alloc: Global, path: &Path, content: &Text) -> Result<Program, NoMemo
         removal(alloc, path)?,
         creation(alloc, path, content)?,
     )?;
-    let over = Box::new(alloc, over)?;
-    let fresh = Box::new(alloc, creation(alloc, path, content)?)?;
-    Ok(Program::If(Test::IsFile(path.copy(alloc)?), over, fresh))
+    let fresh = creation(alloc, path, content)?;
+    choice(alloc, Test::IsFile(path.copy(alloc)?), over, fresh)
 }
-
-#[cfg(test)]
-mod tests;

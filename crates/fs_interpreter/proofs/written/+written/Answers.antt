@@ -5,7 +5,7 @@ use Rattle.fs_interpreter.proofs.BranchLaws.{on_ok}
 use Rattle.fs_interpreter.proofs.written.+written.Goals as goal
 
 pub add_written-returns-in_ok-add_written-in-If : goal.add_written-returns-in_ok-add_written-in-If
-add_written-returns-in_ok-add_written-in-If c =
+add_written-returns-in_ok-add_written-in-If t c =
     let paths = c.args.table.now.paths in
     on_ok c.add_written-in-If.result
     (λ h. h

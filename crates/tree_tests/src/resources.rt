@@ -1,5 +1,7 @@
-use crate::put;
+//! The programs of resources.
+
 use fs_lang::{Path, Program, Test};
+use res_models::put;
 use rh_base::Text;
 use std::alloc::Global;
 use std::test::Fail;
@@ -52,7 +54,7 @@ fn a_file_with_content(rt: HostRuntime) -> Result<(), Fail> {
         _ => false,
     };
     assert!(rt; asks_for_a_file);
-    assert!(rt; replaces_motd(over));
-    assert!(rt; creates_motd(fresh));
+    assert!(rt; replaces_motd(over.get()));
+    assert!(rt; creates_motd(fresh.get()));
     Ok(())
 }
