@@ -3,3 +3,4 @@ pub mod Pieces
 pub mod PathLaws
 pub mod FrontLaws
 pub mod SizeLaws
+pub mod TreeLaws

@@ -3,3 +3,4 @@ pub mod Meaning
 pub mod Reading
 pub mod Fronts
 pub mod Sizes
+pub mod Trees

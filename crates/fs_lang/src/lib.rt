@@ -3,13 +3,13 @@
 
 mod copies;
 mod fronts;
+mod order;
 mod path;
 mod program;
 mod reading;
+mod tree;
 
 pub use fronts::are_disjoint;
 pub use path::{Path, PathFault};
 pub use program::{Entry, Program, Test};
-
-#[cfg(test)]
-mod tests;
+pub use tree::Tree;

@@ -2,8 +2,8 @@
 #![tactic(auto)]
 
 ghost use Rattle.std.specs.Prelude.{◌≡◌, IfOk};
-ghost use Rattle.fs_lang.specs.declared.program.Program.TheVariants.{Creat, Rm};
-ghost use Rattle.fs_lang.specs.Meaning.{test_of, program_of};
+ghost use Rattle.fs_lang.specs.declared.program.Program.TheVariants.{Creat, Rm, If};
+ghost use Rattle.fs_lang.specs.Meaning.{program_of};
 ghost use Rattle.fs_semantics.specs.Models as model;
 ghost use Rattle.fs_semantics.specs.Programs as language;
 
@@ -33,13 +33,11 @@ fn two_steps(alloc: Global, first: Program, second: Program) -> Result<Program, 
     Ok(Program::Steps(steps))
 }
 
-#[tactic(auto, using(fs_lang::specs::Meaning::program_of_if))]
-fn choice(alloc: Global, test: Test, one: Program, other: Program) -> Result<Program, NoMemory>
-    ensures { IfOk result (λ e. program_of e ≡ language.If (test_of test) (program_of one) (program_of other)) }
+fn choice(alloc: Global, a: Test, e: Program, f: Program) -> Result<Program, NoMemory>
+    ensures { IfOk result (λ program. program ≡ If a e f) }
 {
-    let one = Boxed::new(alloc, one)?;
-    let other = Boxed::new(alloc, other)?;
-    Ok(Program::If(test, one, other))
+    let left = Boxed::new(alloc, e)?;
+    Ok(Program::If(a, left, Boxed::new(alloc, f)?))
 }
 
 /// Puts a file with this content, whether one was there or not.
@@ -52,6 +50,5 @@ pub fn put(alloc: Global, path: &Path, content: &Text) -> Result<Program, NoMemo
         creation(alloc, path, content)?,
     )?;
     let fresh = creation(alloc, path, content)?;
-    let test = Test::IsFile(path.copy(alloc)?);
-    choice(alloc, test, over, fresh)
+    choice(alloc, Test::IsFile(path.copy(alloc)?), over, fresh)
 }

@@ -1,4 +1,6 @@
-use crate::{Path, PathFault, are_disjoint};
+//! Paths from texts.
+
+use fs_lang::{Path, PathFault, are_disjoint};
 use std::alloc::Global;
 use std::process::Abort;
 use std::test::Fail;

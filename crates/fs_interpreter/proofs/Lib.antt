@@ -1,0 +1,10 @@
+pub mod Frames
+pub mod SearchLaws
+pub mod TableLaws
+pub mod Put
+pub mod AsideLaws
+pub mod StepLaws
+pub mod BranchLaws
+pub mod TestLaws
+pub mod RunLaws
+pub mod HasLaws

@@ -1,0 +1,81 @@
+-- Where paths stand in a table.
+use Rattle.std.proofs.Common.{◌≡◌, ◌≢◌, ◌⊎◌, inl, inr, ℕ, zero, suc, ◌+◌, ◌<◌, ◌≤◌, Bool, true, false, cond, List, [], ◌∷◌, length, Option, Some, None, refl, sym, ap, subst, ◌∙◌, arith}
+use Rattle.std.specs.Prelude.{IfSome, slice_get}
+use Rattle.std.specs.List.{AllByRecursion}
+use Rattle.fs_semantics.specs.FileTree.{Path, path_eq, parent}
+use Rattle.fs_semantics.proofs.Trees.{path_eq_same, path_eq_refl, path_eq_other}
+use Rattle.fs_interpreter.specs.Places.{Listed, IsTable, one_further, place_in, children_from, children_in, HasPath}
+
+abbrev pub shifted : ℕ → Option ℕ → Option ℕ
+shifted k None = None
+shifted k (Some i) = Some (k + i)
+
+further_below : (n : ℕ) (o : Option ℕ) → IfSome o (λ i. i < n) → IfSome (one_further o) (λ i. i < suc n)
+further_below n None h = tt
+further_below n (Some i) h = omega arith
+
+pub place_below : (paths : List Path) (p : Path) → IfSome (place_in paths p) (λ i. i < length paths)
+place_below [] p = tt
+place_below (q ∷ paths) p = elim (path_eq q p) as (λ b. IfSome (cond b (Some 0) (one_further (place_in paths p))) (λ i. i < length (q ∷ paths))) [
+  | true ↦ omega arith
+  | false ↦ further_below (length paths) (place_in paths p) (place_below paths p)
+]
+
+-- what is found at a place is there
+pub place_there : (paths : List Path) (p : Path) (i : ℕ) → place_in paths p ≡ Some i → slice_get paths i ≡ Some p
+place_there [] p i h = cc
+place_there (q ∷ paths) p i h = elim (path_eq q p) as (λ b. path_eq q p ≡ b → cond b (Some 0) (one_further (place_in paths p)) ≡ Some i → slice_get (q ∷ paths) i ≡ Some p) [
+  | true ↦ λ e k. let z : 0 ≡ i = cc in subst (λ j. slice_get (q ∷ paths) j ≡ Some p) z (ap Some (path_eq_same q p e))
+  | false ↦ λ e k. elim (place_in paths p) as (λ o. place_in paths p ≡ o → one_further o ≡ Some i → slice_get (q ∷ paths) i ≡ Some p) [
+    | None ↦ λ f l. cc
+    | Some j ↦ λ f l. let z : suc j ≡ i = cc in subst (λ x. slice_get (q ∷ paths) x ≡ Some p) z (place_there paths p j f)
+  ] refl k
+] refl h
+
+-- where a path isn't found it isn't there
+pub place_nowhere : (paths : List Path) (p : Path) → place_in paths p ≡ None → (i : ℕ) → slice_get paths i ≢ Some p
+place_nowhere [] p h i e = cc
+place_nowhere (q ∷ paths) p h zero e = let same : q ≡ p = cc in
+    let found : ◌≡◌ {A = Option ℕ} (Some 0) None = sym (ap (λ b. cond b (Some 0) (one_further (place_in paths p))) (ap (path_eq q) (sym same) ∙ path_eq_refl q)) ∙ h in cc
+place_nowhere (q ∷ paths) p h (suc i) e = elim (path_eq q p) as (λ b. cond b (Some 0) (one_further (place_in paths p)) ≡ None → ⊥) [
+  | true ↦ λ k. cc
+  | false ↦ λ k. elim (place_in paths p) as (λ o. place_in paths p ≡ o → one_further o ≡ None → ⊥) [
+    | None ↦ λ f l. place_nowhere paths p f i e
+    | Some j ↦ λ f l. cc
+  ] refl k
+] h
+
+-- a path that is there is found
+pub place_found : (paths : List Path) (p : Path) (i : ℕ) → slice_get paths i ≡ Some p → (j : ℕ) × (place_in paths p ≡ Some j)
+place_found paths p i h = elim (place_in paths p) as (λ o. place_in paths p ≡ o → (j : ℕ) × (o ≡ Some j)) [
+  | None ↦ λ e. absurd (place_nowhere paths p e i h)
+  | Some j ↦ λ e. (j, refl)
+] refl
+
+no_children_from : (k : ℕ) (paths : List Path) (p : Path) → ((i : ℕ) (q : Path) → slice_get paths i ≡ Some q → parent q ≢ p) → children_from k paths p ≡ []
+no_children_from k [] p h = refl
+no_children_from k (q ∷ paths) p h = ap (λ b. cond b (k ∷ children_from (suc k) paths p) (children_from (suc k) paths p)) (path_eq_other (parent q) p (h 0 q refl))
+    ∙ no_children_from (suc k) paths p (λ i r e. h (suc i) r e)
+
+-- what is neither the root nor in the table has no children there
+pub no_children : (table : Listed) (p : Path) → IsTable table → p ≢ [] → place_in table.paths p ≡ None → [] ≡ children_in table.paths p
+no_children table p is n none = sym (no_children_from 0 table.paths p (λ i q e f. elim (is.parents i q e) [
+  | inl top ↦ n (sym f ∙ top)
+  | inr there ↦ place_nowhere table.paths p none there.0 (there.1 ∙ ap Some f)
+]))
+
+within : (k m n : ℕ) (places : List ℕ) → m ≤ n → AllByRecursion (λ i. i < m) places → AllByRecursion (λ i. i < n) places
+within k m n [] h all = tt
+within k m n (i ∷ places) h all = (omega (arith, all.0), within k m n places h all.1)
+
+children_from_below : (k : ℕ) (paths : List Path) (p : Path) → AllByRecursion (λ i. i < k + length paths) (children_from k paths p)
+children_from_below k [] p = tt
+children_from_below k (q ∷ paths) p =
+    let more = within 0 (suc k + length paths) (k + length (q ∷ paths)) (children_from (suc k) paths p) (omega arith) (children_from_below (suc k) paths p) in
+    elim (path_eq (parent q) p) as (λ b. AllByRecursion (λ i. i < k + length (q ∷ paths)) (cond b (k ∷ children_from (suc k) paths p) (children_from (suc k) paths p))) [
+      | true ↦ (omega arith, more)
+      | false ↦ more
+    ]
+
+pub children_below : (paths : List Path) (p : Path) → AllByRecursion (λ i. i < length paths) (children_in paths p)
+children_below paths p = within 0 (0 + length paths) (length paths) (children_in paths p) (omega arith) (children_from_below 0 paths p)

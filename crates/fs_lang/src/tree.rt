@@ -1,0 +1,105 @@
+//! File trees as values.
+
+ghost use Rattle.std.specs.Prelude.{◌≡◌, IfOk};
+ghost use Rattle.fs_semantics.specs.FileTree.{IsBytes};
+ghost use Rattle.fs_lang.specs.Trees.{TextIsBytes};
+
+use crate::path::Path;
+use crate::program::Entry;
+use rh_base::{NoMemory, Text};
+use std::alloc::Global;
+use std::collections::BTreeMap;
+use std::marker::Model;
+
+/// A file tree, which contracts see as a finite map from paths to entries. Its type keeps that the parent of each entry is
+/// the root or a folder.
+#[derive(Debug, Drop)]
+pub struct Tree {
+    entries: BTreeMap<Path, Entry>,
+}
+
+impl Model for Tree {
+    ghost use Rattle.fs_semantics.specs.FileTree.{Tree as FileTree, IsTree};
+
+    ghost Value = { FileTree };
+
+    ghost use Rattle.fs_lang.specs.Trees.{tree_of, coded_tree};
+
+    ghost coded = { coded_tree };
+
+    ghost view = { λ t. tree_of t.entries };
+
+    ghost invariant = { λ t. IsTree (tree_of t.entries) };
+}
+
+/// Each byte of a text is below 256.
+#[tactic(auto, using(crate::proofs::Bytes::utf8_bytes))]
+fn text_is_bytes(text: &Text)
+    ensures { IsBytes text.now }
+{
+    let _text = text.as_str();
+}
+
+fn entry_is_bytes(entry: &Entry)
+    ensures { TextIsBytes entry.now }
+{
+    match entry {
+        Entry::Folder => {}
+        Entry::File(content) => text_is_bytes(content),
+        Entry::Link(target) => text_is_bytes(target),
+    }
+}
+
+/// An entry with the same content or target.
+fn copy_entry(alloc: Global, entry: &Entry) -> Result<Entry, NoMemory>
+    ensures { IfOk result (λ copy. copy ≡ entry.now) }
+{
+    match entry {
+        Entry::Folder => Ok(Entry::Folder),
+        Entry::File(content) => Ok(Entry::File(content.copy(alloc)?)),
+        Entry::Link(target) => Ok(Entry::Link(target.copy(alloc)?)),
+    }
+}
+
+impl Tree {
+    ghost use Rattle.std.specs.Prelude.{◌≡◌, IfOk, OnOk, OnErr, option_map};
+    ghost use Rattle.std.specs.FinMap as map;
+    ghost use Rattle.fs_semantics.specs.FileTree.{IsTree, parent};
+    ghost use Rattle.fs_semantics.specs.Entries.{IsFreeAt, IsFolderAt};
+    ghost use Rattle.fs_lang.specs.Meaning.{entry_of};
+
+    pub fn empty(alloc: Global) -> Result<Tree, NoMemory>
+        ensures { IfOk result (λ t. t ≡ map.empty) }
+    {
+        Ok(Tree {
+            entries: BTreeMap::new(alloc),
+        })
+    }
+
+    /// What stands at a path. At the root no entry does.
+    pub fn get(&self, p: &Path) -> Option<&Entry>
+        ensures { option_map (λ e. entry_of e.now) result ≡ map.get self.now p.now }
+    {
+        self.entries.get(p)
+    }
+
+    /// Adds an entry in a free place below a folder.
+    pub fn add(&mut self, p: Path, entry: Entry) -> Result<(), NoMemory>
+        requires free { IsFreeAt self.old p }
+        requires above { IsFolderAt self.old (parent p) }
+        ensures ok { OnOk result (self.new ≡ map.insert self.old p (entry_of entry)) }
+        ensures err { OnErr result (self.new ≡ self.old) }
+    {
+        p.segments();
+        entry_is_bytes(&entry);
+        self.entries.insert(p, entry)?;
+        Ok(())
+    }
+
+    /// What every tree is.
+    pub fn is_tree(&self)
+        ensures { IsTree self.now }
+    {
+        let _count = self.entries.len();
+    }
+}

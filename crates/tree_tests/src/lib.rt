@@ -1,0 +1,7 @@
+//! Tests of paths, trees and programs.
+#![tactic(auto)]
+
+#[cfg(test)]
+mod paths;
+#[cfg(test)]
+mod resources;
