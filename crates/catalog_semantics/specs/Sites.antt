@@ -2,7 +2,7 @@
 use Rattle.std.specs.Prelude.{ℕ, suc, zero, ◌+◌, Bool, true, false, ◌||◌, not, nat_lt, if◌then◌else◌, List, [], ◌∷◌, ◌++◌, map, length}
 use Rattle.std.specs.Prelude.{is_none, codes, Option, Some, None, option_map, option_and_then, Result, Ok, Err}
 use Rattle.std.specs.Option.{option_or}
-use Rattle.std.specs.List.{list_any}
+use Rattle.std.specs.List.{list_any, IsDistinct}
 use Rattle.std.specs.Str.{bytes_eq}
 use Rattle.rh_base.specs.declared.fault.Refusal.{Refusal}
 use Rattle.pp_syntax.specs.declared.tree.Expr.{Expr}
@@ -190,3 +190,7 @@ line_of (suc n) classes (Some d) = d ∷ line_of n classes (option_and_then (λ 
 -- The chain of parents meets a class twice: it has more members than there are classes.
 abbrev pub inherits_itself : List Definition → Definition → Bool
 inherits_itself classes d = nat_lt (length classes) (length (line_of (length classes + 1) classes (Some d)))
+
+-- the same as it is said of the chain: of some first members of it two have one name
+abbrev pub MeetsTwice : List Definition → Definition → Type 0
+MeetsTwice classes d = (n : ℕ) × (IsDistinct bytes_eq (map (λ e. e.name) (line_of n classes (Some d))) → ⊥)

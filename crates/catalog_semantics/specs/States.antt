@@ -100,7 +100,7 @@ lacks attributes p = is_none (value_at p.0 attributes)
 abbrev pub filled : List Default → Resource → Resource
 filled defaults r =
     if is_class r then r else record r {
-      attrs = 
+      attrs =
           r.attrs ++ filter (lacks r.attrs) (defaults_of r.id.kind defaults);
     }
 

@@ -1,6 +1,10 @@
 //! Laws of catalogs, as functions that do nothing.
 
-ghost use Rattle.std.specs.Prelude.{◌≡◌, ◌≤◌, suc, ℕ, Bool, true, false, ◌&&◌, ◌||◌};
+ghost use Rattle.std.specs.Prelude.{◌≡◌, ◌↔◌, ◌≤◌, suc, ℕ, Bool, true, false, ◌&&◌, ◌||◌, Result};
+ghost use Rattle.rh_base.specs.declared.fault.Refusal.{Refusal};
+ghost use Rattle.pp_syntax.specs.Tokens.{Lexeme};
+ghost use Rattle.pp_syntax.specs.Spelling.{Spells};
+ghost use Rattle.pp_syntax.specs.Statements.{IsManifest};
 ghost use Rattle.std.specs.Prelude.{not, List, map, slice_get, Option, Some, None, Ok, length};
 ghost use Rattle.pp_syntax.specs.declared.tree.Item.{Item};
 ghost use Rattle.pp_syntax.specs.declared.tree.Manifest.{Manifest};
@@ -21,14 +25,16 @@ ghost use Rattle.pp_eval.specs.Scoping.{pairs_in};
 ghost use Rattle.pp_data.specs.declared.data.Level.{Level};
 ghost use Rattle.pp_data.specs.Lookup.{lookup};
 ghost use Rattle.catalog_semantics.specs.declared.catalog.Resource.{Resource};
-ghost use Rattle.catalog_semantics.specs.Sites.{Parameter, Definition, Node, Site, node_of, node_block};
+ghost use Rattle.catalog_semantics.specs.Sites.{Parameter, Definition, Node, Site, node_of, node_block, definition_of, inherits_itself, MeetsTwice};
 ghost use Rattle.catalog_semantics.specs.States.{State, Default, references_of, is_declared, filled};
 ghost use Rattle.catalog_semantics.specs.Declaring.{given_or_else, Bodies, class_ref, class_resource, class_runs, class_included};
 ghost use Rattle.catalog_semantics.specs.Effects.{assigned, chained, called, first_true, unless_true, selected_block, effect_with};
 ghost use Rattle.catalog_semantics.specs.Effects.{block_with, arm_with, options_with, effect_of, effect_at, bodies_at};
-ghost use Rattle.catalog_semantics.specs.Catalogs.{is_called_for, made_real, state_after, round_limit, IsSettled, Catalog, catalog_of};
+ghost use Rattle.catalog_semantics.specs.Catalogs.{is_called_for, made_real, state_after, round_limit, IsSettled, Catalog, catalog_of, IsCatalogOf};
 ghost use Rattle.catalog_semantics.specs.Frames.{Extends, StandOnce, AgreeOn, AreSound};
 ghost use Rattle.catalog_semantics.specs.Nesting.{Deeper};
+
+use pp_syntax::one_spelling;
 
 /// A statement only adds: to scopes, resources, holdings, ties, collectors and realizations. It ends in
 /// the scope and the body where it began.
@@ -134,3 +140,17 @@ pub fn catalogs_are_sound()
     ensures { (m : Manifest) (facts : Value) (node_name : List ℕ) (data_levels : List Level) (c : Catalog)
         → catalog_of m facts node_name data_levels ≡ Ok c → AreSound c.resources }
 {}
+
+/// A class is refused for its parents exactly where their chain meets a class twice.
+pub fn circles_are_refused()
+    ensures { (classes : List Definition) (d : Definition) → definition_of d.name classes ≡ Some d → (inherits_itself classes d ≡ true) ↔ MeetsTwice classes d }
+{}
+
+/// Where tokens spell one manifest, a text has one catalog or one refusal.
+pub fn text_has_one_catalog()
+    ensures { (text : List ℕ) (facts : Value) (node_name : List ℕ) (data_levels : List Level) (v w : Result Catalog Refusal)
+        → ((m n : Manifest) (tokens : List Lexeme) → Spells text tokens → IsManifest m tokens → IsManifest n tokens → m ≡ n)
+        → IsCatalogOf text facts node_name data_levels v → IsCatalogOf text facts node_name data_levels w → v ≡ w }
+{
+    one_spelling();
+}
