@@ -2,6 +2,8 @@
 #![tactic(auto)]
 
 #[cfg(test)]
+mod limits;
+#[cfg(test)]
 mod outside;
 #[cfg(test)]
 mod values;
