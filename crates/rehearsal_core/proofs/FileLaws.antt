@@ -4,18 +4,9 @@ use Rattle.std.proofs.Math.Seq.{take-suc, drop-cons}
 use Rattle.std.proofs.Common.{get_or, add-one, ◌≡◌, ℕ, suc, ◌+◌, ◌<◌, List, [], ◌∷◌, ◌++◌, length, take, drop, None, refl, sym, ap, subst, ◌∙◌}
 use Rattle.std.specs.List.{AllByRecursion}
 use Rattle.rehearsal_core.specs.declared.form.Block.{Block}
-use Rattle.fs_lang.specs.PathText.{IsPathText}
 use Rattle.fs_semantics.specs.FileTree.{Path}
 use Rattle.fs_semantics.specs.PlainFiles.{PlainFile, IsFilePath}
-use Rattle.rehearsal_core.specs.Files.{MayBeManaged, IsManagedPath, AreFilesOf, paths_of, files_at, ArePathsOf, ManagedPathIs, PathsAre}
-
--- a text without a path has no managed one
-pub no_path : (text : List ℕ) → ((p : Path) → IsPathText text p → ⊥) → ManagedPathIs text None
-no_path text none p h = none p h.spelled
-
--- where the path of a text may not be managed, it has no managed one
-pub not_managed : (text : List ℕ) (p : Path) → ((q : Path) → IsPathText text q → p ≡ q) → (MayBeManaged p → ⊥) → ManagedPathIs text None
-not_managed text p only may_not q h = may_not (subst MayBeManaged (sym (only q h.spelled)) h.managed)
+use Rattle.rehearsal_core.specs.Files.{IsManagedPath, AreFilesOf, paths_of, files_at, ArePathsOf, ManagedPathIs, PathsAre}
 
 -- ---- paths of blocks, one more at a time
 

@@ -16,8 +16,3 @@ one_more (d ∷ es) e rest = ap (λ ps. program_of d ∷ ps) (one_more es e rest
 
 pub all_put : (es : List Program) (ps : List Path) → map program_of es ++ puts (files_at [] ps) ≡ map program_of es
 all_put es ps = append-nil (map program_of es)
-
--- where no path is left, nothing is put
-pub none_put : (es : List Program) (blocks : List Block) → map program_of es ++ puts (files_at blocks []) ≡ map program_of es
-none_put es [] = append-nil (map program_of es)
-none_put es (b ∷ blocks) = append-nil (map program_of es)
