@@ -32,7 +32,7 @@ fn scalar(n: u32) -> Option<char>
     char::from_u32(n)
 }
 
-/// The first byte, if it is an ASCII character, and what is index behind it.
+/// The first byte, if it is an ASCII character, and what is left behind it.
 fn first(text: &str) -> Option<(u8, &str)>
     ensures { MatchOption result (NoAsciiFirst text.now) (λ x. (text.now ≡ x.0 ∷ x.1.now) × (x.0 < 128)) }
 {
@@ -44,7 +44,7 @@ fn first(text: &str) -> Option<(u8, &str)>
     Some((b, rest))
 }
 
-/// The value of the hexadecimal digit at the front, and what is index behind it.
+/// The value of the hexadecimal digit at the front, and what is left behind it.
 #[tactic(auto, using(pp_readers::proofs::Digits::hex_here, pp_readers::proofs::Digits::hex_nowhere))]
 fn hex_digit(text: &str) -> Option<(u32, &str)>
     ensures { option_map (λ x. (x.0, x.1.now)) result ≡ hex_front text.now }
@@ -57,7 +57,7 @@ fn hex_digit(text: &str) -> Option<(u32, &str)>
     }
 }
 
-/// The character of a simple escape, and what is index behind it.
+/// The character of a simple escape, and what is left behind it.
 #[tactic(auto, using(pp_readers::proofs::Digits::simple_here, pp_readers::proofs::Digits::simple_nowhere))]
 fn simple(text: &str) -> Option<(char, &str)>
     ensures { option_map (λ x. (x.0, x.1.now)) result ≡ simple_front text.now }
@@ -129,7 +129,7 @@ fn unicode(text: &str) -> Option<(char, &str)>
     four(1, digit, rest)
 }
 
-/// The character that a backslash before this text stands for, and what is index.
+/// The character that a backslash before this text stands for, and what is left.
 #[tactic(auto, using(pp_readers::proofs::Digits::escape_simple, pp_readers::proofs::Digits::escape_unicode, pp_readers::proofs::Digits::escape_none, pp_readers::proofs::Digits::simple_shorter, pp_readers::proofs::Digits::behind_shorter))]
 fn escape(text: &str) -> Option<(char, &str)>
     ensures value { GivesChar (option_map (λ x. (x.0, x.1.now)) result) (dq_escaped text.now) }

@@ -35,7 +35,7 @@ fn literal(text: &str) -> Option<Form>
     }
 }
 
-/// What is index behind this ASCII character.
+/// What is left behind this ASCII character.
 pub(crate) fn behind(text: &str, c: char) -> Option<&str>
     requires { c < 128 }
     ensures { option_map (λ r. r.now) result ≡ behind_byte c text.now }

@@ -75,7 +75,7 @@ fn is_named(operand: &Operand) -> bool
     matches!(operand, Operand::Named(_))
 }
 
-/// One side alone is a resource or a collector; index: the index behind the sides.
+/// One side alone is a resource or a collector; the index is the one behind the sides.
 fn chain_of(index: usize, at: u32, sides: Seq<Operand>, arrows: Seq<Arrow>) -> Result<Stmt, Misread>
     ensures { Gives (λ x. x) result (chain_of at (sides, arrows)) }
 {
