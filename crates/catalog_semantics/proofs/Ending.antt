@@ -21,12 +21,12 @@ use Rattle.catalog_semantics.specs.Catalogs.{main_code, main_ended, first_state,
 use Rattle.catalog_semantics.specs.Catalogs.{next_due, marked, type_runs, resource_runs, run_and_go_on, rounds, state_after, round_limit}
 use Rattle.catalog_semantics.specs.Catalogs.{IsSettled}
 use Rattle.pp_eval.specs.Extending.{Begins}
-use Rattle.catalog_semantics.specs.Frames.{Each, Extends, Fits}
-use Rattle.catalog_semantics.proofs.Keeping.{Keeps, IsFrame, step_each, then_each, if_each, bound_each, body_keeps, statement_keeps}
+use Rattle.catalog_semantics.specs.Frames.{Each, Extends, Fits, IsContainerAt}
+use Rattle.catalog_semantics.proofs.Keeping.{Keeps, IsFrame, step_each, then_each, if_each, both_each, bound_each, body_keeps, statement_keeps}
 use Rattle.pp_eval.specs.Growing.{begins_same}
 use Rattle.catalog_semantics.proofs.Extending.{extending}
 use Rattle.catalog_semantics.proofs.Settled.{realized_again}
-use Rattle.catalog_semantics.proofs.Whole.{IsMainFrame, IsWholeFrame, Same, ends_same, mapped, main_keeps, type_keeps}
+use Rattle.catalog_semantics.proofs.Whole.{IsMainFrame, IsWholeFrame, Same, ends_same, mapped, main_keeps, type_keeps, due_contains}
 
 -- ---- how many resources are declared
 
@@ -49,9 +49,9 @@ fitting_frame = record {
   same = λ s h. h;
   joined = λ s t u h k x. k (h x);
   binds = λ at name x s. bound_each (FitStill s) at name x s (λ h. h);
-  adds = λ r sound. adds_fit r;
-  bodies = λ place scope s t u h k x. k (h x);
-  holds = λ outer class s h. h;
+  adds = λ r sound s holder. adds_fit r s;
+  bodies = λ place scope s t u at h k x. k (h x);
+  holds = λ name outer class s is at h. h;
   ties = λ ties s h. h;
   collects = λ c s h. h;
   wants = λ more s h. h;
@@ -88,12 +88,12 @@ main_runs_none = record {
     same = λ s. refl;
     joined = λ s t u h k. k ∙ h;
     binds = λ at name x s. bound_each (RanStays s) at name x s refl;
-    adds = λ r sound s. step_each (RanStays s) (is_new r s) _
+    adds = λ r sound s holder. step_each (RanStays s) (is_new r s) _
         (λ new. step_each (RanStays s) (has_room r s) _
         (λ room. if_each (RanStays s) _ (Err _) (Ok (with_resource s (as_added s r))) tt refl));
     bodies =
-        λ place scope s t u h k. k ∙ h;
-    holds = λ outer class s. refl;
+        λ place scope s t u at h k. k ∙ h;
+    holds = λ name outer class s is at. refl;
     ties = λ ties s. refl;
     collects = λ c s. refl;
     wants = λ more s. refl;
@@ -132,11 +132,11 @@ next_is s n end (r ∷ resources) x h is =
 abbrev Runs : ℕ → State → State → Type 0
 Runs place s t = (t.ran ≡ s.ran ++ place ∷ []) × Begins s.resources t.resources
 
-runs_one : (site : Site) (place : ℕ) (r : Resource) (d : Option Definition) (s : State) → Each (Runs place s) (type_runs site place r d s)
-runs_one site place r None s = (refl, begins_same s.resources)
-runs_one site place r (Some d) s =
+runs_one : (site : Site) (place : ℕ) (r : Resource) (d : Option Definition) (s : State) → IsContainerAt place s.resources → Each (Runs place s) (type_runs site place r d s)
+runs_one site place r None s at = (refl, begins_same s.resources)
+runs_one site place r (Some d) s at =
     mapped (Extends (marked place s)) (Runs place s) (type_runs site place r (Some d) s) (λ t e. (e.ran, e.resources))
-    (body_keeps Extends extending (effect_of site) (statement_keeps Extends extending site) d place r defined_scope (marked place s))
+    (body_keeps Extends extending (effect_of site) (statement_keeps Extends extending site) d place r defined_scope (marked place s) at)
 
 -- ---- how often
 
@@ -220,14 +220,10 @@ next_same site f g s (Some x) h = h x refl
 abbrev After : Site → ℕ → State → State → Type 0
 After site place s t = Runs place s t × FitStill s t
 
-each_both : (P Q : State → Type 0) (x : Result State Refusal) → Each P x → Each Q x → Each (λ t. P t × Q t) x
-each_both P Q (Ok t) h k = (h, k)
-each_both P Q (Err e) h k = tt
-
-run_gives : (site : Site) (x : ℕ × Resource) (s : State) → Each (After site x.0 s) (resource_runs site x s)
-run_gives site x s =
-    each_both (Runs x.0 s) (FitStill s) (resource_runs site x s) (runs_one site x.0 x.1 (definition_of x.1.id.kind site.defined_types) s)
-    (type_keeps FitStill whole_fits site x.0 x.1 (definition_of x.1.id.kind site.defined_types) s)
+run_gives : (site : Site) (x : ℕ × Resource) (s : State) → IsContainerAt x.0 s.resources → Each (After site x.0 s) (resource_runs site x s)
+run_gives site x s at =
+    both_each (Runs x.0 s) (FitStill s) (resource_runs site x s) (runs_one site x.0 x.1 (definition_of x.1.id.kind site.defined_types) s at)
+    (type_keeps FitStill whole_fits site x.0 x.1 (definition_of x.1.id.kind site.defined_types) s at)
 
 pub rounds_same : (site : Site) (n m : ℕ) (s : State) → RunsOnce s → Fits s → declared_limit + 1 ≤ length s.ran + n
     → declared_limit + 1 ≤ length s.ran + m → rounds n site s ≡ rounds m site s
@@ -238,7 +234,7 @@ rounds_same site (suc n) (suc m) s once fits h k =
     let real = real_once s once in
     let room : Fits (realized s) = whole_fits.realizes s fits in
     let next = next_is (realized s) 0 (length (realized s).resources) (realized s).resources x (omega arith) is in
-    run_same site (rounds n site) (rounds m site) (realized s) x (After site x.0 (realized s)) (run_gives site x (realized s)) (λ t after.
+    run_same site (rounds n site) (rounds m site) (realized s) x (After site x.0 (realized s)) (run_gives site x (realized s) (due_contains (realized s) x is)) (λ t after.
     let more : length t.ran ≡ length s.ran + 1 = ap length after.0.0 ∙ length-append s.ran (x.0 ∷ []) in
     rounds_same site n m t (once_more x.0 (realized s) t next.0 next.1 after.0 real) (after.1 room) (omega arith) (omega arith)))
 
@@ -290,7 +286,7 @@ settles site (suc n) s once fits h =
     let real = real_once s once in
     let room : Fits (realized s) = whole_fits.realizes s fits in
     let next = next_is (realized s) 0 (length (realized s).resources) (realized s).resources x (omega arith) is in
-    then_each (After site x.0 (realized s)) IsSettled (resource_runs site x (realized s)) (rounds n site) (run_gives site x (realized s))
+    then_each (After site x.0 (realized s)) IsSettled (resource_runs site x (realized s)) (rounds n site) (run_gives site x (realized s) (due_contains (realized s) x is))
     (λ t after.
     let more : length t.ran ≡ length s.ran + 1 = ap length after.0.0 ∙ length-append s.ran (x.0 ∷ []) in
     settles site n t (once_more x.0 (realized s) t next.0 next.1 after.0 real) (after.1 room) (omega arith)))

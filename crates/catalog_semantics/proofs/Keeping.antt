@@ -1,7 +1,8 @@
 -- What is so of every statement, where each single change keeps it.
 use Rattle.std.proofs.Common.{◌≡◌, refl, ℕ, zero, suc, Bool, true, false, cond, List, [], ◌∷◌, ◌++◌, map, length, Option, Some, None}
 use Rattle.std.proofs.Common.{Result, Ok, Err}
-use Rattle.std.proofs.Common.{sym, subst}
+use Rattle.std.proofs.Common.{◌⊎◌, inl, inr, ap, sym, ◌∙◌, subst}
+use Rattle.std.specs.Prelude.{slice_get, filter}
 use Rattle.std.specs.Prelude.{codes, is_none}
 use Rattle.std.specs.Str.{bytes_eq}
 use Rattle.std.specs.List.{AllByRecursion, flat_map}
@@ -33,7 +34,7 @@ use Rattle.catalog_semantics.specs.declared.state.Pending.{Pending}
 use Rattle.catalog_semantics.specs.declared.state.Side.{Side}
 use Rattle.catalog_semantics.specs.declared.state.Tie.{Tie}
 use Rattle.catalog_semantics.specs.Sites.{Parameter, Definition, Site, is_built_in}
-use Rattle.catalog_semantics.specs.States.{State, Effect, in_turn, with_scopes, bound, is_declared, is_new, added, held, tied, collected, wanted}
+use Rattle.catalog_semantics.specs.States.{State, Default, Effect, in_turn, with_scopes, bound, is_declared, place_of, defaults_of, lacks, is_class, filled, is_new, has_room, as_added, with_resource, added, held, tied, collected, wanted}
 use Rattle.catalog_semantics.specs.Attributes.{titles_at, attributes_at, references_in}
 use Rattle.catalog_semantics.specs.Declaring.{Bodies, one_more_body, given_or_else, fitting, parameter_bound, all_known, entering, opened}
 use Rattle.catalog_semantics.specs.Declaring.{begun, ended, body_runs, class_ref, class_resource, class_named, class_runs, no_circle}
@@ -45,7 +46,7 @@ use Rattle.catalog_semantics.specs.Collecting.{collector_of}
 use Rattle.catalog_semantics.specs.Effects.{assigned, test_of, first_true, unless_true, first_option, default_block, chosen_block}
 use Rattle.catalog_semantics.specs.Effects.{options_of, selected_block, named_refs, as_named, declared_by, side_of, sides_of, ties_of}
 use Rattle.catalog_semantics.specs.Effects.{chained, called, Arms, CaseArms, effect_with, effect_at, body_limit, effect_of}
-use Rattle.catalog_semantics.specs.Frames.{Each, IsSound, AreSoundAttributes}
+use Rattle.catalog_semantics.specs.Frames.{Each, IsSound, AreSoundAttributes, IsContainerAt}
 use Rattle.catalog_semantics.specs.Catalogs.{is_plain_sort}
 use Rattle.catalog_semantics.specs.declared.catalog.Sort.TheVariants as sort
 use Rattle.catalog_semantics.proofs.DistinctNames.{all_sound}
@@ -60,9 +61,9 @@ pub record IsFrame (R : State → State → Type 0) : Type 0 where
   pub same : (s : State) → R s s
   pub joined : (s t u : State) → R s t → R t u → R s u
   pub binds : (at : ℕ) (name : List ℕ) (x : Value) → Keeps R (bound at name x)
-  pub adds : (r : Resource) → IsSound r → Keeps R (added r)
-  pub bodies : (place : ℕ) (scope : Scope) (s t u : State) → R (entering scope s) t → R (begun place t) u → R s (ended s u)
-  pub holds : (outer class : ℕ) (s : State) → R s (held outer class s)
+  pub adds : (r : Resource) → IsSound r → (s : State) → (r.holder ≡ None) ⊎ (r.holder ≡ s.running) → Each (R s) (added r s)
+  pub bodies : (place : ℕ) (scope : Scope) (s t u : State) → IsContainerAt place s.resources → R (entering scope s) t → R (begun place t) u → R s (ended s u)
+  pub holds : (name : List ℕ) (outer class : ℕ) (s : State) → s.running ≡ Some outer → place_of (class_ref name) s.resources ≡ Some class → R s (held outer class s)
   pub ties : (ties : List Tie) (s : State) → R s (tied ties s)
   pub collects : (c : Collector) (s : State) → R s (collected c s)
   pub wants : (more : List Pending) (s : State) → R s (wanted more s)
@@ -88,6 +89,37 @@ bound_each P at name x s h = by_test (is_none (value_at name (bindings_now s.sco
     by_test : (b : Bool) → Each P (cond b (Ok (with_binding name x s.scopes)) (Err (bound_again at name)) >>= λ scopes. Ok (with_scopes scopes s))
     by_test true = h
     by_test false = tt
+
+pub both_each : {A : Type 0} (P Q : A → Type 0) (x : Result A Refusal) → Each P x → Each Q x → Each (λ t. P t × Q t) x
+both_each P Q (Ok t) h k = (h, k)
+both_each P Q (Err e) h k = tt
+
+-- ---- what is added stands last
+
+got_last : (front : List Resource) (r : Resource) → slice_get (front ++ r ∷ []) (length front) ≡ Some r
+got_last [] r = refl
+got_last (q ∷ front) r = got_last front r
+
+sort_filled : (defaults : List Default) (r : Resource) → (filled defaults r).sort ≡ r.sort
+sort_filled defaults r = either (is_class r)
+  where
+    either : (b : Bool) → (cond b r (record r { attrs = r.attrs ++ filter (lacks r.attrs) (defaults_of r.id.kind defaults) })).sort ≡ r.sort
+    either true = refl
+    either false = refl
+
+sort_added : (s : State) (r : Resource) → (as_added s r).sort ≡ r.sort
+sort_added s r = either s.main_has_ended
+  where
+    either : (b : Bool) → (cond b (filled s.defaults r) r).sort ≡ r.sort
+    either true = sort_filled s.defaults r
+    either false = refl
+
+stands_last : (r : Resource) (s : State) → is_plain_sort r.sort ≡ false → Each (λ t. IsContainerAt (length s.resources) t.resources) (added r s)
+stands_last r s container = step_each Q (is_new r s) _ (λ new. step_each Q (has_room r s) _ (λ room.
+    if_each Q _ (Err _) (Ok (with_resource s (as_added s r))) tt (as_added s r, (got_last s.resources (as_added s r), ap is_plain_sort (sort_added s r) ∙ container))))
+  where
+    Q : State → Type 0
+    Q t = IsContainerAt (length s.resources) t.resources
 
 module _ (R : State → State → Type 0) (frame : IsFrame R) where
   carried : {A : Type 0} (g : A → State) (s t : State) → R s t → (x : Result A Refusal) → Each (λ y. R t (g y)) x → Each (λ y. R s (g y)) x
@@ -130,16 +162,16 @@ module _ (R : State → State → Type 0) (frame : IsFrame R) where
       )
       (entering scope s)
 
-  body_ends : (place : ℕ) (scope : Scope) (s t : State) → R (entering scope s) t → (x : Result State Refusal) → Each (R (begun place t)) x
+  body_ends : (place : ℕ) (scope : Scope) (s t : State) → IsContainerAt place s.resources → R (entering scope s) t → (x : Result State Refusal) → Each (R (begun place t)) x
       → Each (R s) (x >>= λ u. Ok (ended s u))
-  body_ends place scope s t h (Ok u) k = frame.bodies place scope s t u h k
-  body_ends place scope s t h (Err e) k = tt
+  body_ends place scope s t at h (Ok u) k = frame.bodies place scope s t u at h k
+  body_ends place scope s t at h (Err e) k = tt
 
-  pub body_keeps : (run : Stmt → Effect) → ((x : Stmt) → Keeps R (run x)) → (d : Definition) (place : ℕ) (r : Resource) (scope : Scope)
-      → Keeps R (body_runs run d place r scope)
-  body_keeps run h d place r scope s = step_each (R s) (all_known r.at d.parameters r.attrs s) _ (λ known.
+  pub body_keeps : (run : Stmt → Effect) → ((x : Stmt) → Keeps R (run x)) → (d : Definition) (place : ℕ) (r : Resource) (scope : Scope) (s : State) → IsContainerAt place s.resources
+      → Each (R s) (body_runs run d place r scope s)
+  body_keeps run h d place r scope s at = step_each (R s) (all_known r.at d.parameters r.attrs s) _ (λ known.
       then_each (R (entering scope s)) (R s) (opened d r scope s) _ (opened_keeps d r scope s) (λ t k.
-      body_ends place scope s t k (in_turn (map run d.body) (begun place t)) (all_keep run d.body h (begun place t))))
+      body_ends place scope s t at k (in_turn (map run d.body) (begun place t)) (all_keep run d.body h (begun place t))))
 
   -- ---- classes
 
@@ -153,13 +185,14 @@ module _ (R : State → State → Type 0) (frame : IsFrame R) where
   one_keeps at (Some run) h = h
 
   module _ (site : Site) (bodies : Bodies) (keep : BodiesKeep bodies) where
-    class_runs_keeps : (d : Definition) (r : Resource) → IsSound r → Keeps R (class_runs bodies d r)
-    class_runs_keeps d r sound s = step_each (R s) (is_new r s) _ (λ new.
+    class_runs_keeps : (d : Definition) (r : Resource) → IsSound r → is_plain_sort r.sort ≡ false → r.holder ≡ None → Keeps R (class_runs bodies d r)
+    class_runs_keeps d r sound container alone s = step_each (R s) (is_new r s) _ (λ new.
         then_each (λ (run : Stmt → Effect). (x : Stmt) → Keeps R (run x)) (R s) (one_more_body r.at bodies) _ (one_keeps r.at bodies keep)
         (λ run h.
-        then_keep s (added r s) (λ t. body_runs run d (length s.resources) r (class_scope t.scopes.0 d.name d.parent) t)
-        (frame.adds r sound s)
-        (λ t. body_keeps run h d (length s.resources) r (class_scope t.scopes.0 d.name d.parent) t)))
+        then_each (λ t. R s t × IsContainerAt (length s.resources) t.resources) (R s) (added r s) _
+        (both_each (R s) (λ t. IsContainerAt (length s.resources) t.resources) (added r s) (frame.adds r sound s (inl alone)) (stands_last r s container))
+        (λ t k. carried (λ u. u) s t k.0 (body_runs run d (length s.resources) r (class_scope t.scopes.0 d.name d.parent) t)
+        (body_keeps run h d (length s.resources) r (class_scope t.scopes.0 d.name d.parent) t k.1))))
 
     class_sound : (at : ℕ) (name : List ℕ) (attributes : List Pair) → AreSoundAttributes attributes → IsSound (class_resource at name attributes)
     class_sound at name attributes clean = (clean, λ h. cc)
@@ -172,8 +205,8 @@ module _ (R : State → State → Type 0) (frame : IsFrame R) where
         then_keep s (in_turn (map (λ e. class_runs bodies e (class_resource at e.name [])) parents) s)
         (class_runs bodies d (class_resource at d.name attributes))
         (all_keep (λ (e : Definition). class_runs bodies e (class_resource at e.name [])) parents
-        (λ e. class_runs_keeps e (class_resource at e.name []) (class_sound at e.name [] (tt, tt))) s)
-        (class_runs_keeps d (class_resource at d.name attributes) (class_sound at d.name attributes clean)))))
+        (λ e. class_runs_keeps e (class_resource at e.name []) (class_sound at e.name [] (tt, tt)) refl refl) s)
+        (class_runs_keeps d (class_resource at d.name attributes) (class_sound at d.name attributes clean) refl refl))))
 
     included_keeps : (at : ℕ) (name : List ℕ) → Keeps R (class_included site bodies at name)
     included_keeps at name s =
@@ -211,7 +244,7 @@ module _ (R : State → State → Type 0) (frame : IsFrame R) where
     resources_keep : (at : ℕ) (is_virtual : Bool) (kind : List ℕ) (bs : List Body) → Shows (resources_declared site at is_virtual kind bs)
     resources_keep at is_virtual kind bs s = step_each _ (known_type site at (plain_name kind)) _ (λ known.
         bodies_keep (λ here. resource_declared here is_virtual known) (λ title. record { kind = known; title = title })
-        (λ here attributes clean title t. frame.adds _ (clean, sort_built (is_built_in known)) t) bs s)
+        (λ here attributes clean title t. frame.adds _ (clean, sort_built (is_built_in known)) t (inr refl)) bs s)
 
     classes_keep : (bs : List Body) → Shows (classes_declared site bodies bs)
     classes_keep bs s =
@@ -221,10 +254,10 @@ module _ (R : State → State → Type 0) (frame : IsFrame R) where
 
     -- ---- functions
 
-    held_keeps : (outer class : Option ℕ) (s : State) → R s (held_in outer class s)
-    held_keeps None class s = frame.same s
-    held_keeps (Some outer) None s = frame.same s
-    held_keeps (Some outer) (Some class) s = frame.holds outer class s
+    held_keeps : (name : List ℕ) (outer class : Option ℕ) (s : State) → s.running ≡ outer → place_of (class_ref name) s.resources ≡ class → R s (held_in outer class s)
+    held_keeps name None class s is at = frame.same s
+    held_keeps name (Some outer) None s is at = frame.same s
+    held_keeps name (Some outer) (Some class) s is at = frame.holds name outer class s is at
 
     before_keeps : (at : ℕ) (class : Ref) (container : Option Resource) (s : State) → R s (before_container at class container s)
     before_keeps at class None s = frame.same s
@@ -247,7 +280,7 @@ module _ (R : State → State → Type 0) (frame : IsFrame R) where
         (each_class_keeps _ (then_keeps (λ name t. t) (λ name t. frame.same t) at))
     calls_keep at func.Contain xs =
         all_keep (each_class (included_then contained site bodies at)) xs
-        (each_class_keeps _ (then_keeps contained (λ name t. held_keeps _ _ t) at))
+        (each_class_keeps _ (then_keeps contained (λ name t. held_keeps name t.running (place_of (class_ref name) t.resources) t refl refl) at))
     calls_keep at func.Require xs =
         all_keep (each_class (included_then (required at) site bodies at)) xs
         (each_class_keeps _ (then_keeps (required at) (λ name t. before_keeps at (class_ref name) _ t) at))

@@ -134,12 +134,12 @@ whole_sound = record {
       same = λ s h. h;
       joined = λ s t u h k x. k (h x);
       binds = λ at name x s. bound_each (StaySound s) at name x s (λ h. record { resources = h.resources; defaults = h.defaults });
-      adds = adds_sound;
+      adds = λ r sound s holder. adds_sound r sound s;
       bodies =
-          λ place scope s t u h k x. let a = h (record { resources = x.resources; defaults = x.defaults }) in
+          λ place scope s t u at h k x. let a = h (record { resources = x.resources; defaults = x.defaults }) in
           let b = k (record { resources = a.resources; defaults = a.defaults }) in
           record { resources = b.resources; defaults = b.defaults };
-      holds = λ outer class s h. record { resources = h.resources; defaults = h.defaults };
+      holds = λ name outer class s is at h. record { resources = h.resources; defaults = h.defaults };
       ties = λ ties s h. record { resources = h.resources; defaults = h.defaults };
       collects = λ c s h. record { resources = h.resources; defaults = h.defaults };
       wants = λ more s h. record { resources = h.resources; defaults = h.defaults };

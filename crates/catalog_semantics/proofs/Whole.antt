@@ -25,7 +25,12 @@ use Rattle.catalog_semantics.specs.Catalogs.{with_default, default_given, filled
 use Rattle.catalog_semantics.specs.Catalogs.{first_state, main_code, is_called_for, made_real, realized, next_due, marked, type_runs}
 use Rattle.catalog_semantics.specs.Catalogs.{resource_runs, run_and_go_on, rounds, state_after, round_limit, all_there, few_enough, Catalog}
 use Rattle.catalog_semantics.specs.Catalogs.{catalog_in, catalog_from, catalog_of}
-use Rattle.catalog_semantics.specs.Frames.{Each, StandOnce}
+use Rattle.catalog_semantics.specs.declared.catalog.Sort.{Sort}
+use Rattle.catalog_semantics.specs.declared.catalog.Sort.TheVariants as sort
+use Rattle.std.specs.Prelude.{slice_get, not, ◌&&◌}
+use Rattle.std.proofs.Common.{◌+◌, length, length-append}
+use Rattle.catalog_semantics.specs.Catalogs.{is_defined_sort, is_plain_sort, has_run, is_due}
+use Rattle.catalog_semantics.specs.Frames.{Each, StandOnce, IsContainerAt}
 use Rattle.catalog_semantics.proofs.Keeping.{Keeps, IsFrame, step_each, then_each, if_each, then_keep, all_keep, body_keeps}
 use Rattle.catalog_semantics.proofs.Keeping.{statement_keeps}
 use Rattle.catalog_semantics.proofs.Once.{StandStill, standing, filled_id}
@@ -73,27 +78,57 @@ module _ (R : State → State → Type 0) (whole : IsMainFrame R) (site : Site) 
       (all_keep R whole.frame (item_effect site) items item_keeps s) (λ t.
       then_keep R whole.frame t (node_effect site (node_block site) t) main_ended (node_keeps (node_block site) t) whole.fills)
 
+-- ---- what is due is a container
+
+is_defined : (d : Sort) (b c : Bool) → (is_defined_sort d && b && c) ≡ true → is_plain_sort d ≡ false
+is_defined sort.Plain b c h = cc
+is_defined sort.Defined b c h = refl
+is_defined sort.Class b c h = refl
+
+got_behind : (front : List Resource) (r : Resource) (resources : List Resource) → slice_get (front ++ r ∷ resources) (length front) ≡ Some r
+got_behind [] r resources = refl
+got_behind (q ∷ front) r resources = got_behind front r resources
+
+abbrev Contains : List Resource → ℕ × Resource → Type 0
+Contains all x = IsContainerAt x.0 all
+
+due_by : (b : Bool) (all : List Resource) (n : ℕ) (r : Resource) (x : ℕ × Resource) (later : Option (ℕ × Resource)) → slice_get all n ≡ Some r → (b ≡ true → is_plain_sort r.sort ≡ false) → (later ≡ Some x → Contains all x)
+    → cond b (Some (n, r)) later ≡ Some x → Contains all x
+due_by true all n r x later got sort f is = let e : ◌≡◌ {A = ℕ × Resource} (n, r) x = cc in subst (λ (y : ℕ × Resource). Contains all y) e (r, (got, sort refl))
+due_by false all n r x later got sort f is = f is
+
+due_behind : (s : State) (front resources : List Resource) (x : ℕ × Resource) → next_due s (length front) resources ≡ Some x → Contains (front ++ resources) x
+due_behind s front [] x is = absurd (cc)
+due_behind s front (r ∷ resources) x is =
+    due_by (is_due s (length front) r) (front ++ r ∷ resources) (length front) r x (next_due s (length front + 1) resources) (got_behind front r resources)
+    (is_defined r.sort (not r.is_virtual) (not (has_run s (length front)))) (λ later.
+    let more : length (front ++ r ∷ []) ≡ length front + 1 = length-append front (r ∷ []) in
+    subst (λ (all : List Resource). Contains all x) (append_assoc front (r ∷ []) resources) (due_behind s (front ++ r ∷ []) resources x (ap (λ n. next_due s n resources) more ∙ later))) is
+
+pub due_contains : (s : State) (x : ℕ × Resource) → next_due s 0 s.resources ≡ Some x → IsContainerAt x.0 s.resources
+due_contains s x is = due_behind s [] s.resources x is
+
 module _ (R : State → State → Type 0) (whole : IsWholeFrame R) (site : Site) where
   begins_there : (s t : State) → R s t → (x : Result State Refusal) → Each (R t) x → Each (R s) x
   begins_there s t h (Ok u) k = whole.main.frame.joined s t u h k
   begins_there s t h (Err e) k = tt
 
-  pub type_keeps : (place : ℕ) (r : Resource) (d : Option Definition) → Keeps R (type_runs site place r d)
-  type_keeps place r None s = whole.marks place s
-  type_keeps place r (Some d) s =
+  pub type_keeps : (place : ℕ) (r : Resource) (d : Option Definition) (s : State) → IsContainerAt place s.resources → Each (R s) (type_runs site place r d s)
+  type_keeps place r None s at = whole.marks place s
+  type_keeps place r (Some d) s at =
       begins_there s (marked place s) (whole.marks place s) _
-      (body_keeps R whole.main.frame (effect_of site) (statement_keeps R whole.main.frame site) d place r defined_scope (marked place s))
+      (body_keeps R whole.main.frame (effect_of site) (statement_keeps R whole.main.frame site) d place r defined_scope (marked place s) at)
 
-  run_keeps : (go_on : Effect) → Keeps R go_on → (x : Option (ℕ × Resource)) → Keeps R (run_and_go_on site go_on x)
-  run_keeps go_on h None s = whole.main.frame.same s
-  run_keeps go_on h (Some x) s =
-      then_keep R whole.main.frame s (resource_runs site x s) go_on (type_keeps x.0 x.1 (definition_of x.1.id.kind site.defined_types) s) h
+  run_keeps : (go_on : Effect) → Keeps R go_on → (x : Option (ℕ × Resource)) (s : State) → ((y : ℕ × Resource) → x ≡ Some y → IsContainerAt y.0 s.resources) → Each (R s) (run_and_go_on site go_on x s)
+  run_keeps go_on h None s at = whole.main.frame.same s
+  run_keeps go_on h (Some x) s at =
+      then_keep R whole.main.frame s (resource_runs site x s) go_on (type_keeps x.0 x.1 (definition_of x.1.id.kind site.defined_types) s (at x refl)) h
 
   pub rounds_keep : (n : ℕ) → Keeps R (rounds n site)
   rounds_keep zero s = whole.main.frame.same s
   rounds_keep (suc n) s =
       begins_there s (realized s) (whole.realizes s) _
-      (run_keeps (rounds n site) (rounds_keep n) (next_due (realized s) 0 (realized s).resources) (realized s))
+      (run_keeps (rounds n site) (rounds_keep n) (next_due (realized s) 0 (realized s).resources) (realized s) (λ y is. due_contains (realized s) y is))
 
   -- the main code and then the rounds
   pub whole_keeps : (items : List Item) (n : ℕ) (s : State) → Each (R s) (main_code site items s >>= rounds n site)
