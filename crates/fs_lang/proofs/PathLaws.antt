@@ -1,9 +1,9 @@
 -- The text of a path, and its reading.
 use Rattle.std.proofs.Common.{◌≡◌, ◌≢◌, ℕ, Bool, true, false, cond, not, ◌&&◌, ◌||◌, ◌==◌, nat_le, List, [], ◌∷◌, ◌++◌, length, Option, Some, None, refl, sym, ap, subst, ◌∙◌, eqb-true, eq-eqb}
-use Rattle.std.proofs.lemmas.Bool.{eqb-false, le-leb}
+use Rattle.std.proofs.lemmas.Bool.{eqb-false, ne_eqb, le-leb}
 use Rattle.std.proofs.Math.Dec.{eqb-suc-zero}
 use Rattle.std.proofs.lemmas.Slice.Eq.{bytes_eq-Decides}
-use Rattle.std.specs.Prelude.{codes}
+use Rattle.std.specs.Prelude.{codes, ◌↔◌, IsTrue}
 use Rattle.std.specs.List.{AllByRecursion, list_any}
 use Rattle.std.specs.Str.{bytes_eq}
 use Rattle.fs_semantics.specs.FileTree.{Path, IsBytes, IsSegment}
@@ -305,3 +305,29 @@ path_read text p bytes short slash read shallow =
     path_found text p bytes
     (ap (λ b. cond b (within (segments_of (pieces text))) None) (ap (λ b. b && begins_with_slash text) (le-leb (length text) PATH_BYTES short) ∙ slash)
     ∙ ap within read ∙ ap (λ b. cond b (Some p) None) (le-leb (length p) PATH_SEGMENTS shallow))
+
+-- ---- one segment
+
+is_some_text : List ℕ → Bool
+is_some_text [] = false
+is_some_text (b ∷ p) = true
+
+no_slash_in : (p : List ℕ) → not (list_any (λ b. b == 47) p) ≡ true → HasNone 47 p
+no_slash_in [] h = tt
+no_slash_in (b ∷ p) h = let two = neither (b == 47) (list_any (λ b. b == 47) p) h in ((λ e. two.0 (eq-eqb b 47 e)), no_slash_in p two.1)
+
+slash_nowhere : (p : List ℕ) → HasNone 47 p → list_any (λ b. b == 47) p ≡ false
+slash_nowhere [] h = refl
+slash_nowhere (b ∷ p) h = ap (λ v. v || list_any (λ b. b == 47) p) (ne_eqb b 47 h.0) ∙ slash_nowhere p h.1
+
+pub segment_exactly : (text : List ℕ) (there slash good : Bool) → IsBytes text → there ≡ not (length text == 0) → slash ≡ list_any (λ b. b == 47) text → good ≡ is_good text
+    → IsTrue (there && not slash && good) ↔ IsSegment text
+segment_exactly [] there slash good bytes h k l = (
+  (λ e. let no : ◌≡◌ {A = Bool} false true = sym (ap (λ v. v && not slash && good) h) ∙ e in cc),
+  (λ s. absurd (s.nonempty refl)),
+)
+segment_exactly (b ∷ p) there slash good bytes h k l = (
+  (λ e. let two = both (there && not slash) good e in
+  good_segment b p bytes (no_slash_in (b ∷ p) (ap not (sym k) ∙ (both there (not slash) two.0).1)) (sym l ∙ two.1)),
+  (λ s. (λ i. (h ∙ ap not (eqb-suc-zero (length p))) i && not ((k ∙ slash_nowhere (b ∷ p) s.no_slash) i) && (l ∙ good_again (b ∷ p) s) i)),
+)

@@ -8,7 +8,7 @@ use crate::program::{Program, Test};
 use rh_base::{Boxed, NoMemory, Seq};
 use std::alloc::Global;
 
-#[cycle(test)]
+#[cycle(copied_test)]
 fn boxed_test(alloc: Global, test: &Test) -> Result<Boxed<Test>, NoMemory>
     ensures { IfOk result (λ b. b ≡ test.now) }
 {
@@ -16,14 +16,14 @@ fn boxed_test(alloc: Global, test: &Test) -> Result<Boxed<Test>, NoMemory>
     Boxed::new(alloc, copy)
 }
 
-#[cycle(test)]
+#[cycle(copied_test)]
 fn negation(alloc: Global, a: &Test) -> Result<Test, NoMemory>
     ensures { IfOk result (λ test. test ≡ Not a.now) }
 {
     Ok(Test::Not(boxed_test(alloc, a)?))
 }
 
-#[cycle(test)]
+#[cycle(copied_test)]
 fn conjunction(alloc: Global, a: &Test, b: &Test) -> Result<Test, NoMemory>
     ensures { IfOk result (λ test. test ≡ And a.now b.now) }
 {
@@ -31,7 +31,7 @@ fn conjunction(alloc: Global, a: &Test, b: &Test) -> Result<Test, NoMemory>
     Ok(Test::And(left, boxed_test(alloc, b)?))
 }
 
-#[cycle(test)]
+#[cycle(copied_test)]
 fn disjunction(alloc: Global, a: &Test, b: &Test) -> Result<Test, NoMemory>
     ensures { IfOk result (λ test. test ≡ Or a.now b.now) }
 {
@@ -39,7 +39,7 @@ fn disjunction(alloc: Global, a: &Test, b: &Test) -> Result<Test, NoMemory>
     Ok(Test::Or(left, boxed_test(alloc, b)?))
 }
 
-#[cycle(test)]
+#[cycle(copied_test)]
 #[tactic(auto, using(crate::specs::Meaning::test_of_not, crate::specs::Meaning::test_of_and, crate::specs::Meaning::test_of_or))]
 pub(crate) fn copy_test(alloc: Global, test: &Test) -> Result<Test, NoMemory>
     ensures { IfOk result (λ copy. copy ≡ test.now) }

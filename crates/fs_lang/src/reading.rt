@@ -1,6 +1,7 @@
 //! Reading the text of a path, piece by piece between the slashes.
 
-ghost use Rattle.std.specs.Prelude.{◌≡◌, ◌∷◌, ◌++◌, MatchOption};
+ghost use Rattle.std.specs.Prelude.{◌≡◌, ◌↔◌, ◌∷◌, ◌++◌, MatchOption, IsTrue};
+ghost use Rattle.fs_semantics.specs.FileTree.{IsSegment};
 ghost use Rattle.fs_lang.specs.Reading.{is_good, piece_of, Adds, begins_with_slash, HasNoSlash, pieces, segments_of, PathGives};
 
 use crate::path::PathFault;
@@ -14,6 +15,16 @@ fn is_good(piece: &str) -> bool
     let is_dots = piece == "..";
     let has_zero = piece.as_bytes().contains(&0);
     !is_dot && !is_dots && !has_zero
+}
+
+/// Whether a text is a segment.
+pub fn is_segment(text: &str) -> bool
+    ensures { IsTrue result ↔ IsSegment text.now }
+{
+    let is_there = !text.is_empty();
+    let has_slash = text.as_bytes().contains(&47);
+    let good = is_good(text);
+    is_there && !has_slash && good
 }
 
 fn add_piece(alloc: Global, segments: &mut Seq<Text>, piece: &str) -> Result<(), PathFault>

@@ -2,7 +2,7 @@ use Rattle.std.proofs.Common.{rules, ap}
 use Rattle.fs_lang.specs.Meaning.{test_of}
 use Rattle.fs_lang.specs.Sizes.{test_size}
 use Rattle.fs_lang.proofs.SizeLaws.{and_size, or_size}
-use Rattle.fs_lang.proofs.copies.+test.Goals as goal
+use Rattle.fs_lang.proofs.copies.+copied_test.Goals as goal
 
 pub copy_test-conjunction-requires : goal.copy_test-conjunction-requires
 copy_test-conjunction-requires t c =

@@ -1,7 +1,7 @@
 use Rattle.std.proofs.Common.{ℕ, ◌+◌, ◌*◌}
 use Rattle.fs_lang.specs.Meaning.{test_of}
 use Rattle.fs_lang.specs.Sizes.{test_size}
-use Rattle.fs_lang.proofs.copies.+test.Given as goal
+use Rattle.fs_lang.proofs.copies.+copied_test.Given as goal
 
 abbrev pub decreases-copy_test : goal.decreases-copy_test
 decreases-copy_test l = 3 * test_size (test_of l.test.now)

@@ -1,0 +1,27 @@
+-- Fronts of paths, and their texts.
+use Rattle.std.proofs.Common.{◌≡◌, ℕ, zero, suc, ◌-◌, ◌+◌, List, [], ◌∷◌, ◌++◌, length, take, refl, sym, ap, ◌∙◌, arith, append_assoc}
+use Rattle.std.specs.Prelude.{codes}
+use Rattle.std.proofs.lemmas.List.{append-nil}
+use Rattle.std.specs.List.{AllByRecursion}
+use Rattle.fs_semantics.specs.FileTree.{Path, IsSegment, parent}
+use Rattle.fs_lang.specs.PathText.{spelled}
+
+pub parent_is_front : (p : Path) → take (length p - 1) p ≡ parent p
+parent_is_front [] = refl
+parent_is_front (s ∷ []) = refl
+parent_is_front (s ∷ r ∷ p) = ap (λ q. s ∷ q) (parent_is_front (r ∷ p))
+
+pub front_proper : (n : ℕ) (p : Path) → AllByRecursion IsSegment p → AllByRecursion IsSegment (take n p)
+front_proper zero p all = tt
+front_proper (suc n) [] all = tt
+front_proper (suc n) (s ∷ p) all = (all.0, front_proper n p all.1)
+
+pub child_proper : (p : Path) (s : List ℕ) → AllByRecursion IsSegment p → IsSegment s → AllByRecursion IsSegment (p ++ s ∷ [])
+child_proper [] s all is = (is, tt)
+child_proper (r ∷ p) s all is = (all.0, child_proper p s all.1 is)
+
+pub spelled_snoc : (p : Path) (s : List ℕ) → spelled (p ++ s ∷ []) ≡ (spelled p ++ codes "/") ++ s
+spelled_snoc [] s = ap (λ t. codes "/" ++ t) (append-nil s)
+spelled_snoc (r ∷ p) s =
+    ap (λ t. codes "/" ++ (r ++ t)) (spelled_snoc p s ∙ append_assoc (spelled p) (codes "/") s)
+    ∙ ap (λ t. codes "/" ++ t) (sym (append_assoc r (spelled p) (codes "/" ++ s))) ∙ sym (append_assoc (codes "/" ++ (r ++ spelled p)) (codes "/") s)
