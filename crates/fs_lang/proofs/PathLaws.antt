@@ -12,7 +12,7 @@ use Rattle.std.proofs.lemmas.List.{append-nil}
 use Rattle.rh_base.specs.declared.limits.TheConstants.{PATH_BYTES, PATH_SEGMENTS}
 use Rattle.fs_lang.specs.PathText.{AreSlashes, Segments, IsPathText}
 use Rattle.fs_lang.proofs.Pieces.{pieces_last, pieces_first}
-use Rattle.fs_lang.specs.Reading.{HasNoSlash, with_byte, pieces, is_good, piece_of, joined, segments_of, begins_with_slash, within, path_in}
+use Rattle.fs_lang.specs.Reading.{HasNoSlash, with_byte, pieces, is_good, is_segment, piece_of, joined, segments_of, begins_with_slash, within, path_in}
 
 abbrev HasNone : ℕ → List ℕ → Type 0
 HasNone c p = AllByRecursion (λ b. b ≢ c) p
@@ -308,10 +308,6 @@ path_read text p bytes short slash read shallow =
 
 -- ---- one segment
 
-is_some_text : List ℕ → Bool
-is_some_text [] = false
-is_some_text (b ∷ p) = true
-
 no_slash_in : (p : List ℕ) → not (list_any (λ b. b == 47) p) ≡ true → HasNone 47 p
 no_slash_in [] h = tt
 no_slash_in (b ∷ p) h = let two = neither (b == 47) (list_any (λ b. b == 47) p) h in ((λ e. two.0 (eq-eqb b 47 e)), no_slash_in p two.1)
@@ -320,14 +316,13 @@ slash_nowhere : (p : List ℕ) → HasNone 47 p → list_any (λ b. b == 47) p �
 slash_nowhere [] h = refl
 slash_nowhere (b ∷ p) h = ap (λ v. v || list_any (λ b. b == 47) p) (ne_eqb b 47 h.0) ∙ slash_nowhere p h.1
 
-pub segment_exactly : (text : List ℕ) (there slash good : Bool) → IsBytes text → there ≡ not (length text == 0) → slash ≡ list_any (λ b. b == 47) text → good ≡ is_good text
-    → IsTrue (there && not slash && good) ↔ IsSegment text
-segment_exactly [] there slash good bytes h k l = (
-  (λ e. let no : ◌≡◌ {A = Bool} false true = sym (ap (λ v. v && not slash && good) h) ∙ e in cc),
-  (λ s. absurd (s.nonempty refl)),
-)
-segment_exactly (b ∷ p) there slash good bytes h k l = (
-  (λ e. let two = both (there && not slash) good e in
-  good_segment b p bytes (no_slash_in (b ∷ p) (ap not (sym k) ∙ (both there (not slash) two.0).1)) (sym l ∙ two.1)),
-  (λ s. (λ i. (h ∙ ap not (eqb-suc-zero (length p))) i && not ((k ∙ slash_nowhere (b ∷ p) s.no_slash) i) && (l ∙ good_again (b ∷ p) s) i)),
+there : (b : ℕ) (p : List ℕ) → not (length (b ∷ p) == 0) ≡ true
+there b p = ap not (eqb-suc-zero (length p))
+
+pub segment_exactly : (text : List ℕ) → IsBytes text → IsTrue (is_segment text) ↔ IsSegment text
+segment_exactly [] bytes = ((λ e. cc), (λ s. absurd (s.nonempty refl)))
+segment_exactly (b ∷ p) bytes = (
+  (λ e. let two = both (not (length (b ∷ p) == 0) && not (list_any (λ c. c == 47) (b ∷ p))) (is_good (b ∷ p)) e in
+      good_segment b p bytes (no_slash_in (b ∷ p) (both (not (length (b ∷ p) == 0)) (not (list_any (λ c. c == 47) (b ∷ p))) two.0).1) two.1),
+  (λ s. (λ i. there b p i && not (slash_nowhere (b ∷ p) s.no_slash i) && good_again (b ∷ p) s i)),
 )

@@ -1,5 +1,5 @@
 -- What stands in a list is smaller than the list.
-use Rattle.std.proofs.Common.{◌≡◌, ℕ, zero, suc, ◌+◌, ◌<◌, ◌≤◌, List, [], ◌∷◌, length, get_or, sym, ap, subst, ◌∙◌, arith}
+use Rattle.std.proofs.Common.{◌≡◌, ℕ, zero, suc, ◌+◌, ◌<◌, List, [], ◌∷◌, length, get_or, sym, ap, subst, ◌∙◌, arith}
 use Rattle.fs_lang.specs.declared.program.Program.{Program}
 use Rattle.fs_lang.specs.declared.program.Program.TheVariants as program
 use Rattle.fs_lang.specs.declared.program.Test.{Test}

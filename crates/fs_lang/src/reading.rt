@@ -2,7 +2,7 @@
 
 ghost use Rattle.std.specs.Prelude.{◌≡◌, ◌↔◌, ◌∷◌, ◌++◌, MatchOption, IsTrue};
 ghost use Rattle.fs_semantics.specs.FileTree.{IsSegment};
-ghost use Rattle.fs_lang.specs.Reading.{is_good, piece_of, Adds, begins_with_slash, HasNoSlash, pieces, segments_of, PathGives};
+ghost use Rattle.fs_lang.specs.Reading.{is_good, is_segment, piece_of, Adds, begins_with_slash, HasNoSlash, pieces, segments_of, PathGives};
 
 use crate::path::PathFault;
 use rh_base::{NoMemory, Seq, Text};
@@ -17,14 +17,21 @@ fn is_good(piece: &str) -> bool
     !is_dot && !is_dots && !has_zero
 }
 
+/// Whether a text is there, has no slash, and is good.
+fn is_whole(text: &str) -> bool
+    ensures { result ≡ is_segment text.now }
+{
+    let is_empty = text.is_empty();
+    let has_slash = text.as_bytes().contains(&47);
+    let good = is_good(text);
+    !is_empty && !has_slash && good
+}
+
 /// Whether a text is a segment.
 pub fn is_segment(text: &str) -> bool
     ensures { IsTrue result ↔ IsSegment text.now }
 {
-    let is_there = !text.is_empty();
-    let has_slash = text.as_bytes().contains(&47);
-    let good = is_good(text);
-    is_there && !has_slash && good
+    is_whole(text)
 }
 
 fn add_piece(alloc: Global, segments: &mut Seq<Text>, piece: &str) -> Result<(), PathFault>
