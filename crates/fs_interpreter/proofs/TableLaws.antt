@@ -71,9 +71,6 @@ no_number t c kept none = elim (content_place t.contents.items c) as (λ o. cont
 pub all_children_below : (paths : List Path) (p : Path) (places : List ℕ) → places ≡ children_in paths p → AllByRecursion (λ i. i < length paths) places
 all_children_below paths p places e = subst (λ is. AllByRecursion (λ i. i < length paths) is) (sym e) (children_below paths p)
 
-pub no_children_at : (t : Inside) (p : Path) → IsKept t → place_in (paths_of t.nodes.items) p ≡ None → ((length p == 0) ≡ false) → [] ≡ children_in (paths_of t.nodes.items) p
-no_children_at t p kept none e = no_children (listed t) p kept.table (λ h. let z : ◌≡◌ {A = Bool} true false = ap (λ (q : Path). length q == 0) (sym h) ∙ e in cc) none
-
 pub empty_is_kept : (t : Inside) → t.nodes.items ≡ [] → t.top.items ≡ [] → t.contents.items ≡ [] → IsKept t
 empty_is_kept t nodes top contents =
     let paths : paths_of t.nodes.items ≡ [] = ap paths_of nodes in
@@ -85,3 +82,79 @@ empty_is_kept t nodes top contents =
       places = λ p i h. let no : ◌≡◌ {A = Option ℕ} None (Some i) = sym (ap (λ ps. place_in ps p) paths) ∙ h in cc;
       numbers = λ c i h. let no : ◌≡◌ {A = Option ℕ} None (Some i) = sym (ap (λ cs. content_place cs c) contents) ∙ h in cc;
     }
+
+-- ---- in the lists that contracts see
+
+pub at_seen : (t : Inside) (table : Listed) (i : ℕ) (n : Node) (p : Path) (b : Bool) → listed t ≡ table → i < length t.nodes.items → n ≡ get_or t.nodes.items i n → b ≡ path_eq n.path p
+    → IsTrue b ↔ (slice_get table.paths i ≡ Some p)
+at_seen t table i n p b view below is e =
+    let exact = at_exactly t.nodes.items i n p (read_node t.nodes.items i n below is) in
+    subst (λ (x : Listed). IsTrue b ↔ (slice_get x.paths i ≡ Some p)) view (subst (λ v. IsTrue v ↔ (slice_get (paths_of t.nodes.items) i ≡ Some p)) (sym e) exact)
+
+pub past_seen : (t : Inside) (table : Listed) (i : ℕ) (p : Path) → listed t ≡ table → length t.nodes.items ≤ i → slice_get table.paths i ≢ Some p
+past_seen t table i p view h e = past_end t.nodes.items i p h (ap (λ (x : Listed). slice_get x.paths i) view ∙ e)
+
+pub place_seen : (t : Inside) (table : Listed) (p : Path) (i : ℕ) → listed t ≡ table → IsKept t → slice_get table.paths i ≡ Some p → Some i ≡ place_in table.paths p
+place_seen t table p i view kept h =
+    sym (sym (ap (λ (x : Listed). place_in x.paths p) view) ∙ place_is t p i kept (ap (λ (x : Listed). slice_get x.paths i) view ∙ h))
+
+pub no_place_seen : (t : Inside) (table : Listed) (p : Path) (i : ℕ) → listed t ≡ table → IsKept t → Some i ≡ stored.get path_cmp t.places p → slice_get table.paths i ≢ Some p → None ≡ place_in table.paths p
+no_place_seen t table p i view kept found other =
+    sym (sym (ap (λ (x : Listed). place_in x.paths p) view) ∙ no_place t p kept (λ j h e.
+    let two : ◌≡◌ {A = Option ℕ} (Some i) (Some j) = found ∙ h in
+    let same : j ≡ i = cc in
+    other (sym (ap (λ (x : Listed). slice_get x.paths i) view) ∙ subst (λ k. slice_get (paths_of t.nodes.items) k ≡ Some p) same e)))
+
+pub content_seen : (t : Inside) (table : Listed) (n : ℕ) (d e c : List ℕ) (b : Bool) → listed t ≡ table → n < length t.contents.items → d ≡ get_or t.contents.items n d → b ≡ bytes_eq e c → e ≡ d
+    → IsTrue b ↔ (slice_get table.contents n ≡ Some c)
+content_seen t table n d e c b view below is k l =
+    let got = slice_get_read t.contents.items (length t.contents.items) n d refl below is in
+    let same : b ≡ bytes_eq d c = k ∙ ap (λ x. bytes_eq x c) l in
+    let there : slice_get table.contents n ≡ Some d = sym (ap (λ (x : Listed). slice_get x.contents n) view) ∙ got in
+    (
+      (λ h. there ∙ ap Some ((bytes_eq-Decides d c).0 (sym same ∙ h))),
+      (λ h. let two : ◌≡◌ {A = Option (List ℕ)} (Some d) (Some c) = sym there ∙ h in let equal : d ≡ c = cc in same ∙ (bytes_eq-Decides d c).1 equal),
+    )
+
+pub no_content_seen : (t : Inside) (table : Listed) (n : ℕ) (c : List ℕ) → listed t ≡ table → length t.contents.items ≤ n → slice_get table.contents n ≢ Some c
+no_content_seen t table n c view h e =
+    let there = ap (λ (x : Listed). slice_get x.contents n) view ∙ e in
+    let below = slice_get_within t.contents.items n c there in
+    absurd (omega arith)
+
+pub number_seen : (t : Inside) (table : Listed) (c : List ℕ) (i : ℕ) → listed t ≡ table → IsKept t → slice_get table.contents i ≡ Some c → Some i ≡ content_place table.contents c
+number_seen t table c i view kept h =
+    sym (sym (ap (λ (x : Listed). content_place x.contents c) view) ∙ number_is t c i kept (ap (λ (x : Listed). slice_get x.contents i) view ∙ h))
+
+pub no_number_seen : (t : Inside) (table : Listed) (c e : List ℕ) (i : ℕ) → listed t ≡ table → IsKept t → Some i ≡ stored.get_by_text t.numbers e → e ≡ c → slice_get table.contents i ≢ Some c → None ≡ content_place table.contents c
+no_number_seen t table c e i view kept found l other =
+    sym (sym (ap (λ (x : Listed). content_place x.contents c) view) ∙ no_number t c kept (λ j h k.
+    let two : ◌≡◌ {A = Option ℕ} (Some i) (Some j) = found ∙ ap (stored.get_by_text t.numbers) l ∙ h in
+    let same : j ≡ i = cc in
+    other (sym (ap (λ (x : Listed). slice_get x.contents i) view) ∙ subst (λ m. slice_get t.contents.items m ≡ Some c) same k)))
+
+pub seen_below : (table : Listed) (p : Path) (i : ℕ) → Some i ≡ place_in table.paths p → i < length table.paths
+seen_below table p i h = subst (λ o. IfSome o (λ j. j < length table.paths)) (sym h) (place_below table.paths p)
+
+same_length : (t : Inside) (table : Listed) → listed t ≡ table → length table.paths ≡ length t.nodes.items
+same_length t table view = sym (ap (λ (x : Listed). length x.paths) view) ∙ length-paths t.nodes.items
+
+pub parent_seen : (t : Inside) (table : Listed) (i : ℕ) (n : Node) → listed t ≡ table → IsKept t → i < length table.paths → n ≡ get_or t.nodes.items i n → IfSome n.parent (λ j. j < length table.paths)
+parent_seen t table i n view kept below is =
+    let size = same_length t table view in
+    let got = read_node t.nodes.items i n (omega (arith, below, size)) is in
+    subst (λ (x : Listed). IfSome n.parent (λ j. j < length x.paths)) view
+    (subst (λ o. IfSome o (λ j. j < length (paths_of t.nodes.items))) (sym (kept.parents i n got)) (place_below (paths_of t.nodes.items) (parent n.path)))
+
+pub children_seen : (t : Inside) (table : Listed) (p : Path) (i : ℕ) (n : Node) → listed t ≡ table → IsKept t → place_in table.paths p ≡ Some i → i < length table.paths → n ≡ get_or t.nodes.items i n → n.children.items ≡ children_in table.paths p
+children_seen t table p i n view kept at below is =
+    let size = same_length t table view in
+    let got = read_node t.nodes.items i n (omega (arith, below, size)) is in
+    let here = place_there (paths_of t.nodes.items) p i (ap (λ (x : Listed). place_in x.paths p) view ∙ at) in
+    let two : ◌≡◌ {A = Option Path} (Some n.path) (Some p) = sym (path_at t.nodes.items i n got) ∙ here in
+    let same : n.path ≡ p = cc in
+    kept.children i n got ∙ ap (children_in (paths_of t.nodes.items)) same ∙ ap (λ (x : Listed). children_in x.paths p) view
+
+pub no_children_seen : (t : Inside) (table : Listed) (p : Path) → listed t ≡ table → IsKept t → place_in table.paths p ≡ None → ((length p == 0) ≡ false) → [] ≡ children_in table.paths p
+no_children_seen t table p view kept none e =
+    no_children table p (subst IsTable view kept.table) (λ h. let z : ◌≡◌ {A = Bool} true false = ap (λ (q : Path). length q == 0) (sym h) ∙ e in cc) none

@@ -22,9 +22,3 @@ front_proper (suc n) (s ∷ p) all = (all.0, front_proper n p all.1)
 pub child_proper : (p : Path) (s : List ℕ) → AllByRecursion IsSegment p → IsSegment s → AllByRecursion IsSegment (p ++ s ∷ [])
 child_proper [] s all is = (is, tt)
 child_proper (r ∷ p) s all is = (all.0, child_proper p s all.1 is)
-
-pub spelled_snoc : (p : Path) (s : List ℕ) → spelled (p ++ s ∷ []) ≡ (spelled p ++ codes "/") ++ s
-spelled_snoc [] s = ap (λ t. codes "/" ++ t) (append-nil s)
-spelled_snoc (r ∷ p) s =
-    ap (λ t. codes "/" ++ (r ++ t)) (spelled_snoc p s ∙ append_assoc (spelled p) (codes "/") s)
-    ∙ ap (λ t. codes "/" ++ t) (sym (append_assoc r (spelled p) (codes "/" ++ s))) ∙ sym (append_assoc (codes "/" ++ (r ++ spelled p)) (codes "/") s)

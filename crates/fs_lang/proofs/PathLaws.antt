@@ -295,10 +295,6 @@ path_again text p h =
     tests (inl e) = absurd (h.not_empty e)
     tests (inr (rest, e)) = ap (λ b. b && begins_with_slash text) (le-leb (length text) PATH_BYTES h.bytes) ∙ ap begins_with_slash e
 
--- a text has one path at most
-pub one_path : (text : List ℕ) (p q : Path) → IsPathText text p → IsPathText text q → p ≡ q
-one_path text p q a b = let same : Some p ≡ Some q = sym (path_again text p a) ∙ path_again text q b in cc
-
 -- what reading tests, one after the other
 pub path_read : (text : List ℕ) (p : Path) → IsBytes text → length text ≤ PATH_BYTES → begins_with_slash text ≡ true → segments_of (pieces text) ≡ Some p → length p ≤ PATH_SEGMENTS → IsPathText text p
 path_read text p bytes short slash read shallow =
