@@ -3,12 +3,7 @@ use Rattle.std.proofs.Common.{◌≡◌, ◌≢◌, ◌⊎◌, inl, inr, ℕ, ze
 use Rattle.std.proofs.lemmas.Bool.{eqb-false}
 use Rattle.std.specs.Prelude.{not, ◌&&◌, ◌||◌, slice_get}
 use Rattle.std.specs.List.{list_any}
-use Rattle.std.specs.Ordering.{nat_cmp, is_eq}
-use Rattle.std.specs.Cmp.{nat_cmp_total, tied_itself, Equal-is}
-use Rattle.std.specs.Cmp.Lexicographic.{slice_cmp}
-use Rattle.std.proofs.lemmas.Cmp.{lists_total}
 use Rattle.std.specs.FinMap as map
-use Rattle.std.specs.FinMap.{nat_cmp-IsAntisymmetric, slice_cmp-IsAntisymmetric}
 use Rattle.fs_semantics.specs.FileTree.{Path, Entry, Folder, File, Link as LinkTo, Tree, path_eq, parent, is_root, is_file_entry, is_link_entry, is_folder_entry, is_file, is_link, is_dir, is_none, is_empty_dir}
 use Rattle.fs_semantics.specs.Programs.{Program, Programs, Id, Err, Mkdir, Creat, Link, Rm, Cp, Steps, If, none, next, Outcome, and_then, made, removed, copied, holds, run, run_all}
 use Rattle.fs_semantics.proofs.Trees.{at_inserted, at_other, at_removed, at_kept}
@@ -16,7 +11,7 @@ use Rattle.fs_interpreter.specs.Places.{Listed, IsTable, HasPath, HasContent, Co
 use Rattle.fs_interpreter.specs.States.{Cell, State}
 use Rattle.fs_interpreter.specs.Steps.{Cellwise, file_at, dir_at, none_at, any_present, free_at, with_cell, failed, put, removed_at, copied_at, folder_cell, file_cell, link_cell, told, stepped, all_stepped}
 use Rattle.fs_interpreter.specs.Standing.{Tells, Stands, StandsFor}
-use Rattle.fs_interpreter.proofs.SearchLaws.{place_there}
+use Rattle.fs_interpreter.proofs.SearchLaws.{place_there, content_there, content_found}
 use Rattle.fs_interpreter.proofs.StepLaws.{error_stays, error_stays_in_all}
 use Rattle.fs_interpreter.proofs.TestLaws.{Seen, seen, file_is, dir_is, none_is, any_is, cell_file, told_is}
 
@@ -135,35 +130,6 @@ copied_is table s t p q is st (inr h) k = subst (λ o. StandsFor table (copied_a
     (copied_here table s t q h.0 (map.get t p) is st k h.2)
 
 -- ---- contents
-
-bytes_same : (c d : List ℕ) → is_eq (slice_cmp nat_cmp c d) ≡ true → c ≡ d
-bytes_same c d h = slice_cmp-IsAntisymmetric nat_cmp-IsAntisymmetric c d ((Equal-is (slice_cmp nat_cmp c d)).0 h)
-
-content_there : (contents : List (List ℕ)) (c : List ℕ) (i : ℕ) → content_place contents c ≡ Some i → slice_get contents i ≡ Some c
-content_there [] c i h = cc
-content_there (d ∷ contents) c i h = elim (is_eq (slice_cmp nat_cmp d c)) as (λ b. is_eq (slice_cmp nat_cmp d c) ≡ b → cond b (Some 0) (one_further (content_place contents c)) ≡ Some i → slice_get (d ∷ contents) i ≡ Some c) [
-  | true ↦ λ e k. (let z : 0 ≡ i = cc in subst (λ j. slice_get (d ∷ contents) j ≡ Some c) z (ap Some (bytes_same d c e)))
-  | false ↦ λ e k. elim (content_place contents c) as (λ o. content_place contents c ≡ o → one_further o ≡ Some i → slice_get (d ∷ contents) i ≡ Some c) [
-    | None ↦ λ f l. cc
-    | Some j ↦ λ f l. (let z : suc j ≡ i = cc in subst (λ x. slice_get (d ∷ contents) x ≡ Some c) z (content_there contents c j f))
-  ] refl k
-] refl h
-
-content_found : (contents : List (List ℕ)) (c : List ℕ) (i : ℕ) → slice_get contents i ≡ Some c → (j : ℕ) × (content_place contents c ≡ Some j)
-content_found [] c i h = cc
-content_found (d ∷ contents) c zero h = (
-  0,
-  ap (λ b. cond b (Some 0) (one_further (content_place contents c)))
-      (ap (λ (x : Option (List ℕ)). is_eq (slice_cmp nat_cmp (or_empty x) c)) h ∙ ap is_eq (tied_itself (lists_total nat_cmp_total) c)),
-)
-  where
-    or_empty : Option (List ℕ) → List ℕ
-    or_empty None = []
-    or_empty (Some x) = x
-content_found (d ∷ contents) c (suc i) h = let found = content_found contents c i h in elim (is_eq (slice_cmp nat_cmp d c)) as (λ b. (j : ℕ) × (cond b (Some 0) (one_further (content_place contents c)) ≡ Some j)) [
-  | true ↦ (0, refl)
-  | false ↦ (suc found.0, ap one_further found.1)
-]
 
 number_there : (contents : List (List ℕ)) (c : List ℕ) (i : ℕ) → slice_get contents i ≡ Some c → slice_get contents (number_in contents c) ≡ Some c
 number_there contents c i h = let found = content_found contents c i h in ap (λ o. slice_get contents (or_zero o)) found.1 ∙ content_there contents c found.0 found.1

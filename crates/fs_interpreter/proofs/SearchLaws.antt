@@ -2,9 +2,14 @@
 use Rattle.std.proofs.Common.{◌≡◌, ◌≢◌, ◌⊎◌, inl, inr, ℕ, zero, suc, ◌+◌, ◌<◌, ◌≤◌, Bool, true, false, cond, List, [], ◌∷◌, length, Option, Some, None, refl, sym, ap, subst, ◌∙◌, arith}
 use Rattle.std.specs.Prelude.{IfSome, slice_get}
 use Rattle.std.specs.List.{AllByRecursion}
+use Rattle.std.specs.Ordering.{nat_cmp, is_eq}
+use Rattle.std.specs.Cmp.{nat_cmp_total, tied_itself, Equal-is}
+use Rattle.std.specs.Cmp.Lexicographic.{slice_cmp}
+use Rattle.std.proofs.lemmas.Cmp.{lists_total}
+use Rattle.std.specs.FinMap.{nat_cmp-IsAntisymmetric, slice_cmp-IsAntisymmetric}
 use Rattle.fs_semantics.specs.FileTree.{Path, path_eq, parent}
 use Rattle.fs_semantics.proofs.Trees.{path_eq_same, path_eq_refl, path_eq_other}
-use Rattle.fs_interpreter.specs.Places.{Listed, IsTable, one_further, place_in, children_from, children_in, HasPath}
+use Rattle.fs_interpreter.specs.Places.{Listed, IsTable, one_further, place_in, content_place, children_from, children_in, HasPath}
 
 abbrev pub shifted : ℕ → Option ℕ → Option ℕ
 shifted k None = None
@@ -79,3 +84,34 @@ children_from_below k (q ∷ paths) p =
 
 pub children_below : (paths : List Path) (p : Path) → AllByRecursion (λ i. i < length paths) (children_in paths p)
 children_below paths p = within 0 (0 + length paths) (length paths) (children_in paths p) (omega arith) (children_from_below 0 paths p)
+
+-- ---- contents
+
+bytes_same : (c d : List ℕ) → is_eq (slice_cmp nat_cmp c d) ≡ true → c ≡ d
+bytes_same c d h = slice_cmp-IsAntisymmetric nat_cmp-IsAntisymmetric c d ((Equal-is (slice_cmp nat_cmp c d)).0 h)
+
+pub content_there : (contents : List (List ℕ)) (c : List ℕ) (i : ℕ) → content_place contents c ≡ Some i → slice_get contents i ≡ Some c
+content_there [] c i h = cc
+content_there (d ∷ contents) c i h = elim (is_eq (slice_cmp nat_cmp d c)) as (λ b. is_eq (slice_cmp nat_cmp d c) ≡ b → cond b (Some 0) (one_further (content_place contents c)) ≡ Some i → slice_get (d ∷ contents) i ≡ Some c) [
+  | true ↦ λ e k. (let z : 0 ≡ i = cc in subst (λ j. slice_get (d ∷ contents) j ≡ Some c) z (ap Some (bytes_same d c e)))
+  | false ↦ λ e k. elim (content_place contents c) as (λ o. content_place contents c ≡ o → one_further o ≡ Some i → slice_get (d ∷ contents) i ≡ Some c) [
+    | None ↦ λ f l. cc
+    | Some j ↦ λ f l. (let z : suc j ≡ i = cc in subst (λ x. slice_get (d ∷ contents) x ≡ Some c) z (content_there contents c j f))
+  ] refl k
+] refl h
+
+pub content_found : (contents : List (List ℕ)) (c : List ℕ) (i : ℕ) → slice_get contents i ≡ Some c → (j : ℕ) × (content_place contents c ≡ Some j)
+content_found [] c i h = cc
+content_found (d ∷ contents) c zero h = (
+  0,
+  ap (λ b. cond b (Some 0) (one_further (content_place contents c)))
+      (ap (λ (x : Option (List ℕ)). is_eq (slice_cmp nat_cmp (or_empty x) c)) h ∙ ap is_eq (tied_itself (lists_total nat_cmp_total) c)),
+)
+  where
+    or_empty : Option (List ℕ) → List ℕ
+    or_empty None = []
+    or_empty (Some x) = x
+content_found (d ∷ contents) c (suc i) h = let found = content_found contents c i h in elim (is_eq (slice_cmp nat_cmp d c)) as (λ b. (j : ℕ) × (cond b (Some 0) (one_further (content_place contents c)) ≡ Some j)) [
+  | true ↦ (0, refl)
+  | false ↦ (suc found.0, ap one_further found.1)
+]

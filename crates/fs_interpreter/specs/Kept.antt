@@ -1,15 +1,24 @@
 -- How a table keeps what it finds.
-use Rattle.std.specs.Prelude.{◌≡◌, ◌≢◌, ℕ, ◌<◌, List, [], length, Option, Some, None, slice_get, IfSome}
-use Rattle.std.specs.List.{AllByRecursion}
-use Rattle.fs_semantics.specs.FileTree.{Path, parent}
-use Rattle.fs_interpreter.specs.Places.{Listed, IsTable, place_in, children_in}
+use Rattle.std.specs.Prelude.{◌≡◌, ℕ, List, [], map, Option, Some, slice_get}
+use Rattle.std.specs.BTreeMap as stored
+use Rattle.fs_semantics.specs.FileTree.{Path, path_cmp, parent}
+use Rattle.fs_interpreter.specs.Places.{Listed, IsTable, place_in, content_place, children_in}
+use Rattle.fs_interpreter.specs.declared.table.Node.{Node}
 use Rattle.fs_interpreter.specs.declared.table.Table.TheInside.{Inside}
 
--- the two lists are a table, and the children and the parent of each path are those
+abbrev pub paths_of : List Node → List Path
+paths_of nodes = map (λ n. n.path) nodes
+
+-- the two lists
+abbrev pub listed : Inside → Listed
+listed t = record { paths = paths_of t.nodes.items; contents = t.contents.items }
+
+-- The two lists are a table, the parent and the children of each path are those, and each path and content is found. (An
+-- entry of the map may be left over from a failed call; so what is found is compared.)
 pub record IsKept (t : Inside) : Type 0 where
-  pub table : IsTable (record { paths = t.paths; contents = t.contents })
-  pub child_lists : length t.children.items ≡ length t.paths
-  pub parent_list : length t.parents.items ≡ length t.paths
-  pub top : t.top.items ≡ children_in t.paths []
-  pub children : (i : ℕ) (p : Path) → slice_get t.paths i ≡ Some p → (places : _) → slice_get t.children.items i ≡ Some places → places.items ≡ children_in t.paths p
-  pub parents : (i : ℕ) (p : Path) → slice_get t.paths i ≡ Some p → (o : Option ℕ) → slice_get t.parents.items i ≡ Some o → o ≡ place_in t.paths (parent p)
+  pub table : IsTable (listed t)
+  pub top : t.top.items ≡ children_in (paths_of t.nodes.items) []
+  pub children : (i : ℕ) (n : Node) → slice_get t.nodes.items i ≡ Some n → n.children.items ≡ children_in (paths_of t.nodes.items) n.path
+  pub parents : (i : ℕ) (n : Node) → slice_get t.nodes.items i ≡ Some n → n.parent ≡ place_in (paths_of t.nodes.items) (parent n.path)
+  pub places : (p : Path) (i : ℕ) → place_in (paths_of t.nodes.items) p ≡ Some i → stored.get path_cmp t.places p ≡ Some i
+  pub numbers : (c : List ℕ) (i : ℕ) → content_place t.contents.items c ≡ Some i → stored.get_by_text t.numbers c ≡ Some i

@@ -14,7 +14,7 @@ use fs_lang::Test;
 use rh_base::NoMemory;
 
 /// Whether the test holds of what the cells tell.
-#[cycle(test)]
+#[cycle(held_test)]
 #[tactic(auto, using(fs_lang::specs::Meaning::test_of_not, fs_lang::specs::Meaning::test_of_and, fs_lang::specs::Meaning::test_of_or))]
 pub(crate) fn holds<B: Bits>(
     bits: &mut B,
@@ -42,7 +42,7 @@ pub(crate) fn holds<B: Bits>(
     }
 }
 
-#[cycle(test)]
+#[cycle(held_test)]
 fn fails<B: Bits>(
     bits: &mut B,
     table: &Table,
@@ -59,7 +59,7 @@ fn fails<B: Bits>(
     bits.not(&inner)
 }
 
-#[cycle(test)]
+#[cycle(held_test)]
 fn both_hold<B: Bits>(
     bits: &mut B,
     table: &Table,
@@ -78,7 +78,7 @@ fn both_hold<B: Bits>(
     bits.and(&first, &second)
 }
 
-#[cycle(test)]
+#[cycle(held_test)]
 fn one_holds<B: Bits>(
     bits: &mut B,
     table: &Table,

@@ -1,17 +1,27 @@
-use crate::search::{find_content, find_path};
+//! Paths and contents by number.
+
 use fs_lang::Path;
-use rh_base::{NoMemory, Seq, Text};
+use rh_base::{NoMemory, Text};
 use std::alloc::Global;
+use std::collections::BTreeMap;
 use std::marker::Model;
 
-/// The paths that programs name, each with its parent and its children, and the contents. Contracts see the two lists.
+/// A path with the places of its parent and of its children.
+#[derive(Drop)]
+pub(crate) struct Node {
+    pub path: Path,
+    pub parent: Option<usize>,
+    pub children: Vec<usize>,
+}
+
+/// Paths, each with its parent and its children, and contents, both by number. Contracts see the two lists.
 #[derive(Drop)]
 pub struct Table {
-    paths: Seq<Path>,
-    contents: Seq<Text>,
-    children: Vec<Vec<usize>>,
+    nodes: Vec<Node>,
     top: Vec<usize>,
-    parents: Vec<Option<usize>>,
+    places: BTreeMap<Path, usize>,
+    contents: Vec<Text>,
+    numbers: BTreeMap<String, usize>,
 }
 
 impl Model for Table {
@@ -19,44 +29,84 @@ impl Model for Table {
 
     ghost Value = { Listed };
 
-    ghost use Rattle.fs_interpreter.specs.Kept.{IsKept};
+    ghost use Rattle.fs_interpreter.specs.Kept.{IsKept, listed};
 
-    ghost view = { λ t. record { paths = t.paths; contents = t.contents } };
+    ghost view = { listed };
 
     ghost invariant = { IsKept };
 }
 
 impl Table {
-    ghost use Rattle.std.specs.Prelude.{◌≡◌, ◌<◌, length, slice_get, Some, IfSome};
+    ghost use Rattle.std.specs.Prelude.{◌≡◌, ◌↔◌, ◌<◌, [], length, slice_get, Some, IfSome, IfOk, IsTrue};
     ghost use Rattle.std.specs.List.{AllByRecursion};
     ghost use Rattle.fs_semantics.specs.FileTree.{Path as Segments, parent as above};
     ghost use Rattle.fs_interpreter.specs.Places.{IsTable, place_in, children_in, content_place};
 
+    /// A table of no paths and no contents.
+    pub fn new(alloc: Global) -> Result<Table, NoMemory>
+        ensures { IfOk result (λ t. t ≡ record { paths = []; contents = [] }) }
+    {
+        Ok(Table {
+            nodes: Vec::new(alloc),
+            top: Vec::new(alloc),
+            places: BTreeMap::new(alloc),
+            contents: Vec::new(alloc),
+            numbers: BTreeMap::new(alloc),
+        })
+    }
+
+    pub fn path_count(&self) -> u64
+        ensures { result ≡ length self.now.paths }
+    {
+        self.nodes.len() as u64
+    }
+
+    pub fn content_count(&self) -> u64
+        ensures { result ≡ length self.now.contents }
+    {
+        self.contents.len() as u64
+    }
+
+    /// Whether this path is at the place.
+    fn is_at(&self, i: usize, p: &Path) -> bool
+        ensures { IsTrue result ↔ (slice_get self.now.paths i ≡ Some p.now) }
+    {
+        if i < self.nodes.len() {
+            self.nodes[i].path == *p
+        } else {
+            false
+        }
+    }
+
     /// The place of a path; the root has none.
     #[tactic(auto, using(crate::proofs::SearchLaws::place_below))]
-    pub fn place(&self, p: &Path) -> Option<usize>
+    pub(crate) fn place(&self, p: &Path) -> Option<usize>
         ensures place { result ≡ place_in self.now.paths p.now }
         ensures below { IfSome result (λ i. i < length self.now.paths) }
     {
-        find_path(self.paths.as_slice(), p)
+        let Some(found) = self.places.get(p) else {
+            return None;
+        };
+        let i = *found;
+        if self.is_at(i, p) { Some(i) } else { None }
     }
 
     /// The place of the parent of the path at a place; the root has none.
-    pub fn parent(&self, i: usize) -> Option<usize>
+    pub(crate) fn parent(&self, i: usize) -> Option<usize>
         requires { i < length self.now.paths }
         ensures place { (p : Segments) → slice_get self.now.paths i ≡ Some p → result ≡ place_in self.now.paths (above p) }
         ensures below { IfSome result (λ j. j < length self.now.paths) }
     {
-        self.parents[i]
+        self.nodes[i].parent
     }
 
     /// The places of the children of a path.
-    pub fn children(&self, p: &Path) -> &[usize]
+    pub(crate) fn children(&self, p: &Path) -> &[usize]
         ensures places { result.now ≡ children_in self.now.paths p.now }
         ensures below { AllByRecursion (λ i. i < length self.now.paths) result.now }
     {
         match self.place(p) {
-            Some(i) => &self.children[i],
+            Some(i) => &self.nodes[i].children,
             None => {
                 if p.segments().is_empty() {
                     &self.top
@@ -68,16 +118,31 @@ impl Table {
     }
 
     /// Each path stands once, and with it its parent.
-    pub fn is_table(&self)
+    pub(crate) fn is_table(&self)
         ensures { IsTable self.now }
     {
-        let _count = self.paths.len();
+        let _count = self.contents.len();
+    }
+
+    /// Whether this content has the number.
+    fn has_number(&self, n: usize, c: &Text) -> bool
+        ensures { IsTrue result ↔ (slice_get self.now.contents n ≡ Some c.now) }
+    {
+        if n < self.contents.len() {
+            self.contents[n].as_str() == c.as_str()
+        } else {
+            false
+        }
     }
 
     /// The number of a content.
-    pub fn number(&self, c: &Text) -> Option<usize>
+    pub(crate) fn number(&self, c: &Text) -> Option<usize>
         ensures { result ≡ content_place self.now.contents c.now }
     {
-        find_content(self.contents.as_slice(), c)
+        let Some(found) = self.numbers.get(c.as_str()) else {
+            return None;
+        };
+        let n = *found;
+        if self.has_number(n, c) { Some(n) } else { None }
     }
 }

@@ -4,3 +4,4 @@ pub mod PathLaws
 pub mod FrontLaws
 pub mod SizeLaws
 pub mod TreeLaws
+pub mod ParentLaws

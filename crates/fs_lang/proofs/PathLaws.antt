@@ -1,9 +1,9 @@
 -- The text of a path, and its reading.
 use Rattle.std.proofs.Common.{◌≡◌, ◌≢◌, ℕ, Bool, true, false, cond, not, ◌&&◌, ◌||◌, ◌==◌, nat_le, List, [], ◌∷◌, ◌++◌, length, Option, Some, None, refl, sym, ap, subst, ◌∙◌, eqb-true, eq-eqb}
-use Rattle.std.proofs.lemmas.Bool.{eqb-false, le-leb}
+use Rattle.std.proofs.lemmas.Bool.{eqb-false, ne_eqb, le-leb}
 use Rattle.std.proofs.Math.Dec.{eqb-suc-zero}
 use Rattle.std.proofs.lemmas.Slice.Eq.{bytes_eq-Decides}
-use Rattle.std.specs.Prelude.{codes}
+use Rattle.std.specs.Prelude.{codes, ◌↔◌, IsTrue}
 use Rattle.std.specs.List.{AllByRecursion, list_any}
 use Rattle.std.specs.Str.{bytes_eq}
 use Rattle.fs_semantics.specs.FileTree.{Path, IsBytes, IsSegment}
@@ -12,7 +12,7 @@ use Rattle.std.proofs.lemmas.List.{append-nil}
 use Rattle.rh_base.specs.declared.limits.TheConstants.{PATH_BYTES, PATH_SEGMENTS}
 use Rattle.fs_lang.specs.PathText.{AreSlashes, Segments, IsPathText}
 use Rattle.fs_lang.proofs.Pieces.{pieces_last, pieces_first}
-use Rattle.fs_lang.specs.Reading.{HasNoSlash, with_byte, pieces, is_good, piece_of, joined, segments_of, begins_with_slash, within, path_in}
+use Rattle.fs_lang.specs.Reading.{HasNoSlash, with_byte, pieces, is_good, is_segment, piece_of, joined, segments_of, begins_with_slash, within, path_in}
 
 abbrev HasNone : ℕ → List ℕ → Type 0
 HasNone c p = AllByRecursion (λ b. b ≢ c) p
@@ -295,13 +295,30 @@ path_again text p h =
     tests (inl e) = absurd (h.not_empty e)
     tests (inr (rest, e)) = ap (λ b. b && begins_with_slash text) (le-leb (length text) PATH_BYTES h.bytes) ∙ ap begins_with_slash e
 
--- a text has one path at most
-pub one_path : (text : List ℕ) (p q : Path) → IsPathText text p → IsPathText text q → p ≡ q
-one_path text p q a b = let same : Some p ≡ Some q = sym (path_again text p a) ∙ path_again text q b in cc
-
 -- what reading tests, one after the other
 pub path_read : (text : List ℕ) (p : Path) → IsBytes text → length text ≤ PATH_BYTES → begins_with_slash text ≡ true → segments_of (pieces text) ≡ Some p → length p ≤ PATH_SEGMENTS → IsPathText text p
 path_read text p bytes short slash read shallow =
     path_found text p bytes
     (ap (λ b. cond b (within (segments_of (pieces text))) None) (ap (λ b. b && begins_with_slash text) (le-leb (length text) PATH_BYTES short) ∙ slash)
     ∙ ap within read ∙ ap (λ b. cond b (Some p) None) (le-leb (length p) PATH_SEGMENTS shallow))
+
+-- ---- one segment
+
+no_slash_in : (p : List ℕ) → not (list_any (λ b. b == 47) p) ≡ true → HasNone 47 p
+no_slash_in [] h = tt
+no_slash_in (b ∷ p) h = let two = neither (b == 47) (list_any (λ b. b == 47) p) h in ((λ e. two.0 (eq-eqb b 47 e)), no_slash_in p two.1)
+
+slash_nowhere : (p : List ℕ) → HasNone 47 p → list_any (λ b. b == 47) p ≡ false
+slash_nowhere [] h = refl
+slash_nowhere (b ∷ p) h = ap (λ v. v || list_any (λ b. b == 47) p) (ne_eqb b 47 h.0) ∙ slash_nowhere p h.1
+
+there : (b : ℕ) (p : List ℕ) → not (length (b ∷ p) == 0) ≡ true
+there b p = ap not (eqb-suc-zero (length p))
+
+pub segment_exactly : (text : List ℕ) → IsBytes text → IsTrue (is_segment text) ↔ IsSegment text
+segment_exactly [] bytes = ((λ e. cc), (λ s. absurd (s.nonempty refl)))
+segment_exactly (b ∷ p) bytes = (
+  (λ e. let two = both (not (length (b ∷ p) == 0) && not (list_any (λ c. c == 47) (b ∷ p))) (is_good (b ∷ p)) e in
+      good_segment b p bytes (no_slash_in (b ∷ p) (both (not (length (b ∷ p) == 0)) (not (list_any (λ c. c == 47) (b ∷ p))) two.0).1) two.1),
+  (λ s. (λ i. there b p i && not (slash_nowhere (b ∷ p) s.no_slash i) && good_again (b ∷ p) s i)),
+)

@@ -1,5 +1,5 @@
 -- A map of entries as a tree.
-use Rattle.std.proofs.Common.{◌≡◌, ◌≢◌, ℕ, Bool, true, false, cond, List, [], ◌∷◌, Option, Some, None, option_map, is_some, refl, sym, ap, subst, ◌∙◌}
+use Rattle.std.proofs.Common.{◌≡◌, ℕ, Bool, true, false, cond, List, [], ◌∷◌, Option, Some, None, option_map, is_some, refl, sym, ap, subst, ◌∙◌}
 use Rattle.std.specs.Cmp.{eq_by_cmp_equiv}
 use Rattle.std.specs.FinMap as finite
 use Rattle.std.specs.FinMap.{find, get-from_entries, get-insert, get-empty}
@@ -7,8 +7,7 @@ use Rattle.std.specs.Map.{lookup}
 use Rattle.std.specs.BTreeMap as stored
 use Rattle.std.specs.BTreeMap.{BTreeMap, is_at}
 use Rattle.std.specs.List.{AllByRecursion}
-use Rattle.fs_semantics.specs.FileTree as tree
-use Rattle.fs_semantics.specs.FileTree.{Path, Tree, IsTree, IsSegment, IsBytes, HasText, path_cmp, path_eq, parent, is_dir, is_none}
+use Rattle.fs_semantics.specs.FileTree.{Path, Tree, IsTree, IsSegment, IsBytes, HasText, path_cmp, path_eq, parent}
 use Rattle.fs_semantics.specs.Entries.{IsFreeAt, IsFolderAt}
 use Rattle.fs_semantics.proofs.Trees.{path_total}
 use Rattle.fs_semantics.proofs.Words.{same_tree, free_at, folder_at}

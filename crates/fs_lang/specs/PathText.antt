@@ -1,5 +1,5 @@
 -- The texts of paths.
-use Rattle.std.specs.Prelude.{◌≡◌, ◌≢◌, ℕ, ◌≤◌, List, [], ◌∷◌, ◌++◌, length}
+use Rattle.std.specs.Prelude.{◌≡◌, ◌≢◌, ℕ, ◌≤◌, List, [], ◌∷◌, ◌++◌, length, codes}
 use Rattle.std.specs.List.{AllByRecursion}
 use Rattle.rh_base.specs.declared.limits.TheConstants.{PATH_BYTES, PATH_SEGMENTS}
 use Rattle.fs_lang.specs.declared.path.PathFault.{PathFault}
@@ -28,3 +28,13 @@ pub record IsPathText (text : List ℕ) (p : Path) : Type 0 where
 abbrev pub IfBad : PathFault → Type 0 → Type 0
 IfBad fault.Bad P = P
 IfBad (fault.Memory m) P = Unit {0}
+
+-- each segment after a slash
+abbrev pub spelled : Path → List ℕ
+spelled [] = []
+spelled (s ∷ p) = codes "/" ++ (s ++ spelled p)
+
+-- the text of a path as it is written
+abbrev pub path_text : Path → List ℕ
+path_text [] = codes "/"
+path_text (s ∷ p) = spelled (s ∷ p)

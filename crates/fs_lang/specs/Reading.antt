@@ -20,6 +20,10 @@ pieces (b ∷ text) = if b == 47 then [] ∷ pieces text else with_byte b (piece
 abbrev pub is_good : List ℕ → Bool
 is_good p = not (bytes_eq p (codes ".")) && not (bytes_eq p (codes "..")) && not (list_any (λ b. b == 0) p)
 
+-- not empty, without a slash, and good
+abbrev pub is_segment : List ℕ → Bool
+is_segment p = not (length p == 0) && not (list_any (λ b. b == 47) p) && is_good p
+
 -- what a piece adds: nothing, or itself, if it is a segment
 abbrev pub piece_of : List ℕ → Option Path
 piece_of p = if length p == 0 then Some [] else (if is_good p then Some (p ∷ []) else None)

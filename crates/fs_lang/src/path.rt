@@ -1,5 +1,10 @@
+//! Paths.
+
+ghost use Rattle.std.specs.Prelude.{◌≡◌, IfOk};
+ghost use Rattle.fs_lang.specs.PathText.{spelled};
+
 use crate::fronts::is_proper_front;
-use crate::reading::{begins_with_slash, segments_of};
+use crate::reading::{begins_with_slash, is_segment, segments_of};
 use rh_base::limits::{PATH_BYTES, PATH_SEGMENTS};
 use rh_base::{NoMemory, Seq, Text};
 use std::alloc::Global;
@@ -41,12 +46,34 @@ impl From<NoMemory> for PathFault {
     }
 }
 
+fn copy_all(alloc: Global, segments: &[Text]) -> Result<Seq<Text>, NoMemory>
+    ensures { IfOk result (λ copies. copies ≡ segments.now) }
+{
+    let mut copies = Seq::new(alloc);
+    for segment in segments {
+        copies.push(segment.copy(alloc)?)?;
+    }
+    Ok(copies)
+}
+
+/// Each segment after a slash.
+fn spelled_out(alloc: Global, segments: &[Text]) -> Result<Text, NoMemory>
+    ensures { IfOk result (λ text. text ≡ spelled segments.now) }
+{
+    let mut text = Text::new(alloc);
+    for segment in segments {
+        text.push("/")?;
+        text.push(segment.as_str())?;
+    }
+    Ok(text)
+}
+
 impl Path {
-    ghost use Rattle.std.specs.Prelude.{◌≡◌, ◌↔◌, IsTrue, IfOk, IfErr};
+    ghost use Rattle.std.specs.Prelude.{◌≡◌, ◌↔◌, ◌≤◌, ◌++◌, ◌∷◌, [], length, take, IsTrue, IfOk, IfErr};
     ghost use Rattle.std.specs.List.{AllByRecursion};
-    ghost use Rattle.fs_semantics.specs.FileTree.{Path as Segments, IsSegment};
+    ghost use Rattle.fs_semantics.specs.FileTree.{Path as Segments, IsSegment, parent};
     ghost use Rattle.fs_semantics.specs.Disjoint.{IsAncestor};
-    ghost use Rattle.fs_lang.specs.PathText.{IsPathText, IfBad};
+    ghost use Rattle.fs_lang.specs.PathText.{IsPathText, IfBad, spelled, path_text};
 
     /// The path that a text spells.
     #[tactic(auto, using(crate::proofs::PathLaws::path_again))]
@@ -67,14 +94,62 @@ impl Path {
         Ok(Path { segments })
     }
 
+    pub fn root(alloc: Global) -> Result<Path, NoMemory>
+        ensures { IfOk result (λ path. path ≡ []) }
+    {
+        Ok(Path {
+            segments: Seq::new(alloc),
+        })
+    }
+
+    /// The path one segment further down. It has no limit of length.
+    pub fn child(&self, alloc: Global, segment: &str) -> Result<Path, PathFault>
+        ensures found { IfOk result (λ path. path ≡ self.now ++ segment.now ∷ []) }
+        // It is bad exactly where the text is no segment.
+        ensures proper { IfOk result (λ path. IsSegment segment.now) }
+        ensures bad { IfErr result (λ e. IfBad e (IsSegment segment.now → ⊥)) }
+    {
+        if !is_segment(segment) {
+            return Err(PathFault::Bad);
+        }
+        let mut segments = copy_all(alloc, self.segments())?;
+        let last = String::from_str(alloc, segment).map_err(|_| PathFault::Memory(NoMemory))?;
+        segments.push(Text::from_string(last))?;
+        Ok(Path { segments })
+    }
+
+    /// The path of the first n segments.
+    pub fn front(&self, alloc: Global, n: usize) -> Result<Path, NoMemory>
+        requires { n ≤ length self.now }
+        ensures { IfOk result (λ path. path ≡ take n self.now) }
+    {
+        let segments = copy_all(alloc, &self.segments()[..n])?;
+        Ok(Path { segments })
+    }
+
+    /// The path without its last segment; the root is its own parent.
+    #[tactic(auto, using(crate::proofs::ParentLaws::parent_is_front))]
+    pub fn parent(&self, alloc: Global) -> Result<Path, NoMemory>
+        ensures { IfOk result (λ path. path ≡ parent self.now) }
+    {
+        self.front(alloc, self.segments().len().saturating_sub(1))
+    }
+
+    /// Each segment after a slash; of the root one slash.
+    pub fn text(&self, alloc: Global) -> Result<Text, NoMemory>
+        ensures { IfOk result (λ text. text ≡ path_text self.now) }
+    {
+        if self.segments().is_empty() {
+            return Ok(Text::from_string(String::from_str(alloc, "/")?));
+        }
+        spelled_out(alloc, self.segments())
+    }
+
     /// An equal path.
     pub fn copy(&self, alloc: Global) -> Result<Path, NoMemory>
         ensures { IfOk result (λ path. path ≡ self.now) }
     {
-        let mut segments = Seq::new(alloc);
-        for segment in self.segments.as_slice() {
-            segments.push(segment.copy(alloc)?)?;
-        }
+        let segments = copy_all(alloc, self.segments())?;
         Ok(Path { segments })
     }
 

@@ -1,7 +1,8 @@
 //! Reading the text of a path, piece by piece between the slashes.
 
-ghost use Rattle.std.specs.Prelude.{◌≡◌, ◌∷◌, ◌++◌, MatchOption};
-ghost use Rattle.fs_lang.specs.Reading.{is_good, piece_of, Adds, begins_with_slash, HasNoSlash, pieces, segments_of, PathGives};
+ghost use Rattle.std.specs.Prelude.{◌≡◌, ◌↔◌, ◌∷◌, ◌++◌, MatchOption, IsTrue};
+ghost use Rattle.fs_semantics.specs.FileTree.{IsSegment};
+ghost use Rattle.fs_lang.specs.Reading.{is_good, is_segment, piece_of, Adds, begins_with_slash, HasNoSlash, pieces, segments_of, PathGives};
 
 use crate::path::PathFault;
 use rh_base::{NoMemory, Seq, Text};
@@ -14,6 +15,23 @@ fn is_good(piece: &str) -> bool
     let is_dots = piece == "..";
     let has_zero = piece.as_bytes().contains(&0);
     !is_dot && !is_dots && !has_zero
+}
+
+/// Whether a text is there, has no slash, and is good.
+fn is_whole(text: &str) -> bool
+    ensures { result ≡ is_segment text.now }
+{
+    let is_empty = text.is_empty();
+    let has_slash = text.as_bytes().contains(&47);
+    let good = is_good(text);
+    !is_empty && !has_slash && good
+}
+
+/// Whether a text is a segment.
+pub fn is_segment(text: &str) -> bool
+    ensures { IsTrue result ↔ IsSegment text.now }
+{
+    is_whole(text)
 }
 
 fn add_piece(alloc: Global, segments: &mut Seq<Text>, piece: &str) -> Result<(), PathFault>

@@ -1,6 +1,5 @@
 //! File trees as values.
 
-ghost use Rattle.std.specs.Prelude.{◌≡◌, IfOk};
 ghost use Rattle.fs_semantics.specs.FileTree.{IsBytes};
 ghost use Rattle.fs_lang.specs.Trees.{TextIsBytes};
 
@@ -47,17 +46,6 @@ fn entry_is_bytes(entry: &Entry)
         Entry::Folder => {}
         Entry::File(content) => text_is_bytes(content),
         Entry::Link(target) => text_is_bytes(target),
-    }
-}
-
-/// An entry with the same content or target.
-fn copy_entry(alloc: Global, entry: &Entry) -> Result<Entry, NoMemory>
-    ensures { IfOk result (λ copy. copy ≡ entry.now) }
-{
-    match entry {
-        Entry::Folder => Ok(Entry::Folder),
-        Entry::File(content) => Ok(Entry::File(content.copy(alloc)?)),
-        Entry::Link(target) => Ok(Entry::Link(target.copy(alloc)?)),
     }
 }
 

@@ -1,6 +1,7 @@
 //! Paths from texts.
 
 use fs_lang::{Path, PathFault, are_disjoint};
+use rh_base::Text;
 use std::alloc::Global;
 use std::process::Abort;
 use std::test::Fail;
@@ -88,11 +89,47 @@ fn paths_above_others(rt: HostRuntime) -> Result<(), Fail> {
         let answer = path(&rt, alloc, above).is_ancestor(&path(&rt, alloc, below));
         assert_eq!(rt; answer, want, "{above} {below}");
     }
-    let apart = vec![in alloc; path(&rt, alloc, "/a/b"), path(&rt, alloc, "/a/c")]?;
-    assert!(rt; are_disjoint(&apart));
+    let others = vec![in alloc; path(&rt, alloc, "/a/b"), path(&rt, alloc, "/a/c")]?;
+    assert!(rt; are_disjoint(&others));
     let same = vec![in alloc; path(&rt, alloc, "/a/b"), path(&rt, alloc, "//a/b/")]?;
     assert!(rt; !are_disjoint(&same));
     let above = vec![in alloc; path(&rt, alloc, "/a/b"), path(&rt, alloc, "/a")]?;
     assert!(rt; !are_disjoint(&above));
+    Ok(())
+}
+
+fn written(rt: &impl Abort, alloc: Global, path: &Path) -> Text {
+    path.text(alloc).ok().expect(rt, "a text")
+}
+
+#[test]
+fn paths_written_and_their_parents(rt: HostRuntime) -> Result<(), Fail> {
+    let alloc = rt.alloc();
+    for (text, want, above) in [
+        ("/", "/", "/"),
+        ("/a", "/a", "/"),
+        ("//a/b/", "/a/b", "/a"),
+        ("/etc/ntp.conf", "/etc/ntp.conf", "/etc"),
+    ] {
+        let read = path(&rt, alloc, text);
+        assert_eq!(rt; written(&rt, alloc, &read).as_str(), want, "{text}");
+        let parent = read.parent(alloc).ok().ok_or("memory")?;
+        assert_eq!(rt; written(&rt, alloc, &parent).as_str(), above, "{text}");
+    }
+    Ok(())
+}
+
+#[test]
+fn children_of_paths(rt: HostRuntime) -> Result<(), Fail> {
+    let alloc = rt.alloc();
+    let root = Path::root(alloc).ok().ok_or("memory")?;
+    for segment in ["a", "...", "a.b", "ü", ".rehearsal"] {
+        let child = root.child(alloc, segment).ok().ok_or("a path")?;
+        assert_eq!(rt; &written(&rt, alloc, &child).as_str()[1..], segment);
+    }
+    for segment in ["", ".", "..", "a/b", "/", "a\0b"] {
+        let child = root.child(alloc, segment).err();
+        assert_eq!(rt; child, Some(PathFault::Bad), "{segment}");
+    }
     Ok(())
 }

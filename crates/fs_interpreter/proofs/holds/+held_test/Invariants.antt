@@ -1,7 +1,7 @@
 use Rattle.std.proofs.Common.{ℕ, ◌+◌, ◌*◌}
 use Rattle.fs_lang.specs.Meaning.{test_of}
 use Rattle.fs_lang.specs.Sizes.{test_size}
-use Rattle.fs_interpreter.proofs.holds.+test.Given as goal
+use Rattle.fs_interpreter.proofs.holds.+held_test.Given as goal
 
 abbrev pub decreases-holds : goal.decreases-holds
 decreases-holds g l = 2 * test_size (test_of l.test.now)

@@ -7,7 +7,7 @@ use Rattle.fs_lang.specs.Sizes.{test_size}
 use Rattle.fs_lang.proofs.SizeLaws.{and_size, or_size}
 use Rattle.fs_interpreter.specs.States.{cell_at}
 use Rattle.fs_interpreter.proofs.Frames.{cells_stay, cells_keep, if_means}
-use Rattle.fs_interpreter.proofs.holds.+test.Goals as goal
+use Rattle.fs_interpreter.proofs.holds.+held_test.Goals as goal
 
 pub both_hold-returns-clause-gives : goal.both_hold-returns-clause-gives
 both_hold-returns-clause-gives g t c =
