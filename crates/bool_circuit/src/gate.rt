@@ -1,3 +1,5 @@
+//! Gates, and the wires that number them.
+
 /// The number of a wire, which is the place of its gate in the circuit.
 #[derive(Clone, Copy, Debug, PartialEq, Eq, Hash)]
 pub struct Wire(pub u64);

@@ -1,3 +1,5 @@
+//! Clauses: finite sets of literals.
+
 ghost use Rattle.std.specs.Prelude.{◌≡◌, IfOk};
 
 use crate::lit::Lit;

@@ -1,3 +1,5 @@
+//! The formula that the goal of a circuit can be true.
+
 ghost use Rattle.std.specs.Prelude.{◌≡◌, ◌↔◌, ◌+◌, ◌<◌, ◌≤◌, ℕ, Bool, true, ◌&&◌, if◌then◌else◌, [], ◌∷◌, ◌++◌, length, IfOk, OnOk};
 ghost use Rattle.bool_circuit.specs.Gates.{truth_at, input_count, wire_value, PlaceBelow, OperandsBelow};
 ghost use Rattle.cnf.specs.Literals.{opposite, lit_true, HasVariable};

@@ -1,3 +1,5 @@
+//! Formulas: lists of clauses, kept in one array of words.
+
 ghost use Rattle.std.specs.Prelude.{All, ◌≡◌, ◌+◌, ◌-◌, ◌*◌, ◌<◌, ◌≤◌, ◌^◌, [], ◌∷◌, ◌++◌, length, map, slice_get, slice_index, Some, IfOk, OnOk, OnErr};
 ghost use Rattle.cnf.specs.Store.{word_of, lit_of, start_of};
 ghost use Rattle.cnf.specs.Literals.{HasVariable};

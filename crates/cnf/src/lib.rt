@@ -1,4 +1,5 @@
-//! Clauses, formulas and proofs by resolution, and the formula that a circuit's goal can be true.
+//! Clauses, formulas and proofs by resolution, and the formula that a circuit's goal can be true. A solver keeps literals as
+//! the words that formulas do: it shares `specs/Store`, and the laws about them in `proofs/StoreLaws`.
 #![tactic(auto)]
 
 mod clause;

@@ -1,3 +1,5 @@
+//! Logs: steps of resolution.
+
 use crate::clause::Clause;
 use crate::lit::Lit;
 use rh_base::Seq;

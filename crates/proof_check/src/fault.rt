@@ -1,3 +1,5 @@
+//! What is wrong with a log.
+
 ghost use Rattle.std.specs.Prelude.{◌≡◌};
 ghost use Rattle.proof_check.specs.declared.fault.StepFault.TheVariants.{Memory};
 

@@ -1,3 +1,5 @@
+//! The clause so far of a chain, as marks on literals.
+
 ghost use Rattle.std.specs.Prelude.{◌≡◌, ◌+◌, ◌<◌, ◌^◌, ◌≤◌, ℕ, Bool, true, false, not, ◌||◌, [], ◌∷◌, ◌++◌, length, if◌then◌else◌, IfOk, OnOk, OnErr};
 ghost use Rattle.cnf.specs.Literals.{HasVariable, same_lit};
 ghost use Rattle.cnf.specs.Clauses.{has_lit, with_lit, without, IsClause, HasVariables};

@@ -1,3 +1,5 @@
+//! Checking a log step by step.
+
 ghost use Rattle.std.specs.Prelude.{◌≡◌, ◌≢◌, ◌⊎◌, ℕ, ◌+◌, ◌≤◌, ◌<◌, ◌^◌, MatchBool, true, false, [], ◌∷◌, ◌++◌, length, Some, None, IfOk, OnOk, IfErr};
 ghost use Rattle.std.specs.Prelude.{List};
 ghost use Rattle.std.specs.Bool.{OnTrue, OnFalse};

@@ -1,0 +1,241 @@
+//! In which order variables are decided, and with which sign.
+
+ghost use Rattle.std.specs.Prelude.{◌≡◌, ℕ, ◌+◌, ◌<◌, ◌≤◌, ◌^◌, true, length, Some};
+
+use rh_base::NoMemory;
+use std::alloc::Global;
+
+/// No place in the heap.
+const OUTSIDE: u32 = u32::MAX;
+
+/// What a conflict adds to the activity of a variable at first.
+const FIRST_BUMP: u64 = 1 << 10;
+
+/// Past this bump all activities are divided.
+const GREATEST_BUMP: u64 = 1 << 50;
+
+/// What they are divided by.
+const RESCALE: u64 = 1 << 40;
+
+/// The variables as a heap, the most active on top, and the sign that each had last. Only where the search looks first depends on
+/// it: each access is tested, and what it gives is tested again.
+#[derive(Drop)]
+pub(crate) struct Activity {
+    values: Vec<u64>,
+    phases: Vec<bool>,
+    heap: Vec<u32>,
+    places: Vec<u32>,
+    bump: u64,
+}
+
+impl Activity {
+    pub(crate) fn new(alloc: Global, vars: usize) -> Result<Activity, NoMemory>
+        requires { vars ≤ 2 ^ 31 }
+    {
+        let mut activity = Activity {
+            values: vec![in alloc; 0; vars]?,
+            phases: vec![in alloc; true; vars]?,
+            heap: Vec::new(alloc),
+            places: vec![in alloc; OUTSIDE; vars]?,
+            bump: FIRST_BUMP,
+        };
+        'fill: for var in 0..vars {
+            activity.insert(var as u32)?;
+        }
+        Ok(activity)
+    }
+
+    /// The activity of a variable.
+    fn value(&self, var: u32) -> u64 {
+        let i = var as usize;
+        if i < self.values.len() {
+            return self.values[i];
+        }
+        0
+    }
+
+    /// The last sign of a variable, true where it was false.
+    pub(crate) fn phase(&self, var: u32) -> bool {
+        let i = var as usize;
+        if i < self.phases.len() {
+            return self.phases[i];
+        }
+        true
+    }
+
+    /// The variable at a place of the heap.
+    fn at(&self, place: usize) -> u32 {
+        if place < self.heap.len() {
+            return self.heap[place];
+        }
+        0
+    }
+
+    /// The place of a variable.
+    fn place(&self, var: u32) -> u32 {
+        let i = var as usize;
+        if i < self.places.len() {
+            return self.places[i];
+        }
+        OUTSIDE
+    }
+
+    /// Writes down where a variable stands.
+    fn set_place(&mut self, var: u32, place: u32)
+        ensures { self.new.heap ≡ self.old.heap }
+    {
+        let i = var as usize;
+        if i >= self.places.len() {
+            return;
+        }
+        self.places[i] = place;
+    }
+
+    fn put(&mut self, place: usize, var: u32)
+        ensures { length self.new.heap.items ≡ length self.old.heap.items }
+    {
+        if place >= self.heap.len() || place >= u32::MAX as usize {
+            return;
+        }
+        self.heap[place] = var;
+        self.set_place(var, place as u32);
+    }
+
+    /// Whether what stands above a place is less active.
+    fn is_above(&self, place: usize, mine: u64) -> bool
+        ensures { result ≡ true → 0 < place }
+    {
+        if place == 0 {
+            return false;
+        }
+        self.value(self.at((place - 1) / 2)) < mine
+    }
+
+    /// Moves a variable up to where it belongs.
+    fn rise(&mut self, from: usize, var: u32)
+        ensures { length self.new.heap.items ≡ length self.old.heap.items }
+    {
+        let mut place = from;
+        let mine = self.value(var);
+        'rise: while self.is_above(place, mine) {
+            let above = self.at((place - 1) / 2);
+            self.put(place, above);
+            place = (place - 1) / 2;
+        }
+        self.put(place, var);
+    }
+
+    /// The more active child of a place, if it is more active than this.
+    fn child(&self, place: usize, mine: u64) -> Option<usize>
+        requires { place < length self.now.heap.items }
+        ensures { (k : ℕ) → result ≡ Some k → (place < k) × (k < length self.now.heap.items) }
+    {
+        let long = self.heap.len();
+        if place >= u32::MAX as usize {
+            return None;
+        }
+        let left = 2 * place + 1;
+        if left >= long {
+            return None;
+        }
+        let first = self.value(self.at(left));
+        let second = self.value(self.at(left + 1));
+        if left + 1 < long && second > first {
+            if second > mine {
+                return Some(left + 1);
+            }
+            return None;
+        }
+        if first > mine {
+            return Some(left);
+        }
+        None
+    }
+
+    /// Moves a variable down to where it belongs.
+    fn sink(&mut self, var: u32)
+        requires { 0 < length self.old.heap.items }
+        ensures { length self.new.heap.items ≡ length self.old.heap.items }
+    {
+        let mut place = 0;
+        let mine = self.value(var);
+        'sink: while let Some(child) = self.child(place, mine) {
+            let below = self.at(child);
+            self.put(place, below);
+            place = child;
+        }
+        self.put(place, var);
+    }
+
+    /// The most active variable, which is taken out.
+    pub(crate) fn pop(&mut self) -> Option<u32>
+        ensures { (v : ℕ) → result ≡ Some v → length self.new.heap.items < length self.old.heap.items }
+    {
+        let Some(last) = self.heap.pop() else {
+            return None;
+        };
+        if self.heap.len() == 0 {
+            self.set_place(last, OUTSIDE);
+            return Some(last);
+        }
+        let top = self.at(0);
+        self.set_place(top, OUTSIDE);
+        self.sink(last);
+        Some(top)
+    }
+
+    /// A variable may be chosen again.
+    fn insert(&mut self, var: u32) -> Result<(), NoMemory> {
+        if self.place(var) != OUTSIDE {
+            return Ok(());
+        }
+        let last = self.heap.len();
+        self.heap.push(var)?;
+        self.rise(last, var);
+        Ok(())
+    }
+
+    /// Literals that aren't set any more, from a place on.
+    pub(crate) fn release(&mut self, words: &[u32], from: usize) -> Result<(), NoMemory> {
+        'release: for i in from..words.len() {
+            let word = words[i];
+            let var = (word / 2) as usize;
+            if var >= self.phases.len() {
+                continue;
+            }
+            self.phases[var] = word % 2 == 1;
+            self.insert(word / 2)?;
+        }
+        Ok(())
+    }
+
+    /// The variables of these literals took part in a conflict.
+    pub(crate) fn raise(&mut self, words: &[u32]) {
+        'raise: for word in words {
+            let var = *word / 2;
+            let i = var as usize;
+            if i >= self.values.len() {
+                continue;
+            }
+            self.values[i] = self.values[i].saturating_add(self.bump);
+            let place = self.place(var);
+            if place == OUTSIDE {
+                continue;
+            }
+            self.rise(place as usize, var);
+        }
+        self.age();
+    }
+
+    /// What is raised later counts for more.
+    fn age(&mut self) {
+        self.bump = self.bump.saturating_add(self.bump / 16);
+        if self.bump < GREATEST_BUMP {
+            return;
+        }
+        self.bump = FIRST_BUMP;
+        'age: for var in 0..self.values.len() {
+            self.values[var] = self.values[var] / RESCALE;
+        }
+    }
+}

@@ -1,0 +1,391 @@
+//! Resolving a clause that is false backwards along the trail.
+
+ghost use Rattle.std.specs.Prelude.{◌≡◌, ◌⊎◌, ℕ, ◌+◌, ◌-◌, ◌*◌, ◌/◌, ◌<◌, ◌≤◌, ◌^◌, ◌==◌, ◌&&◌, ◌||◌, not, true, false, List, [], ◌∷◌, ◌++◌, length, take, IfOk, OnOk, slice_index, slice_index_or, slice_set, Bool};
+ghost use Rattle.sat_solver.specs.Words.{opposite, has};
+ghost use Rattle.sat_solver.specs.Resolving.{IsApart, is_seen, count, IsMarked, in_clause, Reaches, IsGiven, IsLeft, IsClear, Covers};
+ghost use Rattle.sat_solver.specs.Watching.{clause, IsFalse, IsOnce, AtRest};
+
+use crate::store::Store;
+use crate::trail::Trail;
+use crate::word::opposite;
+use rh_base::NoMemory;
+use std::alloc::Global;
+
+/// One resolution: the number of the clause that is named, and the literal of the clause so far that is taken out.
+#[derive(Clone, Copy)]
+pub(crate) struct Hop {
+    pub number: u32,
+    pub pivot: u32,
+}
+
+/// The clause so far: its literals are false, and their variables are marked. How many became false at the last level; the
+/// literals that were ever marked; and the resolutions.
+#[derive(Drop)]
+pub(crate) struct Resolvent {
+    pub seen: Vec<bool>,
+    pub marked: Vec<u32>,
+    pub open: usize,
+    pub hops: Vec<Hop>,
+}
+
+impl Resolvent {
+    /// Nothing is marked.
+    pub(crate) fn new(alloc: Global, vars: usize) -> Result<Resolvent, NoMemory>
+        ensures long { IfOk result (λ r. length r.seen.items ≡ vars) }
+        ensures none { IfOk result (λ r. (x : ℕ) → is_seen r.seen.items x ≡ false) }
+    {
+        Ok(Resolvent {
+            seen: vec![in alloc; false; vars]?,
+            marked: Vec::new(alloc),
+            open: 0,
+            hops: Vec::new(alloc),
+        })
+    }
+}
+
+/// Whether the variable of a literal is marked.
+#[inline]
+fn is_marked(seen: &[bool], word: u32) -> bool
+    requires { word / 2 < length seen.now }
+    ensures { result ≡ is_seen seen.now word }
+{
+    seen[(word / 2) as usize]
+}
+
+/// Marks the variable of a literal that is false.
+#[inline]
+fn mark(
+    r: &mut Resolvent,
+    word: u32,
+    trail: &Trail,
+    boundary: usize,
+    _limit: usize,
+) -> Result<(), NoMemory>
+    requires apart { IsApart trail.now.words }
+    requires short { length trail.now.words < 2 ^ 32 }
+    requires fits { _limit ≤ length trail.now.words }
+    requires below { word < 2 * trail.now.vars }
+    requires is_false { has (take _limit trail.now.words) (opposite word) ≡ true }
+    requires marked { IsMarked trail.now.words trail.now.vars boundary _limit r.old.seen.items r.old.open }
+    ensures marked { OnOk result (IsMarked trail.now.words trail.now.vars boundary _limit r.new.seen.items r.new.open) }
+    ensures grows { OnOk result (r.old.open ≤ r.new.open) }
+    ensures seen { OnOk result ((x : ℕ) → has trail.now.words (opposite x) ≡ true → is_seen r.new.seen.items x ≡ (is_seen r.old.seen.items x || (x == word))) }
+    ensures hops { OnOk result (r.new.hops ≡ r.old.hops) }
+    ensures covered { OnOk result (Covers trail.now.words r.old.seen.items r.old.marked.items → Covers trail.now.words r.new.seen.items r.new.marked.items) }
+{
+    let seen = is_marked(&r.seen, word);
+    if seen {
+        return Ok(());
+    }
+    r.marked.push(word)?;
+    r.seen[(word / 2) as usize] = true;
+    let place = trail.place(word);
+    if place < boundary {
+        return Ok(());
+    }
+    r.open += 1;
+    Ok(())
+}
+
+/// Joins the literals of a clause, but for one; they are false.
+fn join(
+    r: &mut Resolvent,
+    lits: &[u32],
+    skip: u32,
+    trail: &Trail,
+    boundary: usize,
+    limit: usize,
+) -> Result<(), NoMemory>
+    requires apart { IsApart trail.now.words }
+    requires short { length trail.now.words < 2 ^ 32 }
+    requires fits { limit ≤ length trail.now.words }
+    requires below { (x : ℕ) → has lits.now x ≡ true → x < 2 * trail.now.vars }
+    requires are_false { (x : ℕ) → has lits.now x ≡ true → (x ≡ skip) ⊎ (has (take limit trail.now.words) (opposite x) ≡ true) }
+    requires marked { IsMarked trail.now.words trail.now.vars boundary limit r.old.seen.items r.old.open }
+    ensures marked { OnOk result (IsMarked trail.now.words trail.now.vars boundary limit r.new.seen.items r.new.open) }
+    ensures grows { OnOk result (r.old.open ≤ r.new.open) }
+    ensures seen { OnOk result ((x : ℕ) → has trail.now.words (opposite x) ≡ true → is_seen r.new.seen.items x ≡ (is_seen r.old.seen.items x || (has lits.now x && not (x == skip)))) }
+    ensures hops { OnOk result (r.new.hops ≡ r.old.hops) }
+    ensures covered { OnOk result (Covers trail.now.words r.old.seen.items r.old.marked.items → Covers trail.now.words r.new.seen.items r.new.marked.items) }
+{
+    for word in lits {
+        if *word == skip {
+            continue;
+        }
+        mark(r, *word, trail, boundary, limit)?;
+    }
+    Ok(())
+}
+
+/// Takes a literal out of the clause so far, in which it is the last on the trail: names the clause that gave its opposite.
+#[inline]
+fn take_out(r: &mut Resolvent, word: u32, reason: u32) -> Result<(), NoMemory>
+    requires within { word / 2 < length r.old.seen.items }
+    requires some { 0 < r.old.open }
+    ensures seen { OnOk result (r.new.seen.items ≡ slice_set r.old.seen.items (word / 2) false) }
+    ensures open { OnOk result (r.new.open + 1 ≡ r.old.open) }
+    ensures marked { OnOk result (r.new.marked ≡ r.old.marked) }
+    ensures hops { OnOk result (r.new.hops.items ≡ r.old.hops.items ++ record { number = reason; pivot = opposite word } ∷ []) }
+{
+    r.hops.push(Hop {
+        number: reason,
+        pivot: opposite(word),
+    })?;
+    r.seen[(word / 2) as usize] = false;
+    r.open -= 1;
+    Ok(())
+}
+
+/// Goes past a place of the trail; whether it has the last literal that is left of the last level.
+fn pass(
+    r: &mut Resolvent,
+    store: &Store,
+    trail: &Trail,
+    boundary: usize,
+    place: usize,
+) -> Result<bool, NoMemory>
+    requires apart { IsApart trail.now.words }
+    requires short { length trail.now.words < 2 ^ 32 }
+    requires late { boundary ≤ place }
+    requires within { place < length trail.now.words }
+    requires some { 0 < r.old.open }
+    requires marked { IsMarked trail.now.words trail.now.vars boundary (place + 1) r.old.seen.items r.old.open }
+    requires reasons { IsGiven store.now trail.now boundary }
+    ensures found { IfOk result (λ b. b ≡ true → (r.new ≡ r.old) × (r.old.open ≡ 1) × (is_seen r.old.seen.items (slice_index trail.now.words place) ≡ true)) }
+    ensures some { IfOk result (λ b. b ≡ false → 0 < r.new.open) }
+    ensures marked { IfOk result (λ b. b ≡ false → IsMarked trail.now.words trail.now.vars boundary place r.new.seen.items r.new.open) }
+    ensures covered { OnOk result (Covers trail.now.words r.old.seen.items r.old.marked.items → Covers trail.now.words r.new.seen.items r.new.marked.items) }
+    ensures leads { IfOk result (λ b. (c : ℕ → Bool) → Reaches store.now c r.old.hops.items (in_clause trail.now.words r.old.seen.items) → Reaches store.now c r.new.hops.items (in_clause trail.now.words r.new.seen.items)) }
+{
+    let word = trail.word(place);
+    let seen = is_marked(&r.seen, word);
+    if !seen {
+        return Ok(false);
+    }
+    if r.open == 1 {
+        return Ok(true);
+    }
+    let reason = trail.reason(place);
+    take_out(r, word, reason)?;
+    join(r, store.clause(reason - 1), word, trail, boundary, place)?;
+    Ok(false)
+}
+
+/// Goes back along the trail until one literal of the last level is left; where it stands.
+fn descend(
+    r: &mut Resolvent,
+    store: &Store,
+    trail: &Trail,
+    boundary: usize,
+) -> Result<usize, NoMemory>
+    requires apart { IsApart trail.now.words }
+    requires short { length trail.now.words < 2 ^ 32 }
+    requires fits { boundary ≤ length trail.now.words }
+    requires some { 0 < r.old.open }
+    requires marked { IsMarked trail.now.words trail.now.vars boundary (length trail.now.words) r.old.seen.items r.old.open }
+    requires reasons { IsGiven store.now trail.now boundary }
+    ensures left { IfOk result (λ p. IsLeft trail.now.words boundary p r.new.seen.items) }
+    ensures long { OnOk result (length r.new.seen.items ≡ trail.now.vars) }
+    ensures covered { OnOk result (Covers trail.now.words r.old.seen.items r.old.marked.items → Covers trail.now.words r.new.seen.items r.new.marked.items) }
+    ensures leads { OnOk result ((c : ℕ → Bool) → Reaches store.now c r.old.hops.items (in_clause trail.now.words r.old.seen.items) → Reaches store.now c r.new.hops.items (in_clause trail.now.words r.new.seen.items)) }
+{
+    let mut place = trail.len();
+    'walk: while place > boundary {
+        place -= 1;
+        let found = pass(r, store, trail, boundary, place)?;
+        if found {
+            return Ok(place);
+        }
+    }
+    unreachable!()
+}
+
+/// Begins with a clause that is false.
+fn begin(
+    r: &mut Resolvent,
+    store: &Store,
+    trail: &Trail,
+    boundary: usize,
+    conflict: u32,
+) -> Result<(), NoMemory>
+    requires apart { IsApart trail.now.words }
+    requires short { length trail.now.words < 2 ^ 32 }
+    requires fits { boundary < length trail.now.words }
+    requires clear { IsClear trail.now.vars r.old.seen.items r.old.marked.items r.old.open r.old.hops.items }
+    requires is_false { IsFalse store.now trail.now.words conflict }
+    requires rested { AtRest store.now (take boundary trail.now.words) }
+    requires reasons { IsGiven store.now trail.now boundary }
+    ensures some { OnOk result (0 < r.new.open) }
+    ensures marked { OnOk result (IsMarked trail.now.words trail.now.vars boundary (length trail.now.words) r.new.seen.items r.new.open) }
+    ensures covered { OnOk result (Covers trail.now.words r.new.seen.items r.new.marked.items) }
+    ensures leads { OnOk result (Reaches store.now (has (clause store.now conflict)) r.new.hops.items (in_clause trail.now.words r.new.seen.items)) }
+{
+    let lits = store.clause(conflict);
+    let limit = trail.len();
+    let skip = trail.word(boundary);
+    join(r, lits, skip, trail, boundary, limit)?;
+    Ok(())
+}
+
+/// Resolves a clause that is false to one that has one literal of the last level; where the opposite of that literal stands.
+pub(crate) fn analyze(
+    r: &mut Resolvent,
+    store: &Store,
+    trail: &Trail,
+    boundary: usize,
+    conflict: u32,
+) -> Result<usize, NoMemory>
+    requires apart { IsApart trail.now.words }
+    requires short { length trail.now.words < 2 ^ 32 }
+    requires fits { boundary < length trail.now.words }
+    requires clear { IsClear trail.now.vars r.old.seen.items r.old.marked.items r.old.open r.old.hops.items }
+    requires is_false { IsFalse store.now trail.now.words conflict }
+    requires rested { AtRest store.now (take boundary trail.now.words) }
+    requires reasons { IsGiven store.now trail.now boundary }
+    ensures left { IfOk result (λ p. IsLeft trail.now.words boundary p r.new.seen.items) }
+    ensures long { OnOk result (length r.new.seen.items ≡ trail.now.vars) }
+    ensures covered { OnOk result (Covers trail.now.words r.new.seen.items r.new.marked.items) }
+    ensures leads { OnOk result (Reaches store.now (has (clause store.now conflict)) r.new.hops.items (in_clause trail.now.words r.new.seen.items)) }
+{
+    begin(r, store, trail, boundary, conflict)?;
+    let place = descend(r, store, trail, boundary)?;
+    Ok(place)
+}
+
+/// Goes past a place of the trail; whichever literal stands there is taken out.
+#[inline]
+fn pass_all(r: &mut Resolvent, store: &Store, trail: &Trail, place: usize) -> Result<(), NoMemory>
+    requires apart { IsApart trail.now.words }
+    requires short { length trail.now.words < 2 ^ 32 }
+    requires within { place < length trail.now.words }
+    requires marked { IsMarked trail.now.words trail.now.vars 0 (place + 1) r.old.seen.items r.old.open }
+    requires reasons { IsGiven store.now trail.now 0 }
+    requires all { (p : ℕ) → p < length trail.now.words → slice_index trail.now.reasons p ≡ 0 → ⊥ }
+    ensures marked { OnOk result (IsMarked trail.now.words trail.now.vars 0 place r.new.seen.items r.new.open) }
+    ensures covered { OnOk result (Covers trail.now.words r.old.seen.items r.old.marked.items → Covers trail.now.words r.new.seen.items r.new.marked.items) }
+    ensures leads { OnOk result ((c : ℕ → Bool) → Reaches store.now c r.old.hops.items (in_clause trail.now.words r.old.seen.items) → Reaches store.now c r.new.hops.items (in_clause trail.now.words r.new.seen.items)) }
+{
+    let word = trail.word(place);
+    let seen = is_marked(&r.seen, word);
+    if !seen {
+        return Ok(());
+    }
+    let reason = trail.reason(place);
+    take_out(r, word, reason)?;
+    join(r, store.clause(reason - 1), word, trail, 0, place)?;
+    Ok(())
+}
+
+/// Goes back along the trail until no literal is left.
+fn descend_all(r: &mut Resolvent, store: &Store, trail: &Trail) -> Result<(), NoMemory>
+    requires apart { IsApart trail.now.words }
+    requires short { length trail.now.words < 2 ^ 32 }
+    requires marked { IsMarked trail.now.words trail.now.vars 0 (length trail.now.words) r.old.seen.items r.old.open }
+    requires reasons { IsGiven store.now trail.now 0 }
+    requires all { (p : ℕ) → p < length trail.now.words → slice_index trail.now.reasons p ≡ 0 → ⊥ }
+    ensures marked { OnOk result (IsMarked trail.now.words trail.now.vars 0 0 r.new.seen.items r.new.open) }
+    ensures leads { OnOk result ((c : ℕ → Bool) → Reaches store.now c r.old.hops.items (in_clause trail.now.words r.old.seen.items) → Reaches store.now c r.new.hops.items (in_clause trail.now.words r.new.seen.items)) }
+{
+    let mut place = trail.len();
+    'walk: while place > 0 {
+        place -= 1;
+        pass_all(r, store, trail, place)?;
+    }
+    Ok(())
+}
+
+/// Begins with a clause that is false, of which no literal is to be left.
+fn begin_all(r: &mut Resolvent, store: &Store, trail: &Trail, conflict: u32) -> Result<(), NoMemory>
+    requires apart { IsApart trail.now.words }
+    requires short { length trail.now.words < 2 ^ 32 }
+    requires clear { IsClear trail.now.vars r.old.seen.items r.old.marked.items r.old.open r.old.hops.items }
+    requires is_false { IsFalse store.now trail.now.words conflict }
+    requires below { (x : ℕ) → has (clause store.now conflict) x ≡ true → x < 2 * trail.now.vars }
+    ensures marked { OnOk result (IsMarked trail.now.words trail.now.vars 0 (length trail.now.words) r.new.seen.items r.new.open) }
+    ensures leads { OnOk result (Reaches store.now (has (clause store.now conflict)) r.new.hops.items (in_clause trail.now.words r.new.seen.items)) }
+{
+    let lits = store.clause(conflict);
+    if lits.len() == 0 {
+        return Ok(());
+    }
+    let limit = trail.len();
+    let skip = opposite(word_at(lits, 0));
+    join(r, lits, skip, trail, 0, limit)?;
+    Ok(())
+}
+
+/// Resolves a clause that is false ahead of all decisions to the empty clause.
+pub(crate) fn refute(
+    r: &mut Resolvent,
+    store: &Store,
+    trail: &Trail,
+    conflict: u32,
+) -> Result<(), NoMemory>
+    requires apart { IsApart trail.now.words }
+    requires short { length trail.now.words < 2 ^ 32 }
+    requires clear { IsClear trail.now.vars r.old.seen.items r.old.marked.items r.old.open r.old.hops.items }
+    requires is_false { IsFalse store.now trail.now.words conflict }
+    requires reasons { IsGiven store.now trail.now 0 }
+    requires all { (p : ℕ) → p < length trail.now.words → slice_index trail.now.reasons p ≡ 0 → ⊥ }
+    ensures marked { OnOk result (IsMarked trail.now.words trail.now.vars 0 0 r.new.seen.items r.new.open) }
+    ensures leads { OnOk result (Reaches store.now (has (clause store.now conflict)) r.new.hops.items (in_clause trail.now.words r.new.seen.items)) }
+{
+    begin_all(r, store, trail, conflict)?;
+    descend_all(r, store, trail)?;
+    Ok(())
+}
+
+/// The word at a place.
+#[inline]
+fn word_at(words: &[u32], i: usize) -> u32
+    requires { i < length words.now }
+    ensures { result ≡ slice_index words.now i }
+{
+    words[i]
+}
+
+/// Moves a literal out of the clause so far, if it is there.
+#[inline]
+fn give(r: &mut Resolvent, word: u32, into: &mut Vec<u32>) -> Result<(), NoMemory>
+    requires { word / 2 < length r.old.seen.items }
+    ensures moved { OnOk result (is_seen r.old.seen.items word ≡ true → (into.new.items ≡ into.old.items ++ word ∷ []) × (r.new.seen.items ≡ slice_set r.old.seen.items (word / 2) false)) }
+    ensures not_there { OnOk result (is_seen r.old.seen.items word ≡ false → (into.new.items ≡ into.old.items) × (r.new.seen.items ≡ r.old.seen.items)) }
+    ensures marked { OnOk result (r.new.marked ≡ r.old.marked) }
+    ensures hops { OnOk result (r.new.hops ≡ r.old.hops) }
+{
+    let seen = is_marked(&r.seen, word);
+    if !seen {
+        return Ok(());
+    }
+    into.push(word)?;
+    r.seen[(word / 2) as usize] = false;
+    Ok(())
+}
+
+/// The literals of the clause so far, of which one comes first. It is empty then.
+pub(crate) fn collect(
+    r: &mut Resolvent,
+    trail: &Trail,
+    first: u32,
+    into: &mut Vec<u32>,
+) -> Result<(), NoMemory>
+    requires apart { IsApart trail.now.words }
+    requires below { (x : ℕ) → has trail.now.words (opposite x) ≡ true → x / 2 < length r.old.seen.items }
+    requires covers { Covers trail.now.words r.old.seen.items r.old.marked.items }
+    requires first { in_clause trail.now.words r.old.seen.items first ≡ true }
+    requires empty { into.old.items ≡ [] }
+    ensures literals { OnOk result ((x : ℕ) → has into.new.items x ≡ in_clause trail.now.words r.old.seen.items x) }
+    ensures once { OnOk result (IsOnce into.new.items) }
+    ensures some { OnOk result (0 < length into.new.items) }
+    ensures head { OnOk result (slice_index into.new.items 0 ≡ first) }
+    ensures clear { OnOk result ((x : ℕ) → is_seen r.new.seen.items x ≡ false) }
+    ensures long { OnOk result (length r.new.seen.items ≡ length r.old.seen.items) }
+    ensures hops { OnOk result (r.new.hops ≡ r.old.hops) }
+{
+    give(r, first, into)?;
+    'gather: for i in 0..r.marked.len() {
+        let word = word_at(&r.marked, i);
+        give(r, word, into)?;
+    }
+    Ok(())
+}

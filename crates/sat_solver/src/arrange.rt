@@ -1,0 +1,84 @@
+//! The order of the literals of a learned clause.
+
+ghost use Rattle.std.specs.Prelude.{◌≡◌, ℕ, ◌*◌, ◌<◌, ◌≤◌, ◌^◌, true, false, length, take, slice_index};
+ghost use Rattle.sat_solver.specs.Words.{opposite, has};
+ghost use Rattle.sat_solver.specs.Stored.{exchanged};
+ghost use Rattle.sat_solver.specs.Resolving.{IsApart};
+ghost use Rattle.sat_solver.specs.Arranging.{IsBehind, IsArranged};
+
+use crate::trail::Trail;
+
+/// The word at a place.
+#[inline]
+fn word_at(words: &Vec<u32>, i: usize) -> u32
+    requires { i < length words.now.items }
+    ensures { result ≡ slice_index words.now.items i }
+{
+    words[i]
+}
+
+/// Exchanges two words.
+#[inline]
+fn exchange(words: &mut Vec<u32>, j: usize, k: usize)
+    requires first { j < length words.old.items }
+    requires second { k < length words.old.items }
+    ensures { words.new.items ≡ exchanged words.old.items j k }
+{
+    let word = words[j];
+    words[j] = words[k];
+    words[k] = word;
+}
+
+/// Whether a word became false behind another.
+#[inline]
+fn is_later(trail: &Trail, word: u32, other: u32) -> bool
+    requires apart { IsApart trail.now.words }
+    requires below { word < 2 * trail.now.vars }
+    requires other_below { other < 2 * trail.now.vars }
+    requires is_false { has trail.now.words (opposite word) ≡ true }
+    requires other_false { has trail.now.words (opposite other) ≡ true }
+    ensures yes { result ≡ true → IsBehind trail.now.words word other }
+    ensures not { result ≡ false → IsBehind trail.now.words other word }
+{
+    let place = trail.place(word);
+    let first = trail.place(other);
+    place > first
+}
+
+/// Puts the word that became false last to place 1, of those from there on.
+#[tactic(auto, using(crate::proofs::Arranges::arranged_first))]
+pub(crate) fn put_last_second(words: &mut Vec<u32>, trail: &Trail)
+    requires apart { IsApart trail.now.words }
+    requires some { 0 < length words.old.items }
+    requires below { (x : ℕ) → has words.old.items x ≡ true → x < 2 * trail.now.vars }
+    requires are_false { (x : ℕ) → has words.old.items x ≡ true → has trail.now.words (opposite x) ≡ true }
+    ensures { IsArranged trail.now.words words.old.items words.new.items (length words.old.items) }
+{
+    'rest: for k in 1..words.len() {
+        let word = word_at(words, k);
+        let second = word_at(words, 1);
+        let later = is_later(trail, word, second);
+        if !later {
+            continue;
+        }
+        exchange(words, 1, k);
+    }
+}
+
+/// The lowest level at whose end a word is false.
+pub(crate) fn level_of(trail: &Trail, word: u32) -> usize
+    requires apart { IsApart trail.now.words }
+    requires below { word < 2 * trail.now.vars }
+    requires is_false { has trail.now.words (opposite word) ≡ true }
+    ensures within { result ≤ length trail.now.starts }
+    ensures before { (j : ℕ) → j < result → has (take (slice_index trail.now.starts j) trail.now.words) (opposite word) ≡ false }
+    ensures there { result < length trail.now.starts → has (take (slice_index trail.now.starts result) trail.now.words) (opposite word) ≡ true }
+{
+    let place = trail.place(word);
+    'levels: for level in 0..trail.level() {
+        if trail.start(level) > place {
+            return level;
+        }
+    }
+    trail.level()
+}

@@ -1,0 +1,142 @@
+//! Adding a learned clause, and going back for it.
+
+ghost use Rattle.std.specs.Prelude.{◌≡◌, ℕ, ◌+◌, ◌*◌, ◌<◌, ◌≤◌, true, false, [], ◌∷◌, ◌++◌, length, take, OnOk, slice_index};
+ghost use Rattle.sat_solver.specs.Words.{opposite, has};
+ghost use Rattle.sat_solver.specs.Meaning.{IsLearnable};
+ghost use Rattle.sat_solver.specs.Watching.{watching};
+ghost use Rattle.sat_solver.specs.Watching.{IsReady, IsStopped, IsAddable, with_word};
+
+use crate::arrange::level_of;
+use crate::store::Store;
+use crate::trail::Trail;
+use crate::watches::{Watcher, Watches};
+use rh_base::NoMemory;
+
+/// Watches the first two literals of the next clause.
+pub(crate) fn watch(
+    watches: &mut Watches,
+    clause: u32,
+    first: u32,
+    second: u32,
+) -> Result<(), NoMemory>
+    requires first { first < length watches.old }
+    requires second { second < length watches.old }
+    ensures { OnOk result (watches.new ≡ watching watches.old clause first second) }
+{
+    watches.push(
+        first,
+        Watcher {
+            clause,
+            blocker: second,
+        },
+    )?;
+    watches.push(
+        second,
+        Watcher {
+            clause,
+            blocker: first,
+        },
+    )?;
+    Ok(())
+}
+
+/// Adds a clause of two literals at least, and sets its first literal.
+pub(crate) fn learn_long(
+    store: &mut Store,
+    trail: &mut Trail,
+    watches: &mut Watches,
+    words: &[u32],
+) -> Result<(), NoMemory>
+    requires ready { IsReady store.old trail.old watches.old }
+    requires addable { IsAddable store.old trail.old words.now }
+    requires two { 2 ≤ length words.now }
+    ensures store { OnOk result (store.new ≡ store.old ++ words.now ∷ []) }
+    ensures trail { OnOk result (trail.new ≡ with_word trail.old (slice_index words.now 0) (length store.old + 1)) }
+    ensures ready { OnOk result (IsReady store.new trail.new watches.new) }
+{
+    let clause = store.count() as u32;
+    watch(watches, clause, words[0], words[1])?;
+    store.push(words)?;
+    trail.assign(words[0], clause + 1)?;
+    Ok(())
+}
+
+/// Adds a clause of one literal, and sets it.
+pub(crate) fn learn_unit(
+    store: &mut Store,
+    trail: &mut Trail,
+    watches: &Watches,
+    words: &[u32],
+) -> Result<(), NoMemory>
+    requires ready { IsReady store.old trail.old watches.now }
+    requires addable { IsAddable store.old trail.old words.now }
+    requires one { length words.now < 2 }
+    ensures store { OnOk result (store.new ≡ store.old ++ words.now ∷ []) }
+    ensures trail { OnOk result (trail.new ≡ with_word trail.old (slice_index words.now 0) (length store.old + 1)) }
+    ensures ready { OnOk result (IsReady store.new trail.new watches.now) }
+{
+    let clause = store.count() as u32;
+    store.push(words)?;
+    trail.assign(words[0], clause + 1)?;
+    Ok(())
+}
+
+/// The level to go back to with the words of a learned clause.
+fn level_for(trail: &Trail, words: &[u32]) -> usize
+    requires decided { 0 < length trail.now.starts }
+    requires below { (x : ℕ) → has words.now x ≡ true → x < 2 * trail.now.vars }
+    requires learnable { (last : ℕ) → last + 1 ≡ length trail.now.starts → IsLearnable trail.now last words.now }
+    ensures within { result < length trail.now.starts }
+    ensures short { length words.now < 2 → result ≡ 0 }
+    ensures there { 2 ≤ length words.now → has (take (slice_index trail.now.starts result) trail.now.words) (opposite (slice_index words.now 1)) ≡ true }
+    ensures before { 2 ≤ length words.now → (j : ℕ) → j < result → has (take (slice_index trail.now.starts j) trail.now.words) (opposite (slice_index words.now 1)) ≡ false }
+{
+    if words.len() < 2 {
+        return 0;
+    }
+    let _long = trail.len();
+    level_of(trail, words[1])
+}
+
+/// Goes back, and adds the words of a learned clause.
+pub(crate) fn settle(
+    store: &mut Store,
+    trail: &mut Trail,
+    watches: &mut Watches,
+    words: &[u32],
+    _conflict: u32,
+) -> Result<(), NoMemory>
+    requires stopped { IsStopped store.old trail.old watches.old _conflict }
+    requires decided { 0 < length trail.old.starts }
+    requires learnable { (last : ℕ) → last + 1 ≡ length trail.old.starts → IsLearnable trail.old last words.now }
+    ensures store { OnOk result (store.new ≡ store.old ++ words.now ∷ []) }
+    ensures vars { OnOk result (trail.new.vars ≡ trail.old.vars) }
+    ensures ready { OnOk result (IsReady store.new trail.new watches.new) }
+{
+    if store.count() >= u32::MAX as usize {
+        return Err(NoMemory);
+    }
+    let _levels = trail.level();
+    let level = level_for(trail, words);
+    trail.back(level);
+    if words.len() < 2 {
+        return learn_unit(store, trail, watches, words);
+    }
+    learn_long(store, trail, watches, words)
+}
+
+/// Goes back ahead of all decisions, after each 128 steps.
+pub(crate) fn restart(_store: &Store, trail: &mut Trail, _watches: &Watches, steps: usize)
+    requires { IsReady _store.now trail.old _watches.now }
+    ensures ready { IsReady _store.now trail.new _watches.now }
+    ensures vars { trail.new.vars ≡ trail.old.vars }
+{
+    if steps % 128 != 0 {
+        return;
+    }
+    let levels = trail.level();
+    if levels == 0 {
+        return;
+    }
+    trail.back(0);
+}

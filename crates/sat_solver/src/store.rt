@@ -1,0 +1,121 @@
+//! The clauses of the formula and of the log, in one array of words.
+
+ghost use Rattle.std.specs.Prelude.{◌≡◌, ◌+◌, ◌-◌, ◌<◌, ◌^◌, [], ◌∷◌, ◌++◌, length, IfOk, OnOk, slice_index, slice_index_or, slice_set, ◌≤◌};
+ghost use Rattle.std.specs.List.{slice_range};
+
+use rh_base::NoMemory;
+use std::alloc::Global;
+use std::marker::Model;
+
+/// Clauses as words, one behind the other. The place where each begins, and at last where all end.
+#[derive(Drop)]
+pub(crate) struct Store {
+    words: Vec<u32>,
+    starts: Vec<u32>,
+}
+
+impl Model for Store {
+    ghost use Rattle.std.specs.Prelude.{List, ℕ};
+    ghost use Rattle.sat_solver.specs.Stored.{clauses_of, IsStored};
+
+    ghost Value = { List (List ℕ) };
+
+    ghost view = { λ s. clauses_of s.words.items s.starts.items };
+
+    ghost invariant = { λ s. IsStored s.words.items s.starts.items };
+}
+
+/// Where a clause begins and ends.
+#[inline]
+fn bounds(starts: &[u32], n: usize) -> (usize, usize)
+    requires { n + 1 < length starts.now }
+    ensures start { result.0 ≡ slice_index starts.now n }
+    ensures end { result.1 ≡ slice_index starts.now (n + 1) }
+{
+    (starts[n] as usize, starts[n + 1] as usize)
+}
+
+/// The words from one place to another.
+#[inline]
+fn part(words: &[u32], start: usize, end: usize) -> &[u32]
+    requires low { start ≤ end }
+    requires high { end ≤ length words.now }
+    ensures { result.now ≡ slice_range words.now start end }
+{
+    &words[start..end]
+}
+
+/// Exchanges two words, which are counted from a place.
+#[inline]
+fn exchange_words(words: &mut Vec<u32>, start: usize, j: usize, k: usize)
+    requires first { start + j < length words.old.items }
+    requires second { start + k < length words.old.items }
+    ensures { words.new.items ≡ slice_set (slice_set words.old.items (start + j) (slice_index words.old.items (start + k))) (start + k) (slice_index words.old.items (start + j)) }
+{
+    let word = words[start + j];
+    words[start + j] = words[start + k];
+    words[start + k] = word;
+}
+
+impl Store {
+    ghost use Rattle.sat_solver.specs.Stored.{exchanged};
+
+    pub(crate) fn new(alloc: Global) -> Result<Store, NoMemory>
+        ensures { IfOk result (λ s. s ≡ []) }
+    {
+        Ok(Store {
+            words: Vec::new(alloc),
+            starts: vec![in alloc; 0]?,
+        })
+    }
+
+    /// The number of clauses.
+    #[inline]
+    #[tactic(auto, using(crate::proofs::Ranges::count, crate::proofs::Ranges::few))]
+    pub(crate) fn count(&self) -> usize
+        ensures count { result ≡ length self.now }
+        ensures small { length self.now < 2 ^ 32 }
+    {
+        self.starts.len() - 1
+    }
+
+    /// The words of a clause.
+    #[inline]
+    #[tactic(auto, using(crate::proofs::Ranges::bounds, crate::proofs::Ranges::at))]
+    pub(crate) fn clause(&self, n: u32) -> &[u32]
+        requires { n < length self.now }
+        ensures { result.now ≡ slice_index_or self.now n [] }
+    {
+        let (start, end) = bounds(&self.starts, n as usize);
+        part(&self.words, start, end)
+    }
+
+    /// Exchanges two words of a clause.
+    #[inline]
+    #[tactic(auto, using(crate::proofs::Ranges::bounds, crate::proofs::Ranges::length_at, crate::proofs::Ranges::written_twice))]
+    pub(crate) fn exchange(&mut self, n: u32, j: usize, k: usize)
+        requires clause { n < length self.old }
+        requires first { j < length (slice_index_or self.old n []) }
+        requires second { k < length (slice_index_or self.old n []) }
+        ensures { self.new ≡ slice_set self.old n (exchanged (slice_index_or self.old n []) j k) }
+    {
+        let (start, _) = bounds(&self.starts, n as usize);
+        exchange_words(&mut self.words, start, j, k);
+    }
+
+    /// One more clause.
+    #[tactic(auto, using(crate::proofs::Ranges::pushed, crate::proofs::Ranges::stored_more))]
+    pub(crate) fn push(&mut self, lits: &[u32]) -> Result<(), NoMemory>
+        ensures { OnOk result (self.new ≡ self.old ++ lits.now ∷ []) }
+    {
+        let before = self.words.len();
+        self.words.extend_from_slice(lits)?;
+        let end = self.words.len();
+        let full = end > u32::MAX as usize || self.starts.len() > u32::MAX as usize;
+        if full || self.starts.push(end as u32).is_err() {
+            self.words.truncate(before);
+            return Err(NoMemory);
+        }
+        Ok(())
+    }
+}

@@ -1,0 +1,74 @@
+//! For each literal the clauses that watch it.
+
+ghost use Rattle.std.specs.Prelude.{◌≡◌, ℕ, ◌<◌, [], ◌∷◌, ◌++◌, length, IfOk, OnOk, OnErr, slice_index_or, slice_set};
+
+use rh_base::{NoMemory, Seq};
+use std::alloc::Global;
+use std::marker::Model;
+use std::mem;
+
+/// A clause that watches a literal, and some literal of it that may hold.
+#[derive(Clone, Copy, Debug)]
+pub(crate) struct Watcher {
+    pub clause: u32,
+    pub blocker: u32,
+}
+
+/// For each word the clauses that watch it.
+#[derive(Drop)]
+pub(crate) struct Watches {
+    lists: Vec<Seq<Watcher>>,
+}
+
+impl Model for Watches {
+    ghost use Rattle.std.specs.Prelude.{List};
+    ghost use Rattle.sat_solver.specs.declared.watches.Watcher.{Watcher};
+
+    ghost Value = { List (List Watcher) };
+
+    ghost view = { λ w. w.lists.items };
+}
+
+impl Watches {
+    /// No clause watches any of these words.
+    pub(crate) fn new(alloc: Global, words: usize) -> Result<Watches, NoMemory>
+        ensures long { IfOk result (λ w. length w ≡ words) }
+        ensures none { IfOk result (λ w. (x : ℕ) → slice_index_or w x [] ≡ []) }
+    {
+        let mut lists = Vec::new(alloc);
+        'words: for _word in 0..words {
+            lists.push(Seq::new(alloc))?;
+        }
+        Ok(Watches { lists })
+    }
+
+    /// Takes the list of a word, which is empty then.
+    #[inline]
+    pub(crate) fn take(&mut self, word: u32) -> Vec<Watcher>
+        requires { word < length self.old }
+        ensures list { result.items ≡ slice_index_or self.old word [] }
+        ensures rest { self.new ≡ slice_set self.old word [] }
+    {
+        let alloc = *self.lists.allocator();
+        mem::replace(&mut self.lists[word as usize], Seq::new(alloc)).into_vec()
+    }
+
+    /// Gives the list of a word.
+    #[inline]
+    pub(crate) fn put(&mut self, word: u32, list: Vec<Watcher>)
+        requires { word < length self.old }
+        ensures { self.new ≡ slice_set self.old word list.items }
+    {
+        self.lists[word as usize] = Seq::from_vec(list);
+    }
+
+    /// One more clause that watches a word.
+    #[inline]
+    pub(crate) fn push(&mut self, word: u32, watcher: Watcher) -> Result<(), NoMemory>
+        requires { word < length self.old }
+        ensures ok { OnOk result (self.new ≡ slice_set self.old word (slice_index_or self.old word [] ++ watcher ∷ [])) }
+        ensures err { OnErr result (self.new ≡ self.old) }
+    {
+        self.lists[word as usize].push(watcher)
+    }
+}

@@ -1,0 +1,173 @@
+//! Formulas as DIMACS texts, and what the solver answers.
+
+use cnf::{Cnf, Log};
+use proof_check::{Bad, Cause, CheckFault, check, read_proofs};
+use sat_solver::{Found, solve};
+use std::process::Abort;
+use std::test::Fail;
+
+/// Three pigeons in two holes.
+const PIGEONS: &str = "p cnf 6 9
+1 2 0 3 4 0 5 6 0
+-1 -3 0 -1 -5 0 -3 -5 0
+-2 -4 0 -2 -6 0 -4 -6 0";
+
+/// The formula of a text.
+fn formula(rt: &(impl Abort + AllocGlobal), text: &str) -> Result<Cnf, Fail> {
+    let alloc = rt.alloc();
+    let text = format!(in alloc; "proofs 1\n{text}\nlog 0\n")?;
+    let found = read_proofs(alloc, text.as_str().as_bytes());
+    let (cnf, _) = found
+        .ok()
+        .and_then(|mut proofs| proofs.pop())
+        .ok_or("no formula")?;
+    Ok(cnf)
+}
+
+/// Whether some literal of the clause with this number is true.
+fn is_met(rt: &impl Abort, cnf: &Cnf, values: &[bool], i: u64) -> bool {
+    assert!(rt; 1 <= i && i <= cnf.count());
+    for k in 0..cnf.length(i) {
+        let lit = cnf.lit(i, k);
+        assert!(rt; 1 <= lit.var);
+        if values.get((lit.var - 1) as usize) == Some(&lit.positive) {
+            return true;
+        }
+    }
+    false
+}
+
+/// Whether the values make the formula true.
+fn satisfies(rt: &impl Abort, cnf: &Cnf, values: &[bool]) -> bool {
+    if values.len() as u64 != cnf.vars() {
+        return false;
+    }
+    for i in 1..=cnf.count() {
+        if !is_met(rt, cnf, values, i) {
+            return false;
+        }
+    }
+    true
+}
+
+/// What the checker says of a log, in a word: of the steps that are right without an empty one at the end, how many.
+fn checked(
+    rt: &(impl Abort + AllocGlobal),
+    cnf: Cnf,
+    log: Log,
+    name: &str,
+) -> Result<String, Fail> {
+    let alloc = rt.alloc();
+    match check(alloc, cnf, log) {
+        Ok(_) => Ok(format!(in alloc; "{name}, accepted")?),
+        Err(
+            CheckFault::Bad(
+                Bad {
+                    step,
+                    cause: Cause::NotEmpty,
+                },
+            ),
+        ) => Ok(format!(in alloc; "{name}, {step} right")?),
+        Err(_) => Ok(format!(in alloc; "{name}, wrong")?),
+    }
+}
+
+/// What the solver answers, in words.
+fn answer(rt: &(impl Abort + AllocGlobal), text: &str, budget: u64) -> Result<String, Fail> {
+    let alloc = rt.alloc();
+    let cnf = formula(rt, text)?;
+    assert!(rt; 1 <= budget);
+    match solve(alloc, &cnf, budget)? {
+        Found::Refuted(log) => checked(rt, cnf, log, "refuted"),
+        Found::Spent(log) => checked(rt, cnf, log, "spent"),
+        Found::Model(values) => {
+            let holds = satisfies(rt, &cnf, values.as_slice());
+            Ok(format!(in alloc; "model: {holds}")?)
+        }
+    }
+}
+
+/// Formulas that have a model, and that have none.
+const ANSWERED: [(&str, &str); 16] = [
+    ("p cnf 0 0", "model: true"),
+    ("p cnf 3 0", "model: true"),
+    ("p cnf 0 1\n0", "refuted, accepted"),
+    ("p cnf 2 3\n1 2 0 0 -1 0", "refuted, accepted"),
+    // units
+    ("p cnf 3 3\n1 0 -2 0 3 0", "model: true"),
+    ("p cnf 1 2\n1 0 -1 0", "refuted, accepted"),
+    ("p cnf 2 4\n1 0 1 0 -1 2 0 -2 0", "refuted, accepted"),
+    // literals in any order and repeated
+    ("p cnf 2 3\n2 1 2 0 -1 2 -1 0 1 -2 1 0", "model: true"),
+    // a variable and its opposite
+    ("p cnf 1 1\n1 -1 0", "model: true"),
+    ("p cnf 2 4\n1 -1 0 2 -2 1 0 -1 0 -2 0", "model: true"),
+    ("p cnf 1 3\n1 -1 0 1 0 -1 0", "refuted, accepted"),
+    // all signs of two variables, and all but one
+    (
+        "p cnf 2 4\n1 2 0 -1 2 0 1 -2 0 -1 -2 0",
+        "refuted, accepted",
+    ),
+    ("p cnf 2 3\n1 2 0 -1 2 0 1 -2 0", "model: true"),
+    // of three variables each two differ
+    (
+        "p cnf 3 6\n1 2 0 -1 -2 0 2 3 0 -2 -3 0 1 3 0 -1 -3 0",
+        "refuted, accepted",
+    ),
+    // three pigeons in two holes, and in three
+    (PIGEONS, "refuted, accepted"),
+    (
+        "p cnf 9 12\n1 2 3 0 4 5 6 0 7 8 9 0 -1 -4 0 -1 -7 0 -4 -7 0\n-2 -5 0 -2 -8 0 -5 -8 0 -3 -6 0 -3 -9 0 -6 -9 0",
+        "model: true",
+    ),
+];
+
+#[test]
+fn formulas_are_answered(rt: HostRuntime) -> Result<(), Fail> {
+    for (text, wanted) in ANSWERED {
+        assert_eq!(rt; answer(&rt, text, 1_000)?.as_str(), wanted, "of {text}");
+        assert_eq!(rt; answer(&rt, text, u64::MAX)?.as_str(), wanted, "of {text}");
+    }
+    Ok(())
+}
+
+#[test]
+fn a_budget_is_spent(rt: HostRuntime) -> Result<(), Fail> {
+    // the empty clause alone is one step
+    let rows = [
+        (PIGEONS, 1, "spent, 1 right"),
+        (PIGEONS, 1_000, "refuted, accepted"),
+        ("p cnf 1 2\n1 0 -1 0", 1, "refuted, accepted"),
+        (
+            "p cnf 2 4\n1 2 0 -1 2 0 1 -2 0 -1 -2 0",
+            1,
+            "spent, 1 right",
+        ),
+        (
+            "p cnf 2 4\n1 2 0 -1 2 0 1 -2 0 -1 -2 0",
+            2,
+            "refuted, accepted",
+        ),
+    ];
+    for (text, budget, wanted) in rows {
+        assert_eq!(rt; answer(&rt, text, budget)?.as_str(), wanted, "of {text}");
+    }
+    Ok(())
+}
+
+/// How many variables the chain has but for its last.
+const LONG: u64 = 400_000;
+
+#[test]
+fn a_chain_is_followed_from_its_last_clause(rt: HostRuntime) -> Result<(), Fail> {
+    let alloc = rt.alloc();
+    let mut text = format!(in alloc; "p cnf {} {}\n", LONG + 1, LONG + 2)?;
+    for i in (1..LONG).rev() {
+        text.push_str(format!(in alloc; "-{i} {} 0\n", i + 1)?.as_str())?;
+    }
+    let ends = format!(in alloc; "1 0\n-{LONG} {} 0\n-{LONG} -{} 0", LONG + 1, LONG + 1)?;
+    text.push_str(ends.as_str())?;
+    let found = answer(&rt, text.as_str(), 1_000_000)?;
+    assert_eq!(rt; found.as_str(), "refuted, accepted");
+    Ok(())
+}

@@ -1,0 +1,5 @@
+//! Tests of the solver.
+#![tactic(auto)]
+
+#[cfg(test)]
+mod answers;
