@@ -1,5 +1,5 @@
 -- What a statement leaves as it was.
-use Rattle.std.specs.Prelude.{◌≡◌, ◌≤◌, ℕ, length, codes, slice_get, true, false, Option, Some, None, List, [], ◌∷◌, ◌++◌, Result, Ok, Err}
+use Rattle.std.specs.Prelude.{◌≡◌, ◌≤◌, ℕ, length, slice_get, true, false, Option, Some, None, List, [], ◌∷◌, ◌++◌, Result, Ok, Err}
 use Rattle.std.specs.List.{AllByRecursion}
 use Rattle.rh_base.specs.declared.fault.Refusal.{Refusal}
 use Rattle.pp_syntax.specs.declared.tree.Item.{Item}
@@ -13,7 +13,6 @@ use Rattle.catalog_semantics.specs.Attributes.{AreClean}
 use Rattle.catalog_semantics.specs.Sites.{is_built_in}
 use Rattle.catalog_semantics.specs.Catalogs.{is_plain_sort}
 use Rattle.pp_data.specs.Lookup.{key_of}
-use Rattle.catalog_semantics.specs.declared.state.Holding.{Holding}
 use Rattle.catalog_semantics.specs.States.{State, stands_in, declared_limit}
 
 -- so of what is given, if anything is
@@ -70,22 +69,6 @@ IsSound r = AreSoundAttributes r.attrs × (is_plain_sort r.sort ≡ true → is_
 abbrev pub AreSound : List Resource → Type 0
 AreSound resources = AllByRecursion IsSound resources
 
--- ---- what holds
-
 -- a class or a defined resource stands at a place
 abbrev pub IsContainerAt : ℕ → List Resource → Type 0
 IsContainerAt place resources = (r : Resource) × ((slice_get resources place ≡ Some r) × (is_plain_sort r.sort ≡ false))
-
--- a class stands at a place
-abbrev pub IsClassAt : ℕ → List Resource → Type 0
-IsClassAt place resources = (r : Resource) × ((slice_get resources place ≡ Some r) × (r.id.kind ≡ codes "class"))
-
-abbrev pub IfContainer : Option ℕ → List Resource → Type 0
-IfContainer None resources = Unit {0}
-IfContainer (Some place) resources = IsContainerAt place resources
-
--- Each holder of a resource is a class or a defined resource; so is the outer one of a holding, and the inner one is a class.
-pub record AreHeld (resources : List Resource) (holdings : List Holding) : Type 0 where
-  pub holders : AllByRecursion (λ r. IfContainer r.holder resources) resources
-  pub outers : AllByRecursion (λ h. IsContainerAt h.outer resources) holdings
-  pub inners : AllByRecursion (λ h. IsClassAt h.class resources) holdings

@@ -1,9 +1,8 @@
 -- Scopes that agree on what is looked up give one verdict.
-use Rattle.std.proofs.Common.{◌≡◌, ℕ, List, Option, refl, ap}
+use Rattle.std.proofs.Common.{◌≡◌, ℕ, List, refl, ap}
 use Rattle.pp_syntax.specs.declared.tree.Expr.{Expr}
 use Rattle.pp_syntax.specs.declared.tree.Form.{Form, Form-F, fold-Form}
 use Rattle.pp_syntax.specs.declared.tree.Form.TheOpen as plain
-use Rattle.pp_value.specs.declared.value.Value.{Value}
 use Rattle.pp_eval.specs.Scoping.{Scoped, find_in}
 use Rattle.pp_eval.specs.Verdicts.{Verdict, Evaluated}
 use Rattle.pp_eval.specs.Evaluation.{bound_to, form_at, value_in, value_of}

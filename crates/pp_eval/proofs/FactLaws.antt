@@ -1,5 +1,5 @@
 -- Facts of arrays and objects.
-use Rattle.std.proofs.Common.{◌≡◌, ℕ, Bool, true, false, cond, List, [], ◌∷◌, ◌++◌, Some, None, Result, Ok, Err, OnOk, Less, is_eq, refl, ap, sym, ◌∙◌, subst, append-nil, Vec, BTreeMap, String, Global, string_bytes, string_cmp, bytes_eq}
+use Rattle.std.proofs.Common.{◌≡◌, ℕ, Bool, true, false, cond, List, [], ◌∷◌, Some, None, Result, Ok, Err, OnOk, Less, is_eq, refl, ap, sym, ◌∙◌, subst, Vec, BTreeMap, String, Global, string_bytes, string_cmp, bytes_eq}
 use Rattle.std.specs.List.{AllByRecursion}
 use Rattle.std.specs.List.Sorted.{IsStrictlySortedBy}
 use Rattle.std.specs.Map.{keys_of}

@@ -12,7 +12,7 @@ use Rattle.pp_syntax.specs.declared.tree.Op.{Op}
 use Rattle.pp_value.specs.declared.value.Value.TheVariants as v
 use Rattle.pp_eval.specs.Scoping.{Scoped, find_in}
 use Rattle.pp_eval.specs.Verdicts.{Verdict, Evaluated, ◌>>=◌, limited}
-use Rattle.pp_eval.specs.Evaluation.{form_at, value_in, value_of, evaluated, pair_by, operand_by, choice_by, bound_to, list_at, map_at, refer_at, joined_to, chain_from, chain_at, prefix_at, indexed, index_at, selected, select_at}
+use Rattle.pp_eval.specs.Evaluation.{form_at, value_in, value_of, evaluated, pair_by, operand_by, choice_by, bound_to, list_at, map_at, refer_at, joined_to, chain_from, chain_at, prefix_at, index_at, selected, select_at}
 
 folded : Scoped → Expr → Evaluated
 folded s x = fold-Expr (ℕ → Verdict) Evaluated (form_at s) (λ x. record { at = x.at; verdict = x.form x.at }) x
