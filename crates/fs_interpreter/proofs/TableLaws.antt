@@ -38,7 +38,7 @@ pub at_exactly : (nodes : List Node) (i : ℕ) (n : Node) (p : Path) → slice_g
 at_exactly nodes i n p h = (
   (λ e. path_at nodes i n h ∙ ap Some (path_eq_same n.path p e)),
   (λ e. let two : ◌≡◌ {A = Option Path} (Some n.path) (Some p) = sym (path_at nodes i n h) ∙ e in
-  let same : n.path ≡ p = cc in ap (λ q. path_eq q p) same ∙ path_eq_refl p),
+      let same : n.path ≡ p = cc in ap (λ q. path_eq q p) same ∙ path_eq_refl p),
 )
 
 pub past_end : (nodes : List Node) (i : ℕ) (p : Path) → length nodes ≤ i → slice_get (paths_of nodes) i ≢ Some p
@@ -110,8 +110,7 @@ pub content_seen : (t : Inside) (table : Listed) (n : ℕ) (d e c : List ℕ) (b
 content_seen t table n d e c b view below is k l =
     let got = slice_get_read t.contents.items (length t.contents.items) n d refl below is in
     let same : b ≡ bytes_eq d c = k ∙ ap (λ x. bytes_eq x c) l in
-    let there : slice_get table.contents n ≡ Some d = sym (ap (λ (x : Listed). slice_get x.contents n) view) ∙ got in
-    (
+    let there : slice_get table.contents n ≡ Some d = sym (ap (λ (x : Listed). slice_get x.contents n) view) ∙ got in (
       (λ h. there ∙ ap Some ((bytes_eq-Decides d c).0 (sym same ∙ h))),
       (λ h. let two : ◌≡◌ {A = Option (List ℕ)} (Some d) (Some c) = sym there ∙ h in let equal : d ≡ c = cc in same ∙ (bytes_eq-Decides d c).1 equal),
     )
