@@ -1,4 +1,4 @@
--- What a program does to what cells tell, place by place. `proofs/Laws` ties it to what it does to a tree.
+-- What a program does to what cells tell, place by place. Laws tie it to what it does to a tree.
 use Rattle.std.specs.Prelude.{ℕ, Bool, true, false, not, ◌&&◌, ◌||◌, ◌==◌, if◌then◌else◌, List, [], ◌∷◌, ◌++◌, Option, Some, None}
 use Rattle.fs_semantics.specs.FileTree.{Path, parent}
 use Rattle.fs_semantics.specs.Programs.{Test, True, False, Not, And, Or, IsFile, IsLink, IsDir, IsEmpty, IsNone, Program, Programs, Id, Err, Mkdir, Creat, Link, Rm, Cp, Steps, If, none, next}

@@ -1,3 +1,5 @@
+//! What cells hold for each path of a table.
+
 ghost use Rattle.std.specs.Prelude.{◌≡◌, ◌<◌, length};
 ghost use Rattle.fs_interpreter.specs.Changed.{IsPut};
 

@@ -1,3 +1,5 @@
+//! Truth values and numbers as they are.
+
 use crate::bits::Bits;
 use rh_base::NoMemory;
 
