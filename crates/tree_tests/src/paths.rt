@@ -125,7 +125,8 @@ fn children_of_paths(rt: HostRuntime) -> Result<(), Fail> {
     let root = Path::root(alloc).ok().ok_or("memory")?;
     for segment in ["a", "...", "a.b", "ü", ".rehearsal"] {
         let child = root.child(alloc, segment).ok().ok_or("a path")?;
-        assert_eq!(rt; &written(&rt, alloc, &child).as_str()[1..], segment);
+        let text = written(&rt, alloc, &child);
+        assert_eq!(rt; text.as_str().strip_prefix('/'), Some(segment));
     }
     for segment in ["", ".", "..", "a/b", "/", "a\0b"] {
         let child = root.child(alloc, segment).err();
