@@ -12,6 +12,4 @@ mod limits;
 #[cfg(test)]
 mod names;
 #[cfg(test)]
-mod statements;
-#[cfg(test)]
 mod types;

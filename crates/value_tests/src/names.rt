@@ -1,4 +1,4 @@
-//! Names in scopes: classes, a node, and a defined resource.
+//! Names that are bound at the top, and names of classes and types.
 use crate::answers::{scopes_of, shown};
 use pp_eval::{BindFault, Scopes, plain_name, ref_of};
 use pp_value::{Ref, Value};
@@ -34,55 +34,6 @@ fn a_name_is_bound_once_in_a_scope(rt: HostRuntime) -> Result<(), Fail> {
         answers.as_str(),
         "number 1; number 1; number 6; none; none; "
     );
-    Ok(())
-}
-
-#[test]
-fn classes_are_found_whatever_their_case(rt: HostRuntime) -> Result<(), Fail> {
-    let mut scopes = scopes_of(rt.alloc(), "{}")?;
-    scopes.enter_class("Apache", None)?;
-    scopes.enter_class("apache::mod", Some("aPACHE"))?;
-    assert_eq!(rt; scopes.bind("port", Value::Int(80)), Ok(()));
-    assert!(rt; scopes.has_class("APACHE"));
-    assert!(rt; !scopes.has_class("mod"));
-    let answers = all_found(
-        rt.alloc(),
-        &scopes,
-        &[
-            "port",
-            "apache::mod::port",
-            "::aPache::MOD::port",
-            "apache::port",
-            "apache::other::port",
-            "::port",
-        ],
-    )?;
-    assert_eq!(rt;
-        answers.as_str(),
-        "number 80; number 80; number 80; none; none; none; "
-    );
-    Ok(())
-}
-
-#[test]
-fn a_node_stands_behind_all_but_the_top(rt: HostRuntime) -> Result<(), Fail> {
-    let mut scopes = scopes_of(rt.alloc(), "{\"port\": 1}")?;
-    scopes.enter_node()?;
-    assert_eq!(rt; scopes.bind("port", Value::Int(80)), Ok(()));
-    scopes.enter_defined()?;
-    let answers = all_found(rt.alloc(), &scopes, &["port", "::port"])?;
-    assert_eq!(rt; answers.as_str(), "number 80; number 1; ");
-    Ok(())
-}
-
-#[test]
-fn what_was_left_stays_readable_by_its_name(rt: HostRuntime) -> Result<(), Fail> {
-    let mut scopes = scopes_of(rt.alloc(), "{}")?;
-    scopes.enter_class("base", None)?;
-    scopes.leave();
-    assert_eq!(rt; scopes.bind("port", Value::Int(80)), Ok(()));
-    let answers = all_found(rt.alloc(), &scopes, &["port", "base::port"])?;
-    assert_eq!(rt; answers.as_str(), "number 80; none; ");
     Ok(())
 }
 
