@@ -195,10 +195,10 @@ impl Activity {
         Ok(())
     }
 
-    /// Literals that aren't set any more, from a place on.
-    pub(crate) fn release(&mut self, words: &[u32], from: usize) -> Result<(), NoMemory> {
-        'release: for i in from..words.len() {
-            let word = words[i];
+    /// Literals that aren't set any more.
+    pub(crate) fn release(&mut self, words: &[u32]) -> Result<(), NoMemory> {
+        'release: for word in words {
+            let word = *word;
             let var = (word / 2) as usize;
             if var >= self.phases.len() {
                 continue;

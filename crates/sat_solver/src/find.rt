@@ -14,6 +14,7 @@ use crate::derive::{derive, refuted};
 use crate::learn::{restart, settle};
 use crate::load::load;
 use crate::propagate::propagate;
+use crate::restarts::Restarts;
 use crate::store::Store;
 use crate::trail::Trail;
 use crate::watches::Watches;
@@ -110,6 +111,7 @@ fn resolve(
     watches: &mut Watches,
     steps: &mut Seq<Step>,
     activity: &mut Activity,
+    restarts: &mut Restarts,
     conflict: u32,
     budget: u64,
 ) -> Result<Turn, NoMemory>
@@ -126,12 +128,12 @@ fn resolve(
         give_up(alloc, cnf, r, store, trail, watches, steps, conflict)?;
         return Ok(Turn::Refuted);
     }
-    let before = trail.copy(alloc)?;
     learn(alloc, cnf, r, store, trail, watches, steps, conflict)?;
     activity.raise(&r.marked);
     if (steps.len() as u64) < budget {
-        restart(store, trail, watches, steps.len());
-        activity.release(&before, trail.len().saturating_sub(1))?;
+        restart(store, trail, watches, restarts.is_due());
+        activity.release(trail.dropped())?;
+        trail.forget_dropped();
         return Ok(Turn::Goes);
     }
     if budget == u64::MAX {
@@ -237,6 +239,7 @@ fn make_turn(
     watches: &mut Watches,
     steps: &mut Seq<Step>,
     activity: &mut Activity,
+    restarts: &mut Restarts,
     budget: u64,
 ) -> Result<Turn, NoMemory>
     requires state { IsState cnf.now store.old trail.old watches.old r.old.seen.items steps.old }
@@ -246,7 +249,7 @@ fn make_turn(
     let _long = trail.len();
     match propagate(store, trail, watches)? {
         Some(conflict) => resolve(
-            alloc, cnf, r, store, trail, watches, steps, activity, conflict, budget,
+            alloc, cnf, r, store, trail, watches, steps, activity, restarts, conflict, budget,
         ),
         None => {
             let decided = choose(cnf, store, trail, watches, activity)?;
@@ -289,6 +292,7 @@ fn search(
 {
     let vars = cnf.vars() as usize;
     let mut activity = Activity::new(alloc, vars)?;
+    let mut restarts = Restarts::new();
     let mut steps = Seq::new(alloc);
     'turns: loop {
         match make_turn(
@@ -300,6 +304,7 @@ fn search(
             watches,
             &mut steps,
             &mut activity,
+            &mut restarts,
             budget,
         )? {
             Turn::Goes => {}

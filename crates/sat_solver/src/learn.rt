@@ -125,13 +125,13 @@ pub(crate) fn settle(
     learn_long(store, trail, watches, words)
 }
 
-/// Goes back ahead of all decisions, after each 128 steps.
-pub(crate) fn restart(_store: &Store, trail: &mut Trail, _watches: &Watches, steps: usize)
+/// Goes back ahead of all decisions, where that is due.
+pub(crate) fn restart(_store: &Store, trail: &mut Trail, _watches: &Watches, due: bool)
     requires { IsReady _store.now trail.old _watches.now }
     ensures ready { IsReady _store.now trail.new _watches.now }
     ensures vars { trail.new.vars ≡ trail.old.vars }
 {
-    if steps % 128 != 0 {
+    if !due {
         return;
     }
     let levels = trail.level();

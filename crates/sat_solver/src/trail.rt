@@ -20,6 +20,8 @@ pub(crate) struct Trail {
     reasons: Vec<u32>,
     starts: Vec<u32>,
     done: usize,
+    /// Literals that going back has dropped. Only the order of decisions depends on them.
+    dropped: Vec<u32>,
 }
 
 impl Model for Trail {
@@ -47,6 +49,13 @@ fn behind(words: &[u32], start: usize) -> &[u32]
     ensures { result.now ≡ drop start words.now }
 {
     &words[start..]
+}
+
+/// Appends these literals, as long as there is memory.
+fn keep(dropped: &mut Vec<u32>, words: &[u32]) {
+    match dropped.extend_from_slice(words) {
+        Ok(()) | Err(_) => {}
+    }
 }
 
 /// Takes the marks of these literals away.
@@ -103,6 +112,7 @@ impl Trail {
             reasons: Vec::new(alloc),
             starts: Vec::new(alloc),
             done: 0,
+            dropped: Vec::new(alloc),
         })
     }
 
@@ -165,9 +175,16 @@ impl Trail {
         self.words.len()
     }
 
-    /// The literals that hold, in order.
-    pub(crate) fn copy(&self, alloc: Global) -> Result<Vec<u32>, NoMemory> {
-        Ok(Vec::from_slice(alloc, &self.words)?)
+    /// The literals that going back has dropped.
+    pub(crate) fn dropped(&self) -> &[u32] {
+        &self.dropped
+    }
+
+    /// Forgets the literals that going back has dropped.
+    pub(crate) fn forget_dropped(&mut self)
+        ensures { self.new ≡ self.old }
+    {
+        self.dropped.clear();
     }
 
     /// The number of levels.
@@ -225,6 +242,7 @@ impl Trail {
     {
         let start = place_of(&self.starts, level) as usize;
         unmark(&mut self.holds, behind(&self.words, start));
+        keep(&mut self.dropped, behind(&self.words, start));
         self.words.truncate(start);
         self.reasons.truncate(start);
         self.starts.truncate(level);
