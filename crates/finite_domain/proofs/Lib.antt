@@ -1,0 +1,9 @@
+pub mod Paths
+pub mod Runs
+pub mod Steps
+pub mod Shadowed
+pub mod Graphs
+pub mod Texts
+pub mod Matters
+pub mod Laid
+pub mod Exist
