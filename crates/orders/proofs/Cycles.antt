@@ -9,7 +9,8 @@ use Rattle.orders.specs.declared.order.OrderFault.{OrderFault}
 use Rattle.orders.specs.declared.order.OrderFault.TheVariants.{Cycle, Memory}
 use Rattle.orders.specs.Faults.{IfCycle}
 use Rattle.orders.specs.Exchanges.{place}
-use Rattle.orders.proofs.Lists.{times_append, all_from, split_at}
+use Rattle.fs_semantics.proofs.Counts.{times_append, all_from}
+use Rattle.orders.proofs.Lists.{split_at}
 use Rattle.orders.proofs.Walks.{at_place, place_within}
 
 module _ (edges : List (ℕ × ℕ)) where

@@ -6,7 +6,8 @@ use Rattle.std.proofs.lemmas.Bool.{cases_eq}
 use Rattle.std.proofs.lemmas.List.{get_or-set_same, get_or-set_other, take_more, take_all}
 use Rattle.fs_semantics.specs.Orders.{times}
 use Rattle.orders.specs.Counting.{EachOnce}
-use Rattle.orders.proofs.Lists.{times_append, times_itself, times_other, times_split, all_append}
+use Rattle.fs_semantics.proofs.Counts.{times_append, times_itself, times_other, all_append}
+use Rattle.orders.proofs.Lists.{times_split}
 
 -- the first i of the list are marked, each once
 pub record IsMarked (list : List ℕ) (i : ℕ) (marks : List Bool) : Type 0 where

@@ -8,7 +8,8 @@ use Rattle.orders.specs.Paths.{HasEdge, EndsBelow, Path, edge, and_on}
 use Rattle.orders.specs.Relation.{Comes}
 use Rattle.orders.specs.Table.{width_of, cell, relation_of, IsOrderTable}
 use Rattle.orders.specs.Search.{source, target, latest, AreLinks, State, AreLinked, IsFollowed, IsFresh, IsSearch, work, entering, finishing}
-use Rattle.orders.proofs.Lists.{times_append, times_itself, times_other, times_at, split_at}
+use Rattle.fs_semantics.proofs.Counts.{times_append, times_itself, times_other}
+use Rattle.orders.proofs.Lists.{times_at, split_at}
 use Rattle.orders.proofs.Waits.{count_false_set, clash}
 use Rattle.orders.proofs.Taking.{within_taken}
 use Rattle.orders.proofs.Tables.{comes_cell, comes_within}

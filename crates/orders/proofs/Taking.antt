@@ -7,7 +7,7 @@ use Rattle.fs_semantics.specs.Orders.{times, NoneAhead, IsLinearExtension}
 use Rattle.orders.specs.Relation.{Relation, comes, Comes, IsStrictOrder}
 use Rattle.orders.specs.Extensions.{IsReady, IsLeastReady, TakesLeast}
 use Rattle.orders.specs.Counting.{waiting, CanGo}
-use Rattle.orders.proofs.Lists.{all_from, none_ahead_push}
+use Rattle.fs_semantics.proofs.Counts.{all_from, none_ahead_push}
 use Rattle.orders.proofs.Waits.{waiting_none, waiting_zero, waiting_set, waiting_same, clash}
 use Rattle.orders.proofs.MarkLaws.{count_more}
 

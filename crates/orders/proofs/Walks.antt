@@ -3,11 +3,13 @@ use Rattle.std.proofs.Common.{◌≡◌, ◌≢◌, ℕ, zero, suc, cond, ◌+�
 use Rattle.std.specs.Prelude.{slice_index, nat_lt, swap}
 use Rattle.std.proofs.lemmas.Bool.{cases_lt, cases_eq, lt-ltb, le-ltb}
 use Rattle.std.proofs.lemmas.List.{length-append, length-set, get_or-set_same, get_or-set_other, ext_get_or, take_more}
-use Rattle.fs_semantics.specs.Orders.{times, NoneAhead, IsLinearExtension}
+use Rattle.fs_semantics.specs.Orders.{times, NoneAhead, IsLinearExtension, IsFree, IsExchange}
 use Rattle.orders.specs.Counting.{EachOnce}
-use Rattle.orders.specs.Exchanges.{IsFree, IsExchange, IsWalk, place, count_ahead, count_turned}
-use Rattle.orders.proofs.Lists.{times_append, times_itself, times_other, times_at, times_found, all_at, none_ahead_at}
-use Rattle.orders.proofs.Joins.{exchanged_extension, same_counts}
+use Rattle.orders.specs.Exchanges.{IsWalk, place, count_ahead, count_turned}
+use Rattle.fs_semantics.proofs.Counts.{times_append, times_itself, times_other, times_found, all_at, none_ahead_at}
+use Rattle.orders.proofs.Lists.{times_at}
+use Rattle.fs_semantics.proofs.Commuting.{same_times}
+use Rattle.fs_semantics.proofs.Exchanges.{exchanged as next_is_allowed}
 
 -- ---- places
 place_here : (k : ℕ) (order : List ℕ) → place k (k ∷ order) ≡ 0
@@ -177,7 +179,7 @@ module _ (n : ℕ) (before : ℕ → ℕ → Type 0) (from to order : List ℕ) 
   free = record {
     differ = λ e. let f = ap (λ v. place v to) e in let g = turned' in omega arith;
     not_before = place_kept before to (get_or order k 0) (get_or order (suc k) 0) last.kept
-        (omega (arith, times_at order k (omega arith), same_counts before n order to h.allowed last (get_or order k 0))) turned';
+        (omega (arith, times_at order k (omega arith), same_times n before order to h.allowed last (get_or order k 0))) turned';
     not_after = (none_ahead_at before (take k order) (get_or order k 0) (get_or order (suc k) 0 ∷ drop (suc (suc k)) order) (subst (NoneAhead before) (split_two order k within') h.allowed.kept)).0;
   }
 
@@ -203,7 +205,7 @@ module _ (n : ℕ) (before : ℕ → ℕ → Type 0) (from to order : List ℕ) 
 
   pub walking_more : IsWalking n before from to (swap order k (k + 1)) (orders ++ swap order k (k + 1) ∷ [])
   walking_more =
-      let l = exchanged_extension before n order (swap order k (k + 1)) exchanged h.allowed in
+      let l = next_is_allowed before n order (swap order k (k + 1)) exchanged h.allowed in
       record {
         walk = walk_push n before from order (swap order k (k + 1)) orders h.walk exchanged l;
         allowed = l;
@@ -268,7 +270,7 @@ module _ (n : ℕ) (before : ℕ → ℕ → Type 0) (from to order : List ℕ) 
   once = at_most n to (each_once_of n before to last)
 
   come : order ≡ to
-  come = same_order order to (same_counts before n order to h.allowed last) once sorted
+  come = same_order order to (same_times n before order to h.allowed last) once sorted
 
   pub walked : IsWalk n before from orders to
   walked = subst (λ (o : List ℕ). IsWalk n before from orders o) come h.walk

@@ -1,22 +1,6 @@
 -- Orders that differ by exchanges of two neighbours.
-use Rattle.std.specs.Prelude.{◌≡◌, ◌≢◌, ◌==◌, ℕ, suc, ◌+◌, List, [], ◌∷◌, ◌++◌, Bool, nat_lt, IsTrue, if◌then◌else◌}
-use Rattle.fs_semantics.specs.Orders.{IsLinearExtension}
-
--- a and b differ and neither comes before the other
-pub record IsFree (before : ℕ → ℕ → Type 0) (a b : ℕ) : Type 0 where
-  pub differ : a ≢ b
-  pub not_before : before a b → ⊥
-  pub not_after : before b a → ⊥
-
--- the second order is the first with two neighbouring free nodes exchanged
-pub record IsExchange (before : ℕ → ℕ → Type 0) (order next : List ℕ) : Type 0 where
-  pub front : List ℕ
-  pub left : ℕ
-  pub right : ℕ
-  pub back : List ℕ
-  pub was : order ≡ front ++ left ∷ right ∷ back
-  pub is : next ≡ front ++ right ∷ left ∷ back
-  pub free : IsFree before left right
+use Rattle.std.specs.Prelude.{◌≡◌, ◌==◌, ℕ, suc, ◌+◌, List, [], ◌∷◌, nat_lt, if◌then◌else◌}
+use Rattle.fs_semantics.specs.Orders.{IsLinearExtension, IsExchange}
 
 -- linear extensions, each the one before it with two neighbouring free nodes exchanged, lead from the one to the other
 pub data Joined (n : ℕ) (before : ℕ → ℕ → Type 0) : List ℕ → List ℕ → Type 0 where
@@ -46,7 +30,3 @@ count_ahead order k (i ∷ nodes) = (if nat_lt (place i order) (place k order) t
 abbrev pub count_turned : List ℕ → List ℕ → ℕ
 count_turned [] to = 0
 count_turned (k ∷ from) to = count_ahead to k from + count_turned from to
-
--- a relation that is told by a test
-abbrev pub Told : (ℕ → ℕ → Bool) → ℕ → ℕ → Type 0
-Told before a b = IsTrue (before a b)

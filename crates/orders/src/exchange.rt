@@ -1,8 +1,8 @@
 //! A law on linear extensions that other crates' proofs cite.
 ghost use Rattle.std.specs.Prelude.{◌≡◌, ℕ, List, Bool};
-ghost use Rattle.fs_semantics.specs.Orders.{IsLinearExtension};
+ghost use Rattle.fs_semantics.specs.Orders.{Told, IsLinearExtension, IsExchange};
 ghost use Rattle.orders.specs.Paths.{Path};
-ghost use Rattle.orders.specs.Exchanges.{Told, IsExchange, Joined};
+ghost use Rattle.orders.specs.Exchanges.{Joined};
 
 /// Any two linear extensions are joined by exchanges of neighbouring free nodes, whatever comes before what.
 pub fn exchanges_join()

@@ -1,7 +1,7 @@
 ghost use Rattle.std.specs.Prelude.{◌≡◌, ℕ, ◌+◌, ◌-◌, ◌<◌, ◌↔◌, List, IfOk, IfErr, OnOk, IsTrue};
 ghost use Rattle.orders.specs.Paths.{EndsBelow, Path, IsCycle};
 ghost use Rattle.orders.specs.Relation.{comes, Comes, IsStrictOrder, old_number};
-ghost use Rattle.orders.specs.Exchanges.{IsFree};
+ghost use Rattle.fs_semantics.specs.Orders.{IsFree};
 ghost use Rattle.orders.specs.declared.order.OrderFault.TheVariants.{Memory};
 
 use crate::bits;
