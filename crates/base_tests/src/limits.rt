@@ -3,7 +3,7 @@
 use rh_base::limits::{
     ATTRIBUTES_SIZE, DECLARED, DOMAIN_PATHS, FACTS_BYTES, LISTING_BYTES, MANIFEST_BYTES,
     NAME_BYTES, NESTING, ORDER_BYTES, PATH_BYTES, PATH_SEGMENTS, PROOF_BYTES, RESOURCES,
-    TREE_BYTES, VALUE_SIZE, WEIGHT,
+    TREE_BYTES, VALUE_DEPTH, VALUE_SIZE, WEIGHT,
 };
 
 #[test]
@@ -26,9 +26,10 @@ fn limits_of_what_is_read(rt: HostRuntime) {
 
 #[test]
 fn limits_of_what_is_worked_on(rt: HostRuntime) {
-    let rows: [(u64, u64); 7] = [
+    let rows: [(u64, u64); 8] = [
         (u64::from(NESTING), 64),
         (VALUE_SIZE, 262_144),
+        (VALUE_DEPTH, 1_000),
         (u64::from(DECLARED), 4_096),
         (ATTRIBUTES_SIZE, 16_777_216),
         (u64::from(RESOURCES), 256),

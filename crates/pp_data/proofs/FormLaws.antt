@@ -200,9 +200,6 @@ pub refused_with : (bytes : List ℕ) (json : Data) (f : Fault) → read bytes �
 refused_with bytes json (Refused r) is none h = (h, not_data bytes json is none)
 refused_with bytes json (Memory m) is none h = tt
 
-pub no_json : (bytes : List ℕ) → (IsUtf8 bytes → read bytes ≡ None) → (levels : List Level) → AreData bytes levels → ⊥
-no_json bytes none levels a = no_value a.json (sym (none a.text) ∙ a.is_read)
-
 pub one_data : (bytes : List ℕ) (a b : List Level) → AreData bytes a → AreData bytes b → a ≡ b
 one_data bytes a b x y = at a b (sym (data_back x.json a x.is_data) ∙ same_json bytes x.json b x.is_read y)
   where

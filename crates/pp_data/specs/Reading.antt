@@ -1,22 +1,11 @@
 -- The levels that JSON gives, as they are read; none, where it has another form.
-use Rattle.std.specs.Prelude.{◌≡◌, ℕ, Bool, true, ◌&&◌, ◌||◌, if◌then◌else◌, List, [], ◌∷◌, Option, Some, None, Result, Ok, Err, option_map, option_and_then, codes}
+use Rattle.std.specs.Prelude.{ℕ, Bool, true, ◌&&◌, ◌||◌, if◌then◌else◌, List, [], ◌∷◌, Option, Some, None, option_map, option_and_then, codes}
 use Rattle.std.specs.Str.{bytes_eq}
 use Rattle.serde_json.specs.Data.{Data, Items, no_items, item, Members, no_members, member}
 use Rattle.serde_json.specs.Find.{get_member, as_object, as_array}
 use Rattle.pp_value.specs.Values.{Pair}
 use Rattle.pp_eval.specs.Facts.{pairs_of}
 use Rattle.pp_data.specs.declared.data.Level.{Level}
-use Rattle.rh_base.specs.declared.misread.Misread.{Misread}
-use Rattle.rh_base.specs.declared.misread.Misread.TheVariants as misread
-
--- What a function returned, seen by view, is what reading gives, unless memory ran out.
-abbrev pub Fails : {Y : Type 0} → Misread → Option Y → Type 0
-Fails misread.Form read = read ≡ None
-Fails (misread.Memory m) read = Unit {0}
-
-abbrev pub Gives : {X Y : Type 0} → (X → Y) → Result X Misread → Option Y → Type 0
-Gives view (Ok x) read = read ≡ Some (view x)
-Gives view (Err e) read = Fails e read
 
 -- each key of the object is one of two
 abbrev pub has_only : List ℕ → List ℕ → Members → Bool

@@ -7,7 +7,8 @@ ghost use Rattle.pp_data.specs.declared.data.Level.{Level as L};
 ghost use Rattle.std.specs.List.{AllByRecursion};
 ghost use Rattle.pp_data.specs.Form.{AreData};
 ghost use Rattle.pp_data.specs.Lookup.{AreProper, IsProperLevel};
-ghost use Rattle.pp_data.specs.Reading.{Gives, has_only, pairs_in, when_in, level_in, levels_in, data_in};
+ghost use Rattle.rh_base.specs.Reading.{Gives};
+ghost use Rattle.pp_data.specs.Reading.{has_only, pairs_in, when_in, level_in, levels_in, data_in};
 
 use crate::data::{Data, Level};
 use pp_eval::pairs_of_json;

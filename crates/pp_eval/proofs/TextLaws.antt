@@ -3,20 +3,21 @@ use Rattle.std.proofs.Common.{◌≡◌, ℕ, ◌+◌, Bool, true, false, ◌||�
 use Rattle.std.specs.Prelude.{nat_lt, Some, None, Result, Ok, Err}
 use Rattle.std.proofs.lemmas.List.{length-append}
 use Rattle.std.proofs.lemmas.Bool.{ltb-true, lt-ltb}
+use Rattle.rh_base.specs.declared.limits.TheConstants.{VALUE_SIZE}
 use Rattle.pp_value.specs.declared.value.Value.{Value}
 use Rattle.pp_value.specs.declared.value.Value.TheVariants as v
 use Rattle.pp_value.specs.declared.fault.Misfit.{Misfit}
 use Rattle.pp_value.specs.declared.fault.Misfit.TheVariants.{Operand}
-use Rattle.pp_value.specs.Values.{has_opaque, size_limit}
+use Rattle.pp_value.specs.Values.{has_opaque}
 use Rattle.pp_value.specs.Shown.{show_table, shown, is_long_text}
 use Rattle.pp_eval.specs.Verdicts.{◌>>=◌, if_there, too_large}
 use Rattle.pp_eval.specs.Evaluation.{longer, limited_text}
 
-is_over : (text more : List ℕ) → is_long_text more ≡ true → nat_lt size_limit (1 + length (text ++ more)) ≡ true
+is_over : (text more : List ℕ) → is_long_text more ≡ true → nat_lt VALUE_SIZE (1 + length (text ++ more)) ≡ true
 is_over text more long =
     let sum = length-append text more in
-    let large = ltb-true size_limit (1 + length more) long in
-    lt-ltb size_limit (1 + length (text ++ more)) (omega arith)
+    let large = ltb-true VALUE_SIZE (1 + length more) long in
+    lt-ltb VALUE_SIZE (1 + length (text ++ more)) (omega arith)
 
 pub too_long : (whole at : ℕ) (text : List ℕ) (x : Value) (more : List ℕ) → show_table x ≡ Ok more → is_long_text more ≡ true → longer whole text at x ≡ Err (too_large whole)
 too_long whole at text x more h large = by_test (has_opaque x) h

@@ -1,11 +1,11 @@
 -- Scanning tokens from left to right for the first that goes wrong.
 use Rattle.std.specs.Prelude.{ℕ, Bool, true, false, not, ◌&&◌, nat_lt, if◌then◌else◌, List, [], ◌∷◌, Option, Some, None, codes}
 use Rattle.std.specs.Str.{bytes_eq}
+use Rattle.rh_base.specs.declared.limits.TheConstants.{NESTING}
 use Rattle.pp_syntax.specs.declared.token.Kind.{Kind}
 use Rattle.pp_syntax.specs.declared.token.Kind.TheVariants as kind
 use Rattle.pp_syntax.specs.Tokens.{Lexeme, is_among}
 use Rattle.pp_syntax.specs.Statements.{functions}
-use Rattle.pp_syntax.specs.Depth.{depth_limit}
 use Rattle.pp_parser.specs.declared.depth.Nesting.{Nesting}
 use Rattle.pp_parser.specs.Nested.{shape_of, behind_shape, depth_of}
 
@@ -49,7 +49,7 @@ abbrev pub behind : Nesting → Lexeme → Nesting
 behind n t = behind_shape n (shape_of t.kind t.text)
 
 abbrev pub is_too_deep : Nesting → Lexeme → List Lexeme → Bool
-is_too_deep n t tokens = nat_lt depth_limit (depth_of n (shape_of t.kind t.text))
+is_too_deep n t tokens = nat_lt NESTING (depth_of n (shape_of t.kind t.text))
 
 abbrev pub first_too_deep : Nesting → List Lexeme → Option Lexeme
 first_too_deep n tokens = first_where behind is_too_deep n tokens

@@ -10,16 +10,8 @@ use Rattle.pp_syntax.specs.declared.tree.Op.{Op}
 use Rattle.pp_syntax.specs.Tokens.{Lexeme}
 use Rattle.pp_readers.specs.Marks.{Found, front_of, first_at, mark, infix_at, prefix_of, begins_suffix}
 use Rattle.rh_base.specs.Reading.{◌>>=◌}
+pub use Rattle.rh_base.specs.Reading.{with_first, with_front}
 use Rattle.pp_readers.specs.Values.{name_of, atom, dq}
-
-abbrev pub with_first : {X : Type 0} → X → Found (List X) → Found (List X)
-with_first x None = None
-with_first x (Some r) = Some (x ∷ r.0, r.1)
-
--- what is read, behind what was read before
-abbrev pub with_front : {X : Type 0} → List X → Found (List X) → Found (List X)
-with_front front None = None
-with_front front (Some r) = Some (front ++ r.0, r.1)
 
 -- ---- chains of operators
 

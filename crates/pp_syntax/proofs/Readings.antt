@@ -41,10 +41,6 @@ token_step : (p : Place) (text : List ℕ) (x : Kind × List ℕ) → gap_at p t
 token_step p [] x g h = let none = token_at_end p in cc
 token_step p (b ∷ text) x g h = ap (λ u. step_by u (token_at p (b ∷ text))) g ∙ ap (step_by None) h
 
-nothing_step : (p : Place) (text : List ℕ) → text ≢ [] → gap_at p text ≡ None → token_at p text ≡ None → step_at p text ≡ Nothing
-nothing_step p [] some g h = absurd (some refl)
-nothing_step p (b ∷ text) some g h = ap (λ u. step_by u (token_at p (b ∷ text))) g ∙ ap (step_by None) h
-
 end_step : (p : Place) (text : List ℕ) → text ≡ [] → step_at p text ≡ End
 end_step p text e = ap (step_at p) e
 
@@ -67,12 +63,6 @@ at_token : (p : Place) (text : List ℕ) (k : Kind) (s rest : List ℕ) → text
 at_token p text k s rest e h =
     let found : token_at p text ≡ Some (k, rest) = ap (token_at p) e ∙ token_reads p k s rest h in
     token_step p text (k, rest) (no_gap_with p text (k, rest) found) found
-
-no_gap : (p : Place) (text : List ℕ) → ((s rest : List ℕ) → text ≡ s ++ rest → ¬ (GapAt p s rest)) → gap_at p text ≡ None
-no_gap p text n = elim (gap_at p text) as (λ g. gap_at p text ≡ g → g ≡ None) [
-  | None ↦ λ e. refl
-  | Some rest ↦ λ e. let t = gap_at_takes p text rest e in absurd (n t.front rest t.whole t.spelled)
-] refl
 
 no_token : (p : Place) (text : List ℕ) → ((k : Kind) (s rest : List ℕ) → text ≡ s ++ rest → ¬ (TokenAt p k s rest)) → token_at p text ≡ None
 no_token p text n = elim (token_at p text) as (λ f. token_at p text ≡ f → f ≡ None) [

@@ -1,5 +1,6 @@
 -- How deep a token is nested.
 use Rattle.std.specs.Prelude.{◌≡◌, ◌⊎◌, ℕ, zero, suc, ◌+◌, ◌-◌, ◌<◌, Bool, true, false, if◌then◌else◌, List, [], ◌∷◌, ◌++◌, codes}
+use Rattle.rh_base.specs.declared.limits.TheConstants.{NESTING}
 use Rattle.pp_syntax.specs.declared.token.Kind.{Kind}
 use Rattle.pp_syntax.specs.declared.token.Kind.TheVariants as kind
 use Rattle.pp_syntax.specs.Tokens.{Lexeme, is_among}
@@ -69,10 +70,6 @@ pub data Adds (before : List Lexeme) (t : Lexeme) (n : ℕ) : Type 0 where
   selection : (row : ℕ) → IsSign (codes "?") t → EndWithPostfixes row before → n ≡ row → Adds before t n
   prefix : (run : ℕ) → IsPrefix t → EndWithPrefixes run before → n ≡ 1 + run → Adds before t n
 
--- the greatest depth of a manifest
-abbrev pub depth_limit : ℕ
-depth_limit = 64
-
 -- With what it adds, more brackets stand open than the limit.
 abbrev pub IsTooDeep : List Lexeme → Lexeme → List Lexeme → Type 0
-IsTooDeep before t behind = (n : ℕ) × Adds before t n × (depth_limit < open_from 0 before + n)
+IsTooDeep before t behind = (n : ℕ) × Adds before t n × (NESTING < open_from 0 before + n)

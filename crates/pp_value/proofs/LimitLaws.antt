@@ -2,9 +2,10 @@
 use Rattle.std.proofs.Common.{◌≡◌, ℕ, ◌-◌, ◌^◌, ◌<◌, ◌≤◌, min, Bool, true, false, ◌||◌, [], ◌∷◌, Ok, refl, ap, ◌∙◌, arith}
 use Rattle.std.specs.Prelude.{nat_lt}
 use Rattle.std.proofs.lemmas.Bool.{ltb-true, ltb-false, lt-ltb, le-ltb}
+use Rattle.rh_base.specs.declared.limits.TheConstants.{VALUE_SIZE, VALUE_DEPTH}
 use Rattle.pp_value.specs.declared.value.Value.{Value, Row_of-Value, end_of-Value, more_of-Value, items-the_row-Value}
 use Rattle.pp_value.specs.declared.value.Value.TheVariants as v
-use Rattle.pp_value.specs.Values.{Keys, keyed, size_of, size_of_row, size_limit, depth_of, depth_of_row, depth_limit, exceeds_limits}
+use Rattle.pp_value.specs.Values.{Keys, keyed, size_of, size_of_row, depth_of, depth_of_row, exceeds_limits}
 use Rattle.pp_value.specs.Table.{index_table}
 use Rattle.pp_value.proofs.Members.{Items, Held, Members, index_so}
 
@@ -34,15 +35,15 @@ neither : (a b : Bool) → a ≡ false → b ≡ false → (a || b) ≡ false
 neither true b h k = h
 neither false b h k = k
 
-pub within_is : (x : Value) → exceeds_limits x ≡ false → Within size_limit depth_limit x
+pub within_is : (x : Value) → exceeds_limits x ≡ false → Within VALUE_SIZE VALUE_DEPTH x
 within_is x h = record {
-  small = ltb-false size_limit (size_of x) (or_left _ (nat_lt depth_limit (depth_of x)) h);
-  flat = ltb-false depth_limit (depth_of x) (or_right (nat_lt size_limit (size_of x)) _ h);
+  small = ltb-false VALUE_SIZE (size_of x) (or_left _ (nat_lt VALUE_DEPTH (depth_of x)) h);
+  flat = ltb-false VALUE_DEPTH (depth_of x) (or_right (nat_lt VALUE_SIZE (size_of x)) _ h);
 }
 
-pub is_within : (x : Value) → Within size_limit depth_limit x → exceeds_limits x ≡ false
+pub is_within : (x : Value) → Within VALUE_SIZE VALUE_DEPTH x → exceeds_limits x ≡ false
 is_within x w =
-    neither _ _ (le-ltb size_limit (size_of x) w.small) (le-ltb depth_limit (depth_of x) w.flat)
+    neither _ _ (le-ltb VALUE_SIZE (size_of x) w.small) (le-ltb VALUE_DEPTH (depth_of x) w.flat)
 
 module _ (size depth : ℕ) where
   items_within : {m : _} (row : Row_of-Value m) → size_of_row row ≤ size → depth_of_row row ≤ depth → Items (Within size depth) (items-the_row-Value _ row)
@@ -66,4 +67,4 @@ module _ (size depth : ℕ) where
 
 pub member_within : (a key x : Value) → exceeds_limits a ≡ false → index_table a key ≡ Ok x → exceeds_limits x ≡ false
 member_within a key x h e =
-    is_within x (index_so (Within size_limit depth_limit) (record { small = omega arith; flat = omega arith }) a key x (members_within size_limit depth_limit a (within_is a h)) e)
+    is_within x (index_so (Within VALUE_SIZE VALUE_DEPTH) (record { small = omega arith; flat = omega arith }) a key x (members_within VALUE_SIZE VALUE_DEPTH a (within_is a h)) e)

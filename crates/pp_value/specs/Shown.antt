@@ -1,13 +1,14 @@
 -- Values as texts.
 use Rattle.std.specs.Prelude.{ℕ, ◌+◌, ℤ, Bool, true, false, nat_lt, if◌then◌else◌, List, [], ◌∷◌, ◌++◌, length, codes, Result, Ok, Err}
 use Rattle.std.specs.Fmt.{signed_decimal}
+use Rattle.rh_base.specs.declared.limits.TheConstants.{VALUE_SIZE}
 use Rattle.pp_value.specs.declared.value.Ref.{Ref}
 use Rattle.pp_value.specs.declared.value.Value.{Value, Row_of-Value, end_of-Value, more_of-Value}
 use Rattle.pp_value.specs.declared.value.Value.TheVariants as v
 use Rattle.pp_value.specs.declared.fault.Misfit.{Misfit}
 use Rattle.pp_value.specs.declared.fault.Misfit.TheVariants.{Operand}
 use Rattle.pp_value.specs.Texts.{capitalized}
-use Rattle.pp_value.specs.Values.{Keys, has_opaque, size_limit}
+use Rattle.pp_value.specs.Values.{Keys, has_opaque}
 
 abbrev pub shown_int : ℤ → List ℕ
 shown_int n = signed_decimal n
@@ -58,4 +59,4 @@ show_table x = if has_opaque x then Err Operand else Ok (shown x)
 
 -- a text that exceeds the limits of a value
 abbrev pub is_long_text : List ℕ → Bool
-is_long_text text = nat_lt size_limit (1 + length text)
+is_long_text text = nat_lt VALUE_SIZE (1 + length text)

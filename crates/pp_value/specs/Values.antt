@@ -2,6 +2,7 @@
 use Rattle.std.specs.Prelude.{ℕ, ◌+◌, ℤ, Bool, true, false, ◌||◌, ◌&&◌, ◌==◌, nat_lt, max, List, [], ◌∷◌, length, Option, Some, None}
 use Rattle.std.specs.Str.{bytes_eq}
 use Rattle.std.specs.Ordering.{int_eq}
+use Rattle.rh_base.specs.declared.limits.TheConstants.{VALUE_SIZE, VALUE_DEPTH}
 pub use Rattle.pp_value.specs.Keys.{value_at, with_pair, HasDistinctKeys}
 use Rattle.pp_value.specs.declared.value.Ref.{Ref}
 use Rattle.pp_value.specs.declared.value.Value.{Value, Row_of-Value, end_of-Value, more_of-Value, items-the_row-Value}
@@ -156,14 +157,6 @@ abbrev mutual
 
 -- ---- limits
 
--- the greatest size of one value
-abbrev pub size_limit : ℕ
-size_limit = 262144
-
--- how deep one value nests at most
-abbrev pub depth_limit : ℕ
-depth_limit = 1000
-
 -- it is larger than a value may be, or nests deeper
 abbrev pub exceeds_limits : Value → Bool
-exceeds_limits x = nat_lt size_limit (size_of x) || nat_lt depth_limit (depth_of x)
+exceeds_limits x = nat_lt VALUE_SIZE (size_of x) || nat_lt VALUE_DEPTH (depth_of x)

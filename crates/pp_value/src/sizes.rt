@@ -5,10 +5,7 @@ ghost use Rattle.pp_value.specs.Values.{size_of, depth_of, exceeds_limits};
 ghost use Rattle.pp_value.specs.Levels.{size_of_all, size_of_each, depth_of_all, depth_of_each};
 
 use crate::value::{Pairs, Value};
-use rh_base::limits::VALUE_SIZE;
-
-/// How many lists and maps of one value stand within one another.
-pub const VALUE_DEPTH: u64 = 1_000;
+use rh_base::limits::{VALUE_DEPTH, VALUE_SIZE};
 
 /// The size of a value: of each text and each pair its bytes, and one for each value and each pair. Where it is larger
 /// than the greatest u64, that.

@@ -12,6 +12,7 @@ use Rattle.proof_check.specs.Refuted.{Refutation}
 use Rattle.proof_check.specs.Reading.{number_in}
 use Rattle.rh_base.specs.declared.misread.Misread.{Misread}
 use Rattle.rh_base.specs.Reading.{◌>>=◌, Gives}
+pub use Rattle.rh_base.specs.Reading.{with_first, with_front}
 
 abbrev pub Found : Type 0 → Type 0
 Found X = Option (X × List Word)
@@ -19,14 +20,6 @@ Found X = Option (X × List Word)
 -- the same, where these words are left
 abbrev pub Takes : {X Y : Type 0} → (X → Y) → Result X Misread → List Word → Found Y → Type 0
 Takes view r left read = Gives (λ x. (view x, left)) r read
-
-abbrev pub with_first : {X : Type 0} → X → Found (List X) → Found (List X)
-with_first x None = None
-with_first x (Some r) = Some (x ∷ r.0, r.1)
-
-abbrev pub with_front : {X : Type 0} → List X → Found (List X) → Found (List X)
-with_front front None = None
-with_front front (Some r) = Some (front ++ r.0, r.1)
 
 -- ---- single words
 

@@ -24,6 +24,9 @@ pub const NESTING: u32 = 64;
 /// Size of one value.
 pub const VALUE_SIZE: u64 = 262_144;
 
+/// How many lists and maps of one value stand within one another.
+pub const VALUE_DEPTH: u64 = 1_000;
+
 /// Declared resources and classes, virtual ones too.
 pub const DECLARED: u32 = 4_096;
 

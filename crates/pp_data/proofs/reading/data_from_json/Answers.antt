@@ -1,6 +1,7 @@
 use Rattle.std.proofs.Common.{◌≡◌, None, subst}
 use Rattle.serde_json.specs.View.{view}
-use Rattle.pp_data.specs.Reading.{Fails, data_in}
+use Rattle.rh_base.specs.Reading.{Fails}
+use Rattle.pp_data.specs.Reading.{data_in}
 use Rattle.pp_data.proofs.FormLaws.{refused_with}
 use Rattle.pp_data.proofs.reading.data_from_json.Goals as goal
 
