@@ -81,13 +81,6 @@ input_below (Not a ∷ gates) (suc k) i e = input_below gates k i e
 input_below (And a b ∷ gates) (suc k) i e = input_below gates k i e
 input_below (Mux c a b ∷ gates) (suc k) i e = input_below gates k i e
 
-operands_more : (k n : ℕ) (g : Gate) → k ≤ n → OperandsBelow k g → OperandsBelow n g
-operands_more k n (Input i) h o = tt
-operands_more k n (Constant b) h o = tt
-operands_more k n (Not a) h o = omega arith
-operands_more k n (And a b) h o = (omega arith, omega arith)
-operands_more k n (Mux c a b) h o = (omega arith, omega arith, omega arith)
-
 -- one more gate, which stands on wires that are there, and is not there yet
 module _ (gates : List Gate) (g : Gate) (s : IsSharing gates) (new : (k : ℕ) → slice_get gates k ≢ Some g) (below : OperandsBelow (length gates) g) where
   operands_push : (k : ℕ) (h : Gate) → slice_get (gates ++ g ∷ []) k ≡ Some h → OperandsBelow k h

@@ -9,9 +9,6 @@ use Rattle.cnf.specs.Clauses.{IsClause, HasVariables}
 use Rattle.cnf.specs.Formulas.{Formula, IsFormula, clause_at}
 use Rattle.cnf.specs.Store.{word_of, lit_of, clauses_from, formula_of, Rise, IsStored, start_of}
 
-halves : (x : ℕ) → ((2 * x) / 2 ≡ x) × ((2 * x) % 2 ≡ 0) × ((2 * x + 1) / 2 ≡ x) × ((2 * x + 1) % 2 ≡ 1)
-halves x = (omega arith, omega arith, omega arith, omega arith)
-
 -- a literal is what its word says
 pub lit_of-word_of : (l : Lit) → 1 ≤ l.var → lit_of (word_of l) ≡ l
 lit_of-word_of l h = by l.var l.positive h

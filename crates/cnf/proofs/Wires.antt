@@ -15,9 +15,6 @@ use Rattle.cnf.specs.Defining.{Defines, yes, lit_at, AreNeeded, HaveVariables, l
 use Rattle.cnf.proofs.ClauseLaws.{lit_true-opposite}
 use Rattle.cnf.proofs.Definitions.{Satisfies-push, Satisfies-front, Satisfies-last, lit_true-same}
 
-no_lit : Lit
-no_lit = record { var = 0; positive = true }
-
 pub lit_at-push : (lits : List Lit) (x : Lit) (w : ℕ) → w < length lits → lit_at (lits ++ x ∷ []) w ≡ lit_at lits w
 lit_at-push lits x w h =
     unwrap_or-slice_get (lits ++ x ∷ []) w (record { var = 0; positive = true })

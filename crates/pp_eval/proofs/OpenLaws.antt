@@ -72,25 +72,6 @@ below_take n zero places h = tt
 below_take n (suc k) [] h = tt
 below_take n (suc k) (x ∷ places) h = (h.0, below_take n k places h.1)
 
-no_inner_top : (scopes : List Scope) → HasTop scopes → IsInner (slice_get scopes 0) → ⊥
-no_inner_top [] h k = k
-no_inner_top (s ∷ scopes) h k = subst IsInnerSort h k
-
-begins_take : (scopes : List Scope) (opened : List ℕ) → HasTop scopes → BeginsWithTop opened → IsInner (current_scope (scopes, opened)) → BeginsWithTop (take (length opened - 1) opened)
-begins_take scopes [] top h k = absurd h
-begins_take scopes (p ∷ []) top h k = absurd (no_inner_top scopes top (subst (λ n. IsInner (slice_get scopes n)) h k))
-begins_take scopes (p ∷ q ∷ opened) top h k =
-    let many : length (p ∷ q ∷ opened) - 1 ≡ suc (length opened) = omega arith in
-    subst (λ n. BeginsWithTop (take n (p ∷ q ∷ opened))) (sym many) h
-
-pub left_are : (scopes : List Scope) (opened : List ℕ) → AreScopes scopes opened → IsInner (current_scope (scopes, opened)) → AreScopes scopes (take (length opened - 1) opened)
-left_are scopes opened h k = record {
-  top = h.top;
-  begins = begins_take scopes opened h.top h.begins k;
-  below = below_take (length scopes) (length opened - 1) opened h.below;
-  parents = h.parents;
-}
-
 -- ---- binding
 
 as_many : (place : ℕ) (b : List Pair) (scopes : List Scope) → length (with_bindings_at place b scopes) ≡ length scopes
@@ -128,16 +109,3 @@ bound_are place old name x new (Err fault.Again) opened h are = subst (λ (s : L
 bound_are place old name x new (Err (fault.Memory m)) opened h are = subst (λ (s : List Scope). AreScopes s opened) (sym h.1) are
 
 -- ---- the start
-
-no_parent : (s c : Scope) (place parent : ℕ) → s.parent ≡ None → slice_get (s ∷ []) place ≡ Some c → c.parent ≡ Some parent → ⊥
-no_parent s c zero parent none here is =
-    let same : s ≡ c = of_some s c here in
-    let clash : ◌≡◌ {A = Option ℕ} None (Some parent) = sym none ∙ (ap (λ (z : Scope). z.parent) same ∙ is) in
-    cc
-  where
-    of_some : (x y : Scope) → ◌≡◌ {A = Option Scope} (Some x) (Some y) → x ≡ y
-    of_some x y e = cc
-no_parent s c (suc place) parent none here is = cc
-
-pub start_are : (s : Scope) → s.sort ≡ sort.Top → s.parent ≡ None → AreScopes (s ∷ []) (0 ∷ [])
-start_are s is none = record { top = is; begins = refl; below = (omega arith, tt); parents = λ place parent c here k. absurd (no_parent s c place parent none here k) }

@@ -36,9 +36,6 @@ module _ (earlier : List (List Lit)) (chain : List Link) (i : ℕ) (h : i < leng
   fails_more wanted c d k n cause q r rest =
       subst (λ ls. ChainFails earlier wanted c ls k cause) (sym (drop_more chain i e h)) (inr (d, r, subst (λ m. ChainFails earlier wanted d (drop (i + 1) chain) m cause) (sym q) rest))
 
-  pub fails_here : (wanted c : List Lit) (k : ℕ) (cause : Cause) → LinkFails earlier c (get_or chain i e) k cause → ChainFails earlier wanted c (drop i chain) k cause
-  fails_here wanted c k cause f = subst (λ ls. ChainFails earlier wanted c ls k cause) (sym (drop_more chain i e h)) (inl f)
-
 -- the whole chain gave a clause that isn't wanted
 pub leads_fails : (earlier : List (List Lit)) (wanted c d : List Lit) (chain : List Link) (k : ℕ) → Leads earlier c chain d → d ≢ wanted → ChainFails earlier wanted c chain k (Resolvent d)
 leads_fails earlier wanted c d [] k l n = (ap Resolvent (sym l), λ e. n (sym l ∙ e))
@@ -81,9 +78,6 @@ right_none f steps h = subst (λ e. AreRight e steps) (append-nil f.clauses) h
 pub fault_none : (f : Formula) (steps : List Step) (n : ℕ) (cause : Cause) → FirstFault (earlier_of f []) steps n cause → FirstFault f.clauses steps (n + 0) cause
 fault_none f steps n cause h =
     subst (λ m. FirstFault f.clauses steps m cause) (let e : n ≡ n + 0 = omega arith in e) (subst (λ e. FirstFault e steps n cause) (append-nil f.clauses) h)
-
-pub right_all : (earlier : List (List Lit)) (steps : List Step) (i : ℕ) → length steps ≤ i → AreRight earlier (drop i steps)
-right_all earlier steps i h = subst (AreRight earlier) (sym (drop_all i steps h)) tt
 
 -- ---- an accepted log's formula has no model
 numbered_true : (v : ℕ → Bool) (cs : List (List Lit)) (n : ℕ) (c : List Lit) → Satisfies v cs → numbered cs n ≡ Some c → clause_true v c ≡ true
@@ -156,15 +150,6 @@ empty_full : (steps : List Step) → EndsEmpty steps → EndsFull steps → ⊥
 empty_full [] e f = e
 empty_full (step ∷ []) e f = f e
 empty_full (step ∷ next ∷ steps) e f = empty_full (next ∷ steps) e f
-
-pub accepted_faultless : (f : Formula) (steps : List Step) (n : ℕ) (cause : Cause) → IsAccepted f steps → IsFault f steps n cause → ⊥
-accepted_faultless f steps n cause a b = elim b [
-  | inl none ↦ subst EndsEmpty none.0 a.ends
-  | inr some ↦ elim some [
-    | inl first ↦ right_steps f.clauses steps n cause a.right first
-    | inr last ↦ empty_full steps a.ends last.1
-  ]
-]
 
 pub located : (n : ℕ) (e : StepFault) (f : CheckFault) (P : Cause → Type 0) (Q : ℕ → Cause → Type 0) → IsLocated n e f → IfCause e P → ((cause : Cause) → P cause → Q n cause) → IfBad f Q
 located n (fault.Cause cause) f P Q l h more = subst (λ x. IfBad x Q) (sym l) (more cause h)

@@ -197,26 +197,11 @@ module _ (vars : ℕ) (positive negative : List Bool) (trail : List Lit) (s : Ar
 
 -- ---- all marks are taken away
 module _ (vars : ℕ) (positive negative : List Bool) (trail : List Lit) (s : AreMarks vars positive negative trail) where
-  -- nothing is marked: the set is empty
-  pub none_marked : ((x : Lit) → is_marked positive negative x ≡ false) → clause_of (filter (is_marked positive negative) trail) ≡ []
-  none_marked none = one_clause (clause_of (filter (is_marked positive negative) trail)) [] (IsClause-clause_of (filter (is_marked positive negative) trail)) tt (λ x. has_marked vars positive negative trail s x ∙ none x)
-
   -- a list with just what is marked is the set
   pub lits_are : (lits : List Lit) → ((x : Lit) → has_lit lits x ≡ is_marked positive negative x) → clause_of lits ≡ clause_of (filter (is_marked positive negative) trail)
   lits_are lits same =
       one_clause (clause_of lits) (clause_of (filter (is_marked positive negative) trail)) (IsClause-clause_of lits) (IsClause-clause_of (filter (is_marked positive negative) trail))
       (λ x. has_lit-clause_of lits x ∙ same x ∙ sym (has_marked vars positive negative trail s x))
-
--- fewer marks are within the variables and on the trail
-pub fewer_marks : (vars : ℕ) (positive negative positive' negative' : List Bool) (trail : List Lit) → AreMarks vars positive negative trail
-    → length positive' ≡ length positive → length negative' ≡ length negative
-    → ((x : Lit) → is_marked positive' negative' x ≡ true → is_marked positive negative x ≡ true) → AreMarks vars positive' negative' trail
-fewer_marks vars positive negative positive' negative' trail s p n sub = record {
-  long_positive = p ∙ s.long_positive;
-  long_negative = n ∙ s.long_negative;
-  range = s.range;
-  listed = λ x h. s.listed x (sub x h);
-}
 
 -- no marks need no trail
 pub no_marks : (vars : ℕ) (positive negative : List Bool) → length positive ≡ vars + 1 → length negative ≡ vars + 1 → ((x : Lit) → is_marked positive negative x ≡ false) → AreMarks vars positive negative []
@@ -231,9 +216,6 @@ no_marks vars positive negative p n none = record {
 pub drained_sub : (positive negative positive' negative' : List Bool) (trail lits : List Lit) (i : ℕ) → Drained positive negative positive' negative' trail lits i
     → (x : Lit) → is_marked positive' negative' x ≡ true → is_marked positive negative x ≡ true
 drained_sub positive negative positive' negative' trail lits i d x h = sym (d.either x) ∙ or_right (has_lit lits x) (is_marked positive' negative' x) h
-
-pub drained_none : (positive negative : List Bool) (trail : List Lit) → Drained positive negative positive negative trail [] 0
-drained_none positive negative trail = record { long_positive = refl; long_negative = refl; either = λ x. refl; done = λ x h. absurd (true≢false (sym h)) }
 
 has_take : (trail : List Lit) (i : ℕ) (d x : Lit) → i < length trail → has_lit (take (i + 1) trail) x ≡ (has_lit (take i trail) x || same_lit x (get_or trail i d))
 has_take trail i d x h =
@@ -252,15 +234,6 @@ module _ (positive negative positive' negative' : List Bool) (trail lits : List 
     | inl old ↦ inl old
     | inr new ↦ inr (same_is x (get_or trail i e) new ∙ sym at)
   ]
-
-  -- the next literal of the trail has no mark
-  pub drained_skip : is_marked positive' negative' l ≡ false → Drained positive negative positive' negative' trail lits (i + 1)
-  drained_skip off = record {
-    long_positive = d.long_positive;
-    long_negative = d.long_negative;
-    either = d.either;
-    done = λ x t. elim (now_or_before x t) [ inl old ↦ d.done x old | inr new ↦ ap (is_marked positive' negative') new ∙ off ];
-  }
 
   -- it has one, which is taken away
   pub drained_more : l.var < length positive' → l.var < length negative' → is_marked positive' negative' l ≡ true
