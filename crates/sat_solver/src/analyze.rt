@@ -24,7 +24,7 @@ pub(crate) struct Hop {
 pub(crate) struct Resolvent {
     pub seen: Vec<bool>,
     pub marked: Vec<u32>,
-    pub open: usize,
+    pub pending: usize,
     pub hops: Vec<Hop>,
 }
 
@@ -37,7 +37,7 @@ impl Resolvent {
         Ok(Resolvent {
             seen: vec![in alloc; false; vars]?,
             marked: Vec::new(alloc),
-            open: 0,
+            pending: 0,
             hops: Vec::new(alloc),
         })
     }
@@ -66,9 +66,9 @@ fn mark(
     requires fits { _limit ≤ length trail.now.words }
     requires below { word < 2 * trail.now.vars }
     requires is_false { has (take _limit trail.now.words) (opposite word) ≡ true }
-    requires marked { IsMarked trail.now.words trail.now.vars boundary _limit r.old.seen.items r.old.open }
-    ensures marked { OnOk result (IsMarked trail.now.words trail.now.vars boundary _limit r.new.seen.items r.new.open) }
-    ensures grows { OnOk result (r.old.open ≤ r.new.open) }
+    requires marked { IsMarked trail.now.words trail.now.vars boundary _limit r.old.seen.items r.old.pending }
+    ensures marked { OnOk result (IsMarked trail.now.words trail.now.vars boundary _limit r.new.seen.items r.new.pending) }
+    ensures grows { OnOk result (r.old.pending ≤ r.new.pending) }
     ensures seen { OnOk result ((x : ℕ) → has trail.now.words (opposite x) ≡ true → is_seen r.new.seen.items x ≡ (is_seen r.old.seen.items x || (x == word))) }
     ensures hops { OnOk result (r.new.hops ≡ r.old.hops) }
     ensures covered { OnOk result (Covers trail.now.words r.old.seen.items r.old.marked.items → Covers trail.now.words r.new.seen.items r.new.marked.items) }
@@ -83,7 +83,7 @@ fn mark(
     if place < boundary {
         return Ok(());
     }
-    r.open += 1;
+    r.pending += 1;
     Ok(())
 }
 
@@ -101,9 +101,9 @@ fn join(
     requires fits { limit ≤ length trail.now.words }
     requires below { (x : ℕ) → has lits.now x ≡ true → x < 2 * trail.now.vars }
     requires are_false { (x : ℕ) → has lits.now x ≡ true → (x ≡ skip) ⊎ (has (take limit trail.now.words) (opposite x) ≡ true) }
-    requires marked { IsMarked trail.now.words trail.now.vars boundary limit r.old.seen.items r.old.open }
-    ensures marked { OnOk result (IsMarked trail.now.words trail.now.vars boundary limit r.new.seen.items r.new.open) }
-    ensures grows { OnOk result (r.old.open ≤ r.new.open) }
+    requires marked { IsMarked trail.now.words trail.now.vars boundary limit r.old.seen.items r.old.pending }
+    ensures marked { OnOk result (IsMarked trail.now.words trail.now.vars boundary limit r.new.seen.items r.new.pending) }
+    ensures grows { OnOk result (r.old.pending ≤ r.new.pending) }
     ensures seen { OnOk result ((x : ℕ) → has trail.now.words (opposite x) ≡ true → is_seen r.new.seen.items x ≡ (is_seen r.old.seen.items x || (has lits.now x && not (x == skip)))) }
     ensures hops { OnOk result (r.new.hops ≡ r.old.hops) }
     ensures covered { OnOk result (Covers trail.now.words r.old.seen.items r.old.marked.items → Covers trail.now.words r.new.seen.items r.new.marked.items) }
@@ -121,9 +121,9 @@ fn join(
 #[inline]
 fn take_out(r: &mut Resolvent, word: u32, reason: u32) -> Result<(), NoMemory>
     requires within { word / 2 < length r.old.seen.items }
-    requires some { 0 < r.old.open }
+    requires some { 0 < r.old.pending }
     ensures seen { OnOk result (r.new.seen.items ≡ slice_set r.old.seen.items (word / 2) false) }
-    ensures open { OnOk result (r.new.open + 1 ≡ r.old.open) }
+    ensures pending { OnOk result (r.new.pending + 1 ≡ r.old.pending) }
     ensures marked { OnOk result (r.new.marked ≡ r.old.marked) }
     ensures hops { OnOk result (r.new.hops.items ≡ r.old.hops.items ++ record { number = reason; pivot = opposite word } ∷ []) }
 {
@@ -132,7 +132,7 @@ fn take_out(r: &mut Resolvent, word: u32, reason: u32) -> Result<(), NoMemory>
         pivot: opposite(word),
     })?;
     r.seen[(word / 2) as usize] = false;
-    r.open -= 1;
+    r.pending -= 1;
     Ok(())
 }
 
@@ -148,12 +148,12 @@ fn pass(
     requires short { length trail.now.words < 2 ^ 32 }
     requires late { boundary ≤ place }
     requires within { place < length trail.now.words }
-    requires some { 0 < r.old.open }
-    requires marked { IsMarked trail.now.words trail.now.vars boundary (place + 1) r.old.seen.items r.old.open }
+    requires some { 0 < r.old.pending }
+    requires marked { IsMarked trail.now.words trail.now.vars boundary (place + 1) r.old.seen.items r.old.pending }
     requires reasons { IsGiven store.now trail.now boundary }
-    ensures found { IfOk result (λ b. b ≡ true → (r.new ≡ r.old) × (r.old.open ≡ 1) × (is_seen r.old.seen.items (slice_index trail.now.words place) ≡ true)) }
-    ensures some { IfOk result (λ b. b ≡ false → 0 < r.new.open) }
-    ensures marked { IfOk result (λ b. b ≡ false → IsMarked trail.now.words trail.now.vars boundary place r.new.seen.items r.new.open) }
+    ensures found { IfOk result (λ b. b ≡ true → (r.new ≡ r.old) × (r.old.pending ≡ 1) × (is_seen r.old.seen.items (slice_index trail.now.words place) ≡ true)) }
+    ensures some { IfOk result (λ b. b ≡ false → 0 < r.new.pending) }
+    ensures marked { IfOk result (λ b. b ≡ false → IsMarked trail.now.words trail.now.vars boundary place r.new.seen.items r.new.pending) }
     ensures covered { OnOk result (Covers trail.now.words r.old.seen.items r.old.marked.items → Covers trail.now.words r.new.seen.items r.new.marked.items) }
     ensures leads { IfOk result (λ b. (c : ℕ → Bool) → Reaches store.now c r.old.hops.items (in_clause trail.now.words r.old.seen.items) → Reaches store.now c r.new.hops.items (in_clause trail.now.words r.new.seen.items)) }
 {
@@ -162,7 +162,7 @@ fn pass(
     if !seen {
         return Ok(false);
     }
-    if r.open == 1 {
+    if r.pending == 1 {
         return Ok(true);
     }
     let reason = trail.reason(place);
@@ -181,8 +181,8 @@ fn descend(
     requires apart { IsApart trail.now.words }
     requires short { length trail.now.words < 2 ^ 32 }
     requires fits { boundary ≤ length trail.now.words }
-    requires some { 0 < r.old.open }
-    requires marked { IsMarked trail.now.words trail.now.vars boundary (length trail.now.words) r.old.seen.items r.old.open }
+    requires some { 0 < r.old.pending }
+    requires marked { IsMarked trail.now.words trail.now.vars boundary (length trail.now.words) r.old.seen.items r.old.pending }
     requires reasons { IsGiven store.now trail.now boundary }
     ensures left { IfOk result (λ p. IsLeft trail.now.words boundary p r.new.seen.items) }
     ensures long { OnOk result (length r.new.seen.items ≡ trail.now.vars) }
@@ -211,12 +211,12 @@ fn begin(
     requires apart { IsApart trail.now.words }
     requires short { length trail.now.words < 2 ^ 32 }
     requires fits { boundary < length trail.now.words }
-    requires clear { IsClear trail.now.vars r.old.seen.items r.old.marked.items r.old.open r.old.hops.items }
+    requires clear { IsClear trail.now.vars r.old.seen.items r.old.marked.items r.old.pending r.old.hops.items }
     requires is_false { IsFalse store.now trail.now.words conflict }
     requires rested { AtRest store.now (take boundary trail.now.words) }
     requires reasons { IsGiven store.now trail.now boundary }
-    ensures some { OnOk result (0 < r.new.open) }
-    ensures marked { OnOk result (IsMarked trail.now.words trail.now.vars boundary (length trail.now.words) r.new.seen.items r.new.open) }
+    ensures some { OnOk result (0 < r.new.pending) }
+    ensures marked { OnOk result (IsMarked trail.now.words trail.now.vars boundary (length trail.now.words) r.new.seen.items r.new.pending) }
     ensures covered { OnOk result (Covers trail.now.words r.new.seen.items r.new.marked.items) }
     ensures leads { OnOk result (Reaches store.now (has (clause store.now conflict)) r.new.hops.items (in_clause trail.now.words r.new.seen.items)) }
 {
@@ -238,7 +238,7 @@ pub(crate) fn analyze(
     requires apart { IsApart trail.now.words }
     requires short { length trail.now.words < 2 ^ 32 }
     requires fits { boundary < length trail.now.words }
-    requires clear { IsClear trail.now.vars r.old.seen.items r.old.marked.items r.old.open r.old.hops.items }
+    requires clear { IsClear trail.now.vars r.old.seen.items r.old.marked.items r.old.pending r.old.hops.items }
     requires is_false { IsFalse store.now trail.now.words conflict }
     requires rested { AtRest store.now (take boundary trail.now.words) }
     requires reasons { IsGiven store.now trail.now boundary }
@@ -258,10 +258,10 @@ fn pass_all(r: &mut Resolvent, store: &Store, trail: &Trail, place: usize) -> Re
     requires apart { IsApart trail.now.words }
     requires short { length trail.now.words < 2 ^ 32 }
     requires within { place < length trail.now.words }
-    requires marked { IsMarked trail.now.words trail.now.vars 0 (place + 1) r.old.seen.items r.old.open }
+    requires marked { IsMarked trail.now.words trail.now.vars 0 (place + 1) r.old.seen.items r.old.pending }
     requires reasons { IsGiven store.now trail.now 0 }
     requires all { (p : ℕ) → p < length trail.now.words → slice_index trail.now.reasons p ≡ 0 → ⊥ }
-    ensures marked { OnOk result (IsMarked trail.now.words trail.now.vars 0 place r.new.seen.items r.new.open) }
+    ensures marked { OnOk result (IsMarked trail.now.words trail.now.vars 0 place r.new.seen.items r.new.pending) }
     ensures covered { OnOk result (Covers trail.now.words r.old.seen.items r.old.marked.items → Covers trail.now.words r.new.seen.items r.new.marked.items) }
     ensures leads { OnOk result ((c : ℕ → Bool) → Reaches store.now c r.old.hops.items (in_clause trail.now.words r.old.seen.items) → Reaches store.now c r.new.hops.items (in_clause trail.now.words r.new.seen.items)) }
 {
@@ -280,10 +280,10 @@ fn pass_all(r: &mut Resolvent, store: &Store, trail: &Trail, place: usize) -> Re
 fn descend_all(r: &mut Resolvent, store: &Store, trail: &Trail) -> Result<(), NoMemory>
     requires apart { IsApart trail.now.words }
     requires short { length trail.now.words < 2 ^ 32 }
-    requires marked { IsMarked trail.now.words trail.now.vars 0 (length trail.now.words) r.old.seen.items r.old.open }
+    requires marked { IsMarked trail.now.words trail.now.vars 0 (length trail.now.words) r.old.seen.items r.old.pending }
     requires reasons { IsGiven store.now trail.now 0 }
     requires all { (p : ℕ) → p < length trail.now.words → slice_index trail.now.reasons p ≡ 0 → ⊥ }
-    ensures marked { OnOk result (IsMarked trail.now.words trail.now.vars 0 0 r.new.seen.items r.new.open) }
+    ensures marked { OnOk result (IsMarked trail.now.words trail.now.vars 0 0 r.new.seen.items r.new.pending) }
     ensures leads { OnOk result ((c : ℕ → Bool) → Reaches store.now c r.old.hops.items (in_clause trail.now.words r.old.seen.items) → Reaches store.now c r.new.hops.items (in_clause trail.now.words r.new.seen.items)) }
 {
     let mut place = trail.len();
@@ -298,10 +298,10 @@ fn descend_all(r: &mut Resolvent, store: &Store, trail: &Trail) -> Result<(), No
 fn begin_all(r: &mut Resolvent, store: &Store, trail: &Trail, conflict: u32) -> Result<(), NoMemory>
     requires apart { IsApart trail.now.words }
     requires short { length trail.now.words < 2 ^ 32 }
-    requires clear { IsClear trail.now.vars r.old.seen.items r.old.marked.items r.old.open r.old.hops.items }
+    requires clear { IsClear trail.now.vars r.old.seen.items r.old.marked.items r.old.pending r.old.hops.items }
     requires is_false { IsFalse store.now trail.now.words conflict }
     requires below { (x : ℕ) → has (clause store.now conflict) x ≡ true → x < 2 * trail.now.vars }
-    ensures marked { OnOk result (IsMarked trail.now.words trail.now.vars 0 (length trail.now.words) r.new.seen.items r.new.open) }
+    ensures marked { OnOk result (IsMarked trail.now.words trail.now.vars 0 (length trail.now.words) r.new.seen.items r.new.pending) }
     ensures leads { OnOk result (Reaches store.now (has (clause store.now conflict)) r.new.hops.items (in_clause trail.now.words r.new.seen.items)) }
 {
     let lits = store.clause(conflict);
@@ -323,11 +323,11 @@ pub(crate) fn refute(
 ) -> Result<(), NoMemory>
     requires apart { IsApart trail.now.words }
     requires short { length trail.now.words < 2 ^ 32 }
-    requires clear { IsClear trail.now.vars r.old.seen.items r.old.marked.items r.old.open r.old.hops.items }
+    requires clear { IsClear trail.now.vars r.old.seen.items r.old.marked.items r.old.pending r.old.hops.items }
     requires is_false { IsFalse store.now trail.now.words conflict }
     requires reasons { IsGiven store.now trail.now 0 }
     requires all { (p : ℕ) → p < length trail.now.words → slice_index trail.now.reasons p ≡ 0 → ⊥ }
-    ensures marked { OnOk result (IsMarked trail.now.words trail.now.vars 0 0 r.new.seen.items r.new.open) }
+    ensures marked { OnOk result (IsMarked trail.now.words trail.now.vars 0 0 r.new.seen.items r.new.pending) }
     ensures leads { OnOk result (Reaches store.now (has (clause store.now conflict)) r.new.hops.items (in_clause trail.now.words r.new.seen.items)) }
 {
     begin_all(r, store, trail, conflict)?;

@@ -81,11 +81,11 @@ fn reset(r: &mut Resolvent)
     ensures seen { r.new.seen ≡ r.old.seen }
     ensures marked { r.new.marked.items ≡ [] }
     ensures hops { r.new.hops.items ≡ [] }
-    ensures none { r.new.open ≡ 0 }
+    ensures none { r.new.pending ≡ 0 }
 {
     r.marked.clear();
     r.hops.clear();
-    r.open = 0;
+    r.pending = 0;
 }
 
 /// The words of the clause to learn from a clause that is false, and its step.
