@@ -5,3 +5,4 @@ pub mod FrontLaws
 pub mod SizeLaws
 pub mod TreeLaws
 pub mod ParentLaws
+pub mod EntryLaws

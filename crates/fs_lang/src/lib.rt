@@ -12,4 +12,4 @@ mod tree;
 pub use fronts::are_disjoint;
 pub use path::{Path, PathFault};
 pub use program::{Entry, Program, Test};
-pub use tree::Tree;
+pub use tree::{Outcome, Tree};
