@@ -6,3 +6,4 @@ pub mod SizeLaws
 pub mod TreeLaws
 pub mod ParentLaws
 pub mod EntryLaws
+pub mod TextLaws

@@ -279,7 +279,7 @@ segment_first s p rest proper (inr (more, e)) h =
     ∙ ap (λ r. joined r (segments_of (pieces more))) (segment_piece s proper)
     ∙ ap (joined (Some (s ∷ []))) (sym (after_slash (segments_of (pieces more))) ∙ ap (λ t. segments_of (pieces t)) (sym e) ∙ h)
 
-segments_again : (p : Path) (text : List ℕ) → Segments p text → AllByRecursion IsSegment p → segments_of (pieces text) ≡ Some p
+pub segments_again : (p : Path) (text : List ℕ) → Segments p text → AllByRecursion IsSegment p → segments_of (pieces text) ≡ Some p
 segments_again [] text h proper = ap (λ t. segments_of (pieces t)) (sym (append-nil text)) ∙ slashes_away text [] h
 segments_again (s ∷ p) text h proper =
     ap (λ t. segments_of (pieces t)) h.5 ∙ slashes_away h.0 (s ++ h.1) h.3

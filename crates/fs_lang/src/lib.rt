@@ -3,6 +3,7 @@
 
 mod copies;
 mod fronts;
+mod laws;
 mod order;
 mod path;
 mod program;
@@ -10,6 +11,7 @@ mod reading;
 mod tree;
 
 pub use fronts::are_disjoint;
+pub use laws::path_texts;
 pub use path::{Path, PathFault};
 pub use program::{Entry, Program, Test};
 pub use tree::{Outcome, Tree};
