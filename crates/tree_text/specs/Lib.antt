@@ -1,0 +1,2 @@
+pub mod TreeText
+pub mod Reading
