@@ -7,3 +7,4 @@ pub mod TreeLaws
 pub mod ParentLaws
 pub mod EntryLaws
 pub mod TextLaws
+pub mod NameLaws

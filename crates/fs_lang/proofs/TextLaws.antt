@@ -49,7 +49,9 @@ longer (r ∷ p) s e = cc
 
 pub text_below : (p : Path) → parent p ≢ [] → (more : List ℕ) × (more ≢ []) × (path_text p ≡ path_text (parent p) ++ more)
 text_below p h =
-    let last = parent_and_last p (λ e. h (ap parent e)) in
-    (codes "/" ++ (last.0 ++ []), (λ e. cc),
+    let last = parent_and_last p (λ e. h (ap parent e)) in (
+      codes "/" ++ (last.0 ++ []),
+      (λ e. cc),
       ap path_text last.1 ∙ not_root (parent p ++ last.0 ∷ []) (longer (parent p) last.0) ∙ spelled_append (parent p) (last.0 ∷ [])
-      ∙ ap (λ t. t ++ spelled (last.0 ∷ [])) (sym (not_root (parent p) h)))
+          ∙ ap (λ t. t ++ spelled (last.0 ∷ [])) (sym (not_root (parent p) h)),
+    )
