@@ -8,3 +8,4 @@ pub mod ParentLaws
 pub mod EntryLaws
 pub mod TextLaws
 pub mod NameLaws
+pub mod EntryOrder
