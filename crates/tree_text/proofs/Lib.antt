@@ -3,3 +3,4 @@ pub mod WriteLaws
 pub mod ReadLaws
 pub mod TextLaws
 pub mod StoredLaws
+pub mod PrintLaws

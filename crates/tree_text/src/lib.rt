@@ -2,9 +2,11 @@
 #![tactic(auto)]
 
 mod laws;
+mod printing;
 mod reading;
 mod writing;
 
 pub use laws::tree_texts;
+pub use printing::program_text;
 pub use reading::tree_from_json;
 pub use writing::tree_to_json;
