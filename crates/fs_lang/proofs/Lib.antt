@@ -5,3 +5,7 @@ pub mod FrontLaws
 pub mod SizeLaws
 pub mod TreeLaws
 pub mod ParentLaws
+pub mod EntryLaws
+pub mod TextLaws
+pub mod NameLaws
+pub mod EntryOrder

@@ -4,3 +4,5 @@ pub mod Reading
 pub mod Fronts
 pub mod Sizes
 pub mod Trees
+pub mod Outcomes
+pub mod Names

@@ -4,7 +4,7 @@ ghost use Rattle.std.specs.Prelude.{◌≡◌, IfOk};
 ghost use Rattle.fs_lang.specs.declared.program.Test.TheVariants.{Not, And, Or};
 ghost use Rattle.fs_lang.specs.declared.program.Program.TheVariants.{If};
 
-use crate::program::{Program, Test};
+use crate::program::{Entry, Program, Test};
 use rh_base::{Boxed, NoMemory, Seq};
 use std::alloc::Global;
 
@@ -110,5 +110,18 @@ impl Program {
         ensures { IfOk result (λ copy. copy ≡ self.now) }
     {
         copy_program(alloc, self)
+    }
+}
+
+impl Entry {
+    /// An equal entry.
+    pub fn copy(&self, alloc: Global) -> Result<Entry, NoMemory>
+        ensures { IfOk result (λ copy. copy ≡ self.now) }
+    {
+        match self {
+            Entry::Folder => Ok(Entry::Folder),
+            Entry::File(content) => Ok(Entry::File(content.copy(alloc)?)),
+            Entry::Link(target) => Ok(Entry::Link(target.copy(alloc)?)),
+        }
     }
 }

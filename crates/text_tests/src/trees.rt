@@ -1,0 +1,164 @@
+//! Trees from texts, and as they are written.
+
+use fs_lang::{Entry, Path, Tree};
+use rh_base::{Fault, Refusal};
+use std::alloc::Global;
+use std::process::Abort;
+use std::test::Fail;
+use tree_text::{tree_from_json, tree_to_json};
+
+fn written(rt: &impl Abort, alloc: Global, tree: &Tree) -> Vec<u8> {
+    let mut bytes = Vec::new(alloc);
+    tree_to_json(alloc, tree, &mut bytes)
+        .ok()
+        .expect(rt, "memory");
+    bytes
+}
+
+/// The tree of a text as it is written, or the refusal.
+fn answer(rt: &impl Abort, alloc: Global, text: &[u8]) -> Vec<u8> {
+    match tree_from_json(alloc, text) {
+        Ok(tree) => written(rt, alloc, &tree),
+        Err(Fault::Refused(refusal)) => {
+            let Refusal { number, at, name } = refusal;
+            let shown = format!(in alloc; "{number} at {at}: {}", name.as_str());
+            shown.ok().expect(rt, "memory").into_bytes()
+        }
+        Err(Fault::Memory(_)) => Vec::new(alloc),
+    }
+}
+
+#[test]
+fn trees_that_are_read(rt: HostRuntime) -> Result<(), Fail> {
+    let alloc = rt.alloc();
+    for (text, want) in [
+        ("{}", "{}"),
+        (" { } ", "{}"),
+        (r#"{"/a":null}"#, r#"{"/a":null}"#),
+        (r#"{"/a":"x"}"#, r#"{"/a":"x"}"#),
+        (r#"{"/a":""}"#, r#"{"/a":""}"#),
+        (r#"{"/a": {"link": "/b"}}"#, r#"{"/a":{"link":"/b"}}"#),
+        (r#"{"/a/b":null,"/a":null}"#, r#"{"/a":null,"/a/b":null}"#),
+        (
+            r#"{"/a/b":null,"/a.b":null,"/a":null,"/a-":null}"#,
+            r#"{"/a":null,"/a-":null,"/a.b":null,"/a/b":null}"#,
+        ),
+        (r#"{"/a":null,"/a":"x"}"#, r#"{"/a":"x"}"#),
+        (
+            r#"{"/ü":"\u00fc\n\u0001\"\\/"}"#,
+            r#"{"/ü":"ü\n\u0001\"\\/"}"#,
+        ),
+        (r#"{"/a\u000a":null}"#, r#"{"/a\n":null}"#),
+        (
+            r#"{"/.rehearsal":null,"/.rehearsal/package":null,"/.rehearsal/package/p":"","/opt":null,"/opt/p":null,"/opt/p/z":"q"}"#,
+            r#"{"/.rehearsal":null,"/.rehearsal/package":null,"/.rehearsal/package/p":"","/opt":null,"/opt/p":null,"/opt/p/z":"q"}"#,
+        ),
+    ] {
+        let found = answer(&rt, alloc, text.as_bytes());
+        assert_eq!(rt; found.as_slice(), want.as_bytes(), "{text}");
+    }
+    Ok(())
+}
+
+#[test]
+fn texts_of_another_shape(rt: HostRuntime) -> Result<(), Fail> {
+    let alloc = rt.alloc();
+    for text in [
+        "",
+        "x",
+        "{",
+        "{}x",
+        "null",
+        "1",
+        "true",
+        r#""/a""#,
+        "[]",
+        r#"["/a"]"#,
+        r#"{"/a"}"#,
+        r#"{"/a":1}"#,
+        r#"{"/a":true}"#,
+        r#"{"/a":[]}"#,
+        r#"{"/a":{}}"#,
+        r#"{"/a":{"link":null}}"#,
+        r#"{"/a":{"link":1}}"#,
+        r#"{"/a":{"target":"/b"}}"#,
+        r#"{"/a":{"link":"/b","more":null}}"#,
+        r#"{"/a":{"link":{"link":"/b"}}}"#,
+    ] {
+        let found = answer(&rt, alloc, text.as_bytes());
+        assert_eq!(rt; found.as_slice(), b"62 at 0: tree".as_slice(), "{text}");
+    }
+    let found = answer(&rt, alloc, b"{\"/\xff\":null}");
+    assert_eq!(rt; found.as_slice(), b"62 at 0: tree".as_slice());
+    Ok(())
+}
+
+#[test]
+fn paths_that_are_refused(rt: HostRuntime) -> Result<(), Fail> {
+    let alloc = rt.alloc();
+    for text in [
+        r#"{"/":null}"#,
+        r#"{"":null}"#,
+        r#"{"a":null}"#,
+        r#"{"/a/":null}"#,
+        r#"{"//a":null}"#,
+        r#"{"/a":null,"/a//b":null}"#,
+        r#"{"/.":null}"#,
+        r#"{"/a":null,"/a/..":null}"#,
+        r#"{"/a\u0000":null}"#,
+        r#"{"/a/b":null}"#,
+        r#"{"/a":"x","/a/b":null}"#,
+        r#"{"/a":{"link":"/"},"/a/b":null}"#,
+        r#"{"/a":null,"/a/b/c":"x"}"#,
+    ] {
+        let found = answer(&rt, alloc, text.as_bytes());
+        assert_eq!(rt; found.as_slice(), b"62 at 0: tree".as_slice(), "{text}");
+    }
+    Ok(())
+}
+
+/// The text of a tree of one file, whose path has this many bytes.
+fn long_path(alloc: Global, bytes: usize) -> Result<String, Fail> {
+    let mut text = String::from_str(alloc, "{\"/")?;
+    for _ in 1..bytes {
+        text.push('s')?;
+    }
+    text.push_str("\":\"x\"}")?;
+    Ok(text)
+}
+
+#[test]
+fn limits_of_paths(rt: HostRuntime) -> Result<(), Fail> {
+    let alloc = rt.alloc();
+    let longest = long_path(alloc, 1024)?;
+    let found = answer(&rt, alloc, longest.as_bytes());
+    assert_eq!(rt; found.as_slice(), longest.as_bytes());
+    let longer = long_path(alloc, 1025)?;
+    let found = answer(&rt, alloc, longer.as_bytes());
+    assert_eq!(rt; found.as_slice(), b"62 at 0: tree".as_slice());
+    Ok(())
+}
+
+/// A tree of nested folders, as many as are asked for.
+fn nested(rt: &impl Abort, alloc: Global, depth: usize) -> Tree {
+    let mut tree = Tree::empty(alloc).ok().expect(rt, "memory");
+    let mut path = Path::root(alloc).ok().expect(rt, "memory");
+    for _ in 0..depth {
+        path = path.child(alloc, "s").ok().expect(rt, "a path");
+        let copy = path.copy(alloc).ok().expect(rt, "memory");
+        tree.add(copy, Entry::Folder).ok().expect(rt, "memory");
+    }
+    tree
+}
+
+#[test]
+fn deep_trees(rt: HostRuntime) -> Result<(), Fail> {
+    let alloc = rt.alloc();
+    let deepest = written(&rt, alloc, &nested(&rt, alloc, 32));
+    let found = answer(&rt, alloc, deepest.as_slice());
+    assert_eq!(rt; found.as_slice(), deepest.as_slice());
+    let deeper = written(&rt, alloc, &nested(&rt, alloc, 33));
+    let found = answer(&rt, alloc, deeper.as_slice());
+    assert_eq!(rt; found.as_slice(), b"62 at 0: tree".as_slice());
+    Ok(())
+}
