@@ -1,0 +1,13 @@
+//! Laws on tables.
+
+ghost use Rattle.std.specs.Prelude.{List, ℕ};
+ghost use Rattle.fs_semantics.specs.FileTree.{Path};
+ghost use Rattle.fs_interpreter.specs.Places.{Listed, HasPath, HasContent, Keeps, with_path, with_content};
+
+/// A table with a path or a content more has it, and has what it had.
+pub fn additions()
+    ensures path { (table : Listed) (p : Path) → HasPath (with_path table p) p }
+    ensures paths { (table : Listed) (p : Path) → Keeps table (with_path table p) }
+    ensures content { (table : Listed) (c : List ℕ) → HasContent (with_content table c) c }
+    ensures contents { (table : Listed) (c : List ℕ) → Keeps table (with_content table c) }
+{}
