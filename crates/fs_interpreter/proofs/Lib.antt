@@ -6,6 +6,7 @@ pub mod KeptLists
 pub mod AddedLaws
 pub mod KeptNodes
 pub mod AdditionLaws
+pub mod StateLaws
 pub mod Put
 pub mod AsideLaws
 pub mod StepLaws
