@@ -1,0 +1,6 @@
+//! Runs of programs on file trees, by the one interpreter.
+#![tactic(auto)]
+
+mod cover;
+mod standing;
+mod told;
