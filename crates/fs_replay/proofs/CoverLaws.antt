@@ -1,8 +1,8 @@
 -- Tables that keep what they have.
-use Rattle.std.proofs.Common.{◌≡◌, ℕ, zero, suc, ◌+◌, ◌<◌, List, [], ◌∷◌, length, take, drop, get_or, Result, Ok, Err, OnOk, refl, sym, ap, subst, ◌∙◌, arith}
+use Rattle.std.proofs.Common.{◌≡◌, ℕ, zero, suc, ◌+◌, ◌<◌, List, [], ◌∷◌, length, take, drop, get_or, Result, Ok, Err, OnOk, refl, sym, ap, ◌∙◌, arith}
 use Rattle.fs_semantics.specs.FileTree.{Path, parent}
 use Rattle.fs_semantics.specs.Programs.{Test, True, False, Not, And, Or, IsFile, IsLink, IsDir, IsEmpty, IsNone, Program, Programs, Id, Err, Mkdir, Creat, Link, Rm, Cp, Steps, If, none, next}
-use Rattle.fs_interpreter.specs.Places.{Listed, HasPath, HasContent, Keeps, CoversTest, Covers, CoversSteps}
+use Rattle.fs_interpreter.specs.Places.{Listed, Keeps, CoversTest, Covers, CoversSteps}
 
 pub keeps_same : (t : Listed) → Keeps t t
 keeps_same t = record { paths = λ p h. h; contents = λ c h. h }

@@ -1,16 +1,19 @@
 -- Cells that are made of a tree place by place, and a tree that is made of cells.
-use Rattle.std.proofs.Common.{◌≡◌, ◌≢◌, ◌⊎◌, inl, inr, ℕ, zero, suc, ◌+◌, ◌<◌, ◌≤◌, Bool, true, false, List, [], ◌∷◌, ◌++◌, length, slice_get, Option, Some, None, option_map, is_some, IsTrue, IfSome, refl, sym, ap, subst, ◌∙◌, arith}
+use Rattle.std.proofs.Common.{◌≡◌, ◌≢◌, ◌⊎◌, inl, inr, ℕ, zero, suc, ◌+◌, ◌<◌, ◌≤◌, Bool, true, false, cond, List, [], ◌∷◌, ◌++◌, length, slice_get, Option, Some, None, option_map, is_some, IsTrue, IfSome, refl, sym, ap, subst, ◌∙◌, arith}
 use Rattle.std.specs.FinMap as map
+use Rattle.std.specs.FinMap.{find, get-entries}
+use Rattle.std.specs.List.{AllByRecursion}
 use Rattle.std.proofs.lemmas.Option.{slice_get_within}
-use Rattle.fs_semantics.specs.FileTree.{Path, Tree, Entry, Folder, File, Link, HasParents, HasText, is_dir, is_folder_entry, parent}
+use Rattle.fs_semantics.specs.FileTree.{Path, Tree, Entry, Folder, File, Link, HasParents, HasText, is_dir, is_folder_entry, parent, path_cmp, path_eq}
+use Rattle.fs_semantics.proofs.Trees.{path_eq_same}
 use Rattle.fs_semantics.specs.Entries.{IsFreeAt, IsFolderAt, IsWith}
-use Rattle.fs_interpreter.specs.Places.{Listed, IsTable, place_in}
+use Rattle.fs_interpreter.specs.Places.{Listed, IsTable, HasPath, HasContent, Keeps, place_in}
 use Rattle.fs_interpreter.specs.States.{Cell, State, truth, number}
 use Rattle.fs_interpreter.specs.Standing.{Tells, Stands}
 use Rattle.fs_interpreter.proofs.SearchLaws.{place_there, place_nowhere}
 use Rattle.fs_interpreter.proofs.StateLaws.{one_entry}
 use Rattle.fs_interpreter.proofs.KeptLists.{get_last}
-use Rattle.fs_replay.specs.Told.{with_entry}
+use Rattle.fs_replay.specs.Told.{HasTree, HasNode, with_entry}
 
 -- what the lists tell of a place
 abbrev pub cell_in : List Bool → List Bool → List Bool → List ℕ → ℕ → Cell
@@ -155,3 +158,45 @@ pub above_entry : (table : Listed) (n : ℕ) (u t : Tree) (p : Path) (c : Cell) 
     → slice_get table.paths n ≡ Some p → Tells table.contents c (map.get t p) → Tells table.contents c (option_map f o) → IfSome o (λ e. IsFolderAt u (parent p))
 above_entry table n u t p c f None is whole so_far at one two = tt
 above_entry table n u t p c f (Some x) is whole so_far at one two = is_below_folder table n u t p (f x) is whole so_far at (one_entry table.contents c (map.get t p) (Some (f x)) one two)
+
+-- where no path of the table is, the tree has nothing
+pub none_else : (table : Listed) (t : Tree) → map.get t [] ≡ None → HasTree table t → (p : Path) → ((i : ℕ) → slice_get table.paths i ≢ Some p) → map.get t p ≡ None
+none_else table t root has p none = elim (map.get t p) as (λ o. map.get t p ≡ o → o ≡ None) [
+  | None ↦ λ e. refl
+  | Some x ↦ λ e. elim (has.paths p (ap is_some e)) [
+    | inl top ↦ sym e ∙ ap (map.get t) top ∙ root
+    | inr there ↦ absurd (none there.0 there.1)
+  ]
+] refl
+
+-- ---- the entries of a tree
+
+abbrev pub HasEntries : Listed → List (Path × Entry) → Type 0
+HasEntries table es = AllByRecursion (λ e. HasNode table e.0 e.1) es
+
+found_has : (table : Listed) (es : List (Path × Entry)) (p : Path) (x : Entry) → HasEntries table es → find path_cmp p es ≡ Some x → HasNode table p x
+found_has table [] p x all h = cc
+found_has table (e ∷ es) p x all h = elim (path_eq p e.0) as (λ b. path_eq p e.0 ≡ b → cond b (Some e.1) (find path_cmp p es) ≡ Some x → HasNode table p x) [
+  | true ↦ λ k l.
+      let same : e.1 ≡ x = cc in
+      subst (HasNode table p) same (subst (λ q. HasNode table q e.1) (sym (path_eq_same p e.0 k)) all.0)
+  | false ↦ λ k l. found_has table es p x all.1 l
+] refl h
+
+pub has_tree : (table : Listed) (t : Tree) → HasEntries table (map.entries t) → HasTree table t
+has_tree table t all = record {
+  paths = λ p h. elim (map.get t p) as (λ o. map.get t p ≡ o → IsTrue (is_some o) → HasPath table p) [
+    | None ↦ λ e k. cc
+    | Some x ↦ λ e k. (found_has table (map.entries t) p x all (sym (get-entries t p) ∙ e)).path
+  ] refl h;
+  contents = λ p text h. elim (map.get t p) as (λ o. map.get t p ≡ o → HasText o text → HasContent table text) [
+    | None ↦ λ e k. absurd k
+    | Some x ↦ λ e k. (found_has table (map.entries t) p x all (sym (get-entries t p) ∙ e)).text text k
+  ] refl h;
+}
+
+pub tree_later : (a b : Listed) (t : Tree) → Keeps a b → HasTree a t → HasTree b t
+tree_later a b t k h = record { paths = λ p e. k.paths p (h.paths p e); contents = λ p text e. k.contents text (h.contents p text e) }
+
+pub node_later : (a b : Listed) (p : Path) (x : Entry) → Keeps a b → HasNode a p x → HasNode b p x
+node_later a b p x k h = record { path = k.paths p h.path; text = λ text e. k.contents text (h.text text e) }

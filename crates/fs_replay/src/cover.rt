@@ -1,11 +1,12 @@
 //! Tables that have what programs and trees name.
 
-ghost use Rattle.std.specs.Prelude.{OnOk};
-ghost use Rattle.fs_lang.specs.Meaning.{test_of, program_of, programs_in};
+ghost use Rattle.std.specs.Prelude.{IfOk, OnOk};
+ghost use Rattle.fs_lang.specs.Meaning.{test_of, program_of, programs_in, entry_of};
 ghost use Rattle.fs_interpreter.specs.Places.{HasPath, HasContent, Keeps, CoversTest, Covers, CoversSteps};
+ghost use Rattle.fs_replay.specs.Told.{HasTree, HasNode};
 
 use fs_interpreter::{Table, additions};
-use fs_lang::{Path, Program, Test};
+use fs_lang::{Entry, Path, Program, Test, Tree};
 use rh_base::{NoMemory, Text};
 use std::alloc::Global;
 
@@ -63,9 +64,10 @@ fn cover_both(alloc: Global, table: &mut Table, a: &Test, b: &Test) -> Result<()
     cover_test(alloc, table, b)
 }
 
+/// The paths and contents of a program.
 #[cycle(cover)]
 #[tactic(auto, using(fs_lang::specs::Meaning::program_of_steps, crate::proofs::CoverLaws::keeps_same))]
-fn cover(alloc: Global, table: &mut Table, program: &Program) -> Result<(), NoMemory>
+pub(crate) fn cover(alloc: Global, table: &mut Table, program: &Program) -> Result<(), NoMemory>
     ensures covers { OnOk result (Covers table.new (program_of program.now)) }
     ensures keeps { Keeps table.old table.new }
 {
@@ -132,4 +134,26 @@ pub(crate) fn cover_all(
         cover(alloc, table, program)?;
     }
     Ok(())
+}
+
+fn cover_node(alloc: Global, table: &mut Table, p: &Path, entry: &Entry) -> Result<(), NoMemory>
+    ensures has { OnOk result (HasNode table.new p.now (entry_of entry.now)) }
+    ensures keeps { Keeps table.old table.new }
+{
+    match entry {
+        Entry::Folder => cover_path(alloc, table, p),
+        Entry::File(content) => cover_entry(alloc, table, p, content),
+        Entry::Link(target) => cover_entry(alloc, table, p, target),
+    }
+}
+
+/// A table that has the paths and contents of a tree.
+pub(crate) fn table_of(alloc: Global, tree: &Tree) -> Result<Table, NoMemory>
+    ensures { IfOk result (λ table. HasTree table tree.now) }
+{
+    let mut table = Table::new(alloc)?;
+    for (p, entry) in tree.entries() {
+        cover_node(alloc, &mut table, p, entry)?;
+    }
+    Ok(table)
 }

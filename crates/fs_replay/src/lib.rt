@@ -2,5 +2,8 @@
 #![tactic(auto)]
 
 mod cover;
+mod runs;
 mod standing;
 mod told;
+
+pub use runs::{replay, run};

@@ -1,15 +1,13 @@
 //! Cells that stand for a tree, made of it and read back.
 
-ghost use Rattle.std.specs.Prelude.{◌≡◌, ◌≢◌, ◌<◌, ◌++◌, ◌∷◌, [], false, ℕ, List, None, Some, length, slice_get, option_map, IfSome, IfOk, OnOk};
-ghost use Rattle.std.specs.FinMap as map;
-ghost use Rattle.fs_semantics.specs.FileTree.{Path as Segments, Tree as FileTree, HasText, HasParents, parent};
+ghost use Rattle.std.specs.Prelude.{◌≡◌, ◌<◌, ◌++◌, ◌∷◌, [], false, length, option_map, IfSome, IfOk, OnOk};
+ghost use Rattle.fs_semantics.specs.FileTree.{Tree as FileTree, HasParents, parent};
 ghost use Rattle.fs_semantics.specs.Entries.{IsFreeAt, IsFolderAt};
 ghost use Rattle.fs_lang.specs.Meaning.{entry_of};
 ghost use Rattle.fs_interpreter.specs.Meanings.{plain_meanings};
-ghost use Rattle.fs_interpreter.specs.Places.{HasContent};
 ghost use Rattle.fs_interpreter.specs.States.{AreCells};
 ghost use Rattle.fs_interpreter.specs.Standing.{Stands};
-ghost use Rattle.fs_replay.specs.Told.{plain_state, with_entry};
+ghost use Rattle.fs_replay.specs.Told.{HasTree, plain_state, with_entry};
 
 use crate::told::{Told, entry_told, told_at, told_of};
 use fs_interpreter::{Cells, Plain, Table};
@@ -33,12 +31,12 @@ fn push_told(cells: &mut Cells<Plain>, told: Told) -> Result<(), NoMemory>
 
 /// Cells that stand for a tree whose paths and contents are in the table.
 pub(crate) fn cells_of(alloc: Global, table: &Table, tree: &Tree) -> Result<Cells<Plain>, NoMemory>
-    requires paths { (p : Segments) → ((i : ℕ) → slice_get table.now.paths i ≢ Some p) → map.get tree.now p ≡ None }
-    requires contents { (p : Segments) (text : List ℕ) → HasText (map.get tree.now p) text → HasContent table.now text }
+    requires { HasTree table.now tree.now }
     ensures cells { IfOk result (λ cells. AreCells plain_meanings cells) }
     ensures places { IfOk result (λ cells. length cells.present ≡ length table.now.paths) }
     ensures stands { IfOk result (λ cells. Stands table.now (plain_state cells) tree.now) }
 {
+    tree.is_tree();
     let mut cells = Cells {
         present: Seq::new(alloc),
         folder: Seq::new(alloc),

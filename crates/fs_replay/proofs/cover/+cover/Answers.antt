@@ -1,4 +1,4 @@
-use Rattle.std.proofs.Common.{rules, drop, sym, ap, subst, ◌∙◌}
+use Rattle.std.proofs.Common.{rules, sym, ap, subst, ◌∙◌}
 use Rattle.fs_lang.specs.Meaning.{test_of, program_of, programs_in, program_of_if}
 use Rattle.fs_lang.specs.Sizes.{program_size}
 use Rattle.fs_lang.proofs.SizeLaws.{item_smaller, if_size}

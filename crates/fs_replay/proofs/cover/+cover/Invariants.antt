@@ -1,4 +1,4 @@
-use Rattle.std.proofs.Common.{ℕ, ◌+◌, ◌*◌, drop}
+use Rattle.std.proofs.Common.{◌+◌, ◌*◌, drop}
 use Rattle.fs_lang.specs.Meaning.{program_of, programs_in}
 use Rattle.fs_lang.specs.Sizes.{program_size, programs_size}
 use Rattle.fs_interpreter.specs.Places.{Listed, Keeps, CoversSteps}

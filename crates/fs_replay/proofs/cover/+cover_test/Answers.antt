@@ -3,7 +3,7 @@ use Rattle.fs_lang.specs.Meaning.{test_of, test_of_and, test_of_or}
 use Rattle.fs_lang.specs.Sizes.{test_size}
 use Rattle.fs_lang.proofs.SizeLaws.{and_size, or_size}
 use Rattle.fs_interpreter.specs.Places.{CoversTest}
-use Rattle.fs_replay.proofs.CoverLaws.{test_later, keeps_more, when_ok, if_ok, both_ok}
+use Rattle.fs_replay.proofs.CoverLaws.{test_later, keeps_more, when_ok, both_ok}
 use Rattle.fs_replay.proofs.cover.+cover_test.Goals as goal
 
 pub cover_both-returns-clause-first : goal.cover_both-returns-clause-first

@@ -1,6 +1,6 @@
-use Rattle.std.proofs.Common.{◌≡◌, length, take, sym, ap, subst, ◌∙◌, ◌<◌}
+use Rattle.std.proofs.Common.{length, sym, ap, subst, ◌∙◌, ◌<◌}
 use Rattle.fs_semantics.specs.FileTree.{parent}
-use Rattle.fs_interpreter.specs.Places.{HasPath, Keeps, with_path}
+use Rattle.fs_interpreter.specs.Places.{HasPath, Keeps}
 use Rattle.fs_replay.proofs.CoverLaws.{keeps_more, front_parent}
 use Rattle.fs_replay.proofs.cover.cover_path.Goals as goal
 

@@ -1,7 +1,7 @@
-use Rattle.std.proofs.Common.{◌≡◌, ◌++◌, ◌+◌, ◌∷◌, [], ℕ, sym, ap, subst, ◌∙◌, ◌<◌, arith}
+use Rattle.std.proofs.Common.{◌++◌, ◌+◌, ◌∷◌, [], sym, subst, ◌∙◌, arith}
 use Rattle.std.proofs.lemmas.Option.{slice_get_within}
 use Rattle.fs_replay.specs.Told.{cell_of}
-use Rattle.fs_replay.proofs.StandLaws.{AreTold, told_more}
+use Rattle.fs_replay.proofs.StandLaws.{AreTold, told_more, none_else}
 use Rattle.fs_replay.proofs.standing.cells_of.Goals as goal
 
 pub loop-i-preserved : goal.loop-i-preserved
@@ -21,5 +21,5 @@ pub returns-clause-stands : goal.returns-clause-stands
 returns-clause-stands c = record {
   no_error = c.loop-i.invariant.error;
   tells = λ i p h. c.loop-i.invariant.told.tells i p (let below = slice_get_within c.args.table.now.paths i p h in omega (arith, below, c.path_count-i-end.ensures, c.loop-i-test.false)) h;
-  nothing_else = λ p h. c.requires.paths p h;
+  nothing_else = none_else c.args.table.now c.args.tree.now c.is_tree.ensures.no_root c.requires;
 }

@@ -1,10 +1,9 @@
-use Rattle.std.proofs.Common.{◌≡◌, ◌<◌, [], length, get_or, sym, ap, subst, ◌∙◌, arith}
+use Rattle.std.proofs.Common.{◌≡◌, [], length, get_or, sym, subst, arith}
 use Rattle.std.proofs.lemmas.Option.{slice_get-get_or}
 use Rattle.std.specs.FinMap as map
 use Rattle.fs_lang.specs.Meaning.{entry_of}
-use Rattle.fs_semantics.specs.Entries.{IsFolderAt}
 use Rattle.fs_interpreter.specs.Standing.{Tells, Stands}
-use Rattle.fs_replay.specs.Told.{cell_of, plain_state, with_entry}
+use Rattle.fs_replay.specs.Told.{cell_of, plain_state}
 use Rattle.fs_replay.proofs.StandLaws.{UpTo, nothing_yet, is_free, above_entry, added, all_there}
 use Rattle.fs_replay.proofs.standing.tree_of.Goals as goal
 
