@@ -6,3 +6,6 @@ pub mod SizeLaws
 pub mod TreeLaws
 pub mod ParentLaws
 pub mod EntryLaws
+pub mod TextLaws
+pub mod NameLaws
+pub mod EntryOrder

@@ -51,7 +51,7 @@ neither : (a b : Bool) → not (a || b) ≡ true → (a ≡ true → ⊥) × (no
 neither true b h = cc
 neither false b h = ((λ k. cc), h)
 
-no_zero : (p : List ℕ) → not (list_any (λ b. b == 0) p) ≡ true → HasNone 0 p
+pub no_zero : (p : List ℕ) → not (list_any (λ b. b == 0) p) ≡ true → HasNone 0 p
 no_zero [] h = tt
 no_zero (b ∷ p) h = let two = neither (b == 0) (list_any (λ b. b == 0) p) h in ((λ e. two.0 (eq-eqb b 0 e)), no_zero p two.1)
 
@@ -233,7 +233,7 @@ not_test : (b : Bool) → (b ≡ true → ⊥) → not b ≡ true
 not_test true h = absurd (h refl)
 not_test false h = refl
 
-no_byte : (c : ℕ) (s : List ℕ) → HasNone c s → list_any (λ b. b == c) s ≡ true → ⊥
+pub no_byte : (c : ℕ) (s : List ℕ) → HasNone c s → list_any (λ b. b == c) s ≡ true → ⊥
 no_byte c [] h k = cc
 no_byte c (b ∷ s) h k = elim (b == c) as (λ v. (b == c) ≡ v → (v || list_any (λ x. x == c) s) ≡ true → ⊥) [
   | true ↦ λ e m. h.0 (eqb-true b c e)
@@ -279,7 +279,7 @@ segment_first s p rest proper (inr (more, e)) h =
     ∙ ap (λ r. joined r (segments_of (pieces more))) (segment_piece s proper)
     ∙ ap (joined (Some (s ∷ []))) (sym (after_slash (segments_of (pieces more))) ∙ ap (λ t. segments_of (pieces t)) (sym e) ∙ h)
 
-segments_again : (p : Path) (text : List ℕ) → Segments p text → AllByRecursion IsSegment p → segments_of (pieces text) ≡ Some p
+pub segments_again : (p : Path) (text : List ℕ) → Segments p text → AllByRecursion IsSegment p → segments_of (pieces text) ≡ Some p
 segments_again [] text h proper = ap (λ t. segments_of (pieces t)) (sym (append-nil text)) ∙ slashes_away text [] h
 segments_again (s ∷ p) text h proper =
     ap (λ t. segments_of (pieces t)) h.5 ∙ slashes_away h.0 (s ++ h.1) h.3

@@ -5,3 +5,4 @@ pub mod Fronts
 pub mod Sizes
 pub mod Trees
 pub mod Outcomes
+pub mod Names

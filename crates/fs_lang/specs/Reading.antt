@@ -55,9 +55,12 @@ PathGives (Ok p) read = read ≡ Some p
 PathGives (Err fault.Bad) read = read ≡ None
 PathGives (Err (fault.Memory m)) read = Unit {0}
 
--- no slash in it, by place
+-- the byte isn't in it, by place
+abbrev pub HasNo : ℕ → List ℕ → Type 0
+HasNo b text = (i : ℕ) → i < length text → slice_index text i ≢ b
+
 abbrev pub HasNoSlash : List ℕ → Type 0
-HasNoSlash text = (i : ℕ) → i < length text → slice_index text i ≢ 47
+HasNoSlash text = HasNo 47 text
 
 -- What adding a piece answers and leaves.
 abbrev pub Adds : Result (Unit {0}) PathFault → Option Path → Path → Path → Type 0

@@ -3,6 +3,8 @@
 
 mod copies;
 mod fronts;
+mod laws;
+mod names;
 mod order;
 mod path;
 mod program;
@@ -10,6 +12,8 @@ mod reading;
 mod tree;
 
 pub use fronts::are_disjoint;
+pub use laws::path_texts;
+pub use names::segment;
 pub use path::{Path, PathFault};
 pub use program::{Entry, Program, Test};
 pub use tree::{Outcome, Tree};

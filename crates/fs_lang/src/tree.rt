@@ -87,12 +87,11 @@ pub enum Outcome {
 }
 
 impl Tree {
-    ghost use Rattle.std.specs.Prelude.{◌≡◌, IfOk, OnOk, OnErr, option_map};
+    ghost use Rattle.std.specs.Prelude.{◌≡◌, ◌∷◌, ◌++◌, List, IfOk, OnOk, OnErr, option_map};
     ghost use Rattle.std.specs.Map.Iter.{ShowsInOrder, deref_pair};
     ghost use Rattle.std.specs.FinMap as map;
-    ghost use Rattle.fs_semantics.specs.FileTree.{IsTree, parent};
+    ghost use Rattle.fs_semantics.specs.FileTree.{Path as P, Entry as FileEntry, IsTree, parent};
     ghost use Rattle.fs_semantics.specs.Entries.{IsFreeAt, IsFolderAt};
-    ghost use Rattle.fs_lang.specs.declared.path.Path.{Path as P};
     ghost use Rattle.fs_lang.specs.declared.program.Entry.{Entry as E};
     ghost use Rattle.fs_lang.specs.Meaning.{entry_of};
     ghost use Rattle.fs_lang.specs.Trees.{entries_of};
@@ -138,6 +137,9 @@ impl Tree {
     pub fn entries(&self) -> Iter<'_, Path, Entry>
         ensures entries { entries_of result ≡ map.entries self.now }
         ensures runs { ShowsInOrder (deref_pair {K = P} {X = E}) }
+        // Each has its place in the tree of those before it.
+        ensures place { (before after : List (P × FileEntry)) (p : P) (x : FileEntry) → map.entries self.now ≡ before ++ (p, x) ∷ after
+            → IsFreeAt (map.from_entries before) p × IsFolderAt (map.from_entries before) (parent p) }
     {
         self.entries.iter()
     }

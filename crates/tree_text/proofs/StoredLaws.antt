@@ -1,0 +1,118 @@
+-- What JSON that is stored says.
+use Rattle.std.proofs.Common.{◌≡◌, ℕ, ◌≤◌, ◌==◌, Bool, true, false, cond, List, length, Option, Some, None, option_map, option_and_then, codes, refl, sym, ap, subst, ◌∙◌, arith, String, Global, string_bytes, string_cmp, BTreeMap}
+use Rattle.std.specs.declared.cmp.Ordering.{Ordering}
+use Rattle.std.specs.declared.cmp.Ordering.TheVariants.{Less, Equal, Greater}
+use Rattle.std.specs.Ordering.{nat_cmp, match_ordering}
+use Rattle.std.specs.Cmp.{tied_itself}
+use Rattle.std.specs.Cmp.Lexicographic.{slice_cmp, nat_list_cmp_total}
+use Rattle.std.specs.BTreeMap.{insert_entry}
+use Rattle.std.proofs.lemmas.Bool.{eqb-true}
+use Rattle.serde_json.specs.Data.{Data, null, boolean, number, string, array, object, Members, no_members, member, put, depth}
+use Rattle.serde_json.specs.Events.{members_len}
+use Rattle.serde_json.specs.Find.{get, get_member, as_str, as_object}
+use Rattle.serde_json.specs.Read.{read, max_depth}
+use Rattle.serde_json.specs.Written.{compact_text, has_float}
+use Rattle.serde_json.specs.View.{view, members_view}
+use Rattle.serde_json.specs.declared.value.Value as json
+use Rattle.serde_json.proofs.Views.{Entry, view-Object, members_view-insert_entry, members_len-members_view}
+use Rattle.fs_semantics.specs.FileTree as fs
+use Rattle.fs_semantics.specs.FileTree.{Folder, File, Link, Tree}
+use Rattle.tree_text.specs.TreeText.{entry_data, members_of, tree_text}
+use Rattle.tree_text.specs.Reading.{target_in, entry_in}
+use Rattle.tree_text.proofs.MemberLaws.{same_key}
+use Rattle.tree_text.proofs.TextLaws.{no_float, shallow}
+
+-- ---- writing
+
+pub put_member : (es new : List Entry) (k : String Global) (v : json.Value) (key : List ℕ) (d : Data) → new ≡ insert_entry string_cmp es k v → string_bytes k ≡ key → view v ≡ d → members_view new ≡ put key d (members_view es)
+put_member es new k v key d e key_is data_is =
+    ap members_view e ∙ members_view-insert_entry es k v ∙ ap (λ l. put l (view v) (members_view es)) key_is ∙ ap (λ x. put key x (members_view es)) data_is
+
+stored_is : (m : BTreeMap (String Global) json.Value) (t : Tree) → members_view m.entries ≡ members_of t → view (json.Object m) ≡ object (members_of t)
+stored_is m t e = view-Object m ∙ ap object e
+
+pub written_text : (m : BTreeMap (String Global) json.Value) (t : Tree) (bytes : List ℕ) → members_view m.entries ≡ members_of t
+    → (has_float (view (json.Object m)) ≡ false → bytes ≡ compact_text (view (json.Object m))) → bytes ≡ tree_text t
+written_text m t bytes e h = subst (λ d. has_float d ≡ false → bytes ≡ compact_text d) (stored_is m t e) h (no_float t)
+
+pub written_read : (m : BTreeMap (String Global) json.Value) (t : Tree) (bytes : List ℕ) → members_view m.entries ≡ members_of t
+    → (depth (view (json.Object m)) ≤ max_depth → read bytes ≡ Some (view (json.Object m))) → read bytes ≡ Some (object (members_of t))
+written_read m t bytes e h = subst (λ d. depth d ≤ max_depth → read bytes ≡ Some d) (stored_is m t e) h (shallow t)
+
+-- ---- links
+
+object_is : (d : Data) (ms : Members) → as_object d ≡ Some ms → d ≡ object ms
+object_is null ms h = cc
+object_is (boolean b) ms h = cc
+object_is (number n) ms h = cc
+object_is (string s) ms h = cc
+object_is (array items) ms h = cc
+object_is (object found) ms h = let same : found ≡ ms = cc in ap object same
+
+pub target_of : (d : Data) (es : List Entry) → as_object d ≡ Some (members_view es)
+    → option_and_then target_in (as_object d) ≡ cond (length es == 1) (option_and_then as_str (get (codes "link") d)) None
+target_of d es h =
+    ap (option_and_then target_in) h
+    ∙ ap (λ n. cond (n == 1) (option_and_then as_str (get_member (codes "link") (members_view es))) None) (members_len-members_view es)
+    ∙ ap (λ e. cond (length es == 1) (option_and_then as_str (get (codes "link") e)) None) (sym (object_is d (members_view es) h))
+
+pub target_one : (d : Data) (es : List Entry) → as_object d ≡ Some (members_view es) → (length es == 1) ≡ true
+    → option_and_then target_in (as_object d) ≡ option_and_then as_str (get (codes "link") d)
+target_one d es h one = target_of d es h ∙ ap (λ b. cond b (option_and_then as_str (get (codes "link") d)) None) one
+
+pub target_none : (d : Data) (es : List Entry) → as_object d ≡ Some (members_view es) → (length es == 1) ≡ false → option_and_then target_in (as_object d) ≡ None
+target_none d es h one = target_of d es h ∙ ap (λ b. cond b (option_and_then as_str (get (codes "link") d)) None) one
+
+-- ---- the entry for which JSON stands
+
+some_same : {X : Type 0} (x y : X) → ◌≡◌ {A = Option X} (Some x) (Some y) → x ≡ y
+some_same x y e = cc
+
+string_is : (o : Option Data) (s : List ℕ) → option_and_then as_str o ≡ Some s → o ≡ Some (string s)
+string_is None s h = cc
+string_is (Some null) s h = cc
+string_is (Some (boolean b)) s h = cc
+string_is (Some (number n)) s h = cc
+string_is (Some (string t)) s h = let same : t ≡ s = cc in ap (λ u. Some (string u)) same
+string_is (Some (array items)) s h = cc
+string_is (Some (object ms)) s h = cc
+
+guarded : {Y : Type 0} (t : Bool) (o : Option Y) (y : Y) → cond t o None ≡ Some y → (t ≡ true) × (o ≡ Some y)
+guarded true o y h = (refl, h)
+guarded false o y h = cc
+
+-- an object of one member that has a value under a key is that of the key and the value
+one_member : (ms : Members) (key : List ℕ) (d : Data) → members_len ms ≡ 1 → get_member key ms ≡ Some d → ms ≡ member key d no_members
+one_member no_members key d n h = absurd (omega arith)
+one_member (member k c (member l e ms)) key d n h = absurd (omega arith)
+one_member (member k c no_members) key d n h = at (slice_cmp nat_cmp key k) refl h
+  where
+    at : (o : Ordering) → slice_cmp nat_cmp key k ≡ o → match_ordering o None (Some c) None ≡ Some d → member k c no_members ≡ member key d no_members
+    at Less s h = cc
+    at Equal s h = let same : c ≡ d = some_same c d h in ap (λ x. member x c no_members) (sym (same_key key k s)) ∙ ap (λ x. member key x no_members) same
+    at Greater s h = cc
+
+link_is : (ms : Members) (s : List ℕ) → target_in ms ≡ Some s → ms ≡ member (codes "link") (string s) no_members
+link_is ms s h =
+    let two = guarded (members_len ms == 1) (option_and_then as_str (get_member (codes "link") ms)) s h in
+    one_member ms (codes "link") (string s) (eqb-true (members_len ms) 1 two.0) (string_is (get_member (codes "link") ms) s two.1)
+
+pub entry_is : (d : Data) (x : fs.Entry) → entry_in d ≡ Some x → d ≡ entry_data x
+entry_is null x h = ap entry_data (some_same Folder x h)
+entry_is (boolean b) x h = cc
+entry_is (number n) x h = cc
+entry_is (string s) x h = ap entry_data (some_same (File s) x h)
+entry_is (array items) x h = cc
+entry_is (object ms) x h = at (target_in ms) refl h
+  where
+    at : (o : Option (List ℕ)) → target_in ms ≡ o → option_map Link o ≡ Some x → object ms ≡ entry_data x
+    at None e h = cc
+    at (Some s) e h = ap object (link_is ms s e) ∙ ap entry_data (some_same (Link s) x h)
+
+pub entry_back : (x : fs.Entry) → entry_in (entry_data x) ≡ Some x
+entry_back Folder = refl
+entry_back (File content) = refl
+entry_back (Link target) = ap (λ o. option_map Link (option_and_then as_str (match_ordering o None (Some (string target)) None))) (tied_itself nat_list_cmp_total (codes "link"))
+
+pub no_entry : (d : Data) (x : fs.Entry) → entry_in d ≡ None → d ≡ entry_data x → ⊥
+no_entry d x h e = let clash : ◌≡◌ {A = Option fs.Entry} None (Some x) = sym h ∙ ap entry_in e ∙ entry_back x in cc

@@ -1,0 +1,3 @@
+pub mod TreeText
+pub mod Reading
+pub mod ProgramText
