@@ -1,6 +1,12 @@
 pub mod Frames
 pub mod SearchLaws
 pub mod TableLaws
+pub mod GrowthLaws
+pub mod KeptLists
+pub mod AddedLaws
+pub mod KeptNodes
+pub mod AdditionLaws
+pub mod StateLaws
 pub mod Put
 pub mod AsideLaws
 pub mod StepLaws

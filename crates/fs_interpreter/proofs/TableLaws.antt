@@ -75,7 +75,7 @@ pub empty_is_kept : (t : Inside) → t.nodes.items ≡ [] → t.top.items ≡ []
 empty_is_kept t nodes top contents =
     let paths : paths_of t.nodes.items ≡ [] = ap paths_of nodes in
     record {
-      table = subst IsTable (λ i. record { paths = sym paths i; contents = sym contents i }) (record { once = λ i j p h k. cc; no_root = λ i h. cc; parents = λ i p h. cc; contents_once = λ i j c h k. cc });
+      table = subst IsTable (λ i. record { paths = sym paths i; contents = sym contents i }) (record { once = λ i j p h k. cc; no_root = λ i h. cc; parents = λ i p h. cc; before = λ i j p h k. cc; contents_once = λ i j c h k. cc });
       top = top ∙ sym (ap (λ ps. children_in ps []) paths);
       children = λ i n h. let no : ◌≡◌ {A = Option Node} None (Some n) = sym (ap (λ ns. slice_get ns i) nodes) ∙ h in cc;
       parents = λ i n h. let no : ◌≡◌ {A = Option Node} None (Some n) = sym (ap (λ ns. slice_get ns i) nodes) ∙ h in cc;

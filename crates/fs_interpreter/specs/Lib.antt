@@ -4,5 +4,6 @@ pub mod States
 pub mod Steps
 pub mod Standing
 pub mod Kept
+pub mod Growth
 pub mod Asides
 pub mod Changed

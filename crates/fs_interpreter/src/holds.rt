@@ -34,11 +34,11 @@ pub(crate) fn holds<B: Bits>(
         Test::Not(a) => fails(bits, table, a.get(), cells),
         Test::And(a, b) => both_hold(bits, table, a.get(), b.get(), cells),
         Test::Or(a, b) => one_holds(bits, table, a.get(), b.get(), cells),
-        Test::IsFile(p) => file_at(bits, cells, table.place(p)),
-        Test::IsLink(p) => link_at(bits, cells, table.place(p)),
-        Test::IsDir(p) => dir_at(bits, cells, table.place(p)),
-        Test::IsEmpty(p) => empty_at(bits, cells, table.place(p), table.children(p)),
-        Test::IsNone(p) => none_at(bits, cells, table.place(p)),
+        Test::IsFile(p) => file_at(bits, cells, table.position(p)),
+        Test::IsLink(p) => link_at(bits, cells, table.position(p)),
+        Test::IsDir(p) => dir_at(bits, cells, table.position(p)),
+        Test::IsEmpty(p) => empty_at(bits, cells, table.position(p), table.children(p)),
+        Test::IsNone(p) => none_at(bits, cells, table.position(p)),
     }
 }
 

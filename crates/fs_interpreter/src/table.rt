@@ -1,5 +1,6 @@
 //! Paths and contents by number.
 
+use crate::grow::push_node;
 use fs_lang::Path;
 use rh_base::{NoMemory, Text};
 use std::alloc::Global;
@@ -37,10 +38,10 @@ impl Model for Table {
 }
 
 impl Table {
-    ghost use Rattle.std.specs.Prelude.{◌≡◌, ◌↔◌, ◌<◌, [], length, slice_get, Some, IfSome, IfOk, IsTrue};
+    ghost use Rattle.std.specs.Prelude.{◌≡◌, ◌≢◌, ◌↔◌, ◌<◌, [], length, slice_get, Some, IfSome, IfOk, OnOk, OnErr, IsTrue};
     ghost use Rattle.std.specs.List.{AllByRecursion};
     ghost use Rattle.fs_semantics.specs.FileTree.{Path as Segments, parent as above};
-    ghost use Rattle.fs_interpreter.specs.Places.{IsTable, place_in, children_in, content_place};
+    ghost use Rattle.fs_interpreter.specs.Places.{IsTable, HasPath, place_in, children_in, content_place, with_path, with_content};
 
     /// A table of no paths and no contents.
     pub fn new(alloc: Global) -> Result<Table, NoMemory>
@@ -67,6 +68,72 @@ impl Table {
         self.contents.len() as u64
     }
 
+    /// Puts a path last where it isn't there yet, and gives its place.
+    pub fn add_path(&mut self, alloc: Global, p: Path) -> Result<u64, NoMemory>
+        requires root { p ≢ [] }
+        requires above { HasPath self.old (above p) }
+        ensures ok { OnOk result (self.new ≡ with_path self.old p) }
+        ensures place { IfOk result (λ i. place_in self.new.paths p ≡ Some i) }
+        ensures err { OnErr result (self.new ≡ self.old) }
+    {
+        if let Some(i) = self.position(&p) {
+            return Ok(i as u64);
+        }
+        let parent = self.position(&p.parent(alloc)?);
+        let key = p.copy(alloc)?;
+        let i = self.nodes.len();
+        self.places.insert(key, i)?;
+        let node = Node {
+            path: p,
+            parent,
+            children: Vec::new(alloc),
+        };
+        push_node(&mut self.nodes, &mut self.top, node)?;
+        Ok(i as u64)
+    }
+
+    /// Puts a content last where it isn't there yet, and gives its number.
+    pub fn add_content(&mut self, alloc: Global, c: Text) -> Result<u64, NoMemory>
+        ensures ok { OnOk result (self.new ≡ with_content self.old c) }
+        ensures number { IfOk result (λ n. content_place self.new.contents c ≡ Some n) }
+        ensures err { OnErr result (self.new ≡ self.old) }
+    {
+        if let Some(n) = self.number(&c) {
+            return Ok(n);
+        }
+        let key = String::from_str(alloc, c.as_str())?;
+        let n = self.contents.len();
+        self.numbers.insert(key, n)?;
+        self.contents.push(c)?;
+        Ok(n as u64)
+    }
+
+    /// The place of a path; the root has none.
+    pub fn place(&self, p: &Path) -> Option<u64>
+        ensures { result ≡ place_in self.now.paths p.now }
+    {
+        match self.position(p) {
+            Some(i) => Some(i as u64),
+            None => None,
+        }
+    }
+
+    /// The path at a place.
+    pub fn path(&self, i: u64) -> &Path
+        requires { i < length self.now.paths }
+        ensures { slice_get self.now.paths i ≡ Some result.now }
+    {
+        &self.nodes[i as usize].path
+    }
+
+    /// The content of a number.
+    pub fn content(&self, n: u64) -> &Text
+        requires { n < length self.now.contents }
+        ensures { slice_get self.now.contents n ≡ Some result.now }
+    {
+        &self.contents[n as usize]
+    }
+
     /// Whether this path is at the place.
     fn is_at(&self, i: usize, p: &Path) -> bool
         ensures { IsTrue result ↔ (slice_get self.now.paths i ≡ Some p.now) }
@@ -80,7 +147,7 @@ impl Table {
 
     /// The place of a path; the root has none.
     #[tactic(auto, using(crate::proofs::SearchLaws::place_below))]
-    pub(crate) fn place(&self, p: &Path) -> Option<usize>
+    pub(crate) fn position(&self, p: &Path) -> Option<usize>
         ensures place { result ≡ place_in self.now.paths p.now }
         ensures below { IfSome result (λ i. i < length self.now.paths) }
     {
@@ -105,7 +172,7 @@ impl Table {
         ensures places { result.now ≡ children_in self.now.paths p.now }
         ensures below { AllByRecursion (λ i. i < length self.now.paths) result.now }
     {
-        match self.place(p) {
+        match self.position(p) {
             Some(i) => &self.nodes[i].children,
             None => {
                 if p.segments().is_empty() {
@@ -117,8 +184,8 @@ impl Table {
         }
     }
 
-    /// Each path stands once, and with it its parent.
-    pub(crate) fn is_table(&self)
+    /// Each path stands once, and its parent before it.
+    pub fn is_table(&self)
         ensures { IsTable self.now }
     {
         let _count = self.contents.len();
@@ -136,13 +203,17 @@ impl Table {
     }
 
     /// The number of a content.
-    pub(crate) fn number(&self, c: &Text) -> Option<usize>
+    pub fn number(&self, c: &Text) -> Option<u64>
         ensures { result ≡ content_place self.now.contents c.now }
     {
         let Some(found) = self.numbers.get(c.as_str()) else {
             return None;
         };
         let n = *found;
-        if self.has_number(n, c) { Some(n) } else { None }
+        if self.has_number(n, c) {
+            Some(n as u64)
+        } else {
+            None
+        }
     }
 }

@@ -95,7 +95,7 @@ fn number(table: &Table, content: &Text) -> u64
     ensures { result ≡ number_in table.now.contents content.now }
 {
     match table.number(content) {
-        Some(n) => n as u64,
+        Some(n) => n,
         None => 0,
     }
 }
@@ -112,7 +112,7 @@ fn free_at<B: Bits>(
     ensures gives { IfOk result (IsBit (B.meanings bits.new) (λ v. free_at table.now p.now (cell_at (B.meanings bits.old) v cells.now))) }
     ensures grows { Grows (B.meanings bits.old) (B.meanings bits.new) }
 {
-    match table.place(p) {
+    match table.position(p) {
         Some(i) => free_place(bits, cells, i, table.parent(i)),
         None => bits.constant(false),
     }
@@ -150,7 +150,7 @@ pub(crate) fn make<B: Bits>(
     ensures grows { Grows (B.meanings bits.old) (B.meanings bits.new) }
 {
     let free = free_at(bits, table, p, cells)?;
-    let place = table.place(p);
+    let place = table.position(p);
     put(bits, cells, place, &free, cell)
 }
 
@@ -217,7 +217,7 @@ pub(crate) fn remove<B: Bits>(
     ensures changes { OnOk result (Becomes (B.meanings bits.old) (B.meanings bits.new) cells.old cells.new (λ v s. removed_at (place_in table.now.paths p.now) (children_in table.now.paths p.now) s)) }
     ensures grows { Grows (B.meanings bits.old) (B.meanings bits.new) }
 {
-    match table.place(p) {
+    match table.position(p) {
         Some(i) => remove_at(bits, cells, i, table.children(p)),
         None => fail(bits, cells),
     }
@@ -276,7 +276,7 @@ fn copy_from<B: Bits>(
 {
     let ok = copyable(bits, table, i, q, cells)?;
     let cell = same_file(bits, cells, i)?;
-    let place = table.place(q);
+    let place = table.position(q);
     put(bits, cells, place, &ok, cell)
 }
 
@@ -293,7 +293,7 @@ pub(crate) fn copy<B: Bits>(
     ensures changes { OnOk result (Becomes (B.meanings bits.old) (B.meanings bits.new) cells.old cells.new (λ v s. copied_at (place_in table.now.paths p.now) (place_in table.now.paths q.now) (free_at table.now q.now s.cell) s)) }
     ensures grows { Grows (B.meanings bits.old) (B.meanings bits.new) }
 {
-    match table.place(p) {
+    match table.position(p) {
         Some(i) => copy_from(bits, table, i, q, cells),
         None => fail(bits, cells),
     }

@@ -14,7 +14,7 @@ use std::alloc::Global;
 fn add_place(table: &Table, p: &Path, into: &mut Vec<usize>) -> Result<(), NoMemory>
     ensures { OnOk result (into.new.items ≡ into.old.items ++ if_any (place_in table.now.paths p.now)) }
 {
-    if let Some(i) = table.place(p) {
+    if let Some(i) = table.position(p) {
         into.push(i)?;
     }
     Ok(())

@@ -13,4 +13,4 @@ returns-clause-changes g c =
     if_becomes m0 m2 _ c.args.cells.now _ _ _ _ grows c.requires.cells c.put.ensures.changes
     (λ v. let ok = c.same_file.ensures.grows.bit c.in_ok-ok.ok c.in_ok-ok.ensures.gives.owned v ∙ c.in_ok-ok.ensures.gives.means v in
     let cell = c.in_ok-cell.ensures.gives.tells v ∙ ap (λ (f : ℕ → Cell). file_cell (f c.args.i).content) (cells_keep m0 m1 c.args.cells.now c.copyable.ensures.grows c.requires.cells v) in
-    (λ k. put (c.place-place.ensures.place k) (ok k) (cell k) (state_of m0 v c.args.cells.now)))
+    (λ k. put (c.position-place.ensures.place k) (ok k) (cell k) (state_of m0 v c.args.cells.now)))

@@ -1,6 +1,6 @@
 use Rattle.std.proofs.Common.{Bool, true, false, ◌≡◌, sym, ◌∙◌}
 use Rattle.fs_interpreter.proofs.TableLaws.{place_seen, no_place_seen, seen_below}
-use Rattle.fs_interpreter.proofs.table.Table.place.Goals as goal
+use Rattle.fs_interpreter.proofs.table.Table.position.Goals as goal
 
 pub returns-then-is_at-clause-place : goal.returns-then-is_at-clause-place
 returns-then-is_at-clause-place c = place_seen c.self.inside c.args.self.now c.args.p.now c.in-Some.found.now c.self.view_is c.self.invariant (c.is_at.ensures.0 c.if-is_at.true)

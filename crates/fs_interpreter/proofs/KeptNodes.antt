@@ -1,0 +1,147 @@
+-- How a table is kept, from its nodes to plain lists and back.
+use Rattle.std.proofs.Common.{◌≡◌, ◌≢◌, ℕ, zero, suc, Bool, true, false, cond, List, [], ◌∷◌, ◌++◌, length, map, slice_get, Option, Some, None, refl, sym, ap, subst, ◌∙◌, String, string_bytes, string_cmp, bytes_eq}
+use Rattle.std.specs.BTreeMap as stored
+use Rattle.std.specs.BTreeMap.{BTreeMap, UpdatesBy, is_at}
+use Rattle.std.specs.Ordering.{nat_cmp}
+use Rattle.std.specs.Cmp.Lexicographic.{slice_cmp}
+use Rattle.std.proofs.lemmas.Slice.Eq.{bytes_eq-Decides}
+use Rattle.std.proofs.lemmas.Map.Text.{btree_map_updates_text}
+use Rattle.fs_semantics.specs.FileTree.{Path, path_cmp, path_eq, parent}
+use Rattle.fs_semantics.proofs.Trees.{path_eq_other}
+use Rattle.fs_interpreter.specs.Places.{IsTable, HasPath, place_in, content_place, children_in}
+use Rattle.fs_interpreter.specs.Kept.{paths_of, listed, IsKept}
+use Rattle.fs_interpreter.specs.Growth.{Seen, seen, seen_all, linked, linked_top}
+use Rattle.fs_interpreter.specs.declared.table.Node.{Node}
+use Rattle.fs_interpreter.specs.declared.table.Table.TheInside.{Inside}
+use Rattle.fs_interpreter.proofs.KeptLists.{KeptLists, linked_paths, paths_append, get_last}
+use Rattle.fs_interpreter.proofs.SearchLaws.{place_there, place_found, content_there, content_found}
+use Rattle.fs_interpreter.proofs.AddedLaws.{path_more, content_more}
+use Rattle.fs_interpreter.proofs.TableLaws.{length-paths}
+
+seen_at : (nodes : List Node) (i : ℕ) (n : Node) → slice_get nodes i ≡ Some n → slice_get (seen_all nodes) i ≡ Some (seen n)
+seen_at [] i n h = cc
+seen_at (m ∷ nodes) zero n h = let same : m ≡ n = cc in ap (λ (x : Node). Some (seen x)) same
+seen_at (m ∷ nodes) (suc i) n h = seen_at nodes i n h
+
+node_of : (nodes : List Node) (i : ℕ) (s : Seen) → slice_get (seen_all nodes) i ≡ Some s → (n : Node) × (slice_get nodes i ≡ Some n) × (seen n ≡ s)
+node_of [] i s h = cc
+node_of (m ∷ nodes) zero s h = (m, refl, cc)
+node_of (m ∷ nodes) (suc i) s h = node_of nodes i s h
+
+pub seen_paths : (nodes : List Node) → map (λ (s : Seen). s.path) (seen_all nodes) ≡ paths_of nodes
+seen_paths [] = refl
+seen_paths (n ∷ nodes) = ap (λ ps. n.path ∷ ps) (seen_paths nodes)
+
+pub to_lists : (t : Inside) → IsKept t → KeptLists (paths_of t.nodes.items) (seen_all t.nodes.items) t.top.items t.contents.items (stored.get path_cmp t.places) (stored.get_by_text t.numbers)
+to_lists t kept = record {
+  are = seen_paths t.nodes.items;
+  table = kept.table;
+  top = kept.top;
+  children = λ i s h. let at = node_of t.nodes.items i s h in
+      ap (λ (x : Seen). x.children) (sym at.2) ∙ kept.children i at.0 at.1 ∙ ap (λ (x : Seen). children_in (paths_of t.nodes.items) x.path) at.2;
+  parents = λ i s h. let at = node_of t.nodes.items i s h in
+      ap (λ (x : Seen). x.parent) (sym at.2) ∙ kept.parents i at.0 at.1 ∙ ap (λ (x : Seen). place_in (paths_of t.nodes.items) (parent x.path)) at.2;
+  places = kept.places;
+  numbers = kept.numbers;
+}
+
+pub from_lists : (t : Inside) → KeptLists (paths_of t.nodes.items) (seen_all t.nodes.items) t.top.items t.contents.items (stored.get path_cmp t.places) (stored.get_by_text t.numbers) → IsKept t
+from_lists t kept = record {
+  table = kept.table;
+  top = kept.top;
+  children = λ i n h. kept.children i (seen n) (seen_at t.nodes.items i n h);
+  parents = λ i n h. kept.parents i (seen n) (seen_at t.nodes.items i n h);
+  places = kept.places;
+  numbers = kept.numbers;
+}
+
+carried : {P P' : List Path} {N N' : List Seen} {T T' : List ℕ} {C C' : List (List ℕ)} {place : Path → Option ℕ} {number : List ℕ → Option ℕ}
+    → P ≡ P' → N ≡ N' → T ≡ T' → C ≡ C' → KeptLists P N T C place number → KeptLists P' N' T' C' place number
+carried {P} {P'} {N} {N'} {T} {T'} {C} {C'} {place} {number} p n t c kept =
+    subst (λ x. KeptLists x N' T' C' place number) p (subst (λ x. KeptLists P x T' C' place number) n (subst (λ x. KeptLists P N x C' place number) t (subst (λ x. KeptLists P N T x place number) c kept)))
+
+seen_length : (nodes : List Node) → length (seen_all nodes) ≡ length nodes
+seen_length [] = refl
+seen_length (n ∷ nodes) = ap suc (seen_length nodes)
+
+-- the paths with a node more
+pub more_paths : (nodes more : List Node) (s : Seen) (above : Option ℕ) (i : ℕ) → seen_all more ≡ linked above i (seen_all nodes ++ s ∷ []) → paths_of more ≡ paths_of nodes ++ s.path ∷ []
+more_paths nodes more s above i e =
+    sym (seen_paths more) ∙ ap (map (λ (x : Seen). x.path)) e ∙ linked_paths above i (seen_all nodes ++ s ∷ []) ∙ paths_append (seen_all nodes) s
+    ∙ ap (λ ps. ps ++ s.path ∷ []) (seen_paths nodes)
+
+pub same_paths : (nodes more : List Node) → seen_all more ≡ seen_all nodes → paths_of more ≡ paths_of nodes
+same_paths nodes more e = sym (seen_paths more) ∙ ap (map (λ (x : Seen). x.path)) e ∙ seen_paths nodes
+
+-- as before, but for what may be left over in the map
+pub same_kept : (t u : Inside) → IsKept t → seen_all u.nodes.items ≡ seen_all t.nodes.items → u.top.items ≡ t.top.items → u.contents.items ≡ t.contents.items
+    → ((q : Path) (i : ℕ) → place_in (paths_of t.nodes.items) q ≡ Some i → stored.get path_cmp u.places q ≡ Some i)
+    → ((d : List ℕ) (i : ℕ) → content_place t.contents.items d ≡ Some i → stored.get_by_text u.numbers d ≡ Some i) → IsKept u
+same_kept t u kept nodes top contents places numbers =
+    let was = to_lists t kept in
+    from_lists u (carried (sym (same_paths t.nodes.items u.nodes.items nodes)) (sym nodes) (sym top) (sym contents)
+    (record { are = was.are; table = was.table; top = was.top; children = was.children; parents = was.parents; places = places; numbers = numbers }))
+
+pub path_kept : (t u : Inside) (p : Path) (above : Option ℕ) (children : List ℕ) (i : ℕ) → IsKept t → p ≢ [] → HasPath (listed t) (parent p) → place_in (paths_of t.nodes.items) p ≡ None
+    → place_in (paths_of t.nodes.items) (parent p) ≡ above → children ≡ [] → i ≡ length t.nodes.items
+    → ((q : Path) → stored.get path_cmp u.places q ≡ cond (path_eq p q) (Some i) (stored.get path_cmp t.places q))
+    → seen_all u.nodes.items ≡ linked above (length t.nodes.items) (seen_all t.nodes.items ++ record { path = p; parent = above; children = children } ∷ [])
+    → u.top.items ≡ linked_top above (length t.nodes.items) t.top.items → u.contents.items ≡ t.contents.items → u.numbers ≡ t.numbers → IsKept u
+path_kept t u p above children i kept not_root has none at no_children size places nodes top contents numbers =
+    let paths = paths_of t.nodes.items in
+    let seens = seen_all t.nodes.items in
+    let base = path_more paths t.contents.items p kept.table not_root has none seens t.top.items (stored.get path_cmp t.places) (stored.get_by_text t.numbers) (to_lists t kept)
+    (stored.get path_cmp u.places) (λ q. places q ∙ ap (λ k. cond (path_eq p q) (Some k) (stored.get path_cmp t.places q)) (size ∙ sym (length-paths t.nodes.items))) in
+    let there : paths ++ p ∷ [] ≡ paths_of u.nodes.items = sym (more_paths t.nodes.items u.nodes.items (record { path = p; parent = above; children = children }) above (length t.nodes.items) nodes) in
+    let linked_so : linked (place_in paths (parent p)) (length seens) (seens ++ record { path = p; parent = place_in paths (parent p); children = [] } ∷ []) ≡ seen_all u.nodes.items =
+    ap (λ n. linked (place_in paths (parent p)) n (seens ++ record { path = p; parent = place_in paths (parent p); children = [] } ∷ [])) (seen_length t.nodes.items)
+    ∙ ap (λ a. linked a (length t.nodes.items) (seens ++ record { path = p; parent = a; children = [] } ∷ [])) at
+    ∙ ap (λ cs. linked above (length t.nodes.items) (seens ++ record { path = p; parent = above; children = cs } ∷ [])) (sym no_children)
+    ∙ sym nodes in
+    let top_so : linked_top (place_in paths (parent p)) (length seens) t.top.items ≡ u.top.items =
+    ap (λ n. linked_top (place_in paths (parent p)) n t.top.items) (seen_length t.nodes.items) ∙ ap (λ a. linked_top a (length t.nodes.items) t.top.items) at ∙ sym top in
+    from_lists u (subst (λ f. KeptLists (paths_of u.nodes.items) (seen_all u.nodes.items) u.top.items u.contents.items (stored.get path_cmp u.places) f) (ap stored.get_by_text (sym numbers))
+    (carried there linked_so top_so (sym contents) base))
+
+-- the map of contents with one more
+pub numbers_more : {Y : Type 0} (m n : BTreeMap (String Y) ℕ) (key : String Y) (c : List ℕ) (i : ℕ) → string_bytes key ≡ c
+    → UpdatesBy string_cmp (λ k. slice_cmp nat_cmp (string_bytes key) (string_bytes k)) m n (Some i)
+    → (stored.get_by_text n c ≡ Some i) × ((d : List ℕ) → d ≢ c → stored.get_by_text n d ≡ stored.get_by_text m d)
+numbers_more m n key c i same more = (
+  ap (stored.get_by_text n) (sym same) ∙ more.1,
+  (λ d other. btree_map_updates_text (string_bytes key) m n (Some i) more d
+      ∙ ap (λ b. cond b (Some i) (stored.get_by_text m d)) (differ (bytes_eq (string_bytes key) d) (λ e. other (sym (sym same ∙ (bytes_eq-Decides (string_bytes key) d).0 e))))),
+)
+  where
+    differ : (b : Bool) → (b ≡ true → ⊥) → b ≡ false
+    differ true h = absurd (h refl)
+    differ false h = refl
+
+pub content_kept : (t u : Inside) (c : List ℕ) → IsKept t → content_place t.contents.items c ≡ None → u.nodes ≡ t.nodes → u.top ≡ t.top → u.places ≡ t.places
+    → u.contents.items ≡ t.contents.items ++ c ∷ [] → (stored.get_by_text u.numbers c ≡ Some (length t.contents.items)) × ((d : List ℕ) → d ≢ c → stored.get_by_text u.numbers d ≡ stored.get_by_text t.numbers d)
+    → IsKept u
+content_kept t u c kept none nodes top places contents numbers =
+    let base = content_more (paths_of t.nodes.items) t.contents.items c kept.table none (seen_all t.nodes.items) t.top.items (stored.get path_cmp t.places) (stored.get_by_text t.numbers)
+    (stored.get_by_text u.numbers) (to_lists t kept) numbers.0 numbers.1 in
+    from_lists u (subst (λ f. KeptLists (paths_of u.nodes.items) (seen_all u.nodes.items) u.top.items u.contents.items f (stored.get_by_text u.numbers)) (ap (stored.get path_cmp) (sym places))
+    (carried (sym (ap (λ v. paths_of v.items) nodes)) (sym (ap (λ v. seen_all v.items) nodes)) (sym (ap (λ v. v.items) top)) (sym contents) base))
+
+-- what is put last has the last number, and the last place
+pub last_number : (paths : List Path) (contents : List (List ℕ)) (c : List ℕ) → IsTable (record { paths = paths; contents = contents ++ c ∷ [] }) → content_place (contents ++ c ∷ []) c ≡ Some (length contents)
+last_number paths contents c is =
+    let found = content_found (contents ++ c ∷ []) c (length contents) (get_last contents c) in
+    found.1 ∙ ap Some (is.contents_once found.0 (length contents) c (content_there (contents ++ c ∷ []) c found.0 found.1) (get_last contents c))
+
+pub last_place : (paths : List Path) (contents : List (List ℕ)) (p : Path) → IsTable (record { paths = paths ++ p ∷ []; contents = contents }) → place_in (paths ++ p ∷ []) p ≡ Some (length paths)
+last_place paths contents p is =
+    let found = place_found (paths ++ p ∷ []) p (length paths) (get_last paths p) in
+    found.1 ∙ ap Some (is.once found.0 (length paths) p (place_there (paths ++ p ∷ []) p found.0 found.1) (get_last paths p))
+
+-- the map of places with one more
+pub places_more : (m n : BTreeMap Path ℕ) (key p : Path) (i : ℕ) → key ≡ p → ((q : Path) → stored.get path_cmp n q ≡ cond (is_at (path_cmp key) q) (Some i) (stored.get path_cmp m q))
+    → (q : Path) → stored.get path_cmp n q ≡ cond (path_eq p q) (Some i) (stored.get path_cmp m q)
+places_more m n key p i same more q = more q ∙ ap (λ r. cond (path_eq r q) (Some i) (stored.get path_cmp m q)) same
+
+-- a path that isn't there differs from one that is
+pub absent : (paths : List Path) (p q : Path) (i : ℕ) → place_in paths p ≡ None → place_in paths q ≡ Some i → path_eq p q ≡ false
+absent paths p q i none h = path_eq_other p q (λ same. let clash : ◌≡◌ {A = Option ℕ} None (Some i) = sym none ∙ ap (place_in paths) same ∙ h in cc)

@@ -1,0 +1,3 @@
+pub mod CoverLaws
+pub mod StandLaws
+pub mod OutcomeLaws

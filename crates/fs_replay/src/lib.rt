@@ -1,0 +1,9 @@
+//! Runs of programs on file trees, by the one interpreter.
+#![tactic(auto)]
+
+mod cover;
+mod runs;
+mod standing;
+mod told;
+
+pub use runs::{replay, run};
