@@ -6,7 +6,8 @@ use Rattle.fs_semantics.specs.Programs.{Program, Id, Outcome, and_then, run}
 use Rattle.fs_semantics.specs.Orders.{times, IsLinearExtension, outcome}
 use Rattle.fs_semantics.specs.Changes.{IsProper, CommuteFrom, AllCommuteFrom, AllCommute, SettlesFrom, Settles}
 use Rattle.fs_semantics.proofs.ConstructLaws.{split_then, keeps_tree}
-use Rattle.fs_semantics.proofs.Permuted.{and_then_assoc, run_steps, CommutingSteps, same_runs, itself}
+use Rattle.fs_semantics.proofs.Permuted.{and_then_assoc, run_steps, CommutingSteps, same_runs}
+use Rattle.fs_semantics.proofs.Counts.{times_itself}
 
 -- first the one list of numbers, then the other
 pub outcome-append : (es : List Program) (o p : List ℕ) (t : Tree) → outcome es (o ++ p) t ≡ and_then (outcome es o t) (outcome es p)
@@ -104,7 +105,7 @@ module _ (P : Tree → Type 0) (es : List Program) (keep : KeepEach P es) (all :
 
   each_settled : (p : List ℕ) (u : Tree) → ((i : ℕ) → 0 < times i p → run (get_or es i Id) u ≡ Some u) → AllByRecursion (λ i. run (get_or es i Id) u ≡ Some u) p
   each_settled [] u h = tt
-  each_settled (i ∷ p) u h = (h i (omega (arith, itself i p)), each_settled p u (λ j k. h j (omega (arith, k))))
+  each_settled (i ∷ p) u h = (h i (omega (arith, times_itself i p)), each_settled p u (λ j k. h j (omega (arith, k))))
 
   -- a second run of numbers that the first one had changes nothing
   pub second_from : AllByRecursion (SettlesFrom P) es → (o p : List ℕ) → ((k : ℕ) → 0 < times k p → 0 < times k o) → (t u : Tree) → P t → outcome es o t ≡ Some u → outcome es p u ≡ Some u

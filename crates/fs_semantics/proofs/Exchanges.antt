@@ -6,45 +6,12 @@ use Rattle.fs_semantics.specs.FileTree.{Tree, IsTree}
 use Rattle.fs_semantics.specs.Programs.{Program, Id, and_then, run}
 use Rattle.fs_semantics.specs.Changes.{IsProper}
 use Rattle.fs_semantics.specs.Orders.{times, NoneAhead, IsLinearExtension, IsFree, IsExchange, outcome, IsDeterministic, IsCounterexample, NeighboursAgree, FreeCommute}
-use Rattle.fs_semantics.proofs.Permuted.{and_then_assoc, then_alike, times_append, found, itself}
+use Rattle.fs_semantics.proofs.Counts.{times_append, times_itself, times_other, times_found, all_append, all_front, all_back, all_at, all_from, none_ahead_behind, none_ahead_without}
+use Rattle.fs_semantics.proofs.Permuted.{and_then_assoc, then_alike}
 use Rattle.fs_semantics.proofs.Commuting.{none_above, same_times, outcome-append, outcome_keeps_tree}
 use Rattle.fs_semantics.proofs.Decided.{outcome_told}
 
-all_append : (P : ℕ → Type 0) (xs ys : List ℕ) → AllByRecursion P xs → AllByRecursion P ys → AllByRecursion P (xs ++ ys)
-all_append P [] ys h k = k
-all_append P (x ∷ xs) ys h k = (h.0, all_append P xs ys h.1 k)
-
-all_front : (P : ℕ → Type 0) (xs ys : List ℕ) → AllByRecursion P (xs ++ ys) → AllByRecursion P xs
-all_front P [] ys h = tt
-all_front P (x ∷ xs) ys h = (h.0, all_front P xs ys h.1)
-
-all_back : (P : ℕ → Type 0) (xs ys : List ℕ) → AllByRecursion P (xs ++ ys) → AllByRecursion P ys
-all_back P [] ys h = h
-all_back P (x ∷ xs) ys h = all_back P xs ys h.1
-
-all_at : (P : ℕ → Type 0) (xs : List ℕ) (k : ℕ) → AllByRecursion P xs → 0 < times k xs → P k
-all_at P xs k all h =
-    let split = found k xs h in
-    (all_back P split.0 (k ∷ split.1) (subst (AllByRecursion P) split.2 all)).0
-
-not_first : (z x : ℕ) (xs : List ℕ) → x ≢ z → times z (x ∷ xs) ≡ times z xs
-not_first z x xs h = ap (λ b. cond b 1 0 + times z xs) (ne_eqb x z h) ∙ omega arith
-
-all_from : (P : ℕ → Type 0) (xs : List ℕ) → ((k : ℕ) → 0 < times k xs → P k) → AllByRecursion P xs
-all_from P [] h = tt
-all_from P (x ∷ xs) h = (h x (omega (arith, itself x xs)), all_from P xs (λ k i. h k (omega (arith, i))))
-
 module _ (before : ℕ → ℕ → Type 0) where
-  ahead_of : (front : List ℕ) (x : ℕ) (back : List ℕ) → NoneAhead before (front ++ x ∷ back) → AllByRecursion (λ z. before x z → ⊥) front
-  ahead_of [] x back h = tt
-  ahead_of (z ∷ front) x back h = ((all_back (λ a. before a z → ⊥) front (x ∷ back) h.0).0, ahead_of front x back h.1)
-
-  without_one : (front : List ℕ) (x : ℕ) (back : List ℕ) → NoneAhead before (front ++ x ∷ back) → NoneAhead before (front ++ back)
-  without_one [] x back h = h.1
-  without_one (z ∷ front) x back h =
-      let P : ℕ → Type 0 = λ a. before a z → ⊥ in
-      (all_append P front back (all_front P front (x ∷ back) h.0) (all_back P front (x ∷ back) h.0).1, without_one front x back h.1)
-
   swapped_kept : (front : List ℕ) (x y : ℕ) (back : List ℕ) → (before x y → ⊥) → NoneAhead before (front ++ x ∷ y ∷ back) → NoneAhead before (front ++ y ∷ x ∷ back)
   swapped_kept [] x y back free h = ((free, h.1.0), (h.0.1, h.1.1))
   swapped_kept (z ∷ front) x y back free h =
@@ -53,7 +20,7 @@ module _ (before : ℕ → ℕ → Type 0) where
       (all_append P front (y ∷ x ∷ back) (all_front P front (x ∷ y ∷ back) h.0) (rest.1.0, (rest.0, rest.1.1)), swapped_kept front x y back free h.1)
 
   -- after an exchange an order is allowed still
-  exchanged : (n : ℕ) (order other : List ℕ) → IsExchange before order other → IsLinearExtension n before order → IsLinearExtension n before other
+  pub exchanged : (n : ℕ) (order other : List ℕ) → IsExchange before order other → IsLinearExtension n before order → IsLinearExtension n before other
   exchanged n order other e l =
       let P : ℕ → Type 0 = λ k. k < n in
       let below = subst (AllByRecursion P) e.was l.below in
@@ -67,7 +34,7 @@ module _ (before : ℕ → ℕ → Type 0) where
       }
 
   -- lists joined by exchanges, whatever stands in them
-  data Turned : List ℕ → List ℕ → Type 0 where
+  pub data Turned : List ℕ → List ℕ → Type 0 where
     same : {order : List ℕ} → Turned order order
     turn : {order other last : List ℕ} → IsExchange before order other → Turned other last → Turned order last
 
@@ -88,29 +55,30 @@ module _ (before : ℕ → ℕ → Type 0) where
 
   turned : (right left : List ℕ) → ((k : ℕ) → times k left ≡ times k right) → ((k : ℕ) → times k right ≤ 1) → NoneAhead before left → NoneAhead before right → Turned left right
   turned [] [] same_times once l r = same
-  turned [] (x ∷ left) same_times once l r = absurd (omega (arith, same_times x, itself x left))
+  turned [] (x ∷ left) same_times once l r = absurd (omega (arith, same_times x, times_itself x left))
   turned (x ∷ right) left same_times once l r =
-      let split = found x left (omega (arith, same_times x, itself x right)) in
+      let split = times_found x left (omega (arith, same_times x, times_itself x right)) in
       let front = split.0 in
       let back = split.1 in
       let kept = subst (NoneAhead before) split.2 l in
       let counts : (k : ℕ) → times k left ≡ times k front + times k (x ∷ back) = λ k. ap (times k) split.2 ∙ times_append k front (x ∷ back) in
       let free : (z : ℕ) → 0 < times z front → IsFree before z x = λ z m.
-      let differ : z ≢ x = λ e. let m' : 0 < times x front = subst (λ v. 0 < times v front) e m in omega (arith, counts x, same_times x, once x, itself x back) in
-      let there : 0 < times z right = omega (arith, counts z, same_times z, not_first z x right (λ e. differ (sym e))) in
-      record { differ = differ; not_before = all_at (λ a. before a x → ⊥) right z r.0 there; not_after = all_at (λ a. before x a → ⊥) front z (ahead_of front x back kept) m } in
+      let differ : z ≢ x = λ e. let m' : 0 < times x front = subst (λ v. 0 < times v front) e m in omega (arith, counts x, same_times x, once x, times_itself x back) in
+      let there : 0 < times z right = omega (arith, counts z, same_times z, times_other z x right differ) in
+      record { differ = differ; not_before = all_at (λ a. before a x → ⊥) right z r.0 there; not_after = all_at (λ a. before x a → ⊥) front z (none_ahead_behind before front x back kept) m } in
       subst (λ o. Turned o (x ∷ right)) (sym split.2)
       (turned_then (to_front front x back (all_from (λ z. IsFree before z x) front free))
-      (turned_on x (turned right (front ++ back) (λ k. omega (arith, counts k, same_times k, times_append k front back)) (λ k. omega (arith, once k)) (without_one front x back kept) r.1)))
+      (turned_on x (turned right (front ++ back) (λ k. omega (arith, counts k, same_times k, times_append k front back)) (λ k. omega (arith, once k)) (none_ahead_without before front x back kept) r.1)))
 
   at_most_once : (n : ℕ) (order : List ℕ) → IsLinearExtension n before order → (k : ℕ) → times k order ≤ 1
   at_most_once n order l k = ⊎_elim (λ h. let e = l.once k h in omega arith) (λ h. let e = none_above n k order l.below h in omega arith) (cases_lt k n)
 
-  joined : (n : ℕ) (from to : List ℕ) → IsLinearExtension n before from → IsLinearExtension n before to → Turned from to
+  -- any two allowed orders are joined
+  pub joined : (n : ℕ) (from to : List ℕ) → IsLinearExtension n before from → IsLinearExtension n before to → Turned from to
   joined n from to l m = turned to from (same_times n before from to l m) (at_most_once n to m) l.kept m.kept
 
   -- where neighbours agree, all joined orders agree
-  agree : {X : Type 0} (n : ℕ) (tells : List ℕ → X)
+  pub agree : {X : Type 0} (n : ℕ) (tells : List ℕ → X)
       → ((o p : List ℕ) → IsLinearExtension n before o → IsLinearExtension n before p → IsExchange before o p → tells o ≡ tells p)
       → {from to : List ℕ} → Turned from to → IsLinearExtension n before from → tells from ≡ tells to
   agree n tells h same l = refl

@@ -3,6 +3,7 @@ use Rattle.std.proofs.Common.{◌≡◌, ℕ, true, false, cond, ◌==◌, ◌+�
 use Rattle.fs_semantics.specs.FileTree.{Tree}
 use Rattle.fs_semantics.specs.Orders.{times}
 use Rattle.fs_semantics.specs.Programs.{Outcome, and_then}
+use Rattle.fs_semantics.proofs.Counts.{times_append, times_itself, times_found}
 
 pub and_then_assoc : (r : Outcome) (f g : Tree → Outcome) → and_then (and_then r f) g ≡ and_then r (λ t. and_then (f t) g)
 and_then_assoc None f g = refl
@@ -33,30 +34,12 @@ module _ (P : Tree → Type 0) (step : ℕ → Tree → Outcome) (steps : Commut
       ∙ ap (λ r. and_then r (run_steps step (front ++ back))) (steps.commute j i t good)
       ∙ and_then_assoc (step i t) (step j) (run_steps step (front ++ back))
 
-pub times_append : (k : ℕ) (xs ys : List ℕ) → times k (xs ++ ys) ≡ times k xs + times k ys
-times_append k [] ys = omega arith
-times_append k (x ∷ xs) ys = omega (arith, times_append k xs ys)
-
-none_here : (k x : ℕ) (xs : List ℕ) → (x == k) ≡ false → times k (x ∷ xs) ≡ times k xs
-none_here k x xs e = ap (λ b. cond b 1 0 + times k xs) e ∙ zero-add _
-
--- what is counted is somewhere
-pub found : (k : ℕ) (xs : List ℕ) → 0 < times k xs → (front : List ℕ) × (back : List ℕ) × (xs ≡ front ++ k ∷ back)
-found k [] h = absurd (omega arith)
-found k (x ∷ xs) h = elim (x == k) as (λ b. (x == k) ≡ b → (front : List ℕ) × (back : List ℕ) × (x ∷ xs ≡ front ++ k ∷ back)) [
-  | true ↦ λ e. ([], xs, ap (λ y. y ∷ xs) (eqb-true x k e))
-  | false ↦ λ e. let rest = found k xs (omega (arith, none_here k x xs e)) in (x ∷ rest.0, rest.1, ap (λ ys. x ∷ ys) rest.2)
-] refl
-
-pub itself : (x : ℕ) (xs : List ℕ) → times x (x ∷ xs) ≡ 1 + times x xs
-itself x xs = ap (λ b. cond b 1 0 + times x xs) (eq-eqb x x refl)
-
 -- two orders that have each number equally often
 pub same_runs : (P : Tree → Type 0) (step : ℕ → Tree → Outcome) → CommutingSteps P step → (o p : List ℕ) → ((k : ℕ) → times k o ≡ times k p) → (t : Tree) → P t → run_steps step o t ≡ run_steps step p t
 same_runs P step steps [] [] h t good = refl
-same_runs P step steps [] (i ∷ p) h t good = absurd (omega (arith, h i, itself i p))
+same_runs P step steps [] (i ∷ p) h t good = absurd (omega (arith, h i, times_itself i p))
 same_runs P step steps (i ∷ o) p h t good =
-    let split = found i p (omega (arith, h i, itself i o)) in
+    let split = times_found i p (omega (arith, h i, times_itself i o)) in
     let rest : (k : ℕ) → times k o ≡ times k (split.0 ++ split.1) = λ k.
     omega (arith, h k, ap (times k) split.2, times_append k split.0 (i ∷ split.1), times_append k split.0 split.1) in
     then_alike (step i t) (run_steps step o) (run_steps step (split.0 ++ split.1)) (λ u is. same_runs P step steps o (split.0 ++ split.1) rest u (steps.keeps i t u good is))
