@@ -10,7 +10,7 @@ use Rattle.fs_semantics.proofs.ConstructLaws.{keeps_tree}
 use Rattle.fs_semantics.proofs.Counts.{times_append, times_found, all_from, all_at, none_ahead_at, none_ahead_behind, none_ahead_without, none_ahead_push}
 use Rattle.fs_semantics.proofs.Permuted.{and_then_assoc, then_alike}
 use Rattle.fs_semantics.proofs.Commuting.{outcome-append}
-use Rattle.effect_sets.proofs.Apart.{apart_commute}
+use Rattle.effect_sets.proofs.ApartLaws.{apart_commute}
 use Rattle.commute_prune.specs.Pruning.{without, IsOrderOf, ApartAt, MayBeLast, MayBeFirst, Move, ToFirst, ToLast, Leads, firsts, lasts}
 use Rattle.commute_prune.proofs.Lists.{none_left, others_left}
 

@@ -1,3 +1,6 @@
 pub mod Beside
-pub mod Apart
-pub mod Listed
+pub mod ApartLaws
+pub mod SetLaws
+pub mod FoundLaws
+pub mod WalkLaws
+pub mod ClearLaws
