@@ -1,0 +1,71 @@
+-- Setting aside programs of which the order doesn't matter.
+use Rattle.std.specs.Prelude.{◌≡◌, ◌≢◌, ◌==◌, ℕ, zero, suc, ◌<◌, List, [], ◌∷◌, ◌++◌, map, slice_index_or, if◌then◌else◌}
+use Rattle.fs_semantics.specs.Programs.{Program, Id}
+use Rattle.fs_semantics.specs.Orders.{NoneAhead, times}
+use Rattle.effect_sets.specs.Footprints.{footprint, AreApart}
+
+-- these numbers, without one of them
+abbrev pub without : ℕ → List ℕ → List ℕ
+without k [] = []
+without k (j ∷ js) = if j == k then without k js else (j ∷ without k js)
+
+-- each number as often as in ks, and none ahead of one that comes before it
+pub record IsOrderOf (before : ℕ → ℕ → Type 0) (ks o : List ℕ) : Type 0 where
+  pub same : (k : ℕ) → times k o ≡ times k ks
+  pub kept : NoneAhead before o
+
+abbrev pub ApartAt : List Program → ℕ → ℕ → Type 0
+ApartAt es j k = AreApart (footprint (slice_index_or es j Id)) (footprint (slice_index_or es k Id))
+
+-- k is one of ks, none of these comes after it, and it is apart from every other one that isn't before it
+pub record MayBeLast (es : List Program) (before : ℕ → ℕ → Type 0) (ks : List ℕ) (k : ℕ) : Type 0 where
+  pub once : times k ks ≡ 1
+  pub none_after : (j : ℕ) → 0 < times j ks → before k j → ⊥
+  pub apart : (j : ℕ) → 0 < times j ks → j ≢ k → (before j k → ⊥) → ApartAt es k j
+
+-- k is one of ks, none of these comes before it, and it is apart from every other one that isn't after it
+pub record MayBeFirst (es : List Program) (before : ℕ → ℕ → Type 0) (ks : List ℕ) (k : ℕ) : Type 0 where
+  pub once : times k ks ≡ 1
+  pub none_before : (j : ℕ) → 0 < times j ks → before j k → ⊥
+  pub apart : (j : ℕ) → 0 < times j ks → j ≢ k → (before k j → ⊥) → ApartAt es k j
+
+pub data Move : Type 0 where
+  ToFirst : ℕ → Move
+  ToLast : ℕ → Move
+
+-- these moves, one after the other, lead from all of ks to those that are kept
+abbrev pub Leads : List Program → (ℕ → ℕ → Type 0) → List Move → List ℕ → List ℕ → Type 0
+Leads es before [] ks kept = kept ≡ ks
+Leads es before (ToFirst k ∷ moves) ks kept = MayBeFirst es before ks k × Leads es before moves (without k ks) kept
+Leads es before (ToLast k ∷ moves) ks kept = MayBeLast es before ks k × Leads es before moves (without k ks) kept
+
+pub record IsLeast (P : ℕ → Type 0) (k : ℕ) : Type 0 where
+  pub holds : P k
+  pub least : (j : ℕ) → j < k → P j → ⊥
+
+abbrev pub Never : (ℕ → Type 0) → Type 0
+Never P = (k : ℕ) → P k → ⊥
+
+-- At each move the least that may go last goes; where none may, the least that may go first. What is kept may go neither way.
+abbrev pub Prunes : List Program → (ℕ → ℕ → Type 0) → List Move → List ℕ → List ℕ → Type 0
+Prunes es before [] ks kept = (kept ≡ ks) × Never (MayBeLast es before ks) × Never (MayBeFirst es before ks)
+Prunes es before (ToFirst k ∷ moves) ks kept = Never (MayBeLast es before ks) × IsLeast (MayBeFirst es before ks) k × Prunes es before moves (without k ks) kept
+Prunes es before (ToLast k ∷ moves) ks kept = IsLeast (MayBeLast es before ks) k × Prunes es before moves (without k ks) kept
+
+-- what goes first, in order, and what goes last
+abbrev pub firsts : List Move → List ℕ
+firsts [] = []
+firsts (ToFirst k ∷ moves) = k ∷ firsts moves
+firsts (ToLast k ∷ moves) = firsts moves
+
+abbrev pub lasts : List Move → List ℕ
+lasts [] = []
+lasts (ToFirst k ∷ moves) = lasts moves
+lasts (ToLast k ∷ moves) = lasts moves ++ k ∷ []
+
+-- the programs with these numbers, and what comes before what among them
+abbrev pub chosen : List Program → List ℕ → List Program
+chosen es ks = map (λ k. slice_index_or es k Id) ks
+
+abbrev pub between : (ℕ → ℕ → Type 0) → List ℕ → ℕ → ℕ → Type 0
+between before ks a b = before (slice_index_or ks a 0) (slice_index_or ks b 0)
