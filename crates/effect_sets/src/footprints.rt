@@ -4,7 +4,7 @@ ghost use Rattle.std.specs.Prelude.{◌≡◌, ◌↔◌, ◌&&◌, ◌||◌, fa
 ghost use Rattle.fs_semantics.specs.FileTree.{Path as Segments, parent, is_among};
 ghost use Rattle.fs_lang.specs.Meaning.{program_of};
 ghost use Rattle.effect_sets.specs.Footprints.{footprint, IsClearOf, AreApart};
-ghost use Rattle.effect_sets.specs.Members.{sets_of};
+ghost use Rattle.effect_sets.specs.Members.{is_parent_of, sets_of};
 
 use crate::found::{Found, nothing};
 use crate::sets::add_parents;
@@ -60,6 +60,13 @@ impl Footprint {
         ensures { result.now.keys ≡ self.now.children }
     {
         &self.found.children
+    }
+
+    /// The parents of what is written, and of the folders.
+    pub fn parents(&self) -> &BTreeSet<Path>
+        ensures { (q : Segments) → is_among q result.now.keys ≡ (is_parent_of q self.now.writes || is_parent_of q self.now.folders) }
+    {
+        &self.parents
     }
 }
 

@@ -1,0 +1,8 @@
+use Rattle.std.proofs.Common.{◌≡◌, ◌||◌, subst, sym, ap, ◌∙◌}
+use Rattle.fs_semantics.specs.FileTree.{Path, is_among}
+use Rattle.effect_sets.specs.Members.{Lists, is_parent_of}
+use Rattle.effect_sets.proofs.footprints.Footprint.parents.Goals as goal
+
+pub returns : goal.returns
+returns c q =
+    c.self.invariant q ∙ ap (λ (l : Lists). is_parent_of q l.writes || is_parent_of q l.folders) c.self.view_is
