@@ -1,7 +1,7 @@
 use Rattle.fs_semantics.specs.Orders.{Told}
 use Rattle.commute_prune.proofs.Exact.{prunes_leads, one_pruning}
 use Rattle.commute_prune.proofs.Kept.{kept_is_enough, completed_order}
-use Rattle.commute_prune.proofs.pruning.Goals as goal
+use Rattle.commute_prune.proofs.laws.pruning.Goals as goal
 
 pub returns : goal.returns
 returns c = record {
