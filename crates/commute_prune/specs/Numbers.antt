@@ -1,5 +1,5 @@
 -- Paths by number.
-use Rattle.std.specs.Prelude.{◌≡◌, ℕ, ◌<◌, Bool, IsTrue, ◌==◌, List, Option, Some, length}
+use Rattle.std.specs.Prelude.{◌≡◌, ℕ, ◌<◌, Bool, IsTrue, ◌==◌, false, List, Option, Some, slice_index_or}
 use Rattle.std.specs.List.{list_any}
 use Rattle.std.specs.BTreeMap.{BTreeMap, get, btree_map_len}
 use Rattle.fs_semantics.specs.FileTree.{Path, path_cmp}
@@ -24,3 +24,7 @@ has n ns = list_any (λ k. n == k) ns
 pub record AreNumbers (m : BTreeMap Path ℕ) (f : Paths) (ns : List ℕ) : Type 0 where
   pub stands : (p : Path) → IsTrue (f p) → (n : ℕ) × (number_in m p ≡ Some n) × IsTrue (has n ns)
   pub stems : (n : ℕ) → IsTrue (has n ns) → (p : Path) × IsTrue (f p) × (number_in m p ≡ Some n)
+
+-- one of these numbers has a mark
+abbrev pub any_marked : List Bool → List ℕ → Bool
+any_marked marks ns = list_any (λ n. slice_index_or marks n false) ns

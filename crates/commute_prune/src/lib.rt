@@ -2,6 +2,7 @@
 #![tactic(auto)]
 
 mod laws;
+mod marks;
 mod numbers;
 
 pub use laws::pruning;
