@@ -3,6 +3,7 @@
 
 mod laws;
 mod marks;
+mod numbered;
 mod numbers;
 
 pub use laws::pruning;
