@@ -1,10 +1,13 @@
 -- Footprints by number.
-use Rattle.std.specs.Prelude.{◌≡◌, ℕ, Bool, not, ◌&&◌, ◌||◌, List}
+use Rattle.std.specs.Prelude.{◌≡◌, ℕ, ◌<◌, Bool, not, ◌&&◌, ◌||◌, List, Some, slice_get, slice_index_or}
+use Rattle.std.specs.List.{list_any, AllByRecursion}
 use Rattle.std.specs.BTreeMap.{BTreeMap}
 use Rattle.fs_semantics.specs.FileTree.{Path, is_among}
-use Rattle.effect_sets.specs.Members.{Lists, is_parent_of}
+use Rattle.fs_semantics.specs.Programs.{Program, Id}
+use Rattle.effect_sets.specs.Footprints.{footprint}
+use Rattle.effect_sets.specs.Members.{Lists, is_parent_of, sets_of}
 use Rattle.commute_prune.specs.declared.numbered.Numbered.{Numbered}
-use Rattle.commute_prune.specs.Numbers.{AreNumbers, any_marked}
+use Rattle.commute_prune.specs.Numbers.{has, AreNumbers, any_marked}
 
 -- each set of the footprint by its numbers, and the parents of what is written and of the folders
 pub record AreSets (m : BTreeMap Path ℕ) (l : Lists) (x : Numbered) : Type 0 where
@@ -19,3 +22,27 @@ abbrev pub clear_by_marks : List Bool → List Bool → List Bool → Numbered �
 clear_by_marks writes folders parents g =
     not (any_marked writes g.reads.items || any_marked writes g.writes.items || any_marked writes g.folders.items)
     && not (any_marked folders g.reads.items) && not (any_marked parents g.children.items)
+
+-- some number stands in both
+abbrev pub shares : List ℕ → List ℕ → Bool
+shares ns ks = list_any (λ k. has k ns) ks
+
+-- nothing that the first changes is looked at by the second
+abbrev pub is_clear : Numbered → Numbered → Bool
+is_clear f g =
+    not (shares f.writes.items g.reads.items || shares f.writes.items g.writes.items || shares f.writes.items g.folders.items)
+    && not (shares f.folders.items g.reads.items) && not (shares f.parents.items g.children.items)
+
+-- the sets are those of the program's footprint
+abbrev pub StandsFor : BTreeMap Path ℕ → Program → Numbered → Type 0
+StandsFor m e x = (l : Lists) × (sets_of l ≡ footprint e) × AreSets m l x
+
+-- the sets of each program, in order
+abbrev pub AreOf : BTreeMap Path ℕ → List Program → List Numbered → Type 0
+AreOf m es xs = (i : ℕ) (x : Numbered) → slice_get xs i ≡ Some x → StandsFor m (slice_index_or es i Id) x
+
+-- what is compared by marks stands below the count
+pub record IsBelow (count : ℕ) (f : Numbered) : Type 0 where
+  pub writes : AllByRecursion (λ n. n < count) f.writes.items
+  pub folders : AllByRecursion (λ n. n < count) f.folders.items
+  pub parents : AllByRecursion (λ n. n < count) f.parents.items

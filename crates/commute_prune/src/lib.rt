@@ -3,6 +3,7 @@
 
 mod laws;
 mod marks;
+mod matrix;
 mod numbered;
 mod numbers;
 

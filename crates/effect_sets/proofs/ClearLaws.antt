@@ -1,11 +1,11 @@
 -- When footprints are apart, by sets that have nothing in common.
 use Rattle.std.proofs.Common.{◌≡◌, Bool, true, false, ◌&&◌, ◌||◌, List, [], ◌∷◌, inl, inr, refl, sym, ap, ◌∙◌}
 use Rattle.std.specs.Prelude.{◌↔◌, IsTrue}
-use Rattle.std.specs.BTreeSet.{BTreeSet, IsDisjoint}
 use Rattle.std.proofs.lemmas.Bool.{or_cases, or_left, or_right, and_parts, and_from}
-use Rattle.fs_semantics.specs.FileTree.{Path, path_cmp, path_eq, parent, is_among}
+use Rattle.fs_semantics.specs.FileTree.{Path, path_eq, parent, is_among}
 use Rattle.fs_semantics.proofs.Trees.{path_eq_refl, path_eq_same}
-use Rattle.effect_sets.specs.Members.{members, is_parent_of}
+use Rattle.effect_sets.specs.Footprints.{Paths}
+use Rattle.effect_sets.specs.Members.{is_parent_of}
 use Rattle.effect_sets.proofs.FoundLaws.{neither}
 
 neither_left : (a b : Bool) → (a || b) ≡ false → a ≡ false
@@ -19,19 +19,23 @@ neither_right true b h = absurd_or h
     absurd_or h = cc
 neither_right false b h = h
 
+-- nothing in common
+abbrev pub Apart : Paths → Paths → Type 0
+Apart f g = (q : Path) → IsTrue (f q) → g q ≡ false
+
 -- nothing in common with each of three is nothing in common with all
-pub clear_of_three : (s a b c : BTreeSet Path) (x y z : Bool) → IsTrue x ↔ IsDisjoint path_cmp s a → IsTrue y ↔ IsDisjoint path_cmp s b → IsTrue z ↔ IsDisjoint path_cmp s c
-    → IsTrue (x && y && z) ↔ ((q : Path) → IsTrue (is_among q s.keys) → (is_among q a.keys || is_among q b.keys || is_among q c.keys) ≡ false)
+pub clear_of_three : (s a b c : Paths) (x y z : Bool) → IsTrue x ↔ Apart s a → IsTrue y ↔ Apart s b → IsTrue z ↔ Apart s c
+    → IsTrue (x && y && z) ↔ Apart s (λ q. a q || b q || c q)
 clear_of_three s a b c x y z h k l = (
   (λ all q here.
       let both = and_parts (x && y) z all in
       let two = and_parts x y both.0 in
-      neither (is_among q a.keys || is_among q b.keys) (is_among q c.keys) (neither (is_among q a.keys) (is_among q b.keys) (h.0 two.0 q here) (k.0 two.1 q here)) (l.0 both.1 q here)),
+      neither (a q || b q) (c q) (neither (a q) (b q) (h.0 two.0 q here) (k.0 two.1 q here)) (l.0 both.1 q here)),
   (λ all.
-      let two : (q : Path) → IsTrue (is_among q s.keys) → (is_among q a.keys || is_among q b.keys) ≡ false = λ q here. neither_left (is_among q a.keys || is_among q b.keys) (is_among q c.keys) (all q here) in
+      let two : Apart s (λ q. a q || b q) = λ q here. neither_left (a q || b q) (c q) (all q here) in
       and_from (x && y) z
-      (and_from x y (h.1 (λ q here. neither_left (is_among q a.keys) (is_among q b.keys) (two q here))) (k.1 (λ q here. neither_right (is_among q a.keys) (is_among q b.keys) (two q here))))
-      (l.1 (λ q here. neither_right (is_among q a.keys || is_among q b.keys) (is_among q c.keys) (all q here)))),
+      (and_from x y (h.1 (λ q here. neither_left (a q) (b q) (two q here))) (k.1 (λ q here. neither_right (a q) (b q) (two q here))))
+      (l.1 (λ q here. neither_right (a q || b q) (c q) (all q here))))
 )
 
 parent_among : (q : Path) (ps : List Path) → is_among q ps ≡ true → is_parent_of (parent q) ps ≡ true
@@ -49,16 +53,16 @@ child_among r (p ∷ ps) h = elim (or_cases (path_eq r (parent p)) (is_parent_of
 ]
 
 -- the parents of what is changed have nothing in common with paths whose children matter
-pub clear_of_children : (parents children : BTreeSet Path) (writes folders : List Path)
-    → ((q : Path) → members parents q ≡ (is_parent_of q writes || is_parent_of q folders))
-    → IsDisjoint path_cmp parents children ↔ ((q : Path) → IsTrue (is_among q writes || is_among q folders) → is_among (parent q) children.keys ≡ false)
+pub clear_of_children : (parents children : Paths) (writes folders : List Path)
+    → ((q : Path) → parents q ≡ (is_parent_of q writes || is_parent_of q folders))
+    → Apart parents children ↔ ((q : Path) → IsTrue (is_among q writes || is_among q folders) → children (parent q) ≡ false)
 clear_of_children parents children writes folders are = (
   (λ h q here. h (parent q) (are (parent q) ∙ elim (or_cases (is_among q writes) (is_among q folders) here) [
     | inl w ↦ or_left _ _ (parent_among q writes w)
     | inr f ↦ or_right _ _ (parent_among q folders f)
   ])),
   (λ h r here. elim (or_cases (is_parent_of r writes) (is_parent_of r folders) (sym (are r) ∙ here)) [
-    | inl w ↦ let c = child_among r writes w in ap (λ p. is_among p children.keys) c.2 ∙ h c.0 (or_left _ _ c.1)
-    | inr f ↦ let c = child_among r folders f in ap (λ p. is_among p children.keys) c.2 ∙ h c.0 (or_right _ _ c.1)
-  ]),
+    | inl w ↦ let c = child_among r writes w in ap children c.2 ∙ h c.0 (or_left _ _ c.1)
+    | inr f ↦ let c = child_among r folders f in ap children c.2 ∙ h c.0 (or_right _ _ c.1)
+  ])
 )

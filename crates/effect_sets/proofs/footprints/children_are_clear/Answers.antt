@@ -1,7 +1,7 @@
 use Rattle.std.proofs.Common.{◌≡◌, Bool, ◌||◌, subst₂}
 use Rattle.std.specs.Prelude.{◌↔◌, IsTrue, false}
 use Rattle.fs_semantics.specs.FileTree.{Path, parent, is_among}
-use Rattle.effect_sets.specs.Members.{Lists}
+use Rattle.effect_sets.specs.Members.{Lists, members}
 use Rattle.effect_sets.proofs.ClearLaws.{clear_of_children}
 use Rattle.effect_sets.proofs.footprints.children_are_clear.Goals as goal
 
@@ -12,6 +12,6 @@ pub returns : goal.returns
 returns c =
     let f = c.f.inside in
     let g = c.g.inside in
-    let law = clear_of_children f.parents g.found.children f.found.writes.keys f.found.folders.keys c.f.invariant in
+    let law = clear_of_children (members f.parents) (members g.found.children) f.found.writes.keys f.found.folders.keys c.f.invariant in
     subst₂ (λ x y. Clear c.is_disjoint.result x y) c.f.view_is c.g.view_is
     ((λ h. law.0 (c.is_disjoint.ensures.0 h)), (λ h. c.is_disjoint.ensures.1 (law.1 h)))

@@ -1,7 +1,7 @@
 use Rattle.std.proofs.Common.{◌≡◌, Bool, ◌&&◌, ◌||◌, subst, subst₂, sym}
 use Rattle.std.specs.Prelude.{◌↔◌, IsTrue, false}
 use Rattle.fs_semantics.specs.FileTree.{Path, is_among}
-use Rattle.effect_sets.specs.Members.{Lists}
+use Rattle.effect_sets.specs.Members.{Lists, members}
 use Rattle.effect_sets.proofs.ClearLaws.{clear_of_three}
 use Rattle.effect_sets.proofs.footprints.writes_are_clear.Goals as goal
 
@@ -14,4 +14,4 @@ returns c =
     let g = c.g.inside.found in
     subst (λ b. Clear b c.args.f.now c.args.g.now) (sym c.all_three.ensures)
     (subst₂ (λ x y. Clear (c.is_disjoint-of_reads.result && c.is_disjoint-of_writes.result && c.is_disjoint-of_folders.result) x y) c.f.view_is c.g.view_is
-    (clear_of_three f.writes g.reads g.writes g.folders _ _ _ c.is_disjoint-of_reads.ensures c.is_disjoint-of_writes.ensures c.is_disjoint-of_folders.ensures))
+    (clear_of_three (members f.writes) (members g.reads) (members g.writes) (members g.folders) _ _ _ c.is_disjoint-of_reads.ensures c.is_disjoint-of_writes.ensures c.is_disjoint-of_folders.ensures))
