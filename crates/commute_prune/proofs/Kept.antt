@@ -9,7 +9,7 @@ use Rattle.fs_semantics.specs.Changes.{IsProper}
 use Rattle.fs_semantics.proofs.Counts.{times_itself, times_other, all_from}
 use Rattle.commute_prune.specs.Pruning.{without, IsOrderOf, Move, ToFirst, ToLast, Leads, firsts, lasts, chosen, between}
 use Rattle.commute_prune.proofs.Lists.{none_left, others_left}
-use Rattle.commute_prune.proofs.Moves.{AllAgree, agree_from, completed}
+use Rattle.commute_prune.proofs.MovedLaws.{AllAgree, agree_from, completed}
 
 same_test : (a b c d : ℕ) → (a ≡ b → c ≡ d) → (c ≡ d → a ≡ b) → (a == b) ≡ (c == d)
 same_test a b c d h k = elim (a == b) as (λ x. (a == b) ≡ x → x ≡ (c == d)) [

@@ -4,6 +4,7 @@
 mod laws;
 mod marks;
 mod matrix;
+mod moves;
 mod numbered;
 mod numbers;
 

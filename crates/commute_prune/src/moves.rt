@@ -1,0 +1,144 @@
+//! Which program may go first or last.
+
+ghost use Rattle.std.specs.Prelude.{◌≡◌, ◌<◌, option_map, IfOk, OnOk};
+ghost use Rattle.std.specs.List.{AllByRecursion, find};
+ghost use Rattle.orders.specs.Relation.{comes};
+ghost use Rattle.commute_prune.specs.Matrix.{cell};
+ghost use Rattle.commute_prune.specs.Pruning.{without};
+ghost use Rattle.commute_prune.specs.Steps.{are_apart, lets_last, lets_first, may_last, may_first};
+
+use orders::Order;
+use rh_base::{NoMemory, Seq};
+use std::alloc::Global;
+
+#[tactic(auto, using(crate::proofs::StepLaws::told_by))]
+fn comes(order: &Order, a: u32, b: u32) -> bool
+    requires a { a < order.now.count }
+    requires b { b < order.now.count }
+    ensures { result ≡ comes order.now a b }
+{
+    order.before(a, b)
+}
+
+fn is_clear_at(clear: &[Seq<bool>], i: u32, j: u32) -> bool
+    ensures { result ≡ cell clear.now i j }
+{
+    match clear.get(i as usize) {
+        Some(row) => match row.as_slice().get(j as usize) {
+            Some(cell) => *cell,
+            None => false,
+        },
+        None => false,
+    }
+}
+
+fn are_apart(clear: &[Seq<bool>], i: u32, j: u32) -> bool
+    ensures { result ≡ are_apart clear.now i j }
+{
+    if is_clear_at(clear, i, j) {
+        is_clear_at(clear, j, i)
+    } else {
+        false
+    }
+}
+
+/// Whether a program lets another one go last.
+fn lets_last(order: &Order, clear: &[Seq<bool>], k: u32, j: u32) -> bool
+    requires k { k < order.now.count }
+    requires j { j < order.now.count }
+    ensures { result ≡ lets_last order.now clear.now k j }
+{
+    if comes(order, k, j) {
+        return false;
+    }
+    if j == k {
+        return true;
+    }
+    if comes(order, j, k) {
+        return true;
+    }
+    are_apart(clear, k, j)
+}
+
+/// Whether a program lets another one go first.
+fn lets_first(order: &Order, clear: &[Seq<bool>], k: u32, j: u32) -> bool
+    requires k { k < order.now.count }
+    requires j { j < order.now.count }
+    ensures { result ≡ lets_first order.now clear.now k j }
+{
+    if comes(order, j, k) {
+        return false;
+    }
+    if j == k {
+        return true;
+    }
+    if comes(order, k, j) {
+        return true;
+    }
+    are_apart(clear, k, j)
+}
+
+fn may_last(order: &Order, clear: &[Seq<bool>], kept: &[u32], k: u32) -> bool
+    requires k { k < order.now.count }
+    requires kept { AllByRecursion (λ j. j < order.now.count) kept.now }
+    ensures { result ≡ may_last order.now clear.now kept.now k }
+{
+    for j in kept {
+        if !lets_last(order, clear, k, *j) {
+            return false;
+        }
+    }
+    true
+}
+
+fn may_first(order: &Order, clear: &[Seq<bool>], kept: &[u32], k: u32) -> bool
+    requires k { k < order.now.count }
+    requires kept { AllByRecursion (λ j. j < order.now.count) kept.now }
+    ensures { result ≡ may_first order.now clear.now kept.now k }
+{
+    for j in kept {
+        if !lets_first(order, clear, k, *j) {
+            return false;
+        }
+    }
+    true
+}
+
+/// The first of the kept ones that may go last.
+pub(crate) fn find_last(order: &Order, clear: &[Seq<bool>], kept: &[u32]) -> Option<u32>
+    requires { AllByRecursion (λ j. j < order.now.count) kept.now }
+    ensures { result ≡ find (may_last order.now clear.now kept.now) kept.now }
+{
+    for k in kept {
+        if may_last(order, clear, kept, *k) {
+            return Some(*k);
+        }
+    }
+    None
+}
+
+/// The first of the kept ones that may go first.
+pub(crate) fn find_first(order: &Order, clear: &[Seq<bool>], kept: &[u32]) -> Option<u32>
+    requires { AllByRecursion (λ j. j < order.now.count) kept.now }
+    ensures { result ≡ find (may_first order.now clear.now kept.now) kept.now }
+{
+    for k in kept {
+        if may_first(order, clear, kept, *k) {
+            return Some(*k);
+        }
+    }
+    None
+}
+
+/// The numbers without one of them.
+pub(crate) fn without(alloc: Global, kept: &[u32], k: u32) -> Result<Seq<u32>, NoMemory>
+    ensures { IfOk result (λ left. left ≡ without k kept.now) }
+{
+    let mut left = Seq::new(alloc);
+    for j in kept {
+        if *j != k {
+            left.push(*j)?;
+        }
+    }
+    Ok(left)
+}
