@@ -1,7 +1,7 @@
 -- Numbers in common are paths in common.
 use Rattle.std.proofs.Common.{◌≡◌, ℕ, zero, suc, ◌<◌, Bool, true, false, not, ◌&&◌, ◌||◌, ◌==◌, List, [], ◌∷◌, map, length, get_or, Option, Some, None, inl, inr, refl, sym, ap, subst, subst₂, ◌∙◌, arith, eqb-true, eq-eqb}
 use Rattle.std.specs.Prelude.{◌↔◌, slice_get, IsTrue}
-use Rattle.std.specs.List.{list_any, AllByRecursion}
+use Rattle.std.specs.List.{AllByRecursion}
 use Rattle.std.specs.BTreeMap.{BTreeMap, btree_map_len}
 use Rattle.std.proofs.lemmas.Bool.{or_cases, or_left, or_right, cases_Bool, and_parts, and_from}
 use Rattle.fs_semantics.specs.FileTree.{Path, is_among}
@@ -78,7 +78,7 @@ nothing_shared m f g ns ks is a b = (
         let no : false ≡ true = sym (h s.0 s.1) ∙ ap g same ∙ r.1 in
         cc
     | inr none ↦ ap not none
-  ])
+  ]),
 )
 
 none_of_three : (a b c : Bool) → not (a || b || c) ≡ (not a && not b && not c)
@@ -93,23 +93,22 @@ none_of_three false false c = refl
 clear_lists : (m : BTreeMap Path ℕ) (l k : Lists) (x y : Numbered) → IsNumbering m → AreSets m l x → AreSets m k y → IsTrue (is_clear x y) ↔ IsClearOf (sets_of l) (sets_of k)
 clear_lists m l k x y is a b =
     let w = clear_of_three (λ q. is_among q l.writes) (λ q. is_among q k.reads) (λ q. is_among q k.writes) (λ q. is_among q k.folders)
-        (not (shares x.writes.items y.reads.items)) (not (shares x.writes.items y.writes.items)) (not (shares x.writes.items y.folders.items))
-        (nothing_shared m _ _ x.writes.items y.reads.items is a.writes b.reads)
-        (nothing_shared m _ _ x.writes.items y.writes.items is a.writes b.writes)
-        (nothing_shared m _ _ x.writes.items y.folders.items is a.writes b.folders) in
+    (not (shares x.writes.items y.reads.items)) (not (shares x.writes.items y.writes.items)) (not (shares x.writes.items y.folders.items))
+    (nothing_shared m _ _ x.writes.items y.reads.items is a.writes b.reads)
+    (nothing_shared m _ _ x.writes.items y.writes.items is a.writes b.writes)
+    (nothing_shared m _ _ x.writes.items y.folders.items is a.writes b.folders) in
     let three = none_of_three (shares x.writes.items y.reads.items) (shares x.writes.items y.writes.items) (shares x.writes.items y.folders.items) in
     let d = nothing_shared m _ _ x.folders.items y.reads.items is a.folders b.reads in
     let e = nothing_shared m _ _ x.parents.items y.children.items is a.parents b.children in
     let c = clear_of_children (λ q. is_parent_of q l.writes || is_parent_of q l.folders) (λ q. is_among q k.children) l.writes l.folders (λ q. refl) in
     let first : Bool = not (shares x.writes.items y.reads.items || shares x.writes.items y.writes.items || shares x.writes.items y.folders.items) in
     let second : Bool = not (shares x.folders.items y.reads.items) in
-    let third : Bool = not (shares x.parents.items y.children.items) in
-    (
+    let third : Bool = not (shares x.parents.items y.children.items) in (
       (λ h.
           let both = and_parts (first && second) third h in
           let two = and_parts first second both.0 in
           record { writes = w.0 (sym three ∙ two.0); folders = d.0 two.1; children = c.0 (e.0 both.1) }),
-      (λ h. and_from (first && second) third (and_from first second (three ∙ w.1 h.writes) (d.1 h.folders)) (e.1 (c.1 h.children)))
+      (λ h. and_from (first && second) third (and_from first second (three ∙ w.1 h.writes) (d.1 h.folders)) (e.1 (c.1 h.children))),
     )
 
 pub clear_is : (m : BTreeMap Path ℕ) (e f : Program) (x y : Numbered) → IsNumbering m → StandsFor m e x → StandsFor m f y → IsTrue (is_clear x y) ↔ IsClearOf (footprint e) (footprint f)

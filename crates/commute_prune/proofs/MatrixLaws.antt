@@ -1,15 +1,15 @@
 -- Footprints by number, and whether one is clear of another.
-use Rattle.std.proofs.Common.{◌≡◌, ◌⊎◌, ℕ, zero, suc, ◌+◌, ◌<◌, Bool, true, false, not, ◌&&◌, ◌||◌, List, [], ◌∷◌, ◌++◌, map, length, get_or, Option, Some, None, inl, inr, refl, sym, ap, subst, ◌∙◌, arith}
-use Rattle.std.specs.Prelude.{slice_get, IsTrue}
-use Rattle.std.specs.List.{list_any, AllByRecursion}
-use Rattle.std.specs.BTreeMap.{BTreeMap, btree_map_len}
+use Rattle.std.proofs.Common.{◌≡◌, ◌⊎◌, ℕ, zero, suc, ◌<◌, Bool, false, not, ◌&&◌, ◌||◌, List, [], ◌∷◌, ◌++◌, map, length, get_or, Option, Some, None, inl, inr, refl, sym, ap, subst, ◌∙◌, arith}
+use Rattle.std.specs.Prelude.{slice_get}
+use Rattle.std.specs.List.{list_any}
+use Rattle.std.specs.BTreeMap.{BTreeMap}
 use Rattle.fs_semantics.specs.FileTree.{Path}
 use Rattle.fs_semantics.specs.Programs.{Program, Id}
 use Rattle.fs_lang.specs.declared.program.Program.{Program as CodeProgram}
 use Rattle.fs_lang.specs.Meaning.{program_of}
 use Rattle.commute_prune.specs.declared.numbered.Numbered.{Numbered}
-use Rattle.commute_prune.specs.Numbers.{Extends, has, AreNumbers, any_marked}
-use Rattle.commute_prune.specs.Numbered.{AreSets, clear_by_marks, shares, is_clear, StandsFor, AreOf}
+use Rattle.commute_prune.specs.Numbers.{Extends, has, any_marked}
+use Rattle.commute_prune.specs.Numbered.{clear_by_marks, shares, is_clear, StandsFor, AreOf}
 use Rattle.commute_prune.proofs.NumberLaws.{still_numbers}
 
 of_some : {x y : Numbered} → ◌≡◌ {A = Option Numbered} (Some x) (Some y) → x ≡ y
@@ -31,13 +31,17 @@ map_at (x ∷ es) zero e h is = ap program_of (sym is)
 map_at (x ∷ es) (suc i) e h is = map_at es i e (omega arith) is
 
 still_sets : (m more : BTreeMap Path ℕ) (e : Program) (x : Numbered) → Extends m more → StandsFor m e x → StandsFor more e x
-still_sets m more e x k s = (s.0, s.1, record {
-  reads = still_numbers m more _ _ k s.2.reads;
-  writes = still_numbers m more _ _ k s.2.writes;
-  folders = still_numbers m more _ _ k s.2.folders;
-  children = still_numbers m more _ _ k s.2.children;
-  parents = still_numbers m more _ _ k s.2.parents;
-})
+still_sets m more e x k s = (
+  s.0,
+  s.1,
+  record {
+    reads = still_numbers m more _ _ k s.2.reads;
+    writes = still_numbers m more _ _ k s.2.writes;
+    folders = still_numbers m more _ _ k s.2.folders;
+    children = still_numbers m more _ _ k s.2.children;
+    parents = still_numbers m more _ _ k s.2.parents;
+  },
+)
 
 -- the sets of one program more
 pub one_more_of : (m more : BTreeMap Path ℕ) (es : List Program) (xs : List Numbered) (y : Numbered) (n : ℕ) → Extends m more → length xs ≡ n → AreOf m es xs → StandsFor more (get_or es n Id) y

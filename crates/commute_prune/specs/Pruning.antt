@@ -1,5 +1,5 @@
 -- Setting aside programs of which the order doesn't matter.
-use Rattle.std.specs.Prelude.{◌≡◌, ◌≢◌, ◌==◌, ℕ, zero, suc, ◌<◌, List, [], ◌∷◌, ◌++◌, map, slice_index_or, if◌then◌else◌}
+use Rattle.std.specs.Prelude.{◌≡◌, ◌≢◌, ◌==◌, ℕ, ◌<◌, List, [], ◌∷◌, ◌++◌, map, slice_index_or, if◌then◌else◌}
 use Rattle.fs_semantics.specs.Programs.{Program, Id}
 use Rattle.fs_semantics.specs.Orders.{NoneAhead, times}
 use Rattle.effect_sets.specs.Footprints.{footprint, AreApart}

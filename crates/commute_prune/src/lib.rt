@@ -7,5 +7,7 @@ mod matrix;
 mod moves;
 mod numbered;
 mod numbers;
+mod settling;
 
 pub use laws::pruning;
+pub use settling::{Pruned, prune};

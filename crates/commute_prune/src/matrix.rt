@@ -68,11 +68,7 @@ fn clear_row(
     Ok(row)
 }
 
-fn clear_rows(
-    alloc: Global,
-    count: usize,
-    all: &[Numbered],
-) -> Result<Seq<Seq<bool>>, NoMemory>
+fn clear_rows(alloc: Global, count: usize, all: &[Numbered]) -> Result<Seq<Seq<bool>>, NoMemory>
     requires { AllByRecursion (IsBelow count) all.now }
     ensures { IfOk result (λ rows. rows ≡ map (λ f. map (is_clear_of f) all.now) all.now) }
 {
@@ -86,10 +82,7 @@ fn clear_rows(
 
 /// For each pair of programs whether what the first changes is clear of what the second looks at. The paths of all are
 /// numbered once, and each pair is compared once.
-pub(crate) fn clear_pairs(
-    alloc: Global,
-    programs: &[Program],
-) -> Result<Seq<Seq<bool>>, NoMemory>
+pub(crate) fn clear_pairs(alloc: Global, programs: &[Program]) -> Result<Seq<Seq<bool>>, NoMemory>
     ensures { IfOk result (IsMatrix (map program_of programs.now)) }
 {
     let mut numbers = BTreeMap::new(alloc);

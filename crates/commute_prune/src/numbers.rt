@@ -10,11 +10,7 @@ use std::alloc::Global;
 use std::collections::{BTreeMap, BTreeSet};
 
 /// The number of a path, a new one where it has none.
-fn number(
-    alloc: Global,
-    numbers: &mut BTreeMap<Path, usize>,
-    p: &Path,
-) -> Result<usize, NoMemory>
+fn number(alloc: Global, numbers: &mut BTreeMap<Path, usize>, p: &Path) -> Result<usize, NoMemory>
     requires { IsNumbering numbers.old }
     ensures numbering { OnOk result (IsNumbering numbers.new) }
     ensures extends { OnOk result (Extends numbers.old numbers.new) }

@@ -1,4 +1,4 @@
-use Rattle.std.proofs.Common.{◌≡◌, ℕ, ◌++◌, map, sym, ap, ◌∙◌, append-nil}
+use Rattle.std.proofs.Common.{◌++◌, map, sym, ap, ◌∙◌, append-nil}
 use Rattle.std.proofs.lemmas.List.{drop_all}
 use Rattle.commute_prune.specs.Numbers.{has}
 use Rattle.commute_prune.specs.Numbered.{clear_by_marks}

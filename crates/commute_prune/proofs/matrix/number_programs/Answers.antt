@@ -1,4 +1,4 @@
-use Rattle.std.proofs.Common.{◌≡◌, [], ◌∷◌, map, length, length-append, sym, ap, subst, arith}
+use Rattle.std.proofs.Common.{[], ◌∷◌, map, length, length-append, sym, ap, subst, arith}
 use Rattle.fs_lang.specs.Meaning.{program_of}
 use Rattle.commute_prune.specs.Numbered.{StandsFor, AreOf}
 use Rattle.commute_prune.proofs.MatrixLaws.{map_at, one_more_of}

@@ -2,7 +2,6 @@ use Rattle.std.proofs.Common.{◌≡◌, ℕ, List, subst}
 use Rattle.std.specs.BTreeMap.{BTreeMap}
 use Rattle.fs_semantics.specs.FileTree.{Path, is_among}
 use Rattle.effect_sets.specs.Footprints.{Paths}
-use Rattle.effect_sets.specs.Members.{members}
 use Rattle.commute_prune.specs.Numbers.{Extends, AreNumbers}
 use Rattle.commute_prune.proofs.NumberLaws.{still_numbers}
 use Rattle.commute_prune.proofs.numbered.number_sets.Goals as goal

@@ -1,9 +1,9 @@
-use Rattle.std.proofs.Common.{◌≡◌, ℕ, ◌+◌, cond, Some, None, ap, sym, subst, subst₂, ◌∙◌, arith}
+use Rattle.std.proofs.Common.{◌≡◌, ◌+◌, cond, Some, None, ap, sym, subst, subst₂, ◌∙◌}
 use Rattle.std.specs.Prelude.{option_copied, is_some}
 use Rattle.std.specs.BTreeMap.{Updates, btree_map_len}
 use Rattle.fs_semantics.specs.FileTree.{path_cmp}
 use Rattle.commute_prune.specs.Numbers.{number_in}
-use Rattle.commute_prune.proofs.NumberLaws.{numbering_more, extends_more, new_number}
+use Rattle.commute_prune.proofs.NumberLaws.{numbering_more, extends_more}
 use Rattle.commute_prune.proofs.numbers.number.Goals as goal
 
 pub returns-clause-numbering : goal.returns-clause-numbering

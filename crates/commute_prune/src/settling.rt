@@ -1,0 +1,103 @@
+//! Pruning.
+
+ghost use Rattle.std.specs.Prelude.{◌≡◌, ◌<◌, length, map, IfOk, OnOk};
+ghost use Rattle.std.specs.List.{AllByRecursion};
+ghost use Rattle.fs_semantics.specs.Orders.{Told, up_from};
+ghost use Rattle.fs_lang.specs.Meaning.{program_of};
+ghost use Rattle.orders.specs.Relation.{comes};
+ghost use Rattle.commute_prune.specs.Steps.{next_move};
+ghost use Rattle.commute_prune.specs.Pruned.{IsPruned, Stepped, IsStart, IsSettled};
+
+use crate::matrix::clear_pairs;
+use crate::moves::{find_first, find_last, without};
+use fs_lang::Program;
+use orders::Order;
+use rh_base::{NoMemory, Seq};
+use std::alloc::Global;
+
+/// The numbers of the programs that are kept, in increasing order, and in order those that go before and behind them.
+#[derive(Debug, Drop)]
+pub struct Pruned {
+    pub kept: Seq<u32>,
+    pub first: Seq<u32>,
+    pub last: Seq<u32>,
+}
+
+/// What is kept so far, and what went first and last, each in the order in which it went.
+#[derive(Drop)]
+pub(crate) struct Pruning {
+    pub kept: Seq<u32>,
+    pub first: Seq<u32>,
+    pub late: Vec<u32>,
+}
+
+fn up_to(alloc: Global, n: u32) -> Result<Seq<u32>, NoMemory>
+    ensures { IfOk result (λ ks. ks ≡ up_from 0 n) }
+{
+    let mut ks = Seq::new(alloc);
+    for k in 0..n {
+        ks.push(k)?;
+    }
+    Ok(ks)
+}
+
+/// The next move, if there is one.
+fn step(
+    alloc: Global,
+    order: &Order,
+    clear: &[Seq<bool>],
+    p: &mut Pruning,
+) -> Result<bool, NoMemory>
+    requires { AllByRecursion (λ j. j < order.now.count) p.old.kept }
+    ensures { IfOk result (λ more. Stepped (next_move order.now clear.now p.old.kept) p.old p.new more) }
+{
+    if let Some(k) = find_last(order, clear, p.kept.as_slice()) {
+        p.kept = without(alloc, p.kept.as_slice(), k)?;
+        p.late.push(k)?;
+        return Ok(true);
+    }
+    if let Some(k) = find_first(order, clear, p.kept.as_slice()) {
+        p.kept = without(alloc, p.kept.as_slice(), k)?;
+        p.first.push(k)?;
+        return Ok(true);
+    }
+    Ok(false)
+}
+
+/// Moves until there is none any more.
+fn settle(
+    alloc: Global,
+    order: &Order,
+    clear: &[Seq<bool>],
+    p: &mut Pruning,
+) -> Result<(), NoMemory>
+    requires start { IsStart order.now p.old }
+    ensures { OnOk result (IsSettled order.now clear.now p.new) }
+{
+    let mut more = true;
+    while more {
+        more = step(alloc, order, clear, p)?;
+    }
+    Ok(())
+}
+
+/// Sets aside programs of which the order doesn't matter: the least that may go last, as long as there is one, else the
+/// least that may go first.
+pub fn prune(alloc: Global, programs: &[Program], order: &Order) -> Result<Pruned, NoMemory>
+    requires { length programs.now ≡ order.now.count }
+    ensures { IfOk result (IsPruned (map program_of programs.now) (Told (comes order.now))) }
+{
+    let clear = clear_pairs(alloc, programs)?;
+    let mut p = Pruning {
+        kept: up_to(alloc, order.count())?,
+        first: Seq::new(alloc),
+        late: Vec::new(alloc),
+    };
+    settle(alloc, order, clear.as_slice(), &mut p)?;
+    p.late.reverse();
+    Ok(Pruned {
+        kept: p.kept,
+        first: p.first,
+        last: Seq::from_vec(p.late),
+    })
+}
