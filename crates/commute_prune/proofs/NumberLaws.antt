@@ -53,9 +53,6 @@ extends_more m more p n new u q k h = elim (cases_Bool (path_eq p q)) [
 pub extends_same : (m : BTreeMap Path ℕ) → Extends m m
 extends_same m p n h = h
 
-pub new_number : (m more : BTreeMap Path ℕ) (p : Path) (n : ℕ) → Updates path_cmp m more p (Some n) → number_in more p ≡ Some n
-new_number m more p n u = at m more p n u p ∙ ap (λ b. cond b (Some n) (number_in m p)) (path_eq_refl p)
-
 -- numbers of a set are its numbers still when more are given
 pub still_numbers : (m more : BTreeMap Path ℕ) (f : Paths) (ns : List ℕ) → Extends m more → AreNumbers m f ns → AreNumbers more f ns
 still_numbers m more f ns x a = record {
