@@ -9,3 +9,4 @@ pub mod EntryLaws
 pub mod TextLaws
 pub mod NameLaws
 pub mod EntryOrder
+pub mod NameTold

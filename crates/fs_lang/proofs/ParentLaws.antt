@@ -1,10 +1,7 @@
 -- Fronts of paths, and their texts.
-use Rattle.std.proofs.Common.{◌≡◌, ℕ, zero, suc, ◌-◌, List, [], ◌∷◌, ◌++◌, length, take, refl, sym, ap, ◌∙◌, arith, append_assoc}
-use Rattle.std.specs.Prelude.{codes}
-use Rattle.std.proofs.lemmas.List.{append-nil}
+use Rattle.std.proofs.Common.{◌≡◌, ℕ, zero, suc, ◌-◌, List, [], ◌∷◌, ◌++◌, length, take, refl, ap, ◌∙◌, arith}
 use Rattle.std.specs.List.{AllByRecursion}
 use Rattle.fs_semantics.specs.FileTree.{Path, IsSegment, parent}
-use Rattle.fs_lang.specs.PathText.{spelled}
 
 front_is : (s : List ℕ) (p : Path) → take (length p) (s ∷ p) ≡ parent (s ∷ p)
 front_is s [] = refl

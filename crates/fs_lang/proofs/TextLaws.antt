@@ -1,13 +1,12 @@
 -- The texts of paths as they are written.
-use Rattle.std.proofs.Common.{◌≡◌, ◌≢◌, ℕ, ◌≤◌, List, [], ◌∷◌, ◌++◌, length, Option, Some, refl, sym, ap, subst, ◌∙◌, append_assoc}
-use Rattle.std.proofs.lemmas.List.{append-nil}
+use Rattle.std.proofs.Common.{◌≡◌, ◌≢◌, ℕ, ◌≤◌, List, [], ◌∷◌, ◌++◌, length, Option, Some, refl, sym, ap, ◌∙◌, append_assoc}
 use Rattle.std.specs.List.{AllByRecursion}
 use Rattle.std.specs.Prelude.{codes}
 use Rattle.rh_base.specs.declared.limits.TheConstants.{PATH_BYTES, PATH_SEGMENTS}
 use Rattle.fs_semantics.specs.FileTree.{Path, IsSegment, parent}
 use Rattle.fs_semantics.proofs.Trees.{parent_and_last}
-use Rattle.fs_lang.specs.PathText.{AreSlashes, Segments, IsPathText, spelled, path_text}
-use Rattle.fs_lang.specs.Reading.{pieces, segments_of, path_in}
+use Rattle.fs_lang.specs.PathText.{Segments, IsPathText, spelled, path_text}
+use Rattle.fs_lang.specs.Reading.{pieces, segments_of}
 use Rattle.fs_lang.proofs.PathLaws.{segments_again, path_again}
 
 spelled_is : (p : Path) → Segments p (spelled p)

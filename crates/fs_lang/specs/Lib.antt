@@ -6,3 +6,4 @@ pub mod Sizes
 pub mod Trees
 pub mod Outcomes
 pub mod Names
+pub mod Managed

@@ -12,7 +12,7 @@ mod reading;
 mod tree;
 
 pub use fronts::are_disjoint;
-pub use laws::path_texts;
+pub use laws::{path_texts, segments_of_names};
 pub use names::segment;
 pub use path::{Path, PathFault};
 pub use program::{Entry, Program, Test};

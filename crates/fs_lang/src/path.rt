@@ -74,6 +74,7 @@ impl Path {
     ghost use Rattle.fs_semantics.specs.FileTree.{Path as Segments, IsSegment, parent};
     ghost use Rattle.fs_semantics.specs.Disjoint.{IsAncestor};
     ghost use Rattle.fs_lang.specs.PathText.{IsPathText, IfBad, spelled, path_text};
+    ghost use Rattle.fs_lang.specs.Managed.{IsReserved, MayBeManaged};
 
     /// The path that a text spells.
     #[tactic(auto, using(crate::proofs::PathLaws::path_again))]
@@ -166,5 +167,24 @@ impl Path {
         ensures { IsTrue result ↔ IsAncestor self.now other.now }
     {
         is_proper_front(self.segments(), other.segments())
+    }
+
+    /// Whether the path is at or under the folder of the program's own marks.
+    pub fn is_reserved(&self) -> bool
+        ensures { IsTrue result ↔ IsReserved self.now }
+    {
+        match self.segments().first() {
+            None => false,
+            Some(first) => first.as_str() == ".rehearsal",
+        }
+    }
+
+    /// Whether a resource may manage what stands at the path.
+    pub fn may_be_managed(&self) -> bool
+        ensures { IsTrue result ↔ MayBeManaged self.now }
+    {
+        let is_root = self.segments().is_empty();
+        let reserved = self.is_reserved();
+        !is_root && !reserved
     }
 }

@@ -1,6 +1,6 @@
-//! Names as segments.
+//! Names as segments, and paths that may be managed.
 
-use fs_lang::{PathFault, segment};
+use fs_lang::{Path, PathFault, segment};
 use std::test::Fail;
 
 #[test]
@@ -37,5 +37,23 @@ fn limits_of_names(rt: HostRuntime) -> Result<(), Fail> {
     assert_eq!(rt; found.as_str().len(), 765);
     name.push('/')?;
     assert_eq!(rt; segment(alloc, name.as_str()).err(), Some(PathFault::Bad));
+    Ok(())
+}
+
+#[test]
+fn paths_that_may_be_managed(rt: HostRuntime) -> Result<(), Fail> {
+    let alloc = rt.alloc();
+    for (text, reserved, managed) in [
+        ("/", false, false),
+        ("/etc/motd", false, true),
+        ("/.rehearsal", true, false),
+        ("//.rehearsal/package/p", true, false),
+        ("/.rehearsals", false, true),
+        ("/etc/.rehearsal", false, true),
+    ] {
+        let path = Path::read(alloc, text).ok().ok_or("a path")?;
+        assert_eq!(rt; path.is_reserved(), reserved, "{text}");
+        assert_eq!(rt; path.may_be_managed(), managed, "{text}");
+    }
     Ok(())
 }

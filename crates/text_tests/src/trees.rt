@@ -1,6 +1,6 @@
 //! Trees from texts, and as they are written.
 
-use fs_lang::{Entry, Path, Tree};
+use fs_lang::Tree;
 use rh_base::{Fault, Refusal};
 use std::alloc::Global;
 use std::process::Abort;
@@ -139,26 +139,28 @@ fn limits_of_paths(rt: HostRuntime) -> Result<(), Fail> {
     Ok(())
 }
 
-/// A tree of nested folders, as many as are asked for.
-fn nested(rt: &impl Abort, alloc: Global, depth: usize) -> Tree {
-    let mut tree = Tree::empty(alloc).ok().expect(rt, "memory");
-    let mut path = Path::root(alloc).ok().expect(rt, "memory");
+/// The text of a tree of nested folders, as many as are asked for.
+fn nested(alloc: Global, depth: usize) -> Result<String, Fail> {
+    let mut text = String::from_str(alloc, "{")?;
+    let mut path = String::new(alloc);
     for _ in 0..depth {
-        path = path.child(alloc, "s").ok().expect(rt, "a path");
-        let copy = path.copy(alloc).ok().expect(rt, "memory");
-        tree.add(copy, Entry::Folder).ok().expect(rt, "memory");
+        path.push_str("/s")?;
+        text.push_str(if text.len() == 1 { "\"" } else { ",\"" })?;
+        text.push_str(path.as_str())?;
+        text.push_str("\":null")?;
     }
-    tree
+    text.push('}')?;
+    Ok(text)
 }
 
 #[test]
 fn deep_trees(rt: HostRuntime) -> Result<(), Fail> {
     let alloc = rt.alloc();
-    let deepest = written(&rt, alloc, &nested(&rt, alloc, 32));
-    let found = answer(&rt, alloc, deepest.as_slice());
-    assert_eq!(rt; found.as_slice(), deepest.as_slice());
-    let deeper = written(&rt, alloc, &nested(&rt, alloc, 33));
-    let found = answer(&rt, alloc, deeper.as_slice());
+    let deepest = nested(alloc, 32)?;
+    let found = answer(&rt, alloc, deepest.as_bytes());
+    assert_eq!(rt; found.as_slice(), deepest.as_bytes());
+    let deeper = nested(alloc, 33)?;
+    let found = answer(&rt, alloc, deeper.as_bytes());
     assert_eq!(rt; found.as_slice(), b"62 at 0: tree".as_slice());
     Ok(())
 }

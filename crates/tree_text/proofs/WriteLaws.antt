@@ -49,18 +49,14 @@ is_less Less h = refl
 is_less Equal h = absurd h
 is_less Greater h = absurd h
 
-first_part : (a b : Bool) → T (a && b) → T a
-first_part true b h = tt
-first_part false b h = absurd h
-
-second_part : (a b : Bool) → T (a && b) → T b
-second_part true b h = h
-second_part false b h = absurd h
+both : (a b : Bool) → T (a && b) → T a × T b
+both true b h = (tt, h)
+both false b h = absurd h
 
 stands_behind : (k p : Path) (x : Entry) (es : List (Path × Entry)) → T (below_all path_cmp k es) → Stands p x es → path_cmp k p ≡ Less
 stands_behind k p x [] h s = absurd s
-stands_behind k p x (e ∷ es) h (inl two) = ap (path_cmp k) two.0 ∙ is_less (path_cmp k e.0) (first_part (is_lt (path_cmp k e.0)) (below_all path_cmp k es) h)
-stands_behind k p x (e ∷ es) h (inr s) = stands_behind k p x es (second_part (is_lt (path_cmp k e.0)) (below_all path_cmp k es) h) s
+stands_behind k p x (e ∷ es) h (inl two) = ap (path_cmp k) two.0 ∙ is_less (path_cmp k e.0) (both (is_lt (path_cmp k e.0)) (below_all path_cmp k es) h).0
+stands_behind k p x (e ∷ es) h (inr s) = stands_behind k p x es (both (is_lt (path_cmp k e.0)) (below_all path_cmp k es) h).1 s
 
 not_less : (k p : Path) → path_cmp k p ≡ Less → p ≢ k
 not_less k p h e = let clash : ◌≡◌ {A = Ordering} Equal Less = sym (tied_itself path_total k) ∙ ap (path_cmp k) (sym e) ∙ h in cc
@@ -87,8 +83,8 @@ has_only_all (e ∷ es) ms q c h = elim (has_only_all es (put (path_text e.0) (e
 distinct : SameText → (k : Path) (es : List (Path × Entry)) → AllByRecursion IsSegment k → AllByRecursion (λ e. AllByRecursion IsSegment e.0) es → T (below_all path_cmp k es) → AllByRecursion (λ e. path_text k ≢ path_text e.0) es
 distinct same k [] pk pes h = tt
 distinct same k (e ∷ es) pk pes h = (
-  (λ t. not_less k e.0 (is_less (path_cmp k e.0) (first_part (is_lt (path_cmp k e.0)) (below_all path_cmp k es) h)) (sym (same k e.0 pk pes.0 t))),
-  distinct same k es pk pes.1 (second_part (is_lt (path_cmp k e.0)) (below_all path_cmp k es) h),
+  (λ t. not_less k e.0 (is_less (path_cmp k e.0) (both (is_lt (path_cmp k e.0)) (below_all path_cmp k es) h).0) (sym (same k e.0 pk pes.0 t))),
+  distinct same k es pk pes.1 (both (is_lt (path_cmp k e.0)) (below_all path_cmp k es) h).1,
 )
 
 has_all : SameText → (es : List (Path × Entry)) (ms : Members) → T (is_sorted path_cmp es) → AllByRecursion (λ e. AllByRecursion IsSegment e.0) es
@@ -96,11 +92,11 @@ has_all : SameText → (es : List (Path × Entry)) (ms : Members) → T (is_sort
 has_all same [] ms s proper p x h = absurd h
 has_all same (e ∷ es) ms s proper p x (inl two) =
     let here = has_kept_all es (put (path_text e.0) (entry_data e.1) ms) (path_text e.0) (entry_data e.1)
-    (distinct same e.0 es proper.0 proper.1 (first_part (below_all path_cmp e.0 es) (is_sorted path_cmp es) s)) (has_put (path_text e.0) (entry_data e.1) ms) in
+    (distinct same e.0 es proper.0 proper.1 (both (below_all path_cmp e.0 es) (is_sorted path_cmp es) s).0) (has_put (path_text e.0) (entry_data e.1) ms) in
     subst (λ r. HasMember (path_text r) (entry_data x) (members_with ms (e ∷ es))) (sym two.0)
     (subst (λ y. HasMember (path_text e.0) (entry_data y) (members_with ms (e ∷ es))) (sym two.1) here)
 has_all same (e ∷ es) ms s proper p x (inr h) =
-    has_all same es (put (path_text e.0) (entry_data e.1) ms) (second_part (below_all path_cmp e.0 es) (is_sorted path_cmp es) s) proper.1 p x h
+    has_all same es (put (path_text e.0) (entry_data e.1) ms) (both (below_all path_cmp e.0 es) (is_sorted path_cmp es) s).1 proper.1 p x h
 
 -- ---- the entries of a tree
 
@@ -111,9 +107,9 @@ found_of : SamePath → (p : Path) (x : Entry) (es : List (Path × Entry)) → T
 found_of same p x [] s h = absurd h
 found_of same p x (e ∷ es) s (inl two) = ap (λ b. cond b (Some e.1) (find path_cmp p es)) ((same p e.0).1 two.0) ∙ ap (λ y. Some y) (sym two.1)
 found_of same p x (e ∷ es) s (inr h) =
-    let behind = stands_behind e.0 p x es (first_part (below_all path_cmp e.0 es) (is_sorted path_cmp es) s) h in
+    let behind = stands_behind e.0 p x es (both (below_all path_cmp e.0 es) (is_sorted path_cmp es) s).0 h in
     ap (λ b. cond b (Some e.1) (find path_cmp p es)) (other (path_eq p e.0) refl (not_less e.0 p behind))
-    ∙ found_of same p x es (second_part (below_all path_cmp e.0 es) (is_sorted path_cmp es) s) h
+    ∙ found_of same p x es (both (below_all path_cmp e.0 es) (is_sorted path_cmp es) s).1 h
   where
     other : (b : Bool) → path_eq p e.0 ≡ b → p ≢ e.0 → b ≡ false
     other true i n = absurd (n ((same p e.0).0 i))

@@ -1,7 +1,6 @@
 use Rattle.std.proofs.Common.{rules}
 use Rattle.fs_lang.proofs.NameLaws.{next_replaced}
-use Rattle.fs_lang.specs.Names.{replaced}
-use Rattle.std.proofs.Common.{◌≡◌, ◌++◌, ap, sym, ◌∙◌}
+use Rattle.std.proofs.Common.{◌++◌, ap, ◌∙◌}
 use Rattle.fs_lang.proofs.names.replaced.Goals as goal
 
 pub loop-front-preserved : goal.loop-front-preserved
