@@ -9,3 +9,4 @@ mod showing;
 mod sizes;
 
 pub use catalog::Catalog;
+pub use listed::filled;

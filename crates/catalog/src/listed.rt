@@ -93,7 +93,7 @@ fn put_lacking(alloc: Global, attributes: &mut Pairs, pair: &(Text, Value)) -> R
 
 /// The attributes, and behind them those pairs whose names they haven't got.
 #[tactic(auto, using(crate::proofs::Filling::filled_is))]
-fn filled(alloc: Global, attributes: &Pairs, pairs: &Pairs) -> Result<Pairs, NoMemory>
+pub fn filled(alloc: Global, attributes: &Pairs, pairs: &Pairs) -> Result<Pairs, NoMemory>
     ensures { IfOk result (λ more. more ≡ attributes.now ++ filter (lacks attributes.now) pairs.now) }
 {
     let mut whole = copy_pairs(alloc, attributes)?;
