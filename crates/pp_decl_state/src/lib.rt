@@ -2,7 +2,9 @@
 #![tactic(auto)]
 
 mod adding;
+mod bodies;
 mod defaults;
+mod rounds;
 mod state;
 
 pub use state::State;

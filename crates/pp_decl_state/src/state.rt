@@ -17,16 +17,16 @@ use std::marker::Model;
 /// What stands between two statements.
 #[derive(Drop)]
 pub struct State {
-    running: Option<u32>,
-    main_has_ended: bool,
-    scopes: Scopes,
-    defaults: Seq<Default>,
-    catalog: Catalog,
-    ran: Seq<u32>,
-    ties: Seq<Tie>,
-    collectors: Seq<Collector>,
-    pending: Seq<Pending>,
-    alloc: Global,
+    pub(crate) running: Option<u32>,
+    pub(crate) main_has_ended: bool,
+    pub(crate) scopes: Scopes,
+    pub(crate) defaults: Seq<Default>,
+    pub(crate) catalog: Catalog,
+    pub(crate) ran: Seq<u32>,
+    pub(crate) ties: Seq<Tie>,
+    pub(crate) collectors: Seq<Collector>,
+    pub(crate) pending: Seq<Pending>,
+    pub(crate) alloc: Global,
 }
 
 impl Model for State {
