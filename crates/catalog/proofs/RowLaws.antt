@@ -32,9 +32,6 @@ held_rows rows holdings h are within j = pick (eqb_tells h.outer j) ∙ sym (hel
         get_or-set_other rows h.outer j (with_class h.class (get_or rows h.outer [])) [] (λ e. x.1 (sym e))
         ∙ (are j ∙ sym (ap (λ t. cond t (with_class h.class (classes_in j holdings)) (classes_in j holdings)) x.0))
 
-pub grown_rows : (rows : List (List ℕ)) (holdings : List Holding) → AreRows rows holdings → AreRows (rows ++ [] ∷ []) holdings
-grown_rows rows holdings are j = empty_last rows j ∙ are j
-
 pub held_after_push : (h : Holding) (rows new : List (List ℕ)) (holdings more : List Holding) → AreRows rows holdings → h.outer < length rows
     → new ≡ slice_set rows h.outer (with_class h.class (get_or rows h.outer [])) → more ≡ holdings ++ h ∷ [] → AreRows new more
 held_after_push h rows new holdings more are within e k =

@@ -1,2 +1,1 @@
 pub mod DefaultLaws
-pub mod AddingLaws

@@ -1,5 +1,5 @@
 -- Names that stand, and attributes behind them.
-use Rattle.std.proofs.Common.{◌≡◌, ℕ, suc, ◌+◌, ◌<◌, length, get_or, drop, drop-cons, add-one, Bool, true, false, cond, ◌||◌, List, [], ◌∷◌, ◌++◌, refl, sym, ap, ◌∙◌, subst, append_assoc, append-nil}
+use Rattle.std.proofs.Common.{◌≡◌, ℕ, suc, ◌+◌, ◌<◌, length, get_or, drop, drop-cons, add-one, Bool, true, false, cond, ◌||◌, List, [], ◌∷◌, ◌++◌, refl, sym, ap, ◌∙◌, subst, append_assoc}
 use Rattle.std.specs.Prelude.{is_some, Option, Some, None, Result, Ok, Err, OnOk}
 use Rattle.std.specs.Str.{bytes_eq}
 use Rattle.std.specs.Cmp.Lexicographic.{nat_list_eq_equiv}
@@ -90,13 +90,6 @@ next_given : (before new : List Pair) (t r : Result (List Pair) Refusal) → giv
 next_given before new (Ok here) (Ok more) h = ap (λ (xs : List Pair). Ok xs) (sym (append_assoc before here more) ∙ ap (λ (xs : List Pair). xs ++ more) (given_same (before ++ here) new h))
 next_given before new (Ok here) (Err e) h = refl
 next_given before new (Err e) r h = cc
-
-pub none_given : (r : Result (List Pair) Refusal) → given_behind [] r ≡ r
-none_given (Ok xs) = refl
-none_given (Err e) = refl
-
-pub given_end : (before : List Pair) → given_behind before (Ok []) ≡ Ok before
-given_end before = ap (λ (xs : List Pair). Ok xs) (append-nil before)
 
 module _ (s : Scoped) (names : List (List ℕ × Bool)) (given : List Pair) (a : Attr) (attrs : List Attr) where
   -- the value is refused

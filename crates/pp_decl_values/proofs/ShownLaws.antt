@@ -1,5 +1,5 @@
 -- Arguments as texts.
-use Rattle.std.proofs.Common.{◌≡◌, ℕ, Bool, true, false, cond, ◌||◌, List, [], ◌∷◌, ◌++◌, refl, sym, ap, ◌∙◌, subst, append_assoc, append-nil}
+use Rattle.std.proofs.Common.{◌≡◌, ℕ, Bool, true, false, cond, ◌||◌, List, [], ◌∷◌, ◌++◌, refl, sym, ap, ◌∙◌, subst, append_assoc}
 use Rattle.std.specs.Prelude.{codes, Some, None, Result, Ok, Err}
 use Rattle.rh_base.specs.declared.fault.Refusal.{Refusal}
 use Rattle.pp_value.specs.declared.value.Value.{Value}
@@ -36,13 +36,6 @@ texts_behind before r = r >>= λ more. Ok (before ++ more)
 pub next_shown : (before : List (List ℕ)) (text : List ℕ) (r : Result (List (List ℕ)) Refusal) → texts_behind before (r >>= λ texts. Ok (text ∷ texts)) ≡ texts_behind (before ++ text ∷ []) r
 next_shown before text (Ok texts) = ap (λ (xs : List (List ℕ)). Ok xs) (sym (append_assoc before (text ∷ []) texts))
 next_shown before text (Err e) = refl
-
-pub texts_end : (before : List (List ℕ)) → texts_behind before (Ok []) ≡ Ok before
-texts_end before = ap (λ (xs : List (List ℕ)). Ok xs) (append-nil before)
-
-pub no_texts : (r : Result (List (List ℕ)) Refusal) → texts_behind [] r ≡ r
-no_texts (Ok xs) = refl
-no_texts (Err e) = refl
 
 -- a text, and others behind it, each behind a space
 abbrev pub spaced_behind : List ℕ → List (List ℕ) → List ℕ

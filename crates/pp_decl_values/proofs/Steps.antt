@@ -1,5 +1,5 @@
 -- One step from the left, over plain lists.
-use Rattle.std.proofs.Common.{◌≡◌, ℕ, List, [], ◌∷◌, ◌++◌, refl, sym, ap, ◌∙◌, append_assoc, append-nil}
+use Rattle.std.proofs.Common.{◌≡◌, ℕ, List, [], ◌∷◌, ◌++◌, refl, sym, ap, ◌∙◌, append_assoc}
 use Rattle.std.specs.Prelude.{Option, Some, None, option_map, option_and_then, Result, Ok, Err}
 use Rattle.rh_base.specs.declared.fault.Refusal.{Refusal}
 use Rattle.pp_value.specs.declared.value.Ref.{Ref}
@@ -24,9 +24,6 @@ next_references before new (Some first) None h = refl
 next_references before new (Some first) (Some more) h =
     ap (λ (xs : List Ref). Some xs) (sym (append_assoc before first more) ∙ ap (λ (xs : List Ref). xs ++ more) (some_same (before ++ first) new h))
 
-pub nothing_else : {X : Type 0} (before : List X) → found_behind before (Some []) ≡ Some before
-nothing_else before = ap (λ (xs : List _). Some xs) (append-nil before)
-
 ok_same : (x y : List Ref) → ◌≡◌ {A = Result (List Ref) Refusal} (Ok x) (Ok y) → x ≡ y
 ok_same x y h = cc
 
@@ -35,10 +32,3 @@ pub next_refs : (before new : List Ref) (t r : Result (List Ref) Refusal) → re
 next_refs before new (Ok here) (Ok more) h = ap (λ (xs : List Ref). Ok xs) (sym (append_assoc before here more) ∙ ap (λ (xs : List Ref). xs ++ more) (ok_same (before ++ here) new h))
 next_refs before new (Ok here) (Err e) h = refl
 next_refs before new (Err e) r h = cc
-
-pub no_refs : (r : Result (List Ref) Refusal) → refs_behind [] r ≡ r
-no_refs (Ok xs) = refl
-no_refs (Err e) = refl
-
-pub refs_end : (before : List Ref) → refs_behind before (Ok []) ≡ Ok before
-refs_end before = ap (λ (xs : List Ref). Ok xs) (append-nil before)
