@@ -1,1 +1,2 @@
 pub mod Defaulting
+pub mod Filling

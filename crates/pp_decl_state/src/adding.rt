@@ -10,7 +10,7 @@ use catalog_semantics::{Default, Resource, Sort};
 use rh_base::NoMemory;
 use std::alloc::Global;
 
-fn is_class(r: &Resource) -> bool
+pub fn is_class(r: &Resource) -> bool
     ensures { result ≡ is_class r.now }
 {
     r.sort == Sort::Class

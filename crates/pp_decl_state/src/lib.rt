@@ -4,6 +4,7 @@
 mod adding;
 mod bodies;
 mod defaults;
+mod filling;
 mod rounds;
 mod state;
 
