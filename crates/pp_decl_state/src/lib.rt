@@ -5,6 +5,7 @@ mod adding;
 mod bodies;
 mod defaults;
 mod filling;
+mod functions;
 mod rounds;
 mod state;
 
