@@ -1,0 +1,5 @@
+use Rattle.catalog.proofs.SizeLaws.{set_is}
+use Rattle.catalog.proofs.listed.set_attributes.Goals as goal
+
+pub returns : goal.returns
+returns c = set_is (λ r. record r { attrs = c.args.attributes }) c.args.resources.now.items c.args.place _ c.index_mut-r.result.now c.index_mut-r.ensures.value c.requires

@@ -1,0 +1,12 @@
+//! The catalog: resources, holdings and relations.
+#![tactic(auto)]
+
+mod catalog;
+mod held;
+mod listed;
+mod refs;
+mod showing;
+mod sizes;
+
+pub use catalog::Catalog;
+pub use listed::filled;

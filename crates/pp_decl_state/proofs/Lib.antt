@@ -1,0 +1,2 @@
+pub mod DefaultLaws
+pub mod FillingLaws

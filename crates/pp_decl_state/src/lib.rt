@@ -1,0 +1,12 @@
+//! The state between two statements, and the single changes of it.
+#![tactic(auto)]
+
+mod adding;
+mod bodies;
+mod defaults;
+mod filling;
+mod functions;
+mod rounds;
+mod state;
+
+pub use state::State;

@@ -1,0 +1,154 @@
+//! The state between two statements.
+
+ghost use Rattle.std.specs.Prelude.{◌≡◌, ◌∷◌, ◌++◌, [], length, IfOk, OnOk};
+ghost use Rattle.pp_eval.specs.Verdicts.{AnswersBy};
+ghost use Rattle.catalog_semantics.specs.States.{added, bound, place_of, held, tied, collected, wanted};
+ghost use Rattle.catalog_semantics.specs.Catalogs.{first_state};
+
+use crate::adding::as_added;
+use catalog::Catalog;
+use catalog_semantics::{Collector, Default, Pending, Resource, Tie};
+use pp_eval::Scopes;
+use pp_value::{Ref, Value};
+use rh_base::{Fault, NoMemory, Seq};
+use std::alloc::Global;
+use std::marker::Model;
+
+/// What stands between two statements.
+#[derive(Drop)]
+pub struct State {
+    pub(crate) running: Option<u32>,
+    pub(crate) main_has_ended: bool,
+    pub(crate) scopes: Scopes,
+    pub(crate) defaults: Seq<Default>,
+    pub(crate) catalog: Catalog,
+    pub(crate) ran: Seq<u32>,
+    pub(crate) ties: Seq<Tie>,
+    pub(crate) collectors: Seq<Collector>,
+    pub(crate) pending: Seq<Pending>,
+    pub(crate) alloc: Global,
+}
+
+impl Model for State {
+    ghost use Rattle.std.specs.Coded.{codes};
+    ghost use Rattle.std.specs.Prelude.{◌≡◌, []};
+    ghost use Rattle.pp_value.specs.contracts.value.Value as value;
+    ghost use Rattle.catalog_semantics.specs.contracts.state.Wish as wish;
+    ghost use Rattle.catalog_semantics.specs.declared.state.State.{State as Record};
+    ghost use Rattle.pp_decl_state.specs.Defaulting.{AreApart};
+
+    ghost Value = { Record };
+
+    ghost coded = { Prim.hlevel (codes, value.the_row.coded, wish.the_row.coded) };
+
+    ghost view = { λ s. record { running = s.running; main_has_ended = s.main_has_ended; scopes = s.scopes; defaults = s.defaults; resources = s.catalog.resources; ran = s.ran; holdings = s.catalog.holdings; ties = s.ties; collectors = s.collectors; pending = s.pending } };
+
+    ghost invariant = { λ s. (s.catalog.relations ≡ []) × AreApart s.defaults };
+}
+
+impl State {
+    /// The state before any statement, with the facts at the top.
+    pub fn new(alloc: Global, facts: &Value) -> Result<State, NoMemory>
+        ensures { IfOk result (λ s. s ≡ first_state facts.now) }
+    {
+        let scopes = Scopes::new(alloc, facts)?;
+        Ok(State {
+            running: None,
+            main_has_ended: false,
+            scopes,
+            defaults: Seq::new(alloc),
+            catalog: Catalog::new(alloc),
+            ran: Seq::new(alloc),
+            ties: Seq::new(alloc),
+            collectors: Seq::new(alloc),
+            pending: Seq::new(alloc),
+            alloc,
+        })
+    }
+
+    pub fn scopes(&self) -> &Scopes
+        ensures { result.now ≡ self.now.scopes }
+    {
+        &self.scopes
+    }
+
+    /// The place of the class or defined resource whose body runs.
+    pub fn running(&self) -> Option<u32>
+        ensures { result ≡ self.now.running }
+    {
+        self.running
+    }
+
+    /// Binds a name, which stands at a place, in the current scope.
+    pub fn bind(&mut self, at: u32, name: &str, value: Value) -> Result<(), Fault>
+        ensures { AnswersBy (λ done. self.new) (bound at name.now value self.old) result }
+    {
+        self.scopes.bind_or_refuse(at, name, value)
+    }
+
+    /// Adds a resource.
+    pub fn add(&mut self, r: Resource) -> Result<(), Fault>
+        ensures { AnswersBy (λ done. self.new) (added r self.old) result }
+    {
+        let r = as_added(self.alloc, self.main_has_ended, self.defaults.as_slice(), r)?;
+        self.catalog.add(r)?;
+        Ok(())
+    }
+
+    /// The place of a reference, found by its hash.
+    pub fn place_of(&self, r: &Ref) -> Option<u32>
+        ensures { result ≡ place_of r.now self.now.resources }
+    {
+        self.catalog.find(r)
+    }
+
+    pub fn count(&self) -> u32
+        ensures { result ≡ length self.now.resources }
+    {
+        self.catalog.count()
+    }
+
+    /// Puts a class into a container.
+    pub fn hold(&mut self, outer: u32, class: u32) -> Result<(), NoMemory>
+        ensures { OnOk result (self.new ≡ held outer class self.old) }
+    {
+        self.catalog.hold(outer, class)
+    }
+
+    pub fn tie(&mut self, tie: Tie) -> Result<(), NoMemory>
+        ensures { OnOk result (self.new ≡ tied (tie ∷ []) self.old) }
+    {
+        self.ties.push(tie)
+    }
+
+    pub fn collect(&mut self, c: Collector) -> Result<(), NoMemory>
+        ensures { OnOk result (self.new ≡ collected c self.old) }
+    {
+        self.collectors.push(c)
+    }
+
+    /// Notes a reference that is to be realized.
+    pub fn want(&mut self, p: Pending) -> Result<(), NoMemory>
+        ensures { OnOk result (self.new ≡ wanted (p ∷ []) self.old) }
+    {
+        self.pending.push(p)
+    }
+
+    pub fn collectors(&self) -> &Seq<Collector>
+        ensures { result.now ≡ self.now.collectors }
+    {
+        &self.collectors
+    }
+
+    pub fn pending(&self) -> &Seq<Pending>
+        ensures { result.now ≡ self.now.pending }
+    {
+        &self.pending
+    }
+
+    pub fn ties(&self) -> &Seq<Tie>
+        ensures { result.now ≡ self.now.ties }
+    {
+        &self.ties
+    }
+}
