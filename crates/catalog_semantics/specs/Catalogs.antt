@@ -2,6 +2,7 @@
 use Rattle.std.specs.Prelude.{◌≡◌, ℕ, suc, zero, ◌+◌, Bool, true, false, ◌||◌, ◌&&◌, ◌==◌, not, nat_lt, if◌then◌else◌, List, [], ◌∷◌, ◌++◌}
 use Rattle.std.specs.Prelude.{map, filter, length, slice_get, codes, Option, Some, None, Result, Ok, Err}
 use Rattle.std.specs.List.{list_any}
+use Rattle.rh_base.specs.declared.limits.TheConstants.{RESOURCES}
 use Rattle.rh_base.specs.declared.fault.Refusal.{Refusal}
 use Rattle.pp_syntax.specs.declared.tree.Attr.{Attr}
 use Rattle.pp_syntax.specs.declared.tree.Item.{Item}
@@ -165,7 +166,7 @@ all_there (p ∷ pending) s = if is_declared p.target s then all_there pending s
 
 -- the greatest number of real resources of built-in types
 abbrev pub resource_limit : ℕ
-resource_limit = 256
+resource_limit = RESOURCES
 
 abbrev pub is_plain_sort : Sort → Bool
 is_plain_sort sort.Plain = true

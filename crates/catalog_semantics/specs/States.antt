@@ -3,6 +3,7 @@ use Rattle.std.specs.Prelude.{ℕ, ◌+◌, Bool, true, false, nat_lt, if◌then
 use Rattle.std.specs.Prelude.{Option, Some, None, Result, Ok, Err}
 use Rattle.std.specs.List.{list_any}
 use Rattle.std.specs.Str.{bytes_eq}
+use Rattle.rh_base.specs.declared.limits.TheConstants.{DECLARED, ATTRIBUTES_SIZE}
 use Rattle.rh_base.specs.declared.fault.Refusal.{Refusal}
 use Rattle.pp_value.specs.declared.value.Ref.{Ref}
 use Rattle.pp_value.specs.declared.value.Value.{Value}
@@ -63,11 +64,11 @@ place_of ref resources = place_from 0 ref (references_of resources)
 
 -- the greatest number of declared resources and classes, virtual ones too
 abbrev pub declared_limit : ℕ
-declared_limit = 4096
+declared_limit = DECLARED
 
 -- the greatest sum of the sizes of all attribute values
 abbrev pub attributes_limit : ℕ
-attributes_limit = 16777216
+attributes_limit = ATTRIBUTES_SIZE
 
 abbrev pub size_of_attributes : List Pair → ℕ
 size_of_attributes [] = 0

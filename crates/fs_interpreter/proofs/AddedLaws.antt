@@ -1,12 +1,10 @@
 -- A path or a content more in how a table is kept.
-use Rattle.std.proofs.Common.{◌≡◌, ◌≢◌, ◌⊎◌, inl, inr, ℕ, zero, suc, ◌+◌, ◌<◌, Bool, true, false, cond, List, [], ◌∷◌, ◌++◌, length, map, slice_get, Option, Some, None, refl, sym, ap, subst, ◌∙◌, arith}
+use Rattle.std.proofs.Common.{◌≡◌, ◌≢◌, ◌⊎◌, inl, inr, ℕ, zero, suc, ◌<◌, Bool, true, false, cond, List, [], ◌∷◌, ◌++◌, length, map, slice_get, Option, Some, None, refl, sym, ap, subst, ◌∙◌, arith}
 use Rattle.std.specs.Prelude.{IfSome}
-use Rattle.std.specs.Ordering.{nat_cmp, is_eq}
-use Rattle.std.specs.Cmp.Lexicographic.{slice_cmp}
 use Rattle.std.proofs.lemmas.Option.{slice_get_within}
 use Rattle.fs_semantics.specs.FileTree.{Path, path_eq, parent}
-use Rattle.fs_semantics.proofs.Trees.{path_eq_same, path_eq_refl, path_eq_other, parent_differs}
-use Rattle.fs_interpreter.specs.Places.{Listed, IsTable, HasPath, one_further, place_in, content_place, children_from, children_in}
+use Rattle.fs_semantics.proofs.Trees.{path_eq_refl, path_eq_other, parent_differs}
+use Rattle.fs_interpreter.specs.Places.{Listed, IsTable, HasPath, place_in, content_place, children_in}
 use Rattle.fs_interpreter.specs.Growth.{Seen, linked, linked_top}
 use Rattle.fs_interpreter.proofs.SearchLaws.{place_below, place_there, place_found, place_nowhere, no_children, content_there, content_found}
 use Rattle.fs_interpreter.proofs.KeptLists.{KeptLists, Was, get_cases, get_front, place_front, place_last, children_last, linked_paths, linked_was, paths_append}

@@ -1,5 +1,5 @@
 -- What a table with a path or a content more has.
-use Rattle.std.proofs.Common.{◌≡◌, ◌⊎◌, inl, inr, ℕ, List, [], ◌∷◌, ◌++◌, length, slice_get, Option, Some, None, refl, sym, ap, ◌∙◌}
+use Rattle.std.proofs.Common.{◌≡◌, ◌⊎◌, inl, inr, ℕ, List, [], ◌∷◌, length, slice_get, Option, Some, None, refl}
 use Rattle.fs_semantics.specs.FileTree.{Path}
 use Rattle.fs_interpreter.specs.Places.{Listed, HasPath, HasContent, Keeps, place_in, content_place, or_added, with_path, with_content}
 use Rattle.fs_interpreter.proofs.SearchLaws.{place_there, content_there}

@@ -3,7 +3,7 @@ use Rattle.std.proofs.Common.{◌≡◌, ℕ, zero, suc, ◌+◌, ◌<◌, ◌==
 use Rattle.std.specs.Prelude.{◌||◌}
 use Rattle.std.specs.List.{AllByRecursion}
 use Rattle.fs_interpreter.specs.Meanings.{Valuation, Meanings, Grows, grows_same}
-use Rattle.fs_interpreter.specs.States.{Cell, State, AreCells, cell_at, state_of}
+use Rattle.fs_interpreter.specs.States.{Cell, State, AreCells}
 use Rattle.fs_interpreter.specs.Places.{has}
 use Rattle.fs_interpreter.specs.Steps.{Cellwise, with_cell}
 use Rattle.fs_interpreter.specs.Changed.{IsPut, IsOne, Becomes, one_told}

@@ -1,8 +1,8 @@
 -- A branch that is tried and undone, and the choice between two.
-use Rattle.std.proofs.Common.{◌≡◌, ℕ, ◌<◌, ◌==◌, Bool, true, false, cond, List, [], ◌∷◌, length, refl, sym, ap, subst, ◌∙◌, if◌then◌else◌}
+use Rattle.std.proofs.Common.{◌≡◌, ℕ, Bool, true, false, List, sym, ap, subst, ◌∙◌, if◌then◌else◌}
 use Rattle.std.specs.Prelude.{Result, Ok, Err, OnOk}
 use Rattle.fs_interpreter.specs.Meanings.{Valuation, Meanings, Grows, IsBit}
-use Rattle.fs_interpreter.specs.States.{Cell, State, AreCells, cell_at, state_of}
+use Rattle.fs_interpreter.specs.States.{State, AreCells, cell_at, state_of}
 use Rattle.fs_interpreter.specs.Places.{has}
 use Rattle.fs_interpreter.specs.Steps.{Cellwise}
 use Rattle.fs_interpreter.specs.Changed.{Becomes}

@@ -1,5 +1,5 @@
 -- What stays as bits grow.
-use Rattle.std.proofs.Common.{◌≡◌, ℕ, zero, suc, Bool, true, false, List, [], ◌∷◌, length, Option, Some, None, refl, sym, ap, ◌∙◌}
+use Rattle.std.proofs.Common.{◌≡◌, ℕ, Bool, true, false, Option, Some, None, refl, ap, ◌∙◌}
 use Rattle.std.specs.Prelude.{not, ◌&&◌, ◌||◌, slice_get, Result, Ok, Err, IfOk, OnOk}
 use Rattle.fs_interpreter.specs.Meanings.{Valuation, Meanings, Grows, IsBit}
 use Rattle.fs_interpreter.specs.States.{Cell, State, AreCells, cell_at, state_of, truth, number}

@@ -1,8 +1,7 @@
 -- A node more, in what is seen of the nodes.
-use Rattle.std.proofs.Common.{◌≡◌, ◌≢◌, ℕ, zero, suc, ◌-◌, ◌<◌, List, [], ◌∷◌, ◌++◌, length, map, take, slice_get, slice_set, Result, Ok, Err, OnErr, Option, Some, None, refl, sym, ap, subst, ◌∙◌, arith}
-use Rattle.fs_semantics.specs.FileTree.{Path}
+use Rattle.std.proofs.Common.{◌≡◌, ℕ, zero, suc, List, [], ◌∷◌, ◌++◌, slice_get, slice_set, Result, Ok, Err, OnErr, Some, sym, ap, ◌∙◌}
 use Rattle.fs_interpreter.specs.declared.table.Node.{Node}
-use Rattle.fs_interpreter.specs.Growth.{Seen, seen, seen_all, with_child, linked}
+use Rattle.fs_interpreter.specs.Growth.{seen, seen_all, with_child}
 
 -- a node in the place of one that is seen as it
 pub set_same : (nodes : List Node) (j : ℕ) (n m : Node) → slice_get nodes j ≡ Some n → seen m ≡ seen n → seen_all (slice_set nodes j m) ≡ seen_all nodes

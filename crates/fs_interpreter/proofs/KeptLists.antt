@@ -1,12 +1,8 @@
 -- How a table is kept, over plain lists, and a path or a content more.
-use Rattle.std.proofs.Common.{◌≡◌, ◌≢◌, ◌⊎◌, inl, inr, ℕ, zero, suc, ◌+◌, ◌<◌, Bool, true, false, cond, List, [], ◌∷◌, ◌++◌, length, map, slice_get, Option, Some, None, refl, sym, ap, subst, ◌∙◌, arith}
-use Rattle.std.specs.Prelude.{IfSome}
-use Rattle.std.proofs.lemmas.Option.{slice_get_within}
+use Rattle.std.proofs.Common.{◌≡◌, ◌≢◌, ◌⊎◌, inl, inr, ℕ, zero, suc, ◌+◌, Bool, true, false, cond, List, [], ◌∷◌, ◌++◌, length, map, slice_get, Option, Some, None, refl, sym, ap, ◌∙◌, arith}
 use Rattle.fs_semantics.specs.FileTree.{Path, path_eq, parent}
-use Rattle.fs_semantics.proofs.Trees.{path_eq_same, path_eq_refl, path_eq_other, parent_differs}
-use Rattle.fs_interpreter.specs.Places.{Listed, IsTable, HasPath, one_further, place_in, content_place, children_from, children_in}
-use Rattle.fs_interpreter.specs.Growth.{Seen, with_child, linked, linked_top}
-use Rattle.fs_interpreter.proofs.SearchLaws.{place_below, place_there, place_found, place_nowhere, no_children}
+use Rattle.fs_interpreter.specs.Places.{IsTable, one_further, place_in, content_place, children_from, children_in}
+use Rattle.fs_interpreter.specs.Growth.{Seen, with_child, linked}
 
 pub record KeptLists (paths : List Path) (nodes : List Seen) (tops : List ℕ) (contents : List (List ℕ)) (place : Path → Option ℕ) (number : List ℕ → Option ℕ) : Type 0 where
   pub are : map (λ s. s.path) nodes ≡ paths

@@ -1,10 +1,10 @@
 -- Bits put at one place.
-use Rattle.std.proofs.Common.{◌≡◌, ◌≢◌, ℕ, zero, suc, ◌+◌, ◌<◌, ◌==◌, Bool, true, false, cond, List, [], ◌∷◌, length, Option, Some, None, refl, sym, ap, subst, ◌∙◌, arith, eqb-true}
+use Rattle.std.proofs.Common.{◌≡◌, ◌≢◌, ℕ, zero, suc, ◌<◌, ◌==◌, Bool, true, false, cond, List, [], ◌∷◌, length, Option, Some, refl, sym, ap, subst, ◌∙◌, arith, eqb-true}
 use Rattle.std.proofs.lemmas.Bool.{eqb-false}
 use Rattle.std.proofs.lemmas.List.{length-set}
 use Rattle.std.specs.Prelude.{not, ◌||◌, slice_get, slice_set}
 use Rattle.fs_interpreter.specs.Meanings.{Valuation, Meanings, Grows}
-use Rattle.fs_interpreter.specs.States.{Cell, State, AreCells, cell_at, state_of, truth, number}
+use Rattle.fs_interpreter.specs.States.{Cell, AreCells, cell_at, truth, number}
 use Rattle.fs_interpreter.specs.Steps.{with_cell, put}
 use Rattle.fs_interpreter.specs.Changed.{IsPut, IsOne, Becomes, one_told}
 use Rattle.fs_interpreter.specs.declared.cells.Cells.{Cells}

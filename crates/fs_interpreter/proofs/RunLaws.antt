@@ -1,19 +1,18 @@
 -- What a program makes of cells that stand for a tree stands for what it makes of the tree.
-use Rattle.std.proofs.Common.{◌≡◌, ◌≢◌, ◌⊎◌, inl, inr, ℕ, zero, suc, ◌==◌, Bool, true, false, cond, List, [], ◌∷◌, Option, Some, None, refl, sym, ap, subst, ◌∙◌, eqb-true}
+use Rattle.std.proofs.Common.{◌≡◌, ◌≢◌, inl, inr, ℕ, ◌==◌, Bool, true, false, cond, List, [], ◌∷◌, Option, Some, None, refl, sym, ap, subst, ◌∙◌, eqb-true}
 use Rattle.std.proofs.lemmas.Bool.{eqb-false}
 use Rattle.std.specs.Prelude.{not, ◌&&◌, ◌||◌, slice_get}
-use Rattle.std.specs.List.{list_any}
 use Rattle.std.specs.FinMap as map
-use Rattle.fs_semantics.specs.FileTree.{Path, Entry, Folder, File, Link as LinkTo, Tree, path_eq, parent, is_root, is_file_entry, is_link_entry, is_folder_entry, is_file, is_link, is_dir, is_none, is_empty_dir}
+use Rattle.fs_semantics.specs.FileTree.{Path, Entry, Folder, File, Link as LinkTo, Tree, parent, is_root, is_file_entry, is_link_entry, is_folder_entry, is_file, is_link, is_dir, is_none, is_empty_dir}
 use Rattle.fs_semantics.specs.Programs.{Program, Programs, Id, Err, Mkdir, Creat, Link, Rm, Cp, Steps, If, none, next, Outcome, and_then, made, removed, copied, holds, run, run_all}
 use Rattle.fs_semantics.proofs.Trees.{at_inserted, at_other, at_removed, at_kept}
-use Rattle.fs_interpreter.specs.Places.{Listed, IsTable, HasPath, HasContent, Covers, CoversSteps, place_in, children_in, one_further, content_place, number_in, or_zero}
+use Rattle.fs_interpreter.specs.Places.{Listed, IsTable, HasPath, Covers, CoversSteps, place_in, children_in, number_in, or_zero}
 use Rattle.fs_interpreter.specs.States.{Cell, State}
-use Rattle.fs_interpreter.specs.Steps.{Cellwise, file_at, dir_at, none_at, any_present, free_at, with_cell, failed, put, removed_at, copied_at, folder_cell, file_cell, link_cell, told, stepped, all_stepped}
+use Rattle.fs_interpreter.specs.Steps.{file_at, any_present, free_at, with_cell, failed, put, removed_at, copied_at, folder_cell, file_cell, link_cell, stepped, all_stepped}
 use Rattle.fs_interpreter.specs.Standing.{Tells, Stands, StandsFor}
 use Rattle.fs_interpreter.proofs.SearchLaws.{place_there, content_there, content_found}
 use Rattle.fs_interpreter.proofs.StepLaws.{error_stays, error_stays_in_all}
-use Rattle.fs_interpreter.proofs.TestLaws.{Seen, seen, file_is, dir_is, none_is, any_is, cell_file, told_is}
+use Rattle.fs_interpreter.proofs.TestLaws.{Seen, seen, dir_is, none_is, any_is, cell_file, told_is}
 
 or_right : (a b : Bool) → b ≡ true → (a || b) ≡ true
 or_right true b h = refl

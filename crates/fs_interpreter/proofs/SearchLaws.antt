@@ -1,5 +1,5 @@
 -- Where paths stand in a table.
-use Rattle.std.proofs.Common.{◌≡◌, ◌≢◌, ◌⊎◌, inl, inr, ℕ, zero, suc, ◌+◌, ◌<◌, ◌≤◌, Bool, true, false, cond, List, [], ◌∷◌, length, Option, Some, None, refl, sym, ap, subst, ◌∙◌, arith}
+use Rattle.std.proofs.Common.{◌≡◌, ◌≢◌, inl, inr, ℕ, zero, suc, ◌+◌, ◌<◌, ◌≤◌, true, false, cond, List, [], ◌∷◌, length, Option, Some, None, refl, sym, ap, subst, ◌∙◌, arith}
 use Rattle.std.specs.Prelude.{IfSome, slice_get}
 use Rattle.std.specs.List.{AllByRecursion}
 use Rattle.std.specs.Ordering.{nat_cmp, is_eq}
@@ -9,11 +9,7 @@ use Rattle.std.proofs.lemmas.Cmp.{lists_total}
 use Rattle.std.specs.FinMap.{nat_cmp-IsAntisymmetric, slice_cmp-IsAntisymmetric}
 use Rattle.fs_semantics.specs.FileTree.{Path, path_eq, parent}
 use Rattle.fs_semantics.proofs.Trees.{path_eq_same, path_eq_refl, path_eq_other}
-use Rattle.fs_interpreter.specs.Places.{Listed, IsTable, one_further, place_in, content_place, children_from, children_in, HasPath}
-
-abbrev pub shifted : ℕ → Option ℕ → Option ℕ
-shifted k None = None
-shifted k (Some i) = Some (k + i)
+use Rattle.fs_interpreter.specs.Places.{Listed, IsTable, one_further, place_in, content_place, children_from, children_in}
 
 further_below : (n : ℕ) (o : Option ℕ) → IfSome o (λ i. i < n) → IfSome (one_further o) (λ i. i < suc n)
 further_below n None h = tt

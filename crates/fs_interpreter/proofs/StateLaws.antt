@@ -1,7 +1,7 @@
 -- One outcome for what cells tell.
-use Rattle.std.proofs.Common.{◌≡◌, ◌≢◌, ℕ, Bool, true, false, List, Option, Some, None, slice_get, refl, sym, ap, ◌∙◌}
+use Rattle.std.proofs.Common.{◌≡◌, ℕ, Bool, true, false, List, Option, Some, None, slice_get, refl, sym, ap, ◌∙◌}
 use Rattle.std.specs.FinMap as map
-use Rattle.fs_semantics.specs.FileTree.{Path, Tree, Entry, Folder, File, Link}
+use Rattle.fs_semantics.specs.FileTree.{Tree, Entry, Folder, File, Link}
 use Rattle.fs_semantics.specs.Programs.{Outcome}
 use Rattle.fs_semantics.proofs.Words.{same_tree}
 use Rattle.fs_interpreter.specs.Places.{Listed, place_in}

@@ -1,12 +1,12 @@
 -- Where programs write.
-use Rattle.std.proofs.Common.{◌≡◌, ℕ, zero, suc, ◌+◌, ◌<◌, ◌≤◌, ◌==◌, Bool, true, false, cond, List, [], ◌∷◌, ◌++◌, length, Option, Some, None, refl, sym, ap, subst, ◌∙◌, arith, eqb-true}
+use Rattle.std.proofs.Common.{◌≡◌, ℕ, ◌<◌, ◌==◌, Bool, true, false, cond, List, [], ◌∷◌, ◌++◌, length, Option, Some, None, refl, sym, ap, ◌∙◌}
 use Rattle.std.specs.Prelude.{◌||◌, ◌&&◌, not, IfSome}
 use Rattle.std.specs.List.{AllByRecursion}
 use Rattle.fs_semantics.specs.FileTree.{Path}
-use Rattle.fs_semantics.specs.Programs.{Test, Program, Programs, Id, Err, Mkdir, Creat, Link, Rm, Cp, Steps, If, none, next}
+use Rattle.fs_semantics.specs.Programs.{Program, Programs, Id, Err, Mkdir, Creat, Link, Rm, Cp, Steps, If, none, next}
 use Rattle.fs_interpreter.specs.Places.{Listed, place_in, has}
 use Rattle.fs_interpreter.specs.States.{Cell, State}
-use Rattle.fs_interpreter.specs.Steps.{Cellwise, with_cell, file_at, file_cell, any_present, put, failed, if_any, removed_at, copied_at, told, stepped, all_stepped, written, all_written}
+use Rattle.fs_interpreter.specs.Steps.{file_at, file_cell, any_present, put, if_any, removed_at, copied_at, told, stepped, all_stepped, written, all_written}
 use Rattle.fs_interpreter.proofs.SearchLaws.{place_below}
 
 all_append : (P : ℕ → Type 0) (xs ys : List ℕ) → AllByRecursion P xs → AllByRecursion P ys → AllByRecursion P (xs ++ ys)

@@ -1,18 +1,18 @@
 -- What a table finds, from how it is kept.
-use Rattle.std.proofs.Common.{◌≡◌, ◌≢◌, ◌⊎◌, inl, inr, ℕ, zero, suc, ◌<◌, ◌≤◌, List, [], ◌∷◌, length, get_or, ◌==◌, Bool, true, false, Option, Some, None, refl, sym, ap, subst, ◌∙◌, arith}
-use Rattle.std.specs.Prelude.{◌↔◌, IfSome, slice_get, map, IsTrue}
+use Rattle.std.proofs.Common.{◌≡◌, ◌≢◌, ℕ, zero, suc, ◌<◌, ◌≤◌, List, [], ◌∷◌, length, get_or, ◌==◌, Bool, true, false, Option, Some, None, refl, sym, ap, subst, ◌∙◌, arith}
+use Rattle.std.specs.Prelude.{◌↔◌, IfSome, slice_get, IsTrue}
 use Rattle.std.specs.List.{AllByRecursion}
 use Rattle.std.specs.Str.{bytes_eq}
 use Rattle.std.proofs.lemmas.Slice.Eq.{bytes_eq-Decides}
 use Rattle.std.specs.BTreeMap as stored
-use Rattle.std.proofs.lemmas.Option.{slice_get_read, slice_get_within, slice_get-get_or}
+use Rattle.std.proofs.lemmas.Option.{slice_get_read, slice_get_within}
 use Rattle.fs_semantics.specs.FileTree.{Path, path_cmp, path_eq, parent}
 use Rattle.fs_semantics.proofs.Trees.{path_eq_same, path_eq_refl}
 use Rattle.fs_interpreter.specs.Places.{Listed, IsTable, place_in, content_place, children_in}
 use Rattle.fs_interpreter.specs.Kept.{paths_of, listed, IsKept}
 use Rattle.fs_interpreter.specs.declared.table.Node.{Node}
 use Rattle.fs_interpreter.specs.declared.table.Table.TheInside.{Inside}
-use Rattle.fs_interpreter.proofs.SearchLaws.{place_below, place_there, place_found, place_nowhere, children_below, no_children, content_there, content_found}
+use Rattle.fs_interpreter.proofs.SearchLaws.{place_below, place_there, place_found, children_below, no_children, content_there, content_found}
 
 -- what is at a place of a list, in the list of the paths
 pub path_at : (nodes : List Node) (i : ℕ) (n : Node) → slice_get nodes i ≡ Some n → slice_get (paths_of nodes) i ≡ Some n.path

@@ -1,5 +1,5 @@
 -- Cells that are kept aside while a branch runs.
-use Rattle.std.specs.Prelude.{◌≡◌, ℕ, ◌<◌, Bool, if◌then◌else◌, List, [], ◌∷◌, map}
+use Rattle.std.specs.Prelude.{◌≡◌, ℕ, ◌<◌, Bool, if◌then◌else◌, List, [], ◌∷◌}
 use Rattle.std.specs.List.{AllByRecursion}
 use Rattle.fs_interpreter.specs.Meanings.{Valuation, Meanings}
 use Rattle.fs_interpreter.specs.States.{Cell, State}

@@ -1,6 +1,6 @@
 -- How cells change.
-use Rattle.std.specs.Prelude.{◌≡◌, ℕ, Bool, length, slice_set}
-use Rattle.fs_interpreter.specs.Meanings.{Valuation, Meanings, Grows}
+use Rattle.std.specs.Prelude.{◌≡◌, ℕ, length, slice_set}
+use Rattle.fs_interpreter.specs.Meanings.{Valuation, Meanings}
 use Rattle.fs_interpreter.specs.States.{Cell, State, AreCells, state_of}
 use Rattle.fs_interpreter.specs.declared.cells.Cells.{Cells}
 use Rattle.fs_interpreter.specs.declared.cells.OneCell.{OneCell}

@@ -1,5 +1,5 @@
 -- How a table keeps what it finds.
-use Rattle.std.specs.Prelude.{◌≡◌, ℕ, List, [], map, Option, Some, slice_get}
+use Rattle.std.specs.Prelude.{◌≡◌, ℕ, List, [], map, Some, slice_get}
 use Rattle.std.specs.BTreeMap as stored
 use Rattle.fs_semantics.specs.FileTree.{Path, path_cmp, parent}
 use Rattle.fs_interpreter.specs.Places.{Listed, IsTable, place_in, content_place, children_in}

@@ -1,5 +1,5 @@
 -- What cells stand for: a file tree or Error.
-use Rattle.std.specs.Prelude.{◌≡◌, ◌≢◌, ℕ, Bool, true, false, List, Option, Some, None, slice_get}
+use Rattle.std.specs.Prelude.{◌≡◌, ◌≢◌, ℕ, true, false, List, Option, Some, None, slice_get}
 use Rattle.std.specs.FinMap as map
 use Rattle.fs_semantics.specs.FileTree.{Path, Tree, Entry, Folder, File, Link}
 use Rattle.fs_semantics.specs.Programs.{Outcome}

@@ -1,6 +1,5 @@
 -- What cells tell under one valuation, and what they stand for.
-use Rattle.std.specs.Prelude.{◌≡◌, ℕ, Bool, true, false, not, ◌&&◌, ◌||◌, ◌==◌, if◌then◌else◌, List, [], ◌∷◌, length, Option, Some, None, slice_get}
-use Rattle.rh_base.specs.declared.seq.Seq.{Seq}
+use Rattle.std.specs.Prelude.{◌≡◌, ℕ, Bool, false, length, Option, Some, None, slice_get}
 use Rattle.fs_interpreter.specs.Meanings.{Valuation, Meanings}
 use Rattle.fs_interpreter.specs.declared.cells.Cells.{Cells}
 

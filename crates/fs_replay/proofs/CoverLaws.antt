@@ -53,10 +53,6 @@ pub when_ok : {X E : Type 0} (r : Result X E) {P : Type 0} → P → OnOk r P
 when_ok (Ok x) p = p
 when_ok (Err e) p = tt
 
-pub if_ok : {X E : Type 0} (r : Result X E) {P Q : Type 0} → (P → Q) → OnOk r P → OnOk r Q
-if_ok (Ok x) f p = f p
-if_ok (Err e) f p = tt
-
 pub both_ok : {X E : Type 0} (r : Result X E) {P Q R : Type 0} → (P → Q → R) → OnOk r P → OnOk r Q → OnOk r R
 both_ok (Ok x) f p q = f p q
 both_ok (Err e) f p q = tt

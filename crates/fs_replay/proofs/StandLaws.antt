@@ -10,9 +10,6 @@ use Rattle.fs_semantics.specs.Entries.{IsFreeAt, IsFolderAt, IsWith}
 use Rattle.fs_interpreter.specs.Places.{Listed, IsTable, HasPath, HasContent, Keeps, place_in}
 use Rattle.fs_interpreter.specs.States.{Cell, State, truth, number}
 use Rattle.fs_interpreter.specs.Standing.{Tells, Stands}
-use Rattle.fs_interpreter.proofs.SearchLaws.{place_there, place_nowhere}
-use Rattle.fs_interpreter.proofs.StateLaws.{one_entry}
-use Rattle.fs_interpreter.proofs.KeptLists.{get_last}
 use Rattle.fs_replay.specs.Told.{HasTree, HasNode, with_entry}
 
 -- what the lists tell of a place
@@ -35,6 +32,10 @@ get_before (x ∷ xs) ys (suc k) h = get_before xs ys k (omega arith)
 longer : {X : Type 0} (xs : List X) (x : X) (n : ℕ) → length xs ≡ n → length (xs ++ x ∷ []) ≡ n + 1
 longer [] x n h = let z : 0 ≡ n = h in ap (λ m. m + 1) z
 longer (y ∷ xs) x n h = let more = longer xs x (length xs) refl in omega arith
+
+get_last : {X : Type 0} (xs : List X) (x : X) → slice_get (xs ++ x ∷ []) (length xs) ≡ Some x
+get_last [] x = refl
+get_last (y ∷ xs) x = get_last xs x
 
 last_at : {X : Type 0} (xs : List X) (x : X) (n : ℕ) → length xs ≡ n → slice_get (xs ++ x ∷ []) n ≡ Some x
 last_at xs x n h = subst (λ k. slice_get (xs ++ x ∷ []) k ≡ Some x) h (get_last xs x)
@@ -141,23 +142,27 @@ is_below_folder table n u t p x is whole so_far at some = elim (is.parents n p a
 ]
 
 -- once all places are done
-pub all_there : (table : Listed) (s : State) (u t : Tree) → Stands table s t → UpTo table.paths (length table.paths) u t → (p : Path) → map.get u p ≡ map.get t p
-all_there table s u t stands done p = elim (place_in table.paths p) as (λ o. place_in table.paths p ≡ o → map.get u p ≡ map.get t p) [
+pub all_there : ((paths : List Path) (p : Path) (i : ℕ) → place_in paths p ≡ Some i → slice_get paths i ≡ Some p)
+    → ((paths : List Path) (p : Path) → place_in paths p ≡ None → (i : ℕ) → slice_get paths i ≢ Some p)
+    → (table : Listed) (s : State) (u t : Tree) → Stands table s t → UpTo table.paths (length table.paths) u t → (p : Path) → map.get u p ≡ map.get t p
+all_there place_there place_nowhere table s u t stands done p = elim (place_in table.paths p) as (λ o. place_in table.paths p ≡ o → map.get u p ≡ map.get t p) [
   | None ↦ λ e. done.elsewhere p (place_nowhere table.paths p e) ∙ sym (stands.nothing_else p (place_nowhere table.paths p e))
   | Some i ↦ λ e. let at = place_there table.paths p i e in done.below i p (slice_get_within table.paths i p at) at
 ] refl
 
 -- what the cell of a place tells is added
-pub added : (table : Listed) (n : ℕ) (u v t : Tree) (p : Path) (c : Cell) (o : Option Entry) → ((t : Tree) (p : Path) (x : Entry) → IsWith t (map.insert t p x) p (Some x)) → IsTable table → UpTo table.paths n u t
+pub added : ((contents : List (List ℕ)) (c : Cell) (x y : Option Entry) → Tells contents c x → Tells contents c y → x ≡ y)
+    → (table : Listed) (n : ℕ) (u v t : Tree) (p : Path) (c : Cell) (o : Option Entry) → ((t : Tree) (p : Path) (x : Entry) → IsWith t (map.insert t p x) p (Some x)) → IsTable table → UpTo table.paths n u t
     → slice_get table.paths n ≡ Some p → Tells table.contents c (map.get t p) → Tells table.contents c o → v ≡ with_entry u p o → UpTo table.paths (n + 1) v t
-added table n u v t p c None put is so_far at one two e = subst (λ w. UpTo table.paths (n + 1) w t) (sym e) (nothing_there table n u t p so_far at (one_entry table.contents c (map.get t p) None one two))
-added table n u v t p c (Some x) put is so_far at one two e =
+added one_entry table n u v t p c None put is so_far at one two e = subst (λ w. UpTo table.paths (n + 1) w t) (sym e) (nothing_there table n u t p so_far at (one_entry table.contents c (map.get t p) None one two))
+added one_entry table n u v t p c (Some x) put is so_far at one two e =
     one_there table n u v t p x is so_far at (one_entry table.contents c (map.get t p) (Some x) one two) (subst (λ w. IsWith u w p (Some x)) (sym e) (put u p x))
 
-pub above_entry : (table : Listed) (n : ℕ) (u t : Tree) (p : Path) (c : Cell) {X : Type 0} (f : X → Entry) (o : Option X) → IsTable table → HasParents t → UpTo table.paths n u t
+pub above_entry : ((contents : List (List ℕ)) (c : Cell) (x y : Option Entry) → Tells contents c x → Tells contents c y → x ≡ y)
+    → (table : Listed) (n : ℕ) (u t : Tree) (p : Path) (c : Cell) {X : Type 0} (f : X → Entry) (o : Option X) → IsTable table → HasParents t → UpTo table.paths n u t
     → slice_get table.paths n ≡ Some p → Tells table.contents c (map.get t p) → Tells table.contents c (option_map f o) → IfSome o (λ e. IsFolderAt u (parent p))
-above_entry table n u t p c f None is whole so_far at one two = tt
-above_entry table n u t p c f (Some x) is whole so_far at one two = is_below_folder table n u t p (f x) is whole so_far at (one_entry table.contents c (map.get t p) (Some (f x)) one two)
+above_entry one_entry table n u t p c f None is whole so_far at one two = tt
+above_entry one_entry table n u t p c f (Some x) is whole so_far at one two = is_below_folder table n u t p (f x) is whole so_far at (one_entry table.contents c (map.get t p) (Some (f x)) one two)
 
 -- where no path of the table is, the tree has nothing
 pub none_else : (table : Listed) (t : Tree) → map.get t [] ≡ None → HasTree table t → (p : Path) → ((i : ℕ) → slice_get table.paths i ≢ Some p) → map.get t p ≡ None

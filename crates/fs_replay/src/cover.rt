@@ -1,18 +1,18 @@
 //! Tables that have what programs and trees name.
 
-ghost use Rattle.std.specs.Prelude.{IfOk, OnOk};
+ghost use Rattle.std.specs.Prelude.{IfOk, OnOk, IsTrue};
+ghost use Rattle.fs_semantics.specs.FileTree.{parent};
 ghost use Rattle.fs_lang.specs.Meaning.{test_of, program_of, programs_in, entry_of};
 ghost use Rattle.fs_interpreter.specs.Places.{HasPath, HasContent, Keeps, CoversTest, Covers, CoversSteps};
 ghost use Rattle.fs_replay.specs.Told.{HasTree, HasNode};
 
-use fs_interpreter::{Table, additions};
+use fs_interpreter::{Table, additions, searches};
 use fs_lang::{Entry, Path, Program, Test, Tree};
 use rh_base::{NoMemory, Text};
 use std::alloc::Global;
 
-/// The path, and those above it.
-#[tactic(auto, using(crate::proofs::CoverLaws::keeps_more))]
-pub(crate) fn cover_path(alloc: Global, table: &mut Table, p: &Path) -> Result<(), NoMemory>
+/// The fronts of a path, from the root down.
+fn cover_fronts(alloc: Global, table: &mut Table, p: &Path) -> Result<(), NoMemory>
     ensures there { OnOk result (HasPath table.new p.now) }
     ensures keeps { Keeps table.old table.new }
 {
@@ -21,6 +21,42 @@ pub(crate) fn cover_path(alloc: Global, table: &mut Table, p: &Path) -> Result<(
         let front = p.front(alloc, k + 1)?;
         table.add_path(alloc, front)?;
     }
+    Ok(())
+}
+
+/// The paths above a path. Mostly its parent is there already.
+fn cover_above(alloc: Global, table: &mut Table, p: &Path) -> Result<(), NoMemory>
+    ensures there { OnOk result (HasPath table.new (parent p.now)) }
+    ensures keeps { Keeps table.old table.new }
+{
+    let above = p.parent(alloc)?;
+    if has_path(table, &above) {
+        return Ok(());
+    }
+    cover_fronts(alloc, table, &above)
+}
+
+fn has_path(table: &Table, p: &Path) -> bool
+    ensures { IsTrue result → HasPath table.now p.now }
+{
+    searches();
+    match table.place(p) {
+        Some(_) => true,
+        None => false,
+    }
+}
+
+/// The path, and those above it.
+pub(crate) fn cover_path(alloc: Global, table: &mut Table, p: &Path) -> Result<(), NoMemory>
+    ensures there { OnOk result (HasPath table.new p.now) }
+    ensures keeps { Keeps table.old table.new }
+{
+    additions();
+    if p.segments().is_empty() {
+        return Ok(());
+    }
+    cover_above(alloc, table, p)?;
+    table.add_path(alloc, p.copy(alloc)?)?;
     Ok(())
 }
 

@@ -6,4 +6,4 @@ mod runs;
 mod standing;
 mod told;
 
-pub use runs::{replay, run};
+pub use runs::{are_below, replay, run};

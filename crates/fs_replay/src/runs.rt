@@ -1,6 +1,6 @@
 //! Runs and replays.
 
-ghost use Rattle.std.specs.Prelude.{◌≡◌, ◌<◌, length, map, IfSome, IfOk, OnOk};
+ghost use Rattle.std.specs.Prelude.{◌≡◌, ◌↔◌, ◌<◌, length, map, IfSome, IfOk, OnOk, IsTrue};
 ghost use Rattle.std.specs.List.{AllByRecursion};
 ghost use Rattle.fs_semantics.specs.FileTree.{HasParents};
 ghost use Rattle.fs_semantics.specs.Programs.{Outcome as Ending, and_then, run};
@@ -69,6 +69,18 @@ pub fn run(alloc: Global, program: &Program, tree: &Tree) -> Result<Outcome, NoM
     let mut cells = cells_of(alloc, &table, tree)?;
     run_plain(alloc, &table, program, &mut cells)?;
     outcome_told(alloc, &table, &cells)
+}
+
+/// Whether each number of an order is below the number of programs, as `replay` needs it.
+pub fn are_below(order: &[u32], n: usize) -> bool
+    ensures { IsTrue result ↔ AllByRecursion (λ i. i < n) order.now }
+{
+    for i in order {
+        if *i as usize >= n {
+            return false;
+        }
+    }
+    true
 }
 
 /// Runs programs on a tree, each number of the order one program. The table and the cells are made once for all.

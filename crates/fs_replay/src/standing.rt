@@ -10,7 +10,7 @@ ghost use Rattle.fs_interpreter.specs.Standing.{Stands};
 ghost use Rattle.fs_replay.specs.Told.{HasTree, plain_state, with_entry};
 
 use crate::told::{Told, entry_told, told_at, told_of};
-use fs_interpreter::{Cells, Plain, Table};
+use fs_interpreter::{Cells, Plain, Table, searches, states};
 use fs_lang::{Entry, Path, Tree};
 use fs_semantics::file_trees;
 use rh_base::{NoMemory, Seq};
@@ -71,6 +71,8 @@ pub(crate) fn tree_of(alloc: Global, table: &Table, cells: &Cells<Plain>) -> Res
     ensures { IfOk result (λ tree. Stands table.now (plain_state cells.now) tree) }
 {
     table.is_table();
+    searches();
+    states();
     file_trees();
     let mut tree = Tree::empty(alloc)?;
     for i in 0..table.path_count() {

@@ -10,7 +10,7 @@ ghost use Rattle.fs_interpreter.specs.States.{AreCells};
 ghost use Rattle.fs_interpreter.specs.Standing.{Tells};
 ghost use Rattle.fs_replay.specs.Told.{cell_of, plain_state};
 
-use fs_interpreter::{Cells, Plain, Table};
+use fs_interpreter::{Cells, Plain, Table, searches};
 use fs_lang::{Entry, Path, Tree};
 use rh_base::{NoMemory, Text};
 use std::alloc::Global;
@@ -29,6 +29,7 @@ fn number_of(table: &Table, c: &Text) -> u64
     requires { HasContent table.now c.now }
     ensures { slice_get table.now.contents result ≡ Some c.now }
 {
+    searches();
     match table.number(c) {
         Some(n) => n,
         None => 0,

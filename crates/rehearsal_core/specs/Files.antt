@@ -1,18 +1,10 @@
 -- The files that the blocks of a manifest put.
-use Rattle.std.specs.Prelude.{◌≡◌, ◌≢◌, ℕ, List, [], ◌∷◌, map, Option, Some, None, codes}
+use Rattle.std.specs.Prelude.{◌≡◌, ℕ, List, [], ◌∷◌, map, Option, Some, None}
 use Rattle.rehearsal_core.specs.declared.form.Block.{Block}
 use Rattle.fs_lang.specs.PathText.{IsPathText}
+use Rattle.fs_lang.specs.Managed.{MayBeManaged}
 use Rattle.fs_semantics.specs.FileTree.{Path}
 use Rattle.fs_semantics.specs.PlainFiles.{PlainFile}
-
--- at or under the folder of the program's own marks
-abbrev pub IsReserved : Path → Type 0
-IsReserved [] = ⊥
-IsReserved (s ∷ p) = s ≡ codes ".rehearsal"
-
--- what may be managed: neither the root nor what is reserved
-abbrev pub MayBeManaged : Path → Type 0
-MayBeManaged p = (p ≢ []) × (IsReserved p → ⊥)
 
 -- the path of a file that may be managed, and its text
 pub record IsManagedPath (text : List ℕ) (p : Path) : Type 0 where

@@ -1,10 +1,10 @@
 //! What is said of a manifest.
 
-ghost use Rattle.std.specs.Prelude.{◌≡◌, ◌↔◌, ◌<◌, ◌^◌, length, map, IsTrue, IfOk, IfErr};
+ghost use Rattle.std.specs.Prelude.{◌≡◌, ◌<◌, ◌^◌, length, map, IfOk, IfErr};
 ghost use Rattle.rh_base.specs.Refused.{IfRefused};
 ghost use Rattle.fs_lang.specs.Meaning.{program_of};
 ghost use Rattle.fs_semantics.specs.PlainFiles.{puts};
-ghost use Rattle.rehearsal_core.specs.Files.{MayBeManaged, ManagedPathIs, PathsAre, files_at};
+ghost use Rattle.rehearsal_core.specs.Files.{ManagedPathIs, PathsAre, files_at};
 ghost use Rattle.rehearsal_core.specs.Judged.{report_of, IsParsed, IsWithin, IsReport, IsSourceRefusal, BreaksRule};
 
 use crate::form::{Block, file_blocks};
@@ -26,16 +26,6 @@ fn report(alloc: Global, n: usize) -> Result<Text, NoMemory>
     Ok(Text::from_string(text))
 }
 
-/// Whether a path with these segments is neither the root nor reserved.
-fn may_be_managed(segments: &[Text]) -> bool
-    ensures { IsTrue result ↔ MayBeManaged segments.now }
-{
-    match segments.first() {
-        None => false,
-        Some(first) => first.as_str() != ".rehearsal",
-    }
-}
-
 /// The path of a file that may be managed.
 fn managed_path(alloc: Global, text: &Text) -> Result<Option<Path>, NoMemory>
     ensures { IfOk result (ManagedPathIs text.now) }
@@ -45,7 +35,7 @@ fn managed_path(alloc: Global, text: &Text) -> Result<Option<Path>, NoMemory>
         Err(PathFault::Bad) => return Ok(None),
         Err(PathFault::Memory(m)) => return Err(m),
     };
-    if !may_be_managed(path.segments()) {
+    if !path.may_be_managed() {
         return Ok(None);
     }
     Ok(Some(path))

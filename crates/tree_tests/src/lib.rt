@@ -5,3 +5,5 @@
 mod paths;
 #[cfg(test)]
 mod resources;
+#[cfg(test)]
+mod runs;

@@ -1,4 +1,4 @@
-use Rattle.std.proofs.Common.{◌≡◌, Bool, ap, ◌∙◌, length}
+use Rattle.std.proofs.Common.{ap, ◌∙◌, length}
 use Rattle.fs_interpreter.specs.States.{cell_at}
 use Rattle.fs_interpreter.specs.Asides.{put_where, kept_told}
 use Rattle.fs_interpreter.proofs.Frames.{becomes_from}

@@ -1,4 +1,4 @@
-use Rattle.std.proofs.Common.{◌≡◌, ap, ◌∙◌}
+use Rattle.std.proofs.Common.{ap, ◌∙◌}
 use Rattle.fs_interpreter.specs.States.{State, cell_at}
 use Rattle.fs_interpreter.proofs.Frames.{grows_on}
 use Rattle.fs_interpreter.proofs.Put.{one_keeps}

@@ -1,6 +1,6 @@
-use Rattle.std.proofs.Common.{◌≡◌, ℕ, length, drop}
+use Rattle.std.proofs.Common.{◌≡◌, length, drop}
 use Rattle.fs_interpreter.specs.Meanings.{Valuation, Grows}
-use Rattle.fs_interpreter.specs.States.{State, AreCells, cell_at}
+use Rattle.fs_interpreter.specs.States.{AreCells, cell_at}
 use Rattle.fs_interpreter.specs.Asides.{kept_told, put_where}
 use Rattle.fs_interpreter.proofs.branch.choose_all.Given as goal
 

@@ -1,4 +1,4 @@
-use Rattle.std.proofs.Common.{◌≡◌, Bool, if◌then◌else◌}
+use Rattle.std.proofs.Common.{if◌then◌else◌}
 use Rattle.fs_interpreter.specs.States.{cell_at}
 use Rattle.fs_interpreter.specs.Changed.{one_told}
 use Rattle.fs_interpreter.proofs.AsideLaws.{put_only}

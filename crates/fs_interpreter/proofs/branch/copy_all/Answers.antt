@@ -1,5 +1,5 @@
-use Rattle.std.proofs.Common.{◌≡◌, ℕ, ◌<◌, get_or, length, refl, ap, ◌∙◌}
-use Rattle.fs_interpreter.specs.States.{Cell, cell_at}
+use Rattle.std.proofs.Common.{◌<◌, get_or, length, refl, ◌∙◌}
+use Rattle.fs_interpreter.specs.States.{cell_at}
 use Rattle.fs_interpreter.proofs.Frames.{grows_on, cells_stay, cells_keep}
 use Rattle.fs_interpreter.proofs.AsideLaws.{copy_step, own_more, told_later, all_at}
 use Rattle.fs_interpreter.proofs.branch.copy_all.Goals as goal

@@ -1,4 +1,4 @@
-use Rattle.std.proofs.Common.{◌≡◌, ℕ, ◌<◌, length, refl, sym, ap, subst, ◌∙◌}
+use Rattle.std.proofs.Common.{◌<◌, length, sym, ap, subst, ◌∙◌}
 use Rattle.fs_interpreter.specs.Meanings.{grows_same}
 use Rattle.fs_interpreter.specs.States.{State, cell_at}
 use Rattle.fs_interpreter.specs.Changed.{one_told}

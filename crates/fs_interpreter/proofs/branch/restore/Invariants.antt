@@ -1,4 +1,4 @@
-use Rattle.std.proofs.Common.{◌≡◌, ℕ, length}
+use Rattle.std.proofs.Common.{◌≡◌, length}
 use Rattle.fs_interpreter.specs.Meanings.{Valuation}
 use Rattle.fs_interpreter.specs.States.{AreCells, cell_at}
 use Rattle.fs_interpreter.specs.Asides.{kept_told, put_back, AreOwn}

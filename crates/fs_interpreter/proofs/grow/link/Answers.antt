@@ -1,4 +1,4 @@
-use Rattle.std.proofs.Common.{◌≡◌, ◌++◌, ◌∷◌, [], ◌<◌, length, ℕ, List, IfSome, ap, refl, subst, sym, ◌∙◌}
+use Rattle.std.proofs.Common.{◌<◌, length, ℕ, List, IfSome, ap, refl, subst, sym, ◌∙◌}
 use Rattle.std.proofs.lemmas.Option.{slice_get_read}
 use Rattle.fs_interpreter.specs.Growth.{seen_all, linked}
 use Rattle.fs_interpreter.proofs.GrowthLaws.{on_err, set_same, set_more}

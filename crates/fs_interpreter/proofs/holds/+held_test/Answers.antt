@@ -1,12 +1,11 @@
-use Rattle.std.proofs.Common.{rules, ◌≡◌, Bool, sym, ap, ◌∙◌}
+use Rattle.std.proofs.Common.{rules, sym, ap, ◌∙◌}
 use Rattle.std.specs.Prelude.{◌&&◌, ◌||◌}
-use Rattle.fs_interpreter.specs.Meanings.{Valuation}
 use Rattle.fs_interpreter.specs.Steps.{told}
 use Rattle.fs_lang.specs.Meaning.{test_of, test_of_and, test_of_or}
 use Rattle.fs_lang.specs.Sizes.{test_size}
 use Rattle.fs_lang.proofs.SizeLaws.{and_size, or_size}
 use Rattle.fs_interpreter.specs.States.{cell_at}
-use Rattle.fs_interpreter.proofs.Frames.{cells_stay, cells_keep, if_means}
+use Rattle.fs_interpreter.proofs.Frames.{cells_keep, if_means}
 use Rattle.fs_interpreter.proofs.holds.+held_test.Goals as goal
 
 pub both_hold-returns-clause-gives : goal.both_hold-returns-clause-gives

@@ -1,4 +1,4 @@
-use Rattle.std.proofs.Common.{ℕ, ◌+◌, ◌*◌}
+use Rattle.std.proofs.Common.{◌+◌, ◌*◌}
 use Rattle.fs_lang.specs.Meaning.{test_of}
 use Rattle.fs_lang.specs.Sizes.{test_size}
 use Rattle.fs_interpreter.proofs.holds.+held_test.Given as goal

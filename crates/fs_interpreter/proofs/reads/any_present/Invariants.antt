@@ -1,4 +1,4 @@
-use Rattle.std.proofs.Common.{◌≡◌, ℕ, drop}
+use Rattle.std.proofs.Common.{◌≡◌, drop}
 use Rattle.std.specs.Prelude.{◌||◌}
 use Rattle.fs_interpreter.specs.Meanings.{Valuation, Grows}
 use Rattle.fs_interpreter.specs.States.{AreCells, cell_at}

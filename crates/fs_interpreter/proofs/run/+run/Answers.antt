@@ -1,10 +1,9 @@
-use Rattle.std.proofs.Common.{rules, ◌≡◌, ℕ, ◌+◌, ◌*◌, ◌<◌, Bool, true, false, cond, List, length, refl, sym, ap, subst, ◌∙◌, arith}
+use Rattle.std.proofs.Common.{rules, ◌≡◌, ℕ, ◌<◌, true, cond, List, length, sym, ap, subst, ◌∙◌}
 use Rattle.std.specs.List.{AllByRecursion}
 use Rattle.fs_lang.specs.Meaning.{program_of, test_of, program_of_if}
 use Rattle.fs_lang.specs.Sizes.{program_size}
 use Rattle.fs_interpreter.specs.Places.{has}
-use Rattle.fs_interpreter.specs.States.{State, state_of}
-use Rattle.fs_interpreter.specs.Steps.{Cellwise, stepped, written, told}
+use Rattle.fs_interpreter.specs.Steps.{stepped, written, told}
 use Rattle.fs_interpreter.proofs.Frames.{grows_on, state_keeps}
 use Rattle.fs_interpreter.proofs.BranchLaws.{aside_later, read_so, read_at_same, try_same, branch_is, on_ok, becomes_so}
 use Rattle.fs_interpreter.proofs.StepLaws.{leaves_others}

@@ -1,4 +1,4 @@
-use Rattle.std.proofs.Common.{◌≡◌, ℕ, ◌+◌, ◌*◌, length, drop}
+use Rattle.std.proofs.Common.{◌≡◌, ◌+◌, ◌*◌, length, drop}
 use Rattle.fs_lang.specs.Meaning.{program_of, programs_in}
 use Rattle.fs_interpreter.specs.Meanings.{Valuation, Grows}
 use Rattle.fs_interpreter.specs.States.{AreCells, state_of}

@@ -1,4 +1,3 @@
-use Rattle.std.proofs.Common.{◌≡◌}
 use Rattle.fs_interpreter.specs.States.{state_of, cell_at}
 use Rattle.fs_interpreter.specs.Places.{place_in}
 use Rattle.fs_interpreter.specs.Steps.{put, free_at}

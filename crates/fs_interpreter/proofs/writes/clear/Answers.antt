@@ -1,4 +1,4 @@
-use Rattle.std.proofs.Common.{◌≡◌, Bool, ap, ◌∙◌}
+use Rattle.std.proofs.Common.{ap, ◌∙◌}
 use Rattle.std.specs.Prelude.{not, ◌||◌}
 use Rattle.fs_interpreter.proofs.Frames.{grows_on}
 use Rattle.fs_interpreter.proofs.Put.{clear_as}

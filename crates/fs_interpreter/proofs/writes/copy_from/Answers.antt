@@ -1,5 +1,5 @@
-use Rattle.std.proofs.Common.{◌≡◌, ℕ, ap, ◌∙◌}
-use Rattle.fs_interpreter.specs.States.{Cell, state_of, cell_at}
+use Rattle.std.proofs.Common.{ℕ, ap, ◌∙◌}
+use Rattle.fs_interpreter.specs.States.{Cell, state_of}
 use Rattle.fs_interpreter.specs.Steps.{put, file_cell}
 use Rattle.fs_interpreter.proofs.Frames.{grows_on, if_becomes, cells_keep}
 use Rattle.fs_interpreter.proofs.writes.copy_from.Goals as goal

@@ -1,4 +1,4 @@
-use Rattle.std.proofs.Common.{◌≡◌, sym, ◌∙◌}
+use Rattle.std.proofs.Common.{sym, ◌∙◌}
 use Rattle.std.specs.Prelude.{◌&&◌}
 use Rattle.fs_interpreter.specs.States.{cell_at}
 use Rattle.fs_interpreter.specs.Steps.{none_at, dir_at}

@@ -1,6 +1,4 @@
-use Rattle.std.proofs.Common.{◌≡◌, sym, ◌∙◌}
-use Rattle.fs_interpreter.specs.Meanings.{Meanings}
-use Rattle.fs_interpreter.specs.States.{state_of, cell_at}
+use Rattle.fs_interpreter.specs.States.{state_of}
 use Rattle.fs_interpreter.specs.Steps.{put}
 use Rattle.fs_interpreter.proofs.Frames.{if_becomes}
 use Rattle.fs_interpreter.proofs.Put.{one_keeps}

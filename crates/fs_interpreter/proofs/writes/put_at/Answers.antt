@@ -1,5 +1,5 @@
-use Rattle.std.proofs.Common.{◌≡◌, Bool, ap, ◌∙◌}
-use Rattle.std.specs.Prelude.{not, ◌||◌}
+use Rattle.std.proofs.Common.{◌∙◌}
+use Rattle.std.specs.Prelude.{◌||◌}
 use Rattle.fs_interpreter.proofs.Frames.{grows_on}
 use Rattle.fs_interpreter.proofs.Put.{put_becomes}
 use Rattle.fs_interpreter.proofs.writes.put_at.Goals as goal

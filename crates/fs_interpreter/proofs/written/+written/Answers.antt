@@ -1,4 +1,4 @@
-use Rattle.std.proofs.Common.{◌≡◌, ◌++◌, sym, ap, ◌∙◌, append_assoc}
+use Rattle.std.proofs.Common.{◌++◌, sym, ap, ◌∙◌, append_assoc}
 use Rattle.fs_lang.specs.Meaning.{program_of, program_of_if}
 use Rattle.fs_interpreter.specs.Steps.{written}
 use Rattle.fs_interpreter.proofs.BranchLaws.{on_ok}

@@ -1,4 +1,4 @@
-use Rattle.std.proofs.Common.{◌≡◌, ℕ, drop, ◌++◌}
+use Rattle.std.proofs.Common.{◌≡◌, drop, ◌++◌}
 use Rattle.fs_lang.specs.Meaning.{programs_in}
 use Rattle.fs_interpreter.specs.Steps.{all_written}
 use Rattle.fs_interpreter.proofs.written.+written.Given as goal

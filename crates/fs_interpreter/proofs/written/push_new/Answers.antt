@@ -1,4 +1,4 @@
-use Rattle.std.proofs.Common.{◌≡◌, ℕ, List, length, sym, ap, ◌∙◌}
+use Rattle.std.proofs.Common.{sym, ap, ◌∙◌}
 use Rattle.fs_interpreter.specs.Places.{has}
 use Rattle.fs_interpreter.proofs.HasLaws.{has_at, has_already, has_snoc}
 use Rattle.fs_interpreter.proofs.written.push_new.Goals as goal

@@ -16,4 +16,4 @@ outcome_told-requires-clause-stands c = (outcome (map program_of c.args.programs
 pub returns : goal.returns
 returns c =
     told_is c.outcome_told.result outcome_of c.cover_all.new.table (plain_state c.run_in_order.new.cells) (outcome (map program_of c.args.programs.now) c.args.order.now c.args.tree.now)
-    (c.states.ensures c.cover_all.new.table (plain_state c.run_in_order.new.cells)) (c.in_ok-run_in_order.ensures.stands (Some c.args.tree.now) c.in_ok-cells.ensures.stands) c.outcome_told.ensures
+    (c.states.ensures.outcome c.cover_all.new.table (plain_state c.run_in_order.new.cells)) (c.in_ok-run_in_order.ensures.stands (Some c.args.tree.now) c.in_ok-cells.ensures.stands) c.outcome_told.ensures

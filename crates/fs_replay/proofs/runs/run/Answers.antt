@@ -16,4 +16,4 @@ outcome_told-requires-clause-stands c = (run (program_of c.args.program.now) c.a
 pub returns : goal.returns
 returns c =
     told_is c.outcome_told.result outcome_of c.cover.new.table (plain_state c.run_plain.new.cells) (run (program_of c.args.program.now) c.args.tree.now)
-    (c.states.ensures c.cover.new.table (plain_state c.run_plain.new.cells)) (c.in_ok-run_plain.ensures.stands (λ n. false) (Some c.args.tree.now) c.in_ok-cells.ensures.stands) c.outcome_told.ensures
+    (c.states.ensures.outcome c.cover.new.table (plain_state c.run_plain.new.cells)) (c.in_ok-run_plain.ensures.stands (λ n. false) (Some c.args.tree.now) c.in_ok-cells.ensures.stands) c.outcome_told.ensures

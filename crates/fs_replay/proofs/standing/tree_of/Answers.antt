@@ -23,13 +23,13 @@ add_entry-requires-clause-free c = is_free c.args.table.now c.loop-i.i c.loop-i.
 pub add_entry-requires-clause-above : goal.add_entry-requires-clause-above
 add_entry-requires-clause-above c =
     let t = c.requires.stands.0 in
-    above_entry c.args.table.now c.loop-i.i c.loop-i.tree t c.path.result.now (cell_of c.told_at.result) entry_of c.in_ok-entry.entry c.is_table.ensures c.requires.stands.2 (c.loop-i.invariant t c.requires.stands.1) c.path.ensures
+    above_entry c.states.ensures.entry c.args.table.now c.loop-i.i c.loop-i.tree t c.path.result.now (cell_of c.told_at.result) entry_of c.in_ok-entry.entry c.is_table.ensures c.requires.stands.2 (c.loop-i.invariant t c.requires.stands.1) c.path.ensures
     (subst (λ x. Tells c.args.table.now.contents x (map.get t c.path.result.now)) (sym c.told_at.ensures) (c.requires.stands.1.tells c.loop-i.i c.path.result.now c.path.ensures))
     c.in_ok-entry.ensures
 
 pub loop-i-preserved : goal.loop-i-preserved
 loop-i-preserved c = λ t stands.
-    added c.args.table.now c.loop-i.i c.loop-i.tree c.add_entry.new.tree t c.path.result.now (cell_of c.told_at.result) _ c.file_trees.ensures.put c.is_table.ensures (c.loop-i.invariant t stands) c.path.ensures
+    added c.states.ensures.entry c.args.table.now c.loop-i.i c.loop-i.tree c.add_entry.new.tree t c.path.result.now (cell_of c.told_at.result) _ c.file_trees.ensures.put c.is_table.ensures (c.loop-i.invariant t stands) c.path.ensures
     (subst (λ x. Tells c.args.table.now.contents x (map.get t c.path.result.now)) (sym c.told_at.ensures) (stands.tells c.loop-i.i c.path.result.now c.path.ensures))
     c.in_ok-entry.ensures c.in_ok-add_entry.ensures
 
@@ -38,5 +38,5 @@ returns c =
     let t = c.requires.stands.0 in
     let done : c.loop-i.i ≡ length c.args.table.now.paths = omega (arith, c.loop-i-test.false, c.path_count-i-end.ensures, c.loop-i.auto.i-end) in
     let same = c.file_trees.ensures.same c.loop-i.tree t
-    (all_there c.args.table.now (plain_state c.args.cells.now) c.loop-i.tree t c.requires.stands.1 (subst (λ n. UpTo c.args.table.now.paths n c.loop-i.tree t) done (c.loop-i.invariant t c.requires.stands.1))) in
+    (all_there c.searches.ensures.path c.searches.ensures.no_path c.args.table.now (plain_state c.args.cells.now) c.loop-i.tree t c.requires.stands.1 (subst (λ n. UpTo c.args.table.now.paths n c.loop-i.tree t) done (c.loop-i.invariant t c.requires.stands.1))) in
     subst (Stands c.args.table.now (plain_state c.args.cells.now)) (sym same) c.requires.stands.1

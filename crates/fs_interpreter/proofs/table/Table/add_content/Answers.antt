@@ -1,4 +1,4 @@
-use Rattle.std.proofs.Common.{◌≡◌, ◌∷◌, [], ℕ, Option, None, Some, sym, ap, subst, refl, arith, ◌∙◌}
+use Rattle.std.proofs.Common.{◌≡◌, ℕ, Option, None, Some, sym, ap, subst, refl, arith, ◌∙◌}
 use Rattle.fs_interpreter.specs.Places.{Listed, IsTable, content_place}
 use Rattle.fs_interpreter.specs.Kept.{paths_of}
 use Rattle.fs_interpreter.proofs.KeptNodes.{same_kept, content_kept, numbers_more, last_number}

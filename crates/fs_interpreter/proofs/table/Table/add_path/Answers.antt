@@ -1,8 +1,8 @@
-use Rattle.std.proofs.Common.{◌≡◌, ◌∷◌, ◌++◌, [], ℕ, Option, None, Some, length, cond, sym, ap, subst, refl, arith, ◌∙◌}
+use Rattle.std.proofs.Common.{◌≡◌, ◌∷◌, ◌++◌, [], None, Some, length, cond, sym, ap, subst, refl, arith, ◌∙◌}
 use Rattle.std.specs.BTreeMap as stored
-use Rattle.fs_semantics.specs.FileTree.{Path, path_cmp, path_eq, parent}
-use Rattle.fs_interpreter.specs.Places.{Listed, IsTable, HasPath, place_in, with_path, or_added}
-use Rattle.fs_interpreter.specs.Kept.{paths_of, listed, IsKept}
+use Rattle.fs_semantics.specs.FileTree.{path_cmp, parent}
+use Rattle.fs_interpreter.specs.Places.{Listed, IsTable, HasPath, place_in, or_added}
+use Rattle.fs_interpreter.specs.Kept.{paths_of}
 use Rattle.fs_interpreter.proofs.GrowthLaws.{on_err}
 use Rattle.fs_interpreter.proofs.TableLaws.{length-paths}
 use Rattle.fs_interpreter.proofs.KeptNodes.{same_kept, same_paths, path_kept, more_paths, last_place, places_more, absent}

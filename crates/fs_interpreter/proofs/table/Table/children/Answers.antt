@@ -1,4 +1,4 @@
-use Rattle.std.proofs.Common.{◌≡◌, ◌==◌, List, ℕ, [], length, sym, ap, ◌∙◌}
+use Rattle.std.proofs.Common.{◌==◌, List, ℕ, [], length, sym, ap, ◌∙◌}
 use Rattle.fs_interpreter.specs.Places.{Listed, children_in}
 use Rattle.fs_interpreter.proofs.TableLaws.{children_seen, all_children_below, no_children_seen}
 use Rattle.fs_interpreter.proofs.table.Table.children.Goals as goal

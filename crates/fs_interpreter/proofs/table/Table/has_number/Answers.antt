@@ -1,4 +1,4 @@
-use Rattle.std.proofs.Common.{◌≡◌, ap, ◌∙◌, arith}
+use Rattle.std.proofs.Common.{ap, ◌∙◌, arith}
 use Rattle.std.specs.Str.{bytes_eq}
 use Rattle.fs_interpreter.proofs.TableLaws.{content_seen, no_content_seen}
 use Rattle.fs_interpreter.proofs.table.Table.has_number.Goals as goal

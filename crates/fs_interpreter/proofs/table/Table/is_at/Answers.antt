@@ -1,4 +1,4 @@
-use Rattle.std.proofs.Common.{◌≤◌, length, arith}
+use Rattle.std.proofs.Common.{arith}
 use Rattle.fs_interpreter.proofs.TableLaws.{at_seen, past_seen}
 use Rattle.fs_interpreter.proofs.table.Table.is_at.Goals as goal
 
