@@ -35,7 +35,7 @@ clear_of_three s a b c x y z h k l = (
       let two : Apart s (λ q. a q || b q) = λ q here. neither_left (a q || b q) (c q) (all q here) in
       and_from (x && y) z
       (and_from x y (h.1 (λ q here. neither_left (a q) (b q) (two q here))) (k.1 (λ q here. neither_right (a q) (b q) (two q here))))
-      (l.1 (λ q here. neither_right (a q || b q) (c q) (all q here))))
+      (l.1 (λ q here. neither_right (a q || b q) (c q) (all q here)))),
 )
 
 parent_among : (q : Path) (ps : List Path) → is_among q ps ≡ true → is_parent_of (parent q) ps ≡ true
@@ -64,5 +64,5 @@ clear_of_children parents children writes folders are = (
   (λ h r here. elim (or_cases (is_parent_of r writes) (is_parent_of r folders) (sym (are r) ∙ here)) [
     | inl w ↦ let c = child_among r writes w in ap children c.2 ∙ h c.0 (or_left _ _ c.1)
     | inr f ↦ let c = child_among r folders f in ap children c.2 ∙ h c.0 (or_right _ _ c.1)
-  ])
+  ]),
 )
