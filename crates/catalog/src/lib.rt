@@ -5,7 +5,6 @@ mod catalog;
 mod held;
 mod listed;
 mod refs;
-mod showing;
 mod sizes;
 
 pub use catalog::Catalog;

@@ -9,11 +9,10 @@ ghost use Rattle.catalog_semantics.specs.States.{place_of, declared_limit, lacks
 ghost use Rattle.catalog.specs.Adding.{added_to, with_lacking, filled_at, made_real, changed_at};
 
 use crate::refs::Refs;
-use crate::showing::shown_ref;
 use crate::sizes::{size_of_attributes, size_of_lacking};
 use catalog_semantics::Resource;
 use pp_eval::refusal;
-use pp_value::{Pairs, Ref, Value, copy_pairs};
+use pp_value::{Pairs, Ref, Value, copy_pairs, shown_ref};
 use rh_base::limits::{ATTRIBUTES_SIZE, DECLARED};
 use rh_base::{Fault, NoMemory, Text};
 use std::alloc::Global;

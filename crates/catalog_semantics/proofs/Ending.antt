@@ -198,9 +198,6 @@ real_once s h =
 
 -- ---- the rounds
 
-abbrev Enough : ℕ → State → Type 0
-Enough n s = declared_limit + 1 ≤ length s.ran + n
-
 -- where what follows the run is the same, so is the whole
 run_same : (site : Site) (f g : Effect) (s : State) (x : ℕ × Resource) (Q : State → Type 0) → Each Q (resource_runs site x s)
     → ((t : State) → Q t → f t ≡ g t) → run_and_go_on site f (Some x) s ≡ run_and_go_on site g (Some x) s

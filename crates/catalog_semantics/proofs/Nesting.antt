@@ -42,9 +42,6 @@ use Rattle.catalog_semantics.specs.Nesting.{Deeper}
 abbrev AreDeeper : Effect → Effect → Type 0
 AreDeeper f g = (s : State) → Deeper (f s) (g s)
 
-same_deeper : {A : Type 0} (x : Result A Refusal) → Deeper x x
-same_deeper x = inl refl
-
 on_deeper : {A B : Type 0} (x : Result A Refusal) (f g : A → Result B Refusal) → ((a : A) → Deeper (f a) (g a)) → Deeper (x >>= f) (x >>= g)
 on_deeper (Ok a) f g h = h a
 on_deeper (Err e) f g h = inl refl

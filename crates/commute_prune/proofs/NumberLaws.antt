@@ -60,12 +60,6 @@ still_numbers m more f ns x a = record {
   stems = λ n h. let s = a.stems n h in (s.0, s.1, x s.0 n s.2);
 }
 
-pub no_numbers : (m : BTreeMap Path ℕ) (f : Paths) → ((p : Path) → f p ≡ false) → AreNumbers m f []
-no_numbers m f none = record {
-  stands = λ p h. let no : true ≡ false = sym h ∙ none p in cc;
-  stems = λ n h. cc;
-}
-
 has_last : (n k : ℕ) (ns : List ℕ) → has n (ns ++ k ∷ []) ≡ (has n ns || (n == k))
 has_last n k [] = or_nothing (n == k)
   where

@@ -24,7 +24,7 @@ pub use laws::{
 };
 pub use numbers::{multiply, negate, subtract};
 pub use operations::{add, member};
-pub use showing::show;
+pub use showing::{show, shown_ref};
 pub use sizes::{exceeds_limits, size};
 pub use types::fits;
 pub use value::{Pairs, Ref, Value, copy_pairs};

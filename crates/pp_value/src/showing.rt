@@ -52,6 +52,15 @@ fn push_ref(alloc: Global, into: &mut Text, r: &Ref) -> Result<(), NoMemory>
     into.push("]")
 }
 
+/// A reference as a text of any length, as `File[/a]`.
+pub fn shown_ref(alloc: Global, r: &Ref) -> Result<Text, NoMemory>
+    ensures { IfOk result (λ text. text ≡ shown_ref r.now) }
+{
+    let mut text = Text::from_string(String::new(alloc));
+    push_ref(alloc, &mut text, r)?;
+    Ok(text)
+}
+
 /// Appends a value's text.
 #[cycle(show)]
 #[tactic(auto, using(crate::specs::Levels::shown_list, crate::specs::Levels::shown_map))]
