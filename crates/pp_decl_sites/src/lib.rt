@@ -9,5 +9,6 @@ mod parameter;
 mod site;
 
 pub use definition::Definition;
+pub use nodes::Node;
 pub use parameter::Parameter;
-pub use site::Site;
+pub use site::{Site, is_built_in};

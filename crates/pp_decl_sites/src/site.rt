@@ -40,8 +40,9 @@ impl<'m> Model for Site<'m> {
     ghost view = { λ s. record { classes = s.classes; defined_types = s.defined_types; nodes = s.nodes; node_name = s.node_name } };
 }
 
+/// Whether a type is built in.
 #[tactic(auto, using(crate::proofs::PlaceLaws::one_of_eight))]
-fn is_built_in(name: &str) -> bool
+pub fn is_built_in(name: &str) -> bool
     ensures { result ≡ is_built_in name.now }
 {
     let exec = name == "exec";
@@ -158,12 +159,6 @@ impl<'m> Site<'m> {
         let built_in = is_built_in(name);
         let defined = self.defined_types.has(name);
         built_in || defined
-    }
-
-    pub fn is_built_in(&self, name: &str) -> bool
-        ensures { result ≡ is_built_in name.now }
-    {
-        is_built_in(name)
     }
 
     /// Whether a class or a defined type has the name.
