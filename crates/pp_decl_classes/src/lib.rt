@@ -1,0 +1,8 @@
+//! How the bodies of classes and of defined resources begin, and the parents of a class that are still to be declared.
+#![tactic(auto)]
+
+mod beginning;
+mod laws;
+
+pub use beginning::{begin_class, begin_defined, copy_resource};
+pub use laws::{bodies_begin_and_end, classes_begin_and_end};
