@@ -33,7 +33,7 @@ stands_at : (n : ℕ) (ref : Ref) (refs : List Ref) → is_some (place_from n re
 stands_at n ref [] = refl
 stands_at n ref (q ∷ refs) = place_head n (same_ref q ref) (place_from (n + 1) ref refs) (stands_in ref refs) (stands_at (n + 1) ref refs) ∙ or_is (same_ref q ref) (stands_in ref refs)
 
-declared_at : (ref : Ref) (s : State) → is_some (place_of ref s.resources) ≡ is_declared ref s
+pub declared_at : (ref : Ref) (s : State) → is_some (place_of ref s.resources) ≡ is_declared ref s
 declared_at ref s = stands_at 0 ref (references_of s.resources)
 
 -- ---- adding a class

@@ -1,5 +1,5 @@
 -- The parents that aren't declared yet, the nearest first.
-use Rattle.std.specs.Prelude.{ℕ, zero, suc, if◌then◌else◌, List, [], ◌∷◌, reverse, Option, Some, None, Result, Ok, Err}
+use Rattle.std.specs.Prelude.{ℕ, zero, suc, if◌then◌else◌, List, [], ◌∷◌, ◌++◌, Option, Some, None, Result, Ok, Err}
 use Rattle.rh_base.specs.declared.fault.Refusal.{Refusal}
 use Rattle.pp_eval.specs.Verdicts.{◌>>=◌}
 use Rattle.catalog_semantics.specs.declared.state.State.{State}
@@ -30,8 +30,18 @@ nearest_first (suc n) site s d = do
   next ← next_parent site s d
   and_above (nearest_first n site s) next
 
+abbrev pub backwards : List Definition → List Definition
+backwards [] = []
+backwards (d ∷ ds) = backwards ds ++ d ∷ []
+
 -- the topmost first
 abbrev pub turned : Result (List Definition) Refusal → Result (List Definition) Refusal
 turned r = do
   ds ← r
-  Ok (reverse ds)
+  Ok (backwards ds)
+
+-- some of them, and then others
+abbrev pub with_front : List Definition → Result (List Definition) Refusal → Result (List Definition) Refusal
+with_front front r = do
+  more ← r
+  Ok (front ++ more)
