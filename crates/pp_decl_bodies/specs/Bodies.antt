@@ -1,5 +1,5 @@
 -- Bodies that are declared one after the other.
-use Rattle.std.specs.Prelude.{ℕ, List, ◌++◌, Result, Ok, Err}
+use Rattle.std.specs.Prelude.{ℕ, List, ◌++◌, Result, Ok}
 use Rattle.rh_base.specs.declared.fault.Refusal.{Refusal}
 use Rattle.pp_value.specs.declared.value.Ref.{Ref}
 use Rattle.pp_eval.specs.Verdicts.{◌>>=◌}

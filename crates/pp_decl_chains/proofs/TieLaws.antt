@@ -1,6 +1,5 @@
 -- Ties, one after the other.
 use Rattle.std.proofs.Common.{◌≡◌, ℕ, List, [], ◌∷◌, ◌++◌, refl, sym, ap, ◌∙◌, append_assoc, append-nil}
-use Rattle.pp_syntax.specs.declared.tree.Arrow.{Arrow}
 use Rattle.catalog_semantics.specs.declared.state.Side.{Side}
 use Rattle.catalog_semantics.specs.declared.state.State.{State}
 use Rattle.catalog_semantics.specs.declared.state.Tie.{Tie}

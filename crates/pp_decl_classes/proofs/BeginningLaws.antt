@@ -1,22 +1,19 @@
 -- How bodies begin, and what stays meanwhile.
-use Rattle.std.proofs.Common.{◌≡◌, ◌⊎◌, inl, inr, ℕ, ◌+◌, Bool, true, false, cond, ◌||◌, List, [], ◌∷◌, ◌++◌, map, length, refl, sym, ap, ◌∙◌}
-use Rattle.std.specs.Prelude.{nat_lt, is_none, is_some, codes, Option, Some, None, Result, Ok, Err}
-use Rattle.std.specs.List.{list_any}
+use Rattle.std.proofs.Common.{◌≡◌, ◌⊎◌, inl, inr, ℕ, ◌+◌, Bool, true, false, cond, ◌||◌, List, [], ◌∷◌, map, length, refl, sym, ap, ◌∙◌}
+use Rattle.std.specs.Prelude.{nat_lt, is_some, codes, Option, Some, Result, Ok, Err}
 use Rattle.rh_base.specs.declared.fault.Refusal.{Refusal}
 use Rattle.pp_syntax.specs.declared.tree.Stmt.{Stmt}
 use Rattle.pp_value.specs.declared.value.Ref.{Ref}
-use Rattle.pp_value.specs.declared.value.Value.{Value}
-use Rattle.pp_value.specs.declared.value.Value.TheVariants as v
-use Rattle.pp_value.specs.Values.{same_ref, value_at}
+use Rattle.pp_value.specs.Values.{same_ref}
 use Rattle.pp_value.specs.Shown.{shown_ref}
 use Rattle.pp_eval.specs.declared.scope.Scope.{Scope}
-use Rattle.pp_eval.specs.Verdicts.{◌>>=◌, refusal, bound_again}
-use Rattle.pp_eval.specs.Scoping.{class_scope, bindings_now, with_binding}
+use Rattle.pp_eval.specs.Verdicts.{◌>>=◌, refusal}
+use Rattle.pp_eval.specs.Scoping.{class_scope}
 use Rattle.catalog_semantics.specs.declared.catalog.Resource.{Resource}
 use Rattle.catalog_semantics.specs.declared.state.State.{State}
-use Rattle.catalog_semantics.specs.Sites.{Definition, Parameter}
-use Rattle.catalog_semantics.specs.States.{Effect, in_turn, references_of, stands_in, is_declared, place_from, place_of, is_new, has_room, has_size, added, bound, with_resource, as_added, declared_limit, attributes_limit, size_of_resources, with_scopes}
-use Rattle.catalog_semantics.specs.Declaring.{all_known, opened, begun, ended, body_runs, class_runs, one_more_body, given_or_else, fitting, parameter_bound, entering}
+use Rattle.catalog_semantics.specs.Sites.{Definition}
+use Rattle.catalog_semantics.specs.States.{Effect, in_turn, references_of, stands_in, is_declared, place_from, place_of, is_new, has_room, has_size, added, with_resource, as_added, declared_limit, attributes_limit, size_of_resources}
+use Rattle.catalog_semantics.specs.Declaring.{all_known, opened, begun, ended, body_runs, class_runs}
 use Rattle.pp_decl_classes.specs.Beginning.{body_begins, may_begin, class_added, class_begins, body_ends, body_goes, class_goes}
 
 -- ---- a place, or none
@@ -37,9 +34,6 @@ pub declared_at : (ref : Ref) (s : State) → is_some (place_of ref s.resources)
 declared_at ref s = stands_at 0 ref (references_of s.resources)
 
 -- ---- adding a class
-
-twice : (r : Resource) (s : State) → Refusal
-twice r s = refusal 24 r.at (shown_ref r.id)
 
 by_new : (r : Resource) (s : State) (b : Bool) → is_declared r.id s ≡ b → (may : Bool) → (may ≡ true) ⊎ (b ≡ true) → class_added may r s ≡ added r s
 by_new r s true h may k =

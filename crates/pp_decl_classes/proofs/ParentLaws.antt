@@ -8,7 +8,7 @@ use Rattle.catalog_semantics.specs.declared.state.State.{State}
 use Rattle.catalog_semantics.specs.Sites.{Definition, Site}
 use Rattle.catalog_semantics.specs.States.{is_declared}
 use Rattle.catalog_semantics.specs.Declaring.{class_ref, class_named, parents_by, line_down_to, parents_of}
-use Rattle.pp_decl_classes.specs.Parents.{next_by, next_parent, and_above, nearest_first, backwards, turned, with_front}
+use Rattle.pp_decl_classes.specs.Parents.{next_by, next_parent, and_above, nearest_first, turned, with_front}
 
 module _ (site : Site) (s : State) where
   -- ---- the topmost first

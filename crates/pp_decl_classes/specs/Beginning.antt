@@ -1,5 +1,5 @@
 -- How a body begins: all that is done before its first statement.
-use Rattle.std.specs.Prelude.{ℕ, Bool, true, if◌then◌else◌, List, length, map, codes, Option, Some, None, Result, Ok, Err}
+use Rattle.std.specs.Prelude.{ℕ, Bool, true, if◌then◌else◌, length, map, codes, Option, Result, Ok, Err}
 use Rattle.rh_base.specs.declared.fault.Refusal.{Refusal}
 use Rattle.pp_syntax.specs.declared.tree.Stmt.{Stmt}
 use Rattle.pp_eval.specs.declared.scope.Scope.{Scope}

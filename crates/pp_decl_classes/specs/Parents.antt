@@ -1,5 +1,5 @@
 -- The parents that aren't declared yet, the nearest first.
-use Rattle.std.specs.Prelude.{ℕ, zero, suc, if◌then◌else◌, List, [], ◌∷◌, ◌++◌, Option, Some, None, Result, Ok, Err}
+use Rattle.std.specs.Prelude.{ℕ, zero, suc, if◌then◌else◌, List, [], ◌∷◌, ◌++◌, Option, Some, None, Result, Ok}
 use Rattle.rh_base.specs.declared.fault.Refusal.{Refusal}
 use Rattle.pp_eval.specs.Verdicts.{◌>>=◌}
 use Rattle.catalog_semantics.specs.declared.state.State.{State}

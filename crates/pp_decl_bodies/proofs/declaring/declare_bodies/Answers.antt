@@ -1,4 +1,4 @@
-use Rattle.std.proofs.Common.{◌≡◌, ◌+◌, drop, ap, sym, ◌∙◌}
+use Rattle.std.proofs.Common.{◌+◌, drop, ap, sym, ◌∙◌}
 use Rattle.catalog_semantics.specs.Declaring.{resource_declared, bodies_declared}
 use Rattle.pp_decl_bodies.specs.Bodies.{declared_behind, ref_to}
 use Rattle.pp_decl_bodies.proofs.BodyLaws.{next_body, drop_step}
