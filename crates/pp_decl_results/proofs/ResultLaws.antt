@@ -1,6 +1,6 @@
 -- What the resource at a place adds.
 use Rattle.std.proofs.Common.{◌≡◌, arith, ℕ, zero, suc, ◌+◌, Bool, true, false, cond, List, [], ◌∷◌, ◌++◌, map, length, drop, add-one, refl, sym, ap, ◌∙◌, append_assoc}
-use Rattle.std.specs.Prelude.{filter, slice_get, Option, Some, None}
+use Rattle.std.specs.Prelude.{filter, slice_get, Some}
 use Rattle.pp_value.specs.declared.value.Ref.{Ref}
 use Rattle.catalog_semantics.specs.declared.catalog.Relation.{Relation}
 use Rattle.catalog_semantics.specs.declared.catalog.Resource.{Resource}

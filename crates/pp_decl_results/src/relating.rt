@@ -13,12 +13,7 @@ use rh_base::{NoMemory, Seq};
 use std::alloc::Global;
 
 /// Appends the reference to a resource that is real, where the collector matches it.
-fn push_hit(
-    alloc: Global,
-    c: &Collector,
-    r: &Resource,
-    refs: &mut Seq<Ref>,
-) -> Result<(), NoMemory>
+fn push_hit(alloc: Global, c: &Collector, r: &Resource, refs: &mut Seq<Ref>) -> Result<(), NoMemory>
     ensures { OnOk result (refs.new ≡ refs.old ++ hits c.now r.now) }
 {
     let hit = matches(c, r);
