@@ -1,0 +1,10 @@
+//! Which block of a condition or of a `case` is chosen.
+#![tactic(auto)]
+
+mod cases;
+mod conditions;
+mod laws;
+
+pub use cases::chosen_option;
+pub use conditions::chosen_arm;
+pub use laws::{cases_run_one_block, conditions_run_one_block};

@@ -1,0 +1,7 @@
+//! Which resources a collector matches.
+#![tactic(auto)]
+
+mod equality;
+mod matching;
+
+pub use matching::matches;
