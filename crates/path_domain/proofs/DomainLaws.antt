@@ -107,6 +107,20 @@ append_none : (p : Path) → p ++ [] ≡ p
 append_none [] = refl
 append_none (s ∷ p) = ap (λ q. s ∷ q) (append_none p)
 
+or_none : (b : Bool) → (b || false) ≡ b
+or_none true = refl
+or_none false = refl
+
+-- the paths of the programs with those above them are the named ones
+pub named_exactly : (es : List Program) (ps : List Path) → SameMembers ps (paths_among (all_matters es)) → (q : Path) → IsTrue (is_among q (all_fronts ps)) ↔ IsNamed es q
+named_exactly es ps same q = (
+  (λ h. (named_told es q).0 (same_fronts ps (paths_among (all_matters es)) q same h)),
+  (λ h. same_fronts (paths_among (all_matters es)) ps q (λ p. sym (same p)) ((named_told es q).1 h)),
+)
+
+pub paths_in : (es : List Program) (f : Found) → told f ≡ gather (all_matters es) nothing → (q : Path) → is_among q f.paths.keys ≡ is_among q (paths_among (all_matters es))
+paths_in es f found q = ap (λ (g : Gathered). g.paths q) found ∙ paths_are (all_matters es) nothing q ∙ or_none (is_among q (paths_among (all_matters es)))
+
 -- ---- the parts of a layout
 
 pub record Parts (es : List Program) (ps ws ks : List Path) (fresh : Paths) (n : ℕ) : Type 0 where
@@ -116,16 +130,12 @@ pub record Parts (es : List Program) (ps ws ks : List Path) (fresh : Paths) (n :
   pub children : (q : Path) → fresh q ≡ list_any (λ p. path_eq q (p ++ other_segment n ∷ [])) ws
   pub all : (q : Path) → is_among q ks ≡ (fresh q || is_among q (all_fronts ps))
 
-or_none : (b : Bool) → (b || false) ≡ b
-or_none true = refl
-or_none false = refl
-
 pub parts_of : (es : List Program) (f : Found) (ks : List Path) (name : List ℕ) (fresh : Paths) → told f ≡ gather (all_matters es) nothing
     → (named : (n : ℕ) × (name ≡ other_segment n) × IsFirstFailure (λ k. IsTrue (has_segment (other_segment k) f.paths.keys)) n)
     → ((q : Path) → fresh q ≡ list_any (λ p. path_eq q (p ++ name ∷ [])) f.watched.keys) → ((q : Path) → is_among q ks ≡ (fresh q || is_among q (all_fronts f.paths.keys)))
     → Parts es f.paths.keys f.watched.keys ks fresh named.0
 parts_of es f ks name fresh found named children all = record {
-  paths = λ q. ap (λ (g : Gathered). g.paths q) found ∙ paths_are (all_matters es) nothing q ∙ or_none (is_among q (paths_among (all_matters es)));
+  paths = paths_in es f found;
   watched = λ q. ap (λ (g : Gathered). g.watched q) found ∙ watched_are (all_matters es) nothing q ∙ or_none (is_among q (watched_among (all_matters es)));
   segment = named.2;
   children = λ q. children q ∙ ap (λ s. list_any (λ p. path_eq q (p ++ s ∷ [])) f.watched.keys) named.1;
@@ -149,10 +159,10 @@ module _ (es : List Program) (ps ws ks : List Path) (fresh : Paths) (n : ℕ) (p
   }
 
   named_there : (q : Path) → is_among q (all_fronts ps) ≡ true → IsNamed es q
-  named_there q h = (named_told es q).0 (same_fronts ps (paths_among (all_matters es)) q parts.paths h)
+  named_there q = (named_exactly es ps parts.paths q).0
 
   named_found : (q : Path) → IsNamed es q → is_among q (all_fronts ps) ≡ true
-  named_found q h = same_fronts (paths_among (all_matters es)) ps q (λ p. sym (parts.paths p)) ((named_told es q).1 h)
+  named_found q = (named_exactly es ps parts.paths q).1
 
   fresh_there : (q : Path) → fresh q ≡ true → IsFreshChild es (other_segment n) q
   fresh_there q h =

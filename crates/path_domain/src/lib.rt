@@ -13,4 +13,4 @@ mod stems;
 mod walk;
 
 pub use listed::Domain;
-pub use making::domain;
+pub use making::{domain, named};

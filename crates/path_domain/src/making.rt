@@ -1,9 +1,9 @@
 //! The domain of programs.
 
-ghost use Rattle.std.specs.Prelude.{◌≡◌, ◌||◌, ◌++◌, ℕ, map, IsTrue, IfOk, OnOk};
+ghost use Rattle.std.specs.Prelude.{◌≡◌, ◌↔◌, ◌||◌, ◌++◌, ℕ, map, IsTrue, IfOk, OnOk};
 ghost use Rattle.fs_semantics.specs.FileTree.{Path as Segments, is_among};
 ghost use Rattle.fs_lang.specs.Meaning.{program_of};
-ghost use Rattle.finite_domain.specs.Domains.{IsDomain};
+ghost use Rattle.finite_domain.specs.Domains.{IsNamed, IsDomain};
 ghost use Rattle.finite_domain.specs.Matters.{all_matters, all_fronts, has_segment};
 ghost use Rattle.finite_domain.specs.Layouts.{numbered, other_segment, stem, IsFirstFailure, domain_of, IsLayout};
 ghost use Rattle.path_domain.specs.Gathered.{members, told, gather, nothing};
@@ -31,6 +31,15 @@ fn found_in(alloc: Global, programs: &[Program]) -> Result<Found, NoMemory>
     let mut found = nothing(alloc)?;
     walk_all(alloc, programs, &mut found)?;
     Ok(found)
+}
+
+/// The paths of the programs and those above them, the root aside.
+pub fn named(alloc: Global, programs: &[Program]) -> Result<BTreeSet<Path>, NoMemory>
+    ensures { IfOk result (λ set. (q : Segments) → IsTrue (is_among q set.keys) ↔ IsNamed (map program_of programs.now) q) }
+{
+    let found = found_in(alloc, programs)?;
+    let set = with_fronts(alloc, &found.paths)?;
+    Ok(set)
 }
 
 /// The segment of the fresh children.
