@@ -99,11 +99,11 @@ no_child_root : (p : Path) (s : Segment) → p ++ s ∷ [] ≢ []
 no_child_root [] s e = cc
 no_child_root (t ∷ p) s e = cc
 
-root_or : (p : Path) → (p ≡ []) ⊎ (p ≢ [])
+pub root_or : (p : Path) → (p ≡ []) ⊎ (p ≢ [])
 root_or [] = inl refl
 root_or (s ∷ p) = inr (λ e. cc)
 
-append_none : (p : Path) → p ++ [] ≡ p
+pub append_none : (p : Path) → p ++ [] ≡ p
 append_none [] = refl
 append_none (s ∷ p) = ap (λ q. s ∷ q) (append_none p)
 

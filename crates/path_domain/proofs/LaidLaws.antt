@@ -115,7 +115,7 @@ pub next_path : (front rest all : List Path) (p : Path) → front ++ p ∷ rest 
 next_path front rest all p is sorted =
     ap (λ o. or_added o front p ++ rest) (no_place front p (before_all front rest p (subst Sorted (sym is) sorted))) ∙ append_assoc front (p ∷ []) rest ∙ is
 
-stands : (ps : List Path) (p : Path) → is_among p ps ≡ true → (i : ℕ) × (slice_get ps i ≡ Some p)
+pub stands : (ps : List Path) (p : Path) → is_among p ps ≡ true → (i : ℕ) × (slice_get ps i ≡ Some p)
 stands [] p h = cc
 stands (q ∷ ps) p h = elim (or_cases (path_eq p q) (is_among p ps) h) [
   | inl here ↦ (0, ap Some (sym (path_eq_same p q here)))

@@ -6,3 +6,4 @@ pub mod LaidLaws
 pub mod UseLaws
 pub mod PlaceLaws
 pub mod DomainLaws
+pub mod CoverLaws

@@ -2,7 +2,8 @@
 
 ghost use Rattle.std.specs.Prelude.{◌≡◌, ◌↔◌, ◌||◌, ◌++◌, ℕ, map, IsTrue, IfOk, OnOk};
 ghost use Rattle.fs_semantics.specs.FileTree.{Path as Segments, is_among};
-ghost use Rattle.fs_lang.specs.Meaning.{program_of};
+ghost use Rattle.fs_lang.specs.Meaning.{program_of, programs_in};
+ghost use Rattle.fs_interpreter.specs.Places.{CoversSteps};
 ghost use Rattle.finite_domain.specs.Domains.{IsNamed, IsDomain};
 ghost use Rattle.finite_domain.specs.Matters.{all_matters, all_fronts, has_segment};
 ghost use Rattle.finite_domain.specs.Layouts.{numbered, other_segment, stem, IsFirstFailure, domain_of, IsLayout};
@@ -76,6 +77,7 @@ fn add_fresh_texts(alloc: Global, table: &mut Table) -> Result<(), NoMemory>
 /// The finite domain of these programs: their paths and those above them, fresh children, and contents.
 pub fn domain(alloc: Global, programs: &[Program]) -> Result<Domain, NoMemory>
     ensures layout { IfOk result (λ d. IsLayout (map program_of programs.now) (layout_of d)) }
+    ensures covers { IfOk result (λ d. CoversSteps d.table (programs_in programs.now)) }
     ensures domain { IfOk result (λ d. IsDomain (map program_of programs.now) (domain_of (layout_of d))) }
 {
     domains();

@@ -1,4 +1,4 @@
-use Rattle.std.proofs.Common.{◌≤◌, ◌^◌, ◌++◌, map, length, sym, ap, subst, ◌∙◌}
+use Rattle.std.proofs.Common.{◌≤◌, ◌^◌, ◌++◌, map, length, sym, ap, subst, ◌∙◌, refl}
 use Rattle.std.specs.List.Sorted.{IsStrictlySortedBy}
 use Rattle.fs_semantics.specs.FileTree.{IsSegment, path_cmp}
 use Rattle.fs_lang.specs.Meaning.{program_of}
@@ -8,6 +8,7 @@ use Rattle.path_domain.specs.Gathered.{Gathered, members, nothing}
 use Rattle.path_domain.specs.Laid.{places_from, layout_of}
 use Rattle.path_domain.proofs.UseLaws.{table_paths, contents_are}
 use Rattle.path_domain.proofs.DomainLaws.{other_is_segment, parts_of, have_parents, is_layout}
+use Rattle.path_domain.proofs.CoverLaws.{all_covered}
 use Rattle.path_domain.proofs.making.domain.Goals as goal
 
 pub children-requires : goal.children-requires
@@ -42,3 +43,7 @@ returns-clause-layout c =
 
 pub returns-clause-domain : goal.returns-clause-domain
 returns-clause-domain c = c.domains.ensures.laid_out (map program_of c.args.programs.now) (layout_of (record { table = c.add_fresh_texts.new.table; fresh = c.in_ok-places.places })) (returns-clause-layout c)
+
+pub returns-clause-covers : goal.returns-clause-covers
+returns-clause-covers c =
+    all_covered c.args.programs.now (layout_of (record { table = c.add_fresh_texts.new.table; fresh = c.in_ok-places.places })) (returns-clause-layout c) c.add_fresh_texts.new.table refl refl
