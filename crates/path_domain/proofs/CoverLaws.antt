@@ -1,5 +1,5 @@
 -- A table with the layout of the programs' domain has all that they mention.
-use Rattle.std.proofs.Common.{◌≡◌, inl, inr, true, ℕ, suc, Some, List, [], ◌∷◌, ◌++◌, map, refl, sym, ap, subst, ◌∙◌}
+use Rattle.std.proofs.Common.{◌≡◌, inl, inr, true, ℕ, suc, Some, List, [], ◌∷◌, map, refl, sym, ap, subst, ◌∙◌}
 use Rattle.std.specs.Prelude.{slice_get}
 use Rattle.std.proofs.lemmas.Bool.{or_cases, or_right}
 use Rattle.fs_semantics.specs.FileTree.{Path}

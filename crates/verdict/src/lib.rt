@@ -2,6 +2,8 @@
 #![tactic(auto)]
 
 mod counts;
+mod laws;
 mod weighing;
 
+pub use laws::weights;
 pub use weighing::weight;
