@@ -1,5 +1,5 @@
 -- Sums that are capped, and the work of programs by two counts of children.
-use Rattle.std.proofs.Common.{◌≡◌, ◌⊎◌, inl, inr, ℕ, zero, suc, ◌+◌, ◌-◌, ◌*◌, ◌^◌, ◌<◌, ◌≤◌, min, Bool, true, false, cond, Some, List, [], ◌∷◌, map, length, drop, get_or, refl, sym, ap, ap₂, subst, ◌∙◌, arith}
+use Rattle.std.proofs.Common.{◌≡◌, ◌⊎◌, inl, inr, ℕ, zero, suc, ◌+◌, ◌-◌, ◌*◌, ◌^◌, ◌<◌, ◌≤◌, min, Bool, true, false, cond, Some, List, [], ◌∷◌, map, length, drop, get_or, refl, sym, ap, ap₂, ◌∙◌, arith}
 use Rattle.std.proofs.Math.Nat.{le-mul_of_pos_right, mul_comm, mul-zero}
 use Rattle.std.proofs.lemmas.List.{drop_more, length-map}
 use Rattle.std.specs.BTreeMap.{BTreeMap, Updates, get}
@@ -13,9 +13,6 @@ use Rattle.verdict.specs.Weights.{child_count, test_work, work, steps_work, all_
 -- what is capped on the way is capped at the end
 pub capped_sum : (s a b : ℕ) → capped (capped (s + a) + b) ≡ capped (s + (a + b))
 capped_sum s a b = omega arith
-
-pub capped_first : (a b c : ℕ) → capped a ≡ capped b → capped (a + c) ≡ capped (b + c)
-capped_first a b c h = omega (arith, h)
 
 pub capped_both : (a b c d : ℕ) → capped a ≡ capped b → capped c ≡ capped d → capped (a + c) ≡ capped (b + d)
 capped_both a b c d h k = omega (arith, h, k)
@@ -101,9 +98,6 @@ min_left x m h = omega (arith, h)
 
 reaches : (m a w : ℕ) → m ≤ a → 0 < w → m ≤ a * w
 reaches m a w h l = let more = le-mul_of_pos_right a l in omega (arith, h, more)
-
-reaches_too : (m a w : ℕ) → 0 < a → m ≤ w → m ≤ a * w
-reaches_too m a w l h = subst (λ x. m ≤ x) (mul_comm w a) (reaches m w a h l)
 
 large : (m a w : ℕ) → 0 < m → m ≤ a → min (min a m * min w m) m ≡ min (a * w) m
 large m a zero p h = ap (λ x. min (min a m * x) m) (none_of m) ∙ ap (λ x. min x m) (mul-zero (min a m)) ∙ sym (ap (λ x. min x m) (mul-zero a))
