@@ -1,0 +1,148 @@
+//! The finite domain: its paths in order, the places of its fresh children, and its contents.
+
+use crate::words::{programs, push_number, push_path, push_word};
+use path_domain::{Domain, domain, named};
+use rh_base::Text;
+use std::alloc::Global;
+use std::process::Abort;
+use std::test::Fail;
+
+fn domain_of(rt: &impl Abort, alloc: Global, words: &str) -> Domain {
+    let all = programs(rt, alloc, words);
+    domain(alloc, all.as_slice()).ok().expect(rt, "memory")
+}
+
+/// The paths, then the places of the fresh children.
+fn paths_of(rt: &impl Abort, alloc: Global, words: &str) -> Text {
+    let d = domain_of(rt, alloc, words);
+    let mut shown = Text::new(alloc);
+    for i in 0..d.table.path_count() {
+        push_path(rt, alloc, &mut shown, d.table.path(i));
+    }
+    for i in d.fresh.as_slice() {
+        push_number(rt, alloc, &mut shown, *i);
+    }
+    shown
+}
+
+/// The contents, each in brackets.
+fn contents_of(rt: &impl Abort, alloc: Global, words: &str) -> Text {
+    let d = domain_of(rt, alloc, words);
+    let mut shown = Text::new(alloc);
+    for n in 0..d.table.content_count() {
+        push_word(rt, &mut shown, "[");
+        push_word(rt, &mut shown, d.table.content(n).as_str());
+    }
+    shown
+}
+
+fn named_of(rt: &impl Abort, alloc: Global, words: &str) -> Text {
+    let all = programs(rt, alloc, words);
+    let paths = named(alloc, all.as_slice()).ok().expect(rt, "memory");
+    let mut shown = Text::new(alloc);
+    for p in &paths {
+        push_path(rt, alloc, &mut shown, p);
+    }
+    shown
+}
+
+#[test]
+fn paths_and_fresh_children(rt: HostRuntime) -> Result<(), Fail> {
+    let alloc = rt.alloc();
+    for (words, want) in [
+        ("", ""),
+        ("id", ""),
+        ("mkdir /a/b", "/a /a/b"),
+        ("mkdir /b/c | mkdir /a", "/a /b /b/c"),
+        ("mkdir /a/b | mkdir /a.b", "/a /a/b /a.b"),
+        ("cp /a /b/c", "/a /b /b/c"),
+        ("link /a /b/c", "/a"),
+        ("if file? /x/y: id, err", "/x /x/y"),
+        ("rm /a", "/a /a/other 1"),
+        ("if emptydir? /a: id, err", "/a /a/other 1"),
+        ("if emptydir? /: id, err", "/other 0"),
+        ("rm /a | if emptydir? /a: id, err", "/a /a/other 1"),
+        ("rm /a/b", "/a /a/b /a/b/other 2"),
+        ("rm /b | rm /a", "/a /a/other /b /b/other 1 3"),
+        // The absent package removes the folder that its listing names, unless something else is in it.
+        (
+            "if file? /.rehearsal/package/p: rm /.rehearsal/package/p, id; sweep /opt/p",
+            "/.rehearsal /.rehearsal/package /.rehearsal/package/p /.rehearsal/package/p/other /opt /opt/p /opt/p/other 3 6",
+        ),
+    ] {
+        let found = paths_of(&rt, alloc, words);
+        assert_eq!(rt; found.as_str(), want, "{words}");
+    }
+    Ok(())
+}
+
+#[test]
+fn segments_that_are_taken(rt: HostRuntime) -> Result<(), Fail> {
+    let alloc = rt.alloc();
+    for (words, want) in [
+        ("mkdir /other | rm /a", "/a /a/otherx /other 1"),
+        ("mkdir /otherx | rm /a", "/a /a/other /otherx 1"),
+        (
+            "mkdir /other/otherx | rm /a",
+            "/a /a/otherxx /other /other/otherx 1",
+        ),
+        (
+            "mkdir /otherx/other | rm /a",
+            "/a /a/otherxx /otherx /otherx/other 1",
+        ),
+        ("mkdir /another | rm /a", "/a /a/other /another 1"),
+        ("rm /other", "/other /other/otherx 1"),
+        ("rm /other/a", "/other /other/a /other/a/otherx 2"),
+    ] {
+        let found = paths_of(&rt, alloc, words);
+        assert_eq!(rt; found.as_str(), want, "{words}");
+    }
+    Ok(())
+}
+
+#[test]
+fn contents_and_fresh_texts(rt: HostRuntime) -> Result<(), Fail> {
+    let alloc = rt.alloc();
+    for (words, want) in [
+        ("", "[ "),
+        ("mkdir /a", "[  [ text0"),
+        ("rm /a", "[  [ text0 [ text1"),
+        ("creat /a x", "[  [ x [ text0"),
+        ("creat /a ", "[  [ text0"),
+        ("link /a /b", "[  [ /b [ text0"),
+        (
+            "creat /b y; creat /c x | creat /b y",
+            "[  [ y [ x [ text0 [ text1",
+        ),
+        ("if true: creat /a x, creat /a z", "[  [ x [ z [ text0"),
+        ("creat /a text", "[  [ text [ textx0"),
+        ("creat /a textual", "[  [ textual [ textx0"),
+        ("creat /a text7", "[  [ text7 [ textx0"),
+        ("creat /a textx", "[  [ textx [ textxx0"),
+        (
+            "link /a textxy | creat /b texty",
+            "[  [ textxy [ texty [ textxx0 [ textxx1",
+        ),
+        ("creat /a tex", "[  [ tex [ text0"),
+        ("creat /a a.text", "[  [ a.text [ text0"),
+    ] {
+        let found = contents_of(&rt, alloc, words);
+        assert_eq!(rt; found.as_str(), want, "{words}");
+    }
+    Ok(())
+}
+
+#[test]
+fn named_paths(rt: HostRuntime) -> Result<(), Fail> {
+    let alloc = rt.alloc();
+    for (words, want) in [
+        ("", ""),
+        ("rm /a/b", "/a /a/b"),
+        ("if emptydir? /: id, err", ""),
+        ("mkdir /b/c | cp /a /b/d", "/a /b /b/c /b/d"),
+    ] {
+        let found = named_of(&rt, alloc, words);
+        assert_eq!(rt; found.as_str(), want, "{words}");
+    }
+    Ok(())
+}

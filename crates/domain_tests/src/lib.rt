@@ -1,0 +1,13 @@
+//! Tests of footprints, pruning, the finite domain and the weight of programs.
+#![tactic(auto)]
+
+#[cfg(test)]
+mod domains;
+#[cfg(test)]
+mod footprints;
+#[cfg(test)]
+mod pruning;
+#[cfg(test)]
+mod weights;
+#[cfg(test)]
+mod words;

@@ -1,0 +1,11 @@
+use Rattle.std.proofs.Common.{◌∙◌}
+use Rattle.std.specs.Map.Iter.{deref}
+use Rattle.std.proofs.lemmas.Map.Iter.{rest_more}
+use Rattle.path_domain.specs.Gathered.{members}
+use Rattle.path_domain.proofs.LaidLaws.{fronts_put}
+use Rattle.path_domain.proofs.fronts.with_fronts.Goals as goal
+
+pub loop-p-preserved : goal.loop-p-preserved
+loop-p-preserved c q =
+    let next = rest_more deref c.loop-p.p-iterator c.next.new.self c.next.result c.in-Some.p c.in-Some.is c.next.ensures.steps in
+    fronts_put c.loop-p.p-iterator c.next.new.self c.in-Some.p.now (members c.loop-p.set) (members c.add_fronts.new.set) q next (c.in_ok-add_fronts.ensures q) ∙ c.loop-p.invariant q

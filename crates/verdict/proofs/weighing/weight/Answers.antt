@@ -1,0 +1,12 @@
+use Rattle.verdict.specs.Weights.{count_in, child_count}
+use Rattle.verdict.proofs.WeightLaws.{weighed}
+use Rattle.verdict.proofs.weighing.weight.Goals as goal
+
+pub returns : goal.returns
+returns c = record {
+  named = c.in_ok-paths.paths.keys;
+  in_order = c.in_ok-counts.ensures.in_order;
+  named_are = c.in_ok-paths.ensures;
+  weight = weighed c.args.programs.now (count_in c.in_ok-counts.counts) (child_count c.in_ok-paths.paths.keys) c.weigh_all-work.result c.saturating_mul.result c.saturating_mul-2.result
+      c.in_ok-counts.ensures.counts c.weigh_all-work.ensures c.saturating_mul.ensures c.saturating_mul-2.ensures;
+}
