@@ -114,6 +114,12 @@ fn programs_with_edges(rt: HostRuntime) -> Result<(), Fail> {
         "if file? /a or link? /a: rm /a, id; link /a /b | put /a/c x",
     );
     assert_eq!(rt; link.as_str(), "kept first last 0 1");
+    Ok(())
+}
+
+#[test]
+fn programs_that_are_kept(rt: HostRuntime) -> Result<(), Fail> {
+    let alloc = rt.alloc();
     // The first one goes to the front, since two clash behind it.
     let front = pruned(
         &rt,
