@@ -1,6 +1,6 @@
 //! The finite domain: its paths in order, the places of its fresh children, and its contents.
 
-use crate::words::{programs, push_number, push_path, push_word};
+use crate::words::{program, programs, push_number, push_path, push_word};
 use path_domain::{Domain, domain, named};
 use rh_base::Text;
 use std::alloc::Global;
@@ -144,5 +144,30 @@ fn named_paths(rt: HostRuntime) -> Result<(), Fail> {
         let found = named_of(&rt, alloc, words);
         assert_eq!(rt; found.as_str(), want, "{words}");
     }
+    Ok(())
+}
+
+/// A file in each of so many folders, so many times.
+fn files(rt: &impl Abort, alloc: Global, folders: u32, times: u32) -> Domain {
+    let mut all = Vec::new(alloc);
+    for i in 0..folders {
+        for j in 0..times {
+            let words = format!(in alloc; "creat /d{i}/f{j} x")
+                .ok()
+                .expect(rt, "memory");
+            all.push(program(rt, alloc, words.as_str()))
+                .ok()
+                .expect(rt, "memory");
+        }
+    }
+    domain(alloc, all.as_slice()).ok().expect(rt, "memory")
+}
+
+#[test]
+fn thousands_of_paths(rt: HostRuntime) -> Result<(), Fail> {
+    let d = files(&rt, rt.alloc(), 64, 63);
+    assert_eq!(rt; d.table.path_count(), 4_096);
+    assert_eq!(rt; d.table.content_count(), 4_098);
+    assert_eq!(rt; d.fresh.len(), 0);
     Ok(())
 }

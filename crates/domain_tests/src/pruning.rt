@@ -2,7 +2,7 @@
 
 ghost use Rattle.orders.specs.Paths.{EndsBelow};
 
-use crate::words::{programs, push_number, push_word};
+use crate::words::{program, programs, push_number, push_word};
 use commute_prune::prune;
 use orders::Order;
 use rh_base::Text;
@@ -96,6 +96,30 @@ fn programs_with_edges(rt: HostRuntime) -> Result<(), Fail> {
     // A source that is removed afterwards.
     let source = pruned(&rt, alloc, 2, &[(0, 1)], "cp /src /dst | drop /src");
     assert_eq!(rt; source.as_str(), "kept first last 0 1");
+    // A file, and one below it.
+    let below = pruned(
+        &rt,
+        alloc,
+        2,
+        &[(0, 1)],
+        "if file? /a: id, creat /a | if file? /a/b: id, creat /a/b",
+    );
+    assert_eq!(rt; below.as_str(), "kept first last 0 1");
+    // A link, and a file below it.
+    let link = pruned(
+        &rt,
+        alloc,
+        2,
+        &[(0, 1)],
+        "if file? /a or link? /a: rm /a, id; link /a /b | put /a/c x",
+    );
+    assert_eq!(rt; link.as_str(), "kept first last 0 1");
+    Ok(())
+}
+
+#[test]
+fn programs_that_are_kept(rt: HostRuntime) -> Result<(), Fail> {
+    let alloc = rt.alloc();
     // The first one goes to the front, since two clash behind it.
     let front = pruned(
         &rt,
@@ -123,5 +147,30 @@ fn programs_with_edges(rt: HostRuntime) -> Result<(), Fail> {
         "mkdir /a | creat /a/b x | creat /a/b y | mkdir /c",
     );
     assert_eq!(rt; blocked.as_str(), "kept 1 2 first 3 0 last");
+    Ok(())
+}
+
+/// How many are kept of n files with content.
+fn kept_of_files(rt: &impl Abort, alloc: Global, n: u32) -> usize {
+    let mut all = Vec::new(alloc);
+    for i in 1..=n {
+        let words = format!(in alloc; "put /f{i} x").ok().expect(rt, "memory");
+        all.push(program(rt, alloc, words.as_str()))
+            .ok()
+            .expect(rt, "memory");
+    }
+    let order = Order::from_edges(alloc, n, &[]).ok().expect(rt, "an order");
+    if all.len() != order.count() as usize {
+        return all.len() + 1;
+    }
+    let p = prune(alloc, all.as_slice(), &order)
+        .ok()
+        .expect(rt, "memory");
+    p.kept.len()
+}
+
+#[test]
+fn many_files(rt: HostRuntime) -> Result<(), Fail> {
+    assert_eq!(rt; kept_of_files(&rt, rt.alloc(), 256), 0);
     Ok(())
 }

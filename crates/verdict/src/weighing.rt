@@ -1,6 +1,6 @@
 //! The weight of programs.
 
-ghost use Rattle.std.specs.Prelude.{◌≡◌, ◌+◌, map, IfOk};
+ghost use Rattle.std.specs.Prelude.{◌≡◌, ◌+◌, ◌*◌, map, IfOk};
 ghost use Rattle.fs_lang.specs.Meaning.{test_of, program_of, programs_in};
 ghost use Rattle.verdict.specs.Weights.{test_work, work, steps_work, capped, Weighs, count_in};
 
@@ -82,6 +82,13 @@ fn weigh_choice(a: &Test, e: &Program, f: &Program, counts: &BTreeMap<Path, u64>
     weigh(f, counts, weigh(e, counts, asked))
 }
 
+/// Twice as many, times the work.
+fn product(n: u64, work: u64) -> u64
+    ensures { result ≡ capped (capped (n * 2) * work) }
+{
+    n.saturating_mul(2).saturating_mul(work)
+}
+
 /// How much work the questions about these programs are: twice their number, times the work of all, and the greatest u64
 /// where that is more.
 pub fn weight(alloc: Global, programs: &[Program]) -> Result<u64, NoMemory>
@@ -90,9 +97,5 @@ pub fn weight(alloc: Global, programs: &[Program]) -> Result<u64, NoMemory>
     let paths = named(alloc, programs)?;
     let counts = children_of(alloc, &paths)?;
     let work = weigh_all(programs, &counts, 0);
-    Ok(
-        (programs.len() as u64)
-            .saturating_mul(2)
-            .saturating_mul(work),
-    )
+    Ok(product(programs.len() as u64, work))
 }

@@ -1,4 +1,5 @@
-use Rattle.verdict.specs.Weights.{count_in, child_count}
+use Rattle.std.proofs.Common.{◌*◌, length, refl}
+use Rattle.verdict.specs.Weights.{capped, count_in, child_count}
 use Rattle.verdict.proofs.WeightLaws.{weighed}
 use Rattle.verdict.proofs.weighing.weight.Goals as goal
 
@@ -7,6 +8,6 @@ returns c = record {
   named = c.in_ok-paths.paths.keys;
   in_order = c.in_ok-counts.ensures.in_order;
   named_are = c.in_ok-paths.ensures;
-  weight = weighed c.args.programs.now (count_in c.in_ok-counts.counts) (child_count c.in_ok-paths.paths.keys) c.weigh_all-work.result c.saturating_mul.result c.saturating_mul-2.result
-      c.in_ok-counts.ensures.counts c.weigh_all-work.ensures c.saturating_mul.ensures c.saturating_mul-2.ensures;
+  weight = weighed c.args.programs.now (count_in c.in_ok-counts.counts) (child_count c.in_ok-paths.paths.keys) c.weigh_all-work.result (capped (length c.args.programs.now * 2)) c.product.result
+      c.in_ok-counts.ensures.counts c.weigh_all-work.ensures refl c.product.ensures;
 }
