@@ -7,4 +7,4 @@ mod laws;
 
 pub use cases::chosen_option;
 pub use conditions::chosen_arm;
-pub use laws::{cases_run_one_block, conditions_run_one_block};
+pub use laws::{cases_run_one_block, chosen_blocks_are_own, conditions_run_one_block};
