@@ -1,14 +1,17 @@
-//! The order of paths: segment by segment, each by its bytes.
+//! The order of paths, segment by segment, each by its bytes, and how they are hashed.
 
 ghost use Rattle.std.specs.Prelude.{◌≡◌, Some, refl};
 ghost use Rattle.std.specs.Cmp.{eq_by_cmp_equiv, partial_equiv_from_equiv, partial_order_from_total};
 ghost use Rattle.std.specs.Ordering.{as_partial_cmp, eq_by_cmp};
+ghost use Rattle.std.specs.Hash as fed;
+ghost use Rattle.std.proofs.Common.{ap};
 ghost use Rattle.fs_semantics.specs.FileTree.{path_cmp};
-ghost use Rattle.fs_semantics.proofs.Trees.{path_total};
+ghost use Rattle.fs_semantics.proofs.Trees.{path_total, path_eq_same};
 
 use crate::Path;
 use rh_base::Text;
 use std::cmp::Ordering;
+use std::hash::{Hash, Hasher};
 
 fn compare(p: &[Text], q: &[Text]) -> Ordering
     ensures { result ≡ path_cmp p.now q.now }
@@ -45,6 +48,17 @@ impl PartialEq for Path {
 
 impl Eq for Path {
     ghost laws = { eq_by_cmp_equiv path_total };
+}
+
+/// As the list of the segments is hashed.
+impl Hash for Path {
+    ghost hash_input = { λ p. fed.slice fed.str p };
+
+    ghost respects_eq = { λ x y h. ap (fed.slice fed.str) (path_eq_same x y h) };
+
+    fn hash<H: Hasher>(&self, state: &mut H) {
+        self.segments().hash(state);
+    }
 }
 
 impl PartialOrd for Path {
