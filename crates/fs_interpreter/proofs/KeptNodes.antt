@@ -1,12 +1,9 @@
 -- How a table is kept, from its nodes to plain lists and back.
-use Rattle.std.proofs.Common.{◌≡◌, ◌≢◌, ℕ, zero, suc, Bool, true, false, cond, List, [], ◌∷◌, ◌++◌, length, map, slice_get, Option, Some, None, refl, sym, ap, subst, ◌∙◌, String, string_bytes, string_cmp, bytes_eq}
-use Rattle.std.specs.BTreeMap as stored
-use Rattle.std.specs.BTreeMap.{BTreeMap, UpdatesBy, is_at}
-use Rattle.std.specs.Ordering.{nat_cmp}
-use Rattle.std.specs.Cmp.Lexicographic.{slice_cmp}
+use Rattle.std.proofs.Common.{◌≡◌, ◌≢◌, ℕ, zero, suc, Bool, true, false, cond, List, [], ◌∷◌, ◌++◌, length, map, slice_get, Option, Some, None, refl, sym, ap, subst, ◌∙◌, bytes_eq}
+use Rattle.indexmap.specs.IndexMap as hashed
+use Rattle.indexmap.specs.IndexMap.{IndexMap}
 use Rattle.std.proofs.lemmas.Slice.Eq.{bytes_eq-Decides}
-use Rattle.std.proofs.lemmas.Map.Text.{btree_map_updates_text}
-use Rattle.fs_semantics.specs.FileTree.{Path, path_cmp, path_eq, parent}
+use Rattle.fs_semantics.specs.FileTree.{Path, path_eq, parent}
 use Rattle.fs_semantics.proofs.Trees.{path_eq_other}
 use Rattle.fs_interpreter.specs.Places.{IsTable, HasPath, place_in, content_place, children_in}
 use Rattle.fs_interpreter.specs.Kept.{paths_of, listed, IsKept}
@@ -32,7 +29,7 @@ pub seen_paths : (nodes : List Node) → map (λ (s : Seen). s.path) (seen_all n
 seen_paths [] = refl
 seen_paths (n ∷ nodes) = ap (λ ps. n.path ∷ ps) (seen_paths nodes)
 
-pub to_lists : (t : Inside) → IsKept t → KeptLists (paths_of t.nodes.items) (seen_all t.nodes.items) t.top.items t.contents.items (stored.get path_cmp t.places) (stored.get_by_text t.numbers)
+pub to_lists : (t : Inside) → IsKept t → KeptLists (paths_of t.nodes.items) (seen_all t.nodes.items) t.top.items t.contents.items (hashed.get path_eq t.places) (hashed.get bytes_eq t.numbers)
 to_lists t kept = record {
   are = seen_paths t.nodes.items;
   table = kept.table;
@@ -45,7 +42,7 @@ to_lists t kept = record {
   numbers = kept.numbers;
 }
 
-pub from_lists : (t : Inside) → KeptLists (paths_of t.nodes.items) (seen_all t.nodes.items) t.top.items t.contents.items (stored.get path_cmp t.places) (stored.get_by_text t.numbers) → IsKept t
+pub from_lists : (t : Inside) → KeptLists (paths_of t.nodes.items) (seen_all t.nodes.items) t.top.items t.contents.items (hashed.get path_eq t.places) (hashed.get bytes_eq t.numbers) → IsKept t
 from_lists t kept = record {
   table = kept.table;
   top = kept.top;
@@ -75,8 +72,8 @@ same_paths nodes more e = sym (seen_paths more) ∙ ap (map (λ (x : Seen). x.pa
 
 -- as before, but for what may be left over in the map
 pub same_kept : (t u : Inside) → IsKept t → seen_all u.nodes.items ≡ seen_all t.nodes.items → u.top.items ≡ t.top.items → u.contents.items ≡ t.contents.items
-    → ((q : Path) (i : ℕ) → place_in (paths_of t.nodes.items) q ≡ Some i → stored.get path_cmp u.places q ≡ Some i)
-    → ((d : List ℕ) (i : ℕ) → content_place t.contents.items d ≡ Some i → stored.get_by_text u.numbers d ≡ Some i) → IsKept u
+    → ((q : Path) (i : ℕ) → place_in (paths_of t.nodes.items) q ≡ Some i → hashed.get path_eq u.places q ≡ Some i)
+    → ((d : List ℕ) (i : ℕ) → content_place t.contents.items d ≡ Some i → hashed.get bytes_eq u.numbers d ≡ Some i) → IsKept u
 same_kept t u kept nodes top contents places numbers =
     let was = to_lists t kept in
     from_lists u (carried (sym (same_paths t.nodes.items u.nodes.items nodes)) (sym nodes) (sym top) (sym contents)
@@ -84,14 +81,14 @@ same_kept t u kept nodes top contents places numbers =
 
 pub path_kept : (t u : Inside) (p : Path) (above : Option ℕ) (children : List ℕ) (i : ℕ) → IsKept t → p ≢ [] → HasPath (listed t) (parent p) → place_in (paths_of t.nodes.items) p ≡ None
     → place_in (paths_of t.nodes.items) (parent p) ≡ above → children ≡ [] → i ≡ length t.nodes.items
-    → ((q : Path) → stored.get path_cmp u.places q ≡ cond (path_eq p q) (Some i) (stored.get path_cmp t.places q))
+    → ((q : Path) → hashed.get path_eq u.places q ≡ cond (path_eq p q) (Some i) (hashed.get path_eq t.places q))
     → seen_all u.nodes.items ≡ linked above (length t.nodes.items) (seen_all t.nodes.items ++ record { path = p; parent = above; children = children } ∷ [])
     → u.top.items ≡ linked_top above (length t.nodes.items) t.top.items → u.contents.items ≡ t.contents.items → u.numbers ≡ t.numbers → IsKept u
 path_kept t u p above children i kept not_root has none at no_children size places nodes top contents numbers =
     let paths = paths_of t.nodes.items in
     let seens = seen_all t.nodes.items in
-    let base = path_more paths t.contents.items p kept.table not_root has none seens t.top.items (stored.get path_cmp t.places) (stored.get_by_text t.numbers) (to_lists t kept)
-    (stored.get path_cmp u.places) (λ q. places q ∙ ap (λ k. cond (path_eq p q) (Some k) (stored.get path_cmp t.places q)) (size ∙ sym (length-paths t.nodes.items))) in
+    let base = path_more paths t.contents.items p kept.table not_root has none seens t.top.items (hashed.get path_eq t.places) (hashed.get bytes_eq t.numbers) (to_lists t kept)
+    (hashed.get path_eq u.places) (λ q. places q ∙ ap (λ k. cond (path_eq p q) (Some k) (hashed.get path_eq t.places q)) (size ∙ sym (length-paths t.nodes.items))) in
     let there : paths ++ p ∷ [] ≡ paths_of u.nodes.items = sym (more_paths t.nodes.items u.nodes.items (record { path = p; parent = above; children = children }) above (length t.nodes.items) nodes) in
     let linked_so : linked (place_in paths (parent p)) (length seens) (seens ++ record { path = p; parent = place_in paths (parent p); children = [] } ∷ []) ≡ seen_all u.nodes.items =
     ap (λ n. linked (place_in paths (parent p)) n (seens ++ record { path = p; parent = place_in paths (parent p); children = [] } ∷ [])) (seen_length t.nodes.items)
@@ -100,17 +97,16 @@ path_kept t u p above children i kept not_root has none at no_children size plac
     ∙ sym nodes in
     let top_so : linked_top (place_in paths (parent p)) (length seens) t.top.items ≡ u.top.items =
     ap (λ n. linked_top (place_in paths (parent p)) n t.top.items) (seen_length t.nodes.items) ∙ ap (λ a. linked_top a (length t.nodes.items) t.top.items) at ∙ sym top in
-    from_lists u (subst (λ f. KeptLists (paths_of u.nodes.items) (seen_all u.nodes.items) u.top.items u.contents.items (stored.get path_cmp u.places) f) (ap stored.get_by_text (sym numbers))
+    from_lists u (subst (λ f. KeptLists (paths_of u.nodes.items) (seen_all u.nodes.items) u.top.items u.contents.items (hashed.get path_eq u.places) f) (ap (hashed.get bytes_eq) (sym numbers))
     (carried there linked_so top_so (sym contents) base))
 
 -- the map of contents with one more
-pub numbers_more : {Y : Type 0} (m n : BTreeMap (String Y) ℕ) (key : String Y) (c : List ℕ) (i : ℕ) → string_bytes key ≡ c
-    → UpdatesBy string_cmp (λ k. slice_cmp nat_cmp (string_bytes key) (string_bytes k)) m n (Some i)
-    → (stored.get_by_text n c ≡ Some i) × ((d : List ℕ) → d ≢ c → stored.get_by_text n d ≡ stored.get_by_text m d)
+pub numbers_more : {S : Type 0} (m n : IndexMap (List ℕ) ℕ S) (key c : List ℕ) (i : ℕ) → key ≡ c
+    → ((d : List ℕ) → hashed.get bytes_eq n d ≡ cond (bytes_eq key d) (Some i) (hashed.get bytes_eq m d))
+    → (hashed.get bytes_eq n c ≡ Some i) × ((d : List ℕ) → d ≢ c → hashed.get bytes_eq n d ≡ hashed.get bytes_eq m d)
 numbers_more m n key c i same more = (
-  ap (stored.get_by_text n) (sym same) ∙ more.1,
-  (λ d other. btree_map_updates_text (string_bytes key) m n (Some i) more d
-      ∙ ap (λ b. cond b (Some i) (stored.get_by_text m d)) (differ (bytes_eq (string_bytes key) d) (λ e. other (sym (sym same ∙ (bytes_eq-Decides (string_bytes key) d).0 e))))),
+  more c ∙ ap (λ b. cond b (Some i) (hashed.get bytes_eq m c)) ((bytes_eq-Decides key c).1 same),
+  (λ d other. more d ∙ ap (λ b. cond b (Some i) (hashed.get bytes_eq m d)) (differ (bytes_eq key d) (λ e. other (sym (sym same ∙ (bytes_eq-Decides key d).0 e))))),
 )
   where
     differ : (b : Bool) → (b ≡ true → ⊥) → b ≡ false
@@ -118,12 +114,12 @@ numbers_more m n key c i same more = (
     differ false h = refl
 
 pub content_kept : (t u : Inside) (c : List ℕ) → IsKept t → content_place t.contents.items c ≡ None → u.nodes ≡ t.nodes → u.top ≡ t.top → u.places ≡ t.places
-    → u.contents.items ≡ t.contents.items ++ c ∷ [] → (stored.get_by_text u.numbers c ≡ Some (length t.contents.items)) × ((d : List ℕ) → d ≢ c → stored.get_by_text u.numbers d ≡ stored.get_by_text t.numbers d)
+    → u.contents.items ≡ t.contents.items ++ c ∷ [] → (hashed.get bytes_eq u.numbers c ≡ Some (length t.contents.items)) × ((d : List ℕ) → d ≢ c → hashed.get bytes_eq u.numbers d ≡ hashed.get bytes_eq t.numbers d)
     → IsKept u
 content_kept t u c kept none nodes top places contents numbers =
-    let base = content_more (paths_of t.nodes.items) t.contents.items c kept.table none (seen_all t.nodes.items) t.top.items (stored.get path_cmp t.places) (stored.get_by_text t.numbers)
-    (stored.get_by_text u.numbers) (to_lists t kept) numbers.0 numbers.1 in
-    from_lists u (subst (λ f. KeptLists (paths_of u.nodes.items) (seen_all u.nodes.items) u.top.items u.contents.items f (stored.get_by_text u.numbers)) (ap (stored.get path_cmp) (sym places))
+    let base = content_more (paths_of t.nodes.items) t.contents.items c kept.table none (seen_all t.nodes.items) t.top.items (hashed.get path_eq t.places) (hashed.get bytes_eq t.numbers)
+    (hashed.get bytes_eq u.numbers) (to_lists t kept) numbers.0 numbers.1 in
+    from_lists u (subst (λ f. KeptLists (paths_of u.nodes.items) (seen_all u.nodes.items) u.top.items u.contents.items f (hashed.get bytes_eq u.numbers)) (ap (hashed.get path_eq) (sym places))
     (carried (sym (ap (λ v. paths_of v.items) nodes)) (sym (ap (λ v. seen_all v.items) nodes)) (sym (ap (λ v. v.items) top)) (sym contents) base))
 
 -- what is put last has the last number, and the last place
@@ -138,9 +134,9 @@ last_place paths contents p is =
     found.1 ∙ ap Some (is.once found.0 (length paths) p (place_there (paths ++ p ∷ []) p found.0 found.1) (get_last paths p))
 
 -- the map of places with one more
-pub places_more : (m n : BTreeMap Path ℕ) (key p : Path) (i : ℕ) → key ≡ p → ((q : Path) → stored.get path_cmp n q ≡ cond (is_at (path_cmp key) q) (Some i) (stored.get path_cmp m q))
-    → (q : Path) → stored.get path_cmp n q ≡ cond (path_eq p q) (Some i) (stored.get path_cmp m q)
-places_more m n key p i same more q = more q ∙ ap (λ r. cond (path_eq r q) (Some i) (stored.get path_cmp m q)) same
+pub places_more : {S : Type 0} (m n : IndexMap Path ℕ S) (key p : Path) (i : ℕ) → key ≡ p → ((q : Path) → hashed.get path_eq n q ≡ cond (path_eq key q) (Some i) (hashed.get path_eq m q))
+    → (q : Path) → hashed.get path_eq n q ≡ cond (path_eq p q) (Some i) (hashed.get path_eq m q)
+places_more m n key p i same more q = more q ∙ ap (λ r. cond (path_eq r q) (Some i) (hashed.get path_eq m q)) same
 
 -- a path that isn't there differs from one that is
 pub absent : (paths : List Path) (p q : Path) (i : ℕ) → place_in paths p ≡ None → place_in paths q ≡ Some i → path_eq p q ≡ false

@@ -4,9 +4,9 @@ use Rattle.std.specs.Prelude.{◌↔◌, IfSome, slice_get, IsTrue}
 use Rattle.std.specs.List.{AllByRecursion}
 use Rattle.std.specs.Str.{bytes_eq}
 use Rattle.std.proofs.lemmas.Slice.Eq.{bytes_eq-Decides}
-use Rattle.std.specs.BTreeMap as stored
+use Rattle.indexmap.specs.IndexMap as hashed
 use Rattle.std.proofs.lemmas.Option.{slice_get_read, slice_get_within}
-use Rattle.fs_semantics.specs.FileTree.{Path, path_cmp, path_eq, parent}
+use Rattle.fs_semantics.specs.FileTree.{Path, path_eq, parent}
 use Rattle.fs_semantics.proofs.Trees.{path_eq_same, path_eq_refl}
 use Rattle.fs_interpreter.specs.Places.{Listed, IsTable, place_in, content_place, children_in}
 use Rattle.fs_interpreter.specs.Kept.{paths_of, listed, IsKept}
@@ -50,7 +50,7 @@ place_is t p i kept h =
     let found = place_found (paths_of t.nodes.items) p i h in
     found.1 ∙ ap Some (kept.table.once found.0 i p (place_there (paths_of t.nodes.items) p found.0 found.1) h)
 
-pub no_place : (t : Inside) (p : Path) → IsKept t → ((i : ℕ) → stored.get path_cmp t.places p ≡ Some i → slice_get (paths_of t.nodes.items) i ≢ Some p) → place_in (paths_of t.nodes.items) p ≡ None
+pub no_place : (t : Inside) (p : Path) → IsKept t → ((i : ℕ) → hashed.get path_eq t.places p ≡ Some i → slice_get (paths_of t.nodes.items) i ≢ Some p) → place_in (paths_of t.nodes.items) p ≡ None
 no_place t p kept none = elim (place_in (paths_of t.nodes.items) p) as (λ o. place_in (paths_of t.nodes.items) p ≡ o → o ≡ None) [
   | None ↦ λ e. refl
   | Some i ↦ λ e. absurd (none i (kept.places p i e) (place_there (paths_of t.nodes.items) p i e))
@@ -62,7 +62,7 @@ number_is t c i kept h =
     let found = content_found t.contents.items c i h in
     found.1 ∙ ap Some (kept.table.contents_once found.0 i c (content_there t.contents.items c found.0 found.1) h)
 
-pub no_number : (t : Inside) (c : List ℕ) → IsKept t → ((i : ℕ) → stored.get_by_text t.numbers c ≡ Some i → slice_get t.contents.items i ≢ Some c) → content_place t.contents.items c ≡ None
+pub no_number : (t : Inside) (c : List ℕ) → IsKept t → ((i : ℕ) → hashed.get bytes_eq t.numbers c ≡ Some i → slice_get t.contents.items i ≢ Some c) → content_place t.contents.items c ≡ None
 no_number t c kept none = elim (content_place t.contents.items c) as (λ o. content_place t.contents.items c ≡ o → o ≡ None) [
   | None ↦ λ e. refl
   | Some i ↦ λ e. absurd (none i (kept.numbers c i e) (content_there t.contents.items c i e))
@@ -98,7 +98,7 @@ pub place_seen : (t : Inside) (table : Listed) (p : Path) (i : ℕ) → listed t
 place_seen t table p i view kept h =
     sym (sym (ap (λ (x : Listed). place_in x.paths p) view) ∙ place_is t p i kept (ap (λ (x : Listed). slice_get x.paths i) view ∙ h))
 
-pub no_place_seen : (t : Inside) (table : Listed) (p : Path) (i : ℕ) → listed t ≡ table → IsKept t → Some i ≡ stored.get path_cmp t.places p → slice_get table.paths i ≢ Some p → None ≡ place_in table.paths p
+pub no_place_seen : (t : Inside) (table : Listed) (p : Path) (i : ℕ) → listed t ≡ table → IsKept t → Some i ≡ hashed.get path_eq t.places p → slice_get table.paths i ≢ Some p → None ≡ place_in table.paths p
 no_place_seen t table p i view kept found other =
     sym (sym (ap (λ (x : Listed). place_in x.paths p) view) ∙ no_place t p kept (λ j h e.
     let two : ◌≡◌ {A = Option ℕ} (Some i) (Some j) = found ∙ h in
@@ -125,10 +125,10 @@ pub number_seen : (t : Inside) (table : Listed) (c : List ℕ) (i : ℕ) → lis
 number_seen t table c i view kept h =
     sym (sym (ap (λ (x : Listed). content_place x.contents c) view) ∙ number_is t c i kept (ap (λ (x : Listed). slice_get x.contents i) view ∙ h))
 
-pub no_number_seen : (t : Inside) (table : Listed) (c e : List ℕ) (i : ℕ) → listed t ≡ table → IsKept t → Some i ≡ stored.get_by_text t.numbers e → e ≡ c → slice_get table.contents i ≢ Some c → None ≡ content_place table.contents c
-no_number_seen t table c e i view kept found l other =
+pub no_number_seen : (t : Inside) (table : Listed) (c : List ℕ) (i : ℕ) → listed t ≡ table → IsKept t → Some i ≡ hashed.get bytes_eq t.numbers c → slice_get table.contents i ≢ Some c → None ≡ content_place table.contents c
+no_number_seen t table c i view kept found other =
     sym (sym (ap (λ (x : Listed). content_place x.contents c) view) ∙ no_number t c kept (λ j h k.
-    let two : ◌≡◌ {A = Option ℕ} (Some i) (Some j) = found ∙ ap (stored.get_by_text t.numbers) l ∙ h in
+    let two : ◌≡◌ {A = Option ℕ} (Some i) (Some j) = found ∙ h in
     let same : j ≡ i = cc in
     other (sym (ap (λ (x : Listed). slice_get x.contents i) view) ∙ subst (λ m. slice_get t.contents.items m ≡ Some c) same k)))
 

@@ -1,7 +1,8 @@
 -- How a table keeps what it finds.
 use Rattle.std.specs.Prelude.{◌≡◌, ℕ, List, [], map, Some, slice_get}
-use Rattle.std.specs.BTreeMap as stored
-use Rattle.fs_semantics.specs.FileTree.{Path, path_cmp, parent}
+use Rattle.indexmap.specs.IndexMap as hashed
+use Rattle.std.specs.Str.{bytes_eq}
+use Rattle.fs_semantics.specs.FileTree.{Path, path_eq, parent}
 use Rattle.fs_interpreter.specs.Places.{Listed, IsTable, place_in, content_place, children_in}
 use Rattle.fs_interpreter.specs.declared.table.Node.{Node}
 use Rattle.fs_interpreter.specs.declared.table.Table.TheInside.{Inside}
@@ -20,5 +21,5 @@ pub record IsKept (t : Inside) : Type 0 where
   pub top : t.top.items ≡ children_in (paths_of t.nodes.items) []
   pub children : (i : ℕ) (n : Node) → slice_get t.nodes.items i ≡ Some n → n.children.items ≡ children_in (paths_of t.nodes.items) n.path
   pub parents : (i : ℕ) (n : Node) → slice_get t.nodes.items i ≡ Some n → n.parent ≡ place_in (paths_of t.nodes.items) (parent n.path)
-  pub places : (p : Path) (i : ℕ) → place_in (paths_of t.nodes.items) p ≡ Some i → stored.get path_cmp t.places p ≡ Some i
-  pub numbers : (c : List ℕ) (i : ℕ) → content_place t.contents.items c ≡ Some i → stored.get_by_text t.numbers c ≡ Some i
+  pub places : (p : Path) (i : ℕ) → place_in (paths_of t.nodes.items) p ≡ Some i → hashed.get path_eq t.places p ≡ Some i
+  pub numbers : (c : List ℕ) (i : ℕ) → content_place t.contents.items c ≡ Some i → hashed.get bytes_eq t.numbers c ≡ Some i

@@ -1,10 +1,10 @@
-//! Paths and contents by number.
+//! Paths and contents by number, found by hash.
 
 use crate::grow::push_node;
 use fs_lang::Path;
+use indexmap::IndexMap;
 use rh_base::{NoMemory, Text};
 use std::alloc::Global;
-use std::collections::BTreeMap;
 use std::marker::Model;
 
 /// A path with the places of its parent and of its children.
@@ -20,9 +20,9 @@ pub(crate) struct Node {
 pub struct Table {
     nodes: Vec<Node>,
     top: Vec<usize>,
-    places: BTreeMap<Path, usize>,
+    places: IndexMap<Path, usize>,
     contents: Vec<Text>,
-    numbers: BTreeMap<String, usize>,
+    numbers: IndexMap<Text, usize>,
 }
 
 impl Model for Table {
@@ -50,9 +50,9 @@ impl Table {
         Ok(Table {
             nodes: Vec::new(alloc),
             top: Vec::new(alloc),
-            places: BTreeMap::new(alloc),
+            places: IndexMap::new(alloc),
             contents: Vec::new(alloc),
-            numbers: BTreeMap::new(alloc),
+            numbers: IndexMap::new(alloc),
         })
     }
 
@@ -101,7 +101,7 @@ impl Table {
         if let Some(n) = self.number(&c) {
             return Ok(n);
         }
-        let key = String::from_str(alloc, c.as_str())?;
+        let key = c.copy(alloc)?;
         let n = self.contents.len();
         self.numbers.insert(key, n)?;
         self.contents.push(c)?;
@@ -206,7 +206,7 @@ impl Table {
     pub fn number(&self, c: &Text) -> Option<u64>
         ensures { result ≡ content_place self.now.contents c.now }
     {
-        let Some(found) = self.numbers.get(c.as_str()) else {
+        let Some(found) = self.numbers.get(c) else {
             return None;
         };
         let n = *found;

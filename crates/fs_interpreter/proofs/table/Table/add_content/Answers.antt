@@ -8,7 +8,7 @@ pub invariant_of-self-in_err-push : goal.invariant_of-self-in_err-push
 invariant_of-self-in_err-push c =
     let t = c.self.inside in
     let none : content_place t.contents.items c.args.c ≡ None = ap (λ (x : Listed). content_place x.contents c.args.c) c.self.view_is ∙ sym c.number.ensures ∙ c.in_default.is in
-    let more = numbers_more t.numbers c.insert.new.self c.in_ok-key.key c.args.c c.len-n.result (c.in_ok-key.ensures.ok ∙ c.as_str.ensures) c.in_ok-insert.ensures.updates in
+    let more = numbers_more t.numbers c.insert.new.self c.in_ok-key.key c.args.c c.len-n.result c.in_ok-key.ensures c.in_ok-insert.ensures.updates.0 in
     same_kept t (record { nodes = t.nodes; top = t.top; places = t.places; contents = c.push.new.self; numbers = c.insert.new.self }) c.self.invariant refl refl c.in_err-push.ensures.items
     c.self.invariant.places
     (λ d i h. more.1 d (λ same. let clash : ◌≡◌ {A = Option ℕ} None (Some i) = sym none ∙ ap (content_place t.contents.items) (sym same) ∙ h in cc) ∙ c.self.invariant.numbers d i h)
@@ -17,7 +17,7 @@ pub invariant_of-self-2 : goal.invariant_of-self-2
 invariant_of-self-2 c =
     let t = c.self.inside in
     let none : content_place t.contents.items c.args.c ≡ None = ap (λ (x : Listed). content_place x.contents c.args.c) c.self.view_is ∙ sym c.number.ensures ∙ c.in_default.is in
-    let more = numbers_more t.numbers c.insert.new.self c.in_ok-key.key c.args.c c.len-n.result (c.in_ok-key.ensures.ok ∙ c.as_str.ensures) c.in_ok-insert.ensures.updates in
+    let more = numbers_more t.numbers c.insert.new.self c.in_ok-key.key c.args.c c.len-n.result c.in_ok-key.ensures c.in_ok-insert.ensures.updates.0 in
     content_kept t (record { nodes = t.nodes; top = t.top; places = t.places; contents = c.push.new.self; numbers = c.insert.new.self }) c.args.c c.self.invariant none refl refl refl c.in_ok-push.ensures.items
     (more.0 ∙ ap Some (omega (arith, c.len-n.ensures)), more.1)
 

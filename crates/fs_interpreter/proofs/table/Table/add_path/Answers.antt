@@ -1,6 +1,6 @@
 use Rattle.std.proofs.Common.{◌≡◌, ◌∷◌, ◌++◌, [], None, Some, length, cond, sym, ap, subst, refl, arith, ◌∙◌}
-use Rattle.std.specs.BTreeMap as stored
-use Rattle.fs_semantics.specs.FileTree.{path_cmp, parent}
+use Rattle.indexmap.specs.IndexMap as hashed
+use Rattle.fs_semantics.specs.FileTree.{path_eq, parent}
 use Rattle.fs_interpreter.specs.Places.{Listed, IsTable, HasPath, place_in, or_added}
 use Rattle.fs_interpreter.specs.Kept.{paths_of}
 use Rattle.fs_interpreter.proofs.GrowthLaws.{on_err}
@@ -15,7 +15,7 @@ invariant_of-self-in_err-push_node c =
     same_kept t (record { nodes = c.push_node.new.nodes; top = c.push_node.new.top; places = c.insert.new.self; contents = t.contents; numbers = t.numbers }) c.self.invariant
     c.in_err-push_node.ensures.same c.in_err-push_node.ensures.same_top refl
     (λ q i h. places_more t.places c.insert.new.self c.in_ok-key.key c.args.p c.len-i.result c.in_ok-key.ensures c.in_ok-insert.ensures.updates.0 q
-    ∙ ap (λ b. cond b (Some c.len-i.result) (stored.get path_cmp t.places q)) (absent (paths_of t.nodes.items) c.args.p q i none h) ∙ c.self.invariant.places q i h)
+    ∙ ap (λ b. cond b (Some c.len-i.result) (hashed.get path_eq t.places q)) (absent (paths_of t.nodes.items) c.args.p q i none h) ∙ c.self.invariant.places q i h)
     c.self.invariant.numbers
 
 pub returns-in_err-push_node-clause-err : goal.returns-in_err-push_node-clause-err

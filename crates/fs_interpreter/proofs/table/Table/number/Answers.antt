@@ -7,5 +7,5 @@ returns-then-has_number c = number_seen c.self.inside c.args.self.now c.args.c.n
 
 pub returns-else-has_number : goal.returns-else-has_number
 returns-else-has_number c =
-    no_number_seen c.self.inside c.args.self.now c.args.c.now c.as_str.result.now c.in-Some.found.now c.self.view_is c.self.invariant c.in-Some.ensures.value c.as_str.ensures
+    no_number_seen c.self.inside c.args.self.now c.args.c.now c.in-Some.found.now c.self.view_is c.self.invariant c.in-Some.ensures.value
     (λ h. let no : ◌≡◌ {A = Bool} false true = sym c.if-has_number.false ∙ c.has_number.ensures.1 h in cc)
