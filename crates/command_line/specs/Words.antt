@@ -1,12 +1,13 @@
 -- What the words of the command line ask for.
-use Rattle.std.specs.Prelude.{◌≡◌, List, [], ◌∷◌, Option, Some, None, true, codes, if◌then◌else◌}
+use Rattle.std.specs.Prelude.{◌≡◌, List, [], Option, Some, None, Result, Ok, Err, Bool, true, false, codes, if◌then◌else◌}
 use Rattle.std.specs.Str.{bytes_eq}
-use Rattle.std.specs.List.{AllByRecursion}
+use Rattle.rh_base.specs.Reading.{◌>>=◌}
 use Rattle.clap.specs.Walk.{Row, Rule, Text, first_of}
 use Rattle.clap.specs.Simple.{App, new_app, new_rule, with_rule, on_top, matches_of}
 use Rattle.clap.specs.Faults.{fault_of}
 use Rattle.command_line.specs.declared.asks.Ask.{Ask}
 use Rattle.command_line.specs.declared.asks.Ask.TheVariants as ask
+use Rattle.command_line.specs.declared.asks.Takes.{Takes}
 use Rattle.command_line.specs.declared.asks.Request.{Request}
 use Rattle.command_line.specs.declared.words.WordsFault.{WordsFault}
 use Rattle.command_line.specs.declared.words.WordsFault.TheVariants as fault
@@ -22,19 +23,37 @@ program = on_top (λ s. record s { no_binary_name = true }) (new_app (codes "reh
 abbrev pub with_option : App → Text → App
 with_option app name = with_rule app (option_rule name)
 
--- `rehearsal [--facts F] [--packages P] [--node N] [--conflicts C] [--ask A] [--tree T] [--order O] [--workload N] [INPUT]`
+-- `rehearsal [--facts F] [--packages P] [--node N] [--conflicts C] [--ask A] [--tree T] [--order O] [--workload N] [--data D] [INPUT]`
 abbrev pub inputs : App
 inputs = with_option (with_option (with_option (with_option program (codes "facts")) (codes "packages")) (codes "node")) (codes "conflicts")
 
 abbrev pub asked : App
-asked = with_option (with_option (with_option (with_option inputs (codes "ask")) (codes "tree")) (codes "order")) (codes "workload")
+asked = with_option (with_option (with_option (with_option (with_option inputs (codes "ask")) (codes "tree")) (codes "order")) (codes "workload")) (codes "data")
 
 abbrev pub synopsis : App
 synopsis = with_rule asked (new_rule (codes "INPUT"))
 
--- options that aren't built yet
-abbrev pub unbuilt : List Text
-unbuilt = codes "facts" ∷ codes "packages" ∷ codes "node" ∷ codes "conflicts" ∷ codes "tree" ∷ codes "order" ∷ codes "workload" ∷ []
+-- ---- what may stand beside what is asked
+
+abbrev pub alone : Takes
+alone =
+    record {
+      facts = false;
+      packages = false;
+      class_data = false;
+      node = false;
+      conflicts = false;
+      tree = false;
+      order = false;
+      workload = false;
+    }
+
+-- which options may stand beside a value of `--ask`
+abbrev pub takes : Ask → Takes
+takes ask.Verify = alone
+takes ask.Check = alone
+
+-- ---- the request
 
 -- what a word of `--ask` asks for
 abbrev pub ask_named : Text → Option Ask
@@ -47,23 +66,38 @@ abbrev pub ask_in : Option Text → Option Ask
 ask_in None = Some ask.Verify
 ask_in (Some word) = ask_named word
 
--- what was given: this is asked for, the input has this name, and nothing else is there
-pub record GivesRequest (rows : List Row) (request : Request) : Type 0 where
-  pub ask : ask_in (first_of (codes "ask") rows) ≡ Some request.ask
-  pub input : first_of (codes "INPUT") rows ≡ Some request.input
-  pub others : AllByRecursion (λ id. first_of id rows ≡ None) unbuilt
+-- what is given for an option that may stand, or may not
+abbrev pub taken : Bool → Option Text → Option (Option Text)
+taken may None = Some None
+taken true (Some word) = Some (Some word)
+taken false (Some word) = None
 
--- the request that was given so, or that none was
-abbrev pub RequestIs : List Row → Option Request → Type 0
-RequestIs rows (Some request) = GivesRequest rows request
-RequestIs rows None = (request : Request) → GivesRequest rows request → ⊥
+-- the request that was given so, where one was: INPUT is needed, and no option stands that may not
+abbrev pub request_in : List Row → Option Request
+request_in rows = do
+  ask ← ask_in (first_of (codes "ask") rows)
+  input ← first_of (codes "INPUT") rows
+  facts ← taken (takes ask).facts (first_of (codes "facts") rows)
+  packages ← taken (takes ask).packages (first_of (codes "packages") rows)
+  class_data ← taken (takes ask).class_data (first_of (codes "data") rows)
+  node ← taken (takes ask).node (first_of (codes "node") rows)
+  tree ← taken (takes ask).tree (first_of (codes "tree") rows)
+  order ← taken (takes ask).order (first_of (codes "order") rows)
+  _ ← taken (takes ask).conflicts (first_of (codes "conflicts") rows)
+  _ ← taken (takes ask).workload (first_of (codes "workload") rows)
+  Some (record { ask = ask; facts = facts; packages = packages; class_data = class_data; node = node; input = input; tree = tree; order = order })
 
 -- The words are those of the command, and make this request.
 pub record Makes (words : List Text) (request : Request) : Type 0 where
   pub taken : fault_of synopsis words ≡ []
-  pub given : GivesRequest (matches_of synopsis words) request
+  pub given : request_in (matches_of synopsis words) ≡ Some request
 
 -- a fact where the fault is that the words are refused
 abbrev pub IfRefused : WordsFault → Type 0 → Type 0
 IfRefused fault.Refused P = P
 IfRefused (fault.Memory m) P = Unit {0}
+
+-- what is made, or that nothing is
+abbrev pub IsMade : {A : Type 0} → Option A → Result A WordsFault → Type 0
+IsMade o (Ok x) = o ≡ Some x
+IsMade o (Err e) = IfRefused e (o ≡ None)

@@ -1,7 +1,7 @@
-//! What may be asked for.
+//! What may be asked for, and what may be given with it.
 
 ghost use Rattle.std.specs.Prelude.{◌≡◌};
-ghost use Rattle.command_line.specs.Words.{ask_named};
+ghost use Rattle.command_line.specs.Words.{ask_named, alone, takes};
 
 use rh_base::Text;
 
@@ -14,11 +14,46 @@ pub enum Ask {
     Check,
 }
 
-/// What is asked for, and the name of the file that it is asked of.
+/// Which options may stand beside a value of `--ask`.
+#[derive(Clone, Copy, Debug, PartialEq, Eq)]
+pub struct Takes {
+    pub facts: bool,
+    pub packages: bool,
+    pub class_data: bool,
+    pub node: bool,
+    pub conflicts: bool,
+    pub tree: bool,
+    pub order: bool,
+    pub workload: bool,
+}
+
+/// What is asked for, and the names that the words give: of files, and of the node.
 #[derive(Debug, Drop)]
 pub struct Request {
     pub ask: Ask,
+    pub facts: Option<Text>,
+    pub packages: Option<Text>,
+    pub class_data: Option<Text>,
+    pub node: Option<Text>,
     pub input: Text,
+    pub tree: Option<Text>,
+    pub order: Option<Text>,
+}
+
+/// No option at all.
+fn alone() -> Takes
+    ensures { result ≡ alone }
+{
+    Takes {
+        facts: false,
+        packages: false,
+        class_data: false,
+        node: false,
+        conflicts: false,
+        tree: false,
+        order: false,
+        workload: false,
+    }
 }
 
 impl Ask {
@@ -32,6 +67,16 @@ impl Ask {
             Some(Ask::Check)
         } else {
             None
+        }
+    }
+
+    /// Which options may stand beside it.
+    pub(crate) fn takes(self) -> Takes
+        ensures { result ≡ takes self }
+    {
+        match self {
+            Ask::Verify => alone(),
+            Ask::Check => alone(),
         }
     }
 }

@@ -48,7 +48,8 @@ fn asked<'a>(alloc: Global) -> Result<Command<'a>, NoMemory>
     let command = with_option(alloc, inputs(alloc)?, "ask")?;
     let command = with_option(alloc, command, "tree")?;
     let command = with_option(alloc, command, "order")?;
-    with_option(alloc, command, "workload")
+    let command = with_option(alloc, command, "workload")?;
+    with_option(alloc, command, "data")
 }
 
 /// The command with all its options and its input.

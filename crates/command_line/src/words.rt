@@ -1,15 +1,15 @@
 //! What the words ask for.
 
 ghost use Rattle.std.specs.Prelude.{◌≡◌, ◌≢◌, ◌↔◌, [], map, string_bytes, None, IsTrue, IfOk, IfErr, OnOk, codes};
-ghost use Rattle.std.specs.List.{AllByRecursion};
 ghost use Rattle.std.specs.Option.{option_map};
-ghost use Rattle.clap.specs.Words.{found_of, rows_of, first_of, matches_of, fault_of};
-ghost use Rattle.command_line.specs.Words.{synopsis, unbuilt, ask_in, RequestIs, Makes, IfRefused};
+ghost use Rattle.clap.specs.Words.{found_of, rows_of, first_of, matches_of, fault_of, kind_of};
+ghost use Rattle.clap.specs.declared.error.kind.ErrorKind.TheVariants.{OutOfMemory};
+ghost use Rattle.command_line.specs.Words.{synopsis, ask_in, taken, request_in, Makes, IfRefused, IsMade};
 
 use crate::asks::{Ask, Request};
 use crate::command::synopsis;
 use clap::ArgMatches;
-use clap::error::ErrorKind;
+use clap::error::{Error, ErrorKind};
 use rh_base::{NoMemory, Text};
 use std::alloc::Global;
 
@@ -40,47 +40,81 @@ fn value<'a>(matches: &ArgMatches<'a>, id: &str) -> Option<&'a str>
 }
 
 /// What `--ask` asks for; where it is left out, to verify.
-fn ask_of(matches: &ArgMatches<'_>) -> Option<Ask>
-    ensures { result ≡ ask_in (first_of (codes "ask") (rows_of (found_of matches.now))) }
+fn ask_of(matches: &ArgMatches<'_>) -> Result<Ask, WordsFault>
+    ensures { IsMade (ask_in (first_of (codes "ask") (rows_of (found_of matches.now)))) result }
 {
     match value(matches, "ask") {
-        None => Some(Ask::Verify),
-        Some(word) => Ask::named(word),
+        None => Ok(Ask::Verify),
+        Some(word) => Ask::named(word).ok_or(WordsFault::Refused),
     }
 }
 
-/// Whether nothing is given for an option.
-fn is_absent(matches: &ArgMatches<'_>, id: &str) -> bool
-    ensures { IsTrue result ↔ (first_of id.now (rows_of (found_of matches.now)) ≡ None) }
+fn text(alloc: Global, word: &str) -> Result<Text, NoMemory>
+    ensures { IfOk result (λ t. t ≡ word.now) }
 {
-    value(matches, id).is_none()
+    Ok(Text::from_string(String::from_str(alloc, word)?))
 }
 
-/// Whether no option is given that isn't built yet.
-fn are_others_absent(matches: &ArgMatches<'_>) -> bool
-    ensures { IsTrue result ↔ AllByRecursion (λ id. first_of id (rows_of (found_of matches.now)) ≡ None) unbuilt }
+/// What is given for an option, which may stand or may not.
+fn option(
+    alloc: Global,
+    matches: &ArgMatches<'_>,
+    may: bool,
+    id: &str,
+) -> Result<Option<Text>, WordsFault>
+    ensures { IsMade (taken may (first_of id.now (rows_of (found_of matches.now)))) result }
 {
-    let facts = is_absent(matches, "facts");
-    let packages = is_absent(matches, "packages");
-    let node = is_absent(matches, "node");
-    let conflicts = is_absent(matches, "conflicts");
-    let tree = is_absent(matches, "tree");
-    let order = is_absent(matches, "order");
-    let workload = is_absent(matches, "workload");
-    facts && packages && node && conflicts && tree && order && workload
-}
-
-/// What is asked for, and of which input, where nothing else is given.
-fn asked_of<'a>(matches: &ArgMatches<'a>) -> Option<(Ask, &'a str)>
-    ensures { RequestIs (rows_of (found_of matches.now)) (option_map (λ x. record { ask = x.0; input = x.1.now }) result) }
-{
-    let is_alone = are_others_absent(matches);
-    if !is_alone {
-        return None;
+    let Some(word) = value(matches, id) else {
+        return Ok(None);
+    };
+    if !may {
+        return Err(WordsFault::Refused);
     }
+    Ok(Some(text(alloc, word)?))
+}
+
+/// The name of the input.
+fn input(alloc: Global, matches: &ArgMatches<'_>) -> Result<Text, WordsFault>
+    ensures { IsMade (first_of (codes "INPUT") (rows_of (found_of matches.now))) result }
+{
+    match value(matches, "INPUT") {
+        Some(word) => Ok(text(alloc, word)?),
+        None => Err(WordsFault::Refused),
+    }
+}
+
+/// What is asked for, where no option stands that may not.
+fn request_of(alloc: Global, matches: &ArgMatches<'_>) -> Result<Request, WordsFault>
+    ensures { IsMade (request_in (rows_of (found_of matches.now))) result }
+{
     let ask = ask_of(matches)?;
-    let input = value(matches, "INPUT")?;
-    Some((ask, input))
+    let takes = ask.takes();
+    let input = input(alloc, matches)?;
+    let facts = option(alloc, matches, takes.facts, "facts")?;
+    let packages = option(alloc, matches, takes.packages, "packages")?;
+    let class_data = option(alloc, matches, takes.class_data, "data")?;
+    let node = option(alloc, matches, takes.node, "node")?;
+    let tree = option(alloc, matches, takes.tree, "tree")?;
+    let order = option(alloc, matches, takes.order, "order")?;
+    let _ = option(alloc, matches, takes.conflicts, "conflicts")?;
+    let _ = option(alloc, matches, takes.workload, "workload")?;
+    Ok(Request {
+        ask,
+        facts,
+        packages,
+        class_data,
+        node,
+        input,
+        tree,
+        order,
+    })
+}
+
+/// Whether memory was refused.
+fn lacks_memory(fault: &Error) -> bool
+    ensures { IsTrue result ↔ (kind_of fault.now ≡ OutOfMemory) }
+{
+    fault.kind() == ErrorKind::OutOfMemory
 }
 
 /// What `clap` makes of the words.
@@ -93,7 +127,7 @@ fn parsed<'a>(alloc: Global, words: &'a [String]) -> Result<ArgMatches<'a>, Word
     match command.try_get_matches_from(words) {
         Ok(matches) => Ok(matches),
         Err(fault) => {
-            if fault.kind() == ErrorKind::OutOfMemory {
+            if lacks_memory(&fault) {
                 return Err(WordsFault::Memory(NoMemory));
             }
             Err(WordsFault::Refused)
@@ -108,14 +142,5 @@ pub fn read_request(alloc: Global, words: &[String]) -> Result<Request, WordsFau
     ensures refused { IfErr result (λ e. IfRefused e ((request : Request) → Makes (map string_bytes words.now) request → ⊥)) }
 {
     let matches = parsed(alloc, words)?;
-    match asked_of(&matches) {
-        Some((ask, input)) => match String::from_str(alloc, input) {
-            Ok(name) => Ok(Request {
-                ask,
-                input: Text::from_string(name),
-            }),
-            Err(_) => Err(WordsFault::Memory(NoMemory)),
-        },
-        None => Err(WordsFault::Refused),
-    }
+    request_of(alloc, &matches)
 }
