@@ -1,5 +1,5 @@
 -- From what there is to say, and how it was told, to what the status tells.
-use Rattle.std.proofs.Common.{◌≡◌, ◌≢◌, inl, inr, ℕ, List, Option, Some, None, refl, sym, ap, subst, ◌∙◌, arith}
+use Rattle.std.proofs.Common.{◌≡◌, ◌≢◌, inl, inr, ℕ, List, [], ◌∷◌, Option, Some, None, refl, sym, ap, subst, ◌∙◌, arith}
 use Rattle.std.specs.Prelude.{String}
 use Rattle.std.specs.declared.alloc.Global.{Global}
 use Rattle.rh_base.specs.declared.fault.Refusal.{Refusal}
@@ -7,7 +7,7 @@ use Rattle.rh_base.specs.Causes.{Rose}
 use Rattle.rh_base.specs.Shelf.{Files, told_at, IsMissing}
 use Rattle.rh_base.specs.Sink.{appended}
 use Rattle.command_line.specs.declared.asks.Request.{Request}
-use Rattle.rehearsal_core.specs.Inputs.{Requests, RequestsNone, IsHeld, Reports, Refuses, FailsToRead, SaysOf, Says}
+use Rattle.rehearsal_core.specs.Inputs.{File, files_of, AnyNamed, AllTold, Requests, RequestsNone, IsHeld, Reports, Refuses, FailsToRead, SaysOf, Says}
 use Rattle.rehearsal_core.specs.declared.run.Ending.{Ending}
 use Rattle.rehearsal_core.specs.declared.run.Ending.TheVariants as ending
 use Rattle.rehearsal_core.specs.Answers.{Run, Appends, IsLeft, IsSound, HasFailed, AppendsFront, HasCause, NoFaults, Tells, Owes, Answers, TellsLine, TellsReport, refusal_line, read_fault_line, usage_line, memory_line}
@@ -20,9 +20,15 @@ not_missing (Some files) name bytes h k = let no : ◌≡◌ {A = Option (List �
 none_made : (words : List (String Global)) (request : Request) → Requests words request → RequestsNone words → ⊥
 none_made words request made none = none request made
 
--- words name one input at most
-one_input : (words : List (String Global)) (r s : Request) → Requests words r → Requests words s → r.input ≡ s.input
-one_input words r s h k = let both : ◌≡◌ {A = Option (List ℕ)} (Some r.input) (Some s.input) = sym h.given.input ∙ k.given.input in cc
+-- words make one request at most
+one_request : (words : List (String Global)) (r s : Request) → Requests words r → Requests words s → r ≡ s
+one_request words r s h k = let both : ◌≡◌ {A = Option Request} (Some r) (Some s) = sym h.given ∙ k.given in cc
+
+-- no file that is told is missing
+none_missing : (held : Option Files) (files : List File) (name : List ℕ) → AllTold held files → AnyNamed name files → IsMissing held name → ⊥
+none_missing held [] name told named missing = named
+none_missing held (f ∷ files) name told (inl here) missing = let bytes = told.0 name here in not_missing held name bytes.0 bytes.1 missing
+none_missing held (f ∷ files) name told (inr more) missing = none_missing held files name told.1 more missing
 
 -- ---- what each status tells, and what follows of which there are
 
@@ -192,8 +198,8 @@ read_fault_answers run status name fails out sound told =
       decided = λ held shelf. elim fails.cause [
         | inl rose ↦ absurd (shelf rose)
         | inr missing ↦
-            let same : name ≡ held.request.input = fails.named ∙ one_input run.words fails.request held.request fails.made held.made in
-            absurd (not_missing run.held held.request.input held.bytes held.told (subst (λ n. IsMissing run.held n) same missing))
+            let same = one_request run.words fails.request held.request fails.made held.made in
+            absurd (none_missing run.held (files_of held.request) name held.told (subst (λ q. AnyNamed name (files_of q)) same fails.named) missing)
       ];
       unread = λ failed. refl;
     }) out sound told

@@ -4,3 +4,4 @@ pub mod Endings
 pub mod Judging
 pub mod ProofLaws
 pub mod PutLaws
+pub mod LoadLaws

@@ -6,7 +6,6 @@ use Rattle.fs_lang.specs.Meaning.{program_of}
 use Rattle.fs_semantics.specs.Programs as model
 use Rattle.fs_semantics.specs.PlainFiles.{puts}
 use Rattle.fs_semantics.specs.FileTree.{Path}
-use Rattle.rehearsal_core.specs.declared.form.Block.{Block}
 use Rattle.rehearsal_core.specs.Files.{files_at}
 
 -- a program at the end of some, and at the front of others

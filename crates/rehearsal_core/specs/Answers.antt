@@ -17,7 +17,7 @@ abbrev pub read_fault_line : List ℕ → List ℕ
 read_fault_line name = codes "read fault: " ++ (name ++ codes "\n")
 
 abbrev pub usage_line : List ℕ
-usage_line = codes "usage: rehearsal [--facts F] [--packages P] [--node N] [--conflicts C] [--ask A] [--tree T] [--order O] [--workload N] [INPUT]\n"
+usage_line = codes "usage: rehearsal [--facts F] [--packages P] [--node N] [--conflicts C] [--ask A] [--tree T] [--order O] [--workload N] [--data D] [INPUT]\n"
 
 abbrev pub write_fault_line : List ℕ
 write_fault_line = codes "write fault\n"

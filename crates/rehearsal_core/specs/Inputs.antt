@@ -1,8 +1,8 @@
--- The request that the words make, and what stands under the name that it gives.
-use Rattle.std.specs.Prelude.{◌≡◌, ◌⊎◌, ℕ, ◌<◌, ◌≤◌, List, length, map, Option, Some, codes, String, string_bytes}
+-- The request that the words make, the files that it names, and what stands under their names.
+use Rattle.std.specs.Prelude.{◌≡◌, ◌⊎◌, ℕ, ◌<◌, ◌≤◌, List, [], ◌∷◌, length, map, Option, Some, None, codes, String, string_bytes}
 use Rattle.std.specs.declared.alloc.Global.{Global}
 use Rattle.rh_base.specs.declared.fault.Refusal.{Refusal}
-use Rattle.rh_base.specs.declared.limits.TheConstants.{MANIFEST_BYTES, PROOF_BYTES}
+use Rattle.rh_base.specs.declared.limits.TheConstants.{MANIFEST_BYTES, PROOF_BYTES, FACTS_BYTES, LISTING_BYTES, TREE_BYTES, ORDER_BYTES}
 use Rattle.rh_base.specs.Refused.{IsRefusal}
 use Rattle.rh_base.specs.Causes.{Rose}
 use Rattle.rh_base.specs.Shelf.{Files, told_at, IsMissing}
@@ -10,10 +10,13 @@ use Rattle.command_line.specs.declared.asks.Ask.{Ask}
 use Rattle.command_line.specs.declared.asks.Ask.TheVariants as ask
 use Rattle.command_line.specs.declared.asks.Request.{Request}
 use Rattle.command_line.specs.Words.{Makes}
+use Rattle.rehearsal_core.specs.declared.inputs.Loaded.{Loaded}
 use Rattle.rehearsal_core.specs.Judged.{IsReport, BreaksRule}
 use Rattle.rehearsal_core.specs.Verified.{AreVerified, BreaksProofRule}
 use Rattle.rehearsal_core.specs.declared.run.Ending.{Ending}
 use Rattle.rehearsal_core.specs.declared.run.Ending.TheVariants as ending
+
+-- ---- requests
 
 -- the words make this request
 abbrev pub Requests : List (String Global) → Request → Type 0
@@ -23,50 +26,120 @@ Requests words request = Makes (map string_bytes words) request
 abbrev pub RequestsNone : List (String Global) → Type 0
 RequestsNone words = (request : Request) → Requests words request → ⊥
 
+-- ---- the files of a request
+
 -- how many bytes the input may have
 abbrev pub limit_of : Ask → ℕ
 limit_of ask.Verify = MANIFEST_BYTES
 limit_of ask.Check = PROOF_BYTES
 
--- what may be said of an input's bytes
-abbrev pub IsAnswer : Ask → List ℕ → List ℕ → Type 0
-IsAnswer ask.Verify bytes report = IsReport bytes report
-IsAnswer ask.Check bytes report = AreVerified bytes report
+-- a file that a request may name: how a refusal calls it, how many bytes it may have, and its name
+pub record File : Type 0 where
+  pub label : List ℕ
+  pub limit : ℕ
+  pub name : Option (List ℕ)
 
--- the first rule that an input's bytes break
-abbrev pub Breaks : Ask → List ℕ → Refusal → Type 0
-Breaks ask.Verify bytes r = BreaksRule bytes r
-Breaks ask.Check bytes r = BreaksProofRule bytes r
+abbrev pub file : List ℕ → ℕ → Option (List ℕ) → File
+file label limit name = record { label = label; limit = limit; name = name }
 
--- these are the bytes that stand under the name, where the shelf tells them
+-- the files of a request, in the order in which they are read
+abbrev pub files_of : Request → List File
+files_of r =
+    file (codes "facts") FACTS_BYTES r.facts
+    ∷ file (codes "packages") LISTING_BYTES r.packages
+    ∷ file (codes "data") FACTS_BYTES r.class_data
+    ∷ file (codes "input") (limit_of r.ask) (Some r.input)
+    ∷ file (codes "tree") TREE_BYTES r.tree
+    ∷ file (codes "order") ORDER_BYTES r.order
+    ∷ []
+
+-- ---- what stands under a name, as far as the shelf tells what it holds
+
+-- these are the bytes
 abbrev pub AreBytes : Option Files → List ℕ → List ℕ → Type 0
 AreBytes held name bytes = (told : List ℕ) → told_at held name ≡ Some told → bytes ≡ told
 
--- more bytes than these stand under the name, where the shelf tells them
+-- more bytes than these stand there
 abbrev pub IsLonger : ℕ → Option Files → List ℕ → Type 0
 IsLonger limit held name = (told : List ℕ) → told_at held name ≡ Some told → limit < length told
 
--- a report on the request's input
-pub record ReportsOn (request : Request) (held : Option Files) (report : List ℕ) : Type 0 where
-  pub bytes : List ℕ
-  pub stand : AreBytes held request.input bytes
-  pub within : length bytes ≤ limit_of request.ask
-  pub says : IsAnswer request.ask bytes report
+-- these are the bytes of the file, and not too many; or none are named
+abbrev pub StandAt : Option Files → ℕ → Option (List ℕ) → Option (List ℕ) → Type 0
+StandAt held limit None None = Unit {0}
+StandAt held limit None (Some bytes) = ⊥
+StandAt held limit (Some name) None = ⊥
+StandAt held limit (Some name) (Some bytes) = AreBytes held name bytes × (length bytes ≤ limit)
 
--- the bytes of the request's input, which aren't too many, break a rule
-pub record BreaksAt (request : Request) (held : Option Files) (r : Refusal) : Type 0 where
-  pub bytes : List ℕ
-  pub stand : AreBytes held request.input bytes
-  pub within : length bytes ≤ limit_of request.ask
-  pub breaks : Breaks request.ask bytes r
+-- the file is named, and has too many bytes
+abbrev pub IsTooLong : Option Files → ℕ → Option (List ℕ) → Type 0
+IsTooLong held limit None = ⊥
+IsTooLong held limit (Some name) = IsLonger limit held name
 
--- the first refusal of the request's input: it is too long, or else it breaks a rule
-abbrev pub RefusesAt : Request → Option Files → Refusal → Type 0
-RefusesAt request held r = (IsRefusal 17 0 (codes "input") r × IsLonger (limit_of request.ask) held request.input) ⊎ BreaksAt request held r
+-- This is the refusal of the first file that has too many bytes.
+abbrev pub FirstTooLong : Option Files → List File → Refusal → Type 0
+FirstTooLong held [] r = ⊥
+FirstTooLong held (f ∷ files) r =
+    (IsTooLong held f.limit f.name × IsRefusal 17 0 f.label r)
+    ⊎ (((bytes : Option (List ℕ)) × StandAt held f.limit f.name bytes) × FirstTooLong held files r)
 
--- The input of this name couldn't be read: the shelf's count of faults rose, or it tells what it holds and hasn't the name.
+-- The file of this name couldn't be read: the shelf's count of faults rose, or it tells what it holds and hasn't the name.
 abbrev pub FailsAt : List ℕ → Option Files → ℕ → ℕ → Type 0
 FailsAt name held before now = Rose before now ⊎ IsMissing held name
+
+-- one of the files has this name
+abbrev pub AnyNamed : List ℕ → List File → Type 0
+AnyNamed name [] = ⊥
+AnyNamed name (f ∷ files) = (f.name ≡ Some name) ⊎ AnyNamed name files
+
+-- each file that is named is told
+abbrev pub AllTold : Option Files → List File → Type 0
+AllTold held [] = Unit {0}
+AllTold held (f ∷ files) = ((name : List ℕ) → f.name ≡ Some name → (bytes : List ℕ) × (told_at held name ≡ Some bytes)) × AllTold held files
+
+-- the request with the bytes of its files
+pub record IsLoaded (held : Option Files) (r : Request) (l : Loaded) : Type 0 where
+  pub asked : l.ask ≡ r.ask
+  pub node : l.node ≡ r.node
+  pub facts : StandAt held FACTS_BYTES r.facts l.facts
+  pub packages : StandAt held LISTING_BYTES r.packages l.packages
+  pub class_data : StandAt held FACTS_BYTES r.class_data l.class_data
+  pub input : StandAt held (limit_of r.ask) (Some r.input) (Some l.input)
+  pub tree : StandAt held TREE_BYTES r.tree l.tree
+  pub order : StandAt held ORDER_BYTES r.order l.order
+
+-- ---- what is said of a request
+
+-- what may be said of a request with the bytes of its files
+abbrev pub IsAnswerTo : Ask → Loaded → List ℕ → Type 0
+IsAnswerTo ask.Verify l report = IsReport l.input report
+IsAnswerTo ask.Check l report = AreVerified l.input report
+
+abbrev pub IsAnswer : Loaded → List ℕ → Type 0
+IsAnswer l report = IsAnswerTo l.ask l report
+
+-- the first rule that the bytes of the files break
+abbrev pub BreaksFor : Ask → Loaded → Refusal → Type 0
+BreaksFor ask.Verify l r = BreaksRule l.input r
+BreaksFor ask.Check l r = BreaksProofRule l.input r
+
+abbrev pub Breaks : Loaded → Refusal → Type 0
+Breaks l r = BreaksFor l.ask l r
+
+-- a report on the request
+pub record ReportsOn (request : Request) (held : Option Files) (report : List ℕ) : Type 0 where
+  pub loaded : Loaded
+  pub stands : IsLoaded held request loaded
+  pub says : IsAnswer loaded report
+
+-- the files of the request, of which none is too long, break a rule
+pub record BreaksAt (request : Request) (held : Option Files) (r : Refusal) : Type 0 where
+  pub loaded : Loaded
+  pub stands : IsLoaded held request loaded
+  pub breaks : Breaks loaded r
+
+-- the first refusal of the request: a file is too long, or else they break a rule
+abbrev pub RefusesAt : Request → Option Files → Refusal → Type 0
+RefusesAt request held r = FirstTooLong held (files_of request) r ⊎ BreaksAt request held r
 
 -- the same of the request that the words make
 pub record Reports (words : List (String Global)) (held : Option Files) (report : List ℕ) : Type 0 where
@@ -82,22 +155,21 @@ pub record Refuses (words : List (String Global)) (held : Option Files) (r : Ref
 pub record FailsToRead (words : List (String Global)) (held : Option Files) (before now : ℕ) (name : List ℕ) : Type 0 where
   pub request : Request
   pub made : Requests words request
-  pub named : name ≡ request.input
+  pub named : AnyNamed name (files_of request)
   pub cause : FailsAt name held before now
 
--- the words make a request whose input the shelf tells
+-- the words make a request of which the shelf tells each file
 pub record IsHeld (words : List (String Global)) (held : Option Files) : Type 0 where
   pub request : Request
   pub made : Requests words request
-  pub bytes : List ℕ
-  pub told : told_at held request.input ≡ Some bytes
+  pub told : AllTold held (files_of request)
 
--- What there is to say of a request's input, and what it takes. Only a failed read raises the shelf's count of faults.
+-- What there is to say of a request, and what it takes. Only a failed read raises the shelf's count of faults.
 abbrev pub SaysOf : Request → Option Files → ℕ → ℕ → Ending → Type 0
 SaysOf request held before now (ending.Report text) = (now ≡ before) × ReportsOn request held text
 SaysOf request held before now (ending.Refused r) = (now ≡ before) × RefusesAt request held r
 SaysOf request held before now ending.BadWords = ⊥
-SaysOf request held before now (ending.ReadFault name) = (name ≡ request.input) × FailsAt name held before now
+SaysOf request held before now (ending.ReadFault name) = AnyNamed name (files_of request) × FailsAt name held before now
 SaysOf request held before now ending.Memory = now ≡ before
 
 -- what there is to say, and what it takes

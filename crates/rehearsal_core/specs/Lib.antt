@@ -3,4 +3,5 @@ pub mod Files
 pub mod Judged
 pub mod Verified
 pub mod Inputs
+pub mod Loading
 pub mod Answers

@@ -3,6 +3,7 @@
 
 mod checking;
 mod form;
+mod inputs;
 mod judge;
 mod run;
 mod sure;

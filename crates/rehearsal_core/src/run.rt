@@ -1,16 +1,17 @@
 //! One run of the program: from the words to the status.
 
-ghost use Rattle.std.specs.Prelude.{◌≡◌, ◌<◌, ◌^◌, length, IfOk, IfErr};
+ghost use Rattle.std.specs.Prelude.{◌≡◌, ◌⊎◌, ◌<◌, ◌^◌, length, IfOk, IfErr};
 ghost use Rattle.rh_base.specs.Refused.{IfRefused};
-ghost use Rattle.rehearsal_core.specs.Inputs.{limit_of, IsAnswer, Breaks, Says, SaysOf};
+ghost use Rattle.rehearsal_core.specs.Inputs.{IsAnswer, IsAnswerTo, Breaks, BreaksFor, Says, SaysOf};
+ghost use Rattle.rehearsal_core.specs.Loading.{AreShort, LoadedFrom, FirstLong, concluded};
 ghost use Rattle.rehearsal_core.specs.Answers.{put_of, Answers};
 
 use crate::checking::verified;
+use crate::inputs::{Loaded, Loads, ReadFault, all_within, fetch_all};
 use crate::judge::judged;
 use crate::tell::{out_of_memory, tell_read_fault, tell_refusal, tell_usage, write_report};
 use command_line::{Ask, Request, WordsFault, read_request};
-use rh_base::limits::{MANIFEST_BYTES, PROOF_BYTES};
-use rh_base::{Fault, Fetched, Refusal, Shelf, ShelfFault, Sink, Text};
+use rh_base::{Fault, Refusal, Shelf, Sink, Text};
 use std::alloc::Global;
 
 /// What the program has to say.
@@ -23,48 +24,50 @@ pub enum Ending {
     Memory,
 }
 
-/// How many bytes the input may have.
-fn limit_of(ask: Ask) -> usize
-    ensures limit { result ≡ limit_of ask }
-    ensures small { result < 2 ^ 32 }
+/// What is said of a request with the bytes of its files, or the first rule that they break.
+fn answer(alloc: Global, ask: Ask, loaded: &Loaded) -> Result<Text, Fault>
+    requires { length loaded.now.input < 2 ^ 32 }
+    ensures report { IfOk result (IsAnswerTo ask loaded.now) }
+    ensures refused { IfErr result (λ e. IfRefused e (BreaksFor ask loaded.now)) }
 {
     match ask {
-        Ask::Verify => MANIFEST_BYTES,
-        Ask::Check => PROOF_BYTES,
+        Ask::Verify => judged(alloc, loaded.input.as_slice()),
+        Ask::Check => verified(alloc, loaded.input.as_slice()),
     }
 }
 
-/// What is said of an input's bytes, or the first rule that they break.
-fn answered(alloc: Global, ask: Ask, bytes: &[u8]) -> Result<Text, Fault>
-    requires { length bytes.now < 2 ^ 32 }
-    ensures report { IfOk result (IsAnswer ask bytes.now) }
-    ensures refused { IfErr result (λ e. IfRefused e (Breaks ask bytes.now)) }
+/// What is said of a request with what was read of its files.
+#[tactic(auto, using(crate::proofs::LoadLaws::input_is_short))]
+fn answer_read(alloc: Global, loads: Loads) -> Result<Text, Fault>
+    requires { AreShort loads }
+    ensures report { IfOk result (λ report. (loaded : Loaded) × LoadedFrom loads loaded × IsAnswer loaded report) }
+    ensures refused { IfErr result (λ e. IfRefused e (λ r. FirstLong loads r ⊎ ((loaded : Loaded) × LoadedFrom loads loaded × Breaks loaded r))) }
 {
-    match ask {
-        Ask::Verify => judged(alloc, bytes),
-        Ask::Check => verified(alloc, bytes),
+    let loaded = all_within(alloc, loads)?;
+    answer(alloc, loaded.ask, &loaded)
+}
+
+/// What there is to say of an answer.
+fn concluded(said: Result<Text, Fault>) -> Ending
+    ensures { result ≡ concluded said }
+{
+    match said {
+        Ok(report) => Ending::Report(report),
+        Err(Fault::Refused(refusal)) => Ending::Refused(refusal),
+        Err(Fault::Memory(_)) => Ending::Memory,
     }
 }
 
-/// Reads the input and answers what is asked of it.
+/// Reads the files of a request and answers what is asked.
+#[tactic(auto, using(crate::proofs::LoadLaws::says, crate::proofs::LoadLaws::are_short))]
 fn read<S: Shelf>(alloc: Global, request: Request, shelf: &mut S) -> Ending
     ensures held { S.holds shelf.new ≡ S.holds shelf.old }
     ensures says { SaysOf request (S.holds shelf.old) (S.faults shelf.old) (S.faults shelf.new) result }
 {
-    let mut bytes = Vec::new(alloc);
-    let Request { ask, input } = request;
-    match shelf.fetch(input.as_str(), limit_of(ask), &mut bytes) {
-        Ok(Fetched::Whole) => match answered(alloc, ask, &bytes) {
-            Ok(report) => Ending::Report(report),
-            Err(Fault::Refused(refusal)) => Ending::Refused(refusal),
-            Err(Fault::Memory(_)) => Ending::Memory,
-        },
-        Ok(Fetched::Longer) => match Refusal::new(alloc, 17, 0, "input") {
-            Ok(refusal) => Ending::Refused(refusal),
-            Err(_) => Ending::Memory,
-        },
-        Err(ShelfFault::Failed) => Ending::ReadFault(input),
-        Err(ShelfFault::Memory(_)) => Ending::Memory,
+    match fetch_all(alloc, request, shelf) {
+        Ok(loads) => concluded(answer_read(alloc, loads)),
+        Err(ReadFault::Failed(name)) => Ending::ReadFault(name),
+        Err(ReadFault::Memory(_)) => Ending::Memory,
     }
 }
 

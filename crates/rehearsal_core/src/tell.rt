@@ -44,7 +44,7 @@ pub fn tell_usage<E: Sink>(err: &mut E) -> u8
     tell(
         err,
         5,
-        b"usage: rehearsal [--facts F] [--packages P] [--node N] [--conflicts C] [--ask A] [--tree T] [--order O] [--workload N] [INPUT]\n",
+        b"usage: rehearsal [--facts F] [--packages P] [--node N] [--conflicts C] [--ask A] [--tree T] [--order O] [--workload N] [--data D] [INPUT]\n",
     )
 }
 

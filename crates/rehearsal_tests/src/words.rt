@@ -4,7 +4,7 @@ use crate::common::{compare, run};
 use std::test::Fail;
 
 const USAGE: &str =
-    "usage: rehearsal [--facts F] [--packages P] [--node N] [--conflicts C] [--ask A] [--tree T] [--order O] [--workload N] [INPUT]\n";
+    "usage: rehearsal [--facts F] [--packages P] [--node N] [--conflicts C] [--ask A] [--tree T] [--order O] [--workload N] [--data D] [INPUT]\n";
 
 const NONE: &str = "resources 0\npruned 0\ndeterministic\nidempotent\nsucceeds from some tree\n";
 
@@ -26,7 +26,7 @@ fn words_that_ask_to_verify(rt: HostRuntime) -> Result<(), Fail> {
 
 #[test]
 fn words_that_are_refused(rt: HostRuntime) -> Result<(), Fail> {
-    let rows: [&[&str]; 20] = [
+    let rows: [&[&str]; 21] = [
         &[],
         &["site.pp", "site.pp"],
         &["--help"],
@@ -47,6 +47,7 @@ fn words_that_are_refused(rt: HostRuntime) -> Result<(), Fail> {
         &["--workload", "5"],
         &["--node", "n", "site.pp"],
         &["--order", "o", "--ask", "check", "site.pp"],
+        &["--data", "d", "site.pp"],
     ];
     for words in rows {
         let told = run(rt.alloc(), words, b"")?;

@@ -1,0 +1,12 @@
+use Rattle.std.proofs.Common.{subst, sym}
+use Rattle.rehearsal_core.specs.Inputs.{SaysOf}
+use Rattle.rehearsal_core.proofs.LoadLaws.{says}
+use Rattle.rehearsal_core.proofs.run.read.Goals as goal
+
+pub returns-in-Ok-clause-says : goal.returns-in-Ok-clause-says
+returns-in-Ok-clause-says g c =
+    let held = g.S.Shelf.holds c.args.shelf.now in
+    let before = g.S.Shelf.faults c.args.shelf.now in
+    let now = g.S.Shelf.faults c.fetch_all.new.shelf in
+    subst (SaysOf c.args.request held before now) (sym c.concluded.ensures)
+    (says held c.args.request c.in-Ok.loads before now c.answer_read.result c.in-Ok.ensures.reads.0 c.in-Ok.ensures.reads.1 c.answer_read.ensures.report c.answer_read.ensures.refused)
