@@ -153,7 +153,7 @@ module _ (R : State → State → Type 0) (frame : IsFrame R) where
       step_each (R s) (given_or_else r p (value_at p.name r.attrs) s) _
       (λ x. step_each (R s) (fitting r.at p x) _ (λ y. frame.binds r.at p.name y s))
 
-  opened_keeps : (d : Definition) (r : Resource) (scope : Scope) (s : State) → Each (R (entering scope s)) (opened d r scope s)
+  pub opened_keeps : (d : Definition) (r : Resource) (scope : Scope) (s : State) → Each (R (entering scope s)) (opened d r scope s)
   opened_keeps d r scope s =
       in_turn_keeps (bound r.at (codes "title") (v.Str r.id.title) ∷ bound r.at (codes "name") (v.Str r.id.title) ∷ map
       (parameter_bound r) d.parameters) (
@@ -426,7 +426,7 @@ module _ (R : State → State → Type 0) (frame : IsFrame R) where
         (rolled_case_arm site bodies (map-CaseArm KnownStmt KnownArm KnownCaseArm Stmt Arm CaseArm (λ x. x.0) (λ a. a.0) (λ c. c.0) y)))
         (in_turn_keeps _ (block_keeps y.body))))
 
-  effect_at_keeps : (n : ℕ) (site : Site) (x : Stmt) → Keeps R (effect_at n site x)
+  pub effect_at_keeps : (n : ℕ) (site : Site) (x : Stmt) → Keeps R (effect_at n site x)
   effect_at_keeps zero site x = effect_keeps site None tt x
   effect_at_keeps (suc n) site x = effect_keeps site (Some (effect_at n site)) (effect_at_keeps n site) x
 

@@ -1,5 +1,5 @@
 -- What each statement does to a state.
-use Rattle.std.specs.Prelude.{ℕ, suc, zero, Bool, false, if◌then◌else◌, List, [], ◌∷◌, ◌++◌, map, length, codes, Option, Some, None, option_map, Result}
+use Rattle.std.specs.Prelude.{ℕ, suc, zero, Bool, if◌then◌else◌, List, [], ◌∷◌, ◌++◌, map, length, codes, Option, Some, None, option_map, Result}
 use Rattle.std.specs.Prelude.{Ok}
 use Rattle.std.specs.List.{flat_map}
 use Rattle.std.specs.Str.{bytes_eq}
@@ -18,8 +18,6 @@ use Rattle.pp_syntax.specs.declared.tree.Arm.{Arm, out-Arm}
 use Rattle.pp_syntax.specs.declared.tree.CaseArm.{CaseArm, out-CaseArm}
 use Rattle.pp_value.specs.declared.value.Ref.{Ref}
 use Rattle.pp_value.specs.declared.value.Value.{Value}
-use Rattle.pp_value.specs.Values.{has_opaque}
-use Rattle.pp_value.specs.Table.{equal_table}
 use Rattle.pp_eval.specs.Verdicts.{◌>>=◌, if_there}
 use Rattle.pp_eval.specs.Scoping.{Scoped}
 use Rattle.pp_eval.specs.declared.blame.Blame.TheVariants as blame

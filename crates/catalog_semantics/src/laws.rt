@@ -20,14 +20,15 @@ ghost use Rattle.pp_syntax.specs.declared.tree.CaseArm.{CaseArm};
 ghost use Rattle.pp_value.specs.declared.value.Ref.{Ref};
 ghost use Rattle.pp_value.specs.declared.value.Value.{Value};
 ghost use Rattle.pp_value.specs.Values.{Pair, value_at};
+ghost use Rattle.pp_eval.specs.declared.scope.Scope.{Scope};
 ghost use Rattle.pp_eval.specs.Verdicts.{limited};
 ghost use Rattle.pp_eval.specs.Scoping.{pairs_in};
 ghost use Rattle.pp_data.specs.declared.data.Level.{Level};
 ghost use Rattle.pp_data.specs.Lookup.{lookup};
 ghost use Rattle.catalog_semantics.specs.declared.catalog.Resource.{Resource};
 ghost use Rattle.catalog_semantics.specs.Sites.{Parameter, Definition, Node, Site, node_of, node_block, definition_of, inherits_itself, MeetsTwice};
-ghost use Rattle.catalog_semantics.specs.States.{State, Default, references_of, is_declared, filled};
-ghost use Rattle.catalog_semantics.specs.Declaring.{given_or_else, Bodies, class_ref, class_resource, class_runs, class_included};
+ghost use Rattle.catalog_semantics.specs.States.{State, Default, in_turn, references_of, is_declared, filled};
+ghost use Rattle.catalog_semantics.specs.Declaring.{given_or_else, entering, opened, Bodies, class_ref, class_resource, class_runs, class_included};
 ghost use Rattle.catalog_semantics.specs.Effects.{assigned, chained, called, first_true, unless_true, selected_block, effect_with};
 ghost use Rattle.catalog_semantics.specs.Effects.{block_with, arm_with, options_with, effect_of, effect_at, bodies_at};
 ghost use Rattle.catalog_semantics.specs.Catalogs.{is_called_for, made_real, state_after, round_limit, IsSettled, Catalog, catalog_of, IsCatalogOf};
@@ -37,9 +38,12 @@ ghost use Rattle.catalog_semantics.specs.Nesting.{Deeper};
 use pp_syntax::one_spelling;
 
 /// A statement only adds: to scopes, resources, holdings, ties, collectors and realizations. It ends in
-/// the scope and the body where it began.
+/// the scope and the body where it began. So do the statements of a block, and so does opening a body, once its scope is entered.
 pub fn statements_only_add()
-    ensures { (site : Site) (x : Stmt) (s t : State) → effect_of site x s ≡ Ok t → Extends s t }
+    ensures whole { (site : Site) (x : Stmt) (s t : State) → effect_of site x s ≡ Ok t → Extends s t }
+    ensures within { (n : ℕ) (site : Site) (x : Stmt) (s t : State) → effect_at n site x s ≡ Ok t → Extends s t }
+    ensures blocks { (n : ℕ) (site : Site) (body : List Stmt) (s t : State) → in_turn (map (effect_at n site) body) s ≡ Ok t → Extends s t }
+    ensures openings { (d : Definition) (r : Resource) (scope : Scope) (s t : State) → opened d r scope s ≡ Ok t → Extends (entering scope s) t }
 {}
 
 /// What only adds may be followed by what only adds.

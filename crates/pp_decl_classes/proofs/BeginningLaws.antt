@@ -82,12 +82,6 @@ module _ (r : Resource) (s t : State) where
   class_newly may true h = cc
   class_newly may false h = may_run may h
 
-  pub was_new : (may : Bool) → class_added may r s ≡ Ok t → is_declared r.id s ≡ false
-  was_new may h = (added_is (class_newly may (is_declared r.id s) h)).0
-
-  pub scopes_stay : (may : Bool) → class_added may r s ≡ Ok t → t.scopes ≡ s.scopes
-  scopes_stay may h = sym (ap (λ (u : State). u.scopes) (added_is (class_newly may (is_declared r.id s) h)).1)
-
   pub running_stays : (may : Bool) → class_added may r s ≡ Ok t → t.running ≡ s.running
   running_stays may h = sym (ap (λ (u : State). u.running) (added_is (class_newly may (is_declared r.id s) h)).1)
 

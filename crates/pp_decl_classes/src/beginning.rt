@@ -1,9 +1,8 @@
 //! How bodies begin.
 
-ghost use Rattle.std.specs.Prelude.{◌≡◌, false, None, option_map, IfOk, IfSome, IsSome};
+ghost use Rattle.std.specs.Prelude.{◌≡◌, option_map, IfOk};
 ghost use Rattle.pp_eval.specs.Verdicts.{AnswersBy};
-ghost use Rattle.pp_eval.specs.Scoping.{class_of, class_scope, defined_scope};
-ghost use Rattle.catalog_semantics.specs.States.{is_declared};
+ghost use Rattle.pp_eval.specs.Scoping.{class_scope, defined_scope};
 ghost use Rattle.pp_decl_classes.specs.Beginning.{body_begins, class_added, class_begins};
 
 use catalog_semantics::Resource;
@@ -65,8 +64,6 @@ fn begin_body(
     r: &Resource,
     state: &mut State,
 ) -> Result<(), Fault>
-    requires new_name { class_of state.old.scopes.0 d.now.name ≡ None }
-    requires known_parent { IfSome d.now.parent (λ p. IsSome (class_of state.old.scopes.0 p)) }
     ensures { AnswersBy (λ done. state.new) (body_begins d.now place r.now (class_scope state.old.scopes.0 d.now.name d.now.parent) state.old) result }
 {
     all_known(alloc, r.at, d.parameters(), r.attrs.as_slice(), state)?;
@@ -89,7 +86,7 @@ fn add_class(alloc: Global, r: &Resource, may_run: bool, state: &mut State) -> R
 }
 
 /// A class becomes a resource, and its body begins, where one more may run.
-#[tactic(auto, using(crate::proofs::BeginningLaws::begins_added, crate::proofs::BeginningLaws::scopes_stay, crate::proofs::BeginningLaws::was_new))]
+#[tactic(auto, using(crate::proofs::BeginningLaws::begins_added))]
 pub fn begin_class(
     alloc: Global,
     d: &Definition<'_>,
@@ -97,8 +94,6 @@ pub fn begin_class(
     may_run: bool,
     state: &mut State,
 ) -> Result<(), Fault>
-    requires new_name { is_declared r.now.id state.old ≡ false → class_of state.old.scopes.0 d.now.name ≡ None }
-    requires known_parent { IfSome d.now.parent (λ p. IsSome (class_of state.old.scopes.0 p)) }
     ensures { AnswersBy (λ done. state.new) (class_begins may_run d.now r.now state.old) result }
 {
     let place = state.count();

@@ -47,8 +47,9 @@ pub fn no_circle<'m>(alloc: Global, site: &Site<'m>, d: &Definition<'m>) -> Resu
     Ok(())
 }
 
+/// Whether a class is declared.
 #[tactic(auto, using(crate::proofs::BeginningLaws::declared_at))]
-fn is_declared(alloc: Global, name: &str, state: &State) -> Result<bool, NoMemory>
+pub fn is_declared(alloc: Global, name: &str, state: &State) -> Result<bool, NoMemory>
     ensures { IfOk result (λ b. b ≡ is_declared (class_ref name.now) state.now) }
 {
     let r = class_ref(alloc, name)?;

@@ -1,12 +1,14 @@
 -- The attributes of defaults, one after the other.
 use Rattle.std.proofs.Common.{◌≡◌, ℕ, suc, ◌+◌, ◌<◌, Bool, true, false, cond, List, [], ◌∷◌, ◌++◌, length, get_or, drop, drop-cons, add-one, refl, ap, sym, ◌∙◌, subst, append_assoc, append-nil}
-use Rattle.pp_value.specs.Keys.{with_pair, with_pairs, HasDistinctKeys}
+use Rattle.std.specs.Prelude.{map, Option, Some, None}
+use Rattle.pp_value.specs.declared.value.Value.{Value}
+use Rattle.pp_value.specs.Keys.{value_at, with_pair, with_pairs, HasDistinctKeys}
 use Rattle.pp_value.proofs.Distinct.{made_again, same_key}
 use Rattle.pp_value.specs.Values.{Pair}
 use Rattle.std.specs.Str.{bytes_eq}
 use Rattle.catalog_semantics.specs.declared.state.Default.{Default}
 use Rattle.catalog_semantics.specs.States.{defaults_of}
-use Rattle.pp_decl_state.specs.Defaulting.{with_those_of, AreApart}
+use Rattle.pp_decl_state.specs.Defaulting.{with_those_of, noted, AreApart}
 
 pub put_behind : (pairs first more : List Pair) → with_pairs pairs (first ++ more) ≡ with_pairs (with_pairs pairs first) more
 put_behind pairs [] more = refl
@@ -46,3 +48,21 @@ apart_by defaults d kind h new false e = subst HasDistinctKeys (sym (append-nil 
 -- Defaults stay apart with one more, whose names are new for its type.
 pub apart_still : (defaults : List Default) (d : Default) → AreApart defaults → HasDistinctKeys (defaults_of d.kind defaults ++ d.attributes) → AreApart (defaults ++ d ∷ [])
 apart_still defaults d h new kind = subst HasDistinctKeys (sym (defaults_last kind defaults d)) (apart_by defaults d kind (h kind) new (bytes_eq d.kind kind) refl)
+
+-- ---- names
+
+absent_head : (t : Bool) (x : Value) (o : Option Value) (n : Option Bool) → (o ≡ None → n ≡ None) → cond t (Some x) o ≡ None → cond t (Some true) n ≡ None
+absent_head true x o n f h = cc
+absent_head false x o n f h = f h
+
+absent : (key : List ℕ) (pairs : List Pair) → value_at key pairs ≡ None → value_at key (map noted pairs) ≡ None
+absent key [] h = refl
+absent key (p ∷ pairs) h = absent_head (bytes_eq p.0 key) p.1 (value_at key pairs) (value_at key (map noted pairs)) (absent key pairs) h
+
+names_distinct : (pairs : List Pair) → HasDistinctKeys pairs → HasDistinctKeys (map noted pairs)
+names_distinct [] h = tt
+names_distinct (p ∷ pairs) h = (absent p.0 pairs h.0, names_distinct pairs h.1)
+
+-- names of which no two are equal are themselves, noted one after the other
+pub noted_once : (pairs : List Pair) → HasDistinctKeys pairs → with_pairs [] (map noted pairs) ≡ map noted pairs
+noted_once pairs h = made_again (map noted pairs) (names_distinct pairs h)

@@ -1,2 +1,3 @@
 pub mod DefaultLaws
 pub mod FillingLaws
+pub mod MarkLaws

@@ -1,3 +1,4 @@
 pub mod Defaulting
 pub mod Filling
 pub mod Wanting
+pub mod Marking

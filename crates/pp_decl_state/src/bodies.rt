@@ -1,22 +1,22 @@
 //! How bodies begin and end, and defaults.
 
-ghost use Rattle.std.specs.Prelude.{◌≡◌, ◌++◌, None, length, option_map, OnOk, IfSome, IsSome};
+ghost use Rattle.std.specs.Prelude.{◌≡◌, ◌++◌, option_map, IfOk, OnOk};
 ghost use Rattle.pp_value.specs.Keys.{HasDistinctKeys};
-ghost use Rattle.pp_eval.specs.Scoping.{class_of, class_scope, defined_scope, node_scope_new, entered, left, current_scope, IsInner};
+ghost use Rattle.pp_eval.specs.Scoping.{class_scope, defined_scope, node_scope_new, entered, left, current_scope, IsInner};
 ghost use Rattle.catalog_semantics.specs.States.{defaults_of};
 ghost use Rattle.catalog_semantics.specs.Declaring.{entering, begun};
 ghost use Rattle.catalog_semantics.specs.Catalogs.{with_default};
+ghost use Rattle.pp_decl_state.specs.Defaulting.{names_noted};
 
+use crate::defaults::names_of;
 use crate::state::State;
 use catalog_semantics::Default;
-use pp_value::Pairs;
+use pp_value::{Keyed, Pairs};
 use rh_base::{NoMemory, Text};
 
 impl State {
-    /// Enters the scope of a class, which inherits the parent's.
+    /// Enters the scope of a class, which inherits the parent's, if that has one.
     pub fn enter_class(&mut self, name: &str, parent: Option<&str>) -> Result<(), NoMemory>
-        requires new_name { class_of self.old.scopes.0 name.now ≡ None }
-        requires known_parent { IfSome parent (λ p. IsSome (class_of self.old.scopes.0 p.now)) }
         ensures { OnOk result (self.new ≡ entering (class_scope self.old.scopes.0 name.now (option_map (λ p. p.now) parent.entry)) self.old) }
     {
         self.scopes.enter_class(name, parent)
@@ -31,7 +31,6 @@ impl State {
 
     /// Enters the scope of the node, which stays open.
     pub fn enter_node(&mut self) -> Result<(), NoMemory>
-        requires at_top { length self.old.scopes.1 ≡ 1 }
         ensures { OnOk result (self.new ≡ entering node_scope_new self.old) }
     {
         self.scopes.enter_node()
@@ -51,6 +50,14 @@ impl State {
     {
         self.running = before;
         self.scopes.leave();
+    }
+
+    /// The names of the attributes that defaults gave to a type.
+    pub fn default_names(&self, kind: &str) -> Result<Keyed<bool>, NoMemory>
+        ensures names { IfOk result (λ names. names ≡ names_noted kind.now self.now.defaults) }
+        ensures distinct { HasDistinctKeys (defaults_of kind.now self.now.defaults) }
+    {
+        names_of(self.alloc, kind, self.defaults.as_slice())
     }
 
     /// Gives defaults to a type, none of which an earlier default gave to it.

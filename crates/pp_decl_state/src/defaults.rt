@@ -1,12 +1,12 @@
 //! The attributes that defaults give to a type.
 
-ghost use Rattle.std.specs.Prelude.{◌≡◌, [], IfOk, OnOk};
+ghost use Rattle.std.specs.Prelude.{◌≡◌, [], map, IfOk, OnOk};
 ghost use Rattle.pp_value.specs.Keys.{with_pairs};
 ghost use Rattle.catalog_semantics.specs.States.{defaults_of};
-ghost use Rattle.pp_decl_state.specs.Defaulting.{with_those_of};
+ghost use Rattle.pp_decl_state.specs.Defaulting.{with_those_of, noted, names_noted, AreApart};
 
 use catalog_semantics::Default;
-use pp_value::Pairs;
+use pp_value::{Keyed, Pairs};
 use rh_base::NoMemory;
 use std::alloc::Global;
 
@@ -41,4 +41,30 @@ pub fn defaults_of(alloc: Global, kind: &str, defaults: &[Default]) -> Result<Pa
         put_default(alloc, kind, &mut all, d)?;
     }
     Ok(all)
+}
+
+/// Notes the names of attributes.
+fn note_names(alloc: Global, pairs: &Pairs) -> Result<Keyed<bool>, NoMemory>
+    ensures { IfOk result (λ names. names ≡ with_pairs [] (map noted pairs.now)) }
+{
+    let mut names = Keyed::new(alloc);
+    for pair in pairs.as_slice() {
+        let name = pair.0.copy(alloc)?;
+        names.put(name, true)?;
+    }
+    Ok(names)
+}
+
+/// The names of the attributes that defaults give to a type.
+#[tactic(auto, using(crate::proofs::DefaultLaws::kept, crate::proofs::DefaultLaws::noted_once))]
+pub fn names_of(
+    alloc: Global,
+    kind: &str,
+    defaults: &[Default],
+) -> Result<Keyed<bool>, NoMemory>
+    requires { AreApart defaults.now }
+    ensures { IfOk result (λ names. names ≡ names_noted kind.now defaults.now) }
+{
+    let pairs = defaults_of(alloc, kind, defaults)?;
+    note_names(alloc, &pairs)
 }

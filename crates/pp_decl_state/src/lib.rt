@@ -6,6 +6,7 @@ mod bodies;
 mod defaults;
 mod filling;
 mod functions;
+mod ran;
 mod rounds;
 mod state;
 

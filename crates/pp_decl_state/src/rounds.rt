@@ -36,7 +36,7 @@ impl State {
     pub fn has_run(&self, place: u32) -> bool
         ensures { result ≡ has_run self.now place }
     {
-        self.ran.as_slice().contains(&place)
+        self.ran.has(place)
     }
 
     /// The catalog, with no relations.

@@ -6,6 +6,7 @@ ghost use Rattle.catalog_semantics.specs.States.{added, bound, place_of, held, t
 ghost use Rattle.catalog_semantics.specs.Catalogs.{first_state};
 
 use crate::adding::as_added;
+use crate::ran::Ran;
 use catalog::Catalog;
 use catalog_semantics::{Collector, Default, Pending, Resource, Tie};
 use pp_eval::Scopes;
@@ -22,7 +23,7 @@ pub struct State {
     pub(crate) scopes: Scopes,
     pub(crate) defaults: Seq<Default>,
     pub(crate) catalog: Catalog,
-    pub(crate) ran: Seq<u32>,
+    pub(crate) ran: Ran,
     pub(crate) ties: Seq<Tie>,
     pub(crate) collectors: Seq<Collector>,
     pub(crate) pending: Seq<Pending>,
@@ -58,7 +59,7 @@ impl State {
             scopes,
             defaults: Seq::new(alloc),
             catalog: Catalog::new(alloc),
-            ran: Seq::new(alloc),
+            ran: Ran::new(alloc),
             ties: Seq::new(alloc),
             collectors: Seq::new(alloc),
             pending: Seq::new(alloc),

@@ -1,15 +1,14 @@
 -- What all scopes are stays so.
-use Rattle.std.proofs.Common.{◌≡◌, ◌⊎◌, inl, inr, ℕ, zero, suc, ◌+◌, ◌-◌, ◌<◌, ◌≤◌, List, [], ◌∷◌, ◌++◌, length, take, Option, Some, None, Result, Ok, Err, refl, sym, ap, subst, ◌∙◌, length-append, arith}
+use Rattle.std.proofs.Common.{◌≡◌, ◌⊎◌, inl, inr, ℕ, zero, suc, ◌+◌, ◌-◌, ◌<◌, ◌≤◌, List, [], ◌∷◌, ◌++◌, length, take, Option, Some, Result, Ok, Err, refl, sym, ap, subst, ◌∙◌, length-append, arith}
 use Rattle.std.specs.Prelude.{slice_get, unwrap_or}
 use Rattle.std.specs.List.{AllByRecursion}
 use Rattle.pp_value.specs.declared.value.Value.{Value}
 use Rattle.pp_value.specs.Values.{Pair}
 use Rattle.pp_eval.specs.declared.scope.Scope.{Scope}
-use Rattle.pp_eval.specs.declared.scope.Sort.TheVariants as sort
 use Rattle.pp_eval.specs.declared.scopes.BindFault.{BindFault}
 use Rattle.pp_eval.specs.declared.scopes.BindFault.TheVariants as fault
 use Rattle.pp_eval.specs.Inheriting.{ParentsStandBefore}
-use Rattle.pp_eval.specs.Scoping.{AreScopes, HasTop, BeginsWithTop, place_now, current_scope, IsInner, IsInnerSort, BindsAt, bindings_at, with_bindings_at}
+use Rattle.pp_eval.specs.Scoping.{AreScopes, HasTop, BeginsWithTop, place_now, BindsAt, bindings_at, with_bindings_at}
 use Rattle.pp_eval.proofs.Inheritance.{last_or_not}
 
 abbrev Below : ℕ → List ℕ → Type 0

@@ -2,7 +2,7 @@
 
 ghost use Rattle.std.specs.Prelude.{◌≡◌, ◌-◌, option_map, is_some, length, slice_get, option_and_then, codes};
 ghost use Rattle.pp_eval.specs.Names.{is_qualified};
-ghost use Rattle.pp_eval.specs.ClassNames.{classes_in};
+ghost use Rattle.pp_eval.specs.ClassNames.{AreKept};
 ghost use Rattle.pp_eval.specs.Scoping.{in_scope, in_lineage, class_of, node_in, top_scope, find_plain, find_qualified, find_in, AreScopes};
 
 use crate::classes::Classes;
@@ -51,7 +51,7 @@ fn in_lineage<'s>(scopes: &'s [Scope], start: Option<&'s Scope>, name: &str) -> 
 /// The scope of a class, ASCII case aside.
 #[tactic(auto, using(crate::proofs::ClassPlaces::found_scope))]
 fn class_of<'s>(scopes: &'s [Scope], classes: &Classes, name: &[u8]) -> Option<&'s Scope>
-    requires { classes.now ≡ classes_in 0 scopes.now }
+    requires { AreKept classes.now scopes.now }
     ensures { option_map (λ c. c.now) result ≡ class_of scopes.now name.now }
 {
     scope_at(scopes, classes.find(name))
@@ -105,7 +105,7 @@ fn find_qualified<'s>(
     class: &[u8],
     name: &str,
 ) -> Option<&'s Value>
-    requires { classes.now ≡ classes_in 0 scopes.now }
+    requires { AreKept classes.now scopes.now }
     ensures { option_map (λ x. x.now) result ≡ find_qualified (scopes.now, opened.now) class.now name.now }
 {
     if class.is_empty() {

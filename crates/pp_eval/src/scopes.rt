@@ -1,10 +1,10 @@
 //! The scopes in which expressions are evaluated.
 
-ghost use Rattle.std.specs.Prelude.{◌≡◌, ◌<◌, ◌∷◌, ◌++◌, [], length, None, IfOk, OnOk, OnErr, option_map, option_and_then, IsSome, IfSome};
+ghost use Rattle.std.specs.Prelude.{◌≡◌, ◌<◌, ◌∷◌, ◌++◌, [], length, None, IfOk, OnOk, OnErr, option_map, option_and_then};
 ghost use Rattle.pp_value.specs.Texts.{lowered};
 ghost use Rattle.pp_eval.specs.ClassNames.{place_among};
 ghost use Rattle.pp_eval.specs.Verdicts.{AnswersBy};
-ghost use Rattle.pp_eval.specs.Scoping.{Binds, BindsAt, BindsNow, bound, place_now, at_start, class_of, class_scope, defined_scope, node_scope_new, entered, left, current_scope, IsInner};
+ghost use Rattle.pp_eval.specs.Scoping.{Binds, BindsAt, BindsNow, bound, place_now, at_start, class_scope, defined_scope, node_scope_new, entered, left, current_scope, IsInner};
 
 use crate::answers::bound_again;
 use crate::classes::Classes;
@@ -58,10 +58,9 @@ impl Model for Scopes {
 
     ghost view = { λ s. (s.scopes.items, s.open.items) };
 
-    ghost use Rattle.std.specs.Prelude.{◌≡◌};
-    ghost use Rattle.pp_eval.specs.ClassNames.{classes_in};
+    ghost use Rattle.pp_eval.specs.ClassNames.{AreKept};
 
-    ghost invariant = { λ s. AreScopes s.scopes.items s.open.items × (s.classes ≡ classes_in 0 s.scopes.items) };
+    ghost invariant = { λ s. AreScopes s.scopes.items s.open.items × AreKept s.classes s.scopes.items };
 }
 
 /// A text of its own.
@@ -207,10 +206,8 @@ impl Scopes {
         }
     }
 
-    /// Enters the scope of a class, which inherits the parent's.
+    /// Enters the scope of a class, which inherits the parent's, if that has one.
     pub fn enter_class(&mut self, name: &str, parent: Option<&str>) -> Result<(), NoMemory>
-        requires new_name { class_of self.old.0 name.now ≡ None }
-        requires known_parent { IfSome parent (λ p. IsSome (class_of self.old.0 p.now)) }
         ensures ok { OnOk result (self.new ≡ entered self.old (class_scope self.old.0 name.now (option_map (λ p. p.now) parent.entry))) }
         ensures err { OnErr result (self.new ≡ self.old) }
     {
@@ -221,6 +218,9 @@ impl Scopes {
             parent,
             bindings: Pairs::new(self.alloc),
         };
+        if self.classes.find(name.as_bytes()).is_some() {
+            return enter(&mut self.scopes, &mut self.open, scope);
+        }
         enter_named(
             &mut self.scopes,
             &mut self.open,
@@ -245,7 +245,6 @@ impl Scopes {
 
     /// Enters the scope of a node, which stays open.
     pub fn enter_node(&mut self) -> Result<(), NoMemory>
-        requires at_top { length self.old.1 ≡ 1 }
         ensures ok { OnOk result (self.new ≡ entered self.old node_scope_new) }
         ensures err { OnErr result (self.new ≡ self.old) }
     {

@@ -1,0 +1,193 @@
+-- A class's body, from its beginning to its end, and the parents that run before it.
+use Rattle.std.proofs.Common.{◌≡◌, ℕ, zero, suc, ◌+◌, ◌-◌, ◌<◌, Bool, true, false, cond, List, [], ◌∷◌, ◌++◌, map, length, Option, Some, None, Result, Ok, Err, refl, sym, ap, subst, ◌∙◌, arith, length-append}
+use Rattle.std.specs.Prelude.{slice_get, option_and_then, codes, nat_lt}
+use Rattle.std.proofs.lemmas.Bool.{lt-ltb, ltb-true, ltb-false}
+use Rattle.rh_base.specs.declared.fault.Fault.{Fault}
+use Rattle.rh_base.specs.declared.fault.Fault.TheVariants as fault
+use Rattle.rh_base.specs.declared.fault.Refusal.{Refusal}
+use Rattle.pp_syntax.specs.declared.tree.Stmt.{Stmt}
+use Rattle.pp_value.specs.Shown.{shown_ref}
+use Rattle.pp_value.specs.Values.{Pair}
+use Rattle.pp_eval.specs.declared.scope.Scope.{Scope}
+use Rattle.pp_eval.specs.Verdicts.{◌>>=◌, refusal, Refuses}
+use Rattle.pp_eval.specs.Growing.{inner_stays}
+use Rattle.pp_eval.specs.Scoping.{Scoped, entered, left as left_scope, class_scope, current_scope, IsInner, IsInnerSort}
+use Rattle.catalog_semantics.specs.declared.catalog.Resource.{Resource}
+use Rattle.catalog_semantics.specs.declared.state.State.{State}
+use Rattle.catalog_semantics.specs.Sites.{Definition, Site}
+use Rattle.catalog_semantics.specs.States.{Effect, in_turn, is_declared, added}
+use Rattle.catalog_semantics.specs.Declaring.{Bodies, all_known, opened, begun, ended, class_runs, class_resource, class_named, no_circle, parents_of, class_declared}
+use Rattle.catalog_semantics.specs.Effects.{effect_at, bodies_at}
+use Rattle.catalog_semantics.proofs.Extending.{blocks_only_add, openings_only_add}
+use Rattle.pp_decl_classes.specs.Beginning.{body_begins, may_begin, class_added, class_begins, body_ends}
+use Rattle.pp_decl_classes.specs.Parents.{nearest_first, backwards, turned}
+use Rattle.pp_decl_classes.proofs.BeginningLaws.{class_is}
+use Rattle.pp_decl_classes.proofs.ParentLaws.{from_the_top}
+use Rattle.pp_decl.specs.Classes.{parent_runs, parents_run}
+
+same_state : (s t : State) → ◌≡◌ {A = Result State Refusal} (Ok s) (Ok t) → s ≡ t
+same_state s t h = cc
+
+got_last : {X : Type 0} (front : List X) (x : X) → slice_get (front ++ x ∷ []) (length front) ≡ Some x
+got_last [] x = refl
+got_last (y ∷ front) x = got_last front x
+
+-- ---- where no more bodies may run
+
+module _ (d : Definition) (r : Resource) (s : State) where
+  abbrev begins_in : State → Result State Refusal
+  begins_in t = body_begins d (length s.resources) r (class_scope t.scopes.0 d.name d.parent) t
+
+  none_by : (added_so : Result State Refusal) (b : Bool) → (cond b (Err (refusal 24 r.at (shown_ref r.id))) (Ok s) >>= λ _. Err (refusal 32 r.at (codes "declared")))
+      ≡ ((cond b (Err (refusal 24 r.at (shown_ref r.id))) (Ok s) >>= λ _. may_begin r.at false s >>= λ _. added_so) >>= begins_in)
+  none_by added_so true = refl
+  none_by added_so false = refl
+
+  none_runs : class_runs None d r s ≡ class_begins false d r s
+  none_runs = none_by (added r s) (is_declared r.id s)
+
+  never_by : (t : State) (b : Bool) → ((cond b (Err (refusal 24 r.at (shown_ref r.id))) (Ok s) >>= λ _. may_begin r.at false s >>= λ _. added r s) >>= begins_in) ≡ Ok t → ⊥
+  never_by t true h = cc
+  never_by t false h = cc
+
+  pub never_begins : (t : State) → class_begins false d r s ≡ Ok t → ⊥
+  never_begins t h = never_by t (is_declared r.id s) h
+
+-- ---- the whole
+
+module _ (site : Site) (d : Definition) (r : Resource) (s : State) where
+  some_bodies : (left : ℕ) → 0 < left → bodies_at left site ≡ Some (effect_at (left - 1) site)
+  some_bodies zero h = absurd (omega arith)
+  some_bodies (suc m) h = ap (λ k. Some (effect_at k site)) (omega arith)
+
+  runs_on : (left : ℕ) → 0 < left → class_runs (bodies_at left site) d r s ≡ (class_begins true d r s >>= body_ends (effect_at (left - 1) site) d s.running)
+  runs_on left h = ap (λ bodies. class_runs bodies d r s) (some_bodies left h) ∙ class_is (effect_at (left - 1) site) d r s
+
+  no_bodies : (left : ℕ) → (0 < left → ⊥) → class_runs (bodies_at left site) d r s ≡ class_begins false d r s
+  no_bodies zero h = none_runs d r s
+  no_bodies (suc m) h = absurd (h (omega arith))
+
+  begin_by : (left : ℕ) (e : Refusal) (may : Bool) → (may ≡ true → 0 < left) → (may ≡ false → 0 < left → ⊥) → class_begins may d r s ≡ Err e → class_runs (bodies_at left site) d r s ≡ Err e
+  begin_by left e true f g h = runs_on left (f refl) ∙ ap (λ (x : Result State Refusal). x >>= body_ends (effect_at (left - 1) site) d s.running) h
+  begin_by left e false f g h = no_bodies left (g refl) ∙ h
+
+  pub not_begun : (left : ℕ) (e : Refusal) (may : Bool) → may ≡ nat_lt 0 left → class_begins may d r s ≡ Err e → class_runs (bodies_at left site) d r s ≡ Err e
+  not_begun left e may is h = begin_by left e may (λ k. ltb-true 0 left (sym is ∙ k)) (λ k low. let high = ltb-false 0 left (sym is ∙ k) in omega arith) h
+
+  pub body_refused : (left : ℕ) (t : State) (e : Refusal) → 0 < left → class_begins true d r s ≡ Ok t → in_turn (map (effect_at (left - 1) site) d.body) t ≡ Err e → class_runs (bodies_at left site) d r s ≡ Err e
+  body_refused left t e h k b =
+      runs_on left h ∙ (ap (λ (x : Result State Refusal). x >>= body_ends (effect_at (left - 1) site) d s.running) k
+      ∙ ap (λ (x : Result State Refusal). x >>= λ u. Ok (ended (record t { running = s.running }) u)) b)
+
+  pub body_ended : (left : ℕ) (t u : State) → 0 < left → class_begins true d r s ≡ Ok t → in_turn (map (effect_at (left - 1) site) d.body) t ≡ Ok u
+      → class_runs (bodies_at left site) d r s ≡ Ok (record u { running = s.running; scopes = left_scope u.scopes })
+  body_ended left t u h k b =
+      runs_on left h ∙ (ap (λ (x : Result State Refusal). x >>= body_ends (effect_at (left - 1) site) d s.running) k
+      ∙ ap (λ (x : Result State Refusal). x >>= λ w. Ok (ended (record t { running = s.running }) w)) b)
+
+module _ (left : ℕ) (site : Site) (d : Definition) (r q : Resource) (s : State) (same : r ≡ q) where
+  pub begin_refused : (may : Bool) (e : Fault) → may ≡ nat_lt 0 left → Refuses (class_begins may d r s) e → Refuses (class_runs (bodies_at left site) d q s) e
+  begin_refused may (fault.Refused x) is h = not_begun site d q s left x may is (ap (λ (p : Resource). class_begins may d p s) (sym same) ∙ h)
+  begin_refused may (fault.Memory m) is h = tt
+
+  pub block_refused : (may : Bool) (body : List Stmt) (t : State) (e : Fault) → may ≡ nat_lt 0 left → 0 < left → class_begins may d r s ≡ Ok t → body ≡ d.body → Refuses (in_turn (map (effect_at (left - 1) site) body) t) e
+      → Refuses (class_runs (bodies_at left site) d q s) e
+  block_refused may body t (fault.Refused x) is some begins own h =
+      body_refused site d q s left t x some
+      (ap (λ (p : Resource). class_begins true d p s) (sym same) ∙ (ap (λ b. class_begins b d r s) (sym (is ∙ lt-ltb 0 left some)) ∙ begins))
+      (ap (λ (b : List Stmt). in_turn (map (effect_at (left - 1) site) b) t) (sym own) ∙ h)
+  block_refused may body t (fault.Memory m) is some begins own h = tt
+
+-- ---- the scope of the body
+
+inner_last : (open_ones : List ℕ) (place : ℕ) (scopes : List Scope) (scope : Scope) → place ≡ length scopes → IsInnerSort scope.sort
+    → IsInner (option_and_then (slice_get (scopes ++ scope ∷ [])) (slice_get (open_ones ++ place ∷ []) (length (open_ones ++ place ∷ []) - 1)))
+inner_last open_ones place scopes scope is h =
+    subst (λ n. IsInner (option_and_then (slice_get (scopes ++ scope ∷ [])) (slice_get (open_ones ++ place ∷ []) n))) (sym last)
+    (subst (λ (o : Option ℕ). IsInner (option_and_then (slice_get (scopes ++ scope ∷ [])) o)) (sym (got_last open_ones place))
+    (subst (λ n. IsInner (slice_get (scopes ++ scope ∷ []) n)) (sym is)
+    (subst IsInner (sym (got_last scopes scope)) h)))
+  where
+    last : length (open_ones ++ place ∷ []) - 1 ≡ length open_ones
+    last = let more = length-append open_ones (place ∷ []) in omega arith
+
+inner_entered : (s : Scoped) (scope : Scope) → IsInnerSort scope.sort → IsInner (current_scope (entered s scope))
+inner_entered s scope h = inner_last s.1 (length s.0) s.0 scope refl h
+
+opened_by : (d : Definition) (place : ℕ) (t : State) (o : Result State Refusal) (P : State → Type 0) → ((u : State) → o ≡ Ok u → P (begun place u)) → (o >>= λ u. Ok (begun place u)) ≡ Ok t → P t
+opened_by d place t (Ok u) P f h = subst P (same_state (begun place u) t h) (f u refl)
+opened_by d place t (Err e) P f h = cc
+
+begun_by : (d : Definition) (place : ℕ) (t : State) (k o : Result State Refusal) (P : State → Type 0) → ((u : State) → o ≡ Ok u → P (begun place u)) → (k >>= λ _. o >>= λ u. Ok (begun place u)) ≡ Ok t → P t
+begun_by d place t (Ok w) o P f h = opened_by d place t o P f h
+begun_by d place t (Err e) o P f h = cc
+
+added_by : (d : Definition) (r : Resource) (s t : State) (x : Result State Refusal) → (x >>= begins_in d r s) ≡ Ok t → (v : State) × (begins_in d r s v ≡ Ok t)
+added_by d r s t (Ok v) h = (v, h)
+added_by d r s t (Err e) h = cc
+
+pub inner_begun : (may : Bool) (d : Definition) (r : Resource) (s t : State) → class_begins may d r s ≡ Ok t → IsInner (current_scope t.scopes)
+inner_begun may d r s t h =
+    let from = added_by d r s t (class_added may r s) h in
+    let v = from.0 in
+    let scope = class_scope v.scopes.0 d.name d.parent in
+    begun_by d (length s.resources) t (all_known r.at d.parameters r.attrs v) (opened d r scope v) (λ w. IsInner (current_scope w.scopes))
+    (λ u is. inner_stays (entered v.scopes scope) u.scopes (openings_only_add d r scope v u is).scopes (inner_entered v.scopes scope tt)) from.1
+
+pub inner_still : (n : ℕ) (site : Site) (body : List Stmt) (s t : State) → in_turn (map (effect_at n site) body) s ≡ Ok t → IsInner (current_scope s.scopes) → IsInner (current_scope t.scopes)
+inner_still n site body s t h k = inner_stays s.scopes t.scopes (blocks_only_add n site body s t h).scopes k
+
+-- ---- parents
+
+module _ (f : Definition → Effect) where
+  last_runs : (front : List Definition) (p : Definition) (s : State) → in_turn (map f (backwards (front ++ p ∷ []))) s ≡ (f p s >>= in_turn (map f (backwards front)))
+  last_runs front p s = ap (λ (ds : List Definition). in_turn (map f ds) s) (back front p)
+    where
+      back : (front : List Definition) (p : Definition) → backwards (front ++ p ∷ []) ≡ p ∷ backwards front
+      back [] p = refl
+      back (d ∷ front) p = ap (λ (ds : List Definition). ds ++ d ∷ []) (back front p)
+
+pub next_parent : (bodies : Bodies) (at : ℕ) (front : List Definition) (p : Definition) (s t : State) → parent_runs bodies at p s ≡ Ok t
+    → in_turn (map (parent_runs bodies at) (backwards (front ++ p ∷ []))) s ≡ in_turn (map (parent_runs bodies at) (backwards front)) t
+next_parent bodies at front p s t h =
+    last_runs (parent_runs bodies at) front p s ∙ ap (λ (x : Result State Refusal). x >>= in_turn (map (parent_runs bodies at) (backwards front))) h
+
+pub parent_refused : (bodies : Bodies) (at : ℕ) (front : List Definition) (p : Definition) (s : State) (e : Refusal) → parent_runs bodies at p s ≡ Err e
+    → in_turn (map (parent_runs bodies at) (backwards (front ++ p ∷ []))) s ≡ Err e
+parent_refused bodies at front p s e h =
+    last_runs (parent_runs bodies at) front p s ∙ ap (λ (x : Result State Refusal). x >>= in_turn (map (parent_runs bodies at) (backwards front))) h
+
+module _ (site : Site) (bodies : Bodies) (at : ℕ) (d : Definition) (s : State) where
+  from_line : parents_run site bodies at d s ≡ (turned (nearest_first (length site.classes + 1) site s d) >>= λ ds. in_turn (map (parent_runs bodies at) ds) s)
+  from_line = ap (λ (r : Result (List Definition) Refusal). r >>= λ ds. in_turn (map (parent_runs bodies at) ds) s) (from_the_top site s d)
+
+  pub line_runs : (ds : List Definition) → nearest_first (length site.classes + 1) site s d ≡ Ok ds → parents_run site bodies at d s ≡ in_turn (map (parent_runs bodies at) (backwards ds)) s
+  line_runs ds h = from_line ∙ ap (λ (r : Result (List Definition) Refusal). turned r >>= λ es. in_turn (map (parent_runs bodies at) es) s) h
+
+  pub line_refused : (e : Refusal) → nearest_first (length site.classes + 1) site s d ≡ Err e → parents_run site bodies at d s ≡ Err e
+  line_refused e h = from_line ∙ ap (λ (r : Result (List Definition) Refusal). turned r >>= λ es. in_turn (map (parent_runs bodies at) es) s) h
+
+-- ---- a class behind its parents
+
+parents_joined : {A : Type 0} (r : Result (List Definition) Refusal) (f : List Definition → Result State Refusal) (g : State → Result A Refusal) → (r >>= λ ds. f ds >>= g) ≡ ((r >>= f) >>= g)
+parents_joined (Ok ds) f g = refl
+parents_joined (Err e) f g = refl
+
+module _ (site : Site) (bodies : Bodies) (at : ℕ) (attributes : List Pair) (name : List ℕ) (s : State) where
+  abbrev behind_parents : Definition → Result State Refusal
+  behind_parents d = no_circle site d >>= λ _. parents_run site bodies at d s >>= class_runs bodies d (class_resource at d.name attributes)
+
+  by_circle : (d : Definition) (k : Result Definition Refusal)
+      → (k >>= λ _. parents_of site s d >>= λ ds. in_turn (map (parent_runs bodies at) ds) s >>= λ t. class_runs bodies d (class_resource at d.name attributes) t)
+      ≡ (k >>= λ _. parents_run site bodies at d s >>= class_runs bodies d (class_resource at d.name attributes))
+  by_circle d (Ok c) = parents_joined (parents_of site s d) (λ ds. in_turn (map (parent_runs bodies at) ds) s) (class_runs bodies d (class_resource at d.name attributes))
+  by_circle d (Err e) = refl
+
+  by_name : (r : Result Definition Refusal)
+      → (r >>= λ d. no_circle site d >>= λ _. parents_of site s d >>= λ ds. in_turn (map (parent_runs bodies at) ds) s >>= λ t. class_runs bodies d (class_resource at d.name attributes) t)
+      ≡ (r >>= behind_parents)
+  by_name (Ok d) = by_circle d (no_circle site d)
+  by_name (Err e) = refl
+
+  pub declared_is : class_declared site bodies at attributes name s ≡ (class_named site at name >>= behind_parents)
+  declared_is = by_name (class_named site at name)

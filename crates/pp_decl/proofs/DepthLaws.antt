@@ -1,0 +1,140 @@
+-- The statements of a block are no deeper than it is, and a block is less deep than what it stands in.
+use Rattle.std.proofs.Common.{◌≡◌, ℕ, zero, suc, ◌+◌, ◌-◌, ◌*◌, ◌<◌, ◌≤◌, true, List, [], ◌∷◌, map, length, Option, Some, Ok, Bor, sym, ap, subst, ◌∙◌, arith}
+use Rattle.std.proofs.Math.Nat.{le-max_left, le-max_right}
+use Rattle.std.proofs.lemmas.Bool.{lt-ltb, ltb-true}
+use Rattle.std.specs.Prelude.{max, nat_lt, get_or, option_map}
+use Rattle.std.specs.List.{AllByRecursion}
+use Rattle.pp_syntax.specs.declared.tree.Expr.{Expr}
+use Rattle.pp_syntax.specs.declared.tree.Stmt.{Stmt, Stmt-F, roll-Stmt, map-Stmt, fold-roll-Stmt}
+use Rattle.pp_syntax.specs.declared.tree.Stmt.TheOpen as plain
+use Rattle.pp_syntax.specs.declared.tree.Stmt.TheVariants as stmt
+use Rattle.pp_syntax.specs.declared.tree.Stmt.TheVariants.{rolls-If, rolls-Unless, rolls-Case}
+use Rattle.pp_syntax.specs.declared.tree.Arm.{Arm, out-Arm, fold-Arm, fold_out-Arm}
+use Rattle.pp_syntax.specs.declared.tree.CaseArm.{CaseArm, out-CaseArm, fold-CaseArm, fold_out-CaseArm}
+use Rattle.pp_eval.specs.Scoping.{Scoped}
+use Rattle.pp_decl_choices.specs.Choosing.{chosen_arm, chosen_option}
+use Rattle.pp_decl_choices.proofs.OwnBlocks.{arm_is_own, option_is_own}
+use Rattle.pp_decl.specs.Depth.{most, arm_depth_by, case_arm_depth_by, depth_by, depth, block_depth}
+
+-- ---- the depth of each statement
+
+abbrev in_arm : Arm → ℕ
+in_arm a = fold-Arm ℕ ℕ ℕ depth_by arm_depth_by case_arm_depth_by a
+
+abbrev in_case_arm : CaseArm → ℕ
+in_case_arm a = fold-CaseArm ℕ ℕ ℕ depth_by arm_depth_by case_arm_depth_by a
+
+abbrev layer_of : Stmt-F Stmt Arm CaseArm → ℕ
+layer_of d = depth_by (map-Stmt Stmt Arm CaseArm ℕ ℕ ℕ depth in_arm in_case_arm d)
+
+rolled : (d : Stmt-F Stmt Arm CaseArm) → depth (roll-Stmt d) ≡ layer_of d
+unfolding depth
+rolled d = fold-roll-Stmt ℕ ℕ ℕ depth_by arm_depth_by case_arm_depth_by d
+
+of : (x : Stmt) (d : Stmt-F Stmt Arm CaseArm) → roll-Stmt d ≡ x → depth x ≡ layer_of d
+of x d is = sym (ap depth is) ∙ rolled d
+
+arm_is : (a : Arm) → in_arm a ≡ block_depth (out-Arm a).body
+unfolding depth
+arm_is a = fold_out-Arm ℕ ℕ ℕ depth_by arm_depth_by case_arm_depth_by a
+
+case_arm_is : (a : CaseArm) → in_case_arm a ≡ block_depth (out-CaseArm a).body
+unfolding depth
+case_arm_is a = fold_out-CaseArm ℕ ℕ ℕ depth_by arm_depth_by case_arm_depth_by a
+
+-- ---- the greatest of some
+
+all_below : {A : Type 0} (f g : A → ℕ) (n : ℕ) (xs : List A) → ((x : A) → f x ≡ g x) → most (map f xs) < n → AllByRecursion (λ x. nat_lt (g x) n ≡ true) xs
+all_below f g n [] same h = tt
+all_below f g n (x ∷ xs) same h =
+    let first = le-max_left (f x) (most (map f xs)) in
+    let more = le-max_right (f x) (most (map f xs)) in
+    let is = same x in
+    (lt-ltb (g x) n (omega arith), all_below f g n xs same (omega arith))
+
+pub member_within : (body : List Stmt) (i : ℕ) (s x : Stmt) → i < length body → x ≡ get_or body i s → depth x ≤ block_depth body
+member_within [] i s x h is = absurd (omega arith)
+member_within (b ∷ body) zero s x h is = let first = le-max_left (depth b) (block_depth body) in let same = ap depth is in omega arith
+member_within (b ∷ body) (suc i) s x h is =
+    let more = le-max_right (depth b) (block_depth body) in
+    let rest = member_within body i s x (omega arith) is in omega arith
+
+-- ---- blocks
+
+depth_if : (at : ℕ) (arms : List Arm) (other : List Stmt) → depth (stmt.If at arms other) ≡ max (most (map in_arm arms)) (block_depth other) + 1
+depth_if at arms other = of (stmt.If at arms other) (plain.If at arms other) (rolls-If at arms other)
+
+depth_unless : (at : ℕ) (test : Expr) (body other : List Stmt) → depth (stmt.Unless at test body other) ≡ max (block_depth body) (block_depth other) + 1
+depth_unless at test body other = of (stmt.Unless at test body other) (plain.Unless at test body other) (rolls-Unless at test body other)
+
+depth_case : (at : ℕ) (value : Expr) (arms : List CaseArm) → depth (stmt.Case at value arms) ≡ most (map in_case_arm arms) + 1
+depth_case at value arms = of (stmt.Case at value arms) (plain.Case at value arms) (rolls-Case at value arms)
+
+arm_within : (s : Scoped) (at : ℕ) (arms : List Arm) (other b : List Stmt) → chosen_arm s arms other ≡ Ok b → block_depth b < depth (stmt.If at arms other)
+arm_within s at arms other b h =
+    let all = depth_if at arms other in
+    let first = le-max_left (most (map in_arm arms)) (block_depth other) in
+    let more = le-max_right (most (map in_arm arms)) (block_depth other) in
+    ltb-true (block_depth b) (depth (stmt.If at arms other))
+    (arm_is_own (λ body. nat_lt (block_depth body) (depth (stmt.If at arms other)) ≡ true) s b arms other
+    (all_below in_arm (λ a. block_depth (out-Arm a).body) (depth (stmt.If at arms other)) arms arm_is (omega arith))
+    (lt-ltb (block_depth other) (depth (stmt.If at arms other)) (omega arith)) h)
+
+option_within : (s : Scoped) (at : ℕ) (e : Expr) (arms : List CaseArm) (b : List Stmt) → chosen_option s e arms ≡ Ok (Some b) → block_depth b < depth (stmt.Case at e arms)
+option_within s at e arms b h =
+    let all = depth_case at e arms in
+    ltb-true (block_depth b) (depth (stmt.Case at e arms))
+    (option_is_own (λ body. nat_lt (block_depth body) (depth (stmt.Case at e arms)) ≡ true) s b e arms
+    (all_below in_case_arm (λ a. block_depth (out-CaseArm a).body) (depth (stmt.Case at e arms)) arms case_arm_is (omega arith)) h)
+
+body_within : (at : ℕ) (test : Expr) (body other : List Stmt) → block_depth body < depth (stmt.Unless at test body other)
+body_within at test body other =
+    let all = depth_unless at test body other in let first = le-max_left (block_depth body) (block_depth other) in omega arith
+
+other_within : (at : ℕ) (test : Expr) (body other : List Stmt) → block_depth other < depth (stmt.Unless at test body other)
+other_within at test body other =
+    let all = depth_unless at test body other in let more = le-max_right (block_depth body) (block_depth other) in omega arith
+
+-- ---- what is left to do
+
+less_deep : (w d e : ℕ) → d < e → 16 * (w + d) + 15 < 16 * (w + e) + 14
+less_deep w d e h = omega arith
+
+pub no_deeper : (w d e : ℕ) → d ≤ e → 16 * (w + d) + 14 < 16 * (w + e) + 15
+no_deeper w d e h = omega arith
+
+pub if_less : (w : ℕ) (x : Stmt) (s : Scoped) (at : ℕ) (arms all : List Arm) (other last b : List Stmt) → x ≡ stmt.If at arms other → all ≡ arms → last ≡ other → chosen_arm s all last ≡ Ok b
+    → 16 * (w + block_depth b) + 15 < 16 * (w + depth x) + 14
+if_less w x s at arms all other last b is same end h =
+    less_deep w (block_depth b) (depth x)
+    (subst (λ (y : Stmt). block_depth b < depth y) (sym is) (arm_within s at arms other b ((λ i. chosen_arm s (sym same i) (sym end i)) ∙ h)))
+
+pub option_less : (w : ℕ) (x : Stmt) (s : Scoped) (at : ℕ) (e : Expr) (arms all : List CaseArm) (found : Option (Bor (List Stmt))) (b : Bor (List Stmt)) → x ≡ stmt.Case at e arms → all ≡ arms → found ≡ Some b
+    → chosen_option s e all ≡ Ok (option_map (λ (body : Bor (List Stmt)). body.now) found) → 16 * (w + block_depth b.now) + 15 < 16 * (w + depth x) + 14
+option_less w x s at e arms all found b is same some h =
+    less_deep w (block_depth b.now) (depth x)
+    (subst (λ (y : Stmt). block_depth b.now < depth y) (sym is) (option_within s at e arms b.now
+    (ap (chosen_option s e) (sym same) ∙ (h ∙ ap (λ (o : Option (Bor (List Stmt))). Ok (option_map (λ (body : Bor (List Stmt)). body.now) o)) some))))
+
+pub body_less : (w : ℕ) (x : Stmt) (at : ℕ) (test : Expr) (body other b : List Stmt) → x ≡ stmt.Unless at test body other → b ≡ body → 16 * (w + block_depth b) + 15 < 16 * (w + depth x) + 14
+body_less w x at test body other b is same =
+    less_deep w (block_depth b) (depth x)
+    (subst (λ (y : Stmt). block_depth b < depth y) (sym is) (subst (λ (c : List Stmt). block_depth c < depth (stmt.Unless at test body other)) (sym same) (body_within at test body other)))
+
+pub other_less : (w : ℕ) (x : Stmt) (at : ℕ) (test : Expr) (body other b : List Stmt) → x ≡ stmt.Unless at test body other → b ≡ other → 16 * (w + block_depth b) + 15 < 16 * (w + depth x) + 14
+other_less w x at test body other b is same =
+    less_deep w (block_depth b) (depth x)
+    (subst (λ (y : Stmt). block_depth b < depth y) (sym is) (subst (λ (c : List Stmt). block_depth c < depth (stmt.Unless at test body other)) (sym same) (other_within at test body other)))
+
+pub next_rank : (w : ℕ) → w + 4 < w + 5
+next_rank w = omega arith
+
+pub fewer_bodies : (left bound d : ℕ) → 0 < left → d < bound → 16 * ((left - 1) * bound + d) + 15 < 16 * (left * bound + 0) + 4
+fewer_bodies zero bound d h k = absurd (omega arith)
+fewer_bodies (suc n) bound d h k = step (n * bound) ((suc n - 1) * bound) (suc n * bound) (ap (λ m. m * bound) (omega arith)) (omega arith)
+  where
+    step : (one same all : ℕ) → same ≡ one → all ≡ one + bound → 16 * (same + d) + 15 < 16 * (all + 0) + 4
+    step one same all e f = omega arith
+
+pub below : (m t n : ℕ) → n ≡ t → m < n → m < t
+below m t n e h = subst (λ k. m < k) e h

@@ -1,0 +1,5 @@
+pub mod DepthLaws
+pub mod OwnLaws
+pub mod StatementLaws
+pub mod BodyLaws
+pub mod SideLaws

@@ -1,0 +1,3 @@
+pub mod Including
+pub mod Classes
+pub mod Depth

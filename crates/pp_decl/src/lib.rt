@@ -1,0 +1,7 @@
+//! What the statements of a manifest do.
+#![tactic(auto)]
+
+mod simple;
+mod statement;
+
+pub use statement::{run_block, run_statement};
