@@ -5,6 +5,7 @@ use Rattle.std.specs.Option.{option_or}
 use Rattle.std.specs.Str.{bytes_eq}
 use Rattle.pp_value.specs.declared.value.Value.{Value, items-the_row-Value}
 use Rattle.pp_value.specs.declared.value.Value.TheVariants as v
+use Rattle.pp_value.specs.Texts.{begins}
 use Rattle.pp_value.specs.Values.{Pair, value_at}
 use Rattle.catalog_semantics.specs.Attributes.{is_one_of, metaparameters}
 use Rattle.model_semantics.specs.declared.kinds.Kind.{Kind}
@@ -205,18 +206,12 @@ abbrev pub is_folder : Ensure → Bool
 is_folder ensure.Directory = true
 is_folder _ = false
 
--- the first of these fronts the text begins with
-abbrev pub begins_with : List ℕ → List ℕ → Bool
-begins_with [] text = true
-begins_with (b ∷ front) [] = false
-begins_with (b ∷ front) (c ∷ text) = (b == c) && begins_with front text
-
 abbrev pub is_address : List ℕ → Bool
-is_address text = begins_with (codes "puppet:") text || (begins_with (codes "http:") text || begins_with (codes "https:") text)
+is_address text = begins (codes "puppet:") text || (begins (codes "http:") text || begins (codes "https:") text)
 
 -- a path or an address
 abbrev pub is_source : Value → Bool
-is_source (v.Str text) = begins_with (codes "/") text || is_address text
+is_source (v.Str text) = begins (codes "/") text || is_address text
 is_source _ = false
 
 abbrev pub fillings : List (List ℕ)

@@ -6,6 +6,7 @@ use Rattle.fs_semantics.specs.FileTree.{Path, is_among}
 use Rattle.fs_semantics.specs.Programs.{Program}
 use Rattle.pp_value.specs.declared.value.Value.{Value, items-the_row-Value}
 use Rattle.pp_value.specs.declared.value.Value.TheVariants as v
+use Rattle.pp_value.specs.Texts.{begins}
 use Rattle.pp_value.specs.Values.{Pair, value_at}
 use Rattle.pp_value.specs.Shown.{shown_int, shown_ref}
 use Rattle.pp_eval.specs.Verdicts.{refusal}
@@ -22,7 +23,7 @@ use Rattle.model_semantics.specs.declared.states.FileState.{FileState}
 use Rattle.model_semantics.specs.declared.states.FileState.TheVariants as file
 use Rattle.model_semantics.specs.declared.states.States.{States}
 use Rattle.model_semantics.specs.Words.{sequence}
-use Rattle.model_semantics.specs.Attributes.{kind_of, states_of, begins_with, attributes_fit}
+use Rattle.model_semantics.specs.Attributes.{kind_of, states_of, attributes_fit}
 use Rattle.model_semantics.specs.Rows.{file_row, package_row, group_row, user_row, service_row, entry_row}
 use Rattle.model_semantics.specs.Names.{◌>>=◌, text_at, text_or, name_of, mark_named, mark_of_user, spelled, is_reserved, unless_reserved, group_names, group_marks, home_of, is_reserved_home, units_of, mark_needed}
 
@@ -38,7 +39,7 @@ model place steps = record { place = place; steps = steps }
 
 -- a path, or an address
 abbrev pub source_state : List ℕ → Result FileState Cause
-source_state text = if begins_with (codes "/") text then spelled text >>= (λ p. Ok (file.Copied p)) else Ok (file.Fetched text)
+source_state text = if begins (codes "/") text then spelled text >>= (λ p. Ok (file.Copied p)) else Ok (file.Fetched text)
 
 abbrev pub filled_state : Option (List ℕ) → Option (List ℕ) → FileState → Result FileState Cause
 filled_state (Some content) source other = Ok (file.Content content)

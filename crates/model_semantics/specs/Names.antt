@@ -167,3 +167,8 @@ units_of name = named (unit_name name) >>= (λ s. Ok (units_at s))
 -- the mark that is needed of a user, if it isn't root
 abbrev pub mark_needed : List ℕ → Result (Option Path) Cause
 mark_needed user = if bytes_eq user (codes "root") then Ok None else mark_named (codes "user") user >>= (λ m. Ok (Some m))
+
+-- the fault is that of an attribute
+abbrev pub RefusesFor : List ℕ → ModelFault → Type 0
+RefusesFor name (fault.Because c) = c ≡ cause.Attribute name
+RefusesFor name (fault.Memory m) = Unit {0}
