@@ -1,0 +1,5 @@
+pub mod Words
+pub mod Rows
+pub mod Attributes
+pub mod Names
+pub mod Models

@@ -1,0 +1,10 @@
+use Rattle.std.proofs.Common.{◌≡◌, ◌++◌, drop, option_map}
+use Rattle.std.specs.List.{AllByRecursion}
+use Rattle.serde_json.specs.View.{items_view}
+use Rattle.fs_semantics.specs.FileTree.{IsSegment}
+use Rattle.pkg_listing.specs.Reading.{files_of}
+use Rattle.pkg_listing.proofs.reading.files_of.Given as goal
+
+-- what was read, with what is still to be read
+abbrev pub invariant-loop-item : goal.invariant-loop-item
+invariant-loop-item l = (option_map (λ more. l.files ++ more) (files_of l.version (items_view (drop l.item-index l.items))) ≡ files_of l.version (items_view l.items)) × AllByRecursion (λ f. AllByRecursion IsSegment f.path) l.files

@@ -1,0 +1,4 @@
+pub mod Packages
+pub mod Reading
+pub mod Form
+pub mod ListingText

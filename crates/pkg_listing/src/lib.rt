@@ -1,0 +1,14 @@
+//! The listing of packages: which files and folders each of them has.
+#![tactic(auto)]
+
+mod laws;
+mod listing;
+mod paths;
+mod reading;
+mod writing;
+
+pub use laws::{listing_texts, package_paths};
+pub use listing::{DIGEST_BYTES, Listed, Listing, Package};
+pub use paths::PathSet;
+pub use reading::{Version, listing_from_json};
+pub use writing::listing_to_json;
