@@ -52,6 +52,7 @@ alone =
 abbrev pub takes : Ask → Takes
 takes ask.Verify = alone
 takes ask.Check = alone
+takes ask.Migrate = alone
 
 -- ---- the request
 
@@ -59,7 +60,8 @@ takes ask.Check = alone
 abbrev pub ask_named : Text → Option Ask
 ask_named word =
     if bytes_eq word (codes "verify") then Some ask.Verify
-    else (if bytes_eq word (codes "check") then Some ask.Check else None)
+    else (if bytes_eq word (codes "check") then Some ask.Check
+    else (if bytes_eq word (codes "migrate") then Some ask.Migrate else None))
 
 -- what `--ask` asks for; where it is left out, to verify
 abbrev pub ask_in : Option Text → Option Ask

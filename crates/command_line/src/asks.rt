@@ -12,6 +12,8 @@ pub enum Ask {
     Verify,
     /// Whether the proofs of a text are right.
     Check,
+    /// A listing of packages in its newest form.
+    Migrate,
 }
 
 /// Which options may stand beside a value of `--ask`.
@@ -65,6 +67,8 @@ impl Ask {
             Some(Ask::Verify)
         } else if word == "check" {
             Some(Ask::Check)
+        } else if word == "migrate" {
+            Some(Ask::Migrate)
         } else {
             None
         }
@@ -77,6 +81,7 @@ impl Ask {
         match self {
             Ask::Verify => alone(),
             Ask::Check => alone(),
+            Ask::Migrate => alone(),
         }
     }
 }

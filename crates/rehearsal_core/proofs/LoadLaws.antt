@@ -85,6 +85,7 @@ says held r l before now (Err (Memory m)) same loads answers refuses = same
 limit_is_small : (a : Ask) → limit_of a < 2 ^ 32
 limit_is_small ask.Verify = omega arith
 limit_is_small ask.Check = omega arith
+limit_is_small ask.Migrate = omega arith
 
 short : (held : Option Files) (limit : ℕ) (name : List ℕ) (l : Load) → limit < 2 ^ 32 → IsLoad held limit name l → IsShort l
 short held limit name load.Longer small is = tt

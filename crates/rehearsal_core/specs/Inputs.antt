@@ -13,6 +13,7 @@ use Rattle.command_line.specs.Words.{Makes}
 use Rattle.rehearsal_core.specs.declared.inputs.Loaded.{Loaded}
 use Rattle.rehearsal_core.specs.Judged.{IsReport, BreaksRule}
 use Rattle.rehearsal_core.specs.Verified.{AreVerified, BreaksProofRule}
+use Rattle.rehearsal_core.specs.Migrated.{IsMigrated, BreaksListingRule}
 use Rattle.rehearsal_core.specs.declared.run.Ending.{Ending}
 use Rattle.rehearsal_core.specs.declared.run.Ending.TheVariants as ending
 
@@ -32,6 +33,7 @@ RequestsNone words = (request : Request) → Requests words request → ⊥
 abbrev pub limit_of : Ask → ℕ
 limit_of ask.Verify = MANIFEST_BYTES
 limit_of ask.Check = PROOF_BYTES
+limit_of ask.Migrate = LISTING_BYTES
 
 -- a file that a request may name: how a refusal calls it, how many bytes it may have, and its name
 pub record File : Type 0 where
@@ -113,6 +115,7 @@ pub record IsLoaded (held : Option Files) (r : Request) (l : Loaded) : Type 0 wh
 abbrev pub IsAnswerTo : Ask → Loaded → List ℕ → Type 0
 IsAnswerTo ask.Verify l report = IsReport l.input report
 IsAnswerTo ask.Check l report = AreVerified l.input report
+IsAnswerTo ask.Migrate l report = IsMigrated l.input report
 
 abbrev pub IsAnswer : Loaded → List ℕ → Type 0
 IsAnswer l report = IsAnswerTo l.ask l report
@@ -121,6 +124,7 @@ IsAnswer l report = IsAnswerTo l.ask l report
 abbrev pub BreaksFor : Ask → Loaded → Refusal → Type 0
 BreaksFor ask.Verify l r = BreaksRule l.input r
 BreaksFor ask.Check l r = BreaksProofRule l.input r
+BreaksFor ask.Migrate l r = BreaksListingRule l.input r
 
 abbrev pub Breaks : Loaded → Refusal → Type 0
 Breaks l r = BreaksFor l.ask l r

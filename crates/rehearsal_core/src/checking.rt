@@ -8,9 +8,10 @@ ghost use Rattle.proof_check.specs.declared.fault.Cause.{Cause};
 ghost use Rattle.proof_check.specs.Faults.{IsFault};
 ghost use Rattle.rehearsal_core.specs.Verified.{IsRefuted, AreVerified, FirstBad, BreaksProofRule, verified_line, bad_proof};
 
+use crate::bytes::bytes_of;
 use cnf::{Cnf, Log};
 use proof_check::{CheckFault, check, read_proofs};
-use rh_base::{Fault, NoMemory, Text};
+use rh_base::{Fault, NoMemory, Seq};
 use std::alloc::Global;
 
 /// The refusal of a proof.
@@ -51,14 +52,14 @@ fn check_all(alloc: Global, proofs: Vec<(Cnf, Log)>) -> Result<(), Fault>
     Ok(())
 }
 
-fn verified_line(alloc: Global, count: usize) -> Result<Text, NoMemory>
+fn verified_line(alloc: Global, count: usize) -> Result<Seq<u8>, NoMemory>
     ensures { IfOk result (λ text. text ≡ verified_line count) }
 {
-    Ok(Text::from_string(format!(in alloc; "verified {count}\n")?))
+    Ok(bytes_of(format!(in alloc; "verified {count}\n")?))
 }
 
 /// The report on a text of proofs, or the first rule that it breaks.
-pub fn verified(alloc: Global, text: &[u8]) -> Result<Text, Fault>
+pub fn verified(alloc: Global, text: &[u8]) -> Result<Seq<u8>, Fault>
     ensures report { IfOk result (AreVerified text.now) }
     ensures refused { IfErr result (λ e. IfRefused e (BreaksProofRule text.now)) }
 {

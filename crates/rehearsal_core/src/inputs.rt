@@ -60,6 +60,7 @@ fn limit_of(ask: Ask) -> usize
     match ask {
         Ask::Verify => MANIFEST_BYTES,
         Ask::Check => PROOF_BYTES,
+        Ask::Migrate => LISTING_BYTES,
     }
 }
 

@@ -7,6 +7,7 @@ ghost use Rattle.fs_semantics.specs.PlainFiles.{puts};
 ghost use Rattle.rehearsal_core.specs.Files.{ManagedPathIs, PathsAre, files_at};
 ghost use Rattle.rehearsal_core.specs.Judged.{report_of, IsParsed, IsWithin, IsReport, IsSourceRefusal, BreaksRule};
 
+use crate::bytes::bytes_of;
 use crate::form::{Block, file_blocks};
 use fs_lang::{Path, PathFault, Program, are_disjoint};
 use fs_semantics::{linear_extensions, plain_files};
@@ -17,13 +18,13 @@ use rh_base::limits::RESOURCES;
 use rh_base::{Fault, NoMemory, Seq, Text};
 use std::alloc::Global;
 
-fn report(alloc: Global, n: usize) -> Result<Text, NoMemory>
+fn report(alloc: Global, n: usize) -> Result<Seq<u8>, NoMemory>
     ensures { IfOk result (λ text. text ≡ report_of n) }
 {
     let text = format!(in alloc;
         "resources {n}\npruned {n}\ndeterministic\nidempotent\nsucceeds from some tree\n"
     )?;
-    Ok(Text::from_string(text))
+    Ok(bytes_of(text))
 }
 
 /// The path of a file that may be managed.
@@ -99,7 +100,7 @@ fn puts(alloc: Global, blocks: &[Block], paths: &[Path]) -> Result<Seq<Program>,
 }
 
 /// The report on a manifest, or the first rule that it breaks.
-pub fn judged(alloc: Global, manifest: &[u8]) -> Result<Text, Fault>
+pub fn judged(alloc: Global, manifest: &[u8]) -> Result<Seq<u8>, Fault>
     requires { length manifest.now < 2 ^ 32 }
     ensures report { IfOk result (IsReport manifest.now) }
     ensures refused { IfErr result (λ e. IfRefused e (BreaksRule manifest.now)) }

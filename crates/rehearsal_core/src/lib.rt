@@ -1,10 +1,12 @@
 //! What the program answers: from words, a shelf and two sinks to a status.
 #![tactic(auto)]
 
+mod bytes;
 mod checking;
 mod form;
 mod inputs;
 mod judge;
+mod migrating;
 mod run;
 mod sure;
 mod tell;

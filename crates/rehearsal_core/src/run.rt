@@ -9,15 +9,16 @@ ghost use Rattle.rehearsal_core.specs.Answers.{put_of, Answers};
 use crate::checking::verified;
 use crate::inputs::{Loaded, Loads, ReadFault, all_within, fetch_all};
 use crate::judge::judged;
+use crate::migrating::migrated;
 use crate::tell::{out_of_memory, tell_read_fault, tell_refusal, tell_usage, write_report};
 use command_line::{Ask, Request, WordsFault, read_request};
-use rh_base::{Fault, Refusal, Shelf, Sink, Text};
+use rh_base::{Fault, Refusal, Seq, Shelf, Sink, Text};
 use std::alloc::Global;
 
 /// What the program has to say.
 #[derive(Drop)]
 pub enum Ending {
-    Report(Text),
+    Report(Seq<u8>),
     Refused(Refusal),
     BadWords,
     ReadFault(Text),
@@ -25,20 +26,22 @@ pub enum Ending {
 }
 
 /// What is said of a request with the bytes of its files, or the first rule that they break.
-fn answer(alloc: Global, ask: Ask, loaded: &Loaded) -> Result<Text, Fault>
+fn answer(alloc: Global, ask: Ask, loaded: &Loaded) -> Result<Seq<u8>, Fault>
     requires { length loaded.now.input < 2 ^ 32 }
     ensures report { IfOk result (IsAnswerTo ask loaded.now) }
     ensures refused { IfErr result (λ e. IfRefused e (BreaksFor ask loaded.now)) }
 {
+    let input = loaded.input.as_slice();
     match ask {
-        Ask::Verify => judged(alloc, loaded.input.as_slice()),
-        Ask::Check => verified(alloc, loaded.input.as_slice()),
+        Ask::Verify => judged(alloc, input),
+        Ask::Check => verified(alloc, input),
+        Ask::Migrate => migrated(alloc, input),
     }
 }
 
 /// What is said of a request with what was read of its files.
 #[tactic(auto, using(crate::proofs::LoadLaws::input_is_short))]
-fn answer_read(alloc: Global, loads: Loads) -> Result<Text, Fault>
+fn answer_read(alloc: Global, loads: Loads) -> Result<Seq<u8>, Fault>
     requires { AreShort loads }
     ensures report { IfOk result (λ report. (loaded : Loaded) × LoadedFrom loads loaded × IsAnswer loaded report) }
     ensures refused { IfErr result (λ e. IfRefused e (λ r. FirstLong loads r ⊎ ((loaded : Loaded) × LoadedFrom loads loaded × Breaks loaded r))) }
@@ -48,7 +51,7 @@ fn answer_read(alloc: Global, loads: Loads) -> Result<Text, Fault>
 }
 
 /// What there is to say of an answer.
-fn concluded(said: Result<Text, Fault>) -> Ending
+fn concluded(said: Result<Seq<u8>, Fault>) -> Ending
     ensures { result ≡ concluded said }
 {
     match said {
