@@ -1,1 +1,5 @@
-pub mod PutLaws
+pub mod KeptLaws
+pub mod MarkLaws
+pub mod UnitLaws
+pub mod NameLaws
+pub mod ProgramLaws

@@ -1,0 +1,50 @@
+-- Programs, one resource after another.
+use Rattle.std.proofs.Common.{◌≡◌, ℕ, List, [], ◌∷◌, ◌++◌, append-nil, append_assoc, refl, sym, ap, ◌∙◌}
+use Rattle.std.specs.Prelude.{Result, Ok, Err}
+use Rattle.rh_base.specs.declared.fault.Refusal.{Refusal}
+use Rattle.rh_base.specs.declared.fault.Fault.{Fault}
+use Rattle.rh_base.specs.declared.fault.Fault.TheVariants as faults
+use Rattle.fs_semantics.specs.FileTree.{Path}
+use Rattle.fs_semantics.specs.Programs.{Program}
+use Rattle.pp_eval.specs.Verdicts.{Refuses}
+use Rattle.catalog_semantics.specs.declared.catalog.Resource.{Resource}
+use Rattle.pkg_listing.specs.Packages.{Packages}
+use Rattle.model_semantics.specs.Names as names
+use Rattle.model_semantics.specs.Words.{sequence}
+use Rattle.model_semantics.specs.Models.{model_of, if_new, or_refused, first_and, programs_with, programs_behind, programs}
+use Rattle.res_models.specs.Seen.{AddsProgram}
+
+-- programs behind others
+abbrev pub behind : List Program → Result (List Program) Refusal → Result (List Program) Refusal
+behind made (Ok es) = Ok (made ++ es)
+behind made (Err r) = Err r
+
+-- these programs were made, with these places, and these resources are left of what gives the whole
+abbrev pub AreMade : Packages → List Path → List Program → List Resource → Result (List Program) Refusal → Type 0
+AreMade listing seen made rest whole = whole ≡ behind made (programs_behind seen listing rest)
+
+behind_none : (r : Result (List Program) Refusal) → r ≡ behind [] r
+behind_none (Ok es) = refl
+behind_none (Err r) = refl
+
+pub none_made : (listing : Packages) (rs : List Resource) → AreMade listing [] [] rs (programs listing rs)
+none_made listing rs = behind_none (programs_behind [] listing rs)
+
+one_first : (made : List Program) (e : Program) (r : Result (List Program) Refusal) → behind made (first_and e r) ≡ behind (made ++ e ∷ []) r
+one_first made e (Ok es) = ap (λ (l : List Program). Ok l) (sym (append_assoc made (e ∷ []) es))
+one_first made e (Err r) = refl
+
+pub more_made : (listing : Packages) (seen now : List Path) (old new : List Program) (r : Resource) (rest : List Resource) (whole : Result (List Program) Refusal)
+    → AreMade listing seen old (r ∷ rest) whole → AddsProgram listing r (Ok tt) seen now old new → AreMade listing now new rest whole
+more_made listing seen now old new r rest whole h (m, is, places, made) =
+    h ∙ ap (λ v. behind old (programs_with v (λ place. programs_behind (seen ++ place ∷ []) listing rest))) is
+    ∙ one_first old (sequence m.steps) (programs_behind (seen ++ m.place ∷ []) listing rest)
+    ∙ (λ i. behind (sym made i) (programs_behind (sym places i) listing rest))
+
+pub all_made : (listing : Packages) (seen : List Path) (made : List Program) (whole : Result (List Program) Refusal) → AreMade listing seen made [] whole → whole ≡ Ok made
+all_made listing seen made whole h = h ∙ ap (λ (l : List Program). Ok l) (append-nil made)
+
+pub none_more : (listing : Packages) (seen now : List Path) (old new : List Program) (r : Resource) (rest : List Resource) (whole : Result (List Program) Refusal) (e : Fault)
+    → AreMade listing seen old (r ∷ rest) whole → AddsProgram listing r (Err e) seen now old new → Refuses whole e
+none_more listing seen now old new r rest whole (faults.Refused x) h a = h ∙ ap (λ v. behind old (programs_with v (λ place. programs_behind (seen ++ place ∷ []) listing rest))) a
+none_more listing seen now old new r rest whole (faults.Memory m) h a = tt
