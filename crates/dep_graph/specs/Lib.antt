@@ -1,0 +1,6 @@
+pub mod Numbers
+pub mod Links
+pub mod Numbered
+pub mod Named
+pub mod Files
+pub mod Pairs

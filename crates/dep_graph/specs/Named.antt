@@ -1,0 +1,47 @@
+-- Automatic edges to what resources name.
+use Rattle.std.specs.Prelude.{◌≡◌, ℕ, ◌*◌, ◌==◌, Bool, true, false, not, ◌&&◌, ◌||◌, nat_le, if◌then◌else◌, List, [], ◌∷◌, ◌++◌, map, filter, length, Option, Some, None, slice_get}
+use Rattle.std.specs.List.{flat_map, list_any}
+use Rattle.std.specs.Str.{bytes_eq}
+use Rattle.rh_base.specs.declared.limits.TheConstants.{NAME_BYTES}
+use Rattle.catalog_semantics.specs.declared.catalog.Resource.{Resource}
+use Rattle.catalog_semantics.specs.Catalogs.{Catalog}
+use Rattle.graph_semantics.specs.Automatic.{name_of, named_by}
+use Rattle.dep_graph.specs.declared.links.Link.{Link}
+
+abbrev pub has : ℕ → List ℕ → Bool
+has n ns = list_any (λ k. k == n) ns
+
+-- a relation stands from the one node to the other
+abbrev pub is_linked : List Link → ℕ → ℕ → Bool
+is_linked links a b = list_any (λ l. has a l.from && has b l.to) links
+
+-- the edge from the target, unless a relation stands to it
+abbrev pub kept_edge : List Link → ℕ → ℕ → List (ℕ × ℕ)
+kept_edge links target place = if is_linked links (2 * place) (2 * target) then [] else (2 * target, 2 * place) ∷ []
+
+-- whether a text may be a name
+abbrev pub is_proper : List ℕ → Bool
+is_proper name = not (length name == 0) && nat_le (length name) NAME_BYTES && not (list_any (λ b. b == 0) name)
+
+abbrev pub is_text : List ℕ → Option (List ℕ) → Bool
+is_text name None = false
+is_text name (Some text) = bytes_eq text name
+
+-- the resource is of the type and manages what has the name
+abbrev pub has_name : List ℕ → List ℕ → Option Resource → Bool
+has_name kind name None = false
+has_name kind name (Some r) = bytes_eq r.id.kind kind && is_text name (name_of r)
+
+abbrev pub edge_if_named : Catalog → List Link → ℕ → List ℕ × List ℕ → ℕ → List (ℕ × ℕ)
+edge_if_named c links place who target = if has_name who.0 who.1 (slice_get c.resources target) then kept_edge links target place else []
+
+-- from all of these resources that have a name to the one at a place, which names it
+abbrev pub edges_to_named : Catalog → List Link → List ℕ → ℕ → List ℕ × List ℕ → List (ℕ × ℕ)
+edges_to_named c links plain place who = if is_proper who.1 then flat_map (edge_if_named c links place who) plain else []
+
+abbrev pub edges_by_names : Catalog → List Link → List ℕ → ℕ → Option Resource → List (ℕ × ℕ)
+edges_by_names c links plain place None = []
+edges_by_names c links plain place (Some r) = flat_map (edges_to_named c links plain place) (named_by r)
+
+abbrev pub named_edges : Catalog → List Link → List ℕ → List ℕ → List (ℕ × ℕ)
+named_edges c links plain places = flat_map (λ place. edges_by_names c links plain place (slice_get c.resources place)) places

@@ -1,0 +1,16 @@
+-- Pairs of plain resources, of which the one comes before the other.
+use Rattle.std.specs.Prelude.{ℕ, zero, suc, ◌*◌, Bool, if◌then◌else◌, List, [], ◌∷◌, ◌++◌, length, slice_index}
+use Rattle.orders.specs.Relation.{Relation, comes}
+
+abbrev pub comes_at : Relation → List ℕ → ℕ → ℕ → Bool
+comes_at whole plain i j = comes whole (2 * slice_index plain i) (2 * slice_index plain j)
+
+-- of one with the first n
+abbrev pub pairs_in_row : Relation → List ℕ → ℕ → ℕ → List (ℕ × ℕ)
+pairs_in_row whole plain i zero = []
+pairs_in_row whole plain i (suc j) = pairs_in_row whole plain i j ++ (if comes_at whole plain i j then (i, j) ∷ [] else [])
+
+-- of each of the first n with all
+abbrev pub pairs_below : Relation → List ℕ → ℕ → List (ℕ × ℕ)
+pairs_below whole plain zero = []
+pairs_below whole plain (suc i) = pairs_below whole plain i ++ pairs_in_row whole plain i (length plain)
