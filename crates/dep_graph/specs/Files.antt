@@ -8,7 +8,7 @@ use Rattle.fs_lang.specs.Fronts.{is_front}
 use Rattle.catalog_semantics.specs.declared.catalog.Resource.{Resource}
 use Rattle.catalog_semantics.specs.Catalogs.{Catalog}
 use Rattle.graph_semantics.specs.Automatic.{path_text_of}
-use Rattle.dep_graph.specs.Named.{kept_edge}
+use Rattle.dep_graph.specs.Named.{kept_edges}
 use Rattle.dep_graph.specs.declared.links.Link.{Link}
 use Rattle.dep_graph.specs.declared.files.ManagedFile.{ManagedFile}
 
@@ -19,6 +19,11 @@ pub record FilePath (r : Resource) (p : Path) : Type 0 where
   pub given : path_text_of r ≡ Some text
   pub spelled : IsPathText text p
   pub free : IsReserved p → ⊥
+
+-- the text spells this path, and it isn't one that is refused
+abbrev pub PathIs : List ℕ → Option Path → Type 0
+PathIs text None = (p : Path) → IsPathText text p → (IsReserved p → ⊥) → ⊥
+PathIs text (Some p) = IsPathText text p × (IsReserved p → ⊥)
 
 abbrev pub FilePathIs : Resource → Option Path → Type 0
 FilePathIs r None = (p : Path) → FilePath r p → ⊥
@@ -48,11 +53,14 @@ nearest (f ∷ files) p = if is_above f.path p then max (length f.path) (nearest
 abbrev pub is_nearest : ℕ → Path → Path → Bool
 is_nearest n p q = is_above q p && nat_le n (length q)
 
-abbrev pub edge_if_nearest : List Link → ManagedFile → ℕ → ManagedFile → List (ℕ × ℕ)
-edge_if_nearest links f n g = if is_nearest n f.path g.path then kept_edge links g.place f.place else []
+-- the places of the files that are above a path, with so many segments or more
+abbrev pub places_above : ℕ → Path → List ManagedFile → List ℕ
+places_above n p [] = []
+places_above n p (f ∷ files) = if is_nearest n p f.path then f.place ∷ places_above n p files else places_above n p files
 
-abbrev pub edges_from_nearest : List Link → List ManagedFile → ManagedFile → List (ℕ × ℕ)
-edges_from_nearest links files f = flat_map (edge_if_nearest links f (nearest files f.path)) files
+abbrev pub nearest_places : List ManagedFile → Path → List ℕ
+nearest_places files p = places_above (nearest files p) p files
 
+-- the edges from the nearest files above
 abbrev pub file_edges : List Link → List ManagedFile → List (ℕ × ℕ)
-file_edges links files = flat_map (edges_from_nearest links files) files
+file_edges links files = flat_map (λ f. kept_edges links f.place (nearest_places files f.path)) files

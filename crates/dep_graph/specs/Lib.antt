@@ -4,3 +4,5 @@ pub mod Numbered
 pub mod Named
 pub mod Files
 pub mod Pairs
+pub mod Circles
+pub mod Whole

@@ -5,7 +5,8 @@ use Rattle.std.specs.Str.{bytes_eq}
 use Rattle.rh_base.specs.declared.limits.TheConstants.{NAME_BYTES}
 use Rattle.catalog_semantics.specs.declared.catalog.Resource.{Resource}
 use Rattle.catalog_semantics.specs.Catalogs.{Catalog}
-use Rattle.graph_semantics.specs.Automatic.{name_of, named_by}
+use Rattle.pp_value.specs.declared.value.Value.{Value}
+use Rattle.graph_semantics.specs.Automatic.{name_of, named_by, text_in}
 use Rattle.dep_graph.specs.declared.links.Link.{Link}
 
 abbrev pub has : ℕ → List ℕ → Bool
@@ -32,16 +33,25 @@ abbrev pub has_name : List ℕ → List ℕ → Option Resource → Bool
 has_name kind name None = false
 has_name kind name (Some r) = bytes_eq r.id.kind kind && is_text name (name_of r)
 
-abbrev pub edge_if_named : Catalog → List Link → ℕ → List ℕ × List ℕ → ℕ → List (ℕ × ℕ)
-edge_if_named c links place who target = if has_name who.0 who.1 (slice_get c.resources target) then kept_edge links target place else []
+-- the text that a member of a list is
+abbrev pub member_text : Value → List (List ℕ)
+member_text x = text_in (Some x)
 
--- from all of these resources that have a name to the one at a place, which names it
-abbrev pub edges_to_named : Catalog → List Link → List ℕ → ℕ → List ℕ × List ℕ → List (ℕ × ℕ)
-edges_to_named c links plain place who = if is_proper who.1 then flat_map (edge_if_named c links place who) plain else []
+-- those of these places at which something has a name
+abbrev pub named_targets : Catalog → List ℕ → List ℕ × List ℕ → List ℕ
+named_targets c plain who = if is_proper who.1 then filter (λ place. has_name who.0 who.1 (slice_get c.resources place)) plain else []
+
+-- the places of what a resource names
+abbrev pub targets_by_names : Catalog → List ℕ → Resource → List ℕ
+targets_by_names c plain r = flat_map (named_targets c plain) (named_by r)
+
+abbrev pub kept_edges : List Link → ℕ → List ℕ → List (ℕ × ℕ)
+kept_edges links place targets = flat_map (λ target. kept_edge links target place) targets
 
 abbrev pub edges_by_names : Catalog → List Link → List ℕ → ℕ → Option Resource → List (ℕ × ℕ)
 edges_by_names c links plain place None = []
-edges_by_names c links plain place (Some r) = flat_map (edges_to_named c links plain place) (named_by r)
+edges_by_names c links plain place (Some r) = kept_edges links place (targets_by_names c plain r)
 
+-- the edges from what these resources name
 abbrev pub named_edges : Catalog → List Link → List ℕ → List ℕ → List (ℕ × ℕ)
 named_edges c links plain places = flat_map (λ place. edges_by_names c links plain place (slice_get c.resources place)) places

@@ -12,6 +12,7 @@ mod printing;
 mod structure;
 mod targets;
 mod values;
+mod whole;
 
 pub use building::{Graph, graph};
 pub use printing::graph_text;

@@ -48,7 +48,7 @@ fn push_members(
     Ok(())
 }
 
-fn is_plain(r: &Resource) -> bool
+pub fn is_plain(r: &Resource) -> bool
     ensures { result ≡ is_plain_sort r.now.sort }
 {
     match r.sort {
