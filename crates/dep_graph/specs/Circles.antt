@@ -18,5 +18,8 @@ abbrev pub first_text : Catalog → List ℕ → List ℕ
 first_text c [] = []
 first_text c (n ∷ numbers) = number_text c n
 
+abbrev pub arrows_text : Catalog → ℕ → List ℕ → List ℕ
+arrows_text c bound numbers = flat_map (λ n. number_text c n ++ codes " -> ") (real_numbers bound numbers)
+
 abbrev pub around_text : Catalog → ℕ → List ℕ → List ℕ
-around_text c bound numbers = flat_map (λ n. number_text c n ++ codes " -> ") (real_numbers bound numbers) ++ first_text c numbers
+around_text c bound numbers = arrows_text c bound numbers ++ first_text c numbers

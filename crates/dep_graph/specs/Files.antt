@@ -61,6 +61,9 @@ places_above n p (f ∷ files) = if is_nearest n p f.path then f.place ∷ place
 abbrev pub nearest_places : List ManagedFile → Path → List ℕ
 nearest_places files p = places_above (nearest files p) p files
 
+abbrev pub edges_from : List Link → List ManagedFile → List ManagedFile → List (ℕ × ℕ)
+edges_from links files fs = flat_map (λ f. kept_edges links f.place (nearest_places files f.path)) fs
+
 -- the edges from the nearest files above
 abbrev pub file_edges : List Link → List ManagedFile → List (ℕ × ℕ)
-file_edges links files = flat_map (λ f. kept_edges links f.place (nearest_places files f.path)) files
+file_edges links files = edges_from links files files

@@ -6,7 +6,7 @@ use Rattle.rh_base.specs.declared.limits.TheConstants.{NAME_BYTES}
 use Rattle.catalog_semantics.specs.declared.catalog.Resource.{Resource}
 use Rattle.catalog_semantics.specs.Catalogs.{Catalog}
 use Rattle.pp_value.specs.declared.value.Value.{Value}
-use Rattle.graph_semantics.specs.Automatic.{name_of, named_by, text_in}
+use Rattle.graph_semantics.specs.Automatic.{name_of, named_by, text_in, somebodies}
 use Rattle.dep_graph.specs.declared.links.Link.{Link}
 
 abbrev pub has : ℕ → List ℕ → Bool
@@ -38,8 +38,14 @@ abbrev pub member_text : Value → List (List ℕ)
 member_text x = text_in (Some x)
 
 -- those of these places at which something has a name
+abbrev pub named_among : Catalog → List ℕ → List ℕ → List ℕ → List ℕ
+named_among c kind name plain = filter (λ place. has_name kind name (slice_get c.resources place)) plain
+
 abbrev pub named_targets : Catalog → List ℕ → List ℕ × List ℕ → List ℕ
-named_targets c plain who = if is_proper who.1 then filter (λ place. has_name who.0 who.1 (slice_get c.resources place)) plain else []
+named_targets c plain who = if is_proper who.1 then named_among c who.0 who.1 plain else []
+
+abbrev pub targets_of_members : Catalog → List ℕ → List ℕ → List Value → List ℕ
+targets_of_members c plain kind items = flat_map (named_targets c plain) (somebodies kind (flat_map member_text items))
 
 -- the places of what a resource names
 abbrev pub targets_by_names : Catalog → List ℕ → Resource → List ℕ

@@ -11,10 +11,13 @@ pub record IsWithin (count place : ℕ) : Type 0 where
 abbrev pub comes_at : Relation → List ℕ → ℕ → ℕ → Bool
 comes_at whole plain i j = comes whole (2 * slice_index plain i) (2 * slice_index plain j)
 
+abbrev pub pair_if : Bool → ℕ → ℕ → List (ℕ × ℕ)
+pair_if t i j = if t then (i, j) ∷ [] else []
+
 -- of one with the first n
 abbrev pub pairs_in_row : Relation → List ℕ → ℕ → ℕ → List (ℕ × ℕ)
 pairs_in_row whole plain i zero = []
-pairs_in_row whole plain i (suc j) = pairs_in_row whole plain i j ++ (if comes_at whole plain i j then (i, j) ∷ [] else [])
+pairs_in_row whole plain i (suc j) = pairs_in_row whole plain i j ++ pair_if (comes_at whole plain i j) i j
 
 -- of each of the first n with all
 abbrev pub pairs_below : Relation → List ℕ → ℕ → List (ℕ × ℕ)

@@ -5,23 +5,15 @@ ghost use Rattle.rh_base.specs.Refused.{IfRefused};
 ghost use Rattle.orders.specs.Relation.{Comes};
 ghost use Rattle.graph_semantics.specs.Graphs.{IsGraphOf, IsGraphRefusal};
 
+use crate::answer::Graph;
 use crate::links::links_of;
 use crate::pairs::plain_order;
 use crate::structure::plain_places;
 use crate::whole::whole_order;
 use catalog::Catalog;
-use orders::Order;
 use rh_base::limits::DECLARED;
-use rh_base::{Fault, NoMemory, Seq};
+use rh_base::{Fault, NoMemory};
 use std::alloc::Global;
-
-/// The places of the real plain resources in a catalog, in order of declaration, and which of them comes before which:
-/// the order is over their numbers in that list.
-#[derive(Drop)]
-pub struct Graph {
-    pub plain: Seq<u32>,
-    pub order: Order,
-}
 
 /// What comes before what. A reference to nothing is refused as 40, and a circle as 41.
 pub fn graph(alloc: Global, catalog: &Catalog) -> Result<Graph, Fault>

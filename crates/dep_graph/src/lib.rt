@@ -1,6 +1,7 @@
 //! The graph of a catalog: what comes before what.
 #![tactic(auto)]
 
+mod answer;
 mod building;
 mod circle;
 mod files;
@@ -14,5 +15,6 @@ mod targets;
 mod values;
 mod whole;
 
-pub use building::{Graph, graph};
+pub use answer::Graph;
+pub use building::graph;
 pub use printing::graph_text;

@@ -1,6 +1,7 @@
 //! The relations of a catalog between nodes.
 
 ghost use Rattle.std.specs.Prelude.{◌≡◌, ◌≤◌, ◌∷◌, [], length};
+ghost use Rattle.std.specs.List.{flat_map};
 ghost use Rattle.pp_eval.specs.Verdicts.{AnswersBy};
 ghost use Rattle.catalog_semantics.specs.States.{declared_limit};
 ghost use Rattle.graph_semantics.specs.Relations.{says_before, says_after, relations_by, relations_of, references_within, metaparameter_relations, all_relations};
@@ -93,6 +94,23 @@ fn push_attribute(
     Ok(())
 }
 
+/// What the attributes of a resource say of the order.
+#[tactic(auto, using(crate::proofs::Chains::next_links))]
+fn push_attributes(
+    alloc: Global,
+    catalog: &Catalog,
+    r: &Resource,
+    links: &mut Seq<Link>,
+) -> Result<(), Fault>
+    requires few { length catalog.now.resources ≤ declared_limit }
+    ensures { AnswersBy (λ done. links.new) (with_links catalog.now (flat_map (relations_by r.now) r.now.attrs) links.old) result }
+{
+    for pair in r.attrs.as_slice() {
+        push_attribute(alloc, catalog, r, pair, links)?;
+    }
+    Ok(())
+}
+
 /// What a resource says of the order.
 fn push_resource(
     alloc: Global,
@@ -106,13 +124,11 @@ fn push_resource(
     if r.is_virtual {
         return Ok(());
     }
-    for pair in r.attrs.as_slice() {
-        push_attribute(alloc, catalog, r, pair, links)?;
-    }
-    Ok(())
+    push_attributes(alloc, catalog, r, links)
 }
 
 /// What the metaparameters say.
+#[tactic(auto, using(crate::proofs::Chains::next_links, crate::proofs::Chains::links_end))]
 fn push_metaparameters(
     alloc: Global,
     catalog: &Catalog,
@@ -155,6 +171,7 @@ fn push_arrows(alloc: Global, catalog: &Catalog, links: &mut Seq<Link>) -> Resul
 }
 
 /// All relations, between nodes.
+#[tactic(auto, using(crate::proofs::Chains::next_links, crate::proofs::Chains::links_end))]
 pub fn links_of(alloc: Global, catalog: &Catalog) -> Result<Seq<Link>, Fault>
     requires few { length catalog.now.resources ≤ declared_limit }
     ensures { AnswersBy (λ links. links) (with_links catalog.now (all_relations catalog.now) []) result }

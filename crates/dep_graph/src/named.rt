@@ -19,7 +19,7 @@ use std::alloc::Global;
 
 /// A text, or another where nothing is given.
 pub fn text_or<'a>(other: &'a str, value: Option<&'a Value>) -> Option<&'a str>
-    ensures { option_map (λ t. t.now) result ≡ text_or other.now (option_map (λ x. x.now) value) }
+    ensures { option_map (λ t. t.now) result ≡ text_or other.now (option_map (λ x. x.now) value.entry) }
 {
     match value {
         None => Some(other),
@@ -66,6 +66,7 @@ fn push_kept(
 }
 
 /// Whether a text may be a name.
+#[tactic(auto, using(crate::proofs::NamedLaws::named_told, crate::proofs::NamedLaws::unnamed_told))]
 fn is_proper(alloc: Global, name: &str) -> Result<bool, NoMemory>
     ensures { IfOk result (λ t. t ≡ is_proper name.now) }
 {
@@ -80,7 +81,8 @@ fn is_proper(alloc: Global, name: &str) -> Result<bool, NoMemory>
 fn is_somebody(name: &str) -> bool
     ensures { result ≡ is_somebody name.now }
 {
-    for c in name.as_bytes() {
+    let bytes = name.as_bytes();
+    for c in bytes {
         if !c.is_ascii_digit() {
             return true;
         }
@@ -89,7 +91,7 @@ fn is_somebody(name: &str) -> bool
 }
 
 fn has_name(r: Option<&Resource>, kind: &str, name: &str) -> bool
-    ensures { result ≡ has_name kind.now name.now (option_map (λ r. r.now) r) }
+    ensures { result ≡ has_name kind.now name.now (option_map (λ r. r.now) r.entry) }
 {
     let Some(r) = r else {
         return false;
@@ -160,7 +162,7 @@ fn push_text(
     value: Option<&Value>,
     targets: &mut Seq<u32>,
 ) -> Result<(), NoMemory>
-    ensures { OnOk result (targets.new ≡ targets.old ++ flat_map (named_targets catalog.now plain.now) (somebodies kind.now (text_in (option_map (λ x. x.now) value)))) }
+    ensures { OnOk result (targets.new ≡ targets.old ++ flat_map (named_targets catalog.now plain.now) (somebodies kind.now (text_in (option_map (λ x. x.now) value.entry)))) }
 {
     let Some(value) = value else {
         return Ok(());
@@ -209,7 +211,7 @@ fn push_texts(
     value: Option<&Value>,
     targets: &mut Seq<u32>,
 ) -> Result<(), NoMemory>
-    ensures { OnOk result (targets.new ≡ targets.old ++ flat_map (named_targets catalog.now plain.now) (somebodies kind.now (texts_in (option_map (λ x. x.now) value)))) }
+    ensures { OnOk result (targets.new ≡ targets.old ++ flat_map (named_targets catalog.now plain.now) (somebodies kind.now (texts_in (option_map (λ x. x.now) value.entry)))) }
 {
     match value {
         Some(Value::List(items)) => {
@@ -230,7 +232,7 @@ fn push_user_or_root(
     value: Option<&Value>,
     targets: &mut Seq<u32>,
 ) -> Result<(), NoMemory>
-    ensures { OnOk result (targets.new ≡ targets.old ++ flat_map (named_targets catalog.now plain.now) (somebodies (codes "user") (user_or_root (option_map (λ x. x.now) value)))) }
+    ensures { OnOk result (targets.new ≡ targets.old ++ flat_map (named_targets catalog.now plain.now) (somebodies (codes "user") (user_or_root (option_map (λ x. x.now) value.entry)))) }
 {
     match value {
         None => push_somebody(alloc, catalog, plain, "user", "root", targets),

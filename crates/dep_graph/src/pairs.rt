@@ -4,7 +4,7 @@ ghost use Rattle.std.specs.Prelude.{◌≡◌, ◌↔◌, ◌<◌, ◌≤◌, �
 ghost use Rattle.std.specs.List.{All};
 ghost use Rattle.catalog_semantics.specs.States.{declared_limit};
 ghost use Rattle.orders.specs.Relation.{comes, Comes};
-ghost use Rattle.dep_graph.specs.Pairs.{IsWithin, pairs_in_row, pairs_below};
+ghost use Rattle.dep_graph.specs.Pairs.{IsWithin, comes_at, pair_if, pairs_in_row, pairs_below};
 
 use orders::{Order, OrderFault};
 use rh_base::{NoMemory, Seq};
@@ -16,6 +16,27 @@ pub fn comes(whole: &Order, a: u32, b: u32) -> bool
     ensures { result ≡ comes whole.now a b }
 {
     whole.before(a, b)
+}
+
+/// Adds a pair, if the one comes before the other.
+fn push_pair(
+    whole: &Order,
+    plain: &[u32],
+    i: u32,
+    j: u32,
+    pairs: &mut Seq<(u32, u32)>,
+) -> Result<(), NoMemory>
+    requires within { All (IsWithin whole.now.count) plain.now }
+    requires i { i < length plain.now }
+    requires j { j < length plain.now }
+    ensures { OnOk result (pairs.new ≡ pairs.old ++ pair_if (comes_at whole.now plain.now i j) i j) }
+{
+    let a = 2 * plain[i as usize];
+    let b = 2 * plain[j as usize];
+    if comes(whole, a, b) {
+        return pairs.push((i, j));
+    }
+    Ok(())
 }
 
 /// Adds the pairs of one plain resource with those that come after it.
@@ -30,12 +51,8 @@ fn push_row(
     requires i { i < length plain.now }
     ensures { OnOk result (pairs.new ≡ pairs.old ++ pairs_in_row whole.now plain.now i (length plain.now)) }
 {
-    let a = 2 * plain[i as usize];
     for j in 0..plain.len() as u32 {
-        let b = 2 * plain[j as usize];
-        if comes(whole, a, b) {
-            pairs.push((i, j))?;
-        }
+        push_pair(whole, plain, i, j, pairs)?;
     }
     Ok(())
 }

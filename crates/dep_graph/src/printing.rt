@@ -4,7 +4,7 @@ ghost use Rattle.std.specs.Prelude.{◌≡◌, ◌<◌, ◌++◌, true, length, 
 ghost use Rattle.orders.specs.Relation.{comes};
 ghost use Rattle.graph_semantics.specs.Graphs.{reference_at, resource_lines, pair_line, pair_lines, order_lines, graph_text};
 
-use crate::building::Graph;
+use crate::answer::Graph;
 use crate::circle::push_reference_at;
 use crate::pairs::comes;
 use catalog::Catalog;
@@ -42,6 +42,23 @@ fn push_pair(
     text.push("\n")
 }
 
+fn push_pair_if(
+    alloc: Global,
+    catalog: &Catalog,
+    before: bool,
+    left: u32,
+    right: u32,
+    text: &mut Text,
+) -> Result<(), NoMemory>
+    ensures { OnOk result (text.new ≡ text.old ++ pair_line before (reference_at catalog.now left) (reference_at catalog.now right)) }
+{
+    if before {
+        push_pair(alloc, catalog, left, right, text)
+    } else {
+        Ok(())
+    }
+}
+
 /// Adds the lines of what comes after one plain resource.
 fn push_row(
     alloc: Global,
@@ -56,9 +73,8 @@ fn push_row(
     ensures { OnOk result (text.new ≡ text.old ++ pair_lines catalog.now plain.now (comes order.now) i (length plain.now)) }
 {
     for j in 0..order.count() {
-        if comes(order, i, j) {
-            push_pair(alloc, catalog, plain[i as usize], plain[j as usize], text)?;
-        }
+        let before = comes(order, i, j);
+        push_pair_if(alloc, catalog, before, plain[i as usize], plain[j as usize], text)?;
     }
     Ok(())
 }

@@ -1,6 +1,6 @@
 //! The edges of containers.
 
-ghost use Rattle.std.specs.Prelude.{◌≡◌, ◌<◌, ◌≤◌, ◌++◌, length, IfOk, OnOk};
+ghost use Rattle.std.specs.Prelude.{◌≡◌, ◌<◌, ◌≤◌, ◌++◌, ◌&&◌, not, length, IfOk, OnOk};
 ghost use Rattle.std.specs.List.{flat_map};
 ghost use Rattle.catalog_semantics.specs.Catalogs.{is_plain_sort};
 ghost use Rattle.graph_semantics.specs.Graphs.{plain_places};
@@ -91,6 +91,13 @@ pub fn structure_edges(alloc: Global, catalog: &Catalog) -> Result<Seq<(u32, u32
     Ok(edges)
 }
 
+fn is_real_plain(r: &Resource) -> bool
+    ensures { result ≡ (is_plain_sort r.now.sort && not r.now.is_virtual) }
+{
+    let plain = is_plain(r);
+    plain && !r.is_virtual
+}
+
 /// The places of the real plain resources.
 pub fn plain_places(alloc: Global, catalog: &Catalog) -> Result<Seq<u32>, NoMemory>
     requires few { length catalog.now.resources ≤ declared_limit }
@@ -98,9 +105,7 @@ pub fn plain_places(alloc: Global, catalog: &Catalog) -> Result<Seq<u32>, NoMemo
 {
     let mut places = Seq::new(alloc);
     for place in 0..catalog.count() {
-        let r = catalog.get(place);
-        let plain = is_plain(r);
-        if plain && !r.is_virtual {
+        if is_real_plain(catalog.get(place)) {
             places.push(place)?;
         }
     }

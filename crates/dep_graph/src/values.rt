@@ -49,6 +49,7 @@ pub fn node_alone(
 
 /// Adds the nodes of what the references in a value name.
 #[cycle(values)]
+#[tactic(auto, using(crate::proofs::Chains::within_list))]
 fn push_value(
     alloc: Global,
     catalog: &Catalog,
@@ -68,6 +69,7 @@ fn push_value(
 }
 
 #[cycle(values)]
+#[tactic(auto, using(crate::proofs::Chains::next_nodes, crate::proofs::Chains::nodes_end))]
 fn push_values(
     alloc: Global,
     catalog: &Catalog,
