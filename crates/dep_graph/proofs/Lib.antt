@@ -6,3 +6,7 @@ pub mod FrontLaws
 pub mod ContainerLaws
 pub mod NamedLaws
 pub mod FileLaws
+pub mod LinkEdges
+pub mod Related
+pub mod AutomaticLaws
+pub mod Steps

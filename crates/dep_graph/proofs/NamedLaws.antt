@@ -1,6 +1,7 @@
 -- Automatic edges to what is named, and their bounds.
 use Rattle.std.proofs.Common.{◌≡◌, ◌≢◌, ℕ, zero, suc, ◌+◌, ◌*◌, ◌<◌, ◌≤◌, List, [], ◌∷◌, ◌++◌, length, Bool, true, false, cond, ◌&&◌, ◌||◌, Option, Some, None, ◌⊎◌, inl, inr, map, refl, sym, ap, subst, ◌∙◌, arith, eqb-true, eq-eqb, append_assoc, leb-true, le-leb, option_and_then, option_map, slice_index_or}
 use Rattle.std.specs.Prelude.{slice_get, is_some, not, filter, ◌==◌, nat_le, nat_lt}
+use Rattle.std.proofs.Math.Dec.{eqb-suc-zero}
 use Rattle.std.specs.Option.{option_to_list}
 use Rattle.std.specs.List.{Contains, All, AllByRecursion, flat_map, list_any}
 use Rattle.std.proofs.lemmas.List.Concat.{flat_map-append}
@@ -50,7 +51,7 @@ zeros_no (b ∷ name) h = step (b == 0) refl (zeros_no name h.1) where
 
 length_zero : (name : List ℕ) → name ≢ [] → length name == 0 ≡ false
 length_zero [] h = absurd (h refl)
-length_zero (b ∷ name) h = refl
+length_zero (b ∷ name) h = eqb-suc-zero (length name)
 
 pub proper_name : (name : List ℕ) → is_proper name ≡ true → IsName name
 proper_name name h =

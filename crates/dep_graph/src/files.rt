@@ -90,7 +90,6 @@ pub fn files_of(
     Ok(files)
 }
 
-#[tactic(auto, using(crate::proofs::FrontLaws::told))]
 fn is_above(p: &Path, q: &Path) -> bool
     ensures { result ≡ is_above p.now q.now }
 {

@@ -1,4 +1,4 @@
-use Rattle.std.proofs.Common.{◌≡◌, ◌++◌, List, [], ◌∷◌, ◌+◌, ◌-◌, drop, take, length}
+use Rattle.std.proofs.Common.{◌≡◌, drop}
 use Rattle.std.specs.Prelude.{max}
 use Rattle.dep_graph.specs.Files.{nearest}
 use Rattle.dep_graph.proofs.files.nearest.Given as goal

@@ -1,4 +1,4 @@
-use Rattle.std.proofs.Common.{◌≡◌, ◌++◌, List, [], ◌∷◌, ◌+◌, ◌-◌, drop, take, length}
+use Rattle.std.proofs.Common.{◌≡◌, ◌++◌, drop}
 use Rattle.dep_graph.specs.Files.{places_above, nearest_places}
 use Rattle.dep_graph.proofs.files.nearest_places.Given as goal
 

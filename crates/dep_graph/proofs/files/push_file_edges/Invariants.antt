@@ -1,4 +1,4 @@
-use Rattle.std.proofs.Common.{◌≡◌, ◌++◌, List, [], ◌∷◌, ◌+◌, ◌-◌, drop, take, length}
+use Rattle.std.proofs.Common.{◌≡◌, ◌++◌, drop}
 use Rattle.dep_graph.specs.Files.{edges_from, file_edges}
 use Rattle.dep_graph.proofs.files.push_file_edges.Given as goal
 
