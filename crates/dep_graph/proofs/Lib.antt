@@ -10,3 +10,5 @@ pub mod LinkEdges
 pub mod Related
 pub mod AutomaticLaws
 pub mod Steps
+pub mod CircleLaws
+pub mod PairLaws

@@ -1,6 +1,6 @@
 //! The order of all nodes.
 
-ghost use Rattle.std.specs.Prelude.{◌≡◌, ◌↔◌, ◌≤◌, length, IfOk, IfErr, OnOk};
+ghost use Rattle.std.specs.Prelude.{◌≡◌, ◌↔◌, ◌<◌, ◌≤◌, length, IfOk, IfErr, OnOk};
 ghost use Rattle.rh_base.specs.Refused.{IfRefused};
 ghost use Rattle.catalog_semantics.specs.States.{declared_limit};
 ghost use Rattle.orders.specs.Relation.{Comes};
@@ -49,7 +49,9 @@ pub fn whole_order(
     requires links { AreLinks catalog.now links.now }
     requires plain { plain.now ≡ plain_places catalog.now }
     ensures count { IfOk result (λ order. bound_of catalog.now ≤ order.count) }
-    ensures before { IfOk result (λ order. (a b : Node) → Comes order (rank a) (rank b) ↔ Before catalog.now a b) }
+    ensures before { IfOk result (λ order. (a b : Node) → rank a < bound_of catalog.now → rank b < bound_of catalog.now
+        → Comes order (rank a) (rank b) ↔ Before catalog.now a b) }
+    ensures acyclic { OnOk result ((n : Node) → Before catalog.now n n → ⊥) }
     ensures circle { IfErr result (λ e. IfRefused e (IsCircleRefusal catalog.now)) }
 {
     let (count, edges) = edges_of(alloc, catalog, links, plain)?;
