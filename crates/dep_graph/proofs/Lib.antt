@@ -12,3 +12,4 @@ pub mod AutomaticLaws
 pub mod Steps
 pub mod CircleLaws
 pub mod PairLaws
+pub mod Bounds

@@ -100,6 +100,12 @@ pub all_texts : (items : List Value) → is_some (texts_of items) ≡ true → f
 all_texts [] h = refl
 all_texts (x ∷ items) h = texts_step x (text_of x) (texts_of items) (flat_map member_text items) refl h (all_texts items)
 
+pub no_texts : (items : List Value) → is_some (texts_of items) ≡ false → list_or_none (texts_of items) ≡ []
+no_texts items h = step (texts_of items) h where
+  step : (o : Option (List (List ℕ))) → is_some o ≡ false → list_or_none o ≡ []
+  step None e = refl
+  step (Some texts) e = absurd (no_way (sym e))
+
 -- ---- bounds
 
 pub all_from : {X : Type 0} (P : X → Type 0) (xs : List X) → ((x : X) → Contains xs x → P x) → All P xs

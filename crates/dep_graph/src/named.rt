@@ -5,7 +5,7 @@ ghost use Rattle.std.specs.List.{All, flat_map};
 ghost use Rattle.pp_eval.specs.Evaluation.{text_of, texts_of, titles_of};
 ghost use Rattle.pp_value.specs.Values.{value_at};
 ghost use Rattle.catalog_semantics.specs.States.{declared_limit};
-ghost use Rattle.graph_semantics.specs.Automatic.{text_or, name_of, is_somebody, somebodies, text_in, texts_in, user_or_root, is_of, named_by, attribute};
+ghost use Rattle.graph_semantics.specs.Automatic.{text_or, name_of, is_somebody, somebodies, list_or_none, text_in, texts_in, user_or_root, is_of, named_by, attribute};
 ghost use Rattle.dep_graph.specs.Named.{has, is_linked, kept_edge, is_proper, has_name, named_targets, member_text, targets_by_names, kept_edges, edges_by_names, named_edges};
 
 use crate::links::Link;
@@ -202,6 +202,42 @@ fn push_members(
     Ok(())
 }
 
+/// Adds those whom the members of a list mean, if all are texts.
+#[tactic(auto, using(crate::proofs::NamedLaws::all_texts, crate::proofs::NamedLaws::no_texts))]
+fn push_listed(
+    alloc: Global,
+    catalog: &Catalog,
+    plain: &[u32],
+    kind: &str,
+    items: &[Value],
+    targets: &mut Seq<u32>,
+) -> Result<(), NoMemory>
+    ensures { OnOk result (targets.new ≡ targets.old ++ flat_map (named_targets catalog.now plain.now) (somebodies kind.now (list_or_none (texts_of items.now)))) }
+{
+    if !are_texts(items) {
+        return Ok(());
+    }
+    push_members(alloc, catalog, plain, kind, items, targets)
+}
+
+/// Adds those whom a text or a list of texts means.
+fn push_titles(
+    alloc: Global,
+    catalog: &Catalog,
+    plain: &[u32],
+    kind: &str,
+    value: &Value,
+    targets: &mut Seq<u32>,
+) -> Result<(), NoMemory>
+    ensures { OnOk result (targets.new ≡ targets.old ++ flat_map (named_targets catalog.now plain.now) (somebodies kind.now (list_or_none (titles_of value.now)))) }
+{
+    match value {
+        Value::Str(name) => push_somebody(alloc, catalog, plain, kind, name.as_str(), targets),
+        Value::List(items) => push_listed(alloc, catalog, plain, kind, items.as_slice(), targets),
+        _ => Ok(()),
+    }
+}
+
 /// Adds those whom the text or the texts of an attribute mean.
 fn push_texts(
     alloc: Global,
@@ -214,13 +250,8 @@ fn push_texts(
     ensures { OnOk result (targets.new ≡ targets.old ++ flat_map (named_targets catalog.now plain.now) (somebodies kind.now (texts_in (option_map (λ x. x.now) value.entry)))) }
 {
     match value {
-        Some(Value::List(items)) => {
-            if !are_texts(items.as_slice()) {
-                return Ok(());
-            }
-            push_members(alloc, catalog, plain, kind, items.as_slice(), targets)
-        }
-        other => push_text(alloc, catalog, plain, kind, other, targets),
+        Some(value) => push_titles(alloc, catalog, plain, kind, value, targets),
+        None => Ok(()),
     }
 }
 

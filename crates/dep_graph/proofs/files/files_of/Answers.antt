@@ -1,4 +1,4 @@
-use Rattle.std.proofs.Common.{◌≡◌, sym, subst, ◌∙◌, take, take_all}
+use Rattle.std.proofs.Common.{sym, subst, take, take_all}
 use Rattle.std.proofs.lemmas.List.{take_more}
 use Rattle.dep_graph.specs.Files.{AreFiles}
 use Rattle.dep_graph.proofs.files.files_of.Goals as goal

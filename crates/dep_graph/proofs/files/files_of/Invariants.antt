@@ -1,4 +1,4 @@
-use Rattle.std.proofs.Common.{◌≡◌, ◌++◌, List, [], ◌∷◌, ◌+◌, ◌-◌, drop, take, length}
+use Rattle.std.proofs.Common.{take}
 use Rattle.dep_graph.specs.Files.{AreFiles}
 use Rattle.dep_graph.proofs.files.files_of.Given as goal
 

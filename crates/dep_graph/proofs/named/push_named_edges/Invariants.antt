@@ -1,4 +1,4 @@
-use Rattle.std.proofs.Common.{◌≡◌, ◌++◌, List, [], ◌∷◌, ◌+◌, ◌-◌, drop, take, length}
+use Rattle.std.proofs.Common.{◌≡◌, ◌++◌, drop}
 use Rattle.dep_graph.specs.Named.{named_edges}
 use Rattle.dep_graph.proofs.named.push_named_edges.Given as goal
 
