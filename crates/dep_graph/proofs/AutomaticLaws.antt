@@ -1,18 +1,18 @@
 -- The automatic edges that are made are those of the table.
-use Rattle.std.proofs.Common.{◌≡◌, ℕ, zero, suc, ◌+◌, ◌*◌, ◌<◌, ◌≤◌, List, [], ◌∷◌, ◌++◌, length, Bool, true, false, cond, ◌&&◌, Option, Some, None, ◌⊎◌, inl, inr, map, refl, sym, ap, subst, ◌∙◌, arith, option_and_then}
+use Rattle.std.proofs.Common.{◌≡◌, ℕ, zero, suc, ◌+◌, ◌*◌, ◌≤◌, List, [], ◌∷◌, length, Bool, true, false, cond, ◌&&◌, Option, Some, None, refl, sym, ap, subst, ◌∙◌, arith, option_and_then}
 use Rattle.std.specs.Prelude.{slice_get, not}
-use Rattle.std.specs.List.{Contains, flat_map}
+use Rattle.std.specs.List.{Contains}
 use Rattle.std.specs.Str.{bytes_eq}
 use Rattle.std.specs.Cmp.Lexicographic.{bytes_decides}
 use Rattle.fs_semantics.specs.FileTree.{Path}
 use Rattle.fs_semantics.specs.Disjoint.{IsAncestor}
 use Rattle.catalog_semantics.specs.declared.catalog.Resource.{Resource}
 use Rattle.catalog_semantics.specs.Catalogs.{Catalog, is_plain_sort}
-use Rattle.graph_semantics.specs.Relations.{real_at, if_real, IsRelated}
-use Rattle.graph_semantics.specs.Automatic.{IsPlainAt, IsFileAt, Manages, ComesAfter, IsAutomatic, named_by, name_of}
-use Rattle.graph_semantics.specs.Graphs.{Node, Start, rank, Edge, plain_from, plain_places}
+use Rattle.graph_semantics.specs.Relations.{if_real, IsRelated}
+use Rattle.graph_semantics.specs.Automatic.{IsPlainAt, IsFileAt, Manages, ComesAfter, named_by, name_of}
+use Rattle.graph_semantics.specs.Graphs.{Start, Edge, plain_from, plain_places}
 use Rattle.dep_graph.specs.Named.{is_linked, kept_edge, kept_edges, is_proper, is_text, has_name, named_among, named_targets, targets_by_names, edges_by_names, named_edges}
-use Rattle.dep_graph.specs.Files.{FilePath, IsFileAmong, AreFiles, is_above, nearest, nearest_places, edges_from, file_edges}
+use Rattle.dep_graph.specs.Files.{FilePath, IsFileAmong, AreFiles, nearest, nearest_places, file_edges}
 use Rattle.dep_graph.specs.Whole.{AreLinks}
 use Rattle.dep_graph.specs.declared.links.Link.{Link}
 use Rattle.dep_graph.specs.declared.files.ManagedFile.{ManagedFile}
@@ -20,7 +20,7 @@ use Rattle.dep_graph.proofs.Elements.{either_way, none_in, head_in, tail_in, in_
 use Rattle.dep_graph.proofs.ContainerLaws.{stands, isnt_virtual, IsEdge}
 use Rattle.dep_graph.proofs.FrontLaws.{above_ancestor, ancestor_above}
 use Rattle.dep_graph.proofs.NamedLaws.{proper_name, name_proper}
-use Rattle.dep_graph.proofs.FileLaws.{OnePath, one_file, farthest, nearest_least, IsNear, near_from, near_in}
+use Rattle.dep_graph.proofs.FileLaws.{farthest, nearest_least, near_from, near_in}
 use Rattle.dep_graph.proofs.Related.{linked_related, related_linked}
 
 no_way : false ≡ true → ⊥
@@ -60,7 +60,7 @@ plain_step : (n k : ℕ) (r : Resource) (resources : List Resource) (t : Bool) �
 plain_step n k r resources true is f h =
     let both = both_true (is_plain_sort r.sort) (not r.is_virtual) is in
     either_way (λ e. record { index = 0; resource = r; at = refl; is = omega (arith, e); plain = both.0; real = not_true r.is_virtual both.1 }) (λ m. one_on n k r resources (f m))
-      (in_cases n k (plain_from (n + 1) resources) h)
+    (in_cases n k (plain_from (n + 1) resources) h)
 plain_step n k r resources false is f h = one_on n k r resources (f h)
 
 plain_stands : (n k : ℕ) (resources : List Resource) → Contains (plain_from n resources) k → StandsPlain n resources k
@@ -82,11 +82,11 @@ plain_in_from n i [] r h p = absurd (none_some h) where
 plain_in_from n zero (q ∷ resources) r h p =
     let first : n ≡ n + 0 = omega arith in
     subst (Contains (plain_from n (q ∷ resources))) first
-      (first_plain n (is_plain_sort q.sort && not q.is_virtual) (plain_from (n + 1) resources) (ap (λ (x : Resource). is_plain_sort x.sort && not x.is_virtual) (some_same q r h) ∙ p))
+    (first_plain n (is_plain_sort q.sort && not q.is_virtual) (plain_from (n + 1) resources) (ap (λ (x : Resource). is_plain_sort x.sort && not x.is_virtual) (some_same q r h) ∙ p))
 plain_in_from n (suc i) (q ∷ resources) r h p =
     let next : (n + 1) + i ≡ n + suc i = omega arith in
     later_plain n (n + suc i) (is_plain_sort q.sort && not q.is_virtual) (plain_from (n + 1) resources)
-      (subst (Contains (plain_from (n + 1) resources)) next (plain_in_from (n + 1) i resources r h p))
+    (subst (Contains (plain_from (n + 1) resources)) next (plain_in_from (n + 1) i resources r h p))
 
 real_of : (r : Resource) (t : Bool) → r.is_virtual ≡ t → t ≡ false → cond t None (Some r) ≡ Some r
 real_of r true is h = absurd (no_way (sym h))
@@ -95,17 +95,19 @@ real_of r false is h = refl
 pub plain_at : (c : Catalog) (k : ℕ) → Contains (plain_places c) k → (r : Resource) × IsPlainAt c k r
 plain_at c k h =
     let at = plain_stands 0 k c.resources h in
-    let same : at.index ≡ k = omega (arith, at.is) in
-    (at.resource, record {
+    let same : at.index ≡ k = omega (arith, at.is) in (
+      at.resource,
+      record {
         real = ap (option_and_then if_real) (subst (λ i. slice_get c.resources i ≡ Some at.resource) same at.at) ∙ real_of at.resource at.resource.is_virtual refl at.real;
         plain = at.plain;
-      })
+      },
+    )
 
 pub plain_in : (c : Catalog) (k : ℕ) (r : Resource) → IsPlainAt c k r → Contains (plain_places c) k
 plain_in c k r h =
     let zero_more : 0 + k ≡ k = omega arith in
     subst (Contains (plain_places c)) zero_more
-      (plain_in_from 0 k c.resources r (stands c k r h.real) (true_both (is_plain_sort r.sort) (not r.is_virtual) h.plain (ap not (isnt_virtual c k r h.real))))
+    (plain_in_from 0 k c.resources r (stands c k r h.real) (true_both (is_plain_sort r.sort) (not r.is_virtual) h.plain (ap not (isnt_virtual c k r h.real))))
 
 -- ---- an edge that is kept
 
@@ -121,10 +123,12 @@ automatic_edge c links are place target r e plain after h =
     let kept = kept_from links target place (is_linked links (2 * place) (2 * target)) e refl h in
     let free : IsRelated c place target → ⊥ = λ related. no_way (sym kept.0 ∙ related_linked c links are place target r plain.real plain.plain related) in
     subst (IsEdge c) kept.1 (record {
-        from = Start target; to = Start place;
-        edge = Edge.automatic target place (record { after = after; free = free }) refl refl;
-        from_is = refl; to_is = refl;
-      })
+      from = Start target;
+      to = Start place;
+      edge = Edge.automatic target place (record { after = after; free = free }) refl refl;
+      from_is = refl;
+      to_is = refl;
+    })
 
 unlinked_kept : (links : List Link) (target place : ℕ) (t : Bool) → is_linked links (2 * place) (2 * target) ≡ t → (t ≡ true → ⊥) → Contains {X = ℕ × ℕ} (cond t [] ((2 * target, 2 * place) ∷ [])) (2 * target, 2 * place)
 unlinked_kept links target place true is h = absurd (h refl)
@@ -141,15 +145,15 @@ has_name_is c kind name place r plain proper h =
     let here = ap (has_name kind name) (sym (stands c place r plain.real)) ∙ h in
     let both = both_true (bytes_eq r.id.kind kind) (is_text name (name_of r)) here in
     record { resource = r; plain = plain; kind_is = (bytes_decides r.id.kind kind).0 both.0; name_is = text_is (name_of r) both.1; proper = proper_name name proper } where
-  text_is : (o : Option (List ℕ)) → is_text name o ≡ true → o ≡ Some name
-  text_is None e = absurd (no_way e)
-  text_is (Some text) e = ap (λ (t : List ℕ). Some t) ((bytes_decides text name).0 e)
+      text_is : (o : Option (List ℕ)) → is_text name o ≡ true → o ≡ Some name
+      text_is None e = absurd (no_way e)
+      text_is (Some text) e = ap (λ (t : List ℕ). Some t) ((bytes_decides text name).0 e)
 
 manages_has : (c : Catalog) (kind name : List ℕ) (place : ℕ) → Manages c place kind name → has_name kind name (slice_get c.resources place) ≡ true
 manages_has c kind name place m =
     ap (has_name kind name) (stands c place m.resource m.plain.real)
     ∙ true_both (bytes_eq m.resource.id.kind kind) (is_text name (name_of m.resource)) ((bytes_decides m.resource.id.kind kind).1 m.kind_is)
-        (ap (is_text name) m.name_is ∙ (bytes_decides name name).1 refl)
+    (ap (is_text name) m.name_is ∙ (bytes_decides name name).1 refl)
 
 proper_targets : (c : Catalog) (plain : List ℕ) (who : List ℕ × List ℕ) (k : ℕ) (t : Bool) → is_proper who.1 ≡ t → Contains (cond t (named_among c who.0 who.1 plain) []) k
     → (is_proper who.1 ≡ true) × Contains (named_among c who.0 who.1 plain) k
@@ -184,11 +188,11 @@ pub named_in : (c : Catalog) (links : List Link) → AreLinks c links → (place
 named_in c links are place target r kind name plain names m free =
     let among = filter_in (λ p. has_name kind name (slice_get c.resources p)) (plain_places c) target (plain_in c target m.resource m.plain) (manages_has c kind name target m) in
     let proper : Contains (named_targets c (plain_places c) (kind, name)) target =
-        subst (λ t. Contains (cond t (named_among c kind name (plain_places c)) []) target) (sym (name_proper name m.proper)) among in
+    subst (λ t. Contains (cond t (named_among c kind name (plain_places c)) []) target) (sym (name_proper name m.proper)) among in
     let targets = flat_map_in (named_targets c (plain_places c)) (named_by r) (kind, name) target names proper in
     let edges = flat_map_in (λ k. kept_edge links k place) (targets_by_names c (plain_places c) r) target (2 * target, 2 * place) targets (kept_in c links are place target free) in
     flat_map_in (λ p. edges_by_names c links (plain_places c) p (slice_get c.resources p)) (plain_places c) place (2 * target, 2 * place) (plain_in c place r plain)
-      (subst (λ o. Contains (edges_by_names c links (plain_places c) place o) (2 * target, 2 * place)) (sym (stands c place r plain.real)) edges)
+    (subst (λ o. Contains (edges_by_names c links (plain_places c) place o) (2 * target, 2 * place)) (sym (stands c place r plain.real)) edges)
 
 -- ---- files
 
@@ -214,11 +218,11 @@ file_after c files are f among k h =
     let mine = file_at c f ((are f).0 among) in
     let other = subst (λ place. IsFileAt c place near.file.path) near.place (file_at c near.file ((are near.file).0 near.among)) in
     ComesAfter.ancestor f.path near.file.path mine other (above_ancestor near.file.path f.path near.above)
-      (λ place o at above.
-        let there = (are (record { path = o; place = place })).1 (at_file c place o at) in
-        let most = farthest files f.path (record { path = o; place = place }) there (ancestor_above o f.path above) in
-        let enough = near.near in
-        omega arith)
+    (λ place o at above.
+    let there = (are (record { path = o; place = place })).1 (at_file c place o at) in
+    let most = farthest files f.path (record { path = o; place = place }) there (ancestor_above o f.path above) in
+    let enough = near.near in
+    omega arith)
 
 pub file_from : (c : Catalog) (links : List Link) (files : List ManagedFile) → AreLinks c links → AreFiles c (plain_places c) files → (e : ℕ × ℕ) → Contains (file_edges links files) e → IsEdge c e
 file_from c links files are files_are e h =
@@ -235,7 +239,7 @@ file_in c links files are files_are place target p q mine other above far free =
     let there = (files_are f).1 (at_file c place p mine) in
     let target_there = (files_are g).1 (at_file c target q other) in
     let near : nearest files p ≤ length q = nearest_least files p (length q)
-        (λ x among is. far x.place x.path (file_at c x ((files_are x).0 among)) (above_ancestor x.path p is)) in
+    (λ x among is. far x.place x.path (file_at c x ((files_are x).0 among)) (above_ancestor x.path p is)) in
     let found = near_in (nearest files p) p files target (record { file = g; among = target_there; above = ancestor_above q p above; near = near; place = refl }) in
     flat_map_in (λ x. kept_edges links x.place (nearest_places files x.path)) files f (2 * target, 2 * place) there
-      (flat_map_in (λ k. kept_edge links k place) (nearest_places files p) target (2 * target, 2 * place) found (kept_in c links are place target free))
+    (flat_map_in (λ k. kept_edge links k place) (nearest_places files p) target (2 * target, 2 * place) found (kept_in c links are place target free))

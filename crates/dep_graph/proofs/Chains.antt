@@ -1,7 +1,7 @@
 -- Relations one after the other, and the references of each.
 use Rattle.std.proofs.Common.{◌≡◌, ℕ, ◌+◌, ◌<◌, List, [], ◌∷◌, ◌++◌, length, get_or, drop, refl, sym, ap, subst, ◌∙◌}
 use Rattle.std.proofs.lemmas.List.{drop_more}
-use Rattle.std.specs.Prelude.{Result, Ok, Err, IsErrAnd}
+use Rattle.std.specs.Prelude.{Result, Ok, Err}
 use Rattle.std.specs.List.{flat_map}
 use Rattle.rh_base.specs.declared.fault.Refusal.{Refusal}
 use Rattle.rh_base.specs.declared.fault.Fault.{Fault}
@@ -10,7 +10,7 @@ use Rattle.pp_value.specs.declared.value.Ref.{Ref}
 use Rattle.pp_value.specs.declared.value.Value.{Value}
 use Rattle.pp_value.specs.declared.value.Value.TheVariants as v
 use Rattle.pp_value.specs.declared.value.Value.TheBlock as block
-use Rattle.pp_eval.specs.Verdicts.{◌>>=◌, Refuses, AnswersBy}
+use Rattle.pp_eval.specs.Verdicts.{◌>>=◌, Refuses}
 use Rattle.catalog_semantics.specs.declared.catalog.Relation.{Relation}
 use Rattle.catalog_semantics.specs.Catalogs.{Catalog}
 use Rattle.graph_semantics.specs.Relations.{references_within}
@@ -38,7 +38,7 @@ pub nodes_append : (s : Side) (c : Catalog) (at : ℕ) (xs ys : List Ref) (nodes
 nodes_append s c at [] ys nodes = refl
 nodes_append s c at (x ∷ xs) ys nodes =
     bound (node_of s c at x) (λ n. with_nodes s c at (xs ++ ys) (nodes ++ n ∷ [])) (λ n. with_nodes s c at xs (nodes ++ n ∷ []) >>= λ more. with_nodes s c at ys more)
-      (λ n. nodes_append s c at xs ys (nodes ++ n ∷ []))
+    (λ n. nodes_append s c at xs ys (nodes ++ n ∷ []))
     ∙ sym (joined (node_of s c at x) (λ n. with_nodes s c at xs (nodes ++ n ∷ [])) (λ more. with_nodes s c at ys more))
 
 pub next_nodes : (s : Side) (c : Catalog) (at : ℕ) (xs ys : List Ref) (nodes more : List ℕ) → with_nodes s c at xs nodes ≡ Ok more
@@ -57,7 +57,7 @@ pub links_append : (c : Catalog) (xs ys : List Relation) (links : List Link)
 links_append c [] ys links = refl
 links_append c (x ∷ xs) ys links =
     bound (with_link c x links) (λ more. with_links c (xs ++ ys) more) (λ more. with_links c xs more >>= λ rest. with_links c ys rest)
-      (λ more. links_append c xs ys more)
+    (λ more. links_append c xs ys more)
     ∙ sym (joined (with_link c x links) (λ more. with_links c xs more) (λ rest. with_links c ys rest))
 
 pub next_links : (c : Catalog) (xs ys : List Relation) (links more : List Link) → with_links c xs links ≡ Ok more

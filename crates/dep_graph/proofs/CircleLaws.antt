@@ -1,15 +1,14 @@
 -- A cycle of numbers is a circle of nodes.
-use Rattle.std.proofs.Common.{◌≡◌, ℕ, zero, suc, ◌+◌, ◌*◌, ◌/◌, ◌%◌, ◌<◌, ◌≤◌, List, [], ◌∷◌, ◌++◌, length, Bool, true, false, cond, map, refl, sym, ap, subst, ◌∙◌, arith, ltb-true, lt-ltb, eqb-true, eq-eqb}
-use Rattle.std.specs.Prelude.{nat_lt, filter, codes, ◌==◌}
+use Rattle.std.proofs.Common.{◌≡◌, ℕ, ◌+◌, ◌*◌, ◌/◌, ◌%◌, ◌<◌, ◌≤◌, List, [], ◌∷◌, ◌++◌, Bool, true, false, cond, map, refl, sym, ap, subst, ◌∙◌, arith, ltb-true, lt-ltb, eqb-true, eq-eqb}
+use Rattle.std.specs.Prelude.{nat_lt, codes, ◌==◌}
 use Rattle.std.specs.List.{Contains, AllByRecursion, flat_map}
 use Rattle.fs_semantics.specs.Orders.{times}
 use Rattle.orders.specs.Paths.{IsCycle}
 use Rattle.orders.specs.Paths as paths
-use Rattle.rh_base.specs.declared.fault.Refusal.{Refusal}
 use Rattle.pp_eval.specs.Verdicts.{refusal}
 use Rattle.catalog_semantics.specs.Catalogs.{Catalog}
-use Rattle.graph_semantics.specs.Graphs.{Node, Start, End, rank, Edge, Before, Trail, node_text, circle_text, IsCircleRefusal, plain_places}
-use Rattle.dep_graph.specs.Circles.{node_at, number_text, real_numbers, first_text, arrows_text, around_text}
+use Rattle.graph_semantics.specs.Graphs.{Node, Start, End, rank, Edge, Trail, node_text, IsCircleRefusal, plain_places}
+use Rattle.dep_graph.specs.Circles.{node_at, number_text, real_numbers, around_text}
 use Rattle.dep_graph.specs.Files.{AreFiles}
 use Rattle.dep_graph.specs.Whole.{bound_of, all_edges, AreLinks}
 use Rattle.dep_graph.specs.declared.links.Link.{Link}
@@ -64,7 +63,7 @@ module _ (c : Catalog) (links : List Link) (files : List ManagedFile) (are : Are
   edge_between : (x y : ℕ) → IsEdge c (x, y) → Edge c (node_at x) (node_at y)
   edge_between x y e =
       subst (λ a. Edge c a (node_at y)) (one_node e.from (node_at x) (sym e.from_is ∙ sym (rank_at x)))
-        (subst (Edge c e.from) (one_node e.to (node_at y) (sym e.to_is ∙ sym (rank_at y))) e.edge)
+      (subst (Edge c e.from) (one_node e.to (node_at y) (sym e.to_is ∙ sym (rank_at y))) e.edge)
 
   high : (h : ℕ) (l : Link) → IsHub bound links h l → h < bound → ⊥
   high h l hub less = let up = hub_from bound links h l hub in omega arith
@@ -155,17 +154,17 @@ module _ (c : Catalog) (links : List Link) (files : List ManagedFile) (are : Are
         least = least_kept first others least;
         once = λ k.
             let all : map rank (node_at first ∷ nodes_at others) ≡ first ∷ real_numbers bound others =
-                ap (λ (m : ℕ). m ∷ map rank (nodes_at others)) (rank_at first) ∙ ap (λ ms. first ∷ ms) (ranks (real_numbers bound others)) in
+            ap (λ (m : ℕ). m ∷ map rank (nodes_at others)) (rank_at first) ∙ ap (λ ms. first ∷ ms) (ranks (real_numbers bound others)) in
             let few = times_kept k others in
             let one = once k in
             subst (λ ms. times k ms ≤ 1) (sym all) (fewer k first others few one);
         is = ap (refusal 41 0) (ap (λ ms. flat_map (λ n. number_text c n ++ codes " -> ") ms ++ number_text c first) (kept bound first others small)
             ∙ ap (λ text. text ++ number_text c first) (texts (first ∷ real_numbers bound others)));
       } where
-    fewer : (k first : ℕ) (others : List ℕ) → times k (real_numbers bound others) ≤ times k others → times k (first ∷ others) ≤ 1 → times k (first ∷ real_numbers bound others) ≤ 1
-    fewer k first others few one = omega arith
+        fewer : (k first : ℕ) (others : List ℕ) → times k (real_numbers bound others) ≤ times k others → times k (first ∷ others) ≤ 1 → times k (first ∷ real_numbers bound others) ≤ 1
+        fewer k first others few one = omega arith
 
   pub circle : (numbers : List ℕ) → IsCycle es numbers → IsCircleRefusal c (refusal 41 0 (around_text c bound numbers))
   circle numbers h =
       subst (λ ns. IsCircleRefusal c (refusal 41 0 (around_text c bound ns))) (sym h.whole)
-        (circle_at h.first h.others h.closed h.least (λ k. subst (λ ns. times k ns ≤ 1) h.whole (h.once k)))
+      (circle_at h.first h.others h.closed h.least (λ k. subst (λ ns. times k ns ≤ 1) h.whole (h.once k)))

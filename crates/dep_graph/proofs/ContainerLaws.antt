@@ -1,5 +1,5 @@
 -- The edges of containers, between numbers and between nodes.
-use Rattle.std.proofs.Common.{◌≡◌, ℕ, zero, suc, ◌+◌, ◌*◌, ◌<◌, ◌≤◌, List, [], ◌∷◌, ◌++◌, length, Bool, true, false, cond, ◌&&◌, Option, Some, None, ◌⊎◌, inl, inr, refl, sym, ap, subst, ◌∙◌, arith, eqb-true, eq-eqb, ltb-true, ltb-false}
+use Rattle.std.proofs.Common.{◌≡◌, ℕ, zero, suc, ◌+◌, ◌*◌, ◌<◌, List, [], ◌∷◌, ◌++◌, length, Bool, true, false, cond, ◌&&◌, Option, Some, None, ◌⊎◌, inl, inr, refl, sym, ap, subst, ◌∙◌, arith, eqb-true, eq-eqb, ltb-true, ltb-false}
 use Rattle.std.specs.Prelude.{slice_get, is_some, not, ◌==◌, nat_lt, option_and_then}
 use Rattle.std.specs.List.{Contains, flat_map, list_any}
 use Rattle.std.proofs.lemmas.List.Elements.{Contains-append_left, Contains-append_right, Contains-append_cases, Contains-push, Contains-push_cases}
@@ -9,9 +9,9 @@ use Rattle.catalog_semantics.specs.Catalogs.{Catalog, is_plain_sort}
 use Rattle.catalog.specs.Members.{members_of, inside, is_inside, is_held_by, classes_in, held_after, with_held, with_class}
 use Rattle.graph_semantics.specs.Relations.{real_at, if_real}
 use Rattle.graph_semantics.specs.Graphs.{Node, Start, End, rank, last_node, IsContainerAt, IsMember, Edge}
-use Rattle.dep_graph.specs.Numbers.{last_of, last_at, is_real}
+use Rattle.dep_graph.specs.Numbers.{last_of, last_at}
 use Rattle.dep_graph.specs.Numbered.{member_edges, edges_inside, container_edges, structure_edges}
-use Rattle.dep_graph.proofs.Elements.{either_way, none_in, head_in, tail_in, in_cases, in_one, got_in, got_within, in_flat_map, flat_map_in, any_in}
+use Rattle.dep_graph.proofs.Elements.{either_way, none_in, head_in, tail_in, in_cases, in_one, got_within, in_flat_map, flat_map_in, any_in}
 
 some_same : {X : Type 0} (x y : X) → ◌≡◌ {A = Option X} (Some x) (Some y) → x ≡ y
 some_same x y h = cc
@@ -79,11 +79,11 @@ inside_in outer n i [] r h is = absurd (none_some r h) where
 inside_in outer n zero (q ∷ resources) r h is =
     let first : n ≡ n + 0 = omega arith in
     subst (Contains (inside outer n (q ∷ resources))) first
-      (first_inside n (is_inside outer q) (inside outer (n + 1) resources) (ap (is_inside outer) (some_same q r h) ∙ is))
+    (first_inside n (is_inside outer q) (inside outer (n + 1) resources) (ap (is_inside outer) (some_same q r h) ∙ is))
 inside_in outer n (suc i) (q ∷ resources) r h is =
     let next : (n + 1) + i ≡ n + suc i = omega arith in
     later_inside n (n + suc i) (is_inside outer q) (inside outer (n + 1) resources)
-      (subst (Contains (inside outer (n + 1) resources)) next (inside_in outer (n + 1) i resources r h is))
+    (subst (Contains (inside outer (n + 1) resources)) next (inside_in outer (n + 1) i resources r h is))
 
 both_true : (a b : Bool) → (a && b) ≡ true → (a ≡ true) × (b ≡ true)
 both_true true b h = (refl, h)
@@ -130,9 +130,9 @@ in_held : (outer k : ℕ) (classes : List ℕ) (holdings : List Holding) → Con
 in_held outer k classes [] m = inl m
 in_held outer k classes (h ∷ holdings) m =
     either_way
-      (λ front. either_way (λ was. inl was) (λ e. inr (record { holding = h; among = head_in h holdings; outer_is = e.0; class_is = e.1 })) (held_from outer k classes h (h.outer == outer) refl front))
-      (λ later. inr (record { holding = later.holding; among = tail_in h later.holding holdings later.among; outer_is = later.outer_is; class_is = later.class_is }))
-      (in_held outer k (with_held outer classes h) holdings m)
+    (λ front. either_way (λ was. inl was) (λ e. inr (record { holding = h; among = head_in h holdings; outer_is = e.0; class_is = e.1 })) (held_from outer k classes h (h.outer == outer) refl front))
+    (λ later. inr (record { holding = later.holding; among = tail_in h later.holding holdings later.among; outer_is = later.outer_is; class_is = later.class_is }))
+    (in_held outer k (with_held outer classes h) holdings m)
 
 held_more : (outer k : ℕ) (classes : List ℕ) (h : Holding) (t : Bool) → Contains classes k → Contains (cond t (with_class h.class classes) classes) k
 held_more outer k classes h true m = class_stays k classes (list_any (λ j. j == h.class) classes) h.class m
@@ -152,10 +152,10 @@ held_in : (outer : ℕ) (classes : List ℕ) (holdings : List Holding) (k : ℕ)
 held_in outer classes [] k m = absurd (none_in m.holding m.among)
 held_in outer classes (h ∷ holdings) k m =
     either_way
-      (λ e. held_stays outer k (with_held outer classes h) holdings
-        (subst (Contains (with_held outer classes h)) (ap (λ (x : Holding). x.class) e ∙ m.class_is) (held_now outer classes h (h.outer == outer) refl (ap (λ (x : Holding). x.outer) e ∙ m.outer_is))))
-      (λ rest. held_in outer (with_held outer classes h) holdings k (record { holding = m.holding; among = rest; outer_is = m.outer_is; class_is = m.class_is }))
-      (in_cases h m.holding holdings m.among)
+    (λ e. held_stays outer k (with_held outer classes h) holdings
+    (subst (Contains (with_held outer classes h)) (ap (λ (x : Holding). x.class) e ∙ m.class_is) (held_now outer classes h (h.outer == outer) refl (ap (λ (x : Holding). x.outer) e ∙ m.outer_is))))
+    (λ rest. held_in outer (with_held outer classes h) holdings k (record { holding = m.holding; among = rest; outer_is = m.outer_is; class_is = m.class_is }))
+    (in_cases h m.holding holdings m.among)
 
 -- ---- members
 
@@ -171,8 +171,9 @@ member_from c outer k m = either_way declared contained (Contains-append_cases (
       let both = both_true (is_held_by outer at.resource.holder) (not at.resource.is_virtual) at.inside in
       let same : at.index ≡ k = omega (arith, at.is) in
       IsMember.declared at.resource
-        (ap (option_and_then if_real) (subst (λ i. slice_get c.resources i ≡ Some at.resource) same at.at) ∙ some_not_virtual at.resource at.resource.is_virtual refl (not_true at.resource.is_virtual both.1))
-        (holder_is outer at.resource.holder both.0)
+      (ap (option_and_then if_real) (subst (λ i. slice_get c.resources i ≡ Some at.resource) same at.at) ∙ some_not_virtual at.resource at.resource.is_virtual refl (not_true at.resource.is_virtual both.1))
+      (holder_is outer at.resource.holder both.0)
+
   contained : Contains (classes_in outer c.holdings) k → IsMember c outer k
   contained m = either_way (λ none. absurd (none_in k none)) (λ h. IsMember.contained h.holding h.among h.outer_is h.class_is) (in_held outer k [] c.holdings m)
 
@@ -182,12 +183,12 @@ held_by outer r h v = ap (λ o. is_held_by outer o && not r.is_virtual) h ∙ ap
 pub member_in : (c : Catalog) (outer k : ℕ) → IsMember c outer k → Contains (members_of outer c) k
 member_in c outer k (IsMember.declared r real holder) =
     Contains-append_left (inside outer 0 c.resources) (classes_in outer c.holdings) k
-      (from_zero (inside_in outer 0 k c.resources r (stands c k r real) (held_by outer r holder (isnt_virtual c k r real)))) where
-  from_zero : Contains (inside outer 0 c.resources) (0 + k) → Contains (inside outer 0 c.resources) k
-  from_zero m = let zero_more : 0 + k ≡ k = omega arith in subst (Contains (inside outer 0 c.resources)) zero_more m
+    (from_zero (inside_in outer 0 k c.resources r (stands c k r real) (held_by outer r holder (isnt_virtual c k r real)))) where
+      from_zero : Contains (inside outer 0 c.resources) (0 + k) → Contains (inside outer 0 c.resources) k
+      from_zero m = let zero_more : 0 + k ≡ k = omega arith in subst (Contains (inside outer 0 c.resources)) zero_more m
 member_in c outer k (IsMember.contained h among outer_is class_is) =
     Contains-append_right (inside outer 0 c.resources) (classes_in outer c.holdings) k
-      (held_in outer [] c.holdings k (record { holding = h; among = among; outer_is = outer_is; class_is = class_is }))
+    (held_in outer [] c.holdings k (record { holding = h; among = among; outer_is = outer_is; class_is = class_is }))
 
 -- ---- edges of containers, by numbers
 
@@ -207,10 +208,10 @@ member_edge_from : (c : Catalog) (outer k : ℕ) (t : Option Resource) (e : ℕ 
 member_edge_from c outer k None e is o m h = absurd (none_in e h)
 member_edge_from c outer k (Some r) e is o m h =
     either_way
-      (λ same. subst (IsEdge c) same (edge_of c (Start outer) (Start k) (2 * outer) (2 * k) (Edge.enters outer k r o m is refl refl) refl refl))
-      (λ more. subst (IsEdge c) (in_one (rank (last_at c k), 2 * outer + 1) e more)
-        (edge_of c (last_node r.sort k) (End outer) (rank (last_at c k)) (2 * outer + 1) (Edge.leaves outer k r o m is refl refl) (ap rank (last_is c k r is)) refl))
-      (in_cases (2 * outer, 2 * k) e ((rank (last_at c k), 2 * outer + 1) ∷ []) h)
+    (λ same. subst (IsEdge c) same (edge_of c (Start outer) (Start k) (2 * outer) (2 * k) (Edge.enters outer k r o m is refl refl) refl refl))
+    (λ more. subst (IsEdge c) (in_one (rank (last_at c k), 2 * outer + 1) e more)
+    (edge_of c (last_node r.sort k) (End outer) (rank (last_at c k)) (2 * outer + 1) (Edge.leaves outer k r o m is refl refl) (ap rank (last_is c k r is)) refl))
+    (in_cases (2 * outer, 2 * k) e ((rank (last_at c k), 2 * outer + 1) ∷ []) h)
 
 inside_edge_from : (c : Catalog) (k : ℕ) (r : Resource) (t : Bool) (e : ℕ × ℕ) → real_at c k ≡ Some r → is_plain_sort r.sort ≡ t
     → Contains (cond t [] ((2 * k, 2 * k + 1) ∷ flat_map (member_edges c k) (members_of k c))) e → IsEdge c e
@@ -218,11 +219,11 @@ inside_edge_from c k r true e real is h = absurd (none_in e h)
 inside_edge_from c k r false e real is h =
     let o : IsContainerAt c k = record { resource = r; real = real; sort = is } in
     either_way
-      (λ same. subst (IsEdge c) same (edge_of c (Start k) (End k) (2 * k) (2 * k + 1) (Edge.whole k o refl refl) refl refl))
-      (λ more.
-        let at = in_flat_map (member_edges c k) (members_of k c) e more in
-        member_edge_from c k at.0 (real_at c at.0) e refl o (member_from c k at.0 at.1) at.2)
-      (in_cases (2 * k, 2 * k + 1) e (flat_map (member_edges c k) (members_of k c)) h)
+    (λ same. subst (IsEdge c) same (edge_of c (Start k) (End k) (2 * k) (2 * k + 1) (Edge.whole k o refl refl) refl refl))
+    (λ more.
+    let at = in_flat_map (member_edges c k) (members_of k c) e more in
+    member_edge_from c k at.0 (real_at c at.0) e refl o (member_from c k at.0 at.1) at.2)
+    (in_cases (2 * k, 2 * k + 1) e (flat_map (member_edges c k) (members_of k c)) h)
 
 container_edge_from : (c : Catalog) (k : ℕ) (t : Option Resource) (e : ℕ × ℕ) → real_at c k ≡ t → Contains (edges_inside c k t) e → IsEdge c e
 container_edge_from c k None e is h = absurd (none_in e h)
@@ -256,7 +257,7 @@ container_in c k e o h =
 pub whole_in : (c : Catalog) (k : ℕ) → IsContainerAt c k → Contains (structure_edges c (length c.resources)) (2 * k, 2 * k + 1)
 whole_in c k o =
     structure_in c (length c.resources) k (2 * k, 2 * k + 1) (within c k o.resource o.real)
-      (container_in c k (2 * k, 2 * k + 1) o (head_in (2 * k, 2 * k + 1) (flat_map (member_edges c k) (members_of k c))))
+    (container_in c k (2 * k, 2 * k + 1) o (head_in (2 * k, 2 * k + 1) (flat_map (member_edges c k) (members_of k c))))
 
 member_pairs : (c : Catalog) (outer k : ℕ) (r : Resource) (e : ℕ × ℕ) → real_at c k ≡ Some r
     → Contains ((2 * outer, 2 * k) ∷ (rank (last_at c k), 2 * outer + 1) ∷ []) e → Contains (member_edges c outer k) e
@@ -266,8 +267,8 @@ member_edge_in : (c : Catalog) (outer k : ℕ) (r : Resource) (e : ℕ × ℕ) �
     → Contains ((2 * outer, 2 * k) ∷ (rank (last_at c k), 2 * outer + 1) ∷ []) e → Contains (structure_edges c (length c.resources)) e
 member_edge_in c outer k r e o m real h =
     structure_in c (length c.resources) outer e (within c outer o.resource o.real)
-      (container_in c outer e o (tail_in (2 * outer, 2 * outer + 1) e (flat_map (member_edges c outer) (members_of outer c))
-        (flat_map_in (member_edges c outer) (members_of outer c) k e (member_in c outer k m) (member_pairs c outer k r e real h))))
+    (container_in c outer e o (tail_in (2 * outer, 2 * outer + 1) e (flat_map (member_edges c outer) (members_of outer c))
+    (flat_map_in (member_edges c outer) (members_of outer c) k e (member_in c outer k m) (member_pairs c outer k r e real h))))
 
 pub enters_in : (c : Catalog) (outer k : ℕ) (r : Resource) → IsContainerAt c outer → IsMember c outer k → real_at c k ≡ Some r
     → Contains (structure_edges c (length c.resources)) (2 * outer, 2 * k)
@@ -277,4 +278,4 @@ pub leaves_in : (c : Catalog) (outer k : ℕ) (r : Resource) → IsContainerAt c
     → Contains (structure_edges c (length c.resources)) (rank (last_node r.sort k), 2 * outer + 1)
 leaves_in c outer k r o m real =
     subst (λ (n : ℕ). Contains (structure_edges c (length c.resources)) (n, 2 * outer + 1)) (ap rank (last_is c k r real))
-      (member_edge_in c outer k r (rank (last_at c k), 2 * outer + 1) o m real (tail_in (2 * outer, 2 * k) (rank (last_at c k), 2 * outer + 1) ((rank (last_at c k), 2 * outer + 1) ∷ []) (head_in (rank (last_at c k), 2 * outer + 1) [])))
+    (member_edge_in c outer k r (rank (last_at c k), 2 * outer + 1) o m real (tail_in (2 * outer, 2 * k) (rank (last_at c k), 2 * outer + 1) ((rank (last_at c k), 2 * outer + 1) ∷ []) (head_in (rank (last_at c k), 2 * outer + 1) [])))

@@ -1,17 +1,15 @@
 -- Files, the nearest file above, and bounds.
-use Rattle.std.proofs.Common.{◌≡◌, ◌≢◌, ℕ, zero, suc, ◌+◌, ◌*◌, ◌<◌, ◌≤◌, List, [], ◌∷◌, ◌++◌, length, Bool, true, false, cond, ◌&&◌, max, Option, Some, None, ◌⊎◌, inl, inr, map, refl, sym, ap, subst, ◌∙◌, arith, leb-true, le-leb}
-use Rattle.std.specs.Prelude.{slice_get, is_some, nat_le, nat_lt}
-use Rattle.std.specs.List.{Contains, All, flat_map}
-use Rattle.std.proofs.lemmas.List.Elements.{All-contains, Contains-append_left, Contains-append_right, Contains-append_cases, Contains-push, Contains-push_cases}
+use Rattle.std.proofs.Common.{◌≡◌, ℕ, ◌≤◌, List, [], ◌∷◌, ◌++◌, length, Bool, true, false, cond, ◌&&◌, max, Option, Some, None, ◌⊎◌, inl, inr, refl, sym, ap, subst, ◌∙◌, arith, leb-true, le-leb}
+use Rattle.std.specs.Prelude.{slice_get, nat_le}
+use Rattle.std.specs.List.{Contains, All}
+use Rattle.std.proofs.lemmas.List.Elements.{All-contains, Contains-append_left, Contains-push, Contains-push_cases}
 use Rattle.fs_semantics.specs.FileTree.{Path}
-use Rattle.fs_semantics.specs.Disjoint.{IsAncestor}
 use Rattle.fs_lang.specs.PathText.{IsPathText}
 use Rattle.catalog_semantics.specs.declared.catalog.Resource.{Resource}
 use Rattle.catalog_semantics.specs.Catalogs.{Catalog}
 use Rattle.dep_graph.specs.Files.{FilePath, FilePathIs, IsFileAmong, AreFiles, is_above, nearest, is_nearest, places_above, nearest_places}
 use Rattle.dep_graph.specs.declared.files.ManagedFile.{ManagedFile}
-use Rattle.dep_graph.proofs.FrontLaws.{above_ancestor, ancestor_above}
-use Rattle.dep_graph.proofs.Elements.{either_way, none_in, head_in, tail_in, in_cases, in_one}
+use Rattle.dep_graph.proofs.Elements.{either_way, none_in, head_in, tail_in, in_cases}
 use Rattle.dep_graph.proofs.NamedLaws.{all_from}
 
 some_same : {X : Type 0} (x y : X) → ◌≡◌ {A = Option X} (Some x) (Some y) → x ≡ y
@@ -38,8 +36,9 @@ among_cases c places place f h =
 -- nothing stands there
 pub no_resource : (c : Catalog) (places : List ℕ) (place : ℕ) (files : List ManagedFile) → slice_get c.resources place ≡ None → AreFiles c places files → AreFiles c (places ++ place ∷ []) files
 no_resource c places place files none are f = (
-    λ m. among_more c places place f ((are f).0 m),
-    λ h. either_way (λ k. (are f).1 k) (λ e. absurd (none_some h.resource (sym none ∙ ap (slice_get c.resources) e ∙ h.at))) (among_cases c places place f h)) where
+  λ m. among_more c places place f ((are f).0 m),
+  λ h. either_way (λ k. (are f).1 k) (λ e. absurd (none_some h.resource (sym none ∙ ap (slice_get c.resources) e ∙ h.at))) (among_cases c places place f h),
+) where
   none_some : (r : Resource) → ◌≡◌ {A = Option Resource} None (Some r) → ⊥
   none_some r h = cc
 
@@ -47,10 +46,11 @@ no_resource c places place files none are f = (
 pub no_file : (c : Catalog) (places : List ℕ) (place : ℕ) (files : List ManagedFile) (r : Resource) → slice_get c.resources place ≡ Some r → FilePathIs r None → AreFiles c places files
     → AreFiles c (places ++ place ∷ []) files
 no_file c places place files r here none are f = (
-    λ m. among_more c places place f ((are f).0 m),
-    λ h. either_way (λ k. (are f).1 k)
+  λ m. among_more c places place f ((are f).0 m),
+  λ h. either_way (λ k. (are f).1 k)
       (λ e. absurd (none f.path (subst (λ (q : Resource). FilePath q f.path) (some_same h.resource r (sym h.at ∙ sym (ap (slice_get c.resources) e) ∙ here)) h.file)))
-      (among_cases c places place f h))
+      (among_cases c places place f h),
+)
 
 same_file : (f g : ManagedFile) → f.path ≡ g.path → f.place ≡ g.place → f ≡ g
 same_file f g p q = λ i. record { path = p i; place = q i }
@@ -59,15 +59,16 @@ same_file f g p q = λ i. record { path = p i; place = q i }
 pub one_more_file : OnePath → (c : Catalog) (places : List ℕ) (files : List ManagedFile) (g : ManagedFile) (r : Resource) → slice_get c.resources g.place ≡ Some r → FilePath r g.path
     → AreFiles c places files → AreFiles c (places ++ g.place ∷ []) (files ++ g ∷ [])
 one_more_file once c places files g r here file are f = (
-    λ m. either_way (λ k. among_more c places g.place f ((are f).0 k))
+  λ m. either_way (λ k. among_more c places g.place f ((are f).0 k))
       (λ e. subst (IsFileAmong c (places ++ g.place ∷ [])) e (record { place = Contains-push places g.place; resource = r; at = here; file = file }))
       (Contains-push_cases files g f m),
-    λ h. either_way (λ k. Contains-append_left files (g ∷ []) f ((are f).1 k))
+  λ h. either_way (λ k. Contains-append_left files (g ∷ []) f ((are f).1 k))
       (λ e.
-        let same_resource : h.resource ≡ r = some_same h.resource r (sym h.at ∙ sym (ap (slice_get c.resources) e) ∙ here) in
-        let path : g.path ≡ f.path = one_file once r g.path f.path file (subst (λ (q : Resource). FilePath q f.path) same_resource h.file) in
-        subst (Contains (files ++ g ∷ [])) (same_file g f path e) (Contains-push files g))
-      (among_cases c places g.place f h))
+      let same_resource : h.resource ≡ r = some_same h.resource r (sym h.at ∙ sym (ap (slice_get c.resources) e) ∙ here) in
+      let path : g.path ≡ f.path = one_file once r g.path f.path file (subst (λ (q : Resource). FilePath q f.path) same_resource h.file) in
+      subst (Contains (files ++ g ∷ [])) (same_file g f path e) (Contains-push files g))
+      (among_cases c places g.place f h),
+)
 
 pub no_files : (c : Catalog) → AreFiles c [] []
 no_files c f = (λ m. absurd (none_in f m), λ h. absurd (none_in f.place h.place))
@@ -90,10 +91,10 @@ pub farthest : (files : List ManagedFile) (p : Path) (f : ManagedFile) → Conta
 farthest [] p f h a = absurd (none_in f h)
 farthest (g ∷ files) p f h a =
     either_way
-      (λ e. subst (λ (x : ManagedFile). length x.path ≤ cond (is_above g.path p) (max (length g.path) (nearest files p)) (nearest files p)) e
-        (nearest_step g p (is_above g.path p) (nearest files p) refl (ap (λ (x : ManagedFile). is_above x.path p) e ∙ a)))
-      (λ k. nearest_later (length g.path) (is_above g.path p) (nearest files p) (length f.path) (farthest files p f k a))
-      (in_cases g f files h)
+    (λ e. subst (λ (x : ManagedFile). length x.path ≤ cond (is_above g.path p) (max (length g.path) (nearest files p)) (nearest files p)) e
+    (nearest_step g p (is_above g.path p) (nearest files p) refl (ap (λ (x : ManagedFile). is_above x.path p) e ∙ a)))
+    (λ k. nearest_later (length g.path) (is_above g.path p) (nearest files p) (length f.path) (farthest files p f k a))
+    (in_cases g f files h)
 
 -- what none of the files above exceeds, the nearest doesn't
 pub nearest_least : (files : List ManagedFile) (p : Path) (n : ℕ) → ((f : ManagedFile) → Contains files f → is_above f.path p ≡ true → length f.path ≤ n) → nearest files p ≤ n
@@ -122,8 +123,8 @@ near_step : (n : ℕ) (p : Path) (f : ManagedFile) (files : List ManagedFile) (k
 near_step n p f files k true is rest h =
     let both = both_true (is_above f.path p) (nat_le n (length f.path)) is in
     either_way (λ e. record { file = f; among = head_in f files; above = both.0; near = leb-true n (length f.path) both.1; place = e })
-      (λ m. let r = rest m in record { file = r.file; among = tail_in f r.file files r.among; above = r.above; near = r.near; place = r.place })
-      (in_cases f.place k (places_above n p files) h)
+    (λ m. let r = rest m in record { file = r.file; among = tail_in f r.file files r.among; above = r.above; near = r.near; place = r.place })
+    (in_cases f.place k (places_above n p files) h)
 near_step n p f files k false is rest h = let r = rest h in record { file = r.file; among = tail_in f r.file files r.among; above = r.above; near = r.near; place = r.place }
 
 pub near_from : (n : ℕ) (p : Path) (files : List ManagedFile) (k : ℕ) → Contains (places_above n p files) k → IsNear n p files k
@@ -146,11 +147,11 @@ pub near_in : (n : ℕ) (p : Path) (files : List ManagedFile) (k : ℕ) → IsNe
 near_in n p [] k h = absurd (none_in h.file h.among)
 near_in n p (f ∷ files) k h =
     either_way
-      (λ e.
-        let here : is_nearest n p f.path ≡ true = ap (λ (x : ManagedFile). is_nearest n p x.path) e ∙ true_both (is_above h.file.path p) (nat_le n (length h.file.path)) h.above (le-leb n (length h.file.path) h.near) in
-        subst (Contains (places_above n p (f ∷ files))) (ap (λ (x : ManagedFile). x.place) e ∙ h.place) (first_near (is_nearest n p f.path) f.place (places_above n p files) here))
-      (λ m. later_near (is_nearest n p f.path) f.place k (places_above n p files) (near_in n p files k (record { file = h.file; among = m; above = h.above; near = h.near; place = h.place })))
-      (in_cases f h.file files h.among)
+    (λ e.
+    let here : is_nearest n p f.path ≡ true = ap (λ (x : ManagedFile). is_nearest n p x.path) e ∙ true_both (is_above h.file.path p) (nat_le n (length h.file.path)) h.above (le-leb n (length h.file.path) h.near) in
+    subst (Contains (places_above n p (f ∷ files))) (ap (λ (x : ManagedFile). x.place) e ∙ h.place) (first_near (is_nearest n p f.path) f.place (places_above n p files) here))
+    (λ m. later_near (is_nearest n p f.path) f.place k (places_above n p files) (near_in n p files k (record { file = h.file; among = m; above = h.above; near = h.near; place = h.place })))
+    (in_cases f h.file files h.among)
 
 pub places_bounded : (P : ℕ → Type 0) (files : List ManagedFile) (p : Path) → All (λ f. P f.place) files → All P (nearest_places files p)
 places_bounded P files p h =

@@ -13,3 +13,4 @@ pub mod Steps
 pub mod CircleLaws
 pub mod PairLaws
 pub mod Bounds
+pub mod Refusals

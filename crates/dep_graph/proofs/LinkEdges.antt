@@ -1,6 +1,6 @@
 -- The edges of relations between nodes: from side to side, or through a node of their own.
-use Rattle.std.proofs.Common.{◌≡◌, ℕ, zero, suc, ◌+◌, ◌<◌, ◌≤◌, List, [], ◌∷◌, ◌++◌, length, Bool, true, false, cond, ◌⊎◌, inl, inr, map, refl, sym, ap, subst, ◌∙◌, arith}
-use Rattle.std.specs.List.{Contains, flat_map}
+use Rattle.std.proofs.Common.{◌≡◌, ℕ, ◌+◌, ◌<◌, ◌≤◌, List, [], ◌∷◌, ◌++◌, Bool, true, false, cond, ◌⊎◌, inl, inr, map, refl, sym, ap, subst, ◌∙◌, arith}
+use Rattle.std.specs.List.{Contains}
 use Rattle.std.proofs.lemmas.List.Elements.{Contains-append_left, Contains-append_right, Contains-append_cases}
 use Rattle.dep_graph.specs.Numbered.{crossing, through, is_wide, link_edges, hub_after, edges_of_links, hubs_after}
 use Rattle.dep_graph.specs.declared.links.Link.{Link}
@@ -81,13 +81,13 @@ second_of a b x y h = ap (λ (e : ℕ × ℕ). e.1) h
 here : (first : ℕ) (k : Link) (links : List Link) (x y : ℕ) (t : Bool) → is_wide k ≡ t → Contains (cond t (through first k.from k.to) (crossing k.from k.to)) (x, y) → LinkEdge first (k ∷ links) x y
 here first k links x y true wide h =
     either_way
-      (λ m.
-        let at = in_map (λ a. (a, first)) k.from (x, y) m in
-        LinkEdge.into k (inl (wide, sym (second_of at.0 first x y at.2), refl)) (subst (Contains k.from) (first_of at.0 first x y at.2) at.1))
-      (λ m.
-        let at = in_map (λ b. (first, b)) k.to (x, y) m in
-        LinkEdge.out k (inl (wide, sym (first_of first at.0 x y at.2), refl)) (subst (Contains k.to) (second_of first at.0 x y at.2) at.1))
-      (Contains-append_cases (map (λ a. (a, first)) k.from) (map (λ b. (first, b)) k.to) (x, y) h)
+    (λ m.
+    let at = in_map (λ a. (a, first)) k.from (x, y) m in
+    LinkEdge.into k (inl (wide, sym (second_of at.0 first x y at.2), refl)) (subst (Contains k.from) (first_of at.0 first x y at.2) at.1))
+    (λ m.
+    let at = in_map (λ b. (first, b)) k.to (x, y) m in
+    LinkEdge.out k (inl (wide, sym (first_of first at.0 x y at.2), refl)) (subst (Contains k.to) (second_of first at.0 x y at.2) at.1))
+    (Contains-append_cases (map (λ a. (a, first)) k.from) (map (λ b. (first, b)) k.to) (x, y) h)
 here first k links x y false wide h =
     let at = in_flat_map (λ a. map (λ b. (a, b)) k.to) k.from (x, y) h in
     let to = in_map (λ b. (at.0, b)) k.to (x, y) at.2 in
@@ -97,7 +97,7 @@ pub link_edge_from : (first : ℕ) (links : List Link) (x y : ℕ) → Contains 
 link_edge_from first [] x y h = absurd (none_in (x, y) h)
 link_edge_from first (k ∷ links) x y h =
     either_way (here first k links x y (is_wide k) refl) (λ m. later first k links x y (link_edge_from (hub_after first k) links x y m))
-      (Contains-append_cases (link_edges first k) (edges_of_links (hub_after first k) links) (x, y) h)
+    (Contains-append_cases (link_edges first k) (edges_of_links (hub_after first k) links) (x, y) h)
 
 -- ---- what is joined is joined by an edge or by two
 
@@ -114,15 +114,18 @@ reached_here es back x y (inr m) = inr (m.0, Contains-append_left es back (x, m.
 
 joined : (first : ℕ) (k : Link) (x y : ℕ) (t : Bool) → Contains k.from x → Contains k.to y → Reached (cond t (through first k.from k.to) (crossing k.from k.to)) x y
 joined first k x y true from to =
-    inr (first, Contains-append_left (map (λ a. (a, first)) k.from) (map (λ b. (first, b)) k.to) (x, first) (map_in (λ a. (a, first)) k.from x from),
-      Contains-append_right (map (λ a. (a, first)) k.from) (map (λ b. (first, b)) k.to) (first, y) (map_in (λ b. (first, b)) k.to y to))
+    inr (
+      first,
+      Contains-append_left (map (λ a. (a, first)) k.from) (map (λ b. (first, b)) k.to) (x, first) (map_in (λ a. (a, first)) k.from x from),
+      Contains-append_right (map (λ a. (a, first)) k.from) (map (λ b. (first, b)) k.to) (first, y) (map_in (λ b. (first, b)) k.to y to),
+    )
 joined first k x y false from to = inl (flat_map_in (λ a. map (λ b. (a, b)) k.to) k.from x (x, y) from (map_in (λ b. (x, b)) k.to y to))
 
 pub link_edge_in : (first : ℕ) (links : List Link) (l : Link) (x y : ℕ) → Contains links l → Contains l.from x → Contains l.to y → Reached (edges_of_links first links) x y
 link_edge_in first [] l x y h from to = absurd (none_in l h)
 link_edge_in first (k ∷ links) l x y h from to =
     either_way
-      (λ e. reached_here (link_edges first k) (edges_of_links (hub_after first k) links) x y
-        (joined first k x y (is_wide k) (subst (λ (m : Link). Contains m.from x) (sym e) from) (subst (λ (m : Link). Contains m.to y) (sym e) to)))
-      (λ rest. reached_more (link_edges first k) (edges_of_links (hub_after first k) links) x y (link_edge_in (hub_after first k) links l x y rest from to))
-      (in_cases k l links h)
+    (λ e. reached_here (link_edges first k) (edges_of_links (hub_after first k) links) x y
+    (joined first k x y (is_wide k) (subst (λ (m : Link). Contains m.from x) (sym e) from) (subst (λ (m : Link). Contains m.to y) (sym e) to)))
+    (λ rest. reached_more (link_edges first k) (edges_of_links (hub_after first k) links) x y (link_edge_in (hub_after first k) links l x y rest from to))
+    (in_cases k l links h)

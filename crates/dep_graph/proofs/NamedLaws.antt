@@ -1,11 +1,11 @@
 -- Automatic edges to what is named, and their bounds.
-use Rattle.std.proofs.Common.{◌≡◌, ◌≢◌, ℕ, zero, suc, ◌+◌, ◌*◌, ◌<◌, ◌≤◌, List, [], ◌∷◌, ◌++◌, length, Bool, true, false, cond, ◌&&◌, ◌||◌, Option, Some, None, ◌⊎◌, inl, inr, map, refl, sym, ap, subst, ◌∙◌, arith, eqb-true, eq-eqb, append_assoc, leb-true, le-leb, option_and_then, option_map, slice_index_or}
-use Rattle.std.specs.Prelude.{slice_get, is_some, not, filter, ◌==◌, nat_le, nat_lt}
+use Rattle.std.proofs.Common.{◌≡◌, ◌≢◌, ℕ, List, [], ◌∷◌, ◌++◌, length, Bool, true, false, cond, ◌&&◌, ◌||◌, Option, Some, None, map, refl, sym, ap, ◌∙◌, eqb-true, eq-eqb, leb-true, le-leb, option_and_then, option_map, slice_index_or}
+use Rattle.std.specs.Prelude.{slice_get, is_some, not, filter, ◌==◌, nat_le}
 use Rattle.std.proofs.Math.Dec.{eqb-suc-zero}
 use Rattle.std.specs.Option.{option_to_list}
 use Rattle.std.specs.List.{Contains, All, AllByRecursion, flat_map, list_any}
 use Rattle.std.proofs.lemmas.List.Concat.{flat_map-append}
-use Rattle.std.proofs.lemmas.List.Elements.{All-contains, Contains-get_or, Contains-append_cases, filter-append}
+use Rattle.std.proofs.lemmas.List.Elements.{All-contains, Contains-get_or, filter-append}
 use Rattle.std.proofs.lemmas.List.{map-append}
 use Rattle.rh_base.specs.declared.limits.TheConstants.{NAME_BYTES}
 use Rattle.fs_lang.specs.Names.{IsName}
@@ -14,9 +14,8 @@ use Rattle.pp_eval.specs.Evaluation.{text_of, texts_of}
 use Rattle.catalog_semantics.specs.declared.catalog.Resource.{Resource}
 use Rattle.catalog_semantics.specs.Catalogs.{Catalog}
 use Rattle.graph_semantics.specs.Automatic.{is_somebody, somebodies, list_or_none, named_by}
-use Rattle.dep_graph.specs.Named.{has, is_linked, kept_edge, kept_edges, is_proper, has_name, named_among, named_targets, member_text, targets_of_members, targets_by_names}
-use Rattle.dep_graph.specs.declared.links.Link.{Link}
-use Rattle.dep_graph.proofs.Elements.{either_way, none_in, in_flat_map, in_filter, in_any, any_in}
+use Rattle.dep_graph.specs.Named.{is_proper, has_name, named_among, named_targets, member_text, targets_of_members, targets_by_names}
+use Rattle.dep_graph.proofs.Elements.{none_in, in_flat_map, in_filter}
 
 no_way : false ≡ true → ⊥
 no_way h = cc
@@ -66,8 +65,8 @@ proper_name name h =
 pub name_proper : (name : List ℕ) → IsName name → is_proper name ≡ true
 name_proper name h =
     true_both (not (length name == 0) && nat_le (length name) NAME_BYTES) (not (list_any (λ b. b == 0) name))
-      (true_both (not (length name == 0)) (nat_le (length name) NAME_BYTES) (ap not (length_zero name h.nonempty)) (le-leb (length name) NAME_BYTES h.bytes))
-      (ap not (zeros_no name h.no_zero))
+    (true_both (not (length name == 0)) (nat_le (length name) NAME_BYTES) (ap not (length_zero name h.nonempty)) (le-leb (length name) NAME_BYTES h.bytes))
+    (ap not (zeros_no name h.no_zero))
 
 pub named_told : (name : List ℕ) → IsName name → true ≡ is_proper name
 named_told name h = sym (name_proper name h)

@@ -1,7 +1,7 @@
 -- Relations between nodes are those between resources.
-use Rattle.std.proofs.Common.{◌≡◌, ℕ, zero, suc, ◌+◌, ◌*◌, ◌<◌, ◌≤◌, List, [], ◌∷◌, ◌++◌, length, Bool, true, false, cond, ◌&&◌, Option, Some, None, ◌⊎◌, inl, inr, map, refl, sym, ap, subst, ◌∙◌, arith, append_assoc, eqb-true, eq-eqb, option_and_then, option_map}
+use Rattle.std.proofs.Common.{◌≡◌, ℕ, ◌*◌, ◌<◌, List, [], ◌∷◌, ◌++◌, length, Bool, true, false, ◌&&◌, Option, Some, None, ◌⊎◌, inl, inr, map, refl, sym, ap, subst, ◌∙◌, arith, append_assoc, eqb-true, eq-eqb, option_and_then, option_map}
 use Rattle.std.specs.Prelude.{Result, Ok, Err, ◌==◌}
-use Rattle.std.specs.List.{Contains, flat_map, list_any}
+use Rattle.std.specs.List.{Contains, flat_map}
 use Rattle.std.proofs.lemmas.List.{map-append}
 use Rattle.std.proofs.lemmas.List.Elements.{Contains-append_left, Contains-append_cases, Contains-push, Contains-push_cases}
 use Rattle.rh_base.specs.declared.fault.Refusal.{Refusal}
@@ -13,17 +13,17 @@ use Rattle.catalog_semantics.specs.declared.catalog.Sort.{Sort}
 use Rattle.catalog_semantics.specs.declared.catalog.Sort.TheVariants as sort
 use Rattle.catalog_semantics.specs.States.{place_of}
 use Rattle.catalog_semantics.specs.Catalogs.{Catalog, is_plain_sort}
-use Rattle.graph_semantics.specs.Relations.{real_at, if_real_at, target_of, mentions, first_missing, missing_target, metaparameter_relations, all_relations, Relates, IsRelated}
-use Rattle.graph_semantics.specs.Graphs.{Node, Start, End, rank, last_node, Edge, Leads}
-use Rattle.dep_graph.specs.Numbers.{last_of, last_at}
-use Rattle.dep_graph.specs.Links.{side_number, with_nodes, with_link, with_links}
+use Rattle.graph_semantics.specs.Relations.{real_at, if_real_at, target_of, mentions, first_missing, metaparameter_relations, all_relations, Relates, IsRelated}
+use Rattle.graph_semantics.specs.Graphs.{Node, Start, rank, last_node, Edge, Leads}
+use Rattle.dep_graph.specs.Numbers.{last_at}
+use Rattle.dep_graph.specs.Links.{with_nodes, with_link, with_links}
 use Rattle.dep_graph.specs.Named.{has, is_linked}
 use Rattle.dep_graph.specs.Whole.{AreLinks, bound_of}
 use Rattle.dep_graph.specs.declared.targets.Side.TheVariants as side
 use Rattle.dep_graph.specs.declared.links.Link.{Link}
 use Rattle.dep_graph.proofs.Elements.{either_way, none_in, head_in, tail_in, in_cases, any_in, in_any}
-use Rattle.dep_graph.proofs.Resolved.{IsNodeOf, AreThere, nodes_come, nodes_there, none_missing, one_missing}
-use Rattle.dep_graph.proofs.ContainerLaws.{stands, within, last_is, IsEdge}
+use Rattle.dep_graph.proofs.Resolved.{nodes_come, nodes_there, none_missing, one_missing}
+use Rattle.dep_graph.proofs.ContainerLaws.{within, last_is, IsEdge}
 
 no_way : false ≡ true → ⊥
 no_way h = cc
@@ -46,6 +46,7 @@ target_real c ref k h = step (place_of ref c.resources) h where
     none_some : ◌≡◌ {A = Option ℕ} None (Some k) → ⊥
     none_some e = cc
   there place (Some r) is e = (r, subst (λ p. real_at c p ≡ Some r) (some_same place k e) is)
+
   step : (o : Option ℕ) → option_and_then (if_real_at c) o ≡ Some k → (r : Resource) × (real_at c k ≡ Some r)
   step None e = absurd (none_some e) where
     none_some : ◌≡◌ {A = Option ℕ} None (Some k) → ⊥
@@ -86,10 +87,10 @@ comes_step c q relations old ls (Err r) is h f l k = absurd (err_ok r ls h)
 comes_step c q relations old ls (Ok more) is h f l k =
     let next = next_link c q old more is in
     either_way
-      (λ m. either_way (λ was. inl was) (λ e. inr (record { relation = q; among = head_in q relations; of = subst (IsLinkOf c q) e next.of }))
-        (Contains-push_cases old next.link l (subst (λ xs. Contains xs l) next.is m)))
-      (λ rest. inr (record { relation = rest.relation; among = tail_in q rest.relation relations rest.among; of = rest.of }))
-      (f more h l k)
+    (λ m. either_way (λ was. inl was) (λ e. inr (record { relation = q; among = head_in q relations; of = subst (IsLinkOf c q) e next.of }))
+    (Contains-push_cases old next.link l (subst (λ xs. Contains xs l) next.is m)))
+    (λ rest. inr (record { relation = rest.relation; among = tail_in q rest.relation relations rest.among; of = rest.of }))
+    (f more h l k)
 
 pub links_come : (c : Catalog) (relations : List Relation) (old ls : List Link) → with_links c relations old ≡ Ok ls → (l : Link) → Contains ls l → Contains old l ⊎ Comes c relations l
 links_come c [] old ls h l k = inl (subst (λ xs. Contains xs l) (sym (ok_same old ls h)) k)
@@ -147,8 +148,8 @@ link_missing c q old r more h = ap (first_missing c) (mentions_split q more) ∙
   step (Ok from) (Err x) is at e =
       none_missing side.From c q.at q.from [] from (map (λ ref. (ref, q.at)) q.to ++ more) is
       ∙ one_missing side.To c q.at q.to [] r more (at ∙ first_err x e) where
-    first_err : (x : Refusal) → ◌≡◌ {A = Result (List Link) Refusal} (Err x) (Err r) → ◌≡◌ {A = Result (List ℕ) Refusal} (Err x) (Err r)
-    first_err x e = let same : x ≡ r = cc in ap (λ (y : Refusal). Err y) same
+        first_err : (x : Refusal) → ◌≡◌ {A = Result (List Link) Refusal} (Err x) (Err r) → ◌≡◌ {A = Result (List ℕ) Refusal} (Err x) (Err r)
+        first_err x e = let same : x ≡ r = cc in ap (λ (y : Refusal). Err y) same
   step (Ok from) (Ok to) is at e = absurd (err_ok r (old ++ record { from = from; to = to } ∷ []) (sym e))
 
 pub something_missing : (c : Catalog) (relations : List Relation) (old : List Link) (r : Refusal) → with_links c relations old ≡ Err r → first_missing c (flat_map mentions relations) ≡ Some r
@@ -185,12 +186,12 @@ link_of c links are l k = either_way (λ none. absurd (none_in l none)) (λ m. m
 pub first_of : (c : Catalog) (q : Relation) (l : Link) (x : ℕ) → IsLinkOf c q l → Contains l.from x → (place : ℕ) × IsFirst c q x place
 first_of c q l x of h =
     either_way (λ none. absurd (none_in x none)) (λ n. (n.place, record { ref = n.ref; among = n.among; names = n.names; is = n.is }))
-      (nodes_come side.From c q.at q.from [] l.from of.from x h)
+    (nodes_come side.From c q.at q.from [] l.from of.from x h)
 
 pub second_of : (c : Catalog) (q : Relation) (l : Link) (y : ℕ) → IsLinkOf c q l → Contains l.to y → (place : ℕ) × IsSecond c q y place
 second_of c q l y of h =
     either_way (λ none. absurd (none_in y none)) (λ n. (n.place, record { ref = n.ref; among = n.among; names = n.names; is = n.is }))
-      (nodes_come side.To c q.at q.to [] l.to of.to y h)
+    (nodes_come side.To c q.at q.to [] l.to of.to y h)
 
 relates : (c : Catalog) (q : Relation) (x y a b : ℕ) → IsFirst c q x a → IsSecond c q y b → Relates c q a b
 relates c q x y a b f s = record { left = f.ref; right = s.ref; from = f.among; to = s.among; from_is = f.names; to_is = s.names }
@@ -217,9 +218,12 @@ link_edge c links are l x y among from to =
 pub related_link : (c : Catalog) (links : List Link) → AreLinks c links → (q : Relation) (a b : ℕ) → Contains (all_relations c) q → Relates c q a b
     → (l : Link) × Contains links l × Contains l.from (rank (last_at c a)) × Contains l.to (2 * b)
 related_link c links are q a b among r =
-    let have = (links_there c (all_relations c) [] links are).there q among in
-    (have.0, have.1, (nodes_there side.From c q.at q.from [] have.0.from have.2.from).there r.left a r.from r.from_is,
-      (nodes_there side.To c q.at q.to [] have.0.to have.2.to).there r.right b r.to r.to_is)
+    let have = (links_there c (all_relations c) [] links are).there q among in (
+      have.0,
+      have.1,
+      (nodes_there side.From c q.at q.from [] have.0.from have.2.from).there r.left a r.from r.from_is,
+      (nodes_there side.To c q.at q.to [] have.0.to have.2.to).there r.right b r.to r.to_is,
+    )
 
 -- ---- numbers of last nodes
 
@@ -292,4 +296,4 @@ related_linked c links are a b r real plain h =
     let at = related_link c links are h.0 a b h.1 h.2 in
     let first : rank (last_at c a) ≡ 2 * a = ap rank (last_is c a r real) ∙ plain_last r.sort a plain in
     in_any (λ l. has (2 * a) l.from && has (2 * b) l.to) links at.0 at.1
-      (true_both (has (2 * a) at.0.from) (has (2 * b) at.0.to) (in_has (2 * a) at.0.from (subst (Contains at.0.from) first at.2)) (in_has (2 * b) at.0.to at.3))
+    (true_both (has (2 * a) at.0.from) (has (2 * b) at.0.to) (in_has (2 * a) at.0.from (subst (Contains at.0.from) first at.2)) (in_has (2 * b) at.0.to at.3))

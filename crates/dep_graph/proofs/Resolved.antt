@@ -1,21 +1,17 @@
 -- What relations between nodes come from, and the first reference to nothing.
-use Rattle.std.proofs.Common.{◌≡◌, ℕ, List, [], ◌∷◌, ◌++◌, map, Bool, true, false, cond, Option, Some, None, ◌⊎◌, inl, inr, refl, sym, ap, subst, ◌∙◌, append_assoc}
+use Rattle.std.proofs.Common.{◌≡◌, ℕ, List, [], ◌∷◌, ◌++◌, map, cond, Option, Some, None, ◌⊎◌, inl, inr, refl, sym, ap, subst, ◌∙◌}
 use Rattle.std.specs.Prelude.{Result, Ok, Err, is_some}
-use Rattle.std.specs.List.{Contains, flat_map}
-use Rattle.std.proofs.lemmas.List.{map-append}
+use Rattle.std.specs.List.{Contains}
 use Rattle.std.proofs.lemmas.List.Elements.{Contains-append_left, Contains-push, Contains-push_cases}
 use Rattle.rh_base.specs.declared.fault.Refusal.{Refusal}
 use Rattle.pp_value.specs.declared.value.Ref.{Ref}
 use Rattle.pp_value.specs.Shown.{shown_ref}
 use Rattle.pp_eval.specs.Verdicts.{◌>>=◌, refusal}
-use Rattle.catalog_semantics.specs.declared.catalog.Relation.{Relation}
 use Rattle.catalog_semantics.specs.Catalogs.{Catalog}
-use Rattle.graph_semantics.specs.Relations.{target_of, mentions, first_missing}
-use Rattle.dep_graph.specs.Links.{side_number, numbered, node_of, with_nodes, with_link, with_links}
+use Rattle.graph_semantics.specs.Relations.{target_of, first_missing}
+use Rattle.dep_graph.specs.Links.{side_number, numbered, with_nodes}
 use Rattle.dep_graph.specs.declared.targets.Side.{Side}
-use Rattle.dep_graph.specs.declared.targets.Side.TheVariants as side
-use Rattle.dep_graph.specs.declared.links.Link.{Link}
-use Rattle.dep_graph.proofs.Elements.{either_way, none_in, head_in, tail_in, in_cases, in_one}
+use Rattle.dep_graph.proofs.Elements.{either_way, none_in, head_in, tail_in, in_cases}
 
 -- a reference among some names this place, and this is the place's number
 pub record IsNodeOf (s : Side) (c : Catalog) (refs : List Ref) (n : ℕ) : Type 0 where
@@ -46,10 +42,10 @@ module _ (s : Side) (c : Catalog) (at : ℕ) where
   come_step ref refs old ns None is h rest n k = absurd (err_ok _ ns h)
   come_step ref refs old ns (Some place) is h rest n k =
       either_way
-        (λ front. either_way (λ was. inl was) (λ same. inr (record { ref = ref; place = place; among = head_in ref refs; names = is; is = sym same }))
-            (Contains-push_cases old (side_number s c place) n front))
-        (λ more. inr (weaker s c ref refs n more))
-        (rest (side_number s c place) h n k)
+      (λ front. either_way (λ was. inl was) (λ same. inr (record { ref = ref; place = place; among = head_in ref refs; names = is; is = sym same }))
+      (Contains-push_cases old (side_number s c place) n front))
+      (λ more. inr (weaker s c ref refs n more))
+      (rest (side_number s c place) h n k)
 
   pub nodes_come : (refs : List Ref) (old ns : List ℕ) → with_nodes s c at refs old ≡ Ok ns → (n : ℕ) → Contains ns n → Contains old n ⊎ IsNodeOf s c refs n
   nodes_come [] old ns h n k = inl (subst (λ xs. Contains xs n) (sym (ok_same old ns h)) k)

@@ -1,29 +1,28 @@
 -- Paths between numbers are paths between nodes.
-use Rattle.std.proofs.Common.{◌≡◌, ℕ, zero, suc, ◌+◌, ◌*◌, ◌<◌, ◌≤◌, List, [], ◌∷◌, ◌++◌, length, Bool, true, false, cond, Option, Some, None, ◌⊎◌, inl, inr, refl, sym, ap, subst, subst₂, ◌∙◌, arith}
-use Rattle.std.specs.List.{Contains, All}
+use Rattle.std.proofs.Common.{◌≡◌, ℕ, ◌+◌, ◌*◌, ◌<◌, ◌≤◌, List, ◌++◌, length, Some, inl, inr, refl, sym, ap, subst, subst₂, ◌∙◌, arith}
+use Rattle.std.specs.List.{Contains}
 use Rattle.std.proofs.lemmas.List.Elements.{Contains-append_left, Contains-append_right, Contains-append_cases}
-use Rattle.fs_semantics.specs.FileTree.{Path as FilePath}
 use Rattle.orders.specs.Paths.{HasEdge, EndsBelow, Path}
 use Rattle.orders.specs.Paths as paths
 use Rattle.catalog_semantics.specs.declared.catalog.Resource.{Resource}
 use Rattle.catalog_semantics.specs.declared.catalog.Relation.{Relation}
 use Rattle.catalog_semantics.specs.declared.catalog.Sort.{Sort}
 use Rattle.catalog_semantics.specs.declared.catalog.Sort.TheVariants as sort
-use Rattle.catalog_semantics.specs.Catalogs.{Catalog, is_plain_sort}
+use Rattle.catalog_semantics.specs.Catalogs.{Catalog}
 use Rattle.graph_semantics.specs.Relations.{real_at, metaparameter_relations, all_relations, Relates, IsRelated}
-use Rattle.graph_semantics.specs.Automatic.{ComesAfter, IsAutomatic, IsFileAt, Manages}
-use Rattle.graph_semantics.specs.Graphs.{Node, Start, End, rank, last_node, IsContainerAt, Leads, Edge, Before, plain_places}
+use Rattle.graph_semantics.specs.Automatic.{ComesAfter}
+use Rattle.graph_semantics.specs.Graphs.{Node, Start, End, rank, last_node, Leads, Edge, Before, plain_places}
 use Rattle.dep_graph.specs.Numbers.{last_at}
-use Rattle.dep_graph.specs.Numbered.{structure_edges, edges_of_links, hubs_after}
+use Rattle.dep_graph.specs.Numbered.{structure_edges, edges_of_links}
 use Rattle.dep_graph.specs.Named.{named_edges}
 use Rattle.dep_graph.specs.Files.{AreFiles, file_edges}
 use Rattle.dep_graph.specs.Whole.{bound_of, count_of, all_edges, AreLinks}
 use Rattle.dep_graph.specs.declared.links.Link.{Link}
 use Rattle.dep_graph.specs.declared.files.ManagedFile.{ManagedFile}
-use Rattle.dep_graph.proofs.Elements.{either_way, none_in}
+use Rattle.dep_graph.proofs.Elements.{either_way}
 use Rattle.dep_graph.proofs.ContainerLaws.{within, last_is, IsEdge, structure_from, whole_in, enters_in, leaves_in}
 use Rattle.dep_graph.proofs.LinkEdges.{IsHub, LinkEdge, Reached, link_edge_from, link_edge_in, hub_from, hub_below, one_hub, hub_of_link, hubs_grow}
-use Rattle.dep_graph.proofs.Related.{link_edge, related_link, low_from, low_to, low_last, target_real}
+use Rattle.dep_graph.proofs.Related.{link_edge, related_link, low_from, low_to, target_real}
 use Rattle.dep_graph.proofs.AutomaticLaws.{named_from, named_in, file_from, file_in}
 use Rattle.dep_graph.proofs.NamedLaws.{all_from}
 
@@ -106,11 +105,11 @@ module _ (c : Catalog) (links : List Link) (files : List ManagedFile) (are : Are
   pub step : (x y : ℕ) → Contains es (x, y) → Step c links x y
   step x y h =
       either_way (λ m. Step.node (structure_from c (length c.resources) (x, y) m))
-        (λ rest. either_way (λ m. step_of c links are x y (link_edge_from (bound_of c) links x y m))
-          (λ more. either_way (λ m. Step.node (named_from c links are (x, y) m)) (λ m. Step.node (file_from c links files are files_are (x, y) m))
-            (Contains-append_cases named (file_edges links files) (x, y) more))
-          (Contains-append_cases joined (named ++ file_edges links files) (x, y) rest))
-        (Contains-append_cases structure (joined ++ (named ++ file_edges links files)) (x, y) h)
+      (λ rest. either_way (λ m. step_of c links are x y (link_edge_from (bound_of c) links x y m))
+      (λ more. either_way (λ m. Step.node (named_from c links are (x, y) m)) (λ m. Step.node (file_from c links files are files_are (x, y) m))
+      (Contains-append_cases named (file_edges links files) (x, y) more))
+      (Contains-append_cases joined (named ++ file_edges links files) (x, y) rest))
+      (Contains-append_cases structure (joined ++ (named ++ file_edges links files)) (x, y) h)
 
   in_structure : (e : ℕ × ℕ) → Contains structure e → Contains es e
   in_structure e m = Contains-append_left structure (joined ++ (named ++ file_edges links files)) e m
@@ -121,12 +120,12 @@ module _ (c : Catalog) (links : List Link) (files : List ManagedFile) (are : Are
   in_named : (e : ℕ × ℕ) → Contains named e → Contains es e
   in_named e m =
       Contains-append_right structure (joined ++ (named ++ file_edges links files)) e
-        (Contains-append_right joined (named ++ file_edges links files) e (Contains-append_left named (file_edges links files) e m))
+      (Contains-append_right joined (named ++ file_edges links files) e (Contains-append_left named (file_edges links files) e m))
 
   in_files : (e : ℕ × ℕ) → Contains (file_edges links files) e → Contains es e
   in_files e m =
       Contains-append_right structure (joined ++ (named ++ file_edges links files)) e
-        (Contains-append_right joined (named ++ file_edges links files) e (Contains-append_right named (file_edges links files) e m))
+      (Contains-append_right joined (named ++ file_edges links files) e (Contains-append_right named (file_edges links files) e m))
 
   -- ---- each edge is a path
 

@@ -1,5 +1,5 @@
 -- Automatic edges between files.
-use Rattle.std.specs.Prelude.{◌≡◌, ◌↔◌, ℕ, zero, suc, Bool, true, false, ◌&&◌, nat_lt, nat_le, max, if◌then◌else◌, List, [], ◌∷◌, ◌++◌, take, length, codes, Option, Some, None, slice_get}
+use Rattle.std.specs.Prelude.{◌≡◌, ◌↔◌, ℕ, Bool, ◌&&◌, nat_lt, nat_le, max, if◌then◌else◌, List, [], ◌∷◌, length, codes, Option, Some, None, slice_get}
 use Rattle.std.specs.List.{Contains, flat_map}
 use Rattle.fs_semantics.specs.FileTree.{Path}
 use Rattle.fs_lang.specs.PathText.{IsPathText}

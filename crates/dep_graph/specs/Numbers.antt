@@ -1,9 +1,9 @@
 -- The numbers of nodes.
-use Rattle.std.specs.Prelude.{◌≡◌, ℕ, ◌+◌, ◌*◌, Bool, List, Option, Some, None, is_some, slice_get}
+use Rattle.std.specs.Prelude.{ℕ, Bool, Option, Some, None, is_some, slice_get}
 use Rattle.catalog_semantics.specs.declared.catalog.Resource.{Resource}
 use Rattle.catalog_semantics.specs.Catalogs.{Catalog}
 use Rattle.graph_semantics.specs.Relations.{real_at}
-use Rattle.graph_semantics.specs.Graphs.{Node, Start, rank, last_node}
+use Rattle.graph_semantics.specs.Graphs.{Node, Start, last_node}
 
 -- where the resource at a place is done
 abbrev pub last_of : Option Resource → ℕ → Node

@@ -1,7 +1,6 @@
 -- All edges of a catalog, between numbers.
-use Rattle.std.specs.Prelude.{◌≡◌, ◌≤◌, ℕ, ◌*◌, List, [], ◌++◌, length, Ok}
+use Rattle.std.specs.Prelude.{◌≡◌, ℕ, ◌*◌, List, [], ◌++◌, length, Ok}
 use Rattle.catalog_semantics.specs.Catalogs.{Catalog}
-use Rattle.catalog_semantics.specs.States.{declared_limit}
 use Rattle.graph_semantics.specs.Relations.{all_relations}
 use Rattle.graph_semantics.specs.Graphs.{plain_places}
 use Rattle.dep_graph.specs.Links.{with_links}

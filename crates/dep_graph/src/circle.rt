@@ -38,12 +38,7 @@ pub fn push_reference_at(
 }
 
 /// Adds a node where something begins.
-fn push_start(
-    alloc: Global,
-    catalog: &Catalog,
-    place: u32,
-    text: &mut Text,
-) -> Result<(), NoMemory>
+fn push_start(alloc: Global, catalog: &Catalog, place: u32, text: &mut Text) -> Result<(), NoMemory>
     ensures { OnOk result (text.new ≡ text.old ++ start_text (slice_get catalog.now.resources place)) }
 {
     let Some(r) = resource_at(catalog, place) else {
@@ -56,12 +51,7 @@ fn push_start(
 }
 
 /// Adds a node where something ends.
-fn push_end(
-    alloc: Global,
-    catalog: &Catalog,
-    place: u32,
-    text: &mut Text,
-) -> Result<(), NoMemory>
+fn push_end(alloc: Global, catalog: &Catalog, place: u32, text: &mut Text) -> Result<(), NoMemory>
     ensures { OnOk result (text.new ≡ text.old ++ end_text (slice_get catalog.now.resources place)) }
 {
     let Some(r) = resource_at(catalog, place) else {
@@ -86,12 +76,7 @@ fn push_number(
     }
 }
 
-fn around(
-    alloc: Global,
-    catalog: &Catalog,
-    bound: u32,
-    numbers: &[u32],
-) -> Result<Text, NoMemory>
+fn around(alloc: Global, catalog: &Catalog, bound: u32, numbers: &[u32]) -> Result<Text, NoMemory>
     ensures { IfOk result (λ text. text ≡ around_text catalog.now bound numbers.now) }
 {
     let mut text = Text::new(alloc);

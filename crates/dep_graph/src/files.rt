@@ -118,11 +118,7 @@ fn is_nearest(n: usize, p: &Path, q: &Path) -> bool
 }
 
 /// The places of the nearest files above a path.
-fn nearest_places(
-    alloc: Global,
-    files: &[ManagedFile],
-    p: &Path,
-) -> Result<Seq<u32>, NoMemory>
+fn nearest_places(alloc: Global, files: &[ManagedFile], p: &Path) -> Result<Seq<u32>, NoMemory>
     ensures { IfOk result (λ places. places ≡ nearest_places files.now p.now) }
 {
     let n = nearest(files, p);

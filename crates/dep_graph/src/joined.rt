@@ -80,11 +80,7 @@ fn push_link(link: &Link, hub: u32, edges: &mut Seq<(u32, u32)>) -> Result<u32, 
 }
 
 /// Adds the edges of relations, and answers which number is free then.
-pub fn push_links(
-    links: &[Link],
-    first: u32,
-    edges: &mut Seq<(u32, u32)>,
-) -> Result<u32, NoMemory>
+pub fn push_links(links: &[Link], first: u32, edges: &mut Seq<(u32, u32)>) -> Result<u32, NoMemory>
     ensures edges { OnOk result (edges.new ≡ edges.old ++ edges_of_links first links.now) }
     ensures hub { IfOk result (λ next. next ≡ hubs_after first links.now) }
 {

@@ -129,11 +129,7 @@ fn push_resource(
 
 /// What the metaparameters say.
 #[tactic(auto, using(crate::proofs::Chains::next_links, crate::proofs::Chains::links_end))]
-fn push_metaparameters(
-    alloc: Global,
-    catalog: &Catalog,
-    links: &mut Seq<Link>,
-) -> Result<(), Fault>
+fn push_metaparameters(alloc: Global, catalog: &Catalog, links: &mut Seq<Link>) -> Result<(), Fault>
     requires few { length catalog.now.resources ≤ declared_limit }
     ensures { AnswersBy (λ done. links.new) (with_links catalog.now (metaparameter_relations catalog.now) links.old) result }
 {
@@ -153,8 +149,20 @@ fn push_arrow(
     requires few { length catalog.now.resources ≤ declared_limit }
     ensures { AnswersBy (λ done. links.new) (with_link catalog.now relation.now links.old) result }
 {
-    let from = nodes_of(alloc, catalog, Side::From, relation.at, relation.from.as_slice())?;
-    let to = nodes_of(alloc, catalog, Side::To, relation.at, relation.to.as_slice())?;
+    let from = nodes_of(
+        alloc,
+        catalog,
+        Side::From,
+        relation.at,
+        relation.from.as_slice(),
+    )?;
+    let to = nodes_of(
+        alloc,
+        catalog,
+        Side::To,
+        relation.at,
+        relation.to.as_slice(),
+    )?;
     links.push(Link { from, to })?;
     Ok(())
 }

@@ -283,15 +283,50 @@ fn targets_by_names(
     let mut targets = Seq::new(alloc);
     let kind = r.id.kind.as_str();
     if kind == "file" {
-        push_text(alloc, catalog, plain, "user", r.attrs.find("owner"), &mut targets)?;
-        push_text(alloc, catalog, plain, "group", r.attrs.find("group"), &mut targets)?;
+        push_text(
+            alloc,
+            catalog,
+            plain,
+            "user",
+            r.attrs.find("owner"),
+            &mut targets,
+        )?;
+        push_text(
+            alloc,
+            catalog,
+            plain,
+            "group",
+            r.attrs.find("group"),
+            &mut targets,
+        )?;
     } else if kind == "user" {
-        push_text(alloc, catalog, plain, "group", r.attrs.find("gid"), &mut targets)?;
-        push_texts(alloc, catalog, plain, "group", r.attrs.find("groups"), &mut targets)?;
+        push_text(
+            alloc,
+            catalog,
+            plain,
+            "group",
+            r.attrs.find("gid"),
+            &mut targets,
+        )?;
+        push_texts(
+            alloc,
+            catalog,
+            plain,
+            "group",
+            r.attrs.find("groups"),
+            &mut targets,
+        )?;
     } else if kind == "cron" {
         push_user_or_root(alloc, catalog, plain, r.attrs.find("user"), &mut targets)?;
     } else if kind == "ssh_authorized_key" {
-        push_text(alloc, catalog, plain, "user", r.attrs.find("user"), &mut targets)?;
+        push_text(
+            alloc,
+            catalog,
+            plain,
+            "user",
+            r.attrs.find("user"),
+            &mut targets,
+        )?;
     }
     Ok(targets)
 }

@@ -74,7 +74,14 @@ fn push_row(
 {
     for j in 0..order.count() {
         let before = comes(order, i, j);
-        push_pair_if(alloc, catalog, before, plain[i as usize], plain[j as usize], text)?;
+        push_pair_if(
+            alloc,
+            catalog,
+            before,
+            plain[i as usize],
+            plain[j as usize],
+            text,
+        )?;
     }
     Ok(())
 }

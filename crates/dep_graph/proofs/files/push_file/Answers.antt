@@ -12,7 +12,7 @@ returns-in-Some-2 c =
     let file = subst (FilePathIs c.in-Some.r.now) c.in-Some-2.is c.in_ok-path.ensures in
     on_ok_weaker c.push.result
     (λ is places are. subst (AreFiles c.args.catalog.now (places ++ c.args.place ∷ [])) (sym is)
-      (one_more_file c.path_texts.ensures.once c.args.catalog.now places c.args.files.now (record { path = c.in-Some-2.path; place = c.args.place }) c.in-Some.r.now (sym c.in-Some.ensures) file are))
+    (one_more_file c.path_texts.ensures.once c.args.catalog.now places c.args.files.now (record { path = c.in-Some-2.path; place = c.args.place }) c.in-Some.r.now (sym c.in-Some.ensures) file are))
     c.push.ensures.ok
 
 pub returns-in-None : goal.returns-in-None

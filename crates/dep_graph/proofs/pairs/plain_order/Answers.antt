@@ -12,9 +12,10 @@ pub returns-in-Ok-clause-before : goal.returns-in-Ok-clause-before
 returns-in-Ok-clause-before c = λ i j left right.
     let es = pairs_below c.args.whole.now c.args.plain.now (length c.args.plain.now) in
     let are = c.as_slice.ensures ∙ c.in_ok-pairs.ensures in
-    let told = c.in-Ok.ensures.before i j in
-    (λ h. pairs_path c.args.whole.now c.args.plain.now c.count.ensures.ordered i j (subst (λ xs. Path xs i j) are (told.0 h)),
-      λ h. told.1 (subst (λ xs. Path xs i j) (sym are) (path_of_pairs c.args.whole.now c.args.plain.now i j left right h)))
+    let told = c.in-Ok.ensures.before i j in (
+      λ h. pairs_path c.args.whole.now c.args.plain.now c.count.ensures.ordered i j (subst (λ xs. Path xs i j) are (told.0 h)),
+      λ h. told.1 (subst (λ xs. Path xs i j) (sym are) (path_of_pairs c.args.whole.now c.args.plain.now i j left right h)),
+    )
 
 pub unreachable-requires : goal.unreachable-requires
 unreachable-requires c =

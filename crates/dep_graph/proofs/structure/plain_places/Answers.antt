@@ -11,6 +11,6 @@ loop-place-preserved c =
     let next = plain_more c.args.catalog.now.resources n c.get.result.now c.loop-place.places (plain_places c.args.catalog.now) c.get.ensures c.loop-place.invariant in
     let passes = λ (t : Bool). cond t (c.loop-place.places ++ n ∷ []) c.loop-place.places ++ rest in
     elim c.if-is_real_plain.branch [
-        then-is_real_plain+in_ok-push w ↦ ap (λ ps. ps ++ rest) (w.places-is ∙ w.in_ok-push.ensures.ok) ∙ sym (ap passes (sym c.is_real_plain.ensures ∙ w.if-is_real_plain.true)) ∙ next
+      | then-is_real_plain+in_ok-push w ↦ ap (λ ps. ps ++ rest) (w.places-is ∙ w.in_ok-push.ensures.ok) ∙ sym (ap passes (sym c.is_real_plain.ensures ∙ w.if-is_real_plain.true)) ∙ next
       | else-is_real_plain w ↦ ap (λ ps. ps ++ rest) w.places-is ∙ sym (ap passes (sym c.is_real_plain.ensures ∙ w.if-is_real_plain.false)) ∙ next
     ]
