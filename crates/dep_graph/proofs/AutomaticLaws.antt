@@ -1,0 +1,245 @@
+-- The automatic edges that are made are those of the table.
+use Rattle.std.proofs.Common.{◌≡◌, ℕ, zero, suc, ◌+◌, ◌*◌, ◌≤◌, List, [], ◌∷◌, length, Bool, true, false, cond, ◌&&◌, Option, Some, None, refl, sym, ap, subst, ◌∙◌, arith, option_and_then}
+use Rattle.std.specs.Prelude.{slice_get, not}
+use Rattle.std.specs.List.{Contains}
+use Rattle.std.specs.Str.{bytes_eq}
+use Rattle.std.specs.Cmp.Lexicographic.{bytes_decides}
+use Rattle.fs_semantics.specs.FileTree.{Path}
+use Rattle.fs_semantics.specs.Disjoint.{IsAncestor}
+use Rattle.catalog_semantics.specs.declared.catalog.Resource.{Resource}
+use Rattle.catalog_semantics.specs.Catalogs.{Catalog, is_plain_sort}
+use Rattle.graph_semantics.specs.Relations.{if_real, IsRelated}
+use Rattle.graph_semantics.specs.Automatic.{IsPlainAt, IsFileAt, Manages, ComesAfter, named_by, name_of}
+use Rattle.graph_semantics.specs.Graphs.{Start, Edge, plain_from, plain_places}
+use Rattle.dep_graph.specs.Named.{is_linked, kept_edge, kept_edges, is_proper, is_text, has_name, named_among, named_targets, targets_by_names, edges_by_names, named_edges}
+use Rattle.dep_graph.specs.Files.{FilePath, IsFileAmong, AreFiles, nearest, nearest_places, file_edges}
+use Rattle.dep_graph.specs.Whole.{AreLinks}
+use Rattle.dep_graph.specs.declared.links.Link.{Link}
+use Rattle.dep_graph.specs.declared.files.ManagedFile.{ManagedFile}
+use Rattle.dep_graph.proofs.Elements.{either_way, none_in, head_in, tail_in, in_cases, in_one, in_flat_map, flat_map_in, in_filter, filter_in}
+use Rattle.dep_graph.proofs.ContainerLaws.{stands, isnt_virtual, IsEdge}
+use Rattle.dep_graph.proofs.FrontLaws.{above_ancestor, ancestor_above}
+use Rattle.dep_graph.proofs.NamedLaws.{proper_name, name_proper}
+use Rattle.dep_graph.proofs.FileLaws.{farthest, nearest_least, near_from, near_in}
+use Rattle.dep_graph.proofs.Related.{linked_related, related_linked}
+
+no_way : false ≡ true → ⊥
+no_way h = cc
+
+some_same : {X : Type 0} (x y : X) → ◌≡◌ {A = Option X} (Some x) (Some y) → x ≡ y
+some_same x y h = cc
+
+both_true : (a b : Bool) → (a && b) ≡ true → (a ≡ true) × (b ≡ true)
+both_true true b h = (refl, h)
+both_true false b h = absurd (no_way h)
+
+true_both : (a b : Bool) → a ≡ true → b ≡ true → (a && b) ≡ true
+true_both true b h k = k
+true_both false b h k = absurd (no_way h)
+
+-- ---- plain places
+
+-- a real plain resource stands at this index, whose place is counted from n
+record StandsPlain (n : ℕ) (resources : List Resource) (k : ℕ) : Type 0 where
+  pub index : ℕ
+  pub resource : Resource
+  pub at : slice_get resources index ≡ Some resource
+  pub is : k ≡ n + index
+  pub plain : is_plain_sort resource.sort ≡ true
+  pub real : resource.is_virtual ≡ false
+
+not_true : (t : Bool) → not t ≡ true → t ≡ false
+not_true true h = absurd (no_way h)
+not_true false h = refl
+
+one_on : (n k : ℕ) (r : Resource) (resources : List Resource) → StandsPlain (n + 1) resources k → StandsPlain n (r ∷ resources) k
+one_on n k r resources h = record { index = suc h.index; resource = h.resource; at = h.at; is = omega (arith, h.is); plain = h.plain; real = h.real }
+
+plain_step : (n k : ℕ) (r : Resource) (resources : List Resource) (t : Bool) → (is_plain_sort r.sort && not r.is_virtual) ≡ t → (Contains (plain_from (n + 1) resources) k → StandsPlain (n + 1) resources k)
+    → Contains (cond t (n ∷ plain_from (n + 1) resources) (plain_from (n + 1) resources)) k → StandsPlain n (r ∷ resources) k
+plain_step n k r resources true is f h =
+    let both = both_true (is_plain_sort r.sort) (not r.is_virtual) is in
+    either_way (λ e. record { index = 0; resource = r; at = refl; is = omega (arith, e); plain = both.0; real = not_true r.is_virtual both.1 }) (λ m. one_on n k r resources (f m))
+    (in_cases n k (plain_from (n + 1) resources) h)
+plain_step n k r resources false is f h = one_on n k r resources (f h)
+
+plain_stands : (n k : ℕ) (resources : List Resource) → Contains (plain_from n resources) k → StandsPlain n resources k
+plain_stands n k [] h = absurd (none_in k h)
+plain_stands n k (r ∷ resources) h = plain_step n k r resources (is_plain_sort r.sort && not r.is_virtual) refl (plain_stands (n + 1) k resources) h
+
+first_plain : (n : ℕ) (t : Bool) (rest : List ℕ) → t ≡ true → Contains (cond t (n ∷ rest) rest) n
+first_plain n true rest h = head_in n rest
+first_plain n false rest h = absurd (no_way h)
+
+later_plain : (n k : ℕ) (t : Bool) (rest : List ℕ) → Contains rest k → Contains (cond t (n ∷ rest) rest) k
+later_plain n k true rest h = tail_in n k rest h
+later_plain n k false rest h = h
+
+plain_in_from : (n i : ℕ) (resources : List Resource) (r : Resource) → slice_get resources i ≡ Some r → (is_plain_sort r.sort && not r.is_virtual) ≡ true → Contains (plain_from n resources) (n + i)
+plain_in_from n i [] r h p = absurd (none_some h) where
+  none_some : ◌≡◌ {A = Option Resource} None (Some r) → ⊥
+  none_some h = cc
+plain_in_from n zero (q ∷ resources) r h p =
+    let first : n ≡ n + 0 = omega arith in
+    subst (Contains (plain_from n (q ∷ resources))) first
+    (first_plain n (is_plain_sort q.sort && not q.is_virtual) (plain_from (n + 1) resources) (ap (λ (x : Resource). is_plain_sort x.sort && not x.is_virtual) (some_same q r h) ∙ p))
+plain_in_from n (suc i) (q ∷ resources) r h p =
+    let next : (n + 1) + i ≡ n + suc i = omega arith in
+    later_plain n (n + suc i) (is_plain_sort q.sort && not q.is_virtual) (plain_from (n + 1) resources)
+    (subst (Contains (plain_from (n + 1) resources)) next (plain_in_from (n + 1) i resources r h p))
+
+real_of : (r : Resource) (t : Bool) → r.is_virtual ≡ t → t ≡ false → cond t None (Some r) ≡ Some r
+real_of r true is h = absurd (no_way (sym h))
+real_of r false is h = refl
+
+pub plain_at : (c : Catalog) (k : ℕ) → Contains (plain_places c) k → (r : Resource) × IsPlainAt c k r
+plain_at c k h =
+    let at = plain_stands 0 k c.resources h in
+    let same : at.index ≡ k = omega (arith, at.is) in (
+      at.resource,
+      record {
+        real = ap (option_and_then if_real) (subst (λ i. slice_get c.resources i ≡ Some at.resource) same at.at) ∙ real_of at.resource at.resource.is_virtual refl at.real;
+        plain = at.plain;
+      },
+    )
+
+pub plain_in : (c : Catalog) (k : ℕ) (r : Resource) → IsPlainAt c k r → Contains (plain_places c) k
+plain_in c k r h =
+    let zero_more : 0 + k ≡ k = omega arith in
+    subst (Contains (plain_places c)) zero_more
+    (plain_in_from 0 k c.resources r (stands c k r h.real) (true_both (is_plain_sort r.sort) (not r.is_virtual) h.plain (ap not (isnt_virtual c k r h.real))))
+
+-- ---- an edge that is kept
+
+kept_from : (links : List Link) (target place : ℕ) (t : Bool) (e : ℕ × ℕ) → is_linked links (2 * place) (2 * target) ≡ t → Contains (cond t [] ((2 * target, 2 * place) ∷ [])) e
+    → (is_linked links (2 * place) (2 * target) ≡ false) × ((2 * target, 2 * place) ≡ e)
+kept_from links target place true e is h = absurd (none_in e h)
+kept_from links target place false e is h = (is, in_one (2 * target, 2 * place) e h)
+
+-- an automatic edge, by numbers
+automatic_edge : (c : Catalog) (links : List Link) → AreLinks c links → (place target : ℕ) (r : Resource) (e : ℕ × ℕ) → IsPlainAt c place r → ComesAfter c place target
+    → Contains (kept_edge links target place) e → IsEdge c e
+automatic_edge c links are place target r e plain after h =
+    let kept = kept_from links target place (is_linked links (2 * place) (2 * target)) e refl h in
+    let free : IsRelated c place target → ⊥ = λ related. no_way (sym kept.0 ∙ related_linked c links are place target r plain.real plain.plain related) in
+    subst (IsEdge c) kept.1 (record {
+      from = Start target;
+      to = Start place;
+      edge = Edge.automatic target place (record { after = after; free = free }) refl refl;
+      from_is = refl;
+      to_is = refl;
+    })
+
+unlinked_kept : (links : List Link) (target place : ℕ) (t : Bool) → is_linked links (2 * place) (2 * target) ≡ t → (t ≡ true → ⊥) → Contains {X = ℕ × ℕ} (cond t [] ((2 * target, 2 * place) ∷ [])) (2 * target, 2 * place)
+unlinked_kept links target place true is h = absurd (h refl)
+unlinked_kept links target place false is h = head_in (2 * target, 2 * place) []
+
+pub kept_in : (c : Catalog) (links : List Link) → AreLinks c links → (place target : ℕ) → (IsRelated c place target → ⊥) → Contains (kept_edge links target place) (2 * target, 2 * place)
+kept_in c links are place target free =
+    unlinked_kept links target place (is_linked links (2 * place) (2 * target)) refl (λ h. free (linked_related c links are place target h))
+
+-- ---- names
+
+has_name_is : (c : Catalog) (kind name : List ℕ) (place : ℕ) (r : Resource) → IsPlainAt c place r → is_proper name ≡ true → has_name kind name (slice_get c.resources place) ≡ true → Manages c place kind name
+has_name_is c kind name place r plain proper h =
+    let here = ap (has_name kind name) (sym (stands c place r plain.real)) ∙ h in
+    let both = both_true (bytes_eq r.id.kind kind) (is_text name (name_of r)) here in
+    record { resource = r; plain = plain; kind_is = (bytes_decides r.id.kind kind).0 both.0; name_is = text_is (name_of r) both.1; proper = proper_name name proper } where
+      text_is : (o : Option (List ℕ)) → is_text name o ≡ true → o ≡ Some name
+      text_is None e = absurd (no_way e)
+      text_is (Some text) e = ap (λ (t : List ℕ). Some t) ((bytes_decides text name).0 e)
+
+manages_has : (c : Catalog) (kind name : List ℕ) (place : ℕ) → Manages c place kind name → has_name kind name (slice_get c.resources place) ≡ true
+manages_has c kind name place m =
+    ap (has_name kind name) (stands c place m.resource m.plain.real)
+    ∙ true_both (bytes_eq m.resource.id.kind kind) (is_text name (name_of m.resource)) ((bytes_decides m.resource.id.kind kind).1 m.kind_is)
+    (ap (is_text name) m.name_is ∙ (bytes_decides name name).1 refl)
+
+proper_targets : (c : Catalog) (plain : List ℕ) (who : List ℕ × List ℕ) (k : ℕ) (t : Bool) → is_proper who.1 ≡ t → Contains (cond t (named_among c who.0 who.1 plain) []) k
+    → (is_proper who.1 ≡ true) × Contains (named_among c who.0 who.1 plain) k
+proper_targets c plain who k true is h = (is, h)
+proper_targets c plain who k false is h = absurd (none_in k h)
+
+named_after : (c : Catalog) (place k : ℕ) (r : Resource) → IsPlainAt c place r → Contains (targets_by_names c (plain_places c) r) k → ComesAfter c place k
+named_after c place k r plain h =
+    let at = in_flat_map (named_targets c (plain_places c)) (named_by r) k h in
+    let kind = at.0.0 in
+    let name = at.0.1 in
+    let found = proper_targets c (plain_places c) at.0 k (is_proper name) refl at.2 in
+    let among = in_filter (λ p. has_name kind name (slice_get c.resources p)) (plain_places c) k found.1 in
+    let target = plain_at c k among.0 in
+    ComesAfter.named r kind name plain at.1 (has_name_is c kind name k target.0 target.1 found.0 among.1)
+
+by_names_from : (c : Catalog) (links : List Link) → AreLinks c links → (place : ℕ) (r : Resource) (e : ℕ × ℕ) → IsPlainAt c place r
+    → Contains (edges_by_names c links (plain_places c) place (slice_get c.resources place)) e → IsEdge c e
+by_names_from c links are place r e plain h =
+    let here = subst (λ o. Contains (edges_by_names c links (plain_places c) place o) e) (stands c place r plain.real) h in
+    let at = in_flat_map (λ target. kept_edge links target place) (targets_by_names c (plain_places c) r) e here in
+    automatic_edge c links are place at.0 r e plain (named_after c place at.0 r plain at.1) at.2
+
+pub named_from : (c : Catalog) (links : List Link) → AreLinks c links → (e : ℕ × ℕ) → Contains (named_edges c links (plain_places c) (plain_places c)) e → IsEdge c e
+named_from c links are e h =
+    let at = in_flat_map (λ place. edges_by_names c links (plain_places c) place (slice_get c.resources place)) (plain_places c) e h in
+    let r = plain_at c at.0 at.1 in
+    by_names_from c links are at.0 r.0 e r.1 at.2
+
+pub named_in : (c : Catalog) (links : List Link) → AreLinks c links → (place target : ℕ) (r : Resource) (kind name : List ℕ) → IsPlainAt c place r → Contains (named_by r) (kind, name) → Manages c target kind name
+    → (IsRelated c place target → ⊥) → Contains (named_edges c links (plain_places c) (plain_places c)) (2 * target, 2 * place)
+named_in c links are place target r kind name plain names m free =
+    let among = filter_in (λ p. has_name kind name (slice_get c.resources p)) (plain_places c) target (plain_in c target m.resource m.plain) (manages_has c kind name target m) in
+    let proper : Contains (named_targets c (plain_places c) (kind, name)) target =
+    subst (λ t. Contains (cond t (named_among c kind name (plain_places c)) []) target) (sym (name_proper name m.proper)) among in
+    let targets = flat_map_in (named_targets c (plain_places c)) (named_by r) (kind, name) target names proper in
+    let edges = flat_map_in (λ k. kept_edge links k place) (targets_by_names c (plain_places c) r) target (2 * target, 2 * place) targets (kept_in c links are place target free) in
+    flat_map_in (λ p. edges_by_names c links (plain_places c) p (slice_get c.resources p)) (plain_places c) place (2 * target, 2 * place) (plain_in c place r plain)
+    (subst (λ o. Contains (edges_by_names c links (plain_places c) place o) (2 * target, 2 * place)) (sym (stands c place r plain.real)) edges)
+
+-- ---- files
+
+-- a file among the plain resources is a managed file
+file_at : (c : Catalog) (f : ManagedFile) → IsFileAmong c (plain_places c) f → IsFileAt c f.place f.path
+file_at c f h =
+    let r = plain_at c f.place h.place in
+    let same = some_same r.0 h.resource (sym (stands c f.place r.0 r.1.real) ∙ h.at) in
+    let file = subst (λ (x : Resource). FilePath x f.path) (sym same) h.file in
+    record { resource = r.0; plain = r.1; kind = file.kind; text = file.text; given = file.given; spelled = file.spelled; free = file.free }
+
+at_file : (c : Catalog) (place : ℕ) (p : Path) → IsFileAt c place p → IsFileAmong c (plain_places c) (record { path = p; place = place })
+at_file c place p h = record {
+  place = plain_in c place h.resource h.plain;
+  resource = h.resource;
+  at = stands c place h.resource h.plain.real;
+  file = record { kind = h.kind; text = h.text; given = h.given; spelled = h.spelled; free = h.free };
+}
+
+file_after : (c : Catalog) (files : List ManagedFile) → AreFiles c (plain_places c) files → (f : ManagedFile) → Contains files f → (k : ℕ) → Contains (nearest_places files f.path) k → ComesAfter c f.place k
+file_after c files are f among k h =
+    let near = near_from (nearest files f.path) f.path files k h in
+    let mine = file_at c f ((are f).0 among) in
+    let other = subst (λ place. IsFileAt c place near.file.path) near.place (file_at c near.file ((are near.file).0 near.among)) in
+    ComesAfter.ancestor f.path near.file.path mine other (above_ancestor near.file.path f.path near.above)
+    (λ place o at above.
+    let there = (are (record { path = o; place = place })).1 (at_file c place o at) in
+    let most = farthest files f.path (record { path = o; place = place }) there (ancestor_above o f.path above) in
+    let enough = near.near in
+    omega arith)
+
+pub file_from : (c : Catalog) (links : List Link) (files : List ManagedFile) → AreLinks c links → AreFiles c (plain_places c) files → (e : ℕ × ℕ) → Contains (file_edges links files) e → IsEdge c e
+file_from c links files are files_are e h =
+    let at = in_flat_map (λ f. kept_edges links f.place (nearest_places files f.path)) files e h in
+    let kept = in_flat_map (λ target. kept_edge links target at.0.place) (nearest_places files at.0.path) e at.2 in
+    let mine = file_at c at.0 ((files_are at.0).0 at.1) in
+    automatic_edge c links are at.0.place kept.0 mine.resource e mine.plain (file_after c files files_are at.0 at.1 kept.0 kept.1) kept.2
+
+pub file_in : (c : Catalog) (links : List Link) (files : List ManagedFile) → AreLinks c links → AreFiles c (plain_places c) files → (place target : ℕ) (p q : Path) → IsFileAt c place p → IsFileAt c target q
+    → IsAncestor q p → ((other : ℕ) (o : Path) → IsFileAt c other o → IsAncestor o p → length o ≤ length q) → (IsRelated c place target → ⊥) → Contains (file_edges links files) (2 * target, 2 * place)
+file_in c links files are files_are place target p q mine other above far free =
+    let f : ManagedFile = record { path = p; place = place } in
+    let g : ManagedFile = record { path = q; place = target } in
+    let there = (files_are f).1 (at_file c place p mine) in
+    let target_there = (files_are g).1 (at_file c target q other) in
+    let near : nearest files p ≤ length q = nearest_least files p (length q)
+    (λ x among is. far x.place x.path (file_at c x ((files_are x).0 among)) (above_ancestor x.path p is)) in
+    let found = near_in (nearest files p) p files target (record { file = g; among = target_there; above = ancestor_above q p above; near = near; place = refl }) in
+    flat_map_in (λ x. kept_edges links x.place (nearest_places files x.path)) files f (2 * target, 2 * place) there
+    (flat_map_in (λ k. kept_edge links k place) (nearest_places files p) target (2 * target, 2 * place) found (kept_in c links are place target free))

@@ -1,0 +1,42 @@
+-- How many numbers there are, and where the plain resources stand.
+use Rattle.std.proofs.Common.{ℕ, ◌+◌, ◌*◌, ◌<◌, ◌≤◌, List, [], ◌∷◌, length, Bool, true, false, cond, ◌&&◌, arith}
+use Rattle.std.specs.Prelude.{slice_index, not}
+use Rattle.std.specs.List.{All, Contains}
+use Rattle.std.proofs.lemmas.List.Elements.{Contains-get_or}
+use Rattle.catalog_semantics.specs.declared.catalog.Resource.{Resource}
+use Rattle.catalog_semantics.specs.Catalogs.{Catalog, is_plain_sort}
+use Rattle.catalog_semantics.specs.States.{declared_limit}
+use Rattle.graph_semantics.specs.Graphs.{plain_from, plain_places}
+use Rattle.dep_graph.specs.Files.{AreFiles}
+use Rattle.dep_graph.specs.Pairs.{IsWithin}
+use Rattle.dep_graph.specs.Whole.{bound_of}
+use Rattle.dep_graph.specs.declared.files.ManagedFile.{ManagedFile}
+use Rattle.dep_graph.proofs.ContainerLaws.{within}
+use Rattle.dep_graph.proofs.AutomaticLaws.{plain_at}
+use Rattle.dep_graph.proofs.NamedLaws.{all_from}
+
+pub place_within : (c : Catalog) (k : ℕ) → Contains (plain_places c) k → k < length c.resources
+place_within c k h = let at = plain_at c k h in within c k at.0 at.1.real
+
+pub places_small : (c : Catalog) → length c.resources ≤ declared_limit → All (λ p. p < declared_limit) (plain_places c)
+places_small c few = all_from (λ p. p < declared_limit) (plain_places c) (λ k h. let less = place_within c k h in omega arith)
+
+pub files_small : (c : Catalog) (files : List ManagedFile) → length c.resources ≤ declared_limit → AreFiles c (plain_places c) files → All (λ f. f.place < declared_limit) files
+files_small c files few are = all_from (λ (f : ManagedFile). f.place < declared_limit) files (λ f h. let less = place_within c f.place ((are f).0 h).place in omega arith)
+
+pub places_within : (c : Catalog) (count : ℕ) → length c.resources ≤ declared_limit → bound_of c ≤ count → All (IsWithin count) (plain_places c)
+places_within c count few enough =
+    all_from (IsWithin count) (plain_places c) (λ k h. let less = place_within c k h in record { node = omega arith; few = omega arith })
+
+pub place_low : (c : Catalog) (i : ℕ) → i < length (plain_places c) → 2 * slice_index (plain_places c) i < bound_of c
+place_low c i h = let less = place_within c (slice_index (plain_places c) i) (Contains-get_or (plain_places c) i 0 h) in omega arith
+
+shorter : (n : ℕ) (resources : List Resource) → length (plain_from n resources) ≤ length resources
+shorter n [] = omega arith
+shorter n (r ∷ resources) = step (is_plain_sort r.sort && not r.is_virtual) (shorter (n + 1) resources) where
+  step : (t : Bool) → length (plain_from (n + 1) resources) ≤ length resources → length (cond t (n ∷ plain_from (n + 1) resources) (plain_from (n + 1) resources)) ≤ length (r ∷ resources)
+  step true h = omega arith
+  step false h = omega arith
+
+pub few_places : (c : Catalog) → length c.resources ≤ declared_limit → length (plain_places c) ≤ declared_limit
+few_places c few = let h = shorter 0 c.resources in omega arith

@@ -1,0 +1,71 @@
+-- Paths above others, told by a test.
+use Rattle.std.proofs.Common.{◌≡◌, ◌≢◌, ℕ, ◌+◌, ◌<◌, List, [], ◌∷◌, ◌++◌, length, length-append, Bool, true, false, ◌&&◌, refl, sym, ap, ◌∙◌, arith}
+use Rattle.std.specs.Prelude.{IsTrue, nat_lt}
+use Rattle.std.specs.Str.{bytes_eq}
+use Rattle.std.specs.Cmp.Lexicographic.{bytes_decides}
+use Rattle.std.proofs.Common.{ltb-true, lt-ltb}
+use Rattle.fs_semantics.specs.FileTree.{Path}
+use Rattle.fs_semantics.specs.Disjoint.{IsAncestor}
+use Rattle.fs_lang.specs.Fronts.{is_front}
+use Rattle.dep_graph.specs.Files.{is_above}
+
+both_true : (a b : Bool) → (a && b) ≡ true → (a ≡ true) × (b ≡ true)
+both_true true b h = (refl, h)
+both_true false b h = absurd (no_way h) where
+  no_way : false ≡ true → ⊥
+  no_way h = cc
+
+same_bytes : (s r : List ℕ) → bytes_eq s r ≡ true → s ≡ r
+same_bytes s r h = (bytes_decides s r).0 h
+
+bytes_same : (s : List ℕ) → bytes_eq s s ≡ true
+bytes_same s = (bytes_decides s s).1 refl
+
+front_more : (p q : Path) → is_front p q ≡ true → (more : Path) × (q ≡ p ++ more)
+front_more [] q h = (q, refl)
+front_more (s ∷ p) [] h = absurd (no_way h) where
+  no_way : false ≡ true → ⊥
+  no_way h = cc
+front_more (s ∷ p) (r ∷ q) h =
+    let both = both_true (bytes_eq s r) (is_front p q) h in
+    let rest = front_more p q both.1 in
+    (rest.0, ap (λ x. x ∷ q) (sym (same_bytes s r both.0)) ∙ ap (λ x. s ∷ x) rest.1)
+
+more_front : (p more : Path) → is_front p (p ++ more) ≡ true
+more_front [] more = refl
+more_front (s ∷ p) more = ap (λ t. t && is_front p (p ++ more)) (bytes_same s) ∙ more_front p more
+
+longer : (p q more : Path) → q ≡ p ++ more → length p < length q → more ≢ []
+longer p q more is h none = let same : length q ≡ length p + length more = ap length is ∙ length-append p more in let zero : length more ≡ 0 = ap length none in omega arith
+
+nonempty_length : {X : Type 0} (xs : List X) → xs ≢ [] → 0 < length xs
+nonempty_length [] h = absurd (h refl)
+nonempty_length (x ∷ xs) h = omega arith
+
+pub above_ancestor : (p q : Path) → is_above p q ≡ true → IsAncestor p q
+above_ancestor p q h =
+    let both = both_true (nat_lt (length p) (length q)) (is_front p q) h in
+    let rest = front_more p q both.1 in
+    (rest.0, longer p q rest.0 rest.1 (ltb-true (length p) (length q) both.0), rest.1)
+
+pub ancestor_above : (p q : Path) → IsAncestor p q → is_above p q ≡ true
+ancestor_above p q h =
+    let long : length q ≡ length p + length h.0 = ap length h.2 ∙ length-append p h.0 in
+    let some = nonempty_length h.0 h.1 in
+    let less : nat_lt (length p) (length q) ≡ true = lt-ltb (length p) (length q) (omega arith) in
+    ap (λ t. t && is_front p q) less ∙ ap (is_front p) h.2 ∙ more_front p h.0
+
+pub told : (p q : Path) (t : Bool) → (IsTrue t → IsAncestor p q) × (IsAncestor p q → IsTrue t) → t ≡ is_above p q
+told p q true h = sym (ancestor_above p q (h.0 refl))
+told p q false h = decided (is_above p q) refl where
+  decided : (b : Bool) → is_above p q ≡ b → false ≡ is_above p q
+  decided true is = absurd (no_way (h.1 (above_ancestor p q is))) where
+    no_way : false ≡ true → ⊥
+    no_way h = cc
+  decided false is = sym is
+
+pub ancestor_shorter : (p q : Path) → IsAncestor p q → length p < length q
+ancestor_shorter p q h =
+    let long : length q ≡ length p + length h.0 = ap length h.2 ∙ length-append p h.0 in
+    let some = nonempty_length h.0 h.1 in
+    omega arith

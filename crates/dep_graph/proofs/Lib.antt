@@ -1,0 +1,16 @@
+pub mod Places
+pub mod Chains
+pub mod Elements
+pub mod Resolved
+pub mod FrontLaws
+pub mod ContainerLaws
+pub mod NamedLaws
+pub mod FileLaws
+pub mod LinkEdges
+pub mod Related
+pub mod AutomaticLaws
+pub mod Steps
+pub mod CircleLaws
+pub mod PairLaws
+pub mod Bounds
+pub mod Refusals

@@ -1,0 +1,4 @@
+pub mod Relations
+pub mod Automatic
+pub mod Graphs
+pub mod Allowed

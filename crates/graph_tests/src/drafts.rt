@@ -1,0 +1,195 @@
+//! Catalogs from small texts, and what is answered to them.
+//!
+//! Lines with `;` between them, each of words with blanks between. `plain`, `virtual`, `defined` or `class` begins a
+//! resource: its reference, and then attributes `name=value`, of which `in` names the holder. `arrow` begins a relation
+//! between two lists of references, and `contain` puts a class into a container. In a value commas stand between the
+//! members of a list, and a number has `#` in front. The place of a line is its number.
+
+use catalog::Catalog;
+use catalog_semantics::{Relation, Resource, Sort};
+use dep_graph::{graph, graph_text};
+use pp_value::{Pairs, Ref, Value};
+use rh_base::{Fault, NoMemory, Refusal, Seq, Text};
+use std::alloc::Global;
+use std::test::Fail;
+
+fn text_of(alloc: Global, s: &str) -> Result<Text, NoMemory> {
+    Ok(Text::from_string(String::from_str(alloc, s)?))
+}
+
+/// The reference that a word spells, as `file[/a]`.
+fn reference(alloc: Global, word: &str) -> Result<Option<Ref>, NoMemory> {
+    let Some((kind, rest)) = word.split_once('[') else {
+        return Ok(None);
+    };
+    let Some((title, _)) = rest.split_once(']') else {
+        return Ok(None);
+    };
+    let kind = text_of(alloc, kind)?;
+    let title = text_of(alloc, title)?;
+    Ok(Some(Ref { kind, title }))
+}
+
+/// A reference, a number or a text.
+fn single(alloc: Global, word: &str) -> Result<Value, NoMemory> {
+    if let Some(r) = reference(alloc, word)? {
+        return Ok(Value::Refer(r));
+    }
+    if word.starts_with('#') {
+        return Ok(Value::Int(7));
+    }
+    Ok(Value::Str(text_of(alloc, word)?))
+}
+
+/// The members between commas.
+fn members(alloc: Global, word: &str) -> Result<Seq<Value>, NoMemory> {
+    let mut found = Seq::new(alloc);
+    for part in word.split(',') {
+        found.push(single(alloc, part)?)?;
+    }
+    Ok(found)
+}
+
+fn value(alloc: Global, word: &str) -> Result<Value, NoMemory> {
+    if word.contains(',') {
+        Ok(Value::List(members(alloc, word)?))
+    } else {
+        single(alloc, word)
+    }
+}
+
+/// The references between commas.
+fn references(alloc: Global, word: &str) -> Result<Seq<Ref>, NoMemory> {
+    let mut refs = Seq::new(alloc);
+    for part in word.split(',') {
+        if let Some(r) = reference(alloc, part)? {
+            refs.push(r)?;
+        }
+    }
+    Ok(refs)
+}
+
+/// Where the resource stands that a word names.
+fn place(alloc: Global, catalog: &Catalog, word: &str) -> Result<Option<u32>, NoMemory> {
+    match reference(alloc, word)? {
+        Some(r) => Ok(catalog.find(&r)),
+        None => Ok(None),
+    }
+}
+
+fn put_attribute(
+    alloc: Global,
+    pairs: &mut Pairs,
+    name: &str,
+    given: &str,
+) -> Result<(), NoMemory> {
+    pairs.put(text_of(alloc, name)?, value(alloc, given)?)
+}
+
+/// A resource of some words: its reference, and then its attributes.
+fn resource(
+    alloc: Global,
+    catalog: &Catalog,
+    kind: &str,
+    at: u32,
+    rest: &str,
+) -> Result<Option<Resource>, NoMemory> {
+    let (spelled, rest) = rest.split_once(' ').unwrap_or((rest, ""));
+    let Some(id) = reference(alloc, spelled)? else {
+        return Ok(None);
+    };
+    let mut attrs = Pairs::new(alloc);
+    let mut holder = None;
+    for word in rest.split(' ') {
+        match word.split_once('=') {
+            Some(("in", outer)) => holder = place(alloc, catalog, outer)?,
+            Some((name, given)) => put_attribute(alloc, &mut attrs, name, given)?,
+            None => (),
+        }
+    }
+    let sort = match kind {
+        "defined" => Sort::Defined,
+        "class" => Sort::Class,
+        _ => Sort::Plain,
+    };
+    Ok(Some(Resource {
+        id,
+        sort,
+        is_virtual: kind == "virtual",
+        at,
+        holder,
+        attrs,
+    }))
+}
+
+fn relate(
+    alloc: Global,
+    catalog: &mut Catalog,
+    at: u32,
+    from: &str,
+    to: &str,
+) -> Result<(), NoMemory> {
+    let from = references(alloc, from)?;
+    let to = references(alloc, to)?;
+    catalog.relate(Relation { from, to, at })
+}
+
+fn contain(alloc: Global, catalog: &mut Catalog, outer: &str, class: &str) -> Result<(), NoMemory> {
+    let outer = place(alloc, catalog, outer)?;
+    let class = place(alloc, catalog, class)?;
+    match (outer, class) {
+        (Some(outer), Some(class)) => catalog.hold(outer, class),
+        _ => Ok(()),
+    }
+}
+
+fn add_line(alloc: Global, catalog: &mut Catalog, at: u32, line: &str) -> Result<(), Fault> {
+    let Some((kind, rest)) = line.split_once(' ') else {
+        return Ok(());
+    };
+    let (first, second) = rest.split_once(' ').unwrap_or((rest, ""));
+    match kind {
+        "arrow" => Ok(relate(alloc, catalog, at, first, second)?),
+        "contain" => Ok(contain(alloc, catalog, first, second)?),
+        _ => match resource(alloc, catalog, kind, at, rest)? {
+            Some(r) => {
+                catalog.add(r)?;
+                Ok(())
+            }
+            None => Ok(()),
+        },
+    }
+}
+
+/// The catalog that a text spells.
+pub fn catalog_of(alloc: Global, text: &str) -> Result<Catalog, Fault> {
+    let mut catalog = Catalog::new(alloc);
+    let mut at = 0u32;
+    for line in text.split(';') {
+        add_line(alloc, &mut catalog, at, line.trim_start())?;
+        at = at.saturating_add(1);
+    }
+    Ok(catalog)
+}
+
+fn graph_of(alloc: Global, text: &str) -> Result<Text, Fault> {
+    let catalog = catalog_of(alloc, text)?;
+    let found = graph(alloc, &catalog)?;
+    Ok(graph_text(alloc, &catalog, &found)?)
+}
+
+fn line_of(alloc: Global, refusal: &Refusal) -> Result<String, Fail> {
+    let number = refusal.number;
+    let at = refusal.at;
+    let name = refusal.name.as_str();
+    Ok(format!(in alloc; "{number} at {at}: {name}")?)
+}
+
+/// The text of the graph of a catalog, or the refusal as `40 at 1: File[/z]`.
+pub fn answer(alloc: Global, text: &str) -> Result<String, Fail> {
+    match graph_of(alloc, text) {
+        Ok(lines) => Ok(lines.into_string()),
+        Err(Fault::Refused(refusal)) => line_of(alloc, &refusal),
+        Err(Fault::Memory(_)) => Err(Fail::from("memory")),
+    }
+}

@@ -1,0 +1,63 @@
+//! Graphs at the limits.
+
+use catalog::Catalog;
+use catalog_semantics::{Relation, Resource, Sort};
+use dep_graph::graph;
+use pp_value::{Pairs, Ref};
+use rh_base::{Fault, NoMemory, Seq, Text};
+use std::alloc::Global;
+use std::test::Fail;
+
+fn named(alloc: Global, kind: &str, n: u32) -> Result<Ref, NoMemory> {
+    let kind = Text::from_string(String::from_str(alloc, kind)?);
+    let title = Text::from_string(format!(in alloc; "/f{n}")?);
+    Ok(Ref { kind, title })
+}
+
+fn add(alloc: Global, catalog: &mut Catalog, kind: &str, sort: Sort, n: u32) -> Result<(), Fault> {
+    let id = named(alloc, kind, n)?;
+    let attrs = Pairs::new(alloc);
+    let holder = n.checked_sub(1);
+    catalog.add(Resource {
+        id,
+        sort,
+        is_virtual: false,
+        at: n,
+        holder,
+        attrs,
+    })?;
+    Ok(())
+}
+
+fn all(alloc: Global, kind: &str, from: u32, to: u32) -> Result<Seq<Ref>, NoMemory> {
+    let mut refs = Seq::new(alloc);
+    for n in from..to {
+        refs.push(named(alloc, kind, n)?)?;
+    }
+    Ok(refs)
+}
+
+/// 3,840 defined resources, each in the one before, and then 256 files: a large relation from all of the ones to all of
+/// the others.
+fn large(alloc: Global) -> Result<Catalog, Fault> {
+    let mut catalog = Catalog::new(alloc);
+    for n in 0..3_840 {
+        add(alloc, &mut catalog, "box", Sort::Defined, n)?;
+    }
+    for n in 3_840..4_096 {
+        add(alloc, &mut catalog, "file", Sort::Plain, n)?;
+    }
+    let from = all(alloc, "file", 3_840, 3_968)?;
+    let to = all(alloc, "file", 3_968, 4_096)?;
+    catalog.relate(Relation { from, to, at: 0 })?;
+    Ok(catalog)
+}
+
+#[test]
+fn large_graphs(rt: HostRuntime) -> Result<(), Fail> {
+    let catalog = large(rt.alloc())?;
+    let found = graph(rt.alloc(), &catalog)?;
+    assert_eq!(rt; found.plain.len(), 256);
+    assert_eq!(rt; found.order.count(), 256);
+    Ok(())
+}
