@@ -124,7 +124,7 @@ digest_is (string text) digest h =
     let is = digest_text_is text two.0 two.1 in
     subst (λ g. IsDigestOf g (string text)) two.2 (ap string is.0, is.1)
 digest_is (array items) digest h = absurd (no_value digest h)
-digest_is (object members) digest h = absurd (no_value digest h)
+digest_is (object _) digest h = absurd (no_value digest h)
 
 digest_text_back : (text : List ℕ) → IsDigest (Some text) → if_digest text ≡ Some text
 digest_text_back text h = ap (λ t. cond t (Some text) None) (digest_test text h)
@@ -288,7 +288,7 @@ named name p h = ap (λ n. (n, p.1)) (sym h)
 pub packages_back : (version : Version) (members : Members) (ps : Packages) → ArePackages version ps members → packages_of version members ≡ Some ps
 packages_back version no_members [] h = refl
 packages_back version no_members (p ∷ ps) h = absurd h
-packages_back version (member name d members) [] h = absurd h
+packages_back version (member name d _) [] h = absurd h
 packages_back version (member name d members) (p ∷ ps) h =
     taken (package_of version d) (λ q. option_map (λ qs. (name, q) ∷ qs) (packages_of version members)) p.1 (package_back version d p.1 h.1)
     ∙ (ap (option_map (λ qs. (name, p.1) ∷ qs)) (packages_back version members ps h.2) ∙ ap (λ q. Some (q ∷ ps)) (named name p h.0))
@@ -311,7 +311,7 @@ version_is (number (negative z)) version h = absurd (no_value version h)
 version_is (number (float x)) version h = absurd (no_value version h)
 version_is (string s) version h = absurd (no_value version h)
 version_is (array items) version h = absurd (no_value version h)
-version_is (object members) version h = absurd (no_value version h)
+version_is (object _) version h = absurd (no_value version h)
 
 pub version_back : (d : Data) (version : Version) → IsVersion version d → version_of d ≡ Some version
 version_back d First h = ap version_of h

@@ -66,7 +66,7 @@ pub record IsPackage (version : Version) (p : Package) (d : Data) : Type 0 where
 -- each member is a package under its name; names come in the order of their bytes, and of equal ones the last counts
 abbrev pub ArePackages : Version → Packages → Members → Type 0
 ArePackages version [] no_members = Unit {0}
-ArePackages version [] (member name d members) = ⊥
+ArePackages version [] (member name d _) = ⊥
 ArePackages version (p ∷ ps) no_members = ⊥
 ArePackages version (p ∷ ps) (member name d members) = (p.0 ≡ name) × IsPackage version p.1 d × ArePackages version ps members
 

@@ -42,7 +42,7 @@ digest_of (boolean b) = None
 digest_of (number n) = None
 digest_of (string text) = option_map (λ t. Some t) (if_digest text)
 digest_of (array items) = None
-digest_of (object members) = None
+digest_of (object _) = None
 
 -- ---- files and folders
 
