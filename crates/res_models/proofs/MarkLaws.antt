@@ -31,6 +31,7 @@ both (name ∷ a) b = ap (λ r. mark_named (codes "group") name >>= (λ m. r >>=
     inner : (m : Path) (r : Result (List Path) Cause) → ((r >>= (λ ms. behind ms (group_marks b))) >>= (λ ms. Ok (m ∷ ms))) ≡ ((r >>= (λ ms. Ok (m ∷ ms))) >>= (λ ms. behind ms (group_marks b)))
     inner m (Ok ms) = behind_first m ms (group_marks b)
     inner m (Err c) = refl
+
     at : (o : Result Path Cause) (r : Result (List Path) Cause)
         → (o >>= (λ m. (r >>= (λ ms. behind ms (group_marks b))) >>= (λ ms. Ok (m ∷ ms)))) ≡ ((o >>= (λ m. r >>= (λ ms. Ok (m ∷ ms)))) >>= (λ ms. behind ms (group_marks b)))
     at (Ok m) r = inner m r

@@ -13,9 +13,7 @@ ghost use Rattle.model_semantics.specs.Models.{group_model, user_present, user_a
 ghost use Rattle.res_models.specs.Seen.{seen, AddsMarks};
 
 use crate::model::Model;
-use crate::names::{
-    below, is_reserved, mark_named, name_of, named, spelled, top, unless_reserved,
-};
+use crate::names::{below, is_reserved, mark_named, name_of, named, spelled, top, unless_reserved};
 use catalog_semantics::Resource;
 use fs_lang::{Path, Program};
 use model_attributes::{is_digit, text_at, truth_of};

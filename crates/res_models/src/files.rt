@@ -14,9 +14,7 @@ use catalog_semantics::Resource;
 use fs_lang::{Path, Program, Test};
 use model_attributes::{begins, text_at};
 use model_semantics::{Ensure, FileState, ModelFault};
-use model_words::{
-    choice, copied, creation, dir, is_file, is_taken, linked, push, put, removal,
-};
+use model_words::{choice, copied, creation, dir, is_file, is_taken, linked, push, put, removal};
 use pp_value::Pairs;
 use rh_base::{NoMemory, Seq, Text};
 use std::alloc::Global;

@@ -9,10 +9,10 @@ mod model;
 mod models;
 mod names;
 mod packages;
-mod programs;
 mod plain;
+mod programs;
 mod services;
 
 pub use model::Model;
-pub use programs::{program_of, programs_of};
 pub use plain::put;
+pub use programs::{program_of, programs_of};

@@ -17,7 +17,12 @@ use model_semantics::{Cause, Kind, ModelFault, States};
 use pkg_listing::Listing;
 use std::alloc::Global;
 
-fn cron_model(alloc: Global, s: States, listing: &Listing, r: &Resource) -> Result<Model, ModelFault>
+fn cron_model(
+    alloc: Global,
+    s: States,
+    listing: &Listing,
+    r: &Resource,
+) -> Result<Model, ModelFault>
     ensures { Meets seen (model_at kind.Cron s listing.now r.now) result }
 {
     let content = cron_content(alloc, &r.attrs)?;

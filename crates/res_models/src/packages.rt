@@ -16,7 +16,9 @@ use crate::names::{mark_named, name_of};
 use catalog_semantics::Resource;
 use fs_lang::{Path, Program};
 use model_semantics::{Cause, Ensure, ModelFault};
-use model_words::{choice, creation, drop_file, is_file, push, push_sweeps, put, removal, sequence};
+use model_words::{
+    choice, creation, drop_file, is_file, push, push_sweeps, put, removal, sequence,
+};
 use pkg_listing::{Listed, Listing, Package};
 use rh_base::{NoMemory, Seq, Text};
 use std::alloc::Global;
