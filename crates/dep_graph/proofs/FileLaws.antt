@@ -9,7 +9,7 @@ use Rattle.catalog_semantics.specs.declared.catalog.Resource.{Resource}
 use Rattle.catalog_semantics.specs.Catalogs.{Catalog}
 use Rattle.dep_graph.specs.Files.{FilePath, FilePathIs, IsFileAmong, AreFiles, is_above, nearest, is_nearest, places_above, nearest_places}
 use Rattle.dep_graph.specs.declared.files.ManagedFile.{ManagedFile}
-use Rattle.dep_graph.proofs.Elements.{either_way, none_in, head_in, tail_in, in_cases}
+use Rattle.graph_semantics.proofs.Elements.{either_way, none_in, head_in, tail_in, in_cases}
 use Rattle.dep_graph.proofs.NamedLaws.{all_from}
 
 some_same : {X : Type 0} (x y : X) → ◌≡◌ {A = Option X} (Some x) (Some y) → x ≡ y

@@ -15,7 +15,7 @@ use Rattle.catalog_semantics.specs.declared.catalog.Resource.{Resource}
 use Rattle.catalog_semantics.specs.Catalogs.{Catalog}
 use Rattle.graph_semantics.specs.Automatic.{is_somebody, somebodies, list_or_none, named_by}
 use Rattle.dep_graph.specs.Named.{is_proper, has_name, named_among, named_targets, member_text, targets_of_members, targets_by_names}
-use Rattle.dep_graph.proofs.Elements.{none_in, in_flat_map, in_filter}
+use Rattle.graph_semantics.proofs.Elements.{none_in, in_flat_map, in_filter}
 
 no_way : false ≡ true → ⊥
 no_way h = cc

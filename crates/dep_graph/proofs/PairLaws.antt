@@ -7,7 +7,7 @@ use Rattle.orders.specs.Relation.{Relation, Comes, IsStrictOrder}
 use Rattle.orders.specs.Paths.{EndsBelow, Path}
 use Rattle.orders.specs.Paths as paths
 use Rattle.dep_graph.specs.Pairs.{comes_at, pair_if, pairs_in_row, pairs_below}
-use Rattle.dep_graph.proofs.Elements.{either_way, none_in, head_in, in_one}
+use Rattle.graph_semantics.proofs.Elements.{either_way, none_in, head_in, in_one}
 use Rattle.dep_graph.proofs.NamedLaws.{all_from}
 
 -- the pair is of two of the first n and the first m, and the one comes before the other

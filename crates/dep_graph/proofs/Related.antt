@@ -21,9 +21,10 @@ use Rattle.dep_graph.specs.Named.{has, is_linked}
 use Rattle.dep_graph.specs.Whole.{AreLinks, bound_of}
 use Rattle.dep_graph.specs.declared.targets.Side.TheVariants as side
 use Rattle.dep_graph.specs.declared.links.Link.{Link}
-use Rattle.dep_graph.proofs.Elements.{either_way, none_in, head_in, tail_in, in_cases, any_in, in_any}
+use Rattle.graph_semantics.proofs.Elements.{either_way, none_in, head_in, tail_in, in_cases, any_in, in_any}
 use Rattle.dep_graph.proofs.Resolved.{nodes_come, nodes_there, none_missing, one_missing}
-use Rattle.dep_graph.proofs.ContainerLaws.{within, last_is, IsEdge}
+use Rattle.graph_semantics.proofs.RealPlaces.{within}
+use Rattle.dep_graph.proofs.ContainerLaws.{last_is, IsEdge}
 
 no_way : false ≡ true → ⊥
 no_way h = cc

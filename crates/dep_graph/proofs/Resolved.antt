@@ -11,7 +11,7 @@ use Rattle.catalog_semantics.specs.Catalogs.{Catalog}
 use Rattle.graph_semantics.specs.Relations.{target_of, first_missing}
 use Rattle.dep_graph.specs.Links.{side_number, numbered, with_nodes}
 use Rattle.dep_graph.specs.declared.targets.Side.{Side}
-use Rattle.dep_graph.proofs.Elements.{either_way, none_in, head_in, tail_in, in_cases}
+use Rattle.graph_semantics.proofs.Elements.{either_way, none_in, head_in, tail_in, in_cases}
 
 -- a reference among some names this place, and this is the place's number
 pub record IsNodeOf (s : Side) (c : Catalog) (refs : List Ref) (n : ℕ) : Type 0 where

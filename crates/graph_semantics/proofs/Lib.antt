@@ -1,1 +1,4 @@
+pub mod Elements
+pub mod RealPlaces
 pub mod Inserting
+pub mod AllowedLaws
