@@ -1,5 +1,5 @@
 -- The automatic edges that are made are those of the table.
-use Rattle.std.proofs.Common.{◌≡◌, ℕ, ◌*◌, ◌≤◌, List, [], ◌∷◌, length, Bool, true, false, cond, ◌&&◌, Option, Some, None, refl, sym, ap, subst, ◌∙◌, arith}
+use Rattle.std.proofs.Common.{◌≡◌, ℕ, ◌*◌, ◌≤◌, List, [], ◌∷◌, length, Bool, true, false, cond, Option, Some, None, refl, sym, ap, subst, ◌∙◌, arith}
 use Rattle.std.specs.Prelude.{slice_get}
 use Rattle.std.specs.List.{Contains}
 use Rattle.std.specs.Str.{bytes_eq}
@@ -23,20 +23,7 @@ use Rattle.dep_graph.proofs.FrontLaws.{above_ancestor, ancestor_above}
 use Rattle.dep_graph.proofs.NamedLaws.{proper_name, name_proper}
 use Rattle.dep_graph.proofs.FileLaws.{farthest, nearest_least, near_from, near_in}
 use Rattle.dep_graph.proofs.Related.{linked_related, related_linked}
-
-no_way : false ≡ true → ⊥
-no_way h = cc
-
-some_same : {X : Type 0} (x y : X) → ◌≡◌ {A = Option X} (Some x) (Some y) → x ≡ y
-some_same x y h = cc
-
-both_true : (a b : Bool) → (a && b) ≡ true → (a ≡ true) × (b ≡ true)
-both_true true b h = (refl, h)
-both_true false b h = absurd (no_way h)
-
-true_both : (a b : Bool) → a ≡ true → b ≡ true → (a && b) ≡ true
-true_both true b h k = k
-true_both false b h k = absurd (no_way h)
+use Rattle.graph_semantics.proofs.Basics.{no_way, both_true, true_both, some_same}
 
 -- ---- an edge that is kept
 

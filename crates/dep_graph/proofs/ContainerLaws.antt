@@ -13,9 +13,7 @@ use Rattle.dep_graph.specs.Numbers.{last_of, last_at}
 use Rattle.dep_graph.specs.Numbered.{member_edges, edges_inside, container_edges, structure_edges}
 use Rattle.graph_semantics.proofs.RealPlaces.{stands, isnt_virtual, within}
 use Rattle.graph_semantics.proofs.Elements.{either_way, none_in, head_in, tail_in, in_cases, in_one, in_flat_map, flat_map_in, any_in}
-
-some_same : {X : Type 0} (x y : X) → ◌≡◌ {A = Option X} (Some x) (Some y) → x ≡ y
-some_same x y h = cc
+use Rattle.graph_semantics.proofs.Basics.{both_true, not_true, some_same}
 
 pub last_is : (c : Catalog) (place : ℕ) (r : Resource) → real_at c place ≡ Some r → last_at c place ≡ last_node r.sort place
 last_is c place r h = ap (λ o. last_of o place) (stands c place r h)
@@ -64,17 +62,9 @@ inside_in outer n (suc i) (q ∷ resources) r h is =
     later_inside n (n + suc i) (is_inside outer q) (inside outer (n + 1) resources)
     (subst (Contains (inside outer (n + 1) resources)) next (inside_in outer (n + 1) i resources r h is))
 
-both_true : (a b : Bool) → (a && b) ≡ true → (a ≡ true) × (b ≡ true)
-both_true true b h = (refl, h)
-both_true false b h = cc
-
 holder_is : (outer : ℕ) (o : Option ℕ) → is_held_by outer o ≡ true → o ≡ Some outer
 holder_is outer None h = cc
 holder_is outer (Some k) h = ap (λ (n : ℕ). Some n) (eqb-true k outer h)
-
-not_true : (t : Bool) → not t ≡ true → t ≡ false
-not_true true h = cc
-not_true false h = refl
 
 -- ---- classes that are contained
 

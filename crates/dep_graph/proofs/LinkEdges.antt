@@ -6,9 +6,6 @@ use Rattle.dep_graph.specs.Numbered.{crossing, through, is_wide, link_edges, hub
 use Rattle.dep_graph.specs.declared.links.Link.{Link}
 use Rattle.graph_semantics.proofs.Elements.{either_way, none_in, head_in, tail_in, in_cases, in_map, map_in, in_flat_map, flat_map_in}
 
-no_way : false ≡ true → ⊥
-no_way h = cc
-
 -- this number is that of the relation's own node, where they are numbered from the first on
 abbrev pub IsHub : ℕ → List Link → ℕ → Link → Type 0
 IsHub first [] h l = ⊥

@@ -16,23 +16,9 @@ use Rattle.catalog_semantics.specs.Catalogs.{Catalog}
 use Rattle.graph_semantics.specs.Automatic.{is_somebody, somebodies, list_or_none, named_by}
 use Rattle.dep_graph.specs.Named.{is_proper, has_name, named_among, named_targets, member_text, targets_of_members, targets_by_names}
 use Rattle.graph_semantics.proofs.Elements.{none_in, in_flat_map, in_filter}
-
-no_way : false ≡ true → ⊥
-no_way h = cc
+use Rattle.graph_semantics.proofs.Basics.{no_way, both_true, true_both, not_true}
 
 -- ---- proper names
-
-both_true : (a b : Bool) → (a && b) ≡ true → (a ≡ true) × (b ≡ true)
-both_true true b h = (refl, h)
-both_true false b h = absurd (no_way h)
-
-true_both : (a b : Bool) → a ≡ true → b ≡ true → (a && b) ≡ true
-true_both true b h k = k
-true_both false b h k = absurd (no_way h)
-
-not_true : (t : Bool) → not t ≡ true → t ≡ false
-not_true true h = cc
-not_true false h = refl
 
 no_zeros : (name : List ℕ) → list_any (λ b. b == 0) name ≡ false → AllByRecursion (λ b. b ≢ 0) name
 no_zeros [] h = tt

@@ -1,26 +1,19 @@
 -- The allowed orders of the plain resources are what the orders of all nodes leave of them.
-use Rattle.std.proofs.Common.{◌≡◌, ℕ, zero, suc, ◌+◌, ◌*◌, ◌<◌, ◌≤◌, List, [], ◌∷◌, ◌++◌, length, get_or, Bool, true, false, cond, ◌&&◌, ◌⊎◌, inl, inr, Option, Some, None, map, refl, sym, ap, subst, ◌∙◌, arith, eqb-true, eq-eqb, ltb-true, ltb-false, lt-ltb}
-use Rattle.std.specs.Prelude.{slice_get, slice_index, filter, not, nat_lt, ◌==◌}
-use Rattle.std.specs.List.{AllByRecursion, Contains, list_any}
+use Rattle.std.proofs.Common.{◌≡◌, ℕ, zero, suc, ◌+◌, ◌*◌, ◌<◌, ◌≤◌, List, [], ◌∷◌, length, get_or, Bool, true, false, cond, ◌&&◌, ◌⊎◌, inl, inr, Option, Some, None, map, refl, sym, ap, subst, ◌∙◌, arith, eqb-true, eq-eqb, ltb-true, ltb-false}
+use Rattle.std.specs.Prelude.{slice_index, not, nat_lt, ◌==◌}
+use Rattle.std.specs.List.{AllByRecursion, Contains}
 use Rattle.std.proofs.lemmas.List.Elements.{Contains-get_or}
 use Rattle.fs_semantics.specs.Orders.{times, IsLinearExtension}
 use Rattle.fs_semantics.specs.Orders as orders
 use Rattle.catalog_semantics.specs.declared.catalog.Resource.{Resource}
-use Rattle.catalog_semantics.specs.declared.catalog.Sort.{Sort}
 use Rattle.catalog_semantics.specs.Catalogs.{Catalog, is_plain_sort}
 use Rattle.graph_semantics.specs.Relations.{real_at}
 use Rattle.graph_semantics.specs.Automatic.{IsPlainAt}
 use Rattle.graph_semantics.specs.Graphs.{Node, Start, End, rank, IsContainerAt, Before, IsGraphOf, plain_from, plain_places}
-use Rattle.graph_semantics.specs.Allowed.{IsNode, NoneAhead, IsAllowed, is_plain, is_plain_node, plain_part, plain_nodes, IsLeft, Tells}
-use Rattle.graph_semantics.proofs.Elements.{either_way}
+use Rattle.graph_semantics.specs.Allowed.{IsNode, NoneAhead, is_plain, is_plain_node, plain_part, plain_nodes, IsLeft, Tells}
 use Rattle.graph_semantics.proofs.RealPlaces.{within, plain_at, plain_in}
-use Rattle.graph_semantics.proofs.Inserting.{all_map, inserted, all_inserted, none_ahead_inserted, times_inserted, filter_inserted}
-
-no_way : false ≡ true → ⊥
-no_way h = cc
-
-some_same : {X : Type 0} (x y : X) → ◌≡◌ {A = Option X} (Some x) (Some y) → x ≡ y
-some_same x y h = cc
+use Rattle.graph_semantics.proofs.Inserting.{inserted, all_inserted, none_ahead_inserted, times_inserted, filter_inserted}
+use Rattle.graph_semantics.proofs.Basics.{no_way, not_true, some_same}
 
 -- ---- the places of plain resources stand once
 
@@ -124,10 +117,6 @@ module _ (c : Catalog) where
   abbrev others : ℕ → List Node
   others zero = []
   others (suc n) = cond (holds n) (Start n ∷ End n ∷ others n) (others n)
-
-  not_true : (t : Bool) → not t ≡ true → t ≡ false
-  not_true true h = absurd (no_way h)
-  not_true false h = refl
 
   container_at : (place : ℕ) (o : Option Resource) → real_at c place ≡ o → is_container o ≡ true → IsContainerAt c place
   container_at place None is h = absurd (no_way h)

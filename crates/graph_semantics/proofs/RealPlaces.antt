@@ -1,6 +1,6 @@
 -- Real resources and real plain resources, by their places.
-use Rattle.std.proofs.Common.{◌≡◌, ℕ, zero, suc, ◌+◌, ◌<◌, ◌≤◌, List, [], ◌∷◌, length, get_or, Bool, true, false, cond, ◌&&◌, Option, Some, None, option_and_then, refl, sym, ap, subst, ◌∙◌, arith}
-use Rattle.std.specs.Prelude.{slice_get, slice_index, not}
+use Rattle.std.proofs.Common.{◌≡◌, ℕ, zero, suc, ◌+◌, ◌<◌, List, [], ◌∷◌, length, Bool, true, false, cond, ◌&&◌, Option, Some, None, option_and_then, refl, sym, ap, subst, ◌∙◌, arith}
+use Rattle.std.specs.Prelude.{slice_get, not}
 use Rattle.std.specs.List.{Contains}
 use Rattle.catalog_semantics.specs.declared.catalog.Resource.{Resource}
 use Rattle.catalog_semantics.specs.Catalogs.{Catalog, is_plain_sort}
@@ -8,20 +8,7 @@ use Rattle.graph_semantics.specs.Relations.{real_at, if_real}
 use Rattle.graph_semantics.specs.Automatic.{IsPlainAt}
 use Rattle.graph_semantics.specs.Graphs.{plain_from, plain_places}
 use Rattle.graph_semantics.proofs.Elements.{either_way, none_in, head_in, tail_in, in_cases, got_within}
-
-no_way : false ≡ true → ⊥
-no_way h = cc
-
-some_same : {X : Type 0} (x y : X) → ◌≡◌ {A = Option X} (Some x) (Some y) → x ≡ y
-some_same x y h = cc
-
-both_true : (a b : Bool) → (a && b) ≡ true → (a ≡ true) × (b ≡ true)
-both_true true b h = (refl, h)
-both_true false b h = absurd (no_way h)
-
-true_both : (a b : Bool) → a ≡ true → b ≡ true → (a && b) ≡ true
-true_both true b h k = k
-true_both false b h k = absurd (no_way h)
+use Rattle.graph_semantics.proofs.Basics.{no_way, both_true, true_both, not_true, some_same}
 
 -- ---- a real resource stands among the resources
 
@@ -55,10 +42,6 @@ record StandsPlain (n : ℕ) (resources : List Resource) (k : ℕ) : Type 0 wher
   pub is : k ≡ n + index
   pub plain : is_plain_sort resource.sort ≡ true
   pub real : resource.is_virtual ≡ false
-
-not_true : (t : Bool) → not t ≡ true → t ≡ false
-not_true true h = absurd (no_way h)
-not_true false h = refl
 
 one_on : (n k : ℕ) (r : Resource) (resources : List Resource) → StandsPlain (n + 1) resources k → StandsPlain n (r ∷ resources) k
 one_on n k r resources h = record { index = suc h.index; resource = h.resource; at = h.at; is = omega (arith, h.is); plain = h.plain; real = h.real }
