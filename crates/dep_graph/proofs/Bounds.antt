@@ -1,18 +1,19 @@
 -- How many numbers there are, and where the plain resources stand.
-use Rattle.std.proofs.Common.{ℕ, ◌+◌, ◌*◌, ◌<◌, ◌≤◌, List, [], ◌∷◌, length, Bool, true, false, cond, ◌&&◌, arith}
+use Rattle.std.proofs.Common.{ℕ, ◌+◌, ◌*◌, ◌<◌, ◌≤◌, List, [], ◌∷◌, length, Bool, true, false, cond, ◌&&◌, sym, subst, arith}
 use Rattle.std.specs.Prelude.{slice_index, not}
 use Rattle.std.specs.List.{All, Contains}
 use Rattle.std.proofs.lemmas.List.Elements.{Contains-get_or}
 use Rattle.catalog_semantics.specs.declared.catalog.Resource.{Resource}
 use Rattle.catalog_semantics.specs.Catalogs.{Catalog, is_plain_sort}
 use Rattle.catalog_semantics.specs.States.{declared_limit}
-use Rattle.graph_semantics.specs.Graphs.{plain_from, plain_places}
+use Rattle.graph_semantics.specs.Graphs.{Node, rank, plain_from, plain_places}
+use Rattle.graph_semantics.specs.Allowed.{IsNode}
 use Rattle.dep_graph.specs.Files.{AreFiles}
 use Rattle.dep_graph.specs.Pairs.{IsWithin}
 use Rattle.dep_graph.specs.Whole.{bound_of}
 use Rattle.dep_graph.specs.declared.files.ManagedFile.{ManagedFile}
-use Rattle.dep_graph.proofs.ContainerLaws.{within}
-use Rattle.dep_graph.proofs.AutomaticLaws.{plain_at}
+use Rattle.graph_semantics.proofs.RealPlaces.{within}
+use Rattle.graph_semantics.proofs.RealPlaces.{plain_at}
 use Rattle.dep_graph.proofs.NamedLaws.{all_from}
 
 pub place_within : (c : Catalog) (k : ℕ) → Contains (plain_places c) k → k < length c.resources
@@ -40,3 +41,7 @@ shorter n (r ∷ resources) = step (is_plain_sort r.sort && not r.is_virtual) (s
 
 pub few_places : (c : Catalog) → length c.resources ≤ declared_limit → length (plain_places c) ≤ declared_limit
 few_places c few = let h = shorter 0 c.resources in omega arith
+
+pub node_low : (c : Catalog) (n : Node) → IsNode c n → rank n < bound_of c
+node_low c n (IsNode.start p r real is) = let less = within c p r real in subst (λ m. rank m < bound_of c) (sym is) (omega arith)
+node_low c n (IsNode.end p at is) = let less = within c p at.resource at.real in subst (λ m. rank m < bound_of c) (sym is) (omega arith)

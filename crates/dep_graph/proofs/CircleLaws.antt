@@ -17,9 +17,7 @@ use Rattle.dep_graph.proofs.ContainerLaws.{IsEdge}
 use Rattle.dep_graph.proofs.LinkEdges.{IsHub, hub_from, hub_of_link, one_hub}
 use Rattle.dep_graph.proofs.Related.{link_edge, low_from, low_to}
 use Rattle.dep_graph.proofs.Steps.{Step, step, one_node, edge_low}
-
-no_way : false ≡ true → ⊥
-no_way h = cc
+use Rattle.graph_semantics.proofs.Basics.{no_way}
 
 -- ---- a number and its node
 

@@ -11,32 +11,9 @@ use Rattle.graph_semantics.specs.Relations.{real_at, if_real}
 use Rattle.graph_semantics.specs.Graphs.{Node, Start, End, rank, last_node, IsContainerAt, IsMember, Edge}
 use Rattle.dep_graph.specs.Numbers.{last_of, last_at}
 use Rattle.dep_graph.specs.Numbered.{member_edges, edges_inside, container_edges, structure_edges}
-use Rattle.dep_graph.proofs.Elements.{either_way, none_in, head_in, tail_in, in_cases, in_one, got_within, in_flat_map, flat_map_in, any_in}
-
-some_same : {X : Type 0} (x y : X) → ◌≡◌ {A = Option X} (Some x) (Some y) → x ≡ y
-some_same x y h = cc
-
--- ---- a real resource stands among the resources
-
-real_stands : (o : Option Resource) (r : Resource) → option_and_then if_real o ≡ Some r → (o ≡ Some r) × (r.is_virtual ≡ false)
-real_stands None r h = absurd (none_some r h) where
-  none_some : (r : Resource) → ◌≡◌ {A = Option Resource} None (Some r) → ⊥
-  none_some r h = cc
-real_stands (Some q) r h = by_flag q.is_virtual refl h where
-  by_flag : (t : Bool) → q.is_virtual ≡ t → cond t None (Some q) ≡ Some r → (◌≡◌ {A = Option Resource} (Some q) (Some r)) × (r.is_virtual ≡ false)
-  by_flag true is k = absurd (none_some k) where
-    none_some : ◌≡◌ {A = Option Resource} None (Some r) → ⊥
-    none_some k = cc
-  by_flag false is k = (k, subst (λ (x : Resource). x.is_virtual ≡ false) (some_same q r k) is)
-
-pub stands : (c : Catalog) (place : ℕ) (r : Resource) → real_at c place ≡ Some r → slice_get c.resources place ≡ Some r
-stands c place r h = (real_stands (slice_get c.resources place) r h).0
-
-pub isnt_virtual : (c : Catalog) (place : ℕ) (r : Resource) → real_at c place ≡ Some r → r.is_virtual ≡ false
-isnt_virtual c place r h = (real_stands (slice_get c.resources place) r h).1
-
-pub within : (c : Catalog) (place : ℕ) (r : Resource) → real_at c place ≡ Some r → place < length c.resources
-within c place r h = got_within c.resources place r (stands c place r h)
+use Rattle.graph_semantics.proofs.RealPlaces.{stands, isnt_virtual, within}
+use Rattle.graph_semantics.proofs.Elements.{either_way, none_in, head_in, tail_in, in_cases, in_one, in_flat_map, flat_map_in, any_in}
+use Rattle.graph_semantics.proofs.Basics.{both_true, not_true, some_same}
 
 pub last_is : (c : Catalog) (place : ℕ) (r : Resource) → real_at c place ≡ Some r → last_at c place ≡ last_node r.sort place
 last_is c place r h = ap (λ o. last_of o place) (stands c place r h)
@@ -85,17 +62,9 @@ inside_in outer n (suc i) (q ∷ resources) r h is =
     later_inside n (n + suc i) (is_inside outer q) (inside outer (n + 1) resources)
     (subst (Contains (inside outer (n + 1) resources)) next (inside_in outer (n + 1) i resources r h is))
 
-both_true : (a b : Bool) → (a && b) ≡ true → (a ≡ true) × (b ≡ true)
-both_true true b h = (refl, h)
-both_true false b h = cc
-
 holder_is : (outer : ℕ) (o : Option ℕ) → is_held_by outer o ≡ true → o ≡ Some outer
 holder_is outer None h = cc
 holder_is outer (Some k) h = ap (λ (n : ℕ). Some n) (eqb-true k outer h)
-
-not_true : (t : Bool) → not t ≡ true → t ≡ false
-not_true true h = cc
-not_true false h = refl
 
 -- ---- classes that are contained
 

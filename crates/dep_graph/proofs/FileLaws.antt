@@ -1,5 +1,5 @@
 -- Files, the nearest file above, and bounds.
-use Rattle.std.proofs.Common.{◌≡◌, ℕ, ◌≤◌, List, [], ◌∷◌, ◌++◌, length, Bool, true, false, cond, ◌&&◌, max, Option, Some, None, ◌⊎◌, inl, inr, refl, sym, ap, subst, ◌∙◌, arith, leb-true, le-leb}
+use Rattle.std.proofs.Common.{◌≡◌, ℕ, ◌≤◌, List, [], ◌∷◌, ◌++◌, length, Bool, true, false, cond, max, Option, Some, None, ◌⊎◌, inl, inr, refl, sym, ap, subst, ◌∙◌, arith, leb-true, le-leb}
 use Rattle.std.specs.Prelude.{slice_get, nat_le}
 use Rattle.std.specs.List.{Contains, All}
 use Rattle.std.proofs.lemmas.List.Elements.{All-contains, Contains-append_left, Contains-push, Contains-push_cases}
@@ -9,11 +9,9 @@ use Rattle.catalog_semantics.specs.declared.catalog.Resource.{Resource}
 use Rattle.catalog_semantics.specs.Catalogs.{Catalog}
 use Rattle.dep_graph.specs.Files.{FilePath, FilePathIs, IsFileAmong, AreFiles, is_above, nearest, is_nearest, places_above, nearest_places}
 use Rattle.dep_graph.specs.declared.files.ManagedFile.{ManagedFile}
-use Rattle.dep_graph.proofs.Elements.{either_way, none_in, head_in, tail_in, in_cases}
+use Rattle.graph_semantics.proofs.Elements.{either_way, none_in, head_in, tail_in, in_cases}
 use Rattle.dep_graph.proofs.NamedLaws.{all_from}
-
-some_same : {X : Type 0} (x y : X) → ◌≡◌ {A = Option X} (Some x) (Some y) → x ≡ y
-some_same x y h = cc
+use Rattle.graph_semantics.proofs.Basics.{no_way, both_true, true_both, some_same}
 
 -- a text spells one path at most
 abbrev pub OnePath : Type 0
@@ -70,13 +68,7 @@ one_more_file once c places files g r here file are f = (
       (among_cases c places g.place f h),
 )
 
-pub no_files : (c : Catalog) → AreFiles c [] []
-no_files c f = (λ m. absurd (none_in f m), λ h. absurd (none_in f.place h.place))
-
 -- ---- the nearest above
-
-no_way : false ≡ true → ⊥
-no_way h = cc
 
 nearest_step : (f : ManagedFile) (p : Path) (t : Bool) (n : ℕ) → is_above f.path p ≡ t → t ≡ true → length f.path ≤ cond t (max (length f.path) n) n
 nearest_step f p true n is h = omega arith
@@ -106,10 +98,6 @@ nearest_least (f ∷ files) p n h = step (is_above f.path p) refl (nearest_least
 
 -- ---- the places of the nearest files
 
-both_true : (a b : Bool) → (a && b) ≡ true → (a ≡ true) × (b ≡ true)
-both_true true b h = (refl, h)
-both_true false b h = absurd (no_way h)
-
 -- a file at the place is above the path, with so many segments or more
 pub record IsNear (n : ℕ) (p : Path) (files : List ManagedFile) (k : ℕ) : Type 0 where
   pub file : ManagedFile
@@ -138,10 +126,6 @@ first_near false k rest h = absurd (no_way h)
 later_near : (t : Bool) (j k : ℕ) (rest : List ℕ) → Contains rest k → Contains (cond t (j ∷ rest) rest) k
 later_near true j k rest h = tail_in j k rest h
 later_near false j k rest h = h
-
-true_both : (a b : Bool) → a ≡ true → b ≡ true → (a && b) ≡ true
-true_both true b h k = k
-true_both false b h k = absurd (no_way h)
 
 pub near_in : (n : ℕ) (p : Path) (files : List ManagedFile) (k : ℕ) → IsNear n p files k → Contains (places_above n p files) k
 near_in n p [] k h = absurd (none_in h.file h.among)

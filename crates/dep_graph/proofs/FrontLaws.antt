@@ -8,12 +8,7 @@ use Rattle.fs_semantics.specs.FileTree.{Path}
 use Rattle.fs_semantics.specs.Disjoint.{IsAncestor}
 use Rattle.fs_lang.specs.Fronts.{is_front}
 use Rattle.dep_graph.specs.Files.{is_above}
-
-both_true : (a b : Bool) → (a && b) ≡ true → (a ≡ true) × (b ≡ true)
-both_true true b h = (refl, h)
-both_true false b h = absurd (no_way h) where
-  no_way : false ≡ true → ⊥
-  no_way h = cc
+use Rattle.graph_semantics.proofs.Basics.{no_way, both_true}
 
 same_bytes : (s r : List ℕ) → bytes_eq s r ≡ true → s ≡ r
 same_bytes s r h = (bytes_decides s r).0 h
@@ -23,9 +18,7 @@ bytes_same s = (bytes_decides s s).1 refl
 
 front_more : (p q : Path) → is_front p q ≡ true → (more : Path) × (q ≡ p ++ more)
 front_more [] q h = (q, refl)
-front_more (s ∷ p) [] h = absurd (no_way h) where
-  no_way : false ≡ true → ⊥
-  no_way h = cc
+front_more (s ∷ p) [] h = absurd (no_way h)
 front_more (s ∷ p) (r ∷ q) h =
     let both = both_true (bytes_eq s r) (is_front p q) h in
     let rest = front_more p q both.1 in
@@ -59,13 +52,5 @@ pub told : (p q : Path) (t : Bool) → (IsTrue t → IsAncestor p q) × (IsAnces
 told p q true h = sym (ancestor_above p q (h.0 refl))
 told p q false h = decided (is_above p q) refl where
   decided : (b : Bool) → is_above p q ≡ b → false ≡ is_above p q
-  decided true is = absurd (no_way (h.1 (above_ancestor p q is))) where
-    no_way : false ≡ true → ⊥
-    no_way h = cc
+  decided true is = absurd (no_way (h.1 (above_ancestor p q is)))
   decided false is = sym is
-
-pub ancestor_shorter : (p q : Path) → IsAncestor p q → length p < length q
-ancestor_shorter p q h =
-    let long : length q ≡ length p + length h.0 = ap length h.2 ∙ length-append p h.0 in
-    let some = nonempty_length h.0 h.1 in
-    omega arith

@@ -1,6 +1,5 @@
 pub mod Places
 pub mod Chains
-pub mod Elements
 pub mod Resolved
 pub mod FrontLaws
 pub mod ContainerLaws

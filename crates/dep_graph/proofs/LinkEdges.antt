@@ -4,10 +4,7 @@ use Rattle.std.specs.List.{Contains}
 use Rattle.std.proofs.lemmas.List.Elements.{Contains-append_left, Contains-append_right, Contains-append_cases}
 use Rattle.dep_graph.specs.Numbered.{crossing, through, is_wide, link_edges, hub_after, edges_of_links, hubs_after}
 use Rattle.dep_graph.specs.declared.links.Link.{Link}
-use Rattle.dep_graph.proofs.Elements.{either_way, none_in, head_in, tail_in, in_cases, in_map, map_in, in_flat_map, flat_map_in}
-
-no_way : false ≡ true → ⊥
-no_way h = cc
+use Rattle.graph_semantics.proofs.Elements.{either_way, none_in, head_in, tail_in, in_cases, in_map, map_in, in_flat_map, flat_map_in}
 
 -- this number is that of the relation's own node, where they are numbered from the first on
 abbrev pub IsHub : ℕ → List Link → ℕ → Link → Type 0

@@ -1,38 +1,22 @@
 -- Automatic edges to what is named, and their bounds.
-use Rattle.std.proofs.Common.{◌≡◌, ◌≢◌, ℕ, List, [], ◌∷◌, ◌++◌, length, Bool, true, false, cond, ◌&&◌, ◌||◌, Option, Some, None, map, refl, sym, ap, ◌∙◌, eqb-true, eq-eqb, leb-true, le-leb, option_and_then, option_map, slice_index_or}
-use Rattle.std.specs.Prelude.{slice_get, is_some, not, filter, ◌==◌, nat_le}
+use Rattle.std.proofs.Common.{◌≡◌, ◌≢◌, ℕ, List, [], ◌∷◌, ◌++◌, length, Bool, true, false, cond, ◌&&◌, ◌||◌, Option, Some, None, refl, sym, ap, ◌∙◌, eqb-true, eq-eqb, leb-true, le-leb, option_and_then, option_map, slice_index_or}
+use Rattle.std.specs.Prelude.{slice_get, is_some, not, ◌==◌, nat_le}
 use Rattle.std.proofs.Math.Dec.{eqb-suc-zero}
 use Rattle.std.specs.Option.{option_to_list}
 use Rattle.std.specs.List.{Contains, All, AllByRecursion, flat_map, list_any}
-use Rattle.std.proofs.lemmas.List.Concat.{flat_map-append}
-use Rattle.std.proofs.lemmas.List.Elements.{All-contains, Contains-get_or, filter-append}
-use Rattle.std.proofs.lemmas.List.{map-append}
+use Rattle.std.proofs.lemmas.List.Elements.{All-contains, Contains-get_or}
 use Rattle.rh_base.specs.declared.limits.TheConstants.{NAME_BYTES}
 use Rattle.fs_lang.specs.Names.{IsName}
 use Rattle.pp_value.specs.declared.value.Value.{Value}
 use Rattle.pp_eval.specs.Evaluation.{text_of, texts_of}
 use Rattle.catalog_semantics.specs.declared.catalog.Resource.{Resource}
 use Rattle.catalog_semantics.specs.Catalogs.{Catalog}
-use Rattle.graph_semantics.specs.Automatic.{is_somebody, somebodies, list_or_none, named_by}
-use Rattle.dep_graph.specs.Named.{is_proper, has_name, named_among, named_targets, member_text, targets_of_members, targets_by_names}
-use Rattle.dep_graph.proofs.Elements.{none_in, in_flat_map, in_filter}
-
-no_way : false ≡ true → ⊥
-no_way h = cc
+use Rattle.graph_semantics.specs.Automatic.{list_or_none, named_by}
+use Rattle.dep_graph.specs.Named.{is_proper, has_name, named_among, named_targets, member_text, targets_by_names}
+use Rattle.graph_semantics.proofs.Elements.{none_in, in_flat_map, in_filter}
+use Rattle.graph_semantics.proofs.Basics.{no_way, both_true, true_both, not_true}
 
 -- ---- proper names
-
-both_true : (a b : Bool) → (a && b) ≡ true → (a ≡ true) × (b ≡ true)
-both_true true b h = (refl, h)
-both_true false b h = absurd (no_way h)
-
-true_both : (a b : Bool) → a ≡ true → b ≡ true → (a && b) ≡ true
-true_both true b h k = k
-true_both false b h k = absurd (no_way h)
-
-not_true : (t : Bool) → not t ≡ true → t ≡ false
-not_true true h = cc
-not_true false h = refl
 
 no_zeros : (name : List ℕ) → list_any (λ b. b == 0) name ≡ false → AllByRecursion (λ b. b ≢ 0) name
 no_zeros [] h = tt
@@ -78,15 +62,6 @@ unnamed_told name h = decided (is_proper name) refl where
   decided false is = sym is
 
 -- ---- members of a list of texts
-
-somebodies_append : (kind : List ℕ) (xs ys : List (List ℕ)) → somebodies kind (xs ++ ys) ≡ somebodies kind xs ++ somebodies kind ys
-somebodies_append kind xs ys = ap (map (λ (name : List ℕ). (kind, name))) (filter-append is_somebody xs ys) ∙ map-append (λ (name : List ℕ). (kind, name)) (filter is_somebody xs) (filter is_somebody ys)
-
-pub targets_more : (c : Catalog) (plain : List ℕ) (kind : List ℕ) (x : Value) (items : List Value)
-    → targets_of_members c plain kind (x ∷ items) ≡ flat_map (named_targets c plain) (somebodies kind (member_text x)) ++ targets_of_members c plain kind items
-targets_more c plain kind x items =
-    ap (flat_map (named_targets c plain)) (somebodies_append kind (member_text x) (flat_map member_text items))
-    ∙ flat_map-append (named_targets c plain) (somebodies kind (member_text x)) (somebodies kind (flat_map member_text items))
 
 texts_step : (x : Value) (t : Option (List ℕ)) (more : Option (List (List ℕ))) (rest : List (List ℕ)) → text_of x ≡ t → is_some (option_and_then (λ text. option_map (λ texts. text ∷ texts) more) t) ≡ true
     → (is_some more ≡ true → rest ≡ list_or_none more) → option_to_list t ++ rest ≡ list_or_none (option_and_then (λ text. option_map (λ texts. text ∷ texts) more) t)

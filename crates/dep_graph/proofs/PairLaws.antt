@@ -7,8 +7,9 @@ use Rattle.orders.specs.Relation.{Relation, Comes, IsStrictOrder}
 use Rattle.orders.specs.Paths.{EndsBelow, Path}
 use Rattle.orders.specs.Paths as paths
 use Rattle.dep_graph.specs.Pairs.{comes_at, pair_if, pairs_in_row, pairs_below}
-use Rattle.dep_graph.proofs.Elements.{either_way, none_in, head_in, in_one}
+use Rattle.graph_semantics.proofs.Elements.{either_way, none_in, head_in, in_one}
 use Rattle.dep_graph.proofs.NamedLaws.{all_from}
+use Rattle.graph_semantics.proofs.Basics.{no_way}
 
 -- the pair is of two of the first n and the first m, and the one comes before the other
 pub record IsPair (whole : Relation) (plain : List ℕ) (n m : ℕ) (e : ℕ × ℕ) : Type 0 where
@@ -44,9 +45,7 @@ here_or_later j k false is h = let up = ltb-false j k is in inr (omega arith)
 
 pair_in : (t : Bool) (i j : ℕ) → t ≡ true → Contains (pair_if t i j) (i, j)
 pair_in true i j h = head_in (i, j) []
-pair_in false i j h = absurd (no_way h) where
-  no_way : false ≡ true → ⊥
-  no_way h = cc
+pair_in false i j h = absurd (no_way h)
 
 row_in : (whole : Relation) (plain : List ℕ) (i k j : ℕ) → j < k → comes_at whole plain i j ≡ true → Contains (pairs_in_row whole plain i k) (i, j)
 row_in whole plain i zero j less h = absurd (never less) where

@@ -5,9 +5,7 @@ use Rattle.std.proofs.lemmas.List.{drop_more}
 use Rattle.catalog_semantics.specs.declared.catalog.Resource.{Resource}
 use Rattle.catalog_semantics.specs.Catalogs.{is_plain_sort}
 use Rattle.graph_semantics.specs.Graphs.{plain_from}
-
-some_same : {X : Type 0} (x y : X) → ◌≡◌ {A = Option X} (Some x) (Some y) → x ≡ y
-some_same x y h = cc
+use Rattle.graph_semantics.proofs.Basics.{some_same}
 
 -- what is got from a place stands there
 pub at_place : {X : Type 0} (xs : List X) (i : ℕ) (x : X) → slice_get xs i ≡ Some x → (i < length xs) × (x ≡ get_or xs i x)

@@ -1,5 +1,5 @@
 -- Relations between nodes are those between resources.
-use Rattle.std.proofs.Common.{◌≡◌, ℕ, ◌*◌, ◌<◌, List, [], ◌∷◌, ◌++◌, length, Bool, true, false, ◌&&◌, Option, Some, None, ◌⊎◌, inl, inr, map, refl, sym, ap, subst, ◌∙◌, arith, append_assoc, eqb-true, eq-eqb, option_and_then, option_map}
+use Rattle.std.proofs.Common.{◌≡◌, ℕ, ◌*◌, ◌<◌, List, [], ◌∷◌, ◌++◌, length, true, ◌&&◌, Option, Some, None, ◌⊎◌, inl, inr, map, refl, sym, ap, subst, ◌∙◌, arith, append_assoc, eqb-true, eq-eqb, option_and_then, option_map}
 use Rattle.std.specs.Prelude.{Result, Ok, Err, ◌==◌}
 use Rattle.std.specs.List.{Contains, flat_map}
 use Rattle.std.proofs.lemmas.List.{map-append}
@@ -21,21 +21,11 @@ use Rattle.dep_graph.specs.Named.{has, is_linked}
 use Rattle.dep_graph.specs.Whole.{AreLinks, bound_of}
 use Rattle.dep_graph.specs.declared.targets.Side.TheVariants as side
 use Rattle.dep_graph.specs.declared.links.Link.{Link}
-use Rattle.dep_graph.proofs.Elements.{either_way, none_in, head_in, tail_in, in_cases, any_in, in_any}
+use Rattle.graph_semantics.proofs.Elements.{either_way, none_in, head_in, tail_in, in_cases, any_in, in_any}
 use Rattle.dep_graph.proofs.Resolved.{nodes_come, nodes_there, none_missing, one_missing}
-use Rattle.dep_graph.proofs.ContainerLaws.{within, last_is, IsEdge}
-
-no_way : false ≡ true → ⊥
-no_way h = cc
-
-some_same : {X : Type 0} (x y : X) → ◌≡◌ {A = Option X} (Some x) (Some y) → x ≡ y
-some_same x y h = cc
-
-err_ok : {X : Type 0} (r : Refusal) (x : X) → ◌≡◌ {A = Result X Refusal} (Err r) (Ok x) → ⊥
-err_ok r x h = cc
-
-ok_same : {X : Type 0} (x y : X) → ◌≡◌ {A = Result X Refusal} (Ok x) (Ok y) → x ≡ y
-ok_same x y h = cc
+use Rattle.graph_semantics.proofs.RealPlaces.{within}
+use Rattle.dep_graph.proofs.ContainerLaws.{last_is, IsEdge}
+use Rattle.graph_semantics.proofs.Basics.{no_way, both_true, true_both, some_same, err_ok, ok_same}
 
 -- ---- a target is real
 
@@ -264,14 +254,6 @@ has_in n ns h = let at = any_in (λ k. k == n) ns h in subst (Contains ns) (eqb-
 
 in_has : (n : ℕ) (ns : List ℕ) → Contains ns n → has n ns ≡ true
 in_has n ns h = in_any (λ k. k == n) ns n h (eq-eqb n n refl)
-
-both_true : (a b : Bool) → (a && b) ≡ true → (a ≡ true) × (b ≡ true)
-both_true true b h = (refl, h)
-both_true false b h = absurd (no_way h)
-
-true_both : (a b : Bool) → a ≡ true → b ≡ true → (a && b) ≡ true
-true_both true b h k = k
-true_both false b h k = absurd (no_way h)
 
 pub linked_related : (c : Catalog) (links : List Link) → AreLinks c links → (a b : ℕ) → is_linked links (2 * a) (2 * b) ≡ true → IsRelated c a b
 linked_related c links are a b h =

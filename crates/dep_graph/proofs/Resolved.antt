@@ -1,6 +1,6 @@
 -- What relations between nodes come from, and the first reference to nothing.
 use Rattle.std.proofs.Common.{◌≡◌, ℕ, List, [], ◌∷◌, ◌++◌, map, cond, Option, Some, None, ◌⊎◌, inl, inr, refl, sym, ap, subst, ◌∙◌}
-use Rattle.std.specs.Prelude.{Result, Ok, Err, is_some}
+use Rattle.std.specs.Prelude.{Ok, Err, is_some}
 use Rattle.std.specs.List.{Contains}
 use Rattle.std.proofs.lemmas.List.Elements.{Contains-append_left, Contains-push, Contains-push_cases}
 use Rattle.rh_base.specs.declared.fault.Refusal.{Refusal}
@@ -11,7 +11,8 @@ use Rattle.catalog_semantics.specs.Catalogs.{Catalog}
 use Rattle.graph_semantics.specs.Relations.{target_of, first_missing}
 use Rattle.dep_graph.specs.Links.{side_number, numbered, with_nodes}
 use Rattle.dep_graph.specs.declared.targets.Side.{Side}
-use Rattle.dep_graph.proofs.Elements.{either_way, none_in, head_in, tail_in, in_cases}
+use Rattle.graph_semantics.proofs.Elements.{either_way, none_in, head_in, tail_in, in_cases}
+use Rattle.graph_semantics.proofs.Basics.{some_same, err_ok, ok_same}
 
 -- a reference among some names this place, and this is the place's number
 pub record IsNodeOf (s : Side) (c : Catalog) (refs : List Ref) (n : ℕ) : Type 0 where
@@ -23,15 +24,6 @@ pub record IsNodeOf (s : Side) (c : Catalog) (refs : List Ref) (n : ℕ) : Type 
 
 weaker : (s : Side) (c : Catalog) (ref : Ref) (refs : List Ref) (n : ℕ) → IsNodeOf s c refs n → IsNodeOf s c (ref ∷ refs) n
 weaker s c ref refs n h = record { ref = h.ref; place = h.place; among = tail_in ref h.ref refs h.among; names = h.names; is = h.is }
-
-err_ok : {X : Type 0} (r : Refusal) (x : X) → ◌≡◌ {A = Result X Refusal} (Err r) (Ok x) → ⊥
-err_ok r x h = cc
-
-ok_same : {X : Type 0} (x y : X) → ◌≡◌ {A = Result X Refusal} (Ok x) (Ok y) → x ≡ y
-ok_same x y h = cc
-
-some_same : {X : Type 0} (x y : X) → ◌≡◌ {A = Option X} (Some x) (Some y) → x ≡ y
-some_same x y h = cc
 
 -- ---- the nodes of references
 

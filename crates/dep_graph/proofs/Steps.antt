@@ -19,8 +19,9 @@ use Rattle.dep_graph.specs.Files.{AreFiles, file_edges}
 use Rattle.dep_graph.specs.Whole.{bound_of, count_of, all_edges, AreLinks}
 use Rattle.dep_graph.specs.declared.links.Link.{Link}
 use Rattle.dep_graph.specs.declared.files.ManagedFile.{ManagedFile}
-use Rattle.dep_graph.proofs.Elements.{either_way}
-use Rattle.dep_graph.proofs.ContainerLaws.{within, last_is, IsEdge, structure_from, whole_in, enters_in, leaves_in}
+use Rattle.graph_semantics.proofs.Elements.{either_way}
+use Rattle.graph_semantics.proofs.RealPlaces.{within}
+use Rattle.dep_graph.proofs.ContainerLaws.{last_is, IsEdge, structure_from, whole_in, enters_in, leaves_in}
 use Rattle.dep_graph.proofs.LinkEdges.{IsHub, LinkEdge, Reached, link_edge_from, link_edge_in, hub_from, hub_below, one_hub, hub_of_link, hubs_grow}
 use Rattle.dep_graph.proofs.Related.{link_edge, related_link, low_from, low_to, target_real}
 use Rattle.dep_graph.proofs.AutomaticLaws.{named_from, named_in, file_from, file_in}

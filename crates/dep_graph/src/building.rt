@@ -1,8 +1,10 @@
 //! The graph of a catalog.
 
-ghost use Rattle.std.specs.Prelude.{◌≡◌, length, IfOk, IfErr};
+ghost use Rattle.std.specs.Prelude.{◌≡◌, ◌↔◌, ℕ, List, length, IfOk, IfErr};
 ghost use Rattle.rh_base.specs.Refused.{IfRefused};
+ghost use Rattle.fs_semantics.specs.Orders.{IsLinearExtension};
 ghost use Rattle.orders.specs.Relation.{Comes};
+ghost use Rattle.graph_semantics.specs.Allowed.{IsLeft};
 ghost use Rattle.graph_semantics.specs.Graphs.{IsGraphOf, IsGraphRefusal};
 
 use crate::answer::Graph;
@@ -11,6 +13,7 @@ use crate::pairs::plain_order;
 use crate::structure::plain_places;
 use crate::whole::whole_order;
 use catalog::Catalog;
+use graph_semantics::allowed_orders;
 use rh_base::limits::DECLARED;
 use rh_base::{Fault, NoMemory};
 use std::alloc::Global;
@@ -19,8 +22,12 @@ use std::alloc::Global;
 pub fn graph(alloc: Global, catalog: &Catalog) -> Result<Graph, Fault>
     ensures graph { IfOk result (λ g. IsGraphOf catalog.now g.plain (Comes g.order)) }
     ensures count { IfOk result (λ g. g.order.count ≡ length g.plain) }
+    // An order of the plain resources is allowed exactly where the whole graph, with its starts and ends, leaves it.
+    ensures allowed { IfOk result (λ g. (o : List ℕ)
+        → IsLinearExtension (length g.plain) (Comes g.order) o ↔ IsLeft catalog.now g.plain o) }
     ensures refused { IfErr result (λ e. IfRefused e (IsGraphRefusal catalog.now)) }
 {
+    allowed_orders();
     // No catalog holds more.
     if catalog.count() > DECLARED {
         return Err(Fault::Memory(NoMemory));

@@ -1,14 +1,12 @@
 -- A node is put among others, behind the last that comes before it.
-use Rattle.std.proofs.Common.{◌≡◌, ℕ, zero, suc, ◌+◌, ◌*◌, ◌<◌, ◌≤◌, List, [], ◌∷◌, ◌++◌, length, Bool, true, false, cond, ◌||◌, ◌⊎◌, inl, inr, map, refl, sym, ap, subst, ◌∙◌, arith}
+use Rattle.std.proofs.Common.{◌≡◌, ℕ, ◌+◌, List, [], ◌∷◌, Bool, true, false, cond, ◌||◌, map, refl, sym, ap, ◌∙◌, arith}
 use Rattle.std.specs.Prelude.{filter}
 use Rattle.std.specs.List.{AllByRecursion, list_any}
 use Rattle.fs_semantics.specs.Orders.{times}
 use Rattle.catalog_semantics.specs.Catalogs.{Catalog}
-use Rattle.graph_semantics.specs.Graphs.{Node, rank, Edge, Before}
+use Rattle.graph_semantics.specs.Graphs.{Node, rank, Before}
 use Rattle.graph_semantics.specs.Allowed.{IsNode, NoneAhead, Tells}
-
-no_way : false ≡ true → ⊥
-no_way h = cc
+use Rattle.graph_semantics.proofs.Basics.{no_way}
 
 pub before_on : (c : Catalog) (a b d : Node) → Before c a b → Before c b d → Before c a d
 before_on c a b d (Before.edge h) k = Before.and_on b h k

@@ -1,1 +1,5 @@
+pub mod Basics
+pub mod Elements
+pub mod RealPlaces
 pub mod Inserting
+pub mod AllowedLaws

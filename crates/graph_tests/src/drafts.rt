@@ -86,40 +86,56 @@ fn put_attribute(
     pairs.put(text_of(alloc, name)?, value(alloc, given)?)
 }
 
-/// A resource of some words: its reference, and then its attributes.
-fn resource(
-    alloc: Global,
-    catalog: &Catalog,
-    kind: &str,
-    at: u32,
-    rest: &str,
-) -> Result<Option<Resource>, NoMemory> {
-    let (spelled, rest) = rest.split_once(' ').unwrap_or((rest, ""));
-    let Some(id) = reference(alloc, spelled)? else {
-        return Ok(None);
-    };
-    let mut attrs = Pairs::new(alloc);
-    let mut holder = None;
-    for word in rest.split(' ') {
-        match word.split_once('=') {
-            Some(("in", outer)) => holder = place(alloc, catalog, outer)?,
-            Some((name, given)) => put_attribute(alloc, &mut attrs, name, given)?,
-            None => (),
+/// The attributes among some words; `in` is none.
+fn attributes(alloc: Global, words: &str) -> Result<Pairs, NoMemory> {
+    let mut pairs = Pairs::new(alloc);
+    for word in words.split(' ') {
+        let (name, given) = word.split_once('=').unwrap_or(("in", ""));
+        if name != "in" {
+            put_attribute(alloc, &mut pairs, name, given)?;
         }
     }
-    let sort = match kind {
+    Ok(pairs)
+}
+
+/// The holder that `in` names among some words.
+fn holder(alloc: Global, catalog: &Catalog, words: &str) -> Result<Option<u32>, NoMemory> {
+    for word in words.split(' ') {
+        if let Some(("in", outer)) = word.split_once('=') {
+            return place(alloc, catalog, outer);
+        }
+    }
+    Ok(None)
+}
+
+fn sort_of(kind: &str) -> Sort {
+    match kind {
         "defined" => Sort::Defined,
         "class" => Sort::Class,
         _ => Sort::Plain,
-    };
-    Ok(Some(Resource {
+    }
+}
+
+/// Adds a resource of some words: its reference, and then its attributes.
+fn add_resource(
+    alloc: Global,
+    catalog: &mut Catalog,
+    kind: &str,
+    at: u32,
+    id: Ref,
+    words: &str,
+) -> Result<(), Fault> {
+    let holder = holder(alloc, catalog, words)?;
+    let attrs = attributes(alloc, words)?;
+    catalog.add(Resource {
         id,
-        sort,
+        sort: sort_of(kind),
         is_virtual: kind == "virtual",
         at,
         holder,
         attrs,
-    }))
+    })?;
+    Ok(())
 }
 
 fn relate(
@@ -144,20 +160,16 @@ fn contain(alloc: Global, catalog: &mut Catalog, outer: &str, class: &str) -> Re
 }
 
 fn add_line(alloc: Global, catalog: &mut Catalog, at: u32, line: &str) -> Result<(), Fault> {
-    let Some((kind, rest)) = line.split_once(' ') else {
-        return Ok(());
-    };
+    let (kind, rest) = line.split_once(' ').unwrap_or((line, ""));
     let (first, second) = rest.split_once(' ').unwrap_or((rest, ""));
     match kind {
-        "arrow" => Ok(relate(alloc, catalog, at, first, second)?),
-        "contain" => Ok(contain(alloc, catalog, first, second)?),
-        _ => match resource(alloc, catalog, kind, at, rest)? {
-            Some(r) => {
-                catalog.add(r)?;
-                Ok(())
-            }
-            None => Ok(()),
-        },
+        "arrow" => return Ok(relate(alloc, catalog, at, first, second)?),
+        "contain" => return Ok(contain(alloc, catalog, first, second)?),
+        _ => (),
+    }
+    match reference(alloc, first)? {
+        Some(id) => add_resource(alloc, catalog, kind, at, id, second),
+        None => Ok(()),
     }
 }
 

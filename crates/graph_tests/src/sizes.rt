@@ -37,19 +37,32 @@ fn all(alloc: Global, kind: &str, from: u32, to: u32) -> Result<Seq<Ref>, NoMemo
     Ok(refs)
 }
 
-/// 3,840 defined resources, each in the one before, and then 256 files: a large relation from all of the ones to all of
-/// the others.
-fn large(alloc: Global) -> Result<Catalog, Fault> {
-    let mut catalog = Catalog::new(alloc);
-    for n in 0..3_840 {
-        add(alloc, &mut catalog, "box", Sort::Defined, n)?;
+fn add_all(
+    alloc: Global,
+    catalog: &mut Catalog,
+    kind: &str,
+    sort: Sort,
+    from: u32,
+    to: u32,
+) -> Result<(), Fault> {
+    for n in from..to {
+        add(alloc, catalog, kind, sort, n)?;
     }
-    for n in 3_840..4_096 {
-        add(alloc, &mut catalog, "file", Sort::Plain, n)?;
-    }
+    Ok(())
+}
+
+fn relate_all(alloc: Global, catalog: &mut Catalog) -> Result<(), NoMemory> {
     let from = all(alloc, "file", 3_840, 3_968)?;
     let to = all(alloc, "file", 3_968, 4_096)?;
-    catalog.relate(Relation { from, to, at: 0 })?;
+    catalog.relate(Relation { from, to, at: 0 })
+}
+
+/// 3,840 defined resources, each in the one before, and then 256 files, of which the first half comes before the other.
+fn large(alloc: Global) -> Result<Catalog, Fault> {
+    let mut catalog = Catalog::new(alloc);
+    add_all(alloc, &mut catalog, "box", Sort::Defined, 0, 3_840)?;
+    add_all(alloc, &mut catalog, "file", Sort::Plain, 3_840, 4_096)?;
+    relate_all(alloc, &mut catalog)?;
     Ok(catalog)
 }
 
@@ -59,5 +72,7 @@ fn large_graphs(rt: HostRuntime) -> Result<(), Fail> {
     let found = graph(rt.alloc(), &catalog)?;
     assert_eq!(rt; found.plain.len(), 256);
     assert_eq!(rt; found.order.count(), 256);
+    assert!(rt; found.order.before(127, 128));
+    assert!(rt; !found.order.before(126, 127));
     Ok(())
 }

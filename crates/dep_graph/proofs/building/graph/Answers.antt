@@ -2,12 +2,12 @@ use Rattle.std.proofs.Common.{◌≡◌, ◌<◌, ◌≤◌, ◌*◌, length, sy
 use Rattle.std.specs.Prelude.{slice_index}
 use Rattle.std.specs.List.{All}
 use Rattle.std.proofs.lemmas.Result.{err_from_is_err_and}
-use Rattle.orders.specs.Relation.{Comes}
+use Rattle.orders.specs.Relation.{comes, Comes}
 use Rattle.catalog_semantics.specs.States.{declared_limit}
-use Rattle.graph_semantics.specs.Graphs.{Start, plain_places}
+use Rattle.graph_semantics.specs.Graphs.{Node, Start, rank, plain_places}
 use Rattle.dep_graph.specs.Pairs.{IsWithin}
 use Rattle.dep_graph.specs.Whole.{bound_of}
-use Rattle.dep_graph.proofs.Bounds.{places_within, few_places, place_low}
+use Rattle.dep_graph.proofs.Bounds.{places_within, few_places, place_low, node_low}
 use Rattle.dep_graph.proofs.Refusals.{links_refused, circle_refused, complete}
 use Rattle.dep_graph.proofs.building.graph.Goals as goal
 
@@ -53,3 +53,11 @@ returns-clause-graph c =
       complete = complete k c.in_ok-links.links c.in_ok-links.ensures;
       acyclic = c.in_ok-whole.ensures.acyclic;
     }
+
+pub returns-clause-allowed : goal.returns-clause-allowed
+returns-clause-allowed c =
+    let k = c.args.catalog.now in
+    let whole = c.in_ok-whole.whole in
+    let test = λ (a : Node) (b : Node). comes whole (rank a) (rank b) in
+    c.allowed_orders.ensures k c.in_ok-plain.plain (comes c.in_ok-order.order) test (returns-clause-graph c)
+    (λ a b m n. c.in_ok-whole.ensures.before a b (node_low k a m) (node_low k b n))
