@@ -1,0 +1,5 @@
+pub mod RoundLaws
+pub mod LookLaws
+pub mod RunLaws
+pub mod NameLaws
+pub mod SourceLaws

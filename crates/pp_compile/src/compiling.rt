@@ -1,0 +1,149 @@
+//! The catalog of a manifest, and that of a text.
+
+ghost use Rattle.std.specs.Prelude.{◌≡◌, ◌<◌, ◌^◌, [], length, Result, Ok, IfOk, IfErr};
+ghost use Rattle.rh_base.specs.declared.fault.Refusal.{Refusal};
+ghost use Rattle.rh_base.specs.Refused.{IfRefused};
+ghost use Rattle.pp_value.specs.Shown.{shown_ref};
+ghost use Rattle.pp_eval.specs.Verdicts.{AnswersBy, refusal};
+ghost use Rattle.catalog_semantics.specs.States.{is_declared};
+ghost use Rattle.catalog_semantics.specs.Catalogs.{Catalog as C, all_there, catalog_from, catalog_of, IsCatalogOf};
+ghost use Rattle.pp_compile.specs.Rounds.{run_all, may_stand, catalog_after};
+ghost use Rattle.pp_compile.specs.Sources.{IsCatalogRefusal};
+
+use crate::items::main_code;
+use crate::running::rounds;
+use crate::source::manifest_of;
+use catalog::Catalog;
+use catalog_semantics::text_has_one_catalog;
+use pp_data::Data;
+use pp_decl_results::{catalog_in, few_enough};
+use pp_decl_sites::Site;
+use pp_decl_state::State;
+use pp_eval::refusal;
+use pp_parser::one_manifest;
+use pp_syntax::Manifest;
+use pp_value::{Ref, Value, shown_ref};
+use rh_base::Fault;
+use rh_base::limits::DECLARED;
+use std::alloc::Global;
+
+/// A reference that is to be realized isn't in the catalog.
+fn missing(alloc: Global, at: u32, r: &Ref) -> Fault
+    ensures { IfRefused result (λ x. x ≡ refusal 40 at (shown_ref r.now)) }
+{
+    match shown_ref(alloc, r) {
+        Ok(text) => refusal(alloc, 40, at, text.as_str()),
+        Err(m) => Fault::Memory(m),
+    }
+}
+
+#[tactic(auto, using(pp_decl_classes::proofs::BeginningLaws::declared_at))]
+fn is_declared(state: &State, r: &Ref) -> bool
+    ensures { result ≡ is_declared r.now state.now }
+{
+    state.place_of(r).is_some()
+}
+
+/// Each reference that is to be realized must be in the catalog.
+fn all_there(alloc: Global, state: &State) -> Result<(), Fault>
+    ensures { AnswersBy (λ done. state.now) (all_there state.now.pending state.now) result }
+{
+    for p in state.pending().as_slice() {
+        if !is_declared(state, &p.target) {
+            return Err(missing(alloc, p.at, &p.target));
+        }
+    }
+    Ok(())
+}
+
+/// The main code, and so many rounds.
+fn run_all(
+    alloc: Global,
+    site: &Site<'_>,
+    turns: u32,
+    manifest: &Manifest,
+    state: &mut State,
+) -> Result<(), Fault>
+    ensures { AnswersBy (λ done. state.new) (run_all turns site.now manifest.now.items state.old) result }
+{
+    main_code(alloc, site, manifest, state)?;
+    rounds(alloc, site, turns, state)
+}
+
+/// What is asked after the rounds.
+fn may_stand(alloc: Global, state: &State) -> Result<(), Fault>
+    ensures { AnswersBy (λ done. state.now) (may_stand state.now) result }
+{
+    all_there(alloc, state)?;
+    few_enough(alloc, state)
+}
+
+/// The catalog after so many rounds, of a manifest whose definitions are gathered.
+fn catalog_after(
+    alloc: Global,
+    site: &Site<'_>,
+    turns: u32,
+    manifest: &Manifest,
+    facts: &Value,
+) -> Result<Catalog, Fault>
+    ensures { AnswersBy (λ c. c) (catalog_after turns site.now manifest.now.items facts.now) result }
+{
+    let mut state = State::new(alloc, facts)?;
+    run_all(alloc, site, turns, manifest, &mut state)?;
+    may_stand(alloc, &state)?;
+    Ok(catalog_in(alloc, state)?)
+}
+
+/// The catalog of a manifest whose definitions are gathered.
+pub fn catalog_from(
+    alloc: Global,
+    site: &Site<'_>,
+    manifest: &Manifest,
+    facts: &Value,
+) -> Result<Catalog, Fault>
+    ensures { AnswersBy (λ c. c) (catalog_from site.now manifest.now.items facts.now) result }
+{
+    catalog_after(alloc, site, DECLARED + 1, manifest, facts)
+}
+
+/// The catalog of a manifest for a node, under facts and class data.
+pub fn catalog_of(
+    alloc: Global,
+    manifest: &Manifest,
+    facts: &Value,
+    node: &str,
+    levels: &Data,
+) -> Result<Catalog, Fault>
+    ensures { AnswersBy (λ c. c) (catalog_of manifest.now facts.now node.now levels.now) result }
+{
+    let site = Site::of(alloc, manifest, levels, facts, node)?;
+    catalog_from(alloc, &site, manifest, facts)
+}
+
+/// The catalog of a text for a node, under facts and class data, or the first refusal.
+pub fn compile_with(
+    alloc: Global,
+    text: &[u8],
+    facts: &Value,
+    node: &str,
+    levels: &Data,
+) -> Result<Catalog, Fault>
+    requires { length text.now < 2 ^ 32 }
+    ensures catalog { IfOk result (λ c. IsCatalogOf text.now facts.now node.now levels.now (Ok c)) }
+    ensures refused { IfErr result (λ e. IfRefused e (IsCatalogRefusal text.now facts.now node.now levels.now)) }
+    ensures one { (v w : Result C Refusal) → IsCatalogOf text.now facts.now node.now levels.now v → IsCatalogOf text.now facts.now node.now levels.now w → v ≡ w }
+{
+    one_manifest();
+    text_has_one_catalog();
+    let manifest = manifest_of(alloc, text)?;
+    catalog_of(alloc, &manifest, facts, node, levels)
+}
+
+/// The catalog of a text for a node, under facts, with no class data.
+pub fn compile(alloc: Global, text: &[u8], facts: &Value, node: &str) -> Result<Catalog, Fault>
+    requires { length text.now < 2 ^ 32 }
+    ensures catalog { IfOk result (λ c. IsCatalogOf text.now facts.now node.now [] (Ok c)) }
+    ensures refused { IfErr result (λ e. IfRefused e (IsCatalogRefusal text.now facts.now node.now [])) }
+{
+    compile_with(alloc, text, facts, node, &Data::empty(alloc))
+}

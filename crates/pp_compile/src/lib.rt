@@ -1,0 +1,13 @@
+//! The catalog of a manifest.
+#![tactic(auto)]
+
+mod compiling;
+mod defaults;
+mod items;
+mod looking;
+mod running;
+mod source;
+
+pub use compiling::{catalog_from, catalog_of, compile, compile_with};
+pub use items::main_code;
+pub use running::{evaluate, rounds};
