@@ -1,0 +1,151 @@
+//! What is answered to a manifest, as the rows have it.
+ghost use Rattle.std.specs.Prelude.{◌<◌, ◌^◌, length};
+
+use catalog::Catalog;
+use catalog_semantics::{Relation, Resource};
+use catalog_text::catalog_text;
+use pp_compile::{compile, compile_with};
+use pp_data::{Data, data_from_json};
+use pp_eval::facts_from_json;
+use pp_value::{Ref, Value, show, shown_ref};
+use rh_base::{Fault, Refusal};
+use std::alloc::Global;
+use std::test::Fail;
+
+fn line_of(alloc: Global, refusal: &Refusal) -> Result<String, Fail> {
+    let number = refusal.number;
+    let at = refusal.at;
+    let name = refusal.name.as_str();
+    Ok(format!(in alloc; "{number} at {at}: {name}")?)
+}
+
+/// A refusal, as `29 at 5: operand`.
+fn refused(alloc: Global, fault: &Fault) -> Result<String, Fail> {
+    match fault {
+        Fault::Refused(refusal) => line_of(alloc, refusal),
+        Fault::Memory(_) => Err(Fail::from("memory")),
+    }
+}
+
+fn value_text(alloc: Global, value: &Value) -> Result<String, Fail> {
+    match show(alloc, value) {
+        Ok(text) => Ok(text.into_string()),
+        Err(_) => Ok(String::from_str(alloc, "?")?),
+    }
+}
+
+fn push_attributes(alloc: Global, r: &Resource, into: &mut String) -> Result<(), Fail> {
+    for pair in r.attrs.as_slice() {
+        let value = value_text(alloc, &pair.1)?;
+        let part = format!(in alloc; " {}={}", pair.0.as_str(), value.as_str())?;
+        into.push_str(part.as_str())?;
+    }
+    Ok(())
+}
+
+fn push_resource(alloc: Global, r: &Resource, into: &mut String) -> Result<(), Fail> {
+    if r.is_virtual {
+        into.push_str("@")?;
+    }
+    into.push_str(shown_ref(alloc, &r.id)?.as_str())?;
+    push_attributes(alloc, r, into)?;
+    into.push_str("; ")?;
+    Ok(())
+}
+
+fn push_refs(alloc: Global, refs: &[Ref], into: &mut String) -> Result<(), Fail> {
+    for r in refs {
+        into.push_str(shown_ref(alloc, r)?.as_str())?;
+        into.push_str(" ")?;
+    }
+    Ok(())
+}
+
+fn push_relation(alloc: Global, r: &Relation, into: &mut String) -> Result<(), Fail> {
+    push_refs(alloc, r.from.as_slice(), into)?;
+    into.push_str("-> ")?;
+    push_refs(alloc, r.to.as_slice(), into)
+}
+
+fn push_members(alloc: Global, catalog: &Catalog, i: u32, into: &mut String) -> Result<(), Fail>
+    requires { i < length catalog.now.resources }
+{
+    for place in catalog.members(i)?.as_slice() {
+        let part = format!(in alloc; "{i}<{place} ")?;
+        into.push_str(part.as_str())?;
+    }
+    Ok(())
+}
+
+fn push_all_members(alloc: Global, catalog: &Catalog, into: &mut String) -> Result<(), Fail> {
+    for i in 0..catalog.count() {
+        push_members(alloc, catalog, i, into)?;
+    }
+    Ok(())
+}
+
+/// The resources in order, virtual ones behind `@`, then the relations, then what is in what.
+fn catalog_line(alloc: Global, catalog: &Catalog) -> Result<String, Fail> {
+    let mut into = String::new(alloc);
+    for i in 0..catalog.count() {
+        push_resource(alloc, catalog.get(i), &mut into)?;
+    }
+    for r in catalog.relations().as_slice() {
+        push_relation(alloc, r, &mut into)?;
+    }
+    push_all_members(alloc, catalog, &mut into)?;
+    Ok(into)
+}
+
+fn data_of(alloc: Global, text: &str) -> Result<Data, Fail> {
+    if text.is_empty() {
+        return Ok(Data::empty(alloc));
+    }
+    match data_from_json(alloc, text.as_bytes()) {
+        Ok(data) => Ok(data),
+        Err(_) => Err(Fail::from("no data")),
+    }
+}
+
+fn facts_of(alloc: Global, text: &str) -> Result<Value, Fail> {
+    match facts_from_json(alloc, text.as_bytes()) {
+        Ok(facts) => Ok(facts),
+        Err(_) => Err(Fail::from("no facts")),
+    }
+}
+
+/// The catalog of a text under facts and class data for a node, or its refusal.
+pub fn compiled_under(
+    alloc: Global,
+    text: &str,
+    facts: &str,
+    node: &str,
+    levels: &str,
+) -> Result<String, Fail> {
+    if text.len() > 100_000 {
+        return Err(Fail::from("a long text"));
+    }
+    let levels = data_of(alloc, levels)?;
+    let facts = facts_of(alloc, facts)?;
+    match compile_with(alloc, text.as_bytes(), &facts, node, &levels) {
+        Ok(catalog) => catalog_line(alloc, &catalog),
+        Err(fault) => refused(alloc, &fault),
+    }
+}
+
+/// The catalog of a text with no facts and no class data, or its refusal.
+pub fn compiled(alloc: Global, text: &str) -> Result<String, Fail> {
+    compiled_under(alloc, text, "{}", "", "")
+}
+
+/// The text of the catalog of a manifest with no facts and no class data, or its refusal.
+pub fn text_of(alloc: Global, text: &str) -> Result<String, Fail> {
+    if text.len() > 100_000 {
+        return Err(Fail::from("a long text"));
+    }
+    let facts = facts_of(alloc, "{}")?;
+    match compile(alloc, text.as_bytes(), &facts, "") {
+        Ok(catalog) => Ok(catalog_text(alloc, &catalog)?.into_string()),
+        Err(fault) => refused(alloc, &fault),
+    }
+}

@@ -1,0 +1,31 @@
+//! Rows of the text of a catalog.
+use crate::answers::text_of;
+use std::test::Fail;
+
+#[test]
+fn real_resources_are_printed_with_their_attributes(rt: HostRuntime) -> Result<(), Fail> {
+    let rows: [(&str, &str); 6] = [
+        (
+            "File { mode => '0644' } file { '/a': content => 'x' }",
+            "File[/a]\n  content => \"x\"\n  mode => \"0644\"\n",
+        ),
+        (
+            "define d($p) { file { $title: content => $p } } d { '/x': p => 'q' } d { '/y': p => 'r' }",
+            "File[/x]\n  content => \"q\"\nFile[/y]\n  content => \"r\"\n",
+        ),
+        ("include z", "22 at 0: z"),
+        ("@file { '/v': content => 'x' } class c { } include c", ""),
+        (
+            "file { '/a': content => { 'b' => 1, 'a' => [true, undef, 'q\"'] } }",
+            "File[/a]\n  content => {\"a\":[true,null,\"q\\\"\"],\"b\":1}\n",
+        ),
+        (
+            "file { '/a': require => File['/b'] } file { '/b': }",
+            "File[/a]\n  require => \"File[/b]\"\nFile[/b]\n",
+        ),
+    ];
+    for (text, want) in rows {
+        assert_eq!(rt; text_of(rt.alloc(), text)?.as_str(), want, "{text}");
+    }
+    Ok(())
+}

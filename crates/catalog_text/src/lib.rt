@@ -1,0 +1,8 @@
+//! The text of a catalog.
+#![tactic(auto)]
+
+mod printing;
+mod values;
+
+pub use printing::catalog_text;
+pub use values::json_text;
