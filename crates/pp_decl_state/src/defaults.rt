@@ -57,11 +57,7 @@ fn note_names(alloc: Global, pairs: &Pairs) -> Result<Keyed<bool>, NoMemory>
 
 /// The names of the attributes that defaults give to a type.
 #[tactic(auto, using(crate::proofs::DefaultLaws::kept, crate::proofs::DefaultLaws::noted_once))]
-pub fn names_of(
-    alloc: Global,
-    kind: &str,
-    defaults: &[Default],
-) -> Result<Keyed<bool>, NoMemory>
+pub fn names_of(alloc: Global, kind: &str, defaults: &[Default]) -> Result<Keyed<bool>, NoMemory>
     requires { AreApart defaults.now }
     ensures { IfOk result (λ names. names ≡ names_noted kind.now defaults.now) }
 {
