@@ -1,4 +1,4 @@
-use Rattle.std.proofs.Common.{◌≡◌, [], ◌∷◌, ap, ◌∙◌}
+use Rattle.std.proofs.Common.{◌≡◌, [], ◌∷◌, ◌∙◌}
 use Rattle.std.specs.BTreeSet.{contains}
 use Rattle.fs_semantics.specs.FileTree.{path_cmp}
 use Rattle.fs_interpreter.specs.Places.{Listed, with_content}
