@@ -8,6 +8,8 @@ mod common;
 #[cfg(test)]
 mod faults;
 #[cfg(test)]
+mod migrate;
+#[cfg(test)]
 mod verify;
 #[cfg(test)]
 mod words;
