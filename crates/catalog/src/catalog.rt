@@ -1,8 +1,8 @@
 //! The catalog and its calls.
 
-ghost use Rattle.std.specs.Prelude.{◌≡◌, ◌<◌, ◌^◌, ◌++◌, ◌∷◌, [], Some, length, slice_get, option_map, IfOk, OnOk, OnErr};
+ghost use Rattle.std.specs.Prelude.{◌≡◌, ◌<◌, ◌≤◌, ◌^◌, ◌++◌, ◌∷◌, [], Some, length, slice_get, option_map, IfOk, OnOk, OnErr};
 ghost use Rattle.pp_eval.specs.Verdicts.{AnswersBy};
-ghost use Rattle.catalog_semantics.specs.States.{place_of};
+ghost use Rattle.catalog_semantics.specs.States.{place_of, declared_limit};
 ghost use Rattle.catalog.specs.Adding.{with_added, with_filled, with_realized};
 ghost use Rattle.catalog.specs.Members.{inside, is_inside, members_of};
 
@@ -117,7 +117,8 @@ impl Catalog {
     }
 
     pub fn count(&self) -> u32
-        ensures { result ≡ length self.now.resources }
+        ensures count { result ≡ length self.now.resources }
+        ensures few { result ≤ declared_limit }
     {
         self.listed.as_slice().len() as u32
     }

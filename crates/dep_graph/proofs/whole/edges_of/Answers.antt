@@ -28,7 +28,7 @@ returns-clause-edges c =
       edges_are = four_joined c.in_ok-edges.edges c.push_links.new.edges c.push_named_edges.new.edges c.push_file_edges.new.edges
           (structure_edges k (length k.resources)) (edges_of_links (bound_of k) links) (named_edges k links (plain_places k) (plain_places k)) (file_edges links c.in_ok-files.files)
           c.in_ok-edges.ensures
-          (c.in_ok-count.ensures.edges ∙ ap (λ n. c.in_ok-edges.edges ++ edges_of_links (2 * n) links) c.count.ensures)
+          (c.in_ok-count.ensures.edges ∙ ap (λ n. c.in_ok-edges.edges ++ edges_of_links (2 * n) links) c.count.ensures.count)
           (c.in_ok-push_named_edges.ensures ∙ ap (λ ps. c.push_links.new.edges ++ named_edges k links ps ps) c.requires.plain)
           (c.in_ok-push_file_edges.ensures ∙ ap (λ fs. c.push_named_edges.new.edges ++ file_edges links fs) c.as_slice.ensures);
     }

@@ -47,7 +47,7 @@ returns-in-Err-Cycle-clause-circle c =
     let found = subst (λ x. IfCycle x (IsCycle c.as_slice.result.now)) c.in-Err-Cycle.field-0-is c.in-Err-Cycle.ensures.cycle in
     let round = circle k c.args.links.now e.files c.requires.links e.files_are c.in-Err-Cycle.nodes (subst (λ xs. IsCycle xs c.in-Err-Cycle.nodes) are found) in
     let told : refusal 41 0 (around_text k (2 * c.count.result) c.as_slice-in-Err-Cycle.result.now) ≡ refusal 41 0 (around_text k (bound_of k) c.in-Err-Cycle.nodes) =
-    ap (λ n. refusal 41 0 (around_text k (2 * n) c.as_slice-in-Err-Cycle.result.now)) c.count.ensures
+    ap (λ n. refusal 41 0 (around_text k (2 * n) c.as_slice-in-Err-Cycle.result.now)) c.count.ensures.count
     ∙ ap (λ ns. refusal 41 0 (around_text k (bound_of k) ns)) c.as_slice-in-Err-Cycle.ensures in
     refused_weaker (λ x. x ≡ refusal 41 0 (around_text k (2 * c.count.result) c.as_slice-in-Err-Cycle.result.now)) (IsCircleRefusal k) c.circle.result
     (λ x is. subst (IsCircleRefusal k) (sym (is ∙ told)) round) c.circle.ensures
