@@ -1,0 +1,3 @@
+pub mod InputsMatter
+pub mod AskLaws
+pub mod WitnessLaws

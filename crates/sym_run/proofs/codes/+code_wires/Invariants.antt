@@ -1,0 +1,5 @@
+use Rattle.std.proofs.Common.{length, ℕ, ◌+◌}
+use Rattle.sym_run.proofs.codes.+code_wires.Given as goal
+
+abbrev pub decreases-code_wires : goal.decreases-code_wires
+decreases-code_wires l = l.n

@@ -1,0 +1,34 @@
+use Rattle.std.proofs.Common.{◌≡◌, ◌<◌, length, sym, ap, subst, ◌∙◌, arith}
+use Rattle.bool_circuit.specs.Gates.{input_count}
+use Rattle.fs_interpreter.specs.States.{State, state_of}
+use Rattle.fs_interpreter.specs.Standing.{Stands}
+use Rattle.fs_interpreter.proofs.Frames.{cells_stay, cells_keep, state_keeps}
+use Rattle.sym_run.specs.Fitting.{all_fit}
+use Rattle.sym_run.specs.Wires.{circuit_meanings}
+use Rattle.sym_run.proofs.CellLaws.{input_cells_own}
+use Rattle.sym_run.proofs.AnyLaws.{tree_exactly, tree_every}
+use Rattle.sym_run.proofs.trees.any_tree.Goals as goal
+
+pub returns-in_ok-well-clause-exact : goal.returns-in_ok-well-clause-exact
+returns-in_ok-well-clause-exact c = λ v.
+    let table = c.args.domain.now.table in
+    let cells = c.in_ok-cells.cells in
+    let k = input_count c.args.sym.now in
+    let m1 = circuit_meanings c.input_cells.new.sym in
+    let m2 = circuit_meanings c.all_fit.new.sym in
+    let own = input_cells_own c.input_cells.new.sym k _ _ cells c.in_ok-cells.ensures.cells in
+    let keep = cells_keep m1 m2 cells c.all_fit.ensures.grows own v in
+    let fine = c.all_fit.ensures.grows.bit cells.error own.error v ∙ c.in_ok-cells.ensures.cells.no_error v in
+    let told = c.in_ok-well.ensures.gives.means v ∙ ap (λ f. all_fit table f (length table.paths)) (sym keep) in
+    let exact = tree_exactly c.file_trees.ensures.put c.args.domain.now (state_of m2 v cells) c.is_table.ensures c.paths_are_proper.ensures c.contents_are_bytes.ensures fine in
+    ((λ h. exact.0 (sym told ∙ h)), (λ h. told ∙ exact.1 h))
+
+pub returns-in_ok-well-clause-every : goal.returns-in_ok-well-clause-every
+returns-in_ok-well-clause-every c = λ u t over.
+    let cells = c.in_ok-cells.cells in
+    let k = input_count c.args.sym.now in
+    let m1 = circuit_meanings c.input_cells.new.sym in
+    let m2 = circuit_meanings c.all_fit.new.sym in
+    let own = input_cells_own c.input_cells.new.sym k _ _ cells c.in_ok-cells.ensures.cells in
+    let told = tree_every c.args.domain.now c.input_cells.new.sym k _ cells c.in_ok-cells.ensures.cells c.width_for.ensures.enough u t over in
+    (told.0, told.1, subst (λ (s : State). Stands c.args.domain.now.table s t) (sym (state_keeps m1 m2 cells c.all_fit.ensures.grows own told.0)) told.2)
