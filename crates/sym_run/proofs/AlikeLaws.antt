@@ -27,16 +27,16 @@ same_is true false h = sym h
 same_is false true h = h
 same_is false false h = refl
 
-left : (a b : Bool) → (a && b) ≡ true → a ≡ true
+pub left : (a b : Bool) → (a && b) ≡ true → a ≡ true
 left true b h = refl
 left false b h = h
 
-right : (a b : Bool) → (a && b) ≡ true → b ≡ true
+pub right : (a b : Bool) → (a && b) ≡ true → b ≡ true
 right true b h = h
 right false true h = refl
 right false false h = h
 
-both : (a b : Bool) → a ≡ true → b ≡ true → (a && b) ≡ true
+pub both : (a b : Bool) → a ≡ true → b ≡ true → (a && b) ≡ true
 both a b h k = λ i. h i && k i
 
 -- a cell tells what it tells
@@ -56,11 +56,11 @@ same_wires m v a b i h = ap (λ (c : Cell). same_cell c (cell_at m v b i)) (λ t
 
 -- ---- cells and entries
 
-where_true : (b x : Bool) → b ≡ true → cond b x true ≡ true → x ≡ true
+pub where_true : (b x : Bool) → b ≡ true → cond b x true ≡ true → x ≡ true
 where_true true x e h = h
 where_true false x e h = cc
 
-unless_false : (b x : Bool) → b ≡ false → cond b true x ≡ true → x ≡ true
+pub unless_false : (b x : Bool) → b ≡ false → cond b true x ≡ true → x ≡ true
 unless_false true x e h = cc
 unless_false false x e h = h
 

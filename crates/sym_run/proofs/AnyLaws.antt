@@ -27,13 +27,13 @@ pub tree_exactly : Putting → (d : Domain) (s : State) → IsTable d.table → 
     → s.error ≡ false → (all_fit d.table s.cell (length d.table.paths) ≡ true) ↔ ((t : Tree) × IsTreeOver d t × Stands d.table s t)
 tree_exactly put d s is proper bytes fine = (
   (λ h.
-    let fit = λ (i : ℕ) (p : Path) (at : slice_get d.table.paths i ≡ Some p). fits_means d.table s.cell i p at (all_at d.table s.cell (length d.table.paths) h i (slice_get_within d.table.paths i p at)) in
-    let t = grown d.table s.cell (length d.table.paths) in
-    let st = grown_stands put d.table s is fine fit in
-    (t, record { is_tree = stands_for_tree d.table s t is proper bytes st fit; is_over = stands_over d s t st }, st)),
+      let fit = λ (i : ℕ) (p : Path) (at : slice_get d.table.paths i ≡ Some p). fits_means d.table s.cell i p at (all_at d.table s.cell (length d.table.paths) h i (slice_get_within d.table.paths i p at)) in
+      let t = grown d.table s.cell (length d.table.paths) in
+      let st = grown_stands put d.table s is fine fit in
+      (t, record { is_tree = stands_for_tree d.table s t is proper bytes st fit; is_over = stands_over d s t st }, st)),
   (λ h. at_all d.table s.cell (length d.table.paths) (λ i l.
-    let at = slice_get-get_or d.table.paths i [] l in
-    means_fits d.table s.cell i (get_or d.table.paths i []) at (stands_fits d.table s h.0 is h.2 h.1.is_tree i (get_or d.table.paths i []) at))),
+      let at = slice_get-get_or d.table.paths i [] l in
+      means_fits d.table s.cell i (get_or d.table.paths i []) at (stands_fits d.table s h.0 is h.2 h.1.is_tree i (get_or d.table.paths i []) at))),
 )
 
 -- some valuation makes them stand for the tree, whatever the earlier inputs are

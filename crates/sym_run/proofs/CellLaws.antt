@@ -137,12 +137,16 @@ code_told gates width k rows i m v is h small digits =
 -- some valuation makes them tell what is wanted, whatever the other inputs are
 pub cells_as_wanted : {B : Type 0} (gates : List Gate) (k n width : ℕ) (cells : Cells B Wire (List Wire)) (want : ℕ → Cell) (u : Valuation) → AreInputCells gates k n width cells → ((i : ℕ) → i < n → (want i).content < twice width)
     → (v : Valuation) × AgreeOutside k (k + n + n + n + n * width) u v × ((i : ℕ) → i < n → cell_at (circuit_meanings gates) v cells i ≡ want i)
-cells_as_wanted gates k n width cells want u is small = let v = wanted k n width want u in (v, wanted_elsewhere k n width want u, λ i h t. record {
-  present = (bit_told gates k cells.present i v is.present (subst (λ m. i < m) (sym is.presents) h) ∙ wanted_present k n width want u i h) t;
-  folder = (bit_told gates (k + n) cells.folder i v is.folder (subst (λ m. i < m) (sym is.folders) h) ∙ wanted_folder k n width want u i h) t;
-  link = (bit_told gates (k + n + n) cells.link i v is.link (subst (λ m. i < m) (sym is.links) h) ∙ wanted_link k n width want u i h) t;
-  content = code_told gates width (k + n + n + n) cells.content i (want i).content v is.content (subst (λ m. i < m) (sym is.contents) h) (small i h) (λ j l. wanted_digit k n width want u i j h l) t;
-})
+cells_as_wanted gates k n width cells want u is small = let v = wanted k n width want u in (
+  v,
+  wanted_elsewhere k n width want u,
+  λ i h t. record {
+    present = (bit_told gates k cells.present i v is.present (subst (λ m. i < m) (sym is.presents) h) ∙ wanted_present k n width want u i h) t;
+    folder = (bit_told gates (k + n) cells.folder i v is.folder (subst (λ m. i < m) (sym is.folders) h) ∙ wanted_folder k n width want u i h) t;
+    link = (bit_told gates (k + n + n) cells.link i v is.link (subst (λ m. i < m) (sym is.links) h) ∙ wanted_link k n width want u i h) t;
+    content = code_told gates width (k + n + n + n) cells.content i (want i).content v is.content (subst (λ m. i < m) (sym is.contents) h) (small i h) (λ j l. wanted_digit k n width want u i j h l) t;
+  },
+)
 
 -- ---- codes
 
@@ -160,11 +164,11 @@ rows_every gates k m n width rows is long end u want small = let v = with_range 
   v,
   (λ j h. out_of_range k (n * width) (row_digits width want) u j (subst (λ e. (j < k) ⊎ (e ≤ j)) end h)),
   (λ i ws at.
-    let row = row_at gates width k rows i ws is at in
-    let within = slice_get_within rows i ws at in
-    let below : i < n = subst (λ e. i < e) long within in
-    digits_are gates (k + i * width) width ws (want i) v row.1 row.0 (small i below) (λ j l.
-    ap v (shift i j) ∙ in_range k (n * width) (row_digits width want) u (i * width + j) (row_inside i n width j below l) ∙ row_digit width want i j l)),
+      let row = row_at gates width k rows i ws is at in
+      let within = slice_get_within rows i ws at in
+      let below : i < n = subst (λ e. i < e) long within in
+      digits_are gates (k + i * width) width ws (want i) v row.1 row.0 (small i below) (λ j l.
+      ap v (shift i j) ∙ in_range k (n * width) (row_digits width want) u (i * width + j) (row_inside i n width j below l) ∙ row_digit width want i j l)),
 )
   where
     shift : (i j : ℕ) → k + i * width + j ≡ k + (i * width + j)

@@ -36,6 +36,11 @@ on_snoc : (values : ℕ → Bool) (n : ℕ) (ws : List Wire) (w : Wire) → numb
 on_snoc values n [] w = refl
 on_snoc values n (x ∷ ws) w = on_snoc values (2 * n + bit_number (values x.0)) ws w
 
+-- a number with bits behind it is no less
+pub on_more : (values : ℕ → Bool) (n : ℕ) (ws : List Wire) → n ≤ number_on values n ws
+on_more values n [] = omega arith
+on_more values n (w ∷ ws) = let rest = on_more values (2 * n + bit_number (values w.0)) ws in omega (arith, rest)
+
 pub number_snoc : (values : ℕ → Bool) (ws : List Wire) (w : Wire) → number values (ws ++ w ∷ []) ≡ 2 * number values ws + bit_number (values w.0)
 number_snoc values ws w = on_snoc values 0 ws w
 

@@ -152,10 +152,10 @@ pub cells_stand : (d : Domain) (s : State) (t : Tree) → IsTreeOver d t → s.e
 cells_stand d s t over fine want = record {
   no_error = fine;
   tells = λ i p at.
-    let told = want i (slice_get_within d.table.paths i p at) ∙ ap (λ q. cell_for d.table.contents (map.get t q)) (path_is d.table.paths i p at) in
-    subst (λ (c : Cell). Tells d.table.contents c (map.get t p)) (sym told) (tells_for d.table.contents (map.get t p) (λ c h. over.is_over.contents p c h));
+      let told = want i (slice_get_within d.table.paths i p at) ∙ ap (λ q. cell_for d.table.contents (map.get t q)) (path_is d.table.paths i p at) in
+      subst (λ (c : Cell). Tells d.table.contents c (map.get t p)) (sym told) (tells_for d.table.contents (map.get t p) (λ c h. over.is_over.contents p c h));
   nothing_else = λ p nowhere. no_entry (map.get t p) (λ h.
-    let there = laid (layout_of d) p (not_root t p over.is_tree h) (over.is_over.paths p h) in nowhere there.0 there.1);
+      let there = laid (layout_of d) p (not_root t p over.is_tree h) (over.is_over.paths p h) in nowhere there.0 there.1);
 }
 
 place_small : (contents : List (List ℕ)) (c : List ℕ) (n : ℕ) → length contents - 1 < n → number_in contents c < n

@@ -68,7 +68,7 @@ digits_told v k zero n h is = omega (arith, h)
 digits_told v k (suc width) n h is =
     told_last v 0 k width
     ∙ (λ i. 2 * digits_told v k width (n / 2) (half_below width n h) (λ j b. is j (omega (arith, b)) ∙ ap (λ c. cond c (n % 2 == 1) (digit width (n / 2) j)) (eqb_not j width (λ e. absurd (omega (arith, b, e))))) i
-        + bit_number ((is width (omega arith) ∙ ap (λ c. cond c (n % 2 == 1) (digit width (n / 2) width)) (eqb_is width width refl)) i))
+    + bit_number ((is width (omega arith) ∙ ap (λ c. cond c (n % 2 == 1) (digit width (n / 2) width)) (eqb_is width width refl)) i))
     ∙ halves n
 
 -- inputs that are the digits of a number tell it

@@ -68,3 +68,9 @@ none_less n rest h = surely 0 n rest h
 
 pub half_below : (width n : ℕ) → n < twice (suc width) → n / 2 < twice width
 half_below width n h = let parts = div-add-mod n 2 in omega (arith, h, parts)
+
+-- one bit more tells twice as much
+pub width_more : (m r : ℕ) → m / 2 < twice r → m < twice (r + 1)
+width_more m r h =
+    let next : twice (r + 1) ≡ twice (suc r) = ap twice (omega arith) in
+    omega (arith, h, halves m, bit_at_most (m % 2 == 1), next)

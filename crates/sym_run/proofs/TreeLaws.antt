@@ -15,19 +15,7 @@ use Rattle.fs_interpreter.proofs.SearchLaws.{place_there, place_nowhere}
 use Rattle.sym_run.specs.Fitting.{fits, fits_at, all_fit}
 use Rattle.fs_replay.specs.Told.{with_entry}
 use Rattle.sym_run.specs.Trees.{entry_in, grown}
-use Rattle.sym_run.proofs.AlikeLaws.{somewhere}
-
-left : (a b : Bool) → (a && b) ≡ true → a ≡ true
-left true b h = refl
-left false b h = h
-
-right : (a b : Bool) → (a && b) ≡ true → b ≡ true
-right true b h = h
-right false true h = refl
-right false false h = h
-
-both : (a b : Bool) → a ≡ true → b ≡ true → (a && b) ≡ true
-both a b h k = λ i. h i && k i
+use Rattle.sym_run.proofs.AlikeLaws.{somewhere, left, right, both, where_true, unless_false}
 
 -- what it means that a cell fits
 pub record Fits (table : Listed) (cell : Cellwise) (i : ℕ) (p : Path) : Type 0 where
@@ -45,14 +33,6 @@ all_at table cell (suc n) h i k = elim (nat_lt i n) as (λ c. nat_lt i n ≡ c �
 pub at_all : (table : Listed) (cell : Cellwise) (n : ℕ) → ((i : ℕ) → i < n → fits_at table cell i ≡ true) → all_fit table cell n ≡ true
 at_all table cell zero h = refl
 at_all table cell (suc n) h = both (all_fit table cell n) (fits_at table cell n) (at_all table cell n (λ i k. h i (omega (arith, k)))) (h n (omega arith))
-
-where_true : (b x : Bool) → b ≡ true → cond b x true ≡ true → x ≡ true
-where_true true x e h = h
-where_true false x e h = cc
-
-unless_false : (b x : Bool) → b ≡ false → cond b true x ≡ true → x ≡ true
-unless_false true x e h = cc
-unless_false false x e h = h
 
 when : (b x : Bool) → (b ≡ true → x ≡ true) → cond b x true ≡ true
 when true x h = h refl
@@ -83,8 +63,8 @@ means_fits table cell i p at f =
     let q = slice_index_or table.paths i [] in
     let known = nat_lt (cell i).content (length table.contents) in
     when (cell i).present _ (λ there. both (dir_at (place_in table.paths (parent q)) cell) (cond (cell i).folder true known)
-        (subst (λ r. dir_at (place_in table.paths (parent r)) cell ≡ true) (sym (path_is table.paths i p at)) (f.above there))
-        (unless (cell i).folder known (λ text. lt-ltb (cell i).content (length table.contents) (f.known there text))))
+    (subst (λ r. dir_at (place_in table.paths (parent r)) cell ≡ true) (sym (path_is table.paths i p at)) (f.above there))
+    (unless (cell i).folder known (λ text. lt-ltb (cell i).content (length table.contents) (f.known there text))))
 
 -- ---- the tree that cells tell
 

@@ -88,7 +88,11 @@ pub(crate) fn same_bit<B: Bits>(bits: &mut B, a: &B::Bit, b: &B::Bit) -> Result<
 }
 
 /// Whether the condition fails or the bit holds.
-pub(crate) fn where_holds<B: Bits>(bits: &mut B, when: &B::Bit, a: &B::Bit) -> Result<B::Bit, NoMemory>
+pub(crate) fn where_holds<B: Bits>(
+    bits: &mut B,
+    when: &B::Bit,
+    a: &B::Bit,
+) -> Result<B::Bit, NoMemory>
     requires when { (B.meanings bits.old).owns when.now }
     requires a { (B.meanings bits.old).owns a.now }
     ensures gives { IfOk result (IsBit (B.meanings bits.new) (λ v. if (B.meanings bits.old).bit v when.now then (B.meanings bits.old).bit v a.now else true)) }
@@ -99,7 +103,11 @@ pub(crate) fn where_holds<B: Bits>(bits: &mut B, when: &B::Bit, a: &B::Bit) -> R
 }
 
 /// Whether the condition holds or the bit does.
-pub(crate) fn unless_holds<B: Bits>(bits: &mut B, when: &B::Bit, a: &B::Bit) -> Result<B::Bit, NoMemory>
+pub(crate) fn unless_holds<B: Bits>(
+    bits: &mut B,
+    when: &B::Bit,
+    a: &B::Bit,
+) -> Result<B::Bit, NoMemory>
     requires when { (B.meanings bits.old).owns when.now }
     requires a { (B.meanings bits.old).owns a.now }
     ensures gives { IfOk result (IsBit (B.meanings bits.new) (λ v. if (B.meanings bits.old).bit v when.now then true else (B.meanings bits.old).bit v a.now)) }

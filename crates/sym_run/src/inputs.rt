@@ -15,6 +15,7 @@ use rh_base::{NoMemory, Seq};
 use std::alloc::Global;
 
 /// So many bits tell each number up to m.
+#[tactic(auto, using(crate::proofs::NumberLaws::width_more))]
 pub fn width_for(m: u64) -> u64
     ensures enough { m < twice result }
     ensures small { result ≤ m }

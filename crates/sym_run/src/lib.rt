@@ -15,9 +15,9 @@ mod sym;
 mod trees;
 mod values;
 
-pub use comparison::alike;
 pub use below::is_below;
 pub use choice::choose;
+pub use comparison::alike;
 pub use inputs::{new_code, new_codes, new_inputs, width_for};
 pub use sym::{Sym, sym_apply};
 pub use trees::any_tree;

@@ -25,6 +25,7 @@ fn digit_of(values: &[bool], wire: Wire) -> u64
 }
 
 /// The number that wires tell.
+#[tactic(auto, using(crate::proofs::CircuitLaws::on_more))]
 pub fn number_of(values: &[bool], wires: &[Wire]) -> u64
     requires wires { AllByRecursion (λ w. w.0 < length values.now) wires.now }
     requires small { number (truth_at values.now) wires.now < 2 ^ 64 }

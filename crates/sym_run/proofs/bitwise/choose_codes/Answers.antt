@@ -2,7 +2,7 @@ use Rattle.std.proofs.Common.{◌≡◌, ◌+◌, ◌∙◌, cond, refl, sym, su
 use Rattle.fs_interpreter.proofs.Frames.{grows_on}
 use Rattle.sym_run.specs.Bitwise.{CodesSoFar, code_at}
 use Rattle.sym_run.proofs.BitLaws.{no_codes, codes_more, codes_done, own_codes_later, chosen_code_at}
-use Rattle.sym_run.proofs.bitwise.choose_codes.Goals ls goal
+use Rattle.sym_run.proofs.bitwise.choose_codes.Goals as goal
 
 pub loop-i-preserved : goal.loop-i-preserved
 loop-i-preserved g c =
@@ -27,4 +27,4 @@ pub returns-clause-chosen : goal.returns-clause-chosen
 returns-clause-chosen g c =
     let m0 = g.B.Bits.meanings c.args.bits.now in
     let m1 = g.B.Bits.meanings c.loop-i.bits in
-    codes_done m1 m0 (λ v. m0.bit v c.args.when.now) c.args.a.now c.args.b.now c.loop-i.chosen c.loop-i.i c.loop-i.invariant.chosen (omega (arith, c.loop-i-test.false, c.len.ensures)) (omega (arith, c.loop-i-test.false, c.len.ensures, c.requires.long))
+    codes_done m1 m0 (λ v. m0.bit v c.args.when.now) c.args.a.now c.args.b.now c.loop-i.chosen c.loop-i.i c.loop-i.invariant.chosen (omega (arith, c.loop-i-test.false, c.len-i-end.ensures)) (omega (arith, c.loop-i-test.false, c.len-i-end.ensures, c.requires.long))

@@ -20,7 +20,7 @@ returns-clause-gives c =
     let i = c.args.i in
     if_means m2 _ _ c.fits.result c.fits.ensures.gives (λ v.
     let keep = cells_keep m0 m1 cells (circuit_grows c.args.sym.now c.is_below.new.sym c.is_below.ensures.grows) c.requires.cells v in
-    let place = c.place.ensures ∙ ap (place_in table.paths) (c.in_ok-parent.ensures ∙ ap parent (sym (item_is table.paths i c.path.result.now [] c.path.ensures))) in
+    let place = c.place-above.ensures ∙ ap (place_in table.paths) (c.in_ok-parent.ensures ∙ ap parent (sym (item_is table.paths i c.path.result.now [] c.path.ensures))) in
     let code = sym (ap (number_at (m0.code v)) c.at.ensures) in
     let known = c.in_ok-known.ensures.value v ∙ (λ t. nat_lt (code t) (c.content_count.ensures t)) in
     (λ t. fits (place t) (known t) (keep t i) (keep t)))

@@ -30,5 +30,5 @@ returns-in_ok-well-clause-every c = λ u t over.
     let m1 = circuit_meanings c.input_cells.new.sym in
     let m2 = circuit_meanings c.all_fit.new.sym in
     let own = input_cells_own c.input_cells.new.sym k _ _ cells c.in_ok-cells.ensures.cells in
-    let told = tree_every c.args.domain.now c.input_cells.new.sym k _ cells c.in_ok-cells.ensures.cells c.width_for.ensures.enough u t over in
+    let told = tree_every c.args.domain.now c.input_cells.new.sym k _ cells c.in_ok-cells.ensures.cells c.width_for-width.ensures.enough u t over in
     (told.0, told.1, subst (λ (s : State). Stands c.args.domain.now.table s t) (sym (state_keeps m1 m2 cells c.all_fit.ensures.grows own told.0)) told.2)
