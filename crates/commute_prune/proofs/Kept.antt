@@ -7,9 +7,10 @@ use Rattle.fs_semantics.specs.Programs.{Program, Id, and_then, run}
 use Rattle.fs_semantics.specs.Orders.{NoneAhead, times, up_from, outcome, IsLinearExtension, IsDeterministic}
 use Rattle.fs_semantics.specs.Changes.{IsProper}
 use Rattle.fs_semantics.proofs.Counts.{times_itself, times_other, all_from}
-use Rattle.commute_prune.specs.Pruning.{without, IsOrderOf, Move, ToFirst, ToLast, Leads, firsts, lasts, chosen, between}
+use Rattle.commute_prune.specs.Pruning.{without, IsOrderOf, Move, ToFirst, ToLast, Leads, firsts, lasts, chosen, between, AreSome}
 use Rattle.commute_prune.proofs.Lists.{none_left, others_left}
 use Rattle.commute_prune.proofs.MovedLaws.{AllAgree, agree_from, completed}
+use Rattle.commute_prune.proofs.StepLaws.{up_below, without_keeps, without_short}
 
 same_test : (a b c d : ℕ) → (a ≡ b → c ≡ d) → (c ≡ d → a ≡ b) → (a == b) ≡ (c == d)
 same_test a b c d h k = elim (a == b) as (λ x. (a == b) ≡ x → x ≡ (c == d)) [
@@ -196,6 +197,10 @@ module _ (n : ℕ) (before : ℕ → ℕ → Type 0) where
     kept = a.kept;
   }
 
+length-up : (k n : ℕ) → length (up_from k n) ≡ n
+length-up k zero = refl
+length-up k (suc n) = ap suc (length-up (suc k) n)
+
 once_up : (n : ℕ) → AtMostOnce (up_from 0 n)
 once_up n j = elim (nat_lt j n) as (λ b. nat_lt j n ≡ b → times j (up_from 0 n) ≤ 1) [
   | true ↦ λ e. omega (arith, up_once 0 n j (omega arith) (omega (arith, ltb-true j n e)))
@@ -213,6 +218,23 @@ module _ (es : List Program) (before : ℕ → ℕ → Type 0) where
   kept_once [] ks kept leads once = subst AtMostOnce (sym leads) once
   kept_once (ToFirst k ∷ moves) ks kept leads once = kept_once moves (without k ks) kept leads.1 (fewer k ks once)
   kept_once (ToLast k ∷ moves) ks kept leads once = kept_once moves (without k ks) kept leads.1 (fewer k ks once)
+
+  kept_below : (moves : List Move) (ks kept : List ℕ) (n : ℕ) → Leads es before moves ks kept → AllByRecursion (λ k. k < n) ks → AllByRecursion (λ k. k < n) kept
+  kept_below [] ks kept n leads all = subst (AllByRecursion (λ k. k < n)) (sym leads) all
+  kept_below (ToFirst k ∷ moves) ks kept n leads all = kept_below moves (without k ks) kept n leads.1 (without_keeps (λ k. k < n) k ks all)
+  kept_below (ToLast k ∷ moves) ks kept n leads all = kept_below moves (without k ks) kept n leads.1 (without_keeps (λ k. k < n) k ks all)
+
+  kept_short : (moves : List Move) (ks kept : List ℕ) → Leads es before moves ks kept → length kept ≤ length ks
+  kept_short [] ks kept leads = omega (arith, ap length leads)
+  kept_short (ToFirst k ∷ moves) ks kept leads = omega (arith, kept_short moves (without k ks) kept leads.1, without_short k ks)
+  kept_short (ToLast k ∷ moves) ks kept leads = omega (arith, kept_short moves (without k ks) kept leads.1, without_short k ks)
+
+  pub some_kept : (moves : List Move) (kept : List ℕ) → Leads es before moves (up_from 0 (length es)) kept → AreSome (length es) kept
+  some_kept moves kept leads = record {
+    below = kept_below moves (up_from 0 (length es)) kept (length es) leads (up_below 0 (length es) (length es) (omega arith));
+    once = kept_once moves (up_from 0 (length es)) kept leads (once_up (length es));
+    few = omega (arith, kept_short moves (up_from 0 (length es)) kept leads, length-up 0 (length es));
+  }
 
   module _ (proper : AllByRecursion IsProper es) (moves : List Move) (kept : List ℕ) (leads : Leads es before moves (up_from 0 (length es)) kept) where
     pub kept_is_enough : IsDeterministic (chosen es kept) (between before kept) → IsDeterministic es before

@@ -29,7 +29,7 @@ without_keeps P k (j ∷ ks) h = elim (cases_Bool (j == k)) [
   | inr other ↦ subst (λ b. AllByRecursion P (cond b (without k ks) (j ∷ without k ks))) (sym other) (h.0, without_keeps P k ks h.1)
 ]
 
-without_short : (k : ℕ) (ks : List ℕ) → length (without k ks) ≤ length ks
+pub without_short : (k : ℕ) (ks : List ℕ) → length (without k ks) ≤ length ks
 without_short k [] = omega arith
 without_short k (j ∷ ks) = elim (cases_Bool (j == k)) [
   | inl here ↦ let e = ap (λ b. length (cond b (without k ks) (j ∷ without k ks))) here in let s = without_short k ks in omega arith

@@ -1,5 +1,6 @@
 -- Setting aside programs of which the order doesn't matter.
-use Rattle.std.specs.Prelude.{◌≡◌, ◌≢◌, ◌==◌, ℕ, ◌<◌, List, [], ◌∷◌, ◌++◌, map, slice_index_or, if◌then◌else◌}
+use Rattle.std.specs.Prelude.{◌≡◌, ◌≢◌, ◌==◌, ℕ, ◌<◌, ◌≤◌, List, [], ◌∷◌, ◌++◌, map, slice_index_or, length, if◌then◌else◌}
+use Rattle.std.specs.List.{AllByRecursion}
 use Rattle.fs_semantics.specs.Programs.{Program, Id}
 use Rattle.fs_semantics.specs.Orders.{NoneAhead, times}
 use Rattle.effect_sets.specs.Footprints.{footprint, AreApart}
@@ -69,3 +70,9 @@ chosen es ks = map (λ k. slice_index_or es k Id) ks
 
 abbrev pub between : (ℕ → ℕ → Type 0) → List ℕ → ℕ → ℕ → Type 0
 between before ks a b = before (slice_index_or ks a 0) (slice_index_or ks b 0)
+
+-- numbers below n, each at most once
+pub record AreSome (n : ℕ) (ks : List ℕ) : Type 0 where
+  pub below : AllByRecursion (λ k. k < n) ks
+  pub once : (k : ℕ) → times k ks ≤ 1
+  pub few : length ks ≤ n
