@@ -6,7 +6,13 @@ mod domains;
 #[cfg(test)]
 mod footprints;
 #[cfg(test)]
+mod fresh;
+#[cfg(test)]
+mod kept;
+#[cfg(test)]
 mod pruning;
+#[cfg(test)]
+mod settling;
 #[cfg(test)]
 mod weights;
 #[cfg(test)]

@@ -28,7 +28,7 @@ ascii_bytes : (xs : List ℕ) → IsAscii xs → IsBytes xs
 ascii_bytes [] h = tt
 ascii_bytes (x ∷ xs) h = let first : x < 128 = h 0 in (omega (arith, first), ascii_bytes xs (λ i. h (suc i)))
 
-other_is_segment : (n : ℕ) → IsSegment (other_segment n)
+pub other_is_segment : (n : ℕ) → IsSegment (other_segment n)
 other_is_segment n = record {
   bytes = (omega arith, (omega arith, (omega arith, (omega arith, (omega arith, all_letters (λ b. b < 256) (omega arith) n)))));
   nonempty = λ e. cc;

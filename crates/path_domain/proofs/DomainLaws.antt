@@ -3,17 +3,15 @@ use Rattle.std.proofs.Common.{◌≡◌, ◌≢◌, ◌⊎◌, inl, inr, ℕ, �
 use Rattle.std.specs.Prelude.{◌↔◌, IsTrue, slice_index_or}
 use Rattle.std.specs.List.{list_any}
 use Rattle.std.specs.List.Sorted.{IsStrictlySortedBy, IsStrictlyIncreasing}
-use Rattle.std.proofs.lemmas.List.Folds.{list_any-append}
 use Rattle.std.proofs.lemmas.Bool.{or_cases, or_left, or_right, and_parts, and_from}
-use Rattle.fs_semantics.specs.FileTree.{Path, Segment, IsSegment, path_cmp, path_eq, parent, is_among}
+use Rattle.fs_semantics.specs.FileTree.{Path, Segment, path_cmp, path_eq, parent, is_among}
 use Rattle.fs_semantics.specs.Programs.{Program}
 use Rattle.fs_semantics.proofs.Trees.{path_eq_refl, path_eq_same, parent_of_child, parent_and_last}
 use Rattle.finite_domain.specs.Mentions.{Below, AnyMentions}
 use Rattle.finite_domain.specs.Domains.{text_eq, is_text_among, SpeakOf, IsNamed}
 use Rattle.finite_domain.specs.Matters.{all_matters, paths_among, watched_among, fronts, all_fronts, has_segment}
 use Rattle.finite_domain.specs.Layouts.{all_texts, first_uses, other_segment, stem, HaveSegment, HaveStart, IsFirstFailure, IsFreshChild, numbered, Layout, IsLayout}
-use Rattle.finite_domain.proofs.Matters.{paths_told, watched_told, named_told}
-use Rattle.finite_domain.proofs.Laid.{all_letters}
+use Rattle.finite_domain.proofs.Matters.{paths_told, watched_told, front_of, among_fronts, named_told}
 use Rattle.finite_domain.proofs.Texts.{text_same, text_itself, among_right, first_uses_are}
 use Rattle.path_domain.specs.declared.found.Found.{Found}
 use Rattle.path_domain.specs.Gathered.{Paths, Gathered, told, nothing, gather}
@@ -25,20 +23,6 @@ use Rattle.path_domain.proofs.PlaceLaws.{places_rise, at_places}
 
 abbrev SameMembers : List Path → List Path → Type 0
 SameMembers ps qs = (p : Path) → is_among p ps ≡ is_among p qs
-
-front_of : (q : Path) (ps : List Path) → is_among q (all_fronts ps) ≡ true → (p : Path) × IsTrue (is_among p ps) × IsTrue (is_among q (fronts p))
-front_of q [] h = cc
-front_of q (p ∷ ps) h = elim (or_cases _ _ (sym (list_any-append (path_eq q) (fronts p) (all_fronts ps)) ∙ h)) [
-  | inl here ↦ (p, or_left _ _ (path_eq_refl p), here)
-  | inr there ↦ let more = front_of q ps there in (more.0, or_right _ _ more.1, more.2)
-]
-
-among_fronts : (q p : Path) (ps : List Path) → is_among p ps ≡ true → is_among q (fronts p) ≡ true → is_among q (all_fronts ps) ≡ true
-among_fronts q p [] h k = cc
-among_fronts q p (r ∷ ps) h k = list_any-append (path_eq q) (fronts r) (all_fronts ps) ∙ elim (or_cases (path_eq p r) (is_among p ps) h) [
-  | inl here ↦ or_left _ _ (ap (λ x. is_among q (fronts x)) (sym (path_eq_same p r here)) ∙ k)
-  | inr there ↦ or_right (is_among q (fronts r)) _ (among_fronts q p ps there k)
-]
 
 same_fronts : (ps qs : List Path) (q : Path) → SameMembers ps qs → is_among q (all_fronts ps) ≡ true → is_among q (all_fronts qs) ≡ true
 same_fronts ps qs q same h = let f = front_of q ps h in among_fronts q f.0 qs (sym (same f.0) ∙ f.1) f.2
@@ -70,16 +54,6 @@ within : (front : Path) (s : Segment) (back : Path) → is_text_among s (front +
 within front s back = among_right s front (s ∷ back) (or_left _ _ (text_itself s s refl))
 
 -- ---- children
-
-pub other_is_segment : (n : ℕ) → IsSegment (other_segment n)
-other_is_segment n = record {
-  bytes = (omega arith, (omega arith, (omega arith, (omega arith, (omega arith, all_letters (λ b. b < 256) (omega arith) n)))));
-  nonempty = λ e. cc;
-  no_slash = ((λ e. absurd (omega arith)), ((λ e. absurd (omega arith)), ((λ e. absurd (omega arith)), ((λ e. absurd (omega arith)), ((λ e. absurd (omega arith)), all_letters (λ b. b ≢ 47) (λ e. absurd (omega arith)) n)))));
-  no_zero = ((λ e. absurd (omega arith)), ((λ e. absurd (omega arith)), ((λ e. absurd (omega arith)), ((λ e. absurd (omega arith)), ((λ e. absurd (omega arith)), all_letters (λ b. b ≢ 0) (λ e. absurd (omega arith)) n)))));
-  not_dot = λ e. let first : ◌≡◌ {A = ℕ} 111 46 = cc in absurd (omega arith);
-  not_dots = λ e. let first : ◌≡◌ {A = ℕ} 111 46 = cc in absurd (omega arith);
-}
 
 child_in : (q : Path) (name : Segment) (ws : List Path) → list_any (λ p. path_eq q (p ++ name ∷ [])) ws ≡ true → (p : Path) × IsTrue (is_among p ws) × (q ≡ p ++ name ∷ [])
 child_in q name [] h = cc

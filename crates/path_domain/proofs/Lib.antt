@@ -7,3 +7,5 @@ pub mod UseLaws
 pub mod PlaceLaws
 pub mod DomainLaws
 pub mod CoverLaws
+pub mod AscendLaws
+pub mod LayoutLaws

@@ -4,6 +4,7 @@
 mod found;
 mod fresh;
 mod fronts;
+mod laws;
 mod listed;
 mod making;
 mod places;
@@ -12,5 +13,6 @@ mod sets;
 mod stems;
 mod walk;
 
+pub use laws::layouts;
 pub use listed::Domain;
 pub use making::{domain, named};

@@ -1,71 +1,15 @@
--- Paths in order are determined by which they are, and so is the weight.
-use Rattle.std.proofs.Common.{◌≡◌, ◌⊎◌, inl, inr, ℕ, true, false, ◌||◌, ◌*◌, List, [], ◌∷◌, length, Less, Equal, refl, sym, ap, ap₂, ◌∙◌}
-use Rattle.std.specs.List.{AllByRecursion}
+-- Programs have one weight.
+use Rattle.std.proofs.Common.{◌≡◌, ℕ, ◌*◌, List, length, sym, ap, ◌∙◌}
+use Rattle.std.specs.Prelude.{◌↔◌, IsTrue}
 use Rattle.std.specs.List.Sorted.{IsStrictlySortedBy}
-use Rattle.std.specs.Cmp.{tied_itself}
-use Rattle.std.proofs.lemmas.Bool.{cases_Bool, or_cases, or_left, false_from_ne_true}
-use Rattle.std.proofs.lemmas.Map.Keys.{sorted_head, sorted_tail}
-use Rattle.fs_semantics.specs.FileTree.{Path, path_cmp, path_eq, is_among}
+use Rattle.fs_semantics.specs.FileTree.{Path, path_cmp, is_among}
 use Rattle.fs_semantics.specs.Programs.{Program}
-use Rattle.fs_semantics.proofs.Trees.{path_total, path_eq_refl, path_eq_same}
-use Rattle.fs_semantics.proofs.Keys.{same_bool}
 use Rattle.verdict.specs.Weights.{child_count, all_work, capped, Weighs}
 
-abbrev Sorted : List Path → Type 0
-Sorted ps = IsStrictlySortedBy path_cmp ps
-
-abbrev SameMembers : List Path → List Path → Type 0
-SameMembers ps qs = (p : Path) → is_among p ps ≡ is_among p qs
-
-never : (p : Path) → path_cmp p p ≡ Less → ⊥
-never p h = let tied : path_cmp p p ≡ Equal = tied_itself path_total p in cc
-
-all_at : (f : Path) (ps : List Path) (q : Path) → AllByRecursion (λ r. path_cmp f r ≡ Less) ps → is_among q ps ≡ true → path_cmp f q ≡ Less
-all_at f [] q all h = cc
-all_at f (r ∷ ps) q all h = elim (or_cases (path_eq q r) (is_among q ps) h) [
-  | inl here ↦ ap (path_cmp f) (path_eq_same q r here) ∙ all.0
-  | inr there ↦ all_at f ps q all.1 there
-]
-
-behind : (p q : Path) (qs : List Path) → Sorted (q ∷ qs) → is_among p (q ∷ qs) ≡ true → (p ≡ q) ⊎ (path_cmp q p ≡ Less)
-behind p q qs sorted h = elim (or_cases (path_eq p q) (is_among p qs) h) [
-  | inl here ↦ inl (path_eq_same p q here)
-  | inr there ↦ inr (all_at q qs p (sorted_head path_cmp q qs sorted) there)
-]
-
-first : (p : Path) (ps : List Path) → is_among p (p ∷ ps) ≡ true
-first p ps = or_left (path_eq p p) (is_among p ps) (path_eq_refl p)
-
-same_head : (p q : Path) (ps qs : List Path) → Sorted (p ∷ ps) → Sorted (q ∷ qs) → SameMembers (p ∷ ps) (q ∷ qs) → p ≡ q
-same_head p q ps qs left right same = elim (behind p q qs right (sym (same p) ∙ first p ps)) [
-  | inl here ↦ here
-  | inr less ↦ elim (behind q p ps left (same q ∙ first q qs)) [
-    | inl here ↦ sym here
-    | inr more ↦ absurd (never p (path_total.trans p q p more less))
-  ]
-]
-
-not_again : (p : Path) (ps : List Path) → Sorted (p ∷ ps) → is_among p ps ≡ false
-not_again p ps sorted = false_from_ne_true _ (λ h. never p (all_at p ps p (sorted_head path_cmp p ps sorted) h))
-
-same_tail : (p q : Path) (ps qs : List Path) → Sorted (p ∷ ps) → Sorted (q ∷ qs) → p ≡ q → SameMembers (p ∷ ps) (q ∷ qs) → SameMembers ps qs
-same_tail p q ps qs left right is same r = elim (cases_Bool (path_eq r p)) [
-  | inl here ↦
-      let at = path_eq_same r p here in
-      ap (λ x. is_among x ps) at ∙ not_again p ps left ∙ sym (ap (λ x. is_among x qs) (at ∙ is) ∙ not_again q qs right)
-  | inr other ↦ sym (ap (λ b. b || is_among r ps) other) ∙ same r ∙ ap (λ b. b || is_among r qs) (ap (path_eq r) (sym is) ∙ other)
-]
-
-same_sorted : (ps qs : List Path) → Sorted ps → Sorted qs → SameMembers ps qs → ps ≡ qs
-same_sorted [] [] left right same = refl
-same_sorted [] (q ∷ qs) left right same = let clash : false ≡ true = same q ∙ first q qs in cc
-same_sorted (p ∷ ps) [] left right same = let clash : true ≡ false = sym (first p ps) ∙ same p in cc
-same_sorted (p ∷ ps) (q ∷ qs) left right same =
-    let head = same_head p q ps qs left right same in
-    ap₂ (λ x xs. x ∷ xs) head (same_sorted ps qs (sorted_tail path_cmp p ps left) (sorted_tail path_cmp q qs right) (same_tail p q ps qs left right head same))
-
-pub one_weight : (es : List Program) (v w : ℕ) → Weighs es v → Weighs es w → v ≡ w
-one_weight es v w left right =
-    let same = same_sorted left.named right.named left.in_order right.in_order
-    (λ p. same_bool (is_among p left.named) (is_among p right.named) (λ h. (right.named_are p).1 ((left.named_are p).0 h)) (λ h. (left.named_are p).1 ((right.named_are p).0 h))) in
-    left.weight ∙ ap (λ ns. capped (2 * length es * all_work (child_count ns) es)) same ∙ sym right.weight
+-- where paths in order are determined by which they are
+pub one_weight : ((ps qs : List Path) → IsStrictlySortedBy path_cmp ps → IsStrictlySortedBy path_cmp qs → ((p : Path) → IsTrue (is_among p ps) ↔ IsTrue (is_among p qs)) → ps ≡ qs)
+    → (es : List Program) (v w : ℕ) → Weighs es v → Weighs es w → v ≡ w
+one_weight same es v w left right =
+    let named = same left.named right.named left.in_order right.in_order
+    (λ p. ((λ h. (right.named_are p).1 ((left.named_are p).0 h)), (λ h. (left.named_are p).1 ((right.named_are p).0 h)))) in
+    left.weight ∙ ap (λ ns. capped (2 * length es * all_work (child_count ns) es)) named ∙ sym right.weight
