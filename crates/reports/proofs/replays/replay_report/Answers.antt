@@ -1,0 +1,67 @@
+use Rattle.std.proofs.Common.{◌≡◌, map, ◌∙◌}
+use Rattle.std.proofs.lemmas.Result.{err_from_is_err_and}
+use Rattle.fs_lang.specs.Meaning.{program_of}
+use Rattle.reports.proofs.StageLaws.{planned, are_made, are_places}
+use Rattle.reports.proofs.VerdictLaws.{as_many_programs}
+use Rattle.reports.proofs.ReplayLaws.{unread_replay, catalog_replay, graph_replay, programs_replay, unordered, has_programs, replay_told}
+use Rattle.reports.proofs.replays.replay_report.Goals as goal
+
+pub returns-in_err-known-clause-refused : goal.returns-in_err-known-clause-refused
+returns-in_err-known-clause-refused c =
+    let p = err_from_is_err_and c.from_residual.result c.from_residual.ensures.1 in
+    rw (p.1, p.2) (unread_replay c.args.inputs.now c.in_err-known.field-0.0 c.in_err-known.ensures.refused)
+
+pub returns-in_err-catalog-clause-refused : goal.returns-in_err-catalog-clause-refused
+returns-in_err-catalog-clause-refused c =
+    let p = err_from_is_err_and c.from_residual-in_err-catalog.result c.from_residual-in_err-catalog.ensures.1 in
+    rw (p.1, p.2) (catalog_replay c.args.inputs.now c.in_err-catalog.field-0.0 c.in_err-catalog.ensures.refused)
+
+pub returns-in_err-plan-clause-refused : goal.returns-in_err-plan-clause-refused
+returns-in_err-plan-clause-refused c =
+    let p = err_from_is_err_and c.from_residual-in_err-plan.result c.from_residual-in_err-plan.ensures.1 in
+    rw (p.1, p.2) (graph_replay c.args.inputs.now c.in_ok-known.known c.in_ok-catalog.catalog c.in_err-plan.field-0.0 c.in_ok-catalog.ensures.compiled c.in_err-plan.ensures.refused)
+
+pub programs_of-requires : goal.programs_of-requires
+programs_of-requires c = are_places c.in_ok-catalog.catalog c.in_ok-plan.plan c.as_slice-plain.result.now c.as_slice-plain.ensures c.in_ok-plan.ensures.graph
+
+pub returns-in_err-programs-clause-refused : goal.returns-in_err-programs-clause-refused
+returns-in_err-programs-clause-refused c =
+    let p = err_from_is_err_and c.from_residual-in_err-programs.result c.from_residual-in_err-programs.ensures.1 in
+    rw (p.1, p.2) (programs_replay c.args.inputs.now c.in_ok-known.known c.in_ok-catalog.catalog c.in_ok-plan.plan c.as_slice-plain.result.now c.in_err-programs.field-0.0 c.as_slice-plain.ensures
+    (planned c.args.inputs.now c.in_ok-known.known c.in_ok-catalog.catalog c.in_ok-plan.plan c.in_ok-catalog.ensures.compiled c.in_ok-plan.ensures.graph c.in_ok-plan.ensures.count)
+    c.in_err-programs.ensures)
+
+pub order_for-requires : goal.order_for-requires
+order_for-requires c = c.in_ok-plan.ensures.count
+
+pub returns-in_err-order-clause-refused : goal.returns-in_err-order-clause-refused
+returns-in_err-order-clause-refused c =
+    let p = err_from_is_err_and c.from_residual-in_err-order.result c.from_residual-in_err-order.ensures.1 in
+    rw (p.1, p.2) (unordered c.args.inputs.now c.in_ok-known.known c.in_ok-catalog.catalog c.in_ok-plan.plan (map program_of c.in_ok-programs.programs.items) c.in_err-order.field-0
+    (record {
+      planned = planned c.args.inputs.now c.in_ok-known.known c.in_ok-catalog.catalog c.in_ok-plan.plan c.in_ok-catalog.ensures.compiled c.in_ok-plan.ensures.graph c.in_ok-plan.ensures.count;
+      programs = are_made c.in_ok-known.known c.in_ok-catalog.catalog c.in_ok-plan.plan c.as_slice-plain.result.now (map program_of c.in_ok-programs.programs.items) c.as_slice-plain.ensures c.in_ok-programs.ensures;
+    })
+    c.in_err-order.ensures.refused)
+
+pub replayed-requires : goal.replayed-requires
+replayed-requires c =
+    has_programs c.args.inputs.now.order c.in_ok-catalog.catalog c.in_ok-plan.plan c.in_ok-order.order c.as_slice-turns.result.now c.as_slice-made.result.now c.as_slice-turns.ensures
+    (as_many_programs c.in_ok-known.known c.in_ok-catalog.catalog c.in_ok-plan.plan c.as_slice-plain.result.now c.as_slice-made.result.now c.in_ok-programs.programs.items
+    c.as_slice-plain.ensures c.as_slice-made.ensures c.in_ok-plan.ensures.graph c.in_ok-plan.ensures.count c.in_ok-programs.ensures)
+    c.in_ok-plan.ensures.count c.in_ok-order.ensures.order
+
+pub returns-clause-report : goal.returns-clause-report
+returns-clause-report c = record {
+  known = c.in_ok-known.known;
+  catalog = c.in_ok-catalog.catalog;
+  graph = c.in_ok-plan.plan;
+  programs = map program_of c.in_ok-programs.programs.items;
+  modelled = record {
+      planned = planned c.args.inputs.now c.in_ok-known.known c.in_ok-catalog.catalog c.in_ok-plan.plan c.in_ok-catalog.ensures.compiled c.in_ok-plan.ensures.graph c.in_ok-plan.ensures.count;
+      programs = are_made c.in_ok-known.known c.in_ok-catalog.catalog c.in_ok-plan.plan c.as_slice-plain.result.now (map program_of c.in_ok-programs.programs.items) c.as_slice-plain.ensures c.in_ok-programs.ensures;
+    };
+  order = c.in_ok-order.order;
+  ordered = c.in_ok-order.ensures.order;
+  text = replay_told c.as_slice-made.result.now c.in_ok-programs.programs.items c.as_slice-turns.result.now c.in_ok-order.order c.in_ok-known.known.tree c.in_ok-bytes.bytes c.as_slice-made.ensures c.as_slice-turns.ensures c.in_ok-bytes.ensures;
+}

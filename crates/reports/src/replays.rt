@@ -1,0 +1,90 @@
+//! The report on a run over a file tree.
+
+ghost use Rattle.std.specs.Prelude.{◌≡◌, ◌<◌, ◌^◌, length, map, IfOk, IfErr};
+ghost use Rattle.std.specs.List.{AllByRecursion};
+ghost use Rattle.rh_base.specs.Refused.{IfRefused};
+ghost use Rattle.fs_lang.specs.Meaning.{program_of, outcome_of};
+ghost use Rattle.fs_semantics.specs.Orders.{outcome};
+ghost use Rattle.reports.specs.Replays.{outcome_line, IsOrderFor, HasNoOrder, IsReplayReport, ReplayRefusal};
+
+use crate::bytes::push_bytes;
+use crate::compiling::catalog_for;
+use allowed_order::order_of;
+use catalog::Catalog;
+use dep_graph::{Graph, graph};
+use fs_lang::{Outcome, Program, Tree};
+use fs_replay::replay;
+use known_inputs::{Inputs, known_inputs};
+use res_models::programs_of;
+use rh_base::{Fault, NoMemory, Seq};
+use std::alloc::Global;
+use tree_text::tree_to_json;
+
+/// The order that a text names, and without one that which takes at each step the first resource that may come next.
+fn order_for(
+    alloc: Global,
+    text: &Option<Seq<u8>>,
+    catalog: &Catalog,
+    plan: &Graph,
+) -> Result<Seq<u32>, Fault>
+    requires { plan.now.order.count ≡ length plan.now.plain }
+    ensures order { IfOk result (IsOrderFor text.now catalog.now plan.now) }
+    ensures refused { IfErr result (λ e. IfRefused e (HasNoOrder text.now catalog.now plan.now)) }
+{
+    match text {
+        Some(bytes) => order_of(
+            alloc,
+            bytes.as_slice(),
+            catalog,
+            plan.plain.as_slice(),
+            &plan.order,
+        ),
+        None => Ok(plan.order.first_extension()?),
+    }
+}
+
+/// A line on an outcome.
+fn outcome_line(alloc: Global, ended: &Outcome) -> Result<Seq<u8>, NoMemory>
+    ensures { IfOk result (λ bytes. bytes ≡ outcome_line (outcome_of ended.now)) }
+{
+    let mut bytes = Vec::new(alloc);
+    push_bytes(b"outcome ", &mut bytes)?;
+    match ended {
+        Outcome::Ended(tree) => tree_to_json(alloc, tree, &mut bytes)?,
+        Outcome::Error => push_bytes(b"error", &mut bytes)?,
+    }
+    push_bytes(b"\n", &mut bytes)?;
+    Ok(Seq::from_vec(bytes))
+}
+
+/// The outcome of the programs on a tree, in this order.
+fn replayed(
+    alloc: Global,
+    programs: &[Program],
+    order: &[u32],
+    tree: &Tree,
+) -> Result<Seq<u8>, NoMemory>
+    requires { AllByRecursion (λ i. i < length programs.now) order.now }
+    ensures { IfOk result (λ bytes. bytes ≡ outcome_line (outcome (map program_of programs.now) order.now tree.now)) }
+{
+    let ended = replay(alloc, programs, order, tree)?;
+    outcome_line(alloc, &ended)
+}
+
+/// The outcome of a manifest's resources on a file tree, in the order that is asked; or the first refusal.
+pub fn replay_report(alloc: Global, inputs: &Inputs) -> Result<Seq<u8>, Fault>
+    requires { length inputs.now.input < 2 ^ 32 }
+    ensures report { IfOk result (IsReplayReport inputs.now) }
+    ensures refused { IfErr result (λ e. IfRefused e (ReplayRefusal inputs.now)) }
+{
+    let known = known_inputs(alloc, inputs)?;
+    let catalog = catalog_for(alloc, inputs, &known)?;
+    let plan = graph(alloc, &catalog)?;
+    let plain = plan.plain.as_slice();
+    let programs = programs_of(alloc, &catalog, plain, &known.listing)?;
+    let order = order_for(alloc, &inputs.order, &catalog, &plan)?;
+    let made = programs.as_slice();
+    let turns = order.as_slice();
+    let bytes = replayed(alloc, made, turns, &known.tree)?;
+    Ok(bytes)
+}
