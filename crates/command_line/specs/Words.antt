@@ -48,9 +48,20 @@ alone =
       workload = false;
     }
 
+-- what a catalog is compiled with
+abbrev pub compiled : Takes
+compiled = record alone { facts = true; class_data = true; node = true }
+
+-- that, and a listing of packages
+abbrev pub described : Takes
+described = record compiled { packages = true }
+
 -- which options may stand beside a value of `--ask`
 abbrev pub takes : Ask → Takes
-takes ask.Verify = alone
+takes ask.Verify = described
+takes ask.Catalog = compiled
+takes ask.Graph = compiled
+takes ask.Programs = described
 takes ask.Check = alone
 takes ask.Migrate = alone
 
@@ -60,8 +71,11 @@ takes ask.Migrate = alone
 abbrev pub ask_named : Text → Option Ask
 ask_named word =
     if bytes_eq word (codes "verify") then Some ask.Verify
+    else (if bytes_eq word (codes "catalog") then Some ask.Catalog
+    else (if bytes_eq word (codes "graph") then Some ask.Graph
+    else (if bytes_eq word (codes "programs") then Some ask.Programs
     else (if bytes_eq word (codes "check") then Some ask.Check
-    else (if bytes_eq word (codes "migrate") then Some ask.Migrate else None))
+    else (if bytes_eq word (codes "migrate") then Some ask.Migrate else None)))))
 
 -- what `--ask` asks for; where it is left out, to verify
 abbrev pub ask_in : Option Text → Option Ask

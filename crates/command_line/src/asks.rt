@@ -1,7 +1,7 @@
 //! What may be asked for, and what may be given with it.
 
 ghost use Rattle.std.specs.Prelude.{◌≡◌};
-ghost use Rattle.command_line.specs.Words.{ask_named, alone, takes};
+ghost use Rattle.command_line.specs.Words.{ask_named, alone, compiled, described, takes};
 
 use rh_base::Text;
 
@@ -10,6 +10,12 @@ use rh_base::Text;
 pub enum Ask {
     /// Whether a manifest is deterministic and idempotent.
     Verify,
+    /// The catalog of a manifest.
+    Catalog,
+    /// The graph of a manifest's catalog.
+    Graph,
+    /// What the resources of a manifest's catalog do.
+    Programs,
     /// Whether the proofs of a text are right.
     Check,
     /// A listing of packages in its newest form.
@@ -58,6 +64,26 @@ fn alone() -> Takes
     }
 }
 
+/// What a catalog is compiled with: facts, class data and a node's name.
+fn compiled() -> Takes
+    ensures { result ≡ compiled }
+{
+    let mut takes = alone();
+    takes.facts = true;
+    takes.class_data = true;
+    takes.node = true;
+    takes
+}
+
+/// That, and a listing of packages.
+fn described() -> Takes
+    ensures { result ≡ described }
+{
+    let mut takes = compiled();
+    takes.packages = true;
+    takes
+}
+
 impl Ask {
     /// What a word asks for.
     pub(crate) fn named(word: &str) -> Option<Ask>
@@ -65,6 +91,12 @@ impl Ask {
     {
         if word == "verify" {
             Some(Ask::Verify)
+        } else if word == "catalog" {
+            Some(Ask::Catalog)
+        } else if word == "graph" {
+            Some(Ask::Graph)
+        } else if word == "programs" {
+            Some(Ask::Programs)
         } else if word == "check" {
             Some(Ask::Check)
         } else if word == "migrate" {
@@ -79,7 +111,10 @@ impl Ask {
         ensures { result ≡ takes self }
     {
         match self {
-            Ask::Verify => alone(),
+            Ask::Verify => described(),
+            Ask::Catalog => compiled(),
+            Ask::Graph => compiled(),
+            Ask::Programs => described(),
             Ask::Check => alone(),
             Ask::Migrate => alone(),
         }

@@ -1,7 +1,4 @@
-pub mod FileLaws
 pub mod Telling
 pub mod Endings
-pub mod Judging
 pub mod ProofLaws
-pub mod PutLaws
 pub mod LoadLaws

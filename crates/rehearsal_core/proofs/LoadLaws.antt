@@ -35,12 +35,12 @@ loaded : (held : Option Files) (r : Request) (l : Loads) (m : Loaded) → AreLoa
 loaded held r l m loads from = record {
   asked = from.asked ∙ loads.asked;
   node = from.node ∙ loads.node;
-  facts = named_stand held FACTS_BYTES r.facts l.facts m.facts loads.facts from.facts;
-  packages = named_stand held LISTING_BYTES r.packages l.packages m.packages loads.packages from.packages;
-  class_data = named_stand held FACTS_BYTES r.class_data l.class_data m.class_data loads.class_data from.class_data;
-  input = stand held (limit_of r.ask) r.input l.input m.input loads.input from.input;
-  tree = named_stand held TREE_BYTES r.tree l.tree m.tree loads.tree from.tree;
-  order = named_stand held ORDER_BYTES r.order l.order m.order loads.order from.order;
+  facts = named_stand held FACTS_BYTES r.facts l.facts m.inputs.facts loads.facts from.facts;
+  packages = named_stand held LISTING_BYTES r.packages l.packages m.inputs.packages loads.packages from.packages;
+  class_data = named_stand held FACTS_BYTES r.class_data l.class_data m.inputs.class_data loads.class_data from.class_data;
+  input = stand held (limit_of r.ask) r.input l.input m.inputs.input loads.input from.input;
+  tree = named_stand held TREE_BYTES r.tree l.tree m.inputs.tree loads.tree from.tree;
+  order = named_stand held ORDER_BYTES r.order l.order m.inputs.order loads.order from.order;
 }
 
 -- what has too many bytes is named
@@ -84,6 +84,9 @@ says held r l before now (Err (Memory m)) same loads answers refuses = same
 -- no input has more bytes than a place can count
 limit_is_small : (a : Ask) → limit_of a < 2 ^ 32
 limit_is_small ask.Verify = omega arith
+limit_is_small ask.Catalog = omega arith
+limit_is_small ask.Graph = omega arith
+limit_is_small ask.Programs = omega arith
 limit_is_small ask.Check = omega arith
 limit_is_small ask.Migrate = omega arith
 
@@ -95,8 +98,8 @@ pub are_short : (held : Option Files) (r : Request) (l : Loads) → AreLoads hel
 are_short held r l loads = short held (limit_of r.ask) r.input l.input (limit_is_small r.ask) loads.input
 
 -- the input that was loaded is the one that was read
-pub input_is_short : (l : Loads) (m : Loaded) → AreShort l → LoadedFrom l m → length m.input < 2 ^ 32
-input_is_short l m h from = in_load l.input m.input h from.input
+pub input_is_short : (l : Loads) (m : Loaded) → AreShort l → LoadedFrom l m → length m.inputs.input < 2 ^ 32
+input_is_short l m h from = in_load l.input m.inputs.input h from.input
   where
     in_load : (x : Load) (bytes : List ℕ) → IsShort x → bytes_in x ≡ Some bytes → length bytes < 2 ^ 32
     in_load load.Longer bytes h e = cc

@@ -2,13 +2,20 @@
 use Rattle.std.proofs.Common.{◌≡◌, ℕ, suc, ◌+◌, map, List, [], ◌∷◌, ◌++◌, length, refl, ap, sym, subst₂, ◌∙◌}
 use Rattle.std.specs.List.{AllByRecursion}
 use Rattle.rh_base.specs.declared.fault.Refusal.{Refusal}
-use Rattle.rh_base.specs.Refused.{IsRefusal}
+use Rattle.rh_base.specs.declared.fault.Fault.{Fault}
+use Rattle.rh_base.specs.declared.fault.Fault.TheVariants.{Refused, Memory}
+use Rattle.rh_base.specs.Refused.{IfRefused, IsRefusal}
 use Rattle.cnf.specs.declared.log.Log.{Log}
 use Rattle.cnf.specs.Formulas.{Formula}
 use Rattle.proof_check.specs.declared.fault.Cause.{Cause}
 use Rattle.proof_check.specs.Faults.{IsFault}
 use Rattle.proof_check.specs.Refuted.{refutation}
 use Rattle.rehearsal_core.specs.Verified.{IsRefuted, FirstBad, bad_proof}
+
+-- what is refused for one reason is refused for another that follows
+pub broken : (e : Fault) (P Q : Refusal → Type 0) → ((r : Refusal) → P r → Q r) → IfRefused e P → IfRefused e Q
+broken (Refused r) P Q f h = f r h
+broken (Memory m) P Q f h = tt
 
 abbrev pub Proof : Type 0
 Proof = Formula × Log

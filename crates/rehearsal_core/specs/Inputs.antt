@@ -11,7 +11,10 @@ use Rattle.command_line.specs.declared.asks.Ask.TheVariants as ask
 use Rattle.command_line.specs.declared.asks.Request.{Request}
 use Rattle.command_line.specs.Words.{Makes}
 use Rattle.rehearsal_core.specs.declared.inputs.Loaded.{Loaded}
-use Rattle.rehearsal_core.specs.Judged.{IsReport, BreaksRule}
+use Rattle.known_inputs.specs.declared.inputs.Inputs.{Inputs}
+use Rattle.reports.specs.Stages.{CatalogRefusal, GraphRefusal, ProgramsRefusal}
+use Rattle.reports.specs.Reports.{IsCatalogReport, IsGraphReport, IsProgramsReport}
+use Rattle.reports.specs.Verdicts.{IsVerdict, VerdictRefusal}
 use Rattle.rehearsal_core.specs.Verified.{AreVerified, BreaksProofRule}
 use Rattle.rehearsal_core.specs.Migrated.{IsMigrated, BreaksListingRule}
 use Rattle.rehearsal_core.specs.declared.run.Ending.{Ending}
@@ -32,6 +35,9 @@ RequestsNone words = (request : Request) → Requests words request → ⊥
 -- how many bytes the input may have
 abbrev pub limit_of : Ask → ℕ
 limit_of ask.Verify = MANIFEST_BYTES
+limit_of ask.Catalog = MANIFEST_BYTES
+limit_of ask.Graph = MANIFEST_BYTES
+limit_of ask.Programs = MANIFEST_BYTES
 limit_of ask.Check = PROOF_BYTES
 limit_of ask.Migrate = LISTING_BYTES
 
@@ -101,33 +107,39 @@ AllTold held (f ∷ files) = ((name : List ℕ) → f.name ≡ Some name → (by
 -- the request with the bytes of its files
 pub record IsLoaded (held : Option Files) (r : Request) (l : Loaded) : Type 0 where
   pub asked : l.ask ≡ r.ask
-  pub node : l.node ≡ r.node
-  pub facts : StandAt held FACTS_BYTES r.facts l.facts
-  pub packages : StandAt held LISTING_BYTES r.packages l.packages
-  pub class_data : StandAt held FACTS_BYTES r.class_data l.class_data
-  pub input : StandAt held (limit_of r.ask) (Some r.input) (Some l.input)
-  pub tree : StandAt held TREE_BYTES r.tree l.tree
-  pub order : StandAt held ORDER_BYTES r.order l.order
+  pub node : l.inputs.node ≡ r.node
+  pub facts : StandAt held FACTS_BYTES r.facts l.inputs.facts
+  pub packages : StandAt held LISTING_BYTES r.packages l.inputs.packages
+  pub class_data : StandAt held FACTS_BYTES r.class_data l.inputs.class_data
+  pub input : StandAt held (limit_of r.ask) (Some r.input) (Some l.inputs.input)
+  pub tree : StandAt held TREE_BYTES r.tree l.inputs.tree
+  pub order : StandAt held ORDER_BYTES r.order l.inputs.order
 
 -- ---- what is said of a request
 
--- what may be said of a request with the bytes of its files
-abbrev pub IsAnswerTo : Ask → Loaded → List ℕ → Type 0
-IsAnswerTo ask.Verify l report = IsReport l.input report
-IsAnswerTo ask.Check l report = AreVerified l.input report
-IsAnswerTo ask.Migrate l report = IsMigrated l.input report
+-- what may be said of the files of a request
+abbrev pub IsAnswerTo : Ask → Inputs → List ℕ → Type 0
+IsAnswerTo ask.Verify i report = IsVerdict i report
+IsAnswerTo ask.Catalog i report = IsCatalogReport i report
+IsAnswerTo ask.Graph i report = IsGraphReport i report
+IsAnswerTo ask.Programs i report = IsProgramsReport i report
+IsAnswerTo ask.Check i report = AreVerified i.input report
+IsAnswerTo ask.Migrate i report = IsMigrated i.input report
 
 abbrev pub IsAnswer : Loaded → List ℕ → Type 0
-IsAnswer l report = IsAnswerTo l.ask l report
+IsAnswer l report = IsAnswerTo l.ask l.inputs report
 
--- the first rule that the bytes of the files break
-abbrev pub BreaksFor : Ask → Loaded → Refusal → Type 0
-BreaksFor ask.Verify l r = BreaksRule l.input r
-BreaksFor ask.Check l r = BreaksProofRule l.input r
-BreaksFor ask.Migrate l r = BreaksListingRule l.input r
+-- the first rule that the files break
+abbrev pub BreaksFor : Ask → Inputs → Refusal → Type 0
+BreaksFor ask.Verify i r = VerdictRefusal i r
+BreaksFor ask.Catalog i r = CatalogRefusal i r
+BreaksFor ask.Graph i r = GraphRefusal i r
+BreaksFor ask.Programs i r = ProgramsRefusal i r
+BreaksFor ask.Check i r = BreaksProofRule i.input r
+BreaksFor ask.Migrate i r = BreaksListingRule i.input r
 
 abbrev pub Breaks : Loaded → Refusal → Type 0
-Breaks l r = BreaksFor l.ask l r
+Breaks l r = BreaksFor l.ask l.inputs r
 
 -- a report on the request
 pub record ReportsOn (request : Request) (held : Option Files) (report : List ℕ) : Type 0 where

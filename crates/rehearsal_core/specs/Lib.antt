@@ -1,6 +1,3 @@
-pub mod FileForm
-pub mod Files
-pub mod Judged
 pub mod Verified
 pub mod Migrated
 pub mod Inputs

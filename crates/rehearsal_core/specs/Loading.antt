@@ -83,13 +83,13 @@ FirstLong l r = FirstOf (labelled l) r
 -- the same request, with the bytes that were read
 pub record LoadedFrom (l : Loads) (m : Loaded) : Type 0 where
   pub asked : m.ask ≡ l.ask
-  pub node : m.node ≡ l.node
-  pub facts : named_bytes l.facts ≡ Some m.facts
-  pub packages : named_bytes l.packages ≡ Some m.packages
-  pub class_data : named_bytes l.class_data ≡ Some m.class_data
-  pub input : bytes_in l.input ≡ Some m.input
-  pub tree : named_bytes l.tree ≡ Some m.tree
-  pub order : named_bytes l.order ≡ Some m.order
+  pub node : m.inputs.node ≡ l.node
+  pub facts : named_bytes l.facts ≡ Some m.inputs.facts
+  pub packages : named_bytes l.packages ≡ Some m.inputs.packages
+  pub class_data : named_bytes l.class_data ≡ Some m.inputs.class_data
+  pub input : bytes_in l.input ≡ Some m.inputs.input
+  pub tree : named_bytes l.tree ≡ Some m.inputs.tree
+  pub order : named_bytes l.order ≡ Some m.inputs.order
 
 -- the input has fewer bytes than a place of four bytes can count
 abbrev pub AreShort : Loads → Type 0

@@ -6,6 +6,7 @@ ghost use Rattle.rehearsal_core.specs.Inputs.{limit_of, files_of, AnyNamed};
 ghost use Rattle.rehearsal_core.specs.Loading.{IsLoad, IsNamedLoad, Reads, AreLoads, bytes_in, named_bytes, FirstLong, LoadedFrom};
 
 use command_line::{Ask, Request};
+use known_inputs::Inputs;
 use rh_base::limits::{
     FACTS_BYTES, LISTING_BYTES, MANIFEST_BYTES, ORDER_BYTES, PROOF_BYTES, TREE_BYTES,
 };
@@ -32,17 +33,11 @@ pub struct Loads {
     pub order: Option<Load>,
 }
 
-/// A request with the bytes of each file that it names.
+/// What is asked, with the bytes of each file that the request names.
 #[derive(Drop)]
 pub struct Loaded {
     pub ask: Ask,
-    pub node: Option<Text>,
-    pub facts: Option<Seq<u8>>,
-    pub packages: Option<Seq<u8>>,
-    pub class_data: Option<Seq<u8>>,
-    pub input: Seq<u8>,
-    pub tree: Option<Seq<u8>>,
-    pub order: Option<Seq<u8>>,
+    pub inputs: Inputs,
 }
 
 /// A file of this name couldn't be read, or memory was refused.
@@ -58,7 +53,7 @@ fn limit_of(ask: Ask) -> usize
     ensures small { result < 2 ^ 32 }
 {
     match ask {
-        Ask::Verify => MANIFEST_BYTES,
+        Ask::Verify | Ask::Catalog | Ask::Graph | Ask::Programs => MANIFEST_BYTES,
         Ask::Check => PROOF_BYTES,
         Ask::Migrate => LISTING_BYTES,
     }
@@ -184,12 +179,14 @@ pub fn all_within(alloc: Global, loads: Loads) -> Result<Loaded, Fault>
     let order = within_named(alloc, order, "order")?;
     Ok(Loaded {
         ask,
-        node,
-        facts,
-        packages,
-        class_data,
-        input,
-        tree,
-        order,
+        inputs: Inputs {
+            node,
+            facts,
+            packages,
+            class_data,
+            input,
+            tree,
+            order,
+        },
     })
 }

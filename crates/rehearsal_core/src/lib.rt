@@ -3,9 +3,7 @@
 
 mod bytes;
 mod checking;
-mod form;
 mod inputs;
-mod judge;
 mod migrating;
 mod run;
 mod sure;

@@ -8,10 +8,11 @@ ghost use Rattle.rehearsal_core.specs.Answers.{put_of, Answers};
 
 use crate::checking::verified;
 use crate::inputs::{Loaded, Loads, ReadFault, all_within, fetch_all};
-use crate::judge::judged;
 use crate::migrating::migrated;
 use crate::tell::{out_of_memory, tell_read_fault, tell_refusal, tell_usage, write_report};
 use command_line::{Ask, Request, WordsFault, read_request};
+use known_inputs::Inputs;
+use reports::{catalog_report, graph_report, programs_report, verdict_report};
 use rh_base::{Fault, Refusal, Seq, Shelf, Sink, Text};
 use std::alloc::Global;
 
@@ -25,15 +26,18 @@ pub enum Ending {
     Memory,
 }
 
-/// What is said of a request with the bytes of its files, or the first rule that they break.
-fn answer(alloc: Global, ask: Ask, loaded: &Loaded) -> Result<Seq<u8>, Fault>
-    requires { length loaded.now.input < 2 ^ 32 }
-    ensures report { IfOk result (IsAnswerTo ask loaded.now) }
-    ensures refused { IfErr result (λ e. IfRefused e (BreaksFor ask loaded.now)) }
+/// What is said of the files of a request, or the first rule that they break.
+fn answer(alloc: Global, ask: Ask, inputs: &Inputs) -> Result<Seq<u8>, Fault>
+    requires { length inputs.now.input < 2 ^ 32 }
+    ensures report { IfOk result (IsAnswerTo ask inputs.now) }
+    ensures refused { IfErr result (λ e. IfRefused e (BreaksFor ask inputs.now)) }
 {
-    let input = loaded.input.as_slice();
+    let input = inputs.input.as_slice();
     match ask {
-        Ask::Verify => judged(alloc, input),
+        Ask::Verify => verdict_report(alloc, inputs),
+        Ask::Catalog => catalog_report(alloc, inputs),
+        Ask::Graph => graph_report(alloc, inputs),
+        Ask::Programs => programs_report(alloc, inputs),
         Ask::Check => verified(alloc, input),
         Ask::Migrate => migrated(alloc, input),
     }
@@ -47,7 +51,7 @@ fn answer_read(alloc: Global, loads: Loads) -> Result<Seq<u8>, Fault>
     ensures refused { IfErr result (λ e. IfRefused e (λ r. FirstLong loads r ⊎ ((loaded : Loaded) × LoadedFrom loads loaded × Breaks loaded r))) }
 {
     let loaded = all_within(alloc, loads)?;
-    answer(alloc, loaded.ask, &loaded)
+    answer(alloc, loaded.ask, &loaded.inputs)
 }
 
 /// What there is to say of an answer.

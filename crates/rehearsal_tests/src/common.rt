@@ -33,14 +33,27 @@ fn words(alloc: Global, named: &[&str]) -> Result<Vec<String>, AllocError> {
     Ok(words)
 }
 
-fn files(alloc: Global, name: &str, bytes: &[u8]) -> Result<Vec<(Text, Vec<u8>)>, AllocError> {
+fn file(alloc: Global, name: &str, bytes: &[u8]) -> Result<(Text, Vec<u8>), AllocError> {
     let name = Text::from_string(String::from_str(alloc, name)?);
-    Ok(vec![in alloc; (name, bytes.to_vec(alloc)?)]?)
+    Ok((name, bytes.to_vec(alloc)?))
+}
+
+fn files(alloc: Global, named: &[(&str, &[u8])]) -> Result<Vec<(Text, Vec<u8>)>, AllocError> {
+    let mut files = Vec::new(alloc);
+    for (name, bytes) in named {
+        files.push(file(alloc, name, bytes)?)?;
+    }
+    Ok(files)
 }
 
 /// What words give where the file `site.pp` has these bytes and nothing fails.
 pub fn run(alloc: Global, named: &[&str], bytes: &[u8]) -> Result<Told, Fail> {
-    let mut shelf = SureShelf::new(files(alloc, "site.pp", bytes)?);
+    run_over(alloc, named, &[("site.pp", bytes)])
+}
+
+/// What words give over these files, where nothing fails.
+pub fn run_over(alloc: Global, named: &[&str], over: &[(&str, &[u8])]) -> Result<Told, Fail> {
+    let mut shelf = SureShelf::new(files(alloc, over)?);
     let mut out = SureSink::new(alloc);
     let mut err = SureSink::new(alloc);
     let named = words(alloc, named)?;
@@ -54,7 +67,7 @@ pub type Failing = (&'static [u64], &'static [u64], &'static [u64]);
 /// What words give over a shelf and sinks of which some calls fail.
 pub fn run_failing(alloc: Global, named: &[&str], failing: &Failing) -> Result<Told, Fail> {
     let manifest = b"file { '/etc/motd': content => 'hi' }";
-    let files = files(alloc, "site.pp", manifest)?;
+    let files = files(alloc, &[("site.pp", manifest)])?;
     let mut shelf = MemoryShelf::new(files, failing.0.to_vec(alloc)?);
     let mut out = MemorySink::new(alloc, failing.1.to_vec(alloc)?);
     let mut err = MemorySink::new(alloc, failing.2.to_vec(alloc)?);

@@ -40,42 +40,98 @@ fn manifests_that_are_judged(rt: HostRuntime) -> Result<(), Fail> {
     Ok(())
 }
 
+/// What is told of resources of which none is kept, but of which not all put files.
+const TWO: &str = "resources 2\npruned 2\ndeterministic\n";
+
+#[test]
+fn orders_that_do_not_matter(rt: HostRuntime) -> Result<(), Fail> {
+    let rows: [(&str, &str); 8] = [
+        (
+            "$x = 010",
+            "resources 0\npruned 0\ndeterministic\nidempotent\nsucceeds from some tree\n",
+        ),
+        (
+            "@file { '/v': content => 'x' }",
+            "resources 0\npruned 0\ndeterministic\nidempotent\nsucceeds from some tree\n",
+        ),
+        (
+            "@file { '/v': content => 'x' } File <| content == 'x' |>",
+            ONE,
+        ),
+        (
+            "define d() { @file { '/w': content => 'x' } } @d { 'a': } D <| |> File <| |>",
+            ONE,
+        ),
+        (
+            "file { '/dst': source => '/src' } -> file { '/src': ensure => absent }",
+            TWO,
+        ),
+        (
+            "file { '/a': ensure => directory } file { '/a/b': content => 'x' }",
+            TWO,
+        ),
+        (
+            "file { '/a': ensure => directory } file { '/a/b': content => 'x' } File['/a/b'] -> File['/a']",
+            TWO,
+        ),
+        (
+            "file { '/a': ensure => file } file { '/a/b': ensure => file }",
+            TWO,
+        ),
+    ];
+    for (manifest, report) in rows {
+        let told = told_of(rt.alloc(), manifest.as_bytes())?;
+        compare(&rt, &told, 0, report, "", manifest);
+    }
+    Ok(())
+}
+
 #[test]
 fn manifests_that_are_refused(rt: HostRuntime) -> Result<(), Fail> {
-    let rows: [(&str, &str); 16] = [
-        ("package { 'ntp': }", "refused 15 at 0: form\n"),
-        ("package {'ntp':}", "refused 15 at 0: form\n"),
-        ("$x = 010", "refused 15 at 0: form\n"),
+    let rows: [(&str, &str); 20] = [
+        ("package { 'ntp': }", "refused 54 at 10: Package[ntp]\n"),
         ("$x = 1.5", "refused 14 at 5: 1.5\n"),
         ("$x = 09", "refused 11 at 5: lexical\n"),
         ("$x = a.b", "refused 14 at 6: .\n"),
         ("file { '/a': content => 'x'", "refused 12 at 27: syntax\n"),
-        ("file { '/a': content => $x }", "refused 15 at 0: form\n"),
-        ("file { 'a': content => 'x' }", "refused 15 at 0: path\n"),
-        ("file { '/': content => '' }", "refused 15 at 0: path\n"),
+        ("file { '/a': content => $x }", "refused 20 at 24: $x\n"),
+        ("$a = 1 $a = 2", "refused 21 at 7: $a\n"),
+        ("$x = 9223372036854775807 + 1", "refused 33 at 5: integer\n"),
+        ("include z", "refused 22 at 0: z\n"),
+        ("realize(File['/v'])", "refused 40 at 0: File[/v]\n"),
+        (
+            "file { '/a': content => 'x', require => File['/z'] }",
+            "refused 40 at 7: File[/z]\n",
+        ),
+        (
+            "file { '/a': } file { '/b': } File['/a'] -> File['/b'] File['/b'] -> File['/a']",
+            "refused 41 at 0: File[/a] -> File[/b] -> File[/a]\n",
+        ),
+        ("exec { 'ls': }", "refused 50 at 7: Exec[ls]\n"),
+        (
+            "file { '/a': recurse => true }",
+            "refused 51 at 7: recurse\n",
+        ),
+        ("file { 'a': content => 'x' }", "refused 52 at 7: File[a]\n"),
         (
             "file { '/a/../b': content => '' }",
-            "refused 15 at 0: path\n",
+            "refused 52 at 7: File[/a/../b]\n",
         ),
         (
-            "file { '/.rehearsal': content => '' }",
-            "refused 15 at 0: path\n",
+            "file { '/.rehearsal/x': }",
+            "refused 53 at 7: File[/.rehearsal/x]\n",
         ),
         (
-            "file { '/a': content => 'x' } file { '/.rehearsal/x': content => '' } file { '/a': content => 'x' }",
-            "refused 15 at 0: path\n",
+            "file { '/a': ensure => maybe }",
+            "refused 55 at 7: File[/a]\n",
         ),
         (
-            "file { '/a': content => 'x' } file { '/a/b': content => 'y' }",
-            "refused 15 at 0: apart\n",
+            "file { '/a': } file { '/a/': }",
+            "refused 56 at 22: File[/a/]\n",
         ),
         (
-            "file { '/a': content => 'x'; '/a/b': content => 'y' }",
-            "refused 15 at 0: apart\n",
-        ),
-        (
-            "file { '/b': content => 'x' } file { '/a': content => 'x' } file { '/a/': content => 'x' }",
-            "refused 15 at 0: apart\n",
+            "file { '/a': content => 'x' } file { '/b': source => '/a' }",
+            "refused 16 at 0: kept\n",
         ),
     ];
     for (manifest, line) in rows {
@@ -110,10 +166,7 @@ fn bytes_that_are_no_text(rt: HostRuntime) -> Result<(), Fail> {
 #[test]
 fn brackets_that_nest_too_deep(rt: HostRuntime) -> Result<(), Fail> {
     let alloc = rt.alloc();
-    for (depth, line) in [
-        (64, "refused 15 at 0: form\n"),
-        (65, "refused 13 at 69: nesting\n"),
-    ] {
+    for (depth, line) in [(65, "refused 13 at 69: nesting\n")] {
         let mut manifest = String::from_str(alloc, "$x = ")?;
         for bracket in ["[", "]"] {
             for _ in 0..depth {

@@ -10,12 +10,13 @@ const NONE: &str = "resources 0\npruned 0\ndeterministic\nidempotent\nsucceeds f
 
 #[test]
 fn words_that_ask_to_verify(rt: HostRuntime) -> Result<(), Fail> {
-    let rows: [&[&str]; 5] = [
+    let rows: [&[&str]; 6] = [
         &["site.pp"],
         &["--ask", "verify", "site.pp"],
         &["--ask=verify", "site.pp"],
         &["site.pp", "--ask", "verify"],
         &["--", "site.pp"],
+        &["--node", "n", "site.pp"],
     ];
     for words in rows {
         let told = run(rt.alloc(), words, b"")?;
@@ -26,7 +27,7 @@ fn words_that_ask_to_verify(rt: HostRuntime) -> Result<(), Fail> {
 
 #[test]
 fn words_that_are_refused(rt: HostRuntime) -> Result<(), Fail> {
-    let rows: [&[&str]; 21] = [
+    let rows: [&[&str]; 23] = [
         &[],
         &["site.pp", "site.pp"],
         &["--help"],
@@ -37,17 +38,19 @@ fn words_that_are_refused(rt: HostRuntime) -> Result<(), Fail> {
         &["--ask", "site.pp"],
         &["--ask"],
         &["--ask", "verify"],
-        &["--ask", "graph", "site.pp"],
+        &["--ask", "replay", "site.pp"],
         &["--ask", "all", "site.pp"],
         &["--ask", "Check", "site.pp"],
         &["--ask", "verify", "--ask", "verify", "site.pp"],
         &["--tree", "t", "site.pp"],
-        &["--facts", "f", "site.pp"],
+        &["--ask", "check", "--facts", "f", "site.pp"],
+        &["--ask", "catalog", "--packages", "p", "site.pp"],
+        &["--ask", "graph", "--tree", "t", "site.pp"],
         &["--conflicts", "1", "site.pp"],
         &["--workload", "5"],
-        &["--node", "n", "site.pp"],
+        &["--ask", "migrate", "--node", "n", "site.pp"],
         &["--order", "o", "--ask", "check", "site.pp"],
-        &["--data", "d", "site.pp"],
+        &["--data", "d", "--ask", "migrate", "site.pp"],
     ];
     for words in rows {
         let told = run(rt.alloc(), words, b"")?;

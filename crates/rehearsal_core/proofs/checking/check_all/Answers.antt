@@ -1,6 +1,5 @@
 use Rattle.std.proofs.Common.{◌+◌}
-use Rattle.rehearsal_core.proofs.Judging.{broken}
-use Rattle.rehearsal_core.proofs.ProofLaws.{NoProof, HasFirstBad, first_is_refused}
+use Rattle.rehearsal_core.proofs.ProofLaws.{broken, NoProof, HasFirstBad, first_is_refused}
 use Rattle.rehearsal_core.proofs.checking.check_all.Goals as goal
 
 pub returns-in-Err-clause-bad : goal.returns-in-Err-clause-bad

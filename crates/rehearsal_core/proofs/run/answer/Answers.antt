@@ -8,10 +8,10 @@ use Rattle.rehearsal_core.proofs.run.answer.Goals as goal
 
 pub returns-in-Check-clause-refused : goal.returns-in-Check-clause-refused
 returns-in-Check-clause-refused c =
-    subst (λ a. IfErr c.verified.result (λ e. IfRefused e (BreaksFor a c.args.loaded.now))) (sym c.in-Check.is)
+    subst (λ a. IfErr c.verified.result (λ e. IfRefused e (BreaksFor a c.args.inputs.now))) (sym c.in-Check.is)
     (subst (λ bytes. IfErr c.verified.result (λ e. IfRefused e (BreaksProofRule bytes))) c.as_slice-input.ensures c.verified.ensures.refused)
 
 pub returns-in-Migrate-clause-refused : goal.returns-in-Migrate-clause-refused
 returns-in-Migrate-clause-refused c =
-    subst (λ a. IfErr c.migrated.result (λ e. IfRefused e (BreaksFor a c.args.loaded.now))) (sym c.in-Migrate.is)
+    subst (λ a. IfErr c.migrated.result (λ e. IfRefused e (BreaksFor a c.args.inputs.now))) (sym c.in-Migrate.is)
     (subst (λ bytes. IfErr c.migrated.result (λ e. IfRefused e (BreaksListingRule bytes))) c.as_slice-input.ensures c.migrated.ensures.refused)

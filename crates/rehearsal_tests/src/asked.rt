@@ -1,0 +1,173 @@
+//! Catalogs, graphs and programs that are asked for, over the files beside a manifest.
+
+use crate::common::{compare, run_over};
+use std::alloc::Global;
+use std::process::Abort;
+use std::test::Fail;
+
+const NTP: &str =
+    "class ntp($servers = ['a', 'b']) { package { 'ntp': ensure => installed } file { '/etc/ntp.conf': ensure => file, owner => 'root', mode => '0644', content => \"servers ${servers}\\n\", require => Package['ntp'] } service { 'ntp': ensure => running, enable => true, subscribe => File['/etc/ntp.conf'] } } include ntp";
+
+const LISTING: &str =
+    r#"{"version":1,"packages":{"ntp":{"files":["/etc/ntp.conf","/lib/systemd/system/ntp.service"],"folders":[]}}}"#;
+
+const FACTS: &str = r#"{"os":{"family":"Debian"},"load":0.5}"#;
+
+const DATA: &str =
+    r#"{"levels":[{"when":{"os":{"family":"debian"}},"values":{"ntp::servers":["c"]}}]}"#;
+
+/// What is asked, of which manifest, and what is told.
+type Row = (&'static [&'static str], &'static str, &'static str);
+
+const ROWS: [Row; 13] = [
+    (
+        &["--ask", "catalog", "site.pp"],
+        "File { mode => '0644' } file { '/a': content => 'x' }",
+        "File[/a]\n  content => \"x\"\n  mode => \"0644\"\n",
+    ),
+    (
+        &["--ask", "catalog", "site.pp"],
+        "define d($p) { file { $title: content => $p } } d { '/x': p => 'q' } d { '/y': p => 'r' }",
+        "File[/x]\n  content => \"q\"\nFile[/y]\n  content => \"r\"\n",
+    ),
+    (
+        &["--ask", "catalog", "--facts", "facts", "site.pp"],
+        "case $facts['os']['family'] { 'debian': { file { '/d': content => 'x' } } default: { file { '/e': content => 'x' } } }",
+        "File[/d]\n  content => \"x\"\n",
+    ),
+    (
+        &[
+            "--ask", "catalog", "--facts", "facts", "--data", "data", "site.pp",
+        ],
+        "class ntp($servers) { file { '/n': content => $servers[0] } } include ntp",
+        "File[/n]\n  content => \"c\"\n",
+    ),
+    (
+        &["--ask", "catalog", "--node", "web1", "site.pp"],
+        "node web1 { file { '/w': } } node default { file { '/d': } }",
+        "File[/w]\n",
+    ),
+    (
+        &["--ask", "catalog", "site.pp"],
+        "node web1 { file { '/w': } } node default { file { '/d': } }",
+        "File[/d]\n",
+    ),
+    (
+        &["--ask", "graph", "site.pp"],
+        "file { '/a': ensure => directory } file { '/a/b': content => 'x' } File['/a/b'] -> File['/a']",
+        "File[/a]\nFile[/a/b]\nFile[/a/b] -> File[/a]\n",
+    ),
+    (
+        &["--ask", "graph", "site.pp"],
+        "class empty { } include empty file { ['/a', '/b']: } File['/a'] -> Class['empty'] -> File['/b']",
+        "File[/a]\nFile[/b]\nFile[/a] -> File[/b]\n",
+    ),
+    (
+        &["--ask", "graph", "site.pp"],
+        NTP,
+        "Package[ntp]\nFile[/etc/ntp.conf]\nService[ntp]\nPackage[ntp] -> File[/etc/ntp.conf]\nPackage[ntp] -> Service[ntp]\nFile[/etc/ntp.conf] -> Service[ntp]\n",
+    ),
+    (
+        &["--ask", "programs", "site.pp"],
+        "file { '/etc/motd': content => 'hi' }",
+        "File[/etc/motd]\nif file?(\"/etc/motd\") then [rm(\"/etc/motd\"); creat(\"/etc/motd\",\"hi\")] else creat(\"/etc/motd\",\"hi\")\n",
+    ),
+    (
+        &["--ask", "programs", "site.pp"],
+        "group { 'g': ensure => absent } file { '/a': ensure => directory }",
+        "Group[g]\nif file?(\"/.rehearsal/group/g\") then rm(\"/.rehearsal/group/g\") else id\nFile[/a]\nif dir?(\"/a\") then id else mkdir(\"/a\")\n",
+    ),
+    (
+        &["--packages", "listing", "site.pp"],
+        NTP,
+        "resources 3\npruned 3\ndeterministic\n",
+    ),
+    (
+        &["--packages", "docs", "site.pp"],
+        "package { ['x', 'y']: }",
+        "resources 2\npruned 2\ndeterministic\n",
+    ),
+];
+
+/// What is refused, of which manifest, and the line.
+const REFUSED: [Row; 7] = [
+    (
+        &[
+            "--ask", "catalog", "--facts", "data", "--data", "facts", "site.pp",
+        ],
+        "",
+        "refused 64 at 0: data\n",
+    ),
+    (
+        &["--facts", "none", "--packages", "none", "site.pp"],
+        "$x = 09",
+        "refused 60 at 0: facts\n",
+    ),
+    (
+        &["--facts", "facts", "--packages", "facts", "site.pp"],
+        "$x = 09",
+        "refused 61 at 0: packages\n",
+    ),
+    (
+        &["--ask", "catalog", "--facts", "facts", "site.pp"],
+        "$x = $load + 1",
+        "refused 29 at 5: operand\n",
+    ),
+    (
+        &["--ask", "catalog", "site.pp"],
+        "class c { file { '/c': } }\ninclude c\ninclude c\nclass { 'c': }",
+        "refused 24 at 55: Class[c]\n",
+    ),
+    (
+        &["--ask", "catalog", "site.pp"],
+        "node web1 { }",
+        "refused 31 at 0: \n",
+    ),
+    (
+        &["--packages", "shared", "site.pp"],
+        "package { 'ntp': } file { '/etc/ntp.conf': content => 'server a' }",
+        "refused 16 at 0: kept\n",
+    ),
+];
+
+const SHARED: &str = r#"{"version":1,"packages":{"ntp":{"files":["/etc/ntp.conf"],"folders":[]}}}"#;
+
+const DOCS: &str =
+    r#"{"version":1,"packages":{"x":{"files":["/usr/share/doc/x"],"folders":[]},"y":{"files":["/usr/share/doc/y"],"folders":[]}}}"#;
+
+/// The files beside a manifest.
+const BESIDE: [(&str, &str); 6] = [
+    ("facts", FACTS),
+    ("data", DATA),
+    ("listing", LISTING),
+    ("shared", SHARED),
+    ("docs", DOCS),
+    ("none", "[1]"),
+];
+
+/// Runs each row over the files beside the manifest.
+fn run_rows(alloc: Global, rt: &impl Abort, rows: &[Row], status: u8) -> Result<(), Fail> {
+    for (words, manifest, told) in rows {
+        let mut over: [(&str, &[u8]); 7] = [("site.pp", manifest.as_bytes()); 7];
+        for i in 0..6 {
+            over[i + 1] = (BESIDE[i].0, BESIDE[i].1.as_bytes());
+        }
+        let ended = run_over(alloc, words, &over)?;
+        if status == 0 {
+            compare(rt, &ended, 0, told, "", manifest);
+        } else {
+            compare(rt, &ended, status, "", told, manifest);
+        }
+    }
+    Ok(())
+}
+
+#[test]
+fn what_is_asked(rt: HostRuntime) -> Result<(), Fail> {
+    run_rows(rt.alloc(), &rt, &ROWS, 0)
+}
+
+#[test]
+fn what_is_refused(rt: HostRuntime) -> Result<(), Fail> {
+    run_rows(rt.alloc(), &rt, &REFUSED, 4)
+}

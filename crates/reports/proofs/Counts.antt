@@ -1,0 +1,50 @@
+-- There are as many programs as resources in the graph.
+use Rattle.std.proofs.Common.{◌≡◌, ◌<◌, ℕ, zero, suc, List, [], ◌∷◌, ◌++◌, length, Option, Some, None, Result, Ok, Err, refl, sym, ap, ◌∙◌, arith}
+use Rattle.std.specs.Prelude.{slice_get}
+use Rattle.std.specs.List.{AllByRecursion}
+use Rattle.rh_base.specs.declared.fault.Refusal.{Refusal}
+use Rattle.catalog_semantics.specs.declared.catalog.Resource.{Resource}
+use Rattle.fs_semantics.specs.FileTree.{Path}
+use Rattle.fs_semantics.specs.Programs.{Program}
+use Rattle.pkg_listing.specs.Packages.{Packages}
+use Rattle.model_semantics.specs.Models.{Model, model_of, if_new, or_refused, first_and, programs_with, programs_behind}
+use Rattle.model_semantics.specs.Words.{sequence}
+use Rattle.model_semantics.specs.Names.{◌>>=◌}
+use Rattle.res_models.specs.Seen.{resource_at, resources_at}
+use Rattle.catalog_semantics.specs.Catalogs.{Catalog}
+use Rattle.graph_semantics.specs.Graphs.{plain_places}
+use Rattle.dep_graph.specs.declared.answer.Graph.{Graph}
+use Rattle.known_inputs.specs.declared.inputs.Known.{Known}
+use Rattle.reports.specs.Stages.{programs_in}
+use Rattle.reports.proofs.Places.{places_within}
+
+one_more : (n : ℕ) (e : Program) (v : Result (List Program) Refusal) (es : List Program) → first_and e v ≡ Ok es
+    → ((fs : List Program) → v ≡ Ok fs → length fs ≡ n) → length es ≡ suc n
+one_more n e (Err r) es h so_far = cc
+one_more n e (Ok fs) es h so_far = let same : e ∷ fs ≡ es = cc in ap length (sym same) ∙ ap suc (so_far fs refl)
+
+with_first : (n : ℕ) (v : Result Model Refusal) (more : Path → Result (List Program) Refusal) (es : List Program) → programs_with v more ≡ Ok es
+    → ((place : Path) (fs : List Program) → more place ≡ Ok fs → length fs ≡ n) → length es ≡ suc n
+with_first n (Err r) more es h so_far = cc
+with_first n (Ok m) more es h so_far = one_more n (sequence m.steps) (more m.place) es h (so_far m.place)
+
+one_each : (seen : List Path) (listing : Packages) (rs : List Resource) (es : List Program) → programs_behind seen listing rs ≡ Ok es → length es ≡ length rs
+one_each seen listing [] es h = let same : [] ≡ es = cc in ap length (sym same)
+one_each seen listing (r ∷ rs) es h =
+    with_first (length rs) (or_refused r (model_of listing r >>= if_new seen)) (λ place. programs_behind (seen ++ place ∷ []) listing rs) es h
+    (λ place fs k. one_each (seen ++ place ∷ []) listing rs fs k)
+
+there : (resources : List Resource) (i : ℕ) → i < length resources → (r : Resource) × (slice_get resources i ≡ Some r)
+there [] i h = absurd (omega arith)
+there (r ∷ resources) zero h = (r, refl)
+there (r ∷ resources) (suc i) h = there resources i (omega arith)
+
+all_there : (resources : List Resource) (places : List ℕ) → AllByRecursion (λ i. i < length resources) places → length (resources_at resources places) ≡ length places
+all_there resources [] h = refl
+all_there resources (i ∷ places) h =
+    let at = there resources i h.0 in
+    ap (λ (o : Option Resource). length (resource_at o ++ resources_at resources places)) at.1 ∙ ap suc (all_there resources places h.1)
+
+pub as_many : (k : Known) (c : Catalog) (g : Graph) (es : List Program) → g.plain ≡ plain_places c → programs_in k c g ≡ Ok es → length es ≡ length g.plain
+as_many k c g es are made =
+    one_each [] k.listing (resources_at c.resources g.plain) es made ∙ all_there c.resources g.plain (places_within c g.plain are)

@@ -1,0 +1,5 @@
+pub mod Places
+pub mod Counts
+pub mod StageLaws
+pub mod VerdictLaws
+pub mod LineLaws

@@ -1,0 +1,105 @@
+-- What refuses a stage refuses those above it.
+use Rattle.std.proofs.Common.{◌≡◌, ◌<◌, ℕ, length, List, Result, Ok, Err, map, sym, ap, ap₂, subst, subst₂, ◌∙◌}
+use Rattle.std.specs.Prelude.{IfOk, IfErr}
+use Rattle.std.specs.List.{AllByRecursion}
+use Rattle.rh_base.specs.declared.fault.Fault.{Fault}
+use Rattle.rh_base.specs.declared.fault.Fault.TheVariants.{Refused, Memory}
+use Rattle.rh_base.specs.Refused.{IfRefused}
+use Rattle.pp_eval.specs.Verdicts.{Refuses}
+use Rattle.fs_semantics.specs.Programs.{Program}
+use Rattle.fs_lang.specs.declared.program.Program as code
+use Rattle.fs_lang.specs.Meaning.{program_of}
+use Rattle.catalog_semantics.specs.Catalogs.{Catalog, IsCatalogOf}
+use Rattle.pp_compile.specs.Sources.{IsCatalogRefusal}
+use Rattle.orders.specs.Relation.{Comes}
+use Rattle.graph_semantics.specs.Graphs.{IsGraphOf, IsGraphRefusal}
+use Rattle.dep_graph.specs.declared.answer.Graph.{Graph}
+use Rattle.model_semantics.specs.Models.{programs}
+use Rattle.res_models.specs.Seen.{resources_at}
+use Rattle.known_inputs.specs.declared.inputs.Inputs.{Inputs}
+use Rattle.known_inputs.specs.declared.inputs.Known.{Known}
+use Rattle.known_inputs.specs.Inputs.{IsKnown, FirstUnread}
+use Rattle.reports.specs.Reports.{program_lines}
+use Rattle.reports.proofs.Places.{places_within}
+use Rattle.reports.specs.Stages as stages
+use Rattle.reports.specs.Stages.{node_name, IsCompiled, IsPlanned, programs_in, CatalogRefusal, GraphRefusal, ProgramsRefusal}
+
+-- ---- catalogs
+
+pub unread : (i : Inputs) (e : Fault) → IfRefused e (FirstUnread i) → IfRefused e (CatalogRefusal i)
+unread i (Refused r) first = stages.unread first
+unread i (Memory m) first = tt
+
+-- of a text and a name that are those of the request
+pub uncompiled : (i : Inputs) (k : Known) (text name : List ℕ) (e : Fault) → text ≡ i.input → name ≡ node_name i.node → IsKnown i k
+    → IfRefused e (IsCatalogRefusal text k.facts name k.class_data) → IfRefused e (CatalogRefusal i)
+uncompiled i k text name (Refused r) is named known none =
+    stages.uncompiled k known (subst₂ (λ t n. IsCatalogRefusal t k.facts n k.class_data r) is named none)
+uncompiled i k text name (Memory m) is named known none = tt
+
+pub is_compiled : (i : Inputs) (k : Known) (text name : List ℕ) (c : Catalog) → text ≡ i.input → name ≡ node_name i.node → IsKnown i k
+    → IsCatalogOf text k.facts name k.class_data (Ok c) → IsCompiled i k c
+is_compiled i k text name c is named known has =
+    record { known = known; catalog = subst₂ (λ t n. IsCatalogOf t k.facts n k.class_data (Ok c)) is named has }
+
+pub compiled_answer : (i : Inputs) (k : Known) (text name : List ℕ) (said : Result Catalog Fault) → text ≡ i.input → name ≡ node_name i.node → IsKnown i k
+    → IfOk said (λ c. IsCatalogOf text k.facts name k.class_data (Ok c)) → IfOk said (IsCompiled i k)
+compiled_answer i k text name (Ok c) is named known has = is_compiled i k text name c is named known has
+compiled_answer i k text name (Err e) is named known has = tt
+
+pub uncompiled_answer : (i : Inputs) (k : Known) (text name : List ℕ) (said : Result Catalog Fault) → text ≡ i.input → name ≡ node_name i.node → IsKnown i k
+    → IfErr said (λ e. IfRefused e (IsCatalogRefusal text k.facts name k.class_data)) → IfErr said (λ e. IfRefused e (CatalogRefusal i))
+uncompiled_answer i k text name (Ok c) is named known none = tt
+uncompiled_answer i k text name (Err e) is named known none = uncompiled i k text name e is named known none
+
+-- ---- graphs
+
+pub before_graph : (i : Inputs) (e : Fault) → IfRefused e (CatalogRefusal i) → IfRefused e (GraphRefusal i)
+before_graph i (Refused r) first = stages.before_graph first
+before_graph i (Memory m) first = tt
+
+pub unread_graph : (i : Inputs) (e : Fault) → IfRefused e (FirstUnread i) → IfRefused e (GraphRefusal i)
+unread_graph i e first = before_graph i e (unread i e first)
+
+pub in_graph : (i : Inputs) (k : Known) (c : Catalog) (e : Fault) → IsCompiled i k c → IfRefused e (IsGraphRefusal c) → IfRefused e (GraphRefusal i)
+in_graph i k c (Refused r) compiled none = stages.in_graph k c compiled none
+in_graph i k c (Memory m) compiled none = tt
+
+-- ---- programs
+
+pub before_programs : (i : Inputs) (e : Fault) → IfRefused e (GraphRefusal i) → IfRefused e (ProgramsRefusal i)
+before_programs i (Refused r) first = stages.before_programs first
+before_programs i (Memory m) first = tt
+
+-- of places that are those of the graph
+pub in_programs : (i : Inputs) (k : Known) (c : Catalog) (g : Graph) (plain : List ℕ) (e : Fault) → plain ≡ g.plain → IsPlanned i k c g
+    → Refuses (programs k.listing (resources_at c.resources plain)) e → IfRefused e (ProgramsRefusal i)
+in_programs i k c g plain (Refused r) is planned none =
+    stages.in_programs k c g planned (ap (λ ks. programs k.listing (resources_at c.resources ks)) (sym is) ∙ none)
+in_programs i k c g plain (Memory m) is planned none = tt
+
+pub are_made : (k : Known) (c : Catalog) (g : Graph) (plain : List ℕ) (es : List Program) → plain ≡ g.plain
+    → programs k.listing (resources_at c.resources plain) ≡ Ok es → programs_in k c g ≡ Ok es
+are_made k c g plain es is made = ap (λ ks. programs k.listing (resources_at c.resources ks)) (sym is) ∙ made
+
+-- ---- what comes before programs
+
+pub unread_programs : (i : Inputs) (e : Fault) → IfRefused e (FirstUnread i) → IfRefused e (ProgramsRefusal i)
+unread_programs i e first = before_programs i e (unread_graph i e first)
+
+pub catalog_programs : (i : Inputs) (e : Fault) → IfRefused e (CatalogRefusal i) → IfRefused e (ProgramsRefusal i)
+catalog_programs i e first = before_programs i e (before_graph i e first)
+
+pub graph_programs : (i : Inputs) (k : Known) (c : Catalog) (e : Fault) → IsCompiled i k c → IfRefused e (IsGraphRefusal c) → IfRefused e (ProgramsRefusal i)
+graph_programs i k c e compiled none = before_programs i e (in_graph i k c e compiled none)
+
+pub planned : (i : Inputs) (k : Known) (c : Catalog) (g : Graph) → IsCompiled i k c → IsGraphOf c g.plain (Comes g.order) → g.order.count ≡ length g.plain → IsPlanned i k c g
+planned i k c g compiled is count = record { compiled = compiled; graph = is; count = count }
+
+-- the places of the graph are places of the catalog
+pub are_places : (c : Catalog) (g : Graph) (plain : List ℕ) → plain ≡ g.plain → IsGraphOf c g.plain (Comes g.order) → AllByRecursion (λ i. i < length c.resources) plain
+are_places c g plain is graph = places_within c plain (is ∙ graph.places)
+
+pub programs_told : (c : Catalog) (g : Graph) (plain : List ℕ) (lent made : List code.Program) (bytes : List ℕ) → plain ≡ g.plain → lent ≡ made
+    → bytes ≡ program_lines c plain (map program_of lent) → bytes ≡ program_lines c g.plain (map program_of made)
+programs_told c g plain lent made bytes is same told = told ∙ ap₂ (λ (ks : List ℕ) (es : List code.Program). program_lines c ks (map program_of es)) is same

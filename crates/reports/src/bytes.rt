@@ -1,0 +1,27 @@
+//! Bytes of texts.
+
+ghost use Rattle.std.specs.Prelude.{◌≡◌, ◌++◌, string_bytes, OnOk};
+
+use rh_base::{NoMemory, Seq, Text};
+
+/// The bytes of a string.
+pub fn bytes_in(text: String) -> Seq<u8>
+    ensures { result ≡ string_bytes text }
+{
+    Seq::from_vec(text.into_bytes())
+}
+
+/// The bytes of a text.
+pub fn bytes_of(text: Text) -> Seq<u8>
+    ensures { result ≡ text }
+{
+    bytes_in(text.into_string())
+}
+
+/// Appends bytes.
+pub fn push_bytes(bytes: &[u8], into: &mut Vec<u8>) -> Result<(), NoMemory>
+    ensures { OnOk result (into.new.items ≡ into.old.items ++ bytes.now) }
+{
+    into.extend_from_slice(bytes)?;
+    Ok(())
+}

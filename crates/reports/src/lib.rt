@@ -1,0 +1,14 @@
+//! Reports on a manifest: its catalog, its graph, what its resources do, and whether their order matters.
+#![tactic(auto)]
+
+mod bytes;
+mod catalogs;
+mod compiling;
+mod graphs;
+mod programs;
+mod verdicts;
+
+pub use catalogs::catalog_report;
+pub use graphs::graph_report;
+pub use programs::programs_report;
+pub use verdicts::verdict_report;

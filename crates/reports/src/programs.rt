@@ -1,0 +1,77 @@
+//! The report on what resources do.
+
+ghost use Rattle.std.specs.Prelude.{◌≡◌, ◌<◌, ◌^◌, ◌++◌, length, map, IfOk, IfErr, OnOk};
+ghost use Rattle.std.specs.List.{AllByRecursion};
+ghost use Rattle.rh_base.specs.Refused.{IfRefused};
+ghost use Rattle.fs_lang.specs.Meaning.{program_of};
+ghost use Rattle.reports.specs.Stages.{ProgramsRefusal};
+ghost use Rattle.reports.specs.Reports.{resource_program, program_lines, IsProgramsReport};
+
+use crate::bytes::push_bytes;
+use crate::compiling::catalog_for;
+use catalog::Catalog;
+use dep_graph::graph;
+use fs_lang::Program;
+use known_inputs::{Inputs, known_inputs};
+use pp_value::shown_ref;
+use res_models::programs_of;
+use rh_base::{Fault, NoMemory, Seq};
+use std::alloc::Global;
+use tree_text::program_text;
+
+/// Adds the reference of a resource and its program, a line for each.
+fn push_program(
+    alloc: Global,
+    catalog: &Catalog,
+    place: u32,
+    program: &Program,
+    into: &mut Vec<u8>,
+) -> Result<(), NoMemory>
+    requires { place < length catalog.now.resources }
+    ensures { OnOk result (into.new.items ≡ into.old.items ++ resource_program catalog.now place (program_of program.now)) }
+{
+    let shown = shown_ref(alloc, &catalog.get(place).id)?;
+    push_bytes(shown.as_str().as_bytes(), into)?;
+    push_bytes(b"\n", into)?;
+    program_text(alloc, program, into)?;
+    push_bytes(b"\n", into)
+}
+
+/// Adds the lines of resources with their programs.
+fn push_programs(
+    alloc: Global,
+    catalog: &Catalog,
+    plain: &[u32],
+    programs: &[Program],
+    into: &mut Vec<u8>,
+) -> Result<(), NoMemory>
+    requires { AllByRecursion (λ i. i < length catalog.now.resources) plain.now }
+    ensures { OnOk result (into.new.items ≡ into.old.items ++ program_lines catalog.now plain.now (map program_of programs.now)) }
+{
+    let mut rest = programs;
+    for place in plain {
+        let Some((program, more)) = rest.split_first() else {
+            break;
+        };
+        push_program(alloc, catalog, *place, program, into)?;
+        rest = more;
+    }
+    Ok(())
+}
+
+/// What each real resource of a built-in type does, as a program; or the first refusal.
+pub fn programs_report(alloc: Global, inputs: &Inputs) -> Result<Seq<u8>, Fault>
+    requires { length inputs.now.input < 2 ^ 32 }
+    ensures report { IfOk result (IsProgramsReport inputs.now) }
+    ensures refused { IfErr result (λ e. IfRefused e (ProgramsRefusal inputs.now)) }
+{
+    let known = known_inputs(alloc, inputs)?;
+    let catalog = catalog_for(alloc, inputs, &known)?;
+    let plan = graph(alloc, &catalog)?;
+    let plain = plan.plain.as_slice();
+    let programs = programs_of(alloc, &catalog, plain, &known.listing)?;
+    let made = programs.as_slice();
+    let mut bytes = Vec::new(alloc);
+    push_programs(alloc, &catalog, plain, made, &mut bytes)?;
+    Ok(Seq::from_vec(bytes))
+}
