@@ -56,12 +56,17 @@ compiled = record alone { facts = true; class_data = true; node = true }
 abbrev pub described : Takes
 described = record compiled { packages = true }
 
+-- that, and a file tree and an order
+abbrev pub replayed : Takes
+replayed = record described { tree = true; order = true }
+
 -- which options may stand beside a value of `--ask`
 abbrev pub takes : Ask → Takes
 takes ask.Verify = described
 takes ask.Catalog = compiled
 takes ask.Graph = compiled
 takes ask.Programs = described
+takes ask.Replay = replayed
 takes ask.Check = alone
 takes ask.Migrate = alone
 
@@ -74,8 +79,9 @@ ask_named word =
     else (if bytes_eq word (codes "catalog") then Some ask.Catalog
     else (if bytes_eq word (codes "graph") then Some ask.Graph
     else (if bytes_eq word (codes "programs") then Some ask.Programs
+    else (if bytes_eq word (codes "replay") then Some ask.Replay
     else (if bytes_eq word (codes "check") then Some ask.Check
-    else (if bytes_eq word (codes "migrate") then Some ask.Migrate else None)))))
+    else (if bytes_eq word (codes "migrate") then Some ask.Migrate else None))))))
 
 -- what `--ask` asks for; where it is left out, to verify
 abbrev pub ask_in : Option Text → Option Ask

@@ -1,7 +1,7 @@
 //! What may be asked for, and what may be given with it.
 
 ghost use Rattle.std.specs.Prelude.{◌≡◌};
-ghost use Rattle.command_line.specs.Words.{ask_named, alone, compiled, described, takes};
+ghost use Rattle.command_line.specs.Words.{ask_named, alone, compiled, described, replayed, takes};
 
 use rh_base::Text;
 
@@ -16,6 +16,8 @@ pub enum Ask {
     Graph,
     /// What the resources of a manifest's catalog do.
     Programs,
+    /// The outcome of a manifest's resources on a file tree.
+    Replay,
     /// Whether the proofs of a text are right.
     Check,
     /// A listing of packages in its newest form.
@@ -84,6 +86,16 @@ fn described() -> Takes
     takes
 }
 
+/// That, and a file tree and an order.
+fn replayed() -> Takes
+    ensures { result ≡ replayed }
+{
+    let mut takes = described();
+    takes.tree = true;
+    takes.order = true;
+    takes
+}
+
 impl Ask {
     /// What a word asks for.
     pub(crate) fn named(word: &str) -> Option<Ask>
@@ -97,6 +109,8 @@ impl Ask {
             Some(Ask::Graph)
         } else if word == "programs" {
             Some(Ask::Programs)
+        } else if word == "replay" {
+            Some(Ask::Replay)
         } else if word == "check" {
             Some(Ask::Check)
         } else if word == "migrate" {
@@ -115,6 +129,7 @@ impl Ask {
             Ask::Catalog => compiled(),
             Ask::Graph => compiled(),
             Ask::Programs => described(),
+            Ask::Replay => replayed(),
             Ask::Check => alone(),
             Ask::Migrate => alone(),
         }

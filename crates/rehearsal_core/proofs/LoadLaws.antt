@@ -87,6 +87,7 @@ limit_is_small ask.Verify = omega arith
 limit_is_small ask.Catalog = omega arith
 limit_is_small ask.Graph = omega arith
 limit_is_small ask.Programs = omega arith
+limit_is_small ask.Replay = omega arith
 limit_is_small ask.Check = omega arith
 limit_is_small ask.Migrate = omega arith
 

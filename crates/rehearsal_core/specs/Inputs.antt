@@ -12,9 +12,10 @@ use Rattle.command_line.specs.declared.asks.Request.{Request}
 use Rattle.command_line.specs.Words.{Makes}
 use Rattle.rehearsal_core.specs.declared.inputs.Loaded.{Loaded}
 use Rattle.known_inputs.specs.declared.inputs.Inputs.{Inputs}
-use Rattle.reports.specs.Stages.{CatalogRefusal, GraphRefusal, ProgramsRefusal}
-use Rattle.reports.specs.Reports.{IsCatalogReport, IsGraphReport, IsProgramsReport}
-use Rattle.reports.specs.Verdicts.{IsVerdict, VerdictRefusal}
+use Rattle.reports.specs.declared.question.Question.TheVariants as question
+use Rattle.reports.specs.Stages.{CatalogRefusal, GraphRefusal}
+use Rattle.reports.specs.Reports.{IsCatalogReport, IsGraphReport}
+use Rattle.reports.specs.Questions.{IsReport, ReportRefusal}
 use Rattle.rehearsal_core.specs.Verified.{AreVerified, BreaksProofRule}
 use Rattle.rehearsal_core.specs.Migrated.{IsMigrated, BreaksListingRule}
 use Rattle.rehearsal_core.specs.declared.run.Ending.{Ending}
@@ -38,6 +39,7 @@ limit_of ask.Verify = MANIFEST_BYTES
 limit_of ask.Catalog = MANIFEST_BYTES
 limit_of ask.Graph = MANIFEST_BYTES
 limit_of ask.Programs = MANIFEST_BYTES
+limit_of ask.Replay = MANIFEST_BYTES
 limit_of ask.Check = PROOF_BYTES
 limit_of ask.Migrate = LISTING_BYTES
 
@@ -119,10 +121,11 @@ pub record IsLoaded (held : Option Files) (r : Request) (l : Loaded) : Type 0 wh
 
 -- what may be said of the files of a request
 abbrev pub IsAnswerTo : Ask → Inputs → List ℕ → Type 0
-IsAnswerTo ask.Verify i report = IsVerdict i report
+IsAnswerTo ask.Verify i report = IsReport question.Verdict i report
 IsAnswerTo ask.Catalog i report = IsCatalogReport i report
 IsAnswerTo ask.Graph i report = IsGraphReport i report
-IsAnswerTo ask.Programs i report = IsProgramsReport i report
+IsAnswerTo ask.Programs i report = IsReport question.Programs i report
+IsAnswerTo ask.Replay i report = IsReport question.Replay i report
 IsAnswerTo ask.Check i report = AreVerified i.input report
 IsAnswerTo ask.Migrate i report = IsMigrated i.input report
 
@@ -131,10 +134,11 @@ IsAnswer l report = IsAnswerTo l.ask l.inputs report
 
 -- the first rule that the files break
 abbrev pub BreaksFor : Ask → Inputs → Refusal → Type 0
-BreaksFor ask.Verify i r = VerdictRefusal i r
+BreaksFor ask.Verify i r = ReportRefusal question.Verdict i r
 BreaksFor ask.Catalog i r = CatalogRefusal i r
 BreaksFor ask.Graph i r = GraphRefusal i r
-BreaksFor ask.Programs i r = ProgramsRefusal i r
+BreaksFor ask.Programs i r = ReportRefusal question.Programs i r
+BreaksFor ask.Replay i r = ReportRefusal question.Replay i r
 BreaksFor ask.Check i r = BreaksProofRule i.input r
 BreaksFor ask.Migrate i r = BreaksListingRule i.input r
 

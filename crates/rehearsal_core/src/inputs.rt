@@ -53,7 +53,7 @@ fn limit_of(ask: Ask) -> usize
     ensures small { result < 2 ^ 32 }
 {
     match ask {
-        Ask::Verify | Ask::Catalog | Ask::Graph | Ask::Programs => MANIFEST_BYTES,
+        Ask::Verify | Ask::Catalog | Ask::Graph | Ask::Programs | Ask::Replay => { MANIFEST_BYTES },
         Ask::Check => PROOF_BYTES,
         Ask::Migrate => LISTING_BYTES,
     }

@@ -12,7 +12,7 @@ use crate::migrating::migrated;
 use crate::tell::{out_of_memory, tell_read_fault, tell_refusal, tell_usage, write_report};
 use command_line::{Ask, Request, WordsFault, read_request};
 use known_inputs::Inputs;
-use reports::{catalog_report, graph_report, programs_report, verdict_report};
+use reports::{Question, catalog_report, graph_report, report_on};
 use rh_base::{Fault, Refusal, Seq, Shelf, Sink, Text};
 use std::alloc::Global;
 
@@ -34,10 +34,11 @@ fn answer(alloc: Global, ask: Ask, inputs: &Inputs) -> Result<Seq<u8>, Fault>
 {
     let input = inputs.input.as_slice();
     match ask {
-        Ask::Verify => verdict_report(alloc, inputs),
+        Ask::Verify => report_on(alloc, Question::Verdict, inputs),
         Ask::Catalog => catalog_report(alloc, inputs),
         Ask::Graph => graph_report(alloc, inputs),
-        Ask::Programs => programs_report(alloc, inputs),
+        Ask::Programs => report_on(alloc, Question::Programs, inputs),
+        Ask::Replay => report_on(alloc, Question::Replay, inputs),
         Ask::Check => verified(alloc, input),
         Ask::Migrate => migrated(alloc, input),
     }

@@ -89,8 +89,80 @@ const ROWS: [Row; 13] = [
     ),
 ];
 
+/// The outcomes of runs.
+const RUNS: [Row; 9] = [
+    (
+        &["--ask", "replay", "site.pp"],
+        "file { '/a': content => 'x' } file { '/b': content => 'y' }",
+        "outcome {\"/a\":\"x\",\"/b\":\"y\"}\n",
+    ),
+    (&["--ask", "replay", "site.pp"], "", "outcome {}\n"),
+    (
+        &["--ask", "replay", "site.pp"],
+        "file { '/a/b': content => 'y' }",
+        "outcome error\n",
+    ),
+    (
+        &[
+            "--ask",
+            "replay",
+            "--packages",
+            "opt",
+            "--tree",
+            "tree",
+            "site.pp",
+        ],
+        "package { 'p': ensure => absent }",
+        "outcome {\"/.rehearsal\":null,\"/.rehearsal/package\":null,\"/opt\":null,\"/opt/p\":null,\"/opt/p/z\":\"q\"}\n",
+    ),
+    (
+        &["--ask", "replay", "--tree", "link", "site.pp"],
+        "file { '/a': ensure => absent }",
+        "outcome {}\n",
+    ),
+    (
+        &["--ask", "replay", "--order", "turned", "site.pp"],
+        "file { '/a': ensure => directory } file { '/b': content => 'y' }",
+        "outcome {\"/a\":null,\"/b\":\"y\"}\n",
+    ),
+    (
+        &["--ask", "replay", "--packages", "shared", "site.pp"],
+        SHARED_MANIFEST,
+        "outcome {\"/.rehearsal\":null,\"/.rehearsal/package\":null,\"/.rehearsal/package/ntp\":\"\",\"/etc\":null,\"/etc/ntp.conf\":\"server a\"}\n",
+    ),
+    (
+        &[
+            "--ask",
+            "replay",
+            "--packages",
+            "shared",
+            "--order",
+            "conf",
+            "site.pp",
+        ],
+        SHARED_MANIFEST,
+        "outcome error\n",
+    ),
+    (
+        &[
+            "--ask",
+            "replay",
+            "--packages",
+            "shared",
+            "--order",
+            "packed",
+            "site.pp",
+        ],
+        SHARED_MANIFEST,
+        "outcome {\"/.rehearsal\":null,\"/.rehearsal/package\":null,\"/.rehearsal/package/ntp\":\"\",\"/etc\":null,\"/etc/ntp.conf\":\"server a\"}\n",
+    ),
+];
+
+/// A package and a file that it brings, without an arrow between them.
+const SHARED_MANIFEST: &str = "package { 'ntp': } file { '/etc/ntp.conf': content => 'server a' }";
+
 /// What is refused, of which manifest, and the line.
-const REFUSED: [Row; 7] = [
+const REFUSED: [Row; 12] = [
     (
         &[
             "--ask", "catalog", "--facts", "data", "--data", "facts", "site.pp",
@@ -128,6 +200,33 @@ const REFUSED: [Row; 7] = [
         "package { 'ntp': } file { '/etc/ntp.conf': content => 'server a' }",
         "refused 16 at 0: kept\n",
     ),
+    (
+        &["--ask", "replay", "--order", "missing", "site.pp"],
+        "file { '/etc/motd': content => 'hi' }",
+        "refused 63 at 0: order\n",
+    ),
+    (
+        &["--ask", "replay", "--order", "turned", "site.pp"],
+        "file { '/a': } -> file { '/b': }",
+        "refused 63 at 0: order\n",
+    ),
+    (
+        &["--ask", "replay", "--order", "none", "site.pp"],
+        "file { '/a': }",
+        "refused 63 at 0: order\n",
+    ),
+    (
+        &[
+            "--ask", "replay", "--tree", "hanging", "--order", "missing", "site.pp",
+        ],
+        "$x = 09",
+        "refused 62 at 0: tree\n",
+    ),
+    (
+        &["--ask", "replay", "--order", "missing", "site.pp"],
+        "exec { 'ls': }",
+        "refused 50 at 7: Exec[ls]\n",
+    ),
 ];
 
 const SHARED: &str = r#"{"version":1,"packages":{"ntp":{"files":["/etc/ntp.conf"],"folders":[]}}}"#;
@@ -135,21 +234,34 @@ const SHARED: &str = r#"{"version":1,"packages":{"ntp":{"files":["/etc/ntp.conf"
 const DOCS: &str =
     r#"{"version":1,"packages":{"x":{"files":["/usr/share/doc/x"],"folders":[]},"y":{"files":["/usr/share/doc/y"],"folders":[]}}}"#;
 
+const OPT: &str = r#"{"version":1,"packages":{"p":{"files":[],"folders":["/opt/p"]}}}"#;
+
+const TREE: &str =
+    r#"{"/.rehearsal":null,"/.rehearsal/package":null,"/.rehearsal/package/p":"","/opt":null,"/opt/p":null,"/opt/p/z":"q"}"#;
+
 /// The files beside a manifest.
-const BESIDE: [(&str, &str); 6] = [
+const BESIDE: [(&str, &str); 14] = [
     ("facts", FACTS),
     ("data", DATA),
     ("listing", LISTING),
     ("shared", SHARED),
     ("docs", DOCS),
     ("none", "[1]"),
+    ("opt", OPT),
+    ("tree", TREE),
+    ("link", r#"{"/a":{"link":"/b"}}"#),
+    ("hanging", r#"{"/a/b":null}"#),
+    ("missing", r#"["File[/x]"]"#),
+    ("turned", r#"["File[/b]","File[/a]"]"#),
+    ("conf", r#"["File[/etc/ntp.conf]","Package[ntp]"]"#),
+    ("packed", r#"["Package[ntp]","File[/etc/ntp.conf]"]"#),
 ];
 
 /// Runs each row over the files beside the manifest.
 fn run_rows(alloc: Global, rt: &impl Abort, rows: &[Row], status: u8) -> Result<(), Fail> {
     for (words, manifest, told) in rows {
-        let mut over: [(&str, &[u8]); 7] = [("site.pp", manifest.as_bytes()); 7];
-        for i in 0..6 {
+        let mut over: [(&str, &[u8]); 15] = [("site.pp", manifest.as_bytes()); 15];
+        for i in 0..14 {
             over[i + 1] = (BESIDE[i].0, BESIDE[i].1.as_bytes());
         }
         let ended = run_over(alloc, words, &over)?;
@@ -165,6 +277,11 @@ fn run_rows(alloc: Global, rt: &impl Abort, rows: &[Row], status: u8) -> Result<
 #[test]
 fn what_is_asked(rt: HostRuntime) -> Result<(), Fail> {
     run_rows(rt.alloc(), &rt, &ROWS, 0)
+}
+
+#[test]
+fn outcomes_of_runs(rt: HostRuntime) -> Result<(), Fail> {
+    run_rows(rt.alloc(), &rt, &RUNS, 0)
 }
 
 #[test]

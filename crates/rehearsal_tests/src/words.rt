@@ -38,7 +38,7 @@ fn words_that_are_refused(rt: HostRuntime) -> Result<(), Fail> {
         &["--ask", "site.pp"],
         &["--ask"],
         &["--ask", "verify"],
-        &["--ask", "replay", "site.pp"],
+        &["--ask", "proof", "site.pp"],
         &["--ask", "all", "site.pp"],
         &["--ask", "Check", "site.pp"],
         &["--ask", "verify", "--ask", "verify", "site.pp"],

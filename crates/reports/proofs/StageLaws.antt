@@ -1,5 +1,5 @@
 -- What refuses a stage refuses those above it.
-use Rattle.std.proofs.Common.{◌≡◌, ◌<◌, ℕ, length, List, Result, Ok, Err, map, sym, ap, ap₂, subst, subst₂, ◌∙◌}
+use Rattle.std.proofs.Common.{◌≡◌, ◌<◌, ℕ, length, List, Result, Ok, Err, sym, ap, subst, subst₂, ◌∙◌}
 use Rattle.std.specs.Prelude.{IfOk, IfErr}
 use Rattle.std.specs.List.{AllByRecursion}
 use Rattle.rh_base.specs.declared.fault.Fault.{Fault}
@@ -7,8 +7,6 @@ use Rattle.rh_base.specs.declared.fault.Fault.TheVariants.{Refused, Memory}
 use Rattle.rh_base.specs.Refused.{IfRefused}
 use Rattle.pp_eval.specs.Verdicts.{Refuses}
 use Rattle.fs_semantics.specs.Programs.{Program}
-use Rattle.fs_lang.specs.declared.program.Program as code
-use Rattle.fs_lang.specs.Meaning.{program_of}
 use Rattle.catalog_semantics.specs.Catalogs.{Catalog, IsCatalogOf}
 use Rattle.pp_compile.specs.Sources.{IsCatalogRefusal}
 use Rattle.orders.specs.Relation.{Comes}
@@ -19,10 +17,9 @@ use Rattle.res_models.specs.Seen.{resources_at}
 use Rattle.known_inputs.specs.declared.inputs.Inputs.{Inputs}
 use Rattle.known_inputs.specs.declared.inputs.Known.{Known}
 use Rattle.known_inputs.specs.Inputs.{IsKnown, FirstUnread}
-use Rattle.reports.specs.Reports.{program_lines}
 use Rattle.reports.proofs.Places.{places_within}
 use Rattle.reports.specs.Stages as stages
-use Rattle.reports.specs.Stages.{node_name, IsCompiled, IsPlanned, programs_in, CatalogRefusal, GraphRefusal, ProgramsRefusal}
+use Rattle.reports.specs.Stages.{node_name, IsCompiled, IsPlanned, IsModelled, programs_in, CatalogRefusal, GraphRefusal, ProgramsRefusal}
 
 -- ---- catalogs
 
@@ -82,6 +79,10 @@ pub are_made : (k : Known) (c : Catalog) (g : Graph) (plain : List ℕ) (es : Li
     → programs k.listing (resources_at c.resources plain) ≡ Ok es → programs_in k c g ≡ Ok es
 are_made k c g plain es is made = ap (λ ks. programs k.listing (resources_at c.resources ks)) (sym is) ∙ made
 
+pub is_modelled : (i : Inputs) (k : Known) (c : Catalog) (g : Graph) (plain : List ℕ) (es : List Program) → plain ≡ g.plain → IsPlanned i k c g
+    → programs k.listing (resources_at c.resources plain) ≡ Ok es → IsModelled i k c g es
+is_modelled i k c g plain es is planned made = record { planned = planned; programs = are_made k c g plain es is made }
+
 -- ---- what comes before programs
 
 pub unread_programs : (i : Inputs) (e : Fault) → IfRefused e (FirstUnread i) → IfRefused e (ProgramsRefusal i)
@@ -99,7 +100,3 @@ planned i k c g compiled is count = record { compiled = compiled; graph = is; co
 -- the places of the graph are places of the catalog
 pub are_places : (c : Catalog) (g : Graph) (plain : List ℕ) → plain ≡ g.plain → IsGraphOf c g.plain (Comes g.order) → AllByRecursion (λ i. i < length c.resources) plain
 are_places c g plain is graph = places_within c plain (is ∙ graph.places)
-
-pub programs_told : (c : Catalog) (g : Graph) (plain : List ℕ) (lent made : List code.Program) (bytes : List ℕ) → plain ≡ g.plain → lent ≡ made
-    → bytes ≡ program_lines c plain (map program_of lent) → bytes ≡ program_lines c g.plain (map program_of made)
-programs_told c g plain lent made bytes is same told = told ∙ ap₂ (λ (ks : List ℕ) (es : List code.Program). program_lines c ks (map program_of es)) is same

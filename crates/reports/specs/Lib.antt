@@ -1,3 +1,5 @@
 pub mod Stages
 pub mod Reports
 pub mod Verdicts
+pub mod Replays
+pub mod Questions

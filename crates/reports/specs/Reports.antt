@@ -9,7 +9,7 @@ use Rattle.graph_semantics.specs.Graphs.{reference_at, graph_text}
 use Rattle.dep_graph.specs.declared.answer.Graph.{Graph}
 use Rattle.known_inputs.specs.declared.inputs.Inputs.{Inputs}
 use Rattle.known_inputs.specs.declared.inputs.Known.{Known}
-use Rattle.reports.specs.Stages.{IsCompiled, IsPlanned, IsModelled}
+use Rattle.reports.specs.Stages.{IsCompiled, IsPlanned}
 
 -- The text of the catalog that the files of a request give.
 pub record IsCatalogReport (i : Inputs) (report : List ℕ) : Type 0 where
@@ -35,12 +35,3 @@ abbrev pub program_lines : Catalog → List ℕ → List Program → List ℕ
 program_lines c [] es = []
 program_lines c (place ∷ plain) [] = []
 program_lines c (place ∷ plain) (e ∷ es) = resource_program c place e ++ program_lines c plain es
-
--- The program of each resource in the graph, in order of declaration.
-pub record IsProgramsReport (i : Inputs) (report : List ℕ) : Type 0 where
-  pub known : Known
-  pub catalog : Catalog
-  pub graph : Graph
-  pub programs : List Program
-  pub modelled : IsModelled i known catalog graph programs
-  pub text : report ≡ program_lines catalog graph.plain programs

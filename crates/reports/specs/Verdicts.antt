@@ -3,16 +3,10 @@ use Rattle.std.specs.Prelude.{◌≡◌, ◌↔◌, ℕ, Bool, true, false, List
 use Rattle.std.specs.Fmt.{decimal}
 use Rattle.rh_base.specs.declared.fault.Refusal.{Refusal}
 use Rattle.rh_base.specs.Refused.{IsRefusal}
-use Rattle.orders.specs.Relation.{Comes}
 use Rattle.fs_semantics.specs.Programs.{Program}
 use Rattle.fs_semantics.specs.Orders.{IsDeterministic, IsIdempotent, Succeeds}
 use Rattle.put_files.specs.Putting.{ArePutFiles}
 use Rattle.commute_prune.specs.Keeping.{KeepsSome}
-use Rattle.catalog_semantics.specs.Catalogs.{Catalog}
-use Rattle.dep_graph.specs.declared.answer.Graph.{Graph}
-use Rattle.known_inputs.specs.declared.inputs.Inputs.{Inputs}
-use Rattle.known_inputs.specs.declared.inputs.Known.{Known}
-use Rattle.reports.specs.Stages.{IsModelled, ProgramsRefusal}
 
 -- the lines that are told besides, where each resource puts a file
 abbrev pub put_lines : Bool → List ℕ
@@ -35,17 +29,7 @@ pub record IsTold (es : List Program) (before : ℕ → ℕ → Type 0) (report 
   pub idempotent : IsTrue all_put → IsIdempotent es before
   pub succeeds : IsTrue all_put → Succeeds es before
 
--- the same of the real plain resources of a manifest, in the order of its graph
-pub record IsVerdict (i : Inputs) (report : List ℕ) : Type 0 where
-  pub known : Known
-  pub catalog : Catalog
-  pub graph : Graph
-  pub programs : List Program
-  pub modelled : IsModelled i known catalog graph programs
-  pub told : IsTold programs (Comes graph.order) report
-
--- that of the programs, and then that pruning keeps some of them
-pub data VerdictRefusal (i : Inputs) (r : Refusal) : Type 0 where
-  before_verdict : ProgramsRefusal i r → VerdictRefusal i r
-  kept : (k : Known) (c : Catalog) (g : Graph) (es : List Program) → IsModelled i k c g es → IsRefusal 16 0 (codes "kept") r
-      → KeepsSome es (Comes g.order) → VerdictRefusal i r
+-- nothing is told, for pruning keeps some of them
+pub record IsKept (es : List Program) (before : ℕ → ℕ → Type 0) (r : Refusal) : Type 0 where
+  pub refusal : IsRefusal 16 0 (codes "kept") r
+  pub kept : KeepsSome es before

@@ -6,9 +6,12 @@ mod catalogs;
 mod compiling;
 mod graphs;
 mod programs;
+mod question;
+mod replays;
+mod stages;
 mod verdicts;
 
 pub use catalogs::catalog_report;
 pub use graphs::graph_report;
-pub use programs::programs_report;
-pub use verdicts::verdict_report;
+pub use question::Question;
+pub use stages::report_on;

@@ -1,21 +1,15 @@
 //! The report on what resources do.
 
-ghost use Rattle.std.specs.Prelude.{◌≡◌, ◌<◌, ◌^◌, ◌++◌, length, map, IfOk, IfErr, OnOk};
+ghost use Rattle.std.specs.Prelude.{◌≡◌, ◌<◌, ◌++◌, length, map, IfOk, OnOk};
 ghost use Rattle.std.specs.List.{AllByRecursion};
-ghost use Rattle.rh_base.specs.Refused.{IfRefused};
 ghost use Rattle.fs_lang.specs.Meaning.{program_of};
-ghost use Rattle.reports.specs.Stages.{ProgramsRefusal};
-ghost use Rattle.reports.specs.Reports.{resource_program, program_lines, IsProgramsReport};
+ghost use Rattle.reports.specs.Reports.{resource_program, program_lines};
 
 use crate::bytes::push_bytes;
-use crate::compiling::catalog_for;
 use catalog::Catalog;
-use dep_graph::graph;
 use fs_lang::Program;
-use known_inputs::{Inputs, known_inputs};
 use pp_value::shown_ref;
-use res_models::programs_of;
-use rh_base::{Fault, NoMemory, Seq};
+use rh_base::{NoMemory, Seq};
 use std::alloc::Global;
 use tree_text::program_text;
 
@@ -59,19 +53,17 @@ fn push_programs(
     Ok(())
 }
 
-/// What each real resource of a built-in type does, as a program; or the first refusal.
-pub fn programs_report(alloc: Global, inputs: &Inputs) -> Result<Seq<u8>, Fault>
-    requires { length inputs.now.input < 2 ^ 32 }
-    ensures report { IfOk result (IsProgramsReport inputs.now) }
-    ensures refused { IfErr result (λ e. IfRefused e (ProgramsRefusal inputs.now)) }
+/// The lines of resources with their programs.
+pub fn program_lines(
+    alloc: Global,
+    catalog: &Catalog,
+    plain: &[u32],
+    programs: &[Program],
+) -> Result<Seq<u8>, NoMemory>
+    requires { AllByRecursion (λ i. i < length catalog.now.resources) plain.now }
+    ensures { IfOk result (λ bytes. bytes ≡ program_lines catalog.now plain.now (map program_of programs.now)) }
 {
-    let known = known_inputs(alloc, inputs)?;
-    let catalog = catalog_for(alloc, inputs, &known)?;
-    let plan = graph(alloc, &catalog)?;
-    let plain = plan.plain.as_slice();
-    let programs = programs_of(alloc, &catalog, plain, &known.listing)?;
-    let made = programs.as_slice();
     let mut bytes = Vec::new(alloc);
-    push_programs(alloc, &catalog, plain, made, &mut bytes)?;
+    push_programs(alloc, catalog, plain, programs, &mut bytes)?;
     Ok(Seq::from_vec(bytes))
 }

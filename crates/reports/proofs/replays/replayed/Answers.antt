@@ -1,0 +1,8 @@
+use Rattle.std.proofs.Common.{map}
+use Rattle.fs_lang.specs.Meaning.{program_of}
+use Rattle.reports.proofs.ReplayLaws.{has_programs, is_replayed}
+use Rattle.reports.proofs.replays.replayed.Goals as goal
+
+pub replayed_in-requires : goal.replayed_in-requires
+replayed_in-requires c =
+    has_programs c.args.text.now c.args.catalog.now c.args.plan.now c.in_ok-order.order c.as_slice-turns.result.now c.args.programs.now c.as_slice-turns.ensures c.requires.programs c.in_ok-order.ensures.order

@@ -1,0 +1,15 @@
+use Rattle.reports.proofs.StageLaws.{are_places}
+use Rattle.reports.proofs.QuestionLaws.{as_many_lent, as_many_in_order}
+use Rattle.reports.proofs.stages.told_of.Goals as goal
+
+pub program_lines-requires : goal.program_lines-requires
+program_lines-requires c = are_places c.args.catalog.now c.args.plan.now c.as_slice.result.now c.as_slice.ensures c.requires.planned.graph
+
+pub settled-requires : goal.settled-requires
+settled-requires c = as_many_in_order c.args.inputs.now c.args.known.now c.args.catalog.now c.args.plan.now c.args.programs.now c.requires
+
+pub replayed-requires-count : goal.replayed-requires-count
+replayed-requires-count c = c.requires.planned.count
+
+pub replayed-requires-programs : goal.replayed-requires-programs
+replayed-requires-programs c = as_many_lent c.args.inputs.now c.args.known.now c.args.catalog.now c.args.plan.now c.args.programs.now c.requires

@@ -1,0 +1,88 @@
+//! What is told of a run over a file tree.
+
+ghost use Rattle.std.specs.Prelude.{◌≡◌, ◌<◌, length, map, IfOk, IfErr};
+ghost use Rattle.std.specs.List.{AllByRecursion};
+ghost use Rattle.rh_base.specs.Refused.{IfRefused};
+ghost use Rattle.fs_lang.specs.Meaning.{program_of, outcome_of};
+ghost use Rattle.fs_semantics.specs.Orders.{outcome};
+ghost use Rattle.reports.specs.Replays.{outcome_line, IsOrderFor, HasNoOrder, IsReplayed};
+
+use crate::bytes::push_bytes;
+use allowed_order::order_of;
+use catalog::Catalog;
+use dep_graph::Graph;
+use fs_lang::{Outcome, Program, Tree};
+use fs_replay::replay;
+use rh_base::{Fault, NoMemory, Seq};
+use std::alloc::Global;
+use tree_text::tree_to_json;
+
+/// The order that a text names, and without one that which takes at each step the first resource that may come next.
+fn order_for(
+    alloc: Global,
+    text: &Option<Seq<u8>>,
+    catalog: &Catalog,
+    plan: &Graph,
+) -> Result<Seq<u32>, Fault>
+    requires { plan.now.order.count ≡ length plan.now.plain }
+    ensures order { IfOk result (IsOrderFor text.now catalog.now plan.now) }
+    ensures refused { IfErr result (λ e. IfRefused e (HasNoOrder text.now catalog.now plan.now)) }
+{
+    match text {
+        Some(bytes) => order_of(
+            alloc,
+            bytes.as_slice(),
+            catalog,
+            plan.plain.as_slice(),
+            &plan.order,
+        ),
+        None => Ok(plan.order.first_extension()?),
+    }
+}
+
+/// A line on an outcome.
+fn outcome_line(alloc: Global, ended: &Outcome) -> Result<Seq<u8>, NoMemory>
+    ensures { IfOk result (λ bytes. bytes ≡ outcome_line (outcome_of ended.now)) }
+{
+    let mut bytes = Vec::new(alloc);
+    push_bytes(b"outcome ", &mut bytes)?;
+    match ended {
+        Outcome::Ended(tree) => tree_to_json(alloc, tree, &mut bytes)?,
+        Outcome::Error => push_bytes(b"error", &mut bytes)?,
+    }
+    push_bytes(b"\n", &mut bytes)?;
+    Ok(Seq::from_vec(bytes))
+}
+
+/// The outcome of programs on a tree, in this order.
+fn replayed_in(
+    alloc: Global,
+    programs: &[Program],
+    order: &[u32],
+    tree: &Tree,
+) -> Result<Seq<u8>, NoMemory>
+    requires { AllByRecursion (λ i. i < length programs.now) order.now }
+    ensures { IfOk result (λ bytes. bytes ≡ outcome_line (outcome (map program_of programs.now) order.now tree.now)) }
+{
+    let ended = replay(alloc, programs, order, tree)?;
+    outcome_line(alloc, &ended)
+}
+
+/// The outcome of programs on a tree, in the order that a text names.
+pub fn replayed(
+    alloc: Global,
+    text: &Option<Seq<u8>>,
+    tree: &Tree,
+    catalog: &Catalog,
+    plan: &Graph,
+    programs: &[Program],
+) -> Result<Seq<u8>, Fault>
+    requires count { plan.now.order.count ≡ length plan.now.plain }
+    requires programs { length programs.now ≡ length plan.now.plain }
+    ensures told { IfOk result (IsReplayed text.now tree.now catalog.now plan.now (map program_of programs.now)) }
+    ensures refused { IfErr result (λ e. IfRefused e (HasNoOrder text.now catalog.now plan.now)) }
+{
+    let order = order_for(alloc, text, catalog, plan)?;
+    let turns = order.as_slice();
+    Ok(replayed_in(alloc, programs, turns, tree)?)
+}

@@ -1,0 +1,120 @@
+//! The stages from the files of a request to what is told of its programs, each lent what those before it gave.
+
+ghost use Rattle.std.specs.Prelude.{◌≡◌, ◌<◌, ◌^◌, length, map, IfOk, IfErr};
+ghost use Rattle.rh_base.specs.Refused.{IfRefused};
+ghost use Rattle.fs_lang.specs.Meaning.{program_of};
+ghost use Rattle.known_inputs.specs.Inputs.{IsKnown};
+ghost use Rattle.reports.specs.Stages.{IsCompiled, IsPlanned, IsModelled};
+ghost use Rattle.reports.specs.Questions.{IsToldOf, HasNoAnswer, IsReport, ReportRefusal};
+
+use crate::compiling::catalog_for;
+use crate::programs::program_lines;
+use crate::question::Question;
+use crate::replays::replayed;
+use crate::verdicts::settled;
+use catalog::Catalog;
+use dep_graph::{Graph, graph};
+use fs_lang::Program;
+use known_inputs::{Inputs, Known, known_inputs};
+use res_models::programs_of;
+use rh_base::{Fault, Seq};
+use std::alloc::Global;
+
+/// What is told of the programs of a graph.
+fn told_of(
+    alloc: Global,
+    question: Question,
+    inputs: &Inputs,
+    known: &Known,
+    catalog: &Catalog,
+    plan: &Graph,
+    programs: &[Program],
+) -> Result<Seq<u8>, Fault>
+    requires { IsModelled inputs.now known.now catalog.now plan.now (map program_of programs.now) }
+    ensures told { IfOk result (IsToldOf question inputs.now known.now catalog.now plan.now (map program_of programs.now)) }
+    ensures refused { IfErr result (λ e. IfRefused e (HasNoAnswer question inputs.now catalog.now plan.now (map program_of programs.now))) }
+{
+    match question {
+        Question::Programs => Ok(program_lines(alloc, catalog, plan.plain.as_slice(), programs)?),
+        Question::Verdict => settled(alloc, programs, &plan.order),
+        Question::Replay => replayed(alloc, &inputs.order, &known.tree, catalog, plan, programs),
+    }
+}
+
+/// The report on the programs of a graph.
+fn report_on_programs(
+    alloc: Global,
+    question: Question,
+    inputs: &Inputs,
+    known: &Known,
+    catalog: &Catalog,
+    plan: &Graph,
+    programs: &[Program],
+) -> Result<Seq<u8>, Fault>
+    requires { IsModelled inputs.now known.now catalog.now plan.now (map program_of programs.now) }
+    ensures report { IfOk result (IsReport question inputs.now) }
+    ensures refused { IfErr result (λ e. IfRefused e (ReportRefusal question inputs.now)) }
+{
+    told_of(alloc, question, inputs, known, catalog, plan, programs)
+}
+
+/// The report on a graph.
+fn report_on_graph(
+    alloc: Global,
+    question: Question,
+    inputs: &Inputs,
+    known: &Known,
+    catalog: &Catalog,
+    plan: &Graph,
+) -> Result<Seq<u8>, Fault>
+    requires { IsPlanned inputs.now known.now catalog.now plan.now }
+    ensures report { IfOk result (IsReport question inputs.now) }
+    ensures refused { IfErr result (λ e. IfRefused e (ReportRefusal question inputs.now)) }
+{
+    let plain = plan.plain.as_slice();
+    let programs = programs_of(alloc, catalog, plain, &known.listing)?;
+    let made = programs.as_slice();
+    report_on_programs(alloc, question, inputs, known, catalog, plan, made)
+}
+
+/// The report on a catalog.
+fn report_on_catalog(
+    alloc: Global,
+    question: Question,
+    inputs: &Inputs,
+    known: &Known,
+    catalog: &Catalog,
+) -> Result<Seq<u8>, Fault>
+    requires { IsCompiled inputs.now known.now catalog.now }
+    ensures report { IfOk result (IsReport question inputs.now) }
+    ensures refused { IfErr result (λ e. IfRefused e (ReportRefusal question inputs.now)) }
+{
+    let plan = graph(alloc, catalog)?;
+    report_on_graph(alloc, question, inputs, known, catalog, &plan)
+}
+
+/// The report on a manifest, under what the files beside it say.
+fn report_on_known(
+    alloc: Global,
+    question: Question,
+    inputs: &Inputs,
+    known: &Known,
+) -> Result<Seq<u8>, Fault>
+    requires small { length inputs.now.input < 2 ^ 32 }
+    requires known { IsKnown inputs.now known.now }
+    ensures report { IfOk result (IsReport question inputs.now) }
+    ensures refused { IfErr result (λ e. IfRefused e (ReportRefusal question inputs.now)) }
+{
+    let catalog = catalog_for(alloc, inputs, known)?;
+    report_on_catalog(alloc, question, inputs, known, &catalog)
+}
+
+/// What is asked about the programs of a manifest's resources; or the first refusal.
+pub fn report_on(alloc: Global, question: Question, inputs: &Inputs) -> Result<Seq<u8>, Fault>
+    requires { length inputs.now.input < 2 ^ 32 }
+    ensures report { IfOk result (IsReport question inputs.now) }
+    ensures refused { IfErr result (λ e. IfRefused e (ReportRefusal question inputs.now)) }
+{
+    let known = known_inputs(alloc, inputs)?;
+    report_on_known(alloc, question, inputs, &known)
+}
