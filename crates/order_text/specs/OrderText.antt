@@ -1,8 +1,10 @@
 -- The text of an order: a JSON array of references, as they are shown.
-use Rattle.std.specs.Prelude.{◌≡◌, ℕ, List, [], ◌∷◌, Option, Some, None, option_map, IsUtf8}
+use Rattle.std.specs.Prelude.{◌≡◌, ℕ, List, [], ◌∷◌, map, Option, Some, None, option_map, IsUtf8}
 use Rattle.serde_json.specs.Data.{Data, string, array, Items, no_items, item}
 use Rattle.serde_json.specs.Find.{as_str}
 use Rattle.serde_json.specs.Read.{read}
+use Rattle.serde_json.specs.View.{items_of}
+use Rattle.serde_json.specs.Written.{compact_text}
 use Rattle.rh_base.specs.Reading.{◌>>=◌}
 
 abbrev pub AreTexts : List (List ℕ) → Items → Type 0
@@ -22,3 +24,7 @@ pub record IsOrderText (bytes : List ℕ) (ts : List (List ℕ)) : Type 0 where
 abbrev pub texts_of : Items → Option (List (List ℕ))
 texts_of no_items = Some []
 texts_of (item d items) = as_str d >>= (λ t. option_map (λ ts. t ∷ ts) (texts_of items))
+
+-- the text that is written, without blanks
+abbrev pub order_text : List (List ℕ) → List ℕ
+order_text ts = compact_text (array (items_of (map string ts)))

@@ -8,7 +8,8 @@ use Rattle.fs_semantics.specs.Orders.{outcome}
 use Rattle.fs_lang.specs.declared.program.Program as code
 use Rattle.catalog_semantics.specs.Catalogs.{Catalog}
 use Rattle.dep_graph.specs.declared.answer.Graph.{Graph}
-use Rattle.reports.specs.Replays.{outcome_line, IsOrderFor, IsReplayed}
+use Rattle.verdict_text.specs.Lines.{outcome_line}
+use Rattle.reports.specs.Replays.{IsOrderFor, IsReplayed}
 
 below : (text : Option (List ℕ)) (c : Catalog) (g : Graph) (o : List ℕ) → IsOrderFor text c g o → AllByRecursion (λ i. i < length g.plain) o
 below None c g o is = is.0.below

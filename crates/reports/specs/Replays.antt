@@ -1,24 +1,16 @@
 -- What is told of a run of a manifest's resources over a file tree.
-use Rattle.std.specs.Prelude.{◌≡◌, ℕ, List, [], ◌++◌, length, Option, Some, None, codes}
+use Rattle.std.specs.Prelude.{◌≡◌, ℕ, List, [], length, Option, Some, None, codes}
 use Rattle.rh_base.specs.declared.fault.Refusal.{Refusal}
 use Rattle.rh_base.specs.Refused.{IsRefusal}
 use Rattle.orders.specs.Relation.{Comes}
 use Rattle.orders.specs.Extensions.{TakesLeast}
 use Rattle.fs_semantics.specs.FileTree.{Tree}
-use Rattle.fs_semantics.specs.Programs.{Program, Outcome}
+use Rattle.fs_semantics.specs.Programs.{Program}
 use Rattle.fs_semantics.specs.Orders.{IsLinearExtension, outcome}
-use Rattle.tree_text.specs.TreeText.{tree_text}
 use Rattle.catalog_semantics.specs.Catalogs.{Catalog}
 use Rattle.dep_graph.specs.declared.answer.Graph.{Graph}
 use Rattle.allowed_order.specs.AllowedOrder.{IsOrderOf}
-
--- an outcome: a tree, or Error
-abbrev pub outcome_text : Outcome → List ℕ
-outcome_text None = codes "error"
-outcome_text (Some t) = tree_text t
-
-abbrev pub outcome_line : Outcome → List ℕ
-outcome_line o = codes "outcome " ++ (outcome_text o ++ codes "\n")
+use Rattle.verdict_text.specs.Lines.{outcome_line}
 
 -- This is the order that is asked: the one that a text names; and without a text the allowed one that takes at each step
 -- the first resource that may come next.

@@ -1,8 +1,8 @@
 //! Bytes of texts.
 
-ghost use Rattle.std.specs.Prelude.{◌≡◌, ◌++◌, string_bytes, OnOk};
+ghost use Rattle.std.specs.Prelude.{◌≡◌, string_bytes};
 
-use rh_base::{NoMemory, Seq, Text};
+use rh_base::{Seq, Text};
 
 /// The bytes of a string.
 pub fn bytes_in(text: String) -> Seq<u8>
@@ -16,12 +16,4 @@ pub fn bytes_of(text: Text) -> Seq<u8>
     ensures { result ≡ text }
 {
     bytes_in(text.into_string())
-}
-
-/// Appends bytes.
-pub fn push_bytes(bytes: &[u8], into: &mut Vec<u8>) -> Result<(), NoMemory>
-    ensures { OnOk result (into.new.items ≡ into.old.items ++ bytes.now) }
-{
-    into.extend_from_slice(bytes)?;
-    Ok(())
 }

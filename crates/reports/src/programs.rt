@@ -5,13 +5,13 @@ ghost use Rattle.std.specs.List.{AllByRecursion};
 ghost use Rattle.fs_lang.specs.Meaning.{program_of};
 ghost use Rattle.reports.specs.Reports.{resource_program, program_lines};
 
-use crate::bytes::push_bytes;
 use catalog::Catalog;
 use fs_lang::Program;
 use pp_value::shown_ref;
 use rh_base::{NoMemory, Seq};
 use std::alloc::Global;
 use tree_text::program_text;
+use verdict_text::push_bytes;
 
 /// Adds the reference of a resource and its program, a line for each.
 fn push_program(

@@ -3,19 +3,19 @@
 ghost use Rattle.std.specs.Prelude.{◌≡◌, ◌<◌, length, map, IfOk, IfErr};
 ghost use Rattle.std.specs.List.{AllByRecursion};
 ghost use Rattle.rh_base.specs.Refused.{IfRefused};
-ghost use Rattle.fs_lang.specs.Meaning.{program_of, outcome_of};
+ghost use Rattle.fs_lang.specs.Meaning.{program_of};
 ghost use Rattle.fs_semantics.specs.Orders.{outcome};
-ghost use Rattle.reports.specs.Replays.{outcome_line, IsOrderFor, HasNoOrder, IsReplayed};
+ghost use Rattle.verdict_text.specs.Lines.{outcome_line};
+ghost use Rattle.reports.specs.Replays.{IsOrderFor, HasNoOrder, IsReplayed};
 
-use crate::bytes::push_bytes;
 use allowed_order::order_of;
 use catalog::Catalog;
 use dep_graph::Graph;
-use fs_lang::{Outcome, Program, Tree};
+use fs_lang::{Program, Tree};
 use fs_replay::replay;
 use rh_base::{Fault, NoMemory, Seq};
 use std::alloc::Global;
-use tree_text::tree_to_json;
+use verdict_text::push_outcome;
 
 /// The order that a text names, and without one that which takes at each step the first resource that may come next.
 fn order_for(
@@ -40,20 +40,6 @@ fn order_for(
     }
 }
 
-/// A line on an outcome.
-fn outcome_line(alloc: Global, ended: &Outcome) -> Result<Seq<u8>, NoMemory>
-    ensures { IfOk result (λ bytes. bytes ≡ outcome_line (outcome_of ended.now)) }
-{
-    let mut bytes = Vec::new(alloc);
-    push_bytes(b"outcome ", &mut bytes)?;
-    match ended {
-        Outcome::Ended(tree) => tree_to_json(alloc, tree, &mut bytes)?,
-        Outcome::Error => push_bytes(b"error", &mut bytes)?,
-    }
-    push_bytes(b"\n", &mut bytes)?;
-    Ok(Seq::from_vec(bytes))
-}
-
 /// The outcome of programs on a tree, in this order.
 fn replayed_in(
     alloc: Global,
@@ -65,7 +51,9 @@ fn replayed_in(
     ensures { IfOk result (λ bytes. bytes ≡ outcome_line (outcome (map program_of programs.now) order.now tree.now)) }
 {
     let ended = replay(alloc, programs, order, tree)?;
-    outcome_line(alloc, &ended)
+    let mut bytes = Vec::new(alloc);
+    push_outcome(alloc, &ended, &mut bytes)?;
+    Ok(Seq::from_vec(bytes))
 }
 
 /// The outcome of programs on a tree, in the order that a text names.
