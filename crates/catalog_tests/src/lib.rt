@@ -6,6 +6,8 @@ mod answers;
 #[cfg(test)]
 mod definitions;
 #[cfg(test)]
+mod limits;
+#[cfg(test)]
 mod refusals;
 #[cfg(test)]
 mod resources;

@@ -4,7 +4,7 @@ use std::test::Fail;
 
 #[test]
 fn each_cause_is_refused_at_its_place(rt: HostRuntime) -> Result<(), Fail> {
-    let rows: [(&str, &str); 19] = [
+    let rows: [(&str, &str); 21] = [
         ("file { '/a': content => 'x'", "12 at 27: syntax"),
         ("file { '/a': content => $x }", "20 at 24: $x"),
         ("$a = 1 $a = 2", "21 at 7: $a"),
@@ -33,6 +33,8 @@ fn each_cause_is_refused_at_its_place(rt: HostRuntime) -> Result<(), Fail> {
             "34 at 0: a",
         ),
         ("include(1)", "29 at 8: operand"),
+        ("$x = 'a' ? { 'b' => 1 }", "28 at 5: selector"),
+        ("$x = 9223372036854775807 + 1", "33 at 5: integer"),
     ];
     for (text, want) in rows {
         assert_eq!(rt; compiled(rt.alloc(), text)?.as_str(), want, "{text}");

@@ -1,13 +1,17 @@
 -- From what there is to say, and how it was told, to what the status tells.
-use Rattle.std.proofs.Common.{◌≡◌, ◌≢◌, inl, inr, ℕ, List, [], ◌∷◌, Option, Some, None, refl, sym, ap, subst, ◌∙◌, arith}
+use Rattle.std.proofs.Common.{◌≡◌, ◌≢◌, ◌≤◌, inl, inr, ℕ, List, [], ◌∷◌, Option, Some, None, refl, sym, ap, subst, ◌∙◌, arith}
 use Rattle.std.specs.Prelude.{String}
 use Rattle.std.specs.declared.alloc.Global.{Global}
 use Rattle.rh_base.specs.declared.fault.Refusal.{Refusal}
 use Rattle.rh_base.specs.Causes.{Rose}
 use Rattle.rh_base.specs.Shelf.{Files, told_at, IsMissing}
 use Rattle.rh_base.specs.Sink.{appended}
+use Rattle.command_line.specs.declared.asks.Ask.{Ask}
+use Rattle.command_line.specs.declared.asks.Ask.TheVariants as ask
 use Rattle.command_line.specs.declared.asks.Request.{Request}
-use Rattle.rehearsal_core.specs.Inputs.{File, files_of, AnyNamed, AllTold, Requests, RequestsNone, IsHeld, Reports, Refuses, FailsToRead, SaysOf, Says}
+use Rattle.known_inputs.specs.declared.inputs.Inputs.{Inputs}
+use Rattle.reports.specs.declared.report.Report.{Report}
+use Rattle.rehearsal_core.specs.Inputs.{File, files_of, AnyNamed, AllTold, Requests, RequestsNone, IsHeld, Reports, Refuses, FailsToRead, IsAnswerTo, SaysOf, Says}
 use Rattle.rehearsal_core.specs.declared.run.Ending.{Ending}
 use Rattle.rehearsal_core.specs.declared.run.Ending.TheVariants as ending
 use Rattle.rehearsal_core.specs.Answers.{Run, Appends, IsLeft, IsSound, HasFailed, AppendsFront, HasCause, NoFaults, Tells, Owes, Answers, TellsLine, TellsReport, refusal_line, read_fault_line, usage_line, memory_line}
@@ -57,21 +61,34 @@ pub memory_answers : (run : Run) (status : ℕ) → status ≡ 8 → AppendsFron
 memory_answers run status is front out sound = record { tells = memory_tells run status is front out; owes = memory_owes run status is sound }
 
 -- a report was to be written
-pub report_answers : (run : Run) (status : ℕ) (report : List ℕ) → Reports run.words run.held report → run.shelf_now ≡ run.shelf_before
+-- a report has one of the first statuses
+few : (a : Ask) (i : Inputs) (report : Report) → IsAnswerTo a i report → report.status ≤ 3
+few ask.Verify i report answer = omega (arith, answer.told.0)
+few ask.Catalog i report answer = omega (arith, answer.0)
+few ask.Graph i report answer = omega (arith, answer.0)
+few ask.Programs i report answer = omega (arith, answer.told.0)
+few ask.Replay i report answer = omega (arith, answer.told.0)
+few ask.Check i report answer = omega (arith, answer.0)
+few ask.Migrate i report answer = omega (arith, answer.0)
+
+has_status : (words : List (String Global)) (held : Option Files) (report : Report) → Reports words held report → report.status ≤ 3
+has_status words held report reports = few reports.on.loaded.ask reports.on.loaded.inputs report reports.on.says
+
+pub report_answers : (run : Run) (status : ℕ) (report : Report) → Reports run.words run.held report → run.shelf_now ≡ run.shelf_before
     → TellsReport report run.out run.err status → Answers run status
 report_answers run status report reports read (inl told) = record {
   tells = record {
-    report = λ e. (report, reports, told.1, told.3);
-    refused = λ e. absurd (omega (arith, told.0, e));
-    words = λ e. absurd (omega (arith, told.0, e));
-    read = λ e. absurd (omega (arith, told.0, e));
-    write = λ e. absurd (omega (arith, told.0, e));
-    memory = λ e. absurd (omega (arith, told.0, e));
-    known = inl told.0;
+    report = λ e. (report, reports, sym told.0, told.1, told.3);
+    refused = λ e. absurd (omega (arith, told.0, has_status run.words run.held report reports, e));
+    words = λ e. absurd (omega (arith, told.0, has_status run.words run.held report reports, e));
+    read = λ e. absurd (omega (arith, told.0, has_status run.words run.held report reports, e));
+    write = λ e. absurd (omega (arith, told.0, has_status run.words run.held report reports, e));
+    memory = λ e. absurd (omega (arith, told.0, has_status run.words run.held report reports, e));
+    known = inl (omega (arith, told.0, has_status run.words run.held report reports));
   };
   owes = record {
     usage = λ none. absurd (none_made run.words reports.request reports.made none);
-    decided = λ held faults. inl told.0;
+    decided = λ held faults. inl (omega (arith, told.0, has_status run.words run.held report reports));
     unread = λ failed. absurd (failed read);
     unwritten = λ failed. absurd (failed told.2);
     untold = λ failed. absurd (failed told.4);
@@ -223,7 +240,7 @@ never_a_read_fault run status answers none held is = elim (answers.owes.decided 
 
 pub says_of_words : (words : List (String Global)) (request : Request) (held : Option Files) (before now : ℕ) (e : Ending)
     → Requests words request → SaysOf request held before now e → Says words held before now e
-says_of_words words request held before now (ending.Report text) made h = (h.0, record { request = request; made = made; on = h.1 })
+says_of_words words request held before now (ending.Report report) made h = (h.0, record { request = request; made = made; on = h.1 })
 says_of_words words request held before now (ending.Refused r) made h = (h.0, record { request = request; made = made; cause = h.1 })
 says_of_words words request held before now ending.BadWords made h = absurd h
 says_of_words words request held before now (ending.ReadFault name) made h = record { request = request; made = made; named = h.0; cause = h.1 }

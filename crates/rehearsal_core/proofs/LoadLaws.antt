@@ -10,6 +10,7 @@ use Rattle.rh_base.specs.Shelf.{Files}
 use Rattle.command_line.specs.declared.asks.Ask.{Ask}
 use Rattle.command_line.specs.declared.asks.Ask.TheVariants as ask
 use Rattle.command_line.specs.declared.asks.Request.{Request}
+use Rattle.reports.specs.declared.report.Report.{Report}
 use Rattle.rehearsal_core.specs.declared.inputs.Load.{Load}
 use Rattle.rehearsal_core.specs.declared.inputs.Load.TheVariants as load
 use Rattle.rehearsal_core.specs.declared.inputs.Loads.{Loads}
@@ -70,7 +71,7 @@ all_read held r l loads =
     (loads.facts, refl, (loads.packages, refl, (loads.class_data, refl, (loads.input, refl, (loads.tree, refl, (loads.order, refl, tt))))))
 
 -- what there is to say of an answer, from what was read and what the answer is
-pub says : (held : Option Files) (r : Request) (l : Loads) (before now : ℕ) (said : Result (List ℕ) Fault) → now ≡ before → AreLoads held r l
+pub says : (held : Option Files) (r : Request) (l : Loads) (before now : ℕ) (said : Result Report Fault) → now ≡ before → AreLoads held r l
     → IfOk said (λ report. (m : Loaded) × LoadedFrom l m × IsAnswer m report)
     → IfErr said (λ e. IfRefused e (λ x. FirstLong l x ⊎ ((m : Loaded) × LoadedFrom l m × Breaks m x)))
     → SaysOf r held before now (concluded said)

@@ -1,11 +1,12 @@
 -- The statuses of the program, and what each one tells.
-use Rattle.std.specs.Prelude.{◌≡◌, ◌≢◌, ◌⊎◌, ℕ, List, ◌++◌, take, Option, codes, String}
+use Rattle.std.specs.Prelude.{◌≡◌, ◌≢◌, ◌⊎◌, ◌≤◌, ℕ, List, ◌++◌, take, Option, codes, String}
 use Rattle.std.specs.Fmt.{decimal}
 use Rattle.std.specs.declared.alloc.Global.{Global}
 use Rattle.rh_base.specs.declared.fault.Refusal.{Refusal}
 use Rattle.rh_base.specs.Causes.{Rose}
 use Rattle.rh_base.specs.Shelf.{Files}
 use Rattle.rh_base.specs.Sink.{appended}
+use Rattle.reports.specs.declared.report.Report.{Report}
 use Rattle.rehearsal_core.specs.Inputs.{RequestsNone, IsHeld, Reports, Refuses, FailsToRead}
 
 -- ---- lines
@@ -68,9 +69,9 @@ pub record Run : Type 0 where
   pub out : Put
   pub err : Put
 
--- status 0: a report was written to out, and nothing to err
-abbrev pub WritesReport : Run → Type 0
-WritesReport run = (report : List ℕ) × Reports run.words run.held report × Appends report run.out × IsLeft run.err
+-- status 0 to 3: the report with this status was written to out, and nothing to err
+abbrev pub WritesReport : Run → ℕ → Type 0
+WritesReport run status = (report : Report) × Reports run.words run.held report × (report.status ≡ status) × Appends report.text run.out × IsLeft run.err
 
 -- status 4: the first refusal was told on err, and nothing on out
 abbrev pub TellsRefusal : Run → Type 0
@@ -96,7 +97,7 @@ HasCause run status line =
 -- was to be told, and nothing was put on out.
 abbrev pub FailsToWrite : Run → Type 0
 FailsToWrite run =
-    (HasFailed run.out × (report : List ℕ) × Reports run.words run.held report × AppendsFront report run.out × AppendsFront write_fault_line run.err)
+    (HasFailed run.out × (report : Report) × Reports run.words run.held report × AppendsFront report.text run.out × AppendsFront write_fault_line run.err)
     ⊎ (HasFailed run.err × (status : ℕ) × (line : List ℕ) × HasCause run status line × AppendsFront line run.err × IsLeft run.out)
 
 -- status 8: memory was refused, and nothing was put on out
@@ -111,20 +112,20 @@ pub record NoFaults (run : Run) : Type 0 where
 
 -- What each status tells.
 pub record Tells (run : Run) (status : ℕ) : Type 0 where
-  pub report : status ≡ 0 → WritesReport run
+  pub report : status ≤ 3 → WritesReport run status
   pub refused : status ≡ 4 → TellsRefusal run
   pub words : status ≡ 5 → TellsUsage run
   pub read : status ≡ 6 → TellsReadFault run
   pub write : status ≡ 7 → FailsToWrite run
   pub memory : status ≡ 8 → LacksMemory run
-  pub known : (status ≡ 0) ⊎ ((status ≡ 4) ⊎ ((status ≡ 5) ⊎ ((status ≡ 6) ⊎ ((status ≡ 7) ⊎ (status ≡ 8)))))
+  pub known : (status ≤ 3) ⊎ ((status ≡ 4) ⊎ ((status ≡ 5) ⊎ ((status ≡ 6) ⊎ ((status ≡ 7) ⊎ (status ≡ 8)))))
 
 -- Which statuses there are, by what was given and what failed.
 pub record Owes (run : Run) (status : ℕ) : Type 0 where
   -- words that are refused have no other answer
   pub usage : RequestsNone run.words → (status ≡ 5) ⊎ ((status ≡ 7) ⊎ (status ≡ 8))
   -- an input that is told, without faults, gets a report or a refusal
-  pub decided : IsHeld run.words run.held → NoFaults run → (status ≡ 0) ⊎ ((status ≡ 4) ⊎ (status ≡ 8))
+  pub decided : IsHeld run.words run.held → NoFaults run → (status ≤ 3) ⊎ ((status ≡ 4) ⊎ (status ≡ 8))
   -- a read that failed is told, and so is a write to out
   pub unread : run.shelf_now ≢ run.shelf_before → (status ≡ 6) ⊎ ((status ≡ 7) ⊎ (status ≡ 8))
   pub unwritten : (IsSound run.out → ⊥) → status ≡ 7
@@ -146,8 +147,8 @@ TellsLine status line err result =
     ⊎ ((result ≡ 8) × AppendsFront memory_line err))
 
 -- the report was written; or the put failed; or memory was refused
-abbrev pub TellsReport : List ℕ → Put → Put → ℕ → Type 0
+abbrev pub TellsReport : Report → Put → Put → ℕ → Type 0
 TellsReport report out err result =
-    ((result ≡ 0) × Appends report out × IsSound out × IsLeft err × IsSound err)
-    ⊎ (((result ≡ 7) × HasFailed out × AppendsFront report out × AppendsFront write_fault_line err)
+    ((result ≡ report.status) × Appends report.text out × IsSound out × IsLeft err × IsSound err)
+    ⊎ (((result ≡ 7) × HasFailed out × AppendsFront report.text out × AppendsFront write_fault_line err)
     ⊎ ((result ≡ 8) × IsLeft out × IsSound out × AppendsFront memory_line err))

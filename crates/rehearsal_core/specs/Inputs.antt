@@ -12,6 +12,7 @@ use Rattle.command_line.specs.declared.asks.Request.{Request}
 use Rattle.command_line.specs.Words.{Makes}
 use Rattle.rehearsal_core.specs.declared.inputs.Loaded.{Loaded}
 use Rattle.known_inputs.specs.declared.inputs.Inputs.{Inputs}
+use Rattle.reports.specs.declared.report.Report.{Report}
 use Rattle.reports.specs.declared.question.Question.TheVariants as question
 use Rattle.reports.specs.Stages.{CatalogRefusal, GraphRefusal}
 use Rattle.reports.specs.Reports.{IsCatalogReport, IsGraphReport}
@@ -119,17 +120,21 @@ pub record IsLoaded (held : Option Files) (r : Request) (l : Loaded) : Type 0 wh
 
 -- ---- what is said of a request
 
+-- this text was asked for
+abbrev pub IsPrinted : (List ℕ → Type 0) → Report → Type 0
+IsPrinted IsText report = (report.status ≡ 0) × IsText report.text
+
 -- what may be said of the files of a request
-abbrev pub IsAnswerTo : Ask → Inputs → List ℕ → Type 0
+abbrev pub IsAnswerTo : Ask → Inputs → Report → Type 0
 IsAnswerTo ask.Verify i report = IsReport question.Verdict i report
-IsAnswerTo ask.Catalog i report = IsCatalogReport i report
-IsAnswerTo ask.Graph i report = IsGraphReport i report
+IsAnswerTo ask.Catalog i report = IsPrinted (IsCatalogReport i) report
+IsAnswerTo ask.Graph i report = IsPrinted (IsGraphReport i) report
 IsAnswerTo ask.Programs i report = IsReport question.Programs i report
 IsAnswerTo ask.Replay i report = IsReport question.Replay i report
-IsAnswerTo ask.Check i report = AreVerified i.input report
-IsAnswerTo ask.Migrate i report = IsMigrated i.input report
+IsAnswerTo ask.Check i report = IsPrinted (AreVerified i.input) report
+IsAnswerTo ask.Migrate i report = IsPrinted (IsMigrated i.input) report
 
-abbrev pub IsAnswer : Loaded → List ℕ → Type 0
+abbrev pub IsAnswer : Loaded → Report → Type 0
 IsAnswer l report = IsAnswerTo l.ask l.inputs report
 
 -- the first rule that the files break
@@ -146,7 +151,7 @@ abbrev pub Breaks : Loaded → Refusal → Type 0
 Breaks l r = BreaksFor l.ask l.inputs r
 
 -- a report on the request
-pub record ReportsOn (request : Request) (held : Option Files) (report : List ℕ) : Type 0 where
+pub record ReportsOn (request : Request) (held : Option Files) (report : Report) : Type 0 where
   pub loaded : Loaded
   pub stands : IsLoaded held request loaded
   pub says : IsAnswer loaded report
@@ -162,7 +167,7 @@ abbrev pub RefusesAt : Request → Option Files → Refusal → Type 0
 RefusesAt request held r = FirstTooLong held (files_of request) r ⊎ BreaksAt request held r
 
 -- the same of the request that the words make
-pub record Reports (words : List (String Global)) (held : Option Files) (report : List ℕ) : Type 0 where
+pub record Reports (words : List (String Global)) (held : Option Files) (report : Report) : Type 0 where
   pub request : Request
   pub made : Requests words request
   pub on : ReportsOn request held report
@@ -186,7 +191,7 @@ pub record IsHeld (words : List (String Global)) (held : Option Files) : Type 0 
 
 -- What there is to say of a request, and what it takes. Only a failed read raises the shelf's count of faults.
 abbrev pub SaysOf : Request → Option Files → ℕ → ℕ → Ending → Type 0
-SaysOf request held before now (ending.Report text) = (now ≡ before) × ReportsOn request held text
+SaysOf request held before now (ending.Report report) = (now ≡ before) × ReportsOn request held report
 SaysOf request held before now (ending.Refused r) = (now ≡ before) × RefusesAt request held r
 SaysOf request held before now ending.BadWords = ⊥
 SaysOf request held before now (ending.ReadFault name) = AnyNamed name (files_of request) × FailsAt name held before now
@@ -194,7 +199,7 @@ SaysOf request held before now ending.Memory = now ≡ before
 
 -- what there is to say, and what it takes
 abbrev pub Says : List (String Global) → Option Files → ℕ → ℕ → Ending → Type 0
-Says words held before now (ending.Report text) = (now ≡ before) × Reports words held text
+Says words held before now (ending.Report report) = (now ≡ before) × Reports words held report
 Says words held before now (ending.Refused r) = (now ≡ before) × Refuses words held r
 Says words held before now ending.BadWords = (now ≡ before) × RequestsNone words
 Says words held before now (ending.ReadFault name) = FailsToRead words held before now name

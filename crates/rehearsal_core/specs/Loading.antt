@@ -7,6 +7,7 @@ use Rattle.rh_base.specs.declared.limits.TheConstants.{FACTS_BYTES, LISTING_BYTE
 use Rattle.rh_base.specs.Refused.{IsRefusal}
 use Rattle.rh_base.specs.Shelf.{Files}
 use Rattle.command_line.specs.declared.asks.Request.{Request}
+use Rattle.reports.specs.declared.report.Report.{Report}
 use Rattle.rehearsal_core.specs.declared.inputs.Load.{Load}
 use Rattle.rehearsal_core.specs.declared.inputs.Load.TheVariants as load
 use Rattle.rehearsal_core.specs.declared.inputs.Loads.{Loads}
@@ -96,7 +97,7 @@ abbrev pub AreShort : Loads → Type 0
 AreShort l = IsShort l.input
 
 -- what there is to say of an answer
-abbrev pub concluded : Result (List ℕ) Fault → Ending
+abbrev pub concluded : Result Report Fault → Ending
 concluded (Ok report) = ending.Report report
 concluded (Err (Refused r)) = ending.Refused r
 concluded (Err (Memory m)) = ending.Memory

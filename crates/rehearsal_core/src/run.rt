@@ -12,14 +12,14 @@ use crate::migrating::migrated;
 use crate::tell::{out_of_memory, tell_read_fault, tell_refusal, tell_usage, write_report};
 use command_line::{Ask, Request, WordsFault, read_request};
 use known_inputs::Inputs;
-use reports::{Question, catalog_report, graph_report, report_on};
-use rh_base::{Fault, Refusal, Seq, Shelf, Sink, Text};
+use reports::{Question, Report, catalog_report, graph_report, printed, report_on};
+use rh_base::{Fault, Refusal, Shelf, Sink, Text};
 use std::alloc::Global;
 
 /// What the program has to say.
 #[derive(Drop)]
 pub enum Ending {
-    Report(Seq<u8>),
+    Report(Report),
     Refused(Refusal),
     BadWords,
     ReadFault(Text),
@@ -27,7 +27,7 @@ pub enum Ending {
 }
 
 /// What is said of the files of a request, or the first rule that they break.
-fn answer(alloc: Global, ask: Ask, inputs: &Inputs) -> Result<Seq<u8>, Fault>
+fn answer(alloc: Global, ask: Ask, inputs: &Inputs) -> Result<Report, Fault>
     requires { length inputs.now.input < 2 ^ 32 }
     ensures report { IfOk result (IsAnswerTo ask inputs.now) }
     ensures refused { IfErr result (λ e. IfRefused e (BreaksFor ask inputs.now)) }
@@ -35,18 +35,18 @@ fn answer(alloc: Global, ask: Ask, inputs: &Inputs) -> Result<Seq<u8>, Fault>
     let input = inputs.input.as_slice();
     match ask {
         Ask::Verify => report_on(alloc, Question::Verdict, inputs),
-        Ask::Catalog => catalog_report(alloc, inputs),
-        Ask::Graph => graph_report(alloc, inputs),
+        Ask::Catalog => Ok(printed(catalog_report(alloc, inputs)?)),
+        Ask::Graph => Ok(printed(graph_report(alloc, inputs)?)),
         Ask::Programs => report_on(alloc, Question::Programs, inputs),
         Ask::Replay => report_on(alloc, Question::Replay, inputs),
-        Ask::Check => verified(alloc, input),
-        Ask::Migrate => migrated(alloc, input),
+        Ask::Check => Ok(printed(verified(alloc, input)?)),
+        Ask::Migrate => Ok(printed(migrated(alloc, input)?)),
     }
 }
 
 /// What is said of a request with what was read of its files.
 #[tactic(auto, using(crate::proofs::LoadLaws::input_is_short))]
-fn answer_read(alloc: Global, loads: Loads) -> Result<Seq<u8>, Fault>
+fn answer_read(alloc: Global, loads: Loads) -> Result<Report, Fault>
     requires { AreShort loads }
     ensures report { IfOk result (λ report. (loaded : Loaded) × LoadedFrom loads loaded × IsAnswer loaded report) }
     ensures refused { IfErr result (λ e. IfRefused e (λ r. FirstLong loads r ⊎ ((loaded : Loaded) × LoadedFrom loads loaded × Breaks loaded r))) }
@@ -56,7 +56,7 @@ fn answer_read(alloc: Global, loads: Loads) -> Result<Seq<u8>, Fault>
 }
 
 /// What there is to say of an answer.
-fn concluded(said: Result<Seq<u8>, Fault>) -> Ending
+fn concluded(said: Result<Report, Fault>) -> Ending
     ensures { result ≡ concluded said }
 {
     match said {

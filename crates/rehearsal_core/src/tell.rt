@@ -3,7 +3,8 @@
 ghost use Rattle.std.specs.Prelude.{◌≡◌, IfOk};
 ghost use Rattle.rehearsal_core.specs.Answers.{put_of, AppendsFront, TellsLine, TellsReport, usage_line, refusal_line, read_fault_line, write_fault_line, memory_line};
 
-use rh_base::{NoMemory, Refusal, Seq, Sink, SinkFault, Text};
+use reports::Report;
+use rh_base::{NoMemory, Refusal, Sink, SinkFault, Text};
 use std::alloc::Global;
 
 /// Tells that memory was refused; a failure of that is ignored.
@@ -48,12 +49,12 @@ pub fn tell_usage<E: Sink>(err: &mut E) -> u8
     )
 }
 
-/// Writes a report, and answers the status of that, or of a fault.
-pub fn write_report<O: Sink, E: Sink>(report: &Seq<u8>, out: &mut O, err: &mut E) -> u8
+/// Writes a report, and answers the status that goes with it, or that of a fault.
+pub fn write_report<O: Sink, E: Sink>(report: &Report, out: &mut O, err: &mut E) -> u8
     ensures { TellsReport report.now (put_of O.written O.faults out.old out.new) (put_of E.written E.faults err.old err.new) result }
 {
-    match out.put(report.as_slice()) {
-        Ok(()) => 0,
+    match out.put(report.text.as_slice()) {
+        Ok(()) => report.status,
         Err(SinkFault::Failed) => write_fault(err),
         Err(SinkFault::Memory(_)) => out_of_memory(err),
     }

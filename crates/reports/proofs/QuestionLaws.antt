@@ -17,6 +17,7 @@ use Rattle.known_inputs.specs.declared.inputs.Inputs.{Inputs}
 use Rattle.known_inputs.specs.declared.inputs.Known.{Known}
 use Rattle.known_inputs.specs.Inputs.{FirstUnread}
 use Rattle.reports.specs.declared.question.Question.{Question}
+use Rattle.reports.specs.declared.report.Report.{Report}
 use Rattle.reports.specs.Stages.{IsCompiled, IsPlanned, IsModelled, CatalogRefusal, ProgramsRefusal}
 use Rattle.reports.specs.Questions as questions
 use Rattle.reports.specs.Questions.{IsToldOf, HasNoAnswer, IsReport, ReportRefusal}
@@ -58,7 +59,7 @@ as_many_lent i k c g lent modelled = sym (length_of lent) ∙ as_many k c g (map
 pub as_many_in_order : (i : Inputs) (k : Known) (c : Catalog) (g : Graph) (lent : List code.Program) → IsModelled i k c g (map program_of lent) → length lent ≡ g.order.count
 as_many_in_order i k c g lent modelled = as_many_lent i k c g lent modelled ∙ sym modelled.planned.count
 
-pub report_of : (q : Question) (i : Inputs) (k : Known) (c : Catalog) (g : Graph) (es : List Program) (said : Result (List ℕ) Fault) → IsModelled i k c g es
+pub report_of : (q : Question) (i : Inputs) (k : Known) (c : Catalog) (g : Graph) (es : List Program) (said : Result Report Fault) → IsModelled i k c g es
     → IfOk said (IsToldOf q i k c g es) → IfOk said (IsReport q i)
 report_of q i k c g es (Ok report) modelled told = record { known = k; catalog = c; graph = g; programs = es; modelled = modelled; told = told }
 report_of q i k c g es (Err e) modelled told = tt
@@ -68,7 +69,7 @@ no_answer : (q : Question) (i : Inputs) (k : Known) (c : Catalog) (g : Graph) (e
 no_answer q i k c g es (Refused r) modelled none = questions.no_answer k c g es modelled none
 no_answer q i k c g es (Memory m) modelled none = tt
 
-pub refusal_of : (q : Question) (i : Inputs) (k : Known) (c : Catalog) (g : Graph) (es : List Program) (said : Result (List ℕ) Fault) → IsModelled i k c g es
+pub refusal_of : (q : Question) (i : Inputs) (k : Known) (c : Catalog) (g : Graph) (es : List Program) (said : Result Report Fault) → IsModelled i k c g es
     → IfErr said (λ e. IfRefused e (HasNoAnswer q i c g es)) → IfErr said (λ e. IfRefused e (ReportRefusal q i))
 refusal_of q i k c g es (Ok report) modelled none = tt
 refusal_of q i k c g es (Err e) modelled none = no_answer q i k c g es e modelled none

@@ -1,5 +1,5 @@
 -- What is told of the programs of a manifest's resources, for each question about them.
-use Rattle.std.specs.Prelude.{◌≡◌, ℕ, List}
+use Rattle.std.specs.Prelude.{◌≡◌, List}
 use Rattle.rh_base.specs.declared.fault.Refusal.{Refusal}
 use Rattle.orders.specs.Relation.{Comes}
 use Rattle.fs_semantics.specs.Programs.{Program}
@@ -9,16 +9,17 @@ use Rattle.known_inputs.specs.declared.inputs.Inputs.{Inputs}
 use Rattle.known_inputs.specs.declared.inputs.Known.{Known}
 use Rattle.reports.specs.declared.question.Question.{Question}
 use Rattle.reports.specs.declared.question.Question.TheVariants as question
+use Rattle.reports.specs.declared.report.Report.{Report}
 use Rattle.reports.specs.Stages.{IsModelled, ProgramsRefusal}
 use Rattle.reports.specs.Reports.{program_lines}
 use Rattle.reports.specs.Verdicts.{IsTold, IsKept}
 use Rattle.reports.specs.Replays.{IsReplayed, HasNoOrder}
 
 -- this is told of the programs
-abbrev pub IsToldOf : Question → Inputs → Known → Catalog → Graph → List Program → List ℕ → Type 0
-IsToldOf question.Programs i k c g es report = report ≡ program_lines c g.plain es
-IsToldOf question.Verdict i k c g es report = IsTold es (Comes g.order) report
-IsToldOf question.Replay i k c g es report = IsReplayed i.order k.tree c g es report
+abbrev pub IsToldOf : Question → Inputs → Known → Catalog → Graph → List Program → Report → Type 0
+IsToldOf question.Programs i k c g es report = (report.status ≡ 0) × (report.text ≡ program_lines c g.plain es)
+IsToldOf question.Verdict i k c g es report = (report.status ≡ 0) × IsTold es (Comes g.order) report.text
+IsToldOf question.Replay i k c g es report = (report.status ≡ 0) × IsReplayed i.order k.tree c g es report.text
 
 -- nothing is told of them, for this reason
 abbrev pub HasNoAnswer : Question → Inputs → Catalog → Graph → List Program → Refusal → Type 0
@@ -27,7 +28,7 @@ HasNoAnswer question.Verdict i c g es r = IsKept es (Comes g.order) r
 HasNoAnswer question.Replay i c g es r = HasNoOrder i.order c g r
 
 -- The report on the programs of a manifest's real plain resources, in the order of its graph.
-pub record IsReport (q : Question) (i : Inputs) (report : List ℕ) : Type 0 where
+pub record IsReport (q : Question) (i : Inputs) (report : Report) : Type 0 where
   pub known : Known
   pub catalog : Catalog
   pub graph : Graph

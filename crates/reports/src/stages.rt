@@ -11,13 +11,14 @@ use crate::compiling::catalog_for;
 use crate::programs::program_lines;
 use crate::question::Question;
 use crate::replays::replayed;
+use crate::report::{Report, printed};
 use crate::verdicts::settled;
 use catalog::Catalog;
 use dep_graph::{Graph, graph};
 use fs_lang::Program;
 use known_inputs::{Inputs, Known, known_inputs};
 use res_models::programs_of;
-use rh_base::{Fault, Seq};
+use rh_base::Fault;
 use std::alloc::Global;
 
 /// What is told of the programs of a graph.
@@ -29,15 +30,27 @@ fn told_of(
     catalog: &Catalog,
     plan: &Graph,
     programs: &[Program],
-) -> Result<Seq<u8>, Fault>
+) -> Result<Report, Fault>
     requires { IsModelled inputs.now known.now catalog.now plan.now (map program_of programs.now) }
     ensures told { IfOk result (IsToldOf question inputs.now known.now catalog.now plan.now (map program_of programs.now)) }
     ensures refused { IfErr result (λ e. IfRefused e (HasNoAnswer question inputs.now catalog.now plan.now (map program_of programs.now))) }
 {
     match question {
-        Question::Programs => Ok(program_lines(alloc, catalog, plan.plain.as_slice(), programs)?),
-        Question::Verdict => settled(alloc, programs, &plan.order),
-        Question::Replay => replayed(alloc, &inputs.order, &known.tree, catalog, plan, programs),
+        Question::Programs => Ok(printed(program_lines(
+            alloc,
+            catalog,
+            plan.plain.as_slice(),
+            programs,
+        )?)),
+        Question::Verdict => Ok(printed(settled(alloc, programs, &plan.order)?)),
+        Question::Replay => Ok(printed(replayed(
+            alloc,
+            &inputs.order,
+            &known.tree,
+            catalog,
+            plan,
+            programs,
+        )?)),
     }
 }
 
@@ -50,7 +63,7 @@ fn report_on_programs(
     catalog: &Catalog,
     plan: &Graph,
     programs: &[Program],
-) -> Result<Seq<u8>, Fault>
+) -> Result<Report, Fault>
     requires { IsModelled inputs.now known.now catalog.now plan.now (map program_of programs.now) }
     ensures report { IfOk result (IsReport question inputs.now) }
     ensures refused { IfErr result (λ e. IfRefused e (ReportRefusal question inputs.now)) }
@@ -66,7 +79,7 @@ fn report_on_graph(
     known: &Known,
     catalog: &Catalog,
     plan: &Graph,
-) -> Result<Seq<u8>, Fault>
+) -> Result<Report, Fault>
     requires { IsPlanned inputs.now known.now catalog.now plan.now }
     ensures report { IfOk result (IsReport question inputs.now) }
     ensures refused { IfErr result (λ e. IfRefused e (ReportRefusal question inputs.now)) }
@@ -84,7 +97,7 @@ fn report_on_catalog(
     inputs: &Inputs,
     known: &Known,
     catalog: &Catalog,
-) -> Result<Seq<u8>, Fault>
+) -> Result<Report, Fault>
     requires { IsCompiled inputs.now known.now catalog.now }
     ensures report { IfOk result (IsReport question inputs.now) }
     ensures refused { IfErr result (λ e. IfRefused e (ReportRefusal question inputs.now)) }
@@ -99,7 +112,7 @@ fn report_on_known(
     question: Question,
     inputs: &Inputs,
     known: &Known,
-) -> Result<Seq<u8>, Fault>
+) -> Result<Report, Fault>
     requires small { length inputs.now.input < 2 ^ 32 }
     requires known { IsKnown inputs.now known.now }
     ensures report { IfOk result (IsReport question inputs.now) }
@@ -110,7 +123,7 @@ fn report_on_known(
 }
 
 /// What is asked about the programs of a manifest's resources; or the first refusal.
-pub fn report_on(alloc: Global, question: Question, inputs: &Inputs) -> Result<Seq<u8>, Fault>
+pub fn report_on(alloc: Global, question: Question, inputs: &Inputs) -> Result<Report, Fault>
     requires { length inputs.now.input < 2 ^ 32 }
     ensures report { IfOk result (IsReport question inputs.now) }
     ensures refused { IfErr result (λ e. IfRefused e (ReportRefusal question inputs.now)) }
