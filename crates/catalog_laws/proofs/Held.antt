@@ -185,7 +185,7 @@ bodies place s t u at h k = record {
   held = λ x.
       let a = h.held x in
       let stands : ContainerAt (skeletons t.resources) place = subst (λ ks. ContainerAt ks place) (sym h.grown)
-              (container_stays (skeletons s.resources) h.more place (skeleton at.0, of_resources s.resources place at.0 at.1.0, at.1.1)) in
+      (container_stays (skeletons s.resources) h.more place (skeleton at.0, of_resources s.resources place at.0 at.1.0, at.1.1)) in
       let b = k.held (record { running = stands; holders = a.holders; holdings = a.holdings }) in
       let whole = k.grown ∙ ap (λ ks. ks ++ k.more) h.grown ∙ append_assoc (skeletons s.resources) h.more k.more in
       record {
@@ -307,12 +307,11 @@ abbrev CatalogHeld : Catalog → Type 0
 CatalogHeld c = AreHeld c.resources × HoldClasses c.resources c.holdings
 
 catalog_is : (t : State) → Held t.running (skeletons t.resources) t.holdings → CatalogHeld (catalog_in t)
-catalog_is t h =
-    (
-      each_is t.resources t.resources h.holders,
-      each_under (HasClass (skeletons t.resources)) (λ (q : Holding). IsContainerAt q.outer t.resources × IsClassAt q.class t.resources) t.holdings
-          (λ q c. (container_is t.resources q.outer c.0, class_is t.resources q.class c.1)) h.holdings,
-    )
+catalog_is t h = (
+  each_is t.resources t.resources h.holders,
+  each_under (HasClass (skeletons t.resources)) (λ (q : Holding). IsContainerAt q.outer t.resources × IsClassAt q.class t.resources) t.holdings
+      (λ q c. (container_is t.resources q.outer c.0, class_is t.resources q.class c.1)) h.holdings,
+)
 
 ends_held : (t : State) → Held t.running (skeletons t.resources) t.holdings → Each CatalogHeld (all_there t.pending t >>= λ there. few_enough t >>= λ u. Ok (catalog_in u))
 ends_held t h = step_each CatalogHeld (all_there t.pending t) _ (λ there.
