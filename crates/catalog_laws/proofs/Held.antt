@@ -1,7 +1,7 @@
 -- Resources keep their sort, their holder and their reference, and their place; so what holds them stays a container.
 use Rattle.std.proofs.Common.{◌≡◌, ◌⊎◌, inl, inr, ℕ, zero, suc, ◌+◌, Bool, true, false, cond, List, [], ◌∷◌, ◌++◌, map, length, Option, Some, None, Result, Ok, Err}
 use Rattle.std.proofs.Common.{refl, sym, ap, ap₂, subst, ◌∙◌, append_assoc, arith}
-use Rattle.std.specs.Prelude.{IfSome, slice_get}
+use Rattle.std.specs.Prelude.{◌&&◌, IfSome, slice_get}
 use Rattle.std.specs.List.{AllByRecursion}
 use Rattle.std.proofs.lemmas.List.{append-nil}
 use Rattle.std.proofs.lemmas.Slice.Eq.{bytes_eq-Decides}
@@ -16,8 +16,11 @@ use Rattle.pp_eval.specs.Scoping.{pairs_in}
 use Rattle.pp_data.specs.declared.data.Level.{Level}
 use Rattle.catalog_semantics.specs.declared.catalog.Sort.{Sort}
 use Rattle.catalog_semantics.specs.declared.catalog.Resource.{Resource}
+use Rattle.catalog_semantics.specs.declared.state.Default.{Default}
+use Rattle.catalog_semantics.specs.declared.state.Holding.{Holding}
+use Rattle.catalog_semantics.specs.declared.state.State.{State}
 use Rattle.catalog_semantics.specs.Sites.{site_of}
-use Rattle.catalog_semantics.specs.States.{State, Holding, Default, filled, as_added, is_class, lacks, defaults_of, with_resource, with_scopes, is_new, has_room, has_size, added, references_of, place_from, place_of}
+use Rattle.catalog_semantics.specs.States.{filled, as_added, is_class, lacks, defaults_of, with_resource, with_scopes, is_new, has_room, has_size, added, references_of, place_from, place_of}
 use Rattle.catalog_semantics.specs.Declaring.{class_ref, entering, begun, ended}
 use Rattle.catalog_semantics.specs.Catalogs.{is_plain_sort, filled_behind, main_ended, first_state, is_called_for, made_real, state_after, round_limit, all_there, few_enough, Catalog, catalog_in, catalog_of}
 use Rattle.catalog_semantics.specs.Frames.{Each, IsSound, IsContainerAt}
@@ -52,9 +55,9 @@ HasClass ks h = ContainerAt ks h.outer × ClassAt ks h.class
 
 -- what runs is a container, and what holds
 record Held (running : Option ℕ) (ks : List Skeleton) (holdings : List Holding) : Type 0 where
-  running : IfSome running (ContainerAt ks)
+  runs : IfSome running (ContainerAt ks)
   holders : AllByRecursion (HasHolder ks) ks
-  holdings : AllByRecursion (HasClass ks) holdings
+  classes : AllByRecursion (HasClass ks) holdings
 
 -- ---- more resources behind
 
@@ -92,15 +95,15 @@ map_both (x ∷ xs) ys = ap (λ ks. skeleton x ∷ ks) (map_both xs ys)
 held_more : (running : Option ℕ) (ks : List Skeleton) (holdings : List Holding) (k : Skeleton) → Held running ks holdings → (k.holder ≡ None) ⊎ (k.holder ≡ running)
     → Held running (ks ++ k ∷ []) holdings
 held_more running ks holdings k h holder = record {
-  running = some_stays ks (k ∷ []) running h.running;
+  runs = some_stays ks (k ∷ []) running h.runs;
   holders = each_one_more (HasHolder (ks ++ k ∷ [])) ks k
       (each_under (HasHolder ks) (HasHolder (ks ++ k ∷ [])) ks (λ q c. some_stays ks (k ∷ []) q.holder c) h.holders) (last holder);
-  holdings = each_under (HasClass ks) (HasClass (ks ++ k ∷ [])) holdings (λ q c. (container_stays ks (k ∷ []) q.outer c.0, class_stays ks (k ∷ []) q.class c.1)) h.holdings;
+  classes = each_under (HasClass ks) (HasClass (ks ++ k ∷ [])) holdings (λ q c. (container_stays ks (k ∷ []) q.outer c.0, class_stays ks (k ∷ []) q.class c.1)) h.classes;
 }
   where
     last : (k.holder ≡ None) ⊎ (k.holder ≡ running) → HasHolder (ks ++ k ∷ []) k
     last (inl none) = subst (λ o. IfSome o (ContainerAt (ks ++ k ∷ []))) (sym none) tt
-    last (inr now) = subst (λ o. IfSome o (ContainerAt (ks ++ k ∷ []))) (sym now) (some_stays ks (k ∷ []) running h.running)
+    last (inr now) = subst (λ o. IfSome o (ContainerAt (ks ++ k ∷ []))) (sym now) (some_stays ks (k ∷ []) running h.runs)
 
 -- ---- what defaults and realizations leave
 
@@ -186,18 +189,18 @@ bodies place s t u at h k = record {
       let a = h.held x in
       let stands : ContainerAt (skeletons t.resources) place = subst (λ ks. ContainerAt ks place) (sym h.grown)
       (container_stays (skeletons s.resources) h.more place (skeleton at.0, of_resources s.resources place at.0 at.1.0, at.1.1)) in
-      let b = k.held (record { running = stands; holders = a.holders; holdings = a.holdings }) in
+      let b = k.held (record { runs = stands; holders = a.holders; classes = a.classes }) in
       let whole = k.grown ∙ ap (λ ks. ks ++ k.more) h.grown ∙ append_assoc (skeletons s.resources) h.more k.more in
       record {
-        running = subst (λ ks. IfSome s.running (ContainerAt ks)) (sym whole) (some_stays (skeletons s.resources) (h.more ++ k.more) s.running x.running);
+        runs = subst (λ ks. IfSome s.running (ContainerAt ks)) (sym whole) (some_stays (skeletons s.resources) (h.more ++ k.more) s.running x.runs);
         holders = b.holders;
-        holdings = b.holdings;
+        classes = b.classes;
       };
 }
 
 -- ---- the place of a class
 
-both_true : (a b : Bool) → (if a then b else false) ≡ true → (a ≡ true) × (b ≡ true)
+both_true : (a b : Bool) → (a && b) ≡ true → (a ≡ true) × (b ≡ true)
 both_true true b h = (refl, h)
 both_true false b h = cc
 
@@ -206,17 +209,21 @@ same_is q r h =
     let both = both_true (bytes_eq q.kind r.kind) (bytes_eq q.title r.title) h in
     ap₂ (λ k t. record { kind = k; title = t }) ((bytes_eq-Decides q.kind r.kind).0 both.0) ((bytes_eq-Decides q.title r.title).0 both.1)
 
-found_at : (n : ℕ) (ref : Ref) (resources : List Resource) (place : ℕ) → place_from n ref (references_of resources) ≡ Some place
-    → (i : ℕ) × (place ≡ n + i) × (r : Resource) × (slice_get resources i ≡ Some r) × (r.id ≡ ref)
+abbrev FoundAt : ℕ → Ref → List Resource → ℕ → Type 0
+FoundAt n ref resources place = (i : ℕ) × (place ≡ n + i) × (r : Resource) × (slice_get resources i ≡ Some r) × (r.id ≡ ref)
+
+found_later : (n : ℕ) (ref : Ref) (q : Resource) (resources : List Resource) (place : ℕ) → FoundAt (n + 1) ref resources place → FoundAt n ref (q ∷ resources) place
+found_later n ref q resources place h = (suc h.0, omega (arith, h.1), h.2, h.3, h.4)
+
+found_by : (b : Bool) (n : ℕ) (ref : Ref) (q : Resource) (resources : List Resource) (place : ℕ) → same_ref q.id ref ≡ b
+    → (place_from (n + 1) ref (references_of resources) ≡ Some place → FoundAt (n + 1) ref resources place)
+    → cond b (Some n) (place_from (n + 1) ref (references_of resources)) ≡ Some place → FoundAt n ref (q ∷ resources) place
+found_by true n ref q resources place is later h = let same : n ≡ place = cc in (0, omega (arith, same), q, refl, same_is q.id ref is)
+found_by false n ref q resources place is later h = found_later n ref q resources place (later h)
+
+found_at : (n : ℕ) (ref : Ref) (resources : List Resource) (place : ℕ) → place_from n ref (references_of resources) ≡ Some place → FoundAt n ref resources place
 found_at n ref [] place h = cc
-found_at n ref (q ∷ resources) place h = by (same_ref q.id ref) refl h
-  where
-    by : (b : Bool) → same_ref q.id ref ≡ b → (if b then Some n else place_from (n + 1) ref (references_of resources)) ≡ Some place
-        → (i : ℕ) × (place ≡ n + i) × (r : Resource) × (slice_get (q ∷ resources) i ≡ Some r) × (r.id ≡ ref)
-    by true is h = let same : n ≡ place = cc in (0, sym same ∙ omega arith, q, refl, same_is q.id ref is)
-    by false is h =
-        let later = found_at (n + 1) ref resources place h in
-        (suc later.0, omega (arith, later.1), later.2, later.3, later.4)
+found_at n ref (q ∷ resources) place h = found_by (same_ref q.id ref) n ref q resources place refl (found_at (n + 1) ref resources place) h
 
 class_found : (name : List ℕ) (resources : List Resource) (place : ℕ) → place_of (class_ref name) resources ≡ Some place → ClassAt (skeletons resources) place
 class_found name resources place h =
@@ -227,10 +234,10 @@ class_found name resources place h =
 holds : (name : List ℕ) (outer class : ℕ) (s : State) → s.running ≡ Some outer → place_of (class_ref name) s.resources ≡ Some class
     → Held s.running (skeletons s.resources) s.holdings → Held s.running (skeletons s.resources) (s.holdings ++ record { outer = outer; class = class } ∷ [])
 holds name outer class s is at h = record {
-  running = h.running;
+  runs = h.runs;
   holders = h.holders;
-  holdings = each_one_more (HasClass (skeletons s.resources)) s.holdings (record { outer = outer; class = class }) h.holdings
-      (subst (λ o. IfSome o (ContainerAt (skeletons s.resources))) is h.running, class_found name s.resources class at);
+  classes = each_one_more (HasClass (skeletons s.resources)) s.holdings (record { outer = outer; class = class }) h.classes
+      (subst (λ o. IfSome o (ContainerAt (skeletons s.resources))) is h.runs, class_found name s.resources class at);
 }
 
 -- ---- defaults take hold
@@ -310,7 +317,7 @@ catalog_is : (t : State) → Held t.running (skeletons t.resources) t.holdings �
 catalog_is t h = (
   each_is t.resources t.resources h.holders,
   each_under (HasClass (skeletons t.resources)) (λ (q : Holding). IsContainerAt q.outer t.resources × IsClassAt q.class t.resources) t.holdings
-      (λ q c. (container_is t.resources q.outer c.0, class_is t.resources q.class c.1)) h.holdings,
+      (λ q c. (container_is t.resources q.outer c.0, class_is t.resources q.class c.1)) h.classes,
 )
 
 ends_held : (t : State) → Held t.running (skeletons t.resources) t.holdings → Each CatalogHeld (all_there t.pending t >>= λ there. few_enough t >>= λ u. Ok (catalog_in u))
@@ -324,4 +331,4 @@ catalog_held m facts node_name data_levels c h =
     subst (Each CatalogHeld) h (step_each CatalogHeld (site_of m data_levels (pairs_in facts) node_name) _ (λ site.
     then_each (Holds (first_state facts)) CatalogHeld (state_after round_limit site m.items facts) _
     (whole_keeps Holds whole_holds site m.items round_limit (first_state facts))
-    (λ t k. ends_held t (k.held (record { running = tt; holders = tt; holdings = tt })))))
+    (λ t k. ends_held t (k.held (record { runs = tt; holders = tt; classes = tt })))))
