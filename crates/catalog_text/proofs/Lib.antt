@@ -1,2 +1,2 @@
-pub mod JsonLaws
 pub mod TextLaws
+pub mod JsonLaws

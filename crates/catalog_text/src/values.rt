@@ -1,168 +1,93 @@
 //! Values as compact JSON.
 
-ghost use Rattle.std.specs.Prelude.{◌≡◌, ◌≤◌, ◌++◌, true, length, map, codes, IfOk, OnOk};
-ghost use Rattle.json.specs.Print.{quoted};
-ghost use Rattle.pp_value.specs.Shown.{shown_int};
-ghost use Rattle.catalog_text.specs.Json.{is_before, place_for, put_key, by_key, in_commas, member_text, json, member_of};
+ghost use Rattle.std.specs.Prelude.{◌≡◌, ◌∷◌, ◌++◌, [], map, IfOk, OnOk};
+ghost use Rattle.serde_json.specs.Data.{string, array, object, no_members, put};
+ghost use Rattle.serde_json.specs.View.{items_of, view, members_view};
+ghost use Rattle.catalog_text.specs.Json.{data_of, members_with, json};
 
 use pp_value::{Pairs, Value, shown_ref};
 use rh_base::{NoMemory, Text};
-use serde_json::Value as Json;
+use serde_json::{Map, Value as Json};
 use std::alloc::Global;
 
-/// A key of an object with the text of its value.
-#[derive(Drop)]
-pub struct Member {
-    pub key: Text,
-    pub text: Text,
+fn text_json(alloc: Global, text: &str) -> Result<Json, NoMemory>
+    ensures { IfOk result (λ json. view json ≡ string text.now) }
+{
+    Ok(Json::String(String::from_str(alloc, text)?))
 }
 
-/// Appends a text as a JSON string.
-pub fn push_quoted(alloc: Global, text: &str, into: &mut Text) -> Result<(), NoMemory>
-    ensures { OnOk result (into.new ≡ into.old ++ quoted text.now) }
+/// Puts a member among those before it.
+fn put_member(
+    alloc: Global,
+    key: &Text,
+    json: Json,
+    members: &mut Map<String, Json>,
+) -> Result<(), NoMemory>
+    ensures { OnOk result (members_view members.new.entries ≡ put key.now (view json) (members_view members.old.entries)) }
 {
-    let json = Json::String(String::from_str(alloc, text)?);
-    let shown = json.to_string(alloc)?;
-    into.push(shown.as_str())
-}
-
-fn push_int(alloc: Global, n: i64, into: &mut Text) -> Result<(), NoMemory>
-    ensures { OnOk result (into.new ≡ into.old ++ shown_int n) }
-{
-    let digits = format!(in alloc; "{n}")?;
-    into.push(digits.as_str())
-}
-
-/// Whether a key comes before another, byte by byte.
-fn is_before(a: &str, b: &str) -> bool
-    ensures { result ≡ is_before a.now b.now }
-{
-    a < b
-}
-
-/// The place of the first member whose key comes behind this one.
-fn place_for(key: &str, members: &[Member]) -> usize
-    ensures place { result ≡ place_for key.now members.now }
-    ensures within { result ≤ length members.now }
-{
-    let mut place = 0usize;
-    for m in members {
-        if is_before(key, m.key.as_str()) {
-            return place;
-        }
-        place += 1;
-    }
-    place
-}
-
-/// Puts a member among others, in the order of the keys.
-#[tactic(auto, using(crate::proofs::JsonLaws::put_at))]
-fn put_member(m: Member, members: &mut Vec<Member>) -> Result<(), NoMemory>
-    ensures { OnOk result (members.new.items ≡ put_key m members.old.items) }
-{
-    let place = place_for(m.key.as_str(), members.as_slice());
-    members.insert(place, m)?;
+    let key = String::from_str(alloc, key.as_str())?;
+    members.insert(key, json)?;
     Ok(())
 }
 
-/// Appends the text of a value.
+/// The JSON of a value.
 #[cycle(json)]
-#[tactic(auto, using(crate::specs::Json::json_list, crate::specs::Json::json_map))]
-fn push_json(alloc: Global, value: &Value, into: &mut Text) -> Result<(), NoMemory>
-    ensures { OnOk result (into.new ≡ into.old ++ json value.now) }
+#[tactic(auto, using(crate::specs::Json::data_list, crate::specs::Json::data_map))]
+fn data_of(alloc: Global, value: &Value) -> Result<Json, NoMemory>
+    ensures { IfOk result (λ json. view json ≡ data_of value.now) }
 {
     match value {
-        Value::Undef => into.push("null"),
-        Value::Bool(true) => into.push("true"),
-        Value::Bool(false) => into.push("false"),
-        Value::Int(n) => push_int(alloc, *n, into),
-        Value::Str(text) => push_quoted(alloc, text.as_str(), into),
-        Value::List(items) => push_list(alloc, items.as_slice(), into),
-        Value::Map(pairs) => push_map(alloc, pairs, into),
+        Value::Undef => Ok(Json::Null),
+        Value::Bool(b) => Ok(Json::Bool(*b)),
+        Value::Int(n) => Ok(Json::from(*n)),
+        Value::Str(text) => text_json(alloc, text.as_str()),
+        Value::List(items) => array_of(alloc, items.as_slice()),
+        Value::Map(pairs) => object_of(alloc, pairs),
         Value::Refer(r) => {
             let text = shown_ref(alloc, r)?;
-            push_quoted(alloc, text.as_str(), into)
+            text_json(alloc, text.as_str())
         }
-        Value::Opaque => into.push("null"),
+        Value::Opaque => Ok(Json::Null),
     }
 }
 
 #[cycle(json)]
-fn push_list(alloc: Global, items: &[Value], into: &mut Text) -> Result<(), NoMemory>
-    ensures { OnOk result (into.new ≡ into.old ++ (codes "[" ++ (in_commas (map json items.now) ++ codes "]"))) }
+fn push_item(alloc: Global, item: &Value, items: &mut Vec<Json>) -> Result<(), NoMemory>
+    ensures { OnOk result (map view items.new.items ≡ map view items.old.items ++ data_of item.now ∷ []) }
 {
-    into.push("[")?;
-    push_items(alloc, items, into)?;
-    into.push("]")
-}
-
-#[cycle(json)]
-fn push_items(alloc: Global, items: &[Value], into: &mut Text) -> Result<(), NoMemory>
-    ensures { OnOk result (into.new ≡ into.old ++ in_commas (map json items.now)) }
-{
-    let Some((first, rest)) = items.split_first() else {
-        return Ok(());
-    };
-    push_json(alloc, first, into)?;
-    for item in rest {
-        into.push(",")?;
-        push_json(alloc, item, into)?;
-    }
+    let json = data_of(alloc, item)?;
+    items.push(json)?;
     Ok(())
 }
 
-/// The members of an object, in the order of their keys.
 #[cycle(json)]
-fn members_of(alloc: Global, pairs: &Pairs) -> Result<Vec<Member>, NoMemory>
-    ensures { IfOk result (λ members. members.items ≡ by_key (map member_of pairs.now)) }
+fn array_of(alloc: Global, items: &[Value]) -> Result<Json, NoMemory>
+    ensures { IfOk result (λ json. view json ≡ array (items_of (map data_of items.now))) }
 {
-    let mut members = Vec::new(alloc);
+    let mut array = Vec::new(alloc);
+    for item in items {
+        push_item(alloc, item, &mut array)?;
+    }
+    Ok(Json::Array(array))
+}
+
+#[cycle(json)]
+fn object_of(alloc: Global, pairs: &Pairs) -> Result<Json, NoMemory>
+    ensures { IfOk result (λ json. view json ≡ object (members_with no_members pairs.now)) }
+{
+    let mut members = Map::new(alloc);
     for pair in pairs.as_slice() {
-        let key = pair.0.copy(alloc)?;
-        let mut text = Text::from_string(String::new(alloc));
-        push_json(alloc, &pair.1, &mut text)?;
-        put_member(Member { key, text }, &mut members)?;
+        let json = data_of(alloc, &pair.1)?;
+        put_member(alloc, &pair.0, json, &mut members)?;
     }
-    Ok(members)
-}
-
-fn push_member(alloc: Global, m: &Member, into: &mut Text) -> Result<(), NoMemory>
-    ensures { OnOk result (into.new ≡ into.old ++ member_text m.now) }
-{
-    push_quoted(alloc, m.key.as_str(), into)?;
-    into.push(":")?;
-    into.push(m.text.as_str())
-}
-
-fn push_members(alloc: Global, members: &[Member], into: &mut Text) -> Result<(), NoMemory>
-    ensures { OnOk result (into.new ≡ into.old ++ in_commas (map member_text members.now)) }
-{
-    let Some((first, rest)) = members.split_first() else {
-        return Ok(());
-    };
-    push_member(alloc, first, into)?;
-    for m in rest {
-        into.push(",")?;
-        push_member(alloc, m, into)?;
-    }
-    Ok(())
-}
-
-#[cycle(json)]
-fn push_map(alloc: Global, pairs: &Pairs, into: &mut Text) -> Result<(), NoMemory>
-    ensures { OnOk result (into.new ≡ into.old ++ (codes "{" ++ (in_commas (map member_text (by_key (map member_of pairs.now))) ++ codes "}"))) }
-{
-    let members = members_of(alloc, pairs)?;
-    into.push("{")?;
-    push_members(alloc, members.as_slice(), into)?;
-    into.push("}")
+    Ok(Json::Object(members))
 }
 
 /// A value as compact JSON.
+#[tactic(auto, using(crate::proofs::JsonLaws::no_float))]
 pub fn json_text(alloc: Global, value: &Value) -> Result<Text, NoMemory>
     ensures { IfOk result (λ text. text ≡ json value.now) }
 {
-    let mut text = Text::from_string(String::new(alloc));
-    push_json(alloc, value, &mut text)?;
-    Ok(text)
+    let json = data_of(alloc, value)?;
+    Ok(Text::from_string(json.to_string(alloc)?))
 }

@@ -1,9 +1,13 @@
-use Rattle.std.proofs.Common.{◌≡◌, ◌++◌, drop, map}
-use Rattle.catalog_text.specs.Json.{behind, by_key_behind, by_key, json, member_of}
+use Rattle.std.proofs.Common.{◌≡◌, drop, map, take}
+use Rattle.serde_json.specs.Data.{no_members}
+use Rattle.serde_json.specs.View.{view, members_view}
+use Rattle.catalog_text.specs.Json.{data_of, members_with}
 use Rattle.catalog_text.proofs.values.+json.Given as goal
 
-abbrev pub invariant-push_items-loop-item : goal.invariant-push_items-loop-item
-invariant-push_items-loop-item l = l.into ++ behind (map json (drop l.item-index l.rest)) ≡ l.initial.into ++ behind (map json l.rest)
+-- the items so far
+abbrev pub invariant-array_of-loop-item : goal.invariant-array_of-loop-item
+invariant-array_of-loop-item l = map view l.array.items ≡ map data_of (take l.item-index l.items)
 
-abbrev pub invariant-members_of-loop-pair : goal.invariant-members_of-loop-pair
-invariant-members_of-loop-pair l = by_key_behind l.members.items (map member_of (drop l.pair-index l.pairs)) ≡ by_key (map member_of l.pairs)
+-- the members so far, with those of the pairs that are left
+abbrev pub invariant-object_of-loop-pair : goal.invariant-object_of-loop-pair
+invariant-object_of-loop-pair l = members_with (members_view l.members.entries) (drop l.pair-index l.pairs) ≡ members_with no_members l.pairs
