@@ -2,7 +2,7 @@
 #![tactic(auto)]
 
 mod lines;
-mod orders;
+mod order_lines;
 
 pub use lines::{push_bytes, push_outcome, push_tree};
-pub use orders::push_order;
+pub use order_lines::push_order;
