@@ -1,7 +1,7 @@
 //! Lines on trees and outcomes.
 
 ghost use Rattle.std.specs.Prelude.{◌≡◌, ◌++◌, OnOk};
-ghost use Rattle.fs_lang.specs.Meaning.{outcome_of};
+ghost use Rattle.fs_lang.specs.Outcomes.{outcome_of};
 ghost use Rattle.verdict_text.specs.Lines.{tree_line, outcome_text, outcome_line};
 
 use fs_lang::{Outcome, Tree};

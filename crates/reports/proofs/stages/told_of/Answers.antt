@@ -8,8 +8,8 @@ program_lines-requires c = are_places c.args.catalog.now c.args.plan.now c.as_sl
 pub settled-requires : goal.settled-requires
 settled-requires c = as_many_in_order c.args.inputs.now c.args.known.now c.args.catalog.now c.args.plan.now c.args.programs.now c.requires
 
-pub replayed-requires-count : goal.replayed-requires-count
-replayed-requires-count c = c.requires.planned.count
+pub replayed-requires-clause-count : goal.replayed-requires-clause-count
+replayed-requires-clause-count c = c.requires.planned.count
 
-pub replayed-requires-programs : goal.replayed-requires-programs
-replayed-requires-programs c = as_many_lent c.args.inputs.now c.args.known.now c.args.catalog.now c.args.plan.now c.args.programs.now c.requires
+pub replayed-requires-clause-programs : goal.replayed-requires-clause-programs
+replayed-requires-clause-programs c = as_many_lent c.args.inputs.now c.args.known.now c.args.catalog.now c.args.plan.now c.args.programs.now c.requires
