@@ -2,7 +2,9 @@
 
 ghost use Rattle.std.specs.Prelude.{◌≡◌, ◌⊎◌, ◌<◌, ◌^◌, length, IfOk, IfErr};
 ghost use Rattle.rh_base.specs.Refused.{IfRefused};
-ghost use Rattle.rehearsal_core.specs.Inputs.{IsAnswer, IsAnswerTo, Breaks, BreaksFor, Says, SaysOf};
+ghost use Rattle.rehearsal_core.specs.Verified.{AreVerified, BreaksProofRule};
+ghost use Rattle.rehearsal_core.specs.Migrated.{IsMigrated, BreaksListingRule};
+ghost use Rattle.rehearsal_core.specs.Inputs.{IsPrinted, IsAnswer, IsAnswerTo, Breaks, BreaksFor, Says, SaysOf};
 ghost use Rattle.rehearsal_core.specs.Loading.{AreShort, LoadedFrom, FirstLong, concluded};
 ghost use Rattle.rehearsal_core.specs.Answers.{put_of, Answers};
 
@@ -26,21 +28,40 @@ pub enum Ending {
     Memory,
 }
 
+/// What is said of a text of proofs.
+fn checked(alloc: Global, inputs: &Inputs) -> Result<Report, Fault>
+    ensures report { IfOk result (IsPrinted (AreVerified inputs.now.input)) }
+    ensures refused { IfErr result (λ e. IfRefused e (BreaksProofRule inputs.now.input)) }
+{
+    let text = inputs.input.as_slice();
+    let told = verified(alloc, text)?;
+    Ok(printed(told))
+}
+
+/// A listing in its newest form.
+fn listed(alloc: Global, inputs: &Inputs) -> Result<Report, Fault>
+    ensures report { IfOk result (IsPrinted (IsMigrated inputs.now.input)) }
+    ensures refused { IfErr result (λ e. IfRefused e (BreaksListingRule inputs.now.input)) }
+{
+    let text = inputs.input.as_slice();
+    let told = migrated(alloc, text)?;
+    Ok(printed(told))
+}
+
 /// What is said of the files of a request, or the first rule that they break.
 fn answer(alloc: Global, ask: Ask, inputs: &Inputs) -> Result<Report, Fault>
     requires { length inputs.now.input < 2 ^ 32 }
     ensures report { IfOk result (IsAnswerTo ask inputs.now) }
     ensures refused { IfErr result (λ e. IfRefused e (BreaksFor ask inputs.now)) }
 {
-    let input = inputs.input.as_slice();
     match ask {
         Ask::Verify => report_on(alloc, Question::Verdict, inputs),
         Ask::Catalog => Ok(printed(catalog_report(alloc, inputs)?)),
         Ask::Graph => Ok(printed(graph_report(alloc, inputs)?)),
         Ask::Programs => report_on(alloc, Question::Programs, inputs),
         Ask::Replay => report_on(alloc, Question::Replay, inputs),
-        Ask::Check => Ok(printed(verified(alloc, input)?)),
-        Ask::Migrate => Ok(printed(migrated(alloc, input)?)),
+        Ask::Check => checked(alloc, inputs),
+        Ask::Migrate => listed(alloc, inputs),
     }
 }
 
