@@ -1,0 +1,10 @@
+pub mod CircuitLaws
+pub mod NumberLaws
+pub mod InputLaws
+pub mod BitLaws
+pub mod AlikeLaws
+pub mod TreeLaws
+pub mod DomainLaws
+pub mod CellLaws
+pub mod AnyLaws
+pub mod ReadLaws
