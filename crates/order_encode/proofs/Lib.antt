@@ -1,0 +1,9 @@
+pub mod InputsMatter
+pub mod AskLaws
+pub mod WitnessLaws
+pub mod GoalLaws
+pub mod OrderLaws
+pub mod ExtensionLaws
+pub mod KnownLaws
+pub mod ReadLaws
+pub mod TableLaws
