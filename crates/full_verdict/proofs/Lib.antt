@@ -1,0 +1,5 @@
+pub mod AnswerLaws
+pub mod FirstExtension
+pub mod SecondLaws
+pub mod EndLaws
+pub mod VerdictLaws

@@ -1,0 +1,12 @@
+//! The verdict on a graph of programs: whether it is deterministic, whether a second run changes anything, and whether it
+//! succeeds from some tree.
+#![tactic(auto)]
+
+mod answering;
+mod judging;
+mod second;
+mod success;
+mod verdicts;
+
+pub use judging::judge;
+pub use verdicts::{Asked, Ends, Second, Verdict};

@@ -1,0 +1,79 @@
+//! Answers to the question of order, and programs that are too large for it.
+
+use crate::programs::{again, in_turn};
+use fs_lang::Program;
+use judgement::{First, Sure, judge_order};
+use orders::Order;
+use rh_base::{Fault, Refusal};
+use std::alloc::Global;
+use std::test::Fail;
+
+fn refused(alloc: Global, refusal: &Refusal) -> Result<String, Fail> {
+    let number = refusal.number;
+    let name = refusal.name.as_str();
+    Ok(format!(in alloc; "{number} {name}")?)
+}
+
+fn sure(alloc: Global, pruned: u32, sure: &Sure) -> Result<String, Fail> {
+    match sure {
+        Sure::Pruned => Ok(format!(in alloc; "sure, {pruned} pruned")?),
+        Sure::Proved(_) => Ok(format!(in alloc; "proved, {pruned} pruned")?),
+    }
+}
+
+fn answered(alloc: Global, first: &First) -> Result<String, Fail> {
+    match first {
+        First::Sure { pruned, sure: why } => sure(alloc, *pruned, why),
+        First::Differs { pruned, .. } => Ok(format!(in alloc; "differs, {pruned} pruned")?),
+        First::Spent { pruned, .. } => Ok(format!(in alloc; "spent, {pruned} pruned")?),
+    }
+}
+
+/// What is answered of programs without an order between them.
+fn told(alloc: Global, programs: &[Program]) -> Result<String, Fail> {
+    let Ok(n) = u32::try_from(programs.len()) else {
+        return Err(Fail::from("few programs"));
+    };
+    let Ok(order) = Order::from_edges(alloc, n, &[]) else {
+        return Err(Fail::from("an order"));
+    };
+    if order.count() as usize != programs.len() {
+        return Err(Fail::from("as many nodes as programs"));
+    }
+    match judge_order(alloc, programs, &order, u64::MAX) {
+        Ok(first) => answered(alloc, &first),
+        Err(Fault::Refused(refusal)) => refused(alloc, &refusal),
+        Err(Fault::Memory(_)) => Err(Fail::from("memory")),
+    }
+}
+
+#[test]
+fn paths_of_the_domain(rt: HostRuntime) -> Result<(), Fail> {
+    let alloc = rt.alloc();
+    for (count, want) in [(4_096u32, "sure, 1 pruned"), (4_097, "70 domain")] {
+        let program = in_turn(alloc, count)?;
+        let all = vec![in alloc; program]?;
+        assert_eq!(rt; told(alloc, all.as_slice())?.as_str(), want, "{count}");
+    }
+    Ok(())
+}
+
+/// What is answered of n programs, each of which makes a folder of its own so many times.
+fn told_again(alloc: Global, n: u32, times: u32) -> Result<String, Fail> {
+    let mut all = Vec::new(alloc);
+    for i in 0..n {
+        all.push(again(alloc, i, times)?)?;
+    }
+    told(alloc, all.as_slice())
+}
+
+#[test]
+fn weights_of_programs(rt: HostRuntime) -> Result<(), Fail> {
+    for (n, times, want) in [
+        (100u32, 35u32, "sure, 100 pruned"),
+        (3, 38_889, "70 weight"),
+    ] {
+        assert_eq!(rt; told_again(rt.alloc(), n, times)?.as_str(), want, "{n}");
+    }
+    Ok(())
+}
