@@ -1,0 +1,9 @@
+//! Tests of the texts of orders: tables of rows, each a text and the order that it names, or the refusal.
+#![tactic(auto)]
+
+#[cfg(test)]
+mod allowed;
+#[cfg(test)]
+mod answers;
+#[cfg(test)]
+mod texts;

@@ -1,0 +1,102 @@
+//! Which references a text lists, and their text.
+
+use crate::answers::refused;
+use order_text::{order_from_json, order_to_json};
+use rh_base::{Seq, Text};
+use std::alloc::Global;
+use std::test::Fail;
+
+/// The references that a text lists, each with `;` behind it; or the refusal.
+const TEXTS: &[(&str, &str)] = &[
+    ("[]", ""),
+    (r#"["File[/x]"]"#, "File[/x];"),
+    (
+        r#" [ "Package[ntp]" , "File[/a b]" ] "#,
+        "Package[ntp];File[/a b];",
+    ),
+    ("", "63 at 0: order"),
+    ("{}", "63 at 0: order"),
+    (r#"["File[/x]",1]"#, "63 at 0: order"),
+    (r#"["File[/x]",null]"#, "63 at 0: order"),
+    (r#"["File[/x]"]]"#, "63 at 0: order"),
+    (r#"["File[/x]""#, "63 at 0: order"),
+    (r#"[["File[/x]"]]"#, "63 at 0: order"),
+    (r#""File[/x]""#, "63 at 0: order"),
+];
+
+/// Texts of orders, and each as it is written.
+const WRITTEN: &[(&str, &str)] = &[
+    (" [ ] ", "[]"),
+    (r#"["File[/x]"]"#, r#"["File[/x]"]"#),
+    (
+        r#" [ "Package[ntp]" , "File[/a b]" ] "#,
+        r#"["Package[ntp]","File[/a b]"]"#,
+    ),
+    (r#"["b","a","b",""]"#, r#"["b","a","b",""]"#),
+    (
+        r#"["File[\/a\"b\\c]","\u0041\n"]"#,
+        r#"["File[/a\"b\\c]","A\n"]"#,
+    ),
+];
+
+fn joined(alloc: Global, texts: &Seq<Text>) -> Result<String, Fail> {
+    let mut shown = String::new(alloc);
+    for text in texts.as_slice() {
+        shown.push_str(text.as_str())?;
+        shown.push(';')?;
+    }
+    Ok(shown)
+}
+
+fn listed(alloc: Global, text: &str) -> Result<String, Fail> {
+    match order_from_json(alloc, text.as_bytes()) {
+        Ok(texts) => joined(alloc, &texts),
+        Err(fault) => refused(alloc, &fault),
+    }
+}
+
+fn written(alloc: Global, texts: &[Text]) -> Result<String, Fail> {
+    let mut bytes = Vec::new(alloc);
+    order_to_json(alloc, texts, &mut bytes)?;
+    match String::from_utf8(bytes) {
+        Ok(text) => Ok(text),
+        Err(_) => Err(Fail::from("no text")),
+    }
+}
+
+/// What a text lists, as it is written; or the refusal.
+fn rewritten(alloc: Global, text: &str) -> Result<String, Fail> {
+    match order_from_json(alloc, text.as_bytes()) {
+        Ok(texts) => written(alloc, texts.as_slice()),
+        Err(fault) => refused(alloc, &fault),
+    }
+}
+
+#[test]
+fn references_that_are_listed(rt: HostRuntime) -> Result<(), Fail> {
+    for (text, want) in TEXTS {
+        assert_eq!(rt; listed(rt.alloc(), text)?.as_str(), *want, "{text}");
+    }
+    Ok(())
+}
+
+#[test]
+fn orders_that_are_written(rt: HostRuntime) -> Result<(), Fail> {
+    for (text, want) in WRITTEN {
+        assert_eq!(rt; rewritten(rt.alloc(), text)?.as_str(), *want, "{text}");
+    }
+    Ok(())
+}
+
+#[test]
+fn written_orders_are_read_back(rt: HostRuntime) -> Result<(), Fail> {
+    for (text, _) in WRITTEN {
+        let again = rewritten(rt.alloc(), text)?;
+        assert_eq!(rt;
+            listed(rt.alloc(), again.as_str())?.as_str(),
+            listed(rt.alloc(), text)?.as_str(),
+            "{text}"
+        );
+    }
+    Ok(())
+}

@@ -1,0 +1,129 @@
+//! Types without a model, the lengths of names and paths, and modelled names that stand twice.
+
+use crate::drafts::{answer, both};
+use std::alloc::Global;
+use std::test::Fail;
+
+const NONE: &str = r#"{"version":1,"packages":{}}"#;
+
+/// Two resources each, and what is answered to them.
+const PAIRS: &[(&str, &str, &str)] = &[
+    ("file|/a|{}", "file|/a/|{}", "56 at 8: File[/a/]"),
+    ("file|/a|{}", r#"file|x|{"path":"//a"}"#, "56 at 8: File[x]"),
+    ("group|a|{}", r#"group|b|{"name":"a"}"#, "56 at 8: Group[b]"),
+    ("group|a|{}", "user|a|{}", "2 programs"),
+    ("service|a|{}", "service|a.service|{}", "2 programs"),
+    (
+        r#"cron|a|{"command":"c"}"#,
+        r#"cron|b|{"command":"c","name":"a","user":"root"}"#,
+        "56 at 8: Cron[b]",
+    ),
+    (
+        r#"cron|a|{"command":"c"}"#,
+        r#"cron|b|{"command":"c","name":"a","user":"u"}"#,
+        "2 programs",
+    ),
+    (
+        r#"ssh_authorized_key|a|{"user":"u"}"#,
+        r#"ssh_authorized_key|b|{"name":"a","user":"u"}"#,
+        "56 at 8: Ssh_authorized_key[b]",
+    ),
+    ("file|/a|{}", r#"file|/a/|{"odd":1}"#, "51 at 8: odd"),
+    (
+        "package|a|{}",
+        r#"package|b|{"name":"a"}"#,
+        "56 at 8: Package[b]",
+    ),
+    (
+        r#"package|a|{"ensure":"absent"}"#,
+        r#"package|b|{"name":"a"}"#,
+        "56 at 8: Package[b]",
+    ),
+    ("user|a|{}", r#"user|b|{"name":"a"}"#, "56 at 8: User[b]"),
+    (
+        "service|a|{}",
+        r#"service|b|{"name":"a"}"#,
+        "56 at 8: Service[b]",
+    ),
+    (
+        r#"ssh_authorized_key|a|{"user":"u"}"#,
+        r#"ssh_authorized_key|b|{"name":"a","user":"v"}"#,
+        "2 programs",
+    ),
+    ("file|/a|{}", "file|/b|{}", "2 programs"),
+    (
+        "file|/a|{}",
+        r#"file|/a/|{"ensure":"odd"}"#,
+        "55 at 8: File[/a/]",
+    ),
+    ("file|a|{}", "file|/.rehearsal|{}", "52 at 7: File[a]"),
+    ("exec|a|{}", "file|b|{}", "50 at 7: Exec[a]"),
+];
+
+/// A type, a part of a title, how many of them make the title, and whether it is accepted.
+const LENGTHS: &[(&str, &str, usize, bool)] = &[
+    ("group", "a", 255, true),
+    ("group", "a", 256, false),
+    // the limit is the name's, not that of its segment
+    ("group", "/", 255, true),
+    ("file", "/a", 32, true),
+    ("file", "/a", 33, false),
+    // 1,024 bytes, and one more
+    ("file", "/2345678901234567890123456789012", 32, true),
+    (
+        "file",
+        "/2345678901234567890123456789012345678901",
+        25,
+        false,
+    ),
+];
+
+fn repeated(alloc: Global, part: &str, count: usize) -> Result<String, Fail> {
+    let mut text = String::new(alloc);
+    for _ in 0..count {
+        text.push_str(part)?;
+    }
+    Ok(text)
+}
+
+/// Is the title accepted that is this part so many times?
+fn is_accepted(alloc: Global, kind: &str, part: &str, count: usize) -> Result<bool, Fail> {
+    let title = repeated(alloc, part, count)?;
+    let text = format!(in alloc; "{kind}|{title}|{{}}")?;
+    Ok(
+        !answer(alloc, NONE, text.as_str())?
+            .as_str()
+            .starts_with("52 at 7: "),
+    )
+}
+
+#[test]
+fn exec_has_no_model(rt: HostRuntime) -> Result<(), Fail> {
+    let found = answer(rt.alloc(), NONE, r#"exec|ls|{"ensure":"odd","odd":1}"#)?;
+    assert_eq!(rt; found.as_str(), "50 at 7: Exec[ls]");
+    Ok(())
+}
+
+#[test]
+fn names_stand_once(rt: HostRuntime) -> Result<(), Fail> {
+    for (first, second, want) in PAIRS {
+        assert_eq!(rt;
+            both(rt.alloc(), first, second)?.as_str(),
+            *want,
+            "{first} {second}"
+        );
+    }
+    Ok(())
+}
+
+#[test]
+fn names_and_paths_are_short(rt: HostRuntime) -> Result<(), Fail> {
+    for (kind, part, count, accepted) in LENGTHS {
+        assert_eq!(rt;
+            is_accepted(rt.alloc(), kind, part, *count)?,
+            *accepted,
+            "{kind} {count}"
+        );
+    }
+    Ok(())
+}
