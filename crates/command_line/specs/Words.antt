@@ -1,5 +1,5 @@
 -- What the words of the command line ask for.
-use Rattle.std.specs.Prelude.{◌≡◌, List, [], Option, Some, None, Result, Ok, Err, Bool, true, false, codes, if◌then◌else◌}
+use Rattle.std.specs.Prelude.{◌≡◌, ℕ, ◌+◌, ◌-◌, ◌*◌, ◌==◌, ◌&&◌, nat_le, List, [], ◌∷◌, Option, Some, None, option_map, Result, Ok, Err, Bool, true, false, codes, if◌then◌else◌}
 use Rattle.std.specs.Str.{bytes_eq}
 use Rattle.rh_base.specs.Reading.{◌>>=◌}
 use Rattle.clap.specs.Walk.{Row, Rule, Text, first_of}
@@ -56,13 +56,17 @@ compiled = record alone { facts = true; class_data = true; node = true }
 abbrev pub described : Takes
 described = record compiled { packages = true }
 
--- that, and a file tree and an order
+-- that, and how many conflicts a question has
+abbrev pub limited : Takes
+limited = record described { conflicts = true }
+
+-- what a catalog's programs are made with, and a file tree and an order
 abbrev pub replayed : Takes
 replayed = record described { tree = true; order = true }
 
 -- which options may stand beside a value of `--ask`
 abbrev pub takes : Ask → Takes
-takes ask.Verify = described
+takes ask.Verify = limited
 takes ask.Catalog = compiled
 takes ask.Graph = compiled
 takes ask.Programs = described
@@ -94,6 +98,27 @@ taken may None = Some None
 taken true (Some word) = Some (Some word)
 taken false (Some word) = None
 
+-- decimal digits behind a number, while it is at most this
+abbrev pub digits_within : ℕ → ℕ → Text → Option ℕ
+digits_within most n [] = Some n
+digits_within most n (b ∷ word) =
+    if nat_le 48 b && nat_le b 57 then (if nat_le (10 * n + (b - 48)) most then digits_within most (10 * n + (b - 48)) word else None) else None
+
+-- a number from 1 to the greatest one, without a sign and without a leading zero
+abbrev pub number_in : ℕ → Text → Option ℕ
+number_in most [] = None
+number_in most (b ∷ word) = if b == 48 then None else digits_within most 0 (b ∷ word)
+
+-- the most conflicts that may be given
+abbrev pub most_conflicts : ℕ
+most_conflicts = 100000000
+
+-- what is given for an option that takes a number, and may stand or may not
+abbrev pub taken_number : Bool → ℕ → Option Text → Option (Option ℕ)
+taken_number may most None = Some None
+taken_number true most (Some word) = option_map (λ n. Some n) (number_in most word)
+taken_number false most (Some word) = None
+
 -- the request that was given so, where one was: INPUT is needed, and no option stands that may not
 abbrev pub request_in : List Row → Option Request
 request_in rows = do
@@ -105,9 +130,9 @@ request_in rows = do
   node ← taken (takes ask).node (first_of (codes "node") rows)
   tree ← taken (takes ask).tree (first_of (codes "tree") rows)
   order ← taken (takes ask).order (first_of (codes "order") rows)
-  _ ← taken (takes ask).conflicts (first_of (codes "conflicts") rows)
+  conflicts ← taken_number (takes ask).conflicts most_conflicts (first_of (codes "conflicts") rows)
   _ ← taken (takes ask).workload (first_of (codes "workload") rows)
-  Some (record { ask = ask; facts = facts; packages = packages; class_data = class_data; node = node; input = input; tree = tree; order = order })
+  Some (record { ask = ask; facts = facts; packages = packages; class_data = class_data; node = node; conflicts = conflicts; input = input; tree = tree; order = order })
 
 -- The words are those of the command, and make this request.
 pub record Makes (words : List Text) (request : Request) : Type 0 where

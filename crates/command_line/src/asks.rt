@@ -1,7 +1,7 @@
 //! What may be asked for, and what may be given with it.
 
 ghost use Rattle.std.specs.Prelude.{◌≡◌};
-ghost use Rattle.command_line.specs.Words.{ask_named, alone, compiled, described, replayed, takes};
+ghost use Rattle.command_line.specs.Words.{ask_named, alone, compiled, described, limited, replayed, takes};
 
 use rh_base::Text;
 
@@ -37,7 +37,7 @@ pub struct Takes {
     pub workload: bool,
 }
 
-/// What is asked for, and the names that the words give: of files, and of the node.
+/// What is asked for, the names that the words give, of files and of the node, and how many conflicts a question has.
 #[derive(Debug, Drop)]
 pub struct Request {
     pub ask: Ask,
@@ -45,6 +45,7 @@ pub struct Request {
     pub packages: Option<Text>,
     pub class_data: Option<Text>,
     pub node: Option<Text>,
+    pub conflicts: Option<u64>,
     pub input: Text,
     pub tree: Option<Text>,
     pub order: Option<Text>,
@@ -86,7 +87,16 @@ fn described() -> Takes
     takes
 }
 
-/// That, and a file tree and an order.
+/// That, and how many conflicts a question has.
+fn limited() -> Takes
+    ensures { result ≡ limited }
+{
+    let mut takes = described();
+    takes.conflicts = true;
+    takes
+}
+
+/// What a catalog's programs are made with, and a file tree and an order.
 fn replayed() -> Takes
     ensures { result ≡ replayed }
 {
@@ -125,7 +135,7 @@ impl Ask {
         ensures { result ≡ takes self }
     {
         match self {
-            Ask::Verify => described(),
+            Ask::Verify => limited(),
             Ask::Catalog => compiled(),
             Ask::Graph => compiled(),
             Ask::Programs => described(),

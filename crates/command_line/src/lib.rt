@@ -3,6 +3,7 @@
 
 mod asks;
 mod command;
+mod numbers;
 mod words;
 
 pub use asks::{Ask, Request};

@@ -1,13 +1,14 @@
 //! What the words ask for.
 
-ghost use Rattle.std.specs.Prelude.{◌≡◌, ◌≢◌, ◌↔◌, [], map, string_bytes, None, IsTrue, IfOk, IfErr, OnOk, codes};
+ghost use Rattle.std.specs.Prelude.{◌≡◌, ◌≢◌, ◌↔◌, ◌<◌, ◌^◌, [], map, string_bytes, None, IsTrue, IfOk, IfErr, OnOk, codes};
 ghost use Rattle.std.specs.Option.{option_map};
 ghost use Rattle.clap.specs.Words.{found_of, rows_of, first_of, matches_of, fault_of, kind_of};
 ghost use Rattle.clap.specs.declared.error.kind.ErrorKind.TheVariants.{OutOfMemory};
-ghost use Rattle.command_line.specs.Words.{synopsis, ask_in, taken, request_in, Makes, IfRefused, IsMade};
+ghost use Rattle.command_line.specs.Words.{synopsis, ask_in, taken, taken_number, request_in, Makes, IfRefused, IsMade};
 
 use crate::asks::{Ask, Request};
 use crate::command::synopsis;
+use crate::numbers::number;
 use clap::ArgMatches;
 use clap::error::{Error, ErrorKind};
 use rh_base::{NoMemory, Text};
@@ -73,6 +74,29 @@ fn option(
     Ok(Some(text(alloc, word)?))
 }
 
+/// The most conflicts that may be given.
+const MOST_CONFLICTS: u64 = 100_000_000;
+
+/// The number that is given for an option, which may stand or may not.
+fn counted(
+    matches: &ArgMatches<'_>,
+    may: bool,
+    id: &str,
+    most: u64,
+) -> Result<Option<u64>, WordsFault>
+    requires { most < 2 ^ 32 }
+    ensures { IsMade (taken_number may most (first_of id.now (rows_of (found_of matches.now)))) result }
+{
+    let Some(word) = value(matches, id) else {
+        return Ok(None);
+    };
+    if !may {
+        return Err(WordsFault::Refused);
+    }
+    let n = number(word, most).ok_or(WordsFault::Refused)?;
+    Ok(Some(n))
+}
+
 /// The name of the input.
 fn input(alloc: Global, matches: &ArgMatches<'_>) -> Result<Text, WordsFault>
     ensures { IsMade (first_of (codes "INPUT") (rows_of (found_of matches.now))) result }
@@ -96,7 +120,7 @@ fn request_of(alloc: Global, matches: &ArgMatches<'_>) -> Result<Request, WordsF
     let node = option(alloc, matches, takes.node, "node")?;
     let tree = option(alloc, matches, takes.tree, "tree")?;
     let order = option(alloc, matches, takes.order, "order")?;
-    let _ = option(alloc, matches, takes.conflicts, "conflicts")?;
+    let conflicts = counted(matches, takes.conflicts, "conflicts", MOST_CONFLICTS)?;
     let _ = option(alloc, matches, takes.workload, "workload")?;
     Ok(Request {
         ask,
@@ -104,6 +128,7 @@ fn request_of(alloc: Global, matches: &ArgMatches<'_>) -> Result<Request, WordsF
         packages,
         class_data,
         node,
+        conflicts,
         input,
         tree,
         order,

@@ -62,17 +62,21 @@ memory_answers run status is front out sound = record { tells = memory_tells run
 
 -- a report was to be written
 -- a report has one of the first statuses
-few : (a : Ask) (i : Inputs) (report : Report) → IsAnswerTo a i report → report.status ≤ 3
-few ask.Verify i report answer = omega (arith, answer.told.0)
-few ask.Catalog i report answer = omega (arith, answer.0)
-few ask.Graph i report answer = omega (arith, answer.0)
-few ask.Programs i report answer = omega (arith, answer.told.0)
-few ask.Replay i report answer = omega (arith, answer.told.0)
-few ask.Check i report answer = omega (arith, answer.0)
-few ask.Migrate i report answer = omega (arith, answer.0)
+few : (a : Ask) (conflicts : Option ℕ) (i : Inputs) (report : Report) → IsAnswerTo a conflicts i report → report.status ≤ 3
+few ask.Verify conflicts i report answer = elim answer.told.answer [
+  | inl sure ↦ omega (arith, sure.status)
+  | inr (inl different) ↦ omega (arith, different.status)
+  | inr (inr spent) ↦ omega (arith, spent.status)
+]
+few ask.Catalog conflicts i report answer = omega (arith, answer.0)
+few ask.Graph conflicts i report answer = omega (arith, answer.0)
+few ask.Programs conflicts i report answer = omega (arith, answer.told.0)
+few ask.Replay conflicts i report answer = omega (arith, answer.told.0)
+few ask.Check conflicts i report answer = omega (arith, answer.0)
+few ask.Migrate conflicts i report answer = omega (arith, answer.0)
 
 has_status : (words : List (String Global)) (held : Option Files) (report : Report) → Reports words held report → report.status ≤ 3
-has_status words held report reports = few reports.on.loaded.ask reports.on.loaded.inputs report reports.on.says
+has_status words held report reports = few reports.on.loaded.ask reports.on.loaded.conflicts reports.on.loaded.inputs report reports.on.says
 
 pub report_answers : (run : Run) (status : ℕ) (report : Report) → Reports run.words run.held report → run.shelf_now ≡ run.shelf_before
     → TellsReport report run.out run.err status → Answers run status

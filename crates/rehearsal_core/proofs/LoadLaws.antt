@@ -35,6 +35,7 @@ named_stand held limit (Some name) (Some (load.Bytes b)) bytes is e =
 loaded : (held : Option Files) (r : Request) (l : Loads) (m : Loaded) → AreLoads held r l → LoadedFrom l m → IsLoaded held r m
 loaded held r l m loads from = record {
   asked = from.asked ∙ loads.asked;
+  conflicts = from.conflicts ∙ loads.conflicts;
   node = from.node ∙ loads.node;
   facts = named_stand held FACTS_BYTES r.facts l.facts m.inputs.facts loads.facts from.facts;
   packages = named_stand held LISTING_BYTES r.packages l.packages m.inputs.packages loads.packages from.packages;

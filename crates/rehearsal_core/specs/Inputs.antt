@@ -110,6 +110,7 @@ AllTold held (f ∷ files) = ((name : List ℕ) → f.name ≡ Some name → (by
 -- the request with the bytes of its files
 pub record IsLoaded (held : Option Files) (r : Request) (l : Loaded) : Type 0 where
   pub asked : l.ask ≡ r.ask
+  pub conflicts : l.conflicts ≡ r.conflicts
   pub node : l.inputs.node ≡ r.node
   pub facts : StandAt held FACTS_BYTES r.facts l.inputs.facts
   pub packages : StandAt held LISTING_BYTES r.packages l.inputs.packages
@@ -125,30 +126,30 @@ abbrev pub IsPrinted : (List ℕ → Type 0) → Report → Type 0
 IsPrinted IsText report = (report.status ≡ 0) × IsText report.text
 
 -- what may be said of the files of a request
-abbrev pub IsAnswerTo : Ask → Inputs → Report → Type 0
-IsAnswerTo ask.Verify i report = IsReport question.Verdict i report
-IsAnswerTo ask.Catalog i report = IsPrinted (IsCatalogReport i) report
-IsAnswerTo ask.Graph i report = IsPrinted (IsGraphReport i) report
-IsAnswerTo ask.Programs i report = IsReport question.Programs i report
-IsAnswerTo ask.Replay i report = IsReport question.Replay i report
-IsAnswerTo ask.Check i report = IsPrinted (AreVerified i.input) report
-IsAnswerTo ask.Migrate i report = IsPrinted (IsMigrated i.input) report
+abbrev pub IsAnswerTo : Ask → Option ℕ → Inputs → Report → Type 0
+IsAnswerTo ask.Verify conflicts i report = IsReport (question.Verdict conflicts) i report
+IsAnswerTo ask.Catalog conflicts i report = IsPrinted (IsCatalogReport i) report
+IsAnswerTo ask.Graph conflicts i report = IsPrinted (IsGraphReport i) report
+IsAnswerTo ask.Programs conflicts i report = IsReport question.Programs i report
+IsAnswerTo ask.Replay conflicts i report = IsReport question.Replay i report
+IsAnswerTo ask.Check conflicts i report = IsPrinted (AreVerified i.input) report
+IsAnswerTo ask.Migrate conflicts i report = IsPrinted (IsMigrated i.input) report
 
 abbrev pub IsAnswer : Loaded → Report → Type 0
-IsAnswer l report = IsAnswerTo l.ask l.inputs report
+IsAnswer l report = IsAnswerTo l.ask l.conflicts l.inputs report
 
 -- the first rule that the files break
-abbrev pub BreaksFor : Ask → Inputs → Refusal → Type 0
-BreaksFor ask.Verify i r = ReportRefusal question.Verdict i r
-BreaksFor ask.Catalog i r = CatalogRefusal i r
-BreaksFor ask.Graph i r = GraphRefusal i r
-BreaksFor ask.Programs i r = ReportRefusal question.Programs i r
-BreaksFor ask.Replay i r = ReportRefusal question.Replay i r
-BreaksFor ask.Check i r = BreaksProofRule i.input r
-BreaksFor ask.Migrate i r = BreaksListingRule i.input r
+abbrev pub BreaksFor : Ask → Option ℕ → Inputs → Refusal → Type 0
+BreaksFor ask.Verify conflicts i r = ReportRefusal (question.Verdict conflicts) i r
+BreaksFor ask.Catalog conflicts i r = CatalogRefusal i r
+BreaksFor ask.Graph conflicts i r = GraphRefusal i r
+BreaksFor ask.Programs conflicts i r = ReportRefusal question.Programs i r
+BreaksFor ask.Replay conflicts i r = ReportRefusal question.Replay i r
+BreaksFor ask.Check conflicts i r = BreaksProofRule i.input r
+BreaksFor ask.Migrate conflicts i r = BreaksListingRule i.input r
 
 abbrev pub Breaks : Loaded → Refusal → Type 0
-Breaks l r = BreaksFor l.ask l.inputs r
+Breaks l r = BreaksFor l.ask l.conflicts l.inputs r
 
 -- a report on the request
 pub record ReportsOn (request : Request) (held : Option Files) (report : Report) : Type 0 where

@@ -39,6 +39,7 @@ Reads Is Named held before now (Err (fault.Memory m)) = now ≡ before
 -- what was read of each file of a request
 pub record AreLoads (held : Option Files) (r : Request) (l : Loads) : Type 0 where
   pub asked : l.ask ≡ r.ask
+  pub conflicts : l.conflicts ≡ r.conflicts
   pub node : l.node ≡ r.node
   pub facts : IsNamedLoad held FACTS_BYTES r.facts l.facts
   pub packages : IsNamedLoad held LISTING_BYTES r.packages l.packages
@@ -84,6 +85,7 @@ FirstLong l r = FirstOf (labelled l) r
 -- the same request, with the bytes that were read
 pub record LoadedFrom (l : Loads) (m : Loaded) : Type 0 where
   pub asked : m.ask ≡ l.ask
+  pub conflicts : m.conflicts ≡ l.conflicts
   pub node : m.inputs.node ≡ l.node
   pub facts : named_bytes l.facts ≡ Some m.inputs.facts
   pub packages : named_bytes l.packages ≡ Some m.inputs.packages

@@ -24,6 +24,7 @@ pub enum Load {
 #[derive(Drop)]
 pub struct Loads {
     pub ask: Ask,
+    pub conflicts: Option<u64>,
     pub node: Option<Text>,
     pub facts: Option<Load>,
     pub packages: Option<Load>,
@@ -33,10 +34,11 @@ pub struct Loads {
     pub order: Option<Load>,
 }
 
-/// What is asked, with the bytes of each file that the request names.
+/// What is asked, within how many conflicts, with the bytes of each file that the request names.
 #[derive(Drop)]
 pub struct Loaded {
     pub ask: Ask,
+    pub conflicts: Option<u64>,
     pub inputs: Inputs,
 }
 
@@ -112,6 +114,7 @@ pub fn fetch_all<S: Shelf>(
         packages,
         class_data,
         node,
+        conflicts,
         input,
         tree,
         order,
@@ -124,6 +127,7 @@ pub fn fetch_all<S: Shelf>(
     let order = fetch_named(alloc, order, ORDER_BYTES, shelf)?;
     Ok(Loads {
         ask,
+        conflicts,
         node,
         facts,
         packages,
@@ -163,6 +167,7 @@ pub fn all_within(alloc: Global, loads: Loads) -> Result<Loaded, Fault>
 {
     let Loads {
         ask,
+        conflicts,
         node,
         facts,
         packages,
@@ -179,6 +184,7 @@ pub fn all_within(alloc: Global, loads: Loads) -> Result<Loaded, Fault>
     let order = within_named(alloc, order, "order")?;
     Ok(Loaded {
         ask,
+        conflicts,
         inputs: Inputs {
             node,
             facts,

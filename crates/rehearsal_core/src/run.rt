@@ -49,13 +49,13 @@ fn listed(alloc: Global, inputs: &Inputs) -> Result<Report, Fault>
 }
 
 /// What is said of the files of a request, or the first rule that they break.
-fn answer(alloc: Global, ask: Ask, inputs: &Inputs) -> Result<Report, Fault>
+fn answer(alloc: Global, ask: Ask, conflicts: Option<u64>, inputs: &Inputs) -> Result<Report, Fault>
     requires { length inputs.now.input < 2 ^ 32 }
-    ensures report { IfOk result (IsAnswerTo ask inputs.now) }
-    ensures refused { IfErr result (λ e. IfRefused e (BreaksFor ask inputs.now)) }
+    ensures report { IfOk result (IsAnswerTo ask conflicts inputs.now) }
+    ensures refused { IfErr result (λ e. IfRefused e (BreaksFor ask conflicts inputs.now)) }
 {
     match ask {
-        Ask::Verify => report_on(alloc, Question::Verdict, inputs),
+        Ask::Verify => report_on(alloc, Question::Verdict(conflicts), inputs),
         Ask::Catalog => Ok(printed(catalog_report(alloc, inputs)?)),
         Ask::Graph => Ok(printed(graph_report(alloc, inputs)?)),
         Ask::Programs => report_on(alloc, Question::Programs, inputs),
@@ -73,7 +73,7 @@ fn answer_read(alloc: Global, loads: Loads) -> Result<Report, Fault>
     ensures refused { IfErr result (λ e. IfRefused e (λ r. FirstLong loads r ⊎ ((loaded : Loaded) × LoadedFrom loads loaded × Breaks loaded r))) }
 {
     let loaded = all_within(alloc, loads)?;
-    answer(alloc, loaded.ask, &loaded.inputs)
+    answer(alloc, loaded.ask, loaded.conflicts, &loaded.inputs)
 }
 
 /// What there is to say of an answer.

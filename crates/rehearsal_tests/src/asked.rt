@@ -19,7 +19,7 @@ const DATA: &str =
 /// What is asked, of which manifest, and what is told.
 type Row = (&'static [&'static str], &'static str, &'static str);
 
-const ROWS: [Row; 13] = [
+const ROWS: [Row; 22] = [
     (
         &["--ask", "catalog", "site.pp"],
         "File { mode => '0644' } file { '/a': content => 'x' }",
@@ -68,6 +68,31 @@ const ROWS: [Row; 13] = [
         "Package[ntp]\nFile[/etc/ntp.conf]\nService[ntp]\nPackage[ntp] -> File[/etc/ntp.conf]\nPackage[ntp] -> Service[ntp]\nFile[/etc/ntp.conf] -> Service[ntp]\n",
     ),
     (
+        &["--ask", "graph", "site.pp"],
+        "file { '/a': } <- file { '/b': }",
+        "File[/a]\nFile[/b]\nFile[/b] -> File[/a]\n",
+    ),
+    (
+        &["--ask", "graph", "site.pp"],
+        "file { '/a': } <~ file { '/b': } ~> file { '/c': }",
+        "File[/a]\nFile[/b]\nFile[/c]\nFile[/b] -> File[/a]\nFile[/b] -> File[/c]\n",
+    ),
+    (
+        &["--ask", "graph", "site.pp"],
+        "file { ['/a', '/b']: } file { '/c': mode => '1' } File <| mode == '1' |> -> File['/a'] File['/b'] -> File <| mode == '1' |>",
+        "File[/a]\nFile[/b]\nFile[/c]\nFile[/b] -> File[/a]\nFile[/b] -> File[/c]\nFile[/c] -> File[/a]\n",
+    ),
+    (
+        &["--ask", "graph", "site.pp"],
+        "class c { file { '/c': } } class d { contain c } include d file { '/x': require => Class['d'] }",
+        "File[/c]\nFile[/x]\nFile[/c] -> File[/x]\n",
+    ),
+    (
+        &["--ask", "graph", "site.pp"],
+        "define d() { file { $title: } } @file { '/v': before => File['/x'] } d { '/i': before => File['/x'] } file { '/x': }",
+        "File[/x]\nFile[/i]\nFile[/i] -> File[/x]\n",
+    ),
+    (
         &["--ask", "programs", "site.pp"],
         "file { '/etc/motd': content => 'hi' }",
         "File[/etc/motd]\nif file?(\"/etc/motd\") then [rm(\"/etc/motd\"); creat(\"/etc/motd\",\"hi\")] else creat(\"/etc/motd\",\"hi\")\n",
@@ -86,6 +111,26 @@ const ROWS: [Row; 13] = [
         &["--packages", "docs", "site.pp"],
         "package { ['x', 'y']: }",
         "resources 2\npruned 2\ndeterministic\n",
+    ),
+    (
+        &["--packages", "shared", "site.pp"],
+        "package { 'ntp': } file { '/etc/ntp.conf': content => 'server a' } file { '/a': ensure => file } file { '/a/b': ensure => file }",
+        "resources 4\npruned 2\ndeterministic\n",
+    ),
+    (
+        &["--packages", "shared", "--conflicts", "1", "site.pp"],
+        "package { 'ntp': } file { '/etc/ntp.conf': content => 'server a', require => Package['ntp'] }",
+        "resources 2\npruned 2\ndeterministic\n",
+    ),
+    (
+        &["--packages", "alike", "site.pp"],
+        "package { ['a', 'b']: }",
+        "resources 2\npruned 0\ndeterministic\n",
+    ),
+    (
+        &["--packages", "alike", "--conflicts", "1000000", "site.pp"],
+        "package { ['a', 'b']: }",
+        "resources 2\npruned 0\ndeterministic\n",
     ),
 ];
 
@@ -162,7 +207,7 @@ const RUNS: [Row; 9] = [
 const SHARED_MANIFEST: &str = "package { 'ntp': } file { '/etc/ntp.conf': content => 'server a' }";
 
 /// What is refused, of which manifest, and the line.
-const REFUSED: [Row; 12] = [
+const REFUSED: [Row; 11] = [
     (
         &[
             "--ask", "catalog", "--facts", "data", "--data", "facts", "site.pp",
@@ -194,11 +239,6 @@ const REFUSED: [Row; 12] = [
         &["--ask", "catalog", "site.pp"],
         "node web1 { }",
         "refused 31 at 0: \n",
-    ),
-    (
-        &["--packages", "shared", "site.pp"],
-        "package { 'ntp': } file { '/etc/ntp.conf': content => 'server a' }",
-        "refused 16 at 0: kept\n",
     ),
     (
         &["--ask", "replay", "--order", "missing", "site.pp"],
@@ -239,8 +279,11 @@ const OPT: &str = r#"{"version":1,"packages":{"p":{"files":[],"folders":["/opt/p
 const TREE: &str =
     r#"{"/.rehearsal":null,"/.rehearsal/package":null,"/.rehearsal/package/p":"","/opt":null,"/opt/p":null,"/opt/p/z":"q"}"#;
 
+const ALIKE: &str =
+    r#"{"version":2,"packages":{"a":{"files":[["/opt/x","d1"]],"folders":[]},"b":{"files":[["/opt/x","d1"]],"folders":[]}}}"#;
+
 /// The files beside a manifest.
-const BESIDE: [(&str, &str); 14] = [
+const BESIDE: [(&str, &str); 15] = [
     ("facts", FACTS),
     ("data", DATA),
     ("listing", LISTING),
@@ -248,6 +291,7 @@ const BESIDE: [(&str, &str); 14] = [
     ("docs", DOCS),
     ("none", "[1]"),
     ("opt", OPT),
+    ("alike", ALIKE),
     ("tree", TREE),
     ("link", r#"{"/a":{"link":"/b"}}"#),
     ("hanging", r#"{"/a/b":null}"#),
@@ -260,8 +304,8 @@ const BESIDE: [(&str, &str); 14] = [
 /// Runs each row over the files beside the manifest.
 fn run_rows(alloc: Global, rt: &impl Abort, rows: &[Row], status: u8) -> Result<(), Fail> {
     for (words, manifest, told) in rows {
-        let mut over: [(&str, &[u8]); 15] = [("site.pp", manifest.as_bytes()); 15];
-        for i in 0..14 {
+        let mut over: [(&str, &[u8]); 16] = [("site.pp", manifest.as_bytes()); 16];
+        for i in 0..15 {
             over[i + 1] = (BESIDE[i].0, BESIDE[i].1.as_bytes());
         }
         let ended = run_over(alloc, words, &over)?;

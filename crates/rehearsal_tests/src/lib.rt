@@ -8,6 +8,8 @@ mod check;
 #[cfg(test)]
 mod common;
 #[cfg(test)]
+mod differences;
+#[cfg(test)]
 mod faults;
 #[cfg(test)]
 mod migrate;

@@ -88,7 +88,7 @@ fn orders_that_do_not_matter(rt: HostRuntime) -> Result<(), Fail> {
 
 #[test]
 fn manifests_that_are_refused(rt: HostRuntime) -> Result<(), Fail> {
-    let rows: [(&str, &str); 20] = [
+    let rows: [(&str, &str); 19] = [
         ("package { 'ntp': }", "refused 54 at 10: Package[ntp]\n"),
         ("$x = 1.5", "refused 14 at 5: 1.5\n"),
         ("$x = 09", "refused 11 at 5: lexical\n"),
@@ -128,10 +128,6 @@ fn manifests_that_are_refused(rt: HostRuntime) -> Result<(), Fail> {
         (
             "file { '/a': } file { '/a/': }",
             "refused 56 at 22: File[/a/]\n",
-        ),
-        (
-            "file { '/a': content => 'x' } file { '/b': source => '/a' }",
-            "refused 16 at 0: kept\n",
         ),
     ];
     for (manifest, line) in rows {

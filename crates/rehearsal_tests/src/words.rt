@@ -10,13 +10,15 @@ const NONE: &str = "resources 0\npruned 0\ndeterministic\nidempotent\nsucceeds f
 
 #[test]
 fn words_that_ask_to_verify(rt: HostRuntime) -> Result<(), Fail> {
-    let rows: [&[&str]; 6] = [
+    let rows: [&[&str]; 8] = [
         &["site.pp"],
         &["--ask", "verify", "site.pp"],
         &["--ask=verify", "site.pp"],
         &["site.pp", "--ask", "verify"],
         &["--", "site.pp"],
         &["--node", "n", "site.pp"],
+        &["--conflicts", "1", "site.pp"],
+        &["--conflicts=100000000", "site.pp"],
     ];
     for words in rows {
         let told = run(rt.alloc(), words, b"")?;
@@ -27,7 +29,7 @@ fn words_that_ask_to_verify(rt: HostRuntime) -> Result<(), Fail> {
 
 #[test]
 fn words_that_are_refused(rt: HostRuntime) -> Result<(), Fail> {
-    let rows: [&[&str]; 23] = [
+    let rows: [&[&str]; 27] = [
         &[],
         &["site.pp", "site.pp"],
         &["--help"],
@@ -46,7 +48,11 @@ fn words_that_are_refused(rt: HostRuntime) -> Result<(), Fail> {
         &["--ask", "check", "--facts", "f", "site.pp"],
         &["--ask", "catalog", "--packages", "p", "site.pp"],
         &["--ask", "graph", "--tree", "t", "site.pp"],
-        &["--conflicts", "1", "site.pp"],
+        &["--conflicts", "0", "site.pp"],
+        &["--conflicts", "01", "site.pp"],
+        &["--conflicts", "+1", "site.pp"],
+        &["--conflicts", "100000001", "site.pp"],
+        &["--conflicts", "1", "--ask", "graph", "site.pp"],
         &["--workload", "5"],
         &["--ask", "migrate", "--node", "n", "site.pp"],
         &["--order", "o", "--ask", "check", "site.pp"],

@@ -4,4 +4,6 @@ pub mod StageLaws
 pub mod VerdictLaws
 pub mod ReplayLaws
 pub mod LineLaws
+pub mod PieceLaws
+pub mod FirstLaws
 pub mod QuestionLaws

@@ -1,9 +1,5 @@
 -- From pruning and from what programs put to what is told.
-use Rattle.std.proofs.Common.{◌≡◌, ℕ, suc, Bool, List, [], ◌∷◌, length, map, refl, sym, ap, subst, ◌∙◌}
-use Rattle.std.specs.Prelude.{codes}
-use Rattle.rh_base.specs.declared.fault.Fault.{Fault}
-use Rattle.rh_base.specs.declared.fault.Fault.TheVariants.{Refused, Memory}
-use Rattle.rh_base.specs.Refused.{IfRefused, IsRefusal}
+use Rattle.std.proofs.Common.{◌≡◌, ℕ, suc, ◌-◌, ◌^◌, Bool, List, [], ◌∷◌, length, map, Option, Some, None, refl, sym, ap, subst, ◌∙◌}
 use Rattle.orders.specs.Relation.{Relation, Comes}
 use Rattle.fs_lang.specs.declared.program.Program as code
 use Rattle.fs_lang.specs.Meaning.{program_of}
@@ -11,13 +7,7 @@ use Rattle.fs_semantics.specs.Programs.{Program}
 use Rattle.fs_semantics.specs.Orders.{Told, IsLinearExtension, IsIdempotent, Succeeds}
 use Rattle.fs_semantics.specs.PlainFiles.{PlainFile, ArePlain, puts}
 use Rattle.put_files.specs.Putting.{ArePutFiles}
-use Rattle.commute_prune.specs.Keeping.{KeepsSome}
-use Rattle.reports.specs.Verdicts.{verdict_text, IsKept}
-
-pub is_kept : (es : List Program) (before : ℕ → ℕ → Type 0) (e : Fault) → IfRefused e (IsRefusal 16 0 (codes "kept")) → IfRefused e (λ r. KeepsSome es before)
-    → IfRefused e (IsKept es before)
-is_kept es before (Refused r) is some = record { refusal = is; kept = some }
-is_kept es before (Memory m) is some = tt
+use Rattle.reports.specs.Verdicts.{budget_of, sure_text}
 
 pub length_of : (programs : List code.Program) → length (map program_of programs) ≡ length programs
 length_of [] = refl
@@ -38,6 +28,11 @@ pub one_each : (programs : List code.Program) (order : Relation) (o : List ℕ) 
     → IsLinearExtension (length (map program_of programs)) (Comes order) o
 one_each programs order o same allowed = subst (λ n. IsLinearExtension n (Comes order) o) (sym (length_of programs ∙ same)) allowed
 
-pub text_is : (programs : List code.Program) (all_put : Bool) (n : ℕ) (report : List ℕ) → n ≡ length programs → report ≡ verdict_text n all_put
-    → report ≡ verdict_text (length (map program_of programs)) all_put
-text_is programs all_put n report is told = told ∙ ap (λ m. verdict_text m all_put) (is ∙ sym (length_of programs))
+pub text_is : (programs : List code.Program) (k : ℕ) (all_put : Bool) (n : ℕ) (text : List ℕ) → n ≡ length programs → text ≡ sure_text n k all_put
+    → text ≡ sure_text (length (map program_of programs)) k all_put
+text_is programs k all_put n text is told = told ∙ ap (λ m. sure_text m k all_put) (is ∙ sym (length_of programs))
+
+-- conflicts that are spent are given
+pub given_some : (given : Option ℕ) → (budget_of given ≡ 2 ^ 64 - 1 → ⊥) → (c : ℕ) × (given ≡ Some c)
+given_some None limited = absurd (limited refl)
+given_some (Some c) limited = (c, refl)

@@ -12,19 +12,20 @@ use Rattle.reports.specs.declared.question.Question.TheVariants as question
 use Rattle.reports.specs.declared.report.Report.{Report}
 use Rattle.reports.specs.Stages.{IsModelled, ProgramsRefusal}
 use Rattle.reports.specs.Reports.{program_lines}
-use Rattle.reports.specs.Verdicts.{IsTold, IsKept}
+use Rattle.verdict.specs.Limits.{IsTooLarge}
+use Rattle.reports.specs.Verdicts.{IsTold}
 use Rattle.reports.specs.Replays.{IsReplayed, HasNoOrder}
 
 -- this is told of the programs
 abbrev pub IsToldOf : Question → Inputs → Known → Catalog → Graph → List Program → Report → Type 0
 IsToldOf question.Programs i k c g es report = (report.status ≡ 0) × (report.text ≡ program_lines c g.plain es)
-IsToldOf question.Verdict i k c g es report = (report.status ≡ 0) × IsTold es (Comes g.order) report.text
+IsToldOf (question.Verdict given) i k c g es report = IsTold given c g.plain es (Comes g.order) report
 IsToldOf question.Replay i k c g es report = (report.status ≡ 0) × IsReplayed i.order k.tree c g es report.text
 
 -- nothing is told of them, for this reason
 abbrev pub HasNoAnswer : Question → Inputs → Catalog → Graph → List Program → Refusal → Type 0
 HasNoAnswer question.Programs i c g es r = ⊥
-HasNoAnswer question.Verdict i c g es r = IsKept es (Comes g.order) r
+HasNoAnswer (question.Verdict given) i c g es r = IsTooLarge es r
 HasNoAnswer question.Replay i c g es r = HasNoOrder i.order c g r
 
 -- The report on the programs of a manifest's real plain resources, in the order of its graph.

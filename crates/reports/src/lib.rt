@@ -4,6 +4,7 @@
 mod bytes;
 mod catalogs;
 mod compiling;
+mod differences;
 mod graphs;
 mod programs;
 mod question;

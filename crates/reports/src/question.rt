@@ -5,8 +5,8 @@
 pub enum Question {
     /// The programs themselves.
     Programs,
-    /// Whether the order of the resources matters.
-    Verdict,
+    /// Whether the order of the resources matters, within so many conflicts, if a number is given.
+    Verdict(Option<u64>),
     /// Their outcome on a file tree.
     Replay,
 }

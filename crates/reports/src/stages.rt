@@ -12,7 +12,7 @@ use crate::programs::program_lines;
 use crate::question::Question;
 use crate::replays::replayed;
 use crate::report::{Report, printed};
-use crate::verdicts::settled;
+use crate::verdicts::judged;
 use catalog::Catalog;
 use dep_graph::{Graph, graph};
 use fs_lang::Program;
@@ -42,7 +42,7 @@ fn told_of(
             plan.plain.as_slice(),
             programs,
         )?)),
-        Question::Verdict => Ok(printed(settled(alloc, programs, &plan.order)?)),
+        Question::Verdict(given) => judged(alloc, given, catalog, plan, programs),
         Question::Replay => Ok(printed(replayed(
             alloc,
             &inputs.order,

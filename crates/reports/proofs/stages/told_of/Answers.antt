@@ -1,3 +1,4 @@
+use Rattle.std.proofs.Common.{refl}
 use Rattle.reports.proofs.StageLaws.{are_places}
 use Rattle.reports.proofs.QuestionLaws.{as_many_lent, as_many_in_order}
 use Rattle.reports.proofs.stages.told_of.Goals as goal
@@ -5,8 +6,14 @@ use Rattle.reports.proofs.stages.told_of.Goals as goal
 pub program_lines-requires : goal.program_lines-requires
 program_lines-requires c = are_places c.args.catalog.now c.args.plan.now c.as_slice.result.now c.as_slice.ensures c.requires.planned.graph
 
-pub settled-requires : goal.settled-requires
-settled-requires c = as_many_in_order c.args.inputs.now c.args.known.now c.args.catalog.now c.args.plan.now c.args.programs.now c.requires
+pub judged-requires-clause-count : goal.judged-requires-clause-count
+judged-requires-clause-count c = as_many_in_order c.args.inputs.now c.args.known.now c.args.catalog.now c.args.plan.now c.args.programs.now c.requires
+
+pub judged-requires-clause-many : goal.judged-requires-clause-many
+judged-requires-clause-many c = c.requires.planned.count
+
+pub judged-requires-clause-places : goal.judged-requires-clause-places
+judged-requires-clause-places c = are_places c.args.catalog.now c.args.plan.now c.args.plan.now.plain refl c.requires.planned.graph
 
 pub replayed-requires-clause-count : goal.replayed-requires-clause-count
 replayed-requires-clause-count c = c.requires.planned.count

@@ -1,0 +1,114 @@
+//! Manifests whose order matters: what is told of them runs as it is told.
+
+use crate::common::{Told, run_over};
+use std::alloc::Global;
+use std::process::Abort;
+use std::test::Fail;
+
+/// A manifest, the listing beside it, and the lines in front of the tree.
+type Row = (&'static str, &'static str, &'static str);
+
+const SHARED: &str = r#"{"version":1,"packages":{"ntp":{"files":["/etc/ntp.conf"],"folders":[]}}}"#;
+
+const OPT: &str = r#"{"version":1,"packages":{"p":{"files":[],"folders":["/opt/p"]}}}"#;
+
+const TWO: &str =
+    r#"{"version":2,"packages":{"a":{"files":[["/opt/x","d1"]],"folders":[]},"b":{"files":[["/opt/x","d2"]],"folders":[]}}}"#;
+
+const ROWS: [Row; 5] = [
+    (
+        "package { 'ntp': } file { '/etc/ntp.conf': content => 'server a' }",
+        SHARED,
+        "resources 2\npruned 0\nnot deterministic\n",
+    ),
+    (
+        "package { 'p': ensure => absent } file { '/opt/p/x': ensure => absent }",
+        OPT,
+        "resources 2\npruned 0\nnot deterministic\n",
+    ),
+    (
+        "package { 'p': ensure => absent } file { '/opt/p/x': ensure => absent } file { ['/q1', '/q2', '/q3', '/q4', '/q5']: content => 'q' }",
+        OPT,
+        "resources 7\npruned 5\nnot deterministic\n",
+    ),
+    (
+        "package { ['a', 'b']: }",
+        TWO,
+        "resources 2\npruned 0\nnot deterministic\n",
+    ),
+    (
+        "file { '/a': content => 'x' } file { '/b': source => '/a' }",
+        SHARED,
+        "resources 2\npruned 0\nnot deterministic\n",
+    ),
+];
+
+/// What stands behind a word on the first line, and the lines behind it.
+fn behind<'a>(lines: &'a str, word: &str) -> (&'a str, &'a str) {
+    let rest = lines.strip_prefix(word).unwrap_or("?");
+    rest.split_once('\n').unwrap_or(("?", ""))
+}
+
+/// Replays an order over the tree that was told, and compares the outcomes.
+fn replays<'x>(
+    alloc: Global,
+    rt: &impl Abort,
+    manifest: &'x str,
+    listing: &'x str,
+    tree: &'x str,
+    order: &'x str,
+    outcome: &str,
+) -> Result<(), Fail> {
+    let over: [(&'x str, &'x [u8]); 4] = [
+        ("site.pp", manifest.as_bytes()),
+        ("listing", listing.as_bytes()),
+        ("tree", tree.as_bytes()),
+        ("order", order.as_bytes()),
+    ];
+    let words = [
+        "--ask",
+        "replay",
+        "--packages",
+        "listing",
+        "--tree",
+        "tree",
+        "--order",
+        "order",
+        "site.pp",
+    ];
+    let told = run_over(alloc, &words, &over)?;
+    let (ran, rest) = behind(told.out.as_str(), "outcome ");
+    assert_eq!(rt; ran, outcome, "{manifest}");
+    assert_eq!(rt; rest, "", "{manifest}");
+    Ok(())
+}
+
+/// What is told of a manifest beside its listing.
+fn told_of(alloc: Global, row: &Row) -> Result<Told, Fail> {
+    let over: [(&str, &[u8]); 2] = [("site.pp", row.0.as_bytes()), ("listing", row.1.as_bytes())];
+    run_over(alloc, &["--packages", "listing", "site.pp"], &over)
+}
+
+/// Both outcomes that are told differ, and are those of the orders on the tree.
+fn differs(alloc: Global, rt: &impl Abort, row: &Row) -> Result<(), Fail> {
+    let told = told_of(alloc, row)?;
+    assert_eq!(rt; told.status, 1, "{}", row.0);
+    let rest = told.out.as_str().strip_prefix(row.2).unwrap_or("?");
+    let (tree, rest) = behind(rest, "tree ");
+    let (left, rest) = behind(rest, "order ");
+    let (first, rest) = behind(rest, "outcome ");
+    let (right, rest) = behind(rest, "order ");
+    let (second, rest) = behind(rest, "outcome ");
+    assert_eq!(rt; rest, "", "{}", row.0);
+    assert!(rt; first != second, "{}", row.0);
+    replays(alloc, rt, row.0, row.1, tree, left, first)?;
+    replays(alloc, rt, row.0, row.1, tree, right, second)
+}
+
+#[test]
+fn orders_that_matter(rt: HostRuntime) -> Result<(), Fail> {
+    for row in ROWS {
+        differs(rt.alloc(), &rt, &row)?;
+    }
+    Ok(())
+}
