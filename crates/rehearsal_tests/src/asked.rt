@@ -19,7 +19,7 @@ const DATA: &str =
 /// What is asked, of which manifest, and what is told.
 type Row = (&'static [&'static str], &'static str, &'static str);
 
-const ROWS: [Row; 22] = [
+const ROWS: [Row; 25] = [
     (
         &["--ask", "catalog", "site.pp"],
         "File { mode => '0644' } file { '/a': content => 'x' }",
@@ -101,6 +101,21 @@ const ROWS: [Row; 22] = [
         &["--ask", "programs", "site.pp"],
         "group { 'g': ensure => absent } file { '/a': ensure => directory }",
         "Group[g]\nif file?(\"/.rehearsal/group/g\") then rm(\"/.rehearsal/group/g\") else id\nFile[/a]\nif dir?(\"/a\") then id else mkdir(\"/a\")\n",
+    ),
+    (
+        &["--ask", "programs", "site.pp"],
+        "file { '/a': ensure => link, target => '/b' }",
+        "File[/a]\nif (file?(\"/a\") or link?(\"/a\")) then [rm(\"/a\"); link(\"/a\",\"/b\")] else link(\"/a\",\"/b\")\n",
+    ),
+    (
+        &["site.pp"],
+        "file { '/a': ensure => link, target => '/b' } file { '/a/c': content => 'x' }",
+        "resources 2\npruned 2\ndeterministic\n",
+    ),
+    (
+        &["site.pp"],
+        "class empty { } include empty file { ['/a', '/b']: } File['/a'] -> Class['empty'] -> File['/b']",
+        "resources 2\npruned 2\ndeterministic\n",
     ),
     (
         &["--packages", "listing", "site.pp"],
@@ -207,7 +222,7 @@ const RUNS: [Row; 9] = [
 const SHARED_MANIFEST: &str = "package { 'ntp': } file { '/etc/ntp.conf': content => 'server a' }";
 
 /// What is refused, of which manifest, and the line.
-const REFUSED: [Row; 11] = [
+const REFUSED: [Row; 12] = [
     (
         &[
             "--ask", "catalog", "--facts", "data", "--data", "facts", "site.pp",
@@ -261,6 +276,11 @@ const REFUSED: [Row; 11] = [
         ],
         "$x = 09",
         "refused 62 at 0: tree\n",
+    ),
+    (
+        &["site.pp"],
+        "file { '/a': ensure => link }",
+        "refused 51 at 7: target\n",
     ),
     (
         &["--ask", "replay", "--order", "missing", "site.pp"],
