@@ -1,0 +1,3 @@
+pub mod FollowLaws
+pub mod ExchangeLaws
+pub mod RunLaws

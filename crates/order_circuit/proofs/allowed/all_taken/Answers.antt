@@ -1,0 +1,33 @@
+use Rattle.std.proofs.Common.{◌≡◌, ◌+◌, ◌<◌, ℕ, suc, sym, ap, ◌∙◌, arith}
+use Rattle.std.specs.Prelude.{◌&&◌, ◌||◌, not}
+use Rattle.fs_interpreter.proofs.Frames.{grows_on}
+use Rattle.orders.specs.Relation.{comes}
+use Rattle.order_places.specs.Places.{all_taken}
+use Rattle.sym_run.specs.Bitwise.{bit_at}
+use Rattle.sym_run.specs.Wires.{circuit_meanings}
+use Rattle.sym_run.proofs.BitLaws.{own_later, bit_stays}
+use Rattle.order_circuit.proofs.allowed.all_taken.Goals as goal
+
+pub loop-a-preserved : goal.loop-a-preserved
+loop-a-preserved c =
+    let before = c.loop-a.invariant in
+    let m0 = circuit_meanings c.args.sym.now in
+    let m1 = circuit_meanings c.loop-a.sym in
+    let m2 = circuit_meanings c.and_taken.new.sym in
+    let a = c.loop-a.a in
+    let i = c.args.i in
+    let taken = c.args.taken.now in
+    let g12 = c.and_taken.ensures.grows in
+    record {
+      taken = own_later m1 m2 taken g12 before.taken;
+      grows = grows_on m0 m1 m2 before.grows g12;
+      all = record {
+        owned = c.in_ok-all-2.ensures.owned;
+        means = λ v. c.in_ok-all-2.ensures.means v
+            ∙ (λ t. before.all.means v t && (not (comes c.args.order.now a i) || bit_stays m0 m1 taken before.grows c.requires.taken v a t))
+            ∙ ap (all_taken (comes c.args.order.now) (bit_at m0 v taken) i) (next a);
+      };
+    }
+  where
+    next : (n : ℕ) → suc n ≡ n + 1
+    next n = omega arith

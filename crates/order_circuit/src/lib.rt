@@ -1,0 +1,13 @@
+//! Orders that codes tell, as wires: which node stands at a place, whether the order is allowed, the exchange of two
+//! neighbours, and the run of programs in the order.
+#![tactic(auto)]
+
+mod allowed;
+mod exchange;
+mod picks;
+mod runs;
+
+pub use allowed::in_order;
+pub use exchange::exchanged_codes;
+pub use picks::tells;
+pub use runs::{copy_cells, run_in_order};

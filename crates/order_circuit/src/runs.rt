@@ -1,0 +1,117 @@
+//! Runs in the order that codes tell.
+
+ghost use Rattle.std.specs.Prelude.{◌≡◌, ◌<◌, true, false, map, length, slice_index_or, IfOk};
+ghost use Rattle.bool_circuit.specs.Gates.{wire_value};
+ghost use Rattle.fs_semantics.specs.Programs.{Outcome, Id, and_then, run};
+ghost use Rattle.fs_semantics.specs.Orders.{outcome};
+ghost use Rattle.fs_lang.specs.Meaning.{program_of, programs_in};
+ghost use Rattle.fs_interpreter.specs.Meanings.{Valuation, Grows};
+ghost use Rattle.fs_interpreter.specs.Places.{Covers, CoversSteps};
+ghost use Rattle.fs_interpreter.specs.Standing.{StandsFor};
+ghost use Rattle.fs_interpreter.specs.States.{AreCells, state_of};
+ghost use Rattle.sym_run.specs.Wires.{AreWires, circuit_meanings};
+ghost use Rattle.order_circuit.specs.Codes.{AreRows, node, nodes};
+
+use crate::picks::tells;
+use bool_circuit::Wire;
+use fs_interpreter::Cells;
+use fs_lang::Program;
+use path_domain::Domain;
+use rh_base::{NoMemory, Seq};
+use std::alloc::Global;
+use sym_run::{Sym, choose, sym_apply};
+
+/// The same cells once more. No gate is added.
+pub fn copy_cells(
+    alloc: Global,
+    sym: &mut Sym,
+    domain: &Domain,
+    cells: &Cells<Sym>,
+) -> Result<Cells<Sym>, NoMemory>
+    requires cells { AreCells (circuit_meanings sym.old) cells.now }
+    requires places { length cells.now.present ≡ length domain.now.table.paths }
+    ensures cells { IfOk result (AreCells (circuit_meanings sym.new)) }
+    ensures places { IfOk result (λ copy. length copy.present ≡ length domain.now.table.paths) }
+    ensures told { IfOk result (λ copy. (v : Valuation) → state_of (circuit_meanings sym.new) v copy ≡ state_of (circuit_meanings sym.old) v cells.now) }
+    ensures grows { Grows (circuit_meanings sym.old) (circuit_meanings sym.new) }
+{
+    choose(alloc, sym, domain, cells.error, cells, cells)
+}
+
+/// What the program makes of the cells where the code tells its number, else what was made so far.
+fn run_one(
+    alloc: Global,
+    sym: &mut Sym,
+    domain: &Domain,
+    program: &Program,
+    when: Wire,
+    cells: &Cells<Sym>,
+    other: &Cells<Sym>,
+) -> Result<Cells<Sym>, NoMemory>
+    requires when { when.0 < length sym.old }
+    requires cells { AreCells (circuit_meanings sym.old) cells.now }
+    requires places { length cells.now.present ≡ length domain.now.table.paths }
+    requires other { AreCells (circuit_meanings sym.old) other.now }
+    requires other_places { length other.now.present ≡ length domain.now.table.paths }
+    requires covers { Covers domain.now.table (program_of program.now) }
+    ensures cells { IfOk result (AreCells (circuit_meanings sym.new)) }
+    ensures places { IfOk result (λ made. length made.present ≡ length domain.now.table.paths) }
+    ensures ran { IfOk result (λ made. (v : Valuation) (o : Outcome) → wire_value sym.old v when.0 ≡ true → StandsFor domain.now.table (state_of (circuit_meanings sym.old) v cells.now) o → StandsFor domain.now.table (state_of (circuit_meanings sym.new) v made) (and_then o (run (program_of program.now)))) }
+    ensures stayed { IfOk result (λ made. (v : Valuation) → wire_value sym.old v when.0 ≡ false → state_of (circuit_meanings sym.new) v made ≡ state_of (circuit_meanings sym.old) v other.now) }
+    ensures grows { Grows (circuit_meanings sym.old) (circuit_meanings sym.new) }
+{
+    let mut made = copy_cells(alloc, sym, domain, cells)?;
+    sym_apply(alloc, sym, domain, program, &mut made)?;
+    choose(alloc, sym, domain, when, &made, other)
+}
+
+/// Runs the program that the code tells.
+fn run_place(
+    alloc: Global,
+    sym: &mut Sym,
+    domain: &Domain,
+    programs: &[Program],
+    code: &Seq<Wire>,
+    cells: &Cells<Sym>,
+) -> Result<Cells<Sym>, NoMemory>
+    requires code { AreWires sym.old code.now }
+    requires cells { AreCells (circuit_meanings sym.old) cells.now }
+    requires places { length cells.now.present ≡ length domain.now.table.paths }
+    requires covers { CoversSteps domain.now.table (programs_in programs.now) }
+    ensures cells { IfOk result (AreCells (circuit_meanings sym.new)) }
+    ensures places { IfOk result (λ made. length made.present ≡ length domain.now.table.paths) }
+    ensures stands { IfOk result (λ made. (v : Valuation) (o : Outcome) → StandsFor domain.now.table (state_of (circuit_meanings sym.old) v cells.now) o → StandsFor domain.now.table (state_of (circuit_meanings sym.new) v made) (and_then o (run (slice_index_or (map program_of programs.now) (node sym.old v code.now) Id)))) }
+    ensures grows { Grows (circuit_meanings sym.old) (circuit_meanings sym.new) }
+{
+    let mut made = copy_cells(alloc, sym, domain, cells)?;
+    for i in 0..programs.len() {
+        let when = tells(sym, i as u64, code)?;
+        made = run_one(alloc, sym, domain, &programs[i], when, cells, &made)?;
+    }
+    Ok(made)
+}
+
+/// Runs the programs in the order that the codes tell.
+pub fn run_in_order(
+    alloc: Global,
+    sym: &mut Sym,
+    domain: &Domain,
+    programs: &[Program],
+    codes: &[Seq<Wire>],
+    start: &Cells<Sym>,
+) -> Result<Cells<Sym>, NoMemory>
+    requires codes { AreRows sym.old codes.now }
+    requires cells { AreCells (circuit_meanings sym.old) start.now }
+    requires places { length start.now.present ≡ length domain.now.table.paths }
+    requires covers { CoversSteps domain.now.table (programs_in programs.now) }
+    ensures cells { IfOk result (AreCells (circuit_meanings sym.new)) }
+    ensures places { IfOk result (λ made. length made.present ≡ length domain.now.table.paths) }
+    ensures stands { IfOk result (λ made. (v : Valuation) (o : Outcome) → StandsFor domain.now.table (state_of (circuit_meanings sym.old) v start.now) o → StandsFor domain.now.table (state_of (circuit_meanings sym.new) v made) (and_then o (outcome (map program_of programs.now) (nodes sym.old v codes.now)))) }
+    ensures grows { Grows (circuit_meanings sym.old) (circuit_meanings sym.new) }
+{
+    let mut cells = copy_cells(alloc, sym, domain, start)?;
+    for code in codes {
+        cells = run_place(alloc, sym, domain, programs, code, &cells)?;
+    }
+    Ok(cells)
+}

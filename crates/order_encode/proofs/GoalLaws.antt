@@ -1,0 +1,106 @@
+-- What wires that are asked for tell of the tree for which the cells stand.
+use Rattle.std.proofs.Common.{◌≡◌, ◌≢◌, ℕ, ◌-◌, ◌<◌, Bool, true, false, List, Option, Some, None, IsSome, nat_lt, refl, sym, ap, subst, ◌∙◌, arith, ltb-true}
+use Rattle.std.proofs.lemmas.Bool.{lt-ltb}
+use Rattle.std.specs.Prelude.{◌↔◌, ◌&&◌, not, Result, Ok, Err, IfOk}
+use Rattle.bool_circuit.specs.declared.gate.Wire.{Wire}
+use Rattle.bool_circuit.specs.declared.gate.Gate.{Gate}
+use Rattle.bool_circuit.specs.Gates.{wire_value}
+use Rattle.fs_semantics.specs.FileTree.{Tree}
+use Rattle.fs_semantics.specs.Programs.{Program, Outcome, and_then}
+use Rattle.fs_semantics.specs.Orders.{outcome}
+use Rattle.path_domain.specs.declared.listed.Domain.{Domain}
+use Rattle.fs_interpreter.specs.Meanings.{Valuation}
+use Rattle.fs_interpreter.specs.Places.{Listed}
+use Rattle.fs_interpreter.specs.States.{State, state_of}
+use Rattle.fs_interpreter.specs.Standing.{Stands, StandsFor}
+use Rattle.fs_interpreter.specs.declared.cells.Cells.{Cells}
+use Rattle.orders.specs.Relation.{Relation, comes}
+use Rattle.order_places.specs.Places.{is_in_order}
+use Rattle.sym_run.specs.Wires.{circuit_meanings}
+use Rattle.order_encode.specs.Asking.{AreTrees}
+use Rattle.order_encode.specs.Goals.{TellsTree, AreAllowed, EndApart}
+
+false_not_true : {P : Type 0} → false ≡ true → P
+false_not_true e = cc
+
+and_true : (a b : Bool) → (a && b) ≡ true → (a ≡ true) × (b ≡ true)
+and_true true true e = (refl, refl)
+and_true true false e = false_not_true e
+and_true false b e = false_not_true e
+
+true_and : (a b : Bool) → a ≡ true → b ≡ true → (a && b) ≡ true
+true_and a b e h = λ i. e i && h i
+
+pub if_ok : {X E : Type 0} (P Q : X → Type 0) (r : Result X E) → ((x : X) → P x → Q x) → IfOk r P → IfOk r Q
+if_ok P Q (Ok x) f h = f x h
+if_ok P Q (Err e) f h = tt
+
+pub not_is : {P : Type 0} (b : Bool) → (b ≡ true) ↔ P → (not b ≡ true) ↔ (P → ⊥)
+not_is true h = (λ e. false_not_true e, λ k. absurd (k (h.0 refl)))
+not_is false h = (λ e p. false_not_true (h.1 p), λ k. refl)
+
+-- both orders are allowed, and the place has a next one
+pub allowed_is : (order : Relation) (j last : ℕ) (left right : List ℕ) → last ≡ order.count - 1
+    → ((((is_in_order (comes order) order.count left && is_in_order (comes order) order.count right) && nat_lt j last)) ≡ true) ↔ AreAllowed order j left right
+allowed_is order j last left right e = (
+  (λ h.
+      let parts = and_true (is_in_order (comes order) order.count left && is_in_order (comes order) order.count right) (nat_lt j last) h in
+      let both = and_true (is_in_order (comes order) order.count left) (is_in_order (comes order) order.count right) parts.0 in
+      record { first = both.0; second = both.1; placed = subst (λ n. j < n) e (ltb-true j last parts.1) }),
+  (λ h. true_and _ _ (true_and _ _ h.first h.second) (lt-ltb j last (subst (λ n. j < n) (sym e) h.placed))),
+)
+
+-- the inputs tell a tree over the domain of which it holds, where the cells are well and it holds of what they stand for
+pub tells_is : {B : Type 0} (gates : List Gate) (d : Domain) (cells : Cells B Wire (List Wire)) (well : Wire) (P : Tree → Type 0) (v : Valuation) (e : Bool) → AreTrees gates d cells well
+    → ((t : Tree) → Stands d.table (state_of (circuit_meanings gates) v cells) t → (e ≡ true) ↔ P t)
+    → ((wire_value gates v well.0 && e) ≡ true) ↔ TellsTree d gates cells P v
+tells_is gates d cells well P v e trees holds = (
+  (λ h.
+      let parts = and_true (wire_value gates v well.0) e h in
+      let told = (trees.exact v).0 parts.0 in
+      record { tree = told.0; over = told.1; stands = told.2; held = (holds told.0 told.2).0 parts.1 }),
+  (λ k. true_and _ _ ((trees.exact v).1 (k.tree, k.over, k.stands)) ((holds k.tree k.stands).1 k.held)),
+)
+
+-- the cells are well, both orders are allowed, and they end differently
+pub apart_is : {B : Type 0} (gates : List Gate) (d : Domain) (cells : Cells B Wire (List Wire)) (well : Wire) (programs : List Program) (order : Relation) (j : ℕ) (left right : List ℕ) (v : Valuation) (a b : Bool) → AreTrees gates d cells well
+    → (a ≡ true) ↔ AreAllowed order j left right
+    → ((t : Tree) → Stands d.table (state_of (circuit_meanings gates) v cells) t → (b ≡ true) ↔ (outcome programs left t ≢ outcome programs right t))
+    → (((wire_value gates v well.0 && a) && b) ≡ true) ↔ TellsTree d gates cells (EndApart programs order j left right) v
+apart_is gates d cells well programs order j left right v a b trees allowed differ = (
+  (λ h. whole.0 (regroup (wire_value gates v well.0) ∙ h)),
+  (λ k. sym (regroup (wire_value gates v well.0)) ∙ whole.1 k),
+)
+  where
+    regroup : (w : Bool) → (w && (a && b)) ≡ ((w && a) && b)
+    regroup true = refl
+    regroup false = refl
+
+    whole : ((wire_value gates v well.0 && (a && b)) ≡ true) ↔ TellsTree d gates cells (EndApart programs order j left right) v
+    whole = tells_is gates d cells well (EndApart programs order j left right) v (a && b) trees (λ t h. (
+      (λ e. let parts = and_true a b e in record { allowed = allowed.0 parts.0; differ = (differ t h).0 parts.1 }),
+      (λ k. true_and a b (allowed.1 k.allowed) ((differ t h).1 k.differ)),
+    ))
+
+-- ---- one order
+
+-- no error is told exactly where the outcome is a tree
+pub ends_is : (table : Listed) (s : State) (o : Outcome) → StandsFor table s o → (not s.error ≡ true) ↔ IsSome o
+ends_is table s None h = ((λ e. false_not_true (sym (ap not h) ∙ e)), (λ k. absurd k))
+ends_is table s (Some t) h = ((λ e. tt), (λ k. ap not h.no_error))
+
+-- no error is told, and it isn't the same again, exactly where the outcome is a tree that f doesn't leave as it is
+pub changes_is : (table : Listed) (s : State) (f : Tree → Outcome) (o : Outcome) (same : Bool) → StandsFor table s o → (same ≡ true) ↔ (o ≡ and_then o f)
+    → ((not s.error && not same) ≡ true) ↔ ((u : Tree) × (o ≡ Some u) × (f u ≢ Some u))
+changes_is table s f None same h k = ((λ e. false_not_true (sym (ap (λ b. not b && not same) h) ∙ e)), (λ w. let none = w.1 in cc))
+changes_is table s f (Some t) same h k = (
+  (λ e.
+      let other = (not_is same k).0 ((and_true (not s.error) (not same) e).1) in
+      (t, refl, λ q. other (sym q))),
+  (λ w.
+      let is : t ≡ w.0 = got w.0 w.1 in
+      true_and (not s.error) (not same) (ap not h.no_error) ((not_is same k).1 (λ q. w.2 (subst (λ x. f x ≡ Some x) is (sym q))))),
+)
+  where
+    got : (u : Tree) → ◌≡◌ {A = Option Tree} (Some t) (Some u) → t ≡ u
+    got u e = cc

@@ -1,0 +1,40 @@
+use Rattle.std.proofs.Common.{◌≡◌, ◌-◌, List, nat_lt, ap, subst, sym, ◌∙◌}
+use Rattle.std.specs.Prelude.{◌&&◌}
+use Rattle.bool_circuit.specs.Gates.{wire_value}
+use Rattle.fs_interpreter.proofs.Frames.{grows_on}
+use Rattle.orders.specs.Relation.{comes}
+use Rattle.order_places.specs.Places.{is_in_order}
+use Rattle.sym_run.specs.Wires.{circuit_meanings}
+use Rattle.sym_run.proofs.CircuitLaws.{circuit_grows}
+use Rattle.order_circuit.specs.Codes.{node, nodes}
+use Rattle.order_circuit.proofs.RunLaws.{nodes_stay}
+use Rattle.order_encode.proofs.GoalLaws.{allowed_is, if_ok}
+use Rattle.order_encode.proofs.goal.allowed.Goals as goal
+
+pub returns-in_ok-placed-clause-exact : goal.returns-in_ok-placed-clause-exact
+returns-in_ok-placed-clause-exact c = if_ok _ _ c.and-2.result (λ w is v.
+    let order = c.args.order.now in
+    let f = comes order in
+    let n = order.count in
+    let g0 = c.args.sym.now in
+    let m0 = circuit_meanings g0 in
+    let m1 = circuit_meanings c.in_order.new.sym in
+    let m2 = circuit_meanings c.in_order-2.new.sym in
+    let m3 = circuit_meanings c.and.new.self in
+    let m4 = circuit_meanings c.is_below.new.sym in
+    let g01 = c.in_order.ensures.grows in
+    let g12 = c.in_order-2.ensures.grows in
+    let g23 = c.and.ensures.grows in
+    let g34 = circuit_grows c.and.new.self c.is_below.new.sym c.is_below.ensures.grows in
+    let g03 = grows_on m0 m2 m3 (grows_on m0 m1 m2 g01 g12) g23 in
+    let left = nodes g0 v c.args.left.now in
+    let right = nodes g0 v c.args.right.now in
+    let j = node g0 v c.args.place.now in
+    let last = c.saturating_sub-last.result in
+    let first = g12.bit c.in_ok-first.first c.in_ok-first.ensures.gives.owned v ∙ c.in_ok-first.ensures.gives.means v in
+    let second = c.in_ok-second.ensures.gives.means v ∙ ap (is_in_order f n) (nodes_stay g0 c.in_order.new.sym c.args.right.now g01 c.requires.right v) in
+    let both = g34.bit c.in_ok-both.both c.in_ok-both.ensures.gives.owned v ∙ c.in_ok-both.ensures.gives.means v ∙ (λ i. first i && second i) in
+    let placed = c.in_ok-placed.ensures.value v ∙ ap (λ k. nat_lt k last) (g03.code c.args.place.now c.requires.place v) in
+    let told = is.means v ∙ (λ i. both i && placed i) in
+    let exact = allowed_is order j last left right c.saturating_sub-last.ensures in
+    ((λ e. exact.0 (sym told ∙ e)), (λ e. told ∙ exact.1 e))) c.and-2.ensures.gives

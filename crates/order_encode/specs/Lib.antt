@@ -1,0 +1,4 @@
+pub mod Goals
+pub mod Asking
+pub mod Asked
+pub mod Witnesses

@@ -1,0 +1,84 @@
+//! The questions about the first extension.
+
+ghost use Rattle.std.specs.Prelude.{◌≡◌, ◌↔◌, ℕ, Bool, map, length, IfOk};
+ghost use Rattle.cnf.specs.Encoding.{inputs_in};
+ghost use Rattle.cnf.specs.Formulas.{IsSatisfiable, Satisfies};
+ghost use Rattle.fs_lang.specs.Meaning.{program_of, programs_in};
+ghost use Rattle.fs_interpreter.specs.Places.{CoversSteps};
+ghost use Rattle.order_encode.specs.Asked.{Shows};
+ghost use Rattle.order_encode.specs.Witnesses.{HasSecondChange, ShowsChange, HasEnd, ShowsEnd};
+ghost use Rattle.order_encode.specs.declared.witness.Witness.{Witness};
+
+use crate::again::{goal_of_change, goal_of_end};
+use crate::asks::Asks;
+use crate::question::{Question, pose};
+use fs_interpreter::states;
+use fs_lang::Program;
+use orders::Order;
+use path_domain::Domain;
+use rh_base::NoMemory;
+use std::alloc::Global;
+use sym_run::{Sym, any_tree};
+
+/// Whether the first extension ends, from a tree over the domain, in a tree that a second run doesn't leave as it is.
+pub fn ask_twice(
+    alloc: Global,
+    programs: &[Program],
+    order: &Order,
+    domain: &Domain,
+) -> Result<Question, NoMemory>
+    requires nodes { length programs.now ≡ order.now.count }
+    requires covers { CoversSteps domain.now.table (programs_in programs.now) }
+    ensures exact { IfOk result (λ q. IsSatisfiable q.formula ↔ HasSecondChange (map program_of programs.now) order.now domain.now) }
+    ensures models { IfOk result (λ q. (v : ℕ → Bool) → Satisfies v q.formula.clauses → (w : Witness) → Shows q (inputs_in v) w → ShowsChange (map program_of programs.now) order.now domain.now w) }
+{
+    states();
+    let first = order.first_extension()?;
+    let mut sym = Sym::new(alloc)?;
+    let (cells, well) = any_tree(alloc, &mut sym, domain)?;
+    let goal = goal_of_change(
+        alloc,
+        &mut sym,
+        domain,
+        programs,
+        first.as_slice(),
+        &cells,
+        well,
+    )?;
+    pose(
+        alloc,
+        sym,
+        cells,
+        Asks::Twice { order: first },
+        goal,
+        domain,
+    )
+}
+
+/// Whether the first extension ends in a tree from some tree over the domain.
+pub fn ask_some(
+    alloc: Global,
+    programs: &[Program],
+    order: &Order,
+    domain: &Domain,
+) -> Result<Question, NoMemory>
+    requires nodes { length programs.now ≡ order.now.count }
+    requires covers { CoversSteps domain.now.table (programs_in programs.now) }
+    ensures exact { IfOk result (λ q. IsSatisfiable q.formula ↔ HasEnd (map program_of programs.now) order.now domain.now) }
+    ensures models { IfOk result (λ q. (v : ℕ → Bool) → Satisfies v q.formula.clauses → (w : Witness) → Shows q (inputs_in v) w → ShowsEnd (map program_of programs.now) order.now domain.now w) }
+{
+    states();
+    let first = order.first_extension()?;
+    let mut sym = Sym::new(alloc)?;
+    let (cells, well) = any_tree(alloc, &mut sym, domain)?;
+    let goal = goal_of_end(
+        alloc,
+        &mut sym,
+        domain,
+        programs,
+        first.as_slice(),
+        &cells,
+        well,
+    )?;
+    pose(alloc, sym, cells, Asks::Ends { order: first }, goal, domain)
+}

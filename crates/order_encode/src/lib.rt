@@ -1,0 +1,21 @@
+//! Questions about an order of programs as formulas: do two allowed orders end differently, does a second run change what the
+//! first one left, does an order end in a tree, each from a tree over the domain?
+#![tactic(auto)]
+
+mod again;
+mod asking;
+mod asks;
+mod ends;
+mod extension;
+mod goal;
+mod known;
+mod order;
+mod question;
+mod read;
+mod table;
+mod witness;
+
+pub use extension::{ask_some, ask_twice};
+pub use order::ask_order;
+pub use question::Question;
+pub use witness::Witness;

@@ -1,0 +1,59 @@
+//! The question of order.
+
+ghost use Rattle.std.specs.Prelude.{◌≡◌, ◌↔◌, ℕ, Bool, map, length, IfOk};
+ghost use Rattle.cnf.specs.Encoding.{inputs_in};
+ghost use Rattle.cnf.specs.Formulas.{IsSatisfiable, Satisfies};
+ghost use Rattle.fs_lang.specs.Meaning.{program_of, programs_in};
+ghost use Rattle.fs_interpreter.specs.Places.{CoversSteps};
+ghost use Rattle.orders.specs.Relation.{Comes};
+ghost use Rattle.order_encode.specs.Asked.{Shows};
+ghost use Rattle.order_encode.specs.Witnesses.{HaveDifferentOutcomes, ShowsDifference};
+ghost use Rattle.order_encode.specs.declared.witness.Witness.{Witness};
+
+use crate::asking::{Asking, asking};
+use crate::asks::Asks;
+use crate::goal::goal;
+use crate::question::{Question, pose};
+use fs_lang::Program;
+use fs_semantics::neighbours;
+use order_places::{allowed_orders, exchanges};
+use orders::Order;
+use path_domain::Domain;
+use rh_base::NoMemory;
+use std::alloc::Global;
+use sym_run::Sym;
+
+/// Whether two allowed orders have different outcomes from a tree over the domain. The inputs tell one order and a place in
+/// it; the other order is the one with the nodes at that place and the next exchanged.
+pub fn ask_order(
+    alloc: Global,
+    programs: &[Program],
+    order: &Order,
+    domain: &Domain,
+) -> Result<Question, NoMemory>
+    requires nodes { length programs.now ≡ order.now.count }
+    requires covers { CoversSteps domain.now.table (programs_in programs.now) }
+    ensures exact { IfOk result (λ q. IsSatisfiable q.formula ↔ HaveDifferentOutcomes (map program_of programs.now) (Comes order.now) domain.now) }
+    ensures models { IfOk result (λ q. (v : ℕ → Bool) → Satisfies v q.formula.clauses → (w : Witness) → Shows q (inputs_in v) w → ShowsDifference (map program_of programs.now) (Comes order.now) domain.now w) }
+{
+    allowed_orders();
+    exchanges();
+    neighbours();
+    let mut sym = Sym::new(alloc)?;
+    let inputs = asking(alloc, &mut sym, domain, order.count())?;
+    let asked = goal(alloc, &mut sym, domain, programs, order, &inputs)?;
+    let Asking {
+        cells,
+        codes,
+        place,
+        ..
+    } = inputs;
+    pose(
+        alloc,
+        sym,
+        cells,
+        Asks::Orders { codes, place },
+        asked,
+        domain,
+    )
+}

@@ -1,0 +1,87 @@
+//! A formula with what is needed to read its models.
+
+ghost use Rattle.std.specs.Prelude.{◌≡◌, ◌<◌, true, length, IfOk};
+ghost use Rattle.bool_circuit.specs.Gates.{wire_value};
+ghost use Rattle.cnf.specs.Encoding.{StatesGoal};
+ghost use Rattle.fs_interpreter.specs.Meanings.{Valuation};
+ghost use Rattle.fs_interpreter.specs.States.{AreCells};
+ghost use Rattle.sym_run.specs.Wires.{circuit_meanings};
+ghost use Rattle.order_encode.specs.Asked.{AreWithin, IsReadable};
+
+use crate::asks::Asks;
+use crate::table::copy_domain;
+use bool_circuit::Wire;
+use cnf::{Cnf, from_circuit};
+use fs_interpreter::Cells;
+use path_domain::Domain;
+use rh_base::NoMemory;
+use std::alloc::Global;
+use std::marker::Model;
+use sym_run::Sym;
+
+/// A formula with the circuit that it states, so that its models can be read.
+#[derive(Drop)]
+pub struct Question {
+    pub(crate) sym: Sym,
+    pub(crate) cells: Cells<Sym>,
+    pub(crate) asks: Asks,
+    pub(crate) domain: Domain,
+    pub(crate) cnf: Cnf,
+}
+
+impl Model for Question {
+    ghost use Rattle.std.specs.Prelude.{List};
+    ghost use Rattle.order_encode.specs.Asked.{Asked, IsAsked};
+    ghost use Rattle.bool_circuit.specs.declared.gate.Gate.{Gate};
+
+    ghost Value = { Asked (List Gate) };
+
+    ghost view = { λ q. record { gates = q.sym; table = q.domain.table; cells = q.cells; asks = q.asks; formula = q.cnf } };
+
+    ghost invariant = { λ q. IsAsked (record { gates = q.sym; table = q.domain.table; cells = q.cells; asks = q.asks; formula = q.cnf }) };
+}
+
+impl Question {
+    /// The formula.
+    pub fn cnf(&self) -> &Cnf
+        ensures { result.now ≡ self.now.formula }
+    {
+        &self.cnf
+    }
+
+    /// The formula, without what is needed to read its models.
+    pub fn into_cnf(self) -> Cnf
+        ensures { result ≡ self.formula }
+    {
+        let Question { cnf, .. } = self;
+        cnf
+    }
+}
+
+/// Whether the goal can be true. Each valuation that makes it true tells a tree, and small numbers.
+pub(crate) fn pose(
+    alloc: Global,
+    sym: Sym,
+    cells: Cells<Sym>,
+    asks: Asks,
+    goal: Wire,
+    domain: &Domain,
+) -> Result<Question, NoMemory>
+    requires goal { goal.0 < length sym }
+    requires cells { AreCells (circuit_meanings sym) cells }
+    requires places { length cells.present ≡ length domain.now.table.paths }
+    requires codes { AreWithin (length sym) asks }
+    requires readable { (v : Valuation) → wire_value sym v goal.0 ≡ true → IsReadable sym domain.now.table cells asks v }
+    ensures states { IfOk result (λ q. StatesGoal sym goal.0 q.formula) }
+    ensures holds { IfOk result (λ q. q ≡ record { gates = sym; table = domain.now.table; cells = cells; asks = asks; formula = q.formula }) }
+{
+    let cnf = from_circuit(alloc, sym.circuit(), goal)?;
+    let domain = copy_domain(alloc, domain)?;
+    Ok(Question {
+        sym,
+        cells,
+        asks,
+        domain,
+        cnf,
+    })
+}

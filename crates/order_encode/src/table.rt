@@ -1,0 +1,51 @@
+//! A domain once more.
+
+ghost use Rattle.std.specs.Prelude.{◌≡◌, IfOk, OnOk};
+ghost use Rattle.fs_interpreter.specs.Places.{with_path, with_content};
+
+use fs_interpreter::{Table, searches};
+use path_domain::Domain;
+use rh_base::{NoMemory, Seq};
+use std::alloc::Global;
+
+fn copy_paths(alloc: Global, table: &Table, into: &mut Table) -> Result<(), NoMemory>
+    requires paths { into.old.paths ≡ [] }
+    requires contents { into.old.contents ≡ [] }
+    ensures paths { OnOk result (into.new.paths ≡ table.now.paths) }
+    ensures contents { OnOk result (into.new.contents ≡ []) }
+{
+    table.is_table();
+    searches();
+    for i in 0..table.path_count() {
+        let path = table.path(i).copy(alloc)?;
+        into.add_path(alloc, path)?;
+    }
+    Ok(())
+}
+
+fn copy_contents(alloc: Global, table: &Table, into: &mut Table) -> Result<(), NoMemory>
+    requires { into.old.contents ≡ [] }
+    ensures paths { OnOk result (into.new.paths ≡ into.old.paths) }
+    ensures contents { OnOk result (into.new.contents ≡ table.now.contents) }
+{
+    table.is_table();
+    searches();
+    for n in 0..table.content_count() {
+        let content = table.content(n).copy(alloc)?;
+        into.add_content(alloc, content)?;
+    }
+    Ok(())
+}
+
+/// The table of a domain once more; a question asks nothing of the fresh children.
+pub(crate) fn copy_domain(alloc: Global, domain: &Domain) -> Result<Domain, NoMemory>
+    ensures { IfOk result (λ copy. copy.table ≡ domain.now.table) }
+{
+    let mut table = Table::new(alloc)?;
+    copy_paths(alloc, &domain.table, &mut table)?;
+    copy_contents(alloc, &domain.table, &mut table)?;
+    Ok(Domain {
+        table,
+        fresh: Seq::new(alloc),
+    })
+}
