@@ -1,7 +1,7 @@
 -- Runs of the programs that codes tell.
 use Rattle.std.proofs.Common.{◌≡◌, ◌⊎◌, inl, inr, ℕ, zero, suc, ◌+◌, ◌<◌, ◌≤◌, ◌==◌, Bool, true, false, cond, List, [], ◌∷◌, ◌++◌, drop, map, length, get_or, Option, Some, None, slice_get, refl, sym, ap, subst, ◌∙◌, arith, eqb-true, nat_lt, ltb-true}
 use Rattle.std.proofs.lemmas.Bool.{eqb-false, ltb-false, lt-ltb, le-ltb}
-use Rattle.std.specs.Prelude.{slice_index_or}
+use Rattle.std.specs.Prelude.{slice_index_or, Result, Ok, Err, IfOk}
 use Rattle.std.specs.List.{AllByRecursion}
 use Rattle.bool_circuit.specs.declared.gate.Wire.{Wire}
 use Rattle.bool_circuit.specs.declared.gate.Gate.{Gate}
@@ -34,29 +34,46 @@ pub nodes_more : (gates : List Gate) (v : Valuation) (rows : List (List Wire)) (
 nodes_more gates v [] ws = refl
 nodes_more gates v (r ∷ rows) ws = ap (λ ns. node gates v r ∷ ns) (nodes_more gates v rows ws)
 
-pub row_at : (gates : List Gate) (rows : List (List Wire)) (i : ℕ) → AreRows gates rows → i < length rows → AreWires gates (get_or rows i [])
-row_at gates [] i h l = absurd (omega (arith, l))
-row_at gates (r ∷ rows) zero h l = h.0
-row_at gates (r ∷ rows) (suc i) h l = row_at gates rows i h.1 (omega (arith, l))
+pub row_at : (gates : List Gate) (rows : List (List Wire)) (i : ℕ) (code : List Wire) → code ≡ get_or rows i code → AreRows gates rows → i < length rows → AreWires gates code
+row_at gates [] i code e h l = absurd (omega (arith, l))
+row_at gates (r ∷ rows) zero code e h l = subst (AreWires gates) (sym e) h.0
+row_at gates (r ∷ rows) (suc i) code e h l = row_at gates rows i code e h.1 (omega (arith, l))
 
-pub nodes_from : (gates : List Gate) (v : Valuation) (rows : List (List Wire)) (i : ℕ) → i < length rows → nodes gates v (drop i rows) ≡ node gates v (get_or rows i []) ∷ nodes gates v (drop (i + 1) rows)
-nodes_from gates v [] i l = absurd (omega (arith, l))
-nodes_from gates v (r ∷ rows) zero l = refl
-nodes_from gates v (r ∷ rows) (suc i) l = nodes_from gates v rows i (omega (arith, l))
+pub row_same : (rows : List (List Wire)) (i : ℕ) (code other : List Wire) → code ≡ get_or rows i code → other ≡ get_or rows i other → i < length rows → other ≡ code
+row_same [] i code other e f l = absurd (omega (arith, l))
+row_same (r ∷ rows) zero code other e f l = f ∙ sym e
+row_same (r ∷ rows) (suc i) code other e f l = row_same rows i code other e f (omega (arith, l))
+
+pub nodes_from : (gates : List Gate) (v : Valuation) (rows : List (List Wire)) (i : ℕ) (code : List Wire) → code ≡ get_or rows i code → i < length rows → nodes gates v (drop i rows) ≡ node gates v code ∷ nodes gates v (drop (i + 1) rows)
+nodes_from gates v [] i code e l = absurd (omega (arith, l))
+nodes_from gates v (r ∷ rows) zero code e l = ap (λ ws. node gates v ws ∷ nodes gates v rows) (sym e)
+nodes_from gates v (r ∷ rows) (suc i) code e l =
+    let next : suc (i + 1) ≡ suc i + 1 = omega arith in
+    nodes_from gates v rows i code e (omega (arith, l)) ∙ ap (λ k. node gates v code ∷ nodes gates v (drop k (r ∷ rows))) next
+
+pub none_behind : (rows : List (List Wire)) (i : ℕ) → length rows ≤ i → drop i rows ≡ []
+none_behind [] zero h = refl
+none_behind [] (suc i) h = refl
+none_behind (r ∷ rows) zero h = absurd (omega (arith, h))
+none_behind (r ∷ rows) (suc i) h = none_behind rows i (omega (arith, h))
+
+pub no_more : (es : List Steps) (o : Outcome) → and_then o (outcome es []) ≡ o
+no_more es None = refl
+no_more es (Some t) = refl
 
 pub after : (o : Outcome) (f : Tree → Outcome) (g : Tree → Outcome) → and_then (and_then o f) g ≡ and_then o (λ t. and_then (f t) g)
 after None f g = refl
 after (Some t) f g = refl
 
-pub covers_at : (table : Listed) (programs : List Program) (i : ℕ) (p : Program) → CoversSteps table (programs_in programs) → slice_get programs i ≡ Some p → Covers table (program_of p)
-covers_at table [] i p h e = cc
-covers_at table (q ∷ programs) zero p h e = let same : q ≡ p = cc in subst (λ r. Covers table (program_of r)) same h.0
-covers_at table (q ∷ programs) (suc i) p h e = covers_at table programs i p h.1 e
+pub covers_at : (table : Listed) (programs : List Program) (i : ℕ) (p : Program) → CoversSteps table (programs_in programs) → p ≡ get_or programs i p → i < length programs → Covers table (program_of p)
+covers_at table [] i p h e l = absurd (omega (arith, l))
+covers_at table (q ∷ programs) zero p h e l = subst (λ r. Covers table (program_of r)) (sym e) h.0
+covers_at table (q ∷ programs) (suc i) p h e l = covers_at table programs i p h.1 e (omega (arith, l))
 
-pub program_at : (programs : List Program) (i : ℕ) (p : Program) → slice_get programs i ≡ Some p → slice_index_or (map program_of programs) i Id ≡ program_of p
-program_at [] i p e = cc
-program_at (q ∷ programs) zero p e = cc
-program_at (q ∷ programs) (suc i) p e = program_at programs i p e
+pub program_at : (programs : List Program) (i : ℕ) (p : Program) → p ≡ get_or programs i p → i < length programs → slice_index_or (map program_of programs) i Id ≡ program_of p
+program_at [] i p e l = absurd (omega (arith, l))
+program_at (q ∷ programs) zero p e l = ap program_of (sym e)
+program_at (q ∷ programs) (suc i) p e l = program_at programs i p e (omega (arith, l))
 
 pub no_program : (programs : List Program) (i : ℕ) → length programs ≤ i → slice_index_or (map program_of programs) i Id ≡ Id
 no_program [] i h = refl
@@ -100,3 +117,7 @@ run_end table programs n o s h = elim (nat_lt n (length programs)) as (λ b. nat
 -- no program is done yet
 pub run_start : (table : Listed) (es : List Steps) (n : ℕ) (o : Outcome) (s : State) → StandsFor table s o → StandsFor table s (cond (nat_lt n 0) (and_then o (run (slice_index_or es n Id))) o)
 run_start table es n o s h = subst (λ b. StandsFor table s (cond b (and_then o (run (slice_index_or es n Id))) o)) (sym (le-ltb n 0 (omega arith))) h
+
+pub if_ok : {X E : Type 0} (P Q : X → Type 0) (r : Result X E) → ((x : X) → P x → Q x) → IfOk r P → IfOk r Q
+if_ok P Q (Ok x) f h = f x h
+if_ok P Q (Err e) f h = tt

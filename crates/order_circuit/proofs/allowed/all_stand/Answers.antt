@@ -32,10 +32,31 @@ loop-i-preserved c =
         owned = c.in_ok-all-2.ensures.gives.owned;
         means = λ v. c.in_ok-all-2.ensures.gives.means v
             ∙ (λ t. (g12.bit c.loop-i.all before.all.owned v ∙ before.all.means v) t
-            && (c.in_ok-one.ensures.means v ∙ (λ s. cond (i == before.grows.code code c.requires.code v s) (not (bit_stays m0 m1 taken before.grows c.requires.taken v i s) && all_taken f (λ k. bit_stays m0 m1 taken before.grows c.requires.taken v k s) i count) true)) t)
+            && (c.in_ok-one.ensures.gives.means v ∙ (λ s. cond (i == before.grows.code code c.requires.code v s) (not (bit_stays m0 m1 taken before.grows c.requires.taken v i s) && all_taken f (λ k. bit_stays m0 m1 taken before.grows c.requires.taken v k s) i count) true)) t)
             ∙ ap (all_stand f count (bit_at m0 v taken) (node c.args.sym.now v code)) (next i);
       };
     }
   where
     next : (n : ℕ) → suc n ≡ n + 1
     next n = omega arith
+
+pub loop-i-init : goal.loop-i-init
+loop-i-init c =
+    let m0 = circuit_meanings c.args.sym.now in
+    let m1 = circuit_meanings c.constant.new.self in
+    record {
+      taken = own_later m0 m1 c.args.taken.now c.constant.ensures.grows c.requires.taken;
+      code = c.constant.ensures.grows.owns_code c.args.code.now c.requires.code;
+      all = c.in_ok-all.ensures.gives;
+      grows = c.constant.ensures.grows;
+    }
+
+pub returns-in_err-one-clause-grows : goal.returns-in_err-one-clause-grows
+returns-in_err-one-clause-grows c = grows_on (circuit_meanings c.args.sym.now) (circuit_meanings c.loop-i.sym) (circuit_meanings c.may_stand.new.sym) c.loop-i.invariant.grows c.may_stand.ensures.grows
+
+pub returns-in_err-all-2-clause-grows : goal.returns-in_err-all-2-clause-grows
+returns-in_err-all-2-clause-grows c =
+    let m0 = circuit_meanings c.args.sym.now in
+    let m1 = circuit_meanings c.loop-i.sym in
+    let m2 = circuit_meanings c.may_stand.new.sym in
+    grows_on m0 m2 (circuit_meanings c.and.new.self) (grows_on m0 m1 m2 c.loop-i.invariant.grows c.may_stand.ensures.grows) c.and.ensures.grows

@@ -22,8 +22,8 @@ loop-a-preserved c =
       taken = own_later m1 m2 taken g12 before.taken;
       grows = grows_on m0 m1 m2 before.grows g12;
       all = record {
-        owned = c.in_ok-all-2.ensures.owned;
-        means = λ v. c.in_ok-all-2.ensures.means v
+        owned = c.in_ok-all-2.ensures.gives.owned;
+        means = λ v. c.in_ok-all-2.ensures.gives.means v
             ∙ (λ t. before.all.means v t && (not (comes c.args.order.now a i) || bit_stays m0 m1 taken before.grows c.requires.taken v a t))
             ∙ ap (all_taken (comes c.args.order.now) (bit_at m0 v taken) i) (next a);
       };
@@ -31,3 +31,16 @@ loop-a-preserved c =
   where
     next : (n : ℕ) → suc n ≡ n + 1
     next n = omega arith
+
+pub loop-a-init : goal.loop-a-init
+loop-a-init c =
+    let m0 = circuit_meanings c.args.sym.now in
+    let m1 = circuit_meanings c.constant.new.self in
+    record {
+      taken = own_later m0 m1 c.args.taken.now c.constant.ensures.grows c.requires.taken;
+      all = c.in_ok-all.ensures.gives;
+      grows = c.constant.ensures.grows;
+    }
+
+pub returns-in_err-all-2-clause-grows : goal.returns-in_err-all-2-clause-grows
+returns-in_err-all-2-clause-grows c = grows_on (circuit_meanings c.args.sym.now) (circuit_meanings c.loop-a.sym) (circuit_meanings c.and_taken.new.sym) c.loop-a.invariant.grows c.and_taken.ensures.grows

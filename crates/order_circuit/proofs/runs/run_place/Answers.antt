@@ -1,6 +1,6 @@
-use Rattle.std.proofs.Common.{◌≡◌, ◌==◌, ◌+◌, ◌<◌, length, map, get_or, sym, ap, subst, ◌∙◌, arith}
-use Rattle.std.proofs.lemmas.Option.{slice_get_read}
-use Rattle.fs_semantics.specs.Programs.{and_then, run}
+use Rattle.std.proofs.Common.{◌≡◌, ◌==◌, ◌+◌, ◌<◌, length, map, cond, nat_lt, sym, ap, subst, ◌∙◌, arith}
+use Rattle.std.specs.Prelude.{slice_index_or}
+use Rattle.fs_semantics.specs.Programs.{Id, and_then, run}
 use Rattle.fs_lang.specs.Meaning.{program_of}
 use Rattle.fs_interpreter.specs.States.{State, state_of}
 use Rattle.fs_interpreter.specs.Standing.{StandsFor}
@@ -31,7 +31,7 @@ loop-i-preserved c =
     let code = c.args.code.now in
     let i = c.loop-i.i in
     let g02 = grows_on m0 m1 m2 before.grows c.tells.ensures.grows in
-    let at = slice_get_read programs (length programs) i c.index-programs-i.result.now (sym c.len.ensures) c.loop-i-test.true c.index-programs-i.is in
+    let program = c.index-programs-i.result in
     let ran = c.in_ok-made-2.ensures.ran in
     let stayed = c.in_ok-made-2.ensures.stayed in
     record {
@@ -42,11 +42,39 @@ loop-i-preserved c =
           let n = node c.args.sym.now v code in
           let told = c.in_ok-when.ensures.value v ∙ ap (λ k. i == k) (before.grows.code code c.requires.code v) in
           run_step table (map program_of programs) i n o (state_of m1 v c.loop-i.made) (state_of m3 v c.in_ok-made-2.made) (before.stands v o h)
-          (λ e. subst (λ p. StandsFor table (state_of m3 v c.in_ok-made-2.made) (and_then o (run p))) (sym (program_at programs i c.index-programs-i.result.now at))
+          (λ e. subst (λ p. StandsFor table (state_of m3 v c.in_ok-made-2.made) (and_then o (run p))) (sym (program_at programs i program c.index-programs-i.is c.loop-i-test.true))
           (ran v o (told ∙ e) (subst (λ (s : State). StandsFor table s o) (sym (state_keeps m0 m2 cells g02 c.requires.cells v)) h)))
           (λ e. stayed v (told ∙ e) ∙ state_keeps m1 m2 c.loop-i.made c.tells.ensures.grows before.cells v);
     }
 
+pub run_one-requires-clause-covers : goal.run_one-requires-clause-covers
+run_one-requires-clause-covers c = covers_at c.args.domain.now.table c.args.programs.now c.loop-i.i c.index-programs-i.result c.requires.covers c.index-programs-i.is c.loop-i-test.true
+
 pub returns-clause-stands : goal.returns-clause-stands
-returns-clause-stands c = λ v o h. run_end c.args.domain.now.table c.args.programs.now (node c.args.sym.now v c.args.code.now) o _
-    (subst (λ k. StandsFor c.args.domain.now.table (state_of (circuit_meanings c.loop-i.sym) v c.loop-i.made) _) (omega arith) (c.loop-i.invariant.stands v o h))
+returns-clause-stands c = λ v o h.
+    let table = c.args.domain.now.table in
+    let programs = c.args.programs.now in
+    let n = node c.args.sym.now v c.args.code.now in
+    let all : c.loop-i.i ≡ length programs = omega arith in
+    run_end table programs n o (state_of (circuit_meanings c.loop-i.sym) v c.loop-i.made)
+    (subst (λ k. StandsFor table (state_of (circuit_meanings c.loop-i.sym) v c.loop-i.made) (cond (nat_lt n k) (and_then o (run (slice_index_or (map program_of programs) n Id))) o)) all (c.loop-i.invariant.stands v o h))
+
+pub returns-in_err-when-clause-grows : goal.returns-in_err-when-clause-grows
+returns-in_err-when-clause-grows c = grows_on (circuit_meanings c.args.sym.now) (circuit_meanings c.loop-i.sym) (circuit_meanings c.tells.new.sym) c.loop-i.invariant.grows c.tells.ensures.grows
+
+pub run_one-requires-clause-cells : goal.run_one-requires-clause-cells
+run_one-requires-clause-cells c =
+    let m0 = circuit_meanings c.args.sym.now in
+    let m1 = circuit_meanings c.loop-i.sym in
+    let m2 = circuit_meanings c.tells.new.sym in
+    cells_stay m0 m2 c.args.cells.now (grows_on m0 m1 m2 c.loop-i.invariant.grows c.tells.ensures.grows) c.requires.cells
+
+pub run_one-requires-clause-other : goal.run_one-requires-clause-other
+run_one-requires-clause-other c = cells_stay (circuit_meanings c.loop-i.sym) (circuit_meanings c.tells.new.sym) c.loop-i.made c.tells.ensures.grows c.loop-i.invariant.cells
+
+pub returns-in_err-made-2-clause-grows : goal.returns-in_err-made-2-clause-grows
+returns-in_err-made-2-clause-grows c =
+    let m0 = circuit_meanings c.args.sym.now in
+    let m1 = circuit_meanings c.loop-i.sym in
+    let m2 = circuit_meanings c.tells.new.sym in
+    grows_on m0 m2 (circuit_meanings c.run_one.new.sym) (grows_on m0 m1 m2 c.loop-i.invariant.grows c.tells.ensures.grows) c.run_one.ensures.grows
