@@ -20,6 +20,7 @@ use Rattle.sym_run.specs.Trees.{IsTreeOver}
 use Rattle.sym_run.proofs.CircuitLaws.{wires_stay, number_stays, circuit_grows}
 use Rattle.order_circuit.specs.Codes.{node, nodes, AreRows}
 use Rattle.order_circuit.proofs.RunLaws.{rows_stay, nodes_stay}
+use Rattle.order_encode.proofs.KnownLaws.{node_below}
 
 -- ---- inputs are never fewer
 
@@ -43,11 +44,6 @@ nodes_are gates v [] (k ∷ order) long h = absurd (omega (arith, long))
 nodes_are gates v (ws ∷ rows) [] long h = absurd (omega (arith, long))
 nodes_are gates v (ws ∷ rows) (k ∷ order) long h = λ x. h 0 ws refl x ∷ nodes_are gates v rows order (omega (arith, long)) (λ i. h (suc i)) x
 
-below_at : (n : ℕ) (order : List ℕ) (i : ℕ) → AllByRecursion (λ k. k < n) order → i < length order → get_or order i 0 < n
-below_at n [] i all h = absurd (omega (arith, h))
-below_at n (k ∷ order) zero all h = all.0
-below_at n (k ∷ order) (suc i) all h = below_at n order i all.1 (omega (arith, h))
-
 -- ---- the inputs together
 
 -- a place, an order and a tree are chosen one after the other, each without changing what was chosen before
@@ -62,7 +58,7 @@ pub asks_every : {B : Type 0} (d : Domain) (g0 g1 g2 g3 : List Gate) (cells : Ce
     → (v : Valuation) × Stands d.table (state_of (circuit_meanings g3) v cells) t × (nodes g3 v codes ≡ order) × (node g3 v place ≡ j)
 asks_every d g0 g1 g2 g3 cells codes place n width g01 g12 g23 own rows long wide place_every place_same codes_every codes_same tree_every t over order is_long below j low =
     let one = place_every (λ i. false) j (omega (arith, low, wide)) in
-    let two = codes_every one.0 (λ i. get_or order i 0) (λ i l. let under = below_at n order i below (omega (arith, l, is_long)) in omega (arith, under, wide)) in
+    let two = codes_every one.0 (λ i. get_or order i 0) (λ i l. let under = node_below n order i below (omega (arith, l, is_long)) in omega (arith, under, wide)) in
     let three = tree_every two.0 t over in
     let v = three.0 in
     let fewer = no_fewer g1 g2 g12 in

@@ -29,11 +29,10 @@ use Rattle.order_encode.proofs.WitnessLaws.{Long, first_same}
 use Rattle.order_encode.proofs.OrderLaws.{OneOutcome, one_tree}
 
 module _ {B : Type 0} (d : Domain) (old new : List Gate) (cells : Cells B Wire (List Wire)) (well goal : Wire) (P : Tree → Type 0)
-  (trees : AreTrees old d cells well) (g : Grows (circuit_meanings old) (circuit_meanings new))
-  (exact : (v : Valuation) → (wire_value new v goal.0 ≡ true) ↔ TellsTree d old cells P v) where
-
+    (trees : AreTrees old d cells well) (g : Grows (circuit_meanings old) (circuit_meanings new))
+    (exact : (v : Valuation) → (wire_value new v goal.0 ≡ true) ↔ TellsTree d old cells P v) where
   keeps : (v : Valuation) → state_of (circuit_meanings new) v cells ≡ state_of (circuit_meanings old) v cells
-  keeps v = state_keeps (circuit_meanings old) (circuit_meanings new) cells g trees.cells v
+  keeps v = state_keeps (circuit_meanings old) (circuit_meanings new) cells g trees.are_cells v
 
   pub told_stands : (v : Valuation) → (told : TellsTree d old cells P v) → Stands d.table (state_of (circuit_meanings new) v cells) told.tree
   told_stands v told = subst (λ (s : State). Stands d.table s told.tree) (sym (keeps v)) told.stands
@@ -43,9 +42,9 @@ module _ {B : Type 0} (d : Domain) (old new : List Gate) (cells : Cells B Wire (
   tree_exact f every states = (
     (λ sat. let told = (exact (inputs_in sat.0)).0 (states.models sat.0 sat.1) in (told.tree, told.over, told.held)),
     (λ h.
-      let told = every h.0 h.1 in
-      let model = states.inputs told.0 ((exact told.0).1 record { tree = h.0; over = h.1; stands = told.1; held = h.2 }) in
-      (model.0, model.2))
+        let told = every h.0 h.1 in
+        let model = states.inputs told.0 ((exact told.0).1 record { tree = h.0; over = h.1; stands = told.1; held = h.2 }) in
+        (model.0, model.2)),
   )
 
   pub tree_models : OneOutcome → (f : Formula) → StatesGoal new goal.0 f → (v : ℕ → Bool) → Satisfies v f.clauses → (t : Tree) → Stands d.table (state_of (circuit_meanings new) (inputs_in v) cells) t
@@ -75,9 +74,9 @@ pub change_exact : Long → (programs : List Program) (order : Relation) (d : Do
 change_exact long programs order d first S same is_first exact = (
   (λ s. let h = exact.0 s in record { tree = h.0; first = first; changed = change_is programs order d first h.0 same is_first h.1 h.2 }),
   (λ h.
-    let w = h.changed in
-    let one = first_same long order h.first first w.is_first is_first in
-    exact.1 (h.tree, record { is_tree = w.counterexample.is_tree; is_over = w.over }, subst (λ o. ChangesTwice programs o h.tree) one (w.counterexample.after, w.counterexample.ends, w.counterexample.changes)))
+      let w = h.changed in
+      let one = first_same long order h.first first w.is_first is_first in
+      exact.1 (h.tree, record { is_tree = w.counterexample.is_tree; is_over = w.over }, subst (λ o. ChangesTwice programs o h.tree) one (w.counterexample.after, w.counterexample.ends, w.counterexample.changes))),
 )
 
 pub change_shown : (programs : List Program) (order : Relation) (d : Domain) (first : List ℕ) (t : Tree) (w : Witness) → length programs ≡ order.count → IsFirstExtension order first
@@ -94,9 +93,9 @@ pub end_exact : Long → (programs : List Program) (order : Relation) (d : Domai
 end_exact long programs order d first S is_first exact = (
   (λ s. let h = exact.0 s in record { tree = h.0; first = first; ended = end_is programs order d first h.0 is_first h.1 h.2 }),
   (λ h.
-    let w = h.ended in
-    let one = first_same long order h.first first w.is_first is_first in
-    exact.1 (h.tree, record { is_tree = w.is_tree; is_over = w.over }, subst (λ o. Ends programs o h.tree) one w.ends))
+      let w = h.ended in
+      let one = first_same long order h.first first w.is_first is_first in
+      exact.1 (h.tree, record { is_tree = w.is_tree; is_over = w.over }, subst (λ o. Ends programs o h.tree) one w.ends)),
 )
 
 pub end_shown : (programs : List Program) (order : Relation) (d : Domain) (first : List ℕ) (t : Tree) (w : Witness) → IsFirstExtension order first

@@ -35,6 +35,10 @@ pub if_ok : {X E : Type 0} (P Q : X → Type 0) (r : Result X E) → ((x : X) �
 if_ok P Q (Ok x) f h = f x h
 if_ok P Q (Err e) f h = tt
 
+pub if_ok_both : {X E : Type 0} (P Q R : X → Type 0) (r : Result X E) → ((x : X) → P x → Q x → R x) → IfOk r P → IfOk r Q → IfOk r R
+if_ok_both P Q R (Ok x) f h k = f x h k
+if_ok_both P Q R (Err e) f h k = tt
+
 pub not_is : {P : Type 0} (b : Bool) → (b ≡ true) ↔ P → (not b ≡ true) ↔ (P → ⊥)
 not_is true h = (λ e. false_not_true e, λ k. absurd (k (h.0 refl)))
 not_is false h = (λ e p. false_not_true (h.1 p), λ k. refl)
@@ -86,8 +90,8 @@ apart_is gates d cells well programs order j left right v a b trees allowed diff
 
 -- no error is told exactly where the outcome is a tree
 pub ends_is : (table : Listed) (s : State) (o : Outcome) → StandsFor table s o → (not s.error ≡ true) ↔ IsSome o
-ends_is table s None h = ((λ e. false_not_true (sym (ap not h) ∙ e)), (λ k. absurd k))
-ends_is table s (Some t) h = ((λ e. tt), (λ k. ap not h.no_error))
+ends_is table s None h = ((λ e. false_not_true (sym (ap not h) ∙ e)), (λ k. cc))
+ends_is table s (Some t) h = ((λ e. refl), (λ k. ap not h.no_error))
 
 -- no error is told, and it isn't the same again, exactly where the outcome is a tree that f doesn't leave as it is
 pub changes_is : (table : Listed) (s : State) (f : Tree → Outcome) (o : Outcome) (same : Bool) → StandsFor table s o → (same ≡ true) ↔ (o ≡ and_then o f)

@@ -4,5 +4,6 @@ pub mod WitnessLaws
 pub mod GoalLaws
 pub mod OrderLaws
 pub mod ExtensionLaws
+pub mod KnownLaws
 pub mod ReadLaws
 pub mod TableLaws

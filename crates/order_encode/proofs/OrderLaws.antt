@@ -1,5 +1,6 @@
 -- The formula of the question of order.
 use Rattle.std.proofs.Common.{◌≡◌, ◌≢◌, ℕ, zero, suc, ◌+◌, ◌-◌, ◌^◌, ◌<◌, ◌≤◌, Bool, true, false, List, [], ◌∷◌, ◌++◌, length, map, Option, Some, None, refl, sym, ap, subst, ◌∙◌, arith}
+use Rattle.std.proofs.lemmas.List.{length-map}
 use Rattle.std.specs.Prelude.{◌↔◌}
 use Rattle.std.specs.List.{AllByRecursion}
 use Rattle.bool_circuit.specs.declared.gate.Wire.{Wire}
@@ -50,10 +51,6 @@ all_below : (m n : ℕ) (order : List ℕ) → m ≤ n → AllByRecursion (λ k.
 all_below m n [] h all = tt
 all_below m n (k ∷ order) h all = (omega (arith, h, all.0), all_below m n order h all.1)
 
-nodes_long : (gates : List Gate) (v : Valuation) (codes : List (List Wire)) → length (nodes gates v codes) ≡ length codes
-nodes_long gates v [] = refl
-nodes_long gates v (code ∷ codes) = ap suc (nodes_long gates v codes)
-
 -- what the goal says at these inputs
 abbrev pub OrderGoal : List Program → Relation → Domain → List Gate → Asking → Valuation → Type 0
 OrderGoal programs order d gates a v = TellsTree d gates a.cells (EndApart programs order (node gates v a.place) (nodes gates v a.codes) (exchanged (node gates v a.place) (nodes gates v a.codes))) v
@@ -62,17 +59,17 @@ pub order_readable : Exactly → (programs : List Program) (order : Relation) (d
     → OrderGoal programs order d old a v → IsReadable new d.table a.cells (asks.Orders a.codes a.place) v
 order_readable exactly programs order d old new a v strict small is g told =
     let left = nodes old v a.codes in
-    let long = nodes_long old v a.codes ∙ is.long in
+    let long = length-map a.codes (node old v) ∙ is.long in
     let first = (exactly order.count (comes order) left (strict_is order strict) long).0 told.held.allowed.first in
     let placed = told.held.allowed.placed in
     let place : node old v a.place < 2 ^ 32 = omega (arith, placed, small) in
     record {
       tree = told.tree;
       is_tree = told.over.is_tree;
-      stands = subst (λ (s : State). Stands d.table s told.tree) (sym (state_keeps (circuit_meanings old) (circuit_meanings new) a.cells g is.trees.cells v)) told.stands;
+      stands = subst (λ (s : State). Stands d.table s told.tree) (sym (state_keeps (circuit_meanings old) (circuit_meanings new) a.cells g is.trees.are_cells v)) told.stands;
       small = (
         subst (λ ns. AllByRecursion (λ k. k < 2 ^ 32) ns) (sym (nodes_stay old new a.codes g is.codes v)) (all_below order.count (2 ^ 32) left small first.below),
-        subst (λ n. n < 2 ^ 32) (sym (g.code a.place is.place v)) place
+        subst (λ n. n < 2 ^ 32) (sym (g.code a.place is.place v)) place,
       );
     }
 
@@ -81,16 +78,16 @@ pub order_exact : Exactly → Long → Found → Placed → Neighbours → (prog
     → IsSatisfiable f ↔ HaveDifferentOutcomes programs (Comes order) d
 order_exact exactly lng found placed neighbours programs order d old new a w f strict same is exact states = (
   (λ sat.
-    let v = inputs_in sat.0 in
-    let told = (exact v).0 (states.models sat.0 sat.1) in
-    let long = nodes_long old v a.codes ∙ is.long in
-    let apart = goal_is_witness exactly found programs order d strict same (node old v a.place) (nodes old v a.codes) told.tree long told.over told.held in
-    record { tree = told.tree; left = nodes old v a.codes; right = exchanged (node old v a.place) (nodes old v a.codes); over = apart.over; counterexample = apart.counterexample }),
+      let v = inputs_in sat.0 in
+      let told = (exact v).0 (states.models sat.0 sat.1) in
+      let long = length-map a.codes (node old v) ∙ is.long in
+      let apart = goal_is_witness exactly found programs order d strict same (node old v a.place) (nodes old v a.codes) told.tree long told.over told.held in
+      record { tree = told.tree; left = nodes old v a.codes; right = exchanged (node old v a.place) (nodes old v a.codes); over = apart.over; counterexample = apart.counterexample }),
   (λ h.
-    let near = neighbours programs (comes order) h.tree h.left h.right h.counterexample in
-    let told = witness_is_goal exactly lng placed programs order d old a strict same is h.tree near.0 near.1 record { over = h.over; exchange = near.2; counterexample = near.3 } in
-    let model = states.inputs told.0 ((exact told.0).1 told.1) in
-    (model.0, model.2))
+      let near = neighbours programs (comes order) h.tree h.left h.right h.counterexample in
+      let told = witness_is_goal exactly lng placed programs order d old a strict same is h.tree near.0 near.1 record { over = h.over; exchange = near.2; counterexample = near.3 } in
+      let model = states.inputs told.0 ((exact told.0).1 told.1) in
+      (model.0, model.2)),
 )
 
 pub order_models : OneOutcome → Exactly → Found → (programs : List Program) (order : Relation) (d : Domain) (old new : List Gate) (a : Asking) (goal : Wire) (f : Formula) → IsStrictOrder order → length programs ≡ order.count → IsAsking old d order.count a → Grows (circuit_meanings old) (circuit_meanings new)
@@ -99,11 +96,11 @@ pub order_models : OneOutcome → Exactly → Found → (programs : List Program
 order_models one exactly found programs order d old new a goal f strict same is g exact states u sat w shows =
     let v = inputs_in u in
     let told = (exact v).0 (states.models u sat) in
-    let long = nodes_long old v a.codes ∙ is.long in
+    let long = length-map a.codes (node old v) ∙ is.long in
     let j = node old v a.place in
     let left = nodes old v a.codes in
     let apart = goal_is_witness exactly found programs order d strict same j left told.tree long told.over told.held in
-    let keep = state_keeps (circuit_meanings old) (circuit_meanings new) a.cells g is.trees.cells v in
+    let keep = state_keeps (circuit_meanings old) (circuit_meanings new) a.cells g is.trees.are_cells v in
     let stands = subst (λ (s : State). Stands d.table s shows.0) keep shows.1 in
     let tree = one_tree one d.table (state_of (circuit_meanings old) v a.cells) told.tree shows.0 told.stands stands in
     let left_is = nodes_stay old new a.codes g is.codes v in

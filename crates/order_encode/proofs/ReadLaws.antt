@@ -43,7 +43,9 @@ model_state gates u v cells e = ap (λ f. by_values f cells) e
 pub rest_from : (rest : List ℕ) (k : ℕ) → k < length rest → drop k rest ≡ get_or rest k 0 ∷ drop (k + 1) rest
 rest_from [] k h = absurd (omega (arith, h))
 rest_from (x ∷ rest) zero h = refl
-rest_from (x ∷ rest) (suc k) h = rest_from rest k (omega (arith, h))
+rest_from (x ∷ rest) (suc k) h =
+    let next : suc (k + 1) ≡ suc k + 1 = omega arith in
+    rest_from rest k (omega (arith, h)) ∙ ap (λ n. get_or rest k 0 ∷ drop n (x ∷ rest)) next
 
 pub rest_done : (rest : List ℕ) (k : ℕ) → length rest ≤ k → drop k rest ≡ []
 rest_done [] zero h = refl

@@ -18,7 +18,9 @@ get_front (suc i) (y ∷ xs) (suc j) x h e = get_front i xs j x (omega (arith, h
 one_more : {X : Type 0} (i : ℕ) (xs : List X) (x : X) → slice_get xs i ≡ Some x → take i xs ++ x ∷ [] ≡ take (i + 1) xs
 one_more i [] x e = cc
 one_more zero (y ∷ xs) x e = let same : x ≡ y = cc in ap (λ z. z ∷ []) same
-one_more (suc i) (y ∷ xs) x e = ap (λ ys. y ∷ ys) (one_more i xs x e)
+one_more (suc i) (y ∷ xs) x e =
+    let further : suc (i + 1) ≡ suc i + 1 = omega arith in
+    ap (λ ys. y ∷ ys) (one_more i xs x e) ∙ ap (λ n. take n (y ∷ xs)) further
 
 -- what isn't there yet comes last
 pub added : {X : Type 0} (xs : List X) (i : ℕ) (x : X) (place : Option ℕ) → ((j : ℕ) → place ≡ Some j → slice_get (take i xs) j ≡ Some x)

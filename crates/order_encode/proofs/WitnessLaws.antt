@@ -72,7 +72,7 @@ witness_is_goal exactly lng placed programs order d gates a strict same asks t o
     let long = lng n (comes order) o first in
     let at = placed n (comes order) o p record { first = first; second = second; exchange = w.exchange } in
     let j = at.0 in
-    let over = record { is_tree = w.counterexample.is_tree; is_over = w.over } in
+    let over : IsTreeOver d t = record { is_tree = w.counterexample.is_tree; is_over = w.over } in
     let told = asks.every t over o long first.below j (omega (arith, at.1, long)) in
     let v = told.0 in
     let left : nodes gates v a.codes ≡ o = told.2 in

@@ -17,9 +17,9 @@ use Rattle.order_encode.specs.declared.asking.Asking.{Asking}
 
 -- The wire is true under just the valuations under which the cells stand for a tree over the domain.
 pub record AreTrees {B : Type 0} (gates : List Gate) (d : Domain) (cells : Cells B Wire (List Wire)) (well : Wire) : Type 0 where
-  pub cells : AreCells (circuit_meanings gates) cells
+  pub are_cells : AreCells (circuit_meanings gates) cells
   pub places : length cells.present ≡ length d.table.paths
-  pub well : well.0 < length gates
+  pub owned : well.0 < length gates
   pub exact : (v : Valuation) → (wire_value gates v well.0 ≡ true) ↔ ((t : Tree) × IsTreeOver d t × Stands d.table (state_of (circuit_meanings gates) v cells) t)
 
 -- Together with the codes the cells come to stand for each tree, each list of nodes and each place.

@@ -22,7 +22,8 @@ pub(crate) struct Asking {
     pub place: Seq<Wire>,
 }
 
-pub(crate) fn asking(
+/// New inputs for a tree over the domain, for an order of n nodes, and for a place in it.
+pub(crate) fn order_inputs(
     alloc: Global,
     sym: &mut Sym,
     domain: &Domain,

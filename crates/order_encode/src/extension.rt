@@ -14,6 +14,7 @@ use crate::asks::Asks;
 use crate::question::{Question, pose};
 use fs_interpreter::states;
 use fs_lang::Program;
+use order_places::allowed_orders;
 use orders::Order;
 use path_domain::Domain;
 use rh_base::NoMemory;
@@ -33,10 +34,11 @@ pub fn ask_twice(
     ensures models { IfOk result (λ q. (v : ℕ → Bool) → Satisfies v q.formula.clauses → (w : Witness) → Shows q (inputs_in v) w → ShowsChange (map program_of programs.now) order.now domain.now w) }
 {
     states();
+    allowed_orders();
     let first = order.first_extension()?;
     let mut sym = Sym::new(alloc)?;
     let (cells, well) = any_tree(alloc, &mut sym, domain)?;
-    let goal = goal_of_change(
+    let asked = goal_of_change(
         alloc,
         &mut sym,
         domain,
@@ -50,7 +52,7 @@ pub fn ask_twice(
         sym,
         cells,
         Asks::Twice { order: first },
-        goal,
+        asked,
         domain,
     )
 }
@@ -68,10 +70,11 @@ pub fn ask_some(
     ensures models { IfOk result (λ q. (v : ℕ → Bool) → Satisfies v q.formula.clauses → (w : Witness) → Shows q (inputs_in v) w → ShowsEnd (map program_of programs.now) order.now domain.now w) }
 {
     states();
+    allowed_orders();
     let first = order.first_extension()?;
     let mut sym = Sym::new(alloc)?;
     let (cells, well) = any_tree(alloc, &mut sym, domain)?;
-    let goal = goal_of_end(
+    let asked = goal_of_end(
         alloc,
         &mut sym,
         domain,
@@ -80,5 +83,12 @@ pub fn ask_some(
         &cells,
         well,
     )?;
-    pose(alloc, sym, cells, Asks::Ends { order: first }, goal, domain)
+    pose(
+        alloc,
+        sym,
+        cells,
+        Asks::Ends { order: first },
+        asked,
+        domain,
+    )
 }

@@ -10,10 +10,11 @@ ghost use Rattle.order_encode.specs.Asked.{Shows};
 ghost use Rattle.order_encode.specs.Witnesses.{HaveDifferentOutcomes, ShowsDifference};
 ghost use Rattle.order_encode.specs.declared.witness.Witness.{Witness};
 
-use crate::asking::{Asking, asking};
+use crate::asking::{Asking, order_inputs};
 use crate::asks::Asks;
 use crate::goal::goal;
 use crate::question::{Question, pose};
+use fs_interpreter::states;
 use fs_lang::Program;
 use fs_semantics::neighbours;
 use order_places::{allowed_orders, exchanges};
@@ -36,11 +37,12 @@ pub fn ask_order(
     ensures exact { IfOk result (λ q. IsSatisfiable q.formula ↔ HaveDifferentOutcomes (map program_of programs.now) (Comes order.now) domain.now) }
     ensures models { IfOk result (λ q. (v : ℕ → Bool) → Satisfies v q.formula.clauses → (w : Witness) → Shows q (inputs_in v) w → ShowsDifference (map program_of programs.now) (Comes order.now) domain.now w) }
 {
+    states();
     allowed_orders();
     exchanges();
     neighbours();
     let mut sym = Sym::new(alloc)?;
-    let inputs = asking(alloc, &mut sym, domain, order.count())?;
+    let inputs = order_inputs(alloc, &mut sym, domain, order.count())?;
     let asked = goal(alloc, &mut sym, domain, programs, order, &inputs)?;
     let Asking {
         cells,

@@ -11,8 +11,8 @@ use Rattle.order_circuit.proofs.RunLaws.{nodes_stay}
 use Rattle.order_encode.proofs.GoalLaws.{allowed_is, if_ok}
 use Rattle.order_encode.proofs.goal.allowed.Goals as goal
 
-pub returns-in_ok-placed-clause-exact : goal.returns-in_ok-placed-clause-exact
-returns-in_ok-placed-clause-exact c = if_ok _ _ c.and-2.result (λ w is v.
+pub returns-clause-exact : goal.returns-clause-exact
+returns-clause-exact c = if_ok _ _ c.and-2.result (λ w is v.
     let order = c.args.order.now in
     let f = comes order in
     let n = order.count in
@@ -31,10 +31,52 @@ returns-in_ok-placed-clause-exact c = if_ok _ _ c.and-2.result (λ w is v.
     let right = nodes g0 v c.args.right.now in
     let j = node g0 v c.args.place.now in
     let last = c.saturating_sub-last.result in
+    let count : c.from.result ≡ n = cc in
+    let last_is = c.saturating_sub-last.ensures ∙ ap (λ k. k - 1) count in
     let first = g12.bit c.in_ok-first.first c.in_ok-first.ensures.gives.owned v ∙ c.in_ok-first.ensures.gives.means v in
     let second = c.in_ok-second.ensures.gives.means v ∙ ap (is_in_order f n) (nodes_stay g0 c.in_order.new.sym c.args.right.now g01 c.requires.right v) in
     let both = g34.bit c.in_ok-both.both c.in_ok-both.ensures.gives.owned v ∙ c.in_ok-both.ensures.gives.means v ∙ (λ i. first i && second i) in
     let placed = c.in_ok-placed.ensures.value v ∙ ap (λ k. nat_lt k last) (g03.code c.args.place.now c.requires.place v) in
     let told = is.means v ∙ (λ i. both i && placed i) in
-    let exact = allowed_is order j last left right c.saturating_sub-last.ensures in
+    let exact = allowed_is order j last left right last_is in
     ((λ e. exact.0 (sym told ∙ e)), (λ e. told ∙ exact.1 e))) c.and-2.ensures.gives
+
+pub returns-in_err-second-clause-grows : goal.returns-in_err-second-clause-grows
+returns-in_err-second-clause-grows c =
+    let m0 = circuit_meanings c.args.sym.now in
+    let m1 = circuit_meanings c.in_order.new.sym in
+    let m2 = circuit_meanings c.in_order-2.new.sym in
+    grows_on m0 m1 m2 c.in_order.ensures.grows c.in_order-2.ensures.grows
+
+pub returns-in_err-both-clause-grows : goal.returns-in_err-both-clause-grows
+returns-in_err-both-clause-grows c =
+    let m0 = circuit_meanings c.args.sym.now in
+    let m1 = circuit_meanings c.in_order.new.sym in
+    let m2 = circuit_meanings c.in_order-2.new.sym in
+    let m3 = circuit_meanings c.and.new.self in
+    let g02 = grows_on m0 m1 m2 c.in_order.ensures.grows c.in_order-2.ensures.grows in
+    grows_on m0 m2 m3 g02 c.and.ensures.grows
+
+pub returns-in_err-placed-clause-grows : goal.returns-in_err-placed-clause-grows
+returns-in_err-placed-clause-grows c =
+    let m0 = circuit_meanings c.args.sym.now in
+    let m1 = circuit_meanings c.in_order.new.sym in
+    let m2 = circuit_meanings c.in_order-2.new.sym in
+    let m3 = circuit_meanings c.and.new.self in
+    let m4 = circuit_meanings c.is_below.new.sym in
+    let g02 = grows_on m0 m1 m2 c.in_order.ensures.grows c.in_order-2.ensures.grows in
+    let g03 = grows_on m0 m2 m3 g02 c.and.ensures.grows in
+    grows_on m0 m3 m4 g03 (circuit_grows c.and.new.self c.is_below.new.sym c.is_below.ensures.grows)
+
+pub returns-clause-grows : goal.returns-clause-grows
+returns-clause-grows c =
+    let m0 = circuit_meanings c.args.sym.now in
+    let m1 = circuit_meanings c.in_order.new.sym in
+    let m2 = circuit_meanings c.in_order-2.new.sym in
+    let m3 = circuit_meanings c.and.new.self in
+    let m4 = circuit_meanings c.is_below.new.sym in
+    let m5 = circuit_meanings c.and-2.new.self in
+    let g02 = grows_on m0 m1 m2 c.in_order.ensures.grows c.in_order-2.ensures.grows in
+    let g03 = grows_on m0 m2 m3 g02 c.and.ensures.grows in
+    let g04 = grows_on m0 m3 m4 g03 (circuit_grows c.and.new.self c.is_below.new.sym c.is_below.ensures.grows) in
+    grows_on m0 m4 m5 g04 c.and-2.ensures.grows

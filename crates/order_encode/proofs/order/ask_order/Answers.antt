@@ -1,0 +1,53 @@
+use Rattle.std.proofs.Common.{◌≡◌, ◌^◌, ◌≤◌, List, map, subst, sym, ◌∙◌, arith}
+use Rattle.std.proofs.lemmas.List.{length-map}
+use Rattle.bool_circuit.specs.declared.gate.Gate.{Gate}
+use Rattle.cnf.specs.Encoding.{inputs_in}
+use Rattle.fs_lang.specs.Meaning.{program_of}
+use Rattle.fs_interpreter.proofs.Frames.{cells_stay}
+use Rattle.sym_run.specs.Wires.{circuit_meanings}
+use Rattle.order_circuit.proofs.RunLaws.{rows_stay}
+use Rattle.order_encode.specs.Asked.{Asked, Shows}
+use Rattle.order_encode.specs.Asking.{IsAsking}
+use Rattle.order_encode.proofs.GoalLaws.{if_ok, if_ok_both}
+use Rattle.order_encode.proofs.OrderLaws.{order_readable, order_exact, order_models}
+use Rattle.order_encode.proofs.order.ask_order.Goals as goal
+
+pub pose-requires-clause-cells : goal.pose-requires-clause-cells
+pose-requires-clause-cells c = cells_stay (circuit_meanings c.order_inputs.new.sym) (circuit_meanings c.goal.new.sym) c.in_ok-inputs.inputs.cells c.goal.ensures.grows c.in_ok-inputs.ensures.asking.trees.are_cells
+
+pub pose-requires-clause-codes : goal.pose-requires-clause-codes
+pose-requires-clause-codes c =
+    let is = c.in_ok-inputs.ensures.asking in
+    let inputs = c.in_ok-inputs.inputs in
+    (rows_stay c.order_inputs.new.sym c.goal.new.sym inputs.codes c.goal.ensures.grows is.codes, c.goal.ensures.grows.owns_code inputs.place is.place)
+
+pub pose-requires-clause-readable : goal.pose-requires-clause-readable
+pose-requires-clause-readable c = λ v h.
+    let order = c.args.order.now in
+    let d = c.args.domain.now in
+    let s1 = c.order_inputs.new.sym in
+    let inputs = c.in_ok-inputs.inputs in
+    let is = subst (λ n. IsAsking s1 d n inputs) c.count.ensures.count c.in_ok-inputs.ensures.asking in
+    let small : order.count ≤ 2 ^ 32 = omega (arith, c.count.ensures.count) in
+    order_readable c.allowed_orders.ensures.exact (map program_of c.args.programs.now) order d s1 c.goal.new.sym inputs v c.count.ensures.ordered small is c.goal.ensures.grows ((c.in_ok-asked.ensures.exact v).0 h)
+
+pub returns-clause-exact : goal.returns-clause-exact
+returns-clause-exact c = if_ok _ _ c.pose.result (λ q states.
+    let order = c.args.order.now in
+    let d = c.args.domain.now in
+    let s1 = c.order_inputs.new.sym in
+    let inputs = c.in_ok-inputs.inputs in
+    let is = subst (λ n. IsAsking s1 d n inputs) c.count.ensures.count c.in_ok-inputs.ensures.asking in
+    let same = length-map c.args.programs.now program_of ∙ c.requires.nodes in
+    order_exact c.allowed_orders.ensures.exact c.allowed_orders.ensures.long c.exchanges.ensures.found c.exchanges.ensures.placed c.neighbours.ensures.exchange (map program_of c.args.programs.now) order d s1 c.goal.new.sym inputs c.in_ok-asked.asked q.formula c.count.ensures.ordered same is c.in_ok-asked.ensures.exact states) c.pose.ensures.states
+
+pub returns-clause-models : goal.returns-clause-models
+returns-clause-models c = if_ok_both _ _ _ c.pose.result (λ q states holds u sat w shows.
+    let order = c.args.order.now in
+    let d = c.args.domain.now in
+    let s1 = c.order_inputs.new.sym in
+    let inputs = c.in_ok-inputs.inputs in
+    let is = subst (λ n. IsAsking s1 d n inputs) c.count.ensures.count c.in_ok-inputs.ensures.asking in
+    let same = length-map c.args.programs.now program_of ∙ c.requires.nodes in
+    let seen = subst (λ (x : Asked (List Gate)). Shows x (inputs_in u) w) holds shows in
+    order_models c.states.ensures.outcome c.allowed_orders.ensures.exact c.exchanges.ensures.found (map program_of c.args.programs.now) order d s1 c.goal.new.sym inputs c.in_ok-asked.asked q.formula c.count.ensures.ordered same is c.goal.ensures.grows c.in_ok-asked.ensures.exact states u sat w seen) c.pose.ensures.states c.pose.ensures.holds
