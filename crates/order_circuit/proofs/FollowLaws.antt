@@ -1,6 +1,6 @@
 -- A node that may come next, told by what may stand at a place.
-use Rattle.std.proofs.Common.{◌≡◌, ◌⊎◌, inl, inr, ℕ, zero, suc, ◌+◌, ◌<◌, ◌≤◌, ◌==◌, Bool, true, false, cond, List, [], ◌∷◌, drop, length, refl, sym, ap, ◌∙◌, arith, eqb-true, nat_lt, ltb-true}
-use Rattle.std.proofs.lemmas.Bool.{eqb-false, ltb-false, lt-ltb, le-ltb}
+use Rattle.std.proofs.Common.{◌≡◌, ℕ, zero, suc, ◌<◌, ◌≤◌, ◌==◌, Bool, true, false, cond, List, [], ◌∷◌, refl, ap, ◌∙◌, arith, eqb-true, nat_lt, ltb-true}
+use Rattle.std.proofs.lemmas.Bool.{eqb-false, ltb-false}
 use Rattle.std.specs.Prelude.{not, ◌&&◌, ◌||◌}
 use Rattle.order_places.specs.Places.{all_taken, is_ready, with_taken, may_follow}
 use Rattle.order_circuit.specs.Codes.{all_stand}
@@ -9,9 +9,6 @@ module _ (before : ℕ → ℕ → Bool) (n : ℕ) where
   -- what is asked of a node that stands at the place
   abbrev asked : (ℕ → Bool) → ℕ → Bool
   asked taken i = not (taken i) && all_taken before taken i n
-
-  same_is : (i : ℕ) → (i == i) ≡ true
-  same_is i = elim (i == i) as (λ b. (i == i) ≡ b → b ≡ true) [ true ↦ λ k. refl | false ↦ λ k. absurd (eqb-false i i k refl) ] refl
 
   other_is : (i m : ℕ) → (i ≡ m → ⊥) → (i == m) ≡ false
   other_is i m h = elim (i == m) as (λ b. (i == m) ≡ b → b ≡ false) [ true ↦ λ k. absurd (h (eqb-true i m k)) | false ↦ λ k. refl ] refl

@@ -1,6 +1,6 @@
 //! The codes with two neighbours exchanged.
 
-ghost use Rattle.std.specs.Prelude.{◌≡◌, ◌∷◌, [], IfOk};
+ghost use Rattle.std.specs.Prelude.{◌≡◌, ◌∷◌, IfOk};
 ghost use Rattle.fs_interpreter.specs.Meanings.{Valuation, Grows};
 ghost use Rattle.order_places.specs.Places.{exchanged};
 ghost use Rattle.sym_run.specs.Wires.{AreWires, circuit_meanings};
@@ -52,6 +52,7 @@ fn exchanged_behind(
 }
 
 /// The codes with those at the place and the next exchanged.
+#[tactic(auto, using(fs_interpreter::specs::Meanings::grows_same))]
 pub fn exchanged_codes(
     alloc: Global,
     sym: &mut Sym,
@@ -66,15 +67,6 @@ pub fn exchanged_codes(
 {
     match codes.split_first() {
         Some((first, rest)) => exchanged_behind(alloc, sym, first, rest, place),
-        None => no_codes(alloc, sym),
+        None => Ok(Seq::new(alloc)),
     }
-}
-
-/// No codes at all.
-fn no_codes(alloc: Global, sym: &mut Sym) -> Result<Seq<Seq<Wire>>, NoMemory>
-    ensures none { IfOk result (λ codes. codes ≡ []) }
-    ensures grows { Grows (circuit_meanings sym.old) (circuit_meanings sym.new) }
-{
-    let _sure = sym.constant(true)?;
-    Ok(Seq::new(alloc))
 }

@@ -9,5 +9,4 @@ mod runs;
 
 pub use allowed::in_order;
 pub use exchange::exchanged_codes;
-pub use picks::tells;
 pub use runs::{copy_cells, run_in_order};

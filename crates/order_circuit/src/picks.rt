@@ -12,7 +12,7 @@ use rh_base::{NoMemory, Seq};
 use sym_run::Sym;
 
 /// Whether the code tells this node.
-pub fn tells(sym: &mut Sym, i: u64, code: &Seq<Wire>) -> Result<Wire, NoMemory>
+pub(crate) fn tells(sym: &mut Sym, i: u64, code: &Seq<Wire>) -> Result<Wire, NoMemory>
     requires { AreWires sym.old code.now }
     ensures wire { IfOk result (λ w. w.0 < length sym.new) }
     ensures value { IfOk result (λ w. (v : Valuation) → wire_value sym.new v w.0 ≡ (i == node sym.old v code.now)) }

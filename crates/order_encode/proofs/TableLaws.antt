@@ -1,19 +1,12 @@
 -- A table made again, path by path and content by content.
-use Rattle.std.proofs.Common.{◌≡◌, ◌⊎◌, inl, inr, ℕ, zero, suc, ◌+◌, ◌<◌, ◌≤◌, List, [], ◌∷◌, ◌++◌, take, length, Option, Some, None, slice_get, refl, sym, ap, subst, ◌∙◌, arith}
-use Rattle.fs_semantics.specs.FileTree.{Path, parent}
-use Rattle.fs_interpreter.specs.Places.{Listed, IsTable, HasPath, or_added}
+use Rattle.std.proofs.Common.{◌≡◌, ℕ, zero, suc, ◌+◌, ◌<◌, List, [], ◌∷◌, ◌++◌, take, Option, Some, None, slice_get, refl, ap, ◌∙◌, arith}
+use Rattle.fs_interpreter.specs.Places.{or_added}
 
 front_get : {X : Type 0} (i : ℕ) (xs : List X) (j : ℕ) (x : X) → slice_get (take i xs) j ≡ Some x → (j < i) × (slice_get xs j ≡ Some x)
 front_get zero xs j x e = cc
 front_get (suc i) [] j x e = cc
 front_get (suc i) (y ∷ xs) zero x e = (omega arith, e)
 front_get (suc i) (y ∷ xs) (suc j) x e = let rest = front_get i xs j x e in (omega (arith, rest.0), rest.1)
-
-pub get_front : {X : Type 0} (i : ℕ) (xs : List X) (j : ℕ) (x : X) → j < i → slice_get xs j ≡ Some x → slice_get (take i xs) j ≡ Some x
-get_front zero xs j x h e = absurd (omega (arith, h))
-get_front (suc i) [] j x h e = e
-get_front (suc i) (y ∷ xs) zero x h e = e
-get_front (suc i) (y ∷ xs) (suc j) x h e = get_front i xs j x (omega (arith, h)) e
 
 one_more : {X : Type 0} (i : ℕ) (xs : List X) (x : X) → slice_get xs i ≡ Some x → take i xs ++ x ∷ [] ≡ take (i + 1) xs
 one_more i [] x e = cc
@@ -30,10 +23,3 @@ added xs i x (Some j) found once at =
     let there = front_get i xs j x (found j refl) in
     let same = once j i x there.1 at in
     absurd (omega (arith, there.0, same))
-
--- the parent is there already
-pub above_there : (table : Listed) (i : ℕ) (p : Path) (contents : List (List ℕ)) → IsTable table → slice_get table.paths i ≡ Some p → HasPath (record { paths = take i table.paths; contents = contents }) (parent p)
-above_there table i p contents is at = elim (is.parents i p at) [
-  | inl root ↦ inl root
-  | inr there ↦ inr (there.0, get_front i table.paths there.0 (parent p) (is.before i there.0 p at there.1) there.1)
-]

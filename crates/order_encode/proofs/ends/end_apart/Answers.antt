@@ -1,5 +1,4 @@
-use Rattle.std.proofs.Common.{◌≡◌, Some, ap, subst, sym, ◌∙◌, map}
-use Rattle.std.specs.Prelude.{not}
+use Rattle.std.proofs.Common.{Some, subst, sym, ◌∙◌, map}
 use Rattle.bool_circuit.specs.Gates.{wire_value}
 use Rattle.fs_semantics.specs.Orders.{outcome}
 use Rattle.fs_lang.specs.Meaning.{program_of}
