@@ -1,0 +1,112 @@
+-- The kept programs, one by one; their graph as the definitions have it; and what holds of all where it holds of these.
+use Rattle.std.proofs.Common.{◌≡◌, ℕ, ◌<◌, Bool, true, false, List, [], ◌∷◌, map, length, get_or, refl, sym, ap, subst, ◌∙◌, arith}
+use Rattle.std.specs.Prelude.{◌↔◌, IsTrue}
+use Rattle.std.specs.List.{AllByRecursion}
+use Rattle.std.proofs.lemmas.List.{get_or-map, length-map}
+use Rattle.fs_semantics.specs.FileTree.{Tree, IsTree}
+use Rattle.fs_semantics.specs.Programs.{Program, Id}
+use Rattle.fs_semantics.specs.Orders.{Told, IsLinearExtension, IsDeterministic, IsCounterexample, outcome}
+use Rattle.fs_lang.specs.declared.program.Program.{Program as CodeProgram}
+use Rattle.fs_lang.specs.Meaning.{program_of}
+use Rattle.orders.specs.Relation.{Relation, comes, Comes}
+use Rattle.commute_prune.specs.Pruning.{chosen, between}
+use Rattle.kept_graph.specs.declared.kept.Kept.{Kept}
+use Rattle.kept_graph.specs.declared.counterexamples.Completed.{Completed}
+use Rattle.kept_graph.specs.Kept.{IsKept, completion}
+use Rattle.kept_graph.specs.Completed.{IsCompleted}
+use Rattle.kept_graph.proofs.CompletionLaws.{length-chosen, extension_by}
+
+pub program_at : (ps : List CodeProgram) (k : ℕ) (e d : CodeProgram) → k < length ps → e ≡ get_or ps k d → program_of e ≡ get_or (map program_of ps) k Id
+program_at ps k e d h is = ap program_of is ∙ sym (get_or-map program_of ps k d Id h)
+
+-- ---- the same programs with the same order between them
+
+module _ (es fs : List Program) (same : es ≡ fs) (before other : ℕ → ℕ → Type 0)
+    (forth : (a b : ℕ) → a < length fs → b < length fs → before a b → other a b) (back : (a b : ℕ) → a < length fs → b < length fs → other a b → before a b) where
+  to_other : (o : List ℕ) → IsLinearExtension (length es) before o → IsLinearExtension (length fs) other o
+  to_other o a = extension_by (length fs) before other back o (subst (λ xs. IsLinearExtension (length xs) before o) same a)
+
+  pub same_counterexample : (t : Tree) (o p : List ℕ) → IsCounterexample es before t o p → IsCounterexample fs other t o p
+  same_counterexample t o p c = record {
+    is_tree = c.is_tree;
+    left_allowed = to_other o c.left_allowed;
+    right_allowed = to_other p c.right_allowed;
+    differ = subst (λ xs. (outcome xs o t ≡ outcome xs p t) → ⊥) same c.differ;
+  }
+
+  from_other : (o : List ℕ) → IsLinearExtension (length fs) other o → IsLinearExtension (length es) before o
+  from_other o a = subst (λ xs. IsLinearExtension (length xs) before o) (sym same) (extension_by (length fs) other before forth o a)
+
+  pub same_deterministic : IsDeterministic es before → IsDeterministic fs other
+  same_deterministic d t is o p a b = subst (λ xs. outcome xs o t ≡ outcome xs p t) same (d t is o p (from_other o a) (from_other p b))
+
+-- ---- the kept graph
+
+module _ (es : List Program) (order : Relation) (kept : Kept) (is : IsKept es order kept) where
+  long : length (chosen es kept.pruned.kept) ≡ length kept.pruned.kept
+  long = length-chosen es kept.pruned.kept
+
+  within : (a : ℕ) → a < length (chosen es kept.pruned.kept) → a < length kept.pruned.kept
+  within a h = subst (λ n. a < n) long h
+
+  forth : (a b : ℕ) → a < length (chosen es kept.pruned.kept) → b < length (chosen es kept.pruned.kept) → Comes kept.order a b → between (Comes order) kept.pruned.kept a b
+  forth a b h g = (is.before a b (within a h) (within b g)).0
+
+  back : (a b : ℕ) → a < length (chosen es kept.pruned.kept) → b < length (chosen es kept.pruned.kept) → between (Comes order) kept.pruned.kept a b → Comes kept.order a b
+  back a b h g = (is.before a b (within a h) (within b g)).1
+
+  widen : (a : ℕ) → a < length (map program_of kept.programs) → a < length (chosen es kept.pruned.kept)
+  widen a h = subst (λ xs. a < length xs) is.programs h
+
+  pub counterexamples : (t : Tree) (o p : List ℕ) → IsCounterexample (map program_of kept.programs) (Comes kept.order) t o p ↔ IsCounterexample (chosen es kept.pruned.kept) (between (Comes order) kept.pruned.kept) t o p
+  counterexamples t o p = (
+    same_counterexample (map program_of kept.programs) (chosen es kept.pruned.kept) is.programs (Comes kept.order) (between (Comes order) kept.pruned.kept) forth back t o p,
+    same_counterexample (chosen es kept.pruned.kept) (map program_of kept.programs) (sym is.programs) (between (Comes order) kept.pruned.kept) (Comes kept.order)
+        (λ a b h g. back a b (widen a h) (widen b g)) (λ a b h g. forth a b (widen a h) (widen b g)) t o p,
+  )
+
+  pub deterministic : IsDeterministic (map program_of kept.programs) (Told (comes kept.order)) ↔ IsDeterministic (chosen es kept.pruned.kept) (between (Told (comes order)) kept.pruned.kept)
+  deterministic = (
+    same_deterministic (map program_of kept.programs) (chosen es kept.pruned.kept) is.programs (Comes kept.order) (between (Comes order) kept.pruned.kept) forth back,
+    same_deterministic (chosen es kept.pruned.kept) (map program_of kept.programs) (sym is.programs) (between (Comes order) kept.pruned.kept) (Comes kept.order)
+        (λ a b h g. back a b (widen a h) (widen b g)) (λ a b h g. forth a b (widen a h) (widen b g)),
+  )
+
+-- no programs are deterministic
+none_differ : (before : ℕ → ℕ → Type 0) (t : Tree) (o p : List ℕ) → IsLinearExtension 0 before o → IsLinearExtension 0 before p → outcome [] o t ≡ outcome [] p t
+none_differ before t [] [] a b = refl
+none_differ before t [] (k ∷ p) a b = let below = b.below.0 in absurd (omega (arith, below))
+none_differ before t (k ∷ o) p a b = let below = a.below.0 in absurd (omega (arith, below))
+
+pub nothing_deterministic : (ps : List CodeProgram) (before : ℕ → ℕ → Bool) → ps ≡ [] → IsDeterministic (map program_of ps) (Told before)
+nothing_deterministic ps before e = subst (λ xs. IsDeterministic (map program_of xs) (Told before)) (sym e) (λ t is o p a b. none_differ (Told before) t o p a b)
+
+-- ---- completed orders
+
+pub places_below : (es : List Program) (order : Relation) (kept : Kept) → IsKept es order kept → (o : List ℕ) → IsLinearExtension kept.order.count (Comes kept.order) o → AllByRecursion (λ i. i < length kept.pruned.kept) o
+places_below es order kept is o a = subst (λ n. AllByRecursion (λ i. i < n) o) is.count a.below
+
+numbers_below : (ps : List CodeProgram) (before : ℕ → ℕ → Type 0) (o : List ℕ) → IsLinearExtension (length (map program_of ps)) before o → AllByRecursion (λ i. i < length ps) o
+numbers_below ps before o a = subst (λ n. AllByRecursion (λ i. i < n) o) (length-map ps program_of) a.below
+
+pub completed_below : (ps : List CodeProgram) (order : Relation) (whole order_of slice : List ℕ) → IsLinearExtension (length (map program_of ps)) (Comes order) order_of → whole ≡ order_of → slice ≡ whole
+    → AllByRecursion (λ i. i < length ps) slice
+completed_below ps order whole order_of slice a e f = subst (AllByRecursion (λ i. i < length ps)) (sym (f ∙ e)) (numbers_below ps (Comes order) order_of a)
+
+-- orders that don't end alike are a counterexample
+pub completed : (es : List Program) (order : Relation) (kept : Kept) (t : Tree) (o p : List ℕ) (c : Completed) → IsTree t
+    → IsLinearExtension (length es) (Comes order) (completion kept.pruned o) → IsLinearExtension (length es) (Comes order) (completion kept.pruned p)
+    → c.left ≡ completion kept.pruned o → c.right ≡ completion kept.pruned p → (outcome es c.left t ≡ outcome es c.right t → ⊥) → IsCompleted es order kept.pruned t o p c
+completed es order kept t o p c tree left right e f differ = record {
+  left_is = e;
+  right_is = f;
+  counterexample = record {
+    is_tree = tree;
+    left_allowed = subst (IsLinearExtension (length es) (Comes order)) (sym e) left;
+    right_allowed = subst (IsLinearExtension (length es) (Comes order)) (sym f) right;
+    differ = differ;
+  };
+}
+
+pub not_alike : (b : Bool) (P : Type 0) → IsTrue b ↔ P → b ≡ false → P → ⊥
+not_alike b P told is p = let other : b ≡ true = told.1 p in cc

@@ -1,0 +1,4 @@
+pub mod PairLaws
+pub mod CompletionLaws
+pub mod KeptLaws
+pub mod CompareLaws

@@ -1,0 +1,13 @@
+//! The graph of what pruning keeps, and what its orders say of the whole graph.
+#![tactic(auto)]
+
+mod comparing;
+mod completing;
+mod counterexamples;
+mod kept;
+mod pairs;
+
+pub use comparing::{same_outcome, same_tree};
+pub use completing::{complete, completions};
+pub use counterexamples::{Completed, end_alike, refute};
+pub use kept::{Kept, keep, kept_graphs};
