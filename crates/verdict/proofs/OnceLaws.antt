@@ -1,15 +1,18 @@
--- Paths in order are determined by which they are, and so is the weight.
-use Rattle.std.proofs.Common.{◌≡◌, ◌⊎◌, inl, inr, ℕ, true, false, ◌||◌, ◌*◌, List, [], ◌∷◌, length, Less, Equal, refl, sym, ap, ap₂, ◌∙◌}
+-- Paths in order are determined by which they are, and so are the weight and the number of paths of the domain.
+use Rattle.std.proofs.Common.{◌≡◌, ◌⊎◌, inl, inr, ℕ, true, false, ◌||◌, ◌*◌, List, [], ◌∷◌, length, Less, Equal, refl, sym, ap, ap₂, subst, ◌∙◌}
+use Rattle.std.specs.Prelude.{IsTrue}
 use Rattle.std.specs.List.{AllByRecursion}
 use Rattle.std.specs.List.Sorted.{IsStrictlySortedBy}
 use Rattle.std.specs.Cmp.{tied_itself}
-use Rattle.std.proofs.lemmas.Bool.{cases_Bool, or_cases, or_left, false_from_ne_true}
+use Rattle.std.proofs.lemmas.Bool.{cases_Bool, cases_order, or_cases, or_left, false_from_ne_true}
 use Rattle.std.proofs.lemmas.Map.Keys.{sorted_head, sorted_tail}
 use Rattle.fs_semantics.specs.FileTree.{Path, path_cmp, path_eq, is_among}
 use Rattle.fs_semantics.specs.Programs.{Program}
 use Rattle.fs_semantics.proofs.Trees.{path_total, path_eq_refl, path_eq_same}
 use Rattle.fs_semantics.proofs.Keys.{same_bool}
+use Rattle.finite_domain.specs.Layouts.{other_segment, HaveSegment, IsFirstFailure, IsFreshChild}
 use Rattle.verdict.specs.Weights.{child_count, all_work, capped, Weighs}
+use Rattle.verdict.specs.Limits.{HasPaths}
 
 abbrev Sorted : List Path → Type 0
 Sorted ps = IsStrictlySortedBy path_cmp ps
@@ -69,3 +72,26 @@ one_weight es v w left right =
     let same = same_sorted left.named right.named left.in_order right.in_order
     (λ p. same_bool (is_among p left.named) (is_among p right.named) (λ h. (right.named_are p).1 ((left.named_are p).0 h)) (λ h. (left.named_are p).1 ((right.named_are p).0 h))) in
     left.weight ∙ ap (λ ns. capped (2 * length es * all_work (child_count ns) es)) same ∙ sym right.weight
+
+-- ---- the paths of the domain
+
+one_failure : (P : ℕ → Type 0) (j k : ℕ) → IsFirstFailure P j → IsFirstFailure P k → j ≡ k
+one_failure P j k a b = elim (cases_order j k) [
+  | inl same ↦ same
+  | inr other ↦ elim other [ inl below ↦ absurd (a.fails (b.holds j below)) | inr above ↦ absurd (b.fails (a.holds k above)) ]
+]
+
+module _ (es : List Program) (n m : ℕ) (a : HasPaths es n) (b : HasPaths es m) where
+  segments : a.is_layout.segment ≡ b.is_layout.segment
+  segments = one_failure (λ k. HaveSegment es (other_segment k)) _ _ a.is_layout.first_segment b.is_layout.first_segment
+
+  -- a path of the one layout is one of the other
+  pub path_too : (p : Path) → IsTrue (is_among p a.layout.paths) → IsTrue (is_among p b.layout.paths)
+  path_too p h = elim ((a.is_layout.paths p).0 h) [
+    | inl name ↦ (b.is_layout.paths p).1 (inl name)
+    | inr fresh ↦ (b.is_layout.paths p).1 (inr (subst (λ k. IsFreshChild es (other_segment k) p) segments fresh))
+  ]
+
+pub one_count : (es : List Program) (n m : ℕ) → HasPaths es n → HasPaths es m → n ≡ m
+one_count es n m a b =
+    a.count ∙ ap length (same_sorted a.layout.paths b.layout.paths a.is_layout.in_order b.is_layout.in_order (λ p. same_bool (is_among p a.layout.paths) (is_among p b.layout.paths) (path_too es n m a b p) (path_too es m n b a p))) ∙ sym b.count

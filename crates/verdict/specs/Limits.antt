@@ -1,5 +1,5 @@
 -- Graphs that are too large to be asked about: by the paths of their domain, or by their weight.
-use Rattle.std.specs.Prelude.{◌⊎◌, ℕ, ◌<◌, ◌≤◌, List, length, codes}
+use Rattle.std.specs.Prelude.{◌≡◌, ◌⊎◌, ℕ, ◌<◌, ◌≤◌, List, length, codes}
 use Rattle.rh_base.specs.declared.fault.Refusal.{Refusal}
 use Rattle.rh_base.specs.declared.limits.TheConstants.{DOMAIN_PATHS, WEIGHT}
 use Rattle.rh_base.specs.Refused.{IsRefusal}

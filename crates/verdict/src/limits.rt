@@ -5,10 +5,10 @@ ghost use Rattle.rh_base.specs.Refused.{IfRefused};
 ghost use Rattle.fs_lang.specs.Meaning.{program_of};
 ghost use Rattle.verdict.specs.Limits.{HasPaths, HasFewPaths, IsLight, IsTooLarge};
 
-use crate::laws::weights;
+use crate::laws::{path_counts, weights};
 use crate::weighing::weight;
 use fs_lang::Program;
-use path_domain::{domain, layouts};
+use path_domain::domain;
 use rh_base::limits::{DOMAIN_PATHS, WEIGHT};
 use rh_base::{Fault, NoMemory};
 use std::alloc::Global;
@@ -29,7 +29,7 @@ pub fn check_size(alloc: Global, programs: &[Program]) -> Result<(), Fault>
     // Programs within both limits aren't refused.
     ensures only { HasFewPaths (map program_of programs.now) → IsLight (map program_of programs.now) → IfErr result (λ e. IfRefused e (λ r. ⊥)) }
 {
-    layouts();
+    path_counts();
     weights();
     if path_count(alloc, programs)? > DOMAIN_PATHS {
         return Err(Fault::refused(alloc, 70, 0, "domain"));
