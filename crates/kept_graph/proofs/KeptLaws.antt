@@ -83,9 +83,6 @@ nothing_deterministic ps before e = subst (λ xs. IsDeterministic (map program_o
 
 -- ---- completed orders
 
-pub places_below : (es : List Program) (order : Relation) (kept : Kept) → IsKept es order kept → (o : List ℕ) → IsLinearExtension kept.order.count (Comes kept.order) o → AllByRecursion (λ i. i < length kept.pruned.kept) o
-places_below es order kept is o a = subst (λ n. AllByRecursion (λ i. i < n) o) is.count a.below
-
 numbers_below : (ps : List CodeProgram) (before : ℕ → ℕ → Type 0) (o : List ℕ) → IsLinearExtension (length (map program_of ps)) before o → AllByRecursion (λ i. i < length ps) o
 numbers_below ps before o a = subst (λ n. AllByRecursion (λ i. i < n) o) (length-map ps program_of) a.below
 
