@@ -1,0 +1,63 @@
+-- A question of order: over which domain it is asked doesn't matter.
+use Rattle.std.proofs.Common.{ℕ, Bool, List, Result, Ok, Err, sym, subst}
+use Rattle.std.specs.Prelude.{◌↔◌, IfOk}
+use Rattle.fs_semantics.specs.FileTree.{Tree}
+use Rattle.fs_semantics.specs.Programs.{Program}
+use Rattle.fs_semantics.specs.Orders.{Told, IsDeterministic, IsCounterexample}
+use Rattle.finite_domain.specs.Domains as over
+use Rattle.finite_domain.specs.Domains.{IsDomain}
+use Rattle.finite_domain.specs.Shadows.{IsOver}
+use Rattle.finite_domain.specs.Layouts.{Layout, domain_of, IsLayout}
+use Rattle.path_domain.specs.declared.listed.Domain.{Domain}
+use Rattle.path_domain.specs.Laid.{layout_of}
+use Rattle.cnf.specs.Formulas.{Formula, IsSatisfiable}
+use Rattle.proof_check.specs.Refuted.{HasNoModel}
+use Rattle.order_encode.specs.Witnesses.{HaveDifferentOutcomes, ShowsDifference}
+use Rattle.order_encode.specs.declared.witness.Witness.{Witness}
+use Rattle.order_encode.specs.declared.witness.Witness.TheVariants as witness
+use Rattle.judgement.specs.Questions.{States}
+use Rattle.judgement.specs.First.{IsDifference}
+use Rattle.judgement.specs.Answers.{Answers, IsRefuted}
+use Rattle.judgement.specs.declared.asking.Answer.{Answer}
+use Rattle.judgement.specs.declared.asking.Answer.TheVariants as answer
+use Rattle.orders.specs.Relation.{Relation, comes}
+
+-- what is known of layouts, and of counterexamples over a domain
+abbrev LaidOut : Type 0
+LaidOut = (es : List Program) (l : Layout) → IsLayout es l → IsDomain es (domain_of l)
+
+abbrev Shadowed : Type 0
+Shadowed = (es : List Program) (d : over.Domain) → IsDomain es d → (before : ℕ → ℕ → Bool) (t : Tree) (o p : List ℕ) → IsCounterexample es (Told before) t o p
+    → (s : Tree) × IsOver d s × IsCounterexample es (Told before) s o p
+
+module _ (laid : LaidOut) (shadowed : Shadowed) (es : List Program) (before : ℕ → ℕ → Bool) where
+  pub differ_over : (d : Domain) → IsLayout es (layout_of d) → (t : Tree) (o p : List ℕ) → IsCounterexample es (Told before) t o p → HaveDifferentOutcomes es (Told before) d
+  differ_over d is t o p c =
+      let w = shadowed es (domain_of (layout_of d)) (laid es (layout_of d) is) before t o p c in
+      record { tree = w.0; left = o; right = p; over = w.1; counterexample = w.2 }
+
+  -- what states the question over one layout of the domain states it
+  module _ (d : Domain) (is : IsLayout es (layout_of d)) (f : Formula) (exact : IsSatisfiable f ↔ HaveDifferentOutcomes es (Told before) d) where
+    pub states : States es (Told before) f
+    states e lay = (
+      (λ h. let w = exact.0 h in differ_over e lay w.tree w.left w.right w.counterexample),
+      (λ w. exact.1 (differ_over d is w.tree w.left w.right w.counterexample)),
+    )
+
+    pub none_differ : (((t : Tree) (o p : List ℕ) → IsCounterexample es (Told before) t o p → ⊥) → IsDeterministic es (Told before)) → HasNoModel f → IsDeterministic es (Told before)
+    none_differ law no_model = law (λ t o p c. let v = exact.1 (differ_over d is t o p c) in no_model v.0 v.1)
+
+pub difference : (es : List Program) (before : ℕ → ℕ → Type 0) (d : Domain) (w : Witness) → ShowsDifference es before d w → IsDifference es before w
+difference es before d (witness.Orders tree left right) h = (h.counterexample, h.exchange)
+difference es before d (witness.Twice tree order) h = absurd h
+difference es before d (witness.Ends tree order) h = absurd h
+
+pub if_ok : {A E : Type 0} (r : Result A E) (P Q : A → Type 0) → ((a : A) → P a → Q a) → IfOk r P → IfOk r Q
+if_ok (Ok a) P Q f h = f a h
+if_ok (Err e) P Q f h = tt
+
+-- a formula that was refuted answers its question
+pub refuted : (es : List Program) (order : Relation) (budget : ℕ) (f : Formula) (a : Answer) → States es (Told (comes order)) f → (HasNoModel f → IsDeterministic es (Told (comes order))) → IsRefuted f a → Answers es order budget a
+refuted es order budget f (answer.Alike v) stated sure h = record { deterministic = sure h.1; states = subst (States es (Told (comes order))) (sym h.0) stated; no_model = subst HasNoModel (sym h.0) h.1 }
+refuted es order budget f (answer.Differ tree left right) stated sure h = absurd h
+refuted es order budget f (answer.Spent cnf log) stated sure h = absurd h

@@ -1,0 +1,180 @@
+//! Answering the first question.
+
+ghost use Rattle.std.specs.Prelude.{◌≡◌, ◌≢◌, ◌↔◌, ◌+◌, ◌≤◌, [], length, map, IfOk, IfErr};
+ghost use Rattle.fs_semantics.specs.Orders.{Told, IsDeterministic, IsExchange, IsCounterexample};
+ghost use Rattle.rh_base.specs.Refused.{IfRefused};
+ghost use Rattle.fs_lang.specs.Meaning.{program_of};
+ghost use Rattle.orders.specs.Relation.{comes, Comes};
+ghost use Rattle.commute_prune.specs.Keeping.{Keeps};
+ghost use Rattle.kept_graph.specs.Kept.{IsKept};
+ghost use Rattle.verdict.specs.Limits.{HasFewPaths, IsLight, IsTooLarge};
+ghost use Rattle.judgement.specs.Questions.{IsKeptDeterministic};
+ghost use Rattle.judgement.specs.First.{IsPrunedCount, IsProof, IsSpent, IsDifference, pruned_in, IsAlone, IfSure, IfProved, IfDiffers, IfSpent};
+ghost use Rattle.judgement.specs.Answers.{IsJudged};
+
+use crate::asking::{Answer, ask};
+use crate::first::{First, Sure};
+use commute_prune::pruning;
+use fs_lang::{Program, Tree};
+use kept_graph::{Completed, Kept, keep, kept_graphs, refute};
+use order_encode::Witness;
+use orders::Order;
+use rh_base::{Fault, NoMemory};
+use std::alloc::Global;
+use verdict::check_size;
+
+/// How many programs aren't kept.
+fn pruned_count(order: &Order, kept: &Kept) -> u32
+    requires { kept.now.order.count ≤ order.now.count }
+    ensures { result + kept.now.order.count ≡ order.now.count }
+{
+    order.count() - kept.order.count()
+}
+
+/// Asks about the whole graph.
+fn judge_whole(
+    alloc: Global,
+    programs: &[Program],
+    order: &Order,
+    kept: &Kept,
+    budget: u64,
+) -> Result<First, NoMemory>
+    requires count { length programs.now ≡ order.now.count }
+    requires budget { 1 ≤ budget }
+    requires kept { IsKept (map program_of programs.now) order.now kept.now }
+    requires some { kept.now.pruned.kept ≢ [] }
+    requires differ { IsKeptDeterministic (map program_of programs.now) (Told (comes order.now)) kept.now.pruned.kept → ⊥ }
+    ensures { IfOk result (IsJudged (map program_of programs.now) order.now budget) }
+{
+    pruning();
+    let pruned = pruned_count(order, kept);
+    let answer = ask(alloc, programs, order, budget)?;
+    match answer {
+        Answer::Alike(verified) => Ok(First::Sure {
+            pruned,
+            sure: Sure::Proved(verified),
+        }),
+        Answer::Differ { tree, left, right } => Ok(First::Differs {
+            pruned,
+            witness: Witness::Orders { tree, left, right },
+        }),
+        Answer::Spent(cnf, log) => Ok(First::Spent { pruned, cnf, log }),
+    }
+}
+
+/// Tries two orders of the kept programs on the whole graph, and asks about that where they end alike there.
+fn judge_found(
+    alloc: Global,
+    programs: &[Program],
+    order: &Order,
+    kept: &Kept,
+    budget: u64,
+    tree: Tree,
+    left: &[u32],
+    right: &[u32],
+) -> Result<First, NoMemory>
+    requires count { length programs.now ≡ order.now.count }
+    requires budget { 1 ≤ budget }
+    requires kept { IsKept (map program_of programs.now) order.now kept.now }
+    requires some { kept.now.pruned.kept ≢ [] }
+    requires counterexample { IsCounterexample (map program_of kept.now.programs) (Comes kept.now.order) tree left.now right.now }
+    requires exchange { IsExchange (Comes kept.now.order) left.now right.now }
+    ensures { IfOk result (IsJudged (map program_of programs.now) order.now budget) }
+{
+    pruning();
+    kept_graphs();
+    let completed = refute(alloc, programs, order, kept, &tree, left, right)?;
+    match completed {
+        Some(Completed { left, right }) => Ok(First::Differs {
+            pruned: pruned_count(order, kept),
+            witness: Witness::Orders { tree, left, right },
+        }),
+        None => judge_whole(alloc, programs, order, kept, budget),
+    }
+}
+
+/// Asks about what is kept, and about the whole graph where that doesn't tell.
+fn judge_kept(
+    alloc: Global,
+    programs: &[Program],
+    order: &Order,
+    kept: &Kept,
+    budget: u64,
+) -> Result<First, NoMemory>
+    requires count { length programs.now ≡ order.now.count }
+    requires budget { 1 ≤ budget }
+    requires kept { IsKept (map program_of programs.now) order.now kept.now }
+    requires some { kept.now.pruned.kept ≢ [] }
+    requires enough { IsDeterministic (map program_of kept.now.programs) (Told (comes kept.now.order)) → IsDeterministic (map program_of programs.now) (Told (comes order.now)) }
+    ensures { IfOk result (IsJudged (map program_of programs.now) order.now budget) }
+{
+    pruning();
+    kept_graphs();
+    let answer = ask(alloc, kept.programs.as_slice(), &kept.order, budget)?;
+    match answer {
+        Answer::Alike(verified) => Ok(First::Sure {
+            pruned: pruned_count(order, kept),
+            sure: Sure::Proved(verified),
+        }),
+        Answer::Differ { tree, left, right } => judge_found(
+            alloc,
+            programs,
+            order,
+            kept,
+            budget,
+            tree,
+            left.as_slice(),
+            right.as_slice(),
+        ),
+        Answer::Spent(cnf, log) => Ok(First::Spent {
+            pruned: pruned_count(order, kept),
+            cnf,
+            log,
+        }),
+    }
+}
+
+/// Prunes, and asks about what is kept.
+fn judge(alloc: Global, programs: &[Program], order: &Order, budget: u64) -> Result<First, NoMemory>
+    requires count { length programs.now ≡ order.now.count }
+    requires budget { 1 ≤ budget }
+    ensures { IfOk result (IsJudged (map program_of programs.now) order.now budget) }
+{
+    pruning();
+    let kept = keep(alloc, programs, order)?;
+    if kept.programs.is_empty() {
+        return Ok(First::Sure {
+            pruned: pruned_count(order, &kept),
+            sure: Sure::Pruned,
+        });
+    }
+    judge_kept(alloc, programs, order, &kept, budget)
+}
+
+/// Whether the programs are deterministic. Each of at most two questions has the whole budget; a budget of `u64::MAX` stands for
+/// none.
+pub fn judge_order(
+    alloc: Global,
+    programs: &[Program],
+    order: &Order,
+    budget: u64,
+) -> Result<First, Fault>
+    requires count { length programs.now ≡ order.now.count }
+    requires budget { 1 ≤ budget }
+    // It is refused exactly where the graph is too large to be asked about.
+    ensures paths { IfOk result (λ first. HasFewPaths (map program_of programs.now)) }
+    ensures weight { IfOk result (λ first. IsLight (map program_of programs.now)) }
+    ensures refused { IfErr result (λ e. IfRefused e (IsTooLarge (map program_of programs.now))) }
+    ensures only { HasFewPaths (map program_of programs.now) → IsLight (map program_of programs.now) → IfErr result (λ e. IfRefused e (λ r. ⊥)) }
+    ensures pruned { IfOk result (λ first. IsPrunedCount (map program_of programs.now) (Told (comes order.now)) (pruned_in first)) }
+    // Pruning alone answers exactly where it keeps nothing.
+    ensures alone { IfOk result (λ first. IsAlone first ↔ Keeps (map program_of programs.now) (Told (comes order.now)) []) }
+    ensures deterministic { IfOk result (λ first. IfSure first (IsDeterministic (map program_of programs.now) (Told (comes order.now)))) }
+    ensures proved { IfOk result (λ first. IfProved first (IsProof (map program_of programs.now) (Told (comes order.now)))) }
+    ensures differs { IfOk result (λ first. IfDiffers first (IsDifference (map program_of programs.now) (Told (comes order.now)))) }
+    ensures spent { IfOk result (λ first. IfSpent first (IsSpent (map program_of programs.now) (Told (comes order.now)) budget)) }
+{
+    check_size(alloc, programs)?;
+    let first = judge(alloc, programs, order, budget)?;
+    Ok(first)
+}
