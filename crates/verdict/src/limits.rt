@@ -31,10 +31,14 @@ pub fn check_size(alloc: Global, programs: &[Program]) -> Result<(), Fault>
 {
     path_counts();
     weights();
-    if path_count(alloc, programs)? > DOMAIN_PATHS {
+    let paths = path_count(alloc, programs)?;
+    let many = paths > DOMAIN_PATHS;
+    if many {
         return Err(Fault::refused(alloc, 70, 0, "domain"));
     }
-    if weight(alloc, programs)? > WEIGHT {
+    let work = weight(alloc, programs)?;
+    let heavy = work > WEIGHT;
+    if heavy {
         return Err(Fault::refused(alloc, 70, 0, "weight"));
     }
     Ok(())
