@@ -1,4 +1,6 @@
 pub mod PlaceLaws
+pub mod HashLaws
+pub mod WindowLaws
 pub mod TextLaws
 pub mod Tables
 pub mod WordLaws

@@ -12,7 +12,7 @@ begins_here : (part back : List ℕ) → begins part (part ++ back) ≡ true
 begins_here [] back = refl
 begins_here (x ∷ part) back = let same = (Decides-eqb x x).1 refl in (λ i. same i && begins part (part ++ back)) ∙ begins_here part back
 
-begins_so : (part text : List ℕ) → begins part text ≡ true → (back : List ℕ) × (text ≡ part ++ back)
+pub begins_so : (part text : List ℕ) → begins part text ≡ true → (back : List ℕ) × (text ≡ part ++ back)
 begins_so [] text h = (text, refl)
 begins_so (x ∷ part) [] h = cc
 begins_so (x ∷ part) (y ∷ text) h =
@@ -47,7 +47,7 @@ or_right : (a b : Bool) → b ≡ true → (a || b) ≡ true
 or_right true b h = refl
 or_right false b h = h
 
-from_front : (part text : List ℕ) → begins part text ≡ true → is_part part text ≡ true
+pub from_front : (part text : List ℕ) → begins part text ≡ true → is_part part text ≡ true
 from_front part [] h = h
 from_front part (c ∷ text) h = or_left _ _ h
 

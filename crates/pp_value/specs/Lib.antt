@@ -2,6 +2,7 @@ pub mod formers
 pub mod Keys
 pub mod Faults
 pub mod Texts
+pub mod Hashes
 pub mod Values
 pub mod Table
 pub mod Shown

@@ -3,6 +3,7 @@
 
 mod compare;
 mod fault;
+mod hashes;
 mod keyed;
 mod laws;
 mod numbers;

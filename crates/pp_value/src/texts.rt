@@ -1,7 +1,9 @@
 //! Texts, ASCII case aside.
 
-ghost use Rattle.std.specs.Prelude.{◌≡◌};
+ghost use Rattle.std.specs.Prelude.{◌≡◌, false};
 ghost use Rattle.pp_value.specs.Texts.{lowered, same_text, less_text, begins, is_part};
+
+use crate::hashes::{goes_on, hash_from, next_hash, power_of};
 
 /// Whether two texts are equal, ASCII case aside.
 #[tactic(auto, using(crate::proofs::TextLaws::same_is))]
@@ -53,16 +55,42 @@ fn begins(part: &[u8], text: &[u8]) -> bool
     true
 }
 
-/// Whether the first stands somewhere in the second, ASCII case aside.
+/// Whether the part stands in front of the text, ASCII case aside. Where the hashes tell that it doesn't, nothing is compared.
+fn stands_first(part: &[u8], text: &[u8], alike: bool) -> bool
+    requires { alike ≡ false → begins (lowered part.now) (lowered text.now) ≡ false }
+    ensures { result ≡ begins (lowered part.now) (lowered text.now) }
+{
+    if !alike {
+        return false;
+    }
+    begins(part, text)
+}
+
+/// Whether the first stands somewhere in the second, ASCII case aside. The time is that of reading both, as far as texts that
+/// differ have hashes that differ.
 pub fn is_part(part: &[u8], text: &[u8]) -> bool
     ensures { result ≡ is_part (lowered part.now) (lowered text.now) }
 {
+    let Some((window, after)) = text.split_at_checked(part.len()) else {
+        return false;
+    };
+    let power = power_of(part);
+    let sought = hash_from(0, part);
+    let mut front: u64 = 0;
+    let mut end = hash_from(0, window);
     let mut rest = text;
-    while let Some((_, more)) = rest.split_first() {
-        if begins(part, rest) {
+    let mut ahead = after;
+    while let Some((next, beyond)) = ahead.split_first() {
+        if stands_first(part, rest, goes_on(front, power, sought, end)) {
             return true;
         }
+        let Some((first, more)) = rest.split_first() else {
+            return false;
+        };
+        front = next_hash(front, *first);
+        end = next_hash(end, *next);
         rest = more;
+        ahead = beyond;
     }
-    begins(part, rest)
+    stands_first(part, rest, goes_on(front, power, sought, end))
 }
