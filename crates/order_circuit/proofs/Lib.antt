@@ -1,3 +1,4 @@
 pub mod FollowLaws
 pub mod ExchangeLaws
 pub mod RunLaws
+pub mod PartLaws

@@ -1,5 +1,5 @@
 -- Codes that tell an order place by place.
-use Rattle.std.specs.Prelude.{ℕ, zero, suc, Bool, true, not, ◌&&◌, ◌==◌, List, map, if◌then◌else◌}
+use Rattle.std.specs.Prelude.{ℕ, zero, suc, ◌+◌, Bool, true, false, not, ◌&&◌, ◌==◌, nat_lt, List, [], ◌∷◌, map, take, drop, if◌then◌else◌}
 use Rattle.std.specs.List.{AllByRecursion}
 use Rattle.bool_circuit.specs.declared.gate.Wire.{Wire}
 use Rattle.bool_circuit.specs.declared.gate.Gate.{Gate}
@@ -24,3 +24,13 @@ AreRows gates rows = AllByRecursion (AreWires gates) rows
 abbrev pub all_stand : (ℕ → ℕ → Bool) → ℕ → (ℕ → Bool) → ℕ → ℕ → Bool
 all_stand before n taken m zero = true
 all_stand before n taken m (suc i) = all_stand before n taken m i && (if i == m then not (taken i) && all_taken before taken i n else true)
+
+-- the nodes ahead of a place, or those from it on
+abbrev pub part_of : Bool → ℕ → List ℕ → List ℕ
+part_of true j order = take j order
+part_of false j order = drop j order
+
+-- The nodes from place k on; those that aren't in the part give way to a number.
+abbrev pub kept_from : Bool → ℕ → ℕ → ℕ → List ℕ → List ℕ
+kept_from ahead blank j k [] = []
+kept_from ahead blank j k (i ∷ order) = (if nat_lt j (k + 1) then (if ahead then blank else i) else (if ahead then i else blank)) ∷ kept_from ahead blank j (k + 1) order

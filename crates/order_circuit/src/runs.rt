@@ -66,7 +66,7 @@ fn run_one(
 }
 
 /// Runs the program that the code tells.
-fn run_place(
+pub fn run_place(
     alloc: Global,
     sym: &mut Sym,
     domain: &Domain,

@@ -1,6 +1,6 @@
 //! What the question of order asks of its inputs, as one wire.
 
-ghost use Rattle.std.specs.Prelude.{◌≡◌, ◌↔◌, ◌<◌, true, map, length, IfOk};
+ghost use Rattle.std.specs.Prelude.{◌≡◌, ◌↔◌, ◌<◌, true, map, length, IfOk, OnOk};
 ghost use Rattle.bool_circuit.specs.Gates.{wire_value};
 ghost use Rattle.fs_lang.specs.Meaning.{program_of, programs_in};
 ghost use Rattle.fs_interpreter.specs.Meanings.{Valuation, Grows};
@@ -59,10 +59,11 @@ pub(crate) fn goal(
 ) -> Result<Wire, NoMemory>
     requires asking { IsAsking sym.old domain.now order.now.count asking.now }
     requires covers { CoversSteps domain.now.table (programs_in programs.now) }
+    requires count { length programs.now ≡ order.now.count }
     ensures wire { IfOk result (λ w. w.0 < length sym.new) }
     ensures exact { IfOk result (λ w. (v : Valuation) → (wire_value sym.new v w.0 ≡ true) ↔ TellsTree domain.now sym.old asking.now.cells
         (EndApart (map program_of programs.now) order.now (node sym.old v asking.now.place) (nodes sym.old v asking.now.codes) (exchanged (node sym.old v asking.now.place) (nodes sym.old v asking.now.codes))) v) }
-    ensures grows { Grows (circuit_meanings sym.old) (circuit_meanings sym.new) }
+    ensures grows { OnOk result (Grows (circuit_meanings sym.old) (circuit_meanings sym.new)) }
 {
     let left = asking.codes.as_slice();
     let right = exchanged_codes(alloc, sym, left, &asking.place)?;
@@ -73,9 +74,10 @@ pub(crate) fn goal(
         sym,
         domain,
         programs,
-        &asking.cells,
+        order,
         left,
-        right.as_slice(),
+        &asking.place,
+        &asking.cells,
     )?;
     sym.and(&both, &differ)
 }

@@ -7,6 +7,7 @@ mod asking;
 mod asks;
 mod ends;
 mod extension;
+mod fork;
 mod goal;
 mod known;
 mod order;

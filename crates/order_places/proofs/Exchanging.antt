@@ -24,7 +24,7 @@ none_ahead : (before : ℕ → ℕ → Type 0) (front back : List ℕ) → NoneA
 none_ahead before [] back h = h
 none_ahead before (i ∷ front) back h = none_ahead before front back h.1
 
-all_behind : (P : ℕ → Type 0) (front back : List ℕ) → AllByRecursion P (front ++ back) → AllByRecursion P back
+pub all_behind : (P : ℕ → Type 0) (front back : List ℕ) → AllByRecursion P (front ++ back) → AllByRecursion P back
 all_behind P [] back h = h
 all_behind P (i ∷ front) back h = all_behind P front back h.1
 
@@ -38,7 +38,7 @@ twice a back = let one = equal a in let sum : times a (a ∷ a ∷ back) ≡ 1 +
     equal : (i : ℕ) → (i == i) ≡ true
     equal i = elim (i == i) as (λ b. (i == i) ≡ b → b ≡ true) [ true ↦ λ k. refl | false ↦ λ k. absurd (eqb-false i i k refl) ] refl
 
-free : (n : ℕ) (before : ℕ → ℕ → Bool) (front back : List ℕ) (a b : ℕ) → IsLinearExtension n (Told before) (front ++ a ∷ b ∷ back) → IsLinearExtension n (Told before) (front ++ b ∷ a ∷ back) → IsFree (Told before) a b
+pub free : (n : ℕ) (before : ℕ → ℕ → Bool) (front back : List ℕ) (a b : ℕ) → IsLinearExtension n (Told before) (front ++ a ∷ b ∷ back) → IsLinearExtension n (Told before) (front ++ b ∷ a ∷ back) → IsFree (Told before) a b
 free n before front back a b one other = record {
   differ = λ same.
       let low : a < n = (all_behind (λ k. k < n) front (a ∷ b ∷ back) one.below).0 in

@@ -1,5 +1,5 @@
 -- Orders place by place.
-use Rattle.std.specs.Prelude.{◌≡◌, ℕ, zero, suc, ◌==◌, ◌+◌, ◌<◌, Bool, true, false, not, ◌&&◌, ◌||◌, nat_lt, List, [], ◌∷◌, length}
+use Rattle.std.specs.Prelude.{◌≡◌, ℕ, zero, suc, ◌==◌, ◌+◌, ◌-◌, ◌<◌, Bool, true, false, not, ◌&&◌, ◌||◌, nat_lt, List, [], ◌∷◌, ◌++◌, length, take, drop}
 use Rattle.fs_semantics.specs.Orders.{Told, IsLinearExtension, IsExchange}
 
 -- the order with the nodes at this place and the next exchanged
@@ -40,3 +40,7 @@ pub record AreNeighbours (n : ℕ) (before : ℕ → ℕ → Bool) (order other 
   pub first : IsLinearExtension n (Told before) order
   pub second : IsLinearExtension n (Told before) other
   pub exchange : IsExchange (Told before) order other
+
+-- These two at a place and the next, with what the order has ahead of the place and behind both.
+abbrev pub around : ℕ → List ℕ → ℕ → ℕ → List ℕ
+around j order x y = take j (take (length order - 2) order) ++ x ∷ y ∷ drop j (drop 2 order)
