@@ -69,7 +69,7 @@ tells_is gates d cells well P v e trees holds = (
 -- the cells are well, both orders are allowed, and they end differently
 pub apart_is : {B : Type 0} (gates : List Gate) (d : Domain) (cells : Cells B Wire (List Wire)) (well : Wire) (programs : List Program) (order : Relation) (j : ℕ) (left right : List ℕ) (v : Valuation) (a b : Bool) → AreTrees gates d cells well
     → (a ≡ true) ↔ AreAllowed order j left right
-    → ((t : Tree) → Stands d.table (state_of (circuit_meanings gates) v cells) t → (b ≡ true) ↔ (outcome programs left t ≢ outcome programs right t))
+    → ((t : Tree) → Stands d.table (state_of (circuit_meanings gates) v cells) t → AreAllowed order j left right → (b ≡ true) ↔ (outcome programs left t ≢ outcome programs right t))
     → (((wire_value gates v well.0 && a) && b) ≡ true) ↔ TellsTree d gates cells (EndApart programs order j left right) v
 apart_is gates d cells well programs order j left right v a b trees allowed differ = (
   (λ h. whole.0 (regroup (wire_value gates v well.0) ∙ h)),
@@ -82,8 +82,8 @@ apart_is gates d cells well programs order j left right v a b trees allowed diff
 
     whole : ((wire_value gates v well.0 && (a && b)) ≡ true) ↔ TellsTree d gates cells (EndApart programs order j left right) v
     whole = tells_is gates d cells well (EndApart programs order j left right) v (a && b) trees (λ t h. (
-      (λ e. let parts = and_true a b e in record { allowed = allowed.0 parts.0; differ = (differ t h).0 parts.1 }),
-      (λ k. true_and a b (allowed.1 k.allowed) ((differ t h).1 k.differ)),
+      (λ e. let parts = and_true a b e in let fine = allowed.0 parts.0 in record { allowed = fine; differ = (differ t h fine).0 parts.1 }),
+      (λ k. true_and a b (allowed.1 k.allowed) ((differ t h k.allowed).1 k.differ)),
     ))
 
 -- ---- one order

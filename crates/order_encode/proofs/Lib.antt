@@ -7,3 +7,4 @@ pub mod ExtensionLaws
 pub mod KnownLaws
 pub mod ReadLaws
 pub mod TableLaws
+pub mod ForkLaws

@@ -33,7 +33,7 @@ Found = (n : ℕ) (before : ℕ → ℕ → Bool) (order : List ℕ) (j : ℕ) �
 abbrev pub Placed : Type 0
 Placed = (n : ℕ) (before : ℕ → ℕ → Bool) (order other : List ℕ) → AreNeighbours n before order other → (j : ℕ) × (j + 1 < length order) × (exchanged j order ≡ other)
 
-exchanged_long : (j : ℕ) (order : List ℕ) → length (exchanged j order) ≡ length order
+pub exchanged_long : (j : ℕ) (order : List ℕ) → length (exchanged j order) ≡ length order
 exchanged_long j [] = refl
 exchanged_long j (a ∷ []) = refl
 exchanged_long zero (a ∷ b ∷ order) = refl

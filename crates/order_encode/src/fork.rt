@@ -187,8 +187,9 @@ fn with_row(
         → (k : ℕ) → i < k → k < order.now.count → IsFree (Comes order.now) i k → are_these i k (node sym.old v first.now) (node sym.old v second.now) ≡ true → EndApartAt (map program_of programs.now) o i k → wire_value sym.new v w.0 ≡ true) }
     ensures grows { OnOk result (Grows (circuit_meanings sym.old) (circuit_meanings sym.new)) }
 {
+    let n = order.count();
     let mut any = so_far;
-    for k in i + 1..order.count() {
+    for k in i + 1..n {
         any = with_pair(
             alloc, sym, domain, programs, order, i, k, first, second, fork, any,
         )?;

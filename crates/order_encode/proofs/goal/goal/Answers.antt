@@ -1,4 +1,4 @@
-use Rattle.std.proofs.Common.{◌≡◌, ◌≢◌, true, List, map, ap, subst, sym, ◌∙◌}
+use Rattle.std.proofs.Common.{◌≡◌, ◌≢◌, true, List, map, ap, subst, subst₂, sym, ◌∙◌}
 use Rattle.std.specs.Prelude.{◌&&◌, ◌↔◌}
 use Rattle.bool_circuit.specs.Gates.{wire_value}
 use Rattle.fs_semantics.specs.FileTree.{Tree}
@@ -13,6 +13,7 @@ use Rattle.order_circuit.specs.Codes.{node, nodes, AreRows}
 use Rattle.order_circuit.proofs.RunLaws.{nodes_stay, rows_stay}
 use Rattle.order_encode.specs.Goals.{AreAllowed}
 use Rattle.order_encode.proofs.GoalLaws.{apart_is, if_ok}
+use Rattle.order_encode.proofs.ForkLaws.{on_ok, same_for, differ_by}
 use Rattle.order_encode.proofs.goal.goal.Goals as goal
 
 pub returns-clause-exact : goal.returns-clause-exact
@@ -34,16 +35,14 @@ returns-clause-exact c = if_ok _ _ c.and-2.result (λ w is v.
     let g01 = c.exchanged_codes.ensures.grows in
     let g12 = c.allowed.ensures.grows in
     let g23 = c.and.ensures.grows in
-    let g34 = c.end_apart.ensures.grows in
+    let g34 = c.in_ok-differ.ensures.grows in
     let g02 = grows_on m0 m1 m2 g01 g12 in
-    let g13 = grows_on m1 m2 m3 g12 g23 in
-    let g03 = grows_on m0 m1 m3 g01 g13 in
+    let g03 = grows_on m0 m2 m3 g02 g23 in
     let j = node g0 v a.place in
     let left = nodes g0 v a.codes in
     let right = c.in_ok-right.right in
     let here = c.as_slice-left.ensures in
     let right1 = c.in_ok-right.ensures.value v ∙ ap (λ xs. exchanged j (nodes g0 v xs)) here in
-    let right3 : nodes s3 v right ≡ exchanged j left = nodes_stay s1 s3 right g13 c.in_ok-right.ensures.rows v ∙ right1 in
     let left1 = nodes_stay g0 s1 a.codes g01 asks.codes v in
     let left3 = nodes_stay g0 s3 a.codes g03 asks.codes v in
     let j1 = g01.code a.place asks.place v in
@@ -51,41 +50,18 @@ returns-clause-exact c = if_ok _ _ c.and-2.result (λ w is v.
     subst (λ k. (wire_value s2 v c.in_ok-fine.fine.0 ≡ true) ↔ AreAllowed order k left (exchanged j left)) j1
     (subst (λ ns. (wire_value s2 v c.in_ok-fine.fine.0 ≡ true) ↔ AreAllowed order (node s1 v a.place) ns (exchanged j left)) (ap (nodes s1 v) here ∙ left1)
     (subst (λ ns. (wire_value s2 v c.in_ok-fine.fine.0 ≡ true) ↔ AreAllowed order (node s1 v a.place) (nodes s1 v c.as_slice-left.result.now) ns) (ap (nodes s1 v) c.as_slice.ensures ∙ right1) (c.in_ok-fine.ensures.exact v))) in
-    let differ : (t : Tree) → Stands d.table (state_of m0 v a.cells) t → (wire_value s4 v c.in_ok-differ.differ.0 ≡ true) ↔ (outcome es left t ≢ outcome es (exchanged j left) t) = λ t h.
-    subst (λ ns. (wire_value s4 v c.in_ok-differ.differ.0 ≡ true) ↔ (outcome es ns t ≢ outcome es (exchanged j left) t)) (ap (nodes s3 v) here ∙ left3)
-    (subst (λ ns. (wire_value s4 v c.in_ok-differ.differ.0 ≡ true) ↔ (outcome es (nodes s3 v c.as_slice-left.result.now) t ≢ outcome es ns t)) (ap (nodes s3 v) c.as_slice-2.ensures ∙ right3)
-    (c.in_ok-differ.ensures.exact v t (subst (λ (s : State). Stands d.table s t) (sym (state_keeps m0 m3 a.cells g03 asks.trees.are_cells v)) h))) in
+    let order_is : nodes s3 v c.as_slice-left.result.now ≡ left = ap (nodes s3 v) here ∙ left3 in
+    let j3 = g03.code a.place asks.place v in
+    let right_is : exchanged (node s3 v a.place) (nodes s3 v c.as_slice-left.result.now) ≡ exchanged j left = λ x. exchanged (j3 x) (order_is x) in
+    let differ : (t : Tree) → Stands d.table (state_of m0 v a.cells) t → AreAllowed order j left (exchanged j left) → (wire_value s4 v c.in_ok-differ.differ.0 ≡ true) ↔ (outcome es left t ≢ outcome es (exchanged j left) t) = λ t h fine.
+    let h3 = subst (λ (s : State). Stands d.table s t) (sym (state_keeps m0 m3 a.cells g03 asks.trees.are_cells v)) h in
+    let fine3 = subst (λ k. AreAllowed order k (nodes s3 v c.as_slice-left.result.now) (exchanged (node s3 v a.place) (nodes s3 v c.as_slice-left.result.now))) (sym j3)
+    (subst₂ (AreAllowed order j) (sym order_is) (sym right_is) fine) in
+    same_for (wire_value s4 v c.in_ok-differ.differ.0) (c.in_ok-differ.ensures.exact v t h3 fine3) (differ_by _ _ _ _ (ap (λ xs. outcome es xs t) order_is) (ap (λ xs. outcome es xs t) right_is)) in
     let exact = apart_is g0 d a.cells a.well es order j left (exchanged j left) v (wire_value s2 v c.in_ok-fine.fine.0) (wire_value s4 v c.in_ok-differ.differ.0) asks.trees allowed differ in
     let both = g34.bit c.in_ok-both.both c.in_ok-both.ensures.gives.owned v ∙ c.in_ok-both.ensures.gives.means v ∙ ap (λ b. b && wire_value s2 v c.in_ok-fine.fine.0) (g02.bit a.well asks.trees.owned v) in
     let told = is.means v ∙ ap (λ b. b && wire_value s4 v c.in_ok-differ.differ.0) both in
     ((λ e. exact.0 (sym told ∙ e)), (λ e. told ∙ exact.1 e))) c.and-2.ensures.gives
-
-pub returns-in_err-fine-clause-grows : goal.returns-in_err-fine-clause-grows
-returns-in_err-fine-clause-grows c =
-    let m0 = circuit_meanings c.args.sym.now in
-    let m1 = circuit_meanings c.exchanged_codes.new.sym in
-    let m2 = circuit_meanings c.allowed.new.sym in
-    grows_on m0 m1 m2 c.exchanged_codes.ensures.grows c.allowed.ensures.grows
-
-pub returns-in_err-both-clause-grows : goal.returns-in_err-both-clause-grows
-returns-in_err-both-clause-grows c =
-    let m0 = circuit_meanings c.args.sym.now in
-    let m1 = circuit_meanings c.exchanged_codes.new.sym in
-    let m2 = circuit_meanings c.allowed.new.sym in
-    let m3 = circuit_meanings c.and.new.self in
-    let g02 = grows_on m0 m1 m2 c.exchanged_codes.ensures.grows c.allowed.ensures.grows in
-    grows_on m0 m2 m3 g02 c.and.ensures.grows
-
-pub returns-in_err-differ-clause-grows : goal.returns-in_err-differ-clause-grows
-returns-in_err-differ-clause-grows c =
-    let m0 = circuit_meanings c.args.sym.now in
-    let m1 = circuit_meanings c.exchanged_codes.new.sym in
-    let m2 = circuit_meanings c.allowed.new.sym in
-    let m3 = circuit_meanings c.and.new.self in
-    let m4 = circuit_meanings c.end_apart.new.sym in
-    let g02 = grows_on m0 m1 m2 c.exchanged_codes.ensures.grows c.allowed.ensures.grows in
-    let g03 = grows_on m0 m2 m3 g02 c.and.ensures.grows in
-    grows_on m0 m3 m4 g03 c.end_apart.ensures.grows
 
 pub returns-clause-grows : goal.returns-clause-grows
 returns-clause-grows c =
@@ -94,11 +70,9 @@ returns-clause-grows c =
     let m2 = circuit_meanings c.allowed.new.sym in
     let m3 = circuit_meanings c.and.new.self in
     let m4 = circuit_meanings c.end_apart.new.sym in
-    let m5 = circuit_meanings c.and-2.new.self in
     let g02 = grows_on m0 m1 m2 c.exchanged_codes.ensures.grows c.allowed.ensures.grows in
     let g03 = grows_on m0 m2 m3 g02 c.and.ensures.grows in
-    let g04 = grows_on m0 m3 m4 g03 c.end_apart.ensures.grows in
-    grows_on m0 m4 m5 g04 c.and-2.ensures.grows
+    on_ok _ c.and-2.result (grows_on m0 m4 (circuit_meanings c.and-2.new.self) (grows_on m0 m3 m4 g03 c.in_ok-differ.ensures.grows) c.and-2.ensures.grows)
 
 pub end_apart-requires-clause-cells : goal.end_apart-requires-clause-cells
 end_apart-requires-clause-cells c =
@@ -109,18 +83,11 @@ end_apart-requires-clause-cells c =
     let g02 = grows_on m0 m1 m2 c.exchanged_codes.ensures.grows c.allowed.ensures.grows in
     cells_stay m0 m3 c.args.asking.now.cells (grows_on m0 m2 m3 g02 c.and.ensures.grows) c.requires.asking.trees.are_cells
 
-pub end_apart-requires-clause-left : goal.end_apart-requires-clause-left
-end_apart-requires-clause-left c =
+pub end_apart-requires-clause-codes : goal.end_apart-requires-clause-codes
+end_apart-requires-clause-codes c =
     let m0 = circuit_meanings c.args.sym.now in
     let m1 = circuit_meanings c.exchanged_codes.new.sym in
     let m2 = circuit_meanings c.allowed.new.sym in
     let m3 = circuit_meanings c.and.new.self in
     let g02 = grows_on m0 m1 m2 c.exchanged_codes.ensures.grows c.allowed.ensures.grows in
     subst (AreRows c.and.new.self) (sym c.as_slice-left.ensures) (rows_stay c.args.sym.now c.and.new.self c.args.asking.now.codes (grows_on m0 m2 m3 g02 c.and.ensures.grows) c.requires.asking.codes)
-
-pub end_apart-requires-clause-right : goal.end_apart-requires-clause-right
-end_apart-requires-clause-right c =
-    let s1 = c.exchanged_codes.new.sym in
-    let s3 = c.and.new.self in
-    let g13 = grows_on (circuit_meanings s1) (circuit_meanings c.allowed.new.sym) (circuit_meanings s3) c.allowed.ensures.grows c.and.ensures.grows in
-    subst (AreRows s3) (sym c.as_slice-2.ensures) (rows_stay s1 s3 c.in_ok-right.right g13 c.in_ok-right.ensures.rows)

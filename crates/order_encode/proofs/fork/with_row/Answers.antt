@@ -1,0 +1,52 @@
+use Rattle.std.proofs.Common.{◌≡◌, ℕ, ◌+◌, ◌<◌, ◌≤◌, ◌==◌, true, false, map, length, refl, subst, sym, ap, ◌∙◌, arith, eqb-true}
+use Rattle.std.proofs.lemmas.Bool.{eqb-false}
+use Rattle.bool_circuit.specs.Gates.{wire_value}
+use Rattle.fs_semantics.specs.Orders.{IsFree}
+use Rattle.fs_lang.specs.Meaning.{program_of}
+use Rattle.fs_interpreter.specs.States.{State, state_of}
+use Rattle.fs_interpreter.specs.Standing.{StandsFor}
+use Rattle.fs_interpreter.proofs.Frames.{grows_on, cells_stay, state_keeps}
+use Rattle.orders.specs.Relation.{Comes}
+use Rattle.sym_run.specs.Wires.{circuit_meanings}
+use Rattle.order_circuit.specs.Codes.{node}
+use Rattle.order_encode.specs.Goals.{are_these, EndApartAt}
+use Rattle.order_encode.proofs.ForkLaws.{below}
+use Rattle.order_encode.proofs.fork.with_row.Goals as goal
+
+pub loop-k-preserved : goal.loop-k-preserved
+loop-k-preserved c =
+    let before = c.loop-k.invariant in
+    let g0 = c.args.sym.now in
+    let g1 = c.loop-k.sym in
+    let m0 = circuit_meanings g0 in
+    let m1 = circuit_meanings g1 in
+    let m2 = circuit_meanings c.with_pair.new.sym in
+    let i = c.args.i in
+    let k = c.loop-k.k in
+    let first = c.args.first.now in
+    let second = c.args.second.now in
+    let fork = c.args.fork.now in
+    let order = c.args.order.now in
+    let es = map program_of c.args.programs.now in
+    let pair = c.in_ok-any.ensures in
+    record {
+      any = pair.wire;
+      first = pair.grows.owns_code first before.first;
+      second = pair.grows.owns_code second before.second;
+      cells = cells_stay m1 m2 fork pair.grows before.cells;
+      grows = grows_on m0 m1 m2 before.grows pair.grows;
+      stays = λ v e. pair.stays v (before.stays v e);
+      found = λ v o h n low high free these apart. elim (n == k) as (λ b. (n == k) ≡ b → wire_value c.with_pair.new.sym v c.in_ok-any.any.0 ≡ true) [
+        | true ↦ λ e.
+            let same = eqb-true n k e in
+            let h1 = subst (λ (s : State). StandsFor c.args.domain.now.table s o) (sym (state_keeps m0 m1 fork before.grows c.requires.cells v)) h in
+            let first_is = before.grows.code first c.requires.first v in
+            let second_is = before.grows.code second c.requires.second v in
+            pair.found v o h1 (subst (λ m. IsFree (Comes order) i m) same free)
+            ((λ t. are_these i (sym same t) (first_is t) (second_is t)) ∙ these)
+            (subst (λ m. EndApartAt es o i m) same apart)
+        | false ↦ λ e.
+            let other = eqb-false n k e in
+            pair.stays v (before.found v o h n low (below n k high other) free these apart)
+      ] refl;
+    }
