@@ -1,4 +1,4 @@
-pub mod MarkLaws
+pub mod LitLaws
 pub mod Numbers
 pub mod Chains
 pub mod WordLaws

@@ -1,4 +1,4 @@
-pub mod Marks
+pub mod LitSets
 pub mod Faults
 pub mod Joining
 pub mod Causes

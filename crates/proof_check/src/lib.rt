@@ -2,7 +2,7 @@
 #![tactic(auto)]
 
 mod fault;
-mod marks;
+mod literals;
 mod steps;
 mod text;
 
