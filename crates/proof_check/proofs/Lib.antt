@@ -4,3 +4,4 @@ pub mod Chains
 pub mod WordLaws
 pub mod Turns
 pub mod Spelling
+pub mod Writing

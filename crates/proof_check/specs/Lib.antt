@@ -7,3 +7,4 @@ pub mod ProofWords
 pub mod WordsLeft
 pub mod Reading
 pub mod WordReading
+pub mod Writing
