@@ -1,9 +1,9 @@
 -- Laws of the clauses that define the value of a gate.
-use Rattle.std.proofs.Common.{◌≡◌, ℕ, ◌+◌, Bool, true, false, not, ◌&&◌, ◌||◌, List, refl, sym, ap, ◌∙◌, subst, if◌then◌else◌}
+use Rattle.std.proofs.Common.{◌≡◌, ℕ, ◌+◌, Bool, true, false, not, ◌&&◌, ◌||◌, List, [], ◌∷◌, refl, sym, ap, ◌∙◌, subst, if◌then◌else◌}
 use Rattle.cnf.specs.declared.lit.Lit.{Lit}
-use Rattle.cnf.specs.Literals.{opposite, lit_true, HasVariable}
+use Rattle.cnf.specs.Literals.{opposite, same_lit, lit_true, HasVariable}
 use Rattle.cnf.specs.Formulas.{Formula, IsFormula, Satisfies}
-use Rattle.cnf.specs.Defining.{Defines, yes, with_clauses, constant_clauses, and_clauses, mux_clauses}
+use Rattle.cnf.specs.Defining.{Defines, yes, no, with_clauses, constant_clauses, and_clauses, mux_clauses}
 use Rattle.cnf.proofs.ClauseLaws.{lit_true-opposite}
 use Rattle.cnf.proofs.Definitions.{fresh_defines, lit_true-same}
 
@@ -67,46 +67,71 @@ and_defines f a b is ha hb =
     (λ v h. and_holds v (f.vars + 1) a b h)
 
 -- ---- choice
-abbrev MuxHolds : Bool → Bool → Bool → Bool → Bool → Bool → Bool → Type 0
-MuxHolds x c a b not_c not_a not_b =
+-- what two clauses say once more
+abbrev MoreHolds : Bool → Bool → Bool → Bool → Bool → Bool → Type 0
+MoreHolds true x a b not_a not_b = Unit {0}
+MoreHolds false x a b not_a not_b = ((not x || (a || (b || false))) ≡ true) × (((x || (not_a || (not_b || false))) ≡ true) × Unit {0})
+
+abbrev MuxHolds : Bool → Bool → Bool → Bool → Bool → Bool → Bool → Bool → Type 0
+MuxHolds apart x c a b not_c not_a not_b =
     ((not x || (not_c || (a || false))) ≡ true) × (((not x || (c || (b || false))) ≡ true) × (((x || (not_c || (not_a || false))) ≡ true)
-    × (((x || (c || (not_b || false))) ≡ true) × (((not x || (a || (b || false))) ≡ true) × (((x || (not_a || (not_b || false))) ≡ true) × Unit {0})))))
+    × (((x || (c || (not_b || false))) ≡ true) × MoreHolds apart x a b not_a not_b)))
 
-mux_is : (x c a b : Bool) → MuxHolds x c a b (not c) (not a) (not b) → x ≡ (if c then a else b)
-mux_is true true true b h = refl
-mux_is true true false b h = sym h.0
-mux_is true false a true h = refl
-mux_is true false a false h = sym h.1.0
-mux_is false true true b h = h.1.1.0
-mux_is false true false b h = refl
-mux_is false false a true h = h.1.1.1.0
-mux_is false false a false h = refl
+mux_is : (apart x c a b : Bool) → MuxHolds apart x c a b (not c) (not a) (not b) → x ≡ (if c then a else b)
+mux_is apart true true true b h = refl
+mux_is apart true true false b h = sym h.0
+mux_is apart true false a true h = refl
+mux_is apart true false a false h = sym h.1.0
+mux_is apart false true true b h = h.1.1.0
+mux_is apart false true false b h = refl
+mux_is apart false false a true h = h.1.1.1.0
+mux_is apart false false a false h = refl
 
-mux_true : (c a b : Bool) → MuxHolds (if c then a else b) c a b (not c) (not a) (not b)
-mux_true true true true = (refl, (refl, (refl, (refl, (refl, (refl, tt))))))
-mux_true true true false = (refl, (refl, (refl, (refl, (refl, (refl, tt))))))
-mux_true true false true = (refl, (refl, (refl, (refl, (refl, (refl, tt))))))
-mux_true true false false = (refl, (refl, (refl, (refl, (refl, (refl, tt))))))
-mux_true false true true = (refl, (refl, (refl, (refl, (refl, (refl, tt))))))
-mux_true false true false = (refl, (refl, (refl, (refl, (refl, (refl, tt))))))
-mux_true false false true = (refl, (refl, (refl, (refl, (refl, (refl, tt))))))
-mux_true false false false = (refl, (refl, (refl, (refl, (refl, (refl, tt))))))
+more_true : (apart c a b : Bool) → MoreHolds apart (if c then a else b) a b (not a) (not b)
+more_true true c a b = tt
+more_true false true true b = (refl, (refl, tt))
+more_true false true false true = (refl, (refl, tt))
+more_true false true false false = (refl, (refl, tt))
+more_true false false true true = (refl, (refl, tt))
+more_true false false true false = (refl, (refl, tt))
+more_true false false false true = (refl, (refl, tt))
+more_true false false false false = (refl, (refl, tt))
+
+mux_true : (apart c a b : Bool) → MuxHolds apart (if c then a else b) c a b (not c) (not a) (not b)
+mux_true apart true true b = (refl, (refl, (refl, (refl, more_true apart true true b))))
+mux_true apart true false b = (refl, (refl, (refl, (refl, more_true apart true false b))))
+mux_true apart false a true = (refl, (refl, (refl, (refl, more_true apart false a true))))
+mux_true apart false a false = (refl, (refl, (refl, (refl, more_true apart false a false))))
 
 module _ (v : ℕ → Bool) (x : ℕ) (c a b : Lit) where
+  -- the last two clauses, where they stand
+  more_says : (apart : Bool) → Satisfies v (if apart then [] else (no x ∷ a ∷ b ∷ []) ∷ (yes x ∷ opposite a ∷ opposite b ∷ []) ∷ []) → MoreHolds apart (v x) (lit_true v a) (lit_true v b) (lit_true v (opposite a)) (lit_true v (opposite b))
+  more_says true s = tt
+  more_says false s = s
+
+  says_more : (apart : Bool) → MoreHolds apart (v x) (lit_true v a) (lit_true v b) (lit_true v (opposite a)) (lit_true v (opposite b)) → Satisfies v (if apart then [] else (no x ∷ a ∷ b ∷ []) ∷ (yes x ∷ opposite a ∷ opposite b ∷ []) ∷ [])
+  says_more true s = tt
+  says_more false s = s
+
+  abbrev apart : Bool
+  apart = same_lit a (opposite b)
+
   mux_says : Satisfies v (mux_clauses x c a b) → v x ≡ (if lit_true v c then lit_true v a else lit_true v b)
   mux_says s =
-      mux_is (v x) (lit_true v c) (lit_true v a) (lit_true v b)
-      (subst (λ n. MuxHolds (v x) (lit_true v c) (lit_true v a) (lit_true v b) n (not (lit_true v a)) (not (lit_true v b))) (lit_true-opposite v c)
-      (subst (λ n. MuxHolds (v x) (lit_true v c) (lit_true v a) (lit_true v b) (lit_true v (opposite c)) n (not (lit_true v b))) (lit_true-opposite v a)
-      (subst (λ n. MuxHolds (v x) (lit_true v c) (lit_true v a) (lit_true v b) (lit_true v (opposite c)) (lit_true v (opposite a)) n) (lit_true-opposite v b) s)))
+      mux_is apart (v x) (lit_true v c) (lit_true v a) (lit_true v b)
+      (subst (λ n. MuxHolds apart (v x) (lit_true v c) (lit_true v a) (lit_true v b) n (not (lit_true v a)) (not (lit_true v b))) (lit_true-opposite v c)
+      (subst (λ n. MuxHolds apart (v x) (lit_true v c) (lit_true v a) (lit_true v b) (lit_true v (opposite c)) n (not (lit_true v b))) (lit_true-opposite v a)
+      (subst (λ n. MuxHolds apart (v x) (lit_true v c) (lit_true v a) (lit_true v b) (lit_true v (opposite c)) (lit_true v (opposite a)) n) (lit_true-opposite v b)
+      (s.0, (s.1.0, (s.1.1.0, (s.1.1.1.0, more_says apart s.1.1.1.1)))))))
 
   mux_holds : v x ≡ (if lit_true v c then lit_true v a else lit_true v b) → Satisfies v (mux_clauses x c a b)
   mux_holds h =
-      subst (λ n. MuxHolds (v x) (lit_true v c) (lit_true v a) (lit_true v b) (lit_true v (opposite c)) (lit_true v (opposite a)) n) (sym (lit_true-opposite v b))
-      (subst (λ n. MuxHolds (v x) (lit_true v c) (lit_true v a) (lit_true v b) (lit_true v (opposite c)) n (not (lit_true v b))) (sym (lit_true-opposite v a))
-      (subst (λ n. MuxHolds (v x) (lit_true v c) (lit_true v a) (lit_true v b) n (not (lit_true v a)) (not (lit_true v b))) (sym (lit_true-opposite v c))
-      (subst (λ y. MuxHolds y (lit_true v c) (lit_true v a) (lit_true v b) (not (lit_true v c)) (not (lit_true v a)) (not (lit_true v b))) (sym h)
-      (mux_true (lit_true v c) (lit_true v a) (lit_true v b)))))
+      let s = subst (λ n. MuxHolds apart (v x) (lit_true v c) (lit_true v a) (lit_true v b) (lit_true v (opposite c)) (lit_true v (opposite a)) n) (sym (lit_true-opposite v b))
+      (subst (λ n. MuxHolds apart (v x) (lit_true v c) (lit_true v a) (lit_true v b) (lit_true v (opposite c)) n (not (lit_true v b))) (sym (lit_true-opposite v a))
+      (subst (λ n. MuxHolds apart (v x) (lit_true v c) (lit_true v a) (lit_true v b) n (not (lit_true v a)) (not (lit_true v b))) (sym (lit_true-opposite v c))
+      (subst (λ y. MuxHolds apart y (lit_true v c) (lit_true v a) (lit_true v b) (not (lit_true v c)) (not (lit_true v a)) (not (lit_true v b))) (sym h)
+      (mux_true apart (lit_true v c) (lit_true v a) (lit_true v b))))) in
+      (s.0, (s.1.0, (s.1.1.0, (s.1.1.1.0, says_more apart s.1.1.1.1))))
 
 pub mux_defines : (f : Formula) (c a b : Lit) → IsFormula f → HasVariable f.vars c → HasVariable f.vars a → HasVariable f.vars b
     → Defines f (record { vars = f.vars + 1; clauses = with_clauses f.clauses (mux_clauses (f.vars + 1) c a b) }) (yes (f.vars + 1)) (λ v. if lit_true v c then lit_true v a else lit_true v b)

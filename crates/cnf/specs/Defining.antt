@@ -1,10 +1,10 @@
 -- How the formula of a circuit is made: gate by gate, each with a literal that has its value.
-use Rattle.std.specs.Prelude.{◌≡◌, ℕ, ◌<◌, ◌≤◌, Bool, true, false, List, ◌++◌, [], ◌∷◌, length, slice_get, Some, unwrap_or}
+use Rattle.std.specs.Prelude.{◌≡◌, ℕ, ◌<◌, ◌≤◌, Bool, true, false, List, ◌++◌, [], ◌∷◌, length, slice_get, Some, unwrap_or, if◌then◌else◌}
 use Rattle.bool_circuit.specs.declared.gate.Gate.{Gate}
 use Rattle.bool_circuit.specs.declared.gate.Gate.TheVariants.{Input, Constant, Not, And, Mux}
 use Rattle.bool_circuit.specs.Gates.{truth_at, gate_value, input_count, wire_value}
 use Rattle.cnf.specs.declared.lit.Lit.{Lit}
-use Rattle.cnf.specs.Literals.{opposite, lit_true, HasVariable}
+use Rattle.cnf.specs.Literals.{opposite, same_lit, lit_true, HasVariable}
 use Rattle.cnf.specs.Clauses.{clause_of}
 use Rattle.cnf.specs.Formulas.{Formula, Satisfies}
 use Rattle.cnf.specs.Encoding.{inputs_in}
@@ -29,7 +29,8 @@ abbrev pub with_clauses : List (List Lit) → List (List Lit) → List (List Lit
 with_clauses cs [] = cs
 with_clauses cs (c ∷ more) = with_clauses (cs ++ clause_of c ∷ []) more
 
--- the variable x is that value; it is a and b; it is a where c is true, and else b
+-- the variable x is that value; it is a and b; it is a where c is true, and else b, which two clauses say once more where a and
+-- b aren't opposite
 abbrev pub constant_clauses : ℕ → Bool → List (List Lit)
 constant_clauses x b = (record { var = x; positive = b } ∷ []) ∷ []
 
@@ -39,7 +40,7 @@ and_clauses x a b = (no x ∷ a ∷ []) ∷ (no x ∷ b ∷ []) ∷ (yes x ∷ o
 abbrev pub mux_clauses : ℕ → Lit → Lit → Lit → List (List Lit)
 mux_clauses x c a b =
     (no x ∷ opposite c ∷ a ∷ []) ∷ (no x ∷ c ∷ b ∷ []) ∷ (yes x ∷ opposite c ∷ opposite a ∷ []) ∷ (yes x ∷ c ∷ opposite b ∷ [])
-    ∷ (no x ∷ a ∷ b ∷ []) ∷ (yes x ∷ opposite a ∷ opposite b ∷ []) ∷ []
+    ∷ (if same_lit a (opposite b) then [] else (no x ∷ a ∷ b ∷ []) ∷ (yes x ∷ opposite a ∷ opposite b ∷ []) ∷ [])
 
 -- the literal of a wire
 abbrev pub lit_at : List Lit → ℕ → Lit

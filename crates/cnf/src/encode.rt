@@ -2,7 +2,7 @@
 
 ghost use Rattle.std.specs.Prelude.{◌≡◌, ◌↔◌, ◌+◌, ◌<◌, ◌≤◌, ℕ, Bool, true, ◌&&◌, if◌then◌else◌, [], ◌∷◌, ◌++◌, length, IfOk, OnOk};
 ghost use Rattle.bool_circuit.specs.Gates.{truth_at, input_count, wire_value, PlaceBelow, OperandsBelow};
-ghost use Rattle.cnf.specs.Literals.{opposite, lit_true, HasVariable};
+ghost use Rattle.cnf.specs.Literals.{opposite, same_lit, lit_true, HasVariable};
 ghost use Rattle.cnf.specs.Clauses.{clause_of};
 ghost use Rattle.cnf.specs.Formulas.{IsSatisfiable};
 ghost use Rattle.cnf.specs.Encoding.{StatesGoal};
@@ -54,7 +54,14 @@ fn write_and(cnf: &mut Cnf, x: u64, a: Lit, b: Lit) -> Result<(), NoMemory>
     add_three(cnf, yes, a.opposite(), b.opposite())
 }
 
-/// Says that a variable is a where c is true, and else b.
+/// Whether two literals are opposite.
+fn are_opposite(a: Lit, b: Lit) -> bool
+    ensures { result ≡ same_lit a (opposite b) }
+{
+    a == b.opposite()
+}
+
+/// Says that a variable is a where c is true, and else b. Where a and b are opposite, the last two clauses would say nothing.
 fn write_mux(cnf: &mut Cnf, x: u64, c: Lit, a: Lit, b: Lit) -> Result<(), NoMemory>
     requires low { 1 ≤ x }
     requires high { x ≤ cnf.old.vars }
@@ -75,6 +82,9 @@ fn write_mux(cnf: &mut Cnf, x: u64, c: Lit, a: Lit, b: Lit) -> Result<(), NoMemo
     add_three(cnf, no, c, b)?;
     add_three(cnf, yes, c.opposite(), a.opposite())?;
     add_three(cnf, yes, c, b.opposite())?;
+    if are_opposite(a, b) {
+        return Ok(());
+    }
     add_three(cnf, no, a, b)?;
     add_three(cnf, yes, a.opposite(), b.opposite())
 }

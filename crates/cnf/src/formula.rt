@@ -14,12 +14,12 @@ use std::marker::Model;
 /// The greatest number of variables that a formula can have.
 const MOST_VARIABLES: u64 = 1 << 31;
 
-/// A list of clauses over the variables from 1 on. All literals stand in one array of words.
+/// A list of clauses over the variables from 1 on. All literals stand in one array of words, of which there are less than 2^32.
 #[derive(Debug, Drop)]
 pub struct Cnf {
     vars: u64,
     words: Vec<u32>,
-    ends: Vec<usize>,
+    ends: Vec<u32>,
 }
 
 impl Model for Cnf {
@@ -69,7 +69,7 @@ fn push_words(words: &mut Vec<u32>, lits: &[Lit]) -> Result<(), NoMemory>
 }
 
 /// Appends a clause, or leaves all as it is.
-fn push_clause(words: &mut Vec<u32>, ends: &mut Vec<usize>, lits: &[Lit]) -> Result<(), NoMemory>
+fn push_clause(words: &mut Vec<u32>, ends: &mut Vec<u32>, lits: &[Lit]) -> Result<(), NoMemory>
     requires { All (HasVariable (2 ^ 31)) lits.now }
     ensures words { OnOk result (words.new.items ≡ words.old.items ++ map word_of lits.now) }
     ensures ends { OnOk result (ends.new.items ≡ ends.old.items ++ length words.new.items ∷ []) }
@@ -78,7 +78,8 @@ fn push_clause(words: &mut Vec<u32>, ends: &mut Vec<usize>, lits: &[Lit]) -> Res
 {
     let before = words.len();
     push_words(words, lits)?;
-    if ends.push(words.len()).is_err() {
+    let end = words.len();
+    if end > u32::MAX as usize || ends.push(end as u32).is_err() {
         words.truncate(before);
         return Err(NoMemory);
     }
@@ -87,16 +88,16 @@ fn push_clause(words: &mut Vec<u32>, ends: &mut Vec<usize>, lits: &[Lit]) -> Res
 
 /// Where the clause with this number begins and ends.
 #[tactic(auto, using(crate::proofs::StoreLaws::start_at))]
-fn bounds(ends: &[usize], i: usize) -> (usize, usize)
+fn bounds(ends: &[u32], i: usize) -> (usize, usize)
     requires low { 1 ≤ i }
     requires high { i ≤ length ends.now }
     ensures start { result.0 ≡ start_of 0 ends.now (i - 1) }
     ensures end { result.1 ≡ slice_index ends.now (i - 1) }
 {
     if i == 1 {
-        return (0, ends[0]);
+        return (0, ends[0] as usize);
     }
-    (ends[i - 2], ends[i - 1])
+    (ends[i - 2] as usize, ends[i - 1] as usize)
 }
 
 impl Cnf {

@@ -7,7 +7,7 @@ ghost use Rattle.std.specs.Cmp.{nat_cmp_total};
 use std::cmp::Ordering;
 
 /// A variable, which is counted from 1, or its opposite.
-#[derive(Clone, Copy, Debug, PartialEq, Eq)]
+#[derive(Clone, Copy, Debug, PartialEq, Eq, Hash)]
 pub struct Lit {
     pub var: u64,
     pub positive: bool,

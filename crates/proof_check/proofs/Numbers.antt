@@ -13,7 +13,7 @@ use Rattle.cnf.specs.Formulas.{Formula, IsFormula, clause_at}
 use Rattle.cnf.specs.Proofs.{numbered}
 use Rattle.cnf.proofs.ClauseLaws.{one_clause, IsClause-with_lit, IsClause-clause_of, has_lit-with_lit, has_lit-clause_of, same_is}
 use Rattle.proof_check.specs.Joining.{earlier_of, joined, AreClean}
-use Rattle.proof_check.proofs.MarkLaws.{has_lit-append, IsClause-without}
+use Rattle.proof_check.proofs.LitLaws.{has_lit-append, IsClause-without}
 
 pub numbered_at : (cs : List (List Lit)) (n : ℕ) → 1 ≤ n → numbered cs n ≡ slice_get cs (n - 1)
 numbered_at cs zero h = absurd (omega arith)
@@ -108,14 +108,6 @@ earlier_more f steps i s at =
     ap (earlier_of f) (take_more_at steps i s at)
     ∙ ap (λ t. f.clauses ++ t) (map-append (λ (s : Step). s.clause) (take i steps) (s ∷ []))
     ∙ sym (append_assoc f.clauses (map (λ (s : Step). s.clause) (take i steps)) (s.clause ∷ []))
-
--- a literal whose opposite stands in a clause has a variable
-all_has : (P : Lit → Type 0) (c : List Lit) (x : Lit) → AllByRecursion P c → has_lit c x ≡ true → P x
-all_has P [] x h e = absurd (true≢false (sym e))
-all_has P (l ∷ c) x h e = elim (or_cases (same_lit x l) (has_lit c x) e) [ inl s ↦ subst P (sym (same_is x l s)) h.0 | inr r ↦ all_has P c x h.1 r ]
-
-pub pivot_variable : (n : ℕ) (c : List Lit) (pivot : Lit) → HasVariables n c → has_lit c (opposite pivot) ≡ true → HasVariable n pivot
-pivot_variable n c pivot h e = all_has (HasVariable n) c (opposite pivot) h e
 
 -- what is put in where a pivot was taken out is the resolvent
 pub resolved : (c named : List Lit) (pivot : Lit) → IsClause c → joined (without pivot c) (without (opposite pivot) named) ≡ resolvent pivot c named

@@ -94,7 +94,7 @@ value_grows : (n : ℕ) (ds : List ℕ) → n ≤ digits_value_after 10 n ds
 value_grows n [] = omega arith
 value_grows n (c ∷ cs) = omega (arith, value_grows (n * 10 + digit_value c) cs)
 
-digit_range : (c : ℕ) → digit_value c < 10 → (48 ≤ c) × (c ≤ 57)
+pub digit_range : (c : ℕ) → digit_value c < 10 → (48 ≤ c) × (c ≤ 57)
 digit_range c h = digit_at (c ∷ []) 0 (h, tt) (omega arith)
 
 digits_read : (n : ℕ) (ds : List ℕ) → AllDigits 10 ds → digits_value_after 10 n ds < 9223372036854775808 → digits_behind n ds ≡ Some (digits_value_after 10 n ds)

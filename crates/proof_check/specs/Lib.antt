@@ -1,4 +1,4 @@
-pub mod Marks
+pub mod LitSets
 pub mod Faults
 pub mod Joining
 pub mod Causes
@@ -7,3 +7,4 @@ pub mod ProofWords
 pub mod WordsLeft
 pub mod Reading
 pub mod WordReading
+pub mod Writing

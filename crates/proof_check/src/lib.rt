@@ -2,10 +2,17 @@
 #![tactic(auto)]
 
 mod fault;
-mod marks;
+mod literals;
 mod steps;
 mod text;
+
+ghost use Rattle.proof_check.specs.Writing.{WrittenProofsAreRead};
 
 pub use fault::{Bad, Cause, CheckFault};
 pub use steps::{Verified, check};
 pub use text::read_proofs;
+
+/// What `write_proof` writes of logs whose steps are right, behind the line that says how many there are, spells just these.
+pub fn written_proofs_are_read()
+    ensures { WrittenProofsAreRead }
+{}

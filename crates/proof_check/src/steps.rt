@@ -14,7 +14,7 @@ ghost use Rattle.proof_check.specs.Faults.{LeadsTo, Resolves, LinkFails, ChainFa
 ghost use Rattle.proof_check.specs.Causes.{IfCause, IfBad, IsLocated};
 
 use crate::fault::{Bad, Cause, CheckFault, StepFault};
-use crate::marks::LitSet;
+use crate::literals::LitSet;
 use cnf::{Cnf, Link, Lit, Log, Step};
 use rh_base::NoMemory;
 use std::alloc::Global;
@@ -226,10 +226,7 @@ fn check_steps(alloc: Global, cnf: &Cnf, steps: &[Step]) -> Result<(), CheckFaul
     ensures ok { OnOk result (AreRight cnf.now.clauses steps.now) }
     ensures fails { IfErr result (λ e. IfBad e (λ n cause. FirstFault cnf.now.clauses steps.now n cause)) }
 {
-    let mut set = match LitSet::new(alloc, cnf.vars()) {
-        Ok(set) => set,
-        Err(m) => return Err(CheckFault::Memory(m)),
-    };
+    let mut set = LitSet::new(alloc, cnf.vars());
     let mut named = Vec::new(alloc);
     for i in 0..steps.len() {
         match check_step(alloc, &mut set, cnf, &steps[..i], &mut named, &steps[i]) {

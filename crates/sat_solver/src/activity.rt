@@ -11,6 +11,9 @@ const OUTSIDE: u32 = u32::MAX;
 /// What a conflict adds to the activity of a variable at first.
 const FIRST_BUMP: u64 = 1 << 10;
 
+/// With each conflict what one adds grows by one part in so many.
+const AGING: u64 = 50;
+
 /// Past this bump all activities are divided.
 const GREATEST_BUMP: u64 = 1 << 50;
 
@@ -229,7 +232,7 @@ impl Activity {
 
     /// What is raised later counts for more.
     fn age(&mut self) {
-        self.bump = self.bump.saturating_add(self.bump / 16);
+        self.bump = self.bump.saturating_add(self.bump / AGING);
         if self.bump < GREATEST_BUMP {
             return;
         }

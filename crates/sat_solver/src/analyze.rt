@@ -5,6 +5,7 @@ ghost use Rattle.sat_solver.specs.Words.{opposite, has};
 ghost use Rattle.sat_solver.specs.Resolving.{IsApart, is_seen, count, IsMarked, in_clause, Reaches, IsGiven, IsLeft, IsClear, Covers};
 ghost use Rattle.sat_solver.specs.Watching.{clause, IsFalse, IsOnce, AtRest};
 
+use crate::plan::Plan;
 use crate::store::Store;
 use crate::trail::Trail;
 use crate::word::opposite;
@@ -19,13 +20,16 @@ pub(crate) struct Hop {
 }
 
 /// The clause so far: its literals are false, and their variables are marked. How many became false at the last level; the
-/// literals that were ever marked; and the resolutions.
+/// literals that were ever marked; and the resolutions. So many of the marked ones took part in the conflict; and those that
+/// may go afterwards.
 #[derive(Drop)]
 pub(crate) struct Resolvent {
     pub seen: Vec<bool>,
     pub marked: Vec<u32>,
     pub pending: usize,
     pub hops: Vec<Hop>,
+    pub met: usize,
+    pub plan: Plan,
 }
 
 impl Resolvent {
@@ -39,13 +43,23 @@ impl Resolvent {
             marked: Vec::new(alloc),
             pending: 0,
             hops: Vec::new(alloc),
+            met: 0,
+            plan: Plan::new(alloc, vars)?,
         })
+    }
+
+    /// The literals that took part in the conflict.
+    pub(crate) fn met(&self) -> &[u32] {
+        if self.met < self.marked.len() {
+            return &self.marked[..self.met];
+        }
+        &self.marked
     }
 }
 
 /// Whether the variable of a literal is marked.
 #[inline]
-fn is_marked(seen: &[bool], word: u32) -> bool
+pub(crate) fn is_marked(seen: &[bool], word: u32) -> bool
     requires { word / 2 < length seen.now }
     ensures { result ≡ is_seen seen.now word }
 {
@@ -88,7 +102,7 @@ fn mark(
 }
 
 /// Joins the literals of a clause, but for one; they are false.
-fn join(
+pub(crate) fn join(
     r: &mut Resolvent,
     lits: &[u32],
     skip: u32,
@@ -117,6 +131,23 @@ fn join(
     Ok(())
 }
 
+/// Takes the opposite of a literal out of the clause so far: names the clause that gave the literal.
+#[inline]
+pub(crate) fn cut(r: &mut Resolvent, word: u32, reason: u32) -> Result<(), NoMemory>
+    requires within { word / 2 < length r.old.seen.items }
+    ensures seen { OnOk result (r.new.seen.items ≡ slice_set r.old.seen.items (word / 2) false) }
+    ensures pending { OnOk result (r.new.pending ≡ r.old.pending) }
+    ensures marked { OnOk result (r.new.marked ≡ r.old.marked) }
+    ensures hops { OnOk result (r.new.hops.items ≡ r.old.hops.items ++ record { number = reason; pivot = opposite word } ∷ []) }
+{
+    r.hops.push(Hop {
+        number: reason,
+        pivot: opposite(word),
+    })?;
+    r.seen[(word / 2) as usize] = false;
+    Ok(())
+}
+
 /// Takes a literal out of the clause so far, in which it is the last on the trail: names the clause that gave its opposite.
 #[inline]
 fn take_out(r: &mut Resolvent, word: u32, reason: u32) -> Result<(), NoMemory>
@@ -127,11 +158,7 @@ fn take_out(r: &mut Resolvent, word: u32, reason: u32) -> Result<(), NoMemory>
     ensures marked { OnOk result (r.new.marked ≡ r.old.marked) }
     ensures hops { OnOk result (r.new.hops.items ≡ r.old.hops.items ++ record { number = reason; pivot = opposite word } ∷ []) }
 {
-    r.hops.push(Hop {
-        number: reason,
-        pivot: opposite(word),
-    })?;
-    r.seen[(word / 2) as usize] = false;
+    cut(r, word, reason)?;
     r.pending -= 1;
     Ok(())
 }
@@ -228,7 +255,7 @@ fn begin(
 }
 
 /// Resolves a clause that is false to one that has one literal of the last level; where the opposite of that literal stands.
-pub(crate) fn analyze(
+pub(crate) fn to_last_literal(
     r: &mut Resolvent,
     store: &Store,
     trail: &Trail,

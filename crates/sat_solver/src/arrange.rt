@@ -1,6 +1,6 @@
 //! The order of the literals of a learned clause.
 
-ghost use Rattle.std.specs.Prelude.{◌≡◌, ℕ, ◌*◌, ◌<◌, ◌≤◌, ◌^◌, true, false, length, take, slice_index};
+ghost use Rattle.std.specs.Prelude.{◌≡◌, ℕ, ◌-◌, ◌*◌, ◌<◌, ◌≤◌, ◌^◌, true, false, length, take, slice_index};
 ghost use Rattle.sat_solver.specs.Words.{opposite, has};
 ghost use Rattle.sat_solver.specs.Stored.{exchanged};
 ghost use Rattle.sat_solver.specs.Resolving.{IsApart};
@@ -65,6 +65,22 @@ pub(crate) fn put_last_second(words: &mut Vec<u32>, trail: &Trail)
     }
 }
 
+/// Whether the level ahead of one begins behind a place.
+#[inline]
+#[tactic(auto, using(crate::proofs::Arranges::no_later))]
+fn is_ahead(trail: &Trail, level: usize, place: usize) -> bool
+    requires { level ≤ length trail.now.starts }
+    ensures some { result ≡ true → 0 < level }
+    ensures behind { result ≡ true → place < slice_index trail.now.starts (level - 1) }
+    ensures none { result ≡ false → (j : ℕ) → j < level → slice_index trail.now.starts j ≤ place }
+{
+    if level == 0 {
+        return false;
+    }
+    let _levels = trail.level();
+    trail.start(level - 1) > place
+}
+
 /// The lowest level at whose end a word is false.
 pub(crate) fn level_of(trail: &Trail, word: u32) -> usize
     requires apart { IsApart trail.now.words }
@@ -75,10 +91,9 @@ pub(crate) fn level_of(trail: &Trail, word: u32) -> usize
     ensures there { result < length trail.now.starts → has (take (slice_index trail.now.starts result) trail.now.words) (opposite word) ≡ true }
 {
     let place = trail.place(word);
-    'levels: for level in 0..trail.level() {
-        if trail.start(level) > place {
-            return level;
-        }
+    let mut level = trail.level();
+    'levels: while is_ahead(trail, level, place) {
+        level -= 1;
     }
-    trail.level()
+    level
 }

@@ -10,8 +10,9 @@ ghost use Rattle.sat_solver.specs.Watching.{IsStopped, IsSound, IsFalse};
 ghost use Rattle.sat_solver.specs.Working.{IsNew};
 ghost use Rattle.sat_solver.specs.Meaning.{link_of, IsStoreOf, IsDerived, IsLearnable, IsBlank};
 
-use crate::analyze::{Hop, Resolvent, analyze, collect, refute};
+use crate::analyze::{Hop, Resolvent, collect, refute};
 use crate::arrange::put_last_second;
+use crate::minimize::analyze;
 use crate::store::Store;
 use crate::trail::Trail;
 use crate::watches::Watches;

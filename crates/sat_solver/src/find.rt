@@ -129,7 +129,7 @@ fn resolve(
         return Ok(Turn::Refuted);
     }
     learn(alloc, cnf, r, store, trail, watches, steps, conflict)?;
-    activity.raise(&r.marked);
+    activity.raise(r.met());
     if (steps.len() as u64) < budget {
         restart(store, trail, watches, restarts.is_due());
         activity.release(trail.dropped())?;

@@ -1,7 +1,7 @@
 //! When the search begins anew.
 
 /// How many steps a restart comes after, for each one in Luby's numbers.
-const UNIT: u64 = 100;
+const UNIT: u64 = 50;
 
 /// The steps that are left until the next restart. The pauses are multiples of Luby's numbers 1, 1, 2, 1, 1, 2, 4, .., of
 /// which `length` is one; `turn` counts the runs up to a power of two.

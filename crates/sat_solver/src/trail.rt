@@ -235,6 +235,32 @@ impl Trail {
         place_of(&self.places, (word / 2) as usize) as usize
     }
 
+    /// Where the opposite of a literal may stand, if it does so ahead of a place.
+    #[inline]
+    pub(crate) fn place_ahead(&self, word: u32, end: usize) -> Option<usize>
+        ensures { (p : ℕ) → result ≡ Some p → (p < length self.now.words) × (p < length self.now.reasons) × (p < end) }
+    {
+        let var = (word / 2) as usize;
+        if var >= self.places.len() {
+            return None;
+        }
+        let place = self.places[var] as usize;
+        if place >= end || place >= self.words.len() {
+            return None;
+        }
+        Some(place)
+    }
+
+    /// The number of the clause that gave the opposite of a literal, where it stands ahead of a place; else 0. Only the size of
+    /// learned clauses depends on it.
+    #[inline]
+    pub(crate) fn given(&self, word: u32, end: usize) -> u32 {
+        match self.place_ahead(word, end) {
+            Some(place) => self.reason(place),
+            None => 0,
+        }
+    }
+
     /// Goes back to where a level began, of levels that are counted from 0.
     pub(crate) fn back(&mut self, level: usize)
         requires { level < length self.old.starts }

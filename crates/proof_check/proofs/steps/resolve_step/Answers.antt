@@ -5,7 +5,7 @@ use Rattle.cnf.specs.declared.log.Link.{Link}
 use Rattle.cnf.specs.Clauses.{HasVariables}
 use Rattle.cnf.specs.Proofs.{numbered, Leads}
 use Rattle.proof_check.specs.declared.fault.Cause.{Cause}
-use Rattle.proof_check.specs.Marks.{Marked}
+use Rattle.proof_check.specs.LitSets.{Gathered}
 use Rattle.proof_check.specs.Joining.{earlier_of, joined, AreClean}
 use Rattle.proof_check.specs.Faults.{ChainFails, StepFails}
 use Rattle.proof_check.proofs.Numbers.{joined_none}
@@ -20,7 +20,7 @@ found_at c = when_true _ _ c.if-not-found.false c.in_ok-found.ensures
 filled : (c : After-follow_chain) → c.fill.new.set.lits ≡ c.load.new.into.items
 filled c =
     let clean = c.requires.clean c.args.step.now.start c.load.new.into.items (found_at c) in
-    ap (λ (m : Marked). m.lits) c.in_ok-fill.ensures
+    ap (λ (m : Gathered). m.lits) c.in_ok-fill.ensures
     ∙ ap (λ (x : List Lit). joined x c.deref.result.now) c.requires.empty
     ∙ ap (λ (x : List Lit). joined [] x) c.deref.ensures.value
     ∙ joined_none c.load.new.into.items clean.0
@@ -33,7 +33,7 @@ fill-requires c =
 
 pub follow_chain-requires : goal.follow_chain-requires
 follow_chain-requires c =
-    record { clean = subst (λ (n : ℕ). AreClean n (earlier_of c.args.cnf.now c.args.steps.now)) (ap (λ (m : Marked). m.vars) (sym c.in_ok-fill.ensures)) c.requires.clean }
+    record { clean = subst (λ (n : ℕ). AreClean n (earlier_of c.args.cnf.now c.args.steps.now)) (ap (λ (m : Gathered). m.vars) (sym c.in_ok-fill.ensures)) c.requires.clean }
 
 pub returns-in-Ok-clause-ok : goal.returns-in-Ok-clause-ok
 returns-in-Ok-clause-ok c =

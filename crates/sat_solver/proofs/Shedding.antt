@@ -1,0 +1,56 @@
+-- What resolving a literal away that became false ahead of the last level does to the clause so far.
+use Rattle.std.proofs.Common.{◌≡◌, ◌⊎◌, inl, inr, ℕ, ◌+◌, ◌-◌, ◌/◌, ◌<◌, Bool, true, false, true≢false, not, ◌||◌, ◌&&◌, List, length, take, get_or, sym, ap, ◌∙◌, arith}
+use Rattle.std.specs.Prelude.{◌==◌}
+use Rattle.std.proofs.Math.ListN.{set}
+use Rattle.std.proofs.lemmas.List.{get_or-set_other}
+use Rattle.std.proofs.lemmas.Bool.{eq-eqb, and_from, or_cases}
+use Rattle.sat_solver.specs.Words.{opposite, has}
+use Rattle.sat_solver.specs.Trails.{Way}
+use Rattle.sat_solver.specs.Watching.{Gives}
+use Rattle.sat_solver.specs.Resolving.{IsApart, is_seen, in_clause, IsLeft, IsGiven}
+use Rattle.sat_solver.proofs.Marks.{half_opposite}
+use Rattle.sat_solver.proofs.Covering.{and_left, and_right, still_seen}
+use Rattle.sat_solver.proofs.Arranges.{has_less}
+
+-- the clause that gave the literal at a place
+pub giver : (f : List (List ℕ)) (t : Way) (b q reason : ℕ) → IsGiven f t b → q < length t.words → reason ≡ get_or t.reasons q 0 → (reason ≡ 0 → ⊥) → Gives f (take q t.words) (get_or t.words q 0) (reason - 1)
+giver f t b q reason given within named some = given.gives q (reason - 1) within (omega arith)
+
+-- the literal of the last level stays, and the others stay false ahead of it
+module _ (words : List ℕ) (b p q : ℕ) (seen new : List Bool) (d : List ℕ) (apart : IsApart words) (early : q < b) (in_words : q < length words) (left : IsLeft words b p seen)
+    (others : (x : ℕ) → has d x ≡ true → (x ≡ get_or words q 0) ⊎ (has (take q words) (opposite x) ≡ true))
+    (joined : (x : ℕ) → has words (opposite x) ≡ true → is_seen new x ≡ (is_seen (set seen (get_or words q 0 / 2) false) x || (has d x && not (x == get_or words q 0)))) where
+  abbrev w : ℕ
+  w = get_or words q 0
+
+  abbrev last : ℕ
+  last = opposite (get_or words p 0)
+
+  differ : last / 2 ≡ w / 2 → ⊥
+  differ e = let z = apart p q left.within in_words (sym (half_opposite (get_or words p 0)) ∙ e) in let late = left.late in omega arith
+
+  held : has words (opposite last) ≡ true
+  held = and_left (has words (opposite last)) (is_seen seen last) left.stands
+
+  on : is_seen new last ≡ true
+  on = joined last held ∙ ap (λ v. v || (has d last && not (last == w))) (get_or-set_other seen (w / 2) (last / 2) false false differ ∙ and_right (has words (opposite last)) (is_seen seen last) left.stands)
+
+  not_itself : (x : ℕ) → not (x == w) ≡ true → x ≡ w → ⊥
+  not_itself x h e = true≢false (sym h ∙ ap not (eq-eqb x w e))
+
+  ahead : (x : ℕ) → has words (opposite x) ≡ true → is_seen new x ≡ true → (x ≡ last) ⊎ (has (take b words) (opposite x) ≡ true)
+  ahead x false_now now = elim (or_cases (is_seen (set seen (w / 2) false) x) (has d x && not (x == w)) (sym (joined x false_now) ∙ now)) [
+    | inl e ↦ left.others x (and_from (has words (opposite x)) (is_seen seen x) false_now (still_seen seen (w / 2) (x / 2) e))
+    | inr e ↦ elim (others x (and_left (has d x) (not (x == w)) e)) [
+      | inl s ↦ absurd (not_itself x (and_right (has d x) (not (x == w)) e) s)
+      | inr s ↦ inr (has_less words q b (opposite x) (omega arith) s)
+    ]
+  ]
+
+  pub left_less : IsLeft words b p new
+  left_less = record {
+    late = left.late;
+    within = left.within;
+    stands = and_from (has words (opposite last)) (is_seen new last) held on;
+    others = λ x h. ahead x (and_left (has words (opposite x)) (is_seen new x) h) (and_right (has words (opposite x)) (is_seen new x) h);
+  }

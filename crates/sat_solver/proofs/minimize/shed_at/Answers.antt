@@ -1,0 +1,103 @@
+use Rattle.std.proofs.Common.{◌≡◌, ◌⊎◌, inl, inr, ℕ, ◌+◌, ◌-◌, ◌/◌, Bool, true, false, ◌&&◌, ◌||◌, not, List, [], ◌∷◌, ◌++◌, take, length, get_or, sym, ap, ◌∙◌, subst, arith}
+use Rattle.std.proofs.Math.ListN.{set, length-set}
+use Rattle.sat_solver.specs.Words.{opposite, has}
+use Rattle.sat_solver.specs.Watching.{clause}
+use Rattle.sat_solver.specs.Resolving.{is_seen, in_clause, Reaches}
+use Rattle.sat_solver.specs.declared.analyze.Hop.{Hop}
+use Rattle.std.specs.Prelude.{◌==◌}
+use Rattle.std.proofs.lemmas.Bool.{and_from}
+use Rattle.sat_solver.proofs.Marks.{has_at, opposite_twice, half_opposite}
+use Rattle.sat_solver.proofs.Counts.{count_empty}
+use Rattle.sat_solver.proofs.Arranges.{has_less}
+use Rattle.sat_solver.proofs.Passing.{reaches_more, resolved_is}
+use Rattle.sat_solver.proofs.Covering.{covers_less}
+use Rattle.sat_solver.proofs.Shedding.{giver, left_less}
+use Rattle.sat_solver.proofs.minimize.shed_at.Goals as goal
+
+pub clause-requires : goal.clause-requires
+clause-requires c = (giver c.args.store.now c.args.trail.now c.args.boundary c.args.place c.reason-reason.result c.requires.reasons c.requires.within c.reason-reason.ensures c.if-reason-eq0.false).there
+
+pub join-requires-clause-below : goal.join-requires-clause-below
+join-requires-clause-below c x h =
+    let g = giver c.args.store.now c.args.trail.now c.args.boundary c.args.place c.reason-reason.result c.requires.reasons c.requires.within c.reason-reason.ensures c.if-reason-eq0.false in
+    c.requires.reasons.within (c.reason-reason.result - 1) x g.there (subst (λ (d : List ℕ). has d x ≡ true) c.clause.ensures h)
+
+pub join-requires-clause-are_false : goal.join-requires-clause-are_false
+join-requires-clause-are_false c x h =
+    let t = c.args.trail.now in
+    let g = giver c.args.store.now t c.args.boundary c.args.place c.reason-reason.result c.requires.reasons c.requires.within c.reason-reason.ensures c.if-reason-eq0.false in
+    let count : c.len-end.result ≡ length t.words = c.len-end.ensures.count in
+    let within = c.requires.within in
+    elim (g.others x (subst (λ (d : List ℕ). has d x ≡ true) c.clause.ensures h)) [
+      | inl e ↦ inl (e ∙ sym c.word-word.ensures)
+      | inr e ↦ inr (has_less t.words c.args.place c.len-end.result (opposite x) (omega arith) e)
+    ]
+
+pub join-requires-clause-marked : goal.join-requires-clause-marked
+join-requires-clause-marked c =
+    let t = c.args.trail.now in
+    let count : c.len-end.result ≡ length t.words = c.len-end.ensures.count in
+    record {
+      long = ap length c.in_ok-cut.ensures.seen ∙ length-set c.args.r.now.seen.items (c.word-word.result / 2) false ∙ c.requires.long;
+      passed = λ p l m. absurd (omega arith);
+      counted = c.in_ok-cut.ensures.pending ∙ c.requires.idle ∙ sym (count_empty c.cut.new.r.seen.items t.words c.len-end.result c.len-end.result (omega arith));
+    }
+
+pub returns-clause-idle : goal.returns-clause-idle
+returns-clause-idle c = c.in_ok-join.ensures.marked.counted ∙ count_empty c.join.new.r.seen.items c.args.trail.now.words c.len-end.result c.len-end.result (omega arith)
+
+pub returns-clause-left : goal.returns-clause-left
+returns-clause-left c =
+    let t = c.args.trail.now in
+    let f = c.args.store.now in
+    let seen = c.args.r.now.seen.items in
+    let w = c.word-word.result in
+    let ew : w ≡ get_or t.words c.args.place 0 = c.word-word.ensures in
+    let n = c.reason-reason.result - 1 in
+    let g = giver f t c.args.boundary c.args.place c.reason-reason.result c.requires.reasons c.requires.within c.reason-reason.ensures c.if-reason-eq0.false in
+    let v = get_or t.words c.args.place 0 in
+    let d = clause f n in
+    let new = c.join.new.r.seen.items in
+    let less : c.cut.new.r.seen.items ≡ set seen (v / 2) false = c.in_ok-cut.ensures.seen ∙ ap (λ (y : ℕ). set seen (y / 2) false) ew in
+    let joined : (x : ℕ) → has t.words (opposite x) ≡ true → is_seen new x ≡ (is_seen (set seen (v / 2) false) x || (has d x && not (x == v))) =
+    λ x q. c.in_ok-join.ensures.seen x q ∙ ap (λ (s : List Bool). is_seen s x || (has c.clause.result.now x && not (x == w))) less
+    ∙ ap (λ (e : List ℕ). is_seen (set seen (v / 2) false) x || (has e x && not (x == w))) c.clause.ensures
+    ∙ ap (λ (y : ℕ). is_seen (set seen (v / 2) false) x || (has d x && not (x == y))) ew in
+    left_less t.words c.args.boundary c.args._left c.args.place seen new d c.requires.apart c.requires.early c.requires.within c.requires.left g.others joined
+
+pub returns-clause-covered : goal.returns-clause-covered
+returns-clause-covered c h =
+    c.in_ok-join.ensures.covered (covers_less c.args.trail.now.words c.args.r.now.seen.items _ c.args.r.now.marked.items _ (c.word-word.result / 2) c.in_ok-cut.ensures.seen (ap (λ (z : _). z.items) c.in_ok-cut.ensures.marked) h)
+
+pub returns-clause-leads : goal.returns-clause-leads
+returns-clause-leads c start h =
+    let t = c.args.trail.now in
+    let f = c.args.store.now in
+    let seen = c.args.r.now.seen.items in
+    let p = c.args.place in
+    let w = c.word-word.result in
+    let ew : w ≡ get_or t.words p 0 = c.word-word.ensures in
+    let on : is_seen seen (get_or t.words p 0) ≡ true = sym (c.is_marked-seen.ensures ∙ ap (λ (x : List Bool). is_seen x w) c.deref.ensures.value ∙ ap (is_seen seen) ew) ∙ c.if-not-seen.false in
+    let n = c.reason-reason.result - 1 in
+    let g = giver f t c.args.boundary p c.reason-reason.result c.requires.reasons c.requires.within c.reason-reason.ensures c.if-reason-eq0.false in
+    let some = c.if-reason-eq0.false in
+    let v = get_or t.words p 0 in
+    let d = clause f n in
+    let new = c.join.new.r.seen.items in
+    let long = c.requires.long in
+    let small = c.requires.reasons.words p c.requires.within in
+    let less : c.cut.new.r.seen.items ≡ set seen (v / 2) false = c.in_ok-cut.ensures.seen ∙ ap (λ (y : ℕ). set seen (y / 2) false) ew in
+    let hop : Hop = record { number = c.reason-reason.result; pivot = opposite v } in
+    let joined : (x : ℕ) → has t.words (opposite x) ≡ true → is_seen new x ≡ (is_seen (set seen (v / 2) false) x || (has d x && not (x == v))) =
+    λ x q. c.in_ok-join.ensures.seen x q ∙ ap (λ (s : List Bool). is_seen s x || (has c.clause.result.now x && not (x == w))) less
+    ∙ ap (λ (e : List ℕ). is_seen (set seen (v / 2) false) x || (has e x && not (x == w))) c.clause.ensures
+    ∙ ap (λ (y : ℕ). is_seen (set seen (v / 2) false) x || (has d x && not (x == y))) ew in
+    let hops : c.join.new.r.hops.items ≡ c.args.r.now.hops.items ++ hop ∷ [] =
+    ap (λ (z : _). z.items) c.in_ok-join.ensures.hops ∙ c.in_ok-cut.ensures.hops ∙ ap (λ (y : ℕ). c.args.r.now.hops.items ++ (record { number = c.reason-reason.result; pivot = opposite y }) ∷ []) ew in
+    let held : has t.words (opposite (opposite v)) ≡ true = ap (has t.words) (opposite_twice v) ∙ has_at t.words p c.requires.within in
+    let marked : is_seen seen (opposite v) ≡ true = ap (λ (i : ℕ). get_or seen i false) (half_opposite v) ∙ on in
+    let pivot_in : in_clause t.words seen (opposite v) ≡ true = and_from (has t.words (opposite (opposite v))) (is_seen seen (opposite v)) held marked in
+    let stands : has d (opposite (opposite v)) ≡ true = ap (has d) (opposite_twice v) ∙ g.stands in
+    subst (λ (hs : List Hop). Reaches f start hs (in_clause t.words new)) (sym hops)
+    (reaches_more f start (in_clause t.words seen) (in_clause t.words new) c.args.r.now.hops.items hop n h (omega arith) g.there pivot_in stands
+    (resolved_is t.words seen new p d c.requires.apart c.requires.within (omega arith) g.others joined))

@@ -1,0 +1,144 @@
+//! Making the clause to learn smaller: a literal goes where its reason has nothing but literals that stand in the clause too.
+
+ghost use Rattle.std.specs.Prelude.{◌≡◌, ◌⊎◌, ℕ, ◌+◌, ◌*◌, ◌/◌, ◌<◌, ◌≤◌, ◌^◌, true, false, List, [], ◌∷◌, ◌++◌, length, take, IfOk, OnOk, slice_index, slice_set, Bool};
+ghost use Rattle.sat_solver.specs.Words.{opposite, has};
+ghost use Rattle.sat_solver.specs.Resolving.{IsApart, in_clause, Reaches, IsGiven, IsLeft, IsClear, Covers};
+ghost use Rattle.sat_solver.specs.Watching.{clause, IsFalse, AtRest};
+
+use crate::analyze::{Resolvent, cut, is_marked, join, to_last_literal};
+use crate::store::Store;
+use crate::trail::Trail;
+use rh_base::NoMemory;
+
+/// Resolves the opposite of the literal at a place away, where it is in the clause so far and a clause gave that literal.
+fn shed_at(
+    r: &mut Resolvent,
+    store: &Store,
+    trail: &Trail,
+    boundary: usize,
+    _left: usize,
+    place: usize,
+) -> Result<(), NoMemory>
+    requires apart { IsApart trail.now.words }
+    requires short { length trail.now.words < 2 ^ 32 }
+    requires early { place < boundary }
+    requires within { place < length trail.now.words }
+    requires idle { r.old.pending ≡ 0 }
+    requires long { length r.old.seen.items ≡ trail.now.vars }
+    requires left { IsLeft trail.now.words boundary _left r.old.seen.items }
+    requires reasons { IsGiven store.now trail.now boundary }
+    ensures idle { OnOk result (r.new.pending ≡ 0) }
+    ensures long { OnOk result (length r.new.seen.items ≡ trail.now.vars) }
+    ensures left { OnOk result (IsLeft trail.now.words boundary _left r.new.seen.items) }
+    ensures covered { OnOk result (Covers trail.now.words r.old.seen.items r.old.marked.items → Covers trail.now.words r.new.seen.items r.new.marked.items) }
+    ensures leads { OnOk result ((c : ℕ → Bool) → Reaches store.now c r.old.hops.items (in_clause trail.now.words r.old.seen.items) → Reaches store.now c r.new.hops.items (in_clause trail.now.words r.new.seen.items)) }
+{
+    let word = trail.word(place);
+    let seen = is_marked(&r.seen, word);
+    if !seen {
+        return Ok(());
+    }
+    let reason = trail.reason(place);
+    if reason == 0 {
+        return Ok(());
+    }
+    let end = trail.len();
+    cut(r, word, reason)?;
+    join(r, store.clause(reason - 1), word, trail, end, end)?;
+    Ok(())
+}
+
+/// Resolves a literal away, where it is in the clause so far, became false ahead of the last level, and a clause gave its
+/// opposite.
+fn shed(
+    r: &mut Resolvent,
+    store: &Store,
+    trail: &Trail,
+    boundary: usize,
+    left: usize,
+    word: u32,
+) -> Result<(), NoMemory>
+    requires apart { IsApart trail.now.words }
+    requires short { length trail.now.words < 2 ^ 32 }
+    requires idle { r.old.pending ≡ 0 }
+    requires long { length r.old.seen.items ≡ trail.now.vars }
+    requires left { IsLeft trail.now.words boundary left r.old.seen.items }
+    requires reasons { IsGiven store.now trail.now boundary }
+    ensures idle { OnOk result (r.new.pending ≡ 0) }
+    ensures long { OnOk result (length r.new.seen.items ≡ trail.now.vars) }
+    ensures left { OnOk result (IsLeft trail.now.words boundary left r.new.seen.items) }
+    ensures covered { OnOk result (Covers trail.now.words r.old.seen.items r.old.marked.items → Covers trail.now.words r.new.seen.items r.new.marked.items) }
+    ensures leads { OnOk result ((c : ℕ → Bool) → Reaches store.now c r.old.hops.items (in_clause trail.now.words r.old.seen.items) → Reaches store.now c r.new.hops.items (in_clause trail.now.words r.new.seen.items)) }
+{
+    let Some(place) = trail.place_ahead(word, boundary) else {
+        return Ok(());
+    };
+    shed_at(r, store, trail, boundary, left, place)
+}
+
+/// Resolves away what goes.
+fn shrink(
+    r: &mut Resolvent,
+    store: &Store,
+    trail: &Trail,
+    boundary: usize,
+    left: usize,
+) -> Result<(), NoMemory>
+    requires apart { IsApart trail.now.words }
+    requires short { length trail.now.words < 2 ^ 32 }
+    requires idle { r.old.pending ≡ 0 }
+    requires long { length r.old.seen.items ≡ trail.now.vars }
+    requires left { IsLeft trail.now.words boundary left r.old.seen.items }
+    requires reasons { IsGiven store.now trail.now boundary }
+    ensures long { OnOk result (length r.new.seen.items ≡ trail.now.vars) }
+    ensures left { OnOk result (IsLeft trail.now.words boundary left r.new.seen.items) }
+    ensures covered { OnOk result (Covers trail.now.words r.old.seen.items r.old.marked.items → Covers trail.now.words r.new.seen.items r.new.marked.items) }
+    ensures leads { OnOk result ((c : ℕ → Bool) → Reaches store.now c r.old.hops.items (in_clause trail.now.words r.old.seen.items) → Reaches store.now c r.new.hops.items (in_clause trail.now.words r.new.seen.items)) }
+{
+    'shed: for _literal in 0..r.plan.len() {
+        match r.plan.pop() {
+            Some(word) => shed(r, store, trail, boundary, left, word)?,
+            None => {}
+        }
+    }
+    Ok(())
+}
+
+/// Plans what goes.
+fn plan(r: &mut Resolvent, store: &Store, trail: &Trail, boundary: usize) -> Result<(), NoMemory>
+    ensures seen { r.new.seen ≡ r.old.seen }
+    ensures marked { r.new.marked ≡ r.old.marked }
+    ensures hops { r.new.hops ≡ r.old.hops }
+    ensures idle { r.new.pending ≡ 0 }
+{
+    r.pending = 0;
+    r.met = r.marked.len();
+    r.plan.make(&r.seen, &r.marked, store, trail, boundary)
+}
+
+/// Resolves a clause that is false to one that has one literal of the last level, and makes it smaller; where the opposite of
+/// that literal stands.
+pub(crate) fn analyze(
+    r: &mut Resolvent,
+    store: &Store,
+    trail: &Trail,
+    boundary: usize,
+    conflict: u32,
+) -> Result<usize, NoMemory>
+    requires apart { IsApart trail.now.words }
+    requires short { length trail.now.words < 2 ^ 32 }
+    requires fits { boundary < length trail.now.words }
+    requires clear { IsClear trail.now.vars r.old.seen.items r.old.marked.items r.old.pending r.old.hops.items }
+    requires is_false { IsFalse store.now trail.now.words conflict }
+    requires rested { AtRest store.now (take boundary trail.now.words) }
+    requires reasons { IsGiven store.now trail.now boundary }
+    ensures left { IfOk result (λ p. IsLeft trail.now.words boundary p r.new.seen.items) }
+    ensures long { OnOk result (length r.new.seen.items ≡ trail.now.vars) }
+    ensures covered { OnOk result (Covers trail.now.words r.new.seen.items r.new.marked.items) }
+    ensures leads { OnOk result (Reaches store.now (has (clause store.now conflict)) r.new.hops.items (in_clause trail.now.words r.new.seen.items)) }
+{
+    let place = to_last_literal(r, store, trail, boundary, conflict)?;
+    plan(r, store, trail, boundary)?;
+    shrink(r, store, trail, boundary, place)?;
+    Ok(place)
+}

@@ -1,0 +1,214 @@
+//! Which literals of a learned clause may go. Nothing but its size depends on it: what a plan names is tested when it goes.
+
+ghost use Rattle.std.specs.Prelude.{◌≡◌};
+
+use crate::store::Store;
+use crate::trail::Trail;
+use rh_base::NoMemory;
+use std::alloc::Global;
+
+/// How many looks at a reason one plan takes at most.
+const PATIENCE: u32 = 300;
+
+/// What is known of a literal that is false.
+#[derive(Clone, Copy)]
+enum Fate {
+    Open,
+    /// Resolving it away leaves literals of the clause alone, once those of its reason that aren't in it went too.
+    Goes,
+    Stays,
+}
+
+/// A literal whose reason is gone through, from this place on.
+#[derive(Clone, Copy)]
+struct Visit {
+    word: u32,
+    next: usize,
+}
+
+/// What a look at a reason says.
+#[derive(Clone, Copy)]
+enum Look {
+    Goes,
+    Stays,
+    /// The literal at this place comes first.
+    Open(usize, u32),
+}
+
+/// The fates of the variables, the literals that go, and the literals that are looked at. A literal that goes stands behind
+/// those of its reason.
+#[derive(Drop)]
+pub(crate) struct Plan {
+    fates: Vec<Fate>,
+    known: Vec<u32>,
+    order: Vec<u32>,
+    path: Vec<Visit>,
+    patience: u32,
+}
+
+/// Whether the variable of a literal is marked.
+#[inline]
+fn is_marked(seen: &[bool], word: u32) -> bool {
+    let var = (word / 2) as usize;
+    var < seen.len() && seen[var]
+}
+
+impl Plan {
+    /// Nothing is known.
+    pub(crate) fn new(alloc: Global, vars: usize) -> Result<Plan, NoMemory> {
+        Ok(Plan {
+            fates: vec![in alloc; Fate::Open; vars]?,
+            known: Vec::new(alloc),
+            order: Vec::new(alloc),
+            path: Vec::new(alloc),
+            patience: PATIENCE,
+        })
+    }
+
+    /// How many literals go.
+    pub(crate) fn len(&self) -> usize {
+        self.order.len()
+    }
+
+    /// The next literal that goes.
+    pub(crate) fn pop(&mut self) -> Option<u32> {
+        self.order.pop()
+    }
+
+    #[inline]
+    fn fate(&self, word: u32) -> Fate {
+        let var = (word / 2) as usize;
+        if var < self.fates.len() {
+            return self.fates[var];
+        }
+        Fate::Stays
+    }
+
+    fn set_fate(&mut self, word: u32, fate: Fate)
+        ensures { self.new.known ≡ self.old.known }
+    {
+        let var = (word / 2) as usize;
+        if var >= self.fates.len() {
+            return;
+        }
+        self.fates[var] = fate;
+    }
+
+    /// Nothing is known any more.
+    fn forget(&mut self) {
+        'known: while let Some(word) = self.known.pop() {
+            self.set_fate(word, Fate::Open);
+        }
+        self.order.clear();
+        self.patience = PATIENCE;
+    }
+
+    /// Looks at a reason until a literal comes first, or one is in the way.
+    fn look(
+        &self,
+        seen: &[bool],
+        store: &Store,
+        trail: &Trail,
+        boundary: usize,
+        visit: Visit,
+    ) -> Look {
+        let number = trail.given(visit.word, boundary);
+        if number == 0 || number as usize > store.count() {
+            return Look::Stays;
+        }
+        let lits = store.clause(number - 1);
+        'lits: for k in visit.next..lits.len() {
+            let word = lits[k];
+            if word / 2 == visit.word / 2 {
+                continue;
+            }
+            match self.fate(word) {
+                Fate::Goes => continue,
+                Fate::Stays => {}
+                Fate::Open => {
+                    if trail.given(word, boundary) != 0 {
+                        return Look::Open(k, word);
+                    }
+                }
+            }
+            if !is_marked(seen, word) {
+                return Look::Stays;
+            }
+        }
+        Look::Goes
+    }
+
+    /// The fate of a literal is known.
+    fn settle(&mut self, word: u32, fate: Fate) -> Result<(), NoMemory> {
+        self.known.push(word)?;
+        self.set_fate(word, fate);
+        Ok(())
+    }
+
+    /// Goes on with the last literal that is looked at.
+    fn go_on(
+        &mut self,
+        seen: &[bool],
+        store: &Store,
+        trail: &Trail,
+        boundary: usize,
+        visit: Visit,
+    ) -> Result<(), NoMemory> {
+        match self.look(seen, store, trail, boundary, visit) {
+            Look::Goes => {
+                self.settle(visit.word, Fate::Goes)?;
+                self.order.push(visit.word)?;
+            }
+            Look::Stays => self.settle(visit.word, Fate::Stays)?,
+            Look::Open(next, word) => {
+                self.path.push(Visit {
+                    word: visit.word,
+                    next,
+                })?;
+                self.path.push(Visit { word, next: 0 })?;
+            }
+        }
+        Ok(())
+    }
+
+    /// Looks at a literal, and at those that come first, while there is patience.
+    fn walk(
+        &mut self,
+        seen: &[bool],
+        store: &Store,
+        trail: &Trail,
+        boundary: usize,
+        word: u32,
+    ) -> Result<(), NoMemory> {
+        self.path.clear();
+        self.path.push(Visit { word, next: 0 })?;
+        'walk: for _look in 0..self.patience {
+            let Some(visit) = self.path.pop() else {
+                return Ok(());
+            };
+            self.patience = self.patience.saturating_sub(1);
+            self.go_on(seen, store, trail, boundary, visit)?;
+        }
+        Ok(())
+    }
+
+    /// Plans which of the marked literals go that became false ahead of a place.
+    pub(crate) fn make(
+        &mut self,
+        seen: &[bool],
+        marked: &[u32],
+        store: &Store,
+        trail: &Trail,
+        boundary: usize,
+    ) -> Result<(), NoMemory> {
+        self.forget();
+        'marked: for word in marked {
+            let is_open = matches!(self.fate(*word), Fate::Open) && is_marked(seen, *word);
+            if !is_open || trail.given(*word, boundary) == 0 {
+                continue;
+            }
+            self.walk(seen, store, trail, boundary, *word)?;
+        }
+        Ok(())
+    }
+}
