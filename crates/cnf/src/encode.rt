@@ -11,7 +11,7 @@ ghost use Rattle.cnf.specs.Defining.{lit_at, lits_value, AreNeeded, HaveVariable
 use crate::formula::Cnf;
 use crate::lit::Lit;
 use bool_circuit::{Circuit, Gate, Wire};
-use rh_base::NoMemory;
+use rh_base::{NoMemory, Seq};
 use std::alloc::Global;
 
 /// Adds a clause of two literals.
@@ -259,16 +259,53 @@ fn needed_wires(alloc: Global, circuit: &Circuit, goal: Wire) -> Result<Vec<bool
     Ok(needed)
 }
 
-/// The formula that inputs make the goal true. Only the gates on which the goal stands have clauses.
-pub fn from_circuit(alloc: Global, circuit: &Circuit, goal: Wire) -> Result<Cnf, NoMemory>
+/// The literals of these wires, of those that are needed.
+fn named(
+    alloc: Global,
+    needed: &[bool],
+    lits: &[Lit],
+    wires: &[Wire],
+) -> Result<Seq<Lit>, NoMemory> {
+    let mut named = Seq::new(alloc);
+    'wires: for wire in wires {
+        let i = wire.0 as usize;
+        if i >= needed.len() || i >= lits.len() {
+            continue;
+        }
+        if needed[i] {
+            named.push(lits[i])?;
+        }
+    }
+    Ok(named)
+}
+
+/// The formula that inputs make the goal true, and the literals of some wires in it, as far as the goal stands on them. A solver
+/// may try these first: only how long it takes depends on them.
+pub fn from_circuit_with(
+    alloc: Global,
+    circuit: &Circuit,
+    goal: Wire,
+    wires: &[Wire],
+) -> Result<(Cnf, Seq<Lit>), NoMemory>
     requires { goal.0 < length circuit.now }
-    ensures states { IfOk result (StatesGoal circuit.now goal.0) }
-    ensures exact { IfOk result (λ f. IsSatisfiable f ↔ ((inputs : ℕ → Bool) × (wire_value circuit.now inputs goal.0 ≡ true))) }
+    ensures states { IfOk result (λ r. StatesGoal circuit.now goal.0 r.0) }
+    ensures exact { IfOk result (λ r. IsSatisfiable r.0 ↔ ((inputs : ℕ → Bool) × (wire_value circuit.now inputs goal.0 ≡ true))) }
 {
     let needed = needed_wires(alloc, circuit, goal)?;
     let mut cnf = Cnf::new(alloc, circuit.inputs())?;
     let lits = encode(alloc, circuit, &needed, &mut cnf)?;
     let lit = lit_at(&lits, goal);
     cnf.add(&[lit])?;
+    let firsts = named(alloc, &needed, &lits, wires)?;
+    Ok((cnf, firsts))
+}
+
+/// The formula that inputs make the goal true. Only the gates on which the goal stands have clauses.
+pub fn from_circuit(alloc: Global, circuit: &Circuit, goal: Wire) -> Result<Cnf, NoMemory>
+    requires { goal.0 < length circuit.now }
+    ensures states { IfOk result (StatesGoal circuit.now goal.0) }
+    ensures exact { IfOk result (λ f. IsSatisfiable f ↔ ((inputs : ℕ → Bool) × (wire_value circuit.now inputs goal.0 ≡ true))) }
+{
+    let (cnf, _) = from_circuit_with(alloc, circuit, goal, &[])?;
     Ok(cnf)
 }

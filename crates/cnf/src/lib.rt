@@ -10,7 +10,7 @@ mod log;
 mod text;
 
 pub use clause::Clause;
-pub use encode::from_circuit;
+pub use encode::{from_circuit, from_circuit_with};
 pub use formula::Cnf;
 pub use lit::Lit;
 pub use log::{Link, Log, Step};

@@ -23,7 +23,7 @@ use orders::Order;
 use path_domain::domain;
 use proof_check::{CheckFault, Verified, check};
 use rh_base::{NoMemory, Seq};
-use sat_solver::{Found, solve};
+use sat_solver::{Found, solve_by};
 use std::alloc::Global;
 
 /// What comes of a question of order.
@@ -93,7 +93,7 @@ pub(crate) fn ask(
     ensures { IfOk result (Answers (map program_of programs.now) order.now budget) }
 {
     let posed = question(alloc, programs, order)?;
-    let found = solve(alloc, posed.cnf(), budget)?;
+    let found = solve_by(alloc, posed.cnf(), posed.firsts(), budget)?;
     match found {
         Found::Model(model) => read(alloc, &posed, model.as_slice()),
         Found::Refuted(log) => refute(alloc, posed.into_cnf(), log),

@@ -23,11 +23,7 @@ use std::alloc::Global;
 use sym_run::{Sym, is_below};
 
 /// The code at a place.
-pub fn code_at(
-    sym: &mut Sym,
-    codes: &[Seq<Wire>],
-    place: &Seq<Wire>,
-) -> Result<Seq<Wire>, NoMemory>
+pub fn code_at(sym: &mut Sym, codes: &[Seq<Wire>], place: &Seq<Wire>) -> Result<Seq<Wire>, NoMemory>
     requires codes { AreRows sym.old codes.now }
     requires place { AreWires sym.old place.now }
     ensures wires { IfOk result (AreWires sym.new) }

@@ -70,6 +70,7 @@ fn end_apart_from(
     rest: &[Seq<Wire>],
     place: &Seq<Wire>,
     fork: &Cells<Sym>,
+    firsts: &mut Vec<Wire>,
 ) -> Result<Wire, NoMemory>
     requires count { length programs.now ≡ order.now.count }
     requires first { AreWires sym.old first.now }
@@ -85,9 +86,15 @@ fn end_apart_from(
         → (wire_value sym.new v w.0 ≡ true) ↔ EndApartThen (map program_of programs.now) o (node sym.old v first.now) (node sym.old v second.now) (part_of false (node sym.old v place.now) (nodes sym.old v rest.now))) }
     ensures grows { OnOk result (Grows (circuit_meanings sym.old) (circuit_meanings sym.new)) }
 {
-    let near = some_pair_differs(alloc, sym, domain, programs, order, first, second, fork)?;
-    let one = run_on(alloc, sym, domain, programs, first, second, rest, place, fork)?;
-    let other = run_on(alloc, sym, domain, programs, second, first, rest, place, fork)?;
+    let near = some_pair_differs(
+        alloc, sym, domain, programs, order, first, second, fork, firsts,
+    )?;
+    let one = run_on(
+        alloc, sym, domain, programs, first, second, rest, place, fork,
+    )?;
+    let other = run_on(
+        alloc, sym, domain, programs, second, first, rest, place, fork,
+    )?;
     let same = alike(sym, domain, &one, &other)?;
     let apart = sym.not(&same)?;
     sym.and(&near, &apart)
@@ -104,6 +111,7 @@ pub(crate) fn end_apart(
     codes: &[Seq<Wire>],
     place: &Seq<Wire>,
     start: &Cells<Sym>,
+    firsts: &mut Vec<Wire>,
 ) -> Result<Wire, NoMemory>
     requires count { length programs.now ≡ order.now.count }
     requires long { length codes.now ≡ order.now.count }
@@ -131,6 +139,6 @@ pub(crate) fn end_apart(
     let first = code_at(sym, codes, place)?;
     let second = code_at(sym, seconds, place)?;
     end_apart_from(
-        alloc, sym, domain, programs, order, &first, &second, rest, place, &fork,
+        alloc, sym, domain, programs, order, &first, &second, rest, place, &fork, firsts,
     )
 }

@@ -54,6 +54,7 @@ pub fn ask_twice(
         Asks::Twice { order: first },
         asked,
         domain,
+        &[],
     )
 }
 
@@ -90,5 +91,6 @@ pub fn ask_some(
         Asks::Ends { order: first },
         asked,
         domain,
+        &[],
     )
 }

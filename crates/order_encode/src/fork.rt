@@ -119,7 +119,7 @@ fn pair_differs(
 }
 
 /// Whether it is so already, or the codes tell these two nodes, neither of which comes before the other, and whose programs
-/// end apart.
+/// end apart. The wire for the pair is one of those that a solver may try first.
 fn with_pair(
     alloc: Global,
     sym: &mut Sym,
@@ -132,6 +132,7 @@ fn with_pair(
     second: &Seq<Wire>,
     fork: &Cells<Sym>,
     any: Wire,
+    firsts: &mut Vec<Wire>,
 ) -> Result<Wire, NoMemory>
     requires count { length programs.now ≡ order.now.count }
     requires i { i < order.now.count }
@@ -157,6 +158,7 @@ fn with_pair(
         return Ok(any);
     }
     let one = pair_differs(alloc, sym, domain, programs, i, k, first, second, fork)?;
+    firsts.push(one)?;
     sym.mux(&any, &any, &one)
 }
 
@@ -172,6 +174,7 @@ fn with_row(
     second: &Seq<Wire>,
     fork: &Cells<Sym>,
     so_far: Wire,
+    firsts: &mut Vec<Wire>,
 ) -> Result<Wire, NoMemory>
     requires count { length programs.now ≡ order.now.count }
     requires i { i < order.now.count }
@@ -191,7 +194,7 @@ fn with_row(
     let mut any = so_far;
     for k in i + 1..n {
         any = with_pair(
-            alloc, sym, domain, programs, order, i, k, first, second, fork, any,
+            alloc, sym, domain, programs, order, i, k, first, second, fork, any, firsts,
         )?;
     }
     Ok(any)
@@ -208,6 +211,7 @@ pub(crate) fn some_pair_differs(
     first: &Seq<Wire>,
     second: &Seq<Wire>,
     fork: &Cells<Sym>,
+    firsts: &mut Vec<Wire>,
 ) -> Result<Wire, NoMemory>
     requires count { length programs.now ≡ order.now.count }
     requires first { AreWires sym.old first.now }
@@ -223,7 +227,7 @@ pub(crate) fn some_pair_differs(
     let mut any = sym.constant(false)?;
     for i in 0..order.count() {
         any = with_row(
-            alloc, sym, domain, programs, order, i, first, second, fork, any,
+            alloc, sym, domain, programs, order, i, first, second, fork, any, firsts,
         )?;
     }
     Ok(any)

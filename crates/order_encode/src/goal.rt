@@ -56,6 +56,7 @@ pub(crate) fn goal(
     programs: &[Program],
     order: &Order,
     asking: &Asking,
+    firsts: &mut Vec<Wire>,
 ) -> Result<Wire, NoMemory>
     requires asking { IsAsking sym.old domain.now order.now.count asking.now }
     requires covers { CoversSteps domain.now.table (programs_in programs.now) }
@@ -78,6 +79,7 @@ pub(crate) fn goal(
         left,
         &asking.place,
         &asking.cells,
+        firsts,
     )?;
     sym.and(&both, &differ)
 }

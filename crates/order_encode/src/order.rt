@@ -43,7 +43,16 @@ pub fn ask_order(
     neighbours();
     let mut sym = Sym::new(alloc)?;
     let inputs = order_inputs(alloc, &mut sym, domain, order.count())?;
-    let asked = goal(alloc, &mut sym, domain, programs, order, &inputs)?;
+    let mut firsts = Vec::new(alloc);
+    let asked = goal(
+        alloc,
+        &mut sym,
+        domain,
+        programs,
+        order,
+        &inputs,
+        &mut firsts,
+    )?;
     let Asking {
         cells,
         codes,
@@ -57,5 +66,6 @@ pub fn ask_order(
         Asks::Orders { codes, place },
         asked,
         domain,
+        &firsts,
     )
 }

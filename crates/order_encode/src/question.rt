@@ -11,10 +11,10 @@ ghost use Rattle.order_encode.specs.Asked.{AreWithin, IsReadable};
 use crate::asks::Asks;
 use crate::table::copy_domain;
 use bool_circuit::Wire;
-use cnf::{Cnf, from_circuit};
+use cnf::{Cnf, Lit, from_circuit_with};
 use fs_interpreter::Cells;
 use path_domain::Domain;
-use rh_base::NoMemory;
+use rh_base::{NoMemory, Seq};
 use std::alloc::Global;
 use std::marker::Model;
 use sym_run::Sym;
@@ -27,6 +27,7 @@ pub struct Question {
     pub(crate) asks: Asks,
     pub(crate) domain: Domain,
     pub(crate) cnf: Cnf,
+    firsts: Seq<Lit>,
 }
 
 impl Model for Question {
@@ -49,6 +50,11 @@ impl Question {
         &self.cnf
     }
 
+    /// Literals of the formula that a solver may try first: only how long it takes depends on them.
+    pub fn firsts(&self) -> &[Lit] {
+        self.firsts.as_slice()
+    }
+
     /// The formula, without what is needed to read its models.
     pub fn into_cnf(self) -> Cnf
         ensures { result ≡ self.formula }
@@ -66,6 +72,7 @@ pub(crate) fn pose(
     asks: Asks,
     goal: Wire,
     domain: &Domain,
+    firsts: &[Wire],
 ) -> Result<Question, NoMemory>
     requires goal { goal.0 < length sym }
     requires cells { AreCells (circuit_meanings sym) cells }
@@ -75,7 +82,7 @@ pub(crate) fn pose(
     ensures states { IfOk result (λ q. StatesGoal sym goal.0 q.formula) }
     ensures holds { IfOk result (λ q. q ≡ record { gates = sym; table = domain.now.table; cells = cells; asks = asks; formula = q.formula }) }
 {
-    let cnf = from_circuit(alloc, sym.circuit(), goal)?;
+    let (cnf, firsts) = from_circuit_with(alloc, sym.circuit(), goal, firsts)?;
     let domain = copy_domain(alloc, domain)?;
     Ok(Question {
         sym,
@@ -83,5 +90,6 @@ pub(crate) fn pose(
         asks,
         domain,
         cnf,
+        firsts,
     })
 }

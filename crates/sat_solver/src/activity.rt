@@ -2,6 +2,7 @@
 
 ghost use Rattle.std.specs.Prelude.{◌≡◌, ℕ, ◌+◌, ◌<◌, ◌≤◌, ◌^◌, true, length, Some};
 
+use cnf::Lit;
 use rh_base::NoMemory;
 use std::alloc::Global;
 
@@ -20,6 +21,17 @@ const GREATEST_BUMP: u64 = 1 << 50;
 /// What they are divided by.
 const RESCALE: u64 = 1 << 40;
 
+/// The word of a literal, if it is one of so many variables.
+fn word_within(lit: Lit, vars: usize) -> Option<u32>
+    requires { vars ≤ 2 ^ 31 }
+{
+    if lit.var == 0 || lit.var > vars as u64 {
+        return None;
+    }
+    let sign = if lit.positive { 0 } else { 1 };
+    Some((2 * (lit.var - 1) + sign) as u32)
+}
+
 /// The variables as a heap, the most active on top, and the sign that each had last. Only where the search looks first depends on
 /// it: each access is tested, and what it gives is tested again.
 #[derive(Drop)]
@@ -29,10 +41,11 @@ pub(crate) struct Activity {
     heap: Vec<u32>,
     places: Vec<u32>,
     bump: u64,
+    firsts: Vec<u32>,
 }
 
 impl Activity {
-    pub(crate) fn new(alloc: Global, vars: usize) -> Result<Activity, NoMemory>
+    pub(crate) fn new(alloc: Global, vars: usize, firsts: &[Lit]) -> Result<Activity, NoMemory>
         requires { vars ≤ 2 ^ 31 }
     {
         let mut activity = Activity {
@@ -41,11 +54,36 @@ impl Activity {
             heap: Vec::new(alloc),
             places: vec![in alloc; OUTSIDE; vars]?,
             bump: FIRST_BUMP,
+            firsts: Vec::new(alloc),
         };
+        'firsts: for i in 0..firsts.len() {
+            let Some(word) = word_within(firsts[firsts.len() - 1 - i], vars) else {
+                continue;
+            };
+            activity.firsts.push(word)?;
+        }
         'fill: for var in 0..vars {
             activity.insert(var as u32)?;
         }
         Ok(activity)
+    }
+
+    /// The literal that is to be tried ahead of all others.
+    pub(crate) fn first(&self) -> Option<u32>
+        ensures { (w : ℕ) → result ≡ Some w → 0 < length self.now.firsts.items }
+    {
+        let long = self.firsts.len();
+        if long == 0 {
+            return None;
+        }
+        Some(self.firsts[long - 1])
+    }
+
+    /// That literal needn't be tried any more.
+    pub(crate) fn drop_first(&mut self)
+        ensures { 0 < length self.old.firsts.items → length self.new.firsts.items < length self.old.firsts.items }
+    {
+        let _last = self.firsts.pop();
     }
 
     /// The activity of a variable.

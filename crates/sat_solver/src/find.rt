@@ -18,7 +18,7 @@ use crate::restarts::Restarts;
 use crate::store::Store;
 use crate::trail::Trail;
 use crate::watches::Watches;
-use cnf::{Cnf, Log, Step};
+use cnf::{Cnf, Lit, Log, Step};
 use rh_base::{NoMemory, Seq};
 use std::alloc::Global;
 
@@ -190,13 +190,44 @@ fn free_word(trail: &Trail, vars: usize) -> Option<u32>
     None
 }
 
-/// A literal that is unassigned: the heap's, or where it has none the first.
+/// The literal that is to be tried ahead of the others, where it is unassigned. One that is false ahead of all decisions gives
+/// way to the next.
+fn first_word(trail: &Trail, vars: usize, activity: &mut Activity) -> Option<u32>
+    requires vars { vars ≡ trail.now.vars }
+    requires small { vars ≤ 2 ^ 31 }
+    ensures { (w : ℕ) → result ≡ Some w → (w < 2 * trail.now.vars) × (has trail.now.words w ≡ false) × (has trail.now.words (opposite w) ≡ false) }
+{
+    'first: while let Some(word) = activity.first() {
+        if word as usize >= 2 * vars {
+            activity.drop_first();
+            continue;
+        }
+        let holds = trail.holds(word);
+        if holds {
+            return None;
+        }
+        let is_false = trail.is_false(word);
+        if !is_false {
+            return Some(word);
+        }
+        if trail.level() > 0 {
+            return None;
+        }
+        activity.drop_first();
+    }
+    None
+}
+
+/// A literal that is unassigned: the one to be tried first, the heap's, or where it has none the first that there is.
 fn next_word(trail: &Trail, vars: usize, activity: &mut Activity) -> Option<u32>
     requires vars { vars ≡ trail.now.vars }
     requires small { vars ≤ 2 ^ 31 }
     ensures some { (w : ℕ) → result ≡ Some w → (w < 2 * trail.now.vars) × (has trail.now.words w ≡ false) × (has trail.now.words (opposite w) ≡ false) }
     ensures none { result ≡ None → IsFull trail.now }
 {
+    if let Some(word) = first_word(trail, vars, activity) {
+        return Some(word);
+    }
     match active_word(trail, vars, activity) {
         Some(word) => Some(word),
         None => free_word(trail, vars),
@@ -284,6 +315,7 @@ fn search(
     store: &mut Store,
     trail: &mut Trail,
     watches: &mut Watches,
+    firsts: &[Lit],
     budget: u64,
 ) -> Result<Found, NoMemory>
     requires some { 1 ≤ budget }
@@ -291,7 +323,7 @@ fn search(
     ensures { IfOk result (Finds cnf.now budget) }
 {
     let vars = cnf.vars() as usize;
-    let mut activity = Activity::new(alloc, vars)?;
+    let mut activity = Activity::new(alloc, vars, firsts)?;
     let mut restarts = Restarts::new();
     let mut steps = Seq::new(alloc);
     'turns: loop {
@@ -343,6 +375,14 @@ pub fn solve(alloc: Global, cnf: &Cnf, budget: u64) -> Result<Found, NoMemory>
     requires { 1 ≤ budget }
     ensures { IfOk result (Finds cnf.now budget) }
 {
+    solve_by(alloc, cnf, &[], budget)
+}
+
+/// The same, where these literals are tried ahead of the others, one after the other. Only how long it takes depends on them.
+pub fn solve_by(alloc: Global, cnf: &Cnf, firsts: &[Lit], budget: u64) -> Result<Found, NoMemory>
+    requires { 1 ≤ budget }
+    ensures { IfOk result (Finds cnf.now budget) }
+{
     let vars = cnf.vars() as usize;
     let mut store = Store::new(alloc)?;
     let mut trail = Trail::new(alloc, vars)?;
@@ -359,6 +399,7 @@ pub fn solve(alloc: Global, cnf: &Cnf, budget: u64) -> Result<Found, NoMemory>
             &mut store,
             &mut trail,
             &mut watches,
+            firsts,
             budget,
         ),
     }

@@ -3,8 +3,8 @@ use Rattle.cnf.specs.declared.lit.Lit.{Lit}
 use Rattle.cnf.specs.Defining.{Encodes, lit_at}
 use Rattle.cnf.specs.Encoding.{StatesGoal}
 use Rattle.cnf.proofs.Wires.{states_goal, goal_exact}
-use Rattle.cnf.proofs.encode.from_circuit.Goals as goal
-use Rattle.cnf.proofs.encode.from_circuit.Goals.{After-drop-needed-2}
+use Rattle.cnf.proofs.encode.from_circuit_with.Goals as goal
+use Rattle.cnf.proofs.encode.from_circuit_with.Goals.{After-drop-needed-2}
 
 states : (c : After-drop-needed-2) → StatesGoal c.args.circuit.now c.args.goal.0 c.add.new.self
 states c =
