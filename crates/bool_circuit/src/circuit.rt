@@ -1,6 +1,6 @@
 //! Circuits: gates are asked for, equal ones are shared, and what folds is folded.
 
-ghost use Rattle.std.specs.Prelude.{All, ◌≡◌, ◌≢◌, ◌⊎◌, ◌↔◌, ℕ, ◌+◌, ◌^◌, ◌<◌, ◌≤◌, Bool, ◌&&◌, ◌||◌, not, if◌then◌else◌, [], length, slice_get, IfOk, OnOk, OnErr, IfSome, IfNone, Some, IsTrue};
+ghost use Rattle.std.specs.Prelude.{All, ◌≡◌, ◌≢◌, ◌⊎◌, ◌↔◌, ℕ, ◌+◌, ◌^◌, ◌<◌, ◌≤◌, Bool, true, false, ◌&&◌, ◌||◌, not, if◌then◌else◌, [], length, slice_get, IfOk, OnOk, OnErr, IfSome, IfNone, Some, IsTrue};
 ghost use Rattle.std.specs.Bool.{OnTrue};
 ghost use Rattle.bool_circuit.specs.Placed.{IsPlaced};
 ghost use Rattle.bool_circuit.specs.Gates.{truth_at, gate_value, OperandsBelow, PlaceBelow};
@@ -208,8 +208,24 @@ impl Circuit {
         match self.constant_at(b) {
             Some(true) => Some(a),
             Some(false) => Some(b),
-            None => None,
+            None => self.implied_and(a, b),
         }
+    }
+
+    /// The one of two wires that is true only where the other is, if its gate tells that.
+    fn implied_and(&self, a: Wire, b: Wire) -> Option<Wire>
+        requires a { a.0 < length self.now }
+        requires b { b.0 < length self.now }
+        ensures wire { IfSome result (λ w. w.0 < length self.now) }
+        ensures value { IfSome result (λ w. (inputs : ℕ → Bool) → wire_value self.now inputs w.0 ≡ (wire_value self.now inputs a.0 && wire_value self.now inputs b.0)) }
+    {
+        if self.known_where(a, b) == Some(true) {
+            return Some(b);
+        }
+        if self.known_where(b, a) == Some(true) {
+            return Some(a);
+        }
+        None
     }
 
     /// Whether the gate of the first wire is the opposite of the second.
@@ -220,6 +236,126 @@ impl Circuit {
         match self.gate(a) {
             Gate::Not(w) => w == b,
             _ => false,
+        }
+    }
+
+    /// Whether two wires are never true together, as far as their gates tell.
+    fn exclude(&self, a: Wire, b: Wire) -> bool
+        requires a { a.0 < length self.now }
+        requires b { b.0 < length self.now }
+        ensures { OnTrue result ((inputs : ℕ → Bool) → (wire_value self.now inputs a.0 && wire_value self.now inputs b.0) ≡ false) }
+    {
+        if self.known_where(a, b) == Some(false) {
+            return true;
+        }
+        self.known_where(b, a) == Some(false)
+    }
+
+    /// Whether one of the wires is the opposite of the other by its gate.
+    fn are_opposite(&self, a: Wire, b: Wire) -> bool
+        requires a { a.0 < length self.now }
+        requires b { b.0 < length self.now }
+        ensures { OnTrue result ((inputs : ℕ → Bool) → wire_value self.now inputs a.0 ≡ not (wire_value self.now inputs b.0)) }
+    {
+        if self.is_opposite(a, b) {
+            return true;
+        }
+        self.is_opposite(b, a)
+    }
+
+    /// The value of a wire where another one is true, if the two, or one and the opposite of the other, are one.
+    fn known_beside(&self, w: Wire, c: Wire) -> Option<bool>
+        requires w { w.0 < length self.now }
+        requires c { c.0 < length self.now }
+        ensures { IfSome result (λ b. (inputs : ℕ → Bool) → wire_value self.now inputs c.0 ≡ true → wire_value self.now inputs w.0 ≡ b) }
+    {
+        if w == c {
+            return Some(true);
+        }
+        if self.are_opposite(w, c) {
+            return Some(false);
+        }
+        None
+    }
+
+    /// The value of a wire where both of two others are true, if it is known beside one of them.
+    fn known_beside_both(&self, w: Wire, x: Wire, y: Wire) -> Option<bool>
+        requires w { w.0 < length self.now }
+        requires x { x.0 < length self.now }
+        requires y { y.0 < length self.now }
+        ensures { IfSome result (λ b. (inputs : ℕ → Bool) → wire_value self.now inputs x.0 ≡ true → wire_value self.now inputs y.0 ≡ true → wire_value self.now inputs w.0 ≡ b) }
+    {
+        match self.known_beside(w, x) {
+            Some(b) => Some(b),
+            None => self.known_beside(w, y),
+        }
+    }
+
+    /// The value of a wire where another one is true, as far as the gate of that one tells.
+    fn known_where(&self, w: Wire, c: Wire) -> Option<bool>
+        requires w { w.0 < length self.now }
+        requires c { c.0 < length self.now }
+        ensures { IfSome result (λ b. (inputs : ℕ → Bool) → wire_value self.now inputs c.0 ≡ true → wire_value self.now inputs w.0 ≡ b) }
+    {
+        match self.gate(c) {
+            Gate::And(x, y) => {
+                let beside = self.known_beside_both(w, x, y);
+                match beside {
+                    Some(b) => Some(b),
+                    None => self.known_beside(w, c),
+                }
+            }
+            _ => self.known_beside(w, c),
+        }
+    }
+
+    /// The value of a wire where another one is false, as far as the gate of that one tells.
+    fn known_unless(&self, w: Wire, c: Wire) -> Option<bool>
+        requires w { w.0 < length self.now }
+        requires c { c.0 < length self.now }
+        ensures { IfSome result (λ b. (inputs : ℕ → Bool) → wire_value self.now inputs c.0 ≡ false → wire_value self.now inputs w.0 ≡ b) }
+    {
+        if w == c {
+            return Some(false);
+        }
+        match self.gate(c) {
+            Gate::Not(d) => self.known_where(w, d),
+            _ => {
+                if self.is_opposite(w, c) {
+                    return Some(true);
+                }
+                None
+            }
+        }
+    }
+
+    /// A wire that has the value of the first where the second is true: a constant, if it is known there.
+    fn folded_where(&mut self, w: Wire, c: Wire) -> Result<Wire, NoMemory>
+        requires w { w.0 < length self.old }
+        requires c { c.0 < length self.old }
+        ensures wire { IfOk result (λ x. x.0 < length self.new) }
+        ensures value { IfOk result (λ x. (inputs : ℕ → Bool) → wire_value self.old inputs c.0 ≡ true → wire_value self.new inputs x.0 ≡ wire_value self.old inputs w.0) }
+        ensures inputs { input_count self.new ≡ input_count self.old }
+        ensures grows { Grows self.old self.new }
+    {
+        match self.known_where(w, c) {
+            Some(b) => self.constant(b),
+            None => Ok(w),
+        }
+    }
+
+    /// The same where the second is false.
+    fn folded_unless(&mut self, w: Wire, c: Wire) -> Result<Wire, NoMemory>
+        requires w { w.0 < length self.old }
+        requires c { c.0 < length self.old }
+        ensures wire { IfOk result (λ x. x.0 < length self.new) }
+        ensures value { IfOk result (λ x. (inputs : ℕ → Bool) → wire_value self.old inputs c.0 ≡ false → wire_value self.new inputs x.0 ≡ wire_value self.old inputs w.0) }
+        ensures inputs { input_count self.new ≡ input_count self.old }
+        ensures grows { Grows self.old self.new }
+    {
+        match self.known_unless(w, c) {
+            Some(b) => self.constant(b),
+            None => Ok(w),
         }
     }
 
@@ -282,7 +418,7 @@ impl Circuit {
         if let Some(w) = self.simpler_and(low, high) {
             return Ok(w);
         }
-        if self.is_opposite(low, high) || self.is_opposite(high, low) {
+        if self.exclude(low, high) {
             return self.constant(false);
         }
         self.add(Gate::And(low, high))
@@ -317,7 +453,11 @@ impl Circuit {
         match self.constant_at(c) {
             Some(true) => Ok(a),
             Some(false) => Ok(b),
-            None => self.open_mux(c, a, b),
+            None => {
+                let left = self.folded_where(a, c)?;
+                let right = self.folded_unless(b, c)?;
+                self.open_mux(c, left, right)
+            }
         }
     }
 
