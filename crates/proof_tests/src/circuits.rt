@@ -10,42 +10,49 @@ const A: Wire = Wire(0);
 
 const B: Wire = Wire(1);
 
-const YES: Wire = Wire(2);
+const C: Wire = Wire(2);
 
-const NO: Wire = Wire(3);
+const YES: Wire = Wire(3);
 
-const NOT_A: Wire = Wire(4);
+const NO: Wire = Wire(4);
 
-const BOTH: Wire = Wire(5);
+const NOT_A: Wire = Wire(5);
 
-const CHOICE: Wire = Wire(6);
+const BOTH: Wire = Wire(6);
+
+const CHOICE: Wire = Wire(7);
 
 /// What each gate is answered with, and how many wires there are then.
-const ASKED: [(Gate, Wire, u64); 23] = [
+const ASKED: [(Gate, Wire, u64); 28] = [
     (Gate::Input(0), A, 1),
     (Gate::Input(1), B, 2),
-    (Gate::Constant(true), YES, 3),
-    (Gate::Constant(false), NO, 4),
-    (Gate::Not(A), NOT_A, 5),
-    (Gate::And(A, B), BOTH, 6),
-    (Gate::Mux(A, B, NOT_A), CHOICE, 7),
+    (Gate::Input(2), C, 3),
+    (Gate::Constant(true), YES, 4),
+    (Gate::Constant(false), NO, 5),
+    (Gate::Not(A), NOT_A, 6),
+    (Gate::And(A, B), BOTH, 7),
+    (Gate::Mux(A, B, C), CHOICE, 8),
     // from here on nothing is added: equal gates are shared, and what folds is folded
-    (Gate::And(B, A), BOTH, 7),
-    (Gate::Constant(true), YES, 7),
-    (Gate::Not(NOT_A), A, 7),
-    (Gate::Not(YES), NO, 7),
-    (Gate::And(A, A), A, 7),
-    (Gate::And(A, NOT_A), NO, 7),
-    (Gate::And(NOT_A, A), NO, 7),
-    (Gate::And(YES, A), A, 7),
-    (Gate::And(A, NO), NO, 7),
-    (Gate::Mux(B, A, A), A, 7),
-    (Gate::Mux(NO, A, B), B, 7),
-    (Gate::Mux(A, B, NO), BOTH, 7),
-    (Gate::Mux(A, YES, NO), A, 7),
-    (Gate::Mux(A, NO, YES), NOT_A, 7),
-    (Gate::Mux(A, B, NOT_A), CHOICE, 7),
-    (Gate::Input(2), Wire(7), 8),
+    (Gate::And(B, A), BOTH, 8),
+    (Gate::Constant(true), YES, 8),
+    (Gate::Not(NOT_A), A, 8),
+    (Gate::Not(YES), NO, 8),
+    (Gate::And(A, A), A, 8),
+    (Gate::And(A, NOT_A), NO, 8),
+    (Gate::And(NOT_A, A), NO, 8),
+    (Gate::And(YES, A), A, 8),
+    (Gate::And(A, NO), NO, 8),
+    (Gate::And(A, BOTH), BOTH, 8),
+    (Gate::And(BOTH, B), BOTH, 8),
+    (Gate::And(NOT_A, BOTH), NO, 8),
+    (Gate::Mux(B, A, A), A, 8),
+    (Gate::Mux(NO, A, B), B, 8),
+    (Gate::Mux(A, B, NO), BOTH, 8),
+    (Gate::Mux(A, B, A), BOTH, 8),
+    (Gate::Mux(A, YES, NO), A, 8),
+    (Gate::Mux(A, NO, YES), NOT_A, 8),
+    (Gate::Mux(A, NOT_A, YES), NOT_A, 8),
+    (Gate::Mux(A, B, C), CHOICE, 8),
 ];
 
 /// A circuit in which all of these were asked for.
@@ -63,7 +70,7 @@ fn asked(rt: &(impl Abort + AllocGlobal)) -> Result<Circuit, NoMemory> {
 fn equal_gates_are_shared_and_what_folds_is_folded(rt: HostRuntime) -> Result<(), Fail> {
     let circuit = asked(&rt)?;
     assert_eq!(rt; circuit.inputs(), 3);
-    for (gate, wire, _) in &ASKED[..7] {
+    for (gate, wire, _) in &ASKED[..8] {
         assert!(rt; wire.0 < circuit.wires());
         assert_eq!(rt; circuit.gate(*wire), *gate);
     }
@@ -73,23 +80,23 @@ fn equal_gates_are_shared_and_what_folds_is_folded(rt: HostRuntime) -> Result<()
 #[test]
 fn wires_have_their_values(rt: HostRuntime) -> Result<(), Fail> {
     let circuit = asked(&rt)?;
-    // a, b and a third input; a, b, true, false, not a, a and b, b or else not a by a, the third input
+    // a, b and c; these, true, false, not a, a and b, b where a holds and else c
     let rows = [
         (
             [false, false, false],
-            [false, false, true, false, true, false, true, false],
+            [false, false, false, true, false, true, false, false],
         ),
         (
             [false, true, true],
-            [false, true, true, false, true, false, true, true],
+            [false, true, true, true, false, true, false, true],
         ),
         (
             [true, false, false],
-            [true, false, true, false, false, false, false, false],
+            [true, false, false, true, false, false, false, false],
         ),
         (
             [true, true, true],
-            [true, true, true, false, false, true, true, true],
+            [true, true, true, true, false, false, true, true],
         ),
     ];
     for (inputs, wanted) in rows {
