@@ -1,5 +1,5 @@
 -- What the words of the command line ask for.
-use Rattle.std.specs.Prelude.{◌≡◌, ℕ, ◌+◌, ◌-◌, ◌*◌, ◌==◌, ◌&&◌, nat_le, List, [], ◌∷◌, Option, Some, None, option_map, Result, Ok, Err, Bool, true, false, codes, if◌then◌else◌}
+use Rattle.std.specs.Prelude.{◌≡◌, ◌≤◌, ℕ, ◌+◌, ◌-◌, ◌*◌, ◌==◌, ◌&&◌, nat_le, List, [], ◌∷◌, Option, Some, None, option_map, Result, Ok, Err, Bool, true, false, codes, if◌then◌else◌}
 use Rattle.std.specs.Str.{bytes_eq}
 use Rattle.rh_base.specs.Reading.{◌>>=◌}
 use Rattle.clap.specs.Walk.{Row, Rule, Text, first_of}
@@ -8,6 +8,8 @@ use Rattle.clap.specs.Faults.{fault_of}
 use Rattle.command_line.specs.declared.asks.Ask.{Ask}
 use Rattle.command_line.specs.declared.asks.Ask.TheVariants as ask
 use Rattle.command_line.specs.declared.asks.Takes.{Takes}
+use Rattle.command_line.specs.declared.asks.Source.{Source}
+use Rattle.command_line.specs.declared.asks.Source.TheVariants as source
 use Rattle.command_line.specs.declared.asks.Request.{Request}
 use Rattle.command_line.specs.declared.words.WordsFault.{WordsFault}
 use Rattle.command_line.specs.declared.words.WordsFault.TheVariants as fault
@@ -56,9 +58,9 @@ compiled = record alone { facts = true; class_data = true; node = true }
 abbrev pub described : Takes
 described = record compiled { packages = true }
 
--- that, and how many conflicts a question has
-abbrev pub limited : Takes
-limited = record described { conflicts = true }
+-- that, how many conflicts a question has, and a workload
+abbrev pub judged : Takes
+judged = record described { conflicts = true; workload = true }
 
 -- what a catalog's programs are made with, and a file tree and an order
 abbrev pub replayed : Takes
@@ -66,7 +68,8 @@ replayed = record described { tree = true; order = true }
 
 -- which options may stand beside a value of `--ask`
 abbrev pub takes : Ask → Takes
-takes ask.Verify = limited
+takes ask.Verify = judged
+takes ask.Proof = judged
 takes ask.Catalog = compiled
 takes ask.Graph = compiled
 takes ask.Programs = described
@@ -74,18 +77,24 @@ takes ask.Replay = replayed
 takes ask.Check = alone
 takes ask.Migrate = alone
 
+-- the same beside a workload, which brings its own manifest and listing
+abbrev pub beside : Option ℕ → Takes → Takes
+beside None t = t
+beside (Some n) t = record t { facts = false; packages = false; class_data = false; node = false }
+
 -- ---- the request
 
 -- what a word of `--ask` asks for
 abbrev pub ask_named : Text → Option Ask
 ask_named word =
     if bytes_eq word (codes "verify") then Some ask.Verify
+    else (if bytes_eq word (codes "proof") then Some ask.Proof
     else (if bytes_eq word (codes "catalog") then Some ask.Catalog
     else (if bytes_eq word (codes "graph") then Some ask.Graph
     else (if bytes_eq word (codes "programs") then Some ask.Programs
     else (if bytes_eq word (codes "replay") then Some ask.Replay
     else (if bytes_eq word (codes "check") then Some ask.Check
-    else (if bytes_eq word (codes "migrate") then Some ask.Migrate else None))))))
+    else (if bytes_eq word (codes "migrate") then Some ask.Migrate else None)))))))
 
 -- what `--ask` asks for; where it is left out, to verify
 abbrev pub ask_in : Option Text → Option Ask
@@ -113,26 +122,37 @@ number_in most (b ∷ word) = if b == 48 then None else digits_within most 0 (b 
 abbrev pub most_conflicts : ℕ
 most_conflicts = 100000000
 
+-- the greatest size of a workload
+abbrev pub most_workload : ℕ
+most_workload = 54
+
 -- what is given for an option that takes a number, and may stand or may not
 abbrev pub taken_number : Bool → ℕ → Option Text → Option (Option ℕ)
 taken_number may most None = Some None
 taken_number true most (Some word) = option_map (λ n. Some n) (number_in most word)
 taken_number false most (Some word) = None
 
--- the request that was given so, where one was: INPUT is needed, and no option stands that may not
+-- what is asked about: a workload, or the input of a name, and not both
+abbrev pub source_in : Option ℕ → Option Text → Option Source
+source_in None None = None
+source_in None (Some name) = Some (source.Named name)
+source_in (Some n) None = Some (source.Workload n)
+source_in (Some n) (Some name) = None
+
+-- the request that was given so, where one was: no option stands that may not
 abbrev pub request_in : List Row → Option Request
 request_in rows = do
   ask ← ask_in (first_of (codes "ask") rows)
-  input ← first_of (codes "INPUT") rows
-  facts ← taken (takes ask).facts (first_of (codes "facts") rows)
-  packages ← taken (takes ask).packages (first_of (codes "packages") rows)
-  class_data ← taken (takes ask).class_data (first_of (codes "data") rows)
-  node ← taken (takes ask).node (first_of (codes "node") rows)
-  tree ← taken (takes ask).tree (first_of (codes "tree") rows)
-  order ← taken (takes ask).order (first_of (codes "order") rows)
-  conflicts ← taken_number (takes ask).conflicts most_conflicts (first_of (codes "conflicts") rows)
-  _ ← taken (takes ask).workload (first_of (codes "workload") rows)
-  Some (record { ask = ask; facts = facts; packages = packages; class_data = class_data; node = node; conflicts = conflicts; input = input; tree = tree; order = order })
+  workload ← taken_number (takes ask).workload most_workload (first_of (codes "workload") rows)
+  source ← source_in workload (first_of (codes "INPUT") rows)
+  facts ← taken (beside workload (takes ask)).facts (first_of (codes "facts") rows)
+  packages ← taken (beside workload (takes ask)).packages (first_of (codes "packages") rows)
+  class_data ← taken (beside workload (takes ask)).class_data (first_of (codes "data") rows)
+  node ← taken (beside workload (takes ask)).node (first_of (codes "node") rows)
+  tree ← taken (beside workload (takes ask)).tree (first_of (codes "tree") rows)
+  order ← taken (beside workload (takes ask)).order (first_of (codes "order") rows)
+  conflicts ← taken_number (beside workload (takes ask)).conflicts most_conflicts (first_of (codes "conflicts") rows)
+  Some (record { ask = ask; facts = facts; packages = packages; class_data = class_data; node = node; conflicts = conflicts; source = source; tree = tree; order = order })
 
 -- The words are those of the command, and make this request.
 pub record Makes (words : List Text) (request : Request) : Type 0 where
@@ -148,3 +168,8 @@ IfRefused (fault.Memory m) P = Unit {0}
 abbrev pub IsMade : {A : Type 0} → Option A → Result A WordsFault → Type 0
 IsMade o (Ok x) = o ≡ Some x
 IsMade o (Err e) = IfRefused e (o ≡ None)
+
+-- the number, if one is given, is from 1 to this
+abbrev pub IsWithin : ℕ → Option ℕ → Type 0
+IsWithin most None = Unit {0}
+IsWithin most (Some n) = (1 ≤ n) × (n ≤ most)

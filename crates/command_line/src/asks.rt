@@ -1,8 +1,9 @@
 //! What may be asked for, and what may be given with it.
 
 ghost use Rattle.std.specs.Prelude.{◌≡◌};
-ghost use Rattle.command_line.specs.Words.{ask_named, alone, compiled, described, limited, replayed, takes};
+ghost use Rattle.command_line.specs.Words.{ask_named, alone, compiled, described, judged, replayed, takes, beside};
 
+use crate::size::Size;
 use rh_base::Text;
 
 /// The values of `--ask`.
@@ -10,6 +11,8 @@ use rh_base::Text;
 pub enum Ask {
     /// Whether a manifest is deterministic and idempotent.
     Verify,
+    /// The proofs of what is answered to that.
+    Proof,
     /// The catalog of a manifest.
     Catalog,
     /// The graph of a manifest's catalog.
@@ -37,7 +40,17 @@ pub struct Takes {
     pub workload: bool,
 }
 
-/// What is asked for, the names that the words give, of files and of the node, and how many conflicts a question has.
+/// What is asked about.
+#[derive(Debug, Drop)]
+pub enum Source {
+    /// The file of this name.
+    Named(Text),
+    /// The workload of this size, with its listing.
+    Workload(Size),
+}
+
+/// What is asked for and about what, the names that the words give, of files and of the node, and how many conflicts a
+/// question has.
 #[derive(Debug, Drop)]
 pub struct Request {
     pub ask: Ask,
@@ -46,7 +59,7 @@ pub struct Request {
     pub class_data: Option<Text>,
     pub node: Option<Text>,
     pub conflicts: Option<u64>,
-    pub input: Text,
+    pub source: Source,
     pub tree: Option<Text>,
     pub order: Option<Text>,
 }
@@ -87,12 +100,13 @@ fn described() -> Takes
     takes
 }
 
-/// That, and how many conflicts a question has.
-fn limited() -> Takes
-    ensures { result ≡ limited }
+/// That, how many conflicts a question has, and a workload.
+fn judged() -> Takes
+    ensures { result ≡ judged }
 {
     let mut takes = described();
     takes.conflicts = true;
+    takes.workload = true;
     takes
 }
 
@@ -113,6 +127,8 @@ impl Ask {
     {
         if word == "verify" {
             Some(Ask::Verify)
+        } else if word == "proof" {
+            Some(Ask::Proof)
         } else if word == "catalog" {
             Some(Ask::Catalog)
         } else if word == "graph" {
@@ -135,7 +151,8 @@ impl Ask {
         ensures { result ≡ takes self }
     {
         match self {
-            Ask::Verify => limited(),
+            Ask::Verify => judged(),
+            Ask::Proof => judged(),
             Ask::Catalog => compiled(),
             Ask::Graph => compiled(),
             Ask::Programs => described(),
@@ -143,5 +160,21 @@ impl Ask {
             Ask::Check => alone(),
             Ask::Migrate => alone(),
         }
+    }
+}
+
+impl Takes {
+    /// The same beside a workload, which brings its own manifest and listing.
+    pub(crate) fn beside(self, workload: &Option<Size>) -> Takes
+        ensures { result ≡ beside workload.now self }
+    {
+        let mut takes = self;
+        if workload.is_some() {
+            takes.facts = false;
+            takes.packages = false;
+            takes.class_data = false;
+            takes.node = false;
+        }
+        takes
     }
 }

@@ -1,6 +1,6 @@
 //! Whole numbers in the words.
 
-ghost use Rattle.std.specs.Prelude.{◌≡◌, ◌<◌, ◌^◌};
+ghost use Rattle.std.specs.Prelude.{◌≡◌, ◌≤◌, ◌<◌, ◌^◌, ℕ, Some};
 ghost use Rattle.command_line.specs.Words.{digits_within, number_in};
 
 /// The number of decimal digits, if it is at most this.
@@ -21,8 +21,8 @@ fn digits(word: &[u8], most: u64) -> Option<u64>
     Some(n)
 }
 
-/// A number from 1 to the greatest one, in decimal digits without a sign and without a leading zero.
-pub fn number(word: &str, most: u64) -> Option<u64>
+/// The number that is spelled in decimal digits without a sign and without a leading zero, if it is at most this.
+fn spelled(word: &str, most: u64) -> Option<u64>
     requires { most < 2 ^ 32 }
     ensures { result ≡ number_in most word.now }
 {
@@ -32,4 +32,13 @@ pub fn number(word: &str, most: u64) -> Option<u64>
         [b'0', ..] => None,
         _ => digits(bytes, most),
     }
+}
+
+/// A number from 1 to the greatest one, in decimal digits without a sign and without a leading zero.
+pub fn number(word: &str, most: u64) -> Option<u64>
+    requires { most < 2 ^ 32 }
+    ensures number { result ≡ number_in most word.now }
+    ensures range { (n : ℕ) → result ≡ Some n → (1 ≤ n) × (n ≤ most) }
+{
+    spelled(word, most)
 }

@@ -4,11 +4,12 @@ ghost use Rattle.std.specs.Prelude.{◌≡◌, ◌≢◌, ◌↔◌, ◌<◌, �
 ghost use Rattle.std.specs.Option.{option_map};
 ghost use Rattle.clap.specs.Words.{found_of, rows_of, first_of, matches_of, fault_of, kind_of};
 ghost use Rattle.clap.specs.declared.error.kind.ErrorKind.TheVariants.{OutOfMemory};
-ghost use Rattle.command_line.specs.Words.{synopsis, ask_in, taken, taken_number, request_in, Makes, IfRefused, IsMade};
+ghost use Rattle.command_line.specs.Words.{synopsis, ask_in, taken, taken_number, most_workload, source_in, request_in, Makes, IfRefused, IsMade, IsWithin};
 
-use crate::asks::{Ask, Request};
+use crate::asks::{Ask, Request, Source};
 use crate::command::synopsis;
 use crate::numbers::number;
+use crate::size::{MOST_WORKLOAD, Size};
 use clap::ArgMatches;
 use clap::error::{Error, ErrorKind};
 use rh_base::{NoMemory, Text};
@@ -85,7 +86,8 @@ fn counted(
     most: u64,
 ) -> Result<Option<u64>, WordsFault>
     requires { most < 2 ^ 32 }
-    ensures { IsMade (taken_number may most (first_of id.now (rows_of (found_of matches.now)))) result }
+    ensures made { IsMade (taken_number may most (first_of id.now (rows_of (found_of matches.now)))) result }
+    ensures range { IfOk result (IsWithin most) }
 {
     let Some(word) = value(matches, id) else {
         return Ok(None);
@@ -97,13 +99,28 @@ fn counted(
     Ok(Some(n))
 }
 
-/// The name of the input.
-fn input(alloc: Global, matches: &ArgMatches<'_>) -> Result<Text, WordsFault>
-    ensures { IsMade (first_of (codes "INPUT") (rows_of (found_of matches.now))) result }
+/// The size that is given for a workload, which may stand or may not.
+fn size(matches: &ArgMatches<'_>, may: bool) -> Result<Option<Size>, WordsFault>
+    ensures { IsMade (taken_number may most_workload (first_of (codes "workload") (rows_of (found_of matches.now)))) result }
 {
-    match value(matches, "INPUT") {
-        Some(word) => Ok(text(alloc, word)?),
-        None => Err(WordsFault::Refused),
+    match counted(matches, may, "workload", MOST_WORKLOAD)? {
+        Some(n) => Ok(Some(Size::new(n))),
+        None => Ok(None),
+    }
+}
+
+/// What is asked about: a workload, or the input of a name.
+fn source(
+    alloc: Global,
+    matches: &ArgMatches<'_>,
+    workload: Option<Size>,
+) -> Result<Source, WordsFault>
+    ensures { IsMade (source_in workload (first_of (codes "INPUT") (rows_of (found_of matches.now)))) result }
+{
+    match (workload, value(matches, "INPUT")) {
+        (None, Some(word)) => Ok(Source::Named(text(alloc, word)?)),
+        (Some(size), None) => Ok(Source::Workload(size)),
+        _ => Err(WordsFault::Refused),
     }
 }
 
@@ -112,8 +129,9 @@ fn request_of(alloc: Global, matches: &ArgMatches<'_>) -> Result<Request, WordsF
     ensures { IsMade (request_in (rows_of (found_of matches.now))) result }
 {
     let ask = ask_of(matches)?;
-    let takes = ask.takes();
-    let input = input(alloc, matches)?;
+    let workload = size(matches, ask.takes().workload)?;
+    let takes = ask.takes().beside(&workload);
+    let source = source(alloc, matches, workload)?;
     let facts = option(alloc, matches, takes.facts, "facts")?;
     let packages = option(alloc, matches, takes.packages, "packages")?;
     let class_data = option(alloc, matches, takes.class_data, "data")?;
@@ -121,7 +139,6 @@ fn request_of(alloc: Global, matches: &ArgMatches<'_>) -> Result<Request, WordsF
     let tree = option(alloc, matches, takes.tree, "tree")?;
     let order = option(alloc, matches, takes.order, "order")?;
     let conflicts = counted(matches, takes.conflicts, "conflicts", MOST_CONFLICTS)?;
-    let _ = option(alloc, matches, takes.workload, "workload")?;
     Ok(Request {
         ask,
         facts,
@@ -129,7 +146,7 @@ fn request_of(alloc: Global, matches: &ArgMatches<'_>) -> Result<Request, WordsF
         class_data,
         node,
         conflicts,
-        input,
+        source,
         tree,
         order,
     })

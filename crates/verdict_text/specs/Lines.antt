@@ -1,11 +1,9 @@
 -- Lines on file trees, orders and outcomes.
-use Rattle.std.specs.Prelude.{ℕ, List, ◌++◌, map, Option, Some, None, codes}
+use Rattle.std.specs.Prelude.{ℕ, List, [], ◌++◌, map, slice_index_or, Option, Some, None, codes}
 use Rattle.fs_semantics.specs.FileTree.{Tree}
 use Rattle.fs_semantics.specs.Programs.{Outcome}
 use Rattle.tree_text.specs.TreeText.{tree_text}
 use Rattle.order_text.specs.OrderText.{order_text}
-use Rattle.catalog_semantics.specs.Catalogs.{Catalog}
-use Rattle.allowed_order.specs.AllowedOrder.{shown_at}
 
 -- a file tree
 abbrev pub tree_line : Tree → List ℕ
@@ -19,6 +17,10 @@ outcome_text (Some t) = tree_text t
 abbrev pub outcome_line : Outcome → List ℕ
 outcome_line o = codes "outcome " ++ (outcome_text o ++ codes "\n")
 
--- an order of plain resources, by their references
-abbrev pub order_line : Catalog → List ℕ → List ℕ → List ℕ
-order_line c plain order = codes "order " ++ (order_text (map (shown_at c plain) order) ++ codes "\n")
+-- the name of the resource at a position
+abbrev pub name_at : List (List ℕ) → ℕ → List ℕ
+name_at names i = slice_index_or names i []
+
+-- an order of resources, which have these names
+abbrev pub order_line : List (List ℕ) → List ℕ → List ℕ
+order_line names order = codes "order " ++ (order_text (map (name_at names) order) ++ codes "\n")

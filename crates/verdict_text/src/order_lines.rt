@@ -2,57 +2,44 @@
 
 ghost use Rattle.std.specs.Prelude.{◌≡◌, ◌<◌, ◌++◌, length, map, IfOk, OnOk};
 ghost use Rattle.std.specs.List.{AllByRecursion};
-ghost use Rattle.allowed_order.specs.AllowedOrder.{shown_at};
-ghost use Rattle.verdict_text.specs.Lines.{order_line};
+ghost use Rattle.verdict_text.specs.Lines.{name_at, order_line};
 
 use crate::lines::push_bytes;
-use catalog::Catalog;
 use order_text::order_to_json;
-use pp_value::shown_ref;
 use rh_base::{NoMemory, Seq, Text};
 use std::alloc::Global;
 
-/// The reference of the plain resource at a position, as it is shown.
-fn text_at(alloc: Global, catalog: &Catalog, plain: &[u32], i: u32) -> Result<Text, NoMemory>
-    requires places { AllByRecursion (λ k. k < length catalog.now.resources) plain.now }
-    requires position { i < length plain.now }
-    ensures { IfOk result (λ text. text ≡ shown_at catalog.now plain.now i) }
+/// The name at a position.
+fn name_at(alloc: Global, names: &[Text], i: u32) -> Result<Text, NoMemory>
+    requires { i < length names.now }
+    ensures { IfOk result (λ text. text ≡ name_at names.now i) }
 {
-    let place = plain[i as usize];
-    shown_ref(alloc, &catalog.get(place).id)
+    names[i as usize].copy(alloc)
 }
 
-/// The references of plain resources in an order.
-fn texts_in(
-    alloc: Global,
-    catalog: &Catalog,
-    plain: &[u32],
-    order: &[u32],
-) -> Result<Seq<Text>, NoMemory>
-    requires places { AllByRecursion (λ k. k < length catalog.now.resources) plain.now }
-    requires positions { AllByRecursion (λ i. i < length plain.now) order.now }
-    ensures { IfOk result (λ texts. texts ≡ map (shown_at catalog.now plain.now) order.now) }
+/// The names in an order.
+fn names_in(alloc: Global, names: &[Text], order: &[u32]) -> Result<Seq<Text>, NoMemory>
+    requires { AllByRecursion (λ i. i < length names.now) order.now }
+    ensures { IfOk result (λ texts. texts ≡ map (name_at names.now) order.now) }
 {
     let mut texts = Seq::new(alloc);
     for i in order {
-        texts.push(text_at(alloc, catalog, plain, *i)?)?;
+        texts.push(name_at(alloc, names, *i)?)?;
     }
     Ok(texts)
 }
 
-/// Appends a line on an order of plain resources.
+/// Appends a line on an order of resources, which have these names.
 pub fn push_order(
     alloc: Global,
-    catalog: &Catalog,
-    plain: &[u32],
+    names: &[Text],
     order: &[u32],
     into: &mut Vec<u8>,
 ) -> Result<(), NoMemory>
-    requires places { AllByRecursion (λ k. k < length catalog.now.resources) plain.now }
-    requires positions { AllByRecursion (λ i. i < length plain.now) order.now }
-    ensures { OnOk result (into.new.items ≡ into.old.items ++ order_line catalog.now plain.now order.now) }
+    requires { AllByRecursion (λ i. i < length names.now) order.now }
+    ensures { OnOk result (into.new.items ≡ into.old.items ++ order_line names.now order.now) }
 {
-    let texts = texts_in(alloc, catalog, plain, order)?;
+    let texts = names_in(alloc, names, order)?;
     push_bytes(b"order ", into)?;
     order_to_json(alloc, texts.as_slice(), into)?;
     push_bytes(b"\n", into)

@@ -1,0 +1,43 @@
+//! How large a workload is.
+
+ghost use Rattle.std.specs.Prelude.{◌≡◌, ◌≤◌};
+
+use std::marker::Model;
+
+/// How large a workload is: a number from 1 to 54.
+#[derive(Debug, Drop)]
+pub struct Size {
+    size: u32,
+}
+
+impl Model for Size {
+    ghost use Rattle.std.specs.Prelude.{ℕ, ◌≤◌};
+
+    ghost Value = { ℕ };
+
+    ghost view = { λ s. s.size };
+
+    ghost invariant = { λ s. (1 ≤ s.size) × (s.size ≤ 54) };
+}
+
+/// The greatest size of a workload.
+pub const MOST_WORKLOAD: u64 = 54;
+
+impl Size {
+    pub(crate) fn new(size: u64) -> Size
+        requires least { 1 ≤ size }
+        requires most { size ≤ 54 }
+        ensures { result ≡ size }
+    {
+        Size { size: size as u32 }
+    }
+
+    /// The number.
+    pub fn get(&self) -> u32
+        ensures size { result ≡ self.now }
+        ensures least { 1 ≤ result }
+        ensures most { result ≤ 54 }
+    {
+        self.size
+    }
+}

@@ -1,0 +1,142 @@
+-- What is told of programs and the order between them, and what holds where it is told.
+use Rattle.std.specs.Prelude.{◌≡◌, ◌<◌, ◌⊎◌, ℕ, List, [], ◌∷◌, ◌++◌, length, Option, Some}
+use Rattle.std.specs.List.{AllByRecursion}
+use Rattle.fs_semantics.specs.FileTree.{Tree}
+use Rattle.fs_semantics.specs.Programs.{Program}
+use Rattle.fs_semantics.specs.Orders.{IsDeterministic, IsIdempotent, Succeeds, IsCounterexample, IsExchange, IsSecondRunCounterexample}
+use Rattle.orders.specs.Relation.{Relation, Comes}
+use Rattle.verdict.specs.Limits.{HasFewPaths, IsLight}
+use Rattle.cnf.specs.Formulas.{Formula}
+use Rattle.cnf.specs.Proofs.{IsAccepted}
+use Rattle.cnf.specs.declared.log.Step.{Step}
+use Rattle.proof_check.specs.Refuted.{Refutation}
+use Rattle.order_encode.specs.declared.witness.Witness.{Witness}
+use Rattle.order_encode.specs.declared.witness.Witness.TheVariants as witness
+use Rattle.judgement.specs.First.{IsPrunedCount}
+use Rattle.full_verdict.specs.declared.verdicts.Asked.{Asked}
+use Rattle.full_verdict.specs.declared.verdicts.Second.{Second}
+use Rattle.full_verdict.specs.declared.verdicts.Second.TheVariants as second
+use Rattle.full_verdict.specs.declared.verdicts.Verdict.{Verdict}
+use Rattle.full_verdict.specs.declared.verdicts.Verdict.TheVariants as verdict
+use Rattle.full_verdict.specs.Questions.{IsEndProof}
+use Rattle.full_verdict.specs.Verdicts.{IsSpentOn, IsKnownBefore, IsOrderProof, AreTwoProofs, AreProofsBefore}
+use Rattle.verdict_report.specs.declared.report.Form.{Form}
+use Rattle.verdict_report.specs.declared.report.Form.TheVariants as form
+use Rattle.verdict_report.specs.declared.report.Report.{Report}
+use Rattle.verdict_report.specs.Lines.{budget_of, sure_text, succeeds_line, fails_line, difference_text, change_text, spent_text, proofs_text, status_of, lines_of, proofs_of}
+
+-- ---- how it is told
+
+-- a log that proves, by resolution, that its formula has no model
+abbrev pub IsProved : Refutation → Type 0
+IsProved p = IsAccepted p.formula p.steps
+
+-- The text is these lines; or it is that of these proofs, each of which is one.
+abbrev pub IsText : Form → List ℕ → List Refutation → List ℕ → Type 0
+IsText form.Lines lines proofs text = text ≡ lines
+IsText form.Proofs lines proofs text = (text ≡ proofs_text proofs) × AllByRecursion IsProved proofs
+
+-- ---- what is told, and what holds where it is told
+
+-- all three questions were refuted
+pub record AreThreeProofs (es : List Program) (order : Relation) (proofs : List Refutation) : Type 0 where
+  pub front : List Refutation
+  pub last : Refutation
+  pub are : proofs ≡ front ++ last ∷ []
+  pub first_two : AreTwoProofs es order front
+  pub third : IsEndProof es order last.formula
+
+-- the last line: some tree has a run without error, or none has
+abbrev pub IsEnding : List Program → Relation → List ℕ → List Refutation → Type 0
+IsEnding es order last proofs =
+    ((last ≡ succeeds_line) × Succeeds es (Comes order) × AreTwoProofs es order proofs)
+    ⊎ ((last ≡ fails_line) × (Succeeds es (Comes order) → ⊥) × AreThreeProofs es order proofs)
+
+-- Status 0. From every file tree all allowed orders end in one same tree or all in error, and a second run, in whatever allowed
+-- order, changes nothing.
+pub record IsSure (f : Form) (es : List Program) (order : Relation) (k : ℕ) (report : Report) : Type 0 where
+  pub status : report.status ≡ 0
+  pub deterministic : IsDeterministic es (Comes order)
+  pub idempotent : IsIdempotent es (Comes order)
+  pub last : List ℕ
+  pub proofs : List Refutation
+  pub ending : IsEnding es order last proofs
+  pub text : IsText f (sure_text (length es) k last) proofs report.text
+
+-- Status 1. From the tree the two allowed orders have the outcomes that are told, which differ; and the second is the first
+-- with two free neighbours exchanged.
+pub record IsDifferent (f : Form) (names : List (List ℕ)) (es : List Program) (order : Relation) (k : ℕ) (report : Report) : Type 0 where
+  pub status : report.status ≡ 1
+  pub tree : Tree
+  pub left : List ℕ
+  pub right : List ℕ
+  pub counterexample : IsCounterexample es (Comes order) tree left right
+  pub exchange : IsExchange (Comes order) left right
+  pub text : IsText f (difference_text names es k tree left right) [] report.text
+
+-- Status 2. From every file tree all allowed orders end alike; but from the tree that is told this allowed order ends in a tree
+-- which a second run in it doesn't leave as it is. The outcomes of both runs are told.
+pub record IsChanged (f : Form) (names : List (List ℕ)) (es : List Program) (order : Relation) (k : ℕ) (report : Report) : Type 0 where
+  pub status : report.status ≡ 2
+  pub deterministic : IsDeterministic es (Comes order)
+  pub tree : Tree
+  pub turns : List ℕ
+  pub counterexample : IsSecondRunCounterexample es (Comes order) tree turns
+  pub succeeds : Succeeds es (Comes order)
+  pub proofs : List Refutation
+  pub refuted : IsOrderProof es (Comes order) proofs
+  pub text : IsText f (change_text names es k tree turns) proofs report.text
+
+-- Status 3. A number of conflicts is given, and a working log of just as many steps over a formula that states the question shows
+-- that they are spent. The lines ahead are true.
+pub record IsUnanswered (f : Form) (given : Option ℕ) (es : List Program) (order : Relation) (k : ℕ) (report : Report) : Type 0 where
+  pub status : report.status ≡ 3
+  pub conflicts : ℕ
+  pub limited : given ≡ Some conflicts
+  pub asked : Asked
+  pub formula : Formula
+  pub steps : List Step
+  pub spent : IsSpentOn es order (budget_of given) asked formula steps
+  pub known : IsKnownBefore es order asked
+  pub proofs : List Refutation
+  pub refuted : AreProofsBefore es order asked proofs
+  pub text : IsText f (spent_text (length es) k asked (budget_of given)) proofs report.text
+
+-- The headline. What is told of programs and the order between them, which are within the limits: how many pruning leaves aside,
+-- and one of the four.
+pub record IsTold (f : Form) (given : Option ℕ) (names : List (List ℕ)) (es : List Program) (order : Relation) (report : Report) : Type 0 where
+  pub paths : HasFewPaths es
+  pub weight : IsLight es
+  pub pruned : ℕ
+  pub count : IsPrunedCount es (Comes order) pruned
+  pub answer : IsSure f es order pruned report ⊎ (IsDifferent f names es order pruned report ⊎ (IsChanged f names es order pruned report ⊎ IsUnanswered f given es order pruned report))
+
+-- ---- steps
+
+-- the report has the status of the verdict, and its lines or its proofs
+pub record IsReportOf (f : Form) (names : List (List ℕ)) (es : List Program) (budget : ℕ) (judged : Verdict) (report : Report) : Type 0 where
+  pub status : report.status ≡ status_of judged
+  pub text : IsText f (lines_of names es budget judged) (proofs_of judged) report.text
+
+-- the witness has two orders of numbers below n
+abbrev pub HasOrders : ℕ → Witness → Type 0
+HasOrders n (witness.Orders t left right) = AllByRecursion (λ i. i < n) left × AllByRecursion (λ i. i < n) right
+HasOrders n (witness.Twice t order) = ⊥
+HasOrders n (witness.Ends t order) = ⊥
+
+-- the witness is of a second run, in an order of numbers below n
+abbrev pub HasTurns : ℕ → Witness → Type 0
+HasTurns n (witness.Orders t left right) = ⊥
+HasTurns n (witness.Twice t order) = AllByRecursion (λ i. i < n) order
+HasTurns n (witness.Ends t order) = ⊥
+
+-- the witness, if a second run changes something, is of its kind, and speaks of n programs
+abbrev pub IsTellableAgain : ℕ → Second → Type 0
+IsTellableAgain n (second.Same v) = Unit {0}
+IsTellableAgain n (second.Differs w) = HasTurns n w
+
+-- the same of a verdict
+abbrev pub IsTellable : ℕ → Verdict → Type 0
+IsTellable n (verdict.NotDeterministic k w) = HasOrders n w
+IsTellable n (verdict.Judged k s again e) = IsTellableAgain n again
+IsTellable n (verdict.Spent k a cnf log proofs) = Unit {0}

@@ -1,0 +1,12 @@
+//! What is told of programs and the order between them: whether they are deterministic, whether a second run changes anything,
+//! and whether they succeed from some tree; or the proofs of that.
+#![tactic(auto)]
+
+mod lines;
+mod proofs;
+mod report;
+mod runs;
+mod telling;
+
+pub use report::{Form, Report, printed};
+pub use telling::told;

@@ -1,0 +1,94 @@
+//! The lines on numbers, answers and questions.
+
+ghost use Rattle.std.specs.Prelude.{◌≡◌, ◌≤◌, ◌++◌, IfOk, OnOk};
+ghost use Rattle.verdict_report.specs.Lines.{budget_of, head_lines, last_line, sure_text, known_lines, question_name, spent_line, spent_text};
+
+use full_verdict::{Asked, Ends};
+use rh_base::{NoMemory, Seq};
+use std::alloc::Global;
+use verdict_text::push_bytes;
+
+/// How many conflicts each question has.
+pub fn budget_of(given: Option<u64>) -> u64
+    ensures budget { result ≡ budget_of given }
+    ensures some { 1 ≤ result }
+{
+    match given {
+        Some(0) => 1,
+        Some(conflicts) => conflicts,
+        None => u64::MAX,
+    }
+}
+
+/// Appends how many resources there are, and how many pruning leaves aside.
+pub fn push_head(alloc: Global, n: usize, pruned: u32, into: &mut Vec<u8>) -> Result<(), NoMemory>
+    ensures { OnOk result (into.new.items ≡ into.old.items ++ head_lines n pruned) }
+{
+    let head = format!(in alloc; "resources {n}\npruned {pruned}\n")?;
+    push_bytes(head.as_str().as_bytes(), into)
+}
+
+fn push_last(end: &Ends, into: &mut Vec<u8>) -> Result<(), NoMemory>
+    ensures { OnOk result (into.new.items ≡ into.old.items ++ last_line end.now) }
+{
+    match end {
+        Ends::From(_) => push_bytes(b"succeeds from some tree\n", into),
+        Ends::Never(_) => push_bytes(b"fails from every tree\n", into),
+    }
+}
+
+/// The lines where all is well.
+pub fn sure_text(alloc: Global, n: usize, pruned: u32, end: &Ends) -> Result<Seq<u8>, NoMemory>
+    ensures { IfOk result (λ text. text ≡ sure_text n pruned (last_line end.now)) }
+{
+    let mut bytes = Vec::new(alloc);
+    push_head(alloc, n, pruned, &mut bytes)?;
+    push_bytes(b"deterministic\nidempotent\n", &mut bytes)?;
+    push_last(end, &mut bytes)?;
+    Ok(Seq::from_vec(bytes))
+}
+
+fn push_known(asked: &Asked, into: &mut Vec<u8>) -> Result<(), NoMemory>
+    ensures { OnOk result (into.new.items ≡ into.old.items ++ known_lines asked.now) }
+{
+    match asked {
+        Asked::Deterministic => Ok(()),
+        Asked::Idempotent => push_bytes(b"deterministic\n", into),
+        Asked::Succeeds => push_bytes(b"deterministic\nidempotent\n", into),
+    }
+}
+
+fn question_name(asked: &Asked) -> &'static str
+    ensures { result.now ≡ question_name asked.now }
+{
+    match asked {
+        Asked::Deterministic => "deterministic",
+        Asked::Idempotent => "idempotent",
+        Asked::Succeeds => "succeeds",
+    }
+}
+
+fn push_spent(alloc: Global, asked: &Asked, budget: u64, into: &mut Vec<u8>) -> Result<(), NoMemory>
+    ensures { OnOk result (into.new.items ≡ into.old.items ++ spent_line asked.now budget) }
+{
+    let name = question_name(asked);
+    let line = format!(in alloc; "spent {name} {budget}\n")?;
+    push_bytes(line.as_str().as_bytes(), into)
+}
+
+/// The lines where a question's conflicts are spent.
+pub fn spent_text(
+    alloc: Global,
+    n: usize,
+    pruned: u32,
+    asked: &Asked,
+    budget: u64,
+) -> Result<Seq<u8>, NoMemory>
+    ensures { IfOk result (λ text. text ≡ spent_text n pruned asked.now budget) }
+{
+    let mut bytes = Vec::new(alloc);
+    push_head(alloc, n, pruned, &mut bytes)?;
+    push_known(asked, &mut bytes)?;
+    push_spent(alloc, asked, budget, &mut bytes)?;
+    Ok(Seq::from_vec(bytes))
+}
