@@ -162,8 +162,19 @@ fn read_and_check(rt: &(impl Abort + AllocGlobal), text: &[u8]) -> Result<(u64, 
 
 #[test]
 fn proof_texts_are_read(rt: HostRuntime) -> Result<(), Fail> {
-    let rows: [(&str, u64, &str); 12] = [
+    let rows: [(&str, u64, &str); 14] = [
         ("proofs 0", 0, "none"),
+        // many variables, and a clause or two: what is held is small
+        (
+            "proofs 1\np cnf 2147483648 1\n1 0\nlog 1\n0 1 0",
+            1,
+            "resolvent of 1",
+        ),
+        (
+            "proofs 1\np cnf 2147483648 2\n2147483648 0\n-2147483648 0\nlog 1\n0 1 2 2147483648 0",
+            0,
+            "ok",
+        ),
         (
             "c a comment\n proofs 1\np cnf 1 1\n1 0\nlog 0\n",
             0,

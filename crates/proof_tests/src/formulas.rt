@@ -53,8 +53,8 @@ fn satisfies(rt: &impl Abort, cnf: &Cnf, valuation: u32) -> bool {
     true
 }
 
-/// Wires 0 to 7: three inputs, the opposite of the first, an and, a choice, true, and an and of these.
-const GATES: [Gate; 8] = [
+/// Wires 0 to 8: three inputs, the opposite of the first, an and, a choice, true, an and of these, and a choice of opposites.
+const GATES: [Gate; 9] = [
     Gate::Input(0),
     Gate::Input(1),
     Gate::Input(2),
@@ -63,6 +63,7 @@ const GATES: [Gate; 8] = [
     Gate::Mux(Wire(2), Wire(4), Wire(0)),
     Gate::Constant(true),
     Gate::And(Wire(4), Wire(5)),
+    Gate::Mux(Wire(2), Wire(3), Wire(0)),
 ];
 
 /// The values of the inputs, as bits, at which some valuation that begins with them is a model.
@@ -91,6 +92,7 @@ fn models_begin_with_inputs_that_make_the_goal_true(rt: HostRuntime) -> Result<(
         (5, 0b0100_1010, 5, 10),
         (6, 0b1111_1111, 4, 2),
         (7, 0b0100_0000, 6, 13),
+        (8, 0b0101_1010, 4, 5),
     ];
     for (goal, wanted, vars, clauses) in rows {
         assert!(rt; goal < circuit.wires());

@@ -1,5 +1,5 @@
 -- What resolving a literal away that became false ahead of the last level does to the clause so far.
-use Rattle.std.proofs.Common.{◌≡◌, ◌⊎◌, inl, inr, ℕ, ◌+◌, ◌-◌, ◌/◌, ◌<◌, Bool, true, false, true≢false, not, ◌||◌, ◌&&◌, List, length, take, get_or, sym, ap, ◌∙◌, arith}
+use Rattle.std.proofs.Common.{◌≡◌, ◌⊎◌, inl, inr, ℕ, ◌-◌, ◌/◌, ◌<◌, Bool, true, false, true≢false, not, ◌||◌, ◌&&◌, List, length, take, get_or, sym, ap, ◌∙◌, arith}
 use Rattle.std.specs.Prelude.{◌==◌}
 use Rattle.std.proofs.Math.ListN.{set}
 use Rattle.std.proofs.lemmas.List.{get_or-set_other}
@@ -7,7 +7,7 @@ use Rattle.std.proofs.lemmas.Bool.{eq-eqb, and_from, or_cases}
 use Rattle.sat_solver.specs.Words.{opposite, has}
 use Rattle.sat_solver.specs.Trails.{Way}
 use Rattle.sat_solver.specs.Watching.{Gives}
-use Rattle.sat_solver.specs.Resolving.{IsApart, is_seen, in_clause, IsLeft, IsGiven}
+use Rattle.sat_solver.specs.Resolving.{IsApart, is_seen, IsLeft, IsGiven}
 use Rattle.sat_solver.proofs.Marks.{half_opposite}
 use Rattle.sat_solver.proofs.Covering.{and_left, and_right, still_seen}
 use Rattle.sat_solver.proofs.Arranges.{has_less}

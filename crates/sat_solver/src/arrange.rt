@@ -45,8 +45,31 @@ fn is_later(trail: &Trail, word: u32, other: u32) -> bool
     place > first
 }
 
+/// The place of the word that became false last, of those from place 1 on.
+fn last_place(words: &Vec<u32>, trail: &Trail) -> usize
+    requires apart { IsApart trail.now.words }
+    requires two { 2 ≤ length words.now.items }
+    requires below { (x : ℕ) → has words.now.items x ≡ true → x < 2 * trail.now.vars }
+    requires are_false { (x : ℕ) → has words.now.items x ≡ true → has trail.now.words (opposite x) ≡ true }
+    ensures low { 1 ≤ result }
+    ensures within { result < length words.now.items }
+    ensures behind { (i : ℕ) → 1 ≤ i → i < length words.now.items → IsBehind trail.now.words (slice_index words.now.items result) (slice_index words.now.items i) }
+{
+    let mut last = 1;
+    'rest: for k in 2..words.len() {
+        let word = word_at(words, k);
+        let so_far = word_at(words, last);
+        let later = is_later(trail, word, so_far);
+        if !later {
+            continue;
+        }
+        last = k;
+    }
+    last
+}
+
 /// Puts the word that became false last to place 1, of those from there on.
-#[tactic(auto, using(crate::proofs::Arranges::arranged_first))]
+#[tactic(auto, using(crate::proofs::Arranges::arranged_short))]
 pub(crate) fn put_last_second(words: &mut Vec<u32>, trail: &Trail)
     requires apart { IsApart trail.now.words }
     requires some { 0 < length words.old.items }
@@ -54,15 +77,11 @@ pub(crate) fn put_last_second(words: &mut Vec<u32>, trail: &Trail)
     requires are_false { (x : ℕ) → has words.old.items x ≡ true → has trail.now.words (opposite x) ≡ true }
     ensures { IsArranged trail.now.words words.old.items words.new.items (length words.old.items) }
 {
-    'rest: for k in 1..words.len() {
-        let word = word_at(words, k);
-        let second = word_at(words, 1);
-        let later = is_later(trail, word, second);
-        if !later {
-            continue;
-        }
-        exchange(words, 1, k);
+    if words.len() < 2 {
+        return;
     }
+    let last = last_place(words, trail);
+    exchange(words, 1, last);
 }
 
 /// Whether the level ahead of one begins behind a place.

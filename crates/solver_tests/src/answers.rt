@@ -87,8 +87,15 @@ fn answer(rt: &(impl Abort + AllocGlobal), text: &str, budget: u64) -> Result<St
     }
 }
 
+/// Four pigeons in three holes.
+const MORE_PIGEONS: &str = "p cnf 12 22
+1 2 3 0 4 5 6 0 7 8 9 0 10 11 12 0
+-1 -4 0 -1 -7 0 -1 -10 0 -4 -7 0 -4 -10 0 -7 -10 0
+-2 -5 0 -2 -8 0 -2 -11 0 -5 -8 0 -5 -11 0 -8 -11 0
+-3 -6 0 -3 -9 0 -3 -12 0 -6 -9 0 -6 -12 0 -9 -12 0";
+
 /// Formulas that have a model, and that have none.
-const ANSWERED: [(&str, &str); 16] = [
+const ANSWERED: [(&str, &str); 17] = [
     ("p cnf 0 0", "model: true"),
     ("p cnf 3 0", "model: true"),
     ("p cnf 0 1\n0", "refuted, accepted"),
@@ -116,6 +123,7 @@ const ANSWERED: [(&str, &str); 16] = [
     ),
     // three pigeons in two holes, and in three
     (PIGEONS, "refuted, accepted"),
+    (MORE_PIGEONS, "refuted, accepted"),
     (
         "p cnf 9 12\n1 2 3 0 4 5 6 0 7 8 9 0 -1 -4 0 -1 -7 0 -4 -7 0\n-2 -5 0 -2 -8 0 -5 -8 0 -3 -6 0 -3 -9 0 -6 -9 0",
         "model: true",
