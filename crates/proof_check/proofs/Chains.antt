@@ -1,6 +1,6 @@
 -- Laws of chains, steps and logs, link by link and step by step.
-use Rattle.std.proofs.Common.{◌≡◌, ◌≢◌, inl, inr, ℕ, zero, suc, ◌+◌, ◌-◌, ◌<◌, ◌≤◌, Bool, true, true≢false, List, [], ◌∷◌, ◌++◌, length, take, drop, get_or, Some, None, refl, sym, ap, ◌∙◌, subst, arith}
-use Rattle.std.proofs.lemmas.List.{drop_more, drop_all, append-nil}
+use Rattle.std.proofs.Common.{◌≡◌, ◌≢◌, inl, inr, ℕ, zero, suc, ◌+◌, ◌-◌, ◌<◌, Bool, true, true≢false, List, [], ◌∷◌, ◌++◌, length, take, drop, get_or, Some, None, refl, sym, ap, ◌∙◌, subst, arith}
+use Rattle.std.proofs.lemmas.List.{drop_more, append-nil}
 use Rattle.std.proofs.lemmas.Option.{slice_get-get_or, same_Some}
 use Rattle.cnf.specs.declared.lit.Lit.{Lit}
 use Rattle.cnf.specs.declared.log.Link.{Link}
@@ -20,7 +20,7 @@ use Rattle.proof_check.specs.declared.fault.CheckFault.{CheckFault}
 use Rattle.proof_check.specs.declared.fault.CheckFault.TheVariants as bad_fault
 use Rattle.proof_check.specs.Joining.{earlier_of, AreClean}
 use Rattle.proof_check.proofs.Numbers.{earlier_more, clean_push}
-use Rattle.proof_check.specs.Faults.{LeadsTo, Resolves, LinkFails, ChainFails, StepFails, FirstFault, EndsFull, IsFault}
+use Rattle.proof_check.specs.Faults.{LeadsTo, Resolves, ChainFails, StepFails, FirstFault, EndsFull}
 
 -- ---- one more link
 module _ (earlier : List (List Lit)) (chain : List Link) (i : ℕ) (h : i < length chain) (e : Link) where

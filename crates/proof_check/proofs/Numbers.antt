@@ -1,17 +1,16 @@
 -- Laws of the numbers of clauses, and of literals that are put into a set.
-use Rattle.std.proofs.Common.{◌≡◌, ◌⊎◌, inl, inr, ℕ, zero, suc, ◌+◌, ◌-◌, ◌<◌, ◌≤◌, Bool, true, false, true≢false, ◌||◌, List, [], ◌∷◌, ◌++◌, length, map, take, slice_get, unwrap_or, Some, None, refl, sym, ap, ◌∙◌, subst, arith}
+use Rattle.std.proofs.Common.{◌≡◌, ◌⊎◌, inl, inr, ℕ, zero, suc, ◌+◌, ◌-◌, ◌<◌, ◌≤◌, Bool, true, false, ◌||◌, List, [], ◌∷◌, ◌++◌, length, map, take, slice_get, unwrap_or, Some, None, refl, sym, ap, ◌∙◌, subst, arith}
 use Rattle.std.specs.Option.{option_map}
 use Rattle.std.specs.List.{AllByRecursion}
-use Rattle.std.proofs.lemmas.Bool.{or_cases}
 use Rattle.std.proofs.lemmas.List.{length-map, length-append, take_more, append-nil, map-append, append_assoc}
 use Rattle.std.proofs.lemmas.Option.{slice_get-get_or, slice_get_past, slice_get-map, slice_get_within, get_or_from_slice_get}
 use Rattle.cnf.specs.declared.lit.Lit.{Lit}
 use Rattle.cnf.specs.declared.log.Step.{Step}
-use Rattle.cnf.specs.Literals.{opposite, same_lit, HasVariable}
+use Rattle.cnf.specs.Literals.{opposite, same_lit}
 use Rattle.cnf.specs.Clauses.{has_lit, IsClause, with_lit, clause_of, without, resolvent, HasVariables}
 use Rattle.cnf.specs.Formulas.{Formula, IsFormula, clause_at}
 use Rattle.cnf.specs.Proofs.{numbered}
-use Rattle.cnf.proofs.ClauseLaws.{one_clause, IsClause-with_lit, IsClause-clause_of, has_lit-with_lit, has_lit-clause_of, same_is}
+use Rattle.cnf.proofs.ClauseLaws.{one_clause, IsClause-with_lit, IsClause-clause_of, has_lit-with_lit, has_lit-clause_of}
 use Rattle.proof_check.specs.Joining.{earlier_of, joined, AreClean}
 use Rattle.proof_check.proofs.LitLaws.{has_lit-append, IsClause-without}
 

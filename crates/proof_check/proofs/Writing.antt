@@ -16,7 +16,7 @@ use Rattle.cnf.specs.Proofs.{numbered, Leads, AreRight}
 use Rattle.cnf.specs.ProofText.{Word, lit_word, clause_words, link_words, chain_words, step_words, line_text, formula_lines, log_lines, proof_text}
 use Rattle.cnf.proofs.ClauseLaws.{same_is, one_clause, IsClause-clause_of, has_lit-clause_of, all-clause_of}
 use Rattle.proof_check.specs.Refuted.{Refutation}
-use Rattle.proof_check.specs.ProofWords.{Written, block_words, IsWritten, IsLinkWritten, IsStepWritten, read_of, words_of, IsProofText}
+use Rattle.proof_check.specs.ProofWords.{Written, block_words, IsWritten, IsLinkWritten, IsStepWritten, read_of}
 use Rattle.proof_check.specs.WordsLeft.{words_left, is_inner}
 use Rattle.proof_check.specs.Joining.{AreClean}
 use Rattle.proof_check.specs.Writing.{IsWritable, proofs_text, WrittenProofsAreRead}
@@ -201,10 +201,11 @@ module _ (n : ℕ) (earlier : List (List Lit)) (clean : AreClean n earlier) (few
       let k = clean link.number named e.1 in
       let low = at.0 in
       let high = at.1 in
-      let rest = chain_written chain (resolvent link.pivot c named) d
-          (IsClause-clause_of (without link.pivot c ++ without (opposite link.pivot) named),
-          all-clause_of (HasVariable n) (without link.pivot c ++ without (opposite link.pivot) named)
-              (all_joined (HasVariable n) (without link.pivot c) (without (opposite link.pivot) named) (all_without (HasVariable n) link.pivot c h.1) (all_without (HasVariable n) (opposite link.pivot) named k.1))) e.4 in
+      let rest = chain_written chain (resolvent link.pivot c named) d (
+        IsClause-clause_of (without link.pivot c ++ without (opposite link.pivot) named),
+        all-clause_of (HasVariable n) (without link.pivot c ++ without (opposite link.pivot) named)
+            (all_joined (HasVariable n) (without link.pivot c) (without (opposite link.pivot) named) (all_without (HasVariable n) link.pivot c h.1) (all_without (HasVariable n) (opposite link.pivot) named k.1)),
+      ) e.4 in
       ((record { low = omega arith; fits = omega arith; pivot = all_has (HasVariable n) c link.pivot h.1 e.2 }, rest.0), rest.1)
 
 steps_written : (n : ℕ) (earlier : List (List Lit)) (steps : List Step) → AreClean n earlier → AreRight earlier steps → length earlier + length steps < 2 ^ 63 → AllByRecursion (IsStepWritten n) steps × AllByRecursion (λ (s : Step). IsClause s.clause) steps
@@ -282,8 +283,8 @@ written_proofs ps many h =
       blocks = map written_of ps;
       words = sym (words_left-all (proofs_text ps)) ∙ ap (words_left true) (count_line n rest)
           ∙ line_left true (codes "proofs" ∷ decimal n ∷ []) rest
-              (record { some = omega arith; inner = (refl, (refl, (refl, (refl, (refl, (refl, tt)))))) }, (decimal_plain n many, tt))
-              (λ e f. omega (arith, first 112 99 (114 ∷ 111 ∷ 111 ∷ 102 ∷ 115 ∷ []) f))
+          (record { some = omega arith; inner = (refl, (refl, (refl, (refl, (refl, (refl, tt)))))) }, (decimal_plain n many, tt))
+          (λ e f. omega (arith, first 112 99 (114 ∷ 111 ∷ 111 ∷ 102 ∷ 115 ∷ []) f))
           ∙ ap (λ us. codes "proofs" ∷ decimal n ∷ us) (blocks_left ps h)
           ∙ ap (λ k. codes "proofs" ∷ decimal k ∷ flat_map block_words (map written_of ps)) (sym long);
       count = omega (arith, long);

@@ -1,5 +1,5 @@
 -- How the words of a proof text are read: what stands at the front, and the words behind it.
-use Rattle.std.specs.Prelude.{◌==◌, ◌&&◌, nat_le, Bool, ℕ, zero, suc, ◌^◌, if◌then◌else◌, List, [], ◌∷◌, ◌++◌, codes, Option, Some, None, Result, true, false}
+use Rattle.std.specs.Prelude.{◌==◌, ◌&&◌, nat_le, Bool, ℕ, zero, suc, ◌^◌, if◌then◌else◌, List, [], ◌∷◌, codes, Option, Some, None, Result, true, false}
 use Rattle.std.specs.Option.{option_map}
 use Rattle.std.specs.Str.{bytes_eq}
 use Rattle.cnf.specs.declared.lit.Lit.{Lit}
