@@ -1,5 +1,5 @@
-# A package and its configuration, without an arrow between them. Installing the package writes the file as well, and only
-# where the file isn't there yet: so the order matters.
+# A package and its configuration, without an arrow between them. Installing the package writes the file as well, where the
+# package isn't there yet: so the order matters.
 #
 #     --packages ntp-packages.json missing-arrow.pp
 package { 'ntp':

@@ -10,11 +10,18 @@ use Rattle.command_line.specs.declared.asks.Ask.{Ask}
 use Rattle.command_line.specs.declared.asks.Ask.TheVariants as ask
 use Rattle.command_line.specs.declared.asks.Request.{Request}
 use Rattle.known_inputs.specs.declared.inputs.Inputs.{Inputs}
-use Rattle.reports.specs.declared.report.Report.{Report}
+use Rattle.fs_semantics.specs.Programs.{Program}
+use Rattle.orders.specs.Relation.{Relation}
+use Rattle.verdict_report.specs.declared.report.Form.{Form}
+use Rattle.verdict_report.specs.declared.report.Form.TheVariants as form
+use Rattle.verdict_report.specs.Told.{IsTold}
+use Rattle.verdict_report.specs.declared.report.Report.{Report}
 use Rattle.rehearsal_core.specs.Inputs.{File, files_of, AnyNamed, AllTold, Requests, RequestsNone, IsHeld, Reports, Refuses, FailsToRead, IsAnswerTo, SaysOf, Says}
 use Rattle.rehearsal_core.specs.declared.run.Ending.{Ending}
 use Rattle.rehearsal_core.specs.declared.run.Ending.TheVariants as ending
-use Rattle.rehearsal_core.specs.Answers.{Run, Appends, IsLeft, IsSound, HasFailed, AppendsFront, HasCause, NoFaults, Tells, Owes, Answers, TellsLine, TellsReport, refusal_line, read_fault_line, usage_line, memory_line}
+use Rattle.rehearsal_core.specs.Runs.{Run, Appends, IsLeft, IsSound, HasFailed, AppendsFront}
+use Rattle.rehearsal_core.proofs.HeadlineLaws.{answered}
+use Rattle.rehearsal_core.specs.Answers.{HasCause, NoFaults, Tells, Owes, Answers, TellsLine, TellsReport, refusal_line, read_fault_line, usage_line, memory_line}
 
 -- a file that is told isn't missing
 not_missing : (held : Option Files) (name bytes : List ℕ) → told_at held name ≡ Some bytes → IsMissing held name → ⊥
@@ -58,16 +65,22 @@ memory_owes run status is sound = record {
 }
 
 pub memory_answers : (run : Run) (status : ℕ) → status ≡ 8 → AppendsFront memory_line run.err → IsLeft run.out → IsSound run.out → Answers run status
-memory_answers run status is front out sound = record { tells = memory_tells run status is front out; owes = memory_owes run status is sound }
+memory_answers run status is front out sound = answered run status (memory_tells run status is front out) (memory_owes run status is sound)
 
--- a report was to be written
--- a report has one of the first statuses
-few : (a : Ask) (conflicts : Option ℕ) (i : Inputs) (report : Report) → IsAnswerTo a conflicts i report → report.status ≤ 3
-few ask.Verify conflicts i report answer = elim answer.told.answer [
+-- ---- a report was to be written
+
+few_told : (f : Form) (conflicts : Option ℕ) (names : List (List ℕ)) (es : List Program) (order : Relation) (report : Report) → IsTold f conflicts names es order report → report.status ≤ 3
+few_told f conflicts names es order report told = elim told.answer [
   | inl sure ↦ omega (arith, sure.status)
   | inr (inl different) ↦ omega (arith, different.status)
-  | inr (inr spent) ↦ omega (arith, spent.status)
+  | inr (inr (inl changed)) ↦ omega (arith, changed.status)
+  | inr (inr (inr spent)) ↦ omega (arith, spent.status)
 ]
+
+-- a report has one of the first statuses
+few : (a : Ask) (conflicts : Option ℕ) (i : Inputs) (report : Report) → IsAnswerTo a conflicts i report → report.status ≤ 3
+few ask.Verify conflicts i report answer = few_told form.Lines conflicts _ _ _ report answer.told
+few ask.Proof conflicts i report answer = few_told form.Proofs conflicts _ _ _ report answer.told
 few ask.Catalog conflicts i report answer = omega (arith, answer.0)
 few ask.Graph conflicts i report answer = omega (arith, answer.0)
 few ask.Programs conflicts i report answer = omega (arith, answer.told.0)
@@ -80,42 +93,42 @@ has_status words held report reports = few reports.on.loaded.ask reports.on.load
 
 pub report_answers : (run : Run) (status : ℕ) (report : Report) → Reports run.words run.held report → run.shelf_now ≡ run.shelf_before
     → TellsReport report run.out run.err status → Answers run status
-report_answers run status report reports read (inl told) = record {
-  tells = record {
-    report = λ e. (report, reports, sym told.0, told.1, told.3);
-    refused = λ e. absurd (omega (arith, told.0, has_status run.words run.held report reports, e));
-    words = λ e. absurd (omega (arith, told.0, has_status run.words run.held report reports, e));
-    read = λ e. absurd (omega (arith, told.0, has_status run.words run.held report reports, e));
-    write = λ e. absurd (omega (arith, told.0, has_status run.words run.held report reports, e));
-    memory = λ e. absurd (omega (arith, told.0, has_status run.words run.held report reports, e));
-    known = inl (omega (arith, told.0, has_status run.words run.held report reports));
-  };
-  owes = record {
-    usage = λ none. absurd (none_made run.words reports.request reports.made none);
-    decided = λ held faults. inl (omega (arith, told.0, has_status run.words run.held report reports));
-    unread = λ failed. absurd (failed read);
-    unwritten = λ failed. absurd (failed told.2);
-    untold = λ failed. absurd (failed told.4);
-  };
-}
-report_answers run status report reports read (inr (inl told)) = record {
-  tells = record {
-    report = λ e. absurd (omega (arith, told.0, e));
-    refused = λ e. absurd (omega (arith, told.0, e));
-    words = λ e. absurd (omega (arith, told.0, e));
-    read = λ e. absurd (omega (arith, told.0, e));
-    write = λ e. inl (told.1, report, reports, told.2, told.3);
-    memory = λ e. absurd (omega (arith, told.0, e));
-    known = inr (inr (inr (inr (inl told.0))));
-  };
-  owes = record {
-    usage = λ none. inr (inl told.0);
-    decided = λ held faults. absurd (faults.out told.1);
-    unread = λ failed. absurd (failed read);
-    unwritten = λ failed. told.0;
-    untold = λ failed. inl told.0;
-  };
-}
+report_answers run status report reports read (inl told) =
+    answered run status
+    (record {
+      report = λ e. (report, reports, sym told.0, told.1, told.3);
+      refused = λ e. absurd (omega (arith, told.0, has_status run.words run.held report reports, e));
+      words = λ e. absurd (omega (arith, told.0, has_status run.words run.held report reports, e));
+      read = λ e. absurd (omega (arith, told.0, has_status run.words run.held report reports, e));
+      write = λ e. absurd (omega (arith, told.0, has_status run.words run.held report reports, e));
+      memory = λ e. absurd (omega (arith, told.0, has_status run.words run.held report reports, e));
+      known = inl (omega (arith, told.0, has_status run.words run.held report reports));
+    })
+    (record {
+      usage = λ none. absurd (none_made run.words reports.request reports.made none);
+      decided = λ held faults. inl (omega (arith, told.0, has_status run.words run.held report reports));
+      unread = λ failed. absurd (failed read);
+      unwritten = λ failed. absurd (failed told.2);
+      untold = λ failed. absurd (failed told.4);
+    })
+report_answers run status report reports read (inr (inl told)) =
+    answered run status
+    (record {
+      report = λ e. absurd (omega (arith, told.0, e));
+      refused = λ e. absurd (omega (arith, told.0, e));
+      words = λ e. absurd (omega (arith, told.0, e));
+      read = λ e. absurd (omega (arith, told.0, e));
+      write = λ e. inl (told.1, report, reports, told.2, told.3);
+      memory = λ e. absurd (omega (arith, told.0, e));
+      known = inr (inr (inr (inr (inl told.0))));
+    })
+    (record {
+      usage = λ none. inr (inl told.0);
+      decided = λ held faults. absurd (faults.out told.1);
+      unread = λ failed. absurd (failed read);
+      unwritten = λ failed. told.0;
+      untold = λ failed. inl told.0;
+    })
 report_answers run status report reports read (inr (inr told)) = memory_answers run status told.0 told.3 told.1 told.2
 
 -- a line was to be told on err: its cause, and what is known of a cause
@@ -157,34 +170,34 @@ told_line run status at line cause out is told = elim cause [
 ]
 
 line_answers : (run : Run) (status at : ℕ) (line : List ℕ) → Cause run at line → IsLeft run.out → IsSound run.out → TellsLine at line run.err status → Answers run status
-line_answers run status at line cause out sound (inl told) = record {
-  tells = told_line run status at line cause.has out told.0 told.1;
-  owes = record {
-    usage = λ none. inl (told.0 ∙ cause.usage none);
-    decided = λ held faults. inr (inl (told.0 ∙ cause.decided held faults.shelf));
-    unread = λ failed. inl (told.0 ∙ cause.unread failed);
-    unwritten = λ failed. absurd (failed sound);
-    untold = λ failed. absurd (failed told.2);
-  };
-}
-line_answers run status at line cause out sound (inr (inl told)) = record {
-  tells = record {
-    report = λ e. absurd (omega (arith, told.0, e));
-    refused = λ e. absurd (omega (arith, told.0, e));
-    words = λ e. absurd (omega (arith, told.0, e));
-    read = λ e. absurd (omega (arith, told.0, e));
-    write = λ e. inr (told.1, at, line, cause.has, told.2, out);
-    memory = λ e. absurd (omega (arith, told.0, e));
-    known = inr (inr (inr (inr (inl told.0))));
-  };
-  owes = record {
-    usage = λ none. inr (inl told.0);
-    decided = λ held faults. absurd (faults.err told.1);
-    unread = λ failed. inr (inl told.0);
-    unwritten = λ failed. absurd (failed sound);
-    untold = λ failed. inl told.0;
-  };
-}
+line_answers run status at line cause out sound (inl told) =
+    answered run status
+    (told_line run status at line cause.has out told.0 told.1)
+    (record {
+      usage = λ none. inl (told.0 ∙ cause.usage none);
+      decided = λ held faults. inr (inl (told.0 ∙ cause.decided held faults.shelf));
+      unread = λ failed. inl (told.0 ∙ cause.unread failed);
+      unwritten = λ failed. absurd (failed sound);
+      untold = λ failed. absurd (failed told.2);
+    })
+line_answers run status at line cause out sound (inr (inl told)) =
+    answered run status
+    (record {
+      report = λ e. absurd (omega (arith, told.0, e));
+      refused = λ e. absurd (omega (arith, told.0, e));
+      words = λ e. absurd (omega (arith, told.0, e));
+      read = λ e. absurd (omega (arith, told.0, e));
+      write = λ e. inr (told.1, at, line, cause.has, told.2, out);
+      memory = λ e. absurd (omega (arith, told.0, e));
+      known = inr (inr (inr (inr (inl told.0))));
+    })
+    (record {
+      usage = λ none. inr (inl told.0);
+      decided = λ held faults. absurd (faults.err told.1);
+      unread = λ failed. inr (inl told.0);
+      unwritten = λ failed. absurd (failed sound);
+      untold = λ failed. inl told.0;
+    })
 line_answers run status at line cause out sound (inr (inr told)) = memory_answers run status told.0 told.1 out sound
 
 pub refusal_answers : (run : Run) (status : ℕ) (r : Refusal) → Refuses run.words run.held r → run.shelf_now ≡ run.shelf_before → IsLeft run.out → IsSound run.out

@@ -1,4 +1,5 @@
 pub mod Telling
+pub mod HeadlineLaws
 pub mod Endings
 pub mod ProofLaws
 pub mod LoadLaws

@@ -4,7 +4,7 @@ use Rattle.std.proofs.lemmas.List.{append-nil}
 use Rattle.rh_base.specs.declared.sink.SinkFault.{SinkFault}
 use Rattle.rh_base.specs.declared.sink.SinkFault.TheVariants as faults
 use Rattle.rh_base.specs.Sink.{appended, PutGives}
-use Rattle.rehearsal_core.specs.Answers.{AppendsFront}
+use Rattle.rehearsal_core.specs.Runs.{AppendsFront}
 
 take_all : (piece : List ℕ) → take (length piece) piece ≡ piece
 take_all [] = refl

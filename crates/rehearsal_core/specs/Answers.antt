@@ -1,12 +1,11 @@
 -- The statuses of the program, and what each one tells.
-use Rattle.std.specs.Prelude.{◌≡◌, ◌≢◌, ◌⊎◌, ◌≤◌, ℕ, List, ◌++◌, take, Option, codes, String}
+use Rattle.std.specs.Prelude.{◌≡◌, ◌≢◌, ◌⊎◌, ◌≤◌, ℕ, List, ◌++◌, codes}
 use Rattle.std.specs.Fmt.{decimal}
-use Rattle.std.specs.declared.alloc.Global.{Global}
 use Rattle.rh_base.specs.declared.fault.Refusal.{Refusal}
 use Rattle.rh_base.specs.Causes.{Rose}
-use Rattle.rh_base.specs.Shelf.{Files}
-use Rattle.rh_base.specs.Sink.{appended}
-use Rattle.reports.specs.declared.report.Report.{Report}
+use Rattle.verdict_report.specs.declared.report.Report.{Report}
+use Rattle.rehearsal_core.specs.Runs.{Run, Put, Appends, AppendsFront, IsLeft, IsSound, HasFailed}
+use Rattle.rehearsal_core.specs.Headline.{Headline}
 use Rattle.rehearsal_core.specs.Inputs.{RequestsNone, IsHeld, Reports, Refuses, FailsToRead}
 
 -- ---- lines
@@ -26,48 +25,7 @@ write_fault_line = codes "write fault\n"
 abbrev pub memory_line : List ℕ
 memory_line = codes "out of memory\n"
 
--- ---- what is put on a sink
-
--- a sink's bytes, where it tells them, and its count of faults, before and now
-pub record Put : Type 0 where
-  pub before : Option (List ℕ)
-  pub now : Option (List ℕ)
-  pub faults_before : ℕ
-  pub faults_now : ℕ
-
-abbrev pub put_of : {S : Type 0} → (S → Option (List ℕ)) → (S → ℕ) → S → S → Put
-put_of written faults old new = record { before = written old; now = written new; faults_before = faults old; faults_now = faults new }
-
--- just this was appended
-abbrev pub Appends : List ℕ → Put → Type 0
-Appends text sink = sink.now ≡ appended text sink.before
-
--- a front of the text was appended, perhaps none or all of it
-abbrev pub AppendsFront : List ℕ → Put → Type 0
-AppendsFront text sink = (n : ℕ) × Appends (take n text) sink
-
--- nothing was appended
-abbrev pub IsLeft : Put → Type 0
-IsLeft sink = sink.now ≡ sink.before
-
--- no put failed
-abbrev pub IsSound : Put → Type 0
-IsSound sink = sink.faults_now ≡ sink.faults_before
-
--- the count of faults rose
-abbrev pub HasFailed : Put → Type 0
-HasFailed sink = Rose sink.faults_before sink.faults_now
-
--- ---- a run of the program, and its answer
-
--- the words, what the shelf tells and its count of faults before and now, and the two sinks
-pub record Run : Type 0 where
-  pub words : List (String Global)
-  pub held : Option Files
-  pub shelf_before : ℕ
-  pub shelf_now : ℕ
-  pub out : Put
-  pub err : Put
+-- ---- the statuses
 
 -- status 0 to 3: the report with this status was written to out, and nothing to err
 abbrev pub WritesReport : Run → ℕ → Type 0
@@ -134,6 +92,7 @@ pub record Owes (run : Run) (status : ℕ) : Type 0 where
 
 -- What a run answers.
 pub record Answers (run : Run) (status : ℕ) : Type 0 where
+  pub headline : Headline run status
   pub tells : Tells run status
   pub owes : Owes run status
 

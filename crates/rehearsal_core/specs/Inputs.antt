@@ -9,10 +9,14 @@ use Rattle.rh_base.specs.Shelf.{Files, told_at, IsMissing}
 use Rattle.command_line.specs.declared.asks.Ask.{Ask}
 use Rattle.command_line.specs.declared.asks.Ask.TheVariants as ask
 use Rattle.command_line.specs.declared.asks.Request.{Request}
+use Rattle.command_line.specs.declared.asks.Source.{Source}
+use Rattle.command_line.specs.declared.asks.Source.TheVariants as source
 use Rattle.command_line.specs.Words.{Makes}
 use Rattle.rehearsal_core.specs.declared.inputs.Loaded.{Loaded}
 use Rattle.known_inputs.specs.declared.inputs.Inputs.{Inputs}
-use Rattle.reports.specs.declared.report.Report.{Report}
+use Rattle.verdict_report.specs.declared.report.Report.{Report}
+use Rattle.verdict_report.specs.declared.report.Form.TheVariants as form
+use Rattle.workload.specs.Workload.{manifest_text, listing_text}
 use Rattle.reports.specs.declared.question.Question.TheVariants as question
 use Rattle.reports.specs.Stages.{CatalogRefusal, GraphRefusal}
 use Rattle.reports.specs.Reports.{IsCatalogReport, IsGraphReport}
@@ -37,6 +41,7 @@ RequestsNone words = (request : Request) → Requests words request → ⊥
 -- how many bytes the input may have
 abbrev pub limit_of : Ask → ℕ
 limit_of ask.Verify = MANIFEST_BYTES
+limit_of ask.Proof = MANIFEST_BYTES
 limit_of ask.Catalog = MANIFEST_BYTES
 limit_of ask.Graph = MANIFEST_BYTES
 limit_of ask.Programs = MANIFEST_BYTES
@@ -53,16 +58,24 @@ pub record File : Type 0 where
 abbrev pub file : List ℕ → ℕ → Option (List ℕ) → File
 file label limit name = record { label = label; limit = limit; name = name }
 
--- the files of a request, in the order in which they are read
-abbrev pub files_of : Request → List File
-files_of r =
+-- the files of a request about a file of this name, in the order in which they are read
+abbrev pub files_beside : Request → List ℕ → List File
+files_beside r name =
     file (codes "facts") FACTS_BYTES r.facts
     ∷ file (codes "packages") LISTING_BYTES r.packages
     ∷ file (codes "data") FACTS_BYTES r.class_data
-    ∷ file (codes "input") (limit_of r.ask) (Some r.input)
+    ∷ file (codes "input") (limit_of r.ask) (Some name)
     ∷ file (codes "tree") TREE_BYTES r.tree
     ∷ file (codes "order") ORDER_BYTES r.order
     ∷ []
+
+-- the files of a request; one about a workload has none
+abbrev pub files_in : Source → Request → List File
+files_in (source.Named name) r = files_beside r name
+files_in (source.Workload n) r = []
+
+abbrev pub files_of : Request → List File
+files_of r = files_in r.source r
 
 -- ---- what stands under a name, as far as the shelf tells what it holds
 
@@ -107,17 +120,30 @@ abbrev pub AllTold : Option Files → List File → Type 0
 AllTold held [] = Unit {0}
 AllTold held (f ∷ files) = ((name : List ℕ) → f.name ≡ Some name → (bytes : List ℕ) × (told_at held name ≡ Some bytes)) × AllTold held files
 
--- the request with the bytes of its files
+-- the node's name, and the bytes of the files of a request about a file of this name
+pub record AreRead (held : Option Files) (r : Request) (name : List ℕ) (i : Inputs) : Type 0 where
+  pub node : i.node ≡ r.node
+  pub facts : StandAt held FACTS_BYTES r.facts i.facts
+  pub packages : StandAt held LISTING_BYTES r.packages i.packages
+  pub class_data : StandAt held FACTS_BYTES r.class_data i.class_data
+  pub input : StandAt held (limit_of r.ask) (Some name) (Some i.input)
+  pub tree : StandAt held TREE_BYTES r.tree i.tree
+  pub order : StandAt held ORDER_BYTES r.order i.order
+
+-- the manifest of a workload of size n, and its listing
+abbrev pub workload_inputs : ℕ → Inputs
+workload_inputs n = record { node = None; facts = None; packages = Some (listing_text n); class_data = None; input = manifest_text n; tree = None; order = None }
+
+-- what a request is about: files, or a workload
+abbrev pub AreInputs : Option Files → Request → Source → Inputs → Type 0
+AreInputs held r (source.Named name) i = AreRead held r name i
+AreInputs held r (source.Workload n) i = i ≡ workload_inputs n
+
+-- the request with the bytes that it is about
 pub record IsLoaded (held : Option Files) (r : Request) (l : Loaded) : Type 0 where
   pub asked : l.ask ≡ r.ask
   pub conflicts : l.conflicts ≡ r.conflicts
-  pub node : l.inputs.node ≡ r.node
-  pub facts : StandAt held FACTS_BYTES r.facts l.inputs.facts
-  pub packages : StandAt held LISTING_BYTES r.packages l.inputs.packages
-  pub class_data : StandAt held FACTS_BYTES r.class_data l.inputs.class_data
-  pub input : StandAt held (limit_of r.ask) (Some r.input) (Some l.inputs.input)
-  pub tree : StandAt held TREE_BYTES r.tree l.inputs.tree
-  pub order : StandAt held ORDER_BYTES r.order l.inputs.order
+  pub inputs : AreInputs held r r.source l.inputs
 
 -- ---- what is said of a request
 
@@ -127,7 +153,8 @@ IsPrinted IsText report = (report.status ≡ 0) × IsText report.text
 
 -- what may be said of the files of a request
 abbrev pub IsAnswerTo : Ask → Option ℕ → Inputs → Report → Type 0
-IsAnswerTo ask.Verify conflicts i report = IsReport (question.Verdict conflicts) i report
+IsAnswerTo ask.Verify conflicts i report = IsReport (question.Verdict form.Lines conflicts) i report
+IsAnswerTo ask.Proof conflicts i report = IsReport (question.Verdict form.Proofs conflicts) i report
 IsAnswerTo ask.Catalog conflicts i report = IsPrinted (IsCatalogReport i) report
 IsAnswerTo ask.Graph conflicts i report = IsPrinted (IsGraphReport i) report
 IsAnswerTo ask.Programs conflicts i report = IsReport question.Programs i report
@@ -140,7 +167,8 @@ IsAnswer l report = IsAnswerTo l.ask l.conflicts l.inputs report
 
 -- the first rule that the files break
 abbrev pub BreaksFor : Ask → Option ℕ → Inputs → Refusal → Type 0
-BreaksFor ask.Verify conflicts i r = ReportRefusal (question.Verdict conflicts) i r
+BreaksFor ask.Verify conflicts i r = ReportRefusal (question.Verdict form.Lines conflicts) i r
+BreaksFor ask.Proof conflicts i r = ReportRefusal (question.Verdict form.Proofs conflicts) i r
 BreaksFor ask.Catalog conflicts i r = CatalogRefusal i r
 BreaksFor ask.Graph conflicts i r = GraphRefusal i r
 BreaksFor ask.Programs conflicts i r = ReportRefusal question.Programs i r

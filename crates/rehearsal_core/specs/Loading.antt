@@ -7,7 +7,9 @@ use Rattle.rh_base.specs.declared.limits.TheConstants.{FACTS_BYTES, LISTING_BYTE
 use Rattle.rh_base.specs.Refused.{IsRefusal}
 use Rattle.rh_base.specs.Shelf.{Files}
 use Rattle.command_line.specs.declared.asks.Request.{Request}
-use Rattle.reports.specs.declared.report.Report.{Report}
+use Rattle.command_line.specs.declared.asks.Source.TheVariants as source
+use Rattle.verdict_report.specs.declared.report.Report.{Report}
+use Rattle.rehearsal_core.specs.declared.inputs.Names.{Names}
 use Rattle.rehearsal_core.specs.declared.inputs.Load.{Load}
 use Rattle.rehearsal_core.specs.declared.inputs.Load.TheVariants as load
 use Rattle.rehearsal_core.specs.declared.inputs.Loads.{Loads}
@@ -17,6 +19,21 @@ use Rattle.rehearsal_core.specs.declared.inputs.ReadFault.TheVariants as fault
 use Rattle.rehearsal_core.specs.declared.run.Ending.{Ending}
 use Rattle.rehearsal_core.specs.declared.run.Ending.TheVariants as ending
 use Rattle.rehearsal_core.specs.Inputs.{AreBytes, IsLonger, FailsAt, limit_of}
+
+-- the request about the file of a name, among these names
+abbrev pub request_about : Names → Request
+request_about n =
+    record {
+      ask = n.ask;
+      facts = n.facts;
+      packages = n.packages;
+      class_data = n.class_data;
+      node = n.node;
+      conflicts = n.conflicts;
+      source = source.Named n.input;
+      tree = n.tree;
+      order = n.order;
+    }
 
 -- what was read is what stands under the name
 abbrev pub IsLoad : Option Files → ℕ → List ℕ → Load → Type 0
@@ -36,8 +53,8 @@ Reads Is Named held before now (Ok x) = (now ≡ before) × Is x
 Reads Is Named held before now (Err (fault.Failed name)) = Named name × FailsAt name held before now
 Reads Is Named held before now (Err (fault.Memory m)) = now ≡ before
 
--- what was read of each file of a request
-pub record AreLoads (held : Option Files) (r : Request) (l : Loads) : Type 0 where
+-- what was read of each file of these names
+pub record AreLoads (held : Option Files) (r : Names) (l : Loads) : Type 0 where
   pub asked : l.ask ≡ r.ask
   pub conflicts : l.conflicts ≡ r.conflicts
   pub node : l.node ≡ r.node

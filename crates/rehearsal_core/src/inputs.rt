@@ -3,9 +3,9 @@
 ghost use Rattle.std.specs.Prelude.{◌≡◌, ◌<◌, ◌^◌, Some, None, IfOk, IfErr};
 ghost use Rattle.rh_base.specs.Refused.{IfRefused, IsRefusal};
 ghost use Rattle.rehearsal_core.specs.Inputs.{limit_of, files_of, AnyNamed};
-ghost use Rattle.rehearsal_core.specs.Loading.{IsLoad, IsNamedLoad, Reads, AreLoads, bytes_in, named_bytes, FirstLong, LoadedFrom};
+ghost use Rattle.rehearsal_core.specs.Loading.{IsLoad, IsNamedLoad, Reads, request_about, AreLoads, bytes_in, named_bytes, FirstLong, LoadedFrom};
 
-use command_line::{Ask, Request};
+use command_line::Ask;
 use known_inputs::Inputs;
 use rh_base::limits::{
     FACTS_BYTES, LISTING_BYTES, MANIFEST_BYTES, ORDER_BYTES, PROOF_BYTES, TREE_BYTES,
@@ -20,7 +20,21 @@ pub enum Load {
     Bytes(Seq<u8>),
 }
 
-/// A request with what was read of each file that it may name.
+/// A request about a file of a name, and the names of the other files.
+#[derive(Drop)]
+pub struct Names {
+    pub ask: Ask,
+    pub conflicts: Option<u64>,
+    pub node: Option<Text>,
+    pub facts: Option<Text>,
+    pub packages: Option<Text>,
+    pub class_data: Option<Text>,
+    pub input: Text,
+    pub tree: Option<Text>,
+    pub order: Option<Text>,
+}
+
+/// The same with what was read of each file that it may name.
 #[derive(Drop)]
 pub struct Loads {
     pub ask: Ask,
@@ -55,7 +69,9 @@ fn limit_of(ask: Ask) -> usize
     ensures small { result < 2 ^ 32 }
 {
     match ask {
-        Ask::Verify | Ask::Catalog | Ask::Graph | Ask::Programs | Ask::Replay => { MANIFEST_BYTES },
+        Ask::Verify | Ask::Proof | Ask::Catalog | Ask::Graph | Ask::Programs | Ask::Replay => {
+            MANIFEST_BYTES
+        },
         Ask::Check => PROOF_BYTES,
         Ask::Migrate => LISTING_BYTES,
     }
@@ -100,25 +116,21 @@ fn fetch_named<S: Shelf>(
 
 /// Reads the files of a request, each once, in the order in which refusals are looked for. The first that can't be read
 /// ends it.
-pub fn fetch_all<S: Shelf>(
-    alloc: Global,
-    request: Request,
-    shelf: &mut S,
-) -> Result<Loads, ReadFault>
+pub fn fetch_all<S: Shelf>(alloc: Global, names: Names, shelf: &mut S) -> Result<Loads, ReadFault>
     ensures held { S.holds shelf.new ≡ S.holds shelf.old }
-    ensures reads { Reads (AreLoads (S.holds shelf.old) request) (λ n. AnyNamed n (files_of request)) (S.holds shelf.old) (S.faults shelf.old) (S.faults shelf.new) result }
+    ensures reads { Reads (AreLoads (S.holds shelf.old) names) (λ n. AnyNamed n (files_of (request_about names))) (S.holds shelf.old) (S.faults shelf.old) (S.faults shelf.new) result }
 {
-    let Request {
+    let Names {
         ask,
+        conflicts,
+        node,
         facts,
         packages,
         class_data,
-        node,
-        conflicts,
         input,
         tree,
         order,
-    } = request;
+    } = names;
     let facts = fetch_named(alloc, facts, FACTS_BYTES, shelf)?;
     let packages = fetch_named(alloc, packages, LISTING_BYTES, shelf)?;
     let class_data = fetch_named(alloc, class_data, FACTS_BYTES, shelf)?;

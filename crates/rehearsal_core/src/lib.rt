@@ -8,6 +8,7 @@ mod migrating;
 mod run;
 mod sure;
 mod tell;
+mod workloads;
 
 pub use run::rehearse;
 pub use sure::rehearse_in_memory;

@@ -4,19 +4,22 @@ ghost use Rattle.std.specs.Prelude.{◌≡◌, ◌⊎◌, ◌<◌, ◌^◌, leng
 ghost use Rattle.rh_base.specs.Refused.{IfRefused};
 ghost use Rattle.rehearsal_core.specs.Verified.{AreVerified, BreaksProofRule};
 ghost use Rattle.rehearsal_core.specs.Migrated.{IsMigrated, BreaksListingRule};
-ghost use Rattle.rehearsal_core.specs.Inputs.{IsPrinted, IsAnswer, IsAnswerTo, Breaks, BreaksFor, Says, SaysOf};
-ghost use Rattle.rehearsal_core.specs.Loading.{AreShort, LoadedFrom, FirstLong, concluded};
-ghost use Rattle.rehearsal_core.specs.Answers.{put_of, Answers};
+ghost use Rattle.rehearsal_core.specs.Inputs.{IsPrinted, IsAnswer, IsAnswerTo, Breaks, BreaksFor, workload_inputs, Says, SaysOf};
+ghost use Rattle.rehearsal_core.specs.Loading.{AreShort, LoadedFrom, FirstLong, request_about, concluded};
+ghost use Rattle.rehearsal_core.specs.Runs.{put_of};
+ghost use Rattle.rehearsal_core.specs.Answers.{Answers};
 
 use crate::checking::verified;
-use crate::inputs::{Loaded, Loads, ReadFault, all_within, fetch_all};
+use crate::inputs::{Loaded, Loads, Names, ReadFault, all_within, fetch_all};
 use crate::migrating::migrated;
 use crate::tell::{out_of_memory, tell_read_fault, tell_refusal, tell_usage, write_report};
-use command_line::{Ask, Request, WordsFault, read_request};
+use crate::workloads::workload_inputs;
+use command_line::{Ask, Request, Size, Source, WordsFault, read_request};
 use known_inputs::Inputs;
-use reports::{Question, Report, catalog_report, graph_report, printed, report_on};
+use reports::{Question, catalog_report, graph_report, report_on};
 use rh_base::{Fault, Refusal, Shelf, Sink, Text};
 use std::alloc::Global;
+use verdict_report::{Form, Report, printed};
 
 /// What the program has to say.
 #[derive(Drop)]
@@ -55,7 +58,8 @@ fn answer(alloc: Global, ask: Ask, conflicts: Option<u64>, inputs: &Inputs) -> R
     ensures refused { IfErr result (λ e. IfRefused e (BreaksFor ask conflicts inputs.now)) }
 {
     match ask {
-        Ask::Verify => report_on(alloc, Question::Verdict(conflicts), inputs),
+        Ask::Verify => report_on(alloc, Question::Verdict(Form::Lines, conflicts), inputs),
+        Ask::Proof => report_on(alloc, Question::Verdict(Form::Proofs, conflicts), inputs),
         Ask::Catalog => Ok(printed(catalog_report(alloc, inputs)?)),
         Ask::Graph => Ok(printed(graph_report(alloc, inputs)?)),
         Ask::Programs => report_on(alloc, Question::Programs, inputs),
@@ -76,6 +80,20 @@ fn answer_read(alloc: Global, loads: Loads) -> Result<Report, Fault>
     answer(alloc, loaded.ask, loaded.conflicts, &loaded.inputs)
 }
 
+/// What is said of a workload.
+fn answer_workload(
+    alloc: Global,
+    ask: Ask,
+    conflicts: Option<u64>,
+    size: &Size,
+) -> Result<Report, Fault>
+    ensures report { IfOk result (IsAnswerTo ask conflicts (workload_inputs size.now)) }
+    ensures refused { IfErr result (λ e. IfRefused e (BreaksFor ask conflicts (workload_inputs size.now))) }
+{
+    let inputs = workload_inputs(alloc, size)?;
+    answer(alloc, ask, conflicts, &inputs)
+}
+
 /// What there is to say of an answer.
 fn concluded(said: Result<Report, Fault>) -> Ending
     ensures { result ≡ concluded said }
@@ -87,16 +105,52 @@ fn concluded(said: Result<Report, Fault>) -> Ending
     }
 }
 
-/// Reads the files of a request and answers what is asked.
+/// Reads the files of these names and answers what is asked.
 #[tactic(auto, using(crate::proofs::LoadLaws::says, crate::proofs::LoadLaws::are_short))]
-fn read<S: Shelf>(alloc: Global, request: Request, shelf: &mut S) -> Ending
+fn read<S: Shelf>(alloc: Global, names: Names, shelf: &mut S) -> Ending
     ensures held { S.holds shelf.new ≡ S.holds shelf.old }
-    ensures says { SaysOf request (S.holds shelf.old) (S.faults shelf.old) (S.faults shelf.new) result }
+    ensures says { SaysOf (request_about names) (S.holds shelf.old) (S.faults shelf.old) (S.faults shelf.new) result }
 {
-    match fetch_all(alloc, request, shelf) {
+    match fetch_all(alloc, names, shelf) {
         Ok(loads) => concluded(answer_read(alloc, loads)),
         Err(ReadFault::Failed(name)) => Ending::ReadFault(name),
         Err(ReadFault::Memory(_)) => Ending::Memory,
+    }
+}
+
+/// Answers what is asked of the files that a request names, or of its workload.
+fn respond<S: Shelf>(alloc: Global, request: Request, shelf: &mut S) -> Ending
+    ensures held { S.holds shelf.new ≡ S.holds shelf.old }
+    ensures says { SaysOf request (S.holds shelf.old) (S.faults shelf.old) (S.faults shelf.new) result }
+{
+    let Request {
+        ask,
+        facts,
+        packages,
+        class_data,
+        node,
+        conflicts,
+        source,
+        tree,
+        order,
+    } = request;
+    match source {
+        Source::Named(input) => read(
+            alloc,
+            Names {
+                ask,
+                conflicts,
+                node,
+                facts,
+                packages,
+                class_data,
+                input,
+                tree,
+                order,
+            },
+            shelf,
+        ),
+        Source::Workload(size) => concluded(answer_workload(alloc, ask, conflicts, &size)),
     }
 }
 
@@ -107,7 +161,7 @@ fn decide<S: Shelf>(alloc: Global, words: &[String], shelf: &mut S) -> Ending
     ensures says { Says words.now (S.holds shelf.old) (S.faults shelf.old) (S.faults shelf.new) result }
 {
     match read_request(alloc, words) {
-        Ok(request) => read(alloc, request, shelf),
+        Ok(request) => respond(alloc, request, shelf),
         Err(WordsFault::Refused) => Ending::BadWords,
         Err(WordsFault::Memory(_)) => Ending::Memory,
     }

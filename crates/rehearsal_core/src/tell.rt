@@ -1,11 +1,12 @@
 //! Telling the outcome on the sinks.
 
 ghost use Rattle.std.specs.Prelude.{◌≡◌, IfOk};
-ghost use Rattle.rehearsal_core.specs.Answers.{put_of, AppendsFront, TellsLine, TellsReport, usage_line, refusal_line, read_fault_line, write_fault_line, memory_line};
+ghost use Rattle.rehearsal_core.specs.Runs.{put_of, AppendsFront};
+ghost use Rattle.rehearsal_core.specs.Answers.{TellsLine, TellsReport, usage_line, refusal_line, read_fault_line, write_fault_line, memory_line};
 
-use reports::Report;
 use rh_base::{NoMemory, Refusal, Sink, SinkFault, Text};
 use std::alloc::Global;
+use verdict_report::Report;
 
 /// Tells that memory was refused; a failure of that is ignored.
 #[tactic(auto, using(crate::proofs::Telling::put_front))]

@@ -16,6 +16,13 @@ const FACTS: &str = r#"{"os":{"family":"Debian"},"load":0.5}"#;
 const DATA: &str =
     r#"{"levels":[{"when":{"os":{"family":"debian"}},"values":{"ntp::servers":["c"]}}]}"#;
 
+/// What is told of two resources of which pruning keeps none.
+const TWO: &str = "resources 2\npruned 2\ndeterministic\nidempotent\nsucceeds from some tree\n";
+
+/// What is told of two resources that pruning keeps.
+const NONE_PRUNED: &str =
+    "resources 2\npruned 0\ndeterministic\nidempotent\nsucceeds from some tree\n";
+
 /// What is asked, of which manifest, and what is told.
 type Row = (&'static [&'static str], &'static str, &'static str);
 
@@ -110,42 +117,42 @@ const ROWS: [Row; 25] = [
     (
         &["site.pp"],
         "file { '/a': ensure => link, target => '/b' } file { '/a/c': content => 'x' }",
-        "resources 2\npruned 2\ndeterministic\n",
+        "resources 2\npruned 2\ndeterministic\nidempotent\nfails from every tree\n",
     ),
     (
         &["site.pp"],
         "class empty { } include empty file { ['/a', '/b']: } File['/a'] -> Class['empty'] -> File['/b']",
-        "resources 2\npruned 2\ndeterministic\n",
+        TWO,
     ),
     (
         &["--packages", "listing", "site.pp"],
         NTP,
-        "resources 3\npruned 3\ndeterministic\n",
+        "resources 3\npruned 3\ndeterministic\nidempotent\nsucceeds from some tree\n",
     ),
     (
         &["--packages", "docs", "site.pp"],
         "package { ['x', 'y']: }",
-        "resources 2\npruned 2\ndeterministic\n",
+        TWO,
     ),
     (
         &["--packages", "shared", "site.pp"],
         "package { 'ntp': } file { '/etc/ntp.conf': content => 'server a' } file { '/a': ensure => file } file { '/a/b': ensure => file }",
-        "resources 4\npruned 2\ndeterministic\n",
+        "resources 4\npruned 2\ndeterministic\nidempotent\nfails from every tree\n",
     ),
     (
-        &["--packages", "shared", "--conflicts", "1", "site.pp"],
+        &["--packages", "shared", "site.pp"],
         "package { 'ntp': } file { '/etc/ntp.conf': content => 'server a', require => Package['ntp'] }",
-        "resources 2\npruned 2\ndeterministic\n",
+        TWO,
     ),
     (
         &["--packages", "alike", "site.pp"],
         "package { ['a', 'b']: }",
-        "resources 2\npruned 0\ndeterministic\n",
+        NONE_PRUNED,
     ),
     (
         &["--packages", "alike", "--conflicts", "1000000", "site.pp"],
         "package { ['a', 'b']: }",
-        "resources 2\npruned 0\ndeterministic\n",
+        NONE_PRUNED,
     ),
 ];
 

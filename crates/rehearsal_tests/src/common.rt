@@ -64,10 +64,39 @@ pub fn run_over(alloc: Global, named: &[&str], over: &[(&str, &[u8])]) -> Result
 /// The numbers of the calls that are to fail: of reading, of out and of err.
 pub type Failing = (&'static [u64], &'static [u64], &'static [u64]);
 
-/// What words give over a shelf and sinks of which some calls fail.
+/// What words give over one manifest, a shelf and sinks of which some calls fail.
 pub fn run_failing(alloc: Global, named: &[&str], failing: &Failing) -> Result<Told, Fail> {
     let manifest = b"file { '/etc/motd': content => 'hi' }";
-    let files = files(alloc, &[("site.pp", manifest)])?;
+    run_over_failing(alloc, named, &[("site.pp", manifest)], failing)
+}
+
+/// The same over this manifest, and with a file of each kind beside it.
+pub fn run_files_failing(
+    alloc: Global,
+    named: &[&str],
+    manifest: &str,
+    failing: &Failing,
+) -> Result<Told, Fail> {
+    let over: [(&str, &[u8]); 5] = [
+        ("site.pp", manifest.as_bytes()),
+        ("facts", b"{}"),
+        (
+            "listing",
+            br#"{"version":1,"packages":{"ntp":{"files":["/etc/ntp.conf"],"folders":[]}}}"#,
+        ),
+        ("tree", b"{}"),
+        ("order", br#"["File[/x]"]"#),
+    ];
+    run_over_failing(alloc, named, &over, failing)
+}
+
+fn run_over_failing(
+    alloc: Global,
+    named: &[&str],
+    over: &[(&str, &[u8])],
+    failing: &Failing,
+) -> Result<Told, Fail> {
+    let files = files(alloc, over)?;
     let mut shelf = MemoryShelf::new(files, failing.0.to_vec(alloc)?);
     let mut out = MemorySink::new(alloc, failing.1.to_vec(alloc)?);
     let mut err = MemorySink::new(alloc, failing.2.to_vec(alloc)?);

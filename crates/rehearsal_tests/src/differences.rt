@@ -5,7 +5,7 @@ use std::alloc::Global;
 use std::process::Abort;
 use std::test::Fail;
 
-/// A manifest, the listing beside it, and the lines in front of the tree.
+/// A manifest, the listing beside it, and the lines in front of the tree. It is told with and without a number of conflicts.
 type Row = (&'static str, &'static str, &'static str);
 
 const SHARED: &str = r#"{"version":1,"packages":{"ntp":{"files":["/etc/ntp.conf"],"folders":[]}}}"#;
@@ -44,13 +44,13 @@ const ROWS: [Row; 5] = [
 ];
 
 /// What stands behind a word on the first line, and the lines behind it.
-fn behind<'a>(lines: &'a str, word: &str) -> (&'a str, &'a str) {
+pub fn behind<'a>(lines: &'a str, word: &str) -> (&'a str, &'a str) {
     let rest = lines.strip_prefix(word).unwrap_or("?");
     rest.split_once('\n').unwrap_or(("?", ""))
 }
 
 /// Replays an order over the tree that was told, and compares the outcomes.
-fn replays<'x>(
+pub fn replays<'x>(
     alloc: Global,
     rt: &impl Abort,
     manifest: &'x str,
@@ -84,14 +84,14 @@ fn replays<'x>(
 }
 
 /// What is told of a manifest beside its listing.
-fn told_of(alloc: Global, row: &Row) -> Result<Told, Fail> {
+fn told_of(alloc: Global, row: &Row, words: &[&str]) -> Result<Told, Fail> {
     let over: [(&str, &[u8]); 2] = [("site.pp", row.0.as_bytes()), ("listing", row.1.as_bytes())];
-    run_over(alloc, &["--packages", "listing", "site.pp"], &over)
+    run_over(alloc, words, &over)
 }
 
 /// Both outcomes that are told differ, and are those of the orders on the tree.
-fn differs(alloc: Global, rt: &impl Abort, row: &Row) -> Result<(), Fail> {
-    let told = told_of(alloc, row)?;
+fn differs(alloc: Global, rt: &impl Abort, row: &Row, words: &[&str]) -> Result<(), Fail> {
+    let told = told_of(alloc, row, words)?;
     assert_eq!(rt; told.status, 1, "{}", row.0);
     let rest = told.out.as_str().strip_prefix(row.2).unwrap_or("?");
     let (tree, rest) = behind(rest, "tree ");
@@ -108,7 +108,13 @@ fn differs(alloc: Global, rt: &impl Abort, row: &Row) -> Result<(), Fail> {
 #[test]
 fn orders_that_matter(rt: HostRuntime) -> Result<(), Fail> {
     for row in ROWS {
-        differs(rt.alloc(), &rt, &row)?;
+        differs(rt.alloc(), &rt, &row, &["--packages", "listing", "site.pp"])?;
+        differs(
+            rt.alloc(),
+            &rt,
+            &row,
+            &["--packages", "listing", "--conflicts", "1000000", "site.pp"],
+        )?;
     }
     Ok(())
 }

@@ -12,8 +12,16 @@ mod differences;
 #[cfg(test)]
 mod faults;
 #[cfg(test)]
+mod hostile;
+#[cfg(test)]
 mod migrate;
+#[cfg(test)]
+mod proofs;
+#[cfg(test)]
+mod second_runs;
 #[cfg(test)]
 mod verify;
 #[cfg(test)]
 mod words;
+#[cfg(test)]
+mod workloads;

@@ -40,12 +40,12 @@ fn manifests_that_are_judged(rt: HostRuntime) -> Result<(), Fail> {
     Ok(())
 }
 
-/// What is told of resources of which none is kept, but of which not all put files.
-const TWO: &str = "resources 2\npruned 2\ndeterministic\n";
+/// What is told of two resources of which pruning keeps none.
+const TWO: &str = "resources 2\npruned 2\ndeterministic\nidempotent\nsucceeds from some tree\n";
 
 #[test]
 fn orders_that_do_not_matter(rt: HostRuntime) -> Result<(), Fail> {
-    let rows: [(&str, &str); 8] = [
+    let rows: [(&str, &str); 7] = [
         (
             "$x = 010",
             "resources 0\npruned 0\ndeterministic\nidempotent\nsucceeds from some tree\n",
@@ -63,10 +63,6 @@ fn orders_that_do_not_matter(rt: HostRuntime) -> Result<(), Fail> {
             ONE,
         ),
         (
-            "file { '/dst': source => '/src' } -> file { '/src': ensure => absent }",
-            TWO,
-        ),
-        (
             "file { '/a': ensure => directory } file { '/a/b': content => 'x' }",
             TWO,
         ),
@@ -76,7 +72,7 @@ fn orders_that_do_not_matter(rt: HostRuntime) -> Result<(), Fail> {
         ),
         (
             "file { '/a': ensure => file } file { '/a/b': ensure => file }",
-            TWO,
+            "resources 2\npruned 2\ndeterministic\nidempotent\nfails from every tree\n",
         ),
     ];
     for (manifest, report) in rows {

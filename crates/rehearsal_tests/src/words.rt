@@ -29,7 +29,7 @@ fn words_that_ask_to_verify(rt: HostRuntime) -> Result<(), Fail> {
 
 #[test]
 fn words_that_are_refused(rt: HostRuntime) -> Result<(), Fail> {
-    let rows: [&[&str]; 27] = [
+    let rows: [&[&str]; 37] = [
         &[],
         &["site.pp", "site.pp"],
         &["--help"],
@@ -40,7 +40,8 @@ fn words_that_are_refused(rt: HostRuntime) -> Result<(), Fail> {
         &["--ask", "site.pp"],
         &["--ask"],
         &["--ask", "verify"],
-        &["--ask", "proof", "site.pp"],
+        &["--ask", "proof"],
+        &["--ask", "proof", "--tree", "t", "site.pp"],
         &["--ask", "all", "site.pp"],
         &["--ask", "Check", "site.pp"],
         &["--ask", "verify", "--ask", "verify", "site.pp"],
@@ -53,7 +54,16 @@ fn words_that_are_refused(rt: HostRuntime) -> Result<(), Fail> {
         &["--conflicts", "+1", "site.pp"],
         &["--conflicts", "100000001", "site.pp"],
         &["--conflicts", "1", "--ask", "graph", "site.pp"],
-        &["--workload", "5"],
+        &["--workload", "0"],
+        &["--workload", "55"],
+        &["--workload", "05"],
+        &["--workload", "5", "site.pp"],
+        &["--workload", "5", "--facts", "f"],
+        &["--workload", "5", "--packages", "p"],
+        &["--workload", "5", "--data", "d"],
+        &["--workload", "5", "--node", "n"],
+        &["--workload", "5", "--ask", "graph"],
+        &["--workload", "5", "--ask", "replay"],
         &["--ask", "migrate", "--node", "n", "site.pp"],
         &["--order", "o", "--ask", "check", "site.pp"],
         &["--data", "d", "--ask", "migrate", "site.pp"],

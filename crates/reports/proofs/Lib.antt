@@ -1,9 +1,6 @@
 pub mod Places
 pub mod Counts
 pub mod StageLaws
-pub mod VerdictLaws
 pub mod ReplayLaws
 pub mod LineLaws
-pub mod PieceLaws
-pub mod FirstLaws
 pub mod QuestionLaws

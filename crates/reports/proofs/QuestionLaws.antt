@@ -1,6 +1,7 @@
 -- What refuses a stage refuses the report, and what is told of programs is told of the manifest.
 use Rattle.std.proofs.Common.{◌≡◌, ℕ, List, length, map, Result, Ok, Err, sym, subst, ◌∙◌}
 use Rattle.std.specs.Prelude.{IfOk, IfErr}
+use Rattle.std.proofs.lemmas.List.{length-map}
 use Rattle.rh_base.specs.declared.fault.Fault.{Fault}
 use Rattle.rh_base.specs.declared.fault.Fault.TheVariants.{Refused, Memory}
 use Rattle.rh_base.specs.Refused.{IfRefused}
@@ -17,13 +18,12 @@ use Rattle.known_inputs.specs.declared.inputs.Inputs.{Inputs}
 use Rattle.known_inputs.specs.declared.inputs.Known.{Known}
 use Rattle.known_inputs.specs.Inputs.{FirstUnread}
 use Rattle.reports.specs.declared.question.Question.{Question}
-use Rattle.reports.specs.declared.report.Report.{Report}
+use Rattle.verdict_report.specs.declared.report.Report.{Report}
 use Rattle.reports.specs.Stages.{IsCompiled, IsPlanned, IsModelled, CatalogRefusal, ProgramsRefusal}
 use Rattle.reports.specs.Questions as questions
 use Rattle.reports.specs.Questions.{IsToldOf, HasNoAnswer, IsReport, ReportRefusal}
 use Rattle.reports.proofs.StageLaws.{unread_programs, catalog_programs, graph_programs, in_programs, is_modelled}
 use Rattle.reports.proofs.Counts.{as_many}
-use Rattle.reports.proofs.VerdictLaws.{length_of}
 
 -- ---- what comes before an answer
 
@@ -54,7 +54,7 @@ lent_are_modelled i k c g plain lent made is same planned are =
 
 -- there are as many programs as resources in the graph
 pub as_many_lent : (i : Inputs) (k : Known) (c : Catalog) (g : Graph) (lent : List code.Program) → IsModelled i k c g (map program_of lent) → length lent ≡ length g.plain
-as_many_lent i k c g lent modelled = sym (length_of lent) ∙ as_many k c g (map program_of lent) modelled.planned.graph.places modelled.programs
+as_many_lent i k c g lent modelled = sym (length-map lent program_of) ∙ as_many k c g (map program_of lent) modelled.planned.graph.places modelled.programs
 
 pub as_many_in_order : (i : Inputs) (k : Known) (c : Catalog) (g : Graph) (lent : List code.Program) → IsModelled i k c g (map program_of lent) → length lent ≡ g.order.count
 as_many_in_order i k c g lent modelled = as_many_lent i k c g lent modelled ∙ sym modelled.planned.count

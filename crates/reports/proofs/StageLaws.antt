@@ -1,5 +1,5 @@
 -- What refuses a stage refuses those above it.
-use Rattle.std.proofs.Common.{◌≡◌, ◌<◌, ℕ, length, List, Result, Ok, Err, sym, ap, subst, subst₂, ◌∙◌}
+use Rattle.std.proofs.Common.{◌≡◌, ◌<◌, ℕ, length, List, Result, Ok, Err, sym, ap, subst₂, ◌∙◌}
 use Rattle.std.specs.Prelude.{IfOk, IfErr}
 use Rattle.std.specs.List.{AllByRecursion}
 use Rattle.rh_base.specs.declared.fault.Fault.{Fault}

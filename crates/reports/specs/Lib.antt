@@ -1,5 +1,4 @@
 pub mod Stages
 pub mod Reports
-pub mod Verdicts
 pub mod Replays
 pub mod Questions

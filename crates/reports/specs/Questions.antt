@@ -1,31 +1,35 @@
 -- What is told of the programs of a manifest's resources, for each question about them.
-use Rattle.std.specs.Prelude.{◌≡◌, List}
+use Rattle.std.specs.Prelude.{◌≡◌, List, ℕ, map}
 use Rattle.rh_base.specs.declared.fault.Refusal.{Refusal}
-use Rattle.orders.specs.Relation.{Comes}
 use Rattle.fs_semantics.specs.Programs.{Program}
 use Rattle.catalog_semantics.specs.Catalogs.{Catalog}
+use Rattle.graph_semantics.specs.Graphs.{reference_at}
 use Rattle.dep_graph.specs.declared.answer.Graph.{Graph}
 use Rattle.known_inputs.specs.declared.inputs.Inputs.{Inputs}
 use Rattle.known_inputs.specs.declared.inputs.Known.{Known}
 use Rattle.reports.specs.declared.question.Question.{Question}
 use Rattle.reports.specs.declared.question.Question.TheVariants as question
-use Rattle.reports.specs.declared.report.Report.{Report}
+use Rattle.verdict_report.specs.declared.report.Report.{Report}
 use Rattle.reports.specs.Stages.{IsModelled, ProgramsRefusal}
 use Rattle.reports.specs.Reports.{program_lines}
 use Rattle.verdict.specs.Limits.{IsTooLarge}
-use Rattle.reports.specs.Verdicts.{IsTold}
+use Rattle.verdict_report.specs.Told.{IsTold}
 use Rattle.reports.specs.Replays.{IsReplayed, HasNoOrder}
+
+-- the references of the plain resources
+abbrev pub names_in : Catalog → List ℕ → List (List ℕ)
+names_in c plain = map (reference_at c) plain
 
 -- this is told of the programs
 abbrev pub IsToldOf : Question → Inputs → Known → Catalog → Graph → List Program → Report → Type 0
 IsToldOf question.Programs i k c g es report = (report.status ≡ 0) × (report.text ≡ program_lines c g.plain es)
-IsToldOf (question.Verdict given) i k c g es report = IsTold given c g.plain es (Comes g.order) report
+IsToldOf (question.Verdict form given) i k c g es report = IsTold form given (names_in c g.plain) es g.order report
 IsToldOf question.Replay i k c g es report = (report.status ≡ 0) × IsReplayed i.order k.tree c g es report.text
 
 -- nothing is told of them, for this reason
 abbrev pub HasNoAnswer : Question → Inputs → Catalog → Graph → List Program → Refusal → Type 0
 HasNoAnswer question.Programs i c g es r = ⊥
-HasNoAnswer (question.Verdict given) i c g es r = IsTooLarge es r
+HasNoAnswer (question.Verdict form given) i c g es r = IsTooLarge es r
 HasNoAnswer question.Replay i c g es r = HasNoOrder i.order c g r
 
 -- The report on the programs of a manifest's real plain resources, in the order of its graph.

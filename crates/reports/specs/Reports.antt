@@ -9,12 +9,7 @@ use Rattle.graph_semantics.specs.Graphs.{reference_at, graph_text}
 use Rattle.dep_graph.specs.declared.answer.Graph.{Graph}
 use Rattle.known_inputs.specs.declared.inputs.Inputs.{Inputs}
 use Rattle.known_inputs.specs.declared.inputs.Known.{Known}
-use Rattle.reports.specs.declared.report.Report.{Report}
 use Rattle.reports.specs.Stages.{IsCompiled, IsPlanned}
-
--- what was asked for is printed
-abbrev pub printed : List ℕ → Report
-printed text = record { status = 0; text = text }
 
 -- The text of the catalog that the files of a request give.
 pub record IsCatalogReport (i : Inputs) (report : List ℕ) : Type 0 where

@@ -1,6 +1,5 @@
 -- The stages from the files of a request to programs in a graph, and which refusal comes first.
-use Rattle.std.specs.Prelude.{◌≡◌, ◌<◌, ℕ, List, [], length, map, Option, Some, None, Ok, Err, Result}
-use Rattle.std.specs.List.{AllByRecursion}
+use Rattle.std.specs.Prelude.{◌≡◌, ℕ, List, [], length, Option, Some, None, Ok, Err, Result}
 use Rattle.rh_base.specs.declared.fault.Refusal.{Refusal}
 use Rattle.orders.specs.Relation.{Comes}
 use Rattle.fs_semantics.specs.Programs.{Program}

@@ -1,12 +1,14 @@
 //! What may be asked about the programs of a manifest's resources.
 
+use verdict_report::Form;
+
 /// What is told of the programs of a manifest's resources.
 #[derive(Clone, Copy, Debug, PartialEq, Eq)]
 pub enum Question {
     /// The programs themselves.
     Programs,
-    /// Whether the order of the resources matters, within so many conflicts, if a number is given.
-    Verdict(Option<u64>),
+    /// Their verdict, in this form. Each question has so many conflicts, if a number is given.
+    Verdict(Form, Option<u64>),
     /// Their outcome on a file tree.
     Replay,
 }

@@ -11,7 +11,6 @@ use crate::compiling::catalog_for;
 use crate::programs::program_lines;
 use crate::question::Question;
 use crate::replays::replayed;
-use crate::report::{Report, printed};
 use crate::verdicts::judged;
 use catalog::Catalog;
 use dep_graph::{Graph, graph};
@@ -20,6 +19,7 @@ use known_inputs::{Inputs, Known, known_inputs};
 use res_models::programs_of;
 use rh_base::Fault;
 use std::alloc::Global;
+use verdict_report::{Report, printed};
 
 /// What is told of the programs of a graph.
 fn told_of(
@@ -42,7 +42,7 @@ fn told_of(
             plan.plain.as_slice(),
             programs,
         )?)),
-        Question::Verdict(given) => judged(alloc, given, catalog, plan, programs),
+        Question::Verdict(form, given) => judged(alloc, form, given, catalog, plan, programs),
         Question::Replay => Ok(printed(replayed(
             alloc,
             &inputs.order,

@@ -1,5 +1,6 @@
 use Rattle.std.proofs.Common.{subst, sym}
 use Rattle.rehearsal_core.specs.Inputs.{SaysOf}
+use Rattle.rehearsal_core.specs.Loading.{request_about}
 use Rattle.rehearsal_core.proofs.LoadLaws.{says}
 use Rattle.rehearsal_core.proofs.run.read.Goals as goal
 
@@ -8,5 +9,5 @@ returns-in-Ok-clause-says g c =
     let held = g.S.Shelf.holds c.args.shelf.now in
     let before = g.S.Shelf.faults c.args.shelf.now in
     let now = g.S.Shelf.faults c.fetch_all.new.shelf in
-    subst (SaysOf c.args.request held before now) (sym c.concluded.ensures)
-    (says held c.args.request c.in-Ok.loads before now c.answer_read.result c.in-Ok.ensures.reads.0 c.in-Ok.ensures.reads.1 c.answer_read.ensures.report c.answer_read.ensures.refused)
+    subst (SaysOf (request_about c.args.names) held before now) (sym c.concluded.ensures)
+    (says held c.args.names c.in-Ok.loads before now c.answer_read.result c.in-Ok.ensures.reads.0 c.in-Ok.ensures.reads.1 c.answer_read.ensures.report c.answer_read.ensures.refused)

@@ -1,4 +1,4 @@
-use Rattle.std.proofs.Common.{◌≡◌, ◌∙◌}
+use Rattle.std.proofs.Common.{◌∙◌}
 use Rattle.std.proofs.lemmas.Result.{err_from_is_err_and}
 use Rattle.reports.proofs.StageLaws.{unread_graph, before_graph, in_graph}
 use Rattle.reports.proofs.graphs.graph_report.Goals as goal

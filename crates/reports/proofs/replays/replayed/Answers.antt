@@ -1,6 +1,4 @@
-use Rattle.std.proofs.Common.{map}
-use Rattle.fs_lang.specs.Meaning.{program_of}
-use Rattle.reports.proofs.ReplayLaws.{has_programs, is_replayed}
+use Rattle.reports.proofs.ReplayLaws.{has_programs}
 use Rattle.reports.proofs.replays.replayed.Goals as goal
 
 pub replayed_in-requires : goal.replayed_in-requires

@@ -1,0 +1,87 @@
+-- The headline: what each status of a verdict promises of a manifest, over every file tree and all orders that its graph allows.
+use Rattle.std.specs.Prelude.{◌≡◌, ℕ, List}
+use Rattle.fs_semantics.specs.Programs.{Program}
+use Rattle.orders.specs.Relation.{Comes}
+use Rattle.catalog_semantics.specs.Catalogs.{Catalog}
+use Rattle.dep_graph.specs.declared.answer.Graph.{Graph}
+use Rattle.judgement.specs.First.{IsPrunedCount}
+use Rattle.command_line.specs.declared.asks.Ask.{Ask}
+use Rattle.command_line.specs.declared.asks.Ask.TheVariants as ask
+use Rattle.command_line.specs.declared.asks.Request.{Request}
+use Rattle.known_inputs.specs.declared.inputs.Known.{Known}
+use Rattle.reports.specs.Stages.{IsModelled}
+use Rattle.reports.specs.Questions.{names_in}
+use Rattle.verdict_report.specs.declared.report.Form.{Form}
+use Rattle.verdict_report.specs.declared.report.Form.TheVariants as form
+use Rattle.verdict_report.specs.declared.report.Report.{Report}
+use Rattle.verdict_report.specs.Told.{IsSure, IsDifferent, IsChanged, IsUnanswered}
+use Rattle.rehearsal_core.specs.declared.inputs.Loaded.{Loaded}
+use Rattle.rehearsal_core.specs.Inputs.{Requests, IsLoaded}
+use Rattle.rehearsal_core.specs.Runs.{Run, Appends}
+
+-- which `--ask` asks for a verdict in this form
+abbrev pub ask_for : Form → Ask
+ask_for form.Lines = ask.Verify
+ask_for form.Proofs = ask.Proof
+
+-- the words ask for a verdict
+abbrev pub AsksForVerdict : Run → Type 0
+AsksForVerdict run = (request : Request) × Requests run.words request × (f : Form) × (request.ask ≡ ask_for f)
+
+-- What is judged. The words ask for a verdict; the files that they name, or the workload, say what is known beside the manifest,
+-- and give the manifest this catalog, the catalog this graph, and its resources these programs, of which so many are pruned.
+pub record Judged (run : Run) : Type 0 where
+  pub request : Request
+  pub made : Requests run.words request
+  pub form : Form
+  pub asked : request.ask ≡ ask_for form
+  pub loaded : Loaded
+  pub stands : IsLoaded run.held request loaded
+  pub known : Known
+  pub catalog : Catalog
+  pub graph : Graph
+  pub programs : List Program
+  pub modelled : IsModelled loaded.inputs known catalog graph programs
+  pub pruned : ℕ
+  pub count : IsPrunedCount programs (Comes graph.order) pruned
+
+-- the names of the resources
+abbrev pub names_of : {run : Run} → Judged run → List (List ℕ)
+names_of j = names_in j.catalog j.graph.plain
+
+-- Status 0: from every file tree all allowed orders end in one same tree or all in error, and a second run changes nothing. The
+-- last line tells whether some tree has a run without error.
+pub record IsWell (run : Run) : Type 0 where
+  pub judged : Judged run
+  pub report : Report
+  pub sure : IsSure judged.form judged.programs judged.graph.order judged.pruned report
+  pub written : Appends report.text run.out
+
+-- Status 1: from the tree that is told two allowed orders have the outcomes that are told, and these differ.
+pub record DependsOnOrder (run : Run) : Type 0 where
+  pub judged : Judged run
+  pub report : Report
+  pub different : IsDifferent judged.form (names_of judged) judged.programs judged.graph.order judged.pruned report
+  pub written : Appends report.text run.out
+
+-- Status 2: from every file tree all allowed orders end alike, but from the tree that is told a second run changes what the first
+-- one left.
+pub record ChangesAgain (run : Run) : Type 0 where
+  pub judged : Judged run
+  pub report : Report
+  pub changed : IsChanged judged.form (names_of judged) judged.programs judged.graph.order judged.pruned report
+  pub written : Appends report.text run.out
+
+-- Status 3: the conflicts that the words give were spent on the question that is told, and what is told ahead of it is true.
+pub record SpendsConflicts (run : Run) : Type 0 where
+  pub judged : Judged run
+  pub report : Report
+  pub unanswered : IsUnanswered judged.form judged.request.conflicts judged.programs judged.graph.order judged.pruned report
+  pub written : Appends report.text run.out
+
+-- What each status promises. Other questions than a verdict have no other status than 0.
+pub record Headline (run : Run) (status : ℕ) : Type 0 where
+  pub well : AsksForVerdict run → status ≡ 0 → IsWell run
+  pub depends : status ≡ 1 → DependsOnOrder run
+  pub changes : status ≡ 2 → ChangesAgain run
+  pub spends : status ≡ 3 → SpendsConflicts run

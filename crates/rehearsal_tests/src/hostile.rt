@@ -1,0 +1,213 @@
+//! Manifests and texts of someone who means harm, and devices that fail.
+
+use crate::common::{Failing, Told, compare, run, run_files_failing};
+use std::alloc::Global;
+use std::process::Abort;
+use std::test::Fail;
+
+const NONE: &str = "resources 0\npruned 0\ndeterministic\nidempotent\nsucceeds from some tree\n";
+
+/// A text that stands so often between two others.
+type Nested = (
+    &'static str,
+    &'static str,
+    usize,
+    &'static str,
+    &'static str,
+    usize,
+);
+
+/// What is in front, what is repeated and how often, what is behind, what is repeated there and how often; with the status and
+/// what is told.
+const NESTED: [(Nested, u8, &str); 4] = [
+    (("$x = ", "[", 64, "", "]", 64), 0, NONE),
+    (
+        ("$x = ", "[", 65, "", "]", 65),
+        4,
+        "refused 13 at 69: nesting\n",
+    ),
+    (
+        ("$x = ", "!", 65, "true", "", 0),
+        4,
+        "refused 13 at 69: nesting\n",
+    ),
+    (
+        ("$x = $y", "[0]", 65, "", "", 0),
+        4,
+        "refused 13 at 199: nesting\n",
+    ),
+];
+
+fn repeated(alloc: Global, nested: &Nested) -> Result<String, Fail> {
+    let (front, open, opens, middle, close, closes) = *nested;
+    let mut text = String::from_str(alloc, front)?;
+    text.push_str(open.repeat(alloc, opens)?.as_str())?;
+    text.push_str(middle)?;
+    text.push_str(close.repeat(alloc, closes)?.as_str())?;
+    Ok(text)
+}
+
+fn told_of(alloc: Global, manifest: &str) -> Result<Told, Fail> {
+    run(alloc, &["site.pp"], manifest.as_bytes())
+}
+
+/// Compares a report, or a refusal.
+fn is_told(rt: &impl Abort, told: &Told, status: u8, text: &str, row: &str) {
+    if status == 0 {
+        compare(rt, told, 0, text, "", row);
+    } else {
+        compare(rt, told, status, "", text, row);
+    }
+}
+
+#[test]
+fn texts_that_nest(rt: HostRuntime) -> Result<(), Fail> {
+    for (nested, status, text) in NESTED {
+        let manifest = repeated(rt.alloc(), &nested)?;
+        let told = told_of(rt.alloc(), manifest.as_str())?;
+        is_told(&rt, &told, status, text, manifest.as_str());
+    }
+    Ok(())
+}
+
+const CLASS: &str =
+    "class ntp($servers = ['a', 'b']) { package { 'ntp': ensure => installed } file { '/etc/ntp.conf': ensure => file, owner => 'root', mode => '0644', content => \"servers ${servers}\\n\", require => Package['ntp'] } service { 'ntp': ensure => running, enable => true, subscribe => File['/etc/ntp.conf'] } } include ntp";
+
+#[test]
+fn fronts_of_a_manifest(rt: HostRuntime) -> Result<(), Fail> {
+    for n in 0..CLASS.len() {
+        let Some(front) = CLASS.get(..n) else {
+            continue;
+        };
+        let told = told_of(rt.alloc(), front)?;
+        assert!(rt; told.status == 0 || told.status == 4, "{front}");
+    }
+    Ok(())
+}
+
+#[test]
+fn definitions_that_declare_themselves(rt: HostRuntime) -> Result<(), Fail> {
+    let manifest = "define d() { d { \"${title}x\": } } d { 'x': }";
+    let told = told_of(rt.alloc(), manifest)?;
+    compare(&rt, &told, 4, "", "refused 32 at 17: declared\n", manifest);
+    Ok(())
+}
+
+/// Texts of which each is twice the one ahead of it, and where the last one stands.
+fn doubled(alloc: Global) -> Result<(String, usize), Fail> {
+    let mut manifest = String::from_str(alloc, "$a0 = 'xxxxxxxx'")?;
+    let mut at = 0;
+    for i in 1..16 {
+        let j = i - 1;
+        let start = format!(in alloc; " $a{i} = ")?;
+        manifest.push_str(start.as_str())?;
+        at = manifest.len();
+        let text = format!(in alloc; "\"${{a{j}}}${{a{j}}}\"")?;
+        manifest.push_str(text.as_str())?;
+    }
+    Ok((manifest, at))
+}
+
+#[test]
+fn texts_that_grow(rt: HostRuntime) -> Result<(), Fail> {
+    let (manifest, at) = doubled(rt.alloc())?;
+    let line = format!(in rt.alloc(); "refused 32 at {at}: value\n")?;
+    let told = told_of(rt.alloc(), manifest.as_str())?;
+    compare(&rt, &told, 4, "", line.as_str(), "texts that grow");
+    Ok(())
+}
+
+#[test]
+fn counts_that_are_only_stated(rt: HostRuntime) -> Result<(), Fail> {
+    for text in [
+        "proofs 1\np cnf 1 9223372036854775807\n",
+        "proofs 1\np cnf 9223372036854775807 0\nlog 0\n",
+    ] {
+        let told = run(rt.alloc(), &["--ask", "check", "site.pp"], text.as_bytes())?;
+        compare(&rt, &told, 4, "", "refused 80 at 0: proof\n", text);
+    }
+    Ok(())
+}
+
+/// The names of the files of a run over a tree, in the order in which they are read.
+const FILES: [&str; 5] = ["facts", "listing", "site.pp", "tree", "order"];
+
+const REPLAY: [&str; 11] = [
+    "--ask",
+    "replay",
+    "--facts",
+    "facts",
+    "--packages",
+    "listing",
+    "--tree",
+    "tree",
+    "--order",
+    "order",
+    "site.pp",
+];
+
+/// The numbers of the calls of which one fails.
+const CALLS: [&[u64]; 5] = [&[1], &[2], &[3], &[4], &[5]];
+
+#[test]
+fn reads_that_fail(rt: HostRuntime) -> Result<(), Fail> {
+    for k in 0..5 {
+        let failing: Failing = (CALLS[k], &[], &[]);
+        let told = run_files_failing(rt.alloc(), &REPLAY, "", &failing)?;
+        let line = format!(in rt.alloc(); "read fault: {}\n", FILES[k])?;
+        compare(&rt, &told, 6, "", line.as_str(), FILES[k]);
+    }
+    Ok(())
+}
+
+/// The words, the manifest, the calls that fail, what stands on out, and on err.
+type Write = (
+    &'static [&'static str],
+    &'static str,
+    Failing,
+    &'static str,
+    &'static str,
+);
+
+/// The first half of what is told of a package and its configuration.
+const HALF: &str = "resources 2\npruned 0\nnot deterministic\n";
+
+const WRITES: [Write; 2] = [
+    (
+        &["site.pp"],
+        "exec { 'ls': }",
+        (&[], &[], &[1]),
+        "",
+        "refused 50 at",
+    ),
+    (
+        &["--ask", "replay", "--order", "order", "site.pp"],
+        "file { '/etc/motd': content => 'hi' }",
+        (&[], &[], &[1]),
+        "",
+        "refused 63 ",
+    ),
+];
+
+#[test]
+fn writes_that_fail(rt: HostRuntime) -> Result<(), Fail> {
+    for (words, manifest, failing, out, err) in WRITES {
+        let told = run_files_failing(rt.alloc(), words, manifest, &failing)?;
+        compare(&rt, &told, 7, out, err, manifest);
+    }
+    Ok(())
+}
+
+/// A report of which the first write fails: a front of it stands there, and status 7. No other write is tried.
+#[test]
+fn reports_that_are_cut_off(rt: HostRuntime) -> Result<(), Fail> {
+    let manifest = "package { 'ntp': } file { '/etc/ntp.conf': content => 'server a' }";
+    let words = ["--packages", "listing", "site.pp"];
+    let told = run_files_failing(rt.alloc(), &words, manifest, &(&[], &[1], &[]))?;
+    assert_eq!(rt; told.status, 7);
+    assert!(rt; told.out.as_str().starts_with(HALF));
+    assert_eq!(rt; told.err.as_str(), "write fault\n");
+    let told = run_files_failing(rt.alloc(), &words, manifest, &(&[], &[2], &[]))?;
+    assert_eq!(rt; told.status, 1);
+    Ok(())
+}

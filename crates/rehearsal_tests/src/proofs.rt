@@ -1,0 +1,82 @@
+//! Proofs that are printed: the program reads them back, and finds them right.
+
+use crate::common::{Told, compare, run};
+use std::alloc::Global;
+use std::process::Abort;
+use std::test::Fail;
+
+/// The words, the manifest, the status, how many questions were refuted, and more variables than this has each formula.
+type Row = (&'static [&'static str], &'static str, u8, u32, u64);
+
+const ROWS: [Row; 5] = [
+    (&["--ask", "proof", "--workload", "2"], "", 0, 2, 100),
+    (
+        &["--ask", "proof", "site.pp"],
+        "file { '/etc/motd': content => 'hi' }",
+        0,
+        1,
+        10,
+    ),
+    (
+        &["--ask", "proof", "site.pp"],
+        "file { '/a': ensure => file } file { '/a/b': ensure => file }",
+        0,
+        2,
+        10,
+    ),
+    (
+        &["--ask", "proof", "site.pp"],
+        "file { '/a': content => 'x' } file { '/b': source => '/a' }",
+        1,
+        0,
+        0,
+    ),
+    (
+        &["--ask", "proof", "site.pp"],
+        "file { '/dst': source => '/src' } -> file { '/src': ensure => absent }",
+        2,
+        0,
+        0,
+    ),
+];
+
+/// The number of variables on the first line that tells one, and what is behind the line.
+fn variables(text: &str) -> Option<(u64, &str)> {
+    let (_, rest) = text.split_once("\np cnf ")?;
+    let (count, rest) = rest.split_once(' ')?;
+    let count = count.parse::<u64>().ok()?;
+    Some((count, rest))
+}
+
+/// Each formula has more variables than this.
+fn has_variables(rt: &impl Abort, text: &str, least: u64) {
+    let mut rest = text;
+    while let Some((count, behind)) = variables(rest) {
+        assert!(rt; count > least, "{count} variables");
+        rest = behind;
+    }
+}
+
+/// What the program says of a text of proofs.
+fn verified(alloc: Global, text: &str) -> Result<Told, Fail> {
+    run(alloc, &["--ask", "check", "site.pp"], text.as_bytes())
+}
+
+fn is_verified(alloc: Global, rt: &impl Abort, row: &Row) -> Result<(), Fail> {
+    let (words, manifest, status, proofs, least) = *row;
+    let told = run(alloc, words, manifest.as_bytes())?;
+    assert_eq!(rt; told.status, status, "{manifest}");
+    has_variables(rt, told.out.as_str(), least);
+    let checked = verified(alloc, told.out.as_str())?;
+    let line = format!(in alloc; "verified {proofs}\n")?;
+    compare(rt, &checked, 0, line.as_str(), "", manifest);
+    Ok(())
+}
+
+#[test]
+fn proofs_that_are_read_back(rt: HostRuntime) -> Result<(), Fail> {
+    for row in ROWS {
+        is_verified(rt.alloc(), &rt, &row)?;
+    }
+    Ok(())
+}
