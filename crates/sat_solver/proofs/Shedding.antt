@@ -16,6 +16,16 @@ use Rattle.sat_solver.proofs.Arranges.{has_less}
 pub giver : (f : List (List ℕ)) (t : Way) (b q reason : ℕ) → IsGiven f t b → q < length t.words → reason ≡ get_or t.reasons q 0 → (reason ≡ 0 → ⊥) → Gives f (take q t.words) (get_or t.words q 0) (reason - 1)
 giver f t b q reason given within named some = given.gives q (reason - 1) within (omega arith)
 
+-- what joining the clause that gave a literal marks, where the literal's place is told
+pub joined_at : (words : List ℕ) (seen taken new : List Bool) (lits d : List ℕ) (w v : ℕ) → w ≡ v → taken ≡ set seen (w / 2) false → lits ≡ d
+    → ((x : ℕ) → has words (opposite x) ≡ true → is_seen new x ≡ (is_seen taken x || (has lits x && not (x == w))))
+    → (x : ℕ) → has words (opposite x) ≡ true → is_seen new x ≡ (is_seen (set seen (v / 2) false) x || (has d x && not (x == v)))
+joined_at words seen taken new lits d w v ew et el h x q =
+    h x q
+    ∙ ap (λ (s : List Bool). is_seen s x || (has lits x && not (x == w))) (et ∙ ap (λ y. set seen (y / 2) false) ew)
+    ∙ ap (λ e. is_seen (set seen (v / 2) false) x || (has e x && not (x == w))) el
+    ∙ ap (λ y. is_seen (set seen (v / 2) false) x || (has d x && not (x == y))) ew
+
 -- the literal of the last level stays, and the others stay false ahead of it
 module _ (words : List ℕ) (b p q : ℕ) (seen new : List Bool) (d : List ℕ) (apart : IsApart words) (early : q < b) (in_words : q < length words) (left : IsLeft words b p seen)
     (others : (x : ℕ) → has d x ≡ true → (x ≡ get_or words q 0) ⊎ (has (take q words) (opposite x) ≡ true))

@@ -13,7 +13,7 @@ const OUTSIDE: u32 = u32::MAX;
 const FIRST_BUMP: u64 = 1 << 10;
 
 /// With each conflict what one adds grows by one part in so many.
-const AGING: u64 = 50;
+const AGING: u64 = 64;
 
 /// Past this bump all activities are divided.
 const GREATEST_BUMP: u64 = 1 << 50;

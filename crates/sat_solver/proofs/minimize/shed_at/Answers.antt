@@ -1,17 +1,16 @@
-use Rattle.std.proofs.Common.{◌≡◌, inl, inr, ℕ, ◌-◌, ◌/◌, Bool, true, false, ◌&&◌, ◌||◌, not, List, [], ◌∷◌, ◌++◌, length, get_or, sym, ap, ◌∙◌, subst, arith}
-use Rattle.std.proofs.Math.ListN.{set, length-set}
+use Rattle.std.proofs.Common.{◌≡◌, inl, inr, ℕ, ◌-◌, ◌/◌, Bool, true, false, List, [], ◌∷◌, ◌++◌, length, get_or, sym, ap, ◌∙◌, subst, arith}
+use Rattle.std.proofs.Math.ListN.{length-set}
 use Rattle.sat_solver.specs.Words.{opposite, has}
 use Rattle.sat_solver.specs.Watching.{clause}
 use Rattle.sat_solver.specs.Resolving.{is_seen, in_clause, Reaches}
 use Rattle.sat_solver.specs.declared.analyze.Hop.{Hop}
-use Rattle.std.specs.Prelude.{◌==◌}
 use Rattle.std.proofs.lemmas.Bool.{and_from}
 use Rattle.sat_solver.proofs.Marks.{has_at, opposite_twice, half_opposite}
 use Rattle.sat_solver.proofs.Counts.{count_empty}
 use Rattle.sat_solver.proofs.Arranges.{has_less}
 use Rattle.sat_solver.proofs.Passing.{reaches_more, resolved_is}
 use Rattle.sat_solver.proofs.Covering.{covers_less}
-use Rattle.sat_solver.proofs.Shedding.{giver, left_less}
+use Rattle.sat_solver.proofs.Shedding.{giver, joined_at, left_less}
 use Rattle.sat_solver.proofs.minimize.shed_at.Goals as goal
 
 pub clause-requires : goal.clause-requires
@@ -51,19 +50,12 @@ returns-clause-left c =
     let t = c.args.trail.now in
     let f = c.args.store.now in
     let seen = c.args.r.now.seen.items in
-    let w = c.word-word.result in
-    let ew : w ≡ get_or t.words c.args.place 0 = c.word-word.ensures in
-    let n = c.reason-reason.result - 1 in
     let g = giver f t c.args.boundary c.args.place c.reason-reason.result c.requires.reasons c.requires.within c.reason-reason.ensures c.if-reason-eq0.false in
     let v = get_or t.words c.args.place 0 in
-    let d = clause f n in
+    let d = clause f (c.reason-reason.result - 1) in
     let new = c.join.new.r.seen.items in
-    let less : c.cut.new.r.seen.items ≡ set seen (v / 2) false = c.in_ok-cut.ensures.seen ∙ ap (λ (y : ℕ). set seen (y / 2) false) ew in
-    let joined : (x : ℕ) → has t.words (opposite x) ≡ true → is_seen new x ≡ (is_seen (set seen (v / 2) false) x || (has d x && not (x == v))) =
-    λ x q. c.in_ok-join.ensures.seen x q ∙ ap (λ (s : List Bool). is_seen s x || (has c.clause.result.now x && not (x == w))) less
-    ∙ ap (λ (e : List ℕ). is_seen (set seen (v / 2) false) x || (has e x && not (x == w))) c.clause.ensures
-    ∙ ap (λ (y : ℕ). is_seen (set seen (v / 2) false) x || (has d x && not (x == y))) ew in
-    left_less t.words c.args.boundary c.args._left c.args.place seen new d c.requires.apart c.requires.early c.requires.within c.requires.left g.others joined
+    left_less t.words c.args.boundary c.args._left c.args.place seen new d c.requires.apart c.requires.early c.requires.within c.requires.left g.others
+    (joined_at t.words seen c.cut.new.r.seen.items new c.clause.result.now d c.word-word.result v c.word-word.ensures c.in_ok-cut.ensures.seen c.clause.ensures c.in_ok-join.ensures.seen)
 
 pub returns-clause-covered : goal.returns-clause-covered
 returns-clause-covered c h =
@@ -86,12 +78,8 @@ returns-clause-leads c start h =
     let new = c.join.new.r.seen.items in
     let long = c.requires.long in
     let small = c.requires.reasons.words p c.requires.within in
-    let less : c.cut.new.r.seen.items ≡ set seen (v / 2) false = c.in_ok-cut.ensures.seen ∙ ap (λ (y : ℕ). set seen (y / 2) false) ew in
     let hop : Hop = record { number = c.reason-reason.result; pivot = opposite v } in
-    let joined : (x : ℕ) → has t.words (opposite x) ≡ true → is_seen new x ≡ (is_seen (set seen (v / 2) false) x || (has d x && not (x == v))) =
-    λ x q. c.in_ok-join.ensures.seen x q ∙ ap (λ (s : List Bool). is_seen s x || (has c.clause.result.now x && not (x == w))) less
-    ∙ ap (λ (e : List ℕ). is_seen (set seen (v / 2) false) x || (has e x && not (x == w))) c.clause.ensures
-    ∙ ap (λ (y : ℕ). is_seen (set seen (v / 2) false) x || (has d x && not (x == y))) ew in
+    let joined = joined_at t.words seen c.cut.new.r.seen.items new c.clause.result.now d w v ew c.in_ok-cut.ensures.seen c.clause.ensures c.in_ok-join.ensures.seen in
     let hops : c.join.new.r.hops.items ≡ c.args.r.now.hops.items ++ hop ∷ [] =
     ap (λ (z : _). z.items) c.in_ok-join.ensures.hops ∙ c.in_ok-cut.ensures.hops ∙ ap (λ (y : ℕ). c.args.r.now.hops.items ++ (record { number = c.reason-reason.result; pivot = opposite y }) ∷ []) ew in
     let held : has t.words (opposite (opposite v)) ≡ true = ap (has t.words) (opposite_twice v) ∙ has_at t.words p c.requires.within in
