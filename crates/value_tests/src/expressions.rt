@@ -4,7 +4,7 @@ use std::test::Fail;
 
 #[test]
 fn operators_go_by_their_tables(rt: HostRuntime) -> Result<(), Fail> {
-    let rows: [(&str, &str); 30] = [
+    let rows: [(&str, &str); 34] = [
         ("$r = 'bc' in 'aBCd'", "truth true"),
         ("$r = 'bd' in 'aBCd'", "truth false"),
         ("$r = '' in ''", "truth true"),
