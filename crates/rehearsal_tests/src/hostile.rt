@@ -97,8 +97,8 @@ fn definitions_that_declare_themselves(rt: HostRuntime) -> Result<(), Fail> {
 fn doubled(alloc: Global) -> Result<(String, usize), Fail> {
     let mut manifest = String::from_str(alloc, "$a0 = 'xxxxxxxx'")?;
     let mut at = 0;
-    for i in 1..16 {
-        let j = i - 1;
+    for j in 0..15 {
+        let i = j + 1;
         let start = format!(in alloc; " $a{i} = ")?;
         manifest.push_str(start.as_str())?;
         at = manifest.len();

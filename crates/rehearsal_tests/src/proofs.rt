@@ -40,20 +40,19 @@ const ROWS: [Row; 5] = [
     ),
 ];
 
-/// The number of variables on the first line that tells one, and what is behind the line.
-fn variables(text: &str) -> Option<(u64, &str)> {
-    let (_, rest) = text.split_once("\np cnf ")?;
-    let (count, rest) = rest.split_once(' ')?;
-    let count = count.parse::<u64>().ok()?;
-    Some((count, rest))
+/// The number of variables, on the first line of a formula.
+fn variables(line: &str) -> Option<u64> {
+    let rest = line.strip_prefix("p cnf ")?;
+    let (count, _) = rest.split_once(' ')?;
+    count.parse::<u64>().ok()
 }
 
 /// Each formula has more variables than this.
 fn has_variables(rt: &impl Abort, text: &str, least: u64) {
-    let mut rest = text;
-    while let Some((count, behind)) = variables(rest) {
-        assert!(rt; count > least, "{count} variables");
-        rest = behind;
+    for line in text.split('\n') {
+        if let Some(count) = variables(line) {
+            assert!(rt; count > least, "{count} variables");
+        }
     }
 }
 

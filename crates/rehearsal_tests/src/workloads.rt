@@ -9,9 +9,14 @@ fn told_of(alloc: Global, words: &[&str]) -> Result<Told, Fail> {
     run_over(alloc, words, &[])
 }
 
-/// So many resources, of which pruning keeps four, and all is well.
-fn is_well(alloc: Global, rt: &impl Abort, words: &[&str], resources: u32) -> Result<(), Fail> {
-    let pruned = resources - 4;
+/// So many resources, of which so many are pruned, and all is well.
+fn is_well(
+    alloc: Global,
+    rt: &impl Abort,
+    words: &[&str],
+    resources: u32,
+    pruned: u32,
+) -> Result<(), Fail> {
     let report = format!(in alloc;
         "resources {resources}\npruned {pruned}\ndeterministic\nidempotent\nsucceeds from some tree\n"
     )?;
@@ -22,20 +27,20 @@ fn is_well(alloc: Global, rt: &impl Abort, words: &[&str], resources: u32) -> Re
 
 #[test]
 fn small_workloads(rt: HostRuntime) -> Result<(), Fail> {
-    let rows: [(&[&str], u32); 3] = [
-        (&["--workload", "1"], 7),
-        (&["--workload", "5"], 19),
-        (&["--conflicts", "1000000", "--workload=5"], 19),
+    let rows: [(&[&str], u32, u32); 3] = [
+        (&["--workload", "1"], 7, 3),
+        (&["--workload", "5"], 19, 15),
+        (&["--conflicts", "1000000", "--workload=5"], 19, 15),
     ];
-    for (words, resources) in rows {
-        is_well(rt.alloc(), &rt, words, resources)?;
+    for (words, resources, pruned) in rows {
+        is_well(rt.alloc(), &rt, words, resources, pruned)?;
     }
     Ok(())
 }
 
 #[test]
 fn a_workload_of_forty(rt: HostRuntime) -> Result<(), Fail> {
-    is_well(rt.alloc(), &rt, &["--workload", "40"], 124)
+    is_well(rt.alloc(), &rt, &["--workload", "40"], 124, 120)
 }
 
 #[test]
@@ -45,12 +50,13 @@ fn a_workload_of_forty_with_conflicts(rt: HostRuntime) -> Result<(), Fail> {
         &rt,
         &["--conflicts", "1000000", "--workload", "40"],
         124,
+        120,
     )
 }
 
 #[test]
 fn the_largest_workload(rt: HostRuntime) -> Result<(), Fail> {
-    is_well(rt.alloc(), &rt, &["--workload", "54"], 166)
+    is_well(rt.alloc(), &rt, &["--workload", "54"], 166, 162)
 }
 
 #[test]
@@ -60,6 +66,7 @@ fn the_largest_workload_with_conflicts(rt: HostRuntime) -> Result<(), Fail> {
         &rt,
         &["--conflicts", "1000000", "--workload", "54"],
         166,
+        162,
     )
 }
 
