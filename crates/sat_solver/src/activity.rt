@@ -15,6 +15,9 @@ const FIRST_BUMP: u64 = 1 << 10;
 /// With each conflict what one adds grows by one part in so many.
 const AGING: u64 = 64;
 
+/// The same where literals are to be tried first: with each of them the search turns to other variables.
+const FAST_AGING: u64 = 16;
+
 /// Past this bump all activities are divided.
 const GREATEST_BUMP: u64 = 1 << 50;
 
@@ -42,6 +45,7 @@ pub(crate) struct Activity {
     places: Vec<u32>,
     bump: u64,
     firsts: Vec<u32>,
+    led: bool,
 }
 
 impl Activity {
@@ -55,6 +59,7 @@ impl Activity {
             places: vec![in alloc; OUTSIDE; vars]?,
             bump: FIRST_BUMP,
             firsts: Vec::new(alloc),
+            led: firsts.len() > 0,
         };
         'firsts: for i in 0..firsts.len() {
             let Some(word) = word_within(firsts[firsts.len() - 1 - i], vars) else {
@@ -270,7 +275,12 @@ impl Activity {
 
     /// What is raised later counts for more.
     fn age(&mut self) {
-        self.bump = self.bump.saturating_add(self.bump / AGING);
+        let more = if self.led {
+            self.bump / FAST_AGING
+        } else {
+            self.bump / AGING
+        };
+        self.bump = self.bump.saturating_add(more);
         if self.bump < GREATEST_BUMP {
             return;
         }
