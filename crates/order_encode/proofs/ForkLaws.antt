@@ -1,7 +1,7 @@
 -- Two programs that end apart behind a fork.
 use Rattle.std.proofs.Common.{◌≡◌, ◌≢◌, ◌⊎◌, inl, inr, ℕ, zero, suc, ◌+◌, ◌-◌, ◌<◌, ◌≤◌, ◌==◌, Bool, true, false, cond, List, [], ◌∷◌, ◌++◌, length, take, drop, Option, Some, None, refl, sym, ap, subst, ◌∙◌, arith, nat_lt, ltb-true}
 use Rattle.std.proofs.lemmas.Bool.{eqb-false, ltb-false}
-use Rattle.std.specs.Prelude.{◌↔◌, ◌&&◌, ◌||◌, slice_index_or, Result, Ok, Err, OnOk}
+use Rattle.std.specs.Prelude.{◌↔◌, ◌&&◌, ◌||◌, slice_index_or}
 use Rattle.fs_semantics.specs.FileTree.{Tree}
 use Rattle.fs_semantics.specs.Programs.{Program, Id, Outcome, and_then, run}
 use Rattle.fs_semantics.specs.Orders.{IsFree, outcome}
@@ -12,14 +12,6 @@ use Rattle.order_places.specs.Places.{around, exchanged}
 use Rattle.order_circuit.specs.Codes.{node, nodes, AreRows}
 use Rattle.order_circuit.proofs.RunLaws.{after}
 use Rattle.order_encode.specs.Goals.{are_these, EndApartThen, EndApartAt}
-
-pub on_ok : {X E : Type 0} (P : Type 0) (r : Result X E) → P → OnOk r P
-on_ok P (Ok x) h = h
-on_ok P (Err e) h = tt
-
-pub on_ok_by : {X E : Type 0} (P Q : Type 0) (r : Result X E) → (P → Q) → OnOk r P → OnOk r Q
-on_ok_by P Q (Ok x) f h = f h
-on_ok_by P Q (Err e) f h = tt
 
 pub both_is : {P : Type 0} (a b : Bool) → (b ≡ true) ↔ P → ((a && b) ≡ true) ↔ ((a ≡ true) × P)
 both_is true b h = ((λ e. (refl, h.0 e)), (λ p. h.1 p.1))

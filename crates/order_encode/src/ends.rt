@@ -1,6 +1,6 @@
 //! Whether two orders that part at a place end differently.
 
-ghost use Rattle.std.specs.Prelude.{◌≡◌, ◌≢◌, ◌↔◌, ◌+◌, ◌<◌, ◌∷◌, true, false, map, length, take, IfOk, OnOk};
+ghost use Rattle.std.specs.Prelude.{◌≡◌, ◌≢◌, ◌↔◌, ◌+◌, ◌<◌, ◌∷◌, true, false, map, length, take, IfOk};
 ghost use Rattle.bool_circuit.specs.Gates.{wire_value};
 ghost use Rattle.fs_semantics.specs.FileTree.{Tree};
 ghost use Rattle.fs_semantics.specs.Programs.{Outcome, and_then};
@@ -50,7 +50,7 @@ fn run_on(
     ensures places { IfOk result (λ made. length made.present ≡ length domain.now.table.paths) }
     ensures stands { IfOk result (λ made. (v : Valuation) (o : Outcome) → StandsFor domain.now.table (state_of (circuit_meanings sym.old) v fork.now) o
         → StandsFor domain.now.table (state_of (circuit_meanings sym.new) v made) (and_then o (outcome (map program_of programs.now) (node sym.old v first.now ∷ node sym.old v second.now ∷ part_of false (node sym.old v place.now) (nodes sym.old v rest.now))))) }
-    ensures grows { OnOk result (Grows (circuit_meanings sym.old) (circuit_meanings sym.new)) }
+    ensures grows { Grows (circuit_meanings sym.old) (circuit_meanings sym.new) }
 {
     let one = run_place(alloc, sym, domain, programs, first, fork)?;
     let two = run_place(alloc, sym, domain, programs, second, &one)?;
@@ -84,7 +84,7 @@ fn end_apart_from(
     ensures exact { IfOk result (λ w. (v : Valuation) (o : Outcome) → StandsFor domain.now.table (state_of (circuit_meanings sym.old) v fork.now) o
         → AreFreeNodes order.now (node sym.old v first.now) (node sym.old v second.now)
         → (wire_value sym.new v w.0 ≡ true) ↔ EndApartThen (map program_of programs.now) o (node sym.old v first.now) (node sym.old v second.now) (part_of false (node sym.old v place.now) (nodes sym.old v rest.now))) }
-    ensures grows { OnOk result (Grows (circuit_meanings sym.old) (circuit_meanings sym.new)) }
+    ensures grows { Grows (circuit_meanings sym.old) (circuit_meanings sym.new) }
 {
     let near = some_pair_differs(
         alloc, sym, domain, programs, order, first, second, fork, firsts,
@@ -124,7 +124,7 @@ pub(crate) fn end_apart(
     ensures exact { IfOk result (λ w. (v : Valuation) (t : Tree) → Stands domain.now.table (state_of (circuit_meanings sym.old) v start.now) t
         → AreAllowed order.now (node sym.old v place.now) (nodes sym.old v codes.now) (exchanged (node sym.old v place.now) (nodes sym.old v codes.now))
         → (wire_value sym.new v w.0 ≡ true) ↔ (outcome (map program_of programs.now) (nodes sym.old v codes.now) t ≢ outcome (map program_of programs.now) (exchanged (node sym.old v place.now) (nodes sym.old v codes.now)) t)) }
-    ensures grows { OnOk result (Grows (circuit_meanings sym.old) (circuit_meanings sym.new)) }
+    ensures grows { Grows (circuit_meanings sym.old) (circuit_meanings sym.new) }
 {
     allowed_orders();
     places();

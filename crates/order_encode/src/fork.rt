@@ -1,6 +1,6 @@
 //! Whether two programs end apart right behind the place where two orders part.
 
-ghost use Rattle.std.specs.Prelude.{◌≡◌, ◌↔◌, ◌==◌, ◌&&◌, ◌||◌, ◌<◌, ℕ, true, map, length, IfOk, OnOk};
+ghost use Rattle.std.specs.Prelude.{◌≡◌, ◌↔◌, ◌==◌, ◌&&◌, ◌||◌, ◌<◌, ℕ, true, map, length, IfOk};
 ghost use Rattle.bool_circuit.specs.Gates.{wire_value};
 ghost use Rattle.fs_semantics.specs.Programs.{Outcome};
 ghost use Rattle.fs_semantics.specs.Orders.{IsFree};
@@ -37,7 +37,7 @@ fn tells_both(
     requires second { AreWires sym.old second.now }
     ensures wire { IfOk result (λ w. w.0 < length sym.new) }
     ensures value { IfOk result (λ w. (v : Valuation) → wire_value sym.new v w.0 ≡ ((i == node sym.old v first.now) && (k == node sym.old v second.now))) }
-    ensures grows { OnOk result (Grows (circuit_meanings sym.old) (circuit_meanings sym.new)) }
+    ensures grows { Grows (circuit_meanings sym.old) (circuit_meanings sym.new) }
 {
     let one = tells(sym, u64::from(i), first)?;
     let other = tells(sym, u64::from(k), second)?;
@@ -56,7 +56,7 @@ fn tells_pair(
     requires second { AreWires sym.old second.now }
     ensures wire { IfOk result (λ w. w.0 < length sym.new) }
     ensures value { IfOk result (λ w. (v : Valuation) → wire_value sym.new v w.0 ≡ are_these i k (node sym.old v first.now) (node sym.old v second.now)) }
-    ensures grows { OnOk result (Grows (circuit_meanings sym.old) (circuit_meanings sym.new)) }
+    ensures grows { Grows (circuit_meanings sym.old) (circuit_meanings sym.new) }
 {
     let forward = tells_both(sym, i, first, k, second)?;
     let backward = tells_both(sym, k, first, i, second)?;
@@ -81,7 +81,7 @@ fn differ(
     ensures wire { IfOk result (λ w. w.0 < length sym.new) }
     ensures exact { IfOk result (λ w. (v : Valuation) (o : Outcome) → StandsFor domain.now.table (state_of (circuit_meanings sym.old) v fork.now) o
         → (wire_value sym.new v w.0 ≡ true) ↔ EndApartAt (map program_of programs.now) o i k) }
-    ensures grows { OnOk result (Grows (circuit_meanings sym.old) (circuit_meanings sym.new)) }
+    ensures grows { Grows (circuit_meanings sym.old) (circuit_meanings sym.new) }
 {
     let one = run_known(alloc, sym, domain, programs, &[i, k], fork)?;
     let other = run_known(alloc, sym, domain, programs, &[k, i], fork)?;
@@ -111,7 +111,7 @@ fn pair_differs(
     ensures wire { IfOk result (λ w. w.0 < length sym.new) }
     ensures exact { IfOk result (λ w. (v : Valuation) (o : Outcome) → StandsFor domain.now.table (state_of (circuit_meanings sym.old) v fork.now) o
         → (wire_value sym.new v w.0 ≡ true) ↔ ((are_these i k (node sym.old v first.now) (node sym.old v second.now) ≡ true) × EndApartAt (map program_of programs.now) o i k)) }
-    ensures grows { OnOk result (Grows (circuit_meanings sym.old) (circuit_meanings sym.new)) }
+    ensures grows { Grows (circuit_meanings sym.old) (circuit_meanings sym.new) }
 {
     let told = tells_pair(sym, i, k, first, second)?;
     let apart = differ(alloc, sym, domain, programs, i, k, fork)?;
@@ -147,7 +147,7 @@ fn with_pair(
     ensures stays { IfOk result (λ w. (v : Valuation) → wire_value sym.old v any.0 ≡ true → wire_value sym.new v w.0 ≡ true) }
     ensures found { IfOk result (λ w. (v : Valuation) (o : Outcome) → StandsFor domain.now.table (state_of (circuit_meanings sym.old) v fork.now) o
         → IsFree (Comes order.now) i k → are_these i k (node sym.old v first.now) (node sym.old v second.now) ≡ true → EndApartAt (map program_of programs.now) o i k → wire_value sym.new v w.0 ≡ true) }
-    ensures grows { OnOk result (Grows (circuit_meanings sym.old) (circuit_meanings sym.new)) }
+    ensures grows { Grows (circuit_meanings sym.old) (circuit_meanings sym.new) }
 {
     let ahead = order.before(i, k);
     let behind = order.before(k, i);
@@ -188,7 +188,7 @@ fn with_row(
     ensures stays { IfOk result (λ w. (v : Valuation) → wire_value sym.old v so_far.0 ≡ true → wire_value sym.new v w.0 ≡ true) }
     ensures found { IfOk result (λ w. (v : Valuation) (o : Outcome) → StandsFor domain.now.table (state_of (circuit_meanings sym.old) v fork.now) o
         → (k : ℕ) → i < k → k < order.now.count → IsFree (Comes order.now) i k → are_these i k (node sym.old v first.now) (node sym.old v second.now) ≡ true → EndApartAt (map program_of programs.now) o i k → wire_value sym.new v w.0 ≡ true) }
-    ensures grows { OnOk result (Grows (circuit_meanings sym.old) (circuit_meanings sym.new)) }
+    ensures grows { Grows (circuit_meanings sym.old) (circuit_meanings sym.new) }
 {
     let n = order.count();
     let mut any = so_far;
@@ -222,7 +222,7 @@ pub(crate) fn some_pair_differs(
     ensures wire { IfOk result (λ w. w.0 < length sym.new) }
     ensures found { IfOk result (λ w. (v : Valuation) (o : Outcome) → StandsFor domain.now.table (state_of (circuit_meanings sym.old) v fork.now) o
         → AreFreeNodes order.now (node sym.old v first.now) (node sym.old v second.now) → EndApartAt (map program_of programs.now) o (node sym.old v first.now) (node sym.old v second.now) → wire_value sym.new v w.0 ≡ true) }
-    ensures grows { OnOk result (Grows (circuit_meanings sym.old) (circuit_meanings sym.new)) }
+    ensures grows { Grows (circuit_meanings sym.old) (circuit_meanings sym.new) }
 {
     let mut any = sym.constant(false)?;
     for i in 0..order.count() {

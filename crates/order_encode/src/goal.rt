@@ -1,6 +1,6 @@
 //! What the question of order asks of its inputs, as one wire.
 
-ghost use Rattle.std.specs.Prelude.{◌≡◌, ◌↔◌, ◌<◌, true, map, length, IfOk, OnOk};
+ghost use Rattle.std.specs.Prelude.{◌≡◌, ◌↔◌, ◌<◌, true, map, length, IfOk};
 ghost use Rattle.bool_circuit.specs.Gates.{wire_value};
 ghost use Rattle.fs_lang.specs.Meaning.{program_of, programs_in};
 ghost use Rattle.fs_interpreter.specs.Meanings.{Valuation, Grows};
@@ -64,7 +64,7 @@ pub(crate) fn goal(
     ensures wire { IfOk result (λ w. w.0 < length sym.new) }
     ensures exact { IfOk result (λ w. (v : Valuation) → (wire_value sym.new v w.0 ≡ true) ↔ TellsTree domain.now sym.old asking.now.cells
         (EndApart (map program_of programs.now) order.now (node sym.old v asking.now.place) (nodes sym.old v asking.now.codes) (exchanged (node sym.old v asking.now.place) (nodes sym.old v asking.now.codes))) v) }
-    ensures grows { OnOk result (Grows (circuit_meanings sym.old) (circuit_meanings sym.new)) }
+    ensures grows { Grows (circuit_meanings sym.old) (circuit_meanings sym.new) }
 {
     let left = asking.codes.as_slice();
     let right = exchanged_codes(alloc, sym, left, &asking.place)?;

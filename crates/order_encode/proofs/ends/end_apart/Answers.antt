@@ -16,7 +16,7 @@ use Rattle.order_places.specs.Places.{exchanged}
 use Rattle.order_encode.specs.Goals.{AreFreeNodes}
 use Rattle.order_encode.proofs.WitnessLaws.{strict_is, exchanged_long}
 use Rattle.order_encode.proofs.GoalLaws.{if_ok}
-use Rattle.order_encode.proofs.ForkLaws.{on_ok_by, rows_behind, nodes_ahead, nodes_behind, next_of, differ_by, same_for, apart_is_whole}
+use Rattle.order_encode.proofs.ForkLaws.{rows_behind, nodes_ahead, nodes_behind, next_of, differ_by, same_for, apart_is_whole}
 use Rattle.order_encode.proofs.ends.end_apart.Goals as goal
 
 pub code_at-requires-2-clause-codes : goal.code_at-requires-2-clause-codes
@@ -105,11 +105,29 @@ returns-clause-exact c = if_ok _ _ c.end_apart_from.result (λ w is v t h allowe
     let exchanged_is = c.places.ensures.exchanged xs j inside in
     same_for (wire_value c.end_apart_from.new.sym v w.0) (same_for (wire_value c.end_apart_from.new.sym v w.0) told (differ_by _ _ _ _ one other)) (apart_is_whole es j xs a b t whole exchanged_is)) c.end_apart_from.ensures.exact
 
+pub returns-in_err-first-clause-grows : goal.returns-in_err-first-clause-grows
+returns-in_err-first-clause-grows c =
+    let m0 = circuit_meanings c.args.sym.now in
+    let m1 = circuit_meanings c.run_part.new.sym in
+    let m2 = circuit_meanings c.code_at.new.sym in
+    grows_on m0 m1 m2 c.run_part.ensures.grows c.code_at.ensures.grows
+
+pub returns-in_err-second-clause-grows : goal.returns-in_err-second-clause-grows
+returns-in_err-second-clause-grows c =
+    let m0 = circuit_meanings c.args.sym.now in
+    let m1 = circuit_meanings c.run_part.new.sym in
+    let m2 = circuit_meanings c.code_at.new.sym in
+    let m3 = circuit_meanings c.code_at-2.new.sym in
+    let g02 = grows_on m0 m1 m2 c.run_part.ensures.grows c.code_at.ensures.grows in
+    grows_on m0 m2 m3 g02 c.code_at-2.ensures.grows
+
 pub returns-clause-grows : goal.returns-clause-grows
 returns-clause-grows c =
     let m0 = circuit_meanings c.args.sym.now in
     let m1 = circuit_meanings c.run_part.new.sym in
     let m2 = circuit_meanings c.code_at.new.sym in
     let m3 = circuit_meanings c.code_at-2.new.sym in
-    let g03 = grows_on m0 m2 m3 (grows_on m0 m1 m2 c.run_part.ensures.grows c.code_at.ensures.grows) c.code_at-2.ensures.grows in
-    on_ok_by _ _ c.end_apart_from.result (λ g. grows_on m0 m3 (circuit_meanings c.end_apart_from.new.sym) g03 g) c.end_apart_from.ensures.grows
+    let m4 = circuit_meanings c.end_apart_from.new.sym in
+    let g02 = grows_on m0 m1 m2 c.run_part.ensures.grows c.code_at.ensures.grows in
+    let g03 = grows_on m0 m2 m3 g02 c.code_at-2.ensures.grows in
+    grows_on m0 m3 m4 g03 c.end_apart_from.ensures.grows

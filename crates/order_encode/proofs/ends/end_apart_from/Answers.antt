@@ -12,28 +12,28 @@ use Rattle.order_circuit.specs.Codes.{node, nodes, part_of}
 use Rattle.order_circuit.proofs.RunLaws.{nodes_stay, rows_stay}
 use Rattle.order_encode.specs.Goals.{EndApartThen}
 use Rattle.order_encode.proofs.GoalLaws.{not_is, if_ok}
-use Rattle.order_encode.proofs.ForkLaws.{on_ok, apart_at, asked_besides}
+use Rattle.order_encode.proofs.ForkLaws.{apart_at, asked_besides}
 use Rattle.order_encode.proofs.ends.end_apart_from.Goals as goal
 
 pub run_on-requires-clause-cells : goal.run_on-requires-clause-cells
-run_on-requires-clause-cells c = cells_stay (circuit_meanings c.args.sym.now) (circuit_meanings c.some_pair_differs.new.sym) c.args.fork.now c.in_ok-near.ensures.grows c.requires.cells
+run_on-requires-clause-cells c = cells_stay (circuit_meanings c.args.sym.now) (circuit_meanings c.some_pair_differs.new.sym) c.args.fork.now c.some_pair_differs.ensures.grows c.requires.cells
 
 pub run_on-requires-2-clause-rest : goal.run_on-requires-2-clause-rest
 run_on-requires-2-clause-rest c =
     let m0 = circuit_meanings c.args.sym.now in
     let m1 = circuit_meanings c.some_pair_differs.new.sym in
     let m2 = circuit_meanings c.run_on.new.sym in
-    rows_stay c.args.sym.now c.run_on.new.sym c.args.rest.now (grows_on m0 m1 m2 c.in_ok-near.ensures.grows c.in_ok-one.ensures.grows) c.requires.rest
+    rows_stay c.args.sym.now c.run_on.new.sym c.args.rest.now (grows_on m0 m1 m2 c.some_pair_differs.ensures.grows c.run_on.ensures.grows) c.requires.rest
 
 pub run_on-requires-2-clause-cells : goal.run_on-requires-2-clause-cells
 run_on-requires-2-clause-cells c =
     let m0 = circuit_meanings c.args.sym.now in
     let m1 = circuit_meanings c.some_pair_differs.new.sym in
     let m2 = circuit_meanings c.run_on.new.sym in
-    cells_stay m0 m2 c.args.fork.now (grows_on m0 m1 m2 c.in_ok-near.ensures.grows c.in_ok-one.ensures.grows) c.requires.cells
+    cells_stay m0 m2 c.args.fork.now (grows_on m0 m1 m2 c.some_pair_differs.ensures.grows c.run_on.ensures.grows) c.requires.cells
 
 pub alike-requires-clause-a : goal.alike-requires-clause-a
-alike-requires-clause-a c = cells_stay (circuit_meanings c.run_on.new.sym) (circuit_meanings c.run_on-2.new.sym) c.in_ok-one.one c.in_ok-other.ensures.grows c.in_ok-one.ensures.cells
+alike-requires-clause-a c = cells_stay (circuit_meanings c.run_on.new.sym) (circuit_meanings c.run_on-2.new.sym) c.in_ok-one.one c.run_on-2.ensures.grows c.in_ok-one.ensures.cells
 
 pub and-requires-clause-a : goal.and-requires-clause-a
 and-requires-clause-a c =
@@ -42,7 +42,7 @@ and-requires-clause-a c =
     let m3 = circuit_meanings c.run_on-2.new.sym in
     let m4 = circuit_meanings c.alike.new.sym in
     let m5 = circuit_meanings c.not.new.self in
-    let g13 = grows_on m1 m2 m3 c.in_ok-one.ensures.grows c.in_ok-other.ensures.grows in
+    let g13 = grows_on m1 m2 m3 c.run_on.ensures.grows c.run_on-2.ensures.grows in
     (grows_on m1 m4 m5 (grows_on m1 m3 m4 g13 c.alike.ensures.grows) c.not.ensures.grows).owns c.in_ok-near.near c.in_ok-near.ensures.wire
 
 pub returns-clause-exact : goal.returns-clause-exact
@@ -59,9 +59,9 @@ returns-clause-exact c = if_ok _ _ c.and.result (λ w is v o h free.
     let m3 = circuit_meanings c.run_on-2.new.sym in
     let m4 = circuit_meanings c.alike.new.sym in
     let m5 = circuit_meanings c.not.new.self in
-    let g01 = c.in_ok-near.ensures.grows in
-    let g12 = c.in_ok-one.ensures.grows in
-    let g23 = c.in_ok-other.ensures.grows in
+    let g01 = c.some_pair_differs.ensures.grows in
+    let g12 = c.run_on.ensures.grows in
+    let g23 = c.run_on-2.ensures.grows in
     let g02 = grows_on m0 m1 m2 g01 g12 in
     let g15 = grows_on m1 m4 m5 (grows_on m1 m3 m4 (grows_on m1 m2 m3 g12 g23) c.alike.ensures.grows) c.not.ensures.grows in
     let first = c.args.first.now in
@@ -96,6 +96,46 @@ returns-clause-exact c = if_ok _ _ c.and.result (λ w is v o h free.
     let whole = is.means v ∙ ap (λ b. b && apart) (g15.bit c.in_ok-near.near c.in_ok-near.ensures.wire v) in
     ((λ e. exact.0 (sym whole ∙ e)), (λ p. whole ∙ exact.1 p))) c.and.ensures.gives
 
+pub returns-in_err-one-clause-grows : goal.returns-in_err-one-clause-grows
+returns-in_err-one-clause-grows c =
+    let m0 = circuit_meanings c.args.sym.now in
+    let m1 = circuit_meanings c.some_pair_differs.new.sym in
+    let m2 = circuit_meanings c.run_on.new.sym in
+    grows_on m0 m1 m2 c.some_pair_differs.ensures.grows c.run_on.ensures.grows
+
+pub returns-in_err-other-clause-grows : goal.returns-in_err-other-clause-grows
+returns-in_err-other-clause-grows c =
+    let m0 = circuit_meanings c.args.sym.now in
+    let m1 = circuit_meanings c.some_pair_differs.new.sym in
+    let m2 = circuit_meanings c.run_on.new.sym in
+    let m3 = circuit_meanings c.run_on-2.new.sym in
+    let g02 = grows_on m0 m1 m2 c.some_pair_differs.ensures.grows c.run_on.ensures.grows in
+    grows_on m0 m2 m3 g02 c.run_on-2.ensures.grows
+
+pub returns-in_err-same-clause-grows : goal.returns-in_err-same-clause-grows
+returns-in_err-same-clause-grows c =
+    let m0 = circuit_meanings c.args.sym.now in
+    let m1 = circuit_meanings c.some_pair_differs.new.sym in
+    let m2 = circuit_meanings c.run_on.new.sym in
+    let m3 = circuit_meanings c.run_on-2.new.sym in
+    let m4 = circuit_meanings c.alike.new.sym in
+    let g02 = grows_on m0 m1 m2 c.some_pair_differs.ensures.grows c.run_on.ensures.grows in
+    let g03 = grows_on m0 m2 m3 g02 c.run_on-2.ensures.grows in
+    grows_on m0 m3 m4 g03 c.alike.ensures.grows
+
+pub returns-in_err-apart-clause-grows : goal.returns-in_err-apart-clause-grows
+returns-in_err-apart-clause-grows c =
+    let m0 = circuit_meanings c.args.sym.now in
+    let m1 = circuit_meanings c.some_pair_differs.new.sym in
+    let m2 = circuit_meanings c.run_on.new.sym in
+    let m3 = circuit_meanings c.run_on-2.new.sym in
+    let m4 = circuit_meanings c.alike.new.sym in
+    let m5 = circuit_meanings c.not.new.self in
+    let g02 = grows_on m0 m1 m2 c.some_pair_differs.ensures.grows c.run_on.ensures.grows in
+    let g03 = grows_on m0 m2 m3 g02 c.run_on-2.ensures.grows in
+    let g04 = grows_on m0 m3 m4 g03 c.alike.ensures.grows in
+    grows_on m0 m4 m5 g04 c.not.ensures.grows
+
 pub returns-clause-grows : goal.returns-clause-grows
 returns-clause-grows c =
     let m0 = circuit_meanings c.args.sym.now in
@@ -104,7 +144,9 @@ returns-clause-grows c =
     let m3 = circuit_meanings c.run_on-2.new.sym in
     let m4 = circuit_meanings c.alike.new.sym in
     let m5 = circuit_meanings c.not.new.self in
-    let g02 = grows_on m0 m1 m2 c.in_ok-near.ensures.grows c.in_ok-one.ensures.grows in
-    let g03 = grows_on m0 m2 m3 g02 c.in_ok-other.ensures.grows in
-    let g05 = grows_on m0 m4 m5 (grows_on m0 m3 m4 g03 c.alike.ensures.grows) c.not.ensures.grows in
-    on_ok _ c.and.result (grows_on m0 m5 (circuit_meanings c.and.new.self) g05 c.and.ensures.grows)
+    let m6 = circuit_meanings c.and.new.self in
+    let g02 = grows_on m0 m1 m2 c.some_pair_differs.ensures.grows c.run_on.ensures.grows in
+    let g03 = grows_on m0 m2 m3 g02 c.run_on-2.ensures.grows in
+    let g04 = grows_on m0 m3 m4 g03 c.alike.ensures.grows in
+    let g05 = grows_on m0 m4 m5 g04 c.not.ensures.grows in
+    grows_on m0 m5 m6 g05 c.and.ensures.grows

@@ -10,7 +10,7 @@ use Rattle.sym_run.specs.Wires.{circuit_meanings}
 use Rattle.order_circuit.specs.Codes.{node, nodes, part_of}
 use Rattle.order_circuit.proofs.RunLaws.{nodes_stay}
 use Rattle.order_encode.proofs.GoalLaws.{if_ok}
-use Rattle.order_encode.proofs.ForkLaws.{on_ok, two_more}
+use Rattle.order_encode.proofs.ForkLaws.{two_more}
 use Rattle.order_encode.proofs.ends.run_on.Goals as goal
 
 pub returns-clause-stands : goal.returns-clause-stands
@@ -34,9 +34,18 @@ returns-clause-stands c = if_ok _ _ c.run_part.result (λ made stands v o h.
     let ran = and_then so_far (run (slice_index_or es y Id)) in
     subst (StandsFor table (state_of (circuit_meanings c.run_part.new.sym) v made)) ((λ t. and_then ran (outcome es (part_of false (j_is t) (rest_is t)))) ∙ two_more es x y rest o) (stands v ran two)) c.run_part.ensures.stands
 
+pub returns-in_err-two-clause-grows : goal.returns-in_err-two-clause-grows
+returns-in_err-two-clause-grows c =
+    let m0 = circuit_meanings c.args.sym.now in
+    let m1 = circuit_meanings c.run_place.new.sym in
+    let m2 = circuit_meanings c.run_place-2.new.sym in
+    grows_on m0 m1 m2 c.run_place.ensures.grows c.run_place-2.ensures.grows
+
 pub returns-clause-grows : goal.returns-clause-grows
 returns-clause-grows c =
     let m0 = circuit_meanings c.args.sym.now in
     let m1 = circuit_meanings c.run_place.new.sym in
     let m2 = circuit_meanings c.run_place-2.new.sym in
-    on_ok _ c.run_part.result (grows_on m0 m2 (circuit_meanings c.run_part.new.sym) (grows_on m0 m1 m2 c.run_place.ensures.grows c.run_place-2.ensures.grows) c.run_part.ensures.grows)
+    let m3 = circuit_meanings c.run_part.new.sym in
+    let g02 = grows_on m0 m1 m2 c.run_place.ensures.grows c.run_place-2.ensures.grows in
+    grows_on m0 m2 m3 g02 c.run_part.ensures.grows

@@ -8,7 +8,6 @@ use Rattle.fs_interpreter.specs.Standing.{StandsFor}
 use Rattle.fs_interpreter.proofs.Frames.{grows_on, cells_stay, state_keeps}
 use Rattle.sym_run.specs.Wires.{circuit_meanings}
 use Rattle.order_encode.proofs.GoalLaws.{not_is, if_ok}
-use Rattle.order_encode.proofs.ForkLaws.{on_ok}
 use Rattle.order_encode.proofs.fork.differ.Goals as goal
 
 pub run_known-requires-2-clause-cells : goal.run_known-requires-2-clause-cells
@@ -34,12 +33,29 @@ returns-clause-exact c = if_ok _ _ c.not.result (λ w is v o h.
     let exact = not_is (wire_value c.alike.new.sym v c.in_ok-same.same.0) (c.in_ok-same.ensures.exact v (and_then o (outcome es (i ∷ k ∷ []))) (and_then o (outcome es (k ∷ i ∷ []))) stands other) in
     ((λ e. exact.0 (sym (is.means v) ∙ e)), (λ e. is.means v ∙ exact.1 e))) c.not.ensures.gives
 
+pub returns-in_err-other-clause-grows : goal.returns-in_err-other-clause-grows
+returns-in_err-other-clause-grows c =
+    let m0 = circuit_meanings c.args.sym.now in
+    let m1 = circuit_meanings c.run_known.new.sym in
+    let m2 = circuit_meanings c.run_known-2.new.sym in
+    grows_on m0 m1 m2 c.run_known.ensures.grows c.run_known-2.ensures.grows
+
+pub returns-in_err-same-clause-grows : goal.returns-in_err-same-clause-grows
+returns-in_err-same-clause-grows c =
+    let m0 = circuit_meanings c.args.sym.now in
+    let m1 = circuit_meanings c.run_known.new.sym in
+    let m2 = circuit_meanings c.run_known-2.new.sym in
+    let m3 = circuit_meanings c.alike.new.sym in
+    let g02 = grows_on m0 m1 m2 c.run_known.ensures.grows c.run_known-2.ensures.grows in
+    grows_on m0 m2 m3 g02 c.alike.ensures.grows
+
 pub returns-clause-grows : goal.returns-clause-grows
 returns-clause-grows c =
     let m0 = circuit_meanings c.args.sym.now in
     let m1 = circuit_meanings c.run_known.new.sym in
     let m2 = circuit_meanings c.run_known-2.new.sym in
     let m3 = circuit_meanings c.alike.new.sym in
+    let m4 = circuit_meanings c.not.new.self in
     let g02 = grows_on m0 m1 m2 c.run_known.ensures.grows c.run_known-2.ensures.grows in
     let g03 = grows_on m0 m2 m3 g02 c.alike.ensures.grows in
-    on_ok _ c.not.result (grows_on m0 m3 (circuit_meanings c.not.new.self) g03 c.not.ensures.grows)
+    grows_on m0 m3 m4 g03 c.not.ensures.grows

@@ -42,10 +42,10 @@ loop-i-preserved c =
     let row = c.in_ok-any-2.ensures in
     record {
       any = row.wire;
-      first = row.grows.owns_code first before.first;
-      second = row.grows.owns_code second before.second;
-      cells = cells_stay m1 m2 fork row.grows before.cells;
-      grows = grows_on m0 m1 m2 before.grows row.grows;
+      first = c.with_row.ensures.grows.owns_code first before.first;
+      second = c.with_row.ensures.grows.owns_code second before.second;
+      cells = cells_stay m1 m2 fork c.with_row.ensures.grows before.cells;
+      grows = grows_on m0 m1 m2 before.grows c.with_row.ensures.grows;
       found = λ v o h m n low less high free these apart. elim (m == i) as (λ b. (m == i) ≡ b → wire_value c.with_row.new.sym v c.in_ok-any-2.any.0 ≡ true) [
         | true ↦ λ e.
             let same = eqb-true m i e in
@@ -60,6 +60,9 @@ loop-i-preserved c =
             row.stays v (before.found v o h m n (below m i low other) less high free these apart)
       ] refl;
     }
+
+pub returns-in_err-any-2-clause-grows : goal.returns-in_err-any-2-clause-grows
+returns-in_err-any-2-clause-grows c = grows_on (circuit_meanings c.args.sym.now) (circuit_meanings c.loop-i.sym) (circuit_meanings c.with_row.new.sym) c.loop-i.invariant.grows c.with_row.ensures.grows
 
 pub returns-clause-found : goal.returns-clause-found
 returns-clause-found c = λ v o h nodes apart.

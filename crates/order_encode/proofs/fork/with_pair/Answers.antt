@@ -3,7 +3,7 @@ use Rattle.bool_circuit.specs.Gates.{wire_value}
 use Rattle.fs_interpreter.proofs.Frames.{grows_on}
 use Rattle.sym_run.specs.Wires.{circuit_meanings}
 use Rattle.order_encode.proofs.GoalLaws.{if_ok}
-use Rattle.order_encode.proofs.ForkLaws.{on_ok, either_true}
+use Rattle.order_encode.proofs.ForkLaws.{either_true}
 use Rattle.order_encode.proofs.fork.with_pair.Goals as goal
 
 pub returns-clause-found : goal.returns-clause-found
@@ -15,4 +15,5 @@ pub returns-clause-grows : goal.returns-clause-grows
 returns-clause-grows c =
     let m0 = circuit_meanings c.args.sym.now in
     let m1 = circuit_meanings c.pair_differs.new.sym in
-    on_ok _ c.mux.result (grows_on m0 m1 (circuit_meanings c.mux.new.self) c.in_ok-one.ensures.grows c.mux.ensures.grows)
+    let m2 = circuit_meanings c.mux.new.self in
+    grows_on m0 m1 m2 c.pair_differs.ensures.grows c.mux.ensures.grows

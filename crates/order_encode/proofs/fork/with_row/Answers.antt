@@ -31,10 +31,10 @@ loop-k-preserved c =
     let pair = c.in_ok-any.ensures in
     record {
       any = pair.wire;
-      first = pair.grows.owns_code first before.first;
-      second = pair.grows.owns_code second before.second;
-      cells = cells_stay m1 m2 fork pair.grows before.cells;
-      grows = grows_on m0 m1 m2 before.grows pair.grows;
+      first = c.with_pair.ensures.grows.owns_code first before.first;
+      second = c.with_pair.ensures.grows.owns_code second before.second;
+      cells = cells_stay m1 m2 fork c.with_pair.ensures.grows before.cells;
+      grows = grows_on m0 m1 m2 before.grows c.with_pair.ensures.grows;
       stays = λ v e. pair.stays v (before.stays v e);
       found = λ v o h n low high free these apart. elim (n == k) as (λ b. (n == k) ≡ b → wire_value c.with_pair.new.sym v c.in_ok-any.any.0 ≡ true) [
         | true ↦ λ e.
@@ -50,3 +50,6 @@ loop-k-preserved c =
             pair.stays v (before.found v o h n low (below n k high other) free these apart)
       ] refl;
     }
+
+pub returns-in_err-any-clause-grows : goal.returns-in_err-any-clause-grows
+returns-in_err-any-clause-grows c = grows_on (circuit_meanings c.args.sym.now) (circuit_meanings c.loop-k.sym) (circuit_meanings c.with_pair.new.sym) c.loop-k.invariant.grows c.with_pair.ensures.grows

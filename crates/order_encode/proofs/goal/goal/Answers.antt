@@ -13,7 +13,7 @@ use Rattle.order_circuit.specs.Codes.{node, nodes, AreRows}
 use Rattle.order_circuit.proofs.RunLaws.{nodes_stay, rows_stay}
 use Rattle.order_encode.specs.Goals.{AreAllowed}
 use Rattle.order_encode.proofs.GoalLaws.{apart_is, if_ok}
-use Rattle.order_encode.proofs.ForkLaws.{on_ok, same_for, differ_by}
+use Rattle.order_encode.proofs.ForkLaws.{same_for, differ_by}
 use Rattle.order_encode.proofs.goal.goal.Goals as goal
 
 pub returns-clause-exact : goal.returns-clause-exact
@@ -35,7 +35,7 @@ returns-clause-exact c = if_ok _ _ c.and-2.result (λ w is v.
     let g01 = c.exchanged_codes.ensures.grows in
     let g12 = c.allowed.ensures.grows in
     let g23 = c.and.ensures.grows in
-    let g34 = c.in_ok-differ.ensures.grows in
+    let g34 = c.end_apart.ensures.grows in
     let g02 = grows_on m0 m1 m2 g01 g12 in
     let g03 = grows_on m0 m2 m3 g02 g23 in
     let j = node g0 v a.place in
@@ -63,17 +63,6 @@ returns-clause-exact c = if_ok _ _ c.and-2.result (λ w is v.
     let told = is.means v ∙ ap (λ b. b && wire_value s4 v c.in_ok-differ.differ.0) both in
     ((λ e. exact.0 (sym told ∙ e)), (λ e. told ∙ exact.1 e))) c.and-2.ensures.gives
 
-pub returns-clause-grows : goal.returns-clause-grows
-returns-clause-grows c =
-    let m0 = circuit_meanings c.args.sym.now in
-    let m1 = circuit_meanings c.exchanged_codes.new.sym in
-    let m2 = circuit_meanings c.allowed.new.sym in
-    let m3 = circuit_meanings c.and.new.self in
-    let m4 = circuit_meanings c.end_apart.new.sym in
-    let g02 = grows_on m0 m1 m2 c.exchanged_codes.ensures.grows c.allowed.ensures.grows in
-    let g03 = grows_on m0 m2 m3 g02 c.and.ensures.grows in
-    on_ok _ c.and-2.result (grows_on m0 m4 (circuit_meanings c.and-2.new.self) (grows_on m0 m3 m4 g03 c.in_ok-differ.ensures.grows) c.and-2.ensures.grows)
-
 pub end_apart-requires-clause-cells : goal.end_apart-requires-clause-cells
 end_apart-requires-clause-cells c =
     let m0 = circuit_meanings c.args.sym.now in
@@ -91,3 +80,43 @@ end_apart-requires-clause-codes c =
     let m3 = circuit_meanings c.and.new.self in
     let g02 = grows_on m0 m1 m2 c.exchanged_codes.ensures.grows c.allowed.ensures.grows in
     subst (AreRows c.and.new.self) (sym c.as_slice-left.ensures) (rows_stay c.args.sym.now c.and.new.self c.args.asking.now.codes (grows_on m0 m2 m3 g02 c.and.ensures.grows) c.requires.asking.codes)
+
+pub returns-in_err-fine-clause-grows : goal.returns-in_err-fine-clause-grows
+returns-in_err-fine-clause-grows c =
+    let m0 = circuit_meanings c.args.sym.now in
+    let m1 = circuit_meanings c.exchanged_codes.new.sym in
+    let m2 = circuit_meanings c.allowed.new.sym in
+    grows_on m0 m1 m2 c.exchanged_codes.ensures.grows c.allowed.ensures.grows
+
+pub returns-in_err-both-clause-grows : goal.returns-in_err-both-clause-grows
+returns-in_err-both-clause-grows c =
+    let m0 = circuit_meanings c.args.sym.now in
+    let m1 = circuit_meanings c.exchanged_codes.new.sym in
+    let m2 = circuit_meanings c.allowed.new.sym in
+    let m3 = circuit_meanings c.and.new.self in
+    let g02 = grows_on m0 m1 m2 c.exchanged_codes.ensures.grows c.allowed.ensures.grows in
+    grows_on m0 m2 m3 g02 c.and.ensures.grows
+
+pub returns-in_err-differ-clause-grows : goal.returns-in_err-differ-clause-grows
+returns-in_err-differ-clause-grows c =
+    let m0 = circuit_meanings c.args.sym.now in
+    let m1 = circuit_meanings c.exchanged_codes.new.sym in
+    let m2 = circuit_meanings c.allowed.new.sym in
+    let m3 = circuit_meanings c.and.new.self in
+    let m4 = circuit_meanings c.end_apart.new.sym in
+    let g02 = grows_on m0 m1 m2 c.exchanged_codes.ensures.grows c.allowed.ensures.grows in
+    let g03 = grows_on m0 m2 m3 g02 c.and.ensures.grows in
+    grows_on m0 m3 m4 g03 c.end_apart.ensures.grows
+
+pub returns-clause-grows : goal.returns-clause-grows
+returns-clause-grows c =
+    let m0 = circuit_meanings c.args.sym.now in
+    let m1 = circuit_meanings c.exchanged_codes.new.sym in
+    let m2 = circuit_meanings c.allowed.new.sym in
+    let m3 = circuit_meanings c.and.new.self in
+    let m4 = circuit_meanings c.end_apart.new.sym in
+    let m5 = circuit_meanings c.and-2.new.self in
+    let g02 = grows_on m0 m1 m2 c.exchanged_codes.ensures.grows c.allowed.ensures.grows in
+    let g03 = grows_on m0 m2 m3 g02 c.and.ensures.grows in
+    let g04 = grows_on m0 m3 m4 g03 c.end_apart.ensures.grows in
+    grows_on m0 m4 m5 g04 c.and-2.ensures.grows
