@@ -1,5 +1,5 @@
 -- An exchange made by holding one node back.
-use Rattle.std.proofs.Common.{◌≡◌, ℕ, zero, suc, ◌+◌, ◌-◌, ◌<◌, ◌≤◌, ◌==◌, Bool, true, false, cond, List, [], ◌∷◌, ◌++◌, length, refl, sym, ap, subst, ◌∙◌, arith, eqb-true, nat_lt, ltb-true}
+use Rattle.std.proofs.Common.{◌≡◌, ℕ, suc, ◌+◌, ◌-◌, ◌<◌, ◌≤◌, ◌==◌, true, false, cond, List, [], ◌∷◌, refl, sym, ap, ◌∙◌, arith, eqb-true, nat_lt, ltb-true}
 use Rattle.std.proofs.lemmas.Bool.{eqb-false, ltb-false, lt-ltb, le-ltb}
 use Rattle.order_places.specs.Places.{exchanged}
 
@@ -38,10 +38,3 @@ exchange_step k j held next rest = elim (nat_lt j k) as (λ b. nat_lt j k ≡ b 
 
 pub exchange_start : (j : ℕ) (xs : List ℕ) → exchanged_from 0 j xs ≡ exchanged j xs
 exchange_start j xs = let whole : j - 0 ≡ j = omega arith in ap (λ b. cond b xs (exchanged (j - 0) xs)) (le-ltb j 0 (omega arith)) ∙ ap (λ m. exchanged m xs) whole
-
-pub exchange_end : (k j held : ℕ) → exchanged_from k j (held ∷ []) ≡ held ∷ []
-exchange_end k j held = flat (nat_lt j k)
-  where
-    flat : (b : Bool) → cond b (held ∷ []) (exchanged (j - k) (held ∷ [])) ≡ held ∷ []
-    flat true = refl
-    flat false = refl

@@ -12,4 +12,4 @@ pub use allowed::in_order;
 pub use exchange::exchanged_codes;
 pub use parts::{code_at, run_part};
 pub use picks::tells;
-pub use runs::{copy_cells, run_in_order, run_place};
+pub use runs::{copy_cells, run_place};

@@ -92,7 +92,7 @@ pub fn run_place(
 }
 
 /// Runs the programs in the order that the codes tell.
-pub fn run_in_order(
+pub(crate) fn run_in_order(
     alloc: Global,
     sym: &mut Sym,
     domain: &Domain,

@@ -1,11 +1,8 @@
 -- The texts that are read are those of the form, both ways.
-use Rattle.std.proofs.Common.{◌≡◌, ℕ, ◌+◌, ◌<◌, List, [], ◌∷◌, ◌++◌, length, drop, get_or, add-one, append_assoc, Option, Some, None, option_map, IsUtf8, codes, refl, sym, ap, subst, ◌∙◌}
-use Rattle.std.proofs.Math.Seq.{drop-cons}
+use Rattle.std.proofs.Common.{◌≡◌, ℕ, List, [], ◌∷◌, Option, Some, None, option_map, IsUtf8, codes, refl, sym, ap, subst, ◌∙◌}
 use Rattle.serde_json.specs.Data.{Data, null, boolean, number, string, array, object, Items, no_items, item}
 use Rattle.serde_json.specs.Find.{as_str, as_array}
 use Rattle.serde_json.specs.Read.{read}
-use Rattle.serde_json.specs.View.{view, items_view}
-use Rattle.serde_json.specs.declared.value.Value.{Value}
 use Rattle.rh_base.specs.Reading.{◌>>=◌}
 use Rattle.rh_base.specs.Refused.{IfRefused, IsRefusal}
 use Rattle.rh_base.specs.declared.fault.Fault.{Fault}
@@ -71,16 +68,8 @@ pub order_read : (bytes : List ℕ) (json : Data) (items : Items) (ts : List (Li
 order_read bytes json items ts text e is h =
     record { text = text; items = items; is_read = e ∙ ap (λ d. Some d) (array_is json items is); are_texts = texts_are items ts h }
 
-no_array : (bytes : List ℕ) (json : Data) → read bytes ≡ Some json → None ≡ as_array json → (ts : List (List ℕ)) → IsOrderText bytes ts → ⊥
-no_array bytes json e n ts h = no_value h.items (n ∙ ap as_array (same_some json (array h.items) (sym e ∙ h.is_read)))
-
 no_texts : (bytes : List ℕ) (json : Data) (items : Items) → read bytes ≡ Some json → Some items ≡ as_array json → texts_of items ≡ None → (ts : List (List ℕ)) → IsOrderText bytes ts → ⊥
 no_texts bytes json items e is n ts h = no_value ts (sym n ∙ same_texts bytes items ts (e ∙ ap (λ d. Some d) (array_is json items is)) h)
-
-pub refused_array : (bytes : List ℕ) (json : Data) (f : Fault) → read bytes ≡ Some json → None ≡ as_array json → IfRefused f (IsRefusal 63 0 (codes "order"))
-    → IfRefused f (λ r. IsRefusal 63 0 (codes "order") r × ((ts : List (List ℕ)) → IsOrderText bytes ts → ⊥))
-refused_array bytes json (Refused r) e n h = (h, no_array bytes json e n)
-refused_array bytes json (Memory m) e n h = tt
 
 pub refused_texts : (bytes : List ℕ) (json : Data) (items : Items) (f : Fault) → read bytes ≡ Some json → Some items ≡ as_array json → texts_of items ≡ None → IfRefused f (IsRefusal 63 0 (codes "order"))
     → IfRefused f (λ r. IsRefusal 63 0 (codes "order") r × ((ts : List (List ℕ)) → IsOrderText bytes ts → ⊥))

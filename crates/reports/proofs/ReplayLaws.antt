@@ -1,15 +1,12 @@
 -- From the order that is asked to what is told.
-use Rattle.std.proofs.Common.{◌≡◌, ◌<◌, ℕ, List, length, sym, ap, subst, ◌∙◌}
+use Rattle.std.proofs.Common.{◌≡◌, ◌<◌, ℕ, List, length, sym, subst}
 use Rattle.std.specs.List.{AllByRecursion}
 use Rattle.std.specs.Prelude.{Option, Some, None}
-use Rattle.fs_semantics.specs.FileTree.{Tree}
 use Rattle.fs_semantics.specs.Programs.{Program}
-use Rattle.fs_semantics.specs.Orders.{outcome}
 use Rattle.fs_lang.specs.declared.program.Program as code
 use Rattle.catalog_semantics.specs.Catalogs.{Catalog}
 use Rattle.dep_graph.specs.declared.answer.Graph.{Graph}
-use Rattle.verdict_text.specs.Lines.{outcome_line}
-use Rattle.reports.specs.Replays.{IsOrderFor, IsReplayed}
+use Rattle.reports.specs.Replays.{IsOrderFor}
 
 below : (text : Option (List ℕ)) (c : Catalog) (g : Graph) (o : List ℕ) → IsOrderFor text c g o → AllByRecursion (λ i. i < length g.plain) o
 below None c g o is = is.0.below
@@ -20,7 +17,3 @@ pub has_programs : (text : Option (List ℕ)) (c : Catalog) (g : Graph) (o turns
     → IsOrderFor text c g o → AllByRecursion (λ i. i < length programs) turns
 has_programs text c g o turns programs same count is =
     subst (AllByRecursion (λ i. i < length programs)) (sym same) (subst (λ n. AllByRecursion (λ i. i < n) o) (sym count) (below text c g o is))
-
-pub is_replayed : (text : Option (List ℕ)) (t : Tree) (c : Catalog) (g : Graph) (es : List Program) (o turns bytes : List ℕ) → turns ≡ o → IsOrderFor text c g o
-    → bytes ≡ outcome_line (outcome es turns t) → IsReplayed text t c g es bytes
-is_replayed text t c g es o turns bytes same is told = record { order = o; ordered = is; text = told ∙ ap (λ p. outcome_line (outcome es p t)) same }

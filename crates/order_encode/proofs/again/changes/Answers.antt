@@ -1,4 +1,4 @@
-use Rattle.std.proofs.Common.{◌≡◌, Some, ap, subst, sym, ◌∙◌, map}
+use Rattle.std.proofs.Common.{Some, ap, subst, sym, ◌∙◌, map}
 use Rattle.std.specs.Prelude.{not, ◌&&◌}
 use Rattle.bool_circuit.specs.Gates.{wire_value}
 use Rattle.fs_semantics.specs.Programs.{and_then}

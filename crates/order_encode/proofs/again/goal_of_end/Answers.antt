@@ -1,6 +1,6 @@
 use Rattle.sym_run.specs.Wires.{circuit_meanings}
 use Rattle.fs_interpreter.proofs.Frames.{grows_on}
-use Rattle.std.proofs.Common.{◌≡◌, sym, ap, ◌∙◌, map}
+use Rattle.std.proofs.Common.{sym, ap, ◌∙◌, map}
 use Rattle.std.specs.Prelude.{◌&&◌}
 use Rattle.bool_circuit.specs.Gates.{wire_value}
 use Rattle.fs_lang.specs.Meaning.{program_of}

@@ -1,4 +1,4 @@
-use Rattle.std.proofs.Common.{◌≡◌, [], ◌∷◌, subst, sym, ◌∙◌, map}
+use Rattle.std.proofs.Common.{[], ◌∷◌, subst, sym, ◌∙◌, map}
 use Rattle.bool_circuit.specs.Gates.{wire_value}
 use Rattle.fs_semantics.specs.Programs.{and_then}
 use Rattle.fs_semantics.specs.Orders.{outcome}

@@ -1,13 +1,13 @@
-use Rattle.std.proofs.Common.{◌≡◌, true, subst, sym, ap, ◌∙◌, map}
-use Rattle.std.specs.Prelude.{◌&&◌, ◌↔◌}
+use Rattle.std.proofs.Common.{subst, sym, ap, ◌∙◌, map}
+use Rattle.std.specs.Prelude.{◌&&◌}
 use Rattle.bool_circuit.specs.Gates.{wire_value}
 use Rattle.fs_lang.specs.Meaning.{program_of}
-use Rattle.fs_interpreter.specs.States.{State, state_of}
+use Rattle.fs_interpreter.specs.States.{State}
 use Rattle.fs_interpreter.specs.Standing.{StandsFor}
 use Rattle.fs_interpreter.proofs.Frames.{grows_on, cells_stay, state_keeps}
 use Rattle.sym_run.specs.Wires.{circuit_meanings}
 use Rattle.order_circuit.specs.Codes.{node}
-use Rattle.order_encode.specs.Goals.{are_these, EndApartAt}
+use Rattle.order_encode.specs.Goals.{are_these}
 use Rattle.order_encode.proofs.GoalLaws.{if_ok}
 use Rattle.order_encode.proofs.ForkLaws.{both_is}
 use Rattle.order_encode.proofs.fork.pair_differs.Goals as goal

@@ -1,4 +1,4 @@
-use Rattle.std.proofs.Common.{◌≡◌, ℕ, ◌+◌, ◌<◌, ◌≤◌, ◌==◌, true, false, map, length, refl, subst, sym, ap, ◌∙◌, arith, eqb-true}
+use Rattle.std.proofs.Common.{◌≡◌, ◌<◌, ◌==◌, true, false, map, refl, subst, sym, ◌∙◌, arith, eqb-true}
 use Rattle.std.proofs.lemmas.Bool.{eqb-false}
 use Rattle.bool_circuit.specs.Gates.{wire_value}
 use Rattle.fs_semantics.specs.Orders.{IsFree}
@@ -6,7 +6,7 @@ use Rattle.fs_lang.specs.Meaning.{program_of}
 use Rattle.orders.specs.Relation.{Comes}
 use Rattle.order_encode.specs.Goals.{are_these, EndApartAt}
 use Rattle.order_encode.proofs.ForkLaws.{below, at_either, one_of, themselves, these_turned, free_turned, apart_turned}
-use Rattle.fs_interpreter.specs.States.{State, state_of}
+use Rattle.fs_interpreter.specs.States.{State}
 use Rattle.fs_interpreter.specs.Standing.{StandsFor}
 use Rattle.fs_interpreter.proofs.Frames.{grows_on, cells_stay, state_keeps}
 use Rattle.sym_run.specs.Wires.{circuit_meanings}

@@ -1,4 +1,4 @@
-use Rattle.std.proofs.Common.{◌≡◌, true, cond, ◌∙◌}
+use Rattle.std.proofs.Common.{◌∙◌}
 use Rattle.bool_circuit.specs.Gates.{wire_value}
 use Rattle.fs_interpreter.proofs.Frames.{grows_on}
 use Rattle.sym_run.specs.Wires.{circuit_meanings}

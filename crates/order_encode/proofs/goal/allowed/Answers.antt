@@ -1,6 +1,5 @@
-use Rattle.std.proofs.Common.{◌≡◌, ◌-◌, List, nat_lt, ap, subst, sym, ◌∙◌}
+use Rattle.std.proofs.Common.{◌≡◌, ◌-◌, nat_lt, ap, sym, ◌∙◌}
 use Rattle.std.specs.Prelude.{◌&&◌}
-use Rattle.bool_circuit.specs.Gates.{wire_value}
 use Rattle.fs_interpreter.proofs.Frames.{grows_on}
 use Rattle.orders.specs.Relation.{comes}
 use Rattle.order_places.specs.Places.{is_in_order}

@@ -1,4 +1,4 @@
-use Rattle.std.proofs.Common.{◌≡◌, ◌≢◌, true, List, map, ap, subst, subst₂, sym, ◌∙◌}
+use Rattle.std.proofs.Common.{◌≡◌, ◌≢◌, true, map, ap, subst, subst₂, sym, ◌∙◌}
 use Rattle.std.specs.Prelude.{◌&&◌, ◌↔◌}
 use Rattle.bool_circuit.specs.Gates.{wire_value}
 use Rattle.fs_semantics.specs.FileTree.{Tree}

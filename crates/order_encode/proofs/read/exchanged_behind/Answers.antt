@@ -1,7 +1,7 @@
-use Rattle.std.proofs.Common.{◌≡◌, ◌==◌, ◌+◌, ◌<◌, cond, List, [], ◌∷◌, ◌++◌, length, drop, get_or, refl, sym, ap, ◌∙◌}
+use Rattle.std.proofs.Common.{◌==◌, ◌+◌, cond, [], ◌∷◌, ◌++◌, drop, get_or, sym, ap, ◌∙◌}
 use Rattle.std.proofs.lemmas.List.{append_assoc}
-use Rattle.order_circuit.proofs.ExchangeLaws.{exchanged_from, exchange_step, exchange_start, exchange_end}
-use Rattle.order_encode.proofs.ReadLaws.{rest_from, rest_done}
+use Rattle.order_circuit.proofs.ExchangeLaws.{exchanged_from, exchange_step, exchange_start}
+use Rattle.order_encode.proofs.ReadLaws.{rest_from}
 use Rattle.order_encode.proofs.read.exchanged_behind.Goals as goal
 
 pub loop-k-init : goal.loop-k-init

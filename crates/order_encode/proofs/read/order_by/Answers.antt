@@ -1,4 +1,4 @@
-use Rattle.std.proofs.Common.{◌≡◌, ◌<◌, ◌^◌, sym, subst, arith}
+use Rattle.std.proofs.Common.{◌<◌, ◌^◌, sym, subst, arith}
 use Rattle.bool_circuit.specs.Gates.{truth_at}
 use Rattle.sym_run.specs.Wires.{number}
 use Rattle.order_encode.proofs.KnownLaws.{told_at}

@@ -1,4 +1,4 @@
-use Rattle.std.proofs.Common.{◌≡◌, ◌+◌, [], take, Some, slice_get, ap, sym, ◌∙◌}
+use Rattle.std.proofs.Common.{◌≡◌, take, Some, slice_get, ap, sym, ◌∙◌}
 use Rattle.fs_interpreter.specs.Places.{Listed, place_in, or_added}
 use Rattle.order_encode.proofs.TableLaws.{added}
 use Rattle.order_encode.proofs.table.copy_paths.Goals as goal
