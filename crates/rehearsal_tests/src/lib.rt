@@ -6,6 +6,8 @@ mod asked;
 #[cfg(test)]
 mod check;
 #[cfg(test)]
+mod class_data;
+#[cfg(test)]
 mod common;
 #[cfg(test)]
 mod differences;
