@@ -9,3 +9,5 @@ mod judging;
 mod programs;
 #[cfg(test)]
 mod verdicts;
+#[cfg(test)]
+mod workloads;
