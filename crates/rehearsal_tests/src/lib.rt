@@ -22,6 +22,8 @@ mod proofs;
 #[cfg(test)]
 mod second_runs;
 #[cfg(test)]
+mod sizes;
+#[cfg(test)]
 mod verify;
 #[cfg(test)]
 mod words;
