@@ -8,7 +8,8 @@ use rh_base::{Fault, Refusal};
 use std::alloc::Global;
 use std::test::Fail;
 
-fn refused(alloc: Global, refusal: &Refusal) -> Result<String, Fail> {
+/// A refusal, as `70 weight`.
+pub fn refused(alloc: Global, refusal: &Refusal) -> Result<String, Fail> {
     let number = refusal.number;
     let name = refusal.name.as_str();
     Ok(format!(in alloc; "{number} {name}")?)

@@ -1,4 +1,4 @@
-//! Tests of the question of order, on programs.
+//! Tests of verdicts, and of the question of order, on programs.
 #![tactic(auto)]
 
 #[cfg(test)]
@@ -7,3 +7,7 @@ mod formulas;
 mod judging;
 #[cfg(test)]
 mod programs;
+#[cfg(test)]
+mod verdicts;
+#[cfg(test)]
+mod workloads;

@@ -26,7 +26,12 @@ const NONE_PRUNED: &str =
 /// What is asked, of which manifest, and what is told.
 type Row = (&'static [&'static str], &'static str, &'static str);
 
-const ROWS: [Row; 25] = [
+const ROWS: [Row; 28] = [
+    (
+        &["--ask", "catalog", "site.pp"],
+        "$x = 010 file { '/a': content => \"${x}\" }",
+        "File[/a]\n  content => \"8\"\n",
+    ),
     (
         &["--ask", "catalog", "site.pp"],
         "File { mode => '0644' } file { '/a': content => 'x' }",
@@ -75,6 +80,11 @@ const ROWS: [Row; 25] = [
         "Package[ntp]\nFile[/etc/ntp.conf]\nService[ntp]\nPackage[ntp] -> File[/etc/ntp.conf]\nPackage[ntp] -> Service[ntp]\nFile[/etc/ntp.conf] -> Service[ntp]\n",
     ),
     (
+        &["--ask", "catalog", "site.pp"],
+        NTP,
+        "Package[ntp]\n  ensure => \"installed\"\nFile[/etc/ntp.conf]\n  ensure => \"file\"\n  owner => \"root\"\n  mode => \"0644\"\n  content => \"servers [a, b]\\n\"\n  require => \"Package[ntp]\"\nService[ntp]\n  ensure => \"running\"\n  enable => true\n  subscribe => \"File[/etc/ntp.conf]\"\n",
+    ),
+    (
         &["--ask", "graph", "site.pp"],
         "file { '/a': } <- file { '/b': }",
         "File[/a]\nFile[/b]\nFile[/b] -> File[/a]\n",
@@ -113,6 +123,11 @@ const ROWS: [Row; 25] = [
         &["--ask", "programs", "site.pp"],
         "file { '/a': ensure => link, target => '/b' }",
         "File[/a]\nif (file?(\"/a\") or link?(\"/a\")) then [rm(\"/a\"); link(\"/a\",\"/b\")] else link(\"/a\",\"/b\")\n",
+    ),
+    (
+        &["site.pp"],
+        "file { '/a': ensure => link, target => '/b' }",
+        "resources 1\npruned 1\ndeterministic\nidempotent\nsucceeds from some tree\n",
     ),
     (
         &["site.pp"],
@@ -229,7 +244,7 @@ const RUNS: [Row; 9] = [
 const SHARED_MANIFEST: &str = "package { 'ntp': } file { '/etc/ntp.conf': content => 'server a' }";
 
 /// What is refused, of which manifest, and the line.
-const REFUSED: [Row; 12] = [
+const REFUSED: [Row; 17] = [
     (
         &[
             "--ask", "catalog", "--facts", "data", "--data", "facts", "site.pp",
@@ -248,9 +263,32 @@ const REFUSED: [Row; 12] = [
         "refused 61 at 0: packages\n",
     ),
     (
+        &["--packages", "facts", "--data", "facts", "site.pp"],
+        "$x = 09",
+        "refused 61 at 0: packages\n",
+    ),
+    (
+        &[
+            "--ask", "replay", "--data", "facts", "--tree", "hanging", "--order", "missing",
+            "site.pp",
+        ],
+        "$x = 09",
+        "refused 64 at 0: data\n",
+    ),
+    (
+        &["--packages", "third", "site.pp"],
+        "",
+        "refused 61 at 0: packages\n",
+    ),
+    (
         &["--ask", "catalog", "--facts", "facts", "site.pp"],
         "$x = $load + 1",
         "refused 29 at 5: operand\n",
+    ),
+    (
+        &["--ask", "catalog", "--facts", "facts", "site.pp"],
+        "case $facts['os']['family'] { 'debian': { file { '/d': content => 'x' } } default: { file { '/e': content => 'x' } } } $x = $load + 1",
+        "refused 29 at 124: operand\n",
     ),
     (
         &["--ask", "catalog", "site.pp"],
@@ -285,6 +323,11 @@ const REFUSED: [Row; 12] = [
         "refused 62 at 0: tree\n",
     ),
     (
+        &["--ask", "replay", "--tree", "hanging", "site.pp"],
+        "file { '/etc/motd': content => 'hi' }",
+        "refused 62 at 0: tree\n",
+    ),
+    (
         &["site.pp"],
         "file { '/a': ensure => link }",
         "refused 51 at 7: target\n",
@@ -310,13 +353,14 @@ const ALIKE: &str =
     r#"{"version":2,"packages":{"a":{"files":[["/opt/x","d1"]],"folders":[]},"b":{"files":[["/opt/x","d1"]],"folders":[]}}}"#;
 
 /// The files beside a manifest.
-const BESIDE: [(&str, &str); 15] = [
+const BESIDE: [(&str, &str); 16] = [
     ("facts", FACTS),
     ("data", DATA),
     ("listing", LISTING),
     ("shared", SHARED),
     ("docs", DOCS),
     ("none", "[1]"),
+    ("third", r#"{"version":3,"packages":{}}"#),
     ("opt", OPT),
     ("alike", ALIKE),
     ("tree", TREE),
@@ -331,8 +375,8 @@ const BESIDE: [(&str, &str); 15] = [
 /// Runs each row over the files beside the manifest.
 fn run_rows(alloc: Global, rt: &impl Abort, rows: &[Row], status: u8) -> Result<(), Fail> {
     for (words, manifest, told) in rows {
-        let mut over: [(&str, &[u8]); 16] = [("site.pp", manifest.as_bytes()); 16];
-        for i in 0..15 {
+        let mut over: [(&str, &[u8]); 17] = [("site.pp", manifest.as_bytes()); 17];
+        for i in 0..16 {
             over[i + 1] = (BESIDE[i].0, BESIDE[i].1.as_bytes());
         }
         let ended = run_over(alloc, words, &over)?;

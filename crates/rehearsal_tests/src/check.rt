@@ -39,11 +39,25 @@ fn proofs_that_are_verified(rt: HostRuntime) -> Result<(), Fail> {
 #[test]
 fn texts_that_are_refused(rt: HostRuntime) -> Result<(), Fail> {
     let cut = PIGEONS.replace(rt.alloc(), "\n-1 0 9", "\n0 9")?;
-    let rows: [(&str, &str); 5] = [
+    let rows: [(&str, &str); 8] = [
         (cut.as_str(), "refused 81 at 0: proof 1 step 1\n"),
         (
             "proofs 2 p cnf 1 2 1 0 -1 0 log 1 0 1 2 1 0 p cnf 1 1 1 0 log 0",
             "refused 81 at 0: proof 2 step 0\n",
+        ),
+        (
+            "proofs 1\np cnf 1 1\n1 0\nlog 0\n",
+            "refused 81 at 0: proof 1 step 0\n",
+        ),
+        // the clause that is named isn't earlier
+        (
+            "proofs 1\np cnf 1 1\n1 0\nlog 1\n0 2 0\n",
+            "refused 81 at 0: proof 1 step 1\n",
+        ),
+        // the resolvent keeps a literal, and the formula has a model
+        (
+            "proofs 1\np cnf 1 2\n1 -1 0\n-1 0\nlog 1\n0 1 2 1 0\n",
+            "refused 81 at 0: proof 1 step 1\n",
         ),
         ("proofs", "refused 80 at 0: proof\n"),
         ("proofs 1 p cnf 1 1 01 0 log 0", "refused 80 at 0: proof\n"),

@@ -77,9 +77,10 @@ pub fn run_files_failing(
     manifest: &str,
     failing: &Failing,
 ) -> Result<Told, Fail> {
-    let over: [(&str, &[u8]); 5] = [
+    let over: [(&str, &[u8]); 6] = [
         ("site.pp", manifest.as_bytes()),
         ("facts", b"{}"),
+        ("data", br#"{"levels":[]}"#),
         (
             "listing",
             br#"{"version":1,"packages":{"ntp":{"files":["/etc/ntp.conf"],"folders":[]}}}"#,

@@ -15,7 +15,10 @@ const OPT: &str = r#"{"version":1,"packages":{"p":{"files":[],"folders":["/opt/p
 const TWO: &str =
     r#"{"version":2,"packages":{"a":{"files":[["/opt/x","d1"]],"folders":[]},"b":{"files":[["/opt/x","d2"]],"folders":[]}}}"#;
 
-const ROWS: [Row; 5] = [
+const PLAIN: &str =
+    r#"{"version":1,"packages":{"a":{"files":["/opt/x"],"folders":[]},"b":{"files":["/opt/x"],"folders":[]}}}"#;
+
+const ROWS: [Row; 6] = [
     (
         "package { 'ntp': } file { '/etc/ntp.conf': content => 'server a' }",
         SHARED,
@@ -34,6 +37,11 @@ const ROWS: [Row; 5] = [
     (
         "package { ['a', 'b']: }",
         TWO,
+        "resources 2\npruned 0\nnot deterministic\n",
+    ),
+    (
+        "package { ['a', 'b']: }",
+        PLAIN,
         "resources 2\npruned 0\nnot deterministic\n",
     ),
     (
@@ -83,13 +91,31 @@ pub fn replays<'x>(
     Ok(())
 }
 
+/// Whether two texts of orders differ at two places, and these are neighbours.
+fn are_exchanged(left: &str, right: &str) -> bool {
+    let mut places = 0u32;
+    let mut pairs = 0u32;
+    let mut is_behind = false;
+    for (a, b) in left.split(',').zip(right.split(',')) {
+        let differs = a != b;
+        if differs {
+            places = places.saturating_add(1);
+        }
+        if differs && is_behind {
+            pairs = pairs.saturating_add(1);
+        }
+        is_behind = differs;
+    }
+    places == 2 && pairs == 1
+}
+
 /// What is told of a manifest beside its listing.
 fn told_of(alloc: Global, row: &Row, words: &[&str]) -> Result<Told, Fail> {
     let over: [(&str, &[u8]); 2] = [("site.pp", row.0.as_bytes()), ("listing", row.1.as_bytes())];
     run_over(alloc, words, &over)
 }
 
-/// Both outcomes that are told differ, and are those of the orders on the tree.
+/// Both outcomes that are told differ, and are those of the orders on the tree; and the orders differ by one exchange.
 fn differs(alloc: Global, rt: &impl Abort, row: &Row, words: &[&str]) -> Result<(), Fail> {
     let told = told_of(alloc, row, words)?;
     assert_eq!(rt; told.status, 1, "{}", row.0);
@@ -100,6 +126,8 @@ fn differs(alloc: Global, rt: &impl Abort, row: &Row, words: &[&str]) -> Result<
     let (right, rest) = behind(rest, "order ");
     let (second, rest) = behind(rest, "outcome ");
     assert_eq!(rt; rest, "", "{}", row.0);
+    assert_eq!(rt; told.err.as_str(), "", "{}", row.0);
+    assert!(rt; are_exchanged(left, right), "{}", row.0);
     assert!(rt; first != second, "{}", row.0);
     replays(alloc, rt, row.0, row.1, tree, left, first)?;
     replays(alloc, rt, row.0, row.1, tree, right, second)

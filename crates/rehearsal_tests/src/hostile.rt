@@ -129,9 +129,6 @@ fn counts_that_are_only_stated(rt: HostRuntime) -> Result<(), Fail> {
     Ok(())
 }
 
-/// The names of the files of a run over a tree, in the order in which they are read.
-const FILES: [&str; 5] = ["facts", "listing", "site.pp", "tree", "order"];
-
 const REPLAY: [&str; 11] = [
     "--ask",
     "replay",
@@ -146,16 +143,58 @@ const REPLAY: [&str; 11] = [
     "site.pp",
 ];
 
-/// The numbers of the calls of which one fails.
-const CALLS: [&[u64]; 5] = [&[1], &[2], &[3], &[4], &[5]];
+const WITH_DATA: [&str; 13] = [
+    "--ask",
+    "replay",
+    "--data",
+    "data",
+    "--facts",
+    "facts",
+    "--packages",
+    "listing",
+    "--tree",
+    "tree",
+    "--order",
+    "order",
+    "site.pp",
+];
+
+/// The number of the call that fails, and the name of the file that it reads.
+type Read = (&'static [u64], &'static str);
+
+const READS: [Read; 5] = [
+    (&[1], "facts"),
+    (&[2], "listing"),
+    (&[3], "site.pp"),
+    (&[4], "tree"),
+    (&[5], "order"),
+];
+
+const READS_WITH_DATA: [Read; 6] = [
+    (&[1], "facts"),
+    (&[2], "listing"),
+    (&[3], "data"),
+    (&[4], "site.pp"),
+    (&[5], "tree"),
+    (&[6], "order"),
+];
+
+/// The run ends at the read that fails, and tells of that file.
+fn ends_at(alloc: Global, rt: &impl Abort, words: &[&str], read: &Read) -> Result<(), Fail> {
+    let failing: Failing = (read.0, &[], &[]);
+    let told = run_files_failing(alloc, words, "", &failing)?;
+    let line = format!(in alloc; "read fault: {}\n", read.1)?;
+    compare(rt, &told, 6, "", line.as_str(), read.1);
+    Ok(())
+}
 
 #[test]
 fn reads_that_fail(rt: HostRuntime) -> Result<(), Fail> {
-    for k in 0..5 {
-        let failing: Failing = (CALLS[k], &[], &[]);
-        let told = run_files_failing(rt.alloc(), &REPLAY, "", &failing)?;
-        let line = format!(in rt.alloc(); "read fault: {}\n", FILES[k])?;
-        compare(&rt, &told, 6, "", line.as_str(), FILES[k]);
+    for read in READS {
+        ends_at(rt.alloc(), &rt, &REPLAY, &read)?;
+    }
+    for read in READS_WITH_DATA {
+        ends_at(rt.alloc(), &rt, &WITH_DATA, &read)?;
     }
     Ok(())
 }
@@ -203,11 +242,13 @@ fn writes_that_fail(rt: HostRuntime) -> Result<(), Fail> {
 fn reports_that_are_cut_off(rt: HostRuntime) -> Result<(), Fail> {
     let manifest = "package { 'ntp': } file { '/etc/ntp.conf': content => 'server a' }";
     let words = ["--packages", "listing", "site.pp"];
-    let told = run_files_failing(rt.alloc(), &words, manifest, &(&[], &[1], &[]))?;
-    assert_eq!(rt; told.status, 7);
-    assert!(rt; told.out.as_str().starts_with(HALF));
-    assert_eq!(rt; told.err.as_str(), "write fault\n");
-    let told = run_files_failing(rt.alloc(), &words, manifest, &(&[], &[2], &[]))?;
-    assert_eq!(rt; told.status, 1);
+    let cut = run_files_failing(rt.alloc(), &words, manifest, &(&[], &[1], &[]))?;
+    assert_eq!(rt; cut.status, 7);
+    assert!(rt; cut.out.as_str().starts_with(HALF));
+    assert_eq!(rt; cut.err.as_str(), "write fault\n");
+    let whole = run_files_failing(rt.alloc(), &words, manifest, &(&[], &[2], &[]))?;
+    assert_eq!(rt; whole.status, 1);
+    assert_eq!(rt; whole.err.as_str(), "");
+    assert!(rt; whole.out.as_str().starts_with(cut.out.as_str()));
     Ok(())
 }

@@ -6,6 +6,8 @@ mod asked;
 #[cfg(test)]
 mod check;
 #[cfg(test)]
+mod class_data;
+#[cfg(test)]
 mod common;
 #[cfg(test)]
 mod differences;
@@ -19,6 +21,8 @@ mod migrate;
 mod proofs;
 #[cfg(test)]
 mod second_runs;
+#[cfg(test)]
+mod sizes;
 #[cfg(test)]
 mod verify;
 #[cfg(test)]

@@ -5,10 +5,14 @@ use std::test::Fail;
 
 #[test]
 fn listings_in_version_two(rt: HostRuntime) -> Result<(), Fail> {
-    let rows: [(&str, &str); 4] = [
+    let rows: [(&str, &str); 5] = [
         (
             r#"{"version":1,"packages":{}}"#,
             "{\"packages\":{},\"version\":2}\n",
+        ),
+        (
+            r#"{"version":1,"packages":{"ntp":{"files":["/etc/ntp.conf"],"folders":[]}}}"#,
+            "{\"packages\":{\"ntp\":{\"files\":[[\"/etc/ntp.conf\",null]],\"folders\":[]}},\"version\":2}\n",
         ),
         (
             r#"{"version":1,"packages":{"ntp":{"files":["/etc//ntp.conf"],"folders":["/etc/ntp/"]}}}"#,

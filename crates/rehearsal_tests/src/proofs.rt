@@ -47,6 +47,13 @@ fn variables(line: &str) -> Option<u64> {
     count.parse::<u64>().ok()
 }
 
+/// So many proofs are told of, on the first line.
+fn has_proofs(rt: &impl Abort, text: &str, proofs: u32) {
+    let (first, _) = text.split_once('\n').unwrap_or((text, ""));
+    let count = first.strip_prefix("proofs ").unwrap_or("?");
+    assert_eq!(rt; count.parse::<u32>().ok(), Some(proofs), "{first}");
+}
+
 /// Each formula has more variables than this.
 fn has_variables(rt: &impl Abort, text: &str, least: u64) {
     for line in text.split('\n') {
@@ -65,6 +72,8 @@ fn is_verified(alloc: Global, rt: &impl Abort, row: &Row) -> Result<(), Fail> {
     let (words, manifest, status, proofs, least) = *row;
     let told = run(alloc, words, manifest.as_bytes())?;
     assert_eq!(rt; told.status, status, "{manifest}");
+    assert_eq!(rt; told.err.as_str(), "", "{manifest}");
+    has_proofs(rt, told.out.as_str(), proofs);
     has_variables(rt, told.out.as_str(), least);
     let checked = verified(alloc, told.out.as_str())?;
     let line = format!(in alloc; "verified {proofs}\n")?;

@@ -45,7 +45,7 @@ const TWO: &str = "resources 2\npruned 2\ndeterministic\nidempotent\nsucceeds fr
 
 #[test]
 fn orders_that_do_not_matter(rt: HostRuntime) -> Result<(), Fail> {
-    let rows: [(&str, &str); 7] = [
+    let rows: [(&str, &str); 8] = [
         (
             "$x = 010",
             "resources 0\npruned 0\ndeterministic\nidempotent\nsucceeds from some tree\n",
@@ -74,6 +74,10 @@ fn orders_that_do_not_matter(rt: HostRuntime) -> Result<(), Fail> {
             "file { '/a': ensure => file } file { '/a/b': ensure => file }",
             "resources 2\npruned 2\ndeterministic\nidempotent\nfails from every tree\n",
         ),
+        (
+            "file { '/a': content => 'x' } file { '/a/b': content => 'y' }",
+            "resources 2\npruned 2\ndeterministic\nidempotent\nfails from every tree\n",
+        ),
     ];
     for (manifest, report) in rows {
         let told = told_of(rt.alloc(), manifest.as_bytes())?;
@@ -84,8 +88,9 @@ fn orders_that_do_not_matter(rt: HostRuntime) -> Result<(), Fail> {
 
 #[test]
 fn manifests_that_are_refused(rt: HostRuntime) -> Result<(), Fail> {
-    let rows: [(&str, &str); 19] = [
+    let rows: [(&str, &str); 22] = [
         ("package { 'ntp': }", "refused 54 at 10: Package[ntp]\n"),
+        ("package { 'x': }", "refused 54 at 10: Package[x]\n"),
         ("$x = 1.5", "refused 14 at 5: 1.5\n"),
         ("$x = 09", "refused 11 at 5: lexical\n"),
         ("$x = a.b", "refused 14 at 6: .\n"),
@@ -94,6 +99,10 @@ fn manifests_that_are_refused(rt: HostRuntime) -> Result<(), Fail> {
         ("$a = 1 $a = 2", "refused 21 at 7: $a\n"),
         ("$x = 9223372036854775807 + 1", "refused 33 at 5: integer\n"),
         ("include z", "refused 22 at 0: z\n"),
+        (
+            "class c { file { '/c': } }\ninclude c\ninclude c\nclass { 'c': }",
+            "refused 24 at 55: Class[c]\n",
+        ),
         ("realize(File['/v'])", "refused 40 at 0: File[/v]\n"),
         (
             "file { '/a': content => 'x', require => File['/z'] }",
@@ -108,6 +117,7 @@ fn manifests_that_are_refused(rt: HostRuntime) -> Result<(), Fail> {
             "file { '/a': recurse => true }",
             "refused 51 at 7: recurse\n",
         ),
+        ("file { 'a': }", "refused 52 at 7: File[a]\n"),
         ("file { 'a': content => 'x' }", "refused 52 at 7: File[a]\n"),
         (
             "file { '/a/../b': content => '' }",
@@ -173,7 +183,7 @@ fn brackets_that_nest_too_deep(rt: HostRuntime) -> Result<(), Fail> {
 /// So many files, each at a path of its own.
 fn files_apart(alloc: Global, count: u32) -> Result<String, Fail> {
     let mut manifest = String::new(alloc);
-    for i in 0..count {
+    for i in 1..=count {
         let line = format!(in alloc; "file {{ '/f{i}': content => '{i}' }}\n")?;
         manifest.push_str(line.as_str())?;
     }
@@ -184,11 +194,8 @@ fn files_apart(alloc: Global, count: u32) -> Result<String, Fail> {
 fn many_files(rt: HostRuntime) -> Result<(), Fail> {
     let alloc = rt.alloc();
     let told = told_of(alloc, files_apart(alloc, 256)?.as_bytes())?;
-    assert_eq!(rt; told.status, 0);
-    assert_eq!(rt;
-        told.out.as_str(),
-        "resources 256\npruned 256\ndeterministic\nidempotent\nsucceeds from some tree\n"
-    );
+    let report = "resources 256\npruned 256\ndeterministic\nidempotent\nsucceeds from some tree\n";
+    compare(&rt, &told, 0, report, "", "many files");
     assert_eq!(rt;
         refusal_of(alloc, files_apart(alloc, 257)?.as_bytes())?.as_str(),
         "refused 32 at 0: resources\n"

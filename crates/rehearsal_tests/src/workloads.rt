@@ -90,5 +90,6 @@ fn one_conflict(rt: HostRuntime) -> Result<(), Fail> {
     } else {
         assert_eq!(rt; told.status, 0);
     }
+    assert_eq!(rt; told.err.as_str(), "");
     Ok(())
 }

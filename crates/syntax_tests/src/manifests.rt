@@ -3,11 +3,15 @@ use crate::answers::{are_printed, printed, printed_behind};
 use std::alloc::Global;
 use std::test::Fail;
 
-const MANIFESTS_HAVE_THEIR_ITEMS: [(&str, &str); 14] = [
+const MANIFESTS_HAVE_THEIR_ITEMS: [(&str, &str); 15] = [
     ("", ""),
     ("$a = 1 $b = 2", "$a = 1 $b = 2"),
     (
         r#"file{'/a':content=>"x${y}z",}"#,
+        r#"file { '/a' : content => "${ 'x' }${ $y }${ 'z' }" }"#,
+    ),
+    (
+        r#"file { '/a' : content => "${ 'x' }${ $y }${ 'z' }" }"#,
         r#"file { '/a' : content => "${ 'x' }${ $y }${ 'z' }" }"#,
     ),
     (

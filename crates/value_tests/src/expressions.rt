@@ -85,7 +85,8 @@ fn truths_are_asked_from_the_left(rt: HostRuntime) -> Result<(), Fail> {
 
 #[test]
 fn members_are_found(rt: HostRuntime) -> Result<(), Fail> {
-    let rows: [(&str, &str); 16] = [
+    let rows: [(&str, &str); 17] = [
+        ("$r = $z", "20 at 5: $z"),
         ("$r = [1, 2][-1]", "number 2"),
         ("$r = [1, 2][0]", "number 1"),
         ("$r = [1][5]", "undef "),

@@ -1,5 +1,7 @@
 //! Rows at the limits of one value: its size and its depth.
 use crate::answers::{FACTS, assigned, repeated};
+use pp_value::{Value, ValueFault, add, size};
+use rh_base::{Seq, Text};
 use std::alloc::Global;
 use std::test::Fail;
 
@@ -46,6 +48,33 @@ fn a_value_has_a_greatest_size(rt: HostRuntime) -> Result<(), Fail> {
             want,
             "{bytes} {text}"
         );
+    }
+    Ok(())
+}
+
+/// A list of one text of so many bytes.
+fn list_of(alloc: Global, bytes: usize) -> Result<Value, Fail> {
+    let text = repeated(alloc, "x", bytes)?;
+    let mut items = Seq::new(alloc);
+    items.push(Value::Str(Text::from_string(text)))?;
+    Ok(Value::List(items))
+}
+
+/// The size of such a list joined with itself.
+fn joined_size(alloc: Global, bytes: usize) -> Result<Option<u64>, Fail> {
+    let list = list_of(alloc, bytes)?;
+    let same = list_of(alloc, bytes)?;
+    match add(alloc, list, &same) {
+        Ok(both) => Ok(Some(size(&both))),
+        Err(ValueFault::Large) => Ok(None),
+        Err(_) => Err(Fail::from("a sum, or one that is too large")),
+    }
+}
+
+#[test]
+fn a_sum_has_a_greatest_size(rt: HostRuntime) -> Result<(), Fail> {
+    for (bytes, want) in [(131_070, Some(262_143)), (131_071, None)] {
+        assert_eq!(rt; joined_size(rt.alloc(), bytes)?, want, "{bytes}");
     }
     Ok(())
 }

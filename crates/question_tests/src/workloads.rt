@@ -1,0 +1,55 @@
+//! How heavy workloads are.
+
+use catalog::Catalog;
+use dep_graph::graph;
+use fs_lang::Program;
+use pkg_listing::listing_from_json;
+use pp_compile::compile;
+use pp_value::{Pairs, Value};
+use res_models::programs_of;
+use rh_base::Fault;
+use std::alloc::Global;
+use std::process::Abort;
+use std::test::Fail;
+use verdict::weight;
+use workload::workload;
+
+/// The catalog of a manifest that stands in no need of facts.
+fn catalog_of(rt: &impl Abort, alloc: Global, manifest: &[u8]) -> Result<Catalog, Fault> {
+    assert!(rt; manifest.len() < 1_000_000);
+    let facts = Value::Map(Pairs::new(alloc));
+    compile(alloc, manifest, &facts, "")
+}
+
+/// The programs of a catalog's graph, beside a listing.
+fn programs(
+    rt: &impl Abort,
+    alloc: Global,
+    catalog: &Catalog,
+    listing: &[u8],
+) -> Result<Vec<Program>, Fault> {
+    let listing = listing_from_json(alloc, listing)?;
+    let found = graph(alloc, catalog)?;
+    let plain = found.plain.as_slice();
+    let count = catalog.count();
+    assert!(rt; plain.iter().all(|i| *i < count));
+    programs_of(alloc, catalog, plain, &listing)
+}
+
+/// The weight of a workload's programs.
+fn weight_of(rt: &impl Abort, alloc: Global, n: u32) -> Result<u64, Fault> {
+    assert!(rt; 1 <= n && n <= 54);
+    let (manifest, listing) = workload(alloc, n)?;
+    let catalog = catalog_of(rt, alloc, &manifest)?;
+    let all = programs(rt, alloc, &catalog, &listing)?;
+    Ok(weight(alloc, all.as_slice())?)
+}
+
+#[test]
+fn weights_of_workloads(rt: HostRuntime) -> Result<(), Fail> {
+    let alloc = rt.alloc();
+    for (n, want) in [(40u32, 384_896u64), (54, 691_888)] {
+        assert_eq!(rt; weight_of(&rt, alloc, n).ok(), Some(want), "{n}");
+    }
+    Ok(())
+}

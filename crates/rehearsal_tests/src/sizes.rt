@@ -1,0 +1,157 @@
+//! Files at the limits of what is read, and graphs at the limits of what is asked about: how many paths, and which weight.
+
+use crate::common::{Told, compare, run_over};
+use std::alloc::Global;
+use std::process::Abort;
+use std::test::Fail;
+
+/// So many folders, as a listing names them.
+fn folders(alloc: Global, count: u32) -> Result<String, Fail> {
+    let mut list = String::from_str(alloc, "\"/d1\"")?;
+    for i in 2..=count {
+        let folder = format!(in alloc; ",\"/d{i}\"")?;
+        list.push_str(folder.as_str())?;
+    }
+    Ok(list)
+}
+
+/// So many packages that have the same folders, each behind a comma.
+fn packages(alloc: Global, count: u32, folders: &str) -> Result<String, Fail> {
+    let mut list = String::new(alloc);
+    for i in 1..=count {
+        let package = format!(in alloc; ",\"p{i}\":{{\"files\":[],\"folders\":[{folders}]}}")?;
+        list.push_str(package.as_str())?;
+    }
+    Ok(list)
+}
+
+/// A listing of so many packages with the same folders, and of one with none.
+fn listing(alloc: Global, count: u32, with: u32) -> Result<String, Fail> {
+    let folders = folders(alloc, with)?;
+    let packages = packages(alloc, count, folders.as_str())?;
+    Ok(format!(in alloc;
+        "{{\"version\":1,\"packages\":{{\"none\":{{\"files\":[],\"folders\":[]}}{}}}}}",
+        packages.as_str()
+    )?)
+}
+
+/// A manifest that declares so many packages.
+fn manifest(alloc: Global, count: u32) -> Result<String, Fail> {
+    let mut text = String::new(alloc);
+    for i in 1..=count {
+        let line = format!(in alloc; "package {{ 'p{i}': }}\n")?;
+        text.push_str(line.as_str())?;
+    }
+    Ok(text)
+}
+
+/// What is told of so many packages with so many folders.
+fn told_of(alloc: Global, count: u32, with: u32) -> Result<Told, Fail> {
+    let manifest = manifest(alloc, count)?;
+    let listing = listing(alloc, count, with)?;
+    let over: [(&str, &[u8]); 2] = [
+        ("site.pp", manifest.as_bytes()),
+        ("listing", listing.as_bytes()),
+    ];
+    run_over(alloc, &["--packages", "listing", "site.pp"], &over)
+}
+
+/// The folders, the two above the mark, and the mark of the package: 4,096 paths.
+#[test]
+fn a_graph_of_as_many_paths_as_may_be(rt: HostRuntime) -> Result<(), Fail> {
+    let report = "resources 1\npruned 1\ndeterministic\nidempotent\nsucceeds from some tree\n";
+    let told = told_of(rt.alloc(), 1, 4_093)?;
+    compare(&rt, &told, 0, report, "", "4,096 paths");
+    Ok(())
+}
+
+/// Each of the 50 packages asks for 69 folders and its mark, and makes them: 2 * 50 * 50 * (2 * 69 + 2).
+#[test]
+fn a_graph_as_heavy_as_may_be(rt: HostRuntime) -> Result<(), Fail> {
+    let report = "resources 50\npruned 50\ndeterministic\nidempotent\nsucceeds from some tree\n";
+    let told = told_of(rt.alloc(), 50, 67)?;
+    compare(&rt, &told, 0, report, "", "a weight of 700,000");
+    Ok(())
+}
+
+#[test]
+fn graphs_that_are_too_large(rt: HostRuntime) -> Result<(), Fail> {
+    let domain = "refused 70 at 0: domain\n";
+    let rows: [(u32, u32, &str); 3] = [
+        (1, 4_094, domain),
+        (50, 68, "refused 70 at 0: weight\n"),
+        // too many paths, and too heavy
+        (8, 4_094, domain),
+    ];
+    for (count, with, line) in rows {
+        let told = told_of(rt.alloc(), count, with)?;
+        compare(&rt, &told, 4, "", line, line);
+    }
+    Ok(())
+}
+
+/// The words, the greatest number of bytes of the file `long`, what is refused of so many blanks, and of one more.
+type Long = (&'static [&'static str], usize, &'static str, &'static str);
+
+const LONG: [Long; 6] = [
+    (
+        &["--facts", "long", "site.pp"],
+        262_144,
+        "refused 60 at 0: facts\n",
+        "refused 17 at 0: facts\n",
+    ),
+    (
+        &["--packages", "long", "site.pp"],
+        4_194_304,
+        "refused 61 at 0: packages\n",
+        "refused 17 at 0: packages\n",
+    ),
+    (
+        &["--data", "long", "site.pp"],
+        262_144,
+        "refused 64 at 0: data\n",
+        "refused 17 at 0: data\n",
+    ),
+    (
+        &["--ask", "replay", "--tree", "long", "site.pp"],
+        4_194_304,
+        "refused 62 at 0: tree\n",
+        "refused 17 at 0: tree\n",
+    ),
+    (
+        &["--ask", "replay", "--order", "long", "site.pp"],
+        1_048_576,
+        "refused 63 at 0: order\n",
+        "refused 17 at 0: order\n",
+    ),
+    (
+        &["--ask", "migrate", "long"],
+        4_194_304,
+        "refused 61 at 0: packages\n",
+        "refused 17 at 0: input\n",
+    ),
+];
+
+/// What is refused where the file `long` has so many blanks.
+fn is_refused(
+    alloc: Global,
+    rt: &impl Abort,
+    words: &[&str],
+    bytes: usize,
+    line: &str,
+) -> Result<(), Fail> {
+    let blanks = vec![in alloc; b' '; bytes]?;
+    let over: [(&str, &[u8]); 2] = [("site.pp", b""), ("long", &blanks)];
+    let told = run_over(alloc, words, &over)?;
+    compare(rt, &told, 4, "", line, line);
+    Ok(())
+}
+
+#[test]
+fn files_that_are_too_long(rt: HostRuntime) -> Result<(), Fail> {
+    for (words, most, within, longer) in LONG {
+        is_refused(rt.alloc(), &rt, words, most, within)?;
+        is_refused(rt.alloc(), &rt, words, most.saturating_add(1), longer)?;
+    }
+    Ok(())
+}
