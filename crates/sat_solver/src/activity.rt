@@ -18,6 +18,9 @@ const AGING: u64 = 64;
 /// The same where literals are to be tried first: with each of them the search turns to other variables.
 const FAST_AGING: u64 = 16;
 
+/// How many times as much the variables near a literal that is to be tried are raised.
+const FOCUS: u64 = 32;
+
 /// Past this bump all activities are divided.
 const GREATEST_BUMP: u64 = 1 << 50;
 
@@ -73,22 +76,52 @@ impl Activity {
         Ok(activity)
     }
 
-    /// The literal that is to be tried ahead of all others.
-    pub(crate) fn first(&self) -> Option<u32>
-        ensures { (w : ℕ) → result ≡ Some w → 0 < length self.now.firsts.items }
+    /// The literals that are to be tried ahead of all others, the last one first.
+    pub(crate) fn firsts(&self) -> &[u32]
+        ensures { result.now ≡ self.now.firsts.items }
     {
-        let long = self.firsts.len();
-        if long == 0 {
-            return None;
-        }
-        Some(self.firsts[long - 1])
+        &self.firsts
     }
 
-    /// That literal needn't be tried any more.
+    /// The last of them needn't be tried any more. Where another one is to be tried now, the search looks first at what is near it:
+    /// at the variables between it and the one before, which are those of its gates.
     pub(crate) fn drop_first(&mut self)
         ensures { 0 < length self.old.firsts.items → length self.new.firsts.items < length self.old.firsts.items }
     {
-        let _last = self.firsts.pop();
+        let Some(word) = self.firsts.pop() else {
+            return;
+        };
+        let long = self.firsts.len();
+        if long == 0 {
+            return;
+        }
+        let next = self.firsts[long - 1];
+        self.focus(word / 2, next / 2);
+    }
+
+    /// Raises the variables behind the first of these up to the second.
+    fn focus(&mut self, behind: u32, up_to: u32)
+        ensures { self.new.firsts ≡ self.old.firsts }
+    {
+        'focus: for var in behind..up_to {
+            self.raise_by(var, FOCUS);
+        }
+    }
+
+    /// Raises a variable by so many times what a conflict adds.
+    fn raise_by(&mut self, var: u32, times: u64)
+        ensures { self.new.firsts ≡ self.old.firsts }
+    {
+        let i = var as usize;
+        if i >= self.values.len() {
+            return;
+        }
+        self.values[i] = self.values[i].saturating_add(self.bump.saturating_mul(times));
+        let place = self.place(var);
+        if place == OUTSIDE {
+            return;
+        }
+        self.rise(place as usize, var);
     }
 
     /// The activity of a variable.
@@ -128,7 +161,8 @@ impl Activity {
 
     /// Writes down where a variable stands.
     fn set_place(&mut self, var: u32, place: u32)
-        ensures { self.new.heap ≡ self.old.heap }
+        ensures heap { self.new.heap ≡ self.old.heap }
+        ensures firsts { self.new.firsts ≡ self.old.firsts }
     {
         let i = var as usize;
         if i >= self.places.len() {
@@ -138,7 +172,8 @@ impl Activity {
     }
 
     fn put(&mut self, place: usize, var: u32)
-        ensures { length self.new.heap.items ≡ length self.old.heap.items }
+        ensures long { length self.new.heap.items ≡ length self.old.heap.items }
+        ensures firsts { self.new.firsts ≡ self.old.firsts }
     {
         if place >= self.heap.len() || place >= u32::MAX as usize {
             return;
@@ -159,7 +194,8 @@ impl Activity {
 
     /// Moves a variable up to where it belongs.
     fn rise(&mut self, from: usize, var: u32)
-        ensures { length self.new.heap.items ≡ length self.old.heap.items }
+        ensures long { length self.new.heap.items ≡ length self.old.heap.items }
+        ensures firsts { self.new.firsts ≡ self.old.firsts }
     {
         let mut place = from;
         let mine = self.value(var);
@@ -258,17 +294,7 @@ impl Activity {
     /// The variables of these literals took part in a conflict.
     pub(crate) fn raise(&mut self, words: &[u32]) {
         'raise: for word in words {
-            let var = *word / 2;
-            let i = var as usize;
-            if i >= self.values.len() {
-                continue;
-            }
-            self.values[i] = self.values[i].saturating_add(self.bump);
-            let place = self.place(var);
-            if place == OUTSIDE {
-                continue;
-            }
-            self.rise(place as usize, var);
+            self.raise_by(*word / 2, 1);
         }
         self.age();
     }

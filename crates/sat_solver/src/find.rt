@@ -190,30 +190,45 @@ fn free_word(trail: &Trail, vars: usize) -> Option<u32>
     None
 }
 
-/// The literal that is to be tried ahead of the others, where it is unassigned. One that is false ahead of all decisions gives
-/// way to the next.
+/// Literals to be tried ahead of the others that are false ahead of all decisions give way.
+fn drop_refuted(trail: &Trail, vars: usize, activity: &mut Activity)
+    requires vars { vars ≡ trail.now.vars }
+    requires small { vars ≤ 2 ^ 31 }
+{
+    if trail.level() > 0 {
+        return;
+    }
+    'refuted: while let Some(word) = activity.firsts().last() {
+        let word = *word;
+        let is_false = (word as usize) < 2 * vars && trail.is_false(word);
+        if !is_false {
+            return;
+        }
+        activity.drop_first();
+    }
+}
+
+/// The literal that is to be tried ahead of the others: of those that are unassigned the first.
 fn first_word(trail: &Trail, vars: usize, activity: &mut Activity) -> Option<u32>
     requires vars { vars ≡ trail.now.vars }
     requires small { vars ≤ 2 ^ 31 }
     ensures { (w : ℕ) → result ≡ Some w → (w < 2 * trail.now.vars) × (has trail.now.words w ≡ false) × (has trail.now.words (opposite w) ≡ false) }
 {
-    'first: while let Some(word) = activity.first() {
+    drop_refuted(trail, vars, activity);
+    'first: for word in activity.firsts().iter().rev() {
+        let word = *word;
         if word as usize >= 2 * vars {
-            activity.drop_first();
             continue;
         }
         let holds = trail.holds(word);
         if holds {
-            return None;
+            continue;
         }
         let is_false = trail.is_false(word);
-        if !is_false {
-            return Some(word);
+        if is_false {
+            continue;
         }
-        if trail.level() > 0 {
-            return None;
-        }
-        activity.drop_first();
+        return Some(word);
     }
     None
 }
