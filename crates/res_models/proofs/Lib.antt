@@ -1,5 +1,4 @@
 pub mod KeptLaws
 pub mod MarkLaws
 pub mod UnitLaws
-pub mod NameLaws
 pub mod ProgramLaws

@@ -10,13 +10,15 @@ ghost use Rattle.model_semantics.specs.Attributes.{is_digit};
 ghost use Rattle.model_semantics.specs.Rows.{group_row, user_row};
 ghost use Rattle.model_semantics.specs.Names.{Meets, names_nobody, group_in, groups_in, groups_of_gid, groups_of_groups, group_names, group_marks, is_true, truth_in, manages_home, home_with, home_of, is_reserved_home};
 ghost use Rattle.model_semantics.specs.Models.{group_model, user_present, user_at, user_model};
-ghost use Rattle.res_models.specs.Seen.{seen, AddsMarks};
+ghost use Rattle.model_names.specs.Seen.{seen};
+ghost use Rattle.res_models.specs.Seen.{AddsMarks};
 
-use crate::model::Model;
-use crate::names::{below, is_reserved, mark_named, name_of, named, spelled, top, unless_reserved};
 use catalog_semantics::Resource;
 use fs_lang::{Path, Program};
 use model_attributes::{is_digit, text_at, truth_of};
+use model_names::{
+    Model, below, is_reserved, mark_named, name_of, named, spelled, top, unless_reserved,
+};
 use model_semantics::{Ensure, ModelFault};
 use model_words::{
     choice, creation, drop_file, is_file, need, push, push_dir, push_dirs, push_mark, sequence,

@@ -8,12 +8,11 @@ ghost use Rattle.model_semantics.specs.Words.{drop_file};
 ghost use Rattle.model_semantics.specs.Names.{Meets};
 ghost use Rattle.model_semantics.specs.Models.{time_in, more_times, times_in, time_shown, time_line, cron_content, cron_user, entry_model, key_content, key_user};
 ghost use Rattle.pp_value.specs.Shown.{shown_int};
-ghost use Rattle.res_models.specs.Seen.{seen};
+ghost use Rattle.model_names.specs.Seen.{seen};
 
-use crate::model::Model;
-use crate::names::{mark_needed, mark_of_user, name_of, text_or};
 use catalog_semantics::Resource;
 use fs_lang::{Path, Program};
+use model_names::{Model, mark_needed, mark_of_user, name_of, text_or};
 use model_semantics::{Ensure, ModelFault};
 use model_words::{drop_file, need, push, push_dirs, put};
 use pp_value::{Pairs, Value};

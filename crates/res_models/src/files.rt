@@ -6,13 +6,12 @@ ghost use Rattle.model_semantics.specs.Rows.{file_row};
 ghost use Rattle.model_semantics.specs.Names.{Meets, is_reserved, unless_reserved};
 ghost use Rattle.model_semantics.specs.declared.states.FileState.TheVariants as file;
 ghost use Rattle.model_semantics.specs.Models.{model, source_state, filled, file_state, copies_reserved, file_model};
-ghost use Rattle.res_models.specs.Seen.{seen};
+ghost use Rattle.model_names.specs.Seen.{seen};
 
-use crate::model::Model;
-use crate::names::{is_reserved, spelled, text_or, unless_reserved};
 use catalog_semantics::Resource;
 use fs_lang::{Path, Program, Test};
 use model_attributes::{begins, text_at};
+use model_names::{Model, is_reserved, spelled, text_or, unless_reserved};
 use model_semantics::{Ensure, FileState, ModelFault};
 use model_words::{choice, copied, creation, dir, is_file, is_taken, linked, push, put, removal};
 use pp_value::Pairs;

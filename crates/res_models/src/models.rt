@@ -3,16 +3,16 @@
 ghost use Rattle.model_semantics.specs.declared.kinds.Kind.TheVariants as kind;
 ghost use Rattle.model_semantics.specs.Names.{Meets};
 ghost use Rattle.model_semantics.specs.Models.{model_at, model_of_kind, model_of};
-ghost use Rattle.res_models.specs.Seen.{seen};
+ghost use Rattle.model_names.specs.Seen.{seen};
 
 use crate::accounts::{group_model, user_model};
 use crate::entries::{cron_content, cron_user, entry_model, key_content, key_user};
 use crate::files::file_model;
-use crate::model::Model;
 use crate::packages::package_model;
 use crate::services::service_model;
 use catalog_semantics::Resource;
 use model_attributes::{attributes_fit, kind_of, states_of};
+use model_names::Model;
 use model_semantics::{Cause, Kind, ModelFault, States};
 use pkg_listing::Listing;
 use std::alloc::Global;

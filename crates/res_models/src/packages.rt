@@ -8,13 +8,12 @@ ghost use Rattle.model_semantics.specs.Words.{sequence, drop_file, sweep, deepes
 ghost use Rattle.model_semantics.specs.Rows.{content_of, installed_file, package_row};
 ghost use Rattle.model_semantics.specs.Names.{Meets};
 ghost use Rattle.model_semantics.specs.Models.{package_model};
-ghost use Rattle.res_models.specs.Seen.{seen};
+ghost use Rattle.model_names.specs.Seen.{seen};
 
 use crate::folders::push_folders;
-use crate::model::Model;
-use crate::names::{mark_named, name_of};
 use catalog_semantics::Resource;
 use fs_lang::{Path, Program};
+use model_names::{Model, mark_named, name_of};
 use model_semantics::{Cause, Ensure, ModelFault};
 use model_words::{
     choice, creation, drop_file, is_file, push, push_sweeps, put, removal, sequence,

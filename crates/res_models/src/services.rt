@@ -6,12 +6,11 @@ ghost use Rattle.model_semantics.specs.Words.{sequence, drop_file, mark};
 ghost use Rattle.model_semantics.specs.Rows.{is_installed, switched, run_part, enable_part, service_row};
 ghost use Rattle.model_semantics.specs.Names.{Meets, unit_name, units_at, units_of};
 ghost use Rattle.model_semantics.specs.Models.{service_model};
-ghost use Rattle.res_models.specs.Seen.{seen};
+ghost use Rattle.model_names.specs.Seen.{seen};
 
-use crate::model::Model;
-use crate::names::{below, mark_named, name_of, named, top};
 use catalog_semantics::Resource;
 use fs_lang::{Path, Program, Test};
+use model_names::{Model, below, mark_named, name_of, named, top};
 use model_semantics::{Ensure, ModelFault, States, Units};
 use model_words::{choice, drop_file, either, is_file, push, push_mark, sequence};
 use rh_base::{NoMemory, Seq, Text};

@@ -115,6 +115,7 @@ pub fn is_reserved(p: &Path) -> bool
     p.is_reserved()
 }
 
+/// Refuses what is reserved.
 pub fn unless_reserved(reserved: bool) -> Result<(), ModelFault>
     ensures { Meets (λ done. done) (unless_reserved reserved) result }
 {

@@ -1,8 +1,8 @@
 use Rattle.std.proofs.Common.{subst}
 use Rattle.fs_lang.specs.PathText.{IfBad}
 use Rattle.fs_lang.specs.Names.{IsName}
-use Rattle.res_models.proofs.NameLaws.{named_so, unnamed}
-use Rattle.res_models.proofs.names.named.Goals as goal
+use Rattle.model_names.proofs.NameLaws.{named_so, unnamed}
+use Rattle.model_names.proofs.names.named.Goals as goal
 
 pub returns-in-Ok : goal.returns-in-Ok
 returns-in-Ok c = named_so c.args.name.now c.in-Ok.s c.in-Ok.ensures.named c.in-Ok.ensures.found

@@ -1,8 +1,8 @@
 use Rattle.std.proofs.Common.{subst}
 use Rattle.fs_semantics.specs.FileTree.{Path}
 use Rattle.fs_lang.specs.PathText.{IsPathText, IfBad}
-use Rattle.res_models.proofs.NameLaws.{spelled_so, unspelled}
-use Rattle.res_models.proofs.names.spelled.Goals as goal
+use Rattle.model_names.proofs.NameLaws.{spelled_so, unspelled}
+use Rattle.model_names.proofs.names.spelled.Goals as goal
 
 pub returns-in-Ok : goal.returns-in-Ok
 returns-in-Ok c = spelled_so c.args.text.now c.in-Ok.path c.in-Ok.ensures.found
