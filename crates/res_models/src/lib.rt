@@ -3,7 +3,6 @@
 
 mod accounts;
 mod entries;
-mod files;
 mod folders;
 mod models;
 mod packages;

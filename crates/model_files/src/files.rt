@@ -141,6 +141,7 @@ fn one_step(alloc: Global, place: Path, step: Program) -> Result<Model, NoMemory
     Ok(Model { place, steps })
 }
 
+/// The model of a file, whose place is its path.
 pub fn file_model(alloc: Global, e: Ensure, r: &Resource) -> Result<Model, ModelFault>
     ensures { Meets seen (file_model e r.now) result }
 {
