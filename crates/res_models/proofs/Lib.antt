@@ -1,4 +1,3 @@
-pub mod KeptLaws
 pub mod MarkLaws
 pub mod UnitLaws
 pub mod ProgramLaws

@@ -3,9 +3,7 @@
 
 mod accounts;
 mod entries;
-mod folders;
 mod models;
-mod packages;
 mod plain;
 mod programs;
 mod services;

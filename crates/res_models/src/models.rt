@@ -7,12 +7,12 @@ ghost use Rattle.model_names.specs.Seen.{seen};
 
 use crate::accounts::{group_model, user_model};
 use crate::entries::{cron_content, cron_user, entry_model, key_content, key_user};
-use crate::packages::package_model;
 use crate::services::service_model;
 use catalog_semantics::Resource;
 use model_attributes::{attributes_fit, kind_of, states_of};
 use model_files::file_model;
 use model_names::Model;
+use model_packages::package_model;
 use model_semantics::{Cause, Kind, ModelFault, States};
 use pkg_listing::Listing;
 use std::alloc::Global;

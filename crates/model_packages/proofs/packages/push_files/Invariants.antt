@@ -1,7 +1,7 @@
 use Rattle.std.proofs.Common.{◌≡◌, ◌++◌, drop, map}
 use Rattle.fs_lang.specs.Meaning.{program_of}
 use Rattle.model_semantics.specs.Rows.{installed_file}
-use Rattle.res_models.proofs.packages.push_files.Given as goal
+use Rattle.model_packages.proofs.packages.push_files.Given as goal
 
 -- the steps so far, with those that are still to be added
 abbrev pub invariant-loop-file : goal.invariant-loop-file

@@ -2,7 +2,7 @@ use Rattle.std.proofs.Common.{◌≡◌, ◌++◌, drop, map}
 use Rattle.fs_lang.specs.Meaning.{program_of}
 use Rattle.model_semantics.specs.Words.{dir}
 use Rattle.model_semantics.specs.Rows.{folders_of}
-use Rattle.res_models.proofs.folders.push_folders.Given as goal
+use Rattle.model_packages.proofs.folders.push_folders.Given as goal
 
 -- the steps so far, with those that are still to be added
 abbrev pub invariant-loop-pair : goal.invariant-loop-pair

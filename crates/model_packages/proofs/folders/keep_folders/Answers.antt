@@ -1,8 +1,8 @@
 use Rattle.std.proofs.Common.{◌+◌, [], ◌∷◌, ◌++◌, drop, ap, sym, ◌∙◌}
 use Rattle.std.specs.List.{flat_map}
 use Rattle.model_semantics.specs.Words.{ancestors, kept}
-use Rattle.res_models.proofs.KeptLaws.{kept_first, files_from}
-use Rattle.res_models.proofs.folders.keep_folders.Goals as goal
+use Rattle.model_packages.proofs.KeptLaws.{kept_first, files_from}
+use Rattle.model_packages.proofs.folders.keep_folders.Goals as goal
 
 pub loop-d-preserved : goal.loop-d-preserved
 loop-d-preserved c =

@@ -1,6 +1,6 @@
 use Rattle.std.proofs.Common.{◌≡◌}
 use Rattle.model_semantics.specs.Words.{fronts, kept}
-use Rattle.res_models.proofs.folders.keep_above.Given as goal
+use Rattle.model_packages.proofs.folders.keep_above.Given as goal
 
 -- the fronts so far are kept
 abbrev pub invariant-loop-n : goal.invariant-loop-n

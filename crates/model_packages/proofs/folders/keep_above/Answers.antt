@@ -1,5 +1,5 @@
-use Rattle.res_models.proofs.KeptLaws.{next_front}
-use Rattle.res_models.proofs.folders.keep_above.Goals as goal
+use Rattle.model_packages.proofs.KeptLaws.{next_front}
+use Rattle.model_packages.proofs.folders.keep_above.Goals as goal
 
 pub loop-n-preserved : goal.loop-n-preserved
 loop-n-preserved c =

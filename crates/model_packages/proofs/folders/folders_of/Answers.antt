@@ -1,8 +1,8 @@
 use Rattle.std.proofs.Common.{[], ◌∷◌, ◌++◌, ap, ◌∙◌}
 use Rattle.std.specs.List.{flat_map}
 use Rattle.model_semantics.specs.Words.{ancestors, kept}
-use Rattle.res_models.proofs.KeptLaws.{kept_three}
-use Rattle.res_models.proofs.folders.folders_of.Goals as goal
+use Rattle.model_packages.proofs.KeptLaws.{kept_three}
+use Rattle.model_packages.proofs.folders.folders_of.Goals as goal
 
 pub returns : goal.returns
 returns c =

@@ -1,7 +1,7 @@
 use Rattle.std.proofs.Common.{◌≡◌, drop}
 use Rattle.std.specs.List.{flat_map}
 use Rattle.model_semantics.specs.Words.{ancestors, kept}
-use Rattle.res_models.proofs.folders.keep_above_files.Given as goal
+use Rattle.model_packages.proofs.folders.keep_above_files.Given as goal
 
 -- what is kept, with what is still to be kept
 abbrev pub invariant-loop-file : goal.invariant-loop-file

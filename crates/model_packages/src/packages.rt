@@ -142,6 +142,7 @@ fn package_row(
     }
 }
 
+/// The model of a package, whose place is the mark of its name.
 pub fn package_model(
     alloc: Global,
     e: Ensure,
