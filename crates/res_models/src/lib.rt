@@ -1,7 +1,6 @@
 //! The programs of resources.
 #![tactic(auto)]
 
-mod accounts;
 mod entries;
 mod models;
 mod plain;

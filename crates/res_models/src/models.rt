@@ -5,10 +5,10 @@ ghost use Rattle.model_semantics.specs.Names.{Meets};
 ghost use Rattle.model_semantics.specs.Models.{model_at, model_of_kind, model_of};
 ghost use Rattle.model_names.specs.Seen.{seen};
 
-use crate::accounts::{group_model, user_model};
 use crate::entries::{cron_content, cron_user, entry_model, key_content, key_user};
 use crate::services::service_model;
 use catalog_semantics::Resource;
+use model_accounts::{group_model, user_model};
 use model_attributes::{attributes_fit, kind_of, states_of};
 use model_files::file_model;
 use model_names::Model;

@@ -1,7 +1,7 @@
 use Rattle.std.proofs.Common.{◌≡◌, ◌++◌, drop, map}
 use Rattle.fs_lang.specs.Meaning.{program_of}
 use Rattle.model_semantics.specs.Words.{need}
-use Rattle.res_models.proofs.accounts.push_needs.Given as goal
+use Rattle.model_accounts.proofs.accounts.push_needs.Given as goal
 
 -- the steps so far, with those that are still to be added
 abbrev pub invariant-loop-m : goal.invariant-loop-m

@@ -11,7 +11,7 @@ ghost use Rattle.model_semantics.specs.Rows.{group_row, user_row};
 ghost use Rattle.model_semantics.specs.Names.{Meets, names_nobody, group_in, groups_in, groups_of_gid, groups_of_groups, group_names, group_marks, is_true, truth_in, manages_home, home_with, home_of, is_reserved_home};
 ghost use Rattle.model_semantics.specs.Models.{group_model, user_present, user_at, user_model};
 ghost use Rattle.model_names.specs.Seen.{seen};
-ghost use Rattle.res_models.specs.Seen.{AddsMarks};
+ghost use Rattle.model_accounts.specs.Marks.{AddsMarks};
 
 use catalog_semantics::Resource;
 use fs_lang::{Path, Program};
@@ -205,6 +205,7 @@ fn group_row(alloc: Global, m: &Path, e: Ensure) -> Result<Seq<Program>, NoMemor
     }
 }
 
+/// The model of a group, whose place is the mark of its name.
 pub fn group_model(alloc: Global, e: Ensure, r: &Resource) -> Result<Model, ModelFault>
     ensures { Meets seen (group_model e r.now) result }
 {
@@ -280,6 +281,7 @@ fn user_absent(alloc: Global, place: Path, r: &Resource) -> Result<Model, ModelF
     Ok(Model { place, steps })
 }
 
+/// The model of a user, whose place is the mark of its name.
 pub fn user_model(alloc: Global, e: Ensure, r: &Resource) -> Result<Model, ModelFault>
     ensures { Meets seen (user_model e r.now) result }
 {

@@ -6,7 +6,7 @@ use Rattle.model_semantics.specs.declared.kinds.Cause.{Cause}
 use Rattle.model_semantics.specs.declared.kinds.ModelFault.{ModelFault}
 use Rattle.model_semantics.specs.declared.kinds.ModelFault.TheVariants as fault
 use Rattle.model_semantics.specs.Names.{◌>>=◌, Meets, mark_named, group_marks}
-use Rattle.res_models.specs.Seen.{AddsMarks}
+use Rattle.model_accounts.specs.Marks.{AddsMarks}
 
 -- marks behind others
 abbrev pub behind : List Path → Result (List Path) Cause → Result (List Path) Cause
