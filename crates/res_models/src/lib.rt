@@ -5,7 +5,6 @@ mod entries;
 mod models;
 mod plain;
 mod programs;
-mod services;
 
 pub use plain::put;
 pub use programs::{program_of, programs_of};

@@ -6,7 +6,6 @@ ghost use Rattle.model_semantics.specs.Models.{model_at, model_of_kind, model_of
 ghost use Rattle.model_names.specs.Seen.{seen};
 
 use crate::entries::{cron_content, cron_user, entry_model, key_content, key_user};
-use crate::services::service_model;
 use catalog_semantics::Resource;
 use model_accounts::{group_model, user_model};
 use model_attributes::{attributes_fit, kind_of, states_of};
@@ -14,6 +13,7 @@ use model_files::file_model;
 use model_names::Model;
 use model_packages::package_model;
 use model_semantics::{Cause, Kind, ModelFault, States};
+use model_services::service_model;
 use pkg_listing::Listing;
 use std::alloc::Global;
 

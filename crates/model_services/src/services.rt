@@ -153,6 +153,7 @@ fn service_row(
     Ok(steps)
 }
 
+/// The model of a service, whose place is the mark that it runs.
 pub fn service_model(alloc: Global, s: States, r: &Resource) -> Result<Model, ModelFault>
     ensures { Meets seen (service_model s r.now) result }
 {
