@@ -1,7 +1,6 @@
 //! The programs of resources.
 #![tactic(auto)]
 
-mod entries;
 mod models;
 mod plain;
 mod programs;

@@ -1,6 +1,6 @@
 use Rattle.std.proofs.Common.{◌≡◌, ◌++◌, drop}
 use Rattle.model_semantics.specs.Models.{more_times}
-use Rattle.res_models.proofs.entries.push_more.Given as goal
+use Rattle.model_entries.proofs.entries.push_more.Given as goal
 
 -- the text so far, with what is still to be added
 abbrev pub invariant-loop-item : goal.invariant-loop-item

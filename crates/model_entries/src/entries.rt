@@ -1,6 +1,6 @@
 //! Cron jobs and keys of ssh.
 
-ghost use Rattle.std.specs.Prelude.{◌≡◌, ◌++◌, ◌∷◌, [], map, IfOk, OnOk, option_map};
+ghost use Rattle.std.specs.Prelude.{◌≡◌, ◌++◌, ◌∷◌, [], codes, map, IfOk, OnOk, option_map};
 ghost use Rattle.fs_lang.specs.Meaning.{program_of};
 ghost use Rattle.model_semantics.specs.declared.states.Ensure.TheVariants as ensure;
 ghost use Rattle.model_semantics.specs.Rows.{user_need, entry_row};
@@ -76,7 +76,7 @@ fn push_line(alloc: Global, attrs: &Pairs, name: &str, into: &mut Text) -> Resul
 }
 
 /// What stands for a cron job: the command, the times and the special one.
-pub fn cron_content(alloc: Global, attrs: &Pairs) -> Result<Text, NoMemory>
+fn cron_content(alloc: Global, attrs: &Pairs) -> Result<Text, NoMemory>
     ensures { IfOk result (λ t. t ≡ cron_content attrs.now) }
 {
     let mut text = Text::new(alloc);
@@ -93,7 +93,7 @@ pub fn cron_content(alloc: Global, attrs: &Pairs) -> Result<Text, NoMemory>
 }
 
 /// What stands for a key: its type and itself.
-pub fn key_content(alloc: Global, attrs: &Pairs) -> Result<Text, NoMemory>
+fn key_content(alloc: Global, attrs: &Pairs) -> Result<Text, NoMemory>
     ensures { IfOk result (λ t. t ≡ key_content attrs.now) }
 {
     let mut text = Text::new(alloc);
@@ -104,13 +104,13 @@ pub fn key_content(alloc: Global, attrs: &Pairs) -> Result<Text, NoMemory>
     Ok(text)
 }
 
-pub fn cron_user(r: &Resource) -> &str
+fn cron_user(r: &Resource) -> &str
     ensures { result.now ≡ cron_user r.now }
 {
     text_or(&r.attrs, "user", "root")
 }
 
-pub fn key_user(r: &Resource) -> &str
+fn key_user(r: &Resource) -> &str
     ensures { result.now ≡ key_user r.now }
 {
     text_or(&r.attrs, "user", "")
@@ -173,7 +173,7 @@ fn entry_row(
 }
 
 /// The model of an entry of a user, which is kept under this word.
-pub fn entry_model(
+fn entry_model(
     alloc: Global,
     word: &str,
     user: &str,
@@ -187,4 +187,20 @@ pub fn entry_model(
     let needed = mark_needed(alloc, user)?;
     let steps = entry_row(alloc, &needed, &place, content.as_str(), e)?;
     Ok(Model { place, steps })
+}
+
+/// The model of a cron job, whose place is the mark of its name among those of its user.
+pub fn cron_model(alloc: Global, e: Ensure, r: &Resource) -> Result<Model, ModelFault>
+    ensures { Meets seen (entry_model (codes "cron") (cron_user r.now) (cron_content r.now.attrs) e r.now) result }
+{
+    let content = cron_content(alloc, &r.attrs)?;
+    entry_model(alloc, "cron", cron_user(r), &content, e, r)
+}
+
+/// The model of a key of ssh, whose place is the mark of its name among those of its user.
+pub fn key_model(alloc: Global, e: Ensure, r: &Resource) -> Result<Model, ModelFault>
+    ensures { Meets seen (entry_model (codes "ssh") (key_user r.now) (key_content r.now.attrs) e r.now) result }
+{
+    let content = key_content(alloc, &r.attrs)?;
+    entry_model(alloc, "ssh", key_user(r), &content, e, r)
 }
