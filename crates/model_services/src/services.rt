@@ -1,10 +1,10 @@
 //! Services.
 
-ghost use Rattle.std.specs.Prelude.{◌≡◌, ◌++◌, ◌∷◌, [], true, map, IfOk, OnOk};
+ghost use Rattle.std.specs.Prelude.{◌≡◌, ◌++◌, ◌∷◌, [], true, codes, map, IfOk, OnOk};
 ghost use Rattle.fs_lang.specs.Meaning.{test_of, program_of};
 ghost use Rattle.model_semantics.specs.Words.{sequence, drop_file, mark};
 ghost use Rattle.model_semantics.specs.Rows.{is_installed, switched, run_part, enable_part, service_row};
-ghost use Rattle.model_semantics.specs.Names.{Meets, unit_name, units_at, units_of};
+ghost use Rattle.model_semantics.specs.Names.{Meets, unit_name, unit_file, units_at, units_of};
 ghost use Rattle.model_semantics.specs.Models.{service_model};
 ghost use Rattle.model_names.specs.Seen.{seen};
 
@@ -26,7 +26,7 @@ fn unit_name(name: &str) -> &str
     }
 }
 
-/// A path of three or four segments.
+/// A path of three segments.
 fn three(alloc: Global, a: &str, b: &str, c: &str) -> Result<Path, NoMemory>
     ensures { IfOk result (λ p. p ≡ a.now ∷ b.now ∷ c.now ∷ []) }
 {
@@ -35,19 +35,39 @@ fn three(alloc: Global, a: &str, b: &str, c: &str) -> Result<Path, NoMemory>
     below(alloc, &second, c)
 }
 
-fn units_at(alloc: Global, s: &str) -> Result<Units, NoMemory>
-    ensures { IfOk result (λ u. u ≡ units_at s.now) }
+/// A path of four segments.
+fn four(alloc: Global, a: &str, b: &str, c: &str, d: &str) -> Result<Path, NoMemory>
+    ensures { IfOk result (λ p. p ≡ a.now ∷ b.now ∷ c.now ∷ d.now ∷ []) }
+{
+    let above = three(alloc, a, b, c)?;
+    below(alloc, &above, d)
+}
+
+/// The name of the file of a service.
+fn unit_file(alloc: Global, s: &str) -> Result<Text, NoMemory>
+    ensures { IfOk result (λ t. t ≡ unit_file s.now) }
 {
     let mut file = Text::new(alloc);
     file.push(s)?;
     file.push(".service")?;
-    let etc = three(alloc, "etc", "systemd", "system")?;
-    let own = below(alloc, &etc, file.as_str())?;
-    let above = three(alloc, "lib", "systemd", "system")?;
-    let lib = below(alloc, &above, file.as_str())?;
-    let part = three(alloc, "usr", "lib", "systemd")?;
-    let above = below(alloc, &part, "system")?;
-    let usr = below(alloc, &above, file.as_str())?;
+    Ok(file)
+}
+
+/// The file of this name among those of the system under `/usr`.
+fn usr_unit(alloc: Global, file: &str) -> Result<Path, NoMemory>
+    ensures { IfOk result (λ p. p ≡ codes "usr" ∷ codes "lib" ∷ codes "systemd" ∷ codes "system" ∷ file.now ∷ []) }
+{
+    let above = four(alloc, "usr", "lib", "systemd", "system")?;
+    below(alloc, &above, file)
+}
+
+fn units_at(alloc: Global, s: &str) -> Result<Units, NoMemory>
+    ensures { IfOk result (λ u. u ≡ units_at s.now) }
+{
+    let file = unit_file(alloc, s)?;
+    let own = four(alloc, "etc", "systemd", "system", file.as_str())?;
+    let lib = four(alloc, "lib", "systemd", "system", file.as_str())?;
+    let usr = usr_unit(alloc, file.as_str())?;
     let init = three(alloc, "etc", "init.d", s)?;
     Ok(Units {
         own,
