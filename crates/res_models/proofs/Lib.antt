@@ -1,5 +1,1 @@
-pub mod KeptLaws
-pub mod MarkLaws
-pub mod UnitLaws
-pub mod NameLaws
 pub mod ProgramLaws

@@ -1,5 +1,5 @@
--- Models as the definitions see them.
-use Rattle.std.specs.Prelude.{◌≡◌, ℕ, List, [], ◌∷◌, ◌++◌, map, slice_get, Option, Some, None, Result, Ok, Err}
+-- The programs of several resources.
+use Rattle.std.specs.Prelude.{◌≡◌, ℕ, List, [], ◌∷◌, ◌++◌, slice_get, Option, Some, None, Result, Ok, Err}
 use Rattle.rh_base.specs.Refused.{IfRefused}
 use Rattle.rh_base.specs.declared.fault.Fault.{Fault}
 use Rattle.rh_base.specs.declared.fault.Fault.TheVariants as faults
@@ -9,21 +9,10 @@ use Rattle.pp_eval.specs.Verdicts.{Refuses}
 use Rattle.catalog_semantics.specs.declared.catalog.Resource.{Resource}
 use Rattle.pkg_listing.specs.Packages.{Packages}
 use Rattle.model_semantics.specs.Words.{sequence}
-use Rattle.fs_lang.specs.Meaning.{program_of}
 use Rattle.model_semantics.specs.declared.kinds.ModelFault.{ModelFault}
 use Rattle.model_semantics.specs.declared.kinds.ModelFault.TheVariants as fault
 use Rattle.model_semantics.specs.Models as models
-use Rattle.model_semantics.specs.Names.{◌>>=◌, group_marks}
-use Rattle.res_models.specs.declared.model.Model.{Model}
-
-abbrev pub seen : Model → models.Model
-seen m = models.model m.place (map program_of m.steps)
-
--- The marks of some names are added, or the cause is told.
-abbrev pub AddsMarks : List (List ℕ) → Result (Unit {0}) ModelFault → List Path → List Path → Type 0
-AddsMarks names (Ok done) old new = (marks : List Path) × (group_marks names ≡ Ok marks) × (new ≡ old ++ marks)
-AddsMarks names (Err (fault.Because c)) old new = group_marks names ≡ Err c
-AddsMarks names (Err (fault.Memory m)) old new = Unit {0}
+use Rattle.model_semantics.specs.Names.{◌>>=◌}
 
 abbrev pub resource_at : Option Resource → List Resource
 resource_at None = []

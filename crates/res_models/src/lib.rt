@@ -1,18 +1,9 @@
 //! The programs of resources.
 #![tactic(auto)]
 
-mod accounts;
-mod entries;
-mod files;
-mod folders;
-mod model;
 mod models;
-mod names;
-mod packages;
 mod plain;
 mod programs;
-mod services;
 
-pub use model::Model;
 pub use plain::put;
 pub use programs::{program_of, programs_of};

@@ -1,40 +1,20 @@
 //! The models of all types.
 
-ghost use Rattle.model_semantics.specs.declared.kinds.Kind.TheVariants as kind;
 ghost use Rattle.model_semantics.specs.Names.{Meets};
 ghost use Rattle.model_semantics.specs.Models.{model_at, model_of_kind, model_of};
-ghost use Rattle.res_models.specs.Seen.{seen};
+ghost use Rattle.model_names.specs.Seen.{seen};
 
-use crate::accounts::{group_model, user_model};
-use crate::entries::{cron_content, cron_user, entry_model, key_content, key_user};
-use crate::files::file_model;
-use crate::model::Model;
-use crate::packages::package_model;
-use crate::services::service_model;
 use catalog_semantics::Resource;
+use model_accounts::{group_model, user_model};
 use model_attributes::{attributes_fit, kind_of, states_of};
+use model_entries::{cron_model, key_model};
+use model_files::file_model;
+use model_names::Model;
+use model_packages::package_model;
 use model_semantics::{Cause, Kind, ModelFault, States};
+use model_services::service_model;
 use pkg_listing::Listing;
 use std::alloc::Global;
-
-fn cron_model(
-    alloc: Global,
-    s: States,
-    listing: &Listing,
-    r: &Resource,
-) -> Result<Model, ModelFault>
-    ensures { Meets seen (model_at kind.Cron s listing.now r.now) result }
-{
-    let content = cron_content(alloc, &r.attrs)?;
-    entry_model(alloc, "cron", cron_user(r), &content, s.ensure, r)
-}
-
-fn key_model(alloc: Global, s: States, listing: &Listing, r: &Resource) -> Result<Model, ModelFault>
-    ensures { Meets seen (model_at kind.Key s listing.now r.now) result }
-{
-    let content = key_content(alloc, &r.attrs)?;
-    entry_model(alloc, "ssh", key_user(r), &content, s.ensure, r)
-}
 
 fn model_at(
     alloc: Global,
@@ -51,8 +31,8 @@ fn model_at(
         Kind::User => user_model(alloc, s.ensure, r),
         Kind::Group => group_model(alloc, s.ensure, r),
         Kind::Service => service_model(alloc, s, r),
-        Kind::Cron => cron_model(alloc, s, listing, r),
-        Kind::Key => key_model(alloc, s, listing, r),
+        Kind::Cron => cron_model(alloc, s.ensure, r),
+        Kind::Key => key_model(alloc, s.ensure, r),
     }
 }
 

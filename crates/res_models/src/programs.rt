@@ -8,14 +8,15 @@ ghost use Rattle.pp_eval.specs.Verdicts.{AnswersBy, refusal};
 ghost use Rattle.fs_lang.specs.Meaning.{program_of as meaning};
 ghost use Rattle.model_semantics.specs.Names.{Meets};
 ghost use Rattle.model_semantics.specs.Models.{refusal_of, program, programs};
+ghost use Rattle.model_names.specs.Seen.{seen};
 ghost use Rattle.res_models.specs.Adding.{new_model};
-ghost use Rattle.res_models.specs.Seen.{seen, resources_at, IsFaultOf, AddsProgram};
+ghost use Rattle.res_models.specs.Seen.{resources_at, IsFaultOf, AddsProgram};
 
-use crate::model::Model;
 use crate::models::model_of;
 use catalog::Catalog;
 use catalog_semantics::Resource;
 use fs_lang::Program;
+use model_names::Model;
 use model_semantics::{Cause, ModelFault};
 use model_words::sequence;
 use pkg_listing::{Listing, PathSet};

@@ -2,7 +2,7 @@ use Rattle.std.proofs.Common.{◌++◌, ◌∷◌, [], ap, map, ◌∙◌}
 use Rattle.fs_lang.specs.Meaning.{program_of}
 use Rattle.model_words.proofs.StepLaws.{one_more}
 use Rattle.model_semantics.specs.Models.{or_refused}
-use Rattle.res_models.specs.Seen.{seen}
+use Rattle.model_names.specs.Seen.{seen}
 use Rattle.res_models.proofs.programs.push_program.Goals as goal
 
 pub returns-in-Ok-push : goal.returns-in-Ok-push

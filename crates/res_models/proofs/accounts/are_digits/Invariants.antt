@@ -1,7 +1,0 @@
-use Rattle.std.proofs.Common.{◌≡◌, drop}
-use Rattle.std.specs.List.{list_all}
-use Rattle.model_semantics.specs.Attributes.{is_digit}
-use Rattle.res_models.proofs.accounts.are_digits.Given as goal
-
-abbrev pub invariant-loop-b : goal.invariant-loop-b
-invariant-loop-b l = list_all is_digit (drop l.b-index l.text) ≡ list_all is_digit l.text

@@ -1,5 +1,0 @@
-use Rattle.res_models.proofs.UnitLaws.{unstripped}
-use Rattle.res_models.proofs.services.unit_name.Goals as goal
-
-pub returns-in-None : goal.returns-in-None
-returns-in-None c = unstripped c.args.name.now c.in-None.ensures.cases
