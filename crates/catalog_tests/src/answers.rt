@@ -10,6 +10,7 @@ use pp_eval::facts_from_json;
 use pp_value::{Ref, Value, show, shown_ref};
 use rh_base::{Fault, Refusal};
 use std::alloc::Global;
+use std::process::Abort;
 use std::test::Fail;
 
 fn line_of(alloc: Global, refusal: &Refusal) -> Result<String, Fail> {
@@ -148,4 +149,13 @@ pub fn text_of(alloc: Global, text: &str) -> Result<String, Fail> {
         Ok(catalog) => Ok(catalog_text(alloc, &catalog)?.into_string()),
         Err(fault) => refused(alloc, &fault),
     }
+}
+
+/// Each text has the catalog beside it, or the refusal.
+pub fn are_compiled(rt: &impl Abort, alloc: Global, rows: &[(&str, &str)]) -> Result<(), Fail> {
+    for (text, want) in rows {
+        let found = compiled(alloc, text)?;
+        assert_eq!(rt; found.as_str(), *want, "{text}");
+    }
+    Ok(())
 }

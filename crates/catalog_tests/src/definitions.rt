@@ -1,5 +1,5 @@
 //! Rows of classes, defined types, nodes and class data.
-use crate::answers::{compiled, compiled_under};
+use crate::answers::{are_compiled, compiled, compiled_under};
 use std::test::Fail;
 
 #[test]
@@ -44,6 +44,32 @@ fn classes_run_once(rt: HostRuntime) -> Result<(), Fail> {
     Ok(())
 }
 
+/// Texts, references to classes, and lists of these.
+const NAMED: [(&str, &str); 8] = [
+    ("class c { } include Class['c']", "Class[c]; "),
+    ("class c { } include '::C'", "Class[c]; "),
+    ("class c { } include []", ""),
+    (
+        "class c { } class d { } include ['c', Class['d']]",
+        "Class[c]; Class[d]; ",
+    ),
+    (
+        "class c { } class d { } include c, ['d', 'c']",
+        "Class[c]; Class[d]; ",
+    ),
+    ("class c { } contain c", "Class[c]; "),
+    ("class c { } require c", "Class[c]; "),
+    (
+        "class a { $x = 'q' } class b inherits a { } include b file { '/f': content => $b::x }",
+        "Class[a]; Class[b]; File[/f] content=q; ",
+    ),
+];
+
+#[test]
+fn classes_are_named(rt: HostRuntime) -> Result<(), Fail> {
+    are_compiled(&rt, rt.alloc(), &NAMED)
+}
+
 #[test]
 fn nodes_have_their_block(rt: HostRuntime) -> Result<(), Fail> {
     let text =
@@ -59,6 +85,8 @@ fn nodes_have_their_block(rt: HostRuntime) -> Result<(), Fail> {
     }
     let none = compiled_under(rt.alloc(), "node 'a' { }", "{}", "b", "")?;
     assert_eq!(rt; none.as_str(), "31 at 0: b");
+    let twice = compiled_under(rt.alloc(), "node 'a' { } node 'a' { }", "{}", "b", "")?;
+    assert_eq!(rt; twice.as_str(), "24 at 13: a");
     Ok(())
 }
 

@@ -1,5 +1,5 @@
 //! Rows on the limits of values, resources and attributes.
-use crate::answers::compiled;
+use crate::answers::{compiled, compiled_under};
 use std::alloc::Global;
 use std::test::Fail;
 
@@ -58,5 +58,117 @@ fn attributes_that_are_too_large(rt: HostRuntime) -> Result<(), Fail> {
         let want = format!(in alloc; "32 at {}: attributes", values.len() + "@file { ".len())?;
         assert_eq!(rt; told.as_str() == want.as_str(), large, "{count}");
     }
+    Ok(())
+}
+
+/// What is told of so many titles between two pieces.
+fn told_of_titles(alloc: Global, front: &str, count: u32, behind: &str) -> Result<String, Fail> {
+    let list = titles(alloc, count)?;
+    let manifest = format!(in alloc; "{front}{list}{behind}")?;
+    compiled(alloc, manifest.as_str())
+}
+
+/// A default counts as often as it fills a resource, and is refused there.
+#[test]
+fn defaults_that_are_too_large(rt: HostRuntime) -> Result<(), Fail> {
+    let values = doubled(rt.alloc(), 17)?;
+    let front = format!(in rt.alloc(); "{values}File {{ content => $a17 }} @file {{ ")?;
+    let want = format!(in rt.alloc(); "32 at {}: attributes", front.len())?;
+    for (count, large) in [(127, false), (128, true)] {
+        let told = told_of_titles(rt.alloc(), front.as_str(), count, ": }")?;
+        assert_eq!(rt; told.as_str() == want.as_str(), large, "{count}");
+    }
+    Ok(())
+}
+
+/// So many classes or defined types, each made of the piece in front, the number of the one before it, and the piece behind.
+fn in_line(
+    alloc: Global,
+    first: &str,
+    pieces: (&str, &str, &str),
+    last: &str,
+) -> Result<String, Fail> {
+    let (front, middle, behind) = pieces;
+    let mut manifest = String::from_str(alloc, first)?;
+    for i in 1..100u32 {
+        let line = format!(in alloc; "{front}{}{middle}{i}{behind}", i + 1)?;
+        manifest.push_str(line.as_str())?;
+    }
+    manifest.push_str(last)?;
+    Ok(manifest)
+}
+
+#[test]
+fn parents_take_no_depth(rt: HostRuntime) -> Result<(), Fail> {
+    let line = ("class c", " inherits c", " { }\n");
+    let classes = in_line(rt.alloc(), "class c1 { }\n", line, "include c100")?;
+    let told = compiled(rt.alloc(), classes.as_str())?;
+    assert!(rt; told.as_str().starts_with("Class[c1]; Class[c2]; "));
+    Ok(())
+}
+
+#[test]
+fn defined_resources_take_no_depth(rt: HostRuntime) -> Result<(), Fail> {
+    let line = ("define d", "() { d", " { 'x': } }\n");
+    let types = in_line(rt.alloc(), "define d1() { }\n", line, "d100 { 'x': }")?;
+    let told = compiled(rt.alloc(), types.as_str())?;
+    assert!(rt; told.as_str().starts_with("D100[x]; D99[x]; "));
+    Ok(())
+}
+
+/// So many letters.
+fn letters(alloc: Global, count: u32) -> Result<String, Fail> {
+    let mut text = String::new(alloc);
+    for _ in 0..count {
+        text.push('x')?;
+    }
+    Ok(text)
+}
+
+#[test]
+fn class_data_that_are_too_large(rt: HostRuntime) -> Result<(), Fail> {
+    let alloc = rt.alloc();
+    let manifest = "class c($p) { } include c";
+    for (count, want) in [(262_143, "Class[c]; "), (262_144, "32 at 16: value")] {
+        let value = letters(alloc, count)?;
+        let levels = format!(in alloc; "{{\"levels\":[{{\"values\":{{\"c::p\":\"{value}\"}}}}]}}")?;
+        let told = compiled_under(alloc, manifest, "{}", "", levels.as_str())?;
+        assert_eq!(rt; told.as_str(), want, "{count}");
+    }
+    Ok(())
+}
+
+/// Lists of 1, 2, 4 and so on long numbers, each twice the one before it.
+fn numbers(alloc: Global, times: u32) -> Result<String, Fail> {
+    let mut manifest = String::from_str(alloc, "$a0 = [1000000000000000000]\n")?;
+    for i in 0..times {
+        let line = format!(in alloc; "$a{} = $a{i} + $a{i}\n", i + 1)?;
+        manifest.push_str(line.as_str())?;
+    }
+    Ok(manifest)
+}
+
+/// What is told of a statement behind other lines.
+fn told_behind(alloc: Global, lines: &str, statement: &str) -> Result<String, Fail> {
+    let manifest = format!(in alloc; "{lines}{statement}")?;
+    compiled(alloc, manifest.as_str())
+}
+
+/// Each argument that is shown has the limit of a value, but not all of them together.
+#[test]
+fn messages_have_no_limit(rt: HostRuntime) -> Result<(), Fail> {
+    let lines = numbers(rt.alloc(), 13)?;
+    let told = told_behind(rt.alloc(), lines.as_str(), "fail($a13, $a13)")?;
+    let want = format!(in rt.alloc(); "30 at {}: [1", lines.len())?;
+    assert!(rt; told.as_str().starts_with(want.as_str()));
+    Ok(())
+}
+
+#[test]
+fn arguments_that_are_too_large(rt: HostRuntime) -> Result<(), Fail> {
+    let lines = numbers(rt.alloc(), 14)?;
+    let told = told_behind(rt.alloc(), lines.as_str(), "fail('x', $a14)")?;
+    let want = format!(in rt.alloc(); "32 at {}: value", lines.len() + "fail('x', ".len())?;
+    assert_eq!(rt; told.as_str(), want.as_str());
     Ok(())
 }

@@ -4,7 +4,7 @@ use std::test::Fail;
 
 #[test]
 fn resources_have_their_attributes_and_defaults(rt: HostRuntime) -> Result<(), Fail> {
-    let rows: [(&str, &str); 9] = [
+    let rows: [(&str, &str); 12] = [
         ("", ""),
         (
             "file { '/etc/motd': content => 'hi' }",
@@ -23,6 +23,15 @@ fn resources_have_their_attributes_and_defaults(rt: HostRuntime) -> Result<(), F
             "File[/a] content=x; File[/b] content=x; ",
         ),
         ("file { '/a': content => undef }", "File[/a]; "),
+        ("file { []: mode => '1' }", ""),
+        (
+            "File { mode => undef } File { mode => '1' } file { '/a': }",
+            "File[/a] mode=1; ",
+        ),
+        (
+            "file { '/a': mode => undef } File { mode => '1' }",
+            "File[/a] mode=1; ",
+        ),
         (
             "$x = 'y' file { '/a': content => \"${x}z\" }",
             "File[/a] content=yz; ",

@@ -51,6 +51,8 @@ fn footprints_of_one_step(rt: HostRuntime) -> Result<(), Fail> {
         ("if dir? /: id, err", "R W F C"),
         ("if emptydir? /a: id, err", "R /a W F C /a"),
         ("if emptydir? /: id, err", "R W F C /"),
+        ("mkdir /", "R W / F C"),
+        ("dir /", "R W F / C"),
         ("if not file? /a: id, err", "R /a W F C"),
         ("if file? /b or link? /a: id, err", "R /a /b W F C"),
         ("mkdir /a", "R /a W /a F C"),

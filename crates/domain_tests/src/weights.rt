@@ -28,6 +28,7 @@ fn weights(rt: HostRuntime) -> Result<(), Fail> {
         ("mkdir /a; mkdir /b", 4),
         ("mkdir /a | mkdir /b", 8),
         ("if true: id, err", 0),
+        ("if false: id, err", 0),
         ("if file? /a: id, err", 2),
         ("if not none? /a: id, err", 2),
         ("if dir? /a and link? /b: id, err", 4),

@@ -63,7 +63,7 @@ const KEYS: &[(&str, &str)] = &[
         r#"[if file?("/.rehearsal/user/u") then id else err; if dir?("/.rehearsal") then id else mkdir("/.rehearsal"); if dir?("/.rehearsal/ssh") then id else mkdir("/.rehearsal/ssh"); if dir?("/.rehearsal/ssh/u") then id else mkdir("/.rehearsal/ssh/u"); if file?("/.rehearsal/ssh/u/k") then [rm("/.rehearsal/ssh/u/k"); creat("/.rehearsal/ssh/u/k","key:rsa A")] else creat("/.rehearsal/ssh/u/k","key:rsa A")]"#,
     ),
     (
-        r#"ssh_authorized_key|k|{"user":"root"}|{"options":1}"#,
+        r#"ssh_authorized_key|k|{"user":"root","ensure":"present"}|{"options":1}"#,
         r#"[id; if dir?("/.rehearsal") then id else mkdir("/.rehearsal"); if dir?("/.rehearsal/ssh") then id else mkdir("/.rehearsal/ssh"); if dir?("/.rehearsal/ssh/root") then id else mkdir("/.rehearsal/ssh/root"); if file?("/.rehearsal/ssh/root/k") then [rm("/.rehearsal/ssh/root/k"); creat("/.rehearsal/ssh/root/k","key: ")] else creat("/.rehearsal/ssh/root/k","key: ")]"#,
     ),
     (

@@ -108,6 +108,8 @@ const PROGRAMS: &[(&str, &str)] = &[
         r#"file|/a|{"recurse":"false"}|{"force":"false"}|{"owner":0}|{"group":"g"}"#,
         "id",
     ),
+    // whom it belongs to isn't in its program
+    (r#"file|/a|{"owner":"","group":"a\u0000"}"#, "id"),
     (
         r#"file|/a "b"|{"ensure":"directory"}"#,
         r#"if dir?("/a \"b\"") then id else mkdir("/a \"b\"")"#,
@@ -140,6 +142,10 @@ const ATTRIBUTES: &[(&str, &str)] = &[
     (
         r#"file|/a|{"ensure":"directory","source":"/b"}|{"content":"x"}"#,
         "51 at 7: source",
+    ),
+    (
+        r#"file|/a|{"ensure":"directory","content":"x"}|{"source":"/b"}"#,
+        "51 at 7: content",
     ),
     (
         r#"file|/a|{"ensure":"link","target":"/b"}|{"content":"x"}"#,

@@ -76,6 +76,9 @@ const LENGTHS: &[(&str, &str, usize, bool)] = &[
         25,
         false,
     ),
+    // as the text is read, with slashes that don't count
+    ("file", "/", 1_024, true),
+    ("file", "/", 1_025, false),
 ];
 
 fn repeated(alloc: Global, part: &str, count: usize) -> Result<String, Fail> {
@@ -125,5 +128,18 @@ fn names_and_paths_are_short(rt: HostRuntime) -> Result<(), Fail> {
             "{kind} {count}"
         );
     }
+    Ok(())
+}
+
+/// A path below the marks has no limit: each slash of a name is three bytes of its segment.
+#[test]
+fn marks_are_as_long_as_names_make_them(rt: HostRuntime) -> Result<(), Fail> {
+    let alloc = rt.alloc();
+    let name = repeated(alloc, "/", 255)?;
+    let segment = repeated(alloc, "%2F", 255)?;
+    let text = format!(in alloc; r#"cron|{name}|{{"ensure":"absent","user":"{name}"}}"#)?;
+    let path = format!(in alloc; "/.rehearsal/cron/{segment}/{segment}")?;
+    let want = format!(in alloc; r#"if file?("{path}") then rm("{path}") else id"#)?;
+    assert_eq!(rt; answer(alloc, NONE, text.as_str())?.as_str(), want.as_str());
     Ok(())
 }

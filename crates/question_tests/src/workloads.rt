@@ -1,4 +1,4 @@
-//! How heavy workloads are.
+//! What workloads are, and how heavy.
 
 use catalog::Catalog;
 use dep_graph::graph;
@@ -51,5 +51,27 @@ fn weights_of_workloads(rt: HostRuntime) -> Result<(), Fail> {
     for (n, want) in [(40u32, 384_896u64), (54, 691_888)] {
         assert_eq!(rt; weight_of(&rt, alloc, n).ok(), Some(want), "{n}");
     }
+    Ok(())
+}
+
+/// The smallest manifest, one declaration a line.
+const MANIFEST: &str = "package { 'p1': }
+file { '/opt/p1/p.conf': content => '1', require => Package['p1'] }
+service { 'svc1': ensure => running, require => Package['p1'] }
+package { 'alpha': }
+file { '/etc/alpha.conf': content => 'a', require => Package['alpha'] }
+package { 'beta': }
+file { '/etc/beta.conf': content => 'b', require => Package['beta'] }
+";
+
+/// Its listing.
+const LISTING: &str =
+    r#"{"version":1,"packages":{"p1":{"files":["/opt/p1/p.conf","/lib/systemd/system/svc1.service"],"folders":[]},"alpha":{"files":["/etc/alpha.conf"],"folders":[]},"beta":{"files":["/etc/beta.conf"],"folders":[]}}}"#;
+
+#[test]
+fn a_workload_is_a_text(rt: HostRuntime) -> Result<(), Fail> {
+    let (manifest, listing) = workload(rt.alloc(), 1)?;
+    assert_eq!(rt; manifest.as_slice(), MANIFEST.as_bytes());
+    assert_eq!(rt; listing.as_slice(), LISTING.as_bytes());
     Ok(())
 }

@@ -39,7 +39,7 @@ fn proofs_that_are_verified(rt: HostRuntime) -> Result<(), Fail> {
 #[test]
 fn texts_that_are_refused(rt: HostRuntime) -> Result<(), Fail> {
     let cut = PIGEONS.replace(rt.alloc(), "\n-1 0 9", "\n0 9")?;
-    let rows: [(&str, &str); 8] = [
+    let rows: [(&str, &str); 11] = [
         (cut.as_str(), "refused 81 at 0: proof 1 step 1\n"),
         (
             "proofs 2 p cnf 1 2 1 0 -1 0 log 1 0 1 2 1 0 p cnf 1 1 1 0 log 0",
@@ -59,13 +59,34 @@ fn texts_that_are_refused(rt: HostRuntime) -> Result<(), Fail> {
             "proofs 1\np cnf 1 2\n1 -1 0\n-1 0\nlog 1\n0 1 2 1 0\n",
             "refused 81 at 0: proof 1 step 1\n",
         ),
+        // clauses are numbered from 1
+        (
+            "proofs 1 p cnf 1 1 1 0 log 1 0 0 0",
+            "refused 81 at 0: proof 1 step 1\n",
+        ),
         ("proofs", "refused 80 at 0: proof\n"),
+        ("proofs 1 p cnf 1 1 1 -0 log 0", "refused 80 at 0: proof\n"),
+        ("proofs +1 p cnf 1 1 1 0 log 0", "refused 80 at 0: proof\n"),
         ("proofs 1 p cnf 1 1 01 0 log 0", "refused 80 at 0: proof\n"),
         ("file { '/a': content => 'x' }", "refused 80 at 0: proof\n"),
     ];
     for (text, line) in rows {
         let told = run(rt.alloc(), &["site.pp", "--ask=check"], text.as_bytes())?;
         compare(&rt, &told, 4, "", line, text);
+    }
+    Ok(())
+}
+
+#[test]
+fn only_a_line_feed_ends_a_comment(rt: HostRuntime) -> Result<(), Fail> {
+    let rows: [&[u8]; 3] = [
+        b"c \xff\nproofs 0",
+        b"c a\rproofs 1\nproofs 0",
+        b"proofs\r0",
+    ];
+    for text in rows {
+        let told = run(rt.alloc(), &["--ask", "check", "site.pp"], text)?;
+        compare(&rt, &told, 0, "verified 0\n", "", "a comment");
     }
     Ok(())
 }

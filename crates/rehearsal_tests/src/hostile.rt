@@ -93,11 +93,11 @@ fn definitions_that_declare_themselves(rt: HostRuntime) -> Result<(), Fail> {
     Ok(())
 }
 
-/// Texts of which each is twice the one ahead of it, and where the last one stands.
-fn doubled(alloc: Global) -> Result<(String, usize), Fail> {
+/// So many texts of which each is twice the one ahead of it, and where the last one stands.
+fn doubled(alloc: Global, times: u32) -> Result<(String, usize), Fail> {
     let mut manifest = String::from_str(alloc, "$a0 = 'xxxxxxxx'")?;
     let mut at = 0;
-    for j in 0..15 {
+    for j in 0..times {
         let i = j + 1;
         let start = format!(in alloc; " $a{i} = ")?;
         manifest.push_str(start.as_str())?;
@@ -110,10 +110,89 @@ fn doubled(alloc: Global) -> Result<(String, usize), Fail> {
 
 #[test]
 fn texts_that_grow(rt: HostRuntime) -> Result<(), Fail> {
-    let (manifest, at) = doubled(rt.alloc())?;
+    let (manifest, at) = doubled(rt.alloc(), 15)?;
     let line = format!(in rt.alloc(); "refused 32 at {at}: value\n")?;
     let told = told_of(rt.alloc(), manifest.as_str())?;
     compare(&rt, &told, 4, "", line.as_str(), "texts that grow");
+    Ok(())
+}
+
+/// So many titles, in a list.
+fn titles(alloc: Global, count: u32) -> Result<String, Fail> {
+    let mut list = String::from_str(alloc, "['/0'")?;
+    for i in 1..count {
+        let title = format!(in alloc; ", '/{i}'")?;
+        list.push_str(title.as_str())?;
+    }
+    list.push(']')?;
+    Ok(list)
+}
+
+/// Each of 128 files has a text of 131,072 bytes, which is 1 too large.
+#[test]
+fn attributes_that_grow(rt: HostRuntime) -> Result<(), Fail> {
+    let alloc = rt.alloc();
+    let (values, _) = doubled(alloc, 14)?;
+    let titles = titles(alloc, 128)?;
+    let manifest = format!(in alloc; "{values} @file {{ {titles}: content => $a14 }}")?;
+    let at = values.len() + " @file { ".len();
+    let line = format!(in alloc; "refused 32 at {at}: attributes\n")?;
+    let told = told_of(alloc, manifest.as_str())?;
+    compare(&rt, &told, 4, "", line.as_str(), "attributes that grow");
+    Ok(())
+}
+
+/// So many lists, each in the next one, and where the last one stands.
+fn boxes(alloc: Global, count: u32) -> Result<(String, usize), Fail> {
+    let mut manifest = String::from_str(alloc, "$a1 = []")?;
+    let mut at = 0;
+    for i in 1..count {
+        let start = format!(in alloc; " $a{} = ", i + 1)?;
+        manifest.push_str(start.as_str())?;
+        at = manifest.len();
+        let list = format!(in alloc; "[$a{i}]")?;
+        manifest.push_str(list.as_str())?;
+    }
+    Ok((manifest, at))
+}
+
+#[test]
+fn lists_that_grow(rt: HostRuntime) -> Result<(), Fail> {
+    let (manifest, _) = boxes(rt.alloc(), 1_000)?;
+    let told = told_of(rt.alloc(), manifest.as_str())?;
+    compare(&rt, &told, 0, NONE, "", "lists that may be");
+    let (manifest, at) = boxes(rt.alloc(), 1_001)?;
+    let line = format!(in rt.alloc(); "refused 32 at {at}: value\n")?;
+    let told = told_of(rt.alloc(), manifest.as_str())?;
+    compare(&rt, &told, 4, "", line.as_str(), "lists that grow");
+    Ok(())
+}
+
+/// So many classes, each of which includes the next in its body, and where the last one is included.
+fn in_bodies(alloc: Global, count: u32) -> Result<(String, usize), Fail> {
+    let mut manifest = String::new(alloc);
+    let mut at = 0;
+    for i in 1..count {
+        let start = format!(in alloc; "class c{i} {{ ")?;
+        manifest.push_str(start.as_str())?;
+        at = manifest.len();
+        let rest = format!(in alloc; "include c{} }}\n", i + 1)?;
+        manifest.push_str(rest.as_str())?;
+    }
+    let end = format!(in alloc; "class c{count} {{ }}\ninclude c1")?;
+    manifest.push_str(end.as_str())?;
+    Ok((manifest, at))
+}
+
+#[test]
+fn bodies_within_bodies(rt: HostRuntime) -> Result<(), Fail> {
+    let (manifest, _) = in_bodies(rt.alloc(), 64)?;
+    let told = told_of(rt.alloc(), manifest.as_str())?;
+    compare(&rt, &told, 0, NONE, "", "bodies that may be");
+    let (manifest, at) = in_bodies(rt.alloc(), 65)?;
+    let line = format!(in rt.alloc(); "refused 32 at {at}: declared\n")?;
+    let told = told_of(rt.alloc(), manifest.as_str())?;
+    compare(&rt, &told, 4, "", line.as_str(), "bodies within bodies");
     Ok(())
 }
 
@@ -195,6 +274,29 @@ fn reads_that_fail(rt: HostRuntime) -> Result<(), Fail> {
     }
     for read in READS_WITH_DATA {
         ends_at(rt.alloc(), &rt, &WITH_DATA, &read)?;
+    }
+    Ok(())
+}
+
+/// A file that isn't there is told of, whatever file is too long.
+#[test]
+fn a_file_that_is_missing(rt: HostRuntime) -> Result<(), Fail> {
+    let blanks = " ".repeat(rt.alloc(), 262_145)?;
+    let rows: [&[&str]; 3] = [
+        &["--facts", "none", "site.pp"],
+        &["--ask", "replay", "--tree", "none", "site.pp"],
+        &["--ask", "replay", "--order", "none", "site.pp"],
+    ];
+    for words in rows {
+        let told = run_files_failing(rt.alloc(), words, blanks.as_str(), &(&[], &[], &[]))?;
+        compare(
+            &rt,
+            &told,
+            6,
+            "",
+            "read fault: none\n",
+            "a file that is missing",
+        );
     }
     Ok(())
 }

@@ -86,57 +86,99 @@ fn orders_that_do_not_matter(rt: HostRuntime) -> Result<(), Fail> {
     Ok(())
 }
 
+/// Each cause of a refusal in the text, the catalog, the graph or the programs of a manifest.
+const REFUSED: [(&str, &str); 38] = [
+    ("package { 'ntp': }", "refused 54 at 10: Package[ntp]\n"),
+    ("package { 'x': }", "refused 54 at 10: Package[x]\n"),
+    ("$x = 1.5", "refused 14 at 5: 1.5\n"),
+    ("$x = 09", "refused 11 at 5: lexical\n"),
+    ("$x = a.b", "refused 14 at 6: .\n"),
+    ("file { '/a': content => 'x'", "refused 12 at 27: syntax\n"),
+    ("file { '/a': content => $x }", "refused 20 at 24: $x\n"),
+    ("$a = 1 $a = 2", "refused 21 at 7: $a\n"),
+    ("$x = 9223372036854775807 + 1", "refused 33 at 5: integer\n"),
+    ("include z", "refused 22 at 0: z\n"),
+    (
+        "class c { file { '/c': } }\ninclude c\ninclude c\nclass { 'c': }",
+        "refused 24 at 55: Class[c]\n",
+    ),
+    ("realize(File['/v'])", "refused 40 at 0: File[/v]\n"),
+    (
+        "file { '/a': content => 'x', require => File['/z'] }",
+        "refused 40 at 7: File[/z]\n",
+    ),
+    (
+        "file { '/a': } file { '/b': } File['/a'] -> File['/b'] File['/b'] -> File['/a']",
+        "refused 41 at 0: File[/a] -> File[/b] -> File[/a]\n",
+    ),
+    ("exec { 'ls': }", "refused 50 at 7: Exec[ls]\n"),
+    (
+        "file { '/a': recurse => true }",
+        "refused 51 at 7: recurse\n",
+    ),
+    ("file { 'a': }", "refused 52 at 7: File[a]\n"),
+    ("file { 'a': content => 'x' }", "refused 52 at 7: File[a]\n"),
+    (
+        "file { '/a/../b': content => '' }",
+        "refused 52 at 7: File[/a/../b]\n",
+    ),
+    (
+        "file { '/.rehearsal/x': }",
+        "refused 53 at 7: File[/.rehearsal/x]\n",
+    ),
+    (
+        "file { '/a': ensure => maybe }",
+        "refused 55 at 7: File[/a]\n",
+    ),
+    (
+        "file { '/a': } file { '/a/': }",
+        "refused 56 at 22: File[/a/]\n",
+    ),
+    ("$x = 1 fyle { 'a': }", "refused 23 at 7: fyle\n"),
+    ("$x = 1 define ::class() { }", "refused 24 at 7: class\n"),
+    ("class c($p) { } include c", "refused 25 at 16: p\n"),
+    ("class c { } class { 'c': q => 1 }", "refused 26 at 20: q\n"),
+    (
+        "class c(Integer $p) { } class { 'c': p => 'a' }",
+        "refused 27 at 32: p\n",
+    ),
+    ("$x = 'a' ? { 'b' => 1 }", "refused 28 at 5: selector\n"),
+    ("file { '': }", "refused 29 at 7: operand\n"),
+    (
+        "file { '/a': require => 'x' }",
+        "refused 29 at 24: operand\n",
+    ),
+    ("$x = 1 fail('a', 1)", "refused 30 at 7: a 1\n"),
+    (
+        "$x = 1 class a inherits b { } class b inherits a { } include a",
+        "refused 34 at 7: a\n",
+    ),
+    (
+        "file { '/a': } File['/a'] -> File['/z']",
+        "refused 40 at 15: File[/z]\n",
+    ),
+    (
+        "@file { '/v': } file { '/a': require => File['/v'] }",
+        "refused 40 at 23: File[/v]\n",
+    ),
+    (
+        "class a { contain a } include a",
+        "refused 41 at 0: start Class[a] -> start Class[a]\n",
+    ),
+    (
+        "class a { require a } include a",
+        "refused 41 at 0: start Class[a] -> end Class[a] -> start Class[a]\n",
+    ),
+    ("exec { ('ls'): }", "refused 50 at 8: Exec[ls]\n"),
+    (
+        "service { 's': enable => mask }",
+        "refused 55 at 10: Service[s]\n",
+    ),
+];
+
 #[test]
 fn manifests_that_are_refused(rt: HostRuntime) -> Result<(), Fail> {
-    let rows: [(&str, &str); 22] = [
-        ("package { 'ntp': }", "refused 54 at 10: Package[ntp]\n"),
-        ("package { 'x': }", "refused 54 at 10: Package[x]\n"),
-        ("$x = 1.5", "refused 14 at 5: 1.5\n"),
-        ("$x = 09", "refused 11 at 5: lexical\n"),
-        ("$x = a.b", "refused 14 at 6: .\n"),
-        ("file { '/a': content => 'x'", "refused 12 at 27: syntax\n"),
-        ("file { '/a': content => $x }", "refused 20 at 24: $x\n"),
-        ("$a = 1 $a = 2", "refused 21 at 7: $a\n"),
-        ("$x = 9223372036854775807 + 1", "refused 33 at 5: integer\n"),
-        ("include z", "refused 22 at 0: z\n"),
-        (
-            "class c { file { '/c': } }\ninclude c\ninclude c\nclass { 'c': }",
-            "refused 24 at 55: Class[c]\n",
-        ),
-        ("realize(File['/v'])", "refused 40 at 0: File[/v]\n"),
-        (
-            "file { '/a': content => 'x', require => File['/z'] }",
-            "refused 40 at 7: File[/z]\n",
-        ),
-        (
-            "file { '/a': } file { '/b': } File['/a'] -> File['/b'] File['/b'] -> File['/a']",
-            "refused 41 at 0: File[/a] -> File[/b] -> File[/a]\n",
-        ),
-        ("exec { 'ls': }", "refused 50 at 7: Exec[ls]\n"),
-        (
-            "file { '/a': recurse => true }",
-            "refused 51 at 7: recurse\n",
-        ),
-        ("file { 'a': }", "refused 52 at 7: File[a]\n"),
-        ("file { 'a': content => 'x' }", "refused 52 at 7: File[a]\n"),
-        (
-            "file { '/a/../b': content => '' }",
-            "refused 52 at 7: File[/a/../b]\n",
-        ),
-        (
-            "file { '/.rehearsal/x': }",
-            "refused 53 at 7: File[/.rehearsal/x]\n",
-        ),
-        (
-            "file { '/a': ensure => maybe }",
-            "refused 55 at 7: File[/a]\n",
-        ),
-        (
-            "file { '/a': } file { '/a/': }",
-            "refused 56 at 22: File[/a/]\n",
-        ),
-    ];
-    for (manifest, line) in rows {
+    for (manifest, line) in REFUSED {
         let told = told_of(rt.alloc(), manifest.as_bytes())?;
         compare(&rt, &told, 4, "", line, manifest);
     }

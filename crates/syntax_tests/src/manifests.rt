@@ -76,10 +76,18 @@ fn manifests_that_are_refused(rt: HostRuntime) -> Result<(), Fail> {
     are_printed(&rt, rt.alloc(), &MANIFESTS_THAT_ARE_REFUSED)
 }
 
-const TOKENS_THAT_ARE_LEFT_OUT: [(&str, &str); 12] = [
+const TOKENS_THAT_ARE_LEFT_OUT: [(&str, &str); 22] = [
     ("$x = a.b", "14 at 6: ."),
     ("$x = $y =~ 1", "14 at 8: =~"),
     ("$x = 1 / 2", "14 at 7: /"),
+    ("$x = $y !~ 1", "14 at 8: !~"),
+    ("$x = 7 % 2", "14 at 7: %"),
+    ("$x = 1 << 2", "14 at 7: <<"),
+    ("$x = 1 >> 2", "14 at 7: >>"),
+    ("$x = @(END)", "14 at 5: @("),
+    ("$x | 1", "14 at 3: |"),
+    ("File <<| |>>", "14 at 5: <<|"),
+    ("File['a'] { mode +> '1' }", "14 at 17: +>"),
     ("@@file { '/a': }", "14 at 0: @@"),
     ("file { '/a': * => $x }", "14 at 13: *"),
     ("$x = 2 * 3", "$x = 2 * 3"),
@@ -89,6 +97,8 @@ const TOKENS_THAT_ARE_LEFT_OUT: [(&str, &str); 12] = [
     ("define a($b) { }", "define a ( $b ) { }"),
     ("if ($a) { }", "if $a { }"),
     ("f(1) / 2", "14 at 0: f"),
+    ("::include('a')", "14 at 0: ::include"),
+    ("$x = ::fail ('a')", "14 at 5: ::fail"),
 ];
 
 #[test]

@@ -2,7 +2,7 @@
 use crate::answers::are_printed;
 use std::test::Fail;
 
-const CHAINS_HAVE_THEIR_OPERANDS: [(&str, &str); 12] = [
+const CHAINS_HAVE_THEIR_OPERANDS: [(&str, &str); 14] = [
     ("file { '/a': }", "file { '/a' : }"),
     (
         "file { '/a': mode => '0644', if => 1, ; '/b': ; }",
@@ -12,6 +12,8 @@ const CHAINS_HAVE_THEIR_OPERANDS: [(&str, &str); 12] = [
     ("@user { 'u': }", "@ user { 'u' : }"),
     ("class { 'ntp': }", "class { 'ntp' : }"),
     ("::class { 'ntp': }", "::class { 'ntp' : }"),
+    ("@::class { 'ntp': }", "@ ::class { 'ntp' : }"),
+    ("::include { 'a': }", "::include { 'a' : }"),
     ("File <| |>", "File <| |>"),
     (
         "User <| (a == 1 or b != 2) and c == $x[0] |>",

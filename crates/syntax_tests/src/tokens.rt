@@ -2,9 +2,11 @@
 use crate::answers::{are_bytes, are_tokens};
 use std::test::Fail;
 
-const TOKENS_OF_EACH_KIND: [(&str, &str); 16] = [
+const TOKENS_OF_EACH_KIND: [(&str, &str); 17] = [
     ("", ""),
     (" \t\r\n# to the end", ""),
+    // only a line feed ends a comment
+    ("# a\rb\nc", "6:Word(c) "),
     ("a /* * / */ b", "0:Word(a) 12:Word(b) "),
     (
         "ntp::x-y File::A $a::b if",
@@ -50,7 +52,7 @@ fn tokens_of_each_kind(rt: HostRuntime) -> Result<(), Fail> {
     are_tokens(&rt, rt.alloc(), &TOKENS_OF_EACH_KIND)
 }
 
-const TEXTS_THAT_SPELL_NO_TOKENS: [(&str, &str); 18] = [
+const TEXTS_THAT_SPELL_NO_TOKENS: [(&str, &str); 26] = [
     ("$x = 09", "11 at 5: lexical"),
     ("$x = 0x", "11 at 5: lexical"),
     ("12ab", "11 at 0: lexical"),
@@ -69,6 +71,17 @@ const TEXTS_THAT_SPELL_NO_TOKENS: [(&str, &str); 18] = [
     ("\"ab\\u12\"", "11 at 3: lexical"),
     ("\"\\ud800\"", "11 at 1: lexical"),
     ("\"\\u{110000}\"", "11 at 1: lexical"),
+    // the innermost of what is open
+    ("\"a ${ /* b", "11 at 6: lexical"),
+    ("\"a ${ \"b ${ c", "11 at 9: lexical"),
+    // the first from the left
+    ("09 \u{e9}", "11 at 0: lexical"),
+    ("a ~ 'b", "11 at 2: lexical"),
+    ("'a' 09 'b", "11 at 4: lexical"),
+    ("\"${ 09", "11 at 4: lexical"),
+    ("\"\\u12 ", "11 at 1: lexical"),
+    // a letter of another alphabet may follow a number, but begins no token
+    ("1\u{e9}", "11 at 1: lexical"),
 ];
 
 #[test]

@@ -1,4 +1,5 @@
 //! Rows of class data: what the levels say of a parameter, and which texts are refused.
+use crate::answers::repeated;
 use pp_data::{Data, data_from_json};
 use pp_eval::facts_from_json;
 use pp_value::{Value, show};
@@ -229,4 +230,20 @@ fn facts_are_a_json_object(rt: HostRuntime) {
         assert_eq!(rt; refused(rt.alloc(), text.as_bytes()), want, "{text}");
     }
     assert_eq!(rt; refused(rt.alloc(), b"{\"a\": \"\xff\"}"), 60);
+}
+
+/// Whether facts are refused that nest so many lists in their map.
+fn nested_is_refused(alloc: Global, lists: usize) -> Result<bool, Fail> {
+    let open = repeated(alloc, "[", lists)?;
+    let close = repeated(alloc, "]", lists)?;
+    let text = format!(in alloc; "{{\"a\":{open}{close}}}")?;
+    Ok(refused(alloc, text.as_bytes()) == 60)
+}
+
+#[test]
+fn facts_nest_a_few_levels(rt: HostRuntime) -> Result<(), Fail> {
+    for (lists, want) in [(126, false), (127, true)] {
+        assert_eq!(rt; nested_is_refused(rt.alloc(), lists)?, want, "{lists}");
+    }
+    Ok(())
 }

@@ -4,7 +4,7 @@ use std::test::Fail;
 
 #[test]
 fn operators_go_by_their_tables(rt: HostRuntime) -> Result<(), Fail> {
-    let rows: [(&str, &str); 34] = [
+    let rows: [(&str, &str); 36] = [
         ("$r = 'bc' in 'aBCd'", "truth true"),
         ("$r = 'bd' in 'aBCd'", "truth false"),
         ("$r = '' in ''", "truth true"),
@@ -31,9 +31,11 @@ fn operators_go_by_their_tables(rt: HostRuntime) -> Result<(), Fail> {
             "truth true",
         ),
         ("$r = {'a' => 1} == {'A' => 1}", "truth false"),
+        ("$r = {'a' => 'x'} == {'a' => 'X'}", "truth true"),
         ("$r = File['/a'] == File['/A']", "truth false"),
         ("$r = 1 != '1'", "truth true"),
         ("$r = 1 + 'a'", "29 at 5: operand"),
+        ("$r = (1) + 'a'", "29 at 5: operand"),
         ("$r = [1, 2] + [1, 2]", "list [1, 2, 1, 2]"),
         (
             "$r = {'a' => 1, 'b' => true} + {'a' => 3, 'c' => undef}",
@@ -61,15 +63,44 @@ fn operators_go_by_their_tables(rt: HostRuntime) -> Result<(), Fail> {
     Ok(())
 }
 
+/// Operations that have no result for these operands.
+const NO_RESULT: [(&str, &str); 15] = [
+    ("$r = 'a' - 1", "29 at 5: operand"),
+    ("$r = [] * 2", "29 at 5: operand"),
+    ("$r = -'a'", "29 at 5: operand"),
+    ("$r = true < false", "29 at 5: operand"),
+    ("$r = 1 >= undef", "29 at 5: operand"),
+    ("$r = 1 in '1'", "29 at 5: operand"),
+    ("$r = 1 in {'a' => 1}", "29 at 5: operand"),
+    ("$r = 'a' in undef", "29 at 5: operand"),
+    ("$r = $load in [1]", "29 at 5: operand"),
+    ("$r = 1 in [[$load]]", "29 at 5: operand"),
+    ("$r = 1 == [$load]", "29 at 5: operand"),
+    ("$r = {'a' => $load} != 1", "29 at 5: operand"),
+    ("$r = [1]['a']", "29 at 5: operand"),
+    ("$r = (undef)[0]", "29 at 5: operand"),
+    ("$r = File['/a'][0]", "29 at 5: operand"),
+];
+
+#[test]
+fn other_operands_are_refused(rt: HostRuntime) -> Result<(), Fail> {
+    for (text, want) in NO_RESULT {
+        assert_eq!(rt; assigned(rt.alloc(), FACTS, text)?.as_str(), want, "{text}");
+    }
+    Ok(())
+}
+
 #[test]
 fn truths_are_asked_from_the_left(rt: HostRuntime) -> Result<(), Fail> {
-    let rows: [(&str, &str); 12] = [
+    let rows: [(&str, &str); 14] = [
         ("$r = false and $z", "truth false"),
         ("$r = true and $z", "20 at 14: $z"),
         ("$r = true or $z", "truth true"),
         ("$r = false or $z", "20 at 14: $z"),
         ("$r = '' and undef", "truth false"),
         ("$r = $load and true", "29 at 5: operand"),
+        ("$r = true and $load", "29 at 5: operand"),
+        ("$r = false or $load", "29 at 5: operand"),
         ("$r = $load == 1", "29 at 5: operand"),
         ("$r = $load + 1", "29 at 5: operand"),
         ("$r = !''", "truth false"),
@@ -112,7 +143,7 @@ fn members_are_found(rt: HostRuntime) -> Result<(), Fail> {
 
 #[test]
 fn the_first_equal_option_is_chosen(rt: HostRuntime) -> Result<(), Fail> {
-    let rows: [(&str, &str); 8] = [
+    let rows: [(&str, &str); 10] = [
         ("$r = 'b' ? { default => 1, 'B' => 2 }", "number 2"),
         ("$r = 'c' ? { default => 1, 'B' => 2 }", "number 1"),
         ("$r = 'a' ? { 'b' => 1 }", "28 at 5: selector"),
@@ -127,6 +158,11 @@ fn the_first_equal_option_is_chosen(rt: HostRuntime) -> Result<(), Fail> {
             "$r = $load ? { 'a' => 1, default => 2 }",
             "29 at 5: operand",
         ),
+        (
+            "$r = 'a' ? { $load => 1, default => 2 }",
+            "29 at 5: operand",
+        ),
+        ("$r = 'a' ? { 'a' => 1, $load => 2 }", "number 1"),
     ];
     for (text, want) in rows {
         assert_eq!(rt; assigned(rt.alloc(), FACTS, text)?.as_str(), want, "{text}");

@@ -30,7 +30,7 @@ fn with_name(alloc: Global, kind: &str, rest: &str) -> Result<String, Fail> {
 
 #[test]
 fn a_value_has_a_greatest_size(rt: HostRuntime) -> Result<(), Fail> {
-    let rows: [(usize, &str, &str); 10] = [
+    let rows: [(usize, &str, &str); 16] = [
         (131_070, "$r = [$a] + [$a]", "list"),
         (131_071, "$r = [$a] + [$a]", "32 value"),
         (131_070, "$r = [$a, $a]", "list"),
@@ -41,6 +41,12 @@ fn a_value_has_a_greatest_size(rt: HostRuntime) -> Result<(), Fail> {
         (131_072, "$r = \"${a}${a}${z}\"", "32 value"),
         (131_068, "$r = {'a' => $a} + {'b' => $a}", "map"),
         (131_069, "$r = {'a' => $a} + {'b' => $a}", "32 value"),
+        (131_068, "$r = {'a' => $a, 'b' => $a}", "map"),
+        (131_069, "$r = {'a' => $a, 'b' => $a}", "32 value"),
+        (262_139, "$r = File[$a]", "reference"),
+        (262_140, "$r = File[$a]", "32 value"),
+        (262_143, "$r = $a", "text"),
+        (262_144, "$r = 1", "32 value"),
     ];
     for (bytes, text, want) in rows {
         assert_eq!(rt;
