@@ -6,8 +6,8 @@ use fs_lang::Program;
 use pkg_listing::listing_from_json;
 use pp_compile::compile;
 use pp_value::{Pairs, Value};
-use res_models::programs_of;
-use rh_base::Fault;
+use res_models::program_of;
+use rh_base::{Fault, Seq};
 use std::alloc::Global;
 use std::process::Abort;
 use std::test::Fail;
@@ -22,18 +22,18 @@ fn catalog_of(rt: &impl Abort, alloc: Global, manifest: &[u8]) -> Result<Catalog
 }
 
 /// The programs of a catalog's graph, beside a listing.
-fn programs(
-    rt: &impl Abort,
-    alloc: Global,
-    catalog: &Catalog,
-    listing: &[u8],
-) -> Result<Vec<Program>, Fault> {
+fn programs(alloc: Global, catalog: &Catalog, listing: &[u8]) -> Result<Seq<Program>, Fault> {
     let listing = listing_from_json(alloc, listing)?;
     let found = graph(alloc, catalog)?;
-    let plain = found.plain.as_slice();
     let count = catalog.count();
-    assert!(rt; plain.iter().all(|i| *i < count));
-    programs_of(alloc, catalog, plain, &listing)
+    let mut all = Seq::new(alloc);
+    for i in found.plain.as_slice() {
+        if *i < count {
+            let one = program_of(alloc, catalog.get(*i), &listing)?;
+            all.push(one)?;
+        }
+    }
+    Ok(all)
 }
 
 /// The weight of a workload's programs.
@@ -41,7 +41,7 @@ fn weight_of(rt: &impl Abort, alloc: Global, n: u32) -> Result<u64, Fault> {
     assert!(rt; 1 <= n && n <= 54);
     let (manifest, listing) = workload(alloc, n)?;
     let catalog = catalog_of(rt, alloc, &manifest)?;
-    let all = programs(rt, alloc, &catalog, &listing)?;
+    let all = programs(alloc, &catalog, &listing)?;
     Ok(weight(alloc, all.as_slice())?)
 }
 

@@ -37,7 +37,7 @@ fn told_of(alloc: Global, row: &Row) -> Result<Told, Fail> {
 fn changes(alloc: Global, rt: &impl Abort, row: &Row) -> Result<(), Fail> {
     let told = told_of(alloc, row)?;
     assert_eq!(rt; told.status, 2, "{}", row.0);
-    assert_eq!(rt; told.err.as_str(), "", "{}", row.0);
+    assert_eq!(rt; told.err.len(), 0, "{}", row.0);
     let rest = told.out.as_str().strip_prefix(row.2).unwrap_or("?");
     let (tree, rest) = behind(rest, "tree ");
     let (order, rest) = behind(rest, "order ");
