@@ -247,3 +247,23 @@ fn facts_nest_a_few_levels(rt: HostRuntime) -> Result<(), Fail> {
     }
     Ok(())
 }
+
+/// Whether class data are refused in which a value nests so many lists; four levels stand around it.
+fn nested_data_are_refused(alloc: Global, lists: usize) -> Result<bool, Fail> {
+    let open = repeated(alloc, "[", lists)?;
+    let close = repeated(alloc, "]", lists)?;
+    let text = format!(in alloc; "{{\"levels\":[{{\"values\":{{\"c::p\":{open}{close}}}}}]}}")?;
+    Ok(is_refused(alloc, text.as_bytes()))
+}
+
+#[test]
+fn class_data_nest_a_few_levels(rt: HostRuntime) -> Result<(), Fail> {
+    for (lists, want) in [(123, false), (124, true)] {
+        assert_eq!(rt;
+            nested_data_are_refused(rt.alloc(), lists)?,
+            want,
+            "{lists}"
+        );
+    }
+    Ok(())
+}
