@@ -14,6 +14,7 @@ use crate::asking::{Asking, order_inputs};
 use crate::asks::Asks;
 use crate::goal::goal;
 use crate::question::{Question, pose};
+use bool_circuit::Wire;
 use fs_interpreter::states;
 use fs_lang::Program;
 use fs_semantics::neighbours;
@@ -23,6 +24,19 @@ use path_domain::Domain;
 use rh_base::NoMemory;
 use std::alloc::Global;
 use sym_run::Sym;
+
+/// A solver may try the last place but one: nothing stands behind it that could undo a difference. No place above it has a next
+/// one, so that it is enough to try the bits that its number has.
+fn try_last_place(place: &[Wire], n: u32, firsts: &mut Vec<Wire>) -> Result<(), NoMemory> {
+    let mut number = n.saturating_sub(2);
+    'bits: for bit in place.iter().rev() {
+        if number % 2 == 1 {
+            firsts.push(*bit)?;
+        }
+        number = number / 2;
+    }
+    Ok(())
+}
 
 /// Whether two allowed orders have different outcomes from a tree over the domain. The inputs tell one order and a place in
 /// it; the other order is the one with the nodes at that place and the next exchanged.
@@ -53,6 +67,7 @@ pub fn ask_order(
         &inputs,
         &mut firsts,
     )?;
+    try_last_place(inputs.place.as_slice(), order.count(), &mut firsts)?;
     let Asking {
         cells,
         codes,
