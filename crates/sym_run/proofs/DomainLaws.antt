@@ -4,8 +4,9 @@ use Rattle.std.proofs.lemmas.Bool.{ltb-false}
 use Rattle.std.proofs.lemmas.Option.{slice_get_within, slice_get-get_or}
 use Rattle.std.proofs.lemmas.Map.Views.{any-filter_same}
 use Rattle.std.specs.Prelude.{not, ◌||◌, filter, get_or, slice_index_or}
+use Rattle.std.specs.List.{AllByRecursion}
 use Rattle.std.specs.FinMap as map
-use Rattle.fs_semantics.specs.FileTree.{Path, Tree, Entry, Folder, File, Link, IsTree, HasText, path_eq, is_among, is_root}
+use Rattle.fs_semantics.specs.FileTree.{Path, Tree, Entry, Folder, File, Link, IsTree, HasParents, IsSegment, IsBytes, HasText, path_eq, is_among, is_root}
 use Rattle.fs_semantics.proofs.Trees.{path_eq_same, path_eq_refl}
 use Rattle.finite_domain.specs.Domains.{text_eq, is_text_among}
 use Rattle.finite_domain.specs.Shadows.{IsOver}
@@ -19,7 +20,7 @@ use Rattle.path_domain.specs.declared.listed.Domain.{Domain}
 use Rattle.path_domain.specs.Laid.{layout_of}
 use Rattle.sym_run.specs.Trees.{IsTreeOver, cell_for}
 use Rattle.sym_run.proofs.AlikeLaws.{somewhere}
-use Rattle.sym_run.proofs.TreeLaws.{path_is, text_in, nothing_has_text, nothing_there}
+use Rattle.sym_run.proofs.TreeLaws.{path_is, text_in, nothing_has_text, nothing_there, tree_with_parents}
 
 or_first : (a b : Bool) → a ≡ true → (a || b) ≡ true
 or_first a b h = ap (λ c. c || b) h
@@ -124,6 +125,10 @@ stands_over d s t st = record {
     | inr nowhere ↦ absurd (nothing_has_text (map.get t p) c (st.nothing_else p nowhere) h)
   ];
 }
+
+pub with_parents : (d : Domain) (s : State) (t : Tree) → ((i : ℕ) (p : Path) → slice_get d.table.paths i ≡ Some p → AllByRecursion IsSegment p) → ((i : ℕ) (c : List ℕ) → slice_get d.table.contents i ≡ Some c → IsBytes c)
+    → Stands d.table s t → HasParents t → IsTreeOver d t
+with_parents d s t proper bytes st rule = record { is_tree = tree_with_parents d.table s t proper bytes st rule; is_over = stands_over d s t st }
 
 numbered : (contents : List (List ℕ)) (c : List ℕ) → is_text_among c contents ≡ true → slice_get contents (number_in contents c) ≡ Some c
 numbered contents c h =

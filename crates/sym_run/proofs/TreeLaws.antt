@@ -5,7 +5,7 @@ use Rattle.std.proofs.lemmas.Option.{slice_get_within, slice_get-get_or}
 use Rattle.std.specs.Prelude.{◌&&◌, get_or, slice_index_or}
 use Rattle.std.specs.List.{AllByRecursion}
 use Rattle.std.specs.FinMap as map
-use Rattle.fs_semantics.specs.FileTree.{Path, Tree, Entry, Folder, File, Link, IsTree, IsSegment, IsBytes, HasText, parent, is_dir, is_folder_entry}
+use Rattle.fs_semantics.specs.FileTree.{Path, Tree, Entry, Folder, File, Link, IsTree, HasParents, IsSegment, IsBytes, HasText, parent, is_dir, is_folder_entry}
 use Rattle.fs_semantics.specs.Entries.{IsWith}
 use Rattle.fs_interpreter.specs.Places.{Listed, IsTable, place_in}
 use Rattle.fs_interpreter.specs.States.{Cell, State}
@@ -195,20 +195,27 @@ pub nothing_there : (o : Option Entry) → o ≡ None → IsTrue (is_some o) →
 nothing_there None e h = cc
 nothing_there (Some x) e h = cc
 
-pub stands_for_tree : (table : Listed) (s : State) (t : Tree) → IsTable table → ((i : ℕ) (p : Path) → slice_get table.paths i ≡ Some p → AllByRecursion IsSegment p) → ((i : ℕ) (c : List ℕ) → slice_get table.contents i ≡ Some c → IsBytes c)
-    → Stands table s t → ((i : ℕ) (p : Path) → slice_get table.paths i ≡ Some p → Fits table s.cell i p) → IsTree t
-stands_for_tree table s t is proper bytes st fit = record {
-  no_root = st.nothing_else [] is.no_root;
+pub tree_with_parents : (table : Listed) (s : State) (t : Tree) → ((i : ℕ) (p : Path) → slice_get table.paths i ≡ Some p → AllByRecursion IsSegment p) → ((i : ℕ) (c : List ℕ) → slice_get table.contents i ≡ Some c → IsBytes c)
+    → Stands table s t → HasParents t → IsTree t
+tree_with_parents table s t proper bytes st rule = record {
+  no_root = rule.no_root;
   paths = λ p h. elim (somewhere table p) [
     | inl there ↦ proper there.0 p there.1
     | inr nowhere ↦ absurd (nothing_there (map.get t p) (st.nothing_else p nowhere) h)
   ];
-  parents = λ p h. elim (somewhere table p) [
-    | inl there ↦ sym (dir_above table s t there.0 p is st there.1) ∙ (fit there.0 p there.1).above (is_there table.contents (s.cell there.0) (map.get t p) (st.tells there.0 p there.1) h)
-    | inr nowhere ↦ absurd (nothing_there (map.get t p) (st.nothing_else p nowhere) h)
-  ];
+  parents = rule.parents;
   texts = λ p text h. elim (somewhere table p) [
     | inl there ↦ bytes (s.cell there.0).content text (text_in table.contents (s.cell there.0) (map.get t p) text (st.tells there.0 p there.1) h)
     | inr nowhere ↦ absurd (nothing_has_text (map.get t p) text (st.nothing_else p nowhere) h)
+  ];
+}
+
+pub stands_for_tree : (table : Listed) (s : State) (t : Tree) → IsTable table → ((i : ℕ) (p : Path) → slice_get table.paths i ≡ Some p → AllByRecursion IsSegment p) → ((i : ℕ) (c : List ℕ) → slice_get table.contents i ≡ Some c → IsBytes c)
+    → Stands table s t → ((i : ℕ) (p : Path) → slice_get table.paths i ≡ Some p → Fits table s.cell i p) → IsTree t
+stands_for_tree table s t is proper bytes st fit = tree_with_parents table s t proper bytes st record {
+  no_root = st.nothing_else [] is.no_root;
+  parents = λ p h. elim (somewhere table p) [
+    | inl there ↦ sym (dir_above table s t there.0 p is st there.1) ∙ (fit there.0 p there.1).above (is_there table.contents (s.cell there.0) (map.get t p) (st.tells there.0 p there.1) h)
+    | inr nowhere ↦ absurd (nothing_there (map.get t p) (st.nothing_else p nowhere) h)
   ];
 }

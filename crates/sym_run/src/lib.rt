@@ -20,5 +20,5 @@ pub use choice::choose;
 pub use comparison::alike;
 pub use inputs::{new_code, new_codes, new_inputs, width_for};
 pub use sym::{Sym, sym_apply};
-pub use trees::any_tree;
+pub use trees::{any_tree, standing_trees};
 pub use values::number_of;

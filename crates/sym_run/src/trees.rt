@@ -3,10 +3,10 @@
 ghost use Rattle.std.specs.Prelude.{◌≡◌, ◌≢◌, ◌↔◌, ◌<◌, true, ℕ, List, length, slice_get, Some, IfOk};
 ghost use Rattle.std.specs.List.{AllByRecursion};
 ghost use Rattle.bool_circuit.specs.Gates.{input_count, wire_value};
-ghost use Rattle.fs_semantics.specs.FileTree.{Tree, Path as Segments, IsSegment, IsBytes};
+ghost use Rattle.fs_semantics.specs.FileTree.{Tree, Path as Segments, IsSegment, IsBytes, HasParents};
 ghost use Rattle.fs_interpreter.specs.Meanings.{Valuation, Grows};
 ghost use Rattle.fs_interpreter.specs.Standing.{Stands};
-ghost use Rattle.fs_interpreter.specs.States.{AreCells, state_of};
+ghost use Rattle.fs_interpreter.specs.States.{State, AreCells, state_of};
 ghost use Rattle.sym_run.specs.Inputs.{AgreeBelow};
 ghost use Rattle.sym_run.specs.Trees.{IsTreeOver};
 ghost use Rattle.sym_run.specs.Wires.{circuit_meanings};
@@ -46,6 +46,14 @@ pub(crate) fn contents_are_bytes(table: &Table)
     for i in 0..table.content_count() {
         text_is_bytes(table.content(i));
     }
+}
+
+/// Cells stand for no tree but those over the domain, where the rule on parents holds.
+pub fn standing_trees(domain: &Domain)
+    ensures { (s : State) (t : Tree) → Stands domain.now.table s t → HasParents t → IsTreeOver domain.now t }
+{
+    paths_are_proper(&domain.table);
+    contents_are_bytes(&domain.table);
 }
 
 /// Cells of new inputs, and a wire that is true under just the valuations under which they stand for a tree over the
