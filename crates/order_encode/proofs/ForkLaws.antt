@@ -1,21 +1,22 @@
 -- Two programs that end apart behind a fork.
-use Rattle.std.proofs.Common.{◌≡◌, ◌≢◌, ◌⊎◌, inl, inr, ℕ, zero, suc, ◌+◌, ◌-◌, ◌<◌, ◌≤◌, ◌==◌, Bool, true, false, cond, List, [], ◌∷◌, ◌++◌, length, take, drop, Some, None, refl, sym, ap, ◌∙◌, arith, nat_lt, ltb-true}
+use Rattle.std.proofs.Common.{◌≡◌, ◌≢◌, ◌⊎◌, inl, inr, ℕ, zero, suc, ◌+◌, ◌-◌, ◌<◌, ◌≤◌, ◌==◌, Bool, true, false, cond, List, [], ◌∷◌, ◌++◌, length, take, drop, Some, None, refl, sym, ap, subst, ◌∙◌, arith, nat_lt, ltb-true}
 use Rattle.std.proofs.lemmas.Bool.{eqb-false, ltb-false}
 use Rattle.std.specs.Prelude.{◌↔◌, ◌&&◌, ◌||◌, slice_index_or}
-use Rattle.fs_semantics.specs.FileTree.{Tree}
+use Rattle.fs_semantics.specs.FileTree.{Tree, HasParents}
 use Rattle.fs_semantics.specs.Programs.{Program, Id, Outcome, and_then, run}
 use Rattle.fs_semantics.specs.Orders.{IsFree, outcome}
 use Rattle.bool_circuit.specs.declared.gate.Wire.{Wire}
 use Rattle.bool_circuit.specs.declared.gate.Gate.{Gate}
 use Rattle.fs_interpreter.specs.Meanings.{Valuation}
+use Rattle.path_domain.specs.declared.listed.Domain.{Domain}
+use Rattle.fs_interpreter.specs.States.{State}
+use Rattle.fs_interpreter.specs.Standing.{Stands, StandsFor}
+use Rattle.sym_run.specs.Trees.{IsTreeOver}
 use Rattle.order_places.specs.Places.{around, exchanged}
 use Rattle.order_circuit.specs.Codes.{node, nodes, AreRows}
 use Rattle.order_circuit.proofs.RunLaws.{after}
+use Rattle.order_encode.specs.Asking.{IsOutcomeOver}
 use Rattle.order_encode.specs.Goals.{are_these, EndApartThen, EndApartAt}
-
-pub both_is : {P : Type 0} (a b : Bool) → (b ≡ true) ↔ P → ((a && b) ≡ true) ↔ ((a ≡ true) × P)
-both_is true b h = ((λ e. (refl, h.0 e)), (λ p. h.1 p.1))
-both_is false b h = ((λ e. cc), (λ p. p.0))
 
 pub either_true : (a b : Bool) → b ≡ true → cond a a b ≡ true
 either_true true b h = refl
@@ -53,11 +54,6 @@ alike_then es o i k rest e = joined es (i ∷ k ∷ []) rest o ∙ ap (λ u. and
 
 pub apart_at : (es : List Program) (o : Outcome) (i k : ℕ) (rest : List ℕ) → EndApartThen es o i k rest → EndApartAt es o i k
 apart_at es o i k rest h = λ e. h (alike_then es o i k rest e)
-
--- what is implied may be asked besides
-pub asked_besides : {P Q : Type 0} (near apart : Bool) → (Q → near ≡ true) → (P → Q) → (apart ≡ true) ↔ P → ((near && apart) ≡ true) ↔ P
-asked_besides true apart known more is = is
-asked_besides false apart known more is = ((λ e. cc), (λ p. cc (known (more p))))
 
 pub one_of : (x y : ℕ) → x ≢ y → (x < y) ⊎ (y < x)
 one_of x y d = elim (nat_lt x y) as (λ b. nat_lt x y ≡ b → (x < y) ⊎ (y < x)) [
@@ -111,9 +107,6 @@ apart_is_whole es j order a b t whole other =
 pub differ_by : {X : Type 0} (a b c d : X) → a ≡ c → b ≡ d → (a ≢ b) ↔ (c ≢ d)
 differ_by a b c d p q = ((λ h e. h (p ∙ e ∙ sym q)), (λ h e. h (sym p ∙ e ∙ q)))
 
-pub same_for : {P Q : Type 0} (b : Bool) → (b ≡ true) ↔ P → P ↔ Q → (b ≡ true) ↔ Q
-same_for b h k = ((λ e. k.0 (h.0 e)), (λ q. h.1 (k.1 q)))
-
 -- ---- codes of a part
 
 pub rows_ahead : (gates : List Gate) (n : ℕ) (rows : List (List Wire)) → AreRows gates rows → AreRows gates (take n rows)
@@ -139,3 +132,32 @@ nodes_behind gates v (suc n) (r ∷ rows) = nodes_behind gates v n rows
 pub next_of : (j : ℕ) (order : List ℕ) → slice_index_or (drop 1 order) j 0 ≡ slice_index_or order (j + 1) 0
 next_of j [] = refl
 next_of j (i ∷ order) = let one : j + 1 ≡ suc j = omega arith in sym (ap (λ n. slice_index_or (i ∷ order) n 0) one)
+
+-- ---- what a run leaves
+
+-- only behind a tree can programs end apart
+pub apart_behind : {X : Type 0} (es : List Program) (o : Outcome) (i k : ℕ) (rest : List ℕ) → EndApartThen es o i k rest → ((t : Tree) → o ≡ Some t → X) → X
+apart_behind es None i k rest h f = absurd (h refl)
+apart_behind es (Some t) i k rest h f = f t refl
+
+-- Each program leaves the rule on parents.
+abbrev pub LeaveParents : Type 0
+LeaveParents = (e : Program) (t u : Tree) → HasParents t → run e t ≡ Some u → HasParents u
+
+behind : LeaveParents → (e : Program) (t u : Tree) (f : Tree → Outcome) → HasParents t → (o : Outcome) → run e t ≡ o → and_then o f ≡ Some u → ((w : Tree) → HasParents w → f w ≡ Some u → HasParents u) → HasParents u
+behind leave e t u f h None is k more = cc
+behind leave e t u f h (Some w) is k more = more w (leave e t w h is) k
+
+pub parents_left : LeaveParents → (es : List Program) (order : List ℕ) (t u : Tree) → HasParents t → outcome es order t ≡ Some u → HasParents u
+parents_left leave es [] t u h e = let same : t ≡ u = cc in subst HasParents same h
+parents_left leave es (i ∷ order) t u h e = behind leave (slice_index_or es i Id) t u (outcome es order) h (run (slice_index_or es i Id) t) refl e (λ w k. parents_left leave es order w u k)
+
+pub tree_over : (d : Domain) (o : Outcome) (t : Tree) → o ≡ Some t → IsOutcomeOver d o → IsTreeOver d t
+tree_over d o t e over = subst (IsOutcomeOver d) e over
+
+-- where a run that starts over the domain ends, and cells stand for its end, it ends over the domain
+pub ends_over : LeaveParents → (d : Domain) → ((s : State) (t : Tree) → Stands d.table s t → HasParents t → IsTreeOver d t)
+    → (es : List Program) (order : List ℕ) (t : Tree) (s : State) → IsTreeOver d t → (o : Outcome) → outcome es order t ≡ o → StandsFor d.table s o → IsOutcomeOver d o
+ends_over leave d standing es order t s over None e stands = tt
+ends_over leave d standing es order t s over (Some u) e stands =
+    standing s u stands (parents_left leave es order t u (record { no_root = over.is_tree.no_root; parents = over.is_tree.parents }) e)

@@ -1,13 +1,12 @@
 -- What wires that are asked for tell of the tree for which the cells stand.
-use Rattle.std.proofs.Common.{◌≡◌, ◌≢◌, ℕ, ◌-◌, ◌<◌, Bool, true, false, List, Option, Some, None, IsSome, nat_lt, refl, sym, ap, subst, ◌∙◌, arith, ltb-true}
+use Rattle.std.proofs.Common.{◌≡◌, ◌≢◌, ℕ, ◌-◌, ◌<◌, Bool, true, false, List, Option, Some, None, IsSome, nat_lt, refl, sym, ap, subst, ◌∙◌, ltb-true}
 use Rattle.std.proofs.lemmas.Bool.{lt-ltb}
 use Rattle.std.specs.Prelude.{◌↔◌, ◌&&◌, not, Result, Ok, Err, IfOk}
 use Rattle.bool_circuit.specs.declared.gate.Wire.{Wire}
 use Rattle.bool_circuit.specs.declared.gate.Gate.{Gate}
 use Rattle.bool_circuit.specs.Gates.{wire_value}
 use Rattle.fs_semantics.specs.FileTree.{Tree}
-use Rattle.fs_semantics.specs.Programs.{Program, Outcome, and_then}
-use Rattle.fs_semantics.specs.Orders.{outcome}
+use Rattle.fs_semantics.specs.Programs.{Outcome, and_then}
 use Rattle.path_domain.specs.declared.listed.Domain.{Domain}
 use Rattle.fs_interpreter.specs.Meanings.{Valuation}
 use Rattle.fs_interpreter.specs.Places.{Listed}
@@ -18,17 +17,17 @@ use Rattle.orders.specs.Relation.{Relation, comes}
 use Rattle.order_places.specs.Places.{is_in_order}
 use Rattle.sym_run.specs.Wires.{circuit_meanings}
 use Rattle.order_encode.specs.Asking.{AreTrees}
-use Rattle.order_encode.specs.Goals.{TellsTree, AreAllowed, EndApart}
+use Rattle.order_encode.specs.Goals.{TellsTree, AreAllowed}
 
 false_not_true : {P : Type 0} → false ≡ true → P
 false_not_true e = cc
 
-and_true : (a b : Bool) → (a && b) ≡ true → (a ≡ true) × (b ≡ true)
+pub and_true : (a b : Bool) → (a && b) ≡ true → (a ≡ true) × (b ≡ true)
 and_true true true e = (refl, refl)
 and_true true false e = false_not_true e
 and_true false b e = false_not_true e
 
-true_and : (a b : Bool) → a ≡ true → b ≡ true → (a && b) ≡ true
+pub true_and : (a b : Bool) → a ≡ true → b ≡ true → (a && b) ≡ true
 true_and a b e h = λ i. e i && h i
 
 pub if_ok : {X E : Type 0} (P Q : X → Type 0) (r : Result X E) → ((x : X) → P x → Q x) → IfOk r P → IfOk r Q
@@ -65,26 +64,6 @@ tells_is gates d cells well P v e trees holds = (
       record { tree = told.0; over = told.1; stands = told.2; held = (holds told.0 told.2).0 parts.1 }),
   (λ k. true_and _ _ ((trees.exact v).1 (k.tree, k.over, k.stands)) ((holds k.tree k.stands).1 k.held)),
 )
-
--- the cells are well, both orders are allowed, and they end differently
-pub apart_is : {B : Type 0} (gates : List Gate) (d : Domain) (cells : Cells B Wire (List Wire)) (well : Wire) (programs : List Program) (order : Relation) (j : ℕ) (left right : List ℕ) (v : Valuation) (a b : Bool) → AreTrees gates d cells well
-    → (a ≡ true) ↔ AreAllowed order j left right
-    → ((t : Tree) → Stands d.table (state_of (circuit_meanings gates) v cells) t → AreAllowed order j left right → (b ≡ true) ↔ (outcome programs left t ≢ outcome programs right t))
-    → (((wire_value gates v well.0 && a) && b) ≡ true) ↔ TellsTree d gates cells (EndApart programs order j left right) v
-apart_is gates d cells well programs order j left right v a b trees allowed differ = (
-  (λ h. whole.0 (regroup (wire_value gates v well.0) ∙ h)),
-  (λ k. sym (regroup (wire_value gates v well.0)) ∙ whole.1 k),
-)
-  where
-    regroup : (w : Bool) → (w && (a && b)) ≡ ((w && a) && b)
-    regroup true = refl
-    regroup false = refl
-
-    whole : ((wire_value gates v well.0 && (a && b)) ≡ true) ↔ TellsTree d gates cells (EndApart programs order j left right) v
-    whole = tells_is gates d cells well (EndApart programs order j left right) v (a && b) trees (λ t h. (
-      (λ e. let parts = and_true a b e in let fine = allowed.0 parts.0 in record { allowed = fine; differ = (differ t h fine).0 parts.1 }),
-      (λ k. true_and a b (allowed.1 k.allowed) ((differ t h k.allowed).1 k.differ)),
-    ))
 
 -- ---- one order
 

@@ -11,9 +11,11 @@ use Rattle.fs_interpreter.specs.States.{state_of}
 use Rattle.fs_interpreter.specs.Standing.{Stands}
 use Rattle.fs_interpreter.specs.declared.cells.Cells.{Cells}
 use Rattle.orders.specs.Relation.{Relation, comes, Comes}
-use Rattle.order_places.specs.Places.{is_in_order}
+use Rattle.order_places.specs.Places.{exchanged, is_in_order}
 use Rattle.sym_run.specs.Wires.{circuit_meanings}
 use Rattle.sym_run.specs.Trees.{IsTreeOver}
+use Rattle.order_circuit.specs.Codes.{node, nodes}
+use Rattle.order_encode.specs.declared.asking.Asking.{Asking}
 
 -- the inputs tell a tree over the domain of which this holds
 pub record TellsTree {B : Type 0} (d : Domain) (gates : List Gate) (cells : Cells B Wire (List Wire)) (holds : Tree → Type 0) (v : Valuation) : Type 0 where
@@ -50,6 +52,10 @@ pub record AreFreeNodes (order : Relation) (i k : ℕ) : Type 0 where
 pub record EndApart (programs : List Program) (order : Relation) (place : ℕ) (left right : List ℕ) (t : Tree) : Type 0 where
   pub allowed : AreAllowed order place left right
   pub differ : outcome programs left t ≢ outcome programs right t
+
+-- the inputs tell a tree over the domain, an order and a place, with what is asked of them
+abbrev pub OrderGoal : List Program → Relation → Domain → List Gate → Asking → Valuation → Type 0
+OrderGoal programs order d gates a v = TellsTree d gates a.cells (EndApart programs order (node gates v a.place) (nodes gates v a.codes) (exchanged (node gates v a.place) (nodes gates v a.codes))) v
 
 -- the order ends in a tree that a second run doesn't leave as it is
 abbrev pub ChangesTwice : List Program → List ℕ → Tree → Type 0

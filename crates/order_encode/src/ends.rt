@@ -11,21 +11,24 @@ ghost use Rattle.fs_interpreter.specs.Places.{CoversSteps};
 ghost use Rattle.fs_interpreter.specs.Standing.{Stands, StandsFor};
 ghost use Rattle.fs_interpreter.specs.States.{AreCells, state_of};
 ghost use Rattle.order_places.specs.Places.{exchanged};
+ghost use Rattle.sym_run.specs.Trees.{IsTreeOver};
 ghost use Rattle.sym_run.specs.Wires.{AreWires, circuit_meanings};
 ghost use Rattle.order_circuit.specs.Codes.{AreRows, node, nodes, part_of};
+ghost use Rattle.order_encode.specs.Asking.{AsksFor, IsOutcomeOver};
 ghost use Rattle.order_encode.specs.Goals.{AreAllowed, AreFreeNodes, EndApartThen};
 
 use crate::fork::some_pair_differs;
 use bool_circuit::Wire;
 use fs_interpreter::{Bits, Cells};
 use fs_lang::Program;
+use fs_semantics::constructs;
 use order_circuit::{code_at, run_part, run_place};
 use order_places::{allowed_orders, places};
 use orders::Order;
 use path_domain::Domain;
 use rh_base::{NoMemory, Seq};
 use std::alloc::Global;
-use sym_run::{Sym, alike};
+use sym_run::{Sym, alike, standing_trees};
 
 /// Runs the two programs that the codes tell, and then what stands from the place on.
 fn run_on(
@@ -59,6 +62,41 @@ fn run_on(
 
 /// Whether the orders end differently in which the two programs that the codes tell come the one way and the other behind the
 /// fork, ahead of what stands from the place on.
+fn differ_behind(
+    alloc: Global,
+    sym: &mut Sym,
+    domain: &Domain,
+    programs: &[Program],
+    first: &Seq<Wire>,
+    second: &Seq<Wire>,
+    rest: &[Seq<Wire>],
+    place: &Seq<Wire>,
+    fork: &Cells<Sym>,
+) -> Result<Wire, NoMemory>
+    requires first { AreWires sym.old first.now }
+    requires second { AreWires sym.old second.now }
+    requires rest { AreRows sym.old rest.now }
+    requires place { AreWires sym.old place.now }
+    requires cells { AreCells (circuit_meanings sym.old) fork.now }
+    requires places { length fork.now.present ≡ length domain.now.table.paths }
+    requires covers { CoversSteps domain.now.table (programs_in programs.now) }
+    ensures wire { IfOk result (λ w. w.0 < length sym.new) }
+    ensures exact { IfOk result (λ w. (v : Valuation) (o : Outcome) → StandsFor domain.now.table (state_of (circuit_meanings sym.old) v fork.now) o
+        → (wire_value sym.new v w.0 ≡ true) ↔ EndApartThen (map program_of programs.now) o (node sym.old v first.now) (node sym.old v second.now) (part_of false (node sym.old v place.now) (nodes sym.old v rest.now))) }
+    ensures grows { Grows (circuit_meanings sym.old) (circuit_meanings sym.new) }
+{
+    let one = run_on(
+        alloc, sym, domain, programs, first, second, rest, place, fork,
+    )?;
+    let other = run_on(
+        alloc, sym, domain, programs, second, first, rest, place, fork,
+    )?;
+    let same = alike(sym, domain, &one, &other)?;
+    sym.not(&same)
+}
+
+/// The same, and that some free pair of nodes, told by the codes, has programs that end apart from some tree. Where the orders
+/// end differently the fork's tree is such a tree, so that the inputs of the pair can be chosen.
 fn end_apart_from(
     alloc: Global,
     sym: &mut Sym,
@@ -81,23 +119,16 @@ fn end_apart_from(
     requires places { length fork.now.present ≡ length domain.now.table.paths }
     requires covers { CoversSteps domain.now.table (programs_in programs.now) }
     ensures wire { IfOk result (λ w. w.0 < length sym.new) }
-    ensures exact { IfOk result (λ w. (v : Valuation) (o : Outcome) → StandsFor domain.now.table (state_of (circuit_meanings sym.old) v fork.now) o
+    ensures exact { IfOk result (λ w. (v : Valuation) (o : Outcome) → StandsFor domain.now.table (state_of (circuit_meanings sym.old) v fork.now) o → IsOutcomeOver domain.now o
         → AreFreeNodes order.now (node sym.old v first.now) (node sym.old v second.now)
-        → (wire_value sym.new v w.0 ≡ true) ↔ EndApartThen (map program_of programs.now) o (node sym.old v first.now) (node sym.old v second.now) (part_of false (node sym.old v place.now) (nodes sym.old v rest.now))) }
+        → AsksFor sym.old sym.new v w (EndApartThen (map program_of programs.now) o (node sym.old v first.now) (node sym.old v second.now) (part_of false (node sym.old v place.now) (nodes sym.old v rest.now)))) }
     ensures grows { Grows (circuit_meanings sym.old) (circuit_meanings sym.new) }
 {
-    let near = some_pair_differs(
-        alloc, sym, domain, programs, order, first, second, fork, firsts,
-    )?;
-    let one = run_on(
+    let apart = differ_behind(
         alloc, sym, domain, programs, first, second, rest, place, fork,
     )?;
-    let other = run_on(
-        alloc, sym, domain, programs, second, first, rest, place, fork,
-    )?;
-    let same = alike(sym, domain, &one, &other)?;
-    let apart = sym.not(&same)?;
-    sym.and(&near, &apart)
+    let near = some_pair_differs(alloc, sym, domain, programs, order, first, second, firsts)?;
+    sym.and(&apart, &near)
 }
 
 /// Whether the order that the codes tell, and the same with the nodes at the place and the next exchanged, end differently from
@@ -121,13 +152,15 @@ pub(crate) fn end_apart(
     requires places { length start.now.present ≡ length domain.now.table.paths }
     requires covers { CoversSteps domain.now.table (programs_in programs.now) }
     ensures wire { IfOk result (λ w. w.0 < length sym.new) }
-    ensures exact { IfOk result (λ w. (v : Valuation) (t : Tree) → Stands domain.now.table (state_of (circuit_meanings sym.old) v start.now) t
+    ensures exact { IfOk result (λ w. (v : Valuation) (t : Tree) → IsTreeOver domain.now t → Stands domain.now.table (state_of (circuit_meanings sym.old) v start.now) t
         → AreAllowed order.now (node sym.old v place.now) (nodes sym.old v codes.now) (exchanged (node sym.old v place.now) (nodes sym.old v codes.now))
-        → (wire_value sym.new v w.0 ≡ true) ↔ (outcome (map program_of programs.now) (nodes sym.old v codes.now) t ≢ outcome (map program_of programs.now) (exchanged (node sym.old v place.now) (nodes sym.old v codes.now)) t)) }
+        → AsksFor sym.old sym.new v w (outcome (map program_of programs.now) (nodes sym.old v codes.now) t ≢ outcome (map program_of programs.now) (exchanged (node sym.old v place.now) (nodes sym.old v codes.now)) t)) }
     ensures grows { Grows (circuit_meanings sym.old) (circuit_meanings sym.new) }
 {
     allowed_orders();
     places();
+    constructs();
+    standing_trees(domain);
     let _nodes = order.count();
     if codes.len() < 2 {
         return sym.constant(false);

@@ -5,11 +5,10 @@ ghost use Rattle.bool_circuit.specs.Gates.{wire_value};
 ghost use Rattle.fs_lang.specs.Meaning.{program_of, programs_in};
 ghost use Rattle.fs_interpreter.specs.Meanings.{Valuation, Grows};
 ghost use Rattle.fs_interpreter.specs.Places.{CoversSteps};
-ghost use Rattle.order_places.specs.Places.{exchanged};
 ghost use Rattle.sym_run.specs.Wires.{AreWires, circuit_meanings};
 ghost use Rattle.order_circuit.specs.Codes.{AreRows, node, nodes};
-ghost use Rattle.order_encode.specs.Goals.{AreAllowed, EndApart, TellsTree};
-ghost use Rattle.order_encode.specs.Asking.{IsAsking};
+ghost use Rattle.order_encode.specs.Goals.{AreAllowed, OrderGoal};
+ghost use Rattle.order_encode.specs.Asking.{AsksFor, IsAsking};
 
 use crate::asking::Asking;
 use crate::ends::end_apart;
@@ -62,8 +61,7 @@ pub(crate) fn goal(
     requires covers { CoversSteps domain.now.table (programs_in programs.now) }
     requires count { length programs.now ≡ order.now.count }
     ensures wire { IfOk result (λ w. w.0 < length sym.new) }
-    ensures exact { IfOk result (λ w. (v : Valuation) → (wire_value sym.new v w.0 ≡ true) ↔ TellsTree domain.now sym.old asking.now.cells
-        (EndApart (map program_of programs.now) order.now (node sym.old v asking.now.place) (nodes sym.old v asking.now.codes) (exchanged (node sym.old v asking.now.place) (nodes sym.old v asking.now.codes))) v) }
+    ensures exact { IfOk result (λ w. (v : Valuation) → AsksFor sym.old sym.new v w (OrderGoal (map program_of programs.now) order.now domain.now sym.old asking.now v)) }
     ensures grows { Grows (circuit_meanings sym.old) (circuit_meanings sym.new) }
 {
     let left = asking.codes.as_slice();

@@ -1,7 +1,6 @@
-use Rattle.std.proofs.Common.{◌≡◌, ◌+◌, ◌-◌, ◌<◌, ◌∷◌, length, take, drop, map, Some, sym, ap, subst, subst₂, ◌∙◌, arith}
+use Rattle.std.proofs.Common.{◌≡◌, ◌+◌, ◌-◌, ◌<◌, ◌∷◌, length, take, drop, map, Some, refl, sym, ap, subst, subst₂, ◌∙◌, arith}
 use Rattle.std.proofs.lemmas.List.{length-map}
 use Rattle.std.specs.Prelude.{slice_index_or}
-use Rattle.bool_circuit.specs.Gates.{wire_value}
 use Rattle.fs_semantics.specs.Programs.{and_then}
 use Rattle.fs_semantics.specs.Orders.{outcome}
 use Rattle.fs_lang.specs.Meaning.{program_of}
@@ -16,7 +15,8 @@ use Rattle.order_places.specs.Places.{exchanged}
 use Rattle.order_encode.specs.Goals.{AreFreeNodes}
 use Rattle.order_encode.proofs.WitnessLaws.{strict_is, exchanged_long}
 use Rattle.order_encode.proofs.GoalLaws.{if_ok}
-use Rattle.order_encode.proofs.ForkLaws.{rows_behind, nodes_ahead, nodes_behind, next_of, differ_by, same_for, apart_is_whole}
+use Rattle.order_encode.proofs.ForkLaws.{rows_behind, nodes_ahead, nodes_behind, next_of, differ_by, apart_is_whole, ends_over}
+use Rattle.order_encode.proofs.ChoiceLaws.{asks_for, asks_from}
 use Rattle.order_encode.proofs.ends.end_apart.Goals as goal
 
 pub code_at-requires-2-clause-codes : goal.code_at-requires-2-clause-codes
@@ -45,7 +45,7 @@ end_apart_from-requires-clause-cells c =
     cells_stay m1 m3 c.in_ok-fork.fork (grows_on m1 m2 m3 c.code_at.ensures.grows c.code_at-2.ensures.grows) c.in_ok-fork.ensures.cells
 
 pub returns-clause-exact : goal.returns-clause-exact
-returns-clause-exact c = if_ok _ _ c.end_apart_from.result (λ w is v t h allowed.
+returns-clause-exact c = if_ok _ _ c.end_apart_from.result (λ w is v t over h allowed.
     let table = c.args.domain.now.table in
     let es = map program_of c.args.programs.now in
     let order = c.args.order.now in
@@ -96,14 +96,16 @@ returns-clause-exact c = if_ok _ _ c.end_apart_from.result (λ w is v t h allowe
     let rest_is : nodes g3 v c.split_at-3.result.1.now ≡ drop 2 xs =
     ap (nodes g3 v) c.split_at-3.ensures.back ∙ nodes_behind g3 v 2 codes ∙ ap (drop 2) (nodes_stay g0 g3 codes g03 c.requires.codes v) in
     let j_is = g03.code place c.requires.place v in
-    let told = is v o fork3 (subst₂ (AreFreeNodes order) (sym first_is) (sym second_is) free) in
+    let ends = ends_over c.constructs.ensures.parents c.args.domain.now c.standing_trees.ensures es (take j (take (length xs - 2) xs)) t (state_of m3 v fork) over o refl fork3 in
+    let told = is v o fork3 ends (subst₂ (AreFreeNodes order) (sym first_is) (sym second_is) free) in
     let one : and_then o (outcome es (node g3 v c.in_ok-first.first ∷ node g3 v c.in_ok-second.second ∷ drop (node g3 v place) (nodes g3 v c.split_at-3.result.1.now))) ≡ and_then o (outcome es (a ∷ b ∷ back)) =
     λ i. and_then o (outcome es (first_is i ∷ second_is i ∷ drop (j_is i) (rest_is i))) in
     let other : and_then o (outcome es (node g3 v c.in_ok-second.second ∷ node g3 v c.in_ok-first.first ∷ drop (node g3 v place) (nodes g3 v c.split_at-3.result.1.now))) ≡ and_then o (outcome es (b ∷ a ∷ back)) =
     λ i. and_then o (outcome es (second_is i ∷ first_is i ∷ drop (j_is i) (rest_is i))) in
     let whole = c.places.ensures.whole xs j inside in
     let exchanged_is = c.places.ensures.exchanged xs j inside in
-    same_for (wire_value c.end_apart_from.new.sym v w.0) (same_for (wire_value c.end_apart_from.new.sym v w.0) told (differ_by _ _ _ _ one other)) (apart_is_whole es j xs a b t whole exchanged_is)) c.end_apart_from.ensures.exact
+    let g4 = c.end_apart_from.new.sym in
+    asks_from g0 g3 g4 v w g03 (asks_for g3 g4 v w (asks_for g3 g4 v w told (differ_by _ _ _ _ one other)) (apart_is_whole es j xs a b t whole exchanged_is))) c.end_apart_from.ensures.exact
 
 pub returns-in_err-first-clause-grows : goal.returns-in_err-first-clause-grows
 returns-in_err-first-clause-grows c =

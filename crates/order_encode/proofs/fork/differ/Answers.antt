@@ -11,7 +11,7 @@ use Rattle.order_encode.proofs.GoalLaws.{not_is, if_ok}
 use Rattle.order_encode.proofs.fork.differ.Goals as goal
 
 pub run_known-requires-2-clause-cells : goal.run_known-requires-2-clause-cells
-run_known-requires-2-clause-cells c = cells_stay (circuit_meanings c.args.sym.now) (circuit_meanings c.run_known.new.sym) c.args.fork.now c.run_known.ensures.grows c.requires.cells
+run_known-requires-2-clause-cells c = cells_stay (circuit_meanings c.args.sym.now) (circuit_meanings c.run_known.new.sym) c.args.start.now c.run_known.ensures.grows c.requires.cells
 
 pub alike-requires-clause-a : goal.alike-requires-clause-a
 alike-requires-clause-a c = cells_stay (circuit_meanings c.run_known.new.sym) (circuit_meanings c.run_known-2.new.sym) c.in_ok-one.one c.run_known-2.ensures.grows c.in_ok-one.ensures.cells
@@ -22,13 +22,13 @@ returns-clause-exact c = if_ok _ _ c.not.result (λ w is v o h.
     let es = map program_of c.args.programs.now in
     let i = c.args.i in
     let k = c.args.k in
-    let fork = c.args.fork.now in
+    let start = c.args.start.now in
     let m0 = circuit_meanings c.args.sym.now in
     let m1 = circuit_meanings c.run_known.new.sym in
     let m2 = circuit_meanings c.run_known-2.new.sym in
     let one : StandsFor table (state_of m1 v c.in_ok-one.one) (and_then o (outcome es (i ∷ k ∷ []))) = c.in_ok-one.ensures.stands v o h in
     let stands = subst (λ (s : State). StandsFor table s (and_then o (outcome es (i ∷ k ∷ [])))) (sym (state_keeps m1 m2 c.in_ok-one.one c.run_known-2.ensures.grows c.in_ok-one.ensures.cells v)) one in
-    let h1 = subst (λ (s : State). StandsFor table s o) (sym (state_keeps m0 m1 fork c.run_known.ensures.grows c.requires.cells v)) h in
+    let h1 = subst (λ (s : State). StandsFor table s o) (sym (state_keeps m0 m1 start c.run_known.ensures.grows c.requires.cells v)) h in
     let other : StandsFor table (state_of m2 v c.in_ok-other.other) (and_then o (outcome es (k ∷ i ∷ []))) = c.in_ok-other.ensures.stands v o h1 in
     let exact = not_is (wire_value c.alike.new.sym v c.in_ok-same.same.0) (c.in_ok-same.ensures.exact v (and_then o (outcome es (i ∷ k ∷ []))) (and_then o (outcome es (k ∷ i ∷ []))) stands other) in
     ((λ e. exact.0 (sym (is.means v) ∙ e)), (λ e. is.means v ∙ exact.1 e))) c.not.ensures.gives

@@ -8,12 +8,15 @@ use Rattle.fs_interpreter.specs.States.{State, state_of}
 use Rattle.fs_interpreter.specs.Standing.{Stands}
 use Rattle.fs_interpreter.proofs.Frames.{grows_on, cells_stay, state_keeps}
 use Rattle.order_places.specs.Places.{exchanged}
+use Rattle.sym_run.specs.Trees.{IsTreeOver}
 use Rattle.sym_run.specs.Wires.{circuit_meanings}
 use Rattle.order_circuit.specs.Codes.{node, nodes, AreRows}
 use Rattle.order_circuit.proofs.RunLaws.{nodes_stay, rows_stay}
+use Rattle.order_encode.specs.Asking.{AsksFor}
 use Rattle.order_encode.specs.Goals.{AreAllowed}
-use Rattle.order_encode.proofs.GoalLaws.{apart_is, if_ok}
-use Rattle.order_encode.proofs.ForkLaws.{same_for, differ_by}
+use Rattle.order_encode.proofs.GoalLaws.{if_ok}
+use Rattle.order_encode.proofs.ForkLaws.{differ_by}
+use Rattle.order_encode.proofs.ChoiceLaws.{asks_for, asks_apart}
 use Rattle.order_encode.proofs.goal.goal.Goals as goal
 
 pub returns-clause-exact : goal.returns-clause-exact
@@ -53,15 +56,13 @@ returns-clause-exact c = if_ok _ _ c.and-2.result (λ w is v.
     let order_is : nodes s3 v c.as_slice-left.result.now ≡ left = ap (nodes s3 v) here ∙ left3 in
     let j3 = g03.code a.place asks.place v in
     let right_is : exchanged (node s3 v a.place) (nodes s3 v c.as_slice-left.result.now) ≡ exchanged j left = λ x. exchanged (j3 x) (order_is x) in
-    let differ : (t : Tree) → Stands d.table (state_of m0 v a.cells) t → AreAllowed order j left (exchanged j left) → (wire_value s4 v c.in_ok-differ.differ.0 ≡ true) ↔ (outcome es left t ≢ outcome es (exchanged j left) t) = λ t h fine.
+    let differ : (t : Tree) → IsTreeOver d t → Stands d.table (state_of m0 v a.cells) t → AreAllowed order j left (exchanged j left) → AsksFor s3 s4 v c.in_ok-differ.differ (outcome es left t ≢ outcome es (exchanged j left) t) = λ t over h fine.
     let h3 = subst (λ (s : State). Stands d.table s t) (sym (state_keeps m0 m3 a.cells g03 asks.trees.are_cells v)) h in
     let fine3 = subst (λ k. AreAllowed order k (nodes s3 v c.as_slice-left.result.now) (exchanged (node s3 v a.place) (nodes s3 v c.as_slice-left.result.now))) (sym j3)
     (subst₂ (AreAllowed order j) (sym order_is) (sym right_is) fine) in
-    same_for (wire_value s4 v c.in_ok-differ.differ.0) (c.in_ok-differ.ensures.exact v t h3 fine3) (differ_by _ _ _ _ (ap (λ xs. outcome es xs t) order_is) (ap (λ xs. outcome es xs t) right_is)) in
-    let exact = apart_is g0 d a.cells a.well es order j left (exchanged j left) v (wire_value s2 v c.in_ok-fine.fine.0) (wire_value s4 v c.in_ok-differ.differ.0) asks.trees allowed differ in
-    let both = g34.bit c.in_ok-both.both c.in_ok-both.ensures.gives.owned v ∙ c.in_ok-both.ensures.gives.means v ∙ ap (λ b. b && wire_value s2 v c.in_ok-fine.fine.0) (g02.bit a.well asks.trees.owned v) in
-    let told = is.means v ∙ ap (λ b. b && wire_value s4 v c.in_ok-differ.differ.0) both in
-    ((λ e. exact.0 (sym told ∙ e)), (λ e. told ∙ exact.1 e))) c.and-2.ensures.gives
+    asks_for s3 s4 v c.in_ok-differ.differ (c.in_ok-differ.ensures.exact v t over h3 fine3) (differ_by _ _ _ _ (ap (λ xs. outcome es xs t) order_is) (ap (λ xs. outcome es xs t) right_is)) in
+    let both = c.in_ok-both.ensures.gives.means v ∙ ap (λ b. b && wire_value s2 v c.in_ok-fine.fine.0) (g02.bit a.well asks.trees.owned v) in
+    asks_apart g0 s3 s4 c.and-2.new.self d a.cells a.well es order j left (exchanged j left) v (wire_value s2 v c.in_ok-fine.fine.0) c.in_ok-both.both c.in_ok-differ.differ w asks.trees g03 g34 c.in_ok-both.ensures.gives.owned both allowed differ is.means) c.and-2.ensures.gives
 
 pub end_apart-requires-clause-cells : goal.end_apart-requires-clause-cells
 end_apart-requires-clause-cells c =

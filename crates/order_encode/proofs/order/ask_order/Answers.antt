@@ -1,4 +1,4 @@
-use Rattle.std.proofs.Common.{◌^◌, ◌≤◌, List, map, subst, sym, ◌∙◌, arith}
+use Rattle.std.proofs.Common.{◌^◌, ◌≤◌, List, map, subst, ◌∙◌, arith}
 use Rattle.std.proofs.lemmas.List.{length-map}
 use Rattle.bool_circuit.specs.declared.gate.Gate.{Gate}
 use Rattle.cnf.specs.Encoding.{inputs_in}
@@ -29,7 +29,7 @@ pose-requires-clause-readable c = λ v h.
     let inputs = c.in_ok-inputs.inputs in
     let is = subst (λ n. IsAsking s1 d n inputs) c.count.ensures.count c.in_ok-inputs.ensures.asking in
     let small : order.count ≤ 2 ^ 32 = omega (arith, c.count.ensures.count) in
-    order_readable c.allowed_orders.ensures.exact (map program_of c.args.programs.now) order d s1 c.goal.new.sym inputs v c.count.ensures.ordered small is c.goal.ensures.grows ((c.in_ok-asked.ensures.exact v).0 h)
+    order_readable c.allowed_orders.ensures.exact (map program_of c.args.programs.now) order d s1 c.goal.new.sym inputs v c.count.ensures.ordered small is c.goal.ensures.grows ((c.in_ok-asked.ensures.exact v).sound h)
 
 pub returns-clause-exact : goal.returns-clause-exact
 returns-clause-exact c = if_ok _ _ c.pose.result (λ q states.
