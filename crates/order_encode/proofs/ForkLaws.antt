@@ -18,6 +18,10 @@ use Rattle.order_circuit.proofs.RunLaws.{after}
 use Rattle.order_encode.specs.Asking.{IsOutcomeOver}
 use Rattle.order_encode.specs.Goals.{are_these, EndApartThen, EndApartAt}
 
+pub both_is : {P : Type 0} (a b : Bool) → (b ≡ true) ↔ P → ((a && b) ≡ true) ↔ ((a ≡ true) × P)
+both_is true b h = ((λ e. (refl, h.0 e)), (λ p. h.1 p.1))
+both_is false b h = ((λ e. cc), (λ p. p.0))
+
 pub either_true : (a b : Bool) → b ≡ true → cond a a b ≡ true
 either_true true b h = refl
 either_true false b h = h

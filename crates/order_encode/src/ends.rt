@@ -96,7 +96,7 @@ fn differ_behind(
 }
 
 /// The same, and that some free pair of nodes, told by the codes, has programs that end apart from some tree. Where the orders
-/// end differently the fork's tree is such a tree, so that the inputs of the pair can be chosen.
+/// end differently the fork's tree is such a tree, and the inputs that tell one can be chosen so.
 fn end_apart_from(
     alloc: Global,
     sym: &mut Sym,

@@ -92,32 +92,7 @@ fn differ(
     sym.not(&same)
 }
 
-/// Whether new inputs tell a tree over the domain from which the two programs end apart. The tree is the pair's own: whether
-/// there is one is then asked of a few gates alone, while whatever were decided about cells that others share would go on
-/// through all the circuit.
-fn differ_somewhere(
-    alloc: Global,
-    sym: &mut Sym,
-    domain: &Domain,
-    programs: &[Program],
-    i: u32,
-    k: u32,
-) -> Result<Wire, NoMemory>
-    requires i { i < length programs.now }
-    requires k { k < length programs.now }
-    requires covers { CoversSteps domain.now.table (programs_in programs.now) }
-    ensures wire { IfOk result (λ w. w.0 < length sym.new) }
-    ensures found { IfOk result (λ w. (u : Valuation) (t : Tree) → IsTreeOver domain.now t
-        → EndApartAt (map program_of programs.now) (Some t) i k → CanBeTrue sym.old sym.new u w) }
-    ensures grows { Grows (circuit_meanings sym.old) (circuit_meanings sym.new) }
-{
-    let _inputs = sym.circuit().inputs();
-    let (start, well) = any_tree(alloc, sym, domain)?;
-    let apart = differ(alloc, sym, domain, programs, i, k, &start)?;
-    sym.and(&well, &apart)
-}
-
-/// Whether the codes tell these two nodes, whose programs end apart from some tree.
+/// Whether the codes tell these two nodes, whose programs end apart.
 fn pair_differs(
     alloc: Global,
     sym: &mut Sym,
@@ -127,24 +102,27 @@ fn pair_differs(
     k: u32,
     first: &Seq<Wire>,
     second: &Seq<Wire>,
+    start: &Cells<Sym>,
 ) -> Result<Wire, NoMemory>
     requires i { i < length programs.now }
     requires k { k < length programs.now }
     requires first { AreWires sym.old first.now }
     requires second { AreWires sym.old second.now }
+    requires cells { AreCells (circuit_meanings sym.old) start.now }
+    requires places { length start.now.present ≡ length domain.now.table.paths }
     requires covers { CoversSteps domain.now.table (programs_in programs.now) }
     ensures wire { IfOk result (λ w. w.0 < length sym.new) }
-    ensures found { IfOk result (λ w. (u : Valuation) (t : Tree) → IsTreeOver domain.now t
-        → are_these i k (node sym.old u first.now) (node sym.old u second.now) ≡ true → EndApartAt (map program_of programs.now) (Some t) i k → CanBeTrue sym.old sym.new u w) }
+    ensures exact { IfOk result (λ w. (v : Valuation) (o : Outcome) → StandsFor domain.now.table (state_of (circuit_meanings sym.old) v start.now) o
+        → (wire_value sym.new v w.0 ≡ true) ↔ ((are_these i k (node sym.old v first.now) (node sym.old v second.now) ≡ true) × EndApartAt (map program_of programs.now) o i k)) }
     ensures grows { Grows (circuit_meanings sym.old) (circuit_meanings sym.new) }
 {
     let told = tells_pair(sym, i, k, first, second)?;
-    let apart = differ_somewhere(alloc, sym, domain, programs, i, k)?;
+    let apart = differ(alloc, sym, domain, programs, i, k, start)?;
     sym.and(&told, &apart)
 }
 
 /// Whether it is so already, or the codes tell these two nodes, neither of which comes before the other, and whose programs
-/// end apart from some tree. The wire for the pair is one of those that a solver may try first.
+/// end apart. The wire for the pair is one of those that a solver may try first.
 fn with_pair(
     alloc: Global,
     sym: &mut Sym,
@@ -155,6 +133,7 @@ fn with_pair(
     k: u32,
     first: &Seq<Wire>,
     second: &Seq<Wire>,
+    start: &Cells<Sym>,
     any: Wire,
     firsts: &mut Vec<Wire>,
 ) -> Result<Wire, NoMemory>
@@ -163,12 +142,14 @@ fn with_pair(
     requires k { k < order.now.count }
     requires first { AreWires sym.old first.now }
     requires second { AreWires sym.old second.now }
+    requires cells { AreCells (circuit_meanings sym.old) start.now }
+    requires places { length start.now.present ≡ length domain.now.table.paths }
     requires covers { CoversSteps domain.now.table (programs_in programs.now) }
     requires any { any.0 < length sym.old }
     ensures wire { IfOk result (λ w. w.0 < length sym.new) }
     ensures stays { IfOk result (λ w. (v : Valuation) → wire_value sym.old v any.0 ≡ true → wire_value sym.new v w.0 ≡ true) }
-    ensures found { IfOk result (λ w. (u : Valuation) (t : Tree) → IsTreeOver domain.now t
-        → IsFree (Comes order.now) i k → are_these i k (node sym.old u first.now) (node sym.old u second.now) ≡ true → EndApartAt (map program_of programs.now) (Some t) i k → CanBeTrue sym.old sym.new u w) }
+    ensures found { IfOk result (λ w. (v : Valuation) (o : Outcome) → StandsFor domain.now.table (state_of (circuit_meanings sym.old) v start.now) o
+        → IsFree (Comes order.now) i k → are_these i k (node sym.old v first.now) (node sym.old v second.now) ≡ true → EndApartAt (map program_of programs.now) o i k → wire_value sym.new v w.0 ≡ true) }
     ensures grows { Grows (circuit_meanings sym.old) (circuit_meanings sym.new) }
 {
     let ahead = order.before(i, k);
@@ -179,12 +160,12 @@ fn with_pair(
     if behind {
         return Ok(any);
     }
-    let one = pair_differs(alloc, sym, domain, programs, i, k, first, second)?;
+    let one = pair_differs(alloc, sym, domain, programs, i, k, first, second, start)?;
     firsts.push(one)?;
     sym.mux(&any, &any, &one)
 }
 
-/// Whether it is so already, or the codes tell this node and a later one, and their programs end apart from some tree.
+/// Whether it is so already, or the codes tell this node and a later one, and their programs end apart.
 fn with_row(
     alloc: Global,
     sym: &mut Sym,
@@ -194,6 +175,7 @@ fn with_row(
     i: u32,
     first: &Seq<Wire>,
     second: &Seq<Wire>,
+    start: &Cells<Sym>,
     so_far: Wire,
     firsts: &mut Vec<Wire>,
 ) -> Result<Wire, NoMemory>
@@ -201,26 +183,62 @@ fn with_row(
     requires i { i < order.now.count }
     requires first { AreWires sym.old first.now }
     requires second { AreWires sym.old second.now }
+    requires cells { AreCells (circuit_meanings sym.old) start.now }
+    requires places { length start.now.present ≡ length domain.now.table.paths }
     requires covers { CoversSteps domain.now.table (programs_in programs.now) }
     requires so_far { so_far.0 < length sym.old }
     ensures wire { IfOk result (λ w. w.0 < length sym.new) }
     ensures stays { IfOk result (λ w. (v : Valuation) → wire_value sym.old v so_far.0 ≡ true → wire_value sym.new v w.0 ≡ true) }
-    ensures found { IfOk result (λ w. (u : Valuation) (t : Tree) → IsTreeOver domain.now t
-        → (k : ℕ) → i < k → k < order.now.count → IsFree (Comes order.now) i k → are_these i k (node sym.old u first.now) (node sym.old u second.now) ≡ true → EndApartAt (map program_of programs.now) (Some t) i k → CanBeTrue sym.old sym.new u w) }
+    ensures found { IfOk result (λ w. (v : Valuation) (o : Outcome) → StandsFor domain.now.table (state_of (circuit_meanings sym.old) v start.now) o
+        → (k : ℕ) → i < k → k < order.now.count → IsFree (Comes order.now) i k → are_these i k (node sym.old v first.now) (node sym.old v second.now) ≡ true → EndApartAt (map program_of programs.now) o i k → wire_value sym.new v w.0 ≡ true) }
     ensures grows { Grows (circuit_meanings sym.old) (circuit_meanings sym.new) }
 {
     let n = order.count();
     let mut any = so_far;
     for k in i + 1..n {
         any = with_pair(
-            alloc, sym, domain, programs, order, i, k, first, second, any, firsts,
+            alloc, sym, domain, programs, order, i, k, first, second, start, any, firsts,
+        )?;
+    }
+    Ok(any)
+}
+
+/// Where the nodes that the codes tell are free, and their programs end apart from the cells, the one way and the other, this
+/// is true.
+fn some_pair(
+    alloc: Global,
+    sym: &mut Sym,
+    domain: &Domain,
+    programs: &[Program],
+    order: &Order,
+    first: &Seq<Wire>,
+    second: &Seq<Wire>,
+    start: &Cells<Sym>,
+    firsts: &mut Vec<Wire>,
+) -> Result<Wire, NoMemory>
+    requires count { length programs.now ≡ order.now.count }
+    requires first { AreWires sym.old first.now }
+    requires second { AreWires sym.old second.now }
+    requires cells { AreCells (circuit_meanings sym.old) start.now }
+    requires places { length start.now.present ≡ length domain.now.table.paths }
+    requires covers { CoversSteps domain.now.table (programs_in programs.now) }
+    ensures wire { IfOk result (λ w. w.0 < length sym.new) }
+    ensures found { IfOk result (λ w. (v : Valuation) (o : Outcome) → StandsFor domain.now.table (state_of (circuit_meanings sym.old) v start.now) o
+        → AreFreeNodes order.now (node sym.old v first.now) (node sym.old v second.now) → EndApartAt (map program_of programs.now) o (node sym.old v first.now) (node sym.old v second.now) → wire_value sym.new v w.0 ≡ true) }
+    ensures grows { Grows (circuit_meanings sym.old) (circuit_meanings sym.new) }
+{
+    let mut any = sym.constant(false)?;
+    for i in 0..order.count() {
+        any = with_row(
+            alloc, sym, domain, programs, order, i, first, second, start, any, firsts,
         )?;
     }
     Ok(any)
 }
 
 /// Where the nodes that the codes tell are free, and their programs end apart from a tree over the domain, the one way and
-/// the other, the new inputs can be chosen so that this is true.
+/// the other, the new inputs can be chosen so that this is true. They tell a tree that the pairs share and nothing else: what is
+/// decided about its cells goes on through the pairs alone, and what is learned of them for one pair serves the others.
 pub(crate) fn some_pair_differs(
     alloc: Global,
     sym: &mut Sym,
@@ -240,11 +258,10 @@ pub(crate) fn some_pair_differs(
         → AreFreeNodes order.now (node sym.old u first.now) (node sym.old u second.now) → EndApartAt (map program_of programs.now) (Some t) (node sym.old u first.now) (node sym.old u second.now) → CanBeTrue sym.old sym.new u w) }
     ensures grows { Grows (circuit_meanings sym.old) (circuit_meanings sym.new) }
 {
-    let mut any = sym.constant(false)?;
-    for i in 0..order.count() {
-        any = with_row(
-            alloc, sym, domain, programs, order, i, first, second, any, firsts,
-        )?;
-    }
-    Ok(any)
+    let _inputs = sym.circuit().inputs();
+    let (start, well) = any_tree(alloc, sym, domain)?;
+    let pair = some_pair(
+        alloc, sym, domain, programs, order, first, second, &start, firsts,
+    )?;
+    sym.and(&well, &pair)
 }

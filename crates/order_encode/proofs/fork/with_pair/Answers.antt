@@ -7,10 +7,9 @@ use Rattle.order_encode.proofs.ForkLaws.{either_true}
 use Rattle.order_encode.proofs.fork.with_pair.Goals as goal
 
 pub returns-clause-found : goal.returns-clause-found
-returns-clause-found c = if_ok _ _ c.mux.result (λ w is u t over free these apart.
+returns-clause-found c = if_ok _ _ c.mux.result (λ w is v o h free these apart.
     let s1 = c.pair_differs.new.sym in
-    let found = c.in_ok-one.ensures.found u t over these apart in
-    (found.0, found.1, is.means found.0 ∙ either_true (wire_value s1 found.0 c.args.any.0) (wire_value s1 found.0 c.in_ok-one.one.0) found.2)) c.mux.ensures.gives
+    is.means v ∙ either_true (wire_value s1 v c.args.any.0) (wire_value s1 v c.in_ok-one.one.0) ((c.in_ok-one.ensures.exact v o h).1 (these, apart))) c.mux.ensures.gives
 
 pub returns-clause-grows : goal.returns-clause-grows
 returns-clause-grows c =

@@ -1,14 +1,15 @@
-use Rattle.std.proofs.Common.{◌≡◌, ◌==◌, true, false, map, Some, refl, subst, sym, ◌∙◌, eqb-true}
+use Rattle.std.proofs.Common.{◌≡◌, ◌==◌, true, false, map, refl, subst, sym, ◌∙◌, eqb-true}
 use Rattle.std.proofs.lemmas.Bool.{eqb-false}
+use Rattle.bool_circuit.specs.Gates.{wire_value}
 use Rattle.fs_semantics.specs.Orders.{IsFree}
 use Rattle.fs_lang.specs.Meaning.{program_of}
-use Rattle.fs_interpreter.proofs.Frames.{grows_on}
+use Rattle.fs_interpreter.specs.States.{State}
+use Rattle.fs_interpreter.specs.Standing.{StandsFor}
+use Rattle.fs_interpreter.proofs.Frames.{grows_on, cells_stay, state_keeps}
 use Rattle.orders.specs.Relation.{Comes}
 use Rattle.sym_run.specs.Wires.{circuit_meanings}
-use Rattle.order_encode.specs.Asking.{CanBeTrue}
 use Rattle.order_encode.specs.Goals.{are_these, EndApartAt}
 use Rattle.order_encode.proofs.ForkLaws.{below}
-use Rattle.order_encode.proofs.ChoiceLaws.{can_from}
 use Rattle.order_encode.proofs.fork.with_row.Goals as goal
 
 pub loop-k-preserved : goal.loop-k-preserved
@@ -16,11 +17,14 @@ loop-k-preserved c =
     let before = c.loop-k.invariant in
     let g0 = c.args.sym.now in
     let g1 = c.loop-k.sym in
-    let g2 = c.with_pair.new.sym in
+    let m0 = circuit_meanings g0 in
+    let m1 = circuit_meanings g1 in
+    let m2 = circuit_meanings c.with_pair.new.sym in
     let i = c.args.i in
     let k = c.loop-k.k in
     let first = c.args.first.now in
     let second = c.args.second.now in
+    let fork = c.args.start.now in
     let order = c.args.order.now in
     let es = map program_of c.args.programs.now in
     let pair = c.in_ok-any.ensures in
@@ -28,21 +32,21 @@ loop-k-preserved c =
       any = pair.wire;
       first = c.with_pair.ensures.grows.owns_code first before.first;
       second = c.with_pair.ensures.grows.owns_code second before.second;
-      grows = grows_on (circuit_meanings g0) (circuit_meanings g1) (circuit_meanings g2) before.grows c.with_pair.ensures.grows;
+      cells = cells_stay m1 m2 fork c.with_pair.ensures.grows before.cells;
+      grows = grows_on m0 m1 m2 before.grows c.with_pair.ensures.grows;
       stays = λ v e. pair.stays v (before.stays v e);
-      found = λ u t over n low high free these apart. elim (n == k) as (λ b. (n == k) ≡ b → CanBeTrue g0 g2 u c.in_ok-any.any) [
+      found = λ v o h n low high free these apart. elim (n == k) as (λ b. (n == k) ≡ b → wire_value c.with_pair.new.sym v c.in_ok-any.any.0 ≡ true) [
         | true ↦ λ e.
             let same = eqb-true n k e in
-            let first_is = before.grows.code first c.requires.first u in
-            let second_is = before.grows.code second c.requires.second u in
-            can_from g0 g1 g2 u c.in_ok-any.any before.grows
-            (pair.found u t over (subst (λ m. IsFree (Comes order) i m) same free)
-            ((λ x. are_these i (sym same x) (first_is x) (second_is x)) ∙ these)
-            (subst (λ m. EndApartAt es (Some t) i m) same apart))
+            let h1 = subst (λ (s : State). StandsFor c.args.domain.now.table s o) (sym (state_keeps m0 m1 fork before.grows c.requires.cells v)) h in
+            let first_is = before.grows.code first c.requires.first v in
+            let second_is = before.grows.code second c.requires.second v in
+            pair.found v o h1 (subst (λ m. IsFree (Comes order) i m) same free)
+            ((λ t. are_these i (sym same t) (first_is t) (second_is t)) ∙ these)
+            (subst (λ m. EndApartAt es o i m) same apart)
         | false ↦ λ e.
             let other = eqb-false n k e in
-            let found = before.found u t over n low (below n k high other) free these apart in
-            (found.0, found.1, pair.stays found.0 found.2)
+            pair.stays v (before.found v o h n low (below n k high other) free these apart)
       ] refl;
     }
 

@@ -1,14 +1,14 @@
-use Rattle.std.proofs.Common.{◌≡◌, ℕ, ◌<◌, true, length, map, Some}
+use Rattle.std.proofs.Common.{◌≡◌, ℕ, ◌<◌, true, length, map}
 use Rattle.bool_circuit.specs.Gates.{wire_value}
-use Rattle.fs_semantics.specs.FileTree.{Tree}
+use Rattle.fs_semantics.specs.Programs.{Outcome}
 use Rattle.fs_semantics.specs.Orders.{IsFree}
 use Rattle.fs_lang.specs.Meaning.{program_of}
 use Rattle.fs_interpreter.specs.Meanings.{Grows, Valuation}
+use Rattle.fs_interpreter.specs.Standing.{StandsFor}
+use Rattle.fs_interpreter.specs.States.{AreCells, state_of}
 use Rattle.orders.specs.Relation.{Comes}
-use Rattle.sym_run.specs.Trees.{IsTreeOver}
 use Rattle.sym_run.specs.Wires.{AreWires, circuit_meanings}
 use Rattle.order_circuit.specs.Codes.{node}
-use Rattle.order_encode.specs.Asking.{CanBeTrue}
 use Rattle.order_encode.specs.Goals.{are_these, EndApartAt}
 use Rattle.order_encode.proofs.fork.with_row.Given as goal
 
@@ -18,8 +18,9 @@ invariant-loop-k l = record {
   any : l.any.0 < length l.sym;
   first : AreWires l.sym l.first;
   second : AreWires l.sym l.second;
+  cells : AreCells (circuit_meanings l.sym) l.start;
   stays : (v : Valuation) → wire_value l.fn.sym v l.fn.so_far.0 ≡ true → wire_value l.sym v l.any.0 ≡ true;
-  found : (u : Valuation) (t : Tree) → IsTreeOver l.domain t → (n : ℕ) → l.i < n → n < l.k → IsFree (Comes l.order) l.i n
-      → are_these l.i n (node l.fn.sym u l.first) (node l.fn.sym u l.second) ≡ true → EndApartAt (map program_of l.programs) (Some t) l.i n → CanBeTrue l.fn.sym l.sym u l.any;
+  found : (v : Valuation) (o : Outcome) → StandsFor l.domain.table (state_of (circuit_meanings l.fn.sym) v l.start) o → (n : ℕ) → l.i < n → n < l.k → IsFree (Comes l.order) l.i n
+      → are_these l.i n (node l.fn.sym v l.first) (node l.fn.sym v l.second) ≡ true → EndApartAt (map program_of l.programs) o l.i n → wire_value l.sym v l.any.0 ≡ true;
   grows : Grows (circuit_meanings l.fn.sym) (circuit_meanings l.sym);
 }

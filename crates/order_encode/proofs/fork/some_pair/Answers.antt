@@ -1,0 +1,79 @@
+use Rattle.std.proofs.Common.{◌≡◌, ◌<◌, ◌==◌, true, false, map, refl, subst, sym, ◌∙◌, arith, eqb-true}
+use Rattle.std.proofs.lemmas.Bool.{eqb-false}
+use Rattle.bool_circuit.specs.Gates.{wire_value}
+use Rattle.fs_semantics.specs.Orders.{IsFree}
+use Rattle.fs_lang.specs.Meaning.{program_of}
+use Rattle.orders.specs.Relation.{Comes}
+use Rattle.order_encode.specs.Goals.{are_these, EndApartAt}
+use Rattle.order_encode.proofs.ForkLaws.{below, at_either, one_of, themselves, these_turned, free_turned, apart_turned}
+use Rattle.fs_interpreter.specs.States.{State}
+use Rattle.fs_interpreter.specs.Standing.{StandsFor}
+use Rattle.fs_interpreter.proofs.Frames.{grows_on, cells_stay, state_keeps}
+use Rattle.sym_run.specs.Wires.{circuit_meanings}
+use Rattle.order_circuit.specs.Codes.{node}
+use Rattle.order_encode.proofs.fork.some_pair.Goals as goal
+
+pub loop-i-init : goal.loop-i-init
+loop-i-init c =
+    let g = c.constant.ensures.grows in
+    record {
+      any = c.in_ok-any.ensures.gives.owned;
+      first = g.owns_code c.args.first.now c.requires.first;
+      second = g.owns_code c.args.second.now c.requires.second;
+      cells = cells_stay (circuit_meanings c.args.sym.now) (circuit_meanings c.constant.new.self) c.args.start.now g c.requires.cells;
+      found = λ v o h m n low less high free these apart. absurd (omega (arith, low));
+      grows = g;
+    }
+
+pub loop-i-preserved : goal.loop-i-preserved
+loop-i-preserved c =
+    let before = c.loop-i.invariant in
+    let g0 = c.args.sym.now in
+    let g1 = c.loop-i.sym in
+    let m0 = circuit_meanings g0 in
+    let m1 = circuit_meanings g1 in
+    let m2 = circuit_meanings c.with_row.new.sym in
+    let i = c.loop-i.i in
+    let first = c.args.first.now in
+    let second = c.args.second.now in
+    let fork = c.args.start.now in
+    let order = c.args.order.now in
+    let es = map program_of c.args.programs.now in
+    let row = c.in_ok-any-2.ensures in
+    record {
+      any = row.wire;
+      first = c.with_row.ensures.grows.owns_code first before.first;
+      second = c.with_row.ensures.grows.owns_code second before.second;
+      cells = cells_stay m1 m2 fork c.with_row.ensures.grows before.cells;
+      grows = grows_on m0 m1 m2 before.grows c.with_row.ensures.grows;
+      found = λ v o h m n low less high free these apart. elim (m == i) as (λ b. (m == i) ≡ b → wire_value c.with_row.new.sym v c.in_ok-any-2.any.0 ≡ true) [
+        | true ↦ λ e.
+            let same = eqb-true m i e in
+            let h1 = subst (λ (s : State). StandsFor c.args.domain.now.table s o) (sym (state_keeps m0 m1 fork before.grows c.requires.cells v)) h in
+            let first_is = before.grows.code first c.requires.first v in
+            let second_is = before.grows.code second c.requires.second v in
+            row.found v o h1 n (subst (λ k. k < n) same less) high (subst (λ k. IsFree (Comes order) k n) same free)
+            ((λ t. are_these (sym same t) n (first_is t) (second_is t)) ∙ these)
+            (subst (λ k. EndApartAt es o k n) same apart)
+        | false ↦ λ e.
+            let other = eqb-false m i e in
+            row.stays v (before.found v o h m n (below m i low other) less high free these apart)
+      ] refl;
+    }
+
+pub returns-in_err-any-2-clause-grows : goal.returns-in_err-any-2-clause-grows
+returns-in_err-any-2-clause-grows c = grows_on (circuit_meanings c.args.sym.now) (circuit_meanings c.loop-i.sym) (circuit_meanings c.with_row.new.sym) c.loop-i.invariant.grows c.with_row.ensures.grows
+
+pub returns-clause-found : goal.returns-clause-found
+returns-clause-found c = λ v o h nodes apart.
+    let before = c.loop-i.invariant in
+    let g0 = c.args.sym.now in
+    let x = node g0 v c.args.first.now in
+    let y = node g0 v c.args.second.now in
+    let es = map program_of c.args.programs.now in
+    let found = before.found v o h in
+    let first = nodes.first in
+    let second = nodes.second in
+    at_either (one_of x y nodes.free.differ)
+    (λ less. found x y (omega (arith, first)) less second nodes.free (themselves x y) apart)
+    (λ less. found y x (omega (arith, second)) less first (free_turned (Comes c.args.order.now) x y nodes.free) (these_turned x y x y (themselves x y)) (apart_turned es o x y apart))
