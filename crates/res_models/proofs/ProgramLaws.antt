@@ -1,5 +1,5 @@
 -- Programs, one resource after another.
-use Rattle.std.proofs.Common.{◌≡◌, ℕ, List, [], ◌∷◌, ◌++◌, append-nil, append_assoc, refl, sym, ap, ◌∙◌}
+use Rattle.std.proofs.Common.{◌≡◌, List, [], ◌∷◌, ◌++◌, append-nil, append_assoc, refl, sym, ap, ◌∙◌}
 use Rattle.std.specs.Prelude.{Result, Ok, Err}
 use Rattle.rh_base.specs.declared.fault.Refusal.{Refusal}
 use Rattle.rh_base.specs.declared.fault.Fault.{Fault}
@@ -9,9 +9,8 @@ use Rattle.fs_semantics.specs.Programs.{Program}
 use Rattle.pp_eval.specs.Verdicts.{Refuses}
 use Rattle.catalog_semantics.specs.declared.catalog.Resource.{Resource}
 use Rattle.pkg_listing.specs.Packages.{Packages}
-use Rattle.model_semantics.specs.Names as names
 use Rattle.model_semantics.specs.Words.{sequence}
-use Rattle.model_semantics.specs.Models.{model_of, if_new, or_refused, first_and, programs_with, programs_behind, programs}
+use Rattle.model_semantics.specs.Models.{first_and, programs_with, programs_behind, programs}
 use Rattle.res_models.specs.Seen.{AddsProgram}
 
 -- programs behind others
