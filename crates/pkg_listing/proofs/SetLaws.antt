@@ -64,10 +64,6 @@ pub keyed_last : (es : List (List ℕ × Path)) (e : List ℕ × Path) → AreKe
 keyed_last [] e h k s = ((k, s), tt)
 keyed_last (x ∷ es) e h k s = (h.0, keyed_last es e h.1 k s)
 
-pub keyed_grows : (es new : List (List ℕ × Path)) (key : List ℕ) (copy p : Path) → new ≡ es ++ (key, copy) ∷ [] → key ≡ path_text p → copy ≡ p → AreKeyed es → AllByRecursion IsSegment p → AreKeyed new
-keyed_grows es new key copy p pushed key_is copied h s =
-    subst AreKeyed (sym pushed) (keyed_last es (key, copy) h (key_is ∙ ap path_text (sym copied)) (subst (AllByRecursion IsSegment) (sym copied) s))
-
 pub none_found : (r : Option (Bor Path)) (o : Option Path) → option_map (λ x. x.now) r ≡ o → is_some r ≡ false → o ≡ None
 none_found None o h e = sym h
 none_found (Some x) o h e = absurd (true≢false e)

@@ -1,7 +1,6 @@
 //! Which resources a collector matches.
 #![tactic(auto)]
 
-mod equality;
 mod matching;
 
 pub use matching::matches;

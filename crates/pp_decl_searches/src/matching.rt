@@ -7,9 +7,8 @@ ghost use Rattle.pp_value.specs.Values.{same};
 ghost use Rattle.catalog_semantics.specs.States.{is_class};
 ghost use Rattle.catalog_semantics.specs.Collecting.{is_or_has, has_value, meets, meets_any, matches};
 
-use crate::equality::{same, same_text};
 use catalog_semantics::{Collector, Resource, Sort, Wish};
-use pp_value::Value;
+use pp_value::{Value, same, same_text};
 use rh_base::Text;
 
 fn any_same(x: &Value, members: &[Value]) -> bool
@@ -43,7 +42,7 @@ fn is_title(x: &Value, title: &Text) -> bool
     ensures { result ≡ is_or_has x.now (v.Str title.now) }
 {
     match x {
-        Value::Str(text) => same_text(title, text),
+        Value::Str(text) => same_text(title.as_str(), text.as_str()),
         _ => false,
     }
 }

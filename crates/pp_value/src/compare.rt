@@ -58,7 +58,8 @@ fn same_ref(a: &Ref, b: &Ref) -> bool
     kind && title
 }
 
-/// Whether two values without opaque ones are equal.
+/// Whether two values are equal. An opaque value is equal to none, itself included; the order of a map's pairs and the
+/// ASCII case of texts don't count.
 #[cycle(same)]
 #[tactic(auto, using(crate::specs::Levels::same_list_other, crate::specs::Levels::same_map_other, crate::specs::Levels::on_list_of, crate::specs::Levels::on_map_of))]
 pub fn same(a: &Value, b: &Value) -> bool

@@ -15,7 +15,7 @@ mod texts;
 mod types;
 mod value;
 
-pub use compare::{equal, has_opaque, less, within};
+pub use compare::{equal, has_opaque, less, same, within};
 pub use fault::{Misfit, ValueFault};
 pub use keyed::Keyed;
 pub use laws::{
@@ -27,5 +27,6 @@ pub use numbers::{multiply, negate, subtract};
 pub use operations::{add, member};
 pub use showing::{show, shown_ref};
 pub use sizes::{exceeds_limits, size};
+pub use texts::same_text;
 pub use types::fits;
 pub use value::{Pairs, Ref, Value, copy_pairs};
