@@ -1,2 +1,3 @@
 pub mod QuestionLaws
 pub mod JudgeLaws
+pub mod CommuteLaws

@@ -1,7 +1,7 @@
 -- What comes of a question of order, and what is known when the first question has been answered.
-use Rattle.std.specs.Prelude.{◌≡◌, ◌↔◌, ℕ, ◌-◌, ◌^◌, List, [], length, Bool}
+use Rattle.std.specs.Prelude.{◌≡◌, ◌≢◌, ◌⊎◌, ◌↔◌, ℕ, ◌-◌, ◌^◌, List, [], length, Bool}
 use Rattle.fs_semantics.specs.Programs.{Program}
-use Rattle.fs_semantics.specs.Orders.{Told, IsDeterministic}
+use Rattle.fs_semantics.specs.Orders.{Told, IsDeterministic, FreeCommute}
 use Rattle.orders.specs.Relation.{Relation, comes}
 use Rattle.commute_prune.specs.Keeping.{Keeps}
 use Rattle.cnf.specs.Formulas.{Formula}
@@ -28,6 +28,14 @@ pub record IsNo (es : List Program) (before : ℕ → ℕ → Type 0) (f : Formu
   pub deterministic : IsDeterministic es before
   pub states : States es before f
   pub no_model : HasNoModel f
+
+-- the formula has no model exactly where all programs commute of which neither comes before the other
+abbrev pub StatesCommuting : List Program → (ℕ → ℕ → Type 0) → Formula → Type 0
+StatesCommuting es before f = HasNoModel f ↔ FreeCommute es before
+
+-- some such programs don't commute, or there was a budget to be spent
+abbrev pub MayNotCommute : List Program → (ℕ → ℕ → Type 0) → ℕ → Type 0
+MayNotCommute es before budget = (FreeCommute es before → ⊥) ⊎ (budget ≢ 2 ^ 64 - 1)
 
 abbrev pub Answers : List Program → Relation → ℕ → Answer → Type 0
 Answers es order budget (answer.Alike v) = IsNo es (Told (comes order)) v.formula

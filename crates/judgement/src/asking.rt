@@ -14,6 +14,7 @@ ghost use Rattle.judgement.specs.First.{IsDifference};
 ghost use Rattle.judgement.specs.Answers.{Answers, HasTwoOrders, IsRead, IsRefuted};
 ghost use Rattle.proof_check.specs.Refuted.{HasNoModel};
 
+use crate::pairs::{all_commute, verified};
 use cnf::{Cnf, Log};
 use finite_domain::{domains, witnesses_over_the_domain};
 use fs_lang::{Program, Tree};
@@ -21,7 +22,7 @@ use fs_semantics::counterexamples;
 use order_encode::{Question, Witness, ask_order};
 use orders::Order;
 use path_domain::domain;
-use proof_check::{CheckFault, Verified, check};
+use proof_check::Verified;
 use rh_base::{NoMemory, Seq};
 use sat_solver::{Found, solve_by};
 use std::alloc::Global;
@@ -74,15 +75,11 @@ fn refute(alloc: Global, cnf: Cnf, log: Log) -> Result<Answer, NoMemory>
     requires { IsAccepted cnf log.steps }
     ensures { IfOk result (IsRefuted cnf) }
 {
-    match check(alloc, cnf, log) {
-        Ok(verified) => Ok(Answer::Alike(verified)),
-        Err(CheckFault::Bad(_)) => unreachable!(),
-        Err(CheckFault::Memory(m)) => Err(m),
-    }
+    Ok(Answer::Alike(verified(alloc, cnf, log)?))
 }
 
 /// Asks whether allowed orders have different outcomes.
-pub(crate) fn ask(
+fn ask_orders(
     alloc: Global,
     programs: &[Program],
     order: &Order,
@@ -98,5 +95,23 @@ pub(crate) fn ask(
         Found::Model(model) => read(alloc, &posed, model.as_slice()),
         Found::Refuted(log) => refute(alloc, posed.into_cnf(), log),
         Found::Spent(log) => Ok(Answer::Spent(posed.into_cnf(), log)),
+    }
+}
+
+/// Asks whether allowed orders have different outcomes. They have not where all programs commute of which neither comes before the
+/// other, which is asked first, with the same budget: a formula without an order is far smaller.
+pub(crate) fn ask(
+    alloc: Global,
+    programs: &[Program],
+    order: &Order,
+    budget: u64,
+) -> Result<Answer, NoMemory>
+    requires count { length programs.now ≡ order.now.count }
+    requires budget { 1 ≤ budget }
+    ensures { IfOk result (Answers (map program_of programs.now) order.now budget) }
+{
+    match all_commute(alloc, programs, order, budget)? {
+        Some(verified) => Ok(Answer::Alike(verified)),
+        None => ask_orders(alloc, programs, order, budget),
     }
 }

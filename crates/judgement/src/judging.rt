@@ -151,8 +151,9 @@ fn judge(alloc: Global, programs: &[Program], order: &Order, budget: u64) -> Res
     judge_kept(alloc, programs, order, &kept, budget)
 }
 
-/// Whether the programs are deterministic. Each of at most two questions has the whole budget; a budget of `u64::MAX` stands for
-/// none.
+/// Whether the programs are deterministic. The kept programs are asked about, and then all where that doesn't tell; each time it
+/// is first asked whether those commute of which neither comes before the other. Each formula has the whole budget; a budget of
+/// `u64::MAX` stands for none.
 pub fn judge_order(
     alloc: Global,
     programs: &[Program],

@@ -1,6 +1,5 @@
 -- The inputs of a question come to tell all that is asked of them.
-use Rattle.std.proofs.Common.{◌≡◌, ◌⊎◌, inl, inr, ℕ, zero, suc, ◌+◌, ◌<◌, ◌≤◌, Bool, true, false, List, [], ◌∷◌, ◌++◌, take, length, get_or, Option, Some, None, slice_get, refl, sym, ap, subst, ◌∙◌, arith}
-use Rattle.std.proofs.lemmas.Option.{slice_get_within}
+use Rattle.std.proofs.Common.{◌≡◌, inl, ℕ, zero, suc, ◌<◌, ◌≤◌, false, List, [], ◌∷◌, take, length, get_or, Some, slice_get, refl, sym, subst, ◌∙◌, arith}
 use Rattle.std.specs.List.{AllByRecursion}
 use Rattle.bool_circuit.specs.declared.gate.Wire.{Wire}
 use Rattle.bool_circuit.specs.declared.gate.Gate.{Gate}
@@ -9,17 +8,16 @@ use Rattle.bool_circuit.specs.Gates.{Grows, input_count, wire_value}
 use Rattle.fs_semantics.specs.FileTree.{Tree}
 use Rattle.path_domain.specs.declared.listed.Domain.{Domain}
 use Rattle.fs_interpreter.specs.Meanings.{Valuation, Grows as MeaningsGrow}
-use Rattle.fs_interpreter.specs.States.{AreCells, state_of}
+use Rattle.fs_interpreter.specs.States.{state_of}
 use Rattle.fs_interpreter.specs.Standing.{Stands}
 use Rattle.fs_interpreter.specs.declared.cells.Cells.{Cells}
-use Rattle.fs_interpreter.proofs.Frames.{cells_stay, state_keeps}
 use Rattle.sym_run.specs.Wires.{number, AreWires, circuit_meanings}
 use Rattle.sym_run.specs.Inputs.{AgreeOutside, AgreeBelow}
 use Rattle.sym_run.specs.Numbers.{twice}
 use Rattle.sym_run.specs.Trees.{IsTreeOver}
-use Rattle.sym_run.proofs.CircuitLaws.{wires_stay, number_stays, circuit_grows}
+use Rattle.sym_run.proofs.CircuitLaws.{wires_stay, number_stays}
 use Rattle.order_circuit.specs.Codes.{node, nodes, AreRows}
-use Rattle.order_circuit.proofs.RunLaws.{rows_stay, nodes_stay}
+use Rattle.order_circuit.proofs.RunLaws.{nodes_stay}
 use Rattle.order_encode.proofs.KnownLaws.{node_below}
 
 -- ---- inputs are never fewer

@@ -1,5 +1,5 @@
 -- The formulas of the questions about one order.
-use Rattle.std.proofs.Common.{◌≡◌, ◌≢◌, ℕ, ◌<◌, Bool, true, List, length, Some, IsSome, refl, sym, ap, subst, ◌∙◌}
+use Rattle.std.proofs.Common.{◌≡◌, ℕ, Bool, true, List, length, sym, subst}
 use Rattle.std.specs.Prelude.{◌↔◌}
 use Rattle.bool_circuit.specs.declared.gate.Wire.{Wire}
 use Rattle.bool_circuit.specs.declared.gate.Gate.{Gate}
@@ -8,7 +8,7 @@ use Rattle.cnf.specs.Formulas.{Formula, IsSatisfiable, Satisfies}
 use Rattle.cnf.specs.Encoding.{StatesGoal, inputs_in}
 use Rattle.fs_semantics.specs.FileTree.{Tree}
 use Rattle.fs_semantics.specs.Programs.{Program}
-use Rattle.fs_semantics.specs.Orders.{IsLinearExtension, outcome}
+use Rattle.fs_semantics.specs.Orders.{IsLinearExtension}
 use Rattle.path_domain.specs.declared.listed.Domain.{Domain}
 use Rattle.fs_interpreter.specs.Meanings.{Valuation, Grows}
 use Rattle.fs_interpreter.specs.States.{State, state_of}
@@ -18,10 +18,8 @@ use Rattle.fs_interpreter.proofs.Frames.{state_keeps}
 use Rattle.orders.specs.Relation.{Relation, Comes}
 use Rattle.sym_run.specs.Wires.{circuit_meanings}
 use Rattle.sym_run.specs.Trees.{IsTreeOver}
-use Rattle.order_encode.specs.declared.asks.Asks.TheVariants as asks
 use Rattle.order_encode.specs.declared.witness.Witness.{Witness}
 use Rattle.order_encode.specs.declared.witness.Witness.TheVariants as witness
-use Rattle.order_encode.specs.Asked.{IsReadable, Shows}
 use Rattle.order_encode.specs.Asking.{AreTrees}
 use Rattle.order_encode.specs.Goals.{TellsTree, ChangesTwice, Ends}
 use Rattle.order_encode.specs.Witnesses.{IsFirstExtension, IsChangedAgain, IsEndedFrom, HasSecondChange, HasEnd, ShowsChange, ShowsEnd}

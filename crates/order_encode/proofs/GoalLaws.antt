@@ -1,5 +1,5 @@
 -- What wires that are asked for tell of the tree for which the cells stand.
-use Rattle.std.proofs.Common.{◌≡◌, ◌≢◌, ℕ, ◌-◌, ◌<◌, Bool, true, false, List, Option, Some, None, IsSome, nat_lt, refl, sym, ap, subst, ◌∙◌, arith, ltb-true}
+use Rattle.std.proofs.Common.{◌≡◌, ◌≢◌, ℕ, ◌-◌, ◌<◌, Bool, true, false, List, Option, Some, None, IsSome, nat_lt, refl, sym, ap, subst, ◌∙◌, ltb-true}
 use Rattle.std.proofs.lemmas.Bool.{lt-ltb}
 use Rattle.std.specs.Prelude.{◌↔◌, ◌&&◌, not, Result, Ok, Err, IfOk}
 use Rattle.bool_circuit.specs.declared.gate.Wire.{Wire}

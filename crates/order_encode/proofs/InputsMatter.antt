@@ -1,10 +1,9 @@
 -- The values of wires depend on the inputs that are there, and on no others.
-use Rattle.std.proofs.Common.{◌≡◌, ℕ, zero, suc, ◌<◌, Bool, List, [], ◌∷◌, ◌++◌, Some, slice_get, refl, ap, ◌∙◌}
-use Rattle.std.specs.Prelude.{not, ◌&&◌, if◌then◌else◌}
+use Rattle.std.proofs.Common.{◌≡◌, ℕ, suc, ◌<◌, Bool, List, [], ◌∷◌, ◌++◌, Some, slice_get, refl, ap, ◌∙◌}
 use Rattle.std.specs.List.{AllByRecursion}
 use Rattle.bool_circuit.specs.declared.gate.Gate.{Gate}
 use Rattle.bool_circuit.specs.declared.gate.Gate.TheVariants.{Input, Constant, Not, And, Mux}
-use Rattle.bool_circuit.specs.Gates.{truth_at, gate_value, values_from, wire_values, wire_value, input_count, IsCircuit, PlaceBelow}
+use Rattle.bool_circuit.specs.Gates.{truth_at, gate_value, values_from, wire_value, input_count, IsCircuit, PlaceBelow}
 use Rattle.bool_circuit.proofs.Growth.{place_below}
 use Rattle.fs_interpreter.specs.Meanings.{Valuation}
 

@@ -1,5 +1,5 @@
 -- Nodes of an order, place by place.
-use Rattle.std.proofs.Common.{◌≡◌, ℕ, zero, suc, ◌+◌, ◌<◌, List, [], ◌∷◌, length, get_or, map, refl, sym, ap, subst, ◌∙◌, arith}
+use Rattle.std.proofs.Common.{◌≡◌, ℕ, zero, suc, ◌<◌, List, [], ◌∷◌, length, get_or, map, sym, subst, arith}
 use Rattle.std.specs.List.{AllByRecursion}
 
 pub node_below : (n : ℕ) (order : List ℕ) (i : ℕ) → AllByRecursion (λ k. k < n) order → i < length order → get_or order i 0 < n

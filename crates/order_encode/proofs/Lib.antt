@@ -8,3 +8,4 @@ pub mod KnownLaws
 pub mod ReadLaws
 pub mod TableLaws
 pub mod ForkLaws
+pub mod PairLaws

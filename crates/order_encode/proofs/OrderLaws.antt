@@ -1,5 +1,5 @@
 -- The formula of the question of order.
-use Rattle.std.proofs.Common.{◌≡◌, ◌≢◌, ℕ, zero, suc, ◌+◌, ◌-◌, ◌^◌, ◌<◌, ◌≤◌, Bool, true, false, List, [], ◌∷◌, ◌++◌, length, map, Option, Some, None, refl, sym, ap, subst, ◌∙◌, arith}
+use Rattle.std.proofs.Common.{◌≡◌, ℕ, ◌^◌, ◌<◌, ◌≤◌, Bool, true, List, [], ◌∷◌, length, Option, Some, sym, subst, ◌∙◌, arith}
 use Rattle.std.proofs.lemmas.List.{length-map}
 use Rattle.std.specs.Prelude.{◌↔◌}
 use Rattle.std.specs.List.{AllByRecursion}
@@ -10,7 +10,7 @@ use Rattle.cnf.specs.Formulas.{Formula, IsSatisfiable, Satisfies}
 use Rattle.cnf.specs.Encoding.{StatesGoal, inputs_in}
 use Rattle.fs_semantics.specs.FileTree.{Tree}
 use Rattle.fs_semantics.specs.Programs.{Program, Outcome}
-use Rattle.fs_semantics.specs.Orders.{Told, IsLinearExtension, IsExchange, IsCounterexample, outcome}
+use Rattle.fs_semantics.specs.Orders.{Told, IsExchange, IsCounterexample}
 use Rattle.path_domain.specs.declared.listed.Domain.{Domain}
 use Rattle.fs_interpreter.specs.Meanings.{Valuation, Grows}
 use Rattle.fs_interpreter.specs.Places.{Listed}
@@ -18,14 +18,13 @@ use Rattle.fs_interpreter.specs.States.{State, state_of}
 use Rattle.fs_interpreter.specs.Standing.{Stands, StandsFor}
 use Rattle.fs_interpreter.proofs.Frames.{state_keeps}
 use Rattle.orders.specs.Relation.{Relation, comes, Comes, IsStrictOrder}
-use Rattle.order_places.specs.Places.{exchanged, is_in_order}
+use Rattle.order_places.specs.Places.{exchanged}
 use Rattle.sym_run.specs.Wires.{circuit_meanings}
 use Rattle.order_circuit.specs.Codes.{node, nodes}
 use Rattle.order_circuit.proofs.RunLaws.{nodes_stay}
 use Rattle.order_encode.specs.declared.asks.Asks.TheVariants as asks
 use Rattle.order_encode.specs.declared.asking.Asking.{Asking}
 use Rattle.order_encode.specs.declared.witness.Witness.{Witness}
-use Rattle.order_encode.specs.declared.witness.Witness.TheVariants as witness
 use Rattle.order_encode.specs.Asked.{IsReadable, Shows}
 use Rattle.order_encode.specs.Asking.{IsAsking}
 use Rattle.order_encode.specs.Goals.{TellsTree, EndApart}

@@ -1,5 +1,5 @@
 -- A table made again, path by path and content by content.
-use Rattle.std.proofs.Common.{◌≡◌, ◌⊎◌, inl, inr, ℕ, zero, suc, ◌+◌, ◌<◌, ◌≤◌, List, [], ◌∷◌, ◌++◌, take, length, Option, Some, None, slice_get, refl, sym, ap, subst, ◌∙◌, arith}
+use Rattle.std.proofs.Common.{◌≡◌, inl, inr, ℕ, zero, suc, ◌+◌, ◌<◌, List, [], ◌∷◌, ◌++◌, take, Option, Some, None, slice_get, refl, ap, ◌∙◌, arith}
 use Rattle.fs_semantics.specs.FileTree.{Path, parent}
 use Rattle.fs_interpreter.specs.Places.{Listed, IsTable, HasPath, or_added}
 

@@ -1,11 +1,10 @@
 -- What the goals say is that there is a witness.
-use Rattle.std.proofs.Common.{◌≡◌, ◌≢◌, ℕ, zero, suc, ◌+◌, ◌-◌, ◌<◌, ◌≤◌, Bool, true, false, List, [], ◌∷◌, ◌++◌, length, IsTrue, refl, sym, ap, subst, ◌∙◌, arith}
+use Rattle.std.proofs.Common.{◌≡◌, ℕ, zero, suc, ◌+◌, ◌<◌, Bool, true, List, [], ◌∷◌, ◌++◌, length, refl, sym, ap, subst, ◌∙◌, arith}
 use Rattle.std.specs.Prelude.{◌↔◌}
-use Rattle.std.specs.List.{AllByRecursion}
 use Rattle.bool_circuit.specs.declared.gate.Gate.{Gate}
 use Rattle.fs_semantics.specs.FileTree.{Tree}
 use Rattle.fs_semantics.specs.Programs.{Program}
-use Rattle.fs_semantics.specs.Orders.{Told, IsLinearExtension, IsExchange, IsCounterexample, outcome}
+use Rattle.fs_semantics.specs.Orders.{Told, IsLinearExtension, outcome}
 use Rattle.path_domain.specs.declared.listed.Domain.{Domain}
 use Rattle.fs_interpreter.specs.Meanings.{Valuation}
 use Rattle.orders.specs.Relation.{Relation, comes, Comes, IsStrictOrder}
@@ -13,7 +12,7 @@ use Rattle.orders.specs.Extensions.{IsLeastReady, TakesLeast}
 use Rattle.order_places.specs.Places.{exchanged, is_in_order, IsStrict, AreNeighbours}
 use Rattle.sym_run.specs.Trees.{IsTreeOver}
 use Rattle.order_circuit.specs.Codes.{node, nodes}
-use Rattle.order_encode.specs.Goals.{TellsTree, AreAllowed, EndApart}
+use Rattle.order_encode.specs.Goals.{TellsTree, EndApart}
 use Rattle.order_encode.specs.Witnesses.{AreDifferentNeighbours, IsFirstExtension}
 use Rattle.order_encode.specs.Asking.{IsAsking}
 use Rattle.order_encode.specs.declared.asking.Asking.{Asking}

@@ -46,6 +46,14 @@ pub record AreFreeNodes (order : Relation) (i k : ℕ) : Type 0 where
   pub second : k < order.count
   pub free : IsFree (Comes order) i k
 
+-- a node between i and n, of which neither comes before the other, and whose programs end apart
+abbrev pub ApartBehind : List Program → Relation → Outcome → ℕ → ℕ → Type 0
+ApartBehind programs order o i n = (k : ℕ) × (i < k) × (k < n) × IsFree (Comes order) i k × EndApartAt programs o i k
+
+-- two such nodes, the first of them below n
+abbrev pub ApartBelow : List Program → Relation → Outcome → ℕ → Type 0
+ApartBelow programs order o n = (i : ℕ) × (i < n) × ApartBehind programs order o i order.count
+
 -- both orders are allowed, and they end differently
 pub record EndApart (programs : List Program) (order : Relation) (place : ℕ) (left right : List ℕ) (t : Tree) : Type 0 where
   pub allowed : AreAllowed order place left right

@@ -1,8 +1,8 @@
 -- What refutes a property from a tree over the domain, or shows it.
-use Rattle.std.specs.Prelude.{ℕ, List, [], IsSome}
+use Rattle.std.specs.Prelude.{◌≢◌, ℕ, ◌<◌, List, [], ◌∷◌, length, IsSome}
 use Rattle.fs_semantics.specs.FileTree.{Tree, IsTree}
 use Rattle.fs_semantics.specs.Programs.{Program}
-use Rattle.fs_semantics.specs.Orders.{IsLinearExtension, IsExchange, IsCounterexample, IsSecondRunCounterexample, outcome}
+use Rattle.fs_semantics.specs.Orders.{IsLinearExtension, IsFree, IsExchange, IsCounterexample, IsSecondRunCounterexample, outcome}
 use Rattle.finite_domain.specs.Shadows.{IsOver}
 use Rattle.finite_domain.specs.Layouts.{domain_of}
 use Rattle.path_domain.specs.declared.listed.Domain.{Domain}
@@ -48,6 +48,18 @@ pub record HaveDifferentOutcomes (programs : List Program) (before : ℕ → ℕ
   pub right : List ℕ
   pub over : IsOverDomain d tree
   pub counterexample : IsCounterexample programs before tree left right
+
+-- From some tree over the domain two programs, neither of which comes before the other, end differently the one way and the other.
+pub record HasApartPair (programs : List Program) (before : ℕ → ℕ → Type 0) (d : Domain) : Type 0 where
+  pub tree : Tree
+  pub is_tree : IsTree tree
+  pub over : IsOverDomain d tree
+  pub left : ℕ
+  pub right : ℕ
+  pub left_below : left < length programs
+  pub right_below : right < length programs
+  pub free : IsFree before left right
+  pub differ : outcome programs (left ∷ right ∷ []) tree ≢ outcome programs (right ∷ left ∷ []) tree
 
 -- A second run in the first extension changes what the first one left, from some tree over the domain.
 pub record HasSecondChange (programs : List Program) (order : Relation) (d : Domain) : Type 0 where

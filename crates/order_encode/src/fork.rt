@@ -64,7 +64,7 @@ fn tells_pair(
 }
 
 /// Whether the two programs end apart from the cells, the one way and the other.
-fn differ(
+pub(crate) fn differ(
     alloc: Global,
     sym: &mut Sym,
     domain: &Domain,

@@ -1,5 +1,5 @@
-//! Questions about an order of programs as formulas: do two allowed orders end differently, does a second run change what the
-//! first one left, does an order end in a tree, each from a tree over the domain?
+//! Questions about an order of programs as formulas: do two allowed orders end differently, do two programs, does a second run
+//! change what the first one left, does an order end in a tree, each from a tree over the domain?
 #![tactic(auto)]
 
 mod again;
@@ -11,6 +11,7 @@ mod fork;
 mod goal;
 mod known;
 mod order;
+mod pairs;
 mod question;
 mod read;
 mod table;
@@ -18,5 +19,6 @@ mod witness;
 
 pub use extension::{ask_some, ask_twice};
 pub use order::ask_order;
+pub use pairs::ask_pairs;
 pub use question::Question;
 pub use witness::Witness;

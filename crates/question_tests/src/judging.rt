@@ -30,21 +30,26 @@ fn answered(alloc: Global, first: &First) -> Result<String, Fail> {
     }
 }
 
-/// What is answered of programs without an order between them.
-fn told(alloc: Global, programs: &[Program]) -> Result<String, Fail> {
-    let Ok(n) = u32::try_from(programs.len()) else {
-        return Err(Fail::from("few programs"));
-    };
-    let Ok(order) = Order::from_edges(alloc, n, &[]) else {
-        return Err(Fail::from("an order"));
-    };
+/// What is answered of programs in this order.
+pub fn told_by(alloc: Global, programs: &[Program], order: &Order) -> Result<String, Fail> {
     if order.count() as usize != programs.len() {
         return Err(Fail::from("as many nodes as programs"));
     }
-    match judge_order(alloc, programs, &order, u64::MAX) {
+    match judge_order(alloc, programs, order, u64::MAX) {
         Ok(first) => answered(alloc, &first),
         Err(Fault::Refused(refusal)) => refused(alloc, &refusal),
         Err(Fault::Memory(_)) => Err(Fail::from("memory")),
+    }
+}
+
+/// What is answered of programs without an order between them.
+pub fn told(alloc: Global, programs: &[Program]) -> Result<String, Fail> {
+    let Ok(n) = u32::try_from(programs.len()) else {
+        return Err(Fail::from("few programs"));
+    };
+    match Order::from_edges(alloc, n, &[]) {
+        Ok(order) => told_by(alloc, programs, &order),
+        Err(_) => Err(Fail::from("an order")),
     }
 }
 

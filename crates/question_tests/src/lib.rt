@@ -6,6 +6,8 @@ mod formulas;
 #[cfg(test)]
 mod judging;
 #[cfg(test)]
+mod pairs;
+#[cfg(test)]
 mod programs;
 #[cfg(test)]
 mod verdicts;

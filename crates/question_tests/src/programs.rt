@@ -1,17 +1,22 @@
-//! Programs that make folders.
+//! Paths, and programs that make folders.
 
 use fs_lang::{Path, Program};
 use rh_base::Seq;
 use std::alloc::Global;
 use std::test::Fail;
 
-/// Makes the folder of this number.
-pub fn numbered(alloc: Global, i: u32) -> Result<Program, Fail> {
+/// The path of this number, as /d1.
+pub fn path(alloc: Global, i: u32) -> Result<Path, Fail> {
     let text = format!(in alloc; "/d{i}")?;
     let Ok(path) = Path::read(alloc, text.as_str()) else {
         return Err(Fail::from("a path"));
     };
-    Ok(Program::Mkdir(path))
+    Ok(path)
+}
+
+/// Makes the folder of this number.
+pub fn numbered(alloc: Global, i: u32) -> Result<Program, Fail> {
+    Ok(Program::Mkdir(path(alloc, i)?))
 }
 
 /// Makes the folders of so many numbers, one after another.

@@ -1,6 +1,5 @@
 use Rattle.fs_interpreter.proofs.Frames.{grows_on}
 use Rattle.std.proofs.Common.{Some, sym, ◌∙◌, map}
-use Rattle.std.specs.Prelude.{not}
 use Rattle.fs_semantics.specs.Orders.{outcome}
 use Rattle.fs_lang.specs.Meaning.{program_of}
 use Rattle.fs_interpreter.specs.States.{state_of}

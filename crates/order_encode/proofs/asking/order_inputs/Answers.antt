@@ -1,6 +1,6 @@
 use Rattle.sym_run.specs.Wires.{circuit_meanings}
 use Rattle.fs_interpreter.proofs.Frames.{grows_on}
-use Rattle.std.proofs.Common.{◌≡◌, ◌<◌, subst, sym, ◌∙◌}
+use Rattle.std.proofs.Common.{◌≡◌, ◌<◌, subst, ◌∙◌}
 use Rattle.sym_run.specs.Numbers.{twice}
 use Rattle.sym_run.proofs.CircuitLaws.{circuit_grows, wires_stay}
 use Rattle.order_circuit.proofs.RunLaws.{rows_stay}

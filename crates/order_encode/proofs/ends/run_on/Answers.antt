@@ -1,4 +1,4 @@
-use Rattle.std.proofs.Common.{map, sym, subst, ◌∙◌}
+use Rattle.std.proofs.Common.{map, subst, ◌∙◌}
 use Rattle.std.specs.Prelude.{slice_index_or, false}
 use Rattle.fs_semantics.specs.Programs.{Id, and_then, run}
 use Rattle.fs_semantics.specs.Orders.{outcome}

@@ -1,4 +1,4 @@
-use Rattle.std.proofs.Common.{◌≡◌, true, false, List, map, subst, sym}
+use Rattle.std.proofs.Common.{◌≡◌, true, false, List, map, subst}
 use Rattle.std.specs.Prelude.{◌↔◌}
 use Rattle.bool_circuit.specs.declared.gate.Gate.{Gate}
 use Rattle.bool_circuit.specs.Gates.{wire_value}

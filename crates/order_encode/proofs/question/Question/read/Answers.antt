@@ -1,4 +1,4 @@
-use Rattle.std.proofs.Common.{◌≡◌, List, take, sym, ap, subst, ◌∙◌}
+use Rattle.std.proofs.Common.{List, take, sym, ap, subst, ◌∙◌}
 use Rattle.bool_circuit.specs.declared.gate.Gate.{Gate}
 use Rattle.bool_circuit.specs.Gates.{truth_at, wire_value, wire_values, input_count, IsCircuit}
 use Rattle.cnf.specs.Formulas.{Satisfies, valuation_of}

@@ -10,7 +10,7 @@ use Rattle.sat_solver.specs.Turning.{Finds}
 use Rattle.judgement.specs.Questions.{States}
 use Rattle.judgement.specs.Answers.{Answers, IsRead, IsRefuted}
 use Rattle.judgement.proofs.QuestionLaws.{if_ok, refuted, has_two, told}
-use Rattle.judgement.proofs.asking.ask.Goals as goal
+use Rattle.judgement.proofs.asking.ask_orders.Goals as goal
 
 pub read-requires-clause-models : goal.read-requires-clause-models
 read-requires-clause-models c = λ w shown.
