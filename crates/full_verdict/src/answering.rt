@@ -10,7 +10,7 @@ use cnf::{Cnf, Log};
 use order_encode::{Question, Witness};
 use proof_check::{CheckFault, Verified, check};
 use rh_base::NoMemory;
-use sat_solver::{Found, solve};
+use sat_solver::{Found, solve_by};
 use std::alloc::Global;
 
 /// What comes of a question.
@@ -50,7 +50,7 @@ pub(crate) fn answer_to(alloc: Global, question: Question, budget: u64) -> Resul
     requires budget { 1 ≤ budget }
     ensures { IfOk result (Answers question budget) }
 {
-    let found = solve(alloc, question.cnf(), budget)?;
+    let found = solve_by(alloc, question.cnf(), question.firsts(), budget)?;
     match found {
         Found::Model(model) => read(alloc, &question, model.as_slice()),
         Found::Refuted(log) => refute(alloc, question.into_cnf(), log),

@@ -1,6 +1,6 @@
 //! The questions about the first extension.
 
-ghost use Rattle.std.specs.Prelude.{◌≡◌, ◌↔◌, ℕ, Bool, map, length, IfOk};
+ghost use Rattle.std.specs.Prelude.{◌≡◌, ◌↔◌, ◌<◌, ℕ, Bool, map, length, IfOk};
 ghost use Rattle.cnf.specs.Encoding.{inputs_in};
 ghost use Rattle.cnf.specs.Formulas.{IsSatisfiable, Satisfies};
 ghost use Rattle.fs_lang.specs.Meaning.{program_of, programs_in};
@@ -12,6 +12,7 @@ ghost use Rattle.order_encode.specs.declared.witness.Witness.{Witness};
 use crate::again::{goal_of_change, goal_of_end};
 use crate::asks::Asks;
 use crate::question::{Question, pose};
+use bool_circuit::{Circuit, Gate, Wire};
 use fs_interpreter::states;
 use fs_lang::Program;
 use order_places::allowed_orders;
@@ -20,6 +21,42 @@ use path_domain::Domain;
 use rh_base::NoMemory;
 use std::alloc::Global;
 use sym_run::{Sym, any_tree};
+
+/// The parts of which the goal asks that one is false.
+fn parts_of(alloc: Global, circuit: &Circuit, goal: Wire) -> Result<Vec<Wire>, NoMemory>
+    requires { goal.0 < length circuit.now }
+{
+    let n = circuit.wires();
+    let mut parts = Vec::new(alloc);
+    let mut nots = 0u32;
+    let mut w = goal;
+    'down: for _turn in 0..n {
+        if w.0 >= n {
+            return Ok(parts);
+        }
+        match circuit.gate(w) {
+            Gate::And(low, high) => {
+                if nots == 1 {
+                    w = low;
+                } else if nots < 3 {
+                    w = high;
+                } else {
+                    parts.push(high)?;
+                    w = low;
+                }
+            }
+            Gate::Not(b) => {
+                if nots >= 3 {
+                    return Ok(parts);
+                }
+                nots += 1;
+                w = b;
+            }
+            _ => return Ok(parts),
+        }
+    }
+    Ok(parts)
+}
 
 /// Whether the first extension ends, from a tree over the domain, in a tree that a second run doesn't leave as it is.
 pub fn ask_twice(
@@ -47,6 +84,7 @@ pub fn ask_twice(
         &cells,
         well,
     )?;
+    let parts = parts_of(alloc, sym.circuit(), asked)?;
     pose(
         alloc,
         sym,
@@ -54,7 +92,8 @@ pub fn ask_twice(
         Asks::Twice { order: first },
         asked,
         domain,
-        &[],
+        &parts,
+        true,
     )
 }
 
@@ -92,5 +131,6 @@ pub fn ask_some(
         asked,
         domain,
         &[],
+        false,
     )
 }

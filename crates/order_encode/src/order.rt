@@ -82,5 +82,6 @@ pub fn ask_order(
         asked,
         domain,
         &firsts,
+        false,
     )
 }

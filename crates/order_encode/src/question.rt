@@ -64,6 +64,18 @@ impl Question {
     }
 }
 
+/// These literals, or their opposites.
+fn signed(alloc: Global, lits: Seq<Lit>, turned: bool) -> Result<Seq<Lit>, NoMemory> {
+    if !turned {
+        return Ok(lits);
+    }
+    let mut others = Seq::new(alloc);
+    'lits: for lit in lits.as_slice() {
+        others.push(lit.opposite())?;
+    }
+    Ok(others)
+}
+
 /// Whether the goal can be true. Each valuation that makes it true tells a tree, and small numbers.
 pub(crate) fn pose(
     alloc: Global,
@@ -73,6 +85,7 @@ pub(crate) fn pose(
     goal: Wire,
     domain: &Domain,
     firsts: &[Wire],
+    turned: bool,
 ) -> Result<Question, NoMemory>
     requires goal { goal.0 < length sym }
     requires cells { AreCells (circuit_meanings sym) cells }
@@ -83,6 +96,7 @@ pub(crate) fn pose(
     ensures holds { IfOk result (λ q. q ≡ record { gates = sym; table = domain.now.table; cells = cells; asks = asks; formula = q.formula }) }
 {
     let (cnf, firsts) = from_circuit_with(alloc, sym.circuit(), goal, firsts)?;
+    let firsts = signed(alloc, firsts, turned)?;
     let domain = copy_domain(alloc, domain)?;
     Ok(Question {
         sym,
