@@ -11,6 +11,9 @@ use rh_base::NoMemory;
 use std::alloc::Global;
 use std::marker::Model;
 
+/// So many `And` gates, one above the other, are looked through for what folds. That there is a file at a path takes two.
+const LEVELS: u32 = 3;
+
 /// A list of gates, each of which stands once. A wire is the place of its gate.
 #[derive(Drop)]
 pub struct Circuit {
@@ -278,35 +281,32 @@ impl Circuit {
         None
     }
 
-    /// The value of a wire where both of two others are true, if it is known beside one of them.
-    fn known_beside_both(&self, w: Wire, x: Wire, y: Wire) -> Option<bool>
+    /// The value of a wire where another one is true, as far as the gates of that one tell, so many levels down.
+    fn known_within(&self, w: Wire, c: Wire, levels: u32) -> Option<bool>
         requires w { w.0 < length self.now }
-        requires x { x.0 < length self.now }
-        requires y { y.0 < length self.now }
-        ensures { IfSome result (λ b. (inputs : ℕ → Bool) → wire_value self.now inputs x.0 ≡ true → wire_value self.now inputs y.0 ≡ true → wire_value self.now inputs w.0 ≡ b) }
+        requires c { c.0 < length self.now }
+        ensures { IfSome result (λ b. (inputs : ℕ → Bool) → wire_value self.now inputs c.0 ≡ true → wire_value self.now inputs w.0 ≡ b) }
     {
-        match self.known_beside(w, x) {
-            Some(b) => Some(b),
-            None => self.known_beside(w, y),
+        let beside = self.known_beside(w, c);
+        if levels == 0 || beside.is_some() {
+            return beside;
+        }
+        match self.gate(c) {
+            Gate::And(x, y) => match self.known_within(w, x, levels - 1) {
+                Some(b) => Some(b),
+                None => self.known_within(w, y, levels - 1),
+            },
+            _ => None,
         }
     }
 
-    /// The value of a wire where another one is true, as far as the gate of that one tells.
+    /// The value of a wire where another one is true, as far as the gates of that one tell.
     fn known_where(&self, w: Wire, c: Wire) -> Option<bool>
         requires w { w.0 < length self.now }
         requires c { c.0 < length self.now }
         ensures { IfSome result (λ b. (inputs : ℕ → Bool) → wire_value self.now inputs c.0 ≡ true → wire_value self.now inputs w.0 ≡ b) }
     {
-        match self.gate(c) {
-            Gate::And(x, y) => {
-                let beside = self.known_beside_both(w, x, y);
-                match beside {
-                    Some(b) => Some(b),
-                    None => self.known_beside(w, c),
-                }
-            }
-            _ => self.known_beside(w, c),
-        }
+        self.known_within(w, c, LEVELS)
     }
 
     /// The value of a wire where another one is false, as far as the gate of that one tells.

@@ -1,12 +1,11 @@
 -- Resources keep their sort, their holder and their reference, and their place; so what holds them stays a container.
-use Rattle.std.proofs.Common.{◌≡◌, ◌⊎◌, inl, inr, ℕ, zero, suc, ◌+◌, Bool, true, false, cond, List, [], ◌∷◌, ◌++◌, map, length, Option, Some, None, Result, Ok, Err}
+use Rattle.std.proofs.Common.{◌≡◌, ◌⊎◌, inl, inr, ℕ, zero, suc, ◌+◌, Bool, true, false, cond, List, [], ◌∷◌, ◌++◌, map, Option, Some, None, Ok, Err}
 use Rattle.std.proofs.Common.{refl, sym, ap, ap₂, subst, ◌∙◌, append_assoc, arith}
 use Rattle.std.specs.Prelude.{◌&&◌, IfSome, slice_get}
 use Rattle.std.specs.List.{AllByRecursion}
 use Rattle.std.proofs.lemmas.List.{append-nil}
 use Rattle.std.proofs.lemmas.Slice.Eq.{bytes_eq-Decides}
 use Rattle.std.specs.Str.{bytes_eq}
-use Rattle.rh_base.specs.declared.fault.Refusal.{Refusal}
 use Rattle.pp_syntax.specs.declared.tree.Manifest.{Manifest}
 use Rattle.pp_value.specs.declared.value.Ref.{Ref}
 use Rattle.pp_value.specs.declared.value.Value.{Value}
@@ -20,11 +19,11 @@ use Rattle.catalog_semantics.specs.declared.state.Default.{Default}
 use Rattle.catalog_semantics.specs.declared.state.Holding.{Holding}
 use Rattle.catalog_semantics.specs.declared.state.State.{State}
 use Rattle.catalog_semantics.specs.Sites.{site_of}
-use Rattle.catalog_semantics.specs.States.{filled, as_added, is_class, lacks, defaults_of, with_resource, with_scopes, is_new, has_room, has_size, added, references_of, place_from, place_of}
+use Rattle.catalog_semantics.specs.States.{filled, as_added, is_class, with_resource, is_new, has_room, has_size, references_of, place_from, place_of}
 use Rattle.catalog_semantics.specs.Declaring.{class_ref, entering, begun, ended}
-use Rattle.catalog_semantics.specs.Catalogs.{is_plain_sort, filled_behind, main_ended, first_state, is_called_for, made_real, state_after, round_limit, all_there, few_enough, Catalog, catalog_in, catalog_of}
-use Rattle.catalog_semantics.specs.Frames.{Each, IsSound, IsContainerAt}
-use Rattle.catalog_semantics.proofs.Keeping.{Keeps, step_each, then_each, if_each, bound_each}
+use Rattle.catalog_semantics.specs.Catalogs.{is_plain_sort, filled_behind, first_state, is_called_for, made_real, state_after, round_limit, all_there, few_enough, Catalog, catalog_in, catalog_of}
+use Rattle.catalog_semantics.specs.Frames.{Each, IsContainerAt}
+use Rattle.catalog_semantics.proofs.Keeping.{step_each, then_each, if_each, bound_each}
 use Rattle.catalog_semantics.proofs.Whole.{IsWholeFrame, whole_keeps, few_is}
 use Rattle.catalog_laws.specs.Containers.{AreHeld, IsClassAt, HoldClasses}
 

@@ -10,7 +10,7 @@ use Rattle.std.specs.List.Sorted.{IsStrictlySortedBy}
 use Rattle.std.specs.Map.{keys_of}
 use Rattle.std.specs.BTreeMap.{BTreeMap, IsOrdered, insert_entry}
 use Rattle.fs_semantics.specs.FileTree as tree
-use Rattle.fs_semantics.specs.FileTree.{Path, Tree, path_cmp}
+use Rattle.fs_semantics.specs.FileTree.{Path, path_cmp}
 use Rattle.fs_semantics.proofs.Trees.{path_total}
 use Rattle.fs_lang.specs.declared.program.Entry.{Entry}
 use Rattle.fs_lang.specs.Meaning.{entry_of}

@@ -4,7 +4,7 @@ use Rattle.std.specs.Coded.{Coded, code_by, coded_list, coded_ℕ, coded×, code
 use Rattle.std.specs.FinMap as finite
 use Rattle.std.specs.BTreeMap.{BTreeMap}
 use Rattle.fs_semantics.specs.FileTree as tree
-use Rattle.fs_semantics.specs.FileTree.{Path, Tree, IsBytes, path_cmp}
+use Rattle.fs_semantics.specs.FileTree.{Path, Tree, IsBytes}
 use Rattle.fs_lang.specs.declared.program.Entry.{Entry}
 use Rattle.fs_lang.specs.declared.program.Entry.TheVariants as entry
 use Rattle.fs_lang.specs.Meaning.{entry_of}

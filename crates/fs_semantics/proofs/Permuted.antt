@@ -1,5 +1,5 @@
 -- Runs of steps that commute do not depend on the order.
-use Rattle.std.proofs.Common.{◌≡◌, ℕ, true, false, cond, ◌==◌, ◌+◌, ◌<◌, List, [], ◌∷◌, ◌++◌, Some, None, refl, sym, ap, ◌∙◌, arith, eqb-true, eq-eqb, zero-add}
+use Rattle.std.proofs.Common.{◌≡◌, ℕ, ◌+◌, List, [], ◌∷◌, ◌++◌, Some, None, refl, sym, ap, ◌∙◌, arith}
 use Rattle.fs_semantics.specs.FileTree.{Tree}
 use Rattle.fs_semantics.specs.Orders.{times}
 use Rattle.fs_semantics.specs.Programs.{Outcome, and_then}

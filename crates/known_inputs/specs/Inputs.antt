@@ -3,7 +3,7 @@ use Rattle.std.specs.Prelude.{◌≡◌, List, [], ℕ, Option, Some, None, code
 use Rattle.std.specs.FinMap as map
 use Rattle.rh_base.specs.declared.fault.Refusal.{Refusal}
 use Rattle.rh_base.specs.Refused.{IsRefusal}
-use Rattle.fs_semantics.specs.FileTree.{Tree, path_cmp}
+use Rattle.fs_semantics.specs.FileTree.{Tree}
 use Rattle.pp_value.specs.declared.value.Value.{Value}
 use Rattle.pp_value.specs.declared.value.Value.TheVariants as v
 use Rattle.pp_eval.specs.Facts.{AreFacts}

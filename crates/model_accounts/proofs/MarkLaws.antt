@@ -3,9 +3,7 @@ use Rattle.std.proofs.Common.{◌≡◌, ℕ, List, [], ◌∷◌, ◌++◌, app
 use Rattle.std.specs.Prelude.{Result, Ok, Err}
 use Rattle.fs_semantics.specs.FileTree.{Path}
 use Rattle.model_semantics.specs.declared.kinds.Cause.{Cause}
-use Rattle.model_semantics.specs.declared.kinds.ModelFault.{ModelFault}
-use Rattle.model_semantics.specs.declared.kinds.ModelFault.TheVariants as fault
-use Rattle.model_semantics.specs.Names.{◌>>=◌, Meets, mark_named, group_marks}
+use Rattle.model_semantics.specs.Names.{◌>>=◌, mark_named, group_marks}
 use Rattle.model_accounts.specs.Marks.{AddsMarks}
 
 -- marks behind others

@@ -1,7 +1,6 @@
 -- Sequences, step by step.
-use Rattle.std.proofs.Common.{◌≡◌, ◌⊎◌, inl, inr, ℕ, List, [], ◌∷◌, ◌++◌, Option, Some, None, refl, sym, ap, subst, ◌∙◌}
-use Rattle.std.specs.FinMap as map
-use Rattle.fs_semantics.specs.FileTree.{Path, File, Tree}
+use Rattle.std.proofs.Common.{◌≡◌, inl, inr, ℕ, List, [], ◌∷◌, ◌++◌, Some, None, refl, sym, ap, subst, ◌∙◌}
+use Rattle.fs_semantics.specs.FileTree.{Path, Tree}
 use Rattle.fs_semantics.specs.Entries.{IsFileAt}
 use Rattle.fs_semantics.specs.Programs.{Program, Outcome, Id, Creat, If, IsFile, and_then, run, run_all}
 use Rattle.model_semantics.specs.Words.{steps, sequence, dirs, mark}

@@ -1,11 +1,11 @@
 -- Names, and paths that are spelled.
-use Rattle.std.proofs.Common.{◌≡◌, ◌≢◌, ℕ, ◌==◌, ◌≤◌, ◌&&◌, ◌||◌, nat_le, Bool, true, false, true≢false, cond, not, List, [], ◌∷◌, length, Option, Some, None, refl, sym, ap, ap₂, ◌∙◌, arith, leb-true, eqb-true, eq-eqb, IsUtf8}
-use Rattle.std.specs.Prelude.{Result, Ok, Err}
+use Rattle.std.proofs.Common.{◌≡◌, ◌≢◌, ℕ, ◌==◌, ◌&&◌, ◌||◌, nat_le, Bool, true, false, true≢false, cond, not, List, [], ◌∷◌, length, Option, Some, None, refl, sym, ap, ap₂, ◌∙◌, leb-true, eq-eqb, IsUtf8}
+use Rattle.std.specs.Prelude.{Ok, Err}
 use Rattle.std.specs.List.{list_any, AllByRecursion}
 use Rattle.std.proofs.Math.Dec.{eqb-suc-zero}
 use Rattle.std.proofs.lemmas.Bool.{le-leb, ne_eqb}
 use Rattle.rh_base.specs.declared.limits.TheConstants.{NAME_BYTES}
-use Rattle.fs_semantics.specs.FileTree.{Path, IsBytes}
+use Rattle.fs_semantics.specs.FileTree.{Path}
 use Rattle.fs_lang.specs.PathText.{IsPathText}
 use Rattle.fs_lang.specs.Reading.{path_in}
 use Rattle.fs_lang.specs.Names.{IsName, segment_of}

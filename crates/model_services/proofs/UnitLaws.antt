@@ -1,6 +1,5 @@
 -- Names without a trailing `.service`.
-use Rattle.std.proofs.Common.{◌≡◌, ◌≢◌, ℕ, ◌+◌, ◌-◌, Bool, true, false, cond, List, [], ◌∷◌, ◌++◌, length, take, drop, Option, Some, None, bytes_eq, codes, Bor, refl, sym, ap, subst, ◌∙◌, arith}
-use Rattle.std.specs.Option.{MatchOption}
+use Rattle.std.proofs.Common.{◌≡◌, ◌≢◌, ℕ, ◌+◌, ◌-◌, Bool, true, false, cond, List, ◌++◌, length, take, drop, bytes_eq, codes, refl, sym, ap, ◌∙◌, arith}
 use Rattle.std.specs.Str.Pattern.{StripsSuffix, FindsTextSuffix}
 use Rattle.std.proofs.lemmas.Slice.Eq.{bytes_eq-Decides}
 use Rattle.std.proofs.lemmas.List.{take-append-drop}

@@ -1,6 +1,6 @@
 -- Runs of a part of an order.
-use Rattle.std.proofs.Common.{◌≡◌, ℕ, zero, suc, ◌+◌, ◌-◌, ◌<◌, ◌≤◌, ◌==◌, Bool, true, false, cond, List, [], ◌∷◌, ◌++◌, take, drop, map, length, get_or, Option, Some, None, refl, sym, ap, subst, ◌∙◌, arith, eqb-true, nat_lt, ltb-true}
-use Rattle.std.proofs.lemmas.Bool.{eqb-false, ltb-false, lt-ltb, le-ltb}
+use Rattle.std.proofs.Common.{◌≡◌, ℕ, zero, suc, ◌+◌, ◌-◌, ◌<◌, ◌≤◌, ◌==◌, Bool, true, false, cond, List, [], ◌∷◌, take, drop, length, get_or, Some, None, refl, sym, ap, ◌∙◌, arith, eqb-true, nat_lt, ltb-true}
+use Rattle.std.proofs.lemmas.Bool.{eqb-false, ltb-false, lt-ltb}
 use Rattle.std.specs.Prelude.{slice_index_or}
 use Rattle.fs_semantics.specs.FileTree.{Tree}
 use Rattle.fs_semantics.specs.Programs.{Program as Steps, Id, Outcome, and_then, run}

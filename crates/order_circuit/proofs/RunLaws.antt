@@ -1,13 +1,11 @@
 -- Runs of the programs that codes tell.
-use Rattle.std.proofs.Common.{◌≡◌, ◌⊎◌, inl, inr, ℕ, zero, suc, ◌+◌, ◌<◌, ◌≤◌, ◌==◌, Bool, true, false, cond, List, [], ◌∷◌, ◌++◌, drop, map, length, get_or, Option, Some, None, slice_get, refl, sym, ap, subst, ◌∙◌, arith, eqb-true, nat_lt, ltb-true}
+use Rattle.std.proofs.Common.{◌≡◌, ℕ, zero, suc, ◌+◌, ◌<◌, ◌≤◌, ◌==◌, true, false, cond, List, [], ◌∷◌, ◌++◌, drop, map, length, get_or, Some, None, refl, sym, ap, subst, ◌∙◌, arith, eqb-true, nat_lt, ltb-true}
 use Rattle.std.proofs.lemmas.Bool.{eqb-false, ltb-false, lt-ltb, le-ltb}
 use Rattle.std.specs.Prelude.{slice_index_or, Result, Ok, Err, IfOk}
-use Rattle.std.specs.List.{AllByRecursion}
 use Rattle.bool_circuit.specs.declared.gate.Wire.{Wire}
 use Rattle.bool_circuit.specs.declared.gate.Gate.{Gate}
-use Rattle.bool_circuit.specs.Gates.{wire_value}
 use Rattle.fs_semantics.specs.FileTree.{Tree}
-use Rattle.fs_semantics.specs.Programs.{Program as Steps, Programs, Id, Outcome, and_then, run, none, next}
+use Rattle.fs_semantics.specs.Programs.{Program as Steps, Id, Outcome, and_then, run, next}
 use Rattle.fs_semantics.specs.Orders.{outcome}
 use Rattle.fs_lang.specs.declared.program.Program.{Program}
 use Rattle.fs_lang.specs.Meaning.{program_of, programs_in}
@@ -15,7 +13,7 @@ use Rattle.fs_interpreter.specs.Meanings.{Valuation, Grows}
 use Rattle.fs_interpreter.specs.Places.{Listed, Covers, CoversSteps}
 use Rattle.fs_interpreter.specs.States.{State}
 use Rattle.fs_interpreter.specs.Standing.{StandsFor}
-use Rattle.sym_run.specs.Wires.{number, AreWires, circuit_meanings}
+use Rattle.sym_run.specs.Wires.{AreWires, circuit_meanings}
 use Rattle.order_circuit.specs.Codes.{node, nodes, AreRows}
 
 pub rows_stay : (old new : List Gate) (rows : List (List Wire)) → Grows (circuit_meanings old) (circuit_meanings new) → AreRows old rows → AreRows new rows

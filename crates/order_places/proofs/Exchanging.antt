@@ -1,8 +1,8 @@
 -- The exchange of two neighbours at a place.
-use Rattle.std.proofs.Common.{◌≡◌, ◌≢◌, ℕ, zero, suc, ◌+◌, ◌<◌, ◌≤◌, ◌==◌, Bool, true, false, cond, List, [], ◌∷◌, ◌++◌, length, refl, sym, ap, subst, ◌∙◌, arith, eqb-true}
+use Rattle.std.proofs.Common.{◌≡◌, ℕ, zero, suc, ◌+◌, ◌<◌, ◌≤◌, ◌==◌, Bool, true, false, cond, List, [], ◌∷◌, ◌++◌, length, refl, sym, ap, subst, ◌∙◌, arith}
 use Rattle.std.proofs.lemmas.Bool.{eqb-false}
 use Rattle.std.specs.List.{AllByRecursion}
-use Rattle.fs_semantics.specs.Orders.{Told, NoneAhead, times, IsLinearExtension, IsFree, IsExchange}
+use Rattle.fs_semantics.specs.Orders.{Told, NoneAhead, times, IsLinearExtension, IsFree}
 use Rattle.order_places.specs.Places.{exchanged, AreNeighbours}
 
 -- the parts of an order at a place

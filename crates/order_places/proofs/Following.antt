@@ -1,5 +1,5 @@
 -- Each may come next exactly in the allowed orders.
-use Rattle.std.proofs.Common.{◌≡◌, ◌≢◌, ◌⊎◌, inl, inr, ℕ, zero, suc, ◌+◌, ◌<◌, ◌≤◌, ◌==◌, Bool, true, false, cond, List, [], ◌∷◌, ◌++◌, length, refl, sym, ap, subst, ◌∙◌, arith, eqb-true, nat_lt, ltb-true, IsTrue}
+use Rattle.std.proofs.Common.{◌≡◌, ◌⊎◌, inl, inr, ℕ, zero, suc, ◌+◌, ◌<◌, ◌≤◌, ◌==◌, Bool, true, false, cond, List, [], ◌∷◌, length, refl, sym, ap, subst, ◌∙◌, arith, eqb-true, nat_lt, ltb-true, IsTrue}
 use Rattle.std.proofs.lemmas.Bool.{eqb-false, lt-ltb, ltb-false}
 use Rattle.std.specs.Prelude.{not, ◌&&◌, ◌||◌, ◌↔◌}
 use Rattle.std.specs.List.{AllByRecursion}

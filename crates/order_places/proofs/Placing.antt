@@ -1,7 +1,6 @@
 -- What stands ahead of a place, at it and the next, and behind.
 use Rattle.std.proofs.Common.{◌≡◌, ℕ, zero, suc, ◌+◌, ◌-◌, ◌<◌, ◌≤◌, Bool, List, [], ◌∷◌, ◌++◌, length, take, drop, refl, sym, ap, subst, ◌∙◌, arith}
 use Rattle.std.specs.Prelude.{slice_index_or}
-use Rattle.std.specs.List.{AllByRecursion}
 use Rattle.fs_semantics.specs.Orders.{Told, IsLinearExtension, IsFree}
 use Rattle.order_places.specs.Places.{exchanged, around}
 use Rattle.order_places.proofs.Exchanging.{free, all_behind}

@@ -1,6 +1,6 @@
 -- The text that is written of an order is one of its texts.
-use Rattle.std.proofs.Common.{◌≡◌, ℕ, ◌≤◌, Bool, true, false, List, [], ◌∷◌, map, Option, Some, IsUtf8, refl, ap, subst, ◌∙◌, arith, Vec, Global}
-use Rattle.serde_json.specs.Data.{Data, string, array, Items, no_items, item, depth, items_depth}
+use Rattle.std.proofs.Common.{◌≡◌, ℕ, ◌≤◌, false, List, [], ◌∷◌, map, Some, IsUtf8, refl, ap, subst, ◌∙◌, arith, Vec, Global}
+use Rattle.serde_json.specs.Data.{string, array, Items, depth, items_depth}
 use Rattle.serde_json.specs.Read.{read, max_depth}
 use Rattle.serde_json.specs.View.{items_of, view}
 use Rattle.serde_json.specs.Written.{compact_text, has_float, items_have_float}

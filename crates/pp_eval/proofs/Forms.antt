@@ -1,6 +1,6 @@
 -- The value of each form, by those of the expressions in it.
 use Rattle.std.proofs.Common.{◌≡◌, ℕ, List, [], map, refl, sym, ap, ◌∙◌}
-use Rattle.std.specs.Prelude.{ℤ, Bool, Option, option_map}
+use Rattle.std.specs.Prelude.{ℤ, Bool, Option}
 use Rattle.std.specs.Prelude as prelude
 use Rattle.pp_syntax.specs.declared.tree.Expr.{Expr, fold-Expr, fold_out-Expr}
 use Rattle.pp_syntax.specs.declared.tree.Form.{Form, Form-F, fold-roll-Form, roll-Form, map-Form}

@@ -14,7 +14,7 @@ use Rattle.pp_syntax.specs.declared.tree.Param.{Param}
 use Rattle.pp_syntax.specs.declared.tree.Item.TheVariants as item
 use Rattle.pp_syntax.specs.Tokens.{Lexeme}
 use Rattle.pp_syntax.specs.Phrases as phrases
-use Rattle.pp_syntax.specs.Phrases.{◌then◌, Nothing, Maybe, Sign, Keyword, Listed, MaybeListed, place_of}
+use Rattle.pp_syntax.specs.Phrases.{◌then◌, Sign, Keyword, Listed, MaybeListed, place_of}
 use Rattle.pp_syntax.specs.Derivation.{StringOf}
 use Rattle.pp_syntax.specs.Statements.{AttrOf, InBraces, BlockOf, IsType, MaybeType, VariableOf, DefaultOf, ParamOf, ParamsOf, ParentOf, NodeNameOf, ItemOf, Items}
 use Rattle.pp_syntax.specs.Statements as grammar

@@ -7,9 +7,9 @@ use Rattle.pp_syntax.specs.declared.tree.Operand.{Operand}
 use Rattle.pp_syntax.specs.declared.tree.Stmt.{Stmt}
 use Rattle.pp_syntax.specs.declared.tree.TypeName.{TypeName}
 use Rattle.pp_syntax.specs.Tokens.{Lexeme}
-use Rattle.pp_syntax.specs.Derivation.{StringOf, ReferenceOf}
+use Rattle.pp_syntax.specs.Derivation.{StringOf}
 use Rattle.pp_syntax.specs.Derivation as derive
-use Rattle.pp_syntax.specs.Statements.{BodiesOf, InBraces, OperandOf, MaybeSearch, StmtOf, IsType, IsStmtAt}
+use Rattle.pp_syntax.specs.Statements.{OperandOf, StmtOf, IsType, IsStmtAt}
 use Rattle.pp_syntax.specs.Statements as grammar
 use Rattle.pp_readers.specs.Marks.{mark}
 use Rattle.pp_readers.specs.Combining.{Reader}

@@ -14,9 +14,9 @@ use Rattle.pp_syntax.specs.declared.tree.Item.{Item}
 use Rattle.pp_syntax.specs.declared.tree.Item.TheVariants as item
 use Rattle.pp_syntax.specs.Tokens.{Lexeme}
 use Rattle.pp_syntax.specs.Phrases as phrases
-use Rattle.pp_syntax.specs.Phrases.{◌then◌, Nothing, Maybe, Sign, Keyword, Comma, Each, Listed, MaybeListed, place_of}
+use Rattle.pp_syntax.specs.Phrases.{◌then◌, Sign, Keyword, Listed, MaybeListed}
 use Rattle.pp_syntax.specs.Derivation.{StringOf}
-use Rattle.pp_syntax.specs.Statements.{AttrOf, InBraces, BlockOf, BodiesOf, OperandOf, StmtOf, IsType, MaybeType, MaybeSearch, VariableOf, DefaultOf, ParamOf, ParamsOf, ParentOf, NodeNameOf, ItemOf, Items, Statements, word_of, Links}
+use Rattle.pp_syntax.specs.Statements.{AttrOf, InBraces, BlockOf, IsType, MaybeType, VariableOf, DefaultOf, ParamOf, ParamsOf, ParentOf, NodeNameOf, ItemOf, Items, Statements}
 use Rattle.pp_syntax.specs.Statements as grammar
 use Rattle.pp_readers.specs.Marks.{mark}
 use Rattle.rh_base.specs.Reading.{◌>>=◌}

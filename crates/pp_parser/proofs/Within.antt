@@ -9,7 +9,7 @@ use Rattle.pp_syntax.specs.declared.tree.Op.{Op}
 use Rattle.pp_syntax.specs.Tokens.{Lexeme}
 use Rattle.pp_syntax.specs.Phrases.{◌then◌, Maybe, Each, Separated, Listed, MaybeListed, Sign, Tight}
 use Rattle.pp_syntax.specs.Phrases as phrase
-use Rattle.pp_syntax.specs.Derivation.{InnerOf, MemberOf, Members, has_part, StringOf, ReferenceOf, PairOf, OptionOf, ChoiceOf, PrimaryOf, SuffixOf, SuffixesOf, PostfixOf, Prefixes, UnaryOf, ChainOf, Operation, Operations, InOf, ProductOf, SumOf, EqualityOf, ComparisonOf, AndOf, ExprOf, IsExprAt, Infix, level_of}
+use Rattle.pp_syntax.specs.Derivation.{InnerOf, MemberOf, Members, has_part, StringOf, ReferenceOf, PairOf, OptionOf, ChoiceOf, PrimaryOf, SuffixOf, SuffixesOf, PostfixOf, Prefixes, UnaryOf, ChainOf, Operation, Operations, InOf, ProductOf, SumOf, EqualityOf, ComparisonOf, AndOf, ExprOf, IsExprAt, Infix}
 use Rattle.pp_syntax.specs.Derivation as rule
 
 abbrev pub Phrase : Type 1

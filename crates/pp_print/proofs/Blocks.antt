@@ -1,7 +1,7 @@
 -- The words of searches, statements and types, by those of what stands in them.
 use Rattle.std.proofs.Common.{◌≡◌, ℕ, List, [], ◌∷◌, ◌++◌, map, refl, sym, ap, ◌∙◌, append_assoc, length, arith}
 use Rattle.std.proofs.lemmas.List.{append-nil}
-use Rattle.std.specs.Prelude.{ℤ, Option, codes, Result, OnOk}
+use Rattle.std.specs.Prelude.{ℤ, Option, codes}
 use Rattle.std.specs.Prelude as prelude
 use Rattle.std.specs.List.{join_by}
 use Rattle.pp_syntax.specs.declared.tree.Expr.{Expr}

@@ -9,9 +9,9 @@ use Rattle.pp_syntax.specs.declared.tree.Attr.{Attr}
 use Rattle.pp_syntax.specs.declared.tree.Body.{Body}
 use Rattle.pp_syntax.specs.Tokens.{Lexeme, is_among, keywords}
 use Rattle.pp_syntax.specs.Phrases.{◌then◌, Sign, Maybe, MaybeListed, Separated, place_of}
-use Rattle.pp_syntax.specs.Derivation.{InnerOf, PostfixOf, ReferenceOf, OptionOf, IsExprAt, IsExpr}
+use Rattle.pp_syntax.specs.Derivation.{InnerOf, PostfixOf, OptionOf, IsExprAt, IsExpr}
 use Rattle.pp_syntax.specs.Derivation as rule
-use Rattle.pp_syntax.specs.Statements.{NameOf, is_qualified, AttrOf, BodyOf, BodiesOf}
+use Rattle.pp_syntax.specs.Statements.{NameOf, AttrOf, BodyOf, BodiesOf}
 use Rattle.pp_syntax.specs.Statements as statement
 use Rattle.pp_print.specs.Words.{word, sign, named, listed}
 use Rattle.pp_print.specs.Expressions.{printed, expr_words, at_level, option_by}

@@ -8,12 +8,11 @@ use Rattle.pp_syntax.specs.declared.token.Kind.TheVariants as kind
 use Rattle.pp_syntax.specs.declared.tree.Expr.{Expr}
 use Rattle.pp_syntax.specs.declared.tree.Form.{Form}
 use Rattle.pp_syntax.specs.declared.tree.Form.TheVariants as form
-use Rattle.pp_syntax.specs.declared.tree.Form.TheVariants.{outs-Str, outs-Index}
 use Rattle.pp_syntax.specs.declared.tree.Op.{Op}
 use Rattle.pp_syntax.specs.declared.tree.Op.TheVariants as op
 use Rattle.pp_syntax.specs.Tokens.{Lexeme, Spelling, int_value}
 use Rattle.pp_syntax.specs.Phrases.{place_of}
-use Rattle.pp_syntax.specs.Derivation.{Rule, Infix, Operation, Operations, ChainOf, ReadAsVariable, base, index, kind_of_first, InnerOf, MemberOf, Members, PlainOf, StringOf, ReferenceOf, PairOf, OptionOf, ChoiceOf, PrimaryOf, SuffixOf, SuffixesOf, PostfixOf, Prefixes, UnaryOf, ExprOf, AndOf, ComparisonOf, EqualityOf, SumOf, ProductOf, InOf, IsExprAt}
+use Rattle.pp_syntax.specs.Derivation.{Rule, Operations, ChainOf, index, InnerOf, MemberOf, Members, PlainOf, StringOf, ReferenceOf, PairOf, OptionOf, ChoiceOf, PrimaryOf, SuffixOf, SuffixesOf, PostfixOf, UnaryOf, ExprOf, AndOf, ComparisonOf, EqualityOf, SumOf, ProductOf, InOf}
 use Rattle.pp_syntax.specs.Derivation as rule
 use Rattle.pp_print.specs.declared.words.Word.{Word}
 use Rattle.pp_print.specs.Words.{word, variable, has_dash, in_parens}

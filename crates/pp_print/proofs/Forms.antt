@@ -1,6 +1,6 @@
 -- The words of each form, by those of the expressions in it.
 use Rattle.std.proofs.Common.{◌≡◌, ℕ, List, [], ◌∷◌, ◌++◌, map, refl, sym, ap, ◌∙◌, append_assoc}
-use Rattle.std.specs.Prelude.{ℤ, Bool, Option, option_map, ◌+◌}
+use Rattle.std.specs.Prelude.{ℤ, Bool, Option, ◌+◌}
 use Rattle.std.specs.Prelude as prelude
 use Rattle.std.specs.List.{flat_map, join_by}
 use Rattle.pp_syntax.specs.declared.tree.Expr.{Expr}

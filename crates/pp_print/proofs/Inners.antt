@@ -7,12 +7,12 @@ use Rattle.pp_syntax.specs.declared.token.Kind.TheVariants as kind
 use Rattle.pp_syntax.specs.declared.tree.Expr.{Expr}
 use Rattle.pp_syntax.specs.declared.tree.Form.{Form, Form-F, out-Form, roll-Form, map-Form, roll-out-Form, out-roll-Form}
 use Rattle.pp_syntax.specs.declared.tree.Form.TheVariants as form
-use Rattle.pp_syntax.specs.declared.tree.Form.TheVariants.{outs-Str, outs-Index, outs-Chain, outs-Prefix, outs-Select, rolls-Str, rolls-Index, rolls-Var}
+use Rattle.pp_syntax.specs.declared.tree.Form.TheVariants.{outs-Str, outs-Index, outs-Chain, outs-Prefix, outs-Select, rolls-Str, rolls-Index}
 use Rattle.pp_syntax.specs.declared.tree.Form.TheOpen as plain
 use Rattle.pp_syntax.specs.declared.tree.Op.{Op}
 use Rattle.pp_syntax.specs.Tokens.{Lexeme}
 use Rattle.pp_syntax.specs.Phrases.{◌then◌, Token}
-use Rattle.pp_syntax.specs.Derivation.{Rule, ReadAsVariable, base, index, kind_of_first, InnerOf, ChainOf, UnaryOf, PrimaryOf, SuffixOf, SuffixesOf, PostfixOf, ExprOf, IsExprAt, IsExpr}
+use Rattle.pp_syntax.specs.Derivation.{Rule, ReadAsVariable, base, index, kind_of_first, InnerOf, ChainOf, UnaryOf, PrimaryOf, SuffixesOf, PostfixOf, ExprOf, IsExprAt, IsExpr}
 use Rattle.pp_syntax.specs.Derivation as rule
 use Rattle.pp_syntax.specs.TokenValues.{SqOf, sq_value}
 use Rattle.pp_print.specs.declared.words.Word.{Word}

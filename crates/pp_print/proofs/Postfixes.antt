@@ -1,6 +1,6 @@
 -- The words of an operand with its indexes and selections spell it again, places aside.
 use Rattle.std.proofs.Common.{◌≡◌, ◌≢◌, inl, ℕ, zero, suc, ◌+◌, ◌-◌, ◌≤◌, ◌<◌, ◌^◌, Bool, true, false, cond, ◌||◌, List, [], ◌∷◌, ◌++◌, length, map, refl, sym, ap, subst, ◌∙◌, append_assoc, append-nil, length-append, arith}
-use Rattle.std.specs.Prelude.{ℤ, pos, Option, codes, decimal}
+use Rattle.std.specs.Prelude.{pos, Option, codes, decimal}
 use Rattle.std.specs.Option.{option_map}
 use Rattle.std.specs.Prelude as prelude
 use Rattle.std.specs.List.{flat_map, list_any}

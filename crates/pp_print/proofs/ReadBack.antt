@@ -9,11 +9,11 @@ use Rattle.pp_syntax.specs.declared.lexer.opening.Opening.{Opening}
 use Rattle.pp_syntax.specs.declared.lexer.opening.Opening.TheVariants as opening
 use Rattle.pp_syntax.specs.declared.lexer.place.Place.{Place}
 use Rattle.pp_syntax.specs.Bytes.{is_name}
-use Rattle.pp_syntax.specs.Opened.{in_quotes, closed_brace, outer_of, Ending, Whole, ending}
+use Rattle.pp_syntax.specs.Opened.{in_quotes, closed_brace, outer_of, Whole, ending}
 use Rattle.pp_syntax.specs.Opened as place
 use Rattle.pp_syntax.specs.Tokens.{Lexeme, Spelling, is_among}
 use Rattle.pp_syntax.specs.Statements.{functions}
-use Rattle.pp_syntax.specs.Spelling.{NoNameFirst, NumberStands, kind_at, TokenAt, GapAt, opened_behind, ends_tight, behind, behind_gap, Reads, Spells, start}
+use Rattle.pp_syntax.specs.Spelling.{NoNameFirst, NumberStands, kind_at, TokenAt, opened_behind, ends_tight, behind, behind_gap, Reads, Spells, start}
 use Rattle.pp_syntax.specs.Spelling as spelling
 use Rattle.pp_syntax.specs.SetApart.{IsSetApart}
 use Rattle.pp_print.specs.declared.words.Word.{Word}

@@ -12,7 +12,7 @@ use Rattle.pp_syntax.specs.declared.tree.Op.{Op}
 use Rattle.pp_syntax.specs.declared.tree.Op.TheVariants as op
 use Rattle.pp_syntax.specs.Tokens.{Lexeme}
 use Rattle.pp_syntax.specs.Phrases.{◌then◌, Sign, place_of}
-use Rattle.pp_syntax.specs.Derivation.{Rule, level_of, Infix, Prefixed, Operation, Operations, ChainOf, PrimaryOf, PostfixOf, UnaryOf, Prefixes, ExprOf, AndOf, ComparisonOf, EqualityOf, SumOf, ProductOf, InOf, none}
+use Rattle.pp_syntax.specs.Derivation.{Rule, Infix, Prefixed, Operation, Operations, ChainOf, PostfixOf, UnaryOf, Prefixes, ExprOf, AndOf, ComparisonOf, EqualityOf, SumOf, ProductOf, InOf, none}
 use Rattle.pp_syntax.specs.Derivation as rule
 use Rattle.pp_print.specs.declared.words.Word.{Word}
 use Rattle.pp_print.specs.Words.{sign, in_parens}

@@ -15,7 +15,7 @@ use Rattle.pp_syntax.specs.declared.tree.TypeName.{TypeName}
 use Rattle.pp_syntax.specs.Tokens.{Lexeme, int_value}
 use Rattle.pp_syntax.specs.Phrases.{◌then◌, Token, Some, Sign, Keyword, Tight, Comma, Listed, MaybeListed}
 use Rattle.pp_syntax.specs.Derivation.{PostfixOf, ReferenceOf, IsExpr}
-use Rattle.pp_syntax.specs.Statements.{NameOf, AttrOf, BodyOf, BodiesOf, InBraces, AtomOf, ConjunctionOf, SearchOf, IsSearchAt, MaybeSearch, Virtual, OperandOf, Links, TextBounds, NumberBounds, TypeWord, QuotedText, TypeOf, IsTypeAt, IsType}
+use Rattle.pp_syntax.specs.Statements.{NameOf, AttrOf, BodyOf, BodiesOf, InBraces, AtomOf, ConjunctionOf, SearchOf, IsSearchAt, MaybeSearch, OperandOf, Links, TextBounds, NumberBounds, TypeWord, QuotedText, TypeOf, IsTypeAt, IsType}
 use Rattle.pp_syntax.specs.Statements as rule
 use Rattle.pp_print.specs.declared.words.Word.{Word}
 use Rattle.pp_print.specs.Words.{sign, keyword, comma, quoted, number, named, in_parens, in_tight, listed}

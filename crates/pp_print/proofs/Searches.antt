@@ -14,7 +14,7 @@ use Rattle.pp_syntax.specs.declared.tree.Search.TheVariants.{rolls-Or, rolls-And
 use Rattle.pp_syntax.specs.Tokens.{Lexeme}
 use Rattle.pp_syntax.specs.Phrases.{◌then◌, Sign, Keyword, Separated}
 use Rattle.pp_syntax.specs.Derivation.{PostfixOf, IsExpr}
-use Rattle.pp_syntax.specs.Statements.{NameOf, AtomOf, ConjunctionOf, SearchOf, IsSearchAt, IsSearch, MaybeSearch}
+use Rattle.pp_syntax.specs.Statements.{NameOf, AtomOf, ConjunctionOf, SearchOf, IsSearchAt, MaybeSearch}
 use Rattle.pp_syntax.specs.Statements as rule
 use Rattle.pp_print.specs.declared.words.Word.{Word}
 use Rattle.pp_print.specs.Words.{sign, keyword, named, in_parens}

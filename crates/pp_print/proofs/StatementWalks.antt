@@ -25,7 +25,7 @@ use Rattle.pp_syntax.specs.Tokens.{Lexeme, is_among}
 use Rattle.pp_syntax.specs.Phrases.{◌then◌, Token, Some, Keyword, Comma, Each}
 use Rattle.pp_syntax.specs.Derivation.{OptionOf, StringOf, IsExpr}
 use Rattle.pp_syntax.specs.Derivation as derivation
-use Rattle.pp_syntax.specs.Statements.{word_of, functions, VariableOf, InBraces, ArgsOf, Statements, BlockOf, ElseOf, ArmOf, CaseArmOf, CaseArms, StmtOf, IsStmtAt, AttrOf, MaybeType, DefaultOf, ParamOf, ParamsOf, ParentOf, NodeNameOf, ItemOf, Items, IsManifest}
+use Rattle.pp_syntax.specs.Statements.{word_of, functions, InBraces, ArgsOf, Statements, BlockOf, ElseOf, ArmOf, CaseArmOf, CaseArms, StmtOf, IsStmtAt, MaybeType, DefaultOf, ParamOf, ParamsOf, ParentOf, NodeNameOf, ItemOf, Items, IsManifest}
 use Rattle.pp_syntax.specs.Statements as rule
 use Rattle.pp_print.specs.Words.{keyword, comma, quoted, in_parens, listed}
 use Rattle.pp_print.specs.Expressions.{expr_words, option_by}

@@ -1,6 +1,6 @@
 -- The words of a type spell it again.
 use Rattle.std.proofs.Common.{◌≡◌, ℕ, zero, suc, ◌≤◌, ◌<◌, ◌^◌, ◌==◌, cond, true, false, List, [], ◌∷◌, ◌++◌, ◌+◌, length, map, refl, sym, ap, subst, ◌∙◌, append_assoc, arith}
-use Rattle.std.specs.Prelude.{ℤ, pos, Option, codes, unsigned_abs, decimal}
+use Rattle.std.specs.Prelude.{ℤ, pos, Option, codes, decimal}
 use Rattle.std.specs.Prelude as prelude
 use Rattle.std.proofs.lemmas.Bool.{eqb-true}
 use Rattle.pp_syntax.specs.declared.token.Kind.TheVariants as kind

@@ -5,7 +5,7 @@ use Rattle.pp_syntax.specs.declared.tree.Expr.{Expr, fold-Expr, fold_out-Expr}
 use Rattle.pp_syntax.specs.declared.tree.Form.{Form, Form-F, fold-roll-Form, roll-Form, map-Form}
 use Rattle.pp_syntax.specs.declared.tree.Form.TheOpen as plain
 use Rattle.pp_syntax.specs.declared.tree.Form.TheVariants as form
-use Rattle.pp_syntax.specs.declared.tree.Form.TheVariants.{rolls-Int, rolls-Str, rolls-Var, rolls-Bool, rolls-Undef, rolls-List, rolls-Map, rolls-Refer, rolls-Join, rolls-Chain, rolls-Prefix, rolls-Index, rolls-Select}
+use Rattle.pp_syntax.specs.declared.tree.Form.TheVariants.{rolls-List, rolls-Map, rolls-Refer, rolls-Join, rolls-Chain, rolls-Prefix, rolls-Index, rolls-Select}
 use Rattle.pp_syntax.specs.declared.tree.Form.TheShapes.{former-Form-Select-1-at-3}
 use Rattle.pp_syntax.specs.declared.tree.Op.{Op}
 use Rattle.pp_print.specs.Places.{unplaced_form, unplaced}

@@ -1,6 +1,6 @@
 -- What is spelled with brackets nested to some depth is spelled.
 use Rattle.std.proofs.Common.{ℕ, List, [], ◌∷◌}
-use Rattle.std.specs.Prelude.{Option, codes}
+use Rattle.std.specs.Prelude.{Option}
 use Rattle.std.specs.Prelude as prelude
 use Rattle.pp_syntax.specs.declared.tree.Expr.{Expr}
 use Rattle.pp_syntax.specs.Tokens.{Lexeme}

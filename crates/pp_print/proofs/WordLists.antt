@@ -14,7 +14,7 @@ use Rattle.pp_print.specs.Words.{word, comma, number, variable, named, has_dash,
 use Rattle.pp_print.proofs.Decimals.{int_decimal, decimal_int}
 use Rattle.pp_print.proofs.Phrases.{Phrase}
 use Rattle.pp_print.proofs.Standing.{Sound, AllSound}
-use Rattle.pp_print.proofs.Walks.{Last, is_free, is_closed, is_done, is_other, Other, Takes, seq, nothing, by_words, comma_takes, word_takes, variable_takes, keyword_takes}
+use Rattle.pp_print.proofs.Walks.{Last, is_closed, is_done, is_other, Other, Takes, seq, nothing, by_words, comma_takes, word_takes, variable_takes, keyword_takes}
 use Rattle.pp_print.proofs.Walks as walks
 
 -- ---- parts of what is sound

@@ -10,7 +10,7 @@ use Rattle.pp_syntax.specs.declared.tree.Search.TheVariants as search
 use Rattle.pp_syntax.specs.Tokens.{Lexeme}
 use Rattle.pp_syntax.specs.Phrases.{◌then◌, Sign, Keyword, Each, MaybeListed}
 use Rattle.pp_syntax.specs.Derivation.{PostfixOf}
-use Rattle.pp_syntax.specs.Statements.{NameOf, word, keyword, AttrOf, BodyOf, BodiesOf, AtomOf, ConjunctionOf, SearchOf, IsSearchAt, IsSearch, MaybeSearch}
+use Rattle.pp_syntax.specs.Statements.{NameOf, word, keyword, AttrOf, BodyOf, BodiesOf, AtomOf, ConjunctionOf, SearchOf, IsSearchAt, MaybeSearch}
 use Rattle.pp_syntax.specs.Statements as grammar
 use Rattle.pp_readers.specs.Marks.{Found, mark}
 use Rattle.rh_base.specs.Reading.{◌>>=◌}

@@ -8,7 +8,7 @@ use Rattle.pp_syntax.specs.declared.token.Kind.{Kind}
 use Rattle.pp_syntax.specs.declared.token.Kind.TheVariants as kind
 use Rattle.pp_syntax.specs.Tokens.{Lexeme}
 use Rattle.pp_syntax.specs.Phrases as phrases
-use Rattle.pp_syntax.specs.Phrases.{◌then◌, Nothing, Maybe, Sign, Each, Separated, place_of}
+use Rattle.pp_syntax.specs.Phrases.{◌then◌, Maybe, Sign, Each, place_of}
 use Rattle.pp_syntax.specs.Statements.{InBraces}
 use Rattle.pp_readers.specs.Marks.{Found, first_at, mark, rank}
 use Rattle.rh_base.specs.Reading.{◌>>=◌}

@@ -13,9 +13,9 @@ use Rattle.pp_syntax.specs.declared.tree.Stmt.{Stmt}
 use Rattle.pp_syntax.specs.declared.tree.Stmt.TheVariants as stmt
 use Rattle.pp_syntax.specs.Tokens.{Lexeme}
 use Rattle.pp_syntax.specs.Phrases as phrases
-use Rattle.pp_syntax.specs.Phrases.{◌then◌, Nothing, Maybe, Sign, Keyword, Loose, Comma, Each, Separated, Listed, place_of}
+use Rattle.pp_syntax.specs.Phrases.{◌then◌, Sign, Keyword, Loose, Comma, Each, Separated, Listed, place_of}
 use Rattle.pp_syntax.specs.Derivation.{PostfixOf, ReferenceOf}
-use Rattle.pp_syntax.specs.Statements.{BodiesOf, InBraces, MaybeSearch, OperandOf, ArrowOf, Links, StandsAlone, VariableOf, word_of, ArgsOf, begins_with_bracket, functions, StmtOf}
+use Rattle.pp_syntax.specs.Statements.{BodiesOf, InBraces, MaybeSearch, OperandOf, ArrowOf, Links, StandsAlone, VariableOf, word_of, ArgsOf, begins_with_bracket, StmtOf}
 use Rattle.pp_syntax.specs.Statements as grammar
 use Rattle.pp_readers.specs.Marks.{Found, front_of, first_at, mark}
 use Rattle.rh_base.specs.Reading.{◌>>=◌}

@@ -11,7 +11,7 @@ use Rattle.pp_syntax.specs.declared.tree.Op.{Op}
 use Rattle.pp_syntax.specs.declared.tree.Op.TheVariants as op
 use Rattle.pp_syntax.specs.Tokens.{Lexeme}
 use Rattle.pp_syntax.specs.Phrases as phrases
-use Rattle.pp_syntax.specs.Phrases.{◌then◌, Nothing, Maybe, Sign, Comma, Each, Separated, Listed, MaybeListed}
+use Rattle.pp_syntax.specs.Phrases.{◌then◌, Nothing, Maybe, Sign, Comma, Listed, MaybeListed}
 use Rattle.pp_syntax.specs.Derivation.{level_of, Infix, Prefixed, Operation, Operations, Prefixes}
 use Rattle.pp_readers.specs.Marks.{Found, mark, sign_operator, keyword_operator, operator_of, at_level, infix_at, prefix_of}
 use Rattle.rh_base.specs.Reading.{◌>>=◌}

@@ -8,8 +8,8 @@ use Rattle.pp_syntax.specs.declared.tree.Form.TheVariants as form
 use Rattle.pp_syntax.specs.declared.tree.Op.{Op}
 use Rattle.pp_syntax.specs.Tokens.{Lexeme}
 use Rattle.pp_syntax.specs.Phrases as phrases
-use Rattle.pp_syntax.specs.Phrases.{◌then◌, Nothing, Maybe, Sign, Keyword, Tight, Comma, Listed, MaybeListed, place_of}
-use Rattle.pp_syntax.specs.Derivation.{ChainOf, operand, chain, Operations, Prefixes, UnaryOf, PostfixOf, PrimaryOf, SuffixOf, SuffixesOf, ReferenceOf, StringOf, MemberOf, Members, InnerOf, ReadAsVariable, PairOf, OptionOf, ChoiceOf, is_part, has_part, kind_of_first, IsExprAt}
+use Rattle.pp_syntax.specs.Phrases.{◌then◌, Sign, Keyword, Tight, Listed, place_of}
+use Rattle.pp_syntax.specs.Derivation.{ChainOf, operand, chain, Operations, PrimaryOf, SuffixOf, SuffixesOf, ReferenceOf, PairOf, OptionOf, ChoiceOf}
 use Rattle.pp_syntax.specs.Derivation as grammar
 use Rattle.pp_readers.specs.Marks.{Found, first_at, mark, begins_suffix}
 use Rattle.rh_base.specs.Reading.{◌>>=◌}

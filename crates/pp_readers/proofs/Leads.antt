@@ -11,7 +11,7 @@ use Rattle.pp_syntax.specs.declared.tree.Stmt.{Stmt}
 use Rattle.pp_syntax.specs.Tokens.{Lexeme, is_among}
 use Rattle.pp_syntax.specs.Phrases as phrases
 use Rattle.pp_syntax.specs.Phrases.{◌then◌, Sign, Keyword}
-use Rattle.pp_syntax.specs.Statements.{InBraces, BodiesOf, OperandOf, StmtOf, IsStmtAt, word_of}
+use Rattle.pp_syntax.specs.Statements.{InBraces, BodiesOf, OperandOf, StmtOf, IsStmtAt}
 use Rattle.pp_syntax.specs.Statements as grammar
 use Rattle.pp_readers.specs.Marks.{mark}
 use Rattle.pp_readers.specs.Leads.{NothingFollows, begins_by, BeginsStatement}

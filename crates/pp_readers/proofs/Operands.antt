@@ -14,8 +14,8 @@ use Rattle.pp_syntax.specs.declared.tree.Form.TheVariants as form
 use Rattle.pp_syntax.specs.Tokens.{Lexeme, int_value}
 use Rattle.pp_syntax.specs.TokenValues.{SqOf, DqOf, sq_value}
 use Rattle.pp_syntax.specs.Phrases as phrases
-use Rattle.pp_syntax.specs.Phrases.{◌then◌, Nothing, Maybe, Sign, Keyword, place_of}
-use Rattle.pp_syntax.specs.Derivation.{ChainOf, Prefixes, UnaryOf, PostfixOf, PrimaryOf, SuffixesOf, StringOf, PlainOf, MemberOf, Members, InnerOf, ReadAsVariable, is_part, has_part, kind_of_first, ExprOf, IsExprAt}
+use Rattle.pp_syntax.specs.Phrases.{◌then◌, Sign, Keyword}
+use Rattle.pp_syntax.specs.Derivation.{PrimaryOf, StringOf, PlainOf, MemberOf, Members, InnerOf, ReadAsVariable, is_part, has_part, kind_of_first}
 use Rattle.pp_syntax.specs.Derivation as grammar
 use Rattle.pp_readers.specs.Marks.{Found, mark}
 use Rattle.rh_base.specs.Reading.{◌>>=◌}

@@ -11,13 +11,13 @@ use Rattle.pp_syntax.specs.Tokens.{Lexeme, int_value}
 use Rattle.pp_syntax.specs.TokenValues.{SqOf, DqOf, sq_value}
 use Rattle.pp_syntax.specs.Phrases as phrases
 use Rattle.pp_syntax.specs.Phrases.{◌then◌, Sign, place_of}
-use Rattle.pp_syntax.specs.Derivation.{Prefixes, UnaryOf, PostfixOf, PrimaryOf, StringOf, PlainOf, MemberOf, Members, InnerOf, ReadAsVariable, has_part, kind_of_first, IsExprAt}
+use Rattle.pp_syntax.specs.Derivation.{UnaryOf, PostfixOf, PrimaryOf, StringOf, PlainOf, MemberOf, Members, InnerOf, ReadAsVariable, has_part, kind_of_first, IsExprAt}
 use Rattle.pp_syntax.specs.Derivation as grammar
 use Rattle.pp_syntax.proofs.Values.{fits}
 use Rattle.pp_readers.specs.Marks.{Found, first_at, mark, reach}
 use Rattle.rh_base.specs.Reading.{◌>>=◌}
 use Rattle.pp_readers.specs.Values.{behind_byte, before_quote, sq, dq}
-use Rattle.pp_readers.specs.Expressions.{prefixes, prefixed, suffixes, postfix_with, unary_with, levels_with, expr_at, primary_with, opened_or, atom_of, atom_at, string_with, double_with, quoted_with, members, member_with, with_member, end_or_member, joined, plain_of, part_with, hole_with, inner_with, inner_of, begins_word, as_variable}
+use Rattle.pp_readers.specs.Expressions.{prefixes, prefixed, suffixes, postfix_with, unary_with, levels_with, expr_at, primary_with, string_with, double_with, quoted_with, members, member_with, with_member, end_or_member, joined, part_with, hole_with, inner_with, inner_of, begins_word, as_variable}
 use Rattle.pp_readers.proofs.Escapes.{before_here}
 use Rattle.pp_readers.proofs.Variables.{variable_found, Stays}
 use Rattle.pp_readers.proofs.Operands.{part-append}

@@ -11,9 +11,9 @@ use Rattle.pp_syntax.specs.declared.tree.Arm.{Arm, out-Arm}
 use Rattle.pp_syntax.specs.declared.tree.CaseArm.{CaseArm, out-CaseArm}
 use Rattle.pp_syntax.specs.Tokens.{Lexeme}
 use Rattle.pp_syntax.specs.Phrases as phrases
-use Rattle.pp_syntax.specs.Phrases.{◌then◌, Nothing, Maybe, Sign, Keyword, Loose, Each, Separated, Listed, place_of}
+use Rattle.pp_syntax.specs.Phrases.{◌then◌, Sign, Keyword, Each, Listed}
 use Rattle.pp_syntax.specs.Derivation.{OptionOf, PostfixOf, ReferenceOf}
-use Rattle.pp_syntax.specs.Statements.{BodiesOf, InBraces, OperandOf, VariableOf, word_of, ArgsOf, functions, Statements, BlockOf, ElseOf, ArmOf, CaseArmOf, CaseArms, StmtOf, IsStmtAt}
+use Rattle.pp_syntax.specs.Statements.{BodiesOf, InBraces, OperandOf, Statements, BlockOf, ElseOf, ArmOf, CaseArmOf, CaseArms, StmtOf, IsStmtAt}
 use Rattle.pp_syntax.specs.Statements as grammar
 use Rattle.pp_readers.specs.Marks.{mark}
 use Rattle.rh_base.specs.Reading.{◌>>=◌}
@@ -26,7 +26,7 @@ use Rattle.pp_readers.proofs.DoubleQuotes.{dq_read}
 use Rattle.pp_readers.specs.Combining.{Reader, both, behind, in_braces, begins}
 use Rattle.pp_readers.specs.Names.{taken, function_by}
 use Rattle.pp_readers.specs.Leads.{NothingFollows, BeginsStatement}
-use Rattle.pp_readers.specs.Statements.{unclosed, statements_in, block_with, else_with, arm_of, arm_with, more_arms, arms_with, if_of, if_with, unless_of, unless_with, options_with, case_arm_of, case_arm_with, case_arms_in, case_of, case_with, chain_with, assign_with, call_with, called_or, called_with, stmt_with, stmt_at}
+use Rattle.pp_readers.specs.Statements.{unclosed, statements_in, block_with, else_with, arm_of, arm_with, more_arms, arms_with, if_of, if_with, unless_of, unless_with, options_with, case_arm_of, case_arm_with, case_arms_in, case_of, case_with, chain_with, assign_with, called_or, called_with, stmt_with, stmt_at}
 use Rattle.pp_readers.proofs.Combining.{Spells}
 use Rattle.pp_readers.proofs.Names.{function_none}
 use Rattle.pp_readers.proofs.Blocks.{Arms, to_left}

@@ -8,7 +8,7 @@ use Rattle.pp_syntax.specs.declared.tree.Attr.{Attr}
 use Rattle.pp_syntax.specs.declared.tree.Body.{Body}
 use Rattle.pp_syntax.specs.Tokens.{Lexeme}
 use Rattle.pp_syntax.specs.Phrases as phrases
-use Rattle.pp_syntax.specs.Phrases.{◌then◌, Nothing, Maybe, Sign, Each, Separated, MaybeListed, place_of}
+use Rattle.pp_syntax.specs.Phrases.{◌then◌, Sign, MaybeListed}
 use Rattle.pp_syntax.specs.Statements.{NameOf, word, keyword, AttrOf, BodyOf, BodiesOf, InBraces}
 use Rattle.pp_readers.specs.Marks.{mark, reach}
 use Rattle.pp_readers.proofs.Solid.{Begun, begun_some, begun_grows, no_close_first}

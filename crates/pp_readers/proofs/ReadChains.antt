@@ -15,9 +15,9 @@ use Rattle.pp_syntax.specs.declared.tree.Func.TheVariants as func
 use Rattle.pp_syntax.specs.declared.tree.Stmt.TheVariants as stmt
 use Rattle.pp_syntax.specs.Tokens.{Lexeme, is_among}
 use Rattle.pp_syntax.specs.Phrases as phrases
-use Rattle.pp_syntax.specs.Phrases.{◌then◌, Nothing, Maybe, Sign, Keyword, Tight, Loose, Comma, Each, Separated, Listed, place_of}
+use Rattle.pp_syntax.specs.Phrases.{◌then◌, Sign, Keyword, Tight, Loose, Comma, Each, Separated, Listed, place_of}
 use Rattle.pp_syntax.specs.Derivation.{PostfixOf, ReferenceOf}
-use Rattle.pp_syntax.specs.Statements.{BodiesOf, InBraces, MaybeSearch, OperandOf, ArrowOf, Links, StandsAlone, VariableOf, word_of, ArgsOf, begins_with_bracket, functions, is_qualified}
+use Rattle.pp_syntax.specs.Statements.{BodiesOf, InBraces, MaybeSearch, OperandOf, ArrowOf, Links, StandsAlone, VariableOf, word_of, ArgsOf, begins_with_bracket, functions}
 use Rattle.pp_syntax.specs.Statements as grammar
 use Rattle.pp_readers.specs.Marks.{first_at, mark}
 use Rattle.rh_base.specs.Reading.{◌>>=◌}

@@ -9,9 +9,9 @@ use Rattle.pp_syntax.specs.declared.tree.Search.{Search}
 use Rattle.pp_syntax.specs.declared.tree.Search.TheVariants as search
 use Rattle.pp_syntax.specs.Tokens.{Lexeme}
 use Rattle.pp_syntax.specs.Phrases as phrases
-use Rattle.pp_syntax.specs.Phrases.{◌then◌, Nothing, Sign, Keyword, Each, Separated}
+use Rattle.pp_syntax.specs.Phrases.{◌then◌, Sign, Keyword, Each, Separated}
 use Rattle.pp_syntax.specs.Derivation.{PostfixOf}
-use Rattle.pp_syntax.specs.Statements.{NameOf, word, keyword, AtomOf, ConjunctionOf, SearchOf, IsSearchAt, IsSearch, MaybeSearch}
+use Rattle.pp_syntax.specs.Statements.{NameOf, word, keyword, AtomOf, ConjunctionOf, SearchOf, IsSearchAt, MaybeSearch}
 use Rattle.pp_syntax.specs.Statements as grammar
 use Rattle.pp_readers.specs.Marks.{mark, reach}
 use Rattle.rh_base.specs.Reading.{◌>>=◌}

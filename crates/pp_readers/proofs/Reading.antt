@@ -12,7 +12,7 @@ use Rattle.pp_syntax.specs.declared.tree.Op.{Op}
 use Rattle.pp_syntax.specs.declared.tree.Op.TheVariants as op
 use Rattle.pp_syntax.specs.Tokens.{Lexeme}
 use Rattle.pp_syntax.specs.Phrases.{place_of}
-use Rattle.pp_syntax.specs.Derivation.{level_of, Infix, Prefixed, Operation, Operations, Prefixes, ChainOf}
+use Rattle.pp_syntax.specs.Derivation.{level_of, Infix, Prefixed, Operations, Prefixes, ChainOf}
 use Rattle.pp_syntax.specs.Derivation as grammar
 use Rattle.pp_readers.specs.Marks.{Found, first_at, operator_of, at_level, infix_at, prefix_at, is_suffix, begins_suffix, reach, reach_of}
 use Rattle.rh_base.specs.Reading.{◌>>=◌}

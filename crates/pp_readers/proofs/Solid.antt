@@ -8,7 +8,7 @@ use Rattle.pp_syntax.specs.declared.tree.Expr.{Expr}
 use Rattle.pp_syntax.specs.declared.tree.Op.{Op}
 use Rattle.pp_syntax.specs.declared.tree.Op.TheVariants as op
 use Rattle.pp_syntax.specs.Tokens.{Lexeme}
-use Rattle.pp_syntax.specs.Derivation.{ChainOf, UnaryOf, PostfixOf, PrimaryOf, StringOf, ReferenceOf, Prefixes, Prefixed, IsExprAt, ExprOf}
+use Rattle.pp_syntax.specs.Derivation.{ChainOf, UnaryOf, PostfixOf, PrimaryOf, StringOf, Prefixes, IsExprAt}
 use Rattle.pp_syntax.specs.Derivation as grammar
 use Rattle.pp_readers.specs.Marks.{is_kind, mark, prefix_at, prefix_of}
 

@@ -8,15 +8,14 @@ use Rattle.pp_syntax.specs.declared.tree.Form.TheVariants as form
 use Rattle.pp_syntax.specs.Tokens.{Lexeme}
 use Rattle.pp_syntax.specs.TokenValues.{DqOf}
 use Rattle.pp_syntax.specs.Phrases as phrases
-use Rattle.pp_syntax.specs.Phrases.{◌then◌, Nothing, Maybe, Sign, Keyword, Tight, Listed, MaybeListed, place_of}
-use Rattle.pp_syntax.specs.Derivation.{ChainOf, Prefixes, UnaryOf, PostfixOf, PrimaryOf, SuffixOf, SuffixesOf, ReferenceOf, StringOf, PlainOf, MemberOf, Members, InnerOf, ReadAsVariable, PairOf, OptionOf, ChoiceOf, has_part, kind_of_first, IsExprAt}
+use Rattle.pp_syntax.specs.Phrases.{◌then◌, Sign, Tight, Listed, MaybeListed}
+use Rattle.pp_syntax.specs.Derivation.{SuffixOf, SuffixesOf, ReferenceOf, ReadAsVariable, PairOf, OptionOf, ChoiceOf, kind_of_first}
 use Rattle.pp_syntax.specs.Derivation as grammar
 use Rattle.pp_readers.specs.Marks.{Found, mark, begins_suffix, reach}
 use Rattle.rh_base.specs.Reading.{◌>>=◌}
 use Rattle.pp_readers.specs.Values.{dq}
-use Rattle.pp_readers.specs.Expressions.{prefixes, prefixed, items, maybe_items, enclosed_with, pair_with, option_or, option_with, choice_with, titles_with, refer_by, reference_with, list_with, map_with, opened_or, index_with, choices_with, selection_with, suffix_by, suffix_with, suffixes, postfix_with, unary_with, chain_with, levels_with, expr_at, primary_with, atom_of, atom_at, string_with, double_with, quoted_with, members, member_with, member_by, with_member, end_or_member, joined, plain_of, part_with, hole_with, inner_with, inner_of, begins_word, as_variable, form_as_variable}
+use Rattle.pp_readers.specs.Expressions.{items, maybe_items, enclosed_with, pair_with, option_or, option_with, choice_with, titles_with, reference_with, list_with, map_with, index_with, choices_with, selection_with, suffix_with, suffixes, begins_word, as_variable, form_as_variable}
 use Rattle.pp_readers.proofs.Variables.{at_as_variable}
-use Rattle.pp_readers.proofs.Operands.{part-append}
 use Rattle.pp_readers.proofs.Solid.{Begun, begun_some, begun_grows, no_close_first, no_default_first}
 use Rattle.pp_readers.proofs.Reading.{Fit, fits_first, fits_second, Reads, made, suffix_none}
 use Rattle.pp_readers.proofs.Listing.{Closes, bracket_closes, brace_closes, items_read, maybe_items_read}

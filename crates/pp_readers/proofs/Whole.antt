@@ -5,7 +5,7 @@ use Rattle.pp_syntax.specs.declared.tree.Op.{Op}
 use Rattle.pp_syntax.specs.Tokens.{Lexeme}
 use Rattle.pp_syntax.specs.TokenValues.{DqOf}
 use Rattle.pp_syntax.specs.Phrases.{place_of}
-use Rattle.pp_syntax.specs.Derivation.{Prefixes, UnaryOf, PostfixOf, PrimaryOf, SuffixesOf, IsExprAt}
+use Rattle.pp_syntax.specs.Derivation.{Prefixes, UnaryOf, PostfixOf, SuffixesOf, IsExprAt}
 use Rattle.pp_syntax.specs.Derivation as grammar
 use Rattle.pp_readers.specs.Marks.{Found, first_at}
 use Rattle.pp_readers.specs.Values.{dq}
@@ -15,7 +15,7 @@ use Rattle.pp_readers.proofs.Tokens.{bind_some, joins}
 use Rattle.pp_readers.proofs.Finding.{Finds, prefixes_found}
 use Rattle.pp_readers.proofs.Found.{Spells, first_is, chain_found, suffixes_found}
 use Rattle.pp_readers.proofs.Operands.{primary_found}
-use Rattle.pp_readers.proofs.Solid.{Lead, lead, grows, primary_lead, postfix_lead, begun_some, begun_grows, LevelOf, level_begun, expr_begun}
+use Rattle.pp_readers.proofs.Solid.{lead, grows, primary_lead, begun_some, LevelOf, level_begun, expr_begun}
 
 module _ (dq_found : (raw v : List ℕ) → dq raw ≡ Some v → DqOf v raw) (e : List Lexeme → Found Expr) (E : Expr → List Lexeme → Type 0) (finds : Finds e E) (never : Spells E) where
   pub postfix_found : Finds (postfix_with e) (PostfixOf E)

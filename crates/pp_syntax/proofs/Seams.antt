@@ -11,7 +11,7 @@ use Rattle.pp_syntax.specs.declared.lexer.bytes.Style.TheVariants as style
 use Rattle.pp_syntax.specs.Bytes.{is_blank, is_digit, is_octal, is_hex, is_name}
 use Rattle.pp_syntax.specs.Tokens.{Of, SomeOf, begins, goes_on, Segment, Joined, one, another, Name, is_among, keywords, signs, left_out, IntText, only_zero, decimal, octal, hexadecimal, FloatText, Spelling, InQuotes}
 use Rattle.pp_syntax.specs.Spelling.{ToClose, close, more, AtLineEnd, IsGap, blank, line, block}
-use Rattle.pp_syntax.specs.Scanning.{Found, of_kind, or_else, name, hole, piece, escape_len, opens, unit_len, past_unit, text_from, quoted_token, code_token, opens_comment, found_at}
+use Rattle.pp_syntax.specs.Scanning.{Found, of_kind, or_else, name, hole, piece, escape_len, opens, unit_len, past_unit, text_from, quoted_token}
 use Rattle.pp_syntax.specs.Scanning as scanning
 use Rattle.pp_syntax.proofs.Steps.{cond_some}
 use Rattle.pp_syntax.proofs.Names.{Of-append}

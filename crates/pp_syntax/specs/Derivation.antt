@@ -1,5 +1,5 @@
 -- Which tokens spell an expression. Each rule takes the rule for what stands within brackets as an argument.
-use Rattle.std.specs.Prelude.{◌≡◌, ◌⊎◌, ℕ, zero, suc, Bool, true, false, ◌==◌, ◌||◌, ℤ, pos, List, [], ◌∷◌, ◌++◌, Option, codes}
+use Rattle.std.specs.Prelude.{◌≡◌, ℕ, zero, suc, Bool, true, false, ◌==◌, pos, List, [], ◌∷◌, ◌++◌, Option, codes}
 use Rattle.std.specs.Prelude as prelude
 use Rattle.std.specs.List.{list_any}
 use Rattle.pp_syntax.specs.declared.token.Kind.{Kind}

@@ -1,5 +1,5 @@
 -- Hashes of texts: equal texts have equal hashes, so a text whose hash is another one isn't compared.
-use Rattle.std.specs.Prelude.{◌≡◌, ℕ, ◌+◌, ◌*◌, ◌%◌, ◌<◌, ◌==◌, Bool, List, [], ◌∷◌}
+use Rattle.std.specs.Prelude.{ℕ, ◌+◌, ◌*◌, ◌%◌, ◌==◌, Bool, List, [], ◌∷◌}
 
 -- the largest prime below 2 ^ 32
 abbrev pub modulus : ℕ

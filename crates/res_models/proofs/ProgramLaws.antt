@@ -9,9 +9,8 @@ use Rattle.fs_semantics.specs.Programs.{Program}
 use Rattle.pp_eval.specs.Verdicts.{Refuses}
 use Rattle.catalog_semantics.specs.declared.catalog.Resource.{Resource}
 use Rattle.pkg_listing.specs.Packages.{Packages}
-use Rattle.model_semantics.specs.Names as names
 use Rattle.model_semantics.specs.Words.{sequence}
-use Rattle.model_semantics.specs.Models.{model_of, if_new, or_refused, first_and, programs_with, programs_behind, programs}
+use Rattle.model_semantics.specs.Models.{first_and, programs_with, programs_behind, programs}
 use Rattle.res_models.specs.Seen.{AddsProgram}
 
 -- programs behind others

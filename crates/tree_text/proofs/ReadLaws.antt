@@ -22,7 +22,7 @@ use Rattle.rh_base.specs.declared.misread.Misread.{Misread}
 use Rattle.rh_base.specs.declared.misread.Misread.TheVariants as misread
 use Rattle.rh_base.specs.declared.limits.TheConstants.{PATH_BYTES, PATH_SEGMENTS}
 use Rattle.fs_semantics.specs.FileTree as fs
-use Rattle.fs_semantics.specs.FileTree.{Path, Folder, File, Link, Tree, IsTree, IsSegment, is_dir, parent, path_cmp, path_eq}
+use Rattle.fs_semantics.specs.FileTree.{Path, Folder, Tree, IsTree, IsSegment, is_dir, parent, path_cmp, path_eq}
 use Rattle.fs_semantics.specs.Entries.{IsFreeAt, IsFolderAt, IsWith}
 use Rattle.fs_lang.specs.PathText.{IsPathText, path_text}
 use Rattle.tree_text.specs.TreeText.{entry_data, HasMember, AreMembers, IsWithinLimits, IsTreeText}

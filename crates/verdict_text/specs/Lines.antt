@@ -1,5 +1,5 @@
 -- Lines on file trees, orders and outcomes.
-use Rattle.std.specs.Prelude.{ℕ, List, [], ◌++◌, map, slice_index_or, Option, Some, None, codes}
+use Rattle.std.specs.Prelude.{ℕ, List, [], ◌++◌, map, slice_index_or, Some, None, codes}
 use Rattle.fs_semantics.specs.FileTree.{Tree}
 use Rattle.fs_semantics.specs.Programs.{Outcome}
 use Rattle.tree_text.specs.TreeText.{tree_text}

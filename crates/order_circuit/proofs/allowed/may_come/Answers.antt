@@ -1,4 +1,4 @@
-use Rattle.std.proofs.Common.{◌≡◌, nat_lt, ap, ◌∙◌}
+use Rattle.std.proofs.Common.{◌≡◌, nat_lt, ◌∙◌}
 use Rattle.std.specs.Prelude.{◌&&◌}
 use Rattle.fs_interpreter.proofs.Frames.{grows_on}
 use Rattle.orders.specs.Relation.{comes}

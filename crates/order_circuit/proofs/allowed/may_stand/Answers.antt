@@ -1,6 +1,5 @@
-use Rattle.std.proofs.Common.{◌≡◌, ◌==◌, ℕ, Bool, true, cond, sym, ap, ◌∙◌}
+use Rattle.std.proofs.Common.{◌≡◌, ◌==◌, cond, sym, ap, ◌∙◌}
 use Rattle.std.specs.Prelude.{◌&&◌, not}
-use Rattle.fs_interpreter.specs.Meanings.{Grows}
 use Rattle.fs_interpreter.specs.States.{truth}
 use Rattle.fs_interpreter.proofs.Frames.{grows_on}
 use Rattle.sym_run.specs.Wires.{circuit_meanings}

@@ -1,4 +1,4 @@
-use Rattle.std.proofs.Common.{◌≡◌, ◌+◌, false, sym, subst}
+use Rattle.std.proofs.Common.{◌+◌, false, sym, subst}
 use Rattle.fs_interpreter.proofs.Frames.{grows_on}
 use Rattle.sym_run.specs.Bitwise.{BitsSoFar}
 use Rattle.sym_run.specs.Wires.{circuit_meanings}

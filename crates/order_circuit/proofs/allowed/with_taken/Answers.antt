@@ -1,11 +1,11 @@
-use Rattle.std.proofs.Common.{◌≡◌, ◌==◌, ◌+◌, ◌<◌, Bool, true, false, cond, length, refl, sym, ap, subst, ◌∙◌, arith}
+use Rattle.std.proofs.Common.{◌≡◌, ◌==◌, ◌+◌, Bool, true, false, cond, refl, sym, ap, subst, ◌∙◌}
 use Rattle.std.specs.Prelude.{◌||◌}
 use Rattle.fs_interpreter.specs.States.{truth}
 use Rattle.fs_interpreter.proofs.Frames.{grows_on}
 use Rattle.order_places.specs.Places.{with_taken}
 use Rattle.sym_run.specs.Bitwise.{BitsSoFar, bit_at}
 use Rattle.sym_run.specs.Wires.{circuit_meanings}
-use Rattle.sym_run.proofs.BitLaws.{own_later, bits_more, bit_stays}
+use Rattle.sym_run.proofs.BitLaws.{own_later, bits_more}
 use Rattle.order_circuit.specs.Codes.{node}
 use Rattle.order_circuit.proofs.allowed.with_taken.Goals as goal
 

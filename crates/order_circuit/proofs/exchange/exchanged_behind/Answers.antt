@@ -1,9 +1,9 @@
-use Rattle.std.proofs.Common.{◌≡◌, ◌==◌, ◌+◌, ◌<◌, cond, List, [], ◌∷◌, ◌++◌, length, drop, refl, sym, ap, subst, ◌∙◌, arith}
+use Rattle.std.proofs.Common.{◌≡◌, ◌==◌, ◌+◌, cond, [], ◌∷◌, ◌++◌, drop, sym, ap, subst, ◌∙◌}
 use Rattle.std.proofs.lemmas.List.{append_assoc}
 use Rattle.fs_interpreter.proofs.Frames.{grows_on}
 use Rattle.sym_run.specs.Wires.{circuit_meanings}
 use Rattle.order_circuit.specs.Codes.{AreRows, node, nodes}
-use Rattle.order_circuit.proofs.ExchangeLaws.{exchanged_from, exchange_step, exchange_start}
+use Rattle.order_circuit.proofs.ExchangeLaws.{exchanged_from, exchange_step}
 use Rattle.order_circuit.proofs.RunLaws.{rows_stay, rows_more, nodes_stay, nodes_more, row_at, row_same, nodes_from}
 use Rattle.order_circuit.proofs.exchange.exchanged_behind.Goals as goal
 

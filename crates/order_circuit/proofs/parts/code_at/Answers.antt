@@ -1,9 +1,9 @@
-use Rattle.std.proofs.Common.{◌≡◌, ◌==◌, ◌+◌, ◌<◌, cond, length, map, sym, ap, subst, ◌∙◌}
+use Rattle.std.proofs.Common.{◌==◌, ◌<◌, cond, length, sym, ap, subst, ◌∙◌}
 use Rattle.std.proofs.lemmas.List.{length-map}
 use Rattle.fs_interpreter.proofs.Frames.{grows_on}
 use Rattle.sym_run.specs.Wires.{circuit_meanings}
 use Rattle.order_circuit.specs.Codes.{node, nodes}
-use Rattle.order_circuit.proofs.PartLaws.{seen, seen_more, all_seen, node_at}
+use Rattle.order_circuit.proofs.PartLaws.{seen, seen_more, node_at}
 use Rattle.order_circuit.proofs.RunLaws.{row_at, rows_stay}
 use Rattle.order_circuit.proofs.parts.code_at.Goals as goal
 

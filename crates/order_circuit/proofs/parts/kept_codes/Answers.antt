@@ -1,4 +1,4 @@
-use Rattle.std.proofs.Common.{◌≡◌, ◌+◌, ◌<◌, cond, nat_lt, List, [], ◌∷◌, ◌++◌, drop, length, sym, ap, subst, ◌∙◌}
+use Rattle.std.proofs.Common.{◌≡◌, ◌+◌, cond, nat_lt, [], ◌∷◌, ◌++◌, drop, sym, ap, subst, ◌∙◌}
 use Rattle.std.proofs.lemmas.List.{append_assoc}
 use Rattle.fs_interpreter.proofs.Frames.{grows_on}
 use Rattle.sym_run.specs.Wires.{circuit_meanings}

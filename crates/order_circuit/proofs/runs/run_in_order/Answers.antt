@@ -1,9 +1,9 @@
-use Rattle.std.proofs.Common.{◌≡◌, ◌+◌, ◌<◌, length, map, drop, refl, sym, ap, subst, ◌∙◌, arith}
+use Rattle.std.proofs.Common.{◌+◌, map, drop, sym, ap, subst, ◌∙◌, arith}
 use Rattle.fs_semantics.specs.Programs.{and_then, run, Id}
 use Rattle.fs_semantics.specs.Orders.{outcome}
 use Rattle.std.specs.Prelude.{slice_index_or}
 use Rattle.fs_lang.specs.Meaning.{program_of}
-use Rattle.fs_interpreter.specs.States.{State, state_of}
+use Rattle.fs_interpreter.specs.States.{state_of}
 use Rattle.fs_interpreter.specs.Standing.{StandsFor}
 use Rattle.fs_interpreter.proofs.Frames.{grows_on}
 use Rattle.sym_run.specs.Wires.{circuit_meanings}

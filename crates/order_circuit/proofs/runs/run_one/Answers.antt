@@ -1,4 +1,4 @@
-use Rattle.std.proofs.Common.{◌≡◌, true, false, cond, sym, subst, ◌∙◌}
+use Rattle.std.proofs.Common.{cond, sym, subst, ◌∙◌}
 use Rattle.fs_semantics.specs.Programs.{and_then, run}
 use Rattle.fs_lang.specs.Meaning.{program_of}
 use Rattle.fs_interpreter.specs.States.{State, state_of}

@@ -1,11 +1,11 @@
-use Rattle.std.proofs.Common.{◌≡◌, ℕ, length, map, nat_lt}
+use Rattle.std.proofs.Common.{◌≡◌, length, map, nat_lt}
 use Rattle.std.specs.Prelude.{if◌then◌else◌, slice_index_or}
 use Rattle.fs_interpreter.specs.Meanings.{Grows, Valuation}
 use Rattle.fs_semantics.specs.Programs.{Outcome, Id, and_then, run}
 use Rattle.fs_lang.specs.Meaning.{program_of}
 use Rattle.fs_interpreter.specs.Standing.{StandsFor}
 use Rattle.fs_interpreter.specs.States.{AreCells, state_of}
-use Rattle.sym_run.specs.Wires.{AreWires, circuit_meanings}
+use Rattle.sym_run.specs.Wires.{circuit_meanings}
 use Rattle.order_circuit.specs.Codes.{node}
 use Rattle.order_circuit.proofs.runs.run_place.Given as goal
 

@@ -1,4 +1,4 @@
-use Rattle.std.proofs.Common.{◌≡◌, None, Some, subst, ap, sym, ◌∙◌}
+use Rattle.std.proofs.Common.{◌≡◌, None, Some, subst, ap, ◌∙◌}
 use Rattle.serde_json.specs.View.{view, items_view}
 use Rattle.rh_base.specs.Reading.{Fails}
 use Rattle.order_text.specs.OrderText.{texts_of}

@@ -1,5 +1,5 @@
-use Rattle.std.proofs.Common.{◌≡◌, false, true, ℕ, ◌<◌, length, List, [], ◌∷◌, refl, sym, subst, ◌∙◌, arith, lit≤}
-use Rattle.pp_value.specs.Texts.{lowered, begins, is_part}
+use Rattle.std.proofs.Common.{false, true, ℕ, refl, sym, subst, ◌∙◌, arith, lit≤}
+use Rattle.pp_value.specs.Texts.{lowered}
 use Rattle.pp_value.proofs.TextLaws.{from_front}
 use Rattle.pp_value.proofs.WindowLaws.{Window, first_window, goes_on_by, ahead_is_left, at_end, in_shorter, behind_front, told_apart}
 use Rattle.pp_value.proofs.texts.is_part.Goals as goal

@@ -1,5 +1,4 @@
-use Rattle.std.proofs.Common.{◌≡◌, ◌||◌, subst, sym, ap, ◌∙◌}
-use Rattle.fs_semantics.specs.FileTree.{Path, is_among}
+use Rattle.std.proofs.Common.{◌||◌, ap, ◌∙◌}
 use Rattle.effect_sets.specs.Members.{Lists, is_parent_of}
 use Rattle.effect_sets.proofs.footprints.Footprint.parents.Goals as goal
 
