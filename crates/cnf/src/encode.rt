@@ -259,21 +259,42 @@ fn needed_wires(alloc: Global, circuit: &Circuit, goal: Wire) -> Result<Vec<bool
     Ok(needed)
 }
 
-/// The literals of these wires, of those that are needed.
+/// The literal of a wire, if it or its opposite is needed.
+fn named_one(circuit: &Circuit, needed: &[bool], lits: &[Lit], w: usize) -> Option<Lit>
+    requires { length needed.now ≤ length circuit.now }
+{
+    if w >= needed.len() || needed.len() > lits.len() {
+        return None;
+    }
+    if needed[w] {
+        return Some(lits[w]);
+    }
+    match circuit.gate(Wire(w as u64)) {
+        Gate::Not(a) => {
+            let i = a.0 as usize;
+            if needed[i] {
+                return Some(lits[i].opposite());
+            }
+            None
+        }
+        _ => None,
+    }
+}
+
+/// The literals of these wires, of those that are needed or whose opposites are.
 fn named(
     alloc: Global,
+    circuit: &Circuit,
     needed: &[bool],
     lits: &[Lit],
     wires: &[Wire],
-) -> Result<Seq<Lit>, NoMemory> {
+) -> Result<Seq<Lit>, NoMemory>
+    requires { length needed.now ≤ length circuit.now }
+{
     let mut named = Seq::new(alloc);
     'wires: for wire in wires {
-        let i = wire.0 as usize;
-        if i >= needed.len() || i >= lits.len() {
-            continue;
-        }
-        if needed[i] {
-            named.push(lits[i])?;
+        if let Some(lit) = named_one(circuit, needed, lits, wire.0 as usize) {
+            named.push(lit)?;
         }
     }
     Ok(named)
@@ -296,7 +317,7 @@ pub fn from_circuit_with(
     let lits = encode(alloc, circuit, &needed, &mut cnf)?;
     let lit = lit_at(&lits, goal);
     cnf.add(&[lit])?;
-    let firsts = named(alloc, &needed, &lits, wires)?;
+    let firsts = named(alloc, circuit, &needed, &lits, wires)?;
     Ok((cnf, firsts))
 }
 

@@ -55,14 +55,24 @@ const ASKED: [(Gate, Wire, u64); 28] = [
     (Gate::Mux(A, B, C), CHOICE, 8),
 ];
 
+/// Asks for gates one after the other.
+fn ask_all(
+    rt: &impl Abort,
+    circuit: &mut Circuit,
+    rows: &[(Gate, Wire, u64)],
+) -> Result<(), NoMemory> {
+    for (gate, wire, wires) in rows {
+        let found = ask(rt, circuit, *gate)?;
+        assert_eq!(rt; found, *wire, "for {gate:?}");
+        assert_eq!(rt; circuit.wires(), *wires, "after {gate:?}");
+    }
+    Ok(())
+}
+
 /// A circuit in which all of these were asked for.
 fn asked(rt: &(impl Abort + AllocGlobal)) -> Result<Circuit, NoMemory> {
     let mut circuit = Circuit::new(rt.alloc())?;
-    for (gate, wire, wires) in ASKED {
-        let found = ask(rt, &mut circuit, gate)?;
-        assert_eq!(rt; found, wire, "for {gate:?}");
-        assert_eq!(rt; circuit.wires(), wires, "after {gate:?}");
-    }
+    ask_all(rt, &mut circuit, &ASKED)?;
     Ok(circuit)
 }
 
@@ -74,6 +84,22 @@ fn equal_gates_are_shared_and_what_folds_is_folded(rt: HostRuntime) -> Result<()
         assert!(rt; wire.0 < circuit.wires());
         assert_eq!(rt; circuit.gate(*wire), *gate);
     }
+    Ok(())
+}
+
+#[test]
+fn and_gates_are_looked_through(rt: HostRuntime) -> Result<(), Fail> {
+    let all = Wire(8);
+    let rows = [
+        (Gate::And(BOTH, C), all, 9),
+        (Gate::And(A, all), all, 9),
+        (Gate::And(all, B), all, 9),
+        (Gate::And(NOT_A, all), NO, 9),
+        // the opposite of all three stands in between
+        (Gate::Mux(all, A, NO), all, 10),
+    ];
+    let mut circuit = asked(&rt)?;
+    ask_all(&rt, &mut circuit, &rows)?;
     Ok(())
 }
 

@@ -2,7 +2,7 @@
 
 use crate::common::{FIRST, PIGEONS, PIGEONS_TEXT, SECOND, ask, formula, lit, lits, log};
 use bool_circuit::{Circuit, Gate, Wire};
-use cnf::{Clause, Cnf, from_circuit, write_proof};
+use cnf::{Clause, Cnf, from_circuit, from_circuit_with, write_proof};
 use std::process::Abort;
 use std::test::Fail;
 
@@ -100,6 +100,30 @@ fn models_begin_with_inputs_that_make_the_goal_true(rt: HostRuntime) -> Result<(
         assert_eq!(rt; inputs_with_models(&rt, &cnf), wanted, "of wire {goal}");
         assert_eq!(rt; cnf.vars(), vars, "of wire {goal}");
         assert_eq!(rt; cnf.count(), clauses, "of wire {goal}");
+    }
+    Ok(())
+}
+
+#[test]
+fn wires_are_named_by_their_literals(rt: HostRuntime) -> Result<(), Fail> {
+    let mut circuit = Circuit::new(rt.alloc())?;
+    for gate in GATES {
+        ask(&rt, &mut circuit, gate)?;
+    }
+    // the opposite of the second input, on which no goal stands; and the goal
+    ask(&rt, &mut circuit, Gate::Not(Wire(1)))?;
+    let goal = ask(&rt, &mut circuit, Gate::And(Wire(0), Wire(1)))?;
+    let rows = [
+        (&[][..], &[][..]),
+        (&[Wire(1), Wire(0)][..], &[2, 1][..]),
+        (&[Wire(9), Wire(3)][..], &[-2, -1][..]),
+        (&[Wire(10), Wire(2), Wire(5), Wire(11)][..], &[4][..]),
+    ];
+    assert_eq!(rt; goal, Wire(10));
+    assert!(rt; goal.0 < circuit.wires());
+    for (wires, wanted) in rows {
+        let (_, named) = from_circuit_with(rt.alloc(), &circuit, goal, wires)?;
+        assert_eq!(rt; named.as_slice(), lits(rt.alloc(), wanted)?.as_slice());
     }
     Ok(())
 }
