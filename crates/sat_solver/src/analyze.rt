@@ -163,6 +163,36 @@ fn take_out(r: &mut Resolvent, word: u32, reason: u32) -> Result<(), NoMemory>
     Ok(())
 }
 
+/// Resolves the opposite of the literal at a place away: it is the last of the clause so far on the trail, and a clause gave
+/// that literal.
+#[inline]
+fn resolve_at(
+    r: &mut Resolvent,
+    store: &Store,
+    trail: &Trail,
+    boundary: usize,
+    place: usize,
+) -> Result<(), NoMemory>
+    requires apart { IsApart trail.now.words }
+    requires short { length trail.now.words < 2 ^ 32 }
+    requires late { boundary ≤ place }
+    requires within { place < length trail.now.words }
+    requires marked { IsMarked trail.now.words trail.now.vars boundary (place + 1) r.old.seen.items r.old.pending }
+    requires reasons { IsGiven store.now trail.now boundary }
+    requires seen { is_seen r.old.seen.items (slice_index trail.now.words place) ≡ true }
+    requires given { slice_index trail.now.reasons place ≡ 0 → ⊥ }
+    ensures marked { OnOk result (IsMarked trail.now.words trail.now.vars boundary place r.new.seen.items r.new.pending) }
+    ensures one_less { OnOk result (r.old.pending ≤ r.new.pending + 1) }
+    ensures covered { OnOk result (Covers trail.now.words r.old.seen.items r.old.marked.items → Covers trail.now.words r.new.seen.items r.new.marked.items) }
+    ensures leads { OnOk result ((c : ℕ → Bool) → Reaches store.now c r.old.hops.items (in_clause trail.now.words r.old.seen.items) → Reaches store.now c r.new.hops.items (in_clause trail.now.words r.new.seen.items)) }
+{
+    let word = trail.word(place);
+    let reason = trail.reason(place);
+    take_out(r, word, reason)?;
+    join(r, store.clause(reason - 1), word, trail, boundary, place)?;
+    Ok(())
+}
+
 /// Goes past a place of the trail; whether it has the last literal that is left of the last level.
 fn pass(
     r: &mut Resolvent,
@@ -192,9 +222,7 @@ fn pass(
     if r.pending == 1 {
         return Ok(true);
     }
-    let reason = trail.reason(place);
-    take_out(r, word, reason)?;
-    join(r, store.clause(reason - 1), word, trail, boundary, place)?;
+    resolve_at(r, store, trail, boundary, place)?;
     Ok(false)
 }
 
@@ -297,10 +325,7 @@ fn pass_all(r: &mut Resolvent, store: &Store, trail: &Trail, place: usize) -> Re
     if !seen {
         return Ok(());
     }
-    let reason = trail.reason(place);
-    take_out(r, word, reason)?;
-    join(r, store.clause(reason - 1), word, trail, 0, place)?;
-    Ok(())
+    resolve_at(r, store, trail, 0, place)
 }
 
 /// Goes back along the trail until no literal is left.

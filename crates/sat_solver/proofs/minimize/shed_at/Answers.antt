@@ -1,16 +1,12 @@
-use Rattle.std.proofs.Common.{◌≡◌, inl, inr, ℕ, ◌-◌, ◌/◌, Bool, true, false, List, [], ◌∷◌, ◌++◌, length, get_or, sym, ap, ◌∙◌, subst, arith}
+use Rattle.std.proofs.Common.{◌≡◌, inl, inr, ℕ, ◌-◌, ◌/◌, Bool, true, false, List, length, get_or, sym, ap, ◌∙◌, subst, arith}
 use Rattle.std.proofs.Math.ListN.{length-set}
 use Rattle.sat_solver.specs.Words.{opposite, has}
 use Rattle.sat_solver.specs.Watching.{clause}
-use Rattle.sat_solver.specs.Resolving.{is_seen, in_clause, Reaches}
-use Rattle.sat_solver.specs.declared.analyze.Hop.{Hop}
-use Rattle.std.proofs.lemmas.Bool.{and_from}
-use Rattle.sat_solver.proofs.Marks.{has_at, opposite_twice, half_opposite}
+use Rattle.sat_solver.specs.Resolving.{is_seen}
 use Rattle.sat_solver.proofs.Counts.{count_empty}
 use Rattle.sat_solver.proofs.Arranges.{has_less}
-use Rattle.sat_solver.proofs.Passing.{reaches_more, resolved_is}
 use Rattle.sat_solver.proofs.Covering.{covers_less}
-use Rattle.sat_solver.proofs.Shedding.{giver, joined_at, left_less}
+use Rattle.sat_solver.proofs.Shedding.{giver, joined_at, left_less, leads_on}
 use Rattle.sat_solver.proofs.minimize.shed_at.Goals as goal
 
 pub clause-requires : goal.clause-requires
@@ -63,29 +59,7 @@ returns-clause-covered c h =
 
 pub returns-clause-leads : goal.returns-clause-leads
 returns-clause-leads c start h =
-    let t = c.args.trail.now in
-    let f = c.args.store.now in
-    let seen = c.args.r.now.seen.items in
-    let p = c.args.place in
-    let w = c.word-word.result in
-    let ew : w ≡ get_or t.words p 0 = c.word-word.ensures in
-    let on : is_seen seen (get_or t.words p 0) ≡ true = sym (c.is_marked-seen.ensures ∙ ap (λ (x : List Bool). is_seen x w) c.deref.ensures.value ∙ ap (is_seen seen) ew) ∙ c.if-not-seen.false in
-    let n = c.reason-reason.result - 1 in
-    let g = giver f t c.args.boundary p c.reason-reason.result c.requires.reasons c.requires.within c.reason-reason.ensures c.if-reason-eq0.false in
-    let some = c.if-reason-eq0.false in
-    let v = get_or t.words p 0 in
-    let d = clause f n in
-    let new = c.join.new.r.seen.items in
-    let long = c.requires.long in
-    let small = c.requires.reasons.words p c.requires.within in
-    let hop : Hop = record { number = c.reason-reason.result; pivot = opposite v } in
-    let joined = joined_at t.words seen c.cut.new.r.seen.items new c.clause.result.now d w v ew c.in_ok-cut.ensures.seen c.clause.ensures c.in_ok-join.ensures.seen in
-    let hops : c.join.new.r.hops.items ≡ c.args.r.now.hops.items ++ hop ∷ [] =
-    ap (λ (z : _). z.items) c.in_ok-join.ensures.hops ∙ c.in_ok-cut.ensures.hops ∙ ap (λ (y : ℕ). c.args.r.now.hops.items ++ (record { number = c.reason-reason.result; pivot = opposite y }) ∷ []) ew in
-    let held : has t.words (opposite (opposite v)) ≡ true = ap (has t.words) (opposite_twice v) ∙ has_at t.words p c.requires.within in
-    let marked : is_seen seen (opposite v) ≡ true = ap (λ (i : ℕ). get_or seen i false) (half_opposite v) ∙ on in
-    let pivot_in : in_clause t.words seen (opposite v) ≡ true = and_from (has t.words (opposite (opposite v))) (is_seen seen (opposite v)) held marked in
-    let stands : has d (opposite (opposite v)) ≡ true = ap (has d) (opposite_twice v) ∙ g.stands in
-    subst (λ (hs : List Hop). Reaches f start hs (in_clause t.words new)) (sym hops)
-    (reaches_more f start (in_clause t.words seen) (in_clause t.words new) c.args.r.now.hops.items hop n h (omega arith) g.there pivot_in stands
-    (resolved_is t.words seen new p d c.requires.apart c.requires.within (omega arith) g.others joined))
+    leads_on c.args.store.now c.args.trail.now c.args.boundary c.args.place c.word-word.result c.reason-reason.result c.args.r.now.seen.items c.cut.new.r.seen.items c.join.new.r.seen.items c.clause.result.now start
+    c.args.r.now.hops.items c.join.new.r.hops.items c.requires.apart c.requires.within c.requires.reasons c.word-word.ensures c.reason-reason.ensures c.if-reason-eq0.false
+    (sym (c.is_marked-seen.ensures ∙ ap (λ (x : List Bool). is_seen x c.word-word.result) c.deref.ensures.value ∙ ap (is_seen c.args.r.now.seen.items) c.word-word.ensures) ∙ c.if-not-seen.false) c.requires.long
+    c.in_ok-cut.ensures.seen c.clause.ensures c.in_ok-join.ensures.seen (ap (λ (z : _). z.items) c.in_ok-join.ensures.hops ∙ c.in_ok-cut.ensures.hops) h
