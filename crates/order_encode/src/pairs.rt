@@ -27,8 +27,8 @@ use rh_base::{NoMemory, Seq};
 use std::alloc::Global;
 use sym_run::{Sym, any_tree};
 
-/// Whether it is so already, or neither of the two nodes comes before the other, and their programs end apart. The wire for the
-/// pair is one of those that a solver may try first.
+/// Whether it is so already, or neither of the two nodes comes before the other, and their programs end apart. It is one of the
+/// wires that a solver may try first: where no earlier pair ends apart it is this pair's, and it holds with each later one.
 fn or_apart(
     alloc: Global,
     sym: &mut Sym,
@@ -57,8 +57,9 @@ fn or_apart(
         return Ok(any);
     }
     let one = differ(alloc, sym, domain, programs, i, k, start)?;
-    firsts.push(one)?;
-    sym.mux(&any, &any, &one)
+    let more = sym.mux(&any, &any, &one)?;
+    firsts.push(more)?;
+    Ok(more)
 }
 
 /// Whether it is so already, or this node and a later one end apart.
