@@ -9,7 +9,7 @@ use Rattle.fs_semantics.specs.FileTree.{Tree}
 use Rattle.fs_semantics.specs.Programs.{Program, Outcome, and_then}
 use Rattle.fs_semantics.specs.Orders.{outcome}
 use Rattle.path_domain.specs.declared.listed.Domain.{Domain}
-use Rattle.fs_interpreter.specs.Meanings.{Valuation}
+use Rattle.fs_interpreter.specs.Meanings.{Valuation, Grows}
 use Rattle.fs_interpreter.specs.Places.{Listed}
 use Rattle.fs_interpreter.specs.States.{State, state_of}
 use Rattle.fs_interpreter.specs.Standing.{Stands, StandsFor}
@@ -39,6 +39,10 @@ pub if_ok_both : {X E : Type 0} (P Q R : X → Type 0) (r : Result X E) → ((x 
 if_ok_both P Q R (Ok x) f h k = f x h k
 if_ok_both P Q R (Err e) f h k = tt
 
+-- what is the same tells the same
+pub tells_same : {P : Type 0} {a b : Bool} → a ≡ b → (b ≡ true) ↔ P → (a ≡ true) ↔ P
+tells_same same h = ((λ e. h.0 (sym same ∙ e)), (λ p. same ∙ h.1 p))
+
 pub not_is : {P : Type 0} (b : Bool) → (b ≡ true) ↔ P → (not b ≡ true) ↔ (P → ⊥)
 not_is true h = (λ e. false_not_true e, λ k. absurd (k (h.0 refl)))
 not_is false h = (λ e p. false_not_true (h.1 p), λ k. refl)
@@ -65,6 +69,13 @@ tells_is gates d cells well P v e trees holds = (
       record { tree = told.0; over = told.1; stands = told.2; held = (holds told.0 told.2).0 parts.1 }),
   (λ k. true_and _ _ ((trees.exact v).1 (k.tree, k.over, k.stands)) ((holds k.tree k.stands).1 k.held)),
 )
+
+-- the same of a wire that says both
+pub goal_is : {B : Type 0} {old : List Gate} {d : Domain} {cells : Cells B Wire (List Wire)} {well : Wire} (mid new : List Gate) (e w : Wire) (P : Tree → Type 0) → AreTrees old d cells well → Grows (circuit_meanings old) (circuit_meanings mid)
+    → ((v : Valuation) (t : Tree) → Stands d.table (state_of (circuit_meanings old) v cells) t → (wire_value mid v e.0 ≡ true) ↔ P t)
+    → ((v : Valuation) → wire_value new v w.0 ≡ (wire_value mid v well.0 && wire_value mid v e.0))
+    → (v : Valuation) → (wire_value new v w.0 ≡ true) ↔ TellsTree d old cells P v
+goal_is {old = old} {d = d} {cells = cells} {well = well} mid new e w P trees g holds both v = tells_same (both v ∙ ap (λ b. b && wire_value mid v e.0) (g.bit well trees.owned v)) (tells_is old d cells well P v (wire_value mid v e.0) trees (holds v))
 
 -- the cells are well, both orders are allowed, and they end differently
 pub apart_is : {B : Type 0} (gates : List Gate) (d : Domain) (cells : Cells B Wire (List Wire)) (well : Wire) (programs : List Program) (order : Relation) (j : ℕ) (left right : List ℕ) (v : Valuation) (a b : Bool) → AreTrees gates d cells well

@@ -1,6 +1,7 @@
 pub mod InputsMatter
 pub mod AskLaws
 pub mod WitnessLaws
+pub mod GrowthLaws
 pub mod GoalLaws
 pub mod OrderLaws
 pub mod ExtensionLaws

@@ -16,7 +16,6 @@ use Rattle.fs_interpreter.specs.Meanings.{Valuation, Grows}
 use Rattle.fs_interpreter.specs.Places.{Listed}
 use Rattle.fs_interpreter.specs.States.{State, state_of}
 use Rattle.fs_interpreter.specs.Standing.{Stands, StandsFor}
-use Rattle.fs_interpreter.proofs.Frames.{state_keeps}
 use Rattle.orders.specs.Relation.{Relation, comes, Comes, IsStrictOrder}
 use Rattle.order_places.specs.Places.{exchanged}
 use Rattle.sym_run.specs.Wires.{circuit_meanings}
@@ -29,6 +28,7 @@ use Rattle.order_encode.specs.Asked.{IsReadable, Shows}
 use Rattle.order_encode.specs.Asking.{IsAsking}
 use Rattle.order_encode.specs.Goals.{TellsTree, EndApart}
 use Rattle.order_encode.specs.Witnesses.{HaveDifferentOutcomes, AreDifferentNeighbours, ShowsDifference}
+use Rattle.order_encode.proofs.GrowthLaws.{still_stands}
 use Rattle.order_encode.proofs.WitnessLaws.{Exactly, Long, Found, Placed, strict_is, goal_is_witness, witness_is_goal}
 
 -- cells stand for one tree at most
@@ -65,7 +65,7 @@ order_readable exactly programs order d old new a v strict small is g told =
     record {
       tree = told.tree;
       is_tree = told.over.is_tree;
-      stands = subst (λ (s : State). Stands d.table s told.tree) (sym (state_keeps (circuit_meanings old) (circuit_meanings new) a.cells g is.trees.are_cells v)) told.stands;
+      stands = still_stands d.table (Some told.tree) g is.trees.are_cells v told.stands;
       small = (
         subst (λ ns. AllByRecursion (λ k. k < 2 ^ 32) ns) (sym (nodes_stay old new a.codes g is.codes v)) (all_below order.count (2 ^ 32) left small first.below),
         subst (λ n. n < 2 ^ 32) (sym (g.code a.place is.place v)) place,
@@ -99,9 +99,8 @@ order_models one exactly found programs order d old new a goal f strict same is 
     let j = node old v a.place in
     let left = nodes old v a.codes in
     let apart = goal_is_witness exactly found programs order d strict same j left told.tree long told.over told.held in
-    let keep = state_keeps (circuit_meanings old) (circuit_meanings new) a.cells g is.trees.are_cells v in
-    let stands = subst (λ (s : State). Stands d.table s shows.0) keep shows.1 in
-    let tree = one_tree one d.table (state_of (circuit_meanings old) v a.cells) told.tree shows.0 told.stands stands in
+    let stands = still_stands d.table (Some told.tree) g is.trees.are_cells v told.stands in
+    let tree = one_tree one d.table (state_of (circuit_meanings new) v a.cells) told.tree shows.0 stands shows.1 in
     let left_is = nodes_stay old new a.codes g is.codes v in
     let place_is = g.code a.place is.place v in
     subst (ShowsDifference programs (Comes order) d) (sym shows.2)

@@ -1,9 +1,13 @@
 //! The inputs of a question.
 
 ghost use Rattle.std.specs.Prelude.{IfOk};
-ghost use Rattle.fs_interpreter.specs.Meanings.{Grows};
+ghost use Rattle.fs_semantics.specs.FileTree.{Tree};
+ghost use Rattle.fs_interpreter.specs.Meanings.{Valuation, Grows};
+ghost use Rattle.fs_interpreter.specs.Standing.{Stands};
+ghost use Rattle.fs_interpreter.specs.States.{state_of};
+ghost use Rattle.sym_run.specs.Trees.{IsTreeOver};
 ghost use Rattle.sym_run.specs.Wires.{circuit_meanings};
-ghost use Rattle.order_encode.specs.Asking.{IsAsking};
+ghost use Rattle.order_encode.specs.Asking.{AreTrees, IsAsking};
 
 use bool_circuit::Wire;
 use fs_interpreter::Cells;
@@ -20,6 +24,19 @@ pub(crate) struct Asking {
     pub well: Wire,
     pub codes: Seq<Seq<Wire>>,
     pub place: Seq<Wire>,
+}
+
+/// A circuit with inputs for a tree over the domain: cells, and whether they stand for one. They come to stand for each.
+pub(crate) fn tree_inputs(
+    alloc: Global,
+    domain: &Domain,
+) -> Result<(Sym, Cells<Sym>, Wire), NoMemory>
+    ensures trees { IfOk result (λ r. AreTrees r.0 domain.now r.1 r.2) }
+    ensures every { IfOk result (λ r. (t : Tree) → IsTreeOver domain.now t → (v : Valuation) × Stands domain.now.table (state_of (circuit_meanings r.0) v r.1) t) }
+{
+    let mut sym = Sym::new(alloc)?;
+    let (cells, well) = any_tree(alloc, &mut sym, domain)?;
+    Ok((sym, cells, well))
 }
 
 /// New inputs for a tree over the domain, for an order of n nodes, and for a place in it.

@@ -10,6 +10,7 @@ ghost use Rattle.order_encode.specs.Witnesses.{HasSecondChange, ShowsChange, Has
 ghost use Rattle.order_encode.specs.declared.witness.Witness.{Witness};
 
 use crate::again::{goal_of_change, goal_of_end};
+use crate::asking::tree_inputs;
 use crate::asks::Asks;
 use crate::question::{Question, pose};
 use fs_interpreter::states;
@@ -19,7 +20,6 @@ use orders::Order;
 use path_domain::Domain;
 use rh_base::NoMemory;
 use std::alloc::Global;
-use sym_run::{Sym, any_tree};
 
 /// Whether the first extension ends, from a tree over the domain, in a tree that a second run doesn't leave as it is.
 pub fn ask_twice(
@@ -36,8 +36,7 @@ pub fn ask_twice(
     states();
     allowed_orders();
     let first = order.first_extension()?;
-    let mut sym = Sym::new(alloc)?;
-    let (cells, well) = any_tree(alloc, &mut sym, domain)?;
+    let (mut sym, cells, well) = tree_inputs(alloc, domain)?;
     let asked = goal_of_change(
         alloc,
         &mut sym,
@@ -73,8 +72,7 @@ pub fn ask_some(
     states();
     allowed_orders();
     let first = order.first_extension()?;
-    let mut sym = Sym::new(alloc)?;
-    let (cells, well) = any_tree(alloc, &mut sym, domain)?;
+    let (mut sym, cells, well) = tree_inputs(alloc, domain)?;
     let asked = goal_of_end(
         alloc,
         &mut sym,

@@ -16,6 +16,7 @@ ghost use Rattle.order_encode.specs.Asking.{AreTrees};
 ghost use Rattle.order_encode.specs.Goals.{EndApartAt, ApartBehind, ApartBelow, TellsTree};
 ghost use Rattle.order_encode.specs.Witnesses.{HasApartPair};
 
+use crate::asking::tree_inputs;
 use crate::fork::differ;
 use bool_circuit::Wire;
 use cnf::{Cnf, Lit, from_circuit_with};
@@ -25,7 +26,7 @@ use orders::Order;
 use path_domain::Domain;
 use rh_base::{NoMemory, Seq};
 use std::alloc::Global;
-use sym_run::{Sym, any_tree};
+use sym_run::Sym;
 
 /// Whether it is so already, or neither of the two nodes comes before the other, and their programs end apart. It is one of the
 /// wires that a solver may try first: where no earlier pair ends apart it is this pair's, and it holds with each later one.
@@ -157,8 +158,7 @@ pub fn ask_pairs(
     requires covers { CoversSteps domain.now.table (programs_in programs.now) }
     ensures { IfOk result (λ r. IsSatisfiable r.0 ↔ HasApartPair (map program_of programs.now) (Comes order.now) domain.now) }
 {
-    let mut sym = Sym::new(alloc)?;
-    let (cells, well) = any_tree(alloc, &mut sym, domain)?;
+    let (mut sym, cells, well) = tree_inputs(alloc, domain)?;
     let mut firsts = Vec::new(alloc);
     let asked = goal_of_pairs(
         alloc,

@@ -1,21 +1,17 @@
-use Rattle.fs_interpreter.proofs.Frames.{grows_on}
-use Rattle.std.proofs.Common.{Some, sym, ◌∙◌, map}
+use Rattle.std.proofs.Common.{Some, map}
 use Rattle.fs_semantics.specs.Orders.{outcome}
 use Rattle.fs_lang.specs.Meaning.{program_of}
 use Rattle.fs_interpreter.specs.States.{state_of}
 use Rattle.sym_run.specs.Wires.{circuit_meanings}
-use Rattle.order_encode.proofs.GoalLaws.{ends_is, if_ok}
+use Rattle.order_encode.proofs.GoalLaws.{ends_is, if_ok, tells_same}
+use Rattle.order_encode.proofs.GrowthLaws.{◌>>◌}
 use Rattle.order_encode.proofs.again.ends.Goals as goal
 
 pub returns-clause-exact : goal.returns-clause-exact
 returns-clause-exact c = if_ok _ _ c.not.result (λ w is v t h.
     let m1 = circuit_meanings c.run_known.new.sym in
     let exact = ends_is c.args.domain.now.table (state_of m1 v c.in_ok-made.made) (outcome (map program_of c.args.programs.now) c.args.order.now t) (c.in_ok-made.ensures.stands v (Some t) h) in
-    ((λ e. exact.0 (sym (is.means v) ∙ e)), (λ e. is.means v ∙ exact.1 e))) c.not.ensures.gives
+    tells_same (is.means v) exact) c.not.ensures.gives
 
 pub returns-clause-grows : goal.returns-clause-grows
-returns-clause-grows c =
-    let m0 = circuit_meanings c.args.sym.now in
-    let m1 = circuit_meanings c.run_known.new.sym in
-    let m2 = circuit_meanings c.not.new.self in
-    grows_on m0 m1 m2 c.run_known.ensures.grows c.not.ensures.grows
+returns-clause-grows c = c.run_known.ensures.grows >> c.not.ensures.grows

@@ -1,10 +1,9 @@
-use Rattle.sym_run.specs.Wires.{circuit_meanings}
-use Rattle.fs_interpreter.proofs.Frames.{grows_on}
 use Rattle.std.proofs.Common.{◌≡◌, ◌<◌, subst, ◌∙◌}
 use Rattle.sym_run.specs.Numbers.{twice}
 use Rattle.sym_run.proofs.CircuitLaws.{circuit_grows, wires_stay}
 use Rattle.order_circuit.proofs.RunLaws.{rows_stay}
 use Rattle.order_encode.proofs.AskLaws.{asks_every}
+use Rattle.order_encode.proofs.GrowthLaws.{◌>>◌}
 use Rattle.order_encode.proofs.asking.order_inputs.Goals as goal
 
 pub returns-clause-asking : goal.returns-clause-asking
@@ -39,30 +38,13 @@ returns-clause-asking c =
     }
 
 pub returns-in_err-place-clause-grows : goal.returns-in_err-place-clause-grows
-returns-in_err-place-clause-grows c =
-    (circuit_grows c.args.sym.now c.new_code.new.sym c.new_code.ensures.grows)
+returns-in_err-place-clause-grows c = circuit_grows c.args.sym.now c.new_code.new.sym c.new_code.ensures.grows
 
 pub returns-in_err-codes-clause-grows : goal.returns-in_err-codes-clause-grows
-returns-in_err-codes-clause-grows c =
-    let m0 = circuit_meanings c.args.sym.now in
-    let m1 = circuit_meanings c.new_code.new.sym in
-    let m2 = circuit_meanings c.new_codes.new.sym in
-    grows_on m0 m1 m2 (circuit_grows c.args.sym.now c.new_code.new.sym c.new_code.ensures.grows) (circuit_grows c.new_code.new.sym c.new_codes.new.sym c.new_codes.ensures.grows)
+returns-in_err-codes-clause-grows c = circuit_grows c.args.sym.now c.new_code.new.sym c.new_code.ensures.grows >> circuit_grows c.new_code.new.sym c.new_codes.new.sym c.new_codes.ensures.grows
 
 pub returns-in_err-cells-clause-grows : goal.returns-in_err-cells-clause-grows
-returns-in_err-cells-clause-grows c =
-    let m0 = circuit_meanings c.args.sym.now in
-    let m1 = circuit_meanings c.new_code.new.sym in
-    let m2 = circuit_meanings c.new_codes.new.sym in
-    let m3 = circuit_meanings c.any_tree.new.sym in
-    let g02 = grows_on m0 m1 m2 (circuit_grows c.args.sym.now c.new_code.new.sym c.new_code.ensures.grows) (circuit_grows c.new_code.new.sym c.new_codes.new.sym c.new_codes.ensures.grows) in
-    grows_on m0 m2 m3 g02 c.any_tree.ensures.grows
+returns-in_err-cells-clause-grows c = circuit_grows c.args.sym.now c.new_code.new.sym c.new_code.ensures.grows >> circuit_grows c.new_code.new.sym c.new_codes.new.sym c.new_codes.ensures.grows >> c.any_tree.ensures.grows
 
 pub returns-clause-grows : goal.returns-clause-grows
-returns-clause-grows c =
-    let m0 = circuit_meanings c.args.sym.now in
-    let m1 = circuit_meanings c.new_code.new.sym in
-    let m2 = circuit_meanings c.new_codes.new.sym in
-    let m3 = circuit_meanings c.any_tree.new.sym in
-    let g02 = grows_on m0 m1 m2 (circuit_grows c.args.sym.now c.new_code.new.sym c.new_code.ensures.grows) (circuit_grows c.new_code.new.sym c.new_codes.new.sym c.new_codes.ensures.grows) in
-    grows_on m0 m2 m3 g02 c.any_tree.ensures.grows
+returns-clause-grows c = circuit_grows c.args.sym.now c.new_code.new.sym c.new_code.ensures.grows >> circuit_grows c.new_code.new.sym c.new_codes.new.sym c.new_codes.ensures.grows >> c.any_tree.ensures.grows

@@ -5,9 +5,9 @@ use Rattle.bool_circuit.specs.Gates.{wire_value}
 use Rattle.fs_semantics.specs.Programs.{and_then}
 use Rattle.fs_semantics.specs.Orders.{outcome}
 use Rattle.fs_lang.specs.Meaning.{program_of}
-use Rattle.fs_interpreter.specs.States.{State, state_of}
+use Rattle.fs_interpreter.specs.States.{state_of}
 use Rattle.fs_interpreter.specs.Standing.{StandsFor}
-use Rattle.fs_interpreter.proofs.Frames.{grows_on, cells_stay, state_keeps}
+use Rattle.fs_interpreter.proofs.Frames.{cells_stay}
 use Rattle.sym_run.specs.Wires.{circuit_meanings}
 use Rattle.order_circuit.specs.Codes.{node, nodes, AreRows}
 use Rattle.order_circuit.proofs.RunLaws.{nodes_stay, rows_stay}
@@ -17,32 +17,25 @@ use Rattle.order_encode.specs.Goals.{AreFreeNodes}
 use Rattle.order_encode.proofs.WitnessLaws.{strict_is, exchanged_long}
 use Rattle.order_encode.proofs.GoalLaws.{if_ok}
 use Rattle.order_encode.proofs.ForkLaws.{rows_behind, nodes_ahead, nodes_behind, next_of, differ_by, same_for, apart_is_whole}
+use Rattle.order_encode.proofs.GrowthLaws.{◌>>◌, still_stands}
 use Rattle.order_encode.proofs.ends.end_apart.Goals as goal
 
 pub code_at-requires-2-clause-codes : goal.code_at-requires-2-clause-codes
 code_at-requires-2-clause-codes c =
     let g0 = c.args.sym.now in
     let g2 = c.code_at.new.sym in
-    let g02 = grows_on (circuit_meanings g0) (circuit_meanings c.run_part.new.sym) (circuit_meanings g2) c.run_part.ensures.grows c.code_at.ensures.grows in
+    let g02 = c.run_part.ensures.grows >> c.code_at.ensures.grows in
     subst (AreRows g2) (sym c.split_at-2.ensures.back) (rows_behind g2 1 c.args.codes.now (rows_stay g0 g2 c.args.codes.now g02 c.requires.codes))
 
 pub end_apart_from-requires-clause-rest : goal.end_apart_from-requires-clause-rest
 end_apart_from-requires-clause-rest c =
     let g0 = c.args.sym.now in
     let g3 = c.code_at-2.new.sym in
-    let m0 = circuit_meanings g0 in
-    let m1 = circuit_meanings c.run_part.new.sym in
-    let m2 = circuit_meanings c.code_at.new.sym in
-    let m3 = circuit_meanings g3 in
-    let g03 = grows_on m0 m2 m3 (grows_on m0 m1 m2 c.run_part.ensures.grows c.code_at.ensures.grows) c.code_at-2.ensures.grows in
+    let g03 = c.run_part.ensures.grows >> c.code_at.ensures.grows >> c.code_at-2.ensures.grows in
     subst (AreRows g3) (sym c.split_at-3.ensures.back) (rows_behind g3 2 c.args.codes.now (rows_stay g0 g3 c.args.codes.now g03 c.requires.codes))
 
 pub end_apart_from-requires-clause-cells : goal.end_apart_from-requires-clause-cells
-end_apart_from-requires-clause-cells c =
-    let m1 = circuit_meanings c.run_part.new.sym in
-    let m2 = circuit_meanings c.code_at.new.sym in
-    let m3 = circuit_meanings c.code_at-2.new.sym in
-    cells_stay m1 m3 c.in_ok-fork.fork (grows_on m1 m2 m3 c.code_at.ensures.grows c.code_at-2.ensures.grows) c.in_ok-fork.ensures.cells
+end_apart_from-requires-clause-cells c = cells_stay _ _ _ (c.code_at.ensures.grows >> c.code_at-2.ensures.grows) c.in_ok-fork.ensures.cells
 
 pub returns-clause-exact : goal.returns-clause-exact
 returns-clause-exact c = if_ok _ _ c.end_apart_from.result (λ w is v t h allowed.
@@ -58,16 +51,13 @@ returns-clause-exact c = if_ok _ _ c.end_apart_from.result (λ w is v t h allowe
     let g1 = c.run_part.new.sym in
     let g2 = c.code_at.new.sym in
     let g3 = c.code_at-2.new.sym in
-    let m0 = circuit_meanings g0 in
     let m1 = circuit_meanings g1 in
-    let m2 = circuit_meanings g2 in
-    let m3 = circuit_meanings g3 in
     let g01 = c.run_part.ensures.grows in
     let g12 = c.code_at.ensures.grows in
     let g23 = c.code_at-2.ensures.grows in
-    let g02 = grows_on m0 m1 m2 g01 g12 in
-    let g03 = grows_on m0 m2 m3 g02 g23 in
-    let g13 = grows_on m1 m2 m3 g12 g23 in
+    let g02 = g01 >> g12 in
+    let g03 = g02 >> g23 in
+    let g13 = g12 >> g23 in
     let xs = nodes g0 v codes in
     let j = node g0 v place in
     let a = slice_index_or xs j 0 in
@@ -86,7 +76,7 @@ returns-clause-exact c = if_ok _ _ c.end_apart_from.result (λ w is v t h allowe
     let front_is : nodes g0 v c.split_at.result.0.now ≡ take (length xs - 2) xs =
     ap (nodes g0 v) c.split_at.ensures.front ∙ nodes_ahead g0 v (length codes - 2) codes ∙ ap (λ k. take (k - 2) xs) (sym long) in
     let fork1 = subst (λ ns. StandsFor table (state_of m1 v fork) (outcome es (take j ns) t)) front_is (c.in_ok-fork.ensures.stands v (Some t) h) in
-    let fork3 = subst (λ (s : State). StandsFor table s o) (sym (state_keeps m1 m3 fork g13 c.in_ok-fork.ensures.cells v)) fork1 in
+    let fork3 = still_stands table o g13 c.in_ok-fork.ensures.cells v fork1 in
     let first_is : node g3 v c.in_ok-first.first ≡ a =
     g23.code c.in_ok-first.first c.in_ok-first.ensures.wires v ∙ c.in_ok-first.ensures.value v ∙ (λ i. slice_index_or (nodes_stay g0 g1 codes g01 c.requires.codes v i) (g01.code place c.requires.place v i) 0) in
     let seconds_is : nodes g2 v c.split_at-2.result.1.now ≡ drop 1 xs =
@@ -106,28 +96,10 @@ returns-clause-exact c = if_ok _ _ c.end_apart_from.result (λ w is v t h allowe
     same_for (wire_value c.end_apart_from.new.sym v w.0) (same_for (wire_value c.end_apart_from.new.sym v w.0) told (differ_by _ _ _ _ one other)) (apart_is_whole es j xs a b t whole exchanged_is)) c.end_apart_from.ensures.exact
 
 pub returns-in_err-first-clause-grows : goal.returns-in_err-first-clause-grows
-returns-in_err-first-clause-grows c =
-    let m0 = circuit_meanings c.args.sym.now in
-    let m1 = circuit_meanings c.run_part.new.sym in
-    let m2 = circuit_meanings c.code_at.new.sym in
-    grows_on m0 m1 m2 c.run_part.ensures.grows c.code_at.ensures.grows
+returns-in_err-first-clause-grows c = c.run_part.ensures.grows >> c.code_at.ensures.grows
 
 pub returns-in_err-second-clause-grows : goal.returns-in_err-second-clause-grows
-returns-in_err-second-clause-grows c =
-    let m0 = circuit_meanings c.args.sym.now in
-    let m1 = circuit_meanings c.run_part.new.sym in
-    let m2 = circuit_meanings c.code_at.new.sym in
-    let m3 = circuit_meanings c.code_at-2.new.sym in
-    let g02 = grows_on m0 m1 m2 c.run_part.ensures.grows c.code_at.ensures.grows in
-    grows_on m0 m2 m3 g02 c.code_at-2.ensures.grows
+returns-in_err-second-clause-grows c = c.run_part.ensures.grows >> c.code_at.ensures.grows >> c.code_at-2.ensures.grows
 
 pub returns-clause-grows : goal.returns-clause-grows
-returns-clause-grows c =
-    let m0 = circuit_meanings c.args.sym.now in
-    let m1 = circuit_meanings c.run_part.new.sym in
-    let m2 = circuit_meanings c.code_at.new.sym in
-    let m3 = circuit_meanings c.code_at-2.new.sym in
-    let m4 = circuit_meanings c.end_apart_from.new.sym in
-    let g02 = grows_on m0 m1 m2 c.run_part.ensures.grows c.code_at.ensures.grows in
-    let g03 = grows_on m0 m2 m3 g02 c.code_at-2.ensures.grows in
-    grows_on m0 m3 m4 g03 c.end_apart_from.ensures.grows
+returns-clause-grows c = c.run_part.ensures.grows >> c.code_at.ensures.grows >> c.code_at-2.ensures.grows >> c.end_apart_from.ensures.grows

@@ -1,69 +1,50 @@
-use Rattle.std.proofs.Common.{◌≡◌, ◌∷◌, true, map, sym, ap, subst, ◌∙◌}
+use Rattle.std.proofs.Common.{◌≡◌, ◌∷◌, true, map, ap, subst, ◌∙◌}
 use Rattle.std.specs.Prelude.{false, ◌&&◌, ◌↔◌}
 use Rattle.bool_circuit.specs.Gates.{wire_value}
 use Rattle.fs_semantics.specs.Programs.{and_then}
 use Rattle.fs_semantics.specs.Orders.{outcome}
 use Rattle.fs_lang.specs.Meaning.{program_of}
-use Rattle.fs_interpreter.specs.States.{State, state_of}
+use Rattle.fs_interpreter.specs.States.{state_of}
 use Rattle.fs_interpreter.specs.Standing.{StandsFor}
-use Rattle.fs_interpreter.proofs.Frames.{grows_on, cells_stay, state_keeps}
+use Rattle.fs_interpreter.proofs.Frames.{cells_stay}
 use Rattle.sym_run.specs.Wires.{circuit_meanings}
 use Rattle.order_circuit.specs.Codes.{node, nodes, part_of}
 use Rattle.order_circuit.proofs.RunLaws.{nodes_stay, rows_stay}
 use Rattle.order_encode.specs.Goals.{EndApartThen}
-use Rattle.order_encode.proofs.GoalLaws.{not_is, if_ok}
+use Rattle.order_encode.proofs.GoalLaws.{not_is, if_ok, tells_same}
 use Rattle.order_encode.proofs.ForkLaws.{apart_at, asked_besides}
+use Rattle.order_encode.proofs.GrowthLaws.{◌>>◌, still_stands}
 use Rattle.order_encode.proofs.ends.end_apart_from.Goals as goal
 
 pub run_on-requires-clause-cells : goal.run_on-requires-clause-cells
-run_on-requires-clause-cells c = cells_stay (circuit_meanings c.args.sym.now) (circuit_meanings c.some_pair_differs.new.sym) c.args.fork.now c.some_pair_differs.ensures.grows c.requires.cells
+run_on-requires-clause-cells c = cells_stay _ _ _ c.some_pair_differs.ensures.grows c.requires.cells
 
 pub run_on-requires-2-clause-rest : goal.run_on-requires-2-clause-rest
-run_on-requires-2-clause-rest c =
-    let m0 = circuit_meanings c.args.sym.now in
-    let m1 = circuit_meanings c.some_pair_differs.new.sym in
-    let m2 = circuit_meanings c.run_on.new.sym in
-    rows_stay c.args.sym.now c.run_on.new.sym c.args.rest.now (grows_on m0 m1 m2 c.some_pair_differs.ensures.grows c.run_on.ensures.grows) c.requires.rest
+run_on-requires-2-clause-rest c = rows_stay c.args.sym.now c.run_on.new.sym c.args.rest.now (c.some_pair_differs.ensures.grows >> c.run_on.ensures.grows) c.requires.rest
 
 pub run_on-requires-2-clause-cells : goal.run_on-requires-2-clause-cells
-run_on-requires-2-clause-cells c =
-    let m0 = circuit_meanings c.args.sym.now in
-    let m1 = circuit_meanings c.some_pair_differs.new.sym in
-    let m2 = circuit_meanings c.run_on.new.sym in
-    cells_stay m0 m2 c.args.fork.now (grows_on m0 m1 m2 c.some_pair_differs.ensures.grows c.run_on.ensures.grows) c.requires.cells
+run_on-requires-2-clause-cells c = cells_stay _ _ _ (c.some_pair_differs.ensures.grows >> c.run_on.ensures.grows) c.requires.cells
 
 pub alike-requires-clause-a : goal.alike-requires-clause-a
-alike-requires-clause-a c = cells_stay (circuit_meanings c.run_on.new.sym) (circuit_meanings c.run_on-2.new.sym) c.in_ok-one.one c.run_on-2.ensures.grows c.in_ok-one.ensures.cells
+alike-requires-clause-a c = cells_stay _ _ _ c.run_on-2.ensures.grows c.in_ok-one.ensures.cells
 
 pub and-requires-clause-a : goal.and-requires-clause-a
-and-requires-clause-a c =
-    let m1 = circuit_meanings c.some_pair_differs.new.sym in
-    let m2 = circuit_meanings c.run_on.new.sym in
-    let m3 = circuit_meanings c.run_on-2.new.sym in
-    let m4 = circuit_meanings c.alike.new.sym in
-    let m5 = circuit_meanings c.not.new.self in
-    let g13 = grows_on m1 m2 m3 c.run_on.ensures.grows c.run_on-2.ensures.grows in
-    (grows_on m1 m4 m5 (grows_on m1 m3 m4 g13 c.alike.ensures.grows) c.not.ensures.grows).owns c.in_ok-near.near c.in_ok-near.ensures.wire
+and-requires-clause-a c = (c.run_on.ensures.grows >> c.run_on-2.ensures.grows >> c.alike.ensures.grows >> c.not.ensures.grows).owns c.in_ok-near.near c.in_ok-near.ensures.wire
 
 pub returns-clause-exact : goal.returns-clause-exact
 returns-clause-exact c = if_ok _ _ c.and.result (λ w is v o h free.
     let table = c.args.domain.now.table in
     let es = map program_of c.args.programs.now in
-    let fork = c.args.fork.now in
     let g0 = c.args.sym.now in
     let g1 = c.some_pair_differs.new.sym in
     let g2 = c.run_on.new.sym in
-    let m0 = circuit_meanings g0 in
-    let m1 = circuit_meanings g1 in
     let m2 = circuit_meanings g2 in
     let m3 = circuit_meanings c.run_on-2.new.sym in
-    let m4 = circuit_meanings c.alike.new.sym in
-    let m5 = circuit_meanings c.not.new.self in
     let g01 = c.some_pair_differs.ensures.grows in
     let g12 = c.run_on.ensures.grows in
     let g23 = c.run_on-2.ensures.grows in
-    let g02 = grows_on m0 m1 m2 g01 g12 in
-    let g15 = grows_on m1 m4 m5 (grows_on m1 m3 m4 (grows_on m1 m2 m3 g12 g23) c.alike.ensures.grows) c.not.ensures.grows in
+    let g02 = g01 >> g12 in
+    let g15 = g12 >> g23 >> c.alike.ensures.grows >> c.not.ensures.grows in
     let first = c.args.first.now in
     let second = c.args.second.now in
     let place = c.args.place.now in
@@ -73,8 +54,8 @@ returns-clause-exact c = if_ok _ _ c.and.result (λ w is v o h free.
     let rest = part_of false (node g0 v place) (nodes g0 v rows) in
     let left = and_then o (outcome es (x ∷ y ∷ rest)) in
     let right = and_then o (outcome es (y ∷ x ∷ rest)) in
-    let h1 = subst (λ (s : State). StandsFor table s o) (sym (state_keeps m0 m1 fork g01 c.requires.cells v)) h in
-    let h2 = subst (λ (s : State). StandsFor table s o) (sym (state_keeps m0 m2 fork g02 c.requires.cells v)) h in
+    let h1 = still_stands table o g01 c.requires.cells v h in
+    let h2 = still_stands table o g02 c.requires.cells v h in
     let x1 = g01.code first c.requires.first v in
     let y1 = g01.code second c.requires.second v in
     let j1 = g01.code place c.requires.place v in
@@ -84,69 +65,29 @@ returns-clause-exact c = if_ok _ _ c.and.result (λ w is v o h free.
     let j2 = g02.code place c.requires.place v in
     let rest2 = nodes_stay g0 g2 rows g02 c.requires.rest v in
     let one = subst (StandsFor table (state_of m2 v c.in_ok-one.one)) (λ t. and_then o (outcome es (x1 t ∷ y1 t ∷ part_of false (j1 t) (rest1 t)))) (c.in_ok-one.ensures.stands v o h1) in
-    let one3 = subst (λ (s : State). StandsFor table s left) (sym (state_keeps m2 m3 c.in_ok-one.one g23 c.in_ok-one.ensures.cells v)) one in
+    let one3 = still_stands table left g23 c.in_ok-one.ensures.cells v one in
     let other = subst (StandsFor table (state_of m3 v c.in_ok-other.other)) (λ t. and_then o (outcome es (y2 t ∷ x2 t ∷ part_of false (j2 t) (rest2 t)))) (c.in_ok-other.ensures.stands v o h2) in
     let same = c.in_ok-same.ensures.exact v left right one3 other in
     let is_apart : (wire_value c.not.new.self v c.in_ok-apart.apart.0 ≡ true) ↔ EndApartThen es o x y rest =
     let told = not_is (wire_value c.alike.new.sym v c.in_ok-same.same.0) same in
-    ((λ e. told.0 (sym (c.in_ok-apart.ensures.gives.means v) ∙ e)), (λ p. c.in_ok-apart.ensures.gives.means v ∙ told.1 p)) in
+    tells_same (c.in_ok-apart.ensures.gives.means v) told in
     let near = wire_value g1 v c.in_ok-near.near.0 in
     let apart = wire_value c.not.new.self v c.in_ok-apart.apart.0 in
     let exact = asked_besides near apart (c.in_ok-near.ensures.found v o h free) (apart_at es o x y rest) is_apart in
     let whole = is.means v ∙ ap (λ b. b && apart) (g15.bit c.in_ok-near.near c.in_ok-near.ensures.wire v) in
-    ((λ e. exact.0 (sym whole ∙ e)), (λ p. whole ∙ exact.1 p))) c.and.ensures.gives
+    tells_same whole exact) c.and.ensures.gives
 
 pub returns-in_err-one-clause-grows : goal.returns-in_err-one-clause-grows
-returns-in_err-one-clause-grows c =
-    let m0 = circuit_meanings c.args.sym.now in
-    let m1 = circuit_meanings c.some_pair_differs.new.sym in
-    let m2 = circuit_meanings c.run_on.new.sym in
-    grows_on m0 m1 m2 c.some_pair_differs.ensures.grows c.run_on.ensures.grows
+returns-in_err-one-clause-grows c = c.some_pair_differs.ensures.grows >> c.run_on.ensures.grows
 
 pub returns-in_err-other-clause-grows : goal.returns-in_err-other-clause-grows
-returns-in_err-other-clause-grows c =
-    let m0 = circuit_meanings c.args.sym.now in
-    let m1 = circuit_meanings c.some_pair_differs.new.sym in
-    let m2 = circuit_meanings c.run_on.new.sym in
-    let m3 = circuit_meanings c.run_on-2.new.sym in
-    let g02 = grows_on m0 m1 m2 c.some_pair_differs.ensures.grows c.run_on.ensures.grows in
-    grows_on m0 m2 m3 g02 c.run_on-2.ensures.grows
+returns-in_err-other-clause-grows c = c.some_pair_differs.ensures.grows >> c.run_on.ensures.grows >> c.run_on-2.ensures.grows
 
 pub returns-in_err-same-clause-grows : goal.returns-in_err-same-clause-grows
-returns-in_err-same-clause-grows c =
-    let m0 = circuit_meanings c.args.sym.now in
-    let m1 = circuit_meanings c.some_pair_differs.new.sym in
-    let m2 = circuit_meanings c.run_on.new.sym in
-    let m3 = circuit_meanings c.run_on-2.new.sym in
-    let m4 = circuit_meanings c.alike.new.sym in
-    let g02 = grows_on m0 m1 m2 c.some_pair_differs.ensures.grows c.run_on.ensures.grows in
-    let g03 = grows_on m0 m2 m3 g02 c.run_on-2.ensures.grows in
-    grows_on m0 m3 m4 g03 c.alike.ensures.grows
+returns-in_err-same-clause-grows c = c.some_pair_differs.ensures.grows >> c.run_on.ensures.grows >> c.run_on-2.ensures.grows >> c.alike.ensures.grows
 
 pub returns-in_err-apart-clause-grows : goal.returns-in_err-apart-clause-grows
-returns-in_err-apart-clause-grows c =
-    let m0 = circuit_meanings c.args.sym.now in
-    let m1 = circuit_meanings c.some_pair_differs.new.sym in
-    let m2 = circuit_meanings c.run_on.new.sym in
-    let m3 = circuit_meanings c.run_on-2.new.sym in
-    let m4 = circuit_meanings c.alike.new.sym in
-    let m5 = circuit_meanings c.not.new.self in
-    let g02 = grows_on m0 m1 m2 c.some_pair_differs.ensures.grows c.run_on.ensures.grows in
-    let g03 = grows_on m0 m2 m3 g02 c.run_on-2.ensures.grows in
-    let g04 = grows_on m0 m3 m4 g03 c.alike.ensures.grows in
-    grows_on m0 m4 m5 g04 c.not.ensures.grows
+returns-in_err-apart-clause-grows c = c.some_pair_differs.ensures.grows >> c.run_on.ensures.grows >> c.run_on-2.ensures.grows >> c.alike.ensures.grows >> c.not.ensures.grows
 
 pub returns-clause-grows : goal.returns-clause-grows
-returns-clause-grows c =
-    let m0 = circuit_meanings c.args.sym.now in
-    let m1 = circuit_meanings c.some_pair_differs.new.sym in
-    let m2 = circuit_meanings c.run_on.new.sym in
-    let m3 = circuit_meanings c.run_on-2.new.sym in
-    let m4 = circuit_meanings c.alike.new.sym in
-    let m5 = circuit_meanings c.not.new.self in
-    let m6 = circuit_meanings c.and.new.self in
-    let g02 = grows_on m0 m1 m2 c.some_pair_differs.ensures.grows c.run_on.ensures.grows in
-    let g03 = grows_on m0 m2 m3 g02 c.run_on-2.ensures.grows in
-    let g04 = grows_on m0 m3 m4 g03 c.alike.ensures.grows in
-    let g05 = grows_on m0 m4 m5 g04 c.not.ensures.grows in
-    grows_on m0 m5 m6 g05 c.and.ensures.grows
+returns-clause-grows c = c.some_pair_differs.ensures.grows >> c.run_on.ensures.grows >> c.run_on-2.ensures.grows >> c.alike.ensures.grows >> c.not.ensures.grows >> c.and.ensures.grows

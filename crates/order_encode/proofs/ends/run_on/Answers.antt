@@ -5,12 +5,12 @@ use Rattle.fs_semantics.specs.Orders.{outcome}
 use Rattle.fs_lang.specs.Meaning.{program_of}
 use Rattle.fs_interpreter.specs.States.{state_of}
 use Rattle.fs_interpreter.specs.Standing.{StandsFor}
-use Rattle.fs_interpreter.proofs.Frames.{grows_on}
 use Rattle.sym_run.specs.Wires.{circuit_meanings}
 use Rattle.order_circuit.specs.Codes.{node, nodes, part_of}
 use Rattle.order_circuit.proofs.RunLaws.{nodes_stay}
 use Rattle.order_encode.proofs.GoalLaws.{if_ok}
 use Rattle.order_encode.proofs.ForkLaws.{two_more}
+use Rattle.order_encode.proofs.GrowthLaws.{◌>>◌}
 use Rattle.order_encode.proofs.ends.run_on.Goals as goal
 
 pub returns-clause-stands : goal.returns-clause-stands
@@ -18,10 +18,9 @@ returns-clause-stands c = if_ok _ _ c.run_part.result (λ made stands v o h.
     let table = c.args.domain.now.table in
     let es = map program_of c.args.programs.now in
     let g0 = c.args.sym.now in
-    let g1 = c.run_place.new.sym in
     let g2 = c.run_place-2.new.sym in
     let g01 = c.run_place.ensures.grows in
-    let g02 = grows_on (circuit_meanings g0) (circuit_meanings g1) (circuit_meanings g2) g01 c.run_place-2.ensures.grows in
+    let g02 = g01 >> c.run_place-2.ensures.grows in
     let x = node g0 v c.args.first.now in
     let y = node g0 v c.args.second.now in
     let y_is = g01.code c.args.second.now c.requires.second v in
@@ -35,17 +34,7 @@ returns-clause-stands c = if_ok _ _ c.run_part.result (λ made stands v o h.
     subst (StandsFor table (state_of (circuit_meanings c.run_part.new.sym) v made)) ((λ t. and_then ran (outcome es (part_of false (j_is t) (rest_is t)))) ∙ two_more es x y rest o) (stands v ran two)) c.run_part.ensures.stands
 
 pub returns-in_err-two-clause-grows : goal.returns-in_err-two-clause-grows
-returns-in_err-two-clause-grows c =
-    let m0 = circuit_meanings c.args.sym.now in
-    let m1 = circuit_meanings c.run_place.new.sym in
-    let m2 = circuit_meanings c.run_place-2.new.sym in
-    grows_on m0 m1 m2 c.run_place.ensures.grows c.run_place-2.ensures.grows
+returns-in_err-two-clause-grows c = c.run_place.ensures.grows >> c.run_place-2.ensures.grows
 
 pub returns-clause-grows : goal.returns-clause-grows
-returns-clause-grows c =
-    let m0 = circuit_meanings c.args.sym.now in
-    let m1 = circuit_meanings c.run_place.new.sym in
-    let m2 = circuit_meanings c.run_place-2.new.sym in
-    let m3 = circuit_meanings c.run_part.new.sym in
-    let g02 = grows_on m0 m1 m2 c.run_place.ensures.grows c.run_place-2.ensures.grows in
-    grows_on m0 m2 m3 g02 c.run_part.ensures.grows
+returns-clause-grows c = c.run_place.ensures.grows >> c.run_place-2.ensures.grows >> c.run_part.ensures.grows

@@ -6,11 +6,9 @@ use Rattle.fs_lang.specs.Meaning.{program_of}
 use Rattle.orders.specs.Relation.{Comes}
 use Rattle.order_encode.specs.Goals.{are_these, EndApartAt}
 use Rattle.order_encode.proofs.ForkLaws.{below, at_either, one_of, themselves, these_turned, free_turned, apart_turned}
-use Rattle.fs_interpreter.specs.States.{State}
-use Rattle.fs_interpreter.specs.Standing.{StandsFor}
-use Rattle.fs_interpreter.proofs.Frames.{grows_on, cells_stay, state_keeps}
-use Rattle.sym_run.specs.Wires.{circuit_meanings}
+use Rattle.fs_interpreter.proofs.Frames.{cells_stay}
 use Rattle.order_circuit.specs.Codes.{node}
+use Rattle.order_encode.proofs.GrowthLaws.{◌>>◌, still_stands}
 use Rattle.order_encode.proofs.fork.some_pair_differs.Goals as goal
 
 pub loop-i-init : goal.loop-i-init
@@ -20,7 +18,7 @@ loop-i-init c =
       any = c.in_ok-any.ensures.gives.owned;
       first = g.owns_code c.args.first.now c.requires.first;
       second = g.owns_code c.args.second.now c.requires.second;
-      cells = cells_stay (circuit_meanings c.args.sym.now) (circuit_meanings c.constant.new.self) c.args.fork.now g c.requires.cells;
+      cells = cells_stay _ _ _ g c.requires.cells;
       found = λ v o h m n low less high free these apart. absurd (omega (arith, low));
       grows = g;
     }
@@ -28,15 +26,9 @@ loop-i-init c =
 pub loop-i-preserved : goal.loop-i-preserved
 loop-i-preserved c =
     let before = c.loop-i.invariant in
-    let g0 = c.args.sym.now in
-    let g1 = c.loop-i.sym in
-    let m0 = circuit_meanings g0 in
-    let m1 = circuit_meanings g1 in
-    let m2 = circuit_meanings c.with_row.new.sym in
     let i = c.loop-i.i in
     let first = c.args.first.now in
     let second = c.args.second.now in
-    let fork = c.args.fork.now in
     let order = c.args.order.now in
     let es = map program_of c.args.programs.now in
     let row = c.in_ok-any-2.ensures in
@@ -44,12 +36,12 @@ loop-i-preserved c =
       any = row.wire;
       first = c.with_row.ensures.grows.owns_code first before.first;
       second = c.with_row.ensures.grows.owns_code second before.second;
-      cells = cells_stay m1 m2 fork c.with_row.ensures.grows before.cells;
-      grows = grows_on m0 m1 m2 before.grows c.with_row.ensures.grows;
+      cells = cells_stay _ _ _ c.with_row.ensures.grows before.cells;
+      grows = before.grows >> c.with_row.ensures.grows;
       found = λ v o h m n low less high free these apart. elim (m == i) as (λ b. (m == i) ≡ b → wire_value c.with_row.new.sym v c.in_ok-any-2.any.0 ≡ true) [
         | true ↦ λ e.
             let same = eqb-true m i e in
-            let h1 = subst (λ (s : State). StandsFor c.args.domain.now.table s o) (sym (state_keeps m0 m1 fork before.grows c.requires.cells v)) h in
+            let h1 = still_stands c.args.domain.now.table o before.grows c.requires.cells v h in
             let first_is = before.grows.code first c.requires.first v in
             let second_is = before.grows.code second c.requires.second v in
             row.found v o h1 n (subst (λ k. k < n) same less) high (subst (λ k. IsFree (Comes order) k n) same free)
@@ -62,7 +54,7 @@ loop-i-preserved c =
     }
 
 pub returns-in_err-any-2-clause-grows : goal.returns-in_err-any-2-clause-grows
-returns-in_err-any-2-clause-grows c = grows_on (circuit_meanings c.args.sym.now) (circuit_meanings c.loop-i.sym) (circuit_meanings c.with_row.new.sym) c.loop-i.invariant.grows c.with_row.ensures.grows
+returns-in_err-any-2-clause-grows c = c.loop-i.invariant.grows >> c.with_row.ensures.grows
 
 pub returns-clause-found : goal.returns-clause-found
 returns-clause-found c = λ v o h nodes apart.

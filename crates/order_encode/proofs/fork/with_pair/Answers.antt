@@ -1,9 +1,8 @@
 use Rattle.std.proofs.Common.{◌∙◌}
 use Rattle.bool_circuit.specs.Gates.{wire_value}
-use Rattle.fs_interpreter.proofs.Frames.{grows_on}
-use Rattle.sym_run.specs.Wires.{circuit_meanings}
 use Rattle.order_encode.proofs.GoalLaws.{if_ok}
 use Rattle.order_encode.proofs.ForkLaws.{either_true}
+use Rattle.order_encode.proofs.GrowthLaws.{◌>>◌}
 use Rattle.order_encode.proofs.fork.with_pair.Goals as goal
 
 pub returns-clause-found : goal.returns-clause-found
@@ -12,8 +11,4 @@ returns-clause-found c = if_ok _ _ c.mux.result (λ w is v o h free these apart.
     is.means v ∙ either_true (wire_value s1 v c.args.any.0) (wire_value s1 v c.in_ok-one.one.0) ((c.in_ok-one.ensures.exact v o h).1 (these, apart))) c.mux.ensures.gives
 
 pub returns-clause-grows : goal.returns-clause-grows
-returns-clause-grows c =
-    let m0 = circuit_meanings c.args.sym.now in
-    let m1 = circuit_meanings c.pair_differs.new.sym in
-    let m2 = circuit_meanings c.mux.new.self in
-    grows_on m0 m1 m2 c.pair_differs.ensures.grows c.mux.ensures.grows
+returns-clause-grows c = c.pair_differs.ensures.grows >> c.mux.ensures.grows

@@ -3,28 +3,20 @@ use Rattle.std.proofs.lemmas.Bool.{eqb-false}
 use Rattle.bool_circuit.specs.Gates.{wire_value}
 use Rattle.fs_semantics.specs.Orders.{IsFree}
 use Rattle.fs_lang.specs.Meaning.{program_of}
-use Rattle.fs_interpreter.specs.States.{State}
-use Rattle.fs_interpreter.specs.Standing.{StandsFor}
-use Rattle.fs_interpreter.proofs.Frames.{grows_on, cells_stay, state_keeps}
+use Rattle.fs_interpreter.proofs.Frames.{cells_stay}
 use Rattle.orders.specs.Relation.{Comes}
-use Rattle.sym_run.specs.Wires.{circuit_meanings}
 use Rattle.order_encode.specs.Goals.{are_these, EndApartAt}
 use Rattle.order_encode.proofs.ForkLaws.{below}
+use Rattle.order_encode.proofs.GrowthLaws.{◌>>◌, still_stands}
 use Rattle.order_encode.proofs.fork.with_row.Goals as goal
 
 pub loop-k-preserved : goal.loop-k-preserved
 loop-k-preserved c =
     let before = c.loop-k.invariant in
-    let g0 = c.args.sym.now in
-    let g1 = c.loop-k.sym in
-    let m0 = circuit_meanings g0 in
-    let m1 = circuit_meanings g1 in
-    let m2 = circuit_meanings c.with_pair.new.sym in
     let i = c.args.i in
     let k = c.loop-k.k in
     let first = c.args.first.now in
     let second = c.args.second.now in
-    let fork = c.args.fork.now in
     let order = c.args.order.now in
     let es = map program_of c.args.programs.now in
     let pair = c.in_ok-any.ensures in
@@ -32,13 +24,13 @@ loop-k-preserved c =
       any = pair.wire;
       first = c.with_pair.ensures.grows.owns_code first before.first;
       second = c.with_pair.ensures.grows.owns_code second before.second;
-      cells = cells_stay m1 m2 fork c.with_pair.ensures.grows before.cells;
-      grows = grows_on m0 m1 m2 before.grows c.with_pair.ensures.grows;
+      cells = cells_stay _ _ _ c.with_pair.ensures.grows before.cells;
+      grows = before.grows >> c.with_pair.ensures.grows;
       stays = λ v e. pair.stays v (before.stays v e);
       found = λ v o h n low high free these apart. elim (n == k) as (λ b. (n == k) ≡ b → wire_value c.with_pair.new.sym v c.in_ok-any.any.0 ≡ true) [
         | true ↦ λ e.
             let same = eqb-true n k e in
-            let h1 = subst (λ (s : State). StandsFor c.args.domain.now.table s o) (sym (state_keeps m0 m1 fork before.grows c.requires.cells v)) h in
+            let h1 = still_stands c.args.domain.now.table o before.grows c.requires.cells v h in
             let first_is = before.grows.code first c.requires.first v in
             let second_is = before.grows.code second c.requires.second v in
             pair.found v o h1 (subst (λ m. IsFree (Comes order) i m) same free)
@@ -51,4 +43,4 @@ loop-k-preserved c =
     }
 
 pub returns-in_err-any-clause-grows : goal.returns-in_err-any-clause-grows
-returns-in_err-any-clause-grows c = grows_on (circuit_meanings c.args.sym.now) (circuit_meanings c.loop-k.sym) (circuit_meanings c.with_pair.new.sym) c.loop-k.invariant.grows c.with_pair.ensures.grows
+returns-in_err-any-clause-grows c = c.loop-k.invariant.grows >> c.with_pair.ensures.grows

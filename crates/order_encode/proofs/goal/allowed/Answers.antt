@@ -1,13 +1,12 @@
-use Rattle.std.proofs.Common.{◌≡◌, ◌-◌, nat_lt, ap, sym, ◌∙◌}
+use Rattle.std.proofs.Common.{◌≡◌, ◌-◌, nat_lt, ap, ◌∙◌}
 use Rattle.std.specs.Prelude.{◌&&◌}
-use Rattle.fs_interpreter.proofs.Frames.{grows_on}
 use Rattle.orders.specs.Relation.{comes}
 use Rattle.order_places.specs.Places.{is_in_order}
-use Rattle.sym_run.specs.Wires.{circuit_meanings}
 use Rattle.sym_run.proofs.CircuitLaws.{circuit_grows}
 use Rattle.order_circuit.specs.Codes.{node, nodes}
 use Rattle.order_circuit.proofs.RunLaws.{nodes_stay}
-use Rattle.order_encode.proofs.GoalLaws.{allowed_is, if_ok}
+use Rattle.order_encode.proofs.GoalLaws.{allowed_is, if_ok, tells_same}
+use Rattle.order_encode.proofs.GrowthLaws.{◌>>◌}
 use Rattle.order_encode.proofs.goal.allowed.Goals as goal
 
 pub returns-clause-exact : goal.returns-clause-exact
@@ -16,16 +15,11 @@ returns-clause-exact c = if_ok _ _ c.and-2.result (λ w is v.
     let f = comes order in
     let n = order.count in
     let g0 = c.args.sym.now in
-    let m0 = circuit_meanings g0 in
-    let m1 = circuit_meanings c.in_order.new.sym in
-    let m2 = circuit_meanings c.in_order-2.new.sym in
-    let m3 = circuit_meanings c.and.new.self in
-    let m4 = circuit_meanings c.is_below.new.sym in
     let g01 = c.in_order.ensures.grows in
     let g12 = c.in_order-2.ensures.grows in
     let g23 = c.and.ensures.grows in
     let g34 = circuit_grows c.and.new.self c.is_below.new.sym c.is_below.ensures.grows in
-    let g03 = grows_on m0 m2 m3 (grows_on m0 m1 m2 g01 g12) g23 in
+    let g03 = g01 >> g12 >> g23 in
     let left = nodes g0 v c.args.left.now in
     let right = nodes g0 v c.args.right.now in
     let j = node g0 v c.args.place.now in
@@ -38,44 +32,16 @@ returns-clause-exact c = if_ok _ _ c.and-2.result (λ w is v.
     let placed = c.in_ok-placed.ensures.value v ∙ ap (λ k. nat_lt k last) (g03.code c.args.place.now c.requires.place v) in
     let told = is.means v ∙ (λ i. both i && placed i) in
     let exact = allowed_is order j last left right last_is in
-    ((λ e. exact.0 (sym told ∙ e)), (λ e. told ∙ exact.1 e))) c.and-2.ensures.gives
+    tells_same told exact) c.and-2.ensures.gives
 
 pub returns-in_err-second-clause-grows : goal.returns-in_err-second-clause-grows
-returns-in_err-second-clause-grows c =
-    let m0 = circuit_meanings c.args.sym.now in
-    let m1 = circuit_meanings c.in_order.new.sym in
-    let m2 = circuit_meanings c.in_order-2.new.sym in
-    grows_on m0 m1 m2 c.in_order.ensures.grows c.in_order-2.ensures.grows
+returns-in_err-second-clause-grows c = c.in_order.ensures.grows >> c.in_order-2.ensures.grows
 
 pub returns-in_err-both-clause-grows : goal.returns-in_err-both-clause-grows
-returns-in_err-both-clause-grows c =
-    let m0 = circuit_meanings c.args.sym.now in
-    let m1 = circuit_meanings c.in_order.new.sym in
-    let m2 = circuit_meanings c.in_order-2.new.sym in
-    let m3 = circuit_meanings c.and.new.self in
-    let g02 = grows_on m0 m1 m2 c.in_order.ensures.grows c.in_order-2.ensures.grows in
-    grows_on m0 m2 m3 g02 c.and.ensures.grows
+returns-in_err-both-clause-grows c = c.in_order.ensures.grows >> c.in_order-2.ensures.grows >> c.and.ensures.grows
 
 pub returns-in_err-placed-clause-grows : goal.returns-in_err-placed-clause-grows
-returns-in_err-placed-clause-grows c =
-    let m0 = circuit_meanings c.args.sym.now in
-    let m1 = circuit_meanings c.in_order.new.sym in
-    let m2 = circuit_meanings c.in_order-2.new.sym in
-    let m3 = circuit_meanings c.and.new.self in
-    let m4 = circuit_meanings c.is_below.new.sym in
-    let g02 = grows_on m0 m1 m2 c.in_order.ensures.grows c.in_order-2.ensures.grows in
-    let g03 = grows_on m0 m2 m3 g02 c.and.ensures.grows in
-    grows_on m0 m3 m4 g03 (circuit_grows c.and.new.self c.is_below.new.sym c.is_below.ensures.grows)
+returns-in_err-placed-clause-grows c = c.in_order.ensures.grows >> c.in_order-2.ensures.grows >> c.and.ensures.grows >> circuit_grows c.and.new.self c.is_below.new.sym c.is_below.ensures.grows
 
 pub returns-clause-grows : goal.returns-clause-grows
-returns-clause-grows c =
-    let m0 = circuit_meanings c.args.sym.now in
-    let m1 = circuit_meanings c.in_order.new.sym in
-    let m2 = circuit_meanings c.in_order-2.new.sym in
-    let m3 = circuit_meanings c.and.new.self in
-    let m4 = circuit_meanings c.is_below.new.sym in
-    let m5 = circuit_meanings c.and-2.new.self in
-    let g02 = grows_on m0 m1 m2 c.in_order.ensures.grows c.in_order-2.ensures.grows in
-    let g03 = grows_on m0 m2 m3 g02 c.and.ensures.grows in
-    let g04 = grows_on m0 m3 m4 g03 (circuit_grows c.and.new.self c.is_below.new.sym c.is_below.ensures.grows) in
-    grows_on m0 m4 m5 g04 c.and-2.ensures.grows
+returns-clause-grows c = c.in_order.ensures.grows >> c.in_order-2.ensures.grows >> c.and.ensures.grows >> circuit_grows c.and.new.self c.is_below.new.sym c.is_below.ensures.grows >> c.and-2.ensures.grows

@@ -1,19 +1,20 @@
-use Rattle.std.proofs.Common.{◌≡◌, ◌≢◌, true, map, ap, subst, subst₂, sym, ◌∙◌}
+use Rattle.std.proofs.Common.{◌≡◌, ◌≢◌, true, Some, map, ap, subst, subst₂, sym, ◌∙◌}
 use Rattle.std.specs.Prelude.{◌&&◌, ◌↔◌}
 use Rattle.bool_circuit.specs.Gates.{wire_value}
 use Rattle.fs_semantics.specs.FileTree.{Tree}
 use Rattle.fs_semantics.specs.Orders.{outcome}
 use Rattle.fs_lang.specs.Meaning.{program_of}
-use Rattle.fs_interpreter.specs.States.{State, state_of}
+use Rattle.fs_interpreter.specs.States.{state_of}
 use Rattle.fs_interpreter.specs.Standing.{Stands}
-use Rattle.fs_interpreter.proofs.Frames.{grows_on, cells_stay, state_keeps}
+use Rattle.fs_interpreter.proofs.Frames.{cells_stay}
 use Rattle.order_places.specs.Places.{exchanged}
 use Rattle.sym_run.specs.Wires.{circuit_meanings}
 use Rattle.order_circuit.specs.Codes.{node, nodes, AreRows}
 use Rattle.order_circuit.proofs.RunLaws.{nodes_stay, rows_stay}
 use Rattle.order_encode.specs.Goals.{AreAllowed}
-use Rattle.order_encode.proofs.GoalLaws.{apart_is, if_ok}
+use Rattle.order_encode.proofs.GoalLaws.{apart_is, if_ok, tells_same}
 use Rattle.order_encode.proofs.ForkLaws.{same_for, differ_by}
+use Rattle.order_encode.proofs.GrowthLaws.{◌>>◌, still_stands}
 use Rattle.order_encode.proofs.goal.goal.Goals as goal
 
 pub returns-clause-exact : goal.returns-clause-exact
@@ -29,15 +30,12 @@ returns-clause-exact c = if_ok _ _ c.and-2.result (λ w is v.
     let s3 = c.and.new.self in
     let s4 = c.end_apart.new.sym in
     let m0 = circuit_meanings g0 in
-    let m1 = circuit_meanings s1 in
-    let m2 = circuit_meanings s2 in
-    let m3 = circuit_meanings s3 in
     let g01 = c.exchanged_codes.ensures.grows in
     let g12 = c.allowed.ensures.grows in
     let g23 = c.and.ensures.grows in
     let g34 = c.end_apart.ensures.grows in
-    let g02 = grows_on m0 m1 m2 g01 g12 in
-    let g03 = grows_on m0 m2 m3 g02 g23 in
+    let g02 = g01 >> g12 in
+    let g03 = g02 >> g23 in
     let j = node g0 v a.place in
     let left = nodes g0 v a.codes in
     let right = c.in_ok-right.right in
@@ -54,69 +52,29 @@ returns-clause-exact c = if_ok _ _ c.and-2.result (λ w is v.
     let j3 = g03.code a.place asks.place v in
     let right_is : exchanged (node s3 v a.place) (nodes s3 v c.as_slice-left.result.now) ≡ exchanged j left = λ x. exchanged (j3 x) (order_is x) in
     let differ : (t : Tree) → Stands d.table (state_of m0 v a.cells) t → AreAllowed order j left (exchanged j left) → (wire_value s4 v c.in_ok-differ.differ.0 ≡ true) ↔ (outcome es left t ≢ outcome es (exchanged j left) t) = λ t h fine.
-    let h3 = subst (λ (s : State). Stands d.table s t) (sym (state_keeps m0 m3 a.cells g03 asks.trees.are_cells v)) h in
+    let h3 = still_stands d.table (Some t) g03 asks.trees.are_cells v h in
     let fine3 = subst (λ k. AreAllowed order k (nodes s3 v c.as_slice-left.result.now) (exchanged (node s3 v a.place) (nodes s3 v c.as_slice-left.result.now))) (sym j3)
     (subst₂ (AreAllowed order j) (sym order_is) (sym right_is) fine) in
     same_for (wire_value s4 v c.in_ok-differ.differ.0) (c.in_ok-differ.ensures.exact v t h3 fine3) (differ_by _ _ _ _ (ap (λ xs. outcome es xs t) order_is) (ap (λ xs. outcome es xs t) right_is)) in
     let exact = apart_is g0 d a.cells a.well es order j left (exchanged j left) v (wire_value s2 v c.in_ok-fine.fine.0) (wire_value s4 v c.in_ok-differ.differ.0) asks.trees allowed differ in
     let both = g34.bit c.in_ok-both.both c.in_ok-both.ensures.gives.owned v ∙ c.in_ok-both.ensures.gives.means v ∙ ap (λ b. b && wire_value s2 v c.in_ok-fine.fine.0) (g02.bit a.well asks.trees.owned v) in
     let told = is.means v ∙ ap (λ b. b && wire_value s4 v c.in_ok-differ.differ.0) both in
-    ((λ e. exact.0 (sym told ∙ e)), (λ e. told ∙ exact.1 e))) c.and-2.ensures.gives
+    tells_same told exact) c.and-2.ensures.gives
 
 pub end_apart-requires-clause-cells : goal.end_apart-requires-clause-cells
-end_apart-requires-clause-cells c =
-    let m0 = circuit_meanings c.args.sym.now in
-    let m1 = circuit_meanings c.exchanged_codes.new.sym in
-    let m2 = circuit_meanings c.allowed.new.sym in
-    let m3 = circuit_meanings c.and.new.self in
-    let g02 = grows_on m0 m1 m2 c.exchanged_codes.ensures.grows c.allowed.ensures.grows in
-    cells_stay m0 m3 c.args.asking.now.cells (grows_on m0 m2 m3 g02 c.and.ensures.grows) c.requires.asking.trees.are_cells
+end_apart-requires-clause-cells c = cells_stay _ _ _ (c.exchanged_codes.ensures.grows >> c.allowed.ensures.grows >> c.and.ensures.grows) c.requires.asking.trees.are_cells
 
 pub end_apart-requires-clause-codes : goal.end_apart-requires-clause-codes
-end_apart-requires-clause-codes c =
-    let m0 = circuit_meanings c.args.sym.now in
-    let m1 = circuit_meanings c.exchanged_codes.new.sym in
-    let m2 = circuit_meanings c.allowed.new.sym in
-    let m3 = circuit_meanings c.and.new.self in
-    let g02 = grows_on m0 m1 m2 c.exchanged_codes.ensures.grows c.allowed.ensures.grows in
-    subst (AreRows c.and.new.self) (sym c.as_slice-left.ensures) (rows_stay c.args.sym.now c.and.new.self c.args.asking.now.codes (grows_on m0 m2 m3 g02 c.and.ensures.grows) c.requires.asking.codes)
+end_apart-requires-clause-codes c = subst (AreRows c.and.new.self) (sym c.as_slice-left.ensures) (rows_stay c.args.sym.now c.and.new.self c.args.asking.now.codes (c.exchanged_codes.ensures.grows >> c.allowed.ensures.grows >> c.and.ensures.grows) c.requires.asking.codes)
 
 pub returns-in_err-fine-clause-grows : goal.returns-in_err-fine-clause-grows
-returns-in_err-fine-clause-grows c =
-    let m0 = circuit_meanings c.args.sym.now in
-    let m1 = circuit_meanings c.exchanged_codes.new.sym in
-    let m2 = circuit_meanings c.allowed.new.sym in
-    grows_on m0 m1 m2 c.exchanged_codes.ensures.grows c.allowed.ensures.grows
+returns-in_err-fine-clause-grows c = c.exchanged_codes.ensures.grows >> c.allowed.ensures.grows
 
 pub returns-in_err-both-clause-grows : goal.returns-in_err-both-clause-grows
-returns-in_err-both-clause-grows c =
-    let m0 = circuit_meanings c.args.sym.now in
-    let m1 = circuit_meanings c.exchanged_codes.new.sym in
-    let m2 = circuit_meanings c.allowed.new.sym in
-    let m3 = circuit_meanings c.and.new.self in
-    let g02 = grows_on m0 m1 m2 c.exchanged_codes.ensures.grows c.allowed.ensures.grows in
-    grows_on m0 m2 m3 g02 c.and.ensures.grows
+returns-in_err-both-clause-grows c = c.exchanged_codes.ensures.grows >> c.allowed.ensures.grows >> c.and.ensures.grows
 
 pub returns-in_err-differ-clause-grows : goal.returns-in_err-differ-clause-grows
-returns-in_err-differ-clause-grows c =
-    let m0 = circuit_meanings c.args.sym.now in
-    let m1 = circuit_meanings c.exchanged_codes.new.sym in
-    let m2 = circuit_meanings c.allowed.new.sym in
-    let m3 = circuit_meanings c.and.new.self in
-    let m4 = circuit_meanings c.end_apart.new.sym in
-    let g02 = grows_on m0 m1 m2 c.exchanged_codes.ensures.grows c.allowed.ensures.grows in
-    let g03 = grows_on m0 m2 m3 g02 c.and.ensures.grows in
-    grows_on m0 m3 m4 g03 c.end_apart.ensures.grows
+returns-in_err-differ-clause-grows c = c.exchanged_codes.ensures.grows >> c.allowed.ensures.grows >> c.and.ensures.grows >> c.end_apart.ensures.grows
 
 pub returns-clause-grows : goal.returns-clause-grows
-returns-clause-grows c =
-    let m0 = circuit_meanings c.args.sym.now in
-    let m1 = circuit_meanings c.exchanged_codes.new.sym in
-    let m2 = circuit_meanings c.allowed.new.sym in
-    let m3 = circuit_meanings c.and.new.self in
-    let m4 = circuit_meanings c.end_apart.new.sym in
-    let m5 = circuit_meanings c.and-2.new.self in
-    let g02 = grows_on m0 m1 m2 c.exchanged_codes.ensures.grows c.allowed.ensures.grows in
-    let g03 = grows_on m0 m2 m3 g02 c.and.ensures.grows in
-    let g04 = grows_on m0 m3 m4 g03 c.end_apart.ensures.grows in
-    grows_on m0 m4 m5 g04 c.and-2.ensures.grows
+returns-clause-grows c = c.exchanged_codes.ensures.grows >> c.allowed.ensures.grows >> c.and.ensures.grows >> c.end_apart.ensures.grows >> c.and-2.ensures.grows

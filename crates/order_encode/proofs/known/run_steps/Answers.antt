@@ -5,24 +5,22 @@ use Rattle.fs_semantics.specs.Orders.{outcome}
 use Rattle.fs_lang.specs.Meaning.{program_of}
 use Rattle.fs_interpreter.specs.States.{state_of}
 use Rattle.fs_interpreter.specs.Standing.{StandsFor}
-use Rattle.fs_interpreter.proofs.Frames.{grows_on}
 use Rattle.sym_run.specs.Wires.{circuit_meanings}
 use Rattle.order_circuit.proofs.RunLaws.{covers_at, program_at, after, no_more}
 use Rattle.order_encode.proofs.ReadLaws.{rest_from, rest_done}
 use Rattle.order_encode.proofs.KnownLaws.{node_below}
+use Rattle.order_encode.proofs.GrowthLaws.{◌>>◌}
 use Rattle.order_encode.proofs.known.run_steps.Goals as goal
 
 pub sym_apply-requires-clause-covers : goal.sym_apply-requires-clause-covers
 sym_apply-requires-clause-covers c = covers_at c.args.domain.now.table c.args.programs.now _ c.index-programs-i.result c.requires.covers c.index-programs-i.is (node_below (length c.args.programs.now) c.args.order.now c.loop-i.i-index c.requires.nodes c.loop-i-test.true)
 
 pub returns-in_err-sym_apply-clause-grows : goal.returns-in_err-sym_apply-clause-grows
-returns-in_err-sym_apply-clause-grows c = grows_on (circuit_meanings c.args.sym.now) (circuit_meanings c.loop-i.sym) (circuit_meanings c.sym_apply.new.sym) c.loop-i.invariant.grows c.sym_apply.ensures.grows
+returns-in_err-sym_apply-clause-grows c = c.loop-i.invariant.grows >> c.sym_apply.ensures.grows
 
 pub loop-i-preserved : goal.loop-i-preserved
 loop-i-preserved c =
     let before = c.loop-i.invariant in
-    let m0 = circuit_meanings c.args.sym.now in
-    let m1 = circuit_meanings c.loop-i.sym in
     let m2 = circuit_meanings c.sym_apply.new.sym in
     let table = c.args.domain.now.table in
     let programs = c.args.programs.now in
@@ -35,7 +33,7 @@ loop-i-preserved c =
     record {
       cells = c.in_ok-sym_apply.ensures.cells;
       places = c.in_ok-sym_apply.ensures.places;
-      grows = grows_on m0 m1 m2 before.grows c.sym_apply.ensures.grows;
+      grows = before.grows >> c.sym_apply.ensures.grows;
       stands = λ v o h.
           let so_far = before.stands v o h in (
             and_then so_far.0 (run (slice_index_or es n Id)),

@@ -4,7 +4,6 @@ use Rattle.bool_circuit.specs.declared.gate.Gate.{Gate}
 use Rattle.cnf.specs.Encoding.{inputs_in}
 use Rattle.fs_lang.specs.Meaning.{program_of}
 use Rattle.fs_interpreter.proofs.Frames.{cells_stay}
-use Rattle.sym_run.specs.Wires.{circuit_meanings}
 use Rattle.order_circuit.proofs.RunLaws.{rows_stay}
 use Rattle.order_encode.specs.Asked.{Asked, Shows}
 use Rattle.order_encode.specs.Asking.{IsAsking}
@@ -13,7 +12,7 @@ use Rattle.order_encode.proofs.OrderLaws.{order_readable, order_exact, order_mod
 use Rattle.order_encode.proofs.order.ask_order.Goals as goal
 
 pub pose-requires-clause-cells : goal.pose-requires-clause-cells
-pose-requires-clause-cells c = cells_stay (circuit_meanings c.order_inputs.new.sym) (circuit_meanings c.goal.new.sym) c.in_ok-inputs.inputs.cells c.goal.ensures.grows c.in_ok-inputs.ensures.asking.trees.are_cells
+pose-requires-clause-cells c = cells_stay _ _ _ c.goal.ensures.grows c.in_ok-inputs.ensures.asking.trees.are_cells
 
 pub pose-requires-clause-codes : goal.pose-requires-clause-codes
 pose-requires-clause-codes c =

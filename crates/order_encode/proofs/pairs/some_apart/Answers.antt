@@ -1,10 +1,8 @@
-use Rattle.std.proofs.Common.{map, refl, subst, sym}
+use Rattle.std.proofs.Common.{map, refl}
 use Rattle.fs_lang.specs.Meaning.{program_of}
-use Rattle.fs_interpreter.specs.States.{State}
-use Rattle.fs_interpreter.specs.Standing.{StandsFor}
-use Rattle.fs_interpreter.proofs.Frames.{grows_on, cells_stay, state_keeps}
-use Rattle.sym_run.specs.Wires.{circuit_meanings}
+use Rattle.fs_interpreter.proofs.Frames.{cells_stay}
 use Rattle.order_encode.proofs.PairLaws.{none_below, below_step}
+use Rattle.order_encode.proofs.GrowthLaws.{◌>>◌, still_stands}
 use Rattle.order_encode.proofs.pairs.some_apart.Goals as goal
 
 pub loop-i-init : goal.loop-i-init
@@ -12,7 +10,7 @@ loop-i-init c =
     let g = c.constant.ensures.grows in
     record {
       any = c.in_ok-any.ensures.gives.owned;
-      cells = cells_stay (circuit_meanings c.args.sym.now) (circuit_meanings c.constant.new.self) c.args.start.now g c.requires.cells;
+      cells = cells_stay _ _ _ g c.requires.cells;
       exact = λ v o h. none_below (map program_of c.args.programs.now) c.args.order.now o 0 refl (λ e. let is = c.in_ok-any.ensures.gives.means v in cc);
       grows = g;
     }
@@ -20,20 +18,16 @@ loop-i-init c =
 pub loop-i-preserved : goal.loop-i-preserved
 loop-i-preserved c =
     let before = c.loop-i.invariant in
-    let m0 = circuit_meanings c.args.sym.now in
-    let m1 = circuit_meanings c.loop-i.sym in
-    let m2 = circuit_meanings c.or_row_apart.new.sym in
-    let start = c.args.start.now in
     let es = map program_of c.args.programs.now in
     let row = c.in_ok-any-2.ensures in
     record {
       any = row.wire;
-      cells = cells_stay m1 m2 start c.or_row_apart.ensures.grows before.cells;
-      grows = grows_on m0 m1 m2 before.grows c.or_row_apart.ensures.grows;
+      cells = cells_stay _ _ _ c.or_row_apart.ensures.grows before.cells;
+      grows = before.grows >> c.or_row_apart.ensures.grows;
       exact = λ v o h.
-          let h1 = subst (λ (s : State). StandsFor c.args.domain.now.table s o) (sym (state_keeps m0 m1 start before.grows c.requires.cells v)) h in
+          let h1 = still_stands c.args.domain.now.table o before.grows c.requires.cells v h in
           below_step es c.args.order.now o c.loop-i.i _ refl (before.exact v o h) (row.exact v o h1);
     }
 
 pub returns-in_err-any-2-clause-grows : goal.returns-in_err-any-2-clause-grows
-returns-in_err-any-2-clause-grows c = grows_on (circuit_meanings c.args.sym.now) (circuit_meanings c.loop-i.sym) (circuit_meanings c.or_row_apart.new.sym) c.loop-i.invariant.grows c.or_row_apart.ensures.grows
+returns-in_err-any-2-clause-grows c = c.loop-i.invariant.grows >> c.or_row_apart.ensures.grows
