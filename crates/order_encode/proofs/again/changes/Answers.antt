@@ -1,4 +1,5 @@
 use Rattle.std.proofs.Common.{Some, ap, ◌∙◌, map}
+use Rattle.std.proofs.lemmas.Result.{IfOk-weaker}
 use Rattle.std.specs.Prelude.{not, ◌&&◌}
 use Rattle.bool_circuit.specs.Gates.{wire_value}
 use Rattle.fs_semantics.specs.Programs.{and_then}
@@ -7,12 +8,12 @@ use Rattle.fs_lang.specs.Meaning.{program_of}
 use Rattle.fs_interpreter.specs.States.{state_of}
 use Rattle.fs_interpreter.proofs.Frames.{cells_stay}
 use Rattle.sym_run.specs.Wires.{circuit_meanings}
-use Rattle.order_encode.proofs.GoalLaws.{changes_is, if_ok, tells_same}
+use Rattle.order_encode.proofs.GoalLaws.{changes_is, tells_same}
 use Rattle.order_encode.proofs.GrowthLaws.{◌>>◌, still_stands}
 use Rattle.order_encode.proofs.again.changes.Goals as goal
 
 pub returns-clause-exact : goal.returns-clause-exact
-returns-clause-exact c = if_ok _ _ c.and.result (λ w is v t h.
+returns-clause-exact c = IfOk-weaker c.and.result _ _ (λ w is v t h.
     let table = c.args.domain.now.table in
     let es = map program_of c.args.programs.now in
     let order = c.args.order.now in

@@ -1,4 +1,5 @@
 use Rattle.std.proofs.Common.{◌≡◌, ◌+◌, ◌-◌, ◌<◌, ◌∷◌, length, take, drop, map, Some, sym, ap, subst, subst₂, ◌∙◌, arith}
+use Rattle.std.proofs.lemmas.Result.{IfOk-weaker}
 use Rattle.std.proofs.lemmas.List.{length-map}
 use Rattle.std.specs.Prelude.{slice_index_or}
 use Rattle.bool_circuit.specs.Gates.{wire_value}
@@ -15,7 +16,6 @@ use Rattle.orders.specs.Relation.{comes}
 use Rattle.order_places.specs.Places.{exchanged}
 use Rattle.order_encode.specs.Goals.{AreFreeNodes}
 use Rattle.order_encode.proofs.WitnessLaws.{strict_is, exchanged_long}
-use Rattle.order_encode.proofs.GoalLaws.{if_ok}
 use Rattle.order_encode.proofs.ForkLaws.{rows_behind, nodes_ahead, nodes_behind, next_of, differ_by, same_for, apart_is_whole}
 use Rattle.order_encode.proofs.GrowthLaws.{◌>>◌, still_stands}
 use Rattle.order_encode.proofs.ends.end_apart.Goals as goal
@@ -38,7 +38,7 @@ pub end_apart_from-requires-clause-cells : goal.end_apart_from-requires-clause-c
 end_apart_from-requires-clause-cells c = cells_stay _ _ _ (c.code_at.ensures.grows >> c.code_at-2.ensures.grows) c.in_ok-fork.ensures.cells
 
 pub returns-clause-exact : goal.returns-clause-exact
-returns-clause-exact c = if_ok _ _ c.end_apart_from.result (λ w is v t h allowed.
+returns-clause-exact c = IfOk-weaker c.end_apart_from.result _ _ (λ w is v t h allowed.
     let table = c.args.domain.now.table in
     let es = map program_of c.args.programs.now in
     let order = c.args.order.now in

@@ -1,4 +1,5 @@
 use Rattle.std.proofs.Common.{◌≡◌, ◌∷◌, true, map, ap, subst, ◌∙◌}
+use Rattle.std.proofs.lemmas.Result.{IfOk-weaker}
 use Rattle.std.specs.Prelude.{false, ◌&&◌, ◌↔◌}
 use Rattle.bool_circuit.specs.Gates.{wire_value}
 use Rattle.fs_semantics.specs.Programs.{and_then}
@@ -11,7 +12,7 @@ use Rattle.sym_run.specs.Wires.{circuit_meanings}
 use Rattle.order_circuit.specs.Codes.{node, nodes, part_of}
 use Rattle.order_circuit.proofs.RunLaws.{nodes_stay, rows_stay}
 use Rattle.order_encode.specs.Goals.{EndApartThen}
-use Rattle.order_encode.proofs.GoalLaws.{not_is, if_ok, tells_same}
+use Rattle.order_encode.proofs.GoalLaws.{not_is, tells_same}
 use Rattle.order_encode.proofs.ForkLaws.{apart_at, asked_besides}
 use Rattle.order_encode.proofs.GrowthLaws.{◌>>◌, still_stands}
 use Rattle.order_encode.proofs.ends.end_apart_from.Goals as goal
@@ -32,7 +33,7 @@ pub and-requires-clause-a : goal.and-requires-clause-a
 and-requires-clause-a c = (c.run_on.ensures.grows >> c.run_on-2.ensures.grows >> c.alike.ensures.grows >> c.not.ensures.grows).owns c.in_ok-near.near c.in_ok-near.ensures.wire
 
 pub returns-clause-exact : goal.returns-clause-exact
-returns-clause-exact c = if_ok _ _ c.and.result (λ w is v o h free.
+returns-clause-exact c = IfOk-weaker c.and.result _ _ (λ w is v o h free.
     let table = c.args.domain.now.table in
     let es = map program_of c.args.programs.now in
     let g0 = c.args.sym.now in

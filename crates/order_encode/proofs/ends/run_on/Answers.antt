@@ -1,4 +1,5 @@
 use Rattle.std.proofs.Common.{map, subst, ◌∙◌}
+use Rattle.std.proofs.lemmas.Result.{IfOk-weaker}
 use Rattle.std.specs.Prelude.{slice_index_or, false}
 use Rattle.fs_semantics.specs.Programs.{Id, and_then, run}
 use Rattle.fs_semantics.specs.Orders.{outcome}
@@ -8,13 +9,12 @@ use Rattle.fs_interpreter.specs.Standing.{StandsFor}
 use Rattle.sym_run.specs.Wires.{circuit_meanings}
 use Rattle.order_circuit.specs.Codes.{node, nodes, part_of}
 use Rattle.order_circuit.proofs.RunLaws.{nodes_stay}
-use Rattle.order_encode.proofs.GoalLaws.{if_ok}
 use Rattle.order_encode.proofs.ForkLaws.{two_more}
 use Rattle.order_encode.proofs.GrowthLaws.{◌>>◌}
 use Rattle.order_encode.proofs.ends.run_on.Goals as goal
 
 pub returns-clause-stands : goal.returns-clause-stands
-returns-clause-stands c = if_ok _ _ c.run_part.result (λ made stands v o h.
+returns-clause-stands c = IfOk-weaker c.run_part.result _ _ (λ made stands v o h.
     let table = c.args.domain.now.table in
     let es = map program_of c.args.programs.now in
     let g0 = c.args.sym.now in

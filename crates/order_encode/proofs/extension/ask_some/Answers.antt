@@ -1,9 +1,10 @@
 use Rattle.std.proofs.Common.{map}
+use Rattle.std.proofs.lemmas.Result.{IfOk-weaker}
 use Rattle.fs_lang.specs.Meaning.{program_of}
 use Rattle.fs_interpreter.proofs.Frames.{cells_stay}
 use Rattle.order_encode.specs.Goals.{Ends}
 use Rattle.order_encode.specs.Witnesses.{IsFirstExtension}
-use Rattle.order_encode.proofs.GoalLaws.{if_ok, if_ok_both}
+use Rattle.order_encode.proofs.GoalLaws.{if_ok_both}
 use Rattle.order_encode.proofs.ExtensionLaws.{asks_order, readable, tree_exact, tree_shown, end_exact, end_shown}
 use Rattle.order_encode.proofs.extension.ask_some.Goals as goal
 
@@ -17,7 +18,7 @@ pub returns-clause-exact : goal.returns-clause-exact
 returns-clause-exact c =
     let asks = asks_order (Ends (map program_of c.args.programs.now)) c.as_slice.ensures c.in_ok-sym.ensures.trees c.in_ok-sym.ensures.every c.goal_of_end.ensures.grows c.in_ok-asked.ensures.exact in
     let is_first : IsFirstExtension c.args.order.now c.in_ok-first.first = record { allowed = c.in_ok-first.ensures.allowed; least = c.in_ok-first.ensures.least } in
-    if_ok _ _ c.pose.result (λ q states. end_exact _ c.args.order.now c.args.domain.now c.in_ok-first.first is_first c.allowed_orders.ensures.long (tree_exact asks q.formula states)) c.pose.ensures.states
+    IfOk-weaker c.pose.result _ _ (λ q states. end_exact _ c.args.order.now c.args.domain.now c.in_ok-first.first is_first c.allowed_orders.ensures.long (tree_exact asks q.formula states)) c.pose.ensures.states
 
 pub returns-clause-models : goal.returns-clause-models
 returns-clause-models c =

@@ -1,4 +1,5 @@
 use Rattle.std.proofs.Common.{[], ◌∷◌, map}
+use Rattle.std.proofs.lemmas.Result.{IfOk-weaker}
 use Rattle.bool_circuit.specs.Gates.{wire_value}
 use Rattle.fs_semantics.specs.Programs.{and_then}
 use Rattle.fs_semantics.specs.Orders.{outcome}
@@ -7,7 +8,7 @@ use Rattle.fs_interpreter.specs.States.{state_of}
 use Rattle.fs_interpreter.specs.Standing.{StandsFor}
 use Rattle.fs_interpreter.proofs.Frames.{cells_stay}
 use Rattle.sym_run.specs.Wires.{circuit_meanings}
-use Rattle.order_encode.proofs.GoalLaws.{not_is, if_ok, tells_same}
+use Rattle.order_encode.proofs.GoalLaws.{not_is, tells_same}
 use Rattle.order_encode.proofs.GrowthLaws.{◌>>◌, still_stands}
 use Rattle.order_encode.proofs.fork.differ.Goals as goal
 
@@ -18,7 +19,7 @@ pub alike-requires-clause-a : goal.alike-requires-clause-a
 alike-requires-clause-a c = cells_stay _ _ _ c.run_known-2.ensures.grows c.in_ok-one.ensures.cells
 
 pub returns-clause-exact : goal.returns-clause-exact
-returns-clause-exact c = if_ok _ _ c.not.result (λ w is v o h.
+returns-clause-exact c = IfOk-weaker c.not.result _ _ (λ w is v o h.
     let table = c.args.domain.now.table in
     let es = map program_of c.args.programs.now in
     let i = c.args.i in

@@ -1,10 +1,11 @@
 use Rattle.std.proofs.Common.{ap, ◌∙◌}
+use Rattle.std.proofs.lemmas.Result.{IfOk-weaker}
 use Rattle.std.specs.Prelude.{◌&&◌}
 use Rattle.bool_circuit.specs.Gates.{wire_value}
 use Rattle.fs_interpreter.proofs.Frames.{cells_stay}
 use Rattle.order_circuit.specs.Codes.{node}
 use Rattle.order_encode.specs.Goals.{are_these}
-use Rattle.order_encode.proofs.GoalLaws.{if_ok, tells_same}
+use Rattle.order_encode.proofs.GoalLaws.{tells_same}
 use Rattle.order_encode.proofs.ForkLaws.{both_is}
 use Rattle.order_encode.proofs.GrowthLaws.{◌>>◌, still_stands}
 use Rattle.order_encode.proofs.fork.pair_differs.Goals as goal
@@ -13,7 +14,7 @@ pub differ-requires-clause-cells : goal.differ-requires-clause-cells
 differ-requires-clause-cells c = cells_stay _ _ _ c.tells_pair.ensures.grows c.requires.cells
 
 pub returns-clause-exact : goal.returns-clause-exact
-returns-clause-exact c = if_ok _ _ c.and.result (λ w is v o h.
+returns-clause-exact c = IfOk-weaker c.and.result _ _ (λ w is v o h.
     let table = c.args.domain.now.table in
     let i = c.args.i in
     let k = c.args.k in

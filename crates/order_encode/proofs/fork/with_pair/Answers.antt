@@ -1,12 +1,12 @@
 use Rattle.std.proofs.Common.{◌∙◌}
+use Rattle.std.proofs.lemmas.Result.{IfOk-weaker}
 use Rattle.bool_circuit.specs.Gates.{wire_value}
-use Rattle.order_encode.proofs.GoalLaws.{if_ok}
 use Rattle.order_encode.proofs.ForkLaws.{either_true}
 use Rattle.order_encode.proofs.GrowthLaws.{◌>>◌}
 use Rattle.order_encode.proofs.fork.with_pair.Goals as goal
 
 pub returns-clause-found : goal.returns-clause-found
-returns-clause-found c = if_ok _ _ c.mux.result (λ w is v o h free these apart.
+returns-clause-found c = IfOk-weaker c.mux.result _ _ (λ w is v o h free these apart.
     let s1 = c.pair_differs.new.sym in
     is.means v ∙ either_true (wire_value s1 v c.args.any.0) (wire_value s1 v c.in_ok-one.one.0) ((c.in_ok-one.ensures.exact v o h).1 (these, apart))) c.mux.ensures.gives
 

@@ -1,16 +1,17 @@
 use Rattle.std.proofs.Common.{◌≡◌, ◌-◌, nat_lt, ap, ◌∙◌}
+use Rattle.std.proofs.lemmas.Result.{IfOk-weaker}
 use Rattle.std.specs.Prelude.{◌&&◌}
 use Rattle.orders.specs.Relation.{comes}
 use Rattle.order_places.specs.Places.{is_in_order}
 use Rattle.sym_run.proofs.CircuitLaws.{circuit_grows}
 use Rattle.order_circuit.specs.Codes.{node, nodes}
 use Rattle.order_circuit.proofs.RunLaws.{nodes_stay}
-use Rattle.order_encode.proofs.GoalLaws.{allowed_is, if_ok, tells_same}
+use Rattle.order_encode.proofs.GoalLaws.{allowed_is, tells_same}
 use Rattle.order_encode.proofs.GrowthLaws.{◌>>◌}
 use Rattle.order_encode.proofs.goal.allowed.Goals as goal
 
 pub returns-clause-exact : goal.returns-clause-exact
-returns-clause-exact c = if_ok _ _ c.and-2.result (λ w is v.
+returns-clause-exact c = IfOk-weaker c.and-2.result _ _ (λ w is v.
     let order = c.args.order.now in
     let f = comes order in
     let n = order.count in

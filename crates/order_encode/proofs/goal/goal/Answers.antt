@@ -1,4 +1,5 @@
 use Rattle.std.proofs.Common.{◌≡◌, ◌≢◌, true, Some, map, ap, subst, subst₂, sym, ◌∙◌}
+use Rattle.std.proofs.lemmas.Result.{IfOk-weaker}
 use Rattle.std.specs.Prelude.{◌&&◌, ◌↔◌}
 use Rattle.bool_circuit.specs.Gates.{wire_value}
 use Rattle.fs_semantics.specs.FileTree.{Tree}
@@ -12,13 +13,13 @@ use Rattle.sym_run.specs.Wires.{circuit_meanings}
 use Rattle.order_circuit.specs.Codes.{node, nodes, AreRows}
 use Rattle.order_circuit.proofs.RunLaws.{nodes_stay, rows_stay}
 use Rattle.order_encode.specs.Goals.{AreAllowed}
-use Rattle.order_encode.proofs.GoalLaws.{apart_is, if_ok, tells_same}
+use Rattle.order_encode.proofs.GoalLaws.{apart_is, tells_same}
 use Rattle.order_encode.proofs.ForkLaws.{same_for, differ_by}
 use Rattle.order_encode.proofs.GrowthLaws.{◌>>◌, still_stands}
 use Rattle.order_encode.proofs.goal.goal.Goals as goal
 
 pub returns-clause-exact : goal.returns-clause-exact
-returns-clause-exact c = if_ok _ _ c.and-2.result (λ w is v.
+returns-clause-exact c = IfOk-weaker c.and-2.result _ _ (λ w is v.
     let order = c.args.order.now in
     let d = c.args.domain.now in
     let es = map program_of c.args.programs.now in

@@ -1,4 +1,5 @@
 use Rattle.std.proofs.Common.{◌^◌, ◌≤◌, List, map, subst, ◌∙◌, arith}
+use Rattle.std.proofs.lemmas.Result.{IfOk-weaker}
 use Rattle.std.proofs.lemmas.List.{length-map}
 use Rattle.bool_circuit.specs.declared.gate.Gate.{Gate}
 use Rattle.cnf.specs.Encoding.{inputs_in}
@@ -7,7 +8,7 @@ use Rattle.fs_interpreter.proofs.Frames.{cells_stay}
 use Rattle.order_circuit.proofs.RunLaws.{rows_stay}
 use Rattle.order_encode.specs.Asked.{Asked, Shows}
 use Rattle.order_encode.specs.Asking.{IsAsking}
-use Rattle.order_encode.proofs.GoalLaws.{if_ok, if_ok_both}
+use Rattle.order_encode.proofs.GoalLaws.{if_ok_both}
 use Rattle.order_encode.proofs.OrderLaws.{order_readable, order_exact, order_models}
 use Rattle.order_encode.proofs.order.ask_order.Goals as goal
 
@@ -31,7 +32,7 @@ pose-requires-clause-readable c = λ v h.
     order_readable c.allowed_orders.ensures.exact (map program_of c.args.programs.now) order d s1 c.goal.new.sym inputs v c.count.ensures.ordered small is c.goal.ensures.grows ((c.in_ok-asked.ensures.exact v).0 h)
 
 pub returns-clause-exact : goal.returns-clause-exact
-returns-clause-exact c = if_ok _ _ c.pose.result (λ q states.
+returns-clause-exact c = IfOk-weaker c.pose.result _ _ (λ q states.
     let order = c.args.order.now in
     let d = c.args.domain.now in
     let s1 = c.order_inputs.new.sym in

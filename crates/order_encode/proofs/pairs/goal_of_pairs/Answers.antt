@@ -1,8 +1,9 @@
 use Rattle.std.proofs.Common.{Some, map}
+use Rattle.std.proofs.lemmas.Result.{IfOk-weaker}
 use Rattle.fs_semantics.specs.FileTree.{Tree}
 use Rattle.fs_lang.specs.Meaning.{program_of}
 use Rattle.order_encode.specs.Goals.{ApartBelow}
-use Rattle.order_encode.proofs.GoalLaws.{goal_is, if_ok}
+use Rattle.order_encode.proofs.GoalLaws.{goal_is}
 use Rattle.order_encode.proofs.GrowthLaws.{◌>>◌}
 use Rattle.order_encode.proofs.pairs.goal_of_pairs.Goals as goal
 
@@ -10,7 +11,7 @@ pub returns-clause-exact : goal.returns-clause-exact
 returns-clause-exact c =
     let order = c.args.order.now in
     let holds = λ (t : Tree). ApartBelow (map program_of c.args.programs.now) order (Some t) order.count in
-    if_ok _ _ c.and.result (λ w is. goal_is c.some_apart.new.sym c.and.new.self c.in_ok-apart.apart w holds c.requires.trees c.some_apart.ensures.grows (λ v t h. c.in_ok-apart.ensures.exact v (Some t) h) is.means) c.and.ensures.gives
+    IfOk-weaker c.and.result _ _ (λ w is. goal_is c.some_apart.new.sym c.and.new.self c.in_ok-apart.apart w holds c.requires.trees c.some_apart.ensures.grows (λ v t h. c.in_ok-apart.ensures.exact v (Some t) h) is.means) c.and.ensures.gives
 
 pub returns-clause-grows : goal.returns-clause-grows
 returns-clause-grows c = c.some_apart.ensures.grows >> c.and.ensures.grows

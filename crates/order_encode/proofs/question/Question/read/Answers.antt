@@ -1,4 +1,5 @@
 use Rattle.std.proofs.Common.{List, take, sym, ap, subst, ◌∙◌}
+use Rattle.std.proofs.lemmas.Result.{IfOk-weaker}
 use Rattle.bool_circuit.specs.declared.gate.Gate.{Gate}
 use Rattle.bool_circuit.specs.Gates.{truth_at, wire_value, wire_values, input_count, IsCircuit}
 use Rattle.cnf.specs.Formulas.{Satisfies, valuation_of}
@@ -7,7 +8,6 @@ use Rattle.fs_interpreter.specs.States.{State}
 use Rattle.fs_interpreter.specs.Standing.{Stands}
 use Rattle.order_encode.specs.Asked.{Asked, AreSmallBy, IsReadAs, Shows}
 use Rattle.order_encode.proofs.ReadLaws.{model_values, model_state}
-use Rattle.order_encode.proofs.GoalLaws.{if_ok}
 use Rattle.order_encode.proofs.question.Question.read.Goals as goal
 
 pub tree-requires-clause-stands : goal.tree-requires-clause-stands
@@ -31,7 +31,7 @@ witness_by-requires-clause-small c =
     subst (λ f. AreSmallBy f q.asks) (sym told) read.small
 
 pub returns : goal.returns
-returns c = if_ok _ _ c.witness_by.result (λ w is.
+returns c = IfOk-weaker c.witness_by.result _ _ (λ w is.
     let q = c.self.inside in
     let model = c.args.model.now in
     let u = truth_at c.inputs_of-inputs.result.now in
