@@ -1,6 +1,5 @@
 -- What the answer to a question says, by what its formula states.
-use Rattle.std.proofs.Common.{◌≡◌, ℕ, Bool, Result, Ok, Err, sym, subst}
-use Rattle.std.specs.Prelude.{IfOk}
+use Rattle.std.proofs.Common.{◌≡◌, ℕ, Bool, sym, subst}
 use Rattle.cnf.specs.Encoding.{inputs_in}
 use Rattle.cnf.specs.Formulas.{Formula, Satisfies}
 use Rattle.proof_check.specs.Refuted.{HasNoModel}
@@ -9,10 +8,6 @@ use Rattle.order_encode.specs.declared.witness.Witness.{Witness}
 use Rattle.full_verdict.specs.Answers.{Answers, AnswersBy, IsReadFrom, IsRefuted}
 use Rattle.full_verdict.specs.declared.answering.Answer.{Answer}
 use Rattle.full_verdict.specs.declared.answering.Answer.TheVariants as answer
-
-pub if_ok : {A E : Type 0} (r : Result A E) (P Q : A → Type 0) → ((a : A) → P a → Q a) → IfOk r P → IfOk r Q
-if_ok (Ok a) P Q f h = f a h
-if_ok (Err e) P Q f h = tt
 
 module _ {B : Type 0} (q : Asked B) (budget : ℕ) where
   pub read : (v : ℕ → Bool) → Satisfies v q.formula.clauses → (a : Answer) → IsReadFrom q (inputs_in v) a → Answers q budget a
