@@ -30,7 +30,7 @@ abbrev OnePruning : Type 0
 OnePruning = (es : List Program) (before : ℕ → ℕ → Bool) (moves others : List Move) (ks kept left : List ℕ)
     → Prunes es (Told before) moves ks kept → Prunes es (Told before) others ks left → (moves ≡ others) × (kept ≡ left)
 
-module _ (es : List Program) (order : Relation) (k : Kept) (is : IsKept es order k) where
+module _ {es : List Program} {order : Relation} {k : Kept} (is : IsKept es order k) where
   keeps : Keeps es (Told (comes order)) k.pruned.kept
   keeps = (is.pruned.moves, is.pruned.prunes)
 
@@ -51,9 +51,9 @@ module _ (es : List Program) (order : Relation) (k : Kept) (is : IsKept es order
   abbrev Asked : Formula → Type 0
   Asked f = StatesKept es (Told (comes order)) k.pruned.kept f ⊎ ((IsKeptDeterministic es (Told (comes order)) k.pruned.kept → ⊥) × States es (Told (comes order)) f)
 
-  pub judged_proved : OnePruning → k.pruned.kept ≢ [] → (budget n : ℕ) (v : Refutation) → IsPrunedCount es (Told (comes order)) n → IsDeterministic es (Told (comes order)) → Stated v.formula → HasNoModel v.formula
+  pub judged_proved : {budget n : ℕ} {v : Refutation} → OnePruning → k.pruned.kept ≢ [] → IsPrunedCount es (Told (comes order)) n → IsDeterministic es (Told (comes order)) → Stated v.formula → HasNoModel v.formula
       → IsJudged es order budget (first.Sure n (sure.Proved v))
-  judged_proved one some budget n v count det stated none = record {
+  judged_proved one some count det stated none = record {
     pruned = count;
     alone = ((λ h. absurd h), (λ h. absurd (not_alone one some h)));
     deterministic = det;
@@ -62,8 +62,8 @@ module _ (es : List Program) (order : Relation) (k : Kept) (is : IsKept es order
     spent = tt;
   }
 
-  pub judged_spent : OnePruning → k.pruned.kept ≢ [] → (budget n : ℕ) (f : Formula) (log : Log) → IsPrunedCount es (Told (comes order)) n → Asked f → UsesUp budget f log.steps → IsJudged es order budget (first.Spent n f log)
-  judged_spent one some budget n f log count asked uses = record {
+  pub judged_spent : {budget n : ℕ} {f : Formula} {log : Log} → OnePruning → k.pruned.kept ≢ [] → IsPrunedCount es (Told (comes order)) n → Asked f → UsesUp budget f log.steps → IsJudged es order budget (first.Spent n f log)
+  judged_spent one some count asked uses = record {
     pruned = count;
     alone = ((λ h. absurd h), (λ h. absurd (not_alone one some h)));
     deterministic = tt;

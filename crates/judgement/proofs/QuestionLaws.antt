@@ -1,6 +1,6 @@
 -- A question of order: over which domain it is asked doesn't matter.
-use Rattle.std.proofs.Common.{◌≡◌, ◌⊎◌, inl, inr, ℕ, Bool, List, Result, Ok, Err, sym, subst}
-use Rattle.std.specs.Prelude.{◌↔◌, IfOk}
+use Rattle.std.proofs.Common.{◌≡◌, ◌⊎◌, inl, inr, ℕ, Bool, List, sym, subst}
+use Rattle.std.specs.Prelude.{◌↔◌}
 use Rattle.fs_semantics.specs.FileTree.{Tree}
 use Rattle.fs_semantics.specs.Programs.{Program}
 use Rattle.fs_semantics.specs.Orders.{Told, IsDeterministic, IsCounterexample}
@@ -52,10 +52,6 @@ pub difference : (es : List Program) (before : ℕ → ℕ → Type 0) (d : Doma
 difference es before d (witness.Orders tree left right) h = (h.counterexample, h.exchange)
 difference es before d (witness.Twice tree order) h = absurd h
 difference es before d (witness.Ends tree order) h = absurd h
-
-pub if_ok : {A E : Type 0} (r : Result A E) (P Q : A → Type 0) → ((a : A) → P a → Q a) → IfOk r P → IfOk r Q
-if_ok (Ok a) P Q f h = f a h
-if_ok (Err e) P Q f h = tt
 
 -- a formula that was refuted answers its question
 pub refuted : (es : List Program) (order : Relation) (budget : ℕ) (f : Formula) (a : Answer) → States es (Told (comes order)) f → (HasNoModel f → IsDeterministic es (Told (comes order))) → IsRefuted f a → Answers es order budget a

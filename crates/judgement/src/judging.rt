@@ -110,10 +110,11 @@ fn judge_kept(
 {
     pruning();
     kept_graphs();
+    let pruned = pruned_count(order, kept);
     let answer = ask(alloc, kept.programs.as_slice(), &kept.order, budget)?;
     match answer {
         Answer::Alike(verified) => Ok(First::Sure {
-            pruned: pruned_count(order, kept),
+            pruned,
             sure: Sure::Proved(verified),
         }),
         Answer::Differ { tree, left, right } => judge_found(
@@ -126,11 +127,7 @@ fn judge_kept(
             left.as_slice(),
             right.as_slice(),
         ),
-        Answer::Spent(cnf, log) => Ok(First::Spent {
-            pruned: pruned_count(order, kept),
-            cnf,
-            log,
-        }),
+        Answer::Spent(cnf, log) => Ok(First::Spent { pruned, cnf, log }),
     }
 }
 

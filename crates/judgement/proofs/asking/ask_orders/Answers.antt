@@ -1,4 +1,5 @@
-use Rattle.std.proofs.Common.{map, sym, subst, ◌∙◌}
+use Rattle.std.proofs.Common.{map, sym, subst, subst₂, ◌∙◌}
+use Rattle.std.proofs.lemmas.Result.{IfOk-weaker}
 use Rattle.cnf.specs.Encoding.{inputs_in}
 use Rattle.cnf.specs.Formulas.{Satisfies, valuation_of}
 use Rattle.fs_semantics.specs.Orders.{Told}
@@ -9,14 +10,14 @@ use Rattle.sat_solver.specs.Working.{IsWorking}
 use Rattle.sat_solver.specs.Turning.{Finds}
 use Rattle.judgement.specs.Questions.{States}
 use Rattle.judgement.specs.Answers.{Answers, IsRead, IsRefuted}
-use Rattle.judgement.proofs.QuestionLaws.{if_ok, refuted, has_two, told}
+use Rattle.judgement.proofs.QuestionLaws.{refuted, has_two, told}
 use Rattle.judgement.proofs.asking.ask_orders.Goals as goal
 
 pub read-requires-clause-models : goal.read-requires-clause-models
 read-requires-clause-models c = λ w shown.
     let model = c.as_slice.result.now in
     let found = subst (Finds c.cnf.result.now c.args.budget) c.in-Model.is c.in_ok-found.ensures in
-    let holds = subst (λ f. Satisfies (valuation_of model) f.clauses) c.cnf.ensures (subst (λ m. Satisfies (valuation_of m) c.cnf.result.now.clauses) (sym c.as_slice.ensures) found.1) in
+    let holds = subst₂ (λ f m. Satisfies (valuation_of m) f.clauses) c.cnf.ensures (sym c.as_slice.ensures) found.1 in
     has_two (map program_of c.args.programs.now) (Told (comes c.args.order.now)) w (c.in_ok-posed.ensures.models (valuation_of model) holds w shown)
 
 pub returns-in-Model : goal.returns-in-Model
@@ -26,8 +27,8 @@ returns-in-Model c =
     let q = c.in_ok-posed.posed in
     let model = c.as_slice.result.now in
     let found = subst (Finds c.cnf.result.now c.args.budget) c.in-Model.is c.in_ok-found.ensures in
-    let holds = subst (λ f. Satisfies (valuation_of model) f.clauses) c.cnf.ensures (subst (λ m. Satisfies (valuation_of m) c.cnf.result.now.clauses) (sym c.as_slice.ensures) found.1) in
-    if_ok c.read.result (IsRead q (inputs_in (valuation_of model))) (Answers es order c.args.budget)
+    let holds = subst₂ (λ f m. Satisfies (valuation_of m) f.clauses) c.cnf.ensures (sym c.as_slice.ensures) found.1 in
+    IfOk-weaker c.read.result (IsRead q (inputs_in (valuation_of model))) (Answers es order c.args.budget)
     (told q (inputs_in (valuation_of model)) es order c.args.budget (λ w shown. c.in_ok-posed.ensures.models (valuation_of model) holds w shown)) c.read.ensures
 
 pub returns-in-Refuted : goal.returns-in-Refuted
@@ -35,7 +36,7 @@ returns-in-Refuted c =
     let es = map program_of c.args.programs.now in
     let order = c.args.order.now in
     let is = c.into_cnf.ensures in
-    if_ok c.refute.result (IsRefuted c.into_cnf.result) (Answers es order c.args.budget)
+    IfOk-weaker c.refute.result (IsRefuted c.into_cnf.result) (Answers es order c.args.budget)
     (λ a. refuted es order c.args.budget c.into_cnf.result a (subst (States es (Told (comes order))) (sym is) c.in_ok-posed.ensures.states) (λ h. c.in_ok-posed.ensures.sure (subst HasNoModel is h)))
     c.refute.ensures
 

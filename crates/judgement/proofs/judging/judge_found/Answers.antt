@@ -1,10 +1,6 @@
-use Rattle.std.proofs.Common.{map}
-use Rattle.fs_lang.specs.Meaning.{program_of}
 use Rattle.judgement.proofs.JudgeLaws.{not_deterministic}
 use Rattle.judgement.proofs.judging.judge_found.Goals as goal
 
 pub judge_whole-requires-clause-differ : goal.judge_whole-requires-clause-differ
 judge_whole-requires-clause-differ c =
-    let es = map program_of c.args.programs.now in
-    not_deterministic es c.args.order.now c.args.kept.now c.requires.kept (c.kept_graphs.ensures.counterexamples es c.args.order.now c.args.kept.now c.requires.kept)
-    c.args.tree c.args.left.now c.args.right.now c.requires.counterexample
+    not_deterministic c.requires.kept (c.kept_graphs.ensures.counterexamples _ c.args.order.now c.args.kept.now c.requires.kept) c.args.tree c.args.left.now c.args.right.now c.requires.counterexample

@@ -6,18 +6,10 @@ use Rattle.judgement.proofs.judging.judge_whole.Goals as goal
 
 pub returns-in-Alike : goal.returns-in-Alike
 returns-in-Alike c =
-    let es = map program_of c.args.programs.now in
-    let order = c.args.order.now in
-    let kept = c.args.kept.now in
-    let sure = subst (Answers es order c.args.budget) c.in-Alike.is c.in_ok-answer.ensures in
-    judged_proved es order kept c.requires.kept c.pruning.ensures.one c.requires.some c.args.budget c.pruned_count-pruned.result c.in-Alike.verified
-    (pruned es order kept c.requires.kept c.args.programs.now c.pruned_count-pruned.result refl c.requires.count c.pruned_count-pruned.ensures) sure.deterministic (inr (c.requires.differ, sure.states)) sure.no_model
+    let sure = subst (Answers (map program_of c.args.programs.now) c.args.order.now c.args.budget) c.in-Alike.is c.in_ok-answer.ensures in
+    judged_proved c.requires.kept c.pruning.ensures.one c.requires.some (pruned c.requires.kept c.args.programs.now _ refl c.requires.count c.pruned_count-pruned.ensures) sure.deterministic (inr (c.requires.differ, sure.states)) sure.no_model
 
 pub returns-in-Spent : goal.returns-in-Spent
 returns-in-Spent c =
-    let es = map program_of c.args.programs.now in
-    let order = c.args.order.now in
-    let kept = c.args.kept.now in
-    let spent = subst (Answers es order c.args.budget) c.in-Spent.is c.in_ok-answer.ensures in
-    judged_spent es order kept c.requires.kept c.pruning.ensures.one c.requires.some c.args.budget c.pruned_count-pruned.result c.in-Spent.cnf c.in-Spent.log
-    (pruned es order kept c.requires.kept c.args.programs.now c.pruned_count-pruned.result refl c.requires.count c.pruned_count-pruned.ensures) (inr (c.requires.differ, spent.0)) spent.1
+    let spent = subst (Answers (map program_of c.args.programs.now) c.args.order.now c.args.budget) c.in-Spent.is c.in_ok-answer.ensures in
+    judged_spent c.requires.kept c.pruning.ensures.one c.requires.some (pruned c.requires.kept c.args.programs.now _ refl c.requires.count c.pruned_count-pruned.ensures) (inr (c.requires.differ, spent.0)) spent.1
