@@ -5,6 +5,7 @@ use Rattle.rh_base.specs.Reading.{◌>>=◌}
 use Rattle.catalog_semantics.specs.Catalogs.{Catalog}
 use Rattle.graph_semantics.specs.Graphs.{reference_at}
 
+-- the position of a text, if it has one
 abbrev pub position_of : List ℕ → List (List ℕ × ℕ) → Option ℕ
 position_of text [] = None
 position_of text (n ∷ names) = if bytes_eq text n.0 then Some n.1 else position_of text names

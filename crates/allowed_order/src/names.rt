@@ -23,6 +23,7 @@ impl Model for Names {
 }
 
 impl Names {
+    /// No texts.
     pub fn new(alloc: Global) -> Names
         ensures { result ≡ [] }
     {

@@ -87,6 +87,7 @@ impl Circuit {
     ghost use Rattle.bool_circuit.specs.Sharing.{IsSharing, IsOperation};
     ghost use Rattle.bool_circuit.specs.Agreement.{same_truth};
 
+    /// A circuit without gates.
     pub fn new(alloc: Global) -> Result<Circuit, NoMemory>
         ensures { IfOk result (λ c. c ≡ []) }
     {
@@ -128,6 +129,7 @@ impl Circuit {
         }
     }
 
+    /// A new input.
     #[tactic(auto, using(crate::proofs::Growth::placed_input_sharing, crate::proofs::Growth::placed_grows, crate::proofs::Growth::placed_input_count, crate::proofs::Growth::value_in, crate::proofs::Growth::within))]
     pub fn input(&mut self) -> Result<Wire, NoMemory>
         ensures wire { IfOk result (λ w. w.0 < length self.new) }
@@ -157,6 +159,7 @@ impl Circuit {
         Ok(Wire(w))
     }
 
+    /// A wire that has this value, whatever the inputs are.
     pub fn constant(&mut self, b: bool) -> Result<Wire, NoMemory>
         ensures wire { IfOk result (λ w. w.0 < length self.new) }
         ensures value { IfOk result (λ w. (inputs : ℕ → Bool) → wire_value self.new inputs w.0 ≡ b) }
@@ -178,6 +181,7 @@ impl Circuit {
         }
     }
 
+    /// The opposite of a wire.
     pub fn not(&mut self, a: Wire) -> Result<Wire, NoMemory>
         requires { a.0 < length self.old }
         ensures wire { IfOk result (λ w. w.0 < length self.new) }
@@ -359,7 +363,7 @@ impl Circuit {
         }
     }
 
-    /// Where such a gate stands already, in either order of the operands, it is the answer.
+    /// A wire that is true where both are. Where an `And` gate over them stands already, in either order, it is that one.
     pub fn and(&mut self, a: Wire, b: Wire) -> Result<Wire, NoMemory>
         requires a { a.0 < length self.old }
         requires b { b.0 < length self.old }
@@ -438,6 +442,7 @@ impl Circuit {
         self.not(neither)
     }
 
+    /// The second wire where the first is true, else the third.
     pub fn mux(&mut self, c: Wire, a: Wire, b: Wire) -> Result<Wire, NoMemory>
         requires c { c.0 < length self.old }
         requires a { a.0 < length self.old }
@@ -461,7 +466,7 @@ impl Circuit {
         }
     }
 
-    /// The choice, where it isn't known.
+    /// The choice, by simpler gates where one of the two is a constant.
     fn open_mux(&mut self, c: Wire, a: Wire, b: Wire) -> Result<Wire, NoMemory>
         requires c { c.0 < length self.old }
         requires a { a.0 < length self.old }

@@ -8,7 +8,7 @@ use Rattle.catalog_semantics.specs.declared.catalog.Resource.{Resource}
 use Rattle.catalog_semantics.specs.Catalogs.{Catalog}
 use Rattle.catalog_semantics.specs.States.{references_of, stands_in, declared_limit, attributes_limit, size_of_resources, lacks}
 
--- the attributes of all of these aren't too large
+-- these resources, unless all their attributes together are too large
 abbrev pub within_size : ℕ → List Resource → Result (List Resource) Refusal
 within_size at resources = if nat_lt attributes_limit (size_of_resources resources) then Err (refusal 32 at (codes "attributes")) else Ok resources
 
@@ -26,6 +26,7 @@ with_resources c found = do
   resources ← found
   Ok (record c { resources = resources })
 
+-- a catalog with one more resource
 abbrev pub with_added : Resource → Catalog → Result Catalog Refusal
 with_added r c = with_resources c (added_to r c.resources)
 
@@ -50,11 +51,13 @@ changed_at place change [] = []
 changed_at zero change (r ∷ resources) = change r ∷ resources
 changed_at (suc place) change (r ∷ resources) = r ∷ changed_at place change resources
 
+-- where the resource at a place stands in the source
 abbrev pub place_in_text : ℕ → List Resource → ℕ
 place_in_text place [] = 0
 place_in_text zero (r ∷ resources) = r.at
 place_in_text (suc place) (r ∷ resources) = place_in_text place resources
 
+-- the one at a place with those of the pairs whose names it hasn't got, unless all attributes together are too large then
 abbrev pub filled_at : ℕ → List Pair → List Resource → Result (List Resource) Refusal
 filled_at place pairs resources = within_size (place_in_text place resources) (changed_at place (given pairs) resources)
 

@@ -33,6 +33,7 @@ abbrev pub is_held_by : ℕ → Option ℕ → Bool
 is_held_by outer None = false
 is_held_by outer (Some holder) = holder == outer
 
+-- a real resource that the container holds
 abbrev pub is_inside : ℕ → Resource → Bool
 is_inside outer r = is_held_by outer r.holder && not r.is_virtual
 

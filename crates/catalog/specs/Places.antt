@@ -5,6 +5,7 @@ use Rattle.pp_value.specs.Values.{same_ref}
 use Rattle.catalog_semantics.specs.declared.catalog.Resource.{Resource}
 use Rattle.catalog_semantics.specs.States.{references_of, size_of_resources, declared_limit, attributes_limit}
 
+-- the place of a reference
 abbrev pub place_among : Ref → List (Ref × ℕ) → Option ℕ
 place_among ref [] = None
 place_among ref (p ∷ places) = if same_ref p.0 ref then Some p.1 else place_among ref places

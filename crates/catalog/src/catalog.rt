@@ -14,7 +14,7 @@ use rh_base::{Fault, NoMemory, Seq};
 use std::alloc::Global;
 use std::marker::Model;
 
-/// Resources, which class each container holds, and what comes before what.
+/// Resources, which classes each container holds, and what comes before what.
 #[derive(Drop)]
 pub struct Catalog {
     listed: Listed,

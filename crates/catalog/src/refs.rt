@@ -1,4 +1,4 @@
-//! References by their places, found by hash.
+//! References with their places, found by hash.
 
 ghost use Rattle.std.specs.Prelude.{◌≡◌, [], ◌∷◌, ◌++◌, None, OnOk, OnErr};
 ghost use Rattle.catalog.specs.Places.{place_among};

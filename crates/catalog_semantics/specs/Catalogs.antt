@@ -57,6 +57,7 @@ filled_behind done (r ∷ resources) s = do
 
 -- ---- the main code
 
+-- one thing at the top; definitions do nothing where they stand
 abbrev pub item_effect : Site → Item → Effect
 item_effect site (item.Class at name params parent body) s = Ok s
 item_effect site (item.Define at name params body) s = Ok s
@@ -64,6 +65,7 @@ item_effect site (item.Node at names body) s = Ok s
 item_effect site (item.Defaults at kind attrs) s = default_given site at kind attrs s
 item_effect site (item.Plain stmt) s = effect_of site stmt s
 
+-- the node's block, in the node's scope, which stays open
 abbrev pub node_effect : Site → Option Node → Effect
 node_effect site None s = Ok s
 node_effect site (Some node) s = in_turn (map (effect_of site) node.body) (record s { scopes = entered s.scopes node_scope_new })
@@ -72,6 +74,7 @@ node_effect site (Some node) s = in_turn (map (effect_of site) node.body) (recor
 abbrev pub main_ended : Effect
 main_ended s = filled_behind [] s.resources (record s { main_has_ended = true })
 
+-- nothing is declared, and the facts stand at the top
 abbrev pub first_state : Value → State
 first_state facts =
     record {
@@ -103,6 +106,7 @@ is_called_for s r = list_any (λ c. matches c r) s.collectors || list_any (λ p.
 abbrev pub made_real : State → Resource → Resource
 made_real s r = if is_called_for s r then record r { is_virtual = false } else r
 
+-- All that is called for is made real.
 abbrev pub realized : State → State
 realized s = record s { resources = map (made_real s) s.resources }
 
@@ -123,6 +127,7 @@ abbrev pub next_due : State → ℕ → List Resource → Option (ℕ × Resourc
 next_due s n [] = None
 next_due s n (r ∷ resources) = if is_due s n r then Some (n, r) else next_due s (n + 1) resources
 
+-- the body of the resource at a place counts as run
 abbrev pub marked : ℕ → State → State
 marked place s = record s { ran = s.ran ++ place ∷ [] }
 
@@ -173,14 +178,17 @@ is_plain_sort sort.Plain = true
 is_plain_sort sort.Defined = false
 is_plain_sort sort.Class = false
 
+-- the real resources of built-in types
 abbrev pub real_plain : List Resource → List Resource
 real_plain resources = filter (λ r. is_plain_sort r.sort && not r.is_virtual) resources
 
+-- no more of them than there may be
 abbrev pub few_enough : State → Result State Refusal
 few_enough s = if nat_lt resource_limit (length (real_plain s.resources)) then Err (refusal 32 0 (codes "resources")) else Ok s
 
 -- ---- the catalog
 
+-- resources, the classes that containers hold, and what comes before what
 pub record Catalog : Type 0 where
   pub resources : List Resource
   pub holdings : List Holding
@@ -198,6 +206,7 @@ refs_of s (side.Matched k) = matched s.resources (slice_get s.collectors k)
 abbrev pub relation_of : State → Tie → Relation
 relation_of s t = record { from = refs_of s t.from; to = refs_of s t.to; at = t.at }
 
+-- the catalog of a state
 abbrev pub catalog_in : State → Catalog
 catalog_in s = record { resources = s.resources; holdings = s.holdings; relations = map (relation_of s) s.ties }
 
@@ -209,6 +218,7 @@ catalog_from site items facts = do
   u ← few_enough t
   Ok (catalog_in u)
 
+-- the catalog of a manifest for a node, under facts and class data
 abbrev pub catalog_of : Manifest → Value → List ℕ → List Level → Result Catalog Refusal
 catalog_of m facts node_name data_levels = do
   site ← site_of m data_levels (pairs_in facts) node_name

@@ -75,6 +75,7 @@ meets_by r (open_wish.And all) = list_all (λ b. b) all
 meets_by r (open_wish.Equal name x) = has_value name x r
 meets_by r (open_wish.Differ name x) = not (has_value name x r)
 
+-- a resource meets a search
 unfoldable pub meets : Resource → Wish → Bool
 meets r w = fold-Wish Bool (meets_by r) w
 
@@ -94,6 +95,7 @@ maybe_wish s (Some x) = do
   w ← wish_in s x
   Ok (Some w)
 
+-- a collector of a known type, with the values of its search
 abbrev pub collector_of : Site → ℕ → List ℕ → Option Search → State → Result Collector Refusal
 collector_of site at kind x s = do
   known ← named_type site at (plain_name kind)

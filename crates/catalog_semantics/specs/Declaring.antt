@@ -35,7 +35,7 @@ one_more_body at (Some run) = Ok run
 
 -- ---- parameters
 
--- the default, or none
+-- the default; a parameter without one is refused
 abbrev pub preset_of : Resource → Parameter → Option Expr → State → Verdict
 preset_of r p None s = Err (refusal 25 r.at p.name)
 preset_of r p (Some e) s = value_of s.scopes e
@@ -54,6 +54,7 @@ abbrev pub is_of_kind : Option TypeName → Value → Bool
 is_of_kind None x = true
 is_of_kind (Some kind) x = is_fit kind x
 
+-- a value of the parameter's type
 abbrev pub fitting : ℕ → Parameter → Value → Verdict
 fitting at p x = if is_of_kind p.kind x then Ok x else Err (refusal 27 at p.name)
 
@@ -79,6 +80,7 @@ all_known at parameters [] s = Ok s
 all_known at parameters (p ∷ attributes) s =
     if is_known parameters p.0 then all_known at parameters attributes s else Err (refusal 26 at p.0)
 
+-- a name is bound to the title
 abbrev pub title_bound : Resource → List ℕ → Effect
 title_bound r name = bound r.at name (v.Str r.id.title)
 
@@ -119,6 +121,7 @@ abbrev pub if_class : ℕ → List ℕ → Option Definition → Result Definiti
 if_class at name None = Err (refusal 22 at name)
 if_class at name (Some d) = Ok d
 
+-- a class that the manifest defines
 abbrev pub class_named : Site → ℕ → List ℕ → Result Definition Refusal
 class_named site at name = if_class at name (definition_of name site.classes)
 
@@ -130,7 +133,7 @@ class_runs bodies d r s = do
   t ← added r s
   body_runs run d (length s.resources) r (class_scope t.scopes.0 d.name d.parent) t
 
--- no circle of parents
+-- a class whose chain of parents meets no class twice
 abbrev pub no_circle : Site → Definition → Result Definition Refusal
 no_circle site d = if inherits_itself site.classes d then Err (refusal 34 d.at d.name) else Ok d
 
@@ -148,6 +151,7 @@ line_down_to (suc n) site s d = do
   parents ← parents_by (line_down_to n site s) site s d.at d.parent
   Ok (parents ++ d ∷ [])
 
+-- the parents of a class that aren't declared yet, the topmost first
 abbrev pub parents_of : Site → State → Definition → Result (List Definition) Refusal
 parents_of site s d = parents_by (line_down_to (length site.classes) site s) site s d.at d.parent
 
@@ -189,6 +193,7 @@ body_declared declare refer b s = do
   t ← in_turn (map (declare b.title.at attributes) titles) s
   Ok (map refer titles, t)
 
+-- bodies one after the other, with the references of them all
 abbrev pub bodies_declared : (ℕ → List Pair → List ℕ → Effect) → (List ℕ → Ref) → List Body → State → Result (List Ref × State) Refusal
 bodies_declared declare refer [] s = Ok ([], s)
 bodies_declared declare refer (b ∷ bodies) s = do
@@ -204,11 +209,13 @@ known_type site at kind = if is_type site kind then Ok kind else Err (refusal 23
 abbrev pub named_type : Site → ℕ → List ℕ → Result (List ℕ) Refusal
 named_type site at kind = if bytes_eq kind (codes "class") then Err (refusal 23 at kind) else known_type site at kind
 
+-- the resources of some bodies, with their references
 abbrev pub resources_declared : Site → ℕ → Bool → List ℕ → List Body → State → Result (List Ref × State) Refusal
 resources_declared site at is_virtual kind bodies s = do
   known ← known_type site at (plain_name kind)
   bodies_declared (λ here. resource_declared here is_virtual known) (λ title. record { kind = known; title = title }) bodies s
 
+-- the classes of some bodies, with their references
 abbrev pub classes_declared : Site → Bodies → List Body → State → Result (List Ref × State) Refusal
 classes_declared site bodies declared s =
     bodies_declared (λ here attributes title. class_declared site bodies here attributes (plain_name title))

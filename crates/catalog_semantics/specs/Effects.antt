@@ -34,6 +34,7 @@ use Rattle.catalog_semantics.specs.Collecting.{collector_of}
 
 -- ---- assignments
 
+-- a variable is bound to the value of an expression
 abbrev pub assigned : ℕ → List ℕ → Expr → Effect
 assigned at name e s = do
   x ← value_of s.scopes e
@@ -41,6 +42,7 @@ assigned at name e s = do
 
 -- ---- conditions
 
+-- the truth of a test
 abbrev pub test_of : Scoped → Expr → Result Bool Refusal
 test_of s e = do
   x ← value_of s e
@@ -53,6 +55,7 @@ first_true (arm ∷ arms) other s = do
   b ← test_of s.scopes arm.0
   if b then arm.1 s else first_true arms other s
 
+-- the body where the test is false, and else the other block
 abbrev pub unless_true : Expr → Effect → Effect → Effect
 unless_true e body other s = do
   b ← test_of s.scopes e
@@ -62,12 +65,14 @@ unless_true e body other s = do
 abbrev pub is_option : Scoped → ℕ → Value → Option Expr → Result Bool Refusal
 is_option s at x option = is_equal (blame.Case at) x (option_map (evaluated s) option)
 
+-- the block of the first option that is equal
 abbrev pub first_option : Scoped → ℕ → Value → List (Option Expr × Effect) → Result (Option Effect) Refusal
 first_option s at x [] = Ok None
 first_option s at x (c ∷ choices) = do
   b ← is_option s at x c.0
   if b then Ok (Some c.1) else first_option s at x choices
 
+-- the block of `default`
 abbrev pub default_block : List (Option Expr × Effect) → Option Effect
 default_block [] = None
 default_block ((None, block) ∷ choices) = Some block
@@ -83,6 +88,7 @@ chosen_block None None s = Ok s
 abbrev pub options_of : List (Option Expr) × Effect → List (Option Expr × Effect)
 options_of arm = map (λ option. (option, arm.1)) arm.0
 
+-- the block that a `case` chooses
 abbrev pub selected_block : Expr → List (Option Expr × Effect) → Effect
 selected_block e choices s = do
   x ← value_of s.scopes e
@@ -141,6 +147,7 @@ ties_of at (left ∷ []) arrows = []
 ties_of at (left ∷ right ∷ sides) [] = []
 ties_of at (left ∷ right ∷ sides) (a ∷ arrows) = tie_of at left a right ∷ ties_of at (right ∷ sides) arrows
 
+-- the operands of a chain, and the ties between them
 abbrev pub chained : Site → Bodies → ℕ → List Operand → List Arrow → Effect
 chained site bodies at operands arrows s = do
   x ← sides_of site bodies operands s
@@ -148,6 +155,7 @@ chained site bodies at operands arrows s = do
 
 -- ---- functions
 
+-- a function with its arguments
 abbrev pub called : Site → Bodies → ℕ → Func → List Expr → Effect
 called site bodies at func args s = do
   xs ← arguments s.scopes args
@@ -168,6 +176,7 @@ arm_by arm = (arm.test, in_turn arm.body)
 abbrev pub case_arm_by : CaseArm-F Effect Arms CaseArms → CaseArms
 case_arm_by arm = (arm.options, in_turn arm.body)
 
+-- each form of a statement
 abbrev pub effect_by : Site → Bodies → Stmt-F Effect Arms CaseArms → Effect
 effect_by site bodies (stmt.Chain at operands arrows) = chained site bodies at operands arrows
 effect_by site bodies (stmt.Assign at name value) = assigned at name value
@@ -206,5 +215,6 @@ bodies_at (suc n) site = Some (effect_at n site)
 abbrev pub body_limit : ℕ
 body_limit = 64
 
+-- what a statement does
 unfoldable pub effect_of : Site → Stmt → Effect
 effect_of site s = effect_at body_limit site s

@@ -51,6 +51,7 @@ AgreeOnItem find other (item.Node at names body) = Unit {0}
 AgreeOnItem find other (item.Defaults at kind attrs) = Unit {0}
 AgreeOnItem find other (item.Plain s) = Unit {0}
 
+-- so for all of them
 abbrev pub AgreeOn : (List ℕ → Option Value) → (List ℕ → Option Value) → List Item → Type 0
 AgreeOn find other items = AllByRecursion (AgreeOnItem find other) items
 

@@ -85,6 +85,7 @@ each_class f x s = do
 
 -- ---- the others
 
+-- the references of an argument are to be realized
 abbrev pub realizes : ℕ → Argument → Effect
 realizes at x s = do
   refs ← if_there x.0 (references_in x.1)
@@ -109,6 +110,7 @@ spaced [] = []
 spaced (text ∷ []) = text
 spaced (text ∷ other ∷ texts) = text ++ (codes " " ++ spaced (other ∷ texts))
 
+-- `fail` refuses, with the text of its arguments
 abbrev pub fails : ℕ → List Argument → Effect
 fails at xs s = do
   texts ← shown_arguments xs

@@ -52,6 +52,7 @@ no_definitions node_name = record { classes = []; defined_types = []; nodes = []
 
 -- ---- looking up
 
+-- the definition of a name
 abbrev pub definition_of : List ℕ → List Definition → Option Definition
 definition_of name [] = None
 definition_of name (d ∷ definitions) = if bytes_eq d.name name then Some d else definition_of name definitions
@@ -59,6 +60,7 @@ definition_of name (d ∷ definitions) = if bytes_eq d.name name then Some d els
 abbrev pub is_defined : List ℕ → List Definition → Bool
 is_defined name definitions = not (is_none (definition_of name definitions))
 
+-- the types that no manifest defines
 abbrev pub built_in_types : List (List ℕ)
 built_in_types =
     codes "exec" ∷ codes "file" ∷ codes "package" ∷ codes "user" ∷ codes "group" ∷ codes "service" ∷ codes "cron" ∷ codes
@@ -87,6 +89,7 @@ is_same_node (Some a) (Some b) = same_text a b
 abbrev pub stands_for : Option (List ℕ) → Node → Bool
 stands_for name node = list_any (is_same_node name) node.names
 
+-- the first block that stands for a name
 abbrev pub node_of : Option (List ℕ) → List Node → Option Node
 node_of name [] = None
 node_of name (n ∷ nodes) = if stands_for name n then Some n else node_of name nodes
@@ -156,6 +159,7 @@ gathered_one find (item.Node at names body) site = do
 gathered_one find (item.Defaults at kind attrs) site = Ok site
 gathered_one find (item.Plain s) site = Ok site
 
+-- items one after the other
 abbrev pub gathered : (List ℕ → Option Value) → List Item → Site → Result Site Refusal
 gathered find [] site = Ok site
 gathered find (x ∷ items) site = do
@@ -176,6 +180,7 @@ defines find items node_name = do
   site ← gathered find items (no_definitions node_name)
   with_its_node site
 
+-- what a manifest defines, for a node, under class data and facts
 abbrev pub site_of : Manifest → List Level → List Pair → List ℕ → Result Site Refusal
 site_of manifest data_levels facts node_name = defines (lookup data_levels facts) manifest.items node_name
 

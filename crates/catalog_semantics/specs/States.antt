@@ -51,6 +51,7 @@ references_of resources = map (λ r. r.id) resources
 abbrev pub stands_in : Ref → List Ref → Bool
 stands_in ref refs = list_any (λ q. same_ref q ref) refs
 
+-- a resource or class of this reference is declared
 abbrev pub is_declared : Ref → State → Bool
 is_declared ref s = stands_in ref (references_of s.resources)
 
@@ -59,6 +60,7 @@ abbrev pub place_from : ℕ → Ref → List Ref → Option ℕ
 place_from n ref [] = None
 place_from n ref (q ∷ refs) = if same_ref q ref then Some n else place_from (n + 1) ref refs
 
+-- where a reference stands among resources
 abbrev pub place_of : Ref → List Resource → Option ℕ
 place_of ref resources = place_from 0 ref (references_of resources)
 
@@ -94,6 +96,7 @@ defaults_of kind [] = []
 defaults_of kind (d ∷ defaults) =
     if bytes_eq d.kind kind then d.attributes ++ defaults_of kind defaults else defaults_of kind defaults
 
+-- no attribute has the pair's name
 abbrev pub lacks : List Pair → Pair → Bool
 lacks attributes p = is_none (value_at p.0 attributes)
 
@@ -126,6 +129,7 @@ has_room r s = if nat_lt (length s.resources) declared_limit then Ok s else Err 
 abbrev pub has_size : ℕ → State → Result State Refusal
 has_size at s = if nat_lt attributes_limit (size_of_resources s.resources) then Err (refusal 32 at (codes "attributes")) else Ok s
 
+-- one more resource, of a new reference, where there is room for it and for its attributes
 abbrev pub added : Resource → Effect
 added r s = do
   _ ← is_new r s
@@ -134,14 +138,18 @@ added r s = do
 
 -- ---- what is left for the rounds
 
+-- a container holds a class
 abbrev pub held : ℕ → ℕ → State → State
 held outer class s = record s { holdings = s.holdings ++ record { outer = outer; class = class } ∷ [] }
 
+-- more ties
 abbrev pub tied : List Tie → State → State
 tied ties s = record s { ties = s.ties ++ ties }
 
+-- one more collector
 abbrev pub collected : Collector → State → State
 collected c s = record s { collectors = s.collectors ++ c ∷ [] }
 
+-- more references that are to be realized
 abbrev pub wanted : List Pending → State → State
 wanted more s = record s { pending = s.pending ++ more }

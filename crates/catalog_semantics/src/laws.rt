@@ -63,7 +63,8 @@ pub fn references_stand_once()
         → catalog_of m facts node_name data_levels ≡ Ok c → StandOnce (references_of c.resources) }
 {}
 
-/// Where a class's body has run, the class wasn't declared before, and is from then on.
+/// A class's body runs only where the class isn't declared yet. What is declared stays so, and to include a class that is
+/// declared does nothing.
 pub fn bodies_run_once()
     ensures before { (bodies : Bodies) (d : Definition) (at : ℕ) (attributes : List Pair) (s t : State)
         → class_runs bodies d (class_resource at d.name attributes) s ≡ Ok t → is_declared (class_ref d.name) s ≡ false }
@@ -80,7 +81,8 @@ pub fn equal_look_ups_give_one_catalog()
         → catalog_of m facts node_name data_levels ≡ catalog_of m facts node_name others }
 {}
 
-/// The rounds end: more of them than may be declared, and one more, change nothing. Then what is called for is real, and nothing is due.
+/// The rounds end: as many as resources may be declared, and one more, are enough, and further ones change nothing. Then what
+/// is called for is real, and nothing is due.
 pub fn rounds_end()
     ensures settled { (site : Site) (items : List Item) (facts : Value) (t : State) → state_after round_limit site items facts ≡ Ok t
         → IsSettled t }

@@ -7,9 +7,11 @@ use Rattle.catalog_semantics.specs.declared.catalog.Resource.{Resource}
 use Rattle.catalog_semantics.specs.Catalogs.{Catalog, is_plain_sort, real_plain}
 use Rattle.catalog_text.specs.Json.{json}
 
+-- an attribute, indented
 abbrev pub attribute_line : Pair → List ℕ
 attribute_line p = codes "  " ++ (p.0 ++ (codes " => " ++ (json p.1 ++ codes "\n")))
 
+-- the reference, and the attributes below it
 abbrev pub resource_lines : Resource → List ℕ
 resource_lines r = shown_ref r.id ++ (codes "\n" ++ flat_map attribute_line r.attrs)
 
@@ -19,5 +21,6 @@ is_printed r = is_plain_sort r.sort && not r.is_virtual
 abbrev pub if_printed : Resource → List ℕ
 if_printed r = if is_printed r then resource_lines r else []
 
+-- the text of a catalog
 abbrev pub catalog_text : Catalog → List ℕ
 catalog_text c = flat_map resource_lines (real_plain c.resources)

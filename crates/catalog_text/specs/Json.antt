@@ -1,4 +1,4 @@
--- Values as compact JSON, as RFC 8259 has it: the members of an object stand in the byte order of their keys.
+-- Values as compact JSON (RFC 8259); the members of an object stand in the byte order of their keys.
 use Rattle.std.specs.Prelude.{◌≡◌, ℕ, List, [], ◌∷◌, map, refl}
 use Rattle.std.proofs.Common.{ap}
 use Rattle.serde_json.specs.Data.{Data, null, boolean, number, string, array, object, Items, no_items, item, Members, no_members, put}

@@ -4,6 +4,7 @@ use Rattle.std.proofs.Common.{arith}
 use Rattle.cnf.specs.declared.lit.Lit.{Lit}
 use Rattle.cnf.specs.Literals.{lit_place}
 
+-- a place tells the variable and the sign
 same_places : (x y : ℕ) (a b : Bool) → 2 * x + (if a then 0 else 1) ≡ 2 * y + (if b then 0 else 1) → (x ≡ y) × (a ≡ b)
 same_places x y true true h = (omega arith, refl)
 same_places x y true false h = absurd (omega arith)

@@ -6,6 +6,7 @@ use Rattle.cnf.specs.declared.log.Link.{Link}
 use Rattle.cnf.specs.declared.log.Step.{Step}
 use Rattle.cnf.specs.Formulas.{Formula}
 
+-- a word, as bytes
 abbrev pub Word : Type 0
 Word = List ℕ
 

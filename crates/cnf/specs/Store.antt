@@ -26,6 +26,7 @@ Rise start (end ∷ ends) last = (start ≤ end) × Rise end ends last
 abbrev pub formula_of : ℕ → List ℕ → List ℕ → Formula
 formula_of vars words ends = record { vars = vars; clauses = clauses_from 0 words ends }
 
+-- Words and ends that keep a formula of at most 2^31 variables.
 pub record IsStored (vars : ℕ) (words ends : List ℕ) : Type 0 where
   pub small : vars ≤ 2 ^ 31
   pub rise : Rise 0 ends (length words)

@@ -39,6 +39,7 @@ impl Clause {
         Ok(Clause { lits })
     }
 
+    /// The literals in order, each once.
     pub fn lits(&self) -> &[Lit]
         ensures lits { result.now ≡ self.now }
         ensures ordered { IsClause self.now }

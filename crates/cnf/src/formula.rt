@@ -14,7 +14,7 @@ use std::marker::Model;
 /// The greatest number of variables that a formula can have.
 const MOST_VARIABLES: u64 = 1 << 31;
 
-/// A list of clauses over the variables from 1 on. All literals stand in one array of words, of which there are less than 2^32.
+/// A list of clauses over the variables from 1 on. All literals stand in one array of words, of which there are fewer than 2^32.
 #[derive(Debug, Drop)]
 pub struct Cnf {
     vars: u64,
@@ -104,7 +104,7 @@ impl Cnf {
     ghost use Rattle.cnf.specs.Formulas.{Formula, IsFormula, clause_at};
     ghost use Rattle.cnf.specs.Clauses.{clause_of};
 
-    /// No clauses over this many variables. More than 2^31 variables have no memory.
+    /// No clauses over this many variables. For more than 2^31 the answer is that memory was refused.
     pub fn new(alloc: Global, vars: u64) -> Result<Cnf, NoMemory>
         ensures { IfOk result (λ f. f ≡ record { vars = vars; clauses = [] }) }
     {

@@ -1,5 +1,5 @@
-//! Clauses, formulas and proofs by resolution, and the formula that a circuit's goal can be true. A solver keeps literals as
-//! the words that formulas do: it shares `specs/Store`, and the laws about them in `proofs/StoreLaws`.
+//! Clauses, formulas and proofs by resolution, and the formula that a circuit's goal can be true. The solver keeps literals as
+//! the same words: it cites `specs/Store`, and the laws about words in `proofs/StoreLaws`.
 #![tactic(auto)]
 
 mod clause;

@@ -22,6 +22,7 @@ option_rule name = record (new_rule name) { long = Some name }
 abbrev pub program : App
 program = on_top (λ s. record s { no_binary_name = true }) (new_app (codes "rehearsal"))
 
+-- the command with one option more
 abbrev pub with_option : App → Text → App
 with_option app name = with_rule app (option_rule name)
 
@@ -29,14 +30,17 @@ with_option app name = with_rule app (option_rule name)
 abbrev pub inputs : App
 inputs = with_option (with_option (with_option (with_option program (codes "facts")) (codes "packages")) (codes "node")) (codes "conflicts")
 
+-- with those that say what is asked
 abbrev pub asked : App
 asked = with_option (with_option (with_option (with_option (with_option inputs (codes "ask")) (codes "tree")) (codes "order")) (codes "workload")) (codes "data")
 
+-- and with the input
 abbrev pub synopsis : App
 synopsis = with_rule asked (new_rule (codes "INPUT"))
 
 -- ---- what may stand beside what is asked
 
+-- no option at all
 abbrev pub alone : Takes
 alone =
     record {

@@ -3,6 +3,7 @@ use Rattle.std.specs.Prelude.{◌≡◌, ◌↔◌, ℕ, ◌<◌, Bool, false, I
 use Rattle.fs_semantics.specs.Programs.{Program, Id}
 use Rattle.effect_sets.specs.Footprints.{footprint, IsClearOf}
 
+-- the cell in row i and column j
 abbrev pub cell : List (List Bool) → ℕ → ℕ → Bool
 cell rows i j = slice_index_or (slice_index_or rows i []) j false
 

@@ -5,6 +5,7 @@ use Rattle.std.specs.BTreeMap.{BTreeMap, get, btree_map_len}
 use Rattle.fs_semantics.specs.FileTree.{Path, path_cmp}
 use Rattle.effect_sets.specs.Footprints.{Paths}
 
+-- the number of a path, if it has one
 abbrev pub number_in : BTreeMap Path ℕ → Path → Option ℕ
 number_in m p = get path_cmp m p
 
@@ -17,6 +18,7 @@ pub record IsNumbering (m : BTreeMap Path ℕ) : Type 0 where
 abbrev pub Extends : BTreeMap Path ℕ → BTreeMap Path ℕ → Type 0
 Extends m more = (p : Path) (n : ℕ) → number_in m p ≡ Some n → number_in more p ≡ Some n
 
+-- the number stands in the list
 abbrev pub has : ℕ → List ℕ → Bool
 has n ns = list_any (λ k. n == k) ns
 

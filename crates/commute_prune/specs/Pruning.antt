@@ -1,4 +1,4 @@
--- Setting aside programs of which the order doesn't matter.
+-- Setting aside programs whose order doesn't matter.
 use Rattle.std.specs.Prelude.{◌≡◌, ◌≢◌, ◌==◌, ℕ, ◌<◌, ◌≤◌, List, [], ◌∷◌, ◌++◌, map, slice_index_or, length, if◌then◌else◌}
 use Rattle.std.specs.List.{AllByRecursion}
 use Rattle.fs_semantics.specs.Programs.{Program, Id}
@@ -15,6 +15,7 @@ pub record IsOrderOf (before : ℕ → ℕ → Type 0) (ks o : List ℕ) : Type 
   pub same : (k : ℕ) → times k o ≡ times k ks
   pub kept : NoneAhead before o
 
+-- the programs with these two numbers are apart
 abbrev pub ApartAt : List Program → ℕ → ℕ → Type 0
 ApartAt es j k = AreApart (footprint (slice_index_or es j Id)) (footprint (slice_index_or es k Id))
 
@@ -30,6 +31,7 @@ pub record MayBeFirst (es : List Program) (before : ℕ → ℕ → Type 0) (ks 
   pub none_before : (j : ℕ) → 0 < times j ks → before j k → ⊥
   pub apart : (j : ℕ) → 0 < times j ks → j ≢ k → (before k j → ⊥) → ApartAt es k j
 
+-- the program with this number goes first, or last
 pub data Move : Type 0 where
   ToFirst : ℕ → Move
   ToLast : ℕ → Move
@@ -40,10 +42,12 @@ Leads es before [] ks kept = kept ≡ ks
 Leads es before (ToFirst k ∷ moves) ks kept = MayBeFirst es before ks k × Leads es before moves (without k ks) kept
 Leads es before (ToLast k ∷ moves) ks kept = MayBeLast es before ks k × Leads es before moves (without k ks) kept
 
+-- P holds of k and of no lesser number
 pub record IsLeast (P : ℕ → Type 0) (k : ℕ) : Type 0 where
   pub holds : P k
   pub least : (j : ℕ) → j < k → P j → ⊥
 
+-- P holds of no number
 abbrev pub Never : (ℕ → Type 0) → Type 0
 Never P = (k : ℕ) → P k → ⊥
 

@@ -5,6 +5,7 @@ use Rattle.orders.specs.Relation.{Relation, comes}
 use Rattle.commute_prune.specs.Matrix.{cell}
 use Rattle.commute_prune.specs.Pruning.{Move, ToFirst, ToLast}
 
+-- neither program changes what the other one looks at
 abbrev pub are_apart : List (List Bool) → ℕ → ℕ → Bool
 are_apart rows i j = cell rows i j && cell rows j i
 
@@ -16,9 +17,11 @@ lets_last order rows k j = not (comes order k j) && ((j == k) || comes order j k
 abbrev pub lets_first : Relation → List (List Bool) → ℕ → ℕ → Bool
 lets_first order rows k j = not (comes order j k) && ((j == k) || comes order k j || are_apart rows k j)
 
+-- each of the kept ones lets k go last
 abbrev pub may_last : Relation → List (List Bool) → List ℕ → ℕ → Bool
 may_last order rows kept k = list_all (lets_last order rows k) kept
 
+-- each of the kept ones lets k go first
 abbrev pub may_first : Relation → List (List Bool) → List ℕ → ℕ → Bool
 may_first order rows kept k = list_all (lets_first order rows k) kept
 
@@ -28,5 +31,6 @@ or_first (Some k) other = Some (ToLast k)
 or_first None (Some k) = Some (ToFirst k)
 or_first None None = None
 
+-- the next move, if some of the kept ones may go first or last
 abbrev pub next_move : Relation → List (List Bool) → List ℕ → Option Move
 next_move order rows kept = or_first (find (may_last order rows kept) kept) (find (may_first order rows kept) kept)

@@ -1,4 +1,4 @@
-//! Setting aside programs of which the order doesn't matter.
+//! Setting aside programs whose order doesn't matter.
 #![tactic(auto)]
 
 mod laws;

@@ -81,7 +81,7 @@ fn settle(
     Ok(())
 }
 
-/// Sets aside programs of which the order doesn't matter: the least that may go last, as long as there is one, else the
+/// Sets aside programs whose order doesn't matter: the least that may go last, as long as there is one, else the
 /// least that may go first.
 pub fn prune(alloc: Global, programs: &[Program], order: &Order) -> Result<Pruned, NoMemory>
     requires { length programs.now ≡ order.now.count }

@@ -25,6 +25,7 @@ abbrev pub PathIs : List ℕ → Option Path → Type 0
 PathIs text None = (p : Path) → IsPathText text p → (IsReserved p → ⊥) → ⊥
 PathIs text (Some p) = IsPathText text p × (IsReserved p → ⊥)
 
+-- the path of a resource that is a file, if it is one
 abbrev pub FilePathIs : Resource → Option Path → Type 0
 FilePathIs r None = (p : Path) → FilePath r p → ⊥
 FilePathIs r (Some p) = FilePath r p
@@ -42,6 +43,7 @@ AreFiles c places files = (f : ManagedFile) → Contains files f ↔ IsFileAmong
 
 -- ---- the nearest file above
 
+-- p is above q
 abbrev pub is_above : Path → Path → Bool
 is_above p q = nat_lt (length p) (length q) && is_front p q
 
@@ -50,6 +52,7 @@ abbrev pub nearest : List ManagedFile → Path → ℕ
 nearest [] p = 0
 nearest (f ∷ files) p = if is_above f.path p then max (length f.path) (nearest files p) else nearest files p
 
+-- q is above p and has n segments or more
 abbrev pub is_nearest : ℕ → Path → Path → Bool
 is_nearest n p q = is_above q p && nat_le n (length q)
 
@@ -58,9 +61,11 @@ abbrev pub places_above : ℕ → Path → List ManagedFile → List ℕ
 places_above n p [] = []
 places_above n p (f ∷ files) = if is_nearest n p f.path then f.place ∷ places_above n p files else places_above n p files
 
+-- the places of the nearest files above a path
 abbrev pub nearest_places : List ManagedFile → Path → List ℕ
 nearest_places files p = places_above (nearest files p) p files
 
+-- the edges from the nearest of files above each of fs
 abbrev pub edges_from : List Link → List ManagedFile → List ManagedFile → List (ℕ × ℕ)
 edges_from links files fs = flat_map (λ f. kept_edges links f.place (nearest_places files f.path)) fs
 

@@ -18,10 +18,12 @@ abbrev pub side_number : Side → Catalog → ℕ → ℕ
 side_number side.From c place = rank (last_at c place)
 side_number side.To c place = 2 * place
 
+-- the node of the place that was found, or the refusal of a reference to nothing
 abbrev pub numbered : Side → Catalog → ℕ → Ref → Option ℕ → Result ℕ Refusal
 numbered s c at ref None = Err (refusal 40 at (shown_ref ref))
 numbered s c at ref (Some place) = Ok (side_number s c place)
 
+-- the node of what a reference names
 abbrev pub node_of : Side → Catalog → ℕ → Ref → Result ℕ Refusal
 node_of s c at ref = numbered s c at ref (target_of c ref)
 
@@ -30,12 +32,14 @@ abbrev pub with_nodes : Side → Catalog → ℕ → List Ref → List ℕ → R
 with_nodes s c at [] nodes = Ok nodes
 with_nodes s c at (ref ∷ refs) nodes = node_of s c at ref >>= λ n. with_nodes s c at refs (nodes ++ n ∷ [])
 
+-- these links, and behind them the one of a relation
 abbrev pub with_link : Catalog → Relation → List Link → Result (List Link) Refusal
 with_link c q links = do
   from ← with_nodes side.From c q.at q.from []
   to ← with_nodes side.To c q.at q.to []
   Ok (links ++ record { from = from; to = to } ∷ [])
 
+-- these links, and behind them those of relations
 abbrev pub with_links : Catalog → List Relation → List Link → Result (List Link) Refusal
 with_links c [] links = Ok links
 with_links c (q ∷ relations) links = with_link c q links >>= λ more. with_links c relations more

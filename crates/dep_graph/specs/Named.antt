@@ -9,6 +9,7 @@ use Rattle.pp_value.specs.declared.value.Value.{Value}
 use Rattle.graph_semantics.specs.Automatic.{name_of, named_by, text_in, somebodies}
 use Rattle.dep_graph.specs.declared.links.Link.{Link}
 
+-- the number stands in the list
 abbrev pub has : ℕ → List ℕ → Bool
 has n ns = list_any (λ k. k == n) ns
 
@@ -24,6 +25,7 @@ kept_edge links target place = if is_linked links (2 * place) (2 * target) then 
 abbrev pub is_proper : List ℕ → Bool
 is_proper name = not (length name == 0) && nat_le (length name) NAME_BYTES && not (list_any (λ b. b == 0) name)
 
+-- the text is there, and is this
 abbrev pub is_text : List ℕ → Option (List ℕ) → Bool
 is_text name None = false
 is_text name (Some text) = bytes_eq text name
@@ -41,9 +43,11 @@ member_text x = text_in (Some x)
 abbrev pub named_among : Catalog → List ℕ → List ℕ → List ℕ → List ℕ
 named_among c kind name plain = filter (λ place. has_name kind name (slice_get c.resources place)) plain
 
+-- the places of what has this type and name, if it may be a name
 abbrev pub named_targets : Catalog → List ℕ → List ℕ × List ℕ → List ℕ
 named_targets c plain who = if is_proper who.1 then named_among c who.0 who.1 plain else []
 
+-- the places of what the members of a list name
 abbrev pub targets_of_members : Catalog → List ℕ → List ℕ → List Value → List ℕ
 targets_of_members c plain kind items = flat_map (named_targets c plain) (somebodies kind (flat_map member_text items))
 
@@ -51,9 +55,11 @@ targets_of_members c plain kind items = flat_map (named_targets c plain) (somebo
 abbrev pub targets_by_names : Catalog → List ℕ → Resource → List ℕ
 targets_by_names c plain r = flat_map (named_targets c plain) (named_by r)
 
+-- the edges from targets to which no relation stands
 abbrev pub kept_edges : List Link → ℕ → List ℕ → List (ℕ × ℕ)
 kept_edges links place targets = flat_map (λ target. kept_edge links target place) targets
 
+-- the edges from what the resource at a place names
 abbrev pub edges_by_names : Catalog → List Link → List ℕ → ℕ → Option Resource → List (ℕ × ℕ)
 edges_by_names c links plain place None = []
 edges_by_names c links plain place (Some r) = kept_edges links place (targets_by_names c plain r)

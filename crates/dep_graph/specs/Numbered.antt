@@ -12,9 +12,11 @@ use Rattle.dep_graph.specs.declared.joined.TheConstants.{FEW}
 
 -- ---- containers
 
+-- to a member and from it, if it is real
 abbrev pub member_edges : Catalog → ℕ → ℕ → List (ℕ × ℕ)
 member_edges c outer place = if is_real c place then (2 * outer, 2 * place) ∷ (rank (last_at c place), 2 * outer + 1) ∷ [] else []
 
+-- the edges of a resource, if it is a container
 abbrev pub edges_inside : Catalog → ℕ → Option Resource → List (ℕ × ℕ)
 edges_inside c place None = []
 edges_inside c place (Some r) =
@@ -43,9 +45,11 @@ through hub from to = map (λ a. (a, hub)) from ++ map (λ b. (hub, b)) to
 abbrev pub is_wide : Link → Bool
 is_wide l = nat_lt FEW (length l.from) && nat_lt FEW (length l.to)
 
+-- the edges of one relation
 abbrev pub link_edges : ℕ → Link → List (ℕ × ℕ)
 link_edges hub l = if is_wide l then through hub l.from l.to else crossing l.from l.to
 
+-- the first number that is free after it
 abbrev pub hub_after : ℕ → Link → ℕ
 hub_after hub l = if is_wide l then hub + 1 else hub
 

@@ -8,9 +8,11 @@ pub record IsWithin (count place : ℕ) : Type 0 where
   pub node : 2 * place < count
   pub few : place < declared_limit
 
+-- of two plain resources the one comes before the other
 abbrev pub comes_at : Relation → List ℕ → ℕ → ℕ → Bool
 comes_at whole plain i j = comes whole (2 * slice_index plain i) (2 * slice_index plain j)
 
+-- the pair, if the test holds
 abbrev pub pair_if : Bool → ℕ → ℕ → List (ℕ × ℕ)
 pair_if t i j = if t then (i, j) ∷ [] else []
 

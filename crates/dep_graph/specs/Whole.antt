@@ -14,11 +14,13 @@ use Rattle.dep_graph.specs.declared.files.ManagedFile.{ManagedFile}
 abbrev pub bound_of : Catalog → ℕ
 bound_of c = 2 * length c.resources
 
+-- all edges: of containers, of relations, and the automatic ones
 abbrev pub all_edges : Catalog → List Link → List ManagedFile → List (ℕ × ℕ)
 all_edges c links files =
     structure_edges c (length c.resources) ++ (edges_of_links (bound_of c) links
     ++ (named_edges c links (plain_places c) (plain_places c) ++ file_edges links files))
 
+-- how many numbers all nodes take
 abbrev pub count_of : Catalog → List Link → ℕ
 count_of c links = hubs_after (bound_of c) links
 

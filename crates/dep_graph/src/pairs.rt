@@ -10,6 +10,7 @@ use orders::{Order, OrderFault};
 use rh_base::{NoMemory, Seq};
 use std::alloc::Global;
 
+/// Whether one node comes before another, by their numbers.
 pub fn comes(whole: &Order, a: u32, b: u32) -> bool
     requires a { a < whole.now.count }
     requires b { b < whole.now.count }

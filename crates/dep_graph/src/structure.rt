@@ -48,6 +48,7 @@ fn push_members(
     Ok(())
 }
 
+/// Whether a resource is of a built-in type.
 pub fn is_plain(r: &Resource) -> bool
     ensures { result ≡ is_plain_sort r.now.sort }
 {

@@ -44,6 +44,7 @@ pub fn real_at(catalog: &Catalog, place: u32) -> Option<&Resource>
     if r.is_virtual { None } else { Some(r) }
 }
 
+/// Whether something real stands at a place.
 pub fn is_real(catalog: &Catalog, place: u32) -> bool
     ensures { result ≡ is_real catalog.now place }
 {

@@ -50,6 +50,7 @@ pub record PrintsRefutation (f : Formula) (with_proof : Bool) (out : List ℕ) :
   pub accepted : IsAccepted f steps
   pub printed : out ≡ refutation_text f steps with_proof
 
+-- a model is printed, or a refutation
 abbrev pub IsAnswer : Formula → Bool → List ℕ → Type 0
 IsAnswer f with_proof out = PrintsModel f out ⊎ PrintsRefutation f with_proof out
 

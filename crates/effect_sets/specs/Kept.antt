@@ -4,6 +4,7 @@ use Rattle.fs_semantics.specs.FileTree.{Path}
 use Rattle.effect_sets.specs.declared.footprints.Footprint.TheInside.{Inside}
 use Rattle.effect_sets.specs.Members.{Lists, members, is_parent_of}
 
+-- the four sets as lists
 abbrev pub lists_in : Inside → Lists
 lists_in f = record { reads = f.found.reads.keys; writes = f.found.writes.keys; folders = f.found.folders.keys; children = f.found.children.keys }
 

@@ -38,24 +38,28 @@ impl Model for Footprint {
 impl Footprint {
     ghost use Rattle.std.specs.Prelude.{◌≡◌};
 
+    /// The paths that are looked at.
     pub fn reads(&self) -> &BTreeSet<Path>
         ensures { result.now.keys ≡ self.now.reads }
     {
         &self.found.reads
     }
 
+    /// The paths that are written.
     pub fn writes(&self) -> &BTreeSet<Path>
         ensures { result.now.keys ≡ self.now.writes }
     {
         &self.found.writes
     }
 
+    /// The paths that are made sure to be folders.
     pub fn folders(&self) -> &BTreeSet<Path>
         ensures { result.now.keys ≡ self.now.folders }
     {
         &self.found.folders
     }
 
+    /// The paths whose children matter.
     pub fn children(&self) -> &BTreeSet<Path>
         ensures { result.now.keys ≡ self.now.children }
     {

@@ -7,6 +7,7 @@ use Rattle.fs_semantics.specs.FileTree.{Segment, Path, IsBytes, IsSegment, is_ro
 use Rattle.fs_semantics.specs.Programs.{Program}
 use Rattle.finite_domain.specs.Mentions.{At, Below, Text, AnyMentions}
 
+-- the two texts are the same
 abbrev pub text_eq : List ℕ → List ℕ → Bool
 text_eq c d = is_eq (slice_cmp nat_cmp c d)
 
@@ -14,7 +15,7 @@ text_eq c d = is_eq (slice_cmp nat_cmp c d)
 abbrev pub is_text_among : List ℕ → List (List ℕ) → Bool
 is_text_among c cs = list_any (text_eq c) cs
 
--- one of the programs has the path
+-- one of the programs mentions the path
 abbrev pub SpeakOf : List Program → Path → Type 0
 SpeakOf es p = AnyMentions es (At p) ⊎ AnyMentions es (Below p)
 
@@ -30,6 +31,7 @@ pub record Domain : Type 0 where
   pub fresh : List Path
   pub contents : List (List ℕ)
 
+-- a named path or a fresh child
 abbrev pub is_path_of : Domain → Path → Bool
 is_path_of d p = is_among p d.named || is_among p d.fresh
 

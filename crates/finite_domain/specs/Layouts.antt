@@ -21,9 +21,11 @@ abbrev pub letters : ℕ → List ℕ
 letters zero = []
 letters (suc n) = 120 ∷ letters n
 
+-- what the fresh children may be called: `other` and n letters x
 abbrev pub other_segment : ℕ → Segment
 other_segment n = codes "other" ++ letters n
 
+-- what the fresh texts may begin with: `text` and n letters x
 abbrev pub stem : ℕ → List ℕ
 stem n = codes "text" ++ letters n
 
@@ -39,6 +41,7 @@ pub record IsFirstFailure (P : ℕ → Type 0) (n : ℕ) : Type 0 where
   pub fails : P n → ⊥
   pub holds : (k : ℕ) → k < n → P k
 
+-- q is the child with this segment of a path whose children matter
 abbrev pub IsFreshChild : List Program → Segment → Path → Type 0
 IsFreshChild es s q = (p : Path) × AnyMentions es (Below p) × (q ≡ p ++ s ∷ [])
 
@@ -53,9 +56,11 @@ pub record Layout : Type 0 where
   pub fresh : List ℕ
   pub contents : List (List ℕ)
 
+-- the fresh children, by their places
 abbrev pub fresh_paths : Layout → List Path
 fresh_paths l = map (λ i. slice_index_or l.paths i []) l.fresh
 
+-- the domain that is laid out so
 abbrev pub domain_of : Layout → Domain
 domain_of l = record { named = filter (λ p. not (is_among p (fresh_paths l))) l.paths; fresh = fresh_paths l; contents = l.contents }
 

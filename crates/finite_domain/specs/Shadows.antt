@@ -19,6 +19,7 @@ mapped_entry m Folder = Folder
 mapped_entry m (File content) = File (m content)
 mapped_entry m (Link target) = Link (m target)
 
+-- the same, where there is an entry
 abbrev pub mapped : (List ℕ → List ℕ) → Option Entry → Option Entry
 mapped m None = None
 mapped m (Some x) = Some (mapped_entry m x)

@@ -9,9 +9,11 @@ pub record Seen : Type 0 where
   pub parent : Option ℕ
   pub children : List ℕ
 
+-- what is seen of a node
 abbrev pub seen : Node → Seen
 seen n = record { path = n.path; parent = n.parent; children = n.children.items }
 
+-- what is seen of all nodes
 abbrev pub seen_all : List Node → List Seen
 seen_all nodes = map seen nodes
 

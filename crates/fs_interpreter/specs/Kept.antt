@@ -7,6 +7,7 @@ use Rattle.fs_interpreter.specs.Places.{Listed, IsTable, place_in, content_place
 use Rattle.fs_interpreter.specs.declared.table.Node.{Node}
 use Rattle.fs_interpreter.specs.declared.table.Table.TheInside.{Inside}
 
+-- the paths of the nodes
 abbrev pub paths_of : List Node → List Path
 paths_of nodes = map (λ n. n.path) nodes
 

@@ -15,10 +15,12 @@ pub record State : Type 0 where
   pub cell : ℕ → Cell
   pub error : Bool
 
+-- what the bit means, false where there is none
 abbrev pub truth : {Bit : Type 0} → (Bit → Bool) → Option Bit → Bool
 truth f None = false
 truth f (Some b) = f b
 
+-- what the code means, 0 where there is none
 abbrev pub number : {Code : Type 0} → (Code → ℕ) → Option Code → ℕ
 number f None = 0
 number f (Some c) = f c

@@ -5,10 +5,11 @@ use Rattle.fs_semantics.specs.Programs.{Test, True, False, Not, And, Or, IsFile,
 use Rattle.fs_interpreter.specs.Places.{Listed, place_in, children_in, number_in}
 use Rattle.fs_interpreter.specs.States.{Cell, State}
 
+-- what cells tell, by place
 abbrev pub Cellwise : Type 0
 Cellwise = ℕ → Cell
 
--- at a place, or at none for the root
+-- whether a file, a link, a folder or nothing is at a place; the root, which has no place, is a folder
 abbrev pub file_at : Option ℕ → Cellwise → Bool
 file_at None cell = false
 file_at (Some i) cell = (cell i).present && (not (cell i).folder && not (cell i).link)
@@ -30,6 +31,7 @@ abbrev pub any_present : List ℕ → Cellwise → Bool
 any_present [] cell = false
 any_present (i ∷ is) cell = (cell i).present || any_present is cell
 
+-- a folder without children is there
 abbrev pub empty_at : Option ℕ → List ℕ → Cellwise → Bool
 empty_at o children cell = dir_at o cell && not (any_present children cell)
 
@@ -50,6 +52,7 @@ told table (IsNone p) cell = none_at (place_in table.paths p) cell
 abbrev pub with_cell : ℕ → Cell → Cellwise → Cellwise
 with_cell i c cell j = if j == i then c else cell j
 
+-- the same, with Error
 abbrev pub failed : State → State
 failed s = record { cell = s.cell; error = true }
 
@@ -62,12 +65,15 @@ put (Some i) ok c s = record { cell = with_cell i c s.cell; error = s.error || n
 abbrev pub free_at : Listed → Path → Cellwise → Bool
 free_at table p cell = none_at (place_in table.paths p) cell && dir_at (place_in table.paths (parent p)) cell
 
+-- the cell of a folder
 abbrev pub folder_cell : Cell
 folder_cell = record { present = true; folder = true; link = false; content = 0 }
 
+-- the cell of a file whose content has number n
 abbrev pub file_cell : ℕ → Cell
 file_cell n = record { present = true; folder = false; link = false; content = n }
 
+-- the cell of a link whose target has number n
 abbrev pub link_cell : ℕ → Cell
 link_cell n = record { present = true; folder = false; link = true; content = n }
 
@@ -99,6 +105,7 @@ abbrev mutual
   all_stepped table none s = s
   all_stepped table (next e es) s = all_stepped table es (stepped table e s)
 
+-- the place, if there is one
 abbrev pub if_any : Option ℕ → List ℕ
 if_any None = []
 if_any (Some i) = i ∷ []

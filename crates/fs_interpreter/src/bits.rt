@@ -9,22 +9,27 @@ use rh_base::NoMemory;
 pub trait Bits: Drop {
     ghost use Rattle.fs_interpreter.specs.Meanings.{Meanings};
 
+    /// What stands for a truth value.
     type Bit: Copy + Drop;
 
+    /// What stands for a number.
     type Code: Drop;
 
     /// Which bits and codes are its own, and what each means under a valuation.
     ghost meanings: { Self → Meanings Self.Bit Self.Code };
 
+    /// A bit that means this, whatever the inputs are.
     fn constant(&mut self, b: bool) -> Result<Self::Bit, NoMemory>
         ensures gives { IfOk result (IsBit (meanings self.new) (λ v. b)) }
         ensures grows { Grows (meanings self.old) (meanings self.new) };
 
+    /// The opposite of a bit.
     fn not(&mut self, a: &Self::Bit) -> Result<Self::Bit, NoMemory>
         requires { (meanings self.old).owns a.now }
         ensures gives { IfOk result (IsBit (meanings self.new) (λ v. not ((meanings self.old).bit v a.now))) }
         ensures grows { Grows (meanings self.old) (meanings self.new) };
 
+    /// Whether both bits hold.
     fn and(&mut self, a: &Self::Bit, b: &Self::Bit) -> Result<Self::Bit, NoMemory>
         requires a { (meanings self.old).owns a.now }
         requires b { (meanings self.old).owns b.now }
@@ -39,6 +44,7 @@ pub trait Bits: Drop {
         ensures gives { IfOk result (IsBit (meanings self.new) (λ v. if (meanings self.old).bit v c.now then (meanings self.old).bit v a.now else (meanings self.old).bit v b.now)) }
         ensures grows { Grows (meanings self.old) (meanings self.new) };
 
+    /// A code that means this number, whatever the inputs are.
     fn code(&mut self, n: u64) -> Result<Self::Code, NoMemory>
         ensures gives { IfOk result (IsCode (meanings self.new) (λ v. n)) }
         ensures grows { Grows (meanings self.old) (meanings self.new) };

@@ -56,12 +56,14 @@ impl Table {
         })
     }
 
+    /// How many paths there are, the root not counted.
     pub fn path_count(&self) -> u64
         ensures { result ≡ length self.now.paths }
     {
         self.nodes.len() as u64
     }
 
+    /// How many contents there are.
     pub fn content_count(&self) -> u64
         ensures { result ≡ length self.now.contents }
     {
@@ -202,7 +204,7 @@ impl Table {
         }
     }
 
-    /// The number of a content.
+    /// The number of a content, if the table has it.
     pub fn number(&self, c: &Text) -> Option<u64>
         ensures { result ≡ content_place self.now.contents c.now }
     {

@@ -13,6 +13,7 @@ is_front (s ∷ p) (r ∷ q) = bytes_eq s r && is_front p q
 abbrev pub is_disjoint : Path → Path → Bool
 is_disjoint p q = not (is_front p q) && not (is_front q p)
 
+-- disjoint from each of these
 abbrev pub is_disjoint_from_all : Path → List Path → Bool
 is_disjoint_from_all p [] = true
 is_disjoint_from_all p (q ∷ qs) = is_disjoint p q && is_disjoint_from_all p qs

@@ -11,6 +11,7 @@ use Rattle.fs_lang.specs.declared.program.Program.{Program, Row_of-Program, end_
 use Rattle.fs_lang.specs.declared.program.Program.TheVariants as program
 use Rattle.fs_lang.specs.declared.program.Program.TheBlock as block
 
+-- the test of the definitions
 abbrev mutual
   pub test_of : Test → model.Test
   test_of test.True = model.True
@@ -29,6 +30,7 @@ abbrev mutual
   boxed_test end_of-Test = model.True
   boxed_test (more_of-Test a rest) = test_of a
 
+-- the program of the definitions
 abbrev mutual
   pub program_of : Program → model.Program
   program_of program.Id = model.Id
@@ -49,6 +51,7 @@ abbrev mutual
   boxed_program end_of-Program = model.Id
   boxed_program (more_of-Program e rest) = program_of e
 
+-- the programs of a list, as steps
 abbrev pub programs_in : List Program → model.Programs
 programs_in [] = model.none
 programs_in (e ∷ es) = model.next (program_of e) (programs_in es)
@@ -76,6 +79,7 @@ unfolding block.hidden-the_row-Program-0 denote.Hole.Carrier.hidden
 program_of_steps [] = refl
 program_of_steps (e ∷ es) = let rest = program_of_steps es in cc
 
+-- the entry of the definitions
 abbrev pub entry_of : Entry → tree.Entry
 entry_of entry.Folder = tree.Folder
 entry_of (entry.File content) = tree.File content

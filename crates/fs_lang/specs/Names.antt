@@ -10,7 +10,7 @@ pub record IsName (name : List ℕ) : Type 0 where
   pub bytes : length name ≤ NAME_BYTES
   pub no_zero : AllByRecursion (λ b. b ≢ 0) name
 
--- the text with another in the place of each of these bytes
+-- the text with another one in the place of each byte b
 abbrev pub replaced : ℕ → List ℕ → List ℕ → List ℕ
 replaced b other [] = []
 replaced b other (c ∷ text) = if c == b then other ++ replaced b other text else c ∷ replaced b other text

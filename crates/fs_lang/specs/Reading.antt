@@ -7,6 +7,7 @@ use Rattle.fs_semantics.specs.FileTree.{Path}
 use Rattle.fs_lang.specs.declared.path.PathFault.{PathFault}
 use Rattle.fs_lang.specs.declared.path.PathFault.TheVariants as fault
 
+-- the pieces with one byte more at the front of the first
 abbrev pub with_byte : ℕ → List (List ℕ) → List (List ℕ)
 with_byte b [] = (b ∷ []) ∷ []
 with_byte b (p ∷ ps) = (b ∷ p) ∷ ps
@@ -28,19 +29,23 @@ is_segment p = not (length p == 0) && not (list_any (λ b. b == 47) p) && is_goo
 abbrev pub piece_of : List ℕ → Option Path
 piece_of p = if length p == 0 then Some [] else (if is_good p then Some (p ∷ []) else None)
 
+-- both, one behind the other, if both are there
 abbrev pub joined : Option Path → Option Path → Option Path
 joined None q = None
 joined (Some p) None = None
 joined (Some p) (Some q) = Some (p ++ q)
 
+-- the segments that the pieces add, unless one of them is bad
 abbrev pub segments_of : List (List ℕ) → Option Path
 segments_of [] = Some []
 segments_of (p ∷ ps) = joined (piece_of p) (segments_of ps)
 
+-- the first byte is a slash
 abbrev pub begins_with_slash : List ℕ → Bool
 begins_with_slash [] = false
 begins_with_slash (b ∷ text) = b == 47
 
+-- the path, unless it has too many segments
 abbrev pub within : Option Path → Option Path
 within None = None
 within (Some p) = if nat_le (length p) PATH_SEGMENTS then Some p else None
@@ -59,6 +64,7 @@ PathGives (Err (fault.Memory m)) read = Unit {0}
 abbrev pub HasNo : ℕ → List ℕ → Type 0
 HasNo b text = (i : ℕ) → i < length text → slice_index text i ≢ b
 
+-- no slash is in it
 abbrev pub HasNoSlash : List ℕ → Type 0
 HasNoSlash text = HasNo 47 text
 

@@ -12,7 +12,7 @@ use rh_base::limits::NAME_BYTES;
 use rh_base::{NoMemory, Text};
 use std::alloc::Global;
 
-/// What stands before the first of these bytes, and behind it.
+/// What stands ahead of the first c, and behind it.
 #[tactic(auto, using(crate::proofs::NameLaws::cut_at))]
 fn cut(text: &str, c: char) -> Option<(&str, &str)>
     requires { c < 128 }
@@ -21,7 +21,7 @@ fn cut(text: &str, c: char) -> Option<(&str, &str)>
     text.split_once(c)
 }
 
-/// The text with another in the place of each of these bytes.
+/// The text with another one in the place of each c.
 #[tactic(auto, using(crate::proofs::NameLaws::next_replaced, crate::proofs::NameLaws::last_replaced))]
 fn replaced(alloc: Global, text: &str, c: char, other: &str) -> Result<Text, NoMemory>
     requires { c < 128 }

@@ -95,6 +95,7 @@ impl Path {
         Ok(Path { segments })
     }
 
+    /// The root, which has no segments.
     pub fn root(alloc: Global) -> Result<Path, NoMemory>
         ensures { IfOk result (λ path. path ≡ []) }
     {

@@ -48,6 +48,7 @@ fn add_piece(alloc: Global, segments: &mut Seq<Text>, piece: &str) -> Result<(),
     Ok(())
 }
 
+/// Whether the first byte is a slash.
 pub fn begins_with_slash(text: &str) -> bool
     ensures { result ≡ begins_with_slash text.now }
 {

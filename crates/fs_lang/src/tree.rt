@@ -96,6 +96,7 @@ impl Tree {
     ghost use Rattle.fs_lang.specs.Meaning.{entry_of};
     ghost use Rattle.fs_lang.specs.Trees.{entries_of};
 
+    /// The tree without entries.
     pub fn empty(alloc: Global) -> Result<Tree, NoMemory>
         ensures { IfOk result (λ t. t ≡ map.empty) }
     {

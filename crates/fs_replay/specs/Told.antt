@@ -8,6 +8,7 @@ use Rattle.fs_interpreter.specs.States.{Cell, State, state_of}
 use Rattle.fs_interpreter.specs.declared.cells.Cells.{Cells}
 use Rattle.fs_replay.specs.declared.told.Told.{Told}
 
+-- the cell with these values
 abbrev pub cell_of : Told → Cell
 cell_of t = record { present = t.present; folder = t.folder; link = t.link; content = t.content }
 

@@ -133,7 +133,6 @@ made_keeps_parents t u p x has h = let m = made_is p x t u h in subst HasParents
 made_keeps_tree : (t u : Tree) (p : Path) (x : Entry) → IsTree t → AllByRecursion IsSegment p → HasBytes (Some x) → made p x t ≡ Some u → IsTree u
 made_keeps_tree t u p x tree proper bytes h = let m = made_is p x t u h in subst IsTree m.is (insert_keeps_tree t p x tree proper bytes m.free m.above)
 
--- a child of p is found among the entries
 or_left : (a b : Bool) → a ≡ true → (a || b) ≡ true
 or_left true b h = refl
 or_left false b h = cc
@@ -146,6 +145,7 @@ or_split : (a b : Bool) → (a || b) ≡ true → (a ≡ true) ⊎ (b ≡ true)
 or_split true b h = inl refl
 or_split false b h = inr h
 
+-- a child of p is found among the entries
 pub child_found : (p q : Path) (ks : List Path) → parent q ≡ p → list_any (eq_by_cmp path_cmp q) ks ≡ true → list_any (λ r. path_eq (parent r) p) ks ≡ true
 child_found p q [] e h = cc
 child_found p q (k ∷ ks) e h = elim (or_split (eq_by_cmp path_cmp q k) (list_any (eq_by_cmp path_cmp q) ks) h) [

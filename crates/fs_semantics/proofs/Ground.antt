@@ -1,4 +1,4 @@
--- A tree on which files at paths disjoint can be put: the folders above them, and nothing else.
+-- A tree on which files at disjoint paths can be put: the folders above them, and nothing else.
 use Rattle.std.proofs.Common.{◌≡◌, ◌≢◌, ◌⊎◌, inl, inr, ℕ, zero, suc, ◌+◌, ◌<◌, ◌≤◌, ◌==◌, Bool, true, false, cond, List, [], ◌∷◌, ◌++◌, length, get_or, Option, Some, None, refl, sym, ap, subst, ◌∙◌, arith, eqb-true}
 use Rattle.std.proofs.lemmas.Bool.{ne_eqb, eqb-false}
 use Rattle.std.specs.Prelude.{map, is_some, IsSome}

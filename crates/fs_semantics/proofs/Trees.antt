@@ -83,7 +83,7 @@ pub parent_above : (s : List ℕ) (p : Path) → (more : Path) × (more ≢ []) 
 parent_above s [] = (s ∷ [], (λ e. cc), refl)
 parent_above s (r ∷ p) = let up = parent_above r p in (up.0, up.1, ap (λ q. s ∷ q) up.2)
 
--- a change at p leaves whether another path is a folder
+-- what stands at a path tells whether it is a folder
 pub is_dir_other : (t u : Tree) (q : Path) → map.get u q ≡ map.get t q → is_dir u q ≡ is_dir t q
 is_dir_other t u [] h = refl
 is_dir_other t u (s ∷ q) h = ap is_folder_entry h

@@ -42,6 +42,7 @@ abbrev mutual
 abbrev pub CommuteFrom : (Tree → Type 0) → Program → Program → Type 0
 CommuteFrom P e f = (t : Tree) → P t → and_then (run e t) (run f) ≡ and_then (run f t) (run e)
 
+-- from every file tree
 abbrev pub Commutes : Program → Program → Type 0
 Commutes = CommuteFrom IsTree
 
@@ -50,6 +51,7 @@ abbrev pub AllCommuteFrom : (Tree → Type 0) → List Program → Type 0
 AllCommuteFrom P [] = Unit {0}
 AllCommuteFrom P (e ∷ es) = AllByRecursion (CommuteFrom P e) es × AllCommuteFrom P es
 
+-- from every file tree
 abbrev pub AllCommute : List Program → Type 0
 AllCommute = AllCommuteFrom IsTree
 
@@ -57,5 +59,6 @@ AllCommute = AllCommuteFrom IsTree
 abbrev pub SettlesFrom : (Tree → Type 0) → Program → Type 0
 SettlesFrom P e = (t u : Tree) → P t → run e t ≡ Some u → run e u ≡ Some u
 
+-- from every file tree
 abbrev pub Settles : Program → Type 0
 Settles = SettlesFrom IsTree

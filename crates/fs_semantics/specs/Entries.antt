@@ -3,9 +3,11 @@ use Rattle.std.specs.Prelude.{◌≡◌, ◌≢◌, ◌⊎◌, ℕ, List, [], Is
 use Rattle.std.specs.FinMap as map
 use Rattle.fs_semantics.specs.FileTree.{Path, Entry, Folder, File, Link, Tree, parent}
 
+-- a file stands at the path
 abbrev pub IsFileAt : Tree → Path → Type 0
 IsFileAt t p = (content : List ℕ) × (map.get t p ≡ Some (File content))
 
+-- a symbolic link stands at the path
 abbrev pub IsLinkAt : Tree → Path → Type 0
 IsLinkAt t p = (target : List ℕ) × (map.get t p ≡ Some (Link target))
 

@@ -36,6 +36,7 @@ parent (s ∷ r ∷ p) = s ∷ parent (r ∷ p)
 abbrev pub path_cmp : Path → Path → Ordering
 path_cmp = slice_cmp (slice_cmp nat_cmp)
 
+-- the two are one path
 abbrev pub path_eq : Path → Path → Bool
 path_eq p q = is_eq (path_cmp p q)
 

@@ -1,4 +1,4 @@
--- The programs of resources.
+-- The program that puts a file.
 use Rattle.std.specs.Prelude.{ℕ, List}
 use Rattle.fs_semantics.specs.FileTree.{Path}
 use Rattle.fs_semantics.specs.Programs.{Program, Creat, Rm, Steps, If, IsFile, none, next}

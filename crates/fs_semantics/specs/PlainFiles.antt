@@ -16,10 +16,12 @@ pub record IsFilePath (p : Path) : Type 0 where
   pub not_root : p ≢ []
   pub segments : AllByRecursion IsSegment p
 
+-- each path may be a file's, and none is another one or above it
 pub record ArePlain (files : List PlainFile) : Type 0 where
   pub paths : AllByRecursion (λ f. IsFilePath f.0) files
   pub disjoint : AreDisjoint (map (λ f. f.0) files)
 
+-- the programs that put the files
 abbrev pub puts : List PlainFile → List Program
 puts files = map (λ f. put f.0 f.1) files
 
@@ -27,5 +29,6 @@ puts files = map (λ f. put f.0 f.1) files
 abbrev pub never : ℕ → ℕ → Bool
 never a b = false
 
+-- the same as a relation
 abbrev pub Unordered : ℕ → ℕ → Type 0
 Unordered = Told never

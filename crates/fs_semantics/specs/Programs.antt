@@ -3,6 +3,7 @@ use Rattle.std.specs.Prelude.{ℕ, Bool, true, false, not, ◌&&◌, ◌||◌, L
 use Rattle.std.specs.FinMap as map
 use Rattle.fs_semantics.specs.FileTree.{Path, Entry, Folder, File, Link as LinkTo, Tree, parent, is_file, is_link, is_dir, is_none, is_root, is_empty_dir}
 
+-- what is asked of a tree
 pub data Test : Type 0 where
   True : Test
   False : Test

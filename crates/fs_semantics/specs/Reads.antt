@@ -68,7 +68,7 @@ abbrev mutual
   StepsReadBelow none q = ⊥
   StepsReadBelow (next e es) q = ReadsBelow e q ⊎ StepsReadBelow es q
 
--- the trees have the same entries at these paths, and children at the same paths below those
+-- the trees have the same entries at the first paths, and children at the same places directly below the second
 pub record Agree (at below : Path → Type 0) (t u : Tree) : Type 0 where
   pub entries : (q : Path) → at q → map.get t q ≡ map.get u q
   pub children : (q : Path) → below (parent q) → map.contains_key t q ≡ map.contains_key u q

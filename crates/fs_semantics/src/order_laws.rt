@@ -8,8 +8,9 @@ ghost use Rattle.fs_semantics.specs.Changes.{IsProper, AllCommute, Settles};
 ghost use Rattle.fs_semantics.specs.Orders.{Told, times, up_from, IsLinearExtension, IsExchange, outcome, IsDeterministic, IsIdempotent, Succeeds, IsCounterexample, IsSecondRunCounterexample, NeighboursAgree, FreeCommute};
 ghost use Rattle.fs_semantics.specs.PlainFiles.{Unordered};
 
-/// The programs in one list of numbers and then in another are those in the joined list. Where any two programs commute,
-/// lists that have each number equally often end alike; where each program settles too, a second run changes nothing.
+/// The programs in one list of numbers and then in another are those in the joined list. Where any two of some proper
+/// programs commute, lists that have each number equally often end alike; where each settles too, a second run of numbers
+/// that the first one had changes nothing.
 pub fn commuting_programs()
     ensures joined { (es : List Program) (o p : List ℕ) (t : Tree) → outcome es (o ++ p) t ≡ and_then (outcome es o t) (outcome es p) }
     ensures alike { (es : List Program) → AllByRecursion IsProper es → AllCommute es → (o p : List ℕ) → ((k : ℕ) → times k o ≡ times k p)
@@ -26,8 +27,8 @@ pub fn linear_extensions()
     ensures unordered { (n : ℕ) → IsLinearExtension n Unordered (up_from 0 n) }
 {}
 
-/// Where allowed orders that differ by one exchange of free neighbours end alike, all do; so where free programs commute.
-/// Where two allowed orders end differently, two that differ by one exchange do.
+/// Where allowed orders that differ by one exchange of free neighbours end alike, all do; so too where the programs are
+/// proper and free ones commute. Where two allowed orders end differently, two that differ by one exchange do.
 pub fn neighbours()
     ensures enough { (es : List Program) (before : ℕ → ℕ → Bool) → NeighboursAgree es (Told before) → IsDeterministic es (Told before) }
     ensures free { (es : List Program) (before : ℕ → ℕ → Bool) → AllByRecursion IsProper es → FreeCommute es (Told before) → IsDeterministic es (Told before) }
@@ -35,7 +36,9 @@ pub fn neighbours()
         → (q : List ℕ) × (r : List ℕ) × IsExchange (Told before) q r × IsCounterexample es (Told before) t q r }
 {}
 
-/// Each property holds exactly where nothing refutes it.
+/// Programs are deterministic exactly where there is no counterexample. Proper ones that are deterministic are idempotent
+/// exactly where no second run in the order of the first changes anything. Programs don't succeed exactly where every
+/// allowed order ends in Error, from every tree.
 pub fn counterexamples()
     ensures deterministic { (es : List Program) (before : ℕ → ℕ → Bool)
         → IsDeterministic es (Told before) ↔ ((t : Tree) (o p : List ℕ) → IsCounterexample es (Told before) t o p → ⊥) }

@@ -36,8 +36,8 @@ pub fn changes()
     ensures choice { (a : Test) (e f : Program) (t u : Tree) → (run (If a e f) t ≡ Some u) ↔ ((IsTrue (holds a t) × (run e t ≡ Some u)) ⊎ ((IsTrue (holds a t) → ⊥) × (run f t ≡ Some u))) }
 {}
 
-/// What a program leaves: what stands at each path that it doesn't change; that a file tree is one; and, from trees that
-/// agree on what it asks, trees that still agree on it, or Error both times. Each path that it may change is among these.
+/// What a program leaves: what stands at each path that it doesn't change; a file tree, where it is proper; and, from trees
+/// that agree on what it asks, trees that still agree on it, or Error both times. It asks for each path that it may change.
 pub fn constructs()
     ensures kept { (e : Program) (t u : Tree) (q : Path) → run e t ≡ Some u → (Changes e q → ⊥) → map.get u q ≡ map.get t q }
     ensures tree { (e : Program) (t u : Tree) → IsProper e → IsTree t → run e t ≡ Some u → IsTree u }

@@ -20,6 +20,7 @@ use Rattle.full_verdict.specs.declared.verdicts.Verdict.{Verdict}
 use Rattle.full_verdict.specs.declared.verdicts.Verdict.TheVariants as verdict
 use Rattle.full_verdict.specs.Questions.{StatesSecond, StatesEnd, IsSecondProof}
 
+-- how many programs pruning doesn't keep
 abbrev pub pruned_in : Verdict → ℕ
 pruned_in (verdict.NotDeterministic pruned w) = pruned
 pruned_in (verdict.Judged pruned s again end) = pruned

@@ -43,7 +43,7 @@ pub enum Verdict {
         second: Second,
         ends: Ends,
     },
-    /// The budget was spent on the question that was asked last. The questions before it were refuted by these proofs.
+    /// The budget was spent on the question that was asked last. The proofs are what was refuted to answer those before it.
     Spent {
         pruned: u32,
         asked: Asked,

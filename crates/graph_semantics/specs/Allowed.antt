@@ -23,6 +23,7 @@ pub record IsAllowed (c : Catalog) (nodes : List Node) : Type 0 where
   pub once : (n : Node) → IsNode c n → times (rank n) (map rank nodes) ≡ 1
   pub kept : NoneAhead c nodes
 
+-- a resource is there, and is plain
 abbrev pub is_plain : Option Resource → Bool
 is_plain None = false
 is_plain (Some r) = is_plain_sort r.sort

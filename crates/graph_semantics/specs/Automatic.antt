@@ -64,10 +64,12 @@ pub record Manages (c : Catalog) (place : ℕ) (kind name : List ℕ) : Type 0 w
 
 -- ---- whom a resource names
 
+-- these texts, or none
 abbrev pub list_or_none : Option (List (List ℕ)) → List (List ℕ)
 list_or_none None = []
 list_or_none (Some texts) = texts
 
+-- a decimal digit, as a byte
 abbrev pub is_digit : ℕ → Bool
 is_digit c = nat_le 48 c && nat_le c 57
 
@@ -94,9 +96,11 @@ user_or_root (Some x) = option_to_list (text_of x)
 abbrev pub somebodies : List ℕ → List (List ℕ) → List (List ℕ × List ℕ)
 somebodies kind names = map (λ name. (kind, name)) (filter is_somebody names)
 
+-- the resource is of this type
 abbrev pub is_of : List ℕ → Resource → Bool
 is_of kind r = bytes_eq r.id.kind kind
 
+-- the value of the attribute with this name
 abbrev pub attribute : Resource → List ℕ → Option Value
 attribute r name = value_at name r.attrs
 

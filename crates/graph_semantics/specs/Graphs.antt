@@ -119,6 +119,7 @@ plain_from n [] = []
 plain_from n (r ∷ resources) =
     if is_plain_sort r.sort && not r.is_virtual then n ∷ plain_from (n + 1) resources else plain_from (n + 1) resources
 
+-- the places of the real plain resources of a catalog
 abbrev pub plain_places : Catalog → List ℕ
 plain_places c = plain_from 0 c.resources
 
@@ -133,10 +134,12 @@ pub record IsGraphOf (c : Catalog) (plain : List ℕ) (before : ℕ → ℕ → 
 
 -- ---- the text of a graph
 
+-- the reference of a resource, as it is shown
 abbrev pub reference_of : Option Resource → List ℕ
 reference_of None = []
 reference_of (Some r) = shown_ref r.id
 
+-- the reference of the resource at a place
 abbrev pub reference_at : Catalog → ℕ → List ℕ
 reference_at c place = reference_of (slice_get c.resources place)
 
@@ -144,6 +147,7 @@ reference_at c place = reference_of (slice_get c.resources place)
 abbrev pub resource_lines : Catalog → List ℕ → List ℕ
 resource_lines c plain = flat_map (λ place. reference_at c place ++ codes "\n") plain
 
+-- the line of a pair, if the one comes before the other
 abbrev pub pair_line : Bool → List ℕ → List ℕ → List ℕ
 pair_line false left right = []
 pair_line true left right = left ++ (codes " -> " ++ (right ++ codes "\n"))

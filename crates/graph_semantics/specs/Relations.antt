@@ -25,6 +25,7 @@ if_real r = if r.is_virtual then None else Some r
 abbrev pub real_at : Catalog → ℕ → Option Resource
 real_at c place = option_and_then if_real (slice_get c.resources place)
 
+-- the place, if what stands there is real
 abbrev pub if_real_at : Catalog → ℕ → Option ℕ
 if_real_at c place = option_map (λ r. place) (real_at c place)
 

@@ -37,6 +37,7 @@ StatesCommuting es before f = HasNoModel f ↔ FreeCommute es before
 abbrev pub MayNotCommute : List Program → (ℕ → ℕ → Type 0) → ℕ → Type 0
 MayNotCommute es before budget = (FreeCommute es before → ⊥) ⊎ (budget ≢ 2 ^ 64 - 1)
 
+-- What each answer to the question of order says.
 abbrev pub Answers : List Program → Relation → ℕ → Answer → Type 0
 Answers es order budget (answer.Alike v) = IsNo es (Told (comes order)) v.formula
 Answers es order budget (answer.Differ tree left right) = IsDifference es (Told (comes order)) (witness.Orders tree left right)

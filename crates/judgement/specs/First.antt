@@ -44,6 +44,7 @@ IsDifference es before (witness.Orders tree left right) = IsCounterexample es be
 IsDifference es before (witness.Twice tree order) = ⊥
 IsDifference es before (witness.Ends tree order) = ⊥
 
+-- how many programs pruning doesn't keep
 abbrev pub pruned_in : First → ℕ
 pruned_in (first.Sure pruned s) = pruned
 pruned_in (first.Differs pruned w) = pruned

@@ -2,6 +2,7 @@
 use Rattle.std.specs.Prelude.{ℕ, zero, suc, Bool, if◌then◌else◌, List, [], ◌∷◌, ◌++◌, slice_index_or}
 use Rattle.orders.specs.Relation.{Relation, comes}
 
+-- the pair, if the test holds
 abbrev pub pair_if : Bool → ℕ → ℕ → List (ℕ × ℕ)
 pair_if t i j = if t then (i, j) ∷ [] else []
 

@@ -63,7 +63,7 @@ fn rest(alloc: Global, programs: &[Program], order: &Order) -> Result<Kept, NoMe
     })
 }
 
-/// The graph of what pruning keeps. Where it is deterministic, the whole graph is; so where nothing is kept.
+/// The graph of what pruning keeps. Where it is deterministic, the whole graph is; so it is where nothing is kept.
 pub fn keep(alloc: Global, programs: &[Program], order: &Order) -> Result<Kept, NoMemory>
     requires { length programs.now ≡ order.now.count }
     ensures kept { IfOk result (IsKept (map program_of programs.now) order.now) }

@@ -19,6 +19,7 @@ pub fn text_at<'p>(attrs: &'p Pairs, name: &str) -> Option<&'p Text>
     }
 }
 
+/// Whether a value is a text.
 pub fn is_text(x: &Value) -> bool
     ensures { result ≡ is_text x.now }
 {
@@ -31,6 +32,7 @@ fn is_number(x: &Value) -> bool
     matches!(x, Value::Int(_))
 }
 
+/// Whether a value is a text or a number.
 pub fn is_text_or_number(x: &Value) -> bool
     ensures { result ≡ is_text_or_number x.now }
 {
@@ -61,6 +63,7 @@ fn all_times(items: &[Value]) -> bool
     true
 }
 
+/// Whether a value is a list of texts alone.
 pub fn is_list_of_texts(x: &Value) -> bool
     ensures { result ≡ is_list_of is_text x.now }
 {
@@ -70,6 +73,7 @@ pub fn is_list_of_texts(x: &Value) -> bool
     }
 }
 
+/// Whether a value is a list of texts and numbers alone.
 pub fn is_list_of_times(x: &Value) -> bool
     ensures { result ≡ is_list_of is_text_or_number x.now }
 {
@@ -102,6 +106,7 @@ pub fn truth_of(x: &Value) -> Option<bool>
     }
 }
 
+/// Whether a truth value is there, and is false.
 pub fn is_false(truth: Option<bool>) -> bool
     ensures { result ≡ is_false truth }
 {
@@ -111,6 +116,7 @@ pub fn is_false(truth: Option<bool>) -> bool
     }
 }
 
+/// Whether a value is the truth value true, not its text.
 pub fn is_true_itself(x: &Value) -> bool
     ensures { result ≡ is_true_itself x.now }
 {
@@ -120,6 +126,7 @@ pub fn is_true_itself(x: &Value) -> bool
     }
 }
 
+/// Whether a byte is a decimal digit.
 pub fn is_digit(b: u8) -> bool
     ensures { result ≡ is_digit b }
 {

@@ -18,10 +18,10 @@ pub fn words_leave()
     ensures dir { (p : Path) (t u : Tree) → run (dir p) t ≡ Some u → IsFolderAt u p }
     ensures dir_there { (p : Path) (t : Tree) → IsFolderAt t p → run (dir p) t ≡ Some t }
     ensures dir_elsewhere { (p : Path) (t u : Tree) (q : Path) → run (dir p) t ≡ Some u → q ≢ p → map.get u q ≡ map.get t q }
-    // After `put` there is the file with this content; put again, it changes nothing, and nothing changes elsewhere.
+    // After `put` there is the file with this content, and nothing changes elsewhere.
     ensures put { (p : Path) (content : List ℕ) (t u : Tree) → run (put p content) t ≡ Some u → map.get u p ≡ Some (File content) }
     ensures put_elsewhere { (p : Path) (content : List ℕ) (t u : Tree) (q : Path) → run (put p content) t ≡ Some u → q ≢ p → map.get u q ≡ map.get t q }
-    // After `drop` there is no file.
+    // After `drop_file` there is no file.
     ensures drop { (p : Path) (t u : Tree) → run (drop_file p) t ≡ Some u → IsFileAt u p → ⊥ }
     // `need` ends in a tree, which it leaves as it is, exactly where the file is there.
     ensures need { (m : Path) (t u : Tree) → (run (need m) t ≡ Some u) ↔ ((t ≡ u) × IsFileAt t m) }
@@ -41,7 +41,7 @@ pub fn sequences_join()
     tests();
 }
 
-/// Of two names with one mark under a word there is only one; so too of names of users.
+/// Names with one mark under a word are the same; and so are names of users with one mark, and the users.
 pub fn places_tell_names()
     ensures named { (word a b : List ℕ) (p : Path) → mark_named word a ≡ Ok p → mark_named word b ≡ Ok p → a ≡ b }
     ensures of_users { (word u v a b : List ℕ) (p : Path) → mark_of_user word u a ≡ Ok p → mark_of_user word v b ≡ Ok p → (u ≡ v) × (a ≡ b) }

@@ -3,8 +3,8 @@
 use fs_lang::{Path, Program};
 use rh_base::Seq;
 
-/// What a resource is taken to do. Of two resources of a type with one modelled name the places are the same, and no
-/// others are.
+/// What a resource is taken to do. Two resources have the same place just where they are of one type and have one
+/// modelled name.
 #[derive(Drop)]
 pub struct Model {
     pub place: Path,

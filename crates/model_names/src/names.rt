@@ -40,7 +40,7 @@ pub fn named(alloc: Global, name: &str) -> Result<Text, ModelFault>
     }
 }
 
-/// The path one segment further down. It is asked for segments alone, so that none is bad.
+/// The path one segment further down. Callers give segments alone: for another text the answer is that memory was refused.
 pub fn below(alloc: Global, p: &Path, segment: &str) -> Result<Path, NoMemory>
     ensures { IfOk result (λ q. q ≡ p.now ++ segment.now ∷ []) }
 {

@@ -20,6 +20,7 @@ use Rattle.model_semantics.specs.declared.states.States.{States}
 
 -- ---- the types
 
+-- the type of this name, if it has a model
 abbrev pub kind_of : List ℕ → Option Kind
 kind_of name =
     if bytes_eq name (codes "file") then Some kind.File else (
@@ -32,6 +33,7 @@ kind_of name =
 
 -- ---- what an attribute accepts: names, and the values for them
 
+-- some names, and the values that they accept
 abbrev pub Row : Type 0
 Row = List (List ℕ) × Accepts
 
@@ -39,6 +41,7 @@ Row = List (List ℕ) × Accepts
 abbrev pub common : Row
 common = (codes "ensure" ∷ codes "loglevel" ∷ codes "provider" ∷ metaparameters, accepts.Anything)
 
+-- for each type its own rows
 abbrev pub rows_of : Kind → List Row
 rows_of kind.File =
     (codes "path" ∷ codes "content" ∷ codes "source" ∷ codes "target" ∷ [], accepts.Text)
@@ -84,21 +87,26 @@ accepted (row ∷ rows) name = if is_one_of row.0 name then Some row.1 else acce
 
 -- ---- kinds of values
 
+-- a text
 abbrev pub is_text : Value → Bool
 is_text (v.Str text) = true
 is_text _ = false
 
+-- a number
 abbrev pub is_number : Value → Bool
 is_number (v.Int n) = true
 is_number _ = false
 
+-- a text or a number
 abbrev pub is_text_or_number : Value → Bool
 is_text_or_number x = is_text x || is_number x
 
+-- a list of which each member passes the test
 abbrev pub is_list_of : (Value → Bool) → Value → Bool
 is_list_of test (v.List' shape row) = list_all test (items-the_row-Value _ row)
 is_list_of test _ = false
 
+-- the truth value of which this is the text
 abbrev pub text_truth : List ℕ → Option Bool
 text_truth text = if bytes_eq text (codes "true") then Some true else (if bytes_eq text (codes "false") then Some false else None)
 
@@ -108,14 +116,17 @@ truth_of (v.Bool b) = Some b
 truth_of (v.Str text) = text_truth text
 truth_of _ = None
 
+-- a truth value is there, and is false
 abbrev pub is_false : Option Bool → Bool
 is_false None = false
 is_false (Some b) = not b
 
+-- the truth value true, not its text
 abbrev pub is_true_itself : Value → Bool
 is_true_itself (v.Bool b) = b
 is_true_itself _ = false
 
+-- the value is accepted
 abbrev pub fits : Accepts → Value → Bool
 fits accepts.Anything x = true
 fits accepts.Text x = is_text x
@@ -128,16 +139,20 @@ fits accepts.OnlyTrue x = is_true_itself x
 
 -- ---- states
 
+-- a decimal digit, as a byte
 abbrev pub is_digit : ℕ → Bool
 is_digit b = nat_le 48 b && nat_le b 57
 
+-- the first byte is a digit
 abbrev pub begins_with_digit : List ℕ → Bool
 begins_with_digit [] = false
 begins_with_digit (b ∷ text) = is_digit b
 
+-- `present` or `absent`
 abbrev pub presence_word : List ℕ → Option Ensure
 presence_word text = if bytes_eq text (codes "present") then Some ensure.Present else (if bytes_eq text (codes "absent") then Some ensure.Absent else None)
 
+-- what a text says as the `ensure` of a file
 abbrev pub file_word : List ℕ → Option Ensure
 file_word text =
     if bytes_eq text (codes "file") then Some ensure.File else (
@@ -150,6 +165,7 @@ package_word text =
     if bytes_eq text (codes "installed") || (bytes_eq text (codes "latest") || begins_with_digit text) then Some ensure.Present else (
     if bytes_eq text (codes "purged") then Some ensure.Absent else presence_word text)
 
+-- what a text says as the `ensure` of a service
 abbrev pub service_word : List ℕ → Option Ensure
 service_word text = if bytes_eq text (codes "running") then Some ensure.Running else (if bytes_eq text (codes "stopped") then Some ensure.Stopped else None)
 
@@ -169,12 +185,14 @@ truth_word kind.Service true = Some ensure.Running
 truth_word kind.Service false = Some ensure.Stopped
 truth_word _ b = None
 
+-- what the value of `ensure` says, if it is one that the type has
 abbrev pub ensure_of : Kind → Option Value → Option Ensure
 ensure_of k None = Some ensure.Unsaid
 ensure_of k (Some (v.Str text)) = word_of k text
 ensure_of k (Some (v.Bool b)) = truth_word k b
 ensure_of k (Some _) = None
 
+-- what the value of `enable` says: nothing without one, and else a truth value
 abbrev pub enable_value : Option Value → Option (Option Bool)
 enable_value None = Some None
 enable_value (Some x) = option_map (λ b. Some b) (truth_of x)
@@ -184,28 +202,34 @@ abbrev pub enable_of : Kind → List Pair → Option (Option Bool)
 enable_of kind.Service attrs = enable_value (value_at (codes "enable") attrs)
 enable_of _ attrs = Some None
 
+-- both states, unless the value of one isn't known
 abbrev pub states_with : Option Ensure → Option (Option Bool) → Result States Cause
 states_with None enable = Err cause.State
 states_with (Some e) None = Err cause.State
 states_with (Some e) (Some b) = Ok (record { ensure = e; enable = b })
 
+-- the states that the attributes of a resource tell
 abbrev pub states_of : Kind → List Pair → Result States Cause
 states_of k attrs = states_with (ensure_of k (value_at (codes "ensure") attrs)) (enable_of k attrs)
 
 -- ---- which attributes are refused
 
+-- `ensure` says `absent`
 abbrev pub is_absent : Ensure → Bool
 is_absent ensure.Absent = true
 is_absent _ = false
 
+-- `ensure` says `link`
 abbrev pub is_link : Ensure → Bool
 is_link ensure.Link = true
 is_link _ = false
 
+-- `ensure` says `directory`
 abbrev pub is_folder : Ensure → Bool
 is_folder ensure.Directory = true
 is_folder _ = false
 
+-- the text begins as an address does
 abbrev pub is_address : List ℕ → Bool
 is_address text = begins (codes "puppet:") text || (begins (codes "http:") text || begins (codes "https:") text)
 
@@ -214,6 +238,7 @@ abbrev pub is_source : Value → Bool
 is_source (v.Str text) = begins (codes "/") text || is_address text
 is_source _ = false
 
+-- the attributes that say what a file has
 abbrev pub fillings : List (List ℕ)
 fillings = codes "content" ∷ codes "source" ∷ []
 
@@ -221,7 +246,7 @@ fillings = codes "content" ∷ codes "source" ∷ []
 abbrev pub are_filled : List Pair → Bool
 are_filled pairs = list_any (λ p. is_one_of fillings p.0) pairs
 
--- `content` and `source` only once, and only of a file
+-- one of `content` and `source` at most, and none of a link or of a folder
 abbrev pub filling_fits : Ensure → List Pair → Bool
 filling_fits e before = not (is_link e || (is_folder e || are_filled before))
 
@@ -236,6 +261,7 @@ file_fits e before p =
 abbrev pub user_fits : Ensure → Pair → Bool
 user_fits e p = not (is_absent e && (bytes_eq p.0 (codes "managehome") && not (is_false (truth_of p.1))))
 
+-- what is asked of an attribute besides its value, type by type
 abbrev pub kind_fits : Kind → Ensure → List Pair → Pair → Bool
 kind_fits kind.File e before p = file_fits e before p
 kind_fits kind.User e before p = user_fits e p
@@ -246,6 +272,7 @@ abbrev pub is_ignored : Kind → Ensure → List ℕ → Bool
 is_ignored kind.File ensure.Absent name = is_one_of (codes "content" ∷ codes "source" ∷ codes "target" ∷ []) name
 is_ignored _ e name = false
 
+-- the attribute is one of the type, and accepts the value
 abbrev pub value_fits : Option Accepts → Value → Bool
 value_fits None x = false
 value_fits (Some a) x = fits a x
@@ -267,6 +294,7 @@ wanted kind.Cron _ = Some (codes "command")
 wanted kind.Key _ = Some (codes "user")
 wanted _ _ = None
 
+-- the name, if an attribute of it has to be given and isn't
 abbrev pub missing : Option (List ℕ) → List Pair → Option (List ℕ)
 missing None attrs = None
 missing (Some name) attrs = if is_some (value_at name attrs) then None else Some name
@@ -275,9 +303,11 @@ missing (Some name) attrs = if is_some (value_at name attrs) then None else Some
 abbrev pub refused_attribute : Kind → Ensure → List Pair → Option (List ℕ)
 refused_attribute k e attrs = option_or (misfit_behind k e [] attrs) (missing (wanted k e) attrs)
 
+-- fine, if no attribute is refused
 abbrev pub unless_refused : Option (List ℕ) → Result (Unit {0}) Cause
 unless_refused None = Ok tt
 unless_refused (Some name) = Err (cause.Attribute name)
 
+-- the attributes are accepted, or one is refused
 abbrev pub attributes_fit : Kind → Ensure → List Pair → Result (Unit {0}) Cause
 attributes_fit k e attrs = unless_refused (refused_attribute k e attrs)

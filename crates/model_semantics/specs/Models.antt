@@ -32,6 +32,7 @@ pub record Model : Type 0 where
   pub place : Path
   pub steps : List Program
 
+-- the model with this place and these steps
 abbrev pub model : Path → List Program → Model
 model place steps = record { place = place; steps = steps }
 
@@ -41,14 +42,17 @@ model place steps = record { place = place; steps = steps }
 abbrev pub source_state : List ℕ → Result FileState Cause
 source_state text = if begins (codes "/") text then spelled text >>= (λ p. Ok (file.Copied p)) else Ok (file.Fetched text)
 
+-- the state by `content`, or else by `source`, or else another
 abbrev pub filled_state : Option (List ℕ) → Option (List ℕ) → FileState → Result FileState Cause
 filled_state (Some content) source other = Ok (file.Content content)
 filled_state None (Some text) other = source_state text
 filled_state None None other = Ok other
 
+-- the same, by the attributes of a file
 abbrev pub filled : List Pair → FileState → Result FileState Cause
 filled attrs other = filled_state (text_at (codes "content") attrs) (text_at (codes "source") attrs) other
 
+-- what a file is to be, by its `ensure` and its other attributes
 abbrev pub file_state : Ensure → List Pair → Result FileState Cause
 file_state ensure.Absent attrs = Ok file.Absent
 file_state ensure.Directory attrs = Ok file.Folder
@@ -57,10 +61,12 @@ file_state ensure.Present attrs = filled attrs file.Present
 file_state ensure.File attrs = filled attrs file.File
 file_state _ attrs = filled attrs file.Unsaid
 
+-- the state is a copy of what is reserved
 abbrev pub copies_reserved : FileState → Bool
 copies_reserved (file.Copied p) = is_reserved p
 copies_reserved _ = false
 
+-- the model of a file, whose place is its path
 abbrev pub file_model : Ensure → Resource → Result Model Cause
 file_model e r = do
   p ← spelled (text_or (codes "path") r.id.title r.attrs)
@@ -70,10 +76,12 @@ file_model e r = do
 
 -- ---- packages
 
+-- the package, or that it isn't listed
 abbrev pub if_listed : Option Package → Result Package Cause
 if_listed None = Err cause.Unlisted
 if_listed (Some p) = Ok p
 
+-- the model of a package, whose place is the mark of its name
 abbrev pub package_model : Ensure → Packages → Resource → Result Model Cause
 package_model e listing r = do
   m ← mark_named (codes "package") (name_of r)
@@ -82,11 +90,13 @@ package_model e listing r = do
 
 -- ---- groups and users
 
+-- the model of a group, whose place is the mark of its name
 abbrev pub group_model : Ensure → Resource → Result Model Cause
 group_model e r = do
   m ← mark_named (codes "group") (name_of r)
   Ok (model m (group_row m e))
 
+-- the model of a user that is to be there
 abbrev pub user_present : Path → Resource → Result Model Cause
 user_present m r = do
   groups ← group_marks (group_names r.attrs)
@@ -94,16 +104,18 @@ user_present m r = do
   _ ← unless_reserved (is_reserved_home home)
   Ok (model m (user_row groups m home))
 
--- the marks of users and groups go in one way
+-- a user's mark goes as that of a group does
 abbrev pub user_at : Ensure → Resource → Path → Result Model Cause
 user_at ensure.Absent r m = Ok (model m (group_row m ensure.Absent))
 user_at _ r m = user_present m r
 
+-- the model of a user, whose place is the mark of its name
 abbrev pub user_model : Ensure → Resource → Result Model Cause
 user_model e r = mark_named (codes "user") (name_of r) >>= user_at e r
 
 -- ---- services
 
+-- the model of a service, whose place is the mark that it runs
 abbrev pub service_model : States → Resource → Result Model Cause
 service_model s r = do
   running ← mark_named (codes "running") (name_of r)
@@ -113,6 +125,7 @@ service_model s r = do
 
 -- ---- cron jobs
 
+-- one time, as it is written
 abbrev pub time_in : Value → List ℕ
 time_in (v.Str text) = text
 time_in (v.Int n) = shown_int n
@@ -123,6 +136,7 @@ abbrev pub more_times : List Value → List ℕ
 more_times [] = []
 more_times (x ∷ xs) = codes "," ++ (time_in x ++ more_times xs)
 
+-- times with commas between them
 abbrev pub times_in : List Value → List ℕ
 times_in [] = []
 times_in (x ∷ xs) = time_in x ++ more_times xs
@@ -133,17 +147,21 @@ time_shown None = codes "*"
 time_shown (Some (v.List' shape row)) = times_in (items-the_row-Value _ row)
 time_shown (Some x) = time_in x
 
+-- the line of the attribute with this name
 abbrev pub time_line : List ℕ → List Pair → List ℕ
 time_line name attrs = time_shown (value_at name attrs) ++ codes "\n"
 
+-- what stands for a cron job: its command, its times and its `special`
 abbrev pub cron_content : List Pair → List ℕ
 cron_content attrs =
     codes "cron:" ++ (text_or (codes "command") [] attrs ++ (codes "\n" ++ (time_line (codes "minute") attrs ++ (time_line (codes "hour") attrs ++ (time_line (codes "monthday") attrs
     ++ (time_line (codes "month") attrs ++ (time_line (codes "weekday") attrs ++ text_or (codes "special") [] attrs)))))))
 
+-- the user of a cron job, root where none is given
 abbrev pub cron_user : Resource → List ℕ
 cron_user r = text_or (codes "user") (codes "root") r.attrs
 
+-- the model of what a user has under this word, whose place is its mark
 abbrev pub entry_model : List ℕ → List ℕ → List ℕ → Ensure → Resource → Result Model Cause
 entry_model word user content e r = do
   q ← mark_of_user word user (name_of r)
@@ -152,14 +170,17 @@ entry_model word user content e r = do
 
 -- ---- keys of ssh
 
+-- what stands for a key: its type and itself
 abbrev pub key_content : List Pair → List ℕ
 key_content attrs = codes "key:" ++ (text_or (codes "type") [] attrs ++ (codes " " ++ text_or (codes "key") [] attrs))
 
+-- the user of a key
 abbrev pub key_user : Resource → List ℕ
 key_user r = text_or (codes "user") [] r.attrs
 
 -- ---- all types
 
+-- the model by the type
 abbrev pub model_at : Kind → States → Packages → Resource → Result Model Cause
 model_at kind.File s listing r = file_model s.ensure r
 model_at kind.Package s listing r = package_model s.ensure listing r
@@ -176,10 +197,12 @@ model_of_kind listing r k = do
   _ ← attributes_fit k s.ensure r.attrs
   model_at k s listing r
 
+-- the type, or that it has no model
 abbrev pub if_modelled : Option Kind → Result Kind Cause
 if_modelled None = Err cause.Unmodelled
 if_modelled (Some k) = Ok k
 
+-- the model of a resource, or the first cause why it has none
 abbrev pub model_of : Packages → Resource → Result Model Cause
 model_of listing r = if_modelled (kind_of r.id.kind) >>= model_of_kind listing r
 
@@ -195,10 +218,12 @@ refusal_of r cause.Unlisted = refusal 54 r.at (shown_ref r.id)
 refusal_of r cause.State = refusal 55 r.at (shown_ref r.id)
 refusal_of r cause.Twice = refusal 56 r.at (shown_ref r.id)
 
+-- what was made, or the refusal for the cause
 abbrev pub or_refused : {X : Type 0} → Resource → Result X Cause → Result X Refusal
 or_refused r (Ok x) = Ok x
 or_refused r (Err c) = Err (refusal_of r c)
 
+-- the program of the steps of a model
 abbrev pub program_of_model : Result Model Cause → Result Program Cause
 program_of_model (Ok m) = Ok (sequence m.steps)
 program_of_model (Err c) = Err c
@@ -213,10 +238,12 @@ program listing r = or_refused r (program_of_model (model_of listing r))
 abbrev pub if_new : List Path → Model → Result Model Cause
 if_new seen m = if is_among m.place seen then Err cause.Twice else Ok m
 
+-- this program and the others, unless one of those is refused
 abbrev pub first_and : Program → Result (List Program) Refusal → Result (List Program) Refusal
 first_and e (Ok es) = Ok (e ∷ es)
 first_and e (Err r) = Err r
 
+-- the program of this model, and those that follow where its place is taken
 abbrev pub programs_with : Result Model Refusal → (Path → Result (List Program) Refusal) → Result (List Program) Refusal
 programs_with (Err r) more = Err r
 programs_with (Ok m) more = first_and (sequence m.steps) (more m.place)
@@ -226,5 +253,6 @@ abbrev pub programs_behind : List Path → Packages → List Resource → Result
 programs_behind seen listing [] = Ok []
 programs_behind seen listing (r ∷ rs) = programs_with (or_refused r (model_of listing r >>= if_new seen)) (λ place. programs_behind (seen ++ place ∷ []) listing rs)
 
+-- the programs of resources, or the first refusal
 abbrev pub programs : Packages → List Resource → Result (List Program) Refusal
 programs listing rs = programs_behind [] listing rs

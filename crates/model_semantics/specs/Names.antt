@@ -32,11 +32,13 @@ Meets view verdict (Err (fault.Memory m)) = Unit {0}
 
 -- ---- texts of attributes
 
+-- the text that a value is, if it is one
 abbrev pub text_in : Option Value → Option (List ℕ)
 text_in None = None
 text_in (Some (v.Str text)) = Some text
 text_in (Some _) = None
 
+-- the text of the attribute, if it is there and a text
 abbrev pub text_at : List ℕ → List Pair → Option (List ℕ)
 text_at name attrs = text_in (value_at name attrs)
 
@@ -68,6 +70,7 @@ mark_of_user word user name = named user >>= (λ u. named name >>= (λ s. Ok (ma
 
 -- ---- paths
 
+-- the path, or that the text spells none
 abbrev pub path_or_bad : Option Path → Result Path Cause
 path_or_bad None = Err cause.Name
 path_or_bad (Some p) = Ok p
@@ -81,6 +84,7 @@ abbrev pub is_reserved : Path → Bool
 is_reserved [] = false
 is_reserved (s ∷ p) = bytes_eq s (codes ".rehearsal")
 
+-- fine, unless it is reserved
 abbrev pub unless_reserved : Bool → Result (Unit {0}) Cause
 unless_reserved true = Err cause.Reserved
 unless_reserved false = Ok tt
@@ -91,18 +95,22 @@ unless_reserved false = Ok tt
 abbrev pub names_nobody : List ℕ → Bool
 names_nobody text = not (length text == 0) && list_all is_digit text
 
+-- the group that a text names, if it names one
 abbrev pub group_in : Value → List (List ℕ)
 group_in (v.Str text) = if names_nobody text then [] else text ∷ []
 group_in _ = []
 
+-- the groups that a text or a list of texts names
 abbrev pub groups_in : Value → List (List ℕ)
 groups_in (v.List' shape row) = flat_map group_in (items-the_row-Value _ row)
 groups_in x = group_in x
 
+-- the group of `gid`
 abbrev pub groups_of_gid : Option Value → List (List ℕ)
 groups_of_gid None = []
 groups_of_gid (Some x) = group_in x
 
+-- the groups of `groups`
 abbrev pub groups_of_groups : Option Value → List (List ℕ)
 groups_of_groups None = []
 groups_of_groups (Some x) = groups_in x
@@ -111,20 +119,24 @@ groups_of_groups (Some x) = groups_in x
 abbrev pub group_names : List Pair → List (List ℕ)
 group_names attrs = groups_of_gid (value_at (codes "gid") attrs) ++ groups_of_groups (value_at (codes "groups") attrs)
 
+-- the marks of these groups
 abbrev pub group_marks : List (List ℕ) → Result (List Path) Cause
 group_marks [] = Ok []
 group_marks (name ∷ names) = mark_named (codes "group") name >>= (λ m. group_marks names >>= (λ ms. Ok (m ∷ ms)))
 
 -- ---- homes
 
+-- a truth value is there, and is true
 abbrev pub is_true : Option Bool → Bool
 is_true None = false
 is_true (Some b) = b
 
+-- the truth value that a value is, or of which it is the text
 abbrev pub truth_in : Option Value → Option Bool
 truth_in None = None
 truth_in (Some x) = truth_of x
 
+-- `managehome` is true
 abbrev pub manages_home : List Pair → Bool
 manages_home attrs = is_true (truth_in (value_at (codes "managehome") attrs))
 
@@ -137,6 +149,7 @@ home_with name (Some text) = spelled text
 abbrev pub home_of : List ℕ → List Pair → Result (Option Path) Cause
 home_of name attrs = if manages_home attrs then home_with name (text_at (codes "home") attrs) >>= (λ p. Ok (Some p)) else Ok None
 
+-- a home is there, and is reserved
 abbrev pub is_reserved_home : Option Path → Bool
 is_reserved_home None = false
 is_reserved_home (Some p) = is_reserved p
@@ -147,6 +160,7 @@ is_reserved_home (Some p) = is_reserved p
 abbrev pub unit_name : List ℕ → List ℕ
 unit_name name = if bytes_eq (drop (length name - 8) name) (codes ".service") then take (length name - 8) name else name
 
+-- the name of the file of a service
 abbrev pub unit_file : List ℕ → List ℕ
 unit_file s = s ++ codes ".service"
 
@@ -159,6 +173,7 @@ units_at s = record {
   init = codes "etc" ∷ codes "init.d" ∷ s ∷ [];
 }
 
+-- where the files of the service of this name may stand
 abbrev pub units_of : List ℕ → Result Units Cause
 units_of name = named (unit_name name) >>= (λ s. Ok (units_at s))
 

@@ -20,6 +20,7 @@ use Rattle.model_semantics.specs.Words.{sequence, ancestors, dir, dirs, sweep, p
 abbrev pub is_taken : Path → Test
 is_taken p = Or (IsFile p) (IsLink p)
 
+-- the program of a file, by its state
 abbrev pub file_row : Path → FileState → Program
 file_row p file.Unsaid = Id
 file_row p file.Present = If (IsNone p) (Creat p []) Id
@@ -38,6 +39,7 @@ abbrev pub content_of : List ℕ → Path → Option (List ℕ) → List ℕ
 content_of name p (Some digest) = codes "digest:" ++ digest
 content_of name p None = codes "package:" ++ (name ++ (codes ":" ++ path_text p))
 
+-- puts a file of a package
 abbrev pub installed_file : List ℕ → Listed → Program
 installed_file name f = put f.path (content_of name f.path f.digest)
 
@@ -45,6 +47,7 @@ installed_file name f = put f.path (content_of name f.path f.digest)
 abbrev pub folders_of : Package → Path → List Path
 folders_of p m = kept [] (flat_map (λ f. ancestors f.path) p.files ++ (flat_map (λ d. ancestors d ++ d ∷ []) p.folders ++ ancestors m))
 
+-- a package goes: its files, its folders that are empty then, and its mark; or it comes: its folders, its files and its mark
 abbrev pub package_row : List ℕ → Package → Path → Ensure → List Program
 package_row name p m ensure.Absent =
     If (IsFile m) (sequence (map (λ f. drop_file f.path) p.files ++ (map sweep (deepest_first p.folders) ++ Rm m ∷ []))) Id ∷ []
@@ -53,6 +56,7 @@ package_row name p m _ =
 
 -- ---- groups and users
 
+-- the mark of a group goes, or is put
 abbrev pub group_row : Path → Ensure → List Program
 group_row m ensure.Absent = drop_file m ∷ []
 group_row m _ = mark m
@@ -65,6 +69,7 @@ user_row groups m (Some home) =
 
 -- ---- services
 
+-- one of the files of a service is there
 abbrev pub is_installed : Units → Test
 is_installed u = Or (Or (Or (IsFile u.own) (IsFile u.lib)) (IsFile u.usr)) (IsFile u.init)
 
@@ -73,15 +78,18 @@ abbrev pub switched : Units → Path → Bool → List Program
 switched u m true = If (is_installed u) (sequence (mark m)) Err ∷ []
 switched u m false = drop_file m ∷ []
 
+-- what `ensure` asks of a service
 abbrev pub run_part : Units → Path → Ensure → List Program
 run_part u m ensure.Running = switched u m true
 run_part u m ensure.Stopped = switched u m false
 run_part u m _ = []
 
+-- what `enable` asks of a service
 abbrev pub enable_part : Units → Path → Option Bool → List Program
 enable_part u m None = []
 enable_part u m (Some b) = switched u m b
 
+-- the steps of a service
 abbrev pub service_row : Units → Path → Path → States → List Program
 service_row u running enabled s = run_part u running s.ensure ++ enable_part u enabled s.enable
 
@@ -92,6 +100,7 @@ abbrev pub user_need : Option Path → Program
 user_need None = Id
 user_need (Some m) = need m
 
+-- the file of a cron job or of a key goes, or is put where its user is there
 abbrev pub entry_row : Option Path → Path → List ℕ → Ensure → List Program
 entry_row user q content ensure.Absent = drop_file q ∷ []
 entry_row user q content _ = user_need user ∷ (dirs q ++ put q content ∷ [])

@@ -7,6 +7,7 @@ pub use Rattle.fs_semantics.specs.Models.{put}
 
 -- ---- sequences
 
+-- a list of programs, as steps
 abbrev pub steps : List Program → Programs
 steps [] = none
 steps (e ∷ es) = next e (steps es)
@@ -71,6 +72,7 @@ abbrev pub from_depth : ℕ → List Path → List Path
 from_depth zero ps = filter (λ p. length p == 0) ps
 from_depth (suc n) ps = filter (λ p. length p == suc n) ps ++ from_depth n ps
 
+-- those with more segments ahead of those with fewer
 abbrev pub deepest_first : List Path → List Path
 deepest_first ps = from_depth (deepest ps) ps
 

@@ -1,4 +1,4 @@
-//! What resources are taken to do: the definitions, and the laws about them. The tables are in `specs/`.
+//! What resources are taken to do: the definitions, in `specs/`, and the types of which they speak.
 #![tactic(auto)]
 
 mod kinds;

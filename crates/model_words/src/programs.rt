@@ -8,12 +8,14 @@ use fs_lang::{Path, Program, Test};
 use rh_base::{Boxed, NoMemory, Text};
 use std::alloc::Global;
 
+/// Makes a folder.
 pub fn making(alloc: Global, p: &Path) -> Result<Program, NoMemory>
     ensures { IfOk result (λ e. program_of e ≡ Mkdir p.now) }
 {
     Ok(Program::Mkdir(p.copy(alloc)?))
 }
 
+/// Makes a file with this content.
 pub fn creation(alloc: Global, p: &Path, content: &str) -> Result<Program, NoMemory>
     ensures { IfOk result (λ e. program_of e ≡ Creat p.now content.now) }
 {
@@ -21,6 +23,7 @@ pub fn creation(alloc: Global, p: &Path, content: &str) -> Result<Program, NoMem
     Ok(Program::Creat(p.copy(alloc)?, text))
 }
 
+/// Makes a link with this target.
 pub fn link(alloc: Global, p: &Path, target: &str) -> Result<Program, NoMemory>
     ensures { IfOk result (λ e. program_of e ≡ Link p.now target.now) }
 {
@@ -28,12 +31,14 @@ pub fn link(alloc: Global, p: &Path, target: &str) -> Result<Program, NoMemory>
     Ok(Program::Link(p.copy(alloc)?, text))
 }
 
+/// Removes what stands at a path.
 pub fn removal(alloc: Global, p: &Path) -> Result<Program, NoMemory>
     ensures { IfOk result (λ e. program_of e ≡ Rm p.now) }
 {
     Ok(Program::Rm(p.copy(alloc)?))
 }
 
+/// Copies the file at the one path to the other.
 pub fn copy(alloc: Global, from: &Path, p: &Path) -> Result<Program, NoMemory>
     ensures { IfOk result (λ e. program_of e ≡ Cp from.now p.now) }
 {
@@ -61,12 +66,14 @@ pub fn either(alloc: Global, a: Test, b: Test) -> Result<Test, NoMemory>
     Ok(Test::Or(left, right))
 }
 
+/// Whether a file stands at a path.
 pub fn is_file(alloc: Global, p: &Path) -> Result<Test, NoMemory>
     ensures { IfOk result (λ t. test_of t ≡ IsFile p.now) }
 {
     Ok(Test::IsFile(p.copy(alloc)?))
 }
 
+/// Whether a link stands at a path.
 pub fn is_link(alloc: Global, p: &Path) -> Result<Test, NoMemory>
     ensures { IfOk result (λ t. test_of t ≡ IsLink p.now) }
 {

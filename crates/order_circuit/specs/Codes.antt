@@ -30,7 +30,8 @@ abbrev pub part_of : Bool → ℕ → List ℕ → List ℕ
 part_of true j order = take j order
 part_of false j order = drop j order
 
--- The nodes from place k on; those that aren't in the part give way to a number.
+-- The nodes of an order from place k on. Those outside the part, ahead of place j or from it on, give way to a number without a
+-- program.
 abbrev pub kept_from : Bool → ℕ → ℕ → ℕ → List ℕ → List ℕ
 kept_from ahead blank j k [] = []
 kept_from ahead blank j k (i ∷ order) = (if nat_lt j (k + 1) then (if ahead then blank else i) else (if ahead then i else blank)) ∷ kept_from ahead blank j (k + 1) order

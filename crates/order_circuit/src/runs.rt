@@ -21,7 +21,7 @@ use rh_base::{NoMemory, Seq};
 use std::alloc::Global;
 use sym_run::{Sym, choose, sym_apply};
 
-/// The same cells once more. No gate is added.
+/// The same cells once more. No gate is added but a constant.
 pub fn copy_cells(
     alloc: Global,
     sym: &mut Sym,

@@ -1,4 +1,4 @@
--- The inputs of a question come to tell all that is asked of them.
+-- The inputs of a question can tell all that is asked of them.
 use Rattle.std.proofs.Common.{◌≡◌, inl, ℕ, zero, suc, ◌<◌, ◌≤◌, false, List, [], ◌∷◌, take, length, get_or, Some, slice_get, refl, sym, subst, ◌∙◌, arith}
 use Rattle.std.specs.List.{AllByRecursion}
 use Rattle.bool_circuit.specs.declared.gate.Wire.{Wire}

@@ -28,7 +28,7 @@ use Rattle.order_encode.proofs.GrowthLaws.{still_stands}
 use Rattle.order_encode.proofs.WitnessLaws.{Long, first_same}
 use Rattle.order_encode.proofs.OrderLaws.{OneOutcome, one_tree}
 
--- The cells come to stand for each tree over the domain, and in the circuit as it has grown the goal tells whether P holds of the
+-- The cells can stand for each tree over the domain, and in the circuit as it has grown the goal tells whether P holds of the
 -- one for which they stand.
 pub record AsksOfTrees {B : Type 0} (d : Domain) (old new : List Gate) (cells : Cells B Wire (List Wire)) (well goal : Wire) (P : Tree → Type 0) : Type 0 where
   pub trees : AreTrees old d cells well

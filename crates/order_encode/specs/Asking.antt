@@ -22,7 +22,7 @@ pub record AreTrees {B : Type 0} (gates : List Gate) (d : Domain) (cells : Cells
   pub owned : well.0 < length gates
   pub exact : (v : Valuation) → (wire_value gates v well.0 ≡ true) ↔ ((t : Tree) × IsTreeOver d t × Stands d.table (state_of (circuit_meanings gates) v cells) t)
 
--- Together with the codes the cells come to stand for each tree, each list of nodes and each place.
+-- Together with the codes the cells can stand for each tree, each list of nodes and each place.
 pub record IsAsking (gates : List Gate) (d : Domain) (n : ℕ) (a : Asking) : Type 0 where
   pub trees : AreTrees gates d a.cells a.well
   pub long : length a.codes ≡ n

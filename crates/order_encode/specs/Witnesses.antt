@@ -73,7 +73,7 @@ pub record HasEnd (programs : List Program) (order : Relation) (d : Domain) : Ty
   pub first : List ℕ
   pub ended : IsEndedFrom programs order d tree first
 
--- what the witness shows
+-- the witness shows that two orders end differently; that a second run changes something; that the first extension ends in a tree
 abbrev pub ShowsDifference : List Program → (ℕ → ℕ → Type 0) → Domain → Witness → Type 0
 ShowsDifference programs before d (witness.Orders tree left right) = AreDifferentNeighbours programs before d tree left right
 ShowsDifference programs before d (witness.Twice tree first) = ⊥

@@ -26,7 +26,7 @@ pub(crate) struct Asking {
     pub place: Seq<Wire>,
 }
 
-/// A circuit with inputs for a tree over the domain: cells, and whether they stand for one. They come to stand for each.
+/// A circuit with inputs for a tree over the domain: cells, and whether they stand for one. They can stand for each.
 pub(crate) fn tree_inputs(
     alloc: Global,
     domain: &Domain,

@@ -25,8 +25,8 @@ use rh_base::NoMemory;
 use std::alloc::Global;
 use sym_run::Sym;
 
-/// A solver may try the last place but one: nothing stands behind it that could undo a difference. No place above it has a next
-/// one, so that it is enough to try the bits that its number has.
+/// A solver may first try the last place that has a next one: nothing stands behind those two that could undo a difference. No
+/// greater number tells such a place, so that it is enough to try the bits that are set in this one.
 fn try_last_place(place: &[Wire], n: u32, firsts: &mut Vec<Wire>) -> Result<(), NoMemory> {
     let mut number = n.saturating_sub(2);
     'bits: for bit in place.iter().rev() {

@@ -18,6 +18,7 @@ all_taken before taken i (suc n) = all_taken before taken i n && (not (before n 
 abbrev pub is_ready : (ℕ → ℕ → Bool) → ℕ → (ℕ → Bool) → ℕ → Bool
 is_ready before n taken i = nat_lt i n && (not (taken i) && all_taken before taken i n)
 
+-- these are taken, and node i
 abbrev pub with_taken : (ℕ → Bool) → ℕ → ℕ → Bool
 with_taken taken i k = taken k || (k == i)
 
@@ -30,7 +31,7 @@ may_follow before n taken (i ∷ order) = is_ready before n taken i && may_follo
 abbrev pub is_in_order : (ℕ → ℕ → Bool) → ℕ → List ℕ → Bool
 is_in_order before n order = may_follow before n (λ k. false) order
 
--- only numbers below n are related, and none to itself
+-- only numbers below n come before another, and none before itself
 pub record IsStrict (n : ℕ) (before : ℕ → ℕ → Bool) : Type 0 where
   pub within : (a b : ℕ) → Told before a b → a < n
   pub never_itself : (a : ℕ) → Told before a a → ⊥

@@ -7,6 +7,7 @@ use Rattle.serde_json.specs.View.{items_of}
 use Rattle.serde_json.specs.Written.{compact_text}
 use Rattle.rh_base.specs.Reading.{◌>>=◌}
 
+-- the items are these texts, in order
 abbrev pub AreTexts : List (List ℕ) → Items → Type 0
 AreTexts [] no_items = Unit {0}
 AreTexts [] (item d items) = ⊥

@@ -33,6 +33,7 @@ pub record State : Type 0 where
   pub stack : List ℕ
   pub words : List ℕ
 
+-- the state of a search of the code
 abbrev pub state_of : Search → State
 state_of s = record { cursors = s.cursors.items; entered = s.entered.items; done = s.done.items; stack = s.stack.items; words = s.words.items }
 
@@ -48,6 +49,7 @@ pub record IsFollowed (n : ℕ) (edges : List (ℕ × ℕ)) (s : State) (k : ℕ
   pub found : cell (width_of n) s.words (source edges k) (target edges k) ≡ true
   pub all_found : (x : ℕ) → x < n → cell (width_of n) s.words (target edges k) x ≡ true → cell (width_of n) s.words (source edges k) x ≡ true
 
+-- What holds between two steps of a search.
 pub record IsSearch (n : ℕ) (edges : List (ℕ × ℕ)) (s : State) : Type 0 where
   pub cursors_len : length s.cursors ≡ n
   pub entered_len : length s.entered ≡ n

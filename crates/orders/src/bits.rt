@@ -22,6 +22,7 @@ pub fn empty_table(alloc: Global, n: u32) -> Result<Vec<u64>, NoMemory>
     Ok(vec![in alloc; 0; size]?)
 }
 
+/// Whether bit b of row a is set.
 pub fn is_set(words: &[u64], n: u32, a: u32, b: u32) -> bool
     requires size { length words.now ≡ n * width_of n }
     requires row { a < n }
@@ -32,6 +33,7 @@ pub fn is_set(words: &[u64], n: u32, a: u32, b: u32) -> bool
     (word >> (b % 64)) & 1 == 1
 }
 
+/// Sets bit b of row a.
 pub fn insert(words: &mut [u64], n: u32, a: u32, b: u32)
     requires size { length words.old ≡ n * width_of n }
     requires row { a < n }

@@ -14,6 +14,7 @@ pub struct Links {
     pub nexts: Vec<usize>,
 }
 
+/// The chains of these edges between n nodes.
 pub fn link_edges(alloc: Global, n: u32, edges: &[(u32, u32)]) -> Result<Links, NoMemory>
     requires { EndsBelow n edges.now }
     ensures { IfOk result (λ l. AreLinks n edges.now l.heads.items l.nexts.items) }

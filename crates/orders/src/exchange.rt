@@ -1,4 +1,4 @@
-//! A law on linear extensions that other crates' proofs cite.
+//! Laws on linear extensions and exchanges of neighbours, as functions that do nothing.
 ghost use Rattle.std.specs.Prelude.{◌≡◌, ℕ, List, Bool};
 ghost use Rattle.fs_semantics.specs.Orders.{Told, IsLinearExtension, IsExchange};
 ghost use Rattle.orders.specs.Paths.{Path};

@@ -5,6 +5,7 @@ ghost use Rattle.orders.specs.Counting.{EachOnce};
 use rh_base::NoMemory;
 use std::alloc::Global;
 
+/// A mark for each of n nodes, none of them set.
 pub fn unset_marks(alloc: Global, n: u32) -> Result<Vec<bool>, NoMemory>
     ensures size { IfOk result (λ marks. length marks.items ≡ n) }
     ensures unset { IfOk result (λ marks. (k : ℕ) → slice_index_or marks.items k false ≡ false) }
@@ -12,6 +13,7 @@ pub fn unset_marks(alloc: Global, n: u32) -> Result<Vec<bool>, NoMemory>
     Ok(vec![in alloc; false; n as usize]?)
 }
 
+/// Whether the mark of a node is set.
 pub fn is_marked(marks: &[bool], node: u32) -> bool
     requires { node < length marks.now }
     ensures { result ≡ slice_index_or marks.now node false }

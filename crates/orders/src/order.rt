@@ -116,7 +116,7 @@ impl Order {
         Ok(Order { count: n, words })
     }
 
-    /// The entry of the table.
+    /// Whether a comes before b, as the table has it.
     pub(crate) fn comes(&self, a: u32, b: u32) -> bool
         requires a { a < self.now.count }
         requires b { b < self.now.count }

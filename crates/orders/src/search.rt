@@ -23,6 +23,7 @@ pub struct Search {
     pub words: Vec<u64>,
 }
 
+/// A search in which no node was entered; `heads` has for each node the edge to be followed first.
 pub fn begin(alloc: Global, n: u32, heads: Vec<usize>) -> Result<Search, NoMemory>
     ensures { IfOk result (λ s. IsFresh n heads.items (state_of s)) }
 {

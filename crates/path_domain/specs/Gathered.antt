@@ -14,6 +14,7 @@ Paths = Path → Bool
 abbrev pub members : BTreeSet Path → Paths
 members s q = contains path_cmp s q
 
+-- the set with one path more
 abbrev pub with_one : Path → Paths → Paths
 with_one p f q = path_eq q p || f q
 
@@ -23,6 +24,7 @@ pub record Gathered : Type 0 where
   pub watched : Paths
   pub table : Listed
 
+-- what the code has gathered, with its sets by their tests
 abbrev pub told : Found → Gathered
 told f = record { paths = members f.paths; watched = members f.watched; table = f.table }
 
@@ -30,6 +32,7 @@ told f = record { paths = members f.paths; watched = members f.watched; table = 
 abbrev pub nothing : Gathered
 nothing = record { paths = λ q. false; watched = λ q. false; table = record { paths = []; contents = [] ∷ [] } }
 
+-- with one thing more that is mentioned
 abbrev pub with_matter : Matter → Gathered → Gathered
 with_matter (At p) g = record { paths = with_one p g.paths; watched = g.watched; table = g.table }
 with_matter (Below p) g = record { paths = with_one p g.paths; watched = with_one p g.watched; table = g.table }

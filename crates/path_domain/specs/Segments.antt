@@ -11,5 +11,6 @@ Texts = List ℕ → Bool
 abbrev pub texts_in : {Y : Type 0} → BTreeSet (String Y) → Texts
 texts_in s c = contains_text s c
 
+-- the set with one text more
 abbrev pub with_text : List ℕ → Texts → Texts
 with_text c f d = text_eq d c || f d

@@ -1,4 +1,4 @@
-//! A domain, by number.
+//! A domain, with its paths and contents by number.
 
 use fs_interpreter::Table;
 use rh_base::Seq;

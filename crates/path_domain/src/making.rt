@@ -64,7 +64,7 @@ fn all_paths(
     Ok(all)
 }
 
-/// Adds one text for each path of the table, which no content begins with.
+/// Adds one text for each path of the table, all with a beginning that no content has.
 fn add_fresh_texts(alloc: Global, table: &mut Table) -> Result<(), NoMemory>
     ensures paths { OnOk result (table.new.paths ≡ table.old.paths) }
     ensures contents { OnOk result ((n : ℕ) × Starts n table.old.contents × (table.new.contents ≡ table.old.contents ++ numbered (stem n) 0 table.old.paths)) }

@@ -38,12 +38,14 @@ abbrev pub IsFile : Version → Listed → Data → Type 0
 IsFile First f d = IsPath f.path d × (f.digest ≡ None)
 IsFile Second f d = IsPair f d
 
+-- the items are these files, in order
 abbrev pub AreFiles : Version → List Listed → Items → Type 0
 AreFiles version [] no_items = Unit {0}
 AreFiles version [] (item d items) = ⊥
 AreFiles version (f ∷ files) no_items = ⊥
 AreFiles version (f ∷ files) (item d items) = IsFile version f d × AreFiles version files items
 
+-- the items are these folders, in order
 abbrev pub AreFolders : List Path → Items → Type 0
 AreFolders [] no_items = Unit {0}
 AreFolders [] (item d items) = ⊥
@@ -63,7 +65,7 @@ pub record IsPackage (version : Version) (p : Package) (d : Data) : Type 0 where
   pub are_folders : AreFolders p.folders folders
   pub once : stand_once (paths_of p) ≡ true
 
--- each member is a package under its name; names come in the order of their bytes, and of equal ones the last counts
+-- each member is a package under its name; JSON is read with its names in the order of bytes, and of equal ones the last counts
 abbrev pub ArePackages : Version → Packages → Members → Type 0
 ArePackages version [] no_members = Unit {0}
 ArePackages version [] (member name d _) = ⊥

@@ -9,6 +9,7 @@ use Rattle.pkg_listing.specs.declared.listing.Listed.{Listed}
 use Rattle.pkg_listing.specs.declared.listing.Package.{Package}
 use Rattle.pkg_listing.specs.Packages.{Packages}
 
+-- a string, or null where there is none
 abbrev pub digest_data : Option (List ℕ) → Data
 digest_data None = null
 digest_data (Some digest) = string digest
@@ -21,9 +22,11 @@ path_data p = string (path_text p)
 abbrev pub file_data : Listed → Data
 file_data f = array (item (path_data f.path) (item (digest_data f.digest) no_items))
 
+-- the object of a package: its files and its folders
 abbrev pub package_data : Package → Data
 package_data p = object (member (codes "files") (array (items_of (map file_data p.files))) (member (codes "folders") (array (items_of (map path_data p.folders))) no_members))
 
+-- a member for each package, under its name
 abbrev pub packages_data : Packages → Members
 packages_data [] = no_members
 packages_data (p ∷ ps) = member p.0 (package_data p.1) (packages_data ps)

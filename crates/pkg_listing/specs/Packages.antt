@@ -26,6 +26,7 @@ abbrev pub are_new : List Path → List Path → Bool
 are_new seen [] = true
 are_new seen (p ∷ ps) = not (is_among p seen) && are_new (seen ++ p ∷ []) ps
 
+-- no path stands twice
 abbrev pub stand_once : List Path → Bool
 stand_once ps = are_new [] ps
 
@@ -49,10 +50,11 @@ pub record IsFit (p : Package) : Type 0 where
   pub once : stand_once (paths_of p) ≡ true
   pub digests : AllByRecursion (λ f. IsDigest f.digest) p.files
 
--- the names, each before the next in the order of bytes
+-- the names of the packages
 abbrev pub names_of : Packages → List (List ℕ)
 names_of ps = map (λ p. p.0) ps
 
+-- Each name comes before the next in the order of bytes, and each package is fit.
 pub record AreFit (ps : Packages) : Type 0 where
   pub names : IsStrictlySortedBy (slice_cmp nat_cmp) (names_of ps)
   pub packages : AllByRecursion (λ p. IsFit p.1) ps

@@ -10,7 +10,7 @@ use rh_base::{NoMemory, Seq, Text};
 use std::alloc::Global;
 use std::marker::Model;
 
-/// Bytes of a digest.
+/// How many bytes a digest may have.
 pub const DIGEST_BYTES: usize = 255;
 
 /// A file of a package. Files with one digest have one content.

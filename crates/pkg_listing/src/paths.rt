@@ -29,6 +29,7 @@ impl Model for PathSet {
 }
 
 impl PathSet {
+    /// No paths.
     pub fn new(alloc: Global) -> PathSet
         ensures { result ≡ [] }
     {

@@ -21,6 +21,7 @@ run_if_due site (Some x) s = do
   t ← resource_runs site x s
   Ok (true, t)
 
+-- one round; whether something ran
 abbrev pub one_round : Site → State → Result (Bool × State) Refusal
 one_round site s = run_if_due site (next_due (realized s) 0 (realized s).resources) (realized s)
 

@@ -39,6 +39,7 @@ unless_undef x = if is_undef x then None else Some x
 abbrev pub value_in : List ℕ → Level → Option Value
 value_in key level = option_and_then unless_undef (value_at key level.values)
 
+-- the value of the first of these levels which has one
 abbrev pub first_value : List ℕ → List Level → Option Value
 first_value key [] = None
 first_value key (level ∷ levels) = option_or (value_in key level) (first_value key levels)
@@ -49,6 +50,7 @@ lookup levels facts key = first_value key (filter (applies facts) levels)
 
 -- ---- levels whose maps have distinct keys
 
+-- no key stands twice, and the values are proper
 abbrev pub AreProper : List Pair → Type 0
 AreProper pairs = HasDistinctKeys pairs × AllByRecursion (λ p. IsProper p.1) pairs
 
@@ -63,6 +65,7 @@ pub record IsMet (facts : List Pair) (wanted : Pair) : Type 0 where
   pub stands : value_at wanted.0 facts ≡ Some value
   pub same : equal_table value wanted.1 ≡ Ok true
 
+-- each fact that the level asks for is met
 abbrev pub Applies : List Pair → Level → Type 0
 Applies facts level = AllByRecursion (IsMet facts) level.when
 

@@ -19,6 +19,7 @@ IsOwn site d = definition_of d.name site.classes ≡ Some d
 abbrev pub plain_class : Site → Bodies → ℕ → List Pair → List ℕ → Effect
 plain_class site bodies at attributes title = class_declared site bodies at attributes (plain_name title)
 
+-- the reference to a class by a title
 abbrev pub plain_class_ref : List ℕ → Ref
 plain_class_ref title = class_ref (plain_name title)
 

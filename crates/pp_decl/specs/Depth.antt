@@ -5,6 +5,7 @@ use Rattle.pp_syntax.specs.declared.tree.Stmt.TheOpen as stmt
 use Rattle.pp_syntax.specs.declared.tree.Stmt.TheOpen.{Arm-F, CaseArm-F}
 use Rattle.catalog_semantics.specs.Sites.{Site}
 
+-- the greatest of some numbers; 0 where there are none
 abbrev pub most : List ℕ → ℕ
 most [] = 0
 most (n ∷ ns) = max n (most ns)
@@ -24,6 +25,7 @@ depth_by (stmt.If at arms other) = max (most arms) (most other) + 1
 depth_by (stmt.Unless at test body other) = max (most body) (most other) + 1
 depth_by (stmt.Case at value arms) = most arms + 1
 
+-- how deep blocks stand within one another in a statement
 unfoldable pub depth : Stmt → ℕ
 depth s = fold-Stmt ℕ ℕ ℕ depth_by arm_depth_by case_arm_depth_by s
 

@@ -5,6 +5,7 @@ use Rattle.pp_syntax.specs.declared.tree.Func.TheVariants as func
 use Rattle.catalog_semantics.specs.declared.state.State.{State}
 use Rattle.catalog_semantics.specs.Functions.{contained, required}
 
+-- `contain` and `require` do something; the others do nothing
 abbrev pub after_include : Func → ℕ → List ℕ → State → State
 after_include func.Include at name s = s
 after_include func.Contain at name s = contained name s

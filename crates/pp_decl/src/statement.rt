@@ -440,7 +440,7 @@ fn include(
 
 // ---- from outside
 
-/// A statement, where no body of a class runs.
+/// A statement, where no body of a class is open.
 #[tactic(auto, using(crate::proofs::StatementLaws::whole_statement))]
 pub fn run_statement(
     alloc: Global,
@@ -453,7 +453,7 @@ pub fn run_statement(
     statement(alloc, site, BODIES, s, state)
 }
 
-/// The statements of a block, where no body of a class runs.
+/// The statements of a block, where no body of a class is open.
 #[tactic(auto, using(crate::proofs::StatementLaws::whole_block))]
 pub fn run_block(
     alloc: Global,

@@ -17,7 +17,7 @@ use pp_value::{Value, fits};
 use rh_base::{Fault, Text};
 use std::alloc::Global;
 
-/// The default of a parameter.
+/// The default of a parameter, or the refusal of one that has none.
 fn preset_of(alloc: Global, r: &Resource, p: &Parameter<'_>, state: &State) -> Result<Value, Fault>
     ensures { Answers (preset_of r.now p.now p.now.default state.now) result }
 {

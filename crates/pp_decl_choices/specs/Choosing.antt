@@ -50,11 +50,13 @@ maybe_block site bodies (Some body) s = block_with site bodies body s
 
 -- ---- what runs
 
+-- a condition
 abbrev pub chosen_runs : Site → Bodies → List Arm → List Stmt → Effect
 chosen_runs site bodies arms other s = do
   body ← chosen_arm s.scopes arms other
   block_with site bodies body s
 
+-- a `case`
 abbrev pub option_runs : Site → Bodies → Expr → List CaseArm → Effect
 option_runs site bodies e arms s = do
   found ← chosen_option s.scopes e arms

@@ -18,6 +18,7 @@ body_begins d place r scope s = do
   t ← opened d r scope s
   Ok (begun place t)
 
+-- one more body may run
 abbrev pub may_begin : ℕ → Bool → State → Result State Refusal
 may_begin at may_run s = if may_run then Ok s else Err (refusal 32 at (codes "declared"))
 
@@ -36,16 +37,19 @@ class_begins may_run d r s = do
 
 -- ---- the whole of a body
 
+-- the statements of a body, and its end
 abbrev pub body_ends : (Stmt → Effect) → Definition → Option ℕ → Effect
 body_ends run d before t = do
   u ← in_turn (map run d.body) t
   Ok (ended (record t { running = before }) u)
 
+-- a class becomes a resource, and its body runs to its end
 abbrev pub class_goes : (Stmt → Effect) → Definition → Resource → Effect
 class_goes run d r s = do
   t ← class_begins true d r s
   body_ends run d s.running t
 
+-- a body runs to its end
 abbrev pub body_goes : (Stmt → Effect) → Definition → ℕ → Resource → Scope → Effect
 body_goes run d place r scope s = do
   t ← body_begins d place r scope s

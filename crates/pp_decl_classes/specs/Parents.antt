@@ -14,9 +14,11 @@ next_by site s at (Some parent) = if is_declared (class_ref parent) s then Ok No
   d ← class_named site at parent
   Ok (Some d)
 
+-- so of a class
 abbrev pub next_parent : Site → State → Definition → Result (Option Definition) Refusal
 next_parent site s d = next_by site s d.at d.parent
 
+-- a parent, if there is one, and those above it
 abbrev pub and_above : (Definition → Result (List Definition) Refusal) → Option Definition → Result (List Definition) Refusal
 and_above above None = Ok []
 and_above above (Some p) = do

@@ -37,7 +37,7 @@ pub fn class_named<'s, 'm>(
     }
 }
 
-/// No class inherits itself.
+/// Refuses a class whose chain of parents meets a class twice.
 pub fn no_circle<'m>(alloc: Global, site: &Site<'m>, d: &Definition<'m>) -> Result<(), Fault>
     ensures { AnswersBy (λ done. d.now) (no_circle site.now d.now) result }
 {

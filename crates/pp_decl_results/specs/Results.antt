@@ -10,6 +10,7 @@ use Rattle.catalog_semantics.specs.Catalogs.{is_plain_sort}
 abbrev pub is_hit : Collector → Resource → Bool
 is_hit c r = matches c r && not r.is_virtual
 
+-- its reference, where it is one
 abbrev pub hits : Collector → Resource → List Ref
 hits c r = if is_hit c r then r.id ∷ [] else []
 

@@ -39,7 +39,7 @@ fn count_real(state: &State) -> u32
     count
 }
 
-/// A catalog has only so many real resources of built-in types.
+/// Refuses a state with more real resources of built-in types than a catalog may have.
 pub fn few_enough(alloc: Global, state: &State) -> Result<(), Fault>
     ensures { AnswersBy (λ done. state.now) (few_enough state.now) result }
 {

@@ -1,4 +1,4 @@
--- What is evaluated stays within the limit on the size of a value.
+-- What is evaluated stays within the limits on the size and the depth of a value.
 use Rattle.std.proofs.Common.{◌≡◌, ℕ, Bool, true, false, cond, List, [], ◌∷◌, ◌++◌, Result, Ok, Err, Some, refl, subst}
 use Rattle.rh_base.specs.declared.fault.Refusal.{Refusal}
 use Rattle.pp_syntax.specs.declared.tree.Expr.{Expr}

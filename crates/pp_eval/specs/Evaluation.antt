@@ -22,7 +22,7 @@ use Rattle.pp_eval.specs.Scoping.{Scoped, find_in}
 
 -- ---- variables
 
--- the value that is found, which isn't made here
+-- the value that is found; it isn't made here, so no limit is asked
 abbrev pub bound_to : ℕ → List ℕ → Option Value → Verdict
 bound_to at name (Some x) = Ok x
 bound_to at name None = Err (unbound at name)
@@ -37,6 +37,7 @@ values_in (m ∷ members) = do
   xs ← values_in members
   Ok (x ∷ xs)
 
+-- a list of these members
 abbrev pub list_at : ℕ → List Evaluated → Verdict
 list_at at members = do
   xs ← values_in members
@@ -71,6 +72,7 @@ keyed_in members = do
   pairs ← pairs_in members
   Ok (with_pairs [] pairs)
 
+-- a map of these pairs
 abbrev pub map_at : ℕ → List (Evaluated × Evaluated) → Verdict
 map_at at members = do
   pairs ← keyed_in members
@@ -120,6 +122,7 @@ one_or_list [] = v.List []
 one_or_list (x ∷ []) = x
 one_or_list (x ∷ y ∷ more) = v.List (x ∷ y ∷ more)
 
+-- the reference to a title, or those to several
 abbrev pub refer_at : ℕ → List ℕ → List Evaluated → Verdict
 refer_at at kind members = do
   references ← references_in kind members
@@ -153,6 +156,7 @@ joined_to at text (m ∷ members) = do
 
 -- ---- operators
 
+-- the truth of a value; an opaque one has none
 abbrev pub truth_at : ℕ → Value → Result Bool Refusal
 truth_at at x = if_there at (truth_of x)
 
@@ -181,6 +185,7 @@ chain_from at x (o ∷ more) = do
   y ← operated at o.0 x o.1.verdict
   chain_from at y more
 
+-- a chain of operators of one level
 abbrev pub chain_at : ℕ → Evaluated → List (Op × Evaluated) → Verdict
 chain_at at first more = do
   x ← first.verdict
@@ -201,12 +206,13 @@ prefix_at at (o ∷ ops) verdict = do
   x ← prefix_at at ops verdict
   prefixed at o x
 
--- the member of a value, which isn't made here
+-- the member of a value; it isn't made here, so no limit is asked
 abbrev pub indexed : ℕ → Value → Verdict → Verdict
 indexed at x key = do
   k ← key
   told at (index_table x k)
 
+-- a member of what stands before the brackets
 abbrev pub index_at : ℕ → Evaluated → Evaluated → Verdict
 index_at at base key = do
   x ← base.verdict
@@ -262,6 +268,7 @@ selected at x choices = do
   found ← first_equal at x choices
   chosen at found (default_in choices)
 
+-- what a selector selects
 abbrev pub select_at : ℕ → Evaluated → List (Option Evaluated × Evaluated) → Verdict
 select_at at control choices = do
   x ← control.verdict
@@ -269,6 +276,7 @@ select_at at control choices = do
 
 -- ---- expressions
 
+-- each form, by the verdicts of the expressions in it
 abbrev pub form_at : {Y : Type 0} → Scoped → Form-F Y Evaluated → ℕ → Verdict
 form_at s (form.Int n) at = limited at (v.Int n)
 form_at s (form.Str text) at = limited at (v.Str text)
@@ -288,9 +296,11 @@ form_at s (form.Select control choices) at = select_at at control choices
 unfoldable pub value_in : Scoped → Form → ℕ → Verdict
 value_in s f = fold-Form (ℕ → Verdict) Evaluated (form_at s) (λ x. record { at = x.at; verdict = x.form x.at }) f
 
+-- the value of an expression, in these scopes
 abbrev pub value_of : Scoped → Expr → Verdict
 value_of s e = value_in s e.form e.at
 
+-- an expression with its place and its verdict
 abbrev pub evaluated : Scoped → Expr → Evaluated
 evaluated s e = record { at = e.at; verdict = value_of s e }
 

@@ -6,7 +6,7 @@ use Rattle.pp_eval.specs.declared.lent.Lent.{Lent}
 use Rattle.pp_eval.specs.declared.lent.Lent.TheVariants as lent
 use Rattle.pp_eval.specs.Verdicts.{Verdict, Refuses}
 
--- What is lent is the value that is due, or the refusal that is due is answered; nothing is lent where the expression is no such one.
+-- What is lent is the value that is due, or the refusal that is due is answered. Where nothing is lent, nothing is said of it.
 abbrev pub Lends : Verdict → Result Lent Fault → Type 0
 Lends verdict (Ok lent.Nothing) = Unit {0}
 Lends verdict (Ok lent.Undef) = verdict ≡ Ok v.Undef

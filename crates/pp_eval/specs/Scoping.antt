@@ -23,10 +23,12 @@ Scoped = List Scope × List ℕ
 
 -- ---- what all scopes are
 
+-- the first scope is the top
 abbrev pub HasTop : List Scope → Type 0
 HasTop [] = ⊥
 HasTop (s ∷ scopes) = s.sort ≡ sort.Top
 
+-- the first place is that of the top
 abbrev pub BeginsWithTop : List ℕ → Type 0
 BeginsWithTop [] = ⊥
 BeginsWithTop (place ∷ places) = place ≡ 0
@@ -106,6 +108,7 @@ is_top (c ∷ name) = false
 abbrev pub find_qualified : Scoped → List ℕ → List ℕ → Option Value
 find_qualified s class name = if is_top class then in_scope name (top_scope s) else in_lineage s.0 name (class_of s.0 class)
 
+-- the value of a variable, named without `$`
 abbrev pub find_in : Scoped → List ℕ → Option Value
 find_in s name = if is_qualified name then find_qualified s (scope_in name) (variable_in name) else find_plain s name
 
@@ -137,6 +140,7 @@ BindsAt place old name x new (Err (fault.Memory m)) = (value_at name (bindings_a
 abbrev pub place_now : List ℕ → ℕ
 place_now open_ones = unwrap_or (current_place open_ones) 0
 
+-- what is bound in the current scope
 abbrev pub bindings_now : Scoped → List Pair
 bindings_now s = bindings_at (place_now s.1) s.0
 
@@ -169,6 +173,7 @@ abbrev pub class_place : ℕ → List Scope → List ℕ → Option ℕ
 class_place n [] name = None
 class_place n (c ∷ scopes) name = if is_class_of name c.sort then Some n else class_place (n + 1) scopes name
 
+-- the scope of a class, which inherits its parent's, if that has one
 abbrev pub class_scope : List Scope → List ℕ → Option (List ℕ) → Scope
 class_scope scopes name parent = record { sort = sort.Class name; parent = option_and_then (class_place 0 scopes) parent; bindings = [] }
 
@@ -185,6 +190,7 @@ IsInnerSort sort.Node = ⊥
 IsInnerSort (sort.Class class) = Unit {0}
 IsInnerSort sort.Defined = Unit {0}
 
+-- there is such a scope
 abbrev pub IsInner : Option Scope → Type 0
 IsInner None = ⊥
 IsInner (Some scope) = IsInnerSort scope.sort
@@ -204,6 +210,7 @@ abbrev pub with_facts : List Pair → List Pair → List Pair
 with_facts bindings [] = bindings
 with_facts bindings (p ∷ pairs) = if is_variable p.0 && is_none (value_at p.0 bindings) then with_facts (bindings ++ p ∷ []) pairs else with_facts bindings pairs
 
+-- the pairs of a map, and none of any other value
 abbrev pub pairs_in : Value → List Pair
 pairs_in (v.Map' keys row) = keyed keys row
 pairs_in _ = []
@@ -215,5 +222,6 @@ pairs_in_map pairs = keyed_is pairs
 abbrev pub top_of : Value → List Pair
 top_of facts = with_facts ((codes "facts", facts) ∷ []) (pairs_in facts)
 
+-- the top alone, with the facts in it
 abbrev pub at_start : Value → Scoped
 at_start facts = (record { sort = sort.Top; parent = None; bindings = top_of facts } ∷ [], 0 ∷ [])

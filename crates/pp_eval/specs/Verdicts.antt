@@ -8,6 +8,7 @@ use Rattle.pp_value.specs.declared.fault.Misfit.{Misfit}
 use Rattle.pp_value.specs.declared.fault.Misfit.TheVariants.{Operand, Range}
 use Rattle.pp_value.specs.Values.{exceeds_limits}
 
+-- a value, or one refusal
 abbrev pub Verdict : Type 0
 Verdict = Result Value Refusal
 
@@ -24,6 +25,7 @@ abbrev pub ◌>>=◌ : {A B : Type 0} → Result A Refusal → (A → Result B R
 
 -- ---- the refusals at a place
 
+-- a refusal by its number, its place and its name
 abbrev pub refusal : ℕ → ℕ → List ℕ → Refusal
 refusal number at name = record { number = number; at = at; name = name }
 
@@ -86,5 +88,6 @@ abbrev pub AnswersBy : {X Y : Type 0} → (X → Y) → Result Y Refusal → Res
 AnswersBy view verdict (Ok x) = verdict ≡ Ok (view x)
 AnswersBy view verdict (Err e) = Refuses verdict e
 
+-- the value that is due, or the refusal
 abbrev pub Answers : Verdict → Result Value Fault → Type 0
 Answers verdict answer = AnswersBy (λ x. x) verdict answer

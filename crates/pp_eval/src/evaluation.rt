@@ -19,7 +19,7 @@ use pp_value::{Pairs, Value, member};
 use rh_base::{Fault, Seq, Text};
 use std::alloc::Global;
 
-/// The value of an expression, or its refusal at the place of the smallest expression that is refused.
+/// The value of an expression, or the one refusal that is due, with its place.
 #[cycle(evaluation)]
 #[tactic(auto, using(crate::proofs::Forms::forms, crate::proofs::Forms::chain_is, crate::proofs::Forms::index_is, crate::proofs::Forms::select_is))]
 pub fn eval(alloc: Global, e: &Expr, scopes: &Scopes) -> Result<Value, Fault>

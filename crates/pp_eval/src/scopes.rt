@@ -63,14 +63,14 @@ impl Model for Scopes {
     ghost invariant = { λ s. AreScopes s.scopes.items s.open.items × AreKept s.classes s.scopes.items };
 }
 
-/// A text of its own.
+/// A copy of a name.
 fn owned(alloc: Global, name: &str) -> Result<Text, NoMemory>
     ensures { IfOk result (λ text. text ≡ name.now) }
 {
     Ok(Text::from_string(String::from_str(alloc, name)?))
 }
 
-/// Binds a name that has no binding there.
+/// Binds a name, unless it has a binding there.
 fn bind_in(alloc: Global, bindings: &mut Pairs, name: &str, value: Value) -> Result<(), BindFault>
     ensures { Binds bindings.old name.now value bindings.new result }
 {

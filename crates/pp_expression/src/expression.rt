@@ -81,6 +81,7 @@ fn unary(alloc: Global, depth: usize, tokens: &[Token<'_>], from: usize) -> Read
     Ok((e, rest))
 }
 
+/// An operand with the indexes and selections behind it.
 #[cycle(expression)]
 #[tactic(auto, unfolding(pp_readers::specs::Expressions::postfix_with))]
 pub fn postfix(alloc: Global, depth: usize, tokens: &[Token<'_>], from: usize) -> Read<Expr>
@@ -406,6 +407,7 @@ fn titles(alloc: Global, depth: usize, tokens: &[Token<'_>], from: usize) -> Rea
     exprs(alloc, depth, "]", turns(tokens, rest), tokens, rest)
 }
 
+/// A reference with its titles.
 #[cycle(expression)]
 pub fn reference(alloc: Global, depth: usize, tokens: &[Token<'_>], from: usize) -> Read<Expr>
     ensures { Reads (reference_with (expr_at depth)) tokens.now from result }

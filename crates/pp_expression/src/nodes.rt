@@ -111,7 +111,7 @@ pub fn joined(
     plain_of(alloc, index, at, members)
 }
 
-/// A word with nothing but indexes behind it, as the variable of that name. Any other expression stays.
+/// A text with nothing but indexes behind it, with the variable of that name in its place. Any other expression stays.
 #[tactic(auto, using(pp_readers::proofs::Variables::at_as_variable))]
 pub fn as_variable(alloc: Global, e: Expr) -> Result<Expr, NoMemory>
     ensures { IfOk result (λ v. v ≡ as_variable e) }

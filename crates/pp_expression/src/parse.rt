@@ -1,4 +1,4 @@
-//! What the crates above call.
+//! What the parsers of statements and of manifests call.
 ghost use Rattle.pp_syntax.specs.Lexing.{told};
 ghost use Rattle.pp_syntax.specs.Derivation.{IsExprAt, PostfixOf, ReferenceOf, StringOf};
 ghost use Rattle.pp_readers.specs.Parsed.{Reads, IsSpelled, IsParsed, NothingGoesOn, NoSuffixGoesOn, Anything};
@@ -19,7 +19,7 @@ pub fn parse_expression(
 ) -> Read<Expr>
     ensures spelled { IsSpelled (IsExprAt depth) (told tokens.now) from result }
     ensures parsed { IsParsed (IsExprAt depth) NothingGoesOn (told tokens.now) from result }
-    // what the way of reading finds, of which the laws say that it is the grammar's
+    // what the reader of this rule finds, which the parsers that call this build on
     ensures reads { Reads (expr_at depth) tokens.now from result }
 {
     expression::expr(alloc, depth, tokens, from)
@@ -30,7 +30,7 @@ pub fn parse_expression(
 pub fn parse_postfix(alloc: Global, depth: usize, tokens: &[Token<'_>], from: usize) -> Read<Expr>
     ensures spelled { IsSpelled (PostfixOf (IsExprAt depth)) (told tokens.now) from result }
     ensures parsed { IsParsed (PostfixOf (IsExprAt depth)) NoSuffixGoesOn (told tokens.now) from result }
-    // what the way of reading finds, of which the laws say that it is the grammar's
+    // what the reader of this rule finds, which the parsers that call this build on
     ensures reads { Reads (postfix_with (expr_at depth)) tokens.now from result }
 {
     expression::postfix(alloc, depth, tokens, from)
@@ -40,7 +40,7 @@ pub fn parse_postfix(alloc: Global, depth: usize, tokens: &[Token<'_>], from: us
 pub fn parse_reference(alloc: Global, depth: usize, tokens: &[Token<'_>], from: usize) -> Read<Expr>
     ensures spelled { IsSpelled (ReferenceOf (IsExprAt depth)) (told tokens.now) from result }
     ensures parsed { IsParsed (ReferenceOf (IsExprAt depth)) Anything (told tokens.now) from result }
-    // what the way of reading finds, of which the laws say that it is the grammar's
+    // what the reader of this rule finds, which the parsers that call this build on
     ensures reads { Reads (reference_with (expr_at depth)) tokens.now from result }
 {
     expression::reference(alloc, depth, tokens, from)
@@ -50,7 +50,7 @@ pub fn parse_reference(alloc: Global, depth: usize, tokens: &[Token<'_>], from: 
 pub fn parse_string(alloc: Global, depth: usize, tokens: &[Token<'_>], from: usize) -> Read<Expr>
     ensures spelled { IsSpelled (StringOf (IsExprAt depth)) (told tokens.now) from result }
     ensures parsed { IsParsed (StringOf (IsExprAt depth)) Anything (told tokens.now) from result }
-    // what the way of reading finds, of which the laws say that it is the grammar's
+    // what the reader of this rule finds, which the parsers that call this build on
     ensures reads { Reads (string_with (expr_at depth)) tokens.now from result }
 {
     expression::string(alloc, depth, tokens, from)

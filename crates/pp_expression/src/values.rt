@@ -12,7 +12,7 @@ use pp_syntax::{Form, Kind, int_value};
 use rh_base::{NoMemory, Text};
 use std::alloc::{AllocError, Global};
 
-/// A text of its own.
+/// A copy of a text.
 pub fn text_of(alloc: Global, text: &str) -> Result<Text, NoMemory>
     ensures { IfOk result (λ t. t ≡ text.now) }
 {

@@ -1,4 +1,4 @@
--- The same of statements and items.
+-- Rules of statements and items that agree on short lists of tokens make rules that agree on lists one token longer.
 use Rattle.std.proofs.Common.{◌≡◌, ℕ, zero, suc, ◌+◌, List, [], ◌∷◌, length, subst, arith}
 use Rattle.std.specs.Prelude.{codes, Option}
 use Rattle.std.specs.Prelude as prelude

@@ -8,6 +8,7 @@ use Rattle.pp_parser.specs.declared.depth.Shape.{Shape}
 use Rattle.pp_parser.specs.declared.depth.Shape.TheVariants.{Opens, Indexes, Braces, Closes, Asks, Prefixes, Other}
 use Rattle.pp_parser.specs.declared.depth.Nesting.{Nesting}
 
+-- what counts before the first token
 abbrev pub at_start : Nesting
 at_start = record { opened = []; run = 0; row = 0; asked = 0 }
 
@@ -19,6 +20,7 @@ sign_shape text = if is_among (codes "(" ∷ codes "<|" ∷ []) text then Opens
     else (if is_among (codes "!" ∷ codes "-" ∷ []) text then Prefixes
     else Other))))
 
+-- what a token is for the depth
 abbrev pub shape_of : Kind → List ℕ → Shape
 shape_of kind.Loose text = Opens
 shape_of kind.Hole text = Opens

@@ -22,6 +22,7 @@ pub record IsDepthRefusal (tokens : List Lexeme) (r : Refusal) : Type 0 where
   pub first : IsFirst IsTooDeep tokens token
   pub refusal : IsRefusal 13 token.at (codes "nesting") r
 
+-- a token is left out, or one is nested too deep
 abbrev pub IsCheckRefusal : List Lexeme → Refusal → Type 0
 IsCheckRefusal tokens r = IsLeftOutRefusal tokens r ⊎ IsDepthRefusal tokens r
 
@@ -42,5 +43,6 @@ pub record IsSyntaxRefusal (tokens : List Lexeme) (r : Refusal) : Type 0 where
   pub no_tree : (m : Manifest) → IsManifest m tokens → ⊥
   pub refusal : RefusesSyntax r
 
+-- why tokens are refused: before they are parsed, or since they spell no tree
 abbrev pub IsParseRefusal : List Lexeme → Refusal → Type 0
 IsParseRefusal tokens r = IsCheckRefusal tokens r ⊎ IsSyntaxRefusal tokens r

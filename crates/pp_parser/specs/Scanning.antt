@@ -42,14 +42,18 @@ abbrev pub first_where : {S : Type 0} → (S → Lexeme → S) → (S → Lexeme
 first_where step test s [] = None
 first_where step test s (t ∷ tokens) = if test s t tokens then Some t else first_where step test (step s t) tokens
 
+-- the first token that is left out
 abbrev pub first_left_out : Bool → List Lexeme → Option Lexeme
 first_left_out names tokens = first_where names_follow is_left_out names tokens
 
+-- what counts behind a token
 abbrev pub behind : Nesting → Lexeme → Nesting
 behind n t = behind_shape n (shape_of t.kind t.text)
 
+-- the token is nested too deep
 abbrev pub is_too_deep : Nesting → Lexeme → List Lexeme → Bool
 is_too_deep n t tokens = nat_lt NESTING (depth_of n (shape_of t.kind t.text))
 
+-- the first token that is nested too deep
 abbrev pub first_too_deep : Nesting → List Lexeme → Option Lexeme
 first_too_deep n tokens = first_where behind is_too_deep n tokens

@@ -1,4 +1,4 @@
-//! Parsing: the tree that tokens spell, or the first token that goes wrong.
+//! Parsing: the tree that tokens spell, or why they are refused.
 #![tactic(auto)]
 
 mod checked;

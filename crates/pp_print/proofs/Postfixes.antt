@@ -56,7 +56,7 @@ same_form y f g at e h = ap (λ (k : Form). record { at = 0; form = k }) (ap unp
 abbrev Leaf : Rule → Form → Kind → List ℕ → Type 0
 Leaf F f k s = (at : ℕ) (us : List Lexeme) → Token k s at us → PrimaryOf F (record { at = at; form = f }) us
 
--- an expression whose words are those of a primary
+-- an operand by itself is one with nothing behind it
 pub primary_postfix : (F : Rule) (y : Expr) (us : List Lexeme) → PrimaryOf F y us → PostfixOf F y us
 primary_postfix F y us h = record { operand = y; front = us; back = []; primary = h; suffixes = rule.none refl refl; whole = sym (append-nil us) }
 

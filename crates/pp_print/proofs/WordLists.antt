@@ -38,8 +38,6 @@ both_fine U (t ∷ ts) us h =
     let r = both_fine U ts us (record { sound = h.sound.1; good = h.good.1; empty = h.empty }) in
     (record { sound = (h.sound.0, r.0.sound); good = (h.good.0, r.0.good); empty = h.empty }, r.1)
 
--- ---- numbers
-
 -- ---- variables
 
 no_dash_both : (s t : List ℕ) → has_dash (s ++ t) ≡ false → (has_dash s ≡ false) × (has_dash t ≡ false)

@@ -17,6 +17,7 @@ pub record IsSpelled (m : Manifest) : Type 0 where
   pub spelled : Spells text tokens
   pub derived : IsManifest m tokens
 
+-- the words of the manifest as one text
 abbrev pub canonical : Manifest → List ℕ
 canonical m = text_of (manifest_words m)
 

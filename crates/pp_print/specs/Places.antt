@@ -77,5 +77,6 @@ unplaced_item (item.Plain s) = item.Plain (unplaced_stmt s)
 abbrev pub unplaced_manifest : Manifest → Manifest
 unplaced_manifest m = record { items = map unplaced_item m.items }
 
+-- With every place set to 0 the two are one manifest.
 abbrev pub SameButPlaces : Manifest → Manifest → Type 0
 SameButPlaces m n = unplaced_manifest m ≡ unplaced_manifest n

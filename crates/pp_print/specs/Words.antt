@@ -41,6 +41,7 @@ abbrev pub text_from : Bool → List Word → List ℕ
 text_from held [] = []
 text_from held (w ∷ words) = (if held || clings w.kind then [] else 32 ∷ []) ++ (w.text ++ text_from (holds w.kind) words)
 
+-- the text of these words
 abbrev pub text_of : List Word → List ℕ
 text_of words = text_from true words
 
@@ -55,6 +56,7 @@ escapes (c ∷ text) = (c == 92) || (c == 39)
 abbrev pub must_escape : ℕ → List ℕ → Bool
 must_escape b text = (b == 39) || ((b == 92) && escapes text)
 
+-- a text with the backslashes that single quotes need
 abbrev pub escaped : List ℕ → List ℕ
 escaped [] = []
 escaped (b ∷ text) = (if must_escape b text then 92 ∷ b ∷ [] else b ∷ []) ++ escaped text
@@ -63,6 +65,7 @@ escaped (b ∷ text) = (if must_escape b text then 92 ∷ b ∷ [] else b ∷ []
 abbrev pub quoted : List ℕ → List Word
 quoted text = word kind.Sq (39 ∷ (escaped text ++ 39 ∷ []))
 
+-- a number in decimal, without its sign
 abbrev pub number : ℤ → List Word
 number n = word kind.Int (decimal (unsigned_abs n))
 

@@ -150,6 +150,7 @@ fn links(words: &mut Words, arrows: &[Arrow], sides: &[Operand]) -> Result<(), N
     Ok(())
 }
 
+/// Operands with arrows between them.
 pub fn chain(words: &mut Words, sides: &[Operand], arrows: &[Arrow]) -> Result<(), NoMemory>
     ensures { OnOk result (words.new ≡ words.old ++ chain_words sides.now arrows.now) }
 {

@@ -80,6 +80,7 @@ fn searches(words: &mut Words, least: u32, between: &str, all: &[Search]) -> Res
     Ok(())
 }
 
+/// The search of a collector, if it has one.
 pub fn maybe_search(words: &mut Words, s: &Option<Search>) -> Result<(), NoMemory>
     ensures { OnOk result (words.new ≡ words.old ++ maybe_search s.now) }
 {

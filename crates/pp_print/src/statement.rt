@@ -45,6 +45,7 @@ fn options(words: &mut Words, all: &[Option<Expr>]) -> Result<(), NoMemory>
     Ok(())
 }
 
+/// A statement.
 #[cycle(statement)]
 #[tactic(auto, using(crate::proofs::Blocks::statements))]
 pub fn stmt(words: &mut Words, s: &Stmt) -> Result<(), NoMemory>

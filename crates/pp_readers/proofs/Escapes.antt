@@ -1,3 +1,4 @@
+-- The value of a text in single quotes, as the code takes it.
 use Rattle.std.proofs.Common.{◌≡◌, ◌≢◌, ◌⊎◌, inl, inr, ℕ, suc, ◌<◌, ◌==◌, ◌||◌, true, false, cond, List, [], ◌∷◌, ◌++◌, length, refl, sym, ap, ◌∙◌, arith, append_assoc, length-append, Option, Some, None, Bor}
 use Rattle.std.specs.Option.{MatchOption, option_map}
 use Rattle.std.proofs.Common.{eq-eqb}

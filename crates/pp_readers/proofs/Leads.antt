@@ -19,7 +19,7 @@ use Rattle.pp_readers.specs.Statements.{unclosed}
 use Rattle.pp_readers.proofs.Combining.{Spells}
 use Rattle.pp_readers.proofs.Building.{Phrase}
 
--- ---- Such a token ends a statement, and closes no block.
+-- ---- a token that begins a statement goes on behind none, and closes no block
 
 -- a text among others is one of them
 one_of : (P : List ℕ → Type 0) (w : List ℕ) (ws : List (List ℕ)) (s : List ℕ) → P w → (is_among ws s ≡ true → P s) → is_among (w ∷ ws) s ≡ true → P s

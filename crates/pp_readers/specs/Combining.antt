@@ -7,6 +7,7 @@ use Rattle.pp_readers.specs.Marks.{Found, first_at, mark}
 use Rattle.rh_base.specs.Reading.{◌>>=◌}
 use Rattle.pp_readers.specs.Expressions.{with_first}
 
+-- what finds something at the front of tokens, or doesn't
 abbrev pub Reader : Type 0 → Type 0
 Reader X = List Lexeme → Found X
 
@@ -28,6 +29,7 @@ before f k s ts = f ts >>= λ x. mark k s x.1 >>= λ r. Some (x.0, r.1)
 abbrev pub in_braces : {X : Type 0} → Reader X → Reader X
 in_braces f = behind kind.Sign (codes "{") (before f kind.Sign (codes "}"))
 
+-- something is found
 abbrev pub is_found : {X : Type 0} → Option X → Bool
 is_found None = false
 is_found (Some x) = true

@@ -24,10 +24,12 @@ abbrev pub operations : ℕ → (List Lexeme → Found Expr) → ℕ → List Le
 operations level next zero ts = None
 operations level next (suc n) ts = operations_or_end next (operations level next n) (infix_at level ts) ts
 
+-- a chain of operators, or its one operand
 abbrev pub chain_of : ℕ → Expr → List (Op × Expr) → Expr
 chain_of at first [] = first
 chain_of at first (o ∷ more) = record { at = at; form = form.Chain first (o ∷ more) }
 
+-- an operand, and the operators of this level behind it
 unfoldable pub chain_with : ℕ → (List Lexeme → Found Expr) → List Lexeme → Found Expr
 chain_with level next ts = do
   first ← next ts
@@ -45,6 +47,7 @@ abbrev pub prefixes : List Lexeme → List Op × List Lexeme
 prefixes [] = ([], [])
 prefixes (t ∷ ts) = prefixes_or_end (prefix_of t.kind t.text) (prefixes ts) (t ∷ ts)
 
+-- an operand with these prefixes, or the operand alone
 abbrev pub prefixed : ℕ → List Op → Expr → Expr
 prefixed at [] x = x
 prefixed at (o ∷ more) x = record { at = at; form = form.Prefix (o ∷ more) x }
@@ -64,6 +67,7 @@ abbrev pub separator_or_end : List ℕ → Found ℕ → Found ℕ → Found Boo
 separator_or_end close None comma = behind_comma close comma
 separator_or_end close (Some r) comma = Some (true, r.1)
 
+-- behind an item of a list that this sign closes: whether the list ends here
 abbrev pub separator : List ℕ → List Lexeme → Found Bool
 separator close ts = separator_or_end close (mark kind.Sign close ts) (mark kind.Sign (codes ",") ts)
 
@@ -86,7 +90,7 @@ maybe_items close item n ts = items_or_end (mark kind.Sign close ts) (items clos
 
 -- ---- texts in double quotes
 
--- where a WORD with nothing but indexes behind it stands, the same with a variable in its place
+-- a text with nothing but indexes behind it, with a variable in place of the text; any other form stays
 abbrev pub form_as_variable : Form → Form
 form_as_variable (form.Str name) = form.Var name
 form_as_variable (Index' shape (more_of-Expr at base none) shape' key) = Index' shape (more_of-Expr at (form_as_variable base) none) shape' key
@@ -152,11 +156,13 @@ abbrev pub members : (List Lexeme → Found Expr) → ℕ → List Lexeme → Fo
 members e zero ts = None
 members e (suc n) ts = end_or_member e (members e n) (mark kind.DqClose (codes "\"") ts) ts
 
+-- text in double quotes without variables and expressions
 abbrev pub plain_of : ℕ → List Expr → Option Expr
 plain_of at [] = Some record { at = at; form = form.Str [] }
 plain_of at (m ∷ []) = Some record { at = at; form = m.form }
 plain_of at (m ∷ n ∷ more) = None
 
+-- a text in double quotes of these members
 abbrev pub joined : ℕ → List Expr → Bool → Option Expr
 joined at ms true = Some record { at = at; form = form.Join ms }
 joined at ms false = plain_of at ms
@@ -268,6 +274,7 @@ abbrev pub primary_of : (List Lexeme → Found Expr) → Found Lexeme → List L
 primary_of e None ts = None
 primary_of e (Some t) ts = primary_by e t.0.kind t.0 t.1 ts
 
+-- an operand by itself
 abbrev pub primary_with : (List Lexeme → Found Expr) → List Lexeme → Found Expr
 primary_with e ts = primary_of e (front_of ts) ts
 
@@ -303,15 +310,17 @@ abbrev pub suffixes : (List Lexeme → Found Expr) → ℕ → ℕ → Expr → 
 suffixes e at zero x ts = None
 suffixes e at (suc n) x ts = if begins_suffix ts then (suffix_with e at x ts >>= λ z. suffixes e at n z.0 z.1) else Some (x, ts)
 
+-- an operand with the indexes and selections behind it
 unfoldable pub postfix_with : (List Lexeme → Found Expr) → List Lexeme → Found Expr
 postfix_with e ts = primary_with e ts >>= λ x. suffixes e (first_at ts) (length x.1 + 1) x.0 x.1
 
+-- an operand with the prefixes before it
 unfoldable pub unary_with : (List Lexeme → Found Expr) → List Lexeme → Found Expr
 unary_with e ts = postfix_with e (prefixes ts).1 >>= λ x. Some (prefixed (first_at ts) (prefixes ts).0 x.0, x.1)
 
 -- ---- expressions
 
--- the level of the nth rule from the tightest
+-- what the nth rule from the tightest reads
 abbrev pub levels_with : (List Lexeme → Found Expr) → ℕ → List Lexeme → Found Expr
 levels_with e zero ts = unary_with e ts
 levels_with e (suc n) ts = chain_with (6 - n) (levels_with e n) ts

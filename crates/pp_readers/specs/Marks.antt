@@ -18,6 +18,7 @@ abbrev pub front_of : List Lexeme → Found Lexeme
 front_of [] = None
 front_of (t ∷ ts) = Some (t, ts)
 
+-- a number for each kind
 abbrev pub rank : Kind → ℕ
 rank kind.Word = 0
 rank kind.Ref = 1
@@ -37,6 +38,7 @@ rank kind.Keyword = 14
 rank kind.Sign = 15
 rank kind.LeftOut = 16
 
+-- the two are one kind
 abbrev pub is_kind : Kind → Kind → Bool
 is_kind j k = rank j == rank k
 
@@ -45,6 +47,7 @@ abbrev pub mark_of : Kind → List ℕ → Found Lexeme → Found ℕ
 mark_of k text None = None
 mark_of k text (Some t) = if is_kind t.0.kind k && bytes_eq t.0.text text then Some (t.0.at, t.1) else None
 
+-- the same of a list of tokens
 abbrev pub mark : Kind → List ℕ → List Lexeme → Found ℕ
 mark k text ts = mark_of k text (front_of ts)
 
@@ -75,6 +78,7 @@ abbrev pub infix_of : ℕ → Found Lexeme → Found Op
 infix_of level None = None
 infix_of level (Some t) = at_level level (operator_of t.0.kind t.0.text) t.1
 
+-- the same of a list of tokens
 abbrev pub infix_at : ℕ → List Lexeme → Found Op
 infix_at level ts = infix_of level (front_of ts)
 

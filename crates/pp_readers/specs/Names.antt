@@ -18,11 +18,13 @@ abbrev pub taken_in : {X : Type 0} → (Kind → List ℕ → Option X) → Foun
 taken_in h None = None
 taken_in h (Some t) = h t.0.kind t.0.text >>= λ x. Some (x, t.1)
 
+-- the same of a list of tokens
 abbrev pub taken : {X : Type 0} → (Kind → List ℕ → Option X) → Reader X
 taken h ts = taken_in h (front_of ts)
 
 -- ---- names
 
+-- a name without `::`
 abbrev pub plain_name : List ℕ → Option (List ℕ)
 plain_name s = if is_qualified s then None else Some s
 

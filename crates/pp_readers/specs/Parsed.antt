@@ -49,9 +49,11 @@ NothingGoesOn rest = reach rest ≡ 0
 abbrev pub NoSuffixGoesOn : List Lexeme → Type 0
 NoSuffixGoesOn rest = reach rest ≤ 7
 
+-- whatever stands there
 abbrev pub Anything : List Lexeme → Type 0
 Anything rest = Unit {0}
 
+-- memory was refused
 abbrev pub IsMemory : Misread → Type 0
 IsMemory (misread.Form index) = ⊥
 IsMemory (misread.Memory m) = Unit {0}

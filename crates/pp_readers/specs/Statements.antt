@@ -330,7 +330,7 @@ abbrev pub stmt_at : Reader Expr → ℕ → Reader Stmt
 stmt_at e zero ts = None
 stmt_at e (suc depth) ts = stmt_with e (stmt_at e depth) ts
 
--- ---- calls of the crate above
+-- ---- the attributes of an item that gives defaults
 
 -- attributes in braces
 abbrev pub attributes_with : Reader Expr → Reader (List Attr)

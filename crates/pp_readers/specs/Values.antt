@@ -21,6 +21,7 @@ before_quote [] = None
 before_quote (b ∷ []) = if b == 39 then Some [] else None
 before_quote (b ∷ c ∷ s) = option_map (λ r. b ∷ r) (before_quote (c ∷ s))
 
+-- what stands behind this byte
 abbrev pub behind_byte : ℕ → List ℕ → Option (List ℕ)
 behind_byte c [] = None
 behind_byte c (b ∷ s) = if b == c then Some s else None
@@ -40,6 +41,7 @@ number s = if nat_lt (int_value s) (2 ^ 63) then Some (pos (int_value s)) else N
 abbrev pub int_form : List ℕ → Option Form
 int_form s = if nat_lt (int_value s) (2 ^ 63) then Some (form.Int (pos (int_value s))) else None
 
+-- `true`, `false` or `undef`
 abbrev pub literal : List ℕ → Option Form
 literal s = if bytes_eq s (codes "true") then Some (form.Bool true) else (if bytes_eq s (codes "false") then Some (form.Bool false) else (if bytes_eq s (codes "undef") then Some form.Undef else None))
 

@@ -23,12 +23,12 @@ pub fn statements_are_read()
     ensures only { (limit depth : ℕ) (y : Stmt) (front rest : List Lexeme) → IsStmtAt (IsExprAt limit) depth y front → NumbersFit front → NothingFollows rest → stmt_at (expr_at limit) depth (front ++ rest) ≡ Some (y, rest) }
 {}
 
-/// Tokens spell at most one expression.
+/// Tokens whose numbers fit 64 bits spell at most one expression with brackets nested less deep than this.
 pub fn one_expression()
     ensures { (depth : ℕ) (y z : Expr) (us : List Lexeme) → IsExprAt depth y us → IsExprAt depth z us → NumbersFit us → y ≡ z }
 {}
 
-/// Tokens spell at most one statement.
+/// The same of statements.
 pub fn one_statement()
     ensures { (limit depth : ℕ) (y z : Stmt) (us : List Lexeme) → IsStmtAt (IsExprAt limit) depth y us → IsStmtAt (IsExprAt limit) depth z us → NumbersFit us → y ≡ z }
 {}

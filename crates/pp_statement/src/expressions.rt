@@ -21,6 +21,7 @@ pub fn postfix(alloc: Global, limit: usize, tokens: &[Token<'_>], from: usize) -
     parse_postfix(alloc, limit, tokens, from)
 }
 
+/// A reference with its titles.
 pub fn reference(alloc: Global, limit: usize, tokens: &[Token<'_>], from: usize) -> Read<Expr>
     ensures { Reads (reference_with (expr_at limit)) tokens.now from result }
 {

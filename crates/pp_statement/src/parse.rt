@@ -1,4 +1,4 @@
-//! What the crate above calls.
+//! What the parser of manifests calls.
 ghost use Rattle.pp_syntax.specs.Lexing.{told};
 ghost use Rattle.pp_syntax.specs.Phrases.{MaybeListed};
 ghost use Rattle.pp_syntax.specs.Derivation.{IsExprAt};
@@ -19,7 +19,7 @@ use std::alloc::Global;
 pub fn parse_statement(alloc: Global, depth: usize, tokens: &[Token<'_>], from: usize) -> Read<Stmt>
     ensures spelled { IsSpelled (IsStmtAt (IsExprAt depth) depth) (told tokens.now) from result }
     ensures parsed { IsParsed (IsStmtAt (IsExprAt depth) depth) NothingFollows (told tokens.now) from result }
-    // what the way of reading finds, of which the laws say that it is the grammar's
+    // what the reader of this rule finds, which the parsers that call this build on
     ensures reads { Reads (stmt_at (expr_at depth) depth) tokens.now from result }
 {
     statement::statement(alloc, depth, depth, tokens, from)
@@ -34,7 +34,7 @@ pub fn parse_block(
 ) -> Read<Seq<Stmt>>
     ensures spelled { IsSpelled (BlockOf (IsStmtAt (IsExprAt depth) depth)) (told tokens.now) from result }
     ensures parsed { IsParsed (BlockOf (IsStmtAt (IsExprAt depth) depth)) Anything (told tokens.now) from result }
-    // what the way of reading finds, of which the laws say that it is the grammar's
+    // what the reader of this rule finds, which the parsers that call this build on
     ensures reads { Reads (block_with (stmt_at (expr_at depth) depth)) tokens.now from result }
 {
     statement::block(alloc, depth, depth, tokens, from)
@@ -49,7 +49,7 @@ pub fn parse_attributes(
 ) -> Read<Seq<Attr>>
     ensures spelled { IsSpelled (λ attrs. InBraces (MaybeListed (AttrOf (IsExprAt depth)) attrs)) (told tokens.now) from result }
     ensures parsed { IsParsed (λ attrs. InBraces (MaybeListed (AttrOf (IsExprAt depth)) attrs)) Anything (told tokens.now) from result }
-    // what the way of reading finds, of which the laws say that it is the grammar's
+    // what the reader of this rule finds, which the parsers that call this build on
     ensures reads { Reads (attributes_with (expr_at depth)) tokens.now from result }
 {
     resource::attributes(alloc, depth, tokens, from)

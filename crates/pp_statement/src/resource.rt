@@ -104,6 +104,7 @@ fn bodies(alloc: Global, limit: usize, tokens: &[Token<'_>], from: usize) -> Rea
     }
 }
 
+/// Bodies in braces.
 pub fn braced_bodies(
     alloc: Global,
     limit: usize,

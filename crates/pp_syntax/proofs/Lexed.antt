@@ -96,9 +96,6 @@ token_cut p text k rest u h =
 pub cut_utf8 : (text rest : List ℕ) → IsUtf8 text → Cut text rest → IsUtf8 rest
 cut_utf8 text rest u c = subst (λ (t : List ℕ). IsUtf8 t) c.back (IsUtf8-drop text (length text - length rest) u c.may)
 
--- ---- what is read so far, and the rest
-
--- Whatever stands for the rest completes what was read.
 -- ---- the tokens of a text in UTF-8
 
 token_utf8 : (p : Place) (k : Kind) (s rest : List ℕ) → TokenAt p k s rest → IsUtf8 (s ++ rest) → IsUtf8 s × IsUtf8 rest
@@ -121,6 +118,7 @@ read_utf8 p text tokens e (stuck a b c d f) u = subst (λ (ts : List Lexeme). Al
 
 -- ---- the turns of the loop
 
+-- Whatever is read from the rest completes what was read before it.
 abbrev pub Completes : List ℕ → List Lexeme → Place → List ℕ → Type 0
 Completes source before p rest = (tokens : List Lexeme) (e : Ending) → Reads p rest tokens e → Reads start source (before ++ tokens) e
 

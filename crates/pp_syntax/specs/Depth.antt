@@ -7,6 +7,7 @@ use Rattle.pp_syntax.specs.Tokens.{Lexeme, is_among}
 
 -- ---- brackets
 
+-- a token of this kind and text opens a bracket
 abbrev pub opens_by : Kind → List ℕ → Bool
 opens_by kind.Tight text = true
 opens_by kind.Loose text = true
@@ -14,6 +15,7 @@ opens_by kind.Hole text = true
 opens_by kind.Sign text = is_among (codes "(" ∷ codes "{" ∷ codes "<|" ∷ []) text
 opens_by _ text = false
 
+-- a token of this kind and text closes one
 abbrev pub closes_by : Kind → List ℕ → Bool
 closes_by kind.HoleEnd text = true
 closes_by kind.Sign text = is_among (codes ")" ∷ codes "]" ∷ codes "}" ∷ codes "|>" ∷ []) text
@@ -39,6 +41,7 @@ pub data AreClosed : List Lexeme → Type 0 where
 
 -- ---- what stands in one row
 
+-- the token is this sign
 abbrev pub IsSign : List ℕ → Lexeme → Type 0
 IsSign text t = (t.kind ≡ kind.Sign) × (t.text ≡ text)
 
@@ -52,6 +55,7 @@ abbrev pub EndWithPostfixes : ℕ → List Lexeme → Type 0
 EndWithPostfixes zero tokens = Unit {0}
 EndWithPostfixes (suc n) tokens = (front : List Lexeme) × (last : List Lexeme) × (tokens ≡ front ++ last) × IsPostfix last × EndWithPostfixes n front
 
+-- the token may stand before an operand
 abbrev pub IsPrefix : Lexeme → Type 0
 IsPrefix t = IsSign (codes "!") t ⊎ IsSign (codes "-") t
 

@@ -50,6 +50,7 @@ Infix op.Times = Sign (codes "*")
 Infix op.In = Keyword (codes "in")
 Infix op.Not = λ tokens. ⊥
 
+-- an operator in front of an operand
 abbrev pub Prefixed : Op → List Lexeme → Type 0
 Prefixed op.Not tokens = Sign (codes "!") tokens
 Prefixed op.Minus tokens = Sign (codes "-") tokens
@@ -59,6 +60,7 @@ Prefixed _ tokens = ⊥
 abbrev pub Operation : ℕ → (Expr → List Lexeme → Type 0) → Op × Expr → List Lexeme → Type 0
 Operation level A o tokens = (level_of o.0 ≡ level) × (Infix o.0 then A o.1) tokens
 
+-- one behind the other
 abbrev pub Operations : ℕ → (Expr → List Lexeme → Type 0) → List (Op × Expr) → List Lexeme → Type 0
 Operations level A [] = Nothing
 Operations level A (o ∷ more) = Operation level A o then Operations level A more
@@ -76,6 +78,7 @@ is_part kind.DqVar = true
 is_part kind.Hole = true
 is_part _ = false
 
+-- so of one of them
 abbrev pub has_part : List Lexeme → Bool
 has_part tokens = list_any (λ t. is_part t.kind) tokens
 
@@ -99,6 +102,7 @@ pub data MemberOf (E : Expr → List Lexeme → Type 0) (y : Expr) (tokens : Lis
   variable : (name : List ℕ) → Token kind.DqVar (36 ∷ name) y.at tokens → y.form ≡ form.Var name → MemberOf E y tokens
   hole : (Some kind.Hole (codes "${") then InnerOf E y then Some kind.HoleEnd (codes "}")) tokens → MemberOf E y tokens
 
+-- members one behind the other
 abbrev pub Members : (Expr → List Lexeme → Type 0) → List Expr → List Lexeme → Type 0
 Members E [] = Nothing
 Members E (y ∷ more) = MemberOf E y then Members E more
@@ -123,6 +127,7 @@ pub record ReferenceOf (E : Expr → List Lexeme → Type 0) (y : Expr) (tokens 
   pub spelled : (Token kind.Ref name y.at then Tight then Listed E titles then Sign (codes "]")) tokens
   pub form_is : y.form ≡ form.Refer name titles
 
+-- KEY => VALUE
 abbrev pub PairOf : (Expr → List Lexeme → Type 0) → Expr × Expr → List Lexeme → Type 0
 PairOf E p = E p.0 then Sign (codes "=>") then E p.1
 
@@ -131,9 +136,11 @@ abbrev pub OptionOf : (Expr → List Lexeme → Type 0) → Option Expr → List
 OptionOf E prelude.None = Keyword (codes "default")
 OptionOf E (prelude.Some e) = E e
 
+-- OPTION => VALUE
 abbrev pub ChoiceOf : (Expr → List Lexeme → Type 0) → Option Expr × Expr → List Lexeme → Type 0
 ChoiceOf E c = OptionOf E c.0 then Sign (codes "=>") then E c.1
 
+-- an operand by itself
 pub data PrimaryOf (E : Expr → List Lexeme → Type 0) (y : Expr) (tokens : List Lexeme) : Type 0 where
   int : (raw : List ℕ) → Token kind.Int raw y.at tokens → y.form ≡ form.Int (pos (int_value raw)) → PrimaryOf E y tokens
   string : StringOf E y tokens → PrimaryOf E y tokens
@@ -157,6 +164,7 @@ pub data SuffixesOf (E : Expr → List Lexeme → Type 0) (at : ℕ) : Expr → 
   none : {x y : Expr} {tokens : List Lexeme} → x ≡ y → tokens ≡ [] → SuffixesOf E at x y tokens
   one : {x y : Expr} {tokens : List Lexeme} (z : Expr) (front back : List Lexeme) → tokens ≡ front ++ back → SuffixOf E x z front → z.at ≡ at → SuffixesOf E at z y back → SuffixesOf E at x y tokens
 
+-- an operand with the indexes and selections behind it
 pub record PostfixOf (E : Expr → List Lexeme → Type 0) (y : Expr) (tokens : List Lexeme) : Type 0 where
   pub operand : Expr
   pub front : List Lexeme
@@ -165,10 +173,12 @@ pub record PostfixOf (E : Expr → List Lexeme → Type 0) (y : Expr) (tokens : 
   pub suffixes : SuffixesOf E (place_of tokens) operand y back
   pub whole : tokens ≡ front ++ back
 
+-- one behind the other
 abbrev pub Prefixes : List Op → List Lexeme → Type 0
 Prefixes [] = Nothing
 Prefixes (o ∷ more) = Prefixed o then Prefixes more
 
+-- an operand with the prefixes before it
 pub data UnaryOf (E : Expr → List Lexeme → Type 0) (y : Expr) (tokens : List Lexeme) : Type 0 where
   operand : PostfixOf E y tokens → UnaryOf E y tokens
   prefixed : (o : Op) (more : List Op) (x : Expr) → y.form ≡ form.Prefix (o ∷ more) x → y.at ≡ place_of tokens → (Prefixes (o ∷ more) then PostfixOf E x) tokens → UnaryOf E y tokens

@@ -8,10 +8,11 @@ use Rattle.pp_syntax.specs.declared.token.Token.{Token}
 use Rattle.pp_syntax.specs.Tokens.{Lexeme}
 use Rattle.pp_syntax.specs.Spelling.{FailsAt}
 
+-- a token of the code, as definitions speak of it
 abbrev pub lexeme_of : Token → Lexeme
 lexeme_of t = record { kind = t.kind; text = t.text.now; at = t.at }
 
--- what the tokens of the program are
+-- the tokens of the code, as definitions speak of them
 abbrev pub told : List Token → List Lexeme
 told tokens = map lexeme_of tokens
 

@@ -17,6 +17,7 @@ in_hole (opening.Hole at ∷ outer) = true
 in_hole (opening.Quote at ∷ outer) = false
 in_hole (opening.Brace ∷ outer) = false
 
+-- all but the innermost
 abbrev pub outer_of : List Opening → List Opening
 outer_of [] = []
 outer_of (o ∷ outer) = outer

@@ -29,9 +29,11 @@ Token k text at tokens = tokens ≡ record { kind = k; text = text; at = at } �
 abbrev pub Some : Kind → List ℕ → List Lexeme → Type 0
 Some k text tokens = (at : ℕ) × Token k text at tokens
 
+-- this sign
 abbrev pub Sign : List ℕ → List Lexeme → Type 0
 Sign text = Some kind.Sign text
 
+-- this keyword
 abbrev pub Keyword : List ℕ → List Lexeme → Type 0
 Keyword text = Some kind.Keyword text
 

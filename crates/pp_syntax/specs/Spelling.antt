@@ -10,6 +10,7 @@ use Rattle.pp_syntax.specs.Opened.{in_quotes, in_hole, outer_of, closed_brace, E
 use Rattle.pp_syntax.specs.Bytes.{is_blank, is_name}
 use Rattle.pp_syntax.specs.Tokens.{Lexeme, Of, is_among, Spelling, InQuotes, int_value}
 
+-- where a text begins
 abbrev pub start : Place
 start = record { at = 0; opened = []; tight = false }
 
@@ -20,6 +21,7 @@ pub data ToClose : List ℕ → Type 0 where
   close : {s : List ℕ} → s ≡ codes "*/" → ToClose s
   more : {s : List ℕ} (b : ℕ) (rest : List ℕ) → s ≡ b ∷ rest → ((tail : List ℕ) → s ≢ 42 ∷ 47 ∷ tail) → ToClose rest → ToClose s
 
+-- a line ends here
 abbrev pub AtLineEnd : List ℕ → Type 0
 AtLineEnd [] = Unit {0}
 AtLineEnd (b ∷ rest) = b ≡ 10
@@ -46,6 +48,7 @@ pub record IsLongest (quoted : Bool) (k : Kind) (s rest : List ℕ) : Type 0 whe
   pub fits : Fits quoted k s rest
   pub longest : (j : Kind) (front back : List ℕ) → Fits quoted j front back → front ++ back ≡ s ++ rest → length front ≤ length s
 
+-- no letter, digit or `_` stands here
 abbrev pub NoNameFirst : List ℕ → Type 0
 NoNameFirst [] = Unit {0}
 NoNameFirst (b ∷ rest) = is_name b ≡ false
@@ -72,6 +75,7 @@ pub record TokenAt (p : Place) (k : Kind) (s rest : List ℕ) : Type 0 where
   pub number : NumberStands spelled s rest
   pub kind_is : k ≡ kind_at p spelled s
 
+-- a blank or a comment at this place, before this rest
 abbrev pub GapAt : Place → List ℕ → List ℕ → Type 0
 GapAt p s rest = (in_quotes p.opened ≡ false) × IsGap s rest
 
@@ -96,9 +100,11 @@ ends_tight kind.DqClose s = true
 ends_tight kind.Sign s = is_among (codes ")" ∷ codes "]" ∷ []) s
 ends_tight _ s = false
 
+-- the place behind a token
 abbrev pub behind : Place → Kind → List ℕ → Place
 behind p k s = record { at = p.at + length s; opened = opened_behind k s p.at p.opened; tight = ends_tight k s }
 
+-- the place behind a blank or a comment
 abbrev pub behind_gap : Place → List ℕ → Place
 behind_gap p s = record { at = p.at + length s; opened = p.opened; tight = false }
 
@@ -115,6 +121,6 @@ pub data Reads : Place → List ℕ → List Lexeme → Ending → Type 0 where
 abbrev pub Spells : List ℕ → List Lexeme → Type 0
 Spells text tokens = Reads start text tokens Whole
 
--- It is none, and this is the first byte that begins no token; or all of it are tokens, and this opens what isn't closed.
+-- The text spells none: here is the first byte that begins no token; or all of it are tokens, and here opens what isn't closed.
 abbrev pub FailsAt : List ℕ → ℕ → Type 0
 FailsAt text at = (tokens : List Lexeme) × Reads start text tokens (Fault at)

@@ -33,7 +33,7 @@ use Rattle.pp_syntax.specs.Derivation.{OptionOf, StringOf, PostfixOf, ReferenceO
 
 -- ---- names
 
--- a name of several segments: a `:` stands in names only as part of `::`
+-- a name with `::`: a `:` stands in names only as part of that
 abbrev pub is_qualified : List ℕ → Bool
 is_qualified name = list_any (λ b. b == 58) name
 
@@ -63,6 +63,7 @@ function_of s = if bytes_eq s (codes "include") then prelude.Some func.Include e
     if bytes_eq s (codes "fail") then prelude.Some func.Fail else (if bytes_eq s (codes "notice") then prelude.Some func.Notice else (
     if bytes_eq s (codes "warning") then prelude.Some func.Warning else prelude.None))))))
 
+-- the words of all functions
 abbrev pub functions : List (List ℕ)
 functions = codes "include" ∷ codes "require" ∷ codes "contain" ∷ codes "realize" ∷ codes "fail" ∷ codes "notice" ∷ codes "warning" ∷ []
 
@@ -106,6 +107,7 @@ abbrev pub IsSearchAt : (Expr → List Lexeme → Type 0) → ℕ → Search →
 IsSearchAt E zero y tokens = ⊥
 IsSearchAt E (suc depth) y tokens = SearchOf E (IsSearchAt E depth) y tokens
 
+-- The tokens spell the search.
 abbrev pub IsSearch : (Expr → List Lexeme → Type 0) → Search → List Lexeme → Type 0
 IsSearch E y tokens = (depth : ℕ) × IsSearchAt E depth y tokens
 
@@ -120,6 +122,7 @@ abbrev pub Virtual : Bool → List Lexeme → Type 0
 Virtual true = Sign (codes "@")
 Virtual false = Nothing
 
+-- one side of a chain: a resource or a class that is declared, a collector, or references
 pub data OperandOf (E : Expr → List Lexeme → Type 0) (y : Operand) (tokens : List Lexeme) : Type 0 where
   resource : (at : ℕ) (virtual : Bool) (name : List ℕ) (bodies : List Body) → y ≡ operand.Declare at virtual name bodies → at ≡ place_of tokens → is_among functions name ≡ false
       → (Virtual virtual then Some kind.Word name then InBraces (BodiesOf E bodies)) tokens → OperandOf E y tokens
@@ -155,6 +158,7 @@ abbrev pub begins_with_bracket : List Lexeme → Bool
 begins_with_bracket [] = false
 begins_with_bracket (t ∷ tokens) = is_among (codes "(" ∷ codes "{" ∷ []) t.text
 
+-- the arguments of a call
 pub data ArgsOf (E : Expr → List Lexeme → Type 0) (args : List Expr) (tokens : List Lexeme) : Type 0 where
   bracketed : (Sign (codes "(") then Listed E args then Sign (codes ")")) tokens → ArgsOf E args tokens
   bare : Separated Comma E args tokens → begins_with_bracket tokens ≡ false → ArgsOf E args tokens
@@ -164,6 +168,7 @@ abbrev pub Statements : (Stmt → List Lexeme → Type 0) → List Stmt → List
 Statements S [] = Nothing
 Statements S (s ∷ more) = S s then Statements S more
 
+-- statements in braces
 abbrev pub BlockOf : (Stmt → List Lexeme → Type 0) → List Stmt → List Lexeme → Type 0
 BlockOf S body = InBraces (Statements S body)
 
@@ -172,9 +177,11 @@ abbrev pub ElseOf : (Stmt → List Lexeme → Type 0) → List Stmt → List Lex
 ElseOf S [] = Maybe (Keyword (codes "else") then BlockOf S [])
 ElseOf S (s ∷ more) = Keyword (codes "else") then BlockOf S (s ∷ more)
 
+-- a test and its block
 abbrev pub ArmOf : (Expr → List Lexeme → Type 0) → (Stmt → List Lexeme → Type 0) → Arm → List Lexeme → Type 0
 ArmOf E S a = E (out-Arm a).test then BlockOf S (out-Arm a).body
 
+-- options, `:` and their block
 abbrev pub CaseArmOf : (Expr → List Lexeme → Type 0) → (Stmt → List Lexeme → Type 0) → CaseArm → List Lexeme → Type 0
 CaseArmOf E S a = Listed (OptionOf E) (out-CaseArm a).options then Sign (codes ":") then BlockOf S (out-CaseArm a).body
 
@@ -182,6 +189,7 @@ abbrev pub CaseArms : (Expr → List Lexeme → Type 0) → (Stmt → List Lexem
 CaseArms E S [] = Nothing
 CaseArms E S (a ∷ more) = CaseArmOf E S a then CaseArms E S more
 
+-- a statement, by the rule for those in its blocks
 pub data StmtOf (E : Expr → List Lexeme → Type 0) (S : Stmt → List Lexeme → Type 0) (y : Stmt) (tokens : List Lexeme) : Type 0 where
   chain : (at : ℕ) (first : Operand) (others : List Operand) (arrows : List Arrow) → y ≡ stmt.Chain at (first ∷ others) arrows → at ≡ place_of tokens → (OperandOf E first then Links E arrows others) tokens → StandsAlone first others → StmtOf E S y tokens
   assign : (at : ℕ) (name : List ℕ) (value : Expr) → y ≡ stmt.Assign at name value → at ≡ place_of tokens → (VariableOf name then Sign (codes "=") then E value) tokens → StmtOf E S y tokens
@@ -204,6 +212,7 @@ pub data TextBounds (least : ℤ) (most : Option ℤ) (tokens : List Lexeme) : T
   lower : (low : List ℕ) → least ≡ pos (int_value low) → most ≡ prelude.None → (Tight then Some kind.Int low then Sign (codes "]")) tokens → TextBounds least most tokens
   both : (low high : List ℕ) → least ≡ pos (int_value low) → most ≡ prelude.Some (pos (int_value high)) → (Tight then Some kind.Int low then Comma then Some kind.Int high then Sign (codes "]")) tokens → TextBounds least most tokens
 
+-- the bounds behind `Integer`
 pub data NumberBounds (least most : Option ℤ) (tokens : List Lexeme) : Type 0 where
   none : least ≡ prelude.None → most ≡ prelude.None → tokens ≡ [] → NumberBounds least most tokens
   lower : (low : List ℕ) → least ≡ prelude.Some (pos (int_value low)) → most ≡ prelude.None → (Tight then Some kind.Int low then Sign (codes "]")) tokens → NumberBounds least most tokens
@@ -216,6 +225,7 @@ TypeWord name = Some kind.Ref name
 abbrev pub QuotedText : List ℕ → List Lexeme → Type 0
 QuotedText value tokens = (raw : List ℕ) × Some kind.Sq raw tokens × SqOf value raw
 
+-- the type of a parameter, by the rule for those within its brackets
 pub data TypeOf (T : TypeName → List Lexeme → Type 0) (y : TypeName) (tokens : List Lexeme) : Type 0 where
   any : y ≡ type.Any → TypeWord (codes "Any") tokens → TypeOf T y tokens
   boolean : y ≡ type.Boolean → TypeWord (codes "Boolean") tokens → TypeOf T y tokens
@@ -228,10 +238,12 @@ pub data TypeOf (T : TypeName → List Lexeme → Type 0) (y : TypeName) (tokens
   enum : (texts : List (List ℕ)) → y ≡ type.Enum texts → (TypeWord (codes "Enum") then Tight then Listed QuotedText texts then Sign (codes "]")) tokens → TypeOf T y tokens
   variant : (members : List TypeName) → y ≡ type.Variant members → (TypeWord (codes "Variant") then Tight then Listed T members then Sign (codes "]")) tokens → TypeOf T y tokens
 
+-- with brackets nested less deep than this
 abbrev pub IsTypeAt : ℕ → TypeName → List Lexeme → Type 0
 IsTypeAt zero y tokens = ⊥
 IsTypeAt (suc depth) y tokens = TypeOf (IsTypeAt depth) y tokens
 
+-- The tokens spell the type.
 abbrev pub IsType : TypeName → List Lexeme → Type 0
 IsType y tokens = (depth : ℕ) × IsTypeAt depth y tokens
 
@@ -245,6 +257,7 @@ abbrev pub DefaultOf : (Expr → List Lexeme → Type 0) → Option Expr → Lis
 DefaultOf E prelude.None = Nothing
 DefaultOf E (prelude.Some x) = Sign (codes "=") then E x
 
+-- a parameter, of which the type and the default may be left out
 abbrev pub ParamOf : (Expr → List Lexeme → Type 0) → Param → List Lexeme → Type 0
 ParamOf E p = MaybeType p.kind then VariableOf p.name then DefaultOf E p.default
 
@@ -263,6 +276,7 @@ pub data NodeNameOf (E : Expr → List Lexeme → Type 0) : Option (List ℕ) �
   word : {y : Option (List ℕ)} {tokens : List Lexeme} (name : List ℕ) → y ≡ prelude.Some name → Some kind.Word name tokens → NodeNameOf E y tokens
   text : {y : Option (List ℕ)} {tokens : List Lexeme} (name : List ℕ) (x : Expr) → y ≡ prelude.Some name → StringOf E x tokens → x.form ≡ form.Str name → NodeNameOf E y tokens
 
+-- what may stand at the top of a manifest
 pub data ItemOf (E : Expr → List Lexeme → Type 0) (S : Stmt → List Lexeme → Type 0) (y : Item) (tokens : List Lexeme) : Type 0 where
   class : (at : ℕ) (name : List ℕ) (params : List Param) (parent : Option (List ℕ)) (body : List Stmt) → y ≡ item.Class at name params parent body
       → (Token kind.Keyword (codes "class") at then Some kind.Word name then ParamsOf E params then ParentOf parent then BlockOf S body) tokens → ItemOf E S y tokens

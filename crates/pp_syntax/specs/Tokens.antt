@@ -47,6 +47,7 @@ NoDashLast [] = Unit {0}
 NoDashLast (b ∷ []) = b ≢ 45
 NoDashLast (b ∷ c ∷ s) = NoDashLast (c ∷ s)
 
+-- a segment of such a name
 abbrev pub Segment : Style → List ℕ → Type 0
 Segment how [] = ⊥
 Segment how (b ∷ more) = IsTrue (begins how b) × Of (goes_on how) more × NoDashLast more
@@ -81,6 +82,7 @@ pub record FloatText (s : List ℕ) : Type 0 where
   pub fraction_digits : SomeOf is_digit fraction
   pub parts : s ≡ whole ++ (46 ∷ fraction)
 
+-- what a digit counts for, to any base up to 16
 abbrev pub digit_of : ℕ → ℕ
 digit_of b = if nat_le b 57 then b - 48 else (if nat_le b 70 then b - 55 else b - 87)
 
@@ -112,6 +114,7 @@ abbrev mutual
 
 -- ---- signs
 
+-- the signs of this language
 abbrev pub signs : List (List ℕ)
 signs = codes "{" ∷ codes "}" ∷ codes "[" ∷ codes "]" ∷ codes "(" ∷ codes ")" ∷ codes "," ∷ codes ";" ∷ codes ":" ∷ codes "=>" ∷ codes "->" ∷ codes "~>"
     ∷ codes "<-" ∷ codes "<~" ∷ codes "=" ∷ codes "==" ∷ codes "!=" ∷ codes "<" ∷ codes ">" ∷ codes "<=" ∷ codes ">=" ∷ codes "+" ∷ codes "-" ∷ codes "*"

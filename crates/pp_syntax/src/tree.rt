@@ -5,12 +5,13 @@ ghost use Rattle.pp_syntax.specs.Statements.{word_of, function_of};
 
 use rh_base::{Boxed, Seq, Text};
 
+/// What stands at the top of a manifest, in order.
 #[derive(Drop)]
 pub struct Manifest {
     pub items: Seq<Item>,
 }
 
-/// What stands at the top of a manifest. Names are as they are spelled.
+/// One thing that stands at the top of a manifest. Names are as they are spelled.
 #[derive(Drop)]
 pub enum Item {
     Class {
@@ -48,6 +49,7 @@ pub struct Param {
     pub default: Option<Expr>,
 }
 
+/// The type of a parameter.
 #[derive(Drop)]
 pub enum TypeName {
     Any,
@@ -67,6 +69,7 @@ pub enum TypeName {
     Variant(Seq<TypeName>),
 }
 
+/// A statement, with the place of its first token.
 #[cycle(statement)]
 #[derive(Drop)]
 pub enum Stmt {
@@ -104,6 +107,7 @@ pub enum Stmt {
     },
 }
 
+/// One side of a chain, which may be its only one.
 #[derive(Drop)]
 pub enum Operand {
     /// A resource, or with the kind `class` a class; virtual with `@`.
@@ -122,12 +126,14 @@ pub enum Operand {
     Named(Seq<Expr>),
 }
 
+/// Titles, and the attributes of their resources.
 #[derive(Drop)]
 pub struct Body {
     pub title: Expr,
     pub attrs: Seq<Attr>,
 }
 
+/// `NAME => VALUE`
 #[derive(Drop)]
 pub struct Attr {
     pub at: u32,
@@ -135,6 +141,7 @@ pub struct Attr {
     pub value: Expr,
 }
 
+/// The test of an `if` or an `elsif`, and its block.
 #[cycle(statement)]
 #[derive(Drop)]
 pub struct Arm {
@@ -150,6 +157,7 @@ pub struct CaseArm {
     pub body: Seq<Stmt>,
 }
 
+/// What a collector looks for, by the names of attributes and their values. Parentheses leave nothing.
 #[derive(Drop)]
 pub enum Search {
     Or(Seq<Search>),
@@ -158,6 +166,7 @@ pub enum Search {
     Differ(Text, Expr),
 }
 
+/// An expression, with the place of its first token; parentheses around it aside.
 #[cycle(expression)]
 #[derive(Drop)]
 pub struct Expr {
@@ -186,6 +195,7 @@ pub enum Form {
     Select(Boxed<Expr>, Seq<(Option<Expr>, Expr)>),
 }
 
+/// The operators; `Minus` stands between two operands or before one, and `Not` only before one.
 #[derive(Clone, Copy, Debug, PartialEq, Eq)]
 pub enum Op {
     Or,
@@ -230,6 +240,7 @@ pub enum Arrow {
     Follow,
 }
 
+/// The functions that a statement may call.
 #[derive(Clone, Copy, Debug, PartialEq, Eq)]
 pub enum Func {
     Include,

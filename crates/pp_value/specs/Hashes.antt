@@ -5,6 +5,7 @@ use Rattle.std.specs.Prelude.{ℕ, ◌+◌, ◌*◌, ◌%◌, ◌==◌, Bool, Li
 abbrev pub modulus : ℕ
 modulus = 4294967291
 
+-- what a hash is multiplied by for each further byte
 abbrev pub base : ℕ
 base = 2654435761
 

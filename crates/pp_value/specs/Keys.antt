@@ -29,6 +29,7 @@ abbrev pub places_of : {X : Type 0} → ℕ → List (List ℕ × X) → List (L
 places_of n [] = []
 places_of n (p ∷ pairs) = (p.0, n) ∷ places_of (n + 1) pairs
 
+-- the place of a key
 abbrev pub place_among : List ℕ → List (List ℕ × ℕ) → Option ℕ
 place_among key places = value_at key places
 

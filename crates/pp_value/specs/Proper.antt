@@ -1,4 +1,4 @@
--- Values whose maps have distinct keys, as all that are made here of such values.
+-- Values whose maps have distinct keys; what the operations make of such values is such a value.
 use Rattle.pp_value.specs.declared.value.Value.{Value, Row_of-Value, end_of-Value, more_of-Value}
 use Rattle.pp_value.specs.declared.value.Value.TheVariants as v
 use Rattle.pp_value.specs.Values.{HasDistinctKeys, keyed}

@@ -25,7 +25,7 @@ less_table _ _ = Err Operand
 abbrev pub member_table : Value → List Value → Result Bool Misfit
 member_table x items = if has_opaque x || list_any has_opaque items then Err Operand else Ok (list_any (same x) items)
 
--- `in`: a part of a text, a member of a list, or a key of a map
+-- `in`: a part of a text, a member of a list, or a key of a map, ASCII case aside
 abbrev pub within_table : Value → Value → Result Bool Misfit
 within_table (v.Str part) (v.Str text) = Ok (is_part (lowered part) (lowered text))
 within_table x (v.List' shape row) = member_table x (items-the_row-Value _ row)
@@ -37,6 +37,7 @@ abbrev pub fits_word : ℤ → Bool
 fits_word (pos n) = nat_lt n 0x8000_0000_0000_0000
 fits_word (negsuc n) = nat_lt n 0x8000_0000_0000_0000
 
+-- a whole number, unless it leaves 64 bits
 abbrev pub number : ℤ → Result Value Misfit
 number n = if fits_word n then Ok (v.Int n) else Err Range
 
@@ -47,18 +48,22 @@ add_table (v.List' shape row) (v.List' shape_2 row_2) = Ok (v.List (items-the_ro
 add_table (v.Map' keys row) (v.Map' keys_2 row_2) = Ok (v.Map (with_pairs (keyed keys row) (keyed keys_2 row_2)))
 add_table _ _ = Err Operand
 
+-- `-` between two numbers
 abbrev pub subtract_table : Value → Value → Result Value Misfit
 subtract_table (v.Int m) (v.Int n) = number (m -ℤ n)
 subtract_table _ _ = Err Operand
 
+-- `*` between two numbers
 abbrev pub multiply_table : Value → Value → Result Value Misfit
 multiply_table (v.Int m) (v.Int n) = number (m *ℤ n)
 multiply_table _ _ = Err Operand
 
+-- `-` before a number
 abbrev pub negate_table : Value → Result Value Misfit
 negate_table (v.Int n) = number (neg_ℤ n)
 negate_table _ = Err Operand
 
+-- undef, where there is none
 abbrev pub or_undef : Option Value → Value
 or_undef None = v.Undef
 or_undef (Some x) = x

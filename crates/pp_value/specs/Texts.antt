@@ -5,6 +5,7 @@ use Rattle.std.specs.Cmp.Lexicographic.{slice_cmp}
 use Rattle.std.specs.Ordering.{nat_cmp, is_lt}
 use Rattle.std.specs.Str.{bytes_eq}
 
+-- with ASCII letters in lower case
 abbrev pub lowered : List ℕ → List ℕ
 lowered text = map to_ascii_lowercase text
 

@@ -15,6 +15,7 @@ abbrev pub at_most : Option ℤ → ℤ → Bool
 at_most None n = true
 at_most (Some most) n = int_le n most
 
+-- between two bounds, of which each may be missing
 abbrev pub within : Option ℤ → Option ℤ → ℤ → Bool
 within least most n = at_least least n && at_most most n
 

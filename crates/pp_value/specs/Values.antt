@@ -54,6 +54,7 @@ abbrev pub on_refer : (Ref → Bool) → Value → Bool
 on_refer test (v.Refer r) = test r
 on_refer test _ = false
 
+-- there is a value, and it passes the test
 abbrev pub passes : (Value → Bool) → Option Value → Bool
 passes test None = false
 passes test (Some x) = test x

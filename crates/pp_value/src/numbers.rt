@@ -6,6 +6,7 @@ ghost use Rattle.pp_value.specs.Table.{number, subtract_table, multiply_table, n
 use crate::fault::Misfit;
 use crate::value::Value;
 
+/// The sum of two numbers, unless it leaves 64 bits.
 #[tactic(auto, using(crate::proofs::WordLaws::of_some, crate::proofs::WordLaws::of_none))]
 pub fn sum(a: i64, b: i64) -> Result<Value, Misfit>
     ensures { result ≡ number (a +ℤ b) }

@@ -44,7 +44,7 @@ impl Places {
         self.places.get(key).copied()
     }
 
-    /// A key of its own for these places.
+    /// A copy of a key, which can be added to these places.
     pub fn own(&self, key: &str) -> Result<String, NoMemory>
         ensures { IfOk result (λ s. string_bytes s ≡ key.now) }
     {

@@ -7,8 +7,8 @@ ghost use Rattle.pp_value.specs.Levels.{size_of_all, size_of_each, depth_of_all,
 use crate::value::{Pairs, Value};
 use rh_base::limits::{VALUE_DEPTH, VALUE_SIZE};
 
-/// The size of a value: of each text and each pair its bytes, and one for each value and each pair. Where it is larger
-/// than the greatest u64, that.
+/// The size of a value: the bytes of each text and each key in it, and one for each value and each pair. Where it is
+/// larger than the greatest u64, that.
 #[cycle(size)]
 #[tactic(auto, using(crate::specs::Levels::size_of_list, crate::specs::Levels::size_of_map))]
 pub fn size(v: &Value) -> u64

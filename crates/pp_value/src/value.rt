@@ -24,6 +24,7 @@ impl Ref {
     }
 }
 
+/// What expressions, facts and class data have as values.
 #[derive(Drop)]
 pub enum Value {
     Undef,

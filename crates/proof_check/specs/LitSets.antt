@@ -9,6 +9,7 @@ pub record Gathered : Type 0 where
   pub vars : ℕ
   pub lits : List Lit
 
+-- the clause of these literals
 abbrev pub gathered : ℕ → List Lit → Gathered
 gathered vars keys = record { vars = vars; lits = clause_of keys }
 

@@ -42,6 +42,7 @@ pub record Written : Type 0 where
   pub clauses : List (List Lit)
   pub steps : List Step
 
+-- the words of a formula and its log
 abbrev pub block_words : Written → List Word
 block_words b =
     codes "p" ∷ codes "cnf" ∷ decimal b.vars ∷ decimal (length b.clauses) ∷

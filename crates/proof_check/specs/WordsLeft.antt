@@ -13,6 +13,7 @@ abbrev pub other_lines : List ℕ → List (List ℕ)
 other_lines [] = []
 other_lines (b ∷ text) = if b == 10 then lines_behind [] text else other_lines text
 
+-- the words of a line that count
 abbrev pub line_words : List ℕ → List Word
 line_words line = counted (words_behind [] line)
 

@@ -21,13 +21,14 @@ pub enum Cause {
     NotEmpty,
 }
 
-/// The first step that fails, counted from 1, and its cause.
+/// The first step that fails, counted from 1, and its cause. Where the log has no step, the number is 0.
 #[derive(Debug, Drop)]
 pub struct Bad {
     pub step: u64,
     pub cause: Cause,
 }
 
+/// Why a log wasn't accepted, or that memory was refused.
 #[derive(Debug, Drop)]
 pub enum CheckFault {
     Bad(Bad),

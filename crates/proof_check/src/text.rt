@@ -282,7 +282,7 @@ fn links(alloc: Global, words: &mut Words<'_>, vars: u64) -> Result<Seq<Link>, M
     }
 }
 
-/// As many clauses.
+/// The formula of so many clauses.
 #[tactic(auto, using(crate::proofs::Turns::clauses_goes, crate::proofs::Turns::clauses_stop, crate::proofs::Spelling::lits_have))]
 fn clauses(
     alloc: Global,
@@ -336,7 +336,7 @@ fn step(
     })
 }
 
-/// As many steps.
+/// So many steps.
 #[tactic(auto, using(crate::proofs::Turns::steps_goes, crate::proofs::Turns::steps_stop))]
 fn steps(
     alloc: Global,
@@ -380,7 +380,7 @@ fn add(found: &mut Vec<(Cnf, Log)>, block: (Cnf, Log)) -> Result<(), NoMemory>
     Ok(())
 }
 
-/// As many formulas and logs.
+/// So many formulas, each with its log.
 #[tactic(auto, using(crate::proofs::Turns::blocks_goes, crate::proofs::Turns::blocks_stop))]
 fn blocks(alloc: Global, words: &mut Words<'_>, count: u64) -> Result<Vec<(Cnf, Log)>, Misread>
     ensures { Takes (λ found. map refutation found.items) result words.new (blocks_in count words.old) }

@@ -79,7 +79,7 @@ told_by run report reports why =
     let verdict = verdict_of reports.on.loaded.ask reports.on.loaded.conflicts reports.on.loaded.inputs report reports.on.says why in
     told_of run report reports verdict.0 verdict.1 verdict.2
 
--- words make one request at most
+-- words make one request at most, so that where they ask for a verdict the report is one
 asked_for : (run : Run) (report : Report) (reports : Reports run.words run.held report) → AsksForVerdict run → (f : Form) × (reports.on.loaded.ask ≡ ask_for f)
 asked_for run report reports asks =
     let both : ◌≡◌ {A = Option Request} (Some reports.request) (Some asks.0) = sym reports.made.given ∙ asks.1.given in

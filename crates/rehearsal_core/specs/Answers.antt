@@ -10,18 +10,23 @@ use Rattle.rehearsal_core.specs.Inputs.{RequestsNone, IsHeld, Reports, Refuses, 
 
 -- ---- lines
 
+-- a refusal: its number, its place in the text, and its name
 abbrev pub refusal_line : Refusal → List ℕ
 refusal_line r = codes "refused " ++ (decimal r.number ++ (codes " at " ++ (decimal r.at ++ (codes ": " ++ (r.name ++ codes "\n")))))
 
+-- a file couldn't be read
 abbrev pub read_fault_line : List ℕ → List ℕ
 read_fault_line name = codes "read fault: " ++ (name ++ codes "\n")
 
+-- the words are refused
 abbrev pub usage_line : List ℕ
 usage_line = codes "usage: rehearsal [--facts F] [--packages P] [--node N] [--conflicts C] [--ask A] [--tree T] [--order O] [--workload N] [--data D] [INPUT]\n"
 
+-- a write failed
 abbrev pub write_fault_line : List ℕ
 write_fault_line = codes "write fault\n"
 
+-- memory was refused
 abbrev pub memory_line : List ℕ
 memory_line = codes "out of memory\n"
 
@@ -84,7 +89,7 @@ pub record Owes (run : Run) (status : ℕ) : Type 0 where
   pub usage : RequestsNone run.words → (status ≡ 5) ⊎ ((status ≡ 7) ⊎ (status ≡ 8))
   -- an input that is told, without faults, gets a report or a refusal
   pub decided : IsHeld run.words run.held → NoFaults run → (status ≤ 3) ⊎ ((status ≡ 4) ⊎ (status ≡ 8))
-  -- a read that failed is told, and so is a write to out
+  -- a read that failed is told, unless a write fails too or memory is refused; a write to out that failed is told always
   pub unread : run.shelf_now ≢ run.shelf_before → (status ≡ 6) ⊎ ((status ≡ 7) ⊎ (status ≡ 8))
   pub unwritten : (IsSound run.out → ⊥) → status ≡ 7
   -- a write to err that failed leaves nothing else to be told

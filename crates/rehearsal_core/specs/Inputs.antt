@@ -55,6 +55,7 @@ pub record File : Type 0 where
   pub limit : ℕ
   pub name : Option (List ℕ)
 
+-- the file of this label, limit and name
 abbrev pub file : List ℕ → ℕ → Option (List ℕ) → File
 file label limit name = record { label = label; limit = limit; name = name }
 
@@ -74,6 +75,7 @@ abbrev pub files_in : Source → Request → List File
 files_in (source.Named name) r = files_beside r name
 files_in (source.Workload n) r = []
 
+-- the files of a request, by its source
 abbrev pub files_of : Request → List File
 files_of r = files_in r.source r
 
@@ -87,7 +89,7 @@ AreBytes held name bytes = (told : List ℕ) → told_at held name ≡ Some told
 abbrev pub IsLonger : ℕ → Option Files → List ℕ → Type 0
 IsLonger limit held name = (told : List ℕ) → told_at held name ≡ Some told → limit < length told
 
--- these are the bytes of the file, and not too many; or none are named
+-- these are the bytes of the file, and not too many; or no file is named
 abbrev pub StandAt : Option Files → ℕ → Option (List ℕ) → Option (List ℕ) → Type 0
 StandAt held limit None None = Unit {0}
 StandAt held limit None (Some bytes) = ⊥
@@ -162,6 +164,7 @@ IsAnswerTo ask.Replay conflicts i report = IsReport question.Replay i report
 IsAnswerTo ask.Check conflicts i report = IsPrinted (AreVerified i.input) report
 IsAnswerTo ask.Migrate conflicts i report = IsPrinted (IsMigrated i.input) report
 
+-- what may be said of what was loaded
 abbrev pub IsAnswer : Loaded → Report → Type 0
 IsAnswer l report = IsAnswerTo l.ask l.conflicts l.inputs report
 
@@ -176,6 +179,7 @@ BreaksFor ask.Replay conflicts i r = ReportRefusal question.Replay i r
 BreaksFor ask.Check conflicts i r = BreaksProofRule i.input r
 BreaksFor ask.Migrate conflicts i r = BreaksListingRule i.input r
 
+-- the first rule that what was loaded breaks
 abbrev pub Breaks : Loaded → Refusal → Type 0
 Breaks l r = BreaksFor l.ask l.conflicts l.inputs r
 
@@ -201,11 +205,13 @@ pub record Reports (words : List (String Global)) (held : Option Files) (report 
   pub made : Requests words request
   pub on : ReportsOn request held report
 
+-- the first refusal of the request that the words make
 pub record Refuses (words : List (String Global)) (held : Option Files) (r : Refusal) : Type 0 where
   pub request : Request
   pub made : Requests words request
   pub cause : RefusesAt request held r
 
+-- a file of the request that the words make couldn't be read
 pub record FailsToRead (words : List (String Global)) (held : Option Files) (before now : ℕ) (name : List ℕ) : Type 0 where
   pub request : Request
   pub made : Requests words request

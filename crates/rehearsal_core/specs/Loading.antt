@@ -70,6 +70,7 @@ abbrev pub bytes_in : Load → Option (List ℕ)
 bytes_in load.Longer = None
 bytes_in (load.Bytes bytes) = Some bytes
 
+-- the bytes, as those of a file that is named
 abbrev pub some_of : Option (List ℕ) → Option (Option (List ℕ))
 some_of None = None
 some_of (Some bytes) = Some (Some bytes)
@@ -96,6 +97,7 @@ FirstOf [] r = ⊥
 FirstOf (x ∷ more) r =
     ((named_bytes x.0 ≡ None) × IsRefusal 17 0 x.1 r) ⊎ (((bytes : Option (List ℕ)) × (named_bytes x.0 ≡ Some bytes)) × FirstOf more r)
 
+-- the refusal of the first file that has too many bytes
 abbrev pub FirstLong : Loads → Refusal → Type 0
 FirstLong l r = FirstOf (labelled l) r
 

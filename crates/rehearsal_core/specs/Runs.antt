@@ -14,6 +14,7 @@ pub record Put : Type 0 where
   pub faults_before : ℕ
   pub faults_now : ℕ
 
+-- what a sink tells, before and now
 abbrev pub put_of : {S : Type 0} → (S → Option (List ℕ)) → (S → ℕ) → S → S → Put
 put_of written faults old new = record { before = written old; now = written new; faults_before = faults old; faults_now = faults new }
 

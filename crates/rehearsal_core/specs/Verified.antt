@@ -45,7 +45,7 @@ bad_proof number step = codes "proof " ++ (decimal number ++ (codes " step " ++ 
 abbrev pub SpellsNone : List ℕ → Type 0
 SpellsNone text = (proofs : List Refutation) → IsProofText text proofs → ⊥
 
--- the first rule that a text of proofs breaks
+-- the text spells proofs, and this is the refusal of the first that is none
 pub record HasBad (text : List ℕ) (r : Refusal) : Type 0 where
   pub proofs : List Refutation
   pub spelled : IsProofText text proofs
@@ -54,5 +54,6 @@ pub record HasBad (text : List ℕ) (r : Refusal) : Type 0 where
   pub first : FirstBad proofs number step
   pub refusal : IsRefusal 81 0 (bad_proof number step) r
 
+-- the text spells no proofs, or one of them is none
 abbrev pub BreaksProofRule : List ℕ → Refusal → Type 0
 BreaksProofRule text r = (IsRefusal 80 0 (codes "proof") r × SpellsNone text) ⊎ HasBad text r

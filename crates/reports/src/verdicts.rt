@@ -1,4 +1,4 @@
-//! What is told of the order of resources.
+//! What is told of the programs of resources and the order between them.
 
 ghost use Rattle.std.specs.Prelude.{◌≡◌, ◌<◌, length, map, IfOk, IfErr};
 ghost use Rattle.std.specs.List.{AllByRecursion};

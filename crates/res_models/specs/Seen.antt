@@ -14,6 +14,7 @@ use Rattle.model_semantics.specs.declared.kinds.ModelFault.TheVariants as fault
 use Rattle.model_semantics.specs.Models as models
 use Rattle.model_semantics.specs.Names.{◌>>=◌}
 
+-- the resource alone, if there is one
 abbrev pub resource_at : Option Resource → List Resource
 resource_at None = []
 resource_at (Some r) = r ∷ []

@@ -5,6 +5,7 @@ use Rattle.fs_interpreter.specs.States.{Cell, State}
 use Rattle.fs_interpreter.specs.declared.cells.Cells.{Cells}
 use Rattle.fs_interpreter.specs.Steps.{Cellwise}
 
+-- two truth values are the same
 abbrev pub same_truth : Bool → Bool → Bool
 same_truth x y = if x then y else not y
 
@@ -12,6 +13,7 @@ same_truth x y = if x then y else not y
 abbrev pub same_text : Cell → Cell → Bool
 same_text c d = same_truth c.link d.link && (c.content == d.content)
 
+-- a folder in both, or the same file or link
 abbrev pub same_entry : Cell → Cell → Bool
 same_entry c d = same_truth c.folder d.folder && (if c.folder then true else same_text c d)
 
@@ -19,6 +21,7 @@ same_entry c d = same_truth c.folder d.folder && (if c.folder then true else sam
 abbrev pub same_cell : Cell → Cell → Bool
 same_cell c d = same_truth c.present d.present && (if c.present then same_entry c d else true)
 
+-- the same at the first n places
 abbrev pub same_cells : Cellwise → Cellwise → ℕ → Bool
 same_cells a b zero = true
 same_cells a b (suc n) = same_cells a b n && same_cell (a n) (b n)

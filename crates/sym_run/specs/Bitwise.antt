@@ -22,6 +22,7 @@ pub record AreBits {Bit Code : Type 0} (m : Meanings Bit Code) (meaning : Valuat
   pub owned : AreOwnBits m bs
   pub mean : (v : Valuation) (i : ℕ) → bit_at m v bs i ≡ meaning v i
 
+-- the same of codes
 pub record AreCodes {Bit Code : Type 0} (m : Meanings Bit Code) (meaning : Valuation → ℕ → ℕ) (cs : List Code) : Type 0 where
   pub owned : AreOwnCodes m cs
   pub mean : (v : Valuation) (i : ℕ) → code_at m v cs i ≡ meaning v i
@@ -32,6 +33,7 @@ pub record BitsSoFar {Bit Code : Type 0} (m : Meanings Bit Code) (meaning : Valu
   pub owned : AreOwnBits m bs
   pub mean : (v : Valuation) (i : ℕ) → i < k → bit_at m v bs i ≡ meaning v i
 
+-- the same of codes
 pub record CodesSoFar {Bit Code : Type 0} (m : Meanings Bit Code) (meaning : Valuation → ℕ → ℕ) (k : ℕ) (cs : List Code) : Type 0 where
   pub long : length cs ≡ k
   pub owned : AreOwnCodes m cs

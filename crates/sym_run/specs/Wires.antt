@@ -8,6 +8,7 @@ use Rattle.fs_interpreter.specs.Meanings.{Meanings}
 use Rattle.fs_interpreter.specs.States.{State, state_of}
 use Rattle.fs_interpreter.specs.declared.cells.Cells.{Cells}
 
+-- a bit as a number
 abbrev pub bit_number : Bool → ℕ
 bit_number true = 1
 bit_number false = 0
@@ -21,6 +22,7 @@ number_on values n (w ∷ ws) = number_on values (2 * n + bit_number (values w.0
 abbrev pub number : (ℕ → Bool) → List Wire → ℕ
 number values ws = number_on values 0 ws
 
+-- they are wires of the circuit
 abbrev pub AreWires : List Gate → List Wire → Type 0
 AreWires gates ws = AllByRecursion (λ w. w.0 < length gates) ws
 

@@ -111,7 +111,7 @@ fn has_same_wires(a: &Cells<Sym>, b: &Cells<Sym>, i: usize) -> bool
     present && folder && link && content
 }
 
-/// Whether the cells of a place tell the same. Where they have the same wires, no gate is added.
+/// Whether the cells of a place tell the same. Where they have the same wires, no gate is added but a constant.
 #[tactic(auto, using(crate::proofs::AlikeLaws::same_wires))]
 fn same_place(sym: &mut Sym, a: &Cells<Sym>, b: &Cells<Sym>, i: usize) -> Result<Wire, NoMemory>
     requires a { AreCells (circuit_meanings sym.old) a.now }

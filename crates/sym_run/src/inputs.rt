@@ -59,8 +59,8 @@ pub(crate) fn new_rows(
     Ok(rows)
 }
 
-/// A code of new inputs, which comes to tell each number of its width, whatever the other inputs are, and tells the same
-/// wherever these inputs are the same.
+/// A code of new inputs, which can tell each number of its width, whatever the other inputs are, and tells the same wherever
+/// these inputs are the same.
 pub fn new_code(alloc: Global, sym: &mut Sym, width: u64) -> Result<Seq<Wire>, NoMemory>
     ensures wires { IfOk result (AreWires sym.new) }
     ensures every { IfOk result (λ ws. (u : Valuation) (x : ℕ) → x < twice width → (v : Valuation) × AgreeOutside (input_count sym.old) (input_count sym.new) u v × (number (wire_value sym.new v) ws ≡ x)) }
@@ -71,8 +71,8 @@ pub fn new_code(alloc: Global, sym: &mut Sym, width: u64) -> Result<Seq<Wire>, N
     Ok(code)
 }
 
-/// So many codes of new inputs, which come to tell all numbers of their width, whatever the other inputs are, and tell the
-/// same wherever these inputs are the same.
+/// So many codes of new inputs, which can tell all numbers of their width, whatever the other inputs are, and tell the same
+/// wherever these inputs are the same.
 pub fn new_codes(
     alloc: Global,
     sym: &mut Sym,

@@ -49,7 +49,7 @@ pub(crate) fn contents_are_bytes(table: &Table)
 }
 
 /// Cells of new inputs, and a wire that is true under just the valuations under which they stand for a tree over the
-/// domain. They come to stand for each such tree, whatever the earlier inputs are.
+/// domain. They can stand for each such tree, whatever the earlier inputs are.
 pub fn any_tree(
     alloc: Global,
     sym: &mut Sym,

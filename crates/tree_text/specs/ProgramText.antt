@@ -16,6 +16,7 @@ with_path word p = word ++ (path_shown p ++ codes ")")
 abbrev pub with_two : List ℕ → Path → List ℕ → List ℕ
 with_two word p shown = word ++ (path_shown p ++ (codes "," ++ (shown ++ codes ")")))
 
+-- a test as it is printed
 abbrev pub test_text : Test → List ℕ
 test_text True = codes "true"
 test_text False = codes "false"

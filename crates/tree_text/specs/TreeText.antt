@@ -56,6 +56,7 @@ abbrev pub members_with : Members → List (Path × Entry) → Members
 members_with members [] = members
 members_with members (e ∷ es) = members_with (put (path_text e.0) (entry_data e.1) members) es
 
+-- the members of the object of a tree
 abbrev pub members_of : Tree → Members
 members_of t = members_with no_members (map.entries t)
 
@@ -63,6 +64,7 @@ members_of t = members_with no_members (map.entries t)
 abbrev pub tree_text : Tree → List ℕ
 tree_text t = compact_text (object (members_of t))
 
+-- the keys of these members, in order
 abbrev pub keys_in : Members → List (List ℕ)
 keys_in no_members = []
 keys_in (member key d members) = key ∷ keys_in members

@@ -76,6 +76,7 @@ fn written(alloc: Global, tree: &Tree) -> Result<Vec<u8>, NoMemory>
     Ok(json.to_vec(alloc)?)
 }
 
+/// Appends the bytes, or leaves all as it is.
 pub fn append(into: &mut Vec<u8>, bytes: &[u8]) -> Result<(), NoMemory>
     ensures ok { OnOk result (into.new.items ≡ into.old.items ++ bytes.now) }
     ensures err { OnErr result (into.new.items ≡ into.old.items) }

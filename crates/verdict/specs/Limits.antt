@@ -13,15 +13,19 @@ pub record HasPaths (es : List Program) (n : ℕ) : Type 0 where
   pub is_layout : IsLayout es layout
   pub count : n ≡ length layout.paths
 
+-- the domain has at most as many paths as the limit says
 abbrev pub HasFewPaths : List Program → Type 0
 HasFewPaths es = (n : ℕ) × HasPaths es n × (n ≤ DOMAIN_PATHS)
 
+-- the domain has more paths than that
 abbrev pub HasManyPaths : List Program → Type 0
 HasManyPaths es = (n : ℕ) × HasPaths es n × (DOMAIN_PATHS < n)
 
+-- the weight is at most the limit
 abbrev pub IsLight : List Program → Type 0
 IsLight es = (w : ℕ) × Weighs es w × (w ≤ WEIGHT)
 
+-- the weight is more than that
 abbrev pub IsHeavy : List Program → Type 0
 IsHeavy es = (w : ℕ) × Weighs es w × (WEIGHT < w)
 

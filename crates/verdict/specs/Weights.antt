@@ -41,6 +41,7 @@ abbrev mutual
   steps_work children none = 0
   steps_work children (next e es) = work children e + steps_work children es
 
+-- the work of all programs
 abbrev pub all_work : (Path → ℕ) → List Program → ℕ
 all_work children [] = 0
 all_work children (e ∷ es) = work children e + all_work children es
@@ -56,6 +57,7 @@ pub record Weighs (es : List Program) (w : ℕ) : Type 0 where
   pub named_are : (p : Path) → IsTrue (is_among p named) ↔ IsNamed es p
   pub weight : w ≡ capped (2 * length es * all_work (child_count named) es)
 
+-- the number, 0 where there is none
 abbrev pub or_zero : Option ℕ → ℕ
 or_zero None = 0
 or_zero (Some n) = n

@@ -1,4 +1,4 @@
-//! What is said of a graph of programs; so far, how large the questions about it are, and whether they are too large.
+//! How large the questions about a graph of programs are, and whether they are too large to be asked.
 #![tactic(auto)]
 
 mod counts;

@@ -36,9 +36,11 @@ budget_of (Some conflicts) = if conflicts == 0 then 1 else conflicts
 abbrev pub head_lines : ℕ → ℕ → List ℕ
 head_lines n k = codes "resources " ++ (decimal n ++ (codes "\npruned " ++ (decimal k ++ codes "\n")))
 
+-- some tree has a run without error
 abbrev pub succeeds_line : List ℕ
 succeeds_line = codes "succeeds from some tree\n"
 
+-- no tree has one
 abbrev pub fails_line : List ℕ
 fails_line = codes "fails from every tree\n"
 
@@ -54,6 +56,7 @@ run_lines names es t order = order_line names order ++ outcome_line (outcome es 
 abbrev pub runs_lines : List (List ℕ) → List Program → Tree → List ℕ → List ℕ → List ℕ
 runs_lines names es t left right = tree_line t ++ (run_lines names es t left ++ run_lines names es t right)
 
+-- two orders end differently from a tree
 abbrev pub difference_text : List (List ℕ) → List Program → ℕ → Tree → List ℕ → List ℕ → List ℕ
 difference_text names es k t left right = head_lines (length es) k ++ (codes "not deterministic\n" ++ runs_lines names es t left right)
 
@@ -69,6 +72,7 @@ outcome_lines es order t = outcome_line (outcome es order t) ++ outcome_line (ou
 abbrev pub again_lines : List (List ℕ) → List Program → Tree → List ℕ → List ℕ
 again_lines names es t order = tree_line t ++ (order_line names order ++ outcome_lines es order t)
 
+-- a second run changes what the first one left
 abbrev pub change_text : List (List ℕ) → List Program → ℕ → Tree → List ℕ → List ℕ
 change_text names es k t order = head_lines (length es) k ++ (codes "deterministic\nnot idempotent\n" ++ (again_lines names es t order ++ succeeds_line))
 
@@ -78,14 +82,17 @@ known_lines asked.Deterministic = []
 known_lines asked.Idempotent = codes "deterministic\n"
 known_lines asked.Succeeds = codes "deterministic\nidempotent\n"
 
+-- a question by its name
 abbrev pub question_name : Asked → List ℕ
 question_name asked.Deterministic = codes "deterministic"
 question_name asked.Idempotent = codes "idempotent"
 question_name asked.Succeeds = codes "succeeds"
 
+-- so many conflicts were spent on the question
 abbrev pub spent_line : Asked → ℕ → List ℕ
 spent_line a budget = codes "spent " ++ (question_name a ++ (codes " " ++ (decimal budget ++ codes "\n")))
 
+-- a question's conflicts are spent
 abbrev pub spent_text : ℕ → ℕ → Asked → ℕ → List ℕ
 spent_text n k a budget = head_lines n k ++ (known_lines a ++ spent_line a budget)
 
@@ -95,26 +102,31 @@ proofs_text proofs = codes "proofs " ++ (decimal (length proofs) ++ (codes "\n" 
 
 -- ---- of a verdict
 
+-- the status that goes with it
 abbrev pub status_of : Verdict → ℕ
 status_of (verdict.NotDeterministic k w) = 1
 status_of (verdict.Judged k s (second.Same v) e) = 0
 status_of (verdict.Judged k s (second.Differs w) e) = 2
 status_of (verdict.Spent k a cnf log proofs) = 3
 
+-- whether some tree has a run without error
 abbrev pub last_line : Ends → List ℕ
 last_line (ends.From w) = succeeds_line
 last_line (ends.Never v) = fails_line
 
+-- the lines on two orders, if the witness has them
 abbrev pub difference_of : List (List ℕ) → List Program → ℕ → Witness → List ℕ
 difference_of names es k (witness.Orders t left right) = difference_text names es k t left right
 difference_of names es k (witness.Twice t order) = []
 difference_of names es k (witness.Ends t order) = []
 
+-- the lines on a second run, if the witness is of one
 abbrev pub change_of : List (List ℕ) → List Program → ℕ → Witness → List ℕ
 change_of names es k (witness.Orders t left right) = []
 change_of names es k (witness.Twice t order) = change_text names es k t order
 change_of names es k (witness.Ends t order) = []
 
+-- the lines on deterministic programs
 abbrev pub answer_of : List (List ℕ) → List Program → ℕ → Second → Ends → List ℕ
 answer_of names es k (second.Same v) e = sure_text (length es) k (last_line e)
 answer_of names es k (second.Differs w) e = change_of names es k w
@@ -125,10 +137,12 @@ lines_of names es budget (verdict.NotDeterministic k w) = difference_of names es
 lines_of names es budget (verdict.Judged k s again e) = answer_of names es k again e
 lines_of names es budget (verdict.Spent k a cnf log proofs) = spent_text (length es) k a budget
 
+-- what was refuted to answer the last question
 abbrev pub end_proofs : Ends → List Refutation
 end_proofs (ends.From w) = []
 end_proofs (ends.Never v) = v ∷ []
 
+-- what was refuted to answer the questions after the first
 abbrev pub later_proofs : Second → Ends → List Refutation
 later_proofs (second.Same v) e = v ∷ end_proofs e
 later_proofs (second.Differs w) e = []

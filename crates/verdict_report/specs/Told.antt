@@ -38,7 +38,7 @@ IsText form.Proofs lines proofs text = (text ≡ proofs_text proofs) × AllByRec
 
 -- ---- what is told, and what holds where it is told
 
--- all three questions were refuted
+-- what was refuted to answer all three questions
 pub record AreThreeProofs (es : List Program) (order : Relation) (proofs : List Refutation) : Type 0 where
   pub front : List Refutation
   pub last : Refutation

@@ -14,6 +14,7 @@ abbrev pub outcome_text : Outcome → List ℕ
 outcome_text None = codes "error"
 outcome_text (Some t) = tree_text t
 
+-- the line of an outcome
 abbrev pub outcome_line : Outcome → List ℕ
 outcome_line o = codes "outcome " ++ (outcome_text o ++ codes "\n")
 

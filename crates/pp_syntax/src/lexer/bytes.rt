@@ -22,6 +22,7 @@ pub enum Class {
     Line,
 }
 
+/// A space, a tab, CR or LF.
 pub fn is_blank(b: u8) -> bool
     ensures { result ≡ is_blank b }
 {
@@ -46,12 +47,14 @@ pub fn is_hex(b: u8) -> bool
     (b >= b'0' && b <= b'9') || (b >= b'a' && b <= b'f') || (b >= b'A' && b <= b'F')
 }
 
+/// An ASCII letter, a digit or `_`.
 pub fn is_name(b: u8) -> bool
     ensures { result ≡ is_name b }
 {
     (b >= b'a' && b <= b'z') || (b >= b'A' && b <= b'Z') || (b >= b'0' && b <= b'9') || b == b'_'
 }
 
+/// The value of a hexadecimal digit.
 pub fn digit_of(b: u8) -> u8
     ensures { result ≡ digit_of b }
 {

@@ -37,6 +37,7 @@ fn segment(style: Style, text: &[u8]) -> Option<&[u8]>
     }
 }
 
+/// What is left behind a `::`.
 pub fn after_colons(text: &[u8]) -> Option<&[u8]>
     ensures { option_map (λ r. r.now) result ≡ after_colons text.now }
 {
@@ -67,6 +68,7 @@ fn more_segments(style: Style, turns: usize, text: &[u8]) -> &[u8]
     rest
 }
 
+/// What is left behind segments with `::` between them.
 #[tactic(auto, unfolding(crate::specs::Scanning::joined))]
 pub fn joined(style: Style, text: &[u8]) -> Option<&[u8]>
     ensures { option_map (λ r. r.now) result ≡ joined style text.now }
@@ -76,6 +78,7 @@ pub fn joined(style: Style, text: &[u8]) -> Option<&[u8]>
     Some(more_segments(style, rest.len(), rest))
 }
 
+/// The same, and there may be a `::` in front.
 #[tactic(auto, unfolding(crate::specs::Scanning::name))]
 pub fn name(style: Style, text: &[u8]) -> Option<&[u8]>
     ensures { option_map (λ r. r.now) result ≡ name style text.now }

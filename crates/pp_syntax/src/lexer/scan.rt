@@ -65,6 +65,7 @@ pub fn code_token(text: &[u8]) -> Option<(Kind, &[u8])>
     scoped_or_sign(text)
 }
 
+/// A `/*` stands in front.
 pub fn opens_comment(text: &[u8]) -> bool
     ensures { result ≡ opens_comment text.now }
 {
