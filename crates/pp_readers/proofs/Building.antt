@@ -1,5 +1,5 @@
 -- What is spelled is read: the ways in which readers are built.
-use Rattle.std.proofs.Common.{◌≡◌, ◌≢◌, inl, inr, ℕ, zero, suc, ◌<◌, ◌&&◌, Bool, true, false, cond, List, [], ◌∷◌, ◌++◌, length, Option, Some, None, refl, sym, ap, subst, ◌∙◌, append_assoc, length-append, arith, eq-eqb}
+use Rattle.std.proofs.Common.{◌≡◌, ◌≢◌, inl, inr, ℕ, zero, suc, ◌<◌, ◌&&◌, Bool, true, false, cond, List, [], ◌∷◌, ◌++◌, length, Option, Some, None, refl, sym, ap, subst, ◌∙◌, append_assoc, length-append, arith}
 use Rattle.std.specs.Prelude.{codes}
 use Rattle.std.specs.Str.{bytes_eq}
 use Rattle.std.proofs.lemmas.List.{append-nil}
@@ -10,9 +10,10 @@ use Rattle.pp_syntax.specs.Tokens.{Lexeme}
 use Rattle.pp_syntax.specs.Phrases as phrases
 use Rattle.pp_syntax.specs.Phrases.{◌then◌, Maybe, Sign, Each, place_of}
 use Rattle.pp_syntax.specs.Statements.{InBraces}
-use Rattle.pp_readers.specs.Marks.{Found, first_at, mark, rank}
+use Rattle.pp_readers.specs.Marks.{Found, first_at, mark}
 use Rattle.rh_base.specs.Reading.{◌>>=◌}
 use Rattle.pp_readers.specs.Expressions.{with_first}
+use Rattle.pp_readers.proofs.Tokens.{itself_kind}
 use Rattle.pp_readers.proofs.Reading.{Fit, fits_first, fits_second, first_place}
 use Rattle.pp_readers.specs.Combining.{Reader, both, made, behind, before, in_braces, many, after_item, listed}
 use Rattle.pp_readers.specs.Names.{taken}
@@ -31,7 +32,7 @@ ReadsBefore {X} F f A = (y : X) (us rest : List Lexeme) → A y us → Fit us �
 pub mark_here : (k : Kind) (s : List ℕ) (us rest : List Lexeme) (t : phrases.Some k s us) → mark k s (us ++ rest) ≡ Some (t.0, rest)
 mark_here k s us rest t =
     ap (λ r. mark k s (r ++ rest)) t.1
-    ∙ ap (λ v. cond (v && bytes_eq s s) (Some (t.0, rest)) None) (eq-eqb (rank k) (rank k) refl)
+    ∙ ap (λ v. cond (v && bytes_eq s s) (Some (t.0, rest)) None) (itself_kind k)
     ∙ ap (λ v. cond (true && v) (Some (t.0, rest)) None) ((bytes_eq-Decides s s).1 refl)
 
 pub mark_not : (k : Kind) (s : List ℕ) (ts : List Lexeme) → ((x : ℕ × List Lexeme) → mark k s ts ≡ Some x → ⊥) → mark k s ts ≡ None

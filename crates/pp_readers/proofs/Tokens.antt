@@ -1,6 +1,5 @@
 -- Single tokens, and tokens behind one another.
-use Rattle.std.proofs.Common.{◌≡◌, ℕ, ◌==◌, ◌&&◌, Bool, true, false, cond, List, [], ◌∷◌, ◌++◌, Option, Some, None, refl, sym, ap, ◌∙◌, append_assoc}
-use Rattle.std.proofs.lemmas.Bool.{eqb-true}
+use Rattle.std.proofs.Common.{◌≡◌, ℕ, ◌&&◌, Bool, true, false, cond, List, [], ◌∷◌, ◌++◌, Option, Some, None, refl, sym, ap, ◌∙◌, append_assoc}
 use Rattle.std.proofs.lemmas.Slice.Eq.{bytes_eq-Decides}
 use Rattle.std.specs.Str.{bytes_eq}
 use Rattle.pp_syntax.specs.declared.token.Kind.{Kind}
@@ -8,7 +7,7 @@ use Rattle.pp_syntax.specs.declared.token.Kind.TheVariants as kind
 use Rattle.pp_syntax.specs.Tokens.{Lexeme}
 use Rattle.pp_syntax.specs.Phrases as phrases
 use Rattle.pp_syntax.specs.Phrases.{◌then◌}
-use Rattle.pp_readers.specs.Marks.{rank, is_kind, mark}
+use Rattle.pp_readers.specs.Marks.{is_kind, mark}
 use Rattle.rh_base.specs.Reading.{◌>>=◌}
 use Rattle.pp_readers.specs.Parsed.{Begins}
 
@@ -26,34 +25,44 @@ joins a b = record {
 unfoldable pub maps : {A B : List Lexeme → Type 0} {ts rest : List Lexeme} → ((us : List Lexeme) → A us → B us) → Begins A ts rest → Begins B ts rest
 maps f a = record { front = a.front; spelled = f a.front a.spelled; whole = a.whole }
 
--- the kind of this rank
-kind_of : ℕ → Kind
-kind_of n = cond (n == 0) kind.Word (cond (n == 1) kind.Ref (cond (n == 2) kind.Var (cond (n == 3) kind.Int (cond (n == 4) kind.Float (cond (n == 5) kind.Sq (cond (n == 6) kind.DqOpen (
-    cond (n == 7) kind.DqText (cond (n == 8) kind.DqVar (cond (n == 9) kind.Hole (cond (n == 10) kind.HoleEnd (cond (n == 11) kind.DqClose (cond (n == 12) kind.Tight (cond (n == 13) kind.Loose (
-    cond (n == 14) kind.Keyword (cond (n == 15) kind.Sign kind.LeftOut)))))))))))))))
-
-kind_back : (k : Kind) → kind_of (rank k) ≡ k
-unfolding kind_of
-kind_back kind.Word = refl
-kind_back kind.Ref = refl
-kind_back kind.Var = refl
-kind_back kind.Int = refl
-kind_back kind.Float = refl
-kind_back kind.Sq = refl
-kind_back kind.DqOpen = refl
-kind_back kind.DqText = refl
-kind_back kind.DqVar = refl
-kind_back kind.Hole = refl
-kind_back kind.HoleEnd = refl
-kind_back kind.DqClose = refl
-kind_back kind.Tight = refl
-kind_back kind.Loose = refl
-kind_back kind.Keyword = refl
-kind_back kind.Sign = refl
-kind_back kind.LeftOut = refl
-
 pub same_kind : (j k : Kind) → is_kind j k ≡ true → j ≡ k
-same_kind j k h = sym (kind_back j) ∙ ap kind_of (eqb-true (rank j) (rank k) h) ∙ kind_back k
+same_kind kind.Word kind.Word h = refl
+same_kind kind.Ref kind.Ref h = refl
+same_kind kind.Var kind.Var h = refl
+same_kind kind.Int kind.Int h = refl
+same_kind kind.Float kind.Float h = refl
+same_kind kind.Sq kind.Sq h = refl
+same_kind kind.DqOpen kind.DqOpen h = refl
+same_kind kind.DqText kind.DqText h = refl
+same_kind kind.DqVar kind.DqVar h = refl
+same_kind kind.Hole kind.Hole h = refl
+same_kind kind.HoleEnd kind.HoleEnd h = refl
+same_kind kind.DqClose kind.DqClose h = refl
+same_kind kind.Tight kind.Tight h = refl
+same_kind kind.Loose kind.Loose h = refl
+same_kind kind.Keyword kind.Keyword h = refl
+same_kind kind.Sign kind.Sign h = refl
+same_kind kind.LeftOut kind.LeftOut h = refl
+same_kind j k h = cc
+
+pub itself_kind : (k : Kind) → is_kind k k ≡ true
+itself_kind kind.Word = refl
+itself_kind kind.Ref = refl
+itself_kind kind.Var = refl
+itself_kind kind.Int = refl
+itself_kind kind.Float = refl
+itself_kind kind.Sq = refl
+itself_kind kind.DqOpen = refl
+itself_kind kind.DqText = refl
+itself_kind kind.DqVar = refl
+itself_kind kind.Hole = refl
+itself_kind kind.HoleEnd = refl
+itself_kind kind.DqClose = refl
+itself_kind kind.Tight = refl
+itself_kind kind.Loose = refl
+itself_kind kind.Keyword = refl
+itself_kind kind.Sign = refl
+itself_kind kind.LeftOut = refl
 
 pub mark_found : (k : Kind) (s : List ℕ) (ts : List Lexeme) (x : ℕ × List Lexeme) → mark k s ts ≡ Some x → ts ≡ record { kind = k; text = s; at = x.0 } ∷ x.1
 mark_found k s [] x h = cc

@@ -1,5 +1,5 @@
 -- The token at the front: telling tokens apart, and the operators among them.
-use Rattle.std.specs.Prelude.{ℕ, ◌+◌, Bool, false, ◌==◌, ◌&&◌, if◌then◌else◌, List, [], ◌∷◌, Option, Some, None, codes}
+use Rattle.std.specs.Prelude.{ℕ, ◌+◌, Bool, true, false, ◌==◌, ◌&&◌, if◌then◌else◌, List, [], ◌∷◌, Option, Some, None, codes}
 use Rattle.std.specs.Option.{option_map}
 use Rattle.std.specs.Str.{bytes_eq}
 use Rattle.pp_syntax.specs.declared.token.Kind.{Kind}
@@ -18,29 +18,26 @@ abbrev pub front_of : List Lexeme → Found Lexeme
 front_of [] = None
 front_of (t ∷ ts) = Some (t, ts)
 
--- a number for each kind
-abbrev pub rank : Kind → ℕ
-rank kind.Word = 0
-rank kind.Ref = 1
-rank kind.Var = 2
-rank kind.Int = 3
-rank kind.Float = 4
-rank kind.Sq = 5
-rank kind.DqOpen = 6
-rank kind.DqText = 7
-rank kind.DqVar = 8
-rank kind.Hole = 9
-rank kind.HoleEnd = 10
-rank kind.DqClose = 11
-rank kind.Tight = 12
-rank kind.Loose = 13
-rank kind.Keyword = 14
-rank kind.Sign = 15
-rank kind.LeftOut = 16
-
 -- the two are one kind
 abbrev pub is_kind : Kind → Kind → Bool
-is_kind j k = rank j == rank k
+is_kind kind.Word kind.Word = true
+is_kind kind.Ref kind.Ref = true
+is_kind kind.Var kind.Var = true
+is_kind kind.Int kind.Int = true
+is_kind kind.Float kind.Float = true
+is_kind kind.Sq kind.Sq = true
+is_kind kind.DqOpen kind.DqOpen = true
+is_kind kind.DqText kind.DqText = true
+is_kind kind.DqVar kind.DqVar = true
+is_kind kind.Hole kind.Hole = true
+is_kind kind.HoleEnd kind.HoleEnd = true
+is_kind kind.DqClose kind.DqClose = true
+is_kind kind.Tight kind.Tight = true
+is_kind kind.Loose kind.Loose = true
+is_kind kind.Keyword kind.Keyword = true
+is_kind kind.Sign kind.Sign = true
+is_kind kind.LeftOut kind.LeftOut = true
+is_kind j k = false
 
 -- a token of this kind and text at the front: where it stands
 abbrev pub mark_of : Kind → List ℕ → Found Lexeme → Found ℕ
