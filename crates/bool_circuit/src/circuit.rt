@@ -1,6 +1,6 @@
 //! Circuits: gates are asked for, equal ones are shared, and what folds is folded.
 
-ghost use Rattle.std.specs.Prelude.{All, ◌≡◌, ◌≢◌, ◌⊎◌, ◌↔◌, ℕ, ◌+◌, ◌^◌, ◌<◌, ◌≤◌, Bool, true, false, ◌&&◌, ◌||◌, not, if◌then◌else◌, [], length, slice_get, IfOk, OnOk, OnErr, IfSome, IfNone, Some, IsTrue};
+ghost use Rattle.std.specs.Prelude.{All, ◌≡◌, ◌≢◌, ◌↔◌, ℕ, ◌+◌, ◌^◌, ◌<◌, ◌≤◌, Bool, true, false, ◌&&◌, ◌||◌, not, if◌then◌else◌, [], length, slice_get, IfOk, OnOk, OnErr, IfSome, IfNone, Some, IsTrue};
 ghost use Rattle.std.specs.Bool.{OnTrue};
 ghost use Rattle.bool_circuit.specs.Placed.{IsPlaced};
 ghost use Rattle.bool_circuit.specs.Gates.{truth_at, gate_value, OperandsBelow, PlaceBelow};

@@ -6,7 +6,7 @@ ghost use Rattle.cnf.specs.Literals.{opposite, same_lit, lit_true, HasVariable};
 ghost use Rattle.cnf.specs.Clauses.{clause_of};
 ghost use Rattle.cnf.specs.Formulas.{IsSatisfiable};
 ghost use Rattle.cnf.specs.Encoding.{StatesGoal};
-ghost use Rattle.cnf.specs.Defining.{lit_at, lits_value, AreNeeded, HaveVariables, NeededFrom, Encodes, Defines, yes, no, with_clauses, constant_clauses, and_clauses, mux_clauses};
+ghost use Rattle.cnf.specs.Defining.{lit_at, lits_value, AreNeeded, HaveVariables, NeededFrom, Encodes, Defines, yes, no, with_clauses, and_clauses, mux_clauses};
 
 use crate::formula::Cnf;
 use crate::lit::Lit;

@@ -3,7 +3,6 @@
 ghost use Rattle.std.specs.Prelude.{All, ◌≡◌, ◌+◌, ◌-◌, ◌*◌, ◌<◌, ◌≤◌, ◌^◌, [], ◌∷◌, ◌++◌, length, map, slice_get, slice_index, Some, IfOk, OnOk, OnErr};
 ghost use Rattle.cnf.specs.Store.{word_of, lit_of, start_of};
 ghost use Rattle.cnf.specs.Literals.{HasVariable};
-ghost use Rattle.cnf.specs.Clauses.{HasVariables};
 
 use crate::clause::Clause;
 use crate::lit::Lit;

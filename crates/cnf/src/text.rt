@@ -1,6 +1,6 @@
 //! The text of a formula and its log.
 
-ghost use Rattle.std.specs.Prelude.{◌≡◌, ◌+◌, ◌≤◌, [], ◌∷◌, ◌++◌, length, decimal, codes, OnOk, OnErr};
+ghost use Rattle.std.specs.Prelude.{◌≡◌, ◌+◌, ◌≤◌, [], ◌∷◌, ◌++◌, length, decimal, OnOk, OnErr};
 ghost use Rattle.std.specs.List.{flat_map};
 ghost use Rattle.cnf.specs.Formulas.{clause_at};
 ghost use Rattle.cnf.specs.ProofText.{lit_word, clause_words, step_words, line_text, formula_lines, log_lines, proof_text};

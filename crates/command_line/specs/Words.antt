@@ -11,6 +11,7 @@ use Rattle.command_line.specs.declared.asks.Takes.{Takes}
 use Rattle.command_line.specs.declared.asks.Source.{Source}
 use Rattle.command_line.specs.declared.asks.Source.TheVariants as source
 use Rattle.command_line.specs.declared.asks.Request.{Request}
+use Rattle.command_line.specs.declared.size.TheConstants.{MOST_WORKLOAD}
 use Rattle.command_line.specs.declared.words.WordsFault.{WordsFault}
 use Rattle.command_line.specs.declared.words.WordsFault.TheVariants as fault
 
@@ -126,10 +127,6 @@ number_in most (b ∷ word) = if b == 48 then None else digits_within most 0 (b 
 abbrev pub most_conflicts : ℕ
 most_conflicts = 100000000
 
--- the greatest size of a workload
-abbrev pub most_workload : ℕ
-most_workload = 54
-
 -- what is given for an option that takes a number, and may stand or may not
 abbrev pub taken_number : Bool → ℕ → Option Text → Option (Option ℕ)
 taken_number may most None = Some None
@@ -147,7 +144,7 @@ source_in (Some n) (Some name) = None
 abbrev pub request_in : List Row → Option Request
 request_in rows = do
   ask ← ask_in (first_of (codes "ask") rows)
-  workload ← taken_number (takes ask).workload most_workload (first_of (codes "workload") rows)
+  workload ← taken_number (takes ask).workload MOST_WORKLOAD (first_of (codes "workload") rows)
   source ← source_in workload (first_of (codes "INPUT") rows)
   facts ← taken (beside workload (takes ask)).facts (first_of (codes "facts") rows)
   packages ← taken (beside workload (takes ask)).packages (first_of (codes "packages") rows)

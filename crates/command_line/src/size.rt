@@ -1,6 +1,7 @@
 //! How large a workload is.
 
 ghost use Rattle.std.specs.Prelude.{◌≡◌, ◌≤◌};
+ghost use Rattle.command_line.specs.declared.size.TheConstants.{MOST_WORKLOAD};
 
 use std::marker::Model;
 
@@ -12,12 +13,13 @@ pub struct Size {
 
 impl Model for Size {
     ghost use Rattle.std.specs.Prelude.{ℕ, ◌≤◌};
+    ghost use Rattle.command_line.specs.declared.size.TheConstants.{MOST_WORKLOAD};
 
     ghost Value = { ℕ };
 
     ghost view = { λ s. s.size };
 
-    ghost invariant = { λ s. (1 ≤ s.size) × (s.size ≤ 54) };
+    ghost invariant = { λ s. (1 ≤ s.size) × (s.size ≤ MOST_WORKLOAD) };
 }
 
 /// The greatest size of a workload.
@@ -26,7 +28,7 @@ pub const MOST_WORKLOAD: u64 = 54;
 impl Size {
     pub(crate) fn new(size: u64) -> Size
         requires least { 1 ≤ size }
-        requires most { size ≤ 54 }
+        requires most { size ≤ MOST_WORKLOAD }
         ensures { result ≡ size }
     {
         Size { size: size as u32 }
@@ -36,7 +38,7 @@ impl Size {
     pub fn get(&self) -> u32
         ensures size { result ≡ self.now }
         ensures least { 1 ≤ result }
-        ensures most { result ≤ 54 }
+        ensures most { result ≤ MOST_WORKLOAD }
     {
         self.size
     }

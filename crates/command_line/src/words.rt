@@ -4,7 +4,8 @@ ghost use Rattle.std.specs.Prelude.{◌≡◌, ◌≢◌, ◌↔◌, ◌<◌, �
 ghost use Rattle.std.specs.Option.{option_map};
 ghost use Rattle.clap.specs.Words.{found_of, rows_of, first_of, matches_of, fault_of, kind_of};
 ghost use Rattle.clap.specs.declared.error.kind.ErrorKind.TheVariants.{OutOfMemory};
-ghost use Rattle.command_line.specs.Words.{synopsis, ask_in, taken, taken_number, most_workload, source_in, request_in, Makes, IfRefused, IsMade, IsWithin};
+ghost use Rattle.command_line.specs.declared.size.TheConstants.{MOST_WORKLOAD};
+ghost use Rattle.command_line.specs.Words.{synopsis, ask_in, taken, taken_number, source_in, request_in, Makes, IfRefused, IsMade, IsWithin};
 
 use crate::asks::{Ask, Request, Source};
 use crate::command::synopsis;
@@ -101,7 +102,7 @@ fn counted(
 
 /// The size that is given for a workload, which may stand or may not.
 fn size(matches: &ArgMatches<'_>, may: bool) -> Result<Option<Size>, WordsFault>
-    ensures { IsMade (taken_number may most_workload (first_of (codes "workload") (rows_of (found_of matches.now)))) result }
+    ensures { IsMade (taken_number may MOST_WORKLOAD (first_of (codes "workload") (rows_of (found_of matches.now)))) result }
 {
     match counted(matches, may, "workload", MOST_WORKLOAD)? {
         Some(n) => Ok(Some(Size::new(n))),

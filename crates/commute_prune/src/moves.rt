@@ -1,6 +1,6 @@
 //! Which program may go first or last.
 
-ghost use Rattle.std.specs.Prelude.{◌≡◌, ◌<◌, option_map, IfOk, OnOk};
+ghost use Rattle.std.specs.Prelude.{◌≡◌, ◌<◌, IfOk};
 ghost use Rattle.std.specs.List.{AllByRecursion, find};
 ghost use Rattle.orders.specs.Relation.{comes};
 ghost use Rattle.commute_prune.specs.Matrix.{cell};

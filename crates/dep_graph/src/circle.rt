@@ -1,6 +1,6 @@
 //! Circles, as they are told.
 
-ghost use Rattle.std.specs.Prelude.{◌≡◌, ◌++◌, codes, slice_get, IfOk, OnOk};
+ghost use Rattle.std.specs.Prelude.{◌≡◌, ◌++◌, slice_get, IfOk, OnOk};
 ghost use Rattle.rh_base.specs.Refused.{IfRefused};
 ghost use Rattle.pp_value.specs.Shown.{shown_ref};
 ghost use Rattle.pp_eval.specs.Verdicts.{refusal};

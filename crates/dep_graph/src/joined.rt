@@ -1,6 +1,6 @@
 //! The edges of relations.
 
-ghost use Rattle.std.specs.Prelude.{◌≡◌, ◌++◌, map, length, IfOk, OnOk};
+ghost use Rattle.std.specs.Prelude.{◌≡◌, ◌++◌, map, IfOk, OnOk};
 ghost use Rattle.dep_graph.specs.Numbered.{crossing, through, is_wide, link_edges, hub_after, edges_of_links, hubs_after};
 
 use crate::links::Link;

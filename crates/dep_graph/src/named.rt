@@ -1,12 +1,11 @@
 //! Automatic edges to users and groups that resources name.
 
-ghost use Rattle.std.specs.Prelude.{◌≡◌, ◌<◌, ◌≤◌, ◌++◌, ◌∷◌, [], codes, is_some, option_map, slice_get, IfOk, OnOk};
+ghost use Rattle.std.specs.Prelude.{◌≡◌, ◌<◌, ◌++◌, ◌∷◌, [], codes, is_some, option_map, slice_get, IfOk, OnOk};
 ghost use Rattle.std.specs.List.{All, flat_map};
 ghost use Rattle.pp_eval.specs.Evaluation.{text_of, texts_of, titles_of};
-ghost use Rattle.pp_value.specs.Values.{value_at};
 ghost use Rattle.catalog_semantics.specs.States.{declared_limit};
-ghost use Rattle.graph_semantics.specs.Automatic.{text_or, name_of, is_somebody, somebodies, list_or_none, text_in, texts_in, user_or_root, is_of, named_by, attribute};
-ghost use Rattle.dep_graph.specs.Named.{has, is_linked, kept_edge, is_proper, has_name, named_targets, member_text, targets_by_names, kept_edges, edges_by_names, named_edges};
+ghost use Rattle.graph_semantics.specs.Automatic.{text_or, name_of, is_somebody, somebodies, list_or_none, text_in, texts_in, user_or_root, attribute};
+ghost use Rattle.dep_graph.specs.Named.{is_linked, kept_edge, is_proper, has_name, named_targets, member_text, targets_by_names, kept_edges, edges_by_names, named_edges};
 
 use crate::links::Link;
 use crate::targets::resource_at;
@@ -271,6 +270,38 @@ fn push_user_or_root(
     }
 }
 
+/// Adds the user and the group of a file.
+fn push_owners(
+    alloc: Global,
+    catalog: &Catalog,
+    plain: &[u32],
+    r: &Resource,
+    targets: &mut Seq<u32>,
+) -> Result<(), NoMemory>
+    ensures { OnOk result (targets.new ≡ targets.old ++ flat_map (named_targets catalog.now plain.now) (somebodies (codes "user") (text_in (attribute r.now (codes "owner"))) ++ somebodies (codes "group") (text_in (attribute r.now (codes "group"))))) }
+{
+    let owner = r.attrs.find("owner");
+    push_text(alloc, catalog, plain, "user", owner, targets)?;
+    let group = r.attrs.find("group");
+    push_text(alloc, catalog, plain, "group", group, targets)
+}
+
+/// Adds the groups of a user.
+fn push_groups(
+    alloc: Global,
+    catalog: &Catalog,
+    plain: &[u32],
+    r: &Resource,
+    targets: &mut Seq<u32>,
+) -> Result<(), NoMemory>
+    ensures { OnOk result (targets.new ≡ targets.old ++ flat_map (named_targets catalog.now plain.now) (somebodies (codes "group") (text_in (attribute r.now (codes "gid")) ++ texts_in (attribute r.now (codes "groups"))))) }
+{
+    let gid = r.attrs.find("gid");
+    push_text(alloc, catalog, plain, "group", gid, targets)?;
+    let groups = r.attrs.find("groups");
+    push_texts(alloc, catalog, plain, "group", groups, targets)
+}
+
 /// The places of what a resource names, a line for each type.
 fn targets_by_names(
     alloc: Global,
@@ -283,50 +314,14 @@ fn targets_by_names(
     let mut targets = Seq::new(alloc);
     let kind = r.id.kind.as_str();
     if kind == "file" {
-        push_text(
-            alloc,
-            catalog,
-            plain,
-            "user",
-            r.attrs.find("owner"),
-            &mut targets,
-        )?;
-        push_text(
-            alloc,
-            catalog,
-            plain,
-            "group",
-            r.attrs.find("group"),
-            &mut targets,
-        )?;
+        push_owners(alloc, catalog, plain, r, &mut targets)?;
     } else if kind == "user" {
-        push_text(
-            alloc,
-            catalog,
-            plain,
-            "group",
-            r.attrs.find("gid"),
-            &mut targets,
-        )?;
-        push_texts(
-            alloc,
-            catalog,
-            plain,
-            "group",
-            r.attrs.find("groups"),
-            &mut targets,
-        )?;
+        push_groups(alloc, catalog, plain, r, &mut targets)?;
     } else if kind == "cron" {
         push_user_or_root(alloc, catalog, plain, r.attrs.find("user"), &mut targets)?;
     } else if kind == "ssh_authorized_key" {
-        push_text(
-            alloc,
-            catalog,
-            plain,
-            "user",
-            r.attrs.find("user"),
-            &mut targets,
-        )?;
+        let user = r.attrs.find("user");
+        push_text(alloc, catalog, plain, "user", user, &mut targets)?;
     }
     Ok(targets)
 }

@@ -5,7 +5,7 @@ ghost use Rattle.pp_eval.specs.Verdicts.{AnswersBy};
 ghost use Rattle.rh_base.specs.Refused.{IfRefused};
 ghost use Rattle.pp_eval.specs.Verdicts.{refusal};
 ghost use Rattle.pp_value.specs.Shown.{shown_ref};
-ghost use Rattle.catalog_semantics.specs.States.{place_of, declared_limit};
+ghost use Rattle.catalog_semantics.specs.States.{declared_limit};
 ghost use Rattle.graph_semantics.specs.Relations.{target_of, real_at};
 ghost use Rattle.graph_semantics.specs.Graphs.{rank};
 ghost use Rattle.dep_graph.specs.Numbers.{last_at, is_real};

@@ -1,8 +1,7 @@
 //! Reading a formula.
 
-ghost use Rattle.std.specs.Prelude.{◌≡◌, ◌++◌, ◌∷◌, [], IfOk, OnOk, Some, None, map};
+ghost use Rattle.std.specs.Prelude.{◌≡◌, ◌∷◌, [], IfOk, Some, None, map};
 ghost use Rattle.cnf.specs.Formulas.{Formula};
-ghost use Rattle.proof_check.specs.ProofWords.{IsProofText};
 ghost use Rattle.proof_check.specs.Refuted.{refutation};
 ghost use Rattle.dimacs.specs.Dimacs.{framed, alone, Reads};
 

@@ -1,9 +1,9 @@
 //! What was found of a program so far.
 
-ghost use Rattle.std.specs.Prelude.{◌≡◌, ◌||◌, IfOk, OnOk};
+ghost use Rattle.std.specs.Prelude.{◌≡◌, ◌||◌, OnOk};
 ghost use Rattle.fs_semantics.specs.FileTree.{is_root};
 ghost use Rattle.effect_sets.specs.Footprints.{no_footprint, joined, see, looking, looking_below, making, removing, ensuring};
-ghost use Rattle.effect_sets.specs.Members.{members, with_one};
+ghost use Rattle.effect_sets.specs.Members.{members};
 ghost use Rattle.effect_sets.specs.Telling.{told};
 
 use crate::sets::add;

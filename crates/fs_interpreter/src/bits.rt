@@ -1,6 +1,6 @@
 //! What the interpreter computes with.
 
-ghost use Rattle.std.specs.Prelude.{◌≡◌, ◌==◌, not, ◌&&◌, if◌then◌else◌, IfOk};
+ghost use Rattle.std.specs.Prelude.{◌==◌, not, ◌&&◌, if◌then◌else◌, IfOk};
 ghost use Rattle.fs_interpreter.specs.Meanings.{Grows, IsBit, IsCode};
 
 use rh_base::NoMemory;

@@ -1,6 +1,6 @@
 //! What cells tell, as bits.
 
-ghost use Rattle.std.specs.Prelude.{◌≡◌, ◌<◌, ◌||◌, length, Some, IfOk, IfSome};
+ghost use Rattle.std.specs.Prelude.{◌<◌, ◌||◌, length, Some, IfOk, IfSome};
 ghost use Rattle.std.specs.List.{AllByRecursion};
 ghost use Rattle.fs_interpreter.specs.Meanings.{Grows, IsBit};
 ghost use Rattle.fs_interpreter.specs.States.{AreCells, cell_at};

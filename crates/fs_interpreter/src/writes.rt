@@ -2,7 +2,7 @@
 
 ghost use Rattle.std.specs.Prelude.{◌≡◌, ◌<◌, length, Some, true, false, IfOk, OnOk, not, ◌&&◌, IfSome};
 ghost use Rattle.std.specs.List.{AllByRecursion};
-ghost use Rattle.fs_interpreter.specs.Meanings.{Grows, IsBit, IsCode};
+ghost use Rattle.fs_interpreter.specs.Meanings.{Grows, IsBit};
 ghost use Rattle.fs_interpreter.specs.States.{AreCells, cell_at};
 ghost use Rattle.fs_interpreter.specs.Steps.{dir_at, none_at, file_at as is_file, file_cell, any_present, free_at, failed, put as put_in, removed_at, copied_at};
 ghost use Rattle.fs_interpreter.specs.Places.{place_in, children_in, number_in};

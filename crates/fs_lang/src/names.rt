@@ -1,7 +1,6 @@
 //! Names as segments.
 
 ghost use Rattle.std.specs.Prelude.{◌≡◌, ◌↔◌, ◌∷◌, ◌++◌, ◌<◌, MatchOption, IsTrue, IfOk, IfErr};
-ghost use Rattle.std.specs.List.{AllByRecursion};
 ghost use Rattle.fs_semantics.specs.FileTree.{IsSegment};
 ghost use Rattle.fs_lang.specs.PathText.{IfBad};
 ghost use Rattle.fs_lang.specs.Reading.{HasNo};

@@ -64,7 +64,7 @@ fn same_node(p: &Path, a: &Entry, q: &Path, b: &Entry) -> bool
 }
 
 /// Whether two trees have the same entries, and so are one.
-pub fn same_tree(a: &Tree, b: &Tree) -> bool
+fn same_tree(a: &Tree, b: &Tree) -> bool
     ensures { IsTrue result ↔ (a.now ≡ b.now) }
 {
     let mut rest = b.entries();
@@ -101,7 +101,7 @@ fn ends_in(tree: &Tree, outcome: &Outcome) -> bool
 }
 
 /// Whether both are Error, or both one tree.
-pub fn same_outcome(a: &Outcome, b: &Outcome) -> bool
+pub(crate) fn same_outcome(a: &Outcome, b: &Outcome) -> bool
     ensures { IsTrue result ↔ (outcome_of a.now ≡ outcome_of b.now) }
 {
     match a {

@@ -1,11 +1,11 @@
 //! Orders of the kept programs, completed to orders of all.
 
-ghost use Rattle.std.specs.Prelude.{◌≡◌, ◌<◌, ◌++◌, ℕ, Bool, List, length, map, slice_index_or, IfOk, OnOk};
+ghost use Rattle.std.specs.Prelude.{◌≡◌, ◌<◌, ◌++◌, ℕ, List, length, map, slice_index_or, IfOk, OnOk};
 ghost use Rattle.std.specs.List.{AllByRecursion};
 ghost use Rattle.fs_semantics.specs.Programs.{Program};
 ghost use Rattle.fs_semantics.specs.Changes.{IsProper};
-ghost use Rattle.fs_semantics.specs.Orders.{IsLinearExtension, IsExchange, Told};
-ghost use Rattle.orders.specs.Relation.{Relation, comes, Comes};
+ghost use Rattle.fs_semantics.specs.Orders.{IsLinearExtension, IsExchange};
+ghost use Rattle.orders.specs.Relation.{Relation, Comes};
 ghost use Rattle.kept_graph.specs.declared.kept.Kept.{Kept as K};
 ghost use Rattle.kept_graph.specs.Kept.{IsKept, completion};
 
@@ -34,7 +34,7 @@ fn push_numbers(list: &mut Seq<u32>, kept: &[u32], places: &[u32]) -> Result<(),
 }
 
 /// What goes first, the kept programs in this order, and what goes last.
-pub fn complete(alloc: Global, pruned: &Pruned, order: &[u32]) -> Result<Seq<u32>, NoMemory>
+pub(crate) fn complete(alloc: Global, pruned: &Pruned, order: &[u32]) -> Result<Seq<u32>, NoMemory>
     requires { AllByRecursion (λ i. i < length pruned.now.kept) order.now }
     ensures { IfOk result (λ whole. whole ≡ completion pruned.now order.now) }
 {
@@ -47,7 +47,7 @@ pub fn complete(alloc: Global, pruned: &Pruned, order: &[u32]) -> Result<Seq<u32
 
 /// An allowed order of the kept programs makes one of all, and orders that differ by one exchange of free neighbours make
 /// orders that do.
-pub fn completions()
+pub(crate) fn completions()
     ensures allowed { (es : List Program) → AllByRecursion IsProper es → (order : Relation) (kept : K) → IsKept es order kept
         → (o : List ℕ) → IsLinearExtension kept.order.count (Comes kept.order) o → IsLinearExtension (length es) (Comes order) (completion kept.pruned o) }
     ensures exchange { (es : List Program) (order : Relation) (kept : K) → IsKept es order kept

@@ -26,7 +26,7 @@ pub struct Completed {
 }
 
 /// Whether two orders end alike from a tree.
-pub fn end_alike(
+fn end_alike(
     alloc: Global,
     programs: &[Program],
     tree: &Tree,

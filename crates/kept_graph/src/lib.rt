@@ -7,7 +7,5 @@ mod counterexamples;
 mod kept;
 mod pairs;
 
-pub use comparing::{same_outcome, same_tree};
-pub use completing::{complete, completions};
-pub use counterexamples::{Completed, end_alike, refute};
+pub use counterexamples::{Completed, refute};
 pub use kept::{Kept, keep, kept_graphs};

@@ -2,7 +2,7 @@
 
 ghost use Rattle.std.specs.Prelude.{◌≡◌, ◌↔◌, ◌<◌, ◌≤◌, ◌++◌, ℕ, length, slice_index_or, IfOk, OnOk};
 ghost use Rattle.std.specs.List.{AllByRecursion};
-ghost use Rattle.orders.specs.Relation.{comes, Comes};
+ghost use Rattle.orders.specs.Relation.{Comes};
 ghost use Rattle.commute_prune.specs.Pruning.{between};
 ghost use Rattle.kept_graph.specs.Pairs.{pair_if, comes_at, row_of, pairs_of};
 

@@ -1,6 +1,6 @@
 //! Reading the files beside a manifest.
 
-ghost use Rattle.std.specs.Prelude.{◌≡◌, IfOk, IfErr};
+ghost use Rattle.std.specs.Prelude.{IfOk, IfErr};
 ghost use Rattle.rh_base.specs.Refused.{IfRefused};
 ghost use Rattle.known_inputs.specs.Inputs.{AreFactsOf, IsListingOf, AreDataOf, IsTreeOf, HasNoFacts, HasNoListing, HasNoData, HasNoTree, IsKnown, FirstUnread};
 

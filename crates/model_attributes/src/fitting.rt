@@ -1,7 +1,7 @@
 //! Which attribute a resource is refused for.
 
 ghost use Rattle.std.specs.Prelude.{◌≡◌, ◌&&◌, [], option_map};
-ghost use Rattle.model_semantics.specs.Attributes.{is_absent, is_link, is_folder, is_address, is_source, are_filled, filling_fits, file_fits, user_fits, kind_fits, is_ignored, value_fits, pair_fits, misfit_behind, wanted, missing, refused_attribute, attributes_fit};
+ghost use Rattle.model_semantics.specs.Attributes.{is_address, is_source, are_filled, filling_fits, file_fits, user_fits, kind_fits, is_ignored, value_fits, pair_fits, misfit_behind, wanted, missing, attributes_fit};
 ghost use Rattle.model_semantics.specs.Names.{Meets, RefusesFor};
 
 use crate::accepted::{accepted, fits, is_one_of};

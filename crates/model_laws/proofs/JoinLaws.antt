@@ -1,5 +1,5 @@
 -- Sequences, step by step.
-use Rattle.std.proofs.Common.{◌≡◌, inl, inr, ℕ, List, [], ◌∷◌, ◌++◌, Some, None, refl, sym, ap, subst, ◌∙◌}
+use Rattle.std.proofs.Common.{◌≡◌, inl, inr, List, [], ◌∷◌, ◌++◌, Some, None, refl, sym, ap, subst, ◌∙◌}
 use Rattle.fs_semantics.specs.FileTree.{Path, Tree}
 use Rattle.fs_semantics.specs.Entries.{IsFileAt}
 use Rattle.fs_semantics.specs.Programs.{Program, Outcome, Id, Creat, If, IsFile, and_then, run, run_all}

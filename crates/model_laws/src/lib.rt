@@ -1,7 +1,7 @@
 //! Laws of the programs of resources, as functions that do nothing.
 #![tactic(auto)]
 
-ghost use Rattle.std.specs.Prelude.{◌≡◌, ◌≢◌, ◌↔◌, ◌++◌, ◌∷◌, [], ℕ, List, Some, Ok};
+ghost use Rattle.std.specs.Prelude.{◌≡◌, ◌≢◌, ◌↔◌, ◌++◌, ℕ, List, Some, Ok};
 ghost use Rattle.std.specs.FinMap as map;
 ghost use Rattle.fs_semantics.specs.FileTree.{Path, File, Tree};
 ghost use Rattle.fs_semantics.specs.Entries.{IsFileAt, IsFolderAt};

@@ -1,6 +1,6 @@
 //! Names and paths of resources, and the marks that stand for names.
 
-ghost use Rattle.std.specs.Prelude.{◌≡◌, ◌++◌, ◌∷◌, [], IfOk, option_map};
+ghost use Rattle.std.specs.Prelude.{◌≡◌, ◌++◌, ◌∷◌, [], IfOk};
 ghost use Rattle.model_semantics.specs.Words.{marked};
 ghost use Rattle.model_semantics.specs.Names.{Meets, text_or, name_of, named, mark_named, mark_of_user, spelled, is_reserved, unless_reserved, mark_needed};
 

@@ -1,6 +1,6 @@
 //! The node at a place of an order, and what stands ahead of the place or from it on.
 
-ghost use Rattle.std.specs.Prelude.{◌≡◌, ◌==◌, ◌<◌, map, length, slice_index_or, if◌then◌else◌, IfOk};
+ghost use Rattle.std.specs.Prelude.{◌≡◌, ◌<◌, map, length, slice_index_or, if◌then◌else◌, IfOk};
 ghost use Rattle.bool_circuit.specs.Gates.{wire_value};
 ghost use Rattle.fs_semantics.specs.Programs.{Outcome, and_then};
 ghost use Rattle.fs_semantics.specs.Orders.{outcome};

@@ -1,6 +1,6 @@
 //! Whether two orders that part at a place end differently.
 
-ghost use Rattle.std.specs.Prelude.{◌≡◌, ◌≢◌, ◌↔◌, ◌+◌, ◌<◌, ◌∷◌, true, false, map, length, take, IfOk};
+ghost use Rattle.std.specs.Prelude.{◌≡◌, ◌≢◌, ◌↔◌, ◌<◌, ◌∷◌, true, false, map, length, IfOk};
 ghost use Rattle.bool_circuit.specs.Gates.{wire_value};
 ghost use Rattle.fs_semantics.specs.FileTree.{Tree};
 ghost use Rattle.fs_semantics.specs.Programs.{Outcome, and_then};

@@ -1,6 +1,6 @@
 //! Whether two programs end apart right behind the place where two orders part.
 
-ghost use Rattle.std.specs.Prelude.{◌≡◌, ◌↔◌, ◌==◌, ◌&&◌, ◌||◌, ◌<◌, ℕ, true, map, length, IfOk};
+ghost use Rattle.std.specs.Prelude.{◌≡◌, ◌↔◌, ◌==◌, ◌&&◌, ◌<◌, ℕ, true, map, length, IfOk};
 ghost use Rattle.bool_circuit.specs.Gates.{wire_value};
 ghost use Rattle.fs_semantics.specs.Programs.{Outcome};
 ghost use Rattle.fs_semantics.specs.Orders.{IsFree};

@@ -1,7 +1,6 @@
 //! A domain once more.
 
 ghost use Rattle.std.specs.Prelude.{◌≡◌, [], IfOk, OnOk};
-ghost use Rattle.fs_interpreter.specs.Places.{with_path, with_content};
 
 use fs_interpreter::{Table, searches};
 use path_domain::Domain;

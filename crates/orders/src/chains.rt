@@ -1,5 +1,5 @@
 //! The edges of each node as a chain through the list of all edges.
-ghost use Rattle.std.specs.Prelude.{◌≡◌, IfOk};
+ghost use Rattle.std.specs.Prelude.{IfOk};
 ghost use Rattle.orders.specs.Paths.{EndsBelow};
 ghost use Rattle.orders.specs.Search.{AreLinks};
 

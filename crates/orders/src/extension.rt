@@ -1,5 +1,5 @@
 //! Linear extensions of an order.
-ghost use Rattle.std.specs.Prelude.{◌≡◌, ◌==◌, ℕ, ◌+◌, ◌^◌, ◌<◌, ◌≤◌, ◌&&◌, ◌↔◌, [], false, true, not, length, slice_index, slice_index_or, if◌then◌else◌, IfOk, IsTrue, MatchOption};
+ghost use Rattle.std.specs.Prelude.{◌≡◌, ◌==◌, ℕ, ◌+◌, ◌<◌, ◌≤◌, ◌&&◌, ◌↔◌, [], false, true, length, slice_index, if◌then◌else◌, IfOk, IsTrue, MatchOption};
 ghost use Rattle.std.specs.List.{AllByRecursion};
 ghost use Rattle.fs_semantics.specs.Orders.{IsLinearExtension, NoneAhead};
 ghost use Rattle.orders.specs.Relation.{comes, Comes};

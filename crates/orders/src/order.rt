@@ -1,6 +1,6 @@
 //! Strict orders, and what is asked of them.
 
-ghost use Rattle.std.specs.Prelude.{◌≡◌, ℕ, ◌+◌, ◌-◌, ◌<◌, ◌↔◌, List, IfOk, IfErr, OnOk, IsTrue};
+ghost use Rattle.std.specs.Prelude.{◌≡◌, ℕ, ◌+◌, ◌-◌, ◌<◌, ◌↔◌, IfOk, IfErr, OnOk, IsTrue};
 ghost use Rattle.orders.specs.Paths.{EndsBelow, Path, IsCycle};
 ghost use Rattle.orders.specs.Relation.{comes, Comes, IsStrictOrder, old_number};
 ghost use Rattle.fs_semantics.specs.Orders.{IsFree};

@@ -1,5 +1,5 @@
 //! Where nodes stand in an order, and neighbours that stand the other way round in another one.
-ghost use Rattle.std.specs.Prelude.{◌≡◌, ℕ, ◌+◌, ◌^◌, ◌<◌, ◌≤◌, length, slice_index, IfOk, MatchOption};
+ghost use Rattle.std.specs.Prelude.{◌≡◌, ℕ, ◌+◌, ◌<◌, ◌≤◌, length, slice_index, IfOk, MatchOption};
 ghost use Rattle.orders.specs.Counting.{EachOnce};
 ghost use Rattle.orders.specs.Exchanges.{place};
 

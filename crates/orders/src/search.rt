@@ -1,9 +1,9 @@
 //! What is reached from each node, by a search depth first with a stack of its own.
-ghost use Rattle.std.specs.Prelude.{◌≡◌, ◌==◌, ℕ, ◌-◌, ◌*◌, ◌<◌, ◌&&◌, ◌||◌, ◌∷◌, [], true, false, List, length, slice_index, slice_index_or, slice_set, take, IfOk, IfErr};
-ghost use Rattle.orders.specs.Paths.{EndsBelow, HasEdge, IsCycle};
+ghost use Rattle.std.specs.Prelude.{◌≡◌, ◌==◌, ℕ, ◌-◌, ◌*◌, ◌<◌, ◌&&◌, ◌||◌, [], true, false, List, length, slice_index, slice_index_or, slice_set, IfOk, IfErr};
+ghost use Rattle.orders.specs.Paths.{EndsBelow, IsCycle};
 ghost use Rattle.orders.specs.Table.{width_of, cell};
 ghost use Rattle.orders.specs.Faults.{IfCycle};
-ghost use Rattle.orders.specs.Search.{AreLinks, IsFresh, IsSearch, State, state_of, work, entering, finishing, source, target};
+ghost use Rattle.orders.specs.Search.{AreLinks, IsFresh, IsSearch, state_of, work, entering, finishing};
 
 use crate::bits;
 use crate::cycle::cycle_of;

@@ -2,7 +2,7 @@
 
 ghost use Rattle.std.specs.Prelude.{◌≡◌, ◌||◌, ◌++◌, ◌∷◌, [], IfOk, OnOk};
 ghost use Rattle.std.specs.List.{list_any};
-ghost use Rattle.fs_semantics.specs.FileTree.{Path as Segments, IsSegment, path_eq, is_among};
+ghost use Rattle.fs_semantics.specs.FileTree.{Path as Segments, IsSegment, path_eq};
 ghost use Rattle.path_domain.specs.Gathered.{members};
 
 use crate::sets::{add, put};

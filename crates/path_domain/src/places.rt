@@ -6,7 +6,7 @@ ghost use Rattle.fs_semantics.specs.FileTree.{path_cmp};
 ghost use Rattle.path_domain.specs.Gathered.{members};
 ghost use Rattle.path_domain.specs.Laid.{HaveParents, places_from};
 
-use fs_interpreter::{Table, searches};
+use fs_interpreter::Table;
 use fs_lang::Path;
 use rh_base::{NoMemory, Seq};
 use std::alloc::Global;

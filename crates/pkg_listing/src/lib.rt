@@ -8,7 +8,7 @@ mod reading;
 mod writing;
 
 pub use laws::{listing_texts, package_paths};
-pub use listing::{DIGEST_BYTES, Listed, Listing, Package};
+pub use listing::{Listed, Listing, Package};
 pub use paths::PathSet;
 pub use reading::{Version, listing_from_json};
 pub use writing::listing_to_json;

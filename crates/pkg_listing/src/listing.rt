@@ -11,7 +11,7 @@ use std::alloc::Global;
 use std::marker::Model;
 
 /// How many bytes a digest may have.
-pub const DIGEST_BYTES: usize = 255;
+pub(crate) const DIGEST_BYTES: usize = 255;
 
 /// A file of a package. Files with one digest have one content.
 #[derive(Drop)]

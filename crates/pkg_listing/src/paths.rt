@@ -1,8 +1,8 @@
 //! Paths of which none stands twice.
 
-ghost use Rattle.std.specs.Prelude.{◌≡◌, ◌&&◌, [], map, not, IfOk, OnOk, OnErr};
-ghost use Rattle.fs_semantics.specs.FileTree.{Path as P, is_among};
-ghost use Rattle.pkg_listing.specs.Packages.{with_path, are_new, stand_once};
+ghost use Rattle.std.specs.Prelude.{◌≡◌, [], map, not, IfOk, OnOk, OnErr};
+ghost use Rattle.fs_semantics.specs.FileTree.{is_among};
+ghost use Rattle.pkg_listing.specs.Packages.{with_path};
 
 use fs_lang::{Path, path_texts};
 use fs_semantics::paths;

@@ -51,7 +51,7 @@ value_of (Some n) = n
 digit_read : (n c : ℕ) → 48 ≤ c → c ≤ 57 → (digit_value c < 10) × (10 * n + (c - 48) ≡ n * 10 + digit_value c)
 digit_read n c a b = let k = digit_value_digit c (a, b) in (omega (arith, k), omega (arith, k))
 
-digits_spelled : (n : ℕ) (ds : List ℕ) (m : ℕ) → digits_behind n ds ≡ Some m → AllDigits 10 ds × (digits_value_after 10 n ds ≡ m) × (n < 9223372036854775808 → m < 9223372036854775808)
+digits_spelled : (n : ℕ) (ds : List ℕ) (m : ℕ) → digits_behind n ds ≡ Some m → AllDigits 10 ds × (digits_value_after 10 n ds ≡ m) × (n < 2 ^ 63 → m < 2 ^ 63)
 unfolding value_of
 digits_spelled n [] m e = (tt, ap value_of e, λ l. omega (arith, ap value_of e))
 digits_spelled n (c ∷ cs) m e =
@@ -64,7 +64,7 @@ digits_spelled n (c ∷ cs) m e =
     let r = digits_spelled (10 * n + (c - 48)) cs m e3 in
     ((digit, r.0), subst (λ x. digits_value_after 10 x cs ≡ m) step r.1, λ l. r.2 (ltb-true _ _ small))
 
-fits_none : 0 < 9223372036854775808
+fits_none : 0 < 2 ^ 63
 fits_none = omega arith
 
 some_bytes : (b : ℕ) (w : Word) → 0 < length (b ∷ w)
@@ -82,7 +82,7 @@ number_spelled (b ∷ d ∷ w) m e =
     let fits = s.2 fits_none in
     sym (decimal-digits_value (numerals_by_value _ tells_digits) (b ∷ d ∷ w) s.0 (some_bytes b (d ∷ w)) (λ z. absurd (true≢false (sym (eq-eqb b 48 z) ∙ other))) (omega (arith, s.1))) ∙ ap decimal s.1
 
-pub number_fits : (w : Word) (m : ℕ) → number_in w ≡ Some m → m < 9223372036854775808
+pub number_fits : (w : Word) (m : ℕ) → number_in w ≡ Some m → m < 2 ^ 63
 number_fits [] m e = absurd (none-some m e)
 number_fits (b ∷ []) m e = (digits_spelled 0 (b ∷ []) m e).2 (omega arith)
 number_fits (b ∷ d ∷ w) m e = (digits_spelled 0 (b ∷ d ∷ w) m (if_none _ _ m e).1).2 (omega arith)
@@ -97,13 +97,13 @@ value_grows n (c ∷ cs) = omega (arith, value_grows (n * 10 + digit_value c) cs
 pub digit_range : (c : ℕ) → digit_value c < 10 → (48 ≤ c) × (c ≤ 57)
 digit_range c h = digit_at (c ∷ []) 0 (h, tt) (omega arith)
 
-digits_read : (n : ℕ) (ds : List ℕ) → AllDigits 10 ds → digits_value_after 10 n ds < 9223372036854775808 → digits_behind n ds ≡ Some (digits_value_after 10 n ds)
+digits_read : (n : ℕ) (ds : List ℕ) → AllDigits 10 ds → digits_value_after 10 n ds < 2 ^ 63 → digits_behind n ds ≡ Some (digits_value_after 10 n ds)
 digits_read n [] a h = refl
 digits_read n (c ∷ cs) a h =
     let r = digit_range c a.0 in
     let d = digit_read n c r.0 r.1 in
-    let small : 10 * n + (c - 48) < 9223372036854775808 = omega (arith, d.1, value_grows (n * 10 + digit_value c) cs) in
-    ap (λ b. if b then (if nat_lt (10 * n + (c - 48)) 9223372036854775808 then digits_behind (10 * n + (c - 48)) cs else None) else None) (both (le-leb _ _ r.0) (le-leb _ _ r.1))
+    let small : 10 * n + (c - 48) < 2 ^ 63 = omega (arith, d.1, value_grows (n * 10 + digit_value c) cs) in
+    ap (λ b. if b then (if nat_lt (10 * n + (c - 48)) (2 ^ 63) then digits_behind (10 * n + (c - 48)) cs else None) else None) (both (le-leb _ _ r.0) (le-leb _ _ r.1))
     ∙ ap (λ b. if b then digits_behind (10 * n + (c - 48)) cs else None) (lt-ltb _ _ small)
     ∙ ap (λ m. digits_behind m cs) d.1
     ∙ digits_read (n * 10 + digit_value c) cs a.1 h
@@ -116,7 +116,7 @@ above_zero : (n : ℕ) → (n == 0) ≡ false → 0 < n
 above_zero zero z = absurd (true≢false z)
 above_zero (suc n) z = omega arith
 
-pub number_read : (n : ℕ) → n < 9223372036854775808 → number_in (decimal n) ≡ Some n
+pub number_read : (n : ℕ) → n < 2 ^ 63 → number_in (decimal n) ≡ Some n
 number_read n h = by_digits (decimal n) refl
   where
     numeral : ((0 < length (decimal n)) × AllDigits 10 (decimal n)) × (digits_value 10 (decimal n) ≡ n)
@@ -237,9 +237,9 @@ within_read vars l h = ap (λ b. if b then Some l else None) (ap (λ b. b && nat
 
 -- the numbers of variables are small enough to be read
 abbrev pub IsSmall : ℕ → Type 0
-IsSmall vars = vars < 9223372036854775808
+IsSmall vars = vars < 2 ^ 63
 
-no_minus : (w : Word) (n : ℕ) → n < 9223372036854775808 → w ≡ decimal n → (vars : ℕ) → signed vars w ≡ (number_in w >>= plain vars)
+no_minus : (w : Word) (n : ℕ) → n < 2 ^ 63 → w ≡ decimal n → (vars : ℕ) → signed vars w ≡ (number_in w >>= plain vars)
 no_minus [] n h e vars = absurd (let d = decimal_is_IsNumeral n (omega arith) in omega (arith, d.0.0, ap length e))
 no_minus (b ∷ w) n h e vars =
     let d = decimal_is_IsNumeral n (omega arith) in
@@ -250,7 +250,7 @@ no_minus (b ∷ w) n h e vars =
 signed_read : (vars : ℕ) (l : Lit) → IsSmall vars → HasVariable vars l → signed vars (lit_word l) ≡ Some (Some l)
 signed_read vars l small h = by_sign l.positive refl
   where
-    fits : l.var < 9223372036854775808
+    fits : l.var < 2 ^ 63
     fits = omega (arith, h.0, h.1)
 
     by_sign : (p : Bool) → l.positive ≡ p → signed vars (lit_word l) ≡ Some (Some l)
@@ -284,13 +284,13 @@ with_found {X} ws (Some y) x h =
     let same : ◌≡◌ {A = X × List Word} (y, ws) x = cc in
     (ap (λ (p : X × List Word). Some p.0) same, ap (λ (p : X × List Word). p.1) same)
 
-count_found : (ws : List Word) (x : ℕ × List Word) → count_in ws ≡ Some x → (ws ≡ decimal x.0 ∷ x.1) × (x.0 < 9223372036854775808)
+count_found : (ws : List Word) (x : ℕ × List Word) → count_in ws ≡ Some x → (ws ≡ decimal x.0 ∷ x.1) × (x.0 < 2 ^ 63)
 count_found [] x h = absurd cc
 count_found (w ∷ ws) x h =
     let f = with_found ws (number_in w) x h in
     (ap (λ v. v ∷ ws) (number_spelled w x.0 f.0) ∙ ap (λ vs. decimal x.0 ∷ vs) f.1, number_fits w x.0 f.0)
 
-count_read : (n : ℕ) (rest : List Word) → n < 9223372036854775808 → count_in (decimal n ∷ rest) ≡ Some (n, rest)
+count_read : (n : ℕ) (rest : List Word) → n < 2 ^ 63 → count_in (decimal n ∷ rest) ≡ Some (n, rest)
 count_read n rest h = ap (with_words rest) (number_read n h)
 
 word_found : (w : Word) (ws : List Word) (x : Unit {0} × List Word) → word_is w ws ≡ Some x → ws ≡ w ∷ x.1
@@ -425,7 +425,7 @@ formula_found ws x h =
       read = ap (λ ys. record { vars = v.0.0; clauses = ys }) m.read;
     })
 
-pub formula_read : (vars : ℕ) (written : List (List Lit)) (rest : List Word) → vars ≤ 2 ^ 31 → length written < 9223372036854775808 → AllByRecursion (HasVariables vars) written
+pub formula_read : (vars : ℕ) (written : List (List Lit)) (rest : List Word) → vars ≤ 2 ^ 31 → length written < 2 ^ 63 → AllByRecursion (HasVariables vars) written
     → formula_in (codes "p" ∷ codes "cnf" ∷ decimal vars ∷ decimal (length written) ∷ (flat_map clause_words written ++ rest)) ≡ Some (record { vars = vars; clauses = map clause_of written }, rest)
 unfolding formula_in
 formula_read vars written rest small short h =
@@ -530,7 +530,7 @@ log_found vars ws x h =
       read = m.read;
     }
 
-pub log_read : (vars : ℕ) (written : List Step) (rest : List Word) → IsSmall vars → length written < 9223372036854775808 → AllByRecursion (IsStepWritten vars) written
+pub log_read : (vars : ℕ) (written : List Step) (rest : List Word) → IsSmall vars → length written < 2 ^ 63 → AllByRecursion (IsStepWritten vars) written
     → log_in vars (codes "log" ∷ decimal (length written) ∷ (flat_map step_words written ++ rest)) ≡ Some (map read_step written, rest)
 unfolding log_in
 log_read vars written rest small short h =

@@ -1,6 +1,6 @@
 //! The clause so far of a chain, as a set of literals. It takes memory by the literals that it has.
 
-ghost use Rattle.std.specs.Prelude.{◌≡◌, ◌≤◌, ◌^◌, true, false, [], cond, IfOk, OnOk, OnErr};
+ghost use Rattle.std.specs.Prelude.{◌≡◌, true, false, [], cond, IfOk, OnOk, OnErr};
 ghost use Rattle.cnf.specs.Literals.{HasVariable, same_lit};
 ghost use Rattle.cnf.specs.Clauses.{has_lit, with_lit, without, IsClause, HasVariables};
 ghost use Rattle.cnf.specs.declared.lit.Lit.{Lit};

@@ -1,11 +1,10 @@
 //! Checking a log step by step.
 
-ghost use Rattle.std.specs.Prelude.{◌≡◌, ◌≢◌, ◌⊎◌, ℕ, ◌+◌, ◌≤◌, ◌<◌, ◌^◌, MatchBool, true, false, [], ◌∷◌, ◌++◌, length, Some, None, IfOk, OnOk, IfErr};
+ghost use Rattle.std.specs.Prelude.{◌≡◌, ◌≢◌, ◌+◌, ◌≤◌, ◌<◌, MatchBool, true, false, [], length, Some, None, IfOk, OnOk, IfErr};
 ghost use Rattle.std.specs.Prelude.{List};
 ghost use Rattle.std.specs.Bool.{OnTrue, OnFalse};
 ghost use Rattle.cnf.specs.declared.lit.Lit.{Lit};
 ghost use Rattle.cnf.specs.Formulas.{clause_at};
-ghost use Rattle.cnf.specs.Literals.{HasVariable};
 ghost use Rattle.cnf.specs.Clauses.{HasVariables, IsClause, has_lit, without};
 ghost use Rattle.cnf.specs.Proofs.{numbered, Leads, IsRight, AreRight, EndsEmpty, IsAccepted};
 ghost use Rattle.proof_check.specs.Refuted.{HasNoModel};

@@ -1,6 +1,6 @@
 //! The texts of proofs, read.
 
-ghost use Rattle.std.specs.Prelude.{◌≡◌, ◌≢◌, ◌≤◌, ◌<◌, ◌+◌, ◌++◌, ◌∷◌, [], ℕ, List, Some, slice_get, true, false, take, drop, length, map, codes, OnOk, IfOk, IfErr, MatchResult};
+ghost use Rattle.std.specs.Prelude.{◌≡◌, ◌≢◌, ◌≤◌, ◌<◌, ◌+◌, ◌^◌, ◌++◌, ◌∷◌, [], ℕ, List, Some, slice_get, true, false, take, drop, length, map, codes, OnOk, IfOk, IfErr, MatchResult};
 ghost use Rattle.std.specs.Bool.{OnTrue, OnFalse};
 ghost use Rattle.std.specs.List.{AllByRecursion, flat_map};
 ghost use Rattle.proof_check.specs.WordsLeft.{other_lines, line_words, words_left, is_inner, EndsWord};
@@ -8,7 +8,7 @@ ghost use Rattle.proof_check.specs.Refuted.{Refutation, refutation};
 ghost use Rattle.proof_check.specs.Reading.{digits_behind, number_in};
 ghost use Rattle.proof_check.specs.WordReading.{Takes, word_is, count_in, within, plain, unsigned_in, negative_in, signed, literal_in, pivot_in, lits_in, links_in, formula_of, formula_in, step_in, steps_in, log_in, block_in, blocks_in, proofs_in};
 ghost use Rattle.rh_base.specs.Reading.{Gives};
-ghost use Rattle.proof_check.specs.ProofWords.{words_of, IsProofText};
+ghost use Rattle.proof_check.specs.ProofWords.{IsProofText};
 ghost use Rattle.rh_base.specs.Refused.{IfRefused, IsRefusal};
 
 use cnf::{Clause, Cnf, Link, Lit, Log, Step};
@@ -291,7 +291,7 @@ fn clauses(
     count: u64,
     lits: &mut Vec<Lit>,
 ) -> Result<Cnf, Misread>
-    requires { vars ≤ 2147483648 }
+    requires { vars ≤ 2 ^ 31 }
     ensures { Takes (λ f. f) result words.new (formula_of vars count words.old) }
 {
     let mut cnf = Cnf::new(alloc, vars)?;

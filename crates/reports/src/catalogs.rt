@@ -1,6 +1,6 @@
 //! The report on a catalog.
 
-ghost use Rattle.std.specs.Prelude.{◌≡◌, ◌<◌, ◌^◌, length, IfOk, IfErr};
+ghost use Rattle.std.specs.Prelude.{◌<◌, ◌^◌, length, IfOk, IfErr};
 ghost use Rattle.rh_base.specs.Refused.{IfRefused};
 ghost use Rattle.reports.specs.Stages.{CatalogRefusal};
 ghost use Rattle.reports.specs.Reports.{IsCatalogReport};

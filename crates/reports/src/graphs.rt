@@ -1,6 +1,6 @@
 //! The report on a graph.
 
-ghost use Rattle.std.specs.Prelude.{◌≡◌, ◌<◌, ◌^◌, length, IfOk, IfErr};
+ghost use Rattle.std.specs.Prelude.{◌<◌, ◌^◌, length, IfOk, IfErr};
 ghost use Rattle.rh_base.specs.Refused.{IfRefused};
 ghost use Rattle.reports.specs.Stages.{GraphRefusal};
 ghost use Rattle.reports.specs.Reports.{IsGraphReport};

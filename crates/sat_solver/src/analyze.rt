@@ -1,8 +1,8 @@
 //! Resolving a clause that is false backwards along the trail.
 
-ghost use Rattle.std.specs.Prelude.{◌≡◌, ◌⊎◌, ℕ, ◌+◌, ◌-◌, ◌*◌, ◌/◌, ◌<◌, ◌≤◌, ◌^◌, ◌==◌, ◌&&◌, ◌||◌, not, true, false, List, [], ◌∷◌, ◌++◌, length, take, IfOk, OnOk, slice_index, slice_index_or, slice_set, Bool};
+ghost use Rattle.std.specs.Prelude.{◌≡◌, ◌⊎◌, ℕ, ◌+◌, ◌-◌, ◌*◌, ◌/◌, ◌<◌, ◌≤◌, ◌^◌, ◌==◌, ◌&&◌, ◌||◌, not, true, false, [], ◌∷◌, ◌++◌, length, take, IfOk, OnOk, slice_index, slice_set, Bool};
 ghost use Rattle.sat_solver.specs.Words.{opposite, has};
-ghost use Rattle.sat_solver.specs.Resolving.{IsApart, is_seen, count, IsMarked, in_clause, Reaches, IsGiven, IsLeft, IsClear, Covers};
+ghost use Rattle.sat_solver.specs.Resolving.{IsApart, is_seen, IsMarked, in_clause, Reaches, IsGiven, IsLeft, IsClear, Covers};
 ghost use Rattle.sat_solver.specs.Watching.{clause, IsFalse, IsOnce, AtRest};
 
 use crate::plan::Plan;

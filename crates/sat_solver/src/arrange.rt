@@ -1,6 +1,6 @@
 //! The order of the literals of a learned clause.
 
-ghost use Rattle.std.specs.Prelude.{◌≡◌, ℕ, ◌-◌, ◌*◌, ◌<◌, ◌≤◌, ◌^◌, true, false, length, take, slice_index};
+ghost use Rattle.std.specs.Prelude.{◌≡◌, ℕ, ◌-◌, ◌*◌, ◌<◌, ◌≤◌, true, false, length, take, slice_index};
 ghost use Rattle.sat_solver.specs.Words.{opposite, has};
 ghost use Rattle.sat_solver.specs.Stored.{exchanged};
 ghost use Rattle.sat_solver.specs.Resolving.{IsApart};

@@ -1,11 +1,10 @@
 //! The clause to learn from a conflict, and the step that derives it.
 
-ghost use Rattle.std.specs.Prelude.{◌≡◌, ℕ, ◌+◌, ◌*◌, ◌<◌, ◌≤◌, ◌^◌, true, false, List, [], length, map, take, IfOk, OnOk, slice_index};
+ghost use Rattle.std.specs.Prelude.{◌≡◌, ℕ, ◌+◌, ◌*◌, ◌<◌, List, [], length, map, IfOk, OnOk};
 ghost use Rattle.cnf.specs.declared.lit.Lit.{Lit};
 ghost use Rattle.cnf.specs.Clauses.{clause_of};
 ghost use Rattle.cnf.specs.Proofs.{IsRight};
 ghost use Rattle.cnf.specs.Store.{lit_of};
-ghost use Rattle.sat_solver.specs.Resolving.{IsClear};
 ghost use Rattle.sat_solver.specs.Watching.{IsStopped, IsSound, IsFalse};
 ghost use Rattle.sat_solver.specs.Working.{IsNew};
 ghost use Rattle.sat_solver.specs.Meaning.{link_of, IsStoreOf, IsDerived, IsLearnable, IsBlank};

@@ -1,9 +1,9 @@
 //! The search: propagate, then learn or decide, until something is found.
 
-ghost use Rattle.std.specs.Prelude.{◌≡◌, ◌⊎◌, ℕ, ◌+◌, ◌-◌, ◌*◌, ◌<◌, ◌≤◌, ◌^◌, true, false, [], length, IfOk, OnOk, None, Some, slice_index_or};
+ghost use Rattle.std.specs.Prelude.{◌≡◌, ℕ, ◌+◌, ◌-◌, ◌*◌, ◌<◌, ◌≤◌, ◌^◌, true, false, [], length, IfOk, OnOk, None, Some, slice_index_or};
 ghost use Rattle.cnf.specs.Proofs.{IsAccepted};
 ghost use Rattle.sat_solver.specs.Words.{opposite, has};
-ghost use Rattle.sat_solver.specs.Watching.{IsReady, IsStopped, AtRest};
+ghost use Rattle.sat_solver.specs.Watching.{IsReady, IsStopped};
 ghost use Rattle.sat_solver.specs.Meaning.{IsBlank};
 ghost use Rattle.sat_solver.specs.Solving.{IsLogged, IsBroken};
 ghost use Rattle.sat_solver.specs.Turning.{IsState, IsFull, Turns, Finds};

@@ -1,6 +1,6 @@
 //! Taking a formula in.
 
-ghost use Rattle.std.specs.Prelude.{◌≡◌, ℕ, ◌+◌, ◌*◌, ◌<◌, ◌≤◌, ◌^◌, true, false, [], ◌∷◌, ◌++◌, length, map, IfOk, OnOk, None, Some, slice_index};
+ghost use Rattle.std.specs.Prelude.{◌≡◌, ℕ, ◌+◌, ◌*◌, ◌<◌, ◌≤◌, ◌^◌, true, false, [], ◌∷◌, ◌++◌, length, map, IfOk, OnOk, None, Some};
 ghost use Rattle.cnf.specs.Literals.{HasVariable};
 ghost use Rattle.cnf.specs.Formulas.{clause_at};
 ghost use Rattle.cnf.specs.Store.{word_of};

@@ -1,7 +1,7 @@
 //! Making the clause to learn smaller: a literal goes where its reason has nothing but literals that stand in the clause too.
 
-ghost use Rattle.std.specs.Prelude.{◌≡◌, ◌⊎◌, ℕ, ◌+◌, ◌*◌, ◌/◌, ◌<◌, ◌≤◌, ◌^◌, true, false, List, [], ◌∷◌, ◌++◌, length, take, IfOk, OnOk, slice_index, slice_set, Bool};
-ghost use Rattle.sat_solver.specs.Words.{opposite, has};
+ghost use Rattle.std.specs.Prelude.{◌≡◌, ℕ, ◌<◌, ◌^◌, length, take, IfOk, OnOk, Bool};
+ghost use Rattle.sat_solver.specs.Words.{has};
 ghost use Rattle.sat_solver.specs.Resolving.{IsApart, in_clause, Reaches, IsGiven, IsLeft, IsClear, Covers};
 ghost use Rattle.sat_solver.specs.Watching.{clause, IsFalse, AtRest};
 

@@ -1,11 +1,10 @@
 //! Unit propagation over two watched literals.
 
-ghost use Rattle.std.specs.Prelude.{◌≡◌, ◌≢◌, ◌⊎◌, ℕ, ◌+◌, ◌*◌, ◌<◌, ◌≤◌, ◌^◌, true, false, List, [], ◌∷◌, ◌++◌, length, take, drop, None, Some, IfOk, OnOk, slice_index, slice_index_or, slice_set, slice_get};
+ghost use Rattle.std.specs.Prelude.{◌≡◌, ℕ, ◌+◌, ◌*◌, ◌<◌, ◌≤◌, ◌^◌, true, false, List, [], ◌∷◌, ◌++◌, length, take, drop, None, Some, IfOk, OnOk, slice_index, slice_index_or, slice_set};
 ghost use Rattle.sat_solver.specs.Words.{opposite, has};
 ghost use Rattle.sat_solver.specs.Stored.{exchanged};
-ghost use Rattle.sat_solver.specs.Trails.{Way};
 ghost use Rattle.sat_solver.specs.declared.watches.Watcher.{Watcher};
-ghost use Rattle.sat_solver.specs.Watching.{clause, with_word, IsEntry, IsSound, IsReady, IsStopped, Scanning, AtRest, Extends, Continues};
+ghost use Rattle.sat_solver.specs.Watching.{clause, IsEntry, IsSound, IsReady, Scanning, AtRest, Extends, Continues};
 ghost use Rattle.sat_solver.specs.Visits.{Forces, IsAfter, Ends};
 
 use crate::store::Store;

@@ -1,6 +1,6 @@
 //! The literals that hold, with their levels and reasons.
 
-ghost use Rattle.std.specs.Prelude.{◌≡◌, ℕ, ◌+◌, ◌*◌, ◌/◌, ◌<◌, ◌≤◌, ◌^◌, true, false, [], ◌∷◌, ◌++◌, length, take, drop, not, ◌&&◌, IfOk, OnOk, OnErr, None, Some, slice_index, slice_index_or};
+ghost use Rattle.std.specs.Prelude.{◌≡◌, ℕ, ◌+◌, ◌*◌, ◌/◌, ◌<◌, ◌≤◌, ◌^◌, true, false, [], ◌∷◌, ◌++◌, length, drop, not, ◌&&◌, IfOk, OnOk, OnErr, None, Some, slice_index, slice_index_or};
 ghost use Rattle.sat_solver.specs.Words.{opposite, has};
 ghost use Rattle.sat_solver.specs.Resolving.{IsApart};
 ghost use Rattle.sat_solver.specs.Watching.{back_to};

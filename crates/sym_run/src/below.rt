@@ -1,6 +1,6 @@
 //! Codes that are less than a number.
 
-ghost use Rattle.std.specs.Prelude.{◌≡◌, ◌+◌, ◌<◌, ℕ, false, length, nat_lt, IfOk};
+ghost use Rattle.std.specs.Prelude.{◌≡◌, ◌<◌, false, length, nat_lt, IfOk};
 ghost use Rattle.bool_circuit.specs.Gates.{Grows, input_count, wire_value};
 ghost use Rattle.fs_interpreter.specs.Meanings.{Valuation};
 ghost use Rattle.sym_run.specs.Wires.{number, AreWires};

@@ -1,7 +1,6 @@
 //! Binary numbers of wires, the highest bit first.
 
 ghost use Rattle.std.specs.Prelude.{◌≡◌, ◌+◌, ◌*◌, ◌<◌, ◌==◌, ◌-◌, ◌++◌, ◌∷◌, [], ℕ, Bool, false, not, length, if◌then◌else◌, IfOk};
-ghost use Rattle.std.specs.List.{AllByRecursion};
 ghost use Rattle.bool_circuit.specs.Gates.{Grows, wire_value};
 ghost use Rattle.sym_run.specs.Wires.{number, bit_number, AreWires};
 

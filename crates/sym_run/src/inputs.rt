@@ -25,7 +25,7 @@ pub fn width_for(m: u64) -> u64
 }
 
 /// So many new inputs.
-pub fn new_inputs(alloc: Global, sym: &mut Sym, n: u64) -> Result<Seq<Wire>, NoMemory>
+pub(crate) fn new_inputs(alloc: Global, sym: &mut Sym, n: u64) -> Result<Seq<Wire>, NoMemory>
     ensures long { IfOk result (λ ws. length ws ≡ n) }
     ensures inputs { IfOk result (λ ws. AreInputs sym.new (input_count sym.old) ws) }
     ensures count { OnOk result (input_count sym.new ≡ input_count sym.old + n) }

@@ -18,7 +18,7 @@ mod values;
 pub use below::is_below;
 pub use choice::choose;
 pub use comparison::alike;
-pub use inputs::{new_code, new_codes, new_inputs, width_for};
+pub use inputs::{new_code, new_codes, width_for};
 pub use sym::{Sym, sym_apply};
 pub use trees::any_tree;
 pub use values::number_of;

@@ -1,6 +1,6 @@
 //! The wires of a circuit, as bits.
 
-ghost use Rattle.std.specs.Prelude.{◌≡◌, ◌+◌, ◌<◌, ℕ, length, IfOk, OnOk};
+ghost use Rattle.std.specs.Prelude.{◌≡◌, ◌+◌, ◌<◌, length, IfOk, OnOk};
 ghost use Rattle.bool_circuit.specs.Gates.{Grows, input_count, wire_value};
 ghost use Rattle.fs_semantics.specs.Programs.{Outcome, and_then, run};
 ghost use Rattle.fs_lang.specs.Meaning.{program_of};

@@ -1,6 +1,6 @@
 //! Cells that stand for any tree over a domain.
 
-ghost use Rattle.std.specs.Prelude.{◌≡◌, ◌≢◌, ◌↔◌, ◌<◌, true, ℕ, List, length, slice_get, Some, IfOk};
+ghost use Rattle.std.specs.Prelude.{◌≡◌, ◌↔◌, ◌<◌, true, ℕ, List, length, slice_get, Some, IfOk};
 ghost use Rattle.std.specs.List.{AllByRecursion};
 ghost use Rattle.bool_circuit.specs.Gates.{input_count, wire_value};
 ghost use Rattle.fs_semantics.specs.FileTree.{Tree, Path as Segments, IsSegment, IsBytes};

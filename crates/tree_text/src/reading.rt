@@ -1,10 +1,9 @@
 //! Reading the text of a tree.
 
-ghost use Rattle.std.specs.Prelude.{◌≡◌, ◌↔◌, ℕ, List, IsTrue, IfOk, IfErr, OnOk, option_map, option_and_then, codes};
+ghost use Rattle.std.specs.Prelude.{◌≡◌, ◌↔◌, IsTrue, IfOk, IfErr, OnOk, option_map, option_and_then, codes};
 ghost use Rattle.serde_json.specs.Find.{as_object};
 ghost use Rattle.rh_base.specs.Reading.{Gives};
 ghost use Rattle.rh_base.specs.Refused.{IfRefused, IsRefusal};
-ghost use Rattle.serde_json.specs.Data.{object};
 ghost use Rattle.serde_json.specs.View.{view, members_view};
 ghost use Rattle.fs_semantics.specs.FileTree.{Path as P, Entry as E, Tree as T, IsTree, parent};
 ghost use Rattle.fs_lang.specs.PathText.{IsPathText};

@@ -1,6 +1,6 @@
 //! The limits of what is asked about.
 
-ghost use Rattle.std.specs.Prelude.{◌≤◌, map, IfOk, IfErr};
+ghost use Rattle.std.specs.Prelude.{map, IfOk, IfErr};
 ghost use Rattle.rh_base.specs.Refused.{IfRefused};
 ghost use Rattle.fs_lang.specs.Meaning.{program_of};
 ghost use Rattle.verdict.specs.Limits.{HasPaths, HasFewPaths, IsLight, IsTooLarge};
