@@ -1,5 +1,5 @@
 -- Rows of classes.
-use Rattle.std.proofs.Common.{◌≡◌, ◌≢◌, ◌⊎◌, inl, inr, ℕ, zero, suc, ◌<◌, true, false, ◌==◌, cond, List, [], ◌∷◌, ◌++◌, length, get_or, refl, ap, sym, ◌∙◌, subst}
+use Rattle.std.proofs.Common.{◌≡◌, ◌≢◌, ◌⊎◌, inl, inr, ℕ, ◌<◌, true, false, ◌==◌, cond, List, [], ◌∷◌, ◌++◌, length, get_or, refl, ap, sym, ◌∙◌, subst}
 use Rattle.std.proofs.lemmas.Bool.Decides.{eqb_tells}
 use Rattle.std.proofs.lemmas.List.{get_or-set_same, get_or-set_other}
 use Rattle.std.specs.Prelude.{slice_set}
@@ -9,13 +9,6 @@ use Rattle.catalog.specs.Members.{with_class, with_held, held_after, classes_in,
 pub held_last : (outer : ℕ) (classes : List ℕ) (holdings : List Holding) (h : Holding) → held_after outer classes (holdings ++ h ∷ []) ≡ with_held outer (held_after outer classes holdings) h
 held_last outer classes [] h = refl
 held_last outer classes (g ∷ holdings) h = held_last outer (with_held outer classes g) holdings h
-
--- an empty row more has no classes
-pub empty_last : (rows : List (List ℕ)) (i : ℕ) → get_or (rows ++ [] ∷ []) i [] ≡ get_or rows i []
-empty_last [] zero = refl
-empty_last [] (suc i) = refl
-empty_last (r ∷ rows) zero = refl
-empty_last (r ∷ rows) (suc i) = empty_last rows i
 
 pub held_rows : (rows : List (List ℕ)) (holdings : List Holding) (h : Holding) → AreRows rows holdings → h.outer < length rows
     → AreRows (slice_set rows h.outer (with_class h.class (get_or rows h.outer []))) (holdings ++ h ∷ [])

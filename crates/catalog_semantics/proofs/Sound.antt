@@ -42,10 +42,6 @@ each_more : {A : Type 0} (P : A → Type 0) (xs : List A) (y : A) → AllByRecur
 each_more P [] y h k = (k, tt)
 each_more P (x ∷ xs) y h k = (h.0, each_more P xs y h.1 k)
 
-each_both : {A : Type 0} (P : A → Type 0) (xs ys : List A) → AllByRecursion P xs → AllByRecursion P ys → AllByRecursion P (xs ++ ys)
-each_both P [] ys h k = k
-each_both P (x ∷ xs) ys h k = (h.0, each_both P xs ys h.1 k)
-
 if_clean : (b : Bool) (xs ys : List Pair) → AreClean xs → AreClean ys → AreClean (cond b xs ys)
 if_clean true xs ys h k = h
 if_clean false xs ys h k = k

@@ -1,27 +1,16 @@
 -- Which of two values counts, and where a reference stands.
-use Rattle.std.proofs.Common.{◌≡◌, ℕ, zero, suc, ◌<◌, Bool, true, false, cond, not, ◌&&◌, ◌||◌, List, [], ◌∷◌, ◌++◌}
-use Rattle.std.proofs.Common.{Option, Some, None, Ok, refl, sym, ap, subst, append_assoc, slice_get, take, ⊎_elim, arith, filter}
+use Rattle.std.proofs.Common.{◌≡◌, ℕ, zero, suc, ◌<◌, Bool, true, false, cond, ◌&&◌, ◌||◌, List, [], ◌∷◌, ◌++◌}
+use Rattle.std.proofs.Common.{Option, Some, refl, sym, subst, append_assoc, slice_get, take, ⊎_elim, arith, filter}
 use Rattle.std.proofs.lemmas.Bool.{cases_lt}
 use Rattle.std.proofs.lemmas.List.{append-nil}
 use Rattle.std.proofs.lemmas.Slice.Eq.{bytes_eq-Decides}
-use Rattle.std.specs.Option.{option_or}
 use Rattle.std.specs.Str.{bytes_eq}
 use Rattle.pp_value.specs.declared.value.Ref.{Ref}
 use Rattle.pp_value.specs.declared.value.Value.{Value}
 use Rattle.pp_value.specs.Values.{Pair, value_at, same_ref}
-use Rattle.pp_eval.specs.Verdicts.{limited}
 use Rattle.catalog_semantics.specs.declared.catalog.Resource.{Resource}
-use Rattle.catalog_semantics.specs.Sites.{Parameter, Node, Site, node_of, node_block}
-use Rattle.catalog_semantics.specs.States.{State, Default, stands_in, defaults_of, lacks, is_class, filled}
-use Rattle.catalog_semantics.specs.Declaring.{given_or_else, looked_up}
+use Rattle.catalog_semantics.specs.States.{Default, stands_in, defaults_of, lacks, is_class, filled}
 use Rattle.catalog_semantics.specs.Frames.{AreNewBehind, StandOnce}
-use Rattle.catalog_semantics.specs.Catalogs.{is_called_for, made_real}
-
-pub given_wins : (r : Resource) (p : Parameter) (x : Value) (s : State) → given_or_else r p (Some x) s ≡ Ok x
-given_wins r p x s = refl
-
-pub data_wins : (r : Resource) (p : Parameter) (x : Value) (s : State) → p.from_data ≡ Some x → given_or_else r p None s ≡ limited r.at x
-data_wins r p x s h = ap (λ (o : Option Value). looked_up r p o s) h
 
 if_first : (b : Bool) (a c d : Option Value) (x : Value) → (c ≡ Some x → d ≡ Some x) → cond b a c ≡ Some x → cond b a d ≡ Some x
 if_first true a c d x h e = e
@@ -45,24 +34,6 @@ attribute_wins defaults r name x h = either (is_class r)
         })).attrs ≡ Some x
     either true = h
     either false = stays_first name x r.attrs _ h
-
-pub node_wins : (site : Site) (n : Node) → node_of (Some site.node_name) site.nodes ≡ Some n → node_block site ≡ Some n
-node_wins site n h = ap (λ (o : Option Node). option_or o (node_of None site.nodes)) h
-
-pub real_is : (s : State) (r : Resource) → (made_real s r).is_virtual ≡ (r.is_virtual && not (is_called_for s r))
-real_is s r = either (is_called_for s r)
-  where
-    and_true : (a : Bool) → a ≡ (a && true)
-    and_true true = refl
-    and_true false = refl
-
-    and_false : (a : Bool) → false ≡ (a && false)
-    and_false true = refl
-    and_false false = refl
-
-    either : (b : Bool) → (cond b (record r { is_virtual = false }) r).is_virtual ≡ (r.is_virtual && not b)
-    either true = and_false r.is_virtual
-    either false = and_true r.is_virtual
 
 -- ---- places
 

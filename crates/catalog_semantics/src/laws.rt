@@ -1,11 +1,11 @@
 //! Laws of catalogs, as functions that do nothing.
 
-ghost use Rattle.std.specs.Prelude.{◌≡◌, ◌↔◌, ◌≤◌, suc, ℕ, Bool, true, false, ◌&&◌, ◌||◌, Result};
+ghost use Rattle.std.specs.Prelude.{◌≡◌, ◌↔◌, ◌≤◌, suc, ℕ, true, false, ◌&&◌, Result};
 ghost use Rattle.rh_base.specs.declared.fault.Refusal.{Refusal};
 ghost use Rattle.pp_syntax.specs.Tokens.{Lexeme};
 ghost use Rattle.pp_syntax.specs.Spelling.{Spells};
 ghost use Rattle.pp_syntax.specs.Statements.{IsManifest};
-ghost use Rattle.std.specs.Prelude.{not, List, map, slice_get, Option, Some, None, Ok, length};
+ghost use Rattle.std.specs.Prelude.{not, List, map, slice_get, Some, None, Ok};
 ghost use Rattle.pp_syntax.specs.declared.tree.Item.{Item};
 ghost use Rattle.pp_syntax.specs.declared.tree.Manifest.{Manifest};
 ghost use Rattle.std.specs.List.{flat_map};

@@ -5,4 +5,3 @@ mod printing;
 mod values;
 
 pub use printing::catalog_text;
-pub use values::json_text;

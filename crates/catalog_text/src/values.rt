@@ -85,7 +85,7 @@ fn object_of(alloc: Global, pairs: &Pairs) -> Result<Json, NoMemory>
 
 /// A value as compact JSON.
 #[tactic(auto, using(crate::proofs::JsonLaws::no_float))]
-pub fn json_text(alloc: Global, value: &Value) -> Result<Text, NoMemory>
+pub(crate) fn json_text(alloc: Global, value: &Value) -> Result<Text, NoMemory>
     ensures { IfOk result (λ text. text ≡ json value.now) }
 {
     let json = data_of(alloc, value)?;

@@ -95,7 +95,7 @@ fn catalog_after(
 }
 
 /// The catalog of a manifest whose definitions are gathered.
-pub fn catalog_from(
+fn catalog_from(
     alloc: Global,
     site: &Site<'_>,
     manifest: &Manifest,
@@ -107,7 +107,7 @@ pub fn catalog_from(
 }
 
 /// The catalog of a manifest for a node, under facts and class data.
-pub fn catalog_of(
+fn catalog_of(
     alloc: Global,
     manifest: &Manifest,
     facts: &Value,

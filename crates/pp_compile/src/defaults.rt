@@ -1,6 +1,5 @@
 //! Defaults, as statements at the top give them.
 
-ghost use Rattle.std.specs.Prelude.{◌≡◌};
 ghost use Rattle.pp_eval.specs.Verdicts.{AnswersBy};
 ghost use Rattle.catalog_semantics.specs.Catalogs.{default_given};
 

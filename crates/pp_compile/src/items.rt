@@ -1,6 +1,6 @@
 //! The main code: what stands at the top, and the node's block.
 
-ghost use Rattle.std.specs.Prelude.{◌≡◌, map};
+ghost use Rattle.std.specs.Prelude.{map};
 ghost use Rattle.pp_eval.specs.Verdicts.{AnswersBy};
 ghost use Rattle.catalog_semantics.specs.Sites.{node_block};
 ghost use Rattle.catalog_semantics.specs.States.{in_turn};

@@ -8,6 +8,6 @@ mod looking;
 mod running;
 mod source;
 
-pub use compiling::{catalog_from, catalog_of, compile, compile_with};
+pub use compiling::{compile, compile_with};
 pub use items::main_code;
 pub use running::{evaluate, rounds};

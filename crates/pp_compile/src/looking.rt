@@ -1,6 +1,6 @@
 //! What is made real in a round. No pair of a resource with a collector or a realization is looked at twice.
 
-ghost use Rattle.std.specs.Prelude.{◌≡◌, ◌<◌, ◌≤◌, length, drop, slice_get, Some, ℕ};
+ghost use Rattle.std.specs.Prelude.{◌≡◌, ◌<◌, ◌≤◌, length, drop, slice_get, Some};
 ghost use Rattle.std.specs.List.{list_any};
 ghost use Rattle.pp_value.specs.Values.{same_ref};
 ghost use Rattle.catalog_semantics.specs.declared.catalog.Resource.{Resource as R};

@@ -1,6 +1,6 @@
 //! Rounds: what is called for is made real, and the defined resources run.
 
-ghost use Rattle.std.specs.Prelude.{◌≡◌, ◌<◌, ℕ, Some, None, length, slice_get, MatchOption, OnOk};
+ghost use Rattle.std.specs.Prelude.{◌≡◌, ◌<◌, Some, None, length, slice_get, MatchOption, OnOk};
 ghost use Rattle.pp_eval.specs.Verdicts.{AnswersBy};
 ghost use Rattle.pp_eval.specs.Scoping.{defined_scope};
 ghost use Rattle.catalog_semantics.specs.declared.catalog.Resource.{Resource as R};

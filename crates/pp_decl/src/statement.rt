@@ -1,11 +1,10 @@
 //! Statements, and the bodies of classes that they run.
 
 ghost use Rattle.std.specs.Prelude.{◌≡◌, ◌++◌, map, OnOk};
-ghost use Rattle.std.specs.Str.{bytes_eq};
 ghost use Rattle.pp_eval.specs.Verdicts.{AnswersBy};
 ghost use Rattle.pp_eval.specs.References.{plain_name};
 ghost use Rattle.catalog_semantics.specs.States.{in_turn};
-ghost use Rattle.catalog_semantics.specs.Declaring.{class_ref, class_resource, class_runs, class_declared, class_included, body_declared, classes_declared};
+ghost use Rattle.catalog_semantics.specs.Declaring.{class_ref, class_resource, class_runs, class_declared, body_declared, classes_declared};
 ghost use Rattle.catalog_semantics.specs.Functions.{placed, each_class, included_then};
 ghost use Rattle.catalog_semantics.specs.Effects.{effect_at, effect_of, bodies_at, side_of, sides_of, chained, called, declared_by};
 ghost use Rattle.pp_decl_bodies.specs.Bodies.{declared_behind};

@@ -1,6 +1,6 @@
 //! Collectors as they are declared.
 
-ghost use Rattle.std.specs.Prelude.{◌≡◌, map};
+ghost use Rattle.std.specs.Prelude.{map};
 ghost use Rattle.pp_eval.specs.Verdicts.{AnswersBy};
 ghost use Rattle.catalog_semantics.specs.Collecting.{comparable, all_of, wish_in, maybe_wish, collector_of};
 
@@ -28,7 +28,7 @@ fn comparable(alloc: Global, e: &Expr, scopes: &Scopes) -> Result<Value, Fault>
 /// A search, with the values that it compares.
 #[cycle(wish)]
 #[tactic(auto, using(crate::proofs::SearchLaws::wish_or, crate::proofs::SearchLaws::wish_and, crate::proofs::SearchLaws::wish_equal, crate::proofs::SearchLaws::wish_differ))]
-pub fn wish_of(alloc: Global, search: &Search, scopes: &Scopes) -> Result<Wish, Fault>
+fn wish_of(alloc: Global, search: &Search, scopes: &Scopes) -> Result<Wish, Fault>
     ensures { AnswersBy (λ w. w) (wish_in scopes.now search.now) result }
 {
     match search {

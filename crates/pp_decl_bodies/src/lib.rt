@@ -7,8 +7,8 @@ mod functions;
 mod parameters;
 mod types;
 
-pub use collecting::{collector_of, wish_of};
+pub use collecting::collector_of;
 pub use declaring::declare_resources;
 pub use functions::{fail_with, realize_all};
-pub use parameters::{all_known, bind_parameter, bind_parameters};
-pub use types::{known_type, named_type};
+pub use parameters::{all_known, bind_parameters};
+pub use types::named_type;

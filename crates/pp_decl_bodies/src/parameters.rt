@@ -1,10 +1,8 @@
 //! Parameters, each bound to its value.
 
-ghost use Rattle.std.specs.Prelude.{◌≡◌, ◌∷◌, codes, map};
-ghost use Rattle.std.specs.List.{list_any};
+ghost use Rattle.std.specs.Prelude.{◌≡◌, map};
 ghost use Rattle.pp_value.specs.Values.{value_at};
 ghost use Rattle.pp_eval.specs.Verdicts.{AnswersBy, Answers};
-ghost use Rattle.catalog_semantics.specs.declared.state.State.{State as S};
 ghost use Rattle.catalog_semantics.specs.States.{in_turn};
 ghost use Rattle.catalog_semantics.specs.Declaring.{preset_of, looked_up, given_or_else, is_of_kind, fitting, parameter_bound, is_parameter, is_known, all_known, title_bound};
 ghost use Rattle.pp_decl_bodies.specs.Opening.{parameters_bound};
@@ -72,7 +70,7 @@ fn fitting(alloc: Global, at: u32, p: &Parameter<'_>, x: Value) -> Result<Value,
 }
 
 /// Binds a parameter to its value, in the scope of the body.
-pub fn bind_parameter(
+fn bind_parameter(
     alloc: Global,
     r: &Resource,
     p: &Parameter<'_>,

@@ -1,6 +1,5 @@
 //! Types that a manifest may name.
 
-ghost use Rattle.std.specs.Prelude.{◌≡◌};
 ghost use Rattle.pp_eval.specs.Verdicts.{AnswersBy};
 ghost use Rattle.catalog_semantics.specs.Declaring.{known_type, named_type};
 
@@ -10,7 +9,7 @@ use rh_base::{Fault, Text};
 use std::alloc::Global;
 
 /// A type of which resources may be declared.
-pub fn known_type(alloc: Global, site: &Site<'_>, at: u32, kind: Text) -> Result<Text, Fault>
+pub(crate) fn known_type(alloc: Global, site: &Site<'_>, at: u32, kind: Text) -> Result<Text, Fault>
     ensures { AnswersBy (λ known. known) (known_type site.now at kind) result }
 {
     if site.is_type(kind.as_str()) {

@@ -1,6 +1,5 @@
 //! The classes that an argument names.
 
-ghost use Rattle.std.specs.Prelude.{◌≡◌};
 ghost use Rattle.pp_eval.specs.Verdicts.{AnswersBy, if_there};
 ghost use Rattle.catalog_semantics.specs.Functions.{class_names};
 

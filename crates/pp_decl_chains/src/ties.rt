@@ -1,6 +1,6 @@
 //! Ties between the sides of a chain.
 
-ghost use Rattle.std.specs.Prelude.{◌≡◌, ◌++◌, IfOk, OnOk};
+ghost use Rattle.std.specs.Prelude.{◌≡◌, IfOk, OnOk};
 ghost use Rattle.catalog_semantics.specs.States.{tied};
 ghost use Rattle.catalog_semantics.specs.Effects.{tie_of, ties_of};
 

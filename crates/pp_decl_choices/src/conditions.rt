@@ -1,6 +1,5 @@
 //! Which block of an `if` is chosen.
 
-ghost use Rattle.std.specs.Prelude.{◌≡◌};
 ghost use Rattle.pp_eval.specs.Verdicts.{AnswersBy};
 ghost use Rattle.pp_decl_choices.specs.Choosing.{chosen_arm};
 

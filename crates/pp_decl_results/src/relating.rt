@@ -1,6 +1,6 @@
 //! What comes before what.
 
-ghost use Rattle.std.specs.Prelude.{◌≡◌, ◌++◌, [], Some, map, slice_get, IfOk, OnOk};
+ghost use Rattle.std.specs.Prelude.{◌≡◌, ◌++◌, Some, map, IfOk, OnOk};
 ghost use Rattle.catalog_semantics.specs.Catalogs.{matched, refs_of, relation_of, catalog_in};
 ghost use Rattle.pp_decl_results.specs.Results.{hits};
 

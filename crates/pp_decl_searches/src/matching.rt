@@ -1,10 +1,9 @@
 //! Which resources a collector matches.
 
-ghost use Rattle.std.specs.Prelude.{◌≡◌, map};
+ghost use Rattle.std.specs.Prelude.{◌≡◌};
 ghost use Rattle.std.specs.List.{list_any, list_all};
 ghost use Rattle.pp_value.specs.declared.value.Value.TheVariants as v;
 ghost use Rattle.pp_value.specs.Values.{same};
-ghost use Rattle.catalog_semantics.specs.States.{is_class};
 ghost use Rattle.catalog_semantics.specs.Collecting.{is_or_has, has_value, meets, meets_any, matches};
 
 use catalog_semantics::{Collector, Resource, Sort, Wish};

@@ -5,7 +5,7 @@ ghost use Rattle.catalog_semantics.specs.Sites.{definition_of, is_defined};
 
 use crate::definition::Definition;
 use pp_value::Keyed;
-use rh_base::{NoMemory, Text};
+use rh_base::NoMemory;
 use std::alloc::Global;
 use std::marker::Model;
 

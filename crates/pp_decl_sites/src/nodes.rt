@@ -41,7 +41,7 @@ impl<'m> Node<'m> {
     }
 
     /// Whether one of its names is this one, or is `default` where there is none.
-    pub fn stands_for(&self, name: Option<&str>) -> bool
+    fn stands_for(&self, name: Option<&str>) -> bool
         ensures { result ≡ stands_for (option_map (λ x. x.now) name.entry) self.now }
     {
         is_among(name, self.names)

@@ -1,8 +1,6 @@
 //! What holds while a manifest is gone through.
 
-ghost use Rattle.std.specs.Prelude.{◌≡◌, ◌∷◌, ◌++◌, [], length, option_map, OnOk, IfOk};
-ghost use Rattle.std.specs.List.{list_any};
-ghost use Rattle.std.specs.Str.{bytes_eq};
+ghost use Rattle.std.specs.Prelude.{◌≡◌, length, option_map, IfOk};
 ghost use Rattle.pp_eval.specs.Verdicts.{AnswersBy};
 ghost use Rattle.catalog_semantics.specs.Sites.{definition_of, is_built_in, is_type, is_taken, is_reserved, node_block, no_definitions, with_its_node, inherits_itself};
 ghost use Rattle.pp_decl_sites.specs.Places.{has_some, parent_in};
@@ -11,7 +9,6 @@ use crate::definition::Definition;
 use crate::definitions::Definitions;
 use crate::nodes::{Node, node_of};
 use pp_eval::refusal;
-use pp_syntax::Stmt;
 use rh_base::{Fault, NoMemory, Seq, Text};
 use std::alloc::Global;
 use std::marker::Model;

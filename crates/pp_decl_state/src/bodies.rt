@@ -2,7 +2,7 @@
 
 ghost use Rattle.std.specs.Prelude.{◌≡◌, ◌++◌, option_map, IfOk, OnOk};
 ghost use Rattle.pp_value.specs.Keys.{HasDistinctKeys};
-ghost use Rattle.pp_eval.specs.Scoping.{class_scope, defined_scope, node_scope_new, entered, left, current_scope, IsInner};
+ghost use Rattle.pp_eval.specs.Scoping.{class_scope, defined_scope, node_scope_new, left, current_scope, IsInner};
 ghost use Rattle.catalog_semantics.specs.States.{defaults_of};
 ghost use Rattle.catalog_semantics.specs.Declaring.{entering, begun};
 ghost use Rattle.catalog_semantics.specs.Catalogs.{with_default};

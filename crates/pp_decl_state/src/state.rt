@@ -1,8 +1,8 @@
 //! The state between two statements.
 
-ghost use Rattle.std.specs.Prelude.{◌≡◌, ◌∷◌, ◌++◌, [], length, IfOk, OnOk};
+ghost use Rattle.std.specs.Prelude.{◌≡◌, ◌∷◌, [], length, IfOk, OnOk};
 ghost use Rattle.pp_eval.specs.Verdicts.{AnswersBy};
-ghost use Rattle.catalog_semantics.specs.States.{added, bound, place_of, held, tied, collected, wanted};
+ghost use Rattle.catalog_semantics.specs.States.{added, bound, place_of, tied, collected};
 ghost use Rattle.catalog_semantics.specs.Catalogs.{first_state};
 
 use crate::adding::as_added;
@@ -109,13 +109,6 @@ impl State {
         self.catalog.count()
     }
 
-    /// Puts a class into a container.
-    pub fn hold(&mut self, outer: u32, class: u32) -> Result<(), NoMemory>
-        ensures { OnOk result (self.new ≡ held outer class self.old) }
-    {
-        self.catalog.hold(outer, class)
-    }
-
     pub fn tie(&mut self, tie: Tie) -> Result<(), NoMemory>
         ensures { OnOk result (self.new ≡ tied (tie ∷ []) self.old) }
     {
@@ -126,13 +119,6 @@ impl State {
         ensures { OnOk result (self.new ≡ collected c self.old) }
     {
         self.collectors.push(c)
-    }
-
-    /// Notes a reference that is to be realized.
-    pub fn want(&mut self, p: Pending) -> Result<(), NoMemory>
-        ensures { OnOk result (self.new ≡ wanted (p ∷ []) self.old) }
-    {
-        self.pending.push(p)
     }
 
     pub fn collectors(&self) -> &Seq<Collector>

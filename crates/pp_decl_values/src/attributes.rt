@@ -10,7 +10,7 @@ use crate::references::references_in;
 use pp_eval::{Scopes, eval, no_result, refusal};
 use pp_syntax::Attr;
 use pp_value::{Keyed, Pairs, Value, has_opaque};
-use rh_base::{Fault, NoMemory, Text};
+use rh_base::{Fault, NoMemory};
 use std::alloc::Global;
 
 #[tactic(auto, using(crate::proofs::Naming::one_of_four))]

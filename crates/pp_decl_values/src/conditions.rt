@@ -1,6 +1,5 @@
 //! Tests of conditions.
 
-ghost use Rattle.std.specs.Prelude.{◌≡◌};
 ghost use Rattle.pp_eval.specs.Verdicts.{AnswersBy};
 ghost use Rattle.catalog_semantics.specs.Effects.{test_of};
 

@@ -1,5 +1,5 @@
 -- What all scopes are stays so.
-use Rattle.std.proofs.Common.{◌≡◌, ◌⊎◌, inl, inr, ℕ, zero, suc, ◌+◌, ◌-◌, ◌<◌, ◌≤◌, List, [], ◌∷◌, ◌++◌, length, take, Option, Some, Result, Ok, Err, refl, sym, ap, subst, ◌∙◌, length-append, arith}
+use Rattle.std.proofs.Common.{◌≡◌, ◌⊎◌, inl, inr, ℕ, zero, suc, ◌+◌, ◌-◌, ◌<◌, ◌≤◌, List, [], ◌∷◌, ◌++◌, length, Option, Some, Result, Ok, Err, refl, sym, ap, subst, ◌∙◌, length-append, arith}
 use Rattle.std.specs.Prelude.{slice_get, unwrap_or}
 use Rattle.std.specs.List.{AllByRecursion}
 use Rattle.pp_value.specs.declared.value.Value.{Value}
@@ -63,13 +63,6 @@ entered_are scopes opened s h low =
       below = below_append (length (scopes ++ s ∷ [])) opened (length scopes ∷ []) (below_later (length scopes) (length (scopes ++ s ∷ [])) opened (omega arith) h.below) (omega arith, tt);
       parents = parents_append scopes s h.parents low;
     }
-
--- ---- leaving
-
-below_take : (n k : ℕ) (places : List ℕ) → Below n places → Below n (take k places)
-below_take n zero places h = tt
-below_take n (suc k) [] h = tt
-below_take n (suc k) (x ∷ places) h = (h.0, below_take n k places h.1)
 
 -- ---- binding
 

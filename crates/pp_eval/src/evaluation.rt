@@ -1,6 +1,6 @@
 //! The evaluation of expressions, from left to right.
 
-ghost use Rattle.std.specs.Prelude.{◌≡◌, [], None, map, option_map};
+ghost use Rattle.std.specs.Prelude.{[], None, map, option_map};
 ghost use Rattle.pp_value.specs.declared.value.Value.TheVariants as v;
 ghost use Rattle.pp_eval.specs.Scoping.{find_in};
 ghost use Rattle.pp_eval.specs.Verdicts.{AnswersBy, Answers, Refuses};

@@ -1,6 +1,6 @@
 //! The look-up of a variable.
 
-ghost use Rattle.std.specs.Prelude.{◌≡◌, ◌-◌, option_map, is_some, length, slice_get, option_and_then, codes};
+ghost use Rattle.std.specs.Prelude.{◌≡◌, ◌-◌, option_map, length, slice_get, option_and_then, codes};
 ghost use Rattle.pp_eval.specs.Names.{is_qualified};
 ghost use Rattle.pp_eval.specs.ClassNames.{AreKept};
 ghost use Rattle.pp_eval.specs.Scoping.{in_scope, in_lineage, class_of, node_in, top_scope, find_plain, find_qualified, find_in, AreScopes};
@@ -139,12 +139,5 @@ impl Scopes {
         ensures scopes { AreScopes self.now.0 self.now.1 }
     {
         in_scope(self.scopes.first(), "facts")
-    }
-
-    /// Whether a class has a scope, ASCII case aside.
-    pub fn has_class(&self, name: &str) -> bool
-        ensures { result ≡ is_some (class_of self.now.0 name.now) }
-    {
-        class_of(self.scopes.as_slice(), &self.classes, name.as_bytes()).is_some()
     }
 }

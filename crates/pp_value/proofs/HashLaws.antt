@@ -1,5 +1,5 @@
 -- Texts that are equal have equal hashes, whatever stands before them.
-use Rattle.std.proofs.Common.{◌≡◌, ℕ, zero, suc, ◌+◌, ◌*◌, ◌/◌, ◌%◌, ◌<◌, ◌≤◌, List, [], ◌∷◌, ap, sym, ◌∙◌, arith, lit≤, mod-lt, div-add-mod'}
+use Rattle.std.proofs.Common.{◌≡◌, ℕ, ◌+◌, ◌*◌, ◌/◌, ◌%◌, ◌<◌, List, [], ◌∷◌, ap, sym, ◌∙◌, arith, lit≤, mod-lt, div-add-mod'}
 use Rattle.std.proofs.Math.Nat.{add-mul-mod_self_left, add-mod-mod, mod-eq_of_lt, add-mul, mul_assoc, mul_comm, mul_left_comm}
 use Rattle.pp_value.specs.Hashes.{modulus, base, next_hash, hash_from, power_from}
 

@@ -3,7 +3,7 @@
 ghost use Rattle.std.specs.Prelude.{◌≡◌, ◌++◌, IfOk, MatchResult, Ok, Err, option_map};
 ghost use Rattle.pp_value.specs.declared.value.Value.TheVariants as v;
 ghost use Rattle.pp_value.specs.Keys.{with_pairs};
-ghost use Rattle.pp_value.specs.Values.{exceeds_limits, value_at};
+ghost use Rattle.pp_value.specs.Values.{exceeds_limits};
 ghost use Rattle.pp_value.specs.Table.{Gives, add_table, index_table, or_undef, member_at};
 
 use crate::fault::{Misfit, ValueFault};

@@ -1,11 +1,11 @@
 //! Values as texts.
 
-ghost use Rattle.std.specs.Prelude.{◌≡◌, ◌++◌, true, map, codes, string_bytes, encode_utf8_all, IfOk, OnOk};
+ghost use Rattle.std.specs.Prelude.{◌≡◌, ◌++◌, true, map, codes, string_bytes, IfOk, OnOk};
 ghost use Rattle.pp_value.specs.Values.{has_opaque};
 ghost use Rattle.pp_value.specs.Levels.{pair_text};
 ghost use Rattle.pp_value.specs.Table.{Gives};
 ghost use Rattle.pp_value.specs.Texts.{capitalized, capital_if};
-ghost use Rattle.pp_value.specs.Shown.{shown, shown_int, shown_ref, listed, behind, show_table, is_long_text};
+ghost use Rattle.pp_value.specs.Shown.{shown, shown_int, shown_ref, listed, show_table, is_long_text};
 
 use crate::compare::has_opaque;
 use crate::fault::ValueFault;

@@ -1,6 +1,6 @@
 //! How large a value is, and how deep it nests.
 
-ghost use Rattle.std.specs.Prelude.{◌≡◌, ◌+◌, ◌-◌, ◌^◌, min};
+ghost use Rattle.std.specs.Prelude.{◌≡◌, ◌-◌, ◌^◌, min};
 ghost use Rattle.pp_value.specs.Values.{size_of, depth_of, exceeds_limits};
 ghost use Rattle.pp_value.specs.Levels.{size_of_all, size_of_each, depth_of_all, depth_of_each};
 

@@ -1,4 +1,4 @@
-use Rattle.std.proofs.Common.{false, true, ℕ, refl, sym, subst, ◌∙◌, arith, lit≤}
+use Rattle.std.proofs.Common.{false, true, refl, sym, subst, ◌∙◌, arith, lit≤}
 use Rattle.pp_value.specs.Texts.{lowered}
 use Rattle.pp_value.proofs.TextLaws.{from_front}
 use Rattle.pp_value.proofs.WindowLaws.{Window, first_window, goes_on_by, ahead_is_left, at_end, in_shorter, behind_front, told_apart}
