@@ -2,15 +2,14 @@
 
 ghost use Rattle.std.specs.Prelude.{◌≡◌, IfOk};
 
-use crate::answers::refused;
 use allowed_order::order_of;
 use catalog::Catalog;
 use catalog_semantics::{Resource, Sort};
 use orders::Order;
 use pp_value::{Pairs, Ref};
-use rh_base::{NoMemory, Text};
 use std::alloc::Global;
 use std::test::Fail;
+use test_rows::{refused, text};
 
 /// Orders of three files behind a class, of which the first comes before the third.
 const ORDERS: &[(&str, &str)] = &[
@@ -41,10 +40,6 @@ const ORDERS: &[(&str, &str)] = &[
     ("[", "63 at 0: order"),
 ];
 
-fn text_of(alloc: Global, s: &str) -> Result<Text, NoMemory> {
-    Ok(Text::from_string(String::from_str(alloc, s)?))
-}
-
 fn push(
     alloc: Global,
     catalog: &mut Catalog,
@@ -52,20 +47,17 @@ fn push(
     kind: &str,
     title: &str,
 ) -> Result<(), Fail> {
-    let kind = text_of(alloc, kind)?;
-    let title = text_of(alloc, title)?;
-    let added = catalog.add(Resource {
+    let kind = text(alloc, kind)?;
+    let title = text(alloc, title)?;
+    catalog.add(Resource {
         id: Ref { kind, title },
         sort,
         is_virtual: false,
         at: 0,
         holder: None,
         attrs: Pairs::new(alloc),
-    });
-    match added {
-        Ok(_) => Ok(()),
-        Err(_) => Err(Fail::from("it stands twice")),
-    }
+    })?;
+    Ok(())
 }
 
 /// A class and three files.
@@ -81,10 +73,7 @@ fn catalog(alloc: Global) -> Result<Catalog, Fail> {
 fn order(alloc: Global) -> Result<Order, Fail>
     ensures { IfOk result (λ o. o.count ≡ 3) }
 {
-    match Order::from_edges(alloc, 3, &[(0, 2)]) {
-        Ok(order) => Ok(order),
-        Err(_) => Err(Fail::from("no order")),
-    }
+    Ok(Order::from_edges(alloc, 3, &[(0, 2)])?)
 }
 
 fn numbers(alloc: Global, positions: &[u32]) -> Result<String, Fail> {
@@ -101,7 +90,7 @@ fn ordered(alloc: Global, text: &str) -> Result<String, Fail> {
     let order = order(alloc)?;
     match order_of(alloc, text.as_bytes(), &catalog, &[1, 2, 3], &order) {
         Ok(positions) => numbers(alloc, positions.as_slice()),
-        Err(fault) => refused(alloc, &fault),
+        Err(fault) => Ok(refused(alloc, &fault)?),
     }
 }
 

@@ -4,6 +4,4 @@
 #[cfg(test)]
 mod allowed;
 #[cfg(test)]
-mod answers;
-#[cfg(test)]
 mod texts;

@@ -1,10 +1,10 @@
 //! Which references a text lists, and their text.
 
-use crate::answers::refused;
 use order_text::{order_from_json, order_to_json};
 use rh_base::{Seq, Text};
 use std::alloc::Global;
 use std::test::Fail;
+use test_rows::refused;
 
 /// The references that a text lists, each with `;` behind it; or the refusal.
 const TEXTS: &[(&str, &str)] = &[
@@ -51,24 +51,21 @@ fn joined(alloc: Global, texts: &Seq<Text>) -> Result<String, Fail> {
 fn listed(alloc: Global, text: &str) -> Result<String, Fail> {
     match order_from_json(alloc, text.as_bytes()) {
         Ok(texts) => joined(alloc, &texts),
-        Err(fault) => refused(alloc, &fault),
+        Err(fault) => Ok(refused(alloc, &fault)?),
     }
 }
 
 fn written(alloc: Global, texts: &[Text]) -> Result<String, Fail> {
     let mut bytes = Vec::new(alloc);
     order_to_json(alloc, texts, &mut bytes)?;
-    match String::from_utf8(bytes) {
-        Ok(text) => Ok(text),
-        Err(_) => Err(Fail::from("no text")),
-    }
+    Ok(String::from_utf8(bytes)?)
 }
 
 /// What a text lists, as it is written; or the refusal.
 fn rewritten(alloc: Global, text: &str) -> Result<String, Fail> {
     match order_from_json(alloc, text.as_bytes()) {
         Ok(texts) => written(alloc, texts.as_slice()),
-        Err(fault) => refused(alloc, &fault),
+        Err(fault) => Ok(refused(alloc, &fault)?),
     }
 }
 

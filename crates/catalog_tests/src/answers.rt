@@ -8,25 +8,10 @@ use pp_compile::{compile, compile_with};
 use pp_data::{Data, data_from_json};
 use pp_eval::facts_from_json;
 use pp_value::{Ref, Value, show, shown_ref};
-use rh_base::{Fault, Refusal};
 use std::alloc::Global;
 use std::process::Abort;
 use std::test::Fail;
-
-fn line_of(alloc: Global, refusal: &Refusal) -> Result<String, Fail> {
-    let number = refusal.number;
-    let at = refusal.at;
-    let name = refusal.name.as_str();
-    Ok(format!(in alloc; "{number} at {at}: {name}")?)
-}
-
-/// A refusal, as `29 at 5: operand`.
-fn refused(alloc: Global, fault: &Fault) -> Result<String, Fail> {
-    match fault {
-        Fault::Refused(refusal) => line_of(alloc, refusal),
-        Fault::Memory(_) => Err(Fail::from("memory")),
-    }
-}
+use test_rows::refused;
 
 fn value_text(alloc: Global, value: &Value) -> Result<String, Fail> {
     match show(alloc, value) {
@@ -102,17 +87,7 @@ fn data_of(alloc: Global, text: &str) -> Result<Data, Fail> {
     if text.is_empty() {
         return Ok(Data::empty(alloc));
     }
-    match data_from_json(alloc, text.as_bytes()) {
-        Ok(data) => Ok(data),
-        Err(_) => Err(Fail::from("no data")),
-    }
-}
-
-fn facts_of(alloc: Global, text: &str) -> Result<Value, Fail> {
-    match facts_from_json(alloc, text.as_bytes()) {
-        Ok(facts) => Ok(facts),
-        Err(_) => Err(Fail::from("no facts")),
-    }
+    Ok(data_from_json(alloc, text.as_bytes())?)
 }
 
 /// The catalog of a text under facts and class data for a node, or its refusal.
@@ -127,10 +102,10 @@ pub fn compiled_under(
         return Err(Fail::from("a long text"));
     }
     let levels = data_of(alloc, levels)?;
-    let facts = facts_of(alloc, facts)?;
+    let facts = facts_from_json(alloc, facts.as_bytes())?;
     match compile_with(alloc, text.as_bytes(), &facts, node, &levels) {
         Ok(catalog) => catalog_line(alloc, &catalog),
-        Err(fault) => refused(alloc, &fault),
+        Err(fault) => Ok(refused(alloc, &fault)?),
     }
 }
 
@@ -144,10 +119,10 @@ pub fn text_of(alloc: Global, text: &str) -> Result<String, Fail> {
     if text.len() > 100_000 {
         return Err(Fail::from("a long text"));
     }
-    let facts = facts_of(alloc, "{}")?;
+    let facts = facts_from_json(alloc, b"{}")?;
     match compile(alloc, text.as_bytes(), &facts, "") {
         Ok(catalog) => Ok(catalog_text(alloc, &catalog)?.into_string()),
-        Err(fault) => refused(alloc, &fault),
+        Err(fault) => Ok(refused(alloc, &fault)?),
     }
 }
 

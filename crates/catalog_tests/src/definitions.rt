@@ -1,5 +1,5 @@
 //! Rows of classes, defined types, nodes and class data.
-use crate::answers::{are_compiled, compiled, compiled_under};
+use crate::answers::{are_compiled, compiled_under};
 use std::test::Fail;
 
 #[test]
@@ -38,10 +38,7 @@ fn classes_run_once(rt: HostRuntime) -> Result<(), Fail> {
             "Class[empty]; File[/a]; File[/b]; File[/a] -> Class[empty] Class[empty] -> File[/b] ",
         ),
     ];
-    for (text, want) in rows {
-        assert_eq!(rt; compiled(rt.alloc(), text)?.as_str(), want, "{text}");
-    }
-    Ok(())
+    are_compiled(&rt, rt.alloc(), &rows)
 }
 
 /// Texts, references to classes, and lists of these.

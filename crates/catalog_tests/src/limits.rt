@@ -2,35 +2,15 @@
 use crate::answers::{compiled, compiled_under};
 use std::alloc::Global;
 use std::test::Fail;
-
-/// Texts of 1, 2, 4 and so on bytes, each twice the one before it.
-fn doubled(alloc: Global, times: u32) -> Result<String, Fail> {
-    let mut manifest = String::from_str(alloc, "$a0 = 'x'\n")?;
-    for i in 0..times {
-        let line = format!(in alloc; "$a{} = \"${{a{i}}}${{a{i}}}\"\n", i + 1)?;
-        manifest.push_str(line.as_str())?;
-    }
-    Ok(manifest)
-}
-
-/// So many titles, in a list.
-fn titles(alloc: Global, count: u32) -> Result<String, Fail> {
-    let mut list = String::from_str(alloc, "['/0'")?;
-    for i in 1..count {
-        let title = format!(in alloc; ", '/{i}'")?;
-        list.push_str(title.as_str())?;
-    }
-    list.push(']')?;
-    Ok(list)
-}
+use test_rows::{doubled, titles};
 
 #[test]
 fn values_that_are_too_large(rt: HostRuntime) -> Result<(), Fail> {
     let alloc = rt.alloc();
-    let fits = doubled(alloc, 17)?;
+    let fits = doubled(alloc, "x", 17)?;
     assert_eq!(rt; compiled(alloc, fits.as_str())?.as_str(), "");
     let want = format!(in alloc; "32 at {}: value", fits.len() + "$a18 = ".len())?;
-    let large = doubled(alloc, 18)?;
+    let large = doubled(alloc, "x", 18)?;
     assert_eq!(rt; compiled(alloc, large.as_str())?.as_str(), want.as_str());
     Ok(())
 }
@@ -50,7 +30,7 @@ fn resources_that_are_too_many(rt: HostRuntime) -> Result<(), Fail> {
 #[test]
 fn attributes_that_are_too_large(rt: HostRuntime) -> Result<(), Fail> {
     let alloc = rt.alloc();
-    let values = doubled(alloc, 17)?;
+    let values = doubled(alloc, "x", 17)?;
     for (count, large) in [(127, false), (128, true)] {
         let list = titles(alloc, count)?;
         let manifest = format!(in alloc; "{values}@file {{ {list}: content => $a17 }}")?;
@@ -71,7 +51,7 @@ fn told_of_titles(alloc: Global, front: &str, count: u32, behind: &str) -> Resul
 /// A default counts as often as it fills a resource, and is refused there.
 #[test]
 fn defaults_that_are_too_large(rt: HostRuntime) -> Result<(), Fail> {
-    let values = doubled(rt.alloc(), 17)?;
+    let values = doubled(rt.alloc(), "x", 17)?;
     let front = format!(in rt.alloc(); "{values}File {{ content => $a17 }} @file {{ ")?;
     let want = format!(in rt.alloc(); "32 at {}: attributes", front.len())?;
     for (count, large) in [(127, false), (128, true)] {
@@ -116,21 +96,12 @@ fn defined_resources_take_no_depth(rt: HostRuntime) -> Result<(), Fail> {
     Ok(())
 }
 
-/// So many letters.
-fn letters(alloc: Global, count: u32) -> Result<String, Fail> {
-    let mut text = String::new(alloc);
-    for _ in 0..count {
-        text.push('x')?;
-    }
-    Ok(text)
-}
-
 #[test]
 fn class_data_that_are_too_large(rt: HostRuntime) -> Result<(), Fail> {
     let alloc = rt.alloc();
     let manifest = "class c($p) { } include c";
     for (count, want) in [(262_143, "Class[c]; "), (262_144, "32 at 16: value")] {
-        let value = letters(alloc, count)?;
+        let value = "x".repeat(alloc, count)?;
         let levels = format!(in alloc; "{{\"levels\":[{{\"values\":{{\"c::p\":\"{value}\"}}}}]}}")?;
         let told = compiled_under(alloc, manifest, "{}", "", levels.as_str())?;
         assert_eq!(rt; told.as_str(), want, "{count}");

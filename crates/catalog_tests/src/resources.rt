@@ -1,5 +1,5 @@
 //! Rows of resources, defaults, conditions and functions.
-use crate::answers::{compiled, compiled_under};
+use crate::answers::{are_compiled, compiled_under};
 use std::test::Fail;
 
 #[test]
@@ -45,10 +45,7 @@ fn resources_have_their_attributes_and_defaults(rt: HostRuntime) -> Result<(), F
             "File[/a]; File[/b]; File[/b] -> File[/a] ",
         ),
     ];
-    for (text, want) in rows {
-        assert_eq!(rt; compiled(rt.alloc(), text)?.as_str(), want, "{text}");
-    }
-    Ok(())
+    are_compiled(&rt, rt.alloc(), &rows)
 }
 
 #[test]
@@ -81,10 +78,7 @@ fn conditions_choose_one_block(rt: HostRuntime) -> Result<(), Fail> {
             "File[/c]; ",
         ),
     ];
-    for (text, want) in rows {
-        assert_eq!(rt; compiled(rt.alloc(), text)?.as_str(), want, "{text}");
-    }
-    Ok(())
+    are_compiled(&rt, rt.alloc(), &rows)
 }
 
 #[test]

@@ -1,5 +1,5 @@
 //! Rows of defined types, virtual resources, collectors and realizations.
-use crate::answers::compiled;
+use crate::answers::are_compiled;
 use std::test::Fail;
 
 #[test]
@@ -16,10 +16,7 @@ fn defined_resources_run(rt: HostRuntime) -> Result<(), Fail> {
         ("define d() { file { '/w': } } @d { 'a': }", "@D[a]; "),
         ("define d($p) { file { $name: } } d { 'a': }", "25 at 37: p"),
     ];
-    for (text, want) in rows {
-        assert_eq!(rt; compiled(rt.alloc(), text)?.as_str(), want, "{text}");
-    }
-    Ok(())
+    are_compiled(&rt, rt.alloc(), &rows)
 }
 
 #[test]
@@ -43,8 +40,5 @@ fn collectors_make_real(rt: HostRuntime) -> Result<(), Fail> {
             "File[/v]; File[/a]; File[/a] -> File[/v] File[/a] ",
         ),
     ];
-    for (text, want) in rows {
-        assert_eq!(rt; compiled(rt.alloc(), text)?.as_str(), want, "{text}");
-    }
-    Ok(())
+    are_compiled(&rt, rt.alloc(), &rows)
 }

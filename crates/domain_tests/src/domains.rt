@@ -46,10 +46,17 @@ fn named_of(rt: &impl Abort, alloc: Global, words: &str) -> Text {
     shown
 }
 
+/// The domain of each has the paths and places beside it.
+fn have_paths(rt: &impl Abort, alloc: Global, rows: &[(&str, &str)]) {
+    for (words, want) in rows {
+        let found = paths_of(rt, alloc, words);
+        assert_eq!(rt; found.as_str(), *want, "{words}");
+    }
+}
+
 #[test]
-fn paths_and_fresh_children(rt: HostRuntime) -> Result<(), Fail> {
-    let alloc = rt.alloc();
-    for (words, want) in [
+fn paths_and_fresh_children(rt: HostRuntime) {
+    let rows = [
         ("", ""),
         ("id", ""),
         ("mkdir /a/b", "/a /a/b"),
@@ -69,17 +76,13 @@ fn paths_and_fresh_children(rt: HostRuntime) -> Result<(), Fail> {
             "if file? /.rehearsal/package/p: rm /.rehearsal/package/p, id; sweep /opt/p",
             "/.rehearsal /.rehearsal/package /.rehearsal/package/p /.rehearsal/package/p/other /opt /opt/p /opt/p/other 3 6",
         ),
-    ] {
-        let found = paths_of(&rt, alloc, words);
-        assert_eq!(rt; found.as_str(), want, "{words}");
-    }
-    Ok(())
+    ];
+    have_paths(&rt, rt.alloc(), &rows);
 }
 
 #[test]
-fn segments_that_are_taken(rt: HostRuntime) -> Result<(), Fail> {
-    let alloc = rt.alloc();
-    for (words, want) in [
+fn segments_that_are_taken(rt: HostRuntime) {
+    let rows = [
         ("mkdir /other | rm /a", "/a /a/otherx /other 1"),
         ("mkdir /otherx | rm /a", "/a /a/other /otherx 1"),
         (
@@ -93,11 +96,8 @@ fn segments_that_are_taken(rt: HostRuntime) -> Result<(), Fail> {
         ("mkdir /another | rm /a", "/a /a/other /another 1"),
         ("rm /other", "/other /other/otherx 1"),
         ("rm /other/a", "/other /other/a /other/a/otherx 2"),
-    ] {
-        let found = paths_of(&rt, alloc, words);
-        assert_eq!(rt; found.as_str(), want, "{words}");
-    }
-    Ok(())
+    ];
+    have_paths(&rt, rt.alloc(), &rows);
 }
 
 #[test]

@@ -38,10 +38,17 @@ fn shown(rt: &impl Abort, alloc: Global, words: &str) -> Text {
     text
 }
 
+/// Each program has the footprint beside it.
+fn are_shown(rt: &impl Abort, alloc: Global, rows: &[(&str, &str)]) {
+    for (words, want) in rows {
+        let found = shown(rt, alloc, words);
+        assert_eq!(rt; found.as_str(), *want, "{words}");
+    }
+}
+
 #[test]
-fn footprints_of_one_step(rt: HostRuntime) -> Result<(), Fail> {
-    let alloc = rt.alloc();
-    for (words, want) in [
+fn footprints_of_one_step(rt: HostRuntime) {
+    let rows = [
         ("id", "R W F C"),
         ("err", "R W F C"),
         ("if file? /a: id, err", "R /a W F C"),
@@ -65,17 +72,13 @@ fn footprints_of_one_step(rt: HostRuntime) -> Result<(), Fail> {
         ("dir /a", "R W F /a C"),
         ("if dir? /a: id, mkdir /b", "R /a /b W /b F C"),
         ("if file? /a: mkdir /b, mkdir /c", "R /a /b /c W /b /c F C"),
-    ] {
-        let found = shown(&rt, alloc, words);
-        assert_eq!(rt; found.as_str(), want, "{words}");
-    }
-    Ok(())
+    ];
+    are_shown(&rt, rt.alloc(), &rows);
 }
 
 #[test]
-fn footprints_from_left_to_right(rt: HostRuntime) -> Result<(), Fail> {
-    let alloc = rt.alloc();
-    for (words, want) in [
+fn footprints_from_left_to_right(rt: HostRuntime) {
+    let rows = [
         ("dir /a; creat /a/b x", "R /a/b W /a/b F /a C"),
         ("creat /a/b x; dir /a", "R /a /a/b W /a/b F /a C"),
         (
@@ -96,11 +99,8 @@ fn footprints_from_left_to_right(rt: HostRuntime) -> Result<(), Fail> {
             "dir /a; if none? /x: rm /a, id; creat /a/b x",
             "R /a /a/b /x W /a /a/b F /a C /a",
         ),
-    ] {
-        let found = shown(&rt, alloc, words);
-        assert_eq!(rt; found.as_str(), want, "{words}");
-    }
-    Ok(())
+    ];
+    are_shown(&rt, rt.alloc(), &rows);
 }
 
 #[test]

@@ -1,5 +1,5 @@
 //! Rows of automatic edges, one or more for each line of their table.
-use crate::drafts::answer;
+use crate::drafts::are_answered;
 use std::test::Fail;
 
 #[test]
@@ -52,10 +52,7 @@ fn files_come_after_what_is_above(rt: HostRuntime) -> Result<(), Fail> {
             "Package[/a]\nFile[/a/b]\n",
         ),
     ];
-    for (text, want) in rows {
-        assert_eq!(rt; answer(rt.alloc(), text)?.as_str(), want, "{text}");
-    }
-    Ok(())
+    are_answered(&rt, rt.alloc(), &rows)
 }
 
 #[test]
@@ -126,8 +123,5 @@ fn resources_come_after_whom_they_name(rt: HostRuntime) -> Result<(), Fail> {
             "Service[s]\nUser[u]\n",
         ),
     ];
-    for (text, want) in rows {
-        assert_eq!(rt; answer(rt.alloc(), text)?.as_str(), want, "{text}");
-    }
-    Ok(())
+    are_answered(&rt, rt.alloc(), &rows)
 }

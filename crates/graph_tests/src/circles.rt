@@ -1,5 +1,5 @@
 //! Rows of circles.
-use crate::drafts::answer;
+use crate::drafts::are_answered;
 use std::test::Fail;
 
 #[test]
@@ -39,8 +39,5 @@ fn circles_are_refused(rt: HostRuntime) -> Result<(), Fail> {
             "41 at 0: File[/a] -> File[/a/b] -> File[/c] -> File[/a]",
         ),
     ];
-    for (text, want) in rows {
-        assert_eq!(rt; answer(rt.alloc(), text)?.as_str(), want, "{text}");
-    }
-    Ok(())
+    are_answered(&rt, rt.alloc(), &rows)
 }

@@ -9,13 +9,11 @@ use catalog::Catalog;
 use catalog_semantics::{Relation, Resource, Sort};
 use dep_graph::{graph, graph_text};
 use pp_value::{Pairs, Ref, Value};
-use rh_base::{Fault, NoMemory, Refusal, Seq, Text};
+use rh_base::{Fault, NoMemory, Seq, Text};
 use std::alloc::Global;
+use std::process::Abort;
 use std::test::Fail;
-
-fn text_of(alloc: Global, s: &str) -> Result<Text, NoMemory> {
-    Ok(Text::from_string(String::from_str(alloc, s)?))
-}
+use test_rows::{refused, text};
 
 /// The reference that a word spells, as `file[/a]`.
 fn reference(alloc: Global, word: &str) -> Result<Option<Ref>, NoMemory> {
@@ -25,8 +23,8 @@ fn reference(alloc: Global, word: &str) -> Result<Option<Ref>, NoMemory> {
     let Some((title, _)) = rest.split_once(']') else {
         return Ok(None);
     };
-    let kind = text_of(alloc, kind)?;
-    let title = text_of(alloc, title)?;
+    let kind = text(alloc, kind)?;
+    let title = text(alloc, title)?;
     Ok(Some(Ref { kind, title }))
 }
 
@@ -38,7 +36,7 @@ fn single(alloc: Global, word: &str) -> Result<Value, NoMemory> {
     if word.starts_with('#') {
         return Ok(Value::Int(7));
     }
-    Ok(Value::Str(text_of(alloc, word)?))
+    Ok(Value::Str(text(alloc, word)?))
 }
 
 /// The members between commas.
@@ -83,7 +81,7 @@ fn put_attribute(
     name: &str,
     given: &str,
 ) -> Result<(), NoMemory> {
-    pairs.put(text_of(alloc, name)?, value(alloc, given)?)
+    pairs.put(text(alloc, name)?, value(alloc, given)?)
 }
 
 /// The attributes among some words; `in` is none.
@@ -174,7 +172,7 @@ fn add_line(alloc: Global, catalog: &mut Catalog, at: u32, line: &str) -> Result
 }
 
 /// The catalog that a text spells.
-pub fn catalog_of(alloc: Global, text: &str) -> Result<Catalog, Fault> {
+fn catalog_of(alloc: Global, text: &str) -> Result<Catalog, Fault> {
     let mut catalog = Catalog::new(alloc);
     let mut at = 0u32;
     for line in text.split(';') {
@@ -190,18 +188,19 @@ fn graph_of(alloc: Global, text: &str) -> Result<Text, Fault> {
     Ok(graph_text(alloc, &catalog, &found)?)
 }
 
-fn line_of(alloc: Global, refusal: &Refusal) -> Result<String, Fail> {
-    let number = refusal.number;
-    let at = refusal.at;
-    let name = refusal.name.as_str();
-    Ok(format!(in alloc; "{number} at {at}: {name}")?)
-}
-
 /// The text of the graph of a catalog, or the refusal as `40 at 1: File[/z]`.
-pub fn answer(alloc: Global, text: &str) -> Result<String, Fail> {
+fn answer(alloc: Global, text: &str) -> Result<String, Fail> {
     match graph_of(alloc, text) {
         Ok(lines) => Ok(lines.into_string()),
-        Err(Fault::Refused(refusal)) => line_of(alloc, &refusal),
-        Err(Fault::Memory(_)) => Err(Fail::from("memory")),
+        Err(fault) => Ok(refused(alloc, &fault)?),
     }
+}
+
+/// Each text has the graph beside it, or the refusal.
+pub fn are_answered(rt: &impl Abort, alloc: Global, rows: &[(&str, &str)]) -> Result<(), Fail> {
+    for (text, want) in rows {
+        let found = answer(alloc, text)?;
+        assert_eq!(rt; found.as_str(), *want, "{text}");
+    }
+    Ok(())
 }

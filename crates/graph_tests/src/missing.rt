@@ -1,5 +1,5 @@
 //! Rows of references to nothing.
-use crate::drafts::answer;
+use crate::drafts::are_answered;
 use std::test::Fail;
 
 #[test]
@@ -43,8 +43,5 @@ fn references_to_nothing_are_refused(rt: HostRuntime) -> Result<(), Fail> {
             "40 at 1: File[/z]",
         ),
     ];
-    for (text, want) in rows {
-        assert_eq!(rt; answer(rt.alloc(), text)?.as_str(), want, "{text}");
-    }
-    Ok(())
+    are_answered(&rt, rt.alloc(), &rows)
 }

@@ -1,5 +1,5 @@
 //! Rows of relations: metaparameters, arrows, containers.
-use crate::drafts::answer;
+use crate::drafts::are_answered;
 use std::test::Fail;
 
 #[test]
@@ -58,10 +58,7 @@ fn metaparameters_and_arrows(rt: HostRuntime) -> Result<(), Fail> {
             "File[/d]\nFile[/c]\nFile[/d] -> File[/c]\n",
         ),
     ];
-    for (text, want) in rows {
-        assert_eq!(rt; answer(rt.alloc(), text)?.as_str(), want, "{text}");
-    }
-    Ok(())
+    are_answered(&rt, rt.alloc(), &rows)
 }
 
 #[test]
@@ -88,8 +85,5 @@ fn containers(rt: HostRuntime) -> Result<(), Fail> {
             "File[/d]\nFile[/x]\nFile[/y]\nFile[/d] -> File[/y]\nFile[/x] -> File[/d]\nFile[/x] -> File[/y]\n",
         ),
     ];
-    for (text, want) in rows {
-        assert_eq!(rt; answer(rt.alloc(), text)?.as_str(), want, "{text}");
-    }
-    Ok(())
+    are_answered(&rt, rt.alloc(), &rows)
 }

@@ -7,9 +7,10 @@ use pp_value::{Pairs, Ref};
 use rh_base::{Fault, NoMemory, Seq, Text};
 use std::alloc::Global;
 use std::test::Fail;
+use test_rows::text;
 
 fn named(alloc: Global, kind: &str, n: u32) -> Result<Ref, NoMemory> {
-    let kind = Text::from_string(String::from_str(alloc, kind)?);
+    let kind = text(alloc, kind)?;
     let title = Text::from_string(format!(in alloc; "/f{n}")?);
     Ok(Ref { kind, title })
 }

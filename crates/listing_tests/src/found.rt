@@ -7,24 +7,9 @@ use std::test::Fail;
 const TWO: &str =
     r#"{"version":1,"packages":{"a":{"files":["/a"],"folders":[]},"b":{"files":[],"folders":[]}}}"#;
 
-fn listing(alloc: Global, text: &str) -> Result<Listing, Fail> {
-    match listing_from_json(alloc, text.as_bytes()) {
-        Ok(listing) => Ok(listing),
-        Err(_) => Err(Fail::from("no listing")),
-    }
-}
-
-fn repeated(alloc: Global, part: &str, count: usize) -> Result<String, Fail> {
-    let mut text = String::new(alloc);
-    for _ in 0..count {
-        text.push_str(part)?;
-    }
-    Ok(text)
-}
-
 /// Is a digest of so many letters accepted?
 fn has_digest(alloc: Global, count: usize) -> Result<bool, Fail> {
-    let digest = repeated(alloc, "d", count)?;
+    let digest = "d".repeat(alloc, count)?;
     let text = format!(in alloc;
         r#"{{"version":2,"packages":{{"a":{{"files":[["/a","{digest}"]],"folders":[]}}}}}}"#
     )?;
@@ -33,7 +18,7 @@ fn has_digest(alloc: Global, count: usize) -> Result<bool, Fail> {
 
 /// Is the path accepted that is this part so many times?
 fn has_path(alloc: Global, part: &str, count: usize) -> Result<bool, Fail> {
-    let path = repeated(alloc, part, count)?;
+    let path = part.repeat(alloc, count)?;
     let text = format!(in alloc;
         r#"{{"version":1,"packages":{{"a":{{"files":[],"folders":["{path}"]}}}}}}"#
     )?;
@@ -42,7 +27,7 @@ fn has_path(alloc: Global, part: &str, count: usize) -> Result<bool, Fail> {
 
 #[test]
 fn packages_are_found(rt: HostRuntime) -> Result<(), Fail> {
-    let listing = listing(rt.alloc(), TWO)?;
+    let listing = listing_from_json(rt.alloc(), TWO.as_bytes())?;
     for (name, files) in [("a", Some(1)), ("b", Some(0)), ("A", None), ("", None)] {
         assert_eq!(rt; listing.find(name).map(|p| p.files.len()), files, "{name}");
     }

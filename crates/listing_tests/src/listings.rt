@@ -1,6 +1,8 @@
 //! Listings from texts, and as they are written.
 
 use crate::answers::answer;
+use std::alloc::Global;
+use std::process::Abort;
 use std::test::Fail;
 
 /// Texts, and the listing of each as it is written.
@@ -108,26 +110,20 @@ fn listings_that_are_read(rt: HostRuntime) -> Result<(), Fail> {
     Ok(())
 }
 
-#[test]
-fn other_shapes_are_refused(rt: HostRuntime) -> Result<(), Fail> {
-    for text in SHAPES {
-        assert_eq!(rt;
-            answer(rt.alloc(), text)?.as_str(),
-            "61 at 0: packages",
-            "{text}"
-        );
+fn are_refused(rt: &impl Abort, alloc: Global, texts: &[&str]) -> Result<(), Fail> {
+    for text in texts {
+        let found = answer(alloc, text)?;
+        assert_eq!(rt; found.as_str(), "61 at 0: packages", "{text}");
     }
     Ok(())
 }
 
 #[test]
+fn other_shapes_are_refused(rt: HostRuntime) -> Result<(), Fail> {
+    are_refused(&rt, rt.alloc(), SHAPES)
+}
+
+#[test]
 fn other_paths_are_refused(rt: HostRuntime) -> Result<(), Fail> {
-    for text in PATHS {
-        assert_eq!(rt;
-            answer(rt.alloc(), text)?.as_str(),
-            "61 at 0: packages",
-            "{text}"
-        );
-    }
-    Ok(())
+    are_refused(&rt, rt.alloc(), PATHS)
 }

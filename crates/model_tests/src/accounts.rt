@@ -1,9 +1,7 @@
 //! Groups and users.
 
-use crate::drafts::answer;
+use crate::drafts::{NONE, are_answered};
 use std::test::Fail;
-
-const NONE: &str = r#"{"version":1,"packages":{}}"#;
 
 /// A row for each state of a group.
 const GROUPS: &[(&str, &str)] = &[
@@ -146,24 +144,15 @@ const USERS_REFUSED: &[(&str, &str)] = &[
 
 #[test]
 fn programs_of_groups(rt: HostRuntime) -> Result<(), Fail> {
-    for (text, want) in GROUPS {
-        assert_eq!(rt; answer(rt.alloc(), NONE, text)?.as_str(), *want, "{text}");
-    }
-    Ok(())
+    are_answered(&rt, rt.alloc(), NONE, GROUPS)
 }
 
 #[test]
 fn programs_of_users(rt: HostRuntime) -> Result<(), Fail> {
-    for (text, want) in USERS {
-        assert_eq!(rt; answer(rt.alloc(), NONE, text)?.as_str(), *want, "{text}");
-    }
-    Ok(())
+    are_answered(&rt, rt.alloc(), NONE, USERS)
 }
 
 #[test]
 fn refusals_of_users(rt: HostRuntime) -> Result<(), Fail> {
-    for (text, want) in USERS_REFUSED {
-        assert_eq!(rt; answer(rt.alloc(), NONE, text)?.as_str(), *want, "{text}");
-    }
-    Ok(())
+    are_answered(&rt, rt.alloc(), NONE, USERS_REFUSED)
 }

@@ -6,21 +6,21 @@
 use catalog::{Catalog, filled};
 use catalog_semantics::{Resource, Sort};
 use fs_lang::Program;
-use pkg_listing::{Listing, listing_from_json};
+use pkg_listing::listing_from_json;
 use pp_eval::facts_from_json;
 use pp_value::{Pairs, Ref, Value};
 use res_models::{program_of, programs_of};
-use rh_base::{Fault, Refusal, Text};
 use std::alloc::Global;
+use std::process::Abort;
 use std::test::Fail;
+use test_rows::{refused, text};
 use tree_text::program_text;
+
+/// No packages.
+pub const NONE: &str = r#"{"version":1,"packages":{}}"#;
 
 /// A package of nothing.
 const ONE: &str = r#"{"version":1,"packages":{"a":{"files":[],"folders":[]}}}"#;
-
-fn text_of(alloc: Global, s: &str) -> Result<Text, Fail> {
-    Ok(Text::from_string(String::from_str(alloc, s)?))
-}
 
 fn object(alloc: Global, json: &str) -> Result<Pairs, Fail> {
     match facts_from_json(alloc, json.as_bytes()) {
@@ -46,8 +46,8 @@ fn resource(
     title: &str,
     attrs: &str,
 ) -> Result<Resource, Fail> {
-    let kind = text_of(alloc, kind)?;
-    let title = text_of(alloc, title)?;
+    let kind = text(alloc, kind)?;
+    let title = text(alloc, title)?;
     let attrs = attributes(alloc, attrs)?;
     Ok(Resource {
         id: Ref { kind, title },
@@ -69,63 +69,49 @@ fn draft(alloc: Global, at: u32, text: &str) -> Result<Resource, Fail> {
     resource(alloc, at, kind, title, attrs)
 }
 
-fn listing(alloc: Global, json: &str) -> Result<Listing, Fail> {
-    match listing_from_json(alloc, json.as_bytes()) {
-        Ok(listing) => Ok(listing),
-        Err(_) => Err(Fail::from("no listing")),
-    }
-}
-
 fn printed(alloc: Global, program: &Program) -> Result<String, Fail> {
     let mut bytes = Vec::new(alloc);
     program_text(alloc, program, &mut bytes)?;
-    match String::from_utf8(bytes) {
-        Ok(text) => Ok(text),
-        Err(_) => Err(Fail::from("no text")),
-    }
-}
-
-fn line_of(alloc: Global, refusal: &Refusal) -> Result<String, Fail> {
-    let number = refusal.number;
-    let at = refusal.at;
-    let name = refusal.name.as_str();
-    Ok(format!(in alloc; "{number} at {at}: {name}")?)
-}
-
-/// A refusal, as `51 at 7: mode`.
-pub fn refused(alloc: Global, fault: &Fault) -> Result<String, Fail> {
-    match fault {
-        Fault::Refused(refusal) => line_of(alloc, refusal),
-        Fault::Memory(_) => Err(Fail::from("memory")),
-    }
+    Ok(String::from_utf8(bytes)?)
 }
 
 /// The program of a draft as it is printed, or its refusal.
 pub fn answer(alloc: Global, packages: &str, text: &str) -> Result<String, Fail> {
-    let packages = listing(alloc, packages)?;
+    let packages = listing_from_json(alloc, packages.as_bytes())?;
     let r = draft(alloc, 7, text)?;
     match program_of(alloc, &r, &packages) {
         Ok(program) => printed(alloc, &program),
-        Err(fault) => refused(alloc, &fault),
+        Err(fault) => Ok(refused(alloc, &fault)?),
     }
+}
+
+/// Each draft has the program beside it, or the refusal.
+pub fn are_answered(
+    rt: &impl Abort,
+    alloc: Global,
+    packages: &str,
+    rows: &[(&str, &str)],
+) -> Result<(), Fail> {
+    for (text, want) in rows {
+        let found = answer(alloc, packages, text)?;
+        assert_eq!(rt; found.as_str(), *want, "{text}");
+    }
+    Ok(())
 }
 
 fn added(alloc: Global, catalog: &mut Catalog, at: u32, text: &str) -> Result<(), Fail> {
-    let r = draft(alloc, at, text)?;
-    match catalog.add(r) {
-        Ok(_) => Ok(()),
-        Err(_) => Err(Fail::from("it stands twice")),
-    }
+    catalog.add(draft(alloc, at, text)?)?;
+    Ok(())
 }
 
 fn both_programs(alloc: Global, catalog: &Catalog) -> Result<String, Fail> {
-    let packages = listing(alloc, ONE)?;
+    let packages = listing_from_json(alloc, ONE.as_bytes())?;
     if catalog.count() < 2 {
         return Err(Fail::from("two resources"));
     }
     match programs_of(alloc, catalog, &[0, 1], &packages) {
         Ok(programs) => Ok(format!(in alloc; "{} programs", programs.len())?),
-        Err(fault) => refused(alloc, &fault),
+        Err(fault) => Ok(refused(alloc, &fault)?),
     }
 }
 

@@ -1,9 +1,7 @@
 //! Cron jobs and keys of ssh.
 
-use crate::drafts::answer;
+use crate::drafts::{NONE, are_answered};
 use std::test::Fail;
-
-const NONE: &str = r#"{"version":1,"packages":{}}"#;
 
 /// Jobs of root and of others, and each cause.
 const JOBS: &[(&str, &str)] = &[
@@ -121,16 +119,10 @@ const KEYS: &[(&str, &str)] = &[
 
 #[test]
 fn programs_of_cron_jobs(rt: HostRuntime) -> Result<(), Fail> {
-    for (text, want) in JOBS {
-        assert_eq!(rt; answer(rt.alloc(), NONE, text)?.as_str(), *want, "{text}");
-    }
-    Ok(())
+    are_answered(&rt, rt.alloc(), NONE, JOBS)
 }
 
 #[test]
 fn keys_of_ssh(rt: HostRuntime) -> Result<(), Fail> {
-    for (text, want) in KEYS {
-        assert_eq!(rt; answer(rt.alloc(), NONE, text)?.as_str(), *want, "{text}");
-    }
-    Ok(())
+    are_answered(&rt, rt.alloc(), NONE, KEYS)
 }

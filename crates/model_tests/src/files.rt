@@ -1,9 +1,7 @@
 //! Files.
 
-use crate::drafts::answer;
+use crate::drafts::{NONE, are_answered};
 use std::test::Fail;
-
-const NONE: &str = r#"{"version":1,"packages":{}}"#;
 
 /// A row for each state of a file, and the attributes that count for nothing.
 const PROGRAMS: &[(&str, &str)] = &[
@@ -240,24 +238,15 @@ const STATES_AND_PATHS: &[(&str, &str)] = &[
 
 #[test]
 fn programs_of_files(rt: HostRuntime) -> Result<(), Fail> {
-    for (text, want) in PROGRAMS {
-        assert_eq!(rt; answer(rt.alloc(), NONE, text)?.as_str(), *want, "{text}");
-    }
-    Ok(())
+    are_answered(&rt, rt.alloc(), NONE, PROGRAMS)
 }
 
 #[test]
 fn attributes_of_files(rt: HostRuntime) -> Result<(), Fail> {
-    for (text, want) in ATTRIBUTES {
-        assert_eq!(rt; answer(rt.alloc(), NONE, text)?.as_str(), *want, "{text}");
-    }
-    Ok(())
+    are_answered(&rt, rt.alloc(), NONE, ATTRIBUTES)
 }
 
 #[test]
 fn states_and_paths_of_files(rt: HostRuntime) -> Result<(), Fail> {
-    for (text, want) in STATES_AND_PATHS {
-        assert_eq!(rt; answer(rt.alloc(), NONE, text)?.as_str(), *want, "{text}");
-    }
-    Ok(())
+    are_answered(&rt, rt.alloc(), NONE, STATES_AND_PATHS)
 }

@@ -1,10 +1,8 @@
 //! Types without a model, the lengths of names and paths, and modelled names that stand twice.
 
-use crate::drafts::{answer, both};
+use crate::drafts::{NONE, answer, both};
 use std::alloc::Global;
 use std::test::Fail;
-
-const NONE: &str = r#"{"version":1,"packages":{}}"#;
 
 /// Two resources each, and what is answered to them.
 const PAIRS: &[(&str, &str, &str)] = &[
@@ -81,17 +79,9 @@ const LENGTHS: &[(&str, &str, usize, bool)] = &[
     ("file", "/", 1_025, false),
 ];
 
-fn repeated(alloc: Global, part: &str, count: usize) -> Result<String, Fail> {
-    let mut text = String::new(alloc);
-    for _ in 0..count {
-        text.push_str(part)?;
-    }
-    Ok(text)
-}
-
 /// Is the title accepted that is this part so many times?
 fn is_accepted(alloc: Global, kind: &str, part: &str, count: usize) -> Result<bool, Fail> {
-    let title = repeated(alloc, part, count)?;
+    let title = part.repeat(alloc, count)?;
     let text = format!(in alloc; "{kind}|{title}|{{}}")?;
     Ok(
         !answer(alloc, NONE, text.as_str())?
@@ -135,8 +125,8 @@ fn names_and_paths_are_short(rt: HostRuntime) -> Result<(), Fail> {
 #[test]
 fn marks_are_as_long_as_names_make_them(rt: HostRuntime) -> Result<(), Fail> {
     let alloc = rt.alloc();
-    let name = repeated(alloc, "/", 255)?;
-    let segment = repeated(alloc, "%2F", 255)?;
+    let name = "/".repeat(alloc, 255)?;
+    let segment = "%2F".repeat(alloc, 255)?;
     let text = format!(in alloc; r#"cron|{name}|{{"ensure":"absent","user":"{name}"}}"#)?;
     let path = format!(in alloc; "/.rehearsal/cron/{segment}/{segment}")?;
     let want = format!(in alloc; r#"if file?("{path}") then rm("{path}") else id"#)?;

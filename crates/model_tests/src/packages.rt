@@ -1,6 +1,6 @@
 //! Packages.
 
-use crate::drafts::answer;
+use crate::drafts::are_answered;
 use std::test::Fail;
 
 const NTP: &str =
@@ -95,24 +95,15 @@ const REFUSED: &[(&str, &str)] = &[
 
 #[test]
 fn installed_packages(rt: HostRuntime) -> Result<(), Fail> {
-    for (text, want) in INSTALLED {
-        assert_eq!(rt; answer(rt.alloc(), NTP, text)?.as_str(), *want, "{text}");
-    }
-    Ok(())
+    are_answered(&rt, rt.alloc(), NTP, INSTALLED)
 }
 
 #[test]
 fn digests_and_sweeps(rt: HostRuntime) -> Result<(), Fail> {
-    for (text, want) in OF_TWO {
-        assert_eq!(rt; answer(rt.alloc(), TWO, text)?.as_str(), *want, "{text}");
-    }
-    Ok(())
+    are_answered(&rt, rt.alloc(), TWO, OF_TWO)
 }
 
 #[test]
 fn refusals_of_packages(rt: HostRuntime) -> Result<(), Fail> {
-    for (text, want) in REFUSED {
-        assert_eq!(rt; answer(rt.alloc(), NTP, text)?.as_str(), *want, "{text}");
-    }
-    Ok(())
+    are_answered(&rt, rt.alloc(), NTP, REFUSED)
 }

@@ -1,6 +1,6 @@
 //! The examples of the page on models, as they stand there.
 
-use crate::drafts::answer;
+use crate::drafts::are_answered;
 use std::test::Fail;
 
 const NTP: &str = r#"{"version":1,"packages":{"ntp":{"files":["/etc/ntp.conf"],"folders":[]}}}"#;
@@ -47,8 +47,5 @@ const EXAMPLES: &[(&str, &str)] = &[
 
 #[test]
 fn examples_of_the_page(rt: HostRuntime) -> Result<(), Fail> {
-    for (text, want) in EXAMPLES {
-        assert_eq!(rt; answer(rt.alloc(), NTP, text)?.as_str(), *want, "{text}");
-    }
-    Ok(())
+    are_answered(&rt, rt.alloc(), NTP, EXAMPLES)
 }

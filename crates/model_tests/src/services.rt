@@ -1,9 +1,7 @@
 //! Services.
 
-use crate::drafts::answer;
+use crate::drafts::{NONE, are_answered};
 use std::test::Fail;
-
-const NONE: &str = r#"{"version":1,"packages":{}}"#;
 
 /// The part of `ensure`, and that of `enable`.
 const PROGRAMS: &[(&str, &str)] = &[
@@ -87,16 +85,10 @@ const REFUSED: &[(&str, &str)] = &[
 
 #[test]
 fn programs_of_services(rt: HostRuntime) -> Result<(), Fail> {
-    for (text, want) in PROGRAMS {
-        assert_eq!(rt; answer(rt.alloc(), NONE, text)?.as_str(), *want, "{text}");
-    }
-    Ok(())
+    are_answered(&rt, rt.alloc(), NONE, PROGRAMS)
 }
 
 #[test]
 fn refusals_of_services(rt: HostRuntime) -> Result<(), Fail> {
-    for (text, want) in REFUSED {
-        assert_eq!(rt; answer(rt.alloc(), NONE, text)?.as_str(), *want, "{text}");
-    }
-    Ok(())
+    are_answered(&rt, rt.alloc(), NONE, REFUSED)
 }

@@ -1,12 +1,13 @@
 //! Proofs that are accepted, the first fault of others, and the texts of proofs.
 
-use crate::common::{FIRST, PIGEONS, PIGEONS_TEXT, SECOND, Stated, formula, log};
+use crate::common::{FIRST, PIGEONS, SECOND, Stated, formula, log};
 use cnf::{Clause, Cnf, Link, Lit, Log, Step};
 use proof_check::{Cause, CheckFault, Verified, check, read_proofs};
 use rh_base::{Fault, NoMemory, Seq};
 use std::alloc::Global;
 use std::process::Abort;
 use std::test::Fail;
+use test_rows::PIGEONS as PIGEONS_TEXT;
 
 /// What a check answers, as the number of the first step that fails and a word for its cause.
 fn answer(

@@ -1,10 +1,11 @@
 //! Clauses, formulas, and the formula of a goal.
 
-use crate::common::{FIRST, PIGEONS, PIGEONS_TEXT, SECOND, ask, formula, lit, lits, log};
+use crate::common::{FIRST, PIGEONS, SECOND, ask, formula, lit, lits, log};
 use bool_circuit::{Circuit, Gate, Wire};
 use cnf::{Clause, Cnf, from_circuit, from_circuit_with, write_proof};
 use std::process::Abort;
 use std::test::Fail;
+use test_rows::PIGEONS as PIGEONS_TEXT;
 
 #[test]
 fn a_clause_is_in_order_and_has_each_literal_once(rt: HostRuntime) -> Result<(), Fail> {

@@ -1,6 +1,6 @@
 //! Answers to the question of order, and programs that are too large for it.
 
-use crate::programs::{again, in_turn};
+use crate::programs::{all_again, in_turn, unordered};
 use fs_lang::Program;
 use judgement::{First, Sure, judge_order};
 use orders::Order;
@@ -44,13 +44,8 @@ pub fn told_by(alloc: Global, programs: &[Program], order: &Order) -> Result<Str
 
 /// What is answered of programs without an order between them.
 pub fn told(alloc: Global, programs: &[Program]) -> Result<String, Fail> {
-    let Ok(n) = u32::try_from(programs.len()) else {
-        return Err(Fail::from("few programs"));
-    };
-    match Order::from_edges(alloc, n, &[]) {
-        Ok(order) => told_by(alloc, programs, &order),
-        Err(_) => Err(Fail::from("an order")),
-    }
+    let order = unordered(alloc, programs)?;
+    told_by(alloc, programs, &order)
 }
 
 #[test]
@@ -64,22 +59,14 @@ fn paths_of_the_domain(rt: HostRuntime) -> Result<(), Fail> {
     Ok(())
 }
 
-/// What is answered of n programs, each of which makes a folder of its own so many times.
-fn told_again(alloc: Global, n: u32, times: u32) -> Result<String, Fail> {
-    let mut all = Vec::new(alloc);
-    for i in 0..n {
-        all.push(again(alloc, i, times)?)?;
-    }
-    told(alloc, all.as_slice())
-}
-
 #[test]
 fn weights_of_programs(rt: HostRuntime) -> Result<(), Fail> {
     for (n, times, want) in [
         (100u32, 35u32, "sure, 100 pruned"),
         (3, 38_889, "70 weight"),
     ] {
-        assert_eq!(rt; told_again(rt.alloc(), n, times)?.as_str(), want, "{n}");
+        let all = all_again(rt.alloc(), n, times)?;
+        assert_eq!(rt; told(rt.alloc(), all.as_slice())?.as_str(), want, "{n}");
     }
     Ok(())
 }

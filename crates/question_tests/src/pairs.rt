@@ -1,43 +1,23 @@
 //! Programs that write at one path: whether any two commute, and whether those that don't ever meet.
 
 use crate::judging::{told, told_by};
-use crate::programs::path;
-use fs_lang::{Program, Test};
+use fs_lang::Program;
 use orders::{Order, OrderFault};
-use rh_base::{Boxed, NoMemory, Text};
 use std::alloc::Global;
 use std::test::Fail;
-
-fn creat(alloc: Global, letter: &str) -> Result<Program, Fail> {
-    let place = path(alloc, 0)?;
-    let content = Text::from_string(format!(in alloc; "{letter}")?);
-    Ok(Program::Creat(place, content))
-}
-
-fn choice(alloc: Global, test: Test, then: Program, other: Program) -> Result<Program, NoMemory> {
-    let first = Boxed::new(alloc, then)?;
-    let second = Boxed::new(alloc, other)?;
-    Ok(Program::If(test, first, second))
-}
+use test_programs::{choice, program, question};
 
 /// Makes a file at /d0 with this content, unless something is there.
 fn put(alloc: Global, letter: &str) -> Result<Program, Fail> {
-    let test = Test::IsNone(path(alloc, 0)?);
-    let making = creat(alloc, letter)?;
-    match choice(alloc, test, making, Program::Id) {
-        Ok(program) => Ok(program),
-        Err(_) => Err(Fail::from("memory")),
-    }
+    let words = format!(in alloc; "if none? /d0: creat /d0 {letter}, id")?;
+    Ok(program(alloc, words.as_str())?)
 }
 
 /// The same, where something is at /d1.
 fn put_beside(alloc: Global, letter: &str) -> Result<Program, Fail> {
-    let test = Test::IsNone(path(alloc, 1)?);
+    let asked = question(alloc, "none? /d1")?;
     let making = put(alloc, letter)?;
-    match choice(alloc, test, Program::Id, making) {
-        Ok(program) => Ok(program),
-        Err(_) => Err(Fail::from("memory")),
-    }
+    Ok(choice(alloc, asked, Program::Id, making)?)
 }
 
 /// One such program for each content.
@@ -68,11 +48,9 @@ fn files_that_are_put_once(rt: HostRuntime) -> Result<(), Fail> {
 
 /// What is answered of a program that removes /d1, and of two that put different files where it is there.
 fn told_of_three(alloc: Global, order: Result<Order, OrderFault>) -> Result<String, Fail> {
-    let Ok(order) = order else {
-        return Err(Fail::from("an order"));
-    };
+    let order = order?;
     let mut all = Vec::new(alloc);
-    all.push(Program::Rm(path(alloc, 1)?))?;
+    all.push(program(alloc, "rm /d1")?)?;
     all.push(put_beside(alloc, "a")?)?;
     all.push(put_beside(alloc, "b")?)?;
     told_by(alloc, all.as_slice(), &order)

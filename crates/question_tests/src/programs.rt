@@ -1,32 +1,25 @@
-//! Paths, and programs that make folders.
+//! Programs that make folders, and no order between programs.
 
-use fs_lang::{Path, Program};
+ghost use Rattle.std.specs.Prelude.{◌≡◌, IfOk, length};
+
+use fs_lang::Program;
+use orders::Order;
 use rh_base::Seq;
 use std::alloc::Global;
 use std::test::Fail;
+use test_programs::program;
 
-/// The path of this number, as /d1.
-pub fn path(alloc: Global, i: u32) -> Result<Path, Fail> {
-    let text = format!(in alloc; "/d{i}")?;
-    let Ok(path) = Path::read(alloc, text.as_str()) else {
-        return Err(Fail::from("a path"));
-    };
-    Ok(path)
-}
-
-/// Makes the folder of this number.
+/// Makes the folder of this number, as /d1.
 pub fn numbered(alloc: Global, i: u32) -> Result<Program, Fail> {
-    Ok(Program::Mkdir(path(alloc, i)?))
+    let words = format!(in alloc; "mkdir /d{i}")?;
+    Ok(program(alloc, words.as_str())?)
 }
 
 /// Makes the folders of so many numbers, one after another.
 pub fn in_turn(alloc: Global, count: u32) -> Result<Program, Fail> {
     let mut steps = Seq::new(alloc);
     for i in 0..count {
-        let step = numbered(alloc, i + 1)?;
-        let Ok(()) = steps.push(step) else {
-            return Err(Fail::from("memory"));
-        };
+        steps.push(numbered(alloc, i + 1)?)?;
     }
     Ok(Program::Steps(steps))
 }
@@ -35,10 +28,24 @@ pub fn in_turn(alloc: Global, count: u32) -> Result<Program, Fail> {
 pub fn again(alloc: Global, i: u32, times: u32) -> Result<Program, Fail> {
     let mut steps = Seq::new(alloc);
     for _turn in 0..times {
-        let step = numbered(alloc, i)?;
-        let Ok(()) = steps.push(step) else {
-            return Err(Fail::from("memory"));
-        };
+        steps.push(numbered(alloc, i)?)?;
     }
     Ok(Program::Steps(steps))
+}
+
+/// So many programs, each of which makes a folder of its own so many times.
+pub fn all_again(alloc: Global, n: u32, times: u32) -> Result<Vec<Program>, Fail> {
+    let mut all = Vec::new(alloc);
+    for i in 0..n {
+        all.push(again(alloc, i, times)?)?;
+    }
+    Ok(all)
+}
+
+/// No order between these programs.
+pub fn unordered(alloc: Global, programs: &[Program]) -> Result<Order, Fail>
+    ensures { IfOk result (λ order. order.count ≡ length programs.now) }
+{
+    let n = u32::try_from(programs.len())?;
+    Ok(Order::from_edges(alloc, n, &[])?)
 }

@@ -1,10 +1,9 @@
 //! Verdicts on programs, and programs that are too large for one.
 
 use crate::judging::refused;
-use crate::programs::{again, in_turn};
+use crate::programs::{all_again, in_turn, unordered};
 use fs_lang::Program;
 use full_verdict::{Ends, Second, Verdict, judge};
-use orders::Order;
 use rh_base::Fault;
 use std::alloc::Global;
 use std::test::Fail;
@@ -44,29 +43,12 @@ fn judged(alloc: Global, verdict: &Verdict) -> Result<String, Fail> {
 
 /// What is judged of programs without an order between them.
 fn told(alloc: Global, programs: &[Program]) -> Result<String, Fail> {
-    let Ok(n) = u32::try_from(programs.len()) else {
-        return Err(Fail::from("few programs"));
-    };
-    let Ok(order) = Order::from_edges(alloc, n, &[]) else {
-        return Err(Fail::from("an order"));
-    };
-    if order.count() as usize != programs.len() {
-        return Err(Fail::from("as many nodes as programs"));
-    }
+    let order = unordered(alloc, programs)?;
     match judge(alloc, programs, &order, u64::MAX) {
         Ok(verdict) => judged(alloc, &verdict),
         Err(Fault::Refused(refusal)) => refused(alloc, &refusal),
         Err(Fault::Memory(_)) => Err(Fail::from("memory")),
     }
-}
-
-/// What is judged of n programs, each of which makes a folder of its own so many times.
-fn told_again(alloc: Global, n: u32, times: u32) -> Result<String, Fail> {
-    let mut all = Vec::new(alloc);
-    for i in 0..n {
-        all.push(again(alloc, i, times)?)?;
-    }
-    told(alloc, all.as_slice())
 }
 
 #[test]
@@ -77,7 +59,8 @@ fn folders_that_are_made_again(rt: HostRuntime) -> Result<(), Fail> {
         // a second run fails where the first one ends in a tree
         (2, 1, "2 pruned, not idempotent, succeeds"),
     ] {
-        assert_eq!(rt; told_again(rt.alloc(), n, times)?.as_str(), want, "{n}");
+        let all = all_again(rt.alloc(), n, times)?;
+        assert_eq!(rt; told(rt.alloc(), all.as_slice())?.as_str(), want, "{n}");
     }
     Ok(())
 }

@@ -4,25 +4,11 @@ ghost use Rattle.std.specs.Prelude.{◌<◌, ◌^◌, length};
 use pp_parser::parse;
 use pp_print::print;
 use pp_syntax::{Token, lex};
-use rh_base::{Fault, Refusal};
+use rh_base::Fault;
 use std::alloc::Global;
 use std::process::Abort;
 use std::test::Fail;
-
-fn line_of(alloc: Global, refusal: &Refusal) -> Result<String, Fail> {
-    let number = refusal.number;
-    let at = refusal.at;
-    let name = refusal.name.as_str();
-    Ok(format!(in alloc; "{number} at {at}: {name}")?)
-}
-
-/// A refusal, as `12 at 27: syntax`.
-fn refused(alloc: Global, fault: &Fault) -> Result<String, Fail> {
-    match fault {
-        Fault::Refused(refusal) => line_of(alloc, refusal),
-        Fault::Memory(_) => Err(Fail::from("memory")),
-    }
-}
+use test_rows::refused;
 
 /// The canonical text of what a text spells, behind what was written before.
 fn print_behind(alloc: Global, text: &[u8], into: &mut Vec<u8>) -> Result<(), Fault>
@@ -42,15 +28,8 @@ pub fn printed_behind(alloc: Global, front: &str, text: &str) -> Result<String, 
     let mut into = Vec::new(alloc);
     into.extend_from_slice(front.as_bytes())?;
     match print_behind(alloc, text.as_bytes(), &mut into) {
-        Ok(()) => as_text(into),
-        Err(fault) => refused(alloc, &fault),
-    }
-}
-
-fn as_text(bytes: Vec<u8>) -> Result<String, Fail> {
-    match String::from_utf8(bytes) {
-        Ok(text) => Ok(text),
-        Err(_) => Err(Fail::from("not UTF-8")),
+        Ok(()) => Ok(String::from_utf8(into)?),
+        Err(fault) => Ok(refused(alloc, &fault)?),
     }
 }
 
@@ -76,7 +55,7 @@ pub fn tokens_of(alloc: Global, text: &[u8]) -> Result<String, Fail> {
     }
     match lex(alloc, text) {
         Ok(tokens) => line_of_tokens(alloc, &tokens),
-        Err(fault) => refused(alloc, &fault),
+        Err(fault) => Ok(refused(alloc, &fault)?),
     }
 }
 
@@ -114,7 +93,7 @@ pub fn refusal_of(alloc: Global, text: &str) -> Result<String, Fail> {
     }
     match check(alloc, text.as_bytes()) {
         Ok(()) => Ok(String::from_str(alloc, "none")?),
-        Err(fault) => refused(alloc, &fault),
+        Err(fault) => Ok(refused(alloc, &fault)?),
     }
 }
 

@@ -1,6 +1,5 @@
 //! Rows of manifests: each with its canonical text or the refusal.
 use crate::answers::{are_printed, printed, printed_behind};
-use std::alloc::Global;
 use std::test::Fail;
 
 const MANIFESTS_HAVE_THEIR_ITEMS: [(&str, &str); 15] = [
@@ -144,17 +143,9 @@ const CANONICAL: [&str; 14] = [
     r#"$n = "${ 'o' }${ $p }${ q-r[ 0 ] }${ $s }${ ' ' }${ 1 + 2 }" $t = 'it\'s \\'"#,
 ];
 
-fn joined(alloc: Global, pieces: &[&str]) -> Result<String, Fail> {
-    let mut text = String::new(alloc);
-    for piece in pieces {
-        text.push_str(piece)?;
-    }
-    Ok(text)
-}
-
 #[test]
 fn canonical_text_is_its_own(rt: HostRuntime) -> Result<(), Fail> {
-    let want = joined(rt.alloc(), &CANONICAL)?;
+    let want = CANONICAL.join(rt.alloc(), "")?;
     let first = printed(rt.alloc(), EVERY_FORM)?;
     assert_eq!(rt; first.as_str(), want.as_str());
     let second = printed(rt.alloc(), first.as_str())?;

@@ -3,26 +3,9 @@ use crate::answers::refusal_of;
 use std::alloc::Global;
 use std::process::Abort;
 use std::test::Fail;
+use test_rows::{Pieces, nested};
 
-fn push_times(text: &mut String, piece: &str, count: u32) -> Result<(), Fail> {
-    for _ in 0..count {
-        text.push_str(piece)?;
-    }
-    Ok(())
-}
-
-/// A front, a piece so many times, a middle, and another piece as many times.
-fn nested(alloc: Global, (front, open, middle, close): Pieces, count: u32) -> Result<String, Fail> {
-    let mut text = String::from_str(alloc, front)?;
-    push_times(&mut text, open, count)?;
-    text.push_str(middle)?;
-    push_times(&mut text, close, count)?;
-    Ok(text)
-}
-
-type Pieces = (&'static str, &'static str, &'static str, &'static str);
-
-const LIMITS: [(Pieces, u32, &str); 21] = [
+const LIMITS: [(Pieces, usize, &str); 21] = [
     (("$x = ", "[", "", "]"), 64, "none"),
     (("$x = ", "[", "", "]"), 65, "13 at 69: nesting"),
     (("$x = ", "[", "", ""), 64, "12 at 69: syntax"),
@@ -46,9 +29,9 @@ const LIMITS: [(Pieces, u32, &str); 21] = [
     (("User <| ", "(", "a==1", ")"), 64, "13 at 71: nesting"),
 ];
 
-fn are_refused(rt: &impl Abort, alloc: Global, rows: &[(Pieces, u32, &str)]) -> Result<(), Fail> {
+fn are_refused(rt: &impl Abort, alloc: Global, rows: &[(Pieces, usize, &str)]) -> Result<(), Fail> {
     for (pieces, count, want) in rows {
-        let text = nested(alloc, *pieces, *count)?;
+        let text = nested(alloc, pieces, *count)?;
         let found = refusal_of(alloc, text.as_str())?;
         assert_eq!(rt; found.as_str(), *want, "{text}");
     }

@@ -29,10 +29,7 @@ fn names_and_their_segments(rt: HostRuntime) -> Result<(), Fail> {
 #[test]
 fn limits_of_names(rt: HostRuntime) -> Result<(), Fail> {
     let alloc = rt.alloc();
-    let mut name = String::new(alloc);
-    for _ in 0..255 {
-        name.push('/')?;
-    }
+    let mut name = "/".repeat(alloc, 255)?;
     let found = segment(alloc, name.as_str()).ok().ok_or("a segment")?;
     assert_eq!(rt; found.as_str().len(), 765);
     name.push('/')?;

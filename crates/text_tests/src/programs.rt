@@ -1,11 +1,13 @@
 //! Programs as they are printed.
 
-use fs_lang::{Path, Program, Test};
+use fs_lang::{Path, PathFault, Program, Test};
 use res_models::put;
-use rh_base::{Boxed, Seq, Text};
+use rh_base::Boxed;
 use std::alloc::Global;
 use std::process::Abort;
 use std::test::Fail;
+use test_programs::{choice, program, programs, question};
+use test_rows::text;
 use tree_text::program_text;
 
 fn printed(rt: &impl Abort, alloc: Global, program: &Program) -> Vec<u8> {
@@ -16,102 +18,75 @@ fn printed(rt: &impl Abort, alloc: Global, program: &Program) -> Vec<u8> {
     bytes
 }
 
-fn path(rt: &impl Abort, alloc: Global, text: &str) -> Path {
-    Path::read(alloc, text).ok().expect(rt, "a path")
-}
-
-fn text(rt: &impl Abort, alloc: Global, text: &str) -> Text {
-    Text::from_string(String::from_str(alloc, text).ok().expect(rt, "memory"))
-}
-
-/// The test that is printed so, if it is one of a path.
-fn test(rt: &impl Abort, alloc: Global, word: &str) -> Test {
-    let p = path(rt, alloc, "/a\"b");
-    match word {
-        "file?" => Test::IsFile(p),
-        "link?" => Test::IsLink(p),
-        "dir?" => Test::IsDir(p),
-        "emptydir?" => Test::IsEmpty(p),
-        "none?" => Test::IsNone(p),
-        "false" => Test::False,
-        _ => Test::True,
+/// Each program is printed so.
+fn are_printed(rt: &impl Abort, alloc: Global, rows: &[(&str, &str)]) {
+    for (words, want) in rows {
+        let program = program(alloc, words).ok().expect(rt, "a program");
+        let found = printed(rt, alloc, &program);
+        assert_eq!(rt; found.as_slice(), want.as_bytes(), "{words}");
     }
-}
-
-fn boxed_test(rt: &impl Abort, alloc: Global, test: Test) -> Boxed<Test> {
-    Boxed::new(alloc, test).ok().expect(rt, "memory")
-}
-
-fn choice(rt: &impl Abort, alloc: Global, test: Test) -> Program {
-    let left = Boxed::new(alloc, Program::Id).ok().expect(rt, "memory");
-    let right = Boxed::new(alloc, Program::Err).ok().expect(rt, "memory");
-    Program::If(test, left, right)
 }
 
 #[test]
-fn tests_in_choices(rt: HostRuntime) -> Result<(), Fail> {
-    let alloc = rt.alloc();
-    for (word, want) in [
-        ("true", "if true then id else err"),
-        ("false", "if false then id else err"),
-        ("file?", r#"if file?("/a\"b") then id else err"#),
-        ("link?", r#"if link?("/a\"b") then id else err"#),
-        ("dir?", r#"if dir?("/a\"b") then id else err"#),
-        ("emptydir?", r#"if emptydir?("/a\"b") then id else err"#),
-        ("none?", r#"if none?("/a\"b") then id else err"#),
-    ] {
-        let program = choice(&rt, alloc, test(&rt, alloc, word));
-        let found = printed(&rt, alloc, &program);
-        assert_eq!(rt; found.as_slice(), want.as_bytes());
-    }
-    Ok(())
+fn tests_in_choices(rt: HostRuntime) {
+    let rows = [
+        ("if true: id, err", "if true then id else err"),
+        ("if false: id, err", "if false then id else err"),
+        (
+            r#"if file? /a"b: id, err"#,
+            r#"if file?("/a\"b") then id else err"#,
+        ),
+        (
+            r#"if link? /a"b: id, err"#,
+            r#"if link?("/a\"b") then id else err"#,
+        ),
+        (
+            r#"if dir? /a"b: id, err"#,
+            r#"if dir?("/a\"b") then id else err"#,
+        ),
+        (
+            r#"if emptydir? /a"b: id, err"#,
+            r#"if emptydir?("/a\"b") then id else err"#,
+        ),
+        (
+            r#"if none? /a"b: id, err"#,
+            r#"if none?("/a\"b") then id else err"#,
+        ),
+    ];
+    are_printed(&rt, rt.alloc(), &rows);
+}
+
+/// The denial of a question, or another one.
+fn denied_or(alloc: Global, denied: &str, other: &str) -> Result<Test, PathFault> {
+    let denied = Boxed::new(alloc, question(alloc, denied)?)?;
+    let none = Boxed::new(alloc, Test::Not(denied))?;
+    let other = question(alloc, other)?;
+    Ok(Test::Or(none, Boxed::new(alloc, other)?))
 }
 
 #[test]
 fn joined_tests(rt: HostRuntime) -> Result<(), Fail> {
     let alloc = rt.alloc();
-    let a = boxed_test(&rt, alloc, test(&rt, alloc, "true"));
-    let b = boxed_test(&rt, alloc, test(&rt, alloc, "dir?"));
-    let both = boxed_test(&rt, alloc, Test::And(a, b));
-    let none = boxed_test(&rt, alloc, Test::Not(both));
-    let c = boxed_test(&rt, alloc, test(&rt, alloc, "false"));
-    let program = choice(&rt, alloc, Test::Or(none, c));
+    let asked = denied_or(alloc, r#"true and dir? /a"b"#, "false")?;
+    let program = choice(alloc, asked, Program::Id, Program::Err)?;
     let found = printed(&rt, alloc, &program);
     let want = r#"if (not (true and dir?("/a\"b")) or false) then id else err"#;
     assert_eq!(rt; found.as_slice(), want.as_bytes());
     Ok(())
 }
 
-/// The program of a word.
-fn program(rt: &impl Abort, alloc: Global, word: &str) -> Program {
-    let p = path(rt, alloc, "/a");
-    match word {
-        "mkdir" => Program::Mkdir(p),
-        "creat" => Program::Creat(p, text(rt, alloc, "x\n")),
-        "link" => Program::Link(p, text(rt, alloc, "/b")),
-        "rm" => Program::Rm(p),
-        "cp" => Program::Cp(p, path(rt, alloc, "/b/c")),
-        "err" => Program::Err,
-        _ => Program::Id,
-    }
-}
-
 #[test]
-fn single_programs(rt: HostRuntime) -> Result<(), Fail> {
-    let alloc = rt.alloc();
-    for (word, want) in [
+fn single_programs(rt: HostRuntime) {
+    let rows = [
         ("id", "id"),
         ("err", "err"),
-        ("mkdir", r#"mkdir("/a")"#),
-        ("creat", r#"creat("/a","x\n")"#),
-        ("link", r#"link("/a","/b")"#),
-        ("rm", r#"rm("/a")"#),
-        ("cp", r#"cp("/a","/b/c")"#),
-    ] {
-        let found = printed(&rt, alloc, &program(&rt, alloc, word));
-        assert_eq!(rt; found.as_slice(), want.as_bytes());
-    }
-    Ok(())
+        ("mkdir /a", r#"mkdir("/a")"#),
+        ("creat /a x\n", r#"creat("/a","x\n")"#),
+        ("link /a /b", r#"link("/a","/b")"#),
+        ("rm /a", r#"rm("/a")"#),
+        ("cp /a /b/c", r#"cp("/a","/b/c")"#),
+    ];
+    are_printed(&rt, rt.alloc(), &rows);
 }
 
 #[test]
@@ -119,14 +94,13 @@ fn sequences(rt: HostRuntime) -> Result<(), Fail> {
     let alloc = rt.alloc();
     for (words, want) in [
         ("", "[]"),
-        ("rm", r#"[rm("/a")]"#),
-        ("rm link id", r#"[rm("/a"); link("/a","/b"); id]"#),
+        ("rm /a", r#"[rm("/a")]"#),
+        (
+            "rm /a | link /a /b | id",
+            r#"[rm("/a"); link("/a","/b"); id]"#,
+        ),
     ] {
-        let mut steps = Seq::new(alloc);
-        for word in words.split_whitespace() {
-            let step = program(&rt, alloc, word);
-            steps.push(step).ok().expect(&rt, "memory");
-        }
+        let steps = programs(alloc, words)?;
         let found = printed(&rt, alloc, &Program::Steps(steps));
         assert_eq!(rt; found.as_slice(), want.as_bytes());
     }
@@ -136,9 +110,8 @@ fn sequences(rt: HostRuntime) -> Result<(), Fail> {
 #[test]
 fn a_file_that_is_put(rt: HostRuntime) -> Result<(), Fail> {
     let alloc = rt.alloc();
-    let content = text(&rt, alloc, "server a");
-    let put = put(alloc, &path(&rt, alloc, "/etc/ntp.conf"), &content);
-    let program = put.ok().expect(&rt, "memory");
+    let path = Path::read(alloc, "/etc/ntp.conf")?;
+    let program = put(alloc, &path, &text(alloc, "server a")?)?;
     let found = printed(&rt, alloc, &program);
     let want =
         r#"if file?("/etc/ntp.conf") then [rm("/etc/ntp.conf"); creat("/etc/ntp.conf","server a")] else creat("/etc/ntp.conf","server a")"#;

@@ -1,10 +1,10 @@
 //! Trees from texts, and as they are written.
 
 use fs_lang::Tree;
-use rh_base::{Fault, Refusal};
 use std::alloc::Global;
 use std::process::Abort;
 use std::test::Fail;
+use test_rows::refused;
 use tree_text::{tree_from_json, tree_to_json};
 
 fn written(rt: &impl Abort, alloc: Global, tree: &Tree) -> Vec<u8> {
@@ -19,12 +19,10 @@ fn written(rt: &impl Abort, alloc: Global, tree: &Tree) -> Vec<u8> {
 fn answer(rt: &impl Abort, alloc: Global, text: &[u8]) -> Vec<u8> {
     match tree_from_json(alloc, text) {
         Ok(tree) => written(rt, alloc, &tree),
-        Err(Fault::Refused(refusal)) => {
-            let Refusal { number, at, name } = refusal;
-            let shown = format!(in alloc; "{number} at {at}: {}", name.as_str());
+        Err(fault) => {
+            let shown = refused(alloc, &fault);
             shown.ok().expect(rt, "memory").into_bytes()
         }
-        Err(Fault::Memory(_)) => Vec::new(alloc),
     }
 }
 
@@ -60,8 +58,13 @@ fn trees_that_are_read(rt: HostRuntime) -> Result<(), Fail> {
     Ok(())
 }
 
+fn is_refused(rt: &impl Abort, alloc: Global, text: &[u8], row: &str) {
+    let found = answer(rt, alloc, text);
+    assert_eq!(rt; found.as_slice(), b"62 at 0: tree".as_slice(), "{row}");
+}
+
 #[test]
-fn texts_of_another_shape(rt: HostRuntime) -> Result<(), Fail> {
+fn texts_of_another_shape(rt: HostRuntime) {
     let alloc = rt.alloc();
     for text in [
         "",
@@ -85,16 +88,13 @@ fn texts_of_another_shape(rt: HostRuntime) -> Result<(), Fail> {
         r#"{"/a":{"link":"/b","more":null}}"#,
         r#"{"/a":{"link":{"link":"/b"}}}"#,
     ] {
-        let found = answer(&rt, alloc, text.as_bytes());
-        assert_eq!(rt; found.as_slice(), b"62 at 0: tree".as_slice(), "{text}");
+        is_refused(&rt, alloc, text.as_bytes(), text);
     }
-    let found = answer(&rt, alloc, b"{\"/\xff\":null}");
-    assert_eq!(rt; found.as_slice(), b"62 at 0: tree".as_slice());
-    Ok(())
+    is_refused(&rt, alloc, b"{\"/\xff\":null}", "no text");
 }
 
 #[test]
-fn paths_that_are_refused(rt: HostRuntime) -> Result<(), Fail> {
+fn paths_that_are_refused(rt: HostRuntime) {
     let alloc = rt.alloc();
     for text in [
         r#"{"/":null}"#,
@@ -111,20 +111,14 @@ fn paths_that_are_refused(rt: HostRuntime) -> Result<(), Fail> {
         r#"{"/a":{"link":"/"},"/a/b":null}"#,
         r#"{"/a":null,"/a/b/c":"x"}"#,
     ] {
-        let found = answer(&rt, alloc, text.as_bytes());
-        assert_eq!(rt; found.as_slice(), b"62 at 0: tree".as_slice(), "{text}");
+        is_refused(&rt, alloc, text.as_bytes(), text);
     }
-    Ok(())
 }
 
 /// The text of a tree of one file, whose path has this many bytes.
 fn long_path(alloc: Global, bytes: usize) -> Result<String, Fail> {
-    let mut text = String::from_str(alloc, "{\"/")?;
-    for _ in 1..bytes {
-        text.push('s')?;
-    }
-    text.push_str("\":\"x\"}")?;
-    Ok(text)
+    let path = "s".repeat(alloc, bytes.saturating_sub(1))?;
+    Ok(format!(in alloc; "{{\"/{path}\":\"x\"}}")?)
 }
 
 #[test]
@@ -134,8 +128,7 @@ fn limits_of_paths(rt: HostRuntime) -> Result<(), Fail> {
     let found = answer(&rt, alloc, longest.as_bytes());
     assert_eq!(rt; found.as_slice(), longest.as_bytes());
     let longer = long_path(alloc, 1025)?;
-    let found = answer(&rt, alloc, longer.as_bytes());
-    assert_eq!(rt; found.as_slice(), b"62 at 0: tree".as_slice());
+    is_refused(&rt, alloc, longer.as_bytes(), "a longer path");
     Ok(())
 }
 
@@ -160,7 +153,6 @@ fn deep_trees(rt: HostRuntime) -> Result<(), Fail> {
     let found = answer(&rt, alloc, deepest.as_bytes());
     assert_eq!(rt; found.as_slice(), deepest.as_bytes());
     let deeper = nested(alloc, 33)?;
-    let found = answer(&rt, alloc, deeper.as_bytes());
-    assert_eq!(rt; found.as_slice(), b"62 at 0: tree".as_slice());
+    is_refused(&rt, alloc, deeper.as_bytes(), "a deeper path");
     Ok(())
 }

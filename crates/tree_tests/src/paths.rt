@@ -53,10 +53,7 @@ fn texts_that_are_no_paths(rt: HostRuntime) -> Result<(), Fail> {
 #[test]
 fn limits_of_paths(rt: HostRuntime) -> Result<(), Fail> {
     let alloc = rt.alloc();
-    let mut deep = String::new(alloc);
-    for _ in 0..32 {
-        deep.push_str("/s")?;
-    }
+    let mut deep = "/s".repeat(alloc, 32)?;
     assert_eq!(rt; path(&rt, alloc, deep.as_str()).segments().len(), 32);
     deep.push_str("/s")?;
     assert_eq!(rt;
@@ -64,9 +61,7 @@ fn limits_of_paths(rt: HostRuntime) -> Result<(), Fail> {
         Some(PathFault::Bad)
     );
     let mut long = String::from_str(alloc, "/")?;
-    for _ in 0..1023 {
-        long.push('s')?;
-    }
+    long.push_str("s".repeat(alloc, 1023)?.as_str())?;
     assert_eq!(rt; path(&rt, alloc, long.as_str()).segments().len(), 1);
     long.push('s')?;
     assert_eq!(rt;

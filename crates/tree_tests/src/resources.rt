@@ -2,13 +2,8 @@
 
 use fs_lang::{Path, Program, Test};
 use res_models::put;
-use rh_base::Text;
-use std::alloc::Global;
 use std::test::Fail;
-
-fn text(alloc: Global, value: &str) -> Result<Text, Fail> {
-    Ok(Text::from_string(String::from_str(alloc, value)?))
-}
+use test_rows::text;
 
 fn is_motd(path: &Path) -> bool {
     match path.segments() {

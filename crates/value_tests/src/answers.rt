@@ -5,27 +5,14 @@ use pp_eval::{Scopes, eval, facts_from_json};
 use pp_parser::parse;
 use pp_syntax::{Item, Manifest, Stmt, lex};
 use pp_value::{Value, show};
-use rh_base::{Fault, Refusal};
+use rh_base::Fault;
 use std::alloc::Global;
+use std::process::Abort;
 use std::test::Fail;
+use test_rows::refused;
 
 /// Facts with an opaque number, and a map in a map.
 pub const FACTS: &str = "{\"load\": 0.5, \"os\": {\"family\": \"Debian\"}}";
-
-fn line_of(alloc: Global, refusal: &Refusal) -> Result<String, Fail> {
-    let number = refusal.number;
-    let at = refusal.at;
-    let name = refusal.name.as_str();
-    Ok(format!(in alloc; "{number} at {at}: {name}")?)
-}
-
-/// A refusal, as `29 at 5: operand`.
-pub fn refused(alloc: Global, fault: &Fault) -> Result<String, Fail> {
-    match fault {
-        Fault::Refused(refusal) => line_of(alloc, refusal),
-        Fault::Memory(_) => Err(Fail::from("memory")),
-    }
-}
 
 pub fn kind_of(value: &Value) -> &'static str {
     match value {
@@ -57,10 +44,8 @@ pub fn manifest_of(alloc: Global, text: &str) -> Result<Manifest, Fault>
 }
 
 pub fn scopes_of(alloc: Global, facts: &str) -> Result<Scopes, Fail> {
-    match facts_from_json(alloc, facts.as_bytes()) {
-        Ok(facts) => Ok(Scopes::new(alloc, &facts)?),
-        Err(_) => Err(Fail::from("no facts")),
-    }
+    let facts = facts_from_json(alloc, facts.as_bytes())?;
+    Ok(Scopes::new(alloc, &facts)?)
 }
 
 /// Binds what an assignment names.
@@ -101,15 +86,15 @@ pub fn assigned(alloc: Global, facts: &str, text: &str) -> Result<String, Fail> 
     let mut scopes = scopes_of(alloc, facts)?;
     match assign_all(alloc, text, &mut scopes) {
         Ok(()) => result_of(alloc, &scopes),
-        Err(fault) => refused(alloc, &fault),
+        Err(fault) => Ok(refused(alloc, &fault)?),
     }
 }
 
-/// A text so many times.
-pub fn repeated(alloc: Global, piece: &str, times: usize) -> Result<String, Fail> {
-    let mut text = String::new(alloc);
-    for _ in 0..times {
-        text.push_str(piece)?;
+/// Each assignment to `$r`, under `FACTS`, gives the value beside it, or the refusal.
+pub fn are_assigned(rt: &impl Abort, alloc: Global, rows: &[(&str, &str)]) -> Result<(), Fail> {
+    for (text, want) in rows {
+        let found = assigned(alloc, FACTS, text)?;
+        assert_eq!(rt; found.as_str(), *want, "{text}");
     }
-    Ok(text)
+    Ok(())
 }

@@ -1,5 +1,4 @@
 //! Rows of class data: what the levels say of a parameter, and which texts are refused.
-use crate::answers::repeated;
 use pp_data::{Data, data_from_json};
 use pp_eval::facts_from_json;
 use pp_value::{Value, show};
@@ -10,20 +9,6 @@ use std::test::Fail;
 /// A level for machines in production, and one for all.
 const TWO_LEVELS: &str =
     "{\"levels\":[{\"when\":{\"env\":\"prod\"},\"values\":{\"c::p\":\"y\"}},{\"values\":{\"c::p\":\"z\"}}]}";
-
-fn data(alloc: Global, text: &str) -> Result<Data, Fail> {
-    match data_from_json(alloc, text.as_bytes()) {
-        Ok(data) => Ok(data),
-        Err(_) => Err(Fail::from("no data")),
-    }
-}
-
-fn facts(alloc: Global, text: &str) -> Result<Value, Fail> {
-    match facts_from_json(alloc, text.as_bytes()) {
-        Ok(facts) => Ok(facts),
-        Err(_) => Err(Fail::from("no facts")),
-    }
-}
 
 /// A value as it is shown, or `none`.
 fn shown(alloc: Global, found: &Option<Value>) -> Result<String, Fail> {
@@ -40,16 +25,16 @@ fn looked_up(alloc: Global, data: &Data, facts: &Value, class: &str) -> Result<S
 }
 
 /// What a text of data has for the parameter `p` of a class, under a text of facts.
-fn found(alloc: Global, text: &str, facts_text: &str, class: &str) -> Result<String, Fail> {
-    let data = data(alloc, text)?;
-    let facts = facts(alloc, facts_text)?;
+fn found(alloc: Global, text: &str, facts: &str, class: &str) -> Result<String, Fail> {
+    let data = data_from_json(alloc, text.as_bytes())?;
+    let facts = facts_from_json(alloc, facts.as_bytes())?;
     looked_up(alloc, &data, &facts, class)
 }
 
 /// The same of a copy of the data.
-fn found_in_copy(alloc: Global, text: &str, facts_text: &str) -> Result<String, Fail> {
-    let copy = data(alloc, text)?.copy(alloc)?;
-    let facts = facts(alloc, facts_text)?;
+fn found_in_copy(alloc: Global, text: &str, facts: &str) -> Result<String, Fail> {
+    let copy = data_from_json(alloc, text.as_bytes())?.copy(alloc)?;
+    let facts = facts_from_json(alloc, facts.as_bytes())?;
     looked_up(alloc, &copy, &facts, "c")
 }
 
@@ -191,7 +176,7 @@ fn a_copy_has_the_same(rt: HostRuntime) -> Result<(), Fail> {
 
 #[test]
 fn facts_that_are_no_map_have_no_keys(rt: HostRuntime) -> Result<(), Fail> {
-    let levels = data(rt.alloc(), TWO_LEVELS)?;
+    let levels = data_from_json(rt.alloc(), TWO_LEVELS.as_bytes())?;
     assert_eq!(rt;
         looked_up(rt.alloc(), &levels, &Value::Undef, "c")?.as_str(),
         "z"
@@ -234,8 +219,8 @@ fn facts_are_a_json_object(rt: HostRuntime) {
 
 /// Whether facts are refused that nest so many lists in their map.
 fn nested_is_refused(alloc: Global, lists: usize) -> Result<bool, Fail> {
-    let open = repeated(alloc, "[", lists)?;
-    let close = repeated(alloc, "]", lists)?;
+    let open = "[".repeat(alloc, lists)?;
+    let close = "]".repeat(alloc, lists)?;
     let text = format!(in alloc; "{{\"a\":{open}{close}}}")?;
     Ok(refused(alloc, text.as_bytes()) == 60)
 }
@@ -250,8 +235,8 @@ fn facts_nest_a_few_levels(rt: HostRuntime) -> Result<(), Fail> {
 
 /// Whether class data are refused in which a value nests so many lists; four levels stand around it.
 fn nested_data_are_refused(alloc: Global, lists: usize) -> Result<bool, Fail> {
-    let open = repeated(alloc, "[", lists)?;
-    let close = repeated(alloc, "]", lists)?;
+    let open = "[".repeat(alloc, lists)?;
+    let close = "]".repeat(alloc, lists)?;
     let text = format!(in alloc; "{{\"levels\":[{{\"values\":{{\"c::p\":{open}{close}}}}}]}}")?;
     Ok(is_refused(alloc, text.as_bytes()))
 }

@@ -1,5 +1,5 @@
 //! Rows of expressions: each an assignment to `$r`, and its value or refusal.
-use crate::answers::{FACTS, assigned};
+use crate::answers::{are_assigned, assigned};
 use std::test::Fail;
 
 #[test]
@@ -57,10 +57,7 @@ fn operators_go_by_their_tables(rt: HostRuntime) -> Result<(), Fail> {
         ),
         ("$r = 4294967296 * 2147483648", "33 at 5: integer"),
     ];
-    for (text, want) in rows {
-        assert_eq!(rt; assigned(rt.alloc(), FACTS, text)?.as_str(), want, "{text}");
-    }
-    Ok(())
+    are_assigned(&rt, rt.alloc(), &rows)
 }
 
 /// Operations that have no result for these operands.
@@ -84,10 +81,7 @@ const NO_RESULT: [(&str, &str); 15] = [
 
 #[test]
 fn other_operands_are_refused(rt: HostRuntime) -> Result<(), Fail> {
-    for (text, want) in NO_RESULT {
-        assert_eq!(rt; assigned(rt.alloc(), FACTS, text)?.as_str(), want, "{text}");
-    }
-    Ok(())
+    are_assigned(&rt, rt.alloc(), &NO_RESULT)
 }
 
 #[test]
@@ -108,10 +102,7 @@ fn truths_are_asked_from_the_left(rt: HostRuntime) -> Result<(), Fail> {
         ("$r = !$load", "29 at 5: operand"),
         ("$r = !(-(1) == -1)", "truth false"),
     ];
-    for (text, want) in rows {
-        assert_eq!(rt; assigned(rt.alloc(), FACTS, text)?.as_str(), want, "{text}");
-    }
-    Ok(())
+    are_assigned(&rt, rt.alloc(), &rows)
 }
 
 #[test]
@@ -135,10 +126,7 @@ fn members_are_found(rt: HostRuntime) -> Result<(), Fail> {
         ("$r = $z[$y]", "20 at 5: $z"),
         ("$r = $facts['load']", "opaque"),
     ];
-    for (text, want) in rows {
-        assert_eq!(rt; assigned(rt.alloc(), FACTS, text)?.as_str(), want, "{text}");
-    }
-    Ok(())
+    are_assigned(&rt, rt.alloc(), &rows)
 }
 
 #[test]
@@ -164,10 +152,7 @@ fn the_first_equal_option_is_chosen(rt: HostRuntime) -> Result<(), Fail> {
         ),
         ("$r = 'a' ? { 'a' => 1, $load => 2 }", "number 1"),
     ];
-    for (text, want) in rows {
-        assert_eq!(rt; assigned(rt.alloc(), FACTS, text)?.as_str(), want, "{text}");
-    }
-    Ok(())
+    are_assigned(&rt, rt.alloc(), &rows)
 }
 
 #[test]
@@ -195,10 +180,7 @@ fn texts_maps_and_references_are_made(rt: HostRuntime) -> Result<(), Fail> {
         ("$r = File[['/a', 1], $z]", "29 at 10: operand"),
         ("$x = 1 $x = 2", "21 at 7: $x"),
     ];
-    for (text, want) in rows {
-        assert_eq!(rt; assigned(rt.alloc(), FACTS, text)?.as_str(), want, "{text}");
-    }
-    Ok(())
+    are_assigned(&rt, rt.alloc(), &rows)
 }
 
 #[test]

@@ -1,13 +1,14 @@
 //! Rows at the limits of one value: its size and its depth.
-use crate::answers::{FACTS, assigned, repeated};
+use crate::answers::{FACTS, assigned};
 use pp_value::{Value, ValueFault, add, size};
 use rh_base::{Seq, Text};
 use std::alloc::Global;
 use std::test::Fail;
+use test_rows::boxes;
 
 /// The kind of the value that is assigned behind `$a`, a text of so many bytes, or its refusal.
 fn behind_long(alloc: Global, bytes: usize, text: &str) -> Result<String, Fail> {
-    let letters = repeated(alloc, "x", bytes)?;
+    let letters = "x".repeat(alloc, bytes)?;
     let text = format!(in alloc; "$a = '{}' {}", letters.as_str(), text)?;
     let answer = assigned(alloc, FACTS, text.as_str())?;
     kind_in(alloc, answer.as_str())
@@ -60,7 +61,7 @@ fn a_value_has_a_greatest_size(rt: HostRuntime) -> Result<(), Fail> {
 
 /// A list of one text of so many bytes.
 fn list_of(alloc: Global, bytes: usize) -> Result<Value, Fail> {
-    let text = repeated(alloc, "x", bytes)?;
+    let text = "x".repeat(alloc, bytes)?;
     let mut items = Seq::new(alloc);
     items.push(Value::Str(Text::from_string(text)))?;
     Ok(Value::List(items))
@@ -85,18 +86,10 @@ fn a_sum_has_a_greatest_size(rt: HostRuntime) -> Result<(), Fail> {
     Ok(())
 }
 
-/// The kind of a list of lists of so many levels, or its refusal.
+/// The kind of what a list of lists of so many levels is assigned to last, or its refusal.
 fn nested(alloc: Global, levels: usize, last: &str) -> Result<String, Fail> {
-    let mut text = String::from_str(alloc, "$a1 = [] ")?;
-    for level in 1..levels {
-        let line = format!(in alloc; "$a{} = [$a{}] ", level + 1, level)?;
-        text.push_str(line.as_str())?;
-    }
-    outcome_of(alloc, text.as_str(), levels, last)
-}
-
-fn outcome_of(alloc: Global, text: &str, levels: usize, last: &str) -> Result<String, Fail> {
-    let text = format!(in alloc; "{text}$b = $a{levels} {last}")?;
+    let lists = boxes(alloc, levels)?;
+    let text = format!(in alloc; "{lists}$b = $a{levels} {last}")?;
     let answer = assigned(alloc, FACTS, text.as_str())?;
     kind_in(alloc, answer.as_str())
 }

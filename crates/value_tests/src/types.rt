@@ -1,13 +1,14 @@
 //! Rows of types: a parameter's type, its default, and whether that fits.
 ghost use Rattle.std.specs.Prelude.{◌<◌, ◌^◌, length};
 
-use crate::answers::{FACTS, manifest_of, refused, scopes_of};
+use crate::answers::{FACTS, manifest_of, scopes_of};
 use pp_eval::{Scopes, eval};
 use pp_syntax::{Item, Param};
 use pp_value::fits;
 use rh_base::Fault;
 use std::alloc::Global;
 use std::test::Fail;
+use test_rows::refused;
 
 fn fits_itself(alloc: Global, param: &Param, scopes: &Scopes) -> Result<&'static str, Fault> {
     let (Some(kind), Some(value)) = (&param.kind, &param.default) else {
@@ -46,7 +47,7 @@ fn answer(alloc: Global, kind: &str, value: &str) -> Result<String, Fail> {
 fn told(alloc: Global, answer: Result<&'static str, Fault>) -> Result<String, Fail> {
     match answer {
         Ok(word) => Ok(String::from_str(alloc, word)?),
-        Err(fault) => refused(alloc, &fault),
+        Err(fault) => Ok(refused(alloc, &fault)?),
     }
 }
 

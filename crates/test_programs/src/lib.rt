@@ -1,0 +1,10 @@
+//! Programs in words, as the tables of several test crates have them.
+#![tactic(auto)]
+
+mod parts;
+mod questions;
+mod words;
+
+pub use parts::choice;
+pub use questions::question;
+pub use words::{program, programs};

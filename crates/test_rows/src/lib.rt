@@ -1,0 +1,8 @@
+//! What the tables of several test crates share: how a refusal is shown, and texts of any size.
+#![tactic(auto)]
+
+mod answers;
+mod texts;
+
+pub use answers::{refused, text};
+pub use texts::{PIGEONS, Pieces, boxes, doubled, nested, titles};
