@@ -1,6 +1,6 @@
 //! Catalogs, graphs and programs that are asked for, over the files beside a manifest.
 
-use crate::common::{compare, run_over};
+use crate::common::{ONE, TWO, compare, run_over};
 use std::alloc::Global;
 use std::process::Abort;
 use std::test::Fail;
@@ -15,9 +15,6 @@ const FACTS: &str = r#"{"os":{"family":"Debian"},"load":0.5}"#;
 
 const DATA: &str =
     r#"{"levels":[{"when":{"os":{"family":"debian"}},"values":{"ntp::servers":["c"]}}]}"#;
-
-/// What is told of two resources of which pruning keeps none.
-const TWO: &str = "resources 2\npruned 2\ndeterministic\nidempotent\nsucceeds from some tree\n";
 
 /// What is told of two resources that pruning keeps.
 const NONE_PRUNED: &str =
@@ -127,7 +124,7 @@ const ROWS: [Row; 28] = [
     (
         &["site.pp"],
         "file { '/a': ensure => link, target => '/b' }",
-        "resources 1\npruned 1\ndeterministic\nidempotent\nsucceeds from some tree\n",
+        ONE,
     ),
     (
         &["site.pp"],

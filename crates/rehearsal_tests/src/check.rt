@@ -2,22 +2,7 @@
 
 use crate::common::{compare, run};
 use std::test::Fail;
-
-const PIGEONS: &str = "proofs 1
-p cnf 6 9
-1 2 0
-3 4 0
-5 6 0
--1 -3 0
--1 -5 0
--3 -5 0
--2 -4 0
--2 -6 0
--4 -6 0
-log 2
--1 0 9 3 -6 2 -4 4 3 5 5 0
-0 6 3 -5 2 -3 8 6 7 4 1 -2 10 1 0
-";
+use test_rows::PIGEONS;
 
 #[test]
 fn proofs_that_are_verified(rt: HostRuntime) -> Result<(), Fail> {

@@ -6,6 +6,14 @@ use std::alloc::{AllocError, Global};
 use std::process::Abort;
 use std::test::Fail;
 
+/// What is told of nothing, and of one and two resources of which pruning keeps none.
+pub const NONE: &str =
+    "resources 0\npruned 0\ndeterministic\nidempotent\nsucceeds from some tree\n";
+
+pub const ONE: &str = "resources 1\npruned 1\ndeterministic\nidempotent\nsucceeds from some tree\n";
+
+pub const TWO: &str = "resources 2\npruned 2\ndeterministic\nidempotent\nsucceeds from some tree\n";
+
 /// What a run ended with: the status, and what was written to out and err.
 #[derive(Drop)]
 pub struct Told {

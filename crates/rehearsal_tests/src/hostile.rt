@@ -1,51 +1,33 @@
 //! Manifests and texts of someone who means harm, and devices that fail.
 
-use crate::common::{Failing, Told, compare, run, run_files_failing};
+use crate::common::{Failing, NONE, Told, compare, run, run_files_failing};
 use std::alloc::Global;
 use std::process::Abort;
 use std::test::Fail;
+use test_rows::{Pieces, boxes, doubled, nested, titles};
 
-const NONE: &str = "resources 0\npruned 0\ndeterministic\nidempotent\nsucceeds from some tree\n";
-
-/// A text that stands so often between two others.
-type Nested = (
-    &'static str,
-    &'static str,
-    usize,
-    &'static str,
-    &'static str,
-    usize,
-);
-
-/// What is in front, what is repeated and how often, what is behind, what is repeated there and how often; with the status and
-/// what is told.
-const NESTED: [(Nested, u8, &str); 4] = [
-    (("$x = ", "[", 64, "", "]", 64), 0, NONE),
+/// What nests and how often, with the status and what is told.
+const NESTED: [(Pieces, usize, u8, &str); 4] = [
+    (("$x = ", "[", "", "]"), 64, 0, NONE),
     (
-        ("$x = ", "[", 65, "", "]", 65),
+        ("$x = ", "[", "", "]"),
+        65,
         4,
         "refused 13 at 69: nesting\n",
     ),
     (
-        ("$x = ", "!", 65, "true", "", 0),
+        ("$x = ", "!", "true", ""),
+        65,
         4,
         "refused 13 at 69: nesting\n",
     ),
     (
-        ("$x = $y", "[0]", 65, "", "", 0),
+        ("$x = $y", "[0]", "", ""),
+        65,
         4,
         "refused 13 at 199: nesting\n",
     ),
 ];
-
-fn repeated(alloc: Global, nested: &Nested) -> Result<String, Fail> {
-    let (front, open, opens, middle, close, closes) = *nested;
-    let mut text = String::from_str(alloc, front)?;
-    text.push_str(open.repeat(alloc, opens)?.as_str())?;
-    text.push_str(middle)?;
-    text.push_str(close.repeat(alloc, closes)?.as_str())?;
-    Ok(text)
-}
 
 fn told_of(alloc: Global, manifest: &str) -> Result<Told, Fail> {
     run(alloc, &["site.pp"], manifest.as_bytes())
@@ -62,8 +44,8 @@ fn is_told(rt: &impl Abort, told: &Told, status: u8, text: &str, row: &str) {
 
 #[test]
 fn texts_that_nest(rt: HostRuntime) -> Result<(), Fail> {
-    for (nested, status, text) in NESTED {
-        let manifest = repeated(rt.alloc(), &nested)?;
+    for (pieces, count, status, text) in NESTED {
+        let manifest = nested(rt.alloc(), &pieces, count)?;
         let told = told_of(rt.alloc(), manifest.as_str())?;
         is_told(&rt, &told, status, text, manifest.as_str());
     }
@@ -93,75 +75,38 @@ fn definitions_that_declare_themselves(rt: HostRuntime) -> Result<(), Fail> {
     Ok(())
 }
 
-/// So many texts of which each is twice the one ahead of it, and where the last one stands.
-fn doubled(alloc: Global, times: u32) -> Result<(String, usize), Fail> {
-    let mut manifest = String::from_str(alloc, "$a0 = 'xxxxxxxx'")?;
-    let mut at = 0;
-    for j in 0..times {
-        let i = j + 1;
-        let start = format!(in alloc; " $a{i} = ")?;
-        manifest.push_str(start.as_str())?;
-        at = manifest.len();
-        let text = format!(in alloc; "\"${{a{j}}}${{a{j}}}\"")?;
-        manifest.push_str(text.as_str())?;
-    }
-    Ok((manifest, at))
-}
-
 #[test]
 fn texts_that_grow(rt: HostRuntime) -> Result<(), Fail> {
-    let (manifest, at) = doubled(rt.alloc(), 15)?;
-    let line = format!(in rt.alloc(); "refused 32 at {at}: value\n")?;
-    let told = told_of(rt.alloc(), manifest.as_str())?;
+    let alloc = rt.alloc();
+    let at = doubled(alloc, "xxxxxxxx", 14)?.len() + "$a15 = ".len();
+    let manifest = doubled(alloc, "xxxxxxxx", 15)?;
+    let line = format!(in alloc; "refused 32 at {at}: value\n")?;
+    let told = told_of(alloc, manifest.as_str())?;
     compare(&rt, &told, 4, "", line.as_str(), "texts that grow");
     Ok(())
-}
-
-/// So many titles, in a list.
-fn titles(alloc: Global, count: u32) -> Result<String, Fail> {
-    let mut list = String::from_str(alloc, "['/0'")?;
-    for i in 1..count {
-        let title = format!(in alloc; ", '/{i}'")?;
-        list.push_str(title.as_str())?;
-    }
-    list.push(']')?;
-    Ok(list)
 }
 
 /// Each of 128 files has a text of 131,072 bytes, which is 1 too large.
 #[test]
 fn attributes_that_grow(rt: HostRuntime) -> Result<(), Fail> {
     let alloc = rt.alloc();
-    let (values, _) = doubled(alloc, 14)?;
+    let values = doubled(alloc, "xxxxxxxx", 14)?;
     let titles = titles(alloc, 128)?;
-    let manifest = format!(in alloc; "{values} @file {{ {titles}: content => $a14 }}")?;
-    let at = values.len() + " @file { ".len();
+    let manifest = format!(in alloc; "{values}@file {{ {titles}: content => $a14 }}")?;
+    let at = values.len() + "@file { ".len();
     let line = format!(in alloc; "refused 32 at {at}: attributes\n")?;
     let told = told_of(alloc, manifest.as_str())?;
     compare(&rt, &told, 4, "", line.as_str(), "attributes that grow");
     Ok(())
 }
 
-/// So many lists, each in the next one, and where the last one stands.
-fn boxes(alloc: Global, count: u32) -> Result<(String, usize), Fail> {
-    let mut manifest = String::from_str(alloc, "$a1 = []")?;
-    let mut at = 0;
-    for i in 1..count {
-        let start = format!(in alloc; " $a{} = ", i + 1)?;
-        manifest.push_str(start.as_str())?;
-        at = manifest.len();
-        let list = format!(in alloc; "[$a{i}]")?;
-        manifest.push_str(list.as_str())?;
-    }
-    Ok((manifest, at))
-}
-
 #[test]
 fn lists_that_grow(rt: HostRuntime) -> Result<(), Fail> {
-    let (manifest, _) = boxes(rt.alloc(), 1_000)?;
-    let told = told_of(rt.alloc(), manifest.as_str())?;
+    let fits = boxes(rt.alloc(), 1_000)?;
+    let told = told_of(rt.alloc(), fits.as_str())?;
     compare(&rt, &told, 0, NONE, "", "lists that may be");
-    let (manifest, at) = boxes(rt.alloc(), 1_001)?;
+    let at = fits.len() + "$a1001 = ".len();
+    let manifest = boxes(rt.alloc(), 1_001)?;
     let line = format!(in rt.alloc(); "refused 32 at {at}: value\n")?;
     let told = told_of(rt.alloc(), manifest.as_str())?;
     compare(&rt, &told, 4, "", line.as_str(), "lists that grow");
@@ -208,25 +153,11 @@ fn counts_that_are_only_stated(rt: HostRuntime) -> Result<(), Fail> {
     Ok(())
 }
 
-const REPLAY: [&str; 11] = [
-    "--ask",
-    "replay",
-    "--facts",
-    "facts",
-    "--packages",
-    "listing",
-    "--tree",
-    "tree",
-    "--order",
-    "order",
-    "site.pp",
-];
-
 const WITH_DATA: [&str; 13] = [
-    "--ask",
-    "replay",
     "--data",
     "data",
+    "--ask",
+    "replay",
     "--facts",
     "facts",
     "--packages",
@@ -270,7 +201,7 @@ fn ends_at(alloc: Global, rt: &impl Abort, words: &[&str], read: &Read) -> Resul
 #[test]
 fn reads_that_fail(rt: HostRuntime) -> Result<(), Fail> {
     for read in READS {
-        ends_at(rt.alloc(), &rt, &REPLAY, &read)?;
+        ends_at(rt.alloc(), &rt, &WITH_DATA[2..], &read)?;
     }
     for read in READS_WITH_DATA {
         ends_at(rt.alloc(), &rt, &WITH_DATA, &read)?;

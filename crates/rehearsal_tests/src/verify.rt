@@ -1,6 +1,6 @@
 //! Manifests that are judged, and manifests that are refused.
 
-use crate::common::{Told, compare, run};
+use crate::common::{NONE, ONE, TWO, Told, compare, run};
 use std::alloc::Global;
 use std::test::Fail;
 
@@ -9,28 +9,24 @@ fn told_of(alloc: Global, manifest: &[u8]) -> Result<Told, Fail> {
     run(alloc, &["site.pp"], manifest)
 }
 
-const ONE: &str = "resources 1\npruned 1\ndeterministic\nidempotent\nsucceeds from some tree\n";
-
 #[test]
 fn manifests_that_are_judged(rt: HostRuntime) -> Result<(), Fail> {
-    let none = "resources 0\npruned 0\ndeterministic\nidempotent\nsucceeds from some tree\n";
-    let two = "resources 2\npruned 2\ndeterministic\nidempotent\nsucceeds from some tree\n";
     let rows: [(&str, &str); 7] = [
-        ("", none),
-        (" \n", none),
+        ("", NONE),
+        (" \n", NONE),
         (
             "# one file\nfile { '/etc/motd': /* its text */ content => \"hi\" }",
             ONE,
         ),
-        ("file { '/a': content => 'x'; '/b': content => 'y'; }", two),
+        ("file { '/a': content => 'x'; '/b': content => 'y'; }", TWO),
         ("file { '/etc/motd': content => 'hi' }", ONE),
         (
             "file{'/a':content=>'x',}file { '/b\\'\\\\c': content => '\\n' , } ",
-            two,
+            TWO,
         ),
         (
             "file { '/a/b': content => '' } file { '/a/c': content => '' }",
-            two,
+            TWO,
         ),
     ];
     for (manifest, report) in rows {
@@ -40,20 +36,11 @@ fn manifests_that_are_judged(rt: HostRuntime) -> Result<(), Fail> {
     Ok(())
 }
 
-/// What is told of two resources of which pruning keeps none.
-const TWO: &str = "resources 2\npruned 2\ndeterministic\nidempotent\nsucceeds from some tree\n";
-
 #[test]
 fn orders_that_do_not_matter(rt: HostRuntime) -> Result<(), Fail> {
     let rows: [(&str, &str); 8] = [
-        (
-            "$x = 010",
-            "resources 0\npruned 0\ndeterministic\nidempotent\nsucceeds from some tree\n",
-        ),
-        (
-            "@file { '/v': content => 'x' }",
-            "resources 0\npruned 0\ndeterministic\nidempotent\nsucceeds from some tree\n",
-        ),
+        ("$x = 010", NONE),
+        ("@file { '/v': content => 'x' }", NONE),
         (
             "@file { '/v': content => 'x' } File <| content == 'x' |>",
             ONE,
@@ -204,21 +191,6 @@ fn bytes_that_are_no_text(rt: HostRuntime) -> Result<(), Fail> {
         refusal_of(rt.alloc(), b"file { '/a': content => '\xff' }")?.as_str(),
         "refused 10 at 25: utf8\n"
     );
-    Ok(())
-}
-
-#[test]
-fn brackets_that_nest_too_deep(rt: HostRuntime) -> Result<(), Fail> {
-    let alloc = rt.alloc();
-    for (depth, line) in [(65, "refused 13 at 69: nesting\n")] {
-        let mut manifest = String::from_str(alloc, "$x = ")?;
-        for bracket in ["[", "]"] {
-            for _ in 0..depth {
-                manifest.push_str(bracket)?;
-            }
-        }
-        assert_eq!(rt; refusal_of(alloc, manifest.as_bytes())?.as_str(), line);
-    }
     Ok(())
 }
 

@@ -1,12 +1,10 @@
 //! Words that are taken and words that are refused.
 
-use crate::common::{compare, run};
+use crate::common::{NONE, compare, run};
 use std::test::Fail;
 
 const USAGE: &str =
     "usage: rehearsal [--facts F] [--packages P] [--node N] [--conflicts C] [--ask A] [--tree T] [--order O] [--workload N] [--data D] [INPUT]\n";
-
-const NONE: &str = "resources 0\npruned 0\ndeterministic\nidempotent\nsucceeds from some tree\n";
 
 #[test]
 fn words_that_ask_to_verify(rt: HostRuntime) -> Result<(), Fail> {
