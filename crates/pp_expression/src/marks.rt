@@ -7,7 +7,7 @@ ghost use Rattle.pp_readers.specs.Parsed.{Reads, Sees};
 ghost use Rattle.pp_readers.specs.Expressions.{begins_word, prefixes};
 
 use pp_readers::{Misread, Read};
-use pp_syntax::{Kind, Op, Token};
+use pp_syntax::{Kind, Op, Token, op_among};
 use rh_base::{NoMemory, Seq};
 use std::alloc::Global;
 
@@ -71,41 +71,24 @@ pub fn begins_word(tokens: &[Token<'_>], from: usize) -> bool
 fn sign_operator(text: &str) -> Option<Op>
     ensures { result ≡ sign_operator text.now }
 {
-    if text == "<" {
-        Some(Op::Less)
-    } else if text == ">" {
-        Some(Op::Greater)
-    } else if text == "<=" {
-        Some(Op::AtMost)
-    } else if text == ">=" {
-        Some(Op::AtLeast)
-    } else if text == "==" {
-        Some(Op::Same)
-    } else if text == "!=" {
-        Some(Op::NotSame)
-    } else if text == "+" {
-        Some(Op::Plus)
-    } else if text == "-" {
-        Some(Op::Minus)
-    } else if text == "*" {
-        Some(Op::Times)
-    } else {
-        None
-    }
+    let signs = [
+        Op::Less,
+        Op::Greater,
+        Op::AtMost,
+        Op::AtLeast,
+        Op::Same,
+        Op::NotSame,
+        Op::Plus,
+        Op::Minus,
+        Op::Times,
+    ];
+    op_among(&signs, text)
 }
 
 fn keyword_operator(text: &str) -> Option<Op>
     ensures { result ≡ keyword_operator text.now }
 {
-    if text == "or" {
-        Some(Op::Or)
-    } else if text == "and" {
-        Some(Op::And)
-    } else if text == "in" {
-        Some(Op::In)
-    } else {
-        None
-    }
+    op_among(&[Op::Or, Op::And, Op::In], text)
 }
 
 fn operator_of(kind: Kind, text: &str) -> Option<Op>
@@ -134,13 +117,7 @@ pub fn infix_at(level: u32, tokens: &[Token<'_>], from: usize) -> Option<(Op, us
 fn sign_prefix(text: &str) -> Option<Op>
     ensures { result ≡ sign_prefix text.now }
 {
-    if text == "!" {
-        Some(Op::Not)
-    } else if text == "-" {
-        Some(Op::Minus)
-    } else {
-        None
-    }
+    op_among(&[Op::Not, Op::Minus], text)
 }
 
 fn prefix_of(kind: Kind, text: &str) -> Option<Op>

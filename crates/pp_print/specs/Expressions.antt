@@ -7,8 +7,7 @@ use Rattle.pp_syntax.specs.declared.tree.Expr.{Expr}
 use Rattle.pp_syntax.specs.declared.tree.Form.{Form, Form-F, fold-Form}
 use Rattle.pp_syntax.specs.declared.tree.Form.TheOpen as form
 use Rattle.pp_syntax.specs.declared.tree.Op.{Op}
-use Rattle.pp_syntax.specs.declared.tree.Op.TheVariants as op
-use Rattle.pp_syntax.specs.Derivation.{level_of}
+use Rattle.pp_syntax.specs.Derivation.{level_of, op_symbol, op_kind}
 use Rattle.pp_print.specs.declared.words.Word.{Word}
 use Rattle.pp_print.specs.Words.{word, sign, keyword, quoted, number, variable, in_parens, in_braces, in_tight, in_loose, listed}
 
@@ -37,19 +36,7 @@ option_by f prelude.None = keyword (codes "default")
 option_by f (prelude.Some x) = f x
 
 abbrev pub operator : Op → List Word
-operator op.Or = keyword (codes "or")
-operator op.And = keyword (codes "and")
-operator op.Less = sign (codes "<")
-operator op.Greater = sign (codes ">")
-operator op.AtMost = sign (codes "<=")
-operator op.AtLeast = sign (codes ">=")
-operator op.Same = sign (codes "==")
-operator op.NotSame = sign (codes "!=")
-operator op.Plus = sign (codes "+")
-operator op.Minus = sign (codes "-")
-operator op.Times = sign (codes "*")
-operator op.In = keyword (codes "in")
-operator op.Not = sign (codes "!")
+operator o = word (op_kind o) (op_symbol o)
 
 -- the level of a chain with these operators
 abbrev pub level_in : {X : Type 0} → List (Op × X) → ℕ

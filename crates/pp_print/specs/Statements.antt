@@ -11,7 +11,6 @@ use Rattle.pp_syntax.specs.declared.tree.Search.TheOpen as search
 use Rattle.pp_syntax.specs.declared.tree.Operand.{Operand}
 use Rattle.pp_syntax.specs.declared.tree.Operand.TheVariants as operand
 use Rattle.pp_syntax.specs.declared.tree.Arrow.{Arrow}
-use Rattle.pp_syntax.specs.declared.tree.Arrow.TheVariants as arrow
 use Rattle.pp_syntax.specs.declared.tree.Stmt.{Stmt, Stmt-F, fold-Stmt}
 use Rattle.pp_syntax.specs.declared.tree.Stmt.TheOpen as stmt
 use Rattle.pp_syntax.specs.declared.tree.Stmt.TheOpen.{Arm-F, CaseArm-F}
@@ -23,7 +22,7 @@ use Rattle.pp_syntax.specs.declared.tree.Param.{Param}
 use Rattle.pp_syntax.specs.declared.tree.Item.{Item}
 use Rattle.pp_syntax.specs.declared.tree.Item.TheVariants as item
 use Rattle.pp_syntax.specs.declared.tree.Manifest.{Manifest}
-use Rattle.pp_syntax.specs.Statements.{word_of}
+use Rattle.pp_syntax.specs.Statements.{word_of, arrow_symbol}
 use Rattle.pp_print.specs.declared.words.Word.{Word}
 use Rattle.pp_print.specs.Words.{word, sign, keyword, comma, quoted, number, named, in_parens, in_braces, in_tight, in_loose, listed}
 use Rattle.pp_print.specs.Expressions.{printed, expr_words, at_level, option_by}
@@ -83,10 +82,7 @@ operand_words (operand.Collect at name s) = word kind.Ref name ++ (sign (codes "
 operand_words (operand.Named xs) = references xs
 
 abbrev pub arrow_words : Arrow → List Word
-arrow_words arrow.Before = sign (codes "->")
-arrow_words arrow.Notify = sign (codes "~>")
-arrow_words arrow.After = sign (codes "<-")
-arrow_words arrow.Follow = sign (codes "<~")
+arrow_words a = sign (arrow_symbol a)
 
 -- arrows, each with the operand behind it
 abbrev pub links : List Arrow → List Operand → List Word

@@ -67,21 +67,7 @@ fn is_indexable(e: &Expr) -> bool
 fn operator(words: &mut Words, op: Op) -> Result<(), NoMemory>
     ensures { OnOk result (words.new ≡ words.old ++ operator op) }
 {
-    match op {
-        Op::Or => words.keyword("or"),
-        Op::And => words.keyword("and"),
-        Op::Less => words.sign("<"),
-        Op::Greater => words.sign(">"),
-        Op::AtMost => words.sign("<="),
-        Op::AtLeast => words.sign(">="),
-        Op::Same => words.sign("=="),
-        Op::NotSame => words.sign("!="),
-        Op::Plus => words.sign("+"),
-        Op::Minus => words.sign("-"),
-        Op::Times => words.sign("*"),
-        Op::In => words.keyword("in"),
-        Op::Not => words.sign("!"),
-    }
+    words.push(op.kind(), op.symbol().as_bytes())
 }
 
 fn operators(words: &mut Words, ops: &[Op]) -> Result<(), NoMemory>

@@ -126,12 +126,7 @@ fn operand(words: &mut Words, y: &Operand) -> Result<(), NoMemory>
 fn arrow(words: &mut Words, a: Arrow) -> Result<(), NoMemory>
     ensures { OnOk result (words.new ≡ words.old ++ arrow_words a) }
 {
-    match a {
-        Arrow::Before => words.sign("->"),
-        Arrow::Notify => words.sign("~>"),
-        Arrow::After => words.sign("<-"),
-        Arrow::Follow => words.sign("<~"),
-    }
+    words.sign(a.symbol())
 }
 
 /// Arrows, each with the operand behind it.

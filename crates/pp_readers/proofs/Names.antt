@@ -12,12 +12,12 @@ use Rattle.pp_syntax.specs.declared.tree.Func.{Func}
 use Rattle.pp_syntax.specs.declared.tree.Func.TheVariants as func
 use Rattle.pp_syntax.specs.Tokens.{Lexeme, is_among}
 use Rattle.pp_syntax.specs.Phrases as phrases
-use Rattle.pp_syntax.specs.Statements.{is_qualified, NameOf, word, keyword, VariableOf, word_of, functions, ArrowOf}
+use Rattle.pp_syntax.specs.Statements.{is_qualified, NameOf, word, keyword, VariableOf, word_of, functions, ArrowOf, arrow_of}
 use Rattle.pp_readers.specs.Values.{behind_byte}
 use Rattle.pp_readers.proofs.Tokens.{bind_some}
 use Rattle.pp_readers.proofs.Finding.{Finds}
 use Rattle.pp_syntax.specs.Statements.{function_of}
-use Rattle.pp_readers.specs.Names.{taken, plain_name, name_by, variable_by, ref_by, function_by, unless_function, type_by, arrow_of, arrow_by}
+use Rattle.pp_readers.specs.Names.{taken, plain_name, name_by, variable_by, ref_by, function_by, unless_function, type_by, arrow_by}
 use Rattle.pp_readers.proofs.Combining.{taken_found}
 
 abbrev token : Kind → List ℕ → ℕ → List Lexeme

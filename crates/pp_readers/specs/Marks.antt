@@ -7,7 +7,7 @@ use Rattle.pp_syntax.specs.declared.token.Kind.TheVariants as kind
 use Rattle.pp_syntax.specs.declared.tree.Op.{Op}
 use Rattle.pp_syntax.specs.declared.tree.Op.TheVariants as op
 use Rattle.pp_syntax.specs.Tokens.{Lexeme}
-use Rattle.pp_syntax.specs.Derivation.{level_of}
+use Rattle.pp_syntax.specs.Derivation.{level_of, op_among}
 
 -- what a reader finds at the front of tokens, and the tokens behind it
 abbrev pub Found : Type 0 → Type 0
@@ -51,14 +51,10 @@ mark k text ts = mark_of k text (front_of ts)
 -- ---- operators
 
 abbrev pub sign_operator : List ℕ → Option Op
-sign_operator s = if bytes_eq s (codes "<") then Some op.Less else (if bytes_eq s (codes ">") then Some op.Greater else (
-    if bytes_eq s (codes "<=") then Some op.AtMost else (if bytes_eq s (codes ">=") then Some op.AtLeast else (
-    if bytes_eq s (codes "==") then Some op.Same else (if bytes_eq s (codes "!=") then Some op.NotSame else (
-    if bytes_eq s (codes "+") then Some op.Plus else (if bytes_eq s (codes "-") then Some op.Minus else (
-    if bytes_eq s (codes "*") then Some op.Times else None))))))))
+sign_operator s = op_among (op.Less ∷ op.Greater ∷ op.AtMost ∷ op.AtLeast ∷ op.Same ∷ op.NotSame ∷ op.Plus ∷ op.Minus ∷ op.Times ∷ []) s
 
 abbrev pub keyword_operator : List ℕ → Option Op
-keyword_operator s = if bytes_eq s (codes "or") then Some op.Or else (if bytes_eq s (codes "and") then Some op.And else (if bytes_eq s (codes "in") then Some op.In else None))
+keyword_operator s = op_among (op.Or ∷ op.And ∷ op.In ∷ []) s
 
 -- the operator between operands that such a token is
 abbrev pub operator_of : Kind → List ℕ → Option Op
@@ -80,7 +76,7 @@ abbrev pub infix_at : ℕ → List Lexeme → Found Op
 infix_at level ts = infix_of level (front_of ts)
 
 abbrev pub sign_prefix : List ℕ → Option Op
-sign_prefix s = if bytes_eq s (codes "!") then Some op.Not else (if bytes_eq s (codes "-") then Some op.Minus else None)
+sign_prefix s = op_among (op.Not ∷ op.Minus ∷ []) s
 
 -- the operator in front of an operand that such a token is
 abbrev pub prefix_of : Kind → List ℕ → Option Op

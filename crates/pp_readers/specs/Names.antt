@@ -1,13 +1,11 @@
 -- The tokens that stand for names, functions and arrows.
 use Rattle.std.specs.Prelude.{ℕ, Bool, false, if◌then◌else◌, List, [], ◌∷◌, Option, Some, None, codes}
-use Rattle.std.specs.Str.{bytes_eq}
 use Rattle.pp_syntax.specs.declared.token.Kind.{Kind}
 use Rattle.pp_syntax.specs.declared.token.Kind.TheVariants as kind
 use Rattle.pp_syntax.specs.declared.tree.Arrow.{Arrow}
-use Rattle.pp_syntax.specs.declared.tree.Arrow.TheVariants as arrow
 use Rattle.pp_syntax.specs.declared.tree.Func.{Func}
 use Rattle.pp_syntax.specs.Tokens.{Lexeme, is_among}
-use Rattle.pp_syntax.specs.Statements.{is_qualified, function_of}
+use Rattle.pp_syntax.specs.Statements.{is_qualified, function_of, arrow_of}
 use Rattle.pp_readers.specs.Marks.{Found, front_of}
 use Rattle.rh_base.specs.Reading.{◌>>=◌}
 use Rattle.pp_readers.specs.Values.{name_of}
@@ -66,10 +64,6 @@ type_by kind.Word s = unless_function s (function_of s)
 type_by _ s = None
 
 -- ---- arrows
-
-abbrev pub arrow_of : List ℕ → Option Arrow
-arrow_of s = if bytes_eq s (codes "->") then Some arrow.Before else (if bytes_eq s (codes "~>") then Some arrow.Notify else (
-    if bytes_eq s (codes "<-") then Some arrow.After else (if bytes_eq s (codes "<~") then Some arrow.Follow else None)))
 
 abbrev pub arrow_by : Kind → List ℕ → Option Arrow
 arrow_by kind.Sign s = arrow_of s

@@ -7,7 +7,7 @@ ghost use Rattle.pp_syntax.specs.Statements.{is_qualified};
 ghost use Rattle.pp_readers.specs.Parsed.{Gives, Reads, Sees};
 ghost use Rattle.pp_readers.specs.Combining.{begins};
 ghost use Rattle.pp_syntax.specs.Statements.{function_of};
-ghost use Rattle.pp_readers.specs.Names.{taken, plain_name, name_by, begins_name, plain_variable, variable_by, ref_by, function_by, unless_function, type_by, arrow_of, arrow_by, begins_arrow, begins_bracket};
+ghost use Rattle.pp_readers.specs.Names.{taken, plain_name, name_by, begins_name, plain_variable, variable_by, ref_by, function_by, unless_function, type_by, arrow_by, begins_arrow, begins_bracket};
 ghost use Rattle.pp_readers.specs.Statements.{unclosed};
 
 use pp_expression::{front_of, mark, name_of, text_of};
@@ -188,27 +188,11 @@ pub fn type_name(alloc: Global, tokens: &[Token<'_>], from: usize) -> Read<Text>
     }
 }
 
-fn arrow_of(text: &str) -> Option<Arrow>
-    ensures { result ≡ arrow_of text.now }
-{
-    if text == "->" {
-        Some(Arrow::Before)
-    } else if text == "~>" {
-        Some(Arrow::Notify)
-    } else if text == "<-" {
-        Some(Arrow::After)
-    } else if text == "<~" {
-        Some(Arrow::Follow)
-    } else {
-        None
-    }
-}
-
 fn arrow_by(kind: Kind, text: &str) -> Option<Arrow>
     ensures { result ≡ arrow_by kind text.now }
 {
     match kind {
-        Kind::Sign => arrow_of(text),
+        Kind::Sign => Arrow::of(text),
         _ => None,
     }
 }

@@ -3,7 +3,8 @@ use Rattle.std.proofs.Common.{◌≡◌, ◌⊎◌, inl, inr, ℕ, ◌-◌, ◌<
 use Rattle.std.proofs.Math.Seq.{take-append_seam}
 use Rattle.pp_syntax.specs.Tokens.{Of}
 use Rattle.pp_syntax.specs.declared.token.Kind.{Kind}
-use Rattle.pp_syntax.specs.Scanning.{◌>>=◌, Found, front_of, after_all}
+use Rattle.rh_base.specs.Reading.{◌>>=◌}
+use Rattle.pp_syntax.specs.Scanning.{Found, front_of, after_all}
 
 -- a text of the set was taken from the front
 pub record Takes (A : List ℕ → Type 0) (text rest : List ℕ) : Type 0 where

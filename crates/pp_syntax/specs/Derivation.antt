@@ -1,7 +1,8 @@
 -- Which tokens spell an expression. Each rule takes the rule for what stands within brackets as an argument.
 use Rattle.std.specs.Prelude.{◌≡◌, ℕ, zero, suc, Bool, true, false, ◌==◌, pos, List, [], ◌∷◌, ◌++◌, Option, codes}
 use Rattle.std.specs.Prelude as prelude
-use Rattle.std.specs.List.{list_any}
+use Rattle.std.specs.List.{list_any, find}
+use Rattle.std.specs.Str.{bytes_eq}
 use Rattle.pp_syntax.specs.declared.token.Kind.{Kind}
 use Rattle.pp_syntax.specs.declared.token.Kind.TheVariants as kind
 use Rattle.pp_syntax.specs.declared.tree.Expr.{Expr}
@@ -34,26 +35,42 @@ level_of op.Times = 5
 level_of op.In = 6
 level_of op.Not = 7
 
+-- how an operator is spelled
+abbrev pub op_symbol : Op → List ℕ
+op_symbol op.Or = codes "or"
+op_symbol op.And = codes "and"
+op_symbol op.Less = codes "<"
+op_symbol op.Greater = codes ">"
+op_symbol op.AtMost = codes "<="
+op_symbol op.AtLeast = codes ">="
+op_symbol op.Same = codes "=="
+op_symbol op.NotSame = codes "!="
+op_symbol op.Plus = codes "+"
+op_symbol op.Minus = codes "-"
+op_symbol op.Times = codes "*"
+op_symbol op.In = codes "in"
+op_symbol op.Not = codes "!"
+
+-- the kind of its token
+abbrev pub op_kind : Op → Kind
+op_kind op.Or = kind.Keyword
+op_kind op.And = kind.Keyword
+op_kind op.In = kind.Keyword
+op_kind _ = kind.Sign
+
+-- the first of these operators that is spelled so
+abbrev pub op_among : List Op → List ℕ → Option Op
+op_among ops s = find (λ o. bytes_eq s (op_symbol o)) ops
+
 -- an operator between two operands; `!` is none
 abbrev pub Infix : Op → List Lexeme → Type 0
-Infix op.Or = Keyword (codes "or")
-Infix op.And = Keyword (codes "and")
-Infix op.Less = Sign (codes "<")
-Infix op.Greater = Sign (codes ">")
-Infix op.AtMost = Sign (codes "<=")
-Infix op.AtLeast = Sign (codes ">=")
-Infix op.Same = Sign (codes "==")
-Infix op.NotSame = Sign (codes "!=")
-Infix op.Plus = Sign (codes "+")
-Infix op.Minus = Sign (codes "-")
-Infix op.Times = Sign (codes "*")
-Infix op.In = Keyword (codes "in")
-Infix op.Not = λ tokens. ⊥
+Infix op.Not tokens = ⊥
+Infix o tokens = Some (op_kind o) (op_symbol o) tokens
 
 -- an operator in front of an operand
 abbrev pub Prefixed : Op → List Lexeme → Type 0
-Prefixed op.Not tokens = Sign (codes "!") tokens
-Prefixed op.Minus tokens = Sign (codes "-") tokens
+Prefixed op.Not tokens = Sign (op_symbol op.Not) tokens
+Prefixed op.Minus tokens = Sign (op_symbol op.Minus) tokens
 Prefixed _ tokens = ⊥
 
 -- an operator of this level, and its right operand

@@ -1,6 +1,7 @@
 -- Reading one token from the front of a text: what it is, and what is left behind it.
 use Rattle.std.specs.Prelude.{ℕ, zero, suc, ◌+◌, ◌-◌, ◌^◌, Bool, true, false, ◌==◌, ◌||◌, ◌&&◌, not, nat_le, nat_lt, if◌then◌else◌, List, [], ◌∷◌, length, take, Option, Some, None, is_some}
 use Rattle.std.specs.Option.{option_map}
+use Rattle.rh_base.specs.Reading.{◌>>=◌}
 use Rattle.pp_syntax.specs.declared.token.Kind.{Kind}
 use Rattle.pp_syntax.specs.declared.token.Kind.TheVariants as kind
 use Rattle.pp_syntax.specs.declared.lexer.bytes.Style.{Style}
@@ -12,11 +13,6 @@ use Rattle.pp_syntax.specs.Tokens.{begins, is_among, keywords, signs, left_out, 
 use Rattle.pp_syntax.specs.declared.lexer.place.Place.{Place}
 use Rattle.pp_syntax.specs.Opened.{in_quotes}
 use Rattle.pp_syntax.specs.Spelling.{kind_at}
-
-infixl 10 ◌>>=◌
-abbrev pub ◌>>=◌ : {A B : Type 0} → Option A → (A → Option B) → Option B
-(Some x) >>= f = f x
-None >>= f = None
 
 -- a token's kind, and what is left behind it
 abbrev pub Found : Type 0

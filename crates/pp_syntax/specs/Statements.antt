@@ -1,7 +1,7 @@
 -- Which tokens spell a statement, and a manifest. Each rule takes the rule for expressions, and that for the statements of a block, as arguments.
-use Rattle.std.specs.Prelude.{◌≡◌, ℕ, zero, suc, Bool, true, false, ◌==◌, if◌then◌else◌, ℤ, pos, List, [], ◌∷◌, Option, codes}
+use Rattle.std.specs.Prelude.{◌≡◌, ℕ, zero, suc, Bool, true, false, ◌==◌, ℤ, pos, List, [], ◌∷◌, map, Option, codes}
 use Rattle.std.specs.Prelude as prelude
-use Rattle.std.specs.List.{list_any}
+use Rattle.std.specs.List.{list_any, find}
 use Rattle.std.specs.Str.{bytes_eq}
 use Rattle.pp_syntax.specs.declared.token.Kind.TheVariants as kind
 use Rattle.pp_syntax.specs.declared.tree.Expr.{Expr}
@@ -56,16 +56,21 @@ word_of func.Fail = codes "fail"
 word_of func.Notice = codes "notice"
 word_of func.Warning = codes "warning"
 
+-- all functions
+abbrev pub all_functions : List Func
+all_functions = func.Include ∷ func.Require ∷ func.Contain ∷ func.Realize ∷ func.Fail ∷ func.Notice ∷ func.Warning ∷ []
+
+-- their words
+abbrev pub functions : List (List ℕ)
+functions = map word_of all_functions
+
+-- the first of these functions whose word it is
+abbrev pub function_among : List Func → List ℕ → Option Func
+function_among fs s = find (λ f. bytes_eq s (word_of f)) fs
+
 -- the function that a word is
 abbrev pub function_of : List ℕ → Option Func
-function_of s = if bytes_eq s (codes "include") then prelude.Some func.Include else (if bytes_eq s (codes "require") then prelude.Some func.Require else (
-    if bytes_eq s (codes "contain") then prelude.Some func.Contain else (if bytes_eq s (codes "realize") then prelude.Some func.Realize else (
-    if bytes_eq s (codes "fail") then prelude.Some func.Fail else (if bytes_eq s (codes "notice") then prelude.Some func.Notice else (
-    if bytes_eq s (codes "warning") then prelude.Some func.Warning else prelude.None))))))
-
--- the words of all functions
-abbrev pub functions : List (List ℕ)
-functions = codes "include" ∷ codes "require" ∷ codes "contain" ∷ codes "realize" ∷ codes "fail" ∷ codes "notice" ∷ codes "warning" ∷ []
+function_of s = function_among all_functions s
 
 -- ---- resources
 
@@ -131,11 +136,23 @@ pub data OperandOf (E : Expr → List Lexeme → Type 0) (y : Operand) (tokens :
   reference : (x : Expr) → y ≡ operand.Named (x ∷ []) → ReferenceOf E x tokens → OperandOf E y tokens
   references : (xs : List Expr) → y ≡ operand.Named xs → (Loose then Listed (ReferenceOf E) xs then Sign (codes "]")) tokens → OperandOf E y tokens
 
+-- how an arrow is spelled
+abbrev pub arrow_symbol : Arrow → List ℕ
+arrow_symbol arrow.Before = codes "->"
+arrow_symbol arrow.Notify = codes "~>"
+arrow_symbol arrow.After = codes "<-"
+arrow_symbol arrow.Follow = codes "<~"
+
+-- the first of these arrows that is spelled so
+abbrev pub arrow_among : List Arrow → List ℕ → Option Arrow
+arrow_among arrows s = find (λ a. bytes_eq s (arrow_symbol a)) arrows
+
+-- the arrow that is spelled so
+abbrev pub arrow_of : List ℕ → Option Arrow
+arrow_of s = arrow_among (arrow.Before ∷ arrow.Notify ∷ arrow.After ∷ arrow.Follow ∷ []) s
+
 abbrev pub ArrowOf : Arrow → List Lexeme → Type 0
-ArrowOf arrow.Before = Sign (codes "->")
-ArrowOf arrow.Notify = Sign (codes "~>")
-ArrowOf arrow.After = Sign (codes "<-")
-ArrowOf arrow.Follow = Sign (codes "<~")
+ArrowOf a = Sign (arrow_symbol a)
 
 -- arrows, each with an operand behind it
 abbrev pub Links : (Expr → List Lexeme → Type 0) → List Arrow → List Operand → List Lexeme → Type 0

@@ -12,5 +12,5 @@ pub use lexer::{
 pub use token::{Kind, Token};
 pub use tree::{
     Arm, Arrow, Attr, Body, CaseArm, Expr, Form, Func, Item, Manifest, Op, Operand, Param, Search,
-    Stmt, TypeName,
+    Stmt, TypeName, op_among,
 };

@@ -1,8 +1,9 @@
 //! The syntax tree of a manifest. Places are offsets in bytes of the source.
 ghost use Rattle.std.specs.Prelude.{◌≡◌};
-ghost use Rattle.pp_syntax.specs.Derivation.{level_of};
-ghost use Rattle.pp_syntax.specs.Statements.{word_of, function_of};
+ghost use Rattle.pp_syntax.specs.Derivation.{level_of, op_symbol, op_kind, op_among};
+ghost use Rattle.pp_syntax.specs.Statements.{word_of, function_among, function_of, arrow_symbol, arrow_among, arrow_of};
 
+use crate::token::Kind;
 use rh_base::{Boxed, Seq, Text};
 
 /// What stands at the top of a manifest, in order.
@@ -229,6 +230,58 @@ impl Op {
             Op::Not => 7,
         }
     }
+
+    /// How the operator is spelled.
+    pub fn symbol(self) -> &'static str
+        ensures { result.now ≡ op_symbol self }
+    {
+        match self {
+            Op::Or => "or",
+            Op::And => "and",
+            Op::Less => "<",
+            Op::Greater => ">",
+            Op::AtMost => "<=",
+            Op::AtLeast => ">=",
+            Op::Same => "==",
+            Op::NotSame => "!=",
+            Op::Plus => "+",
+            Op::Minus => "-",
+            Op::Times => "*",
+            Op::In => "in",
+            Op::Not => "!",
+        }
+    }
+
+    /// The kind of its token.
+    pub fn kind(self) -> Kind
+        ensures { result ≡ op_kind self }
+    {
+        match self {
+            Op::Or | Op::And | Op::In => Kind::Keyword,
+            Op::Less
+            | Op::Greater
+            | Op::AtMost
+            | Op::AtLeast
+            | Op::Same
+            | Op::NotSame
+            | Op::Plus
+            | Op::Minus
+            | Op::Times
+            | Op::Not => Kind::Sign,
+        }
+    }
+}
+
+/// The first of these operators that is spelled so.
+pub fn op_among(ops: &[Op], text: &str) -> Option<Op>
+    ensures { result ≡ op_among ops.now text.now }
+{
+    for op in ops {
+        if text == op.symbol() {
+            return Some(*op);
+        }
+    }
+    None
 }
 
 /// `->`, `~>`, `<-` and `<~`
@@ -238,6 +291,40 @@ pub enum Arrow {
     Notify,
     After,
     Follow,
+}
+
+impl Arrow {
+    /// How the arrow is spelled.
+    pub fn symbol(self) -> &'static str
+        ensures { result.now ≡ arrow_symbol self }
+    {
+        match self {
+            Arrow::Before => "->",
+            Arrow::Notify => "~>",
+            Arrow::After => "<-",
+            Arrow::Follow => "<~",
+        }
+    }
+
+    /// The arrow that is spelled so.
+    pub fn of(symbol: &str) -> Option<Arrow>
+        ensures { result ≡ arrow_of symbol.now }
+    {
+        let arrows = [Arrow::Before, Arrow::Notify, Arrow::After, Arrow::Follow];
+        arrow_among(&arrows, symbol)
+    }
+}
+
+/// The first of these arrows that is spelled so.
+fn arrow_among(arrows: &[Arrow], symbol: &str) -> Option<Arrow>
+    ensures { result ≡ arrow_among arrows.now symbol.now }
+{
+    for arrow in arrows {
+        if symbol == arrow.symbol() {
+            return Some(*arrow);
+        }
+    }
+    None
 }
 
 /// The functions that a statement may call.
@@ -272,22 +359,27 @@ impl Func {
     pub fn of(word: &str) -> Option<Func>
         ensures { result ≡ function_of word.now }
     {
-        if word == "include" {
-            Some(Func::Include)
-        } else if word == "require" {
-            Some(Func::Require)
-        } else if word == "contain" {
-            Some(Func::Contain)
-        } else if word == "realize" {
-            Some(Func::Realize)
-        } else if word == "fail" {
-            Some(Func::Fail)
-        } else if word == "notice" {
-            Some(Func::Notice)
-        } else if word == "warning" {
-            Some(Func::Warning)
-        } else {
-            None
+        let functions = [
+            Func::Include,
+            Func::Require,
+            Func::Contain,
+            Func::Realize,
+            Func::Fail,
+            Func::Notice,
+            Func::Warning,
+        ];
+        function_among(&functions, word)
+    }
+}
+
+/// The first of these functions whose word it is.
+fn function_among(functions: &[Func], word: &str) -> Option<Func>
+    ensures { result ≡ function_among functions.now word.now }
+{
+    for function in functions {
+        if word == function.word() {
+            return Some(*function);
         }
     }
+    None
 }
