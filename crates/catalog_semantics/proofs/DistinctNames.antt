@@ -13,7 +13,7 @@ use Rattle.pp_eval.specs.Verdicts.{◌>>=◌, refusal, no_result}
 use Rattle.pp_eval.specs.Scoping.{Scoped}
 use Rattle.pp_eval.specs.Evaluation.{value_of}
 use Rattle.catalog_semantics.specs.States.{lacks}
-use Rattle.catalog_semantics.specs.Attributes.{is_one_of, metaparameters, references_in, first_time, if_references, given_attribute}
+use Rattle.catalog_semantics.specs.Attributes.{is_one_of, is_metaparameter, references_in, first_time, if_references, given_attribute}
 use Rattle.catalog_semantics.specs.Attributes.{as_attribute, attribute_of, attributes_behind, names_of, AreClean, AreDistinct, AreFit}
 use Rattle.catalog_semantics.specs.Frames.{Each, AreSoundAttributes}
 use Rattle.catalog_semantics.proofs.Clean.{all_clean}
@@ -101,7 +101,7 @@ given_this a x false = inr (x, refl)
 
 undef_this : (a : Attr) (x : Value) (b : Bool) → Each (IsThis a) (cond b (Ok []) (given_attribute a x))
 undef_this a x true = inl refl
-undef_this a x false = given_this a x (is_one_of metaparameters a.name)
+undef_this a x false = given_this a x (is_metaparameter a.name)
 
 opaque_this : (a : Attr) (x : Value) (b : Bool) → Each (IsThis a) (cond b (Err (no_result a.value.at)) (as_attribute a x))
 opaque_this a x true = tt

@@ -1,16 +1,16 @@
 //! The relations of a catalog between nodes.
 
-ghost use Rattle.std.specs.Prelude.{◌≡◌, ◌≤◌, ◌∷◌, [], length};
+ghost use Rattle.std.specs.Prelude.{◌≤◌, ◌∷◌, [], length};
 ghost use Rattle.std.specs.List.{flat_map};
 ghost use Rattle.pp_eval.specs.Verdicts.{AnswersBy};
 ghost use Rattle.catalog_semantics.specs.States.{declared_limit};
-ghost use Rattle.graph_semantics.specs.Relations.{says_before, says_after, relations_by, relations_of, references_within, metaparameter_relations, all_relations};
+ghost use Rattle.graph_semantics.specs.Relations.{relations_by, relations_of, references_within, metaparameter_relations, all_relations};
 ghost use Rattle.dep_graph.specs.Links.{with_link, with_links};
 
 use crate::targets::Side;
 use crate::values::{node_alone, nodes_of, nodes_within};
 use catalog::Catalog;
-use catalog_semantics::{Relation, Resource};
+use catalog_semantics::{Relation, Resource, says_after, says_before};
 use pp_value::Value;
 use rh_base::{Fault, Seq, Text};
 use std::alloc::Global;
@@ -20,22 +20,6 @@ use std::alloc::Global;
 pub struct Link {
     pub from: Seq<u32>,
     pub to: Seq<u32>,
-}
-
-fn says_before(name: &str) -> bool
-    ensures { result ≡ says_before name.now }
-{
-    let before = name == "before";
-    let notify = name == "notify";
-    before || notify
-}
-
-fn says_after(name: &str) -> bool
-    ensures { result ≡ says_after name.now }
-{
-    let require = name == "require";
-    let subscribe = name == "subscribe";
-    require || subscribe
 }
 
 /// A resource comes before what the value of its attribute names.

@@ -1,5 +1,5 @@
 -- What comes before what because the manifest says so: relations between resources, by metaparameters and by arrows.
-use Rattle.std.specs.Prelude.{◌≡◌, ℕ, Bool, if◌then◌else◌, List, [], ◌∷◌, ◌++◌, map, codes, Option, Some, None, option_map, option_and_then}
+use Rattle.std.specs.Prelude.{◌≡◌, ℕ, Bool, if◌then◌else◌, List, [], ◌∷◌, ◌++◌, map, Option, Some, None, option_map, option_and_then}
 use Rattle.std.specs.Prelude.{slice_get, is_some}
 use Rattle.std.specs.List.{Contains, flat_map}
 use Rattle.rh_base.specs.declared.fault.Refusal.{Refusal}
@@ -11,7 +11,7 @@ use Rattle.pp_value.specs.Shown.{shown_ref}
 use Rattle.pp_eval.specs.Verdicts.{refusal}
 use Rattle.catalog_semantics.specs.declared.catalog.Resource.{Resource}
 use Rattle.catalog_semantics.specs.declared.catalog.Relation.{Relation}
-use Rattle.catalog_semantics.specs.Attributes.{is_one_of}
+use Rattle.catalog_semantics.specs.Attributes.{says_before, says_after}
 use Rattle.catalog_semantics.specs.States.{place_of}
 use Rattle.catalog_semantics.specs.Catalogs.{Catalog}
 
@@ -50,14 +50,6 @@ abbrev mutual
   pub references_within_row : {m : _} → Row_of-Value m → List Ref
   references_within_row end_of-Value = []
   references_within_row (more_of-Value x row) = references_within x ++ references_within_row row
-
--- the metaparameters that put a resource before those that their value names
-abbrev pub says_before : List ℕ → Bool
-says_before name = is_one_of (codes "before" ∷ codes "notify" ∷ []) name
-
--- those that put it after
-abbrev pub says_after : List ℕ → Bool
-says_after name = is_one_of (codes "require" ∷ codes "subscribe" ∷ []) name
 
 -- what an attribute says of the order, if it is a metaparameter
 abbrev pub relations_by : Resource → Pair → List Relation

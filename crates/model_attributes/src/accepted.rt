@@ -9,6 +9,7 @@ use crate::values::{
     is_false, is_list_of_texts, is_list_of_times, is_text, is_text_or_number, is_true_itself,
     truth_of,
 };
+use catalog_semantics::is_metaparameter;
 use model_semantics::{Accepts, Kind};
 use pp_value::Value;
 
@@ -185,21 +186,13 @@ fn row_of(k: Kind, name: &str) -> Option<Accepts>
 }
 
 /// What an attribute accepts, if the type has it.
+#[tactic(auto, using(crate::proofs::CommonLaws::three_and_more))]
 pub fn accepted(k: Kind, name: &str) -> Option<Accepts>
     ensures { result ≡ accepted (common ∷ rows_of k) name.now }
 {
-    if is_one_of(
-        &[
-            "ensure",
-            "loglevel",
-            "provider",
-            "before",
-            "notify",
-            "require",
-            "subscribe",
-        ],
-        name,
-    ) {
+    let common = is_one_of(&["ensure", "loglevel", "provider"], name);
+    let metaparameter = is_metaparameter(name);
+    if common || metaparameter {
         Some(Accepts::Anything)
     } else {
         row_of(k, name)

@@ -7,7 +7,7 @@ ghost use Rattle.catalog_semantics.specs.States.{in_turn};
 ghost use Rattle.catalog_semantics.specs.Declaring.{preset_of, looked_up, given_or_else, is_of_kind, fitting, parameter_bound, is_parameter, is_known, all_known, title_bound};
 ghost use Rattle.pp_decl_bodies.specs.Opening.{parameters_bound};
 
-use catalog_semantics::Resource;
+use catalog_semantics::{Resource, is_metaparameter};
 use pp_decl_sites::Parameter;
 use pp_decl_state::State;
 use pp_eval::{eval, limited, refusal};
@@ -133,17 +133,13 @@ fn is_parameter(parameters: &[Parameter<'_>], name: &str) -> bool
     false
 }
 
-#[tactic(auto, using(crate::proofs::Opening::one_of_five))]
 fn is_known(parameters: &[Parameter<'_>], name: &str) -> bool
     ensures { result ≡ is_known parameters.now name.now }
 {
     let parameter = is_parameter(parameters, name);
     let level = name == "loglevel";
-    let before = name == "before";
-    let notify = name == "notify";
-    let require = name == "require";
-    let subscribe = name == "subscribe";
-    parameter || (level || (before || (notify || (require || subscribe))))
+    let metaparameter = is_metaparameter(name);
+    parameter || (level || metaparameter)
 }
 
 /// Each attribute must name a parameter.

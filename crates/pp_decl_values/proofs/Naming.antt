@@ -14,15 +14,8 @@ use Rattle.pp_value.specs.Values.{Pair, value_at, has_opaque, is_undef}
 use Rattle.pp_eval.specs.Verdicts.{◌>>=◌, Verdict, refusal, no_result, AnswersBy, Refuses}
 use Rattle.pp_eval.specs.Scoping.{Scoped}
 use Rattle.pp_eval.specs.Evaluation.{value_of}
-use Rattle.catalog_semantics.specs.Attributes.{is_one_of, metaparameters, references_in, if_references, first_time, attribute_of, attributes_behind}
+use Rattle.catalog_semantics.specs.Attributes.{is_one_of, is_metaparameter, references_in, if_references, first_time, attribute_of, attributes_behind}
 use Rattle.pp_decl_values.specs.Named.{keys_of, given_behind, AllStand, GoesOn}
-
-pub one_of_four : (a b c d : Bool) → (a || (b || (c || d))) ≡ (a || (b || (c || (d || false))))
-one_of_four true b c d = refl
-one_of_four false true c d = refl
-one_of_four false false true d = refl
-one_of_four false false false true = refl
-one_of_four false false false false = refl
 
 some_head : {X : Type 0} (t : Bool) (x : X) (o : Option X) → is_some (cond t (Some x) o) ≡ (t || is_some o)
 some_head true x o = refl
@@ -170,7 +163,7 @@ still_given given new names key b (Err e) only all h name n = cc
 pub still_stand : (given new : List Pair) (names : List (List ℕ × Bool)) (a : Attr) (x : Value) (b : Bool) → AllStand given names → given_behind given (attribute_of a x) ≡ Ok new
     → AllStand new (names ++ (a.name, b) ∷ [])
 still_stand given new names a x b all h =
-    still_given given new names a.name b (attribute_of a x) (named_given a x (has_opaque x) (is_undef x) (is_one_of metaparameters a.name) (references_in x)) all h
+    still_given given new names a.name b (attribute_of a x) (named_given a x (has_opaque x) (is_undef x) (is_metaparameter a.name) (references_in x)) all h
 
 -- ---- what a call leaves
 

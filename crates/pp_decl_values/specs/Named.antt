@@ -7,7 +7,7 @@ use Rattle.pp_value.specs.declared.value.Value.{Value}
 use Rattle.pp_value.specs.Values.{Pair, value_at}
 use Rattle.pp_eval.specs.Verdicts.{◌>>=◌, Refuses}
 use Rattle.pp_eval.specs.Scoping.{Scoped}
-use Rattle.catalog_semantics.specs.Attributes.{references_in, is_one_of, metaparameters, attributes_behind}
+use Rattle.catalog_semantics.specs.Attributes.{references_in, is_metaparameter, attributes_behind}
 
 abbrev pub keys_of : {X : Type 0} → List (List ℕ × X) → List (List ℕ)
 keys_of pairs = map (λ p. p.0) pairs
@@ -20,7 +20,7 @@ given_behind given found = do
 
 -- A metaparameter's value is references.
 abbrev pub may_be_given : Attr → Value → Bool
-may_be_given a x = if is_one_of metaparameters a.name then is_some (references_in x) else true
+may_be_given a x = if is_metaparameter a.name then is_some (references_in x) else true
 
 -- each given attribute has a name that stands
 abbrev pub AllStand : List Pair → List (List ℕ × Bool) → Type 0

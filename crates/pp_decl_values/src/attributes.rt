@@ -3,26 +3,16 @@
 ghost use Rattle.std.specs.Prelude.{◌≡◌, ◌∷◌, ◌++◌, [], None, true, OnOk, IfOk, IfErr};
 ghost use Rattle.pp_value.specs.Values.{value_at, is_undef};
 ghost use Rattle.pp_eval.specs.Verdicts.{AnswersBy, Refuses};
-ghost use Rattle.catalog_semantics.specs.Attributes.{metaparameters, is_one_of, first_time, attribute_of, attributes_behind, attributes_at};
+ghost use Rattle.catalog_semantics.specs.Attributes.{first_time, attribute_of, attributes_behind, attributes_at};
 ghost use Rattle.pp_decl_values.specs.Named.{keys_of, given_behind, may_be_given, AllStand, GoesOn};
 
 use crate::references::references_in;
+use catalog_semantics::is_metaparameter;
 use pp_eval::{Scopes, eval, no_result, refusal};
 use pp_syntax::Attr;
 use pp_value::{Keyed, Pairs, Value, has_opaque};
 use rh_base::{Fault, NoMemory};
 use std::alloc::Global;
-
-#[tactic(auto, using(crate::proofs::Naming::one_of_four))]
-fn is_metaparameter(name: &str) -> bool
-    ensures { result ≡ is_one_of metaparameters name.now }
-{
-    let before = name == "before";
-    let notify = name == "notify";
-    let require = name == "require";
-    let subscribe = name == "subscribe";
-    before || (notify || (require || subscribe))
-}
 
 fn is_undef(value: &Value) -> bool
     ensures { result ≡ is_undef value.now }
