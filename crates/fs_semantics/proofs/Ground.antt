@@ -186,10 +186,6 @@ ground_is_tree ps proper = record {
 
 -- ---- each file can be put on it
 
-In-to_all : (P : Path → Type 0) (ps : List Path) → ((p : Path) → In p ps → P p) → AllByRecursion P ps
-In-to_all P [] h = tt
-In-to_all P (p ∷ ps) h = (h p (inl refl), In-to_all P ps (λ q k. h q (inr k)))
-
 disjoint_in : (p q : Path) (ps : List Path) → AreDisjoint ps → In p ps → In q ps → IsAncestor p q → ⊥
 disjoint_in p q [] disjoint h k a = h
 disjoint_in p q (r ∷ ps) disjoint (inl e) (inl d) a = no_self q a.0 a.1 (a.2 ∙ ap (λ x. x ++ a.0) (e ∙ sym d))
