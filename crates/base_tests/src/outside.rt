@@ -6,38 +6,76 @@ use rh_base::{
     Fetched, FileShelf, MemoryShelf, MemorySink, Shelf, ShelfFault, Sink, SinkFault, StdSink,
     SureShelf, SureSink, Text,
 };
-use std::alloc::{AllocError, Global};
+use std::alloc::Global;
 use std::fs;
+use std::process::Abort;
 use std::test::Fail;
 
-fn text(alloc: Global, value: &str) -> Result<Text, AllocError> {
-    Ok(Text::from_string(String::from_str(alloc, value)?))
+/// Files of these names and bytes.
+fn files(alloc: Global, rows: &[(&str, &[u8])]) -> Result<Vec<(Text, Vec<u8>)>, Fail> {
+    let mut files = Vec::new(alloc);
+    for (name, bytes) in rows {
+        let name = String::from_str(alloc, *name)?;
+        files.push((Text::from_string(name), bytes.to_vec(alloc)?))?;
+    }
+    Ok(files)
+}
+
+/// What a fetch answers, and what it read.
+fn fetched<S: Shelf>(
+    shelf: &mut S,
+    alloc: Global,
+    name: &str,
+    limit: usize,
+) -> (Result<Fetched, ShelfFault>, Vec<u8>)
+    requires { limit < usize.MAX }
+{
+    let mut into = Vec::new(alloc);
+    let answer = shelf.fetch(name, limit, &mut into);
+    (answer, into)
+}
+
+/// A name, a limit, what the fetch answers, and what it read.
+type Row = (
+    &'static str,
+    usize,
+    Result<Fetched, ShelfFault>,
+    &'static [u8],
+);
+
+/// Fetches one after the other are answered so.
+fn are_fetched<S: Shelf>(rt: &(impl Abort + AllocGlobal), shelf: &mut S, rows: &[Row]) {
+    for (name, limit, want, bytes) in rows {
+        assert!(rt; *limit < usize::MAX);
+        let (answer, read) = fetched(shelf, rt.alloc(), *name, *limit);
+        assert_eq!(rt; answer, *want, "{name} {limit}");
+        assert_eq!(rt; read.as_slice(), *bytes, "{name} {limit}");
+    }
 }
 
 #[test]
 fn shelves_in_memory_give_what_they_hold(rt: HostRuntime) -> Result<(), Fail> {
     let alloc = rt.alloc();
-    let files = vec![in alloc;
-        (text(alloc, "a")?, b"first".to_vec(alloc)?),
-        (text(alloc, "a")?, b"second".to_vec(alloc)?),
-    ]?;
+    let files = files(alloc, &[("a", b"first"), ("a", b"second")])?;
     let mut shelf = MemoryShelf::new(files, vec![in alloc; 2u64]?);
-    let mut into = Vec::new(alloc);
-    assert_eq!(rt; shelf.fetch("a", 5, &mut into), Ok(Fetched::Whole));
-    assert_eq!(rt; into.as_slice(), b"first".as_slice());
-    let mut into = Vec::new(alloc);
-    assert_eq!(rt; shelf.fetch("a", 5, &mut into), Err(ShelfFault::Failed));
-    let mut into = Vec::new(alloc);
-    assert_eq!(rt; shelf.fetch("a", 4, &mut into), Ok(Fetched::Longer));
-    let mut into = Vec::new(alloc);
-    assert_eq!(rt; shelf.fetch("b", 4, &mut into), Err(ShelfFault::Failed));
-    let mut sure = SureShelf::new(vec![in alloc; (text(alloc, "a")?, b"first".to_vec(alloc)?)]?);
-    let mut into = Vec::new(alloc);
-    assert_eq!(rt; sure.fetch("a", 5, &mut into), Ok(Fetched::Whole));
-    assert_eq!(rt; into.as_slice(), b"first".as_slice());
-    let mut into = Vec::new(alloc);
-    assert_eq!(rt; sure.fetch("b", 5, &mut into), Ok(Fetched::Whole));
-    assert!(rt; into.is_empty());
+    let rows: [Row; 4] = [
+        ("a", 5, Ok(Fetched::Whole), b"first"),
+        ("a", 5, Err(ShelfFault::Failed), b""),
+        ("a", 4, Ok(Fetched::Longer), b""),
+        ("b", 4, Err(ShelfFault::Failed), b""),
+    ];
+    are_fetched(&rt, &mut shelf, &rows);
+    Ok(())
+}
+
+#[test]
+fn sure_shelves_give_what_they_hold(rt: HostRuntime) -> Result<(), Fail> {
+    let mut shelf = SureShelf::new(files(rt.alloc(), &[("a", b"first")])?);
+    let rows: [Row; 2] = [
+        ("a", 5, Ok(Fetched::Whole), b"first"),
+        ("b", 5, Ok(Fetched::Whole), b""),
+    ];
+    are_fetched(&rt, &mut shelf, &rows);
     Ok(())
 }
 
@@ -63,20 +101,6 @@ fn streams_of_the_system(rt: HostRuntime) {
     let mut out = StdSink::new(rt.stdout());
     assert_eq!(rt; out.put(b""), Ok(()));
     assert_eq!(rt; out.put(b"a line on standard output\n"), Ok(()));
-}
-
-/// What a fetch answers, and what it read.
-fn fetched<S: Shelf>(
-    shelf: &mut S,
-    alloc: Global,
-    name: &str,
-    limit: usize,
-) -> (Result<Fetched, ShelfFault>, Vec<u8>)
-    requires { limit < usize.MAX }
-{
-    let mut into = Vec::new(alloc);
-    let answer = shelf.fetch(name, limit, &mut into);
-    (answer, into)
 }
 
 #[test]

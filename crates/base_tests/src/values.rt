@@ -31,34 +31,41 @@ fn texts_and_lists_grow(rt: HostRuntime) -> Result<(), Fail> {
 }
 
 #[test]
-fn boxes_and_faults_hold_what_they_are_made_of(rt: HostRuntime) -> Result<(), Fail> {
+fn boxes_hold_what_they_are_made_of(rt: HostRuntime) -> Result<(), Fail> {
     let alloc = rt.alloc();
     let seven = Boxed::new(alloc, 7u8).ok().ok_or("memory")?;
     assert_eq!(rt; *seven.get(), 7);
     assert_eq!(rt; seven.into_inner(), 7);
     assert_eq!(rt; Boxed::from_box(Box::new(alloc, 9u8)?).into_inner(), 9);
+    Ok(())
+}
+
+#[test]
+fn refusals_hold_what_they_are_made_of(rt: HostRuntime) -> Result<(), Fail> {
+    let alloc = rt.alloc();
     let refusal = Refusal::new(alloc, 15, 3, "form").ok().ok_or("memory")?;
     assert_eq!(rt; refusal.number, 15);
     assert_eq!(rt; refusal.at, 3);
     assert_eq!(rt; refusal.name.as_str(), "form");
     let fault = Fault::refused(alloc, 15, 3, "form");
     assert!(rt; matches!(&fault, Fault::Refused(r) if r.number == 15 && r.at == 3));
-    assert_eq!(rt;
-        format!(in alloc; "{fault}")?.as_str(),
-        "the input is refused"
-    );
+    let line = format!(in alloc; "{fault}")?;
+    assert_eq!(rt; line.as_str(), "the input is refused");
+    Ok(())
+}
+
+#[test]
+fn faults_say_what_is_wrong(rt: HostRuntime) -> Result<(), Fail> {
+    let alloc = rt.alloc();
     let fault = Fault::from(NoMemory);
-    assert_eq!(rt; format!(in alloc; "{fault}")?.as_str(), "out of memory");
+    let line = format!(in alloc; "{fault}")?;
+    assert_eq!(rt; line.as_str(), "out of memory");
     let fault = ShelfFault::Failed;
-    assert_eq!(rt;
-        format!(in alloc; "{fault}")?.as_str(),
-        "the file can't be read"
-    );
+    let line = format!(in alloc; "{fault}")?;
+    assert_eq!(rt; line.as_str(), "the file can't be read");
     let fault = SinkFault::Failed;
-    assert_eq!(rt;
-        format!(in alloc; "{fault}")?.as_str(),
-        "the bytes can't be written"
-    );
+    let line = format!(in alloc; "{fault}")?;
+    assert_eq!(rt; line.as_str(), "the bytes can't be written");
     Ok(())
 }
 

@@ -5,6 +5,7 @@ ghost use Rattle.orders.specs.Paths.{EndsBelow};
 use orders::{Order, OrderFault, exchanges_agree, exchanges_join};
 use rh_base::Seq;
 use std::alloc::Global;
+use std::process::Abort;
 use std::test::Fail;
 
 #[test]
@@ -76,15 +77,20 @@ fn extensions_have_each_node_once_in_order(rt: HostRuntime) -> Result<(), Fail> 
     Ok(())
 }
 
+/// The first extension of the order that these edges make.
+fn first_of(alloc: Global, n: u32, edges: &[(u32, u32)]) -> Result<Seq<u32>, Fail>
+    requires { EndsBelow n edges.now }
+{
+    let order = Order::from_edges(alloc, n, edges)?;
+    Ok(order.first_extension()?)
+}
+
 #[test]
 fn the_first_extension_takes_the_least(rt: HostRuntime) -> Result<(), Fail> {
-    let order = Order::from_edges(rt.alloc(), 5, &[(4, 0), (3, 1), (4, 3)])?;
-    assert_eq!(rt;
-        order.first_extension()?.as_slice(),
-        [2, 4, 0, 3, 1].as_slice()
-    );
-    let free = Order::from_edges(rt.alloc(), 3, &[])?;
-    assert_eq!(rt; free.first_extension()?.as_slice(), [0, 1, 2].as_slice());
+    let first = first_of(rt.alloc(), 5, &[(4, 0), (3, 1), (4, 3)])?;
+    assert_eq!(rt; first.as_slice(), [2, 4, 0, 3, 1].as_slice());
+    let free = first_of(rt.alloc(), 3, &[])?;
+    assert_eq!(rt; free.as_slice(), [0, 1, 2].as_slice());
     Ok(())
 }
 
@@ -106,21 +112,29 @@ fn rows_are_longer_than_a_word(rt: HostRuntime) -> Result<(), Fail> {
     Ok(())
 }
 
+/// The orders of three nodes on the walk between two that these edges allow.
+fn walked(
+    rt: &(impl Abort + AllocGlobal),
+    edges: &[(u32, u32)],
+    from: &[u32],
+    to: &[u32],
+) -> Result<Seq<Seq<u32>>, Fail>
+    requires { EndsBelow 3 edges.now }
+{
+    let mut marks = [false; 3];
+    let order = Order::from_edges(rt.alloc(), 3, edges)?;
+    assert!(rt; order.is_extension(from, &mut marks));
+    assert!(rt; order.is_extension(to, &mut marks));
+    Ok(order.walk(from, to)?)
+}
+
 #[test]
 fn walks_exchange_neighbours(rt: HostRuntime) -> Result<(), Fail> {
-    let mut marks = [false; 3];
-    let free = Order::from_edges(rt.alloc(), 3, &[])?;
-    assert!(rt; free.is_extension(&[0, 1, 2], &mut marks));
-    assert!(rt; free.is_extension(&[2, 1, 0], &mut marks));
-    let orders = free.walk(&[0, 1, 2], &[2, 1, 0])?;
-    assert_eq!(rt; orders.len(), 4);
-    let same = free.walk(&[2, 1, 0], &[2, 1, 0])?;
+    let turned = walked(&rt, &[], &[0, 1, 2], &[2, 1, 0])?;
+    assert_eq!(rt; turned.len(), 4);
+    let same = walked(&rt, &[], &[2, 1, 0], &[2, 1, 0])?;
     assert_eq!(rt; same.len(), 1);
-
-    let order = Order::from_edges(rt.alloc(), 3, &[(0, 1)])?;
-    assert!(rt; order.is_extension(&[0, 1, 2], &mut marks));
-    assert!(rt; order.is_extension(&[2, 0, 1], &mut marks));
-    let orders = order.walk(&[0, 1, 2], &[2, 0, 1])?;
+    let orders = walked(&rt, &[(0, 1)], &[0, 1, 2], &[2, 0, 1])?;
     assert_eq!(rt; orders.len(), 3);
     assert_eq!(rt; orders.as_slice()[1].as_slice(), [0, 2, 1].as_slice());
     assert_eq!(rt; orders.as_slice()[2].as_slice(), [2, 0, 1].as_slice());

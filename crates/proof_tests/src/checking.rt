@@ -4,7 +4,7 @@ use crate::common::{FIRST, PIGEONS, SECOND, Stated, formula, log};
 use cnf::{Clause, Cnf, Link, Lit, Log, Step};
 use proof_check::{Cause, CheckFault, Verified, check, read_proofs};
 use rh_base::{Fault, NoMemory, Seq};
-use std::alloc::Global;
+use std::alloc::{AllocError, Global};
 use std::process::Abort;
 use std::test::Fail;
 use test_rows::PIGEONS as PIGEONS_TEXT;
@@ -22,18 +22,17 @@ fn answer(
     }
 }
 
-fn word(alloc: Global, cause: &Cause) -> Result<String, Fail> {
-    let word = match cause {
-        Cause::NoStep => String::from_str(alloc, "no step")?,
-        Cause::NoClause(n) => format!(in alloc; "no clause {n}")?,
-        Cause::NoPivot(k) => format!(in alloc; "no pivot {k}")?,
+fn word(alloc: Global, cause: &Cause) -> Result<String, AllocError> {
+    match cause {
+        Cause::NoStep => String::from_str(alloc, "no step"),
+        Cause::NoClause(n) => format!(in alloc; "no clause {n}"),
+        Cause::NoPivot(k) => format!(in alloc; "no pivot {k}"),
         Cause::Resolvent(c) => {
             let count = c.lits().len();
-            format!(in alloc; "resolvent of {count}")?
+            format!(in alloc; "resolvent of {count}")
         }
-        Cause::NotEmpty => String::from_str(alloc, "not empty")?,
-    };
-    Ok(word)
+        Cause::NotEmpty => String::from_str(alloc, "not empty"),
+    }
 }
 
 #[test]
@@ -90,12 +89,7 @@ const LONG: u64 = 400_000;
 
 /// The first variable holds, each but the last makes the next one hold, and the last doesn't hold.
 fn long_formula(rt: &(impl Abort + AllocGlobal)) -> Result<Cnf, NoMemory> {
-    let mut cnf = Cnf::new(rt.alloc(), LONG)?;
-    assert_eq!(rt; cnf.vars(), LONG);
-    cnf.add(&[Lit {
-        var: 1,
-        positive: true,
-    }])?;
+    let mut cnf = formula(rt, LONG, &[&[1]])?;
     for i in 1..LONG {
         assert_eq!(rt; cnf.vars(), LONG);
         let not_this = Lit {
@@ -116,9 +110,9 @@ fn long_formula(rt: &(impl Abort + AllocGlobal)) -> Result<Cnf, NoMemory> {
     Ok(cnf)
 }
 
-#[test]
-fn a_step_may_have_four_hundred_thousand_links(rt: HostRuntime) -> Result<(), Fail> {
-    let mut chain = Seq::new(rt.alloc());
+/// The step that takes out one variable after the other.
+fn long_log(alloc: Global) -> Result<Log, NoMemory> {
+    let mut chain = Seq::new(alloc);
     for i in 1..LONG + 1 {
         chain.push(Link {
             number: i + 1,
@@ -128,18 +122,35 @@ fn a_step_may_have_four_hundred_thousand_links(rt: HostRuntime) -> Result<(), Fa
             },
         })?;
     }
-    let mut steps = Seq::new(rt.alloc());
-    let clause = Clause::from_lits(rt.alloc(), &[])?;
+    let clause = Clause::from_lits(alloc, &[])?;
+    let mut steps = Seq::new(alloc);
     steps.push(Step {
         clause,
         start: 1,
         chain,
     })?;
-    let result = check(rt.alloc(), long_formula(&rt)?, Log { steps });
+    Ok(Log { steps })
+}
+
+#[test]
+fn a_step_may_have_four_hundred_thousand_links(rt: HostRuntime) -> Result<(), Fail> {
+    let result = check(rt.alloc(), long_formula(&rt)?, long_log(rt.alloc())?);
     let verified = result.ok().ok_or("refused")?;
     assert_eq!(rt; verified.cnf().count(), LONG + 1);
     assert_eq!(rt; verified.log().steps.len(), 1);
     Ok(())
+}
+
+/// What checking the last of some proofs answers.
+fn check_all(
+    rt: &(impl Abort + AllocGlobal),
+    proofs: Vec<(Cnf, Log)>,
+) -> Result<(u64, String), Fail> {
+    let mut last = (0, String::from_str(rt.alloc(), "none")?);
+    for (cnf, log) in proofs {
+        last = answer(rt, check(rt.alloc(), cnf, log))?;
+    }
+    Ok(last)
 }
 
 /// What reading and checking a proof text answers.
@@ -151,13 +162,7 @@ fn read_and_check(rt: &(impl Abort + AllocGlobal), text: &[u8]) -> Result<(u64, 
             u64::from(refusal.number),
             String::from_str(alloc, refusal.name.as_str())?,
         )),
-        Ok(found) => {
-            let mut last = (0, String::from_str(alloc, "none")?);
-            for (cnf, log) in found {
-                last = answer(rt, check(alloc, cnf, log))?;
-            }
-            Ok(last)
-        }
+        Ok(proofs) => check_all(rt, proofs),
     }
 }
 

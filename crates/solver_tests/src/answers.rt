@@ -3,6 +3,7 @@
 use cnf::{Cnf, Log};
 use proof_check::{Bad, Cause, CheckFault, check, read_proofs};
 use sat_solver::{Found, solve};
+use std::alloc::Global;
 use std::process::Abort;
 use std::test::Fail;
 
@@ -166,15 +167,24 @@ fn a_budget_is_spent(rt: HostRuntime) -> Result<(), Fail> {
 /// How many variables the chain has but for its last.
 const LONG: u64 = 400_000;
 
+/// Each variable of the chain makes the next one hold, the last of these clauses first.
+fn long_chain(alloc: Global) -> Result<String, Fail> {
+    let mut clauses = String::new(alloc);
+    for i in (1..LONG).rev() {
+        let clause = format!(in alloc; "-{i} {} 0\n", i + 1)?;
+        clauses.push_str(clause.as_str())?;
+    }
+    Ok(clauses)
+}
+
 #[test]
 fn a_chain_is_followed_from_its_last_clause(rt: HostRuntime) -> Result<(), Fail> {
     let alloc = rt.alloc();
-    let mut text = format!(in alloc; "p cnf {} {}\n", LONG + 1, LONG + 2)?;
-    for i in (1..LONG).rev() {
-        text.push_str(format!(in alloc; "-{i} {} 0\n", i + 1)?.as_str())?;
-    }
-    let ends = format!(in alloc; "1 0\n-{LONG} {} 0\n-{LONG} -{} 0", LONG + 1, LONG + 1)?;
-    text.push_str(ends.as_str())?;
+    let chain = long_chain(alloc)?;
+    let (last, count) = (LONG + 1, LONG + 2);
+    let text = format!(in alloc;
+        "p cnf {last} {count}\n{chain}1 0\n-{LONG} {last} 0\n-{LONG} -{last} 0"
+    )?;
     let found = answer(&rt, text.as_str(), 1_000_000)?;
     assert_eq!(rt; found.as_str(), "refuted, accepted");
     Ok(())

@@ -5,6 +5,4 @@ mod parts;
 mod questions;
 mod words;
 
-pub use parts::choice;
-pub use questions::question;
 pub use words::{program, programs};

@@ -6,19 +6,39 @@ use rh_base::{Boxed, NoMemory, Seq};
 use std::alloc::Global;
 use test_rows::text;
 
+/// Makes a file of this content, or a link to it.
+fn made(alloc: Global, word: &str, path: Path, content: &str) -> Result<Program, PathFault> {
+    let content = text(alloc, content)?;
+    match word {
+        "creat" => Ok(Program::Creat(path, content)),
+        "link" => Ok(Program::Link(path, content)),
+        _ => Err(PathFault::Bad),
+    }
+}
+
 /// One change, as `creat /a x`.
 fn change(alloc: Global, word: &str, first: &str, second: &str) -> Result<Program, PathFault> {
     let path = Path::read(alloc, first)?;
-    Ok(match word {
-        "id" => Program::Id,
-        "mkdir" => Program::Mkdir(path),
-        "creat" => Program::Creat(path, text(alloc, second)?),
-        "link" => Program::Link(path, text(alloc, second)?),
-        "rm" => Program::Rm(path),
-        "cp" => Program::Cp(path, Path::read(alloc, second)?),
-        "err" => Program::Err,
-        _ => return Err(PathFault::Bad),
-    })
+    match word {
+        "id" => Ok(Program::Id),
+        "mkdir" => Ok(Program::Mkdir(path)),
+        "rm" => Ok(Program::Rm(path)),
+        "cp" => Ok(Program::Cp(path, Path::read(alloc, second)?)),
+        "err" => Ok(Program::Err),
+        _ => made(alloc, word, path, second),
+    }
+}
+
+/// One change to a path, or several after one another.
+fn changes(alloc: Global, words: &[&str], path: &str, content: &str) -> Result<Program, PathFault> {
+    if let [word] = words {
+        return change(alloc, *word, path, content);
+    }
+    let mut steps = Seq::new(alloc);
+    for word in words {
+        steps.push(change(alloc, *word, path, content)?)?;
+    }
+    Ok(Program::Steps(steps))
 }
 
 /// The first program where a question is true, and the other one where it isn't.
@@ -30,14 +50,6 @@ pub fn choice(
 ) -> Result<Program, NoMemory> {
     let left = Boxed::new(alloc, left)?;
     Ok(Program::If(asked, left, Boxed::new(alloc, right)?))
-}
-
-/// Removes a file, and makes it anew.
-fn replaced(alloc: Global, path: &str, content: &str) -> Result<Program, PathFault> {
-    let mut steps = Seq::new(alloc);
-    steps.push(change(alloc, "rm", path, "")?)?;
-    steps.push(change(alloc, "creat", path, content)?)?;
-    Ok(Program::Steps(steps))
 }
 
 /// A change to a path where the question about it is true, and another one where it isn't.
@@ -52,34 +64,25 @@ fn either(
     Ok(choice(alloc, asked, left, right)?)
 }
 
+/// The starts of resources' programs: what is asked of the path, the changes where it is so, and those where it isn't.
+const STARTS: [(&str, &str, &[&str], &[&str]); 4] = [
+    ("dir", "dir?", &["id"], &["mkdir"]),
+    ("drop", "file?", &["rm"], &["id"]),
+    ("sweep", "emptydir?", &["rm"], &["id"]),
+    ("put", "file?", &["rm", "creat"], &["creat"]),
+];
+
 /// A change, or the start of a resource's program: `dir` makes sure of a folder, `put` of a file with a content, `drop`
 /// removes a file, `sweep` an empty folder.
 pub fn part(alloc: Global, words: &str) -> Result<Program, PathFault> {
     let (word, rest) = words.split_once(' ').unwrap_or((words, "/"));
     let (first, second) = rest.split_once(' ').unwrap_or((rest, "/"));
-    match word {
-        "dir" => {
-            let made = change(alloc, "mkdir", first, "")?;
-            either(alloc, "dir?", first, Program::Id, made)
+    for (start, asked, left, right) in STARTS {
+        if start == word {
+            let left = changes(alloc, left, first, second)?;
+            let right = changes(alloc, right, first, second)?;
+            return either(alloc, asked, first, left, right);
         }
-        "drop" => {
-            let removed = change(alloc, "rm", first, "")?;
-            either(alloc, "file?", first, removed, Program::Id)
-        }
-        "sweep" => {
-            let removed = change(alloc, "rm", first, "")?;
-            either(alloc, "emptydir?", first, removed, Program::Id)
-        }
-        "put" => {
-            let fresh = change(alloc, "creat", first, second)?;
-            either(
-                alloc,
-                "file?",
-                first,
-                replaced(alloc, first, second)?,
-                fresh,
-            )
-        }
-        _ => change(alloc, word, first, second),
     }
+    change(alloc, word, first, second)
 }

@@ -19,24 +19,44 @@ pub fn single(alloc: Global, word: &str, path: &str) -> Result<Test, PathFault> 
     })
 }
 
-fn boxed(alloc: Global, words: &str) -> Result<Boxed<Test>, PathFault> {
-    let (word, path) = words.split_once(' ').unwrap_or((words, "/"));
-    Ok(Boxed::new(alloc, single(alloc, word, path)?)?)
-}
-
-/// A question, or `not` before one, or `and` or `or` between two.
-pub fn question(alloc: Global, words: &str) -> Result<Test, PathFault> {
-    if let Some(rest) = words.strip_prefix("not ") {
-        return Ok(Test::Not(boxed(alloc, rest)?));
-    }
-    if let Some((a, b)) = words.split_once(" and ") {
-        let left = boxed(alloc, a)?;
-        return Ok(Test::And(left, boxed(alloc, b)?));
-    }
-    if let Some((a, b)) = words.split_once(" or ") {
-        let left = boxed(alloc, a)?;
-        return Ok(Test::Or(left, boxed(alloc, b)?));
-    }
+fn asked(alloc: Global, words: &str) -> Result<Test, PathFault> {
     let (word, path) = words.split_once(' ').unwrap_or((words, "/"));
     single(alloc, word, path)
+}
+
+fn boxed(alloc: Global, words: &str) -> Result<Boxed<Test>, PathFault> {
+    Ok(Boxed::new(alloc, asked(alloc, words)?)?)
+}
+
+/// One question, or two with `and` between.
+fn both(alloc: Global, words: &str) -> Result<Test, PathFault> {
+    let Some((left, right)) = words.split_once(" and ") else {
+        return asked(alloc, words);
+    };
+    let left = boxed(alloc, left)?;
+    Ok(Test::And(left, boxed(alloc, right)?))
+}
+
+/// The same, or its denial, which has parentheses around two.
+fn denied(alloc: Global, words: &str) -> Result<Test, PathFault> {
+    let Some(rest) = words.strip_prefix("not ") else {
+        return both(alloc, words);
+    };
+    let inner = rest.strip_prefix('(').unwrap_or(rest);
+    let inner = inner.strip_suffix(')').unwrap_or(inner);
+    Ok(Test::Not(Boxed::new(alloc, both(alloc, inner)?)?))
+}
+
+fn or(alloc: Global, left: Test, right: Test) -> Result<Test, PathFault> {
+    let left = Boxed::new(alloc, left)?;
+    Ok(Test::Or(left, Boxed::new(alloc, right)?))
+}
+
+/// A question, `not` before one, `and` or `or` between two: `not (file? /a and dir? /b) or none? /c`.
+pub fn question(alloc: Global, words: &str) -> Result<Test, PathFault> {
+    let Some((left, right)) = words.split_once(" or ") else {
+        return denied(alloc, words);
+    };
+    let left = denied(alloc, left)?;
+    or(alloc, left, denied(alloc, right)?)
 }

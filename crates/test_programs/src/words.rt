@@ -6,16 +6,24 @@ use fs_lang::{PathFault, Program};
 use rh_base::Seq;
 use std::alloc::Global;
 
-/// A part, or a choice between two: `if file? /a: rm /a, id`.
+/// What is done where a question is true, before another program for where it isn't: `file? /a: rm /a`.
+fn arm(alloc: Global, words: &str, otherwise: Program) -> Result<Program, PathFault> {
+    let (asked, done) = words.split_once(": ").unwrap_or((words, "id"));
+    let done = part(alloc, done)?;
+    Ok(choice(alloc, question(alloc, asked)?, done, otherwise)?)
+}
+
+/// A part, or a choice between two, `if file? /a: rm /a, id`, or among more, `if file? /a: rm /a, if dir? /a: id, err`.
 fn step(alloc: Global, words: &str) -> Result<Program, PathFault> {
     let Some(rest) = words.strip_prefix("if ") else {
         return part(alloc, words);
     };
-    let (asked, branches) = rest.split_once(": ").unwrap_or((rest, "id, id"));
-    let (left, right) = branches.split_once(", ").unwrap_or((branches, "id"));
-    let left = part(alloc, left)?;
-    let right = part(alloc, right)?;
-    Ok(choice(alloc, question(alloc, asked)?, left, right)?)
+    let (arms, last) = rest.rsplit_once(", ").unwrap_or((rest, "id"));
+    let mut program = part(alloc, last)?;
+    for one in arms.rsplit(", if ") {
+        program = arm(alloc, one, program)?;
+    }
+    Ok(program)
 }
 
 /// One step, or several with `; ` between.

@@ -23,15 +23,20 @@ pub fn boxes(alloc: Global, count: usize) -> Result<String, NoMemory> {
     Ok(manifest)
 }
 
-/// So many titles, in a list.
-pub fn titles(alloc: Global, count: u32) -> Result<String, NoMemory> {
-    let mut list = String::from_str(alloc, "['/0'")?;
+/// So many titles, with a comma between.
+fn listed(alloc: Global, count: u32) -> Result<String, NoMemory> {
+    let mut list = String::from_str(alloc, "'/0'")?;
     for i in 1..count {
         let title = format!(in alloc; ", '/{i}'")?;
         list.push_str(title.as_str())?;
     }
-    list.push(']')?;
     Ok(list)
+}
+
+/// So many titles, in a list.
+pub fn titles(alloc: Global, count: u32) -> Result<String, NoMemory> {
+    let inner = listed(alloc, count)?;
+    Ok(format!(in alloc; "[{inner}]")?)
 }
 
 /// A front, a piece that is repeated, a middle, and a piece that is repeated behind it.
