@@ -29,11 +29,16 @@ fn push_attributes(alloc: Global, r: &Resource, into: &mut String) -> Result<(),
     Ok(())
 }
 
-fn push_resource(alloc: Global, r: &Resource, into: &mut String) -> Result<(), Fail> {
+fn push_id(alloc: Global, r: &Resource, into: &mut String) -> Result<(), Fail> {
     if r.is_virtual {
         into.push_str("@")?;
     }
     into.push_str(shown_ref(alloc, &r.id)?.as_str())?;
+    Ok(())
+}
+
+fn push_resource(alloc: Global, r: &Resource, into: &mut String) -> Result<(), Fail> {
+    push_id(alloc, r, into)?;
     push_attributes(alloc, r, into)?;
     into.push_str("; ")?;
     Ok(())

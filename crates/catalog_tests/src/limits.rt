@@ -4,39 +4,19 @@ use std::alloc::Global;
 use std::test::Fail;
 use test_rows::{doubled, titles};
 
+/// What is told of a text that is doubled so many times.
+fn told_of_doubled(alloc: Global, times: u32) -> Result<String, Fail> {
+    let manifest = doubled(alloc, "x", times)?;
+    compiled(alloc, manifest.as_str())
+}
+
 #[test]
 fn values_that_are_too_large(rt: HostRuntime) -> Result<(), Fail> {
-    let alloc = rt.alloc();
-    let fits = doubled(alloc, "x", 17)?;
-    assert_eq!(rt; compiled(alloc, fits.as_str())?.as_str(), "");
-    let want = format!(in alloc; "32 at {}: value", fits.len() + "$a18 = ".len())?;
-    let large = doubled(alloc, "x", 18)?;
-    assert_eq!(rt; compiled(alloc, large.as_str())?.as_str(), want.as_str());
-    Ok(())
-}
-
-#[test]
-fn resources_that_are_too_many(rt: HostRuntime) -> Result<(), Fail> {
-    let alloc = rt.alloc();
-    for (count, many) in [(4_096, false), (4_097, true)] {
-        let list = titles(alloc, count)?;
-        let manifest = format!(in alloc; "@file {{ {list}: }}")?;
-        let told = compiled(alloc, manifest.as_str())?;
-        assert_eq!(rt; told.as_str() == "32 at 8: declared", many, "{count}");
-    }
-    Ok(())
-}
-
-#[test]
-fn attributes_that_are_too_large(rt: HostRuntime) -> Result<(), Fail> {
-    let alloc = rt.alloc();
-    let values = doubled(alloc, "x", 17)?;
-    for (count, large) in [(127, false), (128, true)] {
-        let list = titles(alloc, count)?;
-        let manifest = format!(in alloc; "{values}@file {{ {list}: content => $a17 }}")?;
-        let told = compiled(alloc, manifest.as_str())?;
-        let want = format!(in alloc; "32 at {}: attributes", values.len() + "@file { ".len())?;
-        assert_eq!(rt; told.as_str() == want.as_str(), large, "{count}");
+    let fits = doubled(rt.alloc(), "x", 17)?;
+    let large = format!(in rt.alloc(); "32 at {}: value", fits.len() + "$a18 = ".len())?;
+    for (times, want) in [(17, ""), (18, large.as_str())] {
+        let told = told_of_doubled(rt.alloc(), times)?;
+        assert_eq!(rt; told.as_str(), want, "{times}");
     }
     Ok(())
 }
@@ -48,50 +28,72 @@ fn told_of_titles(alloc: Global, front: &str, count: u32, behind: &str) -> Resul
     compiled(alloc, manifest.as_str())
 }
 
-/// A default counts as often as it fills a resource, and is refused there.
 #[test]
-fn defaults_that_are_too_large(rt: HostRuntime) -> Result<(), Fail> {
-    let values = doubled(rt.alloc(), "x", 17)?;
-    let front = format!(in rt.alloc(); "{values}File {{ content => $a17 }} @file {{ ")?;
-    let want = format!(in rt.alloc(); "32 at {}: attributes", front.len())?;
-    for (count, large) in [(127, false), (128, true)] {
-        let told = told_of_titles(rt.alloc(), front.as_str(), count, ": }")?;
-        assert_eq!(rt; told.as_str() == want.as_str(), large, "{count}");
+fn resources_that_are_too_many(rt: HostRuntime) -> Result<(), Fail> {
+    for (count, many) in [(4_096, false), (4_097, true)] {
+        let told = told_of_titles(rt.alloc(), "@file { ", count, ": }")?;
+        assert_eq!(rt; told.as_str() == "32 at 8: declared", many, "{count}");
     }
     Ok(())
 }
 
-/// So many classes or defined types, each made of the piece in front, the number of the one before it, and the piece behind.
-fn in_line(
-    alloc: Global,
-    first: &str,
-    pieces: (&str, &str, &str),
-    last: &str,
-) -> Result<String, Fail> {
+/// Are so many titles between two pieces refused for their attributes, at the list?
+fn are_too_large(alloc: Global, front: &str, count: u32, behind: &str) -> Result<bool, Fail> {
+    let told = told_of_titles(alloc, front, count, behind)?;
+    let want = format!(in alloc; "32 at {}: attributes", front.len())?;
+    Ok(told.as_str() == want.as_str())
+}
+
+/// Each resource has a text of 131,072 bytes. A default counts as often as it fills a resource, and is refused there.
+#[test]
+fn attributes_that_are_too_large(rt: HostRuntime) -> Result<(), Fail> {
+    let rows: [(&str, u32, &str, bool); 4] = [
+        ("@file { ", 127, ": content => $a17 }", false),
+        ("@file { ", 128, ": content => $a17 }", true),
+        ("File { content => $a17 } @file { ", 127, ": }", false),
+        ("File { content => $a17 } @file { ", 128, ": }", true),
+    ];
+    let values = doubled(rt.alloc(), "x", 17)?;
+    for (piece, count, behind, large) in rows {
+        let front = format!(in rt.alloc(); "{values}{piece}")?;
+        let found = are_too_large(rt.alloc(), front.as_str(), count, behind)?;
+        assert_eq!(rt; found, large, "{piece}{count}{behind}");
+    }
+    Ok(())
+}
+
+/// A hundred classes or defined types. Each but the first is made of its number and that of the one before it, with the
+/// pieces in front, between and behind.
+fn in_line(alloc: Global, first: &str, pieces: (&str, &str, &str)) -> Result<String, Fail> {
     let (front, middle, behind) = pieces;
     let mut manifest = String::from_str(alloc, first)?;
     for i in 1..100u32 {
         let line = format!(in alloc; "{front}{}{middle}{i}{behind}", i + 1)?;
         manifest.push_str(line.as_str())?;
     }
-    manifest.push_str(last)?;
     Ok(manifest)
+}
+
+/// What is told of a statement behind other lines.
+fn told_behind(alloc: Global, lines: &str, statement: &str) -> Result<String, Fail> {
+    let manifest = format!(in alloc; "{lines}{statement}")?;
+    compiled(alloc, manifest.as_str())
 }
 
 #[test]
 fn parents_take_no_depth(rt: HostRuntime) -> Result<(), Fail> {
-    let line = ("class c", " inherits c", " { }\n");
-    let classes = in_line(rt.alloc(), "class c1 { }\n", line, "include c100")?;
-    let told = compiled(rt.alloc(), classes.as_str())?;
+    let pieces = ("class c", " inherits c", " { }\n");
+    let classes = in_line(rt.alloc(), "class c1 { }\n", pieces)?;
+    let told = told_behind(rt.alloc(), classes.as_str(), "include c100")?;
     assert!(rt; told.as_str().starts_with("Class[c1]; Class[c2]; "));
     Ok(())
 }
 
 #[test]
 fn defined_resources_take_no_depth(rt: HostRuntime) -> Result<(), Fail> {
-    let line = ("define d", "() { d", " { 'x': } }\n");
-    let types = in_line(rt.alloc(), "define d1() { }\n", line, "d100 { 'x': }")?;
-    let told = compiled(rt.alloc(), types.as_str())?;
+    let pieces = ("define d", "() { d", " { 'x': } }\n");
+    let types = in_line(rt.alloc(), "define d1() { }\n", pieces)?;
+    let told = told_behind(rt.alloc(), types.as_str(), "d100 { 'x': }")?;
     assert!(rt; told.as_str().starts_with("D100[x]; D99[x]; "));
     Ok(())
 }
@@ -117,12 +119,6 @@ fn numbers(alloc: Global, times: u32) -> Result<String, Fail> {
         manifest.push_str(line.as_str())?;
     }
     Ok(manifest)
-}
-
-/// What is told of a statement behind other lines.
-fn told_behind(alloc: Global, lines: &str, statement: &str) -> Result<String, Fail> {
-    let manifest = format!(in alloc; "{lines}{statement}")?;
-    compiled(alloc, manifest.as_str())
 }
 
 /// Each argument that is shown has the limit of a value, but not all of them together.

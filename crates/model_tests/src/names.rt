@@ -121,15 +121,25 @@ fn names_and_paths_are_short(rt: HostRuntime) -> Result<(), Fail> {
     Ok(())
 }
 
-/// A path below the marks has no limit: each slash of a name is three bytes of its segment.
+/// What is answered to a job that isn't to be there, whose name and user are so many slashes.
+fn job_of_slashes(alloc: Global, count: usize) -> Result<String, Fail> {
+    let name = "/".repeat(alloc, count)?;
+    let text = format!(in alloc; r#"cron|{name}|{{"ensure":"absent","user":"{name}"}}"#)?;
+    answer(alloc, NONE, text.as_str())
+}
+
+/// The program that removes the mark of such a job: each slash of a name is three bytes of its segment.
+fn mark_of_slashes_removed(alloc: Global, count: usize) -> Result<String, Fail> {
+    let segment = "%2F".repeat(alloc, count)?;
+    let path = format!(in alloc; "/.rehearsal/cron/{segment}/{segment}")?;
+    Ok(format!(in alloc; r#"if file?("{path}") then rm("{path}") else id"#)?)
+}
+
+/// A path below the marks has no limit.
 #[test]
 fn marks_are_as_long_as_names_make_them(rt: HostRuntime) -> Result<(), Fail> {
-    let alloc = rt.alloc();
-    let name = "/".repeat(alloc, 255)?;
-    let segment = "%2F".repeat(alloc, 255)?;
-    let text = format!(in alloc; r#"cron|{name}|{{"ensure":"absent","user":"{name}"}}"#)?;
-    let path = format!(in alloc; "/.rehearsal/cron/{segment}/{segment}")?;
-    let want = format!(in alloc; r#"if file?("{path}") then rm("{path}") else id"#)?;
-    assert_eq!(rt; answer(alloc, NONE, text.as_str())?.as_str(), want.as_str());
+    let found = job_of_slashes(rt.alloc(), 255)?;
+    let want = mark_of_slashes_removed(rt.alloc(), 255)?;
+    assert_eq!(rt; found.as_str(), want.as_str());
     Ok(())
 }

@@ -3,7 +3,7 @@
 use catalog::Catalog;
 use dep_graph::graph;
 use fs_lang::Program;
-use pkg_listing::listing_from_json;
+use pkg_listing::{Listing, listing_from_json};
 use pp_compile::compile;
 use pp_value::{Pairs, Value};
 use res_models::program_of;
@@ -22,25 +22,30 @@ fn catalog_of(rt: &impl Abort, alloc: Global, manifest: &[u8]) -> Result<Catalog
 }
 
 /// The programs of a catalog's graph, beside a listing.
-fn programs(alloc: Global, catalog: &Catalog, listing: &[u8]) -> Result<Seq<Program>, Fault> {
-    let listing = listing_from_json(alloc, listing)?;
+fn programs(alloc: Global, catalog: &Catalog, listing: &Listing) -> Result<Seq<Program>, Fault> {
     let found = graph(alloc, catalog)?;
     let count = catalog.count();
     let mut all = Seq::new(alloc);
     for i in found.plain.as_slice() {
         if *i < count {
-            let one = program_of(alloc, catalog.get(*i), &listing)?;
+            let one = program_of(alloc, catalog.get(*i), listing)?;
             all.push(one)?;
         }
     }
     Ok(all)
 }
 
-/// The weight of a workload's programs.
-fn weight_of(rt: &impl Abort, alloc: Global, n: u32) -> Result<u64, Fault> {
+/// A workload as it is read: the catalog of its manifest, and its listing.
+fn read(rt: &impl Abort, alloc: Global, n: u32) -> Result<(Catalog, Listing), Fault> {
     assert!(rt; 1 <= n && n <= 54);
     let (manifest, listing) = workload(alloc, n)?;
     let catalog = catalog_of(rt, alloc, &manifest)?;
+    Ok((catalog, listing_from_json(alloc, &listing)?))
+}
+
+/// The weight of a workload's programs.
+fn weight_of(rt: &impl Abort, alloc: Global, n: u32) -> Result<u64, Fault> {
+    let (catalog, listing) = read(rt, alloc, n)?;
     let all = programs(alloc, &catalog, &listing)?;
     Ok(weight(alloc, all.as_slice())?)
 }

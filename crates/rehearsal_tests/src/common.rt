@@ -99,16 +99,25 @@ pub fn run_files_failing(
     run_over_failing(alloc, named, &over, failing)
 }
 
+fn shelf(alloc: Global, over: &[(&str, &[u8])], reads: &[u64]) -> Result<MemoryShelf, AllocError> {
+    let files = files(alloc, over)?;
+    Ok(MemoryShelf::new(files, reads.to_vec(alloc)?))
+}
+
+fn sinks(alloc: Global, out: &[u64], err: &[u64]) -> Result<(MemorySink, MemorySink), AllocError> {
+    let out = MemorySink::new(alloc, out.to_vec(alloc)?);
+    let err = MemorySink::new(alloc, err.to_vec(alloc)?);
+    Ok((out, err))
+}
+
 fn run_over_failing(
     alloc: Global,
     named: &[&str],
     over: &[(&str, &[u8])],
     failing: &Failing,
 ) -> Result<Told, Fail> {
-    let files = files(alloc, over)?;
-    let mut shelf = MemoryShelf::new(files, failing.0.to_vec(alloc)?);
-    let mut out = MemorySink::new(alloc, failing.1.to_vec(alloc)?);
-    let mut err = MemorySink::new(alloc, failing.2.to_vec(alloc)?);
+    let mut shelf = shelf(alloc, over, failing.0)?;
+    let (mut out, mut err) = sinks(alloc, failing.1, failing.2)?;
     let named = words(alloc, named)?;
     let status = rehearse(alloc, &named, &mut shelf, &mut out, &mut err);
     ending(alloc, status, out.bytes(), err.bytes())

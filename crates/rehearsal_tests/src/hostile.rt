@@ -75,15 +75,33 @@ fn definitions_that_declare_themselves(rt: HostRuntime) -> Result<(), Fail> {
     Ok(())
 }
 
+/// The manifest is judged, large as it is.
+fn is_judged(alloc: Global, rt: &impl Abort, manifest: &str) -> Result<(), Fail> {
+    let told = told_of(alloc, manifest)?;
+    compare(rt, &told, 0, NONE, "", "a manifest that may be");
+    Ok(())
+}
+
+/// The manifest is refused at this place for what is too large.
+fn is_too_large(
+    alloc: Global,
+    rt: &impl Abort,
+    manifest: &str,
+    at: usize,
+    name: &str,
+) -> Result<(), Fail> {
+    let line = format!(in alloc; "refused 32 at {at}: {name}\n")?;
+    let told = told_of(alloc, manifest)?;
+    compare(rt, &told, 4, "", line.as_str(), name);
+    Ok(())
+}
+
 #[test]
 fn texts_that_grow(rt: HostRuntime) -> Result<(), Fail> {
-    let alloc = rt.alloc();
-    let at = doubled(alloc, "xxxxxxxx", 14)?.len() + "$a15 = ".len();
-    let manifest = doubled(alloc, "xxxxxxxx", 15)?;
-    let line = format!(in alloc; "refused 32 at {at}: value\n")?;
-    let told = told_of(alloc, manifest.as_str())?;
-    compare(&rt, &told, 4, "", line.as_str(), "texts that grow");
-    Ok(())
+    let fits = doubled(rt.alloc(), "xxxxxxxx", 14)?;
+    let at = fits.len() + "$a15 = ".len();
+    let large = doubled(rt.alloc(), "xxxxxxxx", 15)?;
+    is_too_large(rt.alloc(), &rt, large.as_str(), at, "value")
 }
 
 /// Each of 128 files has a text of 131,072 bytes, which is 1 too large.
@@ -91,54 +109,44 @@ fn texts_that_grow(rt: HostRuntime) -> Result<(), Fail> {
 fn attributes_that_grow(rt: HostRuntime) -> Result<(), Fail> {
     let alloc = rt.alloc();
     let values = doubled(alloc, "xxxxxxxx", 14)?;
-    let titles = titles(alloc, 128)?;
-    let manifest = format!(in alloc; "{values}@file {{ {titles}: content => $a14 }}")?;
     let at = values.len() + "@file { ".len();
-    let line = format!(in alloc; "refused 32 at {at}: attributes\n")?;
-    let told = told_of(alloc, manifest.as_str())?;
-    compare(&rt, &told, 4, "", line.as_str(), "attributes that grow");
-    Ok(())
+    let titles = titles(alloc, 128)?;
+    let large = format!(in alloc; "{values}@file {{ {titles}: content => $a14 }}")?;
+    is_too_large(alloc, &rt, large.as_str(), at, "attributes")
 }
 
 #[test]
 fn lists_that_grow(rt: HostRuntime) -> Result<(), Fail> {
     let fits = boxes(rt.alloc(), 1_000)?;
-    let told = told_of(rt.alloc(), fits.as_str())?;
-    compare(&rt, &told, 0, NONE, "", "lists that may be");
+    is_judged(rt.alloc(), &rt, fits.as_str())?;
     let at = fits.len() + "$a1001 = ".len();
-    let manifest = boxes(rt.alloc(), 1_001)?;
-    let line = format!(in rt.alloc(); "refused 32 at {at}: value\n")?;
-    let told = told_of(rt.alloc(), manifest.as_str())?;
-    compare(&rt, &told, 4, "", line.as_str(), "lists that grow");
-    Ok(())
+    let large = boxes(rt.alloc(), 1_001)?;
+    is_too_large(rt.alloc(), &rt, large.as_str(), at, "value")
 }
 
-/// So many classes, each of which includes the next in its body, and where the last one is included.
-fn in_bodies(alloc: Global, count: u32) -> Result<(String, usize), Fail> {
-    let mut manifest = String::new(alloc);
-    let mut at = 0;
-    for i in 1..count {
-        let start = format!(in alloc; "class c{i} {{ ")?;
-        manifest.push_str(start.as_str())?;
-        at = manifest.len();
-        let rest = format!(in alloc; "include c{} }}\n", i + 1)?;
-        manifest.push_str(rest.as_str())?;
+/// The classes `c1`, `c2` and so on below an end, each of which includes the next in its body.
+fn including(alloc: Global, end: u32) -> Result<String, Fail> {
+    let mut classes = String::new(alloc);
+    for i in 1..end {
+        let class = format!(in alloc; "class c{i} {{ include c{} }}\n", i + 1)?;
+        classes.push_str(class.as_str())?;
     }
-    let end = format!(in alloc; "class c{count} {{ }}\ninclude c1")?;
-    manifest.push_str(end.as_str())?;
-    Ok((manifest, at))
+    Ok(classes)
+}
+
+/// So many classes, each of which includes the next in its body.
+fn in_bodies(alloc: Global, count: u32) -> Result<String, Fail> {
+    let classes = including(alloc, count)?;
+    Ok(format!(in alloc; "{classes}class c{count} {{ }}\ninclude c1")?)
 }
 
 #[test]
 fn bodies_within_bodies(rt: HostRuntime) -> Result<(), Fail> {
-    let (manifest, _) = in_bodies(rt.alloc(), 64)?;
-    let told = told_of(rt.alloc(), manifest.as_str())?;
-    compare(&rt, &told, 0, NONE, "", "bodies that may be");
-    let (manifest, at) = in_bodies(rt.alloc(), 65)?;
-    let line = format!(in rt.alloc(); "refused 32 at {at}: declared\n")?;
-    let told = told_of(rt.alloc(), manifest.as_str())?;
-    compare(&rt, &told, 4, "", line.as_str(), "bodies within bodies");
-    Ok(())
+    let fits = in_bodies(rt.alloc(), 64)?;
+    is_judged(rt.alloc(), &rt, fits.as_str())?;
+    let large = in_bodies(rt.alloc(), 65)?;
+    let (front, _) = large.as_str().split_once("include c65").unwrap_or(("", ""));
+    is_too_large(rt.alloc(), &rt, large.as_str(), front.len(), "declared")
 }
 
 #[test]

@@ -204,27 +204,36 @@ fn files_apart(alloc: Global, count: u32) -> Result<String, Fail> {
     Ok(manifest)
 }
 
+/// What is told of so many files.
+fn told_of_files(alloc: Global, count: u32) -> Result<Told, Fail> {
+    let manifest = files_apart(alloc, count)?;
+    told_of(alloc, manifest.as_bytes())
+}
+
 #[test]
 fn many_files(rt: HostRuntime) -> Result<(), Fail> {
-    let alloc = rt.alloc();
-    let told = told_of(alloc, files_apart(alloc, 256)?.as_bytes())?;
     let report = "resources 256\npruned 256\ndeterministic\nidempotent\nsucceeds from some tree\n";
-    compare(&rt, &told, 0, report, "", "many files");
-    assert_eq!(rt;
-        refusal_of(alloc, files_apart(alloc, 257)?.as_bytes())?.as_str(),
-        "refused 32 at 0: resources\n"
-    );
+    let rows: [(u32, u8, &str, &str); 2] = [
+        (256, 0, report, ""),
+        (257, 4, "", "refused 32 at 0: resources\n"),
+    ];
+    for (count, status, out, err) in rows {
+        let told = told_of_files(rt.alloc(), count)?;
+        compare(&rt, &told, status, out, err, "many files");
+    }
     Ok(())
 }
 
 #[test]
 fn a_manifest_at_its_limit(rt: HostRuntime) -> Result<(), Fail> {
-    let alloc = rt.alloc();
-    let told = told_of(alloc, &vec![in alloc; b' '; 262_144]?)?;
-    assert_eq!(rt; told.status, 0);
-    let told = told_of(alloc, &vec![in alloc; b' '; 262_145]?)?;
-    assert_eq!(rt; told.status, 4);
-    assert_eq!(rt; told.err.as_str(), "refused 17 at 0: input\n");
-    assert_eq!(rt; told.out.as_str(), "");
+    let rows: [(usize, u8, &str, &str); 2] = [
+        (262_144, 0, NONE, ""),
+        (262_145, 4, "", "refused 17 at 0: input\n"),
+    ];
+    for (blanks, status, out, err) in rows {
+        let manifest = vec![in rt.alloc(); b' '; blanks]?;
+        let told = told_of(rt.alloc(), &manifest)?;
+        compare(&rt, &told, status, out, err, "blanks");
+    }
     Ok(())
 }

@@ -1,12 +1,11 @@
 //! Programs as they are printed.
 
-use fs_lang::{Path, PathFault, Program, Test};
+use fs_lang::{Path, Program};
 use res_models::put;
-use rh_base::Boxed;
 use std::alloc::Global;
 use std::process::Abort;
 use std::test::Fail;
-use test_programs::{choice, program, programs, question};
+use test_programs::{program, programs};
 use test_rows::text;
 use tree_text::program_text;
 
@@ -27,52 +26,39 @@ fn are_printed(rt: &impl Abort, alloc: Global, rows: &[(&str, &str)]) {
     }
 }
 
+/// Choices, and the tests in them.
+const CHOICES: [(&str, &str); 8] = [
+    ("if true: id, err", "if true then id else err"),
+    ("if false: id, err", "if false then id else err"),
+    (
+        r#"if file? /a"b: id, err"#,
+        r#"if file?("/a\"b") then id else err"#,
+    ),
+    (
+        r#"if link? /a"b: id, err"#,
+        r#"if link?("/a\"b") then id else err"#,
+    ),
+    (
+        r#"if dir? /a"b: id, err"#,
+        r#"if dir?("/a\"b") then id else err"#,
+    ),
+    (
+        r#"if emptydir? /a"b: id, err"#,
+        r#"if emptydir?("/a\"b") then id else err"#,
+    ),
+    (
+        r#"if none? /a"b: id, err"#,
+        r#"if none?("/a\"b") then id else err"#,
+    ),
+    (
+        r#"if not (true and dir? /a"b) or false: id, err"#,
+        r#"if (not (true and dir?("/a\"b")) or false) then id else err"#,
+    ),
+];
+
 #[test]
 fn tests_in_choices(rt: HostRuntime) {
-    let rows = [
-        ("if true: id, err", "if true then id else err"),
-        ("if false: id, err", "if false then id else err"),
-        (
-            r#"if file? /a"b: id, err"#,
-            r#"if file?("/a\"b") then id else err"#,
-        ),
-        (
-            r#"if link? /a"b: id, err"#,
-            r#"if link?("/a\"b") then id else err"#,
-        ),
-        (
-            r#"if dir? /a"b: id, err"#,
-            r#"if dir?("/a\"b") then id else err"#,
-        ),
-        (
-            r#"if emptydir? /a"b: id, err"#,
-            r#"if emptydir?("/a\"b") then id else err"#,
-        ),
-        (
-            r#"if none? /a"b: id, err"#,
-            r#"if none?("/a\"b") then id else err"#,
-        ),
-    ];
-    are_printed(&rt, rt.alloc(), &rows);
-}
-
-/// The denial of a question, or another one.
-fn denied_or(alloc: Global, denied: &str, other: &str) -> Result<Test, PathFault> {
-    let denied = Boxed::new(alloc, question(alloc, denied)?)?;
-    let none = Boxed::new(alloc, Test::Not(denied))?;
-    let other = question(alloc, other)?;
-    Ok(Test::Or(none, Boxed::new(alloc, other)?))
-}
-
-#[test]
-fn joined_tests(rt: HostRuntime) -> Result<(), Fail> {
-    let alloc = rt.alloc();
-    let asked = denied_or(alloc, r#"true and dir? /a"b"#, "false")?;
-    let program = choice(alloc, asked, Program::Id, Program::Err)?;
-    let found = printed(&rt, alloc, &program);
-    let want = r#"if (not (true and dir?("/a\"b")) or false) then id else err"#;
-    assert_eq!(rt; found.as_slice(), want.as_bytes());
-    Ok(())
+    are_printed(&rt, rt.alloc(), &CHOICES);
 }
 
 #[test]

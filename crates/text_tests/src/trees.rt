@@ -132,15 +132,18 @@ fn limits_of_paths(rt: HostRuntime) -> Result<(), Fail> {
     Ok(())
 }
 
+/// Adds a folder so deep.
+fn add_folder(alloc: Global, text: &mut String, depth: usize) -> Result<(), Fail> {
+    let path = "/s".repeat(alloc, depth)?;
+    let entry = format!(in alloc; ",\"{path}\":null")?;
+    Ok(text.push_str(entry.as_str())?)
+}
+
 /// The text of a tree of nested folders, as many as are asked for.
 fn nested(alloc: Global, depth: usize) -> Result<String, Fail> {
-    let mut text = String::from_str(alloc, "{")?;
-    let mut path = String::new(alloc);
-    for _ in 0..depth {
-        path.push_str("/s")?;
-        text.push_str(if text.len() == 1 { "\"" } else { ",\"" })?;
-        text.push_str(path.as_str())?;
-        text.push_str("\":null")?;
+    let mut text = String::from_str(alloc, "{\"/s\":null")?;
+    for i in 2..=depth {
+        add_folder(alloc, &mut text, i)?;
     }
     text.push('}')?;
     Ok(text)

@@ -5,6 +5,7 @@ use rh_base::Text;
 use std::alloc::Global;
 use std::process::Abort;
 use std::test::Fail;
+use test_rows::nested;
 
 fn path(rt: &impl Abort, alloc: Global, text: &str) -> Path {
     Path::read(alloc, text).ok().expect(rt, "a path")
@@ -50,24 +51,24 @@ fn texts_that_are_no_paths(rt: HostRuntime) -> Result<(), Fail> {
     Ok(())
 }
 
+/// How many segments the path of a text has.
+fn segments(alloc: Global, text: &str) -> Result<usize, PathFault> {
+    Ok(Path::read(alloc, text)?.segments().len())
+}
+
 #[test]
 fn limits_of_paths(rt: HostRuntime) -> Result<(), Fail> {
     let alloc = rt.alloc();
-    let mut deep = "/s".repeat(alloc, 32)?;
-    assert_eq!(rt; path(&rt, alloc, deep.as_str()).segments().len(), 32);
-    deep.push_str("/s")?;
-    assert_eq!(rt;
-        Path::read(alloc, deep.as_str()).err(),
-        Some(PathFault::Bad)
-    );
-    let mut long = String::from_str(alloc, "/")?;
-    long.push_str("s".repeat(alloc, 1023)?.as_str())?;
-    assert_eq!(rt; path(&rt, alloc, long.as_str()).segments().len(), 1);
-    long.push('s')?;
-    assert_eq!(rt;
-        Path::read(alloc, long.as_str()).err(),
-        Some(PathFault::Bad)
-    );
+    for (front, repeated, count, want) in [
+        ("", "/s", 32usize, Ok(32usize)),
+        ("", "/s", 33, Err(PathFault::Bad)),
+        ("/", "s", 1023, Ok(1)),
+        ("/", "s", 1024, Err(PathFault::Bad)),
+    ] {
+        let text = nested(alloc, &(front, repeated, "", ""), count)?;
+        let found = segments(alloc, text.as_str());
+        assert_eq!(rt; found, want, "{count} of {repeated}");
+    }
     Ok(())
 }
 
