@@ -11,8 +11,8 @@ use Rattle.effect_sets.specs.Members.{Lists, is_parent_of, sets_of}
 use Rattle.effect_sets.proofs.ClearLaws.{Apart, clear_of_three, clear_of_children}
 use Rattle.commute_prune.specs.declared.numbered.Numbered.{Numbered}
 use Rattle.commute_prune.specs.Numbers.{number_in, IsNumbering, has, AreNumbers}
-use Rattle.commute_prune.specs.Numbered.{AreSets, shares, is_clear, StandsFor, AreOf, IsBelow}
-use Rattle.commute_prune.specs.Matrix.{cell, IsMatrix}
+use Rattle.commute_prune.specs.Numbered.{AreSets, AreSetsOf, shares, is_clear, AreOf, IsBelow}
+use Rattle.commute_prune.specs.Matrix.{cell, IsMatrixOf}
 
 -- ---- what is below the count
 
@@ -23,19 +23,27 @@ all_has P (k ∷ ns) h = (h k (or_left (k == k) (has k ns) (eq-eqb k k refl)), a
 numbers_below : (m : BTreeMap Path ℕ) (f : Paths) (ns : List ℕ) → IsNumbering m → AreNumbers m f ns → AllByRecursion (λ n. n < btree_map_len m) ns
 numbers_below m f ns is a = all_has (λ n. n < btree_map_len m) ns (λ n h. let s = a.stems n h in is.below s.0 n s.2)
 
-sets_below : (m : BTreeMap Path ℕ) (e : Program) (x : Numbered) → IsNumbering m → StandsFor m e x → IsBelow (btree_map_len m) x
-sets_below m e x is s = record {
+sets_below : (m : BTreeMap Path ℕ) (f : Footprint) (x : Numbered) → IsNumbering m → AreSetsOf m f x → IsBelow (btree_map_len m) x
+sets_below m f x is s = record {
   writes = numbers_below m _ x.writes.items is s.2.writes;
   folders = numbers_below m _ x.folders.items is s.2.folders;
   parents = numbers_below m _ x.parents.items is s.2.parents;
+  sure = numbers_below m _ x.sure.items is s.2.sure;
 }
 
 by_place : (P : Numbered → Type 0) (xs : List Numbered) → ((i : ℕ) (x : Numbered) → slice_get xs i ≡ Some x → P x) → AllByRecursion P xs
 by_place P [] h = tt
 by_place P (x ∷ xs) h = (h 0 x refl, by_place P xs (λ i y e. h (suc i) y e))
 
-pub all_below : (m : BTreeMap Path ℕ) (es : List Program) (xs : List Numbered) → IsNumbering m → AreOf m es xs → AllByRecursion (IsBelow (btree_map_len m)) xs
-all_below m es xs is are = by_place (IsBelow (btree_map_len m)) xs (λ i x h. sets_below m (get_or es i Id) x is (are i x h))
+-- the sets at each place are those of the footprint there
+abbrev pub AreFootprints : BTreeMap Path ℕ → (ℕ → Footprint) → List Numbered → Type 0
+AreFootprints m f xs = (i : ℕ) (x : Numbered) → slice_get xs i ≡ Some x → AreSetsOf m (f i) x
+
+pub of_programs : (m : BTreeMap Path ℕ) (es : List Program) (xs : List Numbered) → AreOf m es xs → AreFootprints m (λ i. footprint (get_or es i Id)) xs
+of_programs m es xs are i x h = let s = are i x h in (s.0, s.1, s.2)
+
+pub all_below : (m : BTreeMap Path ℕ) (f : ℕ → Footprint) (xs : List Numbered) → IsNumbering m → AreFootprints m f xs → AllByRecursion (IsBelow (btree_map_len m)) xs
+all_below m f xs is are = by_place (IsBelow (btree_map_len m)) xs (λ i x h. sets_below m (f i) x is (are i x h))
 
 -- ---- numbers in common
 
@@ -53,7 +61,7 @@ shares_at ns (j ∷ ks) h = elim (or_cases (has j ns) (shares ns ks) h) [
   | inr there ↦ let more = shares_at ns ks there in (more.0, more.1, or_right (more.0 == j) (has more.0 ks) more.2)
 ]
 
-same_number : {n k : ℕ} (o : Option ℕ) → o ≡ Some n → o ≡ Some k → n ≡ k
+pub same_number : {n k : ℕ} (o : Option ℕ) → o ≡ Some n → o ≡ Some k → n ≡ k
 same_number {n} {k} o h i = let both : ◌≡◌ {A = Option ℕ} (Some n) (Some k) = sym h ∙ i in cc
 
 -- no number in common is no path in common
@@ -111,8 +119,8 @@ clear_lists m l k x y is a b =
       (λ h. and_from (first && second) third (and_from first second (three ∙ w.1 h.writes) (d.1 h.folders)) (e.1 (c.1 h.children))),
     )
 
-pub clear_is : (m : BTreeMap Path ℕ) (e f : Program) (x y : Numbered) → IsNumbering m → StandsFor m e x → StandsFor m f y → IsTrue (is_clear x y) ↔ IsClearOf (footprint e) (footprint f)
-clear_is m e f x y is s r = subst₂ (λ (a b : Footprint). IsTrue (is_clear x y) ↔ IsClearOf a b) s.1 r.1 (clear_lists m s.0 r.0 x y is s.2 r.2)
+clear_is : (m : BTreeMap Path ℕ) (f g : Footprint) (x y : Numbered) → IsNumbering m → AreSetsOf m f x → AreSetsOf m g y → IsTrue (is_clear x y) ↔ IsClearOf f g
+clear_is m f g x y is s r = subst₂ (λ (a b : Footprint). IsTrue (is_clear x y) ↔ IsClearOf a b) s.1 r.1 (clear_lists m s.0 r.0 x y is s.2 r.2)
 
 -- ---- the matrix
 
@@ -135,12 +143,11 @@ rows_of xs = map (λ f. map (is_clear f) xs) xs
 cell_at : (xs : List Numbered) (i j : ℕ) (x y : Numbered) → slice_get xs i ≡ Some x → slice_get xs j ≡ Some y → cell (rows_of xs) i j ≡ is_clear x y
 cell_at xs i j x y h k = ap (λ row. get_or row j false) (map_got (λ f. map (is_clear f) xs) [] xs i x h) ∙ map_got (is_clear x) false xs j y k
 
-pub matrix_is : (m : BTreeMap Path ℕ) (es : List Program) (xs : List Numbered) → IsNumbering m → length xs ≡ length es → AreOf m es xs → length (rows_of xs) ≡ length xs → IsMatrix es (rows_of xs)
-matrix_is m es xs is long are rows = record {
+pub matrix_is : (m : BTreeMap Path ℕ) (f : ℕ → Footprint) (n : ℕ) (xs : List Numbered) → IsNumbering m → length xs ≡ n → AreFootprints m f xs → length (rows_of xs) ≡ length xs → IsMatrixOf n f (rows_of xs)
+matrix_is m f n xs is long are rows = record {
   long = rows ∙ long;
   cells = λ i j h k.
       let x = got xs i (omega (arith, long)) in
       let y = got xs j (omega (arith, long)) in
-      subst (λ b. IsTrue b ↔ IsClearOf (footprint (get_or es i Id)) (footprint (get_or es j Id))) (sym (cell_at xs i j x.0 y.0 x.1 y.1))
-      (clear_is m (get_or es i Id) (get_or es j Id) x.0 y.0 is (are i x.0 x.1) (are j y.0 y.1));
+      subst (λ b. IsTrue b ↔ IsClearOf (f i) (f j)) (sym (cell_at xs i j x.0 y.0 x.1 y.1)) (clear_is m (f i) (f j) x.0 y.0 is (are i x.0 x.1) (are j y.0 y.1));
 }

@@ -16,7 +16,7 @@ of_some : {x y : Numbered} → ◌≡◌ {A = Option Numbered} (Some x) (Some y)
 of_some e = cc
 
 -- what stands at a place of a longer list
-get_last : (xs : List Numbered) (y : Numbered) (i : ℕ) (x : Numbered) → slice_get (xs ++ y ∷ []) i ≡ Some x → (slice_get xs i ≡ Some x) ⊎ ((i ≡ length xs) × (y ≡ x))
+pub get_last : (xs : List Numbered) (y : Numbered) (i : ℕ) (x : Numbered) → slice_get (xs ++ y ∷ []) i ≡ Some x → (slice_get xs i ≡ Some x) ⊎ ((i ≡ length xs) × (y ≡ x))
 get_last [] y zero x h = inr (refl, of_some h)
 get_last [] y (suc i) x h = let no : ◌≡◌ {A = Option Numbered} None (Some x) = h in cc
 get_last (z ∷ xs) y zero x h = inl h
@@ -40,7 +40,9 @@ still_sets m more e x k s = (
     folders = still_numbers m more _ _ k s.2.folders;
     children = still_numbers m more _ _ k s.2.children;
     parents = still_numbers m more _ _ k s.2.parents;
+    sure = still_numbers m more _ _ k s.2.sure;
   },
+  s.3,
 )
 
 -- the sets of one program more

@@ -1,11 +1,16 @@
-//! The laws on pruning.
+//! The laws on pruning, and on pairs.
 
-ghost use Rattle.std.specs.Prelude.{◌≡◌, ℕ, Bool, List, ◌++◌, map, length, slice_index_or};
+ghost use Rattle.std.specs.Prelude.{◌≡◌, ℕ, Bool, List, [], ◌++◌, map, length, slice_index_or};
 ghost use Rattle.std.specs.List.{AllByRecursion};
-ghost use Rattle.fs_semantics.specs.Programs.{Program};
-ghost use Rattle.fs_semantics.specs.Changes.{IsProper};
+ghost use Rattle.fs_semantics.specs.Programs.{Program, Id};
+ghost use Rattle.fs_semantics.specs.Changes.{IsProper, CommuteFrom};
 ghost use Rattle.fs_semantics.specs.Orders.{Told, up_from, IsLinearExtension, IsDeterministic};
+ghost use Rattle.sure_folders.specs.Folders.{nowhere, IsTreeWith};
+ghost use Rattle.sure_folders.specs.Before.{IsSureBeforeEither};
+ghost use Rattle.commute_prune.specs.Doubtful.{AreApartWhereSure, AreDoubtful};
 ghost use Rattle.commute_prune.specs.Pruning.{Move, Leads, Prunes, firsts, lasts, chosen, between, AreSome};
+
+use sure_folders::{apart_where_sure, sure_before};
 
 /// The moves of a pruning are determined, and lead to what is kept, which is some of all. Where the kept programs are
 /// deterministic, all are; and an allowed order of the kept ones, completed by what goes first and what goes last, is one of
@@ -26,3 +31,14 @@ pub fn pruning()
         → (o : List ℕ) → IsLinearExtension (length (chosen es kept)) (between (Told before) kept) o
         → IsLinearExtension (length es) (Told before) (firsts moves ++ (map (λ i. slice_index_or kept i 0) o ++ lasts moves)) }
 {}
+
+/// Programs that are apart, each where the folders stand that are sure before it, commute from the trees in which these stand. So
+/// where no pair is doubtful, the order doesn't matter.
+pub fn sure_pairs()
+    ensures commute { (es : List Program) (before : ℕ → ℕ → Bool) → AllByRecursion IsProper es → (a b : ℕ) → AreApartWhereSure es before a b
+        → CommuteFrom (IsTreeWith (IsSureBeforeEither nowhere es (Told before) a b)) (slice_index_or es a Id) (slice_index_or es b Id) }
+    ensures enough { (es : List Program) (before : ℕ → ℕ → Bool) → AllByRecursion IsProper es → AreDoubtful es before [] → IsDeterministic es (Told before) }
+{
+    apart_where_sure();
+    sure_before();
+}

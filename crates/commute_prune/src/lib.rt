@@ -1,6 +1,7 @@
-//! Setting aside programs whose order doesn't matter.
+//! Setting aside programs whose order doesn't matter, and the pairs of programs whose order may matter.
 #![tactic(auto)]
 
+mod doubtful;
 mod laws;
 mod marks;
 mod matrix;
@@ -9,7 +10,9 @@ mod numbered;
 mod numbers;
 mod proper;
 mod settling;
+mod sure;
 
-pub use laws::pruning;
+pub use doubtful::doubtful_pairs;
+pub use laws::{pruning, sure_pairs};
 pub use proper::are_proper;
 pub use settling::{Pruned, prune};

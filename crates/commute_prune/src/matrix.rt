@@ -30,7 +30,7 @@ fn number_one(
 }
 
 /// The footprint of each program by number.
-fn number_programs(
+pub(crate) fn number_programs(
     alloc: Global,
     numbers: &mut BTreeMap<Path, usize>,
     programs: &[Program],
@@ -68,7 +68,12 @@ fn clear_row(
     Ok(row)
 }
 
-fn clear_rows(alloc: Global, count: usize, all: &[Numbered]) -> Result<Seq<Seq<bool>>, NoMemory>
+/// For each two whether what the first changes is clear of what the second looks at.
+pub(crate) fn clear_rows(
+    alloc: Global,
+    count: usize,
+    all: &[Numbered],
+) -> Result<Seq<Seq<bool>>, NoMemory>
     requires { AllByRecursion (IsBelow count) all.now }
     ensures { IfOk result (λ rows. rows ≡ map (λ f. map (is_clear_of f) all.now) all.now) }
 {

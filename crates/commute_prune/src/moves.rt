@@ -11,8 +11,9 @@ use orders::Order;
 use rh_base::{NoMemory, Seq};
 use std::alloc::Global;
 
+/// Whether the first comes before the second.
 #[tactic(auto, using(crate::proofs::StepLaws::told_by))]
-fn comes(order: &Order, a: u32, b: u32) -> bool
+pub(crate) fn comes(order: &Order, a: u32, b: u32) -> bool
     requires a { a < order.now.count }
     requires b { b < order.now.count }
     ensures { result ≡ comes order.now a b }
@@ -32,7 +33,8 @@ fn is_clear_at(clear: &[Seq<bool>], i: u32, j: u32) -> bool
     }
 }
 
-fn are_apart(clear: &[Seq<bool>], i: u32, j: u32) -> bool
+/// Whether neither program changes what the other one looks at.
+pub(crate) fn are_apart(clear: &[Seq<bool>], i: u32, j: u32) -> bool
     ensures { result ≡ are_apart clear.now i j }
 {
     if is_clear_at(clear, i, j) {

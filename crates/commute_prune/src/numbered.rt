@@ -12,7 +12,7 @@ use rh_base::NoMemory;
 use std::alloc::Global;
 use std::collections::BTreeMap;
 
-/// The sets of a footprint, and the parents of what it changes.
+/// The sets of a footprint, the parents of what it changes, and the folders that stand after the program.
 #[derive(Drop)]
 pub(crate) struct Numbered {
     pub reads: Vec<usize>,
@@ -20,6 +20,7 @@ pub(crate) struct Numbered {
     pub folders: Vec<usize>,
     pub children: Vec<usize>,
     pub parents: Vec<usize>,
+    pub sure: Vec<usize>,
 }
 
 /// A footprint by number.
@@ -38,12 +39,14 @@ pub(crate) fn number_sets(
     let folders = number_all(alloc, numbers, f.folders())?;
     let children = number_all(alloc, numbers, f.children())?;
     let parents = number_all(alloc, numbers, f.parents())?;
+    let sure = number_all(alloc, numbers, f.sure())?;
     Ok(Numbered {
         reads,
         writes,
         folders,
         children,
         parents,
+        sure,
     })
 }
 

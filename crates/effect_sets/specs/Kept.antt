@@ -4,9 +4,9 @@ use Rattle.fs_semantics.specs.FileTree.{Path}
 use Rattle.effect_sets.specs.declared.footprints.Footprint.TheInside.{Inside}
 use Rattle.effect_sets.specs.Members.{Lists, members, is_parent_of}
 
--- the four sets as lists
+-- the sets as lists
 abbrev pub lists_in : Inside → Lists
-lists_in f = record { reads = f.found.reads.keys; writes = f.found.writes.keys; folders = f.found.folders.keys; children = f.found.children.keys }
+lists_in f = record { reads = f.found.reads.keys; writes = f.found.writes.keys; folders = f.found.folders.keys; children = f.found.children.keys; sure = f.sure.keys }
 
 -- its parents are those of what is written and of the folders
 abbrev pub HasParents : Inside → Type 0

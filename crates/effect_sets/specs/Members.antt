@@ -24,12 +24,13 @@ common f g q = f q && g q
 abbrev pub is_parent_of : Path → List Path → Bool
 is_parent_of q ps = list_any (λ p. path_eq q (parent p)) ps
 
--- four lists of paths, each in order
+-- the four sets of a footprint and the folders that stand after the program, each as a list in order
 pub record Lists : Type 0 where
   pub reads : List Path
   pub writes : List Path
   pub folders : List Path
   pub children : List Path
+  pub sure : List Path
 
 -- the sets of these members
 abbrev pub sets_of : Lists → Footprint

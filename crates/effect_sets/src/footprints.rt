@@ -3,7 +3,7 @@
 ghost use Rattle.std.specs.Prelude.{◌≡◌, ◌↔◌, ◌&&◌, ◌||◌, false, IsTrue, IfOk};
 ghost use Rattle.fs_semantics.specs.FileTree.{Path as Segments, parent, is_among};
 ghost use Rattle.fs_lang.specs.Meaning.{program_of};
-ghost use Rattle.effect_sets.specs.Footprints.{footprint, IsClearOf, AreApart};
+ghost use Rattle.effect_sets.specs.Footprints.{nowhere, sure_after, footprint, IsClearOf, AreApart};
 ghost use Rattle.effect_sets.specs.Members.{is_parent_of, sets_of};
 
 use crate::found::{Found, nothing};
@@ -16,11 +16,13 @@ use std::collections::BTreeSet;
 use std::marker::Model;
 
 /// What a program looks at and what it may change: paths that are looked at, paths that are written, paths that are made
-/// sure to be folders, and paths whose children matter. Contracts see four lists of paths, each in order.
+/// sure to be folders, and paths whose children matter; and which of them are folders wherever the program has ended in a tree.
+/// Contracts see five lists of paths, each in order.
 #[derive(Debug, Drop)]
 pub struct Footprint {
     found: Found,
     parents: BTreeSet<Path>,
+    sure: BTreeSet<Path>,
 }
 
 impl Model for Footprint {
@@ -66,6 +68,13 @@ impl Footprint {
         &self.found.children
     }
 
+    /// The paths that are folders where the program has ended in a tree.
+    pub fn sure(&self) -> &BTreeSet<Path>
+        ensures { result.now.keys ≡ self.now.sure }
+    {
+        &self.sure
+    }
+
     /// The parents of what is written, and of the folders.
     pub fn parents(&self) -> &BTreeSet<Path>
         ensures { (q : Segments) → is_among q result.now.keys ≡ (is_parent_of q self.now.writes || is_parent_of q self.now.folders) }
@@ -74,9 +83,10 @@ impl Footprint {
     }
 }
 
-/// The footprint of a program.
+/// The footprint of a program, and the folders that stand after it.
 pub fn footprint_of(alloc: Global, program: &Program) -> Result<Footprint, NoMemory>
-    ensures { IfOk result (λ f. sets_of f ≡ footprint (program_of program.now)) }
+    ensures sets { IfOk result (λ f. sets_of f ≡ footprint (program_of program.now)) }
+    ensures sure { IfOk result (λ f. (λ q. is_among q f.sure) ≡ sure_after (program_of program.now) nowhere) }
 {
     let mut found = nothing(alloc);
     let mut sure = BTreeSet::new(alloc);
@@ -84,7 +94,11 @@ pub fn footprint_of(alloc: Global, program: &Program) -> Result<Footprint, NoMem
     let mut parents = BTreeSet::new(alloc);
     add_parents(alloc, &found.writes, &mut parents)?;
     add_parents(alloc, &found.folders, &mut parents)?;
-    Ok(Footprint { found, parents })
+    Ok(Footprint {
+        found,
+        parents,
+        sure,
+    })
 }
 
 fn all_three(a: bool, b: bool, c: bool) -> bool

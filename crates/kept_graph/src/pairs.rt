@@ -4,7 +4,8 @@ ghost use Rattle.std.specs.Prelude.{◌≡◌, ◌↔◌, ◌<◌, ◌≤◌, �
 ghost use Rattle.std.specs.List.{AllByRecursion};
 ghost use Rattle.orders.specs.Relation.{Comes};
 ghost use Rattle.commute_prune.specs.Pruning.{between};
-ghost use Rattle.kept_graph.specs.Pairs.{pair_if, comes_at, row_of, pairs_of};
+ghost use Rattle.commute_prune.specs.Pairs.{pair_if, row_of, pairs_of};
+ghost use Rattle.kept_graph.specs.Pairs.{comes_at};
 
 use orders::{Order, OrderFault};
 use rh_base::{NoMemory, Seq};

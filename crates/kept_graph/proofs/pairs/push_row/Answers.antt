@@ -1,5 +1,6 @@
 use Rattle.std.proofs.Common.{◌++◌, ap, sym, add-one, ◌∙◌, append_assoc}
-use Rattle.kept_graph.specs.Pairs.{comes_at, row_of, pair_if}
+use Rattle.commute_prune.specs.Pairs.{row_of, pair_if}
+use Rattle.kept_graph.specs.Pairs.{comes_at}
 use Rattle.kept_graph.proofs.pairs.push_row.Goals as goal
 
 pub loop-j-preserved : goal.loop-j-preserved

@@ -1,5 +1,6 @@
 use Rattle.std.proofs.Common.{◌≡◌, ◌++◌}
-use Rattle.kept_graph.specs.Pairs.{comes_at, row_of}
+use Rattle.commute_prune.specs.Pairs.{row_of}
+use Rattle.kept_graph.specs.Pairs.{comes_at}
 use Rattle.kept_graph.proofs.pairs.push_row.Given as goal
 
 abbrev pub invariant-loop-j : goal.invariant-loop-j

@@ -1,0 +1,177 @@
+-- Which pairs are doubtful; and that others commute where the folders stand that are sure before them.
+use Rattle.std.proofs.Common.{◌≡◌, ◌≢◌, ◌⊎◌, ℕ, zero, suc, ◌+◌, ◌<◌, Bool, true, false, not, ◌&&◌, ◌||◌, ◌==◌, List, [], ◌∷◌, length, get_or, inl, inr, refl, sym, ap, subst, subst₂, ◌∙◌, arith, nat_lt, ltb-true, ltb-false, eqb-true, eq-eqb}
+use Rattle.std.specs.Prelude.{◌↔◌, IsTrue}
+use Rattle.std.specs.List.{Contains, AllByRecursion, list_any}
+use Rattle.std.proofs.lemmas.Bool.{or_cases, or_left, or_right, and_parts, and_from, cases_Bool, both_ways, cases_order}
+use Rattle.fs_semantics.specs.FileTree.{Path, Tree}
+use Rattle.fs_semantics.specs.Programs.{Program, Id}
+use Rattle.fs_semantics.specs.Changes.{IsProper, CommuteFrom}
+use Rattle.fs_semantics.specs.Orders.{Told, IsFree}
+use Rattle.effect_sets.specs.Footprints.{Footprint, footprint, sure_after, IsClearOf, AreApart}
+use Rattle.effect_sets.specs.Footprints as prints
+use Rattle.sure_folders.specs.Folders.{Paths, nowhere, either, In, IsTreeWith}
+use Rattle.sure_folders.specs.Before.{IsSureBefore, IsSureBeforeEither, FreeCommuteWhereSure}
+use Rattle.sure_folders.specs.Apart.{where_stand}
+use Rattle.orders.specs.Relation.{Relation, comes, Comes}
+use Rattle.commute_prune.specs.Matrix.{cell, IsMatrixOf}
+use Rattle.commute_prune.specs.Steps.{are_apart}
+use Rattle.commute_prune.specs.Pairs.{pairs_of}
+use Rattle.commute_prune.specs.Sure.{is_written, is_left_before, surely_stands, footprint_at}
+use Rattle.commute_prune.specs.Doubtful.{AreApartWhereSure, IsDoubtful, AreDoubtful, is_doubtful}
+use Rattle.commute_prune.proofs.PairLaws.{pairs_from, pairs_in}
+
+-- ---- what is listed
+
+module _ (es : List Program) (order : Relation) (rows : List (List Bool)) (matrix : IsMatrixOf (length es) (footprint_at es (comes order)) rows) (long : length es ≡ order.count) where
+  apart_from_rows : (a b : ℕ) → a < length es → b < length es → are_apart rows a b ≡ true → AreApartWhereSure es (comes order) a b
+  apart_from_rows a b low high h =
+      let two = and_parts (cell rows a b) (cell rows b a) h in
+      record { left = (matrix.cells a b low high).0 two.0; right = (matrix.cells b a high low).0 two.1 }
+
+  rows_from_apart : (a b : ℕ) → a < length es → b < length es → AreApartWhereSure es (comes order) a b → are_apart rows a b ≡ true
+  rows_from_apart a b low high h = and_from (cell rows a b) (cell rows b a) ((matrix.cells a b low high).1 h.left) ((matrix.cells b a high low).1 h.right)
+
+  not_told : (a b : ℕ) → (Comes order a b → ⊥) → not (comes order a b) ≡ true
+  not_told a b h = elim (cases_Bool (comes order a b)) [ inl yes_ ↦ absurd (h yes_) | inr none ↦ ap not none ]
+
+  told_not : (a b : ℕ) → not (comes order a b) ≡ true → Comes order a b → ⊥
+  told_not a b h k = let wrong : false ≡ true = sym (ap not k) ∙ h in cc
+
+  less_told : (a b : ℕ) → a < b → nat_lt a b ≡ true
+  less_told a b h = elim (cases_Bool (nat_lt a b)) [ inl yes_ ↦ yes_ | inr none ↦ absurd (omega (arith, h, ltb-false a b none)) ]
+
+  listed : (a b : ℕ) → a < b → b < length es → IsFree (Told (comes order)) a b → Contains (pairs_of (is_doubtful order rows) order.count order.count) (a, b) ⊎ AreApartWhereSure es (comes order) a b
+  listed a b less high free =
+      let low : a < length es = omega (arith, less, high) in
+      elim (cases_Bool (are_apart rows a b)) [
+        | inl apart ↦ inr (apart_from_rows a b low high apart)
+        | inr meet ↦
+            let first = and_from (nat_lt a b) (not (comes order a b)) (less_told a b less) (not_told a b free.not_before) in
+            let second = and_from (nat_lt a b && not (comes order a b)) (not (comes order b a)) first (not_told b a free.not_after) in
+            inl (pairs_in (is_doubtful order rows) order.count order.count a b (omega (arith, low, long)) (omega (arith, high, long))
+            (and_from (nat_lt a b && not (comes order a b) && not (comes order b a)) (not (are_apart rows a b)) second (ap not meet)))
+      ]
+
+  of_pair : (a b : ℕ) → Contains (pairs_of (is_doubtful order rows) order.count order.count) (a, b) → IsDoubtful es (comes order) a b
+  of_pair a b h =
+      let pair = pairs_from (is_doubtful order rows) order.count order.count (a, b) h in
+      let last = and_parts (nat_lt a b && not (comes order a b) && not (comes order b a)) (not (are_apart rows a b)) pair.passes in
+      let more = and_parts (nat_lt a b && not (comes order a b)) (not (comes order b a)) last.0 in
+      let first = and_parts (nat_lt a b) (not (comes order a b)) more.0 in
+      let less : a < b = ltb-true a b first.0 in
+      let high = pair.right in record {
+        ordered = less;
+        below = omega (arith, high, long);
+        free = record { differ = λ same. omega (arith, less, same); not_before = told_not a b first.1; not_after = told_not b a more.1 };
+        meet = λ apart. let wrong : false ≡ true = sym (ap not (rows_from_apart a b (omega (arith, less, high, long)) (omega (arith, high, long)) apart)) ∙ last.1 in cc;
+      }
+
+  pub are_doubtful : AreDoubtful es (comes order) (pairs_of (is_doubtful order rows) order.count order.count)
+  are_doubtful = record { all = listed; only = of_pair }
+
+-- ---- what commutes
+
+-- who leaves the folder
+left_by : (before : ℕ → ℕ → Bool) (i n : ℕ) (es : List Program) (q : Path) → is_left_before before i n es q ≡ true
+    → (k : ℕ) × (k < length es) × (n + k ≢ i) × (before (n + k) i ≡ true) × (sure_after (get_or es k Id) prints.nowhere q ≡ true)
+left_by before i n [] q h = cc
+left_by before i n (e ∷ es) q h = elim (or_cases (not (n == i) && before n i && sure_after e prints.nowhere q) (is_left_before before i (suc n) es q) h) [
+  | inl here ↦
+      let two = and_parts (not (n == i) && before n i) (sure_after e prints.nowhere q) here in
+      let one = and_parts (not (n == i)) (before n i) two.0 in
+      let none : n + 0 ≡ n = omega arith in (
+        0,
+        omega arith,
+        (λ same. let wrong : false ≡ true = sym (ap not (eq-eqb n i (sym none ∙ same))) ∙ one.0 in cc),
+        ap (λ k. before k i) none ∙ one.1,
+        two.1,
+      )
+  | inr there ↦
+      let rest = left_by before i (suc n) es q there in
+      let next : n + suc rest.0 ≡ suc n + rest.0 = omega arith in (
+        suc rest.0,
+        omega (arith, rest.1),
+        (λ same. rest.2 (sym next ∙ same)),
+        ap (λ k. before k i) next ∙ rest.3,
+        rest.4,
+      )
+]
+
+-- none of the programs may write a path that isn't written
+none_writes : (es : List Program) (q : Path) → not (is_written es q) ≡ true → AllByRecursion (λ e. (footprint e).writes q ≡ false) es
+none_writes [] q h = tt
+none_writes (e ∷ es) q h = elim (cases_Bool ((footprint e).writes q)) [
+  | inl writes ↦ let wrong : false ≡ true = sym (ap not (or_left ((footprint e).writes q) (is_written es q) writes)) ∙ h in cc
+  | inr none ↦ (none, none_writes es q (sym (ap not (ap (λ b. b || is_written es q) none)) ∙ h))
+]
+
+-- whatever is said of the makers of folders and of footprints
+module _ (es : List Program) (before : ℕ → ℕ → Bool) where
+  abbrev pub ByFootprints : Type 0
+  ByFootprints = (i maker : ℕ) (p : Path) → maker < length es → maker ≢ i → Told before maker i → In (sure_after (get_or es maker Id) nowhere) p
+      → AllByRecursion (λ e. (footprint e).writes p ≡ false) es → IsSureBefore nowhere es (Told before) i p
+
+  sure_there : ByFootprints → (i : ℕ) (p : Path) → surely_stands es before i p ≡ true → IsSureBefore nowhere es (Told before) i p
+  sure_there by i p h =
+      let two = and_parts (is_left_before before i 0 es p) (not (is_written es p)) h in
+      let maker = left_by before i 0 es p two.0 in
+      let same : 0 + maker.0 ≡ maker.0 = omega arith in
+      by i maker.0 p maker.1 (λ e. maker.2 (same ∙ e)) (ap (λ k. before k i) (sym same) ∙ maker.3) maker.4 (none_writes es p two.1)
+
+  -- to look at less is to be apart from more
+  fewer_reads : (x y : Footprint) (f g h k : Paths) → ((q : Path) → f q ≡ true → h q ≡ true) → ((q : Path) → g q ≡ true → k q ≡ true)
+      → IsClearOf (where_stand f x) (where_stand g y) → IsClearOf (where_stand h x) (where_stand k y)
+  fewer_reads x y f g h k fewer more clear = record {
+    writes = λ q w. three (y.reads q) (y.writes q) (y.folders q) (g q) (k q) (more q) (clear.writes q w);
+    folders = λ q w. less (y.reads q) (g q) (k q) (more q) (clear.folders q w);
+    children = clear.children;
+  }
+    where
+      less : (r s t : Bool) → (s ≡ true → t ≡ true) → (r && not s) ≡ false → (r && not t) ≡ false
+      less false s t m e = refl
+      less true false t m e = let wrong : true ≡ false = e in cc
+      less true true true m e = refl
+      less true true false m e = let wrong : false ≡ true = m refl in cc
+
+      three : (r w d s t : Bool) → (s ≡ true → t ≡ true) → ((r && not s) || w || d) ≡ false → ((r && not t) || w || d) ≡ false
+      three false w d s t m e = e
+      three true w d true true m e = e
+      three true w d true false m e = let wrong : false ≡ true = m refl in cc
+      three true w d false t m e = cc
+
+  pub apart_with_both : (a b : ℕ) → AreApartWhereSure es before a b
+      → AreApart (where_stand (either (surely_stands es before a) (surely_stands es before b)) (footprint (get_or es a Id)))
+      (where_stand (either (surely_stands es before a) (surely_stands es before b)) (footprint (get_or es b Id)))
+  apart_with_both a b apart =
+      let f = surely_stands es before a in
+      let g = surely_stands es before b in record {
+        left = fewer_reads _ _ f g (either f g) (either f g) (λ q. or_left (f q) (g q)) (λ q. or_right (f q) (g q)) apart.left;
+        right = fewer_reads _ _ g f (either f g) (either f g) (λ q. or_right (f q) (g q)) (λ q. or_left (f q) (g q)) apart.right;
+      }
+
+  pub sure_either : ByFootprints → (a b : ℕ) (p : Path) → In (either (surely_stands es before a) (surely_stands es before b)) p → IsSureBeforeEither nowhere es (Told before) a b p
+  sure_either by a b p h = elim (or_cases (surely_stands es before a p) (surely_stands es before b p) h) [
+    | inl left ↦ inl (sure_there by a p left)
+    | inr right ↦ inr (sure_there by b p right)
+  ]
+
+  -- where no pair is doubtful, free programs commute where the folders stand that are sure before either
+  pub all_free_commute : ((a b : ℕ) → AreApartWhereSure es before a b → CommuteFrom (IsTreeWith (IsSureBeforeEither nowhere es (Told before) a b)) (get_or es a Id) (get_or es b Id))
+      → AreDoubtful es before [] → FreeCommuteWhereSure nowhere es (Told before)
+  all_free_commute commute none a b low high free = elim (cases_order a b) [
+    | inl same ↦ absurd (free.differ same)
+    | inr other ↦ elim other [
+      | inl less ↦ elim (none.all a b less high free) [ inl listed ↦ absurd (none_listed listed) | inr apart ↦ commute a b apart ]
+      | inr more ↦ elim (none.all b a more low (record { differ = λ e. free.differ (sym e); not_before = free.not_after; not_after = free.not_before })) [
+        | inl listed ↦ absurd (none_listed listed)
+        | inr apart ↦ λ t tree. sym (commute b a apart t (record { is_tree = tree.is_tree; stand = λ p h. tree.stand p (turned p h) }))
+      ]
+    ]
+  ]
+    where
+      none_listed : {e : ℕ × ℕ} → Contains [] e → ⊥
+      none_listed h = omega (arith, h.1)
+
+      turned : (p : Path) → IsSureBeforeEither nowhere es (Told before) b a p → IsSureBeforeEither nowhere es (Told before) a b p
+      turned p (inl h) = inr h
+      turned p (inr h) = inl h
