@@ -1,0 +1,5 @@
+pub mod Deciding
+pub mod Extensions
+pub mod Entries
+pub mod Trees
+pub mod Determinism

@@ -1,0 +1,5 @@
+use Rattle.finite_search.proofs.Determinism.{determinism_decided}
+use Rattle.finite_search.proofs.determinism_is_decided.Goals as goal
+
+pub returns : goal.returns
+returns c = record { decided = determinism_decided }
