@@ -5,7 +5,7 @@ use Rattle.std.specs.List.{Contains, AllByRecursion, list_any}
 use Rattle.std.proofs.lemmas.Bool.{or_cases, or_left, or_right, and_parts, and_from, cases_Bool, both_ways, cases_order}
 use Rattle.fs_semantics.specs.FileTree.{Path, Tree}
 use Rattle.fs_semantics.specs.Programs.{Program, Id}
-use Rattle.fs_semantics.specs.Changes.{IsProper, CommuteFrom}
+use Rattle.fs_semantics.specs.Changes.{IsProper, CommuteFrom, Commutes}
 use Rattle.fs_semantics.specs.Orders.{Told, IsFree}
 use Rattle.effect_sets.specs.Footprints.{Footprint, footprint, sure_after, IsClearOf, AreApart}
 use Rattle.effect_sets.specs.Footprints as prints
@@ -155,23 +155,22 @@ module _ (es : List Program) (before : ℕ → ℕ → Bool) where
     | inr right ↦ inr (sure_there by b p right)
   ]
 
-  -- where no pair is doubtful, free programs commute where the folders stand that are sure before either
+  -- where those of each doubtful pair commute, free programs do where the folders stand that are sure before either
   pub all_free_commute : ((a b : ℕ) → AreApartWhereSure es before a b → CommuteFrom (IsTreeWith (IsSureBeforeEither nowhere es (Told before) a b)) (get_or es a Id) (get_or es b Id))
-      → AreDoubtful es before [] → FreeCommuteWhereSure nowhere es (Told before)
-  all_free_commute commute none a b low high free = elim (cases_order a b) [
+      → (pairs : List (ℕ × ℕ)) → AreDoubtful es before pairs → ((a b : ℕ) → Contains pairs (a, b) → Commutes (get_or es a Id) (get_or es b Id)) → FreeCommuteWhereSure nowhere es (Told before)
+  all_free_commute commute pairs are all a b low high free = elim (cases_order a b) [
     | inl same ↦ absurd (free.differ same)
     | inr other ↦ elim other [
-      | inl less ↦ elim (none.all a b less high free) [ inl listed ↦ absurd (none_listed listed) | inr apart ↦ commute a b apart ]
-      | inr more ↦ elim (none.all b a more low (record { differ = λ e. free.differ (sym e); not_before = free.not_after; not_after = free.not_before })) [
-        | inl listed ↦ absurd (none_listed listed)
-        | inr apart ↦ λ t tree. sym (commute b a apart t (record { is_tree = tree.is_tree; stand = λ p h. tree.stand p (turned p h) }))
-      ]
+      | inl less ↦ elim (are.all a b less high free) [ inl here ↦ from_all (IsSureBeforeEither nowhere es (Told before) a b) (get_or es a Id) (get_or es b Id) (all a b here) | inr apart ↦ commute a b apart ]
+      | inr more ↦ λ t tree. sym ((elim (are.all b a more low (record { differ = λ e. free.differ (sym e); not_before = free.not_after; not_after = free.not_before })) as (λ x. CommuteFrom (IsTreeWith (IsSureBeforeEither nowhere es (Told before) b a)) (get_or es b Id) (get_or es a Id)) [
+        | inl here ↦ from_all (IsSureBeforeEither nowhere es (Told before) b a) (get_or es b Id) (get_or es a Id) (all b a here)
+        | inr apart ↦ commute b a apart
+      ]) t (record { is_tree = tree.is_tree; stand = λ p h. tree.stand p (turned p h) }))
     ]
   ]
     where
-      none_listed : {e : ℕ × ℕ} → Contains [] e → ⊥
-      none_listed h = omega (arith, h.1)
-
+      from_all : (P : Path → Type 0) (e f : Program) → Commutes e f → CommuteFrom (IsTreeWith P) e f
+      from_all P e f h t tree = h t tree.is_tree
       turned : (p : Path) → IsSureBeforeEither nowhere es (Told before) b a p → IsSureBeforeEither nowhere es (Told before) a b p
       turned p (inl h) = inr h
       turned p (inr h) = inl h

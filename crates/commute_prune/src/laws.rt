@@ -1,9 +1,9 @@
 //! The laws on pruning, and on pairs.
 
-ghost use Rattle.std.specs.Prelude.{◌≡◌, ℕ, Bool, List, [], ◌++◌, map, length, slice_index_or};
-ghost use Rattle.std.specs.List.{AllByRecursion};
+ghost use Rattle.std.specs.Prelude.{◌≡◌, ℕ, Bool, List, ◌++◌, map, length, slice_index_or};
+ghost use Rattle.std.specs.List.{AllByRecursion, Contains};
 ghost use Rattle.fs_semantics.specs.Programs.{Program, Id};
-ghost use Rattle.fs_semantics.specs.Changes.{IsProper, CommuteFrom};
+ghost use Rattle.fs_semantics.specs.Changes.{IsProper, CommuteFrom, Commutes};
 ghost use Rattle.fs_semantics.specs.Orders.{Told, up_from, IsLinearExtension, IsDeterministic};
 ghost use Rattle.sure_folders.specs.Folders.{nowhere, IsTreeWith};
 ghost use Rattle.sure_folders.specs.Before.{IsSureBeforeEither};
@@ -33,11 +33,12 @@ pub fn pruning()
 {}
 
 /// Programs that are apart, each where the folders stand that are sure before it, commute from the trees in which these stand. So
-/// where no pair is doubtful, the order doesn't matter.
+/// where those of each doubtful pair commute, as where there is none, the order doesn't matter.
 pub fn sure_pairs()
     ensures commute { (es : List Program) (before : ℕ → ℕ → Bool) → AllByRecursion IsProper es → (a b : ℕ) → AreApartWhereSure es before a b
         → CommuteFrom (IsTreeWith (IsSureBeforeEither nowhere es (Told before) a b)) (slice_index_or es a Id) (slice_index_or es b Id) }
-    ensures enough { (es : List Program) (before : ℕ → ℕ → Bool) → AllByRecursion IsProper es → AreDoubtful es before [] → IsDeterministic es (Told before) }
+    ensures enough { (es : List Program) (before : ℕ → ℕ → Bool) → AllByRecursion IsProper es → (pairs : List (ℕ × ℕ)) → AreDoubtful es before pairs
+        → ((a b : ℕ) → Contains pairs (a, b) → Commutes (slice_index_or es a Id) (slice_index_or es b Id)) → IsDeterministic es (Told before) }
 {
     apart_where_sure();
     sure_before();

@@ -1,5 +1,5 @@
 -- The kept graph's question, and what is said of each answer.
-use Rattle.std.proofs.Common.{◌≡◌, ◌≢◌, ◌⊎◌, ℕ, ◌+◌, Bool, List, [], map, length, sym, ap, subst, ◌∙◌, arith}
+use Rattle.std.proofs.Common.{◌≡◌, ◌≢◌, ◌⊎◌, inl, inr, ℕ, ◌+◌, Bool, List, [], map, length, sym, ap, subst, ◌∙◌, arith}
 use Rattle.std.specs.Prelude.{◌↔◌}
 use Rattle.std.proofs.lemmas.List.{length-map}
 use Rattle.fs_semantics.specs.FileTree.{Tree}
@@ -22,6 +22,7 @@ use Rattle.kept_graph.specs.Kept.{IsKept}
 use Rattle.judgement.specs.Questions.{States, StatesKept, IsKeptDeterministic}
 use Rattle.judgement.specs.First.{IsPrunedCount}
 use Rattle.judgement.specs.Answers.{UsesUp, IsJudged}
+use Rattle.judgement.proofs.CommuteLaws.{no_order}
 use Rattle.judgement.specs.declared.first.First.TheVariants as first
 use Rattle.judgement.specs.declared.first.Sure.TheVariants as sure
 
@@ -47,6 +48,11 @@ module _ {es : List Program} {order : Relation} {k : Kept} (is : IsKept es order
   -- the formula states the question of the kept graph where that is deterministic, else of the whole one
   abbrev Stated : Formula → Type 0
   Stated f = (IsKeptDeterministic es (Told (comes order)) k.pruned.kept × StatesKept es (Told (comes order)) k.pruned.kept f) ⊎ ((IsKeptDeterministic es (Told (comes order)) k.pruned.kept → ⊥) × States es (Told (comes order)) f)
+
+  -- where all programs are deterministic, any formula without a model states it, whether the kept graph is deterministic or not
+  pub stated_by_any : (IsKeptDeterministic es (Told (comes order)) k.pruned.kept ⊎ (IsKeptDeterministic es (Told (comes order)) k.pruned.kept → ⊥)) → IsDeterministic es (Told (comes order)) → (f : Formula) → HasNoModel f → Stated f
+  stated_by_any (inl kept) det f none = inl (kept, (no_order (chosen es k.pruned.kept) (between (Told (comes order)) k.pruned.kept) f kept none).states)
+  stated_by_any (inr other) det f none = inr (other, (no_order es (Told (comes order)) f det none).states)
 
   abbrev Asked : Formula → Type 0
   Asked f = StatesKept es (Told (comes order)) k.pruned.kept f ⊎ ((IsKeptDeterministic es (Told (comes order)) k.pruned.kept → ⊥) × States es (Told (comes order)) f)

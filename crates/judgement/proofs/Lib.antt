@@ -1,3 +1,4 @@
 pub mod QuestionLaws
 pub mod JudgeLaws
 pub mod CommuteLaws
+pub mod EachPairLaws

@@ -1,3 +1,4 @@
 pub mod Questions
 pub mod First
 pub mod Answers
+pub mod Settled

@@ -14,14 +14,20 @@ ghost use Rattle.judgement.specs.Answers.{IsJudged};
 
 use crate::asking::{Answer, ask};
 use crate::first::{First, Sure};
+use crate::settling::{Settled, settle};
 use commute_prune::pruning;
+use finite_search::determinism_is_decided;
 use fs_lang::{Program, Tree};
 use kept_graph::{Completed, Kept, keep, kept_graphs, refute};
 use order_encode::Witness;
 use orders::Order;
 use rh_base::{Fault, NoMemory};
 use std::alloc::Global;
+use tried_trees::Difference;
 use verdict::check_size;
+
+/// Of so many kept programs the order is asked about at once: the formula is small, and its refutation rests on no footprint.
+const FEW: usize = 4;
 
 /// How many programs aren't kept.
 fn pruned_count(order: &Order, kept: &Kept) -> u32
@@ -131,13 +137,14 @@ fn judge_kept(
     }
 }
 
-/// Prunes, and asks about what is kept.
+/// Prunes; looks at pairs, and at trees that are tried; and asks about what is kept where these don't tell.
 fn judge(alloc: Global, programs: &[Program], order: &Order, budget: u64) -> Result<First, NoMemory>
     requires count { length programs.now ≡ order.now.count }
     requires budget { 1 ≤ budget }
     ensures { IfOk result (IsJudged (map program_of programs.now) order.now budget) }
 {
     pruning();
+    determinism_is_decided();
     let kept = keep(alloc, programs, order)?;
     if kept.programs.is_empty() {
         return Ok(First::Sure {
@@ -145,11 +152,25 @@ fn judge(alloc: Global, programs: &[Program], order: &Order, budget: u64) -> Res
             sure: Sure::Pruned,
         });
     }
-    judge_kept(alloc, programs, order, &kept, budget)
+    if kept.programs.as_slice().len() <= FEW {
+        return judge_kept(alloc, programs, order, &kept, budget);
+    }
+    match settle(alloc, programs, order, budget)? {
+        Settled::Alike(verified) => Ok(First::Sure {
+            pruned: pruned_count(order, &kept),
+            sure: Sure::Proved(verified),
+        }),
+        Settled::Differ(Difference { tree, left, right }) => Ok(First::Differs {
+            pruned: pruned_count(order, &kept),
+            witness: Witness::Orders { tree, left, right },
+        }),
+        Settled::Open => judge_kept(alloc, programs, order, &kept, budget),
+    }
 }
 
-/// Whether the programs are deterministic. The kept programs are asked about, and then all where that doesn't tell; each time it
-/// is first asked whether those commute of which neither comes before the other. Each formula has the whole budget; a budget of
+/// Whether the programs are deterministic. Where pruning keeps some, each two of all whose order may matter are tried from a few
+/// trees, and asked about by themselves. Where that doesn't tell, the kept programs are asked about, and then all; each time it is
+/// first asked whether those commute of which neither comes before the other. Each formula has the whole budget; a budget of
 /// `u64::MAX` stands for none.
 pub fn judge_order(
     alloc: Global,

@@ -23,7 +23,11 @@ use std::alloc::Global;
 
 /// A formula that has no model exactly where all programs commute of which neither comes before the other, and literals that a
 /// solver may try first.
-fn question(alloc: Global, programs: &[Program], order: &Order) -> Result<(Cnf, Seq<Lit>), NoMemory>
+pub(crate) fn question(
+    alloc: Global,
+    programs: &[Program],
+    order: &Order,
+) -> Result<(Cnf, Seq<Lit>), NoMemory>
     requires { length programs.now ≡ order.now.count }
     ensures states { IfOk result (λ r. StatesCommuting (map program_of programs.now) (Told (comes order.now)) r.0) }
 {

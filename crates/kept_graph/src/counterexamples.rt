@@ -26,7 +26,7 @@ pub struct Completed {
 }
 
 /// Whether two orders end alike from a tree.
-fn end_alike(
+pub fn end_alike(
     alloc: Global,
     programs: &[Program],
     tree: &Tree,

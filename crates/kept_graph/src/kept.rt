@@ -28,7 +28,7 @@ pub struct Kept {
 
 /// A copy of the program with this number.
 #[tactic(auto, using(crate::proofs::KeptLaws::program_at))]
-fn program_at(alloc: Global, programs: &[Program], k: u32) -> Result<Program, NoMemory>
+pub fn program_at(alloc: Global, programs: &[Program], k: u32) -> Result<Program, NoMemory>
     requires { k < length programs.now }
     ensures { IfOk result (λ e. program_of e ≡ slice_index_or (map program_of programs.now) k Id) }
 {

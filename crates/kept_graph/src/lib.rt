@@ -7,5 +7,5 @@ mod counterexamples;
 mod kept;
 mod pairs;
 
-pub use counterexamples::{Completed, refute};
-pub use kept::{Kept, keep, kept_graphs};
+pub use counterexamples::{Completed, end_alike, refute};
+pub use kept::{Kept, keep, kept_graphs, program_at};

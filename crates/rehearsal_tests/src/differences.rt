@@ -18,7 +18,16 @@ const TWO: &str =
 const PLAIN: &str =
     r#"{"version":1,"packages":{"a":{"files":["/opt/x"],"folders":[]},"b":{"files":["/opt/x"],"folders":[]}}}"#;
 
-const ROWS: [Row; 6] = [
+/// Packages with files right in /etc and in folders of their own; p makes sure of a folder that q has too; h has that of a home; x and y
+/// have one file with one digest, and z has it with another.
+pub const USUAL: &str = concat!(
+    r#"{"version":2,"packages":{"a":{"files":[["/etc/a.d/a",null]],"folders":[]},"b":{"files":[["/etc/b.d/b",null]],"folders":[]},"#,
+    r#""c":{"files":[["/etc/c.d/c",null]],"folders":[]},"p":{"files":[],"folders":["/opt/p"]},"q":{"files":[],"folders":["/opt/p"]},"#,
+    r#""h":{"files":[],"folders":["/srv/u"]},"x":{"files":[["/opt/s","d1"]],"folders":[]},"y":{"files":[["/opt/s","d1"]],"folders":[]},"#,
+    r#""z":{"files":[["/opt/s","d2"]],"folders":[]}}}"#
+);
+
+const ROWS: [Row; 10] = [
     (
         "package { 'ntp': } file { '/etc/ntp.conf': content => 'server a' }",
         SHARED,
@@ -48,6 +57,30 @@ const ROWS: [Row; 6] = [
         "file { '/a': content => 'x' } file { '/b': source => '/a' }",
         SHARED,
         "resources 2\npruned 0\nnot deterministic\n",
+    ),
+    // A file whose own arrow is missing, in a folder of which unordered packages make sure.
+    (
+        "package { ['a', 'b', 'c']: } file { '/etc/a.conf': content => 'a', require => Package['a'] } file { '/etc/b.conf': content => 'b', require => Package['b'] } file { '/etc/c.conf': content => 'c' }",
+        USUAL,
+        "resources 6\npruned 0\nnot deterministic\n",
+    ),
+    // The folder that the package before the file makes sure of is swept by another one.
+    (
+        "package { ['a', 'b', 'c']: } file { '/etc/a.conf': content => 'a', require => Package['a'] } file { '/etc/b.conf': content => 'b', require => Package['b'] } file { '/etc/c.conf': content => 'c', require => Package['c'] } package { 'p': } package { 'q': ensure => absent, require => Package['p'] } file { '/opt/p/x': content => 'x', require => Package['p'] }",
+        USUAL,
+        "resources 9\npruned 1\nnot deterministic\n",
+    ),
+    // The home is made only where the user is new.
+    (
+        "package { ['a', 'b', 'c']: } file { '/etc/a.conf': content => 'a', require => Package['a'] } file { '/etc/b.conf': content => 'b', require => Package['b'] } file { '/etc/c.conf': content => 'c', require => Package['c'] } user { 'u': managehome => true, home => '/srv/u' } package { 'h': } file { '/srv/u/x': content => 'x', require => User['u'] }",
+        USUAL,
+        "resources 9\npruned 1\nnot deterministic\n",
+    ),
+    // Packages with one file, of which one has another content.
+    (
+        "package { ['a', 'b', 'c']: } file { '/etc/a.conf': content => 'a', require => Package['a'] } file { '/etc/b.conf': content => 'b', require => Package['b'] } file { '/etc/c.conf': content => 'c', require => Package['c'] } package { ['x', 'y', 'z']: }",
+        USUAL,
+        "resources 9\npruned 0\nnot deterministic\n",
     ),
 ];
 

@@ -1,6 +1,7 @@
 //! Manifests that are judged, and manifests that are refused.
 
-use crate::common::{NONE, ONE, TWO, Told, compare, run};
+use crate::common::{NONE, ONE, TWO, Told, compare, run, run_over};
+use crate::differences::USUAL;
 use std::alloc::Global;
 use std::test::Fail;
 
@@ -68,6 +69,36 @@ fn orders_that_do_not_matter(rt: HostRuntime) -> Result<(), Fail> {
     ];
     for (manifest, report) in rows {
         let told = told_of(rt.alloc(), manifest.as_bytes())?;
+        compare(&rt, &told, 0, report, "", manifest);
+    }
+    Ok(())
+}
+
+/// Usual hosts, on which pruning keeps files and packages though no order matters.
+#[test]
+fn usual_hosts(rt: HostRuntime) -> Result<(), Fail> {
+    let rows: [(&str, &str); 3] = [
+        (
+            "package { ['a', 'b', 'c']: } file { '/etc/a.conf': content => 'a', require => Package['a'] } file { '/etc/b.conf': content => 'b', require => Package['b'] } file { '/etc/c.conf': content => 'c', require => Package['c'] }",
+            "resources 6\npruned 0\ndeterministic\nidempotent\nsucceeds from some tree\n",
+        ),
+        // Two packages have one file with one digest.
+        (
+            "package { ['a', 'b', 'c']: } file { '/etc/a.conf': content => 'a', require => Package['a'] } file { '/etc/b.conf': content => 'b', require => Package['b'] } file { '/etc/c.conf': content => 'c', require => Package['c'] } package { ['x', 'y']: }",
+            "resources 8\npruned 0\ndeterministic\nidempotent\nsucceeds from some tree\n",
+        ),
+        // The folder is declared, so that each file in it comes after it.
+        (
+            "file { '/etc': ensure => directory } file { ['/etc/a.conf', '/etc/b.conf', '/etc/c.conf']: content => 'x' } package { ['a', 'b', 'c']: }",
+            "resources 7\npruned 1\ndeterministic\nidempotent\nsucceeds from some tree\n",
+        ),
+    ];
+    for (manifest, report) in rows {
+        let over: [(&str, &[u8]); 2] = [
+            ("site.pp", manifest.as_bytes()),
+            ("listing", USUAL.as_bytes()),
+        ];
+        let told = run_over(rt.alloc(), &["--packages", "listing", "site.pp"], &over)?;
         compare(&rt, &told, 0, report, "", manifest);
     }
     Ok(())

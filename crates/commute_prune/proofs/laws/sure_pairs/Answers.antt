@@ -10,7 +10,7 @@ returns-clause-commute c = λ es before proper a b apart.
     (sure_either es before (c.apart_where_sure.ensures.by_footprints nowhere es before) a b) (apart_with_both es before a b apart)
 
 pub returns-clause-enough : goal.returns-clause-enough
-returns-clause-enough c = λ es before proper none.
+returns-clause-enough c = λ es before proper pairs are listed.
     c.sure_before.ensures.enough es before proper (all_free_commute es before (λ a b apart.
     c.apart_where_sure.ensures.sure nowhere es before proper (either (surely_stands es before a) (surely_stands es before b)) a b
-    (sure_either es before (c.apart_where_sure.ensures.by_footprints nowhere es before) a b) (apart_with_both es before a b apart)) none)
+    (sure_either es before (c.apart_where_sure.ensures.by_footprints nowhere es before) a b) (apart_with_both es before a b apart)) pairs are listed)

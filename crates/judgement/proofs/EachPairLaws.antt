@@ -1,0 +1,23 @@
+-- Two programs by themselves, and lists of pairs.
+use Rattle.std.proofs.Common.{◌≡◌, ℕ, zero, suc, ◌<◌, List, [], ◌∷◌, length, get_or, subst, subst₂, arith}
+use Rattle.std.specs.List.{Contains, AllByRecursion}
+use Rattle.fs_semantics.specs.Programs.{Program, Id}
+use Rattle.fs_semantics.specs.Changes.{Commutes}
+use Rattle.fs_semantics.specs.Orders.{IsFree, FreeCommute}
+use Rattle.orders.specs.Paths.{Path, edge, and_on}
+
+-- no path leads along no edges
+pub no_path : (a b : ℕ) → Path [] a b → ⊥
+no_path a b (edge h) = omega (arith, h.1)
+no_path a b (and_on h more) = omega (arith, h.1)
+
+-- what is said of two programs by themselves is said of them
+pub two_commute : (es two : List Program) (before : ℕ → ℕ → Type 0) (a b : ℕ) → length two ≡ 2 → IsFree before 0 1 → get_or two 0 Id ≡ get_or es a Id → get_or two 1 Id ≡ get_or es b Id
+    → FreeCommute two before → Commutes (get_or es a Id) (get_or es b Id)
+two_commute es two before a b long free first second commute = subst₂ Commutes first second (commute 0 1 (omega (arith, long)) (omega (arith, long)) free)
+
+-- what holds of all members holds of each
+pub of_member : (P : (ℕ × ℕ) → Type 0) (xs : List (ℕ × ℕ)) (x : ℕ × ℕ) → Contains xs x → AllByRecursion P xs → P x
+of_member P [] x h all = absurd (omega (arith, h.1))
+of_member P (y ∷ xs) x (zero, h, at) all = subst P at all.0
+of_member P (y ∷ xs) x (suc i, h, at) all = of_member P xs x (i, omega (arith, h), at) all.1

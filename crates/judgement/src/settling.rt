@@ -1,0 +1,107 @@
+//! Answers without a question of order: each two programs whose order may matter are asked about by themselves; and where they
+//! don't commute they are put next to one another from a few trees.
+
+ghost use Rattle.std.specs.Prelude.{◌≡◌, ◌≤◌, map, length, IfOk};
+ghost use Rattle.fs_lang.specs.Meaning.{program_of};
+ghost use Rattle.judgement.specs.Settled.{IsLook, AreSettled, IsSettled};
+
+use crate::each_pair::pair_commutes;
+use crate::joining::joined;
+use commute_prune::{are_proper, doubtful_pairs, sure_pairs};
+use fs_lang::Program;
+use orders::Order;
+use proof_check::Verified;
+use rh_base::NoMemory;
+use std::alloc::Global;
+use tried_trees::{Difference, try_pairs};
+
+/// What is known without a question of order.
+#[derive(Drop)]
+pub(crate) enum Settled {
+    /// No order matters.
+    Alike(Verified),
+    /// Two orders end differently.
+    Differ(Difference),
+    /// Nothing is known yet.
+    Open,
+}
+
+/// What is known of a pair.
+#[derive(Drop)]
+enum Look {
+    /// The two commute, as a refuted formula shows.
+    Commute(Verified),
+    /// Orders that put them the one way and the other end differently.
+    Differ(Difference),
+    /// They don't commute, as far as is known, but no tree that was tried shows it.
+    Open,
+}
+
+/// Asks about a pair, and tries it from a few trees where it doesn't commute.
+fn look_at(
+    alloc: Global,
+    programs: &[Program],
+    order: &Order,
+    pair: (u32, u32),
+    budget: u64,
+) -> Result<Look, NoMemory>
+    requires count { length programs.now ≡ order.now.count }
+    requires budget { 1 ≤ budget }
+    ensures { IfOk result (IsLook (map program_of programs.now) order.now pair) }
+{
+    if let Some(verified) = pair_commutes(alloc, programs, pair, budget)? {
+        return Ok(Look::Commute(verified));
+    }
+    match try_pairs(alloc, programs, order, &[pair])? {
+        Some(found) => Ok(Look::Differ(found)),
+        None => Ok(Look::Open),
+    }
+}
+
+/// Looks at each of these pairs. Where all commute, their formulas are joined.
+fn look_at_all(
+    alloc: Global,
+    programs: &[Program],
+    order: &Order,
+    pairs: &[(u32, u32)],
+    budget: u64,
+) -> Result<Settled, NoMemory>
+    requires count { length programs.now ≡ order.now.count }
+    requires budget { 1 ≤ budget }
+    ensures { IfOk result (AreSettled (map program_of programs.now) order.now pairs.now) }
+{
+    let mut parts = Vec::new(alloc);
+    let mut is_open = false;
+    for pair in pairs {
+        match look_at(alloc, programs, order, *pair, budget)? {
+            Look::Commute(verified) => parts.push(verified)?,
+            Look::Differ(found) => return Ok(Settled::Differ(found)),
+            Look::Open => is_open = true,
+        }
+    }
+    if is_open {
+        return Ok(Settled::Open);
+    }
+    match joined(alloc, parts.as_slice())? {
+        Some(verified) => Ok(Settled::Alike(verified)),
+        None => Ok(Settled::Open),
+    }
+}
+
+/// Looks at the pairs of programs whose order may matter, where the folders stand that are sure before them.
+pub(crate) fn settle(
+    alloc: Global,
+    programs: &[Program],
+    order: &Order,
+    budget: u64,
+) -> Result<Settled, NoMemory>
+    requires count { length programs.now ≡ order.now.count }
+    requires budget { 1 ≤ budget }
+    ensures { IfOk result (IsSettled (map program_of programs.now) order.now) }
+{
+    are_proper(programs);
+    sure_pairs();
+    let doubtful = doubtful_pairs(alloc, programs, order)?;
+    let settled = look_at_all(alloc, programs, order, doubtful.as_slice(), budget)?;
+    Ok(settled)
+}

@@ -1,0 +1,181 @@
+//! Trees to try.
+
+ghost use Rattle.std.specs.Prelude.{◌↔◌, IsTrue};
+ghost use Rattle.fs_semantics.specs.Entries.{IsFreeAt, IsFolderAt};
+ghost use Rattle.fs_semantics.specs.FileTree.{parent};
+
+use crate::used::{Used, add, used_by};
+use fs_lang::{Entry, Path, Program, Tree};
+use path_domain::named;
+use rh_base::{NoMemory, Seq, Text};
+use std::alloc::Global;
+use std::collections::BTreeSet;
+
+/// Which paths of some programs stand in a tree.
+#[derive(Clone, Copy, Debug, PartialEq, Eq)]
+enum Standing {
+    /// What they use and none of them makes.
+    Given,
+    /// That, and each folder above a path of theirs.
+    Folders,
+    /// That, and all that they change.
+    All,
+}
+
+/// The paths of programs: all, each after those above it; those above another one; folders that a program makes; what else a
+/// program changes; and files that are asked for where no program changes one that is asked for beside them.
+#[derive(Drop)]
+struct Paths {
+    named: BTreeSet<Path>,
+    above: BTreeSet<Path>,
+    folders: BTreeSet<Path>,
+    changed: BTreeSet<Path>,
+    given: BTreeSet<Path>,
+}
+
+fn is_any_in(paths: &[Path], set: &BTreeSet<Path>) -> bool {
+    for p in paths {
+        if set.contains(p) {
+            return true;
+        }
+    }
+    false
+}
+
+/// Adds these files, where none of them is among those that are changed.
+fn add_given(
+    alloc: Global,
+    asked: &[Path],
+    changed: &BTreeSet<Path>,
+    given: &mut BTreeSet<Path>,
+) -> Result<(), NoMemory> {
+    if is_any_in(asked, changed) {
+        return Ok(());
+    }
+    for p in asked {
+        add(alloc, given, p)?;
+    }
+    Ok(())
+}
+
+fn given_of(
+    alloc: Global,
+    asked: &[Seq<Path>],
+    changed: &BTreeSet<Path>,
+) -> Result<BTreeSet<Path>, NoMemory> {
+    let mut given = BTreeSet::new(alloc);
+    for files in asked {
+        add_given(alloc, files.as_slice(), changed, &mut given)?;
+    }
+    Ok(given)
+}
+
+fn parents_of(alloc: Global, named: &BTreeSet<Path>) -> Result<BTreeSet<Path>, NoMemory> {
+    let mut above = BTreeSet::new(alloc);
+    for p in named {
+        above.insert(p.parent(alloc)?)?;
+    }
+    Ok(above)
+}
+
+fn paths_of(alloc: Global, named: BTreeSet<Path>, used: Used) -> Result<Paths, NoMemory> {
+    let above = parents_of(alloc, &named)?;
+    let Used {
+        folders,
+        changed,
+        asked,
+    } = used;
+    let given = given_of(alloc, asked.as_slice(), &changed)?;
+    Ok(Paths {
+        named,
+        above,
+        folders,
+        changed,
+        given,
+    })
+}
+
+fn is_folder(paths: &Paths, p: &Path, which: Standing) -> bool {
+    let is_above = paths.above.contains(p);
+    let is_made = paths.folders.contains(p);
+    match which {
+        Standing::Given => is_above && !is_made,
+        Standing::Folders => is_above,
+        Standing::All => is_above || is_made,
+    }
+}
+
+fn is_file(paths: &Paths, p: &Path, which: Standing) -> bool {
+    let is_given = paths.given.contains(p);
+    let is_changed = paths.changed.contains(p);
+    match which {
+        Standing::Given | Standing::Folders => is_given,
+        Standing::All => is_given || is_changed,
+    }
+}
+
+/// What stands at a path. The files are empty.
+fn entry_at(alloc: Global, paths: &Paths, p: &Path, which: Standing) -> Option<Entry> {
+    if is_folder(paths, p, which) {
+        return Some(Entry::Folder);
+    }
+    if is_file(paths, p, which) {
+        return Some(Entry::File(Text::new(alloc)));
+    }
+    None
+}
+
+fn is_folder_in(tree: &Tree, p: &Path) -> bool
+    ensures { IsTrue result ↔ IsFolderAt tree.now p.now }
+{
+    if p.segments().is_empty() {
+        return true;
+    }
+    matches!(tree.get(p), Some(Entry::Folder))
+}
+
+fn is_free_in(tree: &Tree, p: &Path) -> bool
+    ensures { IsTrue result ↔ IsFreeAt tree.now p.now }
+{
+    if p.segments().is_empty() {
+        return false;
+    }
+    match tree.get(p) {
+        Some(_) => false,
+        None => true,
+    }
+}
+
+/// Adds an entry where its place is free and lies in a folder.
+fn add_entry(alloc: Global, tree: &mut Tree, p: &Path, entry: Entry) -> Result<(), NoMemory> {
+    let above = p.parent(alloc)?;
+    let fits = is_folder_in(tree, &above);
+    let free = is_free_in(tree, p);
+    if fits && free {
+        return tree.add(p.copy(alloc)?, entry);
+    }
+    Ok(())
+}
+
+/// The tree in which these paths stand.
+fn tree_of(alloc: Global, paths: &Paths, which: Standing) -> Result<Tree, NoMemory> {
+    let mut tree = Tree::empty(alloc)?;
+    for p in &paths.named {
+        if let Some(entry) = entry_at(alloc, paths, p, which) {
+            add_entry(alloc, &mut tree, p, entry)?;
+        }
+    }
+    Ok(tree)
+}
+
+/// The trees to try beside the empty one.
+pub(crate) fn trees_of(alloc: Global, programs: &[Program]) -> Result<Seq<Tree>, NoMemory> {
+    let named = named(alloc, programs)?;
+    let used = used_by(alloc, programs)?;
+    let paths = paths_of(alloc, named, used)?;
+    let mut trees = Seq::new(alloc);
+    for which in [Standing::Given, Standing::Folders, Standing::All] {
+        trees.push(tree_of(alloc, &paths, which)?)?;
+    }
+    Ok(trees)
+}

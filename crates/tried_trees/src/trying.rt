@@ -1,0 +1,227 @@
+//! Pairs of programs, tried on a few trees.
+
+ghost use Rattle.std.specs.Prelude.{◌≡◌, ◌↔◌, ◌<◌, length, map, IsTrue, IfSome, IfOk, MatchOption};
+ghost use Rattle.std.specs.List.{AllByRecursion};
+ghost use Rattle.std.specs.FinMap as map_of;
+ghost use Rattle.fs_semantics.specs.Orders.{IsLinearExtension, IsFree};
+ghost use Rattle.fs_lang.specs.Meaning.{program_of};
+ghost use Rattle.orders.specs.Relation.{Comes};
+ghost use Rattle.tried_trees.specs.declared.placing.Place.TheVariants.{Early, Late};
+ghost use Rattle.tried_trees.specs.Tried.{IsDifference, IsTried};
+
+use crate::placing::{Place, placed};
+use crate::standing::trees_of;
+use fs_lang::{Program, Tree};
+use kept_graph::end_alike;
+use orders::Order;
+use rh_base::{NoMemory, Seq};
+use std::alloc::Global;
+
+/// A tree and two allowed orders that end differently from it; the second is the first with two free neighbours exchanged.
+#[derive(Debug, Drop)]
+pub struct Difference {
+    pub tree: Tree,
+    pub left: Seq<u32>,
+    pub right: Seq<u32>,
+}
+
+/// Whether both are programs, and may stand in either order.
+fn is_free_pair(order: &Order, a: u32, b: u32) -> bool
+    ensures { IsTrue result ↔ ((a < order.now.count) × (b < order.now.count) × IsFree (Comes order.now) a b) }
+{
+    let n = order.count();
+    if a >= n || b >= n {
+        return false;
+    }
+    order.free(a, b)
+}
+
+/// One pair on one tree.
+fn try_pair(
+    alloc: Global,
+    programs: &[Program],
+    order: &Order,
+    list: &[u32],
+    place: Place,
+    pair: (u32, u32),
+    tree: &Tree,
+) -> Result<Option<Difference>, NoMemory>
+    requires count { length programs.now ≡ order.now.count }
+    requires list { IsLinearExtension order.now.count (Comes order.now) list.now }
+    ensures found { IfOk result (λ found. IfSome found (IsDifference (map program_of programs.now) order.now)) }
+    ensures tried { IfOk result (λ found. MatchOption found (IsTried place (map program_of programs.now) order.now tree.now pair) (λ d. Unit)) }
+{
+    tree.is_tree();
+    let free = is_free_pair(order, pair.0, pair.1);
+    if !free {
+        return Ok(None);
+    }
+    let swap = placed(alloc, place, order, list, pair.0, pair.1)?;
+    let alike = end_alike(
+        alloc,
+        programs,
+        tree,
+        swap.left.as_slice(),
+        swap.right.as_slice(),
+    )?;
+    if alike {
+        return Ok(None);
+    }
+    Ok(Some(Difference {
+        tree: tree.copy(alloc)?,
+        left: swap.left,
+        right: swap.right,
+    }))
+}
+
+/// Each pair on one tree.
+fn try_place(
+    alloc: Global,
+    programs: &[Program],
+    order: &Order,
+    list: &[u32],
+    place: Place,
+    pairs: &[(u32, u32)],
+    tree: &Tree,
+) -> Result<Option<Difference>, NoMemory>
+    requires count { length programs.now ≡ order.now.count }
+    requires list { IsLinearExtension order.now.count (Comes order.now) list.now }
+    ensures found { IfOk result (λ found. IfSome found (IsDifference (map program_of programs.now) order.now)) }
+    ensures tried { IfOk result (λ found. MatchOption found (AllByRecursion (IsTried place (map program_of programs.now) order.now tree.now) pairs.now) (λ d. Unit)) }
+{
+    for pair in pairs {
+        if let Some(found) = try_pair(alloc, programs, order, list, place, *pair, tree)? {
+            return Ok(Some(found));
+        }
+    }
+    Ok(None)
+}
+
+/// Each pair on each of these trees.
+fn try_trees(
+    alloc: Global,
+    programs: &[Program],
+    order: &Order,
+    list: &[u32],
+    place: Place,
+    pairs: &[(u32, u32)],
+    trees: &[Tree],
+) -> Result<Option<Difference>, NoMemory>
+    requires count { length programs.now ≡ order.now.count }
+    requires list { IsLinearExtension order.now.count (Comes order.now) list.now }
+    ensures found { IfOk result (λ found. IfSome found (IsDifference (map program_of programs.now) order.now)) }
+{
+    for tree in trees {
+        if let Some(found) = try_place(alloc, programs, order, list, place, pairs, tree)? {
+            return Ok(Some(found));
+        }
+    }
+    Ok(None)
+}
+
+/// Tries each of these pairs of programs on one tree, next to one another, as early and then as late as the order allows. A
+/// pair of which one has to come before the other is passed over, and so is one that names no two programs.
+pub fn try_tree(
+    alloc: Global,
+    programs: &[Program],
+    order: &Order,
+    pairs: &[(u32, u32)],
+    tree: &Tree,
+) -> Result<Option<Difference>, NoMemory>
+    requires count { length programs.now ≡ order.now.count }
+    ensures found { IfOk result (λ found. IfSome found (IsDifference (map program_of programs.now) order.now)) }
+    // Where nothing is found, each pair ends alike in either order, put early and put late.
+    ensures early { IfOk result (λ found. MatchOption found (AllByRecursion (IsTried Early (map program_of programs.now) order.now tree.now) pairs.now) (λ d. Unit)) }
+    ensures late { IfOk result (λ found. MatchOption found (AllByRecursion (IsTried Late (map program_of programs.now) order.now tree.now) pairs.now) (λ d. Unit)) }
+{
+    let list = order.first_extension()?;
+    let early = try_place(
+        alloc,
+        programs,
+        order,
+        list.as_slice(),
+        Place::Early,
+        pairs,
+        tree,
+    )?;
+    if early.is_some() {
+        return Ok(early);
+    }
+    let late = try_place(
+        alloc,
+        programs,
+        order,
+        list.as_slice(),
+        Place::Late,
+        pairs,
+        tree,
+    )?;
+    Ok(late)
+}
+
+/// Tries each of these pairs of programs, next to one another, as early and as late as the order allows, from a few trees: the
+/// empty one; the one with what the programs use and none of them makes; that with each folder above a path of theirs; and that
+/// with all that they change. A pair of which one has to come before the other is passed over, and so is one that names no two
+/// programs.
+pub fn try_pairs(
+    alloc: Global,
+    programs: &[Program],
+    order: &Order,
+    pairs: &[(u32, u32)],
+) -> Result<Option<Difference>, NoMemory>
+    requires count { length programs.now ≡ order.now.count }
+    ensures found { IfOk result (λ found. IfSome found (IsDifference (map program_of programs.now) order.now)) }
+    // Where nothing is found, each pair ends alike from the empty tree in either order, put early and put late.
+    ensures early { IfOk result (λ found. MatchOption found (AllByRecursion (IsTried Early (map program_of programs.now) order.now map_of.empty) pairs.now) (λ d. Unit)) }
+    ensures late { IfOk result (λ found. MatchOption found (AllByRecursion (IsTried Late (map program_of programs.now) order.now map_of.empty) pairs.now) (λ d. Unit)) }
+{
+    let list = order.first_extension()?;
+    let empty = Tree::empty(alloc)?;
+    let first = try_place(
+        alloc,
+        programs,
+        order,
+        list.as_slice(),
+        Place::Early,
+        pairs,
+        &empty,
+    )?;
+    if first.is_some() {
+        return Ok(first);
+    }
+    let trees = trees_of(alloc, programs)?;
+    let early = try_trees(
+        alloc,
+        programs,
+        order,
+        list.as_slice(),
+        Place::Early,
+        pairs,
+        trees.as_slice(),
+    )?;
+    if early.is_some() {
+        return Ok(early);
+    }
+    let last = try_place(
+        alloc,
+        programs,
+        order,
+        list.as_slice(),
+        Place::Late,
+        pairs,
+        &empty,
+    )?;
+    if last.is_some() {
+        return Ok(last);
+    }
+    let late = try_trees(
+        alloc,
+        programs,
+        order,
+        list.as_slice(),
+        Place::Late,
+        pairs,
+        trees.as_slice(),
+    )?;
+    Ok(late)
+}
