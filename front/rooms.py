@@ -35,8 +35,7 @@ class Rooms:
 
     def __init__(self, top, listed, wait):
         self.top, self.listed = top, listed
-        os.makedirs(f"{top}/out", exist_ok=True)
-        self.lock = os.open(f"{top}/out", os.O_RDONLY)
+        self.lock = os.open(f"{top}/crates.txt", os.O_RDONLY)
         try:
             fcntl.flock(self.lock, fcntl.LOCK_EX | fcntl.LOCK_NB)
         except OSError:
@@ -47,6 +46,10 @@ class Rooms:
 
     def clear(self):
         shutil.rmtree(self.at, ignore_errors=True)
+        try:
+            os.rmdir(f"{self.top}/out")
+        except OSError:
+            pass  # (it isn't there, or has something else)
 
     def make(self, name, below):
         """Makes the room of a crate over the built libraries of those below, and returns the crate's folder there."""
