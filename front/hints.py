@@ -8,6 +8,8 @@ import refusals
 from command import STANDARD_INPUT
 
 READ_FAULT = re.compile(rb"^read fault: (.*?)\n?\Z", re.S)
+# More than a manifest may have.
+MOST = 1 << 20
 # The questions that are asked of a manifest, and take --node.
 OF_MANIFEST = ("verify", "proof", "catalog", "graph", "programs", "replay")
 # Refusals that come before a node's block is looked for: of files, of the text, and that no node's block fits.
@@ -20,9 +22,12 @@ def shown(name):
 
 
 def content(name):
+    """Returns what a plain file holds; of anything else, which might never end, nothing."""
+    if not os.path.isfile(name):
+        return b""
     try:
         with open(name, "rb") as it:
-            return it.read()
+            return it.read(MOST)
     except OSError:
         return b""
 
@@ -97,7 +102,7 @@ class Run:
             text, mark = manifest.marked(self.manifest, at)
             lines += [f"{shown(self.name)}, line {line}, column {column}:", f"  {text}", f"  {mark}"]
         if row:
-            lines += [f"It comes where {row.cause} (docs/REFUSALS.md).", f"What to do: {row.cure}."]
+            lines += [f"It comes where {row.cause}.", f"What to do: {row.cure} (docs/REFUSALS.md)."]
         return lines
 
     def of_default_node(self):
