@@ -3,8 +3,12 @@ use Rattle.std.proofs.Common.{◌≡◌, ℕ, zero, suc, ◌<◌, List, [], ◌�
 use Rattle.std.specs.List.{Contains, AllByRecursion}
 use Rattle.fs_semantics.specs.Programs.{Program, Id}
 use Rattle.fs_semantics.specs.Changes.{Commutes}
-use Rattle.fs_semantics.specs.Orders.{IsFree, FreeCommute}
+use Rattle.fs_semantics.specs.Orders.{Told, IsDeterministic, IsFree, FreeCommute}
+use Rattle.orders.specs.Relation.{Relation, comes}
 use Rattle.orders.specs.Paths.{Path, edge, and_on}
+use Rattle.judgement.specs.Settled.{PairCommutes, IsByProof, AreSettled, IsSettled}
+use Rattle.judgement.specs.declared.settling.Settled.{Settled}
+use Rattle.judgement.specs.declared.settling.Settled.TheVariants as settled
 
 -- no path leads along no edges
 pub no_path : (a b : ℕ) → Path [] a b → ⊥
@@ -21,3 +25,16 @@ pub of_member : (P : (ℕ × ℕ) → Type 0) (xs : List (ℕ × ℕ)) (x : ℕ 
 of_member P [] x h all = absurd (omega (arith, h.1))
 of_member P (y ∷ xs) x (zero, h, at) all = subst P at all.0
 of_member P (y ∷ xs) x (suc i, h, at) all = of_member P xs x (i, omega (arith, h), at) all.1
+
+-- where it is enough that the pairs commute, what is known of them is known of all
+pub settled_from : (es : List Program) (order : Relation) (pairs : List (ℕ × ℕ)) (s : Settled) → (AllByRecursion (PairCommutes es) pairs → IsDeterministic es (Told (comes order)))
+    → AreSettled es order pairs s → IsSettled es order s
+settled_from es order pairs (settled.Alike v) enough h = (enough h.0, h.1)
+settled_from es order pairs (settled.Differ d) enough h = h
+settled_from es order pairs settled.Open enough h = tt
+
+-- where all pairs commute, what was proved settles them
+pub by_proof : (es : List Program) (order : Relation) (pairs : List (ℕ × ℕ)) (s : Settled) → AllByRecursion (PairCommutes es) pairs → IsByProof s → AreSettled es order pairs s
+by_proof es order pairs (settled.Alike v) all h = (all, h)
+by_proof es order pairs (settled.Differ d) all h = absurd h
+by_proof es order pairs settled.Open all h = tt

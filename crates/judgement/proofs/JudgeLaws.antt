@@ -20,7 +20,8 @@ use Rattle.order_encode.specs.Witnesses.{HaveDifferentOutcomes}
 use Rattle.kept_graph.specs.declared.kept.Kept.{Kept}
 use Rattle.kept_graph.specs.Kept.{IsKept}
 use Rattle.judgement.specs.Questions.{States, StatesKept, IsKeptDeterministic}
-use Rattle.judgement.specs.First.{IsPrunedCount}
+use Rattle.judgement.specs.First.{IsPrunedCount, IsDifference}
+use Rattle.order_encode.specs.declared.witness.Witness.TheVariants as witness
 use Rattle.judgement.specs.Answers.{UsesUp, IsJudged}
 use Rattle.judgement.proofs.CommuteLaws.{no_order}
 use Rattle.judgement.specs.declared.first.First.TheVariants as first
@@ -65,6 +66,17 @@ module _ {es : List Program} {order : Relation} {k : Kept} (is : IsKept es order
     deterministic = det;
     proved = record { kept = k.pruned.kept; keeps = keeps; some = some; states = stated; no_model = none };
     differs = tt;
+    spent = tt;
+  }
+
+  pub judged_differs : {budget n : ℕ} {t : Tree} {left right : List ℕ} → OnePruning → k.pruned.kept ≢ [] → IsPrunedCount es (Told (comes order)) n → IsDifference es (Told (comes order)) (witness.Orders t left right)
+      → IsJudged es order budget (first.Differs n (witness.Orders t left right))
+  judged_differs one some count found = record {
+    pruned = count;
+    alone = ((λ h. absurd h), (λ h. absurd (not_alone one some h)));
+    deterministic = tt;
+    proved = tt;
+    differs = found;
     spent = tt;
   }
 

@@ -1,5 +1,5 @@
 -- What is known without a question of order.
-use Rattle.std.specs.Prelude.{Unit, ℕ, List, slice_index_or}
+use Rattle.std.specs.Prelude.{ℕ, List, slice_index_or}
 use Rattle.std.specs.List.{AllByRecursion}
 use Rattle.fs_semantics.specs.Programs.{Program, Id}
 use Rattle.fs_semantics.specs.Changes.{Commutes}
@@ -15,6 +15,12 @@ use Rattle.judgement.specs.declared.settling.Settled.TheVariants as settled
 -- the programs of the pair commute
 abbrev pub PairCommutes : List Program → (ℕ × ℕ) → Type 0
 PairCommutes es pair = Commutes (slice_index_or es pair.0 Id) (slice_index_or es pair.1 Id)
+
+-- a formula that has no model, or nothing
+abbrev pub IsByProof : Settled → Type 0
+IsByProof (settled.Alike v) = HasNoModel v.formula
+IsByProof (settled.Differ d) = ⊥
+IsByProof settled.Open = Unit {0}
 
 -- What is known of a pair.
 abbrev pub IsLook : List Program → Relation → (ℕ × ℕ) → Look → Type 0

@@ -1,7 +1,8 @@
 //! Refuted formulas, joined into one: that some of them has a model. Each stands on variables of its own, behind a variable that
 //! tells that it is the one; the last clause says that it is one of them.
 
-ghost use Rattle.std.specs.Prelude.{All, ◌≤◌, length, IfOk, IfSome, OnTrue};
+ghost use Rattle.std.specs.Prelude.{All, ◌≤◌, length, IfOk, IfSome};
+ghost use Rattle.std.specs.Bool.{OnTrue};
 ghost use Rattle.cnf.specs.Literals.{HasVariable};
 ghost use Rattle.proof_check.specs.Refuted.{HasNoModel};
 
@@ -40,7 +41,9 @@ fn behind(at: Offset, part: &Verified) -> Offset {
     Offset {
         vars: at.vars.saturating_add(cnf.vars()).saturating_add(1),
         clauses: at.clauses.saturating_add(cnf.count()),
-        steps: at.steps.saturating_add(part.log().steps.as_slice().len() as u64),
+        steps: at
+            .steps
+            .saturating_add(part.log().steps.as_slice().len() as u64),
     }
 }
 
@@ -78,13 +81,7 @@ fn add(cnf: &mut Cnf, lits: &[Lit]) -> Result<(), NoMemory> {
 }
 
 /// Adds a clause of a part, which holds where it is the one.
-fn add_moved(
-    alloc: Global,
-    cnf: &mut Cnf,
-    part: &Cnf,
-    i: u64,
-    at: Offset,
-) -> Result<(), NoMemory>
+fn add_moved(alloc: Global, cnf: &mut Cnf, part: &Cnf, i: u64, at: Offset) -> Result<(), NoMemory>
     requires low { 1 ≤ i }
     requires high { i ≤ length part.now.clauses }
 {
@@ -200,7 +197,10 @@ pub(crate) fn joined(alloc: Global, parts: &[Verified]) -> Result<Option<Verifie
     let cnf = formula_of(alloc, parts)?;
     let log = log_of(alloc, parts, cnf.count())?;
     match check(alloc, cnf, log) {
-        Ok(verified) => Ok(Some(verified)),
+        Ok(verified) => {
+            let _formula = verified.cnf();
+            Ok(Some(verified))
+        }
         Err(CheckFault::Bad(_)) => Ok(None),
         Err(CheckFault::Memory(m)) => Err(m),
     }

@@ -137,14 +137,48 @@ fn judge_kept(
     }
 }
 
-/// Prunes; looks at pairs, and at trees that are tried; and asks about what is kept where these don't tell.
+/// Looks at pairs, and tries trees; and asks about what is kept where these don't tell.
+fn judge_pairs(
+    alloc: Global,
+    programs: &[Program],
+    order: &Order,
+    kept: &Kept,
+    budget: u64,
+) -> Result<First, NoMemory>
+    requires count { length programs.now ≡ order.now.count }
+    requires budget { 1 ≤ budget }
+    requires kept { IsKept (map program_of programs.now) order.now kept.now }
+    requires some { kept.now.pruned.kept ≢ [] }
+    requires enough { IsDeterministic (map program_of kept.now.programs) (Told (comes kept.now.order)) → IsDeterministic (map program_of programs.now) (Told (comes order.now)) }
+    ensures { IfOk result (IsJudged (map program_of programs.now) order.now budget) }
+{
+    pruning();
+    determinism_is_decided();
+    if kept.programs.as_slice().len() <= FEW {
+        return judge_kept(alloc, programs, order, kept, budget);
+    }
+    let pruned = pruned_count(order, kept);
+    let settled = settle(alloc, programs, order, budget)?;
+    match settled {
+        Settled::Alike(verified) => Ok(First::Sure {
+            pruned,
+            sure: Sure::Proved(verified),
+        }),
+        Settled::Differ(Difference { tree, left, right }) => Ok(First::Differs {
+            pruned,
+            witness: Witness::Orders { tree, left, right },
+        }),
+        Settled::Open => judge_kept(alloc, programs, order, kept, budget),
+    }
+}
+
+/// Prunes, and judges what is kept.
 fn judge(alloc: Global, programs: &[Program], order: &Order, budget: u64) -> Result<First, NoMemory>
     requires count { length programs.now ≡ order.now.count }
     requires budget { 1 ≤ budget }
     ensures { IfOk result (IsJudged (map program_of programs.now) order.now budget) }
 {
     pruning();
-    determinism_is_decided();
     let kept = keep(alloc, programs, order)?;
     if kept.programs.is_empty() {
         return Ok(First::Sure {
@@ -152,20 +186,7 @@ fn judge(alloc: Global, programs: &[Program], order: &Order, budget: u64) -> Res
             sure: Sure::Pruned,
         });
     }
-    if kept.programs.as_slice().len() <= FEW {
-        return judge_kept(alloc, programs, order, &kept, budget);
-    }
-    match settle(alloc, programs, order, budget)? {
-        Settled::Alike(verified) => Ok(First::Sure {
-            pruned: pruned_count(order, &kept),
-            sure: Sure::Proved(verified),
-        }),
-        Settled::Differ(Difference { tree, left, right }) => Ok(First::Differs {
-            pruned: pruned_count(order, &kept),
-            witness: Witness::Orders { tree, left, right },
-        }),
-        Settled::Open => judge_kept(alloc, programs, order, &kept, budget),
-    }
+    judge_pairs(alloc, programs, order, &kept, budget)
 }
 
 /// Whether the programs are deterministic. Where pruning keeps some, each two of all whose order may matter are tried from a few

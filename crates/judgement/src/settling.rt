@@ -1,9 +1,10 @@
 //! Answers without a question of order: each two programs whose order may matter are asked about by themselves; and where they
 //! don't commute they are put next to one another from a few trees.
 
-ghost use Rattle.std.specs.Prelude.{◌≡◌, ◌≤◌, map, length, IfOk};
+ghost use Rattle.std.specs.Prelude.{◌≡◌, ◌≤◌, map, length, IfOk, IfSome};
 ghost use Rattle.fs_lang.specs.Meaning.{program_of};
-ghost use Rattle.judgement.specs.Settled.{IsLook, AreSettled, IsSettled};
+ghost use Rattle.tried_trees.specs.Tried.{IsDifference};
+ghost use Rattle.judgement.specs.Settled.{IsByProof, IsLook, AreSettled, IsSettled};
 
 use crate::each_pair::pair_commutes;
 use crate::joining::joined;
@@ -14,6 +15,10 @@ use proof_check::Verified;
 use rh_base::NoMemory;
 use std::alloc::Global;
 use tried_trees::{Difference, try_pairs};
+
+/// So many pairs are tried before any is asked about. A missing arrow makes few pairs doubtful, and mostly the first tree tells;
+/// where more are doubtful most of them commute, as packages do that share a file.
+const MOST_TRIED: usize = 64;
 
 /// What is known without a question of order.
 #[derive(Drop)]
@@ -58,7 +63,34 @@ fn look_at(
     }
 }
 
-/// Looks at each of these pairs. Where all commute, their formulas are joined.
+/// Tries pairs from a few trees.
+fn try_all(
+    alloc: Global,
+    programs: &[Program],
+    order: &Order,
+    pairs: &[(u32, u32)],
+) -> Result<Settled, NoMemory>
+    requires { length programs.now ≡ order.now.count }
+    ensures { IfOk result (AreSettled (map program_of programs.now) order.now pairs.now) }
+{
+    match try_pairs(alloc, programs, order, pairs)? {
+        Some(found) => Ok(Settled::Differ(found)),
+        None => Ok(Settled::Open),
+    }
+}
+
+/// The formulas of pairs as one, if they are found right.
+fn settled_by(alloc: Global, parts: &[Verified]) -> Result<Settled, NoMemory>
+    ensures { IfOk result IsByProof }
+{
+    match joined(alloc, parts)? {
+        Some(verified) => Ok(Settled::Alike(verified)),
+        None => Ok(Settled::Open),
+    }
+}
+
+/// Looks at each of these pairs. Where all commute, their formulas are joined; at the first one of which nothing is known, all are
+/// tried from a few trees.
 fn look_at_all(
     alloc: Global,
     programs: &[Program],
@@ -71,21 +103,31 @@ fn look_at_all(
     ensures { IfOk result (AreSettled (map program_of programs.now) order.now pairs.now) }
 {
     let mut parts = Vec::new(alloc);
-    let mut is_open = false;
     for pair in pairs {
         match look_at(alloc, programs, order, *pair, budget)? {
             Look::Commute(verified) => parts.push(verified)?,
             Look::Differ(found) => return Ok(Settled::Differ(found)),
-            Look::Open => is_open = true,
+            Look::Open => return try_all(alloc, programs, order, pairs),
         }
     }
-    if is_open {
-        return Ok(Settled::Open);
+    let settled = settled_by(alloc, parts.as_slice())?;
+    Ok(settled)
+}
+
+/// Tries pairs from a few trees, if there aren't too many.
+fn try_few(
+    alloc: Global,
+    programs: &[Program],
+    order: &Order,
+    pairs: &[(u32, u32)],
+) -> Result<Option<Difference>, NoMemory>
+    requires { length programs.now ≡ order.now.count }
+    ensures { IfOk result (λ found. IfSome found (IsDifference (map program_of programs.now) order.now)) }
+{
+    if pairs.len() > MOST_TRIED {
+        return Ok(None);
     }
-    match joined(alloc, parts.as_slice())? {
-        Some(verified) => Ok(Settled::Alike(verified)),
-        None => Ok(Settled::Open),
-    }
+    try_pairs(alloc, programs, order, pairs)
 }
 
 /// Looks at the pairs of programs whose order may matter, where the folders stand that are sure before them.
@@ -102,6 +144,9 @@ pub(crate) fn settle(
     are_proper(programs);
     sure_pairs();
     let doubtful = doubtful_pairs(alloc, programs, order)?;
+    if let Some(found) = try_few(alloc, programs, order, doubtful.as_slice())? {
+        return Ok(Settled::Differ(found));
+    }
     let settled = look_at_all(alloc, programs, order, doubtful.as_slice(), budget)?;
     Ok(settled)
 }
