@@ -10,6 +10,8 @@ mod pairs;
 #[cfg(test)]
 mod programs;
 #[cfg(test)]
+mod tries;
+#[cfg(test)]
 mod verdicts;
 #[cfg(test)]
 mod workloads;
