@@ -12,26 +12,26 @@ use Rattle.catalog_semantics.specs.Sites.{Definition, definition_of, line_of, in
 
 module _ (classes : List Definition) where
   -- it is found by its own name
-  abbrev IsOwn : Definition → Type 0
+  abbrev pub IsOwn : Definition → Type 0
   IsOwn d = definition_of d.name classes ≡ Some d
 
-  abbrev IfOwn : Option Definition → Type 0
+  abbrev pub IfOwn : Option Definition → Type 0
   IfOwn None = Unit {0}
   IfOwn (Some d) = IsOwn d
 
-  abbrev next : Definition → Option Definition
+  abbrev pub next : Definition → Option Definition
   next d = option_and_then (λ parent. definition_of parent classes) d.parent
 
 own_head : (name : List ℕ) (d e : Definition) (found : Option Definition) → (found ≡ Some e → e.name ≡ name) → (t : Bool) → bytes_eq d.name name ≡ t → cond t (Some d) found ≡ Some e → e.name ≡ name
 own_head name d e found f true is h = let same : d ≡ e = cc in ap (λ (c : Definition). c.name) (sym same) ∙ (bytes_eq-Decides d.name name).0 is
 own_head name d e found f false is h = f h
 
-has_name : (name : List ℕ) (classes : List Definition) (e : Definition) → definition_of name classes ≡ Some e → e.name ≡ name
+pub has_name : (name : List ℕ) (classes : List Definition) (e : Definition) → definition_of name classes ≡ Some e → e.name ≡ name
 has_name name [] e h = cc
 has_name name (d ∷ classes) e h = own_head name d e (definition_of name classes) (has_name name classes e) (bytes_eq d.name name) refl h
 
 module _ (classes : List Definition) where
-  found_own : (name : List ℕ) (o : Option Definition) → definition_of name classes ≡ o → IfOwn classes o
+  pub found_own : (name : List ℕ) (o : Option Definition) → definition_of name classes ≡ o → IfOwn classes o
   found_own name None h = tt
   found_own name (Some e) h = ap (λ k. definition_of k classes) (has_name name classes e h) ∙ h
 
@@ -83,20 +83,20 @@ module _ (classes : List Definition) where
 
   -- ---- a chain that ends
 
-  abbrev Ends : ℕ → Option Definition → Type 0
+  abbrev pub Ends : ℕ → Option Definition → Type 0
   Ends k None = Unit {0}
   Ends zero (Some d) = ⊥
   Ends (suc k) (Some d) = Ends k (next classes d)
 
-  abbrev rank : ℕ → Option Definition → ℕ
+  abbrev pub rank : ℕ → Option Definition → ℕ
   rank k o = length (line_of k classes o)
 
-  ends_by : (k : ℕ) (o : Option Definition) → length (line_of (suc k) classes o) ≤ k → Ends k o
+  pub ends_by : (k : ℕ) (o : Option Definition) → length (line_of (suc k) classes o) ≤ k → Ends k o
   ends_by k None h = tt
   ends_by zero (Some d) h = absurd (omega arith)
   ends_by (suc k) (Some d) h = ends_by k (next classes d) (omega arith)
 
-  longer : (k : ℕ) (o : Option Definition) → Ends k o → Ends (suc k) o
+  pub longer : (k : ℕ) (o : Option Definition) → Ends k o → Ends (suc k) o
   longer k None h = tt
   longer zero (Some d) h = absurd h
   longer (suc k) (Some d) h = longer k (next classes d) h
@@ -110,11 +110,11 @@ module _ (classes : List Definition) where
   stable zero (Some d) h = absurd h
   stable (suc k) (Some d) h = ap (λ ds. d ∷ ds) (stable k (next classes d) h)
 
-  falls : (k : ℕ) (d : Definition) → Ends k (Some d) → rank k (Some d) ≡ suc (rank k (next classes d))
+  pub falls : (k : ℕ) (d : Definition) → Ends k (Some d) → rank k (Some d) ≡ suc (rank k (next classes d))
   falls zero d h = absurd h
   falls (suc k) d h = ap (λ (ds : List Definition). suc (length ds)) (sym (stable k (next classes d) h))
 
-  goes_on : (k : ℕ) (d : Definition) → Ends k (Some d) → Ends k (next classes d)
+  pub goes_on : (k : ℕ) (d : Definition) → Ends k (Some d) → Ends k (next classes d)
   goes_on zero d h = absurd h
   goes_on (suc k) d h = longer k (next classes d) h
 

@@ -5,7 +5,7 @@ ghost use Rattle.rh_base.specs.declared.fault.Refusal.{Refusal};
 ghost use Rattle.pp_syntax.specs.Tokens.{Lexeme};
 ghost use Rattle.pp_syntax.specs.Spelling.{Spells};
 ghost use Rattle.pp_syntax.specs.Statements.{IsManifest};
-ghost use Rattle.std.specs.Prelude.{not, List, map, slice_get, Some, None, Ok};
+ghost use Rattle.std.specs.Prelude.{not, List, map, slice_get, Some, None, Ok, Err};
 ghost use Rattle.pp_syntax.specs.declared.tree.Item.{Item};
 ghost use Rattle.pp_syntax.specs.declared.tree.Manifest.{Manifest};
 ghost use Rattle.std.specs.List.{flat_map};
@@ -28,11 +28,13 @@ ghost use Rattle.pp_data.specs.Lookup.{lookup};
 ghost use Rattle.catalog_semantics.specs.declared.catalog.Resource.{Resource};
 ghost use Rattle.catalog_semantics.specs.Sites.{Parameter, Definition, Node, Site, node_of, node_block, definition_of, inherits_itself, MeetsTwice};
 ghost use Rattle.catalog_semantics.specs.States.{State, Default, in_turn, references_of, is_declared, filled};
-ghost use Rattle.catalog_semantics.specs.Declaring.{given_or_else, entering, opened, Bodies, class_ref, class_resource, class_runs, class_included};
+ghost use Rattle.catalog_semantics.specs.Declaring.{given_or_else, entering, opened, Bodies, class_ref, class_resource, class_runs, class_included, parents_of};
 ghost use Rattle.catalog_semantics.specs.Effects.{assigned, chained, called, first_true, unless_true, selected_block, effect_with};
 ghost use Rattle.catalog_semantics.specs.Effects.{block_with, arm_with, options_with, effect_of, effect_at, bodies_at};
-ghost use Rattle.catalog_semantics.specs.Catalogs.{is_called_for, made_real, state_after, round_limit, IsSettled, Catalog, catalog_of, IsCatalogOf};
+ghost use Rattle.catalog_semantics.specs.Catalogs.{main_ended, is_called_for, made_real, state_after, round_limit, IsSettled, Catalog, catalog_of, IsCatalogOf};
 ghost use Rattle.catalog_semantics.specs.Frames.{Extends, StandOnce, AgreeOn, AreSound};
+ghost use Rattle.catalog_semantics.specs.Filling.{IsFirstTooLarge};
+ghost use Rattle.catalog_semantics.specs.Parents.{AreParents};
 ghost use Rattle.catalog_semantics.specs.Nesting.{Deeper};
 
 use pp_syntax::one_spelling;
@@ -124,6 +126,19 @@ pub fn given_values_win()
 pub fn attributes_win_over_defaults()
     ensures { (defaults : List Default) (r : Resource) (name : List ℕ) (x : Value) → value_at name r.attrs ≡ Some x
         → value_at name (filled defaults r).attrs ≡ Some x }
+{}
+
+/// The parents that run before a class are those that aren't declared yet, each once, and each ahead of what inherits it.
+pub fn parents_go_ahead()
+    ensures { (site : Site) (s : State) (d : Definition) (line : List Definition) → inherits_itself site.classes d ≡ false
+        → parents_of site s d ≡ Ok line → AreParents site s d line }
+{}
+
+/// Where the main code ends every resource has the defaults of its type, or the first is refused with which the attributes are too
+/// large.
+pub fn defaults_take_hold()
+    ensures filled { (s t : State) → main_ended s ≡ Ok t → t ≡ record s { main_has_ended = true; resources = map (filled s.defaults) s.resources } }
+    ensures refused { (s : State) (e : Refusal) → main_ended s ≡ Err e → IsFirstTooLarge s.defaults s.resources e }
 {}
 
 /// The block of the node's name wins over that of `default`.
