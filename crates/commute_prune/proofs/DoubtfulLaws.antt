@@ -171,6 +171,7 @@ module _ (es : List Program) (before : ℕ → ℕ → Bool) where
     where
       from_all : (P : Path → Type 0) (e f : Program) → Commutes e f → CommuteFrom (IsTreeWith P) e f
       from_all P e f h t tree = h t tree.is_tree
+
       turned : (p : Path) → IsSureBeforeEither nowhere es (Told before) b a p → IsSureBeforeEither nowhere es (Told before) a b p
       turned p (inl h) = inr h
       turned p (inr h) = inl h
