@@ -5,15 +5,9 @@ use Rattle.fs_semantics.specs.Programs.{Program, Id}
 use Rattle.fs_semantics.specs.Changes.{Commutes}
 use Rattle.fs_semantics.specs.Orders.{Told, IsDeterministic, IsFree, FreeCommute}
 use Rattle.orders.specs.Relation.{Relation, comes}
-use Rattle.orders.specs.Paths.{Path, edge, and_on}
-use Rattle.judgement.specs.Settled.{PairCommutes, IsByProof, AreSettled, IsSettled}
+use Rattle.judgement.specs.Settled.{PairCommutes, AreSettled, IsSettled}
 use Rattle.judgement.specs.declared.settling.Settled.{Settled}
 use Rattle.judgement.specs.declared.settling.Settled.TheVariants as settled
-
--- no path leads along no edges
-pub no_path : (a b : ℕ) → Path [] a b → ⊥
-no_path a b (edge h) = omega (arith, h.1)
-no_path a b (and_on h more) = omega (arith, h.1)
 
 -- what is said of two programs by themselves is said of them
 pub two_commute : (es two : List Program) (before : ℕ → ℕ → Type 0) (a b : ℕ) → length two ≡ 2 → IsFree before 0 1 → get_or two 0 Id ≡ get_or es a Id → get_or two 1 Id ≡ get_or es b Id
@@ -32,9 +26,3 @@ pub settled_from : (es : List Program) (order : Relation) (pairs : List (ℕ × 
 settled_from es order pairs (settled.Alike v) enough h = (enough h.0, h.1)
 settled_from es order pairs (settled.Differ d) enough h = h
 settled_from es order pairs settled.Open enough h = tt
-
--- where all pairs commute, what was proved settles them
-pub by_proof : (es : List Program) (order : Relation) (pairs : List (ℕ × ℕ)) (s : Settled) → AllByRecursion (PairCommutes es) pairs → IsByProof s → AreSettled es order pairs s
-by_proof es order pairs (settled.Alike v) all h = (all, h)
-by_proof es order pairs (settled.Differ d) all h = absurd h
-by_proof es order pairs settled.Open all h = tt
