@@ -1,19 +1,22 @@
 -- What the words of the command line ask for.
-use Rattle.std.specs.Prelude.{◌≡◌, ◌≤◌, ℕ, ◌+◌, ◌-◌, ◌*◌, ◌==◌, ◌&&◌, nat_le, List, [], ◌∷◌, Option, Some, None, option_map, Result, Ok, Err, Bool, true, false, codes, if◌then◌else◌}
-use Rattle.std.specs.Str.{bytes_eq}
+use Rattle.std.specs.Prelude.{◌≡◌, ◌≤◌, ℕ, ◌+◌, ◌-◌, ◌*◌, ◌==◌, ◌&&◌, nat_le, List, [], ◌∷◌, map, Option, Some, None, option_map, Result, Ok, Err, Bool, true, false, codes, if◌then◌else◌}
 use Rattle.rh_base.specs.Reading.{◌>>=◌}
 use Rattle.clap.specs.Walk.{Row, Rule, Text, first_of}
 use Rattle.clap.specs.Simple.{App, new_app, new_rule, with_rule, on_top, matches_of}
 use Rattle.clap.specs.Faults.{fault_of}
-use Rattle.command_line.specs.declared.asks.Ask.{Ask}
-use Rattle.command_line.specs.declared.asks.Ask.TheVariants as ask
-use Rattle.command_line.specs.declared.asks.Takes.{Takes}
-use Rattle.command_line.specs.declared.asks.Source.{Source}
-use Rattle.command_line.specs.declared.asks.Source.TheVariants as source
-use Rattle.command_line.specs.declared.asks.Request.{Request}
+use Rattle.command_line.specs.declared.table.Ask.{Ask}
+use Rattle.command_line.specs.declared.table.Ask.TheVariants as ask
+use Rattle.command_line.specs.declared.table.Role.{Role}
+use Rattle.command_line.specs.declared.table.Role.TheVariants as role
+use Rattle.command_line.specs.declared.table.Task.TheVariants as task
+use Rattle.command_line.specs.declared.table.Tasks.{Tasks}
+use Rattle.command_line.specs.declared.request.Source.{Source}
+use Rattle.command_line.specs.declared.request.Source.TheVariants as source
+use Rattle.command_line.specs.declared.request.Request.{Request}
 use Rattle.command_line.specs.declared.size.TheConstants.{MOST_WORKLOAD}
 use Rattle.command_line.specs.declared.words.WordsFault.{WordsFault}
 use Rattle.command_line.specs.declared.words.WordsFault.TheVariants as fault
+use Rattle.command_line.specs.Table.{has, beside, ask_row, ask_named, role_row, roles, ByRole, given, options}
 
 -- an option that takes one value, as `--facts F`
 abbrev pub option_rule : Text → Rule
@@ -27,79 +30,16 @@ program = on_top (λ s. record s { no_binary_name = true }) (new_app (codes "reh
 abbrev pub with_option : App → Text → App
 with_option app name = with_rule app (option_rule name)
 
--- `rehearsal [--facts F] [--packages P] [--node N] [--conflicts C] [--ask A] [--tree T] [--order O] [--workload N] [--data D] [INPUT]`
-abbrev pub inputs : App
-inputs = with_option (with_option (with_option (with_option program (codes "facts")) (codes "packages")) (codes "node")) (codes "conflicts")
+-- the command with all of these
+abbrev pub with_options : App → List Text → App
+with_options app [] = app
+with_options app (name ∷ names) = with_options (with_option app name) names
 
--- with those that say what is asked
-abbrev pub asked : App
-asked = with_option (with_option (with_option (with_option (with_option inputs (codes "ask")) (codes "tree")) (codes "order")) (codes "workload")) (codes "data")
-
--- and with the input
+-- the command with all options, and with the input
 abbrev pub synopsis : App
-synopsis = with_rule asked (new_rule (codes "INPUT"))
-
--- ---- what may stand beside what is asked
-
--- no option at all
-abbrev pub alone : Takes
-alone =
-    record {
-      facts = false;
-      packages = false;
-      class_data = false;
-      node = false;
-      conflicts = false;
-      tree = false;
-      order = false;
-      workload = false;
-    }
-
--- what a catalog is compiled with
-abbrev pub compiled : Takes
-compiled = record alone { facts = true; class_data = true; node = true }
-
--- that, and a listing of packages
-abbrev pub described : Takes
-described = record compiled { packages = true }
-
--- that, how many conflicts a question has, and a workload
-abbrev pub judged : Takes
-judged = record described { conflicts = true; workload = true }
-
--- what a catalog's programs are made with, and a file tree and an order
-abbrev pub replayed : Takes
-replayed = record described { tree = true; order = true }
-
--- which options may stand beside a value of `--ask`
-abbrev pub takes : Ask → Takes
-takes ask.Verify = judged
-takes ask.Proof = judged
-takes ask.Catalog = compiled
-takes ask.Graph = compiled
-takes ask.Programs = described
-takes ask.Replay = replayed
-takes ask.Check = alone
-takes ask.Migrate = alone
-
--- the same beside a workload, which brings its own manifest and listing
-abbrev pub beside : Option ℕ → Takes → Takes
-beside None t = t
-beside (Some n) t = record t { facts = false; packages = false; class_data = false; node = false }
+synopsis = with_rule (with_options program (map (λ o. o.0) options)) (new_rule (codes "INPUT"))
 
 -- ---- the request
-
--- what a word of `--ask` asks for
-abbrev pub ask_named : Text → Option Ask
-ask_named word =
-    if bytes_eq word (codes "verify") then Some ask.Verify
-    else (if bytes_eq word (codes "proof") then Some ask.Proof
-    else (if bytes_eq word (codes "catalog") then Some ask.Catalog
-    else (if bytes_eq word (codes "graph") then Some ask.Graph
-    else (if bytes_eq word (codes "programs") then Some ask.Programs
-    else (if bytes_eq word (codes "replay") then Some ask.Replay
-    else (if bytes_eq word (codes "check") then Some ask.Check
-    else (if bytes_eq word (codes "migrate") then Some ask.Migrate else None)))))))
 
 -- what `--ask` asks for; where it is left out, to verify
 abbrev pub ask_in : Option Text → Option Ask
@@ -133,27 +73,44 @@ taken_number may most None = Some None
 taken_number true most (Some word) = option_map (λ n. Some n) (number_in most word)
 taken_number false most (Some word) = None
 
--- what is asked about: a workload, or the input of a name, and not both
-abbrev pub source_in : Option ℕ → Option Text → Option Source
-source_in None None = None
-source_in None (Some name) = Some (source.Named name)
-source_in (Some n) None = Some (source.Workload n)
-source_in (Some n) (Some name) = None
+-- what is behind a name that is given, or behind none
+abbrev pub with_name : Role → Option Text → ByRole Text → ByRole Text
+with_name r None names = names
+with_name r (Some name) names = (r, name) ∷ names
 
--- the request that was given so, where one was: no option stands that may not
+-- the names that are given for these files, of which those may stand that serve one of the tasks
+abbrev pub names_in : Tasks → List Row → List Role → Option (ByRole Text)
+names_in tasks rows [] = Some []
+names_in tasks rows (r ∷ roles) = do
+  name ← taken (has (role_row r).task tasks) (first_of (role_row r).word rows)
+  names ← names_in tasks rows roles
+  Some (with_name r name names)
+
+-- these are the names, if the input is among them
+abbrev pub with_input : ByRole Text → Option Text → Option Source
+with_input names None = None
+with_input names (Some name) = Some (source.Files names)
+
+-- what is asked about: a workload, or files, of which one is the input
+abbrev pub source_in : Option ℕ → ByRole Text → Option Source
+source_in None names = with_input names (given role.Input names)
+source_in (Some n) names = Some (source.Workload n)
+
+-- the request about a workload or files, with those options that serve one of the tasks
+unfoldable pub request_for : Ask → Option ℕ → Tasks → List Row → Option Request
+request_for ask workload tasks rows = do
+  names ← names_in tasks rows roles
+  source ← source_in workload names
+  node ← taken (has task.Compile tasks) (first_of (codes "node") rows)
+  conflicts ← taken_number (has task.Judge tasks) most_conflicts (first_of (codes "conflicts") rows)
+  Some (record { ask = ask; node = node; conflicts = conflicts; source = source })
+
+-- the request that was given so, where one was: no option stands that may not, and beside a workload no file
 abbrev pub request_in : List Row → Option Request
 request_in rows = do
   ask ← ask_in (first_of (codes "ask") rows)
-  workload ← taken_number (takes ask).workload MOST_WORKLOAD (first_of (codes "workload") rows)
-  source ← source_in workload (first_of (codes "INPUT") rows)
-  facts ← taken (beside workload (takes ask)).facts (first_of (codes "facts") rows)
-  packages ← taken (beside workload (takes ask)).packages (first_of (codes "packages") rows)
-  class_data ← taken (beside workload (takes ask)).class_data (first_of (codes "data") rows)
-  node ← taken (beside workload (takes ask)).node (first_of (codes "node") rows)
-  tree ← taken (beside workload (takes ask)).tree (first_of (codes "tree") rows)
-  order ← taken (beside workload (takes ask)).order (first_of (codes "order") rows)
-  conflicts ← taken_number (beside workload (takes ask)).conflicts most_conflicts (first_of (codes "conflicts") rows)
-  Some (record { ask = ask; facts = facts; packages = packages; class_data = class_data; node = node; conflicts = conflicts; source = source; tree = tree; order = order })
+  workload ← taken_number (has task.Judge (ask_row ask).tasks) MOST_WORKLOAD (first_of (codes "workload") rows)
+  request_for ask workload (beside workload (ask_row ask).tasks) rows
 
 -- The words are those of the command, and make this request.
 pub record Makes (words : List Text) (request : Request) : Type 0 where

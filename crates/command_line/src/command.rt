@@ -1,10 +1,11 @@
 //! The command, as `clap` knows it.
 
-ghost use Rattle.std.specs.Prelude.{◌≡◌, IfOk, false};
+ghost use Rattle.std.specs.Prelude.{◌≡◌, map, IfOk, false};
 ghost use Rattle.clap.specs.Simple.{app_of};
 ghost use Rattle.clap.specs.Walk.{rule_of};
-ghost use Rattle.command_line.specs.Words.{option_rule, program, with_option, inputs, asked, synopsis};
+ghost use Rattle.command_line.specs.Words.{option_rule, program, with_option, with_options, synopsis};
 
+use crate::table::OPTIONS;
 use clap::{Arg, Command};
 use rh_base::NoMemory;
 use std::alloc::Global;
@@ -33,28 +34,24 @@ fn program<'a>(alloc: Global) -> Command<'a>
     Command::new(alloc, "rehearsal").no_binary_name(true)
 }
 
-fn inputs<'a>(alloc: Global) -> Result<Command<'a>, NoMemory>
-    ensures { IfOk result (λ c. app_of c ≡ inputs) }
+fn with_options<'a>(
+    alloc: Global,
+    command: Command<'a>,
+    names: &[&'a str],
+) -> Result<Command<'a>, NoMemory>
+    ensures { IfOk result (λ c. app_of c ≡ with_options (app_of command.entry) (map (λ n. n.now) names.now)) }
 {
-    let command = with_option(alloc, program(alloc), "facts")?;
-    let command = with_option(alloc, command, "packages")?;
-    let command = with_option(alloc, command, "node")?;
-    with_option(alloc, command, "conflicts")
-}
-
-fn asked<'a>(alloc: Global) -> Result<Command<'a>, NoMemory>
-    ensures { IfOk result (λ c. app_of c ≡ asked) }
-{
-    let command = with_option(alloc, inputs(alloc)?, "ask")?;
-    let command = with_option(alloc, command, "tree")?;
-    let command = with_option(alloc, command, "order")?;
-    let command = with_option(alloc, command, "workload")?;
-    with_option(alloc, command, "data")
+    let mut command = command;
+    for name in names {
+        command = with_option(alloc, command, name)?;
+    }
+    Ok(command)
 }
 
 /// The command with all its options and its input.
 pub fn synopsis<'a>(alloc: Global) -> Result<Command<'a>, NoMemory>
     ensures { IfOk result (λ c. app_of c ≡ synopsis) }
 {
-    Ok(asked(alloc)?.arg(Arg::new(alloc, "INPUT"))?)
+    let command = with_options(alloc, program(alloc), &OPTIONS)?;
+    Ok(command.arg(Arg::new(alloc, "INPUT"))?)
 }

@@ -1,12 +1,14 @@
 //! The words of the command line.
 #![tactic(auto)]
 
-mod asks;
 mod command;
 mod numbers;
+mod request;
 mod size;
+mod table;
 mod words;
 
-pub use asks::{Ask, Request, Source};
+pub use request::{ByRole, Request, Source, given};
 pub use size::Size;
+pub use table::{Ask, Role, usage_line};
 pub use words::{WordsFault, read_request};

@@ -5,15 +5,16 @@ ghost use Rattle.std.specs.Option.{option_map};
 ghost use Rattle.clap.specs.Words.{found_of, rows_of, first_of, matches_of, fault_of, kind_of};
 ghost use Rattle.clap.specs.declared.error.kind.ErrorKind.TheVariants.{OutOfMemory};
 ghost use Rattle.command_line.specs.declared.size.TheConstants.{MOST_WORKLOAD};
-ghost use Rattle.command_line.specs.Words.{synopsis, ask_in, taken, taken_number, source_in, request_in, Makes, IfRefused, IsMade, IsWithin};
+ghost use Rattle.command_line.specs.Words.{synopsis, ask_in, taken, taken_number, names_in, source_in, request_for, request_in, Makes, IfRefused, IsMade, IsWithin};
 
-use crate::asks::{Ask, Request, Source};
 use crate::command::synopsis;
 use crate::numbers::number;
+use crate::request::{ByRole, Request, Source, given};
 use crate::size::{MOST_WORKLOAD, Size};
+use crate::table::{Ask, ROLES, Role, Task, Tasks};
 use clap::ArgMatches;
 use clap::error::{Error, ErrorKind};
-use rh_base::{NoMemory, Text};
+use rh_base::{NoMemory, Seq, Text};
 use std::alloc::Global;
 
 /// Why words ask for nothing.
@@ -110,47 +111,72 @@ fn size(matches: &ArgMatches<'_>, may: bool) -> Result<Option<Size>, WordsFault>
     }
 }
 
-/// What is asked about: a workload, or the input of a name.
-fn source(
+#[tactic(auto, using(crate::proofs::RoleLaws::refused, crate::proofs::RoleLaws::not_given, crate::proofs::RoleLaws::one_more, crate::proofs::RoleLaws::at_end, crate::proofs::RoleLaws::from_start))]
+/// The names that are given for these files, of which those may stand that serve one of the tasks.
+fn names_of(
     alloc: Global,
     matches: &ArgMatches<'_>,
-    workload: Option<Size>,
-) -> Result<Source, WordsFault>
-    ensures { IsMade (source_in workload (first_of (codes "INPUT") (rows_of (found_of matches.now)))) result }
+    tasks: &Tasks,
+    roles: &[Role],
+) -> Result<ByRole<Text>, WordsFault>
+    ensures { IsMade (names_in tasks.now (rows_of (found_of matches.now)) roles.now) result }
 {
-    match (workload, value(matches, "INPUT")) {
-        (None, Some(word)) => Ok(Source::Named(text(alloc, word)?)),
-        (Some(size), None) => Ok(Source::Workload(size)),
-        _ => Err(WordsFault::Refused),
+    let mut names = Seq::new(alloc);
+    for role in roles {
+        let may = tasks.has(role.task());
+        match option(alloc, matches, may, role.word())? {
+            Some(name) => names.push((*role, name))?,
+            None => {},
+        }
+    }
+    Ok(names)
+}
+
+/// What is asked about: a workload, or files, of which one is the input.
+fn source(workload: Option<Size>, names: ByRole<Text>) -> Result<Source, WordsFault>
+    ensures { IsMade (source_in workload names) result }
+{
+    match workload {
+        Some(size) => Ok(Source::Workload(size)),
+        None => match given(names.as_slice(), Role::Input) {
+            Some(_) => Ok(Source::Files(names)),
+            None => Err(WordsFault::Refused),
+        },
     }
 }
 
+#[tactic(auto, unfolding(crate::specs::Words::request_for))]
+/// The request about this, with those options that serve one of the tasks.
+fn request_for(
+    alloc: Global,
+    matches: &ArgMatches<'_>,
+    ask: Ask,
+    workload: Option<Size>,
+    tasks: &Tasks,
+) -> Result<Request, WordsFault>
+    ensures { IsMade (request_for ask workload tasks.now (rows_of (found_of matches.now))) result }
+{
+    let names = names_of(alloc, matches, tasks, &ROLES)?;
+    let source = source(workload, names)?;
+    let node = option(alloc, matches, tasks.has(Task::Compile), "node")?;
+    let conflicts = counted(matches, tasks.has(Task::Judge), "conflicts", MOST_CONFLICTS)?;
+    Ok(Request {
+        ask,
+        node,
+        conflicts,
+        source,
+    })
+}
+
 /// What is asked for, where no option stands that may not.
+#[tactic(auto, using(crate::proofs::RoleLaws::whole))]
 fn request_of(alloc: Global, matches: &ArgMatches<'_>) -> Result<Request, WordsFault>
     ensures { IsMade (request_in (rows_of (found_of matches.now))) result }
 {
     let ask = ask_of(matches)?;
-    let workload = size(matches, ask.takes().workload)?;
-    let takes = ask.takes().beside(&workload);
-    let source = source(alloc, matches, workload)?;
-    let facts = option(alloc, matches, takes.facts, "facts")?;
-    let packages = option(alloc, matches, takes.packages, "packages")?;
-    let class_data = option(alloc, matches, takes.class_data, "data")?;
-    let node = option(alloc, matches, takes.node, "node")?;
-    let tree = option(alloc, matches, takes.tree, "tree")?;
-    let order = option(alloc, matches, takes.order, "order")?;
-    let conflicts = counted(matches, takes.conflicts, "conflicts", MOST_CONFLICTS)?;
-    Ok(Request {
-        ask,
-        facts,
-        packages,
-        class_data,
-        node,
-        conflicts,
-        source,
-        tree,
-        order,
-    })
+    let workload = size(matches, ask.tasks().has(Task::Judge))?;
+    let tasks = ask.tasks().beside(&workload);
+    request_for(alloc, matches, ask, workload, &tasks)
 }
 
 /// Whether memory was refused.

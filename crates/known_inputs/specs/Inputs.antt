@@ -1,6 +1,9 @@
 -- What the files beside a manifest say, and which of them is refused first.
 use Rattle.std.specs.Prelude.{◌≡◌, List, [], ℕ, Option, Some, None, codes}
 use Rattle.std.specs.FinMap as map
+use Rattle.command_line.specs.declared.table.Role.{Role}
+use Rattle.command_line.specs.declared.table.Role.TheVariants as role
+use Rattle.command_line.specs.Table.{given}
 use Rattle.rh_base.specs.declared.fault.Refusal.{Refusal}
 use Rattle.rh_base.specs.Refused.{IsRefusal}
 use Rattle.fs_semantics.specs.FileTree.{Tree}
@@ -18,6 +21,19 @@ use Rattle.known_inputs.specs.declared.inputs.Known.{Known}
 -- the bytes of a file, if one is named
 abbrev pub Bytes : Type 0
 Bytes = Option (List ℕ)
+
+-- the bytes of the file of a role
+abbrev pub bytes_of : Role → Inputs → Bytes
+bytes_of r i = given r i.files
+
+-- the bytes, or none of them
+abbrev pub bytes_or_none : Bytes → List ℕ
+bytes_or_none None = []
+bytes_or_none (Some bytes) = bytes
+
+-- the bytes of the input; none where it isn't named
+abbrev pub input_of : Inputs → List ℕ
+input_of i = bytes_or_none (bytes_of role.Input i)
 
 -- ---- what the bytes say; without any, there is nothing
 
@@ -67,15 +83,15 @@ pub record HasNoTree (bytes : Bytes) (r : Refusal) : Type 0 where
 
 -- The files beside the manifest say this.
 pub record IsKnown (i : Inputs) (k : Known) : Type 0 where
-  pub facts : AreFactsOf i.facts k.facts
-  pub listing : IsListingOf i.packages k.listing
-  pub class_data : AreDataOf i.class_data k.class_data
-  pub tree : IsTreeOf i.tree k.tree
+  pub facts : AreFactsOf (bytes_of role.Facts i) k.facts
+  pub listing : IsListingOf (bytes_of role.Packages i) k.listing
+  pub class_data : AreDataOf (bytes_of role.Data i) k.class_data
+  pub tree : IsTreeOf (bytes_of role.Tree i) k.tree
 
 -- the refusal of the first that says nothing: facts, the listing, class data, and then the tree
 pub data FirstUnread (i : Inputs) (r : Refusal) : Type 0 where
-  facts : HasNoFacts i.facts r → FirstUnread i r
-  listing : (x : Value) → AreFactsOf i.facts x → HasNoListing i.packages r → FirstUnread i r
-  class_data : (x : Value) (packages : Packages) → AreFactsOf i.facts x → IsListingOf i.packages packages → HasNoData i.class_data r → FirstUnread i r
-  tree : (x : Value) (packages : Packages) (levels : List Level) → AreFactsOf i.facts x → IsListingOf i.packages packages
-      → AreDataOf i.class_data levels → HasNoTree i.tree r → FirstUnread i r
+  facts : HasNoFacts (bytes_of role.Facts i) r → FirstUnread i r
+  listing : (x : Value) → AreFactsOf (bytes_of role.Facts i) x → HasNoListing (bytes_of role.Packages i) r → FirstUnread i r
+  class_data : (x : Value) (packages : Packages) → AreFactsOf (bytes_of role.Facts i) x → IsListingOf (bytes_of role.Packages i) packages → HasNoData (bytes_of role.Data i) r → FirstUnread i r
+  tree : (x : Value) (packages : Packages) (levels : List Level) → AreFactsOf (bytes_of role.Facts i) x → IsListingOf (bytes_of role.Packages i) packages
+      → AreDataOf (bytes_of role.Data i) levels → HasNoTree (bytes_of role.Tree i) r → FirstUnread i r

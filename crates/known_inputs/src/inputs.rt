@@ -1,5 +1,10 @@
 //! The files that a request names, as bytes and as what they say.
 
+ghost use Rattle.std.specs.Prelude.{◌≡◌};
+ghost use Rattle.std.specs.Option.{option_map};
+ghost use Rattle.known_inputs.specs.Inputs.{bytes_of, input_of};
+
+use command_line::{ByRole, Role, given};
 use fs_lang::Tree;
 use pkg_listing::Listing;
 use pp_data::Data;
@@ -10,12 +15,29 @@ use rh_base::{Seq, Text};
 #[derive(Drop)]
 pub struct Inputs {
     pub node: Option<Text>,
-    pub facts: Option<Seq<u8>>,
-    pub packages: Option<Seq<u8>>,
-    pub class_data: Option<Seq<u8>>,
-    pub input: Seq<u8>,
-    pub tree: Option<Seq<u8>>,
-    pub order: Option<Seq<u8>>,
+    pub files: ByRole<Seq<u8>>,
+}
+
+impl Inputs {
+    /// The bytes of the file of a role, if one is named.
+    pub fn bytes(&self, role: Role) -> Option<&[u8]>
+        ensures { option_map (λ b. b.now) result ≡ bytes_of role self.now }
+    {
+        match given(self.files.as_slice(), role) {
+            Some(bytes) => Some(bytes.as_slice()),
+            None => None,
+        }
+    }
+
+    /// The bytes of the input; none where it isn't named.
+    pub fn input(&self) -> &[u8]
+        ensures { result.now ≡ input_of self.now }
+    {
+        match self.bytes(Role::Input) {
+            Some(bytes) => bytes,
+            None => &[],
+        }
+    }
 }
 
 /// What the files beside the manifest say. What isn't named says nothing: no facts, no packages, no data, no entries.

@@ -6,9 +6,11 @@ use Rattle.rh_base.specs.declared.fault.Refusal.{Refusal}
 use Rattle.rh_base.specs.Causes.{Rose}
 use Rattle.rh_base.specs.Shelf.{Files, told_at, IsMissing}
 use Rattle.rh_base.specs.Sink.{appended}
-use Rattle.command_line.specs.declared.asks.Ask.{Ask}
-use Rattle.command_line.specs.declared.asks.Ask.TheVariants as ask
-use Rattle.command_line.specs.declared.asks.Request.{Request}
+use Rattle.command_line.specs.declared.table.Ask.{Ask}
+use Rattle.command_line.specs.declared.table.Ask.TheVariants as ask
+use Rattle.command_line.specs.declared.request.Request.{Request}
+use Rattle.command_line.specs.Table.{ByRole, usage_line}
+use Rattle.request_files.specs.Files.{AnyNamed, AllTold}
 use Rattle.known_inputs.specs.declared.inputs.Inputs.{Inputs}
 use Rattle.fs_semantics.specs.Programs.{Program}
 use Rattle.orders.specs.Relation.{Relation}
@@ -16,12 +18,12 @@ use Rattle.verdict_report.specs.declared.report.Form.{Form}
 use Rattle.verdict_report.specs.declared.report.Form.TheVariants as form
 use Rattle.verdict_report.specs.Told.{IsTold}
 use Rattle.verdict_report.specs.declared.report.Report.{Report}
-use Rattle.rehearsal_core.specs.Inputs.{File, files_of, AnyNamed, AllTold, Requests, RequestsNone, IsHeld, Reports, Refuses, FailsToRead, IsAnswerTo, SaysOf, Says}
+use Rattle.rehearsal_core.specs.Inputs.{files_of, Requests, RequestsNone, IsHeld, Reports, Refuses, FailsToRead, IsAnswerTo, SaysOf, Says}
 use Rattle.rehearsal_core.specs.declared.run.Ending.{Ending}
 use Rattle.rehearsal_core.specs.declared.run.Ending.TheVariants as ending
 use Rattle.rehearsal_core.specs.Runs.{Run, Appends, IsLeft, IsSound, HasFailed, AppendsFront}
 use Rattle.rehearsal_core.proofs.HeadlineLaws.{answered}
-use Rattle.rehearsal_core.specs.Answers.{HasCause, NoFaults, Tells, Owes, Answers, TellsLine, TellsReport, refusal_line, read_fault_line, usage_line, memory_line}
+use Rattle.rehearsal_core.specs.Answers.{HasCause, NoFaults, Tells, Owes, Answers, TellsLine, TellsReport, refusal_line, read_fault_line, memory_line}
 
 -- a file that is told isn't missing
 not_missing : (held : Option Files) (name bytes : List ℕ) → told_at held name ≡ Some bytes → IsMissing held name → ⊥
@@ -36,9 +38,9 @@ one_request : (words : List (String Global)) (r s : Request) → Requests words 
 one_request words r s h k = let both : ◌≡◌ {A = Option Request} (Some r) (Some s) = sym h.given ∙ k.given in cc
 
 -- no file that is told is missing
-none_missing : (held : Option Files) (files : List File) (name : List ℕ) → AllTold held files → AnyNamed name files → IsMissing held name → ⊥
+none_missing : (held : Option Files) (files : ByRole (List ℕ)) (name : List ℕ) → AllTold held files → AnyNamed name files → IsMissing held name → ⊥
 none_missing held [] name told named missing = named
-none_missing held (f ∷ files) name told (inl here) missing = let bytes = told.0 name here in not_missing held name bytes.0 bytes.1 missing
+none_missing held (f ∷ files) name told (inl here) missing = not_missing held f.1 told.0.0 told.0.1 (subst (λ n. IsMissing held n) (sym here) missing)
 none_missing held (f ∷ files) name told (inr more) missing = none_missing held files name told.1 more missing
 
 -- ---- what each status tells, and what follows of which there are

@@ -1,8 +1,8 @@
 -- From the report that was written to the headline.
 use Rattle.std.proofs.Common.{◌≡◌, ◌⊎◌, inl, inr, ℕ, Option, Some, refl, sym, subst, ◌∙◌, arith}
-use Rattle.command_line.specs.declared.asks.Ask.{Ask}
-use Rattle.command_line.specs.declared.asks.Ask.TheVariants as ask
-use Rattle.command_line.specs.declared.asks.Request.{Request}
+use Rattle.command_line.specs.declared.table.Ask.{Ask}
+use Rattle.command_line.specs.declared.table.Ask.TheVariants as ask
+use Rattle.command_line.specs.declared.request.Request.{Request}
 use Rattle.known_inputs.specs.declared.inputs.Inputs.{Inputs}
 use Rattle.reports.specs.declared.question.Question.TheVariants as question
 use Rattle.reports.specs.Questions.{IsReport}

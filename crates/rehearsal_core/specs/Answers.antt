@@ -3,6 +3,7 @@ use Rattle.std.specs.Prelude.{◌≡◌, ◌≢◌, ◌⊎◌, ◌≤◌, ℕ, L
 use Rattle.std.specs.Fmt.{decimal}
 use Rattle.rh_base.specs.declared.fault.Refusal.{Refusal}
 use Rattle.rh_base.specs.Causes.{Rose}
+use Rattle.command_line.specs.Table.{usage_line}
 use Rattle.verdict_report.specs.declared.report.Report.{Report}
 use Rattle.rehearsal_core.specs.Runs.{Run, Put, Appends, AppendsFront, IsLeft, IsSound, HasFailed}
 use Rattle.rehearsal_core.specs.Headline.{Headline}
@@ -17,10 +18,6 @@ refusal_line r = codes "refused " ++ (decimal r.number ++ (codes " at " ++ (deci
 -- a file couldn't be read
 abbrev pub read_fault_line : List ℕ → List ℕ
 read_fault_line name = codes "read fault: " ++ (name ++ codes "\n")
-
--- the words are refused
-abbrev pub usage_line : List ℕ
-usage_line = codes "usage: rehearsal [--facts F] [--packages P] [--node N] [--conflicts C] [--ask A] [--tree T] [--order O] [--workload N] [--data D] [INPUT]\n"
 
 -- a write failed
 abbrev pub write_fault_line : List ℕ

@@ -5,9 +5,9 @@ use Rattle.orders.specs.Relation.{Comes}
 use Rattle.catalog_semantics.specs.Catalogs.{Catalog}
 use Rattle.dep_graph.specs.declared.answer.Graph.{Graph}
 use Rattle.judgement.specs.First.{IsPrunedCount}
-use Rattle.command_line.specs.declared.asks.Ask.{Ask}
-use Rattle.command_line.specs.declared.asks.Ask.TheVariants as ask
-use Rattle.command_line.specs.declared.asks.Request.{Request}
+use Rattle.command_line.specs.declared.table.Ask.{Ask}
+use Rattle.command_line.specs.declared.table.Ask.TheVariants as ask
+use Rattle.command_line.specs.declared.request.Request.{Request}
 use Rattle.known_inputs.specs.declared.inputs.Known.{Known}
 use Rattle.reports.specs.Stages.{IsModelled}
 use Rattle.reports.specs.Questions.{names_in}

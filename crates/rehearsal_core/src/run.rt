@@ -1,22 +1,25 @@
 //! One run of the program: from the words to the status.
 
-ghost use Rattle.std.specs.Prelude.{◌≡◌, ◌⊎◌, ◌<◌, ◌^◌, length, IfOk, IfErr};
+ghost use Rattle.std.specs.Prelude.{◌≡◌, ◌<◌, ◌^◌, length, IfOk, IfErr};
 ghost use Rattle.rh_base.specs.Refused.{IfRefused};
 ghost use Rattle.rehearsal_core.specs.Verified.{AreVerified, BreaksProofRule};
 ghost use Rattle.rehearsal_core.specs.Migrated.{IsMigrated, BreaksListingRule};
 ghost use Rattle.rehearsal_core.specs.Inputs.{IsPrinted, IsAnswer, IsAnswerTo, Breaks, BreaksFor, workload_inputs, Says, SaysOf};
-ghost use Rattle.rehearsal_core.specs.Loading.{AreShort, LoadedFrom, FirstLong, request_about, concluded};
+ghost use Rattle.known_inputs.specs.Inputs.{input_of};
+ghost use Rattle.request_files.specs.Files.{AreShort};
+ghost use Rattle.rehearsal_core.specs.Loading.{request_about, concluded};
 ghost use Rattle.rehearsal_core.specs.Runs.{put_of};
 ghost use Rattle.rehearsal_core.specs.Answers.{Answers};
 
 use crate::checking::verified;
-use crate::inputs::{Loaded, Loads, Names, ReadFault, all_within, fetch_all};
+use crate::inputs::{Loaded, Names};
 use crate::migrating::migrated;
 use crate::tell::{out_of_memory, tell_read_fault, tell_refusal, tell_usage, write_report};
 use crate::workloads::workload_inputs;
 use command_line::{Ask, Request, Size, Source, WordsFault, read_request};
 use known_inputs::Inputs;
 use reports::{Question, catalog_report, graph_report, report_on};
+use request_files::{FilesFault, read_files};
 use rh_base::{Fault, Refusal, Shelf, Sink, Text};
 use std::alloc::Global;
 use verdict_report::{Form, Report, printed};
@@ -33,27 +36,27 @@ pub enum Ending {
 
 /// What is said of a text of proofs.
 fn checked(alloc: Global, inputs: &Inputs) -> Result<Report, Fault>
-    ensures report { IfOk result (IsPrinted (AreVerified inputs.now.input)) }
-    ensures refused { IfErr result (λ e. IfRefused e (BreaksProofRule inputs.now.input)) }
+    ensures report { IfOk result (IsPrinted (AreVerified (input_of inputs.now))) }
+    ensures refused { IfErr result (λ e. IfRefused e (BreaksProofRule (input_of inputs.now))) }
 {
-    let text = inputs.input.as_slice();
+    let text = inputs.input();
     let told = verified(alloc, text)?;
     Ok(printed(told))
 }
 
 /// A listing in its newest form.
 fn listed(alloc: Global, inputs: &Inputs) -> Result<Report, Fault>
-    ensures report { IfOk result (IsPrinted (IsMigrated inputs.now.input)) }
-    ensures refused { IfErr result (λ e. IfRefused e (BreaksListingRule inputs.now.input)) }
+    ensures report { IfOk result (IsPrinted (IsMigrated (input_of inputs.now))) }
+    ensures refused { IfErr result (λ e. IfRefused e (BreaksListingRule (input_of inputs.now))) }
 {
-    let text = inputs.input.as_slice();
+    let text = inputs.input();
     let told = migrated(alloc, text)?;
     Ok(printed(told))
 }
 
 /// What is said of the files of a request, or the first rule that they break.
 fn answer(alloc: Global, ask: Ask, conflicts: Option<u64>, inputs: &Inputs) -> Result<Report, Fault>
-    requires { length inputs.now.input < 2 ^ 32 }
+    requires { length (input_of inputs.now) < 2 ^ 32 }
     ensures report { IfOk result (IsAnswerTo ask conflicts inputs.now) }
     ensures refused { IfErr result (λ e. IfRefused e (BreaksFor ask conflicts inputs.now)) }
 {
@@ -69,14 +72,13 @@ fn answer(alloc: Global, ask: Ask, conflicts: Option<u64>, inputs: &Inputs) -> R
     }
 }
 
-/// What is said of a request with what was read of its files.
+/// What is said of a request with the bytes of its files.
 #[tactic(auto, using(crate::proofs::LoadLaws::input_is_short))]
-fn answer_read(alloc: Global, loads: Loads) -> Result<Report, Fault>
-    requires { AreShort loads }
-    ensures report { IfOk result (λ report. (loaded : Loaded) × LoadedFrom loads loaded × IsAnswer loaded report) }
-    ensures refused { IfErr result (λ e. IfRefused e (λ r. FirstLong loads r ⊎ ((loaded : Loaded) × LoadedFrom loads loaded × Breaks loaded r))) }
+fn answer_read(alloc: Global, loaded: Loaded) -> Result<Report, Fault>
+    requires { AreShort loaded.inputs.files }
+    ensures report { IfOk result (IsAnswer loaded) }
+    ensures refused { IfErr result (λ e. IfRefused e (Breaks loaded)) }
 {
-    let loaded = all_within(alloc, loads)?;
     answer(alloc, loaded.ask, loaded.conflicts, &loaded.inputs)
 }
 
@@ -106,15 +108,29 @@ fn concluded(said: Result<Report, Fault>) -> Ending
 }
 
 /// Reads the files of these names and answers what is asked.
-#[tactic(auto, using(crate::proofs::LoadLaws::says, crate::proofs::LoadLaws::are_short))]
+#[tactic(auto, using(crate::proofs::LoadLaws::says, crate::proofs::LoadLaws::says_long))]
 fn read<S: Shelf>(alloc: Global, names: Names, shelf: &mut S) -> Ending
     ensures held { S.holds shelf.new ≡ S.holds shelf.old }
     ensures says { SaysOf (request_about names) (S.holds shelf.old) (S.faults shelf.old) (S.faults shelf.new) result }
 {
-    match fetch_all(alloc, names, shelf) {
-        Ok(loads) => concluded(answer_read(alloc, loads)),
-        Err(ReadFault::Failed(name)) => Ending::ReadFault(name),
-        Err(ReadFault::Memory(_)) => Ending::Memory,
+    let Names {
+        ask,
+        conflicts,
+        node,
+        files,
+    } = names;
+    match read_files(alloc, ask, files, shelf) {
+        Ok(files) => {
+            let loaded = Loaded {
+                ask,
+                conflicts,
+                inputs: Inputs { node, files },
+            };
+            concluded(answer_read(alloc, loaded))
+        },
+        Err(FilesFault::Long(refusal)) => Ending::Refused(refusal),
+        Err(FilesFault::Failed(name)) => Ending::ReadFault(name),
+        Err(FilesFault::Memory(_)) => Ending::Memory,
     }
 }
 
@@ -125,28 +141,18 @@ fn respond<S: Shelf>(alloc: Global, request: Request, shelf: &mut S) -> Ending
 {
     let Request {
         ask,
-        facts,
-        packages,
-        class_data,
         node,
         conflicts,
         source,
-        tree,
-        order,
     } = request;
     match source {
-        Source::Named(input) => read(
+        Source::Files(files) => read(
             alloc,
             Names {
                 ask,
                 conflicts,
                 node,
-                facts,
-                packages,
-                class_data,
-                input,
-                tree,
-                order,
+                files,
             },
             shelf,
         ),

@@ -1,9 +1,11 @@
 //! Telling the outcome on the sinks.
 
 ghost use Rattle.std.specs.Prelude.{◌≡◌, IfOk};
+ghost use Rattle.command_line.specs.Table.{usage_line};
 ghost use Rattle.rehearsal_core.specs.Runs.{put_of, AppendsFront};
-ghost use Rattle.rehearsal_core.specs.Answers.{TellsLine, TellsReport, usage_line, refusal_line, read_fault_line, write_fault_line, memory_line};
+ghost use Rattle.rehearsal_core.specs.Answers.{TellsLine, TellsReport, refusal_line, read_fault_line, write_fault_line, memory_line};
 
+use command_line::usage_line;
 use rh_base::{NoMemory, Refusal, Sink, SinkFault, Text};
 use std::alloc::Global;
 use verdict_report::Report;
@@ -43,11 +45,7 @@ fn tell<E: Sink>(err: &mut E, status: u8, line: &[u8]) -> u8
 pub fn tell_usage<E: Sink>(err: &mut E) -> u8
     ensures { TellsLine 5 usage_line (put_of E.written E.faults err.old err.new) result }
 {
-    tell(
-        err,
-        5,
-        b"usage: rehearsal [--facts F] [--packages P] [--node N] [--conflicts C] [--ask A] [--tree T] [--order O] [--workload N] [--data D] [INPUT]\n",
-    )
+    tell(err, 5, usage_line())
 }
 
 /// Writes a report, and answers the status that goes with it, or that of a fault.

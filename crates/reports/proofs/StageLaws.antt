@@ -16,7 +16,7 @@ use Rattle.model_semantics.specs.Models.{programs}
 use Rattle.res_models.specs.Seen.{resources_at}
 use Rattle.known_inputs.specs.declared.inputs.Inputs.{Inputs}
 use Rattle.known_inputs.specs.declared.inputs.Known.{Known}
-use Rattle.known_inputs.specs.Inputs.{IsKnown, FirstUnread}
+use Rattle.known_inputs.specs.Inputs.{input_of, IsKnown, FirstUnread}
 use Rattle.reports.proofs.Places.{places_within}
 use Rattle.reports.specs.Stages as stages
 use Rattle.reports.specs.Stages.{node_name, IsCompiled, IsPlanned, IsModelled, programs_in, CatalogRefusal, GraphRefusal, ProgramsRefusal}
@@ -28,23 +28,23 @@ unread i (Refused r) first = stages.unread first
 unread i (Memory m) first = tt
 
 -- of a text and a name that are those of the request
-pub uncompiled : (i : Inputs) (k : Known) (text name : List ℕ) (e : Fault) → text ≡ i.input → name ≡ node_name i.node → IsKnown i k
+pub uncompiled : (i : Inputs) (k : Known) (text name : List ℕ) (e : Fault) → text ≡ input_of i → name ≡ node_name i.node → IsKnown i k
     → IfRefused e (IsCatalogRefusal text k.facts name k.class_data) → IfRefused e (CatalogRefusal i)
 uncompiled i k text name (Refused r) is named known none =
     stages.uncompiled k known (subst₂ (λ t n. IsCatalogRefusal t k.facts n k.class_data r) is named none)
 uncompiled i k text name (Memory m) is named known none = tt
 
-pub is_compiled : (i : Inputs) (k : Known) (text name : List ℕ) (c : Catalog) → text ≡ i.input → name ≡ node_name i.node → IsKnown i k
+pub is_compiled : (i : Inputs) (k : Known) (text name : List ℕ) (c : Catalog) → text ≡ input_of i → name ≡ node_name i.node → IsKnown i k
     → IsCatalogOf text k.facts name k.class_data (Ok c) → IsCompiled i k c
 is_compiled i k text name c is named known has =
     record { known = known; catalog = subst₂ (λ t n. IsCatalogOf t k.facts n k.class_data (Ok c)) is named has }
 
-pub compiled_answer : (i : Inputs) (k : Known) (text name : List ℕ) (said : Result Catalog Fault) → text ≡ i.input → name ≡ node_name i.node → IsKnown i k
+pub compiled_answer : (i : Inputs) (k : Known) (text name : List ℕ) (said : Result Catalog Fault) → text ≡ input_of i → name ≡ node_name i.node → IsKnown i k
     → IfOk said (λ c. IsCatalogOf text k.facts name k.class_data (Ok c)) → IfOk said (IsCompiled i k)
 compiled_answer i k text name (Ok c) is named known has = is_compiled i k text name c is named known has
 compiled_answer i k text name (Err e) is named known has = tt
 
-pub uncompiled_answer : (i : Inputs) (k : Known) (text name : List ℕ) (said : Result Catalog Fault) → text ≡ i.input → name ≡ node_name i.node → IsKnown i k
+pub uncompiled_answer : (i : Inputs) (k : Known) (text name : List ℕ) (said : Result Catalog Fault) → text ≡ input_of i → name ≡ node_name i.node → IsKnown i k
     → IfErr said (λ e. IfRefused e (IsCatalogRefusal text k.facts name k.class_data)) → IfErr said (λ e. IfRefused e (CatalogRefusal i))
 uncompiled_answer i k text name (Ok c) is named known none = tt
 uncompiled_answer i k text name (Err e) is named known none = uncompiled i k text name e is named known none

@@ -7,6 +7,8 @@ use Rattle.graph_semantics.specs.Graphs.{reference_at}
 use Rattle.dep_graph.specs.declared.answer.Graph.{Graph}
 use Rattle.known_inputs.specs.declared.inputs.Inputs.{Inputs}
 use Rattle.known_inputs.specs.declared.inputs.Known.{Known}
+use Rattle.known_inputs.specs.Inputs.{bytes_of}
+use Rattle.command_line.specs.declared.table.Role.TheVariants as role
 use Rattle.reports.specs.declared.question.Question.{Question}
 use Rattle.reports.specs.declared.question.Question.TheVariants as question
 use Rattle.verdict_report.specs.declared.report.Report.{Report}
@@ -24,13 +26,13 @@ names_in c plain = map (reference_at c) plain
 abbrev pub IsToldOf : Question → Inputs → Known → Catalog → Graph → List Program → Report → Type 0
 IsToldOf question.Programs i k c g es report = (report.status ≡ 0) × (report.text ≡ program_lines c g.plain es)
 IsToldOf (question.Verdict form given) i k c g es report = IsTold form given (names_in c g.plain) es g.order report
-IsToldOf question.Replay i k c g es report = (report.status ≡ 0) × IsReplayed i.order k.tree c g es report.text
+IsToldOf question.Replay i k c g es report = (report.status ≡ 0) × IsReplayed (bytes_of role.Order i) k.tree c g es report.text
 
 -- nothing is told of them, for this reason
 abbrev pub HasNoAnswer : Question → Inputs → Catalog → Graph → List Program → Refusal → Type 0
 HasNoAnswer question.Programs i c g es r = ⊥
 HasNoAnswer (question.Verdict form given) i c g es r = IsTooLarge es r
-HasNoAnswer question.Replay i c g es r = HasNoOrder i.order c g r
+HasNoAnswer question.Replay i c g es r = HasNoOrder (bytes_of role.Order i) c g r
 
 -- The report on the programs of a manifest's real plain resources, in the order of its graph.
 pub record IsReport (q : Question) (i : Inputs) (report : Report) : Type 0 where

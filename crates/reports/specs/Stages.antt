@@ -11,7 +11,7 @@ use Rattle.model_semantics.specs.Models.{programs}
 use Rattle.res_models.specs.Seen.{resources_at}
 use Rattle.known_inputs.specs.declared.inputs.Inputs.{Inputs}
 use Rattle.known_inputs.specs.declared.inputs.Known.{Known}
-use Rattle.known_inputs.specs.Inputs.{IsKnown, FirstUnread}
+use Rattle.known_inputs.specs.Inputs.{input_of, IsKnown, FirstUnread}
 
 -- the name of the node; it is empty where none is given
 abbrev pub node_name : Option (List ℕ) → List ℕ
@@ -23,7 +23,7 @@ node_name (Some name) = name
 -- The files beside the manifest say this, and with it the manifest has this catalog.
 pub record IsCompiled (i : Inputs) (k : Known) (c : Catalog) : Type 0 where
   pub known : IsKnown i k
-  pub catalog : IsCatalogOf i.input k.facts (node_name i.node) k.class_data (Ok c)
+  pub catalog : IsCatalogOf (input_of i) k.facts (node_name i.node) k.class_data (Ok c)
 
 -- The catalog has this graph: its real plain resources, and which of them comes before which.
 pub record IsPlanned (i : Inputs) (k : Known) (c : Catalog) (g : Graph) : Type 0 where
@@ -45,7 +45,7 @@ pub record IsModelled (i : Inputs) (k : Known) (c : Catalog) (g : Graph) (es : L
 -- that of the files beside the manifest, and then that of the manifest
 pub data CatalogRefusal (i : Inputs) (r : Refusal) : Type 0 where
   unread : FirstUnread i r → CatalogRefusal i r
-  uncompiled : (k : Known) → IsKnown i k → IsCatalogRefusal i.input k.facts (node_name i.node) k.class_data r → CatalogRefusal i r
+  uncompiled : (k : Known) → IsKnown i k → IsCatalogRefusal (input_of i) k.facts (node_name i.node) k.class_data r → CatalogRefusal i r
 
 -- then that of the graph
 pub data GraphRefusal (i : Inputs) (r : Refusal) : Type 0 where

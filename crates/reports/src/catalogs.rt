@@ -2,6 +2,7 @@
 
 ghost use Rattle.std.specs.Prelude.{◌<◌, ◌^◌, length, IfOk, IfErr};
 ghost use Rattle.rh_base.specs.Refused.{IfRefused};
+ghost use Rattle.known_inputs.specs.Inputs.{input_of};
 ghost use Rattle.reports.specs.Stages.{CatalogRefusal};
 ghost use Rattle.reports.specs.Reports.{IsCatalogReport};
 
@@ -14,7 +15,7 @@ use std::alloc::Global;
 
 /// The real resources of built-in types that a manifest declares, each with its attributes; or the first refusal.
 pub fn catalog_report(alloc: Global, inputs: &Inputs) -> Result<Seq<u8>, Fault>
-    requires { length inputs.now.input < 2 ^ 32 }
+    requires { length (input_of inputs.now) < 2 ^ 32 }
     ensures report { IfOk result (IsCatalogReport inputs.now) }
     ensures refused { IfErr result (λ e. IfRefused e (CatalogRefusal inputs.now)) }
 {

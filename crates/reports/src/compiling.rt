@@ -2,7 +2,7 @@
 
 ghost use Rattle.std.specs.Prelude.{◌≡◌, ◌<◌, ◌^◌, length, IfOk, IfErr};
 ghost use Rattle.rh_base.specs.Refused.{IfRefused};
-ghost use Rattle.known_inputs.specs.Inputs.{IsKnown};
+ghost use Rattle.known_inputs.specs.Inputs.{input_of, IsKnown};
 ghost use Rattle.reports.specs.Stages.{node_name, IsCompiled, CatalogRefusal};
 
 use catalog::Catalog;
@@ -23,12 +23,12 @@ fn node_name(node: &Option<Text>) -> &str
 
 /// The catalog of a manifest, under what the files beside it say.
 pub fn catalog_for(alloc: Global, inputs: &Inputs, known: &Known) -> Result<Catalog, Fault>
-    requires small { length inputs.now.input < 2 ^ 32 }
+    requires small { length (input_of inputs.now) < 2 ^ 32 }
     requires known { IsKnown inputs.now known.now }
     ensures compiled { IfOk result (IsCompiled inputs.now known.now) }
     ensures refused { IfErr result (λ e. IfRefused e (CatalogRefusal inputs.now)) }
 {
-    let text = inputs.input.as_slice();
+    let text = inputs.input();
     let node = node_name(&inputs.node);
     compile_with(alloc, text, &known.facts, node, &known.class_data)
 }

@@ -2,6 +2,7 @@
 
 ghost use Rattle.std.specs.Prelude.{◌<◌, ◌^◌, length, IfOk, IfErr};
 ghost use Rattle.rh_base.specs.Refused.{IfRefused};
+ghost use Rattle.known_inputs.specs.Inputs.{input_of};
 ghost use Rattle.reports.specs.Stages.{GraphRefusal};
 ghost use Rattle.reports.specs.Reports.{IsGraphReport};
 
@@ -14,7 +15,7 @@ use std::alloc::Global;
 
 /// The real resources of built-in types, and each pair of which one comes before the other; or the first refusal.
 pub fn graph_report(alloc: Global, inputs: &Inputs) -> Result<Seq<u8>, Fault>
-    requires { length inputs.now.input < 2 ^ 32 }
+    requires { length (input_of inputs.now) < 2 ^ 32 }
     ensures report { IfOk result (IsGraphReport inputs.now) }
     ensures refused { IfErr result (λ e. IfRefused e (GraphRefusal inputs.now)) }
 {

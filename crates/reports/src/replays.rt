@@ -2,6 +2,7 @@
 
 ghost use Rattle.std.specs.Prelude.{◌≡◌, ◌<◌, length, map, IfOk, IfErr};
 ghost use Rattle.std.specs.List.{AllByRecursion};
+ghost use Rattle.std.specs.Option.{option_map};
 ghost use Rattle.rh_base.specs.Refused.{IfRefused};
 ghost use Rattle.fs_lang.specs.Meaning.{program_of};
 ghost use Rattle.fs_semantics.specs.Orders.{outcome};
@@ -20,22 +21,16 @@ use verdict_text::push_outcome;
 /// The order that a text names, and without one that which takes at each step the first resource that may come next.
 fn order_for(
     alloc: Global,
-    text: &Option<Seq<u8>>,
+    text: Option<&[u8]>,
     catalog: &Catalog,
     plan: &Graph,
 ) -> Result<Seq<u32>, Fault>
     requires { plan.now.order.count ≡ length plan.now.plain }
-    ensures order { IfOk result (IsOrderFor text.now catalog.now plan.now) }
-    ensures refused { IfErr result (λ e. IfRefused e (HasNoOrder text.now catalog.now plan.now)) }
+    ensures order { IfOk result (IsOrderFor (option_map (λ b. b.now) text.entry) catalog.now plan.now) }
+    ensures refused { IfErr result (λ e. IfRefused e (HasNoOrder (option_map (λ b. b.now) text.entry) catalog.now plan.now)) }
 {
     match text {
-        Some(bytes) => order_of(
-            alloc,
-            bytes.as_slice(),
-            catalog,
-            plan.plain.as_slice(),
-            &plan.order,
-        ),
+        Some(bytes) => order_of(alloc, bytes, catalog, plan.plain.as_slice(), &plan.order),
         None => Ok(plan.order.first_extension()?),
     }
 }
@@ -59,7 +54,7 @@ fn replayed_in(
 /// The outcome of programs on a tree, in the order that a text names.
 pub fn replayed(
     alloc: Global,
-    text: &Option<Seq<u8>>,
+    text: Option<&[u8]>,
     tree: &Tree,
     catalog: &Catalog,
     plan: &Graph,
@@ -67,8 +62,8 @@ pub fn replayed(
 ) -> Result<Seq<u8>, Fault>
     requires count { plan.now.order.count ≡ length plan.now.plain }
     requires programs { length programs.now ≡ length plan.now.plain }
-    ensures told { IfOk result (IsReplayed text.now tree.now catalog.now plan.now (map program_of programs.now)) }
-    ensures refused { IfErr result (λ e. IfRefused e (HasNoOrder text.now catalog.now plan.now)) }
+    ensures told { IfOk result (IsReplayed (option_map (λ b. b.now) text.entry) tree.now catalog.now plan.now (map program_of programs.now)) }
+    ensures refused { IfErr result (λ e. IfRefused e (HasNoOrder (option_map (λ b. b.now) text.entry) catalog.now plan.now)) }
 {
     let order = order_for(alloc, text, catalog, plan)?;
     let turns = order.as_slice();

@@ -3,7 +3,7 @@
 ghost use Rattle.std.specs.Prelude.{◌<◌, ◌^◌, length, map, IfOk, IfErr};
 ghost use Rattle.rh_base.specs.Refused.{IfRefused};
 ghost use Rattle.fs_lang.specs.Meaning.{program_of};
-ghost use Rattle.known_inputs.specs.Inputs.{IsKnown};
+ghost use Rattle.known_inputs.specs.Inputs.{input_of, IsKnown};
 ghost use Rattle.reports.specs.Stages.{IsCompiled, IsPlanned, IsModelled};
 ghost use Rattle.reports.specs.Questions.{IsToldOf, HasNoAnswer, IsReport, ReportRefusal};
 
@@ -13,6 +13,7 @@ use crate::question::Question;
 use crate::replays::replayed;
 use crate::verdicts::judged;
 use catalog::Catalog;
+use command_line::Role;
 use dep_graph::{Graph, graph};
 use fs_lang::Program;
 use known_inputs::{Inputs, Known, known_inputs};
@@ -45,7 +46,7 @@ fn told_of(
         Question::Verdict(form, given) => judged(alloc, form, given, catalog, plan, programs),
         Question::Replay => Ok(printed(replayed(
             alloc,
-            &inputs.order,
+            inputs.bytes(Role::Order),
             &known.tree,
             catalog,
             plan,
@@ -113,7 +114,7 @@ fn report_on_known(
     inputs: &Inputs,
     known: &Known,
 ) -> Result<Report, Fault>
-    requires small { length inputs.now.input < 2 ^ 32 }
+    requires small { length (input_of inputs.now) < 2 ^ 32 }
     requires known { IsKnown inputs.now known.now }
     ensures report { IfOk result (IsReport question inputs.now) }
     ensures refused { IfErr result (λ e. IfRefused e (ReportRefusal question inputs.now)) }
@@ -124,7 +125,7 @@ fn report_on_known(
 
 /// What is asked about the programs of a manifest's resources; or the first refusal.
 pub fn report_on(alloc: Global, question: Question, inputs: &Inputs) -> Result<Report, Fault>
-    requires { length inputs.now.input < 2 ^ 32 }
+    requires { length (input_of inputs.now) < 2 ^ 32 }
     ensures report { IfOk result (IsReport question inputs.now) }
     ensures refused { IfErr result (λ e. IfRefused e (ReportRefusal question inputs.now)) }
 {

@@ -7,4 +7,4 @@ use Rattle.rehearsal_core.proofs.run.listed.Goals as goal
 pub returns-in_err-told-clause-refused : goal.returns-in_err-told-clause-refused
 returns-in_err-told-clause-refused c =
     let p = err_from_is_err_and c.from_residual.result c.from_residual.ensures.1 in
-    rw (p.1, p.2) (subst (λ bytes. IfRefused c.in_err-told.field-0.0 (BreaksListingRule bytes)) c.as_slice-text.ensures c.in_err-told.ensures.refused)
+    rw (p.1, p.2) (subst (λ bytes. IfRefused c.in_err-told.field-0.0 (BreaksListingRule bytes)) c.input-text.ensures c.in_err-told.ensures.refused)

@@ -3,10 +3,10 @@ use Rattle.rehearsal_core.specs.Inputs.{SaysOf}
 use Rattle.rehearsal_core.proofs.LoadLaws.{says_of_named, says_of_workload}
 use Rattle.rehearsal_core.proofs.run.respond.Goals as goal
 
-pub returns-in-Named-clause-says : goal.returns-in-Named-clause-says
-returns-in-Named-clause-says g c =
-    says_of_named (g.S.Shelf.holds c.args.shelf.now) c.args.request c.in-Named.input (g.S.Shelf.faults c.args.shelf.now) (g.S.Shelf.faults c.read.new.shelf) c.read.result
-    c.in-Named.is c.read.ensures.says
+pub returns-in-Files-clause-says : goal.returns-in-Files-clause-says
+returns-in-Files-clause-says g c =
+    says_of_named (g.S.Shelf.holds c.args.shelf.now) c.args.request c.in-Files.files (g.S.Shelf.faults c.args.shelf.now) (g.S.Shelf.faults c.read.new.shelf) c.read.result
+    c.in-Files.is c.read.ensures.says
 
 pub returns-in-Workload-clause-says : goal.returns-in-Workload-clause-says
 returns-in-Workload-clause-says g c =

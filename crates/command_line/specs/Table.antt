@@ -1,0 +1,167 @@
+-- The table of requests: a row for each value of `--ask`, one for each file that may be named, and the options.
+use Rattle.std.specs.Prelude.{◌≡◌, ℕ, ◌==◌, List, [], ◌∷◌, ◌++◌, Option, Some, None, Bool, true, false, codes, if◌then◌else◌}
+use Rattle.std.specs.Str.{bytes_eq}
+use Rattle.rh_base.specs.declared.limits.TheConstants.{MANIFEST_BYTES, PROOF_BYTES, FACTS_BYTES, LISTING_BYTES, TREE_BYTES, ORDER_BYTES}
+use Rattle.command_line.specs.declared.table.Ask.{Ask}
+use Rattle.command_line.specs.declared.table.Ask.TheVariants as ask
+use Rattle.command_line.specs.declared.table.Role.{Role}
+use Rattle.command_line.specs.declared.table.Role.TheVariants as role
+use Rattle.command_line.specs.declared.table.Task.{Task}
+use Rattle.command_line.specs.declared.table.Task.TheVariants as task
+use Rattle.command_line.specs.declared.table.Tasks.{Tasks}
+
+-- ---- what there is to do for a request; each option serves one task, and may stand where that is to be done
+
+-- to read a text
+abbrev pub reading : Tasks
+reading = record { reads = true; compiles = false; models = false; judges = false; replays = false }
+
+-- to read a manifest and compile it
+abbrev pub compiling : Tasks
+compiling = record reading { compiles = true }
+
+-- that, and to say what its resources do
+abbrev pub modelling : Tasks
+modelling = record compiling { models = true }
+
+-- that, and to judge them
+abbrev pub judging : Tasks
+judging = record modelling { judges = true }
+
+-- to say what they do, and to run them
+abbrev pub replaying : Tasks
+replaying = record modelling { replays = true }
+
+-- this is among them
+abbrev pub has : Task → Tasks → Bool
+has task.Read t = t.reads
+has task.Compile t = t.compiles
+has task.Model t = t.models
+has task.Judge t = t.judges
+has task.Replay t = t.replays
+
+-- those that are left beside a workload, which brings its own manifest and listing: to judge them
+abbrev pub beside : Option ℕ → Tasks → Tasks
+beside None t = t
+beside (Some n) t = record { reads = false; compiles = false; models = false; judges = t.judges; replays = false }
+
+-- ---- a row for each value of `--ask`
+
+-- its word, what there is to do for it, and how many bytes its input may have
+pub record AskRow : Type 0 where
+  pub word : List ℕ
+  pub tasks : Tasks
+  pub limit : ℕ
+
+-- a row
+abbrev pub asks_for : List ℕ → Tasks → ℕ → AskRow
+asks_for word tasks limit = record { word = word; tasks = tasks; limit = limit }
+
+abbrev pub ask_row : Ask → AskRow
+ask_row ask.Verify = asks_for (codes "verify") judging MANIFEST_BYTES
+ask_row ask.Proof = asks_for (codes "proof") judging MANIFEST_BYTES
+ask_row ask.Catalog = asks_for (codes "catalog") compiling MANIFEST_BYTES
+ask_row ask.Graph = asks_for (codes "graph") compiling MANIFEST_BYTES
+ask_row ask.Programs = asks_for (codes "programs") modelling MANIFEST_BYTES
+ask_row ask.Replay = asks_for (codes "replay") replaying MANIFEST_BYTES
+ask_row ask.Check = asks_for (codes "check") reading PROOF_BYTES
+ask_row ask.Migrate = asks_for (codes "migrate") reading LISTING_BYTES
+
+-- all of them
+abbrev pub asks : List Ask
+asks = ask.Verify ∷ ask.Proof ∷ ask.Catalog ∷ ask.Graph ∷ ask.Programs ∷ ask.Replay ∷ ask.Check ∷ ask.Migrate ∷ []
+
+-- the first of these that a word asks for
+abbrev pub ask_among : List Ask → List ℕ → Option Ask
+ask_among [] word = None
+ask_among (a ∷ asks) word = if bytes_eq (ask_row a).word word then Some a else ask_among asks word
+
+-- what a word asks for
+abbrev pub ask_named : List ℕ → Option Ask
+ask_named word = ask_among asks word
+
+-- ---- a row for each file
+
+-- how the words name it, how a refusal calls it, what it serves, and how many bytes it may have; without a number, as many as what is asked allows
+pub record RoleRow : Type 0 where
+  pub word : List ℕ
+  pub label : List ℕ
+  pub task : Task
+  pub limit : Option ℕ
+
+-- a row
+abbrev pub serves : List ℕ → List ℕ → Task → Option ℕ → RoleRow
+serves word label task limit = record { word = word; label = label; task = task; limit = limit }
+
+abbrev pub role_row : Role → RoleRow
+role_row role.Facts = serves (codes "facts") (codes "facts") task.Compile (Some FACTS_BYTES)
+role_row role.Packages = serves (codes "packages") (codes "packages") task.Model (Some LISTING_BYTES)
+role_row role.Data = serves (codes "data") (codes "data") task.Compile (Some FACTS_BYTES)
+role_row role.Input = serves (codes "INPUT") (codes "input") task.Read None
+role_row role.Tree = serves (codes "tree") (codes "tree") task.Replay (Some TREE_BYTES)
+role_row role.Order = serves (codes "order") (codes "order") task.Replay (Some ORDER_BYTES)
+
+-- all of them, in the order in which they are read and refusals are looked for
+abbrev pub roles : List Role
+roles = role.Facts ∷ role.Packages ∷ role.Data ∷ role.Input ∷ role.Tree ∷ role.Order ∷ []
+
+-- the place of each
+abbrev pub place : Role → ℕ
+place role.Facts = 0
+place role.Packages = 1
+place role.Data = 2
+place role.Input = 3
+place role.Tree = 4
+place role.Order = 5
+
+-- how many bytes a file may have
+abbrev pub limit_or : Option ℕ → ℕ → ℕ
+limit_or None limit = limit
+limit_or (Some own) limit = own
+
+-- how many bytes a file may have, beside what is asked
+abbrev pub limit_of : Ask → Role → ℕ
+limit_of a r = limit_or (role_row r).limit (ask_row a).limit
+
+-- ---- contents by role
+
+-- a content for each file that there is, with its role
+abbrev pub ByRole : Type 0 → Type 0
+ByRole A = List (Role × A)
+
+-- the content of the file of a role, if there is one
+abbrev pub given : {A : Type 0} → Role → ByRole A → Option A
+given r [] = None
+given r (f ∷ files) = if place f.0 == place r then Some f.1 else given r files
+
+-- the same files, in the same order, with contents of which each has to do with the other so
+abbrev pub Each : {A B : Type 0} → (Role → A → B → Type 0) → ByRole A → ByRole B → Type 0
+Each R [] [] = Unit {0}
+Each R [] (g ∷ others) = ⊥
+Each R (f ∷ files) [] = ⊥
+Each R (f ∷ files) (g ∷ others) = (g.0 ≡ f.0) × R f.0 f.1 g.1 × Each R files others
+
+-- ---- the options
+
+-- an option, with what stands for its value
+abbrev pub options : List (List ℕ × List ℕ)
+options =
+    (codes "facts", codes "F")
+    ∷ (codes "packages", codes "P")
+    ∷ (codes "node", codes "N")
+    ∷ (codes "conflicts", codes "C")
+    ∷ (codes "ask", codes "A")
+    ∷ (codes "tree", codes "T")
+    ∷ (codes "order", codes "O")
+    ∷ (codes "workload", codes "N")
+    ∷ (codes "data", codes "D")
+    ∷ []
+
+-- as the line of usage shows it
+abbrev pub shown_options : List (List ℕ × List ℕ) → List ℕ
+shown_options [] = []
+shown_options (o ∷ more) = codes "[--" ++ (o.0 ++ (codes " " ++ (o.1 ++ (codes "] " ++ shown_options more))))
+
+-- how the program is called, where the words are refused
+abbrev pub usage_line : List ℕ
+usage_line = codes "usage: rehearsal " ++ (shown_options options ++ codes "[INPUT]\n")

@@ -1,0 +1,42 @@
+//! Requests, and contents by role.
+
+ghost use Rattle.std.specs.Prelude.{◌≡◌};
+ghost use Rattle.std.specs.Option.{option_map};
+ghost use Rattle.command_line.specs.Table.{given};
+
+use crate::size::Size;
+use crate::table::{Ask, Role};
+use rh_base::{Seq, Text};
+
+/// A content for each file that there is, with its role, in the order of the roles: a name, what was read, or bytes.
+pub type ByRole<T> = Seq<(Role, T)>;
+
+/// What is asked about.
+#[derive(Debug, Drop)]
+pub enum Source {
+    /// The files of these names, of which one is the input.
+    Files(ByRole<Text>),
+    /// The workload of this size, with its listing.
+    Workload(Size),
+}
+
+/// What is asked for and about what, the node's name, if the words give one, and how many conflicts a question has.
+#[derive(Debug, Drop)]
+pub struct Request {
+    pub ask: Ask,
+    pub node: Option<Text>,
+    pub conflicts: Option<u64>,
+    pub source: Source,
+}
+
+/// The content of the file of a role, if there is one.
+pub fn given<T>(files: &[(Role, T)], role: Role) -> Option<&T>
+    ensures { option_map (λ x. x.now) result ≡ given role files.now }
+{
+    for file in files {
+        if file.0.is(role) {
+            return Some(&file.1);
+        }
+    }
+    None
+}

@@ -1,0 +1,112 @@
+-- From what was fetched of files to what is read of them.
+use Rattle.std.proofs.Common.{◌≡◌, inl, inr, ℕ, ◌<◌, ◌^◌, List, [], ◌∷◌, ◌++◌, length, Option, Some, None, Err, refl, sym, ap, subst, subst₂, ◌∙◌}
+use Rattle.std.proofs.lemmas.List.{append_assoc}
+use Rattle.rh_base.specs.declared.fault.Refusal.{Refusal}
+use Rattle.rh_base.specs.declared.fault.Fault.{Fault}
+use Rattle.rh_base.specs.declared.fault.Fault.TheVariants.{Refused, Memory}
+use Rattle.rh_base.specs.Refused.{IfRefused, IsRefusal}
+use Rattle.rh_base.specs.Shelf.{Files}
+use Rattle.command_line.specs.declared.table.Ask.{Ask}
+use Rattle.command_line.specs.declared.table.Role.{Role}
+use Rattle.command_line.specs.Table.{role_row, limit_of, ByRole, Each}
+use Rattle.request_files.specs.declared.fetching.Load.{Load}
+use Rattle.request_files.specs.declared.fetching.Load.TheVariants as load
+use Rattle.request_files.specs.declared.fetching.FilesFault.{FilesFault}
+use Rattle.request_files.specs.declared.fetching.FilesFault.TheVariants as fault
+use Rattle.request_files.specs.Files.{FailsAt, StandAt, AreRead, FirstTooLong, AnyNamed, AreShort, IsLonger}
+use Rattle.request_files.specs.Loading.{IsLoad, Reads, AreLoads, bytes_in, AreBytesOf, FirstLong}
+
+-- ---- one file after another
+
+-- one file more, behind those so far
+one_more : {A B : Type 0} (R : Role → A → B → Type 0) (files : ByRole A) (others : ByRole B) (r : Role) (x : A) (y : B) → Each R files others → R r x y
+    → Each R (files ++ (r, x) ∷ []) (others ++ (r, y) ∷ [])
+one_more R [] [] r x y is h = (refl, h, tt)
+one_more R [] (g ∷ others) r x y is h = absurd is
+one_more R (f ∷ files) [] r x y is h = absurd is
+one_more R (f ∷ files) (g ∷ others) r x y is h = (is.0, is.1, one_more R files others r x y is.2 h)
+
+pub one_load : (held : Option Files) (a : Ask) (names : ByRole (List ℕ)) (loads : ByRole Load) (r : Role) (name : List ℕ) (l : Load) → AreLoads held a names loads
+    → IsLoad held (limit_of a r) name l → AreLoads held a (names ++ (r, name) ∷ []) (loads ++ (r, l) ∷ [])
+one_load held a names loads r name l are is = one_more (λ role. IsLoad held (limit_of a role)) names loads r name l are is
+
+pub one_file : (loads : ByRole Load) (files : ByRole (List ℕ)) (r : Role) (l : Load) (bytes : List ℕ) → AreBytesOf loads files → bytes_in l ≡ Some bytes
+    → AreBytesOf (loads ++ (r, l) ∷ []) (files ++ (r, bytes) ∷ [])
+one_file loads files r l bytes are is = one_more (λ role load b. bytes_in load ≡ Some b) loads files r l bytes are is
+
+-- one file more of all
+pub moved : {A : Type 0} (files front rest back : List A) (f : A) → files ≡ front ++ rest → rest ≡ f ∷ back → files ≡ (front ++ f ∷ []) ++ back
+moved files front rest back f whole next = whole ∙ ap (λ fs. front ++ fs) next ∙ sym (append_assoc front (f ∷ []) back)
+
+named_here : (front back : ByRole (List ℕ)) (r : Role) (name : List ℕ) → AnyNamed name (front ++ (r, name) ∷ back)
+named_here [] back r name = inl refl
+named_here (f ∷ front) back r name = inr (named_here front back r name)
+
+long_here : (front back : ByRole Load) (files : ByRole (List ℕ)) (r : Role) (l : Load) (refusal : Refusal) → AreBytesOf front files → bytes_in l ≡ None
+    → IsRefusal 17 0 (role_row r).label refusal → FirstLong (front ++ (r, l) ∷ back) refusal
+long_here [] back files r l refusal are none is = inl (none, is)
+long_here (f ∷ front) back [] r l refusal are none is = absurd are
+long_here (f ∷ front) back (g ∷ files) r l refusal are none is = inr ((g.1, are.1), long_here front back files r l refusal are.2 none is)
+
+-- a file that couldn't be fetched is one of those that are named
+pub failed : (a : Ask) (limit : ℕ) (names front rest back : ByRole (List ℕ)) (r : Role) (name : List ℕ) (held held_then : Option Files)
+    (before then now : ℕ) (e : FilesFault) → names ≡ front ++ rest → rest ≡ (r, name) ∷ back → held_then ≡ held → then ≡ before
+    → Reads (IsLoad held_then limit name) (λ n. n ≡ name) held_then then now (Err e)
+    → Reads (AreLoads held a names) (λ n. AnyNamed n names) held before now (Err e)
+failed a limit names front rest back r name held held_then before then now (fault.Long refusal) whole next same none h = h
+failed a limit names front rest back r name held held_then before then now (fault.Failed n) whole next same none h = (
+  subst (λ ns. AnyNamed n ns) (sym (whole ∙ ap (λ ns. front ++ ns) next)) (subst (λ m. AnyNamed m (front ++ (r, name) ∷ back)) (sym h.0) (named_here front back r name)),
+  subst₂ (λ hs b. FailsAt n hs b now) same none h.1,
+)
+failed a limit names front rest back r name held held_then before then now (fault.Memory m) whole next same none h = h ∙ none
+
+-- the first of which too many bytes were fetched is refused
+pub refused : (loads front rest back : ByRole Load) (files : ByRole (List ℕ)) (r : Role) (l : Load) (e : Fault) → loads ≡ front ++ rest → rest ≡ (r, l) ∷ back
+    → AreBytesOf front files → IfRefused e (λ x. (bytes_in l ≡ None) × IsRefusal 17 0 (role_row r).label x) → IfRefused e (FirstLong loads)
+refused loads front rest back files r l (Refused x) whole next are h =
+    subst (λ ls. FirstLong ls x) (sym (whole ∙ ap (λ ls. front ++ ls) next)) (long_here front back files r l x are h.0 h.1)
+refused loads front rest back files r l (Memory m) whole next are h = tt
+
+-- ---- all of them
+
+-- the bytes of what was fetched are those that stand there
+stand : (held : Option Files) (limit : ℕ) (name : List ℕ) (l : Load) (bytes : List ℕ) → IsLoad held limit name l → bytes_in l ≡ Some bytes → StandAt held limit name bytes
+stand held limit name load.Longer bytes is e = cc
+stand held limit name (load.Bytes b) bytes is e = let same : b ≡ bytes = cc in subst (λ x. StandAt held limit name x) same (is.0, is.1)
+
+pub are_read : (held : Option Files) (a : Ask) (names : ByRole (List ℕ)) (loads : ByRole Load) (files : ByRole (List ℕ)) → AreLoads held a names loads
+    → AreBytesOf loads files → AreRead held a names files
+are_read held a [] [] [] is are = tt
+are_read held a [] [] (g ∷ files) is are = absurd are
+are_read held a [] (l ∷ loads) files is are = absurd is
+are_read held a (f ∷ names) [] files is are = absurd is
+are_read held a (f ∷ names) (l ∷ loads) [] is are = absurd are
+are_read held a (f ∷ names) (l ∷ loads) (g ∷ files) is are =
+    (are.0 ∙ is.0, stand held (limit_of a f.0) f.1 l.1 g.1 is.1 are.1, are_read held a names loads files is.2 are.2)
+
+short : (held : Option Files) (limit : ℕ) (name : List ℕ) (l : Load) (bytes : List ℕ) → IsLoad held limit name l → bytes_in l ≡ Some bytes → length bytes < 2 ^ 32
+short held limit name load.Longer bytes is e = cc
+short held limit name (load.Bytes b) bytes is e = let same : b ≡ bytes = cc in subst (λ x. length x < 2 ^ 32) same is.2
+
+pub are_short : (held : Option Files) (a : Ask) (names : ByRole (List ℕ)) (loads : ByRole Load) (files : ByRole (List ℕ)) → AreLoads held a names loads
+    → AreBytesOf loads files → AreShort files
+are_short held a [] [] [] is are = tt
+are_short held a [] [] (g ∷ files) is are = absurd are
+are_short held a [] (l ∷ loads) files is are = absurd is
+are_short held a (f ∷ names) [] files is are = absurd is
+are_short held a (f ∷ names) (l ∷ loads) [] is are = absurd are
+are_short held a (f ∷ names) (l ∷ loads) (g ∷ files) is are = (short held (limit_of a f.0) f.1 l.1 g.1 is.1 are.1, are_short held a names loads files is.2 are.2)
+
+longer : (held : Option Files) (limit : ℕ) (name : List ℕ) (l : Load) → IsLoad held limit name l → bytes_in l ≡ None → IsLonger limit held name
+longer held limit name load.Longer is none = is
+longer held limit name (load.Bytes bytes) is none = cc
+
+pub too_long : (held : Option Files) (a : Ask) (names : ByRole (List ℕ)) (loads : ByRole Load) (refusal : Refusal) → AreLoads held a names loads
+    → FirstLong loads refusal → FirstTooLong held a names refusal
+too_long held a [] [] refusal is first = first
+too_long held a [] (l ∷ loads) refusal is first = absurd is
+too_long held a (f ∷ names) [] refusal is first = absurd is
+too_long held a (f ∷ names) (l ∷ loads) refusal is (inl h) =
+    inl (longer held (limit_of a f.0) f.1 l.1 is.1 h.0, subst (λ r. IsRefusal 17 0 (role_row r).label refusal) is.0 h.1)
+too_long held a (f ∷ names) (l ∷ loads) refusal is (inr h) =
+    inr ((h.0.0, stand held (limit_of a f.0) f.1 l.1 h.0.0 is.1 h.0.1), too_long held a names loads refusal is.2 h.1)
