@@ -14,6 +14,7 @@ use Rattle.catalog_semantics.specs.Sites.{Definition, Site}
 use Rattle.catalog_semantics.specs.States.{State, in_turn, with_scopes, bound, as_added, with_resource, is_new, has_room}
 use Rattle.catalog_semantics.specs.States.{added, held, tied, collected, wanted}
 use Rattle.catalog_semantics.specs.Declaring.{entering, opened, begun, ended}
+use Rattle.catalog_semantics.specs.Rooms.{Room}
 use Rattle.catalog_semantics.specs.Effects.{effect_at, effect_of}
 use Rattle.catalog_semantics.specs.Frames.{Each, Extends}
 use Rattle.catalog_semantics.proofs.Keeping.{Keeps, IsFrame, step_each, if_each, bound_each, all_keep, opened_keeps, effect_at_keeps, statement_keeps}
@@ -174,11 +175,11 @@ extending = record {
   wants = wants_extend;
 }
 
-pub only_adds_within : (n : ℕ) (site : Site) (x : Stmt) (s t : State) → effect_at n site x s ≡ Ok t → Extends s t
-only_adds_within n site x s t h = subst (Each (Extends s)) h (effect_at_keeps Extends extending n site x s)
+pub only_adds_within : (room : Room) (site : Site) (x : Stmt) (s t : State) → effect_at room site x s ≡ Ok t → Extends s t
+only_adds_within room site x s t h = subst (Each (Extends s)) h (effect_at_keeps Extends extending room site x s)
 
-pub blocks_only_add : (n : ℕ) (site : Site) (body : List Stmt) (s t : State) → in_turn (map (effect_at n site) body) s ≡ Ok t → Extends s t
-blocks_only_add n site body s t h = subst (Each (Extends s)) h (all_keep Extends extending (effect_at n site) body (effect_at_keeps Extends extending n site) s)
+pub blocks_only_add : (room : Room) (site : Site) (body : List Stmt) (s t : State) → in_turn (map (effect_at room site) body) s ≡ Ok t → Extends s t
+blocks_only_add room site body s t h = subst (Each (Extends s)) h (all_keep Extends extending (effect_at room site) body (effect_at_keeps Extends extending room site) s)
 
 pub openings_only_add : (d : Definition) (r : Resource) (scope : Scope) (s t : State) → opened d r scope s ≡ Ok t → Extends (entering scope s) t
 openings_only_add d r scope s t h = subst (Each (Extends (entering scope s))) h (opened_keeps Extends extending d r scope s)

@@ -1,8 +1,8 @@
 -- What is so of every statement, where each single change keeps it.
-use Rattle.std.proofs.Common.{◌≡◌, refl, ℕ, zero, suc, Bool, true, false, cond, List, [], ◌∷◌, ◌++◌, map, length, Option, Some, None}
+use Rattle.std.proofs.Common.{◌≡◌, refl, ℕ, zero, suc, ◌-◌, Bool, true, false, cond, List, [], ◌∷◌, ◌++◌, map, length, Option, Some, None}
 use Rattle.std.proofs.Common.{Result, Ok, Err}
 use Rattle.std.proofs.Common.{◌⊎◌, inl, inr, ap, sym, ◌∙◌, subst}
-use Rattle.std.specs.Prelude.{slice_get, filter}
+use Rattle.std.specs.Prelude.{slice_get, filter, nat_lt}
 use Rattle.std.specs.Prelude.{codes, is_none}
 use Rattle.std.specs.Str.{bytes_eq}
 use Rattle.std.specs.List.{AllByRecursion, flat_map}
@@ -36,7 +36,7 @@ use Rattle.catalog_semantics.specs.declared.state.Tie.{Tie}
 use Rattle.catalog_semantics.specs.Sites.{Parameter, Definition, Site, is_built_in}
 use Rattle.catalog_semantics.specs.States.{State, Default, Effect, in_turn, with_scopes, bound, is_declared, place_of, defaults_of, lacks, is_class, filled, is_new, has_room, as_added, with_resource, added, held, tied, collected, wanted}
 use Rattle.catalog_semantics.specs.Attributes.{titles_at, attributes_at, references_in}
-use Rattle.catalog_semantics.specs.Declaring.{Bodies, one_more_body, given_or_else, fitting, parameter_bound, all_known, entering, opened}
+use Rattle.catalog_semantics.specs.Declaring.{Bodies, within, body_in, one_more_body, given_or_else, fitting, parameter_bound, all_known, entering, opened}
 use Rattle.catalog_semantics.specs.Declaring.{begun, ended, body_runs, class_ref, class_resource, class_named, class_runs, no_circle}
 use Rattle.catalog_semantics.specs.Declaring.{parents_of, class_declared, class_included, resource_declared, body_declared, bodies_declared}
 use Rattle.catalog_semantics.specs.Declaring.{known_type, resources_declared, classes_declared}
@@ -45,7 +45,8 @@ use Rattle.catalog_semantics.specs.Functions.{included_then, each_class, realize
 use Rattle.catalog_semantics.specs.Collecting.{collector_of}
 use Rattle.catalog_semantics.specs.Effects.{assigned, test_of, first_true, unless_true, first_option, default_block, chosen_block}
 use Rattle.catalog_semantics.specs.Effects.{options_of, selected_block, named_refs, as_named, declared_by, side_of, sides_of, ties_of}
-use Rattle.catalog_semantics.specs.Effects.{chained, called, Arms, CaseArms, effect_with, effect_at, body_limit, effect_of}
+use Rattle.catalog_semantics.specs.Rooms.{Room, block_depth, whole_room}
+use Rattle.catalog_semantics.specs.Effects.{chained, called, Inner, Arms, InnerArms, InnerCaseArms, block_by, arm_in, case_arm_in, effect_in, effect_with, runs_within, bodies_at, effect_at, effect_of}
 use Rattle.catalog_semantics.specs.Frames.{Each, IsSound, AreSoundAttributes, IsContainerAt}
 use Rattle.catalog_semantics.specs.Catalogs.{is_plain_sort}
 use Rattle.catalog_semantics.specs.declared.catalog.Sort.TheVariants as sort
@@ -175,19 +176,23 @@ module _ (R : State → State → Type 0) (frame : IsFrame R) where
 
   -- ---- classes
 
-  abbrev pub BodiesKeep : Bodies → Type 0
-  BodiesKeep None = Unit {0}
-  BodiesKeep (Some run) = (x : Stmt) → Keeps R (run x)
+  abbrev pub MayKeep : Option (Stmt → Effect) → Type 0
+  MayKeep None = Unit {0}
+  MayKeep (Some run) = (x : Stmt) → Keeps R (run x)
 
-  one_keeps : (at : ℕ) (bodies : Bodies) → BodiesKeep bodies
-      → Each (λ (run : Stmt → Effect). (x : Stmt) → Keeps R (run x)) (one_more_body at bodies)
+  -- so does each body, whatever room is left
+  abbrev pub BodiesKeep : Bodies → Type 0
+  BodiesKeep bodies = (left : ℕ) (body : List Stmt) → MayKeep (bodies.run left body)
+
+  one_keeps : (at : ℕ) (may_run : Option (Stmt → Effect)) → MayKeep may_run
+      → Each (λ (run : Stmt → Effect). (x : Stmt) → Keeps R (run x)) (one_more_body at may_run)
   one_keeps at None h = tt
   one_keeps at (Some run) h = h
 
   module _ (site : Site) (bodies : Bodies) (keep : BodiesKeep bodies) where
-    class_runs_keeps : (d : Definition) (r : Resource) → IsSound r → is_plain_sort r.sort ≡ false → r.holder ≡ None → Keeps R (class_runs bodies d r)
+    class_runs_keeps : (d : Definition) (r : Resource) → IsSound r → is_plain_sort r.sort ≡ false → r.holder ≡ None → Keeps R (class_runs (body_in bodies d.body) d r)
     class_runs_keeps d r sound container alone s = step_each (R s) (is_new r s) _ (λ new.
-        then_each (λ (run : Stmt → Effect). (x : Stmt) → Keeps R (run x)) (R s) (one_more_body r.at bodies) _ (one_keeps r.at bodies keep)
+        then_each (λ (run : Stmt → Effect). (x : Stmt) → Keeps R (run x)) (R s) (one_more_body r.at (body_in bodies d.body)) _ (one_keeps r.at (body_in bodies d.body) (keep bodies.left d.body))
         (λ run h.
         then_each (λ t. R s t × IsContainerAt (length s.resources) t.resources) (R s) (added r s) _
         (both_each (R s) (λ t. IsContainerAt (length s.resources) t.resources) (added r s) (frame.adds r sound s (inl alone)) (stands_last r s container))
@@ -202,9 +207,9 @@ module _ (R : State → State → Type 0) (frame : IsFrame R) where
     declared_keeps at attributes clean name s = step_each (R s) (class_named site at name) _ (λ d.
         step_each (R s) (no_circle site d) _ (λ fine.
         step_each (R s) (parents_of site s d) _ (λ parents.
-        then_keep s (in_turn (map (λ e. class_runs bodies e (class_resource at e.name [])) parents) s)
-        (class_runs bodies d (class_resource at d.name attributes))
-        (all_keep (λ (e : Definition). class_runs bodies e (class_resource at e.name [])) parents
+        then_keep s (in_turn (map (λ e. class_runs (body_in bodies e.body) e (class_resource at e.name [])) parents) s)
+        (class_runs (body_in bodies d.body) d (class_resource at d.name attributes))
+        (all_keep (λ (e : Definition). class_runs (body_in bodies e.body) e (class_resource at e.name [])) parents
         (λ e. class_runs_keeps e (class_resource at e.name []) (class_sound at e.name [] (tt, tt)) refl refl) s)
         (class_runs_keeps d (class_resource at d.name attributes) (class_sound at d.name attributes clean) refl refl))))
 
@@ -370,67 +375,87 @@ module _ (R : State → State → Type 0) (frame : IsFrame R) where
     unless_keeps : (e : Expr) (body other : Effect) → Keeps R body → Keeps R other → Keeps R (unless_true e body other)
     unless_keeps e body other h k s = step_each (R s) (test_of s.scopes e) _ (λ b. if_each (R s) b (other s) (body s) (k s) (h s))
 
-    -- ---- every statement
+  -- ---- every statement
 
+  abbrev AlwaysKeeps : Inner → Type 0
+  AlwaysKeeps f = (bodies : Bodies) → BodiesKeep bodies → Keeps R (f bodies)
+
+  module _ (site : Site) where
     abbrev KnownStmt : Type 0
-    KnownStmt = (x : Stmt) × Keeps R (effect_with site bodies x)
+    KnownStmt = (x : Stmt) × AlwaysKeeps (effect_in site x)
 
     abbrev KnownArm : Type 0
-    KnownArm = (a : Arm) × Keeps R (in_arm site bodies a).1
+    KnownArm = (a : Arm) × AlwaysKeeps (in_arm site a).1
 
     abbrev KnownCaseArm : Type 0
-    KnownCaseArm = (a : CaseArm) × Keeps R (in_case_arm site bodies a).1
+    KnownCaseArm = (a : CaseArm) × AlwaysKeeps (in_case_arm site a).1
 
-    block_keeps : (xs : List KnownStmt) → AllByRecursion (Keeps R) (map (effect_with site bodies) (map (λ (x : KnownStmt). x.0) xs))
-    block_keeps [] = tt
-    block_keeps (x ∷ xs) = (x.1, block_keeps xs)
+    each_known : (xs : List KnownStmt) (bodies : Bodies) → BodiesKeep bodies
+        → AllByRecursion (Keeps R) (map (λ (f : Inner). f bodies) (map (effect_in site) (map (λ (x : KnownStmt). x.0) xs)))
+    each_known [] bodies keep = tt
+    each_known (x ∷ xs) bodies keep = (x.1 bodies keep, each_known xs bodies keep)
 
-    arms_keep : (xs : List KnownArm) → AllByRecursion ArmKeeps (map (in_arm site bodies) (map (λ (x : KnownArm). x.0) xs))
-    arms_keep [] = tt
-    arms_keep (x ∷ xs) = (x.1, arms_keep xs)
+    block_keeps : (xs : List KnownStmt) → AlwaysKeeps (block_by (map (effect_in site) (map (λ (x : KnownStmt). x.0) xs)))
+    block_keeps xs bodies keep = in_turn_keeps _ (each_known xs bodies keep)
+
+    arms_keep : (xs : List KnownArm) (bodies : Bodies) → BodiesKeep bodies
+        → AllByRecursion (λ (a : Arms). Keeps R a.1) (map (arm_in bodies) (map (in_arm site) (map (λ (x : KnownArm). x.0) xs)))
+    arms_keep [] bodies keep = tt
+    arms_keep (x ∷ xs) bodies keep = (x.1 bodies keep, arms_keep xs bodies keep)
 
     options_keep : (options : List (Option Expr)) (f : Effect) → Keeps R f → (more : List (Option Expr × Effect))
-        → AllByRecursion ChoiceKeeps more → AllByRecursion ChoiceKeeps (map (λ (option : Option Expr). (option, f)) options ++ more)
+        → AllByRecursion (λ (c : Option Expr × Effect). Keeps R c.1) more
+        → AllByRecursion (λ (c : Option Expr × Effect). Keeps R c.1) (map (λ (option : Option Expr). (option, f)) options ++ more)
     options_keep [] f h more k = k
     options_keep (o ∷ options) f h more k = (h, options_keep options f h more k)
 
-    case_arms_keep : (xs : List KnownCaseArm)
-        → AllByRecursion ChoiceKeeps (flat_map options_of (map (in_case_arm site bodies) (map (λ (x : KnownCaseArm). x.0) xs)))
-    case_arms_keep [] = tt
-    case_arms_keep (x ∷ xs) = options_keep (in_case_arm site bodies x.0).0 (in_case_arm site bodies x.0).1 x.1 _ (case_arms_keep xs)
+    case_arms_keep : (xs : List KnownCaseArm) (bodies : Bodies) → BodiesKeep bodies
+        → AllByRecursion (λ (c : Option Expr × Effect). Keeps R c.1)
+        (flat_map options_of (map (case_arm_in bodies) (map (in_case_arm site) (map (λ (x : KnownCaseArm). x.0) xs))))
+    case_arms_keep [] bodies keep = tt
+    case_arms_keep (x ∷ xs) bodies keep =
+        options_keep (in_case_arm site x.0).0 ((in_case_arm site x.0).1 bodies) (x.1 bodies keep) _ (case_arms_keep xs bodies keep)
 
     abbrev inner : Stmt-F KnownStmt KnownArm KnownCaseArm → Stmt-F Stmt Arm CaseArm
     inner y = map-Stmt KnownStmt KnownArm KnownCaseArm Stmt Arm CaseArm (λ x. x.0) (λ a. a.0) (λ c. c.0) y
 
-    layer_keeps : (y : Stmt-F KnownStmt KnownArm KnownCaseArm) → Keeps R (layer_of site bodies (inner y))
-    layer_keeps (plain.Chain at operands arrows) = chained_keeps at operands arrows
-    layer_keeps (plain.Assign at name value) = assigned_keeps at name value
-    layer_keeps (plain.Call at f args) = called_keeps at f args
-    layer_keeps (plain.If at arms other) = first_true_keeps _ _ (arms_keep arms) (in_turn_keeps _ (block_keeps other))
-    layer_keeps (plain.Unless at test body other) =
-        unless_keeps test _ _ (in_turn_keeps _ (block_keeps body)) (in_turn_keeps _ (block_keeps other))
-    layer_keeps (plain.Case at value arms) = selected_keeps value _ (case_arms_keep arms)
+    layer_keeps : (y : Stmt-F KnownStmt KnownArm KnownCaseArm) → AlwaysKeeps (layer_of site (inner y))
+    layer_keeps (plain.Chain at operands arrows) bodies keep = chained_keeps site bodies keep at operands arrows
+    layer_keeps (plain.Assign at name value) bodies keep = assigned_keeps site bodies keep at name value
+    layer_keeps (plain.Call at f args) bodies keep = called_keeps site bodies keep at f args
+    layer_keeps (plain.If at arms other) bodies keep =
+        first_true_keeps site bodies keep _ _ (arms_keep arms (within bodies) keep) (block_keeps other (within bodies) keep)
+    layer_keeps (plain.Unless at test body other) bodies keep =
+        unless_keeps site bodies keep test _ _ (block_keeps body (within bodies) keep) (block_keeps other (within bodies) keep)
+    layer_keeps (plain.Case at value arms) bodies keep = selected_keeps site bodies keep value _ (case_arms_keep arms (within bodies) keep)
 
-    effect_keeps : (x : Stmt) → Keeps R (effect_with site bodies x)
+    effect_keeps : (x : Stmt) → AlwaysKeeps (effect_in site x)
     effect_keeps =
-        ind-Stmt (λ x. Keeps R (effect_with site bodies x)) (λ a. Keeps R (in_arm site bodies a).1)
-        (λ c. Keeps R (in_case_arm site bodies c).1)
-        (λ x y is. subst (λ (z : Stmt-F Stmt Arm CaseArm). Keeps R (effect_with site bodies (roll-Stmt z))) is
-        (subst (λ (f : Effect). Keeps R f) (sym (rolled site bodies (inner y))) (layer_keeps y)))
-        (λ x y is. subst (λ (z : Arm-F Stmt Arm CaseArm). Keeps R (in_arm site bodies (roll-Arm z)).1) is
-        (subst (λ (a : Arms). Keeps R a.1) (sym (rolled_arm site bodies
+        ind-Stmt (λ x. AlwaysKeeps (effect_in site x)) (λ a. AlwaysKeeps (in_arm site a).1) (λ c. AlwaysKeeps (in_case_arm site c).1)
+        (λ x y is. subst (λ (z : Stmt-F Stmt Arm CaseArm). AlwaysKeeps (effect_in site (roll-Stmt z))) is
+        (subst (λ (f : Inner). AlwaysKeeps f) (sym (rolled site (inner y))) (layer_keeps y)))
+        (λ x y is. subst (λ (z : Arm-F Stmt Arm CaseArm). AlwaysKeeps (in_arm site (roll-Arm z)).1) is
+        (subst (λ (a : InnerArms). AlwaysKeeps a.1) (sym (rolled_arm site
         (map-Arm KnownStmt KnownArm KnownCaseArm Stmt Arm CaseArm (λ x. x.0) (λ a. a.0) (λ c. c.0) y)))
-        (in_turn_keeps _ (block_keeps y.body))))
-        (λ x y is. subst (λ (z : CaseArm-F Stmt Arm CaseArm). Keeps R (in_case_arm site bodies (roll-CaseArm z)).1) is
-        (subst (λ (a : CaseArms). Keeps R a.1) (sym
-        (rolled_case_arm site bodies (map-CaseArm KnownStmt KnownArm KnownCaseArm Stmt Arm CaseArm (λ x. x.0) (λ a. a.0) (λ c. c.0) y)))
-        (in_turn_keeps _ (block_keeps y.body))))
+        (block_keeps y.body)))
+        (λ x y is. subst (λ (z : CaseArm-F Stmt Arm CaseArm). AlwaysKeeps (in_case_arm site (roll-CaseArm z)).1) is
+        (subst (λ (a : InnerCaseArms). AlwaysKeeps a.1) (sym
+        (rolled_case_arm site (map-CaseArm KnownStmt KnownArm KnownCaseArm Stmt Arm CaseArm (λ x. x.0) (λ a. a.0) (λ c. c.0) y)))
+        (block_keeps y.body)))
 
-  pub effect_at_keeps : (n : ℕ) (site : Site) (x : Stmt) → Keeps R (effect_at n site x)
-  effect_at_keeps zero site x = effect_keeps site None tt x
-  effect_at_keeps (suc n) site x = effect_keeps site (Some (effect_at n site)) (effect_at_keeps n site) x
+    may_by : (n left : ℕ) → ((more : ℕ) (body : List Stmt) → MayKeep (runs_within n site more body)) → (b : Bool)
+        → MayKeep (cond b (Some (effect_with site (record { left = left - 1; run = runs_within n site }))) None)
+    may_by n left keep true = λ x. effect_keeps x (record { left = left - 1; run = runs_within n site }) keep
+    may_by n left keep false = tt
+
+    run_keeps : (n left : ℕ) (body : List Stmt) → MayKeep (runs_within n site left body)
+    run_keeps zero left body = tt
+    run_keeps (suc n) left body = may_by n left (run_keeps n) (nat_lt (block_depth body) left)
+
+  pub effect_at_keeps : (room : Room) (site : Site) (x : Stmt) → Keeps R (effect_at room site x)
+  effect_at_keeps room site x = effect_keeps site x (bodies_at room site) (run_keeps site room.bodies)
 
   -- So each statement keeps it.
   pub statement_keeps : (site : Site) (x : Stmt) → Keeps R (effect_of site x)
   unfolding effect_of
-  statement_keeps site x = effect_at_keeps body_limit site x
+  statement_keeps site x = effect_at_keeps whole_room site x

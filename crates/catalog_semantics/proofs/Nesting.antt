@@ -1,7 +1,8 @@
--- What needs fewer open bodies of classes is the same where more may be open.
-use Rattle.std.proofs.Common.{◌≡◌, inl, inr, ℕ, zero, suc, Bool, true, false, cond, List, [], ◌∷◌, ◌++◌, map, length, Option, Some, None}
+-- What needs less room for open bodies and blocks is the same where there is more.
+use Rattle.std.proofs.Common.{◌≡◌, inl, inr, ℕ, zero, suc, ◌+◌, ◌-◌, ◌≤◌, arith, Bool, true, false, cond, List, [], ◌∷◌, ◌++◌, map, length, Option, Some, None}
 use Rattle.std.proofs.Common.{Result, Ok, Err, refl, sym, ap, subst}
-use Rattle.std.specs.Prelude.{codes}
+use Rattle.std.specs.Prelude.{codes, nat_lt}
+use Rattle.std.proofs.lemmas.Bool.{ltb-true, ltb-false}
 use Rattle.std.specs.Str.{bytes_eq}
 use Rattle.std.specs.List.{flat_map}
 use Rattle.rh_base.specs.declared.fault.Refusal.{Refusal}
@@ -27,15 +28,16 @@ use Rattle.pp_eval.specs.Scoping.{class_scope}
 use Rattle.pp_eval.specs.Evaluation.{value_of}
 use Rattle.catalog_semantics.specs.declared.catalog.Resource.{Resource}
 use Rattle.catalog_semantics.specs.Sites.{Definition, Site}
+use Rattle.catalog_semantics.specs.Rooms.{Room, block_depth}
 use Rattle.catalog_semantics.specs.States.{State, Effect, in_turn, is_declared, is_new, added}
 use Rattle.catalog_semantics.specs.Attributes.{titles_at, attributes_at}
-use Rattle.catalog_semantics.specs.Declaring.{Bodies, all_known, opened, begun, body_runs, class_ref, class_resource, class_named}
+use Rattle.catalog_semantics.specs.Declaring.{Bodies, within, body_in, all_known, opened, begun, body_runs, class_ref, class_resource, class_named}
 use Rattle.catalog_semantics.specs.Declaring.{class_runs, no_circle, parents_of, class_declared, class_included, body_declared}
 use Rattle.catalog_semantics.specs.Declaring.{bodies_declared, resources_declared, classes_declared}
 use Rattle.catalog_semantics.specs.Functions.{Argument, arguments, class_names, contained, required, included_then, each_class, calls}
 use Rattle.catalog_semantics.specs.Effects.{test_of, is_option, first_true, unless_true, first_option, default_block, chosen_block}
-use Rattle.catalog_semantics.specs.Effects.{options_of, selected_block, declared_by, side_of, sides_of, chained, called, Arms, CaseArms}
-use Rattle.catalog_semantics.specs.Effects.{effect_with, effect_at}
+use Rattle.catalog_semantics.specs.Effects.{options_of, selected_block, declared_by, side_of, sides_of, chained, called, Inner, InnerArms, InnerCaseArms}
+use Rattle.catalog_semantics.specs.Effects.{block_by, arm_in, case_arm_in, effect_in, effect_with, runs_within, bodies_at, effect_at}
 use Rattle.catalog_semantics.proofs.Rolled.{in_arm, in_case_arm, layer_of, rolled, rolled_arm, rolled_case_arm}
 use Rattle.catalog_semantics.specs.Nesting.{Deeper}
 
@@ -68,12 +70,16 @@ body_deeper run more h d place r scope s =
     then_deeper (in_turn (map run d.body) (begun place t)) (in_turn (map more d.body) (begun place t)) _ _
     (all_deeper run more h d.body (begun place t)) (λ u. inl refl)))
 
-abbrev pub BodiesDeeper : Bodies → Bodies → Type 0
-BodiesDeeper None more = Unit {0}
-BodiesDeeper (Some run) None = ⊥
-BodiesDeeper (Some run) (Some more) = (x : Stmt) → AreDeeper (run x) (more x)
+abbrev MayDeeper : Option (Stmt → Effect) → Option (Stmt → Effect) → Type 0
+MayDeeper None more = Unit {0}
+MayDeeper (Some run) None = ⊥
+MayDeeper (Some run) (Some more) = (x : Stmt) → AreDeeper (run x) (more x)
 
-class_deeper : (bodies more : Bodies) → BodiesDeeper bodies more → (d : Definition) (r : Resource)
+-- so of each body, here and further in
+abbrev pub BodiesDeeper : Bodies → Bodies → Type 0
+BodiesDeeper bodies more = (k : ℕ) (body : List Stmt) → MayDeeper (bodies.run (bodies.left - k) body) (more.run (more.left - k) body)
+
+class_deeper : (bodies more : Option (Stmt → Effect)) → MayDeeper bodies more → (d : Definition) (r : Resource)
     → AreDeeper (class_runs bodies d r) (class_runs more d r)
 class_deeper None more h d r s = on_deeper (is_new r s) _ _ (λ new. inr (r.at, refl))
 class_deeper (Some run) None h d r s = absurd h
@@ -81,18 +87,26 @@ class_deeper (Some run) (Some more) h d r s =
     on_deeper (is_new r s) _ _ (λ new. on_deeper (added r s) _ _
     (λ t. body_deeper run more h d (length s.resources) r (class_scope t.scopes.0 d.name d.parent) t))
 
+none_less : (n : ℕ) → n - 0 ≡ n
+none_less n = omega arith
+
 module _ (site : Site) (bodies more : Bodies) (deep : BodiesDeeper bodies more) where
+  here : (body : List Stmt) → MayDeeper (body_in bodies body) (body_in more body)
+  here body =
+      subst (λ n. MayDeeper (bodies.run n body) (body_in more body)) (none_less bodies.left)
+      (subst (λ n. MayDeeper (bodies.run (bodies.left - 0) body) (more.run n body)) (none_less more.left) (deep 0 body))
+
   declared_deeper : (at : ℕ) (attributes : List Pair) (name : List ℕ)
       → AreDeeper (class_declared site bodies at attributes name) (class_declared site more at attributes name)
   declared_deeper at attributes name s =
       on_deeper (class_named site at name) _ _ (λ d. on_deeper (no_circle site d) _ _
       (λ fine. on_deeper (parents_of site s d) _ _ (λ parents.
-      then_deeper (in_turn (map (λ e. class_runs bodies e (class_resource at e.name [])) parents) s)
-      (in_turn (map (λ e. class_runs more e (class_resource at e.name [])) parents) s) _ _
-      (all_deeper (λ (e : Definition). class_runs bodies e (class_resource at e.name []))
-      (λ (e : Definition). class_runs more e (class_resource at e.name []))
-      (λ e. class_deeper bodies more deep e (class_resource at e.name [])) parents s)
-      (class_deeper bodies more deep d (class_resource at d.name attributes)))))
+      then_deeper (in_turn (map (λ e. class_runs (body_in bodies e.body) e (class_resource at e.name [])) parents) s)
+      (in_turn (map (λ e. class_runs (body_in more e.body) e (class_resource at e.name [])) parents) s) _ _
+      (all_deeper (λ (e : Definition). class_runs (body_in bodies e.body) e (class_resource at e.name []))
+      (λ (e : Definition). class_runs (body_in more e.body) e (class_resource at e.name []))
+      (λ e. class_deeper (body_in bodies e.body) (body_in more e.body) (here e.body) e (class_resource at e.name [])) parents s)
+      (class_deeper (body_in bodies d.body) (body_in more d.body) (here d.body) d (class_resource at d.name attributes)))))
 
   included_deeper : (at : ℕ) (name : List ℕ) → AreDeeper (class_included site bodies at name) (class_included site more at name)
   included_deeper at name s =
@@ -183,47 +197,7 @@ module _ (site : Site) (bodies more : Bodies) (deep : BodiesDeeper bodies more) 
   unless_deeper e body other body' other' h k s =
       on_deeper (test_of s.scopes e) _ _ (λ b. if_deeper b (other s) (body s) (other' s) (body' s) (k s) (h s))
 
-  -- ---- every statement
-
-  abbrev arm_in : Arm → Arms
-  arm_in a = in_arm site bodies a
-
-  abbrev arm_more : Arm → Arms
-  arm_more a = in_arm site more a
-
-  abbrev case_in : CaseArm → CaseArms
-  case_in a = in_case_arm site bodies a
-
-  abbrev case_more : CaseArm → CaseArms
-  case_more a = in_case_arm site more a
-
-  abbrev ArmDeeper : Arms → Arms → Type 0
-  ArmDeeper a b = (a.0 ≡ b.0) × AreDeeper a.1 b.1
-
-  abbrev CaseDeeper : CaseArms → CaseArms → Type 0
-  CaseDeeper a b = (a.0 ≡ b.0) × AreDeeper a.1 b.1
-
-  abbrev KnownStmt : Type 0
-  KnownStmt = (x : Stmt) × AreDeeper (effect_with site bodies x) (effect_with site more x)
-
-  abbrev KnownArm : Type 0
-  KnownArm = (a : Arm) × ArmDeeper (arm_in a) (arm_more a)
-
-  abbrev KnownCaseArm : Type 0
-  KnownCaseArm = (a : CaseArm) × CaseDeeper (case_in a) (case_more a)
-
-  block_deeper : (xs : List KnownStmt) → AreDeeper (in_turn (map (effect_with site bodies) (map (λ (x : KnownStmt). x.0) xs)))
-      (in_turn (map (effect_with site more) (map (λ (x : KnownStmt). x.0) xs)))
-  block_deeper [] s = inl refl
-  block_deeper (x ∷ xs) s = then_deeper (effect_with site bodies x.0 s) (effect_with site more x.0 s) _ _ (x.1 s) (block_deeper xs)
-
-  if_arms_deeper : (xs : List KnownArm) (other other' : Effect) → AreDeeper other other'
-      → AreDeeper (first_true (map arm_in (map (λ (x : KnownArm). x.0) xs)) other)
-      (first_true (map arm_more (map (λ (x : KnownArm). x.0) xs)) other')
-  if_arms_deeper [] other other' h s = h s
-  if_arms_deeper (x ∷ xs) other other' h s =
-      then_deeper (test_of s.scopes (arm_in x.0).0) (test_of s.scopes (arm_more x.0).0) _ _ (inl (ap (test_of s.scopes) x.1.0)) (λ b.
-      if_deeper b ((arm_in x.0).1 s) _ ((arm_more x.0).1 s) _ (x.1.1 s) (if_arms_deeper xs other other' h s))
+  -- ---- choices
 
   abbrev ChoicesDeeper : List (Option Expr × Effect) → List (Option Expr × Effect) → Type 0
   ChoicesDeeper [] [] = Unit {0}
@@ -242,18 +216,6 @@ module _ (site : Site) (bodies more : Bodies) (deep : BodiesDeeper bodies more) 
       (map (λ (option : Option Expr). (option, g)) options ++ ds)
   same_options o [] f g h cs ds k = k
   same_options o (p ∷ options) f g h cs ds k = ((refl, h), same_options o options f g h cs ds k)
-
-  choices_deeper : (xs : List KnownCaseArm)
-      → ChoicesDeeper (flat_map options_of (map case_in (map (λ (x : KnownCaseArm). x.0) xs)))
-      (flat_map options_of (map case_more (map (λ (x : KnownCaseArm). x.0) xs)))
-  choices_deeper [] = tt
-  choices_deeper (x ∷ xs) =
-      subst (λ (w : List (Option Expr)). ChoicesDeeper
-      (map (λ (option : Option Expr). (option, (case_in x.0).1)) (case_in x.0).0
-      ++ flat_map options_of (map case_in (map (λ (x : KnownCaseArm). x.0) xs)))
-      (map (λ (option : Option Expr). (option, (case_more x.0).1)) w
-      ++ flat_map options_of (map case_more (map (λ (x : KnownCaseArm). x.0) xs))))
-      x.1.0 (same_options None (case_in x.0).0 (case_in x.0).1 (case_more x.0).1 x.1.1 _ _ (choices_deeper xs))
 
   default_deeper : (cs ds : List (Option Expr × Effect)) → ChoicesDeeper cs ds → OptionDeeper (default_block cs) (default_block ds)
   default_deeper [] [] h = tt
@@ -296,37 +258,105 @@ module _ (site : Site) (bodies more : Bodies) (deep : BodiesDeeper bodies more) 
       on_deeper (value_of s.scopes e) _ _ (λ x. found_deeper s e.at x cs ds h (default_block cs) (default_block ds)
       (default_deeper cs ds h))
 
+-- ---- every statement
+
+abbrev AlwaysDeeper : Inner → Inner → Type 0
+AlwaysDeeper f g = (bodies more : Bodies) → BodiesDeeper bodies more → AreDeeper (f bodies) (g more)
+
+within_deeper : (bodies more : Bodies) → BodiesDeeper bodies more → BodiesDeeper (within bodies) (within more)
+within_deeper bodies more deep k body =
+    subst (λ n. MayDeeper (bodies.run n body) (more.run (more.left - 1 - k) body)) (one_less bodies.left k)
+    (subst (λ n. MayDeeper (bodies.run (bodies.left - (k + 1)) body) (more.run n body)) (one_less more.left k) (deep (k + 1) body))
+  where
+    one_less : (n k : ℕ) → n - (k + 1) ≡ n - 1 - k
+    one_less n k = omega arith
+
+module _ (site : Site) where
+  abbrev KnownStmt : Type 0
+  KnownStmt = (x : Stmt) × AlwaysDeeper (effect_in site x) (effect_in site x)
+
+  abbrev KnownArm : Type 0
+  KnownArm = (a : Arm) × AlwaysDeeper (in_arm site a).1 (in_arm site a).1
+
+  abbrev KnownCaseArm : Type 0
+  KnownCaseArm = (a : CaseArm) × AlwaysDeeper (in_case_arm site a).1 (in_case_arm site a).1
+
+  block_deeper : (xs : List KnownStmt) → AlwaysDeeper (block_by (map (effect_in site) (map (λ (x : KnownStmt). x.0) xs)))
+      (block_by (map (effect_in site) (map (λ (x : KnownStmt). x.0) xs)))
+  block_deeper [] bodies more deep s = inl refl
+  block_deeper (x ∷ xs) bodies more deep s =
+      then_deeper (effect_in site x.0 bodies s) (effect_in site x.0 more s) _ _ (x.1 bodies more deep s) (block_deeper xs bodies more deep)
+
+  module _ (bodies more : Bodies) (deep : BodiesDeeper bodies more) where
+    if_arms_deeper : (xs : List KnownArm) (other other' : Effect) → AreDeeper other other'
+        → AreDeeper (first_true (map (arm_in bodies) (map (in_arm site) (map (λ (x : KnownArm). x.0) xs))) other)
+        (first_true (map (arm_in more) (map (in_arm site) (map (λ (x : KnownArm). x.0) xs))) other')
+    if_arms_deeper [] other other' h s = h s
+    if_arms_deeper (x ∷ xs) other other' h s =
+        on_deeper (test_of s.scopes (in_arm site x.0).0) _ _ (λ b.
+        if_deeper b ((in_arm site x.0).1 bodies s) _ ((in_arm site x.0).1 more s) _ (x.1 bodies more deep s) (if_arms_deeper xs other other' h s))
+
+    choices_deeper : (xs : List KnownCaseArm)
+        → ChoicesDeeper site bodies more deep (flat_map options_of (map (case_arm_in bodies) (map (in_case_arm site) (map (λ (x : KnownCaseArm). x.0) xs))))
+        (flat_map options_of (map (case_arm_in more) (map (in_case_arm site) (map (λ (x : KnownCaseArm). x.0) xs))))
+    choices_deeper [] = tt
+    choices_deeper (x ∷ xs) =
+        same_options site bodies more deep None (in_case_arm site x.0).0 ((in_case_arm site x.0).1 bodies) ((in_case_arm site x.0).1 more) (x.1 bodies more deep) _ _ (choices_deeper xs)
+
   abbrev inner : Stmt-F KnownStmt KnownArm KnownCaseArm → Stmt-F Stmt Arm CaseArm
   inner y = map-Stmt KnownStmt KnownArm KnownCaseArm Stmt Arm CaseArm (λ x. x.0) (λ a. a.0) (λ c. c.0) y
 
-  layer_deeper : (y : Stmt-F KnownStmt KnownArm KnownCaseArm) → AreDeeper (layer_of site bodies (inner y)) (layer_of site more (inner y))
-  layer_deeper (plain.Chain at operands arrows) = chained_deeper at operands arrows
-  layer_deeper (plain.Assign at name value) = λ s. inl refl
-  layer_deeper (plain.Call at f args) = called_deeper at f args
-  layer_deeper (plain.If at arms other) = if_arms_deeper arms _ _ (block_deeper other)
-  layer_deeper (plain.Unless at test body other) = unless_deeper test _ _ _ _ (block_deeper body) (block_deeper other)
-  layer_deeper (plain.Case at value arms) = selected_deeper value _ _ (choices_deeper arms)
+  layer_deeper : (y : Stmt-F KnownStmt KnownArm KnownCaseArm) → AlwaysDeeper (layer_of site (inner y)) (layer_of site (inner y))
+  layer_deeper (plain.Chain at operands arrows) bodies more deep = chained_deeper site bodies more deep at operands arrows
+  layer_deeper (plain.Assign at name value) bodies more deep = λ s. inl refl
+  layer_deeper (plain.Call at f args) bodies more deep = called_deeper site bodies more deep at f args
+  layer_deeper (plain.If at arms other) bodies more deep =
+      let further = within_deeper bodies more deep in
+      if_arms_deeper (within bodies) (within more) further arms _ _ (block_deeper other (within bodies) (within more) further)
+  layer_deeper (plain.Unless at test body other) bodies more deep =
+      let further = within_deeper bodies more deep in
+      unless_deeper site bodies more deep test _ _ _ _ (block_deeper body (within bodies) (within more) further) (block_deeper other (within bodies) (within more) further)
+  layer_deeper (plain.Case at value arms) bodies more deep =
+      let further = within_deeper bodies more deep in
+      selected_deeper site (within bodies) (within more) further value _ _ (choices_deeper (within bodies) (within more) further arms)
 
-  effects_deeper : (x : Stmt) → AreDeeper (effect_with site bodies x) (effect_with site more x)
+  abbrev AloneDeeper : Inner → Type 0
+  AloneDeeper f = AlwaysDeeper f f
+
+  effects_deeper : (x : Stmt) → AloneDeeper (effect_in site x)
   effects_deeper =
-      ind-Stmt (λ x. AreDeeper (effect_with site bodies x) (effect_with site more x)) (λ a. ArmDeeper (arm_in a) (arm_more a))
-      (λ c. CaseDeeper (case_in c) (case_more c))
-      (λ x y is. subst (λ (z : Stmt-F Stmt Arm CaseArm). AreDeeper (effect_with site bodies (roll-Stmt z))
-      (effect_with site more (roll-Stmt z))) is
-      (subst (λ (f : Effect). AreDeeper f (effect_with site more (roll-Stmt (inner y)))) (sym (rolled site bodies (inner y)))
-      (subst (λ (f : Effect). AreDeeper (layer_of site bodies (inner y)) f) (sym (rolled site more (inner y))) (layer_deeper y))))
-      (λ x y is. subst (λ (z : Arm-F Stmt Arm CaseArm). ArmDeeper (arm_in (roll-Arm z)) (arm_more (roll-Arm z))) is
-      (let d = map-Arm KnownStmt KnownArm KnownCaseArm Stmt Arm CaseArm (λ x. x.0) (λ a. a.0) (λ c. c.0) y in
-      subst (λ (a : Arms). ArmDeeper a (arm_more (roll-Arm d))) (sym (rolled_arm site bodies d))
-      (subst (λ (a : Arms). ArmDeeper (d.test, in_turn (map (effect_with site bodies) d.body)) a) (sym (rolled_arm site more d))
-      (refl, block_deeper y.body))))
-      (λ x y is. subst (λ (z : CaseArm-F Stmt Arm CaseArm). CaseDeeper (case_in (roll-CaseArm z)) (case_more (roll-CaseArm z))) is
-      (let d = map-CaseArm KnownStmt KnownArm KnownCaseArm Stmt Arm CaseArm (λ x. x.0) (λ a. a.0) (λ c. c.0) y in
-      subst (λ (a : CaseArms). CaseDeeper a (case_more (roll-CaseArm d))) (sym (rolled_case_arm site bodies d))
-      (subst (λ (a : CaseArms). CaseDeeper (d.options, in_turn (map (effect_with site bodies) d.body)) a)
-      (sym (rolled_case_arm site more d)) (refl, block_deeper y.body))))
+      ind-Stmt (λ x. AloneDeeper (effect_in site x)) (λ a. AloneDeeper (in_arm site a).1) (λ c. AloneDeeper (in_case_arm site c).1)
+      (λ x y is. subst (λ (z : Stmt-F Stmt Arm CaseArm). AloneDeeper (effect_in site (roll-Stmt z))) is
+      (subst (λ (f : Inner). AloneDeeper f) (sym (rolled site (inner y))) (layer_deeper y)))
+      (λ x y is. subst (λ (z : Arm-F Stmt Arm CaseArm). AloneDeeper (in_arm site (roll-Arm z)).1) is
+      (subst (λ (a : InnerArms). AloneDeeper a.1) (sym (rolled_arm site
+      (map-Arm KnownStmt KnownArm KnownCaseArm Stmt Arm CaseArm (λ x. x.0) (λ a. a.0) (λ c. c.0) y)))
+      (block_deeper y.body)))
+      (λ x y is. subst (λ (z : CaseArm-F Stmt Arm CaseArm). AloneDeeper (in_case_arm site (roll-CaseArm z)).1) is
+      (subst (λ (a : InnerCaseArms). AloneDeeper a.1) (sym
+      (rolled_case_arm site (map-CaseArm KnownStmt KnownArm KnownCaseArm Stmt Arm CaseArm (λ x. x.0) (λ a. a.0) (λ c. c.0) y)))
+      (block_deeper y.body)))
 
--- One more open body changes nothing but what was too deep.
-pub one_deeper : (n : ℕ) (site : Site) (x : Stmt) (s : State) → Deeper (effect_at n site x s) (effect_at (suc n) site x s)
-one_deeper zero site x s = effects_deeper site None (Some (effect_at zero site)) tt x s
-one_deeper (suc n) site x s = effects_deeper site (Some (effect_at n site)) (Some (effect_at (suc n) site)) (one_deeper n site) x s
+  may_by : (n m left most depth : ℕ) → left ≤ most
+      → ((j : ℕ) (body : List Stmt) → MayDeeper (runs_within n site (left - 1 - j) body) (runs_within m site (most - 1 - j) body))
+      → (b : Bool) → nat_lt depth left ≡ b → (c : Bool) → nat_lt depth most ≡ c
+      → MayDeeper (cond b (Some (effect_with site (record { left = left - 1; run = runs_within n site }))) None)
+      (cond c (Some (effect_with site (record { left = most - 1; run = runs_within m site }))) None)
+  may_by n m left most depth k f false is c fits = tt
+  may_by n m left most depth k f true is false fits =
+      let low = ltb-true depth left is in let high = ltb-false depth most fits in absurd (omega arith)
+  may_by n m left most depth k f true is true fits =
+      λ x. effects_deeper x (record { left = left - 1; run = runs_within n site }) (record { left = most - 1; run = runs_within m site }) f
+
+  -- What runs with less room runs with more.
+  run_deeper : (n m left most : ℕ) (body : List Stmt) → n ≤ m → left ≤ most → MayDeeper (runs_within n site left body) (runs_within m site most body)
+  run_deeper zero m left most body h k = tt
+  run_deeper (suc n) zero left most body h k = absurd (omega arith)
+  run_deeper (suc n) (suc m) left most body h k =
+      may_by n m left most (block_depth body) k (λ j inner_body. run_deeper n m (left - 1 - j) (most - 1 - j) inner_body (omega arith) (omega arith))
+      (nat_lt (block_depth body) left) refl (nat_lt (block_depth body) most) refl
+
+-- More room changes nothing but what was too deep.
+pub more_room : (room more : Room) (site : Site) (x : Stmt) (s : State) → room.bodies ≤ more.bodies → room.levels ≤ more.levels → Deeper (effect_at room site x s) (effect_at more site x s)
+more_room room more site x s h k =
+    effects_deeper site x (bodies_at room site) (bodies_at more site) (λ j body. run_deeper site room.bodies more.bodies (room.levels - j) (more.levels - j) body h (omega arith)) s

@@ -8,9 +8,6 @@ use Rattle.pp_syntax.specs.declared.tree.Attr.{Attr}
 use Rattle.pp_syntax.specs.declared.tree.Item.{Item}
 use Rattle.pp_syntax.specs.declared.tree.Item.TheVariants as item
 use Rattle.pp_syntax.specs.declared.tree.Manifest.{Manifest}
-use Rattle.pp_syntax.specs.Tokens.{Lexeme}
-use Rattle.pp_syntax.specs.Spelling.{Spells}
-use Rattle.pp_syntax.specs.Statements.{IsManifest}
 use Rattle.pp_value.specs.declared.value.Ref.{Ref}
 use Rattle.pp_value.specs.declared.value.Value.{Value}
 use Rattle.pp_value.specs.Values.{Pair, same_ref}
@@ -223,15 +220,6 @@ abbrev pub catalog_of : Manifest → Value → List ℕ → List Level → Resul
 catalog_of m facts node_name data_levels = do
   site ← site_of m data_levels (pairs_in facts) node_name
   catalog_from site m.items facts
-
--- The text is spelled by tokens of a manifest, and this is its catalog or its first refusal.
-pub record IsCatalogOf (text : List ℕ) (facts : Value) (node_name : List ℕ) (data_levels : List Level)
-    (verdict : Result Catalog Refusal) : Type 0 where
-  pub tokens : List Lexeme
-  pub spelled : Spells text tokens
-  pub manifest : Manifest
-  pub derived : IsManifest manifest tokens
-  pub is : verdict ≡ catalog_of manifest facts node_name data_levels
 
 -- Another round changes nothing: what is called for is real, and nothing is due.
 pub record IsSettled (s : State) : Type 0 where

@@ -1,5 +1,5 @@
 -- Declarations of resources and classes, and how the body of a class or of a defined resource runs.
-use Rattle.std.specs.Prelude.{ℕ, suc, zero, Bool, true, false, ◌||◌, if◌then◌else◌, List, [], ◌∷◌, ◌++◌, map, length, codes, Option, Some}
+use Rattle.std.specs.Prelude.{ℕ, suc, zero, ◌-◌, Bool, true, false, ◌||◌, if◌then◌else◌, List, [], ◌∷◌, ◌++◌, map, length, codes, Option, Some}
 use Rattle.std.specs.Prelude.{None, Result, Ok, Err}
 use Rattle.std.specs.List.{list_any}
 use Rattle.std.specs.Str.{bytes_eq}
@@ -25,11 +25,21 @@ use Rattle.catalog_semantics.specs.Sites.{Parameter, Definition, Site, definitio
 use Rattle.catalog_semantics.specs.States.{State, Effect, in_turn, with_scopes, bound, is_declared, is_new, added}
 use Rattle.catalog_semantics.specs.Attributes.{is_one_of, metaparameters, titles_at, attributes_at}
 
--- How the statements of one more class's body run within the bodies that are open; none, where as many are open as may be.
-abbrev pub Bodies : Type 0
-Bodies = Option (Stmt → Effect)
+-- What may be open within the bodies and blocks that are: so many more of them. And how the statements of a body run where so many
+-- may be; not at all, where there is no room for it.
+pub record Bodies : Type 0 where
+  pub left : ℕ
+  pub run : ℕ → List Stmt → Option (Stmt → Effect)
 
-abbrev pub one_more_body : ℕ → Bodies → Result (Stmt → Effect) Refusal
+-- one block further in
+abbrev pub within : Bodies → Bodies
+within bodies = record { left = bodies.left - 1; run = bodies.run }
+
+-- how the statements of a body run, if there is room for it
+abbrev pub body_in : Bodies → List Stmt → Option (Stmt → Effect)
+body_in bodies body = bodies.run bodies.left body
+
+abbrev pub one_more_body : ℕ → Option (Stmt → Effect) → Result (Stmt → Effect) Refusal
 one_more_body at None = Err (refusal 32 at (codes "declared"))
 one_more_body at (Some run) = Ok run
 
@@ -125,11 +135,11 @@ if_class at name (Some d) = Ok d
 abbrev pub class_named : Site → ℕ → List ℕ → Result Definition Refusal
 class_named site at name = if_class at name (definition_of name site.classes)
 
--- one class alone: it becomes a resource, and its body runs at once
-abbrev pub class_runs : Bodies → Definition → Resource → Effect
-class_runs bodies d r s = do
+-- one class alone: it becomes a resource, and its body runs at once, if it may
+abbrev pub class_runs : Option (Stmt → Effect) → Definition → Resource → Effect
+class_runs may_run d r s = do
   _ ← is_new r s
-  run ← one_more_body r.at bodies
+  run ← one_more_body r.at may_run
   t ← added r s
   body_runs run d (length s.resources) r (class_scope t.scopes.0 d.name d.parent) t
 
@@ -161,8 +171,8 @@ class_declared site bodies at attributes name s = do
   d ← class_named site at name
   _ ← no_circle site d
   parents ← parents_of site s d
-  t ← in_turn (map (λ e. class_runs bodies e (class_resource at e.name [])) parents) s
-  class_runs bodies d (class_resource at d.name attributes) t
+  t ← in_turn (map (λ e. class_runs (body_in bodies e.body) e (class_resource at e.name [])) parents) s
+  class_runs (body_in bodies d.body) d (class_resource at d.name attributes) t
 
 -- as `include` does: a class that is declared already stays as it is
 abbrev pub class_included : Site → Bodies → ℕ → List ℕ → Effect

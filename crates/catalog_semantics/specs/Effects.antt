@@ -1,5 +1,5 @@
 -- What each statement does to a state.
-use Rattle.std.specs.Prelude.{ℕ, suc, zero, Bool, if◌then◌else◌, List, [], ◌∷◌, ◌++◌, map, length, codes, Option, Some, None, option_map, Result}
+use Rattle.std.specs.Prelude.{ℕ, suc, zero, ◌-◌, Bool, nat_lt, if◌then◌else◌, List, [], ◌∷◌, ◌++◌, map, length, codes, Option, Some, None, option_map, Result}
 use Rattle.std.specs.Prelude.{Ok}
 use Rattle.std.specs.List.{flat_map}
 use Rattle.std.specs.Str.{bytes_eq}
@@ -28,7 +28,8 @@ use Rattle.catalog_semantics.specs.declared.state.Tie.{Tie}
 use Rattle.catalog_semantics.specs.Sites.{Site}
 use Rattle.catalog_semantics.specs.States.{State, Effect, in_turn, bound, tied, collected}
 use Rattle.catalog_semantics.specs.Attributes.{references_in}
-use Rattle.catalog_semantics.specs.Declaring.{Bodies, resources_declared, classes_declared}
+use Rattle.catalog_semantics.specs.Rooms.{Room, block_depth, whole_room}
+use Rattle.catalog_semantics.specs.Declaring.{Bodies, within, resources_declared, classes_declared}
 use Rattle.catalog_semantics.specs.Functions.{arguments, calls}
 use Rattle.catalog_semantics.specs.Collecting.{collector_of}
 
@@ -163,6 +164,10 @@ called site bodies at func args s = do
 
 -- ---- statements, each by the effects of those that stand in it
 
+-- what is done, by what may be open within
+abbrev pub Inner : Type 0
+Inner = Bodies → Effect
+
 -- a test, or the options of a `case`, and the block behind it
 abbrev pub Arms : Type 0
 Arms = Expr × Effect
@@ -170,24 +175,45 @@ Arms = Expr × Effect
 abbrev pub CaseArms : Type 0
 CaseArms = List (Option Expr) × Effect
 
-abbrev pub arm_by : Arm-F Effect Arms CaseArms → Arms
-arm_by arm = (arm.test, in_turn arm.body)
+abbrev pub InnerArms : Type 0
+InnerArms = Expr × Inner
 
-abbrev pub case_arm_by : CaseArm-F Effect Arms CaseArms → CaseArms
-case_arm_by arm = (arm.options, in_turn arm.body)
+abbrev pub InnerCaseArms : Type 0
+InnerCaseArms = List (Option Expr) × Inner
 
--- each form of a statement
-abbrev pub effect_by : Site → Bodies → Stmt-F Effect Arms CaseArms → Effect
-effect_by site bodies (stmt.Chain at operands arrows) = chained site bodies at operands arrows
-effect_by site bodies (stmt.Assign at name value) = assigned at name value
-effect_by site bodies (stmt.Call at func args) = called site bodies at func args
-effect_by site bodies (stmt.If at arms other) = first_true arms (in_turn other)
-effect_by site bodies (stmt.Unless at test body other) = unless_true test (in_turn body) (in_turn other)
-effect_by site bodies (stmt.Case at value arms) = selected_block value (flat_map options_of arms)
+-- the statements of a block, one after the other
+abbrev pub block_by : List Inner → Inner
+block_by body bodies = in_turn (map (λ f. f bodies) body)
 
--- a statement, where it is told how one more class's body runs
-unfoldable pub effect_with : Site → Bodies → Stmt → Effect
-effect_with site bodies s = fold-Stmt Effect Arms CaseArms (effect_by site bodies) arm_by case_arm_by s
+abbrev pub arm_by : Arm-F Inner InnerArms InnerCaseArms → InnerArms
+arm_by arm = (arm.test, block_by arm.body)
+
+abbrev pub case_arm_by : CaseArm-F Inner InnerArms InnerCaseArms → InnerCaseArms
+case_arm_by arm = (arm.options, block_by arm.body)
+
+abbrev pub arm_in : Bodies → InnerArms → Arms
+arm_in bodies arm = (arm.0, arm.1 bodies)
+
+abbrev pub case_arm_in : Bodies → InnerCaseArms → CaseArms
+case_arm_in bodies arm = (arm.0, arm.1 bodies)
+
+-- each form of a statement; its blocks are one further in
+abbrev pub effect_by : Site → Stmt-F Inner InnerArms InnerCaseArms → Inner
+effect_by site (stmt.Chain at operands arrows) bodies = chained site bodies at operands arrows
+effect_by site (stmt.Assign at name value) bodies = assigned at name value
+effect_by site (stmt.Call at func args) bodies = called site bodies at func args
+effect_by site (stmt.If at arms other) bodies = first_true (map (arm_in (within bodies)) arms) (block_by other (within bodies))
+effect_by site (stmt.Unless at test body other) bodies =
+    unless_true test (block_by body (within bodies)) (block_by other (within bodies))
+effect_by site (stmt.Case at value arms) bodies = selected_block value (flat_map options_of (map (case_arm_in (within bodies)) arms))
+
+-- a statement, by what may be open within
+unfoldable pub effect_in : Site → Stmt → Inner
+effect_in site s = fold-Stmt Inner InnerArms InnerCaseArms (effect_by site) arm_by case_arm_by s
+
+-- a statement, where it is told what may be open within
+abbrev pub effect_with : Site → Bodies → Stmt → Effect
+effect_with site bodies s = effect_in site s bodies
 
 -- the statements of a block, one after the other
 abbrev pub block_with : Site → Bodies → List Stmt → Effect
@@ -201,20 +227,22 @@ arm_with site bodies a = ((out-Arm a).test, block_with site bodies (out-Arm a).b
 abbrev pub options_with : Site → Bodies → CaseArm → List (Option Expr × Effect)
 options_with site bodies a = options_of ((out-CaseArm a).options, block_with site bodies (out-CaseArm a).body)
 
--- a statement, where at most so many more bodies of classes run within one another
-abbrev pub effect_at : ℕ → Site → Stmt → Effect
-effect_at zero site = effect_with site None
-effect_at (suc n) site = effect_with site (Some (effect_at n site))
+-- ---- how much may be open
 
--- how one more class's body runs, where at most so many may run within one another
-abbrev pub bodies_at : ℕ → Site → Bodies
-bodies_at zero site = None
-bodies_at (suc n) site = Some (effect_at n site)
+-- How bodies run, where at most so many more of them run within one another: one is open with its deepest block, or not at all.
+abbrev pub runs_within : ℕ → Site → ℕ → List Stmt → Option (Stmt → Effect)
+runs_within zero site left body = None
+runs_within (suc n) site left body =
+    if nat_lt (block_depth body) left then Some (effect_with site (record { left = left - 1; run = runs_within n site })) else None
 
--- the greatest number of bodies of classes that run within one another
-abbrev pub body_limit : ℕ
-body_limit = 64
+-- what may be open where there is so much room
+abbrev pub bodies_at : Room → Site → Bodies
+bodies_at room site = record { left = room.levels; run = runs_within room.bodies site }
+
+-- a statement, where there is so much room
+abbrev pub effect_at : Room → Site → Stmt → Effect
+effect_at room site = effect_with site (bodies_at room site)
 
 -- what a statement does
 unfoldable pub effect_of : Site → Stmt → Effect
-effect_of site s = effect_at body_limit site s
+effect_of site s = effect_at whole_room site s

@@ -1,11 +1,8 @@
 //! Laws of catalogs, as functions that do nothing.
 
-ghost use Rattle.std.specs.Prelude.{◌≡◌, ◌↔◌, ◌≤◌, suc, ℕ, true, false, ◌&&◌, Result};
+ghost use Rattle.std.specs.Prelude.{◌≡◌, ◌↔◌, ◌≤◌, ℕ, true, false, ◌&&◌, Option};
+ghost use Rattle.std.specs.Prelude.{not, if◌then◌else◌, List, map, slice_get, Some, None, Ok, Err};
 ghost use Rattle.rh_base.specs.declared.fault.Refusal.{Refusal};
-ghost use Rattle.pp_syntax.specs.Tokens.{Lexeme};
-ghost use Rattle.pp_syntax.specs.Spelling.{Spells};
-ghost use Rattle.pp_syntax.specs.Statements.{IsManifest};
-ghost use Rattle.std.specs.Prelude.{not, List, map, slice_get, Some, None, Ok, Err};
 ghost use Rattle.pp_syntax.specs.declared.tree.Item.{Item};
 ghost use Rattle.pp_syntax.specs.declared.tree.Manifest.{Manifest};
 ghost use Rattle.std.specs.List.{flat_map};
@@ -27,24 +24,23 @@ ghost use Rattle.pp_data.specs.declared.data.Level.{Level};
 ghost use Rattle.pp_data.specs.Lookup.{lookup};
 ghost use Rattle.catalog_semantics.specs.declared.catalog.Resource.{Resource};
 ghost use Rattle.catalog_semantics.specs.Sites.{Parameter, Definition, Node, Site, node_of, node_block, definition_of, inherits_itself, MeetsTwice};
-ghost use Rattle.catalog_semantics.specs.States.{State, Default, in_turn, references_of, is_declared, filled};
-ghost use Rattle.catalog_semantics.specs.Declaring.{given_or_else, entering, opened, Bodies, class_ref, class_resource, class_runs, class_included, parents_of};
+ghost use Rattle.catalog_semantics.specs.Rooms.{Room, in_block, in_body, has_room_for};
+ghost use Rattle.catalog_semantics.specs.States.{State, Default, Effect, in_turn, references_of, is_declared, filled};
+ghost use Rattle.catalog_semantics.specs.Declaring.{given_or_else, entering, opened, Bodies, within, body_in, class_ref, class_resource, class_runs, class_included, parents_of};
 ghost use Rattle.catalog_semantics.specs.Effects.{assigned, chained, called, first_true, unless_true, selected_block, effect_with};
 ghost use Rattle.catalog_semantics.specs.Effects.{block_with, arm_with, options_with, effect_of, effect_at, bodies_at};
-ghost use Rattle.catalog_semantics.specs.Catalogs.{main_ended, is_called_for, made_real, state_after, round_limit, IsSettled, Catalog, catalog_of, IsCatalogOf};
+ghost use Rattle.catalog_semantics.specs.Catalogs.{main_ended, is_called_for, made_real, state_after, round_limit, IsSettled, Catalog, catalog_of};
 ghost use Rattle.catalog_semantics.specs.Frames.{Extends, StandOnce, AgreeOn, AreSound};
 ghost use Rattle.catalog_semantics.specs.Filling.{IsFirstTooLarge};
 ghost use Rattle.catalog_semantics.specs.Parents.{AreParents};
 ghost use Rattle.catalog_semantics.specs.Nesting.{Deeper};
 
-use pp_syntax::one_spelling;
-
 /// A statement only adds: to scopes, resources, holdings, ties, collectors and realizations. It ends in
 /// the scope and the body where it began. So do the statements of a block, and so does opening a body, once its scope is entered.
 pub fn statements_only_add()
     ensures whole { (site : Site) (x : Stmt) (s t : State) → effect_of site x s ≡ Ok t → Extends s t }
-    ensures within { (n : ℕ) (site : Site) (x : Stmt) (s t : State) → effect_at n site x s ≡ Ok t → Extends s t }
-    ensures blocks { (n : ℕ) (site : Site) (body : List Stmt) (s t : State) → in_turn (map (effect_at n site) body) s ≡ Ok t → Extends s t }
+    ensures within { (room : Room) (site : Site) (x : Stmt) (s t : State) → effect_at room site x s ≡ Ok t → Extends s t }
+    ensures blocks { (room : Room) (site : Site) (body : List Stmt) (s t : State) → in_turn (map (effect_at room site) body) s ≡ Ok t → Extends s t }
     ensures openings { (d : Definition) (r : Resource) (scope : Scope) (s t : State) → opened d r scope s ≡ Ok t → Extends (entering scope s) t }
 {}
 
@@ -68,8 +64,8 @@ pub fn references_stand_once()
 /// A class's body runs only where the class isn't declared yet. What is declared stays so, and to include a class that is
 /// declared does nothing.
 pub fn bodies_run_once()
-    ensures before { (bodies : Bodies) (d : Definition) (at : ℕ) (attributes : List Pair) (s t : State)
-        → class_runs bodies d (class_resource at d.name attributes) s ≡ Ok t → is_declared (class_ref d.name) s ≡ false }
+    ensures before { (may_run : Option (Stmt → Effect)) (d : Definition) (at : ℕ) (attributes : List Pair) (s t : State)
+        → class_runs may_run d (class_resource at d.name attributes) s ≡ Ok t → is_declared (class_ref d.name) s ≡ false }
     ensures stays { (ref : Ref) (s t : State) → Extends s t → is_declared ref s ≡ true → is_declared ref t ≡ true }
     ensures again { (site : Site) (bodies : Bodies) (at : ℕ) (name : List ℕ) (s : State) → is_declared (class_ref name) s ≡ true
         → class_included site bodies at name s ≡ Ok s }
@@ -92,14 +88,18 @@ pub fn rounds_end()
         → state_after n site items facts ≡ state_after round_limit site items facts }
 {}
 
-/// What one more open body of a class may change is only that too much was declared.
+/// What more room for open bodies and blocks may change is only that too much was declared.
 pub fn nesting_decides_nothing_else()
-    ensures { (n : ℕ) (site : Site) (x : Stmt) (s : State) → Deeper (effect_at n site x s) (effect_at (suc n) site x s) }
+    ensures { (room more : Room) (site : Site) (x : Stmt) (s : State) → room.bodies ≤ more.bodies → room.levels ≤ more.levels
+        → Deeper (effect_at room site x s) (effect_at more site x s) }
 {}
 
-/// What a statement does, by what those in it do.
+/// What a statement does, by what those in it do. Its blocks are one further in, and a body of a class that runs leaves room for
+/// one body less and one block less; it runs exactly where there is room for it with its deepest block.
 pub fn statements_do_what_they_say()
-    ensures nested { (n : ℕ) (site : Site) → effect_at n site ≡ effect_with site (bodies_at n site) }
+    ensures nested { (room : Room) (site : Site) (body : List Stmt)
+        → body_in (bodies_at room site) body ≡ (if has_room_for room body then Some (effect_at (in_body room) site) else None) }
+    ensures further { (room : Room) (site : Site) → within (bodies_at room site) ≡ bodies_at (in_block room) site }
     ensures chain { (site : Site) (bodies : Bodies) (at : ℕ) (operands : List Operand) (arrows : List Arrow)
         → effect_with site bodies (stmt.Chain at operands arrows) ≡ chained site bodies at operands arrows }
     ensures assign { (site : Site) (bodies : Bodies) (at : ℕ) (name : List ℕ) (value : Expr)
@@ -107,12 +107,14 @@ pub fn statements_do_what_they_say()
     ensures call { (site : Site) (bodies : Bodies) (at : ℕ) (func : Func) (args : List Expr)
         → effect_with site bodies (stmt.Call at func args) ≡ called site bodies at func args }
     ensures if_first { (site : Site) (bodies : Bodies) (at : ℕ) (arms : List Arm) (other : List Stmt)
-        → effect_with site bodies (stmt.If at arms other) ≡ first_true (map (arm_with site bodies) arms) (block_with site bodies other) }
+        → effect_with site bodies (stmt.If at arms other)
+        ≡ first_true (map (arm_with site (within bodies)) arms) (block_with site (within bodies) other) }
     ensures unless { (site : Site) (bodies : Bodies) (at : ℕ) (test : Expr) (body other : List Stmt)
-        → effect_with site bodies (stmt.Unless at test body other) ≡ unless_true test (block_with site bodies body)
-        (block_with site bodies other) }
+        → effect_with site bodies (stmt.Unless at test body other) ≡ unless_true test (block_with site (within bodies) body)
+        (block_with site (within bodies) other) }
     ensures case { (site : Site) (bodies : Bodies) (at : ℕ) (value : Expr) (arms : List CaseArm)
-        → effect_with site bodies (stmt.Case at value arms) ≡ selected_block value (flat_map (options_with site bodies) arms) }
+        → effect_with site bodies (stmt.Case at value arms)
+        ≡ selected_block value (flat_map (options_with site (within bodies)) arms) }
 {}
 
 /// Of a parameter the given value wins over that from class data, and this over the default.
@@ -166,12 +168,3 @@ pub fn catalogs_are_sound()
 pub fn circles_are_refused()
     ensures { (classes : List Definition) (d : Definition) → definition_of d.name classes ≡ Some d → (inherits_itself classes d ≡ true) ↔ MeetsTwice classes d }
 {}
-
-/// Where tokens spell one manifest, a text has one catalog or one refusal.
-pub fn text_has_one_catalog()
-    ensures { (text : List ℕ) (facts : Value) (node_name : List ℕ) (data_levels : List Level) (v w : Result Catalog Refusal)
-        → ((m n : Manifest) (tokens : List Lexeme) → Spells text tokens → IsManifest m tokens → IsManifest n tokens → m ≡ n)
-        → IsCatalogOf text facts node_name data_levels v → IsCatalogOf text facts node_name data_levels w → v ≡ w }
-{
-    one_spelling();
-}

@@ -98,6 +98,55 @@ fn defined_resources_take_no_depth(rt: HostRuntime) -> Result<(), Fail> {
     Ok(())
 }
 
+/// Blocks within one another, as many as are asked for, around a statement.
+fn in_blocks(alloc: Global, blocks: usize, statement: &str) -> Result<String, Fail> {
+    let front = "if true { ".repeat(alloc, blocks)?;
+    let behind = " }".repeat(alloc, blocks)?;
+    Ok(format!(in alloc; "{front}{statement}{behind}")?)
+}
+
+/// Classes `c1`, `c2` and so on, each of which includes the next within so many blocks, and the last of which has such blocks.
+fn classes_in_blocks(alloc: Global, count: u32, blocks: usize) -> Result<String, Fail> {
+    let mut classes = String::new(alloc);
+    for i in 1..count {
+        let next = format!(in alloc; "include c{}", i + 1)?;
+        let body = in_blocks(alloc, blocks, next.as_str())?;
+        let class = format!(in alloc; "class c{i} {{ {body} }}\n")?;
+        classes.push_str(class.as_str())?;
+    }
+    let last = in_blocks(alloc, blocks, "")?;
+    Ok(format!(in alloc; "{classes}class c{count} {{ {last} }}\n")?)
+}
+
+/// A body counts one, and each block that is open in it.
+#[test]
+fn blocks_in_bodies(rt: HostRuntime) -> Result<(), Fail> {
+    for (count, blocks, fits) in [(8, 63, true), (9, 63, false), (64, 7, true), (57, 8, false)] {
+        let classes = classes_in_blocks(rt.alloc(), count, blocks)?;
+        let told = told_behind(rt.alloc(), classes.as_str(), "include c1")?;
+        assert_eq!(rt; told.as_str().starts_with("Class[c1]; "), fits, "{count}");
+        assert_eq!(rt; told.as_str().ends_with(": declared"), !fits, "{count}");
+    }
+    Ok(())
+}
+
+/// A body that is to run counts with its deepest block, wherever it is declared.
+#[test]
+fn deepest_blocks(rt: HostRuntime) -> Result<(), Fail> {
+    let alloc = rt.alloc();
+    let classes = classes_in_blocks(alloc, 8, 63)?;
+    let (front, _) = classes.as_str().split_once("class c8").unwrap_or(("", ""));
+    for (blocks, fits) in [(62, true), (63, false)] {
+        let body = in_blocks(alloc, blocks, "")?;
+        let last = format!(in alloc;
+            "class c8 {{ include c9 }}\nclass c9 {{ {body} }}\ninclude c1"
+        )?;
+        let told = told_behind(alloc, front, last.as_str())?;
+        assert_eq!(rt; told.as_str().ends_with(": declared"), !fits, "{blocks}");
+    }
+    Ok(())
+}
+
 #[test]
 fn class_data_that_are_too_large(rt: HostRuntime) -> Result<(), Fail> {
     let alloc = rt.alloc();

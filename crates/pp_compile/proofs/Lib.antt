@@ -3,3 +3,5 @@ pub mod LookLaws
 pub mod RunLaws
 pub mod NameLaws
 pub mod SourceLaws
+pub mod ReadingLaws
+pub mod PromiseLaws

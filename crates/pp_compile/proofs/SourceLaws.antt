@@ -15,8 +15,8 @@ use Rattle.pp_syntax.specs.Depth.{IsTooDeep}
 use Rattle.pp_syntax.specs.Statements.{IsManifest}
 use Rattle.pp_value.specs.declared.value.Value.{Value}
 use Rattle.pp_data.specs.declared.data.Level.{Level}
-use Rattle.catalog_semantics.specs.Catalogs.{Catalog, catalog_of, IsCatalogOf}
-use Rattle.pp_compile.specs.Sources.{IsParsed, IsSourceRefusal, IsCatalogRefusal}
+use Rattle.catalog_semantics.specs.Catalogs.{Catalog, catalog_of}
+use Rattle.pp_compile.specs.Sources.{IsParsed, IsCatalogOf, IsSourceRefusal, IsCatalogRefusal}
 
 pub parsed : (text : List ℕ) (tokens : List Lexeme) (r : Result Manifest Fault) → IsUtf8 text → Spells text tokens → IfOk r (λ m. IsManifest m tokens) → OnOk r (IsNowhere IsLeftOut tokens) → OnOk r (IsNowhere IsTooDeep tokens)
     → IfOk r (IsParsed text)
@@ -32,7 +32,7 @@ parsed text tokens (Err e) utf8 spelled derived all_in shallow = tt
 
 pub is_catalog : (text : List ℕ) (m : Manifest) (facts : Value) (node_name : List ℕ) (data_levels : List Level) (v : Result Catalog Refusal) → IsParsed text m → catalog_of m facts node_name data_levels ≡ v
     → IsCatalogOf text facts node_name data_levels v
-is_catalog text m facts node_name data_levels v p h = record { tokens = p.tokens; spelled = p.spelled; manifest = m; derived = p.derived; is = sym h }
+is_catalog text m facts node_name data_levels v p h = record { manifest = m; parsed = p; is = sym h }
 
 -- ---- from a site on
 

@@ -5,22 +5,25 @@ ghost use Rattle.rh_base.specs.declared.fault.Refusal.{Refusal};
 ghost use Rattle.rh_base.specs.Refused.{IfRefused};
 ghost use Rattle.pp_value.specs.Shown.{shown_ref};
 ghost use Rattle.pp_eval.specs.Verdicts.{AnswersBy, refusal};
-ghost use Rattle.catalog_semantics.specs.States.{is_declared};
-ghost use Rattle.catalog_semantics.specs.Catalogs.{Catalog as C, all_there, catalog_from, catalog_of, IsCatalogOf};
+ghost use Rattle.catalog_semantics.specs.States.{is_declared, references_of};
+ghost use Rattle.catalog_semantics.specs.Frames.{StandOnce, AreSound};
+ghost use Rattle.catalog_semantics.specs.Catalogs.{Catalog as C, all_there, catalog_from, catalog_of};
+ghost use Rattle.catalog_laws.specs.Containers.{AreHeld, HoldClasses};
 ghost use Rattle.pp_compile.specs.Rounds.{run_all, may_stand, catalog_after};
-ghost use Rattle.pp_compile.specs.Sources.{IsCatalogRefusal};
+ghost use Rattle.pp_compile.specs.Sources.{IsCatalogOf, IsSettledCatalog, IsSourceRefusal, IsCatalogRefusal};
 
 use crate::items::main_code;
+use crate::laws::one_reading;
 use crate::running::rounds;
 use crate::source::manifest_of;
 use catalog::Catalog;
-use catalog_semantics::text_has_one_catalog;
+use catalog_laws::holders_are_containers;
+use catalog_semantics::{catalogs_are_sound, references_stand_once, rounds_end};
 use pp_data::Data;
 use pp_decl_results::{catalog_in, few_enough};
 use pp_decl_sites::Site;
 use pp_decl_state::State;
 use pp_eval::refusal;
-use pp_parser::one_manifest;
 use pp_syntax::Manifest;
 use pp_value::{Ref, Value, shown_ref};
 use rh_base::Fault;
@@ -121,6 +124,22 @@ fn catalog_of(
 }
 
 /// The catalog of a text for a node, under facts and class data, or the first refusal.
+fn compiled(
+    alloc: Global,
+    text: &[u8],
+    facts: &Value,
+    node: &str,
+    levels: &Data,
+) -> Result<Catalog, Fault>
+    requires { length text.now < 2 ^ 32 }
+    ensures catalog { IfOk result (λ c. IsCatalogOf text.now facts.now node.now levels.now (Ok c)) }
+    ensures refused { IfErr result (λ e. IfRefused e (IsCatalogRefusal text.now facts.now node.now levels.now)) }
+{
+    let manifest = manifest_of(alloc, text)?;
+    catalog_of(alloc, &manifest, facts, node, levels)
+}
+
+/// The catalog of a text for a node, under facts and class data, or the first refusal.
 pub fn compile_with(
     alloc: Global,
     text: &[u8],
@@ -131,12 +150,24 @@ pub fn compile_with(
     requires { length text.now < 2 ^ 32 }
     ensures catalog { IfOk result (λ c. IsCatalogOf text.now facts.now node.now levels.now (Ok c)) }
     ensures refused { IfErr result (λ e. IfRefused e (IsCatalogRefusal text.now facts.now node.now levels.now)) }
+    // One manifest at most is run, with one catalog or one refusal, and where one is, the text itself isn't refused.
     ensures one { (v w : Result C Refusal) → IsCatalogOf text.now facts.now node.now levels.now v → IsCatalogOf text.now facts.now node.now levels.now w → v ≡ w }
+    ensures read { (v : Result C Refusal) (r : Refusal) → IsCatalogOf text.now facts.now node.now levels.now v → IsSourceRefusal text.now r → ⊥ }
+    // No opaque value is an attribute, a plain resource is of a built-in type, and what a metaparameter has are references.
+    ensures sound { IfOk result (λ c. AreSound c.resources) }
+    // Each reference stands once, and what holds or contains something is a class or a defined resource.
+    ensures once { IfOk result (λ c. StandOnce (references_of c.resources)) }
+    ensures held { IfOk result (λ c. AreHeld c.resources) }
+    ensures contained { IfOk result (λ c. HoldClasses c.resources c.holdings) }
+    // Rounds went on until another one changes nothing.
+    ensures settled { IfOk result (IsSettledCatalog text.now facts.now node.now levels.now) }
 {
-    one_manifest();
-    text_has_one_catalog();
-    let manifest = manifest_of(alloc, text)?;
-    catalog_of(alloc, &manifest, facts, node, levels)
+    one_reading();
+    catalogs_are_sound();
+    references_stand_once();
+    holders_are_containers();
+    rounds_end();
+    compiled(alloc, text, facts, node, levels)
 }
 
 /// The catalog of a text for a node, under facts, with no class data.
@@ -144,6 +175,13 @@ pub fn compile(alloc: Global, text: &[u8], facts: &Value, node: &str) -> Result<
     requires { length text.now < 2 ^ 32 }
     ensures catalog { IfOk result (λ c. IsCatalogOf text.now facts.now node.now [] (Ok c)) }
     ensures refused { IfErr result (λ e. IfRefused e (IsCatalogRefusal text.now facts.now node.now [])) }
+    ensures one { (v w : Result C Refusal) → IsCatalogOf text.now facts.now node.now [] v → IsCatalogOf text.now facts.now node.now [] w → v ≡ w }
+    ensures read { (v : Result C Refusal) (r : Refusal) → IsCatalogOf text.now facts.now node.now [] v → IsSourceRefusal text.now r → ⊥ }
+    ensures sound { IfOk result (λ c. AreSound c.resources) }
+    ensures once { IfOk result (λ c. StandOnce (references_of c.resources)) }
+    ensures held { IfOk result (λ c. AreHeld c.resources) }
+    ensures contained { IfOk result (λ c. HoldClasses c.resources c.holdings) }
+    ensures settled { IfOk result (IsSettledCatalog text.now facts.now node.now []) }
 {
     compile_with(alloc, text, facts, node, &Data::empty(alloc))
 }

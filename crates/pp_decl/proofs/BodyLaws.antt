@@ -1,5 +1,5 @@
 -- A class's body, from its beginning to its end, and the parents that run before it.
-use Rattle.std.proofs.Common.{◌≡◌, ℕ, zero, suc, ◌+◌, ◌-◌, ◌<◌, Bool, true, false, cond, List, [], ◌∷◌, ◌++◌, map, length, Option, Some, None, Result, Ok, Err, refl, sym, ap, subst, ◌∙◌, arith, length-append}
+use Rattle.std.proofs.Common.{◌≡◌, ℕ, zero, suc, ◌+◌, ◌-◌, ◌<◌, Bool, true, false, cond, ◌&&◌, List, [], ◌∷◌, ◌++◌, map, length, Option, Some, None, Result, Ok, Err, refl, sym, ap, subst, ◌∙◌, arith, length-append}
 use Rattle.std.specs.Prelude.{slice_get, option_and_then, codes, nat_lt}
 use Rattle.std.proofs.lemmas.Bool.{lt-ltb, ltb-true, ltb-false}
 use Rattle.rh_base.specs.declared.fault.Fault.{Fault}
@@ -16,8 +16,10 @@ use Rattle.catalog_semantics.specs.declared.catalog.Resource.{Resource}
 use Rattle.catalog_semantics.specs.declared.state.State.{State}
 use Rattle.catalog_semantics.specs.Sites.{Definition, Site}
 use Rattle.catalog_semantics.specs.States.{Effect, in_turn, is_declared, added}
-use Rattle.catalog_semantics.specs.Declaring.{Bodies, all_known, opened, begun, ended, class_runs, class_resource, class_named, no_circle, parents_of, class_declared}
+use Rattle.catalog_semantics.specs.Declaring.{Bodies, body_in, all_known, opened, begun, ended, class_runs, class_resource, class_named, no_circle, parents_of, class_declared}
+use Rattle.catalog_semantics.specs.Rooms.{Room, block_depth, in_body, has_room_for}
 use Rattle.catalog_semantics.specs.Effects.{effect_at, bodies_at}
+use Rattle.catalog_semantics.proofs.Statements.{body_runs_in}
 use Rattle.catalog_semantics.proofs.Extending.{blocks_only_add, openings_only_add}
 use Rattle.pp_decl_classes.specs.Beginning.{body_begins, may_begin, class_added, class_begins, body_ends}
 use Rattle.pp_decl_classes.specs.Parents.{nearest_first, backwards, turned}
@@ -56,47 +58,55 @@ module _ (d : Definition) (r : Resource) (s : State) where
 -- ---- the whole
 
 module _ (site : Site) (d : Definition) (r : Resource) (s : State) where
-  some_bodies : (left : ℕ) → 0 < left → bodies_at left site ≡ Some (effect_at (left - 1) site)
-  some_bodies zero h = absurd (omega arith)
-  some_bodies (suc m) h = ap (λ k. Some (effect_at k site)) (omega arith)
+  abbrev runs_in : Room → Result State Refusal
+  runs_in left = class_runs (body_in (bodies_at left site) d.body) d r s
 
-  runs_on : (left : ℕ) → 0 < left → class_runs (bodies_at left site) d r s ≡ (class_begins true d r s >>= body_ends (effect_at (left - 1) site) d s.running)
-  runs_on left h = ap (λ bodies. class_runs bodies d r s) (some_bodies left h) ∙ class_is (effect_at (left - 1) site) d r s
+  by_room : (left : Room) (b : Bool) → has_room_for left d.body ≡ b → runs_in left ≡ class_runs (cond b (Some (effect_at (in_body left) site)) None) d r s
+  by_room left b is = ap (λ (run : Option (Stmt → Effect)). class_runs run d r s) (body_runs_in left site d.body ∙ ap (λ (t : Bool). cond t (Some (effect_at (in_body left) site)) None) is)
 
-  no_bodies : (left : ℕ) → (0 < left → ⊥) → class_runs (bodies_at left site) d r s ≡ class_begins false d r s
-  no_bodies zero h = none_runs d r s
-  no_bodies (suc m) h = absurd (h (omega arith))
+  runs_on : (left : Room) → has_room_for left d.body ≡ true → runs_in left ≡ (class_begins true d r s >>= body_ends (effect_at (in_body left) site) d s.running)
+  runs_on left h = by_room left true h ∙ class_is (effect_at (in_body left) site) d r s
 
-  begin_by : (left : ℕ) (e : Refusal) (may : Bool) → (may ≡ true → 0 < left) → (may ≡ false → 0 < left → ⊥) → class_begins may d r s ≡ Err e → class_runs (bodies_at left site) d r s ≡ Err e
-  begin_by left e true f g h = runs_on left (f refl) ∙ ap (λ (x : Result State Refusal). x >>= body_ends (effect_at (left - 1) site) d s.running) h
-  begin_by left e false f g h = no_bodies left (g refl) ∙ h
+  no_bodies : (left : Room) → has_room_for left d.body ≡ false → runs_in left ≡ class_begins false d r s
+  no_bodies left h = by_room left false h ∙ none_runs d r s
 
-  pub not_begun : (left : ℕ) (e : Refusal) (may : Bool) → may ≡ nat_lt 0 left → class_begins may d r s ≡ Err e → class_runs (bodies_at left site) d r s ≡ Err e
-  not_begun left e may is h = begin_by left e may (λ k. ltb-true 0 left (sym is ∙ k)) (λ k low. let high = ltb-false 0 left (sym is ∙ k) in omega arith) h
+  pub not_begun : (left : Room) (e : Refusal) (may : Bool) → may ≡ has_room_for left d.body → class_begins may d r s ≡ Err e → runs_in left ≡ Err e
+  not_begun left e true is h = runs_on left (sym is) ∙ ap (λ (x : Result State Refusal). x >>= body_ends (effect_at (in_body left) site) d s.running) h
+  not_begun left e false is h = no_bodies left (sym is) ∙ h
 
-  pub body_refused : (left : ℕ) (t : State) (e : Refusal) → 0 < left → class_begins true d r s ≡ Ok t → in_turn (map (effect_at (left - 1) site) d.body) t ≡ Err e → class_runs (bodies_at left site) d r s ≡ Err e
+  pub body_refused : (left : Room) (t : State) (e : Refusal) → has_room_for left d.body ≡ true → class_begins true d r s ≡ Ok t → in_turn (map (effect_at (in_body left) site) d.body) t ≡ Err e → runs_in left ≡ Err e
   body_refused left t e h k b =
-      runs_on left h ∙ (ap (λ (x : Result State Refusal). x >>= body_ends (effect_at (left - 1) site) d s.running) k
+      runs_on left h ∙ (ap (λ (x : Result State Refusal). x >>= body_ends (effect_at (in_body left) site) d s.running) k
       ∙ ap (λ (x : Result State Refusal). x >>= λ u. Ok (ended (record t { running = s.running }) u)) b)
 
-  pub body_ended : (left : ℕ) (t u : State) → 0 < left → class_begins true d r s ≡ Ok t → in_turn (map (effect_at (left - 1) site) d.body) t ≡ Ok u
-      → class_runs (bodies_at left site) d r s ≡ Ok (record u { running = s.running; scopes = left_scope u.scopes })
+  pub body_ended : (left : Room) (t u : State) → has_room_for left d.body ≡ true → class_begins true d r s ≡ Ok t → in_turn (map (effect_at (in_body left) site) d.body) t ≡ Ok u
+      → runs_in left ≡ Ok (record u { running = s.running; scopes = left_scope u.scopes })
   body_ended left t u h k b =
-      runs_on left h ∙ (ap (λ (x : Result State Refusal). x >>= body_ends (effect_at (left - 1) site) d s.running) k
+      runs_on left h ∙ (ap (λ (x : Result State Refusal). x >>= body_ends (effect_at (in_body left) site) d s.running) k
       ∙ ap (λ (x : Result State Refusal). x >>= λ w. Ok (ended (record t { running = s.running }) w)) b)
 
-module _ (left : ℕ) (site : Site) (d : Definition) (r q : Resource) (s : State) (same : r ≡ q) where
-  pub begin_refused : (may : Bool) (e : Fault) → may ≡ nat_lt 0 left → Refuses (class_begins may d r s) e → Refuses (class_runs (bodies_at left site) d q s) e
-  begin_refused may (fault.Refused x) is h = not_begun site d q s left x may is (ap (λ (p : Resource). class_begins may d p s) (sym same) ∙ h)
-  begin_refused may (fault.Memory m) is h = tt
+module _ (left : Room) (site : Site) (d : Definition) (r q : Resource) (s : State) (same : r ≡ q) where
+  pub begin_refused : (may : Bool) (body : List Stmt) (e : Fault) → body ≡ d.body → may ≡ has_room_for left body → Refuses (class_begins may d r s) e → Refuses (class_runs (body_in (bodies_at left site) d.body) d q s) e
+  begin_refused may body (fault.Refused x) own is h =
+      not_begun site d q s left x may (is ∙ ap (has_room_for left) own) (ap (λ (p : Resource). class_begins may d p s) (sym same) ∙ h)
+  begin_refused may body (fault.Memory m) own is h = tt
 
-  pub block_refused : (may : Bool) (body : List Stmt) (t : State) (e : Fault) → may ≡ nat_lt 0 left → 0 < left → class_begins may d r s ≡ Ok t → body ≡ d.body → Refuses (in_turn (map (effect_at (left - 1) site) body) t) e
-      → Refuses (class_runs (bodies_at left site) d q s) e
-  block_refused may body t (fault.Refused x) is some begins own h =
-      body_refused site d q s left t x some
-      (ap (λ (p : Resource). class_begins true d p s) (sym same) ∙ (ap (λ b. class_begins b d r s) (sym (is ∙ lt-ltb 0 left some)) ∙ begins))
-      (ap (λ (b : List Stmt). in_turn (map (effect_at (left - 1) site) b) t) (sym own) ∙ h)
-  block_refused may body t (fault.Memory m) is some begins own h = tt
+  pub block_refused : (may : Bool) (body inner : List Stmt) (t : State) (room : Room) (e : Fault) → may ≡ has_room_for left body → may ≡ true → class_begins may d r s ≡ Ok t → body ≡ d.body → inner ≡ d.body → room ≡ in_body left
+      → Refuses (in_turn (map (effect_at room site) inner) t) e
+      → Refuses (class_runs (body_in (bodies_at left site) d.body) d q s) e
+  block_refused may body inner t room (fault.Refused x) is some begins own own_inner room_is h =
+      body_refused site d q s left t x (ap (has_room_for left) (sym own) ∙ (sym is ∙ some))
+      (ap (λ (p : Resource). class_begins true d p s) (sym same) ∙ (ap (λ b. class_begins b d r s) (sym some) ∙ begins))
+      ((λ i. in_turn (map (effect_at (sym room_is i) site) (sym own_inner i)) t) ∙ h)
+  block_refused may body inner t room (fault.Memory m) is some begins own own_inner room_is h = tt
+
+-- where there is room for a body, there is room for one more
+pub room_for_one : (left : Room) (body : List Stmt) → has_room_for left body ≡ true → 0 < left.bodies
+room_for_one left body h = by (nat_lt 0 left.bodies) refl h
+  where
+    by : (b : Bool) → nat_lt 0 left.bodies ≡ b → (b && nat_lt (block_depth body) left.levels) ≡ true → 0 < left.bodies
+    by true is k = ltb-true 0 left.bodies is
+    by false is k = cc
 
 -- ---- the scope of the body
 
@@ -134,7 +144,7 @@ inner_begun may d r s t h =
     begun_by d (length s.resources) t (all_known r.at d.parameters r.attrs v) (opened d r scope v) (λ w. IsInner (current_scope w.scopes))
     (λ u is. inner_stays (entered v.scopes scope) u.scopes (openings_only_add d r scope v u is).scopes (inner_entered v.scopes scope tt)) from.1
 
-pub inner_still : (n : ℕ) (site : Site) (body : List Stmt) (s t : State) → in_turn (map (effect_at n site) body) s ≡ Ok t → IsInner (current_scope s.scopes) → IsInner (current_scope t.scopes)
+pub inner_still : (n : Room) (site : Site) (body : List Stmt) (s t : State) → in_turn (map (effect_at n site) body) s ≡ Ok t → IsInner (current_scope s.scopes) → IsInner (current_scope t.scopes)
 inner_still n site body s t h k = inner_stays s.scopes t.scopes (blocks_only_add n site body s t h).scopes k
 
 -- ---- parents
@@ -175,16 +185,16 @@ parents_joined (Err e) f g = refl
 
 module _ (site : Site) (bodies : Bodies) (at : ℕ) (attributes : List Pair) (name : List ℕ) (s : State) where
   abbrev behind_parents : Definition → Result State Refusal
-  behind_parents d = no_circle site d >>= λ _. parents_run site bodies at d s >>= class_runs bodies d (class_resource at d.name attributes)
+  behind_parents d = no_circle site d >>= λ _. parents_run site bodies at d s >>= class_runs (body_in bodies d.body) d (class_resource at d.name attributes)
 
   by_circle : (d : Definition) (k : Result Definition Refusal)
-      → (k >>= λ _. parents_of site s d >>= λ ds. in_turn (map (parent_runs bodies at) ds) s >>= λ t. class_runs bodies d (class_resource at d.name attributes) t)
-      ≡ (k >>= λ _. parents_run site bodies at d s >>= class_runs bodies d (class_resource at d.name attributes))
-  by_circle d (Ok c) = parents_joined (parents_of site s d) (λ ds. in_turn (map (parent_runs bodies at) ds) s) (class_runs bodies d (class_resource at d.name attributes))
+      → (k >>= λ _. parents_of site s d >>= λ ds. in_turn (map (parent_runs bodies at) ds) s >>= λ t. class_runs (body_in bodies d.body) d (class_resource at d.name attributes) t)
+      ≡ (k >>= λ _. parents_run site bodies at d s >>= class_runs (body_in bodies d.body) d (class_resource at d.name attributes))
+  by_circle d (Ok c) = parents_joined (parents_of site s d) (λ ds. in_turn (map (parent_runs bodies at) ds) s) (class_runs (body_in bodies d.body) d (class_resource at d.name attributes))
   by_circle d (Err e) = refl
 
   by_name : (r : Result Definition Refusal)
-      → (r >>= λ d. no_circle site d >>= λ _. parents_of site s d >>= λ ds. in_turn (map (parent_runs bodies at) ds) s >>= λ t. class_runs bodies d (class_resource at d.name attributes) t)
+      → (r >>= λ d. no_circle site d >>= λ _. parents_of site s d >>= λ ds. in_turn (map (parent_runs bodies at) ds) s >>= λ t. class_runs (body_in bodies d.body) d (class_resource at d.name attributes) t)
       ≡ (r >>= behind_parents)
   by_name (Ok d) = by_circle d (no_circle site d)
   by_name (Err e) = refl

@@ -14,14 +14,14 @@ use Rattle.pp_syntax.specs.declared.tree.CaseArm.{CaseArm, out-CaseArm, fold-Cas
 use Rattle.pp_eval.specs.Scoping.{Scoped}
 use Rattle.pp_decl_choices.specs.Choosing.{chosen_arm, chosen_option}
 use Rattle.pp_decl_choices.proofs.OwnBlocks.{arm_is_own, option_is_own}
-use Rattle.pp_decl.specs.Depth.{most, arm_depth_by, case_arm_depth_by, depth_by, depth, block_depth}
+use Rattle.catalog_semantics.specs.Rooms.{most, arm_depth_by, case_arm_depth_by, depth_by, depth, block_depth}
 
 -- ---- the depth of each statement
 
-abbrev in_arm : Arm → ℕ
+abbrev pub in_arm : Arm → ℕ
 in_arm a = fold-Arm ℕ ℕ ℕ depth_by arm_depth_by case_arm_depth_by a
 
-abbrev in_case_arm : CaseArm → ℕ
+abbrev pub in_case_arm : CaseArm → ℕ
 in_case_arm a = fold-CaseArm ℕ ℕ ℕ depth_by arm_depth_by case_arm_depth_by a
 
 abbrev layer_of : Stmt-F Stmt Arm CaseArm → ℕ
@@ -31,14 +31,14 @@ rolled : (d : Stmt-F Stmt Arm CaseArm) → depth (roll-Stmt d) ≡ layer_of d
 unfolding depth
 rolled d = fold-roll-Stmt ℕ ℕ ℕ depth_by arm_depth_by case_arm_depth_by d
 
-of : (x : Stmt) (d : Stmt-F Stmt Arm CaseArm) → roll-Stmt d ≡ x → depth x ≡ layer_of d
+pub of : (x : Stmt) (d : Stmt-F Stmt Arm CaseArm) → roll-Stmt d ≡ x → depth x ≡ layer_of d
 of x d is = sym (ap depth is) ∙ rolled d
 
-arm_is : (a : Arm) → in_arm a ≡ block_depth (out-Arm a).body
+pub arm_is : (a : Arm) → in_arm a ≡ block_depth (out-Arm a).body
 unfolding depth
 arm_is a = fold_out-Arm ℕ ℕ ℕ depth_by arm_depth_by case_arm_depth_by a
 
-case_arm_is : (a : CaseArm) → in_case_arm a ≡ block_depth (out-CaseArm a).body
+pub case_arm_is : (a : CaseArm) → in_case_arm a ≡ block_depth (out-CaseArm a).body
 unfolding depth
 case_arm_is a = fold_out-CaseArm ℕ ℕ ℕ depth_by arm_depth_by case_arm_depth_by a
 
@@ -61,13 +61,13 @@ member_within (b ∷ body) (suc i) s x h is =
 
 -- ---- blocks
 
-depth_if : (at : ℕ) (arms : List Arm) (other : List Stmt) → depth (stmt.If at arms other) ≡ max (most (map in_arm arms)) (block_depth other) + 1
+pub depth_if : (at : ℕ) (arms : List Arm) (other : List Stmt) → depth (stmt.If at arms other) ≡ max (most (map in_arm arms)) (block_depth other) + 1
 depth_if at arms other = of (stmt.If at arms other) (plain.If at arms other) (rolls-If at arms other)
 
-depth_unless : (at : ℕ) (test : Expr) (body other : List Stmt) → depth (stmt.Unless at test body other) ≡ max (block_depth body) (block_depth other) + 1
+pub depth_unless : (at : ℕ) (test : Expr) (body other : List Stmt) → depth (stmt.Unless at test body other) ≡ max (block_depth body) (block_depth other) + 1
 depth_unless at test body other = of (stmt.Unless at test body other) (plain.Unless at test body other) (rolls-Unless at test body other)
 
-depth_case : (at : ℕ) (value : Expr) (arms : List CaseArm) → depth (stmt.Case at value arms) ≡ most (map in_case_arm arms) + 1
+pub depth_case : (at : ℕ) (value : Expr) (arms : List CaseArm) → depth (stmt.Case at value arms) ≡ most (map in_case_arm arms) + 1
 depth_case at value arms = of (stmt.Case at value arms) (plain.Case at value arms) (rolls-Case at value arms)
 
 arm_within : (s : Scoped) (at : ℕ) (arms : List Arm) (other b : List Stmt) → chosen_arm s arms other ≡ Ok b → block_depth b < depth (stmt.If at arms other)
@@ -97,31 +97,31 @@ other_within at test body other =
 
 -- ---- what is left to do
 
-less_deep : (w d e : ℕ) → d < e → 16 * (w + d) + 15 < 16 * (w + e) + 14
+less_deep : (w d e : ℕ) → d < e → 16 * (w + d) + 16 < 16 * (w + e) + 14
 less_deep w d e h = omega arith
 
 pub no_deeper : (w d e : ℕ) → d ≤ e → 16 * (w + d) + 14 < 16 * (w + e) + 15
 no_deeper w d e h = omega arith
 
 pub if_less : (w : ℕ) (x : Stmt) (s : Scoped) (at : ℕ) (arms all : List Arm) (other last b : List Stmt) → x ≡ stmt.If at arms other → all ≡ arms → last ≡ other → chosen_arm s all last ≡ Ok b
-    → 16 * (w + block_depth b) + 15 < 16 * (w + depth x) + 14
+    → 16 * (w + block_depth b) + 16 < 16 * (w + depth x) + 14
 if_less w x s at arms all other last b is same end h =
     less_deep w (block_depth b) (depth x)
     (subst (λ (y : Stmt). block_depth b < depth y) (sym is) (arm_within s at arms other b ((λ i. chosen_arm s (sym same i) (sym end i)) ∙ h)))
 
 pub option_less : (w : ℕ) (x : Stmt) (s : Scoped) (at : ℕ) (e : Expr) (arms all : List CaseArm) (found : Option (Bor (List Stmt))) (b : Bor (List Stmt)) → x ≡ stmt.Case at e arms → all ≡ arms → found ≡ Some b
-    → chosen_option s e all ≡ Ok (option_map (λ (body : Bor (List Stmt)). body.now) found) → 16 * (w + block_depth b.now) + 15 < 16 * (w + depth x) + 14
+    → chosen_option s e all ≡ Ok (option_map (λ (body : Bor (List Stmt)). body.now) found) → 16 * (w + block_depth b.now) + 16 < 16 * (w + depth x) + 14
 option_less w x s at e arms all found b is same some h =
     less_deep w (block_depth b.now) (depth x)
     (subst (λ (y : Stmt). block_depth b.now < depth y) (sym is) (option_within s at e arms b.now
     (ap (chosen_option s e) (sym same) ∙ (h ∙ ap (λ (o : Option (Bor (List Stmt))). Ok (option_map (λ (body : Bor (List Stmt)). body.now) o)) some))))
 
-pub body_less : (w : ℕ) (x : Stmt) (at : ℕ) (test : Expr) (body other b : List Stmt) → x ≡ stmt.Unless at test body other → b ≡ body → 16 * (w + block_depth b) + 15 < 16 * (w + depth x) + 14
+pub body_less : (w : ℕ) (x : Stmt) (at : ℕ) (test : Expr) (body other b : List Stmt) → x ≡ stmt.Unless at test body other → b ≡ body → 16 * (w + block_depth b) + 16 < 16 * (w + depth x) + 14
 body_less w x at test body other b is same =
     less_deep w (block_depth b) (depth x)
     (subst (λ (y : Stmt). block_depth b < depth y) (sym is) (subst (λ (c : List Stmt). block_depth c < depth (stmt.Unless at test body other)) (sym same) (body_within at test body other)))
 
-pub other_less : (w : ℕ) (x : Stmt) (at : ℕ) (test : Expr) (body other b : List Stmt) → x ≡ stmt.Unless at test body other → b ≡ other → 16 * (w + block_depth b) + 15 < 16 * (w + depth x) + 14
+pub other_less : (w : ℕ) (x : Stmt) (at : ℕ) (test : Expr) (body other b : List Stmt) → x ≡ stmt.Unless at test body other → b ≡ other → 16 * (w + block_depth b) + 16 < 16 * (w + depth x) + 14
 other_less w x at test body other b is same =
     less_deep w (block_depth b) (depth x)
     (subst (λ (y : Stmt). block_depth b < depth y) (sym is) (subst (λ (c : List Stmt). block_depth c < depth (stmt.Unless at test body other)) (sym same) (other_within at test body other)))
@@ -129,9 +129,14 @@ other_less w x at test body other b is same =
 pub next_rank : (w : ℕ) → w + 4 < w + 5
 next_rank w = omega arith
 
-pub fewer_bodies : (left bound d : ℕ) → 0 < left → d < bound → 16 * ((left - 1) * bound + d) + 15 < 16 * (left * bound + 0) + 4
-fewer_bodies zero bound d h k = absurd (omega arith)
-fewer_bodies (suc n) bound d h k = step (n * bound) ((suc n - 1) * bound) (suc n * bound) (ap (λ m. m * bound) (omega arith)) (omega arith)
+-- within a block
+pub same_bodies : (bodies left bound d : ℕ) → bodies ≡ left → 16 * (bodies * bound + d) + 15 < 16 * (left * bound + d) + 16
+same_bodies bodies left bound d is = subst (λ n. 16 * (n * bound + d) + 15 < 16 * (left * bound + d) + 16) (sym is) (omega arith)
+
+-- within a body
+pub fewer_bodies : (bodies left bound d : ℕ) → bodies ≡ left - 1 → 0 < left → d < bound → 16 * (bodies * bound + d) + 15 < 16 * (left * bound + 0) + 4
+fewer_bodies bodies zero bound d is h k = absurd (omega arith)
+fewer_bodies bodies (suc n) bound d is h k = step (n * bound) (bodies * bound) (suc n * bound) (ap (λ m. m * bound) (omega arith)) (omega arith)
   where
     step : (one same all : ℕ) → same ≡ one → all ≡ one + bound → 16 * (same + d) + 15 < 16 * (all + 0) + 4
     step one same all e f = omega arith

@@ -1,4 +1,5 @@
 pub mod DepthLaws
+pub mod FittingLaws
 pub mod OwnLaws
 pub mod StatementLaws
 pub mod BodyLaws

@@ -12,7 +12,8 @@ use Rattle.catalog_semantics.specs.States.{is_declared}
 use Rattle.catalog_semantics.specs.Declaring.{class_ref, if_class, class_named}
 use Rattle.pp_decl_classes.specs.Parents.{next_by, next_parent, and_above, nearest_first}
 use Rattle.pp_decl.specs.Classes.{IsOwn}
-use Rattle.pp_decl.specs.Depth.{most, block_depth, bound_of}
+use Rattle.catalog_semantics.specs.Rooms.{most, block_depth}
+use Rattle.pp_decl.specs.Depth.{bound_of}
 
 -- ---- how deep they are
 

@@ -19,28 +19,29 @@ use Rattle.pp_eval.specs.Evaluation.{evaluated, values_in}
 use Rattle.catalog_semantics.specs.declared.state.State.{State}
 use Rattle.catalog_semantics.specs.Sites.{Site}
 use Rattle.catalog_semantics.specs.States.{Effect, in_turn}
-use Rattle.catalog_semantics.specs.Declaring.{Bodies}
+use Rattle.catalog_semantics.specs.Rooms.{Room, whole_room, in_block}
+use Rattle.catalog_semantics.specs.Declaring.{Bodies, within}
 use Rattle.catalog_semantics.specs.Functions.{Argument, placed, contained, required, each_class, included_then, calls}
-use Rattle.catalog_semantics.specs.Effects.{assigned, chained, called, test_of, effect_with, block_with, effect_at, bodies_at, body_limit, effect_of}
-use Rattle.catalog_semantics.proofs.Statements.{effect_chain, effect_assign, effect_call, effect_if, effect_unless, effect_case, effect_is}
+use Rattle.catalog_semantics.specs.Effects.{assigned, chained, called, test_of, effect_with, block_with, effect_at, bodies_at, effect_of}
+use Rattle.catalog_semantics.proofs.Statements.{effect_chain, effect_assign, effect_call, effect_if, effect_unless, effect_case}
 use Rattle.pp_decl_choices.specs.Choosing.{chosen_arm, chosen_option, maybe_block}
 use Rattle.pp_decl_choices.proofs.ChoiceLaws.{condition_runs, case_runs}
 use Rattle.pp_decl.specs.Including.{after_include}
 
-abbrev pub block_at : ℕ → Site → List Stmt → Effect
+abbrev pub block_at : Room → Site → List Stmt → Effect
 block_at n site body = in_turn (map (effect_at n site) body)
 
 -- the statements of a block that may not stand there
-abbrev pub if_block : ℕ → Site → Option (List Stmt) → Effect
+abbrev pub if_block : Room → Site → Option (List Stmt) → Effect
 if_block n site None s = Ok s
 if_block n site (Some body) s = block_at n site body s
 
-module _ (n : ℕ) (site : Site) (s : State) where
+module _ (n : Room) (site : Site) (s : State) where
   one_more : (x : Stmt) (f : Effect) → effect_with site (bodies_at n site) x ≡ f → effect_at n site x s ≡ f s
-  one_more x f h = λ i. (ap (λ (g : Stmt → Effect). g x) (effect_is n site) ∙ h) i s
+  one_more x f h = ap (λ (g : Effect). g s) h
 
-  same_block : (body : List Stmt) → block_with site (bodies_at n site) body s ≡ block_at n site body s
-  same_block body = ap (λ (g : Stmt → Effect). in_turn (map g body) s) (sym (effect_is n site))
+  same_block : (body : List Stmt) → block_with site (within (bodies_at n site)) body s ≡ block_at (in_block n) site body s
+  same_block body = refl
 
   pub chain_is : (at : ℕ) (operands : List Operand) (arrows : List Arrow) → effect_at n site (stmt.Chain at operands arrows) s ≡ chained site (bodies_at n site) at operands arrows s
   chain_is at operands arrows = one_more (stmt.Chain at operands arrows) _ (effect_chain site (bodies_at n site) at operands arrows)
@@ -51,35 +52,35 @@ module _ (n : ℕ) (site : Site) (s : State) where
   pub call_is : (at : ℕ) (f : Func) (args : List Expr) → effect_at n site (stmt.Call at f args) s ≡ called site (bodies_at n site) at f args s
   call_is at f args = one_more (stmt.Call at f args) _ (effect_call site (bodies_at n site) at f args)
 
-  by_arm : (r : Result (List Stmt) Refusal) → (r >>= λ body. block_with site (bodies_at n site) body s) ≡ (r >>= λ body. block_at n site body s)
+  by_arm : (r : Result (List Stmt) Refusal) → (r >>= λ body. block_with site (within (bodies_at n site)) body s) ≡ (r >>= λ body. block_at (in_block n) site body s)
   by_arm (Ok body) = same_block body
   by_arm (Err e) = refl
 
-  pub if_is : (at : ℕ) (arms : List Arm) (other : List Stmt) → effect_at n site (stmt.If at arms other) s ≡ (chosen_arm s.scopes arms other >>= λ body. block_at n site body s)
+  pub if_is : (at : ℕ) (arms : List Arm) (other : List Stmt) → effect_at n site (stmt.If at arms other) s ≡ (chosen_arm s.scopes arms other >>= λ body. block_at (in_block n) site body s)
   if_is at arms other =
       one_more (stmt.If at arms other) _ (effect_if site (bodies_at n site) at arms other)
-      ∙ (condition_runs site (bodies_at n site) arms other s ∙ by_arm (chosen_arm s.scopes arms other))
+      ∙ (condition_runs site (within (bodies_at n site)) arms other s ∙ by_arm (chosen_arm s.scopes arms other))
 
-  by_maybe : (found : Option (List Stmt)) → maybe_block site (bodies_at n site) found s ≡ if_block n site found s
+  by_maybe : (found : Option (List Stmt)) → maybe_block site (within (bodies_at n site)) found s ≡ if_block (in_block n) site found s
   by_maybe None = refl
   by_maybe (Some body) = same_block body
 
-  by_option : (r : Result (Option (List Stmt)) Refusal) → (r >>= λ found. maybe_block site (bodies_at n site) found s) ≡ (r >>= λ found. if_block n site found s)
+  by_option : (r : Result (Option (List Stmt)) Refusal) → (r >>= λ found. maybe_block site (within (bodies_at n site)) found s) ≡ (r >>= λ found. if_block (in_block n) site found s)
   by_option (Ok found) = by_maybe found
   by_option (Err e) = refl
 
-  pub case_is : (at : ℕ) (value : Expr) (arms : List CaseArm) → effect_at n site (stmt.Case at value arms) s ≡ (chosen_option s.scopes value arms >>= λ found. if_block n site found s)
+  pub case_is : (at : ℕ) (value : Expr) (arms : List CaseArm) → effect_at n site (stmt.Case at value arms) s ≡ (chosen_option s.scopes value arms >>= λ found. if_block (in_block n) site found s)
   case_is at value arms =
       one_more (stmt.Case at value arms) _ (effect_case site (bodies_at n site) at value arms)
-      ∙ (case_runs site (bodies_at n site) value arms s ∙ by_option (chosen_option s.scopes value arms))
+      ∙ (case_runs site (within (bodies_at n site)) value arms s ∙ by_option (chosen_option s.scopes value arms))
 
-  by_test : (body other : List Stmt) (r : Result Bool Refusal) → (r >>= λ b. cond b (block_with site (bodies_at n site) other s) (block_with site (bodies_at n site) body s))
-      ≡ (r >>= λ b. cond b (block_at n site other s) (block_at n site body s))
+  by_test : (body other : List Stmt) (r : Result Bool Refusal) → (r >>= λ b. cond b (block_with site (within (bodies_at n site)) other s) (block_with site (within (bodies_at n site)) body s))
+      ≡ (r >>= λ b. cond b (block_at (in_block n) site other s) (block_at (in_block n) site body s))
   by_test body other (Ok true) = same_block other
   by_test body other (Ok false) = same_block body
   by_test body other (Err e) = refl
 
-  pub unless_is : (at : ℕ) (test : Expr) (body other : List Stmt) → effect_at n site (stmt.Unless at test body other) s ≡ (test_of s.scopes test >>= λ b. cond b (block_at n site other s) (block_at n site body s))
+  pub unless_is : (at : ℕ) (test : Expr) (body other : List Stmt) → effect_at n site (stmt.Unless at test body other) s ≡ (test_of s.scopes test >>= λ b. cond b (block_at (in_block n) site other s) (block_at (in_block n) site body s))
   unless_is at test body other =
       one_more (stmt.Unless at test body other) _ (effect_unless site (bodies_at n site) at test body other) ∙ by_test body other (test_of s.scopes test)
 
@@ -128,12 +129,12 @@ refuses_too v w (fault.Memory m) f h = tt
 
 -- ---- from outside
 
-pub whole : (site : Site) → effect_at body_limit site ≡ effect_of site
+pub whole : (site : Site) → effect_at whole_room site ≡ effect_of site
 unfolding effect_of
 whole site = refl
 
-pub whole_statement : (site : Site) (x : Stmt) (s : State) → effect_at body_limit site x s ≡ effect_of site x s
+pub whole_statement : (site : Site) (x : Stmt) (s : State) → effect_at whole_room site x s ≡ effect_of site x s
 whole_statement site x s = ap (λ (f : Stmt → Effect). f x s) (whole site)
 
-pub whole_block : (site : Site) (body : List Stmt) (s : State) → in_turn (map (effect_at body_limit site) body) s ≡ in_turn (map (effect_of site) body) s
+pub whole_block : (site : Site) (body : List Stmt) (s : State) → in_turn (map (effect_at whole_room site) body) s ≡ in_turn (map (effect_of site) body) s
 whole_block site body s = ap (λ (f : Stmt → Effect). in_turn (map f body) s) (whole site)

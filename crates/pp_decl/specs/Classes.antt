@@ -9,7 +9,7 @@ use Rattle.catalog_semantics.specs.declared.state.State.{State}
 use Rattle.catalog_semantics.specs.declared.state.Side.{Side}
 use Rattle.catalog_semantics.specs.Sites.{Definition, Site, definition_of}
 use Rattle.catalog_semantics.specs.States.{Effect, in_turn}
-use Rattle.catalog_semantics.specs.Declaring.{Bodies, class_ref, class_resource, class_runs, class_declared, parents_of}
+use Rattle.catalog_semantics.specs.Declaring.{Bodies, body_in, class_ref, class_resource, class_runs, class_declared, parents_of}
 
 -- The site finds the class under its name.
 abbrev pub IsOwn : Site → Definition → Type 0
@@ -25,7 +25,7 @@ plain_class_ref title = class_ref (plain_name title)
 
 -- a class with no attributes
 abbrev pub parent_runs : Bodies → ℕ → Definition → Effect
-parent_runs bodies at e = class_runs bodies e (class_resource at e.name [])
+parent_runs bodies at e = class_runs (body_in bodies e.body) e (class_resource at e.name [])
 
 -- the parents that aren't declared yet, the topmost first
 abbrev pub parents_run : Site → Bodies → ℕ → Definition → Effect

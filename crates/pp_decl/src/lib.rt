@@ -1,6 +1,7 @@
 //! What the statements of a manifest do.
 #![tactic(auto)]
 
+mod fitting;
 mod simple;
 mod statement;
 

@@ -3,16 +3,18 @@
 ghost use Rattle.std.specs.Prelude.{◌≡◌, ◌++◌, map, OnOk};
 ghost use Rattle.pp_eval.specs.Verdicts.{AnswersBy};
 ghost use Rattle.pp_eval.specs.References.{plain_name};
+ghost use Rattle.catalog_semantics.specs.Rooms.{in_block};
 ghost use Rattle.catalog_semantics.specs.States.{in_turn};
-ghost use Rattle.catalog_semantics.specs.Declaring.{class_ref, class_resource, class_runs, class_declared, body_declared, classes_declared};
+ghost use Rattle.catalog_semantics.specs.Declaring.{body_in, class_ref, class_resource, class_runs, class_declared, body_declared, classes_declared};
 ghost use Rattle.catalog_semantics.specs.Functions.{placed, each_class, included_then};
 ghost use Rattle.catalog_semantics.specs.Effects.{effect_at, effect_of, bodies_at, side_of, sides_of, chained, called, declared_by};
 ghost use Rattle.pp_decl_bodies.specs.Bodies.{declared_behind};
 ghost use Rattle.pp_decl.specs.Including.{after_include};
 ghost use Rattle.pp_decl.specs.Classes.{IsOwn, parents_run, plain_class, plain_class_ref};
 
+use crate::fitting::has_room_for;
 use crate::simple::{after_include, assign, class_resource};
-use catalog_semantics::Side;
+use catalog_semantics::{Room, Side};
 use pp_decl_bodies::{collector_of, declare_resources, fail_with, realize_all};
 use pp_decl_chains::{classes_at, tie_all};
 use pp_decl_choices::{chosen_arm, chosen_option};
@@ -26,16 +28,13 @@ use pp_value::{Pairs, Ref, Value};
 use rh_base::{Fault, NoMemory, Seq, Text};
 use std::alloc::Global;
 
-/// How many bodies of classes may run within one another.
-const BODIES: u32 = 64;
-
-/// A statement, where so many more bodies of classes may run within one another.
+/// A statement, where there is so much room for open bodies and blocks.
 #[cycle(statement)]
 #[tactic(auto, using(crate::proofs::StatementLaws::chain_is, crate::proofs::StatementLaws::assign_is, crate::proofs::StatementLaws::call_is, crate::proofs::StatementLaws::if_is, crate::proofs::StatementLaws::unless_is, crate::proofs::StatementLaws::case_is))]
 fn statement(
     alloc: Global,
     site: &Site<'_>,
-    left: u32,
+    left: Room,
     s: &Stmt,
     state: &mut State,
 ) -> Result<(), Fault>
@@ -52,7 +51,7 @@ fn statement(
         }
         Stmt::If { at: _, arms, other } => {
             let body = chosen_arm(alloc, arms.as_slice(), other.as_slice(), state.scopes())?;
-            block(alloc, site, left, body, state)
+            inner(alloc, site, left, body, state)
         }
         Stmt::Unless {
             at: _,
@@ -61,26 +60,40 @@ fn statement(
             other,
         } => {
             if test_of(alloc, test, state.scopes())? {
-                block(alloc, site, left, other.as_slice(), state)
+                inner(alloc, site, left, other.as_slice(), state)
             } else {
-                block(alloc, site, left, body.as_slice(), state)
+                inner(alloc, site, left, body.as_slice(), state)
             }
         }
         Stmt::Case { at: _, value, arms } => {
             match chosen_option(alloc, value, arms.as_slice(), state.scopes())? {
-                Some(body) => block(alloc, site, left, body, state),
+                Some(body) => inner(alloc, site, left, body, state),
                 None => Ok(()),
             }
         }
     }
 }
 
-/// The statements of a block, one after the other.
+/// The statements of a block, which is one further in.
+#[cycle(statement)]
+fn inner(
+    alloc: Global,
+    site: &Site<'_>,
+    left: Room,
+    body: &[Stmt],
+    state: &mut State,
+) -> Result<(), Fault>
+    ensures { AnswersBy (λ done. state.new) (in_turn (map (effect_at (in_block left) site.now) body.now) state.old) result }
+{
+    block(alloc, site, left.in_block(), body, state)
+}
+
+/// Statements, one after the other.
 #[cycle(statement)]
 fn block(
     alloc: Global,
     site: &Site<'_>,
-    left: u32,
+    left: Room,
     body: &[Stmt],
     state: &mut State,
 ) -> Result<(), Fault>
@@ -102,7 +115,7 @@ fn block(
 fn chain(
     alloc: Global,
     site: &Site<'_>,
-    left: u32,
+    left: Room,
     at: u32,
     operands: &[Operand],
     arrows: &[Arrow],
@@ -121,7 +134,7 @@ fn chain(
 fn all_sides(
     alloc: Global,
     site: &Site<'_>,
-    left: u32,
+    left: Room,
     operands: &[Operand],
     state: &mut State,
 ) -> Result<Seq<Side>, Fault>
@@ -140,7 +153,7 @@ fn all_sides(
 fn one_side(
     alloc: Global,
     site: &Site<'_>,
-    left: u32,
+    left: Room,
     x: &Operand,
     state: &mut State,
 ) -> Result<Side, Fault>
@@ -176,7 +189,7 @@ fn one_side(
 fn declare(
     alloc: Global,
     site: &Site<'_>,
-    left: u32,
+    left: Room,
     at: u32,
     is_virtual: bool,
     kind: &str,
@@ -199,7 +212,7 @@ fn declare(
 fn declare_classes(
     alloc: Global,
     site: &Site<'_>,
-    left: u32,
+    left: Room,
     bodies: &[Body],
     state: &mut State,
 ) -> Result<Seq<Ref>, Fault>
@@ -231,7 +244,7 @@ fn push_refs(alloc: Global, titles: &[Text], refs: &mut Seq<Ref>) -> Result<(), 
 fn class_body(
     alloc: Global,
     site: &Site<'_>,
-    left: u32,
+    left: Room,
     b: &Body,
     refs: &mut Seq<Ref>,
     state: &mut State,
@@ -251,7 +264,7 @@ fn class_body(
 fn class_titles(
     alloc: Global,
     site: &Site<'_>,
-    left: u32,
+    left: Room,
     at: u32,
     attributes: &Pairs,
     titles: &[Text],
@@ -275,7 +288,7 @@ fn class_titles(
 fn declare_class(
     alloc: Global,
     site: &Site<'_>,
-    left: u32,
+    left: Room,
     at: u32,
     attributes: &Pairs,
     name: &str,
@@ -295,7 +308,7 @@ fn declare_class(
 fn run_parents<'m>(
     alloc: Global,
     site: &Site<'m>,
-    left: u32,
+    left: Room,
     at: u32,
     d: &Definition<'m>,
     state: &mut State,
@@ -313,26 +326,29 @@ fn run_parents<'m>(
     Ok(())
 }
 
-/// One class alone: it becomes a resource, and its body runs at once.
+/// One class alone: it becomes a resource, and its body runs at once, where there is room for it.
 #[cycle(statement)]
 #[tactic(auto, using(crate::proofs::BodyLaws::not_begun, crate::proofs::BodyLaws::body_refused, crate::proofs::BodyLaws::body_ended, crate::proofs::BodyLaws::never_begins, crate::proofs::BodyLaws::inner_begun, crate::proofs::BodyLaws::inner_still))]
 fn run_class<'m>(
     alloc: Global,
     site: &Site<'m>,
-    left: u32,
+    left: Room,
     at: u32,
     d: &Definition<'m>,
     attributes: &Pairs,
     state: &mut State,
 ) -> Result<(), Fault>
     requires { IsOwn site.now d.now }
-    ensures { AnswersBy (λ done. state.new) (class_runs (bodies_at left site.now) d.now (class_resource at d.now.name attributes.now) state.old) result }
+    ensures { AnswersBy (λ done. state.new)
+        (class_runs (body_in (bodies_at left site.now) d.now.body) d.now (class_resource at d.now.name attributes.now) state.old) result }
 {
     let r = class_resource(alloc, at, d.name().as_str(), attributes)?;
     let before = state.running();
-    begin_class(alloc, d, &r, left > 0, state)?;
-    if left > 0 {
-        block(alloc, site, left - 1, d.body(), state)?;
+    let body = d.body();
+    let may_run = has_room_for(left, body);
+    begin_class(alloc, d, &r, may_run, state)?;
+    if may_run {
+        block(alloc, site, left.in_body(), body, state)?;
         state.end_body(before);
     }
     Ok(())
@@ -345,7 +361,7 @@ fn run_class<'m>(
 fn call(
     alloc: Global,
     site: &Site<'_>,
-    left: u32,
+    left: Room,
     at: u32,
     func: Func,
     args: &[Expr],
@@ -370,7 +386,7 @@ fn call(
 fn include_all(
     alloc: Global,
     site: &Site<'_>,
-    left: u32,
+    left: Room,
     at: u32,
     func: Func,
     args: &[Expr],
@@ -399,7 +415,7 @@ fn include_all(
 fn include_each(
     alloc: Global,
     site: &Site<'_>,
-    left: u32,
+    left: Room,
     at: u32,
     func: Func,
     names: &[Text],
@@ -421,7 +437,7 @@ fn include_each(
 fn include(
     alloc: Global,
     site: &Site<'_>,
-    left: u32,
+    left: Room,
     at: u32,
     func: Func,
     name: &str,
@@ -439,7 +455,7 @@ fn include(
 
 // ---- from outside
 
-/// A statement, where no body of a class is open.
+/// A statement, where no body of a class and no block is open.
 #[tactic(auto, using(crate::proofs::StatementLaws::whole_statement))]
 pub fn run_statement(
     alloc: Global,
@@ -449,10 +465,10 @@ pub fn run_statement(
 ) -> Result<(), Fault>
     ensures { AnswersBy (λ done. state.new) (effect_of site.now s.now state.old) result }
 {
-    statement(alloc, site, BODIES, s, state)
+    statement(alloc, site, Room::whole(), s, state)
 }
 
-/// The statements of a block, where no body of a class is open.
+/// Statements, one after the other, where no body of a class and no block is open.
 #[tactic(auto, using(crate::proofs::StatementLaws::whole_block))]
 pub fn run_block(
     alloc: Global,
@@ -462,5 +478,5 @@ pub fn run_block(
 ) -> Result<(), Fault>
     ensures { AnswersBy (λ done. state.new) (in_turn (map (effect_of site.now) body.now) state.old) result }
 {
-    block(alloc, site, BODIES, body, state)
+    block(alloc, site, Room::whole(), body, state)
 }

@@ -7,8 +7,8 @@ use Rattle.rh_base.specs.declared.fault.Fault.TheVariants.{Refused, Memory}
 use Rattle.rh_base.specs.Refused.{IfRefused}
 use Rattle.pp_eval.specs.Verdicts.{Refuses}
 use Rattle.fs_semantics.specs.Programs.{Program}
-use Rattle.catalog_semantics.specs.Catalogs.{Catalog, IsCatalogOf}
-use Rattle.pp_compile.specs.Sources.{IsCatalogRefusal}
+use Rattle.catalog_semantics.specs.Catalogs.{Catalog}
+use Rattle.pp_compile.specs.Sources.{IsCatalogOf, IsCatalogRefusal}
 use Rattle.orders.specs.Relation.{Comes}
 use Rattle.graph_semantics.specs.Graphs.{IsGraphOf, IsGraphRefusal}
 use Rattle.dep_graph.specs.declared.answer.Graph.{Graph}

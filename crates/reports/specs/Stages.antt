@@ -3,8 +3,8 @@ use Rattle.std.specs.Prelude.{◌≡◌, ℕ, List, [], length, Option, Some, No
 use Rattle.rh_base.specs.declared.fault.Refusal.{Refusal}
 use Rattle.orders.specs.Relation.{Comes}
 use Rattle.fs_semantics.specs.Programs.{Program}
-use Rattle.catalog_semantics.specs.Catalogs.{Catalog, IsCatalogOf}
-use Rattle.pp_compile.specs.Sources.{IsCatalogRefusal}
+use Rattle.catalog_semantics.specs.Catalogs.{Catalog}
+use Rattle.pp_compile.specs.Sources.{IsCatalogOf, IsCatalogRefusal}
 use Rattle.graph_semantics.specs.Graphs.{IsGraphOf, IsGraphRefusal}
 use Rattle.dep_graph.specs.declared.answer.Graph.{Graph}
 use Rattle.model_semantics.specs.Models.{programs}

@@ -1,26 +1,37 @@
-use Rattle.std.proofs.Common.{refl}
-use Rattle.catalog_semantics.specs.Catalogs.{catalog_of}
-use Rattle.pp_compile.proofs.SourceLaws.{catalog_found, catalog_refused, source_refused}
+use Rattle.catalog_semantics.specs.States.{references_of}
+use Rattle.catalog_semantics.specs.Frames.{StandOnce, AreSound}
+use Rattle.catalog_laws.specs.Containers.{AreHeld, HoldClasses}
+use Rattle.pp_compile.proofs.PromiseLaws.{same_verdict, promised, is_settled}
 use Rattle.pp_compile.proofs.compiling.compile_with.Goals as goal
 
-pub returns-clause-catalog : goal.returns-clause-catalog
-returns-clause-catalog c =
-    catalog_found c.args.text.now c.in_ok-manifest.manifest c.args.facts.now c.args.node.now c.args.levels.now c.in_ok-manifest.ensures.parsed
-    (catalog_of c.in_ok-manifest.manifest c.args.facts.now c.args.node.now c.args.levels.now) refl c.catalog_of.result c.catalog_of.ensures
-
-pub returns-clause-refused : goal.returns-clause-refused
-returns-clause-refused c =
-    catalog_refused c.args.text.now c.in_ok-manifest.manifest c.args.facts.now c.args.node.now c.args.levels.now c.in_ok-manifest.ensures.parsed
-    (catalog_of c.in_ok-manifest.manifest c.args.facts.now c.args.node.now c.args.levels.now) refl c.catalog_of.result c.catalog_of.ensures
-
 pub returns-clause-one : goal.returns-clause-one
-returns-clause-one c v w a b =
-    c.text_has_one_catalog.ensures c.args.text.now c.args.facts.now c.args.node.now c.args.levels.now v w (λ m n tokens spelled x y. c.one_manifest.ensures m n tokens (c.args.text.now, spelled) x y) a b
+returns-clause-one c = same_verdict c.one_reading.ensures.manifests c.args.text.now c.args.facts.now c.args.node.now c.args.levels.now
 
-pub returns-in_err-manifest-clause-refused : goal.returns-in_err-manifest-clause-refused
-returns-in_err-manifest-clause-refused c =
-    source_refused c.args.text.now c.args.facts.now c.args.node.now c.args.levels.now c.from_residual.result c.in_err-manifest.field-0.0 c.from_residual.ensures.1 c.in_err-manifest.ensures.refused
+pub returns-clause-read : goal.returns-clause-read
+returns-clause-read c v r has refused = c.one_reading.ensures.refusals c.args.text.now has.manifest r has.parsed refused
 
-pub returns-in_err-manifest-clause-one : goal.returns-in_err-manifest-clause-one
-returns-in_err-manifest-clause-one c v w a b =
-    c.text_has_one_catalog.ensures c.args.text.now c.args.facts.now c.args.node.now c.args.levels.now v w (λ m n tokens spelled x y. c.one_manifest.ensures m n tokens (c.args.text.now, spelled) x y) a b
+pub returns-clause-sound : goal.returns-clause-sound
+returns-clause-sound c =
+    promised c.args.text.now c.args.facts.now c.args.node.now c.args.levels.now (λ x. AreSound x.resources)
+    (λ x has. c.catalogs_are_sound.ensures has.manifest c.args.facts.now c.args.node.now c.args.levels.now x) c.compiled.result c.compiled.ensures.catalog
+
+pub returns-clause-once : goal.returns-clause-once
+returns-clause-once c =
+    promised c.args.text.now c.args.facts.now c.args.node.now c.args.levels.now (λ x. StandOnce (references_of x.resources))
+    (λ x has. c.references_stand_once.ensures has.manifest c.args.facts.now c.args.node.now c.args.levels.now x) c.compiled.result c.compiled.ensures.catalog
+
+pub returns-clause-held : goal.returns-clause-held
+returns-clause-held c =
+    promised c.args.text.now c.args.facts.now c.args.node.now c.args.levels.now (λ x. AreHeld x.resources)
+    (λ x has. c.holders_are_containers.ensures.holders has.manifest c.args.facts.now c.args.node.now c.args.levels.now x) c.compiled.result c.compiled.ensures.catalog
+
+pub returns-clause-contained : goal.returns-clause-contained
+returns-clause-contained c =
+    promised c.args.text.now c.args.facts.now c.args.node.now c.args.levels.now (λ x. HoldClasses x.resources x.holdings)
+    (λ x has. c.holders_are_containers.ensures.holdings has.manifest c.args.facts.now c.args.node.now c.args.levels.now x) c.compiled.result c.compiled.ensures.catalog
+
+pub returns-clause-settled : goal.returns-clause-settled
+returns-clause-settled c =
+    promised c.args.text.now c.args.facts.now c.args.node.now c.args.levels.now _
+    (is_settled c.rounds_end.ensures.settled c.rounds_end.ensures.enough c.args.text.now c.args.facts.now c.args.node.now c.args.levels.now)
+    c.compiled.result c.compiled.ensures.catalog

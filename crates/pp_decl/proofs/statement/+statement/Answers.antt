@@ -2,57 +2,65 @@ use Rattle.std.proofs.Common.{◌<◌, ◌*◌, map, refl, sym, ap, subst, ◌�
 use Rattle.std.specs.List.{AllByRecursion}
 use Rattle.catalog_semantics.specs.Sites.{Definition}
 use Rattle.catalog_semantics.specs.States.{in_turn}
-use Rattle.catalog_semantics.specs.Declaring.{class_resource, class_runs}
+use Rattle.catalog_semantics.specs.Rooms.{Room, depth, block_depth}
+use Rattle.catalog_semantics.specs.Declaring.{body_in, class_resource, class_runs}
 use Rattle.catalog_semantics.specs.Effects.{bodies_at}
 use Rattle.pp_value.specs.Values.{Pair}
 use Rattle.pp_decl_classes.specs.Parents.{backwards}
 use Rattle.pp_decl.specs.Classes.{IsOwn, parent_runs, parents_run}
-use Rattle.pp_decl.specs.Depth.{depth, block_depth, bound_of, weight}
-use Rattle.pp_decl.proofs.DepthLaws.{below, no_deeper, member_within, if_less, option_less, body_less, other_less, next_rank, fewer_bodies}
+use Rattle.pp_decl.specs.Depth.{bound_of, weight}
+use Rattle.pp_decl.proofs.DepthLaws.{below, no_deeper, member_within, if_less, option_less, body_less, other_less, next_rank, same_bodies, fewer_bodies}
 use Rattle.pp_decl.proofs.OwnLaws.{own_within, line_is_own, last_own, popped}
 use Rattle.pp_decl.proofs.StatementLaws.{includes_by, answers_as, answered, refuses_too}
-use Rattle.pp_decl.proofs.BodyLaws.{begin_refused, block_refused, line_runs, next_parent, parent_refused}
+use Rattle.pp_decl.proofs.BodyLaws.{begin_refused, block_refused, room_for_one, line_runs, next_parent, parent_refused}
 use Rattle.pp_decl.proofs.statement.+statement.Goals as goal
 
 -- ---- that it ends
 
 pub block-statement-requires : goal.block-statement-requires
 block-statement-requires t c = (
-  below _ t _ c.decreases (no_deeper (c.args.left * bound_of c.args.site.now) (depth c.s-item.result) (block_depth c.args.body.now)
+  below _ t _ c.decreases (no_deeper (c.args.left.bodies * bound_of c.args.site.now) (depth c.s-item.result) (block_depth c.args.body.now)
       (member_within c.args.body.now c.loop-s.s-index c.s-item.result c.s-item.result c.loop-s-test.true c.s-item.is)),
   tt,
 )
 
-pub statement-block-requires : goal.statement-block-requires
-statement-block-requires t c = (
-  below _ t _ c.decreases (if_less (c.args.left * bound_of c.args.site.now) c.args.s.now c.scopes.result.now c.in-If.at c.in-If.arms c.as_slice-in-If.result.now c.in-If.other c.as_slice-in-If-2.result.now c.in_ok-body-in-If.body.now
+pub statement-inner-requires : goal.statement-inner-requires
+statement-inner-requires t c = (
+  below _ t _ c.decreases (if_less (c.args.left.bodies * bound_of c.args.site.now) c.args.s.now c.scopes.result.now c.in-If.at c.in-If.arms c.as_slice-in-If.result.now c.in-If.other c.as_slice-in-If-2.result.now c.in_ok-body-in-If.body.now
       c.in-If.is c.as_slice-in-If.ensures c.as_slice-in-If-2.ensures c.in_ok-body-in-If.ensures),
   tt,
 )
 
-pub statement-block-requires-then-branch : goal.statement-block-requires-then-branch
-statement-block-requires-then-branch t c = (
-  below _ t _ c.decreases (other_less (c.args.left * bound_of c.args.site.now) c.args.s.now c.in-Unless.at c.in-Unless.test c.in-Unless.body c.in-Unless.other c.as_slice-then-branch.result.now c.in-Unless.is c.as_slice-then-branch.ensures),
+pub statement-inner-requires-then-branch : goal.statement-inner-requires-then-branch
+statement-inner-requires-then-branch t c = (
+  below _ t _ c.decreases (other_less (c.args.left.bodies * bound_of c.args.site.now) c.args.s.now c.in-Unless.at c.in-Unless.test c.in-Unless.body c.in-Unless.other c.as_slice-then-branch.result.now c.in-Unless.is c.as_slice-then-branch.ensures),
   tt,
 )
 
-pub statement-block-requires-else-branch : goal.statement-block-requires-else-branch
-statement-block-requires-else-branch t c = (
-  below _ t _ c.decreases (body_less (c.args.left * bound_of c.args.site.now) c.args.s.now c.in-Unless.at c.in-Unless.test c.in-Unless.body c.in-Unless.other c.as_slice-else-branch.result.now c.in-Unless.is c.as_slice-else-branch.ensures),
+pub statement-inner-requires-else-branch : goal.statement-inner-requires-else-branch
+statement-inner-requires-else-branch t c = (
+  below _ t _ c.decreases (body_less (c.args.left.bodies * bound_of c.args.site.now) c.args.s.now c.in-Unless.at c.in-Unless.test c.in-Unless.body c.in-Unless.other c.as_slice-else-branch.result.now c.in-Unless.is c.as_slice-else-branch.ensures),
   tt,
 )
 
-pub statement-block-requires-in-Some : goal.statement-block-requires-in-Some
-statement-block-requires-in-Some t c = (
-  below _ t _ c.decreases (option_less (c.args.left * bound_of c.args.site.now) c.args.s.now c.scopes-in-Case.result.now c.in-Case.at c.in-Case.value c.in-Case.arms c.as_slice-in-Case.result.now c.in_ok-body-in-Case.field-0 c.in-Some.body
+pub statement-inner-requires-in-Some : goal.statement-inner-requires-in-Some
+statement-inner-requires-in-Some t c = (
+  below _ t _ c.decreases (option_less (c.args.left.bodies * bound_of c.args.site.now) c.args.s.now c.scopes-in-Case.result.now c.in-Case.at c.in-Case.value c.in-Case.arms c.as_slice-in-Case.result.now c.in_ok-body-in-Case.field-0 c.in-Some.body
       c.in-Case.is c.as_slice-in-Case.ensures c.in-Some.is c.in_ok-body-in-Case.ensures),
+  tt,
+)
+
+pub inner-block-requires : goal.inner-block-requires
+inner-block-requires t c = (
+  below _ t _ c.decreases (same_bodies c.in_block.result.bodies c.args.left.bodies (bound_of c.args.site.now) (block_depth c.args.body.now) (ap (λ (r : Room). r.bodies) c.in_block.ensures)),
   tt,
 )
 
 pub run_class-block-requires : goal.run_class-block-requires
 run_class-block-requires t c = (
-  below _ t _ c.decreases (fewer_bodies c.args.left (bound_of c.args.site.now) (block_depth c.body.result.now) c.if-left-gt0.true
-      (subst (λ b. block_depth b < bound_of c.args.site.now) (sym c.body.ensures) (own_within c.args.site.now c.args.d.now c.requires))),
+  below _ t _ c.decreases (fewer_bodies c.in_body.result.bodies c.args.left.bodies (bound_of c.args.site.now) (block_depth c.body-body.result.now) (ap (λ (r : Room). r.bodies) c.in_body.ensures)
+      (room_for_one c.args.left c.body-body.result.now (sym c.has_room_for-may_run.ensures ∙ c.if-may_run.true))
+      (subst (λ b. block_depth b < bound_of c.args.site.now) (sym c.body-body.ensures) (own_within c.args.site.now c.args.d.now c.requires))),
   tt,
 )
 
@@ -71,14 +79,15 @@ pub run_class-returns-in_err-begin_class : goal.run_class-returns-in_err-begin_c
 run_class-returns-in_err-begin_class t c =
     answered _ _ c.from_residual-in_err-begin_class.result c.in_err-begin_class.field-0.0 c.from_residual-in_err-begin_class.ensures.1
     (begin_refused c.args.left c.args.site.now c.args.d.now c.in_ok-r.r (class_resource c.args.at c.args.d.now.name c.args.attributes.now) c.args.state.now
-    (c.in_ok-r.ensures ∙ ap (λ n. class_resource c.args.at n c.args.attributes.now) (c.as_str.ensures ∙ c.name.ensures)) _ c.in_err-begin_class.field-0.0 refl c.in_err-begin_class.ensures)
+    (c.in_ok-r.ensures ∙ ap (λ n. class_resource c.args.at n c.args.attributes.now) (c.as_str.ensures ∙ c.name.ensures)) c.has_room_for-may_run.result c.body-body.result.now c.in_err-begin_class.field-0.0 c.body-body.ensures c.has_room_for-may_run.ensures
+    c.in_err-begin_class.ensures)
 
 pub run_class-returns-in_err-block : goal.run_class-returns-in_err-block
 run_class-returns-in_err-block t c =
     answered _ _ c.from_residual-in_err-block.result c.in_err-block.field-0.0 c.from_residual-in_err-block.ensures.1
     (block_refused c.args.left c.args.site.now c.args.d.now c.in_ok-r.r (class_resource c.args.at c.args.d.now.name c.args.attributes.now) c.args.state.now
-    (c.in_ok-r.ensures ∙ ap (λ n. class_resource c.args.at n c.args.attributes.now) (c.as_str.ensures ∙ c.name.ensures)) _ c.body.result.now c.begin_class.new.state c.in_err-block.field-0.0 refl c.if-left-gt0.true
-    c.in_ok-begin_class.ensures c.body.ensures c.in_err-block.ensures)
+    (c.in_ok-r.ensures ∙ ap (λ n. class_resource c.args.at n c.args.attributes.now) (c.as_str.ensures ∙ c.name.ensures)) c.has_room_for-may_run.result c.body-body.result.now c.body-body.result.now c.begin_class.new.state c.in_body.result c.in_err-block.field-0.0
+    c.has_room_for-may_run.ensures c.if-may_run.true c.in_ok-begin_class.ensures c.body-body.ensures c.body-body.ensures c.in_body.ensures c.in_err-block.ensures)
 
 -- ---- parents
 
@@ -90,7 +99,7 @@ run_parents-loop-p-init t c = (
 
 pub run_parents-run_class-requires : goal.run_parents-run_class-requires
 run_parents-run_class-requires t c = (
-  below _ t _ c.decreases (next_rank (weight c.args.left c.args.site.now 0)),
+  below _ t _ c.decreases (next_rank (weight c.args.left.bodies c.args.site.now 0)),
   (last_own c.args.site.now (map (λ p. p.now) c.pop.new.self.items) c.in-Some.p.now
       (subst (AllByRecursion (IsOwn c.args.site.now)) (popped c.loop-p.parents.items c.pop.new.self.items c.in-Some.p c.in-Some.ensures.items) c.loop-p.invariant.1)).1,
 )
@@ -100,7 +109,7 @@ run_parents-loop-p-preserved t c =
     let bodies = bodies_at c.args.left c.args.site.now in
     let line = popped c.loop-p.parents.items c.pop.new.self.items c.in-Some.p c.in-Some.ensures.items in (
       sym (next_parent bodies c.args.at (map (λ p. p.now) c.pop.new.self.items) c.in-Some.p.now c.loop-p.state c.run_class.new.state
-          (ap (λ (attributes : List Pair). class_runs bodies c.in-Some.p.now (class_resource c.args.at c.in-Some.p.now.name attributes) c.loop-p.state) (sym c.new-none.ensures) ∙ c.in-Ok.ensures))
+          (ap (λ (attributes : List Pair). class_runs (body_in bodies c.in-Some.p.now.body) c.in-Some.p.now (class_resource c.args.at c.in-Some.p.now.name attributes) c.loop-p.state) (sym c.new-none.ensures) ∙ c.in-Ok.ensures))
           ∙ (ap (λ (ds : List Definition). in_turn (map (parent_runs bodies c.args.at) (backwards ds)) c.loop-p.state) (sym line) ∙ c.loop-p.invariant.0),
       (last_own c.args.site.now (map (λ p. p.now) c.pop.new.self.items) c.in-Some.p.now (subst (AllByRecursion (IsOwn c.args.site.now)) line c.loop-p.invariant.1)).0,
     )
@@ -109,10 +118,10 @@ pub run_parents-returns-in-Err : goal.run_parents-returns-in-Err
 run_parents-returns-in-Err t c =
     let bodies = bodies_at c.args.left c.args.site.now in
     let line = popped c.loop-p.parents.items c.pop.new.self.items c.in-Some.p c.in-Some.ensures.items in
-    refuses_too (class_runs bodies c.in-Some.p.now (class_resource c.args.at c.in-Some.p.now.name c.new-none.result) c.loop-p.state) (parents_run c.args.site.now bodies c.args.at c.args.d.now c.args.state.now) c.in-Err.fault
+    refuses_too (class_runs (body_in bodies c.in-Some.p.now.body) c.in-Some.p.now (class_resource c.args.at c.in-Some.p.now.name c.new-none.result) c.loop-p.state) (parents_run c.args.site.now bodies c.args.at c.args.d.now c.args.state.now) c.in-Err.fault
     (λ x h.
     sym c.loop-p.invariant.0
     ∙ (ap (λ (ds : List Definition). in_turn (map (parent_runs bodies c.args.at) (backwards ds)) c.loop-p.state) line
     ∙ parent_refused bodies c.args.at (map (λ p. p.now) c.pop.new.self.items) c.in-Some.p.now c.loop-p.state x
-    (ap (λ (attributes : List Pair). class_runs bodies c.in-Some.p.now (class_resource c.args.at c.in-Some.p.now.name attributes) c.loop-p.state) (sym c.new-none.ensures) ∙ h)))
+    (ap (λ (attributes : List Pair). class_runs (body_in bodies c.in-Some.p.now.body) c.in-Some.p.now (class_resource c.args.at c.in-Some.p.now.name attributes) c.loop-p.state) (sym c.new-none.ensures) ∙ h)))
     c.in-Err.ensures

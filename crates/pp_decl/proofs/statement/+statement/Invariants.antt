@@ -8,58 +8,62 @@ use Rattle.pp_decl_bodies.specs.Bodies.{declared_behind}
 use Rattle.pp_decl_classes.specs.Parents.{backwards}
 use Rattle.pp_decl.specs.Including.{after_include}
 use Rattle.pp_decl.specs.Classes.{IsOwn, sides_behind, parent_runs, parents_run, plain_class, plain_class_ref}
-use Rattle.pp_decl.specs.Depth.{depth, block_depth, weight}
+use Rattle.catalog_semantics.specs.Rooms.{depth, block_depth}
+use Rattle.pp_decl.specs.Depth.{weight}
 use Rattle.pp_decl.proofs.statement.+statement.Given as goal
 
 -- ---- that it ends
 
+abbrev pub decreases-inner : goal.decreases-inner
+decreases-inner l = weight l.left.bodies l.site.now (block_depth l.body.now) + 16
+
 abbrev pub decreases-block : goal.decreases-block
-decreases-block l = weight l.left l.site.now (block_depth l.body.now) + 15
+decreases-block l = weight l.left.bodies l.site.now (block_depth l.body.now) + 15
 
 abbrev pub decreases-statement : goal.decreases-statement
-decreases-statement l = weight l.left l.site.now (depth l.s.now) + 14
+decreases-statement l = weight l.left.bodies l.site.now (depth l.s.now) + 14
 
 abbrev pub decreases-chain : goal.decreases-chain
-decreases-chain l = weight l.left l.site.now 0 + 13
+decreases-chain l = weight l.left.bodies l.site.now 0 + 13
 
 abbrev pub decreases-call : goal.decreases-call
-decreases-call l = weight l.left l.site.now 0 + 13
+decreases-call l = weight l.left.bodies l.site.now 0 + 13
 
 abbrev pub decreases-all_sides : goal.decreases-all_sides
-decreases-all_sides l = weight l.left l.site.now 0 + 12
+decreases-all_sides l = weight l.left.bodies l.site.now 0 + 12
 
 abbrev pub decreases-include_all : goal.decreases-include_all
-decreases-include_all l = weight l.left l.site.now 0 + 12
+decreases-include_all l = weight l.left.bodies l.site.now 0 + 12
 
 abbrev pub decreases-one_side : goal.decreases-one_side
-decreases-one_side l = weight l.left l.site.now 0 + 11
+decreases-one_side l = weight l.left.bodies l.site.now 0 + 11
 
 abbrev pub decreases-include_each : goal.decreases-include_each
-decreases-include_each l = weight l.left l.site.now 0 + 11
+decreases-include_each l = weight l.left.bodies l.site.now 0 + 11
 
 abbrev pub decreases-declare : goal.decreases-declare
-decreases-declare l = weight l.left l.site.now 0 + 10
+decreases-declare l = weight l.left.bodies l.site.now 0 + 10
 
 abbrev pub decreases-include : goal.decreases-include
-decreases-include l = weight l.left l.site.now 0 + 10
+decreases-include l = weight l.left.bodies l.site.now 0 + 10
 
 abbrev pub decreases-declare_classes : goal.decreases-declare_classes
-decreases-declare_classes l = weight l.left l.site.now 0 + 9
+decreases-declare_classes l = weight l.left.bodies l.site.now 0 + 9
 
 abbrev pub decreases-class_body : goal.decreases-class_body
-decreases-class_body l = weight l.left l.site.now 0 + 8
+decreases-class_body l = weight l.left.bodies l.site.now 0 + 8
 
 abbrev pub decreases-class_titles : goal.decreases-class_titles
-decreases-class_titles l = weight l.left l.site.now 0 + 7
+decreases-class_titles l = weight l.left.bodies l.site.now 0 + 7
 
 abbrev pub decreases-declare_class : goal.decreases-declare_class
-decreases-declare_class l = weight l.left l.site.now 0 + 6
+decreases-declare_class l = weight l.left.bodies l.site.now 0 + 6
 
 abbrev pub decreases-run_parents : goal.decreases-run_parents
-decreases-run_parents l = weight l.left l.site.now 0 + 5
+decreases-run_parents l = weight l.left.bodies l.site.now 0 + 5
 
 abbrev pub decreases-run_class : goal.decreases-run_class
-decreases-run_class l = weight l.left l.site.now 0 + 4
+decreases-run_class l = weight l.left.bodies l.site.now 0 + 4
 
 -- ---- loops
 
