@@ -1,3 +1,5 @@
 pub mod AnsweringLaws
+pub mod ProbingLaws
+pub mod RunLaws
 pub mod MissingLaws
 pub mod EnsuredLaws

@@ -247,7 +247,7 @@ fn ensure_on(
 /// does; then a few trees are tried; then it is asked whether the first extension ends, from a tree over the domain of the programs
 /// and the probe, in one without the entry; and where it doesn't, whether the graph succeeds from some tree. Each question has the
 /// whole budget; a budget of `u64::MAX` stands for none.
-pub fn ensures(
+pub fn judge_entry(
     alloc: Global,
     programs: &[Program],
     order: &Order,

@@ -11,5 +11,5 @@ mod success;
 mod trying;
 
 pub use ensured::{Ensured, Late};
-pub use ensuring::ensures;
+pub use ensuring::judge_entry;
 pub use wanted_entry::Wanted;

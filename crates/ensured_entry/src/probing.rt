@@ -1,12 +1,13 @@
 //! The domain of the programs and the probe.
 
-ghost use Rattle.std.specs.Prelude.{◌≡◌, ◌≤◌, ◌++◌, ◌∷◌, [], map, IfOk, IfErr};
+ghost use Rattle.std.specs.Prelude.{◌≡◌, ◌++◌, ◌∷◌, [], List, map, IfOk, IfErr};
 ghost use Rattle.rh_base.specs.Refused.{IfRefused};
+ghost use Rattle.fs_semantics.specs.Programs.{Program as E};
 ghost use Rattle.fs_lang.specs.Meaning.{program_of, programs_in};
 ghost use Rattle.fs_interpreter.specs.Places.{CoversSteps};
 ghost use Rattle.finite_domain.specs.Layouts.{IsLayout};
 ghost use Rattle.path_domain.specs.Laid.{layout_of};
-ghost use Rattle.verdict.specs.Limits.{HasFewPaths};
+ghost use Rattle.verdict.specs.Limits.{HasPaths, HasFewPaths};
 ghost use Rattle.wanted_entry.specs.Entries.{probe_of};
 ghost use Rattle.ensured_entry.specs.Sizes.{IsTooWide, IsProbed};
 
@@ -38,7 +39,8 @@ fn with_probe(
     ensures { IfOk result (IsProbed programs.now wanted.now) }
 {
     let mut all = copies(alloc, programs)?;
-    all.push(wanted.probe(alloc)?)?;
+    let probe = wanted.probe(alloc)?;
+    all.push(probe)?;
     Ok(all)
 }
 
@@ -56,6 +58,13 @@ fn domain_with_probe(
     Ok(d)
 }
 
+/// How many paths a domain has.
+fn path_count(domain: &Domain) -> u64
+    ensures { (es : List E) → IsLayout es (layout_of domain.now) → HasPaths es result }
+{
+    domain.table.path_count()
+}
+
 /// The domain of the programs and the probe, unless it has too many paths.
 pub(crate) fn probed_domain(
     alloc: Global,
@@ -70,7 +79,7 @@ pub(crate) fn probed_domain(
 {
     path_counts();
     let d = domain_with_probe(alloc, programs, wanted)?;
-    if d.table.path_count() > DOMAIN_PATHS {
+    if path_count(&d) > DOMAIN_PATHS {
         return Err(Fault::refused(alloc, 70, 0, "domain"));
     }
     Ok(d)

@@ -4,7 +4,7 @@ ghost use Rattle.std.specs.Prelude.{◌≡◌, ◌==◌, ◌&&◌, ◌<◌, not,
 ghost use Rattle.fs_interpreter.specs.Meanings.{Grows, IsBit};
 ghost use Rattle.fs_interpreter.specs.Places.{place_in};
 ghost use Rattle.fs_interpreter.specs.States.{AreCells, cell_at};
-ghost use Rattle.order_encode.specs.Missing.{is_file_of, entry_told, wanted_told};
+ghost use Rattle.order_encode.specs.Told.{is_file_of, entry_told, wanted_told};
 
 use fs_interpreter::{Bits, Cells, Table};
 use rh_base::{NoMemory, Text};
@@ -95,7 +95,6 @@ fn is_wanted_at<B: Bits>(
 }
 
 /// Whether the wanted entry is there. A path that the table hasn't is free, and the root has no entry.
-#[tactic(auto, using(fs_interpreter::proofs::SearchLaws::place_below))]
 pub(crate) fn has_wanted<B: Bits>(
     bits: &mut B,
     table: &Table,
