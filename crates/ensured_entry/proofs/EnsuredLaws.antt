@@ -34,8 +34,7 @@ module _ (es : List Program) (order : Relation) (w : Wanted) (budget : ℕ) wher
   unsure_differs n x is = record {
     pruned = is.pruned;
     unsure = tt;
-    differs = is.differs;
-    spent_on_order = is.spent;
+    first = is;
     deterministic = tt;
     alone = tt;
     proved = tt;
@@ -54,8 +53,7 @@ module _ (es : List Program) (order : Relation) (w : Wanted) (budget : ℕ) wher
   unsure_spent n f log is = record {
     pruned = is.pruned;
     unsure = tt;
-    differs = is.differs;
-    spent_on_order = is.spent;
+    first = is;
     deterministic = tt;
     alone = tt;
     proved = tt;
@@ -87,8 +85,7 @@ module _ (es : List Program) (order : Relation) (w : Wanted) (budget : ℕ) wher
     held v end holds refuted succeeds from never failing = record {
       pruned = is.pruned;
       unsure = tt;
-      differs = tt;
-      spent_on_order = tt;
+      first = tt;
       deterministic = is.deterministic;
       alone = alone_by n s is.alone;
       proved = proved_by n s (IsProof es (Told (comes order))) is.proved;
@@ -117,8 +114,7 @@ module _ (es : List Program) (order : Relation) (w : Wanted) (budget : ℕ) wher
     failed x missed = record {
       pruned = is.pruned;
       unsure = tt;
-      differs = tt;
-      spent_on_order = tt;
+      first = tt;
       deterministic = is.deterministic;
       alone = alone_by n s is.alone;
       proved = proved_by n s (IsProof es (Told (comes order))) is.proved;
@@ -139,8 +135,7 @@ module _ (es : List Program) (order : Relation) (w : Wanted) (budget : ℕ) wher
     spent_on a f log spent known = record {
       pruned = is.pruned;
       unsure = tt;
-      differs = tt;
-      spent_on_order = tt;
+      first = tt;
       deterministic = is.deterministic;
       alone = alone_by n s is.alone;
       proved = proved_by n s (IsProof es (Told (comes order))) is.proved;

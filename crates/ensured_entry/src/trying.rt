@@ -54,10 +54,8 @@ fn ends(
     requires { AllByRecursion (λ k. k < length programs.now) order.now }
     ensures { IfOk result (λ told. IsTrue told ↔ IsSome (outcome (map program_of programs.now) order.now tree.now)) }
 {
-    match replay(alloc, programs, order, tree)? {
-        Outcome::Ended(_) => Ok(true),
-        Outcome::Error => Ok(false),
-    }
+    let outcome = replay(alloc, programs, order, tree)?;
+    Ok(matches!(outcome, Outcome::Ended(_)))
 }
 
 /// The first of the trees from which the run ends in one without the entry.
