@@ -2,7 +2,6 @@
 //! succeeds from some tree.
 #![tactic(auto)]
 
-mod answering;
 mod judging;
 mod second;
 mod success;

@@ -12,7 +12,7 @@ ghost use Rattle.order_encode.specs.declared.witness.Witness.{Witness};
 ghost use Rattle.full_verdict.specs.Questions.{StatesEnd, IsEnd};
 ghost use Rattle.full_verdict.specs.Answers.{AnswersEnd};
 
-use crate::answering::{Answer, answer_to};
+use answering::{Answer, answer_to};
 use finite_domain::{domains, shadows};
 use fs_lang::Program;
 use order_encode::{Question, ask_some};

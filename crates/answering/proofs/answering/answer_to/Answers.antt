@@ -4,9 +4,9 @@ use Rattle.cnf.specs.Encoding.{inputs_in}
 use Rattle.cnf.specs.Formulas.{Satisfies, valuation_of}
 use Rattle.sat_solver.specs.Turning.{Finds}
 use Rattle.sat_solver.specs.Working.{IsWorking}
-use Rattle.full_verdict.specs.Answers.{Answers, IsReadFrom, IsRefuted}
-use Rattle.full_verdict.proofs.AnswerLaws.{read, refuted}
-use Rattle.full_verdict.proofs.answering.answer_to.Goals as goal
+use Rattle.answering.specs.Answers.{Answers, IsReadFrom, IsRefuted}
+use Rattle.answering.proofs.AnswerLaws.{read, refuted}
+use Rattle.answering.proofs.answering.answer_to.Goals as goal
 
 pub returns-in-Model : goal.returns-in-Model
 returns-in-Model c =
