@@ -109,7 +109,7 @@ request_for ask workload tasks rows = do
 abbrev pub request_in : List Row → Option Request
 request_in rows = do
   ask ← ask_in (first_of (codes "ask") rows)
-  workload ← taken_number (has task.Judge (ask_row ask).tasks) MOST_WORKLOAD (first_of (codes "workload") rows)
+  workload ← taken_number (has task.Load (ask_row ask).tasks) MOST_WORKLOAD (first_of (codes "workload") rows)
   request_for ask workload (beside workload (ask_row ask).tasks) rows
 
 -- The words are those of the command, and make this request.

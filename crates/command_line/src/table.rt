@@ -1,7 +1,7 @@
 //! The table of requests: a row for each value of `--ask`, one for each file that may be named, and the options.
 
 ghost use Rattle.std.specs.Prelude.{◌≡◌, ◌==◌, ◌<◌, ◌^◌};
-ghost use Rattle.command_line.specs.Table.{reading, compiling, modelling, judging, replaying, has, beside, ask_row, ask_among, ask_named, role_row, limit_of, place, usage_line};
+ghost use Rattle.command_line.specs.Table.{reading, compiling, modelling, judging, rehearsing, replaying, has, beside, ask_row, ask_among, ask_named, role_row, limit_of, place, usage_line};
 
 use crate::size::Size;
 use rh_base::limits::{
@@ -27,6 +27,8 @@ pub enum Ask {
     Check,
     /// A listing of packages in its newest form.
     Migrate,
+    /// Which arrows a manifest lacks.
+    Repair,
 }
 
 /// The files that a request may name.
@@ -57,6 +59,8 @@ pub enum Task {
     Model,
     /// To judge that.
     Judge,
+    /// To judge a workload in place of an input.
+    Load,
     /// To run it over a file tree.
     Replay,
 }
@@ -68,11 +72,12 @@ pub struct Tasks {
     pub compiles: bool,
     pub models: bool,
     pub judges: bool,
+    pub loads: bool,
     pub replays: bool,
 }
 
 /// The values of `--ask`, each of which has a row below.
-const ASKS: [Ask; 8] = [
+const ASKS: [Ask; 9] = [
     Ask::Verify,
     Ask::Proof,
     Ask::Catalog,
@@ -81,6 +86,7 @@ const ASKS: [Ask; 8] = [
     Ask::Replay,
     Ask::Check,
     Ask::Migrate,
+    Ask::Repair,
 ];
 
 /// The files, in the order in which they are read and refusals are looked for. Each has a row below.
@@ -122,6 +128,7 @@ fn reading() -> Tasks
         compiles: false,
         models: false,
         judges: false,
+        loads: false,
         replays: false,
     }
 }
@@ -153,6 +160,15 @@ fn judging() -> Tasks
     tasks
 }
 
+/// That, and to judge a workload in place of an input.
+fn rehearsing() -> Tasks
+    ensures { result ≡ rehearsing }
+{
+    let mut tasks = judging();
+    tasks.loads = true;
+    tasks
+}
+
 /// To say what they do, and to run them.
 fn replaying() -> Tasks
     ensures { result ≡ replaying }
@@ -172,6 +188,7 @@ impl Tasks {
             Task::Compile => self.compiles,
             Task::Model => self.models,
             Task::Judge => self.judges,
+            Task::Load => self.loads,
             Task::Replay => self.replays,
         }
     }
@@ -187,6 +204,7 @@ impl Tasks {
                 compiles: false,
                 models: false,
                 judges: self.judges,
+                loads: false,
                 replays: false,
             },
         }
@@ -202,14 +220,15 @@ impl Ask {
         ensures small { result.2 < 2 ^ 32 }
     {
         match self {
-            Ask::Verify => ("verify", judging(), MANIFEST_BYTES),
-            Ask::Proof => ("proof", judging(), MANIFEST_BYTES),
+            Ask::Verify => ("verify", rehearsing(), MANIFEST_BYTES),
+            Ask::Proof => ("proof", rehearsing(), MANIFEST_BYTES),
             Ask::Catalog => ("catalog", compiling(), MANIFEST_BYTES),
             Ask::Graph => ("graph", compiling(), MANIFEST_BYTES),
             Ask::Programs => ("programs", modelling(), MANIFEST_BYTES),
             Ask::Replay => ("replay", replaying(), MANIFEST_BYTES),
             Ask::Check => ("check", reading(), PROOF_BYTES),
             Ask::Migrate => ("migrate", reading(), LISTING_BYTES),
+            Ask::Repair => ("repair", judging(), MANIFEST_BYTES),
         }
     }
 

@@ -174,7 +174,7 @@ fn request_of(alloc: Global, matches: &ArgMatches<'_>) -> Result<Request, WordsF
     ensures { IsMade (request_in (rows_of (found_of matches.now))) result }
 {
     let ask = ask_of(matches)?;
-    let workload = size(matches, ask.tasks().has(Task::Judge))?;
+    let workload = size(matches, ask.tasks().has(Task::Load))?;
     let tasks = ask.tasks().beside(&workload);
     request_for(alloc, matches, ask, workload, &tasks)
 }
