@@ -17,6 +17,7 @@ use Rattle.orders.specs.Relation.{Relation}
 use Rattle.verdict_report.specs.declared.report.Form.{Form}
 use Rattle.verdict_report.specs.declared.report.Form.TheVariants as form
 use Rattle.verdict_report.specs.Told.{IsTold}
+use Rattle.repair_report.specs.Told.{IsRepairTold}
 use Rattle.verdict_report.specs.declared.report.Report.{Report}
 use Rattle.rehearsal_core.specs.Inputs.{files_of, Requests, RequestsNone, IsHeld, Reports, Refuses, FailsToRead, IsAnswerTo, SaysOf, Says}
 use Rattle.rehearsal_core.specs.declared.run.Ending.{Ending}
@@ -79,6 +80,12 @@ few_told f conflicts names es order report told = elim told.answer [
   | inr (inr (inr spent)) ↦ omega (arith, spent.status)
 ]
 
+few_repaired : (conflicts : Option ℕ) (names : List (List ℕ)) (es : List Program) (order : Relation) (report : Report) → IsRepairTold conflicts names es order report → report.status ≤ 3
+few_repaired conflicts names es order report told = elim told.answer [
+  | inl repaired ↦ omega (arith, repaired.status)
+  | inr spent ↦ omega (arith, spent.status)
+]
+
 -- a report has one of the first statuses
 few : (a : Ask) (conflicts : Option ℕ) (i : Inputs) (report : Report) → IsAnswerTo a conflicts i report → report.status ≤ 3
 few ask.Verify conflicts i report answer = few_told form.Lines conflicts _ _ _ report answer.told
@@ -89,6 +96,7 @@ few ask.Programs conflicts i report answer = omega (arith, answer.told.0)
 few ask.Replay conflicts i report answer = omega (arith, answer.told.0)
 few ask.Check conflicts i report answer = omega (arith, answer.0)
 few ask.Migrate conflicts i report answer = omega (arith, answer.0)
+few ask.Repair conflicts i report answer = few_repaired conflicts _ _ _ report answer.told
 
 has_status : (words : List (String Global)) (held : Option Files) (report : Report) → Reports words held report → report.status ≤ 3
 has_status words held report reports = few reports.on.loaded.ask reports.on.loaded.conflicts reports.on.loaded.inputs report reports.on.says

@@ -79,6 +79,7 @@ IsAnswerTo ask.Programs conflicts i report = IsReport question.Programs i report
 IsAnswerTo ask.Replay conflicts i report = IsReport question.Replay i report
 IsAnswerTo ask.Check conflicts i report = IsPrinted (AreVerified (input_of i)) report
 IsAnswerTo ask.Migrate conflicts i report = IsPrinted (IsMigrated (input_of i)) report
+IsAnswerTo ask.Repair conflicts i report = IsReport (question.Repair conflicts) i report
 
 -- what may be said of what was loaded
 abbrev pub IsAnswer : Loaded → Report → Type 0
@@ -94,6 +95,7 @@ BreaksFor ask.Programs conflicts i r = ReportRefusal question.Programs i r
 BreaksFor ask.Replay conflicts i r = ReportRefusal question.Replay i r
 BreaksFor ask.Check conflicts i r = BreaksProofRule (input_of i) r
 BreaksFor ask.Migrate conflicts i r = BreaksListingRule (input_of i) r
+BreaksFor ask.Repair conflicts i r = ReportRefusal (question.Repair conflicts) i r
 
 -- the first rule that what was loaded breaks
 abbrev pub Breaks : Loaded → Refusal → Type 0

@@ -69,6 +69,7 @@ fn answer(alloc: Global, ask: Ask, conflicts: Option<u64>, inputs: &Inputs) -> R
         Ask::Replay => report_on(alloc, Question::Replay, inputs),
         Ask::Check => checked(alloc, inputs),
         Ask::Migrate => listed(alloc, inputs),
+        Ask::Repair => report_on(alloc, Question::Repair(conflicts), inputs),
     }
 }
 

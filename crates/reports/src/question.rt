@@ -11,4 +11,6 @@ pub enum Question {
     Verdict(Form, Option<u64>),
     /// Their outcome on a file tree.
     Replay,
+    /// The arrows that they lack. Each question has so many conflicts, if a number is given.
+    Repair(Option<u64>),
 }

@@ -10,6 +10,7 @@ ghost use Rattle.reports.specs.Questions.{IsToldOf, HasNoAnswer, IsReport, Repor
 use crate::compiling::catalog_for;
 use crate::programs::program_lines;
 use crate::question::Question;
+use crate::repairs::repaired;
 use crate::replays::replayed;
 use crate::verdicts::judged;
 use catalog::Catalog;
@@ -52,6 +53,7 @@ fn told_of(
             plan,
             programs,
         )?)),
+        Question::Repair(given) => repaired(alloc, given, catalog, plan, programs),
     }
 }
 

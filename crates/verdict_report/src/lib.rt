@@ -8,5 +8,6 @@ mod report;
 mod runs;
 mod telling;
 
+pub use lines::budget_of;
 pub use report::{Form, Report, printed};
 pub use telling::told;

@@ -20,3 +20,12 @@ replayed-requires-clause-count c = c.requires.planned.count
 
 pub replayed-requires-clause-programs : goal.replayed-requires-clause-programs
 replayed-requires-clause-programs c = as_many_lent c.args.inputs.now c.args.known.now c.args.catalog.now c.args.plan.now c.args.programs.now c.requires
+
+pub repaired-requires-clause-count : goal.repaired-requires-clause-count
+repaired-requires-clause-count c = as_many_in_order c.args.inputs.now c.args.known.now c.args.catalog.now c.args.plan.now c.args.programs.now c.requires
+
+pub repaired-requires-clause-many : goal.repaired-requires-clause-many
+repaired-requires-clause-many c = c.requires.planned.count
+
+pub repaired-requires-clause-places : goal.repaired-requires-clause-places
+repaired-requires-clause-places c = are_places c.args.catalog.now c.args.plan.now c.args.plan.now.plain refl c.requires.planned.graph
