@@ -8,4 +8,5 @@ mod success;
 mod verdicts;
 
 pub use judging::judge;
+pub use success::ask_end;
 pub use verdicts::{Asked, Ends, Second, Verdict};

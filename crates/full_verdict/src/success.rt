@@ -39,8 +39,8 @@ fn end_question(alloc: Global, programs: &[Program], order: &Order) -> Result<Qu
     Ok(posed)
 }
 
-/// Asks whether the graph succeeds.
-pub(crate) fn ask_end(
+/// Asks whether a deterministic graph succeeds: the witness of a model is a tree from which the first extension ends in a tree.
+pub fn ask_end(
     alloc: Global,
     programs: &[Program],
     order: &Order,
