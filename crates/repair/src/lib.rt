@@ -1,0 +1,4 @@
+//! Arrows that make a graph of programs deterministic.
+#![tactic(auto)]
+
+mod laws;
