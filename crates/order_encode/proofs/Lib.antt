@@ -10,3 +10,4 @@ pub mod ReadLaws
 pub mod TableLaws
 pub mod ForkLaws
 pub mod PairLaws
+pub mod MissingLaws

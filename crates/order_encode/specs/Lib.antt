@@ -2,3 +2,4 @@ pub mod Goals
 pub mod Asking
 pub mod Asked
 pub mod Witnesses
+pub mod Missing

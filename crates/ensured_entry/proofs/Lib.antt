@@ -1,0 +1,3 @@
+pub mod AnsweringLaws
+pub mod MissingLaws
+pub mod EnsuredLaws

@@ -1,0 +1,5 @@
+pub mod Questions
+pub mod Sizes
+pub mod Tried
+pub mod Ensured
+pub mod Answering

@@ -1,0 +1,15 @@
+//! Whether every run of a graph that ends has a wanted entry: over every file tree and all orders, or a tree and an order whose run
+//! ends without it.
+#![tactic(auto)]
+
+mod answering;
+mod ensured;
+mod ensuring;
+mod missing;
+mod probing;
+mod success;
+mod trying;
+
+pub use ensured::{Ensured, Late};
+pub use ensuring::ensures;
+pub use wanted_entry::Wanted;

@@ -1,0 +1,57 @@
+//! Whether the graph succeeds from some tree.
+
+ghost use Rattle.std.specs.Prelude.{◌≡◌, ◌≤◌, ℕ, Bool, map, length, IfOk};
+ghost use Rattle.fs_semantics.specs.Orders.{Told, IsDeterministic, Succeeds};
+ghost use Rattle.fs_lang.specs.Meaning.{program_of};
+ghost use Rattle.orders.specs.Relation.{comes};
+ghost use Rattle.cnf.specs.Encoding.{inputs_in};
+ghost use Rattle.cnf.specs.Formulas.{Satisfies};
+ghost use Rattle.proof_check.specs.Refuted.{HasNoModel};
+ghost use Rattle.order_encode.specs.Asked.{Shows};
+ghost use Rattle.order_encode.specs.declared.witness.Witness.{Witness};
+ghost use Rattle.full_verdict.specs.Questions.{StatesEnd, IsEnd};
+ghost use Rattle.ensured_entry.specs.Questions.{AnswersEnd};
+
+use crate::answering::{Answer, answer_to};
+use finite_domain::{domains, shadows};
+use fs_lang::Program;
+use order_encode::{Question, ask_some};
+use orders::Order;
+use path_domain::domain;
+use rh_base::NoMemory;
+use std::alloc::Global;
+
+/// The question whether the graph succeeds. Where its formula has no model, it fails from every tree: the programs are
+/// deterministic, so that the first extension stands for all allowed orders.
+fn end_question(alloc: Global, programs: &[Program], order: &Order) -> Result<Question, NoMemory>
+    requires count { length programs.now ≡ order.now.count }
+    requires deterministic { IsDeterministic (map program_of programs.now) (Told (comes order.now)) }
+    ensures states { IfOk result (λ q. StatesEnd (map program_of programs.now) order.now q.formula) }
+    ensures never { IfOk result (λ q. HasNoModel q.formula → Succeeds (map program_of programs.now) (Told (comes order.now)) → ⊥) }
+    ensures models { IfOk result (λ q. (v : ℕ → Bool) → Satisfies v q.formula.clauses → (w : Witness) → Shows q (inputs_in v) w → IsEnd (map program_of programs.now) order.now w) }
+{
+    domains();
+    shadows();
+    // Only that there is one: it stands for all orders.
+    let _first = order.first_extension()?;
+    let d = domain(alloc, programs)?;
+    let posed = ask_some(alloc, programs, order, &d)?;
+    Ok(posed)
+}
+
+/// Asks whether the graph succeeds.
+pub(crate) fn ask_end(
+    alloc: Global,
+    programs: &[Program],
+    order: &Order,
+    budget: u64,
+) -> Result<Answer, NoMemory>
+    requires count { length programs.now ≡ order.now.count }
+    requires budget { 1 ≤ budget }
+    requires deterministic { IsDeterministic (map program_of programs.now) (Told (comes order.now)) }
+    ensures { IfOk result (AnswersEnd (map program_of programs.now) order.now budget) }
+{
+    let question = end_question(alloc, programs, order)?;
+    let found = answer_to(alloc, question, budget)?;
+    Ok(found)
+}
