@@ -14,7 +14,7 @@ use Rattle.command_line.specs.declared.table.Tasks.{Tasks}
 
 -- to read a text
 abbrev pub reading : Tasks
-reading = record { reads = true; compiles = false; models = false; judges = false; loads = false; replays = false }
+reading = record { reads = true; compiles = false; models = false; judges = false; loads = false; replays = false; wants = false }
 
 -- to read a manifest and compile it
 abbrev pub compiling : Tasks
@@ -36,6 +36,10 @@ rehearsing = record judging { loads = true }
 abbrev pub replaying : Tasks
 replaying = record modelling { replays = true }
 
+-- to judge them, and to look for an entry that is wanted
+abbrev pub wanting : Tasks
+wanting = record judging { wants = true }
+
 -- this is among them
 abbrev pub has : Task → Tasks → Bool
 has task.Read t = t.reads
@@ -44,11 +48,12 @@ has task.Model t = t.models
 has task.Judge t = t.judges
 has task.Load t = t.loads
 has task.Replay t = t.replays
+has task.Want t = t.wants
 
 -- those that are left beside a workload, which brings its own manifest and listing: to judge them
 abbrev pub beside : Option ℕ → Tasks → Tasks
 beside None t = t
-beside (Some n) t = record { reads = false; compiles = false; models = false; judges = t.judges; loads = false; replays = false }
+beside (Some n) t = record { reads = false; compiles = false; models = false; judges = t.judges; loads = false; replays = false; wants = false }
 
 -- ---- a row for each value of `--ask`
 
@@ -72,10 +77,11 @@ ask_row ask.Replay = asks_for (codes "replay") replaying MANIFEST_BYTES
 ask_row ask.Check = asks_for (codes "check") reading PROOF_BYTES
 ask_row ask.Migrate = asks_for (codes "migrate") reading LISTING_BYTES
 ask_row ask.Repair = asks_for (codes "repair") judging MANIFEST_BYTES
+ask_row ask.Ensures = asks_for (codes "ensures") wanting MANIFEST_BYTES
 
 -- all of them
 abbrev pub asks : List Ask
-asks = ask.Verify ∷ ask.Proof ∷ ask.Catalog ∷ ask.Graph ∷ ask.Programs ∷ ask.Replay ∷ ask.Check ∷ ask.Migrate ∷ ask.Repair ∷ []
+asks = ask.Verify ∷ ask.Proof ∷ ask.Catalog ∷ ask.Graph ∷ ask.Programs ∷ ask.Replay ∷ ask.Check ∷ ask.Migrate ∷ ask.Repair ∷ ask.Ensures ∷ []
 
 -- the first of these that a word asks for
 abbrev pub ask_among : List Ask → List ℕ → Option Ask
@@ -160,6 +166,8 @@ options =
     ∷ (codes "tree", codes "T")
     ∷ (codes "order", codes "O")
     ∷ (codes "workload", codes "N")
+    ∷ (codes "path", codes "P")
+    ∷ (codes "content", codes "T")
     ∷ (codes "data", codes "D")
     ∷ []
 

@@ -1,7 +1,7 @@
 //! The table of requests: a row for each value of `--ask`, one for each file that may be named, and the options.
 
 ghost use Rattle.std.specs.Prelude.{◌≡◌, ◌==◌, ◌<◌, ◌^◌};
-ghost use Rattle.command_line.specs.Table.{reading, compiling, modelling, judging, rehearsing, replaying, has, beside, ask_row, ask_among, ask_named, role_row, limit_of, place, usage_line};
+ghost use Rattle.command_line.specs.Table.{reading, compiling, modelling, judging, rehearsing, replaying, wanting, has, beside, ask_row, ask_among, ask_named, role_row, limit_of, place, usage_line};
 
 use crate::size::Size;
 use rh_base::limits::{
@@ -29,6 +29,8 @@ pub enum Ask {
     Migrate,
     /// Which arrows a manifest lacks.
     Repair,
+    /// Whether each run of a manifest that ends leaves an entry.
+    Ensures,
 }
 
 /// The files that a request may name.
@@ -63,6 +65,8 @@ pub enum Task {
     Load,
     /// To run it over a file tree.
     Replay,
+    /// To look for an entry that is wanted.
+    Want,
 }
 
 /// What there is to do for a request.
@@ -74,10 +78,11 @@ pub struct Tasks {
     pub judges: bool,
     pub loads: bool,
     pub replays: bool,
+    pub wants: bool,
 }
 
 /// The values of `--ask`, each of which has a row below.
-const ASKS: [Ask; 9] = [
+const ASKS: [Ask; 10] = [
     Ask::Verify,
     Ask::Proof,
     Ask::Catalog,
@@ -87,6 +92,7 @@ const ASKS: [Ask; 9] = [
     Ask::Check,
     Ask::Migrate,
     Ask::Repair,
+    Ask::Ensures,
 ];
 
 /// The files, in the order in which they are read and refusals are looked for. Each has a row below.
@@ -100,7 +106,7 @@ pub(crate) const ROLES: [Role; 6] = [
 ];
 
 /// The options, in the order of the line of usage.
-pub(crate) const OPTIONS: [&str; 9] = [
+pub(crate) const OPTIONS: [&str; 11] = [
     "facts",
     "packages",
     "node",
@@ -109,6 +115,8 @@ pub(crate) const OPTIONS: [&str; 9] = [
     "tree",
     "order",
     "workload",
+    "path",
+    "content",
     "data",
 ];
 
@@ -116,7 +124,7 @@ pub(crate) const OPTIONS: [&str; 9] = [
 pub fn usage_line() -> &'static [u8]
     ensures { result.now ≡ usage_line }
 {
-    b"usage: rehearsal [--facts F] [--packages P] [--node N] [--conflicts C] [--ask A] [--tree T] [--order O] [--workload N] [--data D] [INPUT]\n"
+    b"usage: rehearsal [--facts F] [--packages P] [--node N] [--conflicts C] [--ask A] [--tree T] [--order O] [--workload N] [--path P] [--content T] [--data D] [INPUT]\n"
 }
 
 /// To read a text.
@@ -130,6 +138,7 @@ fn reading() -> Tasks
         judges: false,
         loads: false,
         replays: false,
+        wants: false,
     }
 }
 
@@ -178,6 +187,15 @@ fn replaying() -> Tasks
     tasks
 }
 
+/// To judge them, and to look for an entry that is wanted.
+fn wanting() -> Tasks
+    ensures { result ≡ wanting }
+{
+    let mut tasks = judging();
+    tasks.wants = true;
+    tasks
+}
+
 impl Tasks {
     /// Whether this is among them.
     pub(crate) fn has(&self, task: Task) -> bool
@@ -190,6 +208,7 @@ impl Tasks {
             Task::Judge => self.judges,
             Task::Load => self.loads,
             Task::Replay => self.replays,
+            Task::Want => self.wants,
         }
     }
 
@@ -206,6 +225,7 @@ impl Tasks {
                 judges: self.judges,
                 loads: false,
                 replays: false,
+                wants: false,
             },
         }
     }
@@ -229,6 +249,7 @@ impl Ask {
             Ask::Check => ("check", reading(), PROOF_BYTES),
             Ask::Migrate => ("migrate", reading(), LISTING_BYTES),
             Ask::Repair => ("repair", judging(), MANIFEST_BYTES),
+            Ask::Ensures => ("ensures", wanting(), MANIFEST_BYTES),
         }
     }
 
