@@ -8,7 +8,10 @@ use Rattle.graph_semantics.specs.Graphs.{reference_at}
 use Rattle.dep_graph.specs.declared.answer.Graph.{Graph}
 use Rattle.known_inputs.specs.declared.inputs.Inputs.{Inputs}
 use Rattle.known_inputs.specs.declared.inputs.Known.{Known}
-use Rattle.known_inputs.specs.Inputs.{bytes_of}
+use Rattle.known_inputs.specs.Inputs.{bytes_of, wanted_of}
+use Rattle.wanted_entry.specs.Entries.{probe_of}
+use Rattle.ensured_entry.specs.Sizes.{IsTooLargeWith}
+use Rattle.entry_report.specs.Told.{IsEntryTold}
 use Rattle.command_line.specs.declared.table.Role.TheVariants as role
 use Rattle.reports.specs.declared.question.Question.{Question}
 use Rattle.reports.specs.declared.question.Question.TheVariants as question
@@ -42,6 +45,7 @@ IsToldOf question.Programs i k c g es report = (report.status ≡ 0) × (report.
 IsToldOf (question.Verdict form given) i k c g es report = IsTold form given (names_in c g.plain) es g.order report
 IsToldOf question.Replay i k c g es report = (report.status ≡ 0) × IsReplayed (bytes_of role.Order i) k.tree c g es report.text
 IsToldOf (question.Repair given) i k c g es report = IsRepairTold given (quoted_names_in c g.plain) es g.order report
+IsToldOf (question.Ensures given) i k c g es report = IsEntryTold given (wanted_of i) (names_in c g.plain) es g.order report
 
 -- nothing is told of them, for this reason
 abbrev pub HasNoAnswer : Question → Inputs → Catalog → Graph → List Program → Refusal → Type 0
@@ -49,6 +53,7 @@ HasNoAnswer question.Programs i c g es r = ⊥
 HasNoAnswer (question.Verdict form given) i c g es r = IsTooLarge es r
 HasNoAnswer question.Replay i c g es r = HasNoOrder (bytes_of role.Order i) c g r
 HasNoAnswer (question.Repair given) i c g es r = IsTooLarge es r
+HasNoAnswer (question.Ensures given) i c g es r = IsTooLargeWith es (probe_of (wanted_of i)) r
 
 -- The report on the programs of a manifest's real plain resources, in the order of its graph.
 pub record IsReport (q : Question) (i : Inputs) (report : Report) : Type 0 where

@@ -5,6 +5,7 @@
 mod bytes;
 mod catalogs;
 mod compiling;
+mod entries;
 mod graphs;
 mod programs;
 mod question;

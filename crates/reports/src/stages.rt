@@ -8,6 +8,7 @@ ghost use Rattle.reports.specs.Stages.{IsCompiled, IsPlanned, IsModelled};
 ghost use Rattle.reports.specs.Questions.{IsToldOf, HasNoAnswer, IsReport, ReportRefusal};
 
 use crate::compiling::catalog_for;
+use crate::entries::ensured;
 use crate::programs::program_lines;
 use crate::question::Question;
 use crate::repairs::repaired;
@@ -54,6 +55,10 @@ fn told_of(
             programs,
         )?)),
         Question::Repair(given) => repaired(alloc, given, catalog, plan, programs),
+        Question::Ensures(given) => {
+            let wanted = inputs.wanted(alloc)?;
+            ensured(alloc, given, &wanted, catalog, plan, programs)
+        }
     }
 }
 

@@ -29,3 +29,12 @@ repaired-requires-clause-many c = c.requires.planned.count
 
 pub repaired-requires-clause-places : goal.repaired-requires-clause-places
 repaired-requires-clause-places c = are_places c.args.catalog.now c.args.plan.now c.args.plan.now.plain refl c.requires.planned.graph
+
+pub ensured-requires-clause-count : goal.ensured-requires-clause-count
+ensured-requires-clause-count c = as_many_in_order c.args.inputs.now c.args.known.now c.args.catalog.now c.args.plan.now c.args.programs.now c.requires
+
+pub ensured-requires-clause-many : goal.ensured-requires-clause-many
+ensured-requires-clause-many c = c.requires.planned.count
+
+pub ensured-requires-clause-places : goal.ensured-requires-clause-places
+ensured-requires-clause-places c = are_places c.args.catalog.now c.args.plan.now c.args.plan.now.plain refl c.requires.planned.graph
