@@ -1,5 +1,5 @@
 -- From the report that was written to the headline.
-use Rattle.std.proofs.Common.{◌≡◌, ◌⊎◌, inl, inr, ℕ, Option, Some, refl, sym, subst, ◌∙◌, arith}
+use Rattle.std.proofs.Common.{◌≡◌, ◌⊎◌, inl, inr, ℕ, Option, Some, None, refl, sym, subst, ◌∙◌, arith}
 use Rattle.command_line.specs.declared.table.Ask.{Ask}
 use Rattle.command_line.specs.declared.table.Ask.TheVariants as ask
 use Rattle.command_line.specs.declared.request.Request.{Request}
@@ -11,19 +11,22 @@ use Rattle.verdict_report.specs.declared.report.Form.{Form}
 use Rattle.verdict_report.specs.declared.report.Form.TheVariants as form
 use Rattle.verdict_report.specs.declared.report.Report.{Report}
 use Rattle.verdict_report.specs.Told.{IsUnanswered}
-use Rattle.repair_report.specs.Told.{TellsSpent}
+use Rattle.repair_report.specs.Told as repairs
+use Rattle.entry_report.specs.Told.{TellsSpent}
+use Rattle.known_inputs.specs.Inputs.{wanted_of}
 use Rattle.rehearsal_core.specs.Inputs.{Requests, Reports, IsAnswerTo}
 use Rattle.rehearsal_core.specs.Runs.{Run}
-use Rattle.rehearsal_core.specs.Headline.{ask_for, AsksForVerdict, AsksForRepair, Modelled, IsWell, DependsOnOrder, ChangesAgain, SpendsConflicts, IsMended, SpendsOnRepair, Headline}
+use Rattle.rehearsal_core.specs.Headline.{ask_for, AsksForVerdict, AsksForEntry, AsksForRepair, Modelled, Judged, IsWell, DependsOnOrder, ChangesAgain, SpendsConflicts, LeavesEntry, MissesEntry, SpendsOnEntry, IsMended, SpendsOnRepair, Headline}
 use Rattle.rehearsal_core.specs.Answers.{WritesReport, Tells, Owes, Answers}
 
 -- ---- what a report is about
 
--- a verdict, a repair, or something else, which has status 0
+-- a verdict, an entry that is wanted, a repair, or something else, which has status 0
 data Kind (a : Ask) (conflicts : Option ℕ) (i : Inputs) (report : Report) : Type 0 where
   verdict : (f : Form) → a ≡ ask_for f → IsReport (question.Verdict f conflicts) i report → Kind a conflicts i report
+  entry : a ≡ ask.Ensures → IsReport (question.Ensures conflicts) i report → Kind a conflicts i report
   repair : a ≡ ask.Repair → IsReport (question.Repair conflicts) i report → Kind a conflicts i report
-  other : report.status ≡ 0 → ((f : Form) → a ≡ ask_for f → ⊥) → (a ≡ ask.Repair → ⊥) → Kind a conflicts i report
+  other : report.status ≡ 0 → ((f : Form) → a ≡ ask_for f → ⊥) → (a ≡ ask.Repair → ⊥) → (a ≡ ask.Ensures → ⊥) → Kind a conflicts i report
 
 -- other values of `--ask` than these
 is_other : Ask → Type 0
@@ -36,6 +39,7 @@ is_other ask.Replay = Unit {0}
 is_other ask.Check = Unit {0}
 is_other ask.Migrate = Unit {0}
 is_other ask.Repair = ⊥
+is_other ask.Ensures = ⊥
 
 no_verdict : (a : Ask) → is_other a → (f : Form) → a ≡ ask_for f → ⊥
 no_verdict a h form.Lines e = subst is_other e h
@@ -44,16 +48,20 @@ no_verdict a h form.Proofs e = subst is_other e h
 no_repair : (a : Ask) → is_other a → a ≡ ask.Repair → ⊥
 no_repair a h e = subst is_other e h
 
+no_entry : (a : Ask) → is_other a → a ≡ ask.Ensures → ⊥
+no_entry a h e = subst is_other e h
+
 kind_of : (a : Ask) (conflicts : Option ℕ) (i : Inputs) (report : Report) → IsAnswerTo a conflicts i report → Kind a conflicts i report
 kind_of ask.Verify conflicts i report answer = verdict form.Lines refl answer
 kind_of ask.Proof conflicts i report answer = verdict form.Proofs refl answer
-kind_of ask.Catalog conflicts i report answer = other answer.0 (no_verdict ask.Catalog tt) (no_repair ask.Catalog tt)
-kind_of ask.Graph conflicts i report answer = other answer.0 (no_verdict ask.Graph tt) (no_repair ask.Graph tt)
-kind_of ask.Programs conflicts i report answer = other answer.told.0 (no_verdict ask.Programs tt) (no_repair ask.Programs tt)
-kind_of ask.Replay conflicts i report answer = other answer.told.0 (no_verdict ask.Replay tt) (no_repair ask.Replay tt)
-kind_of ask.Check conflicts i report answer = other answer.0 (no_verdict ask.Check tt) (no_repair ask.Check tt)
-kind_of ask.Migrate conflicts i report answer = other answer.0 (no_verdict ask.Migrate tt) (no_repair ask.Migrate tt)
+kind_of ask.Catalog conflicts i report answer = other answer.0 (no_verdict ask.Catalog tt) (no_repair ask.Catalog tt) (no_entry ask.Catalog tt)
+kind_of ask.Graph conflicts i report answer = other answer.0 (no_verdict ask.Graph tt) (no_repair ask.Graph tt) (no_entry ask.Graph tt)
+kind_of ask.Programs conflicts i report answer = other answer.told.0 (no_verdict ask.Programs tt) (no_repair ask.Programs tt) (no_entry ask.Programs tt)
+kind_of ask.Replay conflicts i report answer = other answer.told.0 (no_verdict ask.Replay tt) (no_repair ask.Replay tt) (no_entry ask.Replay tt)
+kind_of ask.Check conflicts i report answer = other answer.0 (no_verdict ask.Check tt) (no_repair ask.Check tt) (no_entry ask.Check tt)
+kind_of ask.Migrate conflicts i report answer = other answer.0 (no_verdict ask.Migrate tt) (no_repair ask.Migrate tt) (no_entry ask.Migrate tt)
 kind_of ask.Repair conflicts i report answer = repair refl answer
+kind_of ask.Ensures conflicts i report answer = entry refl answer
 
 kind : (run : Run) (report : Report) (reports : Reports run.words run.held report) → Kind reports.on.loaded.ask reports.on.loaded.conflicts reports.on.loaded.inputs report
 kind run report reports = kind_of reports.on.loaded.ask reports.on.loaded.conflicts reports.on.loaded.inputs report reports.on.says
@@ -76,92 +84,153 @@ modelled run report reports a q asked is = record {
 -- words make one request at most, so that a report is on what they ask for
 asked_for : (run : Run) (report : Report) (reports : Reports run.words run.held report) (r : Request) → Requests run.words r → reports.on.loaded.ask ≡ r.ask
 asked_for run report reports r made =
-    let both : ◌≡◌ {A = Option Request} (Some reports.request) (Some r) = sym reports.made.given ∙ made.given in
-    let same : reports.request ≡ r = cc in
+    let both : ◌≡◌ {A = Option Request} (Some (record reports.request { wanted = None })) (Some (record r { wanted = None })) = sym reports.made.given.plain ∙ made.given.plain in
+    let same : ◌≡◌ {A = Request} (record reports.request { wanted = None }) (record r { wanted = None }) = cc in
     reports.on.stands.asked ∙ subst (λ x. reports.request.ask ≡ x.ask) same refl
 
--- no verdict is asked for as a repair
+-- no two of these are asked for at once
 no_verdict_repairs : (f : Form) → ask_for f ≡ ask.Repair → ⊥
 no_verdict_repairs form.Lines e = cc
 no_verdict_repairs form.Proofs e = cc
+
+no_verdict_wants : (f : Form) → ask_for f ≡ ask.Ensures → ⊥
+no_verdict_wants form.Lines e = cc
+no_verdict_wants form.Proofs e = cc
+
+no_repair_wants : ask.Repair ≡ ask.Ensures → ⊥
+no_repair_wants e = cc
+
+-- a verdict that is told, and an entry that is
+module _ (run : Run) (report : Report) (reports : Reports run.words run.held report) where
+  verdict_on : (f : Form) → reports.on.loaded.ask ≡ ask_for f → (answer : IsReport (question.Verdict f reports.on.loaded.conflicts) reports.on.loaded.inputs report) → Judged run
+  verdict_on f is answer = record {
+    ask = ask_for f;
+    form = f;
+    told = inl refl;
+    of = modelled run report reports (ask_for f) (question.Verdict f reports.on.loaded.conflicts) is answer;
+    pruned = answer.told.pruned;
+    count = answer.told.count;
+  }
+
+  entry_on : reports.on.loaded.ask ≡ ask.Ensures → (answer : IsReport (question.Ensures reports.on.loaded.conflicts) reports.on.loaded.inputs report) → Judged run
+  entry_on is answer = record {
+    ask = ask.Ensures;
+    form = form.Lines;
+    told = inr (refl, refl);
+    of = modelled run report reports ask.Ensures (question.Ensures reports.on.loaded.conflicts) is answer;
+    pruned = answer.told.pruned;
+    count = answer.told.count;
+  }
 
 -- ---- what each status promises
 
 well_of : (run : Run) → AsksForVerdict run → WritesReport run 0 → IsWell run
 well_of run asks (report, reports, same, written, left) =
-    let asked = asked_for run report reports asks.0 asks.1 in
+    let asked = asked_for run report reports asks.0 asks.1 ∙ asks.3 in
     elim (kind run report reports) [
-      | verdict f is answer ↦
-          let judged = record { form = f; of = modelled run report reports (ask_for f) (question.Verdict f reports.on.loaded.conflicts) is answer; pruned = answer.told.pruned; count = answer.told.count } in
-          elim answer.told.answer [
-            | inl sure ↦ record { judged = judged; report = report; sure = sure; written = written }
-            | inr (inl different) ↦ absurd (omega (arith, same, different.status))
-            | inr (inr (inl changed)) ↦ absurd (omega (arith, same, changed.status))
-            | inr (inr (inr spent)) ↦ absurd (omega (arith, same, spent.status))
-          ]
-      | repair is answer ↦ absurd (no_verdict_repairs asks.2 (sym asks.3 ∙ sym asked ∙ is))
-      | other zero not_verdict not_repair ↦ absurd (not_verdict asks.2 (asked ∙ asks.3))
+      | verdict f is answer ↦ elim answer.told.answer [
+        | inl sure ↦ record { judged = verdict_on run report reports f is answer; report = report; sure = sure; written = written }
+        | inr (inl different) ↦ absurd (omega (arith, same, different.status))
+        | inr (inr (inl changed)) ↦ absurd (omega (arith, same, changed.status))
+        | inr (inr (inr spent)) ↦ absurd (omega (arith, same, spent.status))
+      ]
+      | entry is answer ↦ absurd (no_verdict_wants asks.2 (sym asked ∙ is))
+      | repair is answer ↦ absurd (no_verdict_repairs asks.2 (sym asked ∙ is))
+      | other zero not_verdict not_repair not_entry ↦ absurd (not_verdict asks.2 asked)
     ]
 
 depends_of : (run : Run) → WritesReport run 1 → DependsOnOrder run
 depends_of run (report, reports, same, written, left) =
     elim (kind run report reports) [
-      | verdict f is answer ↦
-          let judged = record { form = f; of = modelled run report reports (ask_for f) (question.Verdict f reports.on.loaded.conflicts) is answer; pruned = answer.told.pruned; count = answer.told.count } in
-          elim answer.told.answer [
-            | inl sure ↦ absurd (omega (arith, same, sure.status))
-            | inr (inl different) ↦ record { judged = judged; report = report; different = different; written = written }
-            | inr (inr (inl changed)) ↦ absurd (omega (arith, same, changed.status))
-            | inr (inr (inr spent)) ↦ absurd (omega (arith, same, spent.status))
-          ]
+      | verdict f is answer ↦ elim answer.told.answer [
+        | inl sure ↦ absurd (omega (arith, same, sure.status))
+        | inr (inl different) ↦ record { judged = verdict_on run report reports f is answer; report = report; different = different; written = written }
+        | inr (inr (inl changed)) ↦ absurd (omega (arith, same, changed.status))
+        | inr (inr (inr spent)) ↦ absurd (omega (arith, same, spent.status))
+      ]
+      | entry is answer ↦ elim answer.told.answer [
+        | inl held ↦ absurd (omega (arith, same, held.status))
+        | inr (inl different) ↦ record { judged = entry_on run report reports is answer; report = report; different = different; written = written }
+        | inr (inr (inl missed)) ↦ absurd (omega (arith, same, missed.status))
+        | inr (inr (inr (inl spent))) ↦ absurd (omega (arith, same, spent.status))
+        | inr (inr (inr (inr spent))) ↦ absurd (omega (arith, same, spent.status))
+      ]
       | repair is answer ↦ elim answer.told.answer [
         | inl mended ↦ absurd (omega (arith, same, mended.status))
         | inr spent ↦ absurd (omega (arith, same, spent.status))
       ]
-      | other zero not_verdict not_repair ↦ absurd (omega (arith, same, zero))
+      | other zero not_verdict not_repair not_entry ↦ absurd (omega (arith, same, zero))
     ]
 
 changes_of : (run : Run) → WritesReport run 2 → ChangesAgain run
 changes_of run (report, reports, same, written, left) =
     elim (kind run report reports) [
-      | verdict f is answer ↦
-          let judged = record { form = f; of = modelled run report reports (ask_for f) (question.Verdict f reports.on.loaded.conflicts) is answer; pruned = answer.told.pruned; count = answer.told.count } in
-          elim answer.told.answer [
-            | inl sure ↦ absurd (omega (arith, same, sure.status))
-            | inr (inl different) ↦ absurd (omega (arith, same, different.status))
-            | inr (inr (inl changed)) ↦ record { judged = judged; report = report; changed = changed; written = written }
-            | inr (inr (inr spent)) ↦ absurd (omega (arith, same, spent.status))
-          ]
+      | verdict f is answer ↦ elim answer.told.answer [
+        | inl sure ↦ absurd (omega (arith, same, sure.status))
+        | inr (inl different) ↦ absurd (omega (arith, same, different.status))
+        | inr (inr (inl changed)) ↦ record { judged = verdict_on run report reports f is answer; report = report; changed = changed; written = written }
+        | inr (inr (inr spent)) ↦ absurd (omega (arith, same, spent.status))
+      ]
+      | entry is answer ↦ elim answer.told.answer [
+        | inl held ↦ absurd (omega (arith, same, held.status))
+        | inr (inl different) ↦ absurd (omega (arith, same, different.status))
+        | inr (inr (inl missed)) ↦ absurd (omega (arith, same, missed.status))
+        | inr (inr (inr (inl spent))) ↦ absurd (omega (arith, same, spent.status))
+        | inr (inr (inr (inr spent))) ↦ absurd (omega (arith, same, spent.status))
+      ]
       | repair is answer ↦ elim answer.told.answer [
         | inl mended ↦ absurd (omega (arith, same, mended.status))
         | inr spent ↦ absurd (omega (arith, same, spent.status))
       ]
-      | other zero not_verdict not_repair ↦ absurd (omega (arith, same, zero))
+      | other zero not_verdict not_repair not_entry ↦ absurd (omega (arith, same, zero))
     ]
 
-spends_of : (run : Run) → WritesReport run 3 → SpendsConflicts run ⊎ SpendsOnRepair run
+spends_of : (run : Run) → WritesReport run 3 → SpendsConflicts run ⊎ (SpendsOnRepair run ⊎ SpendsOnEntry run)
 spends_of run (report, reports, same, written, left) =
     elim (kind run report reports) [
-      | verdict f is answer ↦
-          let judged = record { form = f; of = modelled run report reports (ask_for f) (question.Verdict f reports.on.loaded.conflicts) is answer; pruned = answer.told.pruned; count = answer.told.count } in
-          elim answer.told.answer [
-            | inl sure ↦ absurd (omega (arith, same, sure.status))
-            | inr (inl different) ↦ absurd (omega (arith, same, different.status))
-            | inr (inr (inl changed)) ↦ absurd (omega (arith, same, changed.status))
-            | inr (inr (inr spent)) ↦
-                inl (record { judged = judged; report = report; unanswered = subst (λ given. IsUnanswered f given answer.programs answer.graph.order answer.told.pruned report) reports.on.stands.conflicts spent; written = written })
-          ]
-      | repair is answer ↦ elim answer.told.answer [
-        | inl mended ↦ absurd (omega (arith, same, mended.status))
-        | inr spent ↦
-            inr (record {
-              of = modelled run report reports ask.Repair (question.Repair reports.on.loaded.conflicts) is answer;
+      | verdict f is answer ↦ elim answer.told.answer [
+        | inl sure ↦ absurd (omega (arith, same, sure.status))
+        | inr (inl different) ↦ absurd (omega (arith, same, different.status))
+        | inr (inr (inl changed)) ↦ absurd (omega (arith, same, changed.status))
+        | inr (inr (inr spent)) ↦
+            inl (record {
+              judged = verdict_on run report reports f is answer;
               report = report;
-              unrepaired = subst (λ given. TellsSpent given answer.programs answer.graph.order report) reports.on.stands.conflicts spent;
+              unanswered = subst (λ given. IsUnanswered f given answer.programs answer.graph.order answer.told.pruned report) reports.on.stands.conflicts spent;
               written = written;
             })
       ]
-      | other zero not_verdict not_repair ↦ absurd (omega (arith, same, zero))
+      | entry is answer ↦ elim answer.told.answer [
+        | inl held ↦ absurd (omega (arith, same, held.status))
+        | inr (inl different) ↦ absurd (omega (arith, same, different.status))
+        | inr (inr (inl missed)) ↦ absurd (omega (arith, same, missed.status))
+        | inr (inr (inr (inl spent))) ↦
+            inl (record {
+              judged = entry_on run report reports is answer;
+              report = report;
+              unanswered = subst (λ given. IsUnanswered form.Lines given answer.programs answer.graph.order answer.told.pruned report) reports.on.stands.conflicts spent;
+              written = written;
+            })
+        | inr (inr (inr (inr spent))) ↦
+            inr (inr (record {
+              judged = entry_on run report reports is answer;
+              asked = refl;
+              report = report;
+              unanswered = subst (λ given. TellsSpent given (wanted_of reports.on.loaded.inputs) answer.programs answer.graph.order answer.told.pruned report) reports.on.stands.conflicts spent;
+              written = written;
+            }))
+      ]
+      | repair is answer ↦ elim answer.told.answer [
+        | inl mended ↦ absurd (omega (arith, same, mended.status))
+        | inr spent ↦
+            inr (inl (record {
+              of = modelled run report reports ask.Repair (question.Repair reports.on.loaded.conflicts) is answer;
+              report = report;
+              unrepaired = subst (λ given. repairs.TellsSpent given answer.programs answer.graph.order report) reports.on.stands.conflicts spent;
+              written = written;
+            }))
+      ]
+      | other zero not_verdict not_repair not_entry ↦ absurd (omega (arith, same, zero))
     ]
 
 mended_of : (run : Run) → AsksForRepair run → WritesReport run 0 → IsMended run
@@ -169,20 +238,62 @@ mended_of run asks (report, reports, same, written, left) =
     let asked = asked_for run report reports asks.0 asks.1 ∙ asks.2 in
     elim (kind run report reports) [
       | verdict f is answer ↦ absurd (no_verdict_repairs f (sym is ∙ asked))
+      | entry is answer ↦ absurd (no_repair_wants (sym asked ∙ is))
       | repair is answer ↦ elim answer.told.answer [
         | inl mended ↦ record { of = modelled run report reports ask.Repair (question.Repair reports.on.loaded.conflicts) is answer; report = report; repaired = mended; written = written }
         | inr spent ↦ absurd (omega (arith, same, spent.status))
       ]
-      | other zero not_verdict not_repair ↦ absurd (not_repair asked)
+      | other zero not_verdict not_repair not_entry ↦ absurd (not_repair asked)
+    ]
+
+leaves_of : (run : Run) → AsksForEntry run → WritesReport run 0 → LeavesEntry run
+leaves_of run asks (report, reports, same, written, left) =
+    let asked = asked_for run report reports asks.0 asks.1 ∙ asks.2 in
+    elim (kind run report reports) [
+      | verdict f is answer ↦ absurd (no_verdict_wants f (sym is ∙ asked))
+      | entry is answer ↦ elim answer.told.answer [
+        | inl held ↦ record { judged = entry_on run report reports is answer; asked = refl; report = report; ensured = held; written = written }
+        | inr (inl different) ↦ absurd (omega (arith, same, different.status))
+        | inr (inr (inl missed)) ↦ absurd (omega (arith, same, missed.status))
+        | inr (inr (inr (inl spent))) ↦ absurd (omega (arith, same, spent.status))
+        | inr (inr (inr (inr spent))) ↦ absurd (omega (arith, same, spent.status))
+      ]
+      | repair is answer ↦ absurd (no_repair_wants (sym is ∙ asked))
+      | other zero not_verdict not_repair not_entry ↦ absurd (not_entry asked)
+    ]
+
+misses_of : (run : Run) → WritesReport run 9 → MissesEntry run
+misses_of run (report, reports, same, written, left) =
+    elim (kind run report reports) [
+      | verdict f is answer ↦ elim answer.told.answer [
+        | inl sure ↦ absurd (omega (arith, same, sure.status))
+        | inr (inl different) ↦ absurd (omega (arith, same, different.status))
+        | inr (inr (inl changed)) ↦ absurd (omega (arith, same, changed.status))
+        | inr (inr (inr spent)) ↦ absurd (omega (arith, same, spent.status))
+      ]
+      | entry is answer ↦ elim answer.told.answer [
+        | inl held ↦ absurd (omega (arith, same, held.status))
+        | inr (inl different) ↦ absurd (omega (arith, same, different.status))
+        | inr (inr (inl missed)) ↦ record { judged = entry_on run report reports is answer; asked = refl; report = report; missed = missed; written = written }
+        | inr (inr (inr (inl spent))) ↦ absurd (omega (arith, same, spent.status))
+        | inr (inr (inr (inr spent))) ↦ absurd (omega (arith, same, spent.status))
+      ]
+      | repair is answer ↦ elim answer.told.answer [
+        | inl mended ↦ absurd (omega (arith, same, mended.status))
+        | inr spent ↦ absurd (omega (arith, same, spent.status))
+      ]
+      | other zero not_verdict not_repair not_entry ↦ absurd (omega (arith, same, zero))
     ]
 
 headline_of : (run : Run) (status : ℕ) → Tells run status → Headline run status
 headline_of run status tells = record {
-  well = λ asks is. well_of run asks (subst (WritesReport run) is (tells.report (omega (arith, is))));
-  depends = λ is. depends_of run (subst (WritesReport run) is (tells.report (omega (arith, is))));
-  changes = λ is. changes_of run (subst (WritesReport run) is (tells.report (omega (arith, is))));
-  spends = λ is. spends_of run (subst (WritesReport run) is (tells.report (omega (arith, is))));
-  mended = λ asks is. mended_of run asks (subst (WritesReport run) is (tells.report (omega (arith, is))));
+  well = λ asks is. well_of run asks (subst (WritesReport run) is (tells.report (inl (omega (arith, is)))));
+  depends = λ is. depends_of run (subst (WritesReport run) is (tells.report (inl (omega (arith, is)))));
+  changes = λ is. changes_of run (subst (WritesReport run) is (tells.report (inl (omega (arith, is)))));
+  spends = λ is. spends_of run (subst (WritesReport run) is (tells.report (inl (omega (arith, is)))));
+  mended = λ asks is. mended_of run asks (subst (WritesReport run) is (tells.report (inl (omega (arith, is)))));
+  leaves = λ asks is. leaves_of run asks (subst (WritesReport run) is (tells.report (inl (omega (arith, is)))));
+  misses = λ is. misses_of run (subst (WritesReport run) is (tells.report (inr is)));
 }
 
 -- what is told has the headline

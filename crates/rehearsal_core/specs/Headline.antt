@@ -15,7 +15,10 @@ use Rattle.verdict_report.specs.declared.report.Form.{Form}
 use Rattle.verdict_report.specs.declared.report.Form.TheVariants as form
 use Rattle.verdict_report.specs.declared.report.Report.{Report}
 use Rattle.verdict_report.specs.Told.{IsSure, IsDifferent, IsChanged, IsUnanswered}
-use Rattle.repair_report.specs.Told.{TellsArrows, TellsSpent}
+use Rattle.repair_report.specs.Told as repairs
+use Rattle.repair_report.specs.Told.{TellsArrows}
+use Rattle.entry_report.specs.Told.{TellsEnsured, TellsMissed, TellsSpent}
+use Rattle.known_inputs.specs.Inputs.{wanted_of}
 use Rattle.rehearsal_core.specs.declared.inputs.Loaded.{Loaded}
 use Rattle.rehearsal_core.specs.Inputs.{Requests, IsLoaded}
 use Rattle.rehearsal_core.specs.Runs.{Run, Appends}
@@ -28,6 +31,14 @@ ask_for form.Proofs = ask.Proof
 -- the words ask for a verdict
 abbrev pub AsksForVerdict : Run → Type 0
 AsksForVerdict run = (request : Request) × Requests run.words request × (f : Form) × (request.ask ≡ ask_for f)
+
+-- this value of `--ask` asks for the order of a graph, and has it told in this form
+abbrev pub AsksInForm : Ask → Form → Type 0
+AsksInForm a f = (a ≡ ask_for f) ⊎ ((a ≡ ask.Ensures) × (f ≡ form.Lines))
+
+-- the words ask for an entry that is wanted
+abbrev pub AsksForEntry : Run → Type 0
+AsksForEntry run = (request : Request) × Requests run.words request × (request.ask ≡ ask.Ensures)
 
 -- the words ask for a repair
 abbrev pub AsksForRepair : Run → Type 0
@@ -47,10 +58,12 @@ pub record Modelled (run : Run) (a : Ask) : Type 0 where
   pub programs : List Program
   pub modelled : IsModelled loaded.inputs known catalog graph programs
 
--- What is judged. The words ask for a verdict on this, of which pruning leaves aside so many.
+-- What is judged. The words ask so about this, of which pruning leaves aside so many, and have it told in this form.
 pub record Judged (run : Run) : Type 0 where
+  pub ask : Ask
   pub form : Form
-  pub of : Modelled run (ask_for form)
+  pub told : AsksInForm ask form
+  pub of : Modelled run ask
   pub pruned : ℕ
   pub count : IsPrunedCount of.programs (Comes of.graph.order) pruned
 
@@ -88,6 +101,32 @@ pub record SpendsConflicts (run : Run) : Type 0 where
   pub unanswered : IsUnanswered judged.form judged.of.request.conflicts judged.of.programs judged.of.graph.order judged.pruned report
   pub written : Appends report.text run.out
 
+-- Status 0 of an entry that is wanted: from every file tree all allowed orders end alike, and each that ends leaves the entry.
+pub record LeavesEntry (run : Run) : Type 0 where
+  pub judged : Judged run
+  pub asked : judged.ask ≡ ask.Ensures
+  pub report : Report
+  pub ensured : TellsEnsured (wanted_of judged.of.loaded.inputs) judged.of.programs judged.of.graph.order judged.pruned report
+  pub written : Appends report.text run.out
+
+-- Status 9: from every file tree all allowed orders end alike; but from the tree that is told the order that is told, which is allowed,
+-- ends in the tree that is told, without the entry that is wanted.
+pub record MissesEntry (run : Run) : Type 0 where
+  pub judged : Judged run
+  pub asked : judged.ask ≡ ask.Ensures
+  pub report : Report
+  pub missed : TellsMissed (wanted_of judged.of.loaded.inputs) (names_of judged) judged.of.programs judged.of.graph.order judged.pruned report
+  pub written : Appends report.text run.out
+
+-- Status 3 behind `deterministic`: the conflicts that the words give were spent on whether each run leaves the entry, or whether any
+-- ends.
+pub record SpendsOnEntry (run : Run) : Type 0 where
+  pub judged : Judged run
+  pub asked : judged.ask ≡ ask.Ensures
+  pub report : Report
+  pub unanswered : TellsSpent judged.of.request.conflicts (wanted_of judged.of.loaded.inputs) judged.of.programs judged.of.graph.order judged.pruned report
+  pub written : Appends report.text run.out
+
 -- Status 0 of a repair: with the arrows that are told, every file tree has one outcome whatever the order; none of them can be left
 -- out; and they point the way that succeeds.
 pub record IsMended (run : Run) : Type 0 where
@@ -100,13 +139,16 @@ pub record IsMended (run : Run) : Type 0 where
 pub record SpendsOnRepair (run : Run) : Type 0 where
   pub of : Modelled run ask.Repair
   pub report : Report
-  pub unrepaired : TellsSpent of.request.conflicts of.programs of.graph.order report
+  pub unrepaired : repairs.TellsSpent of.request.conflicts of.programs of.graph.order report
   pub written : Appends report.text run.out
 
--- What each status promises. Other questions than a verdict and a repair have no other status than 0.
+-- What each status promises. 1 comes of a verdict or an entry that is wanted, 2 of a verdict, 3 of these and of a repair, 9 of an
+-- entry; other questions have no other status than 0.
 pub record Headline (run : Run) (status : ℕ) : Type 0 where
   pub well : AsksForVerdict run → status ≡ 0 → IsWell run
   pub depends : status ≡ 1 → DependsOnOrder run
   pub changes : status ≡ 2 → ChangesAgain run
-  pub spends : status ≡ 3 → SpendsConflicts run ⊎ SpendsOnRepair run
+  pub spends : status ≡ 3 → SpendsConflicts run ⊎ (SpendsOnRepair run ⊎ SpendsOnEntry run)
   pub mended : AsksForRepair run → status ≡ 0 → IsMended run
+  pub leaves : AsksForEntry run → status ≡ 0 → LeavesEntry run
+  pub misses : status ≡ 9 → MissesEntry run
