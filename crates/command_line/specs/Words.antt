@@ -115,10 +115,10 @@ request_in rows = do
   request_for ask workload (beside workload (ask_row ask).tasks) rows
 
 -- the entry stands at the path that the text names, which isn't the root, and has this content, if one is given
-pub record IsEntryAt (path : Text) (content : Option Text) (w : Wanted) : Type 0 where
-  pub names : IsPathText path w.path
+pub record IsEntryAt (text : Text) (held : Option Text) (w : Wanted) : Type 0 where
+  pub names : IsPathText text w.path
   pub below : w.path ≢ []
-  pub content : w.content ≡ content
+  pub holds : w.content ≡ held
 
 -- the entry that is wanted by a path and a content, which may be given, or may not
 abbrev pub IsWanted : Bool → Option Text → Option Text → Option Wanted → Type 0
