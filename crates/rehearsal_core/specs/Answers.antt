@@ -3,6 +3,7 @@ use Rattle.std.specs.Prelude.{◌≡◌, ◌≢◌, ◌⊎◌, ◌≤◌, ℕ, L
 use Rattle.std.specs.Fmt.{decimal}
 use Rattle.rh_base.specs.declared.fault.Refusal.{Refusal}
 use Rattle.rh_base.specs.Causes.{Rose}
+use Rattle.printed_names.specs.Printed.{printed}
 use Rattle.command_line.specs.Table.{usage_line}
 use Rattle.verdict_report.specs.declared.report.Report.{Report}
 use Rattle.rehearsal_core.specs.Runs.{Run, Put, Appends, AppendsFront, IsLeft, IsSound, HasFailed}
@@ -11,13 +12,13 @@ use Rattle.rehearsal_core.specs.Inputs.{RequestsNone, IsHeld, Reports, Refuses, 
 
 -- ---- lines
 
--- a refusal: its number, its place in the text, and its name
+-- a refusal: its number, its place in the text, and its name, without control characters
 abbrev pub refusal_line : Refusal → List ℕ
-refusal_line r = codes "refused " ++ (decimal r.number ++ (codes " at " ++ (decimal r.at ++ (codes ": " ++ (r.name ++ codes "\n")))))
+refusal_line r = codes "refused " ++ (decimal r.number ++ (codes " at " ++ (decimal r.at ++ (codes ": " ++ (printed r.name ++ codes "\n")))))
 
 -- a file couldn't be read
 abbrev pub read_fault_line : List ℕ → List ℕ
-read_fault_line name = codes "read fault: " ++ (name ++ codes "\n")
+read_fault_line name = codes "read fault: " ++ (printed name ++ codes "\n")
 
 -- a write failed
 abbrev pub write_fault_line : List ℕ
