@@ -14,7 +14,9 @@ use crate::question::Question;
 use crate::repairs::repaired;
 use crate::replays::replayed;
 use crate::verdicts::judged;
+use allowed_order::plain_resources_are_told_apart;
 use catalog::Catalog;
+use catalog_semantics::{catalogs_are_sound, references_stand_once};
 use command_line::Role;
 use dep_graph::{Graph, graph};
 use fs_lang::Program;
@@ -38,6 +40,9 @@ fn told_of(
     ensures told { IfOk result (IsToldOf question inputs.now known.now catalog.now plan.now (map program_of programs.now)) }
     ensures refused { IfErr result (λ e. IfRefused e (HasNoAnswer question inputs.now catalog.now plan.now (map program_of programs.now))) }
 {
+    catalogs_are_sound();
+    references_stand_once();
+    plain_resources_are_told_apart();
     match question {
         Question::Programs => Ok(printed(program_lines(
             alloc,
