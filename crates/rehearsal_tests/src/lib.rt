@@ -20,6 +20,8 @@ mod migrate;
 #[cfg(test)]
 mod proofs;
 #[cfg(test)]
+mod repairs;
+#[cfg(test)]
 mod second_runs;
 #[cfg(test)]
 mod sizes;

@@ -1,0 +1,4 @@
+pub mod RunLaws
+pub mod ArrowLaws
+pub mod StubLaws
+pub mod WithLaws

@@ -1,0 +1,6 @@
+pub mod Arrows
+pub mod Repairs
+pub mod Missing
+pub mod Answers
+pub mod Steps
+pub mod Stub
