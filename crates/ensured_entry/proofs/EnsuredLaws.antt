@@ -9,8 +9,10 @@ use Rattle.cnf.specs.Formulas.{Formula}
 use Rattle.cnf.specs.declared.log.Log.{Log}
 use Rattle.proof_check.specs.Refuted.{Refutation}
 use Rattle.order_encode.specs.declared.witness.Witness.{Witness}
+use Rattle.order_encode.specs.declared.witness.Witness.TheVariants as witness
 use Rattle.judgement.specs.First.{IsProof, IsAlone, IfProved}
-use Rattle.judgement.specs.Answers.{UsesUp, IsJudged}
+use Rattle.answering.specs.Answers.{UsesUp}
+use Rattle.judgement.specs.Answers.{IsJudged}
 use Rattle.judgement.specs.declared.first.First.TheVariants as first
 use Rattle.judgement.specs.declared.first.Sure.{Sure}
 use Rattle.judgement.specs.declared.first.Sure.TheVariants as sure
@@ -18,14 +20,20 @@ use Rattle.full_verdict.specs.declared.verdicts.Ends.{Ends}
 use Rattle.full_verdict.specs.declared.verdicts.Ends.TheVariants as ends
 use Rattle.full_verdict.specs.Questions.{StatesEnd, IsEndProof, IsEnd}
 use Rattle.full_verdict.specs.Verdicts.{IsByPruning, IfByProof}
-use Rattle.full_verdict.proofs.EndLaws.{succeeds}
 use Rattle.wanted_entry.specs.declared.wanted.Wanted.{Wanted}
 use Rattle.wanted_entry.specs.Entries.{Ensures}
 use Rattle.ensured_entry.specs.declared.ensured.Late.{Late}
 use Rattle.ensured_entry.specs.declared.ensured.Late.TheVariants as late
 use Rattle.ensured_entry.specs.declared.ensured.Ensured.TheVariants as ensured
 use Rattle.ensured_entry.specs.Questions.{StatesMissing, IsEntryProof, IsMissed}
+use Rattle.ensured_entry.proofs.MissingLaws.{allowed}
 use Rattle.ensured_entry.specs.Ensured.{IfFrom, IfNever, IsSpentOn, IsKnownBefore, IsEnsured}
+
+-- a run that ends in a tree
+succeeds : (es : List Program) (order : Relation) → length es ≡ order.count → (x : Witness) → IsEnd es order x → Succeeds es (Told (comes order))
+succeeds es order long (witness.Orders tree left right) h = absurd h
+succeeds es order long (witness.Twice tree first) h = absurd h
+succeeds es order long (witness.Ends tree first) h = record { tree = tree; is_tree = h.1; order = first; allowed = allowed es order first long h.0; ends = h.2 }
 
 module _ (es : List Program) (order : Relation) (w : Wanted) (budget : ℕ) where
   -- ---- what the question of order answered
@@ -34,7 +42,8 @@ module _ (es : List Program) (order : Relation) (w : Wanted) (budget : ℕ) wher
   unsure_differs n x is = record {
     pruned = is.pruned;
     unsure = tt;
-    first = is;
+    differs = is.differs;
+    spent_on_order = is.spent;
     deterministic = tt;
     alone = tt;
     proved = tt;
@@ -53,7 +62,8 @@ module _ (es : List Program) (order : Relation) (w : Wanted) (budget : ℕ) wher
   unsure_spent n f log is = record {
     pruned = is.pruned;
     unsure = tt;
-    first = is;
+    differs = is.differs;
+    spent_on_order = is.spent;
     deterministic = tt;
     alone = tt;
     proved = tt;
@@ -85,7 +95,8 @@ module _ (es : List Program) (order : Relation) (w : Wanted) (budget : ℕ) wher
     held v end holds refuted succeeds from never failing = record {
       pruned = is.pruned;
       unsure = tt;
-      first = tt;
+      differs = tt;
+      spent_on_order = tt;
       deterministic = is.deterministic;
       alone = alone_by n s is.alone;
       proved = proved_by n s (IsProof es (Told (comes order))) is.proved;
@@ -114,7 +125,8 @@ module _ (es : List Program) (order : Relation) (w : Wanted) (budget : ℕ) wher
     failed x missed = record {
       pruned = is.pruned;
       unsure = tt;
-      first = tt;
+      differs = tt;
+      spent_on_order = tt;
       deterministic = is.deterministic;
       alone = alone_by n s is.alone;
       proved = proved_by n s (IsProof es (Told (comes order))) is.proved;
@@ -135,7 +147,8 @@ module _ (es : List Program) (order : Relation) (w : Wanted) (budget : ℕ) wher
     spent_on a f log spent known = record {
       pruned = is.pruned;
       unsure = tt;
-      first = tt;
+      differs = tt;
+      spent_on_order = tt;
       deterministic = is.deterministic;
       alone = alone_by n s is.alone;
       proved = proved_by n s (IsProof es (Told (comes order))) is.proved;

@@ -1,4 +1,3 @@
-pub mod AnsweringLaws
 pub mod ProbingLaws
 pub mod RunLaws
 pub mod MissingLaws

@@ -8,8 +8,8 @@ use Rattle.cnf.specs.Formulas.{Formula}
 use Rattle.cnf.specs.declared.log.Step.{Step}
 use Rattle.order_encode.specs.declared.witness.Witness.{Witness}
 use Rattle.judgement.specs.First as order_question
-use Rattle.judgement.specs.First.{IsPrunedCount, IsProof}
-use Rattle.judgement.specs.Answers.{UsesUp, IsJudged}
+use Rattle.judgement.specs.First.{IsPrunedCount, IsProof, IsSpent, IsDifference, IfDiffers, IfSpent}
+use Rattle.answering.specs.Answers.{UsesUp}
 use Rattle.judgement.specs.declared.first.Sure.{Sure}
 use Rattle.judgement.specs.declared.first.First.{First}
 use Rattle.judgement.specs.declared.first.First.TheVariants as first
@@ -104,7 +104,8 @@ IsKnownBefore es order w late.Succeeds = Ensures es (Told (comes order)) w
 pub record IsEnsured (es : List Program) (order : Relation) (w : Wanted) (budget : ℕ) (e : Ensured) : Type 0 where
   pub pruned : IsPrunedCount es (Told (comes order)) (pruned_in e)
   pub unsure : IfFirst e IsUnsure
-  pub first : IfFirst e (IsJudged es order budget)
+  pub differs : IfFirst e (λ f. IfDiffers f (IsDifference es (Told (comes order))))
+  pub spent_on_order : IfFirst e (λ f. IfSpent f (IsSpent es (Told (comes order)) budget))
   pub deterministic : IfSure e (λ s. IsDeterministic es (Told (comes order)))
   pub alone : IfSure e (λ s. IsByPruning s ↔ Keeps es (Told (comes order)) [])
   pub proved : IfSure e (λ s. IfByProof s (IsProof es (Told (comes order))))

@@ -2,4 +2,3 @@ pub mod Questions
 pub mod Sizes
 pub mod Tried
 pub mod Ensured
-pub mod Answering

@@ -1,7 +1,7 @@
 -- The question whether a run of a deterministic graph ends without the wanted entry, and what its formula and its witness say.
 use Rattle.std.specs.Prelude.{◌↔◌, ℕ, List, [], ◌∷◌, ◌++◌}
 use Rattle.fs_semantics.specs.Programs.{Program}
-use Rattle.fs_semantics.specs.Orders.{Told, Succeeds}
+use Rattle.fs_semantics.specs.Orders.{Told}
 use Rattle.finite_domain.specs.Layouts.{IsLayout}
 use Rattle.path_domain.specs.declared.listed.Domain.{Domain}
 use Rattle.path_domain.specs.Laid.{layout_of}
@@ -11,11 +11,10 @@ use Rattle.proof_check.specs.Refuted.{HasNoModel}
 use Rattle.order_encode.specs.Missing.{HasMissing}
 use Rattle.order_encode.specs.declared.witness.Witness.{Witness}
 use Rattle.order_encode.specs.declared.witness.Witness.TheVariants as witness
-use Rattle.full_verdict.specs.Questions.{StatesEnd, IsEnd}
+use Rattle.answering.specs.declared.answering.Answer.{Answer}
+use Rattle.answering.specs.Answers.{AnswersBy}
 use Rattle.wanted_entry.specs.declared.wanted.Wanted.{Wanted}
 use Rattle.wanted_entry.specs.Entries.{Ensures, EndsWithout, probe_of}
-use Rattle.ensured_entry.specs.declared.answering.Answer.{Answer}
-use Rattle.ensured_entry.specs.Answering.{AnswersBy}
 
 -- The formula states whether a run ends without the entry: it can be true exactly where the first extension ends, from some tree
 -- over the domain of the programs and the probe, in a tree without it.
@@ -36,7 +35,3 @@ IsMissed es order w (witness.Ends tree first) = EndsWithout es (Comes order) w t
 -- what comes of it
 abbrev pub AnswersMissing : List Program → Relation → Wanted → ℕ → Answer → Type 0
 AnswersMissing es order w budget a = AnswersBy (StatesMissing es order w) (Ensures es (Told (comes order)) w) (IsMissed es order w) budget a
-
--- what comes of the question whether the graph succeeds
-abbrev pub AnswersEnd : List Program → Relation → ℕ → Answer → Type 0
-AnswersEnd es order budget a = AnswersBy (StatesEnd es order) (Succeeds es (Told (comes order)) → ⊥) (IsEnd es order) budget a

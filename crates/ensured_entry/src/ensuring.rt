@@ -10,7 +10,7 @@ ghost use Rattle.path_domain.specs.Laid.{layout_of};
 ghost use Rattle.orders.specs.Relation.{comes};
 ghost use Rattle.commute_prune.specs.Keeping.{Keeps};
 ghost use Rattle.verdict.specs.Limits.{HasFewPaths, IsLight};
-ghost use Rattle.judgement.specs.First.{IsPrunedCount, IsProof};
+ghost use Rattle.judgement.specs.First.{IsPrunedCount, IsProof, IsSpent, IsDifference, IfDiffers, IfSpent};
 ghost use Rattle.judgement.specs.Answers.{IsJudged};
 ghost use Rattle.judgement.specs.declared.first.First.TheVariants as first;
 ghost use Rattle.full_verdict.specs.Questions.{IsEndProof, IsEnd};
@@ -20,14 +20,13 @@ ghost use Rattle.ensured_entry.specs.Sizes.{IsTooLargeWith};
 ghost use Rattle.ensured_entry.specs.Questions.{IsEntryProof, IsMissed};
 ghost use Rattle.ensured_entry.specs.Ensured.{pruned_in, IsUnsure, IfFirst, IfSure, IfHolds, IfFails, IfFrom, IfNever, IfSpentOn, IsSpentOn, IsKnownBefore, IsEnsured};
 
-use crate::answering::Answer;
 use crate::ensured::{Ensured, Late};
 use crate::missing::ask_run;
 use crate::probing::probed_domain;
-use crate::success::ask_end;
 use crate::trying::{Tried, try_runs};
+use answering::Answer;
 use fs_lang::Program;
-use full_verdict::Ends;
+use full_verdict::{Ends, ask_end};
 use judgement::{First, Sure, judge_order};
 use order_encode::Witness;
 use orders::Order;
@@ -266,7 +265,8 @@ pub fn judge_entry(
     // What is answered to the question of order is what `judge_order` answers.
     ensures pruned { IfOk result (λ e. IsPrunedCount (map program_of programs.now) (Told (comes order.now)) (pruned_in e)) }
     ensures unsure { IfOk result (λ e. IfFirst e IsUnsure) }
-    ensures first { IfOk result (λ e. IfFirst e (IsJudged (map program_of programs.now) order.now budget)) }
+    ensures differs { IfOk result (λ e. IfFirst e (λ f. IfDiffers f (IsDifference (map program_of programs.now) (Told (comes order.now))))) }
+    ensures spent_on_order { IfOk result (λ e. IfFirst e (λ f. IfSpent f (IsSpent (map program_of programs.now) (Told (comes order.now)) budget))) }
     ensures deterministic { IfOk result (λ e. IfSure e (λ sure. IsDeterministic (map program_of programs.now) (Told (comes order.now)))) }
     ensures alone { IfOk result (λ e. IfSure e (λ sure. IsByPruning sure ↔ Keeps (map program_of programs.now) (Told (comes order.now)) [])) }
     ensures proved { IfOk result (λ e. IfSure e (λ sure. IfByProof sure (IsProof (map program_of programs.now) (Told (comes order.now))))) }

@@ -2,12 +2,10 @@
 //! ends without it.
 #![tactic(auto)]
 
-mod answering;
 mod ensured;
 mod ensuring;
 mod missing;
 mod probing;
-mod success;
 mod trying;
 
 pub use ensured::{Ensured, Late};

@@ -15,7 +15,7 @@ ghost use Rattle.order_encode.specs.declared.witness.Witness.{Witness};
 ghost use Rattle.wanted_entry.specs.Entries.{probe_of, Ensures};
 ghost use Rattle.ensured_entry.specs.Questions.{StatesMissing, IsMissed, AnswersMissing};
 
-use crate::answering::{Answer, answer_to};
+use answering::{Answer, answer_to};
 use finite_domain::domains;
 use fs_lang::Program;
 use order_encode::{Question, ask_missing};

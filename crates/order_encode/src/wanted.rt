@@ -69,10 +69,10 @@ fn is_file_of<B: Bits>(
     ensures gives { IfOk result (IsBit (B.meanings bits.new) (λ v. entry_told table.now.contents (Some content.now) (cell_at (B.meanings bits.old) v cells.now i))) }
     ensures grows { Grows (B.meanings bits.old) (B.meanings bits.new) }
 {
-    match table.number(content) {
-        Some(n) => is_file_with(bits, cells, i, n),
-        None => bits.constant(false),
-    }
+    let Some(n) = table.number(content) else {
+        return bits.constant(false);
+    };
+    is_file_with(bits, cells, i, n)
 }
 
 /// Whether the wanted entry stands at the place.
