@@ -99,7 +99,13 @@ fn told_of(
 ) -> Result<String, Fail> {
     let all = programs(alloc, words)?;
     let order = Order::from_edges(alloc, u32::try_from(all.len())?, edges)?;
-    told(alloc, all.as_slice(), &order, &wanted(alloc, entry)?, budget)
+    told(
+        alloc,
+        all.as_slice(),
+        &order,
+        &wanted(alloc, entry)?,
+        budget,
+    )
 }
 
 /// Makes sure of /etc/motd with the content hi.
@@ -136,8 +142,18 @@ fn entries_of_one_program(rt: HostRuntime) -> Result<(), Fail> {
 fn entries_of_graphs(rt: HostRuntime) -> Result<(), Fail> {
     let rows: [(&str, &[(u32, u32)], &str, &str); 5] = [
         // not deterministic, so nothing is said of the entry
-        ("dir /etc | put /etc/a x", &[], "/etc/a", "not deterministic"),
-        ("dir /etc | put /etc/a x", &[(0, 1)], "/etc/a x", "ensured, succeeds"),
+        (
+            "dir /etc | put /etc/a x",
+            &[],
+            "/etc/a",
+            "not deterministic",
+        ),
+        (
+            "dir /etc | put /etc/a x",
+            &[(0, 1)],
+            "/etc/a x",
+            "ensured, succeeds",
+        ),
         ("put /a x | drop /a", &[(0, 1)], "/a", "not ensured"),
         ("drop /a | put /a x", &[(0, 1)], "/a x", "ensured, succeeds"),
         ("mkdir /a | mkdir /a", &[(0, 1)], "/b", "ensured, fails"),
@@ -149,14 +165,20 @@ fn entries_of_graphs(rt: HostRuntime) -> Result<(), Fail> {
     Ok(())
 }
 
+/// Where /a is a file, /x goes and comes back. The budget of one step is spent on the question, since neither case is sure.
+const GOES_AND_COMES: &str =
+    "if none? /t: id, err | put /x 1 | if file? /a and file? /x: creat /t 1, id | if file? /a and none? /x: creat /x 1, id | if file? /t: rm /x, id | if file? /t: rm /t, id | if file? /a and file? /x: creat /t 1, id | if file? /a and none? /x: creat /x 1, id | if file? /t: rm /x, id | if file? /t: rm /t, id";
+
 #[test]
 fn spent_budgets(rt: HostRuntime) -> Result<(), Fail> {
-    let rows: [(&str, &[(u32, u32)], &str, &str); 1] = [
-        ("if file? /m or file? /n: creat /a x, err", &[], "/a x", "spent ensures"),
-    ];
-    for (words, edges, entry, want) in rows {
-        let got = told_of(rt.alloc(), words, edges, entry, 1)?;
-        assert_eq!(rt; got.as_str(), want, "{words}, {entry}");
+    let alloc = rt.alloc();
+    let mut edges = Vec::new(alloc);
+    for k in 0..9u32 {
+        edges.push((k, k + 1))?;
+    }
+    for (budget, want) in [(1, "spent ensures"), (u64::MAX, "ensured, succeeds")] {
+        let got = told_of(alloc, GOES_AND_COMES, edges.as_slice(), "/x", budget)?;
+        assert_eq!(rt; got.as_str(), want, "{budget}");
     }
     Ok(())
 }
@@ -165,7 +187,13 @@ fn spent_budgets(rt: HostRuntime) -> Result<(), Fail> {
 fn told_in_turn(alloc: Global, count: u32, entry: &str) -> Result<String, Fail> {
     let all = vec![in alloc; in_turn(alloc, count)?]?;
     let order = Order::from_edges(alloc, 1, &[])?;
-    told(alloc, all.as_slice(), &order, &wanted(alloc, entry)?, u64::MAX)
+    told(
+        alloc,
+        all.as_slice(),
+        &order,
+        &wanted(alloc, entry)?,
+        u64::MAX,
+    )
 }
 
 #[test]
