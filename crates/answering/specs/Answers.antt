@@ -1,5 +1,6 @@
 -- What comes of a question.
-use Rattle.std.specs.Prelude.{◌≡◌, ℕ, ◌^◌, ◌-◌, Bool, List, length, sym, subst}
+use Rattle.std.specs.Prelude.{◌≡◌, ℕ, ◌^◌, ◌-◌, Bool, List, length}
+use Rattle.std.proofs.Common.{sym, subst}
 use Rattle.cnf.specs.Encoding.{inputs_in}
 use Rattle.cnf.specs.Formulas.{Formula, Satisfies}
 use Rattle.cnf.specs.declared.log.Step.{Step}
