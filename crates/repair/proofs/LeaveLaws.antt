@@ -1,5 +1,5 @@
 -- Arrows that are left out, one by one.
-use Rattle.std.proofs.Common.{◌≡◌, ◌≢◌, inl, inr, ℕ, List, [], ◌∷◌, ◌++◌, length, get_or, refl, sym, ap, ◌∙◌, subst, append_assoc, append_nil}
+use Rattle.std.proofs.Common.{◌≡◌, ◌≢◌, inl, inr, ℕ, List, [], ◌∷◌, ◌++◌, length, get_or, refl, sym, ap, ◌∙◌, subst, append_assoc, append-nil}
 use Rattle.std.specs.Prelude.{◌↔◌}
 use Rattle.std.specs.List.{All, Contains}
 use Rattle.std.proofs.lemmas.List.Elements.{All-append, All-contains, All-contains_itself, Contains-append_left, Contains-append_right, Contains-get_or}
@@ -71,7 +71,7 @@ module _ (es : List Program) (order : Relation) where
     among = All-contains_itself (rest ++ arrow ∷ []);
     deterministic = sure;
     needed = needed_on (rest ++ arrow ∷ []) rest [] arrow (λ front one back e d. none_pushed front one back e)
-        (λ d. were.last rest arrow refl (subst Sure (append_nil rest) d));
+        (λ d. were.last rest arrow refl (subst Sure (append-nil rest) d));
   }
 
   module _ (strict : IsStrictOrder order) where

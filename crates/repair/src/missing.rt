@@ -27,11 +27,12 @@ fn first_apart(left: &[u32], right: &[u32]) -> Option<(u32, u32)>
     ensures { result ≡ first_apart left.now right.now }
 {
     for (k, node) in left.iter().enumerate() {
-        let Some(other) = right.get(k) else {
+        if k >= right.len() {
             return None;
-        };
-        if *node != *other {
-            return Some((*node, *other));
+        }
+        let other = right[k];
+        if *node != other {
+            return Some((*node, other));
         }
     }
     None
