@@ -6,10 +6,10 @@ use Rattle.cnf.specs.declared.log.Step.{Step}
 pub record IsSpent (es : List Program) (before : ℕ → ℕ → Type 0) (budget : ℕ) (f : Formula) (steps : List Step) : Type 0 where
   pub all : length steps ≡ budget
   pub limited : budget ≢ 2 ^ 64 - 1
-abbrev pub HasFewPaths : List Program → Type 0
-HasFewPaths es = length es ≡ 0
-abbrev pub IsLight : List Program → Type 0
-IsLight es = length es ≡ 0
+pub record HasFewPaths (es : List Program) : Type 0 where
+  pub few : ℕ
+pub record IsLight (es : List Program) : Type 0 where
+  pub few : ℕ
 
 -- the pair, if the test holds
 abbrev pub pair_if : Bool → ℕ → ℕ → List (ℕ × ℕ)
