@@ -1,5 +1,5 @@
 -- Arrows that are left out, one by one.
-use Rattle.std.proofs.Common.{◌≡◌, ◌≢◌, inl, inr, ℕ, List, [], ◌∷◌, ◌++◌, length, get_or, refl, sym, ap, ◌∙◌, subst, append_assoc, append-nil}
+use Rattle.std.proofs.Common.{◌≡◌, ◌≢◌, inl, inr, ℕ, List, [], ◌∷◌, ◌++◌, length, get_or, refl, sym, ap, ◌∙◌, subst, arith, ◌+◌, append_assoc, append-nil}
 use Rattle.std.specs.Prelude.{◌↔◌}
 use Rattle.std.specs.List.{All, Contains}
 use Rattle.std.proofs.lemmas.List.Elements.{All-append, All-contains, All-contains_itself, Contains-append_left, Contains-append_right, Contains-get_or}
@@ -16,6 +16,10 @@ use Rattle.cnf.specs.declared.log.Log.{Log}
 use Rattle.repair.proofs.RunLaws.{deterministic_by_more}
 use Rattle.repair.proofs.ArrowLaws.{deterministic_more, runs_of_fewer, added_fewer, no_arrows}
 use Rattle.repair.proofs.AddLaws.{none_pushed}
+
+pub no_items : (xs : List (ℕ × ℕ)) → length xs ≡ 0 → xs ≡ []
+no_items [] e = refl
+no_items (x ∷ xs) e = absurd (omega (arith, e))
 
 -- with one list between two others there is all that the two have
 between_more : (xs ys zs : List (ℕ × ℕ)) → All (Contains ((xs ++ ys) ++ zs)) (xs ++ zs)

@@ -66,14 +66,13 @@ pub(crate) fn leave_out(
         });
     };
     let mut needed = joined(alloc, &[*last], &[])?;
-    let mut k = earlier.len();
-    while k > 0 {
-        k -= 1;
-        let without = joined(alloc, &earlier[..k], needed.as_slice())?;
+    let mut rest = earlier;
+    while let Some((arrow, others)) = rest.split_last() {
+        let without = joined(alloc, others, needed.as_slice())?;
         let made = with_arrows(alloc, order, pairs, without.as_slice())?;
         match look_at(alloc, programs, &made, budget)? {
             Look::Sure => {}
-            Look::Missing(_) => needed = joined(alloc, &[earlier[k]], needed.as_slice())?,
+            Look::Missing(_) => needed = joined(alloc, &[*arrow], needed.as_slice())?,
             Look::Spent(cnf, log) => {
                 return Ok(Repaired::Spent {
                     added: without,
@@ -82,6 +81,7 @@ pub(crate) fn leave_out(
                 });
             }
         }
+        rest = others;
     }
     Ok(Repaired::Done { added: needed })
 }
