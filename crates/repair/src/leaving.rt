@@ -4,7 +4,8 @@ ghost use Rattle.std.specs.Prelude.{◌≡◌, ◌≤◌, ◌++◌, ◌∷◌, l
 ghost use Rattle.fs_semantics.specs.Orders.{IsDeterministic};
 ghost use Rattle.fs_lang.specs.Meaning.{program_of};
 ghost use Rattle.orders.specs.Relation.{comes};
-ghost use Rattle.repair.specs.Stub.{HasFewPaths, IsLight, pairs_of};
+ghost use Rattle.verdict.specs.Limits.{HasFewPaths, IsLight};
+ghost use Rattle.commute_prune.specs.Pairs.{pairs_of};
 ghost use Rattle.repair.specs.Arrows.{ComesWith};
 ghost use Rattle.repair.specs.Steps.{WereMissing};
 ghost use Rattle.repair.specs.Answers.{IsRepaired};

@@ -1,6 +1,6 @@
 use Rattle.std.proofs.Common.{◌≡◌}
 use Rattle.orders.specs.Relation.{comes}
-use Rattle.repair.specs.Stub.{pairs_of}
+use Rattle.commute_prune.specs.Pairs.{pairs_of}
 use Rattle.repair.proofs.with.order_pairs.Given as goal
 
 abbrev pub invariant-loop-a : goal.invariant-loop-a

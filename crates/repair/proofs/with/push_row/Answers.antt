@@ -1,6 +1,6 @@
 use Rattle.std.proofs.Common.{◌++◌, ap, sym, add-one, ◌∙◌, append_assoc}
 use Rattle.orders.specs.Relation.{comes}
-use Rattle.repair.specs.Stub.{row_of, pair_if}
+use Rattle.commute_prune.specs.Pairs.{row_of, pair_if}
 use Rattle.repair.proofs.with.push_row.Goals as goal
 
 pub loop-b-preserved : goal.loop-b-preserved

@@ -1,6 +1,6 @@
 use Rattle.std.proofs.Common.{◌≡◌, ◌++◌}
 use Rattle.orders.specs.Relation.{comes}
-use Rattle.repair.specs.Stub.{row_of}
+use Rattle.commute_prune.specs.Pairs.{row_of}
 use Rattle.repair.proofs.with.push_row.Given as goal
 
 abbrev pub invariant-loop-b : goal.invariant-loop-b
