@@ -12,6 +12,8 @@ mod common;
 #[cfg(test)]
 mod differences;
 #[cfg(test)]
+mod entries;
+#[cfg(test)]
 mod faults;
 #[cfg(test)]
 mod hostile;

@@ -120,7 +120,7 @@ fn manifests_with_their_arrows(rt: HostRuntime) -> Result<(), Fail> {
 
 #[test]
 fn repairs_that_are_not_made(rt: HostRuntime) -> Result<(), Fail> {
-    let rows: [(&[&str], &str, u8, &str, &str); 4] = [
+    let rows: [(&[&str], &str, u8, &str, &str); 3] = [
         (
             &["--ask", "repair", "--packages", "listing", "--conflicts", "1", "site.pp"],
             "package { ['pair', 'twin']: }",
@@ -128,7 +128,6 @@ fn repairs_that_are_not_made(rt: HostRuntime) -> Result<(), Fail> {
             "resources 2\nspent deterministic 1\n",
             "",
         ),
-        (&REPAIR, "service { 'ntp' }", 4, "", "refused 11 at 16: 11\n"),
         (&REPAIR, "package { 'none': }", 4, "", "refused 54 at 10: Package[none]\n"),
         (&REPAIR, "exec { 'x': }", 4, "", "refused 50 at 7: Exec[x]\n"),
     ];

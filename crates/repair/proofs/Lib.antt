@@ -1,4 +1,7 @@
 pub mod RunLaws
 pub mod ArrowLaws
-pub mod StubLaws
 pub mod WithLaws
+pub mod CountLaws
+pub mod AddLaws
+pub mod LeaveLaws
+pub mod MissingLaws

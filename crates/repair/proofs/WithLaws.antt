@@ -6,8 +6,8 @@ use Rattle.std.proofs.lemmas.List.Elements.{Contains-append_left, Contains-appen
 use Rattle.fs_semantics.proofs.Keys.{same_bool}
 use Rattle.orders.specs.Relation.{Relation, comes, Comes, IsStrictOrder}
 use Rattle.orders.specs.Paths.{HasEdge, EndsBelow, Path, edge, and_on}
-use Rattle.repair.specs.Stub.{pairs_of}
-use Rattle.repair.proofs.StubLaws.{pairs_from, pairs_in}
+use Rattle.commute_prune.specs.Pairs.{pairs_of}
+use Rattle.commute_prune.proofs.PairLaws.{pairs_from, pairs_in}
 use Rattle.repair.specs.Arrows.{Leads, ComesWith, step, and_on as and_further, IsBetweenFree, CanBeAdded}
 
 pub told_by : (order : Relation) (a b : ℕ) (r : Bool) → IsTrue r ↔ Comes order a b → r ≡ comes order a b

@@ -3,4 +3,3 @@ pub mod Repairs
 pub mod Missing
 pub mod Answers
 pub mod Steps
-pub mod Stub

@@ -3,7 +3,8 @@
 ghost use Rattle.std.specs.Prelude.{◌≡◌, ◌≤◌, length, map, IfOk};
 ghost use Rattle.fs_lang.specs.Meaning.{program_of};
 ghost use Rattle.orders.specs.Relation.{comes};
-ghost use Rattle.repair.specs.Stub.{HasFewPaths, IsLight, pairs_of};
+ghost use Rattle.verdict.specs.Limits.{HasFewPaths, IsLight};
+ghost use Rattle.commute_prune.specs.Pairs.{pairs_of};
 ghost use Rattle.repair.specs.Steps.{IsAdded};
 
 use crate::missing::{Look, look_at};

@@ -4,7 +4,8 @@ ghost use Rattle.std.specs.Prelude.{◌≡◌, ◌≤◌, ◌++◌, ◌∷◌, l
 ghost use Rattle.fs_semantics.specs.Orders.{IsDeterministic};
 ghost use Rattle.fs_lang.specs.Meaning.{program_of};
 ghost use Rattle.orders.specs.Relation.{comes};
-ghost use Rattle.repair.specs.Stub.{HasFewPaths, IsLight, pairs_of};
+ghost use Rattle.verdict.specs.Limits.{HasFewPaths, IsLight};
+ghost use Rattle.commute_prune.specs.Pairs.{pairs_of};
 ghost use Rattle.repair.specs.Arrows.{ComesWith};
 ghost use Rattle.repair.specs.Steps.{WereMissing};
 ghost use Rattle.repair.specs.Answers.{IsRepaired};
@@ -66,14 +67,13 @@ pub(crate) fn leave_out(
         });
     };
     let mut needed = joined(alloc, &[*last], &[])?;
-    let mut k = earlier.len();
-    while k > 0 {
-        k -= 1;
-        let without = joined(alloc, &earlier[..k], needed.as_slice())?;
+    let mut rest = earlier;
+    while let Some((arrow, others)) = rest.split_last() {
+        let without = joined(alloc, others, needed.as_slice())?;
         let made = with_arrows(alloc, order, pairs, without.as_slice())?;
         match look_at(alloc, programs, &made, budget)? {
             Look::Sure => {}
-            Look::Missing(_) => needed = joined(alloc, &[earlier[k]], needed.as_slice())?,
+            Look::Missing(_) => needed = joined(alloc, &[*arrow], needed.as_slice())?,
             Look::Spent(cnf, log) => {
                 return Ok(Repaired::Spent {
                     added: without,
@@ -82,6 +82,7 @@ pub(crate) fn leave_out(
                 });
             }
         }
+        rest = others;
     }
     Ok(Repaired::Done { added: needed })
 }

@@ -2,7 +2,7 @@
 
 ghost use Rattle.std.specs.Prelude.{◌≡◌, ◌<◌, ◌++◌, IfOk, OnOk};
 ghost use Rattle.orders.specs.Relation.{comes};
-ghost use Rattle.repair.specs.Stub.{pair_if, row_of, pairs_of};
+ghost use Rattle.commute_prune.specs.Pairs.{pair_if, row_of, pairs_of};
 ghost use Rattle.repair.specs.Arrows.{CanBeAdded, IsOrderWith};
 
 use orders::{Order, OrderFault};

@@ -6,8 +6,8 @@ use Rattle.orders.specs.Relation.{Relation}
 use Rattle.verdict.specs.Limits.{HasFewPaths, IsLight}
 use Rattle.verdict_report.specs.Lines.{budget_of}
 use Rattle.verdict_report.specs.declared.report.Report.{Report}
-use Rattle.repair.specs.Arrows.{IsBetweenFree}
-use Rattle.repair.specs.Answers.{IsRepaired, IsSpentWith}
+use Rattle.repair.specs.Arrows.{IsBetweenFree, CanBeAdded}
+use Rattle.repair.specs.Answers.{added_in, IsRepaired, IsSpentWith}
 use Rattle.repair.specs.declared.repaired.Repaired.{Repaired}
 use Rattle.repair.specs.declared.repaired.Repaired.TheVariants as repaired
 use Rattle.repair_report.specs.Told.{IsRepairTold}
@@ -23,8 +23,8 @@ within : (order : Relation) (n : ℕ) (arrows : List (ℕ × ℕ)) → n ≡ ord
 within order n arrows is all = λ k d h. let free = all k d h in let from = free.from in let to = free.to in (omega (arith, from, is), omega (arith, to, is))
 
 module _ (es : List Program) (order : Relation) (given : Option ℕ) (names : List (List ℕ)) (budget : ℕ) (is : budget ≡ budget_of given) where
-  pub tellable : (r : Repaired) → length names ≡ order.count → IsRepaired es order budget r → AreTellable (length names) r
-  tellable (repaired.Done added) long h = within order (length names) added long h.added.free
+  pub tellable : (r : Repaired) → length names ≡ order.count → CanBeAdded order (added_in r) → AreTellable (length names) r
+  tellable (repaired.Done added) long h = within order (length names) added long h.free
   tellable (repaired.Spent added cnf log) long h = tt
 
   pub told_is : (r : Repaired) (report : Report) → HasFewPaths es → IsLight es → IsRepaired es order budget r → IsReportOf names (length es) budget r report → IsRepairTold given names es order report
