@@ -55,8 +55,7 @@ none_ahead_by_places before run once h = behind run once (λ a b x y c. h a b c)
   behind : (o : List ℕ) → ((k : ℕ) → times k o ≤ 1) → ((a b : ℕ) → 0 < times a o → 0 < times b o → before a b → place a o < place b o) → NoneAhead before o
   behind [] single f = tt
   behind (x ∷ o) single f =
-      let later : (k : ℕ) → 0 < times k o → 0 < times k (x ∷ o) = λ k m. omega (arith, m) in
-      (
+      let later : (k : ℕ) → 0 < times k o → 0 < times k (x ∷ o) = λ k m. omega (arith, m) in (
         all_from (λ a. before a x → ⊥) o (λ a m c. let g = f a x (later a m) (omega (arith, times_itself x o)) c in let z = place_here x o in omega arith),
         behind o (λ k. omega (arith, single k)) (λ a b m w c.
             let g = f a b (later a m) (later b w) c in
