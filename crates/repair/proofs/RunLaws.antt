@@ -1,10 +1,10 @@
 -- Runs, and what stands ahead of what in them.
-use Rattle.std.proofs.Common.{◌≡◌, ◌≢◌, ◌⊎◌, ⊎_elim, ℕ, suc, cond, ◌+◌, ◌<◌, ◌≤◌, List, [], ◌∷◌, ◌++◌, length, get_or, refl, sym, ap, ◌∙◌, subst, arith, eq-eqb, ne_eqb}
+use Rattle.std.proofs.Common.{◌≡◌, ◌≢◌, ⊎_elim, ℕ, suc, cond, ◌<◌, ◌≤◌, List, [], ◌∷◌, ◌++◌, length, get_or, refl, sym, ap, ◌∙◌, subst, arith, eq-eqb, ne_eqb}
 use Rattle.std.specs.List.{AllByRecursion}
 use Rattle.std.proofs.lemmas.Bool.{cases_lt, cases_eq}
 use Rattle.fs_semantics.specs.Programs.{Program}
 use Rattle.fs_semantics.specs.Orders.{times, NoneAhead, IsLinearExtension, IsDeterministic}
-use Rattle.fs_semantics.proofs.Counts.{times_append, times_itself, times_other, all_at, all_from}
+use Rattle.fs_semantics.proofs.Counts.{times_itself, all_from}
 use Rattle.orders.specs.Exchanges.{place}
 use Rattle.orders.proofs.Walks.{at_place, place_kept}
 
