@@ -2,6 +2,8 @@
 #![tactic(auto)]
 
 #[cfg(test)]
+mod ensured;
+#[cfg(test)]
 mod formulas;
 #[cfg(test)]
 mod judging;
