@@ -12,10 +12,12 @@ use std::alloc::Global;
 use std::test::Fail;
 use test_programs::programs;
 
-/// The arrows, each behind a blank, as `0>1`.
+/// The arrows in the order of their numbers, each behind a blank, as `0>1`.
 fn listed(alloc: Global, added: &[(u32, u32)]) -> Result<String, Fail> {
+    let mut sorted = Vec::from_slice(alloc, added)?;
+    sorted.sort()?;
     let mut text = String::new(alloc);
-    for arrow in added {
+    for arrow in &sorted {
         let from = arrow.0;
         let to = arrow.1;
         let word = format!(in alloc; " {from}>{to}")?;
@@ -92,7 +94,7 @@ fn missing_arrows(rt: HostRuntime) -> Result<(), Fail> {
             "done 0>1 3>2",
         ),
         // a folder in a folder, and a file in that
-        ("put /a/b/c x | dir /a/b | dir /a", "done 2>1 1>0"),
+        ("put /a/b/c x | dir /a/b | dir /a", "done 1>0 2>1"),
         // two that both end in a tree
         ("put /a x | put /a y", "done 0>1"),
     ];
