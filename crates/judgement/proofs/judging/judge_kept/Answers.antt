@@ -6,8 +6,8 @@ use Rattle.judgement.proofs.JudgeLaws.{pruned, judged_proved, judged_spent, stat
 use Rattle.judgement.proofs.QuestionLaws.{has_two}
 use Rattle.judgement.proofs.judging.judge_kept.Goals as goal
 
-pub two_orders-requires : goal.two_orders-requires
-two_orders-requires c =
+pub two_orders-tree-requires : goal.two_orders-tree-requires
+two_orders-tree-requires c =
     let kept = c.args.kept.now in
     let shown = subst₂ (λ ps a. AnswersOrder (map program_of ps) kept.order c.args.budget a) c.as_slice.ensures c.in-Shown.is c.in_ok-answer.ensures in
     has_two (map program_of kept.programs) (Comes kept.order) c.in-Shown.witness shown
@@ -16,15 +16,15 @@ pub judge_found-requires-clause-counterexample : goal.judge_found-requires-claus
 judge_found-requires-clause-counterexample c =
     let kept = c.args.kept.now in
     let shown = subst₂ (λ ps a. AnswersOrder (map program_of ps) kept.order c.args.budget a) c.as_slice.ensures c.in-Shown.is c.in_ok-answer.ensures in
-    (lent_difference (map program_of kept.programs) (Comes kept.order) c.in-Shown.witness c.tree c.left c.right c.as_slice-in-Shown.result.now c.as_slice-in-Shown-2.result.now
-    shown c.two_orders.ensures c.as_slice-in-Shown.ensures c.as_slice-in-Shown-2.ensures).0
+    (lent_difference (map program_of kept.programs) (Comes kept.order) c.in-Shown.witness c.two_orders-tree.result.0 c.two_orders-tree.result.1 c.two_orders-tree.result.2 c.as_slice-in-Shown.result.now c.as_slice-in-Shown-2.result.now
+    shown c.two_orders-tree.ensures c.as_slice-in-Shown.ensures c.as_slice-in-Shown-2.ensures).0
 
 pub judge_found-requires-clause-exchange : goal.judge_found-requires-clause-exchange
 judge_found-requires-clause-exchange c =
     let kept = c.args.kept.now in
     let shown = subst₂ (λ ps a. AnswersOrder (map program_of ps) kept.order c.args.budget a) c.as_slice.ensures c.in-Shown.is c.in_ok-answer.ensures in
-    (lent_difference (map program_of kept.programs) (Comes kept.order) c.in-Shown.witness c.tree c.left c.right c.as_slice-in-Shown.result.now c.as_slice-in-Shown-2.result.now
-    shown c.two_orders.ensures c.as_slice-in-Shown.ensures c.as_slice-in-Shown-2.ensures).1
+    (lent_difference (map program_of kept.programs) (Comes kept.order) c.in-Shown.witness c.two_orders-tree.result.0 c.two_orders-tree.result.1 c.two_orders-tree.result.2 c.as_slice-in-Shown.result.now c.as_slice-in-Shown-2.result.now
+    shown c.two_orders-tree.ensures c.as_slice-in-Shown.ensures c.as_slice-in-Shown-2.ensures).1
 
 pub returns-in-Refuted : goal.returns-in-Refuted
 returns-in-Refuted c =
