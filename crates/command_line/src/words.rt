@@ -186,8 +186,8 @@ fn plain_request(alloc: Global, matches: &ArgMatches<'_>) -> Result<Request, Wor
 
 /// The entry at the path that a text names, with this content, if one is given.
 fn entry_at(alloc: Global, path: &str, content: Option<&str>) -> Result<Wanted, WordsFault>
-    ensures made { IfOk result (IsEntryAt path.now (option_map (λ s. s.now) content)) }
-    ensures refused { IfErr result (λ e. IfRefused e ((w : Wanted) → IsEntryAt path.now (option_map (λ s. s.now) content) w → ⊥)) }
+    ensures made { IfOk result (IsEntryAt path.now (option_map (λ s. s.now) content.entry)) }
+    ensures refused { IfErr result (λ e. IfRefused e ((w : Wanted) → IsEntryAt path.now (option_map (λ s. s.now) content.entry) w → ⊥)) }
 {
     let path = match Path::read(alloc, path) {
         Ok(path) => path,
