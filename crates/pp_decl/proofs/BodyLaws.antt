@@ -17,7 +17,8 @@ use Rattle.catalog_semantics.specs.declared.state.State.{State}
 use Rattle.catalog_semantics.specs.Sites.{Definition, Site}
 use Rattle.catalog_semantics.specs.States.{Effect, in_turn, is_declared, added}
 use Rattle.catalog_semantics.specs.Declaring.{Bodies, body_in, all_known, opened, begun, ended, class_runs, class_resource, class_named, no_circle, parents_of, class_declared}
-use Rattle.catalog_semantics.specs.Rooms.{Room, block_depth, in_body, has_room_for}
+use Rattle.catalog_semantics.specs.declared.room.Room.{Room}
+use Rattle.catalog_semantics.specs.Rooms.{block_depth, in_body, has_room_for}
 use Rattle.catalog_semantics.specs.Effects.{effect_at, bodies_at}
 use Rattle.catalog_semantics.proofs.Statements.{body_runs_in}
 use Rattle.catalog_semantics.proofs.Extending.{blocks_only_add, openings_only_add}

@@ -2,7 +2,8 @@ use Rattle.std.proofs.Common.{◌<◌, ◌*◌, map, refl, sym, ap, subst, ◌�
 use Rattle.std.specs.List.{AllByRecursion}
 use Rattle.catalog_semantics.specs.Sites.{Definition}
 use Rattle.catalog_semantics.specs.States.{in_turn}
-use Rattle.catalog_semantics.specs.Rooms.{Room, depth, block_depth}
+use Rattle.catalog_semantics.specs.declared.room.Room.{Room}
+use Rattle.catalog_semantics.specs.Rooms.{depth, block_depth}
 use Rattle.catalog_semantics.specs.Declaring.{body_in, class_resource, class_runs}
 use Rattle.catalog_semantics.specs.Effects.{bodies_at}
 use Rattle.pp_value.specs.Values.{Pair}
