@@ -11,7 +11,7 @@ READ_FAULT = re.compile(rb"^read fault: (.*?)\n?\Z", re.S)
 # More than a manifest may have.
 MOST = 1 << 20
 # The questions that are asked of a manifest, and take --node.
-OF_MANIFEST = ("verify", "proof", "catalog", "graph", "programs", "replay")
+OF_MANIFEST = ("verify", "proof", "catalog", "graph", "programs", "replay", "ensures", "repair")
 # Refusals that come before a node's block is looked for: of files, of the text, and that no node's block fits.
 BEFORE_NODES = (17, 60, 61, 64, 10, 11, 12, 13, 14, 31)
 
@@ -63,6 +63,8 @@ class Run:
         lines.append(f"  rehearsal {shown(' '.join(map(shlex.quote, words)))}")
         if self.status == 2:
             lines.append("and for the second run what stands behind the first `outcome ` into T.")
+        if self.status == 1:
+            lines += ["To see which arrows are missing:", f"  rehearsal {shown(' '.join(map(shlex.quote, [*kept, '--ask', 'repair', words[-1]])))}"]
         return lines
 
     def after_spent(self):

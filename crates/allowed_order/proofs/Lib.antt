@@ -1,3 +1,4 @@
 pub mod Entries
 pub mod NameLaws
 pub mod OrderLaws
+pub mod ApartLaws

@@ -10,7 +10,7 @@ use Rattle.fs_semantics.specs.Orders.{times, IsLinearExtension}
 use Rattle.catalog_semantics.specs.Catalogs.{Catalog}
 use Rattle.order_text.specs.OrderText.{IsOrderText}
 use Rattle.allowed_order.specs.Names.{position_of, with_names, positions_of}
-use Rattle.allowed_order.specs.AllowedOrder.{shown_at, IsOrderNamed, IsOrderOf, IsOnlyOrder}
+use Rattle.allowed_order.specs.AllowedOrder.{shown_at, AreToldApart, IsOrderNamed, IsOrderOf, IsOnlyOrder}
 use Rattle.allowed_order.proofs.NameLaws.{no_value, same_some, Tells, Finds, names_tell, names_find}
 
 step : {X Y : Type 0} (o : Option X) (f : X → Option Y) (y : Y) → (o >>= f) ≡ Some y → (x : X) × (o ≡ Some x) × (f x ≡ Some y)
@@ -32,67 +32,41 @@ module _ (c : Catalog) (all : List ℕ) (names : List (List ℕ × ℕ)) where
       subst (λ is. t ∷ texts ≡ map (shown_at c all) is) rest.2
       ((λ i. (tells t first.0 first.1).1 i ∷ texts_shown tells texts rest.0 rest.1 i))
 
-  own_positions : Tells c all names → (texts : List (List ℕ)) (o : List ℕ) → positions_of names texts ≡ Some o → AllByRecursion (λ i. position_of (shown_at c all i) names ≡ Some i) o
-  own_positions tells [] o h = subst (λ is. AllByRecursion (λ i. position_of (shown_at c all i) names ≡ Some i) is) (same_some [] o h) tt
-  own_positions tells (t ∷ texts) o h =
-      let first = step (position_of t names) (λ i. option_map (λ is. i ∷ is) (positions_of names texts)) o h in
-      let rest = mapped (λ is. first.0 ∷ is) (positions_of names texts) o first.2 in
-      subst (λ is. AllByRecursion (λ i. position_of (shown_at c all i) names ≡ Some i) is) rest.2
-      (subst (λ u. position_of u names ≡ Some first.0) (tells t first.0 first.1).1 first.1, own_positions tells texts rest.0 rest.1)
-
   shown_found : Finds c all (length all) names → (o : List ℕ) → AllByRecursion (λ i. i < length all) o → positions_of names (map (shown_at c all) o) ≡ Some o
   shown_found finds [] h = refl
   shown_found finds (i ∷ o) h =
       ap (λ p. p >>= (λ k. option_map (λ is. k ∷ is) (positions_of names (map (shown_at c all) o)))) (finds i h.0)
       ∙ ap (option_map (λ is. i ∷ is)) (shown_found finds o h.1)
 
-no_more : (n : ℕ) → 0 + n ≡ 1 → n ≡ 1
-no_more n h = omega (arith, h)
-
--- what holds of each number of a list holds of one that stands in it once
-at_once : (P : ℕ → Type 0) (k : ℕ) (o : List ℕ) → AllByRecursion P o → times k o ≡ 1 → P k
-at_once P k [] all h = absurd (never h) where
-  never : ◌≡◌ {A = ℕ} 0 1 → ⊥
-  never e = omega (arith, e)
-at_once P k (i ∷ o) all h = at (at_once P k o all.1) (i == k) refl h where
-  at : (times k o ≡ 1 → P k) → (b : Bool) → (i == k) ≡ b → cond b 1 0 + times k o ≡ 1 → P k
-  at more true e s = subst P (eqb-true i k e) all.0
-  at more false e s = more (no_more (times k o) s)
-
 -- ---- the order
 
 pub order_found : (c : Catalog) (plain : List ℕ) (before : ℕ → ℕ → Type 0) (texts : List (List ℕ)) (o : List ℕ)
     → positions_of (with_names c 0 plain []) texts ≡ Some o → IsLinearExtension (length plain) before o → IsOrderNamed c plain before texts o
-order_found c plain before texts o h allowed =
-    let names = with_names c 0 plain [] in
-    let own = own_positions c plain names (names_tell c plain) texts o h in
-    record {
-      shown = texts_shown c plain names (names_tell c plain) texts o h;
-      allowed = allowed;
-      apart = λ i j p q same. same_some i j
-          (sym (at_once (λ k. position_of (shown_at c plain k) names ≡ Some k) i o own (allowed.once i p))
-          ∙ (ap (λ t. position_of t names) same ∙ at_once (λ k. position_of (shown_at c plain k) names ≡ Some k) j o own (allowed.once j q)));
-    }
+order_found c plain before texts o h allowed = record {
+  shown = texts_shown c plain (with_names c 0 plain []) (names_tell c plain) texts o h;
+  allowed = allowed;
+}
 
 pub order_is : (c : Catalog) (plain : List ℕ) (before : ℕ → ℕ → Type 0) (texts : List (List ℕ)) (o : List ℕ)
-    → IsOrderNamed c plain before texts o → positions_of (with_names c 0 plain []) texts ≡ Some o
-order_is c plain before texts o h =
+    → AreToldApart c plain → IsOrderNamed c plain before texts o → positions_of (with_names c 0 plain []) texts ≡ Some o
+order_is c plain before texts o apart h =
     ap (positions_of (with_names c 0 plain [])) h.shown
-    ∙ shown_found c plain (with_names c 0 plain []) (names_find c plain h.apart) o h.allowed.below
+    ∙ shown_found c plain (with_names c 0 plain []) (names_find c plain apart) o h.allowed.below
 
 -- texts that name no positions
 pub none_named : (c : Catalog) (plain : List ℕ) (before : ℕ → ℕ → Type 0) (texts : List (List ℕ)) → positions_of (with_names c 0 plain []) texts ≡ None → IsOnlyOrder c plain before texts None
-none_named c plain before texts h o named = no_value o (sym h ∙ order_is c plain before texts o named)
+none_named c plain before texts h apart o named = no_value o (sym h ∙ order_is c plain before texts o apart named)
 
 -- texts that name positions which are no allowed order
 pub none_allowed : (c : Catalog) (plain : List ℕ) (before : ℕ → ℕ → Type 0) (texts : List (List ℕ)) (p : List ℕ) → positions_of (with_names c 0 plain []) texts ≡ Some p
     → (IsLinearExtension (length plain) before p → ⊥) → IsOnlyOrder c plain before texts None
-none_allowed c plain before texts p h never o named = never (subst (IsLinearExtension (length plain) before) (same_some o p (sym (order_is c plain before texts o named) ∙ h)) named.allowed)
+none_allowed c plain before texts p h never apart o named =
+    never (subst (IsLinearExtension (length plain) before) (same_some o p (sym (order_is c plain before texts o apart named) ∙ h)) named.allowed)
 
 pub only_order : (c : Catalog) (plain : List ℕ) (before : ℕ → ℕ → Type 0) (texts : List (List ℕ)) (p : List ℕ) → positions_of (with_names c 0 plain []) texts ≡ Some p
     → IsLinearExtension (length plain) before p → IsOnlyOrder c plain before texts (Some p)
 only_order c plain before texts p h allowed =
-    (order_found c plain before texts p h allowed, λ o named. same_some p o (sym h ∙ order_is c plain before texts o named))
+    (order_found c plain before texts p h allowed, λ apart o named. same_some p o (sym h ∙ order_is c plain before texts o apart named))
 
 -- ---- as the code has it
 
@@ -115,8 +89,8 @@ OneText = (bytes : List ℕ) (a b : List (List ℕ)) → IsOrderText bytes a →
 
 pub no_text : (c : Catalog) (plain : List ℕ) (before : ℕ → ℕ → Type 0) (bytes : List ℕ) (f : Fault)
     → IfRefused f (λ r. IsRefusal 63 0 (codes "order") r × ((ts : List (List ℕ)) → IsOrderText bytes ts → ⊥))
-    → IfRefused f (λ r. IsRefusal 63 0 (codes "order") r × ((o : List ℕ) → IsOrderOf c plain before bytes o → ⊥))
-no_text c plain before bytes (Refused r) h = (h.0, λ o order. h.1 order.texts order.text)
+    → IfRefused f (λ r. IsRefusal 63 0 (codes "order") r × (AreToldApart c plain → (o : List ℕ) → IsOrderOf c plain before bytes o → ⊥))
+no_text c plain before bytes (Refused r) h = (h.0, λ apart o order. h.1 order.texts order.text)
 no_text c plain before bytes (Memory m) h = tt
 
 named_so : (c : Catalog) (plain : List ℕ) (before : ℕ → ℕ → Type 0) (bytes : List ℕ) (texts slice : List (List ℕ)) (o : List ℕ) → OneText → IsOrderText bytes texts → slice ≡ texts
@@ -125,13 +99,13 @@ named_so c plain before bytes texts slice o one text lent order =
     subst (λ ts. IsOrderNamed c plain before ts o) (one bytes order.texts texts order.text text ∙ sym lent) order.named
 
 pub only_of : (c : Catalog) (plain : List ℕ) (before : ℕ → ℕ → Type 0) (bytes : List ℕ) (texts slice : List (List ℕ)) (answer : Option (List ℕ)) (found o : List ℕ) → OneText
-    → IsOrderText bytes texts → slice ≡ texts → IsOnlyOrder c plain before slice answer → answer ≡ Some found → IsOrderOf c plain before bytes o → found ≡ o
-only_of c plain before bytes texts slice answer found o one text lent h is order =
-    (subst (IsOnlyOrder c plain before slice) is h).1 o (named_so c plain before bytes texts slice o one text lent order)
+    → IsOrderText bytes texts → slice ≡ texts → IsOnlyOrder c plain before slice answer → answer ≡ Some found → AreToldApart c plain → IsOrderOf c plain before bytes o → found ≡ o
+only_of c plain before bytes texts slice answer found o one text lent h is apart order =
+    (subst (IsOnlyOrder c plain before slice) is h).1 apart o (named_so c plain before bytes texts slice o one text lent order)
 
 pub none_of : (c : Catalog) (plain : List ℕ) (before : ℕ → ℕ → Type 0) (bytes : List ℕ) (texts slice : List (List ℕ)) (answer : Option (List ℕ)) (f : Fault) → OneText
     → IsOrderText bytes texts → slice ≡ texts → IsOnlyOrder c plain before slice answer → answer ≡ None → IfRefused f (IsRefusal 63 0 (codes "order"))
-    → IfRefused f (λ r. IsRefusal 63 0 (codes "order") r × ((o : List ℕ) → IsOrderOf c plain before bytes o → ⊥))
+    → IfRefused f (λ r. IsRefusal 63 0 (codes "order") r × (AreToldApart c plain → (o : List ℕ) → IsOrderOf c plain before bytes o → ⊥))
 none_of c plain before bytes texts slice answer (Refused r) one text lent h is refused =
-    (refused, λ o order. subst (IsOnlyOrder c plain before slice) is h o (named_so c plain before bytes texts slice o one text lent order))
+    (refused, λ apart o order. subst (IsOnlyOrder c plain before slice) is h apart o (named_so c plain before bytes texts slice o one text lent order))
 none_of c plain before bytes texts slice answer (Memory m) one text lent h is refused = tt

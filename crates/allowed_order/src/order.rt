@@ -4,7 +4,7 @@ ghost use Rattle.std.specs.Prelude.{◌≡◌, ◌↔◌, ◌<◌, ◌^◌, ℕ,
 ghost use Rattle.rh_base.specs.Refused.{IfRefused, IsRefusal};
 ghost use Rattle.orders.specs.Relation.{Comes};
 ghost use Rattle.fs_semantics.specs.Orders.{IsLinearExtension};
-ghost use Rattle.allowed_order.specs.AllowedOrder.{IsOrderOf, IsOnlyOrder};
+ghost use Rattle.allowed_order.specs.AllowedOrder.{AreToldApart, IsOrderOf, IsOnlyOrder};
 ghost use Rattle.allowed_order.specs.Names.{with_names, positions_of};
 
 use crate::naming::{names_of, positions_of};
@@ -72,10 +72,10 @@ pub fn order_of(
 ) -> Result<Seq<u32>, Fault>
     requires count { order.now.count ≡ length plain.now }
     ensures found { IfOk result (IsOrderOf catalog.now plain.now (Comes order.now) bytes.now) }
-    // Each order that the text names is the one that is found.
-    ensures only { (o : List ℕ) → IsOrderOf catalog.now plain.now (Comes order.now) bytes.now o → IfOk result (λ found. found ≡ o) }
+    // Where no two of the resources are shown alike, each order that the text names is the one that is found.
+    ensures only { AreToldApart catalog.now plain.now → (o : List ℕ) → IsOrderOf catalog.now plain.now (Comes order.now) bytes.now o → IfOk result (λ found. found ≡ o) }
     ensures refused { IfErr result (λ e. IfRefused e (λ r. IsRefusal 63 0 (codes "order") r
-        × ((o : List ℕ) → IsOrderOf catalog.now plain.now (Comes order.now) bytes.now o → ⊥))) }
+        × (AreToldApart catalog.now plain.now → (o : List ℕ) → IsOrderOf catalog.now plain.now (Comes order.now) bytes.now o → ⊥))) }
 {
     one_order();
     let texts = order_from_json(alloc, bytes)?;

@@ -1,5 +1,6 @@
 //! Texts, lists, boxes and faults.
 
+use printed_names::printed;
 use rh_base::{Boxed, Fault, Misread, NoMemory, Refusal, Seq, ShelfFault, SinkFault, Text};
 use std::hash::{DefaultHasher, Hash, Hasher};
 use std::test::Fail;
@@ -85,6 +86,21 @@ fn equal_texts_are_hashed_alike(rt: HostRuntime) -> Result<(), Fail> {
     assert!(rt; one == same);
     assert!(rt; one != other);
     assert_eq!(rt; hashed(&one), hashed(&same));
+    Ok(())
+}
+
+#[test]
+fn names_stay_on_their_lines(rt: HostRuntime) -> Result<(), Fail> {
+    for (name, shown) in [
+        ("File[/a]", "File[/a]"),
+        ("/a\nFile[/b]", "/a\\x0aFile[/b]"),
+        ("\u{1f}\u{7f} \t~ä€", "\\x1f\\x7f \\x09~ä€"),
+        ("\\x0a", "\\x0a"),
+        ("", ""),
+    ] {
+        let text = printed(rt.alloc(), name).ok().ok_or("memory")?;
+        assert_eq!(rt; text.as_str(), shown);
+    }
     Ok(())
 }
 

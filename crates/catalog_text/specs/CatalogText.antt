@@ -1,6 +1,7 @@
--- The text of a catalog: the real resources of built-in types, each on a line, and its attributes below it.
+-- The text of a catalog: the real resources of built-in types, each on a line, and its attributes below it. No name leaves its line.
 use Rattle.std.specs.Prelude.{ℕ, Bool, ◌&&◌, not, if◌then◌else◌, List, [], ◌++◌, codes}
 use Rattle.std.specs.List.{flat_map}
+use Rattle.printed_names.specs.Printed.{printed}
 use Rattle.pp_value.specs.Values.{Pair}
 use Rattle.pp_value.specs.Shown.{shown_ref}
 use Rattle.catalog_semantics.specs.declared.catalog.Resource.{Resource}
@@ -9,11 +10,11 @@ use Rattle.catalog_text.specs.Json.{json}
 
 -- an attribute, indented
 abbrev pub attribute_line : Pair → List ℕ
-attribute_line p = codes "  " ++ (p.0 ++ (codes " => " ++ (json p.1 ++ codes "\n")))
+attribute_line p = codes "  " ++ (printed p.0 ++ (codes " => " ++ (json p.1 ++ codes "\n")))
 
 -- the reference, and the attributes below it
 abbrev pub resource_lines : Resource → List ℕ
-resource_lines r = shown_ref r.id ++ (codes "\n" ++ flat_map attribute_line r.attrs)
+resource_lines r = printed (shown_ref r.id) ++ (codes "\n" ++ flat_map attribute_line r.attrs)
 
 abbrev pub is_printed : Resource → Bool
 is_printed r = is_plain_sort r.sort && not r.is_virtual

@@ -8,6 +8,7 @@ use crate::values::json_text;
 use catalog::Catalog;
 use catalog_semantics::{Resource, Sort};
 use pp_value::{Value, shown_ref};
+use printed_names::printed;
 use rh_base::{NoMemory, Text};
 use std::alloc::Global;
 
@@ -15,8 +16,9 @@ fn push_attribute(alloc: Global, name: &str, value: &Value, into: &mut Text) -> 
     ensures { OnOk result (into.new ≡ into.old ++ attribute_line (name.now, value.now)) }
 {
     let value = json_text(alloc, value)?;
+    let name = printed(alloc, name)?;
     into.push("  ")?;
-    into.push(name)?;
+    into.push(name.as_str())?;
     into.push(" => ")?;
     into.push(value.as_str())?;
     into.push("\n")
@@ -39,7 +41,8 @@ fn push_resource(alloc: Global, r: &Resource, into: &mut Text) -> Result<(), NoM
     ensures { OnOk result (into.new ≡ into.old ++ resource_lines r.now) }
 {
     let id = shown_ref(alloc, &r.id)?;
-    into.push(id.as_str())?;
+    let shown = printed(alloc, id.as_str())?;
+    into.push(shown.as_str())?;
     into.push("\n")?;
     push_attributes(alloc, r.attrs.as_slice(), into)
 }

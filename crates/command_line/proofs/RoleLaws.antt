@@ -52,6 +52,6 @@ from_start (Some names) = refl
 
 -- the request, once what is asked and its workload are known
 pub whole : (rows : List Row) (a : Ask) (workload : Option ℕ) (made : Result Request WordsFault) → ask_in (first_of (codes "ask") rows) ≡ Some a
-    → taken_number (has task.Judge (ask_row a).tasks) MOST_WORKLOAD (first_of (codes "workload") rows) ≡ Some workload
+    → taken_number (has task.Load (ask_row a).tasks) MOST_WORKLOAD (first_of (codes "workload") rows) ≡ Some workload
     → IsMade (request_for a workload (beside workload (ask_row a).tasks) rows) made → IsMade (request_in rows) made
 whole rows a workload made asked counted is = rw (asked, counted) is

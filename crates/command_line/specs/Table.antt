@@ -14,7 +14,7 @@ use Rattle.command_line.specs.declared.table.Tasks.{Tasks}
 
 -- to read a text
 abbrev pub reading : Tasks
-reading = record { reads = true; compiles = false; models = false; judges = false; replays = false }
+reading = record { reads = true; compiles = false; models = false; judges = false; loads = false; replays = false; wants = false }
 
 -- to read a manifest and compile it
 abbrev pub compiling : Tasks
@@ -28,9 +28,17 @@ modelling = record compiling { models = true }
 abbrev pub judging : Tasks
 judging = record modelling { judges = true }
 
+-- that, and to judge a workload in place of an input
+abbrev pub rehearsing : Tasks
+rehearsing = record judging { loads = true }
+
 -- to say what they do, and to run them
 abbrev pub replaying : Tasks
 replaying = record modelling { replays = true }
+
+-- to judge them, and to look for an entry that is wanted
+abbrev pub wanting : Tasks
+wanting = record judging { wants = true }
 
 -- this is among them
 abbrev pub has : Task → Tasks → Bool
@@ -38,12 +46,14 @@ has task.Read t = t.reads
 has task.Compile t = t.compiles
 has task.Model t = t.models
 has task.Judge t = t.judges
+has task.Load t = t.loads
 has task.Replay t = t.replays
+has task.Want t = t.wants
 
 -- those that are left beside a workload, which brings its own manifest and listing: to judge them
 abbrev pub beside : Option ℕ → Tasks → Tasks
 beside None t = t
-beside (Some n) t = record { reads = false; compiles = false; models = false; judges = t.judges; replays = false }
+beside (Some n) t = record { reads = false; compiles = false; models = false; judges = t.judges; loads = false; replays = false; wants = false }
 
 -- ---- a row for each value of `--ask`
 
@@ -58,18 +68,20 @@ abbrev pub asks_for : List ℕ → Tasks → ℕ → AskRow
 asks_for word tasks limit = record { word = word; tasks = tasks; limit = limit }
 
 abbrev pub ask_row : Ask → AskRow
-ask_row ask.Verify = asks_for (codes "verify") judging MANIFEST_BYTES
-ask_row ask.Proof = asks_for (codes "proof") judging MANIFEST_BYTES
+ask_row ask.Verify = asks_for (codes "verify") rehearsing MANIFEST_BYTES
+ask_row ask.Proof = asks_for (codes "proof") rehearsing MANIFEST_BYTES
 ask_row ask.Catalog = asks_for (codes "catalog") compiling MANIFEST_BYTES
 ask_row ask.Graph = asks_for (codes "graph") compiling MANIFEST_BYTES
 ask_row ask.Programs = asks_for (codes "programs") modelling MANIFEST_BYTES
 ask_row ask.Replay = asks_for (codes "replay") replaying MANIFEST_BYTES
 ask_row ask.Check = asks_for (codes "check") reading PROOF_BYTES
 ask_row ask.Migrate = asks_for (codes "migrate") reading LISTING_BYTES
+ask_row ask.Repair = asks_for (codes "repair") judging MANIFEST_BYTES
+ask_row ask.Ensures = asks_for (codes "ensures") wanting MANIFEST_BYTES
 
 -- all of them
 abbrev pub asks : List Ask
-asks = ask.Verify ∷ ask.Proof ∷ ask.Catalog ∷ ask.Graph ∷ ask.Programs ∷ ask.Replay ∷ ask.Check ∷ ask.Migrate ∷ []
+asks = ask.Verify ∷ ask.Proof ∷ ask.Catalog ∷ ask.Graph ∷ ask.Programs ∷ ask.Replay ∷ ask.Check ∷ ask.Migrate ∷ ask.Repair ∷ ask.Ensures ∷ []
 
 -- the first of these that a word asks for
 abbrev pub ask_among : List Ask → List ℕ → Option Ask
@@ -154,6 +166,8 @@ options =
     ∷ (codes "tree", codes "T")
     ∷ (codes "order", codes "O")
     ∷ (codes "workload", codes "N")
+    ∷ (codes "path", codes "P")
+    ∷ (codes "content", codes "T")
     ∷ (codes "data", codes "D")
     ∷ []
 

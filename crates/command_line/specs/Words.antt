@@ -1,9 +1,11 @@
 -- What the words of the command line ask for.
-use Rattle.std.specs.Prelude.{◌≡◌, ◌≤◌, ℕ, ◌+◌, ◌-◌, ◌*◌, ◌==◌, ◌&&◌, nat_le, List, [], ◌∷◌, map, Option, Some, None, option_map, Result, Ok, Err, Bool, true, false, codes, if◌then◌else◌}
+use Rattle.std.specs.Prelude.{◌≡◌, ◌≢◌, ◌≤◌, ℕ, ◌+◌, ◌-◌, ◌*◌, ◌==◌, ◌&&◌, nat_le, List, [], ◌∷◌, map, Option, Some, None, option_map, Result, Ok, Err, Bool, true, false, codes, if◌then◌else◌}
 use Rattle.rh_base.specs.Reading.{◌>>=◌}
 use Rattle.clap.specs.Walk.{Row, Rule, Text, first_of}
 use Rattle.clap.specs.Simple.{App, new_app, new_rule, with_rule, on_top, matches_of}
 use Rattle.clap.specs.Faults.{fault_of}
+use Rattle.fs_lang.specs.PathText.{IsPathText}
+use Rattle.wanted_entry.specs.declared.wanted.Wanted.{Wanted}
 use Rattle.command_line.specs.declared.table.Ask.{Ask}
 use Rattle.command_line.specs.declared.table.Ask.TheVariants as ask
 use Rattle.command_line.specs.declared.table.Role.{Role}
@@ -103,19 +105,38 @@ request_for ask workload tasks rows = do
   source ← source_in workload names
   node ← taken (has task.Compile tasks) (first_of (codes "node") rows)
   conflicts ← taken_number (has task.Judge tasks) most_conflicts (first_of (codes "conflicts") rows)
-  Some (record { ask = ask; node = node; conflicts = conflicts; source = source })
+  Some (record { ask = ask; node = node; conflicts = conflicts; wanted = None; source = source })
 
--- the request that was given so, where one was: no option stands that may not, and beside a workload no file
+-- the request that was given so, an entry that is wanted aside, where one was: no option stands that may not, and beside a workload no file
 abbrev pub request_in : List Row → Option Request
 request_in rows = do
   ask ← ask_in (first_of (codes "ask") rows)
-  workload ← taken_number (has task.Judge (ask_row ask).tasks) MOST_WORKLOAD (first_of (codes "workload") rows)
+  workload ← taken_number (has task.Load (ask_row ask).tasks) MOST_WORKLOAD (first_of (codes "workload") rows)
   request_for ask workload (beside workload (ask_row ask).tasks) rows
+
+-- the entry stands at the path that the text names, which isn't the root, and has this content, if one is given
+pub record IsEntryAt (text : Text) (held : Option Text) (w : Wanted) : Type 0 where
+  pub names : IsPathText text w.path
+  pub below : w.path ≢ []
+  pub holds : w.content ≡ held
+
+-- the entry that is wanted by a path and a content, which may be given, or may not
+abbrev pub IsWanted : Bool → Option Text → Option Text → Option Wanted → Type 0
+IsWanted true (Some path) content (Some w) = IsEntryAt path content w
+IsWanted true (Some path) content None = ⊥
+IsWanted true None content w = ⊥
+IsWanted false path content None = (path ≡ None) × (content ≡ None)
+IsWanted false path content (Some w) = ⊥
+
+-- The request was given so: with an entry that is wanted, just where one may be.
+pub record IsGiven (rows : List Row) (request : Request) : Type 0 where
+  pub plain : request_in rows ≡ Some (record request { wanted = None })
+  pub wanted : IsWanted (has task.Want (ask_row request.ask).tasks) (first_of (codes "path") rows) (first_of (codes "content") rows) request.wanted
 
 -- The words are those of the command, and make this request.
 pub record Makes (words : List Text) (request : Request) : Type 0 where
   pub taken : fault_of synopsis words ≡ []
-  pub given : request_in (matches_of synopsis words) ≡ Some request
+  pub given : IsGiven (matches_of synopsis words) request
 
 -- a fact where the fault is that the words are refused
 abbrev pub IfRefused : WordsFault → Type 0 → Type 0

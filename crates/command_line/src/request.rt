@@ -7,6 +7,7 @@ ghost use Rattle.command_line.specs.Table.{given};
 use crate::size::Size;
 use crate::table::{Ask, Role};
 use rh_base::{Seq, Text};
+use wanted_entry::Wanted;
 
 /// A content for each file that there is, with its role, in the order of the roles: a name, what was read, or bytes.
 pub type ByRole<T> = Seq<(Role, T)>;
@@ -20,12 +21,14 @@ pub enum Source {
     Workload(Size),
 }
 
-/// What is asked for and about what, the node's name, if the words give one, and how many conflicts a question has.
+/// What is asked for and about what, the node's name, if the words give one, how many conflicts a question has, and the entry that
+/// is wanted, where one may be.
 #[derive(Debug, Drop)]
 pub struct Request {
     pub ask: Ask,
     pub node: Option<Text>,
     pub conflicts: Option<u64>,
+    pub wanted: Option<Wanted>,
     pub source: Source,
 }
 

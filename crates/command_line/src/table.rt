@@ -1,7 +1,7 @@
 //! The table of requests: a row for each value of `--ask`, one for each file that may be named, and the options.
 
 ghost use Rattle.std.specs.Prelude.{◌≡◌, ◌==◌, ◌<◌, ◌^◌};
-ghost use Rattle.command_line.specs.Table.{reading, compiling, modelling, judging, replaying, has, beside, ask_row, ask_among, ask_named, role_row, limit_of, place, usage_line};
+ghost use Rattle.command_line.specs.Table.{reading, compiling, modelling, judging, rehearsing, replaying, wanting, has, beside, ask_row, ask_among, ask_named, role_row, limit_of, place, usage_line};
 
 use crate::size::Size;
 use rh_base::limits::{
@@ -27,6 +27,10 @@ pub enum Ask {
     Check,
     /// A listing of packages in its newest form.
     Migrate,
+    /// Which arrows a manifest lacks.
+    Repair,
+    /// Whether each run of a manifest that ends leaves an entry.
+    Ensures,
 }
 
 /// The files that a request may name.
@@ -57,8 +61,12 @@ pub enum Task {
     Model,
     /// To judge that.
     Judge,
+    /// To judge a workload in place of an input.
+    Load,
     /// To run it over a file tree.
     Replay,
+    /// To look for an entry that is wanted.
+    Want,
 }
 
 /// What there is to do for a request.
@@ -68,11 +76,13 @@ pub struct Tasks {
     pub compiles: bool,
     pub models: bool,
     pub judges: bool,
+    pub loads: bool,
     pub replays: bool,
+    pub wants: bool,
 }
 
 /// The values of `--ask`, each of which has a row below.
-const ASKS: [Ask; 8] = [
+const ASKS: [Ask; 10] = [
     Ask::Verify,
     Ask::Proof,
     Ask::Catalog,
@@ -81,6 +91,8 @@ const ASKS: [Ask; 8] = [
     Ask::Replay,
     Ask::Check,
     Ask::Migrate,
+    Ask::Repair,
+    Ask::Ensures,
 ];
 
 /// The files, in the order in which they are read and refusals are looked for. Each has a row below.
@@ -94,7 +106,7 @@ pub(crate) const ROLES: [Role; 6] = [
 ];
 
 /// The options, in the order of the line of usage.
-pub(crate) const OPTIONS: [&str; 9] = [
+pub(crate) const OPTIONS: [&str; 11] = [
     "facts",
     "packages",
     "node",
@@ -103,6 +115,8 @@ pub(crate) const OPTIONS: [&str; 9] = [
     "tree",
     "order",
     "workload",
+    "path",
+    "content",
     "data",
 ];
 
@@ -110,7 +124,7 @@ pub(crate) const OPTIONS: [&str; 9] = [
 pub fn usage_line() -> &'static [u8]
     ensures { result.now ≡ usage_line }
 {
-    b"usage: rehearsal [--facts F] [--packages P] [--node N] [--conflicts C] [--ask A] [--tree T] [--order O] [--workload N] [--data D] [INPUT]\n"
+    b"usage: rehearsal [--facts F] [--packages P] [--node N] [--conflicts C] [--ask A] [--tree T] [--order O] [--workload N] [--path P] [--content T] [--data D] [INPUT]\n"
 }
 
 /// To read a text.
@@ -122,7 +136,9 @@ fn reading() -> Tasks
         compiles: false,
         models: false,
         judges: false,
+        loads: false,
         replays: false,
+        wants: false,
     }
 }
 
@@ -153,12 +169,30 @@ fn judging() -> Tasks
     tasks
 }
 
+/// That, and to judge a workload in place of an input.
+fn rehearsing() -> Tasks
+    ensures { result ≡ rehearsing }
+{
+    let mut tasks = judging();
+    tasks.loads = true;
+    tasks
+}
+
 /// To say what they do, and to run them.
 fn replaying() -> Tasks
     ensures { result ≡ replaying }
 {
     let mut tasks = modelling();
     tasks.replays = true;
+    tasks
+}
+
+/// To judge them, and to look for an entry that is wanted.
+fn wanting() -> Tasks
+    ensures { result ≡ wanting }
+{
+    let mut tasks = judging();
+    tasks.wants = true;
     tasks
 }
 
@@ -172,7 +206,9 @@ impl Tasks {
             Task::Compile => self.compiles,
             Task::Model => self.models,
             Task::Judge => self.judges,
+            Task::Load => self.loads,
             Task::Replay => self.replays,
+            Task::Want => self.wants,
         }
     }
 
@@ -187,7 +223,9 @@ impl Tasks {
                 compiles: false,
                 models: false,
                 judges: self.judges,
+                loads: false,
                 replays: false,
+                wants: false,
             },
         }
     }
@@ -202,14 +240,16 @@ impl Ask {
         ensures small { result.2 < 2 ^ 32 }
     {
         match self {
-            Ask::Verify => ("verify", judging(), MANIFEST_BYTES),
-            Ask::Proof => ("proof", judging(), MANIFEST_BYTES),
+            Ask::Verify => ("verify", rehearsing(), MANIFEST_BYTES),
+            Ask::Proof => ("proof", rehearsing(), MANIFEST_BYTES),
             Ask::Catalog => ("catalog", compiling(), MANIFEST_BYTES),
             Ask::Graph => ("graph", compiling(), MANIFEST_BYTES),
             Ask::Programs => ("programs", modelling(), MANIFEST_BYTES),
             Ask::Replay => ("replay", replaying(), MANIFEST_BYTES),
             Ask::Check => ("check", reading(), PROOF_BYTES),
             Ask::Migrate => ("migrate", reading(), LISTING_BYTES),
+            Ask::Repair => ("repair", judging(), MANIFEST_BYTES),
+            Ask::Ensures => ("ensures", wanting(), MANIFEST_BYTES),
         }
     }
 

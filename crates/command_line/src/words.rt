@@ -1,11 +1,13 @@
 //! What the words ask for.
 
-ghost use Rattle.std.specs.Prelude.{◌≡◌, ◌≢◌, ◌↔◌, ◌<◌, ◌^◌, [], map, string_bytes, None, IsTrue, IfOk, IfErr, OnOk, codes};
+ghost use Rattle.std.specs.Prelude.{◌≡◌, ◌≢◌, Option, ◌↔◌, ◌<◌, ◌^◌, [], map, string_bytes, None, IsTrue, IfOk, IfErr, OnOk, codes};
 ghost use Rattle.std.specs.Option.{option_map};
 ghost use Rattle.clap.specs.Words.{found_of, rows_of, first_of, matches_of, fault_of, kind_of};
 ghost use Rattle.clap.specs.declared.error.kind.ErrorKind.TheVariants.{OutOfMemory};
 ghost use Rattle.command_line.specs.declared.size.TheConstants.{MOST_WORKLOAD};
-ghost use Rattle.command_line.specs.Words.{synopsis, ask_in, taken, taken_number, names_in, source_in, request_for, request_in, Makes, IfRefused, IsMade, IsWithin};
+ghost use Rattle.command_line.specs.Words.{synopsis, ask_in, taken, taken_number, names_in, source_in, request_for, request_in, IsEntryAt, IsWanted, IsGiven, Makes, IfRefused, IsMade, IsWithin};
+ghost use Rattle.command_line.specs.declared.request.Request.{Request};
+ghost use Rattle.wanted_entry.specs.declared.wanted.Wanted.{Wanted};
 
 use crate::command::synopsis;
 use crate::numbers::number;
@@ -14,8 +16,10 @@ use crate::size::{MOST_WORKLOAD, Size};
 use crate::table::{Ask, ROLES, Role, Task, Tasks};
 use clap::ArgMatches;
 use clap::error::{Error, ErrorKind};
+use fs_lang::{Path, PathFault};
 use rh_base::{NoMemory, Seq, Text};
 use std::alloc::Global;
+use wanted_entry::Wanted;
 
 /// Why words ask for nothing.
 #[derive(Clone, Copy, Debug, PartialEq, Eq)]
@@ -164,19 +168,71 @@ fn request_for(
         ask,
         node,
         conflicts,
+        wanted: None,
         source,
     })
 }
 
-/// What is asked for, where no option stands that may not.
+/// What is asked for, an entry that is wanted aside, where no option stands that may not.
 #[tactic(auto, using(crate::proofs::RoleLaws::whole))]
-fn request_of(alloc: Global, matches: &ArgMatches<'_>) -> Result<Request, WordsFault>
+fn plain_request(alloc: Global, matches: &ArgMatches<'_>) -> Result<Request, WordsFault>
     ensures { IsMade (request_in (rows_of (found_of matches.now))) result }
 {
     let ask = ask_of(matches)?;
-    let workload = size(matches, ask.tasks().has(Task::Judge))?;
+    let workload = size(matches, ask.tasks().has(Task::Load))?;
     let tasks = ask.tasks().beside(&workload);
     request_for(alloc, matches, ask, workload, &tasks)
+}
+
+/// The entry at the path that a text names, with this content, if one is given.
+fn entry_at(alloc: Global, path: &str, content: Option<&str>) -> Result<Wanted, WordsFault>
+    ensures made { IfOk result (IsEntryAt path.now (option_map (λ s. s.now) content.entry)) }
+    ensures refused { IfErr result (λ e. IfRefused e ((w : Wanted) → IsEntryAt path.now (option_map (λ s. s.now) content.entry) w → ⊥)) }
+{
+    let path = match Path::read(alloc, path) {
+        Ok(path) => path,
+        Err(PathFault::Bad) => return Err(WordsFault::Refused),
+        Err(PathFault::Memory(m)) => return Err(WordsFault::Memory(m)),
+    };
+    if path.segments().is_empty() {
+        return Err(WordsFault::Refused);
+    }
+    let content = match content {
+        Some(word) => Some(text(alloc, word)?),
+        None => None,
+    };
+    Ok(Wanted { path, content })
+}
+
+/// The entry that is wanted, where one may be; nothing is given of one where none may.
+fn wanted(
+    alloc: Global,
+    matches: &ArgMatches<'_>,
+    may: bool,
+) -> Result<Option<Wanted>, WordsFault>
+    ensures made { IfOk result (IsWanted may (first_of (codes "path") (rows_of (found_of matches.now))) (first_of (codes "content") (rows_of (found_of matches.now)))) }
+    ensures refused { IfErr result (λ e. IfRefused e ((w : Option Wanted) → IsWanted may (first_of (codes "path") (rows_of (found_of matches.now))) (first_of (codes "content") (rows_of (found_of matches.now))) w → ⊥)) }
+{
+    let content = value(matches, "content");
+    match (may, value(matches, "path")) {
+        (true, Some(path)) => Ok(Some(entry_at(alloc, path, content)?)),
+        (true, None) => Err(WordsFault::Refused),
+        (false, Some(_)) => Err(WordsFault::Refused),
+        (false, None) => match content {
+            Some(_) => Err(WordsFault::Refused),
+            None => Ok(None),
+        },
+    }
+}
+
+/// What is asked for, where no option stands that may not.
+fn request_of(alloc: Global, matches: &ArgMatches<'_>) -> Result<Request, WordsFault>
+    ensures made { IfOk result (IsGiven (rows_of (found_of matches.now))) }
+    ensures refused { IfErr result (λ e. IfRefused e ((request : Request) → IsGiven (rows_of (found_of matches.now)) request → ⊥)) }
+{
+    let mut request = plain_request(alloc, matches)?;
+    request.wanted = wanted(alloc, matches, request.ask.tasks().has(Task::Want))?;
+    Ok(request)
 }
 
 /// Whether memory was refused.

@@ -2,15 +2,31 @@
 
 ghost use Rattle.std.specs.Prelude.{◌≡◌, ◌<◌, ◌++◌, true, length, IfOk, OnOk};
 ghost use Rattle.orders.specs.Relation.{comes};
-ghost use Rattle.graph_semantics.specs.Graphs.{reference_at, resource_lines, pair_line, pair_lines, order_lines, graph_text};
+ghost use Rattle.graph_semantics.specs.Graphs.{printed_at, resource_lines, pair_line, pair_lines, order_lines, graph_text};
 
 use crate::answer::Graph;
 use crate::circle::push_reference_at;
 use crate::pairs::comes;
 use catalog::Catalog;
 use orders::Order;
+use printed_names::printed;
 use rh_base::{NoMemory, Text};
 use std::alloc::Global;
+
+/// Adds the reference of a resource as it is printed.
+fn push_printed_at(
+    alloc: Global,
+    catalog: &Catalog,
+    place: u32,
+    text: &mut Text,
+) -> Result<(), NoMemory>
+    ensures { OnOk result (text.new ≡ text.old ++ printed_at catalog.now place) }
+{
+    let mut shown = Text::new(alloc);
+    push_reference_at(alloc, catalog, place, &mut shown)?;
+    let name = printed(alloc, shown.as_str())?;
+    text.push(name.as_str())
+}
 
 fn push_resources(
     alloc: Global,
@@ -21,7 +37,7 @@ fn push_resources(
     ensures { OnOk result (text.new ≡ text.old ++ resource_lines catalog.now plain.now) }
 {
     for place in plain {
-        push_reference_at(alloc, catalog, *place, text)?;
+        push_printed_at(alloc, catalog, *place, text)?;
         text.push("\n")?;
     }
     Ok(())
@@ -34,11 +50,11 @@ fn push_pair(
     right: u32,
     text: &mut Text,
 ) -> Result<(), NoMemory>
-    ensures { OnOk result (text.new ≡ text.old ++ pair_line true (reference_at catalog.now left) (reference_at catalog.now right)) }
+    ensures { OnOk result (text.new ≡ text.old ++ pair_line true (printed_at catalog.now left) (printed_at catalog.now right)) }
 {
-    push_reference_at(alloc, catalog, left, text)?;
+    push_printed_at(alloc, catalog, left, text)?;
     text.push(" -> ")?;
-    push_reference_at(alloc, catalog, right, text)?;
+    push_printed_at(alloc, catalog, right, text)?;
     text.push("\n")
 }
 
@@ -50,7 +66,7 @@ fn push_pair_if(
     right: u32,
     text: &mut Text,
 ) -> Result<(), NoMemory>
-    ensures { OnOk result (text.new ≡ text.old ++ pair_line before (reference_at catalog.now left) (reference_at catalog.now right)) }
+    ensures { OnOk result (text.new ≡ text.old ++ pair_line before (printed_at catalog.now left) (printed_at catalog.now right)) }
 {
     if before {
         push_pair(alloc, catalog, left, right, text)

@@ -1,4 +1,3 @@
-pub mod AnswerLaws
 pub mod FirstExtension
 pub mod SecondLaws
 pub mod EndLaws

@@ -10,7 +10,8 @@ use Rattle.cnf.specs.declared.log.Log.{Log}
 use Rattle.proof_check.specs.Refuted.{Refutation}
 use Rattle.order_encode.specs.declared.witness.Witness.{Witness}
 use Rattle.judgement.specs.First.{IsPrunedCount, IsProof, IsAlone, IfProved}
-use Rattle.judgement.specs.Answers.{UsesUp, IsJudged}
+use Rattle.answering.specs.Answers.{UsesUp}
+use Rattle.judgement.specs.Answers.{IsJudged}
 use Rattle.judgement.specs.declared.first.First.TheVariants as first
 use Rattle.judgement.specs.declared.first.Sure.{Sure}
 use Rattle.judgement.specs.declared.first.Sure.TheVariants as sure

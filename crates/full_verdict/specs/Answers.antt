@@ -1,48 +1,20 @@
 -- What comes of a question about the first extension, and all that is said of a verdict.
-use Rattle.std.specs.Prelude.{◌≡◌, ◌↔◌, ℕ, Bool, List, [], ◌∷◌}
+use Rattle.std.specs.Prelude.{◌≡◌, ◌↔◌, ℕ, List, [], ◌∷◌}
 use Rattle.fs_semantics.specs.Programs.{Program}
 use Rattle.fs_semantics.specs.Orders.{Told, IsDeterministic, IsIdempotent, Succeeds}
 use Rattle.orders.specs.Relation.{Relation, comes}
 use Rattle.commute_prune.specs.Keeping.{Keeps}
-use Rattle.cnf.specs.Encoding.{inputs_in}
-use Rattle.cnf.specs.Formulas.{Formula, Satisfies}
-use Rattle.proof_check.specs.Refuted.{Refutation, HasNoModel}
-use Rattle.order_encode.specs.Asked.{Asked, Shows}
+use Rattle.proof_check.specs.Refuted.{Refutation}
 use Rattle.order_encode.specs.declared.witness.Witness.{Witness}
 use Rattle.order_encode.specs.declared.witness.Witness.TheVariants as witness
 use Rattle.judgement.specs.First.{IsPrunedCount, IsProof, IsDifference}
-use Rattle.judgement.specs.Answers.{UsesUp}
+use Rattle.answering.specs.Answers.{AnswersBy}
+use Rattle.answering.specs.declared.answering.Answer.{Answer}
 use Rattle.judgement.specs.declared.first.Sure.{Sure}
 use Rattle.judgement.specs.declared.first.Sure.TheVariants as sure
-use Rattle.full_verdict.specs.declared.answering.Answer.{Answer}
-use Rattle.full_verdict.specs.declared.answering.Answer.TheVariants as answer
 use Rattle.full_verdict.specs.declared.verdicts.Verdict.{Verdict}
 use Rattle.full_verdict.specs.Questions.{StatesSecond, StatesEnd, IsSecondProof, IsEndProof, IsSecondChange, IsEnd}
 use Rattle.full_verdict.specs.Verdicts.{pruned_in, IsByPruning, IfByProof, IfDifferent, IfJudged, IfSame, IfChanged, IfFrom, IfNever, IfSpent, IfSpentAfter, IsSpentOn, IsKnownBefore, AreProofsBefore}
-
--- The formula has no model; or the witness is what a model tells; or the budget was spent on the formula.
-abbrev pub Answers : {B : Type 0} → Asked B → ℕ → Answer → Type 0
-Answers q budget (answer.Refuted v) = (v.formula ≡ q.formula) × HasNoModel q.formula
-Answers q budget (answer.Shown w) = (v : ℕ → Bool) × Satisfies v q.formula.clauses × Shows q (inputs_in v) w
-Answers q budget (answer.Spent cnf log) = (cnf ≡ q.formula) × UsesUp budget cnf log.steps
-
--- the answer is the witness that these inputs tell
-abbrev pub IsReadFrom : {B : Type 0} → Asked B → (ℕ → Bool) → Answer → Type 0
-IsReadFrom q v (answer.Refuted w) = ⊥
-IsReadFrom q v (answer.Shown w) = Shows q v w
-IsReadFrom q v (answer.Spent cnf log) = ⊥
-
--- the answer holds this formula, which has no model
-abbrev pub IsRefuted : Formula → Answer → Type 0
-IsRefuted f (answer.Refuted v) = (v.formula ≡ f) × HasNoModel f
-IsRefuted f (answer.Shown w) = ⊥
-IsRefuted f (answer.Spent cnf log) = ⊥
-
--- The same, by what the formula states, what holds where it has no model, and what a witness shows.
-abbrev pub AnswersBy : (Formula → Type 0) → Type 0 → (Witness → Type 0) → ℕ → Answer → Type 0
-AnswersBy states none shows budget (answer.Refuted v) = none × states v.formula × HasNoModel v.formula
-AnswersBy states none shows budget (answer.Shown w) = shows w
-AnswersBy states none shows budget (answer.Spent cnf log) = states cnf × UsesUp budget cnf log.steps
 
 -- whether a second run changes anything
 abbrev pub AnswersSecond : List Program → Relation → ℕ → Answer → Type 0

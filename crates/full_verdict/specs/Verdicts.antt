@@ -9,7 +9,7 @@ use Rattle.cnf.specs.declared.log.Step.{Step}
 use Rattle.proof_check.specs.Refuted.{Refutation}
 use Rattle.order_encode.specs.declared.witness.Witness.{Witness}
 use Rattle.judgement.specs.First.{IsProof, IsSpent}
-use Rattle.judgement.specs.Answers.{UsesUp}
+use Rattle.answering.specs.Answers.{UsesUp}
 use Rattle.judgement.specs.declared.first.Sure.{Sure}
 use Rattle.judgement.specs.declared.first.Sure.TheVariants as sure
 use Rattle.full_verdict.specs.declared.verdicts.Asked.{Asked}

@@ -14,10 +14,10 @@ ghost use Rattle.full_verdict.specs.Questions.{IsSecondProof, IsEndProof, IsSeco
 ghost use Rattle.full_verdict.specs.Verdicts.{pruned_in, IsByPruning, IfByProof, IfDifferent, IfJudged, IfSame, IfChanged, IfFrom, IfNever, IfSpent, IfSpentAfter, IsSpentOn, IsKnownBefore, AreProofsBefore};
 ghost use Rattle.full_verdict.specs.Answers.{IsVerdict, proofs_in};
 
-use crate::answering::Answer;
 use crate::second::{ask_second, first_run};
 use crate::success::ask_end;
 use crate::verdicts::{Asked, Ends, Second, Verdict};
+use answering::Answer;
 use fs_lang::Program;
 use judgement::{First, Sure, judge_order};
 use orders::Order;

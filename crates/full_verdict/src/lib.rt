@@ -2,11 +2,11 @@
 //! succeeds from some tree.
 #![tactic(auto)]
 
-mod answering;
 mod judging;
 mod second;
 mod success;
 mod verdicts;
 
 pub use judging::judge;
+pub use success::ask_end;
 pub use verdicts::{Asked, Ends, Second, Verdict};

@@ -12,7 +12,7 @@ ghost use Rattle.order_encode.specs.declared.witness.Witness.{Witness};
 ghost use Rattle.full_verdict.specs.Questions.{StatesSecond, IsSecondChange};
 ghost use Rattle.full_verdict.specs.Answers.{AnswersSecond, IsTwice, IsEndOf};
 
-use crate::answering::{Answer, answer_to};
+use answering::{Answer, answer_to};
 use commute_prune::are_proper;
 use finite_domain::{domains, witnesses_over_the_domain};
 use fs_lang::Program;

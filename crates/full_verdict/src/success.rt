@@ -12,7 +12,7 @@ ghost use Rattle.order_encode.specs.declared.witness.Witness.{Witness};
 ghost use Rattle.full_verdict.specs.Questions.{StatesEnd, IsEnd};
 ghost use Rattle.full_verdict.specs.Answers.{AnswersEnd};
 
-use crate::answering::{Answer, answer_to};
+use answering::{Answer, answer_to};
 use finite_domain::{domains, shadows};
 use fs_lang::Program;
 use order_encode::{Question, ask_some};
@@ -39,8 +39,8 @@ fn end_question(alloc: Global, programs: &[Program], order: &Order) -> Result<Qu
     Ok(posed)
 }
 
-/// Asks whether the graph succeeds.
-pub(crate) fn ask_end(
+/// Asks whether a deterministic graph succeeds: the witness of a model is a tree from which the first extension ends in a tree.
+pub fn ask_end(
     alloc: Global,
     programs: &[Program],
     order: &Order,

@@ -3,6 +3,7 @@ use Rattle.std.specs.Prelude.{◌≡◌, ◌↔◌, ◌<◌, ◌≤◌, ℕ, zer
 use Rattle.std.specs.Prelude.{Option, Some, None}
 use Rattle.std.specs.List.{AllByRecursion, Contains, flat_map}
 use Rattle.rh_base.specs.declared.fault.Refusal.{Refusal}
+use Rattle.printed_names.specs.Printed.{printed}
 use Rattle.pp_value.specs.Shown.{shown_ref}
 use Rattle.pp_eval.specs.Verdicts.{refusal}
 use Rattle.fs_semantics.specs.Orders.{times}
@@ -143,9 +144,13 @@ reference_of (Some r) = shown_ref r.id
 abbrev pub reference_at : Catalog → ℕ → List ℕ
 reference_at c place = reference_of (slice_get c.resources place)
 
+-- the same as it is printed
+abbrev pub printed_at : Catalog → ℕ → List ℕ
+printed_at c place = printed (reference_at c place)
+
 -- a line for each plain resource
 abbrev pub resource_lines : Catalog → List ℕ → List ℕ
-resource_lines c plain = flat_map (λ place. reference_at c place ++ codes "\n") plain
+resource_lines c plain = flat_map (λ place. printed_at c place ++ codes "\n") plain
 
 -- the line of a pair, if the one comes before the other
 abbrev pub pair_line : Bool → List ℕ → List ℕ → List ℕ
@@ -155,7 +160,7 @@ pair_line true left right = left ++ (codes " -> " ++ (right ++ codes "\n"))
 -- the lines of those that come after one, among the first n
 abbrev pub pair_lines : Catalog → List ℕ → (ℕ → ℕ → Bool) → ℕ → ℕ → List ℕ
 pair_lines c plain before i zero = []
-pair_lines c plain before i (suc j) = pair_lines c plain before i j ++ pair_line (before i j) (reference_at c (slice_index plain i)) (reference_at c (slice_index plain j))
+pair_lines c plain before i (suc j) = pair_lines c plain before i j ++ pair_line (before i j) (printed_at c (slice_index plain i)) (printed_at c (slice_index plain j))
 
 -- of the first n, each with those that come after it
 abbrev pub order_lines : Catalog → List ℕ → (ℕ → ℕ → Bool) → ℕ → List ℕ

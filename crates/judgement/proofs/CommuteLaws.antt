@@ -1,6 +1,6 @@
 -- Programs that commute wherever neither comes before the other.
-use Rattle.std.proofs.Common.{◌≡◌, inl, inr, ℕ, List, [], ◌∷◌, Some, None, refl, sym, ◌∙◌}
-use Rattle.std.specs.Prelude.{◌↔◌, slice_index_or}
+use Rattle.std.proofs.Common.{◌≡◌, inl, inr, ℕ, List, [], ◌∷◌, Option, Some, None, refl, sym, subst, ◌∙◌}
+use Rattle.std.specs.Prelude.{◌↔◌, slice_index_or, IfSome, IfNone}
 use Rattle.fs_semantics.specs.FileTree.{Tree, IsTree}
 use Rattle.fs_semantics.specs.Programs.{Program, Id, Outcome, and_then, run}
 use Rattle.fs_semantics.specs.Orders.{IsDeterministic, FreeCommute, outcome}
@@ -12,7 +12,7 @@ use Rattle.finite_domain.specs.Layouts.{Layout, domain_of, IsLayout}
 use Rattle.path_domain.specs.declared.listed.Domain.{Domain}
 use Rattle.path_domain.specs.Laid.{layout_of}
 use Rattle.cnf.specs.Formulas.{Formula, IsSatisfiable}
-use Rattle.proof_check.specs.Refuted.{HasNoModel}
+use Rattle.proof_check.specs.Refuted.{Refutation, HasNoModel}
 use Rattle.order_encode.specs.Witnesses.{HasApartPair}
 use Rattle.judgement.specs.Answers.{IsNo, StatesCommuting}
 
@@ -63,11 +63,22 @@ module _ (laid : LaidOut) (shadowed : Shadowed) (telling : Telling) (es : List P
 
 -- a formula without a model states the question of programs that are deterministic
 pub no_order : (es : List Program) (before : ℕ → ℕ → Type 0) (f : Formula) → IsDeterministic es before → HasNoModel f → IsNo es before f
-no_order es before f sure no_model = record {
-  deterministic = sure;
-  states = λ d is. (
+no_order es before f sure no_model = (
+  sure,
+  (λ d is. (
     (λ sat. absurd (no_model sat.0 sat.1)),
     (λ h. let c = h.counterexample in absurd (c.differ (sure h.tree c.is_tree h.left h.right c.left_allowed c.right_allowed))),
-  );
-  no_model = no_model;
-}
+  )),
+  no_model,
+)
+
+-- where the formula was refuted, programs that are deterministic then have no differences
+pub refuted_no : (es : List Program) (before : ℕ → ℕ → Type 0) (f : Formula) → (HasNoModel f → IsDeterministic es before) → (found : Option Refutation) → IfSome found (λ v. v.formula ≡ f) → IfSome found (λ v. HasNoModel f)
+    → IfSome found (λ v. IsNo es before v.formula)
+refuted_no es before f sure None is none = tt
+refuted_no es before f sure (Some v) is none = subst (IsNo es before) (sym is) (no_order es before f (sure none) none)
+
+-- what follows where there is none
+pub none_by : {A : Type 0} {P Q : Type 0} (found : Option A) → (P → Q) → IfNone found P → IfNone found Q
+none_by None f h = f h
+none_by (Some a) f h = tt

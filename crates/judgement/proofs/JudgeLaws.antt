@@ -21,8 +21,10 @@ use Rattle.kept_graph.specs.declared.kept.Kept.{Kept}
 use Rattle.kept_graph.specs.Kept.{IsKept}
 use Rattle.judgement.specs.Questions.{States, StatesKept, IsKeptDeterministic}
 use Rattle.judgement.specs.First.{IsPrunedCount, IsDifference}
+use Rattle.order_encode.specs.declared.witness.Witness.{Witness}
 use Rattle.order_encode.specs.declared.witness.Witness.TheVariants as witness
-use Rattle.judgement.specs.Answers.{UsesUp, IsJudged}
+use Rattle.answering.specs.Answers.{UsesUp}
+use Rattle.judgement.specs.Answers.{IsJudged}
 use Rattle.judgement.proofs.CommuteLaws.{no_order}
 use Rattle.judgement.specs.declared.first.First.TheVariants as first
 use Rattle.judgement.specs.declared.first.Sure.TheVariants as sure
@@ -52,8 +54,8 @@ module _ {es : List Program} {order : Relation} {k : Kept} (is : IsKept es order
 
   -- where all programs are deterministic, any formula without a model states it, whether the kept graph is deterministic or not
   pub stated_by_any : (IsKeptDeterministic es (Told (comes order)) k.pruned.kept ⊎ (IsKeptDeterministic es (Told (comes order)) k.pruned.kept → ⊥)) → IsDeterministic es (Told (comes order)) → (f : Formula) → HasNoModel f → Stated f
-  stated_by_any (inl kept) det f none = inl (kept, (no_order (chosen es k.pruned.kept) (between (Told (comes order)) k.pruned.kept) f kept none).states)
-  stated_by_any (inr other) det f none = inr (other, (no_order es (Told (comes order)) f det none).states)
+  stated_by_any (inl kept) det f none = inl (kept, (no_order (chosen es k.pruned.kept) (between (Told (comes order)) k.pruned.kept) f kept none).1)
+  stated_by_any (inr other) det f none = inr (other, (no_order es (Told (comes order)) f det none).1)
 
   abbrev Asked : Formula → Type 0
   Asked f = StatesKept es (Told (comes order)) k.pruned.kept f ⊎ ((IsKeptDeterministic es (Told (comes order)) k.pruned.kept → ⊥) × States es (Told (comes order)) f)
@@ -69,8 +71,7 @@ module _ {es : List Program} {order : Relation} {k : Kept} (is : IsKept es order
     spent = tt;
   }
 
-  pub judged_differs : {budget n : ℕ} {t : Tree} {left right : List ℕ} → OnePruning → k.pruned.kept ≢ [] → IsPrunedCount es (Told (comes order)) n → IsDifference es (Told (comes order)) (witness.Orders t left right)
-      → IsJudged es order budget (first.Differs n (witness.Orders t left right))
+  pub judged_differs : {budget n : ℕ} {w : Witness} → OnePruning → k.pruned.kept ≢ [] → IsPrunedCount es (Told (comes order)) n → IsDifference es (Told (comes order)) w → IsJudged es order budget (first.Differs n w)
   judged_differs one some count found = record {
     pruned = count;
     alone = ((λ h. absurd h), (λ h. absurd (not_alone one some h)));
@@ -107,5 +108,5 @@ module _ {es : List Program} {order : Relation} {k : Kept} (is : IsKept es order
     not_deterministic t o p c det = let d = (same t o p).0 c in d.differ (det t d.is_tree o p d.left_allowed d.right_allowed)
 
 -- the orders as they are lent
-pub lent_counterexample : (es : List Program) (before : ℕ → ℕ → Type 0) (t : Tree) (o p lent other : List ℕ) → IsCounterexample es before t o p → lent ≡ o → other ≡ p → IsCounterexample es before t lent other
-lent_counterexample es before t o p lent other c e f = subst (λ x. IsCounterexample es before t x other) (sym e) (subst (IsCounterexample es before t o) (sym f) c)
+pub lent_difference : (es : List Program) (before : ℕ → ℕ → Type 0) (w : Witness) (t : Tree) (o p lent other : List ℕ) → IsDifference es before w → w ≡ witness.Orders t o p → lent ≡ o → other ≡ p → IsDifference es before (witness.Orders t lent other)
+lent_difference es before w t o p lent other h is e f = subst (λ x. IsDifference es before (witness.Orders t x other)) (sym e) (subst (λ x. IsDifference es before (witness.Orders t o x)) (sym f) (subst (IsDifference es before) is h))

@@ -1,5 +1,5 @@
 -- A question of order: over which domain it is asked doesn't matter.
-use Rattle.std.proofs.Common.{◌≡◌, ◌⊎◌, inl, inr, ℕ, Bool, List, sym, subst}
+use Rattle.std.proofs.Common.{◌≡◌, ◌⊎◌, inl, inr, ℕ, Bool, List, subst}
 use Rattle.std.specs.Prelude.{◌↔◌}
 use Rattle.fs_semantics.specs.FileTree.{Tree}
 use Rattle.fs_semantics.specs.Programs.{Program}
@@ -12,16 +12,12 @@ use Rattle.path_domain.specs.declared.listed.Domain.{Domain}
 use Rattle.path_domain.specs.Laid.{layout_of}
 use Rattle.cnf.specs.Formulas.{Formula, IsSatisfiable}
 use Rattle.proof_check.specs.Refuted.{HasNoModel}
-use Rattle.order_encode.specs.Asked.{Asked, Shows}
 use Rattle.order_encode.specs.Witnesses.{HaveDifferentOutcomes, ShowsDifference}
 use Rattle.order_encode.specs.declared.witness.Witness.{Witness}
 use Rattle.order_encode.specs.declared.witness.Witness.TheVariants as witness
 use Rattle.judgement.specs.Questions.{States}
 use Rattle.judgement.specs.First.{IsDifference}
-use Rattle.judgement.specs.Answers.{Answers, HasTwoOrders, IsRead, IsRefuted}
-use Rattle.judgement.specs.declared.asking.Answer.{Answer}
-use Rattle.judgement.specs.declared.asking.Answer.TheVariants as answer
-use Rattle.orders.specs.Relation.{Relation, comes}
+use Rattle.judgement.specs.Answers.{HasTwoOrders}
 
 -- what is known of layouts, and of counterexamples over a domain
 abbrev LaidOut : Type 0
@@ -53,25 +49,13 @@ difference es before d (witness.Orders tree left right) h = (h.counterexample, h
 difference es before d (witness.Twice tree order) h = absurd h
 difference es before d (witness.Ends tree order) h = absurd h
 
--- a formula that was refuted answers its question
-pub refuted : (es : List Program) (order : Relation) (budget : ℕ) (f : Formula) (a : Answer) → States es (Told (comes order)) f → (HasNoModel f → IsDeterministic es (Told (comes order))) → IsRefuted f a → Answers es order budget a
-refuted es order budget f (answer.Alike v) stated sure h = record { deterministic = sure h.1; states = subst (States es (Told (comes order))) (sym h.0) stated; no_model = subst HasNoModel (sym h.0) h.1 }
-refuted es order budget f (answer.Differ tree left right) stated sure h = absurd h
-refuted es order budget f (answer.Spent cnf log) stated sure h = absurd h
-
--- a witness that has two orders isn't of one
-pub not_two : (w : Witness) → HasTwoOrders w → ((t : Tree) × (o : List ℕ) × (w ≡ witness.Twice t o)) ⊎ ((t : Tree) × (o : List ℕ) × (w ≡ witness.Ends t o)) → ⊥
-not_two w h (inl e) = subst HasTwoOrders e.2 h
-not_two w h (inr e) = subst HasTwoOrders e.2 h
-
+-- what shows a difference has two orders
 pub has_two : (es : List Program) (before : ℕ → ℕ → Type 0) (w : Witness) → IsDifference es before w → HasTwoOrders w
 has_two es before (witness.Orders tree left right) h = tt
 has_two es before (witness.Twice tree order) h = absurd h
 has_two es before (witness.Ends tree order) h = absurd h
 
--- what a model tells answers the question
-pub told : {B : Type 0} (q : Asked B) (v : ℕ → Bool) (es : List Program) (order : Relation) (budget : ℕ) → ((w : Witness) → Shows q v w → IsDifference es (Told (comes order)) w)
-    → (a : Answer) → IsRead q v a → Answers es order budget a
-told q v es order budget shows (answer.Alike w) h = absurd h
-told q v es order budget shows (answer.Differ tree left right) h = shows (witness.Orders tree left right) h
-told q v es order budget shows (answer.Spent cnf log) h = absurd h
+-- a witness that has two orders isn't of one
+pub not_two : (w : Witness) → HasTwoOrders w → ((t : Tree) × (o : List ℕ) × (w ≡ witness.Twice t o)) ⊎ ((t : Tree) × (o : List ℕ) × (w ≡ witness.Ends t o)) → ⊥
+not_two w h (inl e) = subst HasTwoOrders e.2 h
+not_two w h (inr e) = subst HasTwoOrders e.2 h

@@ -8,13 +8,13 @@ ghost use Rattle.fs_lang.specs.Meaning.{program_of};
 ghost use Rattle.orders.specs.Relation.{comes};
 ghost use Rattle.judgement.specs.Settled.{PairCommutes};
 
-use crate::pairs::{question, verified};
+use crate::pairs::question;
+use answering::refuted;
 use fs_lang::Program;
 use kept_graph::program_at;
 use orders::{Order, OrderFault};
 use proof_check::Verified;
 use rh_base::{NoMemory, Seq};
-use sat_solver::{Found, solve_by};
 use std::alloc::Global;
 
 /// Two nodes of which neither comes before the other.
@@ -64,12 +64,8 @@ fn commute(
     let two = two_programs(alloc, programs, a, b)?;
     let order = two_nodes(alloc)?;
     let (cnf, firsts) = question(alloc, two.as_slice(), &order)?;
-    let found = solve_by(alloc, &cnf, firsts.as_slice(), budget)?;
-    match found {
-        Found::Refuted(log) => Ok(Some(verified(alloc, cnf, log)?)),
-        Found::Model(_) => Ok(None),
-        Found::Spent(_) => Ok(None),
-    }
+    let found = refuted(alloc, cnf, firsts.as_slice(), budget)?;
+    Ok(found)
 }
 
 /// A refuted formula, where the programs of a pair commute. There is none where they don't, where the budget was spent, or where the

@@ -10,18 +10,20 @@ ghost use Rattle.kept_graph.specs.Kept.{IsKept};
 ghost use Rattle.verdict.specs.Limits.{HasFewPaths, IsLight, IsTooLarge};
 ghost use Rattle.judgement.specs.Questions.{IsKeptDeterministic};
 ghost use Rattle.judgement.specs.First.{IsPrunedCount, IsProof, IsSpent, IsDifference, pruned_in, IsAlone, IfSure, IfProved, IfDiffers, IfSpent};
-ghost use Rattle.judgement.specs.Answers.{IsJudged};
+ghost use Rattle.order_encode.specs.declared.witness.Witness.TheVariants as orders;
+ghost use Rattle.judgement.specs.Answers.{HasTwoOrders, IsJudged};
 
-use crate::asking::{Answer, ask};
+use crate::asking::ask;
 use crate::first::{First, Sure};
 use crate::settling::{Settled, settle};
+use answering::Answer;
 use commute_prune::pruning;
 use finite_search::determinism_is_decided;
 use fs_lang::{Program, Tree};
 use kept_graph::{Completed, Kept, keep, kept_graphs, refute};
 use order_encode::Witness;
 use orders::Order;
-use rh_base::{Fault, NoMemory};
+use rh_base::{Fault, NoMemory, Seq};
 use std::alloc::Global;
 use tried_trees::Difference;
 use verdict::check_size;
@@ -56,15 +58,23 @@ fn judge_whole(
     let pruned = pruned_count(order, kept);
     let answer = ask(alloc, programs, order, budget)?;
     match answer {
-        Answer::Alike(verified) => Ok(First::Sure {
+        Answer::Refuted(verified) => Ok(First::Sure {
             pruned,
             sure: Sure::Proved(verified),
         }),
-        Answer::Differ { tree, left, right } => Ok(First::Differs {
-            pruned,
-            witness: Witness::Orders { tree, left, right },
-        }),
+        Answer::Shown(witness) => Ok(First::Differs { pruned, witness }),
         Answer::Spent(cnf, log) => Ok(First::Spent { pruned, cnf, log }),
+    }
+}
+
+/// The tree and the two orders of a difference.
+fn two_orders(witness: Witness) -> (Tree, Seq<u32>, Seq<u32>)
+    requires { HasTwoOrders witness }
+    ensures { witness ≡ orders.Orders result.0 result.1 result.2 }
+{
+    match witness {
+        Witness::Orders { tree, left, right } => (tree, left, right),
+        Witness::Twice { .. } | Witness::Ends { .. } => unreachable!(),
     }
 }
 
@@ -119,20 +129,23 @@ fn judge_kept(
     let pruned = pruned_count(order, kept);
     let answer = ask(alloc, kept.programs.as_slice(), &kept.order, budget)?;
     match answer {
-        Answer::Alike(verified) => Ok(First::Sure {
+        Answer::Refuted(verified) => Ok(First::Sure {
             pruned,
             sure: Sure::Proved(verified),
         }),
-        Answer::Differ { tree, left, right } => judge_found(
-            alloc,
-            programs,
-            order,
-            kept,
-            budget,
-            tree,
-            left.as_slice(),
-            right.as_slice(),
-        ),
+        Answer::Shown(witness) => {
+            let (tree, left, right) = two_orders(witness);
+            judge_found(
+                alloc,
+                programs,
+                order,
+                kept,
+                budget,
+                tree,
+                left.as_slice(),
+                right.as_slice(),
+            )
+        }
         Answer::Spent(cnf, log) => Ok(First::Spent { pruned, cnf, log }),
     }
 }

@@ -1,14 +1,13 @@
 //! Whether all programs commute of which neither comes before the other.
 
 ghost use Rattle.std.specs.Prelude.{◌≡◌, ◌≤◌, map, length, IfOk, IfNone, IfSome};
-ghost use Rattle.cnf.specs.Proofs.{IsAccepted};
 ghost use Rattle.fs_semantics.specs.Orders.{Told};
 ghost use Rattle.fs_lang.specs.Meaning.{program_of};
 ghost use Rattle.orders.specs.Relation.{comes};
 ghost use Rattle.judgement.specs.Answers.{IsNo, StatesCommuting, MayNotCommute};
-ghost use Rattle.proof_check.specs.Refuted.{HasNoModel};
 
-use cnf::{Cnf, Lit, Log};
+use answering::refuted;
+use cnf::{Cnf, Lit};
 use commute_prune::are_proper;
 use finite_domain::{domains, shadows};
 use fs_lang::Program;
@@ -16,9 +15,8 @@ use fs_semantics::neighbours;
 use order_encode::ask_pairs;
 use orders::Order;
 use path_domain::domain;
-use proof_check::{CheckFault, Verified, check};
+use proof_check::Verified;
 use rh_base::{NoMemory, Seq};
-use sat_solver::{Found, solve_by};
 use std::alloc::Global;
 
 /// A formula that has no model exactly where all programs commute of which neither comes before the other, and literals that a
@@ -37,19 +35,6 @@ pub(crate) fn question(
     ask_pairs(alloc, programs, order, &d)
 }
 
-/// The formula with its log, which is accepted.
-pub(crate) fn verified(alloc: Global, cnf: Cnf, log: Log) -> Result<Verified, NoMemory>
-    requires { IsAccepted cnf log.steps }
-    ensures formula { IfOk result (λ v. v.formula ≡ cnf) }
-    ensures no_model { IfOk result (λ v. HasNoModel cnf) }
-{
-    match check(alloc, cnf, log) {
-        Ok(verified) => Ok(verified),
-        Err(CheckFault::Bad(_)) => unreachable!(),
-        Err(CheckFault::Memory(m)) => Err(m),
-    }
-}
-
 /// A refuted formula, where all programs commute of which neither comes before the other. There is none where some don't, or
 /// where the budget was spent.
 pub(crate) fn all_commute(
@@ -66,10 +51,6 @@ pub(crate) fn all_commute(
     are_proper(programs);
     neighbours();
     let (cnf, firsts) = question(alloc, programs, order)?;
-    let found = solve_by(alloc, &cnf, firsts.as_slice(), budget)?;
-    match found {
-        Found::Refuted(log) => Ok(Some(verified(alloc, cnf, log)?)),
-        Found::Model(_) => Ok(None),
-        Found::Spent(_) => Ok(None),
-    }
+    let found = refuted(alloc, cnf, firsts.as_slice(), budget)?;
+    Ok(found)
 }

@@ -15,6 +15,7 @@ use Rattle.pp_data.specs.Form.{AreData}
 use Rattle.pkg_listing.specs.Packages.{Packages}
 use Rattle.pkg_listing.specs.Form.{IsListingText}
 use Rattle.tree_text.specs.TreeText.{IsTreeText}
+use Rattle.wanted_entry.specs.declared.wanted.Wanted.{Wanted}
 use Rattle.known_inputs.specs.declared.inputs.Inputs.{Inputs}
 use Rattle.known_inputs.specs.declared.inputs.Known.{Known}
 
@@ -34,6 +35,15 @@ bytes_or_none (Some bytes) = bytes
 -- the bytes of the input; none where it isn't named
 abbrev pub input_of : Inputs → List ℕ
 input_of i = bytes_or_none (bytes_of role.Input i)
+
+-- the entry, or any entry at the root
+abbrev pub wanted_or_root : Option Wanted → Wanted
+wanted_or_root None = record { path = []; content = None }
+wanted_or_root (Some w) = w
+
+-- the entry that is wanted
+abbrev pub wanted_of : Inputs → Wanted
+wanted_of i = wanted_or_root i.wanted
 
 -- ---- what the bytes say; without any, there is nothing
 

@@ -1,20 +1,23 @@
 //! The files that a request names, as bytes and as what they say.
 
-ghost use Rattle.std.specs.Prelude.{◌≡◌};
+ghost use Rattle.std.specs.Prelude.{◌≡◌, IfOk};
 ghost use Rattle.std.specs.Option.{option_map};
-ghost use Rattle.known_inputs.specs.Inputs.{bytes_of, input_of};
+ghost use Rattle.known_inputs.specs.Inputs.{bytes_of, input_of, wanted_of};
 
 use command_line::{ByRole, Role, given};
-use fs_lang::Tree;
+use fs_lang::{Path, Tree};
 use pkg_listing::Listing;
 use pp_data::Data;
 use pp_value::Value;
-use rh_base::{Seq, Text};
+use rh_base::{NoMemory, Seq, Text};
+use std::alloc::Global;
+use wanted_entry::Wanted;
 
-/// The bytes of each file that a request names, and the node's name.
+/// The bytes of each file that a request names, the node's name, and the entry that is wanted, if one may be.
 #[derive(Drop)]
 pub struct Inputs {
     pub node: Option<Text>,
+    pub wanted: Option<Wanted>,
     pub files: ByRole<Seq<u8>>,
 }
 
@@ -27,6 +30,24 @@ impl Inputs {
             Some(bytes) => Some(bytes.as_slice()),
             None => None,
         }
+    }
+
+    /// The entry that is wanted. Where none is given, which comes of no words that ask for one, it is any entry at the root.
+    pub fn wanted(&self, alloc: Global) -> Result<Wanted, NoMemory>
+        ensures { IfOk result (λ w. w ≡ wanted_of self.now) }
+    {
+        let Some(wanted) = &self.wanted else {
+            return Ok(Wanted {
+                path: Path::root(alloc)?,
+                content: None,
+            });
+        };
+        let path = wanted.path.copy(alloc)?;
+        let content = match &wanted.content {
+            Some(text) => Some(text.copy(alloc)?),
+            None => None,
+        };
+        Ok(Wanted { path, content })
     }
 
     /// The bytes of the input; none where it isn't named.

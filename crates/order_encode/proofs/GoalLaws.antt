@@ -23,12 +23,12 @@ use Rattle.order_encode.specs.Goals.{TellsTree, AreAllowed, EndApart}
 false_not_true : {P : Type 0} → false ≡ true → P
 false_not_true e = cc
 
-and_true : (a b : Bool) → (a && b) ≡ true → (a ≡ true) × (b ≡ true)
+pub and_true : (a b : Bool) → (a && b) ≡ true → (a ≡ true) × (b ≡ true)
 and_true true true e = (refl, refl)
 and_true true false e = false_not_true e
 and_true false b e = false_not_true e
 
-true_and : (a b : Bool) → a ≡ true → b ≡ true → (a && b) ≡ true
+pub true_and : (a b : Bool) → a ≡ true → b ≡ true → (a && b) ≡ true
 true_and a b e h = λ i. e i && h i
 
 pub if_ok_both : {X E : Type 0} (P Q R : X → Type 0) (r : Result X E) → ((x : X) → P x → Q x → R x) → IfOk r P → IfOk r Q → IfOk r R

@@ -10,3 +10,5 @@ pub mod ReadLaws
 pub mod TableLaws
 pub mod ForkLaws
 pub mod PairLaws
+pub mod ToldLaws
+pub mod MissingLaws

@@ -1,5 +1,6 @@
 //! Questions about an order of programs as formulas: do two allowed orders end differently, do two programs, does a second run
-//! change what the first one left, does an order end in a tree, each from a tree over the domain?
+//! change what the first one left, does an order end in a tree, or in one
+//! without a wanted entry, each from a tree over the domain?
 #![tactic(auto)]
 
 mod again;
@@ -10,14 +11,17 @@ mod extension;
 mod fork;
 mod goal;
 mod known;
+mod missing;
 mod order;
 mod pairs;
 mod question;
 mod read;
 mod table;
+mod wanted;
 mod witness;
 
 pub use extension::{ask_some, ask_twice};
+pub use missing::ask_missing;
 pub use order::ask_order;
 pub use pairs::ask_pairs;
 pub use question::Question;

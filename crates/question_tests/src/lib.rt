@@ -2,6 +2,8 @@
 #![tactic(auto)]
 
 #[cfg(test)]
+mod ensured;
+#[cfg(test)]
 mod formulas;
 #[cfg(test)]
 mod judging;
@@ -9,6 +11,8 @@ mod judging;
 mod pairs;
 #[cfg(test)]
 mod programs;
+#[cfg(test)]
+mod repairs;
 #[cfg(test)]
 mod tries;
 #[cfg(test)]

@@ -17,13 +17,16 @@ use Rattle.orders.specs.Relation.{Relation}
 use Rattle.verdict_report.specs.declared.report.Form.{Form}
 use Rattle.verdict_report.specs.declared.report.Form.TheVariants as form
 use Rattle.verdict_report.specs.Told.{IsTold}
+use Rattle.repair_report.specs.Told.{IsRepairTold}
+use Rattle.wanted_entry.specs.declared.wanted.Wanted.{Wanted}
+use Rattle.entry_report.specs.Told.{IsEntryTold}
 use Rattle.verdict_report.specs.declared.report.Report.{Report}
 use Rattle.rehearsal_core.specs.Inputs.{files_of, Requests, RequestsNone, IsHeld, Reports, Refuses, FailsToRead, IsAnswerTo, SaysOf, Says}
 use Rattle.rehearsal_core.specs.declared.run.Ending.{Ending}
 use Rattle.rehearsal_core.specs.declared.run.Ending.TheVariants as ending
 use Rattle.rehearsal_core.specs.Runs.{Run, Appends, IsLeft, IsSound, HasFailed, AppendsFront}
 use Rattle.rehearsal_core.proofs.HeadlineLaws.{answered}
-use Rattle.rehearsal_core.specs.Answers.{HasCause, NoFaults, Tells, Owes, Answers, TellsLine, TellsReport, refusal_line, read_fault_line, memory_line}
+use Rattle.rehearsal_core.specs.Answers.{IsOfReport, HasCause, NoFaults, Tells, Owes, Answers, TellsLine, TellsReport, refusal_line, read_fault_line, memory_line}
 
 -- a file that is told isn't missing
 not_missing : (held : Option Files) (name bytes : List ℕ) → told_at held name ≡ Some bytes → IsMissing held name → ⊥
@@ -33,9 +36,9 @@ not_missing (Some files) name bytes h k = let no : ◌≡◌ {A = Option (List �
 none_made : (words : List (String Global)) (request : Request) → Requests words request → RequestsNone words → ⊥
 none_made words request made none = none request made
 
--- words make one request at most
-one_request : (words : List (String Global)) (r s : Request) → Requests words r → Requests words s → r ≡ s
-one_request words r s h k = let both : ◌≡◌ {A = Option Request} (Some r) (Some s) = sym h.given ∙ k.given in cc
+-- words make one request at most, an entry that is wanted aside
+one_request : (words : List (String Global)) (r s : Request) → Requests words r → Requests words s → ◌≡◌ {A = Request} (record r { wanted = None }) (record s { wanted = None })
+one_request words r s h k = let both : ◌≡◌ {A = Option Request} (Some (record r { wanted = None })) (Some (record s { wanted = None })) = sym h.given.plain ∙ k.given.plain in cc
 
 -- no file that is told is missing
 none_missing : (held : Option Files) (files : ByRole (List ℕ)) (name : List ℕ) → AllTold held files → AnyNamed name files → IsMissing held name → ⊥
@@ -45,10 +48,15 @@ none_missing held (f ∷ files) name told (inr more) missing = none_missing held
 
 -- ---- what each status tells, and what follows of which there are
 
+-- no status of a report is one from 4 to 8
+not_report : (n : ℕ) → 4 ≤ n → n ≤ 8 → (status : ℕ) → status ≡ n → IsOfReport status → ⊥
+not_report n low high status is (inl few) = absurd (omega (arith, low, is, few))
+not_report n low high status is (inr nine) = absurd (omega (arith, high, is, nine))
+
 -- memory was refused
 memory_tells : (run : Run) (status : ℕ) → status ≡ 8 → AppendsFront memory_line run.err → IsLeft run.out → Tells run status
 memory_tells run status is front out = record {
-  report = λ e. absurd (omega (arith, is, e));
+  report = λ e. absurd (not_report 8 (omega arith) (omega arith) status is e);
   refused = λ e. absurd (omega (arith, is, e));
   words = λ e. absurd (omega (arith, is, e));
   read = λ e. absurd (omega (arith, is, e));
@@ -71,44 +79,62 @@ memory_answers run status is front out sound = answered run status (memory_tells
 
 -- ---- a report was to be written
 
-few_told : (f : Form) (conflicts : Option ℕ) (names : List (List ℕ)) (es : List Program) (order : Relation) (report : Report) → IsTold f conflicts names es order report → report.status ≤ 3
+few_told : (f : Form) (conflicts : Option ℕ) (names : List (List ℕ)) (es : List Program) (order : Relation) (report : Report) → IsTold f conflicts names es order report → IsOfReport report.status
 few_told f conflicts names es order report told = elim told.answer [
-  | inl sure ↦ omega (arith, sure.status)
-  | inr (inl different) ↦ omega (arith, different.status)
-  | inr (inr (inl changed)) ↦ omega (arith, changed.status)
-  | inr (inr (inr spent)) ↦ omega (arith, spent.status)
+  | inl sure ↦ inl (omega (arith, sure.status))
+  | inr (inl different) ↦ inl (omega (arith, different.status))
+  | inr (inr (inl changed)) ↦ inl (omega (arith, changed.status))
+  | inr (inr (inr spent)) ↦ inl (omega (arith, spent.status))
 ]
 
--- a report has one of the first statuses
-few : (a : Ask) (conflicts : Option ℕ) (i : Inputs) (report : Report) → IsAnswerTo a conflicts i report → report.status ≤ 3
+few_repaired : (conflicts : Option ℕ) (names : List (List ℕ)) (es : List Program) (order : Relation) (report : Report) → IsRepairTold conflicts names es order report → IsOfReport report.status
+few_repaired conflicts names es order report told = elim told.answer [
+  | inl repaired ↦ inl (omega (arith, repaired.status))
+  | inr spent ↦ inl (omega (arith, spent.status))
+]
+
+few_ensured : (conflicts : Option ℕ) (w : Wanted) (names : List (List ℕ)) (es : List Program) (order : Relation) (report : Report) → IsEntryTold conflicts w names es order report → IsOfReport report.status
+few_ensured conflicts w names es order report told = elim told.answer [
+  | inl held ↦ inl (omega (arith, held.status))
+  | inr (inl different) ↦ inl (omega (arith, different.status))
+  | inr (inr (inl missed)) ↦ inr missed.status
+  | inr (inr (inr (inl spent))) ↦ inl (omega (arith, spent.status))
+  | inr (inr (inr (inr spent))) ↦ inl (omega (arith, spent.status))
+]
+
+-- a report has the status of one
+few : (a : Ask) (conflicts : Option ℕ) (i : Inputs) (report : Report) → IsAnswerTo a conflicts i report → IsOfReport report.status
 few ask.Verify conflicts i report answer = few_told form.Lines conflicts _ _ _ report answer.told
 few ask.Proof conflicts i report answer = few_told form.Proofs conflicts _ _ _ report answer.told
-few ask.Catalog conflicts i report answer = omega (arith, answer.0)
-few ask.Graph conflicts i report answer = omega (arith, answer.0)
-few ask.Programs conflicts i report answer = omega (arith, answer.told.0)
-few ask.Replay conflicts i report answer = omega (arith, answer.told.0)
-few ask.Check conflicts i report answer = omega (arith, answer.0)
-few ask.Migrate conflicts i report answer = omega (arith, answer.0)
+few ask.Catalog conflicts i report answer = inl (omega (arith, answer.0))
+few ask.Graph conflicts i report answer = inl (omega (arith, answer.0))
+few ask.Programs conflicts i report answer = inl (omega (arith, answer.told.0))
+few ask.Replay conflicts i report answer = inl (omega (arith, answer.told.0))
+few ask.Check conflicts i report answer = inl (omega (arith, answer.0))
+few ask.Migrate conflicts i report answer = inl (omega (arith, answer.0))
+few ask.Repair conflicts i report answer = few_repaired conflicts _ _ _ report answer.told
+few ask.Ensures conflicts i report answer = few_ensured conflicts _ _ _ _ report answer.told
 
-has_status : (words : List (String Global)) (held : Option Files) (report : Report) → Reports words held report → report.status ≤ 3
+has_status : (words : List (String Global)) (held : Option Files) (report : Report) → Reports words held report → IsOfReport report.status
 has_status words held report reports = few reports.on.loaded.ask reports.on.loaded.conflicts reports.on.loaded.inputs report reports.on.says
 
 pub report_answers : (run : Run) (status : ℕ) (report : Report) → Reports run.words run.held report → run.shelf_now ≡ run.shelf_before
     → TellsReport report run.out run.err status → Answers run status
 report_answers run status report reports read (inl told) =
+    let is : IsOfReport status = subst IsOfReport (sym told.0) (has_status run.words run.held report reports) in
     answered run status
     (record {
       report = λ e. (report, reports, sym told.0, told.1, told.3);
-      refused = λ e. absurd (omega (arith, told.0, has_status run.words run.held report reports, e));
-      words = λ e. absurd (omega (arith, told.0, has_status run.words run.held report reports, e));
-      read = λ e. absurd (omega (arith, told.0, has_status run.words run.held report reports, e));
-      write = λ e. absurd (omega (arith, told.0, has_status run.words run.held report reports, e));
-      memory = λ e. absurd (omega (arith, told.0, has_status run.words run.held report reports, e));
-      known = inl (omega (arith, told.0, has_status run.words run.held report reports));
+      refused = λ e. absurd (not_report 4 (omega arith) (omega arith) status e is);
+      words = λ e. absurd (not_report 5 (omega arith) (omega arith) status e is);
+      read = λ e. absurd (not_report 6 (omega arith) (omega arith) status e is);
+      write = λ e. absurd (not_report 7 (omega arith) (omega arith) status e is);
+      memory = λ e. absurd (not_report 8 (omega arith) (omega arith) status e is);
+      known = inl is;
     })
     (record {
       usage = λ none. absurd (none_made run.words reports.request reports.made none);
-      decided = λ held faults. inl (omega (arith, told.0, has_status run.words run.held report reports));
+      decided = λ held faults. inl is;
       unread = λ failed. absurd (failed read);
       unwritten = λ failed. absurd (failed told.2);
       untold = λ failed. absurd (failed told.4);
@@ -116,7 +142,7 @@ report_answers run status report reports read (inl told) =
 report_answers run status report reports read (inr (inl told)) =
     answered run status
     (record {
-      report = λ e. absurd (omega (arith, told.0, e));
+      report = λ e. absurd (not_report 7 (omega arith) (omega arith) status told.0 e);
       refused = λ e. absurd (omega (arith, told.0, e));
       words = λ e. absurd (omega (arith, told.0, e));
       read = λ e. absurd (omega (arith, told.0, e));
@@ -143,7 +169,7 @@ record Cause (run : Run) (at : ℕ) (line : List ℕ) : Type 0 where
 told_line : (run : Run) (status at : ℕ) (line : List ℕ) → HasCause run at line → IsLeft run.out → status ≡ at → Appends line run.err → Tells run status
 told_line run status at line cause out is told = elim cause [
   | inl c ↦ record {
-    report = λ e. absurd (omega (arith, is, c.0, e));
+    report = λ e. absurd (not_report 4 (omega arith) (omega arith) status (is ∙ c.0) e);
     refused = λ e. (c.1, c.2, told ∙ ap (λ l. appended l run.err.before) c.3, out);
     words = λ e. absurd (omega (arith, is, c.0, e));
     read = λ e. absurd (omega (arith, is, c.0, e));
@@ -152,7 +178,7 @@ told_line run status at line cause out is told = elim cause [
     known = inr (inl (is ∙ c.0));
   }
   | inr (inl c) ↦ record {
-    report = λ e. absurd (omega (arith, is, c.0, e));
+    report = λ e. absurd (not_report 5 (omega arith) (omega arith) status (is ∙ c.0) e);
     refused = λ e. absurd (omega (arith, is, c.0, e));
     words = λ e. (c.1, told ∙ ap (λ l. appended l run.err.before) c.2, out);
     read = λ e. absurd (omega (arith, is, c.0, e));
@@ -161,7 +187,7 @@ told_line run status at line cause out is told = elim cause [
     known = inr (inr (inl (is ∙ c.0)));
   }
   | inr (inr c) ↦ record {
-    report = λ e. absurd (omega (arith, is, c.0, e));
+    report = λ e. absurd (not_report 6 (omega arith) (omega arith) status (is ∙ c.0) e);
     refused = λ e. absurd (omega (arith, is, c.0, e));
     words = λ e. absurd (omega (arith, is, c.0, e));
     read = λ e. (c.1, c.2, told ∙ ap (λ l. appended l run.err.before) c.3, out);
@@ -185,7 +211,7 @@ line_answers run status at line cause out sound (inl told) =
 line_answers run status at line cause out sound (inr (inl told)) =
     answered run status
     (record {
-      report = λ e. absurd (omega (arith, told.0, e));
+      report = λ e. absurd (not_report 7 (omega arith) (omega arith) status told.0 e);
       refused = λ e. absurd (omega (arith, told.0, e));
       words = λ e. absurd (omega (arith, told.0, e));
       read = λ e. absurd (omega (arith, told.0, e));
@@ -250,7 +276,7 @@ never_a_write_fault run status answers out err is = elim (answers.tells.write is
 
 pub never_a_read_fault : (run : Run) (status : ℕ) → Answers run status → NoFaults run → IsHeld run.words run.held → status ≡ 6 → ⊥
 never_a_read_fault run status answers none held is = elim (answers.owes.decided held none) [
-  | inl e ↦ absurd (omega (arith, e, is))
+  | inl e ↦ absurd (not_report 6 (omega arith) (omega arith) status is e)
   | inr (inl e) ↦ absurd (omega (arith, e, is))
   | inr (inr e) ↦ absurd (omega (arith, e, is))
 ]

@@ -1,137 +1,299 @@
 -- From the report that was written to the headline.
-use Rattle.std.proofs.Common.{◌≡◌, ◌⊎◌, inl, inr, ℕ, Option, Some, refl, sym, subst, ◌∙◌, arith}
+use Rattle.std.proofs.Common.{◌≡◌, ◌⊎◌, inl, inr, ℕ, Option, Some, None, refl, sym, subst, ◌∙◌, arith}
 use Rattle.command_line.specs.declared.table.Ask.{Ask}
 use Rattle.command_line.specs.declared.table.Ask.TheVariants as ask
 use Rattle.command_line.specs.declared.request.Request.{Request}
 use Rattle.known_inputs.specs.declared.inputs.Inputs.{Inputs}
+use Rattle.reports.specs.declared.question.Question.{Question}
 use Rattle.reports.specs.declared.question.Question.TheVariants as question
 use Rattle.reports.specs.Questions.{IsReport}
 use Rattle.verdict_report.specs.declared.report.Form.{Form}
 use Rattle.verdict_report.specs.declared.report.Form.TheVariants as form
 use Rattle.verdict_report.specs.declared.report.Report.{Report}
-use Rattle.verdict_report.specs.Told.{IsSure, IsDifferent, IsChanged, IsUnanswered}
-use Rattle.rehearsal_core.specs.Inputs.{Reports, IsAnswerTo}
+use Rattle.verdict_report.specs.Told.{IsUnanswered}
+use Rattle.repair_report.specs.Told as repairs
+use Rattle.entry_report.specs.Told.{TellsSpent}
+use Rattle.known_inputs.specs.Inputs.{wanted_of}
+use Rattle.rehearsal_core.specs.Inputs.{Requests, Reports, IsAnswerTo}
 use Rattle.rehearsal_core.specs.Runs.{Run}
-use Rattle.rehearsal_core.specs.Headline.{ask_for, AsksForVerdict, Judged, names_of, IsWell, DependsOnOrder, ChangesAgain, SpendsConflicts, Headline}
+use Rattle.rehearsal_core.specs.Headline.{ask_for, AsksForVerdict, AsksForEntry, AsksForRepair, Modelled, Judged, IsWell, DependsOnOrder, ChangesAgain, SpendsConflicts, LeavesEntry, MissesEntry, SpendsOnEntry, IsMended, SpendsOnRepair, Headline}
 use Rattle.rehearsal_core.specs.Answers.{WritesReport, Tells, Owes, Answers}
 
--- a report with another status than 0, or one that is asked for as a verdict, is a verdict
-verdict_of : (a : Ask) (conflicts : Option ℕ) (i : Inputs) (report : Report) → IsAnswerTo a conflicts i report → (report.status ≡ 0 → ⊥) ⊎ ((f : Form) × (a ≡ ask_for f))
-    → (f : Form) × (a ≡ ask_for f) × IsReport (question.Verdict f conflicts) i report
-verdict_of ask.Verify conflicts i report answer why = (form.Lines, refl, answer)
-verdict_of ask.Proof conflicts i report answer why = (form.Proofs, refl, answer)
-verdict_of ask.Catalog conflicts i report answer (inl other) = absurd (other answer.0)
-verdict_of ask.Catalog conflicts i report answer (inr (form.Lines, e)) = cc
-verdict_of ask.Catalog conflicts i report answer (inr (form.Proofs, e)) = cc
-verdict_of ask.Graph conflicts i report answer (inl other) = absurd (other answer.0)
-verdict_of ask.Graph conflicts i report answer (inr (form.Lines, e)) = cc
-verdict_of ask.Graph conflicts i report answer (inr (form.Proofs, e)) = cc
-verdict_of ask.Programs conflicts i report answer (inl other) = absurd (other answer.told.0)
-verdict_of ask.Programs conflicts i report answer (inr (form.Lines, e)) = cc
-verdict_of ask.Programs conflicts i report answer (inr (form.Proofs, e)) = cc
-verdict_of ask.Replay conflicts i report answer (inl other) = absurd (other answer.told.0)
-verdict_of ask.Replay conflicts i report answer (inr (form.Lines, e)) = cc
-verdict_of ask.Replay conflicts i report answer (inr (form.Proofs, e)) = cc
-verdict_of ask.Check conflicts i report answer (inl other) = absurd (other answer.0)
-verdict_of ask.Check conflicts i report answer (inr (form.Lines, e)) = cc
-verdict_of ask.Check conflicts i report answer (inr (form.Proofs, e)) = cc
-verdict_of ask.Migrate conflicts i report answer (inl other) = absurd (other answer.0)
-verdict_of ask.Migrate conflicts i report answer (inr (form.Lines, e)) = cc
-verdict_of ask.Migrate conflicts i report answer (inr (form.Proofs, e)) = cc
+-- ---- what a report is about
 
--- what is judged, and what is told of it
-record Told (run : Run) (report : Report) : Type 0 where
-  judged : Judged run
-  answer : IsSure judged.form judged.programs judged.graph.order judged.pruned report
-      ⊎ (IsDifferent judged.form (names_of judged) judged.programs judged.graph.order judged.pruned report
-      ⊎ (IsChanged judged.form (names_of judged) judged.programs judged.graph.order judged.pruned report
-      ⊎ IsUnanswered judged.form judged.request.conflicts judged.programs judged.graph.order judged.pruned report))
+-- a verdict, an entry that is wanted, a repair, or something else, which has status 0
+data Kind (a : Ask) (conflicts : Option ℕ) (i : Inputs) (report : Report) : Type 0 where
+  verdict : (f : Form) → a ≡ ask_for f → IsReport (question.Verdict f conflicts) i report → Kind a conflicts i report
+  entry : a ≡ ask.Ensures → IsReport (question.Ensures conflicts) i report → Kind a conflicts i report
+  repair : a ≡ ask.Repair → IsReport (question.Repair conflicts) i report → Kind a conflicts i report
+  other : report.status ≡ 0 → ((f : Form) → a ≡ ask_for f → ⊥) → (a ≡ ask.Repair → ⊥) → (a ≡ ask.Ensures → ⊥) → Kind a conflicts i report
 
-told_of : (run : Run) (report : Report) (reports : Reports run.words run.held report) (f : Form) → reports.on.loaded.ask ≡ ask_for f
-    → IsReport (question.Verdict f reports.on.loaded.conflicts) reports.on.loaded.inputs report → Told run report
-told_of run report reports f asked is = record {
-  judged = record {
-    request = reports.request;
-    made = reports.made;
-    form = f;
-    asked = sym reports.on.stands.asked ∙ asked;
-    loaded = reports.on.loaded;
-    stands = reports.on.stands;
-    known = is.known;
-    catalog = is.catalog;
-    graph = is.graph;
-    programs = is.programs;
-    modelled = is.modelled;
-    pruned = is.told.pruned;
-    count = is.told.count;
-  };
-  answer = elim is.told.answer [
-    | inl sure ↦ inl sure
-    | inr (inl different) ↦ inr (inl different)
-    | inr (inr (inl changed)) ↦ inr (inr (inl changed))
-    | inr (inr (inr spent)) ↦
-        inr (inr (inr (subst (λ given. IsUnanswered f given is.programs is.graph.order is.told.pruned report) reports.on.stands.conflicts spent)))
-  ];
+-- other values of `--ask` than these
+is_other : Ask → Type 0
+is_other ask.Verify = ⊥
+is_other ask.Proof = ⊥
+is_other ask.Catalog = Unit {0}
+is_other ask.Graph = Unit {0}
+is_other ask.Programs = Unit {0}
+is_other ask.Replay = Unit {0}
+is_other ask.Check = Unit {0}
+is_other ask.Migrate = Unit {0}
+is_other ask.Repair = ⊥
+is_other ask.Ensures = ⊥
+
+no_verdict : (a : Ask) → is_other a → (f : Form) → a ≡ ask_for f → ⊥
+no_verdict a h form.Lines e = subst is_other e h
+no_verdict a h form.Proofs e = subst is_other e h
+
+no_repair : (a : Ask) → is_other a → a ≡ ask.Repair → ⊥
+no_repair a h e = subst is_other e h
+
+no_entry : (a : Ask) → is_other a → a ≡ ask.Ensures → ⊥
+no_entry a h e = subst is_other e h
+
+kind_of : (a : Ask) (conflicts : Option ℕ) (i : Inputs) (report : Report) → IsAnswerTo a conflicts i report → Kind a conflicts i report
+kind_of ask.Verify conflicts i report answer = verdict form.Lines refl answer
+kind_of ask.Proof conflicts i report answer = verdict form.Proofs refl answer
+kind_of ask.Catalog conflicts i report answer = other answer.0 (no_verdict ask.Catalog tt) (no_repair ask.Catalog tt) (no_entry ask.Catalog tt)
+kind_of ask.Graph conflicts i report answer = other answer.0 (no_verdict ask.Graph tt) (no_repair ask.Graph tt) (no_entry ask.Graph tt)
+kind_of ask.Programs conflicts i report answer = other answer.told.0 (no_verdict ask.Programs tt) (no_repair ask.Programs tt) (no_entry ask.Programs tt)
+kind_of ask.Replay conflicts i report answer = other answer.told.0 (no_verdict ask.Replay tt) (no_repair ask.Replay tt) (no_entry ask.Replay tt)
+kind_of ask.Check conflicts i report answer = other answer.0 (no_verdict ask.Check tt) (no_repair ask.Check tt) (no_entry ask.Check tt)
+kind_of ask.Migrate conflicts i report answer = other answer.0 (no_verdict ask.Migrate tt) (no_repair ask.Migrate tt) (no_entry ask.Migrate tt)
+kind_of ask.Repair conflicts i report answer = repair refl answer
+kind_of ask.Ensures conflicts i report answer = entry refl answer
+
+kind : (run : Run) (report : Report) (reports : Reports run.words run.held report) → Kind reports.on.loaded.ask reports.on.loaded.conflicts reports.on.loaded.inputs report
+kind run report reports = kind_of reports.on.loaded.ask reports.on.loaded.conflicts reports.on.loaded.inputs report reports.on.says
+
+-- what is asked about, of a report on programs
+modelled : (run : Run) (report : Report) (reports : Reports run.words run.held report) (a : Ask) (q : Question) → reports.on.loaded.ask ≡ a → IsReport q reports.on.loaded.inputs report → Modelled run a
+modelled run report reports a q asked is = record {
+  request = reports.request;
+  made = reports.made;
+  asked = sym reports.on.stands.asked ∙ asked;
+  loaded = reports.on.loaded;
+  stands = reports.on.stands;
+  known = is.known;
+  catalog = is.catalog;
+  graph = is.graph;
+  programs = is.programs;
+  modelled = is.modelled;
 }
 
-told_by : (run : Run) (report : Report) (reports : Reports run.words run.held report) → (report.status ≡ 0 → ⊥) ⊎ ((f : Form) × (reports.on.loaded.ask ≡ ask_for f)) → Told run report
-told_by run report reports why =
-    let verdict = verdict_of reports.on.loaded.ask reports.on.loaded.conflicts reports.on.loaded.inputs report reports.on.says why in
-    told_of run report reports verdict.0 verdict.1 verdict.2
+-- words make one request at most, so that a report is on what they ask for
+asked_for : (run : Run) (report : Report) (reports : Reports run.words run.held report) (r : Request) → Requests run.words r → reports.on.loaded.ask ≡ r.ask
+asked_for run report reports r made =
+    let both : ◌≡◌ {A = Option Request} (Some (record reports.request { wanted = None })) (Some (record r { wanted = None })) = sym reports.made.given.plain ∙ made.given.plain in
+    let same : ◌≡◌ {A = Request} (record reports.request { wanted = None }) (record r { wanted = None }) = cc in
+    reports.on.stands.asked ∙ subst (λ x. reports.request.ask ≡ x.ask) same refl
 
--- words make one request at most, so that where they ask for a verdict the report is one
-asked_for : (run : Run) (report : Report) (reports : Reports run.words run.held report) → AsksForVerdict run → (f : Form) × (reports.on.loaded.ask ≡ ask_for f)
-asked_for run report reports asks =
-    let both : ◌≡◌ {A = Option Request} (Some reports.request) (Some asks.0) = sym reports.made.given ∙ asks.1.given in
-    let same : reports.request ≡ asks.0 = cc in
-    (asks.2, reports.on.stands.asked ∙ subst (λ r. r.ask ≡ ask_for asks.2) (sym same) asks.3)
+-- no two of these are asked for at once
+no_verdict_repairs : (f : Form) → ask_for f ≡ ask.Repair → ⊥
+no_verdict_repairs form.Lines e = cc
+no_verdict_repairs form.Proofs e = cc
+
+no_verdict_wants : (f : Form) → ask_for f ≡ ask.Ensures → ⊥
+no_verdict_wants form.Lines e = cc
+no_verdict_wants form.Proofs e = cc
+
+no_repair_wants : ask.Repair ≡ ask.Ensures → ⊥
+no_repair_wants e = cc
+
+-- a verdict that is told, and an entry that is
+module _ (run : Run) (report : Report) (reports : Reports run.words run.held report) where
+  verdict_on : (f : Form) → reports.on.loaded.ask ≡ ask_for f → (answer : IsReport (question.Verdict f reports.on.loaded.conflicts) reports.on.loaded.inputs report) → Judged run
+  verdict_on f is answer = record {
+    ask = ask_for f;
+    form = f;
+    told = inl refl;
+    of = modelled run report reports (ask_for f) (question.Verdict f reports.on.loaded.conflicts) is answer;
+    pruned = answer.told.pruned;
+    count = answer.told.count;
+  }
+
+  entry_on : reports.on.loaded.ask ≡ ask.Ensures → (answer : IsReport (question.Ensures reports.on.loaded.conflicts) reports.on.loaded.inputs report) → Judged run
+  entry_on is answer = record {
+    ask = ask.Ensures;
+    form = form.Lines;
+    told = inr (refl, refl);
+    of = modelled run report reports ask.Ensures (question.Ensures reports.on.loaded.conflicts) is answer;
+    pruned = answer.told.pruned;
+    count = answer.told.count;
+  }
+
+-- ---- what each status promises
 
 well_of : (run : Run) → AsksForVerdict run → WritesReport run 0 → IsWell run
 well_of run asks (report, reports, same, written, left) =
-    let told = told_by run report reports (inr (asked_for run report reports asks)) in
-    elim told.answer [
-      | inl sure ↦ record { judged = told.judged; report = report; sure = sure; written = written }
-      | inr (inl different) ↦ absurd (omega (arith, same, different.status))
-      | inr (inr (inl changed)) ↦ absurd (omega (arith, same, changed.status))
-      | inr (inr (inr spent)) ↦ absurd (omega (arith, same, spent.status))
+    let asked = asked_for run report reports asks.0 asks.1 ∙ asks.3 in
+    elim (kind run report reports) [
+      | verdict f is answer ↦ elim answer.told.answer [
+        | inl sure ↦ record { judged = verdict_on run report reports f is answer; report = report; sure = sure; written = written }
+        | inr (inl different) ↦ absurd (omega (arith, same, different.status))
+        | inr (inr (inl changed)) ↦ absurd (omega (arith, same, changed.status))
+        | inr (inr (inr spent)) ↦ absurd (omega (arith, same, spent.status))
+      ]
+      | entry is answer ↦ absurd (no_verdict_wants asks.2 (sym asked ∙ is))
+      | repair is answer ↦ absurd (no_verdict_repairs asks.2 (sym asked ∙ is))
+      | other zero not_verdict not_repair not_entry ↦ absurd (not_verdict asks.2 asked)
     ]
 
 depends_of : (run : Run) → WritesReport run 1 → DependsOnOrder run
 depends_of run (report, reports, same, written, left) =
-    let told = told_by run report reports (inl (λ none. absurd (omega (arith, same, none)))) in
-    elim told.answer [
-      | inl sure ↦ absurd (omega (arith, same, sure.status))
-      | inr (inl different) ↦ record { judged = told.judged; report = report; different = different; written = written }
-      | inr (inr (inl changed)) ↦ absurd (omega (arith, same, changed.status))
-      | inr (inr (inr spent)) ↦ absurd (omega (arith, same, spent.status))
+    elim (kind run report reports) [
+      | verdict f is answer ↦ elim answer.told.answer [
+        | inl sure ↦ absurd (omega (arith, same, sure.status))
+        | inr (inl different) ↦ record { judged = verdict_on run report reports f is answer; report = report; different = different; written = written }
+        | inr (inr (inl changed)) ↦ absurd (omega (arith, same, changed.status))
+        | inr (inr (inr spent)) ↦ absurd (omega (arith, same, spent.status))
+      ]
+      | entry is answer ↦ elim answer.told.answer [
+        | inl held ↦ absurd (omega (arith, same, held.status))
+        | inr (inl different) ↦ record { judged = entry_on run report reports is answer; report = report; different = different; written = written }
+        | inr (inr (inl missed)) ↦ absurd (omega (arith, same, missed.status))
+        | inr (inr (inr (inl spent))) ↦ absurd (omega (arith, same, spent.status))
+        | inr (inr (inr (inr spent))) ↦ absurd (omega (arith, same, spent.status))
+      ]
+      | repair is answer ↦ elim answer.told.answer [
+        | inl mended ↦ absurd (omega (arith, same, mended.status))
+        | inr spent ↦ absurd (omega (arith, same, spent.status))
+      ]
+      | other zero not_verdict not_repair not_entry ↦ absurd (omega (arith, same, zero))
     ]
 
 changes_of : (run : Run) → WritesReport run 2 → ChangesAgain run
 changes_of run (report, reports, same, written, left) =
-    let told = told_by run report reports (inl (λ none. absurd (omega (arith, same, none)))) in
-    elim told.answer [
-      | inl sure ↦ absurd (omega (arith, same, sure.status))
-      | inr (inl different) ↦ absurd (omega (arith, same, different.status))
-      | inr (inr (inl changed)) ↦ record { judged = told.judged; report = report; changed = changed; written = written }
-      | inr (inr (inr spent)) ↦ absurd (omega (arith, same, spent.status))
+    elim (kind run report reports) [
+      | verdict f is answer ↦ elim answer.told.answer [
+        | inl sure ↦ absurd (omega (arith, same, sure.status))
+        | inr (inl different) ↦ absurd (omega (arith, same, different.status))
+        | inr (inr (inl changed)) ↦ record { judged = verdict_on run report reports f is answer; report = report; changed = changed; written = written }
+        | inr (inr (inr spent)) ↦ absurd (omega (arith, same, spent.status))
+      ]
+      | entry is answer ↦ elim answer.told.answer [
+        | inl held ↦ absurd (omega (arith, same, held.status))
+        | inr (inl different) ↦ absurd (omega (arith, same, different.status))
+        | inr (inr (inl missed)) ↦ absurd (omega (arith, same, missed.status))
+        | inr (inr (inr (inl spent))) ↦ absurd (omega (arith, same, spent.status))
+        | inr (inr (inr (inr spent))) ↦ absurd (omega (arith, same, spent.status))
+      ]
+      | repair is answer ↦ elim answer.told.answer [
+        | inl mended ↦ absurd (omega (arith, same, mended.status))
+        | inr spent ↦ absurd (omega (arith, same, spent.status))
+      ]
+      | other zero not_verdict not_repair not_entry ↦ absurd (omega (arith, same, zero))
     ]
 
-spends_of : (run : Run) → WritesReport run 3 → SpendsConflicts run
+spends_of : (run : Run) → WritesReport run 3 → SpendsConflicts run ⊎ (SpendsOnRepair run ⊎ SpendsOnEntry run)
 spends_of run (report, reports, same, written, left) =
-    let told = told_by run report reports (inl (λ none. absurd (omega (arith, same, none)))) in
-    elim told.answer [
-      | inl sure ↦ absurd (omega (arith, same, sure.status))
-      | inr (inl different) ↦ absurd (omega (arith, same, different.status))
-      | inr (inr (inl changed)) ↦ absurd (omega (arith, same, changed.status))
-      | inr (inr (inr spent)) ↦ record { judged = told.judged; report = report; unanswered = spent; written = written }
+    elim (kind run report reports) [
+      | verdict f is answer ↦ elim answer.told.answer [
+        | inl sure ↦ absurd (omega (arith, same, sure.status))
+        | inr (inl different) ↦ absurd (omega (arith, same, different.status))
+        | inr (inr (inl changed)) ↦ absurd (omega (arith, same, changed.status))
+        | inr (inr (inr spent)) ↦
+            inl (record {
+              judged = verdict_on run report reports f is answer;
+              report = report;
+              unanswered = subst (λ given. IsUnanswered f given answer.programs answer.graph.order answer.told.pruned report) reports.on.stands.conflicts spent;
+              written = written;
+            })
+      ]
+      | entry is answer ↦ elim answer.told.answer [
+        | inl held ↦ absurd (omega (arith, same, held.status))
+        | inr (inl different) ↦ absurd (omega (arith, same, different.status))
+        | inr (inr (inl missed)) ↦ absurd (omega (arith, same, missed.status))
+        | inr (inr (inr (inl spent))) ↦
+            inl (record {
+              judged = entry_on run report reports is answer;
+              report = report;
+              unanswered = subst (λ given. IsUnanswered form.Lines given answer.programs answer.graph.order answer.told.pruned report) reports.on.stands.conflicts spent;
+              written = written;
+            })
+        | inr (inr (inr (inr spent))) ↦
+            inr (inr (record {
+              judged = entry_on run report reports is answer;
+              asked = refl;
+              report = report;
+              unanswered = subst (λ given. TellsSpent given (wanted_of reports.on.loaded.inputs) answer.programs answer.graph.order answer.told.pruned report) reports.on.stands.conflicts spent;
+              written = written;
+            }))
+      ]
+      | repair is answer ↦ elim answer.told.answer [
+        | inl mended ↦ absurd (omega (arith, same, mended.status))
+        | inr spent ↦
+            inr (inl (record {
+              of = modelled run report reports ask.Repair (question.Repair reports.on.loaded.conflicts) is answer;
+              report = report;
+              unrepaired = subst (λ given. repairs.TellsSpent given answer.programs answer.graph.order report) reports.on.stands.conflicts spent;
+              written = written;
+            }))
+      ]
+      | other zero not_verdict not_repair not_entry ↦ absurd (omega (arith, same, zero))
+    ]
+
+mended_of : (run : Run) → AsksForRepair run → WritesReport run 0 → IsMended run
+mended_of run asks (report, reports, same, written, left) =
+    let asked = asked_for run report reports asks.0 asks.1 ∙ asks.2 in
+    elim (kind run report reports) [
+      | verdict f is answer ↦ absurd (no_verdict_repairs f (sym is ∙ asked))
+      | entry is answer ↦ absurd (no_repair_wants (sym asked ∙ is))
+      | repair is answer ↦ elim answer.told.answer [
+        | inl mended ↦ record { of = modelled run report reports ask.Repair (question.Repair reports.on.loaded.conflicts) is answer; report = report; repaired = mended; written = written }
+        | inr spent ↦ absurd (omega (arith, same, spent.status))
+      ]
+      | other zero not_verdict not_repair not_entry ↦ absurd (not_repair asked)
+    ]
+
+leaves_of : (run : Run) → AsksForEntry run → WritesReport run 0 → LeavesEntry run
+leaves_of run asks (report, reports, same, written, left) =
+    let asked = asked_for run report reports asks.0 asks.1 ∙ asks.2 in
+    elim (kind run report reports) [
+      | verdict f is answer ↦ absurd (no_verdict_wants f (sym is ∙ asked))
+      | entry is answer ↦ elim answer.told.answer [
+        | inl held ↦ record { judged = entry_on run report reports is answer; asked = refl; report = report; ensured = held; written = written }
+        | inr (inl different) ↦ absurd (omega (arith, same, different.status))
+        | inr (inr (inl missed)) ↦ absurd (omega (arith, same, missed.status))
+        | inr (inr (inr (inl spent))) ↦ absurd (omega (arith, same, spent.status))
+        | inr (inr (inr (inr spent))) ↦ absurd (omega (arith, same, spent.status))
+      ]
+      | repair is answer ↦ absurd (no_repair_wants (sym is ∙ asked))
+      | other zero not_verdict not_repair not_entry ↦ absurd (not_entry asked)
+    ]
+
+misses_of : (run : Run) → WritesReport run 9 → MissesEntry run
+misses_of run (report, reports, same, written, left) =
+    elim (kind run report reports) [
+      | verdict f is answer ↦ elim answer.told.answer [
+        | inl sure ↦ absurd (omega (arith, same, sure.status))
+        | inr (inl different) ↦ absurd (omega (arith, same, different.status))
+        | inr (inr (inl changed)) ↦ absurd (omega (arith, same, changed.status))
+        | inr (inr (inr spent)) ↦ absurd (omega (arith, same, spent.status))
+      ]
+      | entry is answer ↦ elim answer.told.answer [
+        | inl held ↦ absurd (omega (arith, same, held.status))
+        | inr (inl different) ↦ absurd (omega (arith, same, different.status))
+        | inr (inr (inl missed)) ↦ record { judged = entry_on run report reports is answer; asked = refl; report = report; missed = missed; written = written }
+        | inr (inr (inr (inl spent))) ↦ absurd (omega (arith, same, spent.status))
+        | inr (inr (inr (inr spent))) ↦ absurd (omega (arith, same, spent.status))
+      ]
+      | repair is answer ↦ elim answer.told.answer [
+        | inl mended ↦ absurd (omega (arith, same, mended.status))
+        | inr spent ↦ absurd (omega (arith, same, spent.status))
+      ]
+      | other zero not_verdict not_repair not_entry ↦ absurd (omega (arith, same, zero))
     ]
 
 headline_of : (run : Run) (status : ℕ) → Tells run status → Headline run status
 headline_of run status tells = record {
-  well = λ asks is. well_of run asks (subst (WritesReport run) is (tells.report (omega (arith, is))));
-  depends = λ is. depends_of run (subst (WritesReport run) is (tells.report (omega (arith, is))));
-  changes = λ is. changes_of run (subst (WritesReport run) is (tells.report (omega (arith, is))));
-  spends = λ is. spends_of run (subst (WritesReport run) is (tells.report (omega (arith, is))));
+  well = λ asks is. well_of run asks (subst (WritesReport run) is (tells.report (inl (omega (arith, is)))));
+  depends = λ is. depends_of run (subst (WritesReport run) is (tells.report (inl (omega (arith, is)))));
+  changes = λ is. changes_of run (subst (WritesReport run) is (tells.report (inl (omega (arith, is)))));
+  spends = λ is. spends_of run (subst (WritesReport run) is (tells.report (inl (omega (arith, is)))));
+  mended = λ asks is. mended_of run asks (subst (WritesReport run) is (tells.report (inl (omega (arith, is)))));
+  leaves = λ asks is. leaves_of run asks (subst (WritesReport run) is (tells.report (inl (omega (arith, is)))));
+  misses = λ is. misses_of run (subst (WritesReport run) is (tells.report (inr is)));
 }
 
 -- what is told has the headline

@@ -22,10 +22,10 @@ use Rattle.rehearsal_core.specs.Loading.{request_about, concluded}
 
 -- the request with the bytes of its files
 abbrev pub loaded_from : Names → ByRole (List ℕ) → Loaded
-loaded_from r files = record { ask = r.ask; conflicts = r.conflicts; inputs = record { node = r.node; files = files } }
+loaded_from r files = record { ask = r.ask; conflicts = r.conflicts; inputs = record { node = r.node; wanted = r.wanted; files = files } }
 
 loaded : (held : Option Files) (r : Names) (files : ByRole (List ℕ)) → AreRead held r.ask r.files files → IsLoaded held (request_about r) (loaded_from r files)
-loaded held r files read = record { asked = refl; conflicts = refl; inputs = (refl, read) }
+loaded held r files read = record { asked = refl; conflicts = refl; inputs = (refl, refl, read) }
 
 -- what there is to say of an answer, from what was read and what the answer is
 pub says : (held : Option Files) (r : Names) (files : ByRole (List ℕ)) (before now : ℕ) (said : Result Report Fault) → now ≡ before → AreRead held r.ask r.files files

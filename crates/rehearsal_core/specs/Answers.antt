@@ -3,6 +3,7 @@ use Rattle.std.specs.Prelude.{◌≡◌, ◌≢◌, ◌⊎◌, ◌≤◌, ℕ, L
 use Rattle.std.specs.Fmt.{decimal}
 use Rattle.rh_base.specs.declared.fault.Refusal.{Refusal}
 use Rattle.rh_base.specs.Causes.{Rose}
+use Rattle.printed_names.specs.Printed.{printed}
 use Rattle.command_line.specs.Table.{usage_line}
 use Rattle.verdict_report.specs.declared.report.Report.{Report}
 use Rattle.rehearsal_core.specs.Runs.{Run, Put, Appends, AppendsFront, IsLeft, IsSound, HasFailed}
@@ -11,13 +12,13 @@ use Rattle.rehearsal_core.specs.Inputs.{RequestsNone, IsHeld, Reports, Refuses, 
 
 -- ---- lines
 
--- a refusal: its number, its place in the text, and its name
+-- a refusal: its number, its place in the text, and its name, without control characters
 abbrev pub refusal_line : Refusal → List ℕ
-refusal_line r = codes "refused " ++ (decimal r.number ++ (codes " at " ++ (decimal r.at ++ (codes ": " ++ (r.name ++ codes "\n")))))
+refusal_line r = codes "refused " ++ (decimal r.number ++ (codes " at " ++ (decimal r.at ++ (codes ": " ++ (printed r.name ++ codes "\n")))))
 
 -- a file couldn't be read
 abbrev pub read_fault_line : List ℕ → List ℕ
-read_fault_line name = codes "read fault: " ++ (name ++ codes "\n")
+read_fault_line name = codes "read fault: " ++ (printed name ++ codes "\n")
 
 -- a write failed
 abbrev pub write_fault_line : List ℕ
@@ -29,7 +30,11 @@ memory_line = codes "out of memory\n"
 
 -- ---- the statuses
 
--- status 0 to 3: the report with this status was written to out, and nothing to err
+-- the statuses of reports
+abbrev pub IsOfReport : ℕ → Type 0
+IsOfReport status = (status ≤ 3) ⊎ (status ≡ 9)
+
+-- status 0 to 3, or 9: the report with this status was written to out, and nothing to err
 abbrev pub WritesReport : Run → ℕ → Type 0
 WritesReport run status = (report : Report) × Reports run.words run.held report × (report.status ≡ status) × Appends report.text run.out × IsLeft run.err
 
@@ -72,20 +77,20 @@ pub record NoFaults (run : Run) : Type 0 where
 
 -- What each status tells.
 pub record Tells (run : Run) (status : ℕ) : Type 0 where
-  pub report : status ≤ 3 → WritesReport run status
+  pub report : IsOfReport status → WritesReport run status
   pub refused : status ≡ 4 → TellsRefusal run
   pub words : status ≡ 5 → TellsUsage run
   pub read : status ≡ 6 → TellsReadFault run
   pub write : status ≡ 7 → FailsToWrite run
   pub memory : status ≡ 8 → LacksMemory run
-  pub known : (status ≤ 3) ⊎ ((status ≡ 4) ⊎ ((status ≡ 5) ⊎ ((status ≡ 6) ⊎ ((status ≡ 7) ⊎ (status ≡ 8)))))
+  pub known : IsOfReport status ⊎ ((status ≡ 4) ⊎ ((status ≡ 5) ⊎ ((status ≡ 6) ⊎ ((status ≡ 7) ⊎ (status ≡ 8)))))
 
 -- Which statuses there are, by what was given and what failed.
 pub record Owes (run : Run) (status : ℕ) : Type 0 where
   -- words that are refused have no other answer
   pub usage : RequestsNone run.words → (status ≡ 5) ⊎ ((status ≡ 7) ⊎ (status ≡ 8))
   -- an input that is told, without faults, gets a report or a refusal
-  pub decided : IsHeld run.words run.held → NoFaults run → (status ≤ 3) ⊎ ((status ≡ 4) ⊎ (status ≡ 8))
+  pub decided : IsHeld run.words run.held → NoFaults run → IsOfReport status ⊎ ((status ≡ 4) ⊎ (status ≡ 8))
   -- a read that failed is told, unless a write fails too or memory is refused; a write to out that failed is told always
   pub unread : run.shelf_now ≢ run.shelf_before → (status ≡ 6) ⊎ ((status ≡ 7) ⊎ (status ≡ 8))
   pub unwritten : (IsSound run.out → ⊥) → status ≡ 7

@@ -1,5 +1,5 @@
 -- The headline: what each status of a verdict promises of a manifest, over every file tree and all orders that its graph allows.
-use Rattle.std.specs.Prelude.{◌≡◌, ℕ, List}
+use Rattle.std.specs.Prelude.{◌≡◌, ◌⊎◌, ℕ, List}
 use Rattle.fs_semantics.specs.Programs.{Program}
 use Rattle.orders.specs.Relation.{Comes}
 use Rattle.catalog_semantics.specs.Catalogs.{Catalog}
@@ -10,11 +10,15 @@ use Rattle.command_line.specs.declared.table.Ask.TheVariants as ask
 use Rattle.command_line.specs.declared.request.Request.{Request}
 use Rattle.known_inputs.specs.declared.inputs.Known.{Known}
 use Rattle.reports.specs.Stages.{IsModelled}
-use Rattle.reports.specs.Questions.{names_in}
+use Rattle.reports.specs.Questions.{names_in, quoted_names_in}
 use Rattle.verdict_report.specs.declared.report.Form.{Form}
 use Rattle.verdict_report.specs.declared.report.Form.TheVariants as form
 use Rattle.verdict_report.specs.declared.report.Report.{Report}
 use Rattle.verdict_report.specs.Told.{IsSure, IsDifferent, IsChanged, IsUnanswered}
+use Rattle.repair_report.specs.Told as repairs
+use Rattle.repair_report.specs.Told.{TellsArrows}
+use Rattle.entry_report.specs.Told.{TellsEnsured, TellsMissed, TellsSpent}
+use Rattle.known_inputs.specs.Inputs.{wanted_of}
 use Rattle.rehearsal_core.specs.declared.inputs.Loaded.{Loaded}
 use Rattle.rehearsal_core.specs.Inputs.{Requests, IsLoaded}
 use Rattle.rehearsal_core.specs.Runs.{Run, Appends}
@@ -28,13 +32,24 @@ ask_for form.Proofs = ask.Proof
 abbrev pub AsksForVerdict : Run → Type 0
 AsksForVerdict run = (request : Request) × Requests run.words request × (f : Form) × (request.ask ≡ ask_for f)
 
--- What is judged. The words ask for a verdict; the files that they name, or the workload, say what is known beside the manifest,
--- and give the manifest this catalog, the catalog this graph, and its resources these programs, of which so many are pruned.
-pub record Judged (run : Run) : Type 0 where
+-- this value of `--ask` asks for the order of a graph, and has it told in this form
+abbrev pub AsksInForm : Ask → Form → Type 0
+AsksInForm a f = (a ≡ ask_for f) ⊎ ((a ≡ ask.Ensures) × (f ≡ form.Lines))
+
+-- the words ask for an entry that is wanted
+abbrev pub AsksForEntry : Run → Type 0
+AsksForEntry run = (request : Request) × Requests run.words request × (request.ask ≡ ask.Ensures)
+
+-- the words ask for a repair
+abbrev pub AsksForRepair : Run → Type 0
+AsksForRepair run = (request : Request) × Requests run.words request × (request.ask ≡ ask.Repair)
+
+-- What is asked about. The words ask so; the files that they name, or the workload, say what is known beside the manifest, and give
+-- the manifest this catalog, the catalog this graph, and its resources these programs.
+pub record Modelled (run : Run) (a : Ask) : Type 0 where
   pub request : Request
   pub made : Requests run.words request
-  pub form : Form
-  pub asked : request.ask ≡ ask_for form
+  pub asked : request.ask ≡ a
   pub loaded : Loaded
   pub stands : IsLoaded run.held request loaded
   pub known : Known
@@ -42,26 +57,33 @@ pub record Judged (run : Run) : Type 0 where
   pub graph : Graph
   pub programs : List Program
   pub modelled : IsModelled loaded.inputs known catalog graph programs
+
+-- What is judged. The words ask so about this, of which pruning leaves aside so many, and have it told in this form.
+pub record Judged (run : Run) : Type 0 where
+  pub ask : Ask
+  pub form : Form
+  pub told : AsksInForm ask form
+  pub of : Modelled run ask
   pub pruned : ℕ
-  pub count : IsPrunedCount programs (Comes graph.order) pruned
+  pub count : IsPrunedCount of.programs (Comes of.graph.order) pruned
 
 -- the names of the resources
 abbrev pub names_of : {run : Run} → Judged run → List (List ℕ)
-names_of j = names_in j.catalog j.graph.plain
+names_of j = names_in j.of.catalog j.of.graph.plain
 
 -- Status 0: from every file tree all allowed orders end in one same tree or all in error, and a second run changes nothing. The
 -- last line tells whether some tree has a run without error.
 pub record IsWell (run : Run) : Type 0 where
   pub judged : Judged run
   pub report : Report
-  pub sure : IsSure judged.form judged.programs judged.graph.order judged.pruned report
+  pub sure : IsSure judged.form judged.of.programs judged.of.graph.order judged.pruned report
   pub written : Appends report.text run.out
 
 -- Status 1: from the tree that is told two allowed orders have the outcomes that are told, and these differ.
 pub record DependsOnOrder (run : Run) : Type 0 where
   pub judged : Judged run
   pub report : Report
-  pub different : IsDifferent judged.form (names_of judged) judged.programs judged.graph.order judged.pruned report
+  pub different : IsDifferent judged.form (names_of judged) judged.of.programs judged.of.graph.order judged.pruned report
   pub written : Appends report.text run.out
 
 -- Status 2: from every file tree all allowed orders end alike, but from the tree that is told a second run changes what the first
@@ -69,19 +91,64 @@ pub record DependsOnOrder (run : Run) : Type 0 where
 pub record ChangesAgain (run : Run) : Type 0 where
   pub judged : Judged run
   pub report : Report
-  pub changed : IsChanged judged.form (names_of judged) judged.programs judged.graph.order judged.pruned report
+  pub changed : IsChanged judged.form (names_of judged) judged.of.programs judged.of.graph.order judged.pruned report
   pub written : Appends report.text run.out
 
 -- Status 3: the conflicts that the words give were spent on the question that is told, and what is told ahead of it is true.
 pub record SpendsConflicts (run : Run) : Type 0 where
   pub judged : Judged run
   pub report : Report
-  pub unanswered : IsUnanswered judged.form judged.request.conflicts judged.programs judged.graph.order judged.pruned report
+  pub unanswered : IsUnanswered judged.form judged.of.request.conflicts judged.of.programs judged.of.graph.order judged.pruned report
   pub written : Appends report.text run.out
 
--- What each status promises. Other questions than a verdict have no other status than 0.
+-- Status 0 of an entry that is wanted: from every file tree all allowed orders end alike, and each that ends leaves the entry.
+pub record LeavesEntry (run : Run) : Type 0 where
+  pub judged : Judged run
+  pub asked : judged.ask ≡ ask.Ensures
+  pub report : Report
+  pub ensured : TellsEnsured (wanted_of judged.of.loaded.inputs) judged.of.programs judged.of.graph.order judged.pruned report
+  pub written : Appends report.text run.out
+
+-- Status 9: from every file tree all allowed orders end alike; but from the tree that is told the order that is told, which is allowed,
+-- ends in the tree that is told, without the entry that is wanted.
+pub record MissesEntry (run : Run) : Type 0 where
+  pub judged : Judged run
+  pub asked : judged.ask ≡ ask.Ensures
+  pub report : Report
+  pub missed : TellsMissed (wanted_of judged.of.loaded.inputs) (names_of judged) judged.of.programs judged.of.graph.order judged.pruned report
+  pub written : Appends report.text run.out
+
+-- Status 3 behind `deterministic`: the conflicts that the words give were spent on whether each run leaves the entry, or whether any
+-- ends.
+pub record SpendsOnEntry (run : Run) : Type 0 where
+  pub judged : Judged run
+  pub asked : judged.ask ≡ ask.Ensures
+  pub report : Report
+  pub unanswered : TellsSpent judged.of.request.conflicts (wanted_of judged.of.loaded.inputs) judged.of.programs judged.of.graph.order judged.pruned report
+  pub written : Appends report.text run.out
+
+-- Status 0 of a repair: with the arrows that are told, every file tree has one outcome whatever the order; none of them can be left
+-- out; and they point the way that succeeds.
+pub record IsMended (run : Run) : Type 0 where
+  pub of : Modelled run ask.Repair
+  pub report : Report
+  pub repaired : TellsArrows (quoted_names_in of.catalog of.graph.plain) of.programs of.graph.order report
+  pub written : Appends report.text run.out
+
+-- Status 3 of a repair: the conflicts that the words give were spent on whether the graph is deterministic with some arrows.
+pub record SpendsOnRepair (run : Run) : Type 0 where
+  pub of : Modelled run ask.Repair
+  pub report : Report
+  pub unrepaired : repairs.TellsSpent of.request.conflicts of.programs of.graph.order report
+  pub written : Appends report.text run.out
+
+-- What each status promises. 1 comes of a verdict or an entry that is wanted, 2 of a verdict, 3 of these and of a repair, 9 of an
+-- entry; other questions have no other status than 0.
 pub record Headline (run : Run) (status : ℕ) : Type 0 where
   pub well : AsksForVerdict run → status ≡ 0 → IsWell run
   pub depends : status ≡ 1 → DependsOnOrder run
   pub changes : status ≡ 2 → ChangesAgain run
-  pub spends : status ≡ 3 → SpendsConflicts run
+  pub spends : status ≡ 3 → SpendsConflicts run ⊎ (SpendsOnRepair run ⊎ SpendsOnEntry run)
+  pub mended : AsksForRepair run → status ≡ 0 → IsMended run
+  pub leaves : AsksForEntry run → status ≡ 0 → LeavesEntry run
+  pub misses : status ≡ 9 → MissesEntry run

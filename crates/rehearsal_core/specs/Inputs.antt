@@ -50,11 +50,11 @@ files_of r = files_in r.source
 
 -- the manifest of a workload of size n, and its listing
 abbrev pub workload_inputs : ℕ → Inputs
-workload_inputs n = record { node = None; files = (role.Packages, listing_text n) ∷ (role.Input, manifest_text n) ∷ [] }
+workload_inputs n = record { node = None; wanted = None; files = (role.Packages, listing_text n) ∷ (role.Input, manifest_text n) ∷ [] }
 
 -- what a request is about: files, or a workload
 abbrev pub AreInputs : Option Files → Request → Source → Inputs → Type 0
-AreInputs held r (source.Files names) i = (i.node ≡ r.node) × AreRead held r.ask names i.files
+AreInputs held r (source.Files names) i = (i.node ≡ r.node) × (i.wanted ≡ r.wanted) × AreRead held r.ask names i.files
 AreInputs held r (source.Workload n) i = i ≡ workload_inputs n
 
 -- the request with the bytes that it is about
@@ -79,6 +79,8 @@ IsAnswerTo ask.Programs conflicts i report = IsReport question.Programs i report
 IsAnswerTo ask.Replay conflicts i report = IsReport question.Replay i report
 IsAnswerTo ask.Check conflicts i report = IsPrinted (AreVerified (input_of i)) report
 IsAnswerTo ask.Migrate conflicts i report = IsPrinted (IsMigrated (input_of i)) report
+IsAnswerTo ask.Repair conflicts i report = IsReport (question.Repair conflicts) i report
+IsAnswerTo ask.Ensures conflicts i report = IsReport (question.Ensures conflicts) i report
 
 -- what may be said of what was loaded
 abbrev pub IsAnswer : Loaded → Report → Type 0
@@ -94,6 +96,8 @@ BreaksFor ask.Programs conflicts i r = ReportRefusal question.Programs i r
 BreaksFor ask.Replay conflicts i r = ReportRefusal question.Replay i r
 BreaksFor ask.Check conflicts i r = BreaksProofRule (input_of i) r
 BreaksFor ask.Migrate conflicts i r = BreaksListingRule (input_of i) r
+BreaksFor ask.Repair conflicts i r = ReportRefusal (question.Repair conflicts) i r
+BreaksFor ask.Ensures conflicts i r = ReportRefusal (question.Ensures conflicts) i r
 
 -- the first rule that what was loaded breaks
 abbrev pub Breaks : Loaded → Refusal → Type 0

@@ -11,7 +11,7 @@ use Rattle.rehearsal_core.specs.declared.run.Ending.TheVariants as ending
 
 -- the request about the files of these names
 abbrev pub request_about : Names → Request
-request_about n = record { ask = n.ask; node = n.node; conflicts = n.conflicts; source = source.Files n.files }
+request_about n = record { ask = n.ask; node = n.node; conflicts = n.conflicts; wanted = n.wanted; source = source.Files n.files }
 
 -- what there is to say of an answer
 abbrev pub concluded : Result Report Fault → Ending

@@ -3,6 +3,7 @@
 use command_line::{Ask, ByRole};
 use known_inputs::Inputs;
 use rh_base::Text;
+use wanted_entry::Wanted;
 
 /// A request about files of these names.
 #[derive(Drop)]
@@ -10,6 +11,7 @@ pub struct Names {
     pub ask: Ask,
     pub conflicts: Option<u64>,
     pub node: Option<Text>,
+    pub wanted: Option<Wanted>,
     pub files: ByRole<Text>,
 }
 

@@ -69,6 +69,8 @@ fn answer(alloc: Global, ask: Ask, conflicts: Option<u64>, inputs: &Inputs) -> R
         Ask::Replay => report_on(alloc, Question::Replay, inputs),
         Ask::Check => checked(alloc, inputs),
         Ask::Migrate => listed(alloc, inputs),
+        Ask::Repair => report_on(alloc, Question::Repair(conflicts), inputs),
+        Ask::Ensures => report_on(alloc, Question::Ensures(conflicts), inputs),
     }
 }
 
@@ -117,6 +119,7 @@ fn read<S: Shelf>(alloc: Global, names: Names, shelf: &mut S) -> Ending
         ask,
         conflicts,
         node,
+        wanted,
         files,
     } = names;
     match read_files(alloc, ask, files, shelf) {
@@ -124,7 +127,11 @@ fn read<S: Shelf>(alloc: Global, names: Names, shelf: &mut S) -> Ending
             let loaded = Loaded {
                 ask,
                 conflicts,
-                inputs: Inputs { node, files },
+                inputs: Inputs {
+                    node,
+                    wanted,
+                    files,
+                },
             };
             concluded(answer_read(alloc, loaded))
         },
@@ -143,6 +150,7 @@ fn respond<S: Shelf>(alloc: Global, request: Request, shelf: &mut S) -> Ending
         ask,
         node,
         conflicts,
+        wanted,
         source,
     } = request;
     match source {
@@ -152,6 +160,7 @@ fn respond<S: Shelf>(alloc: Global, request: Request, shelf: &mut S) -> Ending
                 ask,
                 conflicts,
                 node,
+                wanted,
                 files,
             },
             shelf,

@@ -6,6 +6,7 @@ ghost use Rattle.rehearsal_core.specs.Runs.{put_of, AppendsFront};
 ghost use Rattle.rehearsal_core.specs.Answers.{TellsLine, TellsReport, refusal_line, read_fault_line, write_fault_line, memory_line};
 
 use command_line::usage_line;
+use printed_names::printed;
 use rh_base::{NoMemory, Refusal, Sink, SinkFault, Text};
 use std::alloc::Global;
 use verdict_report::Report;
@@ -62,7 +63,8 @@ pub fn write_report<O: Sink, E: Sink>(report: &Report, out: &mut O, err: &mut E)
 fn refusal_line(alloc: Global, r: &Refusal) -> Result<Text, NoMemory>
     ensures { IfOk result (λ line. line ≡ refusal_line r.now) }
 {
-    let name = r.name.as_str();
+    let shown = printed(alloc, r.name.as_str())?;
+    let name = shown.as_str();
     let number = r.number;
     let at = r.at;
     Ok(Text::from_string(format!(in alloc; "refused {number} at {at}: {name}\n")?))
@@ -71,7 +73,8 @@ fn refusal_line(alloc: Global, r: &Refusal) -> Result<Text, NoMemory>
 fn read_fault_line(alloc: Global, name: &Text) -> Result<Text, NoMemory>
     ensures { IfOk result (λ line. line ≡ read_fault_line name.now) }
 {
-    let name = name.as_str();
+    let shown = printed(alloc, name.as_str())?;
+    let name = shown.as_str();
     Ok(Text::from_string(format!(in alloc; "read fault: {name}\n")?))
 }
 

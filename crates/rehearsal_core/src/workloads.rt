@@ -19,5 +19,9 @@ pub fn workload_inputs(alloc: Global, size: &Size) -> Result<Inputs, NoMemory>
     let mut files = Seq::new(alloc);
     files.push((Role::Packages, Seq::from_vec(listing)))?;
     files.push((Role::Input, Seq::from_vec(manifest)))?;
-    Ok(Inputs { node: None, files })
+    Ok(Inputs {
+        node: None,
+        wanted: None,
+        files,
+    })
 }

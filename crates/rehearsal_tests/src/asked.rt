@@ -62,6 +62,16 @@ const ROWS: [Row; 28] = [
         "File[/d]\n",
     ),
     (
+        &["--ask", "catalog", "site.pp"],
+        "file { \"/a\\nFile[/b]\": mode => '1' }",
+        "File[/a\\x0aFile[/b]]\n  mode => \"1\"\n",
+    ),
+    (
+        &["--ask", "graph", "site.pp"],
+        "file { \"/a\\nFile[/b]\": } -> file { '/c': }",
+        "File[/a\\x0aFile[/b]]\nFile[/c]\nFile[/a\\x0aFile[/b]] -> File[/c]\n",
+    ),
+    (
         &["--ask", "graph", "site.pp"],
         "file { '/a': ensure => directory } file { '/a/b': content => 'x' } File['/a/b'] -> File['/a']",
         "File[/a]\nFile[/a/b]\nFile[/a/b] -> File[/a]\n",
@@ -291,6 +301,11 @@ const REFUSED: [Row; 17] = [
         &["--ask", "catalog", "site.pp"],
         "class c { file { '/c': } }\ninclude c\ninclude c\nclass { 'c': }",
         "refused 24 at 55: Class[c]\n",
+    ),
+    (
+        &["--ask", "catalog", "site.pp"],
+        "fail(\"no\\nrefused 24 at 0: x\")",
+        "refused 30 at 0: no\\x0arefused 24 at 0: x\n",
     ),
     (
         &["--ask", "catalog", "site.pp"],

@@ -12,6 +12,8 @@ mod common;
 #[cfg(test)]
 mod differences;
 #[cfg(test)]
+mod entries;
+#[cfg(test)]
 mod faults;
 #[cfg(test)]
 mod hostile;
@@ -19,6 +21,8 @@ mod hostile;
 mod migrate;
 #[cfg(test)]
 mod proofs;
+#[cfg(test)]
+mod repairs;
 #[cfg(test)]
 mod second_runs;
 #[cfg(test)]

@@ -4,7 +4,7 @@ use crate::common::{NONE, compare, run};
 use std::test::Fail;
 
 const USAGE: &str =
-    "usage: rehearsal [--facts F] [--packages P] [--node N] [--conflicts C] [--ask A] [--tree T] [--order O] [--workload N] [--data D] [INPUT]\n";
+    "usage: rehearsal [--facts F] [--packages P] [--node N] [--conflicts C] [--ask A] [--tree T] [--order O] [--workload N] [--path P] [--content T] [--data D] [INPUT]\n";
 
 #[test]
 fn words_that_ask_to_verify(rt: HostRuntime) -> Result<(), Fail> {
@@ -27,7 +27,7 @@ fn words_that_ask_to_verify(rt: HostRuntime) -> Result<(), Fail> {
 
 #[test]
 fn words_that_are_refused(rt: HostRuntime) -> Result<(), Fail> {
-    let rows: [&[&str]; 37] = [
+    let rows: [&[&str]; 40] = [
         &[],
         &["site.pp", "site.pp"],
         &["--help"],
@@ -65,6 +65,9 @@ fn words_that_are_refused(rt: HostRuntime) -> Result<(), Fail> {
         &["--ask", "migrate", "--node", "n", "site.pp"],
         &["--order", "o", "--ask", "check", "site.pp"],
         &["--data", "d", "--ask", "migrate", "site.pp"],
+        &["--ask", "repair"],
+        &["--ask", "repair", "--workload", "5"],
+        &["--ask", "repair", "--tree", "t", "site.pp"],
     ];
     for words in rows {
         let told = run(rt.alloc(), words, b"")?;

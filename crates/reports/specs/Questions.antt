@@ -1,13 +1,17 @@
 -- What is told of the programs of a manifest's resources, for each question about them.
-use Rattle.std.specs.Prelude.{◌≡◌, List, ℕ, map}
+use Rattle.std.specs.Prelude.{◌≡◌, List, [], ℕ, map, Option, Some, None, slice_get}
 use Rattle.rh_base.specs.declared.fault.Refusal.{Refusal}
 use Rattle.fs_semantics.specs.Programs.{Program}
 use Rattle.catalog_semantics.specs.Catalogs.{Catalog}
+use Rattle.catalog_semantics.specs.declared.catalog.Resource.{Resource}
 use Rattle.graph_semantics.specs.Graphs.{reference_at}
 use Rattle.dep_graph.specs.declared.answer.Graph.{Graph}
 use Rattle.known_inputs.specs.declared.inputs.Inputs.{Inputs}
 use Rattle.known_inputs.specs.declared.inputs.Known.{Known}
-use Rattle.known_inputs.specs.Inputs.{bytes_of}
+use Rattle.known_inputs.specs.Inputs.{bytes_of, wanted_of}
+use Rattle.wanted_entry.specs.Entries.{probe_of}
+use Rattle.ensured_entry.specs.Sizes.{IsTooLargeWith}
+use Rattle.entry_report.specs.Told.{IsEntryTold}
 use Rattle.command_line.specs.declared.table.Role.TheVariants as role
 use Rattle.reports.specs.declared.question.Question.{Question}
 use Rattle.reports.specs.declared.question.Question.TheVariants as question
@@ -16,23 +20,40 @@ use Rattle.reports.specs.Stages.{IsModelled, ProgramsRefusal}
 use Rattle.reports.specs.Reports.{program_lines}
 use Rattle.verdict.specs.Limits.{IsTooLarge}
 use Rattle.verdict_report.specs.Told.{IsTold}
+use Rattle.repair_report.specs.Lines.{quoted_ref}
+use Rattle.repair_report.specs.Told.{IsRepairTold}
 use Rattle.reports.specs.Replays.{IsReplayed, HasNoOrder}
 
 -- the references of the plain resources
 abbrev pub names_in : Catalog → List ℕ → List (List ℕ)
 names_in c plain = map (reference_at c) plain
 
+-- the references of the plain resources, as they are written in Puppet
+abbrev pub quoted_of : Option Resource → List ℕ
+quoted_of None = []
+quoted_of (Some r) = quoted_ref r.id
+
+abbrev pub quoted_at : Catalog → ℕ → List ℕ
+quoted_at c place = quoted_of (slice_get c.resources place)
+
+abbrev pub quoted_names_in : Catalog → List ℕ → List (List ℕ)
+quoted_names_in c plain = map (quoted_at c) plain
+
 -- this is told of the programs
 abbrev pub IsToldOf : Question → Inputs → Known → Catalog → Graph → List Program → Report → Type 0
 IsToldOf question.Programs i k c g es report = (report.status ≡ 0) × (report.text ≡ program_lines c g.plain es)
 IsToldOf (question.Verdict form given) i k c g es report = IsTold form given (names_in c g.plain) es g.order report
 IsToldOf question.Replay i k c g es report = (report.status ≡ 0) × IsReplayed (bytes_of role.Order i) k.tree c g es report.text
+IsToldOf (question.Repair given) i k c g es report = IsRepairTold given (quoted_names_in c g.plain) es g.order report
+IsToldOf (question.Ensures given) i k c g es report = IsEntryTold given (wanted_of i) (names_in c g.plain) es g.order report
 
 -- nothing is told of them, for this reason
 abbrev pub HasNoAnswer : Question → Inputs → Catalog → Graph → List Program → Refusal → Type 0
 HasNoAnswer question.Programs i c g es r = ⊥
 HasNoAnswer (question.Verdict form given) i c g es r = IsTooLarge es r
 HasNoAnswer question.Replay i c g es r = HasNoOrder (bytes_of role.Order i) c g r
+HasNoAnswer (question.Repair given) i c g es r = IsTooLarge es r
+HasNoAnswer (question.Ensures given) i c g es r = IsTooLargeWith es (probe_of (wanted_of i)) r
 
 -- The report on the programs of a manifest's real plain resources, in the order of its graph.
 pub record IsReport (q : Question) (i : Inputs) (report : Report) : Type 0 where

@@ -5,7 +5,7 @@ use Rattle.fs_semantics.specs.Programs.{Program}
 use Rattle.tree_text.specs.ProgramText.{program_text}
 use Rattle.catalog_semantics.specs.Catalogs.{Catalog}
 use Rattle.catalog_text.specs.CatalogText.{catalog_text}
-use Rattle.graph_semantics.specs.Graphs.{reference_at, graph_text}
+use Rattle.graph_semantics.specs.Graphs.{printed_at, graph_text}
 use Rattle.dep_graph.specs.declared.answer.Graph.{Graph}
 use Rattle.known_inputs.specs.declared.inputs.Inputs.{Inputs}
 use Rattle.known_inputs.specs.declared.inputs.Known.{Known}
@@ -28,7 +28,7 @@ pub record IsGraphReport (i : Inputs) (report : List ℕ) : Type 0 where
 
 -- a line for a resource, and one for its program
 abbrev pub resource_program : Catalog → ℕ → Program → List ℕ
-resource_program c place e = reference_at c place ++ (codes "\n" ++ (program_text e ++ codes "\n"))
+resource_program c place e = printed_at c place ++ (codes "\n" ++ (program_text e ++ codes "\n"))
 
 -- the lines of the resources at these places, each with its program
 abbrev pub program_lines : Catalog → List ℕ → List Program → List ℕ

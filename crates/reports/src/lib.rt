@@ -1,12 +1,15 @@
-//! Reports on a manifest: its catalog, its graph, what its resources do, and the verdict on them.
+//! Reports on a manifest: its catalog, its graph, what its resources do, the verdict on them, and the arrows that
+//! they lack.
 #![tactic(auto)]
 
 mod bytes;
 mod catalogs;
 mod compiling;
+mod entries;
 mod graphs;
 mod programs;
 mod question;
+mod repairs;
 mod replays;
 mod stages;
 mod verdicts;

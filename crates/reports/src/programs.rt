@@ -8,6 +8,7 @@ ghost use Rattle.reports.specs.Reports.{resource_program, program_lines};
 use catalog::Catalog;
 use fs_lang::Program;
 use pp_value::shown_ref;
+use printed_names::printed;
 use rh_base::{NoMemory, Seq};
 use std::alloc::Global;
 use tree_text::program_text;
@@ -24,7 +25,8 @@ fn push_program(
     requires { place < length catalog.now.resources }
     ensures { OnOk result (into.new.items ≡ into.old.items ++ resource_program catalog.now place (program_of program.now)) }
 {
-    let shown = shown_ref(alloc, &catalog.get(place).id)?;
+    let reference = shown_ref(alloc, &catalog.get(place).id)?;
+    let shown = printed(alloc, reference.as_str())?;
     push_bytes(shown.as_str().as_bytes(), into)?;
     push_bytes(b"\n", into)?;
     program_text(alloc, program, into)?;

@@ -11,4 +11,8 @@ pub enum Question {
     Verdict(Form, Option<u64>),
     /// Their outcome on a file tree.
     Replay,
+    /// Whether each run that ends leaves the entry that is wanted. Each question has so many conflicts, if a number is given.
+    Ensures(Option<u64>),
+    /// The arrows that they lack. Each question has so many conflicts, if a number is given.
+    Repair(Option<u64>),
 }

@@ -4,6 +4,7 @@ ghost use Rattle.std.specs.Prelude.{◌≡◌, ◌<◌, length, map, IfOk, IfErr
 ghost use Rattle.std.specs.List.{AllByRecursion};
 ghost use Rattle.std.specs.Option.{option_map};
 ghost use Rattle.rh_base.specs.Refused.{IfRefused};
+ghost use Rattle.allowed_order.specs.AllowedOrder.{AreToldApart};
 ghost use Rattle.fs_lang.specs.Meaning.{program_of};
 ghost use Rattle.fs_semantics.specs.Orders.{outcome};
 ghost use Rattle.verdict_text.specs.Lines.{outcome_line};
@@ -25,7 +26,8 @@ fn order_for(
     catalog: &Catalog,
     plan: &Graph,
 ) -> Result<Seq<u32>, Fault>
-    requires { plan.now.order.count ≡ length plan.now.plain }
+    requires count { plan.now.order.count ≡ length plan.now.plain }
+    requires apart { AreToldApart catalog.now plan.now.plain }
     ensures order { IfOk result (IsOrderFor (option_map (λ b. b.now) text.entry) catalog.now plan.now) }
     ensures refused { IfErr result (λ e. IfRefused e (HasNoOrder (option_map (λ b. b.now) text.entry) catalog.now plan.now)) }
 {
@@ -61,6 +63,7 @@ pub fn replayed(
     programs: &[Program],
 ) -> Result<Seq<u8>, Fault>
     requires count { plan.now.order.count ≡ length plan.now.plain }
+    requires apart { AreToldApart catalog.now plan.now.plain }
     requires programs { length programs.now ≡ length plan.now.plain }
     ensures told { IfOk result (IsReplayed (option_map (λ b. b.now) text.entry) tree.now catalog.now plan.now (map program_of programs.now)) }
     ensures refused { IfErr result (λ e. IfRefused e (HasNoOrder (option_map (λ b. b.now) text.entry) catalog.now plan.now)) }

@@ -8,11 +8,15 @@ ghost use Rattle.reports.specs.Stages.{IsCompiled, IsPlanned, IsModelled};
 ghost use Rattle.reports.specs.Questions.{IsToldOf, HasNoAnswer, IsReport, ReportRefusal};
 
 use crate::compiling::catalog_for;
+use crate::entries::ensured;
 use crate::programs::program_lines;
 use crate::question::Question;
+use crate::repairs::repaired;
 use crate::replays::replayed;
 use crate::verdicts::judged;
+use allowed_order::plain_resources_are_told_apart;
 use catalog::Catalog;
+use catalog_semantics::{catalogs_are_sound, references_stand_once};
 use command_line::Role;
 use dep_graph::{Graph, graph};
 use fs_lang::Program;
@@ -36,6 +40,9 @@ fn told_of(
     ensures told { IfOk result (IsToldOf question inputs.now known.now catalog.now plan.now (map program_of programs.now)) }
     ensures refused { IfErr result (λ e. IfRefused e (HasNoAnswer question inputs.now catalog.now plan.now (map program_of programs.now))) }
 {
+    catalogs_are_sound();
+    references_stand_once();
+    plain_resources_are_told_apart();
     match question {
         Question::Programs => Ok(printed(program_lines(
             alloc,
@@ -52,6 +59,11 @@ fn told_of(
             plan,
             programs,
         )?)),
+        Question::Repair(given) => repaired(alloc, given, catalog, plan, programs),
+        Question::Ensures(given) => {
+            let wanted = inputs.wanted(alloc)?;
+            ensured(alloc, given, &wanted, catalog, plan, programs)
+        }
     }
 }
 

@@ -28,7 +28,8 @@ pub fn push_head(alloc: Global, n: usize, pruned: u32, into: &mut Vec<u8>) -> Re
     push_bytes(head.as_str().as_bytes(), into)
 }
 
-fn push_last(end: &Ends, into: &mut Vec<u8>) -> Result<(), NoMemory>
+/// Appends whether some tree has a run without error.
+pub fn push_last(end: &Ends, into: &mut Vec<u8>) -> Result<(), NoMemory>
     ensures { OnOk result (into.new.items ≡ into.old.items ++ last_line end.now) }
 {
     match end {

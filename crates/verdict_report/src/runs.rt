@@ -18,7 +18,7 @@ use std::alloc::Global;
 use verdict_text::{push_bytes, push_order, push_outcome, push_tree};
 
 /// Appends an order, and the outcome of the programs in it.
-fn push_run(
+pub fn push_run(
     alloc: Global,
     names: &[Text],
     programs: &[Program],

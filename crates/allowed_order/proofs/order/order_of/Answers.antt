@@ -9,9 +9,9 @@ returns-in_err-texts-clause-refused c =
     rw (p.1, p.2) (no_text c.args.catalog.now c.args.plain.now (Comes c.args.order.now) c.args.bytes.now c.in_err-texts.field-0.0 c.in_err-texts.ensures.refused)
 
 pub returns-in-Some-clause-only : goal.returns-in-Some-clause-only
-returns-in-Some-clause-only c o h =
+returns-in-Some-clause-only c apart o h =
     only_of c.args.catalog.now c.args.plain.now (Comes c.args.order.now) c.args.bytes.now c.in_ok-texts.texts c.as_slice.result.now c.in_ok-found.field-0 c.in-Some.found o
-    c.one_order.ensures c.in_ok-texts.ensures.found c.as_slice.ensures c.in_ok-found.ensures c.in-Some.is h
+    c.one_order.ensures c.in_ok-texts.ensures.found c.as_slice.ensures c.in_ok-found.ensures c.in-Some.is apart h
 
 pub returns-clause-refused : goal.returns-clause-refused
 returns-clause-refused c =

@@ -2,8 +2,8 @@ use Rattle.std.proofs.Common.{map}
 use Rattle.fs_semantics.specs.Orders.{Told, IsIdempotent}
 use Rattle.fs_lang.specs.Meaning.{program_of}
 use Rattle.orders.specs.Relation.{comes}
+use Rattle.answering.specs.Answers.{in_its_words}
 use Rattle.full_verdict.specs.Questions.{StatesSecond, IsSecondChange}
-use Rattle.full_verdict.proofs.AnswerLaws.{by}
 use Rattle.full_verdict.proofs.second.ask_second.Goals as goal
 
 pub returns : goal.returns
@@ -11,4 +11,4 @@ returns c =
     let es = map program_of c.args.programs.now in
     let order = c.args.order.now in
     let q = c.in_ok-question in
-    by q.question c.args.budget (StatesSecond es order) (IsIdempotent es (Told (comes order))) (IsSecondChange es order) q.ensures.states q.ensures.same q.ensures.models c.in_ok-found.found c.in_ok-found.ensures
+    in_its_words q.question c.args.budget (StatesSecond es order) (IsIdempotent es (Told (comes order))) (IsSecondChange es order) q.ensures.states q.ensures.same q.ensures.models c.in_ok-found.found c.in_ok-found.ensures

@@ -3,13 +3,14 @@ use Rattle.std.proofs.lemmas.List.{length-map}
 use Rattle.fs_semantics.specs.Orders.{Told, FreeCommute}
 use Rattle.fs_lang.specs.Meaning.{program_of}
 use Rattle.orders.specs.Relation.{comes}
-use Rattle.judgement.proofs.EachPairLaws.{two_commute}
+use Rattle.judgement.proofs.EachPairLaws.{two_commute, some_by}
 use Rattle.judgement.proofs.each_pair.commute.Goals as goal
 
-pub returns-in-Refuted : goal.returns-in-Refuted
-returns-in-Refuted c =
+pub returns : goal.returns
+returns c =
     let two = c.in_ok-two.two in
     let before = Told (comes c.in_ok-order.order) in
-    two_commute (map program_of c.args.programs.now) (map program_of two) before c.args.a c.args.b (length-map two program_of ∙ c.in_ok-two.ensures.long) c.in_ok-order.ensures.free
-    c.in_ok-two.ensures.first c.in_ok-two.ensures.second
-    (subst (λ xs. FreeCommute (map program_of xs) before) c.as_slice.ensures (c.in_ok-cnf.ensures.states.0 c.in_ok-verified-in-Refuted.ensures.no_model))
+    some_by c.in_ok-found.found (λ none.
+        two_commute (map program_of c.args.programs.now) (map program_of two) before c.args.a c.args.b (length-map two program_of ∙ c.in_ok-two.ensures.long) c.in_ok-order.ensures.free
+        c.in_ok-two.ensures.first c.in_ok-two.ensures.second
+        (subst (λ xs. FreeCommute (map program_of xs) before) c.as_slice.ensures (c.in_ok-cnf.ensures.states.0 none))) c.in_ok-found.ensures.no_model

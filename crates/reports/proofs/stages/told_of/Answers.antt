@@ -1,4 +1,6 @@
-use Rattle.std.proofs.Common.{refl}
+use Rattle.std.proofs.Common.{refl, sym, subst}
+use Rattle.allowed_order.specs.AllowedOrder.{AreToldApart}
+use Rattle.reports.specs.Stages.{node_name}
 use Rattle.reports.proofs.StageLaws.{are_places}
 use Rattle.reports.proofs.QuestionLaws.{as_many_lent, as_many_in_order}
 use Rattle.reports.proofs.stages.told_of.Goals as goal
@@ -18,5 +20,31 @@ judged-requires-clause-places c = are_places c.args.catalog.now c.args.plan.now 
 pub replayed-requires-clause-count : goal.replayed-requires-clause-count
 replayed-requires-clause-count c = c.requires.planned.count
 
+pub replayed-requires-clause-apart : goal.replayed-requires-clause-apart
+replayed-requires-clause-apart c =
+    let is = c.requires.planned.compiled.catalog in
+    subst (AreToldApart c.args.catalog.now) (sym c.requires.planned.graph.places)
+    (c.plain_resources_are_told_apart.ensures c.args.catalog.now
+    (c.catalogs_are_sound.ensures is.manifest c.args.known.now.facts (node_name c.args.inputs.now.node) c.args.known.now.class_data c.args.catalog.now (sym is.is))
+    (c.references_stand_once.ensures is.manifest c.args.known.now.facts (node_name c.args.inputs.now.node) c.args.known.now.class_data c.args.catalog.now (sym is.is)))
+
 pub replayed-requires-clause-programs : goal.replayed-requires-clause-programs
 replayed-requires-clause-programs c = as_many_lent c.args.inputs.now c.args.known.now c.args.catalog.now c.args.plan.now c.args.programs.now c.requires
+
+pub repaired-requires-clause-count : goal.repaired-requires-clause-count
+repaired-requires-clause-count c = as_many_in_order c.args.inputs.now c.args.known.now c.args.catalog.now c.args.plan.now c.args.programs.now c.requires
+
+pub repaired-requires-clause-many : goal.repaired-requires-clause-many
+repaired-requires-clause-many c = c.requires.planned.count
+
+pub repaired-requires-clause-places : goal.repaired-requires-clause-places
+repaired-requires-clause-places c = are_places c.args.catalog.now c.args.plan.now c.args.plan.now.plain refl c.requires.planned.graph
+
+pub ensured-requires-clause-count : goal.ensured-requires-clause-count
+ensured-requires-clause-count c = as_many_in_order c.args.inputs.now c.args.known.now c.args.catalog.now c.args.plan.now c.args.programs.now c.requires
+
+pub ensured-requires-clause-many : goal.ensured-requires-clause-many
+ensured-requires-clause-many c = c.requires.planned.count
+
+pub ensured-requires-clause-places : goal.ensured-requires-clause-places
+ensured-requires-clause-places c = are_places c.args.catalog.now c.args.plan.now c.args.plan.now.plain refl c.requires.planned.graph

@@ -1,0 +1,4 @@
+pub mod ProbingLaws
+pub mod RunLaws
+pub mod MissingLaws
+pub mod EnsuredLaws

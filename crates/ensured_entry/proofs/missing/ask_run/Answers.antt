@@ -1,0 +1,16 @@
+use Rattle.std.proofs.Common.{map}
+use Rattle.fs_semantics.specs.Orders.{Told}
+use Rattle.fs_lang.specs.Meaning.{program_of}
+use Rattle.orders.specs.Relation.{comes}
+use Rattle.answering.specs.Answers.{in_its_words}
+use Rattle.wanted_entry.specs.Entries.{Ensures}
+use Rattle.ensured_entry.specs.Questions.{StatesMissing, IsMissed}
+use Rattle.ensured_entry.proofs.missing.ask_run.Goals as goal
+
+pub returns : goal.returns
+returns c =
+    let es = map program_of c.args.programs.now in
+    let order = c.args.order.now in
+    let w = c.args.wanted.now in
+    let q = c.in_ok-question in
+    in_its_words q.question c.args.budget (StatesMissing es order w) (Ensures es (Told (comes order)) w) (IsMissed es order w) q.ensures.states q.ensures.ensured q.ensures.models c.in_ok-found.found c.in_ok-found.ensures

@@ -1,0 +1,23 @@
+use Rattle.std.proofs.Common.{map, ◌∙◌}
+use Rattle.std.proofs.lemmas.List.{length-map}
+use Rattle.fs_lang.specs.Meaning.{program_of}
+use Rattle.orders.specs.Relation.{comes}
+use Rattle.ensured_entry.proofs.MissingLaws.{states, ensured, shown}
+use Rattle.ensured_entry.proofs.missing.missing_question.Goals as goal
+
+pub returns-clause-states : goal.returns-clause-states
+returns-clause-states c =
+    states c.domains.ensures.laid_out c.wanted_entries.ensures.over (map program_of c.args.programs.now) c.args.order.now c.args.wanted.now c.args.domain.now c.requires.layout
+    c.in_ok-posed.posed.formula c.in_ok-posed.ensures.exact
+
+pub returns-clause-ensured : goal.returns-clause-ensured
+returns-clause-ensured c =
+    let es = map program_of c.args.programs.now in
+    ensured c.domains.ensures.laid_out c.wanted_entries.ensures.over es c.args.order.now c.args.wanted.now c.args.domain.now c.requires.layout
+    c.in_ok-posed.posed.formula c.in_ok-posed.ensures.exact (length-map c.args.programs.now program_of ∙ c.requires.count) c.requires.deterministic
+    c.in_ok-_first._first (record { allowed = c.in_ok-_first.ensures.allowed; least = c.in_ok-_first.ensures.least })
+    (c.wanted_entries.ensures.exactly es (comes c.args.order.now) c.args.wanted.now)
+
+pub returns-clause-models : goal.returns-clause-models
+returns-clause-models c = λ v holds w told.
+    shown (map program_of c.args.programs.now) c.args.order.now c.args.domain.now c.args.wanted.now w (c.in_ok-posed.ensures.models v holds w told)

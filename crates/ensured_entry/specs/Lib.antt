@@ -1,0 +1,4 @@
+pub mod Questions
+pub mod Sizes
+pub mod Tried
+pub mod Ensured

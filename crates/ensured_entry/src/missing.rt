@@ -1,0 +1,72 @@
+//! Whether a run of a deterministic graph ends without the wanted entry.
+
+ghost use Rattle.std.specs.Prelude.{◌≡◌, ◌≤◌, ◌++◌, ◌∷◌, [], ℕ, Bool, map, length, IfOk};
+ghost use Rattle.fs_semantics.specs.Orders.{Told, IsDeterministic};
+ghost use Rattle.fs_lang.specs.Meaning.{program_of, programs_in};
+ghost use Rattle.fs_interpreter.specs.Places.{CoversSteps};
+ghost use Rattle.finite_domain.specs.Layouts.{IsLayout};
+ghost use Rattle.path_domain.specs.Laid.{layout_of};
+ghost use Rattle.orders.specs.Relation.{comes};
+ghost use Rattle.cnf.specs.Encoding.{inputs_in};
+ghost use Rattle.cnf.specs.Formulas.{Satisfies};
+ghost use Rattle.proof_check.specs.Refuted.{HasNoModel};
+ghost use Rattle.order_encode.specs.Asked.{Shows};
+ghost use Rattle.order_encode.specs.declared.witness.Witness.{Witness};
+ghost use Rattle.wanted_entry.specs.Entries.{probe_of, Ensures};
+ghost use Rattle.ensured_entry.specs.Questions.{StatesMissing, IsMissed, AnswersMissing};
+
+use answering::{Answer, answer_to};
+use finite_domain::domains;
+use fs_lang::Program;
+use order_encode::{Question, ask_missing};
+use orders::Order;
+use path_domain::Domain;
+use rh_base::NoMemory;
+use std::alloc::Global;
+use wanted_entry::{Wanted, wanted_entries};
+
+/// The question whether a run ends without the entry, over the domain of the programs and the probe. Where its formula has no
+/// model, the graph ensures the entry: the programs are deterministic, so that the first extension stands for all allowed orders.
+fn missing_question(
+    alloc: Global,
+    programs: &[Program],
+    order: &Order,
+    domain: &Domain,
+    wanted: &Wanted,
+) -> Result<Question, NoMemory>
+    requires count { length programs.now ≡ order.now.count }
+    requires deterministic { IsDeterministic (map program_of programs.now) (Told (comes order.now)) }
+    requires layout { IsLayout (map program_of programs.now ++ probe_of wanted.now ∷ []) (layout_of domain.now) }
+    requires covers { CoversSteps domain.now.table (programs_in programs.now) }
+    ensures states { IfOk result (λ q. StatesMissing (map program_of programs.now) order.now wanted.now q.formula) }
+    ensures ensured { IfOk result (λ q. HasNoModel q.formula → Ensures (map program_of programs.now) (Told (comes order.now)) wanted.now) }
+    ensures models { IfOk result (λ q. (v : ℕ → Bool) → Satisfies v q.formula.clauses → (w : Witness) → Shows q (inputs_in v) w → IsMissed (map program_of programs.now) order.now wanted.now w) }
+{
+    domains();
+    wanted_entries();
+    // Only that there is one: it stands for all orders.
+    let _first = order.first_extension()?;
+    let posed = ask_missing(alloc, programs, order, domain, wanted)?;
+    Ok(posed)
+}
+
+/// Asks whether a run ends without the entry.
+pub(crate) fn ask_run(
+    alloc: Global,
+    programs: &[Program],
+    order: &Order,
+    domain: &Domain,
+    wanted: &Wanted,
+    budget: u64,
+) -> Result<Answer, NoMemory>
+    requires count { length programs.now ≡ order.now.count }
+    requires budget { 1 ≤ budget }
+    requires deterministic { IsDeterministic (map program_of programs.now) (Told (comes order.now)) }
+    requires layout { IsLayout (map program_of programs.now ++ probe_of wanted.now ∷ []) (layout_of domain.now) }
+    requires covers { CoversSteps domain.now.table (programs_in programs.now) }
+    ensures { IfOk result (AnswersMissing (map program_of programs.now) order.now wanted.now budget) }
+{
+    let question = missing_question(alloc, programs, order, domain, wanted)?;
+    let found = answer_to(alloc, question, budget)?;
+    Ok(found)
+}

@@ -1,0 +1,7 @@
+//! What is told of an entry that is wanted: whether each run that ends leaves it.
+#![tactic(auto)]
+
+mod lines;
+mod telling;
+
+pub use telling::told;

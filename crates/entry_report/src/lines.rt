@@ -1,0 +1,88 @@
+//! The lines on an entry that is wanted.
+
+ghost use Rattle.std.specs.Prelude.{◌≡◌, ◌++◌, length, map, IfOk, OnOk};
+ghost use Rattle.fs_lang.specs.Meaning.{program_of};
+ghost use Rattle.entry_report.specs.Lines.{ensured_text, missed_of, known_lines, question_name, spent_late_text};
+ghost use Rattle.verdict_report.specs.Lines.{last_line};
+ghost use Rattle.entry_report.specs.Steps.{HasRun};
+
+use ensured_entry::Late;
+use fs_lang::Program;
+use full_verdict::Ends;
+use order_encode::Witness;
+use rh_base::{NoMemory, Seq, Text};
+use std::alloc::Global;
+use verdict_report::{push_head, push_last, push_run};
+use verdict_text::{push_bytes, push_tree};
+
+/// The lines where each run that ends leaves the entry.
+pub fn ensured_text(alloc: Global, n: usize, pruned: u32, end: &Ends) -> Result<Seq<u8>, NoMemory>
+    ensures { IfOk result (λ text. text ≡ ensured_text n pruned (last_line end.now)) }
+{
+    let mut bytes = Vec::new(alloc);
+    push_head(alloc, n, pruned, &mut bytes)?;
+    push_bytes(b"deterministic\nensured\n", &mut bytes)?;
+    push_last(end, &mut bytes)?;
+    Ok(Seq::from_vec(bytes))
+}
+
+/// The lines on a run that ends without the entry.
+pub fn missed_text(
+    alloc: Global,
+    names: &[Text],
+    programs: &[Program],
+    pruned: u32,
+    witness: &Witness,
+) -> Result<Seq<u8>, NoMemory>
+    requires named { HasRun (length names.now) witness.now }
+    requires places { HasRun (length programs.now) witness.now }
+    ensures { IfOk result (λ text. text ≡ missed_of names.now (map program_of programs.now) pruned witness.now) }
+{
+    let Witness::Ends { tree, order } = witness else {
+        unreachable!();
+    };
+    let turns = order.as_slice();
+    let mut bytes = Vec::new(alloc);
+    push_head(alloc, programs.len(), pruned, &mut bytes)?;
+    push_bytes(b"deterministic\nnot ensured\n", &mut bytes)?;
+    push_tree(alloc, tree, &mut bytes)?;
+    push_run(alloc, names, programs, tree, turns, &mut bytes)?;
+    Ok(Seq::from_vec(bytes))
+}
+
+fn push_known(asked: &Late, into: &mut Vec<u8>) -> Result<(), NoMemory>
+    ensures { OnOk result (into.new.items ≡ into.old.items ++ known_lines asked.now) }
+{
+    match asked {
+        Late::Ensures => push_bytes(b"deterministic\n", into),
+        Late::Succeeds => push_bytes(b"deterministic\nensured\n", into),
+    }
+}
+
+fn question_name(asked: &Late) -> &'static str
+    ensures { result.now ≡ question_name asked.now }
+{
+    match asked {
+        Late::Ensures => "ensures",
+        Late::Succeeds => "succeeds",
+    }
+}
+
+/// The lines where a question's conflicts are spent.
+pub fn spent_late_text(
+    alloc: Global,
+    n: usize,
+    pruned: u32,
+    asked: &Late,
+    budget: u64,
+) -> Result<Seq<u8>, NoMemory>
+    ensures { IfOk result (λ text. text ≡ spent_late_text n pruned asked.now budget) }
+{
+    let name = question_name(asked);
+    let line = format!(in alloc; "spent {name} {budget}\n")?;
+    let mut bytes = Vec::new(alloc);
+    push_head(alloc, n, pruned, &mut bytes)?;
+    push_known(asked, &mut bytes)?;
+    push_bytes(line.as_str().as_bytes(), &mut bytes)?;
+    Ok(Seq::from_vec(bytes))
+}

@@ -1,0 +1,132 @@
+//! What is told of an entry that is wanted.
+
+ghost use Rattle.std.specs.Prelude.{◌≡◌, length, map, IfOk, IfErr};
+ghost use Rattle.rh_base.specs.Refused.{IfRefused};
+ghost use Rattle.fs_lang.specs.Meaning.{program_of};
+ghost use Rattle.wanted_entry.specs.Entries.{probe_of};
+ghost use Rattle.ensured_entry.specs.Sizes.{IsTooLargeWith};
+ghost use Rattle.entry_report.specs.Lines.{status_of, first_status, first_lines, lines_of};
+ghost use Rattle.entry_report.specs.Steps.{IsTellable, IsTellableFirst, IsReportOf};
+ghost use Rattle.entry_report.specs.Told.{IsEntryTold};
+
+use crate::lines::{ensured_text, missed_text, spent_late_text};
+use ensured_entry::{Ensured, judge_entry};
+use fs_lang::Program;
+use full_verdict::Asked;
+use judgement::First;
+use orders::Order;
+use rh_base::{Fault, NoMemory, Seq, Text};
+use std::alloc::Global;
+use verdict_report::{Report, budget_of, difference_text, spent_text};
+use wanted_entry::Wanted;
+
+fn first_status(first: &First) -> u8
+    ensures { result ≡ first_status first.now }
+{
+    match first {
+        First::Sure { .. } => 0,
+        First::Differs { .. } => 1,
+        First::Spent { .. } => 3,
+    }
+}
+
+fn status_of(answered: &Ensured) -> u8
+    ensures { result ≡ status_of answered.now }
+{
+    match answered {
+        Ensured::First(first) => first_status(first),
+        Ensured::Holds { .. } => 0,
+        Ensured::Fails { .. } => 9,
+        Ensured::Spent { .. } => 3,
+    }
+}
+
+/// The lines where the graph isn't known to be deterministic.
+fn first_lines(
+    alloc: Global,
+    names: &[Text],
+    programs: &[Program],
+    budget: u64,
+    first: &First,
+) -> Result<Seq<u8>, NoMemory>
+    requires named { IsTellableFirst (length names.now) first.now }
+    requires places { IsTellableFirst (length programs.now) first.now }
+    ensures { IfOk result (λ text. text ≡ first_lines names.now (map program_of programs.now) budget first.now) }
+{
+    match first {
+        First::Sure { .. } => unreachable!(),
+        First::Differs { pruned, witness } => {
+            difference_text(alloc, names, programs, *pruned, witness)
+        }
+        First::Spent { pruned, .. } => spent_text(
+            alloc,
+            programs.len(),
+            *pruned,
+            &Asked::Deterministic,
+            budget,
+        ),
+    }
+}
+
+/// The lines on an answer.
+fn lines_of(
+    alloc: Global,
+    names: &[Text],
+    programs: &[Program],
+    budget: u64,
+    answered: &Ensured,
+) -> Result<Seq<u8>, NoMemory>
+    requires named { IsTellable (length names.now) answered.now }
+    requires places { IsTellable (length programs.now) answered.now }
+    ensures { IfOk result (λ text. text ≡ lines_of names.now (map program_of programs.now) budget answered.now) }
+{
+    match answered {
+        Ensured::First(first) => first_lines(alloc, names, programs, budget, first),
+        Ensured::Holds { pruned, ends, .. } => ensured_text(alloc, programs.len(), *pruned, ends),
+        Ensured::Fails {
+            pruned, witness, ..
+        } => missed_text(alloc, names, programs, *pruned, witness),
+        Ensured::Spent { pruned, asked, .. } => {
+            spent_late_text(alloc, programs.len(), *pruned, asked, budget)
+        }
+    }
+}
+
+/// An answer, as it is told.
+fn report_of(
+    alloc: Global,
+    names: &[Text],
+    programs: &[Program],
+    budget: u64,
+    answered: &Ensured,
+) -> Result<Report, NoMemory>
+    requires named { IsTellable (length names.now) answered.now }
+    requires places { IsTellable (length programs.now) answered.now }
+    ensures { IfOk result (IsReportOf names.now (map program_of programs.now) budget answered.now) }
+{
+    let status = status_of(answered);
+    let text = lines_of(alloc, names, programs, budget, answered)?;
+    Ok(Report { status, text })
+}
+
+/// What is told of programs in an order and an entry that is wanted. The resources have these names. Each question has so many
+/// conflicts, if a number is given.
+pub fn told(
+    alloc: Global,
+    given: Option<u64>,
+    wanted: &Wanted,
+    names: &[Text],
+    programs: &[Program],
+    order: &Order,
+) -> Result<Report, Fault>
+    requires count { length programs.now ≡ order.now.count }
+    requires names { length names.now ≡ order.now.count }
+    ensures told { IfOk result (IsEntryTold given wanted.now names.now (map program_of programs.now) order.now) }
+    // It is refused exactly where the graph is too large to be asked about, or the domain with the entry is.
+    ensures refused { IfErr result (λ e. IfRefused e (IsTooLargeWith (map program_of programs.now) (probe_of wanted.now))) }
+{
+    let budget = budget_of(given);
+    let answered = judge_entry(alloc, programs, order, wanted, budget)?;
+    let report = report_of(alloc, names, programs, budget, &answered)?;
+    Ok(report)
+}

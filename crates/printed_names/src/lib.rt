@@ -1,0 +1,6 @@
+//! Names as they are printed in lines.
+#![tactic(auto)]
+
+mod printing;
+
+pub use printing::{one_line, printed};

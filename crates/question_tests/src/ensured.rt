@@ -1,0 +1,211 @@
+//! Entries that graphs ensure, each row with what is answered.
+
+ghost use Rattle.orders.specs.Paths.{EndsBelow};
+
+use crate::judging::refused;
+use crate::programs::in_turn;
+use ensured_entry::{Ensured, Late, Wanted, judge_entry};
+use fs_lang::{Path, Program};
+use full_verdict::Ends;
+use judgement::First;
+use order_encode::Witness;
+use orders::Order;
+use rh_base::{Fault, Text};
+use std::alloc::Global;
+use std::test::Fail;
+use test_programs::programs;
+
+fn text(alloc: Global, words: &str) -> Result<Text, Fail> {
+    Ok(Text::from_string(String::from_str(alloc, words)?))
+}
+
+/// A path alone, or a path, a blank and a content.
+fn wanted(alloc: Global, words: &str) -> Result<Wanted, Fail> {
+    match words.split_once(' ') {
+        Some((path, content)) => Ok(Wanted {
+            path: Path::read(alloc, path)?,
+            content: Some(text(alloc, content)?),
+        }),
+        None => Ok(Wanted {
+            path: Path::read(alloc, words)?,
+            content: None,
+        }),
+    }
+}
+
+fn unsure(first: &First) -> &'static str {
+    match first {
+        First::Sure { .. } => "sure",
+        First::Differs { .. } => "not deterministic",
+        First::Spent { .. } => "spent deterministic",
+    }
+}
+
+fn held(ends: &Ends) -> &'static str {
+    match ends {
+        Ends::From(_) => "ensured, succeeds",
+        Ends::Never(_) => "ensured, fails",
+    }
+}
+
+fn missed(witness: &Witness) -> &'static str {
+    match witness {
+        Witness::Ends { .. } => "not ensured",
+        Witness::Orders { .. } | Witness::Twice { .. } => "another witness",
+    }
+}
+
+fn spent(asked: &Late) -> &'static str {
+    match asked {
+        Late::Ensures => "spent ensures",
+        Late::Succeeds => "spent succeeds",
+    }
+}
+
+fn answered(ensured: &Ensured) -> &'static str {
+    match ensured {
+        Ensured::First(first) => unsure(first),
+        Ensured::Holds { ends, .. } => held(ends),
+        Ensured::Fails { witness, .. } => missed(witness),
+        Ensured::Spent { asked, .. } => spent(asked),
+    }
+}
+
+/// What is answered of these programs and this entry.
+fn told(
+    alloc: Global,
+    programs: &[Program],
+    order: &Order,
+    wanted: &Wanted,
+    budget: u64,
+) -> Result<String, Fail> {
+    if order.count() as usize != programs.len() || budget == 0 {
+        return Err(Fail::from("as many nodes as programs, and a budget"));
+    }
+    match judge_entry(alloc, programs, order, wanted, budget) {
+        Ok(ensured) => Ok(String::from_str(alloc, answered(&ensured))?),
+        Err(Fault::Refused(refusal)) => refused(alloc, &refusal),
+        Err(Fault::Memory(_)) => Err(Fail::from("memory")),
+    }
+}
+
+/// The same, with the programs in words and pairs of which the first comes before the second.
+fn told_of(
+    alloc: Global,
+    words: &str,
+    edges: &[(u32, u32)],
+    entry: &str,
+    budget: u64,
+) -> Result<String, Fail> {
+    let all = programs(alloc, words)?;
+    let order = Order::from_edges(alloc, u32::try_from(all.len())?, edges)?;
+    told(
+        alloc,
+        all.as_slice(),
+        &order,
+        &wanted(alloc, entry)?,
+        budget,
+    )
+}
+
+/// Makes sure of /etc/motd with the content hi.
+const MOTD: &str = "put /etc/motd hi";
+
+#[test]
+fn entries_of_one_program(rt: HostRuntime) -> Result<(), Fail> {
+    let rows: [(&str, &str, &str); 13] = [
+        (MOTD, "/etc/motd hi", "ensured, succeeds"),
+        (MOTD, "/etc/motd ho", "not ensured"),
+        (MOTD, "/etc/motd ", "not ensured"),
+        (MOTD, "/etc/motd", "ensured, succeeds"),
+        // where the file ends, the folder stands; but a folder has no content
+        (MOTD, "/etc", "ensured, succeeds"),
+        (MOTD, "/etc ", "not ensured"),
+        // no program touches it
+        (MOTD, "/srv", "not ensured"),
+        (MOTD, "/etc/motd/below", "not ensured"),
+        // it may hold another content, though from the empty tree it doesn't
+        ("if file? /a: id, creat /a ", "/a ", "not ensured"),
+        ("if file? /a: id, creat /a ", "/a", "ensured, succeeds"),
+        ("id", "/a", "not ensured"),
+        ("link /a /b", "/a /b", "not ensured"),
+        ("err", "/x", "ensured, fails"),
+    ];
+    for (words, entry, want) in rows {
+        let got = told_of(rt.alloc(), words, &[], entry, u64::MAX)?;
+        assert_eq!(rt; got.as_str(), want, "{words}, {entry}");
+    }
+    Ok(())
+}
+
+#[test]
+fn entries_of_graphs(rt: HostRuntime) -> Result<(), Fail> {
+    let rows: [(&str, &[(u32, u32)], &str, &str); 5] = [
+        // not deterministic, so nothing is said of the entry
+        (
+            "dir /etc | put /etc/a x",
+            &[],
+            "/etc/a",
+            "not deterministic",
+        ),
+        (
+            "dir /etc | put /etc/a x",
+            &[(0, 1)],
+            "/etc/a x",
+            "ensured, succeeds",
+        ),
+        ("put /a x | drop /a", &[(0, 1)], "/a", "not ensured"),
+        ("drop /a | put /a x", &[(0, 1)], "/a x", "ensured, succeeds"),
+        ("mkdir /a | mkdir /a", &[(0, 1)], "/b", "ensured, fails"),
+    ];
+    for (words, edges, entry, want) in rows {
+        let got = told_of(rt.alloc(), words, edges, entry, u64::MAX)?;
+        assert_eq!(rt; got.as_str(), want, "{words}, {entry}");
+    }
+    Ok(())
+}
+
+/// Where /a is a file, /x goes and comes back. The budget of one step is spent on the question, since neither case is sure.
+const GOES_AND_COMES: &str =
+    "if none? /t: id, err | put /x 1 | if file? /a and file? /x: creat /t 1, id | if file? /a and none? /x: creat /x 1, id | if file? /t: rm /x, id | if file? /t: rm /t, id | if file? /a and file? /x: creat /t 1, id | if file? /a and none? /x: creat /x 1, id | if file? /t: rm /x, id | if file? /t: rm /t, id";
+
+#[test]
+fn spent_budgets(rt: HostRuntime) -> Result<(), Fail> {
+    let alloc = rt.alloc();
+    let mut edges = Vec::new(alloc);
+    for k in 0..9u32 {
+        edges.push((k, k + 1))?;
+    }
+    for (budget, want) in [(1, "spent ensures"), (u64::MAX, "ensured, succeeds")] {
+        let got = told_of(alloc, GOES_AND_COMES, edges.as_slice(), "/x", budget)?;
+        assert_eq!(rt; got.as_str(), want, "{budget}");
+    }
+    Ok(())
+}
+
+/// One program that makes so many folders, and a wanted entry.
+fn told_in_turn(alloc: Global, count: u32, entry: &str) -> Result<String, Fail> {
+    let all = vec![in alloc; in_turn(alloc, count)?]?;
+    let order = Order::from_edges(alloc, 1, &[])?;
+    told(
+        alloc,
+        all.as_slice(),
+        &order,
+        &wanted(alloc, entry)?,
+        u64::MAX,
+    )
+}
+
+#[test]
+fn paths_of_the_domain_with_the_probe(rt: HostRuntime) -> Result<(), Fail> {
+    for (count, entry, want) in [
+        (4_096u32, "/x", "70 domain"),
+        (4_097, "/d1", "70 domain"),
+        (4_095, "/x/y", "70 domain"),
+        (4_095, "/x", "not ensured"),
+    ] {
+        let got = told_in_turn(rt.alloc(), count, entry)?;
+        assert_eq!(rt; got.as_str(), want, "{count}, {entry}");
+    }
+    Ok(())
+}

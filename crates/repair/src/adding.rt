@@ -1,0 +1,50 @@
+//! Adding arrows until none is missing.
+
+ghost use Rattle.std.specs.Prelude.{◌≡◌, ◌≤◌, length, map, IfOk};
+ghost use Rattle.fs_lang.specs.Meaning.{program_of};
+ghost use Rattle.orders.specs.Relation.{comes};
+ghost use Rattle.verdict.specs.Limits.{HasFewPaths, IsLight};
+ghost use Rattle.commute_prune.specs.Pairs.{pairs_of};
+ghost use Rattle.repair.specs.Steps.{IsAdded};
+
+use crate::missing::{Look, look_at};
+use crate::repaired::Repaired;
+use crate::with::with_arrows;
+use fs_lang::Program;
+use orders::Order;
+use rh_base::{NoMemory, Seq};
+use std::alloc::Global;
+
+/// Adds arrows, one by one, until the graph with them is deterministic or the budget is spent on one of them.
+pub(crate) fn add_arrows(
+    alloc: Global,
+    programs: &[Program],
+    order: &Order,
+    pairs: &[(u32, u32)],
+    budget: u64,
+) -> Result<Repaired, NoMemory>
+    requires count { length programs.now ≡ order.now.count }
+    requires pairs { pairs.now ≡ pairs_of (comes order.now) order.now.count order.now.count }
+    requires budget { 1 ≤ budget }
+    requires paths { HasFewPaths (map program_of programs.now) }
+    requires weight { IsLight (map program_of programs.now) }
+    ensures { IfOk result (IsAdded (map program_of programs.now) order.now budget) }
+{
+    order.count();
+    let mut arrows = Seq::new(alloc);
+    let mut now = with_arrows(alloc, order, pairs, arrows.as_slice())?;
+    'looks: loop {
+        match look_at(alloc, programs, &now, budget)? {
+            Look::Sure => return Ok(Repaired::Done { added: arrows }),
+            Look::Missing(arrow) => arrows.push(arrow)?,
+            Look::Spent(cnf, log) => {
+                return Ok(Repaired::Spent {
+                    added: arrows,
+                    cnf,
+                    log,
+                });
+            }
+        }
+        now = with_arrows(alloc, order, pairs, arrows.as_slice())?;
+    }
+}

@@ -1,0 +1,139 @@
+//! One arrow that is missing.
+
+ghost use Rattle.std.specs.Prelude.{◌≡◌, ◌≤◌, length, map, IfOk};
+ghost use Rattle.fs_semantics.specs.Orders.{Told, IsDeterministic, IsExchange, IsCounterexample};
+ghost use Rattle.fs_lang.specs.Meaning.{program_of};
+ghost use Rattle.verdict.specs.Limits.{HasFewPaths, IsLight};
+ghost use Rattle.orders.specs.Relation.{comes};
+ghost use Rattle.judgement.specs.First.{IsDifference, IsSpent, IfSure, IfDiffers, IfSpent};
+ghost use Rattle.repair.specs.Missing.{first_apart, IsMissing, IsLook};
+
+use cnf::{Cnf, Log};
+use fs_lang::{Outcome, Program, Tree};
+use fs_replay::replay;
+use judgement::{First, judge_order};
+use order_encode::Witness;
+use orders::Order;
+use rh_base::{Fault, NoMemory};
+use std::alloc::Global;
+
+/// What a look at a graph tells.
+#[derive(Drop)]
+pub(crate) enum Look {
+    /// It is deterministic.
+    Sure,
+    /// This arrow is missing.
+    Missing((u32, u32)),
+    /// The budget was spent on this formula, with this log.
+    Spent(Cnf, Log),
+}
+
+/// What two lists have where they first differ.
+fn first_apart(left: &[u32], right: &[u32]) -> Option<(u32, u32)>
+    ensures { result ≡ first_apart left.now right.now }
+{
+    for (k, node) in left.iter().enumerate() {
+        if k >= right.len() {
+            return None;
+        }
+        let other = right[k];
+        if *node != other {
+            return Some((*node, other));
+        }
+    }
+    None
+}
+
+/// Of two runs that differ by one exchange and end differently, the arrow that one of them follows, which ends in a tree.
+fn arrow_between(
+    alloc: Global,
+    programs: &[Program],
+    order: &Order,
+    tree: &Tree,
+    left: &[u32],
+    right: &[u32],
+) -> Result<(u32, u32), NoMemory>
+    requires count { length programs.now ≡ order.now.count }
+    requires differ { IsCounterexample (map program_of programs.now) (Told (comes order.now)) tree.now left.now right.now }
+    requires exchange { IsExchange (Told (comes order.now)) left.now right.now }
+    ensures { IfOk result (IsMissing (map program_of programs.now) order.now) }
+{
+    let Some((a, b)) = first_apart(left, right) else {
+        unreachable!();
+    };
+    let ended = replay(alloc, programs, left, tree)?;
+    match ended {
+        Outcome::Ended(_) => Ok((a, b)),
+        Outcome::Error => Ok((b, a)),
+    }
+}
+
+/// The arrow that is missing where a graph isn't deterministic.
+fn arrow_in(
+    alloc: Global,
+    programs: &[Program],
+    order: &Order,
+    witness: Witness,
+) -> Result<(u32, u32), NoMemory>
+    requires count { length programs.now ≡ order.now.count }
+    requires differ { IsDifference (map program_of programs.now) (Told (comes order.now)) witness }
+    ensures { IfOk result (IsMissing (map program_of programs.now) order.now) }
+{
+    match witness {
+        Witness::Orders { tree, left, right } => arrow_between(
+            alloc,
+            programs,
+            order,
+            &tree,
+            left.as_slice(),
+            right.as_slice(),
+        ),
+        Witness::Twice { .. } | Witness::Ends { .. } => unreachable!(),
+    }
+}
+
+/// Whether a graph is deterministic that isn't too large to be asked about.
+fn judged(
+    alloc: Global,
+    programs: &[Program],
+    order: &Order,
+    budget: u64,
+) -> Result<First, NoMemory>
+    requires count { length programs.now ≡ order.now.count }
+    requires budget { 1 ≤ budget }
+    requires paths { HasFewPaths (map program_of programs.now) }
+    requires weight { IsLight (map program_of programs.now) }
+    ensures deterministic { IfOk result (λ first. IfSure first (IsDeterministic (map program_of programs.now) (Told (comes order.now)))) }
+    ensures differs { IfOk result (λ first. IfDiffers first (IsDifference (map program_of programs.now) (Told (comes order.now)))) }
+    ensures spent { IfOk result (λ first. IfSpent first (IsSpent (map program_of programs.now) (Told (comes order.now)) budget)) }
+{
+    match judge_order(alloc, programs, order, budget) {
+        Ok(first) => Ok(first),
+        Err(Fault::Refused(_)) => unreachable!(),
+        Err(Fault::Memory(m)) => Err(m),
+    }
+}
+
+/// Asks whether a graph is deterministic. Where it isn't, the arrow is answered that a run follows which ends in a tree.
+pub(crate) fn look_at(
+    alloc: Global,
+    programs: &[Program],
+    order: &Order,
+    budget: u64,
+) -> Result<Look, NoMemory>
+    requires count { length programs.now ≡ order.now.count }
+    requires budget { 1 ≤ budget }
+    requires paths { HasFewPaths (map program_of programs.now) }
+    requires weight { IsLight (map program_of programs.now) }
+    ensures { IfOk result (IsLook (map program_of programs.now) order.now budget) }
+{
+    let first = judged(alloc, programs, order, budget)?;
+    match first {
+        First::Sure { .. } => Ok(Look::Sure),
+        First::Differs { witness, .. } => {
+            let arrow = arrow_in(alloc, programs, order, witness)?;
+            Ok(Look::Missing(arrow))
+        }
+        First::Spent { cnf, log, .. } => Ok(Look::Spent(cnf, log)),
+    }
+}

@@ -1,0 +1,2 @@
+pub mod QuoteLaws
+pub mod ToldLaws

@@ -1,0 +1,14 @@
+use Rattle.std.proofs.Common.{map}
+use Rattle.fs_lang.specs.Meaning.{program_of}
+use Rattle.repair_report.proofs.ToldLaws.{tellable, told_is}
+use Rattle.repair_report.proofs.telling.told.Goals as goal
+
+pub report_of-requires : goal.report_of-requires
+report_of-requires c =
+    tellable (map program_of c.args.programs.now) c.args.order.now c.args.given c.args.names.now c.budget_of-budget.result c.budget_of-budget.ensures.budget c.in_ok-repaired.repaired c.requires.names c.in_ok-repaired.ensures.added
+
+pub returns-clause-told : goal.returns-clause-told
+returns-clause-told c =
+    let said = c.in_ok-repaired.ensures in
+    told_is (map program_of c.args.programs.now) c.args.order.now c.args.given c.args.names.now c.budget_of-budget.result c.budget_of-budget.ensures.budget c.in_ok-repaired.repaired c.in_ok-report.report
+    said.paths said.weight (record { added = said.added; repairs = said.repairs; needed = said.needed; right = said.right; nothing = said.nothing; spent = said.spent }) c.in_ok-report.ensures

@@ -1,0 +1,57 @@
+//! What is told of the arrows that resources lack.
+
+ghost use Rattle.std.specs.Prelude.{◌≡◌, ◌<◌, length, map, IfOk, IfErr};
+ghost use Rattle.std.specs.List.{AllByRecursion};
+ghost use Rattle.rh_base.specs.Refused.{IfRefused};
+ghost use Rattle.fs_lang.specs.Meaning.{program_of};
+ghost use Rattle.verdict.specs.Limits.{IsTooLarge};
+ghost use Rattle.repair_report.specs.Told.{IsRepairTold};
+ghost use Rattle.reports.specs.Questions.{quoted_at, quoted_names_in};
+
+use catalog::Catalog;
+use dep_graph::Graph;
+use fs_lang::Program;
+use repair_report::{quoted_ref, told};
+use rh_base::{Fault, NoMemory, Seq, Text};
+use std::alloc::Global;
+use verdict_report::Report;
+
+/// The reference of the resource at a place, as it is written in Puppet.
+fn quoted_at(alloc: Global, catalog: &Catalog, place: u32) -> Result<Text, NoMemory>
+    requires { place < length catalog.now.resources }
+    ensures { IfOk result (λ text. text ≡ quoted_at catalog.now place) }
+{
+    quoted_ref(alloc, &catalog.get(place).id)
+}
+
+/// The references of plain resources, as they are written in Puppet.
+fn quoted_names_in(alloc: Global, catalog: &Catalog, plain: &[u32]) -> Result<Seq<Text>, NoMemory>
+    requires { AllByRecursion (λ k. k < length catalog.now.resources) plain.now }
+    ensures { IfOk result (λ names. names ≡ quoted_names_in catalog.now plain.now) }
+{
+    let mut names = Seq::new(alloc);
+    for place in plain {
+        names.push(quoted_at(alloc, catalog, *place)?)?;
+    }
+    Ok(names)
+}
+
+/// What is told of the arrows that resources lack.
+pub fn repaired(
+    alloc: Global,
+    given: Option<u64>,
+    catalog: &Catalog,
+    plan: &Graph,
+    programs: &[Program],
+) -> Result<Report, Fault>
+    requires count { length programs.now ≡ plan.now.order.count }
+    requires many { plan.now.order.count ≡ length plan.now.plain }
+    requires places { AllByRecursion (λ k. k < length catalog.now.resources) plan.now.plain }
+    ensures told { IfOk result (IsRepairTold given (quoted_names_in catalog.now plan.now.plain) (map program_of programs.now) plan.now.order) }
+    ensures refused { IfErr result (λ e. IfRefused e (IsTooLarge (map program_of programs.now))) }
+{
+    let plain = plan.plain.as_slice();
+    let names = quoted_names_in(alloc, catalog, plain)?;
+    let shown = names.as_slice();
+    told(alloc, given, shown, programs, &plan.order)
+}
