@@ -1,5 +1,5 @@
 -- No two real plain resources are shown alike: what is shown tells the type and the title.
-use Rattle.std.proofs.Common.{◌≡◌, inl, inr, ℕ, zero, suc, ◌+◌, ◌<◌, ◌≤◌, Bool, true, false, cond, ◌&&◌, List, [], ◌∷◌, ◌++◌, length, map, Option, Some, None, option_map, refl, sym, ap, subst, ◌∙◌, arith, if◌then◌else◌}
+use Rattle.std.proofs.Common.{◌≡◌, inl, inr, ℕ, zero, suc, ◌+◌, ◌<◌, ◌≤◌, Bool, true, false, cond, ◌&&◌, List, [], ◌∷◌, ◌++◌, length, Some, option_map, refl, sym, ap, subst, ◌∙◌, arith, if◌then◌else◌}
 use Rattle.std.specs.Prelude.{codes, slice_get, slice_index, not, nat_lt, ◌==◌, IsAscii, encode_utf8_all}
 use Rattle.std.specs.List.{AllByRecursion, list_any}
 use Rattle.std.specs.Str.{bytes_eq}
@@ -68,7 +68,7 @@ told : (kind : List ℕ) → all_low kind ≡ true → all_low (with_capitals tr
     → ((text : List ℕ) → (kind_in (with_capitals true kind ++ (codes "[" ++ text)) ≡ kind) × (behind (with_capitals true kind ++ (codes "[" ++ text)) ≡ text)) → IsTold kind
 told kind h k each text =
     let shown : capitalized kind ≡ with_capitals true kind =
-        ap (λ (letters : List ℕ). encode_utf8_all (with_capitals true letters)) (chars-IsAscii kind (is_ascii kind h)) ∙ encodes-IsAscii (with_capitals true kind) (is_ascii (with_capitals true kind) k) in
+    ap (λ (letters : List ℕ). encode_utf8_all (with_capitals true letters)) (chars-IsAscii kind (is_ascii kind h)) ∙ encodes-IsAscii (with_capitals true kind) (is_ascii (with_capitals true kind) k) in
     subst (λ (letters : List ℕ). (kind_in (letters ++ (codes "[" ++ text)) ≡ kind) × (behind (letters ++ (codes "[" ++ text)) ≡ text)) (sym shown) (each text)
 
 each_is_told : AllByRecursion IsTold built_in_types

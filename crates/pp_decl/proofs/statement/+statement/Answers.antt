@@ -1,4 +1,4 @@
-use Rattle.std.proofs.Common.{◌<◌, ◌*◌, map, refl, sym, ap, subst, ◌∙◌, List}
+use Rattle.std.proofs.Common.{◌<◌, ◌*◌, map, sym, ap, subst, ◌∙◌, List}
 use Rattle.std.specs.List.{AllByRecursion}
 use Rattle.catalog_semantics.specs.Sites.{Definition}
 use Rattle.catalog_semantics.specs.States.{in_turn}
