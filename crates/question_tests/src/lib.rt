@@ -12,6 +12,8 @@ mod pairs;
 #[cfg(test)]
 mod programs;
 #[cfg(test)]
+mod repairs;
+#[cfg(test)]
 mod tries;
 #[cfg(test)]
 mod verdicts;

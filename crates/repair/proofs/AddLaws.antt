@@ -1,18 +1,18 @@
 -- What is known when an arrow that was missing is added.
-use Rattle.std.proofs.Common.{◌≡◌, ◌≢◌, inl, inr, ℕ, ◌+◌, ◌<◌, List, [], ◌∷◌, ◌++◌, length, get_or, refl, sym, ap, ◌∙◌, subst, arith}
+use Rattle.std.proofs.Common.{◌≡◌, inl, inr, ℕ, ◌<◌, List, [], ◌∷◌, ◌++◌, length, get_or, refl, sym, ap, subst, arith}
 use Rattle.std.specs.Prelude.{IsTrue}
-use Rattle.std.specs.List.{All, Contains}
+use Rattle.std.specs.List.{All}
 use Rattle.std.proofs.lemmas.List.{length-append}
-use Rattle.std.proofs.lemmas.List.Elements.{All-push, All-nil, Contains-push, Contains-append_left, Contains-get_or}
+use Rattle.std.proofs.lemmas.List.Elements.{All-push, Contains-push, Contains-append_left, Contains-get_or}
 use Rattle.fs_semantics.specs.Programs.{Program}
 use Rattle.fs_semantics.specs.Orders.{Told, IsLinearExtension, IsDeterministic}
 use Rattle.orders.specs.Relation.{Relation, comes, Comes, IsStrictOrder}
-use Rattle.repair.specs.Arrows.{ComesWith, step, and_on, IsBetweenFree, CanBeAdded, IsOrderWith, Follows}
+use Rattle.repair.specs.Arrows.{ComesWith, step, IsBetweenFree, CanBeAdded, IsOrderWith, Follows}
 use Rattle.repair.specs.Repairs.{PointRight}
 use Rattle.repair.specs.Missing.{IsMissing}
-use Rattle.repair.specs.Steps.{IsLastNeeded, WereMissing, pairs_left, unordered}
+use Rattle.repair.specs.Steps.{WereMissing, pairs_left, unordered}
 use Rattle.repair.proofs.RunLaws.{allowed_by_fewer, deterministic_by_more}
-use Rattle.repair.proofs.ArrowLaws.{comes_more, deterministic_more, no_arrows, no_circle, allowed_with, allowed_without, followed_by}
+use Rattle.repair.proofs.ArrowLaws.{comes_more, no_arrows, no_circle, allowed_with, allowed_without, followed_by}
 use Rattle.repair.proofs.CountLaws.{fewer_unordered}
 
 -- ---- nothing was added yet

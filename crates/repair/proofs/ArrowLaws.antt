@@ -1,13 +1,11 @@
 -- Arrows that are added to an order.
-use Rattle.std.proofs.Common.{◌≡◌, ◌≢◌, ◌⊎◌, ⊎_elim, inl, inr, ℕ, ◌<◌, ◌≤◌, List, [], ◌∷◌, ◌++◌, length, get_or, refl, sym, ap, ◌∙◌, subst, arith}
+use Rattle.std.proofs.Common.{inl, inr, ℕ, ◌<◌, List, [], get_or, sym, subst, arith}
 use Rattle.std.specs.Prelude.{◌↔◌}
 use Rattle.std.specs.List.{All, Contains}
 use Rattle.std.proofs.lemmas.List.Elements.{All-contains, Contains-get_or}
-use Rattle.std.proofs.lemmas.Bool.{cases_lt}
 use Rattle.fs_semantics.specs.Programs.{Program}
-use Rattle.fs_semantics.specs.Orders.{times, IsFree, IsLinearExtension, IsDeterministic}
+use Rattle.fs_semantics.specs.Orders.{IsLinearExtension, IsDeterministic}
 use Rattle.orders.specs.Relation.{Relation, Comes, IsStrictOrder}
-use Rattle.orders.specs.Paths.{HasEdge}
 use Rattle.orders.specs.Exchanges.{place}
 use Rattle.orders.proofs.Walks.{each_once_of, at_most}
 use Rattle.repair.specs.Arrows.{Leads, ComesWith, step, and_on, IsBetweenFree, CanBeAdded, Follows}

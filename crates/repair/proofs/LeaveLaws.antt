@@ -1,15 +1,14 @@
 -- Arrows that are left out, one by one.
-use Rattle.std.proofs.Common.{◌≡◌, ◌≢◌, inl, inr, ℕ, List, [], ◌∷◌, ◌++◌, length, get_or, refl, sym, ap, ◌∙◌, subst, arith, ◌+◌, append_assoc, append-nil}
-use Rattle.std.specs.Prelude.{◌↔◌}
+use Rattle.std.proofs.Common.{◌≡◌, ◌≢◌, inl, ℕ, List, [], ◌∷◌, ◌++◌, length, get_or, refl, sym, subst, arith, append_assoc, append-nil}
 use Rattle.std.specs.List.{All, Contains}
 use Rattle.std.proofs.lemmas.List.Elements.{All-append, All-contains, All-contains_itself, Contains-append_left, Contains-append_right, Contains-get_or}
 use Rattle.fs_semantics.specs.Programs.{Program}
 use Rattle.fs_semantics.specs.Orders.{Told, IsDeterministic}
 use Rattle.orders.specs.Relation.{Relation, comes, Comes, IsStrictOrder}
 use Rattle.repair.specs.Arrows.{ComesWith, step, CanBeAdded}
-use Rattle.repair.specs.Repairs.{Repairs, AreNeeded, PointRight}
+use Rattle.repair.specs.Repairs.{AreNeeded, PointRight}
 use Rattle.repair.specs.Answers.{IsRepaired, IsSpentWith}
-use Rattle.repair.specs.Steps.{IsAdded, WereMissing, AreLeft, AreNeededBeside}
+use Rattle.repair.specs.Steps.{WereMissing, AreLeft, AreNeededBeside}
 use Rattle.repair.specs.declared.repaired.Repaired.TheVariants as repaired
 use Rattle.cnf.specs.Formulas.{Formula}
 use Rattle.cnf.specs.declared.log.Log.{Log}

@@ -3,10 +3,10 @@ use Rattle.std.proofs.Common.{◌≡◌, ◌≢◌, ℕ, zero, suc, cond, ◌+�
 use Rattle.std.specs.Prelude.{IsSome}
 use Rattle.fs_semantics.specs.FileTree.{Tree}
 use Rattle.fs_semantics.specs.Programs.{Program, Outcome}
-use Rattle.fs_semantics.specs.Orders.{Told, times, IsFree, IsLinearExtension, IsExchange, IsCounterexample, outcome}
+use Rattle.fs_semantics.specs.Orders.{Told, times, IsLinearExtension, IsExchange, IsCounterexample, outcome}
 use Rattle.fs_semantics.proofs.Counts.{times_append, times_itself, all_at}
 use Rattle.orders.specs.Relation.{Relation, comes, Comes}
-use Rattle.repair.specs.Arrows.{IsBetweenFree, Follows}
+use Rattle.repair.specs.Arrows.{Follows}
 use Rattle.repair.specs.Missing.{IsMissing, first_apart}
 use Rattle.repair.proofs.RunLaws.{neighbours_ahead}
 

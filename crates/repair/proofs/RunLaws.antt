@@ -1,10 +1,10 @@
 -- Runs, and what stands ahead of what in them.
-use Rattle.std.proofs.Common.{◌≡◌, ◌≢◌, ◌⊎◌, ⊎_elim, ℕ, suc, cond, ◌+◌, ◌<◌, ◌≤◌, List, [], ◌∷◌, ◌++◌, length, get_or, refl, sym, ap, ◌∙◌, subst, arith, eq-eqb, ne_eqb}
+use Rattle.std.proofs.Common.{◌≡◌, ◌≢◌, ⊎_elim, ℕ, suc, cond, ◌<◌, ◌≤◌, List, [], ◌∷◌, ◌++◌, length, get_or, refl, sym, ap, ◌∙◌, subst, arith, eq-eqb, ne_eqb}
 use Rattle.std.specs.List.{AllByRecursion}
 use Rattle.std.proofs.lemmas.Bool.{cases_lt, cases_eq}
 use Rattle.fs_semantics.specs.Programs.{Program}
 use Rattle.fs_semantics.specs.Orders.{times, NoneAhead, IsLinearExtension, IsDeterministic}
-use Rattle.fs_semantics.proofs.Counts.{times_append, times_itself, times_other, all_at, all_from}
+use Rattle.fs_semantics.proofs.Counts.{times_itself, all_from}
 use Rattle.orders.specs.Exchanges.{place}
 use Rattle.orders.proofs.Walks.{at_place, place_kept}
 
@@ -55,8 +55,7 @@ none_ahead_by_places before run once h = behind run once (λ a b x y c. h a b c)
   behind : (o : List ℕ) → ((k : ℕ) → times k o ≤ 1) → ((a b : ℕ) → 0 < times a o → 0 < times b o → before a b → place a o < place b o) → NoneAhead before o
   behind [] single f = tt
   behind (x ∷ o) single f =
-      let later : (k : ℕ) → 0 < times k o → 0 < times k (x ∷ o) = λ k m. omega (arith, m) in
-      (
+      let later : (k : ℕ) → 0 < times k o → 0 < times k (x ∷ o) = λ k m. omega (arith, m) in (
         all_from (λ a. before a x → ⊥) o (λ a m c. let g = f a x (later a m) (omega (arith, times_itself x o)) c in let z = place_here x o in omega arith),
         behind o (λ k. omega (arith, single k)) (λ a b m w c.
             let g = f a b (later a m) (later b w) c in

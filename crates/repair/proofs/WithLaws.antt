@@ -1,14 +1,14 @@
 -- The order with arrows.
-use Rattle.std.proofs.Common.{◌≡◌, ◌⊎◌, inl, inr, ℕ, ◌<◌, ◌≤◌, Bool, List, ◌++◌, get_or, length, subst, sym, arith}
+use Rattle.std.proofs.Common.{◌≡◌, inl, inr, ℕ, ◌<◌, Bool, List, ◌++◌}
 use Rattle.std.specs.Prelude.{◌↔◌, IsTrue}
-use Rattle.std.specs.List.{Contains, All}
+use Rattle.std.specs.List.{All}
 use Rattle.std.proofs.lemmas.List.Elements.{Contains-append_left, Contains-append_right, Contains-append_cases, All-append, Contains-get_or}
 use Rattle.fs_semantics.proofs.Keys.{same_bool}
 use Rattle.orders.specs.Relation.{Relation, comes, Comes, IsStrictOrder}
 use Rattle.orders.specs.Paths.{HasEdge, EndsBelow, Path, edge, and_on}
 use Rattle.commute_prune.specs.Pairs.{pairs_of}
 use Rattle.commute_prune.proofs.PairLaws.{pairs_from, pairs_in}
-use Rattle.repair.specs.Arrows.{Leads, ComesWith, step, and_on as and_further, IsBetweenFree, CanBeAdded}
+use Rattle.repair.specs.Arrows.{Leads, ComesWith, step, and_on as and_further, IsBetweenFree}
 
 pub told_by : (order : Relation) (a b : ℕ) (r : Bool) → IsTrue r ↔ Comes order a b → r ≡ comes order a b
 told_by order a b r h = same_bool r (comes order a b) h.0 h.1

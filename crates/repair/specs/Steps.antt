@@ -4,8 +4,8 @@ use Rattle.std.specs.List.{All, Contains}
 use Rattle.fs_semantics.specs.Programs.{Program}
 use Rattle.fs_semantics.specs.Orders.{IsDeterministic}
 use Rattle.orders.specs.Relation.{Relation, comes}
-use Rattle.repair.specs.Arrows.{ComesWith, CanBeAdded, IsOrderWith}
-use Rattle.repair.specs.Repairs.{Repairs, PointRight}
+use Rattle.repair.specs.Arrows.{ComesWith, CanBeAdded}
+use Rattle.repair.specs.Repairs.{PointRight}
 use Rattle.repair.specs.Answers.{IsSpentWith}
 use Rattle.repair.specs.declared.repaired.Repaired.{Repaired}
 use Rattle.repair.specs.declared.repaired.Repaired.TheVariants as repaired

@@ -11,12 +11,7 @@ use std::alloc::Global;
 
 /// Adds the pair, if the first comes before the second.
 #[tactic(auto, using(crate::proofs::WithLaws::told_by))]
-fn push_pair(
-    order: &Order,
-    a: u32,
-    b: u32,
-    pairs: &mut Seq<(u32, u32)>,
-) -> Result<(), NoMemory>
+fn push_pair(order: &Order, a: u32, b: u32, pairs: &mut Seq<(u32, u32)>) -> Result<(), NoMemory>
     requires a { a < order.now.count }
     requires b { b < order.now.count }
     ensures { OnOk result (pairs.new ≡ pairs.old ++ pair_if (comes order.now a b) a b) }

@@ -1,5 +1,4 @@
 use Rattle.std.proofs.Common.{ℕ, List, ◌++◌, ap, sym, subst, ◌∙◌}
-use Rattle.orders.specs.Relation.{Relation, comes}
 use Rattle.orders.specs.Faults.{IfCycle}
 use Rattle.orders.specs.Paths.{EndsBelow, Path}
 use Rattle.repair.proofs.WithLaws.{ends_below, path_to, path_from}
