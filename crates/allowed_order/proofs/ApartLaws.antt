@@ -1,15 +1,17 @@
 -- No two real plain resources are shown alike: what is shown tells the type and the title.
-use Rattle.std.proofs.Common.{◌≡◌, inl, inr, ℕ, zero, suc, ◌+◌, ◌<◌, ◌≤◌, Bool, true, false, cond, ◌&&◌, List, [], ◌∷◌, ◌++◌, length, map, Option, Some, None, option_map, refl, sym, ap, subst, ◌∙◌, arith, if◌then◌else◌}
-use Rattle.std.specs.Prelude.{codes, slice_get, slice_index, not, ◌==◌}
+use Rattle.std.proofs.Common.{◌≡◌, inl, inr, ℕ, zero, suc, ◌+◌, ◌<◌, ◌≤◌, Bool, true, false, cond, ◌&&◌, List, [], ◌∷◌, ◌++◌, length, Some, option_map, refl, sym, ap, subst, ◌∙◌, arith, if◌then◌else◌}
+use Rattle.std.specs.Prelude.{codes, slice_get, slice_index, not, nat_lt, ◌==◌, IsAscii, encode_utf8_all}
 use Rattle.std.specs.List.{AllByRecursion, list_any}
 use Rattle.std.specs.Str.{bytes_eq}
 use Rattle.std.specs.Char.{to_ascii_lowercase}
-use Rattle.std.proofs.lemmas.Bool.{or_cases}
+use Rattle.std.proofs.lemmas.Bool.{or_cases, ltb-true}
+use Rattle.std.proofs.lemmas.Str.{chars-IsAscii, encodes-IsAscii}
+use Rattle.std.proofs.lemmas.Str.Ascii.{IsAscii-cons}
 use Rattle.std.proofs.lemmas.Option.{slice_get-map}
 use Rattle.std.proofs.lemmas.List.Elements.{Contains-get_or}
 use Rattle.std.proofs.lemmas.Slice.Eq.{bytes_eq-Decides}
 use Rattle.pp_value.specs.declared.value.Ref.{Ref}
-use Rattle.pp_value.specs.Texts.{capitalized}
+use Rattle.pp_value.specs.Texts.{with_capitals, capitalized}
 use Rattle.pp_value.specs.Shown.{shown_ref}
 use Rattle.catalog_semantics.specs.declared.catalog.Resource.{Resource}
 use Rattle.catalog_semantics.specs.Sites.{built_in_types, is_built_in}
@@ -48,18 +50,29 @@ front_is (x ∷ y ∷ text) b = ap (λ t. x ∷ t) (front_is (y ∷ text) b)
 abbrev IsTold : List ℕ → Type 0
 IsTold kind = (text : List ℕ) → (kind_in (capitalized kind ++ (codes "[" ++ text)) ≡ kind) × (behind (capitalized kind ++ (codes "[" ++ text)) ≡ text)
 
+abbrev all_low : List ℕ → Bool
+all_low [] = true
+all_low (b ∷ bytes) = nat_lt b 128 && all_low bytes
+
+both_parts : (a b : Bool) → (a && b) ≡ true → (a ≡ true) × (b ≡ true)
+both_parts true true e = (refl, refl)
+both_parts true false e = cc
+both_parts false b e = cc
+
+is_ascii : (bytes : List ℕ) → all_low bytes ≡ true → IsAscii bytes
+is_ascii [] h = λ k. omega arith
+is_ascii (b ∷ bytes) h = let parts = both_parts (nat_lt b 128) (all_low bytes) h in IsAscii-cons b bytes (ltb-true b 128 parts.0) (is_ascii bytes parts.1)
+
+-- a type of ASCII letters is shown with its capital
+told : (kind : List ℕ) → all_low kind ≡ true → all_low (with_capitals true kind) ≡ true
+    → ((text : List ℕ) → (kind_in (with_capitals true kind ++ (codes "[" ++ text)) ≡ kind) × (behind (with_capitals true kind ++ (codes "[" ++ text)) ≡ text)) → IsTold kind
+told kind h k each text =
+    let shown : capitalized kind ≡ with_capitals true kind =
+    ap (λ (letters : List ℕ). encode_utf8_all (with_capitals true letters)) (chars-IsAscii kind (is_ascii kind h)) ∙ encodes-IsAscii (with_capitals true kind) (is_ascii (with_capitals true kind) k) in
+    subst (λ (letters : List ℕ). (kind_in (letters ++ (codes "[" ++ text)) ≡ kind) × (behind (letters ++ (codes "[" ++ text)) ≡ text)) (sym shown) (each text)
+
 each_is_told : AllByRecursion IsTold built_in_types
-each_is_told = (
-  λ text. (refl, refl),
-  λ text. (refl, refl),
-  λ text. (refl, refl),
-  λ text. (refl, refl),
-  λ text. (refl, refl),
-  λ text. (refl, refl),
-  λ text. (refl, refl),
-  λ text. (refl, refl),
-  tt,
-)
+each_is_told = (told (codes "exec") refl refl (λ text. (refl, refl)), (told (codes "file") refl refl (λ text. (refl, refl)), (told (codes "package") refl refl (λ text. (refl, refl)), (told (codes "user") refl refl (λ text. (refl, refl)), (told (codes "group") refl refl (λ text. (refl, refl)), (told (codes "service") refl refl (λ text. (refl, refl)), (told (codes "cron") refl refl (λ text. (refl, refl)), (told (codes "ssh_authorized_key") refl refl (λ text. (refl, refl)), tt))))))))
 
 one_of : (P : List ℕ → Type 0) (kinds : List (List ℕ)) (kind : List ℕ) → AllByRecursion P kinds → list_any (bytes_eq kind) kinds ≡ true → P kind
 one_of P [] kind h is = cc

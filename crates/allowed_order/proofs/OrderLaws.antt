@@ -1,12 +1,11 @@
 -- The order that texts name is found, and no other.
-use Rattle.std.proofs.Common.{◌≡◌, ℕ, ◌+◌, ◌<◌, Bool, true, false, cond, List, [], ◌∷◌, length, map, Option, Some, None, option_map, refl, sym, ap, subst, ◌∙◌, arith, eqb-true, codes}
-use Rattle.std.specs.Prelude.{◌==◌}
+use Rattle.std.proofs.Common.{◌≡◌, ℕ, ◌<◌, List, [], ◌∷◌, length, map, Option, Some, None, option_map, refl, sym, ap, subst, ◌∙◌, codes}
 use Rattle.std.specs.List.{AllByRecursion}
 use Rattle.rh_base.specs.Reading.{◌>>=◌}
 use Rattle.rh_base.specs.Refused.{IfRefused, IsRefusal}
 use Rattle.rh_base.specs.declared.fault.Fault.{Fault}
 use Rattle.rh_base.specs.declared.fault.Fault.TheVariants.{Refused, Memory}
-use Rattle.fs_semantics.specs.Orders.{times, IsLinearExtension}
+use Rattle.fs_semantics.specs.Orders.{IsLinearExtension}
 use Rattle.catalog_semantics.specs.Catalogs.{Catalog}
 use Rattle.order_text.specs.OrderText.{IsOrderText}
 use Rattle.allowed_order.specs.Names.{position_of, with_names, positions_of}

@@ -45,12 +45,7 @@ fn misses(
 }
 
 /// Whether the run from the tree ends in a tree.
-fn ends(
-    alloc: Global,
-    programs: &[Program],
-    order: &[u32],
-    tree: &Tree,
-) -> Result<bool, NoMemory>
+fn ends(alloc: Global, programs: &[Program], order: &[u32], tree: &Tree) -> Result<bool, NoMemory>
     requires { AllByRecursion (λ k. k < length programs.now) order.now }
     ensures { IfOk result (λ told. IsTrue told ↔ IsSome (outcome (map program_of programs.now) order.now tree.now)) }
 {
@@ -73,7 +68,8 @@ fn first_missed(
         tree.is_tree();
         let told = misses(alloc, programs, order, wanted, tree)?;
         if told {
-            return Ok(Some(tree.copy(alloc)?));
+            let found = tree.copy(alloc)?;
+            return Ok(Some(found));
         }
     }
     Ok(None)

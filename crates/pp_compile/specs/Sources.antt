@@ -13,7 +13,7 @@ use Rattle.pp_value.specs.declared.value.Value.{Value}
 use Rattle.pp_data.specs.declared.data.Level.{Level}
 use Rattle.pp_eval.specs.Scoping.{pairs_in}
 use Rattle.catalog_semantics.specs.Sites.{Site, site_of}
-use Rattle.catalog_semantics.specs.States.{State}
+use Rattle.catalog_semantics.specs.declared.state.State.{State}
 use Rattle.catalog_semantics.specs.Catalogs.{Catalog, catalog_of, catalog_in, state_after, round_limit, IsSettled}
 
 -- the manifest that a text spells, in this language and within its depth

@@ -1,11 +1,13 @@
 -- A class's body, from its beginning to its end, and the parents that run before it.
-use Rattle.std.proofs.Common.{◌≡◌, ℕ, zero, suc, ◌+◌, ◌-◌, ◌<◌, Bool, true, false, cond, ◌&&◌, List, [], ◌∷◌, ◌++◌, map, length, Option, Some, None, Result, Ok, Err, refl, sym, ap, subst, ◌∙◌, arith, length-append}
+use Rattle.std.proofs.Common.{◌≡◌, ℕ, ◌+◌, ◌-◌, ◌<◌, Bool, true, false, cond, ◌&&◌, List, [], ◌∷◌, ◌++◌, map, length, Option, Some, None, Result, Ok, Err, refl, sym, ap, subst, ◌∙◌, arith, length-append, get_or, drop}
 use Rattle.std.specs.Prelude.{slice_get, option_and_then, codes, nat_lt}
-use Rattle.std.proofs.lemmas.Bool.{lt-ltb, ltb-true, ltb-false}
+use Rattle.std.proofs.lemmas.Bool.{ltb-true}
 use Rattle.rh_base.specs.declared.fault.Fault.{Fault}
 use Rattle.rh_base.specs.declared.fault.Fault.TheVariants as fault
 use Rattle.rh_base.specs.declared.fault.Refusal.{Refusal}
 use Rattle.pp_syntax.specs.declared.tree.Stmt.{Stmt}
+use Rattle.pp_syntax.specs.declared.tree.Body.{Body}
+use Rattle.pp_value.specs.declared.value.Ref.{Ref}
 use Rattle.pp_value.specs.Shown.{shown_ref}
 use Rattle.pp_value.specs.Values.{Pair}
 use Rattle.pp_eval.specs.declared.scope.Scope.{Scope}
@@ -16,11 +18,15 @@ use Rattle.catalog_semantics.specs.declared.catalog.Resource.{Resource}
 use Rattle.catalog_semantics.specs.declared.state.State.{State}
 use Rattle.catalog_semantics.specs.Sites.{Definition, Site}
 use Rattle.catalog_semantics.specs.States.{Effect, in_turn, is_declared, added}
-use Rattle.catalog_semantics.specs.Declaring.{Bodies, body_in, all_known, opened, begun, ended, class_runs, class_resource, class_named, no_circle, parents_of, class_declared}
-use Rattle.catalog_semantics.specs.Rooms.{Room, block_depth, in_body, has_room_for}
+use Rattle.catalog_semantics.specs.Declaring.{Bodies, body_in, all_known, opened, begun, ended, class_runs, class_resource, class_named, no_circle, parents_of, class_declared, body_declared, bodies_declared}
+use Rattle.catalog_semantics.specs.declared.room.Room.{Room}
+use Rattle.catalog_semantics.specs.Rooms.{block_depth, in_body, has_room_for}
 use Rattle.catalog_semantics.specs.Effects.{effect_at, bodies_at}
 use Rattle.catalog_semantics.proofs.Statements.{body_runs_in}
 use Rattle.catalog_semantics.proofs.Extending.{blocks_only_add, openings_only_add}
+use Rattle.pp_decl_bodies.specs.Bodies.{declared_behind}
+use Rattle.pp_decl_bodies.proofs.BodyLaws.{drop_step}
+use Rattle.pp_decl_bodies.proofs.BodyLaws as declaring
 use Rattle.pp_decl_classes.specs.Beginning.{body_begins, may_begin, class_added, class_begins, body_ends}
 use Rattle.pp_decl_classes.specs.Parents.{nearest_first, backwards, turned}
 use Rattle.pp_decl_classes.proofs.BeginningLaws.{class_is}
@@ -100,6 +106,17 @@ module _ (left : Room) (site : Site) (d : Definition) (r q : Resource) (s : Stat
       ((λ i. in_turn (map (effect_at (sym room_is i) site) (sym own_inner i)) t) ∙ h)
   block_refused may body inner t room (fault.Memory m) is some begins own own_inner room_is h = tt
 
+  pub class_ended : (may : Bool) (body : List Stmt) (t u v : State) (room : Room) → body ≡ d.body → may ≡ has_room_for left body → may ≡ true → class_begins may d r s ≡ Ok t → room ≡ in_body left
+      → in_turn (map (effect_at room site) body) t ≡ Ok u → v ≡ record u { running = s.running; scopes = left_scope u.scopes } → class_runs (body_in (bodies_at left site) d.body) d q s ≡ Ok v
+  class_ended may body t u v room own is some begins room_is runs end =
+      body_ended site d q s left t u (ap (has_room_for left) (sym own) ∙ (sym is ∙ some))
+      (ap (λ (p : Resource). class_begins true d p s) (sym same) ∙ (ap (λ b. class_begins b d r s) (sym some) ∙ begins))
+      ((λ i. in_turn (map (effect_at (sym room_is i) site) (sym own i)) t) ∙ runs)
+      ∙ ap (λ (w : State). Ok w) (sym end)
+
+  pub class_never_ends : (may : Bool) (t : State) → may ≡ false → class_begins may d r s ≡ Ok t → ⊥
+  class_never_ends may t none begins = never_begins d r s t (ap (λ b. class_begins b d r s) (sym none) ∙ begins)
+
 -- where there is room for a body, there is room for one more
 pub room_for_one : (left : Room) (body : List Stmt) → has_room_for left body ≡ true → 0 < left.bodies
 room_for_one left body h = by (nat_lt 0 left.bodies) refl h
@@ -107,6 +124,18 @@ room_for_one left body h = by (nat_lt 0 left.bodies) refl h
     by : (b : Bool) → nat_lt 0 left.bodies ≡ b → (b && nat_lt (block_depth body) left.levels) ≡ true → 0 < left.bodies
     by true is k = ltb-true 0 left.bodies is
     by false is k = cc
+
+-- ---- the bodies of a declaration
+
+-- a body is refused, of those that are left
+pub bodies_refused : (declare : ℕ → List Pair → List ℕ → Effect) (refer : List ℕ → Ref) (before : List Ref) (bodies : List Body) (i : ℕ) (b : Body) (s : State) (all : Result (List Ref × State) Refusal) (e : Fault)
+    → i < length bodies → b ≡ get_or bodies i b → declared_behind before (bodies_declared declare refer (drop i bodies) s) ≡ all
+    → Refuses (declared_behind before (body_declared declare refer b s)) e → Refuses all e
+bodies_refused declare refer before bodies i b s all (fault.Refused x) h is same refused =
+    sym same
+    ∙ (ap (λ (bs : List Body). declared_behind before (bodies_declared declare refer bs s)) (drop_step bodies i b b h is)
+    ∙ declaring.body_refused declare refer b (drop (i + 1) bodies) before s x refused)
+bodies_refused declare refer before bodies i b s all (fault.Memory m) h is same refused = tt
 
 -- ---- the scope of the body
 

@@ -1,5 +1,5 @@
 -- What is no deeper than a limit, statement by statement.
-use Rattle.std.proofs.Common.{◌≡◌, ℕ, zero, suc, ◌+◌, ◌-◌, ◌<◌, ◌≤◌, Bool, true, false, ◌&&◌, List, [], ◌∷◌, map, refl, sym, ap, ◌∙◌, arith}
+use Rattle.std.proofs.Common.{◌≡◌, ℕ, ◌+◌, ◌-◌, ◌<◌, ◌≤◌, Bool, true, false, ◌&&◌, List, [], ◌∷◌, map, refl, ap, ◌∙◌, arith}
 use Rattle.std.proofs.Math.Nat.{le-max_left, le-max_right, max-le}
 use Rattle.std.proofs.lemmas.Bool.{lt-ltb, ltb-true, ltb-false}
 use Rattle.std.specs.Prelude.{max, nat_lt, not}
@@ -13,7 +13,8 @@ use Rattle.pp_syntax.specs.declared.tree.Stmt.TheVariants as stmt
 use Rattle.pp_syntax.specs.declared.tree.Stmt.TheVariants.{rolls-Chain, rolls-Assign, rolls-Call}
 use Rattle.pp_syntax.specs.declared.tree.Arm.{Arm, out-Arm}
 use Rattle.pp_syntax.specs.declared.tree.CaseArm.{CaseArm, out-CaseArm}
-use Rattle.catalog_semantics.specs.Rooms.{Room, most, depth, block_depth, has_room_for}
+use Rattle.catalog_semantics.specs.declared.room.Room.{Room}
+use Rattle.catalog_semantics.specs.Rooms.{most, depth, block_depth, has_room_for}
 use Rattle.pp_decl.specs.Depth.{fits, arms_depth, options_depth}
 use Rattle.pp_decl.proofs.DepthLaws.{of, in_arm, in_case_arm, arm_is, case_arm_is, depth_if, depth_unless, depth_case}
 
@@ -47,7 +48,7 @@ deeper k m n g h = by_deep k m n (nat_lt k m) (nat_lt k n) refl refl g h
 fits_head : (k m n : ℕ) → fits k m ≡ true → fits k (max m n) ≡ fits k n
 fits_head k m n h =
     let fine = low k m h in let right = le-max_right m n in
-    same_fits k (max m n) k n (λ all. omega arith) (λ rest. max-le {m} {n} {k} fine rest)
+    same_fits k (max m n) k n (λ all. omega arith) (λ rest. max-le fine rest)
 
 deep_head : (k m n : ℕ) → fits k m ≡ false → fits k (max m n) ≡ false
 deep_head k m n h = deeper k m (max m n) (le-max_left m n) h
@@ -60,7 +61,17 @@ both_fit : (k m n : ℕ) → fits k (max m n) ≡ (fits k m && fits k n)
 both_fit k m n = by_first k m n (fits k m) refl
 
 none_fits : (n : ℕ) → fits 0 (n + 1) ≡ false
-none_fits n = refl
+none_fits n = ap not (lt-ltb 0 (n + 1) (omega arith))
+
+none_less : (k : ℕ) → nat_lt k 0 ≡ false
+none_less k = by (nat_lt k 0) refl
+  where
+    by : (t : Bool) → nat_lt k 0 ≡ t → t ≡ false
+    by true is = let less = ltb-true k 0 is in absurd (omega arith)
+    by false is = refl
+
+nothing_fits : (k : ℕ) → fits k 0 ≡ true
+nothing_fits k = ap not (none_less k)
 
 one_less : (k n : ℕ) → 0 < k → fits k (n + 1) ≡ fits (k - 1) n
 one_less k n h = same_fits k (n + 1) (k - 1) n (λ a. omega arith) (λ a. omega arith)
@@ -88,13 +99,13 @@ option_deep k a arms h = deep_head k (block_depth (out-CaseArm a).body) (options
 -- ---- statements
 
 pub chain_fits : (k at : ℕ) (operands : List Operand) (arrows : List Arrow) → fits k (depth (stmt.Chain at operands arrows)) ≡ true
-chain_fits k at operands arrows = ap (fits k) (of (stmt.Chain at operands arrows) (plain.Chain at operands arrows) (rolls-Chain at operands arrows))
+chain_fits k at operands arrows = ap (fits k) (of (stmt.Chain at operands arrows) (plain.Chain at operands arrows) (rolls-Chain at operands arrows)) ∙ nothing_fits k
 
 pub assign_fits : (k at : ℕ) (name : List ℕ) (value : Expr) → fits k (depth (stmt.Assign at name value)) ≡ true
-assign_fits k at name value = ap (fits k) (of (stmt.Assign at name value) (plain.Assign at name value) (rolls-Assign at name value))
+assign_fits k at name value = ap (fits k) (of (stmt.Assign at name value) (plain.Assign at name value) (rolls-Assign at name value)) ∙ nothing_fits k
 
 pub call_fits : (k at : ℕ) (func : Func) (args : List Expr) → fits k (depth (stmt.Call at func args)) ≡ true
-call_fits k at func args = ap (fits k) (of (stmt.Call at func args) (plain.Call at func args) (rolls-Call at func args))
+call_fits k at func args = ap (fits k) (of (stmt.Call at func args) (plain.Call at func args) (rolls-Call at func args)) ∙ nothing_fits k
 
 most_arms : (arms : List Arm) → most (map in_arm arms) ≡ arms_depth arms
 most_arms [] = refl
@@ -147,7 +158,7 @@ pub no_bodies_left : (room : Room) (body : List Stmt) → room.bodies ≡ 0 → 
 no_bodies_left room body h = ap (λ n. nat_lt 0 n && nat_lt (block_depth body) room.levels) h
 
 by_bodies : (b : Bool) (n : ℕ) → (b && nat_lt n 0) ≡ false
-by_bodies true n = refl
+by_bodies true n = none_less n
 by_bodies false n = refl
 
 pub none_left : (room : Room) (body : List Stmt) → room.levels ≡ 0 → has_room_for room body ≡ false

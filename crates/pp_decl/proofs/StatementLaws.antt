@@ -19,7 +19,8 @@ use Rattle.pp_eval.specs.Evaluation.{evaluated, values_in}
 use Rattle.catalog_semantics.specs.declared.state.State.{State}
 use Rattle.catalog_semantics.specs.Sites.{Site}
 use Rattle.catalog_semantics.specs.States.{Effect, in_turn}
-use Rattle.catalog_semantics.specs.Rooms.{Room, whole_room, in_block}
+use Rattle.catalog_semantics.specs.declared.room.Room.{Room}
+use Rattle.catalog_semantics.specs.Rooms.{whole_room, in_block}
 use Rattle.catalog_semantics.specs.Declaring.{Bodies, within}
 use Rattle.catalog_semantics.specs.Functions.{Argument, placed, contained, required, each_class, included_then, calls}
 use Rattle.catalog_semantics.specs.Effects.{assigned, chained, called, test_of, effect_with, block_with, effect_at, bodies_at, effect_of}

@@ -1,18 +1,21 @@
-use Rattle.std.proofs.Common.{◌<◌, ◌*◌, map, refl, sym, ap, subst, ◌∙◌, List}
+use Rattle.std.proofs.Common.{◌<◌, ◌*◌, map, sym, ap, subst, ◌∙◌, List}
 use Rattle.std.specs.List.{AllByRecursion}
 use Rattle.catalog_semantics.specs.Sites.{Definition}
 use Rattle.catalog_semantics.specs.States.{in_turn}
-use Rattle.catalog_semantics.specs.Rooms.{Room, depth, block_depth}
-use Rattle.catalog_semantics.specs.Declaring.{body_in, class_resource, class_runs}
+use Rattle.catalog_semantics.specs.declared.room.Room.{Room}
+use Rattle.catalog_semantics.specs.Rooms.{depth, block_depth}
+use Rattle.catalog_semantics.specs.Declaring.{body_in, class_resource, class_runs, classes_declared}
 use Rattle.catalog_semantics.specs.Effects.{bodies_at}
 use Rattle.pp_value.specs.Values.{Pair}
 use Rattle.pp_decl_classes.specs.Parents.{backwards}
-use Rattle.pp_decl.specs.Classes.{IsOwn, parent_runs, parents_run}
+use Rattle.pp_decl.specs.Classes.{IsOwn, plain_class, plain_class_ref, parent_runs, parents_run}
 use Rattle.pp_decl.specs.Depth.{bound_of, weight}
 use Rattle.pp_decl.proofs.DepthLaws.{below, no_deeper, member_within, if_less, option_less, body_less, other_less, next_rank, same_bodies, fewer_bodies}
 use Rattle.pp_decl.proofs.OwnLaws.{own_within, line_is_own, last_own, popped}
 use Rattle.pp_decl.proofs.StatementLaws.{includes_by, answers_as, answered, refuses_too}
-use Rattle.pp_decl.proofs.BodyLaws.{begin_refused, block_refused, room_for_one, line_runs, next_parent, parent_refused}
+use Rattle.pp_decl.proofs.BodyLaws.{begin_refused, block_refused, class_ended, class_never_ends, bodies_refused, room_for_one, line_runs, next_parent, parent_refused}
+use Rattle.pp_eval.specs.Scoping.{left}
+use Rattle.pp_decl.proofs.statement.+statement.Goals.{run_class-then-may_run+in_ok-block, run_class-else-may_run}
 use Rattle.pp_decl.proofs.statement.+statement.Goals as goal
 
 -- ---- that it ends
@@ -88,6 +91,26 @@ run_class-returns-in_err-block t c =
     (block_refused c.args.left c.args.site.now c.args.d.now c.in_ok-r.r (class_resource c.args.at c.args.d.now.name c.args.attributes.now) c.args.state.now
     (c.in_ok-r.ensures ∙ ap (λ n. class_resource c.args.at n c.args.attributes.now) (c.as_str.ensures ∙ c.name.ensures)) c.has_room_for-may_run.result c.body-body.result.now c.body-body.result.now c.begin_class.new.state c.in_body.result c.in_err-block.field-0.0
     c.has_room_for-may_run.ensures c.if-may_run.true c.in_ok-begin_class.ensures c.body-body.ensures c.body-body.ensures c.in_body.ensures c.in_err-block.ensures)
+
+pub run_class-returns : goal.run_class-returns
+run_class-returns t c =
+    let same = c.in_ok-r.ensures ∙ ap (λ n. class_resource c.args.at n c.args.attributes.now) (c.as_str.ensures ∙ c.name.ensures) in
+    elim c.if-may_run.branch [
+      | run_class-then-may_run+in_ok-block w ↦
+          class_ended c.args.left c.args.site.now c.args.d.now c.in_ok-r.r (class_resource c.args.at c.args.d.now.name c.args.attributes.now) c.args.state.now same c.has_room_for-may_run.result c.body-body.result.now
+          c.begin_class.new.state w.block.new.state c.if-may_run.state w.in_body.result c.body-body.ensures c.has_room_for-may_run.ensures w.if-may_run.true c.in_ok-begin_class.ensures w.in_body.ensures w.in_ok-block.ensures
+          (w.state-is ∙ (w.end_body.ensures ∙ ap (λ o. record w.block.new.state { running = o; scopes = left w.block.new.state.scopes }) c.running-before.ensures))
+      | run_class-else-may_run w ↦
+          absurd (class_never_ends c.args.left c.args.site.now c.args.d.now c.in_ok-r.r (class_resource c.args.at c.args.d.now.name c.args.attributes.now) c.args.state.now same c.has_room_for-may_run.result c.begin_class.new.state
+          w.if-may_run.false c.in_ok-begin_class.ensures)
+    ]
+
+-- ---- classes of bodies
+
+pub declare_classes-returns-in-Err : goal.declare_classes-returns-in-Err
+declare_classes-returns-in-Err t c =
+    bodies_refused (plain_class c.args.site.now (bodies_at c.args.left c.args.site.now)) plain_class_ref c.loop-b.refs c.args.bodies.now c.loop-b.b-index c.b-item.result c.loop-b.state
+    (classes_declared c.args.site.now (bodies_at c.args.left c.args.site.now) c.args.bodies.now c.args.state.now) c.in-Err.fault c.loop-b-test.true c.b-item.is c.loop-b.invariant c.in-Err.ensures
 
 -- ---- parents
 
