@@ -65,7 +65,7 @@ fn told(alloc: Global, words: &str) -> Result<String, Fail> {
 
 #[test]
 fn missing_arrows(rt: HostRuntime) -> Result<(), Fail> {
-    let rows: [(&str, &str); 11] = [
+    let rows: [(&str, &str); 10] = [
         // no program, and one
         ("", "done"),
         ("put /a x", "done"),
@@ -92,13 +92,21 @@ fn missing_arrows(rt: HostRuntime) -> Result<(), Fail> {
         ("dir /a | put /a/x 1 | put /b/x 2 | dir /b", "done 0>1 3>2"),
         // a folder in a folder, and a file in that
         ("put /a/b/c x | dir /a/b | dir /a", "done 1>0 2>1"),
-        // two that both end in a tree
-        ("put /a x | put /a y", "done 0>1"),
     ];
     for (words, want) in rows {
         let text = told(rt.alloc(), words)?;
         assert_eq!(rt; text.as_str(), want, "{words}");
     }
+    Ok(())
+}
+
+#[test]
+fn either_arrow(rt: HostRuntime) -> Result<(), Fail> {
+    let text = told(rt.alloc(), "put /a x | put /a y")?;
+    assert!(rt;
+        text.as_str() == "done 0>1" || text.as_str() == "done 1>0",
+        "{text}"
+    );
     Ok(())
 }
 
