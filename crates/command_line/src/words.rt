@@ -158,7 +158,8 @@ fn request_for(
     workload: Option<Size>,
     tasks: &Tasks,
 ) -> Result<Request, WordsFault>
-    ensures { IsMade (request_for ask workload tasks.now (rows_of (found_of matches.now))) result }
+    ensures made { IsMade (request_for ask workload tasks.now (rows_of (found_of matches.now))) result }
+    ensures plain { IfOk result (λ request. request.wanted ≡ None) }
 {
     let names = names_of(alloc, matches, tasks, &ROLES)?;
     let source = source(workload, names)?;
@@ -176,7 +177,8 @@ fn request_for(
 /// What is asked for, an entry that is wanted aside, where no option stands that may not.
 #[tactic(auto, using(crate::proofs::RoleLaws::whole))]
 fn plain_request(alloc: Global, matches: &ArgMatches<'_>) -> Result<Request, WordsFault>
-    ensures { IsMade (request_in (rows_of (found_of matches.now))) result }
+    ensures made { IsMade (request_in (rows_of (found_of matches.now))) result }
+    ensures plain { IfOk result (λ request. request.wanted ≡ None) }
 {
     let ask = ask_of(matches)?;
     let workload = size(matches, ask.tasks().has(Task::Load))?;

@@ -2,10 +2,11 @@
 use Rattle.std.proofs.Common.{◌≡◌, ℕ, ◌<◌, Bool, true, false, List, length, Option, Some, None, refl, sym, ap, subst, ◌∙◌}
 use Rattle.std.specs.Prelude.{◌↔◌, not, IsTrue, IsSome, is_some}
 use Rattle.std.specs.List.{AllByRecursion}
-use Rattle.fs_semantics.specs.FileTree.{Tree}
+use Rattle.fs_semantics.specs.FileTree.{Tree, IsTree}
 use Rattle.fs_semantics.specs.Programs.{Program, Outcome}
 use Rattle.fs_semantics.specs.Orders.{outcome}
 use Rattle.orders.specs.Relation.{Relation, Comes}
+use Rattle.order_encode.specs.Missing.{EndsMissing}
 use Rattle.order_encode.specs.Witnesses.{IsFirstExtension}
 use Rattle.order_encode.specs.declared.witness.Witness.TheVariants as witness
 use Rattle.wanted_entry.specs.declared.wanted.Wanted.{Wanted}
@@ -26,6 +27,10 @@ ended o u w false e told = ((λ h. (u, sym e, (λ has. let bad : false ≡ true 
 -- it ended in Error
 pub failed : (o : Outcome) (w : Wanted) → None ≡ o → IsTrue false ↔ ((v : Tree) × (o ≡ Some v) × (HasWanted v w → ⊥))
 failed o w e = ((λ h. cc), (λ m. let bad : ◌≡◌ {A = Option Tree} None (Some m.0) = e ∙ m.1 in cc))
+
+-- of a copy of the tree the same is told
+pub missed_at : (es : List Program) (o : List ℕ) (w : Wanted) (t copy : Tree) → copy ≡ t → IsTree t → EndsMissing es o w t → MissesFrom es o w copy
+missed_at es o w t copy same tree missed = subst (MissesFrom es o w) (sym same) (tree, missed)
 
 pub below : (n m : ℕ) (order : List ℕ) → n ≡ m → AllByRecursion (λ k. k < m) order → AllByRecursion (λ k. k < n) order
 below n m order e all = subst (λ c. AllByRecursion (λ k. k < c) order) (sym e) all

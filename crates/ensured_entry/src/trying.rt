@@ -68,7 +68,8 @@ fn first_missed(
         tree.is_tree();
         let told = misses(alloc, programs, order, wanted, tree)?;
         if told {
-            return Ok(Some(tree.copy(alloc)?));
+            let found = tree.copy(alloc)?;
+            return Ok(Some(found));
         }
     }
     Ok(None)
