@@ -1,5 +1,5 @@
 -- What is answered to the question whether a graph ensures an entry, and what each answer says.
-use Rattle.std.specs.Prelude.{◌≡◌, ◌↔◌, ℕ, List, []}
+use Rattle.std.specs.Prelude.{◌↔◌, ℕ, List, []}
 use Rattle.fs_semantics.specs.Programs.{Program}
 use Rattle.fs_semantics.specs.Orders.{Told, IsDeterministic, Succeeds}
 use Rattle.orders.specs.Relation.{Relation, comes}
@@ -13,7 +13,6 @@ use Rattle.answering.specs.Answers.{UsesUp}
 use Rattle.judgement.specs.declared.first.Sure.{Sure}
 use Rattle.judgement.specs.declared.first.First.{First}
 use Rattle.judgement.specs.declared.first.First.TheVariants as first
-use Rattle.full_verdict.specs.declared.verdicts.Ends.{Ends}
 use Rattle.full_verdict.specs.declared.verdicts.Ends.TheVariants as ends
 use Rattle.full_verdict.specs.Questions.{StatesEnd, IsEndProof, IsEnd}
 use Rattle.full_verdict.specs.Verdicts.{IsByPruning, IfByProof}

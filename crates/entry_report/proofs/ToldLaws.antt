@@ -95,11 +95,19 @@ module _ (given : Option ℕ) (w : Wanted) (names : List (List ℕ)) (es : List 
     told_is (ensured.First (first.Spent k cnf log)) said is =
         record { paths = paths; probed = probed; weight = weight; pruned = k; count = said.pruned; answer = inr (inr (inr (inl (tells_unanswered k cnf log report said.spent_on_order is)))) }
     told_is (ensured.Holds k s v (ends.From x)) said is = record {
-      paths = paths; probed = probed; weight = weight; pruned = k; count = said.pruned;
+      paths = paths;
+      probed = probed;
+      weight = weight;
+      pruned = k;
+      count = said.pruned;
       answer = inl (record { status = is.status; deterministic = said.deterministic; ensures = said.holds; last = _; ending = inl (refl, said.succeeds); text = is.text });
     }
     told_is (ensured.Holds k s v (ends.Never u)) said is = record {
-      paths = paths; probed = probed; weight = weight; pruned = k; count = said.pruned;
+      paths = paths;
+      probed = probed;
+      weight = weight;
+      pruned = k;
+      count = said.pruned;
       answer = inl (record { status = is.status; deterministic = said.deterministic; ensures = said.holds; last = _; ending = inr (refl, said.never); text = is.text });
     }
     told_is (ensured.Fails k s x) said is =

@@ -84,7 +84,9 @@ fn lines_of(
         Ensured::First(first) => first_lines(alloc, names, programs, budget, first),
         Ensured::Holds { pruned, ends, .. } => ensured_text(alloc, programs.len(), *pruned, ends),
         Ensured::Fails {
-            pruned, witness, ..
+            pruned,
+            witness,
+            ..
         } => missed_text(alloc, names, programs, *pruned, witness),
         Ensured::Spent { pruned, asked, .. } => {
             spent_late_text(alloc, programs.len(), *pruned, asked, budget)

@@ -23,12 +23,7 @@ fn is_file<B: Bits>(bits: &mut B, cells: &Cells<B>, i: usize) -> Result<B::Bit, 
 }
 
 /// Whether the content at the place has this number.
-fn has_number<B: Bits>(
-    bits: &mut B,
-    cells: &Cells<B>,
-    i: usize,
-    n: u64,
-) -> Result<B::Bit, NoMemory>
+fn has_number<B: Bits>(bits: &mut B, cells: &Cells<B>, i: usize, n: u64) -> Result<B::Bit, NoMemory>
     requires cells { AreCells (B.meanings bits.old) cells.now }
     requires place { i < length cells.now.present }
     ensures gives { IfOk result (IsBit (B.meanings bits.new) (λ v. (cell_at (B.meanings bits.old) v cells.now i).content == n)) }

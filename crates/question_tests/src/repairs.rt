@@ -89,10 +89,7 @@ fn missing_arrows(rt: HostRuntime) -> Result<(), Fail> {
             "done 1>0",
         ),
         // two packages and their files
-        (
-            "dir /a | put /a/x 1 | put /b/x 2 | dir /b",
-            "done 0>1 3>2",
-        ),
+        ("dir /a | put /a/x 1 | put /b/x 2 | dir /b", "done 0>1 3>2"),
         // a folder in a folder, and a file in that
         ("put /a/b/c x | dir /a/b | dir /a", "done 1>0 2>1"),
         // two that both end in a tree

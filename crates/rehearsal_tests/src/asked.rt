@@ -23,7 +23,7 @@ const NONE_PRUNED: &str =
 /// What is asked, of which manifest, and what is told.
 type Row = (&'static [&'static str], &'static str, &'static str);
 
-const ROWS: [Row; 28] = [
+const ROWS: [Row; 30] = [
     (
         &["--ask", "catalog", "site.pp"],
         "$x = 010 file { '/a': content => \"${x}\" }",
@@ -251,7 +251,7 @@ const RUNS: [Row; 9] = [
 const SHARED_MANIFEST: &str = "package { 'ntp': } file { '/etc/ntp.conf': content => 'server a' }";
 
 /// What is refused, of which manifest, and the line.
-const REFUSED: [Row; 17] = [
+const REFUSED: [Row; 18] = [
     (
         &[
             "--ask", "catalog", "--facts", "data", "--data", "facts", "site.pp",

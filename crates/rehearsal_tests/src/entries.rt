@@ -13,17 +13,15 @@ const LISTING: &str =
 const ONE: &str = "resources 1\npruned 1\ndeterministic\n";
 
 fn asked(alloc: Global, words: &[&str], manifest: &str) -> Result<Told, Fail> {
-    let over: [(&str, &[u8]); 2] = [("site.pp", manifest.as_bytes()), ("listing", LISTING.as_bytes())];
+    let over: [(&str, &[u8]); 2] = [
+        ("site.pp", manifest.as_bytes()),
+        ("listing", LISTING.as_bytes()),
+    ];
     run_over(alloc, words, &over)
 }
 
 /// What is told of an entry at a path, and of a file there with a content.
-fn told_of(
-    alloc: Global,
-    manifest: &str,
-    path: &str,
-    content: Option<&str>,
-) -> Result<Told, Fail> {
+fn told_of(alloc: Global, manifest: &str, path: &str, content: Option<&str>) -> Result<Told, Fail> {
     match content {
         Some(text) => asked(
             alloc,
@@ -42,7 +40,15 @@ fn told_of(
         ),
         None => asked(
             alloc,
-            &["--ask", "ensures", "--packages", "listing", "--path", path, "site.pp"],
+            &[
+                "--ask",
+                "ensures",
+                "--packages",
+                "listing",
+                "--path",
+                path,
+                "site.pp",
+            ],
             manifest,
         ),
     }
@@ -51,15 +57,57 @@ fn told_of(
 #[test]
 fn entries_that_are_ensured(rt: HostRuntime) -> Result<(), Fail> {
     let rows: [(&str, &str, Option<&str>, &str, &str); 8] = [
-        ("file { '/etc/motd': content => 'hi' }", "/etc/motd", Some("hi"), ONE, "succeeds from some tree\n"),
-        ("file { '/etc/motd': content => 'hi' }", "/etc/motd", None, ONE, "succeeds from some tree\n"),
+        (
+            "file { '/etc/motd': content => 'hi' }",
+            "/etc/motd",
+            Some("hi"),
+            ONE,
+            "succeeds from some tree\n",
+        ),
+        (
+            "file { '/etc/motd': content => 'hi' }",
+            "/etc/motd",
+            None,
+            ONE,
+            "succeeds from some tree\n",
+        ),
         // The folder above.
-        ("file { '/etc/motd': content => 'hi' }", "/etc", None, ONE, "succeeds from some tree\n"),
-        ("file { '/etc/motd': content => 'hi' }", "//etc//motd/", Some("hi"), ONE, "succeeds from some tree\n"),
-        ("file { '/a': ensure => present }", "/a", None, ONE, "succeeds from some tree\n"),
-        ("package { 'ntp': }", "/usr/sbin", None, ONE, "succeeds from some tree\n"),
+        (
+            "file { '/etc/motd': content => 'hi' }",
+            "/etc",
+            None,
+            ONE,
+            "succeeds from some tree\n",
+        ),
+        (
+            "file { '/etc/motd': content => 'hi' }",
+            "//etc//motd/",
+            Some("hi"),
+            ONE,
+            "succeeds from some tree\n",
+        ),
+        (
+            "file { '/a': ensure => present }",
+            "/a",
+            None,
+            ONE,
+            "succeeds from some tree\n",
+        ),
+        (
+            "package { 'ntp': }",
+            "/usr/sbin",
+            None,
+            ONE,
+            "succeeds from some tree\n",
+        ),
         // What the program keeps of a package.
-        ("package { 'ntp': }", "/.rehearsal/package/ntp", None, ONE, "succeeds from some tree\n"),
+        (
+            "package { 'ntp': }",
+            "/.rehearsal/package/ntp",
+            None,
+            ONE,
+            "succeeds from some tree\n",
+        ),
         // No run ends.
         (
             "file { '/a': ensure => file } file { '/a/b': ensure => file }",
@@ -101,7 +149,11 @@ fn is_missed(
 fn entries_that_are_missed(rt: HostRuntime) -> Result<(), Fail> {
     let one = "resources 1\npruned 1\ndeterministic\nnot ensured\n";
     let rows: [(&str, &str, Option<&str>); 8] = [
-        ("file { '/etc/motd': content => 'hi' }", "/etc/motd", Some("ho")),
+        (
+            "file { '/etc/motd': content => 'hi' }",
+            "/etc/motd",
+            Some("ho"),
+        ),
         ("file { '/etc/motd': content => 'hi' }", "/etc/issue", None),
         // A folder where a content is wanted.
         ("file { '/etc/motd': content => 'hi' }", "/etc", Some("hi")),
@@ -110,8 +162,16 @@ fn entries_that_are_missed(rt: HostRuntime) -> Result<(), Fail> {
         ("file { '/a': ensure => present }", "/a", Some("")),
         ("file { '/a': ensure => absent }", "/a", None),
         // A link may stand there.
-        ("file { '/a': ensure => link, target => '/b' }", "/a", Some("/b")),
-        ("package { 'ntp': ensure => absent }", "/usr/sbin/ntpd", None),
+        (
+            "file { '/a': ensure => link, target => '/b' }",
+            "/a",
+            Some("/b"),
+        ),
+        (
+            "package { 'ntp': ensure => absent }",
+            "/usr/sbin/ntpd",
+            None,
+        ),
     ];
     for (manifest, path, content) in rows {
         is_missed(rt.alloc(), &rt, manifest, path, content, one)?;

@@ -79,14 +79,23 @@ const OPEN: [(&str, &str); 5] = [
 ];
 
 fn asked(alloc: Global, words: &[&str], manifest: &str) -> Result<Told, Fail> {
-    let over: [(&str, &[u8]); 2] = [("site.pp", manifest.as_bytes()), ("listing", LISTING.as_bytes())];
+    let over: [(&str, &[u8]); 2] = [
+        ("site.pp", manifest.as_bytes()),
+        ("listing", LISTING.as_bytes()),
+    ];
     run_over(alloc, words, &over)
 }
 
 const REPAIR: [&str; 5] = ["--ask", "repair", "--packages", "listing", "site.pp"];
 
 /// With the lines of the arrows behind it the manifest is deterministic, and lacks none.
-fn is_mended(alloc: Global, rt: &impl Abort, manifest: &str, told: &str, head: &str) -> Result<(), Fail> {
+fn is_mended(
+    alloc: Global,
+    rt: &impl Abort,
+    manifest: &str,
+    told: &str,
+    head: &str,
+) -> Result<(), Fail> {
     let lines = told.strip_prefix(head).unwrap_or("?");
     let arrows = lines.strip_suffix("deterministic\n").unwrap_or("?");
     let with = format!(in alloc; "{manifest}\n{arrows}")?;
@@ -122,14 +131,34 @@ fn manifests_with_their_arrows(rt: HostRuntime) -> Result<(), Fail> {
 fn repairs_that_are_not_made(rt: HostRuntime) -> Result<(), Fail> {
     let rows: [(&[&str], &str, u8, &str, &str); 3] = [
         (
-            &["--ask", "repair", "--packages", "listing", "--conflicts", "1", "site.pp"],
+            &[
+                "--ask",
+                "repair",
+                "--packages",
+                "listing",
+                "--conflicts",
+                "1",
+                "site.pp",
+            ],
             "package { ['pair', 'twin']: }",
             3,
             "resources 2\nspent deterministic 1\n",
             "",
         ),
-        (&REPAIR, "package { 'none': }", 4, "", "refused 54 at 10: Package[none]\n"),
-        (&REPAIR, "exec { 'x': }", 4, "", "refused 50 at 7: Exec[x]\n"),
+        (
+            &REPAIR,
+            "package { 'none': }",
+            4,
+            "",
+            "refused 54 at 10: Package[none]\n",
+        ),
+        (
+            &REPAIR,
+            "exec { 'x': }",
+            4,
+            "",
+            "refused 50 at 7: Exec[x]\n",
+        ),
     ];
     for (words, manifest, status, out, err) in rows {
         let told = asked(rt.alloc(), words, manifest)?;

@@ -21,11 +21,7 @@ fn push_arrow(names: &[Text], arrow: (u32, u32), into: &mut Vec<u8>) -> Result<(
     push_bytes(b"\n", into)
 }
 
-fn push_arrows(
-    names: &[Text],
-    arrows: &[(u32, u32)],
-    into: &mut Vec<u8>,
-) -> Result<(), NoMemory>
+fn push_arrows(names: &[Text], arrows: &[(u32, u32)], into: &mut Vec<u8>) -> Result<(), NoMemory>
     requires { All (IsArrowWithin (length names.now)) arrows.now }
     ensures { OnOk result (into.new.items ≡ into.old.items ++ arrow_lines names.now arrows.now) }
 {

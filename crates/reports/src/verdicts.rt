@@ -26,7 +26,11 @@ fn name_at(alloc: Global, catalog: &Catalog, place: u32) -> Result<Text, NoMemor
 }
 
 /// The references of plain resources.
-pub(crate) fn names_in(alloc: Global, catalog: &Catalog, plain: &[u32]) -> Result<Seq<Text>, NoMemory>
+pub(crate) fn names_in(
+    alloc: Global,
+    catalog: &Catalog,
+    plain: &[u32],
+) -> Result<Seq<Text>, NoMemory>
     requires { AllByRecursion (λ k. k < length catalog.now.resources) plain.now }
     ensures { IfOk result (λ names. names ≡ names_in catalog.now plain.now) }
 {

@@ -11,5 +11,5 @@ returns-in-Missed c =
     let missed = subst (IsTried es order c.args.wanted.now) c.in-Missed.is c.in_ok-tried.ensures in
     failed es order c.args.wanted.now c.args.budget c.args.ordered.pruned c.args.ordered.sure c.requires.judged c.in-Missed.witness missed
 
-pub ask_entry-requires-in-Ended-clause-end : goal.ask_entry-requires-in-Ended-clause-end
-ask_entry-requires-in-Ended-clause-end c = subst (IsTried (map program_of c.args.programs.now) c.args.order.now c.args.wanted.now) c.in-Ended.is c.in_ok-tried.ensures
+pub ask_entry-requires-clause-end : goal.ask_entry-requires-clause-end
+ask_entry-requires-clause-end c = subst (IsTried (map program_of c.args.programs.now) c.args.order.now c.args.wanted.now) c.in-Ended.is c.in_ok-tried.ensures

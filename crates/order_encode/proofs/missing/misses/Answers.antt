@@ -22,7 +22,7 @@ returns-clause-exact c = IfOk-weaker c.and.result _ _ (λ w is v t h.
     let has = c.in_ok-has.ensures.gives in
     let found = c.searches.ensures in
     let exact = misses_is found.path found.no_path found.content found.no_content table c.is_table.ensures state c.args.wanted.now
-        (outcome (map program_of c.args.programs.now) c.args.order.now t) _ stands (has.means v) in
+    (outcome (map program_of c.args.programs.now) c.args.order.now t) _ stands (has.means v) in
     let missing = g34.bit c.in_ok-missing.missing c.in_ok-missing.ensures.gives.owned v ∙ c.in_ok-missing.ensures.gives.means v in
     let ended = c.in_ok-ended.ensures.gives.means v ∙ ap not ((g12 >> g23).bit made.error c.in_ok-made.ensures.cells.error v) in
     tells_same (is.means v ∙ (λ i. ended i && missing i)) exact) c.and.ensures.gives

@@ -1,5 +1,7 @@
-use Rattle.std.proofs.Common.{map}
+use Rattle.std.proofs.Common.{map, sym, subst}
+use Rattle.std.proofs.lemmas.List.{length-map}
 use Rattle.fs_lang.specs.Meaning.{program_of}
+use Rattle.repair_report.specs.Steps.{IsReportOf}
 use Rattle.repair_report.proofs.ToldLaws.{tellable, told_is}
 use Rattle.repair_report.proofs.telling.told.Goals as goal
 
@@ -11,4 +13,5 @@ pub returns-clause-told : goal.returns-clause-told
 returns-clause-told c =
     let said = c.in_ok-repaired.ensures in
     told_is (map program_of c.args.programs.now) c.args.order.now c.args.given c.args.names.now c.budget_of-budget.result c.budget_of-budget.ensures.budget c.in_ok-repaired.repaired c.in_ok-report.report
-    said.paths said.weight (record { added = said.added; repairs = said.repairs; needed = said.needed; right = said.right; nothing = said.nothing; spent = said.spent }) c.in_ok-report.ensures
+    said.paths said.weight (record { added = said.added; repairs = said.repairs; needed = said.needed; right = said.right; nothing = said.nothing; spent = said.spent })
+    (subst (λ n. IsReportOf c.args.names.now n c.budget_of-budget.result c.in_ok-repaired.repaired c.in_ok-report.report) (sym (length-map c.args.programs.now program_of)) c.in_ok-report.ensures)
