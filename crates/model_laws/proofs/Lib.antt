@@ -1,3 +1,4 @@
 pub mod LeftLaws
 pub mod JoinLaws
 pub mod PlaceLaws
+pub mod FolderLaws

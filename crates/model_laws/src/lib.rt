@@ -7,7 +7,8 @@ ghost use Rattle.fs_semantics.specs.FileTree.{Path, File, Tree};
 ghost use Rattle.fs_semantics.specs.Entries.{IsFileAt, IsFolderAt};
 ghost use Rattle.fs_semantics.specs.Programs.{Program, and_then, run, run_all};
 ghost use Rattle.model_semantics.specs.Names.{mark_named, mark_of_user};
-ghost use Rattle.model_semantics.specs.Words.{steps, sequence, dir, put, drop_file, mark, need};
+ghost use Rattle.model_laws.specs.Folders.{AreFalling, of_length};
+ghost use Rattle.model_semantics.specs.Words.{deepest_first, steps, sequence, dir, put, drop_file, mark, need};
 
 use fs_lang::segments_of_names;
 use fs_semantics::{changes, constructs, tests};
@@ -48,3 +49,9 @@ pub fn places_tell_names()
 {
     segments_of_names();
 }
+
+/// The folders of a package that goes are swept with more segments first, and of equally many as they are listed.
+pub fn folders_go_deepest_first()
+    ensures falling { (folders : List Path) → AreFalling (deepest_first folders) }
+    ensures in_order { (folders : List Path) (n : ℕ) → of_length n (deepest_first folders) ≡ of_length n folders }
+{}
