@@ -29,7 +29,7 @@ data Kind (a : Ask) (conflicts : Option ℕ) (i : Inputs) (report : Report) : Ty
   other : report.status ≡ 0 → ((f : Form) → a ≡ ask_for f → ⊥) → (a ≡ ask.Repair → ⊥) → (a ≡ ask.Ensures → ⊥) → Kind a conflicts i report
 
 -- other values of `--ask` than these
-is_other : Ask → Type 0
+abbrev is_other : Ask → Type 0
 is_other ask.Verify = ⊥
 is_other ask.Proof = ⊥
 is_other ask.Catalog = Unit {0}
@@ -67,7 +67,7 @@ kind : (run : Run) (report : Report) (reports : Reports run.words run.held repor
 kind run report reports = kind_of reports.on.loaded.ask reports.on.loaded.conflicts reports.on.loaded.inputs report reports.on.says
 
 -- what is asked about, of a report on programs
-modelled : (run : Run) (report : Report) (reports : Reports run.words run.held report) (a : Ask) (q : Question) → reports.on.loaded.ask ≡ a → IsReport q reports.on.loaded.inputs report → Modelled run a
+abbrev modelled : (run : Run) (report : Report) (reports : Reports run.words run.held report) (a : Ask) (q : Question) → reports.on.loaded.ask ≡ a → IsReport q reports.on.loaded.inputs report → Modelled run a
 modelled run report reports a q asked is = record {
   request = reports.request;
   made = reports.made;
@@ -102,7 +102,7 @@ no_repair_wants e = cc
 
 -- a verdict that is told, and an entry that is
 module _ (run : Run) (report : Report) (reports : Reports run.words run.held report) where
-  verdict_on : (f : Form) → reports.on.loaded.ask ≡ ask_for f → (answer : IsReport (question.Verdict f reports.on.loaded.conflicts) reports.on.loaded.inputs report) → Judged run
+  abbrev verdict_on : (f : Form) → reports.on.loaded.ask ≡ ask_for f → (answer : IsReport (question.Verdict f reports.on.loaded.conflicts) reports.on.loaded.inputs report) → Judged run
   verdict_on f is answer = record {
     ask = ask_for f;
     form = f;
@@ -112,7 +112,7 @@ module _ (run : Run) (report : Report) (reports : Reports run.words run.held rep
     count = answer.told.count;
   }
 
-  entry_on : reports.on.loaded.ask ≡ ask.Ensures → (answer : IsReport (question.Ensures reports.on.loaded.conflicts) reports.on.loaded.inputs report) → Judged run
+  abbrev entry_on : reports.on.loaded.ask ≡ ask.Ensures → (answer : IsReport (question.Ensures reports.on.loaded.conflicts) reports.on.loaded.inputs report) → Judged run
   entry_on is answer = record {
     ask = ask.Ensures;
     form = form.Lines;
