@@ -1,9 +1,7 @@
 //! Entries that graphs ensure, each row with what is answered.
 
-ghost use Rattle.orders.specs.Paths.{EndsBelow};
-
 use crate::judging::refused;
-use crate::programs::in_turn;
+use crate::programs::{in_turn, unordered};
 use ensured_entry::{Ensured, Late, Wanted, judge_entry};
 use fs_lang::{Path, Program};
 use full_verdict::Ends;
@@ -89,23 +87,20 @@ fn told(
     }
 }
 
-/// The same, with the programs in words and pairs of which the first comes before the second.
-fn told_of(
-    alloc: Global,
-    words: &str,
-    edges: &[(u32, u32)],
-    entry: &str,
-    budget: u64,
-) -> Result<String, Fail> {
+/// The same, with programs in words, of which none comes before another.
+fn told_of(alloc: Global, words: &str, entry: &str) -> Result<String, Fail> {
     let all = programs(alloc, words)?;
-    let order = Order::from_edges(alloc, u32::try_from(all.len())?, edges)?;
-    told(
-        alloc,
-        all.as_slice(),
-        &order,
-        &wanted(alloc, entry)?,
-        budget,
-    )
+    let order = unordered(alloc, all.as_slice())?;
+    let wanted = wanted(alloc, entry)?;
+    told(alloc, all.as_slice(), &order, &wanted, u64::MAX)
+}
+
+/// The same of two programs, the first of which comes before the second.
+fn told_of_two(alloc: Global, words: &str, entry: &str) -> Result<String, Fail> {
+    let all = programs(alloc, words)?;
+    let order = Order::from_edges(alloc, 2, &[(0, 1)])?;
+    let wanted = wanted(alloc, entry)?;
+    told(alloc, all.as_slice(), &order, &wanted, u64::MAX)
 }
 
 /// Makes sure of /etc/motd with the content hi.
@@ -132,7 +127,7 @@ fn entries_of_one_program(rt: HostRuntime) -> Result<(), Fail> {
         ("err", "/x", "ensured, fails"),
     ];
     for (words, entry, want) in rows {
-        let got = told_of(rt.alloc(), words, &[], entry, u64::MAX)?;
+        let got = told_of(rt.alloc(), words, entry)?;
         assert_eq!(rt; got.as_str(), want, "{words}, {entry}");
     }
     Ok(())
@@ -140,26 +135,17 @@ fn entries_of_one_program(rt: HostRuntime) -> Result<(), Fail> {
 
 #[test]
 fn entries_of_graphs(rt: HostRuntime) -> Result<(), Fail> {
-    let rows: [(&str, &[(u32, u32)], &str, &str); 5] = [
-        // not deterministic, so nothing is said of the entry
-        (
-            "dir /etc | put /etc/a x",
-            &[],
-            "/etc/a",
-            "not deterministic",
-        ),
-        (
-            "dir /etc | put /etc/a x",
-            &[(0, 1)],
-            "/etc/a x",
-            "ensured, succeeds",
-        ),
-        ("put /a x | drop /a", &[(0, 1)], "/a", "not ensured"),
-        ("drop /a | put /a x", &[(0, 1)], "/a x", "ensured, succeeds"),
-        ("mkdir /a | mkdir /a", &[(0, 1)], "/b", "ensured, fails"),
+    // not deterministic, so nothing is said of the entry
+    let free = told_of(rt.alloc(), "dir /etc | put /etc/a x", "/etc/a")?;
+    assert_eq!(rt; free.as_str(), "not deterministic");
+    let rows: [(&str, &str, &str); 4] = [
+        ("dir /etc | put /etc/a x", "/etc/a x", "ensured, succeeds"),
+        ("put /a x | drop /a", "/a", "not ensured"),
+        ("drop /a | put /a x", "/a x", "ensured, succeeds"),
+        ("mkdir /a | mkdir /a", "/b", "ensured, fails"),
     ];
-    for (words, edges, entry, want) in rows {
-        let got = told_of(rt.alloc(), words, edges, entry, u64::MAX)?;
+    for (words, entry, want) in rows {
+        let got = told_of_two(rt.alloc(), words, entry)?;
         assert_eq!(rt; got.as_str(), want, "{words}, {entry}");
     }
     Ok(())
@@ -172,12 +158,22 @@ const GOES_AND_COMES: &str =
 #[test]
 fn spent_budgets(rt: HostRuntime) -> Result<(), Fail> {
     let alloc = rt.alloc();
-    let mut edges = Vec::new(alloc);
-    for k in 0..9u32 {
-        edges.push((k, k + 1))?;
-    }
+    let all = programs(alloc, GOES_AND_COMES)?;
+    let edges = &[
+        (0, 1),
+        (1, 2),
+        (2, 3),
+        (3, 4),
+        (4, 5),
+        (5, 6),
+        (6, 7),
+        (7, 8),
+        (8, 9),
+    ];
+    let order = Order::from_edges(alloc, 10, edges)?;
     for (budget, want) in [(1, "spent ensures"), (u64::MAX, "ensured, succeeds")] {
-        let got = told_of(alloc, GOES_AND_COMES, edges.as_slice(), "/x", budget)?;
+        let wanted = wanted(alloc, "/x")?;
+        let got = told(alloc, all.as_slice(), &order, &wanted, budget)?;
         assert_eq!(rt; got.as_str(), want, "{budget}");
     }
     Ok(())
