@@ -3,7 +3,7 @@
 ghost use Rattle.std.specs.Prelude.{◌≡◌, ◌≤◌, ◌<◌, [], Ok, Err, map, false, true};
 ghost use Rattle.std.specs.declared.option.Option.TheVariants.{Some, None};
 ghost use Rattle.std.specs.Option.{option_map};
-ghost use Rattle.rh_base.specs.Shelf.{FetchGives};
+ghost use Rattle.rh_base.specs.Shelf.{Only, ElseEmpty, FetchGives};
 ghost use Rattle.rh_base.specs.Kept.{files_of, found, is_failing, one_more, Answers};
 
 use crate::memory::is_failing;
@@ -72,7 +72,7 @@ fn copy_within(bytes: &Vec<u8>, limit: usize, into: &mut Vec<u8>) -> Result<Fetc
 }
 
 impl Shelf for MemoryShelf {
-    ghost holds = { λ s. Some (files_of s.files) };
+    ghost holds = { λ s. Only (files_of s.files) };
 
     ghost faults = { λ s. s.faults };
 
@@ -80,9 +80,9 @@ impl Shelf for MemoryShelf {
     fn fetch(&mut self, name: &str, limit: usize, into: &mut Vec<u8>) -> Result<Fetched, ShelfFault>
         requires empty { into.old.items ≡ [] }
         requires below { limit < usize.MAX }
-        ensures held { Some (files_of self.new.files) ≡ Some (files_of self.old.files) }
+        ensures held { Only (files_of self.new.files) ≡ Only (files_of self.old.files) }
         ensures later { self.old.faults ≤ self.new.faults }
-        ensures gives { FetchGives (Some (files_of self.old.files)) name.now limit self.old.faults self.new.faults result into.new.items }
+        ensures gives { FetchGives (Only (files_of self.old.files)) name.now limit self.old.faults self.new.faults result into.new.items }
         // Each call counts, and one that is to fail fails.
         ensures kept { (self.new.files ≡ self.old.files) × (self.new.failing ≡ self.old.failing) }
         ensures counted { self.new.calls ≡ one_more self.old.calls }
@@ -125,7 +125,7 @@ impl SureShelf {
 }
 
 impl Shelf for SureShelf {
-    ghost holds = { λ s. Some (files_of s) };
+    ghost holds = { λ s. ElseEmpty (files_of s) };
 
     ghost faults = { λ _. 0 };
 
@@ -133,9 +133,9 @@ impl Shelf for SureShelf {
     fn fetch(&mut self, name: &str, limit: usize, into: &mut Vec<u8>) -> Result<Fetched, ShelfFault>
         requires empty { into.old.items ≡ [] }
         requires below { limit < usize.MAX }
-        ensures held { Some (files_of self.new) ≡ Some (files_of self.old) }
+        ensures held { ElseEmpty (files_of self.new) ≡ ElseEmpty (files_of self.old) }
         ensures later { 0 ≤ 0 }
-        ensures gives { FetchGives (Some (files_of self.old)) name.now limit 0 0 result into.new.items }
+        ensures gives { FetchGives (ElseEmpty (files_of self.old)) name.now limit 0 0 result into.new.items }
         ensures kept { self.new ≡ self.old }
         // A missing name reads as empty.
         ensures missing { found self.old name.now ≡ None → result ≡ Ok Fetched.Whole × (into.new.items ≡ []) }
