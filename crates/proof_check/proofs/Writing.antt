@@ -19,7 +19,7 @@ use Rattle.proof_check.specs.Refuted.{Refutation}
 use Rattle.proof_check.specs.ProofWords.{Written, block_words, IsWritten, IsLinkWritten, IsStepWritten, read_of}
 use Rattle.proof_check.specs.WordsLeft.{words_left, is_inner}
 use Rattle.proof_check.specs.Joining.{AreClean}
-use Rattle.proof_check.specs.Writing.{IsWritable, proofs_text, WrittenProofsAreRead}
+use Rattle.proof_check.specs.Writing.{IsWritable, proofs_text, WrittenProofsAreRead, RightLogsAreWritable}
 use Rattle.proof_check.proofs.WordLaws.{words_left-all, words_left-feed, words_left-blank, left_word}
 use Rattle.proof_check.proofs.Spelling.{digit_range}
 use Rattle.proof_check.proofs.Numbers.{clean_formula, clean_push}
@@ -235,25 +235,19 @@ steps_same (s ∷ steps) h =
     ap (λ x. x ∷ map step_again steps) e ∙ ap (λ xs. s ∷ xs) (steps_same steps h.1)
 
 module _ (p : Refutation) (h : IsWritable p) where
-  both : AllByRecursion (IsStepWritten p.formula.vars) p.steps × AllByRecursion (λ (s : Step). IsClause s.clause) p.steps
-  both = steps_written p.formula.vars p.formula.clauses p.steps (subst (AreClean p.formula.vars) (append-nil p.formula.clauses) (clean_formula p.formula h.formula)) h.right h.fits
-
   writable : IsWritten (written_of p)
-  writable =
-      let fits = h.fits in
-      record {
-        small = h.small;
-        clause_count = omega arith;
-        step_count = omega arith;
-        clauses = h.formula.variables;
-        steps = both.0;
-      }
+  writable = record { small = h.small; clause_count = h.clause_count; step_count = h.step_count; clauses = h.formula.variables; steps = h.steps }
 
   again : p ≡ read_of (written_of p)
   again = λ i. record {
     formula = record { vars = p.formula.vars; clauses = sym (clauses_same p.formula.clauses h.formula.clauses) i };
-    steps = sym (steps_same p.steps both.1) i;
+    steps = sym (steps_same p.steps h.clauses) i;
   }
+
+pub right_logs : RightLogsAreWritable
+right_logs p formula small right fits =
+    let both = steps_written p.formula.vars p.formula.clauses p.steps (subst (AreClean p.formula.vars) (append-nil p.formula.clauses) (clean_formula p.formula formula)) right fits in
+    record { formula = formula; small = small; clause_count = omega arith; step_count = omega arith; clauses = both.1; steps = both.0 }
 
 -- ---- all blocks
 blocks_left : (ps : List Refutation) → AllByRecursion IsWritable ps → words_left true (flat_map (λ p. proof_text p.formula p.steps) ps) ≡ flat_map block_words (map written_of ps)

@@ -6,13 +6,15 @@ mod literals;
 mod steps;
 mod text;
 
-ghost use Rattle.proof_check.specs.Writing.{WrittenProofsAreRead};
+ghost use Rattle.proof_check.specs.Writing.{WrittenProofsAreRead, RightLogsAreWritable};
 
 pub use fault::{Bad, Cause, CheckFault};
 pub use steps::{Verified, check};
 pub use text::read_proofs;
 
-/// What `write_proof` writes of logs whose steps are right, behind the line that says how many there are, spells just these.
+/// What `write_proof` writes of formulas and logs whose numbers fit, behind the line that says how many there are, spells
+/// just these. Accepted and working logs are such.
 pub fn written_proofs_are_read()
-    ensures { WrittenProofsAreRead }
+    ensures read { WrittenProofsAreRead }
+    ensures right { RightLogsAreWritable }
 {}

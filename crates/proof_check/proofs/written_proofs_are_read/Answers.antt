@@ -1,5 +1,8 @@
-use Rattle.proof_check.proofs.Writing.{written_proofs}
+use Rattle.proof_check.proofs.Writing.{written_proofs, right_logs}
 use Rattle.proof_check.proofs.written_proofs_are_read.Goals as goal
 
-pub returns : goal.returns
-returns c = written_proofs
+pub returns-clause-read : goal.returns-clause-read
+returns-clause-read c = written_proofs
+
+pub returns-clause-right : goal.returns-clause-right
+returns-clause-right c = right_logs
