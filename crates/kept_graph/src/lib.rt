@@ -3,9 +3,11 @@
 
 mod comparing;
 mod completing;
+mod contracted;
 mod counterexamples;
 mod kept;
 mod pairs;
 
+pub use contracted::{Contracted, contract, contractions, expand};
 pub use counterexamples::{Completed, end_alike, refute};
 pub use kept::{Kept, keep, kept_graphs, program_at};
