@@ -8,6 +8,7 @@ mod counterexamples;
 mod kept;
 mod pairs;
 
+pub use comparing::same_outcome;
 pub use contracted::{Contracted, contract, contractions, expand};
 pub use counterexamples::{Completed, end_alike, refute};
 pub use kept::{Kept, keep, kept_graphs, program_at};
