@@ -27,7 +27,7 @@ pub const USUAL: &str = concat!(
     r#""z":{"files":[["/opt/s","d2"]],"folders":[]}}}"#
 );
 
-const ROWS: [Row; 10] = [
+const ROWS: [Row; 11] = [
     (
         "package { 'ntp': } file { '/etc/ntp.conf': content => 'server a' }",
         SHARED,
@@ -81,6 +81,12 @@ const ROWS: [Row; 10] = [
         "package { ['a', 'b', 'c']: } file { '/etc/a.conf': content => 'a', require => Package['a'] } file { '/etc/b.conf': content => 'b', require => Package['b'] } file { '/etc/c.conf': content => 'c', require => Package['c'] } package { ['x', 'y', 'z']: }",
         USUAL,
         "resources 9\npruned 0\nnot deterministic\n",
+    ),
+    // What is kept ends apart from a tree in which what is pruned fails; where its folder stands the whole graph does.
+    (
+        "package { ['x', 'z']: } file { '/srv/a': content => 'a' }",
+        USUAL,
+        "resources 3\npruned 1\nnot deterministic\n",
     ),
 ];
 

@@ -104,6 +104,36 @@ fn usual_hosts(rt: HostRuntime) -> Result<(), Fail> {
     Ok(())
 }
 
+/// What pruning keeps isn't deterministic by itself, since two packages have one file with two digests; but a file in a file makes
+/// every order of the whole end in Error.
+#[test]
+fn graphs_that_always_fail(rt: HostRuntime) -> Result<(), Fail> {
+    let rows: [(&str, &str); 3] = [
+        (
+            "package { ['x', 'z']: } file { '/f': content => 'f' } file { '/f/g': content => 'g' }",
+            "resources 4\npruned 2\ndeterministic\nidempotent\nfails from every tree\n",
+        ),
+        (
+            "package { ['x', 'z']: } file { '/f': content => 'f' } file { '/f/g': content => 'g' } file { ['/a', '/b', '/c', '/d', '/e']: content => 'q' }",
+            "resources 9\npruned 7\ndeterministic\nidempotent\nfails from every tree\n",
+        ),
+        // The part that fails comes first.
+        (
+            "file { '/f': content => 'f' } file { '/f/g': content => 'g' } -> package { ['x', 'z']: }",
+            "resources 4\npruned 2\ndeterministic\nidempotent\nfails from every tree\n",
+        ),
+    ];
+    for (manifest, report) in rows {
+        let over: [(&str, &[u8]); 2] = [
+            ("site.pp", manifest.as_bytes()),
+            ("listing", USUAL.as_bytes()),
+        ];
+        let told = run_over(rt.alloc(), &["--packages", "listing", "site.pp"], &over)?;
+        compare(&rt, &told, 0, report, "", manifest);
+    }
+    Ok(())
+}
+
 /// Each cause of a refusal in the text, the catalog, the graph or the programs of a manifest.
 const REFUSED: [(&str, &str); 38] = [
     ("package { 'ntp': }", "refused 54 at 10: Package[ntp]\n"),
