@@ -5,7 +5,8 @@ use Rattle.fs_semantics.specs.FileTree.{Folder, File, Link as LinkTo, Tree}
 use Rattle.fs_semantics.specs.Programs.{Not, Program, Programs, Id, Err, Mkdir, Creat, Link, Rm, Cp, Steps, If, none, next, Outcome, and_then, holds, run, run_all}
 use Rattle.fs_semantics.proofs.Words.{not_holds}
 use Rattle.failure_semantics.specs.Failures.{Reason, Explains, Failure, Choice, refusal, FailsHere, FailsIn, FailInSteps}
-use Rattle.failure_semantics.proofs.Reasons.{no_place, place_lacks, not_gone, removal_lacks, no_copy, copy_lacks}
+use Rattle.failure_semantics.specs.Told.{no_place, not_gone, no_copy}
+use Rattle.failure_semantics.proofs.ReasonLaws.{place_lacks, removal_lacks, copy_lacks}
 
 -- either outcome
 ended : (o : Outcome) → (o ≡ None) ⊎ ((u : Tree) × (o ≡ Some u))

@@ -1,4 +1,4 @@
-pub mod Reasons
+pub mod ReasonLaws
 pub mod Found
 pub mod Once
 pub mod OrderLaws

@@ -3,7 +3,8 @@ use Rattle.std.proofs.Common.{◌≡◌, inl, inr, Some, sym, subst, ◌∙◌}
 use Rattle.fs_semantics.specs.FileTree.{Tree}
 use Rattle.fs_semantics.specs.Programs.{Not, Program, Programs, Id, Err, Mkdir, Creat, Link, Rm, Cp, Steps, If, none, next, run}
 use Rattle.failure_semantics.specs.Failures.{Reason, Explains, Failure, Choice, FailsHere, FailsIn, FailInSteps}
-use Rattle.failure_semantics.proofs.Reasons.{no_place, place_reason, not_gone, removal_reason, no_copy, copy_reason}
+use Rattle.failure_semantics.specs.Told.{no_place, not_gone, no_copy}
+use Rattle.failure_semantics.proofs.ReasonLaws.{place_reason, removal_reason, copy_reason}
 use Rattle.failure_semantics.proofs.Found.{error}
 
 -- a construct with one reason at most

@@ -64,10 +64,19 @@ pub record Failure : Type 0 where
 abbrev pub Choice : Type 0
 Choice = Option (Test × Tree)
 
+-- what `err` needs there: nothing would do where it stands in no branch
+abbrev pub needed : Choice → Reason
+needed None = Always
+needed (Some c) = Needs c.0
+
+-- where that was asked
+abbrev pub asked_of : Choice → Tree → Tree
+asked_of None t = t
+asked_of (Some c) t = c.1
+
 -- `err` fails for the choice that led to it
 abbrev pub refusal : Choice → Tree → Failure
-refusal None t = record { construct = Err; reason = Always; tree = t }
-refusal (Some c) t = record { construct = Err; reason = Needs c.0; tree = c.1 }
+refusal c t = record { construct = Err; reason = needed c; tree = asked_of c t }
 
 -- the construct ends in Error in this tree, for this reason
 pub record FailsHere (e : Program) (t : Tree) (f : Failure) : Type 0 where

@@ -3,11 +3,13 @@
 //! callers may use.
 #![tactic(auto)]
 
-ghost use Rattle.std.specs.Prelude.{◌≡◌, ◌≢◌, ◌↔◌, ℕ, List, None};
-ghost use Rattle.fs_semantics.specs.FileTree.{Tree};
-ghost use Rattle.fs_semantics.specs.Programs.{Program, Err, run};
+ghost use Rattle.std.specs.Prelude.{◌≡◌, ◌↔◌, ℕ, List, None};
+ghost use Rattle.std.specs.FinMap as map;
+ghost use Rattle.fs_semantics.specs.FileTree.{Path, Entry, Tree};
+ghost use Rattle.fs_semantics.specs.Programs.{Program, made, removed, copied, run};
 ghost use Rattle.fs_semantics.specs.Orders.{outcome};
-ghost use Rattle.failure_semantics.specs.Failures.{Failure, Explains, FailsAt};
+ghost use Rattle.failure_semantics.specs.Failures.{Failure, HasNoPlace, StaysThere, HasNoCopy, Explains, FailsAt};
+ghost use Rattle.failure_semantics.specs.Told.{no_place, not_gone, no_copy};
 ghost use Rattle.failure_semantics.specs.Orders.{OrderFailsAt, EndsShortestFront};
 
 /// A program ends in Error exactly where there is a construct that fails, and there is one at most. Its reason holds, and
@@ -25,4 +27,11 @@ pub fn failing_orders()
     ensures exact { (es : List Program) (order : List ℕ) (t : Tree) → (outcome es order t ≡ None) ↔ ((i : ℕ) × (f : Failure) × OrderFailsAt es order t i f) }
     ensures one { (es : List Program) (order : List ℕ) (t : Tree) (i j : ℕ) (f g : Failure) → OrderFailsAt es order t i f → OrderFailsAt es order t j g → (i ≡ j) × (f ≡ g) }
     ensures last { (es : List Program) (order : List ℕ) (t : Tree) (i : ℕ) → ((f : Failure) × OrderFailsAt es order t i f) ↔ EndsShortestFront es order t i }
+{}
+
+/// Why something couldn't be made, removed or copied, as few questions to the tree tell it.
+pub fn reasons()
+    ensures place { (p : Path) (x : Entry) (t : Tree) → made p x t ≡ None → HasNoPlace p (no_place t p) t }
+    ensures removal { (p : Path) (t : Tree) → removed p t ≡ None → StaysThere p (not_gone t p) t }
+    ensures copy { (from p : Path) (t : Tree) → copied (map.get t from) p t ≡ None → HasNoCopy from p (no_copy t from p) t }
 {}

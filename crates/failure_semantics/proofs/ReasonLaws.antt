@@ -8,6 +8,7 @@ use Rattle.fs_semantics.specs.Programs.{made, removed, copied}
 use Rattle.fs_semantics.proofs.Words.{file_at, folder_at, free_at, empty_at}
 use Rattle.fs_semantics.proofs.Keys.{key_from, key_passes}
 use Rattle.fs_semantics.proofs.Trees.{path_eq_same, path_eq_refl}
+use Rattle.failure_semantics.specs.Told.{no_place, not_gone, no_copy}
 use Rattle.failure_semantics.specs.Failures.{Reason, Exists, NoFolder, NoFile, NothingThere, NotEmpty, TheRoot, Needs, Always, IsTakenAt, HasChild, HasNoPlace, StaysThere, HasNoCopy}
 
 true_or : (b : Bool) → (b ≡ true) ⊎ (b ≡ false)
@@ -32,12 +33,7 @@ not_none : (t : Tree) (p : Path) → IsTakenAt t p → is_none t p ≡ false
 not_none t [] h = refl
 not_none t (s ∷ p) h = elim h [ inl e ↦ cc | inr x ↦ ap is_no_entry x.1 ]
 
--- the reason why nothing can be made, where that is so
-pub no_place : Tree → Path → Reason
-no_place t p = cond (is_none t p) NoFolder Exists
-
 pub place_lacks : (t : Tree) (p : Path) (x : Entry) → made p x t ≡ None → HasNoPlace p (no_place t p) t
-unfolding no_place
 place_lacks t p x h = elim (true_or (is_none t p)) [
   | inl free ↦ subst (λ b. HasNoPlace p (cond b NoFolder Exists) t) (sym free)
       ((free_at t p).0 free, (λ above. no_folder (is_none t p) (is_dir t (parent p)) (map.insert t p x) h free ((folder_at t (parent p)).1 above)))
@@ -50,7 +46,6 @@ place_lacks t p x h = elim (true_or (is_none t p)) [
     no_folder false b u h e k = cc
 
 pub place_reason : (t : Tree) (p : Path) (r : Reason) → HasNoPlace p r t → r ≡ no_place t p
-unfolding no_place
 place_reason t p Exists h = sym (ap (λ b. cond b NoFolder Exists) (not_none t p h))
 place_reason t p NoFolder h = sym (ap (λ b. cond b NoFolder Exists) ((free_at t p).1 h.0))
 place_reason t p NoFile h = absurd h
@@ -67,10 +62,6 @@ has_child t p h = let k = key_from (λ q. path_eq (parent q) p) t h in (k.0, k.1
 
 child_passes : (t : Tree) (p : Path) → HasChild t p → list_any (λ q. path_eq (parent q) p) (map.keys t) ≡ true
 child_passes t p h = key_passes (λ q. path_eq (parent q) p) t h.0 h.1 (ap (λ r. path_eq r p) h.2 ∙ path_eq_refl p)
-
--- the reason why nothing can be removed, where that is so
-pub not_gone : Tree → Path → Reason
-not_gone t p = cond (is_none t p) NothingThere (cond (is_empty_dir t p) TheRoot NotEmpty)
 
 -- what isn't free, and neither a file nor a link, is a folder
 is_folder : (t : Tree) (p : Path) → is_none t p ≡ false → is_file t p ≡ false → is_link t p ≡ false → IsFolderAt t p
@@ -105,7 +96,6 @@ any_child true false e h = cc
 any_child false b e h = cc
 
 pub removal_lacks : (t : Tree) (p : Path) → removed p t ≡ None → StaysThere p (not_gone t p) t
-unfolding not_gone
 removal_lacks t p h =
     let s = stays (is_file t p) (is_link t p) (is_root p) (is_empty_dir t p) (map.remove t p) h in
     elim (true_or (is_none t p)) [
@@ -132,7 +122,6 @@ full t p h = off_and (is_dir t p) _ (child_passes t p h)
     off_and a false h = cc
 
 pub removal_reason : (t : Tree) (p : Path) (r : Reason) → StaysThere p r t → r ≡ not_gone t p
-unfolding not_gone
 removal_reason t p NothingThere h = sym (ap (λ b. cond b NothingThere (cond (is_empty_dir t p) TheRoot NotEmpty)) ((free_at t p).1 h))
 removal_reason t p NotEmpty h =
     sym (ap (λ b. cond b NothingThere (cond (is_empty_dir t p) TheRoot NotEmpty)) (not_free t p h.0) ∙ ap (λ b. cond b TheRoot NotEmpty) (full t p h.1))
@@ -147,15 +136,10 @@ removal_reason t p Always h = absurd h
 
 -- ---- a copy
 
--- the reason why no file can be copied, where that is so
-pub no_copy : Tree → Path → Path → Reason
-no_copy t from p = cond (is_file t from) (no_place t p) NoFile
-
 not_no_file : (t : Tree) (p : Path) (r : Reason) → HasNoPlace p r t → IsFileAt t p → IsFileAt t p
 not_no_file t p r h f = f
 
 with_file : (t : Tree) (from p : Path) → IsFileAt t from → HasNoPlace p (no_place t p) t → HasNoCopy from p (no_place t p) t
-unfolding no_place
 with_file t from p file h = elim (is_none t p) as (λ b. HasNoPlace p (cond b NoFolder Exists) t → HasNoCopy from p (cond b NoFolder Exists) t) [
   | true ↦ λ k. (file, k)
   | false ↦ λ k. (file, k)
@@ -165,7 +149,6 @@ copy_made : (t : Tree) (from p : Path) (r : Option Entry) (content : List ℕ) �
 copy_made t from p r content e h = ap (λ s. copied s p t) (sym e) ∙ h
 
 pub copy_lacks : (t : Tree) (from p : Path) → copied (map.get t from) p t ≡ None → HasNoCopy from p (no_copy t from p) t
-unfolding no_copy
 copy_lacks t from p h = elim (true_or (is_file t from)) [
   | inl file ↦
       let there = (file_at t from).0 file in
@@ -179,11 +162,9 @@ not_true true h = absurd (h refl)
 not_true false h = refl
 
 copy_with : (t : Tree) (from p : Path) (r : Reason) → IsFileAt t from → HasNoPlace p r t → r ≡ no_copy t from p
-unfolding no_copy
 copy_with t from p r file h = place_reason t p r h ∙ sym (ap (λ b. cond b (no_place t p) NoFile) ((file_at t from).1 file))
 
 pub copy_reason : (t : Tree) (from p : Path) (r : Reason) → HasNoCopy from p r t → r ≡ no_copy t from p
-unfolding no_copy
 copy_reason t from p NoFile h = sym (ap (λ b. cond b (no_place t p) NoFile) (not_true (is_file t from) (λ f. h ((file_at t from).0 f))))
 copy_reason t from p Exists h = copy_with t from p Exists h.0 h.1
 copy_reason t from p NoFolder h = copy_with t from p NoFolder h.0 h.1
