@@ -54,3 +54,13 @@ module _ (es : List Program) where
     ends = ends;
     fails = fails;
   }
+
+  -- an order that ends in Error has a number
+  pub long_enough : (order : List ℕ) (t : Tree) → outcome es order t ≡ None → 0 < length order
+  long_enough [] t h = cc
+  long_enough (i ∷ order) t h = omega arith
+
+pub all_at : (P : ℕ → Type 0) (xs : List ℕ) (k : ℕ) → AllByRecursion P xs → k < length xs → P (slice_index_or xs k 0)
+all_at P [] k h b = absurd (omega (arith, b))
+all_at P (x ∷ xs) zero h b = h.0
+all_at P (x ∷ xs) (suc k) h b = all_at P xs k h.1 (omega (arith, b))

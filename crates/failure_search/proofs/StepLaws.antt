@@ -1,5 +1,5 @@
 -- Steps as programs in the order of their numbers.
-use Rattle.std.proofs.Common.{◌≡◌, ◌⊎◌, inl, inr, ℕ, zero, suc, ◌+◌, ◌<◌, ◌≤◌, List, [], ◌∷◌, ◌++◌, length, take, drop, map, get_or, Some, None, refl, sym, ap, subst, ◌∙◌, arith}
+use Rattle.std.proofs.Common.{◌≡◌, ◌⊎◌, inl, inr, ℕ, zero, suc, ◌+◌, ◌-◌, ◌<◌, ◌≤◌, List, [], ◌∷◌, ◌++◌, length, take, drop, map, get_or, Some, None, refl, sym, ap, subst, ◌∙◌, arith}
 use Rattle.std.specs.Prelude.{slice_index_or}
 use Rattle.std.specs.List.{AllByRecursion}
 use Rattle.fs_semantics.specs.FileTree.{Tree}
@@ -9,7 +9,10 @@ use Rattle.fs_semantics.specs.Orders.{outcome, up_from}
 use Rattle.fs_lang.specs.declared.program.Program.{Program}
 use Rattle.fs_lang.specs.Meaning.{program_of, programs_in}
 use Rattle.failure_semantics.specs.Failures.{Failure, Choice, FailsIn, FailInSteps}
-use Rattle.failure_search.specs.Found.{LeadsInto}
+use Rattle.fs_lang.specs.Sizes.{programs_size}
+use Rattle.failure_search.specs.declared.fronts.Searched.{Searched}
+use Rattle.failure_search.specs.declared.fronts.Searched.TheVariants as searched
+use Rattle.failure_search.specs.Found.{LeadsInto, IsSearched}
 
 pub numbers_below : (j n m : ℕ) → j + n ≤ m → AllByRecursion (λ i. i < m) (up_from j n)
 numbers_below j zero m h = tt
@@ -129,3 +132,73 @@ behind_leads es n t u b h e v inner c f fails =
     let many = long_map es in
     subst (λ ps. FailInSteps c ps t f) (sym (same_list es))
     (rest_leads (map program_of es) n t u h (omega (arith, b, many)) c f (subst (λ ps. FailInSteps c ps u f) (same_list (drop n es) ∙ ap listed (sym (drop_map es n))) (inner c f fails)))
+
+-- ---- what the search in the first of them tells
+
+-- the front of so many ends in the tree, and the next step fails from it
+pub record IsStep (steps : List Program) (n i : ℕ) (t u : Tree) : Type 0 where
+  pub below : i < length (up_from 0 n)
+  pub ends : outcome (map program_of steps) (take i (up_from 0 n)) t ≡ Some u
+  pub fails : run (slice_index_or (map program_of steps) (slice_index_or (up_from 0 n) i 0) Id) u ≡ None
+
+pub a_step : (steps : List Program) (n i : ℕ) (order given : List ℕ) (x : Searched) (t u : Tree) → given ≡ order → order ≡ up_from 0 n → x ≡ searched.Fails i u → IsSearched (map program_of steps) given t x → IsStep steps n i t u
+a_step steps n i order given x t u same numbers is h =
+    let k = subst (IsSearched (map program_of steps) given t) is h in
+    let all = same ∙ numbers in
+    record {
+      below = subst (λ o. i < length o) all k.0;
+      ends = subst (λ o. outcome (map program_of steps) (take i o) t ≡ Some u) all k.1;
+      fails = subst (λ o. run (slice_index_or (map program_of steps) (slice_index_or o i 0) Id) u ≡ None) all k.2;
+    }
+
+pub all_end : (steps : List Program) (n : ℕ) (order given : List ℕ) (x : Searched) (t u : Tree) → given ≡ order → order ≡ up_from 0 n → x ≡ searched.Ends u → IsSearched (map program_of steps) given t x
+    → outcome (map program_of steps) (up_from 0 n) t ≡ Some u
+all_end steps n order given x t u same numbers is h =
+    let k = subst (IsSearched (map program_of steps) given t) is h in
+    subst (λ o. outcome (map program_of steps) o t ≡ Some u) (same ∙ numbers) k
+
+take_rest : (steps : List Program) (n : ℕ) → take (length steps - n) (drop n steps) ≡ drop n steps
+take_rest steps n = take_long (drop n steps) (length steps - n) (long_drop steps n)
+  where
+    long_drop : (xs : List Program) (n : ℕ) → length (drop n xs) ≤ length xs - n
+    long_drop xs zero = omega arith
+    long_drop [] (suc n) = omega arith
+    long_drop (x ∷ xs) (suc n) = let rest = long_drop xs n in omega (arith, rest)
+
+    take_long : (xs : List Program) (m : ℕ) → length xs ≤ m → take m xs ≡ xs
+    take_long [] zero h = refl
+    take_long [] (suc m) h = refl
+    take_long (x ∷ xs) zero h = absurd (omega (arith, h))
+    take_long (x ∷ xs) (suc m) h = ap (λ ys. x ∷ ys) (take_long xs m (omega (arith, h)))
+
+pub rest_run : (steps : List Program) (n : ℕ) (t u : Tree) → n ≤ length steps → outcome (map program_of steps) (up_from 0 n) t ≡ Some u → run_all (programs_in steps) t ≡ None
+    → run_all (programs_in (take (length steps - n) (drop n steps))) u ≡ None
+rest_run steps n t u b h e = ap (λ xs. run_all (programs_in xs) u) (take_rest steps n) ∙ behind_fails steps n t u b h e
+
+pub rest_shorter : (steps : List Program) (n : ℕ) (t : Tree) → n ≤ length steps → (0 < length steps → 0 < n) → run_all (programs_in steps) t ≡ None → length (take (length steps - n) (drop n steps)) < length steps
+rest_shorter [] n t b f e = cc
+rest_shorter (x ∷ steps) n t b f e =
+    let same = ap length (take_rest (x ∷ steps) n) in
+    let less = shorter steps n (f (omega arith)) in
+    omega (arith, same, less)
+  where
+    long_drop : (xs : List Program) (n : ℕ) → length (drop n xs) ≤ length xs
+    long_drop xs zero = omega arith
+    long_drop [] (suc n) = omega arith
+    long_drop (y ∷ xs) (suc n) = let rest = long_drop xs n in omega (arith, rest)
+
+    shorter : (xs : List Program) (n : ℕ) → 0 < n → length (drop n (x ∷ xs)) < suc (length xs)
+    shorter xs zero h = absurd (omega (arith, h))
+    shorter xs (suc n) h = let rest = long_drop xs n in omega (arith, rest)
+
+pub rest_smaller : (steps : List Program) (n : ℕ) → programs_size (programs_in (take (length steps - n) (drop n steps))) ≤ programs_size (programs_in steps)
+rest_smaller steps n = let same = ap (λ xs. programs_size (programs_in xs)) (take_rest steps n) in let less = size_drop steps n in omega (arith, same, less)
+  where
+    size_drop : (xs : List Program) (n : ℕ) → programs_size (programs_in (drop n xs)) ≤ programs_size (programs_in xs)
+    size_drop xs zero = omega arith
+    size_drop [] (suc n) = omega arith
+    size_drop (y ∷ xs) (suc n) = let rest = size_drop xs n in omega (arith, rest)
+
+pub rest_leads_in : (steps : List Program) (n : ℕ) (t u : Tree) → n ≤ length steps → outcome (map program_of steps) (up_from 0 n) t ≡ Some u
+    → (e : model.Program) (v : Tree) → LeadsInto e v (programs_in (take (length steps - n) (drop n steps))) u → LeadsInto e v (programs_in steps) t
+rest_leads_in steps n t u b h e v inner = behind_leads steps n t u b h e v (subst (λ xs. LeadsInto e v (programs_in xs) u) (take_rest steps n) inner)

@@ -62,7 +62,7 @@ fn find<'a>(
     tree: &Tree,
 ) -> Result<Failure<'a>, NoMemory>
     requires { run (program_of program.now) tree.now ≡ None }
-    ensures { IfOk result (Finds (reason_of why) (program_of program.now) tree.now) }
+    ensures { IfOk result (Finds (reason_of why.entry) (program_of program.now) tree.now) }
 {
     reasons();
     let reason = match program {
@@ -90,7 +90,7 @@ fn find_in_steps<'a>(
     tree: &Tree,
 ) -> Result<Failure<'a>, NoMemory>
     requires { run_all (programs_in steps.now) tree.now ≡ None }
-    ensures { IfOk result (FindsInSteps (reason_of why) (programs_in steps.now) tree.now) }
+    ensures { IfOk result (FindsInSteps (reason_of why.entry) (programs_in steps.now) tree.now) }
 {
     let (step, reached) = failing_step(alloc, steps, tree)?;
     find(alloc, why, step, &reached)

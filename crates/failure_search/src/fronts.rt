@@ -20,6 +20,7 @@ pub(crate) enum Searched {
 }
 
 /// The place at which an order that ends in Error does so. Each turn halves the part of the order in which it lies.
+#[tactic(auto, using(crate::proofs::PlaceLaws::all_ahead, crate::proofs::PlaceLaws::long_enough, crate::proofs::PlaceLaws::take_whole))]
 fn narrowed(
     alloc: Global,
     programs: &[Program],

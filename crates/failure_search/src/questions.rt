@@ -10,37 +10,37 @@ ghost use Rattle.fs_lang.specs.Meaning.{entry_of, test_of};
 use fs_lang::{Entry, Path, Test, Tree};
 use fs_semantics::paths;
 
-fn is_file_entry(entry: Option<&Entry>) -> bool
-    ensures { result ≡ is_file_entry (option_map (λ e. entry_of e.now) entry) }
+fn is_file_entry(found: Option<&Entry>) -> bool
+    ensures { result ≡ is_file_entry (option_map (λ e. entry_of e.now) found.entry) }
 {
-    match entry {
+    match found {
         Some(Entry::File(_)) => true,
         Some(Entry::Folder) | Some(Entry::Link(_)) | None => false,
     }
 }
 
-fn is_link_entry(entry: Option<&Entry>) -> bool
-    ensures { result ≡ is_link_entry (option_map (λ e. entry_of e.now) entry) }
+fn is_link_entry(found: Option<&Entry>) -> bool
+    ensures { result ≡ is_link_entry (option_map (λ e. entry_of e.now) found.entry) }
 {
-    match entry {
+    match found {
         Some(Entry::Link(_)) => true,
         Some(Entry::Folder) | Some(Entry::File(_)) | None => false,
     }
 }
 
-fn is_folder_entry(entry: Option<&Entry>) -> bool
-    ensures { result ≡ is_folder_entry (option_map (λ e. entry_of e.now) entry) }
+fn is_folder_entry(found: Option<&Entry>) -> bool
+    ensures { result ≡ is_folder_entry (option_map (λ e. entry_of e.now) found.entry) }
 {
-    match entry {
+    match found {
         Some(Entry::Folder) => true,
         Some(Entry::File(_)) | Some(Entry::Link(_)) | None => false,
     }
 }
 
-fn is_no_entry(entry: Option<&Entry>) -> bool
-    ensures { result ≡ is_no_entry (option_map (λ e. entry_of e.now) entry) }
+fn is_no_entry(found: Option<&Entry>) -> bool
+    ensures { result ≡ is_no_entry (option_map (λ e. entry_of e.now) found.entry) }
 {
-    match entry {
+    match found {
         None => true,
         Some(_) => false,
     }

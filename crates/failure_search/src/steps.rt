@@ -15,6 +15,7 @@ use std::alloc::Global;
 /// So many steps are run at once.
 const BLOCK: usize = 65_536;
 
+#[tactic(auto, using(crate::proofs::StepLaws::one_more))]
 fn numbers(alloc: Global, n: usize) -> Result<Seq<u32>, NoMemory>
     requires { n ≤ 65536 }
     ensures { IfOk result (λ order. order ≡ up_from 0 n) }
