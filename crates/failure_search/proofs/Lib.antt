@@ -1,0 +1,4 @@
+pub mod QuestionLaws
+pub mod PlaceLaws
+pub mod StepLaws
+pub mod FindLaws

@@ -1,0 +1,4 @@
+pub mod ReasonLaws
+pub mod Found
+pub mod Once
+pub mod OrderLaws
