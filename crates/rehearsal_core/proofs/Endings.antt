@@ -1,16 +1,16 @@
 -- From what there is to say, and how it was told, to what the status tells.
-use Rattle.std.proofs.Common.{◌≡◌, ◌≢◌, ◌≤◌, inl, inr, ℕ, List, [], ◌∷◌, Option, Some, None, refl, sym, ap, subst, ◌∙◌, arith}
-use Rattle.std.specs.Prelude.{String}
+use Rattle.std.proofs.Common.{◌≡◌, ◌≢◌, ◌⊎◌, ◌≤◌, inl, inr, ℕ, List, [], ◌∷◌, map, Option, Some, None, refl, sym, ap, subst, ◌∙◌, arith}
+use Rattle.std.specs.Prelude.{String, string_bytes}
 use Rattle.std.specs.declared.alloc.Global.{Global}
 use Rattle.rh_base.specs.declared.fault.Refusal.{Refusal}
 use Rattle.rh_base.specs.Causes.{Rose}
-use Rattle.rh_base.specs.Shelf.{Files, told_at, IsMissing}
+use Rattle.rh_base.specs.Shelf.{Held, Untold, Only, ElseEmpty, told_at, IsMissing}
 use Rattle.rh_base.specs.Sink.{appended}
 use Rattle.command_line.specs.declared.table.Ask.{Ask}
 use Rattle.command_line.specs.declared.table.Ask.TheVariants as ask
 use Rattle.command_line.specs.declared.request.Request.{Request}
 use Rattle.command_line.specs.Table.{ByRole, usage_line}
-use Rattle.request_files.specs.Files.{AnyNamed, AllTold}
+use Rattle.request_files.specs.Files.{FirstFailed, AllTold}
 use Rattle.known_inputs.specs.declared.inputs.Inputs.{Inputs}
 use Rattle.fs_semantics.specs.Programs.{Program}
 use Rattle.orders.specs.Relation.{Relation}
@@ -21,30 +21,31 @@ use Rattle.repair_report.specs.Told.{IsRepairTold}
 use Rattle.wanted_entry.specs.declared.wanted.Wanted.{Wanted}
 use Rattle.entry_report.specs.Told.{IsEntryTold}
 use Rattle.verdict_report.specs.declared.report.Report.{Report}
-use Rattle.rehearsal_core.specs.Inputs.{files_of, Requests, RequestsNone, IsHeld, Reports, Refuses, FailsToRead, IsAnswerTo, SaysOf, Says}
+use Rattle.rehearsal_core.specs.Inputs.{files_of, Requests, RequestsNone, IsHeld, LacksFile, Reports, Refuses, FailsToRead, IsAnswerTo}
 use Rattle.rehearsal_core.specs.declared.run.Ending.{Ending}
 use Rattle.rehearsal_core.specs.declared.run.Ending.TheVariants as ending
 use Rattle.rehearsal_core.specs.Runs.{Run, Appends, IsLeft, IsSound, HasFailed, AppendsFront}
-use Rattle.rehearsal_core.proofs.HeadlineLaws.{answered}
-use Rattle.rehearsal_core.specs.Answers.{IsOfReport, HasCause, NoFaults, Tells, Owes, Answers, TellsLine, TellsReport, refusal_line, read_fault_line, memory_line}
+use Rattle.rehearsal_core.proofs.Excluding.{OneRequest, NoCatalogRefusal, NoGraphRefusal, NoReportRefusal, OneList, NoFault, no_refusal, no_report_lacks, no_refusal_lacks}
+use Rattle.rehearsal_core.specs.Steps.{SaysOf, Says, TellsLine, TellsReport, Owed, Ended}
+use Rattle.rehearsal_core.specs.Answers.{IsOfReport, HasCause, Tells, Owes, refusal_line, read_fault_line, memory_line}
 
 -- a file that is told isn't missing
-not_missing : (held : Option Files) (name bytes : List ℕ) → told_at held name ≡ Some bytes → IsMissing held name → ⊥
-not_missing None name bytes h k = k
-not_missing (Some files) name bytes h k = let no : ◌≡◌ {A = Option (List ℕ)} (Some bytes) None = sym h ∙ k in cc
+not_missing : (held : Held) (name bytes : List ℕ) → told_at held name ≡ Some bytes → IsMissing held name → ⊥
+not_missing Untold name bytes h k = k
+not_missing (Only files) name bytes h k = let no : ◌≡◌ {A = Option (List ℕ)} (Some bytes) None = sym h ∙ k in cc
+not_missing (ElseEmpty files) name bytes h k = k
 
 none_made : (words : List (String Global)) (request : Request) → Requests words request → RequestsNone words → ⊥
 none_made words request made none = none request made
 
--- words make one request at most, an entry that is wanted aside
-one_request : (words : List (String Global)) (r s : Request) → Requests words r → Requests words s → ◌≡◌ {A = Request} (record r { wanted = None }) (record s { wanted = None })
-one_request words r s h k = let both : ◌≡◌ {A = Option Request} (Some (record r { wanted = None })) (Some (record s { wanted = None })) = sym h.given.plain ∙ k.given.plain in cc
-
--- no file that is told is missing
-none_missing : (held : Option Files) (files : ByRole (List ℕ)) (name : List ℕ) → AllTold held files → AnyNamed name files → IsMissing held name → ⊥
-none_missing held [] name told named missing = named
-none_missing held (f ∷ files) name told (inl here) missing = not_missing held f.1 told.0.0 told.0.1 (subst (λ n. IsMissing held n) (sym here) missing)
-none_missing held (f ∷ files) name told (inr more) missing = none_missing held files name told.1 more missing
+-- where each file is told, only a count of faults that rose keeps one from being read
+none_failed : (held : Held) (before now : ℕ) (files : ByRole (List ℕ)) (name : List ℕ) → (Rose before now → ⊥) → AllTold held files → FirstFailed held before now files name → ⊥
+none_failed held before now [] name never told failed = failed
+none_failed held before now (f ∷ files) name never told (inl here) = elim here.1 [
+  | inl rose ↦ never rose
+  | inr missing ↦ not_missing held f.1 told.0.0 told.0.1 (subst (λ n. IsMissing held n) (sym here.0) missing)
+]
+none_failed held before now (f ∷ files) name never told (inr later) = none_failed held before now files name never told.1 later.1
 
 -- ---- what each status tells, and what follows of which there are
 
@@ -65,7 +66,7 @@ memory_tells run status is front out = record {
   known = inr (inr (inr (inr (inr is))));
 }
 
-memory_owes : (run : Run) (status : ℕ) → status ≡ 8 → IsSound run.out → Owes run status
+memory_owes : (run : Run) (status : ℕ) → status ≡ 8 → IsSound run.out → Owed run status
 memory_owes run status is sound = record {
   usage = λ none. inr (inr is);
   decided = λ held faults. inr (inr is);
@@ -74,8 +75,11 @@ memory_owes run status is sound = record {
   untold = λ failed. inr is;
 }
 
-pub memory_answers : (run : Run) (status : ℕ) → status ≡ 8 → AppendsFront memory_line run.err → IsLeft run.out → IsSound run.out → Answers run status
-memory_answers run status is front out sound = answered run status (memory_tells run status is front out) (memory_owes run status is sound)
+ended : (run : Run) (status : ℕ) → Tells run status → Owed run status → Ended run status
+ended run status tells owed = record { tells = tells; owed = owed }
+
+pub memory_ends : (run : Run) (status : ℕ) → status ≡ 8 → AppendsFront memory_line run.err → IsLeft run.out → IsSound run.out → Ended run status
+memory_ends run status is front out sound = ended run status (memory_tells run status is front out) (memory_owes run status is sound)
 
 -- ---- a report was to be written
 
@@ -115,14 +119,14 @@ few ask.Migrate conflicts i report answer = inl (omega (arith, answer.0))
 few ask.Repair conflicts i report answer = few_repaired conflicts _ _ _ report answer.told
 few ask.Ensures conflicts i report answer = few_ensured conflicts _ _ _ _ report answer.told
 
-has_status : (words : List (String Global)) (held : Option Files) (report : Report) → Reports words held report → IsOfReport report.status
+has_status : (words : List (String Global)) (held : Held) (report : Report) → Reports words held report → IsOfReport report.status
 has_status words held report reports = few reports.on.loaded.ask reports.on.loaded.conflicts reports.on.loaded.inputs report reports.on.says
 
-pub report_answers : (run : Run) (status : ℕ) (report : Report) → Reports run.words run.held report → run.shelf_now ≡ run.shelf_before
-    → TellsReport report run.out run.err status → Answers run status
-report_answers run status report reports read (inl told) =
+pub report_ends : (run : Run) (status : ℕ) (report : Report) → Reports run.words run.held report → run.shelf_now ≡ run.shelf_before
+    → TellsReport report run.out run.err status → Ended run status
+report_ends run status report reports read (inl told) =
     let is : IsOfReport status = subst IsOfReport (sym told.0) (has_status run.words run.held report reports) in
-    answered run status
+    ended run status
     (record {
       report = λ e. (report, reports, sym told.0, told.1, told.3);
       refused = λ e. absurd (not_report 4 (omega arith) (omega arith) status e is);
@@ -139,8 +143,8 @@ report_answers run status report reports read (inl told) =
       unwritten = λ failed. absurd (failed told.2);
       untold = λ failed. absurd (failed told.4);
     })
-report_answers run status report reports read (inr (inl told)) =
-    answered run status
+report_ends run status report reports read (inr (inl told)) =
+    ended run status
     (record {
       report = λ e. absurd (not_report 7 (omega arith) (omega arith) status told.0 e);
       refused = λ e. absurd (omega (arith, told.0, e));
@@ -157,7 +161,7 @@ report_answers run status report reports read (inr (inl told)) =
       unwritten = λ failed. told.0;
       untold = λ failed. inl told.0;
     })
-report_answers run status report reports read (inr (inr told)) = memory_answers run status told.0 told.3 told.1 told.2
+report_ends run status report reports read (inr (inr told)) = memory_ends run status told.0 told.3 told.1 told.2
 
 -- a line was to be told on err: its cause, and what is known of a cause
 record Cause (run : Run) (at : ℕ) (line : List ℕ) : Type 0 where
@@ -197,9 +201,9 @@ told_line run status at line cause out is told = elim cause [
   }
 ]
 
-line_answers : (run : Run) (status at : ℕ) (line : List ℕ) → Cause run at line → IsLeft run.out → IsSound run.out → TellsLine at line run.err status → Answers run status
-line_answers run status at line cause out sound (inl told) =
-    answered run status
+line_ends : (run : Run) (status at : ℕ) (line : List ℕ) → Cause run at line → IsLeft run.out → IsSound run.out → TellsLine at line run.err status → Ended run status
+line_ends run status at line cause out sound (inl told) =
+    ended run status
     (told_line run status at line cause.has out told.0 told.1)
     (record {
       usage = λ none. inl (told.0 ∙ cause.usage none);
@@ -208,8 +212,8 @@ line_answers run status at line cause out sound (inl told) =
       unwritten = λ failed. absurd (failed sound);
       untold = λ failed. absurd (failed told.2);
     })
-line_answers run status at line cause out sound (inr (inl told)) =
-    answered run status
+line_ends run status at line cause out sound (inr (inl told)) =
+    ended run status
     (record {
       report = λ e. absurd (not_report 7 (omega arith) (omega arith) status told.0 e);
       refused = λ e. absurd (omega (arith, told.0, e));
@@ -226,12 +230,12 @@ line_answers run status at line cause out sound (inr (inl told)) =
       unwritten = λ failed. absurd (failed sound);
       untold = λ failed. inl told.0;
     })
-line_answers run status at line cause out sound (inr (inr told)) = memory_answers run status told.0 told.1 out sound
+line_ends run status at line cause out sound (inr (inr told)) = memory_ends run status told.0 told.1 out sound
 
-pub refusal_answers : (run : Run) (status : ℕ) (r : Refusal) → Refuses run.words run.held r → run.shelf_now ≡ run.shelf_before → IsLeft run.out → IsSound run.out
-    → TellsLine 4 (refusal_line r) run.err status → Answers run status
-refusal_answers run status r refuses read out sound told =
-    line_answers run status 4 (refusal_line r)
+pub refusal_ends : (run : Run) (status : ℕ) (r : Refusal) → Refuses run.words run.held r → run.shelf_now ≡ run.shelf_before → IsLeft run.out → IsSound run.out
+    → TellsLine 4 (refusal_line r) run.err status → Ended run status
+refusal_ends run status r refuses read out sound told =
+    line_ends run status 4 (refusal_line r)
     (record {
       has = inl (refl, r, refuses, refl);
       usage = λ none. absurd (none_made run.words refuses.request refuses.made none);
@@ -239,10 +243,10 @@ refusal_answers run status r refuses read out sound told =
       unread = λ failed. absurd (failed read);
     }) out sound told
 
-pub usage_answers : (run : Run) (status : ℕ) → RequestsNone run.words → run.shelf_now ≡ run.shelf_before → IsLeft run.out → IsSound run.out
-    → TellsLine 5 usage_line run.err status → Answers run status
-usage_answers run status none read out sound told =
-    line_answers run status 5 usage_line
+pub usage_ends : (run : Run) (status : ℕ) → RequestsNone run.words → run.shelf_now ≡ run.shelf_before → IsLeft run.out → IsSound run.out
+    → TellsLine 5 usage_line run.err status → Ended run status
+usage_ends run status none read out sound told =
+    line_ends run status 5 usage_line
     (record {
       has = inr (inl (refl, none, refl));
       usage = λ again. refl;
@@ -250,19 +254,16 @@ usage_answers run status none read out sound told =
       unread = λ failed. absurd (failed read);
     }) out sound told
 
-pub read_fault_answers : (run : Run) (status : ℕ) (name : List ℕ) → FailsToRead run.words run.held run.shelf_before run.shelf_now name → IsLeft run.out → IsSound run.out
-    → TellsLine 6 (read_fault_line name) run.err status → Answers run status
-read_fault_answers run status name fails out sound told =
-    line_answers run status 6 (read_fault_line name)
+pub read_fault_ends : OneRequest → (run : Run) (status : ℕ) (name : List ℕ) → FailsToRead run.words run.held run.shelf_before run.shelf_now name → IsLeft run.out → IsSound run.out
+    → TellsLine 6 (read_fault_line name) run.err status → Ended run status
+read_fault_ends one run status name fails out sound told =
+    line_ends run status 6 (read_fault_line name)
     (record {
       has = inr (inr (refl, name, fails, refl));
       usage = λ none. absurd (none_made run.words fails.request fails.made none);
-      decided = λ held shelf. elim fails.cause [
-        | inl rose ↦ absurd (shelf rose)
-        | inr missing ↦
-            let same = one_request run.words fails.request held.request fails.made held.made in
-            absurd (none_missing run.held (files_of held.request) name held.told (subst (λ q. AnyNamed name (files_of q)) same fails.named) missing)
-      ];
+      decided = λ held shelf.
+          absurd (none_failed run.held run.shelf_before run.shelf_now (files_of fails.request) name shelf
+          (subst (λ q. AllTold run.held (files_of q)) (one (map string_bytes run.words) held.request fails.request held.made fails.made) held.told) fails.first);
       unread = λ failed. refl;
     }) out sound told
 
@@ -271,22 +272,49 @@ read_fault_answers run status name fails out sound told =
 pub never_rose : Rose 0 0 → ⊥
 never_rose h = absurd (omega (arith, h))
 
-pub never_a_write_fault : (run : Run) (status : ℕ) → Answers run status → (HasFailed run.out → ⊥) → (HasFailed run.err → ⊥) → status ≡ 7 → ⊥
-never_a_write_fault run status answers out err is = elim (answers.tells.write is) [ inl o ↦ out o.0 | inr e ↦ err e.0 ]
+pub never_a_write_fault : (run : Run) (status : ℕ) → Tells run status → (HasFailed run.out → ⊥) → (HasFailed run.err → ⊥) → status ≡ 7 → ⊥
+never_a_write_fault run status tells out err is = elim (tells.write is) [ inl o ↦ out o.0 | inr e ↦ err e.0 ]
 
-pub never_a_read_fault : (run : Run) (status : ℕ) → Answers run status → NoFaults run → IsHeld run.words run.held → status ≡ 6 → ⊥
-never_a_read_fault run status answers none held is = elim (answers.owes.decided held none) [
-  | inl e ↦ absurd (not_report 6 (omega arith) (omega arith) status is e)
-  | inr (inl e) ↦ absurd (omega (arith, e, is))
-  | inr (inr e) ↦ absurd (omega (arith, e, is))
+-- nor a read, where each name can be read
+never_failed : (held : Held) (before now : ℕ) (files : ByRole (List ℕ)) (name : List ℕ) → (Rose before now → ⊥) → ((n : List ℕ) → IsMissing held n → ⊥) → FirstFailed held before now files name → ⊥
+never_failed held before now [] name never there failed = failed
+never_failed held before now (f ∷ files) name never there (inl here) = elim here.1 [ inl rose ↦ never rose | inr missing ↦ there name missing ]
+never_failed held before now (f ∷ files) name never there (inr later) = never_failed held before now files name never there later.1
+
+pub never_a_read_fault : (run : Run) (status : ℕ) → Tells run status → (Rose run.shelf_before run.shelf_now → ⊥) → ((n : List ℕ) → IsMissing run.held n → ⊥) → status ≡ 6 → ⊥
+never_a_read_fault run status tells never there is =
+    let told = tells.read is in
+    never_failed run.held run.shelf_before run.shelf_now (files_of told.1.request) told.0 never there told.1.first
+
+-- ---- what follows from what is told
+
+-- where a file is missing
+lacking : OneRequest → (run : Run) (status : ℕ) → Tells run status → LacksFile run.words run.held → (status ≡ 6) ⊎ ((status ≡ 7) ⊎ (status ≡ 8))
+lacking one run status tells lacks = elim tells.known [
+  | inl is ↦ let told = tells.report is in absurd (no_report_lacks one run.words run.held lacks told.0 told.1)
+  | inr (inl is) ↦ let told = tells.refused is in absurd (no_refusal_lacks one run.words run.held lacks told.0 told.1)
+  | inr (inr (inl is)) ↦ absurd ((tells.words is).0 lacks.request lacks.made)
+  | inr (inr (inr others)) ↦ others
 ]
+
+pub owes : NoCatalogRefusal → NoGraphRefusal → NoReportRefusal → OneList → NoFault → OneRequest → (run : Run) (status : ℕ) → Ended run status → Owes run status
+owes catalogs graphs programs lists faults one run status ends = record {
+  usage = ends.owed.usage;
+  decided = ends.owed.decided;
+  refused = λ held r refuses is.
+      let told = ends.tells.report is in no_refusal catalogs graphs programs lists faults one run.words run.held told.0 r held told.1 refuses;
+  missing = lacking one run status ends.tells;
+  unread = ends.owed.unread;
+  unwritten = ends.owed.unwritten;
+  untold = ends.owed.untold;
+}
 
 -- ---- from the request to the words that make it
 
-pub says_of_words : (words : List (String Global)) (request : Request) (held : Option Files) (before now : ℕ) (e : Ending)
+pub says_of_words : (words : List (String Global)) (request : Request) (held : Held) (before now : ℕ) (e : Ending)
     → Requests words request → SaysOf request held before now e → Says words held before now e
 says_of_words words request held before now (ending.Report report) made h = (h.0, record { request = request; made = made; on = h.1 })
 says_of_words words request held before now (ending.Refused r) made h = (h.0, record { request = request; made = made; cause = h.1 })
 says_of_words words request held before now ending.BadWords made h = absurd h
-says_of_words words request held before now (ending.ReadFault name) made h = record { request = request; made = made; named = h.0; cause = h.1 }
+says_of_words words request held before now (ending.ReadFault name) made h = record { request = request; made = made; first = h }
 says_of_words words request held before now ending.Memory made h = h

@@ -17,7 +17,7 @@ use Rattle.known_inputs.specs.Inputs.{wanted_of}
 use Rattle.rehearsal_core.specs.Inputs.{Requests, Reports, IsAnswerTo}
 use Rattle.rehearsal_core.specs.Runs.{Run}
 use Rattle.rehearsal_core.specs.Headline.{ask_for, AsksForVerdict, AsksForEntry, AsksForRepair, Modelled, Judged, IsWell, DependsOnOrder, ChangesAgain, SpendsConflicts, LeavesEntry, MissesEntry, SpendsOnEntry, IsMended, SpendsOnRepair, Headline}
-use Rattle.rehearsal_core.specs.Answers.{WritesReport, Tells, Owes, Answers}
+use Rattle.rehearsal_core.specs.Answers.{WritesReport, Tells}
 
 -- ---- what a report is about
 
@@ -285,7 +285,7 @@ misses_of run (report, reports, same, written, left) =
       | other zero not_verdict not_repair not_entry ↦ absurd (omega (arith, same, zero))
     ]
 
-headline_of : (run : Run) (status : ℕ) → Tells run status → Headline run status
+pub headline_of : (run : Run) (status : ℕ) → Tells run status → Headline run status
 headline_of run status tells = record {
   well = λ asks is. well_of run asks (subst (WritesReport run) is (tells.report (inl (omega (arith, is)))));
   depends = λ is. depends_of run (subst (WritesReport run) is (tells.report (inl (omega (arith, is)))));
@@ -295,7 +295,3 @@ headline_of run status tells = record {
   leaves = λ asks is. leaves_of run asks (subst (WritesReport run) is (tells.report (inl (omega (arith, is)))));
   misses = λ is. misses_of run (subst (WritesReport run) is (tells.report (inr is)));
 }
-
--- what is told has the headline
-pub answered : (run : Run) (status : ℕ) → Tells run status → Owes run status → Answers run status
-answered run status tells owes = record { headline = headline_of run status tells; tells = tells; owes = owes }

@@ -1,5 +1,6 @@
 pub mod Telling
 pub mod HeadlineLaws
+pub mod Excluding
 pub mod Endings
 pub mod ProofLaws
 pub mod LoadLaws

@@ -1,34 +1,34 @@
 -- From the bytes of the files to what is said of the request.
-use Rattle.std.proofs.Common.{◌≡◌, inl, inr, ℕ, ◌<◌, ◌^◌, ◌==◌, Bool, true, false, List, [], ◌∷◌, length, Option, Some, None, Result, Ok, Err, refl, sym, subst, arith, cond}
+use Rattle.std.proofs.Common.{◌≡◌, inl, inr, ℕ, ◌<◌, ◌^◌, ◌==◌, Bool, true, false, List, [], ◌∷◌, length, Some, Result, Ok, Err, refl, sym, subst, arith, cond}
 use Rattle.std.specs.Prelude.{IfOk, IfErr}
 use Rattle.rh_base.specs.declared.fault.Fault.{Fault}
 use Rattle.rh_base.specs.declared.fault.Fault.TheVariants.{Refused, Memory}
 use Rattle.rh_base.specs.declared.fault.Refusal.{Refusal}
 use Rattle.rh_base.specs.Refused.{IfRefused}
-use Rattle.rh_base.specs.Shelf.{Files}
+use Rattle.rh_base.specs.Shelf.{Held}
 use Rattle.command_line.specs.declared.request.Request.{Request}
 use Rattle.command_line.specs.declared.request.Source.TheVariants as source
 use Rattle.command_line.specs.declared.table.Role.TheVariants as role
 use Rattle.command_line.specs.Table.{ByRole, given, place}
-use Rattle.request_files.specs.Files.{AreRead, AreShort, FirstTooLong}
+use Rattle.request_files.specs.Files.{AreRead, AreShort, NoneMissing, FirstTooLong}
 use Rattle.known_inputs.specs.Inputs.{bytes_or_none}
 use Rattle.verdict_report.specs.declared.report.Report.{Report}
 use Rattle.rehearsal_core.specs.declared.inputs.Names.{Names}
 use Rattle.rehearsal_core.specs.declared.inputs.Loaded.{Loaded}
 use Rattle.rehearsal_core.specs.declared.run.Ending.{Ending}
 use Rattle.rehearsal_core.specs.declared.run.Ending.TheVariants as ending
-use Rattle.rehearsal_core.specs.Inputs.{IsLoaded, AreInputs, workload_inputs, IsAnswer, IsAnswerTo, Breaks, BreaksFor, SaysOf}
-use Rattle.rehearsal_core.specs.Loading.{request_about, concluded}
+use Rattle.rehearsal_core.specs.Inputs.{IsLoaded, AreInputs, workload_inputs, IsAnswer, IsAnswerTo, Breaks, BreaksFor}
+use Rattle.rehearsal_core.specs.Steps.{request_about, concluded, SaysOf}
 
 -- the request with the bytes of its files
 abbrev pub loaded_from : Names → ByRole (List ℕ) → Loaded
 loaded_from r files = record { ask = r.ask; conflicts = r.conflicts; inputs = record { node = r.node; wanted = r.wanted; files = files } }
 
-loaded : (held : Option Files) (r : Names) (files : ByRole (List ℕ)) → AreRead held r.ask r.files files → IsLoaded held (request_about r) (loaded_from r files)
+loaded : (held : Held) (r : Names) (files : ByRole (List ℕ)) → AreRead held r.ask r.files files → IsLoaded held (request_about r) (loaded_from r files)
 loaded held r files read = record { asked = refl; conflicts = refl; inputs = (refl, refl, read) }
 
 -- what there is to say of an answer, from what was read and what the answer is
-pub says : (held : Option Files) (r : Names) (files : ByRole (List ℕ)) (before now : ℕ) (said : Result Report Fault) → now ≡ before → AreRead held r.ask r.files files
+pub says : (held : Held) (r : Names) (files : ByRole (List ℕ)) (before now : ℕ) (said : Result Report Fault) → now ≡ before → AreRead held r.ask r.files files
     → IfOk said (IsAnswer (loaded_from r files)) → IfErr said (λ e. IfRefused e (Breaks (loaded_from r files))) → SaysOf (request_about r) held before now (concluded said)
 says held r files before now (Ok report) same read answers refuses = (same, record { loaded = loaded_from r files; stands = loaded held r files read; says = answers })
 says held r files before now (Err (Refused x)) same read answers refuses =
@@ -36,16 +36,16 @@ says held r files before now (Err (Refused x)) same read answers refuses =
 says held r files before now (Err (Memory m)) same read answers refuses = same
 
 -- a file is too long
-pub says_long : (held : Option Files) (r : Names) (before now : ℕ) (x : Refusal) → now ≡ before → FirstTooLong held r.ask r.files x
+pub says_long : (held : Held) (r : Names) (before now : ℕ) (x : Refusal) → now ≡ before → NoneMissing held r.files → FirstTooLong held r.ask r.files x
     → SaysOf (request_about r) held before now (ending.Refused x)
-says_long held r before now x same long = (same, inl long)
+says_long held r before now x same none long = (same, inl (none, long))
 
 -- the same of a workload, of which nothing is read
-workload_loaded : (held : Option Files) (r : Request) (n : ℕ) → r.source ≡ source.Workload n
+workload_loaded : (held : Held) (r : Request) (n : ℕ) → r.source ≡ source.Workload n
     → IsLoaded held r (record { ask = r.ask; conflicts = r.conflicts; inputs = workload_inputs n })
 workload_loaded held r n is = record { asked = refl; conflicts = refl; inputs = subst (λ s. AreInputs held r s (workload_inputs n)) (sym is) refl }
 
-pub says_of_workload : (held : Option Files) (r : Request) (n before now : ℕ) (said : Result Report Fault) → r.source ≡ source.Workload n → now ≡ before
+pub says_of_workload : (held : Held) (r : Request) (n before now : ℕ) (said : Result Report Fault) → r.source ≡ source.Workload n → now ≡ before
     → IfOk said (IsAnswerTo r.ask r.conflicts (workload_inputs n)) → IfErr said (λ e. IfRefused e (BreaksFor r.ask r.conflicts (workload_inputs n)))
     → SaysOf r held before now (concluded said)
 says_of_workload held r n before now (Ok report) is same answers refuses =
@@ -55,7 +55,7 @@ says_of_workload held r n before now (Err (Refused x)) is same answers refuses =
 says_of_workload held r n before now (Err (Memory m)) is same answers refuses = same
 
 -- a request about files of these names is the one with those names
-pub says_of_named : (held : Option Files) (r : Request) (names : ByRole (List ℕ)) (before now : ℕ) (e : Ending) → r.source ≡ source.Files names
+pub says_of_named : (held : Held) (r : Request) (names : ByRole (List ℕ)) (before now : ℕ) (e : Ending) → r.source ≡ source.Files names
     → SaysOf (record r { source = source.Files names }) held before now e → SaysOf r held before now e
 says_of_named held r names before now e is says = subst (λ s. SaysOf (record r { source = s }) held before now e) (sym is) says
 

@@ -6,9 +6,8 @@ use Rattle.rh_base.specs.Causes.{Rose}
 use Rattle.printed_names.specs.Printed.{printed}
 use Rattle.command_line.specs.Table.{usage_line}
 use Rattle.verdict_report.specs.declared.report.Report.{Report}
-use Rattle.rehearsal_core.specs.Runs.{Run, Put, Appends, AppendsFront, IsLeft, IsSound, HasFailed}
-use Rattle.rehearsal_core.specs.Headline.{Headline}
-use Rattle.rehearsal_core.specs.Inputs.{RequestsNone, IsHeld, Reports, Refuses, FailsToRead}
+use Rattle.rehearsal_core.specs.Runs.{Run, Appends, AppendsFront, IsLeft, IsSound, HasFailed}
+use Rattle.rehearsal_core.specs.Inputs.{RequestsNone, IsHeld, LacksFile, Reports, Refuses, FailsToRead}
 
 -- ---- lines
 
@@ -46,7 +45,7 @@ TellsRefusal run = (r : Refusal) × Refuses run.words run.held r × Appends (ref
 abbrev pub TellsUsage : Run → Type 0
 TellsUsage run = RequestsNone run.words × Appends usage_line run.err × IsLeft run.out
 
--- status 6: the file that the words name couldn't be read
+-- status 6: the first file that couldn't be read, of those that the words name, was told on err
 abbrev pub TellsReadFault : Run → Type 0
 TellsReadFault run = (name : List ℕ) × FailsToRead run.words run.held run.shelf_before run.shelf_now name
     × Appends (read_fault_line name) run.err × IsLeft run.out
@@ -91,30 +90,12 @@ pub record Owes (run : Run) (status : ℕ) : Type 0 where
   pub usage : RequestsNone run.words → (status ≡ 5) ⊎ ((status ≡ 7) ⊎ (status ≡ 8))
   -- an input that is told, without faults, gets a report or a refusal
   pub decided : IsHeld run.words run.held → NoFaults run → IsOfReport status ⊎ ((status ≡ 4) ⊎ (status ≡ 8))
+  -- and where a refusal is due there is no report
+  pub refused : IsHeld run.words run.held → (r : Refusal) → Refuses run.words run.held r → IsOfReport status → ⊥
+  -- where a file is missing, nothing is said of the others
+  pub missing : LacksFile run.words run.held → (status ≡ 6) ⊎ ((status ≡ 7) ⊎ (status ≡ 8))
   -- a read that failed is told, unless a write fails too or memory is refused; a write to out that failed is told always
   pub unread : run.shelf_now ≢ run.shelf_before → (status ≡ 6) ⊎ ((status ≡ 7) ⊎ (status ≡ 8))
   pub unwritten : (IsSound run.out → ⊥) → status ≡ 7
   -- a write to err that failed leaves nothing else to be told
   pub untold : (IsSound run.err → ⊥) → (status ≡ 7) ⊎ (status ≡ 8)
-
--- What a run answers.
-pub record Answers (run : Run) (status : ℕ) : Type 0 where
-  pub headline : Headline run status
-  pub tells : Tells run status
-  pub owes : Owes run status
-
--- ---- steps of telling
-
--- the line was told and the status is the given one; or the put failed; or memory was refused
-abbrev pub TellsLine : ℕ → List ℕ → Put → ℕ → Type 0
-TellsLine status line err result =
-    ((result ≡ status) × Appends line err × IsSound err)
-    ⊎ (((result ≡ 7) × HasFailed err × AppendsFront line err)
-    ⊎ ((result ≡ 8) × AppendsFront memory_line err))
-
--- the report was written; or the put failed; or memory was refused
-abbrev pub TellsReport : Report → Put → Put → ℕ → Type 0
-TellsReport report out err result =
-    ((result ≡ report.status) × Appends report.text out × IsSound out × IsLeft err × IsSound err)
-    ⊎ (((result ≡ 7) × HasFailed out × AppendsFront report.text out × AppendsFront write_fault_line err)
-    ⊎ ((result ≡ 8) × IsLeft out × IsSound out × AppendsFront memory_line err))

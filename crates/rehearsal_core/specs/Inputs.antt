@@ -2,7 +2,7 @@
 use Rattle.std.specs.Prelude.{◌≡◌, ◌⊎◌, ℕ, List, [], ◌∷◌, map, Option, None, String, string_bytes}
 use Rattle.std.specs.declared.alloc.Global.{Global}
 use Rattle.rh_base.specs.declared.fault.Refusal.{Refusal}
-use Rattle.rh_base.specs.Shelf.{Files}
+use Rattle.rh_base.specs.Shelf.{Held}
 use Rattle.command_line.specs.declared.table.Ask.{Ask}
 use Rattle.command_line.specs.declared.table.Ask.TheVariants as ask
 use Rattle.command_line.specs.declared.request.Request.{Request}
@@ -11,7 +11,7 @@ use Rattle.command_line.specs.declared.request.Source.TheVariants as source
 use Rattle.command_line.specs.declared.table.Role.TheVariants as role
 use Rattle.command_line.specs.Table.{ByRole}
 use Rattle.command_line.specs.Words.{Makes}
-use Rattle.request_files.specs.Files.{AreRead, FirstTooLong, FailsAt, AnyNamed, AllTold}
+use Rattle.request_files.specs.Files.{AreRead, FirstTooLong, FirstFailed, NoneMissing, AnyMissing, AllTold}
 use Rattle.known_inputs.specs.Inputs.{input_of}
 use Rattle.rehearsal_core.specs.declared.inputs.Loaded.{Loaded}
 use Rattle.known_inputs.specs.declared.inputs.Inputs.{Inputs}
@@ -24,8 +24,6 @@ use Rattle.reports.specs.Reports.{IsCatalogReport, IsGraphReport}
 use Rattle.reports.specs.Questions.{IsReport, ReportRefusal}
 use Rattle.rehearsal_core.specs.Verified.{AreVerified, BreaksProofRule}
 use Rattle.rehearsal_core.specs.Migrated.{IsMigrated, BreaksListingRule}
-use Rattle.rehearsal_core.specs.declared.run.Ending.{Ending}
-use Rattle.rehearsal_core.specs.declared.run.Ending.TheVariants as ending
 
 -- ---- requests
 
@@ -53,12 +51,12 @@ abbrev pub workload_inputs : ℕ → Inputs
 workload_inputs n = record { node = None; wanted = None; files = (role.Packages, listing_text n) ∷ (role.Input, manifest_text n) ∷ [] }
 
 -- what a request is about: files, or a workload
-abbrev pub AreInputs : Option Files → Request → Source → Inputs → Type 0
+abbrev pub AreInputs : Held → Request → Source → Inputs → Type 0
 AreInputs held r (source.Files names) i = (i.node ≡ r.node) × (i.wanted ≡ r.wanted) × AreRead held r.ask names i.files
 AreInputs held r (source.Workload n) i = i ≡ workload_inputs n
 
 -- the request with the bytes that it is about
-pub record IsLoaded (held : Option Files) (r : Request) (l : Loaded) : Type 0 where
+pub record IsLoaded (held : Held) (r : Request) (l : Loaded) : Type 0 where
   pub asked : l.ask ≡ r.ask
   pub conflicts : l.conflicts ≡ r.conflicts
   pub inputs : AreInputs held r r.source l.inputs
@@ -104,58 +102,47 @@ abbrev pub Breaks : Loaded → Refusal → Type 0
 Breaks l r = BreaksFor l.ask l.conflicts l.inputs r
 
 -- a report on the request
-pub record ReportsOn (request : Request) (held : Option Files) (report : Report) : Type 0 where
+pub record ReportsOn (request : Request) (held : Held) (report : Report) : Type 0 where
   pub loaded : Loaded
   pub stands : IsLoaded held request loaded
   pub says : IsAnswer loaded report
 
--- the files of the request, of which none is too long, break a rule
-pub record BreaksAt (request : Request) (held : Option Files) (r : Refusal) : Type 0 where
+-- the files of the request, of which none is missing or too long, break a rule
+pub record BreaksAt (request : Request) (held : Held) (r : Refusal) : Type 0 where
   pub loaded : Loaded
   pub stands : IsLoaded held request loaded
   pub breaks : Breaks loaded r
 
--- the first refusal of the request: a file is too long, or else they break a rule
-abbrev pub RefusesAt : Request → Option Files → Refusal → Type 0
-RefusesAt request held r = FirstTooLong held request.ask (files_of request) r ⊎ BreaksAt request held r
+-- the first refusal of the request: no file is missing but one is too long, or else they break a rule
+abbrev pub RefusesAt : Request → Held → Refusal → Type 0
+RefusesAt request held r = (NoneMissing held (files_of request) × FirstTooLong held request.ask (files_of request) r) ⊎ BreaksAt request held r
 
 -- the same of the request that the words make
-pub record Reports (words : List (String Global)) (held : Option Files) (report : Report) : Type 0 where
+pub record Reports (words : List (String Global)) (held : Held) (report : Report) : Type 0 where
   pub request : Request
   pub made : Requests words request
   pub on : ReportsOn request held report
 
 -- the first refusal of the request that the words make
-pub record Refuses (words : List (String Global)) (held : Option Files) (r : Refusal) : Type 0 where
+pub record Refuses (words : List (String Global)) (held : Held) (r : Refusal) : Type 0 where
   pub request : Request
   pub made : Requests words request
   pub cause : RefusesAt request held r
 
--- a file of the request that the words make couldn't be read
-pub record FailsToRead (words : List (String Global)) (held : Option Files) (before now : ℕ) (name : List ℕ) : Type 0 where
+-- the first file that couldn't be read, of the request that the words make
+pub record FailsToRead (words : List (String Global)) (held : Held) (before now : ℕ) (name : List ℕ) : Type 0 where
   pub request : Request
   pub made : Requests words request
-  pub named : AnyNamed name (files_of request)
-  pub cause : FailsAt name held before now
+  pub first : FirstFailed held before now (files_of request) name
+
+-- the words make a request of which a file is missing
+pub record LacksFile (words : List (String Global)) (held : Held) : Type 0 where
+  pub request : Request
+  pub made : Requests words request
+  pub missing : AnyMissing held (files_of request)
 
 -- the words make a request of which the shelf tells each file
-pub record IsHeld (words : List (String Global)) (held : Option Files) : Type 0 where
+pub record IsHeld (words : List (String Global)) (held : Held) : Type 0 where
   pub request : Request
   pub made : Requests words request
   pub told : AllTold held (files_of request)
-
--- What there is to say of a request, and what it takes. Only a failed read raises the shelf's count of faults.
-abbrev pub SaysOf : Request → Option Files → ℕ → ℕ → Ending → Type 0
-SaysOf request held before now (ending.Report report) = (now ≡ before) × ReportsOn request held report
-SaysOf request held before now (ending.Refused r) = (now ≡ before) × RefusesAt request held r
-SaysOf request held before now ending.BadWords = ⊥
-SaysOf request held before now (ending.ReadFault name) = AnyNamed name (files_of request) × FailsAt name held before now
-SaysOf request held before now ending.Memory = now ≡ before
-
--- what there is to say, and what it takes
-abbrev pub Says : List (String Global) → Option Files → ℕ → ℕ → Ending → Type 0
-Says words held before now (ending.Report report) = (now ≡ before) × Reports words held report
-Says words held before now (ending.Refused r) = (now ≡ before) × Refuses words held r
-Says words held before now ending.BadWords = (now ≡ before) × RequestsNone words
-Says words held before now (ending.ReadFault name) = FailsToRead words held before now name
-Says words held before now ending.Memory = now ≡ before

@@ -4,21 +4,23 @@ ghost use Rattle.std.specs.Prelude.{◌≡◌, ◌<◌, ◌^◌, length, IfOk, I
 ghost use Rattle.rh_base.specs.Refused.{IfRefused};
 ghost use Rattle.rehearsal_core.specs.Verified.{AreVerified, BreaksProofRule};
 ghost use Rattle.rehearsal_core.specs.Migrated.{IsMigrated, BreaksListingRule};
-ghost use Rattle.rehearsal_core.specs.Inputs.{IsPrinted, IsAnswer, IsAnswerTo, Breaks, BreaksFor, workload_inputs, Says, SaysOf};
+ghost use Rattle.rehearsal_core.specs.Inputs.{IsPrinted, IsAnswer, IsAnswerTo, Breaks, BreaksFor, workload_inputs};
 ghost use Rattle.known_inputs.specs.Inputs.{input_of};
 ghost use Rattle.request_files.specs.Files.{AreShort};
-ghost use Rattle.rehearsal_core.specs.Loading.{request_about, concluded};
-ghost use Rattle.rehearsal_core.specs.Runs.{put_of};
-ghost use Rattle.rehearsal_core.specs.Answers.{Answers};
+ghost use Rattle.rehearsal_core.specs.Runs.{put_of, run_of};
+ghost use Rattle.rehearsal_core.specs.Headline.{Headline};
+ghost use Rattle.rehearsal_core.specs.Answers.{Tells, Owes};
+ghost use Rattle.rehearsal_core.specs.Steps.{request_about, concluded, Says, SaysOf, Ended};
 
 use crate::checking::verified;
 use crate::inputs::{Loaded, Names};
 use crate::migrating::migrated;
 use crate::tell::{out_of_memory, tell_read_fault, tell_refusal, tell_usage, write_report};
 use crate::workloads::workload_inputs;
-use command_line::{Ask, Request, Size, Source, WordsFault, read_request};
+use command_line::{Ask, Request, Size, Source, WordsFault, one_request, read_request};
 use known_inputs::Inputs;
-use reports::{Question, catalog_report, graph_report, report_on};
+use proof_check::{accepted_logs_have_no_fault, one_list_of_proofs};
+use reports::{Question, catalog_report, graph_report, report_on, reports_exclude_refusals};
 use request_files::{FilesFault, read_files};
 use rh_base::{Fault, Refusal, Shelf, Sink, Text};
 use std::alloc::Global;
@@ -182,6 +184,26 @@ fn decide<S: Shelf>(alloc: Global, words: &[String], shelf: &mut S) -> Ending
     }
 }
 
+/// Answers what the words ask for, and tells it.
+fn answered<S: Shelf, O: Sink, E: Sink>(
+    alloc: Global,
+    words: &[String],
+    shelf: &mut S,
+    out: &mut O,
+    err: &mut E,
+) -> u8
+    ensures { Ended (run_of words.now S.holds S.faults shelf.old shelf.new (put_of O.written O.faults out.old out.new) (put_of E.written E.faults err.old err.new)) result }
+{
+    one_request();
+    match decide(alloc, words, shelf) {
+        Ending::Report(report) => write_report(&report, out, err),
+        Ending::Refused(refusal) => tell_refusal(alloc, &refusal, err),
+        Ending::BadWords => tell_usage(err),
+        Ending::ReadFault(name) => tell_read_fault(alloc, &name, err),
+        Ending::Memory => out_of_memory(err),
+    }
+}
+
 /// Answers what the words ask for, and tells it. Gives the status.
 pub fn rehearse<S: Shelf, O: Sink, E: Sink>(
     alloc: Global,
@@ -190,20 +212,16 @@ pub fn rehearse<S: Shelf, O: Sink, E: Sink>(
     out: &mut O,
     err: &mut E,
 ) -> u8
-    ensures { Answers (record {
-      words = words.now;
-      held = S.holds shelf.old;
-      shelf_before = S.faults shelf.old;
-      shelf_now = S.faults shelf.new;
-      out = put_of O.written O.faults out.old out.new;
-      err = put_of E.written E.faults err.old err.new;
-    }) result }
+    // what each status promises of a manifest
+    ensures headline { Headline (run_of words.now S.holds S.faults shelf.old shelf.new (put_of O.written O.faults out.old out.new) (put_of E.written E.faults err.old err.new)) result }
+    // what each status tells, and where
+    ensures tells { Tells (run_of words.now S.holds S.faults shelf.old shelf.new (put_of O.written O.faults out.old out.new) (put_of E.written E.faults err.old err.new)) result }
+    // which statuses there are
+    ensures owes { Owes (run_of words.now S.holds S.faults shelf.old shelf.new (put_of O.written O.faults out.old out.new) (put_of E.written E.faults err.old err.new)) result }
 {
-    match decide(alloc, words, shelf) {
-        Ending::Report(report) => write_report(&report, out, err),
-        Ending::Refused(refusal) => tell_refusal(alloc, &refusal, err),
-        Ending::BadWords => tell_usage(err),
-        Ending::ReadFault(name) => tell_read_fault(alloc, &name, err),
-        Ending::Memory => out_of_memory(err),
-    }
+    one_request();
+    reports_exclude_refusals();
+    one_list_of_proofs();
+    accepted_logs_have_no_fault();
+    answered(alloc, words, shelf, out, err)
 }

@@ -3,7 +3,8 @@
 ghost use Rattle.std.specs.Prelude.{◌≡◌, IfOk};
 ghost use Rattle.command_line.specs.Table.{usage_line};
 ghost use Rattle.rehearsal_core.specs.Runs.{put_of, AppendsFront};
-ghost use Rattle.rehearsal_core.specs.Answers.{TellsLine, TellsReport, refusal_line, read_fault_line, write_fault_line, memory_line};
+ghost use Rattle.rehearsal_core.specs.Answers.{refusal_line, read_fault_line, write_fault_line, memory_line};
+ghost use Rattle.rehearsal_core.specs.Steps.{TellsLine, TellsReport};
 
 use command_line::usage_line;
 use printed_names::printed;

@@ -4,3 +4,5 @@ pub mod StageLaws
 pub mod ReplayLaws
 pub mod LineLaws
 pub mod QuestionLaws
+pub mod SameOrders
+pub mod OneAnswer

@@ -9,7 +9,7 @@ use Rattle.pp_eval.specs.Verdicts.{Refuses}
 use Rattle.fs_semantics.specs.Programs.{Program}
 use Rattle.catalog_semantics.specs.Catalogs.{Catalog}
 use Rattle.pp_compile.specs.Sources.{IsCatalogOf, IsCatalogRefusal}
-use Rattle.orders.specs.Relation.{Comes}
+use Rattle.orders.specs.Relation.{Comes, IsStrictOrder}
 use Rattle.graph_semantics.specs.Graphs.{IsGraphOf, IsGraphRefusal}
 use Rattle.dep_graph.specs.declared.answer.Graph.{Graph}
 use Rattle.model_semantics.specs.Models.{programs}
@@ -94,8 +94,8 @@ catalog_programs i e first = before_programs i e (before_graph i e first)
 pub graph_programs : (i : Inputs) (k : Known) (c : Catalog) (e : Fault) → IsCompiled i k c → IfRefused e (IsGraphRefusal c) → IfRefused e (ProgramsRefusal i)
 graph_programs i k c e compiled none = before_programs i e (in_graph i k c e compiled none)
 
-pub planned : (i : Inputs) (k : Known) (c : Catalog) (g : Graph) → IsCompiled i k c → IsGraphOf c g.plain (Comes g.order) → g.order.count ≡ length g.plain → IsPlanned i k c g
-planned i k c g compiled is count = record { compiled = compiled; graph = is; count = count }
+pub planned : (i : Inputs) (k : Known) (c : Catalog) (g : Graph) → IsCompiled i k c → IsGraphOf c g.plain (Comes g.order) → g.order.count ≡ length g.plain → IsStrictOrder g.order → IsPlanned i k c g
+planned i k c g compiled is count strict = record { compiled = compiled; graph = is; count = count; strict = strict }
 
 -- the places of the graph are places of the catalog
 pub are_places : (c : Catalog) (g : Graph) (plain : List ℕ) → plain ≡ g.plain → IsGraphOf c g.plain (Comes g.order) → AllByRecursion (λ i. i < length c.resources) plain

@@ -1,7 +1,7 @@
 -- The stages from the files of a request to programs in a graph, and which refusal comes first.
 use Rattle.std.specs.Prelude.{◌≡◌, ℕ, List, [], length, Option, Some, None, Ok, Err, Result}
 use Rattle.rh_base.specs.declared.fault.Refusal.{Refusal}
-use Rattle.orders.specs.Relation.{Comes}
+use Rattle.orders.specs.Relation.{Comes, IsStrictOrder}
 use Rattle.fs_semantics.specs.Programs.{Program}
 use Rattle.catalog_semantics.specs.Catalogs.{Catalog}
 use Rattle.pp_compile.specs.Sources.{IsCatalogOf, IsCatalogRefusal}
@@ -30,6 +30,7 @@ pub record IsPlanned (i : Inputs) (k : Known) (c : Catalog) (g : Graph) : Type 0
   pub compiled : IsCompiled i k c
   pub graph : IsGraphOf c g.plain (Comes g.order)
   pub count : g.order.count ≡ length g.plain
+  pub strict : IsStrictOrder g.order
 
 -- what the real plain resources do, one after another, or the first refusal
 abbrev pub programs_in : Known → Catalog → Graph → Result (List Program) Refusal

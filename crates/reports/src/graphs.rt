@@ -22,6 +22,8 @@ pub fn graph_report(alloc: Global, inputs: &Inputs) -> Result<Seq<u8>, Fault>
     let known = known_inputs(alloc, inputs)?;
     let catalog = catalog_for(alloc, inputs, &known)?;
     let plan = graph(alloc, &catalog)?;
+    // so the order relates no other numbers
+    plan.order.count();
     let text = graph_text(alloc, &catalog, &plan)?;
     Ok(bytes_of(text))
 }

@@ -7,6 +7,7 @@ mod catalogs;
 mod compiling;
 mod entries;
 mod graphs;
+mod laws;
 mod programs;
 mod question;
 mod repairs;
@@ -16,5 +17,6 @@ mod verdicts;
 
 pub use catalogs::catalog_report;
 pub use graphs::graph_report;
+pub use laws::reports_exclude_refusals;
 pub use question::Question;
 pub use stages::report_on;

@@ -116,6 +116,8 @@ fn report_on_catalog(
     ensures refused { IfErr result (λ e. IfRefused e (ReportRefusal question inputs.now)) }
 {
     let plan = graph(alloc, catalog)?;
+    // so the order relates no other numbers
+    plan.order.count();
     report_on_graph(alloc, question, inputs, known, catalog, &plan)
 }
 

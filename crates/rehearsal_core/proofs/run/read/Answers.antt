@@ -1,6 +1,5 @@
 use Rattle.std.proofs.Common.{subst, sym}
-use Rattle.rehearsal_core.specs.Inputs.{SaysOf}
-use Rattle.rehearsal_core.specs.Loading.{request_about}
+use Rattle.rehearsal_core.specs.Steps.{request_about, SaysOf}
 use Rattle.rehearsal_core.proofs.LoadLaws.{says}
 use Rattle.rehearsal_core.proofs.run.read.Goals as goal
 

@@ -1,5 +1,5 @@
 use Rattle.std.proofs.Common.{subst, sym, refl}
-use Rattle.rehearsal_core.specs.Inputs.{SaysOf}
+use Rattle.rehearsal_core.specs.Steps.{SaysOf}
 use Rattle.rehearsal_core.proofs.LoadLaws.{says_of_named, says_of_workload}
 use Rattle.rehearsal_core.proofs.run.respond.Goals as goal
 

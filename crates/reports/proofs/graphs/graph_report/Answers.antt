@@ -31,6 +31,6 @@ returns-clause-report c = record {
   known = c.in_ok-known.known;
   catalog = c.in_ok-catalog.catalog;
   graph = c.in_ok-plan.plan;
-  planned = record { compiled = c.in_ok-catalog.ensures.compiled; graph = c.in_ok-plan.ensures.graph; count = c.in_ok-plan.ensures.count };
+  planned = record { compiled = c.in_ok-catalog.ensures.compiled; graph = c.in_ok-plan.ensures.graph; count = c.in_ok-plan.ensures.count; strict = c.count.ensures.ordered };
   text = c.bytes_of.ensures ∙ c.in_ok-text.ensures;
 }

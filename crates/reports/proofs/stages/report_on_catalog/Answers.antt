@@ -10,4 +10,4 @@ returns-in_err-plan-clause-refused c =
 
 pub report_on_graph-requires : goal.report_on_graph-requires
 report_on_graph-requires c =
-    planned c.args.inputs.now c.args.known.now c.args.catalog.now c.in_ok-plan.plan c.requires c.in_ok-plan.ensures.graph c.in_ok-plan.ensures.count
+    planned c.args.inputs.now c.args.known.now c.args.catalog.now c.in_ok-plan.plan c.requires c.in_ok-plan.ensures.graph c.in_ok-plan.ensures.count c.count.ensures.ordered

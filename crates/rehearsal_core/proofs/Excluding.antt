@@ -1,0 +1,174 @@
+-- What is said of a request excludes what is said otherwise: a report excludes a refusal, and a missing file both.
+use Rattle.std.proofs.Common.{◌≡◌, inl, inr, ℕ, ◌≤◌, List, [], ◌∷◌, ◌++◌, length, map, Option, refl, sym, subst, ◌∙◌, arith}
+use Rattle.std.specs.Prelude.{String, string_bytes}
+use Rattle.std.specs.List.{AllByRecursion}
+use Rattle.std.specs.declared.alloc.Global.{Global}
+use Rattle.rh_base.specs.declared.fault.Refusal.{Refusal}
+use Rattle.rh_base.specs.Shelf.{Held}
+use Rattle.command_line.specs.declared.table.Ask.{Ask}
+use Rattle.command_line.specs.declared.table.Ask.TheVariants as ask
+use Rattle.command_line.specs.declared.request.Request.{Request}
+use Rattle.command_line.specs.declared.request.Source.{Source}
+use Rattle.command_line.specs.declared.request.Source.TheVariants as source
+use Rattle.command_line.specs.Table.{limit_of, ByRole}
+use Rattle.command_line.specs.Words.{Makes}
+use Rattle.request_files.specs.Files.{AreRead, FirstTooLong, NoneMissing, AnyMissing, AllTold}
+use Rattle.cnf.specs.declared.log.Step.{Step}
+use Rattle.cnf.specs.Formulas.{Formula}
+use Rattle.cnf.specs.Proofs.{IsAccepted}
+use Rattle.proof_check.specs.declared.fault.Cause.{Cause}
+use Rattle.proof_check.specs.Faults.{IsFault}
+use Rattle.proof_check.specs.Refuted.{Refutation}
+use Rattle.proof_check.specs.ProofWords.{IsProofText}
+use Rattle.known_inputs.specs.declared.inputs.Inputs.{Inputs}
+use Rattle.known_inputs.specs.Inputs.{input_of}
+use Rattle.verdict_report.specs.declared.report.Report.{Report}
+use Rattle.verdict_report.specs.declared.report.Form.TheVariants as form
+use Rattle.reports.specs.declared.question.Question.{Question}
+use Rattle.reports.specs.declared.question.Question.TheVariants as question
+use Rattle.reports.specs.Stages.{CatalogRefusal, GraphRefusal}
+use Rattle.reports.specs.Reports.{IsCatalogReport, IsGraphReport}
+use Rattle.reports.specs.Questions.{IsReport, ReportRefusal}
+use Rattle.rehearsal_core.specs.declared.inputs.Loaded.{Loaded}
+use Rattle.rehearsal_core.specs.Verified.{IsRefuted, AreVerified, FirstBad, BreaksProofRule}
+use Rattle.rehearsal_core.specs.Inputs.{files_in, files_of, Requests, AreInputs, IsLoaded, IsAnswerTo, BreaksFor, Breaks, ReportsOn, RefusesAt, Reports, Refuses, IsHeld, LacksFile}
+
+-- ---- what is known of each part
+
+abbrev pub OneRequest : Type 0
+OneRequest = (words : List (List ℕ)) (r s : Request) → Makes words r → Makes words s → r ≡ s
+
+abbrev pub NoCatalogRefusal : Type 0
+NoCatalogRefusal = (i : Inputs) (report : List ℕ) (r : Refusal) → IsCatalogReport i report → CatalogRefusal i r → ⊥
+
+abbrev pub NoGraphRefusal : Type 0
+NoGraphRefusal = (i : Inputs) (report : List ℕ) (r : Refusal) → IsGraphReport i report → GraphRefusal i r → ⊥
+
+abbrev pub NoReportRefusal : Type 0
+NoReportRefusal = (q : Question) (i : Inputs) (report : Report) (r : Refusal) → IsReport q i report → ReportRefusal q i r → ⊥
+
+abbrev pub OneList : Type 0
+OneList = (text : List ℕ) (ps qs : List Refutation) → IsProofText text ps → IsProofText text qs → ps ≡ qs
+
+abbrev pub NoFault : Type 0
+NoFault = (f : Formula) (steps : List Step) (n : ℕ) (cause : Cause) → IsAccepted f steps → IsFault f steps n cause → ⊥
+
+-- ---- files that are told
+
+same_files : (held : Held) (a : Ask) (names files others : ByRole (List ℕ)) → AllTold held names → AreRead held a names files → AreRead held a names others → files ≡ others
+same_files held a [] [] [] told is was = refl
+same_files held a [] [] (g ∷ others) told is was = absurd was
+same_files held a [] (f ∷ files) others told is was = absurd is
+same_files held a (n ∷ names) [] others told is was = absurd is
+same_files held a (n ∷ names) (f ∷ files) [] told is was = absurd was
+same_files held a (n ∷ names) (f ∷ files) (g ∷ others) told is was =
+    let role = is.0 ∙ sym was.0 in
+    let bytes = is.1.1 told.0.0 told.0.1 ∙ sym (was.1.1 told.0.0 told.0.1) in
+    let more = same_files held a names files others told.1 is.2 was.2 in
+    λ t. (role t, bytes t) ∷ more t
+
+not_too_long : (held : Held) (a : Ask) (names files : ByRole (List ℕ)) (r : Refusal) → AllTold held names → AreRead held a names files → FirstTooLong held a names r → ⊥
+not_too_long held a [] files r told is long = long
+not_too_long held a (n ∷ names) [] r told is long = absurd is
+not_too_long held a (n ∷ names) (f ∷ files) r told is (inl here) =
+    let more = here.0.1 told.0.0 told.0.1 in
+    let less = subst (λ bytes. length bytes ≤ limit_of a n.0) (is.1.1 told.0.0 told.0.1) is.1.2 in
+    absurd (omega (arith, more, less))
+not_too_long held a (n ∷ names) (f ∷ files) r told is (inr later) = not_too_long held a names files r told.1 is.2 later.1
+
+read_are_there : (held : Held) (a : Ask) (names files : ByRole (List ℕ)) → AreRead held a names files → AnyMissing held names → ⊥
+read_are_there held a [] files is missing = missing
+read_are_there held a (n ∷ names) [] is missing = absurd is
+read_are_there held a (n ∷ names) (f ∷ files) is (inl here) = is.1.0 here
+read_are_there held a (n ∷ names) (f ∷ files) is (inr later) = read_are_there held a names files is.2 later
+
+none_and_any : (held : Held) (names : ByRole (List ℕ)) → NoneMissing held names → AnyMissing held names → ⊥
+none_and_any held [] none missing = missing
+none_and_any held (n ∷ names) none (inl here) = none.0 here
+none_and_any held (n ∷ names) none (inr later) = none_and_any held names none.1 later
+
+-- ---- what is loaded
+
+same_inputs : (held : Held) (r : Request) (s : Source) (i j : Inputs) → AllTold held (files_in s) → AreInputs held r s i → AreInputs held r s j → i ≡ j
+same_inputs held r (source.Files names) i j told is was =
+    let node = is.0 ∙ sym was.0 in
+    let wanted = is.1 ∙ sym was.1 in
+    let files = same_files held r.ask names i.files j.files told is.2 was.2 in
+    λ t. record { node = node t; wanted = wanted t; files = files t }
+same_inputs held r (source.Workload n) i j told is was = is ∙ sym was
+
+same_loaded : (held : Held) (r : Request) (l m : Loaded) → AllTold held (files_of r) → IsLoaded held r l → IsLoaded held r m → l ≡ m
+same_loaded held r l m told is was =
+    let a = is.asked ∙ sym was.asked in
+    let conflicts = is.conflicts ∙ sym was.conflicts in
+    let inputs = same_inputs held r r.source l.inputs m.inputs told is.inputs was.inputs in
+    λ t. record { ask = a t; conflicts = conflicts t; inputs = inputs t }
+
+loaded_within : (held : Held) (q : Request) (s : Source) (i : Inputs) (r : Refusal) → AllTold held (files_in s) → AreInputs held q s i → FirstTooLong held q.ask (files_in s) r → ⊥
+loaded_within held q (source.Files names) i r told is long = not_too_long held q.ask names i.files r told is.2 long
+loaded_within held q (source.Workload n) i r told is long = long
+
+loaded_are_there : (held : Held) (q : Request) (s : Source) (i : Inputs) → AreInputs held q s i → AnyMissing held (files_in s) → ⊥
+loaded_are_there held q (source.Files names) i is missing = read_are_there held q.ask names i.files is.2 missing
+loaded_are_there held q (source.Workload n) i is missing = missing
+
+-- ---- proofs
+
+at_middle : {X : Type 0} (P : X → Type 0) (front : List X) (x : X) (back : List X) → AllByRecursion P (front ++ x ∷ back) → P x
+at_middle P [] x back all = all.0
+at_middle P (y ∷ front) x back all = at_middle P front x back all.1
+
+not_bad : NoFault → (proofs : List Refutation) (number step : ℕ) → AllByRecursion IsRefuted proofs → FirstBad proofs number step → ⊥
+not_bad none proofs number step all first =
+    let is = at_middle IsRefuted first.front first.bad first.back (subst (AllByRecursion IsRefuted) first.whole all) in
+    none first.bad.formula first.bad.steps step first.cause is.accepted first.fault
+
+verified_or_not : OneList → NoFault → (text report : List ℕ) (r : Refusal) → AreVerified text report → BreaksProofRule text r → ⊥
+verified_or_not one none text report r is (inl spells) = spells.1 is.proofs is.spelled
+verified_or_not one none text report r is (inr bad) =
+    not_bad none bad.proofs bad.number bad.step (subst (AllByRecursion IsRefuted) (one text is.proofs bad.proofs is.spelled bad.spelled) is.refuted) bad.first
+
+-- ---- an answer, or a refusal
+
+module _ (catalogs : NoCatalogRefusal) (graphs : NoGraphRefusal) (programs : NoReportRefusal) (lists : OneList) (faults : NoFault) where
+  answered_or_not : (a : Ask) (conflicts : Option ℕ) (i : Inputs) (report : Report) (r : Refusal) → IsAnswerTo a conflicts i report → BreaksFor a conflicts i r → ⊥
+  answered_or_not ask.Verify conflicts i report r is breaks = programs (question.Verdict form.Lines conflicts) i report r is breaks
+  answered_or_not ask.Proof conflicts i report r is breaks = programs (question.Verdict form.Proofs conflicts) i report r is breaks
+  answered_or_not ask.Catalog conflicts i report r is breaks = catalogs i report.text r is.1 breaks
+  answered_or_not ask.Graph conflicts i report r is breaks = graphs i report.text r is.1 breaks
+  answered_or_not ask.Programs conflicts i report r is breaks = programs question.Programs i report r is breaks
+  answered_or_not ask.Replay conflicts i report r is breaks = programs question.Replay i report r is breaks
+  answered_or_not ask.Check conflicts i report r is breaks = verified_or_not lists faults (input_of i) report.text r is.1 breaks
+  answered_or_not ask.Migrate conflicts i report r is breaks = breaks.1 is.1.packages is.1.given
+  answered_or_not ask.Repair conflicts i report r is breaks = programs (question.Repair conflicts) i report r is breaks
+  answered_or_not ask.Ensures conflicts i report r is breaks = programs (question.Ensures conflicts) i report r is breaks
+
+  reported_or_refused : (q : Request) (held : Held) (report : Report) (r : Refusal) → AllTold held (files_of q) → ReportsOn q held report → RefusesAt q held r → ⊥
+  reported_or_refused q held report r told on (inl long) = loaded_within held q q.source on.loaded.inputs r told on.stands.inputs long.1
+  reported_or_refused q held report r told on (inr broken) =
+      answered_or_not on.loaded.ask on.loaded.conflicts on.loaded.inputs report r on.says
+      (subst (λ l. Breaks l r) (same_loaded held q broken.loaded on.loaded told broken.stands on.stands) broken.breaks)
+
+  pub no_refusal : OneRequest → (words : List (String Global)) (held : Held) (report : Report) (r : Refusal) → IsHeld words held → Reports words held report → Refuses words held r → ⊥
+  no_refusal one words held report r is reports refuses =
+      let texts = map string_bytes words in
+      reported_or_refused reports.request held report r
+      (subst (λ q. AllTold held (files_of q)) (one texts is.request reports.request is.made reports.made) is.told)
+      reports.on
+      (subst (λ q. RefusesAt q held r) (one texts refuses.request reports.request refuses.made reports.made) refuses.cause)
+
+-- ---- a file that is missing
+
+module _ (one : OneRequest) (words : List (String Global)) (held : Held) (lacks : LacksFile words held) where
+  lacks_at : (q : Request) → Requests words q → AnyMissing held (files_of q)
+  lacks_at q made = subst (λ x. AnyMissing held (files_of x)) (one (map string_bytes words) lacks.request q lacks.made made) lacks.missing
+
+  pub no_report_lacks : (report : Report) → Reports words held report → ⊥
+  no_report_lacks report reports =
+      loaded_are_there held reports.request reports.request.source reports.on.loaded.inputs reports.on.stands.inputs (lacks_at reports.request reports.made)
+
+  pub no_refusal_lacks : (r : Refusal) → Refuses words held r → ⊥
+  no_refusal_lacks r refuses = elim refuses.cause [
+    | inl long ↦ none_and_any held (files_of refuses.request) long.0 (lacks_at refuses.request refuses.made)
+    | inr broken ↦ loaded_are_there held refuses.request refuses.request.source broken.loaded.inputs broken.stands.inputs (lacks_at refuses.request refuses.made)
+  ]

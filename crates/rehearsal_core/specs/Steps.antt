@@ -1,0 +1,75 @@
+-- From the words to the status, step by step.
+use Rattle.std.specs.Prelude.{◌≡◌, ◌≢◌, ◌⊎◌, ℕ, List, String, Result, Ok, Err}
+use Rattle.std.specs.declared.alloc.Global.{Global}
+use Rattle.rh_base.specs.declared.fault.Fault.{Fault}
+use Rattle.rh_base.specs.declared.fault.Fault.TheVariants.{Refused, Memory}
+use Rattle.rh_base.specs.Shelf.{Held}
+use Rattle.command_line.specs.declared.request.Request.{Request}
+use Rattle.command_line.specs.declared.request.Source.TheVariants as source
+use Rattle.request_files.specs.Files.{FirstFailed}
+use Rattle.verdict_report.specs.declared.report.Report.{Report}
+use Rattle.rehearsal_core.specs.declared.inputs.Names.{Names}
+use Rattle.rehearsal_core.specs.declared.run.Ending.{Ending}
+use Rattle.rehearsal_core.specs.declared.run.Ending.TheVariants as ending
+use Rattle.rehearsal_core.specs.Runs.{Run, Put, Appends, AppendsFront, IsLeft, IsSound, HasFailed}
+use Rattle.rehearsal_core.specs.Inputs.{RequestsNone, IsHeld, files_of, ReportsOn, RefusesAt, Reports, Refuses, FailsToRead}
+use Rattle.rehearsal_core.specs.Answers.{IsOfReport, NoFaults, Tells, write_fault_line, memory_line}
+
+-- ---- reading
+
+-- the request about the files of these names
+abbrev pub request_about : Names → Request
+request_about n = record { ask = n.ask; node = n.node; conflicts = n.conflicts; wanted = n.wanted; source = source.Files n.files }
+
+-- what there is to say of an answer
+abbrev pub concluded : Result Report Fault → Ending
+concluded (Ok report) = ending.Report report
+concluded (Err (Refused r)) = ending.Refused r
+concluded (Err (Memory m)) = ending.Memory
+
+-- What there is to say of a request, and what it takes. Only a failed read raises the shelf's count of faults.
+abbrev pub SaysOf : Request → Held → ℕ → ℕ → Ending → Type 0
+SaysOf request held before now (ending.Report report) = (now ≡ before) × ReportsOn request held report
+SaysOf request held before now (ending.Refused r) = (now ≡ before) × RefusesAt request held r
+SaysOf request held before now ending.BadWords = ⊥
+SaysOf request held before now (ending.ReadFault name) = FirstFailed held before now (files_of request) name
+SaysOf request held before now ending.Memory = now ≡ before
+
+-- what there is to say, and what it takes
+abbrev pub Says : List (String Global) → Held → ℕ → ℕ → Ending → Type 0
+Says words held before now (ending.Report report) = (now ≡ before) × Reports words held report
+Says words held before now (ending.Refused r) = (now ≡ before) × Refuses words held r
+Says words held before now ending.BadWords = (now ≡ before) × RequestsNone words
+Says words held before now (ending.ReadFault name) = FailsToRead words held before now name
+Says words held before now ending.Memory = now ≡ before
+
+-- ---- telling
+
+-- the line was told and the status is the given one; or the put failed; or memory was refused
+abbrev pub TellsLine : ℕ → List ℕ → Put → ℕ → Type 0
+TellsLine status line err result =
+    ((result ≡ status) × Appends line err × IsSound err)
+    ⊎ (((result ≡ 7) × HasFailed err × AppendsFront line err)
+    ⊎ ((result ≡ 8) × AppendsFront memory_line err))
+
+-- the report was written; or the put failed; or memory was refused
+abbrev pub TellsReport : Report → Put → Put → ℕ → Type 0
+TellsReport report out err result =
+    ((result ≡ report.status) × Appends report.text out × IsSound out × IsLeft err × IsSound err)
+    ⊎ (((result ≡ 7) × HasFailed out × AppendsFront report.text out × AppendsFront write_fault_line err)
+    ⊎ ((result ≡ 8) × IsLeft out × IsSound out × AppendsFront memory_line err))
+
+-- ---- both
+
+-- Which statuses there are, but for what follows from what is told.
+pub record Owed (run : Run) (status : ℕ) : Type 0 where
+  pub usage : RequestsNone run.words → (status ≡ 5) ⊎ ((status ≡ 7) ⊎ (status ≡ 8))
+  pub decided : IsHeld run.words run.held → NoFaults run → IsOfReport status ⊎ ((status ≡ 4) ⊎ (status ≡ 8))
+  pub unread : run.shelf_now ≢ run.shelf_before → (status ≡ 6) ⊎ ((status ≡ 7) ⊎ (status ≡ 8))
+  pub unwritten : (IsSound run.out → ⊥) → status ≡ 7
+  pub untold : (IsSound run.err → ⊥) → (status ≡ 7) ⊎ (status ≡ 8)
+
+-- what the run told with this status, and which it could be
+pub record Ended (run : Run) (status : ℕ) : Type 0 where
+  pub tells : Tells run status
+  pub owed : Owed run status
