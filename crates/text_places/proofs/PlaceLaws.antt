@@ -1,6 +1,5 @@
 -- Laws of lines and columns.
-use Rattle.std.proofs.Common.{◌≡◌, ◌≢◌, ◌⊎◌, inl, inr, ℕ, zero, suc, ◌+◌, ◌<◌, ◌≤◌, ◌==◌, Bool, true, false, cond, List, [], ◌∷◌, ◌++◌, length, take, get_or, refl, sym, ap, subst, ◌∙◌, arith, eqb-true}
-use Rattle.std.proofs.lemmas.Bool.{eqb-false}
+use Rattle.std.proofs.Common.{◌≡◌, ◌≢◌, ◌⊎◌, inl, inr, ℕ, zero, suc, ◌+◌, ◌<◌, ◌≤◌, ◌==◌, true, false, cond, List, [], ◌∷◌, ◌++◌, length, take, get_or, refl, sym, ap, subst, ◌∙◌, arith, eqb-true}
 use Rattle.std.specs.List.{AllByRecursion}
 use Rattle.text_places.specs.Places.{line_feeds, AreLines, IsPlace}
 
@@ -183,35 +182,11 @@ apart text a b line column h k p q = elim (either a b) [
 pub feed_step : (text : List ℕ) (i line column next now : ℕ) → i < length text → IsRead (take i text) line column → get_or text i 0 ≡ 10 → next ≡ line + 1 → now ≡ 1 → IsRead (take (i + 1) text) next now
 feed_step text i line column next now h r e a b =
     subst (λ n. IsRead (take (i + 1) text) n now) (sym a)
-      (subst (λ m. IsRead (take (i + 1) text) (line + 1) m) (sym b)
-        (subst (λ xs. IsRead xs (line + 1) 1) (sym (next_taken text i h)) (feed_read (take i text) (get_or text i 0) line column e r)))
+    (subst (λ m. IsRead (take (i + 1) text) (line + 1) m) (sym b)
+    (subst (λ xs. IsRead xs (line + 1) 1) (sym (next_taken text i h)) (feed_read (take i text) (get_or text i 0) line column e r)))
 
 pub byte_step : (text : List ℕ) (i line column next now : ℕ) → i < length text → IsRead (take i text) line column → get_or text i 0 ≢ 10 → next ≡ line → now ≡ column + 1 → IsRead (take (i + 1) text) next now
 byte_step text i line column next now h r e a b =
     subst (λ n. IsRead (take (i + 1) text) n now) (sym a)
-      (subst (λ m. IsRead (take (i + 1) text) line m) (sym b)
-        (subst (λ xs. IsRead xs line (column + 1)) (sym (next_taken text i h)) (byte_read (take i text) (get_or text i 0) line column e r)))
-
-take_past : (text : List ℕ) (n : ℕ) → length text ≤ n → take n text ≡ text
-take_past [] zero h = refl
-take_past [] (suc n) h = refl
-take_past (b ∷ text) zero h = absurd (omega (arith, h))
-take_past (b ∷ text) (suc n) h = ap (λ o. b ∷ o) (take_past text n (omega (arith, h)))
-
-take_least : (text : List ℕ) (at m : ℕ) → m ≤ at → m ≤ length text → (at ≤ m) ⊎ (length text ≤ m) → take m text ≡ take at text
-take_least text at m a b (inl h) = let same : m ≡ at = omega (arith, a, h) in ap (λ n. take n text) same
-take_least text at m a b (inr h) = take_past text m h ∙ sym (take_past text at (omega (arith, a, h)))
-
-pub place_told : (text : List ℕ) (at m i line column : ℕ) → m ≤ at → m ≤ length text → (at ≤ m) ⊎ (length text ≤ m) → length (take m text) ≤ i → IsRead (take i (take m text)) line column → IsPlace text at line column
-place_told text at m i line column a b which long r =
-    let same : take i (take m text) ≡ take at text = take_past (take m text) i long ∙ take_least text at m a b which in
-    let feeds = ap line_feeds same in
-    record {
-      lines = r.lines;
-      begun = r.begun;
-      ahead = sym same ∙ r.ahead;
-      whole = r.whole;
-      within = r.within;
-      line_is = r.line_is ∙ ap (λ n. 1 + n) feeds;
-      column_is = r.column_is;
-    }
+    (subst (λ m. IsRead (take (i + 1) text) line m) (sym b)
+    (subst (λ xs. IsRead xs line (column + 1)) (sym (next_taken text i h)) (byte_read (take i text) (get_or text i 0) line column e r)))

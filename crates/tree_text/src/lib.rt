@@ -7,6 +7,6 @@ mod reading;
 mod writing;
 
 pub use laws::tree_texts;
-pub use printing::program_text;
+pub use printing::{path_shown, program_text, quoted, test_shown};
 pub use reading::tree_from_json;
 pub use writing::tree_to_json;

@@ -12,14 +12,15 @@ use serde_json::Value as Json;
 use std::alloc::Global;
 
 /// A text as a JSON string.
-fn quoted(alloc: Global, text: Text) -> Result<Text, NoMemory>
+pub fn quoted(alloc: Global, text: Text) -> Result<Text, NoMemory>
     ensures { IfOk result (λ shown. shown ≡ quoted text) }
 {
     let json = Json::String(text.into_string());
     Ok(Text::from_string(json.to_string(alloc)?))
 }
 
-fn path_shown(alloc: Global, p: &Path) -> Result<Text, NoMemory>
+/// The text of a path, as a JSON string.
+pub fn path_shown(alloc: Global, p: &Path) -> Result<Text, NoMemory>
     ensures { IfOk result (λ shown. shown ≡ path_shown p.now) }
 {
     let text = p.text(alloc)?;
@@ -107,6 +108,15 @@ fn put_test(alloc: Global, test: &Test, into: &mut Text) -> Result<(), NoMemory>
         Test::IsEmpty(p) => with_path(alloc, "emptydir?(", p, into),
         Test::IsNone(p) => with_path(alloc, "none?(", p, into),
     }
+}
+
+/// A test as it is printed.
+pub fn test_shown(alloc: Global, test: &Test) -> Result<Text, NoMemory>
+    ensures { IfOk result (λ shown. shown ≡ test_text (test_of test.now)) }
+{
+    let mut text = Text::new(alloc);
+    put_test(alloc, test, &mut text)?;
+    Ok(text)
 }
 
 /// Prints programs, each behind `; `.

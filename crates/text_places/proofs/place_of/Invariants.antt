@@ -1,4 +1,4 @@
-use Rattle.std.proofs.Common.{◌≡◌, ◌≤◌, ◌+◌, take}
+use Rattle.std.proofs.Common.{◌≤◌, ◌+◌, take}
 use Rattle.text_places.proofs.PlaceLaws.{IsRead}
 use Rattle.text_places.proofs.place_of.Given as goal
 

@@ -1,0 +1,117 @@
+//! Smaller trees that show the same.
+
+ghost use Rattle.std.specs.Prelude.{◌≡◌, ℕ, Bool, length, map, IfOk};
+ghost use Rattle.fs_semantics.specs.Orders.{Told, IsCounterexample, IsSecondRunCounterexample};
+ghost use Rattle.fs_lang.specs.Meaning.{program_of};
+ghost use Rattle.smaller_witness.specs.Smaller.{IsWithin, AreBelow, IsAnswerable, Shows};
+
+use crate::question::{Question, shows};
+use crate::removal::without;
+use fs_lang::{Outcome, Path, Program, Tree};
+use rh_base::NoMemory;
+use rh_base::limits::PATH_SEGMENTS;
+use std::alloc::Global;
+
+/// So many parts are tried, with two replays each.
+const TRIALS: usize = 128;
+
+/// The paths of a tree, those of fewest segments first: so a part before the parts of it.
+fn parts_of<'a>(alloc: Global, tree: &'a Tree) -> Result<Vec<&'a Path>, NoMemory> {
+    let mut parts = Vec::new(alloc);
+    for depth in 0..PATH_SEGMENTS {
+        for (p, _) in tree.entries() {
+            if p.segments().len() == depth + 1 {
+                parts.push(p)?;
+            }
+        }
+    }
+    Ok(parts)
+}
+
+/// The tree without the part at a path, if it shows the same, else the tree.
+fn tried(
+    alloc: Global,
+    programs: &[Program],
+    question: Question,
+    tree: Tree,
+    p: &Path,
+) -> Result<Tree, NoMemory>
+    requires { IsAnswerable (length programs.now) question }
+    ensures shows { IfOk result (λ t. Shows (map program_of programs.now) question.entry tree → Shows (map program_of programs.now) question.entry t) }
+    ensures within { IfOk result (λ t. IsWithin t tree) }
+{
+    if tree.get(p).is_none() {
+        return Ok(tree);
+    }
+    let Outcome::Ended(less) = without(alloc, &tree, p)? else {
+        return Ok(tree);
+    };
+    if shows(alloc, programs, question, &less)? {
+        Ok(less)
+    } else {
+        Ok(tree)
+    }
+}
+
+/// A tree with as few parts as were found not to be needed.
+#[tactic(auto, using(crate::proofs::SmallerLaws::within_within, crate::proofs::SmallerLaws::within_itself))]
+fn shrunk(
+    alloc: Global,
+    programs: &[Program],
+    question: Question,
+    tree: &Tree,
+) -> Result<Tree, NoMemory>
+    requires { IsAnswerable (length programs.now) question }
+    ensures shows { IfOk result (λ t. Shows (map program_of programs.now) question.entry tree.now → Shows (map program_of programs.now) question.entry t) }
+    ensures within { IfOk result (λ t. IsWithin t tree.now) }
+{
+    let parts = parts_of(alloc, tree)?;
+    let mut smaller = tree.copy(alloc)?;
+    let mut trials = TRIALS;
+    for p in &parts {
+        if trials == 0 {
+            return Ok(smaller);
+        }
+        let stands = smaller.get(p).is_some();
+        trials = trials.saturating_sub(usize::from(stands));
+        smaller = tried(alloc, programs, question, smaller, p)?;
+    }
+    Ok(smaller)
+}
+
+/// A tree from which the two orders end apart as they do from the one given, without parts that this doesn't need.
+pub fn smaller_apart(
+    alloc: Global,
+    programs: &[Program],
+    left: &[u32],
+    right: &[u32],
+    tree: &Tree,
+) -> Result<Tree, NoMemory>
+    requires left { AreBelow (length programs.now) left.now }
+    requires right { AreBelow (length programs.now) right.now }
+    ensures shows { IfOk result (λ t. (before : ℕ → ℕ → Bool) → IsCounterexample (map program_of programs.now) (Told before) tree.now left.now right.now
+        → IsCounterexample (map program_of programs.now) (Told before) t left.now right.now) }
+    ensures within { IfOk result (λ t. IsWithin t tree.now) }
+{
+    let smaller = shrunk(alloc, programs, Question::Apart(left, right), tree)?;
+    smaller.is_tree();
+    Ok(smaller)
+}
+
+/// A tree from which a second run in the order changes what the first left, as from the one given, without parts that this
+/// doesn't need.
+pub fn smaller_again(
+    alloc: Global,
+    programs: &[Program],
+    order: &[u32],
+    tree: &Tree,
+) -> Result<Tree, NoMemory>
+    requires { AreBelow (length programs.now) order.now }
+    ensures shows { IfOk result (λ t. (before : ℕ → ℕ → Bool) → IsSecondRunCounterexample (map program_of programs.now) (Told before) tree.now order.now
+        → IsSecondRunCounterexample (map program_of programs.now) (Told before) t order.now) }
+    ensures within { IfOk result (λ t. IsWithin t tree.now) }
+{
+    let smaller = shrunk(alloc, programs, Question::Again(order), tree)?;
+    smaller.is_tree();
+    Ok(smaller)
+}
