@@ -10,9 +10,8 @@ use Rattle.order_encode.specs.Witnesses.{IsFirstExtension}
 use Rattle.order_encode.specs.declared.witness.Witness.TheVariants as witness
 use Rattle.wanted_entry.specs.declared.wanted.Wanted.{Wanted}
 use Rattle.wanted_entry.specs.Entries.{HasWanted}
-use Rattle.full_verdict.specs.Questions.{IsEnd}
 use Rattle.ensured_entry.specs.Questions.{IsMissed}
-use Rattle.ensured_entry.specs.Tried.{MissesFrom, EndsFrom}
+use Rattle.ensured_entry.specs.Tried.{MissesFrom}
 use Rattle.ensured_entry.proofs.MissingLaws.{allowed}
 
 -- the run ended in a tree, of which it is told whether it has the entry
@@ -37,6 +36,3 @@ below n m order e all = subst (λ c. AllByRecursion (λ k. k < c) order) (sym e)
 module _ (es : List Program) (order : Relation) (long : length es ≡ order.count) (first : List ℕ) (is_first : IsFirstExtension order first) where
   pub missed_from : (w : Wanted) (t : Tree) → MissesFrom es first w t → IsMissed es order w (witness.Ends t first)
   missed_from w t h = record { is_tree = h.0; allowed = allowed es order first long is_first; after = h.1.0; ends = h.1.1; misses = h.1.2 }
-
-  pub ended_from : (t : Tree) → EndsFrom es first t → IsEnd es order (witness.Ends t first)
-  ended_from t h = (is_first, h.0, h.1)
