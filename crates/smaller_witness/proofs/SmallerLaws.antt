@@ -1,12 +1,12 @@
 -- What removals leave, and what smaller trees show.
-use Rattle.std.proofs.Common.{◌≡◌, ◌≢◌, ◌⊎◌, inl, inr, ℕ, Bool, true, false, not, List, [], ◌∷◌, ◌++◌, map, Option, Some, None, refl, sym, ap, subst, ◌==◌, length, IfOk, Result, Ok, Err, ◌∙◌, arith, eqb-true}
+use Rattle.std.proofs.Common.{◌≡◌, ◌≢◌, ◌⊎◌, inl, inr, ℕ, Bool, true, false, not, List, [], ◌∷◌, ◌++◌, map, Some, None, refl, sym, ap, subst, ◌==◌, length, IfOk, Result, Ok, Err, ◌∙◌, arith, eqb-true}
 use Rattle.std.specs.Prelude.{◌↔◌, IsTrue}
 use Rattle.std.specs.List.{AllByRecursion}
 use Rattle.std.specs.FinMap as finite
-use Rattle.fs_semantics.specs.FileTree.{Path, Entry, Tree, IsTree}
+use Rattle.fs_semantics.specs.FileTree.{Path, Tree, IsTree}
 use Rattle.fs_semantics.specs.Programs as model
 use Rattle.fs_semantics.specs.Programs.{Rm, Steps, Outcome, and_then, run, run_all}
-use Rattle.fs_semantics.specs.Orders.{Told, IsCounterexample, IsSecondRunCounterexample, outcome}
+use Rattle.fs_semantics.specs.Orders.{Told, IsSecondRunCounterexample, outcome}
 use Rattle.fs_semantics.proofs.Words.{removed_word}
 use Rattle.fs_lang.specs.declared.program.Program.{Program}
 use Rattle.fs_lang.specs.declared.tree.Outcome as ending
@@ -16,7 +16,7 @@ use Rattle.fs_lang.specs.Meaning.{program_of, programs_in}
 use Rattle.tree_differences.specs.declared.placing.Difference as code
 use Rattle.tree_differences.specs.Differences.{Difference, AreDifferences}
 use Rattle.tree_differences.specs.Listed.{difference_of}
-use Rattle.smaller_witness.specs.Smaller.{IsWithin, OnlyRemoves, EndsWithin, EndApart, ChangesAgain}
+use Rattle.smaller_witness.specs.Smaller.{IsWithin, OnlyRemoves, ChangesAgain}
 
 pub only_rm : (p : Path) → OnlyRemoves (Rm p)
 only_rm p t u h q x there =
@@ -38,19 +38,11 @@ pub one_more : (es : List Program) (e : Program) → AllByRecursion (λ e. OnlyR
 one_more [] e h k = (k, tt)
 one_more (d ∷ es) e h k = (h.0, one_more es e h.1 k)
 
-pub ends_within : (t : Tree) (e : model.Program) (o : Outcome) → OnlyRemoves e → o ≡ run e t → EndsWithin t o
-ends_within t e None h k = tt
-ends_within t e (Some u) h k = h t u (sym k)
-
 pub within_within : (t u v : Tree) → IsWithin v u → IsWithin u t → IsWithin v t
 within_within t u v h k p x there = k p x (h p x there)
 
 pub within_itself : (t : Tree) → IsWithin t t
 within_itself t p x there = there
-
-pub still_apart : (es : List model.Program) (before : ℕ → ℕ → Bool) (t u : Tree) (left right : List ℕ) → IsTree u → (EndApart es left right t → EndApart es left right u)
-    → IsCounterexample es (Told before) t left right → IsCounterexample es (Told before) u left right
-still_apart es before t u left right is f c = record { is_tree = is; left_allowed = c.left_allowed; right_allowed = c.right_allowed; differ = f c.differ }
 
 pub still_changes : (es : List model.Program) (before : ℕ → ℕ → Bool) (t u : Tree) (order : List ℕ) → IsTree u → (ChangesAgain es order t → ChangesAgain es order u)
     → IsSecondRunCounterexample es (Told before) t order → IsSecondRunCounterexample es (Told before) u order

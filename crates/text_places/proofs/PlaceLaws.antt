@@ -13,9 +13,6 @@ pub record IsRead (text : List ℕ) (line column : ℕ) : Type 0 where
   pub line_is : line ≡ 1 + line_feeds text
   pub column_is : column ≡ 1 + length begun
 
-pub none_read : IsRead [] 1 1
-none_read = record { lines = []; begun = []; ahead = refl; whole = inl refl; within = tt; line_is = refl; column_is = refl }
-
 feeds_append : (a b : List ℕ) → line_feeds (a ++ b) ≡ line_feeds a + line_feeds b
 feeds_append [] b = omega arith
 feeds_append (x ∷ a) b = let rest = feeds_append a b in omega (arith, rest)
