@@ -1,12 +1,9 @@
 -- Tests of what stands at a path.
-use Rattle.std.proofs.Common.{◌≡◌, ℕ, ◌+◌, ◌==◌, Bool, true, false, ◌||◌, List, [], ◌∷◌, ◌++◌, length, map, nat_eq, IsTrue, refl, sym, ap, subst, ◌∙◌, arith, eqb-true, eq-eqb}
-use Rattle.std.specs.List.{list_any}
+use Rattle.std.proofs.Common.{◌≡◌, ℕ, ◌+◌, ◌==◌, Bool, true, false, List, [], ◌∷◌, ◌++◌, length, nat_eq, IsTrue, refl, sym, ap, subst, ◌∙◌, arith, eqb-true, eq-eqb}
 use Rattle.std.specs.FinMap as finite
 use Rattle.fs_semantics.specs.FileTree.{Path, Tree, parent, is_dir, is_none, is_folder_entry, is_no_entry}
 use Rattle.fs_semantics.specs.Disjoint.{IsAncestor}
 use Rattle.fs_semantics.proofs.Trees.{parent_of_child, parent_and_last, parent_is_above}
-use Rattle.fs_lang.specs.declared.program.Entry.{Entry}
-use Rattle.fs_lang.specs.Trees.{entries_of}
 
 pub dir_root : (t : Tree) (p : Path) → p ≡ [] → is_dir t p ≡ true
 dir_root t p e = ap (is_dir t) e
@@ -59,21 +56,6 @@ was_next p q xs ys x y there is =
     let left = ap length x in
     let right = ap length y ∙ ap length (sym is) in
     eq-eqb (length xs) (length ys + 1) (omega (arith, sum, whole, left, right))
-
--- ---- entries that are left
-
-pub key_here : (f : Path → Bool) (s t : List (Path × Entry)) (q : Path) (e : Entry) (whole : Bool) → s ≡ (q, e) ∷ t → f q ≡ true → list_any f (map (λ x. x.0) (entries_of s)) ≡ whole → true ≡ whole
-key_here f s t q e whole is h k = sym (ap (λ (xs : List (Path × Entry)). list_any f (map (λ x. x.0) (entries_of xs))) is ∙ ap (λ b. b || list_any f (map (λ x. x.0) (entries_of t))) h) ∙ k
-
-pub key_behind : (f : Path → Bool) (s t : List (Path × Entry)) (q : Path) (e : Entry) (whole : Bool) → s ≡ (q, e) ∷ t → f q ≡ false → list_any f (map (λ x. x.0) (entries_of s)) ≡ whole → list_any f (map (λ x. x.0) (entries_of t)) ≡ whole
-key_behind f s t q e whole is h k = sym (ap (λ (xs : List (Path × Entry)). list_any f (map (λ x. x.0) (entries_of xs))) is ∙ ap (λ b. b || list_any f (map (λ x. x.0) (entries_of t))) h) ∙ k
-
-pub no_key : (f : Path → Bool) (s : List (Path × Entry)) (whole : Bool) → s ≡ [] → list_any f (map (λ x. x.0) (entries_of s)) ≡ whole → false ≡ whole
-no_key f s whole is k = sym (ap (λ (xs : List (Path × Entry)). list_any f (map (λ x. x.0) (entries_of xs))) is) ∙ k
-
-pub not_true : (b : Bool) → (b ≡ true → ⊥) → b ≡ false
-not_true true h = absurd (h refl)
-not_true false h = refl
 
 pub on_or_off : (b : Bool) → b ≡ false → b ≡ true → ⊥
 on_or_off true h k = cc

@@ -1,9 +1,6 @@
-use Rattle.std.proofs.Common.{◌≡◌, ◌+◌, ◌-◌, ◌<◌, ◌≤◌, length, take, drop, None, rules, sym, subst, ◌∙◌, arith}
+use Rattle.std.proofs.Common.{◌+◌, ◌-◌, ◌<◌, ◌≤◌, length, rules, sym, subst, ◌∙◌, arith}
 use Rattle.std.specs.List.{AllByRecursion}
-use Rattle.fs_semantics.specs.Programs.{run_all}
-use Rattle.fs_semantics.specs.Orders.{up_from}
-use Rattle.fs_lang.specs.Meaning.{program_of, programs_in}
-use Rattle.fs_lang.specs.Sizes.{program_size, programs_size}
+use Rattle.fs_lang.specs.Meaning.{program_of}
 use Rattle.fs_lang.proofs.SizeLaws.{item_smaller}
 use Rattle.failure_search.proofs.FindLaws.{ok_map}
 use Rattle.failure_search.proofs.StepLaws.{numbers_below, a_step, all_end, below_all, leads, step_fails, rest_run, rest_shorter, rest_smaller, rest_leads_in}
