@@ -18,6 +18,10 @@ mod faults;
 #[cfg(test)]
 mod hostile;
 #[cfg(test)]
+mod made_up;
+#[cfg(test)]
+mod mending;
+#[cfg(test)]
 mod migrate;
 #[cfg(test)]
 mod proofs;

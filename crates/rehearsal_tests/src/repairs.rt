@@ -1,8 +1,9 @@
 //! The arrows that manifests lack, and what becomes of the manifests with them.
 
-use crate::common::{Told, compare, run_over};
-use std::alloc::Global;
-use std::process::Abort;
+use crate::common::compare;
+use crate::made_up;
+use crate::made_up::made_up;
+use crate::mending::{REPAIR, asked, is_mended};
 use std::test::Fail;
 
 /// Each package brings the unit of the service of its name; `it's\p` that of ntp too, and `pair` and `twin` one file with two contents.
@@ -58,72 +59,120 @@ const ROWS: [Row; 9] = [
 ];
 
 /// Manifests that lack arrows, of which there is more than one choice or order, and how many are told.
-const OPEN: [(&str, &str); 5] = [
+const OPEN: [(&str, usize); 5] = [
     (
         "package { 'ntp': } file { '/etc/ntp.conf': content => 'server a' }",
-        "resources 2\nedges 1\n",
+        1,
     ),
-    ("package { ['pair', 'twin']: }", "resources 2\nedges 1\n"),
+    ("package { ['pair', 'twin']: }", 1),
     (
         "package { ['ntp', 'ssh']: } service { ['ntp', 'ssh']: ensure => running }",
-        "resources 4\nedges 2\n",
+        2,
     ),
     (
         "package { 'ntp': } file { '/etc/ntp.conf': content => 'server a' } service { 'ntp': ensure => running }",
-        "resources 3\nedges 2\n",
+        2,
     ),
     (
         "file { '/a': content => 'x' } file { '/b': source => '/a' } file { '/c': source => '/b' }",
-        "resources 3\nedges 2\n",
+        2,
     ),
 ];
 
-fn asked(alloc: Global, words: &[&str], manifest: &str) -> Result<Told, Fail> {
-    let over: [(&str, &[u8]); 2] = [
-        ("site.pp", manifest.as_bytes()),
-        ("listing", LISTING.as_bytes()),
-    ];
-    run_over(alloc, words, &over)
-}
+/// What stands in `examples/`, with its listing.
+const NTP: &str =
+    r#"{"version":2,"packages":{"ntp":{"files":[["/etc/ntp.conf",null],["/lib/systemd/system/ntp.service","md5:0cc175b9c0f1b6a831c399e269772661"]],"folders":["/var/lib/ntp"]}}}"#;
 
-const REPAIR: [&str; 5] = ["--ask", "repair", "--packages", "listing", "site.pp"];
+const COLOURS: &str =
+    r#"{"version":2,"packages":{"red":{"files":[["/usr/share/common/licence","3f2a"]],"folders":[]},"blue":{"files":[["/usr/share/common/licence","91c0"]],"folders":[]}}}"#;
 
-/// With the lines of the arrows behind it the manifest is deterministic, and lacks none.
-fn is_mended(
-    alloc: Global,
-    rt: &impl Abort,
-    manifest: &str,
-    told: &str,
-    head: &str,
-) -> Result<(), Fail> {
-    let lines = told.strip_prefix(head).unwrap_or("?");
-    let arrows = lines.strip_suffix("deterministic\n").unwrap_or("?");
-    let with = format!(in alloc; "{manifest}\n{arrows}")?;
-    let judged = asked(alloc, &["--packages", "listing", "site.pp"], with.as_str())?;
-    let is_sure = judged.out.as_str().contains("\ndeterministic\n");
-    assert!(rt; is_sure, "{manifest}");
-    let again = asked(alloc, &REPAIR, with.as_str())?;
-    let lacks_none = again.out.as_str().contains("\nedges 0\ndeterministic\n");
-    assert!(rt; lacks_none, "{manifest}");
-    Ok(())
-}
+const EXAMPLES: [(&str, &str, usize); 9] = [
+    (
+        "class ntp($servers = ['a', 'b']) { $unit = $facts['os']['family'] ? { 'Debian' => 'ntp', default => 'ntpd' } package { 'ntp': ensure => installed } file { '/etc/ntp.conf': ensure => file, owner => 'root', mode => '0644', content => \"servers ${servers}\\n\", require => Package['ntp'] } service { $unit: ensure => running, enable => true, subscribe => File['/etc/ntp.conf'] } } include ntp",
+        NTP,
+        0,
+    ),
+    (
+        "file { '/etc/motd': content => 'hi' } file { '/etc/hosts.allow': content => 'sshd: 10.0.0.0/8' }",
+        NTP,
+        0,
+    ),
+    (
+        "package { 'ntp': ensure => installed } file { '/etc/ntp.conf': content => \"server a\\n\" }",
+        NTP,
+        1,
+    ),
+    (
+        "package { 'ntp': ensure => installed } service { 'ntp': ensure => running }",
+        NTP,
+        1,
+    ),
+    (
+        "group { 'web': ensure => present } user { 'deploy': ensure => present, gid => 'web' }",
+        NTP,
+        0,
+    ),
+    (
+        "file { '/etc/app/app.conf': content => \"port = 80\\n\" }",
+        NTP,
+        0,
+    ),
+    (
+        "package { ['red', 'blue']: ensure => installed }",
+        COLOURS,
+        1,
+    ),
+    (
+        "file { '/srv/app/settings': source => '/tmp/settings' } -> file { '/tmp/settings': ensure => absent }",
+        NTP,
+        0,
+    ),
+    (
+        "cron { 'rotate': command => '/usr/sbin/logrotate /etc/logrotate.conf', user => 'backup', minute => '0' }",
+        NTP,
+        0,
+    ),
+];
 
 #[test]
 fn arrows_that_are_missing(rt: HostRuntime) -> Result<(), Fail> {
     for (manifest, report) in ROWS {
-        let told = asked(rt.alloc(), &REPAIR, manifest)?;
+        let told = asked(rt.alloc(), &REPAIR, (manifest, LISTING))?;
         compare(&rt, &told, 0, report, "", manifest);
+        is_mended(rt.alloc(), &rt, (manifest, LISTING))?;
     }
     Ok(())
 }
 
 #[test]
-fn manifests_with_their_arrows(rt: HostRuntime) -> Result<(), Fail> {
-    for (manifest, head) in OPEN {
-        let told = asked(rt.alloc(), &REPAIR, manifest)?;
-        assert_eq!(rt; told.status, 0, "{manifest}");
-        is_mended(rt.alloc(), &rt, manifest, told.out.as_str(), head)?;
+fn arrows_of_more_than_one_choice(rt: HostRuntime) -> Result<(), Fail> {
+    for (manifest, count) in OPEN {
+        let found = is_mended(rt.alloc(), &rt, (manifest, LISTING))?;
+        assert_eq!(rt; found, count, "{manifest}");
     }
+    Ok(())
+}
+
+#[test]
+fn arrows_of_examples(rt: HostRuntime) -> Result<(), Fail> {
+    for (manifest, listing, count) in EXAMPLES {
+        let found = is_mended(rt.alloc(), &rt, (manifest, listing))?;
+        assert_eq!(rt; found, count, "{manifest}");
+    }
+    Ok(())
+}
+
+#[test]
+fn arrows_of_made_up_manifests(rt: HostRuntime) -> Result<(), Fail> {
+    let mut all = 0usize;
+    // Numbers whose manifests are answered quickly.
+    for seed in [8, 9, 15, 17, 26, 31] {
+        let manifest = made_up(rt.alloc(), seed)?;
+        let count = is_mended(rt.alloc(), &rt, (manifest.as_str(), made_up::LISTING))?;
+        all = all.saturating_add(count);
+    }
+    // Most of them lack some.
+    assert!(rt; all > 6, "{all}");
     Ok(())
 }
 
@@ -161,7 +210,7 @@ fn repairs_that_are_not_made(rt: HostRuntime) -> Result<(), Fail> {
         ),
     ];
     for (words, manifest, status, out, err) in rows {
-        let told = asked(rt.alloc(), words, manifest)?;
+        let told = asked(rt.alloc(), words, (manifest, LISTING))?;
         compare(&rt, &told, status, out, err, manifest);
     }
     Ok(())

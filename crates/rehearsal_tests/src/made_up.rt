@@ -1,0 +1,116 @@
+//! Manifests that are made up: packages with files and services, and users with homes, each with its arrow or without it.
+
+use std::alloc::Global;
+use std::test::Fail;
+
+/// The packages: each has a file of its own folder and a unit of its name. The first two have one file with two contents.
+pub const LISTING: &str = concat!(
+    r#"{"version":2,"packages":{"#,
+    r#""ntp":{"files":[["/etc/ntp/a",null],["/opt/shared","d1"],["/lib/systemd/system/ntp.service",null]],"folders":[]},"#,
+    r#""ssh":{"files":[["/etc/ssh/a",null],["/opt/shared","d2"],["/lib/systemd/system/ssh.service",null]],"folders":[]},"#,
+    r#""it's":{"files":[["/etc/it's/a",null],["/lib/systemd/system/it's.service",null]],"folders":["/srv/it's"]},"#,
+    r#""back\\slash":{"files":[["/etc/back\\slash/a",null],["/lib/systemd/system/back\\slash.service",null]],"folders":[]}}}"#
+);
+
+/// Names of packages, as they stand in quotes.
+const NAMES: [&str; 2] = [r"it\'s", r"back\\slash"];
+
+/// What goes with a package: a file right in /etc, one in the package's folder, and its service, each with its name in the middle.
+const PARTS: [(&str, &str); 3] = [
+    ("file { '/etc/", ".conf': content => 'x'"),
+    ("file { '/etc/", "/b': content => 'x'"),
+    ("service { '", "': ensure => running"),
+];
+
+/// What stands beside these.
+const OTHERS: [&str; 6] = [
+    "file { '/etc': ensure => directory }",
+    "user { 'u': gid => 'g', managehome => true, home => '/home/u' }",
+    "group { 'g': }",
+    "file { '/home/u/a': content => 'x' }",
+    "package { 'ntp': }",
+    "package { 'ssh': }",
+];
+
+/// Coins that fall the same way each time.
+#[derive(Drop)]
+struct Coins {
+    state: u32,
+}
+
+impl Coins {
+    fn is_head(&mut self) -> bool {
+        self.state = self
+            .state
+            .wrapping_mul(1_664_525)
+            .wrapping_add(1_013_904_223);
+        self.state >> 31 == 1
+    }
+
+    /// In three of four cases.
+    fn is_usual(&mut self) -> bool {
+        let one = self.is_head();
+        let other = self.is_head();
+        one || other
+    }
+}
+
+/// Puts a line ahead of the manifest or behind it.
+fn put(alloc: Global, coins: &mut Coins, line: &str, manifest: &mut String) -> Result<(), Fail> {
+    let held = format!(in alloc; "{line}\n")?;
+    if coins.is_head() {
+        manifest.insert_str(0, held.as_str())?;
+    } else {
+        manifest.push_str(held.as_str())?;
+    }
+    Ok(())
+}
+
+/// Puts a part of a package, with its arrow or without it.
+fn put_part(
+    alloc: Global,
+    coins: &mut Coins,
+    part: (&str, &str),
+    name: &str,
+    manifest: &mut String,
+) -> Result<(), Fail> {
+    let (front, back) = part;
+    let plain = format!(in alloc; "{front}{name}{back} }}")?;
+    let ordered = format!(in alloc; "{front}{name}{back}, require => Package['{name}'] }}")?;
+    let line = if coins.is_head() { plain } else { ordered };
+    put(alloc, coins, line.as_str(), manifest)
+}
+
+/// Puts a package and some of what goes with it.
+fn put_package(
+    alloc: Global,
+    coins: &mut Coins,
+    name: &str,
+    manifest: &mut String,
+) -> Result<(), Fail> {
+    let line = format!(in alloc; "package {{ '{name}': }}")?;
+    put(alloc, coins, line.as_str(), manifest)?;
+    for part in PARTS {
+        if coins.is_usual() {
+            put_part(alloc, coins, part, name, manifest)?;
+        }
+    }
+    Ok(())
+}
+
+/// The manifest of a number.
+pub fn made_up(alloc: Global, seed: u32) -> Result<String, Fail> {
+    let mut coins = Coins { state: seed };
+    let mut manifest = String::new(alloc);
+    for name in NAMES {
+        if coins.is_usual() {
+            put_package(alloc, &mut coins, name, &mut manifest)?;
+        }
+    }
+    for line in OTHERS {
+        if coins.is_head() {
+            put(alloc, &mut coins, line, &mut manifest)?;
+        }
+    }
+    Ok(manifest)
+}
