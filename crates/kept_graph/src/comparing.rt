@@ -101,7 +101,7 @@ fn ends_in(tree: &Tree, outcome: &Outcome) -> bool
 }
 
 /// Whether both are Error, or both one tree.
-pub(crate) fn same_outcome(a: &Outcome, b: &Outcome) -> bool
+pub fn same_outcome(a: &Outcome, b: &Outcome) -> bool
     ensures { IsTrue result ↔ (outcome_of a.now ≡ outcome_of b.now) }
 {
     match a {

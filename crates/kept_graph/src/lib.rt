@@ -7,5 +7,6 @@ mod counterexamples;
 mod kept;
 mod pairs;
 
+pub use comparing::same_outcome;
 pub use counterexamples::{Completed, end_alike, refute};
 pub use kept::{Kept, keep, kept_graphs, program_at};

@@ -12,3 +12,4 @@ pub mod ForkLaws
 pub mod PairLaws
 pub mod ToldLaws
 pub mod MissingLaws
+pub mod PartingLaws

@@ -4,3 +4,4 @@ pub mod Asked
 pub mod Witnesses
 pub mod Told
 pub mod Missing
+pub mod Parting

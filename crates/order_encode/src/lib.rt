@@ -1,6 +1,6 @@
 //! Questions about an order of programs as formulas: do two allowed orders end differently, do two programs, does a second run
 //! change what the first one left, does an order end in a tree, or in one
-//! without a wanted entry, each from a tree over the domain?
+//! without a wanted entry, do orders of two lists of programs end differently, each from a tree over the domain?
 #![tactic(auto)]
 
 mod again;
@@ -14,6 +14,7 @@ mod known;
 mod missing;
 mod order;
 mod pairs;
+mod parting;
 mod question;
 mod read;
 mod table;
@@ -24,5 +25,6 @@ pub use extension::{ask_some, ask_twice};
 pub use missing::ask_missing;
 pub use order::ask_order;
 pub use pairs::ask_pairs;
+pub use parting::ask_parting;
 pub use question::Question;
 pub use witness::Witness;
