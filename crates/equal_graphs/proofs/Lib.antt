@@ -1,0 +1,5 @@
+pub mod JoinLaws
+pub mod RunLaws
+pub mod TryLaws
+pub mod PartLaws
+pub mod ComparedLaws

@@ -1,0 +1,17 @@
+use Rattle.std.proofs.Common.{map}
+use Rattle.fs_semantics.specs.Orders.{Told}
+use Rattle.fs_lang.specs.Meaning.{program_of}
+use Rattle.orders.specs.Relation.{comes}
+use Rattle.answering.specs.Answers.{in_its_words}
+use Rattle.equal_graphs.specs.Equal.{AreEqual}
+use Rattle.equal_graphs.specs.Questions.{StatesParting, IsParting}
+use Rattle.equal_graphs.proofs.asking.ask_equal.Goals as goal
+
+pub returns : goal.returns
+returns c =
+    let es = map program_of c.args.left.now in
+    let fs = map program_of c.args.right.now in
+    let order = c.args.order.now in
+    let other = c.args.other.now in
+    let q = c.in_ok-question in
+    in_its_words q.question c.args.budget (StatesParting es order fs other) (AreEqual es (Told (comes order)) fs (Told (comes other))) (IsParting es order fs other) q.ensures.states q.ensures.equal q.ensures.models c.in_ok-found.found c.in_ok-found.ensures

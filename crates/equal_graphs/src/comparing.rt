@@ -1,0 +1,271 @@
+//! Comparing two graphs.
+
+ghost use Rattle.std.specs.Prelude.{◌≡◌, ◌≤◌, ◌++◌, length, map, IfOk, IfErr};
+ghost use Rattle.rh_base.specs.Refused.{IfRefused};
+ghost use Rattle.fs_semantics.specs.Orders.{Told};
+ghost use Rattle.fs_lang.specs.Meaning.{program_of, programs_in};
+ghost use Rattle.fs_interpreter.specs.Places.{CoversSteps};
+ghost use Rattle.finite_domain.specs.Layouts.{IsLayout};
+ghost use Rattle.path_domain.specs.Laid.{layout_of};
+ghost use Rattle.orders.specs.Relation.{comes};
+ghost use Rattle.judgement.specs.Answers.{IsJudged};
+ghost use Rattle.equal_graphs.specs.Equal.{AreEqual, FirstsPart};
+ghost use Rattle.equal_graphs.specs.Sizes.{AreWithin, IsTooLargeTogether};
+ghost use Rattle.equal_graphs.specs.Questions.{IsEqualProof, tree_in};
+ghost use Rattle.equal_graphs.specs.Compared.{IsSettled, IsUnsettled, IfLeft, IfLeftSettled, IfRight, IfRightSettled, IfEqual, IfDiffer, IfSpentOn, IsSpentOn, IsCompared};
+
+use crate::asking::ask_equal;
+use crate::compared::{Compared, Settled};
+use crate::joining::domain_within;
+use crate::trying::try_runs;
+use answering::Answer;
+use fs_lang::{Program, Tree};
+use judgement::{First, judge_order};
+use order_encode::Witness;
+use orders::Order;
+use path_domain::Domain;
+use rh_base::{Fault, NoMemory};
+use std::alloc::Global;
+
+/// The tree of a witness.
+fn tree_in(witness: Witness) -> Tree
+    ensures { result ≡ tree_in witness }
+{
+    match witness {
+        Witness::Orders { tree, .. } => tree,
+        Witness::Twice { tree, .. } => tree,
+        Witness::Ends { tree, .. } => tree,
+    }
+}
+
+/// Asks whether two graphs do the same of which each is deterministic.
+fn ask_settled(
+    alloc: Global,
+    left: &[Program],
+    order: &Order,
+    right: &[Program],
+    other: &Order,
+    domain: &Domain,
+    budget: u64,
+    one: Settled,
+    second: Settled,
+) -> Result<Compared, NoMemory>
+    requires left_count { length left.now ≡ order.now.count }
+    requires right_count { length right.now ≡ other.now.count }
+    requires budget { 1 ≤ budget }
+    requires layout { IsLayout (map program_of left.now ++ map program_of right.now) (layout_of domain.now) }
+    requires left_covers { CoversSteps domain.now.table (programs_in left.now) }
+    requires right_covers { CoversSteps domain.now.table (programs_in right.now) }
+    requires left_settled { IsSettled (map program_of left.now) order.now one }
+    requires right_settled { IsSettled (map program_of right.now) other.now second }
+    ensures { IfOk result (IsCompared (map program_of left.now) order.now (map program_of right.now) other.now budget) }
+{
+    let answer = ask_equal(alloc, left, order, right, other, domain, budget)?;
+    match answer {
+        Answer::Shown(witness) => Ok(Compared::Differ {
+            left: one,
+            right: second,
+            tree: tree_in(witness),
+        }),
+        Answer::Refuted(proof) => Ok(Compared::Equal {
+            left: one,
+            right: second,
+            proof,
+        }),
+        Answer::Spent(cnf, log) => Ok(Compared::Spent {
+            left: one,
+            right: second,
+            cnf,
+            log,
+        }),
+    }
+}
+
+/// Tries a few trees, and asks where their runs don't tell.
+fn compare_settled(
+    alloc: Global,
+    left: &[Program],
+    order: &Order,
+    right: &[Program],
+    other: &Order,
+    domain: &Domain,
+    budget: u64,
+    one: Settled,
+    second: Settled,
+) -> Result<Compared, NoMemory>
+    requires left_count { length left.now ≡ order.now.count }
+    requires right_count { length right.now ≡ other.now.count }
+    requires budget { 1 ≤ budget }
+    requires layout { IsLayout (map program_of left.now ++ map program_of right.now) (layout_of domain.now) }
+    requires left_covers { CoversSteps domain.now.table (programs_in left.now) }
+    requires right_covers { CoversSteps domain.now.table (programs_in right.now) }
+    requires left_settled { IsSettled (map program_of left.now) order.now one }
+    requires right_settled { IsSettled (map program_of right.now) other.now second }
+    ensures { IfOk result (IsCompared (map program_of left.now) order.now (map program_of right.now) other.now budget) }
+{
+    let found = try_runs(alloc, left, order, right, other)?;
+    match found {
+        Some(tree) => Ok(Compared::Differ {
+            left: one,
+            right: second,
+            tree,
+        }),
+        None => ask_settled(
+            alloc, left, order, right, other, domain, budget, one, second,
+        ),
+    }
+}
+
+/// Goes on from the answer to the question of order of the right graph.
+fn compare_right(
+    alloc: Global,
+    left: &[Program],
+    order: &Order,
+    right: &[Program],
+    other: &Order,
+    domain: &Domain,
+    budget: u64,
+    one: Settled,
+    answered: First,
+) -> Result<Compared, NoMemory>
+    requires left_count { length left.now ≡ order.now.count }
+    requires right_count { length right.now ≡ other.now.count }
+    requires budget { 1 ≤ budget }
+    requires layout { IsLayout (map program_of left.now ++ map program_of right.now) (layout_of domain.now) }
+    requires left_covers { CoversSteps domain.now.table (programs_in left.now) }
+    requires right_covers { CoversSteps domain.now.table (programs_in right.now) }
+    requires left_settled { IsSettled (map program_of left.now) order.now one }
+    requires judged { IsJudged (map program_of right.now) other.now budget answered }
+    ensures { IfOk result (IsCompared (map program_of left.now) order.now (map program_of right.now) other.now budget) }
+{
+    match answered {
+        First::Sure { pruned, sure } => compare_settled(
+            alloc,
+            left,
+            order,
+            right,
+            other,
+            domain,
+            budget,
+            one,
+            Settled { pruned, sure },
+        ),
+        First::Differs { pruned, witness } => Ok(Compared::Right {
+            left: one,
+            right: First::Differs { pruned, witness },
+        }),
+        First::Spent { pruned, cnf, log } => Ok(Compared::Right {
+            left: one,
+            right: First::Spent { pruned, cnf, log },
+        }),
+    }
+}
+
+/// Asks whether the right graph is deterministic, where the left one is, and goes on from there.
+fn judge_right(
+    alloc: Global,
+    left: &[Program],
+    order: &Order,
+    right: &[Program],
+    other: &Order,
+    domain: &Domain,
+    budget: u64,
+    one: Settled,
+) -> Result<Compared, Fault>
+    requires left_count { length left.now ≡ order.now.count }
+    requires right_count { length right.now ≡ other.now.count }
+    requires budget { 1 ≤ budget }
+    requires layout { IsLayout (map program_of left.now ++ map program_of right.now) (layout_of domain.now) }
+    requires left_covers { CoversSteps domain.now.table (programs_in left.now) }
+    requires right_covers { CoversSteps domain.now.table (programs_in right.now) }
+    requires within { AreWithin (map program_of left.now) (map program_of right.now) }
+    requires left_settled { IsSettled (map program_of left.now) order.now one }
+    ensures compared { IfOk result (IsCompared (map program_of left.now) order.now (map program_of right.now) other.now budget) }
+    ensures never { IfErr result (λ e. IfRefused e (λ r. ⊥)) }
+{
+    let answered = judge_order(alloc, right, other, budget)?;
+    let compared = compare_right(
+        alloc, left, order, right, other, domain, budget, one, answered,
+    )?;
+    Ok(compared)
+}
+
+/// Goes on from the answer to the question of order of the left graph.
+fn compare_left(
+    alloc: Global,
+    left: &[Program],
+    order: &Order,
+    right: &[Program],
+    other: &Order,
+    domain: &Domain,
+    budget: u64,
+    answered: First,
+) -> Result<Compared, Fault>
+    requires left_count { length left.now ≡ order.now.count }
+    requires right_count { length right.now ≡ other.now.count }
+    requires budget { 1 ≤ budget }
+    requires layout { IsLayout (map program_of left.now ++ map program_of right.now) (layout_of domain.now) }
+    requires left_covers { CoversSteps domain.now.table (programs_in left.now) }
+    requires right_covers { CoversSteps domain.now.table (programs_in right.now) }
+    requires within { AreWithin (map program_of left.now) (map program_of right.now) }
+    requires judged { IsJudged (map program_of left.now) order.now budget answered }
+    ensures compared { IfOk result (IsCompared (map program_of left.now) order.now (map program_of right.now) other.now budget) }
+    ensures never { IfErr result (λ e. IfRefused e (λ r. ⊥)) }
+{
+    match answered {
+        First::Sure { pruned, sure } => judge_right(
+            alloc,
+            left,
+            order,
+            right,
+            other,
+            domain,
+            budget,
+            Settled { pruned, sure },
+        ),
+        First::Differs { pruned, witness } => {
+            Ok(Compared::Left(First::Differs { pruned, witness }))
+        }
+        First::Spent { pruned, cnf, log } => {
+            Ok(Compared::Left(First::Spent { pruned, cnf, log }))
+        }
+    }
+}
+
+/// Whether two graphs do the same. First it is asked whether the left one is deterministic, and then whether the right one is, as
+/// `judge_order` does; then both are run from a few trees; then it is asked whether a tree over the domain of the programs of both
+/// gives the first extension of the one another outcome than that of the other. Each question has the whole budget; a budget of
+/// `u64::MAX` stands for none.
+pub fn compare(
+    alloc: Global,
+    left: &[Program],
+    order: &Order,
+    right: &[Program],
+    other: &Order,
+    budget: u64,
+) -> Result<Compared, Fault>
+    requires left_count { length left.now ≡ order.now.count }
+    requires right_count { length right.now ≡ other.now.count }
+    requires budget { 1 ≤ budget }
+    // It is refused exactly where the two are too large, before all else: together by the paths of their domain, or one of them by
+    // itself.
+    ensures within { IfOk result (λ c. AreWithin (map program_of left.now) (map program_of right.now)) }
+    ensures refused { IfErr result (λ e. IfRefused e (IsTooLargeTogether (map program_of left.now) (map program_of right.now))) }
+    ensures only { AreWithin (map program_of left.now) (map program_of right.now) → IfErr result (λ e. IfRefused e (λ r. ⊥)) }
+    // What is answered of either by itself is what `judge_order` answers; of the right one it is asked where the left one is
+    // deterministic.
+    ensures left { IfOk result (λ c. IfLeft c (IsUnsettled (map program_of left.now) order.now budget)) }
+    ensures left_settled { IfOk result (λ c. IfLeftSettled c (IsSettled (map program_of left.now) order.now)) }
+    ensures right { IfOk result (λ c. IfRight c (IsUnsettled (map program_of right.now) other.now budget)) }
+    ensures right_settled { IfOk result (λ c. IfRightSettled c (IsSettled (map program_of right.now) other.now)) }
+    // Over every file tree and all orders of both.
+    ensures equal { IfOk result (λ c. IfEqual c (λ f. AreEqual (map program_of left.now) (Told (comes order.now)) (map program_of right.now) (Told (comes other.now)))) }
+    ensures refuted { IfOk result (λ c. IfEqual c (IsEqualProof (map program_of left.now) order.now (map program_of right.now) other.now)) }
+    ensures differ { IfOk result (λ c. IfDiffer c (FirstsPart (map program_of left.now) order.now (map program_of right.now) other.now)) }
+    ensures spent { IfOk result (λ c. IfSpentOn c (IsSpentOn (map program_of left.now) order.now (map program_of right.now) other.now budget)) }
+{
+    let d = domain_within(alloc, left, right)?;
+    let answered = judge_order(alloc, left, order, budget)?;
+    let compared = compare_left(alloc, left, order, right, other, &d, budget, answered)?;
+    Ok(compared)
+}

@@ -1,0 +1,96 @@
+//! The domain of two lists of programs together, and their limits.
+
+ghost use Rattle.std.specs.Prelude.{◌≡◌, ◌++◌, List, map, IfOk, IfErr, OnOk};
+ghost use Rattle.rh_base.specs.Refused.{IfRefused};
+ghost use Rattle.fs_semantics.specs.Programs.{Program as E};
+ghost use Rattle.fs_lang.specs.Meaning.{program_of, programs_in};
+ghost use Rattle.fs_interpreter.specs.Places.{CoversSteps};
+ghost use Rattle.finite_domain.specs.Layouts.{IsLayout};
+ghost use Rattle.path_domain.specs.Laid.{layout_of};
+ghost use Rattle.verdict.specs.Limits.{HasPaths, HasFewPaths, IsLight};
+ghost use Rattle.equal_graphs.specs.Sizes.{IsTooWide, AreWithin, IsTooLargeTogether};
+
+use fs_lang::Program;
+use path_domain::{Domain, domain};
+use rh_base::limits::DOMAIN_PATHS;
+use rh_base::{Fault, NoMemory, Seq};
+use std::alloc::Global;
+use verdict::{check_size, path_counts};
+
+/// Adds equal programs.
+fn copy_all(alloc: Global, programs: &[Program], into: &mut Seq<Program>) -> Result<(), NoMemory>
+    ensures { OnOk result (into.new ≡ into.old ++ programs.now) }
+{
+    for program in programs {
+        into.push(program.copy(alloc)?)?;
+    }
+    Ok(())
+}
+
+/// Equal programs, those of the right list behind those of the left.
+pub(crate) fn joined(
+    alloc: Global,
+    left: &[Program],
+    right: &[Program],
+) -> Result<Seq<Program>, NoMemory>
+    ensures { IfOk result (λ all. all ≡ left.now ++ right.now) }
+{
+    let mut all = Seq::new(alloc);
+    copy_all(alloc, left, &mut all)?;
+    copy_all(alloc, right, &mut all)?;
+    Ok(all)
+}
+
+/// The domain of both.
+fn domain_of_both(alloc: Global, left: &[Program], right: &[Program]) -> Result<Domain, NoMemory>
+    ensures layout { IfOk result (λ d. IsLayout (map program_of left.now ++ map program_of right.now) (layout_of d)) }
+    ensures left { IfOk result (λ d. CoversSteps d.table (programs_in left.now)) }
+    ensures right { IfOk result (λ d. CoversSteps d.table (programs_in right.now)) }
+{
+    let all = joined(alloc, left, right)?;
+    let d = domain(alloc, all.as_slice())?;
+    Ok(d)
+}
+
+/// How many paths a domain has.
+fn path_count(domain: &Domain) -> u64
+    ensures { (es : List E) → IsLayout es (layout_of domain.now) → HasPaths es result }
+{
+    domain.table.path_count()
+}
+
+/// The domain of both, unless it has too many paths.
+fn joined_domain(alloc: Global, left: &[Program], right: &[Program]) -> Result<Domain, Fault>
+    ensures layout { IfOk result (λ d. IsLayout (map program_of left.now ++ map program_of right.now) (layout_of d)) }
+    ensures left { IfOk result (λ d. CoversSteps d.table (programs_in left.now)) }
+    ensures right { IfOk result (λ d. CoversSteps d.table (programs_in right.now)) }
+    ensures paths { IfOk result (λ d. HasFewPaths (map program_of left.now ++ map program_of right.now)) }
+    ensures refused { IfErr result (λ e. IfRefused e (IsTooWide (map program_of left.now) (map program_of right.now))) }
+    ensures only { HasFewPaths (map program_of left.now ++ map program_of right.now) → IfErr result (λ e. IfRefused e (λ r. ⊥)) }
+{
+    path_counts();
+    let d = domain_of_both(alloc, left, right)?;
+    if path_count(&d) > DOMAIN_PATHS {
+        return Err(Fault::refused(alloc, 70, 0, "domain"));
+    }
+    Ok(d)
+}
+
+/// The domain of both, unless they are too large to be compared.
+pub(crate) fn domain_within(
+    alloc: Global,
+    left: &[Program],
+    right: &[Program],
+) -> Result<Domain, Fault>
+    ensures layout { IfOk result (λ d. IsLayout (map program_of left.now ++ map program_of right.now) (layout_of d)) }
+    ensures left { IfOk result (λ d. CoversSteps d.table (programs_in left.now)) }
+    ensures right { IfOk result (λ d. CoversSteps d.table (programs_in right.now)) }
+    ensures within { IfOk result (λ d. AreWithin (map program_of left.now) (map program_of right.now)) }
+    ensures refused { IfErr result (λ e. IfRefused e (IsTooLargeTogether (map program_of left.now) (map program_of right.now))) }
+    ensures only { AreWithin (map program_of left.now) (map program_of right.now) → IfErr result (λ e. IfRefused e (λ r. ⊥)) }
+{
+    let d = joined_domain(alloc, left, right)?;
+    check_size(alloc, left)?;
+    check_size(alloc, right)?;
+    Ok(d)
+}

@@ -1,0 +1,87 @@
+//! Runs of both graphs from a few trees, before any formula is made.
+
+ghost use Rattle.std.specs.Prelude.{◌≡◌, ◌↔◌, ◌<◌, length, map, IsTrue, IfSome, IfOk};
+ghost use Rattle.std.specs.List.{AllByRecursion};
+ghost use Rattle.fs_semantics.specs.Orders.{outcome};
+ghost use Rattle.fs_lang.specs.Meaning.{program_of};
+ghost use Rattle.order_encode.specs.Parting.{EndDifferently};
+ghost use Rattle.equal_graphs.specs.Equal.{FirstsPart};
+ghost use Rattle.equal_graphs.specs.Tried.{PartsFrom};
+
+use crate::joining::joined;
+use fs_lang::{Program, Tree};
+use fs_replay::replay;
+use kept_graph::same_outcome;
+use orders::Order;
+use rh_base::{NoMemory, Seq};
+use std::alloc::Global;
+use tried_trees::first_trees;
+
+/// Whether the two orders end alike from the tree.
+fn end_alike(
+    alloc: Global,
+    left: &[Program],
+    order: &[u32],
+    right: &[Program],
+    other: &[u32],
+    tree: &Tree,
+) -> Result<bool, NoMemory>
+    requires nodes { AllByRecursion (λ k. k < length left.now) order.now }
+    requires others { AllByRecursion (λ k. k < length right.now) other.now }
+    ensures { IfOk result (λ alike. IsTrue alike ↔ (outcome (map program_of left.now) order.now tree.now ≡ outcome (map program_of right.now) other.now tree.now)) }
+{
+    let one = replay(alloc, left, order, tree)?;
+    let second = replay(alloc, right, other, tree)?;
+    Ok(same_outcome(&one, &second))
+}
+
+/// The first of the trees from which the two orders end differently.
+fn first_parting(
+    alloc: Global,
+    left: &[Program],
+    order: &[u32],
+    right: &[Program],
+    other: &[u32],
+    trees: &[Tree],
+) -> Result<Option<Tree>, NoMemory>
+    requires nodes { AllByRecursion (λ k. k < length left.now) order.now }
+    requires others { AllByRecursion (λ k. k < length right.now) other.now }
+    ensures { IfOk result (λ found. IfSome found (PartsFrom (map program_of left.now) order.now (map program_of right.now) other.now)) }
+{
+    for tree in trees {
+        tree.is_tree();
+        let alike = end_alike(alloc, left, order, right, other, tree)?;
+        if !alike {
+            let found = tree.copy(alloc)?;
+            return Ok(Some(found));
+        }
+    }
+    Ok(None)
+}
+
+/// Runs both first extensions from a few trees.
+pub(crate) fn try_runs(
+    alloc: Global,
+    left: &[Program],
+    order: &Order,
+    right: &[Program],
+    other: &Order,
+) -> Result<Option<Tree>, NoMemory>
+    requires left { length left.now ≡ order.now.count }
+    requires right { length right.now ≡ other.now.count }
+    ensures { IfOk result (λ found. IfSome found (FirstsPart (map program_of left.now) order.now (map program_of right.now) other.now)) }
+{
+    let one = order.first_extension()?;
+    let second = other.first_extension()?;
+    let all = joined(alloc, left, right)?;
+    let trees = first_trees(alloc, all.as_slice())?;
+    let found = first_parting(
+        alloc,
+        left,
+        one.as_slice(),
+        right,
+        second.as_slice(),
+        trees.as_slice(),
+    )?;
+    Ok(found)
+}
