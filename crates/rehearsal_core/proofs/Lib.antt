@@ -1,4 +1,5 @@
 pub mod Telling
+pub mod ComparedLaws
 pub mod HeadlineLaws
 pub mod Endings
 pub mod ProofLaws

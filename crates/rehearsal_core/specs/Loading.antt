@@ -1,7 +1,7 @@
 -- Reading the files of a request, step by step.
 use Rattle.std.specs.Prelude.{Result, Ok, Err}
-use Rattle.rh_base.specs.declared.fault.Fault.{Fault}
-use Rattle.rh_base.specs.declared.fault.Fault.TheVariants.{Refused, Memory}
+use Rattle.reports.specs.declared.sides.Untold.{Untold}
+use Rattle.reports.specs.declared.sides.Untold.TheVariants as untold
 use Rattle.command_line.specs.declared.request.Request.{Request}
 use Rattle.command_line.specs.declared.request.Source.TheVariants as source
 use Rattle.verdict_report.specs.declared.report.Report.{Report}
@@ -14,7 +14,7 @@ abbrev pub request_about : Names → Request
 request_about n = record { ask = n.ask; node = n.node; conflicts = n.conflicts; wanted = n.wanted; source = source.Files n.files }
 
 -- what there is to say of an answer
-abbrev pub concluded : Result Report Fault → Ending
+abbrev pub concluded : Result Report Untold → Ending
 concluded (Ok report) = ending.Report report
-concluded (Err (Refused r)) = ending.Refused r
-concluded (Err (Memory m)) = ending.Memory
+concluded (Err (untold.Refused s r)) = ending.Refused s r
+concluded (Err (untold.Memory m)) = ending.Memory

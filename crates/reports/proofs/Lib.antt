@@ -4,3 +4,4 @@ pub mod StageLaws
 pub mod ReplayLaws
 pub mod LineLaws
 pub mod QuestionLaws
+pub mod ComparisonLaws
