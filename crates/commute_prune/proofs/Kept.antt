@@ -7,9 +7,9 @@ use Rattle.fs_semantics.specs.Programs.{Program, Id, and_then, run}
 use Rattle.fs_semantics.specs.Orders.{NoneAhead, times, up_from, outcome, IsLinearExtension, IsDeterministic}
 use Rattle.fs_semantics.specs.Changes.{IsProper}
 use Rattle.fs_semantics.proofs.Counts.{times_itself, times_other, all_from}
-use Rattle.commute_prune.specs.Pruning.{without, IsOrderOf, Move, ToFirst, ToLast, Leads, firsts, lasts, chosen, between, AreSome}
+use Rattle.commute_prune.specs.Pruning.{without, IsOrderOf, Move, ToFirst, ToLast, Leads, firsts, lasts, chosen, between, AreSome, EndsAsKept}
 use Rattle.commute_prune.proofs.Lists.{none_left, others_left}
-use Rattle.commute_prune.proofs.MovedLaws.{AllAgree, agree_from, completed}
+use Rattle.commute_prune.proofs.MovedLaws.{AllAgree, agree_from, kept_of, completed}
 use Rattle.commute_prune.proofs.StepLaws.{up_below, without_keeps, without_short}
 
 same_test : (a b c d : ℕ) → (a ≡ b → c ≡ d) → (c ≡ d → a ≡ b) → (a == b) ≡ (c == d)
@@ -246,3 +246,14 @@ module _ (es : List Program) (before : ℕ → ℕ → Type 0) where
         → IsLinearExtension (length es) before (firsts moves ++ (map (λ i. get_or kept i 0) o ++ lasts moves))
     completed_order o a = all_in_order (length es) before _
         (completed es proper before moves (up_from 0 (length es)) kept (map (λ i. get_or kept i 0) o) leads (as_numbers before es kept o (kept_once moves _ kept leads (once_up (length es))) a))
+
+    pub ends_as_kept : (o : List ℕ) → IsLinearExtension (length es) before o → EndsAsKept es before moves kept o
+    ends_as_kept o a =
+        let once = kept_once moves _ kept leads (once_up (length es)) in
+        let y = kept_of es proper before moves (up_from 0 (length es)) kept o leads (order_of_all (length es) before o a) in
+        let all = all_from (λ j. 0 < times j kept) y.rest (λ j h. omega (arith, h, y.order.same j)) in
+        record {
+          rest = map (λ k. place k kept) y.rest;
+          allowed = as_places before es kept y.rest once y.order;
+          alike = λ t tree. y.alike t tree ∙ ap (λ r. outcome es (firsts moves ++ (r ++ lasts moves)) t) (sym (back_and_forth kept y.rest all));
+        }

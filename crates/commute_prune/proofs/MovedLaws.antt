@@ -138,6 +138,38 @@ module _ (es : List Program) (proper : AllByRecursion IsProper es) (before : ℕ
       let y = first_of_order k ks p leads.0 b in
       x.alike t tree ∙ after k x.rest y.rest t tree (λ u tree_too. agree_from moves (without k ks) kept leads.1 h u tree_too x.rest y.rest x.order y.order) ∙ sym (y.alike t tree)
 
+  -- an order ends as what goes first, what is kept in some order, and what goes last
+  pub record KeptOf (moves : List Move) (kept o : List ℕ) : Type 0 where
+    pub rest : List ℕ
+    pub order : IsOrderOf before kept rest
+    pub alike : (t : Tree) → IsTree t → outcome es o t ≡ outcome es (firsts moves ++ (rest ++ lasts moves)) t
+
+  pub kept_of : (moves : List Move) (ks kept o : List ℕ) → Leads es before moves ks kept → IsOrderOf before ks o → KeptOf moves kept o
+  kept_of [] ks kept o leads order = record {
+    rest = o;
+    order = subst (λ r. IsOrderOf before r o) (sym leads) order;
+    alike = λ t tree. ap (λ r. outcome es r t) (sym (append-nil o));
+  }
+  kept_of (ToLast k ∷ moves) ks kept o leads order =
+      let x = last_of k ks o leads.0 order in
+      let y = kept_of moves (without k ks) kept x.rest leads.1 x.order in
+      let r = firsts moves ++ (y.rest ++ lasts moves) in
+      let whole : r ++ k ∷ [] ≡ firsts moves ++ (y.rest ++ (lasts moves ++ k ∷ [])) = append_assoc (firsts moves) (y.rest ++ lasts moves) (k ∷ []) ∙ ap (λ z. firsts moves ++ z) (append_assoc y.rest (lasts moves) (k ∷ [])) in
+      record {
+        rest = y.rest;
+        order = y.order;
+        alike = λ t tree. x.alike t tree ∙ outcome-append es x.rest (k ∷ []) t ∙ ap (λ z. and_then z (outcome es (k ∷ []))) (y.alike t tree)
+            ∙ sym (outcome-append es r (k ∷ []) t) ∙ ap (λ z. outcome es z t) whole;
+      }
+  kept_of (ToFirst k ∷ moves) ks kept o leads order =
+      let x = first_of_order k ks o leads.0 order in
+      let y = kept_of moves (without k ks) kept x.rest leads.1 x.order in
+      record {
+        rest = y.rest;
+        order = y.order;
+        alike = λ t tree. x.alike t tree ∙ after k x.rest (firsts moves ++ (y.rest ++ lasts moves)) t tree y.alike;
+      }
+
   -- what was moved completes an order of what is kept
   pub completed : (moves : List Move) (ks kept o : List ℕ) → Leads es before moves ks kept → IsOrderOf before kept o → IsOrderOf before ks (firsts moves ++ (o ++ lasts moves))
   completed [] ks kept o leads order = subst (λ r. IsOrderOf before ks r) (sym (append-nil o)) (subst (λ r. IsOrderOf before r o) leads order)

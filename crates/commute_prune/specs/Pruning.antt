@@ -1,8 +1,9 @@
 -- Setting aside programs whose order doesn't matter.
 use Rattle.std.specs.Prelude.{◌≡◌, ◌≢◌, ◌==◌, ℕ, ◌<◌, ◌≤◌, List, [], ◌∷◌, ◌++◌, map, slice_index_or, length, if◌then◌else◌}
 use Rattle.std.specs.List.{AllByRecursion}
+use Rattle.fs_semantics.specs.FileTree.{Tree, IsTree}
 use Rattle.fs_semantics.specs.Programs.{Program, Id}
-use Rattle.fs_semantics.specs.Orders.{NoneAhead, times}
+use Rattle.fs_semantics.specs.Orders.{NoneAhead, IsLinearExtension, times, outcome}
 use Rattle.effect_sets.specs.Footprints.{footprint, AreApart}
 
 -- these numbers, without one of them
@@ -80,3 +81,10 @@ pub record AreSome (n : ℕ) (ks : List ℕ) : Type 0 where
   pub below : AllByRecursion (λ k. k < n) ks
   pub once : (k : ℕ) → times k ks ≤ 1
   pub few : length ks ≤ n
+
+-- From every tree an order of all programs ends as what goes first, the kept programs in this order of theirs, and what goes last.
+pub record EndsAsKept (es : List Program) (before : ℕ → ℕ → Type 0) (moves : List Move) (kept order : List ℕ) : Type 0 where
+  pub rest : List ℕ
+  pub allowed : IsLinearExtension (length (chosen es kept)) (between before kept) rest
+  pub alike : (t : Tree) → IsTree t
+      → outcome es order t ≡ outcome es (firsts moves ++ (map (λ i. slice_index_or kept i 0) rest ++ lasts moves)) t

@@ -8,13 +8,13 @@ ghost use Rattle.fs_semantics.specs.Orders.{Told, up_from, IsLinearExtension, Is
 ghost use Rattle.sure_folders.specs.Folders.{nowhere, IsTreeWith};
 ghost use Rattle.sure_folders.specs.Before.{IsSureBeforeEither};
 ghost use Rattle.commute_prune.specs.Doubtful.{AreApartWhereSure, AreDoubtful};
-ghost use Rattle.commute_prune.specs.Pruning.{Move, Leads, Prunes, firsts, lasts, chosen, between, AreSome};
+ghost use Rattle.commute_prune.specs.Pruning.{Move, Leads, Prunes, firsts, lasts, chosen, between, AreSome, EndsAsKept};
 
 use sure_folders::{apart_where_sure, sure_before};
 
 /// The moves of a pruning are determined, and lead to what is kept, which is some of all. Where the kept programs are
-/// deterministic, all are; and an allowed order of the kept ones, completed by what goes first and what goes last, is one of
-/// all.
+/// deterministic, all are; an allowed order of the kept ones, completed by what goes first and what goes last, is one of all;
+/// and each allowed order of all ends as one that is completed so.
 pub fn pruning()
     ensures leads { (es : List Program) (before : ℕ → ℕ → Bool) (moves : List Move) (ks kept : List ℕ)
         → Prunes es (Told before) moves ks kept → Leads es (Told before) moves ks kept }
@@ -30,6 +30,9 @@ pub fn pruning()
         → Leads es (Told before) moves (up_from 0 (length es)) kept
         → (o : List ℕ) → IsLinearExtension (length (chosen es kept)) (between (Told before) kept) o
         → IsLinearExtension (length es) (Told before) (firsts moves ++ (map (λ i. slice_index_or kept i 0) o ++ lasts moves)) }
+    ensures rearranged { (es : List Program) → AllByRecursion IsProper es → (before : ℕ → ℕ → Bool) (moves : List Move) (kept : List ℕ)
+        → Leads es (Told before) moves (up_from 0 (length es)) kept
+        → (o : List ℕ) → IsLinearExtension (length es) (Told before) o → EndsAsKept es (Told before) moves kept o }
 {}
 
 /// Programs that are apart, each where the folders stand that are sure before it, commute from the trees in which these stand. So

@@ -3,6 +3,9 @@
 ghost use Rattle.std.specs.Prelude.{◌≡◌, ◌≤◌, ℕ, Bool, map, length, IfOk};
 ghost use Rattle.fs_semantics.specs.Orders.{Told, IsDeterministic};
 ghost use Rattle.fs_lang.specs.Meaning.{program_of};
+ghost use Rattle.finite_domain.specs.Layouts.{IsLayout};
+ghost use Rattle.path_domain.specs.declared.listed.Domain.{Domain};
+ghost use Rattle.path_domain.specs.Laid.{layout_of};
 ghost use Rattle.orders.specs.Relation.{comes};
 ghost use Rattle.cnf.specs.Encoding.{inputs_in};
 ghost use Rattle.cnf.specs.Formulas.{Satisfies};
@@ -25,8 +28,13 @@ use rh_base::NoMemory;
 use std::alloc::Global;
 
 /// The question of order of these programs. Where its formula has no model, they are deterministic.
-fn question(alloc: Global, programs: &[Program], order: &Order) -> Result<Question, NoMemory>
+pub(crate) fn question(
+    alloc: Global,
+    programs: &[Program],
+    order: &Order,
+) -> Result<Question, NoMemory>
     requires { length programs.now ≡ order.now.count }
+    ensures laid { IfOk result (λ q. (d : Domain) × IsLayout (map program_of programs.now) (layout_of d)) }
     ensures states { IfOk result (λ q. States (map program_of programs.now) (Told (comes order.now)) q.formula) }
     ensures sure { IfOk result (λ q. HasNoModel q.formula → IsDeterministic (map program_of programs.now) (Told (comes order.now))) }
     ensures models { IfOk result (λ q. (v : ℕ → Bool) → Satisfies v q.formula.clauses → (w : Witness) → Shows q (inputs_in v) w → IsDifference (map program_of programs.now) (Told (comes order.now)) w) }
@@ -40,7 +48,7 @@ fn question(alloc: Global, programs: &[Program], order: &Order) -> Result<Questi
 }
 
 /// Asks whether allowed orders have different outcomes.
-fn ask_orders(
+pub(crate) fn ask_orders(
     alloc: Global,
     programs: &[Program],
     order: &Order,

@@ -10,12 +10,12 @@ ghost use Rattle.kept_graph.specs.Kept.{IsKept};
 ghost use Rattle.verdict.specs.Limits.{HasFewPaths, IsLight, IsTooLarge};
 ghost use Rattle.judgement.specs.Questions.{IsKeptDeterministic};
 ghost use Rattle.judgement.specs.First.{IsPrunedCount, IsProof, IsSpent, IsDifference, pruned_in, IsAlone, IfSure, IfProved, IfDiffers, IfSpent};
-ghost use Rattle.order_encode.specs.declared.witness.Witness.TheVariants as orders;
-ghost use Rattle.judgement.specs.Answers.{HasTwoOrders, IsJudged};
+ghost use Rattle.judgement.specs.Answers.{IsJudged};
 
 use crate::asking::ask;
 use crate::first::{First, Sure};
 use crate::settling::{Settled, settle};
+use crate::whole::{ask_whole, two_orders};
 use answering::Answer;
 use commute_prune::pruning;
 use finite_search::determinism_is_decided;
@@ -56,7 +56,7 @@ fn judge_whole(
 {
     pruning();
     let pruned = pruned_count(order, kept);
-    let answer = ask(alloc, programs, order, budget)?;
+    let answer = ask_whole(alloc, programs, order, kept, budget)?;
     match answer {
         Answer::Refuted(verified) => Ok(First::Sure {
             pruned,
@@ -64,17 +64,6 @@ fn judge_whole(
         }),
         Answer::Shown(witness) => Ok(First::Differs { pruned, witness }),
         Answer::Spent(cnf, log) => Ok(First::Spent { pruned, cnf, log }),
-    }
-}
-
-/// The tree and the two orders of a difference.
-fn two_orders(witness: Witness) -> (Tree, Seq<u32>, Seq<u32>)
-    requires { HasTwoOrders witness }
-    ensures { witness ≡ orders.Orders result.0 result.1 result.2 }
-{
-    match witness {
-        Witness::Orders { tree, left, right } => (tree, left, right),
-        Witness::Twice { .. } | Witness::Ends { .. } => unreachable!(),
     }
 }
 

@@ -9,6 +9,7 @@ mod joining;
 mod judging;
 mod pairs;
 mod settling;
+mod whole;
 
 pub use first::{First, Sure};
 pub use judging::judge_order;

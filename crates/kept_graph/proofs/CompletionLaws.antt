@@ -35,7 +35,7 @@ counted (j ∷ ks) (suc i) h = omega (arith, counted ks i (omega arith))
 twice : (k : ℕ) (ks : List ℕ) (i : ℕ) → i < length ks → k ≡ get_or ks i 0 → ((j : ℕ) → times j (k ∷ ks) ≤ 1) → ⊥
 twice k ks i h e once = omega (arith, once k, times_itself k ks, subst (λ j. 0 < times j ks) (sym e) (counted ks i h))
 
-one_place : (ks : List ℕ) (i j : ℕ) → ((k : ℕ) → times k ks ≤ 1) → i < length ks → j < length ks → get_or ks i 0 ≡ get_or ks j 0 → i ≡ j
+pub one_place : (ks : List ℕ) (i j : ℕ) → ((k : ℕ) → times k ks ≤ 1) → i < length ks → j < length ks → get_or ks i 0 ≡ get_or ks j 0 → i ≡ j
 one_place [] i j once h g e = absurd (omega (arith, h))
 one_place (k ∷ ks) zero zero once h g e = refl
 one_place (k ∷ ks) zero (suc j) once h g e = absurd (twice k ks j (omega (arith, g)) e once)

@@ -1,3 +1,4 @@
 pub mod Pairs
 pub mod Kept
 pub mod Completed
+pub mod Contracted

@@ -13,7 +13,7 @@ use commute_prune::{Pruned, pruning};
 use rh_base::{NoMemory, Seq};
 use std::alloc::Global;
 
-fn push_all(list: &mut Seq<u32>, more: &[u32]) -> Result<(), NoMemory>
+pub(crate) fn push_all(list: &mut Seq<u32>, more: &[u32]) -> Result<(), NoMemory>
     ensures { OnOk result (list.new ≡ list.old ++ more.now) }
 {
     for k in more {

@@ -3,10 +3,12 @@
 
 mod comparing;
 mod completing;
+mod contracted;
 mod counterexamples;
 mod kept;
 mod pairs;
 
 pub use comparing::same_outcome;
+pub use contracted::{Contracted, contract, contractions, expand};
 pub use counterexamples::{Completed, end_alike, refute};
 pub use kept::{Kept, keep, kept_graphs, program_at};

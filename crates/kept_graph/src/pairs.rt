@@ -68,7 +68,11 @@ fn push_row(
     Ok(())
 }
 
-fn pairs_of(alloc: Global, order: &Order, nodes: &[u32]) -> Result<Seq<(u32, u32)>, NoMemory>
+pub(crate) fn pairs_of(
+    alloc: Global,
+    order: &Order,
+    nodes: &[u32],
+) -> Result<Seq<(u32, u32)>, NoMemory>
     requires within { AllByRecursion (λ k. k < order.now.count) nodes.now }
     requires few { length nodes.now ≤ order.now.count }
     ensures { IfOk result (λ pairs. pairs ≡ pairs_of (comes_at order.now nodes.now) (length nodes.now) (length nodes.now)) }

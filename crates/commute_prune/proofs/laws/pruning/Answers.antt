@@ -1,6 +1,6 @@
 use Rattle.fs_semantics.specs.Orders.{Told}
 use Rattle.commute_prune.proofs.Exact.{prunes_leads, one_pruning}
-use Rattle.commute_prune.proofs.Kept.{some_kept, kept_is_enough, completed_order}
+use Rattle.commute_prune.proofs.Kept.{some_kept, kept_is_enough, completed_order, ends_as_kept}
 use Rattle.commute_prune.proofs.laws.pruning.Goals as goal
 
 pub returns : goal.returns
@@ -10,4 +10,5 @@ returns c = record {
   some = λ es before moves kept leads. some_kept es (Told before) moves kept leads;
   enough = λ es proper before moves kept leads. kept_is_enough es (Told before) proper moves kept leads;
   completed = λ es proper before moves kept leads. completed_order es (Told before) proper moves kept leads;
+  rearranged = λ es proper before moves kept leads. ends_as_kept es (Told before) proper moves kept leads;
 }
