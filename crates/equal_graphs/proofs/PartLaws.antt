@@ -71,8 +71,7 @@ module _ (es : List Program) (order : Relation) (fs : List Program) (other : Rel
     equal no_model t tree a b left right = elim (outcome_told (outcome es a t) (outcome fs b t)) [
       | inl e ↦ e
       | inr differ ↦ absurd (
-          let turned = λ e. differ (left_sure t tree a o left (allowed es order o left_long left_allowed) ∙ e ∙ right_sure t tree p b (allowed fs other p right_long right_allowed) right) in
-          let v = found t tree turned in
+          let v = found t tree (λ e. differ (left_sure t tree a o left (allowed es order o left_long left_allowed) ∙ e ∙ right_sure t tree p b (allowed fs other p right_long right_allowed) right)) in
           no_model v.0 v.1)
     ]
 

@@ -1,23 +1,26 @@
 -- What two runs from a tree tell.
-use Rattle.std.proofs.Common.{◌≡◌, ◌≢◌, ℕ, ◌<◌, Bool, true, false, List, Option, Some, None, refl, sym, subst, subst₂}
-use Rattle.std.specs.Prelude.{◌↔◌, IsTrue, IfSome}
+use Rattle.std.proofs.Common.{◌≡◌, ℕ, ◌<◌, Bool, true, false, List, Option, Some, None, refl, sym, subst, subst₂, ◌∙◌}
+use Rattle.std.specs.Prelude.{◌↔◌, not, IsTrue, IfSome}
 use Rattle.std.specs.List.{AllByRecursion}
 use Rattle.fs_semantics.specs.FileTree.{Tree, IsTree}
-use Rattle.fs_semantics.specs.Programs.{Program}
-use Rattle.fs_semantics.specs.Orders.{outcome}
+use Rattle.fs_semantics.specs.Programs.{Program, Outcome}
 use Rattle.orders.specs.Relation.{Relation}
 use Rattle.order_encode.specs.Witnesses.{IsFirstExtension}
+use Rattle.order_encode.specs.Parting.{EndDifferently}
 use Rattle.equal_graphs.specs.Equal.{FirstsPart}
 use Rattle.equal_graphs.specs.Tried.{PartsFrom}
 
 pub below : (n m : ℕ) (order : List ℕ) → n ≡ m → AllByRecursion (λ k. k < m) order → AllByRecursion (λ k. k < n) order
 below n m order e all = subst (λ c. AllByRecursion (λ k. k < c) order) (sym e) all
 
--- the runs from a tree end differently, and so do those from a copy of it
-pub parts_at : (es : List Program) (o : List ℕ) (fs : List Program) (p : List ℕ) (t copy : Tree) → copy ≡ t → IsTree t → (alike : Bool) → IsTrue alike ↔ (outcome es o t ≡ outcome fs p t)
-    → alike ≡ false → PartsFrom es o fs p copy
-parts_at es o fs p t copy same tree alike told no =
-    subst (PartsFrom es o fs p) (sym same) (tree, λ e. let yes : alike ≡ true = told.1 e in cc)
+-- the runs from a tree ended so, and it was told whether they ended alike
+pub apart_is : (same : Bool) (a b o u : Outcome) → a ≡ o → b ≡ u → IsTrue same ↔ (a ≡ b) → IsTrue (not same) ↔ (o ≡ u → ⊥)
+apart_is true a b o u e h told = ((λ k. cc), (λ n. absurd (n (sym e ∙ told.0 refl ∙ h))))
+apart_is false a b o u e h told = ((λ k eq. let bad : false ≡ true = told.1 (e ∙ eq ∙ sym h) in cc), (λ n. refl))
+
+-- of a copy of the tree the same is told
+pub parts_at : (es : List Program) (o : List ℕ) (fs : List Program) (p : List ℕ) (t copy : Tree) → copy ≡ t → IsTree t → EndDifferently es o fs p t → PartsFrom es o fs p copy
+parts_at es o fs p t copy same tree differ = subst (PartsFrom es o fs p) (sym same) (tree, differ)
 
 pub parting_found : (es : List Program) (order : Relation) (fs : List Program) (other : Relation) (first second lent lent_too : List ℕ) → lent ≡ first → lent_too ≡ second
     → IsFirstExtension order first → IsFirstExtension other second → (found : Option Tree) → IfSome found (PartsFrom es lent fs lent_too) → IfSome found (FirstsPart es order fs other)

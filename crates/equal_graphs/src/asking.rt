@@ -15,7 +15,7 @@ ghost use Rattle.order_encode.specs.declared.witness.Witness.{Witness};
 ghost use Rattle.equal_graphs.specs.Equal.{AreEqual};
 ghost use Rattle.equal_graphs.specs.Questions.{StatesParting, IsParting, AnswersParting};
 
-use crate::matching::{Turns, turns};
+use crate::matching::{Turns, common_turns};
 use answering::{Answer, answer_to};
 use finite_domain::{domains, shadows};
 use fs_lang::Program;
@@ -52,7 +52,7 @@ fn parting_question(
     // Only that there are such: others stand for them.
     let _first = order.first_extension()?;
     let _second = other.first_extension()?;
-    let asked = turns(alloc, left, order, right, other)?;
+    let asked = common_turns(alloc, left, order, right, other)?;
     let Turns {
         left: one,
         right: second,

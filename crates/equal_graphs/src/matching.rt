@@ -99,7 +99,7 @@ fn if_allowed(alloc: Global, order: &Order, list: Seq<u32>) -> Result<Option<Seq
 
 /// An allowed order of each graph: the first extension of the one, and beside it, where that is allowed, the order of the other in which
 /// the same programs come in the same turns; else both first extensions.
-pub(crate) fn turns(
+pub(crate) fn common_turns(
     alloc: Global,
     left: &[Program],
     order: &Order,

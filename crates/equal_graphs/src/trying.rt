@@ -2,7 +2,6 @@
 
 ghost use Rattle.std.specs.Prelude.{◌≡◌, ◌↔◌, ◌<◌, length, map, IsTrue, IfSome, IfOk};
 ghost use Rattle.std.specs.List.{AllByRecursion};
-ghost use Rattle.fs_semantics.specs.Orders.{outcome};
 ghost use Rattle.fs_lang.specs.Meaning.{program_of};
 ghost use Rattle.order_encode.specs.Parting.{EndDifferently};
 ghost use Rattle.equal_graphs.specs.Equal.{FirstsPart};
@@ -17,8 +16,8 @@ use rh_base::{NoMemory, Seq};
 use std::alloc::Global;
 use tried_trees::first_trees;
 
-/// Whether the two orders end alike from the tree.
-fn end_alike(
+/// Whether the two orders end differently from the tree.
+fn end_differently(
     alloc: Global,
     left: &[Program],
     order: &[u32],
@@ -28,11 +27,11 @@ fn end_alike(
 ) -> Result<bool, NoMemory>
     requires nodes { AllByRecursion (λ k. k < length left.now) order.now }
     requires others { AllByRecursion (λ k. k < length right.now) other.now }
-    ensures { IfOk result (λ alike. IsTrue alike ↔ (outcome (map program_of left.now) order.now tree.now ≡ outcome (map program_of right.now) other.now tree.now)) }
+    ensures { IfOk result (λ apart. IsTrue apart ↔ EndDifferently (map program_of left.now) order.now (map program_of right.now) other.now tree.now) }
 {
     let one = replay(alloc, left, order, tree)?;
     let second = replay(alloc, right, other, tree)?;
-    Ok(same_outcome(&one, &second))
+    Ok(!same_outcome(&one, &second))
 }
 
 /// The first of the trees from which the two orders end differently.
@@ -50,8 +49,8 @@ fn first_parting(
 {
     for tree in trees {
         tree.is_tree();
-        let alike = end_alike(alloc, left, order, right, other, tree)?;
-        if !alike {
+        let apart = end_differently(alloc, left, order, right, other, tree)?;
+        if apart {
             let found = tree.copy(alloc)?;
             return Ok(Some(found));
         }

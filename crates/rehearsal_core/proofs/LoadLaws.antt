@@ -1,10 +1,14 @@
 -- From the bytes of the files to what is said of the request.
-use Rattle.std.proofs.Common.{◌≡◌, inl, inr, ℕ, ◌<◌, ◌^◌, ◌==◌, Bool, true, false, List, [], ◌∷◌, length, Option, Some, None, Result, Ok, Err, refl, sym, subst, arith, cond}
+use Rattle.std.proofs.Common.{◌≡◌, inl, inr, ℕ, ◌<◌, ◌^◌, ◌==◌, Bool, true, false, List, [], ◌∷◌, length, Option, Some, None, Result, Ok, Err, refl, sym, subst, ◌∙◌, arith, cond}
 use Rattle.std.specs.Prelude.{IfOk, IfErr}
+use Rattle.rh_base.specs.declared.fault.Fault.{Fault}
+use Rattle.rh_base.specs.declared.fault.Fault.TheVariants.{Refused, Memory}
+use Rattle.rh_base.specs.Refused.{IfRefused}
+use Rattle.command_line.specs.declared.table.Ask.{Ask}
 use Rattle.reports.specs.declared.sides.Untold.{Untold}
 use Rattle.reports.specs.declared.sides.Untold.TheVariants as untold
 use Rattle.reports.specs.declared.sides.Side.TheVariants as sides
-use Rattle.reports.specs.Sides.{IfUntold}
+use Rattle.reports.specs.Sides.{refused_in, IfUntold}
 use Rattle.reports.specs.Comparisons.{other_inputs}
 use Rattle.rh_base.specs.declared.fault.Refusal.{Refusal}
 use Rattle.rh_base.specs.Shelf.{Files}
@@ -38,6 +42,14 @@ says held r files before now (Ok report) same read answers refuses = (same, reco
 says held r files before now (Err (untold.Refused side x)) same read answers refuses =
     (same, inr (record { loaded = loaded_from r files; stands = loaded held r files read; breaks = refuses }))
 says held r files before now (Err (untold.Memory m)) same read answers refuses = same
+
+-- a refusal of one manifest, or of a text that is none, is one of the input
+pub of_input : (a : Ask) (conflicts : Option ℕ) (i : Inputs) (e : Fault) → IfRefused e (BreaksFor a conflicts i sides.Input) → IfUntold (refused_in sides.Input e) (BreaksFor a conflicts i)
+of_input a conflicts i (Refused r) h = h
+of_input a conflicts i (Memory m) h = tt
+
+pub not_both : (b : Bool) → b ≡ true → b ≡ false → ⊥
+not_both b yes no = let bad : true ≡ false = sym yes ∙ no in cc
 
 -- a file is too long
 pub says_long : (held : Option Files) (r : Names) (before now : ℕ) (x : Refusal) → now ≡ before → FirstTooLong held r.ask r.files x

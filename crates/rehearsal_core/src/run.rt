@@ -1,6 +1,6 @@
 //! One run of the program: from the words to the status.
 
-ghost use Rattle.std.specs.Prelude.{◌≡◌, ◌≢◌, ◌<◌, ◌^◌, length, IfOk, IfErr};
+ghost use Rattle.std.specs.Prelude.{◌≡◌, ◌≢◌, ◌↔◌, ◌<◌, ◌^◌, length, IsTrue, IfOk, IfErr};
 ghost use Rattle.rh_base.specs.Refused.{IfRefused};
 ghost use Rattle.rehearsal_core.specs.Verified.{AreVerified, BreaksProofRule};
 ghost use Rattle.rehearsal_core.specs.Migrated.{IsMigrated, BreaksListingRule};
@@ -85,6 +85,18 @@ fn answer_one(
     }
 }
 
+/// Whether two manifests are to be compared.
+fn is_equal(ask: Ask) -> bool
+    ensures { IsTrue result ↔ (ask ≡ Equal) }
+{
+    match ask {
+        Ask::Equal => true,
+        Ask::Verify | Ask::Proof | Ask::Repair | Ask::Ensures => false,
+        Ask::Catalog | Ask::Graph | Ask::Programs | Ask::Replay => false,
+        Ask::Check | Ask::Migrate => false,
+    }
+}
+
 /// What is said of the files of a request, or the first rule that they break.
 fn answer(
     alloc: Global,
@@ -97,7 +109,8 @@ fn answer(
     ensures report { IfOk result (IsAnswerTo ask conflicts inputs.now) }
     ensures refused { IfErr result (λ e. IfUntold e (BreaksFor ask conflicts inputs.now)) }
 {
-    if ask == Ask::Equal {
+    let compares = is_equal(ask);
+    if compares {
         return comparison_on(alloc, conflicts, inputs);
     }
     let report = answer_one(alloc, ask, conflicts, inputs)?;

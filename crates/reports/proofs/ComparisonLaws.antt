@@ -15,11 +15,11 @@ use Rattle.model_semantics.specs.Models.{programs}
 use Rattle.res_models.specs.Seen.{resources_at}
 use Rattle.known_inputs.specs.declared.inputs.Inputs.{Inputs}
 use Rattle.known_inputs.specs.declared.inputs.Known.{Known}
-use Rattle.known_inputs.specs.Inputs.{IsKnown, FirstUnread}
+use Rattle.known_inputs.specs.Inputs.{input_of, IsKnown, FirstUnread}
 use Rattle.equal_graphs.specs.Sizes.{IsTooLargeTogether}
 use Rattle.reports.specs.declared.sides.Side.TheVariants as side
 use Rattle.reports.specs.Sides.{refused_in, IfUntold}
-use Rattle.reports.specs.Stages.{IsModelled, ProgramsRefusal}
+use Rattle.reports.specs.Stages.{node_name, IsModelled, ProgramsRefusal}
 use Rattle.reports.specs.Comparisons.{ForText, IsInOrder, other_inputs, AreModelled, ComparisonRefusal}
 use Rattle.reports.proofs.Counts.{as_many}
 use Rattle.reports.proofs.StageLaws.{uncompiled, is_compiled, catalog_programs, graph_programs, planned, in_programs, is_modelled, unread_programs, are_places}
@@ -58,17 +58,21 @@ in_order i k c g es is = record {
 pub known_too : (i : Inputs) (k : Known) → IsKnown i k → IsKnown (other_inputs i) k
 known_too i k is = record { facts = is.facts; listing = is.listing; class_data = is.class_data; tree = is.tree }
 
+pub other_is_modelled : (i : Inputs) (k : Known) (c : Catalog) (g : Graph) (es : List Program) (text name : List ℕ) → ForText text name k (λ j. IsModelled j k c g es)
+    → text ≡ input_of (other_inputs i) → name ≡ node_name i.node → IsKnown i k → IsModelled (other_inputs i) k c g es
+other_is_modelled i k c g es text name made text_is name_is known = made (other_inputs i) text_is name_is (known_too i k known)
+
 pub unread_both : (i : Inputs) (e : Fault) → IfRefused e (FirstUnread i) → IfUntold (refused_in side.Input e) (ComparisonRefusal i)
 unread_both i (Refused r) first = inl (unread_programs i (Refused r) first)
 unread_both i (Memory m) first = tt
 
-pub first_refused : (i : Inputs) (k : Known) (text name : List ℕ) (e : Fault) → IfRefused e (λ r. ForText text name k (λ j. ProgramsRefusal j r)) → (text_is : _) (name_is : _) → IsKnown i k
+pub first_refused : (i : Inputs) (k : Known) (text name : List ℕ) (e : Fault) → IfRefused e (λ r. ForText text name k (λ j. ProgramsRefusal j r)) → text ≡ input_of i → name ≡ node_name i.node → IsKnown i k
     → IfUntold (refused_in side.Input e) (ComparisonRefusal i)
 first_refused i k text name (Refused r) none text_is name_is known = inl (none i text_is name_is known)
 first_refused i k text name (Memory m) none text_is name_is known = tt
 
 module _ (i : Inputs) (k : Known) (c : Catalog) (g : Graph) (es : List Program) (is : IsModelled i k c g es) where
-  pub other_refused : (text name : List ℕ) (e : Fault) → IfRefused e (λ r. ForText text name k (λ j. ProgramsRefusal j r)) → (text_is : _) (name_is : _) → IsKnown i k
+  pub other_refused : (text name : List ℕ) (e : Fault) → IfRefused e (λ r. ForText text name k (λ j. ProgramsRefusal j r)) → text ≡ input_of (other_inputs i) → name ≡ node_name i.node → IsKnown i k
       → IfUntold (refused_in side.Other e) (ComparisonRefusal i)
   other_refused text name (Refused r) none text_is name_is known =
       record { known = k; catalog = c; graph = g; programs = es; modelled = is; refused = none (other_inputs i) text_is name_is (known_too i k known) }

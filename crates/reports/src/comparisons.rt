@@ -22,7 +22,7 @@ use fs_lang::Program;
 use known_inputs::{Inputs, Known, known_inputs};
 use pp_compile::compile_with;
 use res_models::programs_of;
-use rh_base::Fault;
+use rh_base::{Fault, NoMemory, Seq, Text};
 use std::alloc::Global;
 use verdict_report::Report;
 
@@ -50,6 +50,17 @@ fn modelled(alloc: Global, text: &[u8], name: &str, known: &Known) -> Result<Mod
     })
 }
 
+/// The references of the resources.
+fn names_of(alloc: Global, made: &Modelled) -> Result<Seq<Text>, NoMemory>
+    requires { IsInOrder made.now.catalog made.now.plan (map program_of made.now.programs.items) }
+    ensures names { IfOk result (λ names. names ≡ names_in made.now.catalog made.now.plan.plain) }
+    ensures count { IfOk result (λ names. length names ≡ made.now.plan.order.count) }
+{
+    let plain = made.plan.plain.as_slice();
+    let names = names_in(alloc, &made.catalog, plain)?;
+    Ok(names)
+}
+
 /// What is told of both.
 fn told_of_both(
     alloc: Global,
@@ -63,16 +74,20 @@ fn told_of_both(
         (names_in right.now.catalog right.now.plan.plain) (map program_of right.now.programs.items) right.now.plan.order) }
     ensures refused { IfErr result (λ e. IfRefused e (IsTooLargeTogether (map program_of left.now.programs.items) (map program_of right.now.programs.items))) }
 {
-    let names = names_in(alloc, &left.catalog, left.plan.plain.as_slice())?;
-    let others = names_in(alloc, &right.catalog, right.plan.plain.as_slice())?;
+    let names = names_of(alloc, left)?;
+    let others = names_of(alloc, right)?;
+    let shown = names.as_slice();
+    let other_shown = others.as_slice();
+    let made = left.programs.as_slice();
+    let other_made = right.programs.as_slice();
     told(
         alloc,
         given,
-        names.as_slice(),
-        left.programs.as_slice(),
+        shown,
+        made,
         &left.plan.order,
-        others.as_slice(),
-        right.programs.as_slice(),
+        other_shown,
+        other_made,
         &right.plan.order,
     )
 }

@@ -27,8 +27,8 @@ returns-in_err-same-clause-grows c = c.run_known.ensures.grows >> c.run_known-2.
 pub returns-clause-grows : goal.returns-clause-grows
 returns-clause-grows c = c.run_known.ensures.grows >> c.run_known-2.ensures.grows >> c.alike.ensures.grows >> c.not.ensures.grows
 
-pub run_known-2-requires-clause-cells : goal.run_known-2-requires-clause-cells
-run_known-2-requires-clause-cells c = cells_stay _ _ _ c.run_known.ensures.grows c.requires.cells
+pub run_known-requires-2-clause-cells : goal.run_known-requires-2-clause-cells
+run_known-requires-2-clause-cells c = cells_stay _ _ _ c.run_known.ensures.grows c.requires.cells
 
 pub alike-requires-clause-a : goal.alike-requires-clause-a
 alike-requires-clause-a c = cells_stay _ _ _ c.run_known-2.ensures.grows c.in_ok-one.ensures.cells
