@@ -2,12 +2,14 @@
 #![tactic(auto)]
 
 mod command;
+mod laws;
 mod numbers;
 mod request;
 mod size;
 mod table;
 mod words;
 
+pub use laws::one_request;
 pub use request::{ByRole, Request, Source, given};
 pub use size::Size;
 pub use table::{Ask, Role, usage_line};

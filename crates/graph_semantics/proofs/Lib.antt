@@ -3,3 +3,4 @@ pub mod Elements
 pub mod RealPlaces
 pub mod Inserting
 pub mod AllowedLaws
+pub mod OneGraph

@@ -2,3 +2,4 @@ pub mod QuestionLaws
 pub mod JudgeLaws
 pub mod CommuteLaws
 pub mod EachPairLaws
+pub mod WholeLaws

@@ -44,6 +44,21 @@ module _ (laid : LaidOut) (shadowed : Shadowed) (es : List Program) (before : �
     pub none_differ : (((t : Tree) (o p : List ℕ) → IsCounterexample es (Told before) t o p → ⊥) → IsDeterministic es (Told before)) → HasNoModel f → IsDeterministic es (Told before)
     none_differ law no_model = law (λ t o p c. let v = exact.1 (differ_over d is t o p c) in no_model v.0 v.1)
 
+-- a formula that states the question of another graph, which differs where this one does, states that of this one
+module _ (laid : LaidOut) (shadowed : Shadowed) (es fs : List Program) (before other : ℕ → ℕ → Bool)
+    (forth : (t : Tree) (o p : List ℕ) → IsCounterexample es (Told before) t o p → (left : List ℕ) × (right : List ℕ) × IsCounterexample fs (Told other) t left right)
+    (back : (t : Tree) (o p : List ℕ) → IsCounterexample fs (Told other) t o p → (left : List ℕ) × (right : List ℕ) × IsCounterexample es (Told before) t left right) where
+  pub other_states : (d : Domain) → IsLayout fs (layout_of d) → (f : Formula) → States fs (Told other) f → States es (Told before) f
+  other_states d is f states e lay = (
+    (λ h.
+        let w = (states d is).0 h in
+        let c = back w.tree w.left w.right w.counterexample in
+        differ_over laid shadowed es before e lay w.tree c.0 c.1 c.2),
+    (λ w.
+        let c = forth w.tree w.left w.right w.counterexample in
+        (states d is).1 (differ_over laid shadowed fs other d is w.tree c.0 c.1 c.2)),
+  )
+
 pub difference : (es : List Program) (before : ℕ → ℕ → Type 0) (d : Domain) (w : Witness) → ShowsDifference es before d w → IsDifference es before w
 difference es before d (witness.Orders tree left right) h = (h.counterexample, h.exchange)
 difference es before d (witness.Twice tree order) h = absurd h

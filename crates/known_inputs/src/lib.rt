@@ -2,7 +2,9 @@
 #![tactic(auto)]
 
 mod inputs;
+mod laws;
 mod reading;
 
 pub use inputs::{Inputs, Known};
+pub use laws::files_say_one_thing;
 pub use reading::known_inputs;

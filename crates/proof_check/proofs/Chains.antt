@@ -20,7 +20,7 @@ use Rattle.proof_check.specs.declared.fault.CheckFault.{CheckFault}
 use Rattle.proof_check.specs.declared.fault.CheckFault.TheVariants as bad_fault
 use Rattle.proof_check.specs.Joining.{earlier_of, AreClean}
 use Rattle.proof_check.proofs.Numbers.{earlier_more, clean_push}
-use Rattle.proof_check.specs.Faults.{LeadsTo, Resolves, ChainFails, StepFails, FirstFault, EndsFull}
+use Rattle.proof_check.specs.Faults.{LeadsTo, Resolves, ChainFails, StepFails, FirstFault, EndsFull, IsFault}
 
 -- ---- one more link
 module _ (earlier : List (List Lit)) (chain : List Link) (i : ℕ) (h : i < length chain) (e : Link) where
@@ -150,6 +150,11 @@ empty_full : (steps : List Step) → EndsEmpty steps → EndsFull steps → ⊥
 empty_full [] e f = e
 empty_full (step ∷ []) e f = f e
 empty_full (step ∷ next ∷ steps) e f = empty_full (next ∷ steps) e f
+
+pub no_fault : (f : Formula) (steps : List Step) (n : ℕ) (cause : Cause) → IsAccepted f steps → IsFault f steps n cause → ⊥
+no_fault f steps n cause a (inl none) = subst EndsEmpty none.0 a.ends
+no_fault f steps n cause a (inr (inl first)) = right_steps f.clauses steps n cause a.right first
+no_fault f steps n cause a (inr (inr full)) = empty_full steps a.ends full.1
 
 pub located : (n : ℕ) (e : StepFault) (f : CheckFault) (P : Cause → Type 0) (Q : ℕ → Cause → Type 0) → IsLocated n e f → IfCause e P → ((cause : Cause) → P cause → Q n cause) → IfBad f Q
 located n (fault.Cause cause) f P Q l h more = subst (λ x. IfBad x Q) (sym l) (more cause h)

@@ -637,6 +637,9 @@ proofs_read text ps h =
     ∙ ap (λ r. r >>= ended) (blocks_read h.blocks [] h.valid)
     ∙ ap Some (sym h.read)
 
+pub one_list : (text : List ℕ) (ps qs : List Refutation) → IsProofText text ps → IsProofText text qs → ps ≡ qs
+one_list text ps qs h k = let same : ◌≡◌ {A = Option (List Refutation)} (Some ps) (Some qs) = sym (proofs_read text ps h) ∙ proofs_read text qs k in cc
+
 -- what follows for a reading of the words that are left of a text
 pub text_found : (text : List ℕ) (ps : List Refutation) → proofs_in (words_left true text) ≡ Some ps → IsProofText text ps
 text_found text ps h = proofs_found text ps (ap proofs_in (sym (words_left-all text)) ∙ h)

@@ -2,6 +2,7 @@
 #![tactic(auto)]
 
 mod fault;
+mod laws;
 mod literals;
 mod steps;
 mod text;
@@ -9,6 +10,7 @@ mod text;
 ghost use Rattle.proof_check.specs.Writing.{WrittenProofsAreRead, RightLogsAreWritable};
 
 pub use fault::{Bad, Cause, CheckFault};
+pub use laws::{accepted_logs_have_no_fault, one_list_of_proofs};
 pub use steps::{Verified, check};
 pub use text::read_proofs;
 

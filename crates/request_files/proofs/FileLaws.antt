@@ -5,7 +5,7 @@ use Rattle.rh_base.specs.declared.fault.Refusal.{Refusal}
 use Rattle.rh_base.specs.declared.fault.Fault.{Fault}
 use Rattle.rh_base.specs.declared.fault.Fault.TheVariants.{Refused, Memory}
 use Rattle.rh_base.specs.Refused.{IfRefused, IsRefusal}
-use Rattle.rh_base.specs.Shelf.{Files}
+use Rattle.rh_base.specs.Shelf.{Held, MayBeThere}
 use Rattle.command_line.specs.declared.table.Ask.{Ask}
 use Rattle.command_line.specs.declared.table.Role.{Role}
 use Rattle.command_line.specs.Table.{role_row, limit_of, ByRole, Each}
@@ -13,7 +13,7 @@ use Rattle.request_files.specs.declared.fetching.Load.{Load}
 use Rattle.request_files.specs.declared.fetching.Load.TheVariants as load
 use Rattle.request_files.specs.declared.fetching.FilesFault.{FilesFault}
 use Rattle.request_files.specs.declared.fetching.FilesFault.TheVariants as fault
-use Rattle.request_files.specs.Files.{FailsAt, StandAt, AreRead, FirstTooLong, AnyNamed, AreShort, IsLonger}
+use Rattle.request_files.specs.Files.{FailsAt, StandAt, AreRead, FirstTooLong, FirstFailed, NoneMissing, AreShort, IsLonger}
 use Rattle.request_files.specs.Loading.{IsLoad, Reads, AreLoads, bytes_in, AreBytesOf, FirstLong}
 
 -- ---- one file after another
@@ -26,7 +26,7 @@ one_more R [] (g ∷ others) r x y is h = absurd is
 one_more R (f ∷ files) [] r x y is h = absurd is
 one_more R (f ∷ files) (g ∷ others) r x y is h = (is.0, is.1, one_more R files others r x y is.2 h)
 
-pub one_load : (held : Option Files) (a : Ask) (names : ByRole (List ℕ)) (loads : ByRole Load) (r : Role) (name : List ℕ) (l : Load) → AreLoads held a names loads
+pub one_load : (held : Held) (a : Ask) (names : ByRole (List ℕ)) (loads : ByRole Load) (r : Role) (name : List ℕ) (l : Load) → AreLoads held a names loads
     → IsLoad held (limit_of a r) name l → AreLoads held a (names ++ (r, name) ∷ []) (loads ++ (r, l) ∷ [])
 one_load held a names loads r name l are is = one_more (λ role. IsLoad held (limit_of a role)) names loads r name l are is
 
@@ -38,9 +38,20 @@ one_file loads files r l bytes are is = one_more (λ role load b. bytes_in load 
 pub moved : {A : Type 0} (files front rest back : List A) (f : A) → files ≡ front ++ rest → rest ≡ f ∷ back → files ≡ (front ++ f ∷ []) ++ back
 moved files front rest back f whole next = whole ∙ ap (λ fs. front ++ fs) next ∙ sym (append_assoc front (f ∷ []) back)
 
-named_here : (front back : ByRole (List ℕ)) (r : Role) (name : List ℕ) → AnyNamed name (front ++ (r, name) ∷ back)
-named_here [] back r name = inl refl
-named_here (f ∷ front) back r name = inr (named_here front back r name)
+-- what was fetched isn't missing
+there : (held : Held) (limit : ℕ) (name : List ℕ) (l : Load) → IsLoad held limit name l → MayBeThere held name
+there held limit name load.Longer is = is.0
+there held limit name (load.Bytes bytes) is = is.0
+
+pub none_missing : (held : Held) (a : Ask) (names : ByRole (List ℕ)) (loads : ByRole Load) → AreLoads held a names loads → NoneMissing held names
+none_missing held a [] loads are = tt
+none_missing held a (f ∷ names) [] are = absurd are
+none_missing held a (f ∷ names) (l ∷ loads) are = (there held (limit_of a f.0) f.1 l.1 are.1, none_missing held a names loads are.2)
+
+failed_here : (held : Held) (before now : ℕ) (front back : ByRole (List ℕ)) (r : Role) (name n : List ℕ) → NoneMissing held front → n ≡ name
+    → FailsAt n held before now → FirstFailed held before now (front ++ (r, name) ∷ back) n
+failed_here held before now [] back r name n none same fails = inl (sym same, fails)
+failed_here held before now (f ∷ front) back r name n none same fails = inr (none.0, failed_here held before now front back r name n none.1 same fails)
 
 long_here : (front back : ByRole Load) (files : ByRole (List ℕ)) (r : Role) (l : Load) (refusal : Refusal) → AreBytesOf front files → bytes_in l ≡ None
     → IsRefusal 17 0 (role_row r).label refusal → FirstLong (front ++ (r, l) ∷ back) refusal
@@ -48,17 +59,16 @@ long_here [] back files r l refusal are none is = inl (none, is)
 long_here (f ∷ front) back [] r l refusal are none is = absurd are
 long_here (f ∷ front) back (g ∷ files) r l refusal are none is = inr ((g.1, are.1), long_here front back files r l refusal are.2 none is)
 
--- a file that couldn't be fetched is one of those that are named
-pub failed : (a : Ask) (limit : ℕ) (names front rest back : ByRole (List ℕ)) (r : Role) (name : List ℕ) (held held_then : Option Files)
-    (before then now : ℕ) (e : FilesFault) → names ≡ front ++ rest → rest ≡ (r, name) ∷ back → held_then ≡ held → then ≡ before
-    → Reads (IsLoad held_then limit name) (λ n. n ≡ name) held_then then now (Err e)
-    → Reads (AreLoads held a names) (λ n. AnyNamed n names) held before now (Err e)
-failed a limit names front rest back r name held held_then before then now (fault.Long refusal) whole next same none h = h
-failed a limit names front rest back r name held held_then before then now (fault.Failed n) whole next same none h = (
-  subst (λ ns. AnyNamed n ns) (sym (whole ∙ ap (λ ns. front ++ ns) next)) (subst (λ m. AnyNamed m (front ++ (r, name) ∷ back)) (sym h.0) (named_here front back r name)),
-  subst₂ (λ hs b. FailsAt n hs b now) same none h.1,
-)
-failed a limit names front rest back r name held held_then before then now (fault.Memory m) whole next same none h = h ∙ none
+-- a file that couldn't be fetched, behind those that were, is the first that failed
+pub failed : (a : Ask) (limit : ℕ) (names front rest back : ByRole (List ℕ)) (loads : ByRole Load) (r : Role) (name : List ℕ) (held held_then : Held)
+    (before then now : ℕ) (e : FilesFault) → names ≡ front ++ rest → rest ≡ (r, name) ∷ back → AreLoads held a front loads → held_then ≡ held → then ≡ before
+    → Reads (IsLoad held_then limit name) (λ n. (n ≡ name) × FailsAt n held_then then now) then now (Err e)
+    → Reads (AreLoads held a names) (FirstFailed held before now names) before now (Err e)
+failed a limit names front rest back loads r name held held_then before then now (fault.Long refusal) whole next are same none h = h
+failed a limit names front rest back loads r name held held_then before then now (fault.Failed n) whole next are same none h =
+    subst (λ ns. FirstFailed held before now ns n) (sym (whole ∙ ap (λ ns. front ++ ns) next))
+    (failed_here held before now front back r name n (none_missing held a front loads are) h.0 (subst₂ (λ hs b. FailsAt n hs b now) same none h.1))
+failed a limit names front rest back loads r name held held_then before then now (fault.Memory m) whole next are same none h = h ∙ none
 
 -- the first of which too many bytes were fetched is refused
 pub refused : (loads front rest back : ByRole Load) (files : ByRole (List ℕ)) (r : Role) (l : Load) (e : Fault) → loads ≡ front ++ rest → rest ≡ (r, l) ∷ back
@@ -70,11 +80,11 @@ refused loads front rest back files r l (Memory m) whole next are h = tt
 -- ---- all of them
 
 -- the bytes of what was fetched are those that stand there
-stand : (held : Option Files) (limit : ℕ) (name : List ℕ) (l : Load) (bytes : List ℕ) → IsLoad held limit name l → bytes_in l ≡ Some bytes → StandAt held limit name bytes
+stand : (held : Held) (limit : ℕ) (name : List ℕ) (l : Load) (bytes : List ℕ) → IsLoad held limit name l → bytes_in l ≡ Some bytes → StandAt held limit name bytes
 stand held limit name load.Longer bytes is e = cc
-stand held limit name (load.Bytes b) bytes is e = let same : b ≡ bytes = cc in subst (λ x. StandAt held limit name x) same (is.0, is.1)
+stand held limit name (load.Bytes b) bytes is e = let same : b ≡ bytes = cc in subst (λ x. StandAt held limit name x) same (is.0, is.1, is.2)
 
-pub are_read : (held : Option Files) (a : Ask) (names : ByRole (List ℕ)) (loads : ByRole Load) (files : ByRole (List ℕ)) → AreLoads held a names loads
+pub are_read : (held : Held) (a : Ask) (names : ByRole (List ℕ)) (loads : ByRole Load) (files : ByRole (List ℕ)) → AreLoads held a names loads
     → AreBytesOf loads files → AreRead held a names files
 are_read held a [] [] [] is are = tt
 are_read held a [] [] (g ∷ files) is are = absurd are
@@ -84,11 +94,11 @@ are_read held a (f ∷ names) (l ∷ loads) [] is are = absurd are
 are_read held a (f ∷ names) (l ∷ loads) (g ∷ files) is are =
     (are.0 ∙ is.0, stand held (limit_of a f.0) f.1 l.1 g.1 is.1 are.1, are_read held a names loads files is.2 are.2)
 
-short : (held : Option Files) (limit : ℕ) (name : List ℕ) (l : Load) (bytes : List ℕ) → IsLoad held limit name l → bytes_in l ≡ Some bytes → length bytes < 2 ^ 32
+short : (held : Held) (limit : ℕ) (name : List ℕ) (l : Load) (bytes : List ℕ) → IsLoad held limit name l → bytes_in l ≡ Some bytes → length bytes < 2 ^ 32
 short held limit name load.Longer bytes is e = cc
-short held limit name (load.Bytes b) bytes is e = let same : b ≡ bytes = cc in subst (λ x. length x < 2 ^ 32) same is.2
+short held limit name (load.Bytes b) bytes is e = let same : b ≡ bytes = cc in subst (λ x. length x < 2 ^ 32) same is.3
 
-pub are_short : (held : Option Files) (a : Ask) (names : ByRole (List ℕ)) (loads : ByRole Load) (files : ByRole (List ℕ)) → AreLoads held a names loads
+pub are_short : (held : Held) (a : Ask) (names : ByRole (List ℕ)) (loads : ByRole Load) (files : ByRole (List ℕ)) → AreLoads held a names loads
     → AreBytesOf loads files → AreShort files
 are_short held a [] [] [] is are = tt
 are_short held a [] [] (g ∷ files) is are = absurd are
@@ -97,11 +107,11 @@ are_short held a (f ∷ names) [] files is are = absurd is
 are_short held a (f ∷ names) (l ∷ loads) [] is are = absurd are
 are_short held a (f ∷ names) (l ∷ loads) (g ∷ files) is are = (short held (limit_of a f.0) f.1 l.1 g.1 is.1 are.1, are_short held a names loads files is.2 are.2)
 
-longer : (held : Option Files) (limit : ℕ) (name : List ℕ) (l : Load) → IsLoad held limit name l → bytes_in l ≡ None → IsLonger limit held name
+longer : (held : Held) (limit : ℕ) (name : List ℕ) (l : Load) → IsLoad held limit name l → bytes_in l ≡ None → IsLonger limit held name
 longer held limit name load.Longer is none = is
 longer held limit name (load.Bytes bytes) is none = cc
 
-pub too_long : (held : Option Files) (a : Ask) (names : ByRole (List ℕ)) (loads : ByRole Load) (refusal : Refusal) → AreLoads held a names loads
+pub too_long : (held : Held) (a : Ask) (names : ByRole (List ℕ)) (loads : ByRole Load) (refusal : Refusal) → AreLoads held a names loads
     → FirstLong loads refusal → FirstTooLong held a names refusal
 too_long held a [] [] refusal is first = first
 too_long held a [] (l ∷ loads) refusal is first = absurd is

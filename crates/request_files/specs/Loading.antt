@@ -2,29 +2,29 @@
 use Rattle.std.specs.Prelude.{◌≡◌, ◌⊎◌, ℕ, ◌<◌, ◌≤◌, ◌^◌, List, [], ◌∷◌, length, Option, Some, None, Result, Ok, Err}
 use Rattle.rh_base.specs.declared.fault.Refusal.{Refusal}
 use Rattle.rh_base.specs.Refused.{IsRefusal}
-use Rattle.rh_base.specs.Shelf.{Files}
+use Rattle.rh_base.specs.Shelf.{Held, MayBeThere}
 use Rattle.command_line.specs.declared.table.Ask.{Ask}
 use Rattle.command_line.specs.Table.{role_row, limit_of, ByRole, Each}
 use Rattle.request_files.specs.declared.fetching.Load.{Load}
 use Rattle.request_files.specs.declared.fetching.Load.TheVariants as load
 use Rattle.request_files.specs.declared.fetching.FilesFault.{FilesFault}
 use Rattle.request_files.specs.declared.fetching.FilesFault.TheVariants as fault
-use Rattle.request_files.specs.Files.{AreBytes, IsLonger, FailsAt}
+use Rattle.request_files.specs.Files.{AreBytes, IsLonger}
 
--- what was fetched is what stands under the name, in fewer bytes than a place of four bytes can count
-abbrev pub IsLoad : Option Files → ℕ → List ℕ → Load → Type 0
+-- The name isn't missing, and what was fetched is what stands under it, in fewer bytes than a place of four bytes can count.
+abbrev pub IsLoad : Held → ℕ → List ℕ → Load → Type 0
 IsLoad held limit name load.Longer = IsLonger limit held name
-IsLoad held limit name (load.Bytes bytes) = AreBytes held name bytes × (length bytes ≤ limit) × (length bytes < 2 ^ 32)
+IsLoad held limit name (load.Bytes bytes) = MayBeThere held name × AreBytes held name bytes × (length bytes ≤ limit) × (length bytes < 2 ^ 32)
 
--- what was fetched, or the name of the file that couldn't be
-abbrev pub Reads : {A : Type 0} → (A → Type 0) → (List ℕ → Type 0) → Option Files → ℕ → ℕ → Result A FilesFault → Type 0
-Reads Is Named held before now (Ok x) = (now ≡ before) × Is x
-Reads Is Named held before now (Err (fault.Long r)) = ⊥
-Reads Is Named held before now (Err (fault.Failed name)) = Named name × FailsAt name held before now
-Reads Is Named held before now (Err (fault.Memory m)) = now ≡ before
+-- what was fetched, or the name of the file that failed
+abbrev pub Reads : {A : Type 0} → (A → Type 0) → (List ℕ → Type 0) → ℕ → ℕ → Result A FilesFault → Type 0
+Reads Is Failed before now (Ok x) = (now ≡ before) × Is x
+Reads Is Failed before now (Err (fault.Long r)) = ⊥
+Reads Is Failed before now (Err (fault.Failed name)) = Failed name
+Reads Is Failed before now (Err (fault.Memory m)) = now ≡ before
 
 -- what was fetched of each file of these names
-abbrev pub AreLoads : Option Files → Ask → ByRole (List ℕ) → ByRole Load → Type 0
+abbrev pub AreLoads : Held → Ask → ByRole (List ℕ) → ByRole Load → Type 0
 AreLoads held a names loads = Each (λ role. IsLoad held (limit_of a role)) names loads
 
 -- the bytes that were fetched, if there aren't too many

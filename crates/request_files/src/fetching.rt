@@ -2,7 +2,7 @@
 
 ghost use Rattle.std.specs.Prelude.{◌≡◌};
 ghost use Rattle.command_line.specs.Table.{limit_of};
-ghost use Rattle.request_files.specs.Files.{AnyNamed};
+ghost use Rattle.request_files.specs.Files.{FailsAt, FirstFailed};
 ghost use Rattle.request_files.specs.Loading.{IsLoad, Reads, AreLoads};
 
 use command_line::{Ask, ByRole, Role};
@@ -44,7 +44,7 @@ fn fetch<S: Shelf>(
     shelf: &mut S,
 ) -> Result<Load, FilesFault>
     ensures held { S.holds shelf.new ≡ S.holds shelf.old }
-    ensures reads { Reads (IsLoad (S.holds shelf.old) (limit_of ask role) name) (λ n. n ≡ name) (S.holds shelf.old) (S.faults shelf.old) (S.faults shelf.new) result }
+    ensures reads { Reads (IsLoad (S.holds shelf.old) (limit_of ask role) name) (λ n. (n ≡ name) × FailsAt n (S.holds shelf.old) (S.faults shelf.old) (S.faults shelf.new)) (S.faults shelf.old) (S.faults shelf.new) result }
 {
     let mut bytes = Vec::new(alloc);
     match shelf.fetch(name.as_str(), role.limit(ask), &mut bytes) {
@@ -63,7 +63,7 @@ pub fn fetch_all<S: Shelf>(
     shelf: &mut S,
 ) -> Result<ByRole<Load>, FilesFault>
     ensures held { S.holds shelf.new ≡ S.holds shelf.old }
-    ensures reads { Reads (AreLoads (S.holds shelf.old) ask names) (λ n. AnyNamed n names) (S.holds shelf.old) (S.faults shelf.old) (S.faults shelf.new) result }
+    ensures reads { Reads (AreLoads (S.holds shelf.old) ask names) (FirstFailed (S.holds shelf.old) (S.faults shelf.old) (S.faults shelf.new) names) (S.faults shelf.old) (S.faults shelf.new) result }
 {
     let mut loads = Seq::new(alloc);
     for (role, name) in names.into_vec() {

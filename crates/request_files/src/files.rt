@@ -11,7 +11,7 @@ use std::alloc::Global;
 
 /// Reads the files of these names, each once, in their order. The first that can't be read ends it; where all can, the
 /// first that is too long is refused.
-#[tactic(auto, using(crate::proofs::FileLaws::are_read, crate::proofs::FileLaws::are_short, crate::proofs::FileLaws::too_long))]
+#[tactic(auto, using(crate::proofs::FileLaws::are_read, crate::proofs::FileLaws::are_short, crate::proofs::FileLaws::too_long, crate::proofs::FileLaws::none_missing))]
 pub fn read_files<S: Shelf>(
     alloc: Global,
     ask: Ask,

@@ -21,6 +21,7 @@ loop-role-preserved g c =
 
 pub returns-in-Err-clause-reads : goal.returns-in-Err-clause-reads
 returns-in-Err-clause-reads g c =
-    failed c.args.ask (limit_of c.args.ask c.in-Some.role) c.args.names c.loop-role.yielded c.loop-role.role-iterator.rest.items c.next.new.self.rest.items c.in-Some.role
-    c.in-Some.name (g.S.Shelf.holds c.args.shelf.now) (g.S.Shelf.holds c.loop-role.shelf) (g.S.Shelf.faults c.args.shelf.now) (g.S.Shelf.faults c.loop-role.shelf)
-    (g.S.Shelf.faults c.fetch.new.shelf) c.in-Err.fault c.loop-role.invariant.2 c.in-Some.ensures.steps.0 c.loop-role.invariant.4 c.loop-role.invariant.5 c.in-Err.ensures.reads
+    failed c.args.ask (limit_of c.args.ask c.in-Some.role) c.args.names c.loop-role.yielded c.loop-role.role-iterator.rest.items c.next.new.self.rest.items
+    c.loop-role.loads c.in-Some.role c.in-Some.name (g.S.Shelf.holds c.args.shelf.now) (g.S.Shelf.holds c.loop-role.shelf) (g.S.Shelf.faults c.args.shelf.now)
+    (g.S.Shelf.faults c.loop-role.shelf) (g.S.Shelf.faults c.fetch.new.shelf) c.in-Err.fault c.loop-role.invariant.2 c.in-Some.ensures.steps.0
+    c.loop-role.invariant.3 c.loop-role.invariant.4 c.loop-role.invariant.5 c.in-Err.ensures.reads
