@@ -1,6 +1,7 @@
 -- From the answer to what is told of it.
 use Rattle.std.proofs.Common.{◌≡◌, ◌⊎◌, inl, inr, ℕ, ◌<◌, ◌^◌, ◌-◌, List, [], ◌++◌, length, Option, Some, None, refl, subst, sym, ap, ◌∙◌}
 use Rattle.std.specs.List.{AllByRecursion}
+use Rattle.fs_semantics.specs.FileTree.{Tree}
 use Rattle.fs_semantics.specs.Programs.{Program}
 use Rattle.fs_semantics.specs.Orders.{IsLinearExtension, outcome}
 use Rattle.orders.specs.Relation.{Relation, Comes}
@@ -59,7 +60,7 @@ allowed : (es : List Program) (order : Relation) (o : List ℕ) → length es �
 allowed es order o long is = subst (λ n. IsLinearExtension n (Comes order) o) (sym long) is.allowed
 
 -- the first extensions are those that are told
-apart : Long → (es : List Program) (order : Relation) (fs : List Program) (other : Relation) (t : _) → length es ≡ order.count → length fs ≡ other.count → (o p : List ℕ) → IsFirstExtension order o → IsFirstExtension other p
+apart : Long → (es : List Program) (order : Relation) (fs : List Program) (other : Relation) (t : Tree) → length es ≡ order.count → length fs ≡ other.count → (o p : List ℕ) → IsFirstExtension order o → IsFirstExtension other p
     → FirstsPart es order fs other t → EndApart es (Comes order) fs (Comes other) t o p
 apart long es order fs other t left right o p first second part = record {
   is_tree = part.is_tree;
