@@ -77,6 +77,7 @@ fn joined_domain(alloc: Global, left: &[Program], right: &[Program]) -> Result<D
 }
 
 /// The domain of both, unless they are too large to be compared.
+#[tactic(auto, using(crate::proofs::JoinLaws::both_too_wide, crate::proofs::JoinLaws::left_too_large, crate::proofs::JoinLaws::right_too_large))]
 pub(crate) fn domain_within(
     alloc: Global,
     left: &[Program],
