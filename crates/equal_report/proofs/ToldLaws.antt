@@ -26,7 +26,7 @@ use Rattle.equal_graphs.specs.declared.compared.Compared.{Compared}
 use Rattle.equal_graphs.specs.declared.compared.Compared.TheVariants as compared
 use Rattle.equal_report.specs.Lines.{settled_lines, spent_equal_text}
 use Rattle.equal_report.specs.Steps.{IsTellable, IsReportOf}
-use Rattle.equal_report.specs.Told.{IsSettledWith, IsBehind, TellsDifference, TellsUnanswered, TellsSpent, Tells, differs, unanswered, equal, unequal, spent, IsComparedTold}
+use Rattle.equal_report.specs.Told.{IsSettledWith, TellsDifference, TellsUnanswered, TellsSpent, Tells, differs, unanswered, equal, unequal, spent, IsComparedTold}
 
 -- ---- what the lines need
 

@@ -1,5 +1,4 @@
-use Rattle.std.proofs.Common.{length, map, sym, subst, ◌∙◌, ◌<◌}
-use Rattle.std.specs.Prelude.{IfSome}
+use Rattle.std.proofs.Common.{length, map, sym, subst, ◌<◌}
 use Rattle.std.specs.List.{AllByRecursion}
 use Rattle.fs_lang.specs.Meaning.{program_of}
 use Rattle.equal_graphs.proofs.TryLaws.{below, parting_found}

@@ -1,5 +1,4 @@
-use Rattle.std.proofs.Common.{map, subst}
-use Rattle.std.specs.Prelude.{IfOk, IfErr}
+use Rattle.std.proofs.Common.{map}
 use Rattle.fs_lang.specs.Meaning.{program_of}
 use Rattle.reports.proofs.ComparisonLaws.{other_is_modelled, other_refused}
 use Rattle.reports.proofs.comparisons.compare_with.Goals as goal
