@@ -136,9 +136,6 @@ removal_reason t p Always h = absurd h
 
 -- ---- a copy
 
-not_no_file : (t : Tree) (p : Path) (r : Reason) → HasNoPlace p r t → IsFileAt t p → IsFileAt t p
-not_no_file t p r h f = f
-
 with_file : (t : Tree) (from p : Path) → IsFileAt t from → HasNoPlace p (no_place t p) t → HasNoCopy from p (no_place t p) t
 with_file t from p file h = elim (is_none t p) as (λ b. HasNoPlace p (cond b NoFolder Exists) t → HasNoCopy from p (cond b NoFolder Exists) t) [
   | true ↦ λ k. (file, k)
