@@ -1,0 +1,145 @@
+-- What the guard does, and where it stands in an allowed order.
+use Rattle.std.proofs.Common.{◌≡◌, ◌≢◌, ℕ, zero, suc, Bool, true, false, cond, ◌&&◌, ◌+◌, ◌<◌, List, [], ◌∷◌, ◌++◌, length, get_or, Some, None, refl, sym, ap, subst, ◌∙◌, arith, inl, inr}
+use Rattle.std.proofs.lemmas.Bool.{cases_eq}
+use Rattle.std.specs.List.{AllByRecursion}
+use Rattle.fs_semantics.specs.FileTree.{Path, Tree, is_dir}
+use Rattle.fs_semantics.specs.Programs.{Program, Id, and_then, holds, run}
+use Rattle.fs_semantics.specs.Changes.{IsProper}
+use Rattle.fs_semantics.specs.Orders.{Told, times, NoneAhead, IsLinearExtension, outcome}
+use Rattle.fs_semantics.proofs.Counts.{times_append, times_itself, times_other, times_found, all_at, all_from, none_ahead_behind}
+use Rattle.fs_semantics.proofs.Commuting.{none_above}
+use Rattle.given_hosts.specs.Given.{Stand}
+use Rattle.given_hosts.specs.Guard.{all_folders, guard, guarded, GoesFirst}
+
+-- ---- the guard by itself
+
+both : (a b : Bool) → (a && b) ≡ true → (a ≡ true) × (b ≡ true)
+both true b h = (refl, h)
+both false b h = cc
+
+joined : (a b : Bool) → a ≡ true → b ≡ true → (a && b) ≡ true
+joined true b h k = k
+joined false b h k = cc
+
+pub holds_where_stand : (given : List Path) (t : Tree) → Stand given t → holds (all_folders given) t ≡ true
+holds_where_stand [] t h = refl
+holds_where_stand (p ∷ given) t h = joined (is_dir t p) (holds (all_folders given) t) h.0 (holds_where_stand given t h.1)
+
+pub stand_where_holds : (given : List Path) (t : Tree) → holds (all_folders given) t ≡ true → Stand given t
+stand_where_holds [] t h = tt
+stand_where_holds (p ∷ given) t h =
+    let two = both (is_dir t p) (holds (all_folders given) t) h in
+    (two.0, stand_where_holds given t two.1)
+
+pub guard_stands : (given : List Path) (t : Tree) → Stand given t → run (guard given) t ≡ Some t
+guard_stands given t h = ap (λ b. cond b (Some t) None) (holds_where_stand given t h)
+
+pub guard_fails : (given : List Path) (t : Tree) → (Stand given t → ⊥) → run (guard given) t ≡ None
+guard_fails given t h = elim (holds (all_folders given) t) as (λ b. holds (all_folders given) t ≡ b → cond b (Some t) None ≡ None) [
+  | true ↦ λ e. absurd (h (stand_where_holds given t e))
+  | false ↦ λ e. refl
+] refl
+
+-- ---- behind the programs
+
+ahead : (xs ys : List Program) (i : ℕ) → i < length xs → get_or (xs ++ ys) i Id ≡ get_or xs i Id
+ahead [] ys i h = absurd (omega (arith, h))
+ahead (x ∷ xs) ys zero h = refl
+ahead (x ∷ xs) ys (suc i) h = ahead xs ys i (omega (arith, h))
+
+pub last_one : (xs : List Program) (y : Program) → get_or (xs ++ y ∷ []) (length xs) Id ≡ y
+last_one [] y = refl
+last_one (x ∷ xs) y = last_one xs y
+
+-- an order of the programs ends as without what stands behind them
+pub outcome_ahead : (es more : List Program) (o : List ℕ) (t : Tree) → AllByRecursion (λ k. k < length es) o → outcome (es ++ more) o t ≡ outcome es o t
+outcome_ahead es more [] t h = refl
+outcome_ahead es more (k ∷ o) t h =
+    ap (λ e. and_then (run e t) (outcome (es ++ more) o)) (ahead es more k h.0)
+    ∙ ap (and_then (run (get_or es k Id) t)) (λ n u. outcome_ahead es more o u h.1 n)
+
+pub outcome_guarded : (given : List Path) (es : List Program) (o : List ℕ) (t : Tree)
+    → outcome (guarded given es) (length es ∷ o) t ≡ and_then (run (guard given) t) (outcome (guarded given es) o)
+outcome_guarded given es o t = ap (λ e. and_then (run e t) (outcome (guarded given es) o)) (last_one es (guard given))
+
+pub ends_where_stand : (given : List Path) (es : List Program) (o : List ℕ) (t : Tree) → AllByRecursion (λ k. k < length es) o
+    → Stand given t → outcome (guarded given es) (length es ∷ o) t ≡ outcome es o t
+ends_where_stand given es o t below h =
+    outcome_guarded given es o t ∙ ap (λ r. and_then r (outcome (guarded given es) o)) (guard_stands given t h) ∙ outcome_ahead es (guard given ∷ []) o t below
+
+pub fails_elsewhere : (given : List Path) (es : List Program) (o : List ℕ) (t : Tree)
+    → (Stand given t → ⊥) → outcome (guarded given es) (length es ∷ o) t ≡ None
+fails_elsewhere given es o t h = outcome_guarded given es o t ∙ ap (λ r. and_then r (outcome (guarded given es) o)) (guard_fails given t h)
+
+pub proper_with : (given : List Path) (es : List Program) → AllByRecursion IsProper es → AllByRecursion IsProper (guarded given es)
+proper_with given [] h = ((tt, tt), tt)
+proper_with given (e ∷ es) h = (h.0, proper_with given es h.1)
+
+-- ---- its place
+
+module _ (n : ℕ) (before after : ℕ → ℕ → Bool) (first : GoesFirst n before after) where
+  less_ahead : (k : ℕ) (o : List ℕ) → k < n → AllByRecursion (λ j. j < n) o → AllByRecursion (λ a. Told after a k → ⊥) o → AllByRecursion (λ a. Told before a k → ⊥) o
+  less_ahead k [] low below h = tt
+  less_ahead k (j ∷ o) low below h = ((λ b. h.0 ((first.others j k below.0 low).1 b)), less_ahead k o low below.1 h.1)
+
+  more_ahead : (k : ℕ) (o : List ℕ) → k < n → AllByRecursion (λ j. j < n) o → AllByRecursion (λ a. Told before a k → ⊥) o → AllByRecursion (λ a. Told after a k → ⊥) o
+  more_ahead k [] low below h = tt
+  more_ahead k (j ∷ o) low below h = ((λ b. h.0 ((first.others j k below.0 low).0 b)), more_ahead k o low below.1 h.1)
+
+  kept_before : (o : List ℕ) → AllByRecursion (λ j. j < n) o → NoneAhead (Told after) o → NoneAhead (Told before) o
+  kept_before [] below h = tt
+  kept_before (k ∷ o) below h = (less_ahead k o below.0 below.1 h.0, kept_before o below.1 h.1)
+
+  kept_after : (o : List ℕ) → AllByRecursion (λ j. j < n) o → NoneAhead (Told before) o → NoneAhead (Told after) o
+  kept_after [] below h = tt
+  kept_after (k ∷ o) below h = (more_ahead k o below.0 below.1 h.0, kept_after o below.1 h.1)
+
+  none_behind : (o : List ℕ) → AllByRecursion (λ j. j < n) o → AllByRecursion (λ a. Told after a n → ⊥) o
+  none_behind [] below = tt
+  none_behind (k ∷ o) below = let low : k < n = below.0 in ((λ b. first.never_behind k (omega arith) b), none_behind o below.1)
+
+  below_more : (o : List ℕ) → AllByRecursion (λ j. j < n) o → AllByRecursion (λ j. j < n + 1) o
+  below_more [] h = tt
+  below_more (k ∷ o) h = let low : k < n = h.0 in (omega arith, below_more o h.1)
+
+  -- with the guard in front of an allowed order
+  pub in_front : (o : List ℕ) → IsLinearExtension n (Told before) o → IsLinearExtension (n + 1) (Told after) (n ∷ o)
+  in_front o l = record {
+    below = (omega arith, below_more o l.below);
+    once = λ k h. elim (cases_eq k n) [
+      | inl same ↦ omega (arith, ap (λ j. times j (n ∷ o)) same, times_itself n o, none_above n n o l.below (omega arith))
+      | inr differ ↦ omega (arith, times_other k n o differ, l.once k (omega (arith, h, differ)))
+    ];
+    kept = (none_behind o l.below, kept_after o l.below l.kept);
+  }
+
+  off_front : (front back : List ℕ) → IsLinearExtension (n + 1) (Told after) (front ++ n ∷ back) → front ≡ []
+  off_front [] back l = refl
+  off_front (k ∷ front) back l =
+      let ahead = none_ahead_behind (Told after) (k ∷ front) n back l.kept in
+      let counted : times n (k ∷ front ++ n ∷ back) ≡ 1 = l.once n (omega arith) in
+      let once : times n (k ∷ front) ≡ 0 = omega (arith, counted, times_append n (k ∷ front) (n ∷ back), times_itself n back) in
+      let differ : k ≢ n = (λ same. let more : times n (k ∷ front) ≡ 1 + times n front = ap (λ j. times j (k ∷ front)) (sym same) ∙ times_itself k front ∙ ap (λ j. 1 + times j front) same in omega (arith, more, once)) in
+      absurd (ahead.0 (first.first k (omega (arith, l.below.0, differ))))
+
+  -- an allowed order behind the guard
+  pub behind_it : (back : List ℕ) → IsLinearExtension (n + 1) (Told after) (n ∷ back) → IsLinearExtension n (Told before) back
+  behind_it back l =
+      let none : times n back ≡ 0 = omega (arith, l.once n (omega arith), times_itself n back) in
+      let low : (k : ℕ) → 0 < times k back → k < n = λ k h.
+      let under : k < n + 1 = all_at (λ j. j < n + 1) back k l.below.1 h in
+      let differ : k ≢ n = (λ same. let same_times : times k back ≡ times n back = ap (λ j. times j back) same in omega (arith, h, none, same_times)) in
+      omega (arith, under, differ) in
+      let below = all_from (λ j. j < n) back low in
+      record {
+        below = below;
+        once = λ k h. let differ : k ≢ n = (λ same. omega (arith, h, same)) in omega (arith, l.once k (omega (arith, h)), times_other k n back differ);
+        kept = kept_before back below l.kept.1;
+      }
+
+  pub guard_first : (o : List ℕ) → IsLinearExtension (n + 1) (Told after) o → (p : List ℕ) × (o ≡ n ∷ p) × IsLinearExtension n (Told before) p
+  guard_first o l =
+      let split = times_found n o (omega (arith, l.once n (omega arith))) in
+      let empty = off_front split.0 split.1 (subst (IsLinearExtension (n + 1) (Told after)) split.2 l) in
+      let is : o ≡ n ∷ split.1 = split.2 ∙ ap (λ f. f ++ n ∷ split.1) empty in
+      (split.1, is, behind_it split.1 (subst (IsLinearExtension (n + 1) (Told after)) is l))

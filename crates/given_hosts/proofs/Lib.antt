@@ -1,0 +1,4 @@
+pub mod GuardLaws
+pub mod GraphLaws
+pub mod NoneGiven
+pub mod SecondRuns
