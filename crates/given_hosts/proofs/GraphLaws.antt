@@ -1,21 +1,14 @@
 -- What is asked from the trees in which given folders stand is asked of the graph with the guard in front.
-use Rattle.std.proofs.Common.{◌≡◌, ◌↔◌, ◌⊎◌, inl, inr, ℕ, Bool, true, false, ◌+◌, ◌<◌, List, [], ◌∷◌, ◌++◌, length, length-append, Some, None, refl, sym, ap, subst, ◌∙◌}
+use Rattle.std.proofs.Common.{◌≡◌, ◌↔◌, inl, inr, ℕ, Bool, ◌+◌, ◌<◌, List, [], ◌∷◌, ◌++◌, length, length-append, Some, None, sym, ap, subst, ◌∙◌}
 use Rattle.std.specs.Prelude.{IsTrue, IsSome}
 use Rattle.std.specs.List.{AllByRecursion}
 use Rattle.fs_semantics.specs.FileTree.{Path, Tree, IsTree}
-use Rattle.fs_semantics.specs.Programs.{Program, Outcome, holds}
+use Rattle.fs_semantics.specs.Programs.{Program, Outcome}
 use Rattle.fs_semantics.specs.Orders.{Told, IsLinearExtension, IsFree, IsExchange, outcome, IsDeterministic, Succeeds, IsCounterexample}
 use Rattle.fs_semantics.proofs.Counts.{all_back}
 use Rattle.given_hosts.specs.Given.{Stand, IsGivenTree, IsDeterministicFrom, SucceedsFrom, IsCounterexampleFrom, EndsWithFrom, AreEqualFrom}
-use Rattle.given_hosts.specs.Guard.{all_folders, guard, guarded, GoesFirst}
-use Rattle.given_hosts.proofs.GuardLaws.{holds_where_stand, stand_where_holds, ends_where_stand, fails_elsewhere, in_front, guard_first}
-
--- whether they stand can be told
-pub stand_told : (given : List Path) (t : Tree) → Stand given t ⊎ (Stand given t → ⊥)
-stand_told given t = elim (holds (all_folders given) t) as (λ b. holds (all_folders given) t ≡ b → Stand given t ⊎ (Stand given t → ⊥)) [
-  | true ↦ λ e. inl (stand_where_holds given t e)
-  | false ↦ λ e. inr (λ h. let stands = holds_where_stand given t h in cc)
-] refl
+use Rattle.given_hosts.specs.Guard.{guard, guarded, GoesFirst}
+use Rattle.given_hosts.proofs.GuardLaws.{stand_told, ends_where_stand, fails_elsewhere, in_front, guard_first}
 
 some_not_none : (r : Outcome) → IsSome r → r ≡ None → ⊥
 some_not_none None h e = cc

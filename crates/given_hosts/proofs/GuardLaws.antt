@@ -1,43 +1,47 @@
 -- What the guard does, and where it stands in an allowed order.
-use Rattle.std.proofs.Common.{◌≡◌, ◌≢◌, ℕ, zero, suc, Bool, true, false, cond, ◌&&◌, ◌+◌, ◌<◌, List, [], ◌∷◌, ◌++◌, length, get_or, Some, None, refl, sym, ap, subst, ◌∙◌, arith, inl, inr}
+use Rattle.std.proofs.Common.{◌≡◌, ◌≢◌, ℕ, zero, suc, Bool, true, false, cond, ◌&&◌, ◌||◌, nat_lt, ◌==◌, ◌⊎◌, ltb-true, lt-ltb, eq-eqb, ne_eqb, ap₂, ◌+◌, ◌<◌, List, [], ◌∷◌, ◌++◌, length, get_or, Some, None, refl, sym, ap, subst, ◌∙◌, arith, inl, inr}
 use Rattle.std.proofs.lemmas.Bool.{cases_eq}
 use Rattle.std.specs.List.{AllByRecursion}
-use Rattle.fs_semantics.specs.FileTree.{Path, Tree, is_dir}
-use Rattle.fs_semantics.specs.Programs.{Program, Id, and_then, holds, run}
+use Rattle.fs_semantics.specs.FileTree.{Path, IsSegment, Tree, is_dir}
+use Rattle.fs_semantics.specs.Programs.{Program, Programs, Id, Mkdir, and_then, run, run_all}
 use Rattle.fs_semantics.specs.Changes.{IsProper}
 use Rattle.fs_semantics.specs.Orders.{Told, times, NoneAhead, IsLinearExtension, outcome}
 use Rattle.fs_semantics.proofs.Counts.{times_append, times_itself, times_other, times_found, all_at, all_from, none_ahead_behind}
 use Rattle.fs_semantics.proofs.Commuting.{none_above}
 use Rattle.given_hosts.specs.Given.{Stand}
-use Rattle.given_hosts.specs.Guard.{all_folders, guard, guarded, GoesFirst}
+use Rattle.given_hosts.specs.Guard.{need, need_all, guard, guarded, guard_before, GoesFirst}
 
 -- ---- the guard by itself
 
-both : (a b : Bool) → (a && b) ≡ true → (a ≡ true) × (b ≡ true)
-both true b h = (refl, h)
-both false b h = cc
+off : (b : Bool) → b ≡ false → b ≡ true → ⊥
+off true h k = cc
+off false h k = cc
 
-joined : (a b : Bool) → a ≡ true → b ≡ true → (a && b) ≡ true
-joined true b h k = k
-joined false b h k = cc
+-- whether they stand can be told
+pub stand_told : (given : List Path) (t : Tree) → Stand given t ⊎ (Stand given t → ⊥)
+stand_told [] t = inl tt
+stand_told (p ∷ given) t = elim (is_dir t p) as (λ b. is_dir t p ≡ b → Stand (p ∷ given) t ⊎ (Stand (p ∷ given) t → ⊥)) [
+  | true ↦ λ e. elim (stand_told given t) [ inl h ↦ inl (e, h) | inr n ↦ inr (λ h. n h.1) ]
+  | false ↦ λ e. inr (λ h. off (is_dir t p) e h.0)
+] refl
 
-pub holds_where_stand : (given : List Path) (t : Tree) → Stand given t → holds (all_folders given) t ≡ true
-holds_where_stand [] t h = refl
-holds_where_stand (p ∷ given) t h = joined (is_dir t p) (holds (all_folders given) t) h.0 (holds_where_stand given t h.1)
+found : (p : Path) (t : Tree) → is_dir t p ≡ true → run (need p) t ≡ Some t
+found p t h =
+    ap (λ b. and_then (cond b (Some t) None) (λ u. and_then (cond (is_dir u p) (Some u) (run (Mkdir p) u)) (λ v. Some v))) h
+    ∙ ap (λ b. and_then (cond b (Some t) (run (Mkdir p) t)) (λ v. Some v)) h
 
-pub stand_where_holds : (given : List Path) (t : Tree) → holds (all_folders given) t ≡ true → Stand given t
-stand_where_holds [] t h = tt
-stand_where_holds (p ∷ given) t h =
-    let two = both (is_dir t p) (holds (all_folders given) t) h in
-    (two.0, stand_where_holds given t two.1)
+lacks : (p : Path) (t : Tree) → is_dir t p ≡ false → run (need p) t ≡ None
+lacks p t h = ap (λ b. and_then (cond b (Some t) None) (λ u. and_then (cond (is_dir u p) (Some u) (run (Mkdir p) u)) (λ v. Some v))) h
 
 pub guard_stands : (given : List Path) (t : Tree) → Stand given t → run (guard given) t ≡ Some t
-guard_stands given t h = ap (λ b. cond b (Some t) None) (holds_where_stand given t h)
+guard_stands [] t h = refl
+guard_stands (p ∷ given) t h = ap (λ r. and_then r (run_all (need_all given))) (found p t h.0) ∙ guard_stands given t h.1
 
 pub guard_fails : (given : List Path) (t : Tree) → (Stand given t → ⊥) → run (guard given) t ≡ None
-guard_fails given t h = elim (holds (all_folders given) t) as (λ b. holds (all_folders given) t ≡ b → cond b (Some t) None ≡ None) [
-  | true ↦ λ e. absurd (h (stand_where_holds given t e))
-  | false ↦ λ e. refl
+guard_fails [] t n = absurd (n tt)
+guard_fails (p ∷ given) t n = elim (is_dir t p) as (λ b. is_dir t p ≡ b → run_all (need_all (p ∷ given)) t ≡ None) [
+  | true ↦ λ e. ap (λ r. and_then r (run_all (need_all given))) (found p t e) ∙ guard_fails given t (λ h. n (e, h))
+  | false ↦ λ e. ap (λ r. and_then r (run_all (need_all given))) (lacks p t e)
 ] refl
 
 -- ---- behind the programs
@@ -71,9 +75,13 @@ pub fails_elsewhere : (given : List Path) (es : List Program) (o : List ℕ) (t 
     → (Stand given t → ⊥) → outcome (guarded given es) (length es ∷ o) t ≡ None
 fails_elsewhere given es o t h = outcome_guarded given es o t ∙ ap (λ r. and_then r (outcome (guarded given es) o)) (guard_fails given t h)
 
-pub proper_with : (given : List Path) (es : List Program) → AllByRecursion IsProper es → AllByRecursion IsProper (guarded given es)
-proper_with given [] h = ((tt, tt), tt)
-proper_with given (e ∷ es) h = (h.0, proper_with given es h.1)
+pub proper_with : (given : List Path) (es : List Program) → AllByRecursion (AllByRecursion IsSegment) given → AllByRecursion IsProper es → AllByRecursion IsProper (guarded given es)
+proper_with given [] k h = (proper_guard given k, tt)
+  where
+    proper_guard : (given : List Path) → AllByRecursion (AllByRecursion IsSegment) given → IsProper (guard given)
+    proper_guard [] k = tt
+    proper_guard (p ∷ given) k = (((tt, tt), ((tt, k.0), tt)), proper_guard given k.1)
+proper_with given (e ∷ es) k h = (h.0, proper_with given es k h.1)
 
 -- ---- its place
 
@@ -143,3 +151,36 @@ module _ (n : ℕ) (before after : ℕ → ℕ → Bool) (first : GoesFirst n be
       let empty = off_front split.0 split.1 (subst (IsLinearExtension (n + 1) (Told after)) split.2 l) in
       let is : o ≡ n ∷ split.1 = split.2 ∙ ap (λ f. f ++ n ∷ split.1) empty in
       (split.1, is, behind_it split.1 (subst (IsLinearExtension (n + 1) (Told after)) is l))
+
+-- ---- the order with the guard in front
+
+joined : (a b : Bool) → a ≡ true → b ≡ true → (a && b) ≡ true
+joined true b h k = k
+joined false b h k = cc
+
+both : (a b : Bool) → (a && b) ≡ true → (a ≡ true) × (b ≡ true)
+both true b h = (refl, h)
+both false b h = cc
+
+or_same : (b : Bool) → (true || b) ≡ true
+or_same b = refl
+
+other_half : (a b : Bool) → a ≡ false → (a || b) ≡ b
+other_half true b h = cc
+other_half false b h = refl
+
+pub goes_first : (n : ℕ) (before : ℕ → ℕ → Bool) → GoesFirst n before (guard_before n before)
+goes_first n before = record {
+  first = λ b h. joined (nat_lt b n) ((n == n) || before n b) (lt-ltb b n h) (ap (λ v. v || before n b) (eq-eqb n n refl));
+  never_behind = λ a h k. off (nat_lt n n) (below_itself n) (both (nat_lt n n) ((a == n) || before a n) k).0;
+  others = λ a b x y.
+      let differ : (a == n) ≡ false = ne_eqb a n (λ e. let low : a < n = x in omega (arith, low, e)) in
+      let same : guard_before n before a b ≡ before a b = ap₂ (λ u v. u && (v || before a b)) (lt-ltb b n y) differ in
+      ((λ h. sym same ∙ h), (λ h. same ∙ h));
+}
+  where
+    below_itself : (n : ℕ) → nat_lt n n ≡ false
+    below_itself n = elim (nat_lt n n) as (λ b. nat_lt n n ≡ b → b ≡ false) [
+      | true ↦ λ e. absurd (let low = ltb-true n n e in omega (arith, low))
+      | false ↦ λ e. refl
+    ] refl

@@ -10,8 +10,7 @@ use Rattle.fs_semantics.proofs.Commuting.{outcome_keeps_tree}
 use Rattle.fs_semantics.proofs.Decided.{outcome_told}
 use Rattle.given_hosts.specs.Given.{Stand, IsGivenTree, IsDeterministicFrom, IsIdempotentFrom, IsSecondRunCounterexampleFrom}
 use Rattle.given_hosts.specs.Guard.{GoesFirst, steps_in, first_run, after_first, KeepsGiven}
-use Rattle.given_hosts.proofs.GuardLaws.{guard_stands, guard_fails, last_one, outcome_ahead, in_front, guard_first}
-use Rattle.given_hosts.proofs.GraphLaws.{stand_told}
+use Rattle.given_hosts.proofs.GuardLaws.{stand_told, guard_stands, guard_fails, last_one, outcome_ahead, in_front, guard_first}
 
 steps_are : (es : List Program) (o : List ℕ) (t : Tree) → run_all (steps_in es o) t ≡ outcome es o t
 steps_are es [] t = refl

@@ -1,21 +1,30 @@
 -- The program that lets a run begin only where the given folders stand.
-use Rattle.std.specs.Prelude.{◌≡◌, ◌↔◌, ℕ, ◌<◌, ◌≤◌, Bool, IsTrue, List, [], ◌∷◌, ◌++◌, slice_index_or, Some}
+use Rattle.std.specs.Prelude.{◌≡◌, ◌↔◌, ℕ, ◌<◌, ◌≤◌, nat_lt, ◌==◌, Bool, ◌&&◌, ◌||◌, IsTrue, List, [], ◌∷◌, ◌++◌, slice_index_or, Some}
 use Rattle.fs_semantics.specs.FileTree.{Path, Tree}
-use Rattle.fs_semantics.specs.Programs.{Test, True, And, IsDir, Program, Programs, Id, Err, Steps, If, none, next, run}
+use Rattle.fs_semantics.specs.Programs.{IsDir, Program, Programs, Id, Err, Mkdir, Steps, If, none, next, run}
 use Rattle.given_hosts.specs.Given.{Stand}
 
--- all of these are folders
-abbrev pub all_folders : List Path → Test
-all_folders [] = True
-all_folders (p ∷ ps) = And (IsDir p) (all_folders ps)
+-- ends in Error where the folder doesn't stand, and else changes nothing: a folder that was found is made sure of, so that it counts
+-- among the folders that are sure behind the program
+abbrev pub need : Path → Program
+need p = Steps (next (If (IsDir p) Id Err) (next (If (IsDir p) Id (Mkdir p)) none))
+
+-- the same of each of these folders, one after the other
+abbrev pub need_all : List Path → Programs
+need_all [] = none
+need_all (p ∷ ps) = next (need p) (need_all ps)
 
 -- does nothing where the given folders stand, and ends in Error where one doesn't
 abbrev pub guard : List Path → Program
-guard given = If (all_folders given) Id Err
+guard given = Steps (need_all given)
 
 -- the programs, and behind them the guard
 abbrev pub guarded : List Path → List Program → List Program
 guarded given es = es ++ guard given ∷ []
+
+-- n comes before each number below it, and none comes before n; between others all is as before
+abbrev pub guard_before : ℕ → (ℕ → ℕ → Bool) → ℕ → ℕ → Bool
+guard_before n before a b = nat_lt b n && ((a == n) || before a b)
 
 -- After: n, too, comes before each number below it, and none comes before n. Between others all is as before.
 pub record GoesFirst (n : ℕ) (before after : ℕ → ℕ → Bool) : Type 0 where

@@ -4,12 +4,12 @@
 
 ghost use Rattle.std.specs.Prelude.{◌≡◌, ◌↔◌, ◌⊎◌, ℕ, ◌<◌, ◌+◌, Bool, IsTrue, List, [], ◌∷◌, length, None};
 ghost use Rattle.std.specs.List.{AllByRecursion};
-ghost use Rattle.fs_semantics.specs.FileTree.{Path, Tree, IsTree};
+ghost use Rattle.fs_semantics.specs.FileTree.{Path, IsSegment, Tree};
 ghost use Rattle.fs_semantics.specs.Programs.{Program};
 ghost use Rattle.fs_semantics.specs.Changes.{IsProper};
 ghost use Rattle.fs_semantics.specs.Orders.{Told, IsLinearExtension, IsExchange, outcome, IsDeterministic, IsIdempotent, Succeeds, IsCounterexample, IsSecondRunCounterexample};
 ghost use Rattle.given_hosts.specs.Given.{Stand, IsDeterministicFrom, IsIdempotentFrom, SucceedsFrom, IsCounterexampleFrom, IsSecondRunCounterexampleFrom, EndsWithFrom, AreEqualFrom};
-ghost use Rattle.given_hosts.specs.Guard.{guard, guarded, GoesFirst, after_first, KeepsGiven};
+ghost use Rattle.given_hosts.specs.Guard.{guarded, guard_before, GoesFirst, after_first, KeepsGiven};
 
 /// Where no folder is given, each of these says what is said of every file tree.
 pub fn none_given()
@@ -31,7 +31,9 @@ pub fn guards()
         → Stand given t → outcome (guarded given es) (length es ∷ o) t ≡ outcome es o t }
     ensures missing { (given : List Path) (es : List Program) (o : List ℕ) (t : Tree)
         → (Stand given t → ⊥) → outcome (guarded given es) (length es ∷ o) t ≡ None }
-    ensures proper { (given : List Path) (es : List Program) → AllByRecursion IsProper es → AllByRecursion IsProper (guarded given es) }
+    ensures proper { (given : List Path) (es : List Program) → AllByRecursion (AllByRecursion IsSegment) given → AllByRecursion IsProper es
+        → AllByRecursion IsProper (guarded given es) }
+    ensures goes { (n : ℕ) (before : ℕ → ℕ → Bool) → GoesFirst n before (guard_before n before) }
 {}
 
 /// What is asked from the trees in which given folders stand is what is asked from every tree of the graph with the guard in

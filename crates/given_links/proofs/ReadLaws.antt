@@ -105,6 +105,7 @@ module _ (links : List GivenLink) (are : AreLinks links) where
               empty_front : (a b : Path) → [] ≡ a ++ b → a ≢ [] → ⊥
               empty_front [] b e n = n refl
               empty_front (s ∷ a) b e n = cc
+
           at_root : (p : Path) → length p ≡ zero → IsBehindNone p links
           at_root [] e = all_away links not_root
           at_root (s ∷ p) e = absurd (omega (arith, e))

@@ -65,7 +65,11 @@ pub fn read_test(alloc: Global, links: &[GivenLink], test: &Test) -> Result<Test
 }
 
 #[cycle(read_program)]
-fn boxed_program(alloc: Global, links: &[GivenLink], program: &Program) -> Result<Boxed<Program>, NoMemory>
+fn boxed_program(
+    alloc: Global,
+    links: &[GivenLink],
+    program: &Program,
+) -> Result<Boxed<Program>, NoMemory>
     ensures { IfOk result (λ b. program_of b ≡ program_read_as links.now (program_of program.now)) }
 {
     let read = read_program(alloc, links, program)?;
@@ -90,7 +94,13 @@ pub fn read_programs(
 
 #[cycle(read_program)]
 #[tactic(auto, using(fs_lang::specs::Meaning::program_of_if))]
-fn choice(alloc: Global, links: &[GivenLink], a: &Test, e: &Program, f: &Program) -> Result<Program, NoMemory>
+fn choice(
+    alloc: Global,
+    links: &[GivenLink],
+    a: &Test,
+    e: &Program,
+    f: &Program,
+) -> Result<Program, NoMemory>
     ensures { IfOk result (λ read. program_of read ≡ If (test_with (read_as links.now) (test_of a.now)) (program_read_as links.now (program_of e.now)) (program_read_as links.now (program_of f.now))) }
 {
     let test = read_test(alloc, links, a)?;
@@ -101,25 +111,31 @@ fn choice(alloc: Global, links: &[GivenLink], a: &Test, e: &Program, f: &Program
 /// What a program is read as: each of its paths is. Contents, and the targets of links that it makes, stay.
 #[cycle(read_program)]
 #[tactic(auto, using(fs_lang::specs::Meaning::program_of_if, fs_lang::specs::Meaning::program_of_steps, crate::proofs::ProgramLaws::steps_alike))]
-pub fn read_program(alloc: Global, links: &[GivenLink], program: &Program) -> Result<Program, NoMemory>
+pub fn read_program(
+    alloc: Global,
+    links: &[GivenLink],
+    program: &Program,
+) -> Result<Program, NoMemory>
     ensures { IfOk result (λ read. program_of read ≡ program_read_as links.now (program_of program.now)) }
 {
     match program {
         Program::Id => Ok(Program::Id),
         Program::Err => Ok(Program::Err),
         Program::Mkdir(p) => Ok(Program::Mkdir(read_path(alloc, links, p)?)),
-        Program::Creat(p, content) => Ok(Program::Creat(read_path(alloc, links, p)?, content.copy(alloc)?)),
-        Program::Link(p, target) => Ok(Program::Link(read_path(alloc, links, p)?, target.copy(alloc)?)),
+        Program::Creat(p, content) => Ok(Program::Creat(
+            read_path(alloc, links, p)?,
+            content.copy(alloc)?,
+        )),
+        Program::Link(p, target) => Ok(Program::Link(
+            read_path(alloc, links, p)?,
+            target.copy(alloc)?,
+        )),
         Program::Rm(p) => Ok(Program::Rm(read_path(alloc, links, p)?)),
         Program::Cp(from, p) => {
             let from = read_path(alloc, links, from)?;
             Ok(Program::Cp(from, read_path(alloc, links, p)?))
         }
-        Program::Steps(es) => Ok(Program::Steps(read_programs(
-            alloc,
-            links,
-            es.as_slice(),
-        )?)),
+        Program::Steps(es) => Ok(Program::Steps(read_programs(alloc, links, es.as_slice())?)),
         Program::If(a, e, f) => choice(alloc, links, a, e.get(), f.get()),
     }
 }

@@ -1,6 +1,6 @@
 use Rattle.std.proofs.Common.{◌+◌, subst, sym}
 use Rattle.fs_semantics.specs.Orders.{Told, IsLinearExtension}
-use Rattle.given_hosts.proofs.GuardLaws.{in_front, guard_first, ends_where_stand, fails_elsewhere, proper_with}
+use Rattle.given_hosts.proofs.GuardLaws.{in_front, guard_first, ends_where_stand, fails_elsewhere, proper_with, goes_first}
 use Rattle.given_hosts.proofs.guards.Goals as goal
 
 pub returns : goal.returns
@@ -12,4 +12,5 @@ returns c = record {
   stand = ends_where_stand;
   missing = fails_elsewhere;
   proper = proper_with;
+  goes = goes_first;
 }

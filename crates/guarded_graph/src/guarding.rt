@@ -1,0 +1,109 @@
+//! The guard, and the graph with it.
+
+ghost use Rattle.std.specs.Prelude.{◌≡◌, ◌+◌, ◌++◌, ◌∷◌, [], length, map, IfOk};
+ghost use Rattle.fs_semantics.specs.Programs.{IsDir, Id, If};
+ghost use Rattle.fs_lang.specs.Meaning.{test_of, program_of};
+ghost use Rattle.orders.specs.Relation.{comes};
+ghost use Rattle.given_hosts.specs.Guard.{need, guard, guarded, guard_before};
+
+use crate::pairs::order_behind;
+use fs_lang::{Path, Program, Test};
+use orders::Order;
+use rh_base::{Boxed, NoMemory, Seq};
+use std::alloc::Global;
+
+/// Programs with their order, the last of which is the guard that goes first.
+#[derive(Drop)]
+pub struct Guarded {
+    pub programs: Seq<Program>,
+    pub order: Order,
+}
+
+/// One program where a test holds, and another where it doesn't.
+#[tactic(auto, using(fs_lang::specs::Meaning::program_of_if))]
+fn choice(alloc: Global, a: Test, e: Program, f: Program) -> Result<Program, NoMemory>
+    ensures { IfOk result (λ g. program_of g ≡ If (test_of a) (program_of e) (program_of f)) }
+{
+    let left = Boxed::new(alloc, e)?;
+    let right = Boxed::new(alloc, f)?;
+    Ok(Program::If(a, left, right))
+}
+
+/// Nothing where the path is a folder, and the program where it isn't.
+#[tactic(auto, using(fs_lang::specs::Meaning::program_of_if))]
+fn unless_folder(alloc: Global, p: &Path, e: Program) -> Result<Program, NoMemory>
+    ensures { IfOk result (λ f. program_of f ≡ If (IsDir p.now) Id (program_of e)) }
+{
+    choice(alloc, Test::IsDir(p.copy(alloc)?), Program::Id, e)
+}
+
+/// Ends in Error where the folder doesn't stand, and makes sure of it.
+#[tactic(auto, using(fs_lang::specs::Meaning::program_of_steps))]
+fn need(alloc: Global, p: &Path) -> Result<Program, NoMemory>
+    ensures { IfOk result (λ e. program_of e ≡ need p.now) }
+{
+    let mut steps = Seq::new(alloc);
+    steps.push(unless_folder(alloc, p, Program::Err)?)?;
+    steps.push(unless_folder(alloc, p, Program::Mkdir(p.copy(alloc)?))?)?;
+    Ok(Program::Steps(steps))
+}
+
+fn needs(alloc: Global, given: &[Path]) -> Result<Seq<Program>, NoMemory>
+    ensures { IfOk result (λ all. map program_of all ≡ map need given.now) }
+{
+    let mut all = Seq::new(alloc);
+    for p in given {
+        all.push(need(alloc, p)?)?;
+    }
+    Ok(all)
+}
+
+/// The guard: it changes nothing where the given folders stand, and ends in Error where one doesn't.
+#[tactic(auto, using(fs_lang::specs::Meaning::program_of_steps, crate::proofs::GuardLaws::steps_are))]
+pub fn guard_of(alloc: Global, given: &[Path]) -> Result<Program, NoMemory>
+    ensures { IfOk result (λ e. program_of e ≡ guard given.now) }
+{
+    Ok(Program::Steps(needs(alloc, given)?))
+}
+
+/// Copies of the programs.
+fn copies(alloc: Global, programs: &[Program]) -> Result<Seq<Program>, NoMemory>
+    ensures { IfOk result (λ all. all ≡ programs.now) }
+{
+    let mut all = Seq::new(alloc);
+    for program in programs {
+        all.push(program.copy(alloc)?)?;
+    }
+    Ok(all)
+}
+
+/// The programs with one more behind them.
+fn with_last(alloc: Global, programs: &[Program], last: Program) -> Result<Seq<Program>, NoMemory>
+    ensures { IfOk result (λ all. map program_of all ≡ map program_of programs.now ++ program_of last ∷ []) }
+{
+    let mut all = copies(alloc, programs)?;
+    all.push(last)?;
+    Ok(all)
+}
+
+/// The graph with the guard in front, as the program with the next number.
+pub fn with_guard(
+    alloc: Global,
+    programs: &[Program],
+    order: &Order,
+    given: &[Path],
+) -> Result<Guarded, NoMemory>
+    requires { length programs.now ≡ order.now.count }
+    ensures programs { IfOk result (λ g. map program_of g.programs ≡ guarded given.now (map program_of programs.now)) }
+    ensures count { IfOk result (λ g. length g.programs ≡ g.order.count) }
+    ensures more { IfOk result (λ g. g.order.count ≡ order.now.count + 1) }
+    ensures order { IfOk result (λ g. comes g.order ≡ guard_before order.now.count (comes order.now)) }
+{
+    let last = guard_of(alloc, given)?;
+    let all = with_last(alloc, programs, last)?;
+    let behind = order_behind(alloc, order)?;
+    Ok(Guarded {
+        programs: all,
+        order: behind,
+    })
+}
