@@ -1,1 +1,2 @@
 pub mod GuardLaws
+pub mod PruneLaws

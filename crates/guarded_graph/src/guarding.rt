@@ -1,6 +1,6 @@
 //! The guard, and the graph with it.
 
-ghost use Rattle.std.specs.Prelude.{◌≡◌, ◌+◌, ◌++◌, ◌∷◌, [], length, map, IfOk};
+ghost use Rattle.std.specs.Prelude.{◌≡◌, ◌+◌, length, map, IfOk};
 ghost use Rattle.fs_semantics.specs.Programs.{IsDir, Id, If};
 ghost use Rattle.fs_lang.specs.Meaning.{test_of, program_of};
 ghost use Rattle.orders.specs.Relation.{comes};
@@ -77,10 +77,15 @@ fn copies(alloc: Global, programs: &[Program]) -> Result<Seq<Program>, NoMemory>
     Ok(all)
 }
 
-/// The programs with one more behind them.
-fn with_last(alloc: Global, programs: &[Program], last: Program) -> Result<Seq<Program>, NoMemory>
-    ensures { IfOk result (λ all. map program_of all ≡ map program_of programs.now ++ program_of last ∷ []) }
+/// The programs, and behind them the guard.
+pub fn guarded_programs(
+    alloc: Global,
+    programs: &[Program],
+    given: &[Path],
+) -> Result<Seq<Program>, NoMemory>
+    ensures { IfOk result (λ all. map program_of all ≡ guarded given.now (map program_of programs.now)) }
 {
+    let last = guard_of(alloc, given)?;
     let mut all = copies(alloc, programs)?;
     all.push(last)?;
     Ok(all)
@@ -99,8 +104,7 @@ pub fn with_guard(
     ensures more { IfOk result (λ g. g.order.count ≡ order.now.count + 1) }
     ensures order { IfOk result (λ g. comes g.order ≡ guard_before order.now.count (comes order.now)) }
 {
-    let last = guard_of(alloc, given)?;
-    let all = with_last(alloc, programs, last)?;
+    let all = guarded_programs(alloc, programs, given)?;
     let behind = order_behind(alloc, order)?;
     Ok(Guarded {
         programs: all,

@@ -2,6 +2,8 @@
 #![tactic(auto)]
 
 mod guarding;
+mod laws;
 mod pairs;
 
-pub use guarding::{Guarded, guard_of, with_guard};
+pub use laws::guard_is_pruned;
+pub use guarding::{Guarded, guard_of, guarded_programs, with_guard};

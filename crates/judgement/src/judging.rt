@@ -174,8 +174,13 @@ fn judge_pairs(
     }
 }
 
-/// Prunes, and judges what is kept.
-fn judge(alloc: Global, programs: &[Program], order: &Order, budget: u64) -> Result<First, NoMemory>
+/// Prunes, and judges what is kept, however large it is.
+pub fn judge_any(
+    alloc: Global,
+    programs: &[Program],
+    order: &Order,
+    budget: u64,
+) -> Result<First, NoMemory>
     requires count { length programs.now ≡ order.now.count }
     requires budget { 1 ≤ budget }
     ensures { IfOk result (IsJudged (map program_of programs.now) order.now budget) }
@@ -217,6 +222,6 @@ pub fn judge_order(
     ensures spent { IfOk result (λ first. IfSpent first (IsSpent (map program_of programs.now) (Told (comes order.now)) budget)) }
 {
     check_size(alloc, programs)?;
-    let first = judge(alloc, programs, order, budget)?;
+    let first = judge_any(alloc, programs, order, budget)?;
     Ok(first)
 }

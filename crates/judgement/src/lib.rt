@@ -12,4 +12,4 @@ mod settling;
 mod whole;
 
 pub use first::{First, Sure};
-pub use judging::judge_order;
+pub use judging::{judge_any, judge_order};
