@@ -28,6 +28,9 @@ two_orders es before (first.Differs p (witness.Twice tree order)) h = absurd h
 two_orders es before (first.Differs p (witness.Ends tree order)) h = absurd h
 two_orders es before (first.Spent p cnf log) h = tt
 
+pub differs_are : (p q : ℕ) (w v : Witness) → q ≡ p - 1 → IsUnguarded w v → IsAnswerWithout (first.Differs p w) (first.Differs q v)
+differs_are p q w v e u = (v, u, ap (λ n. first.Differs n v) e)
+
 alone_same : (p q : ℕ) (s : Sure) → IsAlone (first.Sure p s) → IsAlone (first.Sure q s)
 alone_same p q sure.Pruned h = tt
 alone_same p q (sure.Proved v) h = absurd h
@@ -37,10 +40,9 @@ proved_same p q sure.Pruned P Q to h = tt
 proved_same p q (sure.Proved v) P Q to h = to v.formula h
 
 module _ (given : List Path) (es : List Program) (order : Relation) (long : length es ≡ order.count)
-  (kept_by : (kept : List ℕ) → Keeps (guarded given es) (Told (guard_before order.count (comes order))) kept → Keeps es (Told (comes order)) kept)
-  (one : (kept left : List ℕ) → Keeps es (Told (comes order)) kept → Keeps es (Told (comes order)) left → kept ≡ left)
-  (few : (kept : List ℕ) → Keeps es (Told (comes order)) kept → length kept ≤ length es) where
-
+    (kept_by : (kept : List ℕ) → Keeps (guarded given es) (Told (guard_before order.count (comes order))) kept → Keeps es (Told (comes order)) kept)
+    (one : (kept left : List ℕ) → Keeps es (Told (comes order)) kept → Keeps es (Told (comes order)) left → kept ≡ left)
+    (few : (kept : List ℕ) → Keeps es (Told (comes order)) kept → length kept ≤ length es) where
   goes : GoesFirst (length es) (comes order) (guard_before order.count (comes order))
   goes = subst (λ n. GoesFirst n (comes order) (guard_before order.count (comes order))) (sym long) (goes_first order.count (comes order))
 
@@ -65,9 +67,10 @@ module _ (given : List Path) (es : List Program) (order : Relation) (long : leng
       (subst (λ q. IsCounterexample (guarded given es) (Told (guard_before order.count (comes order))) tree q right) l.1 c) in
       let turned = subst (λ q. IsExchange (Told (guard_before order.count (comes order))) (length es ∷ l.0) q) r.1 (subst (λ q. IsExchange (Told (guard_before order.count (comes order))) q right) l.1 x) in
       subst (λ q. IsDifferenceFrom given es (Told (comes order)) (witness.Orders tree (drop 1 left) q)) (sym b)
-      (subst (λ q. IsDifferenceFrom given es (Told (comes order)) (witness.Orders tree q r.0)) (sym a)
-      ((counterexample given es (comes order) (guard_before order.count (comes order)) goes tree l.0 r.0).0 both,
-      (exchange (length es) (comes order) (guard_before order.count (comes order)) goes l.0 r.0 l.2).0 turned))
+      (subst (λ q. IsDifferenceFrom given es (Told (comes order)) (witness.Orders tree q r.0)) (sym a) (
+        (counterexample given es (comes order) (guard_before order.count (comes order)) goes tree l.0 r.0).0 both,
+        (exchange (length es) (comes order) (guard_before order.count (comes order)) goes l.0 r.0 l.2).0 turned,
+      ))
 
   shown : (w v : Witness) → IsDifference (guarded given es) (Told (guard_before order.count (comes order))) w → IsUnguarded w v → IsDifferenceFrom given es (Told (comes order)) v
   shown (witness.Orders tree left right) v h u = subst (IsDifferenceFrom given es (Told (comes order))) (sym u) (different tree left right h.0 h.1)

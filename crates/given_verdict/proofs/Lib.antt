@@ -1,1 +1,3 @@
 pub mod FirstLaws
+pub mod LimitLaws
+pub mod SecondLaws

@@ -3,6 +3,8 @@
 
 mod limits;
 mod order;
+mod second;
 
 pub use limits::check_size_with;
 pub use order::judge_order_from;
+pub use second::ask_second_from;

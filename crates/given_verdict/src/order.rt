@@ -10,6 +10,7 @@ ghost use Rattle.commute_prune.specs.Keeping.{Keeps};
 ghost use Rattle.verdict.specs.Limits.{IsLight};
 ghost use Rattle.judgement.specs.First.{IsPrunedCount, pruned_in, IsAlone, IfSure, IfProved, IfDiffers, IfSpent};
 ghost use Rattle.judgement.specs.Answers.{HasTwoOrders};
+ghost use Rattle.judgement.specs.declared.first.First.TheVariants as variants;
 ghost use Rattle.given_verdict.specs.First.{HasFewPathsWith, IsTooLargeWith, IsDifferenceFrom, IsProofFrom, IsSpentFrom, IsJudgedFrom, IsUnguarded, IsAnswerWithout};
 
 use crate::limits::check_size_with;
@@ -48,6 +49,19 @@ fn unguarded(alloc: Global, witness: Witness) -> Result<Witness, NoMemory>
     }
 }
 
+/// That orders differ, said of the graph without the guard.
+#[tactic(auto, using(crate::proofs::FirstLaws::differs_are))]
+fn differs_without(alloc: Global, pruned: u32, witness: Witness) -> Result<First, NoMemory>
+    requires { HasTwoOrders witness }
+    ensures { IfOk result (IsAnswerWithout (variants.Differs pruned witness)) }
+{
+    let witness = unguarded(alloc, witness)?;
+    Ok(First::Differs {
+        pruned: pruned.saturating_sub(1),
+        witness,
+    })
+}
+
 /// An answer about the graph with the guard, as one about the graph.
 fn answer_without(alloc: Global, answered: First) -> Result<First, NoMemory>
     requires { IfDiffers answered HasTwoOrders }
@@ -58,10 +72,7 @@ fn answer_without(alloc: Global, answered: First) -> Result<First, NoMemory>
             pruned: pruned.saturating_sub(1),
             sure,
         }),
-        First::Differs { pruned, witness } => Ok(First::Differs {
-            pruned: pruned.saturating_sub(1),
-            witness: unguarded(alloc, witness)?,
-        }),
+        First::Differs { pruned, witness } => differs_without(alloc, pruned, witness),
         First::Spent { pruned, cnf, log } => Ok(First::Spent {
             pruned: pruned.saturating_sub(1),
             cnf,

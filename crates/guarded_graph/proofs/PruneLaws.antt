@@ -28,13 +28,13 @@ either_way : (a b : ℕ) (ks : List ℕ) → without a (without b ks) ≡ withou
 either_way a b [] = refl
 either_way a b (j ∷ ks) = elim (cases_Bool (j == a)) [
   | inl x ↦ elim (cases_Bool (j == b)) [
-      | inl y ↦ ap (without a) (passed b j ks y) ∙ either_way a b ks ∙ sym (ap (without b) (passed a j ks x))
-      | inr y ↦ ap (without a) (stays b j ks y) ∙ passed a j (without b ks) x ∙ either_way a b ks ∙ sym (ap (without b) (passed a j ks x))
-    ]
+    | inl y ↦ ap (without a) (passed b j ks y) ∙ either_way a b ks ∙ sym (ap (without b) (passed a j ks x))
+    | inr y ↦ ap (without a) (stays b j ks y) ∙ passed a j (without b ks) x ∙ either_way a b ks ∙ sym (ap (without b) (passed a j ks x))
+  ]
   | inr x ↦ elim (cases_Bool (j == b)) [
-      | inl y ↦ ap (without a) (passed b j ks y) ∙ either_way a b ks ∙ sym (ap (without b) (stays a j ks x) ∙ passed b j (without a ks) y)
-      | inr y ↦ ap (without a) (stays b j ks y) ∙ stays a j (without b ks) x ∙ ap (λ l. j ∷ l) (either_way a b ks) ∙ sym (ap (without b) (stays a j ks x) ∙ stays b j (without a ks) y)
-    ]
+    | inl y ↦ ap (without a) (passed b j ks y) ∙ either_way a b ks ∙ sym (ap (without b) (stays a j ks x) ∙ passed b j (without a ks) y)
+    | inr y ↦ ap (without a) (stays b j ks y) ∙ stays a j (without b ks) x ∙ ap (λ l. j ∷ l) (either_way a b ks) ∙ sym (ap (without b) (stays a j ks x) ∙ stays b j (without a ks) y)
+  ]
 ]
 
 one_up : (k n : ℕ) → up_from k (suc n) ≡ up_from k n ++ (k + n) ∷ []
@@ -50,8 +50,7 @@ last_out n (j ∷ ks) h =
     stays n j (ks ++ n ∷ []) differ ∙ ap (λ l. j ∷ l) (last_out n ks h.1)
 
 module _ (given : List Path) (es : List Program) (before after : ℕ → ℕ → Type 0) (first : (b : ℕ) → b < length es → after (length es) b)
-  (never : (a : ℕ) → a ≤ length es → after a (length es) → ⊥) (others : (a b : ℕ) → a < length es → b < length es → after a b ↔ before a b) where
-
+    (never : (a : ℕ) → a ≤ length es → after a (length es) → ⊥) (others : (a b : ℕ) → a < length es → b < length es → after a b ↔ before a b) where
   in_front : (xs ys : List Program) (i : ℕ) → i < length xs → get_or (xs ++ ys) i Id ≡ get_or xs i Id
   in_front [] ys i h = absurd (omega (arith, h))
   in_front (x ∷ xs) ys zero h = refl
@@ -107,14 +106,14 @@ module _ (given : List Path) (es : List Program) (before after : ℕ → ℕ →
   behind : (moves : List Move) (ks kept : List ℕ) → AllByRecursion (λ j. j < length es) ks → Prunes (guarded given es) after moves ks kept → Prunes es before moves ks kept
   behind [] ks kept below h = (h.0, (λ k m. h.1 k (last_to ks below k m)), (λ k m. h.2 k (first_to ks below k m)))
   behind (ToFirst k ∷ moves) ks kept below h = (
-      (λ j m. h.0 j (last_to ks below j m)),
-      record { holds = first_back ks below k h.1.holds; least = λ j l m. h.1.least j l (first_to ks below j m) },
-      behind moves (without k ks) kept (without_keeps (λ j. j < length es) k ks below) h.2,
-    )
+    (λ j m. h.0 j (last_to ks below j m)),
+    record { holds = first_back ks below k h.1.holds; least = λ j l m. h.1.least j l (first_to ks below j m) },
+    behind moves (without k ks) kept (without_keeps (λ j. j < length es) k ks below) h.2,
+  )
   behind (ToLast k ∷ moves) ks kept below h = (
-      record { holds = last_back ks below k h.0.holds; least = λ j l m. h.0.least j l (last_to ks below j m) },
-      behind moves (without k ks) kept (without_keeps (λ j. j < length es) k ks below) h.1,
-    )
+    record { holds = last_back ks below k h.0.holds; least = λ j l m. h.0.least j l (last_to ks below j m) },
+    behind moves (without k ks) kept (without_keeps (λ j. j < length es) k ks below) h.1,
+  )
 
   -- ---- while the guard is there
 
@@ -187,14 +186,16 @@ module _ (given : List Path) (es : List Program) (before after : ℕ → ℕ →
         (moves, behind moves (without (length es) ks) kept (others_below ks below there ks below) (subst (λ j. Prunes (guarded given es) after moves (without j ks) kept) e h.1))
     | inr d ↦
         let still : times (length es) (without k ks) ≡ 1 = others_left (length es) k ks (λ s. d (sym s)) ∙ there in
-        let rest = with_it moves (without k ks) kept (without_keeps (λ j. j < length es + 1) k ks below) still h.1 in
-        (ToLast k ∷ rest.0, (
+        let rest = with_it moves (without k ks) kept (without_keeps (λ j. j < length es + 1) k ks below) still h.1 in (
+          ToLast k ∷ rest.0,
+          (
             record {
               holds = with_it_back ks below there k d h.0.holds;
               least = λ j l m. h.0.least j l (with_it_to ks below there j (is_other ks below there j (let o = m.once in omega (arith, o))) m);
             },
             subst (λ js. Prunes es before rest.0 js kept) (either_way (length es) k ks) rest.1,
-          ))
+          ),
+        )
   ]
 
   pub keeps : (kept : List ℕ) → Keeps (guarded given es) after kept → Keeps es before kept
