@@ -3,7 +3,7 @@ use Rattle.std.proofs.Common.{◌≡◌, ◌≢◌, ℕ, zero, suc, Bool, true, 
 use Rattle.std.proofs.lemmas.Bool.{cases_eq}
 use Rattle.std.specs.List.{AllByRecursion}
 use Rattle.fs_semantics.specs.FileTree.{Path, IsSegment, Tree, is_dir}
-use Rattle.fs_semantics.specs.Programs.{Program, Programs, Id, Mkdir, and_then, run, run_all}
+use Rattle.fs_semantics.specs.Programs.{Program, Id, Mkdir, and_then, run, run_all}
 use Rattle.fs_semantics.specs.Changes.{IsProper}
 use Rattle.fs_semantics.specs.Orders.{Told, times, NoneAhead, IsLinearExtension, outcome}
 use Rattle.fs_semantics.proofs.Counts.{times_append, times_itself, times_other, times_found, all_at, all_from, none_ahead_behind}
@@ -161,13 +161,6 @@ joined false b h k = cc
 both : (a b : Bool) → (a && b) ≡ true → (a ≡ true) × (b ≡ true)
 both true b h = (refl, h)
 both false b h = cc
-
-or_same : (b : Bool) → (true || b) ≡ true
-or_same b = refl
-
-other_half : (a b : Bool) → a ≡ false → (a || b) ≡ b
-other_half true b h = cc
-other_half false b h = refl
 
 pub goes_first : (n : ℕ) (before : ℕ → ℕ → Bool) → GoesFirst n before (guard_before n before)
 goes_first n before = record {
