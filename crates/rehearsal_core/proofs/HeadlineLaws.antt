@@ -18,7 +18,7 @@ use Rattle.equal_report.specs.Told.{OneIsUnanswered}
 use Rattle.reports.specs.Comparisons.{names_of, other_names_of, IsComparison}
 use Rattle.known_inputs.specs.Inputs.{wanted_of}
 use Rattle.rehearsal_core.specs.Inputs.{Requests, Reports, IsAnswerTo}
-use Rattle.rehearsal_core.specs.Runs.{Run}
+use Rattle.rehearsal_core.specs.Runs.{Run, Appends}
 use Rattle.rehearsal_core.specs.Headline.{ask_for, AsksForVerdict, AsksForEntry, AsksForRepair, AsksForComparison, Modelled, Judged, IsCompared, OfBoth, DoTheSame, DoOtherwise, OneDependsOnOrder, SpendsOnComparison, IsWell, DependsOnOrder, ChangesAgain, SpendsConflicts, LeavesEntry, MissesEntry, SpendsOnEntry, IsMended, SpendsOnRepair, Headline}
 use Rattle.rehearsal_core.proofs.ComparedLaws as compared_laws
 use Rattle.rehearsal_core.specs.Answers.{WritesReport, Tells}
