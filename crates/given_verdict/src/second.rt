@@ -1,12 +1,10 @@
 //! Whether a second run changes anything, where the first begins in a tree in which given folders stand. The guard stands ahead of
 //! the first run alone: the second begins in what the first left.
 
-ghost use Rattle.std.specs.Prelude.{◌≡◌, ◌≤◌, ◌∷◌, ◌++◌, ℕ, Bool, length, map, IfOk, OnOk};
+ghost use Rattle.std.specs.Prelude.{◌≡◌, ◌≤◌, ◌∷◌, ◌++◌, length, map, IfOk, OnOk};
 ghost use Rattle.fs_lang.specs.Meaning.{program_of};
-ghost use Rattle.cnf.specs.Encoding.{inputs_in};
-ghost use Rattle.cnf.specs.Formulas.{Satisfies};
 ghost use Rattle.proof_check.specs.Refuted.{HasNoModel};
-ghost use Rattle.order_encode.specs.Asked.{Shows};
+ghost use Rattle.order_encode.specs.Asked.{CanShow};
 ghost use Rattle.order_encode.specs.declared.witness.Witness.{Witness};
 ghost use Rattle.answering.specs.Answers.{AnswersBy};
 ghost use Rattle.given_verdict.specs.Second.{StatesSecondFrom, NeverChangedFrom, IsChangeTree, IsOfEnd, IsWithFirst, AnswersSecondFrom};
@@ -60,7 +58,7 @@ fn second_question(
     requires count { length programs.now ≡ order.now.count }
     ensures states { IfOk result (λ q. StatesSecondFrom given.now (map program_of programs.now) order.now q.formula) }
     ensures never { IfOk result (λ q. HasNoModel q.formula → NeverChangedFrom given.now (map program_of programs.now) order.now) }
-    ensures models { IfOk result (λ q. (v : ℕ → Bool) → Satisfies v q.formula.clauses → (w : Witness) → Shows q (inputs_in v) w → IsChangeTree given.now (map program_of programs.now) order.now w) }
+    ensures models { IfOk result (λ q. (w : Witness) → CanShow q w → IsChangeTree given.now (map program_of programs.now) order.now w) }
 {
     domains();
     shadows();

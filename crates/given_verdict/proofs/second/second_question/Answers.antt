@@ -65,7 +65,7 @@ returns-clause-never c =
     (c.in_ok-once.ensures ∙ ap₂ (λ a l. a ∷ l) same c.as_slice-2.ensures) (c.as_slice-6.ensures ∙ c.in_ok-twice.ensures ∙ ap₂ (λ a l. a ∷ (l ++ l)) same c.as_slice-3.ensures) f exact
 
 pub returns-clause-models : goal.returns-clause-models
-returns-clause-models c = λ v holds w shows.
+returns-clause-models c = λ w shows.
     let es = map program_of c.args.programs.now in
     let order = c.args.order.now in
     let given = c.args.given.now in
@@ -75,6 +75,6 @@ returns-clause-models c = λ v holds w shows.
     let left : map program_of c.as_slice-4.result.now ≡ guarded given es = ap (map program_of) c.as_slice-4.ensures ∙ c.in_ok-all.ensures in
     let right : map program_of c.as_slice-5.result.now ≡ guarded given es = ap (map program_of) c.as_slice-5.ensures ∙ c.in_ok-all.ensures in
     let parts = subst (λ gs. ShowsParting (guarded given es) c.in_ok-once.once gs c.as_slice-6.result.now c.in_ok-d.d w) right
-    (subst (λ gs. ShowsParting gs c.in_ok-once.once (map program_of c.as_slice-5.result.now) c.as_slice-6.result.now c.in_ok-d.d w) left (c.in_ok-posed.ensures.models v holds w shows)) in
+    (subst (λ gs. ShowsParting gs c.in_ok-once.once (map program_of c.as_slice-5.result.now) c.as_slice-6.result.now c.in_ok-d.d w) left (c.in_ok-posed.ensures.models w shows)) in
     shown given es order long c.in_ok-first.first is_first c.in_ok-d.d c.in_ok-once.once c.as_slice-6.result.now (c.in_ok-once.ensures ∙ ap₂ (λ a l. a ∷ l) same c.as_slice-2.ensures)
     (c.as_slice-6.ensures ∙ c.in_ok-twice.ensures ∙ ap₂ (λ a l. a ∷ (l ++ l)) same c.as_slice-3.ensures) w parts
