@@ -95,11 +95,11 @@ fn graphs_without_arrows(rt: HostRuntime) -> Result<(), Fail> {
         ("if file? /a: id, creat /a ", "put /a ", "not equal"),
         ("id", "if file? /a: rm /a, id", "not equal"),
         // both end in Error from every tree, whatever they changed before
-        ("mkdir mkdir /b", "err", "equal"),
+        ("mkdir /b; mkdir /b", "err", "equal"),
         ("err", "id", "not equal"),
         (
             "if file? /a: err, id",
-            "if file? /a: err, creat rm /b x",
+            "if file? /a: err, creat /b x; rm /b",
             "not equal",
         ),
         // one of the two, or both, without an arrow that matters
