@@ -1,11 +1,10 @@
 -- Which pairs are doubtful; and that others commute where the folders stand that are sure before them.
-use Rattle.std.proofs.Common.{◌≡◌, ◌≢◌, ◌⊎◌, ℕ, zero, suc, ◌+◌, ◌<◌, Bool, true, false, not, ◌&&◌, ◌||◌, ◌==◌, List, [], ◌∷◌, length, get_or, inl, inr, refl, sym, ap, subst, subst₂, ◌∙◌, arith, nat_lt, ltb-true, ltb-false, eqb-true, eq-eqb}
-use Rattle.std.specs.Prelude.{◌↔◌, IsTrue}
-use Rattle.std.specs.List.{Contains, AllByRecursion, list_any}
-use Rattle.std.proofs.lemmas.Bool.{or_cases, or_left, or_right, and_parts, and_from, cases_Bool, both_ways, cases_order}
-use Rattle.fs_semantics.specs.FileTree.{Path, Tree}
+use Rattle.std.proofs.Common.{◌≡◌, ◌≢◌, ◌⊎◌, ℕ, suc, ◌+◌, ◌<◌, Bool, true, false, not, ◌&&◌, ◌||◌, ◌==◌, List, [], ◌∷◌, length, get_or, inl, inr, refl, sym, ap, ◌∙◌, arith, nat_lt, ltb-true, ltb-false, eq-eqb}
+use Rattle.std.specs.List.{Contains, AllByRecursion}
+use Rattle.std.proofs.lemmas.Bool.{or_cases, or_left, or_right, and_parts, and_from, cases_Bool, cases_order}
+use Rattle.fs_semantics.specs.FileTree.{Path}
 use Rattle.fs_semantics.specs.Programs.{Program, Id}
-use Rattle.fs_semantics.specs.Changes.{IsProper, CommuteFrom, Commutes}
+use Rattle.fs_semantics.specs.Changes.{CommuteFrom, Commutes}
 use Rattle.fs_semantics.specs.Orders.{Told, IsFree}
 use Rattle.effect_sets.specs.Footprints.{Footprint, footprint, sure_after, IsClearOf, AreApart}
 use Rattle.effect_sets.specs.Footprints as prints
@@ -17,18 +16,19 @@ use Rattle.commute_prune.specs.Matrix.{cell, IsMatrixOf}
 use Rattle.commute_prune.specs.Steps.{are_apart}
 use Rattle.commute_prune.specs.Pairs.{pairs_of}
 use Rattle.commute_prune.specs.Sure.{is_written, is_left_before, surely_stands, footprint_at}
-use Rattle.commute_prune.specs.Doubtful.{AreApartWhereSure, IsDoubtful, AreDoubtful, is_doubtful}
+use Rattle.commute_prune.specs.Doubtful.{AreApartWhereSure, AreDoubtful, AreTouching, is_doubtful}
 use Rattle.commute_prune.proofs.PairLaws.{pairs_from, pairs_in}
 
 -- ---- what is listed
 
-module _ (es : List Program) (order : Relation) (rows : List (List Bool)) (matrix : IsMatrixOf (length es) (footprint_at es (comes order)) rows) (long : length es ≡ order.count) where
-  apart_from_rows : (a b : ℕ) → a < length es → b < length es → are_apart rows a b ≡ true → AreApartWhereSure es (comes order) a b
+-- whichever order the pairs are told by
+module _ (es : List Program) (before : ℕ → ℕ → Bool) (order : Relation) (rows : List (List Bool)) (matrix : IsMatrixOf (length es) (footprint_at es before) rows) (long : length es ≡ order.count) where
+  apart_from_rows : (a b : ℕ) → a < length es → b < length es → are_apart rows a b ≡ true → AreApartWhereSure es before a b
   apart_from_rows a b low high h =
       let two = and_parts (cell rows a b) (cell rows b a) h in
       record { left = (matrix.cells a b low high).0 two.0; right = (matrix.cells b a high low).0 two.1 }
 
-  rows_from_apart : (a b : ℕ) → a < length es → b < length es → AreApartWhereSure es (comes order) a b → are_apart rows a b ≡ true
+  rows_from_apart : (a b : ℕ) → a < length es → b < length es → AreApartWhereSure es before a b → are_apart rows a b ≡ true
   rows_from_apart a b low high h = and_from (cell rows a b) (cell rows b a) ((matrix.cells a b low high).1 h.left) ((matrix.cells b a high low).1 h.right)
 
   not_told : (a b : ℕ) → (Comes order a b → ⊥) → not (comes order a b) ≡ true
@@ -40,7 +40,7 @@ module _ (es : List Program) (order : Relation) (rows : List (List Bool)) (matri
   less_told : (a b : ℕ) → a < b → nat_lt a b ≡ true
   less_told a b h = elim (cases_Bool (nat_lt a b)) [ inl yes_ ↦ yes_ | inr none ↦ absurd (omega (arith, h, ltb-false a b none)) ]
 
-  listed : (a b : ℕ) → a < b → b < length es → IsFree (Told (comes order)) a b → Contains (pairs_of (is_doubtful order rows) order.count order.count) (a, b) ⊎ AreApartWhereSure es (comes order) a b
+  listed : (a b : ℕ) → a < b → b < length es → IsFree (Told (comes order)) a b → Contains (pairs_of (is_doubtful order rows) order.count order.count) (a, b) ⊎ AreApartWhereSure es before a b
   listed a b less high free =
       let low : a < length es = omega (arith, less, high) in
       elim (cases_Bool (are_apart rows a b)) [
@@ -52,22 +52,34 @@ module _ (es : List Program) (order : Relation) (rows : List (List Bool)) (matri
             (and_from (nat_lt a b && not (comes order a b) && not (comes order b a)) (not (are_apart rows a b)) second (ap not meet)))
       ]
 
-  of_pair : (a b : ℕ) → Contains (pairs_of (is_doubtful order rows) order.count order.count) (a, b) → IsDoubtful es (comes order) a b
+  of_pair : (a b : ℕ) → Contains (pairs_of (is_doubtful order rows) order.count order.count) (a, b) → (a < b) × (b < length es) × IsFree (Told (comes order)) a b × (AreApartWhereSure es before a b → ⊥)
   of_pair a b h =
       let pair = pairs_from (is_doubtful order rows) order.count order.count (a, b) h in
       let last = and_parts (nat_lt a b && not (comes order a b) && not (comes order b a)) (not (are_apart rows a b)) pair.passes in
       let more = and_parts (nat_lt a b && not (comes order a b)) (not (comes order b a)) last.0 in
       let first = and_parts (nat_lt a b) (not (comes order a b)) more.0 in
       let less : a < b = ltb-true a b first.0 in
-      let high = pair.right in record {
-        ordered = less;
-        below = omega (arith, high, long);
-        free = record { differ = λ same. omega (arith, less, same); not_before = told_not a b first.1; not_after = told_not b a more.1 };
-        meet = λ apart. let wrong : false ≡ true = sym (ap not (rows_from_apart a b (omega (arith, less, high, long)) (omega (arith, high, long)) apart)) ∙ last.1 in cc;
-      }
+      let high = pair.right in (
+        less,
+        omega (arith, high, long),
+        record { differ = λ same. omega (arith, less, same); not_before = told_not a b first.1; not_after = told_not b a more.1 },
+        (λ apart. let wrong : false ≡ true = sym (ap not (rows_from_apart a b (omega (arith, less, high, long)) (omega (arith, high, long)) apart)) ∙ last.1 in cc),
+      )
 
-  pub are_doubtful : AreDoubtful es (comes order) (pairs_of (is_doubtful order rows) order.count order.count)
-  are_doubtful = record { all = listed; only = of_pair }
+  pub are_touching : ((a b : ℕ) → Comes order a b → ⊥) → AreTouching es before (pairs_of (is_doubtful order rows) order.count order.count)
+  are_touching free = record {
+    all = λ a b less high. listed a b less high (record { differ = λ same. omega (arith, less, same); not_before = free a b; not_after = free b a });
+    only = λ a b h. let pair = of_pair a b h in (pair.0, pair.1, pair.3);
+  }
+
+pub are_doubtful : (es : List Program) (order : Relation) (rows : List (List Bool)) → IsMatrixOf (length es) (footprint_at es (comes order)) rows → length es ≡ order.count
+    → AreDoubtful es (comes order) (pairs_of (is_doubtful order rows) order.count order.count)
+are_doubtful es order rows matrix long = record {
+  all = listed es (comes order) order rows matrix long;
+  only = λ a b h.
+      let pair = of_pair es (comes order) order rows matrix long a b h in
+      record { ordered = pair.0; below = pair.1; free = pair.2; meet = pair.3 };
+}
 
 -- ---- what commutes
 

@@ -25,6 +25,11 @@ pub record AreDoubtful (es : List Program) (before : ℕ → ℕ → Bool) (pair
   pub all : (a b : ℕ) → a < b → b < length es → IsFree (Told before) a b → Contains pairs (a, b) ⊎ AreApartWhereSure es before a b
   pub only : (a b : ℕ) → Contains pairs (a, b) → IsDoubtful es before a b
 
+-- Just the pairs of programs stand in the list that aren't apart, whether or not one comes before the other, the lesser number first.
+pub record AreTouching (es : List Program) (before : ℕ → ℕ → Bool) (pairs : List (ℕ × ℕ)) : Type 0 where
+  pub all : (a b : ℕ) → a < b → b < length es → Contains pairs (a, b) ⊎ AreApartWhereSure es before a b
+  pub only : (a b : ℕ) → Contains pairs (a, b) → (a < b) × (b < length es) × (AreApartWhereSure es before a b → ⊥)
+
 -- the lesser number first, neither comes before the other, and the rows don't tell that they are apart
 abbrev pub is_doubtful : Relation → List (List Bool) → ℕ → ℕ → Bool
 is_doubtful order rows a b = nat_lt a b && not (comes order a b) && not (comes order b a) && not (are_apart rows a b)

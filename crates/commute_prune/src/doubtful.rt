@@ -1,15 +1,15 @@
-//! The pairs of programs whose order may matter.
+//! The pairs of programs whose order may matter, and those that touch one another.
 
-ghost use Rattle.std.specs.Prelude.{◌≡◌, ◌<◌, ◌++◌, map, length, IfOk, OnOk};
+ghost use Rattle.std.specs.Prelude.{◌≡◌, ◌<◌, ◌++◌, ℕ, map, length, IfOk, OnOk};
 ghost use Rattle.fs_lang.specs.Meaning.{program_of};
-ghost use Rattle.orders.specs.Relation.{comes};
+ghost use Rattle.orders.specs.Relation.{comes, Comes};
 ghost use Rattle.commute_prune.specs.Pairs.{pair_if, row_of, pairs_of};
-ghost use Rattle.commute_prune.specs.Doubtful.{is_doubtful, AreDoubtful};
+ghost use Rattle.commute_prune.specs.Doubtful.{is_doubtful, AreDoubtful, AreTouching};
 
 use crate::moves::{are_apart, comes};
 use crate::sure::clear_where_sure;
 use fs_lang::Program;
-use orders::Order;
+use orders::{Order, OrderFault};
 use rh_base::{NoMemory, Seq};
 use std::alloc::Global;
 
@@ -85,4 +85,31 @@ pub fn doubtful_pairs(
 {
     let clear = clear_where_sure(alloc, programs, order)?;
     pairs_of(alloc, order, clear.as_slice())
+}
+
+/// Nodes of which none comes before another.
+pub fn unordered(alloc: Global, count: u32) -> Result<Order, NoMemory>
+    ensures count { IfOk result (λ order. order.count ≡ count) }
+    ensures free { IfOk result (λ order. (a b : ℕ) → Comes order a b → ⊥) }
+{
+    match Order::from_edges(alloc, count, &[]) {
+        Ok(order) => Ok(order),
+        Err(OrderFault::Cycle(_)) => unreachable!(),
+        Err(OrderFault::Memory(m)) => Err(m),
+    }
+}
+
+/// The pairs of programs that aren't apart, each where the folders stand that are sure before it: in order or not.
+pub fn touching_pairs(
+    alloc: Global,
+    programs: &[Program],
+    order: &Order,
+) -> Result<Seq<(u32, u32)>, NoMemory>
+    requires { length programs.now ≡ order.now.count }
+    ensures { IfOk result (AreTouching (map program_of programs.now) (comes order.now)) }
+{
+    let clear = clear_where_sure(alloc, programs, order)?;
+    // As pairs whose order may matter, were none of them in order.
+    let free = unordered(alloc, order.count())?;
+    pairs_of(alloc, &free, clear.as_slice())
 }

@@ -12,7 +12,7 @@ mod proper;
 mod settling;
 mod sure;
 
-pub use doubtful::doubtful_pairs;
+pub use doubtful::{doubtful_pairs, touching_pairs, unordered};
 pub use laws::{pruning, sure_pairs};
 pub use proper::are_proper;
 pub use settling::{Pruned, prune};

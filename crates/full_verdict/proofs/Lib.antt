@@ -2,3 +2,4 @@ pub mod FirstExtension
 pub mod SecondLaws
 pub mod EndLaws
 pub mod VerdictLaws
+pub mod GroupLaws

@@ -25,7 +25,7 @@ use Rattle.full_verdict.proofs.FirstExtension.{LeavesTrees, ends_in_tree, allowe
 abbrev pub LaidOut : Type 0
 LaidOut = (es : List Program) (l : Layout) → IsLayout es l → IsDomain es (domain_of l)
 
-abbrev Shadowed : Type 0
+abbrev pub Shadowed : Type 0
 Shadowed = (es : List Program) (d : over.Domain) → IsDomain es d → (before : ℕ → ℕ → Bool) (t : Tree) (o : List ℕ) → IsSecondRunCounterexample es (Told before) t o
     → (s : Tree) × IsOver d s × IsSecondRunCounterexample es (Told before) s o
 

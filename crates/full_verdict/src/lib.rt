@@ -2,6 +2,7 @@
 //! succeeds from some tree.
 #![tactic(auto)]
 
+mod groups;
 mod judging;
 mod second;
 mod success;

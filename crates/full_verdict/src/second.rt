@@ -10,6 +10,7 @@ ghost use Rattle.order_encode.specs.declared.witness.Witness.{Witness};
 ghost use Rattle.full_verdict.specs.Questions.{StatesSecond, IsSecondChange};
 ghost use Rattle.full_verdict.specs.Answers.{AnswersSecond, IsTwice, IsEndOf};
 
+use crate::groups::same_by_groups;
 use answering::{Answer, answer_to};
 use commute_prune::are_proper;
 use finite_domain::{domains, witnesses_over_the_domain};
@@ -42,7 +43,7 @@ fn second_question(alloc: Global, programs: &[Program], order: &Order) -> Result
     Ok(posed)
 }
 
-/// Asks whether a second run changes anything.
+/// Asks whether a second run changes anything: of groups that don't touch one another, and of all where that doesn't tell.
 pub(crate) fn ask_second(
     alloc: Global,
     programs: &[Program],
@@ -54,6 +55,9 @@ pub(crate) fn ask_second(
     requires deterministic { IsDeterministic (map program_of programs.now) (Told (comes order.now)) }
     ensures { IfOk result (AnswersSecond (map program_of programs.now) order.now budget) }
 {
+    if let Some(same) = same_by_groups(alloc, programs, order, budget)? {
+        return Ok(Answer::Refuted(same));
+    }
     let question = second_question(alloc, programs, order)?;
     let found = answer_to(alloc, question, budget)?;
     Ok(found)

@@ -3,31 +3,17 @@
 ghost use Rattle.std.specs.Prelude.{◌≡◌, ◌≤◌, ◌<◌, map, length, slice_index_or, IfOk, IfSome};
 ghost use Rattle.fs_semantics.specs.Programs.{Id};
 ghost use Rattle.fs_semantics.specs.Changes.{Commutes};
-ghost use Rattle.fs_semantics.specs.Orders.{Told, IsFree};
 ghost use Rattle.fs_lang.specs.Meaning.{program_of};
-ghost use Rattle.orders.specs.Relation.{comes};
 ghost use Rattle.judgement.specs.Settled.{PairCommutes};
 
 use crate::pairs::question;
 use answering::refuted;
+use commute_prune::unordered;
 use fs_lang::Program;
 use kept_graph::program_at;
-use orders::{Order, OrderFault};
 use proof_check::Verified;
 use rh_base::{NoMemory, Seq};
 use std::alloc::Global;
-
-/// Two nodes of which neither comes before the other.
-fn two_nodes(alloc: Global) -> Result<Order, NoMemory>
-    ensures count { IfOk result (λ order. order.count ≡ 2) }
-    ensures free { IfOk result (λ order. IsFree (Told (comes order)) 0 1) }
-{
-    match Order::from_edges(alloc, 2, &[]) {
-        Ok(order) => Ok(order),
-        Err(OrderFault::Cycle(_)) => unreachable!(),
-        Err(OrderFault::Memory(m)) => Err(m),
-    }
-}
 
 /// Copies of two of the programs.
 fn two_programs(
@@ -62,7 +48,7 @@ fn commute(
     ensures { IfOk result (λ found. IfSome found (λ v. Commutes (slice_index_or (map program_of programs.now) a Id) (slice_index_or (map program_of programs.now) b Id))) }
 {
     let two = two_programs(alloc, programs, a, b)?;
-    let order = two_nodes(alloc)?;
+    let order = unordered(alloc, 2)?;
     let (cnf, firsts) = question(alloc, two.as_slice(), &order)?;
     let found = refuted(alloc, cnf, firsts.as_slice(), budget)?;
     Ok(found)

@@ -191,7 +191,7 @@ fn log_of(alloc: Global, parts: &[Verified], total: u64) -> Result<Log, NoMemory
 }
 
 /// The parts as one refuted formula. None is answered where the whole isn't found right.
-pub(crate) fn joined(alloc: Global, parts: &[Verified]) -> Result<Option<Verified>, NoMemory>
+pub fn joined(alloc: Global, parts: &[Verified]) -> Result<Option<Verified>, NoMemory>
     ensures { IfOk result (λ found. IfSome found (λ v. HasNoModel v.formula)) }
 {
     let cnf = formula_of(alloc, parts)?;

@@ -12,4 +12,5 @@ mod settling;
 mod whole;
 
 pub use first::{First, Sure};
+pub use joining::joined;
 pub use judging::{judge_any, judge_order};

@@ -36,11 +36,7 @@ pub fn program_at(alloc: Global, programs: &[Program], k: u32) -> Result<Program
 }
 
 /// Copies of the programs with these numbers.
-pub(crate) fn chosen(
-    alloc: Global,
-    programs: &[Program],
-    kept: &[u32],
-) -> Result<Seq<Program>, NoMemory>
+pub fn chosen(alloc: Global, programs: &[Program], kept: &[u32]) -> Result<Seq<Program>, NoMemory>
     requires { AllByRecursion (λ k. k < length programs.now) kept.now }
     ensures { IfOk result (λ copies. map program_of copies ≡ chosen (map program_of programs.now) kept.now) }
 {

@@ -11,4 +11,4 @@ mod pairs;
 pub use comparing::same_outcome;
 pub use contracted::{Contracted, contract, contractions, expand};
 pub use counterexamples::{Completed, end_alike, refute};
-pub use kept::{Kept, keep, kept_graphs, program_at};
+pub use kept::{Kept, chosen, keep, kept_graphs, program_at};

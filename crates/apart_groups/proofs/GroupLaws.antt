@@ -1,0 +1,107 @@
+-- Groups of which no pair that touches has one program in each.
+use Rattle.std.proofs.Common.{◌≡◌, inl, inr, ℕ, zero, suc, ◌+◌, ◌<◌, ◌≤◌, Bool, true, false, List, [], ◌∷◌, ◌++◌, length, get_or, refl, sym, ap, subst, arith}
+use Rattle.std.specs.Bool.{OnTrue}
+use Rattle.std.specs.List.{Contains, AllByRecursion}
+use Rattle.std.proofs.lemmas.Bool.{cases_order}
+use Rattle.fs_semantics.specs.FileTree.{Path}
+use Rattle.fs_semantics.specs.Programs.{Program, Id}
+use Rattle.fs_semantics.specs.Changes.{CommuteFrom}
+use Rattle.fs_semantics.specs.Orders.{Told, IsLinearExtension}
+use Rattle.fs_semantics.proofs.Counts.{all_front, all_back, all_append}
+use Rattle.sure_folders.specs.Folders.{nowhere, IsTreeWith}
+use Rattle.sure_folders.specs.Before.{IsSureBeforeEither}
+use Rattle.commute_prune.specs.Doubtful.{AreApartWhereSure, AreTouching}
+use Rattle.settled_groups.specs.Groups.{in_turn, CommuteWhereSure, CommutesWithGroup, GroupsCommute}
+use Rattle.apart_groups.specs.Groups.{AreGroups, group_of, AreNumbered, IsWithin}
+
+-- what holds of all members holds of each
+of_member : (P : (ℕ × ℕ) → Type 0) (xs : List (ℕ × ℕ)) (x : ℕ × ℕ) → Contains xs x → AllByRecursion P xs → P x
+of_member P [] x h all = absurd (omega (arith, h.1))
+of_member P (y ∷ xs) x (zero, h, at) all = subst P at all.0
+of_member P (y ∷ xs) x (suc i, h, at) all = of_member P xs x (i, omega (arith, h), at) all.1
+
+each_of : (P Q : ℕ → Type 0) (xs : List ℕ) → ((k : ℕ) → P k → Q k) → AllByRecursion P xs → AllByRecursion Q xs
+each_of P Q [] f all = tt
+each_of P Q (x ∷ xs) f all = (f x all.0, each_of P Q xs f all.1)
+
+both_of : (P Q : ℕ → Type 0) (xs : List ℕ) → AllByRecursion P xs → AllByRecursion Q xs → AllByRecursion (λ k. P k × Q k) xs
+both_of P Q [] all too = tt
+both_of P Q (x ∷ xs) all too = ((all.0, too.0), both_of P Q xs all.1 too.1)
+
+-- the groups are numbered from n on
+abbrev NumberedFrom : List ℕ → ℕ → List (List ℕ) → Type 0
+NumberedFrom numbers n groups = (i : ℕ) → i < length groups → AllByRecursion (λ k. group_of numbers k ≡ n + i) (get_or groups i [])
+
+of_head : (numbers : List ℕ) (n : ℕ) (group : List ℕ) (groups : List (List ℕ)) → NumberedFrom numbers n (group ∷ groups) → AllByRecursion (λ k. group_of numbers k ≡ n) group
+of_head numbers n group groups h = each_of (λ k. group_of numbers k ≡ n + 0) (λ k. group_of numbers k ≡ n) group (λ k e. omega (arith, e)) (h 0 (omega arith))
+
+of_tail : (numbers : List ℕ) (n : ℕ) (group : List ℕ) (groups : List (List ℕ)) → NumberedFrom numbers n (group ∷ groups) → NumberedFrom numbers (suc n) groups
+of_tail numbers n group groups h i low = each_of (λ k. group_of numbers k ≡ n + suc i) (λ k. group_of numbers k ≡ suc n + i) (get_or groups i []) (λ k e. omega (arith, e)) (h (suc i) (omega (arith, low)))
+
+later : (numbers : List ℕ) (n : ℕ) (groups : List (List ℕ)) → NumberedFrom numbers n groups → AllByRecursion (λ k. n ≤ group_of numbers k) (in_turn groups)
+later numbers n [] h = tt
+later numbers n (group ∷ groups) h =
+    all_append (λ k. n ≤ group_of numbers k) group (in_turn groups)
+    (each_of (λ k. group_of numbers k ≡ n) (λ k. n ≤ group_of numbers k) group (λ k e. omega (arith, e)) (of_head numbers n group groups h))
+    (each_of (λ k. suc n ≤ group_of numbers k) (λ k. n ≤ group_of numbers k) (in_turn groups) (λ k e. omega (arith, e)) (later numbers (suc n) groups (of_tail numbers n group groups h)))
+
+-- programs that are apart commute where the folders stand that are sure before them
+abbrev pub ApartCommute : List Program → (ℕ → ℕ → Bool) → Type 0
+ApartCommute es before = (a b : ℕ) → AreApartWhereSure es before a b → CommuteFrom (IsTreeWith (IsSureBeforeEither nowhere es (Told before) a b)) (get_or es a Id) (get_or es b Id)
+
+module _ (es : List Program) (before : ℕ → ℕ → Bool) (apart : ApartCommute es before) (pairs : List (ℕ × ℕ)) (touching : AreTouching es before pairs)
+    (numbers : List ℕ) (within : AllByRecursion (IsWithin numbers) pairs) where
+  turned : (a b : ℕ) (p : Path) → IsSureBeforeEither nowhere es (Told before) b a p → IsSureBeforeEither nowhere es (Told before) a b p
+  turned a b p (inl h) = inr h
+  turned a b p (inr h) = inl h
+
+  -- those of different groups don't touch
+  of_two : (a b : ℕ) → a < b → b < length es → (group_of numbers a ≡ group_of numbers b → ⊥) → AreApartWhereSure es before a b
+  of_two a b less high other = elim (touching.all a b less high) [
+    | inl there ↦ absurd (other (of_member (IsWithin numbers) pairs (a, b) there within))
+    | inr h ↦ h
+  ]
+
+  commute : (a b : ℕ) → a < length es → b < length es → group_of numbers a < group_of numbers b → CommuteWhereSure es (Told before) a b
+  commute a b low high less = elim (cases_order a b) [
+    | inl same ↦ absurd (omega (arith, less, ap (group_of numbers) same))
+    | inr other ↦ elim other [
+      | inl first ↦ apart a b (of_two a b first high (λ e. omega (arith, less, e)))
+      | inr second ↦ λ t tree. sym (apart b a (of_two b a second low (λ e. omega (arith, less, e))) t (record { is_tree = tree.is_tree; stand = λ p h. tree.stand p (turned a b p h) }))
+    ]
+  ]
+
+  with_later : (n b : ℕ) (group : List ℕ) → b < length es → n < group_of numbers b → AllByRecursion (λ k. k < length es) group → AllByRecursion (λ k. group_of numbers k ≡ n) group → CommutesWithGroup es (Told before) group b
+  with_later n b [] high less low is = tt
+  with_later n b (a ∷ group) high less low is = (commute a b low.0 high (omega (arith, less, is.0)), with_later n b group high less low.1 is.1)
+
+  groups_commute : (n : ℕ) (groups : List (List ℕ)) → AllByRecursion (λ k. k < length es) (in_turn groups) → NumberedFrom numbers n groups → GroupsCommute es (Told before) groups
+  groups_commute n [] low h = tt
+  groups_commute n (group ∷ groups) low h =
+      let P : ℕ → Type 0 = λ k. k < length es in
+      let rest = all_back P group (in_turn groups) low in
+      let tail = of_tail numbers n group groups h in (
+        each_of (λ k. (k < length es) × (suc n ≤ group_of numbers k)) (CommutesWithGroup es (Told before) group) (in_turn groups)
+            (λ b both. with_later n b group both.0 (omega (arith, both.1)) (all_front P group (in_turn groups) low) (of_head numbers n group groups h))
+            (both_of P (λ k. suc n ≤ group_of numbers k) (in_turn groups) rest (later numbers (suc n) groups tail)),
+        groups_commute (suc n) groups rest tail,
+      )
+
+  from_zero : (groups : List (List ℕ)) → AreNumbered numbers groups → NumberedFrom numbers 0 groups
+  from_zero groups h i low = each_of (λ k. group_of numbers k ≡ i) (λ k. group_of numbers k ≡ 0 + i) (get_or groups i []) (λ k e. omega (arith, e)) (h i low)
+
+  pub are_groups : (groups : List (List ℕ)) → IsLinearExtension (length es) (Told before) (in_turn groups) → AreNumbered numbers groups → AreGroups es before groups
+  are_groups groups allowed numbered = record { allowed = allowed; commute = groups_commute 0 groups allowed.below (from_zero groups numbered) }
+
+append_nil : (xs : List ℕ) → xs ++ [] ≡ xs
+append_nil [] = refl
+append_nil (x ∷ xs) = ap (λ ys. x ∷ ys) (append_nil xs)
+
+-- an allowed order is one group
+pub one_group : (es : List Program) (before : ℕ → ℕ → Bool) (order : List ℕ) → IsLinearExtension (length es) (Told before) order → AreGroups es before (order ∷ [])
+one_group es before order allowed = record { allowed = subst (IsLinearExtension (length es) (Told before)) (sym (append_nil order)) allowed; commute = (tt, tt) }
+
+-- what follows where a test holds
+pub on_true : {P Q : Type 0} (b : Bool) → (P → Q) → OnTrue b P → OnTrue b Q
+on_true true f h = f h
+on_true false f h = tt

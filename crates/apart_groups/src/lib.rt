@@ -1,0 +1,8 @@
+//! Groups of programs that don't touch one another, as packages don't that have their own files and services.
+#![tactic(auto)]
+
+mod finding;
+mod labels;
+mod testing;
+
+pub use finding::groups_of;

@@ -1,0 +1,111 @@
+//! Whether a second run changes anything, asked of each of several groups of programs by itself.
+
+ghost use Rattle.std.specs.Prelude.{◌≡◌, ◌≤◌, ◌<◌, ◌^◌, map, length, IfOk, IfSome};
+ghost use Rattle.std.specs.List.{AllByRecursion};
+ghost use Rattle.fs_semantics.specs.Orders.{Told, IsDeterministic, IsIdempotent};
+ghost use Rattle.fs_lang.specs.Meaning.{program_of};
+ghost use Rattle.orders.specs.Relation.{comes};
+ghost use Rattle.proof_check.specs.Refuted.{HasNoModel};
+ghost use Rattle.settled_groups.specs.Groups.{GroupSettles};
+ghost use Rattle.full_verdict.specs.Questions.{IsSecondProof};
+
+use answering::{Answer, answer_to};
+use apart_groups::groups_of;
+use commute_prune::{are_proper, unordered};
+use finite_domain::{domains, witnesses_over_the_domain};
+use fs_lang::Program;
+use fs_semantics::linear_extensions;
+use judgement::joined;
+use kept_graph::chosen;
+use order_encode::{Question, ask_twice};
+use orders::Order;
+use path_domain::domain;
+use proof_check::Verified;
+use rh_base::{NoMemory, Seq};
+use settled_groups::settled_groups;
+use std::alloc::Global;
+
+/// The question whether a second run of these programs alone, in this order, changes anything.
+fn group_question(alloc: Global, programs: &[Program], group: &[u32]) -> Result<Question, NoMemory>
+    requires below { AllByRecursion (λ k. k < length programs.now) group.now }
+    requires few { length group.now < 2 ^ 32 }
+    ensures { IfOk result (λ q. HasNoModel q.formula → GroupSettles (map program_of programs.now) group.now) }
+{
+    domains();
+    linear_extensions();
+    witnesses_over_the_domain();
+    let some = chosen(alloc, programs, group)?;
+    let order = unordered(alloc, group.len() as u32)?;
+    let d = domain(alloc, some.as_slice())?;
+    let posed = ask_twice(alloc, some.as_slice(), &order, &d)?;
+    Ok(posed)
+}
+
+/// A refuted formula, where these programs alone settle. There is none where they don't, or where the budget was spent.
+fn group_settles(
+    alloc: Global,
+    programs: &[Program],
+    group: &[u32],
+    budget: u64,
+) -> Result<Option<Verified>, NoMemory>
+    requires below { AllByRecursion (λ k. k < length programs.now) group.now }
+    requires budget { 1 ≤ budget }
+    ensures { IfOk result (λ found. IfSome found (λ v. GroupSettles (map program_of programs.now) group.now)) }
+{
+    if group.len() > u32::MAX as usize {
+        return Ok(None);
+    }
+    let question = group_question(alloc, programs, group)?;
+    match answer_to(alloc, question, budget)? {
+        Answer::Refuted(verified) => Ok(Some(verified)),
+        Answer::Shown(_) => Ok(None),
+        Answer::Spent(_, _) => Ok(None),
+    }
+}
+
+/// Refuted formulas, where each group settles by itself.
+fn each_settles(
+    alloc: Global,
+    programs: &[Program],
+    groups: &[Seq<u32>],
+    budget: u64,
+) -> Result<Option<Vec<Verified>>, NoMemory>
+    requires below { AllByRecursion (AllByRecursion (λ k. k < length programs.now)) groups.now }
+    requires budget { 1 ≤ budget }
+    ensures { IfOk result (λ found. IfSome found (λ parts. AllByRecursion (GroupSettles (map program_of programs.now)) groups.now)) }
+{
+    let mut parts = Vec::new(alloc);
+    for group in groups {
+        match group_settles(alloc, programs, group.as_slice(), budget)? {
+            Some(verified) => parts.push(verified)?,
+            None => return Ok(None),
+        }
+    }
+    Ok(Some(parts))
+}
+
+/// A refuted formula, where a second run changes nothing since it does so in no group. There is none where all is one group, or
+/// where some group doesn't tell.
+pub(crate) fn same_by_groups(
+    alloc: Global,
+    programs: &[Program],
+    order: &Order,
+    budget: u64,
+) -> Result<Option<Verified>, NoMemory>
+    requires count { length programs.now ≡ order.now.count }
+    requires budget { 1 ≤ budget }
+    requires deterministic { IsDeterministic (map program_of programs.now) (Told (comes order.now)) }
+    ensures same { IfOk result (λ found. IfSome found (λ v. IsIdempotent (map program_of programs.now) (Told (comes order.now)))) }
+    ensures proved { IfOk result (λ found. IfSome found (λ v. IsSecondProof (map program_of programs.now) order.now v.formula)) }
+{
+    are_proper(programs);
+    settled_groups();
+    let groups = groups_of(alloc, programs, order)?;
+    if groups.len() < 2 {
+        return Ok(None);
+    }
+    match each_settles(alloc, programs, groups.as_slice(), budget)? {
+        Some(parts) => joined(alloc, &parts),
+        None => Ok(None),
+    }
+}
