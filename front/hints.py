@@ -11,7 +11,7 @@ READ_FAULT = re.compile(rb"^read fault: (.*?)\n?\Z", re.S)
 # More than a manifest may have.
 MOST = 1 << 20
 # The questions that are asked of a manifest, and take --node.
-OF_MANIFEST = ("verify", "proof", "catalog", "graph", "programs", "replay", "ensures", "repair")
+OF_MANIFEST = ("verify", "proof", "catalog", "graph", "programs", "replay", "ensures", "equal", "repair")
 # Refusals that come before a node's block is looked for: of files, of the text, and that no node's block fits.
 BEFORE_NODES = (17, 60, 61, 64, 10, 11, 12, 13, 14, 31)
 
@@ -42,6 +42,10 @@ class Run:
         self.is_copied = name == "-" and copy is not None
         self.manifest = content(copy if self.is_copied else name) if name and words.ask() in OF_MANIFEST else b""
         self.name = STANDARD_INPUT if self.is_copied else name
+        other = words.given.get("--other")
+        self.other_is_copied = other == "-" and copy is not None
+        self.other = content(copy if self.other_is_copied else other) if other and words.ask() == "equal" else b""
+        self.other_name = STANDARD_INPUT if self.other_is_copied else other
 
     def words_that_help(self):
         """Returns lines for standard error."""
@@ -95,14 +99,15 @@ class Run:
         found = refusals.LINE.match(self.said)
         if not found:
             return []
-        number, at, name = int(found[1]), int(found[2]), found[3].decode(errors="replace")
-        behind = self.manifest[at : at + 100].decode(errors="replace")
+        number, at, name = int(found[1]), int(found[2]), found[4].decode(errors="replace")
+        refused, named = (self.other, self.other_name) if found[3] else (self.manifest, self.name)
+        behind = refused[at : at + 100].decode(errors="replace")
         row = refusals.row_for(refusals.rows_of(self.page), number, name, self.words.ask(), behind)
         lines = []
-        if self.manifest and at <= len(self.manifest) and (at > 0 or row and row.has_place()):
-            line, column = manifest.place_of(self.manifest, at)
-            text, mark = manifest.marked(self.manifest, at)
-            lines += [f"{shown(self.name)}, line {line}, column {column}:", f"  {text}", f"  {mark}"]
+        if refused and at <= len(refused) and (at > 0 or row and row.has_place()):
+            line, column = manifest.place_of(refused, at)
+            text, mark = manifest.marked(refused, at)
+            lines += [f"{shown(named)}, line {line}, column {column}:", f"  {text}", f"  {mark}"]
         if row:
             lines += [f"It comes where {row.cause}.", f"What to do: {row.cure} (docs/REFUSALS.md)."]
         return lines

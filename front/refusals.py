@@ -3,7 +3,7 @@ import re
 
 LINK = re.compile(r"\[([^]]*)\]\([^)]*\)")
 QUOTED = re.compile(r"`([^`]*)`")
-LINE = re.compile(rb"^refused (\d+) at (\d+): (.*?)\n?\Z", re.S)
+LINE = re.compile(rb"^refused (\d+) at (\d+)( in other)?: (.*?)\n?\Z", re.S)
 
 
 class Row:

@@ -14,7 +14,7 @@ use Rattle.command_line.specs.declared.table.Tasks.{Tasks}
 
 -- to read a text
 abbrev pub reading : Tasks
-reading = record { reads = true; compiles = false; models = false; judges = false; loads = false; replays = false; wants = false }
+reading = record { reads = true; compiles = false; models = false; judges = false; loads = false; replays = false; wants = false; compares = false }
 
 -- to read a manifest and compile it
 abbrev pub compiling : Tasks
@@ -40,6 +40,10 @@ replaying = record modelling { replays = true }
 abbrev pub wanting : Tasks
 wanting = record judging { wants = true }
 
+-- to judge them, and to compare them with those of another manifest
+abbrev pub comparing : Tasks
+comparing = record judging { compares = true }
+
 -- this is among them
 abbrev pub has : Task → Tasks → Bool
 has task.Read t = t.reads
@@ -49,11 +53,12 @@ has task.Judge t = t.judges
 has task.Load t = t.loads
 has task.Replay t = t.replays
 has task.Want t = t.wants
+has task.Compare t = t.compares
 
 -- those that are left beside a workload, which brings its own manifest and listing: to judge them
 abbrev pub beside : Option ℕ → Tasks → Tasks
 beside None t = t
-beside (Some n) t = record { reads = false; compiles = false; models = false; judges = t.judges; loads = false; replays = false; wants = false }
+beside (Some n) t = record { reads = false; compiles = false; models = false; judges = t.judges; loads = false; replays = false; wants = false; compares = false }
 
 -- ---- a row for each value of `--ask`
 
@@ -78,10 +83,11 @@ ask_row ask.Check = asks_for (codes "check") reading PROOF_BYTES
 ask_row ask.Migrate = asks_for (codes "migrate") reading LISTING_BYTES
 ask_row ask.Repair = asks_for (codes "repair") judging MANIFEST_BYTES
 ask_row ask.Ensures = asks_for (codes "ensures") wanting MANIFEST_BYTES
+ask_row ask.Equal = asks_for (codes "equal") comparing MANIFEST_BYTES
 
 -- all of them
 abbrev pub asks : List Ask
-asks = ask.Verify ∷ ask.Proof ∷ ask.Catalog ∷ ask.Graph ∷ ask.Programs ∷ ask.Replay ∷ ask.Check ∷ ask.Migrate ∷ ask.Repair ∷ ask.Ensures ∷ []
+asks = ask.Verify ∷ ask.Proof ∷ ask.Catalog ∷ ask.Graph ∷ ask.Programs ∷ ask.Replay ∷ ask.Check ∷ ask.Migrate ∷ ask.Repair ∷ ask.Ensures ∷ ask.Equal ∷ []
 
 -- the first of these that a word asks for
 abbrev pub ask_among : List Ask → List ℕ → Option Ask
@@ -110,12 +116,13 @@ role_row role.Facts = serves (codes "facts") (codes "facts") task.Compile (Some 
 role_row role.Packages = serves (codes "packages") (codes "packages") task.Model (Some LISTING_BYTES)
 role_row role.Data = serves (codes "data") (codes "data") task.Compile (Some FACTS_BYTES)
 role_row role.Input = serves (codes "INPUT") (codes "input") task.Read None
+role_row role.Other = serves (codes "other") (codes "other") task.Compare None
 role_row role.Tree = serves (codes "tree") (codes "tree") task.Replay (Some TREE_BYTES)
 role_row role.Order = serves (codes "order") (codes "order") task.Replay (Some ORDER_BYTES)
 
 -- all of them, in the order in which they are read and refusals are looked for
 abbrev pub roles : List Role
-roles = role.Facts ∷ role.Packages ∷ role.Data ∷ role.Input ∷ role.Tree ∷ role.Order ∷ []
+roles = role.Facts ∷ role.Packages ∷ role.Data ∷ role.Input ∷ role.Other ∷ role.Tree ∷ role.Order ∷ []
 
 -- the place of each
 abbrev pub place : Role → ℕ
@@ -123,8 +130,9 @@ place role.Facts = 0
 place role.Packages = 1
 place role.Data = 2
 place role.Input = 3
-place role.Tree = 4
-place role.Order = 5
+place role.Other = 4
+place role.Tree = 5
+place role.Order = 6
 
 -- how many bytes a file may have
 abbrev pub limit_or : Option ℕ → ℕ → ℕ
@@ -168,6 +176,7 @@ options =
     ∷ (codes "workload", codes "N")
     ∷ (codes "path", codes "P")
     ∷ (codes "content", codes "T")
+    ∷ (codes "other", codes "M")
     ∷ (codes "data", codes "D")
     ∷ []
 

@@ -88,21 +88,27 @@ names_in tasks rows (r ∷ roles) = do
   names ← names_in tasks rows roles
   Some (with_name r name names)
 
--- these are the names, if the input is among them
-abbrev pub with_input : ByRole Text → Option Text → Option Source
-with_input names None = None
-with_input names (Some name) = Some (source.Files names)
+-- these are the names, if the manifest to compare with is among them where two are compared
+abbrev pub with_other : Bool → ByRole Text → Option Text → Option Source
+with_other false names other = Some (source.Files names)
+with_other true names None = None
+with_other true names (Some name) = Some (source.Files names)
 
--- what is asked about: a workload, or files, of which one is the input
-abbrev pub source_in : Option ℕ → ByRole Text → Option Source
-source_in None names = with_input names (given role.Input names)
-source_in (Some n) names = Some (source.Workload n)
+-- the same, if the input is among them too
+abbrev pub with_input : Bool → ByRole Text → Option Text → Option Source
+with_input compares names None = None
+with_input compares names (Some name) = with_other compares names (given role.Other names)
+
+-- what is asked about: a workload, or files, of which one is the input, and one the manifest that it is compared with, if it is
+abbrev pub source_in : Bool → Option ℕ → ByRole Text → Option Source
+source_in compares None names = with_input compares names (given role.Input names)
+source_in compares (Some n) names = Some (source.Workload n)
 
 -- the request about a workload or files, with those options that serve one of the tasks
 unfoldable pub request_for : Ask → Option ℕ → Tasks → List Row → Option Request
 request_for ask workload tasks rows = do
   names ← names_in tasks rows roles
-  source ← source_in workload names
+  source ← source_in (has task.Compare tasks) workload names
   node ← taken (has task.Compile tasks) (first_of (codes "node") rows)
   conflicts ← taken_number (has task.Judge tasks) most_conflicts (first_of (codes "conflicts") rows)
   Some (record { ask = ask; node = node; conflicts = conflicts; wanted = None; source = source })

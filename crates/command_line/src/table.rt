@@ -1,7 +1,7 @@
 //! The table of requests: a row for each value of `--ask`, one for each file that may be named, and the options.
 
 ghost use Rattle.std.specs.Prelude.{◌≡◌, ◌==◌, ◌<◌, ◌^◌};
-ghost use Rattle.command_line.specs.Table.{reading, compiling, modelling, judging, rehearsing, replaying, wanting, has, beside, ask_row, ask_among, ask_named, role_row, limit_of, place, usage_line};
+ghost use Rattle.command_line.specs.Table.{reading, compiling, modelling, judging, rehearsing, replaying, wanting, comparing, has, beside, ask_row, ask_among, ask_named, role_row, limit_of, place, usage_line};
 
 use crate::size::Size;
 use rh_base::limits::{
@@ -31,6 +31,8 @@ pub enum Ask {
     Repair,
     /// Whether each run of a manifest that ends leaves an entry.
     Ensures,
+    /// Whether two manifests do the same.
+    Equal,
 }
 
 /// The files that a request may name.
@@ -44,6 +46,8 @@ pub enum Role {
     Data,
     /// What is asked about: a manifest, proofs or a listing.
     Input,
+    /// The manifest that it is compared with.
+    Other,
     /// The file tree that a replay begins with.
     Tree,
     /// The order of a replay.
@@ -67,6 +71,8 @@ pub enum Task {
     Replay,
     /// To look for an entry that is wanted.
     Want,
+    /// To compare it with another manifest.
+    Compare,
 }
 
 /// What there is to do for a request.
@@ -79,10 +85,11 @@ pub struct Tasks {
     pub loads: bool,
     pub replays: bool,
     pub wants: bool,
+    pub compares: bool,
 }
 
 /// The values of `--ask`, each of which has a row below.
-const ASKS: [Ask; 10] = [
+const ASKS: [Ask; 11] = [
     Ask::Verify,
     Ask::Proof,
     Ask::Catalog,
@@ -93,20 +100,22 @@ const ASKS: [Ask; 10] = [
     Ask::Migrate,
     Ask::Repair,
     Ask::Ensures,
+    Ask::Equal,
 ];
 
 /// The files, in the order in which they are read and refusals are looked for. Each has a row below.
-pub(crate) const ROLES: [Role; 6] = [
+pub(crate) const ROLES: [Role; 7] = [
     Role::Facts,
     Role::Packages,
     Role::Data,
     Role::Input,
+    Role::Other,
     Role::Tree,
     Role::Order,
 ];
 
 /// The options, in the order of the line of usage.
-pub(crate) const OPTIONS: [&str; 11] = [
+pub(crate) const OPTIONS: [&str; 12] = [
     "facts",
     "packages",
     "node",
@@ -117,6 +126,7 @@ pub(crate) const OPTIONS: [&str; 11] = [
     "workload",
     "path",
     "content",
+    "other",
     "data",
 ];
 
@@ -124,7 +134,7 @@ pub(crate) const OPTIONS: [&str; 11] = [
 pub fn usage_line() -> &'static [u8]
     ensures { result.now ≡ usage_line }
 {
-    b"usage: rehearsal [--facts F] [--packages P] [--node N] [--conflicts C] [--ask A] [--tree T] [--order O] [--workload N] [--path P] [--content T] [--data D] [INPUT]\n"
+    b"usage: rehearsal [--facts F] [--packages P] [--node N] [--conflicts C] [--ask A] [--tree T] [--order O] [--workload N] [--path P] [--content T] [--other M] [--data D] [INPUT]\n"
 }
 
 /// To read a text.
@@ -139,6 +149,7 @@ fn reading() -> Tasks
         loads: false,
         replays: false,
         wants: false,
+        compares: false,
     }
 }
 
@@ -196,6 +207,15 @@ fn wanting() -> Tasks
     tasks
 }
 
+/// To judge them, and to compare them with those of another manifest.
+fn comparing() -> Tasks
+    ensures { result ≡ comparing }
+{
+    let mut tasks = judging();
+    tasks.compares = true;
+    tasks
+}
+
 impl Tasks {
     /// Whether this is among them.
     pub(crate) fn has(&self, task: Task) -> bool
@@ -209,6 +229,7 @@ impl Tasks {
             Task::Load => self.loads,
             Task::Replay => self.replays,
             Task::Want => self.wants,
+            Task::Compare => self.compares,
         }
     }
 
@@ -226,6 +247,7 @@ impl Tasks {
                 loads: false,
                 replays: false,
                 wants: false,
+                compares: false,
             },
         }
     }
@@ -250,6 +272,7 @@ impl Ask {
             Ask::Migrate => ("migrate", reading(), LISTING_BYTES),
             Ask::Repair => ("repair", judging(), MANIFEST_BYTES),
             Ask::Ensures => ("ensures", wanting(), MANIFEST_BYTES),
+            Ask::Equal => ("equal", comparing(), MANIFEST_BYTES),
         }
     }
 
@@ -301,6 +324,7 @@ impl Role {
             Role::Packages => ("packages", "packages", Task::Model, Some(LISTING_BYTES)),
             Role::Data => ("data", "data", Task::Compile, Some(FACTS_BYTES)),
             Role::Input => ("INPUT", "input", Task::Read, None),
+            Role::Other => ("other", "other", Task::Compare, None),
             Role::Tree => ("tree", "tree", Task::Replay, Some(TREE_BYTES)),
             Role::Order => ("order", "order", Task::Replay, Some(ORDER_BYTES)),
         }

@@ -5,8 +5,10 @@ ghost use Rattle.std.specs.Option.{option_map};
 ghost use Rattle.clap.specs.Words.{found_of, rows_of, first_of, matches_of, fault_of, kind_of};
 ghost use Rattle.clap.specs.declared.error.kind.ErrorKind.TheVariants.{OutOfMemory};
 ghost use Rattle.command_line.specs.declared.size.TheConstants.{MOST_WORKLOAD};
-ghost use Rattle.command_line.specs.Words.{synopsis, ask_in, taken, taken_number, names_in, source_in, request_for, request_in, IsEntryAt, IsWanted, IsGiven, Makes, IfRefused, IsMade, IsWithin};
+ghost use Rattle.command_line.specs.Words.{synopsis, ask_in, taken, taken_number, names_in, with_other, source_in, request_for, request_in, IsEntryAt, IsWanted, IsGiven, Makes, IfRefused, IsMade, IsWithin};
+ghost use Rattle.command_line.specs.Table.{given};
 ghost use Rattle.command_line.specs.declared.request.Request.{Request};
+ghost use Rattle.command_line.specs.declared.table.Role.TheVariants.{Other};
 ghost use Rattle.wanted_entry.specs.declared.wanted.Wanted.{Wanted};
 
 use crate::command::synopsis;
@@ -136,14 +138,27 @@ fn names_of(
     Ok(names)
 }
 
-/// What is asked about: a workload, or files, of which one is the input.
-fn source(workload: Option<Size>, names: ByRole<Text>) -> Result<Source, WordsFault>
-    ensures { IsMade (source_in workload names) result }
+/// The files of these names, of which one has to be the manifest to compare with where two are compared.
+fn with_other(compares: bool, names: ByRole<Text>) -> Result<Source, WordsFault>
+    ensures { IsMade (with_other compares names (given Other names)) result }
+{
+    if !compares {
+        return Ok(Source::Files(names));
+    }
+    match given(names.as_slice(), Role::Other) {
+        Some(_) => Ok(Source::Files(names)),
+        None => Err(WordsFault::Refused),
+    }
+}
+
+/// What is asked about: a workload, or files, of which one is the input, and one the manifest to compare with where two are compared.
+fn source(compares: bool, workload: Option<Size>, names: ByRole<Text>) -> Result<Source, WordsFault>
+    ensures { IsMade (source_in compares workload names) result }
 {
     match workload {
         Some(size) => Ok(Source::Workload(size)),
         None => match given(names.as_slice(), Role::Input) {
-            Some(_) => Ok(Source::Files(names)),
+            Some(_) => with_other(compares, names),
             None => Err(WordsFault::Refused),
         },
     }
@@ -162,7 +177,7 @@ fn request_for(
     ensures plain { IfOk result (λ request. request.wanted ≡ None) }
 {
     let names = names_of(alloc, matches, tasks, &ROLES)?;
-    let source = source(workload, names)?;
+    let source = source(tasks.has(Task::Compare), workload, names)?;
     let node = option(alloc, matches, tasks.has(Task::Compile), "node")?;
     let conflicts = counted(matches, tasks.has(Task::Judge), "conflicts", MOST_CONFLICTS)?;
     Ok(Request {

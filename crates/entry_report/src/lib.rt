@@ -4,4 +4,4 @@
 mod lines;
 mod telling;
 
-pub use telling::told;
+pub use telling::{first_lines, first_status, told};

@@ -20,7 +20,8 @@ use std::alloc::Global;
 use verdict_report::{Report, budget_of, difference_text, spent_text};
 use wanted_entry::Wanted;
 
-fn first_status(first: &First) -> u8
+/// The status that goes with it where a graph isn't known to be deterministic.
+pub fn first_status(first: &First) -> u8
     ensures { result ≡ first_status first.now }
 {
     match first {
@@ -42,7 +43,7 @@ fn status_of(answered: &Ensured) -> u8
 }
 
 /// The lines where the graph isn't known to be deterministic.
-fn first_lines(
+pub fn first_lines(
     alloc: Global,
     names: &[Text],
     programs: &[Program],

@@ -4,6 +4,8 @@
 #[cfg(test)]
 mod ensured;
 #[cfg(test)]
+mod equal;
+#[cfg(test)]
 mod formulas;
 #[cfg(test)]
 mod judging;

@@ -25,9 +25,11 @@ use Rattle.rehearsal_core.specs.Inputs.{files_of, Requests, RequestsNone, IsHeld
 use Rattle.rehearsal_core.specs.declared.run.Ending.{Ending}
 use Rattle.rehearsal_core.specs.declared.run.Ending.TheVariants as ending
 use Rattle.rehearsal_core.specs.Runs.{Run, Appends, IsLeft, IsSound, HasFailed, AppendsFront}
-use Rattle.rehearsal_core.proofs.Excluding.{OneRequest, NoCatalogRefusal, NoGraphRefusal, NoReportRefusal, OneList, NoFault, no_refusal, no_report_lacks, no_refusal_lacks}
+use Rattle.rehearsal_core.proofs.Excluding.{OneRequest, NoCatalogRefusal, NoGraphRefusal, NoReportRefusal, NoComparisonRefusal, OneList, NoFault, no_refusal, no_report_lacks, no_refusal_lacks}
 use Rattle.rehearsal_core.specs.Steps.{SaysOf, Says, TellsLine, TellsReport, Owed, Ended}
 use Rattle.rehearsal_core.specs.Answers.{IsOfReport, HasCause, Tells, Owes, refusal_line, read_fault_line, memory_line}
+use Rattle.reports.specs.declared.sides.Side.{Side}
+use Rattle.rehearsal_core.proofs.ComparedLaws as compared_laws
 
 -- a file that is told isn't missing
 not_missing : (held : Held) (name bytes : List ℕ) → told_at held name ≡ Some bytes → IsMissing held name → ⊥
@@ -52,7 +54,8 @@ none_failed held before now (f ∷ files) name never told (inr later) = none_fai
 -- no status of a report is one from 4 to 8
 not_report : (n : ℕ) → 4 ≤ n → n ≤ 8 → (status : ℕ) → status ≡ n → IsOfReport status → ⊥
 not_report n low high status is (inl few) = absurd (omega (arith, low, is, few))
-not_report n low high status is (inr nine) = absurd (omega (arith, high, is, nine))
+not_report n low high status is (inr (inl nine)) = absurd (omega (arith, high, is, nine))
+not_report n low high status is (inr (inr ten)) = absurd (omega (arith, high, is, ten))
 
 -- memory was refused
 memory_tells : (run : Run) (status : ℕ) → status ≡ 8 → AppendsFront memory_line run.err → IsLeft run.out → Tells run status
@@ -101,7 +104,7 @@ few_ensured : (conflicts : Option ℕ) (w : Wanted) (names : List (List ℕ)) (e
 few_ensured conflicts w names es order report told = elim told.answer [
   | inl held ↦ inl (omega (arith, held.status))
   | inr (inl different) ↦ inl (omega (arith, different.status))
-  | inr (inr (inl missed)) ↦ inr missed.status
+  | inr (inr (inl missed)) ↦ inr (inl missed.status)
   | inr (inr (inr (inl spent))) ↦ inl (omega (arith, spent.status))
   | inr (inr (inr (inr spent))) ↦ inl (omega (arith, spent.status))
 ]
@@ -118,6 +121,7 @@ few ask.Check conflicts i report answer = inl (omega (arith, answer.0))
 few ask.Migrate conflicts i report answer = inl (omega (arith, answer.0))
 few ask.Repair conflicts i report answer = few_repaired conflicts _ _ _ report answer.told
 few ask.Ensures conflicts i report answer = few_ensured conflicts _ _ _ _ report answer.told
+few ask.Equal conflicts i report answer = compared_laws.few conflicts _ _ _ _ _ _ report answer.told.answer
 
 has_status : (words : List (String Global)) (held : Held) (report : Report) → Reports words held report → IsOfReport report.status
 has_status words held report reports = few reports.on.loaded.ask reports.on.loaded.conflicts reports.on.loaded.inputs report reports.on.says
@@ -174,7 +178,7 @@ told_line : (run : Run) (status at : ℕ) (line : List ℕ) → HasCause run at 
 told_line run status at line cause out is told = elim cause [
   | inl c ↦ record {
     report = λ e. absurd (not_report 4 (omega arith) (omega arith) status (is ∙ c.0) e);
-    refused = λ e. (c.1, c.2, told ∙ ap (λ l. appended l run.err.before) c.3, out);
+    refused = λ e. (c.1, c.2, c.3, told ∙ ap (λ l. appended l run.err.before) c.4, out);
     words = λ e. absurd (omega (arith, is, c.0, e));
     read = λ e. absurd (omega (arith, is, c.0, e));
     write = λ e. absurd (omega (arith, is, c.0, e));
@@ -232,12 +236,12 @@ line_ends run status at line cause out sound (inr (inl told)) =
     })
 line_ends run status at line cause out sound (inr (inr told)) = memory_ends run status told.0 told.1 out sound
 
-pub refusal_ends : (run : Run) (status : ℕ) (r : Refusal) → Refuses run.words run.held r → run.shelf_now ≡ run.shelf_before → IsLeft run.out → IsSound run.out
-    → TellsLine 4 (refusal_line r) run.err status → Ended run status
-refusal_ends run status r refuses read out sound told =
-    line_ends run status 4 (refusal_line r)
+pub refusal_ends : (run : Run) (status : ℕ) (s : Side) (r : Refusal) → Refuses run.words run.held s r → run.shelf_now ≡ run.shelf_before → IsLeft run.out → IsSound run.out
+    → TellsLine 4 (refusal_line s r) run.err status → Ended run status
+refusal_ends run status s r refuses read out sound told =
+    line_ends run status 4 (refusal_line s r)
     (record {
-      has = inl (refl, r, refuses, refl);
+      has = inl (refl, s, r, refuses, refl);
       usage = λ none. absurd (none_made run.words refuses.request refuses.made none);
       decided = λ held shelf. refl;
       unread = λ failed. absurd (failed read);
@@ -292,17 +296,17 @@ never_a_read_fault run status tells never there is =
 lacking : OneRequest → (run : Run) (status : ℕ) → Tells run status → LacksFile run.words run.held → (status ≡ 6) ⊎ ((status ≡ 7) ⊎ (status ≡ 8))
 lacking one run status tells lacks = elim tells.known [
   | inl is ↦ let told = tells.report is in absurd (no_report_lacks one run.words run.held lacks told.0 told.1)
-  | inr (inl is) ↦ let told = tells.refused is in absurd (no_refusal_lacks one run.words run.held lacks told.0 told.1)
+  | inr (inl is) ↦ let told = tells.refused is in absurd (no_refusal_lacks one run.words run.held lacks told.0 told.1 told.2)
   | inr (inr (inl is)) ↦ absurd ((tells.words is).0 lacks.request lacks.made)
   | inr (inr (inr others)) ↦ others
 ]
 
-pub owes : NoCatalogRefusal → NoGraphRefusal → NoReportRefusal → OneList → NoFault → OneRequest → (run : Run) (status : ℕ) → Ended run status → Owes run status
-owes catalogs graphs programs lists faults one run status ends = record {
+pub owes : NoCatalogRefusal → NoGraphRefusal → NoReportRefusal → NoComparisonRefusal → OneList → NoFault → OneRequest → (run : Run) (status : ℕ) → Ended run status → Owes run status
+owes catalogs graphs programs comparisons lists faults one run status ends = record {
   usage = ends.owed.usage;
   decided = ends.owed.decided;
-  refused = λ held r refuses is.
-      let told = ends.tells.report is in no_refusal catalogs graphs programs lists faults one run.words run.held told.0 r held told.1 refuses;
+  refused = λ held s r refuses is.
+      let told = ends.tells.report is in no_refusal catalogs graphs programs comparisons lists faults one run.words run.held told.0 s r held told.1 refuses;
   missing = lacking one run status ends.tells;
   unread = ends.owed.unread;
   unwritten = ends.owed.unwritten;
@@ -314,7 +318,7 @@ owes catalogs graphs programs lists faults one run status ends = record {
 pub says_of_words : (words : List (String Global)) (request : Request) (held : Held) (before now : ℕ) (e : Ending)
     → Requests words request → SaysOf request held before now e → Says words held before now e
 says_of_words words request held before now (ending.Report report) made h = (h.0, record { request = request; made = made; on = h.1 })
-says_of_words words request held before now (ending.Refused r) made h = (h.0, record { request = request; made = made; cause = h.1 })
+says_of_words words request held before now (ending.Refused s r) made h = (h.0, record { request = request; made = made; cause = h.1 })
 says_of_words words request held before now ending.BadWords made h = absurd h
 says_of_words words request held before now (ending.ReadFault name) made h = record { request = request; made = made; first = h }
 says_of_words words request held before now ending.Memory made h = h

@@ -29,8 +29,13 @@ use Rattle.reports.specs.declared.question.Question.TheVariants as question
 use Rattle.reports.specs.Stages.{CatalogRefusal, GraphRefusal}
 use Rattle.reports.specs.Reports.{IsCatalogReport, IsGraphReport}
 use Rattle.reports.specs.Questions.{IsReport, ReportRefusal}
+use Rattle.reports.specs.Comparisons.{IsComparison, ComparisonRefusal}
+use Rattle.reports.specs.declared.sides.Side.{Side}
+use Rattle.reports.specs.declared.sides.Side.TheVariants as side
+use Rattle.reports.specs.Sides.{OfInput}
 use Rattle.rehearsal_core.specs.declared.inputs.Loaded.{Loaded}
 use Rattle.rehearsal_core.specs.Verified.{IsRefuted, AreVerified, FirstBad, BreaksProofRule}
+use Rattle.rehearsal_core.specs.Migrated.{BreaksListingRule}
 use Rattle.rehearsal_core.specs.Inputs.{files_in, files_of, Requests, AreInputs, IsLoaded, IsAnswerTo, BreaksFor, Breaks, ReportsOn, RefusesAt, Reports, Refuses, IsHeld, LacksFile}
 
 -- ---- what is known of each part
@@ -46,6 +51,9 @@ NoGraphRefusal = (i : Inputs) (report : List ℕ) (r : Refusal) → IsGraphRepor
 
 abbrev pub NoReportRefusal : Type 0
 NoReportRefusal = (q : Question) (i : Inputs) (report : Report) (r : Refusal) → IsReport q i report → ReportRefusal q i r → ⊥
+
+abbrev pub NoComparisonRefusal : Type 0
+NoComparisonRefusal = (given : Option ℕ) (i : Inputs) (report : Report) (s : Side) (r : Refusal) → IsComparison given i report → ComparisonRefusal i s r → ⊥
 
 abbrev pub OneList : Type 0
 OneList = (text : List ℕ) (ps qs : List Refutation) → IsProofText text ps → IsProofText text qs → ps ≡ qs
@@ -130,32 +138,45 @@ verified_or_not one none text report r is (inr bad) =
 
 -- ---- an answer, or a refusal
 
-module _ (catalogs : NoCatalogRefusal) (graphs : NoGraphRefusal) (programs : NoReportRefusal) (lists : OneList) (faults : NoFault) where
-  answered_or_not : (a : Ask) (conflicts : Option ℕ) (i : Inputs) (report : Report) (r : Refusal) → IsAnswerTo a conflicts i report → BreaksFor a conflicts i r → ⊥
-  answered_or_not ask.Verify conflicts i report r is breaks = programs (question.Verdict form.Lines conflicts) i report r is breaks
-  answered_or_not ask.Proof conflicts i report r is breaks = programs (question.Verdict form.Proofs conflicts) i report r is breaks
-  answered_or_not ask.Catalog conflicts i report r is breaks = catalogs i report.text r is.1 breaks
-  answered_or_not ask.Graph conflicts i report r is breaks = graphs i report.text r is.1 breaks
-  answered_or_not ask.Programs conflicts i report r is breaks = programs question.Programs i report r is breaks
-  answered_or_not ask.Replay conflicts i report r is breaks = programs question.Replay i report r is breaks
-  answered_or_not ask.Check conflicts i report r is breaks = verified_or_not lists faults (input_of i) report.text r is.1 breaks
-  answered_or_not ask.Migrate conflicts i report r is breaks = breaks.1 is.1.packages is.1.given
-  answered_or_not ask.Repair conflicts i report r is breaks = programs (question.Repair conflicts) i report r is breaks
-  answered_or_not ask.Ensures conflicts i report r is breaks = programs (question.Ensures conflicts) i report r is breaks
+-- what is refused of the input alone is refused of no other side
+of_one : (P : Refusal → Type 0) (s : Side) (r : Refusal) → ((x : Refusal) → P x → ⊥) → OfInput P s r → ⊥
+of_one P side.Input r none of = none r of
+of_one P side.Other r none of = of
 
-  reported_or_refused : (q : Request) (held : Held) (report : Report) (r : Refusal) → AllTold held (files_of q) → ReportsOn q held report → RefusesAt q held r → ⊥
-  reported_or_refused q held report r told on (inl long) = loaded_within held q q.source on.loaded.inputs r told on.stands.inputs long.1
-  reported_or_refused q held report r told on (inr broken) =
-      answered_or_not on.loaded.ask on.loaded.conflicts on.loaded.inputs report r on.says
-      (subst (λ l. Breaks l r) (same_loaded held q broken.loaded on.loaded told broken.stands on.stands) broken.breaks)
+module _ (catalogs : NoCatalogRefusal) (graphs : NoGraphRefusal) (programs : NoReportRefusal) (comparisons : NoComparisonRefusal) (lists : OneList) (faults : NoFault) where
+  -- the same of a report on programs
+  no_side_of : (q : Question) (i : Inputs) (report : Report) (s : Side) (r : Refusal) → IsReport q i report → OfInput (ReportRefusal q i) s r → ⊥
+  no_side_of q i report s r is breaks = of_one (ReportRefusal q i) s r (λ x refused. programs q i report x is refused) breaks
 
-  pub no_refusal : OneRequest → (words : List (String Global)) (held : Held) (report : Report) (r : Refusal) → IsHeld words held → Reports words held report → Refuses words held r → ⊥
-  no_refusal one words held report r is reports refuses =
+  answered_or_not : (a : Ask) (conflicts : Option ℕ) (i : Inputs) (report : Report) (s : Side) (r : Refusal) → IsAnswerTo a conflicts i report → BreaksFor a conflicts i s r → ⊥
+  answered_or_not ask.Verify conflicts i report s r is breaks = no_side_of (question.Verdict form.Lines conflicts) i report s r is breaks
+  answered_or_not ask.Proof conflicts i report s r is breaks = no_side_of (question.Verdict form.Proofs conflicts) i report s r is breaks
+  answered_or_not ask.Catalog conflicts i report s r is breaks = of_one (CatalogRefusal i) s r (λ x refused. catalogs i report.text x is.1 refused) breaks
+  answered_or_not ask.Graph conflicts i report s r is breaks = of_one (GraphRefusal i) s r (λ x refused. graphs i report.text x is.1 refused) breaks
+  answered_or_not ask.Programs conflicts i report s r is breaks = no_side_of question.Programs i report s r is breaks
+  answered_or_not ask.Replay conflicts i report s r is breaks = no_side_of question.Replay i report s r is breaks
+  answered_or_not ask.Check conflicts i report s r is breaks =
+      of_one (BreaksProofRule (input_of i)) s r (λ x refused. verified_or_not lists faults (input_of i) report.text x is.1 refused) breaks
+  answered_or_not ask.Migrate conflicts i report s r is breaks =
+      of_one (BreaksListingRule (input_of i)) s r (λ x refused. refused.1 is.1.packages is.1.given) breaks
+  answered_or_not ask.Repair conflicts i report s r is breaks = no_side_of (question.Repair conflicts) i report s r is breaks
+  answered_or_not ask.Ensures conflicts i report s r is breaks = no_side_of (question.Ensures conflicts) i report s r is breaks
+  answered_or_not ask.Equal conflicts i report s r is breaks = comparisons conflicts i report s r is breaks
+
+  reported_or_refused : (q : Request) (held : Held) (report : Report) (s : Side) (r : Refusal) → AllTold held (files_of q) → ReportsOn q held report → RefusesAt q held s r → ⊥
+  reported_or_refused q held report s r told on (inl long) =
+      of_one (FirstTooLong held q.ask (files_of q)) s r (λ x refused. loaded_within held q q.source on.loaded.inputs x told on.stands.inputs refused) long.1
+  reported_or_refused q held report s r told on (inr broken) =
+      answered_or_not on.loaded.ask on.loaded.conflicts on.loaded.inputs report s r on.says
+      (subst (λ l. Breaks l s r) (same_loaded held q broken.loaded on.loaded told broken.stands on.stands) broken.breaks)
+
+  pub no_refusal : OneRequest → (words : List (String Global)) (held : Held) (report : Report) (s : Side) (r : Refusal) → IsHeld words held → Reports words held report → Refuses words held s r → ⊥
+  no_refusal one words held report s r is reports refuses =
       let texts = map string_bytes words in
-      reported_or_refused reports.request held report r
+      reported_or_refused reports.request held report s r
       (subst (λ q. AllTold held (files_of q)) (one texts is.request reports.request is.made reports.made) is.told)
       reports.on
-      (subst (λ q. RefusesAt q held r) (one texts refuses.request reports.request refuses.made reports.made) refuses.cause)
+      (subst (λ q. RefusesAt q held s r) (one texts refuses.request reports.request refuses.made reports.made) refuses.cause)
 
 -- ---- a file that is missing
 
@@ -167,8 +188,8 @@ module _ (one : OneRequest) (words : List (String Global)) (held : Held) (lacks 
   no_report_lacks report reports =
       loaded_are_there held reports.request reports.request.source reports.on.loaded.inputs reports.on.stands.inputs (lacks_at reports.request reports.made)
 
-  pub no_refusal_lacks : (r : Refusal) → Refuses words held r → ⊥
-  no_refusal_lacks r refuses = elim refuses.cause [
+  pub no_refusal_lacks : (s : Side) (r : Refusal) → Refuses words held s r → ⊥
+  no_refusal_lacks s r refuses = elim refuses.cause [
     | inl long ↦ none_and_any held (files_of refuses.request) long.0 (lacks_at refuses.request refuses.made)
     | inr broken ↦ loaded_are_there held refuses.request refuses.request.source broken.loaded.inputs broken.stands.inputs (lacks_at refuses.request refuses.made)
   ]

@@ -13,20 +13,25 @@ use Rattle.verdict_report.specs.declared.report.Report.{Report}
 use Rattle.verdict_report.specs.Told.{IsUnanswered}
 use Rattle.repair_report.specs.Told as repairs
 use Rattle.entry_report.specs.Told.{TellsSpent}
+use Rattle.equal_report.specs.Told as comparison
+use Rattle.equal_report.specs.Told.{OneIsUnanswered}
+use Rattle.reports.specs.Comparisons.{names_of, other_names_of, IsComparison}
 use Rattle.known_inputs.specs.Inputs.{wanted_of}
 use Rattle.rehearsal_core.specs.Inputs.{Requests, Reports, IsAnswerTo}
 use Rattle.rehearsal_core.specs.Runs.{Run}
-use Rattle.rehearsal_core.specs.Headline.{ask_for, AsksForVerdict, AsksForEntry, AsksForRepair, Modelled, Judged, IsWell, DependsOnOrder, ChangesAgain, SpendsConflicts, LeavesEntry, MissesEntry, SpendsOnEntry, IsMended, SpendsOnRepair, Headline}
+use Rattle.rehearsal_core.specs.Headline.{ask_for, AsksForVerdict, AsksForEntry, AsksForRepair, AsksForComparison, Modelled, Judged, IsCompared, OfBoth, DoTheSame, DoOtherwise, OneDependsOnOrder, SpendsOnComparison, IsWell, DependsOnOrder, ChangesAgain, SpendsConflicts, LeavesEntry, MissesEntry, SpendsOnEntry, IsMended, SpendsOnRepair, Headline}
+use Rattle.rehearsal_core.proofs.ComparedLaws as compared_laws
 use Rattle.rehearsal_core.specs.Answers.{WritesReport, Tells}
 
 -- ---- what a report is about
 
--- a verdict, an entry that is wanted, a repair, or something else, which has status 0
+-- a verdict, an entry that is wanted, a repair, a comparison, or something else, which has status 0
 data Kind (a : Ask) (conflicts : Option ℕ) (i : Inputs) (report : Report) : Type 0 where
   verdict : (f : Form) → a ≡ ask_for f → IsReport (question.Verdict f conflicts) i report → Kind a conflicts i report
   entry : a ≡ ask.Ensures → IsReport (question.Ensures conflicts) i report → Kind a conflicts i report
   repair : a ≡ ask.Repair → IsReport (question.Repair conflicts) i report → Kind a conflicts i report
-  other : report.status ≡ 0 → ((f : Form) → a ≡ ask_for f → ⊥) → (a ≡ ask.Repair → ⊥) → (a ≡ ask.Ensures → ⊥) → Kind a conflicts i report
+  both : a ≡ ask.Equal → IsComparison conflicts i report → Kind a conflicts i report
+  other : report.status ≡ 0 → ((f : Form) → a ≡ ask_for f → ⊥) → (a ≡ ask.Repair → ⊥) → (a ≡ ask.Ensures → ⊥) → (a ≡ ask.Equal → ⊥) → Kind a conflicts i report
 
 -- other values of `--ask` than these
 abbrev is_other : Ask → Type 0
@@ -40,6 +45,7 @@ is_other ask.Check = Unit {0}
 is_other ask.Migrate = Unit {0}
 is_other ask.Repair = ⊥
 is_other ask.Ensures = ⊥
+is_other ask.Equal = ⊥
 
 no_verdict : (a : Ask) → is_other a → (f : Form) → a ≡ ask_for f → ⊥
 no_verdict a h form.Lines e = subst is_other e h
@@ -51,17 +57,21 @@ no_repair a h e = subst is_other e h
 no_entry : (a : Ask) → is_other a → a ≡ ask.Ensures → ⊥
 no_entry a h e = subst is_other e h
 
+no_equal : (a : Ask) → is_other a → a ≡ ask.Equal → ⊥
+no_equal a h e = subst is_other e h
+
 kind_of : (a : Ask) (conflicts : Option ℕ) (i : Inputs) (report : Report) → IsAnswerTo a conflicts i report → Kind a conflicts i report
 kind_of ask.Verify conflicts i report answer = verdict form.Lines refl answer
 kind_of ask.Proof conflicts i report answer = verdict form.Proofs refl answer
-kind_of ask.Catalog conflicts i report answer = other answer.0 (no_verdict ask.Catalog tt) (no_repair ask.Catalog tt) (no_entry ask.Catalog tt)
-kind_of ask.Graph conflicts i report answer = other answer.0 (no_verdict ask.Graph tt) (no_repair ask.Graph tt) (no_entry ask.Graph tt)
-kind_of ask.Programs conflicts i report answer = other answer.told.0 (no_verdict ask.Programs tt) (no_repair ask.Programs tt) (no_entry ask.Programs tt)
-kind_of ask.Replay conflicts i report answer = other answer.told.0 (no_verdict ask.Replay tt) (no_repair ask.Replay tt) (no_entry ask.Replay tt)
-kind_of ask.Check conflicts i report answer = other answer.0 (no_verdict ask.Check tt) (no_repair ask.Check tt) (no_entry ask.Check tt)
-kind_of ask.Migrate conflicts i report answer = other answer.0 (no_verdict ask.Migrate tt) (no_repair ask.Migrate tt) (no_entry ask.Migrate tt)
+kind_of ask.Catalog conflicts i report answer = other answer.0 (no_verdict ask.Catalog tt) (no_repair ask.Catalog tt) (no_entry ask.Catalog tt) (no_equal ask.Catalog tt)
+kind_of ask.Graph conflicts i report answer = other answer.0 (no_verdict ask.Graph tt) (no_repair ask.Graph tt) (no_entry ask.Graph tt) (no_equal ask.Graph tt)
+kind_of ask.Programs conflicts i report answer = other answer.told.0 (no_verdict ask.Programs tt) (no_repair ask.Programs tt) (no_entry ask.Programs tt) (no_equal ask.Programs tt)
+kind_of ask.Replay conflicts i report answer = other answer.told.0 (no_verdict ask.Replay tt) (no_repair ask.Replay tt) (no_entry ask.Replay tt) (no_equal ask.Replay tt)
+kind_of ask.Check conflicts i report answer = other answer.0 (no_verdict ask.Check tt) (no_repair ask.Check tt) (no_entry ask.Check tt) (no_equal ask.Check tt)
+kind_of ask.Migrate conflicts i report answer = other answer.0 (no_verdict ask.Migrate tt) (no_repair ask.Migrate tt) (no_entry ask.Migrate tt) (no_equal ask.Migrate tt)
 kind_of ask.Repair conflicts i report answer = repair refl answer
 kind_of ask.Ensures conflicts i report answer = entry refl answer
+kind_of ask.Equal conflicts i report answer = both refl answer
 
 kind : (run : Run) (report : Report) (reports : Reports run.words run.held report) → Kind reports.on.loaded.ask reports.on.loaded.conflicts reports.on.loaded.inputs report
 kind run report reports = kind_of reports.on.loaded.ask reports.on.loaded.conflicts reports.on.loaded.inputs report reports.on.says
@@ -100,6 +110,16 @@ no_verdict_wants form.Proofs e = cc
 no_repair_wants : ask.Repair ≡ ask.Ensures → ⊥
 no_repair_wants e = cc
 
+no_verdict_compares : (f : Form) → ask_for f ≡ ask.Equal → ⊥
+no_verdict_compares form.Lines e = cc
+no_verdict_compares form.Proofs e = cc
+
+no_repair_compares : ask.Repair ≡ ask.Equal → ⊥
+no_repair_compares e = cc
+
+no_entry_compares : ask.Ensures ≡ ask.Equal → ⊥
+no_entry_compares e = cc
+
 -- a verdict that is told, and an entry that is
 module _ (run : Run) (report : Report) (reports : Reports run.words run.held report) where
   abbrev verdict_on : (f : Form) → reports.on.loaded.ask ≡ ask_for f → (answer : IsReport (question.Verdict f reports.on.loaded.conflicts) reports.on.loaded.inputs report) → Judged run
@@ -122,6 +142,17 @@ module _ (run : Run) (report : Report) (reports : Reports run.words run.held rep
     count = answer.told.count;
   }
 
+-- what is compared, of a report on both manifests
+abbrev compared : (run : Run) (report : Report) (reports : Reports run.words run.held report) → reports.on.loaded.ask ≡ ask.Equal → IsComparison reports.on.loaded.conflicts reports.on.loaded.inputs report → IsCompared run
+compared run report reports asked is = record {
+  request = reports.request;
+  made = reports.made;
+  asked = sym reports.on.stands.asked ∙ asked;
+  loaded = reports.on.loaded;
+  stands = reports.on.stands;
+  of = is.of;
+}
+
 -- ---- what each status promises
 
 well_of : (run : Run) → AsksForVerdict run → WritesReport run 0 → IsWell run
@@ -136,21 +167,22 @@ well_of run asks (report, reports, same, written, left) =
       ]
       | entry is answer ↦ absurd (no_verdict_wants asks.2 (sym asked ∙ is))
       | repair is answer ↦ absurd (no_verdict_repairs asks.2 (sym asked ∙ is))
-      | other zero not_verdict not_repair not_entry ↦ absurd (not_verdict asks.2 asked)
+      | both is answer ↦ absurd (no_verdict_compares asks.2 (sym asked ∙ is))
+      | other zero not_verdict not_repair not_entry not_equal ↦ absurd (not_verdict asks.2 asked)
     ]
 
-depends_of : (run : Run) → WritesReport run 1 → DependsOnOrder run
+depends_of : (run : Run) → WritesReport run 1 → DependsOnOrder run ⊎ OneDependsOnOrder run
 depends_of run (report, reports, same, written, left) =
     elim (kind run report reports) [
       | verdict f is answer ↦ elim answer.told.answer [
         | inl sure ↦ absurd (omega (arith, same, sure.status))
-        | inr (inl different) ↦ record { judged = verdict_on run report reports f is answer; report = report; different = different; written = written }
+        | inr (inl different) ↦ inl (record { judged = verdict_on run report reports f is answer; report = report; different = different; written = written })
         | inr (inr (inl changed)) ↦ absurd (omega (arith, same, changed.status))
         | inr (inr (inr spent)) ↦ absurd (omega (arith, same, spent.status))
       ]
       | entry is answer ↦ elim answer.told.answer [
         | inl held ↦ absurd (omega (arith, same, held.status))
-        | inr (inl different) ↦ record { judged = entry_on run report reports is answer; report = report; different = different; written = written }
+        | inr (inl different) ↦ inl (record { judged = entry_on run report reports is answer; report = report; different = different; written = written })
         | inr (inr (inl missed)) ↦ absurd (omega (arith, same, missed.status))
         | inr (inr (inr (inl spent))) ↦ absurd (omega (arith, same, spent.status))
         | inr (inr (inr (inr spent))) ↦ absurd (omega (arith, same, spent.status))
@@ -159,7 +191,8 @@ depends_of run (report, reports, same, written, left) =
         | inl mended ↦ absurd (omega (arith, same, mended.status))
         | inr spent ↦ absurd (omega (arith, same, spent.status))
       ]
-      | other zero not_verdict not_repair not_entry ↦ absurd (omega (arith, same, zero))
+      | both is answer ↦ inr (record { compared = compared run report reports is answer; report = report; differs = compared_laws.at_one reports.on.loaded.conflicts _ _ _ _ _ _ report answer.told.answer same; written = written })
+      | other zero not_verdict not_repair not_entry not_equal ↦ absurd (omega (arith, same, zero))
     ]
 
 changes_of : (run : Run) → WritesReport run 2 → ChangesAgain run
@@ -182,10 +215,23 @@ changes_of run (report, reports, same, written, left) =
         | inl mended ↦ absurd (omega (arith, same, mended.status))
         | inr spent ↦ absurd (omega (arith, same, spent.status))
       ]
-      | other zero not_verdict not_repair not_entry ↦ absurd (omega (arith, same, zero))
+      | both is answer ↦ absurd (compared_laws.not_two reports.on.loaded.conflicts _ _ _ _ _ _ report answer.told.answer same)
+      | other zero not_verdict not_repair not_entry not_equal ↦ absurd (omega (arith, same, zero))
     ]
 
-spends_of : (run : Run) → WritesReport run 3 → SpendsConflicts run ⊎ (SpendsOnRepair run ⊎ SpendsOnEntry run)
+spent_comparison : (run : Run) (report : Report) (reports : Reports run.words run.held report) → report.status ≡ 3 → Appends report.text run.out → reports.on.loaded.ask ≡ ask.Equal
+    → IsComparison reports.on.loaded.conflicts reports.on.loaded.inputs report → SpendsOnComparison run
+spent_comparison run report reports same written is answer =
+    let on = compared run report reports is answer in
+    record {
+      compared = on;
+      report = report;
+      unanswered = subst (λ given. OfBoth on (λ es order fs other. OneIsUnanswered given es order fs other report ⊎ comparison.TellsSpent given es order fs other report)) reports.on.stands.conflicts
+          (compared_laws.at_three reports.on.loaded.conflicts (names_of answer.of) _ _ (other_names_of answer.of) _ _ report answer.told.answer same);
+      written = written;
+    }
+
+spends_of : (run : Run) → WritesReport run 3 → SpendsConflicts run ⊎ (SpendsOnRepair run ⊎ (SpendsOnEntry run ⊎ SpendsOnComparison run))
 spends_of run (report, reports, same, written, left) =
     elim (kind run report reports) [
       | verdict f is answer ↦ elim answer.told.answer [
@@ -212,13 +258,13 @@ spends_of run (report, reports, same, written, left) =
               written = written;
             })
         | inr (inr (inr (inr spent))) ↦
-            inr (inr (record {
+            inr (inr (inl (record {
               judged = entry_on run report reports is answer;
               asked = refl;
               report = report;
               unanswered = subst (λ given. TellsSpent given (wanted_of reports.on.loaded.inputs) answer.programs answer.graph.order answer.told.pruned report) reports.on.stands.conflicts spent;
               written = written;
-            }))
+            })))
       ]
       | repair is answer ↦ elim answer.told.answer [
         | inl mended ↦ absurd (omega (arith, same, mended.status))
@@ -230,7 +276,8 @@ spends_of run (report, reports, same, written, left) =
               written = written;
             }))
       ]
-      | other zero not_verdict not_repair not_entry ↦ absurd (omega (arith, same, zero))
+      | both is answer ↦ inr (inr (inr (spent_comparison run report reports same written is answer)))
+      | other zero not_verdict not_repair not_entry not_equal ↦ absurd (omega (arith, same, zero))
     ]
 
 mended_of : (run : Run) → AsksForRepair run → WritesReport run 0 → IsMended run
@@ -243,7 +290,8 @@ mended_of run asks (report, reports, same, written, left) =
         | inl mended ↦ record { of = modelled run report reports ask.Repair (question.Repair reports.on.loaded.conflicts) is answer; report = report; repaired = mended; written = written }
         | inr spent ↦ absurd (omega (arith, same, spent.status))
       ]
-      | other zero not_verdict not_repair not_entry ↦ absurd (not_repair asked)
+      | both is answer ↦ absurd (no_repair_compares (sym asked ∙ is))
+      | other zero not_verdict not_repair not_entry not_equal ↦ absurd (not_repair asked)
     ]
 
 leaves_of : (run : Run) → AsksForEntry run → WritesReport run 0 → LeavesEntry run
@@ -259,7 +307,8 @@ leaves_of run asks (report, reports, same, written, left) =
         | inr (inr (inr (inr spent))) ↦ absurd (omega (arith, same, spent.status))
       ]
       | repair is answer ↦ absurd (no_repair_wants (sym is ∙ asked))
-      | other zero not_verdict not_repair not_entry ↦ absurd (not_entry asked)
+      | both is answer ↦ absurd (no_entry_compares (sym asked ∙ is))
+      | other zero not_verdict not_repair not_entry not_equal ↦ absurd (not_entry asked)
     ]
 
 misses_of : (run : Run) → WritesReport run 9 → MissesEntry run
@@ -282,7 +331,43 @@ misses_of run (report, reports, same, written, left) =
         | inl mended ↦ absurd (omega (arith, same, mended.status))
         | inr spent ↦ absurd (omega (arith, same, spent.status))
       ]
-      | other zero not_verdict not_repair not_entry ↦ absurd (omega (arith, same, zero))
+      | both is answer ↦ absurd (compared_laws.not_nine reports.on.loaded.conflicts _ _ _ _ _ _ report answer.told.answer same)
+      | other zero not_verdict not_repair not_entry not_equal ↦ absurd (omega (arith, same, zero))
+    ]
+
+equal_of : (run : Run) → AsksForComparison run → WritesReport run 0 → DoTheSame run
+equal_of run asks (report, reports, same, written, left) =
+    let asked = asked_for run report reports asks.0 asks.1 ∙ asks.2 in
+    elim (kind run report reports) [
+      | verdict f is answer ↦ absurd (no_verdict_compares f (sym is ∙ asked))
+      | entry is answer ↦ absurd (no_entry_compares (sym is ∙ asked))
+      | repair is answer ↦ absurd (no_repair_compares (sym is ∙ asked))
+      | both is answer ↦ record { compared = compared run report reports is answer; report = report; equal = compared_laws.at_zero reports.on.loaded.conflicts _ _ _ _ _ _ report answer.told.answer same; written = written }
+      | other zero not_verdict not_repair not_entry not_equal ↦ absurd (not_equal asked)
+    ]
+
+unequal_of : (run : Run) → WritesReport run 10 → DoOtherwise run
+unequal_of run (report, reports, same, written, left) =
+    elim (kind run report reports) [
+      | verdict f is answer ↦ elim answer.told.answer [
+        | inl sure ↦ absurd (omega (arith, same, sure.status))
+        | inr (inl different) ↦ absurd (omega (arith, same, different.status))
+        | inr (inr (inl changed)) ↦ absurd (omega (arith, same, changed.status))
+        | inr (inr (inr spent)) ↦ absurd (omega (arith, same, spent.status))
+      ]
+      | entry is answer ↦ elim answer.told.answer [
+        | inl held ↦ absurd (omega (arith, same, held.status))
+        | inr (inl different) ↦ absurd (omega (arith, same, different.status))
+        | inr (inr (inl missed)) ↦ absurd (omega (arith, same, missed.status))
+        | inr (inr (inr (inl spent))) ↦ absurd (omega (arith, same, spent.status))
+        | inr (inr (inr (inr spent))) ↦ absurd (omega (arith, same, spent.status))
+      ]
+      | repair is answer ↦ elim answer.told.answer [
+        | inl mended ↦ absurd (omega (arith, same, mended.status))
+        | inr spent ↦ absurd (omega (arith, same, spent.status))
+      ]
+      | both is answer ↦ record { compared = compared run report reports is answer; report = report; unequal = compared_laws.at_ten reports.on.loaded.conflicts _ _ _ _ _ _ report answer.told.answer same; written = written }
+      | other zero not_verdict not_repair not_entry not_equal ↦ absurd (omega (arith, same, zero))
     ]
 
 pub headline_of : (run : Run) (status : ℕ) → Tells run status → Headline run status
@@ -293,5 +378,7 @@ headline_of run status tells = record {
   spends = λ is. spends_of run (subst (WritesReport run) is (tells.report (inl (omega (arith, is)))));
   mended = λ asks is. mended_of run asks (subst (WritesReport run) is (tells.report (inl (omega (arith, is)))));
   leaves = λ asks is. leaves_of run asks (subst (WritesReport run) is (tells.report (inl (omega (arith, is)))));
-  misses = λ is. misses_of run (subst (WritesReport run) is (tells.report (inr is)));
+  misses = λ is. misses_of run (subst (WritesReport run) is (tells.report (inr (inl is))));
+  equal = λ asks is. equal_of run asks (subst (WritesReport run) is (tells.report (inl (omega (arith, is)))));
+  unequal = λ is. unequal_of run (subst (WritesReport run) is (tells.report (inr (inr is))));
 }

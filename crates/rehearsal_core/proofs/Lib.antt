@@ -1,4 +1,5 @@
 pub mod Telling
+pub mod ComparedLaws
 pub mod HeadlineLaws
 pub mod Excluding
 pub mod Endings

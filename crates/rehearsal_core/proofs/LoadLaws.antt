@@ -1,17 +1,25 @@
 -- From the bytes of the files to what is said of the request.
-use Rattle.std.proofs.Common.{◌≡◌, inl, inr, ℕ, ◌<◌, ◌^◌, ◌==◌, Bool, true, false, List, [], ◌∷◌, length, Some, Result, Ok, Err, refl, sym, subst, arith, cond}
+use Rattle.std.proofs.Common.{◌≡◌, inl, inr, ℕ, ◌<◌, ◌^◌, ◌==◌, Bool, true, false, List, [], ◌∷◌, length, Option, Some, None, Result, Ok, Err, refl, sym, subst, ◌∙◌, arith, cond}
 use Rattle.std.specs.Prelude.{IfOk, IfErr}
 use Rattle.rh_base.specs.declared.fault.Fault.{Fault}
 use Rattle.rh_base.specs.declared.fault.Fault.TheVariants.{Refused, Memory}
-use Rattle.rh_base.specs.declared.fault.Refusal.{Refusal}
 use Rattle.rh_base.specs.Refused.{IfRefused}
+use Rattle.command_line.specs.declared.table.Ask.{Ask}
+use Rattle.reports.specs.declared.sides.Untold.{Untold}
+use Rattle.reports.specs.declared.sides.Untold.TheVariants as untold
+use Rattle.reports.specs.declared.sides.Side.TheVariants as sides
+use Rattle.reports.specs.Sides.{refused_in, IfUntold}
+use Rattle.reports.specs.Comparisons.{other_inputs}
+use Rattle.rh_base.specs.declared.fault.Refusal.{Refusal}
 use Rattle.rh_base.specs.Shelf.{Held}
 use Rattle.command_line.specs.declared.request.Request.{Request}
 use Rattle.command_line.specs.declared.request.Source.TheVariants as source
+use Rattle.command_line.specs.declared.table.Role.{Role}
 use Rattle.command_line.specs.declared.table.Role.TheVariants as role
 use Rattle.command_line.specs.Table.{ByRole, given, place}
 use Rattle.request_files.specs.Files.{AreRead, AreShort, NoneMissing, FirstTooLong}
-use Rattle.known_inputs.specs.Inputs.{bytes_or_none}
+use Rattle.known_inputs.specs.Inputs.{bytes_or_none, input_of}
+use Rattle.known_inputs.specs.declared.inputs.Inputs.{Inputs}
 use Rattle.verdict_report.specs.declared.report.Report.{Report}
 use Rattle.rehearsal_core.specs.declared.inputs.Names.{Names}
 use Rattle.rehearsal_core.specs.declared.inputs.Loaded.{Loaded}
@@ -28,16 +36,24 @@ loaded : (held : Held) (r : Names) (files : ByRole (List ℕ)) → AreRead held 
 loaded held r files read = record { asked = refl; conflicts = refl; inputs = (refl, refl, read) }
 
 -- what there is to say of an answer, from what was read and what the answer is
-pub says : (held : Held) (r : Names) (files : ByRole (List ℕ)) (before now : ℕ) (said : Result Report Fault) → now ≡ before → AreRead held r.ask r.files files
-    → IfOk said (IsAnswer (loaded_from r files)) → IfErr said (λ e. IfRefused e (Breaks (loaded_from r files))) → SaysOf (request_about r) held before now (concluded said)
+pub says : (held : Held) (r : Names) (files : ByRole (List ℕ)) (before now : ℕ) (said : Result Report Untold) → now ≡ before → AreRead held r.ask r.files files
+    → IfOk said (IsAnswer (loaded_from r files)) → IfErr said (λ e. IfUntold e (Breaks (loaded_from r files))) → SaysOf (request_about r) held before now (concluded said)
 says held r files before now (Ok report) same read answers refuses = (same, record { loaded = loaded_from r files; stands = loaded held r files read; says = answers })
-says held r files before now (Err (Refused x)) same read answers refuses =
+says held r files before now (Err (untold.Refused side x)) same read answers refuses =
     (same, inr (record { loaded = loaded_from r files; stands = loaded held r files read; breaks = refuses }))
-says held r files before now (Err (Memory m)) same read answers refuses = same
+says held r files before now (Err (untold.Memory m)) same read answers refuses = same
+
+-- a refusal of one manifest, or of a text that is none, is one of the input
+pub of_input : (a : Ask) (conflicts : Option ℕ) (i : Inputs) (e : Fault) → IfRefused e (BreaksFor a conflicts i sides.Input) → IfUntold (refused_in sides.Input e) (BreaksFor a conflicts i)
+of_input a conflicts i (Refused r) h = h
+of_input a conflicts i (Memory m) h = tt
+
+pub not_both : (b : Bool) → b ≡ true → b ≡ false → ⊥
+not_both b yes no = let bad : true ≡ false = sym yes ∙ no in cc
 
 -- a file is too long
 pub says_long : (held : Held) (r : Names) (before now : ℕ) (x : Refusal) → now ≡ before → NoneMissing held r.files → FirstTooLong held r.ask r.files x
-    → SaysOf (request_about r) held before now (ending.Refused x)
+    → SaysOf (request_about r) held before now (ending.Refused sides.Input x)
 says_long held r before now x same none long = (same, inl (none, long))
 
 -- the same of a workload, of which nothing is read
@@ -45,26 +61,35 @@ workload_loaded : (held : Held) (r : Request) (n : ℕ) → r.source ≡ source.
     → IsLoaded held r (record { ask = r.ask; conflicts = r.conflicts; inputs = workload_inputs n })
 workload_loaded held r n is = record { asked = refl; conflicts = refl; inputs = subst (λ s. AreInputs held r s (workload_inputs n)) (sym is) refl }
 
-pub says_of_workload : (held : Held) (r : Request) (n before now : ℕ) (said : Result Report Fault) → r.source ≡ source.Workload n → now ≡ before
-    → IfOk said (IsAnswerTo r.ask r.conflicts (workload_inputs n)) → IfErr said (λ e. IfRefused e (BreaksFor r.ask r.conflicts (workload_inputs n)))
+pub says_of_workload : (held : Held) (r : Request) (n before now : ℕ) (said : Result Report Untold) → r.source ≡ source.Workload n → now ≡ before
+    → IfOk said (IsAnswerTo r.ask r.conflicts (workload_inputs n)) → IfErr said (λ e. IfUntold e (BreaksFor r.ask r.conflicts (workload_inputs n)))
     → SaysOf r held before now (concluded said)
 says_of_workload held r n before now (Ok report) is same answers refuses =
     (same, record { loaded = record { ask = r.ask; conflicts = r.conflicts; inputs = workload_inputs n }; stands = workload_loaded held r n is; says = answers })
-says_of_workload held r n before now (Err (Refused x)) is same answers refuses =
+says_of_workload held r n before now (Err (untold.Refused side x)) is same answers refuses =
     (same, inr (record { loaded = record { ask = r.ask; conflicts = r.conflicts; inputs = workload_inputs n }; stands = workload_loaded held r n is; breaks = refuses }))
-says_of_workload held r n before now (Err (Memory m)) is same answers refuses = same
+says_of_workload held r n before now (Err (untold.Memory m)) is same answers refuses = same
 
 -- a request about files of these names is the one with those names
 pub says_of_named : (held : Held) (r : Request) (names : ByRole (List ℕ)) (before now : ℕ) (e : Ending) → r.source ≡ source.Files names
     → SaysOf (record r { source = source.Files names }) held before now e → SaysOf r held before now e
 says_of_named held r names before now e is says = subst (λ s. SaysOf (record r { source = s }) held before now e) (sym is) says
 
--- the input is short, as each file is
-pub input_is_short : (files : ByRole (List ℕ)) → AreShort files → length (bytes_or_none (given role.Input files)) < 2 ^ 32
-input_is_short [] short = omega arith
-input_is_short (f ∷ files) short = either (place f.0 == place role.Input) f.1 files short.0 (input_is_short files short.1)
+-- the input is short, and so is the manifest that it is compared with, as each file is
+abbrev short_at : Role → Type 0
+short_at role = (files : ByRole (List ℕ)) → AreShort files → length (bytes_or_none (given role files)) < 2 ^ 32
+
+each_is_short : (r : Role) → short_at r
+each_is_short r [] short = omega arith
+each_is_short r (f ∷ files) short = either (place f.0 == place r) f.1 files short.0 (each_is_short r files short.1)
   where
-    either : (here : Bool) (bytes : List ℕ) (files : ByRole (List ℕ)) → length bytes < 2 ^ 32 → length (bytes_or_none (given role.Input files)) < 2 ^ 32
-        → length (bytes_or_none (cond here (Some bytes) (given role.Input files))) < 2 ^ 32
+    either : (here : Bool) (bytes : List ℕ) (files : ByRole (List ℕ)) → length bytes < 2 ^ 32 → length (bytes_or_none (given r files)) < 2 ^ 32
+        → length (bytes_or_none (cond here (Some bytes) (given r files))) < 2 ^ 32
     either true bytes files here more = here
     either false bytes files here more = more
+
+pub input_is_short : (files : ByRole (List ℕ)) → AreShort files → length (bytes_or_none (given role.Input files)) < 2 ^ 32
+input_is_short = each_is_short role.Input
+
+pub other_is_short : (i : Inputs) → AreShort i.files → length (input_of (other_inputs i)) < 2 ^ 32
+other_is_short i = each_is_short role.Other i.files

@@ -1,19 +1,26 @@
 -- The statuses of the program, and what each one tells.
-use Rattle.std.specs.Prelude.{◌≡◌, ◌≢◌, ◌⊎◌, ◌≤◌, ℕ, List, ◌++◌, codes}
+use Rattle.std.specs.Prelude.{◌≡◌, ◌≢◌, ◌⊎◌, ◌≤◌, ℕ, List, [], ◌++◌, codes}
 use Rattle.std.specs.Fmt.{decimal}
 use Rattle.rh_base.specs.declared.fault.Refusal.{Refusal}
 use Rattle.rh_base.specs.Causes.{Rose}
 use Rattle.printed_names.specs.Printed.{printed}
 use Rattle.command_line.specs.Table.{usage_line}
+use Rattle.reports.specs.declared.sides.Side.{Side}
+use Rattle.reports.specs.declared.sides.Side.TheVariants as side
 use Rattle.verdict_report.specs.declared.report.Report.{Report}
 use Rattle.rehearsal_core.specs.Runs.{Run, Appends, AppendsFront, IsLeft, IsSound, HasFailed}
 use Rattle.rehearsal_core.specs.Inputs.{RequestsNone, IsHeld, LacksFile, Reports, Refuses, FailsToRead}
 
 -- ---- lines
 
--- a refusal: its number, its place in the text, and its name, without control characters
-abbrev pub refusal_line : Refusal → List ℕ
-refusal_line r = codes "refused " ++ (decimal r.number ++ (codes " at " ++ (decimal r.at ++ (codes ": " ++ (printed r.name ++ codes "\n")))))
+-- how a refusal of the other manifest is told apart
+abbrev pub in_other : Side → List ℕ
+in_other side.Input = []
+in_other side.Other = codes " in other"
+
+-- a refusal: its number, its place in the text, whether it is that of the other manifest, and its name, without control characters
+abbrev pub refusal_line : Side → Refusal → List ℕ
+refusal_line s r = codes "refused " ++ (decimal r.number ++ (codes " at " ++ (decimal r.at ++ (in_other s ++ (codes ": " ++ (printed r.name ++ codes "\n"))))))
 
 -- a file couldn't be read
 abbrev pub read_fault_line : List ℕ → List ℕ
@@ -31,15 +38,15 @@ memory_line = codes "out of memory\n"
 
 -- the statuses of reports
 abbrev pub IsOfReport : ℕ → Type 0
-IsOfReport status = (status ≤ 3) ⊎ (status ≡ 9)
+IsOfReport status = (status ≤ 3) ⊎ ((status ≡ 9) ⊎ (status ≡ 10))
 
--- status 0 to 3, or 9: the report with this status was written to out, and nothing to err
+-- status 0 to 3, 9 or 10: the report with this status was written to out, and nothing to err
 abbrev pub WritesReport : Run → ℕ → Type 0
 WritesReport run status = (report : Report) × Reports run.words run.held report × (report.status ≡ status) × Appends report.text run.out × IsLeft run.err
 
 -- status 4: the first refusal was told on err, and nothing on out
 abbrev pub TellsRefusal : Run → Type 0
-TellsRefusal run = (r : Refusal) × Refuses run.words run.held r × Appends (refusal_line r) run.err × IsLeft run.out
+TellsRefusal run = (s : Side) × (r : Refusal) × Refuses run.words run.held s r × Appends (refusal_line s r) run.err × IsLeft run.out
 
 -- status 5: the words are refused
 abbrev pub TellsUsage : Run → Type 0
@@ -53,7 +60,7 @@ TellsReadFault run = (name : List ℕ) × FailsToRead run.words run.held run.she
 -- the line that a cause of status 4, 5 or 6 puts on err
 abbrev pub HasCause : Run → ℕ → List ℕ → Type 0
 HasCause run status line =
-    ((status ≡ 4) × (r : Refusal) × Refuses run.words run.held r × (line ≡ refusal_line r))
+    ((status ≡ 4) × (s : Side) × (r : Refusal) × Refuses run.words run.held s r × (line ≡ refusal_line s r))
     ⊎ (((status ≡ 5) × RequestsNone run.words × (line ≡ usage_line))
     ⊎ ((status ≡ 6) × (name : List ℕ) × FailsToRead run.words run.held run.shelf_before run.shelf_now name × (line ≡ read_fault_line name)))
 
@@ -91,7 +98,7 @@ pub record Owes (run : Run) (status : ℕ) : Type 0 where
   -- an input that is told, without faults, gets a report or a refusal
   pub decided : IsHeld run.words run.held → NoFaults run → IsOfReport status ⊎ ((status ≡ 4) ⊎ (status ≡ 8))
   -- and where a refusal is due there is no report
-  pub refused : IsHeld run.words run.held → (r : Refusal) → Refuses run.words run.held r → IsOfReport status → ⊥
+  pub refused : IsHeld run.words run.held → (s : Side) → (r : Refusal) → Refuses run.words run.held s r → IsOfReport status → ⊥
   -- where a file is missing, nothing is said of the others
   pub missing : LacksFile run.words run.held → (status ≡ 6) ⊎ ((status ≡ 7) ⊎ (status ≡ 8))
   -- a read that failed is told, unless a write fails too or memory is refused; a write to out that failed is told always

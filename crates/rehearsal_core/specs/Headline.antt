@@ -1,7 +1,7 @@
 -- The headline: what each status of a verdict promises of a manifest, over every file tree and all orders that its graph allows.
 use Rattle.std.specs.Prelude.{◌≡◌, ◌⊎◌, ℕ, List}
 use Rattle.fs_semantics.specs.Programs.{Program}
-use Rattle.orders.specs.Relation.{Comes}
+use Rattle.orders.specs.Relation.{Relation, Comes}
 use Rattle.catalog_semantics.specs.Catalogs.{Catalog}
 use Rattle.dep_graph.specs.declared.answer.Graph.{Graph}
 use Rattle.judgement.specs.First.{IsPrunedCount}
@@ -18,6 +18,10 @@ use Rattle.verdict_report.specs.Told.{IsSure, IsDifferent, IsChanged, IsUnanswer
 use Rattle.repair_report.specs.Told as repairs
 use Rattle.repair_report.specs.Told.{TellsArrows}
 use Rattle.entry_report.specs.Told.{TellsEnsured, TellsMissed, TellsSpent}
+use Rattle.equal_report.specs.Told as comparison
+use Rattle.equal_report.specs.Told.{OneDiffers, OneIsUnanswered, TellsEqual, TellsUnequal}
+use Rattle.reports.specs.Comparisons as comparisons
+use Rattle.reports.specs.Comparisons.{AreModelled, other_names_of}
 use Rattle.known_inputs.specs.Inputs.{wanted_of}
 use Rattle.rehearsal_core.specs.declared.inputs.Loaded.{Loaded}
 use Rattle.rehearsal_core.specs.Inputs.{Requests, IsLoaded}
@@ -43,6 +47,10 @@ AsksForEntry run = (request : Request) × Requests run.words request × (request
 -- the words ask for a repair
 abbrev pub AsksForRepair : Run → Type 0
 AsksForRepair run = (request : Request) × Requests run.words request × (request.ask ≡ ask.Repair)
+
+-- the words ask whether two manifests do the same
+abbrev pub AsksForComparison : Run → Type 0
+AsksForComparison run = (request : Request) × Requests run.words request × (request.ask ≡ ask.Equal)
 
 -- What is asked about. The words ask so; the files that they name, or the workload, say what is known beside the manifest, and give
 -- the manifest this catalog, the catalog this graph, and its resources these programs.
@@ -142,13 +150,65 @@ pub record SpendsOnRepair (run : Run) : Type 0 where
   pub unrepaired : repairs.TellsSpent of.request.conflicts of.programs of.graph.order report
   pub written : Appends report.text run.out
 
--- What each status promises. 1 comes of a verdict or an entry that is wanted, 2 of a verdict, 3 of these and of a repair, 9 of an
--- entry; other questions have no other status than 0.
+-- What is compared. The words ask so; the files that they name say what is known beside both manifests, and give each its catalog, its
+-- graph and its programs.
+pub record IsCompared (run : Run) : Type 0 where
+  pub request : Request
+  pub made : Requests run.words request
+  pub asked : request.ask ≡ ask.Equal
+  pub loaded : Loaded
+  pub stands : IsLoaded run.held request loaded
+  pub of : AreModelled loaded.inputs
+
+-- what is told of both
+abbrev pub OfBoth : {run : Run} → IsCompared run → (List Program → Relation → List Program → Relation → Type 0) → Type 0
+OfBoth c told = told c.of.programs c.of.graph.order c.of.other_programs c.of.other_graph.order
+
+-- the same, with the references of their resources
+abbrev pub OfBothNamed : {run : Run} → IsCompared run → (List (List ℕ) → List Program → Relation → List (List ℕ) → List Program → Relation → Type 0) → Type 0
+OfBothNamed c told = told (comparisons.names_of c.of) c.of.programs c.of.graph.order (other_names_of c.of) c.of.other_programs c.of.other_graph.order
+
+-- Status 0 of a comparison: both graphs are deterministic, and from every file tree all allowed orders of both end in one same tree
+-- or all in error.
+pub record DoTheSame (run : Run) : Type 0 where
+  pub compared : IsCompared run
+  pub report : Report
+  pub equal : OfBoth compared (λ es order fs other. TellsEqual es order fs other report)
+  pub written : Appends report.text run.out
+
+-- Status 10: both graphs are deterministic, but from the tree that is told an order that the left one allows and an order that the
+-- right one allows have the outcomes that are told, and these differ.
+pub record DoOtherwise (run : Run) : Type 0 where
+  pub compared : IsCompared run
+  pub report : Report
+  pub unequal : OfBothNamed compared (λ names es order others fs other. TellsUnequal names es order others fs other report)
+  pub written : Appends report.text run.out
+
+-- Status 1 of a comparison: from the tree that is told two orders that one of the graphs allows have the outcomes that are told, and
+-- these differ; and a `deterministic` ahead of them is true of the left one.
+pub record OneDependsOnOrder (run : Run) : Type 0 where
+  pub compared : IsCompared run
+  pub report : Report
+  pub differs : OfBothNamed compared (λ names es order others fs other. OneDiffers names es order others fs other report)
+  pub written : Appends report.text run.out
+
+-- Status 3 of a comparison: the conflicts that the words give were spent on whether one of the graphs is deterministic, or whether
+-- both do the same, and what is told ahead of it is true.
+pub record SpendsOnComparison (run : Run) : Type 0 where
+  pub compared : IsCompared run
+  pub report : Report
+  pub unanswered : OfBoth compared (λ es order fs other. OneIsUnanswered compared.request.conflicts es order fs other report ⊎ comparison.TellsSpent compared.request.conflicts es order fs other report)
+  pub written : Appends report.text run.out
+
+-- What each status promises. 1 comes of a verdict, an entry that is wanted or a comparison, 2 of a verdict, 3 of these and of a
+-- repair, 9 of an entry, 10 of a comparison; other questions have no other status than 0.
 pub record Headline (run : Run) (status : ℕ) : Type 0 where
   pub well : AsksForVerdict run → status ≡ 0 → IsWell run
-  pub depends : status ≡ 1 → DependsOnOrder run
+  pub depends : status ≡ 1 → DependsOnOrder run ⊎ OneDependsOnOrder run
   pub changes : status ≡ 2 → ChangesAgain run
-  pub spends : status ≡ 3 → SpendsConflicts run ⊎ (SpendsOnRepair run ⊎ SpendsOnEntry run)
+  pub spends : status ≡ 3 → SpendsConflicts run ⊎ (SpendsOnRepair run ⊎ (SpendsOnEntry run ⊎ SpendsOnComparison run))
   pub mended : AsksForRepair run → status ≡ 0 → IsMended run
   pub leaves : AsksForEntry run → status ≡ 0 → LeavesEntry run
   pub misses : status ≡ 9 → MissesEntry run
+  pub equal : AsksForComparison run → status ≡ 0 → DoTheSame run
+  pub unequal : status ≡ 10 → DoOtherwise run

@@ -22,6 +22,9 @@ use Rattle.reports.specs.declared.question.Question.TheVariants as question
 use Rattle.reports.specs.Stages.{CatalogRefusal, GraphRefusal}
 use Rattle.reports.specs.Reports.{IsCatalogReport, IsGraphReport}
 use Rattle.reports.specs.Questions.{IsReport, ReportRefusal}
+use Rattle.reports.specs.declared.sides.Side.{Side}
+use Rattle.reports.specs.Sides.{OfInput}
+use Rattle.reports.specs.Comparisons.{IsComparison, ComparisonRefusal}
 use Rattle.rehearsal_core.specs.Verified.{AreVerified, BreaksProofRule}
 use Rattle.rehearsal_core.specs.Migrated.{IsMigrated, BreaksListingRule}
 
@@ -79,27 +82,29 @@ IsAnswerTo ask.Check conflicts i report = IsPrinted (AreVerified (input_of i)) r
 IsAnswerTo ask.Migrate conflicts i report = IsPrinted (IsMigrated (input_of i)) report
 IsAnswerTo ask.Repair conflicts i report = IsReport (question.Repair conflicts) i report
 IsAnswerTo ask.Ensures conflicts i report = IsReport (question.Ensures conflicts) i report
+IsAnswerTo ask.Equal conflicts i report = IsComparison conflicts i report
 
 -- what may be said of what was loaded
 abbrev pub IsAnswer : Loaded → Report → Type 0
 IsAnswer l report = IsAnswerTo l.ask l.conflicts l.inputs report
 
--- the first rule that the files break
-abbrev pub BreaksFor : Ask → Option ℕ → Inputs → Refusal → Type 0
-BreaksFor ask.Verify conflicts i r = ReportRefusal (question.Verdict form.Lines conflicts) i r
-BreaksFor ask.Proof conflicts i r = ReportRefusal (question.Verdict form.Proofs conflicts) i r
-BreaksFor ask.Catalog conflicts i r = CatalogRefusal i r
-BreaksFor ask.Graph conflicts i r = GraphRefusal i r
-BreaksFor ask.Programs conflicts i r = ReportRefusal question.Programs i r
-BreaksFor ask.Replay conflicts i r = ReportRefusal question.Replay i r
-BreaksFor ask.Check conflicts i r = BreaksProofRule (input_of i) r
-BreaksFor ask.Migrate conflicts i r = BreaksListingRule (input_of i) r
-BreaksFor ask.Repair conflicts i r = ReportRefusal (question.Repair conflicts) i r
-BreaksFor ask.Ensures conflicts i r = ReportRefusal (question.Ensures conflicts) i r
+-- the first rule that the files break, and which manifest does
+abbrev pub BreaksFor : Ask → Option ℕ → Inputs → Side → Refusal → Type 0
+BreaksFor ask.Verify conflicts i s r = OfInput (ReportRefusal (question.Verdict form.Lines conflicts) i) s r
+BreaksFor ask.Proof conflicts i s r = OfInput (ReportRefusal (question.Verdict form.Proofs conflicts) i) s r
+BreaksFor ask.Catalog conflicts i s r = OfInput (CatalogRefusal i) s r
+BreaksFor ask.Graph conflicts i s r = OfInput (GraphRefusal i) s r
+BreaksFor ask.Programs conflicts i s r = OfInput (ReportRefusal question.Programs i) s r
+BreaksFor ask.Replay conflicts i s r = OfInput (ReportRefusal question.Replay i) s r
+BreaksFor ask.Check conflicts i s r = OfInput (BreaksProofRule (input_of i)) s r
+BreaksFor ask.Migrate conflicts i s r = OfInput (BreaksListingRule (input_of i)) s r
+BreaksFor ask.Repair conflicts i s r = OfInput (ReportRefusal (question.Repair conflicts) i) s r
+BreaksFor ask.Ensures conflicts i s r = OfInput (ReportRefusal (question.Ensures conflicts) i) s r
+BreaksFor ask.Equal conflicts i s r = ComparisonRefusal i s r
 
 -- the first rule that what was loaded breaks
-abbrev pub Breaks : Loaded → Refusal → Type 0
-Breaks l r = BreaksFor l.ask l.conflicts l.inputs r
+abbrev pub Breaks : Loaded → Side → Refusal → Type 0
+Breaks l s r = BreaksFor l.ask l.conflicts l.inputs s r
 
 -- a report on the request
 pub record ReportsOn (request : Request) (held : Held) (report : Report) : Type 0 where
@@ -108,14 +113,14 @@ pub record ReportsOn (request : Request) (held : Held) (report : Report) : Type 
   pub says : IsAnswer loaded report
 
 -- the files of the request, of which none is missing or too long, break a rule
-pub record BreaksAt (request : Request) (held : Held) (r : Refusal) : Type 0 where
+pub record BreaksAt (request : Request) (held : Held) (s : Side) (r : Refusal) : Type 0 where
   pub loaded : Loaded
   pub stands : IsLoaded held request loaded
-  pub breaks : Breaks loaded r
+  pub breaks : Breaks loaded s r
 
 -- the first refusal of the request: no file is missing but one is too long, or else they break a rule
-abbrev pub RefusesAt : Request → Held → Refusal → Type 0
-RefusesAt request held r = (NoneMissing held (files_of request) × FirstTooLong held request.ask (files_of request) r) ⊎ BreaksAt request held r
+abbrev pub RefusesAt : Request → Held → Side → Refusal → Type 0
+RefusesAt request held s r = (NoneMissing held (files_of request) × OfInput (FirstTooLong held request.ask (files_of request)) s r) ⊎ BreaksAt request held s r
 
 -- the same of the request that the words make
 pub record Reports (words : List (String Global)) (held : Held) (report : Report) : Type 0 where
@@ -124,10 +129,10 @@ pub record Reports (words : List (String Global)) (held : Held) (report : Report
   pub on : ReportsOn request held report
 
 -- the first refusal of the request that the words make
-pub record Refuses (words : List (String Global)) (held : Held) (r : Refusal) : Type 0 where
+pub record Refuses (words : List (String Global)) (held : Held) (s : Side) (r : Refusal) : Type 0 where
   pub request : Request
   pub made : Requests words request
-  pub cause : RefusesAt request held r
+  pub cause : RefusesAt request held s r
 
 -- the first file that couldn't be read, of the request that the words make
 pub record FailsToRead (words : List (String Global)) (held : Held) (before now : ℕ) (name : List ℕ) : Type 0 where

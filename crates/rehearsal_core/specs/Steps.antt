@@ -1,12 +1,12 @@
 -- From the words to the status, step by step.
 use Rattle.std.specs.Prelude.{◌≡◌, ◌≢◌, ◌⊎◌, ℕ, List, String, Result, Ok, Err}
 use Rattle.std.specs.declared.alloc.Global.{Global}
-use Rattle.rh_base.specs.declared.fault.Fault.{Fault}
-use Rattle.rh_base.specs.declared.fault.Fault.TheVariants.{Refused, Memory}
 use Rattle.rh_base.specs.Shelf.{Held}
 use Rattle.command_line.specs.declared.request.Request.{Request}
 use Rattle.command_line.specs.declared.request.Source.TheVariants as source
 use Rattle.request_files.specs.Files.{FirstFailed}
+use Rattle.reports.specs.declared.sides.Untold.{Untold}
+use Rattle.reports.specs.declared.sides.Untold.TheVariants as untold
 use Rattle.verdict_report.specs.declared.report.Report.{Report}
 use Rattle.rehearsal_core.specs.declared.inputs.Names.{Names}
 use Rattle.rehearsal_core.specs.declared.run.Ending.{Ending}
@@ -22,15 +22,15 @@ abbrev pub request_about : Names → Request
 request_about n = record { ask = n.ask; node = n.node; conflicts = n.conflicts; wanted = n.wanted; source = source.Files n.files }
 
 -- what there is to say of an answer
-abbrev pub concluded : Result Report Fault → Ending
+abbrev pub concluded : Result Report Untold → Ending
 concluded (Ok report) = ending.Report report
-concluded (Err (Refused r)) = ending.Refused r
-concluded (Err (Memory m)) = ending.Memory
+concluded (Err (untold.Refused s r)) = ending.Refused s r
+concluded (Err (untold.Memory m)) = ending.Memory
 
 -- What there is to say of a request, and what it takes. Only a failed read raises the shelf's count of faults.
 abbrev pub SaysOf : Request → Held → ℕ → ℕ → Ending → Type 0
 SaysOf request held before now (ending.Report report) = (now ≡ before) × ReportsOn request held report
-SaysOf request held before now (ending.Refused r) = (now ≡ before) × RefusesAt request held r
+SaysOf request held before now (ending.Refused s r) = (now ≡ before) × RefusesAt request held s r
 SaysOf request held before now ending.BadWords = ⊥
 SaysOf request held before now (ending.ReadFault name) = FirstFailed held before now (files_of request) name
 SaysOf request held before now ending.Memory = now ≡ before
@@ -38,7 +38,7 @@ SaysOf request held before now ending.Memory = now ≡ before
 -- what there is to say, and what it takes
 abbrev pub Says : List (String Global) → Held → ℕ → ℕ → Ending → Type 0
 Says words held before now (ending.Report report) = (now ≡ before) × Reports words held report
-Says words held before now (ending.Refused r) = (now ≡ before) × Refuses words held r
+Says words held before now (ending.Refused s r) = (now ≡ before) × Refuses words held s r
 Says words held before now ending.BadWords = (now ≡ before) × RequestsNone words
 Says words held before now (ending.ReadFault name) = FailsToRead words held before now name
 Says words held before now ending.Memory = now ≡ before

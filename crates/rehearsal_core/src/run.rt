@@ -1,12 +1,16 @@
 //! One run of the program: from the words to the status.
 
-ghost use Rattle.std.specs.Prelude.{◌≡◌, ◌<◌, ◌^◌, length, IfOk, IfErr};
+ghost use Rattle.std.specs.Prelude.{◌≡◌, ◌≢◌, ◌↔◌, ◌<◌, ◌^◌, length, IsTrue, IfOk, IfErr};
 ghost use Rattle.rh_base.specs.Refused.{IfRefused};
 ghost use Rattle.rehearsal_core.specs.Verified.{AreVerified, BreaksProofRule};
 ghost use Rattle.rehearsal_core.specs.Migrated.{IsMigrated, BreaksListingRule};
 ghost use Rattle.rehearsal_core.specs.Inputs.{IsPrinted, IsAnswer, IsAnswerTo, Breaks, BreaksFor, workload_inputs};
 ghost use Rattle.known_inputs.specs.Inputs.{input_of};
 ghost use Rattle.request_files.specs.Files.{AreShort};
+ghost use Rattle.command_line.specs.declared.table.Ask.TheVariants.{Equal};
+ghost use Rattle.reports.specs.declared.sides.Side.TheVariants.{Input};
+ghost use Rattle.reports.specs.Sides.{IfUntold};
+ghost use Rattle.reports.specs.Comparisons.{other_inputs};
 ghost use Rattle.rehearsal_core.specs.Runs.{put_of, run_of};
 ghost use Rattle.rehearsal_core.specs.Headline.{Headline};
 ghost use Rattle.rehearsal_core.specs.Answers.{Tells, Owes};
@@ -20,7 +24,10 @@ use crate::workloads::workload_inputs;
 use command_line::{Ask, Request, Size, Source, WordsFault, one_request, read_request};
 use known_inputs::Inputs;
 use proof_check::{accepted_logs_have_no_fault, one_list_of_proofs};
-use reports::{Question, catalog_report, graph_report, report_on, reports_exclude_refusals};
+use reports::{
+    Question, Side, Untold, catalog_report, comparison_on, graph_report, report_on,
+    reports_exclude_refusals,
+};
 use request_files::{FilesFault, read_files};
 use rh_base::{Fault, Refusal, Shelf, Sink, Text};
 use std::alloc::Global;
@@ -30,7 +37,7 @@ use verdict_report::{Form, Report, printed};
 #[derive(Drop)]
 pub enum Ending {
     Report(Report),
-    Refused(Refusal),
+    Refused(Side, Refusal),
     BadWords,
     ReadFault(Text),
     Memory,
@@ -56,11 +63,17 @@ fn listed(alloc: Global, inputs: &Inputs) -> Result<Report, Fault>
     Ok(printed(told))
 }
 
-/// What is said of the files of a request, or the first rule that they break.
-fn answer(alloc: Global, ask: Ask, conflicts: Option<u64>, inputs: &Inputs) -> Result<Report, Fault>
-    requires { length (input_of inputs.now) < 2 ^ 32 }
+/// What is said of one manifest, or of a text that is none, or the first rule that it breaks.
+fn answer_one(
+    alloc: Global,
+    ask: Ask,
+    conflicts: Option<u64>,
+    inputs: &Inputs,
+) -> Result<Report, Fault>
+    requires one { ask ≢ Equal }
+    requires small { length (input_of inputs.now) < 2 ^ 32 }
     ensures report { IfOk result (IsAnswerTo ask conflicts inputs.now) }
-    ensures refused { IfErr result (λ e. IfRefused e (BreaksFor ask conflicts inputs.now)) }
+    ensures refused { IfErr result (λ e. IfRefused e (BreaksFor ask conflicts inputs.now Input)) }
 {
     match ask {
         Ask::Verify => report_on(alloc, Question::Verdict(Form::Lines, conflicts), inputs),
@@ -73,15 +86,48 @@ fn answer(alloc: Global, ask: Ask, conflicts: Option<u64>, inputs: &Inputs) -> R
         Ask::Migrate => listed(alloc, inputs),
         Ask::Repair => report_on(alloc, Question::Repair(conflicts), inputs),
         Ask::Ensures => report_on(alloc, Question::Ensures(conflicts), inputs),
+        Ask::Equal => unreachable!(),
     }
 }
 
+/// Whether two manifests are to be compared.
+fn is_equal(ask: Ask) -> bool
+    ensures { IsTrue result ↔ (ask ≡ Equal) }
+{
+    match ask {
+        Ask::Equal => true,
+        Ask::Verify | Ask::Proof | Ask::Repair | Ask::Ensures => false,
+        Ask::Catalog | Ask::Graph | Ask::Programs | Ask::Replay => false,
+        Ask::Check | Ask::Migrate => false,
+    }
+}
+
+/// What is said of the files of a request, or the first rule that they break.
+fn answer(
+    alloc: Global,
+    ask: Ask,
+    conflicts: Option<u64>,
+    inputs: &Inputs,
+) -> Result<Report, Untold>
+    requires small { length (input_of inputs.now) < 2 ^ 32 }
+    requires other_small { length (input_of (other_inputs inputs.now)) < 2 ^ 32 }
+    ensures report { IfOk result (IsAnswerTo ask conflicts inputs.now) }
+    ensures refused { IfErr result (λ e. IfUntold e (BreaksFor ask conflicts inputs.now)) }
+{
+    let compares = is_equal(ask);
+    if compares {
+        return comparison_on(alloc, conflicts, inputs);
+    }
+    let report = answer_one(alloc, ask, conflicts, inputs)?;
+    Ok(report)
+}
+
 /// What is said of a request with the bytes of its files.
-#[tactic(auto, using(crate::proofs::LoadLaws::input_is_short))]
-fn answer_read(alloc: Global, loaded: Loaded) -> Result<Report, Fault>
+#[tactic(auto, using(crate::proofs::LoadLaws::input_is_short, crate::proofs::LoadLaws::other_is_short))]
+fn answer_read(alloc: Global, loaded: Loaded) -> Result<Report, Untold>
     requires { AreShort loaded.inputs.files }
     ensures report { IfOk result (IsAnswer loaded) }
-    ensures refused { IfErr result (λ e. IfRefused e (Breaks loaded)) }
+    ensures refused { IfErr result (λ e. IfUntold e (Breaks loaded)) }
 {
     answer(alloc, loaded.ask, loaded.conflicts, &loaded.inputs)
 }
@@ -92,22 +138,22 @@ fn answer_workload(
     ask: Ask,
     conflicts: Option<u64>,
     size: &Size,
-) -> Result<Report, Fault>
+) -> Result<Report, Untold>
     ensures report { IfOk result (IsAnswerTo ask conflicts (workload_inputs size.now)) }
-    ensures refused { IfErr result (λ e. IfRefused e (BreaksFor ask conflicts (workload_inputs size.now))) }
+    ensures refused { IfErr result (λ e. IfUntold e (BreaksFor ask conflicts (workload_inputs size.now))) }
 {
     let inputs = workload_inputs(alloc, size)?;
     answer(alloc, ask, conflicts, &inputs)
 }
 
 /// What there is to say of an answer.
-fn concluded(said: Result<Report, Fault>) -> Ending
+fn concluded(said: Result<Report, Untold>) -> Ending
     ensures { result ≡ concluded said }
 {
     match said {
         Ok(report) => Ending::Report(report),
-        Err(Fault::Refused(refusal)) => Ending::Refused(refusal),
-        Err(Fault::Memory(_)) => Ending::Memory,
+        Err(Untold::Refused(side, refusal)) => Ending::Refused(side, refusal),
+        Err(Untold::Memory(_)) => Ending::Memory,
     }
 }
 
@@ -137,7 +183,7 @@ fn read<S: Shelf>(alloc: Global, names: Names, shelf: &mut S) -> Ending
             };
             concluded(answer_read(alloc, loaded))
         },
-        Err(FilesFault::Long(refusal)) => Ending::Refused(refusal),
+        Err(FilesFault::Long(refusal)) => Ending::Refused(Side::Input, refusal),
         Err(FilesFault::Failed(name)) => Ending::ReadFault(name),
         Err(FilesFault::Memory(_)) => Ending::Memory,
     }
@@ -197,7 +243,7 @@ fn answered<S: Shelf, O: Sink, E: Sink>(
     one_request();
     match decide(alloc, words, shelf) {
         Ending::Report(report) => write_report(&report, out, err),
-        Ending::Refused(refusal) => tell_refusal(alloc, &refusal, err),
+        Ending::Refused(side, refusal) => tell_refusal(alloc, side, &refusal, err),
         Ending::BadWords => tell_usage(err),
         Ending::ReadFault(name) => tell_read_fault(alloc, &name, err),
         Ending::Memory => out_of_memory(err),

@@ -3,11 +3,12 @@
 ghost use Rattle.std.specs.Prelude.{◌≡◌, IfOk};
 ghost use Rattle.command_line.specs.Table.{usage_line};
 ghost use Rattle.rehearsal_core.specs.Runs.{put_of, AppendsFront};
-ghost use Rattle.rehearsal_core.specs.Answers.{refusal_line, read_fault_line, write_fault_line, memory_line};
+ghost use Rattle.rehearsal_core.specs.Answers.{in_other, refusal_line, read_fault_line, write_fault_line, memory_line};
 ghost use Rattle.rehearsal_core.specs.Steps.{TellsLine, TellsReport};
 
 use command_line::usage_line;
 use printed_names::printed;
+use reports::Side;
 use rh_base::{NoMemory, Refusal, Sink, SinkFault, Text};
 use std::alloc::Global;
 use verdict_report::Report;
@@ -61,14 +62,25 @@ pub fn write_report<O: Sink, E: Sink>(report: &Report, out: &mut O, err: &mut E)
     }
 }
 
-fn refusal_line(alloc: Global, r: &Refusal) -> Result<Text, NoMemory>
-    ensures { IfOk result (λ line. line ≡ refusal_line r.now) }
+/// How a refusal of the other manifest is told apart.
+fn in_other(side: Side) -> &'static str
+    ensures { result.now ≡ in_other side }
 {
+    match side {
+        Side::Input => "",
+        Side::Other => " in other",
+    }
+}
+
+fn refusal_line(alloc: Global, side: Side, r: &Refusal) -> Result<Text, NoMemory>
+    ensures { IfOk result (λ line. line ≡ refusal_line side r.now) }
+{
+    let which = in_other(side);
     let shown = printed(alloc, r.name.as_str())?;
     let name = shown.as_str();
     let number = r.number;
     let at = r.at;
-    Ok(Text::from_string(format!(in alloc; "refused {number} at {at}: {name}\n")?))
+    Ok(Text::from_string(format!(in alloc; "refused {number} at {at}{which}: {name}\n")?))
 }
 
 fn read_fault_line(alloc: Global, name: &Text) -> Result<Text, NoMemory>
@@ -80,10 +92,10 @@ fn read_fault_line(alloc: Global, name: &Text) -> Result<Text, NoMemory>
 }
 
 /// Tells a refusal.
-pub fn tell_refusal<E: Sink>(alloc: Global, refusal: &Refusal, err: &mut E) -> u8
-    ensures { TellsLine 4 (refusal_line refusal.now) (put_of E.written E.faults err.old err.new) result }
+pub fn tell_refusal<E: Sink>(alloc: Global, side: Side, refusal: &Refusal, err: &mut E) -> u8
+    ensures { TellsLine 4 (refusal_line side refusal.now) (put_of E.written E.faults err.old err.new) result }
 {
-    match refusal_line(alloc, refusal) {
+    match refusal_line(alloc, side, refusal) {
         Ok(line) => tell(err, 4, line.as_str().as_bytes()),
         Err(_) => out_of_memory(err),
     }

@@ -14,6 +14,8 @@ mod differences;
 #[cfg(test)]
 mod entries;
 #[cfg(test)]
+mod equal;
+#[cfg(test)]
 mod faults;
 #[cfg(test)]
 mod hostile;

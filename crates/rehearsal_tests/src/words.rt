@@ -4,7 +4,7 @@ use crate::common::{NONE, compare, run};
 use std::test::Fail;
 
 const USAGE: &str =
-    "usage: rehearsal [--facts F] [--packages P] [--node N] [--conflicts C] [--ask A] [--tree T] [--order O] [--workload N] [--path P] [--content T] [--data D] [INPUT]\n";
+    "usage: rehearsal [--facts F] [--packages P] [--node N] [--conflicts C] [--ask A] [--tree T] [--order O] [--workload N] [--path P] [--content T] [--other M] [--data D] [INPUT]\n";
 
 #[test]
 fn words_that_ask_to_verify(rt: HostRuntime) -> Result<(), Fail> {
@@ -27,7 +27,7 @@ fn words_that_ask_to_verify(rt: HostRuntime) -> Result<(), Fail> {
 
 #[test]
 fn words_that_are_refused(rt: HostRuntime) -> Result<(), Fail> {
-    let rows: [&[&str]; 40] = [
+    let rows: [&[&str]; 46] = [
         &[],
         &["site.pp", "site.pp"],
         &["--help"],
@@ -68,6 +68,16 @@ fn words_that_are_refused(rt: HostRuntime) -> Result<(), Fail> {
         &["--ask", "repair"],
         &["--ask", "repair", "--workload", "5"],
         &["--ask", "repair", "--tree", "t", "site.pp"],
+        &["--other", "old.pp", "site.pp"],
+        &["--ask", "equal", "site.pp"],
+        &["--ask", "equal", "--other", "old.pp"],
+        &[
+            "--ask", "equal", "--other", "old.pp", "--tree", "t", "site.pp",
+        ],
+        &[
+            "--ask", "equal", "--other", "old.pp", "--path", "/a", "site.pp",
+        ],
+        &["--ask", "equal", "--other", "old.pp", "--workload", "5"],
     ];
     for words in rows {
         let told = run(rt.alloc(), words, b"")?;

@@ -6,3 +6,4 @@ pub mod LineLaws
 pub mod QuestionLaws
 pub mod SameOrders
 pub mod OneAnswer
+pub mod ComparisonLaws

@@ -1,5 +1,5 @@
 -- Inputs have one catalog, one graph, one list of programs and one size. So a report excludes a refusal.
-use Rattle.std.proofs.Common.{◌≡◌, inl, inr, ℕ, Bool, List, [], ◌∷◌, ◌++◌, Result, Ok, Err, sym, ap, subst, ◌∙◌, arith}
+use Rattle.std.proofs.Common.{◌≡◌, inl, inr, ℕ, Bool, List, [], ◌∷◌, ◌++◌, Option, Result, Ok, Err, sym, ap, subst, subst₂, ◌∙◌, arith}
 use Rattle.rh_base.specs.declared.fault.Refusal.{Refusal}
 use Rattle.fs_semantics.specs.Programs.{Program}
 use Rattle.orders.specs.Relation.{comes}
@@ -26,6 +26,10 @@ use Rattle.reports.specs.declared.question.Question.{Question}
 use Rattle.reports.specs.declared.question.Question.TheVariants as question
 use Rattle.reports.specs.Stages.{node_name, IsCompiled, IsPlanned, IsModelled, programs_in, CatalogRefusal, GraphRefusal, ProgramsRefusal}
 use Rattle.reports.specs.Questions.{IsToldOf, HasNoAnswer, IsReport, ReportRefusal}
+use Rattle.equal_graphs.specs.Sizes.{AreWithin, IsTooLargeTogether}
+use Rattle.reports.specs.declared.sides.Side.{Side}
+use Rattle.reports.specs.declared.sides.Side.TheVariants as side
+use Rattle.reports.specs.Comparisons.{other_inputs, AreModelled, IsComparison, ComparisonRefusal}
 use Rattle.reports.proofs.SameOrders.{OnePair, same_order_for}
 
 -- ---- what is known of each stage
@@ -155,3 +159,26 @@ module _ (known : OneKnown) (unread : NoneUnread) (manifests : OneManifest) (sou
       no_report_refusal q i report r is (ReportRefusal.before_answer first) = no_programs_refusal i is.known is.catalog is.graph is.programs r is.modelled first
       no_report_refusal q i report r is (ReportRefusal.no_answer m d h fs was none) =
           told_or_not q i is.known m is.catalog d is.graph h is.programs fs report r is.modelled was is.told none
+
+      -- ---- one answer of two manifests
+
+      not_too_large_together : (es fs : List Program) (r : Refusal) → AreWithin es fs → IsTooLargeTogether es fs r → ⊥
+      not_too_large_together es fs r within (inl wide) = not_many (es ++ fs) within.joined wide.0
+      not_too_large_together es fs r within (inr large) = elim large.1 [
+        | inl left ↦ not_too_large es r within.left_paths within.left_weight left
+        | inr right ↦ not_too_large fs r within.right_paths within.right_weight right.2
+      ]
+
+      same_within : (i : Inputs) (m n : AreModelled i) → AreWithin m.programs m.other_programs → AreWithin n.programs n.other_programs
+      same_within i m n within =
+          let left = one_programs i m.known n.known m.catalog n.catalog m.graph n.graph m.programs n.programs m.modelled n.modelled in
+          let right = one_programs (other_inputs i) m.known n.known m.other_catalog n.other_catalog m.other_graph n.other_graph m.other_programs n.other_programs m.other_modelled n.other_modelled in
+          subst₂ (λ (es : List Program) (fs : List Program). AreWithin es fs) left right within
+
+      pub no_comparison_refusal : (given : Option ℕ) (i : Inputs) (report : Report) (s : Side) (r : Refusal) → IsComparison given i report → ComparisonRefusal i s r → ⊥
+      no_comparison_refusal given i report side.Input r is (inl first) =
+          no_programs_refusal i is.of.known is.of.catalog is.of.graph is.of.programs r is.of.modelled first
+      no_comparison_refusal given i report side.Input r is (inr large) =
+          not_too_large_together large.of.programs large.of.other_programs r (same_within i is.of large.of is.told.within) large.too_large
+      no_comparison_refusal given i report side.Other r is refused =
+          no_programs_refusal (other_inputs i) is.of.known is.of.other_catalog is.of.other_graph is.of.other_programs r is.of.other_modelled refused.refused

@@ -12,7 +12,7 @@ use rh_base::{Fault, Text};
 use std::alloc::Global;
 
 /// The node's name; it is empty where none is given.
-fn node_name(node: &Option<Text>) -> &str
+pub(crate) fn node_name(node: &Option<Text>) -> &str
     ensures { result.now ≡ node_name node.now }
 {
     match node {

@@ -1,9 +1,10 @@
-//! Reports on a manifest: its catalog, its graph, what its resources do, the verdict on them, and the arrows that
-//! they lack.
+//! Reports on a manifest: its catalog, its graph, what its resources do, the verdict on them, the arrows that
+//! they lack, and whether another manifest does the same.
 #![tactic(auto)]
 
 mod bytes;
 mod catalogs;
+mod comparisons;
 mod compiling;
 mod entries;
 mod graphs;
@@ -12,11 +13,14 @@ mod programs;
 mod question;
 mod repairs;
 mod replays;
+mod sides;
 mod stages;
 mod verdicts;
 
 pub use catalogs::catalog_report;
+pub use comparisons::comparison_on;
 pub use graphs::graph_report;
 pub use laws::reports_exclude_refusals;
 pub use question::Question;
+pub use sides::{Side, Untold};
 pub use stages::report_on;

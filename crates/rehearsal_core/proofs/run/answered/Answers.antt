@@ -6,7 +6,7 @@ pub returns-in-Report : goal.returns-in-Report
 returns-in-Report g c = report_ends _ _ c.in-Report.report c.in-Report.ensures.says.1 c.in-Report.ensures.says.0 c.write_report.ensures
 
 pub returns-in-Refused : goal.returns-in-Refused
-returns-in-Refused g c = refusal_ends _ _ c.in-Refused.refusal c.in-Refused.ensures.says.1 c.in-Refused.ensures.says.0 refl refl c.tell_refusal.ensures
+returns-in-Refused g c = refusal_ends _ _ c.in-Refused.side c.in-Refused.refusal c.in-Refused.ensures.says.1 c.in-Refused.ensures.says.0 refl refl c.tell_refusal.ensures
 
 pub returns-in-BadWords : goal.returns-in-BadWords
 returns-in-BadWords g c = usage_ends _ _ c.in-BadWords.ensures.says.1 c.in-BadWords.ensures.says.0 refl refl c.tell_usage.ensures

@@ -10,5 +10,5 @@ returns-clause-tells g c = c.answered.ensures.tells
 
 pub returns-clause-owes : goal.returns-clause-owes
 returns-clause-owes g c =
-    owes c.reports_exclude_refusals.ensures.catalogs c.reports_exclude_refusals.ensures.graphs c.reports_exclude_refusals.ensures.programs c.one_list_of_proofs.ensures
+    owes c.reports_exclude_refusals.ensures.catalogs c.reports_exclude_refusals.ensures.graphs c.reports_exclude_refusals.ensures.programs c.reports_exclude_refusals.ensures.comparisons c.one_list_of_proofs.ensures
     c.accepted_logs_have_no_fault.ensures c.one_request.ensures _ _ c.answered.ensures

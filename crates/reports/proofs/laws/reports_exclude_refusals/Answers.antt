@@ -1,4 +1,4 @@
-use Rattle.reports.proofs.OneAnswer.{no_catalog_refusal, no_graph_refusal, no_report_refusal}
+use Rattle.reports.proofs.OneAnswer.{no_catalog_refusal, no_graph_refusal, no_report_refusal, no_comparison_refusal}
 use Rattle.reports.proofs.laws.reports_exclude_refusals.Goals as goal
 
 pub returns-clause-catalogs : goal.returns-clause-catalogs
@@ -14,4 +14,9 @@ returns-clause-graphs c i report r is refused =
 pub returns-clause-programs : goal.returns-clause-programs
 returns-clause-programs c =
     no_report_refusal c.files_say_one_thing.ensures.one c.files_say_one_thing.ensures.refusals c.one_reading.ensures.manifests c.one_reading.ensures.refusals
+    c.one_graph.ensures.refusals c.one_graph.ensures.pairs c.path_counts.ensures c.weights.ensures
+
+pub returns-clause-comparisons : goal.returns-clause-comparisons
+returns-clause-comparisons c =
+    no_comparison_refusal c.files_say_one_thing.ensures.one c.files_say_one_thing.ensures.refusals c.one_reading.ensures.manifests c.one_reading.ensures.refusals
     c.one_graph.ensures.refusals c.one_graph.ensures.pairs c.path_counts.ensures c.weights.ensures

@@ -1,0 +1,7 @@
+//! What is told of two graphs that are compared: whether they do the same.
+#![tactic(auto)]
+
+mod lines;
+mod telling;
+
+pub use telling::told;

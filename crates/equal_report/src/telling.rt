@@ -1,0 +1,177 @@
+//! What is told of two graphs that are compared.
+
+ghost use Rattle.std.specs.Prelude.{◌≡◌, ◌++◌, ◌<◌, length, map, IfOk, IfErr};
+ghost use Rattle.std.specs.List.{AllByRecursion};
+ghost use Rattle.rh_base.specs.Refused.{IfRefused};
+ghost use Rattle.fs_lang.specs.Meaning.{program_of};
+ghost use Rattle.entry_report.specs.Lines.{first_lines};
+ghost use Rattle.entry_report.specs.Steps.{IsTellableFirst};
+ghost use Rattle.equal_graphs.specs.Sizes.{IsTooLargeTogether};
+ghost use Rattle.equal_report.specs.Lines.{settled_lines, status_of, lines_of};
+ghost use Rattle.equal_report.specs.Steps.{IsTellable, IsReportOf};
+ghost use Rattle.equal_report.specs.Told.{IsComparedTold};
+
+use crate::lines::{equal_text, push_settled, spent_equal_text, unequal_text};
+use entry_report::{first_lines, first_status};
+use equal_graphs::{Compared, compare};
+use fs_lang::Program;
+use judgement::First;
+use order_places::allowed_orders;
+use orders::Order;
+use rh_base::{Fault, NoMemory, Seq, Text};
+use std::alloc::Global;
+use verdict_report::{Report, budget_of};
+use verdict_text::push_bytes;
+
+fn status_of(compared: &Compared) -> u8
+    ensures { result ≡ status_of compared.now }
+{
+    match compared {
+        Compared::Left(first) => first_status(first),
+        Compared::Right { right, .. } => first_status(right),
+        Compared::Equal { .. } => 0,
+        Compared::Differ { .. } => 10,
+        Compared::Spent { .. } => 3,
+    }
+}
+
+/// The lines where the left graph is deterministic, and the right one isn't known to be.
+fn right_lines(
+    alloc: Global,
+    n: usize,
+    pruned: u32,
+    others: &[Text],
+    right: &[Program],
+    budget: u64,
+    first: &First,
+) -> Result<Seq<u8>, NoMemory>
+    requires named { IsTellableFirst (length others.now) first.now }
+    requires places { IsTellableFirst (length right.now) first.now }
+    ensures { IfOk result (λ text. text ≡ settled_lines n pruned ++ first_lines others.now (map program_of right.now) budget first.now) }
+{
+    let rest = first_lines(alloc, others, right, budget, first)?;
+    let mut bytes = Vec::new(alloc);
+    push_settled(alloc, n, pruned, &mut bytes)?;
+    push_bytes(rest.as_slice(), &mut bytes)?;
+    Ok(Seq::from_vec(bytes))
+}
+
+/// The lines on an answer. Where two runs are told, they are in these orders.
+fn lines_of(
+    alloc: Global,
+    names: &[Text],
+    left: &[Program],
+    one: &[u32],
+    others: &[Text],
+    right: &[Program],
+    second: &[u32],
+    budget: u64,
+    compared: &Compared,
+) -> Result<Seq<u8>, NoMemory>
+    requires named { AllByRecursion (λ i. i < length names.now) one.now }
+    requires places { AllByRecursion (λ i. i < length left.now) one.now }
+    requires others_named { AllByRecursion (λ i. i < length others.now) second.now }
+    requires other_places { AllByRecursion (λ i. i < length right.now) second.now }
+    requires names_told { IsTellable (length names.now) (length others.now) compared.now }
+    requires programs_told { IsTellable (length left.now) (length right.now) compared.now }
+    ensures { IfOk result (λ text. text ≡ lines_of names.now (map program_of left.now) one.now others.now (map program_of right.now) second.now budget compared.now) }
+{
+    match compared {
+        Compared::Left(first) => first_lines(alloc, names, left, budget, first),
+        Compared::Right {
+            left: settled,
+            right: first,
+        } => right_lines(
+            alloc,
+            left.len(),
+            settled.pruned,
+            others,
+            right,
+            budget,
+            first,
+        ),
+        Compared::Equal {
+            left: l,
+            right: r,
+            ..
+        } => equal_text(alloc, left.len(), l.pruned, right.len(), r.pruned),
+        Compared::Differ {
+            left: l,
+            right: r,
+            tree,
+        } => unequal_text(
+            alloc, names, left, l.pruned, one, others, right, r.pruned, second, tree,
+        ),
+        Compared::Spent {
+            left: l,
+            right: r,
+            ..
+        } => spent_equal_text(alloc, left.len(), l.pruned, right.len(), r.pruned, budget),
+    }
+}
+
+/// An answer, as it is told.
+fn report_of(
+    alloc: Global,
+    names: &[Text],
+    left: &[Program],
+    order: &Order,
+    others: &[Text],
+    right: &[Program],
+    other: &Order,
+    budget: u64,
+    compared: &Compared,
+) -> Result<Report, NoMemory>
+    requires names { length names.now ≡ order.now.count }
+    requires left { length left.now ≡ order.now.count }
+    requires others { length others.now ≡ other.now.count }
+    requires right { length right.now ≡ other.now.count }
+    requires names_told { IsTellable (length names.now) (length others.now) compared.now }
+    requires programs_told { IsTellable (length left.now) (length right.now) compared.now }
+    ensures { IfOk result (IsReportOf names.now (map program_of left.now) order.now others.now (map program_of right.now) other.now budget compared.now) }
+{
+    let status = status_of(compared);
+    let one = order.first_extension()?;
+    let second = other.first_extension()?;
+    let text = lines_of(
+        alloc,
+        names,
+        left,
+        one.as_slice(),
+        others,
+        right,
+        second.as_slice(),
+        budget,
+        compared,
+    )?;
+    Ok(Report { status, text })
+}
+
+/// What is told of two graphs that are compared: whether they do the same. The resources of each have these names. Each question has
+/// so many conflicts, if a number is given.
+pub fn told(
+    alloc: Global,
+    given: Option<u64>,
+    names: &[Text],
+    left: &[Program],
+    order: &Order,
+    others: &[Text],
+    right: &[Program],
+    other: &Order,
+) -> Result<Report, Fault>
+    requires left { length left.now ≡ order.now.count }
+    requires names { length names.now ≡ order.now.count }
+    requires right { length right.now ≡ other.now.count }
+    requires others { length others.now ≡ other.now.count }
+    ensures told { IfOk result (IsComparedTold given names.now (map program_of left.now) order.now others.now (map program_of right.now) other.now) }
+    // It is refused exactly where the two are too large to be compared.
+    ensures refused { IfErr result (λ e. IfRefused e (IsTooLargeTogether (map program_of left.now) (map program_of right.now))) }
+{
+    allowed_orders();
+    let budget = budget_of(given);
+    let compared = compare(alloc, left, order, right, other, budget)?;
+    let report = report_of(
+        alloc, names, left, order, others, right, other, budget, &compared,
+    )?;
+    Ok(report)
+}

@@ -1,0 +1,8 @@
+use Rattle.std.proofs.lemmas.Result.{err_from_is_err_and}
+use Rattle.reports.proofs.ComparisonLaws.{unread_both}
+use Rattle.reports.proofs.comparisons.comparison_on.Goals as goal
+
+pub returns-in_err-known-clause-refused : goal.returns-in_err-known-clause-refused
+returns-in_err-known-clause-refused c =
+    let p = err_from_is_err_and c.from_residual.result c.from_residual.ensures.1 in
+    rw (p.1, p.2) (unread_both c.args.inputs.now c.in_err-known.field-0.0 c.in_err-known.ensures.refused)

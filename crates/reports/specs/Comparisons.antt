@@ -1,0 +1,76 @@
+-- What is told of two manifests that are compared, and which refusal comes first.
+use Rattle.std.specs.Prelude.{◌≡◌, ◌⊎◌, ◌<◌, ℕ, List, ◌∷◌, length, Option}
+use Rattle.std.specs.List.{AllByRecursion}
+use Rattle.rh_base.specs.declared.fault.Refusal.{Refusal}
+use Rattle.fs_semantics.specs.Programs.{Program}
+use Rattle.catalog_semantics.specs.Catalogs.{Catalog}
+use Rattle.dep_graph.specs.declared.answer.Graph.{Graph}
+use Rattle.command_line.specs.declared.table.Role.TheVariants as role
+use Rattle.known_inputs.specs.declared.inputs.Inputs.{Inputs}
+use Rattle.known_inputs.specs.declared.inputs.Known.{Known}
+use Rattle.known_inputs.specs.Inputs.{bytes_of, bytes_or_none, input_of, IsKnown}
+use Rattle.verdict_report.specs.declared.report.Report.{Report}
+use Rattle.equal_graphs.specs.Sizes.{IsTooLargeTogether}
+use Rattle.equal_report.specs.Told.{IsComparedTold}
+use Rattle.reports.specs.declared.sides.Side.{Side}
+use Rattle.reports.specs.declared.sides.Side.TheVariants as side
+use Rattle.reports.specs.Stages.{node_name, IsModelled, ProgramsRefusal}
+use Rattle.reports.specs.Questions.{names_in}
+
+-- the files of a request, with the other manifest in the place of the input
+abbrev pub other_inputs : Inputs → Inputs
+other_inputs i = record i { files = (role.Input, bytes_or_none (bytes_of role.Other i)) ∷ i.files }
+
+-- a fact of each request whose input is this text and whose node has this name, and whose files beside it say this
+abbrev pub ForText : List ℕ → List ℕ → Known → (Inputs → Type 0) → Type 0
+ForText text name k P = (i : Inputs) → text ≡ input_of i → name ≡ node_name i.node → IsKnown i k → P i
+
+-- The programs are those of the graph's resources, in their order, and these are resources of the catalog.
+pub record IsInOrder (c : Catalog) (g : Graph) (es : List Program) : Type 0 where
+  pub count : length es ≡ g.order.count
+  pub many : g.order.count ≡ length g.plain
+  pub places : AllByRecursion (λ k. k < length c.resources) g.plain
+
+-- The files beside the manifests say this, and both manifests have programs under it.
+pub record AreModelled (i : Inputs) : Type 0 where
+  pub known : Known
+  pub catalog : Catalog
+  pub graph : Graph
+  pub programs : List Program
+  pub modelled : IsModelled i known catalog graph programs
+  pub other_catalog : Catalog
+  pub other_graph : Graph
+  pub other_programs : List Program
+  pub other_modelled : IsModelled (other_inputs i) known other_catalog other_graph other_programs
+
+-- the references of the resources of both
+abbrev pub names_of : {i : Inputs} → AreModelled i → List (List ℕ)
+names_of m = names_in m.catalog m.graph.plain
+
+abbrev pub other_names_of : {i : Inputs} → AreModelled i → List (List ℕ)
+other_names_of m = names_in m.other_catalog m.other_graph.plain
+
+-- What is told of both.
+pub record IsComparison (given : Option ℕ) (i : Inputs) (report : Report) : Type 0 where
+  pub of : AreModelled i
+  pub told : IsComparedTold given (names_of of) of.programs of.graph.order (other_names_of of) of.other_programs of.other_graph.order report
+
+-- the programs of both are too large to be compared
+pub record IsTooLargeFor (i : Inputs) (r : Refusal) : Type 0 where
+  pub of : AreModelled i
+  pub too_large : IsTooLargeTogether of.programs of.other_programs r
+
+-- the first manifest has programs, and this is the refusal of the other
+pub record IsRefusedInOther (i : Inputs) (r : Refusal) : Type 0 where
+  pub known : Known
+  pub catalog : Catalog
+  pub graph : Graph
+  pub programs : List Program
+  pub modelled : IsModelled i known catalog graph programs
+  pub refused : ProgramsRefusal (other_inputs i) r
+
+-- The first refusal: that of the files beside the manifests and of the input, then that of the other manifest, and then that both
+-- are too large to be compared.
+abbrev pub ComparisonRefusal : Inputs → Side → Refusal → Type 0
+ComparisonRefusal i side.Input r = ProgramsRefusal i r ⊎ IsTooLargeFor i r
+ComparisonRefusal i side.Other r = IsRefusedInOther i r
