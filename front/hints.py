@@ -11,7 +11,7 @@ READ_FAULT = re.compile(rb"^read fault: (.*?)\n?\Z", re.S)
 # More than a manifest may have.
 MOST = 1 << 20
 # The questions that are asked of a manifest, and take --node.
-OF_MANIFEST = ("verify", "proof", "catalog", "graph", "programs", "replay", "ensures", "equal", "repair")
+OF_MANIFEST = ("verify", "explain", "proof", "catalog", "graph", "programs", "replay", "ensures", "equal", "repair")
 # Refusals that come before a node's block is looked for: of files, of the text, and that no node's block fits.
 BEFORE_NODES = (17, 60, 61, 64, 10, 11, 12, 13, 14, 31)
 

@@ -34,12 +34,7 @@ fn pruned_in(judged: &Verdict) -> u32
 }
 
 /// What is told where a question's conflicts are spent.
-fn explain_spent(
-    alloc: Global,
-    head: &str,
-    asked: &Asked,
-    budget: u64,
-) -> Result<Report, NoMemory>
+fn explain_spent(alloc: Global, head: &str, asked: &Asked, budget: u64) -> Result<Report, NoMemory>
     ensures { IfOk result (λ report. report ≡ record { status = 3; text = spent_text head.now asked.now budget }) }
 {
     let text = spent_text(alloc, head, asked, budget)?;

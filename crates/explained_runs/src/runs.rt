@@ -23,7 +23,12 @@ fn fails_words(alloc: Global, names: &[Text], failed: &Failed) -> Result<Text, N
     ensures { IfOk result (λ words. words ≡ fails_words (name_at names.now failed.now.resource) (program_of failed.now.failure.construct.now) (reason_of failed.now.failure.reason)) }
 {
     let mut words = Text::new(alloc);
-    push_failure(alloc, name_at(names, failed.resource), &failed.failure, &mut words)?;
+    push_failure(
+        alloc,
+        name_at(names, failed.resource),
+        &failed.failure,
+        &mut words,
+    )?;
     Ok(words)
 }
 

@@ -33,12 +33,7 @@ fn lines_changed(
 }
 
 /// The lines of a second run, where the first began in this tree.
-fn put_together(
-    alloc: Global,
-    tree: &Tree,
-    how: &Text,
-    list: &Text,
-) -> Result<Seq<u8>, NoMemory>
+fn put_together(alloc: Global, tree: &Tree, how: &Text, list: &Text) -> Result<Seq<u8>, NoMemory>
     ensures { IfOk result (λ lines. lines ≡ again_lines tree.now how.now list.now) }
 {
     let mut bytes = Vec::new(alloc);

@@ -2,6 +2,7 @@
 
 use explained_text::push_failure;
 use failure_search::find_failure;
+use fs_replay::are_below;
 use rh_base::Text;
 use std::alloc::Global;
 use std::process::Abort;
@@ -23,8 +24,10 @@ fn told(rt: &impl Abort, alloc: Global, words: &str, tree: &str) -> Result<Text,
     let from = tree_from_json(alloc, tree.as_bytes())
         .ok()
         .expect(rt, "a tree");
-    let order = numbers(alloc, programs.len())?;
-    let found = find_failure(alloc, programs.as_slice(), &order, &from)
+    let all = programs.as_slice();
+    let order = numbers(alloc, all.len())?;
+    assert!(rt; are_below(&order, all.len()), "numbers of programs");
+    let found = find_failure(alloc, all, &order, &from)
         .ok()
         .expect(rt, "memory");
     let mut text = Text::new(alloc);

@@ -1,5 +1,6 @@
 //! Smaller trees that show the same, each row programs in words, orders, a tree and what is left of it.
 
+use fs_replay::are_below;
 use smaller_witness::{smaller_again, smaller_apart};
 use std::alloc::Global;
 use std::process::Abort;
@@ -21,6 +22,8 @@ fn left(
         .expect(rt, "a tree");
     let (first, second) = orders;
     let all = programs.as_slice();
+    assert!(rt; are_below(first, all.len()), "numbers of programs");
+    assert!(rt; are_below(second, all.len()), "numbers of programs");
     let smaller = if second.is_empty() {
         smaller_again(alloc, all, first, &from)
     } else {

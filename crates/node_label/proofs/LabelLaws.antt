@@ -136,6 +136,7 @@ has_its_node s site h = by s.classes s.defined_types s.nodes s.node_name h
         → (record { classes = classes; defined_types = types; nodes = n ∷ nodes; node_name = name } ≡ site) × (o ≡ None → n ∷ nodes ≡ [])
     block_by classes types n nodes name None h = cc
     block_by classes types n nodes name (Some b) h = (cc, (λ e. cc))
+
     by : (classes types : List Definition) (nodes : List Node) (name : List ℕ) → with_its_node (record { classes = classes; defined_types = types; nodes = nodes; node_name = name }) ≡ Ok site
         → (record { classes = classes; defined_types = types; nodes = nodes; node_name = name } ≡ site) × (node_block (record { classes = classes; defined_types = types; nodes = nodes; node_name = name }) ≡ None → nodes ≡ [])
     by classes types [] name h = (cc, (λ e. refl))
@@ -163,5 +164,5 @@ line_is m levels facts node site h =
     let adds = subst (Adds (blocks_in m.items) (no_definitions node)) its.0 (adds_all (lookup levels facts) m.items (no_definitions node) b.0 b.1) in
     let none : node_block site ≡ None → site.nodes ≡ [] = subst (λ (s : Site). node_block s ≡ None → s.nodes ≡ []) its.0 its.1 in
     let runs : Runs site.node_name site.nodes (spelled_in node m.items) =
-        subst (λ (name : List ℕ). Runs name site.nodes (spelled_in node m.items)) (sym adds.name) (subst (λ (ns : List Node). Runs node ns (spelled_in node m.items)) (sym adds.nodes) (runs_in node m.items)) in
+    subst (λ (name : List ℕ). Runs name site.nodes (spelled_in node m.items)) (sym adds.name) (subst (λ (ns : List Node). Runs node ns (spelled_in node m.items)) (sym adds.nodes) (runs_in node m.items)) in
     line_for site (spelled_in node m.items) (has_default m.items) none runs (subst (λ (ns : List Node). ByDefault ns (has_default m.items)) (sym adds.nodes) (default_in m.items))

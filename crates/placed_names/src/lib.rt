@@ -17,9 +17,7 @@ fn with_place(alloc: Global, reference: &str, place: Place) -> Result<Text, NoMe
     ensures { IfOk result (λ name. name ≡ with_place reference.now place.line place.column) }
 {
     let Place { line, column } = place;
-    Ok(Text::from_string(
-        format!(in alloc; "{reference} ({line}:{column})")?,
-    ))
+    Ok(Text::from_string(format!(in alloc; "{reference} ({line}:{column})")?))
 }
 
 fn placed_name(alloc: Global, text: &[u8], resource: &Resource) -> Result<Text, NoMemory>

@@ -71,7 +71,12 @@ fn question_name(asked: &Asked) -> &'static str
 }
 
 /// Appends that a question's conflicts are spent.
-pub fn push_spent(alloc: Global, asked: &Asked, budget: u64, into: &mut Vec<u8>) -> Result<(), NoMemory>
+pub fn push_spent(
+    alloc: Global,
+    asked: &Asked,
+    budget: u64,
+    into: &mut Vec<u8>,
+) -> Result<(), NoMemory>
     ensures { OnOk result (into.new.items ≡ into.old.items ++ spent_line asked.now budget) }
 {
     let name = question_name(asked);
