@@ -32,7 +32,7 @@ says_fails names es order t x f words last explained fails tells is = record {
   failure = f;
   fails = fails;
   reason = explained _ fails.reached fails.fails;
-  words = is ∙ ap (λ e. fails_words (name_at names x.resource) e (reason_of x.failure.reason)) tells.construct ∙ ap (λ r. fails_words (name_at names x.resource) f.construct r) tells.reason;
+  is = is ∙ ap (λ e. fails_words (name_at names x.resource) e (reason_of x.failure.reason)) tells.construct ∙ ap (λ r. fails_words (name_at names x.resource) f.construct r) tells.reason;
 }
 
 -- ---- the neighbours that are exchanged
@@ -58,7 +58,7 @@ tells_apart names es order t left right lines shown e told = record {
   second = told.second;
   list = told.list;
   differences = told.differences;
-  lines = told.lines ∙ ap (λ (p : ℕ × ℕ). apart_lines (name_at names p.0) (name_at names p.1) t told.how told.other told.list) (exchanged (Comes order) left right e);
+  are = told.are ∙ ap (λ (p : ℕ × ℕ). apart_lines (name_at names p.0) (name_at names p.1) t told.how told.other told.list) (exchanged (Comes order) left right e);
 }
 
 -- ---- a second run
@@ -75,7 +75,7 @@ tells_again names es order t after turns lines ends told shown =
       second = told.second;
       list = told.list;
       differences = told.differences;
-      lines = told.lines;
+      are = told.are;
     }
 
 pub never_again : (names : List (List ℕ)) (es : List Program) (order : Relation) (t : Tree) (turns lines : List ℕ) → outcome es turns t ≡ None
@@ -95,4 +95,4 @@ tells_from_nothing names es order first words line count tree allowed least (inl
     let long : IsLinearExtension (length es) (Comes order) first = subst (λ (n : ℕ). IsLinearExtension n (Comes order) first) (sym count) allowed in
     absurd (never (record { tree = map.empty; is_tree = tree; order = first; allowed = long; ends = some_end (outcome es first map.empty) ends.after ends.ends }))
 tells_from_nothing names es order first words line count tree allowed least (inr fails) is never =
-    record { first = first; allowed = allowed; least = least; words = words; fails = fails; line = is }
+    record { first = first; allowed = allowed; least = least; words = words; fails = fails; is = is }

@@ -21,7 +21,7 @@ pub record TellsBoth (names : List (List ℕ)) (es : List Program) (t : Tree) (l
   pub second : TellsHow names es right t other
   pub list : List ℕ
   pub differences : ListsWhere (outcome es left t) (outcome es right t) list
-  pub lines : lines ≡ apart_lines (name_at names (first_apart left right).0) (name_at names (first_apart left right).1) t how other list
+  pub are : lines ≡ apart_lines (name_at names (first_apart left right).0) (name_at names (first_apart left right).1) t how other list
 
 -- the lines on a second run, where the first began in one tree and ended in another
 pub record TellsSecond (names : List (List ℕ)) (es : List Program) (t : Tree) (turns : List ℕ) (after : Tree) (lines : List ℕ) : Type 0 where
@@ -29,4 +29,4 @@ pub record TellsSecond (names : List (List ℕ)) (es : List Program) (t : Tree) 
   pub second : TellsHow names es turns after how
   pub list : List ℕ
   pub differences : ListsWhere (Some after) (outcome es turns after) list
-  pub lines : lines ≡ again_lines t how list
+  pub are : lines ≡ again_lines t how list

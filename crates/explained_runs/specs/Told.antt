@@ -19,7 +19,7 @@ use Rattle.explained_runs.specs.Lines.{from_line, apart_lines, again_lines}
 pub record SaysItEnds (es : List Program) (order : List ℕ) (t : Tree) (words : List ℕ) : Type 0 where
   pub after : Tree
   pub ends : outcome es order t ≡ Some after
-  pub words : words ≡ codes "ends"
+  pub is : words ≡ codes "ends"
 
 -- The run of the order ends in Error. What is told is the name of the resource at which it does, the last one of the
 -- shortest front of the order whose outcome is Error; the construct of its program that gave Error; and a reason that holds
@@ -30,7 +30,7 @@ pub record SaysWhereItFails (names : List (List ℕ)) (es : List Program) (order
   pub failure : Failure
   pub fails : OrderFailsAt es order t resource failure
   pub reason : Explains failure.construct failure.reason failure.tree
-  pub words : words ≡ fails_words (name_at names resource) failure.construct failure.reason
+  pub is : words ≡ fails_words (name_at names resource) failure.construct failure.reason
 
 -- How the run of the order from the tree ends. The resources have these names.
 abbrev pub TellsHow : List (List ℕ) → List Program → List ℕ → Tree → List ℕ → Type 0
@@ -42,7 +42,7 @@ TellsHow names es order t words = SaysItEnds es order t words ⊎ SaysWhereItFai
 pub record ListsDifferences (t u : Tree) (lines : List ℕ) : Type 0 where
   pub list : List Difference
   pub exactly : AreDifferences t u list
-  pub lines : lines ≡ difference_lines list
+  pub are : lines ≡ difference_lines list
 
 -- where both outcomes are trees, the lines on their differences, else none
 abbrev pub ListsWhere : Outcome → Outcome → List ℕ → Type 0
@@ -68,7 +68,7 @@ pub record TellsApart (names : List (List ℕ)) (es : List Program) (order : Rel
   pub second : TellsHow names es right tree other
   pub list : List ℕ
   pub differences : ListsWhere (outcome es left tree) (outcome es right tree) list
-  pub lines : lines ≡ apart_lines (name_at names exchange.left) (name_at names exchange.right) tree how other list
+  pub are : lines ≡ apart_lines (name_at names exchange.left) (name_at names exchange.right) tree how other list
 
 -- A run in this allowed order ends in a tree that a second run in it doesn't leave as it is. What is told is the tree from
 -- which the first began; how the second ends; and the paths at which the second changed what the first left.
@@ -79,7 +79,7 @@ pub record TellsAgain (names : List (List ℕ)) (es : List Program) (order : Rel
   pub second : TellsHow names es turns counterexample.after how
   pub list : List ℕ
   pub differences : ListsWhere (Some counterexample.after) (outcome es turns counterexample.after) list
-  pub lines : lines ≡ again_lines tree how list
+  pub are : lines ≡ again_lines tree how list
 
 -- Where the first extension fails from the tree without entries.
 pub record TellsFromNothing (names : List (List ℕ)) (es : List Program) (order : Relation) (line : List ℕ) : Type 0 where
@@ -88,4 +88,4 @@ pub record TellsFromNothing (names : List (List ℕ)) (es : List Program) (order
   pub least : TakesLeast order.count (Comes order) [] first
   pub words : List ℕ
   pub fails : SaysWhereItFails names es first map.empty words
-  pub line : line ≡ from_line map.empty words
+  pub is : line ≡ from_line map.empty words

@@ -13,7 +13,7 @@ use Rattle.pp_value.specs.Texts.{same_text}
 use Rattle.pp_eval.specs.Verdicts.{◌>>=◌, refusal}
 use Rattle.pp_data.specs.declared.data.Level.{Level}
 use Rattle.pp_data.specs.Lookup.{lookup}
-use Rattle.catalog_semantics.specs.Sites.{Definition, Node, Site, is_same_node, stands_for, node_of, node_block, no_definitions, gathered_one, gathered, with_its_node, site_of}
+use Rattle.catalog_semantics.specs.Sites.{Definition, Node, Site, is_same_node, stands_for, node_of, node_block, no_definitions, node_names, new_nodes, with_node, gathered_one, gathered, with_its_node, site_of}
 use Rattle.node_label.specs.Labels.{HasName, RunsAs, RunsDefault, named_line, default_line, IsNodeLine}
 use Rattle.node_label.specs.Spelled.{names_of, spelled_among, spelled_in, has_default, line_by, line_of}
 
@@ -46,8 +46,10 @@ adds_one : (find : List ℕ → Option Value) (x : Item) (s t : Site) → gather
 adds_one find (item.Class at name params parent body) s t h = adds_none _ _ s _ t (record { nodes = sym (append-nil s.nodes); name = refl }) h
 adds_one find (item.Define at name params body) s t h = adds_none _ _ s _ t (record { nodes = sym (append-nil s.nodes); name = refl }) h
 adds_one find (item.Node at names body) s t h =
-    let b = bound _ _ t h in
-    subst (Adds (record { names = names; body = body } ∷ []) s) (let same : _ ≡ t = cc (b.2) in same) (record { nodes = refl; name = refl })
+    let b = bound (new_nodes at (node_names s.nodes) names) (λ _. Ok (with_node names body s)) t h in
+    let last : ◌≡◌ {A = Result Site Refusal} (Ok (with_node names body s)) (Ok t) = b.2 in
+    let same : with_node names body s ≡ t = cc in
+    subst (Adds (record { names = names; body = body } ∷ []) s) same (record { nodes = refl; name = refl })
 adds_one find (item.Defaults at kind attrs) s t h = let same : s ≡ t = cc in subst (Adds [] s) same (record { nodes = sym (append-nil s.nodes); name = refl })
 adds_one find (item.Plain x) s t h = let same : s ≡ t = cc in subst (Adds [] s) same (record { nodes = sym (append-nil s.nodes); name = refl })
 

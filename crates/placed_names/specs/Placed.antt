@@ -16,7 +16,7 @@ pub record IsPlacedName (text : List ℕ) (r : Resource) (name : List ℕ) : Typ
   pub line : ℕ
   pub column : ℕ
   pub place : IsPlace text r.at line column
-  pub name : name ≡ with_place (printed (shown_ref r.id)) line column
+  pub is : name ≡ with_place (printed (shown_ref r.id)) line column
 
 -- so the resource at this place of the catalog is named
 pub record IsNameAt (text : List ℕ) (c : Catalog) (place : ℕ) (name : List ℕ) : Type 0 where
