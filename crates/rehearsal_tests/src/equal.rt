@@ -7,7 +7,7 @@ use std::process::Abort;
 use std::test::Fail;
 
 const LISTING: &str =
-    r#"{"version":2,"packages":{"ntp":{"files":[["/etc/ntp.conf",null],["/usr/sbin/ntpd","d1"]],"folders":[]}}}"#;
+    r#"{"version":2,"packages":{"ntp":{"files":[["/etc/ntp.conf",null],["/usr/sbin/ntpd","d1"]],"folders":[]},"pair":{"files":[["/opt/x","d1"]],"folders":[]},"twin":{"files":[["/opt/x","d2"]],"folders":[]}}}"#;
 
 /// Values for a parameter of a class.
 const DATA: &str = r#"{"levels":[{"when":{},"values":{"c::text":"x"}}]}"#;
@@ -21,6 +21,18 @@ const ASKED: &[&str] = &[
     "data",
     "--facts",
     "facts",
+    "--other",
+    "old.pp",
+    "site.pp",
+];
+
+const WITHIN: &[&str] = &[
+    "--ask",
+    "equal",
+    "--packages",
+    "listing",
+    "--conflicts",
+    "1",
     "--other",
     "old.pp",
     "site.pp",
@@ -184,6 +196,39 @@ fn manifests_of_which_one_differs(rt: HostRuntime) -> Result<(), Fail> {
     let rest = alone.out.as_str();
     let report = format!(in rt.alloc(); "{front}{rest}")?;
     compare(&rt, &told, 1, report.as_str(), "", "right");
+    Ok(())
+}
+
+/// The orders of these end apart, which takes more than one conflict to find.
+const PAIR: &str = "package { ['pair', 'twin']: }";
+
+const SERVED: &str = "package { 'ntp': } -> file { '/etc/ntp.conf': content => 'a' }";
+
+/// The same, and where a folder stands in the place of the program it fails.
+const MADE_SURE: &str =
+    "package { 'ntp': } -> file { '/etc/ntp.conf': content => 'a' } -> file { '/usr/sbin/ntpd': ensure => file }";
+
+/// The number of conflicts is that of each question.
+#[test]
+fn manifests_whose_conflicts_are_spent(rt: HostRuntime) -> Result<(), Fail> {
+    let rows: [(&str, &str, &str); 4] = [
+        (PAIR, X, "resources 2\npruned 0\nspent deterministic 1\n"),
+        (PAIR, PAIR, "resources 2\npruned 0\nspent deterministic 1\n"),
+        (
+            X,
+            PAIR,
+            "resources 1\npruned 1\ndeterministic\nresources 2\npruned 0\nspent deterministic 1\n",
+        ),
+        (
+            SERVED,
+            MADE_SURE,
+            "resources 2\npruned 2\ndeterministic\nresources 3\npruned 3\ndeterministic\nspent equal 1\n",
+        ),
+    ];
+    for (manifest, other, report) in rows {
+        let told = asked(rt.alloc(), WITHIN, manifest, other)?;
+        compare(&rt, &told, 3, report, "", other);
+    }
     Ok(())
 }
 

@@ -197,6 +197,13 @@ const READS_WITH_DATA: [Read; 6] = [
     (&[6], "order"),
 ];
 
+/// Two manifests, of which the other one is read directly after the input.
+const OF_TWO: [&str; 7] = [
+    "--other", "order", "--ask", "equal", "--facts", "facts", "site.pp",
+];
+
+const READS_OF_TWO: [Read; 3] = [(&[1], "facts"), (&[2], "site.pp"), (&[3], "order")];
+
 /// The run ends at the read that fails, and tells of that file.
 fn ends_at(alloc: Global, rt: &impl Abort, words: &[&str], read: &Read) -> Result<(), Fail> {
     let failing: Failing = (read.0, &[], &[]);
@@ -214,6 +221,9 @@ fn reads_that_fail(rt: HostRuntime) -> Result<(), Fail> {
     for read in READS_WITH_DATA {
         ends_at(rt.alloc(), &rt, &WITH_DATA, &read)?;
     }
+    for read in READS_OF_TWO {
+        ends_at(rt.alloc(), &rt, &OF_TWO, &read)?;
+    }
     Ok(())
 }
 
@@ -221,10 +231,11 @@ fn reads_that_fail(rt: HostRuntime) -> Result<(), Fail> {
 #[test]
 fn a_file_that_is_missing(rt: HostRuntime) -> Result<(), Fail> {
     let blanks = " ".repeat(rt.alloc(), 262_145)?;
-    let rows: [&[&str]; 3] = [
+    let rows: [&[&str]; 4] = [
         &["--facts", "none", "site.pp"],
         &["--ask", "replay", "--tree", "none", "site.pp"],
         &["--ask", "replay", "--order", "none", "site.pp"],
+        &["--ask", "equal", "--other", "none", "site.pp"],
     ];
     for words in rows {
         let told = run_files_failing(rt.alloc(), words, blanks.as_str(), &(&[], &[], &[]))?;

@@ -89,6 +89,68 @@ fn graphs_that_are_too_large(rt: HostRuntime) -> Result<(), Fail> {
     Ok(())
 }
 
+const OF_TWO: [&str; 7] = [
+    "--ask",
+    "equal",
+    "--packages",
+    "listing",
+    "--other",
+    "old.pp",
+    "site.pp",
+];
+
+/// What is told of the packages `one` and `two`, which have so many folders, no two the same, in a manifest each.
+fn told_of_two(alloc: Global, one: u32, two: u32) -> Result<Told, Fail> {
+    let lists = folders(alloc, one)?;
+    let others = folders(alloc, two)?.replace(alloc, "/d", "/e")?;
+    let listing = format!(in alloc;
+        "{{\"version\":1,\"packages\":{{\"one\":{{\"files\":[],\"folders\":[{}]}},\"two\":{{\"files\":[],\"folders\":[{}]}}}}}}",
+        lists.as_str(),
+        others.as_str()
+    )?;
+    let over: [(&str, &[u8]); 3] = [
+        ("site.pp", b"package { 'one': }"),
+        ("old.pp", b"package { 'two': }"),
+        ("listing", listing.as_bytes()),
+    ];
+    run_over(alloc, &OF_TWO, &over)
+}
+
+/// The folders of both, the two above the marks, and the marks of both packages: 4,096 paths, and one more.
+#[test]
+fn manifests_that_are_too_large_together(rt: HostRuntime) -> Result<(), Fail> {
+    let told = told_of_two(rt.alloc(), 2_046, 2_046)?;
+    assert_eq!(rt; told.status, 10, "4,096 paths");
+    let told = told_of_two(rt.alloc(), 2_046, 2_047)?;
+    compare(
+        &rt,
+        &told,
+        4,
+        "",
+        "refused 70 at 0: domain\n",
+        "4,097 paths",
+    );
+    Ok(())
+}
+
+/// Of the weights each stands for itself, and the refusal tells of neither.
+#[test]
+fn manifests_of_which_one_is_too_heavy(rt: HostRuntime) -> Result<(), Fail> {
+    let heavy = manifest(rt.alloc(), 50)?;
+    let listing = listing(rt.alloc(), 50, 68)?;
+    let rows: [(&str, &str); 2] = [(heavy.as_str(), ""), ("", heavy.as_str())];
+    for (manifest, other) in rows {
+        let over: [(&str, &[u8]); 3] = [
+            ("site.pp", manifest.as_bytes()),
+            ("old.pp", other.as_bytes()),
+            ("listing", listing.as_bytes()),
+        ];
+        let told = run_over(rt.alloc(), &OF_TWO, &over)?;
+        compare(&rt, &told, 4, "", "refused 70 at 0: weight\n", manifest);
+    }
+    Ok(())
+}
+
 /// The words, the greatest number of bytes of the file `long`, what is refused of so many blanks, and of one more.
 type Long = (&'static [&'static str], usize, &'static str, &'static str);
 

@@ -7,7 +7,7 @@ use Rattle.pp_eval.specs.Verdicts.{Refuses}
 use Rattle.fs_semantics.specs.Programs.{Program}
 use Rattle.catalog_semantics.specs.Catalogs.{Catalog}
 use Rattle.pp_compile.specs.Sources.{IsCatalogOf, IsCatalogRefusal}
-use Rattle.orders.specs.Relation.{Comes}
+use Rattle.orders.specs.Relation.{Comes, IsStrictOrder}
 use Rattle.graph_semantics.specs.Graphs.{IsGraphOf, IsGraphRefusal}
 use Rattle.dep_graph.specs.declared.answer.Graph.{Graph}
 use Rattle.model_semantics.specs.Models.{programs}
@@ -35,14 +35,14 @@ module _ (k : Known) (text name : List ℕ) where
     unplanned_for (Refused r) none = λ i is named known. graph_programs i k c (Refused r) (is_compiled i k text name c is named known has) none
     unplanned_for (Memory m) none = tt
 
-    module _ (g : Graph) (graph : IsGraphOf c g.plain (Comes g.order)) (count : g.order.count ≡ length g.plain) (plain : List ℕ) (same : plain ≡ g.plain) where
+    module _ (g : Graph) (graph : IsGraphOf c g.plain (Comes g.order)) (count : g.order.count ≡ length g.plain) (strict : IsStrictOrder g.order) (plain : List ℕ) (same : plain ≡ g.plain) where
       pub unmodelled_for : (e : Fault) → Refuses (programs k.listing (resources_at c.resources plain)) e → IfRefused e (λ r. ForText text name k (λ i. ProgramsRefusal i r))
       unmodelled_for (Refused r) none = λ i is named known.
-          in_programs i k c g plain (Refused r) same (planned i k c g (is_compiled i k text name c is named known has) graph count) none
+          in_programs i k c g plain (Refused r) same (planned i k c g (is_compiled i k text name c is named known has) graph count strict) none
       unmodelled_for (Memory m) none = tt
 
       pub modelled_for : (es : List Program) → programs k.listing (resources_at c.resources plain) ≡ Ok es → ForText text name k (λ i. IsModelled i k c g es)
-      modelled_for es made = λ i is named known. is_modelled i k c g plain es same (planned i k c g (is_compiled i k text name c is named known has) graph count) made
+      modelled_for es made = λ i is named known. is_modelled i k c g plain es same (planned i k c g (is_compiled i k text name c is named known has) graph count strict) made
 
 pub in_order : (i : Inputs) (k : Known) (c : Catalog) (g : Graph) (es : List Program) → IsModelled i k c g es → IsInOrder c g es
 in_order i k c g es is = record {

@@ -35,13 +35,15 @@ struct Modelled {
 }
 
 /// The catalog of a text, its graph and what its resources do, under what the files beside it say.
-fn modelled(alloc: Global, text: &[u8], name: &str, known: &Known) -> Result<Modelled, Fault>
+fn model_text(alloc: Global, text: &[u8], name: &str, known: &Known) -> Result<Modelled, Fault>
     requires { length text.now < 2 ^ 32 }
     ensures modelled { IfOk result (λ m. ForText text.now name.now known.now (λ i. IsModelled i known.now m.catalog m.plan (map program_of m.programs.items))) }
     ensures refused { IfErr result (λ e. IfRefused e (λ r. ForText text.now name.now known.now (λ i. ProgramsRefusal i r))) }
 {
     let catalog = compile_with(alloc, text, &known.facts, name, &known.class_data)?;
     let plan = graph(alloc, &catalog)?;
+    // so the order relates no other numbers
+    plan.order.count();
     let programs = programs_of(alloc, &catalog, plan.plain.as_slice(), &known.listing)?;
     Ok(Modelled {
         catalog,
@@ -135,7 +137,7 @@ fn compare_with(
     ensures refused { IfErr result (λ e. IfUntold e (ComparisonRefusal inputs.now)) }
 {
     let text = other_text(inputs);
-    match modelled(alloc, text, node_name(&inputs.node), known) {
+    match model_text(alloc, text, node_name(&inputs.node), known) {
         Ok(right) => told_of(alloc, given, inputs, known, left, &right),
         Err(fault) => Err(refused_in(Side::Other, fault)),
     }
@@ -155,7 +157,7 @@ fn compare_known(
     ensures refused { IfErr result (λ e. IfUntold e (ComparisonRefusal inputs.now)) }
 {
     let text = inputs.input();
-    let left = modelled(alloc, text, node_name(&inputs.node), known)?;
+    let left = model_text(alloc, text, node_name(&inputs.node), known)?;
     compare_with(alloc, given, inputs, known, &left)
 }
 

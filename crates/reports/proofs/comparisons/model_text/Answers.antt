@@ -3,7 +3,7 @@ use Rattle.std.proofs.lemmas.Result.{err_from_is_err_and}
 use Rattle.fs_lang.specs.Meaning.{program_of}
 use Rattle.reports.proofs.StageLaws.{are_places}
 use Rattle.reports.proofs.ComparisonLaws.{uncompiled_for, unplanned_for, unmodelled_for, modelled_for}
-use Rattle.reports.proofs.comparisons.modelled.Goals as goal
+use Rattle.reports.proofs.comparisons.model_text.Goals as goal
 
 pub returns-in_err-catalog-clause-refused : goal.returns-in_err-catalog-clause-refused
 returns-in_err-catalog-clause-refused c =
@@ -21,10 +21,10 @@ programs_of-requires c = are_places c.in_ok-catalog.catalog c.in_ok-plan.plan c.
 pub returns-in_err-programs-clause-refused : goal.returns-in_err-programs-clause-refused
 returns-in_err-programs-clause-refused c =
     let p = err_from_is_err_and c.from_residual.result c.from_residual.ensures.1 in
-    rw (p.1, p.2) (unmodelled_for c.args.known.now c.args.text.now c.args.name.now c.in_ok-catalog.catalog c.in_ok-catalog.ensures.catalog c.in_ok-plan.plan c.in_ok-plan.ensures.graph c.in_ok-plan.ensures.count
+    rw (p.1, p.2) (unmodelled_for c.args.known.now c.args.text.now c.args.name.now c.in_ok-catalog.catalog c.in_ok-catalog.ensures.catalog c.in_ok-plan.plan c.in_ok-plan.ensures.graph c.in_ok-plan.ensures.count c.count.ensures.ordered
     c.as_slice.result.now c.as_slice.ensures c.in_err-programs.field-0.0 c.in_err-programs.ensures)
 
 pub returns-clause-modelled : goal.returns-clause-modelled
 returns-clause-modelled c =
-    modelled_for c.args.known.now c.args.text.now c.args.name.now c.in_ok-catalog.catalog c.in_ok-catalog.ensures.catalog c.in_ok-plan.plan c.in_ok-plan.ensures.graph c.in_ok-plan.ensures.count
+    modelled_for c.args.known.now c.args.text.now c.args.name.now c.in_ok-catalog.catalog c.in_ok-catalog.ensures.catalog c.in_ok-plan.plan c.in_ok-plan.ensures.graph c.in_ok-plan.ensures.count c.count.ensures.ordered
     c.as_slice.result.now c.as_slice.ensures (map program_of c.in_ok-programs.programs.items) c.in_ok-programs.ensures
