@@ -1,5 +1,5 @@
 -- What is told of runs, from what was found.
-use Rattle.std.proofs.Common.{◌≡◌, ◌≢◌, inl, inr, ℕ, Bool, cond, List, [], ◌∷◌, ◌++◌, length, Option, Some, None, refl, sym, ap, subst, ◌∙◌, eq-eqb}
+use Rattle.std.proofs.Common.{◌≡◌, ◌≢◌, inl, inr, ℕ, Bool, cond, List, [], ◌∷◌, ◌++◌, length, Option, Some, None, refl, sym, ap, subst, ◌∙◌, arith, eq-eqb}
 use Rattle.std.specs.Prelude.{◌↔◌, IsSome}
 use Rattle.std.specs.FinMap as map
 use Rattle.std.proofs.lemmas.Bool.{ne_eqb}
@@ -16,7 +16,7 @@ use Rattle.failure_search.specs.Found.{reason_of, Tells}
 use Rattle.explained_text.specs.Lines.{fails_words}
 use Rattle.verdict_text.specs.Lines.{name_at}
 use Rattle.explained_runs.specs.Lines.{from_line, apart_lines}
-use Rattle.explained_runs.specs.Told.{SaysWhereItFails, TellsHow, TellsApart, TellsAgain, TellsFromNothing}
+use Rattle.explained_runs.specs.Told.{SaysWhereItFails, TellsHow, ListsWhere, TellsApart, TellsAgain, TellsFromNothing}
 use Rattle.explained_runs.specs.Steps.{first_apart, TellsBoth, TellsSecond}
 
 -- the failure that was found is that of the run
@@ -37,12 +37,31 @@ says_fails names es order t x f words last explained fails tells is = record {
 
 -- ---- the neighbours that are exchanged
 
+pub nothing_left : (order rest : List ℕ) → length rest ≡ 0 → first_apart order rest ≡ (0, 0)
+nothing_left [] rest none = refl
+nothing_left (i ∷ order) [] none = refl
+nothing_left (i ∷ order) (j ∷ rest) none = absurd (omega (arith, none))
+
 apart_at : (front back : List ℕ) (a b : ℕ) → a ≢ b → first_apart (front ++ a ∷ b ∷ back) (front ++ b ∷ a ∷ back) ≡ (a, b)
 apart_at [] back a b h = ap (λ c. cond c (first_apart (b ∷ back) (a ∷ back)) (a, b)) (ne_eqb a b h)
 apart_at (x ∷ front) back a b h = ap (λ c. cond c (first_apart (front ++ a ∷ b ∷ back) (front ++ b ∷ a ∷ back)) (x, x)) (eq-eqb x x refl) ∙ apart_at front back a b h
 
 exchanged : (before : ℕ → ℕ → Type 0) (left right : List ℕ) (e : IsExchange before left right) → first_apart left right ≡ (e.left, e.right)
 exchanged before left right e = ap (λ o. first_apart o right) e.was ∙ ap (λ o. first_apart (e.front ++ e.left ∷ e.right ∷ e.back) o) e.is ∙ apart_at e.front e.back e.left e.right e.free.differ
+
+pub tells_both : (names : List (List ℕ)) (es : List Program) (t : Tree) (left right : List ℕ) (p : ℕ × ℕ) (a b how other list lines : List ℕ) → p ≡ first_apart left right
+    → a ≡ name_at names p.0 → b ≡ name_at names p.1 → TellsHow names es left t how → TellsHow names es right t other → ListsWhere (outcome es left t) (outcome es right t) list
+    → lines ≡ apart_lines a b t how other list → TellsBoth names es t left right lines
+tells_both names es t left right p a b how other list lines places first second one two differ is = record {
+  how = how;
+  first = one;
+  other = other;
+  second = two;
+  list = list;
+  differences = differ;
+  are = is ∙ ap (λ (n : List ℕ). apart_lines n b t how other list) first ∙ ap (λ (n : List ℕ). apart_lines (name_at names p.0) n t how other list) second
+      ∙ ap (λ (q : ℕ × ℕ). apart_lines (name_at names q.0) (name_at names q.1) t how other list) places;
+}
 
 pub tells_apart : (names : List (List ℕ)) (es : List Program) (order : Relation) (t : Tree) (left right lines : List ℕ) → IsCounterexample es (Comes order) t left right
     → IsExchange (Comes order) left right → TellsBoth names es t left right lines → TellsApart names es order lines
@@ -88,11 +107,14 @@ some_end : (o : Outcome) (u : Tree) → o ≡ Some u → IsSome o
 some_end None u is = cc
 some_end (Some t) u is = refl
 
-pub tells_from_nothing : (names : List (List ℕ)) (es : List Program) (order : Relation) (first words line : List ℕ) → length es ≡ order.count → IsTree map.empty
-    → IsLinearExtension order.count (Comes order) first → TakesLeast order.count (Comes order) [] first → TellsHow names es first map.empty words → line ≡ from_line map.empty words
+pub tells_from_nothing : (names : List (List ℕ)) (es : List Program) (order : Relation) (first turns words line : List ℕ) (t : Tree) → t ≡ map.empty → turns ≡ first → length es ≡ order.count → IsTree t
+    → IsLinearExtension order.count (Comes order) first → TakesLeast order.count (Comes order) [] first → TellsHow names es turns t words → line ≡ from_line t words
     → (Succeeds es (Comes order) → ⊥) → TellsFromNothing names es order line
-tells_from_nothing names es order first words line count tree allowed least (inl ends) is never =
-    let long : IsLinearExtension (length es) (Comes order) first = subst (λ (n : ℕ). IsLinearExtension n (Comes order) first) (sym count) allowed in
-    absurd (never (record { tree = map.empty; is_tree = tree; order = first; allowed = long; ends = some_end (outcome es first map.empty) ends.after ends.ends }))
-tells_from_nothing names es order first words line count tree allowed least (inr fails) is never =
-    record { first = first; allowed = allowed; least = least; words = words; fails = fails; is = is }
+tells_from_nothing names es order first turns words line t empty same count tree allowed least how is never =
+    fails (subst (λ (u : Tree). TellsHow names es first u words) empty (subst (λ (o : List ℕ). TellsHow names es o t words) same how))
+  where
+    fails : TellsHow names es first map.empty words → TellsFromNothing names es order line
+    fails (inl ends) =
+        let long : IsLinearExtension (length es) (Comes order) first = subst (λ (n : ℕ). IsLinearExtension n (Comes order) first) (sym count) allowed in
+        absurd (never (record { tree = map.empty; is_tree = subst IsTree empty tree; order = first; allowed = long; ends = some_end (outcome es first map.empty) ends.after ends.ends }))
+    fails (inr told) = record { first = first; allowed = allowed; least = least; words = words; fails = told; is = is ∙ ap (λ (u : Tree). from_line u words) empty }
