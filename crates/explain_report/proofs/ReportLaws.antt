@@ -1,15 +1,18 @@
 -- From a verdict to what is explained of it.
-use Rattle.std.proofs.Common.{◌≡◌, ◌≢◌, inl, inr, ◌-◌, ◌^◌, ℕ, List, [], ◌++◌, Option, Some, None, refl, sym, subst, ◌∙◌, append-nil}
+use Rattle.std.proofs.Common.{◌≡◌, ◌≢◌, inl, inr, ◌-◌, ◌^◌, ℕ, List, [], ◌++◌, Option, Some, None, refl, sym, ap, subst, subst₂, ◌∙◌, append-nil}
 use Rattle.std.specs.Prelude.{IsSome}
 use Rattle.fs_semantics.specs.Programs.{Program, Outcome}
-use Rattle.fs_semantics.specs.Orders.{IsDeterministic, Succeeds, IsSecondRunCounterexample, outcome}
+use Rattle.fs_semantics.specs.Orders.{IsDeterministic, IsExchange, IsCounterexample, Succeeds, IsSecondRunCounterexample, outcome}
 use Rattle.fs_semantics.specs.FileTree.{Tree}
 use Rattle.orders.specs.Relation.{Relation, Comes}
 use Rattle.cnf.specs.Formulas.{Formula}
 use Rattle.cnf.specs.declared.log.Step.{Step}
 use Rattle.cnf.specs.declared.log.Log.{Log}
 use Rattle.proof_check.specs.Refuted.{Refutation}
+use Rattle.order_encode.specs.Witnesses.{IsFirstExtension}
+use Rattle.order_encode.specs.declared.witness.Witness.{Witness}
 use Rattle.order_encode.specs.declared.witness.Witness.TheVariants as witness
+use Rattle.judgement.specs.First.{IsDifference}
 use Rattle.judgement.specs.declared.first.Sure.{Sure}
 use Rattle.full_verdict.specs.declared.verdicts.Asked.{Asked}
 use Rattle.full_verdict.specs.declared.verdicts.Asked.TheVariants as asked
@@ -58,19 +61,34 @@ succeeds_first es order t turns changed = record {
   ends = some_end (outcome es turns t) changed.after changed.ends;
 }
 
-pub explains_change : (names : List (List ℕ)) (es : List Program) (order : Relation) (head turns lines text : List ℕ) (t : Tree) → IsDeterministic es (Comes order)
-    → IsSecondChange es order (witness.Twice t turns) → TellsAgain names es order turns lines → text ≡ again_text head lines
-    → ExplainsChange names es order head (record { status = 2; text = text })
-explains_change names es order head turns lines text t same shown told is = record {
-  status = refl;
-  deterministic = same;
-  turns = turns;
-  is_first = shown.0;
-  lines = lines;
-  told = told;
-  succeeds = succeeds_first es order t turns shown.1;
-  text = is;
-}
+pub explains_change : (names : List (List ℕ)) (es : List Program) (order : Relation) (head lines shown text : List ℕ) (w : Witness) (t : Tree) (o turns : List ℕ) → w ≡ witness.Twice t o → turns ≡ o
+    → ((r : Relation) → IsSecondRunCounterexample es (Comes r) t turns → TellsAgain names es r turns lines) → shown ≡ lines → text ≡ again_text head shown
+    → IsDeterministic es (Comes order) → IsSecondChange es order w → ExplainsChange names es order head (record { status = 2; text = text })
+explains_change names es order head lines shown text w t o turns is same told all whole deterministic change =
+    let of : IsFirstExtension order o × IsSecondRunCounterexample es (Comes order) t o = subst (IsSecondChange es order) is change in
+    let by : IsFirstExtension order turns × IsSecondRunCounterexample es (Comes order) t turns =
+    subst (λ (p : List ℕ). IsFirstExtension order p × IsSecondRunCounterexample es (Comes order) t p) (sym same) of in
+    record {
+      status = refl;
+      deterministic = deterministic;
+      turns = turns;
+      is_first = by.0;
+      lines = lines;
+      told = told order by.1;
+      succeeds = succeeds_first es order t turns by.1;
+      text = whole ∙ ap (again_text head) all;
+    }
+
+-- ---- two orders
+
+pub explains_difference : (names : List (List ℕ)) (es : List Program) (order : Relation) (head lines shown text : List ℕ) (w : Witness) (t : Tree) (l r left right : List ℕ) → w ≡ witness.Orders t l r
+    → left ≡ l → right ≡ r → ((o : Relation) → IsCounterexample es (Comes o) t left right → IsExchange (Comes o) left right → TellsApart names es o lines) → shown ≡ lines → text ≡ apart_text head shown
+    → IsDifference es (Comes order) w → ExplainsDifference names es order head (record { status = 1; text = text })
+explains_difference names es order head lines shown text w t l r left right is same_left same_right told all whole difference =
+    let of : IsCounterexample es (Comes order) t l r × IsExchange (Comes order) l r = subst (IsDifference es (Comes order)) is difference in
+    let by : IsCounterexample es (Comes order) t left right × IsExchange (Comes order) left right =
+    subst₂ (λ (p : List ℕ) (q : List ℕ). IsCounterexample es (Comes order) t p q × IsExchange (Comes order) p q) (sym same_left) (sym same_right) of in
+    record { status = refl; lines = lines; told = told order by.0 by.1; text = whole ∙ ap (apart_text head) all }
 
 -- ---- conflicts that are spent
 

@@ -1,6 +1,6 @@
 //! The text of an explanation.
 
-ghost use Rattle.std.specs.Prelude.{◌≡◌, IfOk};
+ghost use Rattle.std.specs.Prelude.{◌≡◌, ◌++◌, IfOk};
 ghost use Rattle.explain_report.specs.Lines.{noted_head, sure_text, apart_text, again_text, spent_text};
 
 use full_verdict::Asked;
@@ -17,26 +17,29 @@ pub fn noted_head(alloc: Global, n: usize, notes: &str, pruned: u32) -> Result<T
     Ok(Text::from_string(head))
 }
 
+/// Three texts behind one another.
+fn joined(alloc: Global, head: &str, middle: &str, rest: &[u8]) -> Result<Seq<u8>, NoMemory>
+    ensures { IfOk result (λ text. text ≡ head.now ++ (middle.now ++ rest.now)) }
+{
+    let mut bytes = Vec::new(alloc);
+    push_bytes(head.as_bytes(), &mut bytes)?;
+    push_bytes(middle.as_bytes(), &mut bytes)?;
+    push_bytes(rest, &mut bytes)?;
+    Ok(Seq::from_vec(bytes))
+}
+
 /// The text where all is well.
 pub fn sure_text(alloc: Global, head: &str, last: &[u8]) -> Result<Seq<u8>, NoMemory>
     ensures { IfOk result (λ text. text ≡ sure_text head.now last.now) }
 {
-    let mut bytes = Vec::new(alloc);
-    push_bytes(head.as_bytes(), &mut bytes)?;
-    push_bytes(b"deterministic\nidempotent\n", &mut bytes)?;
-    push_bytes(last, &mut bytes)?;
-    Ok(Seq::from_vec(bytes))
+    joined(alloc, head, "deterministic\nidempotent\n", last)
 }
 
 /// The text where two orders end apart.
 pub fn apart_text(alloc: Global, head: &str, lines: &[u8]) -> Result<Seq<u8>, NoMemory>
     ensures { IfOk result (λ text. text ≡ apart_text head.now lines.now) }
 {
-    let mut bytes = Vec::new(alloc);
-    push_bytes(head.as_bytes(), &mut bytes)?;
-    push_bytes(b"not deterministic\n", &mut bytes)?;
-    push_bytes(lines, &mut bytes)?;
-    Ok(Seq::from_vec(bytes))
+    joined(alloc, head, "not deterministic\n", lines)
 }
 
 /// The text where a second run changes what the first left.
