@@ -25,9 +25,13 @@ equal_text n k m j = both_lines n k m j ++ codes "equal\n"
 abbrev pub unequal_text : List (List ℕ) → List Program → ℕ → List ℕ → List (List ℕ) → List Program → ℕ → List ℕ → Tree → List ℕ
 unequal_text names es k o others fs j p t = both_lines (length es) k (length fs) j ++ (codes "not equal\n" ++ (tree_line t ++ (run_lines names es t o ++ run_lines others fs t p)))
 
+-- so many conflicts are spent
+abbrev pub spent_line : ℕ → List ℕ
+spent_line budget = codes "spent equal " ++ (decimal budget ++ codes "\n")
+
 -- the conflicts of the question are spent
 abbrev pub spent_equal_text : ℕ → ℕ → ℕ → ℕ → ℕ → List ℕ
-spent_equal_text n k m j budget = both_lines n k m j ++ (codes "spent equal " ++ (decimal budget ++ codes "\n"))
+spent_equal_text n k m j budget = both_lines n k m j ++ spent_line budget
 
 -- ---- of an answer
 

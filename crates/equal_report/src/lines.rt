@@ -3,7 +3,7 @@
 ghost use Rattle.std.specs.Prelude.{◌≡◌, ◌++◌, ◌<◌, length, map, IfOk, OnOk};
 ghost use Rattle.std.specs.List.{AllByRecursion};
 ghost use Rattle.fs_lang.specs.Meaning.{program_of};
-ghost use Rattle.equal_report.specs.Lines.{settled_lines, both_lines, equal_text, unequal_text, spent_equal_text};
+ghost use Rattle.equal_report.specs.Lines.{settled_lines, both_lines, equal_text, unequal_text, spent_line, spent_equal_text};
 
 use fs_lang::{Program, Tree};
 use rh_base::{NoMemory, Seq, Text};
@@ -82,6 +82,14 @@ pub fn unequal_text(
     Ok(Seq::from_vec(bytes))
 }
 
+/// Appends that so many conflicts are spent.
+fn push_spent(alloc: Global, budget: u64, into: &mut Vec<u8>) -> Result<(), NoMemory>
+    ensures { OnOk result (into.new.items ≡ into.old.items ++ spent_line budget) }
+{
+    let line = format!(in alloc; "spent equal {budget}\n")?;
+    push_bytes(line.as_str().as_bytes(), into)
+}
+
 /// The lines where the question's conflicts are spent.
 pub fn spent_equal_text(
     alloc: Global,
@@ -93,8 +101,7 @@ pub fn spent_equal_text(
 ) -> Result<Seq<u8>, NoMemory>
     ensures { IfOk result (λ text. text ≡ spent_equal_text n pruned m other_pruned budget) }
 {
-    let line = format!(in alloc; "spent equal {budget}\n")?;
     let mut bytes = both(alloc, n, pruned, m, other_pruned)?;
-    push_bytes(line.as_str().as_bytes(), &mut bytes)?;
+    push_spent(alloc, budget, &mut bytes)?;
     Ok(Seq::from_vec(bytes))
 }

@@ -49,7 +49,7 @@ of_input a conflicts i (Refused r) h = h
 of_input a conflicts i (Memory m) h = tt
 
 pub not_both : (b : Bool) → b ≡ true → b ≡ false → ⊥
-not_both b yes no = let bad : true ≡ false = sym yes ∙ no in cc
+not_both b is not = let bad : true ≡ false = sym is ∙ not in cc
 
 -- a file is too long
 pub says_long : (held : Held) (r : Names) (before now : ℕ) (x : Refusal) → now ≡ before → NoneMissing held r.files → FirstTooLong held r.ask r.files x

@@ -78,7 +78,7 @@ module _ (i : Inputs) (k : Known) (c : Catalog) (g : Graph) (es : List Program) 
   other_refused text name (Memory m) none text_is name_is known = tt
 
   module _ (d : Catalog) (h : Graph) (fs : List Program) (other : IsModelled (other_inputs i) k d h fs) where
-    pub both : AreModelled i
+    abbrev pub both : AreModelled i
     both = record { known = k; catalog = c; graph = g; programs = es; modelled = is; other_catalog = d; other_graph = h; other_programs = fs; other_modelled = other }
 
     pub too_large_both : (e : Fault) → IfRefused e (IsTooLargeTogether es fs) → IfUntold (refused_in side.Input e) (ComparisonRefusal i)

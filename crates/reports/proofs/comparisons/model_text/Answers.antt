@@ -12,7 +12,7 @@ returns-in_err-catalog-clause-refused c =
 
 pub returns-in_err-plan-clause-refused : goal.returns-in_err-plan-clause-refused
 returns-in_err-plan-clause-refused c =
-    let p = err_from_is_err_and c.from_residual.result c.from_residual.ensures.1 in
+    let p = err_from_is_err_and c.from_residual-in_err-plan.result c.from_residual-in_err-plan.ensures.1 in
     rw (p.1, p.2) (unplanned_for c.args.known.now c.args.text.now c.args.name.now c.in_ok-catalog.catalog c.in_ok-catalog.ensures.catalog c.in_err-plan.field-0.0 c.in_err-plan.ensures.refused)
 
 pub programs_of-requires : goal.programs_of-requires
@@ -20,7 +20,7 @@ programs_of-requires c = are_places c.in_ok-catalog.catalog c.in_ok-plan.plan c.
 
 pub returns-in_err-programs-clause-refused : goal.returns-in_err-programs-clause-refused
 returns-in_err-programs-clause-refused c =
-    let p = err_from_is_err_and c.from_residual.result c.from_residual.ensures.1 in
+    let p = err_from_is_err_and c.from_residual-in_err-programs.result c.from_residual-in_err-programs.ensures.1 in
     rw (p.1, p.2) (unmodelled_for c.args.known.now c.args.text.now c.args.name.now c.in_ok-catalog.catalog c.in_ok-catalog.ensures.catalog c.in_ok-plan.plan c.in_ok-plan.ensures.graph c.in_ok-plan.ensures.count c.count.ensures.ordered
     c.as_slice.result.now c.as_slice.ensures c.in_err-programs.field-0.0 c.in_err-programs.ensures)
 
