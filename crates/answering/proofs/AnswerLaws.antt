@@ -1,7 +1,6 @@
 -- What the answer to a question says, by what it holds.
-use Rattle.std.proofs.Common.{◌≡◌, ℕ, Bool, subst}
-use Rattle.cnf.specs.Encoding.{inputs_in}
-use Rattle.cnf.specs.Formulas.{Formula, Satisfies}
+use Rattle.std.proofs.Common.{◌≡◌, ℕ, subst}
+use Rattle.cnf.specs.Formulas.{Formula}
 use Rattle.proof_check.specs.Refuted.{HasNoModel}
 use Rattle.order_encode.specs.Asked.{Asked}
 use Rattle.answering.specs.Answers.{Answers, IsReadFrom, IsRefuted}
@@ -9,10 +8,10 @@ use Rattle.answering.specs.declared.answering.Answer.{Answer}
 use Rattle.answering.specs.declared.answering.Answer.TheVariants as answer
 
 module _ {B : Type 0} (q : Asked B) (budget : ℕ) where
-  pub read : (v : ℕ → Bool) → Satisfies v q.formula.clauses → (a : Answer) → IsReadFrom q (inputs_in v) a → Answers q budget a
-  read v holds (answer.Refuted w) h = absurd h
-  read v holds (answer.Shown w) h = (v, holds, h)
-  read v holds (answer.Spent cnf log) h = absurd h
+  pub read : (a : Answer) → IsReadFrom q a → Answers q budget a
+  read (answer.Refuted w) h = absurd h
+  read (answer.Shown w) h = h
+  read (answer.Spent cnf log) h = absurd h
 
   pub refuted : (f : Formula) → f ≡ q.formula → (a : Answer) → IsRefuted f a → Answers q budget a
   refuted f is (answer.Refuted v) h = subst (λ g. (v.formula ≡ g) × HasNoModel g) is h

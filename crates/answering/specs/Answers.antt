@@ -1,12 +1,11 @@
 -- What comes of a question.
-use Rattle.std.specs.Prelude.{◌≡◌, ℕ, ◌^◌, ◌-◌, Bool, List, length}
+use Rattle.std.specs.Prelude.{◌≡◌, ℕ, ◌^◌, ◌-◌, List, length}
 use Rattle.std.proofs.Common.{sym, subst}
-use Rattle.cnf.specs.Encoding.{inputs_in}
-use Rattle.cnf.specs.Formulas.{Formula, Satisfies}
+use Rattle.cnf.specs.Formulas.{Formula}
 use Rattle.cnf.specs.declared.log.Step.{Step}
 use Rattle.proof_check.specs.Refuted.{HasNoModel}
 use Rattle.sat_solver.specs.Working.{IsWorking}
-use Rattle.order_encode.specs.Asked.{Asked, Shows}
+use Rattle.order_encode.specs.Asked.{Asked, CanShow}
 use Rattle.order_encode.specs.declared.witness.Witness.{Witness}
 use Rattle.answering.specs.declared.answering.Answer.{Answer}
 use Rattle.answering.specs.declared.answering.Answer.TheVariants as answer
@@ -20,14 +19,14 @@ pub record UsesUp (budget : ℕ) (f : Formula) (steps : List Step) : Type 0 wher
 -- The formula has no model; or the witness is what a model tells; or the budget was spent on the formula.
 abbrev pub Answers : {B : Type 0} → Asked B → ℕ → Answer → Type 0
 Answers q budget (answer.Refuted v) = (v.formula ≡ q.formula) × HasNoModel q.formula
-Answers q budget (answer.Shown w) = (v : ℕ → Bool) × Satisfies v q.formula.clauses × Shows q (inputs_in v) w
+Answers q budget (answer.Shown w) = CanShow q w
 Answers q budget (answer.Spent cnf log) = (cnf ≡ q.formula) × UsesUp budget cnf log.steps
 
--- the answer is the witness that these inputs tell
-abbrev pub IsReadFrom : {B : Type 0} → Asked B → (ℕ → Bool) → Answer → Type 0
-IsReadFrom q v (answer.Refuted w) = ⊥
-IsReadFrom q v (answer.Shown w) = Shows q v w
-IsReadFrom q v (answer.Spent cnf log) = ⊥
+-- the answer is a witness that some model tells
+abbrev pub IsReadFrom : {B : Type 0} → Asked B → Answer → Type 0
+IsReadFrom q (answer.Refuted w) = ⊥
+IsReadFrom q (answer.Shown w) = CanShow q w
+IsReadFrom q (answer.Spent cnf log) = ⊥
 
 -- the answer holds this formula, which has no model
 abbrev pub IsRefuted : Formula → Answer → Type 0
@@ -43,8 +42,8 @@ AnswersBy states none shows budget (answer.Spent cnf log) = states cnf × UsesUp
 
 -- An answer to a question is one in its words.
 module _ {B : Type 0} (q : Asked B) (budget : ℕ) (states : Formula → Type 0) (none : Type 0) (shows : Witness → Type 0) where
-  pub in_its_words : states q.formula → (HasNoModel q.formula → none) → ((v : ℕ → Bool) → Satisfies v q.formula.clauses → (w : Witness) → Shows q (inputs_in v) w → shows w)
+  pub in_its_words : states q.formula → (HasNoModel q.formula → none) → ((w : Witness) → CanShow q w → shows w)
       → (a : Answer) → Answers q budget a → AnswersBy states none shows budget a
   in_its_words stated sure models (answer.Refuted v) h = (sure h.1, subst states (sym h.0) stated, subst HasNoModel (sym h.0) h.1)
-  in_its_words stated sure models (answer.Shown w) h = models h.0 h.1 w h.2
+  in_its_words stated sure models (answer.Shown w) h = models w h
   in_its_words stated sure models (answer.Spent cnf log) h = (subst states (sym h.0) stated, h.1)

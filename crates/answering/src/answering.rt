@@ -1,7 +1,6 @@
 //! A question, and what comes of it.
 
 ghost use Rattle.std.specs.Prelude.{◌≡◌, ◌≤◌, length, IfOk};
-ghost use Rattle.cnf.specs.Encoding.{inputs_in};
 ghost use Rattle.cnf.specs.Formulas.{Satisfies, valuation_of};
 ghost use Rattle.cnf.specs.Proofs.{IsAccepted};
 ghost use Rattle.answering.specs.Answers.{Answers, IsReadFrom, IsRefuted};
@@ -29,7 +28,7 @@ pub enum Answer {
 fn read(alloc: Global, question: &Question, model: &[bool]) -> Result<Answer, NoMemory>
     requires long { length model.now ≡ question.now.formula.vars }
     requires model { Satisfies (valuation_of model.now) question.now.formula.clauses }
-    ensures { IfOk result (IsReadFrom question.now (inputs_in (valuation_of model.now))) }
+    ensures { IfOk result (IsReadFrom question.now) }
 {
     let witness = question.read(alloc, model)?;
     Ok(Answer::Shown(witness))

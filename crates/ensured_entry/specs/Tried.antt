@@ -1,8 +1,7 @@
 -- Trees from which a run tells something.
-use Rattle.std.specs.Prelude.{ℕ, List, IsSome}
+use Rattle.std.specs.Prelude.{ℕ, List}
 use Rattle.fs_semantics.specs.FileTree.{Tree, IsTree}
 use Rattle.fs_semantics.specs.Programs.{Program}
-use Rattle.fs_semantics.specs.Orders.{outcome}
 use Rattle.order_encode.specs.Missing.{EndsMissing}
 use Rattle.orders.specs.Relation.{Relation}
 use Rattle.full_verdict.specs.Questions.{IsEnd}
@@ -14,10 +13,6 @@ use Rattle.ensured_entry.specs.Questions.{IsMissed}
 -- from the file tree the order ends in a tree without the entry
 abbrev pub MissesFrom : List Program → List ℕ → Wanted → Tree → Type 0
 MissesFrom es order w t = IsTree t × EndsMissing es order w t
-
--- from the file tree the order ends in a tree
-abbrev pub EndsFrom : List Program → List ℕ → Tree → Type 0
-EndsFrom es order t = IsTree t × IsSome (outcome es order t)
 
 -- What runs from a few trees show.
 abbrev pub IsTried : List Program → Relation → Wanted → Tried → Type 0

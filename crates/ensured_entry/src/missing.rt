@@ -1,16 +1,14 @@
 //! Whether a run of a deterministic graph ends without the wanted entry.
 
-ghost use Rattle.std.specs.Prelude.{◌≡◌, ◌≤◌, ◌++◌, ◌∷◌, [], ℕ, Bool, map, length, IfOk};
+ghost use Rattle.std.specs.Prelude.{◌≡◌, ◌≤◌, ◌++◌, ◌∷◌, [], map, length, IfOk};
 ghost use Rattle.fs_semantics.specs.Orders.{Told, IsDeterministic};
 ghost use Rattle.fs_lang.specs.Meaning.{program_of, programs_in};
 ghost use Rattle.fs_interpreter.specs.Places.{CoversSteps};
 ghost use Rattle.finite_domain.specs.Layouts.{IsLayout};
 ghost use Rattle.path_domain.specs.Laid.{layout_of};
 ghost use Rattle.orders.specs.Relation.{comes};
-ghost use Rattle.cnf.specs.Encoding.{inputs_in};
-ghost use Rattle.cnf.specs.Formulas.{Satisfies};
 ghost use Rattle.proof_check.specs.Refuted.{HasNoModel};
-ghost use Rattle.order_encode.specs.Asked.{Shows};
+ghost use Rattle.order_encode.specs.Asked.{CanShow};
 ghost use Rattle.order_encode.specs.declared.witness.Witness.{Witness};
 ghost use Rattle.wanted_entry.specs.Entries.{probe_of, Ensures};
 ghost use Rattle.ensured_entry.specs.Questions.{StatesMissing, IsMissed, AnswersMissing};
@@ -40,7 +38,7 @@ fn missing_question(
     requires covers { CoversSteps domain.now.table (programs_in programs.now) }
     ensures states { IfOk result (λ q. StatesMissing (map program_of programs.now) order.now wanted.now q.formula) }
     ensures ensured { IfOk result (λ q. HasNoModel q.formula → Ensures (map program_of programs.now) (Told (comes order.now)) wanted.now) }
-    ensures models { IfOk result (λ q. (v : ℕ → Bool) → Satisfies v q.formula.clauses → (w : Witness) → Shows q (inputs_in v) w → IsMissed (map program_of programs.now) order.now wanted.now w) }
+    ensures models { IfOk result (λ q. (w : Witness) → CanShow q w → IsMissed (map program_of programs.now) order.now wanted.now w) }
 {
     domains();
     wanted_entries();

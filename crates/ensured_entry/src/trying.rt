@@ -1,11 +1,10 @@
 //! Runs from a few trees, before any formula is made.
 
-ghost use Rattle.std.specs.Prelude.{◌≡◌, ◌↔◌, ◌<◌, length, map, IsTrue, IsSome, IfSome, IfOk};
+ghost use Rattle.std.specs.Prelude.{◌≡◌, ◌↔◌, ◌<◌, length, map, IsTrue, IfSome, IfOk};
 ghost use Rattle.std.specs.List.{AllByRecursion};
-ghost use Rattle.fs_semantics.specs.Orders.{outcome};
 ghost use Rattle.fs_lang.specs.Meaning.{program_of};
 ghost use Rattle.order_encode.specs.Missing.{EndsMissing};
-ghost use Rattle.ensured_entry.specs.Tried.{MissesFrom, EndsFrom, IsTried};
+ghost use Rattle.ensured_entry.specs.Tried.{MissesFrom, IsTried};
 
 use fs_lang::{Outcome, Program, Tree};
 use fs_replay::replay;
@@ -13,7 +12,7 @@ use order_encode::Witness;
 use orders::Order;
 use rh_base::NoMemory;
 use std::alloc::Global;
-use tried_trees::first_trees;
+use tried_trees::{first_end, first_trees};
 use wanted_entry::Wanted;
 
 /// What runs from a few trees show.
@@ -44,15 +43,6 @@ fn misses(
     }
 }
 
-/// Whether the run from the tree ends in a tree.
-fn ends(alloc: Global, programs: &[Program], order: &[u32], tree: &Tree) -> Result<bool, NoMemory>
-    requires { AllByRecursion (λ k. k < length programs.now) order.now }
-    ensures { IfOk result (λ told. IsTrue told ↔ IsSome (outcome (map program_of programs.now) order.now tree.now)) }
-{
-    let outcome = replay(alloc, programs, order, tree)?;
-    Ok(matches!(outcome, Outcome::Ended(_)))
-}
-
 /// The first of the trees from which the run ends in one without the entry.
 fn first_missed(
     alloc: Global,
@@ -75,26 +65,6 @@ fn first_missed(
     Ok(None)
 }
 
-/// The first of the trees from which the run ends in a tree.
-fn first_ended(
-    alloc: Global,
-    programs: &[Program],
-    order: &[u32],
-    trees: &[Tree],
-) -> Result<Option<Tree>, NoMemory>
-    requires { AllByRecursion (λ k. k < length programs.now) order.now }
-    ensures { IfOk result (λ found. IfSome found (EndsFrom (map program_of programs.now) order.now)) }
-{
-    for tree in trees {
-        tree.is_tree();
-        let told = ends(alloc, programs, order, tree)?;
-        if told {
-            return Ok(Some(tree.copy(alloc)?));
-        }
-    }
-    Ok(None)
-}
-
 /// Runs the first extension from a few trees.
 pub(crate) fn try_runs(
     alloc: Global,
@@ -111,7 +81,7 @@ pub(crate) fn try_runs(
     if let Some(tree) = missed {
         return Ok(Tried::Missed(Witness::Ends { tree, order: first }));
     }
-    let ended = first_ended(alloc, programs, first.as_slice(), trees.as_slice())?;
+    let ended = first_end(alloc, programs, first.as_slice(), trees.as_slice())?;
     match ended {
         Some(tree) => Ok(Tried::Ended(Witness::Ends { tree, order: first })),
         None => Ok(Tried::Nothing),

@@ -1,16 +1,14 @@
 //! Whether two deterministic graphs do the same.
 
-ghost use Rattle.std.specs.Prelude.{◌≡◌, ◌≤◌, ◌++◌, ℕ, Bool, map, length, IfOk};
+ghost use Rattle.std.specs.Prelude.{◌≡◌, ◌≤◌, ◌++◌, map, length, IfOk};
 ghost use Rattle.fs_semantics.specs.Orders.{Told, IsDeterministic};
 ghost use Rattle.fs_lang.specs.Meaning.{program_of, programs_in};
 ghost use Rattle.fs_interpreter.specs.Places.{CoversSteps};
 ghost use Rattle.finite_domain.specs.Layouts.{IsLayout};
 ghost use Rattle.path_domain.specs.Laid.{layout_of};
 ghost use Rattle.orders.specs.Relation.{comes};
-ghost use Rattle.cnf.specs.Encoding.{inputs_in};
-ghost use Rattle.cnf.specs.Formulas.{Satisfies};
 ghost use Rattle.proof_check.specs.Refuted.{HasNoModel};
-ghost use Rattle.order_encode.specs.Asked.{Shows};
+ghost use Rattle.order_encode.specs.Asked.{CanShow};
 ghost use Rattle.order_encode.specs.declared.witness.Witness.{Witness};
 ghost use Rattle.equal_graphs.specs.Equal.{AreEqual};
 ghost use Rattle.equal_graphs.specs.Questions.{StatesParting, IsParting, AnswersParting};
@@ -44,7 +42,7 @@ fn parting_question(
     requires right_covers { CoversSteps domain.now.table (programs_in right.now) }
     ensures states { IfOk result (λ q. StatesParting (map program_of left.now) order.now (map program_of right.now) other.now q.formula) }
     ensures equal { IfOk result (λ q. HasNoModel q.formula → AreEqual (map program_of left.now) (Told (comes order.now)) (map program_of right.now) (Told (comes other.now))) }
-    ensures models { IfOk result (λ q. (v : ℕ → Bool) → Satisfies v q.formula.clauses → (w : Witness) → Shows q (inputs_in v) w
+    ensures models { IfOk result (λ q. (w : Witness) → CanShow q w
         → IsParting (map program_of left.now) order.now (map program_of right.now) other.now w) }
 {
     domains();

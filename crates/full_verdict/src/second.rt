@@ -1,13 +1,11 @@
 //! Whether a second run changes anything.
 
-ghost use Rattle.std.specs.Prelude.{◌≡◌, ◌≤◌, ℕ, Bool, map, length, IfOk};
+ghost use Rattle.std.specs.Prelude.{◌≡◌, ◌≤◌, map, length, IfOk};
 ghost use Rattle.fs_semantics.specs.Orders.{Told, IsDeterministic, IsIdempotent};
 ghost use Rattle.fs_lang.specs.Meaning.{program_of};
 ghost use Rattle.orders.specs.Relation.{comes};
-ghost use Rattle.cnf.specs.Encoding.{inputs_in};
-ghost use Rattle.cnf.specs.Formulas.{Satisfies};
 ghost use Rattle.proof_check.specs.Refuted.{HasNoModel};
-ghost use Rattle.order_encode.specs.Asked.{Shows};
+ghost use Rattle.order_encode.specs.Asked.{CanShow};
 ghost use Rattle.order_encode.specs.declared.witness.Witness.{Witness};
 ghost use Rattle.full_verdict.specs.Questions.{StatesSecond, IsSecondChange};
 ghost use Rattle.full_verdict.specs.Answers.{AnswersSecond, IsTwice, IsEndOf};
@@ -30,7 +28,7 @@ fn second_question(alloc: Global, programs: &[Program], order: &Order) -> Result
     requires deterministic { IsDeterministic (map program_of programs.now) (Told (comes order.now)) }
     ensures states { IfOk result (λ q. StatesSecond (map program_of programs.now) order.now q.formula) }
     ensures same { IfOk result (λ q. HasNoModel q.formula → IsIdempotent (map program_of programs.now) (Told (comes order.now))) }
-    ensures models { IfOk result (λ q. (v : ℕ → Bool) → Satisfies v q.formula.clauses → (w : Witness) → Shows q (inputs_in v) w → IsSecondChange (map program_of programs.now) order.now w) }
+    ensures models { IfOk result (λ q. (w : Witness) → CanShow q w → IsSecondChange (map program_of programs.now) order.now w) }
 {
     constructs();
     counterexamples();

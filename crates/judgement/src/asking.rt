@@ -1,15 +1,13 @@
 //! A question of order, and what comes of it.
 
-ghost use Rattle.std.specs.Prelude.{◌≡◌, ◌≤◌, ℕ, Bool, map, length, IfOk};
+ghost use Rattle.std.specs.Prelude.{◌≡◌, ◌≤◌, map, length, IfOk};
 ghost use Rattle.fs_semantics.specs.Orders.{Told, IsDeterministic};
 ghost use Rattle.fs_lang.specs.Meaning.{program_of};
 ghost use Rattle.finite_domain.specs.Layouts.{IsLayout};
 ghost use Rattle.path_domain.specs.declared.listed.Domain.{Domain};
 ghost use Rattle.path_domain.specs.Laid.{layout_of};
 ghost use Rattle.orders.specs.Relation.{comes};
-ghost use Rattle.cnf.specs.Encoding.{inputs_in};
-ghost use Rattle.cnf.specs.Formulas.{Satisfies};
-ghost use Rattle.order_encode.specs.Asked.{Shows};
+ghost use Rattle.order_encode.specs.Asked.{CanShow};
 ghost use Rattle.order_encode.specs.declared.witness.Witness.{Witness};
 ghost use Rattle.judgement.specs.Questions.{States};
 ghost use Rattle.judgement.specs.First.{IsDifference};
@@ -37,7 +35,7 @@ pub(crate) fn question(
     ensures laid { IfOk result (λ q. (d : Domain) × IsLayout (map program_of programs.now) (layout_of d)) }
     ensures states { IfOk result (λ q. States (map program_of programs.now) (Told (comes order.now)) q.formula) }
     ensures sure { IfOk result (λ q. HasNoModel q.formula → IsDeterministic (map program_of programs.now) (Told (comes order.now))) }
-    ensures models { IfOk result (λ q. (v : ℕ → Bool) → Satisfies v q.formula.clauses → (w : Witness) → Shows q (inputs_in v) w → IsDifference (map program_of programs.now) (Told (comes order.now)) w) }
+    ensures models { IfOk result (λ q. (w : Witness) → CanShow q w → IsDifference (map program_of programs.now) (Told (comes order.now)) w) }
 {
     counterexamples();
     domains();

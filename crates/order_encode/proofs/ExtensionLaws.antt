@@ -1,10 +1,10 @@
 -- The formulas of the questions about one order.
-use Rattle.std.proofs.Common.{◌≡◌, ℕ, Bool, true, List, length, Some, sym, subst}
+use Rattle.std.proofs.Common.{◌≡◌, ℕ, true, List, length, Some, sym, subst}
 use Rattle.std.specs.Prelude.{◌↔◌}
 use Rattle.bool_circuit.specs.declared.gate.Wire.{Wire}
 use Rattle.bool_circuit.specs.declared.gate.Gate.{Gate}
 use Rattle.bool_circuit.specs.Gates.{wire_value}
-use Rattle.cnf.specs.Formulas.{Formula, IsSatisfiable, Satisfies}
+use Rattle.cnf.specs.Formulas.{Formula, IsSatisfiable}
 use Rattle.cnf.specs.Encoding.{StatesGoal, inputs_in}
 use Rattle.fs_semantics.specs.FileTree.{Tree}
 use Rattle.fs_semantics.specs.Programs.{Program}
@@ -20,7 +20,7 @@ use Rattle.sym_run.specs.Trees.{IsTreeOver}
 use Rattle.order_encode.specs.declared.witness.Witness.{Witness}
 use Rattle.order_encode.specs.declared.witness.Witness.TheVariants as witness
 use Rattle.order_encode.specs.declared.asks.Asks.{Asks}
-use Rattle.order_encode.specs.Asked.{Asked, AreSmallBy, IsReadAs, IsReadable, Shows}
+use Rattle.order_encode.specs.Asked.{Asked, AreSmallBy, IsReadAs, IsReadable, Shows, CanShow}
 use Rattle.order_encode.specs.Asking.{AreTrees}
 use Rattle.order_encode.specs.Goals.{TellsTree, ChangesTwice, Ends}
 use Rattle.order_encode.specs.Witnesses.{IsFirstExtension, IsChangedAgain, IsEndedFrom, HasSecondChange, HasEnd, ShowsChange, ShowsEnd}
@@ -56,10 +56,11 @@ module _ {B : Type 0} {d : Domain} {old new : List Gate} {cells : Cells B Wire (
   )
 
   pub tree_shown : OneOutcome → {a : Asks} (q : Asked B) → q ≡ record { gates = new; table = d.table; cells = cells; asks = a; formula = q.formula } → StatesGoal new goal.0 q.formula
-      → (v : ℕ → Bool) → Satisfies v q.formula.clauses → (w : Witness) → Shows q (inputs_in v) w → (t : Tree) × (IsTreeOver d t × P t) × IsReadAs (wire_value new (inputs_in v)) a t w
-  tree_shown one q holds states v sat w shows =
-      let seen = subst (λ (x : Asked B). Shows x (inputs_in v) w) holds shows in
-      let told = (is.exact (inputs_in v)).0 (states.models v sat) in
+      → (w : Witness) → (can : CanShow q w) → (t : Tree) × (IsTreeOver d t × P t) × IsReadAs (wire_value new (inputs_in can.0)) a t w
+  tree_shown one q holds states w can =
+      let v = can.0 in
+      let seen = subst (λ (x : Asked B). Shows x (inputs_in v) w) holds can.2 in
+      let told = (is.exact (inputs_in v)).0 (states.models v can.1) in
       let same = one_tree one d.table (state_of (circuit_meanings new) (inputs_in v) cells) told.tree seen.0 (told_stands (inputs_in v) told) seen.1 in
       (seen.0, (subst (IsTreeOver d) same told.over, subst P same told.held), seen.2)
 

@@ -64,3 +64,7 @@ pub record IsAsked {B : Type 0} (q : Asked B) : Type 0 where
 -- The witness is what the inputs tell: the tree for which the cells stand, with what is asked.
 abbrev pub Shows : {B : Type 0} → Asked B → Valuation → Witness → Type 0
 Shows q v w = (tree : Tree) × Stands q.table (state_of (circuit_meanings q.gates) v q.cells) tree × IsReadAs (wire_value q.gates v) q.asks tree w
+
+-- some model of the formula tells this witness
+abbrev pub CanShow : {B : Type 0} → Asked B → Witness → Type 0
+CanShow q w = (v : ℕ → Bool) × Satisfies v q.formula.clauses × Shows q (inputs_in v) w

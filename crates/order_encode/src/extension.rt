@@ -1,11 +1,10 @@
 //! The questions about the first extension.
 
-ghost use Rattle.std.specs.Prelude.{◌≡◌, ◌↔◌, ℕ, Bool, map, length, IfOk};
-ghost use Rattle.cnf.specs.Encoding.{inputs_in};
-ghost use Rattle.cnf.specs.Formulas.{IsSatisfiable, Satisfies};
+ghost use Rattle.std.specs.Prelude.{◌≡◌, ◌↔◌, map, length, IfOk};
+ghost use Rattle.cnf.specs.Formulas.{IsSatisfiable};
 ghost use Rattle.fs_lang.specs.Meaning.{program_of, programs_in};
 ghost use Rattle.fs_interpreter.specs.Places.{CoversSteps};
-ghost use Rattle.order_encode.specs.Asked.{Shows};
+ghost use Rattle.order_encode.specs.Asked.{CanShow};
 ghost use Rattle.order_encode.specs.Witnesses.{HasSecondChange, ShowsChange, HasEnd, ShowsEnd};
 ghost use Rattle.order_encode.specs.declared.witness.Witness.{Witness};
 
@@ -31,7 +30,7 @@ pub fn ask_twice(
     requires nodes { length programs.now ≡ order.now.count }
     requires covers { CoversSteps domain.now.table (programs_in programs.now) }
     ensures exact { IfOk result (λ q. IsSatisfiable q.formula ↔ HasSecondChange (map program_of programs.now) order.now domain.now) }
-    ensures models { IfOk result (λ q. (v : ℕ → Bool) → Satisfies v q.formula.clauses → (w : Witness) → Shows q (inputs_in v) w → ShowsChange (map program_of programs.now) order.now domain.now w) }
+    ensures models { IfOk result (λ q. (w : Witness) → CanShow q w → ShowsChange (map program_of programs.now) order.now domain.now w) }
 {
     states();
     allowed_orders();
@@ -67,7 +66,7 @@ pub fn ask_some(
     requires nodes { length programs.now ≡ order.now.count }
     requires covers { CoversSteps domain.now.table (programs_in programs.now) }
     ensures exact { IfOk result (λ q. IsSatisfiable q.formula ↔ HasEnd (map program_of programs.now) order.now domain.now) }
-    ensures models { IfOk result (λ q. (v : ℕ → Bool) → Satisfies v q.formula.clauses → (w : Witness) → Shows q (inputs_in v) w → ShowsEnd (map program_of programs.now) order.now domain.now w) }
+    ensures models { IfOk result (λ q. (w : Witness) → CanShow q w → ShowsEnd (map program_of programs.now) order.now domain.now w) }
 {
     states();
     allowed_orders();

@@ -1,10 +1,9 @@
 //! The question whether two orders, each of programs of its own, end differently.
 
-ghost use Rattle.std.specs.Prelude.{◌≡◌, ◌↔◌, ◌<◌, ℕ, Bool, true, map, length, IfOk};
+ghost use Rattle.std.specs.Prelude.{◌≡◌, ◌↔◌, ◌<◌, true, map, length, IfOk};
 ghost use Rattle.std.specs.List.{AllByRecursion};
 ghost use Rattle.bool_circuit.specs.Gates.{wire_value};
-ghost use Rattle.cnf.specs.Encoding.{inputs_in};
-ghost use Rattle.cnf.specs.Formulas.{IsSatisfiable, Satisfies};
+ghost use Rattle.cnf.specs.Formulas.{IsSatisfiable};
 ghost use Rattle.fs_semantics.specs.FileTree.{Tree};
 ghost use Rattle.fs_lang.specs.Meaning.{program_of, programs_in};
 ghost use Rattle.fs_interpreter.specs.Meanings.{Valuation, Grows};
@@ -13,7 +12,7 @@ ghost use Rattle.fs_interpreter.specs.Standing.{Stands};
 ghost use Rattle.fs_interpreter.specs.States.{AreCells, state_of};
 ghost use Rattle.sym_run.specs.Wires.{circuit_meanings};
 ghost use Rattle.order_encode.specs.Asking.{AreTrees};
-ghost use Rattle.order_encode.specs.Asked.{Shows};
+ghost use Rattle.order_encode.specs.Asked.{CanShow};
 ghost use Rattle.order_encode.specs.Goals.{TellsTree};
 ghost use Rattle.order_encode.specs.Parting.{EndDifferently, HaveParting, ShowsParting};
 ghost use Rattle.order_encode.specs.declared.witness.Witness.{Witness};
@@ -99,7 +98,7 @@ pub fn ask_parting(
     requires left { CoversSteps domain.now.table (programs_in left.now) }
     requires right { CoversSteps domain.now.table (programs_in right.now) }
     ensures exact { IfOk result (λ q. IsSatisfiable q.formula ↔ HaveParting (map program_of left.now) order (map program_of right.now) other.now domain.now) }
-    ensures models { IfOk result (λ q. (v : ℕ → Bool) → Satisfies v q.formula.clauses → (w : Witness) → Shows q (inputs_in v) w
+    ensures models { IfOk result (λ q. (w : Witness) → CanShow q w
         → ShowsParting (map program_of left.now) order (map program_of right.now) other.now domain.now w) }
 {
     states();

@@ -3,11 +3,10 @@
 ghost use Rattle.std.specs.Prelude.{◌≡◌, ◌≤◌, ◌<◌, ◌^◌, ◌∷◌, ◌==◌, length, take, map, if◌then◌else◌, IfOk};
 ghost use Rattle.std.specs.List.{AllByRecursion};
 ghost use Rattle.bool_circuit.specs.Gates.{truth_at, wire_values, input_count, IsCircuit};
-ghost use Rattle.cnf.specs.Encoding.{inputs_in};
 ghost use Rattle.cnf.specs.Formulas.{Satisfies, valuation_of};
 ghost use Rattle.order_places.specs.Places.{exchanged};
 ghost use Rattle.sym_run.specs.Wires.{number};
-ghost use Rattle.order_encode.specs.Asked.{Shows, IsReadAs, AreWithin, AreSmallBy};
+ghost use Rattle.order_encode.specs.Asked.{CanShow, IsReadAs, AreWithin, AreSmallBy};
 
 use crate::asks::Asks;
 use crate::question::Question;
@@ -124,7 +123,7 @@ impl Question {
     pub fn read(&self, alloc: Global, model: &[bool]) -> Result<Witness, NoMemory>
         requires long { length model.now ≡ self.now.formula.vars }
         requires model { Satisfies (valuation_of model.now) self.now.formula.clauses }
-        ensures { IfOk result (Shows self.now (inputs_in (valuation_of model.now))) }
+        ensures { IfOk result (CanShow self.now) }
     {
         let inputs = inputs_of(self.sym.circuit(), model);
         let tree = self.sym.tree(&self.domain, &self.cells, inputs)?;

@@ -1,7 +1,5 @@
 use Rattle.std.proofs.Common.{sym, subst, ◌∙◌}
 use Rattle.std.proofs.lemmas.Result.{IfOk-weaker}
-use Rattle.cnf.specs.Encoding.{inputs_in}
-use Rattle.cnf.specs.Formulas.{Satisfies, valuation_of}
 use Rattle.sat_solver.specs.Turning.{Finds}
 use Rattle.sat_solver.specs.Working.{IsWorking}
 use Rattle.answering.specs.Answers.{Answers, IsReadFrom, IsRefuted}
@@ -11,10 +9,7 @@ use Rattle.answering.proofs.answering.answer_to.Goals as goal
 pub returns-in-Model : goal.returns-in-Model
 returns-in-Model c =
     let q = c.args.question in
-    let model = c.as_slice.result.now in
-    let found = subst (Finds c.cnf.result.now c.args.budget) c.in-Model.is c.in_ok-found.ensures in
-    let holds = subst (λ f. Satisfies (valuation_of model) f.clauses) c.cnf.ensures (subst (λ m. Satisfies (valuation_of m) c.cnf.result.now.clauses) (sym c.as_slice.ensures) found.1) in
-    IfOk-weaker c.read.result (IsReadFrom q (inputs_in (valuation_of model))) (Answers q c.args.budget) (read q c.args.budget (valuation_of model) holds) c.read.ensures
+    IfOk-weaker c.read.result (IsReadFrom q) (Answers q c.args.budget) (read q c.args.budget) c.read.ensures
 
 pub returns-in-Refuted : goal.returns-in-Refuted
 returns-in-Refuted c =

@@ -19,5 +19,5 @@ returns-clause-ensured c =
     (c.wanted_entries.ensures.exactly es (comes c.args.order.now) c.args.wanted.now)
 
 pub returns-clause-models : goal.returns-clause-models
-returns-clause-models c = λ v holds w told.
-    shown (map program_of c.args.programs.now) c.args.order.now c.args.domain.now c.args.wanted.now w (c.in_ok-posed.ensures.models v holds w told)
+returns-clause-models c = λ w told.
+    shown (map program_of c.args.programs.now) c.args.order.now c.args.domain.now c.args.wanted.now w (c.in_ok-posed.ensures.models w told)

@@ -15,7 +15,7 @@ returns-in-Some c =
     let missed = subst (λ o. MissesFrom es o w c.in-Some.tree) c.as_slice.ensures found in
     missed_from es c.args.order.now (length-map c.args.programs.now program_of ∙ c.requires) c.in_ok-first.first (record { allowed = c.in_ok-first.ensures.allowed; least = c.in_ok-first.ensures.least }) w c.in-Some.tree missed
 
-pub first_ended-requires : goal.first_ended-requires
-first_ended-requires c =
+pub first_end-requires : goal.first_end-requires
+first_end-requires c =
     let low = below (length c.args.programs.now) c.args.order.now.count c.in_ok-first.first c.requires c.in_ok-first.ensures.allowed.below in
     subst (λ o. AllByRecursion (λ k. k < length c.args.programs.now) o) (sym c.as_slice-3.ensures) low

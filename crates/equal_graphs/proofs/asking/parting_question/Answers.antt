@@ -34,11 +34,11 @@ returns-clause-equal c =
     c.domains.ensures.laid_out c.shadows.ensures.exist c.shadows.ensures.tell c.args.domain.now c.requires.layout f exact
 
 pub returns-clause-models : goal.returns-clause-models
-returns-clause-models c = λ v holds w told.
+returns-clause-models c = λ w told.
     let es = map program_of c.args.left.now in
     let fs = map program_of c.args.right.now in
     let asked = c.in_ok-asked.asked in
-    let part = subst (λ q. ShowsParting es asked.left fs q c.args.domain.now w) c.as_slice.ensures (c.in_ok-posed.ensures.models v holds w told) in
+    let part = subst (λ q. ShowsParting es asked.left fs q c.args.domain.now w) c.as_slice.ensures (c.in_ok-posed.ensures.models w told) in
     shown es c.args.order.now fs c.args.other.now (length-map c.args.left.now program_of ∙ c.requires.left_count) (length-map c.args.right.now program_of ∙ c.requires.right_count)
     c.requires.left_sure c.requires.right_sure c.in_ok-_first._first c.in_ok-_second._second
     (record { allowed = c.in_ok-_first.ensures.allowed; least = c.in_ok-_first.ensures.least }) (record { allowed = c.in_ok-_second.ensures.allowed; least = c.in_ok-_second.ensures.least })

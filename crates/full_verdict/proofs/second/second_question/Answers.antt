@@ -19,5 +19,5 @@ returns-clause-same c =
     (c.counterexamples.ensures.idempotent es (comes c.args.order.now) c.are_proper.ensures c.requires.deterministic)
 
 pub returns-clause-models : goal.returns-clause-models
-returns-clause-models c = λ v holds w shown.
-    change (map program_of c.args.programs.now) c.args.order.now c.in_ok-d.d w (c.in_ok-posed.ensures.models v holds w shown)
+returns-clause-models c = λ w shown.
+    change (map program_of c.args.programs.now) c.args.order.now c.in_ok-d.d w (c.in_ok-posed.ensures.models w shown)

@@ -16,5 +16,5 @@ returns-clause-never c =
     c.in_ok-_first._first (record { allowed = c.in_ok-_first.ensures.allowed; least = c.in_ok-_first.ensures.least })
 
 pub returns-clause-models : goal.returns-clause-models
-returns-clause-models c = λ v holds w told.
-    shown (map program_of c.args.programs.now) c.args.order.now c.in_ok-d.d w (c.in_ok-posed.ensures.models v holds w told)
+returns-clause-models c = λ w told.
+    shown (map program_of c.args.programs.now) c.args.order.now c.in_ok-d.d w (c.in_ok-posed.ensures.models w told)

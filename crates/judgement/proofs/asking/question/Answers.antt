@@ -17,5 +17,5 @@ returns-clause-sure c =
     c.in_ok-posed.posed.formula c.in_ok-posed.ensures.exact (c.counterexamples.ensures.deterministic es (comes c.args.order.now)).1
 
 pub returns-clause-models : goal.returns-clause-models
-returns-clause-models c = λ v holds w shown.
-    difference (map program_of c.args.programs.now) (Told (comes c.args.order.now)) c.in_ok-d.d w (c.in_ok-posed.ensures.models v holds w shown)
+returns-clause-models c = λ w shown.
+    difference (map program_of c.args.programs.now) (Told (comes c.args.order.now)) c.in_ok-d.d w (c.in_ok-posed.ensures.models w shown)

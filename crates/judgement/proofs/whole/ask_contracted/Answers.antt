@@ -1,14 +1,12 @@
-use Rattle.std.proofs.Common.{ℕ, Bool, map, subst}
+use Rattle.std.proofs.Common.{map, subst}
 use Rattle.fs_semantics.specs.Orders.{Told, IsDeterministic}
 use Rattle.fs_lang.specs.Meaning.{program_of}
 use Rattle.finite_domain.specs.Layouts.{IsLayout}
 use Rattle.path_domain.specs.declared.listed.Domain.{Domain}
 use Rattle.path_domain.specs.Laid.{layout_of}
 use Rattle.orders.specs.Relation.{comes}
-use Rattle.cnf.specs.Encoding.{inputs_in}
-use Rattle.cnf.specs.Formulas.{Satisfies}
 use Rattle.proof_check.specs.Refuted.{HasNoModel}
-use Rattle.order_encode.specs.Asked.{Shows}
+use Rattle.order_encode.specs.Asked.{CanShow}
 use Rattle.order_encode.specs.declared.witness.Witness.{Witness}
 use Rattle.answering.specs.Answers.{in_its_words}
 use Rattle.kept_graph.specs.Contracted.{expanded}
@@ -28,7 +26,7 @@ returns c =
     let after = Told (comes k.order) in
     let q = c.in_ok-question.question in
     let posed = subst (λ ps. ((d : Domain) × IsLayout (map program_of ps) (layout_of d)) × States (map program_of ps) after q.formula × (HasNoModel q.formula → IsDeterministic (map program_of ps) after)
-    × ((v : ℕ → Bool) → Satisfies v q.formula.clauses → (w : Witness) → Shows q (inputs_in v) w → IsDifference (map program_of ps) after w)) c.as_slice.ensures
+    × ((w : Witness) → CanShow q w → IsDifference (map program_of ps) after w)) c.as_slice.ensures
     (c.in_ok-question.ensures.laid, c.in_ok-question.ensures.states, c.in_ok-question.ensures.sure, c.in_ok-question.ensures.models) in
     let proper = c.are_proper.ensures in
     let pruned = c.requires.kept.pruned in

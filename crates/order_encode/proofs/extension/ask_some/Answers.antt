@@ -24,5 +24,5 @@ pub returns-clause-models : goal.returns-clause-models
 returns-clause-models c =
     let asks = asks_order (Ends (map program_of c.args.programs.now)) c.as_slice.ensures c.in_ok-sym.ensures.trees c.in_ok-sym.ensures.every c.goal_of_end.ensures.grows c.in_ok-asked.ensures.exact in
     let is_first : IsFirstExtension c.args.order.now c.in_ok-first.first = record { allowed = c.in_ok-first.ensures.allowed; least = c.in_ok-first.ensures.least } in
-    if_ok_both _ _ _ c.pose.result (λ q states holds v sat w shows. end_shown _ c.args.order.now c.args.domain.now c.in_ok-first.first is_first w (tree_shown asks c.states.ensures.outcome q holds states v sat w shows))
+    if_ok_both _ _ _ c.pose.result (λ q states holds w can. end_shown _ c.args.order.now c.args.domain.now c.in_ok-first.first is_first w (tree_shown asks c.states.ensures.outcome q holds states w can))
     c.pose.ensures.states c.pose.ensures.holds

@@ -27,5 +27,5 @@ returns-clause-models c =
     let asks = asks_order (ChangesTwice (map program_of c.args.programs.now)) c.as_slice.ensures c.in_ok-sym.ensures.trees c.in_ok-sym.ensures.every c.goal_of_change.ensures.grows c.in_ok-asked.ensures.exact in
     let is_first : IsFirstExtension c.args.order.now c.in_ok-first.first = record { allowed = c.in_ok-first.ensures.allowed; least = c.in_ok-first.ensures.least } in
     let same = length-map c.args.programs.now program_of ∙ c.requires.nodes in
-    if_ok_both _ _ _ c.pose.result (λ q states holds v sat w shows. change_shown _ c.args.order.now c.args.domain.now c.in_ok-first.first is_first w same (tree_shown asks c.states.ensures.outcome q holds states v sat w shows))
+    if_ok_both _ _ _ c.pose.result (λ q states holds w can. change_shown _ c.args.order.now c.args.domain.now c.in_ok-first.first is_first w same (tree_shown asks c.states.ensures.outcome q holds states w can))
     c.pose.ensures.states c.pose.ensures.holds

@@ -31,5 +31,5 @@ returns-clause-models c =
     let is_first : IsFirstExtension c.args.order.now c.in_ok-first.first = record { allowed = c.in_ok-first.ensures.allowed; least = c.in_ok-first.ensures.least } in
     let same = length-map c.args.programs.now program_of ∙ c.requires.nodes in
     if_ok_both _ _ _ c.pose.result
-    (λ q states holds v sat w shows. missing_shown _ c.args.order.now c.args.domain.now c.args.wanted.now c.in_ok-first.first is_first same w (tree_shown asks c.states.ensures.outcome q holds states v sat w shows))
+    (λ q states holds w can. missing_shown _ c.args.order.now c.args.domain.now c.args.wanted.now c.in_ok-first.first is_first same w (tree_shown asks c.states.ensures.outcome q holds states w can))
     c.pose.ensures.states c.pose.ensures.holds

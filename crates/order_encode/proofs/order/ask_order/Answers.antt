@@ -42,12 +42,13 @@ returns-clause-exact c = IfOk-weaker c.pose.result _ _ (λ q states.
     order_exact c.allowed_orders.ensures.exact c.allowed_orders.ensures.long c.exchanges.ensures.found c.exchanges.ensures.placed c.neighbours.ensures.exchange (map program_of c.args.programs.now) order d s1 c.goal.new.sym inputs c.in_ok-asked.asked q.formula c.count.ensures.ordered same is c.in_ok-asked.ensures.exact states) c.pose.ensures.states
 
 pub returns-clause-models : goal.returns-clause-models
-returns-clause-models c = if_ok_both _ _ _ c.pose.result (λ q states holds u sat w shows.
+returns-clause-models c = if_ok_both _ _ _ c.pose.result (λ q states holds w told.
     let order = c.args.order.now in
     let d = c.args.domain.now in
     let s1 = c.order_inputs.new.sym in
     let inputs = c.in_ok-inputs.inputs in
     let is = subst (λ n. IsAsking s1 d n inputs) c.count.ensures.count c.in_ok-inputs.ensures.asking in
     let same = length-map c.args.programs.now program_of ∙ c.requires.nodes in
-    let seen = subst (λ (x : Asked (List Gate)). Shows x (inputs_in u) w) holds shows in
-    order_models c.states.ensures.outcome c.allowed_orders.ensures.exact c.exchanges.ensures.found (map program_of c.args.programs.now) order d s1 c.goal.new.sym inputs c.in_ok-asked.asked q.formula c.count.ensures.ordered same is c.goal.ensures.grows c.in_ok-asked.ensures.exact states u sat w seen) c.pose.ensures.states c.pose.ensures.holds
+    let u = told.0 in
+    let seen = subst (λ (x : Asked (List Gate)). Shows x (inputs_in u) w) holds told.2 in
+    order_models c.states.ensures.outcome c.allowed_orders.ensures.exact c.exchanges.ensures.found (map program_of c.args.programs.now) order d s1 c.goal.new.sym inputs c.in_ok-asked.asked q.formula c.count.ensures.ordered same is c.goal.ensures.grows c.in_ok-asked.ensures.exact states u told.1 w seen) c.pose.ensures.states c.pose.ensures.holds

@@ -28,5 +28,5 @@ returns-clause-models c =
     let fs = map program_of c.args.right.now in
     let asks = asks_order (λ o. EndDifferently es o fs c.args.other.now) c.as_slice.ensures c.in_ok-sym.ensures.trees c.in_ok-sym.ensures.every c.goal_of_parting.ensures.grows c.in_ok-asked.ensures.exact in
     if_ok_both _ _ _ c.pose.result
-    (λ q states holds v sat w shows. parting_shown es c.args.order fs c.args.other.now c.args.domain.now w (tree_shown asks c.states.ensures.outcome q holds states v sat w shows))
+    (λ q states holds w can. parting_shown es c.args.order fs c.args.other.now c.args.domain.now w (tree_shown asks c.states.ensures.outcome q holds states w can))
     c.pose.ensures.states c.pose.ensures.holds

@@ -6,7 +6,7 @@ use Rattle.cnf.specs.Formulas.{Satisfies, valuation_of}
 use Rattle.cnf.specs.Encoding.{inputs_in}
 use Rattle.fs_interpreter.specs.States.{State}
 use Rattle.fs_interpreter.specs.Standing.{Stands}
-use Rattle.order_encode.specs.Asked.{Asked, AreSmallBy, IsReadAs, Shows}
+use Rattle.order_encode.specs.Asked.{Asked, AreSmallBy, IsReadAs, CanShow}
 use Rattle.order_encode.proofs.ReadLaws.{model_values, model_state}
 use Rattle.order_encode.proofs.question.Question.read.Goals as goal
 
@@ -41,4 +41,5 @@ returns c = IfOk-weaker c.witness_by.result _ _ (λ w is.
     let told = ap truth_at (c.deref.ensures.value ∙ c.in_ok-values.ensures.values ∙ ap (wire_values u) c.circuit-2.ensures) ∙ same in
     let tree = c.in_ok-tree.tree in
     let stands = subst (λ (s : State). Stands q.domain.table s tree) (model_state q.sym u v q.cells same) c.in_ok-tree.ensures in
-    subst (λ (x : Asked (List Gate)). Shows x v w) c.self.view_is (tree, stands, subst (λ f. IsReadAs f q.asks tree w) told is)) c.witness_by.ensures
+    let holds = subst (λ (x : Asked (List Gate)). Satisfies (valuation_of model) x.formula.clauses) (sym c.self.view_is) c.requires.model in
+    subst (λ (x : Asked (List Gate)). CanShow x w) c.self.view_is (valuation_of model, holds, (tree, stands, subst (λ f. IsReadAs f q.asks tree w) told is))) c.witness_by.ensures
