@@ -11,7 +11,7 @@ READ_FAULT = re.compile(rb"^read fault: (.*?)\n?\Z", re.S)
 # More than a manifest may have.
 MOST = 1 << 20
 # The questions that are asked of a manifest, and take --node.
-OF_MANIFEST = ("verify", "proof", "catalog", "graph", "programs", "replay", "ensures", "equal", "repair")
+OF_MANIFEST = ("verify", "explain", "proof", "catalog", "graph", "programs", "replay", "ensures", "equal", "repair")
 # Refusals that come before a node's block is looked for: of files, of the text, and that no node's block fits.
 BEFORE_NODES = (17, 60, 61, 64, 10, 11, 12, 13, 14, 31)
 
@@ -54,22 +54,33 @@ class Run:
         return by_status.get(self.status, lambda: [])() + self.of_default_node()
 
     def after_yes(self):
-        if self.words.ask() == "verify" and self.printed.endswith(b"\nfails from every tree\n"):
+        if self.words.ask() in ("verify", "explain") and b"\nfails from every tree\n" in self.printed:
             return ["No run of this manifest can succeed: from every file tree each order ends in an error."]
         return []
 
     def after_no(self):
-        if self.words.ask() != "verify" or "--workload" in self.words.given:
+        if self.words.ask() not in ("verify", "explain") or "--workload" in self.words.given:
             return []
+        return self.how_to_look() + (self.how_to_mend() if self.status == 1 else [])
+
+    def asking(self, *more):
+        """Returns the line that asks this of the same manifest."""
         kept = self.words.without("--ask", "--conflicts")
-        words = [*kept, "--ask", "replay", "--tree", "T", "--order", "O", "MANIFEST" if self.is_copied else self.name]
-        lines = ["To see a run end so, put what stands behind `tree ` into a file T and what stands behind `order ` into a file O:"]
-        lines.append(f"  rehearsal {shown(' '.join(map(shlex.quote, words)))}")
+        words = [*kept, "--ask", *more, "MANIFEST" if self.is_copied else self.name]
+        return f"  rehearsal {shown(' '.join(map(shlex.quote, words)))}"
+
+    def how_to_look(self):
+        if self.words.ask() == "explain":
+            return []
+        lines = ["To see where to look, and why:", self.asking("explain")]
+        lines.append("To see a run end so, put what stands behind `tree ` into a file T and what stands behind `order ` into a file O:")
+        lines.append(self.asking("replay", "--tree", "T", "--order", "O"))
         if self.status == 2:
             lines.append("and for the second run what stands behind the first `outcome ` into T.")
-        if self.status == 1:
-            lines += ["To see which arrows are missing:", f"  rehearsal {shown(' '.join(map(shlex.quote, [*kept, '--ask', 'repair', words[-1]])))}"]
         return lines
+
+    def how_to_mend(self):
+        return ["To see which arrows are missing:", self.asking("repair")]
 
     def after_spent(self):
         return ["The search was ended by --conflicts; a greater number, or none, lets it go on."]

@@ -84,10 +84,11 @@ ask_row ask.Migrate = asks_for (codes "migrate") reading LISTING_BYTES
 ask_row ask.Repair = asks_for (codes "repair") judging MANIFEST_BYTES
 ask_row ask.Ensures = asks_for (codes "ensures") wanting MANIFEST_BYTES
 ask_row ask.Equal = asks_for (codes "equal") comparing MANIFEST_BYTES
+ask_row ask.Explain = asks_for (codes "explain") rehearsing MANIFEST_BYTES
 
 -- all of them
 abbrev pub asks : List Ask
-asks = ask.Verify ∷ ask.Proof ∷ ask.Catalog ∷ ask.Graph ∷ ask.Programs ∷ ask.Replay ∷ ask.Check ∷ ask.Migrate ∷ ask.Repair ∷ ask.Ensures ∷ ask.Equal ∷ []
+asks = ask.Verify ∷ ask.Proof ∷ ask.Catalog ∷ ask.Graph ∷ ask.Programs ∷ ask.Replay ∷ ask.Check ∷ ask.Migrate ∷ ask.Repair ∷ ask.Ensures ∷ ask.Equal ∷ ask.Explain ∷ []
 
 -- the first of these that a word asks for
 abbrev pub ask_among : List Ask → List ℕ → Option Ask

@@ -33,6 +33,8 @@ pub enum Ask {
     Ensures,
     /// Whether two manifests do the same.
     Equal,
+    /// The same as `Verify`, and of a no where to look.
+    Explain,
 }
 
 /// The files that a request may name.
@@ -89,7 +91,7 @@ pub struct Tasks {
 }
 
 /// The values of `--ask`, each of which has a row below.
-const ASKS: [Ask; 11] = [
+const ASKS: [Ask; 12] = [
     Ask::Verify,
     Ask::Proof,
     Ask::Catalog,
@@ -101,6 +103,7 @@ const ASKS: [Ask; 11] = [
     Ask::Repair,
     Ask::Ensures,
     Ask::Equal,
+    Ask::Explain,
 ];
 
 /// The files, in the order in which they are read and refusals are looked for. Each has a row below.
@@ -273,6 +276,7 @@ impl Ask {
             Ask::Repair => ("repair", judging(), MANIFEST_BYTES),
             Ask::Ensures => ("ensures", wanting(), MANIFEST_BYTES),
             Ask::Equal => ("equal", comparing(), MANIFEST_BYTES),
+            Ask::Explain => ("explain", rehearsing(), MANIFEST_BYTES),
         }
     }
 

@@ -13,3 +13,4 @@ pub use compiling::{compile, compile_with};
 pub use items::main_code;
 pub use laws::one_reading;
 pub use running::{evaluate, rounds};
+pub use source::manifest_of;

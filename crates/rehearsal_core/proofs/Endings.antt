@@ -30,6 +30,7 @@ use Rattle.rehearsal_core.specs.Steps.{SaysOf, Says, TellsLine, TellsReport, Owe
 use Rattle.rehearsal_core.specs.Answers.{IsOfReport, HasCause, Tells, Owes, refusal_line, read_fault_line, memory_line}
 use Rattle.reports.specs.declared.sides.Side.{Side}
 use Rattle.rehearsal_core.proofs.ComparedLaws as compared_laws
+use Rattle.rehearsal_core.proofs.ExplainedLaws as explained_laws
 
 -- a file that is told isn't missing
 not_missing : (held : Held) (name bytes : List ℕ) → told_at held name ≡ Some bytes → IsMissing held name → ⊥
@@ -122,6 +123,7 @@ few ask.Migrate conflicts i report answer = inl (omega (arith, answer.0))
 few ask.Repair conflicts i report answer = few_repaired conflicts _ _ _ report answer.told
 few ask.Ensures conflicts i report answer = few_ensured conflicts _ _ _ _ report answer.told
 few ask.Equal conflicts i report answer = compared_laws.few conflicts _ _ _ _ _ _ report answer.told.answer
+few ask.Explain conflicts i report answer = explained_laws.few conflicts _ _ _ _ report answer.told.told.answer
 
 has_status : (words : List (String Global)) (held : Held) (report : Report) → Reports words held report → IsOfReport report.status
 has_status words held report reports = few reports.on.loaded.ask reports.on.loaded.conflicts reports.on.loaded.inputs report reports.on.says

@@ -162,6 +162,7 @@ module _ (catalogs : NoCatalogRefusal) (graphs : NoGraphRefusal) (programs : NoR
   answered_or_not ask.Repair conflicts i report s r is breaks = no_side_of (question.Repair conflicts) i report s r is breaks
   answered_or_not ask.Ensures conflicts i report s r is breaks = no_side_of (question.Ensures conflicts) i report s r is breaks
   answered_or_not ask.Equal conflicts i report s r is breaks = comparisons conflicts i report s r is breaks
+  answered_or_not ask.Explain conflicts i report s r is breaks = no_side_of (question.Explain conflicts) i report s r is breaks
 
   reported_or_refused : (q : Request) (held : Held) (report : Report) (s : Side) (r : Refusal) → AllTold held (files_of q) → ReportsOn q held report → RefusesAt q held s r → ⊥
   reported_or_refused q held report s r told on (inl long) =

@@ -19,19 +19,22 @@ use Rattle.reports.specs.Comparisons.{names_of, other_names_of, IsComparison}
 use Rattle.known_inputs.specs.Inputs.{wanted_of}
 use Rattle.rehearsal_core.specs.Inputs.{Requests, Reports, IsAnswerTo}
 use Rattle.rehearsal_core.specs.Runs.{Run, Appends}
-use Rattle.rehearsal_core.specs.Headline.{ask_for, AsksForVerdict, AsksForEntry, AsksForRepair, AsksForComparison, Modelled, Judged, IsCompared, OfBoth, DoTheSame, DoOtherwise, OneDependsOnOrder, SpendsOnComparison, IsWell, DependsOnOrder, ChangesAgain, SpendsConflicts, LeavesEntry, MissesEntry, SpendsOnEntry, IsMended, SpendsOnRepair, Headline}
+use Rattle.rehearsal_core.specs.Headline.{ask_for, AsksForVerdict, AsksForEntry, AsksForRepair, AsksForComparison, Modelled, Judged, IsCompared, OfBoth, DoTheSame, DoOtherwise, OneDependsOnOrder, SpendsOnComparison, IsWell, DependsOnOrder, ChangesAgain, SpendsConflicts, LeavesEntry, MissesEntry, SpendsOnEntry, IsMended, SpendsOnRepair, AsksForExplanation, Explained, head_of, IsWellExplained, TellsWhyOrderMatters, TellsWhatChanges, SpendsOnExplanation, Headline}
 use Rattle.rehearsal_core.proofs.ComparedLaws as compared_laws
+use Rattle.rehearsal_core.proofs.ExplainedLaws as explained_laws
+use Rattle.explain_report.specs.Told.{ExplainsSpent}
 use Rattle.rehearsal_core.specs.Answers.{WritesReport, Tells}
 
 -- ---- what a report is about
 
--- a verdict, an entry that is wanted, a repair, a comparison, or something else, which has status 0
+-- a verdict, an entry that is wanted, a repair, a comparison, an explanation, or something else, which has status 0
 data Kind (a : Ask) (conflicts : Option ℕ) (i : Inputs) (report : Report) : Type 0 where
   verdict : (f : Form) → a ≡ ask_for f → IsReport (question.Verdict f conflicts) i report → Kind a conflicts i report
   entry : a ≡ ask.Ensures → IsReport (question.Ensures conflicts) i report → Kind a conflicts i report
   repair : a ≡ ask.Repair → IsReport (question.Repair conflicts) i report → Kind a conflicts i report
   both : a ≡ ask.Equal → IsComparison conflicts i report → Kind a conflicts i report
-  other : report.status ≡ 0 → ((f : Form) → a ≡ ask_for f → ⊥) → (a ≡ ask.Repair → ⊥) → (a ≡ ask.Ensures → ⊥) → (a ≡ ask.Equal → ⊥) → Kind a conflicts i report
+  why : a ≡ ask.Explain → IsReport (question.Explain conflicts) i report → Kind a conflicts i report
+  other : report.status ≡ 0 → ((f : Form) → a ≡ ask_for f → ⊥) → (a ≡ ask.Repair → ⊥) → (a ≡ ask.Ensures → ⊥) → (a ≡ ask.Equal → ⊥) → (a ≡ ask.Explain → ⊥) → Kind a conflicts i report
 
 -- other values of `--ask` than these
 abbrev is_other : Ask → Type 0
@@ -46,6 +49,7 @@ is_other ask.Migrate = Unit {0}
 is_other ask.Repair = ⊥
 is_other ask.Ensures = ⊥
 is_other ask.Equal = ⊥
+is_other ask.Explain = ⊥
 
 no_verdict : (a : Ask) → is_other a → (f : Form) → a ≡ ask_for f → ⊥
 no_verdict a h form.Lines e = subst is_other e h
@@ -60,18 +64,22 @@ no_entry a h e = subst is_other e h
 no_equal : (a : Ask) → is_other a → a ≡ ask.Equal → ⊥
 no_equal a h e = subst is_other e h
 
+no_why : (a : Ask) → is_other a → a ≡ ask.Explain → ⊥
+no_why a h e = subst is_other e h
+
 kind_of : (a : Ask) (conflicts : Option ℕ) (i : Inputs) (report : Report) → IsAnswerTo a conflicts i report → Kind a conflicts i report
 kind_of ask.Verify conflicts i report answer = verdict form.Lines refl answer
 kind_of ask.Proof conflicts i report answer = verdict form.Proofs refl answer
-kind_of ask.Catalog conflicts i report answer = other answer.0 (no_verdict ask.Catalog tt) (no_repair ask.Catalog tt) (no_entry ask.Catalog tt) (no_equal ask.Catalog tt)
-kind_of ask.Graph conflicts i report answer = other answer.0 (no_verdict ask.Graph tt) (no_repair ask.Graph tt) (no_entry ask.Graph tt) (no_equal ask.Graph tt)
-kind_of ask.Programs conflicts i report answer = other answer.told.0 (no_verdict ask.Programs tt) (no_repair ask.Programs tt) (no_entry ask.Programs tt) (no_equal ask.Programs tt)
-kind_of ask.Replay conflicts i report answer = other answer.told.0 (no_verdict ask.Replay tt) (no_repair ask.Replay tt) (no_entry ask.Replay tt) (no_equal ask.Replay tt)
-kind_of ask.Check conflicts i report answer = other answer.0 (no_verdict ask.Check tt) (no_repair ask.Check tt) (no_entry ask.Check tt) (no_equal ask.Check tt)
-kind_of ask.Migrate conflicts i report answer = other answer.0 (no_verdict ask.Migrate tt) (no_repair ask.Migrate tt) (no_entry ask.Migrate tt) (no_equal ask.Migrate tt)
+kind_of ask.Catalog conflicts i report answer = other answer.0 (no_verdict ask.Catalog tt) (no_repair ask.Catalog tt) (no_entry ask.Catalog tt) (no_equal ask.Catalog tt) (no_why ask.Catalog tt)
+kind_of ask.Graph conflicts i report answer = other answer.0 (no_verdict ask.Graph tt) (no_repair ask.Graph tt) (no_entry ask.Graph tt) (no_equal ask.Graph tt) (no_why ask.Graph tt)
+kind_of ask.Programs conflicts i report answer = other answer.told.0 (no_verdict ask.Programs tt) (no_repair ask.Programs tt) (no_entry ask.Programs tt) (no_equal ask.Programs tt) (no_why ask.Programs tt)
+kind_of ask.Replay conflicts i report answer = other answer.told.0 (no_verdict ask.Replay tt) (no_repair ask.Replay tt) (no_entry ask.Replay tt) (no_equal ask.Replay tt) (no_why ask.Replay tt)
+kind_of ask.Check conflicts i report answer = other answer.0 (no_verdict ask.Check tt) (no_repair ask.Check tt) (no_entry ask.Check tt) (no_equal ask.Check tt) (no_why ask.Check tt)
+kind_of ask.Migrate conflicts i report answer = other answer.0 (no_verdict ask.Migrate tt) (no_repair ask.Migrate tt) (no_entry ask.Migrate tt) (no_equal ask.Migrate tt) (no_why ask.Migrate tt)
 kind_of ask.Repair conflicts i report answer = repair refl answer
 kind_of ask.Ensures conflicts i report answer = entry refl answer
 kind_of ask.Equal conflicts i report answer = both refl answer
+kind_of ask.Explain conflicts i report answer = why refl answer
 
 kind : (run : Run) (report : Report) (reports : Reports run.words run.held report) → Kind reports.on.loaded.ask reports.on.loaded.conflicts reports.on.loaded.inputs report
 kind run report reports = kind_of reports.on.loaded.ask reports.on.loaded.conflicts reports.on.loaded.inputs report reports.on.says
@@ -120,6 +128,19 @@ no_repair_compares e = cc
 no_entry_compares : ask.Ensures ≡ ask.Equal → ⊥
 no_entry_compares e = cc
 
+no_verdict_explains : (f : Form) → ask_for f ≡ ask.Explain → ⊥
+no_verdict_explains form.Lines e = cc
+no_verdict_explains form.Proofs e = cc
+
+no_repair_explains : ask.Repair ≡ ask.Explain → ⊥
+no_repair_explains e = cc
+
+no_entry_explains : ask.Ensures ≡ ask.Explain → ⊥
+no_entry_explains e = cc
+
+no_equal_explains : ask.Equal ≡ ask.Explain → ⊥
+no_equal_explains e = cc
+
 -- a verdict that is told, and an entry that is
 module _ (run : Run) (report : Report) (reports : Reports run.words run.held report) where
   abbrev verdict_on : (f : Form) → reports.on.loaded.ask ≡ ask_for f → (answer : IsReport (question.Verdict f reports.on.loaded.conflicts) reports.on.loaded.inputs report) → Judged run
@@ -153,6 +174,18 @@ compared run report reports asked is = record {
   of = is.of;
 }
 
+-- what is explained, of a report on that
+abbrev explained_on : (run : Run) (report : Report) (reports : Reports run.words run.held report) → reports.on.loaded.ask ≡ ask.Explain → IsReport (question.Explain reports.on.loaded.conflicts) reports.on.loaded.inputs report → Explained run
+explained_on run report reports asked is = record {
+  of = modelled run report reports ask.Explain (question.Explain reports.on.loaded.conflicts) asked is;
+  names = is.told.names;
+  named = is.told.named;
+  notes = is.told.notes;
+  noted = is.told.noted;
+  pruned = is.told.told.pruned;
+  count = is.told.told.count;
+}
+
 -- ---- what each status promises
 
 well_of : (run : Run) → AsksForVerdict run → WritesReport run 0 → IsWell run
@@ -168,10 +201,11 @@ well_of run asks (report, reports, same, written, left) =
       | entry is answer ↦ absurd (no_verdict_wants asks.2 (sym asked ∙ is))
       | repair is answer ↦ absurd (no_verdict_repairs asks.2 (sym asked ∙ is))
       | both is answer ↦ absurd (no_verdict_compares asks.2 (sym asked ∙ is))
-      | other zero not_verdict not_repair not_entry not_equal ↦ absurd (not_verdict asks.2 asked)
+      | why is answer ↦ absurd (no_verdict_explains asks.2 (sym asked ∙ is))
+      | other zero not_verdict not_repair not_entry not_equal not_why ↦ absurd (not_verdict asks.2 asked)
     ]
 
-depends_of : (run : Run) → WritesReport run 1 → DependsOnOrder run ⊎ OneDependsOnOrder run
+depends_of : (run : Run) → WritesReport run 1 → DependsOnOrder run ⊎ (OneDependsOnOrder run ⊎ TellsWhyOrderMatters run)
 depends_of run (report, reports, same, written, left) =
     elim (kind run report reports) [
       | verdict f is answer ↦ elim answer.told.answer [
@@ -191,17 +225,18 @@ depends_of run (report, reports, same, written, left) =
         | inl mended ↦ absurd (omega (arith, same, mended.status))
         | inr spent ↦ absurd (omega (arith, same, spent.status))
       ]
-      | both is answer ↦ inr (record { compared = compared run report reports is answer; report = report; differs = compared_laws.at_one reports.on.loaded.conflicts _ _ _ _ _ _ report answer.told.answer same; written = written })
-      | other zero not_verdict not_repair not_entry not_equal ↦ absurd (omega (arith, same, zero))
+      | both is answer ↦ inr (inl (record { compared = compared run report reports is answer; report = report; differs = compared_laws.at_one reports.on.loaded.conflicts _ _ _ _ _ _ report answer.told.answer same; written = written }))
+      | why is answer ↦ inr (inr (record { explained = explained_on run report reports is answer; report = report; different = explained_laws.at_one reports.on.loaded.conflicts _ _ _ _ report answer.told.told.answer same; written = written }))
+      | other zero not_verdict not_repair not_entry not_equal not_why ↦ absurd (omega (arith, same, zero))
     ]
 
-changes_of : (run : Run) → WritesReport run 2 → ChangesAgain run
+changes_of : (run : Run) → WritesReport run 2 → ChangesAgain run ⊎ TellsWhatChanges run
 changes_of run (report, reports, same, written, left) =
     elim (kind run report reports) [
       | verdict f is answer ↦ elim answer.told.answer [
         | inl sure ↦ absurd (omega (arith, same, sure.status))
         | inr (inl different) ↦ absurd (omega (arith, same, different.status))
-        | inr (inr (inl changed)) ↦ record { judged = verdict_on run report reports f is answer; report = report; changed = changed; written = written }
+        | inr (inr (inl changed)) ↦ inl (record { judged = verdict_on run report reports f is answer; report = report; changed = changed; written = written })
         | inr (inr (inr spent)) ↦ absurd (omega (arith, same, spent.status))
       ]
       | entry is answer ↦ elim answer.told.answer [
@@ -216,7 +251,8 @@ changes_of run (report, reports, same, written, left) =
         | inr spent ↦ absurd (omega (arith, same, spent.status))
       ]
       | both is answer ↦ absurd (compared_laws.not_two reports.on.loaded.conflicts _ _ _ _ _ _ report answer.told.answer same)
-      | other zero not_verdict not_repair not_entry not_equal ↦ absurd (omega (arith, same, zero))
+      | why is answer ↦ inr (record { explained = explained_on run report reports is answer; report = report; changed = explained_laws.at_two reports.on.loaded.conflicts _ _ _ _ report answer.told.told.answer same; written = written })
+      | other zero not_verdict not_repair not_entry not_equal not_why ↦ absurd (omega (arith, same, zero))
     ]
 
 spent_comparison : (run : Run) (report : Report) (reports : Reports run.words run.held report) → report.status ≡ 3 → Appends report.text run.out → reports.on.loaded.ask ≡ ask.Equal
@@ -231,7 +267,19 @@ spent_comparison run report reports same written is answer =
       written = written;
     }
 
-spends_of : (run : Run) → WritesReport run 3 → SpendsConflicts run ⊎ (SpendsOnRepair run ⊎ (SpendsOnEntry run ⊎ SpendsOnComparison run))
+spent_explanation : (run : Run) (report : Report) (reports : Reports run.words run.held report) → report.status ≡ 3 → Appends report.text run.out → reports.on.loaded.ask ≡ ask.Explain
+    → IsReport (question.Explain reports.on.loaded.conflicts) reports.on.loaded.inputs report → SpendsOnExplanation run
+spent_explanation run report reports same written is answer =
+    let on = explained_on run report reports is answer in
+    record {
+      explained = on;
+      report = report;
+      unanswered = subst (λ given. ExplainsSpent given on.of.programs on.of.graph.order (head_of on) report) reports.on.stands.conflicts
+          (explained_laws.at_three reports.on.loaded.conflicts on.names _ _ (head_of on) report answer.told.told.answer same);
+      written = written;
+    }
+
+spends_of : (run : Run) → WritesReport run 3 → SpendsConflicts run ⊎ (SpendsOnRepair run ⊎ (SpendsOnEntry run ⊎ (SpendsOnComparison run ⊎ SpendsOnExplanation run)))
 spends_of run (report, reports, same, written, left) =
     elim (kind run report reports) [
       | verdict f is answer ↦ elim answer.told.answer [
@@ -276,8 +324,9 @@ spends_of run (report, reports, same, written, left) =
               written = written;
             }))
       ]
-      | both is answer ↦ inr (inr (inr (spent_comparison run report reports same written is answer)))
-      | other zero not_verdict not_repair not_entry not_equal ↦ absurd (omega (arith, same, zero))
+      | both is answer ↦ inr (inr (inr (inl (spent_comparison run report reports same written is answer))))
+      | why is answer ↦ inr (inr (inr (inr (spent_explanation run report reports same written is answer))))
+      | other zero not_verdict not_repair not_entry not_equal not_why ↦ absurd (omega (arith, same, zero))
     ]
 
 mended_of : (run : Run) → AsksForRepair run → WritesReport run 0 → IsMended run
@@ -291,7 +340,8 @@ mended_of run asks (report, reports, same, written, left) =
         | inr spent ↦ absurd (omega (arith, same, spent.status))
       ]
       | both is answer ↦ absurd (no_repair_compares (sym asked ∙ is))
-      | other zero not_verdict not_repair not_entry not_equal ↦ absurd (not_repair asked)
+      | why is answer ↦ absurd (no_repair_explains (sym asked ∙ is))
+      | other zero not_verdict not_repair not_entry not_equal not_why ↦ absurd (not_repair asked)
     ]
 
 leaves_of : (run : Run) → AsksForEntry run → WritesReport run 0 → LeavesEntry run
@@ -308,7 +358,8 @@ leaves_of run asks (report, reports, same, written, left) =
       ]
       | repair is answer ↦ absurd (no_repair_wants (sym is ∙ asked))
       | both is answer ↦ absurd (no_entry_compares (sym asked ∙ is))
-      | other zero not_verdict not_repair not_entry not_equal ↦ absurd (not_entry asked)
+      | why is answer ↦ absurd (no_entry_explains (sym asked ∙ is))
+      | other zero not_verdict not_repair not_entry not_equal not_why ↦ absurd (not_entry asked)
     ]
 
 misses_of : (run : Run) → WritesReport run 9 → MissesEntry run
@@ -332,7 +383,8 @@ misses_of run (report, reports, same, written, left) =
         | inr spent ↦ absurd (omega (arith, same, spent.status))
       ]
       | both is answer ↦ absurd (compared_laws.not_nine reports.on.loaded.conflicts _ _ _ _ _ _ report answer.told.answer same)
-      | other zero not_verdict not_repair not_entry not_equal ↦ absurd (omega (arith, same, zero))
+      | why is answer ↦ absurd (explained_laws.not_high reports.on.loaded.conflicts _ _ _ _ report answer.told.told.answer 9 (omega arith) same)
+      | other zero not_verdict not_repair not_entry not_equal not_why ↦ absurd (omega (arith, same, zero))
     ]
 
 equal_of : (run : Run) → AsksForComparison run → WritesReport run 0 → DoTheSame run
@@ -343,7 +395,8 @@ equal_of run asks (report, reports, same, written, left) =
       | entry is answer ↦ absurd (no_entry_compares (sym is ∙ asked))
       | repair is answer ↦ absurd (no_repair_compares (sym is ∙ asked))
       | both is answer ↦ record { compared = compared run report reports is answer; report = report; equal = compared_laws.at_zero reports.on.loaded.conflicts _ _ _ _ _ _ report answer.told.answer same; written = written }
-      | other zero not_verdict not_repair not_entry not_equal ↦ absurd (not_equal asked)
+      | why is answer ↦ absurd (no_equal_explains (sym asked ∙ is))
+      | other zero not_verdict not_repair not_entry not_equal not_why ↦ absurd (not_equal asked)
     ]
 
 unequal_of : (run : Run) → WritesReport run 10 → DoOtherwise run
@@ -367,7 +420,20 @@ unequal_of run (report, reports, same, written, left) =
         | inr spent ↦ absurd (omega (arith, same, spent.status))
       ]
       | both is answer ↦ record { compared = compared run report reports is answer; report = report; unequal = compared_laws.at_ten reports.on.loaded.conflicts _ _ _ _ _ _ report answer.told.answer same; written = written }
-      | other zero not_verdict not_repair not_entry not_equal ↦ absurd (omega (arith, same, zero))
+      | why is answer ↦ absurd (explained_laws.not_high reports.on.loaded.conflicts _ _ _ _ report answer.told.told.answer 10 (omega arith) same)
+      | other zero not_verdict not_repair not_entry not_equal not_why ↦ absurd (omega (arith, same, zero))
+    ]
+
+explained_of : (run : Run) → AsksForExplanation run → WritesReport run 0 → IsWellExplained run
+explained_of run asks (report, reports, same, written, left) =
+    let asked = asked_for run report reports asks.0 asks.1 ∙ asks.2 in
+    elim (kind run report reports) [
+      | verdict f is answer ↦ absurd (no_verdict_explains f (sym is ∙ asked))
+      | entry is answer ↦ absurd (no_entry_explains (sym is ∙ asked))
+      | repair is answer ↦ absurd (no_repair_explains (sym is ∙ asked))
+      | both is answer ↦ absurd (no_equal_explains (sym is ∙ asked))
+      | why is answer ↦ record { explained = explained_on run report reports is answer; report = report; sure = explained_laws.at_zero reports.on.loaded.conflicts _ _ _ _ report answer.told.told.answer same; written = written }
+      | other zero not_verdict not_repair not_entry not_equal not_why ↦ absurd (not_why asked)
     ]
 
 pub headline_of : (run : Run) (status : ℕ) → Tells run status → Headline run status
@@ -381,4 +447,5 @@ headline_of run status tells = record {
   misses = λ is. misses_of run (subst (WritesReport run) is (tells.report (inr (inl is))));
   equal = λ asks is. equal_of run asks (subst (WritesReport run) is (tells.report (inl (omega (arith, is)))));
   unequal = λ is. unequal_of run (subst (WritesReport run) is (tells.report (inr (inr is))));
+  explained = λ asks is. explained_of run asks (subst (WritesReport run) is (tells.report (inl (omega (arith, is)))));
 }

@@ -1,5 +1,6 @@
 pub mod Telling
 pub mod ComparedLaws
+pub mod ExplainedLaws
 pub mod HeadlineLaws
 pub mod Excluding
 pub mod Endings

@@ -1,5 +1,5 @@
 -- The headline: what each status of a verdict promises of a manifest, over every file tree and all orders that its graph allows.
-use Rattle.std.specs.Prelude.{◌≡◌, ◌⊎◌, ℕ, List}
+use Rattle.std.specs.Prelude.{◌≡◌, ◌⊎◌, ℕ, List, length}
 use Rattle.fs_semantics.specs.Programs.{Program}
 use Rattle.orders.specs.Relation.{Relation, Comes}
 use Rattle.catalog_semantics.specs.Catalogs.{Catalog}
@@ -9,7 +9,7 @@ use Rattle.command_line.specs.declared.table.Ask.{Ask}
 use Rattle.command_line.specs.declared.table.Ask.TheVariants as ask
 use Rattle.command_line.specs.declared.request.Request.{Request}
 use Rattle.known_inputs.specs.declared.inputs.Known.{Known}
-use Rattle.reports.specs.Stages.{IsModelled}
+use Rattle.reports.specs.Stages.{node_name, IsModelled}
 use Rattle.reports.specs.Questions.{names_in, quoted_names_in}
 use Rattle.verdict_report.specs.declared.report.Form.{Form}
 use Rattle.verdict_report.specs.declared.report.Form.TheVariants as form
@@ -22,7 +22,11 @@ use Rattle.equal_report.specs.Told as comparison
 use Rattle.equal_report.specs.Told.{OneDiffers, OneIsUnanswered, TellsEqual, TellsUnequal}
 use Rattle.reports.specs.Comparisons as comparisons
 use Rattle.reports.specs.Comparisons.{AreModelled, other_names_of}
-use Rattle.known_inputs.specs.Inputs.{wanted_of}
+use Rattle.explain_report.specs.Lines.{noted_head}
+use Rattle.explain_report.specs.Told.{ExplainsSure, ExplainsDifference, ExplainsChange, ExplainsSpent}
+use Rattle.node_label.specs.Labels.{IsNodeLineOf}
+use Rattle.placed_names.specs.Placed.{AreNamesAt}
+use Rattle.known_inputs.specs.Inputs.{input_of, wanted_of}
 use Rattle.rehearsal_core.specs.declared.inputs.Loaded.{Loaded}
 use Rattle.rehearsal_core.specs.Inputs.{Requests, IsLoaded}
 use Rattle.rehearsal_core.specs.Runs.{Run, Appends}
@@ -51,6 +55,10 @@ AsksForRepair run = (request : Request) × Requests run.words request × (reques
 -- the words ask whether two manifests do the same
 abbrev pub AsksForComparison : Run → Type 0
 AsksForComparison run = (request : Request) × Requests run.words request × (request.ask ≡ ask.Equal)
+
+-- the words ask for an explanation of a verdict
+abbrev pub AsksForExplanation : Run → Type 0
+AsksForExplanation run = (request : Request) × Requests run.words request × (request.ask ≡ ask.Explain)
 
 -- What is asked about. The words ask so; the files that they name, or the workload, say what is known beside the manifest, and give
 -- the manifest this catalog, the catalog this graph, and its resources these programs.
@@ -200,15 +208,63 @@ pub record SpendsOnComparison (run : Run) : Type 0 where
   pub unanswered : OfBoth compared (λ es order fs other. OneIsUnanswered compared.request.conflicts es order fs other report ⊎ comparison.TellsSpent compared.request.conflicts es order fs other report)
   pub written : Appends report.text run.out
 
--- What each status promises. 1 comes of a verdict, an entry that is wanted or a comparison, 2 of a verdict, 3 of these and of a
--- repair, 9 of an entry, 10 of a comparison; other questions have no other status than 0.
+-- What is explained. The words ask so about this. Its resources are named with the places at which they stand in the manifest; these
+-- notes tell the node block that runs, where the manifest has node blocks; and pruning leaves aside so many.
+pub record Explained (run : Run) : Type 0 where
+  pub of : Modelled run ask.Explain
+  pub names : List (List ℕ)
+  pub named : AreNamesAt (input_of of.loaded.inputs) of.catalog of.graph.plain names
+  pub notes : List ℕ
+  pub noted : IsNodeLineOf (input_of of.loaded.inputs) (node_name of.loaded.inputs.node) notes
+  pub pruned : ℕ
+  pub count : IsPrunedCount of.programs (Comes of.graph.order) pruned
+
+-- the lines on their number
+abbrev pub head_of : {run : Run} → Explained run → List ℕ
+head_of e = noted_head (length e.of.programs) e.notes e.pruned
+
+-- Status 0 of an explanation: from every file tree all allowed orders end in one same tree or all in error, and a second run changes
+-- nothing. Where no tree has a run without error, the last line tells where the first extension fails from the tree without entries.
+pub record IsWellExplained (run : Run) : Type 0 where
+  pub explained : Explained run
+  pub report : Report
+  pub sure : ExplainsSure explained.names explained.of.programs explained.of.graph.order (head_of explained) report
+  pub written : Appends report.text run.out
+
+-- Status 1 of an explanation: from the tree that is told two allowed orders have outcomes that differ. What is told are the two
+-- neighbours in which the orders differ, how each run ends, and the paths at which the outcomes differ.
+pub record TellsWhyOrderMatters (run : Run) : Type 0 where
+  pub explained : Explained run
+  pub report : Report
+  pub different : ExplainsDifference explained.names explained.of.programs explained.of.graph.order (head_of explained) report
+  pub written : Appends report.text run.out
+
+-- Status 2 of an explanation: from every file tree all allowed orders end alike, but from the tree that is told a second run changes
+-- what the first one left. What is told is how the second run ends, and the paths at which it changed something.
+pub record TellsWhatChanges (run : Run) : Type 0 where
+  pub explained : Explained run
+  pub report : Report
+  pub changed : ExplainsChange explained.names explained.of.programs explained.of.graph.order (head_of explained) report
+  pub written : Appends report.text run.out
+
+-- Status 3 of an explanation: the conflicts that the words give were spent on the question that is told, and what is told ahead of it
+-- is true.
+pub record SpendsOnExplanation (run : Run) : Type 0 where
+  pub explained : Explained run
+  pub report : Report
+  pub unanswered : ExplainsSpent explained.of.request.conflicts explained.of.programs explained.of.graph.order (head_of explained) report
+  pub written : Appends report.text run.out
+
+-- What each status promises. 1 comes of a verdict, its explanation, an entry that is wanted or a comparison, 2 of a verdict and its
+-- explanation, 3 of these and of a repair, 9 of an entry, 10 of a comparison; other questions have no other status than 0.
 pub record Headline (run : Run) (status : ℕ) : Type 0 where
   pub well : AsksForVerdict run → status ≡ 0 → IsWell run
-  pub depends : status ≡ 1 → DependsOnOrder run ⊎ OneDependsOnOrder run
-  pub changes : status ≡ 2 → ChangesAgain run
-  pub spends : status ≡ 3 → SpendsConflicts run ⊎ (SpendsOnRepair run ⊎ (SpendsOnEntry run ⊎ SpendsOnComparison run))
+  pub depends : status ≡ 1 → DependsOnOrder run ⊎ (OneDependsOnOrder run ⊎ TellsWhyOrderMatters run)
+  pub changes : status ≡ 2 → ChangesAgain run ⊎ TellsWhatChanges run
+  pub spends : status ≡ 3 → SpendsConflicts run ⊎ (SpendsOnRepair run ⊎ (SpendsOnEntry run ⊎ (SpendsOnComparison run ⊎ SpendsOnExplanation run)))
   pub mended : AsksForRepair run → status ≡ 0 → IsMended run
   pub leaves : AsksForEntry run → status ≡ 0 → LeavesEntry run
   pub misses : status ≡ 9 → MissesEntry run
   pub equal : AsksForComparison run → status ≡ 0 → DoTheSame run
   pub unequal : status ≡ 10 → DoOtherwise run
+  pub explained : AsksForExplanation run → status ≡ 0 → IsWellExplained run

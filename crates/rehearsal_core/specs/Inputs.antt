@@ -83,6 +83,7 @@ IsAnswerTo ask.Migrate conflicts i report = IsPrinted (IsMigrated (input_of i)) 
 IsAnswerTo ask.Repair conflicts i report = IsReport (question.Repair conflicts) i report
 IsAnswerTo ask.Ensures conflicts i report = IsReport (question.Ensures conflicts) i report
 IsAnswerTo ask.Equal conflicts i report = IsComparison conflicts i report
+IsAnswerTo ask.Explain conflicts i report = IsReport (question.Explain conflicts) i report
 
 -- what may be said of what was loaded
 abbrev pub IsAnswer : Loaded → Report → Type 0
@@ -101,6 +102,7 @@ BreaksFor ask.Migrate conflicts i s r = OfInput (BreaksListingRule (input_of i))
 BreaksFor ask.Repair conflicts i s r = OfInput (ReportRefusal (question.Repair conflicts) i) s r
 BreaksFor ask.Ensures conflicts i s r = OfInput (ReportRefusal (question.Ensures conflicts) i) s r
 BreaksFor ask.Equal conflicts i s r = ComparisonRefusal i s r
+BreaksFor ask.Explain conflicts i s r = OfInput (ReportRefusal (question.Explain conflicts) i) s r
 
 -- the first rule that what was loaded breaks
 abbrev pub Breaks : Loaded → Side → Refusal → Type 0

@@ -86,6 +86,7 @@ fn answer_one(
         Ask::Migrate => listed(alloc, inputs),
         Ask::Repair => report_on(alloc, Question::Repair(conflicts), inputs),
         Ask::Ensures => report_on(alloc, Question::Ensures(conflicts), inputs),
+        Ask::Explain => report_on(alloc, Question::Explain(conflicts), inputs),
         Ask::Equal => unreachable!(),
     }
 }
@@ -96,7 +97,7 @@ fn is_equal(ask: Ask) -> bool
 {
     match ask {
         Ask::Equal => true,
-        Ask::Verify | Ask::Proof | Ask::Repair | Ask::Ensures => false,
+        Ask::Verify | Ask::Proof | Ask::Explain | Ask::Repair | Ask::Ensures => false,
         Ask::Catalog | Ask::Graph | Ask::Programs | Ask::Replay => false,
         Ask::Check | Ask::Migrate => false,
     }

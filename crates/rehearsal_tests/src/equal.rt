@@ -39,7 +39,12 @@ const WITHIN: &[&str] = &[
 ];
 
 /// The words, over an input and another manifest.
-fn asked(alloc: Global, words: &[&str], manifest: &str, other: &str) -> Result<Told, Fail> {
+fn asked<'a>(
+    alloc: Global,
+    words: &[&str],
+    manifest: &'a str,
+    other: &'a str,
+) -> Result<Told, Fail> {
     let over: [(&str, &[u8]); 5] = [
         ("site.pp", manifest.as_bytes()),
         ("old.pp", other.as_bytes()),

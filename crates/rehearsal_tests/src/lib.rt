@@ -16,6 +16,8 @@ mod entries;
 #[cfg(test)]
 mod equal;
 #[cfg(test)]
+mod explained;
+#[cfg(test)]
 mod faults;
 #[cfg(test)]
 mod hostile;

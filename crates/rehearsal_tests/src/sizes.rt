@@ -99,6 +99,21 @@ const OF_TWO: [&str; 7] = [
     "site.pp",
 ];
 
+/// What is told of two manifests under a listing.
+fn told_under<'a>(
+    alloc: Global,
+    manifest: &'a str,
+    other: &'a str,
+    listing: &'a str,
+) -> Result<Told, Fail> {
+    let over: [(&str, &[u8]); 3] = [
+        ("site.pp", manifest.as_bytes()),
+        ("old.pp", other.as_bytes()),
+        ("listing", listing.as_bytes()),
+    ];
+    run_over(alloc, &OF_TWO, &over)
+}
+
 /// What is told of the packages `one` and `two`, which have so many folders, no two the same, in a manifest each.
 fn told_of_two(alloc: Global, one: u32, two: u32) -> Result<Told, Fail> {
     let lists = folders(alloc, one)?;
@@ -108,12 +123,8 @@ fn told_of_two(alloc: Global, one: u32, two: u32) -> Result<Told, Fail> {
         lists.as_str(),
         others.as_str()
     )?;
-    let over: [(&str, &[u8]); 3] = [
-        ("site.pp", b"package { 'one': }"),
-        ("old.pp", b"package { 'two': }"),
-        ("listing", listing.as_bytes()),
-    ];
-    run_over(alloc, &OF_TWO, &over)
+    let one = "package { 'one': }";
+    told_under(alloc, one, "package { 'two': }", listing.as_str())
 }
 
 /// The folders of both, the two above the marks, and the marks of both packages: 4,096 paths, and one more.
@@ -140,12 +151,7 @@ fn manifests_of_which_one_is_too_heavy(rt: HostRuntime) -> Result<(), Fail> {
     let listing = listing(rt.alloc(), 50, 68)?;
     let rows: [(&str, &str); 2] = [(heavy.as_str(), ""), ("", heavy.as_str())];
     for (manifest, other) in rows {
-        let over: [(&str, &[u8]); 3] = [
-            ("site.pp", manifest.as_bytes()),
-            ("old.pp", other.as_bytes()),
-            ("listing", listing.as_bytes()),
-        ];
-        let told = run_over(rt.alloc(), &OF_TWO, &over)?;
+        let told = told_under(rt.alloc(), manifest, other, listing.as_str())?;
         compare(&rt, &told, 4, "", "refused 70 at 0: weight\n", manifest);
     }
     Ok(())

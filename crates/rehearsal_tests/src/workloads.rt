@@ -27,10 +27,11 @@ fn is_well(
 
 #[test]
 fn small_workloads(rt: HostRuntime) -> Result<(), Fail> {
-    let rows: [(&[&str], u32, u32); 3] = [
+    let rows: [(&[&str], u32, u32); 4] = [
         (&["--workload", "1"], 7, 3),
         (&["--workload", "5"], 19, 15),
         (&["--conflicts", "1000000", "--workload=5"], 19, 15),
+        (&["--ask", "explain", "--workload", "5"], 19, 15),
     ];
     for (words, resources, pruned) in rows {
         is_well(rt.alloc(), &rt, words, resources, pruned)?;

@@ -148,6 +148,8 @@ module _ (known : OneKnown) (unread : NoneUnread) (manifests : OneManifest) (sou
           none.none told.1.order
           (same_order_for pairs (bytes_of role.Order i) c d g h told.1.order (one_catalog i k m c d is.planned.compiled was.planned.compiled) (one_plain i k m c d g h is.planned was.planned)
           is.planned.graph was.planned.graph is.planned.count was.planned.count is.planned.strict was.planned.strict told.1.ordered)
+      told_or_not (question.Explain given) i k m c d g h es fs report r is was told large =
+          not_too_large fs r (subst HasFewPaths (one_programs i k m c d g h es fs is was) told.told.paths) (subst IsLight (one_programs i k m c d g h es fs is was) told.told.weight) large
       told_or_not (question.Repair given) i k m c d g h es fs report r is was told large =
           not_too_large fs r (subst HasFewPaths (one_programs i k m c d g h es fs is was) told.paths) (subst IsLight (one_programs i k m c d g h es fs is was) told.weight) large
       told_or_not (question.Ensures given) i k m c d g h es fs report r is was told large =

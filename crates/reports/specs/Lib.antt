@@ -1,6 +1,7 @@
 pub mod Stages
 pub mod Reports
 pub mod Replays
+pub mod Explanations
 pub mod Questions
 pub mod Sides
 pub mod Comparisons

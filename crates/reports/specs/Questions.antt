@@ -23,6 +23,7 @@ use Rattle.verdict_report.specs.Told.{IsTold}
 use Rattle.repair_report.specs.Lines.{quoted_ref}
 use Rattle.repair_report.specs.Told.{IsRepairTold}
 use Rattle.reports.specs.Replays.{IsReplayed, HasNoOrder}
+use Rattle.reports.specs.Explanations.{IsExplanation}
 
 -- the references of the plain resources
 abbrev pub names_in : Catalog → List ℕ → List (List ℕ)
@@ -44,6 +45,7 @@ abbrev pub IsToldOf : Question → Inputs → Known → Catalog → Graph → Li
 IsToldOf question.Programs i k c g es report = (report.status ≡ 0) × (report.text ≡ program_lines c g.plain es)
 IsToldOf (question.Verdict form given) i k c g es report = IsTold form given (names_in c g.plain) es g.order report
 IsToldOf question.Replay i k c g es report = (report.status ≡ 0) × IsReplayed (bytes_of role.Order i) k.tree c g es report.text
+IsToldOf (question.Explain given) i k c g es report = IsExplanation given i c g es report
 IsToldOf (question.Repair given) i k c g es report = IsRepairTold given (quoted_names_in c g.plain) es g.order report
 IsToldOf (question.Ensures given) i k c g es report = IsEntryTold given (wanted_of i) (names_in c g.plain) es g.order report
 
@@ -52,6 +54,7 @@ abbrev pub HasNoAnswer : Question → Inputs → Catalog → Graph → List Prog
 HasNoAnswer question.Programs i c g es r = ⊥
 HasNoAnswer (question.Verdict form given) i c g es r = IsTooLarge es r
 HasNoAnswer question.Replay i c g es r = HasNoOrder (bytes_of role.Order i) c g r
+HasNoAnswer (question.Explain given) i c g es r = IsTooLarge es r
 HasNoAnswer (question.Repair given) i c g es r = IsTooLarge es r
 HasNoAnswer (question.Ensures given) i c g es r = IsTooLargeWith es (probe_of (wanted_of i)) r
 

@@ -7,6 +7,7 @@ mod catalogs;
 mod comparisons;
 mod compiling;
 mod entries;
+mod explanations;
 mod graphs;
 mod laws;
 mod programs;

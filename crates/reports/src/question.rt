@@ -13,6 +13,8 @@ pub enum Question {
     Replay,
     /// Whether each run that ends leaves the entry that is wanted. Each question has so many conflicts, if a number is given.
     Ensures(Option<u64>),
+    /// Their verdict, explained. Each question has so many conflicts, if a number is given.
+    Explain(Option<u64>),
     /// The arrows that they lack. Each question has so many conflicts, if a number is given.
     Repair(Option<u64>),
 }

@@ -9,6 +9,7 @@ ghost use Rattle.reports.specs.Questions.{IsToldOf, HasNoAnswer, IsReport, Repor
 
 use crate::compiling::catalog_for;
 use crate::entries::ensured;
+use crate::explanations::explained;
 use crate::programs::program_lines;
 use crate::question::Question;
 use crate::repairs::repaired;
@@ -36,7 +37,8 @@ fn told_of(
     plan: &Graph,
     programs: &[Program],
 ) -> Result<Report, Fault>
-    requires { IsModelled inputs.now known.now catalog.now plan.now (map program_of programs.now) }
+    requires small { length (input_of inputs.now) < 2 ^ 32 }
+    requires modelled { IsModelled inputs.now known.now catalog.now plan.now (map program_of programs.now) }
     ensures told { IfOk result (IsToldOf question inputs.now known.now catalog.now plan.now (map program_of programs.now)) }
     ensures refused { IfErr result (λ e. IfRefused e (HasNoAnswer question inputs.now catalog.now plan.now (map program_of programs.now))) }
 {
@@ -60,6 +62,9 @@ fn told_of(
             programs,
         )?)),
         Question::Repair(given) => repaired(alloc, given, catalog, plan, programs),
+        Question::Explain(given) => {
+            explained(alloc, given, inputs, known, catalog, plan, programs)
+        }
         Question::Ensures(given) => {
             let wanted = inputs.wanted(alloc)?;
             ensured(alloc, given, &wanted, catalog, plan, programs)
@@ -77,7 +82,8 @@ fn report_on_programs(
     plan: &Graph,
     programs: &[Program],
 ) -> Result<Report, Fault>
-    requires { IsModelled inputs.now known.now catalog.now plan.now (map program_of programs.now) }
+    requires small { length (input_of inputs.now) < 2 ^ 32 }
+    requires modelled { IsModelled inputs.now known.now catalog.now plan.now (map program_of programs.now) }
     ensures report { IfOk result (IsReport question inputs.now) }
     ensures refused { IfErr result (λ e. IfRefused e (ReportRefusal question inputs.now)) }
 {
@@ -93,7 +99,8 @@ fn report_on_graph(
     catalog: &Catalog,
     plan: &Graph,
 ) -> Result<Report, Fault>
-    requires { IsPlanned inputs.now known.now catalog.now plan.now }
+    requires small { length (input_of inputs.now) < 2 ^ 32 }
+    requires planned { IsPlanned inputs.now known.now catalog.now plan.now }
     ensures report { IfOk result (IsReport question inputs.now) }
     ensures refused { IfErr result (λ e. IfRefused e (ReportRefusal question inputs.now)) }
 {
@@ -111,7 +118,8 @@ fn report_on_catalog(
     known: &Known,
     catalog: &Catalog,
 ) -> Result<Report, Fault>
-    requires { IsCompiled inputs.now known.now catalog.now }
+    requires small { length (input_of inputs.now) < 2 ^ 32 }
+    requires compiled { IsCompiled inputs.now known.now catalog.now }
     ensures report { IfOk result (IsReport question inputs.now) }
     ensures refused { IfErr result (λ e. IfRefused e (ReportRefusal question inputs.now)) }
 {

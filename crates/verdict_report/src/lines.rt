@@ -49,7 +49,8 @@ pub fn sure_text(alloc: Global, n: usize, pruned: u32, end: &Ends) -> Result<Seq
     Ok(Seq::from_vec(bytes))
 }
 
-fn push_known(asked: &Asked, into: &mut Vec<u8>) -> Result<(), NoMemory>
+/// Appends what is known when a question is asked.
+pub fn push_known(asked: &Asked, into: &mut Vec<u8>) -> Result<(), NoMemory>
     ensures { OnOk result (into.new.items ≡ into.old.items ++ known_lines asked.now) }
 {
     match asked {
@@ -69,7 +70,13 @@ fn question_name(asked: &Asked) -> &'static str
     }
 }
 
-fn push_spent(alloc: Global, asked: &Asked, budget: u64, into: &mut Vec<u8>) -> Result<(), NoMemory>
+/// Appends that a question's conflicts are spent.
+pub fn push_spent(
+    alloc: Global,
+    asked: &Asked,
+    budget: u64,
+    into: &mut Vec<u8>,
+) -> Result<(), NoMemory>
     ensures { OnOk result (into.new.items ≡ into.old.items ++ spent_line asked.now budget) }
 {
     let name = question_name(asked);

@@ -6,45 +6,54 @@ use Rattle.reports.proofs.QuestionLaws.{as_many_lent, as_many_in_order}
 use Rattle.reports.proofs.stages.told_of.Goals as goal
 
 pub program_lines-requires : goal.program_lines-requires
-program_lines-requires c = are_places c.args.catalog.now c.args.plan.now c.as_slice.result.now c.as_slice.ensures c.requires.planned.graph
+program_lines-requires c = are_places c.args.catalog.now c.args.plan.now c.as_slice.result.now c.as_slice.ensures c.requires.modelled.planned.graph
 
 pub judged-requires-clause-count : goal.judged-requires-clause-count
-judged-requires-clause-count c = as_many_in_order c.args.inputs.now c.args.known.now c.args.catalog.now c.args.plan.now c.args.programs.now c.requires
+judged-requires-clause-count c = as_many_in_order c.args.inputs.now c.args.known.now c.args.catalog.now c.args.plan.now c.args.programs.now c.requires.modelled
 
 pub judged-requires-clause-many : goal.judged-requires-clause-many
-judged-requires-clause-many c = c.requires.planned.count
+judged-requires-clause-many c = c.requires.modelled.planned.count
 
 pub judged-requires-clause-places : goal.judged-requires-clause-places
-judged-requires-clause-places c = are_places c.args.catalog.now c.args.plan.now c.args.plan.now.plain refl c.requires.planned.graph
+judged-requires-clause-places c = are_places c.args.catalog.now c.args.plan.now c.args.plan.now.plain refl c.requires.modelled.planned.graph
 
 pub replayed-requires-clause-count : goal.replayed-requires-clause-count
-replayed-requires-clause-count c = c.requires.planned.count
+replayed-requires-clause-count c = c.requires.modelled.planned.count
 
 pub replayed-requires-clause-apart : goal.replayed-requires-clause-apart
 replayed-requires-clause-apart c =
-    let is = c.requires.planned.compiled.catalog in
-    subst (AreToldApart c.args.catalog.now) (sym c.requires.planned.graph.places)
+    let is = c.requires.modelled.planned.compiled.catalog in
+    subst (AreToldApart c.args.catalog.now) (sym c.requires.modelled.planned.graph.places)
     (c.plain_resources_are_told_apart.ensures c.args.catalog.now
     (c.catalogs_are_sound.ensures is.manifest c.args.known.now.facts (node_name c.args.inputs.now.node) c.args.known.now.class_data c.args.catalog.now (sym is.is))
     (c.references_stand_once.ensures is.manifest c.args.known.now.facts (node_name c.args.inputs.now.node) c.args.known.now.class_data c.args.catalog.now (sym is.is)))
 
 pub replayed-requires-clause-programs : goal.replayed-requires-clause-programs
-replayed-requires-clause-programs c = as_many_lent c.args.inputs.now c.args.known.now c.args.catalog.now c.args.plan.now c.args.programs.now c.requires
+replayed-requires-clause-programs c = as_many_lent c.args.inputs.now c.args.known.now c.args.catalog.now c.args.plan.now c.args.programs.now c.requires.modelled
 
 pub repaired-requires-clause-count : goal.repaired-requires-clause-count
-repaired-requires-clause-count c = as_many_in_order c.args.inputs.now c.args.known.now c.args.catalog.now c.args.plan.now c.args.programs.now c.requires
+repaired-requires-clause-count c = as_many_in_order c.args.inputs.now c.args.known.now c.args.catalog.now c.args.plan.now c.args.programs.now c.requires.modelled
 
 pub repaired-requires-clause-many : goal.repaired-requires-clause-many
-repaired-requires-clause-many c = c.requires.planned.count
+repaired-requires-clause-many c = c.requires.modelled.planned.count
 
 pub repaired-requires-clause-places : goal.repaired-requires-clause-places
-repaired-requires-clause-places c = are_places c.args.catalog.now c.args.plan.now c.args.plan.now.plain refl c.requires.planned.graph
+repaired-requires-clause-places c = are_places c.args.catalog.now c.args.plan.now c.args.plan.now.plain refl c.requires.modelled.planned.graph
 
 pub ensured-requires-clause-count : goal.ensured-requires-clause-count
-ensured-requires-clause-count c = as_many_in_order c.args.inputs.now c.args.known.now c.args.catalog.now c.args.plan.now c.args.programs.now c.requires
+ensured-requires-clause-count c = as_many_in_order c.args.inputs.now c.args.known.now c.args.catalog.now c.args.plan.now c.args.programs.now c.requires.modelled
 
 pub ensured-requires-clause-many : goal.ensured-requires-clause-many
-ensured-requires-clause-many c = c.requires.planned.count
+ensured-requires-clause-many c = c.requires.modelled.planned.count
 
 pub ensured-requires-clause-places : goal.ensured-requires-clause-places
-ensured-requires-clause-places c = are_places c.args.catalog.now c.args.plan.now c.args.plan.now.plain refl c.requires.planned.graph
+ensured-requires-clause-places c = are_places c.args.catalog.now c.args.plan.now c.args.plan.now.plain refl c.requires.modelled.planned.graph
+
+pub explained-requires-clause-compiled : goal.explained-requires-clause-compiled
+explained-requires-clause-compiled c = c.requires.modelled.planned.compiled
+
+pub explained-requires-clause-count : goal.explained-requires-clause-count
+explained-requires-clause-count c = as_many_in_order c.args.inputs.now c.args.known.now c.args.catalog.now c.args.plan.now c.args.programs.now c.requires.modelled
+
+pub explained-requires-clause-places : goal.explained-requires-clause-places
+explained-requires-clause-places c = are_places c.args.catalog.now c.args.plan.now c.args.plan.now.plain refl c.requires.modelled.planned.graph

@@ -1,0 +1,70 @@
+//! What is told where all is well.
+
+ghost use Rattle.std.specs.Prelude.{◌≡◌, ◌++◌, length, map, IfOk};
+ghost use Rattle.fs_lang.specs.Meaning.{program_of};
+ghost use Rattle.fs_semantics.specs.Orders.{IsDeterministic, IsIdempotent};
+ghost use Rattle.orders.specs.Relation.{Comes};
+ghost use Rattle.verdict_report.specs.Lines.{last_line};
+ghost use Rattle.explain_report.specs.Told.{IsEnding, ExplainsSure};
+ghost use Rattle.explain_report.specs.Steps.{EndHolds};
+
+use crate::lines::sure_text;
+use explained_runs::nothing_line;
+use fs_lang::Program;
+use full_verdict::Ends;
+use orders::Order;
+use rh_base::{NoMemory, Seq, Text};
+use std::alloc::Global;
+use verdict_report::{Report, push_last};
+use verdict_text::push_bytes;
+
+/// The last line, and what follows it.
+fn last_text(alloc: Global, end: &Ends, more: &[u8]) -> Result<Seq<u8>, NoMemory>
+    ensures { IfOk result (λ last. last ≡ last_line end.now ++ more.now) }
+{
+    let mut bytes = Vec::new(alloc);
+    push_last(end, &mut bytes)?;
+    push_bytes(more, &mut bytes)?;
+    Ok(Seq::from_vec(bytes))
+}
+
+/// The end of the text.
+fn ending(
+    alloc: Global,
+    names: &[Text],
+    programs: &[Program],
+    order: &Order,
+    end: &Ends,
+) -> Result<Seq<u8>, NoMemory>
+    requires count { length programs.now ≡ order.now.count }
+    requires holds { EndHolds (map program_of programs.now) order.now end.now }
+    ensures { IfOk result (IsEnding names.now (map program_of programs.now) order.now) }
+{
+    match end {
+        Ends::From(_) => last_text(alloc, end, &[]),
+        Ends::Never(_) => {
+            let line = nothing_line(alloc, names, programs, order)?;
+            last_text(alloc, end, line.as_slice())
+        }
+    }
+}
+
+/// What is told where all is well.
+pub fn explain_sure(
+    alloc: Global,
+    head: &str,
+    names: &[Text],
+    programs: &[Program],
+    order: &Order,
+    end: &Ends,
+) -> Result<Report, NoMemory>
+    requires count { length programs.now ≡ order.now.count }
+    requires deterministic { IsDeterministic (map program_of programs.now) (Comes order.now) }
+    requires idempotent { IsIdempotent (map program_of programs.now) (Comes order.now) }
+    requires holds { EndHolds (map program_of programs.now) order.now end.now }
+    ensures { IfOk result (ExplainsSure names.now (map program_of programs.now) order.now head.now) }
+{
+    let last = ending(alloc, names, programs, order, end)?;
+    let text = sure_text(alloc, head, last.as_slice())?;
+    Ok(Report { status: 0, text })
+}

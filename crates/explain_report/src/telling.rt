@@ -1,0 +1,96 @@
+//! What is explained of programs and the order between them.
+
+ghost use Rattle.std.specs.Prelude.{◌≡◌, length, map, IfOk, IfErr};
+ghost use Rattle.rh_base.specs.Refused.{IfRefused};
+ghost use Rattle.fs_lang.specs.Meaning.{program_of};
+ghost use Rattle.verdict.specs.Limits.{IsTooLarge};
+ghost use Rattle.full_verdict.specs.Verdicts.{pruned_in};
+ghost use Rattle.full_verdict.specs.Answers.{IsVerdict};
+ghost use Rattle.verdict_report.specs.Lines.{budget_of};
+ghost use Rattle.verdict_report.specs.Told.{IsTellable};
+ghost use Rattle.verdict_report.specs.declared.report.Report.{Report as R};
+ghost use Rattle.explain_report.specs.Lines.{noted_head, spent_text};
+ghost use Rattle.explain_report.specs.Told.{Explains, IsExplained};
+
+use crate::lines::{noted_head, spent_text};
+use crate::parting::{explain_change, explain_difference};
+use crate::sure::explain_sure;
+use fs_lang::Program;
+use full_verdict::{Asked, Second, Verdict, judge};
+use orders::Order;
+use rh_base::{Fault, NoMemory, Text};
+use std::alloc::Global;
+use verdict_report::{Report, budget_of};
+
+/// How many programs pruning doesn't keep.
+fn pruned_in(judged: &Verdict) -> u32
+    ensures { result ≡ pruned_in judged.now }
+{
+    match judged {
+        Verdict::NotDeterministic { pruned, .. } => *pruned,
+        Verdict::Judged { pruned, .. } => *pruned,
+        Verdict::Spent { pruned, .. } => *pruned,
+    }
+}
+
+/// What is told where a question's conflicts are spent.
+fn explain_spent(alloc: Global, head: &str, asked: &Asked, budget: u64) -> Result<Report, NoMemory>
+    ensures { IfOk result (λ report. report ≡ record { status = 3; text = spent_text head.now asked.now budget }) }
+{
+    let text = spent_text(alloc, head, asked, budget)?;
+    Ok(Report { status: 3, text })
+}
+
+/// A verdict, as it is explained.
+fn explain(
+    alloc: Global,
+    given: Option<u64>,
+    head: &str,
+    names: &[Text],
+    programs: &[Program],
+    order: &Order,
+    judged: &Verdict,
+) -> Result<Report, NoMemory>
+    requires count { length programs.now ≡ order.now.count }
+    requires places { IsTellable (length programs.now) judged.now }
+    requires verdict { IsVerdict (map program_of programs.now) order.now (budget_of given) judged.now }
+    ensures { IfOk result (Explains given names.now (map program_of programs.now) order.now head.now) }
+{
+    match judged {
+        Verdict::NotDeterministic { witness, .. } => {
+            explain_difference(alloc, head, names, programs, witness)
+        }
+        Verdict::Judged {
+            second: Second::Same(_),
+            ends,
+            ..
+        } => explain_sure(alloc, head, names, programs, order, ends),
+        Verdict::Judged {
+            second: Second::Differs(witness),
+            ..
+        } => explain_change(alloc, head, names, programs, witness),
+        Verdict::Spent { asked, .. } => explain_spent(alloc, head, asked, budget_of(given)),
+    }
+}
+
+/// What is explained of programs and the order between them. The resources have these names, and these notes stand behind their
+/// number. Each question has so many conflicts, if a number is given.
+pub fn told(
+    alloc: Global,
+    given: Option<u64>,
+    notes: &str,
+    names: &[Text],
+    programs: &[Program],
+    order: &Order,
+) -> Result<Report, Fault>
+    requires { length programs.now ≡ order.now.count }
+    ensures told { IfOk result (IsExplained given notes.now names.now (map program_of programs.now) order.now) }
+    // It is refused exactly where the graph is too large to be asked about.
+    ensures refused { IfErr result (λ e. IfRefused e (IsTooLarge (map program_of programs.now))) }
+{
+    let judged = judge(alloc, programs, order, budget_of(given))?;
+    let head = noted_head(alloc, programs.len(), notes, pruned_in(&judged))?;
+    let shown = head.as_str();
+    let report = explain(alloc, given, shown, names, programs, order, &judged)?;
+    Ok(report)
+}

@@ -1,0 +1,19 @@
+use Rattle.std.proofs.Common.{map, sym, ap, ◌∙◌}
+use Rattle.std.proofs.lemmas.Result.{IfOk-weaker}
+use Rattle.fs_lang.specs.Meaning.{program_of}
+use Rattle.fs_lang.specs.Outcomes.{outcome_of}
+use Rattle.orders.specs.Relation.{comes}
+use Rattle.explained_runs.proofs.RunLaws.{tells_again, never_again}
+use Rattle.explained_runs.proofs.twice.again_lines.Goals as goal
+
+pub returns-in-Ended : goal.returns-in-Ended
+returns-in-Ended c =
+    IfOk-weaker c.second_lines.result _ _
+    (λ lines told o shown. tells_again c.args.names.now (map program_of c.args.programs.now) o c.in_ok-smaller.smaller c.in-Ended.after c.args.order.now lines
+        (sym c.in_ok-after.ensures ∙ ap outcome_of c.in-Ended.is) told (c.in_ok-smaller.ensures.shows (comes o) shown))
+    c.second_lines.ensures
+
+pub returns : goal.returns
+returns c = λ o shown.
+    never_again c.args.names.now (map program_of c.args.programs.now) o c.in_ok-smaller.smaller c.args.order.now c.new.result
+    (sym c.in_ok-after.ensures ∙ ap outcome_of c.in-Error.is) (c.in_ok-smaller.ensures.shows (comes o) shown)

@@ -1,0 +1,11 @@
+//! Tests of where runs fail, of the paths at which trees differ, and of smaller counterexamples.
+#![tactic(auto)]
+
+#[cfg(test)]
+mod differences;
+#[cfg(test)]
+mod failures;
+#[cfg(test)]
+mod places;
+#[cfg(test)]
+mod smaller;
