@@ -9,5 +9,5 @@ pub returns : goal.returns
 returns c =
     IfOk-weaker c.both_lines.result _ _
     (λ lines told order shown e. tells_apart c.args.names.now (map program_of c.args.programs.now) order c.in_ok-smaller.smaller c.args.left.now c.args.right.now lines
-        (c.in_ok-smaller.ensures.shows (comes order) shown) e told)
+    (c.in_ok-smaller.ensures.shows (comes order) shown) e told)
     c.both_lines.ensures

@@ -14,5 +14,5 @@ returns c =
     let right = c.args.right.now in
     IfOk-weaker c.put_together.result _ (TellsBoth names es t left right)
     (λ lines is. tells_both names es t left right c.first_apart-a.result c.name_at-first.result.now c.name_at-second.result.now c.in_ok-how.how c.in_ok-other.other c.in_ok-list.list lines
-        c.first_apart-a.ensures c.name_at-first.ensures c.name_at-second.ensures c.in_ok-how.ensures c.in_ok-other.ensures c.in_ok-list.ensures is)
+    c.first_apart-a.ensures c.name_at-first.ensures c.name_at-second.ensures c.in_ok-how.ensures c.in_ok-other.ensures c.in_ok-list.ensures is)
     c.put_together.ensures

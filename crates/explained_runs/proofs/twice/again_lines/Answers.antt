@@ -10,7 +10,7 @@ pub returns-in-Ended : goal.returns-in-Ended
 returns-in-Ended c =
     IfOk-weaker c.second_lines.result _ _
     (λ lines told o shown. tells_again c.args.names.now (map program_of c.args.programs.now) o c.in_ok-smaller.smaller c.in-Ended.after c.args.order.now lines
-        (sym c.in_ok-after.ensures ∙ ap outcome_of c.in-Ended.is) told (c.in_ok-smaller.ensures.shows (comes o) shown))
+    (sym c.in_ok-after.ensures ∙ ap outcome_of c.in-Ended.is) told (c.in_ok-smaller.ensures.shows (comes o) shown))
     c.second_lines.ensures
 
 pub returns : goal.returns
