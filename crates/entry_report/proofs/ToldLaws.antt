@@ -1,5 +1,5 @@
 -- From the answer to what is told of it.
-use Rattle.std.proofs.Common.{◌≡◌, inl, inr, ℕ, ◌^◌, ◌-◌, List, [], ◌∷◌, ◌++◌, length, Option, Some, None, refl, subst, sym}
+use Rattle.std.proofs.Common.{◌≡◌, inl, inr, ℕ, ◌^◌, ◌-◌, List, [], ◌∷◌, ◌++◌, length, Option, Some, None, refl, subst}
 use Rattle.fs_semantics.specs.Programs.{Program}
 use Rattle.fs_semantics.specs.Orders.{IsDeterministic, Succeeds}
 use Rattle.orders.specs.Relation.{Relation, Comes}
@@ -9,7 +9,7 @@ use Rattle.cnf.specs.declared.log.Step.{Step}
 use Rattle.order_encode.specs.declared.witness.Witness.{Witness}
 use Rattle.order_encode.specs.declared.witness.Witness.TheVariants as witness
 use Rattle.verdict.specs.Limits.{HasFewPaths, IsLight}
-use Rattle.judgement.specs.First.{IsPrunedCount, IsDifference, IsSpent}
+use Rattle.judgement.specs.First.{IsDifference, IsSpent}
 use Rattle.judgement.specs.declared.first.First.{First}
 use Rattle.judgement.specs.declared.first.First.TheVariants as first
 use Rattle.full_verdict.specs.declared.verdicts.Asked.TheVariants as asked
@@ -17,7 +17,7 @@ use Rattle.full_verdict.specs.declared.verdicts.Ends.{Ends}
 use Rattle.full_verdict.specs.declared.verdicts.Ends.TheVariants as ends
 use Rattle.verdict_report.specs.declared.report.Form.TheVariants as form
 use Rattle.verdict_report.specs.declared.report.Report.{Report}
-use Rattle.verdict_report.specs.Lines.{budget_of, last_line, spent_text}
+use Rattle.verdict_report.specs.Lines.{budget_of, spent_text}
 use Rattle.verdict_report.specs.Told.{IsDifferent, IsUnanswered}
 use Rattle.wanted_entry.specs.declared.wanted.Wanted.{Wanted}
 use Rattle.wanted_entry.specs.Entries.{Ensures, probe_of}
@@ -28,7 +28,7 @@ use Rattle.ensured_entry.specs.declared.ensured.Ensured.TheVariants as ensured
 use Rattle.ensured_entry.specs.Questions.{IsMissed}
 use Rattle.ensured_entry.specs.Ensured.{IsSpentOn, IsKnownBefore, IsEnsured}
 use Rattle.entry_report.specs.Lines.{missed_of, spent_late_text}
-use Rattle.entry_report.specs.Told.{IsEnding, TellsEnsured, TellsMissed, TellsSpent, IsEntryTold}
+use Rattle.entry_report.specs.Told.{TellsMissed, TellsSpent, IsEntryTold}
 use Rattle.entry_report.specs.Steps.{IsReportOf}
 
 -- conflicts that are spent are given

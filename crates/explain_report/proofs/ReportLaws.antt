@@ -1,5 +1,5 @@
 -- From a verdict to what is explained of it.
-use Rattle.std.proofs.Common.{◌≡◌, ◌≢◌, inl, inr, ◌-◌, ◌^◌, ℕ, List, [], ◌++◌, Option, Some, None, refl, sym, ap, subst, subst₂, ◌∙◌, append-nil}
+use Rattle.std.proofs.Common.{◌≡◌, inl, inr, ◌-◌, ◌^◌, ℕ, List, [], ◌++◌, Option, Some, None, refl, sym, ap, subst, subst₂, ◌∙◌, append-nil}
 use Rattle.std.specs.Prelude.{IsSome}
 use Rattle.fs_semantics.specs.Programs.{Program, Outcome}
 use Rattle.fs_semantics.specs.Orders.{IsDeterministic, IsExchange, IsCounterexample, Succeeds, IsSecondRunCounterexample, outcome}
@@ -19,13 +19,12 @@ use Rattle.full_verdict.specs.declared.verdicts.Asked.TheVariants as asked
 use Rattle.full_verdict.specs.declared.verdicts.Second.TheVariants as second
 use Rattle.full_verdict.specs.declared.verdicts.Ends.{Ends}
 use Rattle.full_verdict.specs.declared.verdicts.Ends.TheVariants as ends
-use Rattle.full_verdict.specs.declared.verdicts.Verdict.{Verdict}
 use Rattle.full_verdict.specs.declared.verdicts.Verdict.TheVariants as verdict
 use Rattle.full_verdict.specs.Questions.{IsSecondChange}
 use Rattle.full_verdict.specs.Verdicts.{IfFrom, IfNever, IsSpentOn}
 use Rattle.full_verdict.specs.Answers.{IsVerdict}
 use Rattle.verdict_report.specs.declared.report.Report.{Report}
-use Rattle.verdict_report.specs.Lines.{budget_of, succeeds_line, fails_line, last_line}
+use Rattle.verdict_report.specs.Lines.{budget_of, succeeds_line, fails_line}
 use Rattle.explained_runs.specs.Told.{TellsApart, TellsAgain, TellsFromNothing}
 use Rattle.explain_report.specs.Lines.{apart_text, again_text, spent_text}
 use Rattle.explain_report.specs.Steps.{EndHolds}

@@ -1,6 +1,6 @@
 -- The blocks of a manifest, and which of them runs.
-use Rattle.std.proofs.Common.{◌≡◌, ◌⊎◌, inl, inr, ℕ, Bool, true, false, cond, List, [], ◌∷◌, ◌++◌, Option, Some, None, Result, Ok, Err, refl, sym, ap, ◌∙◌, subst, append-nil, append_assoc}
-use Rattle.std.specs.Prelude.{IsTrue, ◌||◌, is_none}
+use Rattle.std.proofs.Common.{◌≡◌, inl, inr, ℕ, Bool, true, false, cond, List, [], ◌∷◌, ◌++◌, Option, Some, None, Result, Ok, Err, refl, sym, ap, ◌∙◌, subst, append-nil, append_assoc}
+use Rattle.std.specs.Prelude.{◌||◌, is_none}
 use Rattle.std.specs.Option.{option_or}
 use Rattle.std.specs.List.{list_any}
 use Rattle.rh_base.specs.declared.fault.Refusal.{Refusal}
@@ -14,8 +14,8 @@ use Rattle.pp_eval.specs.Verdicts.{◌>>=◌, refusal}
 use Rattle.pp_data.specs.declared.data.Level.{Level}
 use Rattle.pp_data.specs.Lookup.{lookup}
 use Rattle.catalog_semantics.specs.Sites.{Definition, Node, Site, is_same_node, stands_for, node_of, node_block, no_definitions, node_names, new_nodes, with_node, gathered_one, gathered, with_its_node, site_of}
-use Rattle.node_label.specs.Labels.{HasName, RunsAs, RunsDefault, named_line, default_line, IsNodeLine}
-use Rattle.node_label.specs.Spelled.{names_of, spelled_among, spelled_in, has_default, line_by, line_of}
+use Rattle.node_label.specs.Labels.{HasName, IsNodeLine}
+use Rattle.node_label.specs.Spelled.{spelled_among, spelled_in, has_default, line_by, line_of}
 
 -- ---- the blocks of a manifest
 

@@ -1,5 +1,5 @@
 -- Names one after another.
-use Rattle.std.proofs.Common.{◌≡◌, ℕ, List, [], ◌∷◌, ◌++◌, take}
+use Rattle.std.proofs.Common.{ℕ, List, [], ◌∷◌, ◌++◌}
 use Rattle.catalog_semantics.specs.Catalogs.{Catalog}
 use Rattle.placed_names.specs.Placed.{IsNameAt, AreNamesAt}
 

@@ -1,5 +1,5 @@
 -- What an explanation tells at each status.
-use Rattle.std.proofs.Common.{◌≡◌, ◌⊎◌, ◌<◌, ◌≤◌, inl, inr, ℕ, List, Option, arith}
+use Rattle.std.proofs.Common.{◌≡◌, ◌<◌, ◌≤◌, inl, inr, ℕ, List, Option, arith}
 use Rattle.fs_semantics.specs.Programs.{Program}
 use Rattle.orders.specs.Relation.{Relation}
 use Rattle.verdict_report.specs.declared.report.Report.{Report}
