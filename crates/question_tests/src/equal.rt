@@ -1,7 +1,7 @@
 //! Two graphs each, with whether they do the same.
 
 use crate::judging::refused;
-use crate::programs::{again, in_turn, unordered};
+use crate::programs::unordered;
 use equal_graphs::{Compared, compare};
 use fs_lang::Program;
 use judgement::First;
@@ -137,41 +137,5 @@ fn graphs_of_two(rt: HostRuntime) -> Result<(), Fail> {
         )?;
         assert_eq!(rt; got.as_str(), want, "{words} and {others}");
     }
-    Ok(())
-}
-
-/// One program on either side, which makes folders.
-fn told_in_turn(alloc: Global, left: Program, right: Program) -> Result<String, Fail> {
-    let left = vec![in alloc; left]?;
-    let right = vec![in alloc; right]?;
-    let order = Order::from_edges(alloc, 1, &[])?;
-    told(
-        alloc,
-        left.as_slice(),
-        &order,
-        right.as_slice(),
-        &order,
-        u64::MAX,
-    )
-}
-
-#[test]
-fn paths_of_both(rt: HostRuntime) -> Result<(), Fail> {
-    let alloc = rt.alloc();
-    for (count, of, want) in [
-        (100u32, 100u32, "equal"),
-        (4_095, 4_097, "70 domain"),
-        (4_097, 1, "70 domain"),
-        (1, 4_097, "70 domain"),
-        (4_096, 1, "not equal"),
-    ] {
-        let got = told_in_turn(alloc, in_turn(alloc, count)?, in_turn(alloc, of)?)?;
-        assert_eq!(rt; got.as_str(), want, "{count} and {of}");
-    }
-    // a program by itself may weigh too much, on either side
-    let heavy = told_in_turn(alloc, again(alloc, 1, 350_001)?, again(alloc, 1, 1)?)?;
-    assert_eq!(rt; heavy.as_str(), "70 weight");
-    let heavy = told_in_turn(alloc, again(alloc, 1, 1)?, again(alloc, 1, 350_001)?)?;
-    assert_eq!(rt; heavy.as_str(), "70 weight");
     Ok(())
 }
