@@ -162,14 +162,14 @@ lower_none : (k n j : ℕ) → j < k → times j (up_from k n) ≡ 0
 lower_none k zero j h = refl
 lower_none k (suc n) j h = times_other j k (up_from (suc k) n) (λ e. omega arith) ∙ lower_none (suc k) n j (omega arith)
 
-up_once : (k n j : ℕ) → k ≤ j → j < k + n → times j (up_from k n) ≡ 1
+pub up_once : (k n j : ℕ) → k ≤ j → j < k + n → times j (up_from k n) ≡ 1
 up_once k zero j h l = absurd (omega arith)
 up_once k (suc n) j h l = elim (k == j) as (λ b. (k == j) ≡ b → cond b 1 0 + times j (up_from (suc k) n) ≡ 1) [
   | true ↦ λ e. let is : k ≡ j = eqb-true k j e in omega (arith, lower_none (suc k) n j (omega arith))
   | false ↦ λ e. omega (arith, up_once (suc k) n j (let other : k ≡ j → ⊥ = eqb-false k j e in omega arith) (omega arith))
 ] refl
 
-higher_none : (k n j : ℕ) → k + n ≤ j → times j (up_from k n) ≡ 0
+pub higher_none : (k n j : ℕ) → k + n ≤ j → times j (up_from k n) ≡ 0
 higher_none k zero j h = refl
 higher_none k (suc n) j h = times_other j k (up_from (suc k) n) (λ e. omega arith) ∙ higher_none (suc k) n j (omega arith)
 

@@ -45,14 +45,14 @@ up_rises k (suc n) = (up_above k (suc k) n (omega arith), up_rises (suc k) n)
 
 -- ---- what is found
 
-all_true : (Q : ℕ → Bool) (ks : List ℕ) (j : ℕ) → list_all Q ks ≡ true → 0 < times j ks → Q j ≡ true
+pub all_true : (Q : ℕ → Bool) (ks : List ℕ) (j : ℕ) → list_all Q ks ≡ true → 0 < times j ks → Q j ≡ true
 all_true Q [] j h t = absurd (omega arith)
 all_true Q (i ∷ ks) j h t = elim (cases_Bool (i == j)) [
   | inl here ↦ ap Q (sym (eqb-true i j here)) ∙ (and_parts (Q i) (list_all Q ks) h).0
   | inr other ↦ all_true Q ks j (and_parts (Q i) (list_all Q ks) h).1 (omega (arith, t, times_other j i ks (λ e. eqb-false i j other (sym e))))
 ]
 
-true_all : (Q : ℕ → Bool) (ks : List ℕ) → ((j : ℕ) → 0 < times j ks → Q j ≡ true) → list_all Q ks ≡ true
+pub true_all : (Q : ℕ → Bool) (ks : List ℕ) → ((j : ℕ) → 0 < times j ks → Q j ≡ true) → list_all Q ks ≡ true
 true_all Q [] h = refl
 true_all Q (i ∷ ks) h = and_from (Q i) (list_all Q ks) (h i (omega (arith, times_itself i ks))) (true_all Q ks (λ j t. h j (omega (arith, t))))
 

@@ -143,3 +143,9 @@ module _ (order : Relation) (rows : List (List Bool)) (s t : Pruning) (more : Bo
   fewer None h x = omega (arith, ones more _ x.0, ap (λ (p : Pruning). length p.kept) x.1)
   fewer (Some (ToLast k)) h x = omega (arith, ones more _ x.0, ap length x.1, without_shorter k s.kept (subject_there order rows s.kept (ToLast k) h))
   fewer (Some (ToFirst k)) h x = omega (arith, ones more _ x.0, ap length x.1, without_shorter k s.kept (subject_there order rows s.kept (ToFirst k) h))
+
+-- where none may go last, the first that may go first goes
+pub stepped_first : (order : Relation) (rows : List (List Bool)) (s t : Pruning) (k : ℕ) → find (may_last order rows s.kept) s.kept ≡ None → find (may_first order rows s.kept) s.kept ≡ Some k
+    → t.kept ≡ without k s.kept → t.first ≡ s.first ++ k ∷ [] → t.late.items ≡ s.late.items → Stepped (next_move order rows s.kept) s t true
+stepped_first order rows s t k none some kept first late =
+    subst (λ o. Stepped o s t true) (sym (ap (λ o. or_first o (find (may_first order rows s.kept) s.kept)) none ∙ ap (or_first None) some)) (refl, kept, first, late)

@@ -3,6 +3,8 @@ use Rattle.std.specs.Prelude.{ℕ, Bool, not, ◌&&◌, ◌||◌, ◌==◌, List
 use Rattle.std.specs.List.{list_all, find}
 use Rattle.orders.specs.Relation.{Relation, comes}
 use Rattle.commute_prune.specs.Matrix.{cell}
+use Rattle.commute_prune.specs.declared.search.End.{End}
+use Rattle.commute_prune.specs.declared.search.End.TheVariants as end
 use Rattle.commute_prune.specs.Pruning.{Move, ToFirst, ToLast}
 
 -- neither program changes what the other one looks at
@@ -24,6 +26,15 @@ may_last order rows kept k = list_all (lets_last order rows k) kept
 -- each of the kept ones lets k go first
 abbrev pub may_first : Relation → List (List Bool) → List ℕ → ℕ → Bool
 may_first order rows kept k = list_all (lets_first order rows k) kept
+
+-- j lets k go to this end of the order
+abbrev pub lets : End → Relation → List (List Bool) → ℕ → ℕ → Bool
+lets end.First = lets_first
+lets end.Last = lets_last
+
+-- each of the kept ones lets k go there
+abbrev pub may : End → Relation → List (List Bool) → List ℕ → ℕ → Bool
+may e order rows kept k = list_all (lets e order rows k) kept
 
 -- the first that may go last, else the first that may go first
 abbrev pub or_first : Option ℕ → Option ℕ → Option Move

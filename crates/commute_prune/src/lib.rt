@@ -9,6 +9,7 @@ mod moves;
 mod numbered;
 mod numbers;
 mod proper;
+mod search;
 mod settling;
 mod sure;
 

@@ -1,11 +1,10 @@
-//! Which program may go first or last.
+//! Which program lets another one go first or last.
 
 ghost use Rattle.std.specs.Prelude.{◌≡◌, ◌<◌, IfOk};
-ghost use Rattle.std.specs.List.{AllByRecursion, find};
 ghost use Rattle.orders.specs.Relation.{comes};
 ghost use Rattle.commute_prune.specs.Matrix.{cell};
 ghost use Rattle.commute_prune.specs.Pruning.{without};
-ghost use Rattle.commute_prune.specs.Steps.{are_apart, lets_last, lets_first, may_last, may_first};
+ghost use Rattle.commute_prune.specs.Steps.{are_apart, lets_last, lets_first};
 
 use orders::Order;
 use rh_base::{NoMemory, Seq};
@@ -45,7 +44,7 @@ pub(crate) fn are_apart(clear: &[Seq<bool>], i: u32, j: u32) -> bool
 }
 
 /// Whether a program lets another one go last.
-fn lets_last(order: &Order, clear: &[Seq<bool>], k: u32, j: u32) -> bool
+pub(crate) fn lets_last(order: &Order, clear: &[Seq<bool>], k: u32, j: u32) -> bool
     requires k { k < order.now.count }
     requires j { j < order.now.count }
     ensures { result ≡ lets_last order.now clear.now k j }
@@ -63,7 +62,7 @@ fn lets_last(order: &Order, clear: &[Seq<bool>], k: u32, j: u32) -> bool
 }
 
 /// Whether a program lets another one go first.
-fn lets_first(order: &Order, clear: &[Seq<bool>], k: u32, j: u32) -> bool
+pub(crate) fn lets_first(order: &Order, clear: &[Seq<bool>], k: u32, j: u32) -> bool
     requires k { k < order.now.count }
     requires j { j < order.now.count }
     ensures { result ≡ lets_first order.now clear.now k j }
@@ -78,58 +77,6 @@ fn lets_first(order: &Order, clear: &[Seq<bool>], k: u32, j: u32) -> bool
         return true;
     }
     are_apart(clear, k, j)
-}
-
-fn may_last(order: &Order, clear: &[Seq<bool>], kept: &[u32], k: u32) -> bool
-    requires k { k < order.now.count }
-    requires kept { AllByRecursion (λ j. j < order.now.count) kept.now }
-    ensures { result ≡ may_last order.now clear.now kept.now k }
-{
-    for j in kept {
-        if !lets_last(order, clear, k, *j) {
-            return false;
-        }
-    }
-    true
-}
-
-fn may_first(order: &Order, clear: &[Seq<bool>], kept: &[u32], k: u32) -> bool
-    requires k { k < order.now.count }
-    requires kept { AllByRecursion (λ j. j < order.now.count) kept.now }
-    ensures { result ≡ may_first order.now clear.now kept.now k }
-{
-    for j in kept {
-        if !lets_first(order, clear, k, *j) {
-            return false;
-        }
-    }
-    true
-}
-
-/// The first of the kept ones that may go last.
-pub(crate) fn find_last(order: &Order, clear: &[Seq<bool>], kept: &[u32]) -> Option<u32>
-    requires { AllByRecursion (λ j. j < order.now.count) kept.now }
-    ensures { result ≡ find (may_last order.now clear.now kept.now) kept.now }
-{
-    for k in kept {
-        if may_last(order, clear, kept, *k) {
-            return Some(*k);
-        }
-    }
-    None
-}
-
-/// The first of the kept ones that may go first.
-pub(crate) fn find_first(order: &Order, clear: &[Seq<bool>], kept: &[u32]) -> Option<u32>
-    requires { AllByRecursion (λ j. j < order.now.count) kept.now }
-    ensures { result ≡ find (may_first order.now clear.now kept.now) kept.now }
-{
-    for k in kept {
-        if may_first(order, clear, kept, *k) {
-            return Some(*k);
-        }
-    }
-    None
 }
 
 /// The numbers without one of them.

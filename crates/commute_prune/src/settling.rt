@@ -5,11 +5,13 @@ ghost use Rattle.std.specs.List.{AllByRecursion};
 ghost use Rattle.fs_semantics.specs.Orders.{Told, up_from};
 ghost use Rattle.fs_lang.specs.Meaning.{program_of};
 ghost use Rattle.orders.specs.Relation.{comes};
+ghost use Rattle.commute_prune.specs.Search.{IsSearch};
 ghost use Rattle.commute_prune.specs.Steps.{next_move};
 ghost use Rattle.commute_prune.specs.Pruned.{IsPruned, Stepped, IsStart, IsSettled};
 
 use crate::matrix::clear_pairs;
-use crate::moves::{find_first, find_last, without};
+use crate::moves::without;
+use crate::search::{End, Search};
 use fs_lang::Program;
 use orders::Order;
 use rh_base::{NoMemory, Seq};
@@ -47,18 +49,23 @@ fn step(
     order: &Order,
     clear: &[Seq<bool>],
     p: &mut Pruning,
+    search: &mut Search,
 ) -> Result<bool, NoMemory>
-    requires { AllByRecursion (λ j. j < order.now.count) p.old.kept }
-    ensures { IfOk result (λ more. Stepped (next_move order.now clear.now p.old.kept) p.old p.new more) }
+    requires below { AllByRecursion (λ j. j < order.now.count) p.old.kept }
+    requires search { IsSearch order.now clear.now p.old.kept search.old }
+    ensures stepped { IfOk result (λ more. Stepped (next_move order.now clear.now p.old.kept) p.old p.new more) }
+    ensures search { OnOk result (IsSearch order.now clear.now p.new.kept search.new) }
 {
-    if let Some(k) = find_last(order, clear, p.kept.as_slice()) {
+    if let Some(k) = search.find(order, clear, End::Last, p.kept.as_slice()) {
         p.kept = without(alloc, p.kept.as_slice(), k)?;
         p.late.push(k)?;
+        search.take_out(k);
         return Ok(true);
     }
-    if let Some(k) = find_first(order, clear, p.kept.as_slice()) {
+    if let Some(k) = search.find(order, clear, End::First, p.kept.as_slice()) {
         p.kept = without(alloc, p.kept.as_slice(), k)?;
         p.first.push(k)?;
+        search.take_out(k);
         return Ok(true);
     }
     Ok(false)
@@ -74,9 +81,10 @@ fn settle(
     requires start { IsStart order.now p.old }
     ensures { OnOk result (IsSettled order.now clear.now p.new) }
 {
+    let mut search = Search::new(alloc, order.count())?;
     let mut more = true;
     while more {
-        more = step(alloc, order, clear, p)?;
+        more = step(alloc, order, clear, p, &mut search)?;
     }
     Ok(())
 }

@@ -1,4 +1,3 @@
-use Rattle.fs_semantics.specs.Orders.{Told}
 use Rattle.sure_folders.specs.Folders.{nowhere, either}
 use Rattle.commute_prune.specs.Sure.{surely_stands}
 use Rattle.commute_prune.proofs.DoubtfulLaws.{apart_with_both, sure_either, all_free_commute}

@@ -1,4 +1,4 @@
-use Rattle.std.proofs.Common.{◌≡◌, ℕ, ◌<◌, length, drop}
+use Rattle.std.proofs.Common.{◌≡◌, length}
 use Rattle.orders.specs.Relation.{comes}
 use Rattle.commute_prune.specs.Reduced.{AreReduced}
 use Rattle.commute_prune.proofs.sure.all_reduced.Given as goal

@@ -1,4 +1,4 @@
-use Rattle.std.proofs.Common.{◌≡◌, ℕ, Bool, not, ◌&&◌, false, ◌++◌, drop, get_or}
+use Rattle.std.proofs.Common.{◌≡◌, not, ◌&&◌, false, ◌++◌, drop, get_or}
 use Rattle.commute_prune.specs.Reduced.{unsure}
 use Rattle.commute_prune.proofs.sure.unsure.Given as goal
 
