@@ -69,11 +69,11 @@ module _ (es : List Program) (order : Relation) (budget : ℕ) where
     refuted = refuted;
   }
 
-  alone_by : (n : ℕ) (s : Sure) → IsAlone (first.Sure n s) ↔ Keeps es (Told (comes order)) [] → IsByPruning s ↔ Keeps es (Told (comes order)) []
+  pub alone_by : (n : ℕ) (s : Sure) → IsAlone (first.Sure n s) ↔ Keeps es (Told (comes order)) [] → IsByPruning s ↔ Keeps es (Told (comes order)) []
   alone_by n sure.Pruned h = h
   alone_by n (sure.Proved v) h = h
 
-  proved_by : (n : ℕ) (s : Sure) (P : Formula → Type 0) → IfProved (first.Sure n s) P → IfByProof s P
+  pub proved_by : (n : ℕ) (s : Sure) (P : Formula → Type 0) → IfProved (first.Sure n s) P → IfByProof s P
   proved_by n sure.Pruned P h = tt
   proved_by n (sure.Proved v) P h = h
 

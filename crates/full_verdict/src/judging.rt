@@ -19,14 +19,15 @@ use crate::success::ask_end;
 use crate::verdicts::{Asked, Ends, Second, Verdict};
 use answering::Answer;
 use fs_lang::Program;
-use judgement::{First, Sure, judge_order};
+use judgement::{First, Sure, judge_any};
 use orders::Order;
 use proof_check::Verified;
 use rh_base::{Fault, NoMemory, Seq};
 use std::alloc::Global;
+use verdict::check_size;
 
 /// What was refuted to answer the first question.
-fn order_proofs(alloc: Global, sure: Sure) -> Result<Seq<Verified>, NoMemory>
+pub fn order_proofs(alloc: Global, sure: Sure) -> Result<Seq<Verified>, NoMemory>
     ensures { IfOk result (λ proofs. proofs ≡ proofs_in sure) }
 {
     let mut proofs = Seq::new(alloc);
@@ -38,7 +39,7 @@ fn order_proofs(alloc: Global, sure: Sure) -> Result<Seq<Verified>, NoMemory>
 }
 
 /// What was refuted to answer the first two questions.
-fn two_proofs(alloc: Global, sure: Sure, same: Verified) -> Result<Seq<Verified>, NoMemory>
+pub fn two_proofs(alloc: Global, sure: Sure, same: Verified) -> Result<Seq<Verified>, NoMemory>
     ensures { IfOk result (λ proofs. proofs ≡ proofs_in sure ++ same ∷ []) }
 {
     let mut proofs = order_proofs(alloc, sure)?;
@@ -155,6 +156,21 @@ fn judge_on(
     }
 }
 
+/// The verdict on a graph, however large it is. Each question has the whole budget; a budget of `u64::MAX` stands for none.
+pub fn judged(
+    alloc: Global,
+    programs: &[Program],
+    order: &Order,
+    budget: u64,
+) -> Result<Verdict, NoMemory>
+    requires count { length programs.now ≡ order.now.count }
+    requires budget { 1 ≤ budget }
+    ensures { IfOk result (IsVerdict (map program_of programs.now) order.now budget) }
+{
+    let answered = judge_any(alloc, programs, order, budget)?;
+    judge_on(alloc, programs, order, budget, answered)
+}
+
 /// Whether the programs are deterministic; where they are, whether a second run changes anything, and whether they succeed from
 /// some tree. Each question has the whole budget; a budget of `u64::MAX` stands for none. Where a second run changes something,
 /// the first one ends in a tree, and the last question isn't asked.
@@ -188,7 +204,7 @@ pub fn judge(
     ensures known { IfOk result (λ judged. IfSpentAfter judged (λ asked proofs. IsKnownBefore (map program_of programs.now) order.now asked)) }
     ensures refuted { IfOk result (λ judged. IfSpentAfter judged (AreProofsBefore (map program_of programs.now) order.now)) }
 {
-    let answered = judge_order(alloc, programs, order, budget)?;
-    let judged = judge_on(alloc, programs, order, budget, answered)?;
-    Ok(judged)
+    check_size(alloc, programs)?;
+    let verdict = judged(alloc, programs, order, budget)?;
+    Ok(verdict)
 }

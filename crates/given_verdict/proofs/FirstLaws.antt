@@ -1,5 +1,5 @@
 -- What is answered of the graph with the guard, said of the graph.
-use Rattle.std.proofs.Common.{◌≡◌, ◌↔◌, ℕ, suc, ◌+◌, ◌-◌, ◌≤◌, inl, inr, List, [], ◌∷◌, length, drop, refl, sym, ap, subst, ◌∙◌, arith}
+use Rattle.std.proofs.Common.{◌≡◌, ◌≢◌, ◌↔◌, ℕ, suc, ◌+◌, ◌-◌, ◌≤◌, inl, inr, List, [], ◌∷◌, length, drop, refl, sym, ap, subst, ◌∙◌, arith}
 use Rattle.fs_semantics.specs.FileTree.{Path}
 use Rattle.fs_semantics.specs.Programs.{Program}
 use Rattle.fs_semantics.specs.Orders.{Told, IsExchange, IsDeterministic, IsCounterexample}
@@ -19,6 +19,7 @@ use Rattle.judgement.specs.declared.first.First.{First}
 use Rattle.judgement.specs.declared.first.First.TheVariants as first
 use Rattle.judgement.specs.declared.first.Sure.{Sure}
 use Rattle.judgement.specs.declared.first.Sure.TheVariants as sure
+use Rattle.given_verdict.proofs.AskedLaws.{proof_of_guarded, spent_of_guarded}
 use Rattle.given_verdict.specs.First.{IsDifferenceFrom, IsProofFrom, IsSpentFrom, IsJudgedFrom, IsUnguarded, IsAnswerWithout}
 
 pub two_orders : (es : List Program) (before : ℕ → ℕ → Type 0) (a : First) → IfDiffers a (IsDifference es before) → IfDiffers a HasTwoOrders
@@ -39,19 +40,19 @@ proved_same : (p q : ℕ) (s : Sure) (P Q : Formula → Type 0) → ((f : Formul
 proved_same p q sure.Pruned P Q to h = tt
 proved_same p q (sure.Proved v) P Q to h = to v.formula h
 
-module _ (given : List Path) (es : List Program) (order : Relation) (long : length es ≡ order.count)
+module _ (given : List Path) (es : List Program) (order : Relation) (long : length es ≡ order.count) (some : given ≢ [])
     (kept_by : (kept : List ℕ) → Keeps (guarded given es) (Told (guard_before order.count (comes order))) kept → Keeps es (Told (comes order)) kept)
     (one : (kept left : List ℕ) → Keeps es (Told (comes order)) kept → Keeps es (Told (comes order)) left → kept ≡ left)
     (few : (kept : List ℕ) → Keeps es (Told (comes order)) kept → length kept ≤ length es) where
   goes : GoesFirst (length es) (comes order) (guard_before order.count (comes order))
   goes = subst (λ n. GoesFirst n (comes order) (guard_before order.count (comes order))) (sym long) (goes_first order.count (comes order))
 
-  counted : (m : ℕ) → IsPrunedCount (guarded given es) (Told (guard_before order.count (comes order))) m → IsPrunedCount es (Told (comes order)) (m - 1)
+  pub counted : (m : ℕ) → IsPrunedCount (guarded given es) (Told (guard_before order.count (comes order))) m → IsPrunedCount es (Told (comes order)) (m - 1)
   counted m c =
       let k = kept_by c.0 c.1 in
       (c.0, k, omega (arith, c.2, longer given es, few c.0 k))
 
-  alone_back : (m : ℕ) → IsPrunedCount (guarded given es) (Told (guard_before order.count (comes order))) m → Keeps es (Told (comes order)) [] → Keeps (guarded given es) (Told (guard_before order.count (comes order))) []
+  pub alone_back : (m : ℕ) → IsPrunedCount (guarded given es) (Told (guard_before order.count (comes order))) m → Keeps es (Told (comes order)) [] → Keeps (guarded given es) (Told (guard_before order.count (comes order))) []
   alone_back m c k =
       let none : c.0 ≡ [] = one c.0 [] (kept_by c.0 c.1) k in
       subst (Keeps (guarded given es) (Told (guard_before order.count (comes order)))) none c.1
@@ -72,7 +73,7 @@ module _ (given : List Path) (es : List Program) (order : Relation) (long : leng
         (exchange (length es) (comes order) (guard_before order.count (comes order)) goes l.0 r.0 l.2).0 turned,
       ))
 
-  shown : (w v : Witness) → IsDifference (guarded given es) (Told (guard_before order.count (comes order))) w → IsUnguarded w v → IsDifferenceFrom given es (Told (comes order)) v
+  pub shown : (w v : Witness) → IsDifference (guarded given es) (Told (guard_before order.count (comes order))) w → IsUnguarded w v → IsDifferenceFrom given es (Told (comes order)) v
   shown (witness.Orders tree left right) v h u = subst (IsDifferenceFrom given es (Told (comes order))) (sym u) (different tree left right h.0 h.1)
   shown (witness.Twice tree o) v h u = absurd h
   shown (witness.Ends tree o) v h u = absurd h
@@ -91,7 +92,7 @@ module _ (given : List Path) (es : List Program) (order : Relation) (long : leng
     pruned = counted p h.0;
     alone = ((λ k. kept_by [] (h.1.0 (alone_same (p - 1) p s k))), (λ k. alone_same p (p - 1) s (h.1.1 (alone_back p h.0 k))));
     deterministic = (deterministic given es (comes order) (guard_before order.count (comes order)) goes).0 h.2;
-    proved = proved_same p (p - 1) s (IsProof (guarded given es) (Told (guard_before order.count (comes order)))) (IsProofFrom given es order) (λ f k. k) h.3;
+    proved = proved_same p (p - 1) s (IsProof (guarded given es) (Told (guard_before order.count (comes order)))) (IsProofFrom given es order) (λ f k. proof_of_guarded given es order some f k) h.3;
     differs = tt;
     spent = tt;
   })
@@ -109,7 +110,7 @@ module _ (given : List Path) (es : List Program) (order : Relation) (long : leng
     deterministic = tt;
     proved = tt;
     differs = tt;
-    spent = h.5;
+    spent = spent_of_guarded given es order some budget cnf log.steps h.5;
   })
 
   pub judged_from : (budget : ℕ) (fs : List Program) (more : Relation) (a b : First) → fs ≡ guarded given es → comes more ≡ guard_before order.count (comes order)

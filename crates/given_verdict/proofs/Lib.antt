@@ -1,3 +1,10 @@
-pub mod FirstLaws
+pub mod AskedLaws
 pub mod LimitLaws
+pub mod FirstLaws
 pub mod SecondLaws
+pub mod KeepLaws
+pub mod BehindLaws
+pub mod EndLaws
+pub mod SideLaws
+pub mod VerdictLaws
+pub mod NoneLaws

@@ -27,6 +27,7 @@ use Rattle.order_encode.specs.Parting.{HaveParting, ShowsParting}
 use Rattle.order_encode.specs.declared.witness.Witness.{Witness}
 use Rattle.order_encode.specs.declared.witness.Witness.TheVariants as witness
 use Rattle.order_encode.proofs.WitnessLaws.{Long, first_same}
+use Rattle.given_verdict.proofs.AskedLaws.{layout_of_guarded}
 use Rattle.given_verdict.specs.Second.{IsChangedFrom, HasChangeFrom, StatesSecondFrom, NeverChangedFrom, IsSecondChangeFrom, IsChangeTree, IsOfEnd, IsWithFirst}
 
 abbrev pub LaidOut : Type 0
@@ -121,11 +122,11 @@ module _ (given : List Path) (es : List Program) (order : Relation) (long : leng
       mine : (t : Tree) (other : List ℕ) → IsChangedFrom given es order t other → IsChangedFrom given es order t first
       mine t other c = subst (IsChangedFrom given es order t) (first_same alone order other first c.is_first is_first) c
 
-      pub states : StatesSecondFrom given es order f
-      states e lay = (
+      pub states : given ≢ [] → StatesSecondFrom given es order f
+      states some e lay = (
         (λ h.
             let m = exact.0 h in
-            let s = over_it e lay m.tree m.parts.is_tree (apart_to m.tree m.parts.differ) in
+            let s = over_it e (layout_of_guarded given es some (layout_of e) lay) m.tree m.parts.is_tree (apart_to m.tree m.parts.differ) in
             record { tree = s.tree; first = first; over = s.over; changed = changed s.tree s.is_tree s.differ }),
         (λ w. satisfied w.tree w.changed.shows.shows.is_tree (differs w.tree (mine w.tree w.first w.changed))),
       )

@@ -1,34 +1,20 @@
--- What is answered to the first question, asked from the file trees in which given folders stand. The formulas are about the graph
--- with the guard in front, which lets a run begin only there.
-use Rattle.std.specs.Prelude.{◌≡◌, ◌⊎◌, ◌↔◌, ℕ, ◌-◌, Bool, List, [], length, drop, codes}
-use Rattle.rh_base.specs.declared.fault.Refusal.{Refusal}
-use Rattle.rh_base.specs.Refused.{IsRefusal}
+-- What is answered to the first question, asked from the file trees in which given folders stand. Where folders are given the
+-- formulas are about the graph with the guard in front, which lets a run begin only there.
+use Rattle.std.specs.Prelude.{◌≡◌, ◌↔◌, ℕ, ◌-◌, List, [], drop}
 use Rattle.fs_semantics.specs.FileTree.{Path}
 use Rattle.fs_semantics.specs.Programs.{Program}
 use Rattle.fs_semantics.specs.Orders.{Told, IsExchange}
 use Rattle.given_hosts.specs.Given.{IsDeterministicFrom, IsCounterexampleFrom}
-use Rattle.given_hosts.specs.Guard.{guarded, guard_before}
 use Rattle.orders.specs.Relation.{Relation, comes}
 use Rattle.commute_prune.specs.Keeping.{Keeps}
 use Rattle.cnf.specs.Formulas.{Formula}
 use Rattle.cnf.specs.declared.log.Step.{Step}
-use Rattle.verdict.specs.Limits.{HasFewPaths, HasManyPaths, IsLight, IsHeavy}
 use Rattle.order_encode.specs.declared.witness.Witness.{Witness}
 use Rattle.order_encode.specs.declared.witness.Witness.TheVariants as witness
 use Rattle.judgement.specs.First.{IsPrunedCount, IsProof, IsSpent, pruned_in, IsAlone, IfSure, IfProved, IfDiffers, IfSpent}
 use Rattle.judgement.specs.declared.first.First.{First}
 use Rattle.judgement.specs.declared.first.First.TheVariants as first
-
--- the domain of the programs, with the given paths, has at most as many paths as the limit says; it has more
-abbrev pub HasFewPathsWith : List Path → List Program → Type 0
-HasFewPathsWith given es = HasFewPaths (guarded given es)
-
-abbrev pub HasManyPathsWith : List Path → List Program → Type 0
-HasManyPathsWith given es = HasManyPaths (guarded given es)
-
--- the refusal is due: the paths, with those that are given, are too many, or, where they aren't, the programs are too heavy
-abbrev pub IsTooLargeWith : List Path → List Program → Refusal → Type 0
-IsTooLargeWith given es r = (HasManyPathsWith given es × IsRefusal 70 0 (codes "domain") r) ⊎ (HasFewPathsWith given es × IsHeavy es × IsRefusal 70 0 (codes "weight") r)
+use Rattle.given_verdict.specs.Graphs.{asked_programs, asked_order}
 
 -- From the tree, in which the given folders stand, these allowed orders have different outcomes, and the second is the first with
 -- two free neighbours exchanged.
@@ -37,13 +23,13 @@ IsDifferenceFrom given es before (witness.Orders tree left right) = IsCounterexa
 IsDifferenceFrom given es before (witness.Twice tree order) = ⊥
 IsDifferenceFrom given es before (witness.Ends tree order) = ⊥
 
--- the formula was refuted, and states the question of the graph with the guard in front
+-- the formula was refuted, and states the question of the graph that is asked about
 abbrev pub IsProofFrom : List Path → List Program → Relation → Formula → Type 0
-IsProofFrom given es order f = IsProof (guarded given es) (Told (guard_before order.count (comes order))) f
+IsProofFrom given es order f = IsProof (asked_programs given es) (Told (asked_order given order)) f
 
 -- the budget was spent on the formula, which states that question
 abbrev pub IsSpentFrom : List Path → List Program → Relation → ℕ → Formula → List Step → Type 0
-IsSpentFrom given es order budget f steps = IsSpent (guarded given es) (Told (guard_before order.count (comes order))) budget f steps
+IsSpentFrom given es order budget f steps = IsSpent (asked_programs given es) (Told (asked_order given order)) budget f steps
 
 -- all that is said of the answer to the first question
 pub record IsJudgedFrom (given : List Path) (es : List Program) (order : Relation) (budget : ℕ) (answered : First) : Type 0 where

@@ -1,2 +1,9 @@
+pub mod Graphs
+pub mod Limits
 pub mod First
 pub mod Second
+pub mod Behind
+pub mod Keeping
+pub mod Ends
+pub mod Verdicts
+pub mod Answers

@@ -1,10 +1,17 @@
-//! The questions about a graph of programs, asked from the file trees in which given folders stand.
+//! The verdict on a graph of programs from the file trees in which given folders stand. They stand where a first run begins; the
+//! second run begins in what the first left, and a run may remove one.
 #![tactic(auto)]
 
+mod again;
+mod behind;
+mod ends;
+mod first;
+mod judging;
+mod keeping;
 mod limits;
-mod order;
 mod second;
 
+pub use ends::run_of;
+pub use first::answer_without;
+pub use judging::judge_from;
 pub use limits::check_size_with;
-pub use order::judge_order_from;
-pub use second::ask_second_from;

@@ -1,7 +1,7 @@
 //! Whether a second run changes anything, where the first begins in a tree in which given folders stand. The guard stands ahead of
 //! the first run alone: the second begins in what the first left.
 
-ghost use Rattle.std.specs.Prelude.{◌≡◌, ◌≤◌, ◌∷◌, ◌++◌, length, map, IfOk, OnOk};
+ghost use Rattle.std.specs.Prelude.{◌≡◌, ◌≢◌, ◌≤◌, [], ◌∷◌, ◌++◌, length, map, IfOk, OnOk};
 ghost use Rattle.fs_lang.specs.Meaning.{program_of};
 ghost use Rattle.proof_check.specs.Refuted.{HasNoModel};
 ghost use Rattle.order_encode.specs.Asked.{CanShow};
@@ -20,7 +20,7 @@ use path_domain::domain;
 use rh_base::{NoMemory, Seq};
 use std::alloc::Global;
 
-fn push_all(list: &mut Seq<u32>, more: &[u32]) -> Result<(), NoMemory>
+pub(crate) fn push_all(list: &mut Seq<u32>, more: &[u32]) -> Result<(), NoMemory>
     ensures { OnOk result (list.new ≡ list.old ++ more.now) }
 {
     for k in more {
@@ -56,6 +56,7 @@ fn second_question(
     given: &[Path],
 ) -> Result<Question, NoMemory>
     requires count { length programs.now ≡ order.now.count }
+    requires given { given.now ≢ [] }
     ensures states { IfOk result (λ q. StatesSecondFrom given.now (map program_of programs.now) order.now q.formula) }
     ensures never { IfOk result (λ q. HasNoModel q.formula → NeverChangedFrom given.now (map program_of programs.now) order.now) }
     ensures models { IfOk result (λ q. (w : Witness) → CanShow q w → IsChangeTree given.now (map program_of programs.now) order.now w) }
@@ -104,6 +105,7 @@ fn ask_runs(
 ) -> Result<Answer, NoMemory>
     requires count { length programs.now ≡ order.now.count }
     requires budget { 1 ≤ budget }
+    requires given { given.now ≢ [] }
     ensures { IfOk result (AnswersBy (StatesSecondFrom given.now (map program_of programs.now) order.now) (NeverChangedFrom given.now (map program_of programs.now) order.now)
         (IsChangeTree given.now (map program_of programs.now) order.now) budget) }
 {
@@ -114,7 +116,7 @@ fn ask_runs(
 
 /// Asks whether a second run in the first extension changes anything, where the first run begins in a tree in which the given folders
 /// stand.
-pub fn ask_second_from(
+pub(crate) fn ask_second_from(
     alloc: Global,
     programs: &[Program],
     order: &Order,
@@ -123,6 +125,7 @@ pub fn ask_second_from(
 ) -> Result<Answer, NoMemory>
     requires count { length programs.now ≡ order.now.count }
     requires budget { 1 ≤ budget }
+    requires given { given.now ≢ [] }
     ensures { IfOk result (AnswersSecondFrom given.now (map program_of programs.now) order.now budget) }
 {
     allowed_orders();

@@ -1,6 +1,6 @@
 //! The guard, and the graph with it.
 
-ghost use Rattle.std.specs.Prelude.{◌≡◌, ◌+◌, length, map, IfOk};
+ghost use Rattle.std.specs.Prelude.{◌≡◌, ◌+◌, ◌∷◌, ◌++◌, [], length, map, IfOk};
 ghost use Rattle.fs_semantics.specs.Programs.{IsDir, Id, If};
 ghost use Rattle.fs_lang.specs.Meaning.{test_of, program_of};
 ghost use Rattle.orders.specs.Relation.{comes};
@@ -12,7 +12,7 @@ use orders::Order;
 use rh_base::{Boxed, NoMemory, Seq};
 use std::alloc::Global;
 
-/// Programs with their order, the last of which is the guard that goes first.
+/// Programs with their order, the last of which goes first: the guard, or another one.
 #[derive(Drop)]
 pub struct Guarded {
     pub programs: Seq<Program>,
@@ -77,6 +77,15 @@ fn copies(alloc: Global, programs: &[Program]) -> Result<Seq<Program>, NoMemory>
     Ok(all)
 }
 
+/// The programs, and behind them one more.
+fn with_last(alloc: Global, programs: &[Program], last: Program) -> Result<Seq<Program>, NoMemory>
+    ensures { IfOk result (λ all. map program_of all ≡ map program_of programs.now ++ program_of last ∷ []) }
+{
+    let mut all = copies(alloc, programs)?;
+    all.push(last)?;
+    Ok(all)
+}
+
 /// The programs, and behind them the guard.
 pub fn guarded_programs(
     alloc: Global,
@@ -86,9 +95,28 @@ pub fn guarded_programs(
     ensures { IfOk result (λ all. map program_of all ≡ guarded given.now (map program_of programs.now)) }
 {
     let last = guard_of(alloc, given)?;
-    let mut all = copies(alloc, programs)?;
-    all.push(last)?;
-    Ok(all)
+    with_last(alloc, programs, last)
+}
+
+/// The graph with a program in front, as the one with the next number.
+pub fn with_first(
+    alloc: Global,
+    programs: &[Program],
+    order: &Order,
+    first: Program,
+) -> Result<Guarded, NoMemory>
+    requires { length programs.now ≡ order.now.count }
+    ensures programs { IfOk result (λ g. map program_of g.programs ≡ map program_of programs.now ++ program_of first ∷ []) }
+    ensures count { IfOk result (λ g. length g.programs ≡ g.order.count) }
+    ensures more { IfOk result (λ g. g.order.count ≡ order.now.count + 1) }
+    ensures order { IfOk result (λ g. comes g.order ≡ guard_before order.now.count (comes order.now)) }
+{
+    let all = with_last(alloc, programs, first)?;
+    let behind = order_behind(alloc, order)?;
+    Ok(Guarded {
+        programs: all,
+        order: behind,
+    })
 }
 
 /// The graph with the guard in front, as the program with the next number.
@@ -104,10 +132,7 @@ pub fn with_guard(
     ensures more { IfOk result (λ g. g.order.count ≡ order.now.count + 1) }
     ensures order { IfOk result (λ g. comes g.order ≡ guard_before order.now.count (comes order.now)) }
 {
-    let all = guarded_programs(alloc, programs, given)?;
-    let behind = order_behind(alloc, order)?;
-    Ok(Guarded {
-        programs: all,
-        order: behind,
-    })
+    let guard = guard_of(alloc, given)?;
+    let graph = with_first(alloc, programs, order, guard)?;
+    Ok(graph)
 }

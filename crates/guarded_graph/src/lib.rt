@@ -5,5 +5,5 @@ mod guarding;
 mod laws;
 mod pairs;
 
-pub use guarding::{Guarded, guard_of, guarded_programs, with_guard};
+pub use guarding::{Guarded, guard_of, guarded_programs, with_first, with_guard};
 pub use laws::guard_is_pruned;

@@ -45,7 +45,7 @@ returns-clause-states c =
     (subst (λ gs. IsSatisfiable f ↔ HaveParting gs c.in_ok-once.once (map program_of c.as_slice-5.result.now) c.as_slice-6.result.now c.in_ok-d.d) left c.in_ok-posed.ensures.exact) in
     let lay : IsLayout (guarded given es) (layout_of c.in_ok-d.d) = subst (λ gs. IsLayout gs (layout_of c.in_ok-d.d)) (ap (map program_of) c.as_slice.ensures ∙ c.in_ok-all.ensures) c.in_ok-d.ensures.layout in
     states given es order long c.in_ok-first.first is_first c.domains.ensures.laid_out c.shadows.ensures.exist c.shadows.ensures.tell c.allowed_orders.ensures.long c.in_ok-d.d lay c.in_ok-once.once c.as_slice-6.result.now
-    (c.in_ok-once.ensures ∙ ap₂ (λ a l. a ∷ l) same c.as_slice-2.ensures) (c.as_slice-6.ensures ∙ c.in_ok-twice.ensures ∙ ap₂ (λ a l. a ∷ (l ++ l)) same c.as_slice-3.ensures) f exact
+    (c.in_ok-once.ensures ∙ ap₂ (λ a l. a ∷ l) same c.as_slice-2.ensures) (c.as_slice-6.ensures ∙ c.in_ok-twice.ensures ∙ ap₂ (λ a l. a ∷ (l ++ l)) same c.as_slice-3.ensures) f exact c.requires.given
 
 pub returns-clause-never : goal.returns-clause-never
 returns-clause-never c =

@@ -1,0 +1,19 @@
+use Rattle.std.proofs.Common.{map, sym, subst, ◌∙◌}
+use Rattle.std.proofs.lemmas.List.{length-map}
+use Rattle.fs_semantics.specs.Orders.{Told, IsLinearExtension}
+use Rattle.fs_lang.specs.Meaning.{program_of}
+use Rattle.orders.specs.Relation.{comes}
+use Rattle.order_encode.specs.Witnesses.{IsFirstExtension}
+use Rattle.given_verdict.proofs.again.ask_on.Goals as goal
+
+pub returns-then-all_keep : goal.returns-then-all_keep
+returns-then-all_keep c =
+    let es = map program_of c.args.programs.now in
+    let order = c.args.order.now in
+    let first = c.in_ok-_first._first in
+    let is_first : IsFirstExtension order first = record { allowed = c.in_ok-_first.ensures.allowed; least = c.in_ok-_first.ensures.least } in
+    let allowed = subst (λ n. IsLinearExtension n (Told (comes order)) first) (sym (length-map c.args.programs.now program_of ∙ c.requires.count)) c.in_ok-_first.ensures.allowed in (
+      c.second_runs.ensures.kept c.args.given.now es (comes order) c.requires.deterministic c.are_proper.ensures (c.all_keep.ensures c.if-all_keep.true) first allowed
+          (λ t h. c.requires.never t first (record { is_first = is_first; shows = h })),
+      c.requires.same,
+    )

@@ -1,0 +1,98 @@
+//! Whether a graph is deterministic from the trees in which given folders stand.
+
+ghost use Rattle.std.specs.Prelude.{◌≡◌, ◌≢◌, ◌≤◌, [], length, map, drop, IfOk};
+ghost use Rattle.fs_lang.specs.Meaning.{program_of};
+ghost use Rattle.judgement.specs.First.{IfDiffers};
+ghost use Rattle.judgement.specs.Answers.{HasTwoOrders};
+ghost use Rattle.judgement.specs.declared.first.First.TheVariants as variants;
+ghost use Rattle.given_verdict.specs.First.{IsJudgedFrom, IsUnguarded, IsAnswerWithout};
+
+use commute_prune::pruning;
+use fs_lang::{Path, Program};
+use given_hosts::{guarded_graphs, guards};
+use guarded_graph::{guard_is_pruned, with_guard};
+use judgement::{First, judge_any};
+use order_encode::Witness;
+use orders::Order;
+use rh_base::{NoMemory, Seq};
+use std::alloc::Global;
+
+/// An order without the first of its numbers.
+pub(crate) fn rest_of(alloc: Global, order: &[u32]) -> Result<Seq<u32>, NoMemory>
+    ensures { IfOk result (λ rest. rest ≡ drop 1 order.now) }
+{
+    match order.split_first() {
+        Some((_, rest)) => Ok(Seq::from_vec(rest.to_vec(alloc)?)),
+        None => Ok(Seq::new(alloc)),
+    }
+}
+
+/// A difference whose orders begin with the guard, without it.
+fn unguarded(alloc: Global, witness: Witness) -> Result<Witness, NoMemory>
+    requires { HasTwoOrders witness }
+    ensures { IfOk result (IsUnguarded witness) }
+{
+    match witness {
+        Witness::Orders { tree, left, right } => {
+            let left = rest_of(alloc, left.as_slice())?;
+            let right = rest_of(alloc, right.as_slice())?;
+            Ok(Witness::Orders { tree, left, right })
+        }
+        Witness::Twice { .. } | Witness::Ends { .. } => unreachable!(),
+    }
+}
+
+/// That orders differ, said of the graph without the guard.
+#[tactic(auto, using(crate::proofs::FirstLaws::differs_are))]
+fn differs_without(alloc: Global, pruned: u32, witness: Witness) -> Result<First, NoMemory>
+    requires { HasTwoOrders witness }
+    ensures { IfOk result (IsAnswerWithout (variants.Differs pruned witness)) }
+{
+    let witness = unguarded(alloc, witness)?;
+    Ok(First::Differs {
+        pruned: pruned.saturating_sub(1),
+        witness,
+    })
+}
+
+/// An answer about the graph with the guard, as one about the graph.
+pub fn answer_without(alloc: Global, answered: First) -> Result<First, NoMemory>
+    requires { IfDiffers answered HasTwoOrders }
+    ensures { IfOk result (IsAnswerWithout answered) }
+{
+    match answered {
+        First::Sure { pruned, sure } => Ok(First::Sure {
+            pruned: pruned.saturating_sub(1),
+            sure,
+        }),
+        First::Differs { pruned, witness } => differs_without(alloc, pruned, witness),
+        First::Spent { pruned, cnf, log } => Ok(First::Spent {
+            pruned: pruned.saturating_sub(1),
+            cnf,
+            log,
+        }),
+    }
+}
+
+/// Asks about the graph with the guard in front. What pruning keeps is what it keeps of the programs, whatever is given.
+pub(crate) fn first_from(
+    alloc: Global,
+    programs: &[Program],
+    order: &Order,
+    given: &[Path],
+    budget: u64,
+) -> Result<First, NoMemory>
+    requires count { length programs.now ≡ order.now.count }
+    requires budget { 1 ≤ budget }
+    requires given { given.now ≢ [] }
+    ensures { IfOk result (IsJudgedFrom given.now (map program_of programs.now) order.now budget) }
+{
+    pruning();
+    guards();
+    guarded_graphs();
+    guard_is_pruned();
+    let graph = with_guard(alloc, programs, order, given)?;
+    let answered = judge_any(alloc, graph.programs.as_slice(), &graph.order, budget)?;
+    let without = answer_without(alloc, answered)?;
+    Ok(without)
+}
