@@ -3,7 +3,6 @@
 ghost use Rattle.std.specs.Prelude.{◌≡◌, ◌≤◌, length, map, IfOk};
 ghost use Rattle.fs_lang.specs.Meaning.{program_of};
 ghost use Rattle.orders.specs.Relation.{comes};
-ghost use Rattle.verdict.specs.Limits.{HasFewPaths, IsLight};
 ghost use Rattle.commute_prune.specs.Pairs.{pairs_of};
 ghost use Rattle.repair.specs.Steps.{IsAdded};
 
@@ -26,8 +25,6 @@ pub(crate) fn add_arrows(
     requires count { length programs.now ≡ order.now.count }
     requires pairs { pairs.now ≡ pairs_of (comes order.now) order.now.count order.now.count }
     requires budget { 1 ≤ budget }
-    requires paths { HasFewPaths (map program_of programs.now) }
-    requires weight { IsLight (map program_of programs.now) }
     ensures { IfOk result (IsAdded (map program_of programs.now) order.now budget) }
 {
     order.count();

@@ -4,7 +4,6 @@ ghost use Rattle.std.specs.Prelude.{◌≡◌, ◌≤◌, ◌++◌, ◌∷◌, l
 ghost use Rattle.fs_semantics.specs.Orders.{IsDeterministic};
 ghost use Rattle.fs_lang.specs.Meaning.{program_of};
 ghost use Rattle.orders.specs.Relation.{comes};
-ghost use Rattle.verdict.specs.Limits.{HasFewPaths, IsLight};
 ghost use Rattle.commute_prune.specs.Pairs.{pairs_of};
 ghost use Rattle.repair.specs.Arrows.{ComesWith};
 ghost use Rattle.repair.specs.Steps.{WereMissing};
@@ -54,8 +53,6 @@ pub(crate) fn leave_out(
     requires count { length programs.now ≡ order.now.count }
     requires pairs { pairs.now ≡ pairs_of (comes order.now) order.now.count order.now.count }
     requires budget { 1 ≤ budget }
-    requires paths { HasFewPaths (map program_of programs.now) }
-    requires weight { IsLight (map program_of programs.now) }
     requires missing { WereMissing (map program_of programs.now) order.now arrows.now }
     requires deterministic { IsDeterministic (map program_of programs.now) (ComesWith order.now arrows.now) }
     ensures { IfOk result (IsRepaired (map program_of programs.now) order.now budget) }

@@ -23,4 +23,4 @@ mod with;
 
 pub use laws::arrows;
 pub use repaired::Repaired;
-pub use repairing::repair;
+pub use repairing::{repair, repair_any};

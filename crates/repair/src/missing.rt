@@ -1,20 +1,19 @@
 //! One arrow that is missing.
 
 ghost use Rattle.std.specs.Prelude.{◌≡◌, ◌≤◌, length, map, IfOk};
-ghost use Rattle.fs_semantics.specs.Orders.{Told, IsDeterministic, IsExchange, IsCounterexample};
+ghost use Rattle.fs_semantics.specs.Orders.{Told, IsExchange, IsCounterexample};
 ghost use Rattle.fs_lang.specs.Meaning.{program_of};
-ghost use Rattle.verdict.specs.Limits.{HasFewPaths, IsLight};
 ghost use Rattle.orders.specs.Relation.{comes};
-ghost use Rattle.judgement.specs.First.{IsDifference, IsSpent, IfSure, IfDiffers, IfSpent};
+ghost use Rattle.judgement.specs.First.{IsDifference};
 ghost use Rattle.repair.specs.Missing.{first_apart, IsMissing, IsLook};
 
 use cnf::{Cnf, Log};
 use fs_lang::{Outcome, Program, Tree};
 use fs_replay::replay;
-use judgement::{First, judge_order};
+use judgement::{First, judge_any};
 use order_encode::Witness;
 use orders::Order;
-use rh_base::{Fault, NoMemory};
+use rh_base::NoMemory;
 use std::alloc::Global;
 
 /// What a look at a graph tells.
@@ -92,28 +91,6 @@ fn arrow_in(
     }
 }
 
-/// Whether a graph is deterministic that isn't too large to be asked about.
-fn judged(
-    alloc: Global,
-    programs: &[Program],
-    order: &Order,
-    budget: u64,
-) -> Result<First, NoMemory>
-    requires count { length programs.now ≡ order.now.count }
-    requires budget { 1 ≤ budget }
-    requires paths { HasFewPaths (map program_of programs.now) }
-    requires weight { IsLight (map program_of programs.now) }
-    ensures deterministic { IfOk result (λ first. IfSure first (IsDeterministic (map program_of programs.now) (Told (comes order.now)))) }
-    ensures differs { IfOk result (λ first. IfDiffers first (IsDifference (map program_of programs.now) (Told (comes order.now)))) }
-    ensures spent { IfOk result (λ first. IfSpent first (IsSpent (map program_of programs.now) (Told (comes order.now)) budget)) }
-{
-    match judge_order(alloc, programs, order, budget) {
-        Ok(first) => Ok(first),
-        Err(Fault::Refused(_)) => unreachable!(),
-        Err(Fault::Memory(m)) => Err(m),
-    }
-}
-
 /// Asks whether a graph is deterministic. Where it isn't, the arrow is answered that a run follows which ends in a tree.
 pub(crate) fn look_at(
     alloc: Global,
@@ -123,11 +100,9 @@ pub(crate) fn look_at(
 ) -> Result<Look, NoMemory>
     requires count { length programs.now ≡ order.now.count }
     requires budget { 1 ≤ budget }
-    requires paths { HasFewPaths (map program_of programs.now) }
-    requires weight { IsLight (map program_of programs.now) }
     ensures { IfOk result (IsLook (map program_of programs.now) order.now budget) }
 {
-    let first = judged(alloc, programs, order, budget)?;
+    let first = judge_any(alloc, programs, order, budget)?;
     match first {
         First::Sure { .. } => Ok(Look::Sure),
         First::Differs { witness, .. } => {

@@ -20,8 +20,9 @@ use rh_base::{Fault, NoMemory};
 use std::alloc::Global;
 use verdict::check_size;
 
-/// Repairs a graph that isn't too large to be asked about.
-fn repair_within(
+/// Arrows that are missing from a graph, however large it is. Each question has the whole budget; a budget of `u64::MAX` stands for
+/// none.
+pub fn repair_any(
     alloc: Global,
     programs: &[Program],
     order: &Order,
@@ -29,8 +30,6 @@ fn repair_within(
 ) -> Result<Repaired, NoMemory>
     requires count { length programs.now ≡ order.now.count }
     requires budget { 1 ≤ budget }
-    requires paths { HasFewPaths (map program_of programs.now) }
-    requires weight { IsLight (map program_of programs.now) }
     ensures { IfOk result (IsRepaired (map program_of programs.now) order.now budget) }
 {
     let pairs = order_pairs(alloc, order)?;
@@ -73,6 +72,6 @@ pub fn repair(
     ensures limited { IfOk result (λ repaired. IfSpent repaired (λ arrows f steps. budget ≢ 2 ^ 64 - 1)) }
 {
     check_size(alloc, programs)?;
-    let repaired = repair_within(alloc, programs, order, budget)?;
+    let repaired = repair_any(alloc, programs, order, budget)?;
     Ok(repaired)
 }

@@ -1,0 +1,1 @@
+use Rattle.given_repair.proofs.repairing.repaired_behind.Goals as goal
