@@ -1,6 +1,6 @@
 -- The programs, and behind them the probe; and when their domain is refused.
-use Rattle.std.proofs.Common.{◌≡◌, ℕ, ◌<◌, List, [], ◌∷◌, ◌++◌, map, inl, inr, sym, ap, subst, ◌∙◌, arith}
-use Rattle.std.specs.Prelude.{codes, Result, Ok, Err, IfErr, IsErrAnd}
+use Rattle.std.proofs.Common.{◌≡◌, ℕ, ◌<◌, List, [], ◌∷◌, ◌++◌, map, inl, inr, ap, ◌∙◌, arith}
+use Rattle.std.specs.Prelude.{codes}
 use Rattle.std.proofs.lemmas.List.{map-append}
 use Rattle.rh_base.specs.declared.fault.Fault.{Fault}
 use Rattle.rh_base.specs.declared.fault.Fault.TheVariants.{Refused, Memory}
@@ -31,13 +31,12 @@ too_wide es n paths (Memory m) more is = tt
 pub not_few : (es : List Program) (n : ℕ) → ((m : ℕ) → HasPaths es m → n ≡ m) → DOMAIN_PATHS < n → HasFewPaths es → ⊥
 not_few es n one more few = let same = one few.0 few.1 in let less = few.2 in omega (arith, same, less, more)
 
--- what is too large by itself is so with the probe
-by_itself : (es : List Program) (probe : Program) → HasFewPaths (es ++ probe ∷ []) → (e : Fault) → IfRefused e (IsTooLarge es) → IfRefused e (IsTooLargeWith es probe)
-by_itself es probe few (Refused r) (inl wide) = inl wide
-by_itself es probe few (Refused r) (inr heavy) = inr (inr (heavy.0, few, heavy.1, heavy.2))
-by_itself es probe few (Memory m) h = tt
+-- what is too large with the probe, or by itself
+pub probed_too_wide : (es : List Program) (probe : Program) (e : Fault) → IfRefused e (IsTooWide (es ++ probe ∷ [])) → IfRefused e (IsTooLargeWith es probe)
+probed_too_wide es probe (Refused r) wide = inr (inl wide)
+probed_too_wide es probe (Memory m) h = tt
 
-pub too_large : {X : Type 0} (es : List Program) (probe : Program) → HasFewPaths (es ++ probe ∷ []) → (r : Result X Fault) (e : Fault) → IsErrAnd r (λ d. d ≡ e) → IfRefused e (IsTooLarge es)
-    → IfErr r (λ d. IfRefused d (IsTooLargeWith es probe))
-too_large es probe few (Ok x) e h k = absurd h
-too_large es probe few (Err d) e h k = subst (λ (x : Fault). IfRefused x (IsTooLargeWith es probe)) (sym h) (by_itself es probe few e k)
+pub too_large_itself : (es : List Program) (probe : Program) → HasFewPaths (es ++ probe ∷ []) → (e : Fault) → IfRefused e (IsTooLarge es) → IfRefused e (IsTooLargeWith es probe)
+too_large_itself es probe few (Refused r) (inl wide) = inl wide
+too_large_itself es probe few (Refused r) (inr heavy) = inr (inr (heavy.0, few, heavy.1, heavy.2))
+too_large_itself es probe few (Memory m) h = tt

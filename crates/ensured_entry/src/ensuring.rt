@@ -22,18 +22,19 @@ ghost use Rattle.ensured_entry.specs.Ensured.{pruned_in, IsUnsure, IfFirst, IfSu
 
 use crate::ensured::{Ensured, Late};
 use crate::missing::ask_run;
-use crate::probing::probed_domain;
+use crate::probing::{check_probed, domain_with_probe};
 use crate::trying::{Tried, try_runs};
 use answering::Answer;
 use fs_lang::Program;
 use full_verdict::{Ends, ask_end};
-use judgement::{First, Sure, judge_order};
+use judgement::{First, Sure, judge_any};
 use order_encode::Witness;
 use orders::Order;
 use path_domain::Domain;
 use proof_check::Verified;
 use rh_base::{Fault, NoMemory};
 use std::alloc::Global;
+use verdict::check_size;
 use wanted_entry::Wanted;
 
 /// Why a graph is deterministic, and how many programs pruning doesn't keep.
@@ -242,6 +243,39 @@ fn ensure_on(
     }
 }
 
+/// Refuses a graph that is too large to be asked about, or whose domain with the probe is.
+#[tactic(auto, using(crate::proofs::ProbingLaws::probed_too_wide, crate::proofs::ProbingLaws::too_large_itself))]
+fn check_with_probe(alloc: Global, programs: &[Program], wanted: &Wanted) -> Result<(), Fault>
+    ensures paths { IfOk result (λ u. HasFewPaths (map program_of programs.now)) }
+    ensures probed { IfOk result (λ u. HasFewPaths (map program_of programs.now ++ probe_of wanted.now ∷ [])) }
+    ensures weight { IfOk result (λ u. IsLight (map program_of programs.now)) }
+    ensures refused { IfErr result (λ e. IfRefused e (IsTooLargeWith (map program_of programs.now) (probe_of wanted.now))) }
+    ensures only { HasFewPaths (map program_of programs.now) → HasFewPaths (map program_of programs.now ++ probe_of wanted.now ∷ []) → IsLight (map program_of programs.now)
+        → IfErr result (λ e. IfRefused e (λ r. ⊥)) }
+{
+    check_probed(alloc, programs, wanted)?;
+    check_size(alloc, programs)?;
+    Ok(())
+}
+
+/// What `judge_entry` answers, however large the graph is.
+pub fn ensured_any(
+    alloc: Global,
+    programs: &[Program],
+    order: &Order,
+    wanted: &Wanted,
+    budget: u64,
+) -> Result<Ensured, NoMemory>
+    requires count { length programs.now ≡ order.now.count }
+    requires budget { 1 ≤ budget }
+    ensures { IfOk result (IsEnsured (map program_of programs.now) order.now wanted.now budget) }
+{
+    let d = domain_with_probe(alloc, programs, wanted)?;
+    let answered = judge_any(alloc, programs, order, budget)?;
+    let ensured = ensure_on(alloc, programs, order, &d, wanted, budget, answered)?;
+    Ok(ensured)
+}
+
 /// Whether every run that ends has the wanted entry. First it is asked whether the programs are deterministic, as `judge_order`
 /// does; then a few trees are tried; then it is asked whether the first extension ends, from a tree over the domain of the programs
 /// and the probe, in one without the entry; and where it doesn't, whether the graph succeeds from some tree. Each question has the
@@ -281,8 +315,7 @@ pub fn judge_entry(
     ensures spent { IfOk result (λ e. IfSpentOn e (IsSpentOn (map program_of programs.now) order.now wanted.now budget)) }
     ensures known { IfOk result (λ e. IfSpentOn e (λ asked f steps. IsKnownBefore (map program_of programs.now) order.now wanted.now asked)) }
 {
-    let d = probed_domain(alloc, programs, wanted)?;
-    let answered = judge_order(alloc, programs, order, budget)?;
-    let ensured = ensure_on(alloc, programs, order, &d, wanted, budget, answered)?;
+    check_with_probe(alloc, programs, wanted)?;
+    let ensured = ensured_any(alloc, programs, order, wanted, budget)?;
     Ok(ensured)
 }

@@ -9,5 +9,6 @@ mod probing;
 mod trying;
 
 pub use ensured::{Ensured, Late};
-pub use ensuring::judge_entry;
+pub use ensuring::{ensured_any, judge_entry};
+pub use probing::paths_with_probe;
 pub use wanted_entry::Wanted;

@@ -45,7 +45,7 @@ fn with_probe(
 }
 
 /// The domain of the programs and the probe.
-fn domain_with_probe(
+pub(crate) fn domain_with_probe(
     alloc: Global,
     programs: &[Program],
     wanted: &Wanted,
@@ -65,22 +65,31 @@ fn path_count(domain: &Domain) -> u64
     domain.table.path_count()
 }
 
-/// The domain of the programs and the probe, unless it has too many paths.
-pub(crate) fn probed_domain(
+/// How many paths the domain of the programs and the probe has.
+pub fn paths_with_probe(
     alloc: Global,
     programs: &[Program],
     wanted: &Wanted,
-) -> Result<Domain, Fault>
-    ensures layout { IfOk result (λ d. IsLayout (map program_of programs.now ++ probe_of wanted.now ∷ []) (layout_of d)) }
-    ensures covers { IfOk result (λ d. CoversSteps d.table (programs_in programs.now)) }
-    ensures paths { IfOk result (λ d. HasFewPaths (map program_of programs.now ++ probe_of wanted.now ∷ [])) }
+) -> Result<u64, NoMemory>
+    ensures { IfOk result (HasPaths (map program_of programs.now ++ probe_of wanted.now ∷ [])) }
+{
+    let d = domain_with_probe(alloc, programs, wanted)?;
+    Ok(path_count(&d))
+}
+
+/// Refuses programs of which, with the probe, the domain has too many paths.
+pub(crate) fn check_probed(
+    alloc: Global,
+    programs: &[Program],
+    wanted: &Wanted,
+) -> Result<(), Fault>
+    ensures paths { IfOk result (λ u. HasFewPaths (map program_of programs.now ++ probe_of wanted.now ∷ [])) }
     ensures refused { IfErr result (λ e. IfRefused e (IsTooWide (map program_of programs.now ++ probe_of wanted.now ∷ []))) }
     ensures only { HasFewPaths (map program_of programs.now ++ probe_of wanted.now ∷ []) → IfErr result (λ e. IfRefused e (λ r. ⊥)) }
 {
     path_counts();
-    let d = domain_with_probe(alloc, programs, wanted)?;
-    if path_count(&d) > DOMAIN_PATHS {
+    if paths_with_probe(alloc, programs, wanted)? > DOMAIN_PATHS {
         return Err(Fault::refused(alloc, 70, 0, "domain"));
     }
-    Ok(d)
+    Ok(())
 }
