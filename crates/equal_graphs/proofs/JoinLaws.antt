@@ -1,6 +1,6 @@
 -- Two lists of programs, one behind the other; and when their domain is refused.
-use Rattle.std.proofs.Common.{◌≡◌, ℕ, ◌<◌, List, [], ◌∷◌, ◌++◌, inl, inr, sym, subst, arith}
-use Rattle.std.specs.Prelude.{codes, Result, Ok, Err, IfErr, IsErrAnd}
+use Rattle.std.proofs.Common.{◌≡◌, ℕ, ◌<◌, List, [], ◌∷◌, ◌++◌, inl, inr, arith}
+use Rattle.std.specs.Prelude.{codes}
 use Rattle.rh_base.specs.declared.fault.Fault.{Fault}
 use Rattle.rh_base.specs.declared.fault.Fault.TheVariants.{Refused, Memory}
 use Rattle.rh_base.specs.declared.limits.TheConstants.{DOMAIN_PATHS}
@@ -10,7 +10,7 @@ use Rattle.fs_lang.specs.Meaning.{programs_in}
 use Rattle.fs_lang.specs.declared.program.Program as code
 use Rattle.fs_interpreter.specs.Places.{Listed, CoversSteps}
 use Rattle.verdict.specs.Limits.{HasPaths, HasFewPaths, IsLight, IsTooLarge}
-use Rattle.equal_graphs.specs.Sizes.{IsTooWide, AreWithin, IsTooLargeTogether}
+use Rattle.equal_graphs.specs.Sizes.{IsTooWide, IsTooLargeTogether}
 
 pub covers_front : (table : Listed) (es fs : List code.Program) → CoversSteps table (programs_in (es ++ fs)) → CoversSteps table (programs_in es)
 covers_front table [] fs h = tt
@@ -40,8 +40,3 @@ left_too_large es fs few (Memory m) h = tt
 pub right_too_large : (es fs : List Program) → HasFewPaths (es ++ fs) → HasFewPaths es → IsLight es → (e : Fault) → IfRefused e (IsTooLarge fs) → IfRefused e (IsTooLargeTogether es fs)
 right_too_large es fs few paths light (Refused r) h = inr (few, inr (paths, light, h))
 right_too_large es fs few paths light (Memory m) h = tt
-
--- neither list is too large by itself where both are within the limits
-pub left_never : {X : Type 0} (es fs : List Program) (r : Result X Fault) (e : Fault) → IsErrAnd r (λ d. d ≡ e) → (HasFewPaths es → IsLight es → IfRefused e (λ x. ⊥)) → AreWithin es fs → IfErr r (λ d. IfRefused d (λ x. ⊥))
-left_never es fs (Ok x) e h k within = absurd h
-left_never es fs (Err d) e h k within = subst (λ (x : Fault). IfRefused x (λ y. ⊥)) (sym h) (k within.left_paths within.left_weight)

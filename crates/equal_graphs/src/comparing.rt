@@ -16,11 +16,11 @@ ghost use Rattle.equal_graphs.specs.Compared.{IsSettled, IsUnsettled, IfLeft, If
 
 use crate::asking::ask_equal;
 use crate::compared::{Compared, Settled};
-use crate::joining::domain_within;
+use crate::joining::{check_within, domain_of_both};
 use crate::trying::try_runs;
 use answering::Answer;
 use fs_lang::{Program, Tree};
-use judgement::{First, judge_order};
+use judgement::{First, judge_any};
 use order_encode::Witness;
 use orders::Order;
 use path_domain::Domain;
@@ -171,19 +171,17 @@ fn judge_right(
     domain: &Domain,
     budget: u64,
     one: Settled,
-) -> Result<Compared, Fault>
+) -> Result<Compared, NoMemory>
     requires left_count { length left.now ≡ order.now.count }
     requires right_count { length right.now ≡ other.now.count }
     requires budget { 1 ≤ budget }
     requires layout { IsLayout (map program_of left.now ++ map program_of right.now) (layout_of domain.now) }
     requires left_covers { CoversSteps domain.now.table (programs_in left.now) }
     requires right_covers { CoversSteps domain.now.table (programs_in right.now) }
-    requires within { AreWithin (map program_of left.now) (map program_of right.now) }
     requires left_settled { IsSettled (map program_of left.now) order.now one }
-    ensures compared { IfOk result (IsCompared (map program_of left.now) order.now (map program_of right.now) other.now budget) }
-    ensures never { IfErr result (λ e. IfRefused e (λ r. ⊥)) }
+    ensures { IfOk result (IsCompared (map program_of left.now) order.now (map program_of right.now) other.now budget) }
 {
-    let answered = judge_order(alloc, right, other, budget)?;
+    let answered = judge_any(alloc, right, other, budget)?;
     let compared = compare_right(
         alloc, left, order, right, other, domain, budget, one, answered,
     )?;
@@ -200,17 +198,15 @@ fn compare_left(
     domain: &Domain,
     budget: u64,
     answered: First,
-) -> Result<Compared, Fault>
+) -> Result<Compared, NoMemory>
     requires left_count { length left.now ≡ order.now.count }
     requires right_count { length right.now ≡ other.now.count }
     requires budget { 1 ≤ budget }
     requires layout { IsLayout (map program_of left.now ++ map program_of right.now) (layout_of domain.now) }
     requires left_covers { CoversSteps domain.now.table (programs_in left.now) }
     requires right_covers { CoversSteps domain.now.table (programs_in right.now) }
-    requires within { AreWithin (map program_of left.now) (map program_of right.now) }
     requires judged { IsJudged (map program_of left.now) order.now budget answered }
-    ensures compared { IfOk result (IsCompared (map program_of left.now) order.now (map program_of right.now) other.now budget) }
-    ensures never { IfErr result (λ e. IfRefused e (λ r. ⊥)) }
+    ensures { IfOk result (IsCompared (map program_of left.now) order.now (map program_of right.now) other.now budget) }
 {
     match answered {
         First::Sure { pruned, sure } => judge_right(
@@ -230,6 +226,26 @@ fn compare_left(
             Ok(Compared::Left(First::Spent { pruned, cnf, log }))
         }
     }
+}
+
+/// What `compare` answers, however large the graphs are.
+pub fn compare_any(
+    alloc: Global,
+    left: &[Program],
+    order: &Order,
+    right: &[Program],
+    other: &Order,
+    budget: u64,
+) -> Result<Compared, NoMemory>
+    requires left_count { length left.now ≡ order.now.count }
+    requires right_count { length right.now ≡ other.now.count }
+    requires budget { 1 ≤ budget }
+    ensures { IfOk result (IsCompared (map program_of left.now) order.now (map program_of right.now) other.now budget) }
+{
+    let d = domain_of_both(alloc, left, right)?;
+    let answered = judge_any(alloc, left, order, budget)?;
+    let compared = compare_left(alloc, left, order, right, other, &d, budget, answered)?;
+    Ok(compared)
 }
 
 /// Whether two graphs do the same. First it is asked whether the left one is deterministic, and then whether the right one is, as
@@ -264,8 +280,7 @@ pub fn compare(
     ensures differ { IfOk result (λ c. IfDiffer c (FirstsPart (map program_of left.now) order.now (map program_of right.now) other.now)) }
     ensures spent { IfOk result (λ c. IfSpentOn c (IsSpentOn (map program_of left.now) order.now (map program_of right.now) other.now budget)) }
 {
-    let d = domain_within(alloc, left, right)?;
-    let answered = judge_order(alloc, left, order, budget)?;
-    let compared = compare_left(alloc, left, order, right, other, &d, budget, answered)?;
+    check_within(alloc, left, right)?;
+    let compared = compare_any(alloc, left, order, right, other, budget)?;
     Ok(compared)
 }

@@ -42,7 +42,11 @@ pub(crate) fn joined(
 }
 
 /// The domain of both.
-fn domain_of_both(alloc: Global, left: &[Program], right: &[Program]) -> Result<Domain, NoMemory>
+pub(crate) fn domain_of_both(
+    alloc: Global,
+    left: &[Program],
+    right: &[Program],
+) -> Result<Domain, NoMemory>
     ensures layout { IfOk result (λ d. IsLayout (map program_of left.now ++ map program_of right.now) (layout_of d)) }
     ensures left { IfOk result (λ d. CoversSteps d.table (programs_in left.now)) }
     ensures right { IfOk result (λ d. CoversSteps d.table (programs_in right.now)) }
@@ -59,39 +63,36 @@ fn path_count(domain: &Domain) -> u64
     domain.table.path_count()
 }
 
-/// The domain of both, unless it has too many paths.
-fn joined_domain(alloc: Global, left: &[Program], right: &[Program]) -> Result<Domain, Fault>
-    ensures layout { IfOk result (λ d. IsLayout (map program_of left.now ++ map program_of right.now) (layout_of d)) }
-    ensures left { IfOk result (λ d. CoversSteps d.table (programs_in left.now)) }
-    ensures right { IfOk result (λ d. CoversSteps d.table (programs_in right.now)) }
-    ensures paths { IfOk result (λ d. HasFewPaths (map program_of left.now ++ map program_of right.now)) }
+/// How many paths the domain of both has.
+pub fn paths_of_both(alloc: Global, left: &[Program], right: &[Program]) -> Result<u64, NoMemory>
+    ensures { IfOk result (HasPaths (map program_of left.now ++ map program_of right.now)) }
+{
+    let d = domain_of_both(alloc, left, right)?;
+    Ok(path_count(&d))
+}
+
+/// Refuses programs of which together the domain has too many paths.
+fn check_joined(alloc: Global, left: &[Program], right: &[Program]) -> Result<(), Fault>
+    ensures paths { IfOk result (λ u. HasFewPaths (map program_of left.now ++ map program_of right.now)) }
     ensures refused { IfErr result (λ e. IfRefused e (IsTooWide (map program_of left.now) (map program_of right.now))) }
     ensures only { HasFewPaths (map program_of left.now ++ map program_of right.now) → IfErr result (λ e. IfRefused e (λ r. ⊥)) }
 {
     path_counts();
-    let d = domain_of_both(alloc, left, right)?;
-    if path_count(&d) > DOMAIN_PATHS {
+    if paths_of_both(alloc, left, right)? > DOMAIN_PATHS {
         return Err(Fault::refused(alloc, 70, 0, "domain"));
     }
-    Ok(d)
+    Ok(())
 }
 
-/// The domain of both, unless they are too large to be compared.
+/// Refuses programs that are too large to be compared.
 #[tactic(auto, using(crate::proofs::JoinLaws::both_too_wide, crate::proofs::JoinLaws::left_too_large, crate::proofs::JoinLaws::right_too_large))]
-pub(crate) fn domain_within(
-    alloc: Global,
-    left: &[Program],
-    right: &[Program],
-) -> Result<Domain, Fault>
-    ensures layout { IfOk result (λ d. IsLayout (map program_of left.now ++ map program_of right.now) (layout_of d)) }
-    ensures left { IfOk result (λ d. CoversSteps d.table (programs_in left.now)) }
-    ensures right { IfOk result (λ d. CoversSteps d.table (programs_in right.now)) }
-    ensures within { IfOk result (λ d. AreWithin (map program_of left.now) (map program_of right.now)) }
+pub(crate) fn check_within(alloc: Global, left: &[Program], right: &[Program]) -> Result<(), Fault>
+    ensures within { IfOk result (λ u. AreWithin (map program_of left.now) (map program_of right.now)) }
     ensures refused { IfErr result (λ e. IfRefused e (IsTooLargeTogether (map program_of left.now) (map program_of right.now))) }
     ensures only { AreWithin (map program_of left.now) (map program_of right.now) → IfErr result (λ e. IfRefused e (λ r. ⊥)) }
 {
-    let d = joined_domain(alloc, left, right)?;
+    check_joined(alloc, left, right)?;
     check_size(alloc, left)?;
     check_size(alloc, right)?;
-    Ok(d)
+    Ok(())
 }

@@ -9,4 +9,5 @@ mod matching;
 mod trying;
 
 pub use compared::{Compared, Settled};
-pub use comparing::compare;
+pub use comparing::{compare, compare_any};
+pub use joining::paths_of_both;

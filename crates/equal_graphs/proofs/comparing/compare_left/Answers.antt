@@ -10,15 +10,15 @@ judge_right-requires-clause-left_settled c =
     let es = map program_of c.args.left.now in
     settled es c.args.order.now c.args.budget c.in-Sure.pruned c.in-Sure.sure (subst (IsJudged es c.args.order.now c.args.budget) c.in-Sure.is c.requires.judged)
 
-pub returns-in-Differs-clause-compared : goal.returns-in-Differs-clause-compared
-returns-in-Differs-clause-compared c =
+pub returns-in-Differs : goal.returns-in-Differs
+returns-in-Differs c =
     let es = map program_of c.args.left.now in
     let order = c.args.order.now in
     left es order (map program_of c.args.right.now) c.args.other.now c.args.budget (first.Differs c.in-Differs.pruned c.in-Differs.witness)
     (differs es order c.args.budget c.in-Differs.pruned c.in-Differs.witness (subst (IsJudged es order c.args.budget) c.in-Differs.is c.requires.judged))
 
-pub returns-in-Spent-clause-compared : goal.returns-in-Spent-clause-compared
-returns-in-Spent-clause-compared c =
+pub returns-in-Spent : goal.returns-in-Spent
+returns-in-Spent c =
     let es = map program_of c.args.left.now in
     let order = c.args.order.now in
     left es order (map program_of c.args.right.now) c.args.other.now c.args.budget (first.Spent c.in-Spent.pruned c.in-Spent.cnf c.in-Spent.log)

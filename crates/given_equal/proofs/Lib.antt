@@ -1,0 +1,4 @@
+pub mod LimitLaws
+pub mod NoneLaws
+pub mod PartLaws
+pub mod WithoutLaws
