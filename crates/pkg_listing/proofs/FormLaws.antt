@@ -29,10 +29,10 @@ use Rattle.pkg_listing.proofs.PathLaws.{path_spelled, managed_where, read_path}
 
 -- ---- steps of reading
 
-no_value : {X : Type 0} (x : X) → None ≡ Some x → ⊥
+pub no_value : {X : Type 0} (x : X) → None ≡ Some x → ⊥
 no_value x h = cc
 
-same_some : {X : Type 0} (x y : X) → ◌≡◌ {A = Option X} (Some x) (Some y) → x ≡ y
+pub same_some : {X : Type 0} (x y : X) → ◌≡◌ {A = Option X} (Some x) (Some y) → x ≡ y
 same_some x y h = cc
 
 pub step : {X Y : Type 0} (o : Option X) (f : X → Option Y) (y : Y) → (o >>= f) ≡ Some y → (x : X) × (o ≡ Some x) × (f x ≡ Some y)
@@ -48,7 +48,7 @@ guarded true o x h = (refl, h)
 guarded false o x h = absurd (no_value x h)
 
 -- a step that was taken
-taken : {X Y : Type 0} (o : Option X) (f : X → Option Y) (x : X) → o ≡ Some x → (o >>= f) ≡ f x
+pub taken : {X Y : Type 0} (o : Option X) (f : X → Option Y) (x : X) → o ≡ Some x → (o >>= f) ≡ f x
 taken o f x h = ap (λ p. p >>= f) h
 
 -- ---- what stands in JSON
@@ -61,7 +61,7 @@ object_is (string s) members h = absurd (no_value members h)
 object_is (array items) members h = absurd (no_value members h)
 object_is (object found) members h = ap object (same_some found members h)
 
-array_is : (d : Data) (items : Items) → as_array d ≡ Some items → d ≡ array items
+pub array_is : (d : Data) (items : Items) → as_array d ≡ Some items → d ≡ array items
 array_is null items h = absurd (no_value items h)
 array_is (boolean b) items h = absurd (no_value items h)
 array_is (number n) items h = absurd (no_value items h)

@@ -10,5 +10,5 @@ mod writing;
 pub use laws::{listing_texts, package_paths};
 pub use listing::{Listed, Listing, Package};
 pub use paths::PathSet;
-pub use reading::{Version, listing_from_json};
+pub use reading::{Version, folders_of, listing_from_json, managed_path, path_of};
 pub use writing::listing_to_json;

@@ -29,7 +29,7 @@ pub enum Version {
 }
 
 /// The path that a text spells, if it may be managed.
-fn managed_path(alloc: Global, text: &str) -> Result<Path, Misread>
+pub fn managed_path(alloc: Global, text: &str) -> Result<Path, Misread>
     ensures path { Gives (λ p. p) result (managed_path text.now) }
     ensures proper { IfOk result (AllByRecursion IsSegment) }
 {
@@ -45,7 +45,8 @@ fn managed_path(alloc: Global, text: &str) -> Result<Path, Misread>
     }
 }
 
-fn path_of(alloc: Global, json: &Json) -> Result<Path, Misread>
+/// The path that JSON spells, which is a text, if it may be managed.
+pub fn path_of(alloc: Global, json: &Json) -> Result<Path, Misread>
     ensures path { Gives (λ p. p) result (path_of (view json.now)) }
     ensures proper { IfOk result (AllByRecursion IsSegment) }
 {
@@ -125,7 +126,8 @@ fn files_of(alloc: Global, version: Version, items: &[Json]) -> Result<Seq<Liste
     Ok(files)
 }
 
-fn folders_of(alloc: Global, items: &[Json]) -> Result<Seq<Path>, Misread>
+/// The paths of items that are all texts of such.
+pub fn folders_of(alloc: Global, items: &[Json]) -> Result<Seq<Path>, Misread>
     ensures folders { Gives (λ ps. ps) result (folders_of (items_view items.now)) }
     ensures proper { IfOk result (AllByRecursion (AllByRecursion IsSegment)) }
 {
