@@ -34,10 +34,10 @@ module _ (given : List Path) (es : List Program) (order more : Relation) (long :
   -- ---- the guard is in no arrow
 
   not_guard : (a b : ℕ) → a < more.count → b < more.count → a ≢ b → (Comes more a b → ⊥) → a < length es
-  not_guard a b x y differ no = ⊎_elim (λ less. less) (λ other.
+  not_guard a b x y differ never = ⊎_elim (λ less. less) (λ other.
       let is : a ≡ length es = omega (arith, x, count, long, other) in
       let low : b < length es = omega (arith, y, count, long, differ, is) in
-      absurd (no (subst (λ k. Comes more k b) (sym is) (goes.first b low)))) (cases_lt a (length es))
+      absurd (never (subst (λ k. Comes more k b) (sym is) (goes.first b low)))) (cases_lt a (length es))
 
   between : (arrow : ℕ × ℕ) → IsBetweenFree more arrow → IsBetweenFree order arrow
   between arrow f =
