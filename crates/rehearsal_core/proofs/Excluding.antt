@@ -100,9 +100,10 @@ none_and_any held (n ∷ names) none (inr later) = none_and_any held names none.
 same_inputs : (held : Held) (r : Request) (s : Source) (i j : Inputs) → AllTold held (files_in s) → AreInputs held r s i → AreInputs held r s j → i ≡ j
 same_inputs held r (source.Files names) i j told is was =
     let node = is.0 ∙ sym was.0 in
-    let wanted = is.1 ∙ sym was.1 in
-    let files = same_files held r.ask names i.files j.files told is.2 was.2 in
-    λ t. record { node = node t; wanted = wanted t; files = files t }
+    let limits = is.1 ∙ sym was.1 in
+    let wanted = is.2 ∙ sym was.2 in
+    let files = same_files held r.ask names i.files j.files told is.3 was.3 in
+    λ t. record { node = node t; limits = limits t; wanted = wanted t; files = files t }
 same_inputs held r (source.Workload n) i j told is was = is ∙ sym was
 
 same_loaded : (held : Held) (r : Request) (l m : Loaded) → AllTold held (files_of r) → IsLoaded held r l → IsLoaded held r m → l ≡ m

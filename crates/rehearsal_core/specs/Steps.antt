@@ -19,7 +19,7 @@ use Rattle.rehearsal_core.specs.Answers.{IsOfReport, NoFaults, Tells, write_faul
 
 -- the request about the files of these names
 abbrev pub request_about : Names → Request
-request_about n = record { ask = n.ask; node = n.node; conflicts = n.conflicts; wanted = n.wanted; source = source.Files n.files }
+request_about n = record { ask = n.ask; node = n.node; conflicts = n.conflicts; limits = n.limits; wanted = n.wanted; source = source.Files n.files }
 
 -- what there is to say of an answer
 abbrev pub concluded : Result Report Untold → Ending
