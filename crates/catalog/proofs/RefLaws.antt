@@ -7,7 +7,7 @@ use Rattle.std.specs.Cmp.Lexicographic.{nat_list_eq_equiv}
 use Rattle.pp_value.specs.contracts.value.RefPartialEq.TheImpl.{eq-value}
 use Rattle.pp_value.specs.Values.{same_ref}
 use Rattle.catalog_semantics.specs.declared.catalog.Resource.{Resource}
-use Rattle.catalog_semantics.specs.States.{place_from, stands_in, references_of, declared_limit}
+use Rattle.catalog_semantics.specs.States.{place_from, stands_in, references_of, declared_bound}
 use Rattle.catalog.specs.Places.{place_among, placed}
 
 module _ (eq : Ref → Ref → Bool) (turned : (a b : Ref) → eq a b ≡ same_ref b a) where
@@ -77,8 +77,8 @@ pub count_is : (resources : List Resource) → length (references_of resources) 
 count_is [] = refl
 count_is (r ∷ resources) = ap suc (count_is resources)
 
-pub place_below : (ref : Ref) (resources : List Resource) → length resources ≤ declared_limit → (o : Option ℕ) → o ≡ place_from 0 ref (references_of resources) → IfSome o (λ k. k < declared_limit)
-place_below ref resources h o e = let same = count_is resources in below_from 0 declared_limit ref (references_of resources) (omega arith) o e
+pub place_below : (ref : Ref) (resources : List Resource) → length resources ≤ declared_bound → (o : Option ℕ) → o ≡ place_from 0 ref (references_of resources) → IfSome o (λ k. k < declared_bound)
+place_below ref resources h o e = let same = count_is resources in below_from 0 declared_bound ref (references_of resources) (omega arith) o e
 
 -- what is found stands among them
 pub stands_is : (ref : Ref) (refs : List Ref) (o : Option ℕ) → o ≡ place_from 0 ref refs → is_some o ≡ stands_in ref refs

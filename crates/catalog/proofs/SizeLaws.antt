@@ -4,7 +4,7 @@ use Rattle.pp_value.specs.Values.{Pair}
 use Rattle.catalog_semantics.specs.declared.catalog.Resource.{Resource}
 use Rattle.std.specs.Prelude.{slice_get, slice_set, filter}
 use Rattle.std.proofs.lemmas.Option.{slice_get-get_or}
-use Rattle.catalog_semantics.specs.States.{references_of, size_of_attributes, size_of_resources, declared_limit, attributes_limit, lacks}
+use Rattle.catalog_semantics.specs.States.{references_of, size_of_attributes, size_of_resources, declared_bound, attributes_limit, lacks}
 use Rattle.catalog.proofs.RefLaws.{placed_last, count_is}
 use Rattle.catalog.specs.Adding.{changed_at, made_real, given, place_in_text}
 use Rattle.pp_value.specs.declared.value.Ref.{Ref}
@@ -88,7 +88,7 @@ sum_over size a s more h k large = omega arith
 -- ---- one more
 
 pub listed_more : (places : List (Ref × ℕ)) (size more : ℕ) (resources : List Resource) (r : Resource) → IsListed places size resources
-    → length resources < declared_limit → more ≡ size + size_of_attributes r.attrs → more ≤ attributes_limit
+    → length resources < declared_bound → more ≡ size + size_of_attributes r.attrs → more ≤ attributes_limit
     → IsListed (places ++ (r.id, length resources) ∷ []) more (resources ++ r ∷ [])
 listed_more places size more resources r h room sum small =
     let size_is = h.size_is in

@@ -1,34 +1,32 @@
 -- Resources that are added, and given defaults, each with the refusal that it may meet.
 use Rattle.std.specs.Prelude.{ℕ, zero, suc, false, nat_lt, if◌then◌else◌, List, [], ◌∷◌, ◌++◌, filter, length, codes, Result, Ok, Err}
 use Rattle.rh_base.specs.declared.fault.Refusal.{Refusal}
+use Rattle.host_limits.specs.declared.limits.Limits.{Limits}
+use Rattle.host_limits.specs.Limits.{declared_limit}
 use Rattle.pp_value.specs.Values.{Pair}
 use Rattle.pp_value.specs.Shown.{shown_ref}
 use Rattle.pp_eval.specs.Verdicts.{◌>>=◌, refusal}
 use Rattle.catalog_semantics.specs.declared.catalog.Resource.{Resource}
 use Rattle.catalog_semantics.specs.Catalogs.{Catalog}
-use Rattle.catalog_semantics.specs.States.{references_of, stands_in, declared_limit, attributes_limit, size_of_resources, lacks}
+use Rattle.catalog_semantics.specs.States.{references_of, stands_in, within_size, lacks}
 
--- these resources, unless all their attributes together are too large
-abbrev pub within_size : ℕ → List Resource → Result (List Resource) Refusal
-within_size at resources = if nat_lt attributes_limit (size_of_resources resources) then Err (refusal 32 at (codes "attributes")) else Ok resources
-
-abbrev pub added_last : Resource → List Resource → Result (List Resource) Refusal
-added_last r resources =
-    if nat_lt (length resources) declared_limit then within_size r.at (resources ++ r ∷ []) else Err (refusal 32 r.at (codes "declared"))
+abbrev pub added_last : Limits → Resource → List Resource → Result (List Resource) Refusal
+added_last limits r resources =
+    if nat_lt (length resources) (declared_limit limits) then within_size r.at (resources ++ r ∷ []) else Err (refusal 32 r.at (codes "declared"))
 
 -- one more resource, of a new reference, where there is room for it and for its attributes
-abbrev pub added_to : Resource → List Resource → Result (List Resource) Refusal
-added_to r resources =
-    if stands_in r.id (references_of resources) then Err (refusal 24 r.at (shown_ref r.id)) else added_last r resources
+abbrev pub added_to : Limits → Resource → List Resource → Result (List Resource) Refusal
+added_to limits r resources =
+    if stands_in r.id (references_of resources) then Err (refusal 24 r.at (shown_ref r.id)) else added_last limits r resources
 
 abbrev pub with_resources : Catalog → Result (List Resource) Refusal → Result Catalog Refusal
 with_resources c found = do
   resources ← found
   Ok (record c { resources = resources })
 
--- a catalog with one more resource
-abbrev pub with_added : Resource → Catalog → Result Catalog Refusal
-with_added r c = with_resources c (added_to r c.resources)
+-- a catalog with one more resource, within limits
+abbrev pub with_added : Limits → Resource → Catalog → Result Catalog Refusal
+with_added limits r c = with_resources c (added_to limits r c.resources)
 
 -- ---- defaults
 

@@ -3,7 +3,7 @@ use Rattle.std.specs.Prelude.{◌≡◌, ℕ, ◌+◌, ◌≤◌, if◌then◌el
 use Rattle.pp_value.specs.declared.value.Ref.{Ref}
 use Rattle.pp_value.specs.Values.{same_ref}
 use Rattle.catalog_semantics.specs.declared.catalog.Resource.{Resource}
-use Rattle.catalog_semantics.specs.States.{references_of, size_of_resources, declared_limit, attributes_limit}
+use Rattle.catalog_semantics.specs.States.{references_of, size_of_resources, declared_bound, attributes_limit}
 
 -- the place of a reference
 abbrev pub place_among : Ref → List (Ref × ℕ) → Option ℕ
@@ -19,5 +19,5 @@ placed n (q ∷ refs) = (q, n) ∷ placed (n + 1) refs
 pub record IsListed (places : List (Ref × ℕ)) (size : ℕ) (resources : List Resource) : Type 0 where
   pub refs_are : places ≡ placed 0 (references_of resources)
   pub size_is : size ≡ size_of_resources resources
-  pub few : length resources ≤ declared_limit
+  pub few : length resources ≤ declared_bound
   pub small : size ≤ attributes_limit

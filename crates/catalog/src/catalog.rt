@@ -2,13 +2,14 @@
 
 ghost use Rattle.std.specs.Prelude.{◌≡◌, ◌<◌, ◌≤◌, ◌^◌, ◌++◌, ◌∷◌, [], Some, length, slice_get, IfOk, OnOk, OnErr};
 ghost use Rattle.pp_eval.specs.Verdicts.{AnswersBy};
-ghost use Rattle.catalog_semantics.specs.States.{place_of, declared_limit};
+ghost use Rattle.catalog_semantics.specs.States.{place_of, declared_bound};
 ghost use Rattle.catalog.specs.Adding.{with_added, with_filled, with_realized};
 ghost use Rattle.catalog.specs.Members.{inside, is_inside, members_of};
 
 use crate::held::Held;
 use crate::listed::Listed;
 use catalog_semantics::{Relation, Resource};
+use host_limits::Limits;
 use pp_value::{Pairs, Ref};
 use rh_base::{Fault, NoMemory, Seq};
 use std::alloc::Global;
@@ -79,14 +80,14 @@ impl Catalog {
         }
     }
 
-    /// Adds a resource at the end, and gives its place.
-    pub fn add(&mut self, r: Resource) -> Result<u32, Fault>
-        ensures answers { AnswersBy (λ place. self.new) (with_added r self.old) result }
+    /// Adds a resource at the end, within limits, and gives its place.
+    pub fn add(&mut self, r: Resource, limits: Limits) -> Result<u32, Fault>
+        ensures answers { AnswersBy (λ place. self.new) (with_added limits r self.old) result }
         ensures place { IfOk result (λ place. place ≡ length self.old.resources) }
         ensures err { OnErr result (self.new ≡ self.old) }
     {
         let place = self.count();
-        self.listed.add(r)?;
+        self.listed.add(r, limits)?;
         Ok(place)
     }
 
@@ -118,7 +119,7 @@ impl Catalog {
 
     pub fn count(&self) -> u32
         ensures count { result ≡ length self.now.resources }
-        ensures few { result ≤ declared_limit }
+        ensures few { result ≤ declared_bound }
     {
         self.listed.as_slice().len() as u32
     }

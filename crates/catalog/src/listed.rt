@@ -1,19 +1,21 @@
 //! Resources in the order in which they were declared.
 
-ghost use Rattle.std.specs.Prelude.{◌≡◌, ◌<◌, ◌≤◌, ◌++◌, ◌∷◌, [], None, length, filter, IfSome, IfOk, OnOk, OnErr};
+ghost use Rattle.std.specs.Prelude.{◌≡◌, ◌<◌, ◌≤◌, ◌++◌, ◌∷◌, [], true, false, None, length, filter, IfSome, IfOk, OnOk, OnErr};
 ghost use Rattle.rh_base.specs.Refused.{IfRefused};
+ghost use Rattle.host_limits.specs.Limits.{declared_limit};
 ghost use Rattle.pp_value.specs.Shown.{shown_ref};
 ghost use Rattle.pp_eval.specs.Verdicts.{AnswersBy, refusal};
 ghost use Rattle.catalog.specs.Places.{place_among};
-ghost use Rattle.catalog_semantics.specs.States.{place_of, declared_limit, lacks};
+ghost use Rattle.catalog_semantics.specs.States.{place_of, declared_bound, lacks};
 ghost use Rattle.catalog.specs.Adding.{added_to, with_lacking, filled_at, made_real, changed_at};
 
 use crate::refs::Refs;
 use crate::sizes::{size_of_attributes, size_of_lacking};
 use catalog_semantics::Resource;
+use host_limits::Limits;
 use pp_eval::refusal;
 use pp_value::{Pairs, Ref, Value, copy_pairs, shown_ref};
-use rh_base::limits::{ATTRIBUTES_SIZE, DECLARED};
+use rh_base::limits::ATTRIBUTES_SIZE;
 use rh_base::{Fault, NoMemory, Text};
 use std::alloc::Global;
 use std::marker::Model;
@@ -52,6 +54,14 @@ fn stands_twice(alloc: Global, at: u32, r: &Ref) -> Fault
         Ok(name) => refusal(alloc, 24, at, name.as_str()),
         Err(m) => Fault::Memory(m),
     }
+}
+
+/// Whether no more may be declared than there are.
+fn is_full(count: usize, limits: Limits) -> bool
+    ensures full { result ≡ true → declared_limit limits ≤ count }
+    ensures room { result ≡ false → count < declared_limit limits }
+{
+    count >= limits.declared() as usize
 }
 
 /// Adds a resource, and the place of its reference.
@@ -133,7 +143,7 @@ impl Listed {
 
     pub fn as_slice(&self) -> &[Resource]
         ensures resources { result.now ≡ self.now }
-        ensures few { length self.now ≤ declared_limit }
+        ensures few { length self.now ≤ declared_bound }
     {
         self.resources.as_slice()
     }
@@ -141,20 +151,20 @@ impl Listed {
     /// Where a reference stands.
     pub fn find(&self, r: &Ref) -> Option<usize>
         ensures place { result ≡ place_of r.now self.now }
-        ensures below { IfSome result (λ place. place < declared_limit) }
+        ensures below { IfSome result (λ place. place < declared_bound) }
     {
         self.refs.find(r)
     }
 
-    /// Adds a resource of a new reference.
-    pub fn add(&mut self, r: Resource) -> Result<(), Fault>
-        ensures answers { AnswersBy (λ done. self.new) (added_to r self.old) result }
+    /// Adds a resource of a new reference, within limits.
+    pub fn add(&mut self, r: Resource, limits: Limits) -> Result<(), Fault>
+        ensures answers { AnswersBy (λ done. self.new) (added_to limits r self.old) result }
         ensures err { OnErr result (self.new ≡ self.old) }
     {
         if self.refs.find(&r.id).is_some() {
             return Err(stands_twice(self.alloc, r.at, &r.id));
         }
-        if self.resources.len() >= DECLARED as usize {
+        if is_full(self.resources.len(), limits) {
             return Err(refusal(self.alloc, 32, r.at, "declared"));
         }
         let size = self

@@ -1,11 +1,12 @@
 -- Resources keep their sort, their holder and their reference, and their place; so what holds them stays a container.
-use Rattle.std.proofs.Common.{◌≡◌, ◌⊎◌, inl, inr, ℕ, zero, suc, ◌+◌, Bool, true, false, cond, List, [], ◌∷◌, ◌++◌, map, Option, Some, None, Ok, Err}
+use Rattle.std.proofs.Common.{◌≡◌, ◌⊎◌, inl, inr, ℕ, zero, suc, ◌+◌, Bool, true, false, cond, List, [], ◌∷◌, ◌++◌, map, Option, Some, None, Ok}
 use Rattle.std.proofs.Common.{refl, sym, ap, ap₂, subst, ◌∙◌, append_assoc, arith}
 use Rattle.std.specs.Prelude.{◌&&◌, IfSome, slice_get}
 use Rattle.std.specs.List.{AllByRecursion}
 use Rattle.std.proofs.lemmas.List.{append-nil}
 use Rattle.std.proofs.lemmas.Slice.Eq.{bytes_eq-Decides}
 use Rattle.std.specs.Str.{bytes_eq}
+use Rattle.host_limits.specs.declared.limits.Limits.{Limits}
 use Rattle.pp_syntax.specs.declared.tree.Manifest.{Manifest}
 use Rattle.pp_value.specs.declared.value.Ref.{Ref}
 use Rattle.pp_value.specs.declared.value.Value.{Value}
@@ -19,11 +20,11 @@ use Rattle.catalog_semantics.specs.declared.state.Default.{Default}
 use Rattle.catalog_semantics.specs.declared.state.Holding.{Holding}
 use Rattle.catalog_semantics.specs.declared.state.State.{State}
 use Rattle.catalog_semantics.specs.Sites.{site_of}
-use Rattle.catalog_semantics.specs.States.{filled, as_added, is_class, with_resource, is_new, has_room, has_size, references_of, place_from, place_of}
+use Rattle.catalog_semantics.specs.States.{filled, as_added, is_class, with_resource, is_new, has_room, within_size, references_of, place_from, place_of}
 use Rattle.catalog_semantics.specs.Declaring.{class_ref, entering, begun, ended}
 use Rattle.catalog_semantics.specs.Catalogs.{is_plain_sort, filled_behind, first_state, is_called_for, made_real, state_after, round_limit, all_there, few_enough, Catalog, catalog_in, catalog_of}
 use Rattle.catalog_semantics.specs.Frames.{Each, IsContainerAt}
-use Rattle.catalog_semantics.proofs.Keeping.{step_each, then_each, if_each, bound_each}
+use Rattle.catalog_semantics.proofs.Keeping.{step_each, then_each, bound_each}
 use Rattle.catalog_semantics.proofs.Whole.{IsWholeFrame, whole_keeps, few_is}
 use Rattle.catalog_laws.specs.Containers.{AreHeld, IsClassAt, HoldClasses}
 
@@ -241,17 +242,17 @@ holds name outer class s is at h = record {
 
 -- ---- defaults take hold
 
-fills : (done resources : List Resource) (s t : State) → skeletons (done ++ resources) ≡ skeletons s.resources → t.resources ≡ s.resources → t.running ≡ s.running → t.holdings ≡ s.holdings
-    → Each (Holds s) (filled_behind done resources t)
-fills done [] s t same resources running holdings = alike s (record t { resources = done }) (ap skeletons (sym (append-nil done)) ∙ same) running holdings
-fills done (r ∷ rest) s t same resources running holdings =
-    step_each (Holds s) (has_size r.at (record t { resources = done ++ filled t.defaults r ∷ rest })) _ (λ fits.
-    fills (done ++ filled t.defaults r ∷ []) rest s t (again ∙ same) resources running holdings)
+fills : (defaults : List Default) (done resources all : List Resource) → skeletons (done ++ resources) ≡ skeletons all
+    → Each (λ found. skeletons found ≡ skeletons all) (filled_behind defaults done resources)
+fills defaults done [] all same = ap skeletons (sym (append-nil done)) ∙ same
+fills defaults done (r ∷ rest) all same =
+    step_each (λ found. skeletons found ≡ skeletons all) (within_size r.at (done ++ filled defaults r ∷ rest)) _ (λ fits.
+    fills defaults (done ++ filled defaults r ∷ []) rest all (again ∙ same))
   where
-    again : skeletons ((done ++ filled t.defaults r ∷ []) ++ rest) ≡ skeletons (done ++ r ∷ rest)
+    again : skeletons ((done ++ filled defaults r ∷ []) ++ rest) ≡ skeletons (done ++ r ∷ rest)
     again =
-        ap skeletons (append_assoc done (filled t.defaults r ∷ []) rest) ∙ map_both done (filled t.defaults r ∷ rest)
-        ∙ ap (λ k. skeletons done ++ k ∷ skeletons rest) (filled_skeleton t.defaults r) ∙ sym (map_both done (r ∷ rest))
+        ap skeletons (append_assoc done (filled defaults r ∷ []) rest) ∙ map_both done (filled defaults r ∷ rest)
+        ∙ ap (λ k. skeletons done ++ k ∷ skeletons rest) (filled_skeleton defaults r) ∙ sym (map_both done (r ∷ rest))
 
 -- ---- a whole manifest
 
@@ -263,7 +264,7 @@ whole_holds = record {
       joined = joined;
       binds = λ at name x s. bound_each (Holds s) at name x s (alike s _ refl refl refl);
       adds = λ r sound s holder. step_each (Holds s) (is_new r s) _ (λ new. step_each (Holds s) (has_room r s) _ (λ room.
-          if_each (Holds s) _ (Err _) (Ok (with_resource s (as_added s r))) tt (adds r s holder)));
+          step_each (Holds s) (within_size r.at (s.resources ++ as_added s r ∷ [])) _ (λ fits. adds r s holder)));
       bodies = λ place scope s t u at h k. bodies place s t u at (joined s (entering scope s) t (alike s (entering scope s) refl refl refl) h) k;
       holds = λ name outer class s is at. record {
         more = [];
@@ -277,7 +278,10 @@ whole_holds = record {
     };
     gives = λ kind attributes s fit. alike s _ refl refl refl;
     enters = λ s. alike s _ refl refl refl;
-    fills = λ s. fills [] s.resources s (record s { main_has_ended = true }) refl refl refl refl;
+    fills =
+        λ s. then_each (λ found. skeletons found ≡ skeletons s.resources) (Holds s) (filled_behind s.defaults [] s.resources) _
+        (fills s.defaults [] s.resources s.resources refl)
+        (λ found same. alike s (record s { main_has_ended = true; resources = found }) same refl refl);
   };
   realizes = λ s. alike s _ (real_skeletons s s.resources) refl refl;
   marks = λ place s. alike s _ refl refl refl;
@@ -324,10 +328,10 @@ ends_held t h = step_each CatalogHeld (all_there t.pending t) _ (λ there.
     then_each (λ (u : State). u ≡ t) CatalogHeld (few_enough t) _ (few_is t)
     (λ u e. subst (λ (w : State). CatalogHeld (catalog_in w)) (sym e) (catalog_is t h)))
 
-pub catalog_held : (m : Manifest) (facts : Value) (node_name : List ℕ) (data_levels : List Level) (c : Catalog)
-    → catalog_of m facts node_name data_levels ≡ Ok c → CatalogHeld c
-catalog_held m facts node_name data_levels c h =
+pub catalog_held : (m : Manifest) (facts : Value) (node_name : List ℕ) (data_levels : List Level) (limits : Limits) (c : Catalog)
+    → catalog_of m facts node_name data_levels limits ≡ Ok c → CatalogHeld c
+catalog_held m facts node_name data_levels limits c h =
     subst (Each CatalogHeld) h (step_each CatalogHeld (site_of m data_levels (pairs_in facts) node_name) _ (λ site.
-    then_each (Holds (first_state facts)) CatalogHeld (state_after round_limit site m.items facts) _
-    (whole_keeps Holds whole_holds site m.items round_limit (first_state facts))
+    then_each (Holds (first_state facts limits)) CatalogHeld (state_after (round_limit limits) site m.items facts limits) _
+    (whole_keeps Holds whole_holds site m.items (round_limit limits) (first_state facts limits))
     (λ t k. ends_held t (k.held (record { runs = tt; holders = tt; classes = tt })))))

@@ -9,20 +9,23 @@ use Rattle.std.proofs.Math.Dec.{eqb}
 use Rattle.std.specs.Prelude.{nat_lt}
 use Rattle.std.specs.List.{AllByRecursion, IsDistinct, list_any}
 use Rattle.rh_base.specs.declared.fault.Refusal.{Refusal}
+use Rattle.host_limits.specs.declared.limits.Limits.{Limits}
+use Rattle.host_limits.specs.declared.limits.Limits.TheVariants as chosen
+use Rattle.host_limits.specs.Limits.{declared_limit}
 use Rattle.pp_syntax.specs.declared.tree.Item.{Item}
 use Rattle.pp_value.specs.declared.value.Value.{Value}
 use Rattle.pp_eval.specs.Verdicts.{◌>>=◌}
 use Rattle.pp_eval.specs.Scoping.{defined_scope}
 use Rattle.catalog_semantics.specs.declared.catalog.Resource.{Resource}
 use Rattle.catalog_semantics.specs.Sites.{Definition, Site, definition_of}
-use Rattle.catalog_semantics.specs.States.{State, Effect, is_new, has_room, as_added, with_resource, added, declared_limit}
+use Rattle.catalog_semantics.specs.States.{State, Effect, is_new, has_room, within_size, as_added, added, declared_bound}
 use Rattle.catalog_semantics.specs.Effects.{effect_of}
 use Rattle.catalog_semantics.specs.Catalogs.{main_code, main_ended, first_state, made_real, realized, has_run, is_defined_sort, is_due}
 use Rattle.catalog_semantics.specs.Catalogs.{next_due, marked, type_runs, resource_runs, run_and_go_on, rounds, state_after, round_limit}
 use Rattle.catalog_semantics.specs.Catalogs.{IsSettled}
 use Rattle.pp_eval.specs.Extending.{Begins}
 use Rattle.catalog_semantics.specs.Frames.{Each, Extends, Fits, IsContainerAt}
-use Rattle.catalog_semantics.proofs.Keeping.{Keeps, IsFrame, step_each, then_each, if_each, both_each, bound_each, body_keeps, statement_keeps}
+use Rattle.catalog_semantics.proofs.Keeping.{Keeps, IsFrame, step_each, then_each, both_each, bound_each, body_keeps, statement_keeps}
 use Rattle.pp_eval.specs.Growing.{begins_same}
 use Rattle.catalog_semantics.proofs.Extending.{extending}
 use Rattle.catalog_semantics.proofs.Settled.{realized_again}
@@ -30,26 +33,36 @@ use Rattle.catalog_semantics.proofs.Whole.{IsMainFrame, IsWholeFrame, Same, ends
 
 -- ---- how many resources are declared
 
-abbrev FitStill : State → State → Type 0
-FitStill s t = Fits s → Fits t
+-- no more than the bound, whatever the limits are
+pub under_bound : (l : Limits) → declared_limit l ≤ declared_bound
+under_bound chosen.Usual = omega arith
+under_bound chosen.Host = omega arith
+
+abbrev FitStill : Limits → State → State → Type 0
+FitStill limits s t = Fits limits s → Fits limits t
 
 if_true : {A B : Type 0} (Q : B → Type 0) (b : Bool) (e : Refusal) (x : A) (f : A → Result B Refusal) → (b ≡ true → Each Q (f x))
     → Each Q (cond b (Ok x) (Err e) >>= f)
 if_true Q true e x f h = h refl
 if_true Q false e x f h = tt
 
-adds_fit : (r : Resource) → Keeps FitStill (added r)
-adds_fit r s =
-    step_each (FitStill s) (is_new r s) _ (λ new. if_true (FitStill s) (nat_lt (length s.resources) declared_limit) _ s _ (λ room.
-    if_each (FitStill s) _ (Err _) (Ok (with_resource s (as_added s r))) tt
-    (λ h. omega (arith, ltb-true (length s.resources) declared_limit room, length-append s.resources (as_added s r ∷ [])))))
+adds_fit : (limits : Limits) (r : Resource) → Keeps (FitStill limits) (added r)
+adds_fit limits r s =
+    step_each (FitStill limits s) (is_new r s) _ (λ new. if_true (FitStill limits s) (nat_lt (length s.resources) (declared_limit s.limits)) _ s _ (λ room.
+    step_each (FitStill limits s) (within_size r.at (s.resources ++ as_added s r ∷ [])) _ (λ fits h. (h.0, one_more room h))))
+  where
+    one_more : nat_lt (length s.resources) (declared_limit s.limits) ≡ true → Fits limits s → length (s.resources ++ as_added s r ∷ []) ≤ declared_limit limits
+    one_more room h =
+        let below = ltb-true (length s.resources) (declared_limit s.limits) room in
+        let same : declared_limit s.limits ≡ declared_limit limits = ap declared_limit h.0 in
+        omega (arith, length-append s.resources (as_added s r ∷ []))
 
-fitting_frame : IsFrame FitStill
-fitting_frame = record {
+fitting_frame : (limits : Limits) → IsFrame (FitStill limits)
+fitting_frame limits = record {
   same = λ s h. h;
   joined = λ s t u h k x. k (h x);
-  binds = λ at name x s. bound_each (FitStill s) at name x s (λ h. h);
-  adds = λ r sound s holder. adds_fit r s;
+  binds = λ at name x s. bound_each (FitStill limits s) at name x s (λ h. h);
+  adds = λ r sound s holder. adds_fit limits r s;
   bodies = λ place scope s t u at h k x. k (h x);
   holds = λ name outer class s is at h. h;
   ties = λ ties s h. h;
@@ -57,23 +70,24 @@ fitting_frame = record {
   wants = λ more s h. h;
 }
 
-same_length : (s t : State) → Same s.resources s t → length t.resources ≡ length s.resources
+same_length : (s t : State) → Same s t → length t.resources ≡ length s.resources
 same_length s t h = sym (length-map t.resources (λ (r : Resource). r.id)) ∙ ap length h.0 ∙ length-map s.resources (λ (r : Resource). r.id)
 
-main_fits : IsMainFrame FitStill
-main_fits = record {
-  frame = fitting_frame;
+main_fits : (limits : Limits) → IsMainFrame (FitStill limits)
+main_fits limits = record {
+  frame = fitting_frame limits;
   gives = λ kind attributes s fit h. h;
   enters = λ s h. h;
   fills =
-      λ s. mapped (Same s.resources s) (FitStill s) (main_ended s) (λ t e h. subst (λ n. n ≤ declared_limit) (sym (same_length s t e)) h)
+      λ s. mapped (Same s) (FitStill limits s) (main_ended s)
+      (λ t e h. (e.2 ∙ h.0, subst (λ n. n ≤ declared_limit limits) (sym (same_length s t e)) h.1))
       (ends_same s);
 }
 
-pub whole_fits : IsWholeFrame FitStill
-whole_fits = record {
-  main = main_fits;
-  realizes = λ s h. subst (λ n. n ≤ declared_limit) (sym (length-map s.resources (made_real s))) h;
+pub whole_fits : (limits : Limits) → IsWholeFrame (FitStill limits)
+whole_fits limits = record {
+  main = main_fits limits;
+  realizes = λ s h. (h.0, subst (λ n. n ≤ declared_limit limits) (sym (length-map s.resources (made_real s))) h.1);
   marks = λ place s h. h;
 }
 
@@ -90,7 +104,7 @@ main_runs_none = record {
     binds = λ at name x s. bound_each (RanStays s) at name x s refl;
     adds = λ r sound s holder. step_each (RanStays s) (is_new r s) _
         (λ new. step_each (RanStays s) (has_room r s) _
-        (λ room. if_each (RanStays s) _ (Err _) (Ok (with_resource s (as_added s r))) tt refl));
+        (λ room. step_each (RanStays s) (within_size r.at (s.resources ++ as_added s r ∷ [])) _ (λ fits. refl)));
     bodies =
         λ place scope s t u at h k. k ∙ h;
     holds = λ name outer class s is at. refl;
@@ -100,7 +114,7 @@ main_runs_none = record {
   };
   gives = λ kind attributes s fit. refl;
   enters = λ s. refl;
-  fills = λ s. mapped (Same s.resources s) (RanStays s) (main_ended s) (λ t e. e.1) (ends_same s);
+  fills = λ s. mapped (Same s) (RanStays s) (main_ended s) (λ t e. e.1) (ends_same s);
 }
 
 -- ---- what is due
@@ -189,8 +203,11 @@ once_more place s t below new runs h = record {
       (in_more q place s.ran (subst (λ (w : List ℕ). list_any (eqb q) w ≡ true) runs.0 is));
 }
 
-at_most : (s : State) → RunsOnce s → Fits s → length s.ran ≤ declared_limit
-at_most s h fits = let few = length-le_from_distinct_below s.ran (length s.resources) h.distinct h.below in omega arith
+at_most : (limits : Limits) (s : State) → RunsOnce s → Fits limits s → length s.ran ≤ declared_limit limits
+at_most limits s h fits =
+    let few = length-le_from_distinct_below s.ran (length s.resources) h.distinct h.below in
+    let room = fits.1 in
+    omega arith
 
 real_once : (s : State) → RunsOnce s → RunsOnce (realized s)
 real_once s h =
@@ -214,26 +231,26 @@ next_same site f g s None h = refl
 next_same site f g s (Some x) h = h x refl
 
 -- what a run of the resource at a place gives
-abbrev After : Site → ℕ → State → State → Type 0
-After site place s t = Runs place s t × FitStill s t
+abbrev After : Limits → ℕ → State → State → Type 0
+After limits place s t = Runs place s t × FitStill limits s t
 
-run_gives : (site : Site) (x : ℕ × Resource) (s : State) → IsContainerAt x.0 s.resources → Each (After site x.0 s) (resource_runs site x s)
-run_gives site x s at =
-    both_each (Runs x.0 s) (FitStill s) (resource_runs site x s) (runs_one site x.0 x.1 (definition_of x.1.id.kind site.defined_types) s at)
-    (type_keeps FitStill whole_fits site x.0 x.1 (definition_of x.1.id.kind site.defined_types) s at)
+run_gives : (limits : Limits) (site : Site) (x : ℕ × Resource) (s : State) → IsContainerAt x.0 s.resources → Each (After limits x.0 s) (resource_runs site x s)
+run_gives limits site x s at =
+    both_each (Runs x.0 s) (FitStill limits s) (resource_runs site x s) (runs_one site x.0 x.1 (definition_of x.1.id.kind site.defined_types) s at)
+    (type_keeps (FitStill limits) (whole_fits limits) site x.0 x.1 (definition_of x.1.id.kind site.defined_types) s at)
 
-pub rounds_same : (site : Site) (n m : ℕ) (s : State) → RunsOnce s → Fits s → declared_limit + 1 ≤ length s.ran + n
-    → declared_limit + 1 ≤ length s.ran + m → rounds n site s ≡ rounds m site s
-rounds_same site zero m s once fits h k = let few = at_most s once fits in absurd (omega arith)
-rounds_same site (suc n) zero s once fits h k = let few = at_most s once fits in absurd (omega arith)
-rounds_same site (suc n) (suc m) s once fits h k =
+pub rounds_same : (limits : Limits) (site : Site) (n m : ℕ) (s : State) → RunsOnce s → Fits limits s → round_limit limits ≤ length s.ran + n
+    → round_limit limits ≤ length s.ran + m → rounds n site s ≡ rounds m site s
+rounds_same limits site zero m s once fits h k = let few = at_most limits s once fits in absurd (omega arith)
+rounds_same limits site (suc n) zero s once fits h k = let few = at_most limits s once fits in absurd (omega arith)
+rounds_same limits site (suc n) (suc m) s once fits h k =
     next_same site (rounds n site) (rounds m site) (realized s) (next_due (realized s) 0 (realized s).resources) (λ x is.
     let real = real_once s once in
-    let room : Fits (realized s) = whole_fits.realizes s fits in
+    let room : Fits limits (realized s) = (whole_fits limits).realizes s fits in
     let next = next_is (realized s) 0 (length (realized s).resources) (realized s).resources x (omega arith) is in
-    run_same site (rounds n site) (rounds m site) (realized s) x (After site x.0 (realized s)) (run_gives site x (realized s) (due_contains (realized s) x is)) (λ t after.
+    run_same site (rounds n site) (rounds m site) (realized s) x (After limits x.0 (realized s)) (run_gives limits site x (realized s) (due_contains (realized s) x is)) (λ t after.
     let more : length t.ran ≡ length s.ran + 1 = ap length after.0.0 ∙ length-append s.ran (x.0 ∷ []) in
-    rounds_same site n m t (once_more x.0 (realized s) t next.0 next.1 after.0 real) (after.1 room) (omega arith) (omega arith)))
+    rounds_same limits site n m t (once_more x.0 (realized s) t next.0 next.1 after.0 real) (after.1 room) (omega arith) (omega arith)))
 
 -- ---- the whole
 
@@ -252,17 +269,17 @@ none_run s h =
     nowhere q h = cc
 
 -- From the end of the main code on, as many rounds as may be declared and one more are enough.
-pub enough_rounds : (site : Site) (items : List Item) (facts : Value) (n : ℕ) → round_limit ≤ n
-    → state_after n site items facts ≡ state_after round_limit site items facts
-enough_rounds site items facts n h =
-    behind (main_code site items (first_state facts)) (main_keeps RanStays main_runs_none site items (first_state facts))
-    (main_keeps FitStill main_fits site items (first_state facts))
+pub enough_rounds : (site : Site) (items : List Item) (facts : Value) (limits : Limits) (n : ℕ) → round_limit limits ≤ n
+    → state_after n site items facts limits ≡ state_after (round_limit limits) site items facts limits
+enough_rounds site items facts limits n h =
+    behind (main_code site items (first_state facts limits)) (main_keeps RanStays main_runs_none site items (first_state facts limits))
+    (main_keeps (FitStill limits) (main_fits limits) site items (first_state facts limits))
   where
-    behind : (r : Result State Refusal) → Each (RanStays (first_state facts)) r → Each (FitStill (first_state facts)) r
-        → (r >>= rounds n site) ≡ (r >>= rounds round_limit site)
+    behind : (r : Result State Refusal) → Each (RanStays (first_state facts limits)) r → Each (FitStill limits (first_state facts limits)) r
+        → (r >>= rounds n site) ≡ (r >>= rounds (round_limit limits) site)
     behind (Ok s) a b =
         let none : length s.ran ≡ 0 = ap length a in
-        rounds_same site n round_limit s (none_run s a) (b (omega arith)) (omega arith) (omega arith)
+        rounds_same limits site n (round_limit limits) s (none_run s a) (b (refl, omega arith)) (omega arith) (omega arith)
     behind (Err e) a b = refl
 
 -- ---- what the rounds reach
@@ -276,27 +293,28 @@ step_settles : (site : Site) (go_on : Effect) (s : State) (found : Option (ℕ �
 step_settles site go_on s None e real h = record { real = real; none_due = e }
 step_settles site go_on s (Some x) e real h = h x refl
 
-settles : (site : Site) (n : ℕ) (s : State) → RunsOnce s → Fits s → declared_limit + 1 ≤ length s.ran + n → Each IsSettled (rounds n site s)
-settles site zero s once fits h = let few = at_most s once fits in absurd (omega arith)
-settles site (suc n) s once fits h =
+settles : (limits : Limits) (site : Site) (n : ℕ) (s : State) → RunsOnce s → Fits limits s → round_limit limits ≤ length s.ran + n → Each IsSettled (rounds n site s)
+settles limits site zero s once fits h = let few = at_most limits s once fits in absurd (omega arith)
+settles limits site (suc n) s once fits h =
     step_settles site (rounds n site) (realized s) (next_due (realized s) 0 (realized s).resources) refl (realized_again s) (λ x is.
     let real = real_once s once in
-    let room : Fits (realized s) = whole_fits.realizes s fits in
+    let room : Fits limits (realized s) = (whole_fits limits).realizes s fits in
     let next = next_is (realized s) 0 (length (realized s).resources) (realized s).resources x (omega arith) is in
-    then_each (After site x.0 (realized s)) IsSettled (resource_runs site x (realized s)) (rounds n site) (run_gives site x (realized s) (due_contains (realized s) x is))
+    then_each (After limits x.0 (realized s)) IsSettled (resource_runs site x (realized s)) (rounds n site) (run_gives limits site x (realized s) (due_contains (realized s) x is))
     (λ t after.
     let more : length t.ran ≡ length s.ran + 1 = ap length after.0.0 ∙ length-append s.ran (x.0 ∷ []) in
-    settles site n t (once_more x.0 (realized s) t next.0 next.1 after.0 real) (after.1 room) (omega arith)))
+    settles limits site n t (once_more x.0 (realized s) t next.0 next.1 after.0 real) (after.1 room) (omega arith)))
 
 -- After all rounds another one changes nothing.
-pub all_settle : (site : Site) (items : List Item) (facts : Value) (t : State) → state_after round_limit site items facts ≡ Ok t
-    → IsSettled t
-all_settle site items facts t h =
-    subst (Each IsSettled) h (behind (main_code site items (first_state facts))
-    (main_keeps RanStays main_runs_none site items (first_state facts)) (main_keeps FitStill main_fits site items (first_state facts)))
+pub all_settle : (site : Site) (items : List Item) (facts : Value) (limits : Limits) (t : State)
+    → state_after (round_limit limits) site items facts limits ≡ Ok t → IsSettled t
+all_settle site items facts limits t h =
+    subst (Each IsSettled) h (behind (main_code site items (first_state facts limits))
+    (main_keeps RanStays main_runs_none site items (first_state facts limits))
+    (main_keeps (FitStill limits) (main_fits limits) site items (first_state facts limits)))
   where
-    behind : (r : Result State Refusal) → Each (RanStays (first_state facts)) r → Each (FitStill (first_state facts)) r
-        → Each IsSettled (r >>= rounds round_limit site)
+    behind : (r : Result State Refusal) → Each (RanStays (first_state facts limits)) r → Each (FitStill limits (first_state facts limits)) r
+        → Each IsSettled (r >>= rounds (round_limit limits) site)
     behind (Ok s) a b =
-        let none : length s.ran ≡ 0 = ap length a in settles site round_limit s (none_run s a) (b (omega arith)) (omega arith)
+        let none : length s.ran ≡ 0 = ap length a in settles limits site (round_limit limits) s (none_run s a) (b (refl, omega arith)) (omega arith)
     behind (Err e) a b = tt

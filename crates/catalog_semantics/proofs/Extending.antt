@@ -1,5 +1,5 @@
 -- Statements only add.
-use Rattle.std.proofs.Common.{◌≡◌, ℕ, List, [], ◌∷◌, ◌++◌, map, Ok, Err, refl, subst, ◌∙◌}
+use Rattle.std.proofs.Common.{◌≡◌, ℕ, List, [], ◌∷◌, ◌++◌, map, Ok, refl, subst, ◌∙◌}
 use Rattle.pp_syntax.specs.declared.tree.Stmt.{Stmt}
 use Rattle.pp_value.specs.declared.value.Value.{Value}
 use Rattle.pp_eval.specs.declared.scope.Scope.{Scope}
@@ -11,18 +11,19 @@ use Rattle.catalog_semantics.specs.declared.state.Collector.{Collector}
 use Rattle.catalog_semantics.specs.declared.state.Pending.{Pending}
 use Rattle.catalog_semantics.specs.declared.state.Tie.{Tie}
 use Rattle.catalog_semantics.specs.Sites.{Definition, Site}
-use Rattle.catalog_semantics.specs.States.{State, in_turn, with_scopes, bound, as_added, with_resource, is_new, has_room}
+use Rattle.catalog_semantics.specs.States.{State, in_turn, with_scopes, bound, as_added, is_new, has_room, within_size}
 use Rattle.catalog_semantics.specs.States.{added, held, tied, collected, wanted}
 use Rattle.catalog_semantics.specs.Declaring.{entering, opened, begun, ended}
 use Rattle.catalog_semantics.specs.Rooms.{Room}
 use Rattle.catalog_semantics.specs.Effects.{effect_at, effect_of}
 use Rattle.catalog_semantics.specs.Frames.{Each, Extends}
-use Rattle.catalog_semantics.proofs.Keeping.{Keeps, IsFrame, step_each, if_each, bound_each, all_keep, opened_keeps, effect_at_keeps, statement_keeps}
+use Rattle.catalog_semantics.proofs.Keeping.{Keeps, IsFrame, step_each, bound_each, all_keep, opened_keeps, effect_at_keeps, statement_keeps}
 
 -- ---- states
 
 extends_same : (s : State) → Extends s s
 extends_same s = record {
+  limits = refl;
   running = refl;
   main_has_ended = refl;
   scopes = scopes_same s.scopes;
@@ -38,6 +39,7 @@ extends_same s = record {
 
 pub extends_joined : (s t u : State) → Extends s t → Extends t u → Extends s u
 extends_joined s t u h k = record {
+  limits = k.limits ∙ h.limits;
   running = k.running ∙ h.running;
   main_has_ended = k.main_has_ended ∙ h.main_has_ended;
   scopes = scopes_joined s.scopes t.scopes u.scopes h.scopes k.scopes;
@@ -52,6 +54,7 @@ extends_joined s t u h k = record {
 
 scopes_extend : (s : State) (scopes : Scoped) → ScopesExtend s.scopes scopes → Extends s (with_scopes scopes s)
 scopes_extend s scopes h = record {
+  limits = refl;
   running = refl;
   main_has_ended = refl;
   scopes = h;
@@ -67,6 +70,7 @@ scopes_extend s scopes h = record {
 
 resources_extend : (s : State) (more : List Resource) → Extends s (record s { resources = s.resources ++ more })
 resources_extend s more = record {
+  limits = refl;
   running = refl;
   main_has_ended = refl;
   scopes = scopes_same s.scopes;
@@ -82,6 +86,7 @@ resources_extend s more = record {
 
 holds_extend : (outer class : ℕ) (s : State) → Extends s (held outer class s)
 holds_extend outer class s = record {
+  limits = refl;
   running = refl;
   main_has_ended = refl;
   scopes = scopes_same s.scopes;
@@ -97,6 +102,7 @@ holds_extend outer class s = record {
 
 ties_extend : (ties : List Tie) (s : State) → Extends s (tied ties s)
 ties_extend ties s = record {
+  limits = refl;
   running = refl;
   main_has_ended = refl;
   scopes = scopes_same s.scopes;
@@ -112,6 +118,7 @@ ties_extend ties s = record {
 
 collects_extend : (c : Collector) (s : State) → Extends s (collected c s)
 collects_extend c s = record {
+  limits = refl;
   running = refl;
   main_has_ended = refl;
   scopes = scopes_same s.scopes;
@@ -127,6 +134,7 @@ collects_extend c s = record {
 
 wants_extend : (more : List Pending) (s : State) → Extends s (wanted more s)
 wants_extend more s = record {
+  limits = refl;
   running = refl;
   main_has_ended = refl;
   scopes = scopes_same s.scopes;
@@ -145,11 +153,12 @@ binds_extend at name x s = bound_each (Extends s) at name x s (scopes_extend s (
 
 adds_extend : (r : Resource) → Keeps Extends (added r)
 adds_extend r s = step_each (Extends s) (is_new r s) _ (λ new. step_each (Extends s) (has_room r s) _ (λ room.
-    if_each (Extends s) _ (Err _) (Ok (with_resource s (as_added s r))) tt (resources_extend s (as_added s r ∷ []))))
+    step_each (Extends s) (within_size r.at (s.resources ++ as_added s r ∷ [])) _ (λ fits. resources_extend s (as_added s r ∷ []))))
 
 bodies_extend : (place : ℕ) (scope : Scope) (s t u : State) → Extends (entering scope s) t → Extends (begun place t) u
     → Extends s (ended s u)
 bodies_extend place scope s t u h k = record {
+  limits = k.limits ∙ h.limits;
   running = refl;
   main_has_ended = k.main_has_ended ∙ h.main_has_ended;
   scopes = body_extends s.scopes u.scopes scope (scopes_joined (entered s.scopes scope) t.scopes u.scopes h.scopes k.scopes);

@@ -34,10 +34,10 @@ use Rattle.catalog_semantics.specs.declared.state.Pending.{Pending}
 use Rattle.catalog_semantics.specs.declared.state.Side.{Side}
 use Rattle.catalog_semantics.specs.declared.state.Tie.{Tie}
 use Rattle.catalog_semantics.specs.Sites.{Parameter, Definition, Site, is_built_in}
-use Rattle.catalog_semantics.specs.States.{State, Default, Effect, in_turn, with_scopes, bound, is_declared, place_of, defaults_of, lacks, is_class, filled, is_new, has_room, as_added, with_resource, added, held, tied, collected, wanted}
+use Rattle.catalog_semantics.specs.States.{State, Default, Effect, in_turn, with_scopes, bound, is_declared, place_of, defaults_of, lacks, is_class, filled, is_new, has_room, within_size, as_added, added, held, tied, collected, wanted}
 use Rattle.catalog_semantics.specs.Attributes.{titles_at, attributes_at, references_in}
 use Rattle.catalog_semantics.specs.Declaring.{Bodies, within, body_in, one_more_body, given_or_else, fitting, parameter_bound, all_known, entering, opened}
-use Rattle.catalog_semantics.specs.Declaring.{begun, ended, body_runs, class_ref, class_resource, class_named, class_runs, no_circle}
+use Rattle.catalog_semantics.specs.Declaring.{begun, ended, body_begins, body_runs, class_ref, class_resource, class_named, class_runs, no_circle}
 use Rattle.catalog_semantics.specs.Declaring.{parents_of, class_declared, class_included, resource_declared, body_declared, bodies_declared}
 use Rattle.catalog_semantics.specs.Declaring.{known_type, resources_declared, classes_declared}
 use Rattle.catalog_semantics.specs.Functions.{Argument, arguments, class_names, held_in, before_container, contained, required}
@@ -117,7 +117,7 @@ sort_added s r = either s.main_has_ended
 
 stands_last : (r : Resource) (s : State) → is_plain_sort r.sort ≡ false → Each (λ t. IsContainerAt (length s.resources) t.resources) (added r s)
 stands_last r s container = step_each Q (is_new r s) _ (λ new. step_each Q (has_room r s) _ (λ room.
-    if_each Q _ (Err _) (Ok (with_resource s (as_added s r))) tt (as_added s r, (got_last s.resources (as_added s r), ap is_plain_sort (sort_added s r) ∙ container))))
+    step_each Q (within_size r.at (s.resources ++ as_added s r ∷ [])) _ (λ fits. (as_added s r, (got_last s.resources (as_added s r), ap is_plain_sort (sort_added s r) ∙ container)))))
   where
     Q : State → Type 0
     Q t = IsContainerAt (length s.resources) t.resources
@@ -170,9 +170,18 @@ module _ (R : State → State → Type 0) (frame : IsFrame R) where
 
   pub body_keeps : (run : Stmt → Effect) → ((x : Stmt) → Keeps R (run x)) → (d : Definition) (place : ℕ) (r : Resource) (scope : Scope) (s : State) → IsContainerAt place s.resources
       → Each (R s) (body_runs run d place r scope s)
-  body_keeps run h d place r scope s at = step_each (R s) (all_known r.at d.parameters r.attrs s) _ (λ known.
-      then_each (R (entering scope s)) (R s) (opened d r scope s) _ (opened_keeps d r scope s) (λ t k.
-      body_ends place scope s t at k (in_turn (map run d.body) (begun place t)) (all_keep run d.body h (begun place t))))
+  body_keeps run h d place r scope s at =
+      then_each Begins (R s) (body_begins d place r scope s) _ begins (λ t b.
+      subst (λ (w : State). Each (R s) (in_turn (map run d.body) w >>= λ u. Ok (ended s u))) (sym b.1)
+      (body_ends place scope s b.0 at b.2 (in_turn (map run d.body) (begun place b.0)) (all_keep run d.body h (begun place b.0))))
+    where
+      -- it begins behind what is kept
+      Begins : State → Type 0
+      Begins t = (v : State) × (t ≡ begun place v) × R (entering scope s) v
+
+      begins : Each Begins (body_begins d place r scope s)
+      begins = step_each Begins (all_known r.at d.parameters r.attrs s) _ (λ known.
+          then_each (R (entering scope s)) Begins (opened d r scope s) _ (opened_keeps d r scope s) (λ v k. (v, refl, k)))
 
   -- ---- classes
 

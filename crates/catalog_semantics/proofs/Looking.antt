@@ -2,6 +2,7 @@
 use Rattle.std.proofs.Common.{◌≡◌, ℕ, cond, List, [], ◌∷◌, map, Option, Result, Ok, Err, refl, ap, ◌∙◌}
 use Rattle.std.specs.List.{AllByRecursion}
 use Rattle.rh_base.specs.declared.fault.Refusal.{Refusal}
+use Rattle.host_limits.specs.declared.limits.Limits.{Limits}
 use Rattle.pp_syntax.specs.declared.tree.Param.{Param}
 use Rattle.pp_syntax.specs.declared.tree.Item.{Item}
 use Rattle.pp_syntax.specs.declared.tree.Item.TheVariants as item
@@ -42,9 +43,9 @@ module _ (find other : List ℕ → Option Value) where
   gathered_agrees (x ∷ items) site h = ap (λ (r : Result Site Refusal). r >>= gathered find items) (item_agrees x site h.0)
       ∙ goes_on (gathered find items) (gathered other items) (gathered_one other x site) (λ more. gathered_agrees items more h.1)
 
-pub catalogs_agree : (m : Manifest) (facts : Value) (node_name : List ℕ) (data_levels others : List Level)
+pub catalogs_agree : (m : Manifest) (facts : Value) (node_name : List ℕ) (data_levels others : List Level) (limits : Limits)
     → AgreeOn (lookup data_levels (pairs_in facts)) (lookup others (pairs_in facts)) m.items
-    → catalog_of m facts node_name data_levels ≡ catalog_of m facts node_name others
-catalogs_agree m facts node_name data_levels others h =
-    ap (λ (r : Result Site Refusal). (r >>= with_its_node) >>= λ site. catalog_from site m.items facts)
+    → catalog_of m facts node_name data_levels limits ≡ catalog_of m facts node_name others limits
+catalogs_agree m facts node_name data_levels others limits h =
+    ap (λ (r : Result Site Refusal). (r >>= with_its_node) >>= λ site. catalog_from site m.items facts limits)
     (gathered_agrees (lookup data_levels (pairs_in facts)) (lookup others (pairs_in facts)) m.items (no_definitions node_name) h)

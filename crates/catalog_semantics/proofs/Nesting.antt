@@ -31,7 +31,7 @@ use Rattle.catalog_semantics.specs.Sites.{Definition, Site}
 use Rattle.catalog_semantics.specs.Rooms.{Room, block_depth}
 use Rattle.catalog_semantics.specs.States.{State, Effect, in_turn, is_declared, is_new, added}
 use Rattle.catalog_semantics.specs.Attributes.{titles_at, attributes_at}
-use Rattle.catalog_semantics.specs.Declaring.{Bodies, within, body_in, all_known, opened, begun, body_runs, class_ref, class_resource, class_named}
+use Rattle.catalog_semantics.specs.Declaring.{Bodies, within, body_in, body_begins, body_runs, class_ref, class_resource, class_named}
 use Rattle.catalog_semantics.specs.Declaring.{class_runs, no_circle, parents_of, class_declared, class_included, body_declared}
 use Rattle.catalog_semantics.specs.Declaring.{bodies_declared, resources_declared, classes_declared}
 use Rattle.catalog_semantics.specs.Functions.{Argument, arguments, class_names, contained, required, included_then, each_class, calls}
@@ -66,9 +66,8 @@ body_deeper : (run more : Stmt → Effect) → ((x : Stmt) → AreDeeper (run x)
     → (d : Definition) (place : ℕ) (r : Resource) (scope : Scope)
     → AreDeeper (body_runs run d place r scope) (body_runs more d place r scope)
 body_deeper run more h d place r scope s =
-    on_deeper (all_known r.at d.parameters r.attrs s) _ _ (λ known. on_deeper (opened d r scope s) _ _ (λ t.
-    then_deeper (in_turn (map run d.body) (begun place t)) (in_turn (map more d.body) (begun place t)) _ _
-    (all_deeper run more h d.body (begun place t)) (λ u. inl refl)))
+    on_deeper (body_begins d place r scope s) _ _ (λ t.
+    then_deeper (in_turn (map run d.body) t) (in_turn (map more d.body) t) _ _ (all_deeper run more h d.body t) (λ u. inl refl))
 
 abbrev MayDeeper : Option (Stmt → Effect) → Option (Stmt → Effect) → Type 0
 MayDeeper None more = Unit {0}

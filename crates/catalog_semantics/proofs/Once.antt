@@ -7,11 +7,11 @@ use Rattle.pp_value.specs.declared.value.Ref.{Ref}
 use Rattle.pp_eval.specs.Verdicts.{◌>>=◌}
 use Rattle.catalog_semantics.specs.declared.catalog.Resource.{Resource}
 use Rattle.catalog_semantics.specs.Sites.{Site}
-use Rattle.catalog_semantics.specs.States.{State, Default, references_of, stands_in, is_declared, is_class, filled, as_added, with_resource}
-use Rattle.catalog_semantics.specs.States.{has_room, added}
+use Rattle.catalog_semantics.specs.States.{State, Default, references_of, stands_in, is_declared, is_class, filled, as_added}
+use Rattle.catalog_semantics.specs.States.{has_room, within_size, added}
 use Rattle.catalog_semantics.specs.Effects.{effect_of}
 use Rattle.catalog_semantics.specs.Frames.{Each, AreNewBehind, StandOnce}
-use Rattle.catalog_semantics.proofs.Keeping.{Keeps, IsFrame, step_each, if_each, bound_each, statement_keeps}
+use Rattle.catalog_semantics.proofs.Keeping.{Keeps, IsFrame, step_each, bound_each, statement_keeps}
 
 -- a test that refuses where it is true
 pub if_false : {A B : Type 0} (Q : B → Type 0) (b : Bool) (e : Refusal) (x : A) (f : A → Result B Refusal) → (b ≡ false → Each Q (f x))
@@ -47,7 +47,7 @@ refs_more (q ∷ resources) r = ap (λ (w : List Ref). q.id ∷ w) (refs_more re
 
 adds_once : (r : Resource) → Keeps StandStill (added r)
 adds_once r s = if_false (StandStill s) (is_declared r.id s) _ s _ (λ new. step_each (StandStill s) (has_room r s) _ (λ room.
-    if_each (StandStill s) _ (Err _) (Ok (with_resource s (as_added s r))) tt (λ h.
+    step_each (StandStill s) (within_size r.at (s.resources ++ as_added s r ∷ [])) _ (λ fits h.
     subst StandOnce (sym (refs_more s.resources (as_added s r) ∙ ap (λ (w : Ref). references_of s.resources ++ w ∷ []) (added_id s r)))
     (new_behind [] (references_of s.resources) r.id h new))))
 

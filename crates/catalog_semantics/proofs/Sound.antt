@@ -4,6 +4,7 @@ use Rattle.std.specs.Prelude.{filter}
 use Rattle.std.specs.List.{AllByRecursion}
 use Rattle.std.specs.Str.{bytes_eq}
 use Rattle.rh_base.specs.declared.fault.Refusal.{Refusal}
+use Rattle.host_limits.specs.declared.limits.Limits.{Limits}
 use Rattle.pp_syntax.specs.declared.tree.Manifest.{Manifest}
 use Rattle.pp_value.specs.declared.value.Value.{Value}
 use Rattle.pp_value.specs.Values.{Pair, HasDistinctKeys}
@@ -12,16 +13,16 @@ use Rattle.pp_eval.specs.Scoping.{pairs_in}
 use Rattle.pp_data.specs.declared.data.Level.{Level}
 use Rattle.catalog_semantics.specs.declared.catalog.Resource.{Resource}
 use Rattle.catalog_semantics.specs.Sites.{site_of}
-use Rattle.catalog_semantics.specs.States.{State, Default, defaults_of, lacks, is_class, filled, as_added, with_resource, is_new, has_room}
-use Rattle.catalog_semantics.specs.States.{has_size, added}
+use Rattle.catalog_semantics.specs.States.{State, Default, defaults_of, lacks, is_class, filled, as_added, is_new, has_room}
+use Rattle.catalog_semantics.specs.States.{within_size, added}
 use Rattle.catalog_semantics.specs.Attributes.{names_of, AreClean, AreDistinct}
 use Rattle.catalog_semantics.proofs.DistinctNames.{distinct_behind, distinct_filled}
 use Rattle.std.proofs.lemmas.List.{append-nil}
 use Rattle.std.proofs.lemmas.Slice.Eq.{bytes_eq-Decides}
-use Rattle.catalog_semantics.specs.Catalogs.{filled_behind, main_ended, first_state, is_called_for, made_real, state_after, round_limit}
+use Rattle.catalog_semantics.specs.Catalogs.{filled_behind, first_state, is_called_for, made_real, state_after, round_limit}
 use Rattle.catalog_semantics.specs.Catalogs.{all_there, few_enough, Catalog, catalog_in, catalog_of}
 use Rattle.catalog_semantics.specs.Frames.{Each, IsSound, AreSound}
-use Rattle.catalog_semantics.proofs.Keeping.{Keeps, step_each, then_each, if_each, bound_each}
+use Rattle.catalog_semantics.proofs.Keeping.{Keeps, step_each, then_each, bound_each}
 use Rattle.catalog_semantics.proofs.Clean.{both_clean}
 use Rattle.catalog_semantics.proofs.Whole.{IsWholeFrame, whole_keeps, few_is}
 
@@ -100,24 +101,24 @@ named_more kind attributes defaults named fit k =
 
 adds_sound : (r : Resource) → IsSound r → Keeps StaySound (added r)
 adds_sound r sound s = step_each (StaySound s) (is_new r s) _ (λ new. step_each (StaySound s) (has_room r s) _ (λ room.
-    if_each (StaySound s) _ (Err _) (Ok (with_resource s (as_added s r))) tt (λ h. record {
+    step_each (StaySound s) (within_size r.at (s.resources ++ as_added s r ∷ [])) _ (λ fits h. record {
       resources =
           each_more IsSound s.resources (as_added s r) h.resources
           (if_sound s.main_has_ended (filled s.defaults r) r (filled_sound s.defaults r h.defaults sound) sound);
       defaults = h.defaults;
     })))
 
-fills_sound : (done resources : List Resource) (s : State) → SoundDefaults s.defaults
-    → AreSound done → AreSound resources → Each SoundState (filled_behind done resources s)
-fills_sound done [] s d h k = record { resources = h; defaults = d }
-fills_sound done (r ∷ resources) s d h k =
-    step_each SoundState (has_size r.at (record s { resources = done ++ filled s.defaults r ∷ resources })) _ (λ fits.
-    fills_sound (done ++ filled s.defaults r ∷ []) resources s d
-    (each_more IsSound done (filled s.defaults r) h (filled_sound s.defaults r d k.0)) k.1)
+fills_sound : (defaults : List Default) (done resources : List Resource) → SoundDefaults defaults
+    → AreSound done → AreSound resources → Each AreSound (filled_behind defaults done resources)
+fills_sound defaults done [] d h k = h
+fills_sound defaults done (r ∷ resources) d h k =
+    step_each AreSound (within_size r.at (done ++ filled defaults r ∷ resources)) _ (λ fits.
+    fills_sound defaults (done ++ filled defaults r ∷ []) resources d
+    (each_more IsSound done (filled defaults r) h (filled_sound defaults r d k.0)) k.1)
 
-under : (P Q : State → Type 0) (A : Type 0) (x : Result State Refusal) → (A → Each Q x) → Each (λ t. A → Q t) x
-under P Q A (Ok t) h = h
-under P Q A (Err e) h = tt
+under : {X : Type 0} (Q : X → Type 0) (A : Type 0) (x : Result X Refusal) → (A → Each Q x) → Each (λ t. A → Q t) x
+under Q A (Ok t) h = h
+under Q A (Err e) h = tt
 
 real_sound : (s : State) (resources : List Resource) → AreSound resources → AreSound (map (made_real s) resources)
 real_sound s [] h = tt
@@ -150,8 +151,9 @@ whole_sound = record {
         };
     enters = λ s h. record { resources = h.resources; defaults = h.defaults };
     fills =
-        λ s. under SoundState SoundState (SoundState s) (main_ended s)
-        (λ h. fills_sound [] s.resources (record s { main_has_ended = true }) h.defaults tt h.resources);
+        λ s. then_each (λ (all : List Resource). SoundState s → AreSound all) (StaySound s) (filled_behind s.defaults [] s.resources) _
+        (under AreSound (SoundState s) (filled_behind s.defaults [] s.resources) (λ h. fills_sound s.defaults [] s.resources h.defaults tt h.resources))
+        (λ all sound h. record { resources = sound h; defaults = h.defaults });
   };
   realizes = λ s h. record { resources = real_sound s s.resources h.resources; defaults = h.defaults };
   marks = λ place s h. record { resources = h.resources; defaults = h.defaults };
@@ -165,10 +167,10 @@ ends_sound t h = step_each CatalogSound (all_there t.pending t) _ (λ there.
     then_each (λ (u : State). u ≡ t) CatalogSound (few_enough t) _ (few_is t)
     (λ u e. subst (λ (w : State). AreSound w.resources) (sym e) h.resources))
 
-pub catalog_sound : (m : Manifest) (facts : Value) (node_name : List ℕ) (data_levels : List Level) (c : Catalog)
-    → catalog_of m facts node_name data_levels ≡ Ok c → AreSound c.resources
-catalog_sound m facts node_name data_levels c h =
+pub catalog_sound : (m : Manifest) (facts : Value) (node_name : List ℕ) (data_levels : List Level) (limits : Limits) (c : Catalog)
+    → catalog_of m facts node_name data_levels limits ≡ Ok c → AreSound c.resources
+catalog_sound m facts node_name data_levels limits c h =
     subst (Each CatalogSound) h (step_each CatalogSound (site_of m data_levels (pairs_in facts) node_name) _ (λ site.
-    then_each (StaySound (first_state facts)) CatalogSound (state_after round_limit site m.items facts) _
-    (whole_keeps StaySound whole_sound site m.items round_limit (first_state facts))
+    then_each (StaySound (first_state facts limits)) CatalogSound (state_after (round_limit limits) site m.items facts limits) _
+    (whole_keeps StaySound whole_sound site m.items (round_limit limits) (first_state facts limits))
     (λ t k. ends_sound t (k (record { resources = tt; defaults = record { clean = tt; named = λ kind. tt } })))))

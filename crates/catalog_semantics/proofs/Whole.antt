@@ -3,6 +3,7 @@ use Rattle.std.proofs.Common.{◌≡◌, ℕ, zero, suc, Bool, true, false, cond
 use Rattle.std.proofs.Common.{refl, sym, ap, subst, ◌∙◌, append_assoc}
 use Rattle.std.proofs.lemmas.List.{append-nil}
 use Rattle.rh_base.specs.declared.fault.Refusal.{Refusal}
+use Rattle.host_limits.specs.declared.limits.Limits.{Limits}
 use Rattle.pp_syntax.specs.declared.tree.Attr.{Attr}
 use Rattle.pp_syntax.specs.declared.tree.Item.{Item}
 use Rattle.pp_syntax.specs.declared.tree.Item.TheVariants as item
@@ -16,7 +17,7 @@ use Rattle.pp_eval.specs.Scoping.{entered, node_scope_new, defined_scope, pairs_
 use Rattle.pp_data.specs.declared.data.Level.{Level}
 use Rattle.catalog_semantics.specs.declared.catalog.Resource.{Resource}
 use Rattle.catalog_semantics.specs.Sites.{Definition, Node, Site, site_of, definition_of, node_block}
-use Rattle.catalog_semantics.specs.States.{State, Effect, in_turn, references_of, defaults_of, filled, has_size}
+use Rattle.catalog_semantics.specs.States.{State, Default, Effect, in_turn, references_of, defaults_of, filled, within_size}
 use Rattle.catalog_semantics.specs.Attributes.{attributes_behind, names_of, AreFit}
 use Rattle.catalog_semantics.proofs.DistinctNames.{all_fit}
 use Rattle.catalog_semantics.specs.Declaring.{named_type}
@@ -137,27 +138,33 @@ module _ (R : State → State → Type 0) (whole : IsWholeFrame R) (site : Site)
 
 -- ---- references
 
--- the references of these resources, and what has run
-abbrev pub Same : List Resource → State → State → Type 0
-Same resources s t = (references_of t.resources ≡ references_of resources) × (t.ran ≡ s.ran)
+-- the references of these resources
+abbrev SameRefs : List Resource → List Resource → Type 0
+SameRefs resources all = references_of all ≡ references_of resources
 
-fills_same : (done resources : List Resource) (s : State) → Each (Same (done ++ resources) s) (filled_behind done resources s)
-fills_same done [] s = (ap references_of (sym (append-nil done)), refl)
-fills_same done (r ∷ resources) s =
-    step_each _ (has_size r.at (record s { resources = done ++ filled s.defaults r ∷ resources })) _ (λ fits.
-    behind (filled_behind (done ++ filled s.defaults r ∷ []) resources s) (fills_same (done ++ filled s.defaults r ∷ []) resources s))
+-- the same references, what has run, and the limits
+abbrev pub Same : State → State → Type 0
+Same s t = SameRefs s.resources t.resources × (t.ran ≡ s.ran) × (t.limits ≡ s.limits)
+
+fills_same : (defaults : List Default) (done resources : List Resource) → Each (SameRefs (done ++ resources)) (filled_behind defaults done resources)
+fills_same defaults done [] = ap references_of (sym (append-nil done))
+fills_same defaults done (r ∷ resources) =
+    step_each _ (within_size r.at (done ++ filled defaults r ∷ resources)) _ (λ fits.
+    behind (filled_behind defaults (done ++ filled defaults r ∷ []) resources) (fills_same defaults (done ++ filled defaults r ∷ []) resources))
   where
-    same_refs : (done : List Resource) → references_of (done ++ filled s.defaults r ∷ resources) ≡ references_of (done ++ r ∷ resources)
-    same_refs [] = ap (λ (w : Ref). w ∷ references_of resources) (filled_id s.defaults r)
+    same_refs : (done : List Resource) → references_of (done ++ filled defaults r ∷ resources) ≡ references_of (done ++ r ∷ resources)
+    same_refs [] = ap (λ (w : Ref). w ∷ references_of resources) (filled_id defaults r)
     same_refs (q ∷ done) = ap (λ (w : List Ref). q.id ∷ w) (same_refs done)
 
-    behind : (x : Result State Refusal) → Each (Same ((done ++ filled s.defaults r ∷ []) ++ resources) s) x
-        → Each (Same (done ++ r ∷ resources) s) x
-    behind (Ok t) h = (h.0 ∙ ap references_of (append_assoc done (filled s.defaults r ∷ []) resources) ∙ same_refs done, h.1)
+    behind : (x : Result (List Resource) Refusal) → Each (SameRefs ((done ++ filled defaults r ∷ []) ++ resources)) x
+        → Each (SameRefs (done ++ r ∷ resources)) x
+    behind (Ok all) h = h ∙ ap references_of (append_assoc done (filled defaults r ∷ []) resources) ∙ same_refs done
     behind (Err e) h = tt
 
-pub ends_same : (s : State) → Each (Same s.resources s) (main_ended s)
-ends_same s = fills_same [] s.resources (record s { main_has_ended = true })
+pub ends_same : (s : State) → Each (Same s) (main_ended s)
+ends_same s =
+    then_each (SameRefs s.resources) (Same s) (filled_behind s.defaults [] s.resources) _ (fills_same s.defaults [] s.resources)
+    (λ all same. (same, refl, refl))
 
 real_id : (s : State) (r : Resource) → (made_real s r).id ≡ r.id
 real_id s r = either (is_called_for s r)
@@ -179,7 +186,7 @@ main_standing = record {
   frame = standing;
   gives = λ kind attributes s fit h. h;
   enters = λ s h. h;
-  fills = λ s. mapped (Same s.resources s) (StandStill s) (main_ended s) (λ t e h. subst StandOnce (sym e.0) h) (ends_same s);
+  fills = λ s. mapped (Same s) (StandStill s) (main_ended s) (λ t e h. subst StandOnce (sym e.0) h) (ends_same s);
 }
 
 pub whole_standing : IsWholeFrame StandStill
@@ -207,14 +214,14 @@ ends_standing t h = step_each CatalogStands (all_there t.pending t) _ (λ there.
     then_each (λ (u : State). u ≡ t) CatalogStands (few_enough t) _ (few_is t)
     (λ u e. subst (λ (w : State). StandOnce (references_of w.resources)) (sym e) h))
 
-from_standing : (site : Site) (items : List Item) (facts : Value) → Each CatalogStands (catalog_from site items facts)
-from_standing site items facts =
-    then_each (StandStill (first_state facts)) CatalogStands (state_after round_limit site items facts) _
-    (whole_keeps StandStill whole_standing site items round_limit (first_state facts)) (λ t k. ends_standing t (k tt))
+from_standing : (site : Site) (items : List Item) (facts : Value) (limits : Limits) → Each CatalogStands (catalog_from site items facts limits)
+from_standing site items facts limits =
+    then_each (StandStill (first_state facts limits)) CatalogStands (state_after (round_limit limits) site items facts limits) _
+    (whole_keeps StandStill whole_standing site items (round_limit limits) (first_state facts limits)) (λ t k. ends_standing t (k tt))
 
 -- Each reference stands once in the catalog of a manifest.
-pub catalog_stands : (m : Manifest) (facts : Value) (node_name : List ℕ) (data_levels : List Level) (c : Catalog)
-    → catalog_of m facts node_name data_levels ≡ Ok c → StandOnce (references_of c.resources)
-catalog_stands m facts node_name data_levels c h =
+pub catalog_stands : (m : Manifest) (facts : Value) (node_name : List ℕ) (data_levels : List Level) (limits : Limits) (c : Catalog)
+    → catalog_of m facts node_name data_levels limits ≡ Ok c → StandOnce (references_of c.resources)
+catalog_stands m facts node_name data_levels limits c h =
     subst (Each CatalogStands) h (step_each CatalogStands (site_of m data_levels (pairs_in facts) node_name) _
-    (λ site. from_standing site m.items facts))
+    (λ site. from_standing site m.items facts limits))

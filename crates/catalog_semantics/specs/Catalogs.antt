@@ -2,8 +2,9 @@
 use Rattle.std.specs.Prelude.{◌≡◌, ℕ, suc, zero, ◌+◌, Bool, true, false, ◌||◌, ◌&&◌, ◌==◌, not, nat_lt, if◌then◌else◌, List, [], ◌∷◌, ◌++◌}
 use Rattle.std.specs.Prelude.{map, filter, length, slice_get, codes, Option, Some, None, Result, Ok, Err}
 use Rattle.std.specs.List.{list_any}
-use Rattle.rh_base.specs.declared.limits.TheConstants.{RESOURCES}
 use Rattle.rh_base.specs.declared.fault.Refusal.{Refusal}
+use Rattle.host_limits.specs.declared.limits.Limits.{Limits}
+use Rattle.host_limits.specs.Limits.{declared_limit, resource_limit}
 use Rattle.pp_syntax.specs.declared.tree.Attr.{Attr}
 use Rattle.pp_syntax.specs.declared.tree.Item.{Item}
 use Rattle.pp_syntax.specs.declared.tree.Item.TheVariants as item
@@ -21,12 +22,13 @@ use Rattle.catalog_semantics.specs.declared.catalog.Sort.TheVariants as sort
 use Rattle.catalog_semantics.specs.declared.catalog.Resource.{Resource}
 use Rattle.catalog_semantics.specs.declared.catalog.Relation.{Relation}
 use Rattle.catalog_semantics.specs.declared.state.Collector.{Collector}
+use Rattle.catalog_semantics.specs.declared.state.Default.{Default}
 use Rattle.catalog_semantics.specs.declared.state.Pending.{Pending}
 use Rattle.catalog_semantics.specs.declared.state.Side.{Side}
 use Rattle.catalog_semantics.specs.declared.state.Side.TheVariants as side
 use Rattle.catalog_semantics.specs.declared.state.Tie.{Tie}
 use Rattle.catalog_semantics.specs.Sites.{Definition, Node, Site, site_of, definition_of, node_block}
-use Rattle.catalog_semantics.specs.States.{Holding, State, Effect, in_turn, is_declared, defaults_of, filled, has_size, declared_limit}
+use Rattle.catalog_semantics.specs.States.{Holding, State, Effect, in_turn, is_declared, defaults_of, filled, within_size}
 use Rattle.catalog_semantics.specs.Attributes.{attributes_behind, names_of}
 use Rattle.catalog_semantics.specs.Declaring.{named_type, body_runs}
 use Rattle.catalog_semantics.specs.Collecting.{matches}
@@ -46,11 +48,11 @@ default_given site at kind attrs s = do
   Ok (with_default known attributes s)
 
 -- the first resources of these have their defaults, and the others not yet
-abbrev pub filled_behind : List Resource → List Resource → State → Result State Refusal
-filled_behind done [] s = Ok (record s { resources = done })
-filled_behind done (r ∷ resources) s = do
-  _ ← has_size r.at (record s { resources = done ++ filled s.defaults r ∷ resources })
-  filled_behind (done ++ filled s.defaults r ∷ []) resources s
+abbrev pub filled_behind : List Default → List Resource → List Resource → Result (List Resource) Refusal
+filled_behind defaults done [] = Ok done
+filled_behind defaults done (r ∷ resources) = do
+  _ ← within_size r.at (done ++ filled defaults r ∷ resources)
+  filled_behind defaults (done ++ filled defaults r ∷ []) resources
 
 -- ---- the main code
 
@@ -69,12 +71,15 @@ node_effect site (Some node) s = in_turn (map (effect_of site) node.body) (recor
 
 -- Defaults take hold.
 abbrev pub main_ended : Effect
-main_ended s = filled_behind [] s.resources (record s { main_has_ended = true })
+main_ended s = do
+  resources ← filled_behind s.defaults [] s.resources
+  Ok (record s { main_has_ended = true; resources = resources })
 
 -- nothing is declared, and the facts stand at the top
-abbrev pub first_state : Value → State
-first_state facts =
+abbrev pub first_state : Value → Limits → State
+first_state facts limits =
     record {
+      limits = limits;
       running = None;
       main_has_ended = false;
       scopes = at_start facts;
@@ -150,14 +155,14 @@ rounds zero site s = Ok s
 rounds (suc n) site s = run_and_go_on site (rounds n site) (next_due (realized s) 0 (realized s).resources) (realized s)
 
 -- the state after the main code and as many rounds
-abbrev pub state_after : ℕ → Site → List Item → Value → Result State Refusal
-state_after n site items facts = do
-  s ← main_code site items (first_state facts)
+abbrev pub state_after : ℕ → Site → List Item → Value → Limits → Result State Refusal
+state_after n site items facts limits = do
+  s ← main_code site items (first_state facts limits)
   rounds n site s
 
 -- As many rounds as resources may be declared, and one more, are all.
-abbrev pub round_limit : ℕ
-round_limit = declared_limit + 1
+abbrev pub round_limit : Limits → ℕ
+round_limit limits = declared_limit limits + 1
 
 -- ---- after the rounds
 
@@ -165,10 +170,6 @@ round_limit = declared_limit + 1
 abbrev pub all_there : List Pending → State → Result State Refusal
 all_there [] s = Ok s
 all_there (p ∷ pending) s = if is_declared p.target s then all_there pending s else Err (refusal 40 p.at (shown_ref p.target))
-
--- the greatest number of real resources of built-in types
-abbrev pub resource_limit : ℕ
-resource_limit = RESOURCES
 
 abbrev pub is_plain_sort : Sort → Bool
 is_plain_sort sort.Plain = true
@@ -181,7 +182,7 @@ real_plain resources = filter (λ r. is_plain_sort r.sort && not r.is_virtual) r
 
 -- no more of them than there may be
 abbrev pub few_enough : State → Result State Refusal
-few_enough s = if nat_lt resource_limit (length (real_plain s.resources)) then Err (refusal 32 0 (codes "resources")) else Ok s
+few_enough s = if nat_lt (resource_limit s.limits) (length (real_plain s.resources)) then Err (refusal 32 0 (codes "resources")) else Ok s
 
 -- ---- the catalog
 
@@ -208,18 +209,18 @@ abbrev pub catalog_in : State → Catalog
 catalog_in s = record { resources = s.resources; holdings = s.holdings; relations = map (relation_of s) s.ties }
 
 -- the main code of a manifest, the rounds, and what is asked then
-abbrev pub catalog_from : Site → List Item → Value → Result Catalog Refusal
-catalog_from site items facts = do
-  t ← state_after round_limit site items facts
+abbrev pub catalog_from : Site → List Item → Value → Limits → Result Catalog Refusal
+catalog_from site items facts limits = do
+  t ← state_after (round_limit limits) site items facts limits
   _ ← all_there t.pending t
   u ← few_enough t
   Ok (catalog_in u)
 
--- the catalog of a manifest for a node, under facts and class data
-abbrev pub catalog_of : Manifest → Value → List ℕ → List Level → Result Catalog Refusal
-catalog_of m facts node_name data_levels = do
+-- the catalog of a manifest for a node, under facts and class data, within limits
+abbrev pub catalog_of : Manifest → Value → List ℕ → List Level → Limits → Result Catalog Refusal
+catalog_of m facts node_name data_levels limits = do
   site ← site_of m data_levels (pairs_in facts) node_name
-  catalog_from site m.items facts
+  catalog_from site m.items facts limits
 
 -- Another round changes nothing: what is called for is real, and nothing is due.
 pub record IsSettled (s : State) : Type 0 where

@@ -110,12 +110,18 @@ begun place s = record s { running = Some place }
 abbrev pub ended : State → State → State
 ended before s = record s { running = before.running; scopes = left s.scopes }
 
+-- The attributes name parameters, a new scope is entered, and there the parameters are bound.
+abbrev pub body_begins : Definition → ℕ → Resource → Scope → Effect
+body_begins d place r scope s = do
+  _ ← all_known r.at d.parameters r.attrs s
+  t ← opened d r scope s
+  Ok (begun place t)
+
 -- the body of a class or of a defined resource, which stands at a place, in a new scope
 abbrev pub body_runs : (Stmt → Effect) → Definition → ℕ → Resource → Scope → Effect
 body_runs run d place r scope s = do
-  _ ← all_known r.at d.parameters r.attrs s
-  t ← opened d r scope s
-  u ← in_turn (map run d.body) (begun place t)
+  t ← body_begins d place r scope s
+  u ← in_turn (map run d.body) t
   Ok (ended s u)
 
 -- ---- classes

@@ -2,6 +2,8 @@
 use Rattle.std.specs.Prelude.{◌≡◌, ◌≤◌, ℕ, length, slice_get, true, false, Option, Some, List, [], ◌∷◌, ◌++◌, Result, Ok, Err}
 use Rattle.std.specs.List.{AllByRecursion}
 use Rattle.rh_base.specs.declared.fault.Refusal.{Refusal}
+use Rattle.host_limits.specs.declared.limits.Limits.{Limits}
+use Rattle.host_limits.specs.Limits.{declared_limit}
 use Rattle.pp_syntax.specs.declared.tree.Item.{Item}
 use Rattle.pp_syntax.specs.declared.tree.Item.TheVariants as item
 use Rattle.pp_value.specs.declared.value.Ref.{Ref}
@@ -13,7 +15,7 @@ use Rattle.catalog_semantics.specs.Attributes.{AreClean}
 use Rattle.catalog_semantics.specs.Sites.{is_built_in}
 use Rattle.catalog_semantics.specs.Catalogs.{is_plain_sort}
 use Rattle.pp_data.specs.Lookup.{key_of}
-use Rattle.catalog_semantics.specs.States.{State, stands_in, declared_limit}
+use Rattle.catalog_semantics.specs.States.{State, stands_in}
 
 -- so of what is given, if anything is
 abbrev pub Each : {A : Type 0} → (A → Type 0) → Result A Refusal → Type 0
@@ -22,6 +24,7 @@ Each P (Err r) = Unit {0}
 
 -- What a statement leaves: nothing that stands is taken away or changed, and it ends in the scope and in the body where it began.
 pub record Extends (s t : State) : Type 0 where
+  pub limits : t.limits ≡ s.limits
   pub running : t.running ≡ s.running
   pub main_has_ended : t.main_has_ended ≡ s.main_has_ended
   pub scopes : ScopesExtend s.scopes t.scopes
@@ -55,9 +58,9 @@ AgreeOnItem find other (item.Plain s) = Unit {0}
 abbrev pub AgreeOn : (List ℕ → Option Value) → (List ℕ → Option Value) → List Item → Type 0
 AgreeOn find other items = AllByRecursion (AgreeOnItem find other) items
 
--- at most as many resources as may be declared
-abbrev pub Fits : State → Type 0
-Fits s = length s.resources ≤ declared_limit
+-- These are the limits, and at most as many resources are declared as they let.
+abbrev pub Fits : Limits → State → Type 0
+Fits limits s = (s.limits ≡ limits) × (length s.resources ≤ declared_limit limits)
 
 -- The attributes are clean, and no name of them stands twice.
 abbrev pub AreSoundAttributes : List Pair → Type 0

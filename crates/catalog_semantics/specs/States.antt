@@ -3,8 +3,10 @@ use Rattle.std.specs.Prelude.{ℕ, ◌+◌, Bool, true, false, nat_lt, if◌then
 use Rattle.std.specs.Prelude.{Option, Some, None, Result, Ok, Err}
 use Rattle.std.specs.List.{list_any}
 use Rattle.std.specs.Str.{bytes_eq}
-use Rattle.rh_base.specs.declared.limits.TheConstants.{DECLARED, ATTRIBUTES_SIZE}
+use Rattle.rh_base.specs.declared.limits.TheConstants.{ATTRIBUTES_SIZE}
 use Rattle.rh_base.specs.declared.fault.Refusal.{Refusal}
+use Rattle.host_limits.specs.declared.limits.TheConstants.{HOST_DECLARED}
+use Rattle.host_limits.specs.Limits.{declared_limit}
 use Rattle.pp_value.specs.declared.value.Ref.{Ref}
 use Rattle.pp_value.specs.declared.value.Value.{Value}
 use Rattle.pp_value.specs.Values.{Pair, value_at, same_ref, size_of}
@@ -64,9 +66,9 @@ place_from n ref (q ∷ refs) = if same_ref q ref then Some n else place_from (n
 abbrev pub place_of : Ref → List Resource → Option ℕ
 place_of ref resources = place_from 0 ref (references_of resources)
 
--- the greatest number of declared resources and classes, virtual ones too
-abbrev pub declared_limit : ℕ
-declared_limit = DECLARED
+-- the greatest number of declared resources and classes, virtual ones too, whatever the limits are
+abbrev pub declared_bound : ℕ
+declared_bound = HOST_DECLARED
 
 -- the greatest sum of the sizes of all attribute values
 abbrev pub attributes_limit : ℕ
@@ -79,6 +81,10 @@ size_of_attributes (p ∷ pairs) = size_of p.1 + size_of_attributes pairs
 abbrev pub size_of_resources : List Resource → ℕ
 size_of_resources [] = 0
 size_of_resources (r ∷ resources) = size_of_attributes r.attrs + size_of_resources resources
+
+-- these resources, unless all their attributes together are too large
+abbrev pub within_size : ℕ → List Resource → Result (List Resource) Refusal
+within_size at resources = if nat_lt attributes_limit (size_of_resources resources) then Err (refusal 32 at (codes "attributes")) else Ok resources
 
 -- ---- defaults
 
@@ -123,18 +129,15 @@ is_new r s = if is_declared r.id s then Err (refusal 24 r.at (shown_ref r.id)) e
 
 -- there is room for one more resource
 abbrev pub has_room : Resource → State → Result State Refusal
-has_room r s = if nat_lt (length s.resources) declared_limit then Ok s else Err (refusal 32 r.at (codes "declared"))
-
--- the attributes of all resources aren't too large
-abbrev pub has_size : ℕ → State → Result State Refusal
-has_size at s = if nat_lt attributes_limit (size_of_resources s.resources) then Err (refusal 32 at (codes "attributes")) else Ok s
+has_room r s = if nat_lt (length s.resources) (declared_limit s.limits) then Ok s else Err (refusal 32 r.at (codes "declared"))
 
 -- one more resource, of a new reference, where there is room for it and for its attributes
 abbrev pub added : Resource → Effect
 added r s = do
   _ ← is_new r s
   _ ← has_room r s
-  has_size r.at (with_resource s (as_added s r))
+  _ ← within_size r.at (s.resources ++ as_added s r ∷ [])
+  Ok (with_resource s (as_added s r))
 
 -- ---- what is left for the rounds
 

@@ -3,6 +3,7 @@
 ghost use Rattle.std.specs.Prelude.{◌≡◌, ◌↔◌, ◌≤◌, ℕ, true, false, ◌&&◌, Option};
 ghost use Rattle.std.specs.Prelude.{not, if◌then◌else◌, List, map, slice_get, Some, None, Ok, Err};
 ghost use Rattle.rh_base.specs.declared.fault.Refusal.{Refusal};
+ghost use Rattle.host_limits.specs.declared.limits.Limits.{Limits};
 ghost use Rattle.pp_syntax.specs.declared.tree.Item.{Item};
 ghost use Rattle.pp_syntax.specs.declared.tree.Manifest.{Manifest};
 ghost use Rattle.std.specs.List.{flat_map};
@@ -57,8 +58,8 @@ pub fn references_stay_apart()
 
 /// In a catalog each reference stands once.
 pub fn references_stand_once()
-    ensures { (m : Manifest) (facts : Value) (node_name : List ℕ) (data_levels : List Level) (c : Catalog)
-        → catalog_of m facts node_name data_levels ≡ Ok c → StandOnce (references_of c.resources) }
+    ensures { (m : Manifest) (facts : Value) (node_name : List ℕ) (data_levels : List Level) (limits : Limits) (c : Catalog)
+        → catalog_of m facts node_name data_levels limits ≡ Ok c → StandOnce (references_of c.resources) }
 {}
 
 /// A class's body runs only where the class isn't declared yet. What is declared stays so, and to include a class that is
@@ -74,18 +75,18 @@ pub fn bodies_run_once()
 /// Class data whose look-ups agree, under the facts, for every parameter of every class that the manifest defines,
 /// give one catalog or one refusal.
 pub fn equal_look_ups_give_one_catalog()
-    ensures { (m : Manifest) (facts : Value) (node_name : List ℕ) (data_levels others : List Level)
+    ensures { (m : Manifest) (facts : Value) (node_name : List ℕ) (data_levels others : List Level) (limits : Limits)
         → AgreeOn (lookup data_levels (pairs_in facts)) (lookup others (pairs_in facts)) m.items
-        → catalog_of m facts node_name data_levels ≡ catalog_of m facts node_name others }
+        → catalog_of m facts node_name data_levels limits ≡ catalog_of m facts node_name others limits }
 {}
 
 /// The rounds end: as many as resources may be declared, and one more, are enough, and further ones change nothing. Then what
 /// is called for is real, and nothing is due.
 pub fn rounds_end()
-    ensures settled { (site : Site) (items : List Item) (facts : Value) (t : State) → state_after round_limit site items facts ≡ Ok t
-        → IsSettled t }
-    ensures enough { (site : Site) (items : List Item) (facts : Value) (n : ℕ) → round_limit ≤ n
-        → state_after n site items facts ≡ state_after round_limit site items facts }
+    ensures settled { (site : Site) (items : List Item) (facts : Value) (limits : Limits) (t : State)
+        → state_after (round_limit limits) site items facts limits ≡ Ok t → IsSettled t }
+    ensures enough { (site : Site) (items : List Item) (facts : Value) (limits : Limits) (n : ℕ) → round_limit limits ≤ n
+        → state_after n site items facts limits ≡ state_after (round_limit limits) site items facts limits }
 {}
 
 /// What more room for open bodies and blocks may change is only that too much was declared.
@@ -160,8 +161,8 @@ pub fn references_have_one_place()
 
 /// In a catalog no attribute holds an opaque value, a metaparameter's value is references, and a plain resource is of a built-in type.
 pub fn catalogs_are_sound()
-    ensures { (m : Manifest) (facts : Value) (node_name : List ℕ) (data_levels : List Level) (c : Catalog)
-        → catalog_of m facts node_name data_levels ≡ Ok c → AreSound c.resources }
+    ensures { (m : Manifest) (facts : Value) (node_name : List ℕ) (data_levels : List Level) (limits : Limits) (c : Catalog)
+        → catalog_of m facts node_name data_levels limits ≡ Ok c → AreSound c.resources }
 {}
 
 /// A class is refused for its parents exactly where their chain meets a class twice.

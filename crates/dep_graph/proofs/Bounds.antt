@@ -5,7 +5,7 @@ use Rattle.std.specs.List.{All, Contains}
 use Rattle.std.proofs.lemmas.List.Elements.{Contains-get_or}
 use Rattle.catalog_semantics.specs.declared.catalog.Resource.{Resource}
 use Rattle.catalog_semantics.specs.Catalogs.{Catalog, is_plain_sort}
-use Rattle.catalog_semantics.specs.States.{declared_limit}
+use Rattle.catalog_semantics.specs.States.{declared_bound}
 use Rattle.graph_semantics.specs.Graphs.{Node, rank, plain_from, plain_places}
 use Rattle.graph_semantics.specs.Allowed.{IsNode}
 use Rattle.dep_graph.specs.Files.{AreFiles}
@@ -19,13 +19,13 @@ use Rattle.dep_graph.proofs.NamedLaws.{all_from}
 pub place_within : (c : Catalog) (k : ℕ) → Contains (plain_places c) k → k < length c.resources
 place_within c k h = let at = plain_at c k h in within c k at.0 at.1.real
 
-pub places_small : (c : Catalog) → length c.resources ≤ declared_limit → All (λ p. p < declared_limit) (plain_places c)
-places_small c few = all_from (λ p. p < declared_limit) (plain_places c) (λ k h. let less = place_within c k h in omega arith)
+pub places_small : (c : Catalog) → length c.resources ≤ declared_bound → All (λ p. p < declared_bound) (plain_places c)
+places_small c few = all_from (λ p. p < declared_bound) (plain_places c) (λ k h. let less = place_within c k h in omega arith)
 
-pub files_small : (c : Catalog) (files : List ManagedFile) → length c.resources ≤ declared_limit → AreFiles c (plain_places c) files → All (λ f. f.place < declared_limit) files
-files_small c files few are = all_from (λ (f : ManagedFile). f.place < declared_limit) files (λ f h. let less = place_within c f.place ((are f).0 h).place in omega arith)
+pub files_small : (c : Catalog) (files : List ManagedFile) → length c.resources ≤ declared_bound → AreFiles c (plain_places c) files → All (λ f. f.place < declared_bound) files
+files_small c files few are = all_from (λ (f : ManagedFile). f.place < declared_bound) files (λ f h. let less = place_within c f.place ((are f).0 h).place in omega arith)
 
-pub places_within : (c : Catalog) (count : ℕ) → length c.resources ≤ declared_limit → bound_of c ≤ count → All (IsWithin count) (plain_places c)
+pub places_within : (c : Catalog) (count : ℕ) → length c.resources ≤ declared_bound → bound_of c ≤ count → All (IsWithin count) (plain_places c)
 places_within c count few enough =
     all_from (IsWithin count) (plain_places c) (λ k h. let less = place_within c k h in record { node = omega arith; few = omega arith })
 
@@ -39,7 +39,7 @@ shorter n (r ∷ resources) = step (is_plain_sort r.sort && not r.is_virtual) (s
   step true h = omega arith
   step false h = omega arith
 
-pub few_places : (c : Catalog) → length c.resources ≤ declared_limit → length (plain_places c) ≤ declared_limit
+pub few_places : (c : Catalog) → length c.resources ≤ declared_bound → length (plain_places c) ≤ declared_bound
 few_places c few = let h = shorter 0 c.resources in omega arith
 
 pub node_low : (c : Catalog) (n : Node) → IsNode c n → rank n < bound_of c

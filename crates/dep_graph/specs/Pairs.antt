@@ -1,12 +1,12 @@
 -- Pairs of plain resources, of which the one comes before the other.
 use Rattle.std.specs.Prelude.{◌<◌, ℕ, zero, suc, ◌*◌, Bool, if◌then◌else◌, List, [], ◌∷◌, ◌++◌, length, slice_index}
-use Rattle.catalog_semantics.specs.States.{declared_limit}
+use Rattle.catalog_semantics.specs.States.{declared_bound}
 use Rattle.orders.specs.Relation.{Relation, comes}
 
 -- the number of the resource at the place is that of a node
 pub record IsWithin (count place : ℕ) : Type 0 where
   pub node : 2 * place < count
-  pub few : place < declared_limit
+  pub few : place < declared_bound
 
 -- of two plain resources the one comes before the other
 abbrev pub comes_at : Relation → List ℕ → ℕ → ℕ → Bool

@@ -2,7 +2,7 @@
 
 ghost use Rattle.std.specs.Prelude.{◌≡◌, ◌<◌, ◌++◌, ◌∷◌, [], ℕ, List, option_map, IfOk, OnOk};
 ghost use Rattle.std.specs.List.{All};
-ghost use Rattle.catalog_semantics.specs.States.{declared_limit};
+ghost use Rattle.catalog_semantics.specs.States.{declared_bound};
 ghost use Rattle.graph_semantics.specs.Automatic.{path_text_of};
 ghost use Rattle.dep_graph.specs.Files.{PathIs, FilePathIs, AreFiles, is_above, nearest, is_nearest, nearest_places, file_edges};
 
@@ -138,7 +138,7 @@ pub fn push_file_edges(
     files: &[ManagedFile],
     edges: &mut Seq<(u32, u32)>,
 ) -> Result<(), NoMemory>
-    requires { All (λ f. f.place < declared_limit) files.now }
+    requires { All (λ f. f.place < declared_bound) files.now }
     ensures { OnOk result (edges.new ≡ edges.old ++ file_edges links.now files.now) }
 {
     for f in files {

@@ -3,7 +3,7 @@
 ghost use Rattle.std.specs.Prelude.{◌≤◌, ◌∷◌, [], length};
 ghost use Rattle.std.specs.List.{flat_map};
 ghost use Rattle.pp_eval.specs.Verdicts.{AnswersBy};
-ghost use Rattle.catalog_semantics.specs.States.{declared_limit};
+ghost use Rattle.catalog_semantics.specs.States.{declared_bound};
 ghost use Rattle.graph_semantics.specs.Relations.{relations_by, relations_of, references_within, metaparameter_relations, all_relations};
 ghost use Rattle.dep_graph.specs.Links.{with_link, with_links};
 
@@ -30,7 +30,7 @@ fn push_before(
     value: &Value,
     links: &mut Seq<Link>,
 ) -> Result<(), Fault>
-    requires few { length catalog.now.resources ≤ declared_limit }
+    requires few { length catalog.now.resources ≤ declared_bound }
     ensures { AnswersBy (λ done. links.new)
         (with_link catalog.now (record { from = r.now.id ∷ []; to = references_within value.now; at = r.now.at }) links.old) result }
 {
@@ -48,7 +48,7 @@ fn push_after(
     value: &Value,
     links: &mut Seq<Link>,
 ) -> Result<(), Fault>
-    requires few { length catalog.now.resources ≤ declared_limit }
+    requires few { length catalog.now.resources ≤ declared_bound }
     ensures { AnswersBy (λ done. links.new)
         (with_link catalog.now (record { from = references_within value.now; to = r.now.id ∷ []; at = r.now.at }) links.old) result }
 {
@@ -66,7 +66,7 @@ fn push_attribute(
     pair: &(Text, Value),
     links: &mut Seq<Link>,
 ) -> Result<(), Fault>
-    requires few { length catalog.now.resources ≤ declared_limit }
+    requires few { length catalog.now.resources ≤ declared_bound }
     ensures { AnswersBy (λ done. links.new) (with_links catalog.now (relations_by r.now pair.now) links.old) result }
 {
     if says_before(pair.0.as_str()) {
@@ -86,7 +86,7 @@ fn push_attributes(
     r: &Resource,
     links: &mut Seq<Link>,
 ) -> Result<(), Fault>
-    requires few { length catalog.now.resources ≤ declared_limit }
+    requires few { length catalog.now.resources ≤ declared_bound }
     ensures { AnswersBy (λ done. links.new) (with_links catalog.now (flat_map (relations_by r.now) r.now.attrs) links.old) result }
 {
     for pair in r.attrs.as_slice() {
@@ -102,7 +102,7 @@ fn push_resource(
     r: &Resource,
     links: &mut Seq<Link>,
 ) -> Result<(), Fault>
-    requires few { length catalog.now.resources ≤ declared_limit }
+    requires few { length catalog.now.resources ≤ declared_bound }
     ensures { AnswersBy (λ done. links.new) (with_links catalog.now (relations_of r.now) links.old) result }
 {
     if r.is_virtual {
@@ -114,7 +114,7 @@ fn push_resource(
 /// What the metaparameters say.
 #[tactic(auto, using(crate::proofs::Chains::next_links, crate::proofs::Chains::links_end))]
 fn push_metaparameters(alloc: Global, catalog: &Catalog, links: &mut Seq<Link>) -> Result<(), Fault>
-    requires few { length catalog.now.resources ≤ declared_limit }
+    requires few { length catalog.now.resources ≤ declared_bound }
     ensures { AnswersBy (λ done. links.new) (with_links catalog.now (metaparameter_relations catalog.now) links.old) result }
 {
     for place in 0..catalog.count() {
@@ -130,7 +130,7 @@ fn push_arrow(
     relation: &Relation,
     links: &mut Seq<Link>,
 ) -> Result<(), Fault>
-    requires few { length catalog.now.resources ≤ declared_limit }
+    requires few { length catalog.now.resources ≤ declared_bound }
     ensures { AnswersBy (λ done. links.new) (with_link catalog.now relation.now links.old) result }
 {
     let from = nodes_of(
@@ -153,7 +153,7 @@ fn push_arrow(
 
 /// What the arrows say.
 fn push_arrows(alloc: Global, catalog: &Catalog, links: &mut Seq<Link>) -> Result<(), Fault>
-    requires few { length catalog.now.resources ≤ declared_limit }
+    requires few { length catalog.now.resources ≤ declared_bound }
     ensures { AnswersBy (λ done. links.new) (with_links catalog.now catalog.now.relations links.old) result }
 {
     for relation in catalog.relations().as_slice() {
@@ -165,7 +165,7 @@ fn push_arrows(alloc: Global, catalog: &Catalog, links: &mut Seq<Link>) -> Resul
 /// All relations, between nodes.
 #[tactic(auto, using(crate::proofs::Chains::next_links, crate::proofs::Chains::links_end))]
 pub fn links_of(alloc: Global, catalog: &Catalog) -> Result<Seq<Link>, Fault>
-    requires few { length catalog.now.resources ≤ declared_limit }
+    requires few { length catalog.now.resources ≤ declared_bound }
     ensures { AnswersBy (λ links. links) (with_links catalog.now (all_relations catalog.now) []) result }
 {
     let mut links = Seq::new(alloc);

@@ -3,7 +3,7 @@
 ghost use Rattle.std.specs.Prelude.{◌≡◌, ◌<◌, ◌++◌, ◌∷◌, [], codes, is_some, option_map, slice_get, IfOk, OnOk};
 ghost use Rattle.std.specs.List.{All, flat_map};
 ghost use Rattle.pp_eval.specs.Evaluation.{text_of, texts_of, titles_of};
-ghost use Rattle.catalog_semantics.specs.States.{declared_limit};
+ghost use Rattle.catalog_semantics.specs.States.{declared_bound};
 ghost use Rattle.graph_semantics.specs.Automatic.{text_or, name_of, is_somebody, somebodies, list_or_none, text_in, texts_in, user_or_root, attribute};
 ghost use Rattle.dep_graph.specs.Named.{is_linked, kept_edge, is_proper, has_name, named_targets, member_text, targets_by_names, kept_edges, edges_by_names, named_edges};
 
@@ -54,8 +54,8 @@ fn push_kept(
     place: u32,
     edges: &mut Seq<(u32, u32)>,
 ) -> Result<(), NoMemory>
-    requires target { target < declared_limit }
-    requires place { place < declared_limit }
+    requires target { target < declared_bound }
+    requires place { place < declared_bound }
     ensures { OnOk result (edges.new ≡ edges.old ++ kept_edge links.now target place) }
 {
     if is_linked(links, 2 * place, 2 * target) {
@@ -333,8 +333,8 @@ pub fn push_all_kept(
     targets: &[u32],
     edges: &mut Seq<(u32, u32)>,
 ) -> Result<(), NoMemory>
-    requires place { place < declared_limit }
-    requires targets { All (λ target. target < declared_limit) targets.now }
+    requires place { place < declared_bound }
+    requires targets { All (λ target. target < declared_bound) targets.now }
     ensures { OnOk result (edges.new ≡ edges.old ++ kept_edges links.now place targets.now) }
 {
     for target in targets {
@@ -352,8 +352,8 @@ fn push_by_names(
     place: u32,
     edges: &mut Seq<(u32, u32)>,
 ) -> Result<(), NoMemory>
-    requires plain { All (λ p. p < declared_limit) plain.now }
-    requires place { place < declared_limit }
+    requires plain { All (λ p. p < declared_bound) plain.now }
+    requires place { place < declared_bound }
     ensures { OnOk result (edges.new ≡ edges.old ++ edges_by_names catalog.now links.now plain.now place (slice_get catalog.now.resources place)) }
 {
     let Some(r) = resource_at(catalog, place) else {
@@ -371,7 +371,7 @@ pub fn push_named_edges(
     plain: &[u32],
     edges: &mut Seq<(u32, u32)>,
 ) -> Result<(), NoMemory>
-    requires plain { All (λ p. p < declared_limit) plain.now }
+    requires plain { All (λ p. p < declared_bound) plain.now }
     ensures { OnOk result (edges.new ≡ edges.old ++ named_edges catalog.now links.now plain.now plain.now) }
 {
     for place in plain {

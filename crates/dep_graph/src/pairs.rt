@@ -2,7 +2,7 @@
 
 ghost use Rattle.std.specs.Prelude.{◌≡◌, ◌↔◌, ◌<◌, ◌≤◌, ◌*◌, ◌++◌, ℕ, length, slice_index, IfOk, OnOk};
 ghost use Rattle.std.specs.List.{All};
-ghost use Rattle.catalog_semantics.specs.States.{declared_limit};
+ghost use Rattle.catalog_semantics.specs.States.{declared_bound};
 ghost use Rattle.orders.specs.Relation.{comes, Comes};
 ghost use Rattle.dep_graph.specs.Pairs.{IsWithin, comes_at, pair_if, pairs_in_row, pairs_below};
 
@@ -48,7 +48,7 @@ fn push_row(
     pairs: &mut Seq<(u32, u32)>,
 ) -> Result<(), NoMemory>
     requires within { All (IsWithin whole.now.count) plain.now }
-    requires few { length plain.now ≤ declared_limit }
+    requires few { length plain.now ≤ declared_bound }
     requires i { i < length plain.now }
     ensures { OnOk result (pairs.new ≡ pairs.old ++ pairs_in_row whole.now plain.now i (length plain.now)) }
 {
@@ -61,7 +61,7 @@ fn push_row(
 /// The pairs of plain resources of which one comes before the other.
 fn pairs_of(alloc: Global, whole: &Order, plain: &[u32]) -> Result<Seq<(u32, u32)>, NoMemory>
     requires within { All (IsWithin whole.now.count) plain.now }
-    requires few { length plain.now ≤ declared_limit }
+    requires few { length plain.now ≤ declared_bound }
     ensures { IfOk result (λ pairs. pairs ≡ pairs_below whole.now plain.now (length plain.now)) }
 {
     let mut pairs = Seq::new(alloc);
@@ -74,7 +74,7 @@ fn pairs_of(alloc: Global, whole: &Order, plain: &[u32]) -> Result<Seq<(u32, u32
 /// The order between plain resources that an order of all nodes gives.
 pub fn plain_order(alloc: Global, whole: &Order, plain: &[u32]) -> Result<Order, NoMemory>
     requires within { All (IsWithin whole.now.count) plain.now }
-    requires few { length plain.now ≤ declared_limit }
+    requires few { length plain.now ≤ declared_bound }
     ensures count { IfOk result (λ order. order.count ≡ length plain.now) }
     ensures before { IfOk result (λ order. (i j : ℕ) → i < length plain.now → j < length plain.now
         → Comes order i j ↔ Comes whole.now (2 * slice_index plain.now i) (2 * slice_index plain.now j)) }

@@ -4,7 +4,7 @@ ghost use Rattle.std.specs.Prelude.{◌≡◌, ◌<◌, ◌≤◌, ◌++◌, ◌
 ghost use Rattle.std.specs.List.{flat_map};
 ghost use Rattle.catalog_semantics.specs.Catalogs.{is_plain_sort};
 ghost use Rattle.graph_semantics.specs.Graphs.{plain_places};
-ghost use Rattle.catalog_semantics.specs.States.{declared_limit};
+ghost use Rattle.catalog_semantics.specs.States.{declared_bound};
 ghost use Rattle.dep_graph.specs.Numbered.{member_edges, container_edges, structure_edges};
 
 use crate::targets::{is_real, last_number, real_at};
@@ -20,7 +20,7 @@ fn push_member(
     place: u32,
     edges: &mut Seq<(u32, u32)>,
 ) -> Result<(), NoMemory>
-    requires few { length catalog.now.resources ≤ declared_limit }
+    requires few { length catalog.now.resources ≤ declared_bound }
     requires outer { outer < length catalog.now.resources }
     ensures { OnOk result (edges.new ≡ edges.old ++ member_edges catalog.now outer place) }
 {
@@ -38,7 +38,7 @@ fn push_members(
     places: &[u32],
     edges: &mut Seq<(u32, u32)>,
 ) -> Result<(), NoMemory>
-    requires few { length catalog.now.resources ≤ declared_limit }
+    requires few { length catalog.now.resources ≤ declared_bound }
     requires outer { outer < length catalog.now.resources }
     ensures { OnOk result (edges.new ≡ edges.old ++ flat_map (member_edges catalog.now outer) places.now) }
 {
@@ -65,7 +65,7 @@ fn push_container(
     place: u32,
     edges: &mut Seq<(u32, u32)>,
 ) -> Result<(), NoMemory>
-    requires few { length catalog.now.resources ≤ declared_limit }
+    requires few { length catalog.now.resources ≤ declared_bound }
     requires within { place < length catalog.now.resources }
     ensures { OnOk result (edges.new ≡ edges.old ++ container_edges catalog.now place) }
 {
@@ -82,7 +82,7 @@ fn push_container(
 
 /// The edges of all containers.
 pub fn structure_edges(alloc: Global, catalog: &Catalog) -> Result<Seq<(u32, u32)>, NoMemory>
-    requires few { length catalog.now.resources ≤ declared_limit }
+    requires few { length catalog.now.resources ≤ declared_bound }
     ensures { IfOk result (λ edges. edges ≡ structure_edges catalog.now (length catalog.now.resources)) }
 {
     let mut edges = Seq::new(alloc);
@@ -101,7 +101,7 @@ fn is_real_plain(r: &Resource) -> bool
 
 /// The places of the real plain resources.
 pub fn plain_places(alloc: Global, catalog: &Catalog) -> Result<Seq<u32>, NoMemory>
-    requires few { length catalog.now.resources ≤ declared_limit }
+    requires few { length catalog.now.resources ≤ declared_bound }
     ensures { IfOk result (λ places. places ≡ plain_places catalog.now) }
 {
     let mut places = Seq::new(alloc);

@@ -5,7 +5,7 @@ ghost use Rattle.pp_eval.specs.Verdicts.{AnswersBy};
 ghost use Rattle.rh_base.specs.Refused.{IfRefused};
 ghost use Rattle.pp_eval.specs.Verdicts.{refusal};
 ghost use Rattle.pp_value.specs.Shown.{shown_ref};
-ghost use Rattle.catalog_semantics.specs.States.{declared_limit};
+ghost use Rattle.catalog_semantics.specs.States.{declared_bound};
 ghost use Rattle.graph_semantics.specs.Relations.{target_of, real_at};
 ghost use Rattle.graph_semantics.specs.Graphs.{rank};
 ghost use Rattle.dep_graph.specs.Numbers.{last_at, is_real};
@@ -67,7 +67,7 @@ pub fn target(catalog: &Catalog, r: &Ref) -> Option<u32>
 /// The node at which the resource at a place is done.
 pub fn last_number(catalog: &Catalog, place: u32) -> u32
     requires within { place < length catalog.now.resources }
-    requires few { length catalog.now.resources ≤ declared_limit }
+    requires few { length catalog.now.resources ≤ declared_bound }
     ensures { result ≡ rank (last_at catalog.now place) }
 {
     match catalog.get(place).sort {
@@ -79,7 +79,7 @@ pub fn last_number(catalog: &Catalog, place: u32) -> u32
 
 fn number(catalog: &Catalog, side: Side, place: u32) -> u32
     requires within { place < length catalog.now.resources }
-    requires few { length catalog.now.resources ≤ declared_limit }
+    requires few { length catalog.now.resources ≤ declared_bound }
     ensures { result ≡ side_number side catalog.now place }
 {
     match side {
@@ -107,7 +107,7 @@ pub fn push_node(
     r: &Ref,
     nodes: &mut Seq<u32>,
 ) -> Result<(), Fault>
-    requires few { length catalog.now.resources ≤ declared_limit }
+    requires few { length catalog.now.resources ≤ declared_bound }
     ensures { AnswersBy (λ done. nodes.new) (with_nodes side catalog.now at (r.now ∷ []) nodes.old) result }
 {
     let Some(place) = target(catalog, r) else {

@@ -3,7 +3,7 @@
 ghost use Rattle.std.specs.Prelude.{◌≤◌, ◌∷◌, [], length};
 ghost use Rattle.std.specs.List.{flat_map};
 ghost use Rattle.pp_eval.specs.Verdicts.{AnswersBy};
-ghost use Rattle.catalog_semantics.specs.States.{declared_limit};
+ghost use Rattle.catalog_semantics.specs.States.{declared_bound};
 ghost use Rattle.graph_semantics.specs.Relations.{references_within};
 ghost use Rattle.dep_graph.specs.Links.{with_nodes};
 
@@ -21,7 +21,7 @@ pub fn nodes_of(
     at: u32,
     refs: &[Ref],
 ) -> Result<Seq<u32>, Fault>
-    requires few { length catalog.now.resources ≤ declared_limit }
+    requires few { length catalog.now.resources ≤ declared_bound }
     ensures { AnswersBy (λ nodes. nodes) (with_nodes side catalog.now at refs.now []) result }
 {
     let mut nodes = Seq::new(alloc);
@@ -39,7 +39,7 @@ pub fn node_alone(
     at: u32,
     r: &Ref,
 ) -> Result<Seq<u32>, Fault>
-    requires few { length catalog.now.resources ≤ declared_limit }
+    requires few { length catalog.now.resources ≤ declared_bound }
     ensures { AnswersBy (λ nodes. nodes) (with_nodes side catalog.now at (r.now ∷ []) []) result }
 {
     let mut nodes = Seq::new(alloc);
@@ -58,7 +58,7 @@ fn push_value(
     value: &Value,
     nodes: &mut Seq<u32>,
 ) -> Result<(), Fault>
-    requires few { length catalog.now.resources ≤ declared_limit }
+    requires few { length catalog.now.resources ≤ declared_bound }
     ensures { AnswersBy (λ done. nodes.new) (with_nodes side catalog.now at (references_within value.now) nodes.old) result }
 {
     match value {
@@ -78,7 +78,7 @@ fn push_values(
     items: &[Value],
     nodes: &mut Seq<u32>,
 ) -> Result<(), Fault>
-    requires few { length catalog.now.resources ≤ declared_limit }
+    requires few { length catalog.now.resources ≤ declared_bound }
     ensures { AnswersBy (λ done. nodes.new) (with_nodes side catalog.now at (flat_map references_within items.now) nodes.old) result }
 {
     for item in items {
@@ -95,7 +95,7 @@ pub fn nodes_within(
     at: u32,
     value: &Value,
 ) -> Result<Seq<u32>, Fault>
-    requires few { length catalog.now.resources ≤ declared_limit }
+    requires few { length catalog.now.resources ≤ declared_bound }
     ensures { AnswersBy (λ nodes. nodes) (with_nodes side catalog.now at (references_within value.now) []) result }
 {
     let mut nodes = Seq::new(alloc);

@@ -2,7 +2,7 @@
 
 ghost use Rattle.std.specs.Prelude.{◌≡◌, ◌↔◌, ◌<◌, ◌≤◌, length, IfOk, IfErr, OnOk};
 ghost use Rattle.rh_base.specs.Refused.{IfRefused};
-ghost use Rattle.catalog_semantics.specs.States.{declared_limit};
+ghost use Rattle.catalog_semantics.specs.States.{declared_bound};
 ghost use Rattle.orders.specs.Relation.{Comes};
 ghost use Rattle.graph_semantics.specs.Graphs.{Node, rank, Before, IsCircleRefusal, plain_places};
 ghost use Rattle.dep_graph.specs.Whole.{bound_of, count_of, AreLinks, AreEdges};
@@ -25,7 +25,7 @@ fn edges_of(
     links: &[Link],
     plain: &[u32],
 ) -> Result<(u32, Seq<(u32, u32)>), NoMemory>
-    requires few { length catalog.now.resources ≤ declared_limit }
+    requires few { length catalog.now.resources ≤ declared_bound }
     requires plain { plain.now ≡ plain_places catalog.now }
     ensures count { IfOk result (λ e. e.0 ≡ count_of catalog.now links.now) }
     ensures edges { IfOk result (λ e. AreEdges catalog.now links.now e.1) }
@@ -45,7 +45,7 @@ pub fn whole_order(
     links: &[Link],
     plain: &[u32],
 ) -> Result<Order, Fault>
-    requires few { length catalog.now.resources ≤ declared_limit }
+    requires few { length catalog.now.resources ≤ declared_bound }
     requires links { AreLinks catalog.now links.now }
     requires plain { plain.now ≡ plain_places catalog.now }
     ensures count { IfOk result (λ order. bound_of catalog.now ≤ order.count) }

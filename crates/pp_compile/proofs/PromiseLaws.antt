@@ -2,6 +2,7 @@
 use Rattle.std.proofs.Common.{◌≡◌, ◌≤◌, ℕ, List, Result, Ok, Err, IfOk, refl, sym, ap, subst, ◌∙◌}
 use Rattle.rh_base.specs.declared.fault.Fault.{Fault}
 use Rattle.rh_base.specs.declared.fault.Refusal.{Refusal}
+use Rattle.host_limits.specs.declared.limits.Limits.{Limits}
 use Rattle.pp_syntax.specs.declared.tree.Item.{Item}
 use Rattle.pp_syntax.specs.declared.tree.Manifest.{Manifest}
 use Rattle.pp_value.specs.declared.value.Value.{Value}
@@ -16,17 +17,17 @@ use Rattle.catalog_semantics.proofs.Whole.{few_is}
 use Rattle.pp_compile.specs.Sources.{IsParsed, IsCatalogOf, IsSettledCatalog}
 
 -- one manifest, one verdict
-pub same_verdict : ((text : List ℕ) (m n : Manifest) → IsParsed text m → IsParsed text n → m ≡ n) → (text : List ℕ) (facts : Value) (node_name : List ℕ) (data_levels : List Level) (v w : Result Catalog Refusal)
-    → IsCatalogOf text facts node_name data_levels v → IsCatalogOf text facts node_name data_levels w → v ≡ w
-same_verdict one text facts node_name data_levels v w a b =
-    a.is ∙ (ap (λ m. catalog_of m facts node_name data_levels) (one text a.manifest b.manifest a.parsed b.parsed) ∙ sym b.is)
+pub same_verdict : ((text : List ℕ) (m n : Manifest) → IsParsed text m → IsParsed text n → m ≡ n) → (text : List ℕ) (facts : Value) (node_name : List ℕ) (data_levels : List Level) (limits : Limits) (v w : Result Catalog Refusal)
+    → IsCatalogOf text facts node_name data_levels limits v → IsCatalogOf text facts node_name data_levels limits w → v ≡ w
+same_verdict one text facts node_name data_levels limits v w a b =
+    a.is ∙ (ap (λ m. catalog_of m facts node_name data_levels limits) (one text a.manifest b.manifest a.parsed b.parsed) ∙ sym b.is)
 
 -- what is so of the catalog of the manifest is so of what is answered
-pub promised : (text : List ℕ) (facts : Value) (node_name : List ℕ) (data_levels : List Level) (P : Catalog → Type 0)
-    → ((c : Catalog) (has : IsCatalogOf text facts node_name data_levels (Ok c)) → catalog_of has.manifest facts node_name data_levels ≡ Ok c → P c)
-    → (r : Result Catalog Fault) → IfOk r (λ c. IsCatalogOf text facts node_name data_levels (Ok c)) → IfOk r P
-promised text facts node_name data_levels P f (Ok c) has = f c has (sym has.is)
-promised text facts node_name data_levels P f (Err e) has = tt
+pub promised : (text : List ℕ) (facts : Value) (node_name : List ℕ) (data_levels : List Level) (limits : Limits) (P : Catalog → Type 0)
+    → ((c : Catalog) (has : IsCatalogOf text facts node_name data_levels limits (Ok c)) → catalog_of has.manifest facts node_name data_levels limits ≡ Ok c → P c)
+    → (r : Result Catalog Fault) → IfOk r (λ c. IsCatalogOf text facts node_name data_levels limits (Ok c)) → IfOk r P
+promised text facts node_name data_levels limits P f (Ok c) has = f c has (sym has.is)
+promised text facts node_name data_levels limits P f (Err e) has = tt
 
 -- ---- the last state
 
@@ -42,11 +43,11 @@ asked t (Err e) c h = cc
 asked t (Ok w) c h = counted t (few_enough t) c refl h
 
 module _
-    (settled : (site : Site) (items : List Item) (facts : Value) (t : State) → state_after round_limit site items facts ≡ Ok t → IsSettled t)
-    (enough : (site : Site) (items : List Item) (facts : Value) (n : ℕ) → round_limit ≤ n → state_after n site items facts ≡ state_after round_limit site items facts)
-    (text : List ℕ) (facts : Value) (node_name : List ℕ) (data_levels : List Level) where
-  in_state : (m : Manifest) (c : Catalog) (site : Site) → IsParsed text m → site_of m data_levels (pairs_in facts) node_name ≡ Ok site → (r : Result State Refusal) → state_after round_limit site m.items facts ≡ r
-      → (r >>= λ t. all_there t.pending t >>= λ there. few_enough t >>= λ u. Ok (catalog_in u)) ≡ Ok c → IsSettledCatalog text facts node_name data_levels c
+    (settled : (site : Site) (items : List Item) (facts : Value) (limits : Limits) (t : State) → state_after (round_limit limits) site items facts limits ≡ Ok t → IsSettled t)
+    (enough : (site : Site) (items : List Item) (facts : Value) (limits : Limits) (n : ℕ) → round_limit limits ≤ n → state_after n site items facts limits ≡ state_after (round_limit limits) site items facts limits)
+    (text : List ℕ) (facts : Value) (node_name : List ℕ) (data_levels : List Level) (limits : Limits) where
+  in_state : (m : Manifest) (c : Catalog) (site : Site) → IsParsed text m → site_of m data_levels (pairs_in facts) node_name ≡ Ok site → (r : Result State Refusal) → state_after (round_limit limits) site m.items facts limits ≡ r
+      → (r >>= λ t. all_there t.pending t >>= λ there. few_enough t >>= λ u. Ok (catalog_in u)) ≡ Ok c → IsSettledCatalog text facts node_name data_levels limits c
   in_state m c site p gathered (Err e) is h = cc
   in_state m c site p gathered (Ok t) is h = record {
     manifest = m;
@@ -54,15 +55,15 @@ module _
     site = site;
     gathered = gathered;
     state = t;
-    reached = λ n many. enough site m.items facts n many ∙ is;
-    settled = settled site m.items facts t is;
+    reached = λ n many. enough site m.items facts limits n many ∙ is;
+    settled = settled site m.items facts limits t is;
     is = asked t (all_there t.pending t) c h;
   }
 
-  in_site : (m : Manifest) (c : Catalog) → IsParsed text m → (r : Result Site Refusal) → site_of m data_levels (pairs_in facts) node_name ≡ r → (r >>= λ site. catalog_from site m.items facts) ≡ Ok c
-      → IsSettledCatalog text facts node_name data_levels c
+  in_site : (m : Manifest) (c : Catalog) → IsParsed text m → (r : Result Site Refusal) → site_of m data_levels (pairs_in facts) node_name ≡ r → (r >>= λ site. catalog_from site m.items facts limits) ≡ Ok c
+      → IsSettledCatalog text facts node_name data_levels limits c
   in_site m c p (Err e) is h = cc
-  in_site m c p (Ok site) is h = in_state m c site p is (state_after round_limit site m.items facts) refl h
+  in_site m c p (Ok site) is h = in_state m c site p is (state_after (round_limit limits) site m.items facts limits) refl h
 
-  pub is_settled : (c : Catalog) (has : IsCatalogOf text facts node_name data_levels (Ok c)) → catalog_of has.manifest facts node_name data_levels ≡ Ok c → IsSettledCatalog text facts node_name data_levels c
+  pub is_settled : (c : Catalog) (has : IsCatalogOf text facts node_name data_levels limits (Ok c)) → catalog_of has.manifest facts node_name data_levels limits ≡ Ok c → IsSettledCatalog text facts node_name data_levels limits c
   is_settled c has h = in_site has.manifest c has.parsed (site_of has.manifest data_levels (pairs_in facts) node_name) refl h

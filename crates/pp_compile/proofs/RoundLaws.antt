@@ -4,6 +4,7 @@ use Rattle.std.specs.Prelude.{slice_get}
 use Rattle.std.proofs.lemmas.List.{drop_all}
 use Rattle.std.proofs.Math.Nat.{suc-sub-suc, sub-zero}
 use Rattle.rh_base.specs.declared.fault.Refusal.{Refusal}
+use Rattle.host_limits.specs.declared.limits.Limits.{Limits}
 use Rattle.pp_eval.specs.Verdicts.{◌>>=◌}
 use Rattle.pp_syntax.specs.declared.tree.Item.{Item}
 use Rattle.pp_value.specs.declared.value.Value.{Value}
@@ -149,6 +150,6 @@ behind_rounds (Ok t) = asked t (all_there t.pending t) (few_enough t)
 behind_rounds (Err e) = refl
 
 -- the catalog is that after as many rounds
-pub catalog_is : (n : ℕ) (site : Site) (items : List Item) (facts : Value)
-    → (state_after n site items facts >>= λ t. all_there t.pending t >>= λ _. few_enough t >>= λ u. Ok (catalog_in u)) ≡ catalog_after n site items facts
-catalog_is n site items facts = behind_rounds (run_all n site items (first_state facts))
+pub catalog_is : (n : ℕ) (site : Site) (items : List Item) (facts : Value) (limits : Limits)
+    → (state_after n site items facts limits >>= λ t. all_there t.pending t >>= λ _. few_enough t >>= λ u. Ok (catalog_in u)) ≡ catalog_after n site items facts limits
+catalog_is n site items facts limits = behind_rounds (run_all n site items (first_state facts limits))

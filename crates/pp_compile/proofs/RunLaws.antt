@@ -11,13 +11,12 @@ use Rattle.catalog_semantics.specs.declared.catalog.Resource.{Resource}
 use Rattle.catalog_semantics.specs.declared.state.State.{State}
 use Rattle.catalog_semantics.specs.Sites.{Definition, Site}
 use Rattle.catalog_semantics.specs.States.{Effect, in_turn}
-use Rattle.catalog_semantics.specs.Declaring.{all_known, opened, begun, ended, body_runs}
+use Rattle.catalog_semantics.specs.Declaring.{all_known, opened, begun, ended, body_begins, body_runs}
 use Rattle.catalog_semantics.specs.Effects.{effect_of}
 use Rattle.catalog_semantics.specs.Frames.{Each, Extends}
 use Rattle.catalog_semantics.proofs.Keeping.{all_keep, statement_keeps}
 use Rattle.catalog_semantics.proofs.Extending.{extending, openings_only_add}
-use Rattle.pp_decl_classes.specs.Beginning.{body_begins, body_ends}
-use Rattle.pp_decl_classes.proofs.BeginningLaws.{body_is}
+use Rattle.pp_decl_classes.specs.Beginning.{body_ends}
 
 same_state : (s t : State) → ◌≡◌ {A = Result State Refusal} (Ok s) (Ok t) → s ≡ t
 same_state s t h = cc
@@ -26,7 +25,7 @@ same_state s t h = cc
 
 module _ (run : Stmt → Effect) (d : Definition) (place : ℕ) (r : Resource) (scope : Scope) (s : State) where
   goes_by : (x : Result State Refusal) → body_begins d place r scope s ≡ x → body_runs run d place r scope s ≡ (x >>= body_ends run d s.running)
-  goes_by x h = body_is run d place r scope s ∙ ap (λ (y : Result State Refusal). y >>= body_ends run d s.running) h
+  goes_by x h = ap (λ (y : Result State Refusal). y >>= body_ends run d s.running) h
 
   pub not_begun : (e : Refusal) → body_begins d place r scope s ≡ Err e → body_runs run d place r scope s ≡ Err e
   not_begun e h = goes_by (Err e) h

@@ -4,6 +4,7 @@ use Rattle.std.specs.Prelude.{IsUtf8}
 use Rattle.rh_base.specs.declared.fault.Fault.{Fault}
 use Rattle.rh_base.specs.declared.fault.Fault.TheVariants as fault
 use Rattle.rh_base.specs.declared.fault.Refusal.{Refusal}
+use Rattle.host_limits.specs.declared.limits.Limits.{Limits}
 use Rattle.rh_base.specs.Refused.{IfRefused}
 use Rattle.pp_eval.specs.Verdicts.{◌>>=◌, AnswersBy, Refuses}
 use Rattle.catalog_semantics.specs.Sites.{Site}
@@ -30,9 +31,9 @@ parsed text tokens (Ok m) utf8 spelled derived all_in shallow = record {
 }
 parsed text tokens (Err e) utf8 spelled derived all_in shallow = tt
 
-pub is_catalog : (text : List ℕ) (m : Manifest) (facts : Value) (node_name : List ℕ) (data_levels : List Level) (v : Result Catalog Refusal) → IsParsed text m → catalog_of m facts node_name data_levels ≡ v
-    → IsCatalogOf text facts node_name data_levels v
-is_catalog text m facts node_name data_levels v p h = record { manifest = m; parsed = p; is = sym h }
+pub is_catalog : (text : List ℕ) (m : Manifest) (facts : Value) (node_name : List ℕ) (data_levels : List Level) (limits : Limits) (v : Result Catalog Refusal) → IsParsed text m → catalog_of m facts node_name data_levels limits ≡ v
+    → IsCatalogOf text facts node_name data_levels limits v
+is_catalog text m facts node_name data_levels limits v p h = record { manifest = m; parsed = p; is = sym h }
 
 -- ---- from a site on
 
@@ -49,21 +50,21 @@ answered v (Err d) e h k = subst (Refuses v) (sym h) k
 
 -- ---- from a manifest on
 
-module _ (text : List ℕ) (m : Manifest) (facts : Value) (node_name : List ℕ) (data_levels : List Level) (p : IsParsed text m) (v : Result Catalog Refusal) (is : catalog_of m facts node_name data_levels ≡ v) where
-  pub catalog_found : (r : Result Catalog Fault) → AnswersBy (λ x. x) v r → IfOk r (λ c. IsCatalogOf text facts node_name data_levels (Ok c))
-  catalog_found (Ok c) h = is_catalog text m facts node_name data_levels (Ok c) p (is ∙ h)
+module _ (text : List ℕ) (m : Manifest) (facts : Value) (node_name : List ℕ) (data_levels : List Level) (limits : Limits) (p : IsParsed text m) (v : Result Catalog Refusal) (is : catalog_of m facts node_name data_levels limits ≡ v) where
+  pub catalog_found : (r : Result Catalog Fault) → AnswersBy (λ x. x) v r → IfOk r (λ c. IsCatalogOf text facts node_name data_levels limits (Ok c))
+  catalog_found (Ok c) h = is_catalog text m facts node_name data_levels limits (Ok c) p (is ∙ h)
   catalog_found (Err e) h = tt
 
-  pub catalog_refused : (r : Result Catalog Fault) → AnswersBy (λ x. x) v r → IfErr r (λ e. IfRefused e (IsCatalogRefusal text facts node_name data_levels))
+  pub catalog_refused : (r : Result Catalog Fault) → AnswersBy (λ x. x) v r → IfErr r (λ e. IfRefused e (IsCatalogRefusal text facts node_name data_levels limits))
   catalog_refused (Ok c) h = tt
-  catalog_refused (Err (fault.Refused x)) h = inr (is_catalog text m facts node_name data_levels (Err x) p (is ∙ h))
+  catalog_refused (Err (fault.Refused x)) h = inr (is_catalog text m facts node_name data_levels limits (Err x) p (is ∙ h))
   catalog_refused (Err (fault.Memory n)) h = tt
 
-pub source_refused : (text : List ℕ) (facts : Value) (node_name : List ℕ) (data_levels : List Level) (r : Result Catalog Fault) (e : Fault) → IsErrAnd r (λ d. d ≡ e) → IfRefused e (IsSourceRefusal text)
-    → IfErr r (λ d. IfRefused d (IsCatalogRefusal text facts node_name data_levels))
-source_refused text facts node_name data_levels (Ok c) e h k = absurd h
-source_refused text facts node_name data_levels (Err d) e h k = subst (λ (x : Fault). IfRefused x (IsCatalogRefusal text facts node_name data_levels)) (sym h) (by e k)
+pub source_refused : (text : List ℕ) (facts : Value) (node_name : List ℕ) (data_levels : List Level) (limits : Limits) (r : Result Catalog Fault) (e : Fault) → IsErrAnd r (λ d. d ≡ e) → IfRefused e (IsSourceRefusal text)
+    → IfErr r (λ d. IfRefused d (IsCatalogRefusal text facts node_name data_levels limits))
+source_refused text facts node_name data_levels limits (Ok c) e h k = absurd h
+source_refused text facts node_name data_levels limits (Err d) e h k = subst (λ (x : Fault). IfRefused x (IsCatalogRefusal text facts node_name data_levels limits)) (sym h) (by e k)
   where
-    by : (e : Fault) → IfRefused e (IsSourceRefusal text) → IfRefused e (IsCatalogRefusal text facts node_name data_levels)
+    by : (e : Fault) → IfRefused e (IsSourceRefusal text) → IfRefused e (IsCatalogRefusal text facts node_name data_levels limits)
     by (fault.Refused x) k = inl k
     by (fault.Memory m) k = tt

@@ -1,6 +1,7 @@
 -- One round.
 use Rattle.std.specs.Prelude.{ℕ, Bool, true, false, ◌++◌, map, take, drop, List, Option, Some, None, Result, Ok}
 use Rattle.rh_base.specs.declared.fault.Refusal.{Refusal}
+use Rattle.host_limits.specs.declared.limits.Limits.{Limits}
 use Rattle.pp_eval.specs.Verdicts.{◌>>=◌}
 use Rattle.pp_syntax.specs.declared.tree.Item.{Item}
 use Rattle.pp_value.specs.declared.value.Value.{Value}
@@ -42,8 +43,8 @@ may_stand s = do
   few_enough s
 
 -- the catalog after so many rounds
-abbrev pub catalog_after : ℕ → Site → List Item → Value → Result Catalog Refusal
-catalog_after n site items facts = do
-  t ← run_all n site items (first_state facts)
+abbrev pub catalog_after : ℕ → Site → List Item → Value → Limits → Result Catalog Refusal
+catalog_after n site items facts limits = do
+  t ← run_all n site items (first_state facts limits)
   u ← may_stand t
   Ok (catalog_in u)

@@ -1,6 +1,7 @@
 -- Texts, the manifests that they spell, and what refuses them.
 use Rattle.std.specs.Prelude.{◌≡◌, ◌⊎◌, ◌≤◌, ℕ, List, Result, Ok, Err, IsUtf8}
 use Rattle.rh_base.specs.declared.fault.Refusal.{Refusal}
+use Rattle.host_limits.specs.declared.limits.Limits.{Limits}
 use Rattle.pp_syntax.specs.declared.tree.Manifest.{Manifest}
 use Rattle.pp_syntax.specs.Tokens.{Lexeme}
 use Rattle.pp_syntax.specs.Spelling.{Spells}
@@ -25,22 +26,23 @@ pub record IsParsed (text : List ℕ) (manifest : Manifest) : Type 0 where
   pub shallow : IsNowhere IsTooDeep tokens
   pub derived : IsManifest manifest tokens
 
--- The text spells a manifest, in this language and within its depth, and this is its catalog or its first refusal.
-pub record IsCatalogOf (text : List ℕ) (facts : Value) (node_name : List ℕ) (data_levels : List Level)
+-- The text spells a manifest, in this language and within its depth, and within the limits this is its catalog or its first refusal.
+pub record IsCatalogOf (text : List ℕ) (facts : Value) (node_name : List ℕ) (data_levels : List Level) (limits : Limits)
     (verdict : Result Catalog Refusal) : Type 0 where
   pub manifest : Manifest
   pub parsed : IsParsed text manifest
-  pub is : verdict ≡ catalog_of manifest facts node_name data_levels
+  pub is : verdict ≡ catalog_of manifest facts node_name data_levels limits
 
 -- The main code of the text's manifest and as many rounds as one likes, if they are enough, lead to a state that another round
 -- leaves as it is, and this is its catalog.
-pub record IsSettledCatalog (text : List ℕ) (facts : Value) (node_name : List ℕ) (data_levels : List Level) (c : Catalog) : Type 0 where
+pub record IsSettledCatalog (text : List ℕ) (facts : Value) (node_name : List ℕ) (data_levels : List Level) (limits : Limits) (c : Catalog)
+    : Type 0 where
   pub manifest : Manifest
   pub parsed : IsParsed text manifest
   pub site : Site
   pub gathered : site_of manifest data_levels (pairs_in facts) node_name ≡ Ok site
   pub state : State
-  pub reached : (n : ℕ) → round_limit ≤ n → state_after n site manifest.items facts ≡ Ok state
+  pub reached : (n : ℕ) → round_limit limits ≤ n → state_after n site manifest.items facts limits ≡ Ok state
   pub settled : IsSettled state
   pub is : c ≡ catalog_in state
 
@@ -53,6 +55,6 @@ abbrev pub IsSourceRefusal : List ℕ → Refusal → Type 0
 IsSourceRefusal text r = IsTextRefusal text r ⊎ ((IsUtf8 text × IsLexicalRefusal text r) ⊎ IsSyntaxFault text r)
 
 -- the text spells no manifest, or the manifest has no catalog, and this is the first reason
-abbrev pub IsCatalogRefusal : List ℕ → Value → List ℕ → List Level → Refusal → Type 0
-IsCatalogRefusal text facts node_name data_levels r =
-    IsSourceRefusal text r ⊎ IsCatalogOf text facts node_name data_levels (Err r)
+abbrev pub IsCatalogRefusal : List ℕ → Value → List ℕ → List Level → Limits → Refusal → Type 0
+IsCatalogRefusal text facts node_name data_levels limits r =
+    IsSourceRefusal text r ⊎ IsCatalogOf text facts node_name data_levels limits (Err r)

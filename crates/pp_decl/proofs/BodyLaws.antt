@@ -18,7 +18,7 @@ use Rattle.catalog_semantics.specs.declared.catalog.Resource.{Resource}
 use Rattle.catalog_semantics.specs.declared.state.State.{State}
 use Rattle.catalog_semantics.specs.Sites.{Definition, Site}
 use Rattle.catalog_semantics.specs.States.{Effect, in_turn, is_declared, added}
-use Rattle.catalog_semantics.specs.Declaring.{Bodies, body_in, all_known, opened, begun, ended, class_runs, class_resource, class_named, no_circle, parents_of, class_declared, body_declared, bodies_declared}
+use Rattle.catalog_semantics.specs.Declaring.{Bodies, body_in, all_known, opened, begun, ended, body_begins, class_runs, class_resource, class_named, no_circle, parents_of, class_declared, body_declared, bodies_declared}
 use Rattle.catalog_semantics.specs.declared.room.Room.{Room}
 use Rattle.catalog_semantics.specs.Rooms.{block_depth, in_body, has_room_for}
 use Rattle.catalog_semantics.specs.Effects.{effect_at, bodies_at}
@@ -27,7 +27,7 @@ use Rattle.catalog_semantics.proofs.Extending.{blocks_only_add, openings_only_ad
 use Rattle.pp_decl_bodies.specs.Bodies.{declared_behind}
 use Rattle.pp_decl_bodies.proofs.BodyLaws.{drop_step}
 use Rattle.pp_decl_bodies.proofs.BodyLaws as declaring
-use Rattle.pp_decl_classes.specs.Beginning.{body_begins, may_begin, class_added, class_begins, body_ends}
+use Rattle.pp_decl_classes.specs.Beginning.{may_begin, class_added, class_begins, body_ends}
 use Rattle.pp_decl_classes.specs.Parents.{nearest_first, backwards, turned}
 use Rattle.pp_decl_classes.proofs.BeginningLaws.{class_is}
 use Rattle.pp_decl_classes.proofs.ParentLaws.{from_the_top}

@@ -1,20 +1,20 @@
 -- How bodies begin, and what stays meanwhile.
-use Rattle.std.proofs.Common.{◌≡◌, ◌⊎◌, inl, inr, ℕ, ◌+◌, Bool, true, false, cond, ◌||◌, List, [], ◌∷◌, map, length, refl, sym, ap, ◌∙◌}
+use Rattle.std.proofs.Common.{◌≡◌, ◌⊎◌, inl, inr, ℕ, ◌+◌, Bool, true, false, cond, ◌||◌, List, [], ◌∷◌, ◌++◌, length, refl, sym, ap, ◌∙◌}
 use Rattle.std.specs.Prelude.{nat_lt, is_some, codes, Option, Some, Result, Ok, Err}
 use Rattle.rh_base.specs.declared.fault.Refusal.{Refusal}
+use Rattle.host_limits.specs.Limits.{declared_limit}
 use Rattle.pp_syntax.specs.declared.tree.Stmt.{Stmt}
 use Rattle.pp_value.specs.declared.value.Ref.{Ref}
 use Rattle.pp_value.specs.Values.{same_ref}
 use Rattle.pp_value.specs.Shown.{shown_ref}
-use Rattle.pp_eval.specs.declared.scope.Scope.{Scope}
 use Rattle.pp_eval.specs.Verdicts.{◌>>=◌, refusal}
 use Rattle.pp_eval.specs.Scoping.{class_scope}
 use Rattle.catalog_semantics.specs.declared.catalog.Resource.{Resource}
 use Rattle.catalog_semantics.specs.declared.state.State.{State}
 use Rattle.catalog_semantics.specs.Sites.{Definition}
-use Rattle.catalog_semantics.specs.States.{Effect, in_turn, references_of, stands_in, is_declared, place_from, place_of, is_new, has_room, has_size, added, with_resource, as_added, declared_limit, attributes_limit, size_of_resources}
-use Rattle.catalog_semantics.specs.Declaring.{all_known, opened, begun, ended, body_runs, class_runs}
-use Rattle.pp_decl_classes.specs.Beginning.{body_begins, may_begin, class_added, class_begins, body_ends, body_goes, class_goes}
+use Rattle.catalog_semantics.specs.States.{Effect, references_of, stands_in, is_declared, place_from, place_of, is_new, has_room, within_size, added, with_resource, as_added, attributes_limit, size_of_resources}
+use Rattle.catalog_semantics.specs.Declaring.{body_begins, body_runs, class_runs}
+use Rattle.pp_decl_classes.specs.Beginning.{may_begin, class_added, class_begins, body_ends, class_goes}
 
 -- ---- a place, or none
 
@@ -38,7 +38,7 @@ declared_at ref s = stands_at 0 ref (references_of s.resources)
 by_new : (r : Resource) (s : State) (b : Bool) → is_declared r.id s ≡ b → (may : Bool) → (may ≡ true) ⊎ (b ≡ true) → class_added may r s ≡ added r s
 by_new r s true h may k =
     ap (λ t. cond t (Err (refusal 24 r.at (shown_ref r.id))) (Ok s) >>= λ _. may_begin r.at may s >>= λ _. added r s) h
-    ∙ sym (ap (λ t. cond t (Err (refusal 24 r.at (shown_ref r.id))) (Ok s) >>= λ _. has_room r s >>= λ _. has_size r.at (with_resource s (as_added s r))) h)
+    ∙ sym (ap (λ t. cond t (Err (refusal 24 r.at (shown_ref r.id))) (Ok s) >>= λ _. has_room r s >>= λ _. within_size r.at (s.resources ++ as_added s r ∷ []) >>= λ _. Ok (with_resource s (as_added s r))) h)
 by_new r s false h true k =
     ap (λ t. cond t (Err (refusal 24 r.at (shown_ref r.id))) (Ok s) >>= λ _. may_begin r.at true s >>= λ _. added r s) h
 by_new r s false h false (inl e) = cc
@@ -59,17 +59,17 @@ same_state : (s t : State) → ◌≡◌ {A = Result State Refusal} (Ok s) (Ok t
 same_state s t h = cc
 
 module _ (r : Resource) (s t : State) where
-  sized : (b : Bool) → cond b (Err (refusal 32 r.at (codes "attributes"))) (Ok (with_resource s (as_added s r))) ≡ Ok t → with_resource s (as_added s r) ≡ t
+  sized : (b : Bool) → (cond b (Err (refusal 32 r.at (codes "attributes"))) (Ok (s.resources ++ as_added s r ∷ [])) >>= λ _. Ok (with_resource s (as_added s r))) ≡ Ok t → with_resource s (as_added s r) ≡ t
   sized true h = cc
   sized false h = same_state (with_resource s (as_added s r)) t h
 
-  roomy : (b : Bool) → (cond b (Ok s) (Err (refusal 32 r.at (codes "declared"))) >>= λ _. has_size r.at (with_resource s (as_added s r))) ≡ Ok t → with_resource s (as_added s r) ≡ t
-  roomy true h = sized (nat_lt attributes_limit (size_of_resources (with_resource s (as_added s r)).resources)) h
+  roomy : (b : Bool) → (cond b (Ok s) (Err (refusal 32 r.at (codes "declared"))) >>= λ _. within_size r.at (s.resources ++ as_added s r ∷ []) >>= λ _. Ok (with_resource s (as_added s r))) ≡ Ok t → with_resource s (as_added s r) ≡ t
+  roomy true h = sized (nat_lt attributes_limit (size_of_resources (s.resources ++ as_added s r ∷ []))) h
   roomy false h = cc
 
-  newly : (b : Bool) → (cond b (Err (refusal 24 r.at (shown_ref r.id))) (Ok s) >>= λ _. has_room r s >>= λ _. has_size r.at (with_resource s (as_added s r))) ≡ Ok t → (b ≡ false) × (with_resource s (as_added s r) ≡ t)
+  newly : (b : Bool) → (cond b (Err (refusal 24 r.at (shown_ref r.id))) (Ok s) >>= λ _. has_room r s >>= λ _. within_size r.at (s.resources ++ as_added s r ∷ []) >>= λ _. Ok (with_resource s (as_added s r))) ≡ Ok t → (b ≡ false) × (with_resource s (as_added s r) ≡ t)
   newly true h = cc
-  newly false h = (refl, roomy (nat_lt (length s.resources) declared_limit) h)
+  newly false h = (refl, roomy (nat_lt (length s.resources) (declared_limit s.limits)) h)
 
   added_is : added r s ≡ Ok t → (is_declared r.id s ≡ false) × (with_resource s (as_added s r) ≡ t)
   added_is h = newly (is_declared r.id s) h
@@ -89,24 +89,13 @@ pub begins_added : (may : Bool) (d : Definition) (r : Resource) (s t : State) �
     → class_begins may d r s ≡ body_begins d (length s.resources) r (class_scope t.scopes.0 d.name d.parent) t
 begins_added may d r s t h = ap (λ (x : Result State Refusal). x >>= λ u. body_begins d (length s.resources) r (class_scope u.scopes.0 d.name d.parent) u) h
 
--- ---- the whole of a body
-
-body_by : (run : Stmt → Effect) (d : Definition) (place : ℕ) (s : State) (k o : Result State Refusal)
-    → (k >>= λ _. o >>= λ t. in_turn (map run d.body) (begun place t) >>= λ u. Ok (ended s u))
-    ≡ ((k >>= λ _. o >>= λ t. Ok (begun place t)) >>= body_ends run d s.running)
-body_by run d place s (Ok w) (Ok t) = refl
-body_by run d place s (Ok w) (Err e) = refl
-body_by run d place s (Err e) o = refl
-
-pub body_is : (run : Stmt → Effect) (d : Definition) (place : ℕ) (r : Resource) (scope : Scope) (s : State) → body_runs run d place r scope s ≡ body_goes run d place r scope s
-body_is run d place r scope s = body_by run d place s (all_known r.at d.parameters r.attrs s) (opened d r scope s)
+-- ---- the whole of a class
 
 class_by : (run : Stmt → Effect) (d : Definition) (r : Resource) (s : State) (x : Result State Refusal) → ((t : State) → x ≡ Ok t → t.running ≡ s.running)
     → (x >>= λ t. body_runs run d (length s.resources) r (class_scope t.scopes.0 d.name d.parent) t)
     ≡ ((x >>= λ t. body_begins d (length s.resources) r (class_scope t.scopes.0 d.name d.parent) t) >>= body_ends run d s.running)
 class_by run d r s (Ok t) h =
-    body_is run d (length s.resources) r (class_scope t.scopes.0 d.name d.parent) t
-    ∙ ap (λ (before : Option ℕ). body_begins d (length s.resources) r (class_scope t.scopes.0 d.name d.parent) t >>= body_ends run d before) (h t refl)
+    ap (λ (before : Option ℕ). body_begins d (length s.resources) r (class_scope t.scopes.0 d.name d.parent) t >>= body_ends run d before) (h t refl)
 class_by run d r s (Err e) h = refl
 
 joined_up : (run : Stmt → Effect) (d : Definition) (r : Resource) (s : State) (k : Result State Refusal)

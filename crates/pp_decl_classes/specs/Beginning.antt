@@ -1,22 +1,14 @@
--- How a body begins: all that is done before its first statement.
+-- How the body of a class begins: all that is done before its first statement.
 use Rattle.std.specs.Prelude.{ℕ, Bool, true, if◌then◌else◌, length, map, codes, Option, Result, Ok, Err}
 use Rattle.rh_base.specs.declared.fault.Refusal.{Refusal}
 use Rattle.pp_syntax.specs.declared.tree.Stmt.{Stmt}
-use Rattle.pp_eval.specs.declared.scope.Scope.{Scope}
 use Rattle.pp_eval.specs.Verdicts.{◌>>=◌, refusal}
 use Rattle.pp_eval.specs.Scoping.{class_scope}
 use Rattle.catalog_semantics.specs.declared.catalog.Resource.{Resource}
 use Rattle.catalog_semantics.specs.declared.state.State.{State}
 use Rattle.catalog_semantics.specs.Sites.{Definition}
 use Rattle.catalog_semantics.specs.States.{Effect, in_turn, is_new, added}
-use Rattle.catalog_semantics.specs.Declaring.{all_known, opened, begun, ended}
-
--- The attributes name parameters, a new scope is entered, and there the parameters are bound.
-abbrev pub body_begins : Definition → ℕ → Resource → Scope → Effect
-body_begins d place r scope s = do
-  _ ← all_known r.at d.parameters r.attrs s
-  t ← opened d r scope s
-  Ok (begun place t)
+use Rattle.catalog_semantics.specs.Declaring.{body_begins, ended}
 
 -- one more body may run
 abbrev pub may_begin : ℕ → Bool → State → Result State Refusal
@@ -35,7 +27,7 @@ class_begins may_run d r s = do
   t ← class_added may_run r s
   body_begins d (length s.resources) r (class_scope t.scopes.0 d.name d.parent) t
 
--- ---- the whole of a body
+-- ---- the whole of a class
 
 -- the statements of a body, and its end
 abbrev pub body_ends : (Stmt → Effect) → Definition → Option ℕ → Effect
@@ -47,10 +39,4 @@ body_ends run d before t = do
 abbrev pub class_goes : (Stmt → Effect) → Definition → Resource → Effect
 class_goes run d r s = do
   t ← class_begins true d r s
-  body_ends run d s.running t
-
--- a body runs to its end
-abbrev pub body_goes : (Stmt → Effect) → Definition → ℕ → Resource → Scope → Effect
-body_goes run d place r scope s = do
-  t ← body_begins d place r scope s
   body_ends run d s.running t

@@ -3,7 +3,8 @@
 ghost use Rattle.std.specs.Prelude.{◌≡◌, option_map, IfOk};
 ghost use Rattle.pp_eval.specs.Verdicts.{AnswersBy};
 ghost use Rattle.pp_eval.specs.Scoping.{class_scope, defined_scope};
-ghost use Rattle.pp_decl_classes.specs.Beginning.{body_begins, class_added, class_begins};
+ghost use Rattle.catalog_semantics.specs.Declaring.{body_begins};
+ghost use Rattle.pp_decl_classes.specs.Beginning.{class_added, class_begins};
 
 use catalog_semantics::Resource;
 use pp_decl_bodies::{all_known, bind_parameters};

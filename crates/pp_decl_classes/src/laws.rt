@@ -1,20 +1,14 @@
-//! Laws of bodies, as functions that do nothing.
+//! Laws of classes, as functions that do nothing.
 
-ghost use Rattle.std.specs.Prelude.{◌≡◌, ◌+◌, ℕ, Some, length};
+ghost use Rattle.std.specs.Prelude.{◌≡◌, ◌+◌, Some, length};
 ghost use Rattle.pp_syntax.specs.declared.tree.Stmt.{Stmt};
-ghost use Rattle.pp_eval.specs.declared.scope.Scope.{Scope};
 ghost use Rattle.catalog_semantics.specs.declared.catalog.Resource.{Resource};
 ghost use Rattle.catalog_semantics.specs.declared.state.State.{State};
 ghost use Rattle.catalog_semantics.specs.Sites.{Definition, Site};
 ghost use Rattle.catalog_semantics.specs.States.{Effect};
-ghost use Rattle.catalog_semantics.specs.Declaring.{body_runs, class_runs, parents_of};
-ghost use Rattle.pp_decl_classes.specs.Beginning.{body_goes, class_goes};
+ghost use Rattle.catalog_semantics.specs.Declaring.{class_runs, parents_of};
+ghost use Rattle.pp_decl_classes.specs.Beginning.{class_goes};
 ghost use Rattle.pp_decl_classes.specs.Parents.{nearest_first, turned};
-
-/// A body runs as it begins, its statements run, and it ends.
-pub fn bodies_begin_and_end()
-    ensures { (run : Stmt → Effect) (d : Definition) (place : ℕ) (r : Resource) (scope : Scope) (s : State) → body_runs run d place r scope s ≡ body_goes run d place r scope s }
-{}
 
 /// A class runs as it begins, its statements run, and it ends.
 pub fn classes_begin_and_end()

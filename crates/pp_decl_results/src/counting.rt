@@ -9,7 +9,6 @@ use catalog_semantics::{Resource, Sort};
 use pp_decl_state::State;
 use pp_eval::refusal;
 use rh_base::Fault;
-use rh_base::limits::RESOURCES;
 use std::alloc::Global;
 
 fn is_real_plain(r: &Resource) -> bool
@@ -39,11 +38,11 @@ fn count_real(state: &State) -> u32
     count
 }
 
-/// Refuses a state with more real resources of built-in types than a catalog may have.
+/// Refuses a state with more real resources of built-in types than its limits let.
 pub fn few_enough(alloc: Global, state: &State) -> Result<(), Fault>
     ensures { AnswersBy (λ done. state.now) (few_enough state.now) result }
 {
-    if count_real(state) > RESOURCES {
+    if count_real(state) > state.limits().resources() {
         return Err(refusal(alloc, 32, 0, "resources"));
     }
     Ok(())

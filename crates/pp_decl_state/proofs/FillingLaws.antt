@@ -8,12 +8,11 @@ use Rattle.pp_value.specs.Values.{Pair}
 use Rattle.pp_eval.specs.Verdicts.{◌>>=◌, refusal, Refuses}
 use Rattle.catalog_semantics.specs.declared.catalog.Resource.{Resource}
 use Rattle.catalog_semantics.specs.declared.state.Default.{Default}
-use Rattle.catalog_semantics.specs.declared.state.State.{State}
-use Rattle.catalog_semantics.specs.States.{filled, is_class, lacks, defaults_of, attributes_limit, size_of_resources}
+use Rattle.catalog_semantics.specs.States.{filled, is_class, lacks, defaults_of, within_size, attributes_limit, size_of_resources}
 use Rattle.catalog_semantics.specs.Catalogs.{filled_behind, Catalog}
-use Rattle.catalog.specs.Adding.{within_size, changed_at, place_in_text, given, filled_at, with_resources}
+use Rattle.catalog.specs.Adding.{changed_at, place_in_text, given, filled_at, with_resources}
 use Rattle.catalog.proofs.SizeLaws.{changed_same, count_stays, place_is}
-use Rattle.pp_decl_state.specs.Filling.{filled_from, filled_one}
+use Rattle.pp_decl_state.specs.Filling.{filled_one}
 
 pub class_stays : (defaults : List Default) (r : Resource) → is_class r ≡ true → given [] r ≡ filled defaults r
 class_stays defaults r h =
@@ -26,20 +25,6 @@ others_are_filled defaults r h = sym (ap (λ t. cond t r (record r { attrs = r.a
 pub filled_as : (defaults : List Default) (place : ℕ) (pairs : List Pair) (resources : List Resource) (r : Resource) → slice_get resources place ≡ Some r → given pairs r ≡ filled defaults r
     → filled_at place pairs resources ≡ filled_one defaults place resources
 filled_as defaults place pairs resources r h e = ap (within_size (place_in_text place resources)) (changed_same place (given pairs) (filled defaults) resources r h e)
-
-abbrev pub with_list : State → List Resource → Result State Refusal
-with_list s resources = Ok (record s { resources = resources })
-
-by_size : (s : State) (at : ℕ) (all : List Resource) (t : Bool) (f : Result State Refusal) (g : Result (List Resource) Refusal) → f ≡ (g >>= with_list s)
-    → (cond t (Err (refusal 32 at (codes "attributes"))) (Ok (record s { resources = all })) >>= λ _. f) ≡ ((cond t (Err (refusal 32 at (codes "attributes"))) (Ok all) >>= λ _. g) >>= with_list s)
-by_size s at all true f g h = refl
-by_size s at all false f g h = h
-
-pub filling_is : (s : State) (done resources : List Resource) → filled_behind done resources s ≡ (filled_from s.defaults done resources >>= with_list s)
-filling_is s done [] = refl
-filling_is s done (r ∷ resources) =
-    by_size s r.at (done ++ filled s.defaults r ∷ resources) (nat_lt attributes_limit (size_of_resources (done ++ filled s.defaults r ∷ resources)))
-    (filled_behind (done ++ filled s.defaults r ∷ []) resources s) (filled_from s.defaults (done ++ filled s.defaults r ∷ []) resources) (filling_is s (done ++ filled s.defaults r ∷ []) resources)
 
 -- ---- what the catalog answers
 
@@ -61,18 +46,18 @@ refused_in c x (Err e) h = let same : e ≡ x = cc in ap (λ (y : Refusal). Err 
 -- ---- one more is filled
 
 step : (d : List Default) (front : List Resource) (i : ℕ) (all : List Resource) (r : Resource) → slice_get all i ≡ Some r
-    → filled_from d (front ++ take i all) (drop i all)
-    ≡ (within_size r.at (front ++ changed_at i (filled d) all) >>= λ _. filled_from d (front ++ take (suc i) (changed_at i (filled d) all)) (drop (suc i) (changed_at i (filled d) all)))
+    → filled_behind d (front ++ take i all) (drop i all)
+    ≡ (within_size r.at (front ++ changed_at i (filled d) all) >>= λ _. filled_behind d (front ++ take (suc i) (changed_at i (filled d) all)) (drop (suc i) (changed_at i (filled d) all)))
 step d front i [] r h = cc
 step d front zero (q ∷ all) r h =
     let same : q ≡ r = cc in
-    ap (λ p. filled_from d p (q ∷ all)) (append-nil front)
-    ∙ ap (λ at. within_size at (front ++ filled d q ∷ all) >>= λ _. filled_from d (front ++ filled d q ∷ []) all) (ap (λ (x : Resource). x.at) same)
+    ap (λ p. filled_behind d p (q ∷ all)) (append-nil front)
+    ∙ ap (λ at. within_size at (front ++ filled d q ∷ all) >>= λ _. filled_behind d (front ++ filled d q ∷ []) all) (ap (λ (x : Resource). x.at) same)
 step d front (suc i) (q ∷ all) r h =
-    ap (λ p. filled_from d p (drop i all)) (sym (append_assoc front (q ∷ []) (take i all)))
+    ap (λ p. filled_behind d p (drop i all)) (sym (append_assoc front (q ∷ []) (take i all)))
     ∙ (step d (front ++ q ∷ []) i all r h
     ∙ (λ k. within_size r.at (append_assoc front (q ∷ []) (changed_at i (filled d) all) k)
-    >>= λ _. filled_from d (append_assoc front (q ∷ []) (take (suc i) (changed_at i (filled d) all)) k) (drop (suc i) (changed_at i (filled d) all))))
+    >>= λ _. filled_behind d (append_assoc front (q ∷ []) (take (suc i) (changed_at i (filled d) all)) k) (drop (suc i) (changed_at i (filled d) all))))
 
 same_list : (x y : List Resource) → ◌≡◌ {A = Result (List Resource) Refusal} (Ok x) (Ok y) → x ≡ y
 same_list x y h = cc
@@ -83,19 +68,19 @@ within true at all new h = cc
 within false at all new h = same_list all new h
 
 pub next_filled : (d : List Default) (i : ℕ) (all new : List Resource) (r : Resource) → slice_get all i ≡ Some r → filled_one d i all ≡ Ok new
-    → filled_from d (take i all) (drop i all) ≡ filled_from d (take (i + 1) new) (drop (i + 1) new)
+    → filled_behind d (take i all) (drop i all) ≡ filled_behind d (take (i + 1) new) (drop (i + 1) new)
 next_filled d i all new r h k =
     let at = place_is i all r h in
     let same : changed_at i (filled d) all ≡ new = within (nat_lt attributes_limit (size_of_resources (changed_at i (filled d) all))) (place_in_text i all) (changed_at i (filled d) all) new k in
     step d [] i all r h
-    ∙ (ap (λ v. v >>= λ _. filled_from d (take (suc i) (changed_at i (filled d) all)) (drop (suc i) (changed_at i (filled d) all))) (ap (λ n. within_size n (changed_at i (filled d) all)) (sym at) ∙ k)
-    ∙ (ap (λ xs. filled_from d (take (suc i) xs) (drop (suc i) xs)) same ∙ ap (λ n. filled_from d (take n new) (drop n new)) (sym (add-one i))))
+    ∙ (ap (λ v. v >>= λ _. filled_behind d (take (suc i) (changed_at i (filled d) all)) (drop (suc i) (changed_at i (filled d) all))) (ap (λ n. within_size n (changed_at i (filled d) all)) (sym at) ∙ k)
+    ∙ (ap (λ xs. filled_behind d (take (suc i) xs) (drop (suc i) xs)) same ∙ ap (λ n. filled_behind d (take n new) (drop n new)) (sym (add-one i))))
 
-pub refused_filled : (d : List Default) (i : ℕ) (all : List Resource) (r : Resource) (x : Refusal) → slice_get all i ≡ Some r → filled_one d i all ≡ Err x → filled_from d (take i all) (drop i all) ≡ Err x
+pub refused_filled : (d : List Default) (i : ℕ) (all : List Resource) (r : Resource) (x : Refusal) → slice_get all i ≡ Some r → filled_one d i all ≡ Err x → filled_behind d (take i all) (drop i all) ≡ Err x
 refused_filled d i all r x h k =
     let at = place_is i all r h in
     step d [] i all r h
-    ∙ ap (λ v. v >>= λ _. filled_from d (take (suc i) (changed_at i (filled d) all)) (drop (suc i) (changed_at i (filled d) all))) (ap (λ n. within_size n (changed_at i (filled d) all)) (sym at) ∙ k)
+    ∙ ap (λ v. v >>= λ _. filled_behind d (take (suc i) (changed_at i (filled d) all)) (drop (suc i) (changed_at i (filled d) all))) (ap (λ n. within_size n (changed_at i (filled d) all)) (sym at) ∙ k)
 
 pub count_filled : (d : List Default) (i : ℕ) (all new : List Resource) → filled_one d i all ≡ Ok new → length new ≡ length all
 count_filled d i all new k =
@@ -109,11 +94,11 @@ has_item i [] h = absurd (below_none i h)
 has_item zero (q ∷ all) h = (q, refl)
 has_item (suc i) (q ∷ all) h = has_item i all (omega arith)
 
-pub next_at : (d : List Default) (i : ℕ) (all new first : List Resource) → i < length all → filled_one d i all ≡ Ok new → filled_from d (take i all) (drop i all) ≡ filled_from d [] first
-    → filled_from d (take (i + 1) new) (drop (i + 1) new) ≡ filled_from d [] first
+pub next_at : (d : List Default) (i : ℕ) (all new first : List Resource) → i < length all → filled_one d i all ≡ Ok new → filled_behind d (take i all) (drop i all) ≡ filled_behind d [] first
+    → filled_behind d (take (i + 1) new) (drop (i + 1) new) ≡ filled_behind d [] first
 next_at d i all new first h k e = let x = has_item i all h in sym (next_filled d i all new x.0 x.1 k) ∙ e
 
-pub refuses_at : (d : List Default) (i : ℕ) (all first : List Resource) (e : Fault) → i < length all → filled_from d (take i all) (drop i all) ≡ filled_from d [] first → Refuses (filled_one d i all) e
-    → Refuses (filled_from d [] first) e
+pub refuses_at : (d : List Default) (i : ℕ) (all first : List Resource) (e : Fault) → i < length all → filled_behind d (take i all) (drop i all) ≡ filled_behind d [] first → Refuses (filled_one d i all) e
+    → Refuses (filled_behind d [] first) e
 refuses_at d i all first (faults.Refused r) h same k = let x = has_item i all h in sym same ∙ refused_filled d i all x.0 r x.1 k
 refuses_at d i all first (faults.Memory m) h same k = tt

@@ -3,10 +3,10 @@
 ghost use Rattle.std.specs.Prelude.{◌≡◌, ◌<◌, [], length, IfOk, OnOk};
 ghost use Rattle.pp_eval.specs.Verdicts.{AnswersBy};
 ghost use Rattle.catalog_semantics.specs.States.{filled};
-ghost use Rattle.catalog_semantics.specs.Catalogs.{main_ended};
+ghost use Rattle.catalog_semantics.specs.Catalogs.{filled_behind, main_ended};
 ghost use Rattle.catalog.specs.Adding.{given};
 ghost use Rattle.pp_decl_state.specs.Defaulting.{AreApart};
-ghost use Rattle.pp_decl_state.specs.Filling.{filled_from, filled_one};
+ghost use Rattle.pp_decl_state.specs.Filling.{filled_one};
 
 use crate::adding::is_class;
 use crate::defaults::defaults_of;
@@ -45,7 +45,7 @@ fn fill_one(alloc: Global, defaults: &[Default], catalog: &mut Catalog, i: u32) 
 /// Gives each resource its defaults.
 fn fill_all(alloc: Global, defaults: &[Default], catalog: &mut Catalog) -> Result<(), Fault>
     requires { AreApart defaults.now }
-    ensures answers { AnswersBy (λ done. catalog.new.resources) (filled_from defaults.now [] catalog.old.resources) result }
+    ensures answers { AnswersBy (λ done. catalog.new.resources) (filled_behind defaults.now [] catalog.old.resources) result }
     ensures others { OnOk result (catalog.new ≡ record catalog.old { resources = catalog.new.resources }) }
     ensures relations { catalog.new.relations ≡ catalog.old.relations }
 {
@@ -60,7 +60,6 @@ fn fill_all(alloc: Global, defaults: &[Default], catalog: &mut Catalog) -> Resul
 
 impl State {
     /// The main code has ended, and defaults take hold.
-    #[tactic(auto, using(crate::proofs::FillingLaws::filling_is))]
     pub fn end_main(&mut self) -> Result<(), Fault>
         ensures { AnswersBy (λ done. self.new) (main_ended self.old) result }
     {

@@ -9,6 +9,7 @@ use crate::adding::as_added;
 use crate::ran::Ran;
 use catalog::Catalog;
 use catalog_semantics::{Collector, Default, Pending, Resource, Tie};
+use host_limits::Limits;
 use pp_eval::Scopes;
 use pp_value::{Ref, Value};
 use rh_base::{Fault, NoMemory, Seq};
@@ -18,6 +19,7 @@ use std::marker::Model;
 /// What stands between two statements.
 #[derive(Drop)]
 pub struct State {
+    pub(crate) limits: Limits,
     pub(crate) running: Option<u32>,
     pub(crate) main_has_ended: bool,
     pub(crate) scopes: Scopes,
@@ -42,18 +44,19 @@ impl Model for State {
 
     ghost coded = { Prim.hlevel (codes, value.the_row.coded, wish.the_row.coded) };
 
-    ghost view = { λ s. record { running = s.running; main_has_ended = s.main_has_ended; scopes = s.scopes; defaults = s.defaults; resources = s.catalog.resources; ran = s.ran; holdings = s.catalog.holdings; ties = s.ties; collectors = s.collectors; pending = s.pending } };
+    ghost view = { λ s. record { limits = s.limits; running = s.running; main_has_ended = s.main_has_ended; scopes = s.scopes; defaults = s.defaults; resources = s.catalog.resources; ran = s.ran; holdings = s.catalog.holdings; ties = s.ties; collectors = s.collectors; pending = s.pending } };
 
     ghost invariant = { λ s. (s.catalog.relations ≡ []) × AreApart s.defaults };
 }
 
 impl State {
-    /// The state before any statement, with the facts at the top.
-    pub fn new(alloc: Global, facts: &Value) -> Result<State, NoMemory>
-        ensures { IfOk result (λ s. s ≡ first_state facts.now) }
+    /// The state before any statement, with the facts at the top, and within limits.
+    pub fn new(alloc: Global, facts: &Value, limits: Limits) -> Result<State, NoMemory>
+        ensures { IfOk result (λ s. s ≡ first_state facts.now limits) }
     {
         let scopes = Scopes::new(alloc, facts)?;
         Ok(State {
+            limits,
             running: None,
             main_has_ended: false,
             scopes,
@@ -65,6 +68,13 @@ impl State {
             pending: Seq::new(alloc),
             alloc,
         })
+    }
+
+    /// How many resources may be declared, and how many of them may be real and plain.
+    pub fn limits(&self) -> Limits
+        ensures { result ≡ self.now.limits }
+    {
+        self.limits
     }
 
     pub fn scopes(&self) -> &Scopes
@@ -92,7 +102,7 @@ impl State {
         ensures { AnswersBy (λ done. self.new) (added r self.old) result }
     {
         let r = as_added(self.alloc, self.main_has_ended, self.defaults.as_slice(), r)?;
-        self.catalog.add(r)?;
+        self.catalog.add(r, self.limits)?;
         Ok(())
     }
 

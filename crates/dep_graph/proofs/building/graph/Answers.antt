@@ -3,7 +3,7 @@ use Rattle.std.specs.Prelude.{slice_index}
 use Rattle.std.specs.List.{All}
 use Rattle.std.proofs.lemmas.Result.{err_from_is_err_and}
 use Rattle.orders.specs.Relation.{comes, Comes}
-use Rattle.catalog_semantics.specs.States.{declared_limit}
+use Rattle.catalog_semantics.specs.States.{declared_bound}
 use Rattle.graph_semantics.specs.Graphs.{Node, Start, rank, plain_places}
 use Rattle.dep_graph.specs.Pairs.{IsWithin}
 use Rattle.dep_graph.specs.Whole.{bound_of}
@@ -25,15 +25,15 @@ pub plain_order-requires-clause-within : goal.plain_order-requires-clause-within
 plain_order-requires-clause-within c =
     let same = c.count.ensures.count in
     let up = c.count.ensures.few in
-    let few : length c.args.catalog.now.resources ≤ declared_limit = omega arith in
+    let few : length c.args.catalog.now.resources ≤ declared_bound = omega arith in
     subst (All (IsWithin c.in_ok-whole.whole.count)) (sym (c.as_slice-3.ensures ∙ c.in_ok-plain.ensures)) (places_within c.args.catalog.now c.in_ok-whole.whole.count few c.in_ok-whole.ensures.count)
 
 pub plain_order-requires-clause-few : goal.plain_order-requires-clause-few
 plain_order-requires-clause-few c =
     let same = c.count.ensures.count in
     let up = c.count.ensures.few in
-    let few : length c.args.catalog.now.resources ≤ declared_limit = omega arith in
-    subst (λ ps. length ps ≤ declared_limit) (sym (c.as_slice-3.ensures ∙ c.in_ok-plain.ensures)) (few_places c.args.catalog.now few)
+    let few : length c.args.catalog.now.resources ≤ declared_bound = omega arith in
+    subst (λ ps. length ps ≤ declared_bound) (sym (c.as_slice-3.ensures ∙ c.in_ok-plain.ensures)) (few_places c.args.catalog.now few)
 
 pub returns-clause-graph : goal.returns-clause-graph
 returns-clause-graph c =

@@ -1,6 +1,6 @@
 use Rattle.std.proofs.Common.{◌<◌, ◌*◌, ◌++◌, length, ℕ, sym, ap, subst, ◌∙◌}
 use Rattle.std.specs.List.{All}
-use Rattle.catalog_semantics.specs.States.{declared_limit}
+use Rattle.catalog_semantics.specs.States.{declared_bound}
 use Rattle.graph_semantics.specs.Graphs.{plain_places}
 use Rattle.dep_graph.specs.Files.{AreFiles, file_edges}
 use Rattle.dep_graph.specs.Named.{named_edges}
@@ -11,12 +11,12 @@ use Rattle.dep_graph.proofs.Bounds.{places_small, files_small}
 use Rattle.dep_graph.proofs.whole.edges_of.Goals as goal
 
 pub push_named_edges-requires : goal.push_named_edges-requires
-push_named_edges-requires c = record { plain = subst (All (λ (p : ℕ). p < declared_limit)) (sym c.requires.plain) (places_small c.args.catalog.now c.requires.few) }
+push_named_edges-requires c = record { plain = subst (All (λ (p : ℕ). p < declared_bound)) (sym c.requires.plain) (places_small c.args.catalog.now c.requires.few) }
 
 pub push_file_edges-requires : goal.push_file_edges-requires
 push_file_edges-requires c =
     let are = subst (λ ps. AreFiles c.args.catalog.now ps c.in_ok-files.files) c.requires.plain c.in_ok-files.ensures in
-    subst (All (λ f. f.place < declared_limit)) (sym c.as_slice.ensures) (files_small c.args.catalog.now c.in_ok-files.files c.requires.few are)
+    subst (All (λ f. f.place < declared_bound)) (sym c.as_slice.ensures) (files_small c.args.catalog.now c.in_ok-files.files c.requires.few are)
 
 pub returns-clause-edges : goal.returns-clause-edges
 returns-clause-edges c =
