@@ -234,6 +234,10 @@ program listing r = or_refused r (program_of_model (model_of listing r))
 
 -- ---- several resources
 
+-- a model whose place is none of these, at which something else stands on every host
+abbrev pub unless_barred : List Path → Model → Result Model Cause
+unless_barred barred m = if is_among m.place barred then Err cause.Reserved else Ok m
+
 -- a model whose place none before has
 abbrev pub if_new : List Path → Model → Result Model Cause
 if_new seen m = if is_among m.place seen then Err cause.Twice else Ok m
@@ -248,11 +252,15 @@ abbrev pub programs_with : Result Model Refusal → (Path → Result (List Progr
 programs_with (Err r) more = Err r
 programs_with (Ok m) more = first_and (sequence m.steps) (more m.place)
 
--- the programs in order; within one resource it comes last that an earlier one has its name
-abbrev pub programs_behind : List Path → Packages → List Resource → Result (List Program) Refusal
-programs_behind seen listing [] = Ok []
-programs_behind seen listing (r ∷ rs) = programs_with (or_refused r (model_of listing r >>= if_new seen)) (λ place. programs_behind (seen ++ place ∷ []) listing rs)
+-- the model of a resource, whose place is neither barred nor that of an earlier one; that it is one comes last
+abbrev pub new_model : List Path → List Path → Packages → Resource → Result Model Cause
+new_model barred seen listing r = model_of listing r >>= unless_barred barred >>= if_new seen
 
--- the programs of resources, or the first refusal
-abbrev pub programs : Packages → List Resource → Result (List Program) Refusal
-programs listing rs = programs_behind [] listing rs
+-- the programs in order
+abbrev pub programs_behind : List Path → List Path → Packages → List Resource → Result (List Program) Refusal
+programs_behind barred seen listing [] = Ok []
+programs_behind barred seen listing (r ∷ rs) = programs_with (or_refused r (new_model barred seen listing r)) (λ place. programs_behind barred (seen ++ place ∷ []) listing rs)
+
+-- the programs of resources, of which no file may have a barred path; or the first refusal
+abbrev pub programs : List Path → Packages → List Resource → Result (List Program) Refusal
+programs barred listing rs = programs_behind barred [] listing rs

@@ -43,7 +43,7 @@ pub enum Cause {
     Attribute(Text),
     /// A text is no path or no name.
     Name,
-    /// A path is at or under `/.rehearsal`.
+    /// A path is at or under `/.rehearsal`, or something else stands there on every host.
     Reserved,
     /// The package isn't listed.
     Unlisted,

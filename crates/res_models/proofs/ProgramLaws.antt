@@ -19,31 +19,31 @@ behind made (Ok es) = Ok (made ++ es)
 behind made (Err r) = Err r
 
 -- these programs were made, with these places, and these resources are left of what gives the whole
-abbrev pub AreMade : Packages → List Path → List Program → List Resource → Result (List Program) Refusal → Type 0
-AreMade listing seen made rest whole = whole ≡ behind made (programs_behind seen listing rest)
+abbrev pub AreMade : List Path → Packages → List Path → List Program → List Resource → Result (List Program) Refusal → Type 0
+AreMade barred listing seen made rest whole = whole ≡ behind made (programs_behind barred seen listing rest)
 
 behind_none : (r : Result (List Program) Refusal) → r ≡ behind [] r
 behind_none (Ok es) = refl
 behind_none (Err r) = refl
 
-pub none_made : (listing : Packages) (rs : List Resource) → AreMade listing [] [] rs (programs listing rs)
-none_made listing rs = behind_none (programs_behind [] listing rs)
+pub none_made : (barred : List Path) (listing : Packages) (rs : List Resource) → AreMade barred listing [] [] rs (programs barred listing rs)
+none_made barred listing rs = behind_none (programs_behind barred [] listing rs)
 
 one_first : (made : List Program) (e : Program) (r : Result (List Program) Refusal) → behind made (first_and e r) ≡ behind (made ++ e ∷ []) r
 one_first made e (Ok es) = ap (λ (l : List Program). Ok l) (sym (append_assoc made (e ∷ []) es))
 one_first made e (Err r) = refl
 
-pub more_made : (listing : Packages) (seen now : List Path) (old new : List Program) (r : Resource) (rest : List Resource) (whole : Result (List Program) Refusal)
-    → AreMade listing seen old (r ∷ rest) whole → AddsProgram listing r (Ok tt) seen now old new → AreMade listing now new rest whole
-more_made listing seen now old new r rest whole h (m, is, places, made) =
-    h ∙ ap (λ v. behind old (programs_with v (λ place. programs_behind (seen ++ place ∷ []) listing rest))) is
-    ∙ one_first old (sequence m.steps) (programs_behind (seen ++ m.place ∷ []) listing rest)
-    ∙ (λ i. behind (sym made i) (programs_behind (sym places i) listing rest))
+pub more_made : (barred : List Path) (listing : Packages) (seen now : List Path) (old new : List Program) (r : Resource) (rest : List Resource) (whole : Result (List Program) Refusal)
+    → AreMade barred listing seen old (r ∷ rest) whole → AddsProgram barred listing r (Ok tt) seen now old new → AreMade barred listing now new rest whole
+more_made barred listing seen now old new r rest whole h (m, is, places, made) =
+    h ∙ ap (λ v. behind old (programs_with v (λ place. programs_behind barred (seen ++ place ∷ []) listing rest))) is
+    ∙ one_first old (sequence m.steps) (programs_behind barred (seen ++ m.place ∷ []) listing rest)
+    ∙ (λ i. behind (sym made i) (programs_behind barred (sym places i) listing rest))
 
-pub all_made : (listing : Packages) (seen : List Path) (made : List Program) (whole : Result (List Program) Refusal) → AreMade listing seen made [] whole → whole ≡ Ok made
-all_made listing seen made whole h = h ∙ ap (λ (l : List Program). Ok l) (append-nil made)
+pub all_made : (barred : List Path) (listing : Packages) (seen : List Path) (made : List Program) (whole : Result (List Program) Refusal) → AreMade barred listing seen made [] whole → whole ≡ Ok made
+all_made barred listing seen made whole h = h ∙ ap (λ (l : List Program). Ok l) (append-nil made)
 
-pub none_more : (listing : Packages) (seen now : List Path) (old new : List Program) (r : Resource) (rest : List Resource) (whole : Result (List Program) Refusal) (e : Fault)
-    → AreMade listing seen old (r ∷ rest) whole → AddsProgram listing r (Err e) seen now old new → Refuses whole e
-none_more listing seen now old new r rest whole (faults.Refused x) h a = h ∙ ap (λ v. behind old (programs_with v (λ place. programs_behind (seen ++ place ∷ []) listing rest))) a
-none_more listing seen now old new r rest whole (faults.Memory m) h a = tt
+pub none_more : (barred : List Path) (listing : Packages) (seen now : List Path) (old new : List Program) (r : Resource) (rest : List Resource) (whole : Result (List Program) Refusal) (e : Fault)
+    → AreMade barred listing seen old (r ∷ rest) whole → AddsProgram barred listing r (Err e) seen now old new → Refuses whole e
+none_more barred listing seen now old new r rest whole (faults.Refused x) h a = h ∙ ap (λ v. behind old (programs_with v (λ place. programs_behind barred (seen ++ place ∷ []) listing rest))) a
+none_more barred listing seen now old new r rest whole (faults.Memory m) h a = tt

@@ -12,7 +12,6 @@ use Rattle.model_semantics.specs.Words.{sequence}
 use Rattle.model_semantics.specs.declared.kinds.ModelFault.{ModelFault}
 use Rattle.model_semantics.specs.declared.kinds.ModelFault.TheVariants as fault
 use Rattle.model_semantics.specs.Models as models
-use Rattle.model_semantics.specs.Names.{◌>>=◌}
 
 -- the resource alone, if there is one
 abbrev pub resource_at : Option Resource → List Resource
@@ -31,7 +30,7 @@ IsFaultOf r (fault.Memory m) (faults.Memory n) = Unit {0}
 IsFaultOf r (fault.Memory m) (faults.Refused x) = ⊥
 
 -- The program of one resource more is added, and its place is kept; or it is refused.
-abbrev pub AddsProgram : Packages → Resource → Result (Unit {0}) Fault → List Path → List Path → List language.Program → List language.Program → Type 0
-AddsProgram listing r (Ok done) seen new_seen old new =
-    (m : models.Model) × (models.or_refused r (models.model_of listing r >>= models.if_new seen) ≡ Ok m) × (new_seen ≡ seen ++ m.place ∷ []) × (new ≡ old ++ sequence m.steps ∷ [])
-AddsProgram listing r (Err e) seen new_seen old new = Refuses (models.or_refused r (models.model_of listing r >>= models.if_new seen)) e
+abbrev pub AddsProgram : List Path → Packages → Resource → Result (Unit {0}) Fault → List Path → List Path → List language.Program → List language.Program → Type 0
+AddsProgram barred listing r (Ok done) seen new_seen old new =
+    (m : models.Model) × (models.or_refused r (models.new_model barred seen listing r) ≡ Ok m) × (new_seen ≡ seen ++ m.place ∷ []) × (new ≡ old ++ sequence m.steps ∷ [])
+AddsProgram barred listing r (Err e) seen new_seen old new = Refuses (models.or_refused r (models.new_model barred seen listing r)) e

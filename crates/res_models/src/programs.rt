@@ -7,15 +7,15 @@ ghost use Rattle.pp_value.specs.Shown.{shown_ref};
 ghost use Rattle.pp_eval.specs.Verdicts.{AnswersBy, refusal};
 ghost use Rattle.fs_lang.specs.Meaning.{program_of as meaning};
 ghost use Rattle.model_semantics.specs.Names.{Meets};
-ghost use Rattle.model_semantics.specs.Models.{refusal_of, program, programs};
+ghost use Rattle.fs_semantics.specs.FileTree.{is_among};
+ghost use Rattle.model_semantics.specs.Models.{refusal_of, program, new_model, programs};
 ghost use Rattle.model_names.specs.Seen.{seen};
-ghost use Rattle.res_models.specs.Adding.{new_model};
 ghost use Rattle.res_models.specs.Seen.{resources_at, IsFaultOf, AddsProgram};
 
 use crate::models::model_of;
 use catalog::Catalog;
 use catalog_semantics::Resource;
-use fs_lang::Program;
+use fs_lang::{Path, Program};
 use model_names::Model;
 use model_semantics::{Cause, ModelFault};
 use model_words::sequence;
@@ -69,17 +69,33 @@ pub fn program_of(alloc: Global, r: &Resource, listing: &Listing) -> Result<Prog
     }
 }
 
-/// The model of a resource whose place none before has; its place is kept.
+/// Whether a path is one of these.
+fn is_barred(barred: &[Path], p: &Path) -> bool
+    ensures { result ≡ is_among p.now barred.now }
+{
+    for q in barred {
+        if p == q {
+            return true;
+        }
+    }
+    false
+}
+
+/// The model of a resource whose place is neither barred nor that of one before; its place is kept.
 fn new_model(
     alloc: Global,
     r: &Resource,
     listing: &Listing,
+    barred: &[Path],
     places: &mut PathSet,
 ) -> Result<Model, ModelFault>
-    ensures model { Meets seen (new_model listing.now places.old r.now) result }
+    ensures model { Meets seen (new_model barred.now places.old listing.now r.now) result }
     ensures places { IfOk result (λ m. places.new ≡ places.old ++ m.place ∷ []) }
 {
     let m = model_of(alloc, listing, r)?;
+    if is_barred(barred, &m.place) {
+        return Err(ModelFault::Because(Cause::Reserved));
+    }
     let is_new = places.insert(alloc, &m.place)?;
     if !is_new {
         return Err(ModelFault::Because(Cause::Twice));
@@ -92,12 +108,13 @@ fn push_program(
     alloc: Global,
     r: &Resource,
     listing: &Listing,
+    barred: &[Path],
     places: &mut PathSet,
     into: &mut Vec<Program>,
 ) -> Result<(), Fault>
-    ensures { AddsProgram listing.now r.now result places.old places.new (map meaning into.old.items) (map meaning into.new.items) }
+    ensures { AddsProgram barred.now listing.now r.now result places.old places.new (map meaning into.old.items) (map meaning into.new.items) }
 {
-    match new_model(alloc, r, listing, places) {
+    match new_model(alloc, r, listing, barred, places) {
         Ok(m) => {
             match into.push(sequence(m.steps)) {
                 Ok(()) => Ok(()),
@@ -108,21 +125,22 @@ fn push_program(
     }
 }
 
-/// The programs of the resources at these places, in their order.
+/// The programs of the resources at these places, in their order; none of them is a file at a barred path.
 pub fn programs_of(
     alloc: Global,
     catalog: &Catalog,
     plain: &[u32],
     listing: &Listing,
+    barred: &[Path],
 ) -> Result<Vec<Program>, Fault>
     requires { AllByRecursion (λ i. i < length catalog.now.resources) plain.now }
-    ensures { AnswersBy (λ es. map meaning es.items) (programs listing.now (resources_at catalog.now.resources plain.now)) result }
+    ensures { AnswersBy (λ es. map meaning es.items) (programs barred.now listing.now (resources_at catalog.now.resources plain.now)) result }
 {
     let mut places = PathSet::new(alloc);
     let mut made = Vec::new(alloc);
     for i in plain {
         let r = catalog.get(*i);
-        push_program(alloc, r, listing, &mut places, &mut made)?;
+        push_program(alloc, r, listing, barred, &mut places, &mut made)?;
     }
     Ok(made)
 }

@@ -6,4 +6,4 @@ use Rattle.res_models.proofs.ProgramLaws.{AreMade}
 use Rattle.res_models.proofs.programs.programs_of.Given as goal
 
 abbrev pub invariant-loop-i : goal.invariant-loop-i
-invariant-loop-i l = AreMade l.listing l.places (map program_of l.made.items) (resources_at l.catalog.resources (drop l.i-index l.plain)) (programs l.listing (resources_at l.catalog.resources l.plain))
+invariant-loop-i l = AreMade l.barred l.listing l.places (map program_of l.made.items) (resources_at l.catalog.resources (drop l.i-index l.plain)) (programs l.barred l.listing (resources_at l.catalog.resources l.plain))
