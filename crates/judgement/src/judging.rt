@@ -1,6 +1,6 @@
 //! Answering the first question.
 
-ghost use Rattle.std.specs.Prelude.{◌≡◌, ◌≢◌, ◌↔◌, ◌+◌, ◌≤◌, [], length, map, IfOk, IfErr};
+ghost use Rattle.std.specs.Prelude.{◌≡◌, ◌≢◌, ◌↔◌, ◌+◌, ◌≤◌, [], length, map, IfSome, IfOk, IfErr};
 ghost use Rattle.fs_semantics.specs.Orders.{Told, IsDeterministic, IsExchange, IsCounterexample};
 ghost use Rattle.rh_base.specs.Refused.{IfRefused};
 ghost use Rattle.fs_lang.specs.Meaning.{program_of};
@@ -67,6 +67,61 @@ fn judge_whole(
     }
 }
 
+/// Looks at pairs of all programs, and tries trees: what comes of that, if these tell.
+fn judge_looked(
+    alloc: Global,
+    programs: &[Program],
+    order: &Order,
+    kept: &Kept,
+    budget: u64,
+) -> Result<Option<First>, NoMemory>
+    requires count { length programs.now ≡ order.now.count }
+    requires budget { 1 ≤ budget }
+    requires kept { IsKept (map program_of programs.now) order.now kept.now }
+    requires some { kept.now.pruned.kept ≢ [] }
+    ensures { IfOk result (λ found. IfSome found (IsJudged (map program_of programs.now) order.now budget)) }
+{
+    pruning();
+    determinism_is_decided();
+    let pruned = pruned_count(order, kept);
+    let settled = settle(alloc, programs, order, budget)?;
+    match settled {
+        Settled::Alike(verified) => Ok(Some(First::Sure {
+            pruned,
+            sure: Sure::Proved(verified),
+        })),
+        Settled::Differ(Difference { tree, left, right }) => Ok(Some(First::Differs {
+            pruned,
+            witness: Witness::Orders { tree, left, right },
+        })),
+        Settled::Open => Ok(None),
+    }
+}
+
+/// Asks about the whole graph, where what is kept doesn't tell. Of few kept programs no pair was looked at before.
+fn judge_all(
+    alloc: Global,
+    programs: &[Program],
+    order: &Order,
+    kept: &Kept,
+    budget: u64,
+) -> Result<First, NoMemory>
+    requires count { length programs.now ≡ order.now.count }
+    requires budget { 1 ≤ budget }
+    requires kept { IsKept (map program_of programs.now) order.now kept.now }
+    requires some { kept.now.pruned.kept ≢ [] }
+    requires differ { IsKeptDeterministic (map program_of programs.now) (Told (comes order.now)) kept.now.pruned.kept → ⊥ }
+    ensures { IfOk result (IsJudged (map program_of programs.now) order.now budget) }
+{
+    if kept.programs.as_slice().len() > FEW {
+        return judge_whole(alloc, programs, order, kept, budget);
+    }
+    match judge_looked(alloc, programs, order, kept, budget)? {
+        Some(told) => Ok(told),
+        None => judge_whole(alloc, programs, order, kept, budget),
+    }
+}
+
 /// Tries two orders of the kept programs on the whole graph, and asks about that where they end alike there.
 fn judge_found(
     alloc: Global,
@@ -94,7 +149,7 @@ fn judge_found(
             pruned: pruned_count(order, kept),
             witness: Witness::Orders { tree, left, right },
         }),
-        None => judge_whole(alloc, programs, order, kept, budget),
+        None => judge_all(alloc, programs, order, kept, budget),
     }
 }
 
@@ -154,23 +209,12 @@ fn judge_pairs(
     requires enough { IsDeterministic (map program_of kept.now.programs) (Told (comes kept.now.order)) → IsDeterministic (map program_of programs.now) (Told (comes order.now)) }
     ensures { IfOk result (IsJudged (map program_of programs.now) order.now budget) }
 {
-    pruning();
-    determinism_is_decided();
     if kept.programs.as_slice().len() <= FEW {
         return judge_kept(alloc, programs, order, kept, budget);
     }
-    let pruned = pruned_count(order, kept);
-    let settled = settle(alloc, programs, order, budget)?;
-    match settled {
-        Settled::Alike(verified) => Ok(First::Sure {
-            pruned,
-            sure: Sure::Proved(verified),
-        }),
-        Settled::Differ(Difference { tree, left, right }) => Ok(First::Differs {
-            pruned,
-            witness: Witness::Orders { tree, left, right },
-        }),
-        Settled::Open => judge_kept(alloc, programs, order, kept, budget),
+    match judge_looked(alloc, programs, order, kept, budget)? {
+        Some(told) => Ok(told),
+        None => judge_kept(alloc, programs, order, kept, budget),
     }
 }
 

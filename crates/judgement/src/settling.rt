@@ -9,12 +9,12 @@ ghost use Rattle.judgement.specs.Settled.{IsByProof, IsLook, AreSettled, IsSettl
 use crate::each_pair::pair_commutes;
 use crate::joining::joined;
 use commute_prune::{are_proper, doubtful_pairs, sure_pairs};
-use fs_lang::Program;
+use fs_lang::{Program, Tree};
 use orders::Order;
 use proof_check::Verified;
-use rh_base::NoMemory;
+use rh_base::{NoMemory, Seq};
 use std::alloc::Global;
-use tried_trees::{Difference, try_pairs};
+use tried_trees::{Difference, first_trees, try_pairs, try_tree};
 
 /// So many pairs are tried before any is asked about. A missing arrow makes few pairs doubtful, and mostly the first tree tells;
 /// where more are doubtful most of them commute, as packages do that share a file.
@@ -42,12 +42,32 @@ enum Look {
     Open,
 }
 
-/// Asks about a pair, and tries it from a few trees where it doesn't commute.
+/// Tries pairs from these trees.
+fn try_from(
+    alloc: Global,
+    programs: &[Program],
+    order: &Order,
+    pairs: &[(u32, u32)],
+    trees: &[Tree],
+) -> Result<Option<Difference>, NoMemory>
+    requires { length programs.now ≡ order.now.count }
+    ensures { IfOk result (λ found. IfSome found (IsDifference (map program_of programs.now) order.now)) }
+{
+    for tree in trees {
+        if let Some(found) = try_tree(alloc, programs, order, pairs, tree)? {
+            return Ok(Some(found));
+        }
+    }
+    Ok(None)
+}
+
+/// Asks about a pair, and tries it from these trees where it doesn't commute.
 fn look_at(
     alloc: Global,
     programs: &[Program],
     order: &Order,
     pair: (u32, u32),
+    trees: &[Tree],
     budget: u64,
 ) -> Result<Look, NoMemory>
     requires count { length programs.now ≡ order.now.count }
@@ -57,23 +77,24 @@ fn look_at(
     if let Some(verified) = pair_commutes(alloc, programs, pair, budget)? {
         return Ok(Look::Commute(verified));
     }
-    match try_pairs(alloc, programs, order, &[pair])? {
+    match try_from(alloc, programs, order, &[pair], trees)? {
         Some(found) => Ok(Look::Differ(found)),
         None => Ok(Look::Open),
     }
 }
 
-/// Tries pairs from a few trees.
+/// Tries pairs from these trees.
 fn try_all(
     alloc: Global,
     programs: &[Program],
     order: &Order,
     pairs: &[(u32, u32)],
+    trees: &[Tree],
 ) -> Result<Settled, NoMemory>
     requires { length programs.now ≡ order.now.count }
     ensures { IfOk result (AreSettled (map program_of programs.now) order.now pairs.now) }
 {
-    match try_pairs(alloc, programs, order, pairs)? {
+    match try_from(alloc, programs, order, pairs, trees)? {
         Some(found) => Ok(Settled::Differ(found)),
         None => Ok(Settled::Open),
     }
@@ -90,12 +111,13 @@ fn settled_by(alloc: Global, parts: &[Verified]) -> Result<Settled, NoMemory>
 }
 
 /// Looks at each of these pairs. Where all commute, their formulas are joined; at the first one of which nothing is known, all are
-/// tried from a few trees.
+/// tried from these trees.
 fn look_at_all(
     alloc: Global,
     programs: &[Program],
     order: &Order,
     pairs: &[(u32, u32)],
+    trees: &[Tree],
     budget: u64,
 ) -> Result<Settled, NoMemory>
     requires count { length programs.now ≡ order.now.count }
@@ -104,10 +126,10 @@ fn look_at_all(
 {
     let mut parts = Vec::new(alloc);
     for pair in pairs {
-        match look_at(alloc, programs, order, *pair, budget)? {
+        match look_at(alloc, programs, order, *pair, trees, budget)? {
             Look::Commute(verified) => parts.push(verified)?,
             Look::Differ(found) => return Ok(Settled::Differ(found)),
-            Look::Open => return try_all(alloc, programs, order, pairs),
+            Look::Open => return try_all(alloc, programs, order, pairs, trees),
         }
     }
     let settled = settled_by(alloc, parts.as_slice())?;
@@ -130,6 +152,19 @@ fn try_few(
     try_pairs(alloc, programs, order, pairs)
 }
 
+/// The few trees from which such pairs weren't tried yet.
+fn untried(
+    alloc: Global,
+    programs: &[Program],
+    pairs: &[(u32, u32)],
+) -> Result<Seq<Tree>, NoMemory> {
+    if pairs.len() > MOST_TRIED {
+        let trees = first_trees(alloc, programs)?;
+        return Ok(trees);
+    }
+    Ok(Seq::new(alloc))
+}
+
 /// Looks at the pairs of programs whose order may matter, where the folders stand that are sure before them.
 pub(crate) fn settle(
     alloc: Global,
@@ -144,9 +179,12 @@ pub(crate) fn settle(
     are_proper(programs);
     sure_pairs();
     let doubtful = doubtful_pairs(alloc, programs, order)?;
-    if let Some(found) = try_few(alloc, programs, order, doubtful.as_slice())? {
+    let pairs = doubtful.as_slice();
+    if let Some(found) = try_few(alloc, programs, order, pairs)? {
         return Ok(Settled::Differ(found));
     }
-    let settled = look_at_all(alloc, programs, order, doubtful.as_slice(), budget)?;
+    let trees = untried(alloc, programs, pairs)?;
+    let rest = trees.as_slice();
+    let settled = look_at_all(alloc, programs, order, pairs, rest, budget)?;
     Ok(settled)
 }

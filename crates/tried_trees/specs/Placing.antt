@@ -1,7 +1,7 @@
 -- Two programs next to one another in an allowed order, as early or as late as the order allows.
 use Rattle.std.specs.Prelude.{◌≡◌, ◌==◌, ◌⊎◌, ℕ, Bool, not, ◌&&◌, ◌||◌, List, [], ◌∷◌, ◌++◌, if◌then◌else◌}
 use Rattle.std.specs.List.{AllByRecursion}
-use Rattle.fs_semantics.specs.Orders.{Told, IsLinearExtension, IsExchange}
+use Rattle.fs_semantics.specs.Orders.{IsLinearExtension, IsExchange}
 use Rattle.orders.specs.Relation.{Relation, comes, Comes}
 use Rattle.tried_trees.specs.declared.placing.Place.{Place}
 use Rattle.tried_trees.specs.declared.placing.Place.TheVariants.{Early, Late}

@@ -11,7 +11,7 @@ use rh_base::{NoMemory, Seq, Text};
 use std::alloc::Global;
 use std::collections::BTreeSet;
 
-/// Which paths of some programs stand in a tree.
+/// Which paths of some programs stand in a tree, beside the folders without which one of them ends in Error at once.
 #[derive(Clone, Copy, Debug, PartialEq, Eq)]
 enum Standing {
     /// What they use and none of them makes.
@@ -22,12 +22,14 @@ enum Standing {
     All,
 }
 
-/// The paths of programs: all, each after those above it; those above another one; folders that a program makes; what else a
-/// program changes; and files that are asked for where no program changes one that is asked for beside them.
+/// The paths of programs: all, each after those above it; those above another one; folders without which a program ends in Error at
+/// once, and those above them; folders that a program makes; what else a program changes; and files that are asked for where no
+/// program changes one that is asked for beside them.
 #[derive(Drop)]
 struct Paths {
     named: BTreeSet<Path>,
     above: BTreeSet<Path>,
+    needed: BTreeSet<Path>,
     folders: BTreeSet<Path>,
     changed: BTreeSet<Path>,
     given: BTreeSet<Path>,
@@ -78,9 +80,21 @@ fn parents_of(alloc: Global, named: &BTreeSet<Path>) -> Result<BTreeSet<Path>, N
     Ok(above)
 }
 
+/// These folders, and those above them.
+fn down_to(alloc: Global, folders: BTreeSet<Path>) -> Result<BTreeSet<Path>, NoMemory> {
+    let mut all = BTreeSet::new(alloc);
+    for p in &folders {
+        for n in 0..p.segments().len() {
+            all.insert(p.front(alloc, n + 1)?)?;
+        }
+    }
+    Ok(all)
+}
+
 fn paths_of(alloc: Global, named: BTreeSet<Path>, used: Used) -> Result<Paths, NoMemory> {
     let above = parents_of(alloc, &named)?;
     let Used {
+        needed,
         folders,
         changed,
         asked,
@@ -89,6 +103,7 @@ fn paths_of(alloc: Global, named: BTreeSet<Path>, used: Used) -> Result<Paths, N
     Ok(Paths {
         named,
         above,
+        needed: down_to(alloc, needed)?,
         folders,
         changed,
         given,
@@ -96,6 +111,9 @@ fn paths_of(alloc: Global, named: BTreeSet<Path>, used: Used) -> Result<Paths, N
 }
 
 fn is_folder(paths: &Paths, p: &Path, which: Standing) -> bool {
+    if paths.needed.contains(p) {
+        return true;
+    }
     let is_above = paths.above.contains(p);
     let is_made = paths.folders.contains(p);
     match which {

@@ -5,10 +5,11 @@ use rh_base::{NoMemory, Seq};
 use std::alloc::Global;
 use std::collections::BTreeSet;
 
-/// The folders that programs make, the other paths that they change, and the files that they ask for: those of one question
-/// together.
+/// The folders without which a program ends in Error at once, the folders that programs make, the other paths that they change, and
+/// the files that they ask for: those of one question together.
 #[derive(Drop)]
 pub(crate) struct Used {
+    pub(crate) needed: BTreeSet<Path>,
     pub(crate) folders: BTreeSet<Path>,
     pub(crate) changed: BTreeSet<Path>,
     pub(crate) asked: Seq<Seq<Path>>,
@@ -53,6 +54,14 @@ fn use_question(alloc: Global, test: &Test, used: &mut Used) -> Result<(), NoMem
     used.asked.push(files)
 }
 
+/// A folder without which a choice ends in Error.
+fn use_need(alloc: Global, test: &Test, e: &Program, used: &mut Used) -> Result<(), NoMemory> {
+    match (test, e) {
+        (Test::IsDir(p), Program::Err) => add(alloc, &mut used.needed, p),
+        _ => Ok(()),
+    }
+}
+
 /// A copy asks for its source.
 fn use_copy(alloc: Global, from: &Path, p: &Path, used: &mut Used) -> Result<(), NoMemory> {
     let mut files = Seq::new(alloc);
@@ -93,6 +102,7 @@ fn use_choice(
     used: &mut Used,
 ) -> Result<(), NoMemory> {
     use_question(alloc, a, used)?;
+    use_need(alloc, a, f, used)?;
     use_one(alloc, e, used)?;
     use_one(alloc, f, used)
 }
@@ -100,6 +110,7 @@ fn use_choice(
 /// What these programs change and ask for.
 pub(crate) fn used_by(alloc: Global, programs: &[Program]) -> Result<Used, NoMemory> {
     let mut used = Used {
+        needed: BTreeSet::new(alloc),
         folders: BTreeSet::new(alloc),
         changed: BTreeSet::new(alloc),
         asked: Seq::new(alloc),

@@ -10,8 +10,8 @@ pub returns : goal.returns
 returns c =
     let es = map program_of c.args.programs.now in
     let order = c.args.order.now in
-    let pairs = c.as_slice-2.result.now in
-    let doubtful = subst (AreDoubtful es (comes order)) (sym c.as_slice-2.ensures) c.in_ok-doubtful.ensures in
+    let pairs = c.as_slice-pairs.result.now in
+    let doubtful = subst (AreDoubtful es (comes order)) (sym c.as_slice-pairs.ensures) c.in_ok-doubtful.ensures in
     settled_from es order pairs c.in_ok-settled.settled
     (λ all. c.sure_pairs.ensures.enough es (comes order) c.are_proper.ensures pairs doubtful (λ a b h. of_member (PairCommutes es) pairs (a, b) h all))
     c.in_ok-settled.ensures

@@ -4,7 +4,7 @@ use Rattle.orders.specs.Relation.{comes}
 use Rattle.commute_prune.specs.Pruning.{chosen}
 use Rattle.judgement.specs.Settled.{IsSettled}
 use Rattle.judgement.proofs.JudgeLaws.{pruned, stated_by_any, judged_proved, judged_differs}
-use Rattle.judgement.proofs.judging.judge_pairs.Goals as goal
+use Rattle.judgement.proofs.judging.judge_looked.Goals as goal
 
 pub returns-in-Alike : goal.returns-in-Alike
 returns-in-Alike c =
