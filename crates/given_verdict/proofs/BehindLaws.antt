@@ -20,7 +20,7 @@ use Rattle.order_encode.specs.Witnesses.{IsFirstExtension}
 use Rattle.order_encode.specs.declared.witness.Witness.{Witness}
 use Rattle.order_encode.specs.declared.witness.Witness.TheVariants as witness
 use Rattle.judgement.specs.First.{IsDifference}
-use Rattle.given_verdict.specs.Second.{NeverChangedFrom, IsSecondChangeFrom, IsSecondProofFrom, IsChangeFrom}
+use Rattle.given_verdict.specs.Second.{NeverChangedFrom, IsSecondChangeFrom, IsSecondProofFrom, IsSecondRunFrom}
 use Rattle.given_verdict.specs.Behind.{IsDifferenceBehind, EndsDifferently, IsDifferentOf}
 
 -- ---- a first run as one program
@@ -91,14 +91,14 @@ module _ (given : List Path) (es : List Program) (order : Relation) (long : leng
       record { stand = c.stand; shows = record { is_tree = c.shows.is_tree; allowed = l; after = d.0; ends = d.1; changes = d.2 } }
 
   one_of : (t : Tree) (o p : List ℕ) → IsLinearExtension (length es) (Told (comes order)) o → (w : Witness) → IsDifferentOf es t o p w
-      → IsSecondRunCounterexampleFrom given es (Told (comes order)) t o ⊎ IsSecondRunCounterexampleFrom given es (Told (comes order)) t p → IsChangeFrom given es order w
-  one_of t o p l w (inl d) (inl c) = subst (IsChangeFrom given es order) (sym d.1) (shows t o o l d.0 c)
-  one_of t o p l w (inl d) (inr c) = subst (IsChangeFrom given es order) (sym d.1) (shows t o p l d.0 c)
+      → IsSecondRunCounterexampleFrom given es (Told (comes order)) t o ⊎ IsSecondRunCounterexampleFrom given es (Told (comes order)) t p → IsSecondRunFrom given es order w
+  one_of t o p l w (inl d) (inl c) = subst (IsSecondRunFrom given es order) (sym d.1) (shows t o o l d.0 c)
+  one_of t o p l w (inl d) (inr c) = subst (IsSecondRunFrom given es order) (sym d.1) (shows t o p l d.0 c)
   one_of t o p l w (inr d) (inl c) = absurd (d.0 (changed_differs es o t c.shows.after c.shows.ends c.shows.changes))
-  one_of t o p l w (inr d) (inr c) = subst (IsChangeFrom given es order) (sym d.1) c
+  one_of t o p l w (inr d) (inr c) = subst (IsSecondRunFrom given es order) (sym d.1) c
 
   pub changes : (tree : Tree) (left right : List ℕ) → IsDifferenceBehind given es order (witness.Orders tree left right) → (w : Witness)
-      → IsDifferentOf es tree (drop 1 left) (drop 1 right) w → IsChangeFrom given es order w
+      → IsDifferentOf es tree (drop 1 left) (drop 1 right) w → IsSecondRunFrom given es order w
   changes tree left right h w is =
       let c = h.differs.0 in
       let l = front h.first left c.left_allowed in
@@ -129,7 +129,7 @@ stated_by_any given es order f same no_model = record {
   no_model = no_model;
 }
 
-pub change_of_first : (given : List Path) (es : List Program) (order : Relation) (w : Witness) → IsSecondChangeFrom given es order w → IsChangeFrom given es order w
+pub change_of_first : (given : List Path) (es : List Program) (order : Relation) (w : Witness) → IsSecondChangeFrom given es order w → IsSecondRunFrom given es order w
 change_of_first given es order (witness.Orders tree left right) h = h
 change_of_first given es order (witness.Twice tree o) h = h.shows
 change_of_first given es order (witness.Ends tree o) h = h

@@ -16,7 +16,7 @@ use Rattle.order_encode.specs.Witnesses.{IsFirstExtension}
 use Rattle.order_encode.specs.declared.witness.Witness.{Witness}
 use Rattle.order_encode.specs.declared.witness.Witness.TheVariants as witness
 use Rattle.full_verdict.specs.Questions.{StatesEnd, IsEnd}
-use Rattle.given_verdict.specs.Second.{IsChangeFrom}
+use Rattle.given_verdict.specs.Second.{IsSecondRunFrom}
 use Rattle.given_verdict.specs.Ends.{IsRunFrom, StatesEndFrom, IsEndFrom, IsRunOf, HasOneOrder}
 use Rattle.given_verdict.proofs.AskedLaws.{layout_of_guarded}
 
@@ -29,7 +29,7 @@ one_order es order (witness.Orders tree left right) h = h
 one_order es order (witness.Twice tree o) h = tt
 one_order es order (witness.Ends tree o) h = tt
 
-pub one_order_of_change : (given : List Path) (es : List Program) (order : Relation) (w : Witness) → IsChangeFrom given es order w → HasOneOrder w
+pub one_order_of_change : (given : List Path) (es : List Program) (order : Relation) (w : Witness) → IsSecondRunFrom given es order w → HasOneOrder w
 one_order_of_change given es order (witness.Orders tree left right) h = h
 one_order_of_change given es order (witness.Twice tree o) h = tt
 one_order_of_change given es order (witness.Ends tree o) h = tt
@@ -44,7 +44,7 @@ module _ (given : List Path) (es : List Program) (order : Relation) (long : leng
   succeeds (witness.Ends tree first) h = record { tree = tree; is_tree = h.is_tree; order = first; allowed = allowed first h.is_first; ends = h.ends }
 
   -- the first of two runs ends in a tree, and so does the first extension
-  pub end_of_change : (w v : Witness) → IsChangeFrom given es order w → IsRunOf order w v → IsEndFrom given es order v
+  pub end_of_change : (w v : Witness) → IsSecondRunFrom given es order w → IsRunOf order w v → IsEndFrom given es order v
   end_of_change (witness.Orders tree left right) v h is = absurd h
   end_of_change (witness.Twice tree o) v h is =
       let g : _ = record { is_tree = h.shows.is_tree; stand = h.stand } in

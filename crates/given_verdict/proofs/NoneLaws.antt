@@ -71,7 +71,7 @@ module _ (es : List Program) (order : Relation) where
 
   change : (w : Witness) → IsSecondChange es order w → IsChangeFrom [] es order w
   change (witness.Orders tree left right) h = h
-  change (witness.Twice tree o) h = record { stand = tt; shows = h.1 }
+  change (witness.Twice tree o) h = (record { stand = tt; shows = h.1 }, λ empty. h.0)
   change (witness.Ends tree o) h = h
 
   pub end_of : (w : Witness) → IsEnd es order w → IsEndFrom [] es order w

@@ -1,5 +1,5 @@
 -- What is said of each verdict from the trees in which given folders stand.
-use Rattle.std.proofs.Common.{◌≡◌, ℕ, List, [], ◌∷◌, ◌++◌, length, refl, sym, subst}
+use Rattle.std.proofs.Common.{◌≡◌, ◌≢◌, ℕ, List, [], ◌∷◌, ◌++◌, length, refl, sym, subst}
 use Rattle.std.specs.Prelude.{◌↔◌}
 use Rattle.fs_semantics.specs.FileTree.{Path}
 use Rattle.fs_semantics.specs.Programs.{Program}
@@ -12,6 +12,7 @@ use Rattle.cnf.specs.declared.log.Log.{Log}
 use Rattle.proof_check.specs.Refuted.{Refutation}
 use Rattle.answering.specs.Answers.{UsesUp}
 use Rattle.order_encode.specs.declared.witness.Witness.{Witness}
+use Rattle.order_encode.specs.declared.witness.Witness.TheVariants as witness
 use Rattle.judgement.specs.First.{IsPrunedCount, IsAlone, IfProved}
 use Rattle.judgement.specs.declared.first.First.TheVariants as first
 use Rattle.judgement.specs.declared.first.Sure.{Sure}
@@ -27,7 +28,7 @@ use Rattle.full_verdict.specs.Verdicts.{IsByPruning, IfByProof, IfSame, IfChange
 use Rattle.full_verdict.specs.Answers.{proofs_in}
 use Rattle.full_verdict.proofs.VerdictLaws.{alone_by, proved_by}
 use Rattle.given_verdict.specs.First.{IsProofFrom, IsJudgedFrom}
-use Rattle.given_verdict.specs.Second.{IsSecondProofFrom, IsChangeFrom, IsSecondSpentFrom}
+use Rattle.given_verdict.specs.Second.{IsSecondProofFrom, IsSecondRunFrom, IsChangeFrom, IsSecondSpentFrom}
 use Rattle.given_verdict.specs.Ends.{StatesEndFrom, IsEndProofFrom, IsEndFrom}
 use Rattle.given_verdict.specs.Verdicts.{IsSpentOnFrom, IsKnownBeforeFrom, IsOrderProofFrom, AreProofsBeforeFrom}
 use Rattle.given_verdict.specs.Answers.{IsVerdictFrom}
@@ -105,6 +106,12 @@ module _ (given : List Path) (es : List Program) (order : Relation) (budget : �
   order_proof n sure.Pruned is = is.alone.0 tt
   order_proof n (sure.Proved v) is = (is.proved, refl)
 
+  -- where folders are given nothing is said of the order
+  change_in_any : given ≢ [] → (w : Witness) → IsSecondRunFrom given es order w → IsChangeFrom given es order w
+  change_in_any some (witness.Orders tree left right) h = h
+  change_in_any some (witness.Twice tree o) h = (h, λ empty. absurd (some empty))
+  change_in_any some (witness.Ends tree o) h = h
+
   module _ (n : ℕ) (s : Sure) (is : IsJudgedFrom given es order budget (first.Sure n s)) where
     pub spent_second : (f : Formula) (log : Log) (proofs : List Refutation) → proofs ≡ proofs_in s → IsSecondSpentFrom given es order budget f log.steps
         → IsVerdictFrom given es order budget (verdict.Spent n asked.Idempotent f log proofs)
@@ -123,6 +130,6 @@ module _ (given : List Path) (es : List Program) (order : Relation) (budget : �
         → IsVerdictFrom given es order budget (verdict.Judged n s (second.Same v) (ends.Never u))
     same_never v u again same fails end = judged n s (second.Same v) (ends.Never u) is again same tt tt tt fails end
 
-    pub changed_from : (w end : Witness) → IsChangeFrom given es order w → SucceedsFrom given es (Told (comes order)) → IsEndFrom given es order end
+    pub changed_from : given ≢ [] → (w end : Witness) → IsSecondRunFrom given es order w → SucceedsFrom given es (Told (comes order)) → IsEndFrom given es order end
         → IsVerdictFrom given es order budget (verdict.Judged n s (second.Differs w) (ends.From end))
-    changed_from w end changed succeeds from = judged n s (second.Differs w) (ends.From end) is tt tt changed succeeds from tt tt
+    changed_from some w end changed succeeds from = judged n s (second.Differs w) (ends.From end) is tt tt (change_in_any some w changed) succeeds from tt tt

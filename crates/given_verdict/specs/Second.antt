@@ -1,7 +1,7 @@
 -- The questions about second runs, where the first run begins in a tree in which given folders stand, and the second in what that
 -- left. It is asked first whether a second run in the first extension changes anything. Where a program may remove a given folder it
 -- is asked too whether all orders end alike behind a run in the first extension.
-use Rattle.std.specs.Prelude.{◌≡◌, ◌⊎◌, ◌↔◌, ℕ, List}
+use Rattle.std.specs.Prelude.{◌≡◌, ◌⊎◌, ◌↔◌, ℕ, List, []}
 use Rattle.fs_semantics.specs.FileTree.{Path, Tree}
 use Rattle.fs_semantics.specs.Programs.{Program}
 use Rattle.fs_semantics.specs.Orders.{Told}
@@ -46,9 +46,15 @@ pub record IsSecondProofFrom (given : List Path) (es : List Program) (order : Re
   pub no_model : HasNoModel f
 
 -- From the tree, in which the given folders stand, this allowed order ends in a tree that a second run in it doesn't leave as it is.
+abbrev pub IsSecondRunFrom : List Path → List Program → Relation → Witness → Type 0
+IsSecondRunFrom given es order (witness.Orders tree left right) = ⊥
+IsSecondRunFrom given es order (witness.Twice tree o) = IsSecondRunCounterexampleFrom given es (Comes order) tree o
+IsSecondRunFrom given es order (witness.Ends tree o) = ⊥
+
+-- The same. Where no folder is given the order is the first extension.
 abbrev pub IsChangeFrom : List Path → List Program → Relation → Witness → Type 0
 IsChangeFrom given es order (witness.Orders tree left right) = ⊥
-IsChangeFrom given es order (witness.Twice tree o) = IsSecondRunCounterexampleFrom given es (Comes order) tree o
+IsChangeFrom given es order (witness.Twice tree o) = IsSecondRunCounterexampleFrom given es (Comes order) tree o × (given ≡ [] → IsFirstExtension order o)
 IsChangeFrom given es order (witness.Ends tree o) = ⊥
 
 -- The budget was spent on a formula that states whether all orders end alike behind a run in the first extension.
@@ -64,7 +70,7 @@ IsSecondSpentFrom given es order budget f steps = (StatesSecondFrom given es ord
 -- what comes of the questions
 abbrev pub AnswersAgainFrom : List Path → List Program → Relation → ℕ → Answer → Type 0
 AnswersAgainFrom given es order budget (answer.Refuted v) = IsIdempotentFrom given es (Told (comes order)) × IsSecondProofFrom given es order v.formula
-AnswersAgainFrom given es order budget (answer.Shown w) = IsChangeFrom given es order w
+AnswersAgainFrom given es order budget (answer.Shown w) = IsSecondRunFrom given es order w
 AnswersAgainFrom given es order budget (answer.Spent cnf log) = IsSecondSpentFrom given es order budget cnf log.steps
 
 -- ---- of a second run in the first extension

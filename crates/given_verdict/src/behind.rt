@@ -10,7 +10,7 @@ ghost use Rattle.given_hosts.specs.Guard.{first_run};
 ghost use Rattle.commute_prune.specs.Pruning.{chosen};
 ghost use Rattle.orders.specs.Relation.{comes};
 ghost use Rattle.proof_check.specs.Refuted.{HasNoModel};
-ghost use Rattle.given_verdict.specs.Second.{NeverChangedFrom, IsChangeFrom, AnswersAgainFrom};
+ghost use Rattle.given_verdict.specs.Second.{NeverChangedFrom, IsSecondRunFrom, AnswersAgainFrom};
 ghost use Rattle.given_verdict.specs.Behind.{IsJudgedBehind, IsDifferenceBehind, EndsDifferently, IsDifferentOf};
 
 use crate::first::rest_of;
@@ -124,7 +124,7 @@ fn changed_run(
     requires count { length programs.now ≡ order.now.count }
     requires deterministic { IsDeterministicFrom given.now (map program_of programs.now) (Told (comes order.now)) }
     requires differs { IsDifferenceBehind given.now (map program_of programs.now) order.now witness }
-    ensures { IfOk result (IsChangeFrom given.now (map program_of programs.now) order.now) }
+    ensures { IfOk result (IsSecondRunFrom given.now (map program_of programs.now) order.now) }
 {
     guards();
     second_runs();
