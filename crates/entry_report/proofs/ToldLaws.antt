@@ -1,32 +1,33 @@
 -- From the answer to what is told of it.
-use Rattle.std.proofs.Common.{◌≡◌, inl, inr, ℕ, ◌^◌, ◌-◌, List, [], ◌∷◌, ◌++◌, length, Option, Some, None, refl, subst}
+use Rattle.std.proofs.Common.{◌≡◌, inl, inr, ℕ, ◌^◌, ◌-◌, List, [], length, Option, Some, None, refl, subst}
 use Rattle.fs_semantics.specs.Programs.{Program}
-use Rattle.fs_semantics.specs.Orders.{IsDeterministic, Succeeds}
+use Rattle.fs_semantics.specs.FileTree.{Path}
+use Rattle.given_hosts.specs.Given.{IsDeterministicFrom}
 use Rattle.orders.specs.Relation.{Relation, Comes}
 use Rattle.cnf.specs.Formulas.{Formula}
 use Rattle.cnf.specs.declared.log.Log.{Log}
 use Rattle.cnf.specs.declared.log.Step.{Step}
 use Rattle.order_encode.specs.declared.witness.Witness.{Witness}
 use Rattle.order_encode.specs.declared.witness.Witness.TheVariants as witness
-use Rattle.verdict.specs.Limits.{HasFewPaths, IsLight}
-use Rattle.judgement.specs.First.{IsDifference, IsSpent}
-use Rattle.judgement.specs.declared.first.First.{First}
+use Rattle.question_terms.specs.Terms.{budget_of}
+use Rattle.question_terms.specs.declared.terms.Terms.{Terms}
+use Rattle.given_verdict.specs.Limits.{HasFewPathsWith, IsLightWith}
+use Rattle.given_verdict.specs.First.{IsDifferenceFrom, IsSpentFrom}
 use Rattle.judgement.specs.declared.first.First.TheVariants as first
 use Rattle.full_verdict.specs.declared.verdicts.Asked.TheVariants as asked
-use Rattle.full_verdict.specs.declared.verdicts.Ends.{Ends}
 use Rattle.full_verdict.specs.declared.verdicts.Ends.TheVariants as ends
 use Rattle.verdict_report.specs.declared.report.Form.TheVariants as form
 use Rattle.verdict_report.specs.declared.report.Report.{Report}
-use Rattle.verdict_report.specs.Lines.{budget_of, spent_text}
+use Rattle.verdict_report.specs.Lines.{spent_text}
 use Rattle.verdict_report.specs.Told.{IsDifferent, IsUnanswered}
 use Rattle.wanted_entry.specs.declared.wanted.Wanted.{Wanted}
-use Rattle.wanted_entry.specs.Entries.{Ensures, probe_of}
 use Rattle.ensured_entry.specs.declared.ensured.Late.{Late}
 use Rattle.ensured_entry.specs.declared.ensured.Late.TheVariants as late
 use Rattle.ensured_entry.specs.declared.ensured.Ensured.{Ensured}
 use Rattle.ensured_entry.specs.declared.ensured.Ensured.TheVariants as ensured
-use Rattle.ensured_entry.specs.Questions.{IsMissed}
-use Rattle.ensured_entry.specs.Ensured.{IsSpentOn, IsKnownBefore, IsEnsured}
+use Rattle.given_entry.specs.Sizes.{HasFewPathsProbed}
+use Rattle.given_entry.specs.Questions.{IsMissedFrom}
+use Rattle.given_entry.specs.Answers.{IsSpentOnFrom, IsKnownBeforeFrom, IsEnsuredFrom}
 use Rattle.entry_report.specs.Lines.{missed_of, spent_late_text}
 use Rattle.entry_report.specs.Told.{TellsMissed, TellsSpent, IsEntryTold}
 use Rattle.entry_report.specs.Steps.{IsReportOf}
@@ -36,21 +37,21 @@ given_some : (given : Option ℕ) → (budget_of given ≡ 2 ^ 64 - 1 → ⊥) �
 given_some None limited = absurd (limited refl)
 given_some (Some c) limited = (c, refl)
 
-limited_in : (es : List Program) (order : Relation) (w : Wanted) (budget : ℕ) (a : Late) (f : Formula) (steps : List Step) → IsSpentOn es order w budget a f steps → budget ≡ 2 ^ 64 - 1 → ⊥
-limited_in es order w budget late.Ensures f steps spent = spent.1.limited
-limited_in es order w budget late.Succeeds f steps spent = spent.1.limited
+limited_in : (given : List Path) (es : List Program) (order : Relation) (w : Wanted) (budget : ℕ) (a : Late) (f : Formula) (steps : List Step) → IsSpentOnFrom given es order w budget a f steps → budget ≡ 2 ^ 64 - 1 → ⊥
+limited_in given es order w budget late.Ensures f steps spent = spent.1.limited
+limited_in given es order w budget late.Succeeds f steps spent = spent.1.limited
 
-module _ (given : Option ℕ) (w : Wanted) (names : List (List ℕ)) (es : List Program) (order : Relation) (budget : ℕ) (same : budget ≡ budget_of given) where
-  tells_different : (k : ℕ) (x : Witness) (report : Report) → IsDifference es (Comes order) x → IsReportOf names es budget (ensured.First (first.Differs k x)) report → IsDifferent form.Lines names es order k report
+module _ (terms : Terms) (notes : List ℕ) (w : Wanted) (names : List (List ℕ)) (es : List Program) (order : Relation) (budget : ℕ) (same : budget ≡ budget_of terms.conflicts) where
+  tells_different : (k : ℕ) (x : Witness) (report : Report) → IsDifferenceFrom terms.given es (Comes order) x → IsReportOf notes names es budget (ensured.First (first.Differs k x)) report → IsDifferent form.Lines terms notes names es order k report
   tells_different k (witness.Orders t left right) report shown is =
       record { status = is.status; tree = t; left = left; right = right; counterexample = shown.0; exchange = shown.1; text = is.text }
   tells_different k (witness.Twice t turns) report shown is = absurd shown
   tells_different k (witness.Ends t turns) report shown is = absurd shown
 
-  tells_unanswered : (k : ℕ) (cnf : Formula) (log : Log) (report : Report) → IsSpent es (Comes order) budget cnf log.steps → IsReportOf names es budget (ensured.First (first.Spent k cnf log)) report → IsUnanswered form.Lines given es order k report
+  tells_unanswered : (k : ℕ) (cnf : Formula) (log : Log) (report : Report) → IsSpentFrom terms.given es order budget cnf log.steps → IsReportOf notes names es budget (ensured.First (first.Spent k cnf log)) report → IsUnanswered form.Lines terms notes es order k report
   tells_unanswered k cnf log report spent is =
-      let used : IsSpent es (Comes order) (budget_of given) cnf log.steps = subst (λ b. IsSpent es (Comes order) b cnf log.steps) same spent in
-      let some = given_some given used.limited in
+      let used : IsSpentFrom terms.given es order (budget_of terms.conflicts) cnf log.steps = subst (λ b. IsSpentFrom terms.given es order b cnf log.steps) same spent in
+      let some = given_some terms.conflicts used.limited in
       record {
         status = is.status;
         conflicts = some.0;
@@ -62,19 +63,19 @@ module _ (given : Option ℕ) (w : Wanted) (names : List (List ℕ)) (es : List 
         known = tt;
         proofs = [];
         refuted = refl;
-        text = subst (λ b. report.text ≡ spent_text (length es) k asked.Deterministic b) same is.text;
+        text = subst (λ b. report.text ≡ spent_text (length es) notes k asked.Deterministic b) same is.text;
       }
 
-  tells_missed : (k : ℕ) (x : Witness) (report : Report) → IsDeterministic es (Comes order) → IsMissed es order w x → report.status ≡ 9 → report.text ≡ missed_of names es k x → TellsMissed w names es order k report
+  tells_missed : (k : ℕ) (x : Witness) (report : Report) → IsDeterministicFrom terms.given es (Comes order) → IsMissedFrom terms.given es order w x → report.status ≡ 9 → report.text ≡ missed_of names es notes k x → TellsMissed terms notes w names es order k report
   tells_missed k (witness.Orders t left right) report sure shown status text = absurd shown
   tells_missed k (witness.Twice t turns) report sure shown status text = absurd shown
   tells_missed k (witness.Ends t turns) report sure shown status text = record { status = status; deterministic = sure; tree = t; turns = turns; without = shown; text = text }
 
-  tells_spent : (k : ℕ) (a : Late) (cnf : Formula) (log : Log) (report : Report) → IsDeterministic es (Comes order) → IsSpentOn es order w budget a cnf log.steps → IsKnownBefore es order w a
-      → report.status ≡ 3 → report.text ≡ spent_late_text (length es) k a budget → TellsSpent given w es order k report
+  tells_spent : (k : ℕ) (a : Late) (cnf : Formula) (log : Log) (report : Report) → IsDeterministicFrom terms.given es (Comes order) → IsSpentOnFrom terms.given es order w budget a cnf log.steps → IsKnownBeforeFrom terms.given es order w a
+      → report.status ≡ 3 → report.text ≡ spent_late_text (length es) notes k a budget → TellsSpent terms notes w es order k report
   tells_spent k a cnf log report sure spent known status text =
-      let used : IsSpentOn es order w (budget_of given) a cnf log.steps = subst (λ b. IsSpentOn es order w b a cnf log.steps) same spent in
-      let some = given_some given (limited_in es order w (budget_of given) a cnf log.steps used) in
+      let used : IsSpentOnFrom terms.given es order w (budget_of terms.conflicts) a cnf log.steps = subst (λ b. IsSpentOnFrom terms.given es order w b a cnf log.steps) same spent in
+      let some = given_some terms.conflicts (limited_in terms.given es order w (budget_of terms.conflicts) a cnf log.steps used) in
       record {
         status = status;
         deterministic = sure;
@@ -85,11 +86,11 @@ module _ (given : Option ℕ) (w : Wanted) (names : List (List ℕ)) (es : List 
         steps = log.steps;
         spent = used;
         known = known;
-        text = subst (λ b. report.text ≡ spent_late_text (length es) k a b) same text;
+        text = subst (λ b. report.text ≡ spent_late_text (length es) notes k a b) same text;
       }
 
-  module _ (report : Report) (paths : HasFewPaths es) (probed : HasFewPaths (es ++ probe_of w ∷ [])) (weight : IsLight es) where
-    pub told_is : (e : Ensured) → IsEnsured es order w budget e → IsReportOf names es budget e report → IsEntryTold given w names es order report
+  module _ (report : Report) (paths : HasFewPathsWith terms.limits terms.given es) (probed : HasFewPathsProbed terms.limits terms.given es w) (weight : IsLightWith terms.limits es) where
+    pub told_is : (e : Ensured) → IsEnsuredFrom terms.given es order w budget e → IsReportOf notes names es budget e report → IsEntryTold terms notes w names es order report
     told_is (ensured.First (first.Sure k s)) said is = absurd said.unsure
     told_is (ensured.First (first.Differs k x)) said is = record { paths = paths; probed = probed; weight = weight; pruned = k; count = said.pruned; answer = inr (inl (tells_different k x report said.differs is)) }
     told_is (ensured.First (first.Spent k cnf log)) said is =

@@ -15,13 +15,13 @@ use Rattle.ensured_entry.specs.declared.ensured.Late.TheVariants as late
 use Rattle.ensured_entry.specs.declared.ensured.Ensured.{Ensured}
 use Rattle.ensured_entry.specs.declared.ensured.Ensured.TheVariants as ensured
 
--- each run that ends leaves the entry; of n resources pruning leaves k aside
-abbrev pub ensured_text : ℕ → ℕ → List ℕ → List ℕ
-ensured_text n k last = head_lines n k ++ (codes "deterministic\nensured\n" ++ last)
+-- each run that ends leaves the entry; of n resources, with notes, pruning leaves k aside
+abbrev pub ensured_text : ℕ → List ℕ → ℕ → List ℕ → List ℕ
+ensured_text n notes k last = head_lines n notes k ++ (codes "deterministic\nensured\n" ++ last)
 
 -- from the tree a run in the order ends without it
-abbrev pub missed_text : List (List ℕ) → List Program → ℕ → Tree → List ℕ → List ℕ
-missed_text names es k t order = head_lines (length es) k ++ (codes "deterministic\nnot ensured\n" ++ (tree_line t ++ run_lines names es t order))
+abbrev pub missed_text : List (List ℕ) → List Program → List ℕ → ℕ → Tree → List ℕ → List ℕ
+missed_text names es notes k t order = head_lines (length es) notes k ++ (codes "deterministic\nnot ensured\n" ++ (tree_line t ++ run_lines names es t order))
 
 -- what is known when a question is asked
 abbrev pub known_lines : Late → List ℕ
@@ -34,8 +34,8 @@ question_name late.Ensures = codes "ensures"
 question_name late.Succeeds = codes "succeeds"
 
 -- a question's conflicts are spent
-abbrev pub spent_late_text : ℕ → ℕ → Late → ℕ → List ℕ
-spent_late_text n k a budget = head_lines n k ++ (known_lines a ++ (codes "spent " ++ (question_name a ++ (codes " " ++ (decimal budget ++ codes "\n")))))
+abbrev pub spent_late_text : ℕ → List ℕ → ℕ → Late → ℕ → List ℕ
+spent_late_text n notes k a budget = head_lines n notes k ++ (known_lines a ++ (codes "spent " ++ (question_name a ++ (codes " " ++ (decimal budget ++ codes "\n")))))
 
 -- ---- of an answer
 
@@ -52,20 +52,20 @@ status_of (ensured.Fails k s w) = 9
 status_of (ensured.Spent k s a cnf log) = 3
 
 -- the lines where the graph isn't known to be deterministic
-abbrev pub first_lines : List (List ℕ) → List Program → ℕ → First → List ℕ
-first_lines names es budget (first.Sure k s) = []
-first_lines names es budget (first.Differs k w) = difference_of names es k w
-first_lines names es budget (first.Spent k cnf log) = spent_text (length es) k asked.Deterministic budget
+abbrev pub first_lines : List (List ℕ) → List Program → List ℕ → ℕ → First → List ℕ
+first_lines names es notes budget (first.Sure k s) = []
+first_lines names es notes budget (first.Differs k w) = difference_of names es notes k w
+first_lines names es notes budget (first.Spent k cnf log) = spent_text (length es) notes k asked.Deterministic budget
 
 -- the lines on a run that ends without the entry, if the witness is of one
-abbrev pub missed_of : List (List ℕ) → List Program → ℕ → Witness → List ℕ
-missed_of names es k (witness.Orders t left right) = []
-missed_of names es k (witness.Twice t order) = []
-missed_of names es k (witness.Ends t order) = missed_text names es k t order
+abbrev pub missed_of : List (List ℕ) → List Program → List ℕ → ℕ → Witness → List ℕ
+missed_of names es notes k (witness.Orders t left right) = []
+missed_of names es notes k (witness.Twice t order) = []
+missed_of names es notes k (witness.Ends t order) = missed_text names es notes k t order
 
 -- its lines, where each question had so many conflicts
-abbrev pub lines_of : List (List ℕ) → List Program → ℕ → Ensured → List ℕ
-lines_of names es budget (ensured.First f) = first_lines names es budget f
-lines_of names es budget (ensured.Holds k s v end) = ensured_text (length es) k (last_line end)
-lines_of names es budget (ensured.Fails k s w) = missed_of names es k w
-lines_of names es budget (ensured.Spent k s a cnf log) = spent_late_text (length es) k a budget
+abbrev pub lines_of : List (List ℕ) → List Program → List ℕ → ℕ → Ensured → List ℕ
+lines_of names es notes budget (ensured.First f) = first_lines names es notes budget f
+lines_of names es notes budget (ensured.Holds k s v end) = ensured_text (length es) notes k (last_line end)
+lines_of names es notes budget (ensured.Fails k s w) = missed_of names es notes k w
+lines_of names es notes budget (ensured.Spent k s a cnf log) = spent_late_text (length es) notes k a budget

@@ -16,11 +16,17 @@ use verdict_report::{push_head, push_last, push_run};
 use verdict_text::{push_bytes, push_tree};
 
 /// The lines where each run that ends leaves the entry.
-pub fn ensured_text(alloc: Global, n: usize, pruned: u32, end: &Ends) -> Result<Seq<u8>, NoMemory>
-    ensures { IfOk result (λ text. text ≡ ensured_text n pruned (last_line end.now)) }
+pub fn ensured_text(
+    alloc: Global,
+    n: usize,
+    notes: &[u8],
+    pruned: u32,
+    end: &Ends,
+) -> Result<Seq<u8>, NoMemory>
+    ensures { IfOk result (λ text. text ≡ ensured_text n notes.now pruned (last_line end.now)) }
 {
     let mut bytes = Vec::new(alloc);
-    push_head(alloc, n, pruned, &mut bytes)?;
+    push_head(alloc, n, notes, pruned, &mut bytes)?;
     push_bytes(b"deterministic\nensured\n", &mut bytes)?;
     push_last(end, &mut bytes)?;
     Ok(Seq::from_vec(bytes))
@@ -31,19 +37,20 @@ pub fn missed_text(
     alloc: Global,
     names: &[Text],
     programs: &[Program],
+    notes: &[u8],
     pruned: u32,
     witness: &Witness,
 ) -> Result<Seq<u8>, NoMemory>
     requires named { HasRun (length names.now) witness.now }
     requires places { HasRun (length programs.now) witness.now }
-    ensures { IfOk result (λ text. text ≡ missed_of names.now (map program_of programs.now) pruned witness.now) }
+    ensures { IfOk result (λ text. text ≡ missed_of names.now (map program_of programs.now) notes.now pruned witness.now) }
 {
     let Witness::Ends { tree, order } = witness else {
         unreachable!();
     };
     let turns = order.as_slice();
     let mut bytes = Vec::new(alloc);
-    push_head(alloc, programs.len(), pruned, &mut bytes)?;
+    push_head(alloc, programs.len(), notes, pruned, &mut bytes)?;
     push_bytes(b"deterministic\nnot ensured\n", &mut bytes)?;
     push_tree(alloc, tree, &mut bytes)?;
     push_run(alloc, names, programs, tree, turns, &mut bytes)?;
@@ -72,16 +79,17 @@ fn question_name(asked: &Late) -> &'static str
 pub fn spent_late_text(
     alloc: Global,
     n: usize,
+    notes: &[u8],
     pruned: u32,
     asked: &Late,
     budget: u64,
 ) -> Result<Seq<u8>, NoMemory>
-    ensures { IfOk result (λ text. text ≡ spent_late_text n pruned asked.now budget) }
+    ensures { IfOk result (λ text. text ≡ spent_late_text n notes.now pruned asked.now budget) }
 {
     let name = question_name(asked);
     let line = format!(in alloc; "spent {name} {budget}\n")?;
     let mut bytes = Vec::new(alloc);
-    push_head(alloc, n, pruned, &mut bytes)?;
+    push_head(alloc, n, notes, pruned, &mut bytes)?;
     push_known(asked, &mut bytes)?;
     push_bytes(line.as_str().as_bytes(), &mut bytes)?;
     Ok(Seq::from_vec(bytes))

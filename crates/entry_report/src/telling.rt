@@ -3,21 +3,22 @@
 ghost use Rattle.std.specs.Prelude.{◌≡◌, length, map, IfOk, IfErr};
 ghost use Rattle.rh_base.specs.Refused.{IfRefused};
 ghost use Rattle.fs_lang.specs.Meaning.{program_of};
-ghost use Rattle.wanted_entry.specs.Entries.{probe_of};
-ghost use Rattle.ensured_entry.specs.Sizes.{IsTooLargeWith};
+ghost use Rattle.given_entry.specs.Sizes.{IsTooLargeProbed};
 ghost use Rattle.entry_report.specs.Lines.{status_of, first_status, first_lines, lines_of};
 ghost use Rattle.entry_report.specs.Steps.{IsTellable, IsTellableFirst, IsReportOf};
 ghost use Rattle.entry_report.specs.Told.{IsEntryTold};
 
 use crate::lines::{ensured_text, missed_text, spent_late_text};
-use ensured_entry::{Ensured, judge_entry};
+use ensured_entry::Ensured;
 use fs_lang::Program;
 use full_verdict::Asked;
+use given_entry::judge_entry_from;
 use judgement::First;
 use orders::Order;
+use question_terms::Terms;
 use rh_base::{Fault, NoMemory, Seq, Text};
 use std::alloc::Global;
-use verdict_report::{Report, budget_of, difference_text, spent_text};
+use verdict_report::{Report, difference_text, spent_text};
 use wanted_entry::Wanted;
 
 /// The status that goes with it where a graph isn't known to be deterministic.
@@ -47,21 +48,23 @@ pub fn first_lines(
     alloc: Global,
     names: &[Text],
     programs: &[Program],
+    notes: &[u8],
     budget: u64,
     first: &First,
 ) -> Result<Seq<u8>, NoMemory>
     requires named { IsTellableFirst (length names.now) first.now }
     requires places { IsTellableFirst (length programs.now) first.now }
-    ensures { IfOk result (λ text. text ≡ first_lines names.now (map program_of programs.now) budget first.now) }
+    ensures { IfOk result (λ text. text ≡ first_lines names.now (map program_of programs.now) notes.now budget first.now) }
 {
     match first {
         First::Sure { .. } => unreachable!(),
         First::Differs { pruned, witness } => {
-            difference_text(alloc, names, programs, *pruned, witness)
+            difference_text(alloc, names, programs, notes, *pruned, witness)
         }
         First::Spent { pruned, .. } => spent_text(
             alloc,
             programs.len(),
+            notes,
             *pruned,
             &Asked::Deterministic,
             budget,
@@ -74,23 +77,30 @@ fn lines_of(
     alloc: Global,
     names: &[Text],
     programs: &[Program],
+    notes: &[u8],
     budget: u64,
     answered: &Ensured,
 ) -> Result<Seq<u8>, NoMemory>
     requires named { IsTellable (length names.now) answered.now }
     requires places { IsTellable (length programs.now) answered.now }
-    ensures { IfOk result (λ text. text ≡ lines_of names.now (map program_of programs.now) budget answered.now) }
+    ensures { IfOk result (λ text. text ≡ lines_of names.now (map program_of programs.now) notes.now budget answered.now) }
 {
     match answered {
-        Ensured::First(first) => first_lines(alloc, names, programs, budget, first),
-        Ensured::Holds { pruned, ends, .. } => ensured_text(alloc, programs.len(), *pruned, ends),
+        Ensured::First(first) => first_lines(alloc, names, programs, notes, budget, first),
+        Ensured::Holds { pruned, ends, .. } => ensured_text(
+            alloc,
+            programs.len(),
+            notes,
+            *pruned,
+            ends,
+        ),
         Ensured::Fails {
             pruned,
             witness,
             ..
-        } => missed_text(alloc, names, programs, *pruned, witness),
+        } => missed_text(alloc, names, programs, notes, *pruned, witness),
         Ensured::Spent { pruned, asked, .. } => {
-            spent_late_text(alloc, programs.len(), *pruned, asked, budget)
+            spent_late_text(alloc, programs.len(), notes, *pruned, asked, budget)
         }
     }
 }
@@ -100,23 +110,25 @@ fn report_of(
     alloc: Global,
     names: &[Text],
     programs: &[Program],
+    notes: &[u8],
     budget: u64,
     answered: &Ensured,
 ) -> Result<Report, NoMemory>
     requires named { IsTellable (length names.now) answered.now }
     requires places { IsTellable (length programs.now) answered.now }
-    ensures { IfOk result (IsReportOf names.now (map program_of programs.now) budget answered.now) }
+    ensures { IfOk result (IsReportOf notes.now names.now (map program_of programs.now) budget answered.now) }
 {
     let status = status_of(answered);
-    let text = lines_of(alloc, names, programs, budget, answered)?;
+    let text = lines_of(alloc, names, programs, notes, budget, answered)?;
     Ok(Report { status, text })
 }
 
-/// What is told of programs in an order and an entry that is wanted. The resources have these names. Each question has so many
-/// conflicts, if a number is given.
+/// What is told of programs in an order and an entry that is wanted. The resources have these names, and these notes stand behind
+/// their number.
 pub fn told(
     alloc: Global,
-    given: Option<u64>,
+    terms: &Terms,
+    notes: &[u8],
     wanted: &Wanted,
     names: &[Text],
     programs: &[Program],
@@ -124,12 +136,12 @@ pub fn told(
 ) -> Result<Report, Fault>
     requires count { length programs.now ≡ order.now.count }
     requires names { length names.now ≡ order.now.count }
-    ensures told { IfOk result (IsEntryTold given wanted.now names.now (map program_of programs.now) order.now) }
+    ensures told { IfOk result (IsEntryTold terms.now notes.now wanted.now names.now (map program_of programs.now) order.now) }
     // It is refused exactly where the graph is too large to be asked about, or the domain with the entry is.
-    ensures refused { IfErr result (λ e. IfRefused e (IsTooLargeWith (map program_of programs.now) (probe_of wanted.now))) }
+    ensures refused { IfErr result (λ e. IfRefused e (IsTooLargeProbed terms.now.limits terms.now.given (map program_of programs.now) wanted.now)) }
 {
-    let budget = budget_of(given);
-    let answered = judge_entry(alloc, programs, order, wanted, budget)?;
-    let report = report_of(alloc, names, programs, budget, &answered)?;
+    let answered = judge_entry_from(alloc, programs, order, wanted, terms)?;
+    let budget = terms.budget();
+    let report = report_of(alloc, names, programs, notes, budget, &answered)?;
     Ok(report)
 }

@@ -1,7 +1,7 @@
 -- From the answer to what is told of it.
 use Rattle.std.proofs.Common.{◌≡◌, ◌⊎◌, inl, inr, ℕ, ◌<◌, ◌^◌, ◌-◌, List, [], ◌++◌, length, Option, Some, None, refl, subst, sym, ap, ◌∙◌}
 use Rattle.std.specs.List.{AllByRecursion}
-use Rattle.fs_semantics.specs.FileTree.{Tree}
+use Rattle.fs_semantics.specs.FileTree.{Path, Tree}
 use Rattle.fs_semantics.specs.Programs.{Program}
 use Rattle.fs_semantics.specs.Orders.{IsLinearExtension, outcome}
 use Rattle.orders.specs.Relation.{Relation, Comes}
@@ -10,17 +10,20 @@ use Rattle.cnf.specs.Formulas.{Formula}
 use Rattle.order_encode.specs.declared.witness.Witness.TheVariants as witness
 use Rattle.order_encode.specs.Witnesses.{IsFirstExtension}
 use Rattle.order_encode.proofs.WitnessLaws.{Long, first_same}
-use Rattle.judgement.specs.First.{IsSpent}
 use Rattle.judgement.specs.declared.first.First.{First}
 use Rattle.judgement.specs.declared.first.First.TheVariants as first
 use Rattle.full_verdict.specs.declared.verdicts.Asked.TheVariants as asked
 use Rattle.verdict_report.specs.declared.report.Report.{Report}
-use Rattle.verdict_report.specs.Lines.{budget_of, spent_text}
+use Rattle.question_terms.specs.Terms.{budget_of}
+use Rattle.question_terms.specs.declared.terms.Terms.{Terms}
+use Rattle.given_verdict.specs.First.{IsSpentFrom}
+use Rattle.verdict_report.specs.Lines.{spent_text}
 use Rattle.entry_report.specs.Lines.{first_status, first_lines}
 use Rattle.entry_report.specs.Steps.{IsTellableFirst}
 use Rattle.equal_graphs.specs.Equal.{FirstsPart, EndApart}
-use Rattle.equal_graphs.specs.Sizes.{AreWithin}
-use Rattle.equal_graphs.specs.Compared.{IsSettled, IsUnsettled, IsSpentOn, IsCompared, IfLeft, IfRight}
+use Rattle.equal_graphs.specs.Compared.{IfLeft, IfRight}
+use Rattle.given_equal.specs.Sizes.{AreWithinWith}
+use Rattle.given_equal.specs.Answers.{IsSettledFrom, IsUnsettledFrom, IsSpentOnFrom, IsComparedFrom}
 use Rattle.equal_graphs.specs.declared.compared.Settled.{Settled}
 use Rattle.equal_graphs.specs.declared.compared.Compared.{Compared}
 use Rattle.equal_graphs.specs.declared.compared.Compared.TheVariants as compared
@@ -33,21 +36,21 @@ use Rattle.equal_report.specs.Told.{IsSettledWith, TellsDifference, TellsUnanswe
 pub below : (n m : ℕ) (order : List ℕ) → n ≡ m → AllByRecursion (λ k. k < m) order → AllByRecursion (λ k. k < n) order
 below n m order e all = subst (λ c. AllByRecursion (λ k. k < c) order) (sym e) all
 
-tellable_first : (n : ℕ) (es : List Program) (order : Relation) (budget : ℕ) → n ≡ length es → (f : First) → IsUnsettled es order budget f → IsTellableFirst n f
-tellable_first n es order budget same (first.Sure k s) is = is.unsure
-tellable_first n es order budget same (first.Differs k (witness.Orders t left right)) is =
-    (below n (length es) left same is.differs.0.left_allowed.below, below n (length es) right same is.differs.0.right_allowed.below)
-tellable_first n es order budget same (first.Differs k (witness.Twice t turns)) is = is.differs
-tellable_first n es order budget same (first.Differs k (witness.Ends t turns)) is = is.differs
-tellable_first n es order budget same (first.Spent k cnf log) is = tt
+tellable_first : (given : List Path) (n : ℕ) (es : List Program) (order : Relation) (budget : ℕ) → n ≡ length es → (f : First) → IsUnsettledFrom given es order budget f → IsTellableFirst n f
+tellable_first given n es order budget same (first.Sure k s) is = is.unsure
+tellable_first given n es order budget same (first.Differs k (witness.Orders t left right)) is =
+    (below n (length es) left same is.differs.0.shows.left_allowed.below, below n (length es) right same is.differs.0.shows.right_allowed.below)
+tellable_first given n es order budget same (first.Differs k (witness.Twice t turns)) is = is.differs
+tellable_first given n es order budget same (first.Differs k (witness.Ends t turns)) is = is.differs
+tellable_first given n es order budget same (first.Spent k cnf log) is = tt
 
-pub tellable : (n m : ℕ) (es : List Program) (order : Relation) (fs : List Program) (other : Relation) (budget : ℕ) → n ≡ length es → m ≡ length fs
-    → (c : Compared) → IfLeft c (IsUnsettled es order budget) → IfRight c (IsUnsettled fs other budget) → IsTellable n m c
-tellable n m es order fs other budget left right (compared.Left f) is more = tellable_first n es order budget left f is
-tellable n m es order fs other budget left right (compared.Right l f) is more = tellable_first m fs other budget right f more
-tellable n m es order fs other budget left right (compared.Equal l r v) is more = tt
-tellable n m es order fs other budget left right (compared.Differ l r t) is more = tt
-tellable n m es order fs other budget left right (compared.Spent l r cnf log) is more = tt
+pub tellable : (given : List Path) (n m : ℕ) (es : List Program) (order : Relation) (fs : List Program) (other : Relation) (budget : ℕ) → n ≡ length es → m ≡ length fs
+    → (c : Compared) → IfLeft c (IsUnsettledFrom given es order budget) → IfRight c (IsUnsettledFrom given fs other budget) → IsTellable n m c
+tellable given n m es order fs other budget left right (compared.Left f) is more = tellable_first given n es order budget left f is
+tellable given n m es order fs other budget left right (compared.Right l f) is more = tellable_first given m fs other budget right f more
+tellable given n m es order fs other budget left right (compared.Equal l r v) is more = tt
+tellable given n m es order fs other budget left right (compared.Differ l r t) is more = tt
+tellable given n m es order fs other budget left right (compared.Spent l r cnf log) is more = tt
 
 -- ---- what is told
 
@@ -69,15 +72,15 @@ apart long es order fs other t left right o p first second part = record {
   differ = λ e. part.differ (ap (λ x. outcome es x t) (first_same long order part.left o part.left_first first) ∙ e ∙ sym (ap (λ x. outcome fs x t) (first_same long other part.right p part.right_first second)));
 }
 
-settled_with : (es : List Program) (order : Relation) (s : Settled) → IsSettled es order s → IsSettledWith es order s.pruned
-settled_with es order s is = record { deterministic = is.deterministic; count = is.pruned }
+settled_with : (given : List Path) (es : List Program) (order : Relation) (s : Settled) → IsSettledFrom given es order s → IsSettledWith given es order s.pruned
+settled_with given es order s is = record { deterministic = is.deterministic; count = is.pruned }
 
-module _ (given : Option ℕ) (budget : ℕ) (same : budget ≡ budget_of given) where
-  tells_unanswered : (es : List Program) (order : Relation) (k : ℕ) (cnf : Formula) (log : Log) → IsUnsettled es order budget (first.Spent k cnf log) → (report : Report) → report.status ≡ 3
-      → report.text ≡ spent_text (length es) k asked.Deterministic budget → TellsUnanswered given es order report
+module _ (terms : Terms) (notes : List ℕ) (budget : ℕ) (same : budget ≡ budget_of terms.conflicts) where
+  tells_unanswered : (es : List Program) (order : Relation) (k : ℕ) (cnf : Formula) (log : Log) → IsUnsettledFrom terms.given es order budget (first.Spent k cnf log) → (report : Report) → report.status ≡ 3
+      → report.text ≡ spent_text (length es) notes k asked.Deterministic budget → TellsUnanswered terms notes es order report
   tells_unanswered es order k cnf log is report status text =
-      let used : IsSpent es (Comes order) (budget_of given) cnf log.steps = subst (λ b. IsSpent es (Comes order) b cnf log.steps) same is.spent in
-      let some = given_some given used.limited in
+      let used : IsSpentFrom terms.given es order (budget_of terms.conflicts) cnf log.steps = subst (λ b. IsSpentFrom terms.given es order b cnf log.steps) same is.spent in
+      let some = given_some terms.conflicts used.limited in
       record {
         pruned = k;
         count = is.pruned;
@@ -92,13 +95,13 @@ module _ (given : Option ℕ) (budget : ℕ) (same : budget ≡ budget_of given)
           known = tt;
           proofs = [];
           refuted = refl;
-          text = subst (λ b. report.text ≡ spent_text (length es) k asked.Deterministic b) same text;
+          text = subst (λ b. report.text ≡ spent_text (length es) notes k asked.Deterministic b) same text;
         };
       }
 
   -- what is told of one graph that isn't known to be deterministic
-  unsettled : (names : List (List ℕ)) (es : List Program) (order : Relation) (f : First) → IsUnsettled es order budget f → (report : Report) → report.status ≡ first_status f
-      → report.text ≡ first_lines names es budget f → TellsDifference names es order report ⊎ TellsUnanswered given es order report
+  unsettled : (names : List (List ℕ)) (es : List Program) (order : Relation) (f : First) → IsUnsettledFrom terms.given es order budget f → (report : Report) → report.status ≡ first_status f
+      → report.text ≡ first_lines names es notes budget f → TellsDifference terms notes names es order report ⊎ TellsUnanswered terms notes es order report
   unsettled names es order (first.Sure k s) is report status text = absurd is.unsure
   unsettled names es order (first.Differs k (witness.Orders t left right)) is report status text = inl (record {
     pruned = k;
@@ -111,62 +114,63 @@ module _ (given : Option ℕ) (budget : ℕ) (same : budget ≡ budget_of given)
 
   module _ (long : Long) (names : List (List ℕ)) (es : List Program) (order : Relation) (others : List (List ℕ)) (fs : List Program) (other : Relation) (left_long : length es ≡ order.count) (right_long : length fs ≡ other.count)
       (report : Report) where
-    tells_spent : (l r : Settled) (cnf : Formula) (log : Log) → IsSettled es order l → IsSettled fs other r → IsSpentOn es order fs other budget cnf log.steps → report.status ≡ 3
-        → report.text ≡ spent_equal_text (length es) l.pruned (length fs) r.pruned budget → TellsSpent given es order fs other report
+    tells_spent : (l r : Settled) (cnf : Formula) (log : Log) → IsSettledFrom terms.given es order l → IsSettledFrom terms.given fs other r → IsSpentOnFrom terms.given es order fs other budget cnf log.steps → report.status ≡ 3
+        → report.text ≡ spent_equal_text notes (length es) l.pruned (length fs) r.pruned budget → TellsSpent terms notes es order fs other report
     tells_spent l r cnf log one second spent_on status text =
-        let used : IsSpentOn es order fs other (budget_of given) cnf log.steps = subst (λ b. IsSpentOn es order fs other b cnf log.steps) same spent_on in
-        let some = given_some given used.1.limited in
+        let used : IsSpentOnFrom terms.given es order fs other (budget_of terms.conflicts) cnf log.steps = subst (λ b. IsSpentOnFrom terms.given es order fs other b cnf log.steps) same spent_on in
+        let some = given_some terms.conflicts used.1.limited in
         record {
           status = status;
           left = l.pruned;
-          left_settled = settled_with es order l one;
+          left_settled = settled_with terms.given es order l one;
           right = r.pruned;
-          right_settled = settled_with fs other r second;
+          right_settled = settled_with terms.given fs other r second;
           conflicts = some.0;
           limited = some.1;
           formula = cnf;
           steps = log.steps;
           spent = used;
-          text = subst (λ b. report.text ≡ spent_equal_text (length es) l.pruned (length fs) r.pruned b) same text;
+          text = subst (λ b. report.text ≡ spent_equal_text notes (length es) l.pruned (length fs) r.pruned b) same text;
         }
 
-    tells_left : TellsDifference names es order report ⊎ TellsUnanswered given es order report → Tells given names es order others fs other report
+    tells_left : TellsDifference terms notes names es order report ⊎ TellsUnanswered terms notes es order report → Tells terms notes names es order others fs other report
     tells_left (inl d) = differs (inl d)
     tells_left (inr u) = unanswered (inl u)
 
-    tells_right : (l : Settled) (rest : List ℕ) → IsSettled es order l → report.text ≡ settled_lines (length es) l.pruned ++ rest
-        → TellsDifference others fs other (record { status = report.status; text = rest }) ⊎ TellsUnanswered given fs other (record { status = report.status; text = rest })
-        → Tells given names es order others fs other report
-    tells_right l rest one text (inl d) = differs (inr (record { pruned = l.pruned; settled = settled_with es order l one; rest = rest; behind = d; text = text }))
-    tells_right l rest one text (inr u) = unanswered (inr (record { pruned = l.pruned; settled = settled_with es order l one; rest = rest; behind = u; text = text }))
+    tells_right : (l : Settled) (rest : List ℕ) → IsSettledFrom terms.given es order l → report.text ≡ settled_lines (length es) notes l.pruned ++ rest
+        → TellsDifference terms notes others fs other (record { status = report.status; text = rest }) ⊎ TellsUnanswered terms notes fs other (record { status = report.status; text = rest })
+        → Tells terms notes names es order others fs other report
+    tells_right l rest one text (inl d) = differs (inr (record { pruned = l.pruned; settled = settled_with terms.given es order l one; rest = rest; behind = d; text = text }))
+    tells_right l rest one text (inr u) = unanswered (inr (record { pruned = l.pruned; settled = settled_with terms.given es order l one; rest = rest; behind = u; text = text }))
 
-    tells : (c : Compared) → IsCompared es order fs other budget c → IsReportOf names es order others fs other budget c report → Tells given names es order others fs other report
+    tells : (c : Compared) → IsComparedFrom terms.given es order fs other budget c → IsReportOf notes names es order others fs other budget c report → Tells terms notes names es order others fs other report
     tells (compared.Left f) said is = tells_left (unsettled names es order f said.left report is.status is.text)
     tells (compared.Right l f) said is =
-        tells_right l (first_lines others fs budget f) said.left_settled is.text (unsettled others fs other f said.right (record { status = report.status; text = first_lines others fs budget f }) is.status refl)
+        tells_right l (first_lines others fs notes budget f) said.left_settled is.text (unsettled others fs other f said.right (record { status = report.status; text = first_lines others fs notes budget f }) is.status refl)
     tells (compared.Equal l r v) said is = equal (record {
       status = is.status;
       left = l.pruned;
-      left_settled = settled_with es order l said.left_settled;
+      left_settled = settled_with terms.given es order l said.left_settled;
       right = r.pruned;
-      right_settled = settled_with fs other r said.right_settled;
+      right_settled = settled_with terms.given fs other r said.right_settled;
       equal = said.equal;
       text = is.text;
     })
     tells (compared.Differ l r t) said is = unequal (record {
       status = is.status;
       left = l.pruned;
-      left_settled = settled_with es order l said.left_settled;
+      left_settled = settled_with terms.given es order l said.left_settled;
       right = r.pruned;
-      right_settled = settled_with fs other r said.right_settled;
+      right_settled = settled_with terms.given fs other r said.right_settled;
       tree = t;
       turns = is.first;
       other_turns = is.second;
-      apart = apart long es order fs other t left_long right_long is.first is.second is.is_first is.is_second said.differ;
+      stand = said.differ.stand;
+      apart = apart long es order fs other t left_long right_long is.first is.second is.is_first is.is_second said.differ.shows;
       text = is.text;
     })
     tells (compared.Spent l r cnf log) said is = spent (tells_spent l r cnf log said.left_settled said.right_settled said.spent is.status is.text)
 
-    pub told_is : AreWithin es fs → (c : Compared) → IsCompared es order fs other budget c → IsReportOf names es order others fs other budget c report
-        → IsComparedTold given names es order others fs other report
+    pub told_is : AreWithinWith terms.limits terms.given es fs → (c : Compared) → IsComparedFrom terms.given es order fs other budget c → IsReportOf notes names es order others fs other budget c report
+        → IsComparedTold terms notes names es order others fs other report
     told_is within c said is = record { within = within; answer = tells c said is }

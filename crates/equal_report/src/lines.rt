@@ -15,42 +15,45 @@ use verdict_text::{push_bytes, push_tree};
 pub fn push_settled(
     alloc: Global,
     n: usize,
+    notes: &[u8],
     pruned: u32,
     into: &mut Vec<u8>,
 ) -> Result<(), NoMemory>
-    ensures { OnOk result (into.new.items ≡ into.old.items ++ settled_lines n pruned) }
+    ensures { OnOk result (into.new.items ≡ into.old.items ++ settled_lines n notes.now pruned) }
 {
-    push_head(alloc, n, pruned, into)?;
+    push_head(alloc, n, notes, pruned, into)?;
     push_bytes(b"deterministic\n", into)
 }
 
 /// Begins with the lines on both graphs, which are deterministic.
 fn both(
     alloc: Global,
+    notes: &[u8],
     n: usize,
     pruned: u32,
     m: usize,
     other_pruned: u32,
 ) -> Result<Vec<u8>, NoMemory>
-    ensures { IfOk result (λ bytes. bytes.items ≡ both_lines n pruned m other_pruned) }
+    ensures { IfOk result (λ bytes. bytes.items ≡ both_lines notes.now n pruned m other_pruned) }
 {
     let mut bytes = Vec::new(alloc);
-    push_settled(alloc, n, pruned, &mut bytes)?;
-    push_settled(alloc, m, other_pruned, &mut bytes)?;
+    push_settled(alloc, n, notes, pruned, &mut bytes)?;
+    push_settled(alloc, m, notes, other_pruned, &mut bytes)?;
     Ok(bytes)
 }
 
 /// The lines where they do the same.
 pub fn equal_text(
     alloc: Global,
+    notes: &[u8],
     n: usize,
     pruned: u32,
     m: usize,
     other_pruned: u32,
 ) -> Result<Seq<u8>, NoMemory>
-    ensures { IfOk result (λ text. text ≡ equal_text n pruned m other_pruned) }
+    ensures { IfOk result (λ text. text ≡ equal_text notes.now n pruned m other_pruned) }
 {
-    let mut bytes = both(alloc, n, pruned, m, other_pruned)?;
+    let mut bytes = both(alloc, notes, n, pruned, m, other_pruned)?;
     push_bytes(b"equal\n", &mut bytes)?;
     Ok(Seq::from_vec(bytes))
 }
@@ -58,6 +61,7 @@ pub fn equal_text(
 /// The lines where they don't: a run of the one and a run of the other, from the same tree.
 pub fn unequal_text(
     alloc: Global,
+    notes: &[u8],
     names: &[Text],
     left: &[Program],
     pruned: u32,
@@ -72,9 +76,9 @@ pub fn unequal_text(
     requires places { AllByRecursion (λ i. i < length left.now) first.now }
     requires others_named { AllByRecursion (λ i. i < length others.now) second.now }
     requires other_places { AllByRecursion (λ i. i < length right.now) second.now }
-    ensures { IfOk result (λ text. text ≡ unequal_text names.now (map program_of left.now) pruned first.now others.now (map program_of right.now) other_pruned second.now tree.now) }
+    ensures { IfOk result (λ text. text ≡ unequal_text notes.now names.now (map program_of left.now) pruned first.now others.now (map program_of right.now) other_pruned second.now tree.now) }
 {
-    let mut bytes = both(alloc, left.len(), pruned, right.len(), other_pruned)?;
+    let mut bytes = both(alloc, notes, left.len(), pruned, right.len(), other_pruned)?;
     push_bytes(b"not equal\n", &mut bytes)?;
     push_tree(alloc, tree, &mut bytes)?;
     push_run(alloc, names, left, tree, first, &mut bytes)?;
@@ -93,15 +97,16 @@ fn push_spent(alloc: Global, budget: u64, into: &mut Vec<u8>) -> Result<(), NoMe
 /// The lines where the question's conflicts are spent.
 pub fn spent_equal_text(
     alloc: Global,
+    notes: &[u8],
     n: usize,
     pruned: u32,
     m: usize,
     other_pruned: u32,
     budget: u64,
 ) -> Result<Seq<u8>, NoMemory>
-    ensures { IfOk result (λ text. text ≡ spent_equal_text n pruned m other_pruned budget) }
+    ensures { IfOk result (λ text. text ≡ spent_equal_text notes.now n pruned m other_pruned budget) }
 {
-    let mut bytes = both(alloc, n, pruned, m, other_pruned)?;
+    let mut bytes = both(alloc, notes, n, pruned, m, other_pruned)?;
     push_spent(alloc, budget, &mut bytes)?;
     Ok(Seq::from_vec(bytes))
 }

@@ -6,21 +6,23 @@ ghost use Rattle.rh_base.specs.Refused.{IfRefused};
 ghost use Rattle.fs_lang.specs.Meaning.{program_of};
 ghost use Rattle.entry_report.specs.Lines.{first_lines};
 ghost use Rattle.entry_report.specs.Steps.{IsTellableFirst};
-ghost use Rattle.equal_graphs.specs.Sizes.{IsTooLargeTogether};
+ghost use Rattle.given_equal.specs.Sizes.{IsTooLargeJoined};
 ghost use Rattle.equal_report.specs.Lines.{settled_lines, status_of, lines_of};
 ghost use Rattle.equal_report.specs.Steps.{IsTellable, IsReportOf};
 ghost use Rattle.equal_report.specs.Told.{IsComparedTold};
 
 use crate::lines::{equal_text, push_settled, spent_equal_text, unequal_text};
 use entry_report::{first_lines, first_status};
-use equal_graphs::{Compared, compare};
+use equal_graphs::Compared;
 use fs_lang::Program;
+use given_equal::compare_from;
 use judgement::First;
 use order_places::allowed_orders;
 use orders::Order;
+use question_terms::Terms;
 use rh_base::{Fault, NoMemory, Seq, Text};
 use std::alloc::Global;
-use verdict_report::{Report, budget_of};
+use verdict_report::Report;
 use verdict_text::push_bytes;
 
 fn status_of(compared: &Compared) -> u8
@@ -39,6 +41,7 @@ fn status_of(compared: &Compared) -> u8
 fn right_lines(
     alloc: Global,
     n: usize,
+    notes: &[u8],
     pruned: u32,
     others: &[Text],
     right: &[Program],
@@ -47,11 +50,11 @@ fn right_lines(
 ) -> Result<Seq<u8>, NoMemory>
     requires named { IsTellableFirst (length others.now) first.now }
     requires places { IsTellableFirst (length right.now) first.now }
-    ensures { IfOk result (λ text. text ≡ settled_lines n pruned ++ first_lines others.now (map program_of right.now) budget first.now) }
+    ensures { IfOk result (λ text. text ≡ settled_lines n notes.now pruned ++ first_lines others.now (map program_of right.now) notes.now budget first.now) }
 {
-    let rest = first_lines(alloc, others, right, budget, first)?;
+    let rest = first_lines(alloc, others, right, notes, budget, first)?;
     let mut bytes = Vec::new(alloc);
-    push_settled(alloc, n, pruned, &mut bytes)?;
+    push_settled(alloc, n, notes, pruned, &mut bytes)?;
     push_bytes(rest.as_slice(), &mut bytes)?;
     Ok(Seq::from_vec(bytes))
 }
@@ -59,6 +62,7 @@ fn right_lines(
 /// The lines on an answer. Where two runs are told, they are in these orders.
 fn lines_of(
     alloc: Global,
+    notes: &[u8],
     names: &[Text],
     left: &[Program],
     one: &[u32],
@@ -74,16 +78,17 @@ fn lines_of(
     requires other_places { AllByRecursion (λ i. i < length right.now) second.now }
     requires names_told { IsTellable (length names.now) (length others.now) compared.now }
     requires programs_told { IsTellable (length left.now) (length right.now) compared.now }
-    ensures { IfOk result (λ text. text ≡ lines_of names.now (map program_of left.now) one.now others.now (map program_of right.now) second.now budget compared.now) }
+    ensures { IfOk result (λ text. text ≡ lines_of notes.now names.now (map program_of left.now) one.now others.now (map program_of right.now) second.now budget compared.now) }
 {
     match compared {
-        Compared::Left(first) => first_lines(alloc, names, left, budget, first),
+        Compared::Left(first) => first_lines(alloc, names, left, notes, budget, first),
         Compared::Right {
             left: settled,
             right: first,
         } => right_lines(
             alloc,
             left.len(),
+            notes,
             settled.pruned,
             others,
             right,
@@ -94,25 +99,34 @@ fn lines_of(
             left: l,
             right: r,
             ..
-        } => equal_text(alloc, left.len(), l.pruned, right.len(), r.pruned),
+        } => equal_text(alloc, notes, left.len(), l.pruned, right.len(), r.pruned),
         Compared::Differ {
             left: l,
             right: r,
             tree,
         } => unequal_text(
-            alloc, names, left, l.pruned, one, others, right, r.pruned, second, tree,
+            alloc, notes, names, left, l.pruned, one, others, right, r.pruned, second, tree,
         ),
         Compared::Spent {
             left: l,
             right: r,
             ..
-        } => spent_equal_text(alloc, left.len(), l.pruned, right.len(), r.pruned, budget),
+        } => spent_equal_text(
+            alloc,
+            notes,
+            left.len(),
+            l.pruned,
+            right.len(),
+            r.pruned,
+            budget,
+        ),
     }
 }
 
 /// An answer, as it is told.
 fn report_of(
     alloc: Global,
+    notes: &[u8],
     names: &[Text],
     left: &[Program],
     order: &Order,
@@ -128,13 +142,14 @@ fn report_of(
     requires right { length right.now ≡ other.now.count }
     requires names_told { IsTellable (length names.now) (length others.now) compared.now }
     requires programs_told { IsTellable (length left.now) (length right.now) compared.now }
-    ensures { IfOk result (IsReportOf names.now (map program_of left.now) order.now others.now (map program_of right.now) other.now budget compared.now) }
+    ensures { IfOk result (IsReportOf notes.now names.now (map program_of left.now) order.now others.now (map program_of right.now) other.now budget compared.now) }
 {
     let status = status_of(compared);
     let one = order.first_extension()?;
     let second = other.first_extension()?;
     let text = lines_of(
         alloc,
+        notes,
         names,
         left,
         one.as_slice(),
@@ -147,11 +162,12 @@ fn report_of(
     Ok(Report { status, text })
 }
 
-/// What is told of two graphs that are compared: whether they do the same. The resources of each have these names. Each question has
-/// so many conflicts, if a number is given.
+/// What is told of two graphs that are compared: whether they do the same. The resources of each have these names, and these notes
+/// stand behind each number of them.
 pub fn told(
     alloc: Global,
-    given: Option<u64>,
+    terms: &Terms,
+    notes: &[u8],
     names: &[Text],
     left: &[Program],
     order: &Order,
@@ -163,15 +179,15 @@ pub fn told(
     requires names { length names.now ≡ order.now.count }
     requires right { length right.now ≡ other.now.count }
     requires others { length others.now ≡ other.now.count }
-    ensures told { IfOk result (IsComparedTold given names.now (map program_of left.now) order.now others.now (map program_of right.now) other.now) }
+    ensures told { IfOk result (IsComparedTold terms.now notes.now names.now (map program_of left.now) order.now others.now (map program_of right.now) other.now) }
     // It is refused exactly where the two are too large to be compared.
-    ensures refused { IfErr result (λ e. IfRefused e (IsTooLargeTogether (map program_of left.now) (map program_of right.now))) }
+    ensures refused { IfErr result (λ e. IfRefused e (IsTooLargeJoined terms.now.limits terms.now.given (map program_of left.now) (map program_of right.now))) }
 {
     allowed_orders();
-    let budget = budget_of(given);
-    let compared = compare(alloc, left, order, right, other, budget)?;
+    let compared = compare_from(alloc, left, order, right, other, terms)?;
+    let budget = terms.budget();
     let report = report_of(
-        alloc, names, left, order, others, right, other, budget, &compared,
+        alloc, notes, names, left, order, others, right, other, budget, &compared,
     )?;
     Ok(report)
 }

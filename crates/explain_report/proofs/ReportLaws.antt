@@ -2,29 +2,35 @@
 use Rattle.std.proofs.Common.{◌≡◌, inl, inr, ◌-◌, ◌^◌, ℕ, List, [], ◌++◌, Option, Some, None, refl, sym, ap, subst, subst₂, ◌∙◌, append-nil}
 use Rattle.std.specs.Prelude.{IsSome}
 use Rattle.fs_semantics.specs.Programs.{Program, Outcome}
-use Rattle.fs_semantics.specs.Orders.{IsDeterministic, IsExchange, IsCounterexample, Succeeds, IsSecondRunCounterexample, outcome}
-use Rattle.fs_semantics.specs.FileTree.{Tree}
+use Rattle.fs_semantics.specs.Orders.{IsExchange, outcome}
+use Rattle.fs_semantics.specs.FileTree.{Path, Tree}
+use Rattle.given_hosts.specs.Given.{IsDeterministicFrom, IsCounterexampleFrom, SucceedsFrom, IsSecondRunCounterexampleFrom}
+use Rattle.question_terms.specs.Terms.{budget_of}
+use Rattle.question_terms.specs.declared.terms.Terms.{Terms}
 use Rattle.orders.specs.Relation.{Relation, Comes}
 use Rattle.cnf.specs.Formulas.{Formula}
 use Rattle.cnf.specs.declared.log.Step.{Step}
 use Rattle.cnf.specs.declared.log.Log.{Log}
 use Rattle.proof_check.specs.Refuted.{Refutation}
-use Rattle.order_encode.specs.Witnesses.{IsFirstExtension}
 use Rattle.order_encode.specs.declared.witness.Witness.{Witness}
 use Rattle.order_encode.specs.declared.witness.Witness.TheVariants as witness
-use Rattle.judgement.specs.First.{IsDifference}
 use Rattle.judgement.specs.declared.first.Sure.{Sure}
 use Rattle.full_verdict.specs.declared.verdicts.Asked.{Asked}
 use Rattle.full_verdict.specs.declared.verdicts.Asked.TheVariants as asked
+use Rattle.full_verdict.specs.declared.verdicts.Second.{Second}
 use Rattle.full_verdict.specs.declared.verdicts.Second.TheVariants as second
 use Rattle.full_verdict.specs.declared.verdicts.Ends.{Ends}
 use Rattle.full_verdict.specs.declared.verdicts.Ends.TheVariants as ends
+use Rattle.full_verdict.specs.declared.verdicts.Verdict.{Verdict}
 use Rattle.full_verdict.specs.declared.verdicts.Verdict.TheVariants as verdict
-use Rattle.full_verdict.specs.Questions.{IsSecondChange}
-use Rattle.full_verdict.specs.Verdicts.{IfFrom, IfNever, IsSpentOn}
-use Rattle.full_verdict.specs.Answers.{IsVerdict}
+use Rattle.full_verdict.specs.Verdicts.{IfFrom, IfNever}
+use Rattle.given_verdict.specs.First.{IsDifferenceFrom}
+use Rattle.order_encode.specs.Witnesses.{IsFirstExtension}
+use Rattle.given_verdict.specs.Second.{IsChangeFrom}
+use Rattle.given_verdict.specs.Verdicts.{IsSpentOnFrom}
+use Rattle.given_verdict.specs.Answers.{IsVerdictFrom}
 use Rattle.verdict_report.specs.declared.report.Report.{Report}
-use Rattle.verdict_report.specs.Lines.{budget_of, succeeds_line, fails_line}
+use Rattle.verdict_report.specs.Lines.{succeeds_line, fails_line}
 use Rattle.explained_runs.specs.Told.{TellsApart, TellsAgain, TellsFromNothing}
 use Rattle.explain_report.specs.Lines.{apart_text, again_text, spent_text}
 use Rattle.explain_report.specs.Steps.{EndHolds}
@@ -32,17 +38,17 @@ use Rattle.explain_report.specs.Told.{IsEnding, ExplainsDifference, ExplainsChan
 
 -- ---- the end of the text
 
-pub ends_well : (names : List (List ℕ)) (es : List Program) (order : Relation) (last : List ℕ) → Succeeds es (Comes order) → last ≡ succeeds_line ++ [] → IsEnding names es order last
-ends_well names es order last succeeds is = inl (is ∙ append-nil succeeds_line, succeeds)
+pub ends_well : (given : List Path) (names : List (List ℕ)) (es : List Program) (order : Relation) (last : List ℕ) → SucceedsFrom given es (Comes order) → last ≡ succeeds_line ++ [] → IsEnding given names es order last
+ends_well given names es order last succeeds is = inl (is ∙ append-nil succeeds_line, succeeds)
 
-pub ends_never : (names : List (List ℕ)) (es : List Program) (order : Relation) (line last : List ℕ) → (Succeeds es (Comes order) → ⊥) → TellsFromNothing names es order line → last ≡ fails_line ++ line
-    → IsEnding names es order last
-ends_never names es order line last never told is = inr (never, line, told, is)
+pub ends_never : (given : List Path) (names : List (List ℕ)) (es : List Program) (order : Relation) (line last : List ℕ) → (SucceedsFrom given es (Comes order) → ⊥) → TellsFromNothing given names es order line → last ≡ fails_line ++ line
+    → IsEnding given names es order last
+ends_never given names es order line last never told is = inr (never, line, told, is)
 
-pub end_holds : (es : List Program) (order : Relation) (k : ℕ) (s : Sure) (v : Refutation) (e : Ends) → IfFrom (verdict.Judged k s (second.Same v) e) (λ w. Succeeds es (Comes order))
-    → IfNever (verdict.Judged k s (second.Same v) e) (λ f. Succeeds es (Comes order) → ⊥) → EndHolds es order e
-end_holds es order k s v (ends.From w) succeeds never = succeeds
-end_holds es order k s v (ends.Never u) succeeds never = never
+pub end_holds : (given : List Path) (es : List Program) (order : Relation) (k : ℕ) (s : Sure) (v : Refutation) (e : Ends) → IfFrom (verdict.Judged k s (second.Same v) e) (λ w. SucceedsFrom given es (Comes order))
+    → IfNever (verdict.Judged k s (second.Same v) e) (λ f. SucceedsFrom given es (Comes order) → ⊥) → EndHolds given es order e
+end_holds given es order k s v (ends.From w) succeeds never = succeeds
+end_holds given es order k s v (ends.Never u) succeeds never = never
 
 -- ---- a second run
 
@@ -51,42 +57,41 @@ some_end None u is = cc
 some_end (Some t) u is = refl
 
 -- a first run that a second one changes has ended in a tree
-succeeds_first : (es : List Program) (order : Relation) (t : Tree) (turns : List ℕ) → IsSecondRunCounterexample es (Comes order) t turns → Succeeds es (Comes order)
-succeeds_first es order t turns changed = record {
+succeeds_first : (given : List Path) (es : List Program) (order : Relation) (t : Tree) (turns : List ℕ) → IsSecondRunCounterexampleFrom given es (Comes order) t turns → SucceedsFrom given es (Comes order)
+succeeds_first given es order t turns changed = record {
   tree = t;
-  is_tree = changed.is_tree;
+  is_tree = record { is_tree = changed.shows.is_tree; stand = changed.stand };
   order = turns;
-  allowed = changed.allowed;
-  ends = some_end (outcome es turns t) changed.after changed.ends;
+  allowed = changed.shows.allowed;
+  ends = some_end (outcome es turns t) changed.shows.after changed.shows.ends;
 }
 
-pub explains_change : (names : List (List ℕ)) (es : List Program) (order : Relation) (head lines shown text : List ℕ) (w : Witness) (t : Tree) (o turns : List ℕ) → w ≡ witness.Twice t o → turns ≡ o
-    → ((r : Relation) → IsSecondRunCounterexample es (Comes r) t turns → TellsAgain names es r turns lines) → shown ≡ lines → text ≡ again_text head shown
-    → IsDeterministic es (Comes order) → IsSecondChange es order w → ExplainsChange names es order head (record { status = 2; text = text })
-explains_change names es order head lines shown text w t o turns is same told all whole deterministic change =
-    let of : IsFirstExtension order o × IsSecondRunCounterexample es (Comes order) t o = subst (IsSecondChange es order) is change in
-    let by : IsFirstExtension order turns × IsSecondRunCounterexample es (Comes order) t turns =
-    subst (λ (p : List ℕ). IsFirstExtension order p × IsSecondRunCounterexample es (Comes order) t p) (sym same) of in
+pub explains_change : (given : List Path) (names : List (List ℕ)) (es : List Program) (order : Relation) (head lines shown text : List ℕ) (w : Witness) (t : Tree) (o turns : List ℕ) → w ≡ witness.Twice t o → turns ≡ o
+    → ((r : Relation) → IsSecondRunCounterexampleFrom given es (Comes r) t turns → TellsAgain given names es r turns lines) → shown ≡ lines → text ≡ again_text head shown
+    → IsDeterministicFrom given es (Comes order) → IsChangeFrom given es order w → ExplainsChange given names es order head (record { status = 2; text = text })
+explains_change given names es order head lines shown text w t o turns is same told all whole deterministic change =
+    let of : IsSecondRunCounterexampleFrom given es (Comes order) t o × (given ≡ [] → IsFirstExtension order o) = subst (IsChangeFrom given es order) is change in
+    let by : IsSecondRunCounterexampleFrom given es (Comes order) t turns = subst (λ (p : List ℕ). IsSecondRunCounterexampleFrom given es (Comes order) t p) (sym same) of.0 in
     record {
       status = refl;
       deterministic = deterministic;
       turns = turns;
-      is_first = by.0;
+      is_first = λ empty. subst (IsFirstExtension order) (sym same) (of.1 empty);
       lines = lines;
-      told = told order by.1;
-      succeeds = succeeds_first es order t turns by.1;
+      told = told order by;
+      succeeds = succeeds_first given es order t turns by;
       text = whole ∙ ap (again_text head) all;
     }
 
 -- ---- two orders
 
-pub explains_difference : (names : List (List ℕ)) (es : List Program) (order : Relation) (head lines shown text : List ℕ) (w : Witness) (t : Tree) (l r left right : List ℕ) → w ≡ witness.Orders t l r
-    → left ≡ l → right ≡ r → ((o : Relation) → IsCounterexample es (Comes o) t left right → IsExchange (Comes o) left right → TellsApart names es o lines) → shown ≡ lines → text ≡ apart_text head shown
-    → IsDifference es (Comes order) w → ExplainsDifference names es order head (record { status = 1; text = text })
-explains_difference names es order head lines shown text w t l r left right is same_left same_right told all whole difference =
-    let of : IsCounterexample es (Comes order) t l r × IsExchange (Comes order) l r = subst (IsDifference es (Comes order)) is difference in
-    let by : IsCounterexample es (Comes order) t left right × IsExchange (Comes order) left right =
-    subst₂ (λ (p : List ℕ) (q : List ℕ). IsCounterexample es (Comes order) t p q × IsExchange (Comes order) p q) (sym same_left) (sym same_right) of in
+pub explains_difference : (given : List Path) (names : List (List ℕ)) (es : List Program) (order : Relation) (head lines shown text : List ℕ) (w : Witness) (t : Tree) (l r left right : List ℕ) → w ≡ witness.Orders t l r
+    → left ≡ l → right ≡ r → ((o : Relation) → IsCounterexampleFrom given es (Comes o) t left right → IsExchange (Comes o) left right → TellsApart given names es o lines) → shown ≡ lines → text ≡ apart_text head shown
+    → IsDifferenceFrom given es (Comes order) w → ExplainsDifference given names es order head (record { status = 1; text = text })
+explains_difference given names es order head lines shown text w t l r left right is same_left same_right told all whole difference =
+    let of : IsCounterexampleFrom given es (Comes order) t l r × IsExchange (Comes order) l r = subst (IsDifferenceFrom given es (Comes order)) is difference in
+    let by : IsCounterexampleFrom given es (Comes order) t left right × IsExchange (Comes order) left right =
+    subst₂ (λ (p : List ℕ) (q : List ℕ). IsCounterexampleFrom given es (Comes order) t p q × IsExchange (Comes order) p q) (sym same_left) (sym same_right) of in
     record { status = refl; lines = lines; told = told order by.0 by.1; text = whole ∙ ap (apart_text head) all }
 
 -- ---- conflicts that are spent
@@ -95,16 +100,18 @@ given_some : (given : Option ℕ) → (budget_of given ≡ 2 ^ 64 - 1 → ⊥) �
 given_some None limited = absurd (limited refl)
 given_some (Some c) limited = (c, refl)
 
-limited_in : (es : List Program) (order : Relation) (budget : ℕ) (a : Asked) (f : Formula) (steps : List Step) → IsSpentOn es order budget a f steps → budget ≡ 2 ^ 64 - 1 → ⊥
-limited_in es order budget asked.Deterministic f steps spent = spent.limited
-limited_in es order budget asked.Idempotent f steps spent = spent.1.limited
-limited_in es order budget asked.Succeeds f steps spent = spent.1.limited
+limited_in : (given : List Path) (es : List Program) (order : Relation) (budget : ℕ) (a : Asked) (f : Formula) (steps : List Step) → IsSpentOnFrom given es order budget a f steps → budget ≡ 2 ^ 64 - 1 → ⊥
+limited_in given es order budget asked.Deterministic f steps spent = spent.limited
+limited_in given es order budget asked.Idempotent f steps (inl spent) = spent.1.limited
+limited_in given es order budget asked.Idempotent f steps (inr spent) = spent.spent.limited
+limited_in given es order budget asked.Succeeds f steps spent = spent.1.limited
 
-pub explains_spent : (given : Option ℕ) (es : List Program) (order : Relation) (head : List ℕ) (k : ℕ) (a : Asked) (f : Formula) (log : Log) (proofs : List Refutation) (report : Report)
-    → IsVerdict es order (budget_of given) (verdict.Spent k a f log proofs) → report ≡ record { status = 3; text = spent_text head a (budget_of given) } → ExplainsSpent given es order head report
-explains_spent given es order head k a f log proofs report said is =
-    let some = given_some given (limited_in es order (budget_of given) a f log.steps said.spent) in
-    subst (ExplainsSpent given es order head) (sym is) (record {
+pub explains_spent : (terms : Terms) (es : List Program) (order : Relation) (head : List ℕ) (k : ℕ) (a : Asked) (f : Formula) (log : Log) (proofs : List Refutation) (budget : ℕ) (report : Report)
+    → budget ≡ budget_of terms.conflicts → IsVerdictFrom terms.given es order (budget_of terms.conflicts) (verdict.Spent k a f log proofs) → report ≡ record { status = 3; text = spent_text head a budget }
+    → ExplainsSpent terms es order head report
+explains_spent terms es order head k a f log proofs budget report same said is =
+    let some = given_some terms.conflicts (limited_in terms.given es order (budget_of terms.conflicts) a f log.steps said.spent) in
+    subst (ExplainsSpent terms es order head) (sym is) (record {
       status = refl;
       conflicts = some.0;
       limited = some.1;
@@ -113,5 +120,18 @@ explains_spent given es order head k a f log proofs report said is =
       steps = log.steps;
       spent = said.spent;
       known = said.known;
-      text = refl;
+      text = ap (spent_text head a) same;
     })
+
+-- ---- the last question
+
+end_told : (given : List Path) (es : List Program) (order : Relation) (budget : ℕ) (k : ℕ) (s : Sure) (again : Second) (end : Ends)
+    → IsVerdictFrom given es order budget (verdict.Judged k s again end) → EndHolds given es order end
+end_told given es order budget k s again (ends.From w) said = said.succeeds
+end_told given es order budget k s again (ends.Never v) said = said.fails
+
+-- what is answered to the last question of a verdict is so
+pub end_is_so : (given folders : List Path) (es : List Program) (order : Relation) (budget : ℕ) (judged : Verdict) (k : ℕ) (s : Sure) (again : Second) (end : Ends)
+    → judged ≡ verdict.Judged k s again end → folders ≡ given → IsVerdictFrom given es order budget judged → EndHolds folders es order end
+end_is_so given folders es order budget judged k s again end is same said =
+    subst (λ g. EndHolds g es order end) (sym same) (end_told given es order budget k s again end (subst (IsVerdictFrom given es order budget) is said))

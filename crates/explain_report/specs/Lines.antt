@@ -1,12 +1,7 @@
 -- The text of an explanation.
 use Rattle.std.specs.Prelude.{ℕ, List, ◌++◌, codes}
-use Rattle.std.specs.Fmt.{decimal}
 use Rattle.full_verdict.specs.declared.verdicts.Asked.{Asked}
 use Rattle.verdict_report.specs.Lines.{known_lines, spent_line}
-
--- n resources, what is noted of them, and how many pruning leaves aside
-abbrev pub noted_head : ℕ → List ℕ → ℕ → List ℕ
-noted_head n notes k = codes "resources " ++ (decimal n ++ (codes "\n" ++ (notes ++ (codes "pruned " ++ (decimal k ++ codes "\n")))))
 
 -- all is well: from every tree all orders end alike, and a second run changes nothing
 abbrev pub sure_text : List ℕ → List ℕ → List ℕ

@@ -2,7 +2,7 @@
 
 ghost use Rattle.std.specs.Prelude.{◌≡◌, ◌++◌, length, map, IfOk};
 ghost use Rattle.fs_lang.specs.Meaning.{program_of};
-ghost use Rattle.fs_semantics.specs.Orders.{IsDeterministic, IsIdempotent};
+ghost use Rattle.given_hosts.specs.Given.{IsDeterministicFrom, IsIdempotentFrom};
 ghost use Rattle.orders.specs.Relation.{Comes};
 ghost use Rattle.verdict_report.specs.Lines.{last_line};
 ghost use Rattle.explain_report.specs.Told.{IsEnding, ExplainsSure};
@@ -10,7 +10,7 @@ ghost use Rattle.explain_report.specs.Steps.{EndHolds};
 
 use crate::lines::sure_text;
 use explained_runs::nothing_line;
-use fs_lang::Program;
+use fs_lang::{Path, Program};
 use full_verdict::Ends;
 use orders::Order;
 use rh_base::{NoMemory, Seq, Text};
@@ -35,15 +35,16 @@ fn ending(
     programs: &[Program],
     order: &Order,
     end: &Ends,
+    given: &[Path],
 ) -> Result<Seq<u8>, NoMemory>
     requires count { length programs.now ≡ order.now.count }
-    requires holds { EndHolds (map program_of programs.now) order.now end.now }
-    ensures { IfOk result (IsEnding names.now (map program_of programs.now) order.now) }
+    requires holds { EndHolds given.now (map program_of programs.now) order.now end.now }
+    ensures { IfOk result (IsEnding given.now names.now (map program_of programs.now) order.now) }
 {
     match end {
         Ends::From(_) => last_text(alloc, end, &[]),
         Ends::Never(_) => {
-            let line = nothing_line(alloc, names, programs, order)?;
+            let line = nothing_line(alloc, names, programs, order, given)?;
             last_text(alloc, end, line.as_slice())
         }
     }
@@ -52,19 +53,20 @@ fn ending(
 /// What is told where all is well.
 pub fn explain_sure(
     alloc: Global,
-    head: &str,
+    head: &[u8],
     names: &[Text],
     programs: &[Program],
     order: &Order,
     end: &Ends,
+    given: &[Path],
 ) -> Result<Report, NoMemory>
     requires count { length programs.now ≡ order.now.count }
-    requires deterministic { IsDeterministic (map program_of programs.now) (Comes order.now) }
-    requires idempotent { IsIdempotent (map program_of programs.now) (Comes order.now) }
-    requires holds { EndHolds (map program_of programs.now) order.now end.now }
-    ensures { IfOk result (ExplainsSure names.now (map program_of programs.now) order.now head.now) }
+    requires deterministic { IsDeterministicFrom given.now (map program_of programs.now) (Comes order.now) }
+    requires idempotent { IsIdempotentFrom given.now (map program_of programs.now) (Comes order.now) }
+    requires holds { EndHolds given.now (map program_of programs.now) order.now end.now }
+    ensures { IfOk result (ExplainsSure given.now names.now (map program_of programs.now) order.now head.now) }
 {
-    let last = ending(alloc, names, programs, order, end)?;
+    let last = ending(alloc, names, programs, order, end, given)?;
     let text = sure_text(alloc, head, last.as_slice())?;
     Ok(Report { status: 0, text })
 }

@@ -3,24 +3,27 @@
 ghost use Rattle.std.specs.Prelude.{◌≡◌, length, map, IfOk, IfErr};
 ghost use Rattle.rh_base.specs.Refused.{IfRefused};
 ghost use Rattle.fs_lang.specs.Meaning.{program_of};
-ghost use Rattle.verdict.specs.Limits.{IsTooLarge};
+ghost use Rattle.question_terms.specs.Terms.{budget_of};
 ghost use Rattle.full_verdict.specs.Verdicts.{pruned_in};
-ghost use Rattle.full_verdict.specs.Answers.{IsVerdict};
-ghost use Rattle.verdict_report.specs.Lines.{budget_of};
+ghost use Rattle.given_verdict.specs.Limits.{IsTooLargeWith};
+ghost use Rattle.given_verdict.specs.Answers.{IsVerdictFrom};
+ghost use Rattle.verdict_report.specs.Lines.{head_lines};
 ghost use Rattle.verdict_report.specs.Told.{IsTellable};
 ghost use Rattle.verdict_report.specs.declared.report.Report.{Report as R};
-ghost use Rattle.explain_report.specs.Lines.{noted_head, spent_text};
+ghost use Rattle.explain_report.specs.Lines.{spent_text};
 ghost use Rattle.explain_report.specs.Told.{Explains, IsExplained};
 
 use crate::lines::{noted_head, spent_text};
 use crate::parting::{explain_change, explain_difference};
 use crate::sure::explain_sure;
 use fs_lang::Program;
-use full_verdict::{Asked, Second, Verdict, judge};
+use full_verdict::{Asked, Second, Verdict};
+use given_verdict::judge_from;
 use orders::Order;
+use question_terms::Terms;
 use rh_base::{Fault, NoMemory, Text};
 use std::alloc::Global;
-use verdict_report::{Report, budget_of};
+use verdict_report::Report;
 
 /// How many programs pruning doesn't keep.
 fn pruned_in(judged: &Verdict) -> u32
@@ -34,7 +37,7 @@ fn pruned_in(judged: &Verdict) -> u32
 }
 
 /// What is told where a question's conflicts are spent.
-fn explain_spent(alloc: Global, head: &str, asked: &Asked, budget: u64) -> Result<Report, NoMemory>
+fn explain_spent(alloc: Global, head: &[u8], asked: &Asked, budget: u64) -> Result<Report, NoMemory>
     ensures { IfOk result (λ report. report ≡ record { status = 3; text = spent_text head.now asked.now budget }) }
 {
     let text = spent_text(alloc, head, asked, budget)?;
@@ -44,8 +47,8 @@ fn explain_spent(alloc: Global, head: &str, asked: &Asked, budget: u64) -> Resul
 /// A verdict, as it is explained.
 fn explain(
     alloc: Global,
-    given: Option<u64>,
-    head: &str,
+    terms: &Terms,
+    head: &[u8],
     names: &[Text],
     programs: &[Program],
     order: &Order,
@@ -53,44 +56,45 @@ fn explain(
 ) -> Result<Report, NoMemory>
     requires count { length programs.now ≡ order.now.count }
     requires places { IsTellable (length programs.now) judged.now }
-    requires verdict { IsVerdict (map program_of programs.now) order.now (budget_of given) judged.now }
-    ensures { IfOk result (Explains given names.now (map program_of programs.now) order.now head.now) }
+    requires verdict { IsVerdictFrom terms.now.given (map program_of programs.now) order.now (budget_of terms.now.conflicts) judged.now }
+    ensures { IfOk result (Explains terms.now names.now (map program_of programs.now) order.now head.now) }
 {
+    let given = terms.given.as_slice();
     match judged {
         Verdict::NotDeterministic { witness, .. } => {
-            explain_difference(alloc, head, names, programs, witness)
+            explain_difference(alloc, head, names, programs, witness, given)
         }
         Verdict::Judged {
             second: Second::Same(_),
             ends,
             ..
-        } => explain_sure(alloc, head, names, programs, order, ends),
+        } => explain_sure(alloc, head, names, programs, order, ends, given),
         Verdict::Judged {
             second: Second::Differs(witness),
             ..
-        } => explain_change(alloc, head, names, programs, witness),
-        Verdict::Spent { asked, .. } => explain_spent(alloc, head, asked, budget_of(given)),
+        } => explain_change(alloc, head, names, programs, witness, given),
+        Verdict::Spent { asked, .. } => explain_spent(alloc, head, asked, terms.budget()),
     }
 }
 
 /// What is explained of programs and the order between them. The resources have these names, and these notes stand behind their
-/// number. Each question has so many conflicts, if a number is given.
+/// number.
 pub fn told(
     alloc: Global,
-    given: Option<u64>,
-    notes: &str,
+    terms: &Terms,
+    notes: &[u8],
     names: &[Text],
     programs: &[Program],
     order: &Order,
 ) -> Result<Report, Fault>
     requires { length programs.now ≡ order.now.count }
-    ensures told { IfOk result (IsExplained given notes.now names.now (map program_of programs.now) order.now) }
+    ensures told { IfOk result (IsExplained terms.now notes.now names.now (map program_of programs.now) order.now) }
     // It is refused exactly where the graph is too large to be asked about.
-    ensures refused { IfErr result (λ e. IfRefused e (IsTooLarge (map program_of programs.now))) }
+    ensures refused { IfErr result (λ e. IfRefused e (IsTooLargeWith terms.now.limits terms.now.given (map program_of programs.now))) }
 {
-    let judged = judge(alloc, programs, order, budget_of(given))?;
+    let judged = judge_from(alloc, programs, order, terms)?;
     let head = noted_head(alloc, programs.len(), notes, pruned_in(&judged))?;
-    let shown = head.as_str();
-    let report = explain(alloc, given, shown, names, programs, order, &judged)?;
+    let shown = head.as_slice();
+    let report = explain(alloc, terms, shown, names, programs, order, &judged)?;
     Ok(report)
 }

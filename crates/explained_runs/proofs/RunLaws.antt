@@ -1,11 +1,11 @@
 -- What is told of runs, from what was found.
 use Rattle.std.proofs.Common.{◌≡◌, ◌≢◌, inl, inr, ℕ, cond, List, [], ◌∷◌, ◌++◌, length, Some, None, refl, sym, ap, subst, ◌∙◌, arith, eq-eqb}
 use Rattle.std.specs.Prelude.{◌↔◌, IsSome}
-use Rattle.std.specs.FinMap as map
 use Rattle.std.proofs.lemmas.Bool.{ne_eqb}
-use Rattle.fs_semantics.specs.FileTree.{Tree, IsTree}
+use Rattle.fs_semantics.specs.FileTree.{Path, Tree}
 use Rattle.fs_semantics.specs.Programs.{Program, Outcome}
-use Rattle.fs_semantics.specs.Orders.{IsLinearExtension, IsExchange, IsCounterexample, IsSecondRunCounterexample, Succeeds, outcome}
+use Rattle.fs_semantics.specs.Orders.{IsLinearExtension, IsExchange, IsCounterexample, IsSecondRunCounterexample, outcome}
+use Rattle.given_hosts.specs.Given.{Stand, SucceedsFrom, IsCounterexampleFrom, IsSecondRunCounterexampleFrom}
 use Rattle.fs_lang.specs.Meaning.{program_of}
 use Rattle.orders.specs.Relation.{Relation, Comes}
 use Rattle.orders.specs.Extensions.{TakesLeast}
@@ -15,6 +15,7 @@ use Rattle.failure_search.specs.declared.failure.Failed.{Failed}
 use Rattle.failure_search.specs.Found.{reason_of, Tells}
 use Rattle.explained_text.specs.Lines.{fails_words}
 use Rattle.verdict_text.specs.Lines.{name_at}
+use Rattle.explained_runs.specs.GivenTree.{IsOfGiven}
 use Rattle.explained_runs.specs.Lines.{from_line, apart_lines}
 use Rattle.explained_runs.specs.Told.{SaysWhereItFails, TellsHow, ListsWhere, TellsApart, TellsAgain, TellsFromNothing}
 use Rattle.explained_runs.specs.Steps.{first_apart, TellsBoth, TellsSecond}
@@ -63,9 +64,9 @@ tells_both names es t left right p a b how other list lines places first second 
       ∙ ap (λ (q : ℕ × ℕ). apart_lines (name_at names q.0) (name_at names q.1) t how other list) places;
 }
 
-pub tells_apart : (names : List (List ℕ)) (es : List Program) (order : Relation) (t : Tree) (left right lines : List ℕ) → IsCounterexample es (Comes order) t left right
-    → IsExchange (Comes order) left right → TellsBoth names es t left right lines → TellsApart names es order lines
-tells_apart names es order t left right lines shown e told = record {
+pub tells_apart : (given : List Path) (names : List (List ℕ)) (es : List Program) (order : Relation) (t : Tree) (left right lines : List ℕ) → IsCounterexampleFrom given es (Comes order) t left right
+    → IsExchange (Comes order) left right → TellsBoth names es t left right lines → TellsApart given names es order lines
+tells_apart given names es order t left right lines shown e told = record {
   tree = t;
   left = left;
   right = right;
@@ -82,14 +83,18 @@ tells_apart names es order t left right lines shown e told = record {
 
 -- ---- a second run
 
-pub tells_again : (names : List (List ℕ)) (es : List Program) (order : Relation) (t after : Tree) (turns lines : List ℕ) → outcome es turns t ≡ Some after
-    → TellsSecond names es t turns after lines → IsSecondRunCounterexample es (Comes order) t turns → TellsAgain names es order turns lines
-tells_again names es order t after turns lines ends told shown =
+pub tells_again : (given : List Path) (names : List (List ℕ)) (es : List Program) (order : Relation) (t after : Tree) (turns lines : List ℕ) → outcome es turns t ≡ Some after
+    → TellsSecond names es t turns after lines → IsSecondRunCounterexampleFrom given es (Comes order) t turns → TellsAgain given names es order turns lines
+tells_again given names es order t after turns lines ends told c =
+    let shown = c.shows in
     let both : ◌≡◌ {A = Outcome} (Some shown.after) (Some after) = sym shown.ends ∙ ends in
     let same : shown.after ≡ after = cc in
     record {
       tree = t;
-      counterexample = record { is_tree = shown.is_tree; allowed = shown.allowed; after = after; ends = ends; changes = subst (λ (u : Tree). outcome es turns u ≢ Some u) same shown.changes };
+      counterexample = record {
+        stand = c.stand;
+        shows = record { is_tree = shown.is_tree; allowed = shown.allowed; after = after; ends = ends; changes = subst (λ (u : Tree). outcome es turns u ≢ Some u) same shown.changes };
+      };
       how = told.how;
       second = told.second;
       list = told.list;
@@ -97,9 +102,9 @@ tells_again names es order t after turns lines ends told shown =
       are = told.are;
     }
 
-pub never_again : (names : List (List ℕ)) (es : List Program) (order : Relation) (t : Tree) (turns lines : List ℕ) → outcome es turns t ≡ None
-    → IsSecondRunCounterexample es (Comes order) t turns → TellsAgain names es order turns lines
-never_again names es order t turns lines fails shown = let clash : ◌≡◌ {A = Outcome} None (Some shown.after) = sym fails ∙ shown.ends in cc
+pub never_again : (given : List Path) (names : List (List ℕ)) (es : List Program) (order : Relation) (t : Tree) (turns lines : List ℕ) → outcome es turns t ≡ None
+    → IsSecondRunCounterexampleFrom given es (Comes order) t turns → TellsAgain given names es order turns lines
+never_again given names es order t turns lines fails c = let clash : ◌≡◌ {A = Outcome} None (Some c.shows.after) = sym fails ∙ c.shows.ends in cc
 
 -- ---- from nothing
 
@@ -107,14 +112,25 @@ some_end : (o : Outcome) (u : Tree) → o ≡ Some u → IsSome o
 some_end None u is = cc
 some_end (Some t) u is = refl
 
-pub tells_from_nothing : (names : List (List ℕ)) (es : List Program) (order : Relation) (first turns words line : List ℕ) (t : Tree) → t ≡ map.empty → turns ≡ first → length es ≡ order.count → IsTree t
+pub tells_from_nothing : (given : List Path) (names : List (List ℕ)) (es : List Program) (order : Relation) (first turns words line : List ℕ) (t : Tree) → IsOfGiven given t → turns ≡ first → length es ≡ order.count
     → IsLinearExtension order.count (Comes order) first → TakesLeast order.count (Comes order) [] first → TellsHow names es turns t words → line ≡ from_line t words
-    → (Succeeds es (Comes order) → ⊥) → TellsFromNothing names es order line
-tells_from_nothing names es order first turns words line t empty same count tree allowed least how is never =
-    fails (subst (λ (u : Tree). TellsHow names es first u words) empty (subst (λ (o : List ℕ). TellsHow names es o t words) same how))
+    → (SucceedsFrom given es (Comes order) → ⊥) → TellsFromNothing given names es order line
+tells_from_nothing given names es order first turns words line t alone same count allowed least how is never = fails (subst (λ (o : List ℕ). TellsHow names es o t words) same how)
   where
-    fails : TellsHow names es first map.empty words → TellsFromNothing names es order line
+    fails : TellsHow names es first t words → TellsFromNothing given names es order line
     fails (inl ends) =
         let long : IsLinearExtension (length es) (Comes order) first = subst (λ (n : ℕ). IsLinearExtension n (Comes order) first) (sym count) allowed in
-        absurd (never (record { tree = map.empty; is_tree = subst IsTree empty tree; order = first; allowed = long; ends = some_end (outcome es first map.empty) ends.after ends.ends }))
-    fails (inr told) = record { first = first; allowed = allowed; least = least; words = words; fails = told; is = is ∙ ap (λ (u : Tree). from_line u words) empty }
+        absurd (never (record { tree = t; is_tree = alone.is_tree; order = first; allowed = long; ends = some_end (outcome es first t) ends.after ends.ends }))
+    fails (inr told) = record { first = first; allowed = allowed; least = least; tree = t; alone = alone; words = words; fails = told; is = is }
+
+-- ---- what is left of a tree
+
+pub apart_from : (given : List Path) (es : List Program) (order : Relation) (t u : Tree) (left right : List ℕ) → (Stand given t → Stand given u)
+    → (IsCounterexample es (Comes order) t left right → IsCounterexample es (Comes order) u left right)
+    → IsCounterexampleFrom given es (Comes order) t left right → IsCounterexampleFrom given es (Comes order) u left right
+apart_from given es order t u left right stand shows c = record { stand = stand c.stand; shows = shows c.shows }
+
+pub again_from : (given : List Path) (es : List Program) (order : Relation) (t u : Tree) (turns : List ℕ) → (Stand given t → Stand given u)
+    → (IsSecondRunCounterexample es (Comes order) t turns → IsSecondRunCounterexample es (Comes order) u turns)
+    → IsSecondRunCounterexampleFrom given es (Comes order) t turns → IsSecondRunCounterexampleFrom given es (Comes order) u turns
+again_from given es order t u turns stand shows c = record { stand = stand c.stand; shows = shows c.shows }

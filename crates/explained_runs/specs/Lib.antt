@@ -1,3 +1,4 @@
 pub mod Lines
+pub mod GivenTree
 pub mod Told
 pub mod Steps

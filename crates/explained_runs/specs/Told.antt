@@ -1,9 +1,9 @@
 -- What is told of runs that part, and what holds where it is told.
 use Rattle.std.specs.Prelude.{◌≡◌, ◌⊎◌, ℕ, List, [], Some, None, codes}
-use Rattle.std.specs.FinMap as map
-use Rattle.fs_semantics.specs.FileTree.{Tree}
+use Rattle.fs_semantics.specs.FileTree.{Path, Tree}
 use Rattle.fs_semantics.specs.Programs.{Program, Outcome}
-use Rattle.fs_semantics.specs.Orders.{IsLinearExtension, IsExchange, IsCounterexample, IsSecondRunCounterexample, outcome}
+use Rattle.fs_semantics.specs.Orders.{IsLinearExtension, IsExchange, outcome}
+use Rattle.given_hosts.specs.Given.{IsCounterexampleFrom, IsSecondRunCounterexampleFrom}
 use Rattle.orders.specs.Relation.{Relation, Comes}
 use Rattle.orders.specs.Extensions.{TakesLeast}
 use Rattle.failure_semantics.specs.Failures.{Failure, Explains}
@@ -11,6 +11,7 @@ use Rattle.failure_semantics.specs.Orders.{OrderFailsAt, EndsShortestFront}
 use Rattle.tree_differences.specs.Differences.{Difference, AreDifferences}
 use Rattle.explained_text.specs.Lines.{fails_words, difference_lines}
 use Rattle.verdict_text.specs.Lines.{name_at}
+use Rattle.explained_runs.specs.GivenTree.{IsOfGiven}
 use Rattle.explained_runs.specs.Lines.{from_line, apart_lines, again_lines}
 
 -- ---- how a run ends
@@ -53,14 +54,14 @@ ListsWhere None None lines = lines ≡ []
 
 -- ---- runs that part
 
--- Two allowed orders end apart from a tree, and the second is the first with two free neighbours exchanged. What is told
--- are these two, the one that comes first in the first order ahead; the tree; how each run ends; and the paths at which
--- the outcomes differ.
-pub record TellsApart (names : List (List ℕ)) (es : List Program) (order : Relation) (lines : List ℕ) : Type 0 where
+-- Two allowed orders end apart from a tree in which the given folders stand, and the second is the first with two free neighbours
+-- exchanged. What is told are these two, the one that comes first in the first order ahead; the tree; how each run ends; and the
+-- paths at which the outcomes differ.
+pub record TellsApart (given : List Path) (names : List (List ℕ)) (es : List Program) (order : Relation) (lines : List ℕ) : Type 0 where
   pub tree : Tree
   pub left : List ℕ
   pub right : List ℕ
-  pub counterexample : IsCounterexample es (Comes order) tree left right
+  pub counterexample : IsCounterexampleFrom given es (Comes order) tree left right
   pub exchange : IsExchange (Comes order) left right
   pub how : List ℕ
   pub first : TellsHow names es left tree how
@@ -70,22 +71,25 @@ pub record TellsApart (names : List (List ℕ)) (es : List Program) (order : Rel
   pub differences : ListsWhere (outcome es left tree) (outcome es right tree) list
   pub are : lines ≡ apart_lines (name_at names exchange.left) (name_at names exchange.right) tree how other list
 
--- A run in this allowed order ends in a tree that a second run in it doesn't leave as it is. What is told is the tree from
--- which the first began; how the second ends; and the paths at which the second changed what the first left.
-pub record TellsAgain (names : List (List ℕ)) (es : List Program) (order : Relation) (turns lines : List ℕ) : Type 0 where
+-- A run in this allowed order, from a tree in which the given folders stand, ends in a tree that a second run in it doesn't leave as it
+-- is. What is told is the tree from which the first began; how the second ends; and the paths at which the second changed what the
+-- first left.
+pub record TellsAgain (given : List Path) (names : List (List ℕ)) (es : List Program) (order : Relation) (turns lines : List ℕ) : Type 0 where
   pub tree : Tree
-  pub counterexample : IsSecondRunCounterexample es (Comes order) tree turns
+  pub counterexample : IsSecondRunCounterexampleFrom given es (Comes order) tree turns
   pub how : List ℕ
-  pub second : TellsHow names es turns counterexample.after how
+  pub second : TellsHow names es turns counterexample.shows.after how
   pub list : List ℕ
-  pub differences : ListsWhere (Some counterexample.after) (outcome es turns counterexample.after) list
+  pub differences : ListsWhere (Some counterexample.shows.after) (outcome es turns counterexample.shows.after) list
   pub are : lines ≡ again_lines tree how list
 
--- Where the first extension fails from the tree without entries.
-pub record TellsFromNothing (names : List (List ℕ)) (es : List Program) (order : Relation) (line : List ℕ) : Type 0 where
+-- Where the first extension fails from the tree of the given folders alone; where none is given, from the tree without entries.
+pub record TellsFromNothing (given : List Path) (names : List (List ℕ)) (es : List Program) (order : Relation) (line : List ℕ) : Type 0 where
   pub first : List ℕ
   pub allowed : IsLinearExtension order.count (Comes order) first
   pub least : TakesLeast order.count (Comes order) [] first
+  pub tree : Tree
+  pub alone : IsOfGiven given tree
   pub words : List ℕ
-  pub fails : SaysWhereItFails names es first map.empty words
-  pub is : line ≡ from_line map.empty words
+  pub fails : SaysWhereItFails names es first tree words
+  pub is : line ≡ from_line tree words

@@ -3,7 +3,8 @@
 ghost use Rattle.std.specs.Prelude.{◌≡◌, ◌<◌, length, map, IfOk};
 ghost use Rattle.std.specs.List.{AllByRecursion};
 ghost use Rattle.fs_lang.specs.Meaning.{program_of};
-ghost use Rattle.fs_semantics.specs.Orders.{IsCounterexample, IsExchange};
+ghost use Rattle.fs_semantics.specs.Orders.{IsExchange};
+ghost use Rattle.given_hosts.specs.Given.{IsCounterexampleFrom};
 ghost use Rattle.orders.specs.Relation.{Relation, Comes};
 ghost use Rattle.explained_runs.specs.Lines.{apart_lines};
 ghost use Rattle.explained_runs.specs.Told.{ListsWhere, TellsApart};
@@ -13,7 +14,7 @@ ghost use Rattle.fs_semantics.specs.Orders.{outcome};
 use crate::exchange::{first_apart, name_at};
 use crate::pieces::{push_exchange, push_first};
 use crate::runs::{how_it_ends, lines_where};
-use fs_lang::{Program, Tree};
+use fs_lang::{Path, Program, Tree};
 use fs_replay::replay;
 use rh_base::{NoMemory, Seq, Text};
 use smaller_witness::smaller_apart;
@@ -80,7 +81,7 @@ fn both_lines(
     put_together(alloc, first, second, tree, &how, &other, &list)
 }
 
-/// The lines on two orders that end apart from a tree, or from a part of it.
+/// The lines on two orders that end apart from a tree in which the given folders stand, or from a part of it in which they do.
 pub fn apart_lines(
     alloc: Global,
     names: &[Text],
@@ -88,12 +89,13 @@ pub fn apart_lines(
     tree: &Tree,
     left: &[u32],
     right: &[u32],
+    given: &[Path],
 ) -> Result<Seq<u8>, NoMemory>
     requires left { AllByRecursion (λ i. i < length programs.now) left.now }
     requires right { AllByRecursion (λ i. i < length programs.now) right.now }
-    ensures { IfOk result (λ lines. (order : Relation) → IsCounterexample (map program_of programs.now) (Comes order) tree.now left.now right.now
-        → IsExchange (Comes order) left.now right.now → TellsApart names.now (map program_of programs.now) order lines) }
+    ensures { IfOk result (λ lines. (order : Relation) → IsCounterexampleFrom given.now (map program_of programs.now) (Comes order) tree.now left.now right.now
+        → IsExchange (Comes order) left.now right.now → TellsApart given.now names.now (map program_of programs.now) order lines) }
 {
-    let smaller = smaller_apart(alloc, programs, left, right, tree)?;
+    let smaller = smaller_apart(alloc, programs, left, right, tree, given)?;
     both_lines(alloc, names, programs, &smaller, left, right)
 }

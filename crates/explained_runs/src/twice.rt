@@ -3,7 +3,8 @@
 ghost use Rattle.std.specs.Prelude.{◌≡◌, ◌<◌, ℕ, List, length, map, Some, IfOk};
 ghost use Rattle.std.specs.List.{AllByRecursion};
 ghost use Rattle.fs_lang.specs.Meaning.{program_of};
-ghost use Rattle.fs_semantics.specs.Orders.{IsSecondRunCounterexample, outcome};
+ghost use Rattle.fs_semantics.specs.Orders.{outcome};
+ghost use Rattle.given_hosts.specs.Given.{IsSecondRunCounterexampleFrom};
 ghost use Rattle.orders.specs.Relation.{Relation, Comes};
 ghost use Rattle.explained_runs.specs.Lines.{again_lines};
 ghost use Rattle.explained_runs.specs.Told.{ListsWhere, TellsAgain};
@@ -11,7 +12,7 @@ ghost use Rattle.explained_runs.specs.Steps.{TellsSecond};
 
 use crate::pieces::push_second;
 use crate::runs::{how_it_ends, lines_where};
-use fs_lang::{Outcome, Program, Tree};
+use fs_lang::{Outcome, Path, Program, Tree};
 use fs_replay::replay;
 use rh_base::{NoMemory, Seq, Text};
 use smaller_witness::smaller_again;
@@ -60,19 +61,21 @@ fn second_lines(
     put_together(alloc, tree, &how, &list)
 }
 
-/// The lines on a second run that changes what the first left from a tree, or from a part of it.
+/// The lines on a second run that changes what the first left from a tree in which the given folders stand, or from a part of it in
+/// which they do.
 pub fn again_lines(
     alloc: Global,
     names: &[Text],
     programs: &[Program],
     tree: &Tree,
     order: &[u32],
+    given: &[Path],
 ) -> Result<Seq<u8>, NoMemory>
     requires { AllByRecursion (λ i. i < length programs.now) order.now }
-    ensures { IfOk result (λ lines. (o : Relation) → IsSecondRunCounterexample (map program_of programs.now) (Comes o) tree.now order.now
-        → TellsAgain names.now (map program_of programs.now) o order.now lines) }
+    ensures { IfOk result (λ lines. (o : Relation) → IsSecondRunCounterexampleFrom given.now (map program_of programs.now) (Comes o) tree.now order.now
+        → TellsAgain given.now names.now (map program_of programs.now) o order.now lines) }
 {
-    let smaller = smaller_again(alloc, programs, order, tree)?;
+    let smaller = smaller_again(alloc, programs, order, tree, given)?;
     match replay(alloc, programs, order, &smaller)? {
         Outcome::Ended(after) => second_lines(alloc, names, programs, &smaller, order, after),
         Outcome::Error => Ok(Seq::new(alloc)),

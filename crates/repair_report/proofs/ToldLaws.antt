@@ -1,15 +1,20 @@
 -- From the answer to what is told of it.
 use Rattle.std.proofs.Common.{◌≡◌, ◌≢◌, inl, inr, ℕ, ◌<◌, ◌^◌, ◌-◌, List, length, Option, Some, None, refl, subst, arith}
 use Rattle.std.specs.List.{All}
+use Rattle.fs_semantics.specs.FileTree.{Path}
 use Rattle.fs_semantics.specs.Programs.{Program}
+use Rattle.cnf.specs.Formulas.{Formula}
+use Rattle.cnf.specs.declared.log.Step.{Step}
 use Rattle.orders.specs.Relation.{Relation}
-use Rattle.verdict.specs.Limits.{HasFewPaths, IsLight}
-use Rattle.verdict_report.specs.Lines.{budget_of}
+use Rattle.question_terms.specs.Terms.{budget_of}
+use Rattle.question_terms.specs.declared.terms.Terms.{Terms}
+use Rattle.given_verdict.specs.Limits.{HasFewPathsWith, IsLightWith}
 use Rattle.verdict_report.specs.declared.report.Report.{Report}
 use Rattle.repair.specs.Arrows.{IsBetweenFree, CanBeAdded}
-use Rattle.repair.specs.Answers.{added_in, IsRepaired, IsSpentWith}
+use Rattle.repair.specs.Answers.{added_in}
 use Rattle.repair.specs.declared.repaired.Repaired.{Repaired}
 use Rattle.repair.specs.declared.repaired.Repaired.TheVariants as repaired
+use Rattle.given_repair.specs.Repairs.{IsSpentWithFrom, IsRepairedFrom}
 use Rattle.repair_report.specs.Told.{IsRepairTold}
 use Rattle.repair_report.specs.Lines.{unrepaired_text}
 use Rattle.repair_report.specs.Steps.{IsArrowWithin, AreTellable, IsReportOf}
@@ -22,19 +27,19 @@ given_some (Some c) limited = (c, refl)
 within : (order : Relation) (n : ℕ) (arrows : List (ℕ × ℕ)) → n ≡ order.count → All (IsBetweenFree order) arrows → All (IsArrowWithin n) arrows
 within order n arrows is all = λ k d h. let free = all k d h in let from = free.from in let to = free.to in (omega (arith, from, is), omega (arith, to, is))
 
-module _ (es : List Program) (order : Relation) (given : Option ℕ) (names : List (List ℕ)) (budget : ℕ) (is : budget ≡ budget_of given) where
+module _ (es : List Program) (order : Relation) (terms : Terms) (notes : List ℕ) (names : List (List ℕ)) (budget : ℕ) (is : budget ≡ budget_of terms.conflicts) where
   pub tellable : (r : Repaired) → length names ≡ order.count → CanBeAdded order (added_in r) → AreTellable (length names) r
   tellable (repaired.Done added) long h = within order (length names) added long h.free
   tellable (repaired.Spent added cnf log) long h = tt
 
-  pub told_is : (r : Repaired) (report : Report) → HasFewPaths es → IsLight es → IsRepaired es order budget r → IsReportOf names (length es) budget r report → IsRepairTold given names es order report
+  pub told_is : (r : Repaired) (report : Report) → HasFewPathsWith terms.limits terms.given es → IsLightWith terms.limits es → IsRepairedFrom terms.given es order (budget_of terms.conflicts) r → IsReportOf names (length es) notes budget r report
+      → IsRepairTold terms notes names es order report
   told_is (repaired.Done added) report few light h shown =
       record { paths = few; weight = light; answer = inl (record { status = shown.0; arrows = added; repairs = h.repairs; needed = h.needed; right = h.right; nothing = h.nothing; text = shown.1 }) }
   told_is (repaired.Spent added cnf log) report few light h shown =
-      let spent : IsSpentWith es order (budget_of given) added cnf log.steps = subst (λ b. IsSpentWith es order b added cnf log.steps) is h.spent in
-      let some = given_some given spent.2.limited in
+      let some = given_some terms.conflicts h.spent.spent.2.limited in
       record {
         paths = few;
         weight = light;
-        answer = inr (record { status = shown.0; conflicts = some.0; limited = some.1; arrows = added; added = h.added; formula = cnf; steps = log.steps; spent = spent; text = subst (λ b. report.text ≡ unrepaired_text (length es) b) is shown.1 });
+        answer = inr (record { status = shown.0; conflicts = some.0; limited = some.1; arrows = added; added = h.added; formula = cnf; steps = log.steps; spent = h.spent; text = subst (λ b. report.text ≡ unrepaired_text (length es) notes b) is shown.1 });
       }

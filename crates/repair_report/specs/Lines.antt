@@ -5,6 +5,7 @@ use Rattle.std.specs.Fmt.{decimal}
 use Rattle.pp_value.specs.declared.value.Ref.{Ref}
 use Rattle.pp_value.specs.Shown.{shown_ref}
 use Rattle.verdict_text.specs.Lines.{name_at}
+use Rattle.verdict_report.specs.Lines.{count_lines}
 
 -- ---- references as they are written in Puppet
 
@@ -32,11 +33,11 @@ arrow_line names arrow = name_at names arrow.0 ++ (codes " -> " ++ (name_at name
 abbrev pub arrow_lines : List (List ℕ) → List (ℕ × ℕ) → List ℕ
 arrow_lines names arrows = flat_map (arrow_line names) arrows
 
--- n resources, to which these arrows are added
-abbrev pub repaired_text : List (List ℕ) → ℕ → List (ℕ × ℕ) → List ℕ
-repaired_text names n arrows =
-    codes "resources " ++ (decimal n ++ (codes "\nedges " ++ (decimal (length arrows) ++ (codes "\n" ++ (arrow_lines names arrows ++ codes "deterministic\n")))))
+-- n resources, with notes, to which these arrows are added
+abbrev pub repaired_text : List (List ℕ) → ℕ → List ℕ → List (ℕ × ℕ) → List ℕ
+repaired_text names n notes arrows =
+    count_lines n notes ++ (codes "edges " ++ (decimal (length arrows) ++ (codes "\n" ++ (arrow_lines names arrows ++ codes "deterministic\n"))))
 
 -- the conflicts were spent on whether n resources are deterministic
-abbrev pub unrepaired_text : ℕ → ℕ → List ℕ
-unrepaired_text n budget = codes "resources " ++ (decimal n ++ (codes "\nspent deterministic " ++ (decimal budget ++ codes "\n")))
+abbrev pub unrepaired_text : ℕ → List ℕ → ℕ → List ℕ
+unrepaired_text n notes budget = count_lines n notes ++ (codes "spent deterministic " ++ (decimal budget ++ codes "\n"))

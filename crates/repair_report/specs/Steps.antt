@@ -16,6 +16,6 @@ AreTellable n (repaired.Done added) = All (IsArrowWithin n) added
 AreTellable n (repaired.Spent added cnf log) = Unit {0}
 
 -- the report has the status of the answer, and its lines
-abbrev pub IsReportOf : List (List ℕ) → ℕ → ℕ → Repaired → Report → Type 0
-IsReportOf names n budget (repaired.Done added) report = (report.status ≡ 0) × (report.text ≡ repaired_text names n added)
-IsReportOf names n budget (repaired.Spent added cnf log) report = (report.status ≡ 3) × (report.text ≡ unrepaired_text n budget)
+abbrev pub IsReportOf : List (List ℕ) → ℕ → List ℕ → ℕ → Repaired → Report → Type 0
+IsReportOf names n notes budget (repaired.Done added) report = (report.status ≡ 0) × (report.text ≡ repaired_text names n notes added)
+IsReportOf names n notes budget (repaired.Spent added cnf log) report = (report.status ≡ 3) × (report.text ≡ unrepaired_text n notes budget)

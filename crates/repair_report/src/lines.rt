@@ -7,6 +7,7 @@ ghost use Rattle.repair_report.specs.Steps.{IsArrowWithin};
 
 use rh_base::{NoMemory, Seq, Text};
 use std::alloc::Global;
+use verdict_report::push_count;
 use verdict_text::push_bytes;
 
 /// Appends an arrow between two resources.
@@ -36,14 +37,16 @@ pub fn repaired_text(
     alloc: Global,
     names: &[Text],
     n: usize,
+    notes: &[u8],
     arrows: &[(u32, u32)],
 ) -> Result<Seq<u8>, NoMemory>
     requires { All (IsArrowWithin (length names.now)) arrows.now }
-    ensures { IfOk result (λ text. text ≡ repaired_text names.now n arrows.now) }
+    ensures { IfOk result (λ text. text ≡ repaired_text names.now n notes.now arrows.now) }
 {
     let edges = arrows.len();
-    let head = format!(in alloc; "resources {n}\nedges {edges}\n")?;
+    let head = format!(in alloc; "edges {edges}\n")?;
     let mut bytes = Vec::new(alloc);
+    push_count(alloc, n, notes, &mut bytes)?;
     push_bytes(head.as_str().as_bytes(), &mut bytes)?;
     push_arrows(names, arrows, &mut bytes)?;
     push_bytes(b"deterministic\n", &mut bytes)?;
@@ -51,11 +54,17 @@ pub fn repaired_text(
 }
 
 /// The lines where the conflicts are spent.
-pub fn unrepaired_text(alloc: Global, n: usize, budget: u64) -> Result<Seq<u8>, NoMemory>
-    ensures { IfOk result (λ text. text ≡ unrepaired_text n budget) }
+pub fn unrepaired_text(
+    alloc: Global,
+    n: usize,
+    notes: &[u8],
+    budget: u64,
+) -> Result<Seq<u8>, NoMemory>
+    ensures { IfOk result (λ text. text ≡ unrepaired_text n notes.now budget) }
 {
-    let lines = format!(in alloc; "resources {n}\nspent deterministic {budget}\n")?;
+    let line = format!(in alloc; "spent deterministic {budget}\n")?;
     let mut bytes = Vec::new(alloc);
-    push_bytes(lines.as_str().as_bytes(), &mut bytes)?;
+    push_count(alloc, n, notes, &mut bytes)?;
+    push_bytes(line.as_str().as_bytes(), &mut bytes)?;
     Ok(Seq::from_vec(bytes))
 }

@@ -3,58 +3,62 @@
 ghost use Rattle.std.specs.Prelude.{◌≡◌, length, map, IfOk, IfErr};
 ghost use Rattle.rh_base.specs.Refused.{IfRefused};
 ghost use Rattle.fs_lang.specs.Meaning.{program_of};
-ghost use Rattle.verdict.specs.Limits.{IsTooLarge};
+ghost use Rattle.given_verdict.specs.Limits.{IsTooLargeWith};
 ghost use Rattle.repair_report.specs.Told.{IsRepairTold};
 ghost use Rattle.repair_report.specs.Steps.{AreTellable, IsReportOf};
 
 use crate::lines::{repaired_text, unrepaired_text};
 use fs_lang::Program;
+use given_repair::repair_from;
 use orders::Order;
-use repair::{Repaired, repair};
+use question_terms::Terms;
+use repair::Repaired;
 use rh_base::{Fault, NoMemory, Text};
 use std::alloc::Global;
-use verdict_report::{Report, budget_of, printed};
+use verdict_report::{Report, printed};
 
 /// A repair, as it is told.
 fn report_of(
     alloc: Global,
     names: &[Text],
     n: usize,
+    notes: &[u8],
     budget: u64,
     repaired: &Repaired,
 ) -> Result<Report, NoMemory>
     requires { AreTellable (length names.now) repaired.now }
-    ensures { IfOk result (IsReportOf names.now n budget repaired.now) }
+    ensures { IfOk result (IsReportOf names.now n notes.now budget repaired.now) }
 {
     match repaired {
         Repaired::Done { added } => {
-            let text = repaired_text(alloc, names, n, added.as_slice())?;
+            let text = repaired_text(alloc, names, n, notes, added.as_slice())?;
             Ok(printed(text))
         }
         Repaired::Spent { .. } => {
-            let text = unrepaired_text(alloc, n, budget)?;
+            let text = unrepaired_text(alloc, n, notes, budget)?;
             Ok(Report { status: 3, text })
         }
     }
 }
 
-/// What is told of the arrows that programs in an order lack. The resources have these names, as they are written in Puppet. Each
-/// question has so many conflicts, if a number is given.
+/// What is told of the arrows that programs in an order lack. The resources have these names, as they are written in Puppet, and these
+/// notes stand behind their number.
 pub fn told(
     alloc: Global,
-    given: Option<u64>,
+    terms: &Terms,
+    notes: &[u8],
     names: &[Text],
     programs: &[Program],
     order: &Order,
 ) -> Result<Report, Fault>
     requires count { length programs.now ≡ order.now.count }
     requires names { length names.now ≡ order.now.count }
-    ensures told { IfOk result (IsRepairTold given names.now (map program_of programs.now) order.now) }
+    ensures told { IfOk result (IsRepairTold terms.now notes.now names.now (map program_of programs.now) order.now) }
     // It is refused exactly where the graph is too large to be asked about.
-    ensures refused { IfErr result (λ e. IfRefused e (IsTooLarge (map program_of programs.now))) }
+    ensures refused { IfErr result (λ e. IfRefused e (IsTooLargeWith terms.now.limits terms.now.given (map program_of programs.now))) }
 {
-    let budget = budget_of(given);
-    let repaired = repair(alloc, programs, order, budget)?;
-    let report = report_of(alloc, names, programs.len(), budget, &repaired)?;
+    let repaired = repair_from(alloc, programs, order, terms)?;
+    let budget = terms.budget();
+    let report = report_of(alloc, names, programs.len(), notes, budget, &repaired)?;
     Ok(report)
 }

@@ -1,6 +1,7 @@
 //! Counterexamples from smaller trees: what the runs don't need is left out.
 #![tactic(auto)]
 
+mod given;
 mod question;
 mod removal;
 mod shrinking;

@@ -1,19 +1,21 @@
 -- From a verdict to what is told.
-use Rattle.std.proofs.Common.{◌≡◌, inl, inr, ◌↔◌, ◌-◌, ◌^◌, ℕ, List, [], ◌∷◌, ◌++◌, Option, Some, None, refl, sym, subst, append_assoc}
+use Rattle.std.proofs.Common.{◌≡◌, inl, inr, ◌↔◌, ◌-◌, ◌^◌, ◌<◌, ℕ, List, [], ◌∷◌, ◌++◌, length, Option, Some, None, refl, sym, subst, append_assoc}
 use Rattle.std.specs.Prelude.{IsSome}
-use Rattle.fs_semantics.specs.FileTree.{Tree}
+use Rattle.std.specs.List.{AllByRecursion}
+use Rattle.fs_semantics.specs.FileTree.{Path, Tree}
 use Rattle.fs_semantics.specs.Programs.{Program, Outcome}
-use Rattle.fs_semantics.specs.Orders.{IsDeterministic, IsIdempotent, Succeeds, IsSecondRunCounterexample, outcome}
+use Rattle.fs_semantics.specs.Orders.{outcome}
+use Rattle.given_hosts.specs.Given.{IsDeterministicFrom, IsIdempotentFrom, SucceedsFrom, IsSecondRunCounterexampleFrom}
 use Rattle.orders.specs.Relation.{Relation, Comes}
 use Rattle.commute_prune.specs.Keeping.{Keeps}
-use Rattle.verdict.specs.Limits.{HasFewPaths, IsLight}
+use Rattle.question_terms.specs.Terms.{budget_of}
+use Rattle.question_terms.specs.declared.terms.Terms.{Terms}
 use Rattle.cnf.specs.Formulas.{Formula}
 use Rattle.cnf.specs.declared.log.Step.{Step}
 use Rattle.cnf.specs.declared.log.Log.{Log}
 use Rattle.proof_check.specs.Refuted.{Refutation}
 use Rattle.order_encode.specs.declared.witness.Witness.{Witness}
 use Rattle.order_encode.specs.declared.witness.Witness.TheVariants as witness
-use Rattle.judgement.specs.First.{IsPrunedCount, IsProof, IsDifference}
 use Rattle.judgement.specs.declared.first.Sure.{Sure}
 use Rattle.judgement.specs.declared.first.Sure.TheVariants as sure
 use Rattle.full_verdict.specs.declared.verdicts.Asked.{Asked}
@@ -24,175 +26,182 @@ use Rattle.full_verdict.specs.declared.verdicts.Ends.TheVariants as ends
 use Rattle.full_verdict.specs.declared.verdicts.Verdict.{Verdict}
 use Rattle.full_verdict.specs.declared.verdicts.Verdict.TheVariants as verdict
 use Rattle.full_verdict.specs.Answers.{proofs_in}
-use Rattle.full_verdict.specs.Questions.{IsSecondProof, IsEndProof, IsSecondChange}
-use Rattle.full_verdict.specs.Verdicts.{pruned_in, IsByPruning, IfByProof, IfDifferent, IfJudged, IfSame, IfChanged, IfFrom, IfNever, IfSpent, IfSpentAfter, IsSpentOn, IsKnownBefore, IsOrderProof, AreTwoProofs, AreProofsBefore}
+use Rattle.full_verdict.specs.Verdicts.{IsByPruning, IfByProof, IfFrom, IfNever}
+use Rattle.given_verdict.specs.Limits.{HasFewPathsWith, IsLightWith}
+use Rattle.given_verdict.specs.First.{IsDifferenceFrom, IsProofFrom}
+use Rattle.given_verdict.specs.Second.{IsSecondProofFrom, IsChangeFrom}
+use Rattle.given_verdict.specs.Ends.{IsEndProofFrom}
+use Rattle.given_verdict.specs.Verdicts.{IsSpentOnFrom, IsKnownBeforeFrom, IsOrderProofFrom, AreTwoProofsFrom, AreProofsBeforeFrom}
+use Rattle.given_verdict.specs.Answers.{IsVerdictFrom}
 use Rattle.verdict_report.specs.declared.report.Form.{Form}
 use Rattle.verdict_report.specs.declared.report.Report.{Report}
-use Rattle.verdict_report.specs.Lines.{budget_of}
-use Rattle.verdict_report.specs.Told.{AreThreeProofs, IsSure, IsDifferent, IsChanged, IsUnanswered, IsTold, IsReportOf}
+use Rattle.verdict_report.specs.Told.{AreThreeProofs, IsSure, IsDifferent, IsChanged, IsUnanswered, IsTold, IsReportOf, HasOrders, HasTurns, IsTellable}
 
 -- conflicts that are spent are given
 given_some : (given : Option ℕ) → (budget_of given ≡ 2 ^ 64 - 1 → ⊥) → (c : ℕ) × (given ≡ Some c)
 given_some None limited = absurd (limited refl)
 given_some (Some c) limited = (c, refl)
 
-limited_in : (es : List Program) (order : Relation) (budget : ℕ) (a : Asked) (f : Formula) (steps : List Step) → IsSpentOn es order budget a f steps → budget ≡ 2 ^ 64 - 1 → ⊥
-limited_in es order budget asked.Deterministic f steps spent = spent.limited
-limited_in es order budget asked.Idempotent f steps spent = spent.1.limited
-limited_in es order budget asked.Succeeds f steps spent = spent.1.limited
-
--- the proof of the first question, if it took one
-order_proof : (es : List Program) (order : Relation) (s : Sure) → (IsByPruning s ↔ Keeps es (Comes order) []) → IfByProof s (IsProof es (Comes order)) → IsOrderProof es (Comes order) (proofs_in s)
-order_proof es order sure.Pruned alone proved = alone.0 tt
-order_proof es order (sure.Proved v) alone proved = (proved, refl)
-
-order_proof_alone : (es : List Program) (order : Relation) (s : Sure) → IsOrderProof es (Comes order) (proofs_in s) → IsOrderProof es (Comes order) (proofs_in s ++ [])
-order_proof_alone es order sure.Pruned is = is
-order_proof_alone es order (sure.Proved v) is = is
-
 some_end : (o : Outcome) (u : Tree) → o ≡ Some u → IsSome o
 some_end None u is = cc
 some_end (Some t) u is = refl
 
--- a first run that a second one changes has ended in a tree
-succeeds_first : (es : List Program) (order : Relation) (t : Tree) (turns : List ℕ) → IsSecondRunCounterexample es (Comes order) t turns → Succeeds es (Comes order)
-succeeds_first es order t turns changed = record {
-  tree = t;
-  is_tree = changed.is_tree;
-  order = turns;
-  allowed = changed.allowed;
-  ends = some_end (outcome es turns t) changed.after changed.ends;
-}
+module _ (given : List Path) (es : List Program) (order : Relation) where
+  limited_in : (budget : ℕ) (a : Asked) (f : Formula) (steps : List Step) → IsSpentOnFrom given es order budget a f steps → budget ≡ 2 ^ 64 - 1 → ⊥
+  limited_in budget asked.Deterministic f steps spent = spent.limited
+  limited_in budget asked.Idempotent f steps (inl spent) = spent.1.limited
+  limited_in budget asked.Idempotent f steps (inr spent) = spent.spent.limited
+  limited_in budget asked.Succeeds f steps spent = spent.1.limited
 
--- ---- the four answers
+  -- the proof of the first question, if it took one
+  order_proof : (s : Sure) → (IsByPruning s ↔ Keeps es (Comes order) []) → IfByProof s (IsProofFrom given es order) → IsOrderProofFrom given es order (proofs_in s)
+  order_proof sure.Pruned alone proved = alone.0 tt
+  order_proof (sure.Proved v) alone proved = (proved, refl)
 
-tells_different : (f : Form) (names : List (List ℕ)) (es : List Program) (order : Relation) (budget k : ℕ) (w : Witness) (report : Report) → IsDifference es (Comes order) w
-    → IsReportOf f names es budget (verdict.NotDeterministic k w) report → IsDifferent f names es order k report
-tells_different f names es order budget k (witness.Orders t left right) report shown is =
-    record { status = is.status; tree = t; left = left; right = right; counterexample = shown.0; exchange = shown.1; text = is.text }
-tells_different f names es order budget k (witness.Twice t turns) report shown is = absurd shown
-tells_different f names es order budget k (witness.Ends t turns) report shown is = absurd shown
+  order_proof_alone : (s : Sure) → IsOrderProofFrom given es order (proofs_in s) → IsOrderProofFrom given es order (proofs_in s ++ [])
+  order_proof_alone sure.Pruned is = is
+  order_proof_alone (sure.Proved v) is = is
 
-tells_changed : (f : Form) (names : List (List ℕ)) (es : List Program) (order : Relation) (budget k : ℕ) (s : Sure) (w : Witness) (e : Ends) (report : Report) → IsDeterministic es (Comes order)
-    → IsOrderProof es (Comes order) (proofs_in s) → IsSecondChange es order w → IsReportOf f names es budget (verdict.Judged k s (second.Differs w) e) report
-    → IsChanged f names es order k report
-tells_changed f names es order budget k s (witness.Orders t left right) e report same refuted shown is = absurd shown
-tells_changed f names es order budget k s (witness.Twice t turns) e report same refuted shown is = record {
-  status = is.status;
-  deterministic = same;
-  tree = t;
-  turns = turns;
-  counterexample = shown.1;
-  succeeds = succeeds_first es order t turns shown.1;
-  proofs = proofs_in s ++ [];
-  refuted = order_proof_alone es order s refuted;
-  text = is.text;
-}
-tells_changed f names es order budget k s (witness.Ends t turns) e report same refuted shown is = absurd shown
+  -- a first run that a second one changes has ended in a tree
+  succeeds_first : (t : Tree) (turns : List ℕ) → IsSecondRunCounterexampleFrom given es (Comes order) t turns → SucceedsFrom given es (Comes order)
+  succeeds_first t turns changed = record {
+    tree = t;
+    is_tree = record { is_tree = changed.shows.is_tree; stand = changed.stand };
+    order = turns;
+    allowed = changed.shows.allowed;
+    ends = some_end (outcome es turns t) changed.shows.after changed.shows.ends;
+  }
 
-two_proofs : (es : List Program) (order : Relation) (s : Sure) (v : Refutation) → IsOrderProof es (Comes order) (proofs_in s) → IsSecondProof es order v.formula
-    → AreTwoProofs es order (proofs_in s ++ v ∷ [])
-two_proofs es order s v first again = record { front = proofs_in s; last = v; are = refl; first = first; second = again }
+  two_proofs : (s : Sure) (v : Refutation) → IsOrderProofFrom given es order (proofs_in s) → IsSecondProofFrom given es order v.formula → AreTwoProofsFrom given es order (proofs_in s ++ v ∷ [])
+  two_proofs s v first again = record { front = proofs_in s; last = v; are = refl; first = first; second = again }
 
-three_proofs : (es : List Program) (order : Relation) (s : Sure) (v u : Refutation) → IsOrderProof es (Comes order) (proofs_in s) → IsSecondProof es order v.formula
-    → IsEndProof es order u.formula → AreThreeProofs es order (proofs_in s ++ v ∷ u ∷ [])
-three_proofs es order s v u first again last = record {
-  front = proofs_in s ++ v ∷ [];
-  last = u;
-  are = sym (append_assoc (proofs_in s) (v ∷ []) (u ∷ []));
-  first_two = two_proofs es order s v first again;
-  third = last;
-}
+  three_proofs : (s : Sure) (v u : Refutation) → IsOrderProofFrom given es order (proofs_in s) → IsSecondProofFrom given es order v.formula → IsEndProofFrom given es order u.formula
+      → AreThreeProofs given es order (proofs_in s ++ v ∷ u ∷ [])
+  three_proofs s v u first again last = record {
+    front = proofs_in s ++ v ∷ [];
+    last = u;
+    are = sym (append_assoc (proofs_in s) (v ∷ []) (u ∷ []));
+    first_two = two_proofs s v first again;
+    third = last;
+  }
 
-tells_sure : (f : Form) (names : List (List ℕ)) (es : List Program) (order : Relation) (budget k : ℕ) (s : Sure) (v : Refutation) (e : Ends) (report : Report) → IsDeterministic es (Comes order)
-    → IsOrderProof es (Comes order) (proofs_in s) → IsIdempotent es (Comes order) → IsSecondProof es order v.formula
-    → IfFrom (verdict.Judged k s (second.Same v) e) (λ w. Succeeds es (Comes order))
-    → IfNever (verdict.Judged k s (second.Same v) e) (λ g. Succeeds es (Comes order) → ⊥)
-    → IfNever (verdict.Judged k s (second.Same v) e) (IsEndProof es order)
-    → IsReportOf f names es budget (verdict.Judged k s (second.Same v) e) report → IsSure f es order k report
-tells_sure f names es order budget k s v (ends.From w) report same refuted again proof succeeds fails never is = record {
-  status = is.status;
-  deterministic = same;
-  idempotent = again;
-  last = _;
-  proofs = proofs_in s ++ v ∷ [];
-  ending = inl (refl, succeeds, two_proofs es order s v refuted proof);
-  text = is.text;
-}
-tells_sure f names es order budget k s v (ends.Never u) report same refuted again proof succeeds fails never is = record {
-  status = is.status;
-  deterministic = same;
-  idempotent = again;
-  last = _;
-  proofs = proofs_in s ++ v ∷ u ∷ [];
-  ending = inr (refl, fails, three_proofs es order s v u refuted proof never);
-  text = is.text;
-}
+  -- ---- what can be told
 
-tells_spent : (f : Form) (given : Option ℕ) (names : List (List ℕ)) (es : List Program) (order : Relation) (budget k : ℕ) (a : Asked) (cnf : Formula) (log : Log) (proofs : List Refutation)
-    (report : Report) → budget ≡ budget_of given → IsSpentOn es order budget a cnf log.steps → IsKnownBefore es order a → AreProofsBefore es order a proofs
-    → IsReportOf f names es budget (verdict.Spent k a cnf log proofs) report → IsUnanswered f given es order k report
-tells_spent f given names es order budget k a cnf log proofs report same spent known refuted is =
-    let used : IsSpentOn es order (budget_of given) a cnf log.steps = subst (λ b. IsSpentOn es order b a cnf log.steps) same spent in
-    let told : IsReportOf f names es (budget_of given) (verdict.Spent k a cnf log proofs) report = subst (λ b. IsReportOf f names es b (verdict.Spent k a cnf log proofs) report) same is in
-    let some = given_some given (limited_in es order (budget_of given) a cnf log.steps used) in
-    record {
-      status = told.status;
-      conflicts = some.0;
-      limited = some.1;
-      asked = a;
-      formula = cnf;
-      steps = log.steps;
-      spent = used;
-      known = known;
-      proofs = proofs;
-      refuted = refuted;
-      text = told.text;
-    }
+  tellable_orders : (n : ℕ) → n ≡ length es → (w : Witness) → IsDifferenceFrom given es (Comes order) w → HasOrders n w
+  tellable_orders n is (witness.Orders t left right) h = (
+    subst (λ m. AllByRecursion (λ i. i < m) left) (sym is) h.0.shows.left_allowed.below,
+    subst (λ m. AllByRecursion (λ i. i < m) right) (sym is) h.0.shows.right_allowed.below,
+  )
+  tellable_orders n is (witness.Twice t turns) h = h
+  tellable_orders n is (witness.Ends t turns) h = h
 
--- ---- the headline
+  tellable_turns : (n : ℕ) → n ≡ length es → (w : Witness) → IsChangeFrom given es order w → HasTurns n w
+  tellable_turns n is (witness.Orders t left right) h = h
+  tellable_turns n is (witness.Twice t turns) h = subst (λ m. AllByRecursion (λ i. i < m) turns) (sym is) h.0.shows.allowed.below
+  tellable_turns n is (witness.Ends t turns) h = h
 
--- all that is said of a verdict
-pub record IsSaid (es : List Program) (order : Relation) (budget : ℕ) (judged : Verdict) : Type 0 where
-  pub paths : HasFewPaths es
-  pub weight : IsLight es
-  pub count : IsPrunedCount es (Comes order) (pruned_in judged)
-  pub differs : IfDifferent judged (IsDifference es (Comes order))
-  pub deterministic : IfJudged judged (λ s. IsDeterministic es (Comes order))
-  pub alone : IfJudged judged (λ s. IsByPruning s ↔ Keeps es (Comes order) [])
-  pub proved : IfJudged judged (λ s. IfByProof s (IsProof es (Comes order)))
-  pub idempotent : IfSame judged (λ g. IsIdempotent es (Comes order))
-  pub same : IfSame judged (IsSecondProof es order)
-  pub changed : IfChanged judged (IsSecondChange es order)
-  pub succeeds : IfFrom judged (λ w. Succeeds es (Comes order))
-  pub fails : IfNever judged (λ g. Succeeds es (Comes order) → ⊥)
-  pub never : IfNever judged (IsEndProof es order)
-  pub spent : IfSpent judged (IsSpentOn es order budget)
-  pub known : IfSpentAfter judged (λ a proofs. IsKnownBefore es order a)
-  pub refuted : IfSpentAfter judged (AreProofsBefore es order)
+  pub tellable : (n : ℕ) → n ≡ length es → (budget : ℕ) (judged : Verdict) → IsVerdictFrom given es order budget judged → IsTellable n judged
+  tellable n is budget (verdict.NotDeterministic k w) said = tellable_orders n is w said.differs
+  tellable n is budget (verdict.Judged k s (second.Same v) e) said = tt
+  tellable n is budget (verdict.Judged k s (second.Differs w) e) said = tellable_turns n is w said.changed
+  tellable n is budget (verdict.Spent k a cnf log proofs) said = tt
 
-pub told_is : (f : Form) (given : Option ℕ) (names : List (List ℕ)) (es : List Program) (order : Relation) (budget : ℕ) (judged : Verdict) (report : Report) → budget ≡ budget_of given
-    → IsSaid es order budget judged → IsReportOf f names es budget judged report → IsTold f given names es order report
-told_is f given names es order budget (verdict.NotDeterministic k w) report same said is =
-    record { paths = said.paths; weight = said.weight; pruned = k; count = said.count; answer = inr (inl (tells_different f names es order budget k w report said.differs is)) }
-told_is f given names es order budget (verdict.Judged k s (second.Same v) e) report same said is = record {
-  paths = said.paths;
-  weight = said.weight;
-  pruned = k;
-  count = said.count;
-  answer = inl (tells_sure f names es order budget k s v e report said.deterministic (order_proof es order s said.alone said.proved) said.idempotent said.same said.succeeds said.fails said.never is);
-}
-told_is f given names es order budget (verdict.Judged k s (second.Differs w) e) report same said is = record {
-  paths = said.paths;
-  weight = said.weight;
-  pruned = k;
-  count = said.count;
-  answer = inr (inr (inl (tells_changed f names es order budget k s w e report said.deterministic (order_proof es order s said.alone said.proved) said.changed is)));
-}
-told_is f given names es order budget (verdict.Spent k a cnf log proofs) report same said is = record {
-  paths = said.paths;
-  weight = said.weight;
-  pruned = k;
-  count = said.count;
-  answer = inr (inr (inr (tells_spent f given names es order budget k a cnf log proofs report same said.spent said.known said.refuted is)));
-}
+module _ (f : Form) (terms : Terms) (notes : List ℕ) (names : List (List ℕ)) (es : List Program) (order : Relation) (budget : ℕ) where
+  -- ---- the four answers
+
+  tells_different : (k : ℕ) (w : Witness) (report : Report) → IsDifferenceFrom terms.given es (Comes order) w
+      → IsReportOf f notes names es budget (verdict.NotDeterministic k w) report → IsDifferent f terms notes names es order k report
+  tells_different k (witness.Orders t left right) report shown is =
+      record { status = is.status; tree = t; left = left; right = right; counterexample = shown.0; exchange = shown.1; text = is.text }
+  tells_different k (witness.Twice t turns) report shown is = absurd shown
+  tells_different k (witness.Ends t turns) report shown is = absurd shown
+
+  tells_changed : (k : ℕ) (s : Sure) (w : Witness) (e : Ends) (report : Report) → IsDeterministicFrom terms.given es (Comes order)
+      → IsOrderProofFrom terms.given es order (proofs_in s) → IsChangeFrom terms.given es order w → IsReportOf f notes names es budget (verdict.Judged k s (second.Differs w) e) report
+      → IsChanged f terms notes names es order k report
+  tells_changed k s (witness.Orders t left right) e report same refuted shown is = absurd shown
+  tells_changed k s (witness.Twice t turns) e report same refuted shown is = record {
+    status = is.status;
+    deterministic = same;
+    tree = t;
+    turns = turns;
+    counterexample = shown.0;
+    succeeds = succeeds_first terms.given es order t turns shown.0;
+    proofs = proofs_in s ++ [];
+    refuted = order_proof_alone terms.given es order s refuted;
+    text = is.text;
+  }
+  tells_changed k s (witness.Ends t turns) e report same refuted shown is = absurd shown
+
+  tells_sure : (k : ℕ) (s : Sure) (v : Refutation) (e : Ends) (report : Report) → IsDeterministicFrom terms.given es (Comes order)
+      → IsOrderProofFrom terms.given es order (proofs_in s) → IsIdempotentFrom terms.given es (Comes order) → IsSecondProofFrom terms.given es order v.formula
+      → IfFrom (verdict.Judged k s (second.Same v) e) (λ w. SucceedsFrom terms.given es (Comes order))
+      → IfNever (verdict.Judged k s (second.Same v) e) (λ g. SucceedsFrom terms.given es (Comes order) → ⊥)
+      → IfNever (verdict.Judged k s (second.Same v) e) (IsEndProofFrom terms.given es order)
+      → IsReportOf f notes names es budget (verdict.Judged k s (second.Same v) e) report → IsSure f terms notes es order k report
+  tells_sure k s v (ends.From w) report same refuted again proof succeeds fails never is = record {
+    status = is.status;
+    deterministic = same;
+    idempotent = again;
+    last = _;
+    proofs = proofs_in s ++ v ∷ [];
+    ending = inl (refl, succeeds, two_proofs terms.given es order s v refuted proof);
+    text = is.text;
+  }
+  tells_sure k s v (ends.Never u) report same refuted again proof succeeds fails never is = record {
+    status = is.status;
+    deterministic = same;
+    idempotent = again;
+    last = _;
+    proofs = proofs_in s ++ v ∷ u ∷ [];
+    ending = inr (refl, fails, three_proofs terms.given es order s v u refuted proof never);
+    text = is.text;
+  }
+
+  tells_spent : (k : ℕ) (a : Asked) (cnf : Formula) (log : Log) (proofs : List Refutation) (report : Report) → budget ≡ budget_of terms.conflicts
+      → IsSpentOnFrom terms.given es order (budget_of terms.conflicts) a cnf log.steps → IsKnownBeforeFrom terms.given es order a → AreProofsBeforeFrom terms.given es order a proofs
+      → IsReportOf f notes names es budget (verdict.Spent k a cnf log proofs) report → IsUnanswered f terms notes es order k report
+  tells_spent k a cnf log proofs report same spent known refuted is =
+      let told : IsReportOf f notes names es (budget_of terms.conflicts) (verdict.Spent k a cnf log proofs) report = subst (λ b. IsReportOf f notes names es b (verdict.Spent k a cnf log proofs) report) same is in
+      let some = given_some terms.conflicts (limited_in terms.given es order (budget_of terms.conflicts) a cnf log.steps spent) in
+      record {
+        status = told.status;
+        conflicts = some.0;
+        limited = some.1;
+        asked = a;
+        formula = cnf;
+        steps = log.steps;
+        spent = spent;
+        known = known;
+        proofs = proofs;
+        refuted = refuted;
+        text = told.text;
+      }
+
+  -- ---- the headline
+
+  pub told_is : (judged : Verdict) (report : Report) → budget ≡ budget_of terms.conflicts → HasFewPathsWith terms.limits terms.given es → IsLightWith terms.limits es
+      → IsVerdictFrom terms.given es order (budget_of terms.conflicts) judged → IsReportOf f notes names es budget judged report → IsTold f terms notes names es order report
+  told_is (verdict.NotDeterministic k w) report same few light said is =
+      record { paths = few; weight = light; pruned = k; count = said.pruned; answer = inr (inl (tells_different k w report said.differs is)) }
+  told_is (verdict.Judged k s (second.Same v) e) report same few light said is = record {
+    paths = few;
+    weight = light;
+    pruned = k;
+    count = said.pruned;
+    answer = inl (tells_sure k s v e report said.deterministic (order_proof terms.given es order s said.alone said.proved) said.idempotent said.same said.succeeds said.fails said.never is);
+  }
+  told_is (verdict.Judged k s (second.Differs w) e) report same few light said is = record {
+    paths = few;
+    weight = light;
+    pruned = k;
+    count = said.pruned;
+    answer = inr (inr (inl (tells_changed k s w e report said.deterministic (order_proof terms.given es order s said.alone said.proved) said.changed is)));
+  }
+  told_is (verdict.Spent k a cnf log proofs) report same few light said is = record {
+    paths = few;
+    weight = light;
+    pruned = k;
+    count = said.pruned;
+    answer = inr (inr (inr (tells_spent k a cnf log proofs report same said.spent said.known said.refuted is)));
+  }

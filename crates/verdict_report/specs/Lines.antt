@@ -1,5 +1,5 @@
 -- The text of a verdict: its lines, or its proofs.
-use Rattle.std.specs.Prelude.{ℕ, ◌-◌, ◌^◌, ◌==◌, if◌then◌else◌, List, [], ◌∷◌, ◌++◌, length, Option, Some, None, codes}
+use Rattle.std.specs.Prelude.{ℕ, List, [], ◌∷◌, ◌++◌, length, codes}
 use Rattle.std.specs.List.{flat_map}
 use Rattle.std.specs.Fmt.{decimal}
 use Rattle.fs_semantics.specs.FileTree.{Tree}
@@ -25,16 +25,15 @@ use Rattle.verdict_report.specs.declared.report.Report.{Report}
 abbrev pub printed : List ℕ → Report
 printed text = record { status = 0; text = text }
 
--- how many conflicts each question has: those that are given; all that there are, where none are
-abbrev pub budget_of : Option ℕ → ℕ
-budget_of None = 2 ^ 64 - 1
-budget_of (Some conflicts) = if conflicts == 0 then 1 else conflicts
-
 -- ---- lines
 
--- n resources, of which pruning leaves k aside
-abbrev pub head_lines : ℕ → ℕ → List ℕ
-head_lines n k = codes "resources " ++ (decimal n ++ (codes "\npruned " ++ (decimal k ++ codes "\n")))
+-- n resources, and the notes that stand behind their number
+abbrev pub count_lines : ℕ → List ℕ → List ℕ
+count_lines n notes = codes "resources " ++ (decimal n ++ (codes "\n" ++ notes))
+
+-- n resources, with notes, of which pruning leaves k aside
+abbrev pub head_lines : ℕ → List ℕ → ℕ → List ℕ
+head_lines n notes k = count_lines n notes ++ (codes "pruned " ++ (decimal k ++ codes "\n"))
 
 -- some tree has a run without error
 abbrev pub succeeds_line : List ℕ
@@ -45,8 +44,8 @@ abbrev pub fails_line : List ℕ
 fails_line = codes "fails from every tree\n"
 
 -- all is well: from every tree all orders end alike, and a second run changes nothing
-abbrev pub sure_text : ℕ → ℕ → List ℕ → List ℕ
-sure_text n k last = head_lines n k ++ (codes "deterministic\nidempotent\n" ++ last)
+abbrev pub sure_text : ℕ → List ℕ → ℕ → List ℕ → List ℕ
+sure_text n notes k last = head_lines n notes k ++ (codes "deterministic\nidempotent\n" ++ last)
 
 -- an order of the resources, which have these names, and the outcome of their programs in it
 abbrev pub run_lines : List (List ℕ) → List Program → Tree → List ℕ → List ℕ
@@ -57,8 +56,8 @@ abbrev pub runs_lines : List (List ℕ) → List Program → Tree → List ℕ �
 runs_lines names es t left right = tree_line t ++ (run_lines names es t left ++ run_lines names es t right)
 
 -- two orders end differently from a tree
-abbrev pub difference_text : List (List ℕ) → List Program → ℕ → Tree → List ℕ → List ℕ → List ℕ
-difference_text names es k t left right = head_lines (length es) k ++ (codes "not deterministic\n" ++ runs_lines names es t left right)
+abbrev pub difference_text : List (List ℕ) → List Program → List ℕ → ℕ → Tree → List ℕ → List ℕ → List ℕ
+difference_text names es notes k t left right = head_lines (length es) notes k ++ (codes "not deterministic\n" ++ runs_lines names es t left right)
 
 -- the outcome of a second run, from where the first one ended
 abbrev pub outcome_again : List Program → List ℕ → Tree → Outcome
@@ -73,8 +72,8 @@ abbrev pub again_lines : List (List ℕ) → List Program → Tree → List ℕ 
 again_lines names es t order = tree_line t ++ (order_line names order ++ outcome_lines es order t)
 
 -- a second run changes what the first one left
-abbrev pub change_text : List (List ℕ) → List Program → ℕ → Tree → List ℕ → List ℕ
-change_text names es k t order = head_lines (length es) k ++ (codes "deterministic\nnot idempotent\n" ++ (again_lines names es t order ++ succeeds_line))
+abbrev pub change_text : List (List ℕ) → List Program → List ℕ → ℕ → Tree → List ℕ → List ℕ
+change_text names es notes k t order = head_lines (length es) notes k ++ (codes "deterministic\nnot idempotent\n" ++ (again_lines names es t order ++ succeeds_line))
 
 -- what is known when a question is asked
 abbrev pub known_lines : Asked → List ℕ
@@ -93,8 +92,8 @@ abbrev pub spent_line : Asked → ℕ → List ℕ
 spent_line a budget = codes "spent " ++ (question_name a ++ (codes " " ++ (decimal budget ++ codes "\n")))
 
 -- a question's conflicts are spent
-abbrev pub spent_text : ℕ → ℕ → Asked → ℕ → List ℕ
-spent_text n k a budget = head_lines n k ++ (known_lines a ++ spent_line a budget)
+abbrev pub spent_text : ℕ → List ℕ → ℕ → Asked → ℕ → List ℕ
+spent_text n notes k a budget = head_lines n notes k ++ (known_lines a ++ spent_line a budget)
 
 -- the text of proofs: how many there are, and each
 abbrev pub proofs_text : List Refutation → List ℕ
@@ -115,27 +114,27 @@ last_line (ends.From w) = succeeds_line
 last_line (ends.Never v) = fails_line
 
 -- the lines on two orders, if the witness has them
-abbrev pub difference_of : List (List ℕ) → List Program → ℕ → Witness → List ℕ
-difference_of names es k (witness.Orders t left right) = difference_text names es k t left right
-difference_of names es k (witness.Twice t order) = []
-difference_of names es k (witness.Ends t order) = []
+abbrev pub difference_of : List (List ℕ) → List Program → List ℕ → ℕ → Witness → List ℕ
+difference_of names es notes k (witness.Orders t left right) = difference_text names es notes k t left right
+difference_of names es notes k (witness.Twice t order) = []
+difference_of names es notes k (witness.Ends t order) = []
 
 -- the lines on a second run, if the witness is of one
-abbrev pub change_of : List (List ℕ) → List Program → ℕ → Witness → List ℕ
-change_of names es k (witness.Orders t left right) = []
-change_of names es k (witness.Twice t order) = change_text names es k t order
-change_of names es k (witness.Ends t order) = []
+abbrev pub change_of : List (List ℕ) → List Program → List ℕ → ℕ → Witness → List ℕ
+change_of names es notes k (witness.Orders t left right) = []
+change_of names es notes k (witness.Twice t order) = change_text names es notes k t order
+change_of names es notes k (witness.Ends t order) = []
 
 -- the lines on deterministic programs
-abbrev pub answer_of : List (List ℕ) → List Program → ℕ → Second → Ends → List ℕ
-answer_of names es k (second.Same v) e = sure_text (length es) k (last_line e)
-answer_of names es k (second.Differs w) e = change_of names es k w
+abbrev pub answer_of : List (List ℕ) → List Program → List ℕ → ℕ → Second → Ends → List ℕ
+answer_of names es notes k (second.Same v) e = sure_text (length es) notes k (last_line e)
+answer_of names es notes k (second.Differs w) e = change_of names es notes k w
 
 -- its lines, where each question had so many conflicts
-abbrev pub lines_of : List (List ℕ) → List Program → ℕ → Verdict → List ℕ
-lines_of names es budget (verdict.NotDeterministic k w) = difference_of names es k w
-lines_of names es budget (verdict.Judged k s again e) = answer_of names es k again e
-lines_of names es budget (verdict.Spent k a cnf log proofs) = spent_text (length es) k a budget
+abbrev pub lines_of : List (List ℕ) → List Program → List ℕ → ℕ → Verdict → List ℕ
+lines_of names es notes budget (verdict.NotDeterministic k w) = difference_of names es notes k w
+lines_of names es notes budget (verdict.Judged k s again e) = answer_of names es notes k again e
+lines_of names es notes budget (verdict.Spent k a cnf log proofs) = spent_text (length es) notes k a budget
 
 -- what was refuted to answer the last question
 abbrev pub end_proofs : Ends → List Refutation

@@ -8,7 +8,7 @@ mod report;
 mod runs;
 mod telling;
 
-pub use lines::{budget_of, push_head, push_known, push_last, push_spent, spent_text};
+pub use lines::{push_count, push_head, push_known, push_last, push_spent, spent_text};
 pub use report::{Form, Report, printed};
 pub use runs::{difference_text, push_run};
 pub use telling::told;

@@ -1,31 +1,35 @@
 //! The lines on numbers, answers and questions.
 
-ghost use Rattle.std.specs.Prelude.{◌≡◌, ◌≤◌, ◌++◌, IfOk, OnOk};
-ghost use Rattle.verdict_report.specs.Lines.{budget_of, head_lines, last_line, sure_text, known_lines, question_name, spent_line, spent_text};
+ghost use Rattle.std.specs.Prelude.{◌≡◌, ◌++◌, IfOk, OnOk};
+ghost use Rattle.verdict_report.specs.Lines.{count_lines, head_lines, last_line, sure_text, known_lines, question_name, spent_line, spent_text};
 
 use full_verdict::{Asked, Ends};
 use rh_base::{NoMemory, Seq};
 use std::alloc::Global;
 use verdict_text::push_bytes;
 
-/// How many conflicts each question has.
-pub fn budget_of(given: Option<u64>) -> u64
-    ensures budget { result ≡ budget_of given }
-    ensures some { 1 ≤ result }
+/// Appends how many resources there are, and the notes that stand behind that.
+pub fn push_count(alloc: Global, n: usize, notes: &[u8], into: &mut Vec<u8>) -> Result<(), NoMemory>
+    ensures { OnOk result (into.new.items ≡ into.old.items ++ count_lines n notes.now) }
 {
-    match given {
-        Some(0) => 1,
-        Some(conflicts) => conflicts,
-        None => u64::MAX,
-    }
+    let count = format!(in alloc; "resources {n}\n")?;
+    push_bytes(count.as_str().as_bytes(), into)?;
+    push_bytes(notes, into)
 }
 
-/// Appends how many resources there are, and how many pruning leaves aside.
-pub fn push_head(alloc: Global, n: usize, pruned: u32, into: &mut Vec<u8>) -> Result<(), NoMemory>
-    ensures { OnOk result (into.new.items ≡ into.old.items ++ head_lines n pruned) }
+/// Appends how many resources there are, with notes, and how many pruning leaves aside.
+pub fn push_head(
+    alloc: Global,
+    n: usize,
+    notes: &[u8],
+    pruned: u32,
+    into: &mut Vec<u8>,
+) -> Result<(), NoMemory>
+    ensures { OnOk result (into.new.items ≡ into.old.items ++ head_lines n notes.now pruned) }
 {
-    let head = format!(in alloc; "resources {n}\npruned {pruned}\n")?;
-    push_bytes(head.as_str().as_bytes(), into)
+    push_count(alloc, n, notes, into)?;
+    let line = format!(in alloc; "pruned {pruned}\n")?;
+    push_bytes(line.as_str().as_bytes(), into)
 }
 
 /// Appends whether some tree has a run without error.
@@ -39,11 +43,17 @@ pub fn push_last(end: &Ends, into: &mut Vec<u8>) -> Result<(), NoMemory>
 }
 
 /// The lines where all is well.
-pub fn sure_text(alloc: Global, n: usize, pruned: u32, end: &Ends) -> Result<Seq<u8>, NoMemory>
-    ensures { IfOk result (λ text. text ≡ sure_text n pruned (last_line end.now)) }
+pub fn sure_text(
+    alloc: Global,
+    n: usize,
+    notes: &[u8],
+    pruned: u32,
+    end: &Ends,
+) -> Result<Seq<u8>, NoMemory>
+    ensures { IfOk result (λ text. text ≡ sure_text n notes.now pruned (last_line end.now)) }
 {
     let mut bytes = Vec::new(alloc);
-    push_head(alloc, n, pruned, &mut bytes)?;
+    push_head(alloc, n, notes, pruned, &mut bytes)?;
     push_bytes(b"deterministic\nidempotent\n", &mut bytes)?;
     push_last(end, &mut bytes)?;
     Ok(Seq::from_vec(bytes))
@@ -88,14 +98,15 @@ pub fn push_spent(
 pub fn spent_text(
     alloc: Global,
     n: usize,
+    notes: &[u8],
     pruned: u32,
     asked: &Asked,
     budget: u64,
 ) -> Result<Seq<u8>, NoMemory>
-    ensures { IfOk result (λ text. text ≡ spent_text n pruned asked.now budget) }
+    ensures { IfOk result (λ text. text ≡ spent_text n notes.now pruned asked.now budget) }
 {
     let mut bytes = Vec::new(alloc);
-    push_head(alloc, n, pruned, &mut bytes)?;
+    push_head(alloc, n, notes, pruned, &mut bytes)?;
     push_known(asked, &mut bytes)?;
     push_spent(alloc, asked, budget, &mut bytes)?;
     Ok(Seq::from_vec(bytes))

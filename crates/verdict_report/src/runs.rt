@@ -61,6 +61,7 @@ fn text_apart(
     alloc: Global,
     names: &[Text],
     programs: &[Program],
+    notes: &[u8],
     pruned: u32,
     tree: &Tree,
     left: &[u32],
@@ -70,10 +71,10 @@ fn text_apart(
     requires left_places { AllByRecursion (λ i. i < length programs.now) left.now }
     requires right_named { AllByRecursion (λ i. i < length names.now) right.now }
     requires right_places { AllByRecursion (λ i. i < length programs.now) right.now }
-    ensures { IfOk result (λ text. text ≡ difference_text names.now (map program_of programs.now) pruned tree.now left.now right.now) }
+    ensures { IfOk result (λ text. text ≡ difference_text names.now (map program_of programs.now) notes.now pruned tree.now left.now right.now) }
 {
     let mut bytes = Vec::new(alloc);
-    push_head(alloc, programs.len(), pruned, &mut bytes)?;
+    push_head(alloc, programs.len(), notes, pruned, &mut bytes)?;
     push_bytes(b"not deterministic\n", &mut bytes)?;
     push_runs(alloc, names, programs, tree, left, right, &mut bytes)?;
     Ok(Seq::from_vec(bytes))
@@ -84,19 +85,20 @@ pub fn difference_text(
     alloc: Global,
     names: &[Text],
     programs: &[Program],
+    notes: &[u8],
     pruned: u32,
     witness: &Witness,
 ) -> Result<Seq<u8>, NoMemory>
     requires named { HasOrders (length names.now) witness.now }
     requires places { HasOrders (length programs.now) witness.now }
-    ensures { IfOk result (λ text. text ≡ difference_of names.now (map program_of programs.now) pruned witness.now) }
+    ensures { IfOk result (λ text. text ≡ difference_of names.now (map program_of programs.now) notes.now pruned witness.now) }
 {
     let Witness::Orders { tree, left, right } = witness else {
         unreachable!();
     };
     let first = left.as_slice();
     let second = right.as_slice();
-    text_apart(alloc, names, programs, pruned, tree, first, second)
+    text_apart(alloc, names, programs, notes, pruned, tree, first, second)
 }
 
 /// The outcome of a second run, from where the first one ended.
@@ -155,19 +157,20 @@ pub fn change_text(
     alloc: Global,
     names: &[Text],
     programs: &[Program],
+    notes: &[u8],
     pruned: u32,
     witness: &Witness,
 ) -> Result<Seq<u8>, NoMemory>
     requires named { HasTurns (length names.now) witness.now }
     requires places { HasTurns (length programs.now) witness.now }
-    ensures { IfOk result (λ text. text ≡ change_of names.now (map program_of programs.now) pruned witness.now) }
+    ensures { IfOk result (λ text. text ≡ change_of names.now (map program_of programs.now) notes.now pruned witness.now) }
 {
     let Witness::Twice { tree, order } = witness else {
         unreachable!();
     };
     let turns = order.as_slice();
     let mut bytes = Vec::new(alloc);
-    push_head(alloc, programs.len(), pruned, &mut bytes)?;
+    push_head(alloc, programs.len(), notes, pruned, &mut bytes)?;
     push_bytes(b"deterministic\nnot idempotent\n", &mut bytes)?;
     push_again(alloc, names, programs, tree, turns, &mut bytes)?;
     push_bytes(b"succeeds from some tree\n", &mut bytes)?;

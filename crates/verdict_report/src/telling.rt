@@ -3,18 +3,20 @@
 ghost use Rattle.std.specs.Prelude.{◌≡◌, [], length, map, IfOk, IfErr};
 ghost use Rattle.rh_base.specs.Refused.{IfRefused};
 ghost use Rattle.fs_lang.specs.Meaning.{program_of};
-ghost use Rattle.verdict.specs.Limits.{IsTooLarge};
+ghost use Rattle.given_verdict.specs.Limits.{IsTooLargeWith};
 ghost use Rattle.verdict_report.specs.Lines.{status_of, answer_of, lines_of, proofs_of};
 ghost use Rattle.verdict_report.specs.Told.{IsText, IsReportOf, IsTellable, IsTellableAgain, IsTold};
 ghost use Rattle.verdict_report.specs.declared.report.Form.TheVariants as form_is;
 
-use crate::lines::{budget_of, spent_text, sure_text};
+use crate::lines::{spent_text, sure_text};
 use crate::proofs::{proofs_of, proofs_text};
 use crate::report::{Form, Report};
 use crate::runs::{change_text, difference_text};
 use fs_lang::Program;
-use full_verdict::{Ends, Second, Verdict, judge};
+use full_verdict::{Ends, Second, Verdict};
+use given_verdict::judge_from;
 use orders::Order;
+use question_terms::Terms;
 use rh_base::{Fault, NoMemory, Seq, Text};
 use std::alloc::Global;
 
@@ -40,17 +42,18 @@ fn answer_of(
     alloc: Global,
     names: &[Text],
     programs: &[Program],
+    notes: &[u8],
     pruned: u32,
     second: &Second,
     end: &Ends,
 ) -> Result<Seq<u8>, NoMemory>
     requires named { IsTellableAgain (length names.now) second.now }
     requires places { IsTellableAgain (length programs.now) second.now }
-    ensures { IfOk result (λ text. text ≡ answer_of names.now (map program_of programs.now) pruned second.now end.now) }
+    ensures { IfOk result (λ text. text ≡ answer_of names.now (map program_of programs.now) notes.now pruned second.now end.now) }
 {
     match second {
-        Second::Same(_) => sure_text(alloc, programs.len(), pruned, end),
-        Second::Differs(witness) => change_text(alloc, names, programs, pruned, witness),
+        Second::Same(_) => sure_text(alloc, programs.len(), notes, pruned, end),
+        Second::Differs(witness) => change_text(alloc, names, programs, notes, pruned, witness),
     }
 }
 
@@ -59,25 +62,26 @@ fn lines_of(
     alloc: Global,
     names: &[Text],
     programs: &[Program],
+    notes: &[u8],
     budget: u64,
     judged: &Verdict,
 ) -> Result<Seq<u8>, NoMemory>
     requires named { IsTellable (length names.now) judged.now }
     requires places { IsTellable (length programs.now) judged.now }
-    ensures { IfOk result (λ text. text ≡ lines_of names.now (map program_of programs.now) budget judged.now) }
+    ensures { IfOk result (λ text. text ≡ lines_of names.now (map program_of programs.now) notes.now budget judged.now) }
 {
     match judged {
         Verdict::NotDeterministic { pruned, witness } => {
-            difference_text(alloc, names, programs, *pruned, witness)
+            difference_text(alloc, names, programs, notes, *pruned, witness)
         }
         Verdict::Judged {
             pruned,
             second,
             ends,
             ..
-        } => { answer_of(alloc, names, programs, *pruned, second, ends) }
+        } => { answer_of(alloc, names, programs, notes, *pruned, second, ends) }
         Verdict::Spent { pruned, asked, .. } => {
-            spent_text(alloc, programs.len(), *pruned, asked, budget)
+            spent_text(alloc, programs.len(), notes, *pruned, asked, budget)
         }
     }
 }
@@ -96,38 +100,41 @@ fn report_of(
     form: Form,
     names: &[Text],
     programs: &[Program],
+    notes: &[u8],
     budget: u64,
     judged: Verdict,
 ) -> Result<Report, NoMemory>
     requires named { IsTellable (length names.now) judged }
     requires places { IsTellable (length programs.now) judged }
-    ensures { IfOk result (IsReportOf form names.now (map program_of programs.now) budget judged) }
+    ensures { IfOk result (IsReportOf form notes.now names.now (map program_of programs.now) budget judged) }
 {
     let status = status_of(&judged);
     let text = match form {
-        Form::Lines => lines_of(alloc, names, programs, budget, &judged)?,
+        Form::Lines => lines_of(alloc, names, programs, notes, budget, &judged)?,
         Form::Proofs => proofs_in(alloc, judged)?,
     };
     Ok(Report { status, text })
 }
 
-/// What is told of programs and the order between them, in one form or the other. The resources have these names.
+/// What is told of programs and the order between them, in one form or the other. The resources have these names, and these notes
+/// stand behind their number.
 pub fn told(
     alloc: Global,
     form: Form,
-    given: Option<u64>,
+    terms: &Terms,
+    notes: &[u8],
     names: &[Text],
     programs: &[Program],
     order: &Order,
 ) -> Result<Report, Fault>
     requires count { length programs.now ≡ order.now.count }
     requires names { length names.now ≡ order.now.count }
-    ensures told { IfOk result (IsTold form given names.now (map program_of programs.now) order.now) }
+    ensures told { IfOk result (IsTold form terms.now notes.now names.now (map program_of programs.now) order.now) }
     // It is refused exactly where the graph is too large to be asked about.
-    ensures refused { IfErr result (λ e. IfRefused e (IsTooLarge (map program_of programs.now))) }
+    ensures refused { IfErr result (λ e. IfRefused e (IsTooLargeWith terms.now.limits terms.now.given (map program_of programs.now))) }
 {
-    let budget = budget_of(given);
-    let judged = judge(alloc, programs, order, budget)?;
-    let report = report_of(alloc, form, names, programs, budget, judged)?;
+    let judged = judge_from(alloc, programs, order, terms)?;
+    let budget = terms.budget();
+    let report = report_of(alloc, form, names, programs, notes, budget, judged)?;
     Ok(report)
 }

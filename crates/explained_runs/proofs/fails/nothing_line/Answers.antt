@@ -9,6 +9,6 @@ pub returns : goal.returns
 returns c =
     let programs = c.args.programs.now in
     IfOk-weaker c.line_from.result _ _
-    (λ line is never. tells_from_nothing c.args.names.now (map program_of programs) c.args.order.now c.in_ok-first.first c.as_slice.result.now c.in_ok-how.how line c.in_ok-nothing.nothing
-    c.in_ok-nothing.ensures c.as_slice.ensures (length-map programs program_of ∙ c.requires) c.is_tree.ensures c.in_ok-first.ensures.allowed c.in_ok-first.ensures.least c.in_ok-how.ensures is never)
+    (λ line is never. tells_from_nothing c.args.given.now c.args.names.now (map program_of programs) c.args.order.now c.in_ok-first.first c.as_slice.result.now c.in_ok-how.how line c.in_ok-tree.tree
+    c.in_ok-tree.ensures c.as_slice.ensures (length-map programs program_of ∙ c.requires) c.in_ok-first.ensures.allowed c.in_ok-first.ensures.least c.in_ok-how.ensures is never)
     c.line_from.ensures
