@@ -2,6 +2,9 @@
 use Rattle.std.specs.Prelude.{◌≡◌, ℕ, ◌==◌, List, [], ◌∷◌, ◌++◌, Option, Some, None, Bool, true, false, codes, if◌then◌else◌}
 use Rattle.std.specs.Str.{bytes_eq}
 use Rattle.rh_base.specs.declared.limits.TheConstants.{MANIFEST_BYTES, PROOF_BYTES, FACTS_BYTES, LISTING_BYTES, TREE_BYTES, ORDER_BYTES}
+use Rattle.host_limits.specs.declared.limits.Limits.{Limits}
+use Rattle.host_limits.specs.declared.limits.Limits.TheVariants as limits
+use Rattle.command_line.specs.declared.table.TheConstants.{GIVEN_BYTES}
 use Rattle.command_line.specs.declared.table.Ask.{Ask}
 use Rattle.command_line.specs.declared.table.Ask.TheVariants as ask
 use Rattle.command_line.specs.declared.table.Role.{Role}
@@ -99,6 +102,10 @@ ask_among (a ∷ asks) word = if bytes_eq (ask_row a).word word then Some a else
 abbrev pub ask_named : List ℕ → Option Ask
 ask_named word = ask_among asks word
 
+-- the limits that a word names
+abbrev pub limits_named : List ℕ → Option Limits
+limits_named word = if bytes_eq word (codes "usual") then Some limits.Usual else (if bytes_eq word (codes "host") then Some limits.Host else None)
+
 -- ---- a row for each file
 
 -- how the words name it, how a refusal calls it, what it serves, and how many bytes it may have; without a number, as many as what is asked allows
@@ -120,10 +127,11 @@ role_row role.Input = serves (codes "INPUT") (codes "input") task.Read None
 role_row role.Other = serves (codes "other") (codes "other") task.Compare None
 role_row role.Tree = serves (codes "tree") (codes "tree") task.Replay (Some TREE_BYTES)
 role_row role.Order = serves (codes "order") (codes "order") task.Replay (Some ORDER_BYTES)
+role_row role.Given = serves (codes "given") (codes "given") task.Model (Some GIVEN_BYTES)
 
 -- all of them, in the order in which they are read and refusals are looked for
 abbrev pub roles : List Role
-roles = role.Facts ∷ role.Packages ∷ role.Data ∷ role.Input ∷ role.Other ∷ role.Tree ∷ role.Order ∷ []
+roles = role.Facts ∷ role.Packages ∷ role.Data ∷ role.Input ∷ role.Other ∷ role.Tree ∷ role.Order ∷ role.Given ∷ []
 
 -- the place of each
 abbrev pub place : Role → ℕ
@@ -134,6 +142,7 @@ place role.Input = 3
 place role.Other = 4
 place role.Tree = 5
 place role.Order = 6
+place role.Given = 7
 
 -- how many bytes a file may have
 abbrev pub limit_or : Option ℕ → ℕ → ℕ
@@ -179,6 +188,8 @@ options =
     ∷ (codes "content", codes "T")
     ∷ (codes "other", codes "M")
     ∷ (codes "data", codes "D")
+    ∷ (codes "given", codes "G")
+    ∷ (codes "limits", codes "L")
     ∷ []
 
 -- as the line of usage shows it

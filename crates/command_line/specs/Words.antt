@@ -6,6 +6,8 @@ use Rattle.clap.specs.Simple.{App, new_app, new_rule, with_rule, on_top, matches
 use Rattle.clap.specs.Faults.{fault_of}
 use Rattle.fs_lang.specs.PathText.{IsPathText}
 use Rattle.wanted_entry.specs.declared.wanted.Wanted.{Wanted}
+use Rattle.host_limits.specs.declared.limits.Limits.{Limits}
+use Rattle.host_limits.specs.declared.limits.Limits.TheVariants as limits
 use Rattle.command_line.specs.declared.table.Ask.{Ask}
 use Rattle.command_line.specs.declared.table.Ask.TheVariants as ask
 use Rattle.command_line.specs.declared.table.Role.{Role}
@@ -18,7 +20,7 @@ use Rattle.command_line.specs.declared.request.Request.{Request}
 use Rattle.command_line.specs.declared.size.TheConstants.{MOST_WORKLOAD}
 use Rattle.command_line.specs.declared.words.WordsFault.{WordsFault}
 use Rattle.command_line.specs.declared.words.WordsFault.TheVariants as fault
-use Rattle.command_line.specs.Table.{has, beside, ask_row, ask_named, role_row, roles, ByRole, given, options}
+use Rattle.command_line.specs.Table.{has, beside, ask_row, ask_named, limits_named, role_row, roles, ByRole, given, options}
 
 -- an option that takes one value, as `--facts F`
 abbrev pub option_rule : Text → Rule
@@ -75,6 +77,12 @@ taken_number may most None = Some None
 taken_number true most (Some word) = option_map (λ n. Some n) (number_in most word)
 taken_number false most (Some word) = None
 
+-- the limits that are given, by an option that may stand or may not; without it, the usual ones
+abbrev pub taken_limits : Bool → Option Text → Option Limits
+taken_limits may None = Some limits.Usual
+taken_limits true (Some word) = limits_named word
+taken_limits false (Some word) = None
+
 -- what is behind a name that is given, or behind none
 abbrev pub with_name : Role → Option Text → ByRole Text → ByRole Text
 with_name r None names = names
@@ -111,7 +119,8 @@ request_for ask workload tasks rows = do
   source ← source_in (has task.Compare tasks) workload names
   node ← taken (has task.Compile tasks) (first_of (codes "node") rows)
   conflicts ← taken_number (has task.Judge tasks) most_conflicts (first_of (codes "conflicts") rows)
-  Some (record { ask = ask; node = node; conflicts = conflicts; wanted = None; source = source })
+  limits ← taken_limits (has task.Compile tasks) (first_of (codes "limits") rows)
+  Some (record { ask = ask; node = node; conflicts = conflicts; limits = limits; wanted = None; source = source })
 
 -- the request that was given so, an entry that is wanted aside, where one was: no option stands that may not, and beside a workload no file
 abbrev pub request_in : List Row → Option Request

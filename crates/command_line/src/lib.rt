@@ -12,5 +12,5 @@ mod words;
 pub use laws::one_request;
 pub use request::{ByRole, Request, Source, given};
 pub use size::Size;
-pub use table::{Ask, Role, usage_line};
+pub use table::{Ask, GIVEN_BYTES, Role, usage_line};
 pub use words::{WordsFault, read_request};

@@ -6,6 +6,7 @@ ghost use Rattle.command_line.specs.Table.{given};
 
 use crate::size::Size;
 use crate::table::{Ask, Role};
+use host_limits::Limits;
 use rh_base::{Seq, Text};
 use wanted_entry::Wanted;
 
@@ -21,13 +22,14 @@ pub enum Source {
     Workload(Size),
 }
 
-/// What is asked for and about what, the node's name, if the words give one, how many conflicts a question has, and the entry that
-/// is wanted, where one may be.
+/// What is asked for and about what, the node's name, if the words give one, how many conflicts a question has, how large what is
+/// asked about may be, and the entry that is wanted, where one may be.
 #[derive(Debug, Drop)]
 pub struct Request {
     pub ask: Ask,
     pub node: Option<Text>,
     pub conflicts: Option<u64>,
+    pub limits: Limits,
     pub wanted: Option<Wanted>,
     pub source: Source,
 }

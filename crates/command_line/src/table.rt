@@ -1,9 +1,10 @@
 //! The table of requests: a row for each value of `--ask`, one for each file that may be named, and the options.
 
 ghost use Rattle.std.specs.Prelude.{◌≡◌, ◌==◌, ◌<◌, ◌^◌};
-ghost use Rattle.command_line.specs.Table.{reading, compiling, modelling, judging, rehearsing, replaying, wanting, comparing, has, beside, ask_row, ask_among, ask_named, role_row, limit_of, place, usage_line};
+ghost use Rattle.command_line.specs.Table.{reading, compiling, modelling, judging, rehearsing, replaying, wanting, comparing, has, beside, ask_row, ask_among, ask_named, limits_named, role_row, limit_of, place, usage_line};
 
 use crate::size::Size;
+use host_limits::Limits;
 use rh_base::limits::{
     FACTS_BYTES, LISTING_BYTES, MANIFEST_BYTES, ORDER_BYTES, PROOF_BYTES, TREE_BYTES,
 };
@@ -54,6 +55,8 @@ pub enum Role {
     Tree,
     /// The order of a replay.
     Order,
+    /// What every host has.
+    Given,
 }
 
 /// What there may be to do for a request. Each option serves one of these.
@@ -107,7 +110,7 @@ const ASKS: [Ask; 12] = [
 ];
 
 /// The files, in the order in which they are read and refusals are looked for. Each has a row below.
-pub(crate) const ROLES: [Role; 7] = [
+pub(crate) const ROLES: [Role; 8] = [
     Role::Facts,
     Role::Packages,
     Role::Data,
@@ -115,10 +118,11 @@ pub(crate) const ROLES: [Role; 7] = [
     Role::Other,
     Role::Tree,
     Role::Order,
+    Role::Given,
 ];
 
 /// The options, in the order of the line of usage.
-pub(crate) const OPTIONS: [&str; 12] = [
+pub(crate) const OPTIONS: [&str; 14] = [
     "facts",
     "packages",
     "node",
@@ -131,13 +135,18 @@ pub(crate) const OPTIONS: [&str; 12] = [
     "content",
     "other",
     "data",
+    "given",
+    "limits",
 ];
+
+/// Bytes of a text of what every host has.
+pub const GIVEN_BYTES: usize = 1_048_576;
 
 /// How the program is called, where the words are refused.
 pub fn usage_line() -> &'static [u8]
     ensures { result.now ≡ usage_line }
 {
-    b"usage: rehearsal [--facts F] [--packages P] [--node N] [--conflicts C] [--ask A] [--tree T] [--order O] [--workload N] [--path P] [--content T] [--other M] [--data D] [INPUT]\n"
+    b"usage: rehearsal [--facts F] [--packages P] [--node N] [--conflicts C] [--ask A] [--tree T] [--order O] [--workload N] [--path P] [--content T] [--other M] [--data D] [--given G] [--limits L] [INPUT]\n"
 }
 
 /// To read a text.
@@ -314,6 +323,19 @@ fn ask_among(asks: &[Ask], word: &str) -> Option<Ask>
     None
 }
 
+/// The limits that a word names.
+pub(crate) fn limits_named(word: &str) -> Option<Limits>
+    ensures { result ≡ limits_named word.now }
+{
+    if word == "usual" {
+        return Some(Limits::Usual);
+    }
+    if word == "host" {
+        return Some(Limits::Host);
+    }
+    None
+}
+
 impl Role {
     /// How the words name it, how a refusal calls it, what it serves, and how many bytes it may have; without a number,
     /// as many as what is asked allows.
@@ -331,6 +353,7 @@ impl Role {
             Role::Other => ("other", "other", Task::Compare, None),
             Role::Tree => ("tree", "tree", Task::Replay, Some(TREE_BYTES)),
             Role::Order => ("order", "order", Task::Replay, Some(ORDER_BYTES)),
+            Role::Given => ("given", "given", Task::Model, Some(GIVEN_BYTES)),
         }
     }
 

@@ -5,7 +5,7 @@ ghost use Rattle.std.specs.Option.{option_map};
 ghost use Rattle.clap.specs.Words.{found_of, rows_of, first_of, matches_of, fault_of, kind_of};
 ghost use Rattle.clap.specs.declared.error.kind.ErrorKind.TheVariants.{OutOfMemory};
 ghost use Rattle.command_line.specs.declared.size.TheConstants.{MOST_WORKLOAD};
-ghost use Rattle.command_line.specs.Words.{synopsis, ask_in, taken, taken_number, names_in, with_other, source_in, request_for, request_in, IsEntryAt, IsWanted, IsGiven, Makes, IfRefused, IsMade, IsWithin};
+ghost use Rattle.command_line.specs.Words.{synopsis, ask_in, taken, taken_number, taken_limits, names_in, with_other, source_in, request_for, request_in, IsEntryAt, IsWanted, IsGiven, Makes, IfRefused, IsMade, IsWithin};
 ghost use Rattle.command_line.specs.Table.{given};
 ghost use Rattle.command_line.specs.declared.request.Request.{Request};
 ghost use Rattle.command_line.specs.declared.table.Role.TheVariants.{Other};
@@ -15,10 +15,11 @@ use crate::command::synopsis;
 use crate::numbers::number;
 use crate::request::{ByRole, Request, Source, given};
 use crate::size::{MOST_WORKLOAD, Size};
-use crate::table::{Ask, ROLES, Role, Task, Tasks};
+use crate::table::{Ask, ROLES, Role, Task, Tasks, limits_named};
 use clap::ArgMatches;
 use clap::error::{Error, ErrorKind};
 use fs_lang::{Path, PathFault};
+use host_limits::Limits;
 use rh_base::{NoMemory, Seq, Text};
 use std::alloc::Global;
 use wanted_entry::Wanted;
@@ -117,6 +118,19 @@ fn size(matches: &ArgMatches<'_>, may: bool) -> Result<Option<Size>, WordsFault>
     }
 }
 
+/// The limits that are given, which may be or may not; without any, the usual ones.
+fn limits(matches: &ArgMatches<'_>, may: bool) -> Result<Limits, WordsFault>
+    ensures { IsMade (taken_limits may (first_of (codes "limits") (rows_of (found_of matches.now)))) result }
+{
+    let Some(word) = value(matches, "limits") else {
+        return Ok(Limits::Usual);
+    };
+    if !may {
+        return Err(WordsFault::Refused);
+    }
+    limits_named(word).ok_or(WordsFault::Refused)
+}
+
 #[tactic(auto, using(crate::proofs::RoleLaws::refused, crate::proofs::RoleLaws::not_given, crate::proofs::RoleLaws::one_more, crate::proofs::RoleLaws::at_end, crate::proofs::RoleLaws::from_start))]
 /// The names that are given for these files, of which those may stand that serve one of the tasks.
 fn names_of(
@@ -180,10 +194,12 @@ fn request_for(
     let source = source(tasks.has(Task::Compare), workload, names)?;
     let node = option(alloc, matches, tasks.has(Task::Compile), "node")?;
     let conflicts = counted(matches, tasks.has(Task::Judge), "conflicts", MOST_CONFLICTS)?;
+    let large = limits(matches, tasks.has(Task::Compile))?;
     Ok(Request {
         ask,
         node,
         conflicts,
+        limits: large,
         wanted: None,
         source,
     })

@@ -1,8 +1,12 @@
 -- Files say one thing, or one of them is refused, but not both.
-use Rattle.std.proofs.Common.{◌≡◌, ℕ, List, Option, Some, None, sym, ap, ◌∙◌}
+use Rattle.std.proofs.Common.{◌≡◌, ℕ, List, Option, Some, None, refl, sym, ap, subst, ◌∙◌}
 use Rattle.std.proofs.lemmas.Option.{same_Some}
 use Rattle.rh_base.specs.declared.fault.Refusal.{Refusal}
-use Rattle.fs_semantics.specs.FileTree.{Tree}
+use Rattle.fs_semantics.specs.FileTree.{Path, Tree}
+use Rattle.given_hosts.specs.Given.{Stand}
+use Rattle.given_text.specs.declared.given.Given.{Given}
+use Rattle.given_text.specs.Folders.{HasJust}
+use Rattle.given_text.specs.Form.{IsGivenText}
 use Rattle.pp_value.specs.declared.value.Value.{Value}
 use Rattle.pp_eval.specs.Facts.{fact_of, AreFacts}
 use Rattle.pp_data.specs.declared.data.Level.{Level}
@@ -13,7 +17,7 @@ use Rattle.tree_text.specs.TreeText.{IsTreeText}
 use Rattle.command_line.specs.declared.table.Role.TheVariants as role
 use Rattle.known_inputs.specs.declared.inputs.Inputs.{Inputs}
 use Rattle.known_inputs.specs.declared.inputs.Known.{Known}
-use Rattle.known_inputs.specs.Inputs.{Bytes, bytes_of, AreFactsOf, IsListingOf, AreDataOf, IsTreeOf, IsKnown, FirstUnread}
+use Rattle.known_inputs.specs.Inputs.{Bytes, bytes_of, AreFactsOf, IsListingOf, AreDataOf, IsTreeOf, IsGivenOf, BeginsIn, LacksGiven, IsKnown, FirstUnread}
 
 -- ---- one text
 
@@ -42,22 +46,59 @@ one_data : OneData → (bytes : Bytes) (a b : List Level) → AreDataOf bytes a 
 one_data one None a b is was = is ∙ sym was
 one_data one (Some bytes) a b is was = one bytes a b is was
 
-one_tree : OneTree → (bytes : Bytes) (t u : Tree) → IsTreeOf bytes t → IsTreeOf bytes u → t ≡ u
-one_tree one None t u is was = is ∙ sym was
-one_tree one (Some bytes) t u is was = one bytes t u is was
+one_tree : OneTree → (bytes : Bytes) (t u : Option Tree) → IsTreeOf bytes t → IsTreeOf bytes u → t ≡ u
+one_tree one None None None is was = refl
+one_tree one None None (Some u) is was = absurd was
+one_tree one None (Some t) u is was = absurd is
+one_tree one (Some bytes) None u is was = absurd is
+one_tree one (Some bytes) (Some t) None is was = absurd was
+one_tree one (Some bytes) (Some t) (Some u) is was = ap (λ v. Some v) (one bytes t u is was)
+
+-- a text gives one thing, and paths have one tree
+abbrev pub OneGiven : Type 0
+OneGiven = (bytes : List ℕ) (g h : Given) → IsGivenText bytes g → IsGivenText bytes h → g ≡ h
+
+abbrev pub OneJust : Type 0
+OneJust = (paths : List Path) (t u : Tree) → HasJust paths t → HasJust paths u → t ≡ u
+
+one_given : OneGiven → (bytes : Bytes) (g h : Given) → IsGivenOf bytes g → IsGivenOf bytes h → g ≡ h
+one_given one None g h is was =
+    let folders : g.folders ≡ h.folders = is.0 ∙ sym was.0 in
+    let links : g.links ≡ h.links = is.1 ∙ sym was.1 in
+    λ t. record { folders = folders t; links = links t }
+one_given one (Some bytes) g h is was = one bytes g h is was
+
+one_beginning : OneJust → (told : Option Tree) (folders : List Path) (t u : Tree) → BeginsIn told folders t → BeginsIn told folders u → t ≡ u
+one_beginning one None folders t u is was = one folders t u is was
+one_beginning one (Some told) folders t u is was = is.0 ∙ sym was.0
 
 -- ---- all files
 
-pub one_known : OneListing → OneData → OneTree → (i : Inputs) (k m : Known) → IsKnown i k → IsKnown i m → k ≡ m
-one_known listings data_texts trees i k m is was =
-    let facts = one_facts (bytes_of role.Facts i) k.facts m.facts is.facts was.facts in
-    let listing = one_listing listings (bytes_of role.Packages i) k.listing m.listing is.listing was.listing in
-    let levels = one_data data_texts (bytes_of role.Data i) k.class_data m.class_data is.class_data was.class_data in
-    let tree = one_tree trees (bytes_of role.Tree i) k.tree m.tree is.tree was.tree in
-    λ t. record { facts = facts t; listing = listing t; class_data = levels t; tree = tree t }
+pub one_known : OneListing → OneData → OneTree → OneGiven → OneJust → (i : Inputs) (k m : Known) → IsKnown i k → IsKnown i m → k ≡ m
+one_known listings data_texts trees givens justs i k m is was =
+    let facts = one_facts (bytes_of role.Facts i) k.facts m.facts is.told.facts was.told.facts in
+    let listing = one_listing listings (bytes_of role.Packages i) k.listing m.listing is.told.listing was.told.listing in
+    let levels = one_data data_texts (bytes_of role.Data i) k.class_data m.class_data is.told.class_data was.told.class_data in
+    let told = one_tree trees (bytes_of role.Tree i) is.tree was.tree is.is_tree was.is_tree in
+    let given = one_given givens (bytes_of role.Given i) k.given m.given is.given was.given in
+    let begins : BeginsIn was.tree m.given.folders k.tree =
+    subst (λ (g : Given). BeginsIn was.tree g.folders k.tree) given (subst (λ o. BeginsIn o k.given.folders k.tree) told is.begins) in
+    let tree = one_beginning justs was.tree m.given.folders k.tree m.tree begins was.begins in
+    λ t. record { facts = facts t; listing = listing t; class_data = levels t; tree = tree t; given = given t }
 
-pub none_refused : (i : Inputs) (k : Known) (r : Refusal) → IsKnown i k → FirstUnread i r → ⊥
-none_refused i k r is (FirstUnread.facts none) = none.none k.facts is.facts
-none_refused i k r is (FirstUnread.listing x facts none) = none.none k.listing is.listing
-none_refused i k r is (FirstUnread.class_data x packages facts listed none) = none.none k.class_data is.class_data
-none_refused i k r is (FirstUnread.tree x packages levels facts listed given none) = none.none k.tree is.tree
+-- a tree in which a run begins lacks no folder
+begins_well : (told : Option Tree) (folders : List Path) (t : Tree) (r : Refusal) → BeginsIn told folders t → LacksGiven told folders r → ⊥
+begins_well None folders t r begins lacking = lacking
+begins_well (Some told) folders t r begins lacking = lacking.1 (subst (Stand folders) begins.0 begins.1)
+
+pub none_refused : OneTree → OneGiven → (i : Inputs) (k : Known) (r : Refusal) → IsKnown i k → FirstUnread i r → ⊥
+none_refused trees givens i k r is (FirstUnread.facts none) = none.none k.facts is.told.facts
+none_refused trees givens i k r is (FirstUnread.listing x facts none) = none.none k.listing is.told.listing
+none_refused trees givens i k r is (FirstUnread.class_data x packages facts listed none) = none.none k.class_data is.told.class_data
+none_refused trees givens i k r is (FirstUnread.tree x packages levels told none) = none.none is.tree is.is_tree
+none_refused trees givens i k r is (FirstUnread.given x packages levels t told is_tree none) = none.none k.given is.given
+none_refused trees givens i k r is (FirstUnread.lacks x packages levels t g told is_tree is_given lacking) =
+    let same = one_tree trees (bytes_of role.Tree i) t is.tree is_tree is.is_tree in
+    let said = one_given givens (bytes_of role.Given i) g k.given is_given is.given in
+    begins_well is.tree k.given.folders k.tree r is.begins
+    (subst (λ (h : Given). LacksGiven is.tree h.folders r) said (subst (λ o. LacksGiven o g.folders r) same lacking))

@@ -1,12 +1,12 @@
 -- What the files beside a manifest say, and which of them is refused first.
 use Rattle.std.specs.Prelude.{◌≡◌, List, [], ℕ, Option, Some, None, codes}
-use Rattle.std.specs.FinMap as map
 use Rattle.command_line.specs.declared.table.Role.{Role}
 use Rattle.command_line.specs.declared.table.Role.TheVariants as role
-use Rattle.command_line.specs.Table.{given}
+use Rattle.command_line.specs.Table.{given as named}
 use Rattle.rh_base.specs.declared.fault.Refusal.{Refusal}
 use Rattle.rh_base.specs.Refused.{IsRefusal}
-use Rattle.fs_semantics.specs.FileTree.{Tree}
+use Rattle.fs_semantics.specs.FileTree.{Path, Tree}
+use Rattle.given_hosts.specs.Given.{Stand}
 use Rattle.pp_value.specs.declared.value.Value.{Value}
 use Rattle.pp_value.specs.declared.value.Value.TheVariants as v
 use Rattle.pp_eval.specs.Facts.{AreFacts}
@@ -15,6 +15,9 @@ use Rattle.pp_data.specs.Form.{AreData}
 use Rattle.pkg_listing.specs.Packages.{Packages}
 use Rattle.pkg_listing.specs.Form.{IsListingText}
 use Rattle.tree_text.specs.TreeText.{IsTreeText}
+use Rattle.given_text.specs.declared.given.Given.{Given}
+use Rattle.given_text.specs.Folders.{HasJust}
+use Rattle.given_text.specs.Form.{IsGivenText}
 use Rattle.wanted_entry.specs.declared.wanted.Wanted.{Wanted}
 use Rattle.known_inputs.specs.declared.inputs.Inputs.{Inputs}
 use Rattle.known_inputs.specs.declared.inputs.Known.{Known}
@@ -25,7 +28,7 @@ Bytes = Option (List ℕ)
 
 -- the bytes of the file of a role
 abbrev pub bytes_of : Role → Inputs → Bytes
-bytes_of r i = given r i.files
+bytes_of r i = named r i.files
 
 -- the bytes, or none of them
 abbrev pub bytes_or_none : Bytes → List ℕ
@@ -62,10 +65,23 @@ abbrev pub AreDataOf : Bytes → List Level → Type 0
 AreDataOf None levels = levels ≡ []
 AreDataOf (Some bytes) levels = AreData bytes levels
 
--- this is the file tree
-abbrev pub IsTreeOf : Bytes → Tree → Type 0
-IsTreeOf None t = t ≡ map.empty
-IsTreeOf (Some bytes) t = IsTreeText bytes t
+-- this is the file tree that is told; without bytes none is
+abbrev pub IsTreeOf : Bytes → Option Tree → Type 0
+IsTreeOf None None = Unit {0}
+IsTreeOf None (Some t) = ⊥
+IsTreeOf (Some bytes) None = ⊥
+IsTreeOf (Some bytes) (Some t) = IsTreeText bytes t
+
+-- these are the folders and links that every host has
+abbrev pub IsGivenOf : Bytes → Given → Type 0
+IsGivenOf None g = (g.folders ≡ []) × (g.links ≡ [])
+IsGivenOf (Some bytes) g = IsGivenText bytes g
+
+-- The file tree in which a run begins: the one that is told, in which the given folders stand; and where none is told, that of the
+-- given folders alone.
+abbrev pub BeginsIn : Option Tree → List Path → Tree → Type 0
+BeginsIn None folders t = HasJust folders t
+BeginsIn (Some told) folders t = (t ≡ told) × Stand folders t
 
 -- ---- bytes that say nothing, and their refusals
 
@@ -87,21 +103,42 @@ pub record HasNoData (bytes : Bytes) (r : Refusal) : Type 0 where
 -- the bytes are no file tree
 pub record HasNoTree (bytes : Bytes) (r : Refusal) : Type 0 where
   pub refusal : IsRefusal 62 0 (codes "tree") r
-  pub none : (t : Tree) → IsTreeOf bytes t → ⊥
+  pub none : (t : Option Tree) → IsTreeOf bytes t → ⊥
+
+-- the bytes give no folders and links
+pub record HasNoGiven (bytes : Bytes) (r : Refusal) : Type 0 where
+  pub refusal : IsRefusal 67 0 (codes "given") r
+  pub none : (g : Given) → IsGivenOf bytes g → ⊥
+
+-- in the tree that is told a given folder isn't a folder
+abbrev pub LacksGiven : Option Tree → List Path → Refusal → Type 0
+LacksGiven None folders r = ⊥
+LacksGiven (Some told) folders r = IsRefusal 62 0 (codes "tree") r × (Stand folders told → ⊥)
 
 -- ---- all files beside the manifest
 
+-- these are the facts, the packages and the class data
+pub record AreTold (i : Inputs) (x : Value) (packages : Packages) (levels : List Level) : Type 0 where
+  pub facts : AreFactsOf (bytes_of role.Facts i) x
+  pub listing : IsListingOf (bytes_of role.Packages i) packages
+  pub class_data : AreDataOf (bytes_of role.Data i) levels
+
 -- The files beside the manifest say this.
 pub record IsKnown (i : Inputs) (k : Known) : Type 0 where
-  pub facts : AreFactsOf (bytes_of role.Facts i) k.facts
-  pub listing : IsListingOf (bytes_of role.Packages i) k.listing
-  pub class_data : AreDataOf (bytes_of role.Data i) k.class_data
-  pub tree : IsTreeOf (bytes_of role.Tree i) k.tree
+  pub told : AreTold i k.facts k.listing k.class_data
+  pub tree : Option Tree
+  pub is_tree : IsTreeOf (bytes_of role.Tree i) tree
+  pub given : IsGivenOf (bytes_of role.Given i) k.given
+  pub begins : BeginsIn tree k.given.folders k.tree
 
--- the refusal of the first that says nothing: facts, the listing, class data, and then the tree
+-- The refusal of the first that says nothing: facts, the listing, class data, the tree, and then what every host has; and after that
+-- the refusal of a tree in which a given folder isn't one.
 pub data FirstUnread (i : Inputs) (r : Refusal) : Type 0 where
   facts : HasNoFacts (bytes_of role.Facts i) r → FirstUnread i r
   listing : (x : Value) → AreFactsOf (bytes_of role.Facts i) x → HasNoListing (bytes_of role.Packages i) r → FirstUnread i r
   class_data : (x : Value) (packages : Packages) → AreFactsOf (bytes_of role.Facts i) x → IsListingOf (bytes_of role.Packages i) packages → HasNoData (bytes_of role.Data i) r → FirstUnread i r
-  tree : (x : Value) (packages : Packages) (levels : List Level) → AreFactsOf (bytes_of role.Facts i) x → IsListingOf (bytes_of role.Packages i) packages
-      → AreDataOf (bytes_of role.Data i) levels → HasNoTree (bytes_of role.Tree i) r → FirstUnread i r
+  tree : (x : Value) (packages : Packages) (levels : List Level) → AreTold i x packages levels → HasNoTree (bytes_of role.Tree i) r → FirstUnread i r
+  given : (x : Value) (packages : Packages) (levels : List Level) (t : Option Tree) → AreTold i x packages levels → IsTreeOf (bytes_of role.Tree i) t
+      → HasNoGiven (bytes_of role.Given i) r → FirstUnread i r
+  lacks : (x : Value) (packages : Packages) (levels : List Level) (t : Option Tree) (g : Given) → AreTold i x packages levels → IsTreeOf (bytes_of role.Tree i) t
+      → IsGivenOf (bytes_of role.Given i) g → LacksGiven t g.folders r → FirstUnread i r

@@ -6,6 +6,8 @@ ghost use Rattle.known_inputs.specs.Inputs.{bytes_of, input_of, wanted_of};
 
 use command_line::{ByRole, Role, given};
 use fs_lang::{Path, Tree};
+use given_text::Given;
+use host_limits::Limits;
 use pkg_listing::Listing;
 use pp_data::Data;
 use pp_value::Value;
@@ -13,10 +15,12 @@ use rh_base::{NoMemory, Seq, Text};
 use std::alloc::Global;
 use wanted_entry::Wanted;
 
-/// The bytes of each file that a request names, the node's name, and the entry that is wanted, if one may be.
+/// The bytes of each file that a request names, the node's name, how large what is asked about may be, and the entry that is wanted,
+/// if one may be.
 #[derive(Drop)]
 pub struct Inputs {
     pub node: Option<Text>,
+    pub limits: Limits,
     pub wanted: Option<Wanted>,
     pub files: ByRole<Seq<u8>>,
 }
@@ -61,11 +65,13 @@ impl Inputs {
     }
 }
 
-/// What the files beside the manifest say. What isn't named says nothing: no facts, no packages, no data, no entries.
+/// What the files beside the manifest say. What isn't named says nothing: no facts, no packages, no data, nothing that every host has,
+/// and no tree but that of the folders that every host has.
 #[derive(Drop)]
 pub struct Known {
     pub facts: Value,
     pub listing: Listing,
     pub class_data: Data,
     pub tree: Tree,
+    pub given: Given,
 }

@@ -6,6 +6,7 @@ ghost use Rattle.known_inputs.specs.declared.inputs.Inputs.{Inputs as Given};
 ghost use Rattle.known_inputs.specs.declared.inputs.Known.{Known as Said};
 ghost use Rattle.known_inputs.specs.Inputs.{IsKnown, FirstUnread};
 
+use given_text::given_texts;
 use pkg_listing::listing_texts;
 use pp_data::text_has_one_data;
 use tree_text::tree_texts;
@@ -18,4 +19,5 @@ pub fn files_say_one_thing()
     listing_texts();
     text_has_one_data();
     tree_texts();
+    given_texts();
 }

@@ -1,4 +1,4 @@
-//! What the files beside a manifest say: facts, a listing of packages, class data and a file tree.
+//! What the files beside a manifest say: facts, a listing of packages, class data, a file tree and what every host has.
 #![tactic(auto)]
 
 mod inputs;

@@ -14,6 +14,7 @@ use Rattle.request_files.specs.Files.{FirstFailed, AllTold}
 use Rattle.known_inputs.specs.declared.inputs.Inputs.{Inputs}
 use Rattle.fs_semantics.specs.Programs.{Program}
 use Rattle.orders.specs.Relation.{Relation}
+use Rattle.question_terms.specs.declared.terms.Terms.{Terms}
 use Rattle.verdict_report.specs.declared.report.Form.{Form}
 use Rattle.verdict_report.specs.declared.report.Form.TheVariants as form
 use Rattle.verdict_report.specs.Told.{IsTold}
@@ -26,8 +27,8 @@ use Rattle.rehearsal_core.specs.declared.run.Ending.{Ending}
 use Rattle.rehearsal_core.specs.declared.run.Ending.TheVariants as ending
 use Rattle.rehearsal_core.specs.Runs.{Run, Appends, IsLeft, IsSound, HasFailed, AppendsFront}
 use Rattle.rehearsal_core.proofs.Excluding.{OneRequest, NoCatalogRefusal, NoGraphRefusal, NoReportRefusal, NoComparisonRefusal, OneList, NoFault, no_refusal, no_report_lacks, no_refusal_lacks}
-use Rattle.rehearsal_core.specs.Steps.{SaysOf, Says, TellsLine, TellsReport, Owed, Ended}
-use Rattle.rehearsal_core.specs.Answers.{IsOfReport, HasCause, Tells, Owes, refusal_line, read_fault_line, memory_line}
+use Rattle.rehearsal_core.specs.Steps.{SaysOf, Says, TellsLine, TellsReport, Ended}
+use Rattle.rehearsal_core.specs.Answers.{IsOfReport, HasCause, Tells, Owed, Owes, refusal_line, read_fault_line, memory_line}
 use Rattle.reports.specs.declared.sides.Side.{Side}
 use Rattle.rehearsal_core.proofs.ComparedLaws as compared_laws
 use Rattle.rehearsal_core.proofs.ExplainedLaws as explained_laws
@@ -87,22 +88,22 @@ memory_ends run status is front out sound = ended run status (memory_tells run s
 
 -- ---- a report was to be written
 
-few_told : (f : Form) (conflicts : Option ℕ) (names : List (List ℕ)) (es : List Program) (order : Relation) (report : Report) → IsTold f conflicts names es order report → IsOfReport report.status
-few_told f conflicts names es order report told = elim told.answer [
+few_told : (f : Form) (terms : Terms) (notes : List ℕ) (names : List (List ℕ)) (es : List Program) (order : Relation) (report : Report) → IsTold f terms notes names es order report → IsOfReport report.status
+few_told f terms notes names es order report told = elim told.answer [
   | inl sure ↦ inl (omega (arith, sure.status))
   | inr (inl different) ↦ inl (omega (arith, different.status))
   | inr (inr (inl changed)) ↦ inl (omega (arith, changed.status))
   | inr (inr (inr spent)) ↦ inl (omega (arith, spent.status))
 ]
 
-few_repaired : (conflicts : Option ℕ) (names : List (List ℕ)) (es : List Program) (order : Relation) (report : Report) → IsRepairTold conflicts names es order report → IsOfReport report.status
-few_repaired conflicts names es order report told = elim told.answer [
+few_repaired : (terms : Terms) (notes : List ℕ) (names : List (List ℕ)) (es : List Program) (order : Relation) (report : Report) → IsRepairTold terms notes names es order report → IsOfReport report.status
+few_repaired terms notes names es order report told = elim told.answer [
   | inl repaired ↦ inl (omega (arith, repaired.status))
   | inr spent ↦ inl (omega (arith, spent.status))
 ]
 
-few_ensured : (conflicts : Option ℕ) (w : Wanted) (names : List (List ℕ)) (es : List Program) (order : Relation) (report : Report) → IsEntryTold conflicts w names es order report → IsOfReport report.status
-few_ensured conflicts w names es order report told = elim told.answer [
+few_ensured : (terms : Terms) (notes : List ℕ) (w : Wanted) (names : List (List ℕ)) (es : List Program) (order : Relation) (report : Report) → IsEntryTold terms notes w names es order report → IsOfReport report.status
+few_ensured terms notes w names es order report told = elim told.answer [
   | inl held ↦ inl (omega (arith, held.status))
   | inr (inl different) ↦ inl (omega (arith, different.status))
   | inr (inr (inl missed)) ↦ inr (inl missed.status)
@@ -112,18 +113,18 @@ few_ensured conflicts w names es order report told = elim told.answer [
 
 -- a report has the status of one
 few : (a : Ask) (conflicts : Option ℕ) (i : Inputs) (report : Report) → IsAnswerTo a conflicts i report → IsOfReport report.status
-few ask.Verify conflicts i report answer = few_told form.Lines conflicts _ _ _ report answer.told
-few ask.Proof conflicts i report answer = few_told form.Proofs conflicts _ _ _ report answer.told
+few ask.Verify conflicts i report answer = few_told form.Lines _ _ _ _ _ report answer.told
+few ask.Proof conflicts i report answer = few_told form.Proofs _ _ _ _ _ report answer.told
 few ask.Catalog conflicts i report answer = inl (omega (arith, answer.0))
 few ask.Graph conflicts i report answer = inl (omega (arith, answer.0))
 few ask.Programs conflicts i report answer = inl (omega (arith, answer.told.0))
 few ask.Replay conflicts i report answer = inl (omega (arith, answer.told.0))
 few ask.Check conflicts i report answer = inl (omega (arith, answer.0))
 few ask.Migrate conflicts i report answer = inl (omega (arith, answer.0))
-few ask.Repair conflicts i report answer = few_repaired conflicts _ _ _ report answer.told
-few ask.Ensures conflicts i report answer = few_ensured conflicts _ _ _ _ report answer.told
-few ask.Equal conflicts i report answer = compared_laws.few conflicts _ _ _ _ _ _ report answer.told.answer
-few ask.Explain conflicts i report answer = explained_laws.few conflicts _ _ _ _ report answer.told.told.answer
+few ask.Repair conflicts i report answer = few_repaired _ _ _ _ _ report answer.told
+few ask.Ensures conflicts i report answer = few_ensured _ _ _ _ _ _ report answer.told
+few ask.Equal conflicts i report answer = compared_laws.few _ _ _ _ _ _ _ _ report answer.told.answer
+few ask.Explain conflicts i report answer = explained_laws.few _ _ _ _ _ report answer.told.told.answer
 
 has_status : (words : List (String Global)) (held : Held) (report : Report) → Reports words held report → IsOfReport report.status
 has_status words held report reports = few reports.on.loaded.ask reports.on.loaded.conflicts reports.on.loaded.inputs report reports.on.says
@@ -305,14 +306,10 @@ lacking one run status tells lacks = elim tells.known [
 
 pub owes : NoCatalogRefusal → NoGraphRefusal → NoReportRefusal → NoComparisonRefusal → OneList → NoFault → OneRequest → (run : Run) (status : ℕ) → Ended run status → Owes run status
 owes catalogs graphs programs comparisons lists faults one run status ends = record {
-  usage = ends.owed.usage;
-  decided = ends.owed.decided;
+  owed = ends.owed;
   refused = λ held s r refuses is.
       let told = ends.tells.report is in no_refusal catalogs graphs programs comparisons lists faults one run.words run.held told.0 s r held told.1 refuses;
   missing = lacking one run status ends.tells;
-  unread = ends.owed.unread;
-  unwritten = ends.owed.unwritten;
-  untold = ends.owed.untold;
 }
 
 -- ---- from the request to the words that make it

@@ -100,9 +100,10 @@ none_and_any held (n ∷ names) none (inr later) = none_and_any held names none.
 same_inputs : (held : Held) (r : Request) (s : Source) (i j : Inputs) → AllTold held (files_in s) → AreInputs held r s i → AreInputs held r s j → i ≡ j
 same_inputs held r (source.Files names) i j told is was =
     let node = is.0 ∙ sym was.0 in
-    let wanted = is.1 ∙ sym was.1 in
-    let files = same_files held r.ask names i.files j.files told is.2 was.2 in
-    λ t. record { node = node t; wanted = wanted t; files = files t }
+    let limits = is.1 ∙ sym was.1 in
+    let wanted = is.2 ∙ sym was.2 in
+    let files = same_files held r.ask names i.files j.files told is.3 was.3 in
+    λ t. record { node = node t; limits = limits t; wanted = wanted t; files = files t }
 same_inputs held r (source.Workload n) i j told is was = is ∙ sym was
 
 same_loaded : (held : Held) (r : Request) (l m : Loaded) → AllTold held (files_of r) → IsLoaded held r l → IsLoaded held r m → l ≡ m
@@ -113,11 +114,11 @@ same_loaded held r l m told is was =
     λ t. record { ask = a t; conflicts = conflicts t; inputs = inputs t }
 
 loaded_within : (held : Held) (q : Request) (s : Source) (i : Inputs) (r : Refusal) → AllTold held (files_in s) → AreInputs held q s i → FirstTooLong held q.ask (files_in s) r → ⊥
-loaded_within held q (source.Files names) i r told is long = not_too_long held q.ask names i.files r told is.2 long
+loaded_within held q (source.Files names) i r told is long = not_too_long held q.ask names i.files r told is.3 long
 loaded_within held q (source.Workload n) i r told is long = long
 
 loaded_are_there : (held : Held) (q : Request) (s : Source) (i : Inputs) → AreInputs held q s i → AnyMissing held (files_in s) → ⊥
-loaded_are_there held q (source.Files names) i is missing = read_are_there held q.ask names i.files is.2 missing
+loaded_are_there held q (source.Files names) i is missing = read_are_there held q.ask names i.files is.3 missing
 loaded_are_there held q (source.Workload n) i is missing = missing
 
 -- ---- proofs

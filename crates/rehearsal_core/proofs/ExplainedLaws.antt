@@ -1,12 +1,13 @@
 -- What an explanation tells at each status.
-use Rattle.std.proofs.Common.{◌≡◌, ◌<◌, ◌≤◌, inl, inr, ℕ, List, Option, arith}
+use Rattle.std.proofs.Common.{◌≡◌, ◌<◌, ◌≤◌, inl, inr, ℕ, List, arith}
 use Rattle.fs_semantics.specs.Programs.{Program}
 use Rattle.orders.specs.Relation.{Relation}
+use Rattle.question_terms.specs.declared.terms.Terms.{Terms}
 use Rattle.verdict_report.specs.declared.report.Report.{Report}
 use Rattle.explain_report.specs.Told.{ExplainsSure, ExplainsDifference, ExplainsChange, ExplainsSpent, Explains}
 use Rattle.rehearsal_core.specs.Answers.{IsOfReport}
 
-module _ (given : Option ℕ) (names : List (List ℕ)) (es : List Program) (order : Relation) (head : List ℕ) (report : Report) (answer : Explains given names es order head report) where
+module _ (terms : Terms) (names : List (List ℕ)) (es : List Program) (order : Relation) (head : List ℕ) (report : Report) (answer : Explains terms names es order head report) where
   low : report.status ≤ 3
   low = elim answer [
     | inl sure ↦ omega (arith, sure.status)
@@ -21,7 +22,7 @@ module _ (given : Option ℕ) (names : List (List ℕ)) (es : List Program) (ord
   pub not_high : (n : ℕ) → 3 < n → report.status ≡ n → ⊥
   not_high n high is = omega (arith, low, high, is)
 
-  pub at_zero : report.status ≡ 0 → ExplainsSure names es order head report
+  pub at_zero : report.status ≡ 0 → ExplainsSure terms.given names es order head report
   at_zero same = elim answer [
     | inl sure ↦ sure
     | inr (inl different) ↦ absurd (omega (arith, same, different.status))
@@ -29,7 +30,7 @@ module _ (given : Option ℕ) (names : List (List ℕ)) (es : List Program) (ord
     | inr (inr (inr spent)) ↦ absurd (omega (arith, same, spent.status))
   ]
 
-  pub at_one : report.status ≡ 1 → ExplainsDifference names es order head report
+  pub at_one : report.status ≡ 1 → ExplainsDifference terms.given names es order head report
   at_one same = elim answer [
     | inl sure ↦ absurd (omega (arith, same, sure.status))
     | inr (inl different) ↦ different
@@ -37,7 +38,7 @@ module _ (given : Option ℕ) (names : List (List ℕ)) (es : List Program) (ord
     | inr (inr (inr spent)) ↦ absurd (omega (arith, same, spent.status))
   ]
 
-  pub at_two : report.status ≡ 2 → ExplainsChange names es order head report
+  pub at_two : report.status ≡ 2 → ExplainsChange terms.given names es order head report
   at_two same = elim answer [
     | inl sure ↦ absurd (omega (arith, same, sure.status))
     | inr (inl different) ↦ absurd (omega (arith, same, different.status))
@@ -45,7 +46,7 @@ module _ (given : Option ℕ) (names : List (List ℕ)) (es : List Program) (ord
     | inr (inr (inr spent)) ↦ absurd (omega (arith, same, spent.status))
   ]
 
-  pub at_three : report.status ≡ 3 → ExplainsSpent given es order head report
+  pub at_three : report.status ≡ 3 → ExplainsSpent terms es order head report
   at_three same = elim answer [
     | inl sure ↦ absurd (omega (arith, same, sure.status))
     | inr (inl different) ↦ absurd (omega (arith, same, different.status))

@@ -1,8 +1,12 @@
 -- From the report that was written to the headline.
-use Rattle.std.proofs.Common.{◌≡◌, ◌⊎◌, inl, inr, ℕ, Option, Some, None, refl, sym, subst, ◌∙◌, arith}
+use Rattle.std.proofs.Common.{◌≡◌, ◌⊎◌, inl, inr, ℕ, [], Option, Some, None, refl, sym, ap, subst, ◌∙◌, arith}
 use Rattle.command_line.specs.declared.table.Ask.{Ask}
 use Rattle.command_line.specs.declared.table.Ask.TheVariants as ask
+use Rattle.command_line.specs.declared.table.Role.TheVariants as role
 use Rattle.command_line.specs.declared.request.Request.{Request}
+use Rattle.fs_semantics.specs.Programs.{Program}
+use Rattle.given_hosts.specs.Given.{Stand}
+use Rattle.given_links.specs.Reading.{program_read_as}
 use Rattle.known_inputs.specs.declared.inputs.Inputs.{Inputs}
 use Rattle.reports.specs.declared.question.Question.{Question}
 use Rattle.reports.specs.declared.question.Question.TheVariants as question
@@ -10,19 +14,14 @@ use Rattle.reports.specs.Questions.{IsReport}
 use Rattle.verdict_report.specs.declared.report.Form.{Form}
 use Rattle.verdict_report.specs.declared.report.Form.TheVariants as form
 use Rattle.verdict_report.specs.declared.report.Report.{Report}
-use Rattle.verdict_report.specs.Told.{IsUnanswered}
-use Rattle.repair_report.specs.Told as repairs
-use Rattle.entry_report.specs.Told.{TellsSpent}
-use Rattle.equal_report.specs.Told as comparison
-use Rattle.equal_report.specs.Told.{OneIsUnanswered}
 use Rattle.reports.specs.Comparisons.{names_of, other_names_of, IsComparison}
-use Rattle.known_inputs.specs.Inputs.{wanted_of}
+use Rattle.known_inputs.specs.Inputs.{bytes_of, IsGivenOf, IsKnown}
+use Rattle.known_inputs.specs.declared.inputs.Known.{Known}
 use Rattle.rehearsal_core.specs.Inputs.{Requests, Reports, IsAnswerTo}
 use Rattle.rehearsal_core.specs.Runs.{Run, Appends}
-use Rattle.rehearsal_core.specs.Headline.{ask_for, AsksForVerdict, AsksForEntry, AsksForRepair, AsksForComparison, Modelled, Judged, IsCompared, OfBoth, DoTheSame, DoOtherwise, OneDependsOnOrder, SpendsOnComparison, IsWell, DependsOnOrder, ChangesAgain, SpendsConflicts, LeavesEntry, MissesEntry, SpendsOnEntry, IsMended, SpendsOnRepair, AsksForExplanation, Explained, head_of, IsWellExplained, TellsWhyOrderMatters, TellsWhatChanges, SpendsOnExplanation, Headline}
+use Rattle.rehearsal_core.specs.Headline.{ask_for, AsksForVerdict, AsksForEntry, AsksForRepair, AsksForComparison, Modelled, Judged, IsCompared, DoTheSame, DoOtherwise, OneDependsOnOrder, SpendsOnComparison, IsWell, DependsOnOrder, ChangesAgain, SpendsConflicts, LeavesEntry, MissesEntry, SpendsOnEntry, IsMended, SpendsOnRepair, AsksForExplanation, Explained, head_of, IsWellExplained, TellsWhyOrderMatters, TellsWhatChanges, SpendsOnExplanation, IsOfEveryTree, Headline}
 use Rattle.rehearsal_core.proofs.ComparedLaws as compared_laws
 use Rattle.rehearsal_core.proofs.ExplainedLaws as explained_laws
-use Rattle.explain_report.specs.Told.{ExplainsSpent}
 use Rattle.rehearsal_core.specs.Answers.{WritesReport, Tells}
 
 -- ---- what a report is about
@@ -180,7 +179,7 @@ explained_on run report reports asked is = record {
   of = modelled run report reports ask.Explain (question.Explain reports.on.loaded.conflicts) asked is;
   names = is.told.names;
   named = is.told.named;
-  notes = is.told.notes;
+  node = is.told.node;
   noted = is.told.noted;
   pruned = is.told.told.pruned;
   count = is.told.told.count;
@@ -225,8 +224,8 @@ depends_of run (report, reports, same, written, left) =
         | inl mended ↦ absurd (omega (arith, same, mended.status))
         | inr spent ↦ absurd (omega (arith, same, spent.status))
       ]
-      | both is answer ↦ inr (inl (record { compared = compared run report reports is answer; report = report; differs = compared_laws.at_one reports.on.loaded.conflicts _ _ _ _ _ _ report answer.told.answer same; written = written }))
-      | why is answer ↦ inr (inr (record { explained = explained_on run report reports is answer; report = report; different = explained_laws.at_one reports.on.loaded.conflicts _ _ _ _ report answer.told.told.answer same; written = written }))
+      | both is answer ↦ inr (inl (record { compared = compared run report reports is answer; report = report; differs = compared_laws.at_one _ _ _ _ _ _ _ _ report answer.told.answer same; written = written }))
+      | why is answer ↦ inr (inr (record { explained = explained_on run report reports is answer; report = report; different = explained_laws.at_one _ _ _ _ _ report answer.told.told.answer same; written = written }))
       | other zero not_verdict not_repair not_entry not_equal not_why ↦ absurd (omega (arith, same, zero))
     ]
 
@@ -250,22 +249,19 @@ changes_of run (report, reports, same, written, left) =
         | inl mended ↦ absurd (omega (arith, same, mended.status))
         | inr spent ↦ absurd (omega (arith, same, spent.status))
       ]
-      | both is answer ↦ absurd (compared_laws.not_two reports.on.loaded.conflicts _ _ _ _ _ _ report answer.told.answer same)
-      | why is answer ↦ inr (record { explained = explained_on run report reports is answer; report = report; changed = explained_laws.at_two reports.on.loaded.conflicts _ _ _ _ report answer.told.told.answer same; written = written })
+      | both is answer ↦ absurd (compared_laws.not_two _ _ _ _ _ _ _ _ report answer.told.answer same)
+      | why is answer ↦ inr (record { explained = explained_on run report reports is answer; report = report; changed = explained_laws.at_two _ _ _ _ _ report answer.told.told.answer same; written = written })
       | other zero not_verdict not_repair not_entry not_equal not_why ↦ absurd (omega (arith, same, zero))
     ]
 
 spent_comparison : (run : Run) (report : Report) (reports : Reports run.words run.held report) → report.status ≡ 3 → Appends report.text run.out → reports.on.loaded.ask ≡ ask.Equal
     → IsComparison reports.on.loaded.conflicts reports.on.loaded.inputs report → SpendsOnComparison run
-spent_comparison run report reports same written is answer =
-    let on = compared run report reports is answer in
-    record {
-      compared = on;
-      report = report;
-      unanswered = subst (λ given. OfBoth on (λ es order fs other. OneIsUnanswered given es order fs other report ⊎ comparison.TellsSpent given es order fs other report)) reports.on.stands.conflicts
-          (compared_laws.at_three reports.on.loaded.conflicts (names_of answer.of) _ _ (other_names_of answer.of) _ _ report answer.told.answer same);
-      written = written;
-    }
+spent_comparison run report reports same written is answer = record {
+  compared = compared run report reports is answer;
+  report = report;
+  unanswered = compared_laws.at_three _ _ (names_of answer.of) _ _ (other_names_of answer.of) _ _ report answer.told.answer same;
+  written = written;
+}
 
 spent_explanation : (run : Run) (report : Report) (reports : Reports run.words run.held report) → report.status ≡ 3 → Appends report.text run.out → reports.on.loaded.ask ≡ ask.Explain
     → IsReport (question.Explain reports.on.loaded.conflicts) reports.on.loaded.inputs report → SpendsOnExplanation run
@@ -274,8 +270,7 @@ spent_explanation run report reports same written is answer =
     record {
       explained = on;
       report = report;
-      unanswered = subst (λ given. ExplainsSpent given on.of.programs on.of.graph.order (head_of on) report) reports.on.stands.conflicts
-          (explained_laws.at_three reports.on.loaded.conflicts on.names _ _ (head_of on) report answer.told.told.answer same);
+      unanswered = explained_laws.at_three _ on.names _ _ (head_of on) report answer.told.told.answer same;
       written = written;
     }
 
@@ -290,7 +285,7 @@ spends_of run (report, reports, same, written, left) =
             inl (record {
               judged = verdict_on run report reports f is answer;
               report = report;
-              unanswered = subst (λ given. IsUnanswered f given answer.programs answer.graph.order answer.told.pruned report) reports.on.stands.conflicts spent;
+              unanswered = spent;
               written = written;
             })
       ]
@@ -302,7 +297,7 @@ spends_of run (report, reports, same, written, left) =
             inl (record {
               judged = entry_on run report reports is answer;
               report = report;
-              unanswered = subst (λ given. IsUnanswered form.Lines given answer.programs answer.graph.order answer.told.pruned report) reports.on.stands.conflicts spent;
+              unanswered = spent;
               written = written;
             })
         | inr (inr (inr (inr spent))) ↦
@@ -310,7 +305,7 @@ spends_of run (report, reports, same, written, left) =
               judged = entry_on run report reports is answer;
               asked = refl;
               report = report;
-              unanswered = subst (λ given. TellsSpent given (wanted_of reports.on.loaded.inputs) answer.programs answer.graph.order answer.told.pruned report) reports.on.stands.conflicts spent;
+              unanswered = spent;
               written = written;
             })))
       ]
@@ -320,7 +315,7 @@ spends_of run (report, reports, same, written, left) =
             inr (inl (record {
               of = modelled run report reports ask.Repair (question.Repair reports.on.loaded.conflicts) is answer;
               report = report;
-              unrepaired = subst (λ given. repairs.TellsSpent given answer.programs answer.graph.order report) reports.on.stands.conflicts spent;
+              unrepaired = spent;
               written = written;
             }))
       ]
@@ -382,8 +377,8 @@ misses_of run (report, reports, same, written, left) =
         | inl mended ↦ absurd (omega (arith, same, mended.status))
         | inr spent ↦ absurd (omega (arith, same, spent.status))
       ]
-      | both is answer ↦ absurd (compared_laws.not_nine reports.on.loaded.conflicts _ _ _ _ _ _ report answer.told.answer same)
-      | why is answer ↦ absurd (explained_laws.not_high reports.on.loaded.conflicts _ _ _ _ report answer.told.told.answer 9 (omega arith) same)
+      | both is answer ↦ absurd (compared_laws.not_nine _ _ _ _ _ _ _ _ report answer.told.answer same)
+      | why is answer ↦ absurd (explained_laws.not_high _ _ _ _ _ report answer.told.told.answer 9 (omega arith) same)
       | other zero not_verdict not_repair not_entry not_equal not_why ↦ absurd (omega (arith, same, zero))
     ]
 
@@ -394,7 +389,7 @@ equal_of run asks (report, reports, same, written, left) =
       | verdict f is answer ↦ absurd (no_verdict_compares f (sym is ∙ asked))
       | entry is answer ↦ absurd (no_entry_compares (sym is ∙ asked))
       | repair is answer ↦ absurd (no_repair_compares (sym is ∙ asked))
-      | both is answer ↦ record { compared = compared run report reports is answer; report = report; equal = compared_laws.at_zero reports.on.loaded.conflicts _ _ _ _ _ _ report answer.told.answer same; written = written }
+      | both is answer ↦ record { compared = compared run report reports is answer; report = report; equal = compared_laws.at_zero _ _ _ _ _ _ _ _ report answer.told.answer same; written = written }
       | why is answer ↦ absurd (no_equal_explains (sym asked ∙ is))
       | other zero not_verdict not_repair not_entry not_equal not_why ↦ absurd (not_equal asked)
     ]
@@ -419,8 +414,8 @@ unequal_of run (report, reports, same, written, left) =
         | inl mended ↦ absurd (omega (arith, same, mended.status))
         | inr spent ↦ absurd (omega (arith, same, spent.status))
       ]
-      | both is answer ↦ record { compared = compared run report reports is answer; report = report; unequal = compared_laws.at_ten reports.on.loaded.conflicts _ _ _ _ _ _ report answer.told.answer same; written = written }
-      | why is answer ↦ absurd (explained_laws.not_high reports.on.loaded.conflicts _ _ _ _ report answer.told.told.answer 10 (omega arith) same)
+      | both is answer ↦ record { compared = compared run report reports is answer; report = report; unequal = compared_laws.at_ten _ _ _ _ _ _ _ _ report answer.told.answer same; written = written }
+      | why is answer ↦ absurd (explained_laws.not_high _ _ _ _ _ report answer.told.told.answer 10 (omega arith) same)
       | other zero not_verdict not_repair not_entry not_equal not_why ↦ absurd (omega (arith, same, zero))
     ]
 
@@ -432,12 +427,27 @@ explained_of run asks (report, reports, same, written, left) =
       | entry is answer ↦ absurd (no_entry_explains (sym is ∙ asked))
       | repair is answer ↦ absurd (no_repair_explains (sym is ∙ asked))
       | both is answer ↦ absurd (no_equal_explains (sym is ∙ asked))
-      | why is answer ↦ record { explained = explained_on run report reports is answer; report = report; sure = explained_laws.at_zero reports.on.loaded.conflicts _ _ _ _ report answer.told.told.answer same; written = written }
+      | why is answer ↦ record { explained = explained_on run report reports is answer; report = report; sure = explained_laws.at_zero _ _ _ _ _ report answer.told.told.answer same; written = written }
       | other zero not_verdict not_repair not_entry not_equal not_why ↦ absurd (not_why asked)
     ]
 
-pub headline_of : (run : Run) (status : ℕ) → Tells run status → Headline run status
-headline_of run status tells = record {
+-- ---- where nothing is given
+
+-- without links a program is read as it is, as the law of reading says
+abbrev pub ReadAlone : Type 0
+ReadAlone = (e : Program) → program_read_as [] e ≡ e
+
+every_tree_of : ReadAlone → (i : Inputs) (k : Known) → IsKnown i k → bytes_of role.Given i ≡ None → IsOfEveryTree k
+every_tree_of alone i k is none =
+    let nothing : (k.given.folders ≡ []) × (k.given.links ≡ []) = subst (λ b. IsGivenOf b k.given) none is.given in
+    record {
+      none = nothing.0;
+      trees = λ t tree. record { is_tree = tree; stand = subst (λ folders. Stand folders t) (sym nothing.0) tt };
+      programs = λ e. ap (λ links. program_read_as links e) nothing.1 ∙ alone e;
+    }
+
+pub headline_of : ReadAlone → (run : Run) (status : ℕ) → Tells run status → Headline run status
+headline_of alone run status tells = record {
   well = λ asks is. well_of run asks (subst (WritesReport run) is (tells.report (inl (omega (arith, is)))));
   depends = λ is. depends_of run (subst (WritesReport run) is (tells.report (inl (omega (arith, is)))));
   changes = λ is. changes_of run (subst (WritesReport run) is (tells.report (inl (omega (arith, is)))));
@@ -448,4 +458,6 @@ headline_of run status tells = record {
   equal = λ asks is. equal_of run asks (subst (WritesReport run) is (tells.report (inl (omega (arith, is)))));
   unequal = λ is. unequal_of run (subst (WritesReport run) is (tells.report (inr (inr is))));
   explained = λ asks is. explained_of run asks (subst (WritesReport run) is (tells.report (inl (omega (arith, is)))));
+  every_tree = λ a m. every_tree_of alone m.loaded.inputs m.known m.modelled.planned.compiled.known;
+  every_tree_of_both = λ c. every_tree_of alone c.loaded.inputs c.of.known c.of.modelled.planned.compiled.known;
 }

@@ -30,10 +30,10 @@ use Rattle.rehearsal_core.specs.Steps.{request_about, concluded, SaysOf}
 
 -- the request with the bytes of its files
 abbrev pub loaded_from : Names → ByRole (List ℕ) → Loaded
-loaded_from r files = record { ask = r.ask; conflicts = r.conflicts; inputs = record { node = r.node; wanted = r.wanted; files = files } }
+loaded_from r files = record { ask = r.ask; conflicts = r.conflicts; inputs = record { node = r.node; limits = r.limits; wanted = r.wanted; files = files } }
 
 loaded : (held : Held) (r : Names) (files : ByRole (List ℕ)) → AreRead held r.ask r.files files → IsLoaded held (request_about r) (loaded_from r files)
-loaded held r files read = record { asked = refl; conflicts = refl; inputs = (refl, refl, read) }
+loaded held r files read = record { asked = refl; conflicts = refl; inputs = (refl, refl, refl, read) }
 
 -- what there is to say of an answer, from what was read and what the answer is
 pub says : (held : Held) (r : Names) (files : ByRole (List ℕ)) (before now : ℕ) (said : Result Report Untold) → now ≡ before → AreRead held r.ask r.files files

@@ -91,18 +91,22 @@ pub record Tells (run : Run) (status : ℕ) : Type 0 where
   pub memory : status ≡ 8 → LacksMemory run
   pub known : IsOfReport status ⊎ ((status ≡ 4) ⊎ ((status ≡ 5) ⊎ ((status ≡ 6) ⊎ ((status ≡ 7) ⊎ (status ≡ 8)))))
 
--- Which statuses there are, by what was given and what failed.
-pub record Owes (run : Run) (status : ℕ) : Type 0 where
+-- Which statuses there are, by what was given and what failed, but for what follows from what is told.
+pub record Owed (run : Run) (status : ℕ) : Type 0 where
   -- words that are refused have no other answer
   pub usage : RequestsNone run.words → (status ≡ 5) ⊎ ((status ≡ 7) ⊎ (status ≡ 8))
   -- an input that is told, without faults, gets a report or a refusal
   pub decided : IsHeld run.words run.held → NoFaults run → IsOfReport status ⊎ ((status ≡ 4) ⊎ (status ≡ 8))
-  -- and where a refusal is due there is no report
-  pub refused : IsHeld run.words run.held → (s : Side) → (r : Refusal) → Refuses run.words run.held s r → IsOfReport status → ⊥
-  -- where a file is missing, nothing is said of the others
-  pub missing : LacksFile run.words run.held → (status ≡ 6) ⊎ ((status ≡ 7) ⊎ (status ≡ 8))
   -- a read that failed is told, unless a write fails too or memory is refused; a write to out that failed is told always
   pub unread : run.shelf_now ≢ run.shelf_before → (status ≡ 6) ⊎ ((status ≡ 7) ⊎ (status ≡ 8))
   pub unwritten : (IsSound run.out → ⊥) → status ≡ 7
   -- a write to err that failed leaves nothing else to be told
   pub untold : (IsSound run.err → ⊥) → (status ≡ 7) ⊎ (status ≡ 8)
+
+-- Which statuses there are.
+pub record Owes (run : Run) (status : ℕ) : Type 0 where
+  pub owed : Owed run status
+  -- where a refusal is due there is no report
+  pub refused : IsHeld run.words run.held → (s : Side) → (r : Refusal) → Refuses run.words run.held s r → IsOfReport status → ⊥
+  -- where a file is missing, nothing is said of the others
+  pub missing : LacksFile run.words run.held → (status ≡ 6) ⊎ ((status ≡ 7) ⊎ (status ≡ 8))

@@ -1,5 +1,5 @@
 -- From the words to the status, step by step.
-use Rattle.std.specs.Prelude.{◌≡◌, ◌≢◌, ◌⊎◌, ℕ, List, String, Result, Ok, Err}
+use Rattle.std.specs.Prelude.{◌≡◌, ◌⊎◌, ℕ, List, String, Result, Ok, Err}
 use Rattle.std.specs.declared.alloc.Global.{Global}
 use Rattle.rh_base.specs.Shelf.{Held}
 use Rattle.command_line.specs.declared.request.Request.{Request}
@@ -12,14 +12,14 @@ use Rattle.rehearsal_core.specs.declared.inputs.Names.{Names}
 use Rattle.rehearsal_core.specs.declared.run.Ending.{Ending}
 use Rattle.rehearsal_core.specs.declared.run.Ending.TheVariants as ending
 use Rattle.rehearsal_core.specs.Runs.{Run, Put, Appends, AppendsFront, IsLeft, IsSound, HasFailed}
-use Rattle.rehearsal_core.specs.Inputs.{RequestsNone, IsHeld, files_of, ReportsOn, RefusesAt, Reports, Refuses, FailsToRead}
-use Rattle.rehearsal_core.specs.Answers.{IsOfReport, NoFaults, Tells, write_fault_line, memory_line}
+use Rattle.rehearsal_core.specs.Inputs.{RequestsNone, files_of, ReportsOn, RefusesAt, Reports, Refuses, FailsToRead}
+use Rattle.rehearsal_core.specs.Answers.{Tells, Owed, write_fault_line, memory_line}
 
 -- ---- reading
 
 -- the request about the files of these names
 abbrev pub request_about : Names → Request
-request_about n = record { ask = n.ask; node = n.node; conflicts = n.conflicts; wanted = n.wanted; source = source.Files n.files }
+request_about n = record { ask = n.ask; node = n.node; conflicts = n.conflicts; limits = n.limits; wanted = n.wanted; source = source.Files n.files }
 
 -- what there is to say of an answer
 abbrev pub concluded : Result Report Untold → Ending
@@ -60,14 +60,6 @@ TellsReport report out err result =
     ⊎ ((result ≡ 8) × IsLeft out × IsSound out × AppendsFront memory_line err))
 
 -- ---- both
-
--- Which statuses there are, but for what follows from what is told.
-pub record Owed (run : Run) (status : ℕ) : Type 0 where
-  pub usage : RequestsNone run.words → (status ≡ 5) ⊎ ((status ≡ 7) ⊎ (status ≡ 8))
-  pub decided : IsHeld run.words run.held → NoFaults run → IsOfReport status ⊎ ((status ≡ 4) ⊎ (status ≡ 8))
-  pub unread : run.shelf_now ≢ run.shelf_before → (status ≡ 6) ⊎ ((status ≡ 7) ⊎ (status ≡ 8))
-  pub unwritten : (IsSound run.out → ⊥) → status ≡ 7
-  pub untold : (IsSound run.err → ⊥) → (status ≡ 7) ⊎ (status ≡ 8)
 
 -- what the run told with this status, and which it could be
 pub record Ended (run : Run) (status : ℕ) : Type 0 where

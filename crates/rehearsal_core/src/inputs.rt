@@ -1,6 +1,7 @@
 //! What a request is about: names, and what stands under them.
 
 use command_line::{Ask, ByRole};
+use host_limits::Limits;
 use known_inputs::Inputs;
 use rh_base::Text;
 use wanted_entry::Wanted;
@@ -11,6 +12,7 @@ pub struct Names {
     pub ask: Ask,
     pub conflicts: Option<u64>,
     pub node: Option<Text>,
+    pub limits: Limits,
     pub wanted: Option<Wanted>,
     pub files: ByRole<Text>,
 }

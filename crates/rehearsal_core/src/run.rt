@@ -22,6 +22,7 @@ use crate::migrating::migrated;
 use crate::tell::{out_of_memory, tell_read_fault, tell_refusal, tell_usage, write_report};
 use crate::workloads::workload_inputs;
 use command_line::{Ask, Request, Size, Source, WordsFault, one_request, read_request};
+use given_links::program_readings;
 use known_inputs::Inputs;
 use proof_check::{accepted_logs_have_no_fault, one_list_of_proofs};
 use reports::{
@@ -168,6 +169,7 @@ fn read<S: Shelf>(alloc: Global, names: Names, shelf: &mut S) -> Ending
         ask,
         conflicts,
         node,
+        limits,
         wanted,
         files,
     } = names;
@@ -178,6 +180,7 @@ fn read<S: Shelf>(alloc: Global, names: Names, shelf: &mut S) -> Ending
                 conflicts,
                 inputs: Inputs {
                     node,
+                    limits,
                     wanted,
                     files,
                 },
@@ -199,6 +202,7 @@ fn respond<S: Shelf>(alloc: Global, request: Request, shelf: &mut S) -> Ending
         ask,
         node,
         conflicts,
+        limits,
         wanted,
         source,
     } = request;
@@ -209,6 +213,7 @@ fn respond<S: Shelf>(alloc: Global, request: Request, shelf: &mut S) -> Ending
                 ask,
                 conflicts,
                 node,
+                limits,
                 wanted,
                 files,
             },
@@ -268,6 +273,7 @@ pub fn rehearse<S: Shelf, O: Sink, E: Sink>(
 {
     one_request();
     reports_exclude_refusals();
+    program_readings();
     one_list_of_proofs();
     accepted_logs_have_no_fault();
     answered(alloc, words, shelf, out, err)

@@ -5,6 +5,7 @@ ghost use Rattle.known_inputs.specs.Inputs.{input_of};
 ghost use Rattle.rehearsal_core.specs.Inputs.{workload_inputs};
 
 use command_line::{Role, Size};
+use host_limits::Limits;
 use known_inputs::Inputs;
 use rh_base::{NoMemory, Seq};
 use std::alloc::Global;
@@ -21,6 +22,7 @@ pub fn workload_inputs(alloc: Global, size: &Size) -> Result<Inputs, NoMemory>
     files.push((Role::Input, Seq::from_vec(manifest)))?;
     Ok(Inputs {
         node: None,
+        limits: Limits::Usual,
         wanted: None,
         files,
     })

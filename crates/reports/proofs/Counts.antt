@@ -1,21 +1,23 @@
 -- There are as many programs as resources in the graph.
-use Rattle.std.proofs.Common.{◌≡◌, ◌<◌, ℕ, zero, suc, List, [], ◌∷◌, ◌++◌, length, Option, Some, Result, Ok, Err, refl, sym, ap, ◌∙◌, arith}
+use Rattle.std.proofs.Common.{◌≡◌, ◌<◌, ℕ, zero, suc, List, [], ◌∷◌, ◌++◌, length, map, Option, Some, Result, Ok, Err, refl, sym, ap, ◌∙◌, arith}
 use Rattle.std.specs.Prelude.{slice_get}
+use Rattle.std.proofs.lemmas.List.{length-map}
 use Rattle.std.specs.List.{AllByRecursion}
 use Rattle.rh_base.specs.declared.fault.Refusal.{Refusal}
 use Rattle.catalog_semantics.specs.declared.catalog.Resource.{Resource}
 use Rattle.fs_semantics.specs.FileTree.{Path}
 use Rattle.fs_semantics.specs.Programs.{Program}
 use Rattle.pkg_listing.specs.Packages.{Packages}
-use Rattle.model_semantics.specs.Models.{Model, model_of, if_new, or_refused, first_and, programs_with, programs_behind}
+use Rattle.model_semantics.specs.Models.{Model, new_model, or_refused, first_and, programs_with, programs_behind, programs}
+use Rattle.given_links.specs.declared.links.GivenLink.{GivenLink}
+use Rattle.given_links.specs.Reading.{program_read_as}
 use Rattle.model_semantics.specs.Words.{sequence}
-use Rattle.model_semantics.specs.Names.{◌>>=◌}
 use Rattle.res_models.specs.Seen.{resource_at, resources_at}
 use Rattle.catalog_semantics.specs.Catalogs.{Catalog}
 use Rattle.graph_semantics.specs.Graphs.{plain_places}
 use Rattle.dep_graph.specs.declared.answer.Graph.{Graph}
 use Rattle.known_inputs.specs.declared.inputs.Known.{Known}
-use Rattle.reports.specs.Stages.{programs_in}
+use Rattle.reports.specs.Stages.{barred_in, read_through, programs_in}
 use Rattle.reports.proofs.Places.{places_within}
 
 one_more : (n : ℕ) (e : Program) (v : Result (List Program) Refusal) (es : List Program) → first_and e v ≡ Ok es
@@ -28,11 +30,11 @@ with_first : (n : ℕ) (v : Result Model Refusal) (more : Path → Result (List 
 with_first n (Err r) more es h so_far = cc
 with_first n (Ok m) more es h so_far = one_more n (sequence m.steps) (more m.place) es h (so_far m.place)
 
-one_each : (seen : List Path) (listing : Packages) (rs : List Resource) (es : List Program) → programs_behind seen listing rs ≡ Ok es → length es ≡ length rs
-one_each seen listing [] es h = let same : [] ≡ es = cc in ap length (sym same)
-one_each seen listing (r ∷ rs) es h =
-    with_first (length rs) (or_refused r (model_of listing r >>= if_new seen)) (λ place. programs_behind (seen ++ place ∷ []) listing rs) es h
-    (λ place fs k. one_each (seen ++ place ∷ []) listing rs fs k)
+one_each : (barred seen : List Path) (listing : Packages) (rs : List Resource) (es : List Program) → programs_behind barred seen listing rs ≡ Ok es → length es ≡ length rs
+one_each barred seen listing [] es h = let same : [] ≡ es = cc in ap length (sym same)
+one_each barred seen listing (r ∷ rs) es h =
+    with_first (length rs) (or_refused r (new_model barred seen listing r)) (λ place. programs_behind barred (seen ++ place ∷ []) listing rs) es h
+    (λ place fs k. one_each barred (seen ++ place ∷ []) listing rs fs k)
 
 there : (resources : List Resource) (i : ℕ) → i < length resources → (r : Resource) × (slice_get resources i ≡ Some r)
 there [] i h = absurd (omega arith)
@@ -45,6 +47,13 @@ all_there resources (i ∷ places) h =
     let at = there resources i h.0 in
     ap (λ (o : Option Resource). length (resource_at o ++ resources_at resources places)) at.1 ∙ ap suc (all_there resources places h.1)
 
+as_many_read : (links : List GivenLink) (n : ℕ) (said : Result (List Program) Refusal) (es : List Program) → read_through links said ≡ Ok es
+    → ((made : List Program) → said ≡ Ok made → length made ≡ n) → length es ≡ n
+as_many_read links n (Ok made) es h many =
+    let same : map (program_read_as links) made ≡ es = cc in ap length (sym same) ∙ length-map made (program_read_as links) ∙ many made refl
+as_many_read links n (Err r) es h many = cc
+
 pub as_many : (k : Known) (c : Catalog) (g : Graph) (es : List Program) → g.plain ≡ plain_places c → programs_in k c g ≡ Ok es → length es ≡ length g.plain
 as_many k c g es are made =
-    one_each [] k.listing (resources_at c.resources g.plain) es made ∙ all_there c.resources g.plain (places_within c g.plain are)
+    as_many_read k.given.links (length g.plain) (programs (barred_in k) k.listing (resources_at c.resources g.plain)) es made (λ fs is.
+    one_each (barred_in k) [] k.listing (resources_at c.resources g.plain) fs is ∙ all_there c.resources g.plain (places_within c g.plain are))

@@ -1,5 +1,6 @@
 pub mod Places
 pub mod Counts
+pub mod ModelLaws
 pub mod StageLaws
 pub mod ReplayLaws
 pub mod LineLaws

@@ -1,6 +1,7 @@
 -- Inputs have one catalog, one graph, one list of programs and one size. So a report excludes a refusal.
-use Rattle.std.proofs.Common.{◌≡◌, inl, inr, ℕ, Bool, List, [], ◌∷◌, ◌++◌, Option, Result, Ok, Err, sym, ap, subst, subst₂, ◌∙◌, arith}
+use Rattle.std.proofs.Common.{◌≡◌, inl, inr, ℕ, Bool, List, Option, Some, None, Result, Ok, Err, sym, ap, subst, subst₂, ◌∙◌, arith}
 use Rattle.rh_base.specs.declared.fault.Refusal.{Refusal}
+use Rattle.fs_semantics.specs.FileTree.{Path}
 use Rattle.fs_semantics.specs.Programs.{Program}
 use Rattle.orders.specs.Relation.{comes}
 use Rattle.pp_syntax.specs.declared.tree.Manifest.{Manifest}
@@ -13,20 +14,25 @@ use Rattle.fs_semantics.specs.Orders.{Told}
 use Rattle.dep_graph.specs.declared.answer.Graph.{Graph}
 use Rattle.model_semantics.specs.Models.{programs}
 use Rattle.res_models.specs.Seen.{resources_at}
-use Rattle.verdict.specs.Limits.{HasPaths, HasFewPaths, HasManyPaths, IsLight, IsHeavy, IsTooLarge}
+use Rattle.host_limits.specs.declared.limits.Limits.{Limits}
+use Rattle.host_limits.specs.Limits.{weight_limit, IsAtMost, IsMoreThan, IsWeightWithin}
+use Rattle.verdict.specs.Limits.{HasPaths}
+use Rattle.given_verdict.specs.Graphs.{asked_programs}
+use Rattle.given_verdict.specs.Limits.{HasFewPathsWith, HasManyPathsWith, IsLightWith, IsHeavyWith, IsTooLargeWith}
+use Rattle.given_entry.specs.Sizes.{probed, HasFewPathsProbed, HasManyPathsProbed, IsTooLargeProbed}
+use Rattle.given_equal.specs.Sizes.{joined, HasFewPathsJoined, HasManyPathsJoined, AreWithinWith, IsTooLargeJoined}
+use Rattle.wanted_entry.specs.declared.wanted.Wanted.{Wanted}
 use Rattle.verdict.specs.Weights.{Weighs}
-use Rattle.wanted_entry.specs.Entries.{probe_of}
-use Rattle.ensured_entry.specs.Sizes.{IsTooLargeWith}
 use Rattle.command_line.specs.declared.table.Role.TheVariants as role
 use Rattle.known_inputs.specs.declared.inputs.Inputs.{Inputs}
 use Rattle.known_inputs.specs.declared.inputs.Known.{Known}
-use Rattle.known_inputs.specs.Inputs.{input_of, bytes_of, wanted_of, IsKnown, FirstUnread}
+use Rattle.known_inputs.specs.Inputs.{input_of, bytes_of, IsKnown, FirstUnread}
 use Rattle.verdict_report.specs.declared.report.Report.{Report}
 use Rattle.reports.specs.declared.question.Question.{Question}
 use Rattle.reports.specs.declared.question.Question.TheVariants as question
-use Rattle.reports.specs.Stages.{node_name, IsCompiled, IsPlanned, IsModelled, programs_in, CatalogRefusal, GraphRefusal, ProgramsRefusal}
+use Rattle.reports.specs.Stages.{node_name, IsCompiled, IsPlanned, IsModelled, barred_in, read_through, programs_in, CatalogRefusal, GraphRefusal, ProgramsRefusal}
+use Rattle.reports.specs.Terms.{wanted_in}
 use Rattle.reports.specs.Questions.{IsToldOf, HasNoAnswer, IsReport, ReportRefusal}
-use Rattle.equal_graphs.specs.Sizes.{AreWithin, IsTooLargeTogether}
 use Rattle.reports.specs.declared.sides.Side.{Side}
 use Rattle.reports.specs.declared.sides.Side.TheVariants as side
 use Rattle.reports.specs.Comparisons.{other_inputs, AreModelled, IsComparison, ComparisonRefusal}
@@ -58,27 +64,27 @@ OneWeight = (es : List Program) (v w : ℕ) → Weighs es v → Weighs es w → 
 -- ---- one catalog
 
 module _ (known : OneKnown) (unread : NoneUnread) (manifests : OneManifest) (sources : NoSourceRefusal) where
-  same_catalog : (text : List ℕ) (facts : Value) (node : List ℕ) (levels : List Level) (v w : Result Catalog Refusal)
-      → IsCatalogOf text facts node levels v → IsCatalogOf text facts node levels w → v ≡ w
-  same_catalog text facts node levels v w is was =
-      is.is ∙ ap (λ m. catalog_of m facts node levels) (manifests text is.manifest was.manifest is.parsed was.parsed) ∙ sym was.is
+  same_catalog : (text : List ℕ) (facts : Value) (node : List ℕ) (levels : List Level) (l : Limits) (v w : Result Catalog Refusal)
+      → IsCatalogOf text facts node levels l v → IsCatalogOf text facts node levels l w → v ≡ w
+  same_catalog text facts node levels l v w is was =
+      is.is ∙ ap (λ m. catalog_of m facts node levels l) (manifests text is.manifest was.manifest is.parsed was.parsed) ∙ sym was.is
 
-  no_catalog : (text : List ℕ) (facts : Value) (node : List ℕ) (levels : List Level) (c : Catalog) (r : Refusal)
-      → IsCatalogOf text facts node levels (Ok c) → IsCatalogRefusal text facts node levels r → ⊥
-  no_catalog text facts node levels c r is (inl source) = sources text is.manifest r is.parsed source
-  no_catalog text facts node levels c r is (inr refused) =
-      let clash : ◌≡◌ {A = Result Catalog Refusal} (Ok c) (Err r) = same_catalog text facts node levels (Ok c) (Err r) is refused in cc
+  no_catalog : (text : List ℕ) (facts : Value) (node : List ℕ) (levels : List Level) (l : Limits) (c : Catalog) (r : Refusal)
+      → IsCatalogOf text facts node levels l (Ok c) → IsCatalogRefusal text facts node levels l r → ⊥
+  no_catalog text facts node levels l c r is (inl source) = sources text is.manifest r is.parsed source
+  no_catalog text facts node levels l c r is (inr refused) =
+      let clash : ◌≡◌ {A = Result Catalog Refusal} (Ok c) (Err r) = same_catalog text facts node levels l (Ok c) (Err r) is refused in cc
 
   pub no_catalog_refusal : (i : Inputs) (k : Known) (c : Catalog) (r : Refusal) → IsCompiled i k c → CatalogRefusal i r → ⊥
   no_catalog_refusal i k c r is (CatalogRefusal.unread first) = unread i k r is.known first
   no_catalog_refusal i k c r is (CatalogRefusal.uncompiled m also refused) =
-      no_catalog (input_of i) k.facts (node_name i.node) k.class_data c r is.catalog
-      (subst (λ (x : Known). IsCatalogRefusal (input_of i) x.facts (node_name i.node) x.class_data r) (known i m k also is.known) refused)
+      no_catalog (input_of i) k.facts (node_name i.node) k.class_data i.limits c r is.catalog
+      (subst (λ (x : Known). IsCatalogRefusal (input_of i) x.facts (node_name i.node) x.class_data i.limits r) (known i m k also is.known) refused)
 
   one_catalog : (i : Inputs) (k m : Known) (c d : Catalog) → IsCompiled i k c → IsCompiled i m d → c ≡ d
   one_catalog i k m c d is was =
-      let other = subst (λ (x : Known). IsCatalogOf (input_of i) x.facts (node_name i.node) x.class_data (Ok d)) (known i m k was.known is.known) was.catalog in
-      let both : ◌≡◌ {A = Result Catalog Refusal} (Ok c) (Ok d) = same_catalog (input_of i) k.facts (node_name i.node) k.class_data (Ok c) (Ok d) is.catalog other in cc
+      let other = subst (λ (x : Known). IsCatalogOf (input_of i) x.facts (node_name i.node) x.class_data i.limits (Ok d)) (known i m k was.known is.known) was.catalog in
+      let both : ◌≡◌ {A = Result Catalog Refusal} (Ok c) (Ok d) = same_catalog (input_of i) k.facts (node_name i.node) k.class_data i.limits (Ok c) (Ok d) is.catalog other in cc
 
   -- ---- one graph
 
@@ -100,12 +106,15 @@ module _ (known : OneKnown) (unread : NoneUnread) (manifests : OneManifest) (sou
         let files = known i k m is.compiled.known was.compiled.known in
         let catalog = one_catalog i k m c d is.compiled was.compiled in
         let plain = one_plain i k m c d g h is was in
-        λ t. programs (files t).listing (resources_at (catalog t).resources (plain t))
+        λ t. read_through (files t).given.links (programs (barred_in (files t)) (files t).listing (resources_at (catalog t).resources (plain t)))
 
     no_programs_refusal : (i : Inputs) (k : Known) (c : Catalog) (g : Graph) (es : List Program) (r : Refusal) → IsModelled i k c g es → ProgramsRefusal i r → ⊥
     no_programs_refusal i k c g es r is (ProgramsRefusal.before_programs first) = no_graph_refusal i k c g r is.planned first
     no_programs_refusal i k c g es r is (ProgramsRefusal.in_programs m d h planned refused) =
         let clash : ◌≡◌ {A = Result (List Program) Refusal} (Ok es) (Err r) = sym is.programs ∙ same_programs i k m c d g h is.planned planned ∙ refused in cc
+
+    one_known : (i : Inputs) (k m : Known) (c d : Catalog) (g h : Graph) (es fs : List Program) → IsModelled i k c g es → IsModelled i m d h fs → k ≡ m
+    one_known i k m c d g h es fs is was = known i k m is.planned.compiled.known was.planned.compiled.known
 
     one_programs : (i : Inputs) (k m : Known) (c d : Catalog) (g h : Graph) (es fs : List Program) → IsModelled i k c g es → IsModelled i m d h fs → es ≡ fs
     one_programs i k m c d g h es fs is was =
@@ -114,48 +123,69 @@ module _ (known : OneKnown) (unread : NoneUnread) (manifests : OneManifest) (sou
     -- ---- one size
 
     module _ (pairs : OnePair) (counts : OneCount) (weighings : OneWeight) where
-      not_many : (es : List Program) → HasFewPaths es → HasManyPaths es → ⊥
-      not_many es few many =
-          let same = counts es few.0 many.0 few.1 many.1 in
+      not_many : (l : Limits) (given : List Path) (es : List Program) → HasFewPathsWith l given es → HasManyPathsWith l given es → ⊥
+      not_many l given es few many =
+          let same = counts (asked_programs given es) few.0 many.0 few.1 many.1 in
           let low = few.2 in
           let high = many.2 in
           omega (arith, same, low, high)
 
-      not_heavy : (es : List Program) → IsLight es → IsHeavy es → ⊥
-      not_heavy es light heavy =
+      not_over : (w : ℕ) (most : Option ℕ) → IsAtMost w most → IsMoreThan w most → ⊥
+      not_over w None within over = over
+      not_over w (Some most) within over = omega (arith, within, over)
+
+      not_heavy : (l : Limits) (es : List Program) → IsLightWith l es → IsHeavyWith l es → ⊥
+      not_heavy l es light heavy =
           let same = weighings es light.0 heavy.0 light.1 heavy.1 in
-          let low = light.2 in
-          let high = heavy.2 in
+          not_over heavy.0 (weight_limit l) (subst (λ w. IsWeightWithin l w) same light.2) heavy.2
+
+      not_too_large : (l : Limits) (given : List Path) (es : List Program) (r : Refusal) → HasFewPathsWith l given es → IsLightWith l es → IsTooLargeWith l given es r → ⊥
+      not_too_large l given es r few light (inl many) = not_many l given es few many.0
+      not_too_large l given es r few light (inr heavy) = not_heavy l es light heavy.1
+
+      not_wide : (l : Limits) (given : List Path) (es : List Program) (w : Wanted) → HasFewPathsProbed l given es w → HasManyPathsProbed l given es w → ⊥
+      not_wide l given es w few many =
+          let same = counts (probed given es w) few.0 many.0 few.1 many.1 in
+          let low = few.2 in
+          let high = many.2 in
           omega (arith, same, low, high)
 
-      not_too_large : (es : List Program) (r : Refusal) → HasFewPaths es → IsLight es → IsTooLarge es r → ⊥
-      not_too_large es r few light (inl many) = not_many es few many.0
-      not_too_large es r few light (inr heavy) = not_heavy es light heavy.1
-
-      not_too_large_with : (es : List Program) (probe : Program) (r : Refusal) → HasFewPaths es → HasFewPaths (es ++ probe ∷ []) → IsLight es → IsTooLargeWith es probe r → ⊥
-      not_too_large_with es probe r few probed light (inl wide) = not_many es few wide.0
-      not_too_large_with es probe r few probed light (inr (inl wide)) = not_many (es ++ probe ∷ []) probed wide.0
-      not_too_large_with es probe r few probed light (inr (inr heavy)) = not_heavy es light heavy.2
+      not_too_large_probed : (l : Limits) (given : List Path) (es : List Program) (w : Wanted) (r : Refusal) → HasFewPathsWith l given es → HasFewPathsProbed l given es w → IsLightWith l es
+          → IsTooLargeProbed l given es w r → ⊥
+      not_too_large_probed l given es w r few narrow light (inl wide) = not_many l given es few wide.0
+      not_too_large_probed l given es w r few narrow light (inr (inl wide)) = not_wide l given es w narrow wide.0
+      not_too_large_probed l given es w r few narrow light (inr (inr heavy)) = not_heavy l es light heavy.2
 
       -- ---- one answer
 
+      -- what is within the limits as one of two knowns tells them is so as the other does
+      few_too : (i : Inputs) (k m : Known) (es fs : List Program) → k ≡ m → es ≡ fs → HasFewPathsWith i.limits k.given.folders es → HasFewPathsWith i.limits m.given.folders fs
+      few_too i k m es fs files same few = subst₂ (λ (x : Known) (all : List Program). HasFewPathsWith i.limits x.given.folders all) files same few
+
+      too_large_or_not : (i : Inputs) (k m : Known) (es fs : List Program) (r : Refusal) → k ≡ m → es ≡ fs → HasFewPathsWith i.limits k.given.folders es → IsLightWith i.limits es
+          → IsTooLargeWith i.limits m.given.folders fs r → ⊥
+      too_large_or_not i k m es fs r files same few light large =
+          not_too_large i.limits m.given.folders fs r (few_too i k m es fs files same few) (subst (IsLightWith i.limits) same light) large
+
       told_or_not : (q : Question) (i : Inputs) (k m : Known) (c d : Catalog) (g h : Graph) (es fs : List Program) (report : Report) (r : Refusal)
-          → IsModelled i k c g es → IsModelled i m d h fs → IsToldOf q i k c g es report → HasNoAnswer q i d h fs r → ⊥
+          → IsModelled i k c g es → IsModelled i m d h fs → IsToldOf q i k c g es report → HasNoAnswer q i m d h fs r → ⊥
       told_or_not question.Programs i k m c d g h es fs report r is was told none = none
-      told_or_not (question.Verdict form given) i k m c d g h es fs report r is was told large =
-          not_too_large fs r (subst HasFewPaths (one_programs i k m c d g h es fs is was) told.paths) (subst IsLight (one_programs i k m c d g h es fs is was) told.weight) large
+      told_or_not (question.Verdict form conflicts) i k m c d g h es fs report r is was told large =
+          too_large_or_not i k m es fs r (one_known i k m c d g h es fs is was) (one_programs i k m c d g h es fs is was) told.paths told.weight large
       told_or_not question.Replay i k m c d g h es fs report r is was told none =
           none.none told.1.order
           (same_order_for pairs (bytes_of role.Order i) c d g h told.1.order (one_catalog i k m c d is.planned.compiled was.planned.compiled) (one_plain i k m c d g h is.planned was.planned)
           is.planned.graph was.planned.graph is.planned.count was.planned.count is.planned.strict was.planned.strict told.1.ordered)
-      told_or_not (question.Explain given) i k m c d g h es fs report r is was told large =
-          not_too_large fs r (subst HasFewPaths (one_programs i k m c d g h es fs is was) told.told.paths) (subst IsLight (one_programs i k m c d g h es fs is was) told.told.weight) large
-      told_or_not (question.Repair given) i k m c d g h es fs report r is was told large =
-          not_too_large fs r (subst HasFewPaths (one_programs i k m c d g h es fs is was) told.paths) (subst IsLight (one_programs i k m c d g h es fs is was) told.weight) large
-      told_or_not (question.Ensures given) i k m c d g h es fs report r is was told large =
+      told_or_not (question.Explain conflicts) i k m c d g h es fs report r is was told large =
+          too_large_or_not i k m es fs r (one_known i k m c d g h es fs is was) (one_programs i k m c d g h es fs is was) told.told.paths told.told.weight large
+      told_or_not (question.Repair conflicts) i k m c d g h es fs report r is was told large =
+          too_large_or_not i k m es fs r (one_known i k m c d g h es fs is was) (one_programs i k m c d g h es fs is was) told.paths told.weight large
+      told_or_not (question.Ensures conflicts) i k m c d g h es fs report r is was told large =
+          let files = one_known i k m c d g h es fs is was in
           let same = one_programs i k m c d g h es fs is was in
-          let probe = probe_of (wanted_of i) in
-          not_too_large_with fs probe r (subst HasFewPaths same told.paths) (subst (λ all. HasFewPaths (all ++ probe ∷ [])) same told.probed) (subst IsLight same told.weight) large
+          not_too_large_probed i.limits m.given.folders fs (wanted_in i m) r (few_too i k m es fs files same told.paths)
+          (subst₂ (λ (x : Known) (all : List Program). HasFewPathsProbed i.limits x.given.folders all (wanted_in i x)) files same told.probed)
+          (subst (IsLightWith i.limits) same told.weight) large
 
       pub no_report_refusal : (q : Question) (i : Inputs) (report : Report) (r : Refusal) → IsReport q i report → ReportRefusal q i r → ⊥
       no_report_refusal q i report r is (ReportRefusal.before_answer first) = no_programs_refusal i is.known is.catalog is.graph is.programs r is.modelled first
@@ -164,23 +194,33 @@ module _ (known : OneKnown) (unread : NoneUnread) (manifests : OneManifest) (sou
 
       -- ---- one answer of two manifests
 
-      not_too_large_together : (es fs : List Program) (r : Refusal) → AreWithin es fs → IsTooLargeTogether es fs r → ⊥
-      not_too_large_together es fs r within (inl wide) = not_many (es ++ fs) within.joined wide.0
-      not_too_large_together es fs r within (inr large) = elim large.1 [
-        | inl left ↦ not_too_large es r within.left_paths within.left_weight left
-        | inr right ↦ not_too_large fs r within.right_paths within.right_weight right.2
+      not_joined : (l : Limits) (given : List Path) (es fs : List Program) → HasFewPathsJoined l given es fs → HasManyPathsJoined l given es fs → ⊥
+      not_joined l given es fs few many =
+          let same = counts (joined given es fs) few.0 many.0 few.1 many.1 in
+          let low = few.2 in
+          let high = many.2 in
+          omega (arith, same, low, high)
+
+      not_too_large_together : (l : Limits) (given : List Path) (es fs : List Program) (r : Refusal) → AreWithinWith l given es fs → IsTooLargeJoined l given es fs r → ⊥
+      not_too_large_together l given es fs r within (inl wide) = not_joined l given es fs within.joined_paths wide.0
+      not_too_large_together l given es fs r within (inr large) = elim large.1 [
+        | inl left ↦ not_too_large l given es r within.left_paths within.left_weight left
+        | inr right ↦ not_too_large l given fs r within.right_paths within.right_weight right.2
       ]
 
-      same_within : (i : Inputs) (m n : AreModelled i) → AreWithin m.programs m.other_programs → AreWithin n.programs n.other_programs
+      same_within : (i : Inputs) (m n : AreModelled i) → AreWithinWith i.limits m.known.given.folders m.programs m.other_programs
+          → AreWithinWith i.limits n.known.given.folders n.programs n.other_programs
       same_within i m n within =
           let left = one_programs i m.known n.known m.catalog n.catalog m.graph n.graph m.programs n.programs m.modelled n.modelled in
           let right = one_programs (other_inputs i) m.known n.known m.other_catalog n.other_catalog m.other_graph n.other_graph m.other_programs n.other_programs m.other_modelled n.other_modelled in
-          subst₂ (λ (es : List Program) (fs : List Program). AreWithin es fs) left right within
+          let files = one_known i m.known n.known m.catalog n.catalog m.graph n.graph m.programs n.programs m.modelled n.modelled in
+          subst (λ (x : Known). AreWithinWith i.limits x.given.folders n.programs n.other_programs) files
+          (subst₂ (λ (es : List Program) (fs : List Program). AreWithinWith i.limits m.known.given.folders es fs) left right within)
 
-      pub no_comparison_refusal : (given : Option ℕ) (i : Inputs) (report : Report) (s : Side) (r : Refusal) → IsComparison given i report → ComparisonRefusal i s r → ⊥
-      no_comparison_refusal given i report side.Input r is (inl first) =
+      pub no_comparison_refusal : (conflicts : Option ℕ) (i : Inputs) (report : Report) (s : Side) (r : Refusal) → IsComparison conflicts i report → ComparisonRefusal i s r → ⊥
+      no_comparison_refusal conflicts i report side.Input r is (inl first) =
           no_programs_refusal i is.of.known is.of.catalog is.of.graph is.of.programs r is.of.modelled first
-      no_comparison_refusal given i report side.Input r is (inr large) =
-          not_too_large_together large.of.programs large.of.other_programs r (same_within i is.of large.of is.told.within) large.too_large
-      no_comparison_refusal given i report side.Other r is refused =
+      no_comparison_refusal conflicts i report side.Input r is (inr large) =
+          not_too_large_together i.limits large.of.known.given.folders large.of.programs large.of.other_programs r (same_within i is.of large.of is.told.within) large.too_large
+      no_comparison_refusal conflicts i report side.Other r is refused =
           no_programs_refusal (other_inputs i) is.of.known is.of.other_catalog is.of.other_graph is.of.other_programs r is.of.other_modelled refused.refused

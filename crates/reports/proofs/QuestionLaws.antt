@@ -1,5 +1,5 @@
 -- What refuses a stage refuses the report, and what is told of programs is told of the manifest.
-use Rattle.std.proofs.Common.{◌≡◌, ℕ, List, length, map, Result, Ok, Err, sym, subst, ◌∙◌}
+use Rattle.std.proofs.Common.{◌≡◌, List, length, map, Result, Ok, Err, sym, subst, ◌∙◌}
 use Rattle.std.specs.Prelude.{IfOk, IfErr}
 use Rattle.std.proofs.lemmas.List.{length-map}
 use Rattle.rh_base.specs.declared.fault.Fault.{Fault}
@@ -12,14 +12,12 @@ use Rattle.fs_lang.specs.Meaning.{program_of}
 use Rattle.catalog_semantics.specs.Catalogs.{Catalog}
 use Rattle.graph_semantics.specs.Graphs.{IsGraphRefusal}
 use Rattle.dep_graph.specs.declared.answer.Graph.{Graph}
-use Rattle.model_semantics.specs.Models.{programs}
-use Rattle.res_models.specs.Seen.{resources_at}
 use Rattle.known_inputs.specs.declared.inputs.Inputs.{Inputs}
 use Rattle.known_inputs.specs.declared.inputs.Known.{Known}
 use Rattle.known_inputs.specs.Inputs.{FirstUnread}
 use Rattle.reports.specs.declared.question.Question.{Question}
 use Rattle.verdict_report.specs.declared.report.Report.{Report}
-use Rattle.reports.specs.Stages.{IsCompiled, IsPlanned, IsModelled, CatalogRefusal, ProgramsRefusal}
+use Rattle.reports.specs.Stages.{IsCompiled, IsPlanned, IsModelled, programs_in, CatalogRefusal, ProgramsRefusal}
 use Rattle.reports.specs.Questions as questions
 use Rattle.reports.specs.Questions.{IsToldOf, HasNoAnswer, IsReport, ReportRefusal}
 use Rattle.reports.proofs.StageLaws.{unread_programs, catalog_programs, graph_programs, in_programs, is_modelled}
@@ -40,17 +38,16 @@ uncompiled_report q i e first = before_answer q i e (catalog_programs i e first)
 pub unplanned_report : (q : Question) (i : Inputs) (k : Known) (c : Catalog) (e : Fault) → IsCompiled i k c → IfRefused e (IsGraphRefusal c) → IfRefused e (ReportRefusal q i)
 unplanned_report q i k c e compiled none = before_answer q i e (graph_programs i k c e compiled none)
 
-pub unmodelled_report : (q : Question) (i : Inputs) (k : Known) (c : Catalog) (g : Graph) (plain : List ℕ) (e : Fault) → plain ≡ g.plain → IsPlanned i k c g
-    → Refuses (programs k.listing (resources_at c.resources plain)) e → IfRefused e (ReportRefusal q i)
-unmodelled_report q i k c g plain e is planned none = before_answer q i e (in_programs i k c g plain e is planned none)
+pub unmodelled_report : (q : Question) (i : Inputs) (k : Known) (c : Catalog) (g : Graph) (e : Fault) → IsPlanned i k c g → Refuses (programs_in k c g) e → IfRefused e (ReportRefusal q i)
+unmodelled_report q i k c g e planned none = before_answer q i e (in_programs i k c g e planned none)
 
 -- ---- answers
 
 -- the programs that are lent are those that were made
-pub lent_are_modelled : (i : Inputs) (k : Known) (c : Catalog) (g : Graph) (plain : List ℕ) (lent made : List code.Program) → plain ≡ g.plain → lent ≡ made → IsPlanned i k c g
-    → programs k.listing (resources_at c.resources plain) ≡ Ok (map program_of made) → IsModelled i k c g (map program_of lent)
-lent_are_modelled i k c g plain lent made is same planned are =
-    subst (λ es. IsModelled i k c g (map program_of es)) (sym same) (is_modelled i k c g plain (map program_of made) is planned are)
+pub lent_are_modelled : (i : Inputs) (k : Known) (c : Catalog) (g : Graph) (lent made : List code.Program) → lent ≡ made → IsPlanned i k c g
+    → programs_in k c g ≡ Ok (map program_of made) → IsModelled i k c g (map program_of lent)
+lent_are_modelled i k c g lent made same planned are =
+    subst (λ es. IsModelled i k c g (map program_of es)) (sym same) (is_modelled i k c g (map program_of made) planned are)
 
 -- there are as many programs as resources in the graph
 pub as_many_lent : (i : Inputs) (k : Known) (c : Catalog) (g : Graph) (lent : List code.Program) → IsModelled i k c g (map program_of lent) → length lent ≡ length g.plain
@@ -65,11 +62,11 @@ report_of q i k c g es (Ok report) modelled told = record { known = k; catalog =
 report_of q i k c g es (Err e) modelled told = tt
 
 no_answer : (q : Question) (i : Inputs) (k : Known) (c : Catalog) (g : Graph) (es : List Program) (e : Fault) → IsModelled i k c g es
-    → IfRefused e (HasNoAnswer q i c g es) → IfRefused e (ReportRefusal q i)
+    → IfRefused e (HasNoAnswer q i k c g es) → IfRefused e (ReportRefusal q i)
 no_answer q i k c g es (Refused r) modelled none = questions.no_answer k c g es modelled none
 no_answer q i k c g es (Memory m) modelled none = tt
 
 pub refusal_of : (q : Question) (i : Inputs) (k : Known) (c : Catalog) (g : Graph) (es : List Program) (said : Result Report Fault) → IsModelled i k c g es
-    → IfErr said (λ e. IfRefused e (HasNoAnswer q i c g es)) → IfErr said (λ e. IfRefused e (ReportRefusal q i))
+    → IfErr said (λ e. IfRefused e (HasNoAnswer q i k c g es)) → IfErr said (λ e. IfRefused e (ReportRefusal q i))
 refusal_of q i k c g es (Ok report) modelled none = tt
 refusal_of q i k c g es (Err e) modelled none = no_answer q i k c g es e modelled none

@@ -1,5 +1,5 @@
 -- What refuses a stage refuses those above it.
-use Rattle.std.proofs.Common.{◌≡◌, ◌<◌, ℕ, length, List, Result, Ok, Err, sym, ap, subst₂, ◌∙◌}
+use Rattle.std.proofs.Common.{◌≡◌, ◌<◌, ℕ, length, List, Result, Ok, Err, refl, subst, subst₂, ◌∙◌}
 use Rattle.std.specs.Prelude.{IfOk, IfErr}
 use Rattle.std.specs.List.{AllByRecursion}
 use Rattle.rh_base.specs.declared.fault.Fault.{Fault}
@@ -12,8 +12,7 @@ use Rattle.pp_compile.specs.Sources.{IsCatalogOf, IsCatalogRefusal}
 use Rattle.orders.specs.Relation.{Comes, IsStrictOrder}
 use Rattle.graph_semantics.specs.Graphs.{IsGraphOf, IsGraphRefusal}
 use Rattle.dep_graph.specs.declared.answer.Graph.{Graph}
-use Rattle.model_semantics.specs.Models.{programs}
-use Rattle.res_models.specs.Seen.{resources_at}
+use Rattle.host_limits.specs.declared.limits.Limits.{Limits}
 use Rattle.known_inputs.specs.declared.inputs.Inputs.{Inputs}
 use Rattle.known_inputs.specs.declared.inputs.Known.{Known}
 use Rattle.known_inputs.specs.Inputs.{input_of, IsKnown, FirstUnread}
@@ -28,26 +27,29 @@ unread i (Refused r) first = stages.unread first
 unread i (Memory m) first = tt
 
 -- of a text and a name that are those of the request
-pub uncompiled : (i : Inputs) (k : Known) (text name : List ℕ) (e : Fault) → text ≡ input_of i → name ≡ node_name i.node → IsKnown i k
-    → IfRefused e (IsCatalogRefusal text k.facts name k.class_data) → IfRefused e (CatalogRefusal i)
-uncompiled i k text name (Refused r) is named known none =
-    stages.uncompiled k known (subst₂ (λ t n. IsCatalogRefusal t k.facts n k.class_data r) is named none)
-uncompiled i k text name (Memory m) is named known none = tt
+pub uncompiled : (i : Inputs) (k : Known) (text name : List ℕ) (l : Limits) (e : Fault) → text ≡ input_of i → name ≡ node_name i.node → l ≡ i.limits → IsKnown i k
+    → IfRefused e (IsCatalogRefusal text k.facts name k.class_data l) → IfRefused e (CatalogRefusal i)
+uncompiled i k text name l (Refused r) is named limited known none =
+    stages.uncompiled k known
+    (subst (λ m. IsCatalogRefusal (input_of i) k.facts (node_name i.node) k.class_data m r) limited (subst₂ (λ t n. IsCatalogRefusal t k.facts n k.class_data l r) is named none))
+uncompiled i k text name l (Memory m) is named limited known none = tt
 
-pub is_compiled : (i : Inputs) (k : Known) (text name : List ℕ) (c : Catalog) → text ≡ input_of i → name ≡ node_name i.node → IsKnown i k
-    → IsCatalogOf text k.facts name k.class_data (Ok c) → IsCompiled i k c
-is_compiled i k text name c is named known has =
-    record { known = known; catalog = subst₂ (λ t n. IsCatalogOf t k.facts n k.class_data (Ok c)) is named has }
+pub is_compiled : (i : Inputs) (k : Known) (text name : List ℕ) (l : Limits) (c : Catalog) → text ≡ input_of i → name ≡ node_name i.node → l ≡ i.limits → IsKnown i k
+    → IsCatalogOf text k.facts name k.class_data l (Ok c) → IsCompiled i k c
+is_compiled i k text name l c is named limited known has = record {
+  known = known;
+  catalog = subst (λ m. IsCatalogOf (input_of i) k.facts (node_name i.node) k.class_data m (Ok c)) limited (subst₂ (λ t n. IsCatalogOf t k.facts n k.class_data l (Ok c)) is named has);
+}
 
 pub compiled_answer : (i : Inputs) (k : Known) (text name : List ℕ) (said : Result Catalog Fault) → text ≡ input_of i → name ≡ node_name i.node → IsKnown i k
-    → IfOk said (λ c. IsCatalogOf text k.facts name k.class_data (Ok c)) → IfOk said (IsCompiled i k)
-compiled_answer i k text name (Ok c) is named known has = is_compiled i k text name c is named known has
+    → IfOk said (λ c. IsCatalogOf text k.facts name k.class_data i.limits (Ok c)) → IfOk said (IsCompiled i k)
+compiled_answer i k text name (Ok c) is named known has = is_compiled i k text name i.limits c is named refl known has
 compiled_answer i k text name (Err e) is named known has = tt
 
 pub uncompiled_answer : (i : Inputs) (k : Known) (text name : List ℕ) (said : Result Catalog Fault) → text ≡ input_of i → name ≡ node_name i.node → IsKnown i k
-    → IfErr said (λ e. IfRefused e (IsCatalogRefusal text k.facts name k.class_data)) → IfErr said (λ e. IfRefused e (CatalogRefusal i))
+    → IfErr said (λ e. IfRefused e (IsCatalogRefusal text k.facts name k.class_data i.limits)) → IfErr said (λ e. IfRefused e (CatalogRefusal i))
 uncompiled_answer i k text name (Ok c) is named known none = tt
-uncompiled_answer i k text name (Err e) is named known none = uncompiled i k text name e is named known none
+uncompiled_answer i k text name (Err e) is named known none = uncompiled i k text name i.limits e is named refl known none
 
 -- ---- graphs
 
@@ -68,20 +70,12 @@ pub before_programs : (i : Inputs) (e : Fault) → IfRefused e (GraphRefusal i) 
 before_programs i (Refused r) first = stages.before_programs first
 before_programs i (Memory m) first = tt
 
--- of places that are those of the graph
-pub in_programs : (i : Inputs) (k : Known) (c : Catalog) (g : Graph) (plain : List ℕ) (e : Fault) → plain ≡ g.plain → IsPlanned i k c g
-    → Refuses (programs k.listing (resources_at c.resources plain)) e → IfRefused e (ProgramsRefusal i)
-in_programs i k c g plain (Refused r) is planned none =
-    stages.in_programs k c g planned (ap (λ ks. programs k.listing (resources_at c.resources ks)) (sym is) ∙ none)
-in_programs i k c g plain (Memory m) is planned none = tt
+pub in_programs : (i : Inputs) (k : Known) (c : Catalog) (g : Graph) (e : Fault) → IsPlanned i k c g → Refuses (programs_in k c g) e → IfRefused e (ProgramsRefusal i)
+in_programs i k c g (Refused r) planned none = stages.in_programs k c g planned none
+in_programs i k c g (Memory m) planned none = tt
 
-pub are_made : (k : Known) (c : Catalog) (g : Graph) (plain : List ℕ) (es : List Program) → plain ≡ g.plain
-    → programs k.listing (resources_at c.resources plain) ≡ Ok es → programs_in k c g ≡ Ok es
-are_made k c g plain es is made = ap (λ ks. programs k.listing (resources_at c.resources ks)) (sym is) ∙ made
-
-pub is_modelled : (i : Inputs) (k : Known) (c : Catalog) (g : Graph) (plain : List ℕ) (es : List Program) → plain ≡ g.plain → IsPlanned i k c g
-    → programs k.listing (resources_at c.resources plain) ≡ Ok es → IsModelled i k c g es
-is_modelled i k c g plain es is planned made = record { planned = planned; programs = are_made k c g plain es is made }
+pub is_modelled : (i : Inputs) (k : Known) (c : Catalog) (g : Graph) (es : List Program) → IsPlanned i k c g → programs_in k c g ≡ Ok es → IsModelled i k c g es
+is_modelled i k c g es planned made = record { planned = planned; programs = made }
 
 -- ---- what comes before programs
 

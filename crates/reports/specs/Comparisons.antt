@@ -6,24 +6,27 @@ use Rattle.fs_semantics.specs.Programs.{Program}
 use Rattle.catalog_semantics.specs.Catalogs.{Catalog}
 use Rattle.dep_graph.specs.declared.answer.Graph.{Graph}
 use Rattle.command_line.specs.declared.table.Role.TheVariants as role
+use Rattle.host_limits.specs.declared.limits.Limits.{Limits}
 use Rattle.known_inputs.specs.declared.inputs.Inputs.{Inputs}
 use Rattle.known_inputs.specs.declared.inputs.Known.{Known}
 use Rattle.known_inputs.specs.Inputs.{bytes_of, bytes_or_none, input_of, IsKnown}
 use Rattle.verdict_report.specs.declared.report.Report.{Report}
-use Rattle.equal_graphs.specs.Sizes.{IsTooLargeTogether}
+use Rattle.given_equal.specs.Sizes.{IsTooLargeJoined}
 use Rattle.equal_report.specs.Told.{IsComparedTold}
 use Rattle.reports.specs.declared.sides.Side.{Side}
 use Rattle.reports.specs.declared.sides.Side.TheVariants as side
 use Rattle.reports.specs.Stages.{node_name, IsModelled, ProgramsRefusal}
+use Rattle.reports.specs.Terms.{terms_of, notes_of}
 use Rattle.reports.specs.Questions.{names_in}
 
 -- the files of a request, with the other manifest in the place of the input
 abbrev pub other_inputs : Inputs → Inputs
 other_inputs i = record i { files = (role.Input, bytes_or_none (bytes_of role.Other i)) ∷ i.files }
 
--- a fact of each request whose input is this text and whose node has this name, and whose files beside it say this
-abbrev pub ForText : List ℕ → List ℕ → Known → (Inputs → Type 0) → Type 0
-ForText text name k P = (i : Inputs) → text ≡ input_of i → name ≡ node_name i.node → IsKnown i k → P i
+-- a fact of each request whose input is this text and whose node has this name, which has these limits, and whose files beside it
+-- say this
+abbrev pub ForText : List ℕ → List ℕ → Limits → Known → (Inputs → Type 0) → Type 0
+ForText text name limits k P = (i : Inputs) → text ≡ input_of i → name ≡ node_name i.node → limits ≡ i.limits → IsKnown i k → P i
 
 -- The programs are those of the graph's resources, in their order, and these are resources of the catalog.
 pub record IsInOrder (c : Catalog) (g : Graph) (es : List Program) : Type 0 where
@@ -51,14 +54,14 @@ abbrev pub other_names_of : {i : Inputs} → AreModelled i → List (List ℕ)
 other_names_of m = names_in m.other_catalog m.other_graph.plain
 
 -- What is told of both.
-pub record IsComparison (given : Option ℕ) (i : Inputs) (report : Report) : Type 0 where
+pub record IsComparison (conflicts : Option ℕ) (i : Inputs) (report : Report) : Type 0 where
   pub of : AreModelled i
-  pub told : IsComparedTold given (names_of of) of.programs of.graph.order (other_names_of of) of.other_programs of.other_graph.order report
+  pub told : IsComparedTold (terms_of i of.known conflicts) (notes_of i of.known) (names_of of) of.programs of.graph.order (other_names_of of) of.other_programs of.other_graph.order report
 
 -- the programs of both are too large to be compared
 pub record IsTooLargeFor (i : Inputs) (r : Refusal) : Type 0 where
   pub of : AreModelled i
-  pub too_large : IsTooLargeTogether of.programs of.other_programs r
+  pub too_large : IsTooLargeJoined i.limits of.known.given.folders of.programs of.other_programs r
 
 -- the first manifest has programs, and this is the refusal of the other
 pub record IsRefusedInOther (i : Inputs) (r : Refusal) : Type 0 where

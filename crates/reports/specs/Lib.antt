@@ -1,4 +1,5 @@
 pub mod Stages
+pub mod Terms
 pub mod Reports
 pub mod Replays
 pub mod Explanations

@@ -8,17 +8,17 @@ use Rattle.graph_semantics.specs.Graphs.{reference_at}
 use Rattle.dep_graph.specs.declared.answer.Graph.{Graph}
 use Rattle.known_inputs.specs.declared.inputs.Inputs.{Inputs}
 use Rattle.known_inputs.specs.declared.inputs.Known.{Known}
-use Rattle.known_inputs.specs.Inputs.{bytes_of, wanted_of}
-use Rattle.wanted_entry.specs.Entries.{probe_of}
-use Rattle.ensured_entry.specs.Sizes.{IsTooLargeWith}
+use Rattle.known_inputs.specs.Inputs.{bytes_of}
+use Rattle.given_entry.specs.Sizes.{IsTooLargeProbed}
 use Rattle.entry_report.specs.Told.{IsEntryTold}
 use Rattle.command_line.specs.declared.table.Role.TheVariants as role
 use Rattle.reports.specs.declared.question.Question.{Question}
 use Rattle.reports.specs.declared.question.Question.TheVariants as question
 use Rattle.verdict_report.specs.declared.report.Report.{Report}
 use Rattle.reports.specs.Stages.{IsModelled, ProgramsRefusal}
+use Rattle.reports.specs.Terms.{terms_of, notes_of, asked_on, wanted_in}
 use Rattle.reports.specs.Reports.{program_lines}
-use Rattle.verdict.specs.Limits.{IsTooLarge}
+use Rattle.given_verdict.specs.Limits.{IsTooLargeWith}
 use Rattle.verdict_report.specs.Told.{IsTold}
 use Rattle.repair_report.specs.Lines.{quoted_ref}
 use Rattle.repair_report.specs.Told.{IsRepairTold}
@@ -43,20 +43,20 @@ quoted_names_in c plain = map (quoted_at c) plain
 -- this is told of the programs
 abbrev pub IsToldOf : Question → Inputs → Known → Catalog → Graph → List Program → Report → Type 0
 IsToldOf question.Programs i k c g es report = (report.status ≡ 0) × (report.text ≡ program_lines c g.plain es)
-IsToldOf (question.Verdict form given) i k c g es report = IsTold form given (names_in c g.plain) es g.order report
+IsToldOf (question.Verdict form conflicts) i k c g es report = IsTold form (terms_of i k conflicts) (notes_of i k) (names_in c g.plain) es g.order report
 IsToldOf question.Replay i k c g es report = (report.status ≡ 0) × IsReplayed (bytes_of role.Order i) k.tree c g es report.text
-IsToldOf (question.Explain given) i k c g es report = IsExplanation given i c g es report
-IsToldOf (question.Repair given) i k c g es report = IsRepairTold given (quoted_names_in c g.plain) es g.order report
-IsToldOf (question.Ensures given) i k c g es report = IsEntryTold given (wanted_of i) (names_in c g.plain) es g.order report
+IsToldOf (question.Explain conflicts) i k c g es report = IsExplanation (asked_on i k conflicts) i c g es report
+IsToldOf (question.Repair conflicts) i k c g es report = IsRepairTold (terms_of i k conflicts) (notes_of i k) (quoted_names_in c g.plain) es g.order report
+IsToldOf (question.Ensures conflicts) i k c g es report = IsEntryTold (terms_of i k conflicts) (notes_of i k) (wanted_in i k) (names_in c g.plain) es g.order report
 
 -- nothing is told of them, for this reason
-abbrev pub HasNoAnswer : Question → Inputs → Catalog → Graph → List Program → Refusal → Type 0
-HasNoAnswer question.Programs i c g es r = ⊥
-HasNoAnswer (question.Verdict form given) i c g es r = IsTooLarge es r
-HasNoAnswer question.Replay i c g es r = HasNoOrder (bytes_of role.Order i) c g r
-HasNoAnswer (question.Explain given) i c g es r = IsTooLarge es r
-HasNoAnswer (question.Repair given) i c g es r = IsTooLarge es r
-HasNoAnswer (question.Ensures given) i c g es r = IsTooLargeWith es (probe_of (wanted_of i)) r
+abbrev pub HasNoAnswer : Question → Inputs → Known → Catalog → Graph → List Program → Refusal → Type 0
+HasNoAnswer question.Programs i k c g es r = ⊥
+HasNoAnswer (question.Verdict form conflicts) i k c g es r = IsTooLargeWith i.limits k.given.folders es r
+HasNoAnswer question.Replay i k c g es r = HasNoOrder (bytes_of role.Order i) c g r
+HasNoAnswer (question.Explain conflicts) i k c g es r = IsTooLargeWith i.limits k.given.folders es r
+HasNoAnswer (question.Repair conflicts) i k c g es r = IsTooLargeWith i.limits k.given.folders es r
+HasNoAnswer (question.Ensures conflicts) i k c g es r = IsTooLargeProbed i.limits k.given.folders es (wanted_in i k) r
 
 -- The report on the programs of a manifest's real plain resources, in the order of its graph.
 pub record IsReport (q : Question) (i : Inputs) (report : Report) : Type 0 where
@@ -70,4 +70,4 @@ pub record IsReport (q : Question) (i : Inputs) (report : Report) : Type 0 where
 -- The first refusal: that of the programs, and then that nothing is told of them.
 pub data ReportRefusal (q : Question) (i : Inputs) (r : Refusal) : Type 0 where
   before_answer : ProgramsRefusal i r → ReportRefusal q i r
-  no_answer : (k : Known) (c : Catalog) (g : Graph) (es : List Program) → IsModelled i k c g es → HasNoAnswer q i c g es r → ReportRefusal q i r
+  no_answer : (k : Known) (c : Catalog) (g : Graph) (es : List Program) → IsModelled i k c g es → HasNoAnswer q i k c g es r → ReportRefusal q i r

@@ -4,7 +4,7 @@ ghost use Rattle.std.specs.Prelude.{◌≡◌, ◌<◌, ◌^◌, length, map, If
 ghost use Rattle.rh_base.specs.Refused.{IfRefused};
 ghost use Rattle.fs_lang.specs.Meaning.{program_of};
 ghost use Rattle.known_inputs.specs.Inputs.{input_of, IsKnown};
-ghost use Rattle.equal_graphs.specs.Sizes.{IsTooLargeTogether};
+ghost use Rattle.given_equal.specs.Sizes.{IsTooLargeJoined};
 ghost use Rattle.equal_report.specs.Told.{IsComparedTold};
 ghost use Rattle.reports.specs.Stages.{IsModelled, ProgramsRefusal};
 ghost use Rattle.reports.specs.Questions.{names_in};
@@ -12,16 +12,18 @@ ghost use Rattle.reports.specs.Sides.{IfUntold};
 ghost use Rattle.reports.specs.Comparisons.{ForText, IsInOrder, other_inputs, IsComparison, ComparisonRefusal};
 
 use crate::compiling::node_name;
+use crate::modelling::modelled;
 use crate::sides::{Side, Untold, refused_in};
+use crate::terms::{Asked, asked_on};
 use crate::verdicts::names_in;
 use catalog::Catalog;
 use command_line::Role;
 use dep_graph::{Graph, graph};
 use equal_report::told;
 use fs_lang::Program;
+use host_limits::Limits;
 use known_inputs::{Inputs, Known, known_inputs};
 use pp_compile::compile_with;
-use res_models::programs_of;
 use rh_base::{Fault, NoMemory, Seq, Text};
 use std::alloc::Global;
 use verdict_report::Report;
@@ -31,20 +33,26 @@ use verdict_report::Report;
 struct Modelled {
     catalog: Catalog,
     plan: Graph,
-    programs: Vec<Program>,
+    programs: Seq<Program>,
 }
 
 /// The catalog of a text, its graph and what its resources do, under what the files beside it say.
-fn model_text(alloc: Global, text: &[u8], name: &str, known: &Known) -> Result<Modelled, Fault>
+fn model_text(
+    alloc: Global,
+    text: &[u8],
+    name: &str,
+    limits: Limits,
+    known: &Known,
+) -> Result<Modelled, Fault>
     requires { length text.now < 2 ^ 32 }
-    ensures modelled { IfOk result (λ m. ForText text.now name.now known.now (λ i. IsModelled i known.now m.catalog m.plan (map program_of m.programs.items))) }
-    ensures refused { IfErr result (λ e. IfRefused e (λ r. ForText text.now name.now known.now (λ i. ProgramsRefusal i r))) }
+    ensures modelled { IfOk result (λ m. ForText text.now name.now limits known.now (λ i. IsModelled i known.now m.catalog m.plan (map program_of m.programs))) }
+    ensures refused { IfErr result (λ e. IfRefused e (λ r. ForText text.now name.now limits known.now (λ i. ProgramsRefusal i r))) }
 {
-    let catalog = compile_with(alloc, text, &known.facts, name, &known.class_data)?;
+    let catalog = compile_with(alloc, text, &known.facts, name, &known.class_data, limits)?;
     let plan = graph(alloc, &catalog)?;
     // so the order relates no other numbers
     plan.order.count();
-    let programs = programs_of(alloc, &catalog, plan.plain.as_slice(), &known.listing)?;
+    let programs = modelled(alloc, known, &catalog, &plan)?;
     Ok(Modelled {
         catalog,
         plan,
@@ -54,7 +62,7 @@ fn model_text(alloc: Global, text: &[u8], name: &str, known: &Known) -> Result<M
 
 /// The references of the resources.
 fn names_of(alloc: Global, made: &Modelled) -> Result<Seq<Text>, NoMemory>
-    requires { IsInOrder made.now.catalog made.now.plan (map program_of made.now.programs.items) }
+    requires { IsInOrder made.now.catalog made.now.plan (map program_of made.now.programs) }
     ensures names { IfOk result (λ names. names ≡ names_in made.now.catalog made.now.plan.plain) }
     ensures count { IfOk result (λ names. length names ≡ made.now.plan.order.count) }
 {
@@ -66,25 +74,27 @@ fn names_of(alloc: Global, made: &Modelled) -> Result<Seq<Text>, NoMemory>
 /// What is told of both.
 fn told_of_both(
     alloc: Global,
-    given: Option<u64>,
+    asked: &Asked,
     left: &Modelled,
     right: &Modelled,
 ) -> Result<Report, Fault>
-    requires left { IsInOrder left.now.catalog left.now.plan (map program_of left.now.programs.items) }
-    requires right { IsInOrder right.now.catalog right.now.plan (map program_of right.now.programs.items) }
-    ensures told { IfOk result (IsComparedTold given (names_in left.now.catalog left.now.plan.plain) (map program_of left.now.programs.items) left.now.plan.order
-        (names_in right.now.catalog right.now.plan.plain) (map program_of right.now.programs.items) right.now.plan.order) }
-    ensures refused { IfErr result (λ e. IfRefused e (IsTooLargeTogether (map program_of left.now.programs.items) (map program_of right.now.programs.items))) }
+    requires left { IsInOrder left.now.catalog left.now.plan (map program_of left.now.programs) }
+    requires right { IsInOrder right.now.catalog right.now.plan (map program_of right.now.programs) }
+    ensures told { IfOk result (IsComparedTold asked.now.terms asked.now.notes (names_in left.now.catalog left.now.plan.plain) (map program_of left.now.programs) left.now.plan.order
+        (names_in right.now.catalog right.now.plan.plain) (map program_of right.now.programs) right.now.plan.order) }
+    ensures refused { IfErr result (λ e. IfRefused e (IsTooLargeJoined asked.now.terms.limits asked.now.terms.given (map program_of left.now.programs) (map program_of right.now.programs))) }
 {
     let names = names_of(alloc, left)?;
     let others = names_of(alloc, right)?;
     let shown = names.as_slice();
     let other_shown = others.as_slice();
+    let notes = asked.notes.as_str().as_bytes();
     let made = left.programs.as_slice();
     let other_made = right.programs.as_slice();
     told(
         alloc,
-        given,
+        &asked.terms,
+        notes,
         shown,
         made,
         &left.plan.order,
@@ -107,38 +117,39 @@ fn other_text(inputs: &Inputs) -> &[u8]
 /// What is told of the input and of the other manifest, once both have programs.
 fn told_of(
     alloc: Global,
-    given: Option<u64>,
+    conflicts: Option<u64>,
     inputs: &Inputs,
     known: &Known,
     left: &Modelled,
     right: &Modelled,
 ) -> Result<Report, Untold>
-    requires left { IsModelled inputs.now known.now left.now.catalog left.now.plan (map program_of left.now.programs.items) }
-    requires right { IsModelled (other_inputs inputs.now) known.now right.now.catalog right.now.plan (map program_of right.now.programs.items) }
-    ensures report { IfOk result (IsComparison given inputs.now) }
+    requires left { IsModelled inputs.now known.now left.now.catalog left.now.plan (map program_of left.now.programs) }
+    requires right { IsModelled (other_inputs inputs.now) known.now right.now.catalog right.now.plan (map program_of right.now.programs) }
+    ensures report { IfOk result (IsComparison conflicts inputs.now) }
     ensures refused { IfErr result (λ e. IfUntold e (ComparisonRefusal inputs.now)) }
 {
-    let report = told_of_both(alloc, given, left, right)?;
+    let asked = asked_on(alloc, inputs, known, conflicts)?;
+    let report = told_of_both(alloc, &asked, left, right)?;
     Ok(report)
 }
 
 /// What is told of both, once the input has programs.
 fn compare_with(
     alloc: Global,
-    given: Option<u64>,
+    conflicts: Option<u64>,
     inputs: &Inputs,
     known: &Known,
     left: &Modelled,
 ) -> Result<Report, Untold>
     requires small { length (input_of (other_inputs inputs.now)) < 2 ^ 32 }
     requires known { IsKnown inputs.now known.now }
-    requires left { IsModelled inputs.now known.now left.now.catalog left.now.plan (map program_of left.now.programs.items) }
-    ensures report { IfOk result (IsComparison given inputs.now) }
+    requires left { IsModelled inputs.now known.now left.now.catalog left.now.plan (map program_of left.now.programs) }
+    ensures report { IfOk result (IsComparison conflicts inputs.now) }
     ensures refused { IfErr result (λ e. IfUntold e (ComparisonRefusal inputs.now)) }
 {
     let text = other_text(inputs);
-    match model_text(alloc, text, node_name(&inputs.node), known) {
-        Ok(right) => told_of(alloc, given, inputs, known, left, &right),
+    match model_text(alloc, text, node_name(&inputs.node), inputs.limits, known) {
+        Ok(right) => told_of(alloc, conflicts, inputs, known, left, &right),
         Err(fault) => Err(refused_in(Side::Other, fault)),
     }
 }
@@ -146,29 +157,33 @@ fn compare_with(
 /// What is told of both, under what the files beside them say.
 fn compare_known(
     alloc: Global,
-    given: Option<u64>,
+    conflicts: Option<u64>,
     inputs: &Inputs,
     known: &Known,
 ) -> Result<Report, Untold>
     requires small { length (input_of inputs.now) < 2 ^ 32 }
     requires other_small { length (input_of (other_inputs inputs.now)) < 2 ^ 32 }
     requires known { IsKnown inputs.now known.now }
-    ensures report { IfOk result (IsComparison given inputs.now) }
+    ensures report { IfOk result (IsComparison conflicts inputs.now) }
     ensures refused { IfErr result (λ e. IfUntold e (ComparisonRefusal inputs.now)) }
 {
     let text = inputs.input();
-    let left = model_text(alloc, text, node_name(&inputs.node), known)?;
-    compare_with(alloc, given, inputs, known, &left)
+    let left = model_text(alloc, text, node_name(&inputs.node), inputs.limits, known)?;
+    compare_with(alloc, conflicts, inputs, known, &left)
 }
 
 /// Whether the input and the manifest that it is compared with do the same; or the first refusal. Each question has so many conflicts,
 /// if a number is given.
-pub fn comparison_on(alloc: Global, given: Option<u64>, inputs: &Inputs) -> Result<Report, Untold>
+pub fn comparison_on(
+    alloc: Global,
+    conflicts: Option<u64>,
+    inputs: &Inputs,
+) -> Result<Report, Untold>
     requires small { length (input_of inputs.now) < 2 ^ 32 }
     requires other_small { length (input_of (other_inputs inputs.now)) < 2 ^ 32 }
-    ensures report { IfOk result (IsComparison given inputs.now) }
+    ensures report { IfOk result (IsComparison conflicts inputs.now) }
     ensures refused { IfErr result (λ e. IfUntold e (ComparisonRefusal inputs.now)) }
 {
     let known = known_inputs(alloc, inputs)?;
-    compare_known(alloc, given, inputs, &known)
+    compare_known(alloc, conflicts, inputs, &known)
 }

@@ -30,5 +30,12 @@ pub fn catalog_for(alloc: Global, inputs: &Inputs, known: &Known) -> Result<Cata
 {
     let text = inputs.input();
     let node = node_name(&inputs.node);
-    compile_with(alloc, text, &known.facts, node, &known.class_data)
+    compile_with(
+        alloc,
+        text,
+        &known.facts,
+        node,
+        &known.class_data,
+        inputs.limits,
+    )
 }

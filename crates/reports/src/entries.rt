@@ -4,11 +4,11 @@ ghost use Rattle.std.specs.Prelude.{◌≡◌, ◌<◌, length, map, IfOk, IfErr
 ghost use Rattle.std.specs.List.{AllByRecursion};
 ghost use Rattle.rh_base.specs.Refused.{IfRefused};
 ghost use Rattle.fs_lang.specs.Meaning.{program_of};
-ghost use Rattle.wanted_entry.specs.Entries.{probe_of};
-ghost use Rattle.ensured_entry.specs.Sizes.{IsTooLargeWith};
+ghost use Rattle.given_entry.specs.Sizes.{IsTooLargeProbed};
 ghost use Rattle.entry_report.specs.Told.{IsEntryTold};
 ghost use Rattle.reports.specs.Questions.{names_in};
 
+use crate::terms::Asked;
 use crate::verdicts::names_in;
 use catalog::Catalog;
 use dep_graph::Graph;
@@ -22,7 +22,7 @@ use wanted_entry::Wanted;
 /// What is told of an entry that is wanted of resources.
 pub fn ensured(
     alloc: Global,
-    given: Option<u64>,
+    asked: &Asked,
     wanted: &Wanted,
     catalog: &Catalog,
     plan: &Graph,
@@ -31,11 +31,20 @@ pub fn ensured(
     requires count { length programs.now ≡ plan.now.order.count }
     requires many { plan.now.order.count ≡ length plan.now.plain }
     requires places { AllByRecursion (λ k. k < length catalog.now.resources) plan.now.plain }
-    ensures told { IfOk result (IsEntryTold given wanted.now (names_in catalog.now plan.now.plain) (map program_of programs.now) plan.now.order) }
-    ensures refused { IfErr result (λ e. IfRefused e (IsTooLargeWith (map program_of programs.now) (probe_of wanted.now))) }
+    ensures told { IfOk result (IsEntryTold asked.now.terms asked.now.notes wanted.now (names_in catalog.now plan.now.plain) (map program_of programs.now) plan.now.order) }
+    ensures refused { IfErr result (λ e. IfRefused e (IsTooLargeProbed asked.now.terms.limits asked.now.terms.given (map program_of programs.now) wanted.now)) }
 {
     let plain = plan.plain.as_slice();
     let names = names_in(alloc, catalog, plain)?;
     let shown = names.as_slice();
-    told(alloc, given, wanted, shown, programs, &plan.order)
+    let notes = asked.notes.as_str().as_bytes();
+    told(
+        alloc,
+        &asked.terms,
+        notes,
+        wanted,
+        shown,
+        programs,
+        &plan.order,
+    )
 }

@@ -6,11 +6,12 @@ ghost use Rattle.rh_base.specs.Refused.{IfRefused};
 ghost use Rattle.fs_lang.specs.Meaning.{program_of};
 ghost use Rattle.known_inputs.specs.Inputs.{input_of};
 ghost use Rattle.node_label.specs.Labels.{IsNodeLineOf};
-ghost use Rattle.verdict.specs.Limits.{IsTooLarge};
+ghost use Rattle.given_verdict.specs.Limits.{IsTooLargeWith};
 ghost use Rattle.reports.specs.Stages.{node_name, IsCompiled};
 ghost use Rattle.reports.specs.Explanations.{IsExplanation};
 
 use crate::compiling::node_name;
+use crate::terms::Asked;
 use catalog::Catalog;
 use dep_graph::Graph;
 use explain_report::told;
@@ -45,7 +46,7 @@ fn node_line_of(
 /// What is explained of the programs of resources and the order between them.
 pub fn explained(
     alloc: Global,
-    given: Option<u64>,
+    asked: &Asked,
     inputs: &Inputs,
     known: &Known,
     catalog: &Catalog,
@@ -56,12 +57,14 @@ pub fn explained(
     requires compiled { IsCompiled inputs.now known.now catalog.now }
     requires count { length programs.now ≡ plan.now.order.count }
     requires places { AllByRecursion (λ k. k < length catalog.now.resources) plan.now.plain }
-    ensures told { IfOk result (IsExplanation given inputs.now catalog.now plan.now (map program_of programs.now)) }
-    ensures refused { IfErr result (λ e. IfRefused e (IsTooLarge (map program_of programs.now))) }
+    ensures told { IfOk result (IsExplanation asked.now inputs.now catalog.now plan.now (map program_of programs.now)) }
+    ensures refused { IfErr result (λ e. IfRefused e (IsTooLargeWith asked.now.terms.limits asked.now.terms.given (map program_of programs.now))) }
 {
     let names = placed_names(alloc, inputs.input(), catalog, plan.plain.as_slice())?;
-    let notes = node_line_of(alloc, inputs, known, catalog)?;
+    let mut notes = node_line_of(alloc, inputs, known, catalog)?;
+    notes.push(asked.notes.as_str())?;
     let shown = names.as_slice();
-    let report = told(alloc, given, notes.as_str(), shown, programs, &plan.order)?;
+    let lines = notes.as_str().as_bytes();
+    let report = told(alloc, &asked.terms, lines, shown, programs, &plan.order)?;
     Ok(report)
 }

@@ -10,12 +10,14 @@ mod entries;
 mod explanations;
 mod graphs;
 mod laws;
+mod modelling;
 mod programs;
 mod question;
 mod repairs;
 mod replays;
 mod sides;
 mod stages;
+mod terms;
 mod verdicts;
 
 pub use catalogs::catalog_report;

@@ -4,10 +4,11 @@ ghost use Rattle.std.specs.Prelude.{◌≡◌, ◌<◌, length, map, IfOk, IfErr
 ghost use Rattle.std.specs.List.{AllByRecursion};
 ghost use Rattle.rh_base.specs.Refused.{IfRefused};
 ghost use Rattle.fs_lang.specs.Meaning.{program_of};
-ghost use Rattle.verdict.specs.Limits.{IsTooLarge};
+ghost use Rattle.given_verdict.specs.Limits.{IsTooLargeWith};
 ghost use Rattle.repair_report.specs.Told.{IsRepairTold};
 ghost use Rattle.reports.specs.Questions.{quoted_at, quoted_names_in};
 
+use crate::terms::Asked;
 use catalog::Catalog;
 use dep_graph::Graph;
 use fs_lang::Program;
@@ -39,7 +40,7 @@ fn quoted_names_in(alloc: Global, catalog: &Catalog, plain: &[u32]) -> Result<Se
 /// What is told of the arrows that resources lack.
 pub fn repaired(
     alloc: Global,
-    given: Option<u64>,
+    asked: &Asked,
     catalog: &Catalog,
     plan: &Graph,
     programs: &[Program],
@@ -47,11 +48,12 @@ pub fn repaired(
     requires count { length programs.now ≡ plan.now.order.count }
     requires many { plan.now.order.count ≡ length plan.now.plain }
     requires places { AllByRecursion (λ k. k < length catalog.now.resources) plan.now.plain }
-    ensures told { IfOk result (IsRepairTold given (quoted_names_in catalog.now plan.now.plain) (map program_of programs.now) plan.now.order) }
-    ensures refused { IfErr result (λ e. IfRefused e (IsTooLarge (map program_of programs.now))) }
+    ensures told { IfOk result (IsRepairTold asked.now.terms asked.now.notes (quoted_names_in catalog.now plan.now.plain) (map program_of programs.now) plan.now.order) }
+    ensures refused { IfErr result (λ e. IfRefused e (IsTooLargeWith asked.now.terms.limits asked.now.terms.given (map program_of programs.now))) }
 {
     let plain = plan.plain.as_slice();
     let names = quoted_names_in(alloc, catalog, plain)?;
     let shown = names.as_slice();
-    told(alloc, given, shown, programs, &plan.order)
+    let notes = asked.notes.as_str().as_bytes();
+    told(alloc, &asked.terms, notes, shown, programs, &plan.order)
 }

@@ -10,10 +10,12 @@ ghost use Rattle.reports.specs.Questions.{IsToldOf, HasNoAnswer, IsReport, Repor
 use crate::compiling::catalog_for;
 use crate::entries::ensured;
 use crate::explanations::explained;
+use crate::modelling::modelled;
 use crate::programs::program_lines;
 use crate::question::Question;
 use crate::repairs::repaired;
 use crate::replays::replayed;
+use crate::terms::{asked_on, wanted_in};
 use crate::verdicts::judged;
 use allowed_order::plain_resources_are_told_apart;
 use catalog::Catalog;
@@ -22,7 +24,6 @@ use command_line::Role;
 use dep_graph::{Graph, graph};
 use fs_lang::Program;
 use known_inputs::{Inputs, Known, known_inputs};
-use res_models::programs_of;
 use rh_base::Fault;
 use std::alloc::Global;
 use verdict_report::{Report, printed};
@@ -40,7 +41,7 @@ fn told_of(
     requires small { length (input_of inputs.now) < 2 ^ 32 }
     requires modelled { IsModelled inputs.now known.now catalog.now plan.now (map program_of programs.now) }
     ensures told { IfOk result (IsToldOf question inputs.now known.now catalog.now plan.now (map program_of programs.now)) }
-    ensures refused { IfErr result (λ e. IfRefused e (HasNoAnswer question inputs.now catalog.now plan.now (map program_of programs.now))) }
+    ensures refused { IfErr result (λ e. IfRefused e (HasNoAnswer question inputs.now known.now catalog.now plan.now (map program_of programs.now))) }
 {
     catalogs_are_sound();
     references_stand_once();
@@ -52,7 +53,10 @@ fn told_of(
             plan.plain.as_slice(),
             programs,
         )?)),
-        Question::Verdict(form, given) => judged(alloc, form, given, catalog, plan, programs),
+        Question::Verdict(form, conflicts) => {
+            let asked = asked_on(alloc, inputs, known, conflicts)?;
+            judged(alloc, form, &asked, catalog, plan, programs)
+        }
         Question::Replay => Ok(printed(replayed(
             alloc,
             inputs.bytes(Role::Order),
@@ -61,13 +65,18 @@ fn told_of(
             plan,
             programs,
         )?)),
-        Question::Repair(given) => repaired(alloc, given, catalog, plan, programs),
-        Question::Explain(given) => {
-            explained(alloc, given, inputs, known, catalog, plan, programs)
+        Question::Repair(conflicts) => {
+            let asked = asked_on(alloc, inputs, known, conflicts)?;
+            repaired(alloc, &asked, catalog, plan, programs)
         }
-        Question::Ensures(given) => {
-            let wanted = inputs.wanted(alloc)?;
-            ensured(alloc, given, &wanted, catalog, plan, programs)
+        Question::Explain(conflicts) => {
+            let asked = asked_on(alloc, inputs, known, conflicts)?;
+            explained(alloc, &asked, inputs, known, catalog, plan, programs)
+        }
+        Question::Ensures(conflicts) => {
+            let asked = asked_on(alloc, inputs, known, conflicts)?;
+            let wanted = wanted_in(alloc, inputs, known)?;
+            ensured(alloc, &asked, &wanted, catalog, plan, programs)
         }
     }
 }
@@ -104,8 +113,7 @@ fn report_on_graph(
     ensures report { IfOk result (IsReport question inputs.now) }
     ensures refused { IfErr result (λ e. IfRefused e (ReportRefusal question inputs.now)) }
 {
-    let plain = plan.plain.as_slice();
-    let programs = programs_of(alloc, catalog, plain, &known.listing)?;
+    let programs = modelled(alloc, known, catalog, plan)?;
     let made = programs.as_slice();
     report_on_programs(alloc, question, inputs, known, catalog, plan, made)
 }

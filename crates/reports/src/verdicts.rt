@@ -5,10 +5,11 @@ ghost use Rattle.std.specs.List.{AllByRecursion};
 ghost use Rattle.rh_base.specs.Refused.{IfRefused};
 ghost use Rattle.fs_lang.specs.Meaning.{program_of};
 ghost use Rattle.graph_semantics.specs.Graphs.{reference_at};
-ghost use Rattle.verdict.specs.Limits.{IsTooLarge};
+ghost use Rattle.given_verdict.specs.Limits.{IsTooLargeWith};
 ghost use Rattle.verdict_report.specs.Told.{IsTold};
 ghost use Rattle.reports.specs.Questions.{names_in};
 
+use crate::terms::Asked;
 use catalog::Catalog;
 use dep_graph::Graph;
 use fs_lang::Program;
@@ -45,7 +46,7 @@ pub(crate) fn names_in(
 pub fn judged(
     alloc: Global,
     form: Form,
-    given: Option<u64>,
+    asked: &Asked,
     catalog: &Catalog,
     plan: &Graph,
     programs: &[Program],
@@ -53,11 +54,20 @@ pub fn judged(
     requires count { length programs.now ≡ plan.now.order.count }
     requires many { plan.now.order.count ≡ length plan.now.plain }
     requires places { AllByRecursion (λ k. k < length catalog.now.resources) plan.now.plain }
-    ensures told { IfOk result (IsTold form given (names_in catalog.now plan.now.plain) (map program_of programs.now) plan.now.order) }
-    ensures refused { IfErr result (λ e. IfRefused e (IsTooLarge (map program_of programs.now))) }
+    ensures told { IfOk result (IsTold form asked.now.terms asked.now.notes (names_in catalog.now plan.now.plain) (map program_of programs.now) plan.now.order) }
+    ensures refused { IfErr result (λ e. IfRefused e (IsTooLargeWith asked.now.terms.limits asked.now.terms.given (map program_of programs.now))) }
 {
     let plain = plan.plain.as_slice();
     let names = names_in(alloc, catalog, plain)?;
     let shown = names.as_slice();
-    told(alloc, form, given, shown, programs, &plan.order)
+    let notes = asked.notes.as_str().as_bytes();
+    told(
+        alloc,
+        form,
+        &asked.terms,
+        notes,
+        shown,
+        programs,
+        &plan.order,
+    )
 }

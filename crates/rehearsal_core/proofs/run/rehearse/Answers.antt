@@ -3,7 +3,7 @@ use Rattle.rehearsal_core.proofs.Endings.{owes}
 use Rattle.rehearsal_core.proofs.run.rehearse.Goals as goal
 
 pub returns-clause-headline : goal.returns-clause-headline
-returns-clause-headline g c = headline_of _ _ c.answered.ensures.tells
+returns-clause-headline g c = headline_of c.program_readings.ensures.none _ _ c.answered.ensures.tells
 
 pub returns-clause-tells : goal.returns-clause-tells
 returns-clause-tells g c = c.answered.ensures.tells

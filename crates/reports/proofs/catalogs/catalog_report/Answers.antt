@@ -13,6 +13,11 @@ returns-in_err-catalog-clause-refused c =
     let p = err_from_is_err_and c.from_residual-in_err-catalog.result c.from_residual-in_err-catalog.ensures.1 in
     rw (p.1, p.2) c.in_err-catalog.ensures.refused
 
+pub returns-in_err-text-clause-refused : goal.returns-in_err-text-clause-refused
+returns-in_err-text-clause-refused c =
+    let p = err_from_is_err_and c.from_residual-in_err-text.result c.from_residual-in_err-text.ensures.1 in
+    rw (p.1, p.2) tt
+
 pub returns-clause-report : goal.returns-clause-report
 returns-clause-report c = record {
   known = c.in_ok-known.known;

@@ -25,8 +25,8 @@ replayed-requires-clause-apart c =
     let is = c.requires.modelled.planned.compiled.catalog in
     subst (AreToldApart c.args.catalog.now) (sym c.requires.modelled.planned.graph.places)
     (c.plain_resources_are_told_apart.ensures c.args.catalog.now
-    (c.catalogs_are_sound.ensures is.manifest c.args.known.now.facts (node_name c.args.inputs.now.node) c.args.known.now.class_data c.args.catalog.now (sym is.is))
-    (c.references_stand_once.ensures is.manifest c.args.known.now.facts (node_name c.args.inputs.now.node) c.args.known.now.class_data c.args.catalog.now (sym is.is)))
+    (c.catalogs_are_sound.ensures is.manifest c.args.known.now.facts (node_name c.args.inputs.now.node) c.args.known.now.class_data c.args.inputs.now.limits c.args.catalog.now (sym is.is))
+    (c.references_stand_once.ensures is.manifest c.args.known.now.facts (node_name c.args.inputs.now.node) c.args.known.now.class_data c.args.inputs.now.limits c.args.catalog.now (sym is.is)))
 
 pub replayed-requires-clause-programs : goal.replayed-requires-clause-programs
 replayed-requires-clause-programs c = as_many_lent c.args.inputs.now c.args.known.now c.args.catalog.now c.args.plan.now c.args.programs.now c.requires.modelled

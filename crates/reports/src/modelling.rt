@@ -1,0 +1,34 @@
+//! What the resources of a graph do.
+
+ghost use Rattle.std.specs.Prelude.{◌<◌, length, map};
+ghost use Rattle.std.specs.List.{AllByRecursion};
+ghost use Rattle.fs_lang.specs.Meaning.{program_of};
+ghost use Rattle.pp_eval.specs.Verdicts.{AnswersBy};
+ghost use Rattle.reports.specs.Stages.{programs_in};
+
+use catalog::Catalog;
+use dep_graph::Graph;
+use fs_lang::Program;
+use given_links::read_programs;
+use given_text::link_paths;
+use known_inputs::Known;
+use res_models::programs_of;
+use rh_base::{Fault, Seq};
+use std::alloc::Global;
+
+/// The programs of a graph's resources, read through the links that every host has.
+pub fn modelled(
+    alloc: Global,
+    known: &Known,
+    catalog: &Catalog,
+    plan: &Graph,
+) -> Result<Seq<Program>, Fault>
+    requires { AllByRecursion (λ k. k < length catalog.now.resources) plan.now.plain }
+    ensures { AnswersBy (λ es. map program_of es) (programs_in known.now catalog.now plan.now) result }
+{
+    let links = known.given.links.as_slice();
+    let barred = link_paths(alloc, links)?;
+    let plain = plan.plain.as_slice();
+    let made = programs_of(alloc, catalog, plain, &known.listing, barred.as_slice())?;
+    Ok(read_programs(alloc, links, made.as_slice())?)
+}
