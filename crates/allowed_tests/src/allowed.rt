@@ -5,6 +5,7 @@ ghost use Rattle.std.specs.Prelude.{◌≡◌, IfOk};
 use allowed_order::order_of;
 use catalog::Catalog;
 use catalog_semantics::{Resource, Sort};
+use host_limits::Limits;
 use orders::Order;
 use pp_value::{Pairs, Ref};
 use std::alloc::Global;
@@ -49,14 +50,17 @@ fn push(
 ) -> Result<(), Fail> {
     let kind = text(alloc, kind)?;
     let title = text(alloc, title)?;
-    catalog.add(Resource {
-        id: Ref { kind, title },
-        sort,
-        is_virtual: false,
-        at: 0,
-        holder: None,
-        attrs: Pairs::new(alloc),
-    })?;
+    catalog.add(
+        Resource {
+            id: Ref { kind, title },
+            sort,
+            is_virtual: false,
+            at: 0,
+            holder: None,
+            attrs: Pairs::new(alloc),
+        },
+        Limits::Usual,
+    )?;
     Ok(())
 }
 

@@ -4,6 +4,7 @@ ghost use Rattle.std.specs.Prelude.{◌<◌, ◌^◌, length};
 use catalog::Catalog;
 use catalog_semantics::{Relation, Resource};
 use catalog_text::catalog_text;
+use host_limits::Limits;
 use pp_compile::{compile, compile_with};
 use pp_data::{Data, data_from_json};
 use pp_eval::facts_from_json;
@@ -108,8 +109,21 @@ pub fn compiled_under(
     }
     let levels = data_of(alloc, levels)?;
     let facts = facts_from_json(alloc, facts.as_bytes())?;
-    match compile_with(alloc, text.as_bytes(), &facts, node, &levels) {
+    match compile_with(alloc, text.as_bytes(), &facts, node, &levels, Limits::Usual) {
         Ok(catalog) => catalog_line(alloc, &catalog),
+        Err(fault) => Ok(refused(alloc, &fault)?),
+    }
+}
+
+/// How many resources the catalog of a text has within limits, with no facts and no class data, or its refusal.
+pub fn counted(alloc: Global, text: &str, limits: Limits) -> Result<String, Fail> {
+    if text.len() > 200_000 {
+        return Err(Fail::from("a long text"));
+    }
+    let levels = Data::empty(alloc);
+    let facts = facts_from_json(alloc, b"{}")?;
+    match compile_with(alloc, text.as_bytes(), &facts, "", &levels, limits) {
+        Ok(catalog) => Ok(format!(in alloc; "{}", catalog.count())?),
         Err(fault) => Ok(refused(alloc, &fault)?),
     }
 }

@@ -1,5 +1,6 @@
 //! Rows on the limits of values, resources and attributes.
-use crate::answers::{compiled, compiled_under};
+use crate::answers::{compiled, compiled_under, counted};
+use host_limits::Limits;
 use std::alloc::Global;
 use std::test::Fail;
 use test_rows::{doubled, titles};
@@ -33,6 +34,36 @@ fn resources_that_are_too_many(rt: HostRuntime) -> Result<(), Fail> {
     for (count, many) in [(4_096, false), (4_097, true)] {
         let told = told_of_titles(rt.alloc(), "@file { ", count, ": }")?;
         assert_eq!(rt; told.as_str() == "32 at 8: declared", many, "{count}");
+    }
+    Ok(())
+}
+
+/// What is told within limits of so many titles between two pieces.
+fn counted_titles(alloc: Global, front: &str, count: u32, limits: Limits) -> Result<String, Fail> {
+    let list = titles(alloc, count)?;
+    let manifest = format!(in alloc; "{front}{list}: }}")?;
+    counted(alloc, manifest.as_str(), limits)
+}
+
+#[test]
+fn limits_of_a_host(rt: HostRuntime) -> Result<(), Fail> {
+    let many = "32 at 0: resources";
+    let most = "32 at 8: declared";
+    let rows: [(&str, u32, &str, &str); 8] = [
+        ("file { ", 256, "256", "256"),
+        ("file { ", 257, many, "257"),
+        ("file { ", 1_024, many, "1024"),
+        ("file { ", 1_025, many, many),
+        ("@file { ", 4_096, "4096", "4096"),
+        ("@file { ", 4_097, most, "4097"),
+        ("@file { ", 16_384, most, "16384"),
+        ("@file { ", 16_385, most, most),
+    ];
+    for (front, count, usual, host) in rows {
+        for (limits, want) in [(Limits::Usual, usual), (Limits::Host, host)] {
+            let told = counted_titles(rt.alloc(), front, count, limits)?;
+            assert_eq!(rt; told.as_str(), want, "{front}{count}");
+        }
     }
     Ok(())
 }

@@ -8,6 +8,7 @@
 use catalog::Catalog;
 use catalog_semantics::{Relation, Resource, Sort};
 use dep_graph::{graph, graph_text};
+use host_limits::Limits;
 use pp_value::{Pairs, Ref, Value};
 use rh_base::{Fault, NoMemory, Seq, Text};
 use std::alloc::Global;
@@ -125,14 +126,17 @@ fn add_resource(
 ) -> Result<(), Fault> {
     let holder = holder(alloc, catalog, words)?;
     let attrs = attributes(alloc, words)?;
-    catalog.add(Resource {
-        id,
-        sort: sort_of(kind),
-        is_virtual: kind == "virtual",
-        at,
-        holder,
-        attrs,
-    })?;
+    catalog.add(
+        Resource {
+            id,
+            sort: sort_of(kind),
+            is_virtual: kind == "virtual",
+            at,
+            holder,
+            attrs,
+        },
+        Limits::Usual,
+    )?;
     Ok(())
 }
 

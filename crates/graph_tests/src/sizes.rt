@@ -3,6 +3,7 @@
 use catalog::Catalog;
 use catalog_semantics::{Relation, Resource, Sort};
 use dep_graph::graph;
+use host_limits::Limits;
 use pp_value::{Pairs, Ref};
 use rh_base::{Fault, NoMemory, Seq, Text};
 use std::alloc::Global;
@@ -19,14 +20,17 @@ fn add(alloc: Global, catalog: &mut Catalog, kind: &str, sort: Sort, n: u32) -> 
     let id = named(alloc, kind, n)?;
     let attrs = Pairs::new(alloc);
     let holder = n.checked_sub(1);
-    catalog.add(Resource {
-        id,
-        sort,
-        is_virtual: false,
-        at: n,
-        holder,
-        attrs,
-    })?;
+    catalog.add(
+        Resource {
+            id,
+            sort,
+            is_virtual: false,
+            at: n,
+            holder,
+            attrs,
+        },
+        Limits::Usual,
+    )?;
     Ok(())
 }
 

@@ -6,6 +6,7 @@
 use catalog::{Catalog, filled};
 use catalog_semantics::{Resource, Sort};
 use fs_lang::Program;
+use host_limits::Limits;
 use pkg_listing::listing_from_json;
 use pp_eval::facts_from_json;
 use pp_value::{Pairs, Ref, Value};
@@ -100,7 +101,7 @@ pub fn are_answered(
 }
 
 fn added(alloc: Global, catalog: &mut Catalog, at: u32, text: &str) -> Result<(), Fail> {
-    catalog.add(draft(alloc, at, text)?)?;
+    catalog.add(draft(alloc, at, text)?, Limits::Usual)?;
     Ok(())
 }
 
@@ -109,7 +110,7 @@ fn both_programs(alloc: Global, catalog: &Catalog) -> Result<String, Fail> {
     if catalog.count() < 2 {
         return Err(Fail::from("two resources"));
     }
-    match programs_of(alloc, catalog, &[0, 1], &packages) {
+    match programs_of(alloc, catalog, &[0, 1], &packages, &[]) {
         Ok(programs) => Ok(format!(in alloc; "{} programs", programs.len())?),
         Err(fault) => Ok(refused(alloc, &fault)?),
     }

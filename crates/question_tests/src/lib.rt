@@ -8,6 +8,8 @@ mod equal;
 #[cfg(test)]
 mod formulas;
 #[cfg(test)]
+mod given;
+#[cfg(test)]
 mod judging;
 #[cfg(test)]
 mod pairs;

@@ -63,7 +63,7 @@ fn found(alloc: Global, words: &str, pair: (u32, u32)) -> Result<String, Fail> {
 
 #[test]
 fn pairs_without_an_order(rt: HostRuntime) -> Result<(), Fail> {
-    let rows: [(&str, (u32, u32), &str); 11] = [
+    let rows: [(&str, (u32, u32), &str); 12] = [
         // a missing arrow, which the empty tree shows
         ("dir /etc | put /etc/a x", (0, 1), "from: 0 1, 1 0"),
         ("dir /etc | put /etc/a x", (1, 0), "from: 1 0, 0 1"),
@@ -79,6 +79,12 @@ fn pairs_without_an_order(rt: HostRuntime) -> Result<(), Fail> {
             "if file? /u or file? /v: id, err | put /v x | if file? /g: id, err",
             (0, 1),
             "from /g: 0 1 2, 1 0 2",
+        ),
+        // a folder without which a third program ends in Error, though it makes it afterwards
+        (
+            "put /a x | put /a y | if dir? /srv/b: id, err | dir /srv/b",
+            (0, 1),
+            "from /srv /srv/b: 0 1 2 3, 1 0 2 3",
         ),
         // one that a third program makes
         (

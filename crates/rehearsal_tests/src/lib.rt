@@ -20,6 +20,8 @@ mod explained;
 #[cfg(test)]
 mod faults;
 #[cfg(test)]
+mod given;
+#[cfg(test)]
 mod hostile;
 #[cfg(test)]
 mod made_up;

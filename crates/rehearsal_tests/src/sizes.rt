@@ -45,22 +45,37 @@ fn manifest(alloc: Global, count: u32) -> Result<String, Fail> {
     Ok(text)
 }
 
-/// What is told of so many packages with so many folders.
-fn told_of(alloc: Global, count: u32, with: u32) -> Result<Told, Fail> {
+const USUAL: &[&str] = &["--packages", "listing", "site.pp"];
+
+const HOST: &[&str] = &["--packages", "listing", "--limits", "host", "site.pp"];
+
+const GIVEN: &[&str] = &["--packages", "listing", "--given", "given", "site.pp"];
+
+/// What is told of so many packages with so many folders, and of one folder more that every host has, where the words name it.
+fn told_of(alloc: Global, words: &[&str], count: u32, with: u32) -> Result<Told, Fail> {
     let manifest = manifest(alloc, count)?;
     let listing = listing(alloc, count, with)?;
-    let over: [(&str, &[u8]); 2] = [
+    let over: [(&str, &[u8]); 3] = [
         ("site.pp", manifest.as_bytes()),
         ("listing", listing.as_bytes()),
+        ("given", br#"{"version":1,"folders":["/more"]}"#),
     ];
-    run_over(alloc, &["--packages", "listing", "site.pp"], &over)
+    run_over(alloc, words, &over)
 }
 
 /// The folders, the two above the mark, and the mark of the package: 4,096 paths.
 #[test]
 fn a_graph_of_as_many_paths_as_may_be(rt: HostRuntime) -> Result<(), Fail> {
-    let told = told_of(rt.alloc(), 1, 4_093)?;
+    let told = told_of(rt.alloc(), USUAL, 1, 4_093)?;
     compare(&rt, &told, 0, ONE, "", "4,096 paths");
+    Ok(())
+}
+
+/// The limit of a host is another one.
+#[test]
+fn a_graph_of_more_paths(rt: HostRuntime) -> Result<(), Fail> {
+    let told = told_of(rt.alloc(), HOST, 1, 4_094)?;
+    compare(&rt, &told, 0, ONE, "", "4,097 paths");
     Ok(())
 }
 
@@ -68,7 +83,35 @@ fn a_graph_of_as_many_paths_as_may_be(rt: HostRuntime) -> Result<(), Fail> {
 #[test]
 fn a_graph_as_heavy_as_may_be(rt: HostRuntime) -> Result<(), Fail> {
     let report = "resources 50\npruned 50\ndeterministic\nidempotent\nsucceeds from some tree\n";
-    let told = told_of(rt.alloc(), 50, 67)?;
+    let told = told_of(rt.alloc(), USUAL, 50, 67)?;
+    compare(&rt, &told, 0, report, "", "a weight of 700,000");
+    Ok(())
+}
+
+/// A host's weight has no limit.
+#[test]
+fn a_graph_that_is_heavier(rt: HostRuntime) -> Result<(), Fail> {
+    let report = "resources 50\npruned 50\ndeterministic\nidempotent\nsucceeds from some tree\n";
+    let told = told_of(rt.alloc(), HOST, 50, 68)?;
+    compare(&rt, &told, 0, report, "", "a weight over 700,000");
+    Ok(())
+}
+
+/// A given folder is a path, and weighs nothing.
+#[test]
+fn a_folder_more_that_is_given(rt: HostRuntime) -> Result<(), Fail> {
+    let told = told_of(rt.alloc(), GIVEN, 1, 4_093)?;
+    compare(
+        &rt,
+        &told,
+        4,
+        "",
+        "refused 70 at 0: domain\n",
+        "4,097 paths",
+    );
+    let report =
+        "resources 50\ngiven 1\npruned 50\ndeterministic\nidempotent\nsucceeds from some tree\n";
+    let told = told_of(rt.alloc(), GIVEN, 50, 67)?;
     compare(&rt, &told, 0, report, "", "a weight of 700,000");
     Ok(())
 }
@@ -83,7 +126,7 @@ fn graphs_that_are_too_large(rt: HostRuntime) -> Result<(), Fail> {
         (8, 4_094, domain),
     ];
     for (count, with, line) in rows {
-        let told = told_of(rt.alloc(), count, with)?;
+        let told = told_of(rt.alloc(), USUAL, count, with)?;
         compare(&rt, &told, 4, "", line, line);
     }
     Ok(())

@@ -266,20 +266,26 @@ fn files_apart(alloc: Global, count: u32) -> Result<String, Fail> {
 }
 
 /// What is told of so many files.
-fn told_of_files(alloc: Global, count: u32) -> Result<Told, Fail> {
+fn told_of_files(alloc: Global, words: &[&str], count: u32) -> Result<Told, Fail> {
     let manifest = files_apart(alloc, count)?;
-    told_of(alloc, manifest.as_bytes())
+    run(alloc, words, manifest.as_bytes())
 }
 
 #[test]
 fn many_files(rt: HostRuntime) -> Result<(), Fail> {
-    let report = "resources 256\npruned 256\ndeterministic\nidempotent\nsucceeds from some tree\n";
-    let rows: [(u32, u8, &str, &str); 2] = [
-        (256, 0, report, ""),
-        (257, 4, "", "refused 32 at 0: resources\n"),
+    let usual: &[&str] = &["site.pp"];
+    let host: &[&str] = &["--limits", "host", "site.pp"];
+    let most = "resources 256\npruned 256\ndeterministic\nidempotent\nsucceeds from some tree\n";
+    let more = "resources 257\npruned 257\ndeterministic\nidempotent\nsucceeds from some tree\n";
+    let refused = "refused 32 at 0: resources\n";
+    let rows: [(&[&str], u32, u8, &str, &str); 4] = [
+        (usual, 256, 0, most, ""),
+        (usual, 257, 4, "", refused),
+        (host, 257, 0, more, ""),
+        (host, 1025, 4, "", refused),
     ];
-    for (count, status, out, err) in rows {
-        let told = told_of_files(rt.alloc(), count)?;
+    for (words, count, status, out, err) in rows {
+        let told = told_of_files(rt.alloc(), words, count)?;
         compare(&rt, &told, status, out, err, "many files");
     }
     Ok(())

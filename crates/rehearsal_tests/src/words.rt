@@ -4,11 +4,11 @@ use crate::common::{NONE, compare, run};
 use std::test::Fail;
 
 const USAGE: &str =
-    "usage: rehearsal [--facts F] [--packages P] [--node N] [--conflicts C] [--ask A] [--tree T] [--order O] [--workload N] [--path P] [--content T] [--other M] [--data D] [INPUT]\n";
+    "usage: rehearsal [--facts F] [--packages P] [--node N] [--conflicts C] [--ask A] [--tree T] [--order O] [--workload N] [--path P] [--content T] [--other M] [--data D] [--given G] [--limits L] [INPUT]\n";
 
 #[test]
 fn words_that_ask_to_verify(rt: HostRuntime) -> Result<(), Fail> {
-    let rows: [&[&str]; 8] = [
+    let rows: [&[&str]; 11] = [
         &["site.pp"],
         &["--ask", "verify", "site.pp"],
         &["--ask=verify", "site.pp"],
@@ -17,6 +17,9 @@ fn words_that_ask_to_verify(rt: HostRuntime) -> Result<(), Fail> {
         &["--node", "n", "site.pp"],
         &["--conflicts", "1", "site.pp"],
         &["--conflicts=100000000", "site.pp"],
+        &["--limits", "usual", "site.pp"],
+        &["--limits", "host", "site.pp"],
+        &["--limits=host", "--node", "n", "site.pp"],
     ];
     for words in rows {
         let told = run(rt.alloc(), words, b"")?;
@@ -27,7 +30,7 @@ fn words_that_ask_to_verify(rt: HostRuntime) -> Result<(), Fail> {
 
 #[test]
 fn words_that_are_refused(rt: HostRuntime) -> Result<(), Fail> {
-    let rows: [&[&str]; 46] = [
+    let rows: [&[&str]; 58] = [
         &[],
         &["site.pp", "site.pp"],
         &["--help"],
@@ -78,6 +81,18 @@ fn words_that_are_refused(rt: HostRuntime) -> Result<(), Fail> {
             "--ask", "equal", "--other", "old.pp", "--path", "/a", "site.pp",
         ],
         &["--ask", "equal", "--other", "old.pp", "--workload", "5"],
+        &["--limits", "big", "site.pp"],
+        &["--limits", "Host", "site.pp"],
+        &["--limits", "", "site.pp"],
+        &["--limits", "host"],
+        &["--limits", "host", "--limits", "host", "site.pp"],
+        &["--limits", "host", "--ask", "check", "site.pp"],
+        &["--limits", "usual", "--ask", "migrate", "site.pp"],
+        &["--limits", "host", "--workload", "5"],
+        &["--given", "g", "--ask", "catalog", "site.pp"],
+        &["--given", "g", "--ask", "graph", "site.pp"],
+        &["--given", "g", "--workload", "5"],
+        &["--given", "g"],
     ];
     for words in rows {
         let told = run(rt.alloc(), words, b"")?;
