@@ -1,0 +1,9 @@
+pub mod Steps
+pub mod TypeLaws
+pub mod BracketLaws
+pub mod ValueLaws
+pub mod RefLaws
+pub mod HolderLaws
+pub mod FormLaws
+pub mod ReadLaws
+pub mod OneCompiled
