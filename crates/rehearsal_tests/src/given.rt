@@ -25,7 +25,12 @@ const MOTD: &str = "file { '/etc/motd': content => 'hi' } package { 'p': }";
 const UNIT: &str =
     "package { 'cron': } file { '/usr/lib/systemd/system/cron.service': content => 'x' }";
 
-fn asked(alloc: Global, words: &[&str], manifest: &str, given: &str) -> Result<Told, Fail> {
+fn asked<'a>(
+    alloc: Global,
+    words: &[&str],
+    manifest: &'a str,
+    given: &'a str,
+) -> Result<Told, Fail> {
     let over: [(&str, &[u8]); 6] = [
         ("site.pp", manifest.as_bytes()),
         ("listing", LISTING.as_bytes()),
