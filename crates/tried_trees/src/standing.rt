@@ -20,18 +20,23 @@ enum Standing {
     Folders,
     /// That, and all that they change.
     All,
+    /// The folders, and what they remove and don't make: a host on which nothing was done yet.
+    Before,
+    /// All, each file with a content of its own.
+    Apart,
 }
 
 /// The paths of programs: all, each after those above it; those above another one; folders without which a program ends in Error at
-/// once, and those above them; folders that a program makes; what else a program changes; and files that are asked for where no
-/// program changes one that is asked for beside them.
+/// once, and those above them; folders that a program makes; files and links that one makes; what one removes; and files that are asked
+/// for where no program changes one that is asked for beside them.
 #[derive(Drop)]
 struct Paths {
     named: BTreeSet<Path>,
     above: BTreeSet<Path>,
     needed: BTreeSet<Path>,
     folders: BTreeSet<Path>,
-    changed: BTreeSet<Path>,
+    made: BTreeSet<Path>,
+    removed: BTreeSet<Path>,
     given: BTreeSet<Path>,
 }
 
@@ -44,14 +49,15 @@ fn is_any_in(paths: &[Path], set: &BTreeSet<Path>) -> bool {
     false
 }
 
-/// Adds these files, where none of them is among those that are changed.
+/// Adds these files, where none of them is made or removed.
 fn add_given(
     alloc: Global,
     asked: &[Path],
-    changed: &BTreeSet<Path>,
+    made: &BTreeSet<Path>,
+    removed: &BTreeSet<Path>,
     given: &mut BTreeSet<Path>,
 ) -> Result<(), NoMemory> {
-    if is_any_in(asked, changed) {
+    if is_any_in(asked, made) || is_any_in(asked, removed) {
         return Ok(());
     }
     for p in asked {
@@ -63,11 +69,12 @@ fn add_given(
 fn given_of(
     alloc: Global,
     asked: &[Seq<Path>],
-    changed: &BTreeSet<Path>,
+    made: &BTreeSet<Path>,
+    removed: &BTreeSet<Path>,
 ) -> Result<BTreeSet<Path>, NoMemory> {
     let mut given = BTreeSet::new(alloc);
     for files in asked {
-        add_given(alloc, files.as_slice(), changed, &mut given)?;
+        add_given(alloc, files.as_slice(), made, removed, &mut given)?;
     }
     Ok(given)
 }
@@ -96,16 +103,18 @@ fn paths_of(alloc: Global, named: BTreeSet<Path>, used: Used) -> Result<Paths, N
     let Used {
         needed,
         folders,
-        changed,
+        made,
+        removed,
         asked,
     } = used;
-    let given = given_of(alloc, asked.as_slice(), &changed)?;
+    let given = given_of(alloc, asked.as_slice(), &made, &removed)?;
     Ok(Paths {
         named,
         above,
         needed: down_to(alloc, needed)?,
         folders,
-        changed,
+        made,
+        removed,
         given,
     })
 }
@@ -118,29 +127,49 @@ fn is_folder(paths: &Paths, p: &Path, which: Standing) -> bool {
     let is_made = paths.folders.contains(p);
     match which {
         Standing::Given => is_above && !is_made,
-        Standing::Folders => is_above,
-        Standing::All => is_above || is_made,
+        Standing::Folders | Standing::Before => is_above,
+        Standing::All | Standing::Apart => is_above || is_made,
     }
 }
 
 fn is_file(paths: &Paths, p: &Path, which: Standing) -> bool {
     let is_given = paths.given.contains(p);
-    let is_changed = paths.changed.contains(p);
+    let is_made = paths.made.contains(p);
+    let is_removed = paths.removed.contains(p);
     match which {
         Standing::Given | Standing::Folders => is_given,
-        Standing::All => is_given || is_changed,
+        Standing::All | Standing::Apart => is_given || is_made || is_removed,
+        Standing::Before => {
+            let is_folder = paths.folders.contains(p);
+            is_given || is_removed && !is_made && !is_folder
+        }
     }
 }
 
-/// What stands at a path. The files are empty.
-fn entry_at(alloc: Global, paths: &Paths, p: &Path, which: Standing) -> Option<Entry> {
+/// The content of a file: its path, where files are told apart, and else nothing.
+fn content_at(alloc: Global, p: &Path, which: Standing) -> Result<Text, NoMemory> {
+    match which {
+        Standing::Apart => p.text(alloc),
+        Standing::Given | Standing::Folders | Standing::All | Standing::Before => {
+            Ok(Text::new(alloc))
+        }
+    }
+}
+
+/// What stands at a path.
+fn entry_at(
+    alloc: Global,
+    paths: &Paths,
+    p: &Path,
+    which: Standing,
+) -> Result<Option<Entry>, NoMemory> {
     if is_folder(paths, p, which) {
-        return Some(Entry::Folder);
+        return Ok(Some(Entry::Folder));
     }
     if is_file(paths, p, which) {
-        return Some(Entry::File(Text::new(alloc)));
+        return Ok(Some(Entry::File(content_at(alloc, p, which)?)));
     }
-    None
+    Ok(None)
 }
 
 fn is_folder_in(tree: &Tree, p: &Path) -> bool
@@ -179,21 +208,35 @@ fn add_entry(alloc: Global, tree: &mut Tree, p: &Path, entry: Entry) -> Result<(
 fn tree_of(alloc: Global, paths: &Paths, which: Standing) -> Result<Tree, NoMemory> {
     let mut tree = Tree::empty(alloc)?;
     for p in &paths.named {
-        if let Some(entry) = entry_at(alloc, paths, p, which) {
+        if let Some(entry) = entry_at(alloc, paths, p, which)? {
             add_entry(alloc, &mut tree, p, entry)?;
         }
     }
     Ok(tree)
 }
 
+/// Trees to try beside the empty one: those that most often tell something, and others.
+#[derive(Drop)]
+pub(crate) struct Trees {
+    pub(crate) first: Seq<Tree>,
+    pub(crate) others: Seq<Tree>,
+}
+
+fn trees_with(alloc: Global, paths: &Paths, all: &[Standing]) -> Result<Seq<Tree>, NoMemory> {
+    let mut trees = Seq::new(alloc);
+    for which in all {
+        trees.push(tree_of(alloc, paths, *which)?)?;
+    }
+    Ok(trees)
+}
+
 /// The trees to try beside the empty one.
-pub(crate) fn trees_of(alloc: Global, programs: &[Program]) -> Result<Seq<Tree>, NoMemory> {
+pub(crate) fn trees_of(alloc: Global, programs: &[Program]) -> Result<Trees, NoMemory> {
     let named = named(alloc, programs)?;
     let used = used_by(alloc, programs)?;
     let paths = paths_of(alloc, named, used)?;
-    let mut trees = Seq::new(alloc);
-    for which in [Standing::Given, Standing::Folders, Standing::All] {
-        trees.push(tree_of(alloc, &paths, which)?)?;
-    }
-    Ok(trees)
+    let usual = [Standing::Given, Standing::Folders, Standing::All];
+    let first = trees_with(alloc, &paths, &usual)?;
+    let others = trees_with(alloc, &paths, &[Standing::Before, Standing::Apart])?;
+    Ok(Trees { first, others })
 }

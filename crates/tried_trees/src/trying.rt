@@ -159,10 +159,62 @@ pub fn try_tree(
     Ok(late)
 }
 
+/// Each pair on each of these trees, as early as the order allows, and then as late.
+fn try_places(
+    alloc: Global,
+    programs: &[Program],
+    order: &Order,
+    list: &[u32],
+    pairs: &[(u32, u32)],
+    trees: &[Tree],
+) -> Result<Option<Difference>, NoMemory>
+    requires count { length programs.now ≡ order.now.count }
+    requires list { IsLinearExtension order.now.count (Comes order.now) list.now }
+    ensures found { IfOk result (λ found. IfSome found (IsDifference (map program_of programs.now) order.now)) }
+{
+    let early = try_trees(alloc, programs, order, list, Place::Early, pairs, trees)?;
+    if early.is_some() {
+        return Ok(early);
+    }
+    try_trees(alloc, programs, order, list, Place::Late, pairs, trees)
+}
+
+/// Each pair on the empty tree and on each of these, as early as the order allows, and then as late.
+fn try_first(
+    alloc: Global,
+    programs: &[Program],
+    order: &Order,
+    list: &[u32],
+    pairs: &[(u32, u32)],
+    trees: &[Tree],
+) -> Result<Option<Difference>, NoMemory>
+    requires count { length programs.now ≡ order.now.count }
+    requires list { IsLinearExtension order.now.count (Comes order.now) list.now }
+    ensures found { IfOk result (λ found. IfSome found (IsDifference (map program_of programs.now) order.now)) }
+    ensures early { IfOk result (λ found. MatchOption found (AllByRecursion (IsTried Early (map program_of programs.now) order.now map_of.empty) pairs.now) (λ d. Unit)) }
+    ensures late { IfOk result (λ found. MatchOption found (AllByRecursion (IsTried Late (map program_of programs.now) order.now map_of.empty) pairs.now) (λ d. Unit)) }
+{
+    let empty = Tree::empty(alloc)?;
+    let first = try_place(alloc, programs, order, list, Place::Early, pairs, &empty)?;
+    if first.is_some() {
+        return Ok(first);
+    }
+    let early = try_trees(alloc, programs, order, list, Place::Early, pairs, trees)?;
+    if early.is_some() {
+        return Ok(early);
+    }
+    let last = try_place(alloc, programs, order, list, Place::Late, pairs, &empty)?;
+    if last.is_some() {
+        return Ok(last);
+    }
+    let late = try_trees(alloc, programs, order, list, Place::Late, pairs, trees)?;
+    Ok(late)
+}
+
 /// Tries each of these pairs of programs, next to one another, as early and as late as the order allows, from a few trees: the
-/// empty one; the one with what the programs use and none of them makes; that with each folder above a path of theirs; and that
-/// with all that they change. A pair of which one has to come before the other is passed over, and so is one that names no two
-/// programs.
+/// empty one; the one with what the programs use and none of them makes; that with each folder above a path of theirs; that with
+/// all that they change; then those folders with what is removed and not made; and all, each file with a content of its own. A pair
+/// of which one has to come before the other is passed over, and so is one that names no two programs.
 pub fn try_pairs(
     alloc: Global,
     programs: &[Program],
@@ -176,52 +228,16 @@ pub fn try_pairs(
     ensures late { IfOk result (λ found. MatchOption found (AllByRecursion (IsTried Late (map program_of programs.now) order.now map_of.empty) pairs.now) (λ d. Unit)) }
 {
     let list = order.first_extension()?;
-    let empty = Tree::empty(alloc)?;
-    let first = try_place(
-        alloc,
-        programs,
-        order,
-        list.as_slice(),
-        Place::Early,
-        pairs,
-        &empty,
-    )?;
-    if first.is_some() {
-        return Ok(first);
-    }
     let trees = trees_of(alloc, programs)?;
-    let early = try_trees(
-        alloc,
-        programs,
-        order,
-        list.as_slice(),
-        Place::Early,
-        pairs,
-        trees.as_slice(),
-    )?;
-    if early.is_some() {
-        return Ok(early);
+    let first = trees.first.as_slice();
+    let found = try_first(alloc, programs, order, list.as_slice(), pairs, first)?;
+    if found.is_some() {
+        return Ok(found);
     }
-    let last = try_place(
-        alloc,
-        programs,
-        order,
-        list.as_slice(),
-        Place::Late,
-        pairs,
-        &empty,
-    )?;
-    if last.is_some() {
-        return Ok(last);
+    let others = trees.others.as_slice();
+    let other = try_places(alloc, programs, order, list.as_slice(), pairs, others)?;
+    match other {
+        Some(difference) => Ok(Some(difference)),
+        None => Ok(found),
     }
-    let late = try_trees(
-        alloc,
-        programs,
-        order,
-        list.as_slice(),
-        Place::Late,
-        pairs,
-        trees.as_slice(),
-    )?;
-    Ok(late)
 }

@@ -5,13 +5,14 @@ use rh_base::{NoMemory, Seq};
 use std::alloc::Global;
 use std::collections::BTreeSet;
 
-/// The folders without which a program ends in Error at once, the folders that programs make, the other paths that they change, and
-/// the files that they ask for: those of one question together.
+/// The folders without which a program ends in Error at once, the folders that programs make, the files and links that they make, what
+/// they remove, and the files that they ask for: those of one question together.
 #[derive(Drop)]
 pub(crate) struct Used {
     pub(crate) needed: BTreeSet<Path>,
     pub(crate) folders: BTreeSet<Path>,
-    pub(crate) changed: BTreeSet<Path>,
+    pub(crate) made: BTreeSet<Path>,
+    pub(crate) removed: BTreeSet<Path>,
     pub(crate) asked: Seq<Seq<Path>>,
 }
 
@@ -67,7 +68,7 @@ fn use_copy(alloc: Global, from: &Path, p: &Path, used: &mut Used) -> Result<(),
     let mut files = Seq::new(alloc);
     ask_one(alloc, from, &mut files)?;
     used.asked.push(files)?;
-    add(alloc, &mut used.changed, p)
+    add(alloc, &mut used.made, p)
 }
 
 #[cycle(program)]
@@ -76,9 +77,9 @@ fn use_one(alloc: Global, program: &Program, used: &mut Used) -> Result<(), NoMe
     match program {
         Program::Id | Program::Err => Ok(()),
         Program::Mkdir(p) => add(alloc, &mut used.folders, p),
-        Program::Creat(p, _) => add(alloc, &mut used.changed, p),
-        Program::Link(p, _) => add(alloc, &mut used.changed, p),
-        Program::Rm(p) => add(alloc, &mut used.changed, p),
+        Program::Creat(p, _) => add(alloc, &mut used.made, p),
+        Program::Link(p, _) => add(alloc, &mut used.made, p),
+        Program::Rm(p) => add(alloc, &mut used.removed, p),
         Program::Cp(from, p) => use_copy(alloc, from, p, used),
         Program::Steps(es) => use_all(alloc, es.as_slice(), used),
         Program::If(a, e, f) => use_choice(alloc, a, e.get(), f.get(), used),
@@ -112,7 +113,8 @@ pub(crate) fn used_by(alloc: Global, programs: &[Program]) -> Result<Used, NoMem
     let mut used = Used {
         needed: BTreeSet::new(alloc),
         folders: BTreeSet::new(alloc),
-        changed: BTreeSet::new(alloc),
+        made: BTreeSet::new(alloc),
+        removed: BTreeSet::new(alloc),
         asked: Seq::new(alloc),
     };
     use_all(alloc, programs, &mut used)?;
