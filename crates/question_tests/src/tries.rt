@@ -63,7 +63,7 @@ fn found(alloc: Global, words: &str, pair: (u32, u32)) -> Result<String, Fail> {
 
 #[test]
 fn pairs_without_an_order(rt: HostRuntime) -> Result<(), Fail> {
-    let rows: [(&str, (u32, u32), &str); 12] = [
+    let rows: [(&str, (u32, u32), &str); 14] = [
         // a missing arrow, which the empty tree shows
         ("dir /etc | put /etc/a x", (0, 1), "from: 0 1, 1 0"),
         ("dir /etc | put /etc/a x", (1, 0), "from: 1 0, 0 1"),
@@ -103,6 +103,18 @@ fn pairs_without_an_order(rt: HostRuntime) -> Result<(), Fail> {
             "put /a x | put /a y | put /a z",
             (0, 1),
             "from: 2 0 1, 2 1 0",
+        ),
+        // a host on which nothing was done yet: what is to go is there, and what is to come isn't
+        (
+            "if file? /u: id, put /h x; if file? /u: id, creat /u y | if file? /m: drop /h, id; drop /m",
+            (0, 1),
+            "from /m: 0 1, 1 0",
+        ),
+        // files that are copied to one another, of which each has a content of its own
+        (
+            "drop /a; cp /b /a | drop /b; cp /a /b",
+            (0, 1),
+            "from /a /b: 0 1, 1 0",
         ),
         // programs that commute, one program, and a number that is none
         ("put /a x | put /b y", (0, 1), "none"),
