@@ -1,0 +1,3 @@
+pub mod Assumptions
+pub mod Form
+pub mod Reading
