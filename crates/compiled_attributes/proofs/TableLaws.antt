@@ -1,0 +1,80 @@
+-- The places that a table has, by its targets.
+use Rattle.std.proofs.Common.{◌≡◌, ℕ, ◌+◌, Bool, true, false, true≢false, cond, List, [], ◌∷◌, ◌++◌, drop, Option, Some, None, refl, ap, sym, ◌∙◌, append_assoc, append-nil}
+use Rattle.std.specs.Map.{lookup}
+use Rattle.std.specs.Str.{bytes_eq}
+use Rattle.std.proofs.lemmas.Slice.Eq.{bytes_eq-Decides}
+use Rattle.indexmap.specs.IndexMap.{insert_entry}
+use Rattle.compiled_text.specs.declared.catalog.CompiledResource.{CompiledResource}
+use Rattle.compiled_attributes.specs.Fragments.{target_of, is_target, is_for}
+use Rattle.compiled_attributes.specs.Places.{places_where, or_none, places_in, if_target}
+
+abbrev Table : Type 0
+Table = List (List ℕ × List ℕ)
+
+same : (a b : List ℕ) → bytes_eq a b ≡ true → a ≡ b
+same a b h = (bytes_eq-Decides a b).0 h
+
+is_same : (a b : List ℕ) → a ≡ b → bytes_eq a b ≡ true
+is_same a b h = (bytes_eq-Decides a b).1 h
+
+-- ---- one more entry
+
+twice : (s : Bool) (v w : List ℕ) (rest : Option (List ℕ)) → cond s (Some v) rest ≡ cond s (Some v) (cond s (Some w) rest)
+twice true v w rest = refl
+twice false v w rest = refl
+
+apart : (s u : Bool) (v w : List ℕ) (rest : Option (List ℕ)) → (s ≡ true → u ≡ true → ⊥) → cond s (Some w) (cond u (Some v) rest) ≡ cond u (Some v) (cond s (Some w) rest)
+apart true true v w rest h = absurd (h refl refl)
+apart true false v w rest h = refl
+apart false true v w rest h = refl
+apart false false v w rest h = refl
+
+got_at : (t : Bool) (x k v : List ℕ) (e : List ℕ × List ℕ) (es : Table) → bytes_eq k e.0 ≡ t
+    → lookup (bytes_eq x) (insert_entry bytes_eq es k v) ≡ cond (bytes_eq x k) (Some v) (lookup (bytes_eq x) es)
+    → lookup (bytes_eq x) (cond t ((e.0, v) ∷ es) (e ∷ insert_entry bytes_eq es k v)) ≡ cond (bytes_eq x k) (Some v) (cond (bytes_eq x e.0) (Some e.1) (lookup (bytes_eq x) es))
+got_at true x k v e es h later =
+    let key : e.0 ≡ k = sym (same k e.0 h) in
+    ap (λ y. cond (bytes_eq x y) (Some v) (lookup (bytes_eq x) es)) key
+    ∙ (twice (bytes_eq x k) v e.1 (lookup (bytes_eq x) es) ∙ ap (λ y. cond (bytes_eq x k) (Some v) (cond (bytes_eq x y) (Some e.1) (lookup (bytes_eq x) es))) (sym key))
+got_at false x k v e es h later =
+    ap (λ r. cond (bytes_eq x e.0) (Some e.1) r) later
+    ∙ apart (bytes_eq x e.0) (bytes_eq x k) v e.1 (lookup (bytes_eq x) es)
+    (λ first second. true≢false (sym (is_same k e.0 (sym (same x k second) ∙ same x e.0 first)) ∙ h))
+
+got : (es : Table) (k v x : List ℕ) → lookup (bytes_eq x) (insert_entry bytes_eq es k v) ≡ cond (bytes_eq x k) (Some v) (lookup (bytes_eq x) es)
+got [] k v x = refl
+got (e ∷ es) k v x = got_at (bytes_eq k e.0) x k v e es refl (got es k v x)
+
+-- ---- one more place
+
+if_same : (t : Bool) (x k new mine : List ℕ) (rest : Option (List ℕ)) (n : ℕ) → (t ≡ true → mine ≡ or_none rest) → new ≡ mine ++ n ∷ []
+    → or_none (cond t (Some new) (cond t (Some []) rest)) ≡ or_none rest ++ cond t (n ∷ []) []
+if_same true x k new mine rest n h is = is ∙ ap (λ l. l ++ n ∷ []) (h refl)
+if_same false x k new mine rest n h is = sym (append-nil (or_none rest))
+
+pub noted : (old mid last : Table) (k new mine : List ℕ) (n : ℕ) → mid ≡ insert_entry bytes_eq old k [] → last ≡ insert_entry bytes_eq mid k new → mine ≡ or_none (lookup (bytes_eq k) old) → new ≡ mine ++ n ∷ []
+    → (x : List ℕ) → places_in last x ≡ places_in old x ++ if_target x (Some k) n
+noted old mid last k new mine n first second was is x =
+    ap (λ (t : Table). places_in t x) second
+    ∙ (ap or_none (got mid k new x ∙ ap (λ r. cond (bytes_eq x k) (Some new) r) (ap (lookup (bytes_eq x)) first ∙ got old k [] x))
+    ∙ if_same (bytes_eq x k) x k new mine (lookup (bytes_eq x) old) n (λ h. was ∙ ap (λ y. or_none (lookup (bytes_eq y) old)) (sym (same x k h))) is)
+
+-- ---- all places
+
+next_if : (o : Option (List ℕ)) (x : List ℕ) (n : ℕ) (ps : List ℕ) → if_target x o n ++ ps ≡ cond (is_target x o) (n ∷ ps) ps
+next_if None x n ps = refl
+next_if (Some text) x n ps = at (bytes_eq x text)
+  where
+    at : (t : Bool) → cond t (n ∷ []) [] ++ ps ≡ cond t (n ∷ ps) ps
+    at true = refl
+    at false = refl
+
+pub next_noted : (all : List CompiledResource) (old new : Table) (n : ℕ) (r : CompiledResource) → drop n all ≡ r ∷ drop (n + 1) all
+    → ((x : List ℕ) → places_in new x ≡ places_in old x ++ if_target x (target_of r) n)
+    → ((x : List ℕ) → places_in old x ++ places_where (is_for x) n (drop n all) ≡ places_where (is_for x) 0 all)
+    → (x : List ℕ) → places_in new x ++ places_where (is_for x) (n + 1) (drop (n + 1) all) ≡ places_where (is_for x) 0 all
+next_noted all old new n r next is so_far x =
+    ap (λ l. l ++ places_where (is_for x) (n + 1) (drop (n + 1) all)) (is x)
+    ∙ (append_assoc (places_in old x) (if_target x (target_of r) n) (places_where (is_for x) (n + 1) (drop (n + 1) all))
+    ∙ (ap (λ l. places_in old x ++ l) (next_if (target_of r) x n (places_where (is_for x) (n + 1) (drop (n + 1) all)))
+    ∙ (ap (λ l. places_in old x ++ places_where (is_for x) n l) (sym next) ∙ so_far x)))
