@@ -1,0 +1,5 @@
+pub mod EditLaws
+pub mod LostLaws
+pub mod StepLaws
+pub mod MarkLaws
+pub mod NamedLaws

@@ -1,0 +1,8 @@
+use Rattle.std.proofs.Common.{◌≡◌, ◌++◌, drop, map}
+use Rattle.fs_lang.specs.Meaning.{program_of}
+use Rattle.assumed_models.specs.Behaviors.{file_made}
+use Rattle.assumed_models.proofs.behaviors.push_made.Given as goal
+
+-- the steps so far, with those of the paths that are left
+abbrev pub invariant-loop-p : goal.invariant-loop-p
+invariant-loop-p l = map program_of l.steps ++ map (file_made l.r) (drop l.p-index l.paths) ≡ map program_of l.initial.steps ++ map (file_made l.r) l.paths

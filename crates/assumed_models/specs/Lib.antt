@@ -1,0 +1,3 @@
+pub mod Behaviors
+pub mod Edits
+pub mod LostEdits

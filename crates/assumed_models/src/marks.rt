@@ -1,0 +1,66 @@
+//! The files that stand for edits.
+
+ghost use Rattle.std.specs.Prelude.{◌≡◌, ◌∷◌, ◌++◌, ◌<◌, IsTrue, IfOk, MatchOption};
+ghost use Rattle.fs_lang.specs.Reading.{HasNo};
+ghost use Rattle.fs_lang.specs.Names.{replaced, is_dots, segment_of};
+ghost use Rattle.assumed_models.specs.Behaviors.{edit_mark};
+
+use catalog_semantics::Resource;
+use fs_lang::Path;
+use model_names::{below, top};
+use pp_value::shown_ref;
+use rh_base::{NoMemory, Text};
+use std::alloc::Global;
+
+/// What stands ahead of the first c, and behind it.
+#[tactic(auto, using(fs_lang::proofs::NameLaws::cut_at))]
+fn cut(text: &str, c: char) -> Option<(&str, &str)>
+    requires { c < 128 }
+    ensures { MatchOption result (HasNo c text.now) (λ x. (text.now ≡ x.0.now ++ c ∷ x.1.now) × HasNo c x.0.now) }
+{
+    text.split_once(c)
+}
+
+/// The text with another one in the place of each c.
+#[tactic(auto, using(fs_lang::proofs::NameLaws::next_replaced, fs_lang::proofs::NameLaws::last_replaced))]
+fn replaced(alloc: Global, text: &str, c: char, other: &str) -> Result<Text, NoMemory>
+    requires { c < 128 }
+    ensures { IfOk result (λ t. t ≡ replaced c other.now text.now) }
+{
+    let mut made = Text::new(alloc);
+    let mut rest = text;
+    while let Some((front, tail)) = cut(rest, c) {
+        made.push(front)?;
+        made.push(other)?;
+        rest = tail;
+    }
+    made.push(rest)?;
+    Ok(made)
+}
+
+/// The segment of a text, which has no limit of length.
+fn segment_of(alloc: Global, name: &str) -> Result<Text, NoMemory>
+    ensures { IfOk result (λ segment. segment ≡ segment_of name.now) }
+{
+    let is_dot = name == ".";
+    let is_two = name == "..";
+    if is_dot || is_two {
+        return replaced(alloc, name, '.', "%2E");
+    }
+    let escaped = replaced(alloc, name, '%', "%25")?;
+    replaced(alloc, escaped.as_str(), '/', "%2F")
+}
+
+/// The file that stands for an edit of a file by a resource.
+pub fn edit_mark(alloc: Global, r: &Resource, p: &Path) -> Result<Path, NoMemory>
+    ensures { IfOk result (λ m. m ≡ edit_mark r.now p.now) }
+{
+    let text = p.text(alloc)?;
+    let name = shown_ref(alloc, &r.id)?;
+    let marks = top(alloc, ".rehearsal")?;
+    let edits = below(alloc, &marks, "edit")?;
+    let file = segment_of(alloc, text.as_str())?;
+    let of_file = below(alloc, &edits, file.as_str())?;
+    let by = segment_of(alloc, name.as_str())?;
+    below(alloc, &of_file, by.as_str())
+}
