@@ -9,7 +9,7 @@ use std::test::Fail;
 use test_rows::refused;
 
 /// Adds a parameter and its value. A value with an opaque one in it has no text.
-fn add_parameter(alloc: Global, pair: &(Text, Value), line: &mut String) -> Result<(), Fail> {
+pub fn add_parameter(alloc: Global, pair: &(Text, Value), line: &mut String) -> Result<(), Fail> {
     line.push(' ')?;
     line.push_str(pair.0.as_str())?;
     line.push('=')?;

@@ -1,0 +1,76 @@
+//! The attributes of the resources of a compiled catalog, as they are shown.
+
+ghost use Rattle.compiled_attributes.specs.Places.{HoldsFragments};
+
+use crate::answers::{add_parameter, text_of};
+use compiled_attributes::{Fragments, attributes_of, is_noop, why_unfilled};
+use compiled_text::{CompiledCatalog, CompiledResource, compiled_from_json};
+use pp_value::shown_ref;
+use std::alloc::Global;
+use std::test::Fail;
+
+/// Adds a word for a resource that does nothing, and why a file has no content.
+fn add_marks(
+    alloc: Global,
+    catalog: &CompiledCatalog,
+    fragments: &Fragments,
+    r: &CompiledResource,
+    line: &mut String,
+) -> Result<(), Fail>
+    requires { HoldsFragments catalog.now.resources fragments.now }
+{
+    if is_noop(r) {
+        line.push_str(" (noop)")?;
+    }
+    if let Some(name) = why_unfilled(alloc, catalog, fragments, r)? {
+        let mark = format!(in alloc; " (no content: {name})")?;
+        line.push_str(mark.as_str())?;
+    }
+    Ok(())
+}
+
+/// Adds a line for a resource: its reference, and its attributes.
+fn add_resource(
+    alloc: Global,
+    catalog: &CompiledCatalog,
+    fragments: &Fragments,
+    r: &CompiledResource,
+    lines: &mut String,
+) -> Result<(), Fail>
+    requires { HoldsFragments catalog.now.resources fragments.now }
+{
+    let name = shown_ref(alloc, &r.id)?;
+    lines.push_str(name.as_str())?;
+    let attributes = attributes_of(alloc, catalog, fragments, r)?;
+    for pair in attributes.as_slice() {
+        add_parameter(alloc, pair, lines)?;
+    }
+    add_marks(alloc, catalog, fragments, r, lines)?;
+    lines.push('\n')?;
+    Ok(())
+}
+
+/// A line for each resource of a compiled catalog.
+pub fn shown(alloc: Global, catalog: &CompiledCatalog) -> Result<String, Fail> {
+    let fragments = Fragments::of(alloc, catalog)?;
+    let mut lines = String::new(alloc);
+    for r in catalog.resources() {
+        add_resource(alloc, catalog, &fragments, r, &mut lines)?;
+    }
+    Ok(lines)
+}
+
+/// The lines of these resources.
+pub fn told_of(alloc: Global, resources: &str) -> Result<String, Fail> {
+    let text = text_of(alloc, resources, "")?;
+    let catalog = compiled_from_json(alloc, text.as_bytes())?;
+    shown(alloc, &catalog)
+}
+
+/// The line of one native resource with these parameters.
+pub fn told(alloc: Global, kind: &str, parameters: &str) -> Result<String, Fail> {
+    let resource = format!(in alloc;
+        r#"{{"type":"{kind}","title":"/t","kind":"compilable_type","parameters":{parameters}}}"#
+    )?;
+    told_of(alloc, resource.as_str())
+}
