@@ -1,0 +1,3 @@
+pub mod Attributes
+pub mod Catalogs
+pub mod Steps
