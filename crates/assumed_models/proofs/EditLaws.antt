@@ -1,6 +1,6 @@
 -- Edits that are found by the texts of their paths.
 use Rattle.std.proofs.Common.{◌≡◌, ℕ, zero, suc, ◌+◌, ◌<◌, ◌≤◌, ◌==◌, Bool, true, false, true≢false, cond, not, List, [], ◌∷◌, ◌++◌, length, map, drop, get_or, add-one, append_assoc, append-nil, slice_get, Option, Some, None, Result, Ok, Err, IfOk, bytes_eq, refl, sym, ap, subst, ◌∙◌, arith}
-use Rattle.std.specs.Prelude.{filter, ◌↔◌, IsTrue}
+use Rattle.std.specs.Prelude.{filter}
 use Rattle.std.specs.List.{AllByRecursion}
 use Rattle.std.proofs.lemmas.Slice.Eq.{bytes_eq-Decides}
 use Rattle.std.proofs.Math.Seq.{drop-cons}
@@ -12,7 +12,6 @@ use Rattle.fs_lang.specs.declared.program.Program.{Program as Code}
 use Rattle.fs_lang.specs.Meaning.{program_of}
 use Rattle.pp_value.specs.Keys.{value_at, with_pair}
 use Rattle.pkg_listing.proofs.SetLaws.{SameText, SamePath, agree}
-use Rattle.model_semantics.specs.Words.{drop_file}
 use Rattle.assumed_models.specs.declared.edits.Edit.{Edit}
 use Rattle.assumed_models.specs.Edits.{edits_beside, marks_in, marks_of, places_of, or_none, AreFound, with_noted, with_all_noted, if_any, edits_at}
 use Rattle.assumed_models.specs.LostEdits.{drops}

@@ -1,11 +1,11 @@
 -- What becomes of a program in which edits are lost.
-use Rattle.std.proofs.Common.{◌≡◌, ◌≢◌, ◌⊎◌, inl, inr, ℕ, Bool, true, false, List, [], ◌∷◌, ◌++◌, map, Option, Some, None, refl, sym, ap, ap₂, subst, ◌∙◌}
+use Rattle.std.proofs.Common.{◌≡◌, ◌≢◌, ◌⊎◌, inl, inr, Bool, true, false, List, [], ◌∷◌, ◌++◌, Option, Some, None, refl, sym, ap, ap₂, subst, ◌∙◌}
 use Rattle.std.specs.Prelude.{◌↔◌, IsTrue}
 use Rattle.std.specs.List.{flat_map}
 use Rattle.std.specs.FinMap as finite
 use Rattle.fs_semantics.specs.FileTree.{Path, Tree, path_eq}
 use Rattle.fs_semantics.specs.Entries.{IsFileAt}
-use Rattle.fs_semantics.specs.Programs.{Test, Program, Programs, Outcome, Id, Err, Mkdir, Creat, Link, Rm, Cp, Steps, If, none, next, IsFile, and_then, run, run_all}
+use Rattle.fs_semantics.specs.Programs.{Test, Program, Programs, Outcome, Id, Err, Mkdir, Creat, Link, Rm, Cp, Steps, If, none, next, and_then, run, run_all}
 use Rattle.fs_semantics.specs.Changes.{Changes, ChangesInSteps}
 use Rattle.model_semantics.specs.Words.{steps, sequence, drop_file}
 use Rattle.assumed_models.specs.LostEdits.{Writes, WritesInSteps, IsOneOf, LosesOne, drops, drops_behind, ahead, inside, all_inside, lost_steps, with_lost_edits}

@@ -1,6 +1,5 @@
 -- Edits that are lost where the whole file is written anew: a program in which the marks of edits go with the file.
 use Rattle.std.specs.Prelude.{◌≡◌, ◌⊎◌, List, [], ◌∷◌, map}
-use Rattle.std.specs.List.{AllByRecursion}
 use Rattle.fs_semantics.specs.FileTree.{Path}
 use Rattle.fs_semantics.specs.Programs.{Program, Programs, Id, Err, Mkdir, Creat, Link, Rm, Cp, Steps, If, none, next}
 use Rattle.model_semantics.specs.Words.{sequence, drop_file}
