@@ -2,7 +2,7 @@
 use Rattle.std.proofs.Common.{◌≡◌, ◌≢◌, ℕ, zero, suc, ◌+◌, ◌<◌, ◌≤◌, Bool, true, false, cond, ◌||◌, nat_lt, List, [], ◌∷◌, ◌++◌, length, map, take, drop, get_or, slice_get, Option, Some, None, codes, refl, ap, ap₂, sym, subst, ◌∙◌, arith, add-one}
 use Rattle.std.specs.Prelude.{Result, Ok, Err}
 use Rattle.std.specs.List.{AllByRecursion}
-use Rattle.std.proofs.Math.Seq.{take-suc, take-length}
+use Rattle.std.proofs.Math.Seq.{take-suc}
 use Rattle.std.proofs.lemmas.Bool.{lt-ltb}
 use Rattle.std.proofs.lemmas.List.{drop_more, drop_all, length-take-le}
 use Rattle.std.proofs.lemmas.Option.{slice_get_within}
@@ -12,7 +12,7 @@ use Rattle.rh_base.specs.declared.fault.Refusal.{Refusal}
 use Rattle.host_limits.specs.declared.limits.Limits.{Limits}
 use Rattle.host_limits.specs.Limits.{declared_limit}
 use Rattle.pp_value.specs.declared.value.Ref.{Ref}
-use Rattle.pp_value.specs.Values.{Pair, same_ref}
+use Rattle.pp_value.specs.Values.{Pair}
 use Rattle.pp_value.specs.Shown.{shown_ref}
 use Rattle.pp_eval.specs.Verdicts.{◌>>=◌, Refuses, refusal}
 use Rattle.catalog_semantics.specs.declared.catalog.Resource.{Resource}

@@ -1,7 +1,7 @@
 -- What holds of the catalog of a compiled catalog: each reference stands once, and attributes are known.
-use Rattle.std.proofs.Common.{◌≡◌, ◌≢◌, ℕ, Bool, true, false, true≢false, cond, ◌||◌, ◌&&◌, not, List, [], ◌∷◌, ◌++◌, length, map, Option, Some, None, is_eq, Less, codes, refl, ap, ap₂, sym, subst, ◌∙◌, append_assoc, inl, inr, ◌⊎◌}
-use Rattle.std.specs.Prelude.{Result, Ok, Err, is_none, nat_lt}
-use Rattle.std.specs.List.{AllByRecursion, list_any}
+use Rattle.std.proofs.Common.{◌≡◌, ◌≢◌, ℕ, Bool, true, false, true≢false, cond, ◌||◌, not, List, [], ◌∷◌, ◌++◌, length, map, Option, Some, None, is_eq, Less, codes, refl, ap, ap₂, sym, subst, ◌∙◌, append_assoc}
+use Rattle.std.specs.Prelude.{Result, Ok, Err, is_none}
+use Rattle.std.specs.List.{AllByRecursion}
 use Rattle.std.specs.List.Sorted.{IsStrictlySortedBy}
 use Rattle.std.specs.Map.{keys_of}
 use Rattle.std.specs.Str.{bytes_eq}
@@ -14,7 +14,7 @@ use Rattle.pp_value.specs.declared.value.Value.{Value}
 use Rattle.pp_value.specs.Values.{Pair, value_at, with_pair, HasDistinctKeys, same_ref, has_opaque}
 use Rattle.pp_eval.specs.Verdicts.{◌>>=◌}
 use Rattle.catalog_semantics.specs.declared.catalog.Resource.{Resource}
-use Rattle.catalog_semantics.specs.Attributes.{is_metaparameter, is_one_of, metaparameters, references_in, IsClean, AreClean}
+use Rattle.catalog_semantics.specs.Attributes.{is_metaparameter, is_one_of, metaparameters, IsClean, AreClean}
 use Rattle.catalog_semantics.specs.Catalogs.{Catalog}
 use Rattle.catalog_semantics.specs.Frames.{AreNewBehind, StandOnce, AreSoundAttributes}
 use Rattle.catalog_semantics.specs.States.{references_of, stands_in, within_size}
@@ -24,8 +24,8 @@ use Rattle.compiled_text.proofs.RefLaws.{differs}
 use Rattle.compiled_attributes.specs.Attributes.{byte_cmp, attributes_of}
 use Rattle.compiled_relations.specs.Values.{are_references, related_to}
 use Rattle.compiled_relations.specs.Related.{IsRelation}
-use Rattle.compiled_catalog.specs.Attributes.{none_is, is_large, is_unknown, with_related, related_in_turn, settled, settled_attributes}
-use Rattle.compiled_catalog.specs.Catalogs.{few_declared, few_native, resource_at, with_one, with_all, holdings_of, catalog_of}
+use Rattle.compiled_catalog.specs.Attributes.{none_is, is_large, is_unknown, with_related, settled, settled_attributes}
+use Rattle.compiled_catalog.specs.Catalogs.{few_declared, few_native, resource_at, with_one, with_all, catalog_of}
 
 one_ok : {X : Type 0} (x y : X) → ◌≡◌ {A = Result X Refusal} (Ok x) (Ok y) → x ≡ y
 one_ok x y h = cc

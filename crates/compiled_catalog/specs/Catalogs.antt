@@ -1,5 +1,5 @@
 -- The catalog of a compiled catalog.
-use Rattle.std.specs.Prelude.{ℕ, ◌+◌, Bool, false, not, nat_lt, if◌then◌else◌, List, [], ◌∷◌, ◌++◌, length, map, filter, codes, Result, Ok, Err}
+use Rattle.std.specs.Prelude.{ℕ, false, not, nat_lt, if◌then◌else◌, List, [], ◌∷◌, ◌++◌, length, map, filter, codes, Result, Ok, Err}
 use Rattle.rh_base.specs.declared.fault.Refusal.{Refusal}
 use Rattle.host_limits.specs.declared.limits.Limits.{Limits}
 use Rattle.host_limits.specs.Limits.{declared_limit, resource_limit}

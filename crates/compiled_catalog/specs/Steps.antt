@@ -1,5 +1,5 @@
 -- A catalog that grows resource by resource.
-use Rattle.std.specs.Prelude.{◌≡◌, ℕ, List, [], map, take, Result, Ok, Err}
+use Rattle.std.specs.Prelude.{◌≡◌, ℕ, List, [], map, take, Result, Ok}
 use Rattle.rh_base.specs.declared.fault.Refusal.{Refusal}
 use Rattle.pp_eval.specs.Verdicts.{◌>>=◌}
 use Rattle.catalog_semantics.specs.declared.catalog.Resource.{Resource}

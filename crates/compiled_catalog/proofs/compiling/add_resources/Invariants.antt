@@ -1,6 +1,3 @@
-use Rattle.std.proofs.Common.{◌≡◌, [], drop}
-use Rattle.compiled_catalog.specs.Catalogs.{with_all}
-use Rattle.compiled_catalog.specs.Steps.{catalog_with, HasFirst}
 use Rattle.compiled_catalog.proofs.Growing.{IsUnderway}
 use Rattle.compiled_catalog.proofs.compiling.add_resources.Given as goal
 
