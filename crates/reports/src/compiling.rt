@@ -2,10 +2,13 @@
 
 ghost use Rattle.std.specs.Prelude.{◌≡◌, ◌<◌, ◌^◌, length, IfOk, IfErr};
 ghost use Rattle.rh_base.specs.Refused.{IfRefused};
-ghost use Rattle.known_inputs.specs.Inputs.{input_of, IsKnown};
+ghost use Rattle.command_line.specs.declared.table.Role.TheVariants as role;
+ghost use Rattle.known_inputs.specs.Inputs.{bytes_of, input_of, IsCompiledOf, IsKnown};
 ghost use Rattle.reports.specs.Stages.{node_name, IsCompiled, CatalogRefusal};
 
 use catalog::Catalog;
+use compiled_catalog::catalog_of;
+use compiled_text::CompiledCatalog;
 use known_inputs::{Inputs, Known};
 use pp_compile::compile_with;
 use rh_base::{Fault, Text};
@@ -22,10 +25,11 @@ pub(crate) fn node_name(node: &Option<Text>) -> &str
 }
 
 /// The catalog of a manifest, under what the files beside it say.
-pub fn catalog_for(alloc: Global, inputs: &Inputs, known: &Known) -> Result<Catalog, Fault>
+fn manifest_catalog(alloc: Global, inputs: &Inputs, known: &Known) -> Result<Catalog, Fault>
     requires small { length (input_of inputs.now) < 2 ^ 32 }
     requires known { IsKnown inputs.now known.now }
-    ensures compiled { IfOk result (IsCompiled inputs.now known.now) }
+    requires source { IsCompiledOf (bytes_of role.Compiled inputs.now) None }
+    ensures compiled { IfOk result (IsCompiled inputs.now known.now None) }
     ensures refused { IfErr result (λ e. IfRefused e (CatalogRefusal inputs.now)) }
 {
     let text = inputs.input();
@@ -38,4 +42,23 @@ pub fn catalog_for(alloc: Global, inputs: &Inputs, known: &Known) -> Result<Cata
         &known.class_data,
         inputs.limits,
     )
+}
+
+/// The catalog of a compiled catalog, or else of the manifest, under what the files beside it say.
+pub fn catalog_for(
+    alloc: Global,
+    inputs: &Inputs,
+    known: &Known,
+    source: &Option<CompiledCatalog>,
+) -> Result<Catalog, Fault>
+    requires small { length (input_of inputs.now) < 2 ^ 32 }
+    requires known { IsKnown inputs.now known.now }
+    requires source { IsCompiledOf (bytes_of role.Compiled inputs.now) source.now }
+    ensures compiled { IfOk result (IsCompiled inputs.now known.now source.now) }
+    ensures refused { IfErr result (λ e. IfRefused e (CatalogRefusal inputs.now)) }
+{
+    match source {
+        None => manifest_catalog(alloc, inputs, known),
+        Some(compiled) => catalog_of(alloc, compiled, inputs.limits),
+    }
 }

@@ -1,0 +1,4 @@
+pub mod Assumed
+pub mod Files
+pub mod Programs
+pub mod Hosts
