@@ -1,6 +1,6 @@
 //! The report on what resources do.
 
-ghost use Rattle.std.specs.Prelude.{◌≡◌, ◌<◌, ◌++◌, length, map, None, IfOk, OnOk};
+ghost use Rattle.std.specs.Prelude.{◌≡◌, ◌<◌, ◌++◌, length, map, false, IfOk, OnOk};
 ghost use Rattle.std.specs.List.{AllByRecursion};
 ghost use Rattle.fs_lang.specs.Meaning.{program_of};
 ghost use Rattle.reports.specs.Reports.{is_assumed_at, assumed_mark, resource_program, program_lines};
@@ -18,8 +18,8 @@ use tree_text::program_text;
 use verdict_text::push_bytes;
 
 /// That none of the resources at these places is assumed, since a manifest has them.
-fn none_is_assumed(alloc: Global, known: &Known, plain: &[u32]) -> Result<Seq<bool>, NoMemory>
-    ensures { IfOk result (λ marks. marks ≡ map (is_assumed_at known.now None) plain.now) }
+fn none_is_assumed(alloc: Global, plain: &[u32]) -> Result<Seq<bool>, NoMemory>
+    ensures { IfOk result (λ marks. marks ≡ map (λ place. false) plain.now) }
 {
     let mut marks = Seq::new(alloc);
     for _place in plain {
@@ -38,7 +38,7 @@ fn assumed_at(
     ensures { IfOk result (λ marks. marks ≡ map (is_assumed_at known.now source.now) plain.now) }
 {
     match source {
-        None => none_is_assumed(alloc, known, plain),
+        None => none_is_assumed(alloc, plain),
         Some(compiled) => assumed_at_places(alloc, compiled, plain, &known.assumed),
     }
 }

@@ -1,7 +1,6 @@
-use Rattle.std.proofs.Common.{◌≡◌, None, map, take}
-use Rattle.reports.specs.Reports.{is_assumed_at}
+use Rattle.std.proofs.Common.{◌≡◌, ◌++◌, false, map, drop}
 use Rattle.reports.proofs.programs.none_is_assumed.Given as goal
 
--- the marks so far
-abbrev pub invariant-loop-_place : goal.invariant-loop-_place
-invariant-loop-_place l = l.marks ≡ map (is_assumed_at l.known None) (take l._place-index l.plain)
+-- the marks so far, with those that are left
+abbrev pub invariant-loop-place : goal.invariant-loop-place
+invariant-loop-place l = l.marks ++ map (λ place. false) (drop l._place-index l.plain) ≡ map (λ place. false) l.plain
