@@ -16,7 +16,7 @@ use fs_lang::{Path, PathFault};
 use given_links::{GivenLink, read_path};
 use model_attributes::{attributes_fit, text_at};
 use model_semantics::{Ensure, Kind, ModelFault};
-use pp_value::{Pairs, Value, distinct_pairs_are_kept};
+use pp_value::{Pairs, Value, copy_pairs, distinct_pairs_are_kept};
 use rh_base::{NoMemory, Text};
 use std::alloc::Global;
 
@@ -43,7 +43,7 @@ fn attributes_asked(alloc: Global, e: Ensure, r: &Resource) -> Result<Pairs, NoM
     if is_spared(r) && e != Ensure::Link {
         return without_replace(alloc, &r.attrs);
     }
-    r.attrs.copy(alloc)
+    copy_pairs(alloc, &r.attrs)
 }
 
 /// The same, where a copy is refused.
