@@ -1,11 +1,7 @@
 //! What is answered of the native resources of compiled catalogs.
 
-ghost use Rattle.std.specs.Prelude.{◌<◌, length, IfOk};
-ghost use Rattle.std.specs.List.{AllByRecursion};
-
+use crate::places::native_places;
 use assumed_text::{Assumptions, assumptions_from_json};
-use catalog::Catalog;
-use catalog_semantics::Sort;
 use compiled_catalog::catalog_of;
 use compiled_models::{assumed_at_places, count_assumed, native_programs};
 use compiled_text::{CompiledCatalog, compiled_from_json};
@@ -13,7 +9,7 @@ use fs_lang::{Path, Program};
 use given_links::GivenLink;
 use host_limits::Limits;
 use pkg_listing::{Listing, listing_from_json};
-use rh_base::{NoMemory, Seq};
+use rh_base::Seq;
 use std::alloc::Global;
 use std::test::Fail;
 use test_rows::refused;
@@ -54,27 +50,6 @@ fn links(alloc: Global, told: &[(&str, &str)]) -> Result<Seq<GivenLink>, Fail> {
     Ok(links)
 }
 
-/// The places of native resources.
-fn natives(
-    alloc: Global,
-    texts: &CompiledCatalog,
-    catalog: &Catalog,
-) -> Result<Seq<u32>, NoMemory>
-    ensures told { IfOk result (λ plain. AllByRecursion (λ i. i < length texts.now.resources) plain) }
-    ensures made { IfOk result (λ plain. AllByRecursion (λ i. i < length catalog.now.resources) plain) }
-{
-    let told = texts.resources().len();
-    let mut plain = Seq::new(alloc);
-    for place in 0..catalog.count() {
-        let is_told = (place as usize) < told;
-        let is_plain = catalog.get(place).sort == Sort::Plain;
-        if is_told && is_plain {
-            plain.push(place)?;
-        }
-    }
-    Ok(plain)
-}
-
 /// A line for each program, behind a star where it is assumed.
 fn shown(alloc: Global, programs: &[Program], marks: &[bool]) -> Result<String, Fail> {
     let mut bytes = Vec::new(alloc);
@@ -97,7 +72,7 @@ fn programs_shown(
     links: &[GivenLink],
 ) -> Result<String, Fail> {
     let catalog = catalog_of(alloc, texts, Limits::Host)?;
-    let plain = natives(alloc, texts, &catalog)?;
+    let plain = native_places(alloc, texts, &catalog)?;
     let marks = assumed_at_places(alloc, texts, plain.as_slice(), assumptions)?;
     let listing = listing(alloc)?;
     let made = native_programs(
@@ -138,7 +113,7 @@ pub fn assumed_of(alloc: Global, resources: &str, assumed: &str) -> Result<usize
     let texts = compiled(alloc, resources)?;
     let assumptions = assumptions(alloc, assumed)?;
     let catalog = catalog_of(alloc, &texts, Limits::Host)?;
-    let plain = natives(alloc, &texts, &catalog)?;
+    let plain = native_places(alloc, &texts, &catalog)?;
     Ok(count_assumed(
         alloc,
         &texts,

@@ -11,7 +11,10 @@ mod edits;
 mod files;
 #[cfg(test)]
 mod links;
+mod places;
 #[cfg(test)]
 mod refusals;
 #[cfg(test)]
 mod types;
+
+pub use places::native_places;
