@@ -206,13 +206,14 @@ pub fn known_inputs(
     path_readings();
     let told = told_of(alloc, inputs)?;
     let named = named_of(alloc, inputs, &told)?;
-    check_edits(alloc, &[], &inputs.wanted, named.assumed.rows())?;
+    check_edits(alloc, &[], &inputs.wanted, &named.compiled, &named.assumed)?;
     let given = given_of(alloc, inputs.bytes(Role::Given))?;
     check_edits(
         alloc,
         given.links.as_slice(),
         &inputs.wanted,
-        named.assumed.rows(),
+        &named.compiled,
+        &named.assumed,
     )?;
     let tree = beginning(alloc, named.tree, given.folders.as_slice())?;
     let known = Known {
