@@ -120,7 +120,7 @@ const REFUSED: [Refused; 20] = [
         host::VALUES,
         ASSUMED,
         r#"{"version":1,"resources":{"File":"none"}}"#,
-        "refused 51 at 0: Service[s] enable (/etc/puppet/hosts/h09-values.pp:9)\n",
+        "refused 55 at 0: Service[s] (/etc/puppet/hosts/h09-values.pp:9)\n",
     ),
     (
         host::VALUES,
