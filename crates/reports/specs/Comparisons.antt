@@ -66,7 +66,7 @@ other_names_of m = names_in m.other_catalog m.other_graph.plain
 -- What is told of both.
 pub record IsComparison (conflicts : Option ℕ) (i : Inputs) (report : Report) : Type 0 where
   pub of : AreModelled i
-  pub told : IsComparedTold (terms_of i of.known conflicts) (notes_of i of.known of.source of.catalog of.graph.plain) (notes_of i of.known of.other_source of.other_catalog of.other_graph.plain)
+  pub told : IsComparedTold (terms_of i of.known conflicts) (notes_of i of.known of.source of.graph.plain) (notes_of i of.known of.other_source of.other_graph.plain)
       (names_of of) of.programs of.graph.order (other_names_of of) of.other_programs of.other_graph.order report
 
 -- the programs of both are too large to be compared

@@ -16,6 +16,7 @@ use Rattle.reports.specs.declared.question.Question.{Question}
 use Rattle.reports.specs.declared.question.Question.TheVariants as question
 use Rattle.verdict_report.specs.declared.report.Report.{Report}
 use Rattle.compiled_text.specs.Compiled.{Compiled}
+use Rattle.compiled_text.specs.declared.catalog.CompiledResource.{CompiledResource}
 use Rattle.reports.specs.Stages.{IsModelled, ProgramsRefusal}
 use Rattle.reports.specs.Terms.{terms_of, notes_of, asked_on, wanted_in}
 use Rattle.reports.specs.Reports.{program_lines}
@@ -30,25 +31,32 @@ use Rattle.reports.specs.Explanations.{IsExplanation}
 abbrev pub names_in : Catalog → List ℕ → List (List ℕ)
 names_in c plain = map (reference_at c) plain
 
--- the references of the plain resources, as they are written in Puppet
+-- the reference of a resource, as it is written in Puppet
 abbrev pub quoted_of : Option Resource → List ℕ
 quoted_of None = []
 quoted_of (Some r) = quoted_ref r.id
 
-abbrev pub quoted_at : Catalog → ℕ → List ℕ
-quoted_at c place = quoted_of (slice_get c.resources place)
+-- the same by the type and the title that a compiled catalog tells, be it a file that is put together of fragments
+abbrev pub quoted_as_told : Option CompiledResource → List ℕ
+quoted_as_told None = []
+quoted_as_told (Some r) = quoted_ref r.id
 
-abbrev pub quoted_names_in : Catalog → List ℕ → List (List ℕ)
-quoted_names_in c plain = map (quoted_at c) plain
+abbrev pub quoted_at : Option Compiled → Catalog → ℕ → List ℕ
+quoted_at None c place = quoted_of (slice_get c.resources place)
+quoted_at (Some m) c place = quoted_as_told (slice_get m.resources place)
+
+-- the references of the plain resources, as they are written in Puppet
+abbrev pub quoted_names_in : Option Compiled → Catalog → List ℕ → List (List ℕ)
+quoted_names_in m c plain = map (quoted_at m c) plain
 
 -- this is told of the programs
 abbrev pub IsToldOf : Question → Inputs → Known → Option Compiled → Catalog → Graph → List Program → Report → Type 0
 IsToldOf question.Programs i k m c g es report = (report.status ≡ 0) × (report.text ≡ program_lines k m c g.plain es)
-IsToldOf (question.Verdict form conflicts) i k m c g es report = IsTold form (terms_of i k conflicts) (notes_of i k m c g.plain) (names_in c g.plain) es g.order report
+IsToldOf (question.Verdict form conflicts) i k m c g es report = IsTold form (terms_of i k conflicts) (notes_of i k m g.plain) (names_in c g.plain) es g.order report
 IsToldOf question.Replay i k m c g es report = (report.status ≡ 0) × IsReplayed (bytes_of role.Order i) k.tree c g es report.text
-IsToldOf (question.Explain conflicts) i k m c g es report = IsExplanation (asked_on i k conflicts m c g.plain) i m c g es report
-IsToldOf (question.Repair conflicts) i k m c g es report = IsRepairTold (terms_of i k conflicts) (notes_of i k m c g.plain) (quoted_names_in c g.plain) es g.order report
-IsToldOf (question.Ensures conflicts) i k m c g es report = IsEntryTold (terms_of i k conflicts) (notes_of i k m c g.plain) (wanted_in i k) (names_in c g.plain) es g.order report
+IsToldOf (question.Explain conflicts) i k m c g es report = IsExplanation (asked_on i k conflicts m g.plain) i m c g es report
+IsToldOf (question.Repair conflicts) i k m c g es report = IsRepairTold (terms_of i k conflicts) (notes_of i k m g.plain) (quoted_names_in m c g.plain) es g.order report
+IsToldOf (question.Ensures conflicts) i k m c g es report = IsEntryTold (terms_of i k conflicts) (notes_of i k m g.plain) (wanted_in i k) (names_in c g.plain) es g.order report
 
 -- nothing is told of them, for this reason
 abbrev pub HasNoAnswer : Question → Inputs → Known → Option Compiled → Catalog → Graph → List Program → Refusal → Type 0

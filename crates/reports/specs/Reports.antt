@@ -1,6 +1,5 @@
 -- What is told of a catalog, of its graph, and of what its resources do.
 use Rattle.std.specs.Prelude.{◌≡◌, ℕ, Bool, true, false, List, [], ◌∷◌, ◌++◌, Option, Some, None, codes}
-use Rattle.std.specs.List.{list_any}
 use Rattle.orders.specs.Relation.{comes}
 use Rattle.fs_semantics.specs.Programs.{Program}
 use Rattle.tree_text.specs.ProgramText.{program_text}
@@ -11,8 +10,8 @@ use Rattle.dep_graph.specs.declared.answer.Graph.{Graph}
 use Rattle.known_inputs.specs.declared.inputs.Inputs.{Inputs}
 use Rattle.known_inputs.specs.declared.inputs.Known.{Known}
 use Rattle.compiled_text.specs.Compiled.{Compiled}
-use Rattle.compiled_models.specs.Programs.{is_assumed, natives_at}
-use Rattle.reports.specs.Stages.{setting_of, IsCompiled, IsPlanned}
+use Rattle.compiled_models.specs.Assumed as assumed
+use Rattle.reports.specs.Stages.{IsCompiled, IsPlanned}
 
 -- The text of the catalog that the files of a request give.
 pub record IsCatalogReport (i : Inputs) (report : List ℕ) : Type 0 where
@@ -31,22 +30,22 @@ pub record IsGraphReport (i : Inputs) (report : List ℕ) : Type 0 where
   pub planned : IsPlanned i known source catalog graph
   pub text : report ≡ graph_text catalog graph.plain (comes graph.order)
 
--- behind a resource, that its program is assumed
+-- The program of the resource at a place is assumed. Nothing is assumed of a manifest's resources.
+abbrev pub is_assumed_at : Known → Option Compiled → ℕ → Bool
+is_assumed_at k None place = false
+is_assumed_at k (Some m) place = assumed.is_assumed_at m.resources k.assumed place
+
+-- behind the reference of a resource, that its program is assumed
 abbrev pub assumed_mark : Bool → List ℕ
 assumed_mark true = codes " (assumed)"
 assumed_mark false = []
 
--- the program of the resource at a place is assumed; that of a manifest's is not
-abbrev pub is_assumed_at : Known → Option Compiled → Catalog → ℕ → Bool
-is_assumed_at k None c place = false
-is_assumed_at k (Some m) c place = list_any (is_assumed (setting_of k m)) (natives_at m.resources c.resources (place ∷ []))
-
 -- a line for a resource, and one for its program
-abbrev pub resource_program : Known → Option Compiled → Catalog → ℕ → Program → List ℕ
-resource_program k m c place e = printed_at c place ++ (assumed_mark (is_assumed_at k m c place) ++ (codes "\n" ++ (program_text e ++ codes "\n")))
+abbrev pub resource_program : Bool → Catalog → ℕ → Program → List ℕ
+resource_program is_assumed c place e = printed_at c place ++ (assumed_mark is_assumed ++ (codes "\n" ++ (program_text e ++ codes "\n")))
 
 -- the lines of the resources at these places, each with its program
 abbrev pub program_lines : Known → Option Compiled → Catalog → List ℕ → List Program → List ℕ
 program_lines k m c [] es = []
 program_lines k m c (place ∷ plain) [] = []
-program_lines k m c (place ∷ plain) (e ∷ es) = resource_program k m c place e ++ program_lines k m c plain es
+program_lines k m c (place ∷ plain) (e ∷ es) = resource_program (is_assumed_at k m place) c place e ++ program_lines k m c plain es

@@ -5,6 +5,7 @@ use Rattle.rh_base.specs.declared.fault.Refusal.{Refusal}
 use Rattle.orders.specs.Relation.{Comes, IsStrictOrder}
 use Rattle.fs_semantics.specs.FileTree.{Path}
 use Rattle.fs_semantics.specs.Programs.{Program}
+use Rattle.host_limits.specs.declared.limits.Limits.{Limits}
 use Rattle.given_links.specs.declared.links.GivenLink.{GivenLink}
 use Rattle.given_links.specs.Reading.{program_read_as}
 use Rattle.catalog_semantics.specs.Catalogs.{Catalog}
@@ -28,15 +29,15 @@ node_name (Some name) = name
 
 -- ---- what is asked about: a manifest, or a catalog that Puppet compiled
 
--- the catalog of the manifest, under what the files beside it say; or that of the compiled catalog
-abbrev pub HasCatalog : Inputs → Known → Option Compiled → Catalog → Type 0
-HasCatalog i k None c = IsCatalogOf (input_of i) k.facts (node_name i.node) k.class_data i.limits (Ok c)
-HasCatalog i k (Some m) c = catalog_of m i.limits ≡ Ok c
+-- The manifest of this text has this catalog, at a node of this name and under what the files beside it say; or the compiled catalog has it.
+abbrev pub HasCatalog : List ℕ → List ℕ → Limits → Known → Option Compiled → Catalog → Type 0
+HasCatalog text node limits k None c = IsCatalogOf text k.facts node k.class_data limits (Ok c)
+HasCatalog text node limits k (Some m) c = catalog_of m limits ≡ Ok c
 
 -- it has none, and this is the refusal
-abbrev pub HasNoCatalog : Inputs → Known → Option Compiled → Refusal → Type 0
-HasNoCatalog i k None r = IsCatalogRefusal (input_of i) k.facts (node_name i.node) k.class_data i.limits r
-HasNoCatalog i k (Some m) r = catalog_of m i.limits ≡ Err r
+abbrev pub HasNoCatalog : List ℕ → List ℕ → Limits → Known → Option Compiled → Refusal → Type 0
+HasNoCatalog text node limits k None r = IsCatalogRefusal text k.facts node k.class_data limits r
+HasNoCatalog text node limits k (Some m) r = catalog_of m limits ≡ Err r
 
 -- ---- what each stage gives
 
@@ -44,7 +45,7 @@ HasNoCatalog i k (Some m) r = catalog_of m i.limits ≡ Err r
 pub record IsCompiled (i : Inputs) (k : Known) (m : Option Compiled) (c : Catalog) : Type 0 where
   pub known : IsKnown i k
   pub source : IsCompiledOf (bytes_of role.Compiled i) m
-  pub catalog : HasCatalog i k m c
+  pub catalog : HasCatalog (input_of i) (node_name i.node) i.limits k m c
 
 -- The catalog has this graph: its real plain resources, and which of them comes before which.
 pub record IsPlanned (i : Inputs) (k : Known) (m : Option Compiled) (c : Catalog) (g : Graph) : Type 0 where
@@ -86,7 +87,7 @@ pub record IsModelled (i : Inputs) (k : Known) (m : Option Compiled) (c : Catalo
 -- that of the files but the manifest, and then that of the manifest or of the compiled catalog
 pub data CatalogRefusal (i : Inputs) (r : Refusal) : Type 0 where
   unread : FirstUnread i r → CatalogRefusal i r
-  uncompiled : (k : Known) (m : Option Compiled) → IsKnown i k → IsCompiledOf (bytes_of role.Compiled i) m → HasNoCatalog i k m r → CatalogRefusal i r
+  uncompiled : (k : Known) (m : Option Compiled) → IsKnown i k → IsCompiledOf (bytes_of role.Compiled i) m → HasNoCatalog (input_of i) (node_name i.node) i.limits k m r → CatalogRefusal i r
 
 -- then that of the graph
 pub data GraphRefusal (i : Inputs) (r : Refusal) : Type 0 where

@@ -9,10 +9,8 @@ use Rattle.wanted_entry.specs.declared.wanted.Wanted.{Wanted}
 use Rattle.known_inputs.specs.declared.inputs.Inputs.{Inputs}
 use Rattle.known_inputs.specs.declared.inputs.Known.{Known}
 use Rattle.known_inputs.specs.Inputs.{Bytes, bytes_of, wanted_of}
-use Rattle.catalog_semantics.specs.Catalogs.{Catalog}
 use Rattle.compiled_text.specs.Compiled.{Compiled}
-use Rattle.compiled_models.specs.Programs.{count_assumed, natives_at}
-use Rattle.reports.specs.Stages.{setting_of}
+use Rattle.compiled_models.specs.Assumed.{count_assumed}
 use Rattle.reports.specs.declared.terms.Asked.{Asked}
 
 -- from the trees in which the given folders stand, within the limits and the conflicts that are given
@@ -24,10 +22,10 @@ abbrev pub given_line : Bytes → List Path → List ℕ
 given_line None folders = []
 given_line (Some bytes) folders = codes "given " ++ (decimal (length folders) ++ codes "\n")
 
--- how many of the resources at these places are assumed
-abbrev pub assumed_count : Known → Option Compiled → Catalog → List ℕ → ℕ
-assumed_count k None c plain = 0
-assumed_count k (Some m) c plain = count_assumed (setting_of k m) (natives_at m.resources c.resources plain)
+-- how many of the resources at these places are assumed; of a manifest's none is
+abbrev pub assumed_count : Known → Option Compiled → List ℕ → ℕ
+assumed_count k None plain = 0
+assumed_count k (Some m) plain = count_assumed m.resources k.assumed plain
 
 -- how many resources are assumed, where a text of assumptions is named
 abbrev pub assumed_line : Bytes → ℕ → List ℕ
@@ -35,12 +33,12 @@ assumed_line None count = []
 assumed_line (Some bytes) count = codes "assumed " ++ (decimal count ++ codes "\n")
 
 -- the lines behind the number of resources
-abbrev pub notes_of : Inputs → Known → Option Compiled → Catalog → List ℕ → List ℕ
-notes_of i k m c plain = assumed_line (bytes_of role.Assume i) (assumed_count k m c plain) ++ given_line (bytes_of role.Given i) k.given.folders
+abbrev pub notes_of : Inputs → Known → Option Compiled → List ℕ → List ℕ
+notes_of i k m plain = assumed_line (bytes_of role.Assume i) (assumed_count k m plain) ++ given_line (bytes_of role.Given i) k.given.folders
 
 -- both
-abbrev pub asked_on : Inputs → Known → Option ℕ → Option Compiled → Catalog → List ℕ → Asked
-asked_on i k conflicts m c plain = record { terms = terms_of i k conflicts; notes = notes_of i k m c plain }
+abbrev pub asked_on : Inputs → Known → Option ℕ → Option Compiled → List ℕ → Asked
+asked_on i k conflicts m plain = record { terms = terms_of i k conflicts; notes = notes_of i k m plain }
 
 -- the entry that is wanted, its path read through the given links
 abbrev pub wanted_in : Inputs → Known → Wanted
