@@ -1,5 +1,5 @@
 -- What the native resources of a compiled catalog do.
-use Rattle.std.specs.Prelude.{ℕ, Bool, true, false, not, ◌&&◌, ◌||◌, if◌then◌else◌, List, [], ◌∷◌, ◌++◌, length, map, filter, slice_get, codes, Option, Some, None, is_some, option_and_then, Result, Ok, Err}
+use Rattle.std.specs.Prelude.{ℕ, Bool, true, false, not, ◌&&◌, ◌||◌, if◌then◌else◌, List, [], ◌∷◌, ◌++◌, map, slice_get, codes, Option, Some, None, option_and_then, Result, Ok, Err}
 use Rattle.std.specs.List.{list_any, flat_map}
 use Rattle.std.specs.Option.{option_or}
 use Rattle.std.specs.Str.{bytes_eq}
@@ -67,10 +67,6 @@ program_assumed r None = None
 program_assumed r (Some Nothing) = Some (Ok Id)
 program_assumed r (Some Refused) = None
 program_assumed r (Some (Does b)) = Some (program_of_behavior r b)
-
--- its program comes from an assumption
-abbrev pub is_assumed : Setting → Native → Bool
-is_assumed s n = is_some (program_assumed n.resource (assumed_of s n))
 
 -- ---- what does nothing
 
@@ -209,10 +205,6 @@ programs_behind s edits seen (n ∷ ns) =
 -- What native resources do, one after another, read through the links that every host has; or the first refusal.
 abbrev pub programs : Setting → List Native → Result (List Program) Refusal
 programs s ns = programs_behind s (edits_of s ns) [] ns
-
--- how many of them are assumed
-abbrev pub count_assumed : Setting → List Native → ℕ
-count_assumed s ns = length (filter (is_assumed s) ns)
 
 -- ---- the native resources of a catalog
 

@@ -2,12 +2,15 @@
 #![tactic(auto)]
 
 mod attributes;
+mod counted;
 mod edits;
 mod files;
 mod host;
 mod models;
 mod natives;
+mod premises;
 mod programs;
 mod refusals;
 
+pub use counted::{assumed_at_places, count_assumed};
 pub use programs::native_programs;

@@ -21,8 +21,15 @@ use model_names::Model;
 use model_semantics::{Cause, Kind, ModelFault, States};
 use pkg_listing::Listing;
 use res_models::model_at;
-use rh_base::Text;
+use rh_base::{NoMemory, Text};
 use std::alloc::Global;
+
+/// A text.
+fn text_of(alloc: Global, text: &str) -> Result<Text, NoMemory>
+    ensures { IfOk result (λ t. t ≡ text.now) }
+{
+    Ok(Text::from_string(String::from_str(alloc, text)?))
+}
 
 /// Whether a file that is put together of fragments can be told.
 fn filled(alloc: Global, host: &Host<'_>, n: &Native<'_>) -> Result<(), ModelFault>
@@ -31,10 +38,7 @@ fn filled(alloc: Global, host: &Host<'_>, n: &Native<'_>) -> Result<(), ModelFau
 {
     match why_unfilled(alloc, host.catalog, &host.fragments, n.text)? {
         None => Ok(()),
-        Some(name) => {
-            let text = Text::from_string(String::from_str(alloc, name)?);
-            Err(ModelFault::Because(Cause::Attribute(text)))
-        }
+        Some(name) => Err(ModelFault::Because(Cause::Attribute(text_of(alloc, name)?))),
     }
 }
 

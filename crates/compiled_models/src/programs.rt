@@ -16,9 +16,10 @@ ghost use Rattle.compiled_models.specs.Programs.{idle_types, is_idle, program_as
 ghost use Rattle.compiled_models.specs.Hosts.{IsSound, setting_of, setting_with, native_of, IsTold, AddsDone, AddsProgram};
 
 use crate::edits::edits_of;
-use crate::host::{Host, assumed_at};
+use crate::host::Host;
 use crate::models::model_of;
 use crate::natives::{Native, native_at};
+use crate::premises::assumed_at;
 use crate::refusals::fault_of;
 use assumed_models::{Edits, program_of_behavior, with_lost_edits};
 use assumed_text::{Assumed, Assumptions};
@@ -100,7 +101,7 @@ fn program_told(
     requires { IsSound host.now }
     ensures { IsTold (program_told (setting_of host.now) (native_of n.now)) result }
 {
-    let assumed = assumed_at(alloc, host, n.place as usize, n.text)?;
+    let assumed = assumed_at(alloc, &host.premises, n.place as usize, n.text)?;
     if let Some(program) = program_assumed(alloc, n.resource, assumed)? {
         return Ok(Some(program));
     }
