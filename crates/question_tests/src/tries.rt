@@ -116,6 +116,12 @@ fn pairs_without_an_order(rt: HostRuntime) -> Result<(), Fail> {
             (0, 1),
             "from /a /b: 0 1, 1 0",
         ),
+        // a folder that nothing makes stands, and those above it, which one makes
+        (
+            "dir /etc | dir /etc/default | put /etc/default/a x | put /etc/d/b y",
+            (1, 2),
+            "from /etc /etc/d: 1 2 0 3, 2 1 0 3",
+        ),
         // programs that commute, one program, and a number that is none
         ("put /a x | put /b y", (0, 1), "none"),
         ("dir /etc | put /etc/a x", (1, 1), "none"),
