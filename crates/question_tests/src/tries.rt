@@ -63,7 +63,7 @@ fn found(alloc: Global, words: &str, pair: (u32, u32)) -> Result<String, Fail> {
 
 #[test]
 fn pairs_without_an_order(rt: HostRuntime) -> Result<(), Fail> {
-    let rows: [(&str, (u32, u32), &str); 14] = [
+    let rows: [(&str, (u32, u32), &str); 15] = [
         // a missing arrow, which the empty tree shows
         ("dir /etc | put /etc/a x", (0, 1), "from: 0 1, 1 0"),
         ("dir /etc | put /etc/a x", (1, 0), "from: 1 0, 0 1"),
