@@ -1,1 +1,5 @@
+pub mod AlikeLaws
+pub mod AttributeLaws
+pub mod NativeLaws
 pub mod ProgramLaws
+pub mod SparedLaws

@@ -6,11 +6,14 @@ mod counted;
 mod edits;
 mod files;
 mod host;
+mod laws;
 mod models;
 mod natives;
 mod premises;
 mod programs;
 mod refusals;
+mod told;
 
 pub use counted::{assumed_at_places, count_assumed};
+pub use laws::{assumed_resources, ordinary_resources, what_stands_is_spared};
 pub use programs::native_programs;

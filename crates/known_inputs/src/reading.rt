@@ -144,6 +144,7 @@ fn beginning(alloc: Global, told: Option<Tree>, folders: &[Path]) -> Result<Tree
 }
 
 /// Facts, packages and class data.
+#[derive(Drop)]
 struct Told {
     facts: Value,
     listing: Listing,
@@ -151,6 +152,7 @@ struct Told {
 }
 
 /// A tree, what is assumed, and a compiled catalog.
+#[derive(Drop)]
 struct Named {
     tree: Option<Tree>,
     assumed: Assumptions,
