@@ -195,7 +195,10 @@ fn named_of(alloc: Global, inputs: &Inputs, told: &Told) -> Result<Named, Fault>
 /// What the files of a request say, but for a manifest, with the compiled catalog that one of them is; or the refusal of the first that says
 /// nothing.
 #[tactic(auto, using(crate::proofs::ReadingLaws::edits_refused, crate::proofs::ReadingLaws::given_refused, crate::proofs::ReadingLaws::edits_as_read_refused, crate::proofs::ReadingLaws::lack_refused, crate::proofs::ReadingLaws::nothing_is_read))]
-pub fn known_inputs(alloc: Global, inputs: &Inputs) -> Result<(Known, Option<CompiledCatalog>), Fault>
+pub fn known_inputs(
+    alloc: Global,
+    inputs: &Inputs,
+) -> Result<(Known, Option<CompiledCatalog>), Fault>
     ensures known { IfOk result (λ r. IsKnown inputs.now r.0) }
     ensures compiled { IfOk result (λ r. IsCompiledOf (bytes_of role.Compiled inputs.now) r.1) }
     ensures refused { IfErr result (λ e. IfRefused e (FirstUnread inputs.now)) }

@@ -96,7 +96,7 @@ terms_for m = terms_of m.loaded.inputs m.known m.loaded.conflicts
 
 -- the lines behind the number of resources
 abbrev pub notes_for : {run : Run} {a : Ask} → Modelled run a → List ℕ
-notes_for m = notes_of m.loaded.inputs m.known m.source m.catalog m.graph.plain
+notes_for m = notes_of m.loaded.inputs m.known m.source m.graph.plain
 
 -- the entry that is wanted, its path read through the given links
 abbrev pub wanted_for : {run : Run} {a : Ask} → Modelled run a → Wanted
@@ -178,7 +178,7 @@ pub record SpendsOnEntry (run : Run) : Type 0 where
 pub record IsMended (run : Run) : Type 0 where
   pub of : Modelled run ask.Repair
   pub report : Report
-  pub repaired : TellsArrows (terms_for of) (notes_for of) (quoted_names_in of.catalog of.graph.plain) of.programs of.graph.order report
+  pub repaired : TellsArrows (terms_for of) (notes_for of) (quoted_names_in of.source of.catalog of.graph.plain) of.programs of.graph.order report
   pub written : Appends report.text run.out
 
 -- Status 3 of a repair: the conflicts that the words give were spent on whether the graph is deterministic with some arrows.
@@ -212,10 +212,10 @@ terms_for_both c = terms_of c.loaded.inputs c.of.known c.loaded.conflicts
 
 -- the lines behind the number of resources of the left one, and of the right one
 abbrev pub left_notes : {run : Run} → IsCompared run → List ℕ
-left_notes c = notes_of c.loaded.inputs c.of.known c.of.source c.of.catalog c.of.graph.plain
+left_notes c = notes_of c.loaded.inputs c.of.known c.of.source c.of.graph.plain
 
 abbrev pub right_notes : {run : Run} → IsCompared run → List ℕ
-right_notes c = notes_of c.loaded.inputs c.of.known c.of.other_source c.of.other_catalog c.of.other_graph.plain
+right_notes c = notes_of c.loaded.inputs c.of.known c.of.other_source c.of.other_graph.plain
 
 -- Status 0 of a comparison: both graphs are deterministic, and from every file tree in which the given folders stand all allowed orders
 -- of both end in one same tree or all in error.

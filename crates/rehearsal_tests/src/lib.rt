@@ -4,11 +4,23 @@
 #[cfg(test)]
 mod asked;
 #[cfg(test)]
+mod assumed;
+#[cfg(test)]
 mod check;
 #[cfg(test)]
 mod class_data;
 #[cfg(test)]
 mod common;
+#[cfg(test)]
+mod compiled;
+#[cfg(test)]
+mod compiled_equal;
+#[cfg(test)]
+mod compiled_hosts;
+#[cfg(test)]
+mod compiled_refusals;
+#[cfg(test)]
+mod compiled_sizes;
 #[cfg(test)]
 mod differences;
 #[cfg(test)]
