@@ -28,8 +28,8 @@ use Rattle.assumed_models.specs.LostEdits.{Writes, with_lost_edits}
 use Rattle.compiled_attributes.specs.Attributes.{is_noop}
 use Rattle.compiled_attributes.specs.Fragments.{why_unfilled}
 use Rattle.compiled_models.specs.Assumed.{gives_program}
-use Rattle.compiled_models.specs.Files.{is_spared, without_replace, attributes_asked, row_of, file_model}
-use Rattle.compiled_models.specs.Programs.{Setting, Native, Done, idle_types, assumed_of, program_assumed, is_idle, program_told, edits_by, edits_of, is_edited, copies_edited, attributes_with, asked_of, native_model, model_of_kind, model_of, done_by, done_with, done_of, program_among, or_refused, programs_with, programs_behind, programs}
+use Rattle.compiled_models.specs.Files.{is_spared, without_replace, attributes_asked, row_of}
+use Rattle.compiled_models.specs.Programs.{Setting, Native, idle_types, assumed_of, program_assumed, is_idle, program_told, edits_by, edits_of, is_edited, attributes_with, asked_of, native_model, model_of_kind, model_of, done_by, done_with, done_of, program_among, or_refused, programs_with, programs_behind, programs}
 use Rattle.compiled_models.specs.Alike.{IsOrdinary, done_as, read_through, AreAlike, paths_of}
 
 -- ---- what is assumed
@@ -160,7 +160,7 @@ module _ (kept : (marks : Path → List Path) (e : Program) → ((p : Path) → 
       at : (v : Result Model Cause)
           → ((now : List Path) → AreAlike (programs_behind s [] now ns) (read_through s.links (manifest.programs_behind (paths_of s.links) now s.listing (map (λ n. n.resource) ns))))
           → AreAlike (programs_with (program_among s [] n) (or_refused n (done_as v)) (λ places. programs_behind s [] (seen ++ places) ns))
-            (read_through s.links (manifest.programs_with (manifest.or_refused n.resource v) (λ place. manifest.programs_behind (paths_of s.links) (seen ++ place ∷ []) s.listing (map (λ n. n.resource) ns))))
+          (read_through s.links (manifest.programs_with (manifest.or_refused n.resource v) (λ place. manifest.programs_behind (paths_of s.links) (seen ++ place ∷ []) s.listing (map (λ n. n.resource) ns))))
       at (Ok m) later =
           first_alike s.links (sequence m.steps) (program_among s [] n (sequence m.steps)) (programs_behind s [] (seen ++ m.place ∷ []) ns) (manifest.programs_behind (paths_of s.links) (seen ++ m.place ∷ []) s.listing (map (λ n. n.resource) ns))
           (kept (marks_of []) (program_read_as s.links (sequence m.steps)) (λ p w. refl)) (later (seen ++ m.place ∷ []))

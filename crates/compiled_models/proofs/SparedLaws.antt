@@ -1,5 +1,5 @@
 -- What stands already stays.
-use Rattle.std.proofs.Common.{◌≡◌, Bool, true, false, cond, Some, codes, ◌++◌, ap}
+use Rattle.std.proofs.Common.{◌≡◌, true, false, cond, Some, codes, ◌++◌, ap}
 use Rattle.fs_semantics.specs.FileTree.{Path, Tree, is_none}
 use Rattle.fs_semantics.specs.Programs.{Program, Creat, Cp, run}
 use Rattle.model_semantics.specs.declared.states.FileState.{FileState}

@@ -1,5 +1,5 @@
 -- What a native resource has in common with the same resource of a manifest.
-use Rattle.std.specs.Prelude.{◌≡◌, ◌∷◌, Bool, true, false, List, [], map, Option, None, is_some, Result, Ok, Err}
+use Rattle.std.specs.Prelude.{◌≡◌, ◌∷◌, Bool, true, false, List, [], map, None, is_some, Result, Ok, Err}
 use Rattle.rh_base.specs.declared.fault.Refusal.{Refusal}
 use Rattle.fs_semantics.specs.FileTree.{Path}
 use Rattle.fs_semantics.specs.Programs.{Program}

@@ -4,7 +4,7 @@ use Rattle.std.specs.List.{list_any, flat_map}
 use Rattle.std.specs.Option.{option_or}
 use Rattle.std.specs.Str.{bytes_eq}
 use Rattle.rh_base.specs.declared.fault.Refusal.{Refusal}
-use Rattle.fs_semantics.specs.FileTree.{Path, is_among, path_eq}
+use Rattle.fs_semantics.specs.FileTree.{Path, path_eq}
 use Rattle.fs_semantics.specs.Programs.{Program, Id}
 use Rattle.fs_lang.specs.Reading.{path_in}
 use Rattle.pp_value.specs.declared.value.Value.TheVariants as v
@@ -30,7 +30,6 @@ use Rattle.compiled_text.specs.declared.catalog.CompiledResource.{CompiledResour
 use Rattle.compiled_attributes.specs.Fragments.{why_unfilled}
 use Rattle.compiled_attributes.specs.Attributes.{is_noop}
 use Rattle.compiled_relations.specs.Finding.{told}
-use Rattle.assumed_text.specs.declared.assumed.Behavior.{Behavior}
 use Rattle.assumed_text.specs.declared.assumed.Assumed.{Assumed}
 use Rattle.assumed_text.specs.declared.assumed.Assumed.TheVariants.{Nothing, Refused, Does}
 use Rattle.assumed_text.specs.declared.assumed.Assumption.{Assumption}

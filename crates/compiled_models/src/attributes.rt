@@ -122,12 +122,7 @@ fn copies_edited(
 }
 
 /// Whether the attributes of a file are accepted, or one is refused. Mostly they are asked about as they stand.
-fn file_fits(
-    alloc: Global,
-    refused: bool,
-    e: Ensure,
-    r: &Resource,
-) -> Result<(), ModelFault>
+fn file_fits(alloc: Global, refused: bool, e: Ensure, r: &Resource) -> Result<(), ModelFault>
     ensures { Meets (λ done. done) (attributes_fit kind.File e (attributes_with refused (attributes_asked e r.now))) result }
 {
     if !refused {
@@ -157,11 +152,7 @@ pub(crate) fn native_fits(
             let refused = copies_edited(alloc, links, edits, place, r)?;
             file_fits(alloc, refused, e, r)
         }
-        Kind::Package
-        | Kind::User
-        | Kind::Group
-        | Kind::Service
-        | Kind::Cron
-        | Kind::Key => attributes_fit(alloc, k, e, &r.attrs),
+        Kind::Package | Kind::User | Kind::Group | Kind::Service | Kind::Cron | Kind::Key =>
+            attributes_fit(alloc, k, e, &r.attrs),
     }
 }

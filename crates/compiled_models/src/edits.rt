@@ -17,12 +17,7 @@ use rh_base::{NoMemory, Seq};
 use std::alloc::Global;
 
 /// The edit of a file by a resource.
-fn edit_at(
-    alloc: Global,
-    links: &[GivenLink],
-    n: &Native<'_>,
-    p: &Path,
-) -> Result<Edit, NoMemory>
+fn edit_at(alloc: Global, links: &[GivenLink], n: &Native<'_>, p: &Path) -> Result<Edit, NoMemory>
     ensures { IfOk result (λ e. e ≡ edit_at links.now (native_of n.now) p.now) }
 {
     let path = read_path(alloc, links, p)?;

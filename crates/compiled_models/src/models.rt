@@ -54,12 +54,8 @@ fn native_model(
 {
     match k {
         Kind::File => file_model(alloc, s.ensure, r),
-        Kind::Package
-        | Kind::User
-        | Kind::Group
-        | Kind::Service
-        | Kind::Cron
-        | Kind::Key => model_at(alloc, k, s, listing, r),
+        Kind::Package | Kind::User | Kind::Group | Kind::Service | Kind::Cron | Kind::Key =>
+            model_at(alloc, k, s, listing, r),
     }
 }
 
@@ -75,7 +71,15 @@ fn model_of_kind(
 {
     let r = n.resource;
     let states = states_of(k, &r.attrs)?;
-    native_fits(alloc, host.links, edits, n.place as usize, k, states.ensure, r)?;
+    native_fits(
+        alloc,
+        host.links,
+        edits,
+        n.place as usize,
+        k,
+        states.ensure,
+        r,
+    )?;
     filled(alloc, host, n)?;
     native_model(alloc, k, states, host.listing, r)
 }

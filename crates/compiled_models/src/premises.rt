@@ -1,7 +1,7 @@
 //! What is assumed of the resources of a compiled catalog.
 
 ghost use Rattle.std.specs.Prelude.{◌≡◌, IfOk, option_map, length};
-ghost use Rattle.compiled_models.specs.Assumed.{place_of_subject, places_of, assumed_at};
+ghost use Rattle.compiled_models.specs.Assumed.{place_of_subject, places_of, is_at, assumed_of_place, assumed_at};
 ghost use Rattle.compiled_models.specs.Hosts.{ArePlaced, first_of};
 
 use assumed_text::{Assumed, Assumption, Assumptions, Subject};
@@ -68,8 +68,18 @@ impl<'h> Premises<'h> {
     }
 }
 
-/// What the first of these assumptions says that speaks of the resource at a place alone.
-fn assumed_of_place<'r>(
+/// Whether a place was found, and is this one.
+fn is_at(place: usize, found: Option<usize>) -> bool
+    ensures { result ≡ is_at place found }
+{
+    match found {
+        Some(other) => other == place,
+        None => false,
+    }
+}
+
+/// What the first of these assumptions says beside which this place stands.
+fn first_of<'r>(
     rows: &'r [Assumption],
     places: &[Option<usize>],
     place: usize,
@@ -78,11 +88,21 @@ fn assumed_of_place<'r>(
     ensures { option_map (λ x. x.now) result ≡ first_of place places.now rows.now }
 {
     for k in 0..rows.len() {
-        if places[k] == Some(place) {
+        if is_at(place, places[k]) {
             return Some(&rows[k].assumed);
         }
     }
     None
+}
+
+/// What the first assumption says that speaks of the resource at a place alone.
+#[tactic(auto, using(crate::proofs::PlacedLaws::first_is, crate::proofs::PlacedLaws::as_many))]
+fn assumed_of_place<'h>(premises: &Premises<'h>, place: usize) -> Option<&'h Assumed>
+    requires { ArePlaced premises.now }
+    ensures { option_map (λ x. x.now) result ≡ assumed_of_place premises.now.resources.now place premises.now.assumptions.now }
+{
+    let rows = premises.assumptions.rows();
+    first_of(rows, premises.places.as_slice(), place)
 }
 
 /// What is assumed of a resource at a place.
@@ -95,8 +115,7 @@ pub(crate) fn assumed_at<'h>(
     requires { ArePlaced premises.now }
     ensures { IfOk result (λ found. option_map (λ x. x.now) found ≡ assumed_at premises.now.resources.now premises.now.assumptions.now place r.now) }
 {
-    let rows = premises.assumptions.rows();
-    if let Some(own) = assumed_of_place(rows, premises.places.as_slice(), place) {
+    if let Some(own) = assumed_of_place(premises, place) {
         return Ok(Some(own));
     }
     let id = counts_as(alloc, r)?;

@@ -26,7 +26,7 @@ use fs_lang::{Path, Program};
 use given_links::{GivenLink, read_program};
 use model_names::Model;
 use model_semantics::{Cause, ModelFault};
-use model_words::sequence;
+use model_words::{push, sequence};
 use pkg_listing::{Listing, PathSet};
 use rh_base::{Fault, NoMemory, Seq};
 use std::alloc::Global;
@@ -36,7 +36,7 @@ fn is_barred(links: &[GivenLink], p: &Path) -> bool
     ensures { result ≡ is_among p.now (map (λ l. l.path) links.now) }
 {
     for link in links {
-        if link.path == *p {
+        if *p == link.path {
             return true;
         }
     }
@@ -123,7 +123,7 @@ fn push_program(
     match done_of(alloc, host, edits, n, places) {
         Ok(program) => {
             let among = program_among(alloc, host.links, edits, n.place as usize, &program)?;
-            into.push(among)?;
+            push(into, among)?;
             Ok(())
         }
         Err(fault) => Err(fault_of(alloc, n, fault)),
@@ -147,7 +147,10 @@ fn programs_beside(
     let mut made = Seq::new(alloc);
     for place in plain {
         let n = native_at(host.catalog, catalog, *place);
-        push_program(alloc, host, edits, &n, &mut places, &mut made)?;
+        match push_program(alloc, host, edits, &n, &mut places, &mut made) {
+            Ok(()) => {}
+            Err(fault) => return Err(fault),
+        }
     }
     Ok(made)
 }

@@ -17,8 +17,7 @@ use tree_text::program_text;
 
 /// A compiled catalog of these resources.
 fn compiled(alloc: Global, resources: &str) -> Result<CompiledCatalog, Fail> {
-    let text =
-        format!(in alloc; r#"{{"catalog_format":2,"resources":[{resources}],"edges":[]}}"#)?;
+    let text = format!(in alloc; r#"{{"catalog_format":2,"resources":[{resources}],"edges":[]}}"#)?;
     Ok(compiled_from_json(alloc, text.as_bytes())?)
 }
 
@@ -114,10 +113,5 @@ pub fn assumed_of(alloc: Global, resources: &str, assumed: &str) -> Result<usize
     let assumptions = assumptions(alloc, assumed)?;
     let catalog = catalog_of(alloc, &texts, Limits::Host)?;
     let plain = native_places(alloc, &texts, &catalog)?;
-    Ok(count_assumed(
-        alloc,
-        &texts,
-        plain.as_slice(),
-        &assumptions,
-    )?)
+    Ok(count_assumed(alloc, &texts, plain.as_slice(), &assumptions)?)
 }

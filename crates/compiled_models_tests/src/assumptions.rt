@@ -21,7 +21,11 @@ const ASSUMED: &[(&str, &str, usize)] = &[
         3,
     ),
     // a resource is taken out of what its type has
-    (r#""exec":"none","Exec[a]":"refused""#, "50 at 0: Exec[a]", 1),
+    (
+        r#""exec":"none","Exec[a]":"refused""#,
+        "50 at 0: Exec[a]",
+        1,
+    ),
     (
         r#""exec":"none","Exec[c]":"refused","file":"none""#,
         "* id\nid\n* id\nid\n",

@@ -19,7 +19,9 @@ const LOST: &[(&str, &str)] = &[
 #[test]
 fn edits_are_lost(rt: HostRuntime) -> Result<(), Fail> {
     for (parameters, want) in LOST {
-        let resources = format!(in rt.alloc(); r#"{{"type":"File","title":"/h","kind":"compilable_type","parameters":{{{parameters}}}}},{{"type":"File_line","title":"a","kind":"compilable_type"}},{{"type":"Exec","title":"b","kind":"compilable_type"}}"#)?;
+        let resources = format!(in rt.alloc();
+            r#"{{"type":"File","title":"/h","kind":"compilable_type","parameters":{{{parameters}}}}},{{"type":"File_line","title":"a","kind":"compilable_type"}},{{"type":"Exec","title":"b","kind":"compilable_type"}}"#
+        )?;
         let told = answer(
             rt.alloc(),
             resources.as_str(),
@@ -65,7 +67,9 @@ const COPIED: &[(&str, &str, &str)] = &[
 #[test]
 fn edited_files_are_no_sources(rt: HostRuntime) -> Result<(), Fail> {
     for (parameters, assumed, want) in COPIED {
-        let resources = format!(in rt.alloc(); r#"{{"type":"File","title":"/a","kind":"compilable_type","parameters":{{{parameters}}}}},{{"type":"File_line","title":"l","kind":"compilable_type"}}"#)?;
+        let resources = format!(in rt.alloc();
+            r#"{{"type":"File","title":"/a","kind":"compilable_type","parameters":{{{parameters}}}}},{{"type":"File_line","title":"l","kind":"compilable_type"}}"#
+        )?;
         let members = format!(in rt.alloc(); r#""File_line":{{"edits":["/s"]}}{assumed}"#)?;
         let told = answer(rt.alloc(), resources.as_str(), members.as_str())?;
         let first = told.split('\n').next();

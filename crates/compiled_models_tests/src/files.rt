@@ -112,7 +112,9 @@ const FILLED: &[(&str, &str, &str)] = &[
 fn files_are_put_together(rt: HostRuntime) -> Result<(), Fail> {
     for (file, fragment, want) in FILLED {
         let comma = if file.is_empty() { "" } else { "," };
-        let resources = format!(in rt.alloc(); r#"{{"type":"Concat_file","title":"f","kind":"compilable_type","parameters":{{"path":"/f"{comma}{file}}}}},{{"type":"Concat_fragment","title":"g","kind":"compilable_type","parameters":{{{fragment}}}}}"#)?;
+        let resources = format!(in rt.alloc();
+            r#"{{"type":"Concat_file","title":"f","kind":"compilable_type","parameters":{{"path":"/f"{comma}{file}}}}},{{"type":"Concat_fragment","title":"g","kind":"compilable_type","parameters":{{{fragment}}}}}"#
+        )?;
         let told = answer(rt.alloc(), resources.as_str(), "")?;
         assert_eq!(rt; told.as_str(), *want, "{resources}");
     }

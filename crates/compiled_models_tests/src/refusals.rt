@@ -123,10 +123,16 @@ const NAMED: &[(usize, &str, bool)] = &[
 fn long_references_make_nothing(rt: HostRuntime) -> Result<(), Fail> {
     for (count, assumed, accepted) in NAMED {
         let title = "x".repeat(rt.alloc(), *count)?;
-        let resources = format!(in rt.alloc(); r#"{{"type":"Exec","title":"{title}","kind":"compilable_type"}}"#)?;
+        let resources = format!(in rt.alloc();
+            r#"{{"type":"Exec","title":"{title}","kind":"compilable_type"}}"#
+        )?;
         let members = format!(in rt.alloc(); r#""exec":{assumed}"#)?;
         let told = answer(rt.alloc(), resources.as_str(), members.as_str())?;
-        assert_eq!(rt; !told.starts_with("52 at 0: Exec[xx"), *accepted, "{members}");
+        assert_eq!(rt;
+            !told.starts_with("52 at 0: Exec[xx"),
+            *accepted,
+            "{members}"
+        );
     }
     Ok(())
 }

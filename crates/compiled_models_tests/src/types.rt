@@ -33,7 +33,9 @@ const TYPES: &[(&str, &str, &str)] = &[
 #[test]
 fn types_have_programs(rt: HostRuntime) -> Result<(), Fail> {
     for (kind, parameters, want) in TYPES {
-        let resources = format!(in rt.alloc(); r#"{{"type":"{kind}","title":"t","kind":"compilable_type","parameters":{{{parameters}}}}}"#)?;
+        let resources = format!(in rt.alloc();
+            r#"{{"type":"{kind}","title":"t","kind":"compilable_type","parameters":{{{parameters}}}}}"#
+        )?;
         let told = answer(rt.alloc(), resources.as_str(), "")?;
         assert_eq!(rt; told.as_str(), *want, "{kind} {parameters}");
     }
