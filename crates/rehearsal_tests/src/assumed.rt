@@ -109,7 +109,7 @@ type Row = (
     &'static str,
 );
 
-const ROWS: [Row; 24] = [
+const ROWS: [Row; 25] = [
     (
         VERIFY,
         &[("Exec", "apt-get update", "", "")],
@@ -309,6 +309,21 @@ const ROWS: [Row; 24] = [
         r#"{"version":1,"resources":{"Exec":"none"}}"#,
         "resources 2\nassumed 1\nedges 0\ndeterministic\n",
     ),
+    // What is to be absent copies nothing.
+    (
+        VERIFY,
+        &[
+            (
+                "File",
+                "/b",
+                r#""ensure":"absent","source":"/etc/hosts""#,
+                "",
+            ),
+            ("File_line", "db", r#""line":"db""#, ""),
+        ],
+        EDITS,
+        "resources 2\nassumed 1\npruned 2\ndeterministic\nidempotent\nsucceeds from some tree\n",
+    ),
     // A resource that needs what another makes.
     (
         REPAIR,
@@ -404,7 +419,7 @@ fn texts_of_no_assumptions(rt: HostRuntime) -> Result<(), Fail> {
 const AT: &str = r#","file":"/m/a.pp","line":7"#;
 
 /// The words, the resources, what is assumed, and the refusal.
-const REFUSED: [(&[&str], &[Res], &str, &str); 13] = [
+const REFUSED: [(&[&str], &[Res], &str, &str); 12] = [
     (
         VERIFY,
         &[("Exec", "e", "", AT)],
@@ -423,27 +438,12 @@ const REFUSED: [(&[&str], &[Res], &str, &str); 13] = [
         r#"{"version":1,"resources":{"Host":"refused"}}"#,
         "23 at 0: Host[h]",
     ),
-    // a copy of what another resource edits; not where it is the resource itself, nor of a file that is to be absent
+    // a copy of what another resource edits
     (
         VERIFY,
         &[("File", "/b", r#""source":"/etc/hosts""#, AT), LINE, HOSTS],
         EDITS,
         "51 at 0: File[/b] source (/m/a.pp:7)",
-    ),
-    (
-        VERIFY,
-        &[
-            (
-                "File",
-                "/b",
-                r#""ensure":"absent","source":"/etc/hosts""#,
-                "",
-            ),
-            LINE,
-            ("Exec", "e", "", ""),
-        ],
-        EDITS,
-        "40 at 0: File[/etc/hosts]",
     ),
     // among the 51s it stands where the attribute does
     (

@@ -16,8 +16,6 @@ mod compiled;
 #[cfg(test)]
 mod compiled_equal;
 #[cfg(test)]
-mod compiled_hosts;
-#[cfg(test)]
 mod compiled_refusals;
 #[cfg(test)]
 mod compiled_sizes;
