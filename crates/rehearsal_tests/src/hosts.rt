@@ -227,12 +227,7 @@ const ANSWERED: [Answered; 14] = [
         r#"{"version":1,"resources":{"Exec":"none"}}"#,
         "resources 7\nassumed 1\npruned 7\n",
     ),
-    (
-        host::VIRTUAL_EXPORTED,
-        ALONE,
-        "",
-        "resources 5\npruned 5\n",
-    ),
+    (host::VIRTUAL_EXPORTED, ALONE, "", "resources 5\npruned 5\n"),
     (
         host::VALUES,
         ASSUMED,
@@ -276,7 +271,11 @@ fn what_is_answered(rt: HostRuntime) -> Result<(), Fail> {
     for (catalog, words, assumed, head) in ANSWERED {
         let told = asked(rt.alloc(), words, catalog, assumed)?;
         let rest = told.out.as_str().strip_prefix(head).unwrap_or("?");
-        assert_eq!(rt; rest, "deterministic\nidempotent\nsucceeds from some tree\n", "{head}");
+        assert_eq!(rt;
+            rest,
+            "deterministic\nidempotent\nsucceeds from some tree\n",
+            "{head}"
+        );
         assert_eq!(rt; told.status, 0, "{head}");
         assert_eq!(rt; told.err.as_str(), "", "{head}");
     }
@@ -289,7 +288,11 @@ fn a_file_ahead_of_its_folder(rt: HostRuntime) -> Result<(), Fail> {
     let assumed = r#"{"version":1,"resources":{"Host":"none","Tidy":"none","Mount":"none"}}"#;
     let told = asked(rt.alloc(), ASSUMED, host::MOTD_HOSTS, assumed)?;
     let head = "resources 13\nassumed 3\npruned 10\nnot deterministic\n";
-    assert!(rt; told.out.as_str().starts_with(head), "{}", told.out.as_str());
+    assert!(rt;
+        told.out.as_str().starts_with(head),
+        "{}",
+        told.out.as_str()
+    );
     assert_eq!(rt; told.status, 1);
     Ok(())
 }
@@ -302,10 +305,7 @@ fn what_comes_before(rt: HostRuntime) -> Result<(), Fail> {
             host::VIRTUAL_EXPORTED,
             "\nFile[/srv/data] -> File[/srv/data/x]\n",
         ),
-        (
-            host::VIRTUAL_EXPORTED,
-            "\nGroup[postgres] -> User[dba]\n",
-        ),
+        (host::VIRTUAL_EXPORTED, "\nGroup[postgres] -> User[dba]\n"),
         (
             host::NGINX_PROFILE,
             "\nFile[/etc/nginx/sites-available/app] -> File[/etc/nginx/sites-enabled/app]\n",
