@@ -34,6 +34,8 @@ mod given;
 #[cfg(test)]
 mod hostile;
 #[cfg(test)]
+mod hosts;
+#[cfg(test)]
 mod made_up;
 #[cfg(test)]
 mod mending;

@@ -1,5 +1,9 @@
 pub mod Places
+pub mod CompiledLaws
 pub mod Counts
+pub mod CompiledCounts
+pub mod KindLaws
+pub mod ApartLaws
 pub mod ModelLaws
 pub mod StageLaws
 pub mod ReplayLaws

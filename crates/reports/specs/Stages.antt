@@ -63,14 +63,14 @@ abbrev pub read_through : List GivenLink → Result (List Program) Refusal → R
 read_through links (Ok es) = Ok (map (program_read_as links) es)
 read_through links (Err r) = Err r
 
--- beside what the resources of a compiled catalog stand
+-- what stands beside the resources of a compiled catalog: what is assumed of them, the listing, and the given links
 abbrev pub setting_of : Known → Compiled → Setting
 setting_of k m = record { resources = m.resources; assumptions = k.assumed; listing = k.listing; links = k.given.links }
 
--- what the real plain resources do, one after another, read through the given links; or the first refusal
-abbrev pub programs_in : Known → Option Compiled → Catalog → Graph → Result (List Program) Refusal
-programs_in k None c g = read_through k.given.links (programs (barred_in k) k.listing (resources_at c.resources g.plain))
-programs_in k (Some m) c g = native_programs (setting_of k m) (natives_at m.resources c.resources g.plain)
+-- what the real plain resources at these places do, one after another, read through the given links; or the first refusal
+abbrev pub programs_in : Known → Option Compiled → Catalog → List ℕ → Result (List Program) Refusal
+programs_in k None c plain = read_through k.given.links (programs (barred_in k) k.listing (resources_at c.resources plain))
+programs_in k (Some m) c plain = native_programs (setting_of k m) (natives_at m.resources c.resources plain)
 
 -- the text of a compiled catalog has a resource at each of these places
 abbrev pub AreTold : Option Compiled → List ℕ → Type 0
@@ -80,7 +80,7 @@ AreTold (Some m) plain = AllByRecursion (λ k. k < length m.resources) plain
 -- These are the programs of the real plain resources, read through the given links.
 pub record IsModelled (i : Inputs) (k : Known) (m : Option Compiled) (c : Catalog) (g : Graph) (es : List Program) : Type 0 where
   pub planned : IsPlanned i k m c g
-  pub programs : programs_in k m c g ≡ Ok es
+  pub programs : programs_in k m c g.plain ≡ Ok es
 
 -- ---- which refusal comes first
 
@@ -97,4 +97,4 @@ pub data GraphRefusal (i : Inputs) (r : Refusal) : Type 0 where
 -- and then that of the first resource without a program
 pub data ProgramsRefusal (i : Inputs) (r : Refusal) : Type 0 where
   before_programs : GraphRefusal i r → ProgramsRefusal i r
-  in_programs : (k : Known) (m : Option Compiled) (c : Catalog) (g : Graph) → IsPlanned i k m c g → programs_in k m c g ≡ Err r → ProgramsRefusal i r
+  in_programs : (k : Known) (m : Option Compiled) (c : Catalog) (g : Graph) → IsPlanned i k m c g → programs_in k m c g.plain ≡ Err r → ProgramsRefusal i r

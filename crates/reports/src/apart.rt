@@ -10,7 +10,7 @@ ghost use Rattle.known_inputs.specs.declared.inputs.Known.{Known};
 ghost use Rattle.reports.specs.Stages.{IsCompiled};
 
 use allowed_order::plain_resources_are_told_apart;
-use catalog_semantics::{catalogs_are_sound, references_stand_once};
+use catalog_semantics::{catalogs_are_sound, references_have_one_place, references_stand_once};
 use compiled_catalog::compiled_references_stand_once;
 use compiled_text::compiled_texts;
 
@@ -21,6 +21,7 @@ pub fn resources_are_told_apart()
     plain_resources_are_told_apart();
     catalogs_are_sound();
     references_stand_once();
+    references_have_one_place();
     compiled_references_stand_once();
     compiled_texts();
 }

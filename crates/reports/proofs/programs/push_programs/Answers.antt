@@ -6,5 +6,5 @@ use Rattle.reports.proofs.programs.push_programs.Goals as goal
 
 pub returns-in_default : goal.returns-in_default
 returns-in_default c =
-    ended c.args.catalog.now (drop c.loop-place.place-index c.args.plain.now) c.loop-place.rest.now c.loop-place.into.items
-    (c.args.into.now.items ++ program_lines c.args.catalog.now c.args.plain.now (map program_of c.args.programs.now)) c.in_default.ensures.cases c.loop-place.invariant
+    ended c.args.known.now c.args.source.now c.args.catalog.now c.args.plain.now (drop c.loop-k.k c.args.plain.now) c.loop-k.rest.now c.loop-k.into.items
+    (c.args.into.now.items ++ program_lines c.args.known.now c.args.source.now c.args.catalog.now c.args.plain.now (map program_of c.args.programs.now)) c.in_default.ensures.cases c.loop-k.invariant
