@@ -1,5 +1,5 @@
 -- A path among those that resources edit.
-use Rattle.std.proofs.Common.{◌≡◌, ◌||◌, ◌++◌, ◌+◌, ℕ, Bool, List, [], ◌∷◌, map, refl, sym, ap, ◌∙◌}
+use Rattle.std.proofs.Common.{◌≡◌, ◌||◌, ◌++◌, ◌+◌, ℕ, List, [], ◌∷◌, map, refl, sym, ap, ◌∙◌}
 use Rattle.std.proofs.Math.Bool.{or_assoc}
 use Rattle.fs_semantics.specs.FileTree.{Path, path_eq, is_among}
 use Rattle.assumed_text.specs.declared.assumed.Assumption.{Assumption}

@@ -14,7 +14,7 @@ use Rattle.pp_value.specs.declared.value.Value.{Value}
 use Rattle.pp_data.specs.declared.data.Level.{Level}
 use Rattle.pkg_listing.specs.Packages.{Packages}
 use Rattle.known_inputs.specs.declared.inputs.Inputs.{Inputs}
-use Rattle.known_inputs.specs.Inputs.{bytes_of, AreFactsOf, IsListingOf, AreDataOf, IsTreeOf, IsCompiledOf, IsGivenOf, edited_in, wants_edited, HasNoListing, HasNoData, HasNoTree, HasNoCompiled, HasNoAssumptions, HasNoGiven, WantsEdited, LacksGiven, AreTold, AreNamed, FirstUnread, listing, class_data, tree, compiled, assumed, edited, given, edited_as_read, lacks}
+use Rattle.known_inputs.specs.Inputs.{bytes_of, AreFactsOf, IsListingOf, IsTreeOf, IsCompiledOf, IsGivenOf, edited_in, wants_edited, HasNoListing, HasNoData, HasNoTree, HasNoCompiled, HasNoAssumptions, HasNoGiven, WantsEdited, LacksGiven, AreTold, AreNamed, FirstUnread, listing, class_data, tree, compiled, assumed, edited, given, edited_as_read, lacks}
 
 pub listing_refused : (i : Inputs) (x : Value) (e : Fault) → AreFactsOf (bytes_of role.Facts i) x → IfRefused e (HasNoListing (bytes_of role.Packages i)) → IfRefused e (FirstUnread i)
 listing_refused i x (Refused r) facts none = listing x facts none
