@@ -6,7 +6,7 @@ use catalog_semantics::{Resource, Sort};
 use fs_lang::{Path, Program};
 use model_semantics::{Cause, ModelFault};
 use pp_eval::{facts_from_json, ref_of};
-use pp_value::{Pairs, Value};
+use pp_value::{Pairs, Ref, Value};
 use rh_base::Seq;
 use std::alloc::Global;
 use std::test::Fail;
@@ -20,18 +20,22 @@ fn attributes(alloc: Global, text: &str) -> Result<Pairs, Fail> {
     }
 }
 
-/// A native resource of a type, a title and attributes.
-fn resource(alloc: Global, kind: &str, title: &str, attrs: &str) -> Result<Resource, Fail> {
-    let attrs = attributes(alloc, attrs)?;
-    let id = ref_of(alloc, kind, title)?;
-    Ok(Resource {
+/// A native resource.
+fn native(id: Ref, attrs: Pairs) -> Resource {
+    Resource {
         id,
         sort: Sort::Plain,
         is_virtual: false,
         at: 0,
         holder: None,
         attrs,
-    })
+    }
+}
+
+/// A native resource of a type, a title and attributes.
+fn resource(alloc: Global, kind: &str, title: &str, attrs: &str) -> Result<Resource, Fail> {
+    let attrs = attributes(alloc, attrs)?;
+    Ok(native(ref_of(alloc, kind, title)?, attrs))
 }
 
 /// Assumptions of the type `exec`.
@@ -54,17 +58,29 @@ fn shown(alloc: Global, program: &Program) -> Result<String, Fail> {
     Ok(String::from_utf8(bytes)?)
 }
 
+/// What is told of a resource that has no program.
+fn fault_shown(fault: &ModelFault) -> &'static str {
+    match fault {
+        ModelFault::Because(Cause::Name) => "52",
+        ModelFault::Because(_) => "another cause",
+        ModelFault::Memory(_) => "no memory",
+    }
+}
+
 /// The program of a resource and a behavior, or the rule that is broken.
-fn program_shown(alloc: Global, r: &Resource, behavior: &str) -> Result<String, Fail> {
-    let assumptions = assumptions(alloc, behavior)?;
-    let Some(behavior) = behavior_in(&assumptions) else {
-        return Ok(String::from_str(alloc, "no behavior")?);
-    };
+fn program_of(alloc: Global, r: &Resource, behavior: &Behavior) -> Result<String, Fail> {
     match program_of_behavior(alloc, r, behavior) {
         Ok(program) => shown(alloc, &program),
-        Err(ModelFault::Because(Cause::Name)) => Ok(String::from_str(alloc, "52")?),
-        Err(ModelFault::Because(_)) => Ok(String::from_str(alloc, "another cause")?),
-        Err(ModelFault::Memory(_)) => Ok(String::from_str(alloc, "no memory")?),
+        Err(fault) => Ok(String::from_str(alloc, fault_shown(&fault))?),
+    }
+}
+
+/// The same of the text of a behavior.
+fn program_shown(alloc: Global, r: &Resource, behavior: &str) -> Result<String, Fail> {
+    let assumptions = assumptions(alloc, behavior)?;
+    match behavior_in(&assumptions) {
+        Some(behavior) => program_of(alloc, r, behavior),
+        None => Ok(String::from_str(alloc, "no behavior")?),
     }
 }
 
@@ -143,34 +159,51 @@ fn what_writes_has_a_name(rt: HostRuntime) -> Result<(), Fail> {
     Ok(())
 }
 
+/// The mark of an edit of a path by `File_line[TITLE]`.
+fn mark(alloc: Global, title: &str, path: &Path) -> Result<Path, Fail> {
+    let r = resource(alloc, "file_line", title, "{}")?;
+    Ok(edit_mark(alloc, &r, path)?)
+}
+
 /// An edit of `/h` by `File_line[TITLE]`, which stands at a place.
 fn edit(alloc: Global, place: usize, title: &str) -> Result<Edit, Fail> {
     let path = Path::read(alloc, "/h")?;
-    let r = resource(alloc, "file_line", title, "{}")?;
-    let mark = edit_mark(alloc, &r, &path)?;
+    let mark = mark(alloc, title, &path)?;
     Ok(Edit { place, path, mark })
 }
 
 /// Edits of `/h` by the resources at the places 0 and 1.
 fn two_edits(alloc: Global) -> Result<Edits, Fail> {
     let mut edits = Seq::new(alloc);
-    edits.push(edit(alloc, 0, "a")?)?;
-    edits.push(edit(alloc, 1, "b")?)?;
+    for (place, title) in [(0, "a"), (1, "b")] {
+        edits.push(edit(alloc, place, title)?)?;
+    }
     Ok(Edits::of(alloc, edits)?)
 }
 
-/// The program of `Exec[x]` and a behavior, in which these edits are lost.
-fn lost_shown(alloc: Global, place: usize, behavior: &str) -> Result<String, Fail> {
-    let r = resource(alloc, "exec", "x", "{}")?;
+/// A program in which these edits are lost.
+fn lost(alloc: Global, place: usize, program: Program) -> Result<String, Fail> {
     let edits = two_edits(alloc)?;
+    let lost = with_lost_edits(alloc, &edits, place, program)?;
+    shown(alloc, &lost)
+}
+
+/// The program of `Exec[x]` and a behavior, in which these edits are lost.
+fn lost_of(alloc: Global, place: usize, behavior: &Behavior) -> Result<String, Fail> {
+    let r = resource(alloc, "exec", "x", "{}")?;
+    match program_of_behavior(alloc, &r, behavior) {
+        Ok(program) => lost(alloc, place, program),
+        Err(fault) => Ok(String::from_str(alloc, fault_shown(&fault))?),
+    }
+}
+
+/// The same of the text of a behavior.
+fn lost_shown(alloc: Global, place: usize, behavior: &str) -> Result<String, Fail> {
     let assumptions = assumptions(alloc, behavior)?;
-    let Some(behavior) = behavior_in(&assumptions) else {
-        return Ok(String::from_str(alloc, "no behavior")?);
-    };
-    let Ok(program) = program_of_behavior(alloc, &r, behavior) else {
-        return Ok(String::from_str(alloc, "no program")?);
-    };
-    shown(alloc, &with_lost_edits(alloc, &edits, place, program)?)
+    match behavior_in(&assumptions) {
+        Some(behavior) => lost_of(alloc, place, behavior),
+        None => Ok(String::from_str(alloc, "no behavior")?),
+    }
 }
 
 /// Places, behaviors, and the programs in which edits are lost.

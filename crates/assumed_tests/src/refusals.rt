@@ -199,19 +199,22 @@ fn other_paths_are_refused(rt: HostRuntime) -> Result<(), Fail> {
     Ok(())
 }
 
+/// Adds so many paths: a letter, and numbers behind it.
+fn add_paths(alloc: Global, letter: char, count: usize, text: &mut String) -> Result<(), Fail> {
+    for i in 1..count {
+        let path = format!(in alloc; r#"/{letter}{i}",""#)?;
+        text.push_str(path.as_str())?;
+    }
+    Ok(())
+}
+
 /// A behavior of so many paths that it needs, and as many that it removes.
 fn of_paths(alloc: Global, needs: usize, removes: usize) -> Result<String, Fail> {
-    let mut text = String::from_str(alloc, r#""exec":{"needs":["/n""#)?;
-    for i in 1..needs {
-        let path = format!(in alloc; r#","/n{i}""#)?;
-        text.push_str(path.as_str())?;
-    }
-    text.push_str(r#"],"removes":["/r""#)?;
-    for i in 1..removes {
-        let path = format!(in alloc; r#","/r{i}""#)?;
-        text.push_str(path.as_str())?;
-    }
-    text.push_str(r#"],"creates":"/c"}"#)?;
+    let mut text = String::from_str(alloc, r#""exec":{"needs":[""#)?;
+    add_paths(alloc, 'n', needs, &mut text)?;
+    text.push_str(r#"/n"],"removes":[""#)?;
+    add_paths(alloc, 'r', removes, &mut text)?;
+    text.push_str(r#"/r"],"creates":"/c"}"#)?;
     text_of(alloc, text.as_str())
 }
 

@@ -1,16 +1,12 @@
 -- What a file of a compiled catalog does.
-use Rattle.std.specs.Prelude.{ℕ, ◌==◌, Bool, true, false, not, ◌&&◌, if◌then◌else◌, List, [], ◌∷◌, ◌++◌, filter, map, codes, Option, Some, None, Result, Ok, Err}
-use Rattle.std.specs.List.{list_any}
+use Rattle.std.specs.Prelude.{Bool, true, false, not, ◌&&◌, ◌||◌, if◌then◌else◌, List, [], ◌∷◌, ◌++◌, filter, codes, Result, Ok}
 use Rattle.std.specs.Str.{bytes_eq}
 use Rattle.fs_semantics.specs.FileTree.{Path}
 use Rattle.fs_semantics.specs.Programs.{Program, Id, Creat, Cp, If, IsNone}
-use Rattle.pp_value.specs.declared.value.Value.{Value}
-use Rattle.pp_value.specs.declared.value.Value.TheVariants as v
 use Rattle.pp_value.specs.Values.{Pair, value_at, passes}
 use Rattle.catalog_semantics.specs.declared.catalog.Resource.{Resource}
 use Rattle.model_semantics.specs.declared.kinds.Cause.{Cause}
 use Rattle.model_semantics.specs.declared.states.Ensure.{Ensure}
-use Rattle.model_semantics.specs.declared.states.Ensure.TheVariants as ensure
 use Rattle.model_semantics.specs.declared.states.FileState.{FileState}
 use Rattle.model_semantics.specs.declared.states.FileState.TheVariants as file
 use Rattle.model_semantics.specs.Attributes.{truth_of, is_false, is_link}

@@ -19,21 +19,27 @@ use Rattle.assumed_text.specs.declared.assumed.Assumed.{Assumed}
 use Rattle.assumed_text.specs.declared.assumed.Assumption.{Assumption}
 use Rattle.compiled_attributes.specs.Places.{HoldsFragments}
 use Rattle.compiled_models.specs.declared.host.Host.{Host}
+use Rattle.compiled_models.specs.declared.premises.Premises.{Premises}
 use Rattle.compiled_models.specs.Assumed.{places_of, is_at}
 use Rattle.compiled_models.specs.declared.natives.Native.{Native as Lent}
 use Rattle.compiled_models.specs.Programs.{Setting, Native, Done, done_of, or_refused, refusal_of, program_among}
 
--- where fragments stand, and of which resources assumptions speak
+-- the place of each assumption's resource stands beside it
+abbrev pub ArePlaced : Premises → Type 0
+ArePlaced p = p.places ≡ places_of p.resources.now p.assumptions.now
+
+-- It is known where the fragments of the compiled catalog stand, and of which of its resources assumptions speak.
 pub record IsSound (h : Host) : Type 0 where
   pub fragments : HoldsFragments h.catalog.now.resources h.fragments
-  pub places : h.places ≡ places_of h.catalog.now.resources h.assumptions.now
+  pub resources : h.premises.resources.now ≡ h.catalog.now.resources
+  pub placed : ArePlaced h.premises
 
 abbrev pub setting_with : List CompiledResource → List Assumption → Packages → List GivenLink → Setting
 setting_with resources assumptions listing links = record { resources = resources; assumptions = assumptions; listing = listing; links = links }
 
 -- what it says of the resources of its compiled catalog
 abbrev pub setting_of : Host → Setting
-setting_of h = setting_with h.catalog.now.resources h.assumptions.now h.listing.now h.links.now
+setting_of h = setting_with h.catalog.now.resources h.premises.assumptions.now h.listing.now h.links.now
 
 -- the native resource that is lent
 abbrev pub native_of : Lent → Native

@@ -2,3 +2,4 @@ pub mod Assumed
 pub mod Files
 pub mod Programs
 pub mod Hosts
+pub mod Alike

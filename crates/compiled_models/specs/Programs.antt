@@ -1,10 +1,10 @@
 -- What the native resources of a compiled catalog do.
-use Rattle.std.specs.Prelude.{ℕ, Bool, true, false, not, ◌&&◌, ◌||◌, if◌then◌else◌, List, [], ◌∷◌, ◌++◌, length, map, filter, slice_get, codes, Option, Some, None, is_some, option_and_then, Result, Ok, Err}
+use Rattle.std.specs.Prelude.{ℕ, Bool, true, false, not, ◌&&◌, ◌||◌, if◌then◌else◌, List, [], ◌∷◌, ◌++◌, map, slice_get, codes, Option, Some, None, option_and_then, Result, Ok, Err}
 use Rattle.std.specs.List.{list_any, flat_map}
 use Rattle.std.specs.Option.{option_or}
 use Rattle.std.specs.Str.{bytes_eq}
 use Rattle.rh_base.specs.declared.fault.Refusal.{Refusal}
-use Rattle.fs_semantics.specs.FileTree.{Path, is_among, path_eq}
+use Rattle.fs_semantics.specs.FileTree.{Path, path_eq}
 use Rattle.fs_semantics.specs.Programs.{Program, Id}
 use Rattle.fs_lang.specs.Reading.{path_in}
 use Rattle.pp_value.specs.declared.value.Value.TheVariants as v
@@ -30,7 +30,6 @@ use Rattle.compiled_text.specs.declared.catalog.CompiledResource.{CompiledResour
 use Rattle.compiled_attributes.specs.Fragments.{why_unfilled}
 use Rattle.compiled_attributes.specs.Attributes.{is_noop}
 use Rattle.compiled_relations.specs.Finding.{told}
-use Rattle.assumed_text.specs.declared.assumed.Behavior.{Behavior}
 use Rattle.assumed_text.specs.declared.assumed.Assumed.{Assumed}
 use Rattle.assumed_text.specs.declared.assumed.Assumed.TheVariants.{Nothing, Refused, Does}
 use Rattle.assumed_text.specs.declared.assumed.Assumption.{Assumption}
@@ -67,10 +66,6 @@ program_assumed r None = None
 program_assumed r (Some Nothing) = Some (Ok Id)
 program_assumed r (Some Refused) = None
 program_assumed r (Some (Does b)) = Some (program_of_behavior r b)
-
--- its program comes from an assumption
-abbrev pub is_assumed : Setting → Native → Bool
-is_assumed s n = is_some (program_assumed n.resource (assumed_of s n))
 
 -- ---- what does nothing
 
@@ -209,10 +204,6 @@ programs_behind s edits seen (n ∷ ns) =
 -- What native resources do, one after another, read through the links that every host has; or the first refusal.
 abbrev pub programs : Setting → List Native → Result (List Program) Refusal
 programs s ns = programs_behind s (edits_of s ns) [] ns
-
--- how many of them are assumed
-abbrev pub count_assumed : Setting → List Native → ℕ
-count_assumed s ns = length (filter (is_assumed s) ns)
 
 -- ---- the native resources of a catalog
 

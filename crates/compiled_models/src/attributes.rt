@@ -1,24 +1,36 @@
 //! Attributes as models are asked about them.
 
-ghost use Rattle.std.specs.Prelude.{◌≡◌, IfOk};
+ghost use Rattle.std.specs.Prelude.{◌≡◌, ◌&&◌, not, codes, IfOk, option_and_then};
 ghost use Rattle.std.specs.List.{list_any};
 ghost use Rattle.fs_semantics.specs.FileTree.{path_eq};
-ghost use Rattle.model_semantics.specs.Attributes.{attributes_fit};
-ghost use Rattle.model_semantics.specs.Names.{Meets};
+ghost use Rattle.fs_lang.specs.Reading.{path_in};
+ghost use Rattle.model_semantics.specs.Attributes.{attributes_fit, is_link};
+ghost use Rattle.model_semantics.specs.Names.{Meets, text_at};
+ghost use Rattle.model_semantics.specs.declared.kinds.Kind.TheVariants as kind;
 ghost use Rattle.assumed_models.specs.Edits.{edits_beside};
-ghost use Rattle.compiled_models.specs.Files.{without_replace, attributes_asked};
+ghost use Rattle.compiled_models.specs.Files.{is_spared, without_replace, attributes_asked};
 ghost use Rattle.compiled_models.specs.Programs.{is_edited, copies_edited, attributes_with, asked_of};
 
 use crate::files::is_spared;
 use assumed_models::Edit;
 use catalog_semantics::Resource;
-use fs_lang::{Path, PathFault};
+use fs_lang::Path;
 use given_links::{GivenLink, read_path};
 use model_attributes::{attributes_fit, text_at};
+use model_names::spelled;
 use model_semantics::{Ensure, Kind, ModelFault};
-use pp_value::{Pairs, Value, distinct_pairs_are_kept};
+use pp_value::{Pairs, Value, copy_pairs, distinct_pairs_are_kept};
 use rh_base::{NoMemory, Text};
 use std::alloc::Global;
+
+/// Whether what stands there already stays, and that may be said of it: it is to be no link.
+fn may_be_spared(e: Ensure, r: &Resource) -> bool
+    ensures { result ≡ is_spared r.now && not (is_link e) }
+{
+    let spared = is_spared(r);
+    let link = matches!(e, Ensure::Link);
+    spared && !link
+}
 
 /// The attributes but `replace`.
 fn without_replace(alloc: Global, attrs: &Pairs) -> Result<Pairs, NoMemory>
@@ -40,10 +52,10 @@ fn without_replace(alloc: Global, attrs: &Pairs) -> Result<Pairs, NoMemory>
 fn attributes_asked(alloc: Global, e: Ensure, r: &Resource) -> Result<Pairs, NoMemory>
     ensures { IfOk result (λ attrs. attrs ≡ attributes_asked e r.now) }
 {
-    if is_spared(r) && e != Ensure::Link {
+    if may_be_spared(e, r) {
         return without_replace(alloc, &r.attrs);
     }
-    r.attrs.copy(alloc)
+    copy_pairs(alloc, &r.attrs)
 }
 
 /// The same, where a copy is refused.
@@ -59,7 +71,28 @@ fn attributes_with(alloc: Global, refused: bool, attrs: Pairs) -> Result<Pairs, 
     Ok(asked)
 }
 
-/// Whether one of these edits is of this path, which was read through the links.
+/// The path that a text spells, if it spells one.
+fn path_in(alloc: Global, text: &str) -> Result<Option<Path>, NoMemory>
+    ensures { IfOk result (λ p. p ≡ path_in text.now) }
+{
+    match spelled(alloc, text) {
+        Ok(path) => Ok(Some(path)),
+        Err(ModelFault::Because(_)) => Ok(None),
+        Err(ModelFault::Memory(m)) => Err(m),
+    }
+}
+
+/// The path of which a file is to be a copy, if it is to be one.
+fn source_of(alloc: Global, r: &Resource) -> Result<Option<Path>, NoMemory>
+    ensures { IfOk result (λ p. p ≡ option_and_then path_in (text_at (codes "source") r.now.attrs)) }
+{
+    match text_at(&r.attrs, "source") {
+        Some(text) => path_in(alloc, text.as_str()),
+        None => Ok(None),
+    }
+}
+
+/// Whether others than the resource at a place edit a path, which was read through the links.
 fn is_among_edits(edits: &[Edit], place: usize, p: &Path) -> bool
     ensures { result ≡ list_any (λ e. path_eq e.path p.now) (edits_beside place edits.now) }
 {
@@ -81,17 +114,25 @@ fn copies_edited(
 ) -> Result<bool, NoMemory>
     ensures { IfOk result (λ b. b ≡ copies_edited links.now (edits_beside place edits.now) r.now) }
 {
-    let Some(text) = text_at(&r.attrs, "source") else {
+    let Some(path) = source_of(alloc, r)? else {
         return Ok(false);
     };
-    match Path::read(alloc, text.as_str()) {
-        Ok(path) => {
-            let read = read_path(alloc, links, &path)?;
-            Ok(is_among_edits(edits, place, &read))
+    let read = read_path(alloc, links, &path)?;
+    Ok(is_among_edits(edits, place, &read))
+}
+
+/// Whether the attributes of a file are accepted, or one is refused. Mostly they are asked about as they stand.
+fn file_fits(alloc: Global, refused: bool, e: Ensure, r: &Resource) -> Result<(), ModelFault>
+    ensures { Meets (λ done. done) (attributes_fit kind.File e (attributes_with refused (attributes_asked e r.now))) result }
+{
+    if !refused {
+        if !may_be_spared(e, r) {
+            return attributes_fit(alloc, Kind::File, e, &r.attrs);
         }
-        Err(PathFault::Bad) => Ok(false),
-        Err(PathFault::Memory(m)) => Err(m),
     }
+    let plain = attributes_asked(alloc, e, r)?;
+    let asked = attributes_with(alloc, refused, plain)?;
+    attributes_fit(alloc, Kind::File, e, &asked)
 }
 
 /// Whether the attributes of a resource are accepted, or one is refused.
@@ -106,11 +147,12 @@ pub(crate) fn native_fits(
 ) -> Result<(), ModelFault>
     ensures { Meets (λ done. done) (attributes_fit k e (asked_of links.now (edits_beside place edits.now) k e r.now)) result }
 {
-    if k != Kind::File {
-        return attributes_fit(alloc, k, e, &r.attrs);
+    match k {
+        Kind::File => {
+            let refused = copies_edited(alloc, links, edits, place, r)?;
+            file_fits(alloc, refused, e, r)
+        }
+        Kind::Package | Kind::User | Kind::Group | Kind::Service | Kind::Cron | Kind::Key =>
+            attributes_fit(alloc, k, e, &r.attrs),
     }
-    let refused = copies_edited(alloc, links, edits, place, r)?;
-    let plain = attributes_asked(alloc, e, r)?;
-    let asked = attributes_with(alloc, refused, plain)?;
-    attributes_fit(alloc, k, e, &asked)
 }

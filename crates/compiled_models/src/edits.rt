@@ -5,8 +5,9 @@ ghost use Rattle.std.specs.List.{AllByRecursion};
 ghost use Rattle.compiled_models.specs.Programs.{edit_at, edits_by, edits_of, assumed_of, natives_at};
 ghost use Rattle.compiled_models.specs.Hosts.{IsSound, setting_of, native_of};
 
-use crate::host::{Host, assumed_at};
+use crate::host::Host;
 use crate::natives::{Native, native_at};
+use crate::premises::assumed_at;
 use assumed_models::{Edit, Edits, edit_mark};
 use assumed_text::Assumed;
 use catalog::Catalog;
@@ -16,12 +17,7 @@ use rh_base::{NoMemory, Seq};
 use std::alloc::Global;
 
 /// The edit of a file by a resource.
-fn edit_at(
-    alloc: Global,
-    links: &[GivenLink],
-    n: &Native<'_>,
-    p: &Path,
-) -> Result<Edit, NoMemory>
+fn edit_at(alloc: Global, links: &[GivenLink], n: &Native<'_>, p: &Path) -> Result<Edit, NoMemory>
     ensures { IfOk result (λ e. e ≡ edit_at links.now (native_of n.now) p.now) }
 {
     let path = read_path(alloc, links, p)?;
@@ -59,7 +55,7 @@ fn push_assumed(
     requires { IsSound host.now }
     ensures { OnOk result (edits.new ≡ edits.old ++ edits_by host.now.links.now (native_of n.now) (assumed_of (setting_of host.now) (native_of n.now))) }
 {
-    match assumed_at(alloc, host, n.place as usize, n.text)? {
+    match assumed_at(alloc, &host.premises, n.place as usize, n.text)? {
         Some(Assumed::Does(behavior)) => {
             push_edits(alloc, host.links, n, behavior.edits.as_slice(), edits)
         }

@@ -1,6 +1,7 @@
 //! The models of files that are put only where nothing stands.
 
 ghost use Rattle.std.specs.Prelude.{◌≡◌, ◌∷◌, [], IfOk};
+ghost use Rattle.fs_semantics.specs.Programs.{Cp};
 ghost use Rattle.fs_lang.specs.Meaning.{program_of};
 ghost use Rattle.model_semantics.specs.Names.{Meets};
 ghost use Rattle.model_names.specs.Seen.{seen};
@@ -38,6 +39,14 @@ fn where_none(alloc: Global, p: &Path, put: Program) -> Result<Program, NoMemory
     choice(alloc, test, put, Program::Id)
 }
 
+/// Copies a file.
+fn copied(alloc: Global, from: &Path, p: &Path) -> Result<Program, NoMemory>
+    ensures { IfOk result (λ e. program_of e ≡ Cp from.now p.now) }
+{
+    let source = from.copy(alloc)?;
+    Ok(Program::Cp(source, p.copy(alloc)?))
+}
+
 /// What stands for the content at an address.
 fn fetched(alloc: Global, p: &Path, address: &Text) -> Result<Program, NoMemory>
     ensures { IfOk result (λ e. program_of e ≡ spared_row p.now (file.Fetched address.now)) }
@@ -59,8 +68,7 @@ fn spared_row(alloc: Global, p: &Path, state: &FileState) -> Result<Program, NoM
             where_none(alloc, p, put)
         }
         FileState::Copied(from) => {
-            let source = from.copy(alloc)?;
-            let put = Program::Cp(source, p.copy(alloc)?);
+            let put = copied(alloc, from, p)?;
             where_none(alloc, p, put)
         }
         FileState::Fetched(address) => fetched(alloc, p, address),

@@ -21,8 +21,15 @@ use model_names::Model;
 use model_semantics::{Cause, Kind, ModelFault, States};
 use pkg_listing::Listing;
 use res_models::model_at;
-use rh_base::Text;
+use rh_base::{NoMemory, Text};
 use std::alloc::Global;
+
+/// A text.
+fn text_of(alloc: Global, text: &str) -> Result<Text, NoMemory>
+    ensures { IfOk result (λ t. t ≡ text.now) }
+{
+    Ok(Text::from_string(String::from_str(alloc, text)?))
+}
 
 /// Whether a file that is put together of fragments can be told.
 fn filled(alloc: Global, host: &Host<'_>, n: &Native<'_>) -> Result<(), ModelFault>
@@ -31,10 +38,7 @@ fn filled(alloc: Global, host: &Host<'_>, n: &Native<'_>) -> Result<(), ModelFau
 {
     match why_unfilled(alloc, host.catalog, &host.fragments, n.text)? {
         None => Ok(()),
-        Some(name) => {
-            let text = Text::from_string(String::from_str(alloc, name)?);
-            Err(ModelFault::Because(Cause::Attribute(text)))
-        }
+        Some(name) => Err(ModelFault::Because(Cause::Attribute(text_of(alloc, name)?))),
     }
 }
 
@@ -50,12 +54,8 @@ fn native_model(
 {
     match k {
         Kind::File => file_model(alloc, s.ensure, r),
-        Kind::Package
-        | Kind::User
-        | Kind::Group
-        | Kind::Service
-        | Kind::Cron
-        | Kind::Key => model_at(alloc, k, s, listing, r),
+        Kind::Package | Kind::User | Kind::Group | Kind::Service | Kind::Cron | Kind::Key =>
+            model_at(alloc, k, s, listing, r),
     }
 }
 
@@ -71,7 +71,15 @@ fn model_of_kind(
 {
     let r = n.resource;
     let states = states_of(k, &r.attrs)?;
-    native_fits(alloc, host.links, edits, n.place as usize, k, states.ensure, r)?;
+    native_fits(
+        alloc,
+        host.links,
+        edits,
+        n.place as usize,
+        k,
+        states.ensure,
+        r,
+    )?;
     filled(alloc, host, n)?;
     native_model(alloc, k, states, host.listing, r)
 }

@@ -21,11 +21,11 @@ pub(crate) fn native_at<'n>(
     catalog: &'n Catalog,
     place: u32,
 ) -> Native<'n>
-    requires told { place < length texts.entry.now.resources }
-    requires made { place < length catalog.entry.now.resources }
+    requires told { place < length texts.now.resources }
+    requires made { place < length catalog.now.resources }
     ensures place { result.place ≡ place }
-    ensures text { slice_get texts.entry.now.resources place ≡ Some result.text.now }
-    ensures resource { slice_get catalog.entry.now.resources place ≡ Some result.resource.now }
+    ensures text { slice_get texts.now.resources place ≡ Some result.text.now }
+    ensures resource { slice_get catalog.now.resources place ≡ Some result.resource.now }
 {
     Native {
         place,

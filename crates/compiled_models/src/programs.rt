@@ -1,121 +1,42 @@
 //! The programs of native resources.
 
-ghost use Rattle.std.specs.Prelude.{◌≡◌, [], ◌<◌, length, map, codes, Ok, IfOk, option_map};
+ghost use Rattle.std.specs.Prelude.{◌≡◌, [], ◌<◌, length, map, Ok, IfOk};
 ghost use Rattle.std.specs.List.{AllByRecursion};
 ghost use Rattle.pp_eval.specs.Verdicts.{AnswersBy};
 ghost use Rattle.fs_lang.specs.Meaning.{program_of as meaning};
 ghost use Rattle.fs_semantics.specs.FileTree.{is_among};
-ghost use Rattle.pp_value.specs.Values.{value_at};
-ghost use Rattle.catalog_semantics.specs.Attributes.{is_one_of};
 ghost use Rattle.given_links.specs.Reading.{program_read_as};
-ghost use Rattle.model_semantics.specs.Names.{is_true, truth_in};
 ghost use Rattle.model_names.specs.Seen.{seen};
 ghost use Rattle.assumed_models.specs.Edits.{edits_beside, marks_of};
 ghost use Rattle.assumed_models.specs.LostEdits.{with_lost_edits};
-ghost use Rattle.compiled_models.specs.Programs.{idle_types, is_idle, program_assumed, program_told, done_by, done_of, model_of, programs_behind, programs, natives_at};
-ghost use Rattle.compiled_models.specs.Hosts.{IsSound, setting_of, setting_with, native_of, IsTold, AddsDone, AddsProgram};
+ghost use Rattle.compiled_models.specs.Programs.{done_by, done_of, model_of, programs_behind, programs, natives_at};
+ghost use Rattle.compiled_models.specs.Hosts.{IsSound, setting_of, setting_with, native_of, AddsDone, AddsProgram};
 
 use crate::edits::edits_of;
-use crate::host::{Host, assumed_at};
+use crate::host::Host;
 use crate::models::model_of;
 use crate::natives::{Native, native_at};
 use crate::refusals::fault_of;
-use assumed_models::{Edits, program_of_behavior, with_lost_edits};
-use assumed_text::{Assumed, Assumptions};
+use crate::told::program_told;
+use assumed_models::{Edits, with_lost_edits};
+use assumed_text::Assumptions;
 use catalog::Catalog;
-use catalog_semantics::Resource;
-use compiled_attributes::is_noop;
 use compiled_text::CompiledCatalog;
 use fs_lang::{Path, Program};
 use given_links::{GivenLink, read_program};
-use model_attributes::truth_of;
 use model_names::Model;
 use model_semantics::{Cause, ModelFault};
-use model_words::sequence;
+use model_words::{push, sequence};
 use pkg_listing::{Listing, PathSet};
 use rh_base::{Fault, NoMemory, Seq};
 use std::alloc::Global;
-
-/// The types that only order others, or say how others are to be applied.
-const IDLE_TYPES: [&str; 6] = [
-    "notify",
-    "anchor",
-    "filebucket",
-    "schedule",
-    "whit",
-    "concat_fragment",
-];
-
-fn is_idle_type(kind: &str) -> bool
-    ensures { result ≡ is_one_of idle_types kind.now }
-{
-    for idle in IDLE_TYPES {
-        if kind == idle {
-            return true;
-        }
-    }
-    false
-}
-
-/// Whether `purge` is true.
-fn purges(r: &Resource) -> bool
-    ensures { result ≡ is_true (truth_in (value_at (codes "purge") r.now.attrs)) }
-{
-    let Some(value) = r.attrs.find("purge") else {
-        return false;
-    };
-    matches!(truth_of(value), Some(true))
-}
-
-/// Whether a resource does nothing because of its type.
-fn is_idle(r: &Resource) -> bool
-    ensures { result ≡ is_idle r.now }
-{
-    let kind = r.id.kind.as_str();
-    let is_resources = kind == "resources";
-    is_idle_type(kind) || is_resources && !purges(r)
-}
-
-/// The program that is assumed, if something is.
-fn program_assumed(
-    alloc: Global,
-    r: &Resource,
-    assumed: Option<&Assumed>,
-) -> Result<Option<Program>, ModelFault>
-    ensures { IsTold (program_assumed r.now (option_map (λ x. x.now) assumed.entry)) result }
-{
-    match assumed {
-        None | Some(Assumed::Refused) => Ok(None),
-        Some(Assumed::Nothing) => Ok(Some(Program::Id)),
-        Some(Assumed::Does(behavior)) => Ok(Some(program_of_behavior(alloc, r, behavior)?)),
-    }
-}
-
-/// The program that a resource has whatever its model is, if it has one.
-fn program_told(
-    alloc: Global,
-    host: &Host<'_>,
-    n: &Native<'_>,
-) -> Result<Option<Program>, ModelFault>
-    requires { IsSound host.now }
-    ensures { IsTold (program_told (setting_of host.now) (native_of n.now)) result }
-{
-    let assumed = assumed_at(alloc, host, n.place as usize, n.text)?;
-    if let Some(program) = program_assumed(alloc, n.resource, assumed)? {
-        return Ok(Some(program));
-    }
-    if is_noop(n.text) || is_idle(n.resource) {
-        return Ok(Some(Program::Id));
-    }
-    Ok(None)
-}
 
 /// Whether a path is that of a link.
 fn is_barred(links: &[GivenLink], p: &Path) -> bool
     ensures { result ≡ is_among p.now (map (λ l. l.path) links.now) }
 {
     for link in links {
-        if link.path == *p {
+        if *p == link.path {
             return true;
         }
     }
@@ -202,7 +123,7 @@ fn push_program(
     match done_of(alloc, host, edits, n, places) {
         Ok(program) => {
             let among = program_among(alloc, host.links, edits, n.place as usize, &program)?;
-            into.push(among)?;
+            push(into, among)?;
             Ok(())
         }
         Err(fault) => Err(fault_of(alloc, n, fault)),
@@ -226,7 +147,10 @@ fn programs_beside(
     let mut made = Seq::new(alloc);
     for place in plain {
         let n = native_at(host.catalog, catalog, *place);
-        push_program(alloc, host, edits, &n, &mut places, &mut made)?;
+        match push_program(alloc, host, edits, &n, &mut places, &mut made) {
+            Ok(()) => {}
+            Err(fault) => return Err(fault),
+        }
     }
     Ok(made)
 }

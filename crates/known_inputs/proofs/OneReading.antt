@@ -22,7 +22,7 @@ use Rattle.tree_text.specs.TreeText.{IsTreeText}
 use Rattle.command_line.specs.declared.table.Role.TheVariants as role
 use Rattle.known_inputs.specs.declared.inputs.Inputs.{Inputs}
 use Rattle.known_inputs.specs.declared.inputs.Known.{Known}
-use Rattle.known_inputs.specs.Inputs.{Bytes, bytes_of, AreFactsOf, IsListingOf, AreDataOf, IsTreeOf, AreAssumedOf, IsGivenOf, BeginsIn, LacksGiven, wants_edited, IsKnown, FirstUnread}
+use Rattle.known_inputs.specs.Inputs.{Bytes, bytes_of, AreFactsOf, IsListingOf, AreDataOf, IsTreeOf, IsCompiledOf, AreAssumedOf, IsGivenOf, BeginsIn, LacksGiven, edited_in, wants_edited, AreNamed, IsKnown, FirstUnread}
 
 -- ---- one text
 
@@ -84,6 +84,17 @@ one_assumed : OneAssumed → (bytes : Bytes) (rows others : List Assumption) →
 one_assumed one None rows others is was = is ∙ sym was
 one_assumed one (Some bytes) rows others is was = one bytes rows others is was
 
+abbrev pub OneCompiled : Type 0
+OneCompiled = (bytes : List ℕ) (c d : Compiled) → IsCompiledText bytes c → IsCompiledText bytes d → c ≡ d
+
+one_compiled : OneCompiled → (bytes : Bytes) (c d : Option Compiled) → IsCompiledOf bytes c → IsCompiledOf bytes d → c ≡ d
+one_compiled one None None None is was = refl
+one_compiled one None None (Some d) is was = absurd was
+one_compiled one None (Some c) d is was = absurd is
+one_compiled one (Some bytes) None d is was = absurd is
+one_compiled one (Some bytes) (Some c) None is was = absurd was
+one_compiled one (Some bytes) (Some c) (Some d) is was = ap (λ v. Some v) (one bytes c d is was)
+
 -- ---- all files
 
 pub one_known : OneListing → OneData → OneTree → OneAssumed → OneGiven → OneJust → (i : Inputs) (k m : Known) → IsKnown i k → IsKnown i m → k ≡ m
@@ -108,24 +119,31 @@ begins_well (Some told) folders t r begins lacking = lacking.1 (subst (Stand fol
 edited_well : (edited : Bool) → edited ≡ false → edited ≡ true → ⊥
 edited_well edited not is = let no : ◌≡◌ {A = Bool} false true = sym not ∙ is in cc
 
-pub none_refused : OneTree → OneAssumed → OneGiven → (i : Inputs) (k : Known) (r : Refusal) → IsKnown i k → FirstUnread i r → ⊥
-none_refused trees assumptions givens i k r is (FirstUnread.facts none) = none.none k.facts is.told.facts
-none_refused trees assumptions givens i k r is (FirstUnread.listing x facts none) = none.none k.listing is.told.listing
-none_refused trees assumptions givens i k r is (FirstUnread.class_data x packages facts listed none) = none.none k.class_data is.told.class_data
-none_refused trees assumptions givens i k r is (FirstUnread.tree x packages levels told none) = none.none is.tree is.named.tree
-none_refused trees assumptions givens i k r is (FirstUnread.compiled x packages levels t told is_tree none) = none.none is.compiled is.named.compiled
-none_refused trees assumptions givens i k r is (FirstUnread.assumed x packages levels t c told is_tree is_compiled none) = none.none k.assumed is.named.assumed
-none_refused trees assumptions givens i k r is (FirstUnread.edited x packages levels t c rows told named wants) =
+-- what resources edit, as the files say it
+same_edits : OneCompiled → OneAssumed → (i : Inputs) (k : Known) (is : IsKnown i k) (t : Option Tree) (c : Option Compiled) (rows : List Assumption) → AreNamed i t c rows → edited_in c rows ≡ edited_in is.compiled k.assumed
+same_edits catalogs assumptions i k is t c rows named =
     let same = one_assumed assumptions (bytes_of role.Assume i) rows k.assumed named.assumed is.named.assumed in
-    edited_well (wants_edited (λ p. p) i.wanted k.assumed) is.apart (subst (λ rs. wants_edited (λ p. p) i.wanted rs ≡ true) same wants.edited)
-none_refused trees assumptions givens i k r is (FirstUnread.given x packages levels t c rows told named none) = none.none k.given is.given
-none_refused trees assumptions givens i k r is (FirstUnread.edited_as_read x packages levels t c rows g told named is_given wants) =
-    let same = one_assumed assumptions (bytes_of role.Assume i) rows k.assumed named.assumed is.named.assumed in
+    let one = one_compiled catalogs (bytes_of role.Compiled i) c is.compiled named.compiled is.named.compiled in
+    ap (λ d. edited_in d rows) one ∙ ap (λ rs. edited_in is.compiled rs) same
+
+pub none_refused : OneTree → OneCompiled → OneAssumed → OneGiven → (i : Inputs) (k : Known) (r : Refusal) → IsKnown i k → FirstUnread i r → ⊥
+none_refused trees catalogs assumptions givens i k r is (FirstUnread.facts none) = none.none k.facts is.told.facts
+none_refused trees catalogs assumptions givens i k r is (FirstUnread.listing x facts none) = none.none k.listing is.told.listing
+none_refused trees catalogs assumptions givens i k r is (FirstUnread.class_data x packages facts listed none) = none.none k.class_data is.told.class_data
+none_refused trees catalogs assumptions givens i k r is (FirstUnread.tree x packages levels told none) = none.none is.tree is.named.tree
+none_refused trees catalogs assumptions givens i k r is (FirstUnread.compiled x packages levels t told is_tree none) = none.none is.compiled is.named.compiled
+none_refused trees catalogs assumptions givens i k r is (FirstUnread.assumed x packages levels t c told is_tree is_compiled none) = none.none k.assumed is.named.assumed
+none_refused trees catalogs assumptions givens i k r is (FirstUnread.edited x packages levels t c rows told named wants) =
+    let same = same_edits catalogs assumptions i k is t c rows named in
+    edited_well (wants_edited (λ p. p) i.wanted (edited_in is.compiled k.assumed)) is.apart (subst (λ edited. wants_edited (λ p. p) i.wanted edited ≡ true) same wants.wants)
+none_refused trees catalogs assumptions givens i k r is (FirstUnread.given x packages levels t c rows told named none) = none.none k.given is.given
+none_refused trees catalogs assumptions givens i k r is (FirstUnread.edited_as_read x packages levels t c rows g told named is_given wants) =
+    let same = same_edits catalogs assumptions i k is t c rows named in
     let said = one_given givens (bytes_of role.Given i) g k.given is_given is.given in
-    let wants_here = subst (λ (h : Given). wants_edited (read_as h.links) i.wanted rows ≡ true) said wants.edited in
-    edited_well (wants_edited (read_as k.given.links) i.wanted k.assumed) is.apart_as_read
-    (subst (λ rs. wants_edited (read_as k.given.links) i.wanted rs ≡ true) same wants_here)
-none_refused trees assumptions givens i k r is (FirstUnread.lacks x packages levels t c rows g told named is_given lacking) =
+    let wants_here = subst (λ (h : Given). wants_edited (read_as h.links) i.wanted (edited_in c rows) ≡ true) said wants.wants in
+    edited_well (wants_edited (read_as k.given.links) i.wanted (edited_in is.compiled k.assumed)) is.apart_as_read
+    (subst (λ edited. wants_edited (read_as k.given.links) i.wanted edited ≡ true) same wants_here)
+none_refused trees catalogs assumptions givens i k r is (FirstUnread.lacks x packages levels t c rows g told named is_given lacking) =
     let same = one_tree trees (bytes_of role.Tree i) t is.tree named.tree is.named.tree in
     let said = one_given givens (bytes_of role.Given i) g k.given is_given is.given in
     begins_well is.tree k.given.folders k.tree r is.begins

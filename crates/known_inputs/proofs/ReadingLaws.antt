@@ -14,7 +14,7 @@ use Rattle.pp_value.specs.declared.value.Value.{Value}
 use Rattle.pp_data.specs.declared.data.Level.{Level}
 use Rattle.pkg_listing.specs.Packages.{Packages}
 use Rattle.known_inputs.specs.declared.inputs.Inputs.{Inputs}
-use Rattle.known_inputs.specs.Inputs.{bytes_of, AreFactsOf, IsListingOf, AreDataOf, IsTreeOf, IsCompiledOf, IsGivenOf, wants_edited, HasNoListing, HasNoData, HasNoTree, HasNoCompiled, HasNoAssumptions, HasNoGiven, WantsEdited, LacksGiven, AreTold, AreNamed, FirstUnread, listing, class_data, tree, compiled, assumed, edited, given, edited_as_read, lacks}
+use Rattle.known_inputs.specs.Inputs.{bytes_of, AreFactsOf, IsListingOf, IsTreeOf, IsCompiledOf, IsGivenOf, edited_in, wants_edited, HasNoListing, HasNoData, HasNoTree, HasNoCompiled, HasNoAssumptions, HasNoGiven, WantsEdited, LacksGiven, AreTold, AreNamed, FirstUnread, listing, class_data, tree, compiled, assumed, edited, given, edited_as_read, lacks}
 
 pub listing_refused : (i : Inputs) (x : Value) (e : Fault) → AreFactsOf (bytes_of role.Facts i) x → IfRefused e (HasNoListing (bytes_of role.Packages i)) → IfRefused e (FirstUnread i)
 listing_refused i x (Refused r) facts none = listing x facts none
@@ -47,13 +47,13 @@ NothingIsRead = (p : Path) → read_as [] p ≡ p
 same_reading : NothingIsRead → read_as [] ≡ (λ p. p)
 same_reading none = λ t p. none p t
 
-pub nothing_is_read : NothingIsRead → (wanted : Option Wanted) (rows : List Assumption) → wants_edited (read_as []) wanted rows ≡ false → wants_edited (λ p. p) wanted rows ≡ false
-nothing_is_read none wanted rows h = subst (λ read. wants_edited read wanted rows ≡ false) (same_reading none) h
+pub nothing_is_read : NothingIsRead → (wanted : Option Wanted) (paths : List Path) → wants_edited (read_as []) wanted paths ≡ false → wants_edited (λ p. p) wanted paths ≡ false
+nothing_is_read none wanted paths h = subst (λ read. wants_edited read wanted paths ≡ false) (same_reading none) h
 
 pub edits_refused : NothingIsRead → (i : Inputs) (x : Value) (packages : Packages) (levels : List Level) (t : Option Tree) (c : Option Compiled) (rows : List Assumption) (e : Fault)
-    → AreTold i x packages levels → AreNamed i t c rows → IfRefused e (WantsEdited (read_as []) i.wanted rows) → IfRefused e (FirstUnread i)
+    → AreTold i x packages levels → AreNamed i t c rows → IfRefused e (WantsEdited (read_as []) i.wanted (edited_in c rows)) → IfRefused e (FirstUnread i)
 edits_refused none i x packages levels t c rows (Refused r) told named wants =
-    edited x packages levels t c rows told named (subst (λ read. WantsEdited read i.wanted rows r) (same_reading none) wants)
+    edited x packages levels t c rows told named (subst (λ read. WantsEdited read i.wanted (edited_in c rows) r) (same_reading none) wants)
 edits_refused none i x packages levels t c rows (Memory m) told named wants = tt
 
 pub given_refused : (i : Inputs) (x : Value) (packages : Packages) (levels : List Level) (t : Option Tree) (c : Option Compiled) (rows : List Assumption) (e : Fault)
@@ -62,7 +62,7 @@ given_refused i x packages levels t c rows (Refused r) told named none = given x
 given_refused i x packages levels t c rows (Memory m) told named none = tt
 
 pub edits_as_read_refused : (i : Inputs) (x : Value) (packages : Packages) (levels : List Level) (t : Option Tree) (c : Option Compiled) (rows : List Assumption) (g : Given) (e : Fault)
-    → AreTold i x packages levels → AreNamed i t c rows → IsGivenOf (bytes_of role.Given i) g → IfRefused e (WantsEdited (read_as g.links) i.wanted rows) → IfRefused e (FirstUnread i)
+    → AreTold i x packages levels → AreNamed i t c rows → IsGivenOf (bytes_of role.Given i) g → IfRefused e (WantsEdited (read_as g.links) i.wanted (edited_in c rows)) → IfRefused e (FirstUnread i)
 edits_as_read_refused i x packages levels t c rows g (Refused r) told named is_given wants = edited_as_read x packages levels t c rows g told named is_given wants
 edits_as_read_refused i x packages levels t c rows g (Memory m) told named is_given wants = tt
 

@@ -1,6 +1,6 @@
 -- What the files of a request say, but for a manifest, and which of them is refused first.
-use Rattle.std.specs.Prelude.{◌≡◌, List, [], ◌∷◌, ℕ, Bool, true, false, map, Option, Some, None, is_some, if◌then◌else◌, codes}
-use Rattle.std.specs.List.{list_any, flat_map}
+use Rattle.std.specs.Prelude.{◌≡◌, List, [], ◌∷◌, ◌++◌, ℕ, ◌+◌, Bool, true, false, map, Option, Some, None, is_some, if◌then◌else◌, codes}
+use Rattle.std.specs.List.{list_any}
 use Rattle.command_line.specs.declared.table.Role.{Role}
 use Rattle.command_line.specs.declared.table.Role.TheVariants as role
 use Rattle.command_line.specs.Table.{given as named}
@@ -16,7 +16,9 @@ use Rattle.pp_data.specs.Form.{AreData}
 use Rattle.pkg_listing.specs.Packages.{Packages}
 use Rattle.pkg_listing.specs.Form.{IsListingText}
 use Rattle.tree_text.specs.TreeText.{IsTreeText}
+use Rattle.compiled_text.specs.declared.catalog.CompiledResource.{CompiledResource}
 use Rattle.compiled_text.specs.Compiled.{Compiled}
+use Rattle.compiled_models.specs.Assumed.{assumed_at}
 use Rattle.compiled_text.specs.Form.{IsCompiledText}
 use Rattle.assumed_text.specs.declared.assumed.Assumed.{Assumed}
 use Rattle.assumed_text.specs.declared.assumed.Assumed.TheVariants.{Nothing, Refused, Does}
@@ -103,26 +105,37 @@ abbrev pub BeginsIn : Option Tree → List Path → Tree → Type 0
 BeginsIn None folders t = HasJust folders t
 BeginsIn (Some told) folders t = (t ≡ told) × Stand folders t
 
--- ---- a wanted content that an assumption edits
+-- ---- a wanted content that a resource edits
 
--- the paths that a resource edits, as it is assumed
-abbrev pub edits_in : Assumed → List Path
-edits_in Nothing = []
-edits_in Refused = []
-edits_in (Does b) = b.edits
+-- the paths that a resource edits, as something is assumed of it
+abbrev pub edits_in : Option Assumed → List Path
+edits_in None = []
+edits_in (Some Nothing) = []
+edits_in (Some Refused) = []
+edits_in (Some (Does b)) = b.edits
 
--- the paths that all of these edit
-abbrev pub edited_in : List Assumption → List Path
-edited_in rows = flat_map (λ a. edits_in a.assumed) rows
+-- the paths that a resource at a place edits; a container does nothing itself
+abbrev pub edits_at : List CompiledResource → List Assumption → ℕ → CompiledResource → List Path
+edits_at all rows place r = if r.is_container then [] else edits_in (assumed_at all rows place r)
+
+-- the paths that these edit, of which the first stands at this place
+abbrev pub edits_from : List CompiledResource → List Assumption → ℕ → List CompiledResource → List Path
+edits_from all rows place [] = []
+edits_from all rows place (r ∷ resources) = edits_at all rows place r ++ edits_from all rows (place + 1) resources
+
+-- The paths that the resources of a compiled catalog edit. An assumption of which none of them is the subject edits nothing.
+abbrev pub edited_in : Option Compiled → List Assumption → List Path
+edited_in None rows = []
+edited_in (Some c) rows = edits_from c.resources rows 0 c.resources
 
 -- the path of an entry of which a content is wanted
 abbrev pub held_path : Option Wanted → List Path
 held_path None = []
 held_path (Some w) = if is_some w.content then w.path ∷ [] else []
 
--- A content is wanted at a path that an assumption edits, where each path is read so: nobody knows then what is in the file.
-abbrev pub wants_edited : (Path → Path) → Option Wanted → List Assumption → Bool
-wants_edited read wanted rows = list_any (λ p. is_among (read p) (map read (edited_in rows))) (held_path wanted)
+-- A content is wanted at one of the paths that resources edit, where each path is read so: nobody knows then what is in the file.
+abbrev pub wants_edited : (Path → Path) → Option Wanted → List Path → Bool
+wants_edited read wanted edited = list_any (λ p. is_among (read p) (map read edited)) (held_path wanted)
 
 -- ---- bytes that say nothing, and their refusals
 
@@ -156,10 +169,10 @@ pub record HasNoAssumptions (bytes : Bytes) (r : Refusal) : Type 0 where
   pub refusal : IsRefusal 66 0 (codes "assume") r
   pub none : (rows : List Assumption) → AreAssumedOf bytes rows → ⊥
 
--- what is wanted is edited, where each path is read so
-pub record WantsEdited (read : Path → Path) (wanted : Option Wanted) (rows : List Assumption) (r : Refusal) : Type 0 where
+-- what is wanted is one of the paths that are edited, where each path is read so
+pub record WantsEdited (read : Path → Path) (wanted : Option Wanted) (edited : List Path) (r : Refusal) : Type 0 where
   pub refusal : IsRefusal 66 0 (codes "assume") r
-  pub edited : wants_edited read wanted rows ≡ true
+  pub wants : wants_edited read wanted edited ≡ true
 
 -- the bytes give no folders and links
 pub record HasNoGiven (bytes : Bytes) (r : Refusal) : Type 0 where
@@ -191,14 +204,14 @@ pub record IsKnown (i : Inputs) (k : Known) : Type 0 where
   pub tree : Option Tree
   pub compiled : Option Compiled
   pub named : AreNamed i tree compiled k.assumed
-  pub apart : wants_edited (λ p. p) i.wanted k.assumed ≡ false
+  pub apart : wants_edited (λ p. p) i.wanted (edited_in compiled k.assumed) ≡ false
   pub given : IsGivenOf (bytes_of role.Given i) k.given
-  pub apart_as_read : wants_edited (read_as k.given.links) i.wanted k.assumed ≡ false
+  pub apart_as_read : wants_edited (read_as k.given.links) i.wanted (edited_in compiled k.assumed) ≡ false
   pub begins : BeginsIn tree k.given.folders k.tree
 
 -- The refusal of the first that says nothing: facts, the listing, class data, the tree, a compiled catalog, what is assumed, and then
--- what every host has. Behind what is assumed, and again behind what every host has, it is refused that an assumption edits what is
--- wanted; and then a tree in which a given folder isn't one.
+-- what every host has. Behind what is assumed, and again behind what every host has, it is refused that a resource edits what is
+-- wanted, as it is assumed; and then a tree in which a given folder isn't one.
 pub data FirstUnread (i : Inputs) (r : Refusal) : Type 0 where
   facts : HasNoFacts (bytes_of role.Facts i) r → FirstUnread i r
   listing : (x : Value) → AreFactsOf (bytes_of role.Facts i) x → HasNoListing (bytes_of role.Packages i) r → FirstUnread i r
@@ -209,10 +222,10 @@ pub data FirstUnread (i : Inputs) (r : Refusal) : Type 0 where
   assumed : (x : Value) (packages : Packages) (levels : List Level) (t : Option Tree) (c : Option Compiled) → AreTold i x packages levels → IsTreeOf (bytes_of role.Tree i) t
       → IsCompiledOf (bytes_of role.Compiled i) c → HasNoAssumptions (bytes_of role.Assume i) r → FirstUnread i r
   edited : (x : Value) (packages : Packages) (levels : List Level) (t : Option Tree) (c : Option Compiled) (rows : List Assumption) → AreTold i x packages levels
-      → AreNamed i t c rows → WantsEdited (λ p. p) i.wanted rows r → FirstUnread i r
+      → AreNamed i t c rows → WantsEdited (λ p. p) i.wanted (edited_in c rows) r → FirstUnread i r
   given : (x : Value) (packages : Packages) (levels : List Level) (t : Option Tree) (c : Option Compiled) (rows : List Assumption) → AreTold i x packages levels
       → AreNamed i t c rows → HasNoGiven (bytes_of role.Given i) r → FirstUnread i r
   edited_as_read : (x : Value) (packages : Packages) (levels : List Level) (t : Option Tree) (c : Option Compiled) (rows : List Assumption) (g : Given)
-      → AreTold i x packages levels → AreNamed i t c rows → IsGivenOf (bytes_of role.Given i) g → WantsEdited (read_as g.links) i.wanted rows r → FirstUnread i r
+      → AreTold i x packages levels → AreNamed i t c rows → IsGivenOf (bytes_of role.Given i) g → WantsEdited (read_as g.links) i.wanted (edited_in c rows) r → FirstUnread i r
   lacks : (x : Value) (packages : Packages) (levels : List Level) (t : Option Tree) (c : Option Compiled) (rows : List Assumption) (g : Given)
       → AreTold i x packages levels → AreNamed i t c rows → IsGivenOf (bytes_of role.Given i) g → LacksGiven t g.folders r → FirstUnread i r

@@ -7,6 +7,7 @@ ghost use Rattle.known_inputs.specs.declared.inputs.Known.{Known as Said};
 ghost use Rattle.known_inputs.specs.Inputs.{IsKnown, FirstUnread};
 
 use assumed_text::assumption_texts;
+use compiled_text::compiled_texts;
 use given_text::given_texts;
 use pkg_listing::listing_texts;
 use pp_data::text_has_one_data;
@@ -20,6 +21,7 @@ pub fn files_say_one_thing()
     listing_texts();
     text_has_one_data();
     tree_texts();
+    compiled_texts();
     assumption_texts();
     given_texts();
 }

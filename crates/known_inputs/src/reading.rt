@@ -1,12 +1,13 @@
 //! Reading the files of a request, but for a manifest.
 
-ghost use Rattle.std.specs.Prelude.{◌≡◌, ◌↔◌, IsTrue, IfOk, IfErr};
+ghost use Rattle.std.specs.Prelude.{◌≡◌, ◌↔◌, IsTrue, false, IfOk, IfErr, OnOk};
 ghost use Rattle.std.specs.Option.{option_map};
 ghost use Rattle.rh_base.specs.Refused.{IfRefused};
 ghost use Rattle.fs_semantics.specs.FileTree.{is_dir};
 ghost use Rattle.given_hosts.specs.Given.{Stand};
+ghost use Rattle.given_links.specs.Reading.{read_as};
 ghost use Rattle.command_line.specs.declared.table.Role.TheVariants as role;
-ghost use Rattle.known_inputs.specs.Inputs.{bytes_of, AreFactsOf, IsListingOf, AreDataOf, IsTreeOf, IsCompiledOf, AreAssumedOf, IsGivenOf, BeginsIn, HasNoFacts, HasNoListing, HasNoData, HasNoTree, HasNoCompiled, HasNoAssumptions, HasNoGiven, LacksGiven, AreTold, AreNamed, IsKnown, FirstUnread};
+ghost use Rattle.known_inputs.specs.Inputs.{bytes_of, AreFactsOf, IsListingOf, AreDataOf, IsTreeOf, IsCompiledOf, AreAssumedOf, IsGivenOf, BeginsIn, edited_in, wants_edited, HasNoFacts, HasNoListing, HasNoData, HasNoTree, HasNoCompiled, HasNoAssumptions, HasNoGiven, LacksGiven, AreTold, AreNamed, IsKnown, FirstUnread};
 
 use crate::edited::check_edits;
 use crate::inputs::{Inputs, Known};
@@ -144,6 +145,7 @@ fn beginning(alloc: Global, told: Option<Tree>, folders: &[Path]) -> Result<Tree
 }
 
 /// Facts, packages and class data.
+#[derive(Drop)]
 struct Told {
     facts: Value,
     listing: Listing,
@@ -151,6 +153,7 @@ struct Told {
 }
 
 /// A tree, what is assumed, and a compiled catalog.
+#[derive(Drop)]
 struct Named {
     tree: Option<Tree>,
     assumed: Assumptions,
@@ -190,25 +193,40 @@ fn named_of(alloc: Global, inputs: &Inputs, told: &Told) -> Result<Named, Fault>
     })
 }
 
+/// The folders and links that every host has, where nothing that is wanted is edited, as it stands and as they read it.
+#[tactic(auto, using(crate::proofs::ReadingLaws::edits_refused, crate::proofs::ReadingLaws::given_refused, crate::proofs::ReadingLaws::edits_as_read_refused, crate::proofs::ReadingLaws::nothing_is_read))]
+fn given_beside(alloc: Global, inputs: &Inputs, told: &Told, named: &Named) -> Result<Given, Fault>
+    requires told { AreTold inputs.now told.now.facts told.now.listing told.now.class_data }
+    requires named { AreNamed inputs.now named.now.tree named.now.compiled named.now.assumed }
+    ensures given { IfOk result (IsGivenOf (bytes_of role.Given inputs.now)) }
+    ensures apart { OnOk result (wants_edited (λ p. p) inputs.now.wanted (edited_in named.now.compiled named.now.assumed) ≡ false) }
+    ensures apart_as_read { IfOk result (λ g. wants_edited (read_as g.links) inputs.now.wanted (edited_in named.now.compiled named.now.assumed) ≡ false) }
+    ensures refused { IfErr result (λ e. IfRefused e (FirstUnread inputs.now)) }
+{
+    path_readings();
+    let catalog = &named.compiled;
+    let assumed = &named.assumed;
+    check_edits(alloc, &[], &inputs.wanted, catalog, assumed)?;
+    let given = given_of(alloc, inputs.bytes(Role::Given))?;
+    let links = given.links.as_slice();
+    check_edits(alloc, links, &inputs.wanted, catalog, assumed)?;
+    Ok(given)
+}
+
 /// What the files of a request say, but for a manifest, with the compiled catalog that one of them is; or the refusal of the first that says
 /// nothing.
-#[tactic(auto, using(crate::proofs::ReadingLaws::edits_refused, crate::proofs::ReadingLaws::given_refused, crate::proofs::ReadingLaws::edits_as_read_refused, crate::proofs::ReadingLaws::lack_refused, crate::proofs::ReadingLaws::nothing_is_read))]
-pub fn known_inputs(alloc: Global, inputs: &Inputs) -> Result<(Known, Option<CompiledCatalog>), Fault>
+#[tactic(auto, using(crate::proofs::ReadingLaws::lack_refused))]
+pub fn known_inputs(
+    alloc: Global,
+    inputs: &Inputs,
+) -> Result<(Known, Option<CompiledCatalog>), Fault>
     ensures known { IfOk result (λ r. IsKnown inputs.now r.0) }
     ensures compiled { IfOk result (λ r. IsCompiledOf (bytes_of role.Compiled inputs.now) r.1) }
     ensures refused { IfErr result (λ e. IfRefused e (FirstUnread inputs.now)) }
 {
-    path_readings();
     let told = told_of(alloc, inputs)?;
     let named = named_of(alloc, inputs, &told)?;
-    check_edits(alloc, &[], &inputs.wanted, named.assumed.rows())?;
-    let given = given_of(alloc, inputs.bytes(Role::Given))?;
-    check_edits(
-        alloc,
-        given.links.as_slice(),
-        &inputs.wanted,
-        named.assumed.rows(),
-    )?;
+    let given = given_beside(alloc, inputs, &told, &named)?;
     let tree = beginning(alloc, named.tree, given.folders.as_slice())?;
     let known = Known {
         facts: told.facts,

@@ -21,7 +21,7 @@ use crate::inputs::{Loaded, Names};
 use crate::migrating::migrated;
 use crate::tell::{out_of_memory, tell_read_fault, tell_refusal, tell_usage, write_report};
 use crate::workloads::workload_inputs;
-use command_line::{Ask, Request, Size, Source, WordsFault, one_request, read_request};
+use command_line::{Ask, Request, Size, Source, WordsFault, input_kind, one_request, read_request};
 use given_links::program_readings;
 use known_inputs::Inputs;
 use proof_check::{accepted_logs_have_no_fault, one_list_of_proofs};
@@ -64,7 +64,7 @@ fn listed(alloc: Global, inputs: &Inputs) -> Result<Report, Fault>
     Ok(printed(told))
 }
 
-/// What is said of one manifest, or of a text that is none, or the first rule that it breaks.
+/// What is said of one manifest, of one compiled catalog, or of a text that is neither, or the first rule that it breaks.
 fn answer_one(
     alloc: Global,
     ask: Ask,
@@ -92,7 +92,7 @@ fn answer_one(
     }
 }
 
-/// Whether two manifests are to be compared.
+/// Whether two manifests or two compiled catalogs are to be compared.
 fn is_equal(ask: Ask) -> bool
     ensures { IsTrue result ↔ (ask ≡ Equal) }
 {
@@ -173,7 +173,8 @@ fn read<S: Shelf>(alloc: Global, names: Names, shelf: &mut S) -> Ending
         wanted,
         files,
     } = names;
-    match read_files(alloc, ask, files, shelf) {
+    let kind = input_kind(ask, files.as_slice());
+    match read_files(alloc, kind, files, shelf) {
         Ok(files) => {
             let loaded = Loaded {
                 ask,
@@ -264,7 +265,7 @@ pub fn rehearse<S: Shelf, O: Sink, E: Sink>(
     out: &mut O,
     err: &mut E,
 ) -> u8
-    // what each status promises of a manifest
+    // what each status promises of a manifest or a compiled catalog
     ensures headline { Headline (run_of words.now S.holds S.faults shelf.old shelf.new (put_of O.written O.faults out.old out.new) (put_of E.written E.faults err.old err.new)) result }
     // what each status tells, and where
     ensures tells { Tells (run_of words.now S.holds S.faults shelf.old shelf.new (put_of O.written O.faults out.old out.new) (put_of E.written E.faults err.old err.new)) result }

@@ -6,5 +6,6 @@ use Rattle.compiled_models.proofs.ProgramLaws.{AreMade}
 use Rattle.compiled_models.proofs.programs.programs_beside.Given as goal
 
 abbrev pub invariant-loop-place : goal.invariant-loop-place
-invariant-loop-place l = AreMade (setting_of l.host) l.edits l.places (map program_of l.made) (natives_at l.host.catalog.now.resources l.catalog.resources (drop l.place-index l.plain))
+invariant-loop-place l =
+    AreMade (setting_of l.host) l.edits l.places (map program_of l.made) (natives_at l.host.catalog.now.resources l.catalog.resources (drop l.place-index l.plain))
     (programs_behind (setting_of l.host) l.edits [] (natives_at l.host.catalog.now.resources l.catalog.resources l.plain))
