@@ -1,5 +1,7 @@
 //! What is answered of compiled catalogs.
 
+ghost use Rattle.std.specs.Prelude.{◌<◌, length};
+
 use crate::texts::compiled;
 use catalog::Catalog;
 use catalog_semantics::{Relation, Resource, Sort};
@@ -18,7 +20,9 @@ fn add_ref(alloc: Global, r: &Ref, line: &mut String) -> Result<(), Fail> {
 }
 
 /// A letter for the sort, the reference, and the places of the container and of what is in it.
-fn add_line(alloc: Global, catalog: &Catalog, place: u32, lines: &mut String) -> Result<(), Fail> {
+fn add_line(alloc: Global, catalog: &Catalog, place: u32, lines: &mut String) -> Result<(), Fail>
+    requires { place < length catalog.now.resources }
+{
     let r: &Resource = catalog.get(place);
     lines.push_str(match r.sort {
         Sort::Plain => "p ",
