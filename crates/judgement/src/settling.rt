@@ -83,7 +83,8 @@ fn look_at(
     }
 }
 
-/// Tries pairs from these trees.
+/// Tries pairs from these trees, and last from the first of them: it is empty, so that each order ends in Error where a folder is wanted
+/// that nothing makes.
 fn try_all(
     alloc: Global,
     programs: &[Program],
@@ -94,7 +95,12 @@ fn try_all(
     requires { length programs.now ≡ order.now.count }
     ensures { IfOk result (AreSettled (map program_of programs.now) order.now pairs.now) }
 {
-    match try_from(alloc, programs, order, pairs, trees)? {
+    let behind = trees.len().min(1);
+    let others = &trees[behind..];
+    if let Some(found) = try_from(alloc, programs, order, pairs, others)? {
+        return Ok(Settled::Differ(found));
+    }
+    match try_from(alloc, programs, order, pairs, &trees[..behind])? {
         Some(found) => Ok(Settled::Differ(found)),
         None => Ok(Settled::Open),
     }

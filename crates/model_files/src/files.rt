@@ -48,7 +48,7 @@ fn filled(alloc: Global, attrs: &Pairs, other: FileState) -> Result<FileState, M
     }
 }
 
-fn file_state(alloc: Global, e: Ensure, attrs: &Pairs) -> Result<FileState, ModelFault>
+pub fn file_state(alloc: Global, e: Ensure, attrs: &Pairs) -> Result<FileState, ModelFault>
     ensures { Meets (λ s. s) (file_state e attrs.now) result }
 {
     match e {
@@ -99,7 +99,7 @@ fn fetched(alloc: Global, p: &Path, address: &Text) -> Result<Program, NoMemory>
 }
 
 /// The program of a file in a state.
-fn file_row(alloc: Global, p: &Path, state: &FileState) -> Result<Program, NoMemory>
+pub fn file_row(alloc: Global, p: &Path, state: &FileState) -> Result<Program, NoMemory>
     ensures { IfOk result (λ e. program_of e ≡ file_row p.now state.now) }
 {
     match state {
@@ -124,7 +124,7 @@ fn copies_reserved(state: &FileState) -> bool
     }
 }
 
-fn are_free(p: &Path, state: &FileState) -> Result<(), ModelFault>
+pub fn are_free(p: &Path, state: &FileState) -> Result<(), ModelFault>
     ensures { Meets (λ done. done) (unless_reserved (is_reserved p.now || copies_reserved state.now)) result }
 {
     let place = is_reserved(p);
@@ -133,7 +133,7 @@ fn are_free(p: &Path, state: &FileState) -> Result<(), ModelFault>
 }
 
 /// A model of one step.
-fn one_step(alloc: Global, place: Path, step: Program) -> Result<Model, NoMemory>
+pub fn one_step(alloc: Global, place: Path, step: Program) -> Result<Model, NoMemory>
     ensures { IfOk result (λ m. seen m ≡ model place (program_of step ∷ [])) }
 {
     let mut steps = Seq::new(alloc);

@@ -3,4 +3,4 @@
 
 mod files;
 
-pub use files::file_model;
+pub use files::{are_free, file_model, file_row, file_state, one_step};

@@ -63,7 +63,7 @@ fn found(alloc: Global, words: &str, pair: (u32, u32)) -> Result<String, Fail> {
 
 #[test]
 fn pairs_without_an_order(rt: HostRuntime) -> Result<(), Fail> {
-    let rows: [(&str, (u32, u32), &str); 14] = [
+    let rows: [(&str, (u32, u32), &str); 15] = [
         // a missing arrow, which the empty tree shows
         ("dir /etc | put /etc/a x", (0, 1), "from: 0 1, 1 0"),
         ("dir /etc | put /etc/a x", (1, 0), "from: 1 0, 0 1"),
@@ -115,6 +115,12 @@ fn pairs_without_an_order(rt: HostRuntime) -> Result<(), Fail> {
             "drop /a; cp /b /a | drop /b; cp /a /b",
             (0, 1),
             "from /a /b: 0 1, 1 0",
+        ),
+        // a folder that nothing makes stands, and those above it, which one makes
+        (
+            "dir /etc | dir /etc/default | put /etc/default/a x | put /etc/d/b y",
+            (1, 2),
+            "from /etc /etc/d: 1 2 0 3, 2 1 0 3",
         ),
         // programs that commute, one program, and a number that is none
         ("put /a x | put /b y", (0, 1), "none"),

@@ -16,7 +16,8 @@ use model_services::service_model;
 use pkg_listing::Listing;
 use std::alloc::Global;
 
-fn model_at(
+/// The model by the type.
+pub fn model_at(
     alloc: Global,
     k: Kind,
     s: States,

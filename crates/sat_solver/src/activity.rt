@@ -48,6 +48,7 @@ pub(crate) struct Activity {
     places: Vec<u32>,
     bump: u64,
     firsts: Vec<u32>,
+    passed: usize,
     led: bool,
 }
 
@@ -62,6 +63,7 @@ impl Activity {
             places: vec![in alloc; OUTSIDE; vars]?,
             bump: FIRST_BUMP,
             firsts: Vec::new(alloc),
+            passed: 0,
             led: firsts.len() > 0,
         };
         'firsts: for i in 0..firsts.len() {
@@ -83,6 +85,31 @@ impl Activity {
         &self.firsts
     }
 
+    /// Of those that are to be tried the first that wasn't found set since `look_again`.
+    pub(crate) fn next_first(&self) -> Option<u32>
+        ensures { (w : ℕ) → result ≡ Some w → self.now.passed < length self.now.firsts.items }
+    {
+        let long = self.firsts.len();
+        if self.passed < long {
+            return Some(self.firsts[long - 1 - self.passed]);
+        }
+        None
+    }
+
+    /// That one is set.
+    pub(crate) fn pass_first(&mut self)
+        requires { self.old.passed < length self.old.firsts.items }
+        ensures passed { self.new.passed ≡ self.old.passed + 1 }
+        ensures firsts { self.new.firsts ≡ self.old.firsts }
+    {
+        self.passed += 1;
+    }
+
+    /// Literals were set free, so that each may be one to be tried.
+    pub(crate) fn look_again(&mut self) {
+        self.passed = 0;
+    }
+
     /// The last of them needn't be tried any more. Where another one is to be tried now, the search looks first at what is near it:
     /// at the variables between it and the one before, which are those of its gates.
     pub(crate) fn drop_first(&mut self)
@@ -91,6 +118,7 @@ impl Activity {
         let Some(word) = self.firsts.pop() else {
             return;
         };
+        self.passed = 0;
         let long = self.firsts.len();
         if long == 0 {
             return;

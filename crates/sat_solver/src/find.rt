@@ -133,6 +133,7 @@ fn resolve(
     if (steps.len() as u64) < budget {
         restart(store, trail, watches, restarts.is_due());
         activity.release(trail.dropped())?;
+        activity.look_again();
         trail.forget_dropped();
         return Ok(Turn::Goes);
     }
@@ -208,6 +209,23 @@ fn drop_refuted(trail: &Trail, vars: usize, activity: &mut Activity)
     }
 }
 
+/// Whether this is a literal of one of so many variables, and unassigned.
+fn is_unset(trail: &Trail, vars: usize, word: u32) -> bool
+    requires vars { vars ≡ trail.now.vars }
+    requires small { vars ≤ 2 ^ 31 }
+    ensures { result ≡ true → (word < 2 * trail.now.vars) × (has trail.now.words word ≡ false) × (has trail.now.words (opposite word) ≡ false) }
+{
+    if word as usize >= 2 * vars {
+        return false;
+    }
+    let holds = trail.holds(word);
+    if holds {
+        return false;
+    }
+    let is_false = trail.is_false(word);
+    !is_false
+}
+
 /// The literal that is to be tried ahead of the others: of those that are unassigned the first.
 fn first_word(trail: &Trail, vars: usize, activity: &mut Activity) -> Option<u32>
     requires vars { vars ≡ trail.now.vars }
@@ -215,20 +233,12 @@ fn first_word(trail: &Trail, vars: usize, activity: &mut Activity) -> Option<u32
     ensures { (w : ℕ) → result ≡ Some w → (w < 2 * trail.now.vars) × (has trail.now.words w ≡ false) × (has trail.now.words (opposite w) ≡ false) }
 {
     drop_refuted(trail, vars, activity);
-    'first: for word in activity.firsts().iter().rev() {
-        let word = *word;
-        if word as usize >= 2 * vars {
-            continue;
+    'first: while let Some(word) = activity.next_first() {
+        let is_free = is_unset(trail, vars, word);
+        if is_free {
+            return Some(word);
         }
-        let holds = trail.holds(word);
-        if holds {
-            continue;
-        }
-        let is_false = trail.is_false(word);
-        if is_false {
-            continue;
-        }
-        return Some(word);
+        activity.pass_first();
     }
     None
 }

@@ -27,8 +27,8 @@ enum Standing {
 }
 
 /// The paths of programs: all, each after those above it; those above another one; folders without which a program ends in Error at
-/// once, and those above them; folders that a program makes; files and links that one makes; what one removes; and files that are asked
-/// for where no program changes one that is asked for beside them.
+/// once, or right above what is made and made by none, and those above them; folders that a program makes; files and links that one
+/// makes; what one removes; and files that are asked for where no program changes one that is asked for beside them.
 #[derive(Drop)]
 struct Paths {
     named: BTreeSet<Path>,
@@ -98,16 +98,34 @@ fn down_to(alloc: Global, folders: BTreeSet<Path>) -> Result<BTreeSet<Path>, NoM
     Ok(all)
 }
 
+/// Adds the folders right above these paths, but for those that a program makes.
+fn add_unmade(
+    alloc: Global,
+    paths: &BTreeSet<Path>,
+    folders: &BTreeSet<Path>,
+    needed: &mut BTreeSet<Path>,
+) -> Result<(), NoMemory> {
+    for p in paths {
+        let above = p.parent(alloc)?;
+        if !folders.contains(&above) {
+            needed.insert(above)?;
+        }
+    }
+    Ok(())
+}
+
 fn paths_of(alloc: Global, named: BTreeSet<Path>, used: Used) -> Result<Paths, NoMemory> {
     let above = parents_of(alloc, &named)?;
     let Used {
-        needed,
+        mut needed,
         folders,
         made,
         removed,
         asked,
     } = used;
     let given = given_of(alloc, asked.as_slice(), &made, &removed)?;
+    add_unmade(alloc, &made, &folders, &mut needed)?;
+    add_unmade(alloc, &folders, &folders, &mut needed)?;
     Ok(Paths {
         named,
         above,
