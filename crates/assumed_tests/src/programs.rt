@@ -1,0 +1,243 @@
+//! What resources do of which a behavior is assumed, and edits that are lost.
+
+use assumed_models::{Edit, Edits, edit_mark, program_of_behavior, with_lost_edits};
+use assumed_text::{Assumed, Assumptions, Behavior, assumptions_from_json};
+use catalog_semantics::{Resource, Sort};
+use fs_lang::{Path, Program};
+use model_semantics::{Cause, ModelFault};
+use pp_eval::{facts_from_json, ref_of};
+use pp_value::{Pairs, Ref, Value};
+use rh_base::Seq;
+use std::alloc::Global;
+use std::test::Fail;
+use tree_text::program_text;
+
+/// The attributes of an object of JSON.
+fn attributes(alloc: Global, text: &str) -> Result<Pairs, Fail> {
+    match facts_from_json(alloc, text.as_bytes())? {
+        Value::Map(pairs) => Ok(pairs),
+        _ => Ok(Pairs::new(alloc)),
+    }
+}
+
+/// A native resource.
+fn native(id: Ref, attrs: Pairs) -> Resource {
+    Resource {
+        id,
+        sort: Sort::Plain,
+        is_virtual: false,
+        at: 0,
+        holder: None,
+        attrs,
+    }
+}
+
+/// A native resource of a type, a title and attributes.
+fn resource(alloc: Global, kind: &str, title: &str, attrs: &str) -> Result<Resource, Fail> {
+    let attrs = attributes(alloc, attrs)?;
+    Ok(native(ref_of(alloc, kind, title)?, attrs))
+}
+
+/// Assumptions of the type `exec`.
+fn assumptions(alloc: Global, behavior: &str) -> Result<Assumptions, Fail> {
+    let text = format!(in alloc; r#"{{"version":1,"resources":{{"exec":{behavior}}}}}"#)?;
+    Ok(assumptions_from_json(alloc, text.as_bytes())?)
+}
+
+/// The behavior that is assumed of the type `exec`.
+fn behavior_in(assumptions: &Assumptions) -> Option<&Behavior> {
+    match assumptions.of_type("exec") {
+        Some(Assumed::Does(behavior)) => Some(behavior),
+        _ => None,
+    }
+}
+
+fn shown(alloc: Global, program: &Program) -> Result<String, Fail> {
+    let mut bytes = Vec::new(alloc);
+    program_text(alloc, program, &mut bytes)?;
+    Ok(String::from_utf8(bytes)?)
+}
+
+/// What is told of a resource that has no program.
+fn fault_shown(fault: &ModelFault) -> &'static str {
+    match fault {
+        ModelFault::Because(Cause::Name) => "52",
+        ModelFault::Because(_) => "another cause",
+        ModelFault::Memory(_) => "no memory",
+    }
+}
+
+/// The program of a resource and a behavior, or the rule that is broken.
+fn program_of(alloc: Global, r: &Resource, behavior: &Behavior) -> Result<String, Fail> {
+    match program_of_behavior(alloc, r, behavior) {
+        Ok(program) => shown(alloc, &program),
+        Err(fault) => Ok(String::from_str(alloc, fault_shown(&fault))?),
+    }
+}
+
+/// The same of the text of a behavior.
+fn program_shown(alloc: Global, r: &Resource, behavior: &str) -> Result<String, Fail> {
+    let assumptions = assumptions(alloc, behavior)?;
+    match behavior_in(&assumptions) {
+        Some(behavior) => program_of(alloc, r, behavior),
+        None => Ok(String::from_str(alloc, "no behavior")?),
+    }
+}
+
+/// Behaviors, and the programs of `Exec[x]` with the attributes `{"command": "/bin/c", "tries": 2, "require": ..}`.
+const PROGRAMS: &[(&str, &str)] = &[
+    (r#"{"needs":[]}"#, "id"),
+    (
+        r#"{"needs":["/bin/c"]}"#,
+        r#"if file?("/bin/c") then id else err"#,
+    ),
+    (
+        r#"{"needs":["/bin/c"],"creates":"/c"}"#,
+        r#"if none?("/c") then if file?("/bin/c") then id else err else id"#,
+    ),
+    (
+        r#"{"needs":[],"creates":"/c"}"#,
+        r#"if none?("/c") then id else id"#,
+    ),
+    (
+        r#"{"folders":["/a","/b/c"]}"#,
+        r#"[if dir?("/a") then id else mkdir("/a"); if dir?("/b") then id else mkdir("/b"); if dir?("/b/c") then id else mkdir("/b/c")]"#,
+    ),
+    (
+        r#"{"makes":["/m"]}"#,
+        r#"if file?("/m") then [rm("/m"); creat("/m","made:Exec[x]:/m:{\"command\":\"/bin/c\",\"tries\":2}")] else creat("/m","made:Exec[x]:/m:{\"command\":\"/bin/c\",\"tries\":2}")"#,
+    ),
+    (
+        r#"{"edits":["/etc/a%b"]}"#,
+        r#"[if file?("/etc/a%b") then id else err; if dir?("/.rehearsal") then id else mkdir("/.rehearsal"); if dir?("/.rehearsal/edit") then id else mkdir("/.rehearsal/edit"); if dir?("/.rehearsal/edit/%2Fetc%2Fa%25b") then id else mkdir("/.rehearsal/edit/%2Fetc%2Fa%25b"); if file?("/.rehearsal/edit/%2Fetc%2Fa%25b/Exec[x]") then [rm("/.rehearsal/edit/%2Fetc%2Fa%25b/Exec[x]"); creat("/.rehearsal/edit/%2Fetc%2Fa%25b/Exec[x]","{\"command\":\"/bin/c\",\"tries\":2}")] else creat("/.rehearsal/edit/%2Fetc%2Fa%25b/Exec[x]","{\"command\":\"/bin/c\",\"tries\":2}")]"#,
+    ),
+    (
+        r#"{"removes":["/r","/s"]}"#,
+        r#"[if file?("/r") then rm("/r") else id; if file?("/s") then rm("/s") else id]"#,
+    ),
+    // in the order needs, folders, makes, edits, removes
+    (
+        r#"{"removes":["/r"],"folders":["/f"],"needs":["/n"],"creates":"/c"}"#,
+        r#"if none?("/c") then [if file?("/n") then id else err; if dir?("/f") then id else mkdir("/f"); if file?("/r") then rm("/r") else id] else id"#,
+    ),
+];
+
+#[test]
+fn behaviors_are_programs(rt: HostRuntime) -> Result<(), Fail> {
+    let r = resource(
+        rt.alloc(),
+        "exec",
+        "x",
+        r#"{"before":"B","command":"/bin/c","notify":"N","require":"R","subscribe":"S","tries":2}"#,
+    )?;
+    for (behavior, want) in PROGRAMS {
+        let told = program_shown(rt.alloc(), &r, behavior)?;
+        assert_eq!(rt; told.as_str(), *want, "{behavior}");
+    }
+    Ok(())
+}
+
+/// Pieces of titles, how many of them, behaviors, and whether a resource of such a title has a program.
+const NAMES: &[(&str, usize, &str, bool)] = &[
+    ("x", 249, r#"{"makes":["/m"]}"#, true),
+    ("x", 250, r#"{"makes":["/m"]}"#, false),
+    ("x", 250, r#"{"edits":["/m"]}"#, false),
+    ("x", 250, r#"{"edits":[],"makes":[],"needs":["/n"]}"#, true),
+    ("\0", 1, r#"{"makes":["/m"]}"#, false),
+    ("\0", 1, r#"{"edits":["/m"]}"#, false),
+    ("\0", 1, r#"{"removes":["/m"]}"#, true),
+];
+
+#[test]
+fn what_writes_has_a_name(rt: HostRuntime) -> Result<(), Fail> {
+    for (piece, count, behavior, accepted) in NAMES {
+        let title = piece.repeat(rt.alloc(), *count)?;
+        let r = resource(rt.alloc(), "exec", title.as_str(), "{}")?;
+        let told = program_shown(rt.alloc(), &r, behavior)?;
+        assert_eq!(rt; told.as_str() != "52", *accepted, "{behavior} {count}");
+    }
+    Ok(())
+}
+
+/// The mark of an edit of a path by `File_line[TITLE]`.
+fn mark(alloc: Global, title: &str, path: &Path) -> Result<Path, Fail> {
+    let r = resource(alloc, "file_line", title, "{}")?;
+    Ok(edit_mark(alloc, &r, path)?)
+}
+
+/// An edit of `/h` by `File_line[TITLE]`, which stands at a place.
+fn edit(alloc: Global, place: usize, title: &str) -> Result<Edit, Fail> {
+    let path = Path::read(alloc, "/h")?;
+    let mark = mark(alloc, title, &path)?;
+    Ok(Edit { place, path, mark })
+}
+
+/// Edits of `/h` by the resources at the places 0 and 1.
+fn two_edits(alloc: Global) -> Result<Edits, Fail> {
+    let mut edits = Seq::new(alloc);
+    for (place, title) in [(0, "a"), (1, "b")] {
+        edits.push(edit(alloc, place, title)?)?;
+    }
+    Ok(Edits::of(alloc, edits)?)
+}
+
+/// A program in which these edits are lost.
+fn lost(alloc: Global, place: usize, program: Program) -> Result<String, Fail> {
+    let edits = two_edits(alloc)?;
+    let lost = with_lost_edits(alloc, &edits, place, program)?;
+    shown(alloc, &lost)
+}
+
+/// The program of `Exec[x]` and a behavior, in which these edits are lost.
+fn lost_of(alloc: Global, place: usize, behavior: &Behavior) -> Result<String, Fail> {
+    let r = resource(alloc, "exec", "x", "{}")?;
+    match program_of_behavior(alloc, &r, behavior) {
+        Ok(program) => lost(alloc, place, program),
+        Err(fault) => Ok(String::from_str(alloc, fault_shown(&fault))?),
+    }
+}
+
+/// The same of the text of a behavior.
+fn lost_shown(alloc: Global, place: usize, behavior: &str) -> Result<String, Fail> {
+    let assumptions = assumptions(alloc, behavior)?;
+    match behavior_in(&assumptions) {
+        Some(behavior) => lost_of(alloc, place, behavior),
+        None => Ok(String::from_str(alloc, "no behavior")?),
+    }
+}
+
+/// Places, behaviors, and the programs in which edits are lost.
+const LOST: &[(usize, &str, &str)] = &[
+    (
+        2,
+        r#"{"removes":["/h"]}"#,
+        r#"if file?("/h") then [rm("/h"); if file?("/.rehearsal/edit/%2Fh/File_line[a]") then rm("/.rehearsal/edit/%2Fh/File_line[a]") else id; if file?("/.rehearsal/edit/%2Fh/File_line[b]") then rm("/.rehearsal/edit/%2Fh/File_line[b]") else id] else id"#,
+    ),
+    // a resource's own edits stay
+    (
+        0,
+        r#"{"removes":["/h"]}"#,
+        r#"if file?("/h") then [rm("/h"); if file?("/.rehearsal/edit/%2Fh/File_line[b]") then rm("/.rehearsal/edit/%2Fh/File_line[b]") else id] else id"#,
+    ),
+    (
+        1,
+        r#"{"makes":["/h"]}"#,
+        r#"if file?("/h") then [rm("/h"); if file?("/.rehearsal/edit/%2Fh/File_line[a]") then rm("/.rehearsal/edit/%2Fh/File_line[a]") else id; creat("/h","made:Exec[x]:/h:{}"); if file?("/.rehearsal/edit/%2Fh/File_line[a]") then rm("/.rehearsal/edit/%2Fh/File_line[a]") else id] else [creat("/h","made:Exec[x]:/h:{}"); if file?("/.rehearsal/edit/%2Fh/File_line[a]") then rm("/.rehearsal/edit/%2Fh/File_line[a]") else id]"#,
+    ),
+    // what needs the file or makes a folder doesn't write it, nor does what writes another file
+    (
+        2,
+        r#"{"needs":["/h"],"folders":["/f"],"removes":["/i"]}"#,
+        r#"[if file?("/h") then id else err; if dir?("/f") then id else mkdir("/f"); if file?("/i") then rm("/i") else id]"#,
+    ),
+    (2, r#"{"needs":[]}"#, "id"),
+];
+
+#[test]
+fn edits_are_lost(rt: HostRuntime) -> Result<(), Fail> {
+    for (place, behavior, want) in LOST {
+        let told = lost_shown(rt.alloc(), *place, behavior)?;
+        assert_eq!(rt; told.as_str(), *want, "{place} {behavior}");
+    }
+    Ok(())
+}

@@ -1,0 +1,5 @@
+pub mod Assumed
+pub mod Files
+pub mod Programs
+pub mod Hosts
+pub mod Alike
