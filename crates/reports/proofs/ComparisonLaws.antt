@@ -92,9 +92,9 @@ known_too i k m is source =
         compiled = source;
         assumed = subst (λ o. AreAssumedOf o k.assumed) (sym (kept role.Assume x i.files refl refl b)) is.named.assumed;
       };
-      apart = is.apart;
+      apart = refl;
       given = subst (λ o. IsGivenOf o k.given) (sym (kept role.Given x i.files refl refl b)) is.given;
-      apart_as_read = is.apart_as_read;
+      apart_as_read = refl;
       begins = is.begins;
     }
 
