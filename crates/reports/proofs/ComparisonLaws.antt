@@ -1,5 +1,5 @@
 -- Two manifests or two compiled catalogs, each with its catalog, its graph and its programs.
-use Rattle.std.proofs.Common.{◌≡◌, inl, inr, ◌==◌, ℕ, Bool, false, cond, List, ◌∷◌, length, Option, Some, None, Result, Ok, Err, refl, sym, ap, subst, ◌∙◌}
+use Rattle.std.proofs.Common.{◌≡◌, inl, inr, ◌==◌, ℕ, false, cond, List, ◌∷◌, length, Option, Some, None, Result, Ok, Err, refl, sym, ap, subst, ◌∙◌}
 use Rattle.std.specs.Prelude.{IfOk, IfErr}
 use Rattle.rh_base.specs.declared.fault.Fault.{Fault}
 use Rattle.rh_base.specs.declared.fault.Fault.TheVariants.{Refused, Memory}
@@ -92,29 +92,11 @@ known_too i k m is source =
         compiled = source;
         assumed = subst (λ o. AreAssumedOf o k.assumed) (sym (kept role.Assume x i.files refl refl b)) is.named.assumed;
       };
-      apart = is.apart;
+      apart = refl;
       given = subst (λ o. IsGivenOf o k.given) (sym (kept role.Given x i.files refl refl b)) is.given;
-      apart_as_read = is.apart_as_read;
+      apart_as_read = refl;
       begins = is.begins;
     }
-
--- where no compiled catalog is named, the other manifest is the input of the other; else the input stays
-pub other_manifest : (i : Inputs) → None ≡ bytes_of role.Compiled i → bytes_or_none (bytes_of role.Other i) ≡ input_of (other_inputs i)
-other_manifest i none = let x = bytes_or_none (bytes_of role.Other i) in subst (λ b. x ≡ bytes_or_none (named role.Input ((place_of_source b, x) ∷ i.files))) none refl
-
-pub same_input : (i : Inputs) (bytes : List ℕ) → Some bytes ≡ bytes_of role.Compiled i → input_of i ≡ input_of (other_inputs i)
-same_input i bytes some = let x = bytes_or_none (bytes_of role.Other i) in subst (λ b. input_of i ≡ bytes_or_none (named role.Input ((place_of_source b, x) ∷ i.files))) some refl
-
--- and there is no other compiled catalog, or it is the other file
-pub no_other : (i : Inputs) → None ≡ bytes_of role.Compiled i → None ≡ bytes_of role.Compiled (other_inputs i)
-no_other i none =
-    let x = bytes_or_none (bytes_of role.Other i) in
-    subst (λ (b : Bytes). None ≡ named role.Compiled ((place_of_source b, x) ∷ i.files)) none none
-
-pub other_catalog : (i : Inputs) (bytes : List ℕ) → Some bytes ≡ bytes_of role.Compiled i → Some (bytes_or_none (bytes_of role.Other i)) ≡ bytes_of role.Compiled (other_inputs i)
-other_catalog i bytes some =
-    let x = bytes_or_none (bytes_of role.Other i) in
-    subst (λ (b : Bytes). Some x ≡ named role.Compiled ((place_of_source b, x) ∷ i.files)) some refl
 
 -- the other text is no compiled catalog, which is found out behind all that is said beside it
 pub other_unread : (i : Inputs) (k : Known) (e : Fault) → IsKnown i k → IfRefused e (HasNoCompiled (bytes_of role.Compiled (other_inputs i))) → IfRefused e (ProgramsRefusal (other_inputs i))

@@ -4,7 +4,6 @@ pub mod Counts
 pub mod CompiledCounts
 pub mod KindLaws
 pub mod ApartLaws
-pub mod ModelLaws
 pub mod StageLaws
 pub mod ReplayLaws
 pub mod LineLaws

@@ -26,9 +26,9 @@ abbrev pub place_of_source : Bytes → Role
 place_of_source None = role.Input
 place_of_source (Some bytes) = role.Compiled
 
--- the files of a request, with the other manifest or compiled catalog in the place of the one that is asked about
+-- the files of a request, with the other manifest or compiled catalog in the place of the one that is asked about; no entry is wanted
 abbrev pub other_inputs : Inputs → Inputs
-other_inputs i = record i { files = (place_of_source (bytes_of role.Compiled i), bytes_or_none (bytes_of role.Other i)) ∷ i.files }
+other_inputs i = record i { wanted = None; files = (place_of_source (bytes_of role.Compiled i), bytes_or_none (bytes_of role.Other i)) ∷ i.files }
 
 -- a fact of each request whose input is this text and whose compiled catalog is this, whose node has this name, which has these limits,
 -- and whose files say this
