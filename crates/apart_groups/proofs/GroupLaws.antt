@@ -1,5 +1,5 @@
 -- Groups of which no pair that touches has one program in each.
-use Rattle.std.proofs.Common.{◌≡◌, inl, inr, ℕ, zero, suc, ◌+◌, ◌<◌, ◌≤◌, Bool, true, false, List, [], ◌∷◌, ◌++◌, length, get_or, refl, sym, ap, subst, arith}
+use Rattle.std.proofs.Common.{◌≡◌, inl, inr, ℕ, zero, suc, ◌+◌, ◌<◌, ◌≤◌, Bool, true, false, List, [], ◌∷◌, ◌++◌, length, get_or, refl, sym, ap, subst, ◌∙◌, ◌==◌, cond, ◌⊎◌, eqb-true, arith}
 use Rattle.std.specs.Bool.{OnTrue}
 use Rattle.std.specs.List.{Contains, AllByRecursion}
 use Rattle.std.proofs.lemmas.Bool.{cases_order}
@@ -12,7 +12,7 @@ use Rattle.sure_folders.specs.Folders.{nowhere, IsTreeWith}
 use Rattle.sure_folders.specs.Before.{IsSureBeforeEither}
 use Rattle.commute_prune.specs.Doubtful.{AreApartWhereSure, AreTouching}
 use Rattle.settled_groups.specs.Groups.{in_turn, CommuteWhereSure, CommutesWithGroup, GroupsCommute}
-use Rattle.apart_groups.specs.Groups.{AreGroups, group_of, AreNumbered, IsWithin}
+use Rattle.apart_groups.specs.Groups.{AreGroups, MeetIn, other_pairs, group_of, AreNumbered, IsWithin}
 
 -- what holds of all members holds of each
 of_member : (P : (ℕ × ℕ) → Type 0) (xs : List (ℕ × ℕ)) (x : ℕ × ℕ) → Contains xs x → AllByRecursion P xs → P x
@@ -49,15 +49,15 @@ later numbers n (group ∷ groups) h =
 abbrev pub ApartCommute : List Program → (ℕ → ℕ → Bool) → Type 0
 ApartCommute es before = (a b : ℕ) → AreApartWhereSure es before a b → CommuteFrom (IsTreeWith (IsSureBeforeEither nowhere es (Told before) a b)) (get_or es a Id) (get_or es b Id)
 
-module _ (es : List Program) (before : ℕ → ℕ → Bool) (apart : ApartCommute es before) (pairs : List (ℕ × ℕ)) (touching : AreTouching es before pairs)
+module _ (es : List Program) (before : ℕ → ℕ → Bool) (pairs : List (ℕ × ℕ)) (meet : MeetIn es before pairs)
     (numbers : List ℕ) (within : AllByRecursion (IsWithin numbers) pairs) where
   turned : (a b : ℕ) (p : Path) → IsSureBeforeEither nowhere es (Told before) b a p → IsSureBeforeEither nowhere es (Told before) a b p
   turned a b p (inl h) = inr h
   turned a b p (inr h) = inl h
 
-  -- those of different groups don't touch
-  of_two : (a b : ℕ) → a < b → b < length es → (group_of numbers a ≡ group_of numbers b → ⊥) → AreApartWhereSure es before a b
-  of_two a b less high other = elim (touching.all a b less high) [
+  -- those of different groups commute
+  of_two : (a b : ℕ) → a < b → b < length es → (group_of numbers a ≡ group_of numbers b → ⊥) → CommuteWhereSure es (Told before) a b
+  of_two a b less high other = elim (meet a b less high) [
     | inl there ↦ absurd (other (of_member (IsWithin numbers) pairs (a, b) there within))
     | inr h ↦ h
   ]
@@ -66,8 +66,8 @@ module _ (es : List Program) (before : ℕ → ℕ → Bool) (apart : ApartCommu
   commute a b low high less = elim (cases_order a b) [
     | inl same ↦ absurd (omega (arith, less, ap (group_of numbers) same))
     | inr other ↦ elim other [
-      | inl first ↦ apart a b (of_two a b first high (λ e. omega (arith, less, e)))
-      | inr second ↦ λ t tree. sym (apart b a (of_two b a second low (λ e. omega (arith, less, e))) t (record { is_tree = tree.is_tree; stand = λ p h. tree.stand p (turned a b p h) }))
+      | inl first ↦ of_two a b first high (λ e. omega (arith, less, e))
+      | inr second ↦ λ t tree. sym (of_two b a second low (λ e. omega (arith, less, e)) t (record { is_tree = tree.is_tree; stand = λ p h. tree.stand p (turned a b p h) }))
     ]
   ]
 
@@ -100,6 +100,45 @@ append_nil (x ∷ xs) = ap (λ ys. x ∷ ys) (append_nil xs)
 -- an allowed order is one group
 pub one_group : (es : List Program) (before : ℕ → ℕ → Bool) (order : List ℕ) → IsLinearExtension (length es) (Told before) order → AreGroups es before (order ∷ [])
 one_group es before order allowed = record { allowed = subst (IsLinearExtension (length es) (Told before)) (sym (append_nil order)) allowed; commute = (tt, tt) }
+
+-- ---- pairs that meet
+
+pub touching_meet : (es : List Program) (before : ℕ → ℕ → Bool) → ApartCommute es before → (pairs : List (ℕ × ℕ)) → AreTouching es before pairs → MeetIn es before pairs
+touching_meet es before apart pairs touching a b less high = elim (touching.all a b less high) [
+  | inl there ↦ inl there
+  | inr h ↦ inr (apart a b h)
+]
+
+first_of : (x : ℕ × ℕ) (xs : List (ℕ × ℕ)) → Contains (x ∷ xs) x
+first_of x xs = (0, omega arith, refl)
+
+behind_one : (y : ℕ × ℕ) (xs : List (ℕ × ℕ)) (x : ℕ × ℕ) → Contains xs x → Contains (y ∷ xs) x
+behind_one y xs x h = (suc h.0, omega (arith, h.1), h.2)
+
+-- a pair that isn't left out stays
+kept_pair : (second : ℕ) (pairs : List (ℕ × ℕ)) (a b : ℕ) → Contains pairs (a, b) → (b ≡ second) ⊎ Contains (other_pairs second pairs) (a, b)
+kept_pair second [] a b h = absurd (omega (arith, h.1))
+kept_pair second (pair ∷ pairs) a b (zero, low, at) = elim (pair.1 == second) as (λ t. (pair.1 == second) ≡ t → (b ≡ second) ⊎ Contains (cond t [] (pair ∷ []) ++ other_pairs second pairs) (a, b)) [
+  | true ↦ λ e. inl (sym (ap (λ (q : ℕ × ℕ). q.1) at) ∙ eqb-true pair.1 second e)
+  | false ↦ λ e. inr (subst (Contains (pair ∷ other_pairs second pairs)) at (first_of pair (other_pairs second pairs)))
+] refl
+kept_pair second (pair ∷ pairs) a b (suc i, low, at) = elim (kept_pair second pairs a b (i, omega (arith, low), at)) [
+  | inl e ↦ inl e
+  | inr there ↦ inr (elim (pair.1 == second) as (λ t. Contains (cond t [] (pair ∷ []) ++ other_pairs second pairs) (a, b)) [
+    | true ↦ there
+    | false ↦ behind_one pair (other_pairs second pairs) (a, b) there
+  ])
+]
+
+-- pairs with a program that commutes with each of lesser number needn't stand in the list
+pub others_meet : (es : List Program) (before : ℕ → ℕ → Bool) (last : ℕ) → ((k : ℕ) → k < last → CommuteWhereSure es (Told before) k last) → (pairs : List (ℕ × ℕ)) → MeetIn es before pairs → MeetIn es before (other_pairs last pairs)
+others_meet es before last commutes pairs meet a b less high = elim (meet a b less high) [
+  | inl there ↦ elim (kept_pair last pairs a b there) [
+    | inl same ↦ inr (subst (CommuteWhereSure es (Told before) a) (sym same) (commutes a (subst (λ n. a < n) same less)))
+    | inr kept ↦ inl kept
+  ]
+  | inr h ↦ inr h
+]
 
 -- what follows where a test holds
 pub on_true : {P Q : Type 0} (b : Bool) → (P → Q) → OnTrue b P → OnTrue b Q

@@ -1,15 +1,28 @@
 -- Groups of programs that commute with one another.
-use Rattle.std.specs.Prelude.{◌≡◌, ℕ, ◌<◌, Bool, List, [], length, slice_index_or}
-use Rattle.std.specs.List.{AllByRecursion}
+use Rattle.std.specs.Prelude.{◌≡◌, ◌⊎◌, ℕ, ◌<◌, ◌==◌, Bool, if◌then◌else◌, List, [], ◌∷◌, ◌++◌, length, slice_index_or}
+use Rattle.std.specs.List.{AllByRecursion, Contains}
 use Rattle.fs_semantics.specs.Programs.{Program}
 use Rattle.fs_semantics.specs.Orders.{Told, IsLinearExtension}
-use Rattle.settled_groups.specs.Groups.{in_turn, GroupsCommute}
+use Rattle.settled_groups.specs.Groups.{in_turn, CommuteWhereSure, GroupsCommute}
 
 -- The groups, one after the other, are an allowed order of all programs; and the programs of one commute with those of the others
 -- where the folders stand that are sure before them.
 pub record AreGroups (es : List Program) (before : ℕ → ℕ → Bool) (groups : List (List ℕ)) : Type 0 where
   pub allowed : IsLinearExtension (length es) (Told before) (in_turn groups)
   pub commute : GroupsCommute es (Told before) groups
+
+-- Each two programs are a pair of the list, the lesser number first, or commute where the folders stand that are sure before them.
+abbrev pub MeetIn : List Program → (ℕ → ℕ → Bool) → List (ℕ × ℕ) → Type 0
+MeetIn es before pairs = (a b : ℕ) → a < b → b < length es → Contains pairs (a, b) ⊎ CommuteWhereSure es (Told before) a b
+
+-- the pair, unless the number is its second
+abbrev pub other_pair : ℕ → (ℕ × ℕ) → List (ℕ × ℕ)
+other_pair second pair = if pair.1 == second then [] else pair ∷ []
+
+-- the pairs of which it isn't
+abbrev pub other_pairs : ℕ → List (ℕ × ℕ) → List (ℕ × ℕ)
+other_pairs second [] = []
+other_pairs second (pair ∷ pairs) = other_pair second pair ++ other_pairs second pairs
 
 -- the number of a program's group
 abbrev pub group_of : List ℕ → ℕ → ℕ

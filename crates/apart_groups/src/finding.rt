@@ -1,13 +1,15 @@
 //! Finding groups: programs that touch one another are in one.
 
-ghost use Rattle.std.specs.Prelude.{◌≡◌, [], ◌∷◌, map, length, IfOk};
+ghost use Rattle.std.specs.Prelude.{◌≡◌, ◌<◌, ◌++◌, ℕ, [], ◌∷◌, map, length, IfOk, OnOk};
+ghost use Rattle.fs_semantics.specs.Orders.{Told};
 ghost use Rattle.fs_lang.specs.Meaning.{program_of};
 ghost use Rattle.orders.specs.Relation.{comes};
-ghost use Rattle.apart_groups.specs.Groups.{AreGroups};
+ghost use Rattle.settled_groups.specs.Groups.{CommuteWhereSure};
+ghost use Rattle.apart_groups.specs.Groups.{AreGroups, MeetIn, other_pair, other_pairs};
 
 use crate::labels::{by_labels, labels_of, sort_labels};
 use crate::testing::are_groups;
-use commute_prune::touching_pairs;
+use commute_prune::{are_proper, sure_pairs, touching_pairs};
 use fs_lang::Program;
 use orders::Order;
 use rh_base::{NoMemory, Seq};
@@ -36,6 +38,25 @@ fn proposed(
     }
 }
 
+/// Groups by these pairs, if the order allows them; else all in one.
+fn tested(
+    alloc: Global,
+    programs: &[Program],
+    order: &Order,
+    pairs: &[(u32, u32)],
+) -> Result<Seq<Seq<u32>>, NoMemory>
+    requires count { length programs.now ≡ order.now.count }
+    requires pairs { MeetIn (map program_of programs.now) (comes order.now) pairs.now }
+    ensures { IfOk result (AreGroups (map program_of programs.now) (comes order.now)) }
+{
+    let first = order.first_extension()?;
+    let groups = proposed(alloc, order, pairs, first.as_slice())?;
+    if are_groups(alloc, programs, order, pairs, groups.as_slice())? {
+        return Ok(groups);
+    }
+    one_group(alloc, first)
+}
+
 /// The programs in groups, which one after the other make an allowed order. Those of different groups commute where the folders
 /// stand that are sure before them.
 pub fn groups_of(
@@ -46,11 +67,53 @@ pub fn groups_of(
     requires { length programs.now ≡ order.now.count }
     ensures { IfOk result (AreGroups (map program_of programs.now) (comes order.now)) }
 {
+    are_proper(programs);
+    sure_pairs();
     let pairs = touching_pairs(alloc, programs, order)?;
-    let first = order.first_extension()?;
-    let groups = proposed(alloc, order, pairs.as_slice(), first.as_slice())?;
-    if are_groups(alloc, programs, order, pairs.as_slice(), groups.as_slice())? {
-        return Ok(groups);
+    let groups = tested(alloc, programs, order, pairs.as_slice())?;
+    Ok(groups)
+}
+
+/// Adds a pair, unless this number is its second.
+fn push_other(pairs: &mut Seq<(u32, u32)>, pair: (u32, u32), second: u32) -> Result<(), NoMemory>
+    ensures { OnOk result (pairs.new ≡ pairs.old ++ other_pair second pair) }
+{
+    if pair.1 == second {
+        return Ok(());
     }
-    one_group(alloc, first)
+    pairs.push(pair)
+}
+
+/// The pairs of which this number isn't the second.
+fn other_pairs(
+    alloc: Global,
+    pairs: &[(u32, u32)],
+    second: u32,
+) -> Result<Seq<(u32, u32)>, NoMemory>
+    ensures { IfOk result (λ others. others ≡ other_pairs second pairs.now) }
+{
+    let mut others = Seq::new(alloc);
+    for pair in pairs {
+        push_other(&mut others, *pair, second)?;
+    }
+    Ok(others)
+}
+
+/// The same where a program commutes with each of lesser number: that it touches them doesn't count.
+pub fn groups_beside(
+    alloc: Global,
+    programs: &[Program],
+    order: &Order,
+    last: u32,
+) -> Result<Seq<Seq<u32>>, NoMemory>
+    requires count { length programs.now ≡ order.now.count }
+    requires commutes { (k : ℕ) → k < last → CommuteWhereSure (map program_of programs.now) (Told (comes order.now)) k last }
+    ensures { IfOk result (AreGroups (map program_of programs.now) (comes order.now)) }
+{
+    are_proper(programs);
+    sure_pairs();
+    let touching = touching_pairs(alloc, programs, order)?;
+    let others = other_pairs(alloc, touching.as_slice(), last)?;
+    let groups = tested(alloc, programs, order, others.as_slice())?;
+    Ok(groups)
 }

@@ -3,15 +3,16 @@
 ghost use Rattle.std.specs.Prelude.{◌<◌, IfOk};
 ghost use Rattle.orders.specs.Paths.{EndsBelow};
 
+use crate::circles::merge_mutual;
 use orders::{Order, OrderFault};
 use rh_base::{NoMemory, Seq};
 use std::alloc::Global;
 
-/// So often are groups made one since the order leads from each to the other and back. Where that isn't enough, all is one group.
+/// So often are groups made one since the order leads around a circle of three or more. Where that isn't enough, all is one group.
 const ROUNDS: u32 = 16;
 
 /// The label of a program.
-fn label_of(labels: &[u32], k: u32) -> u32 {
+pub(crate) fn label_of(labels: &[u32], k: u32) -> u32 {
     match labels.get(k as usize) {
         Some(label) => *label,
         None => 0,
@@ -19,7 +20,7 @@ fn label_of(labels: &[u32], k: u32) -> u32 {
 }
 
 /// Makes two labels one.
-fn merge(labels: &mut [u32], to: u32, from: u32) {
+pub(crate) fn merge(labels: &mut [u32], to: u32, from: u32) {
     if to == from {
         return;
     }
@@ -106,6 +107,7 @@ pub(crate) fn sort_labels(
     labels: &mut [u32],
 ) -> Result<Option<Seq<u32>>, NoMemory> {
     for _round in 0..ROUNDS {
+        merge_mutual(alloc, order, labels)?;
         let edges = edges_between(alloc, order, labels)?;
         match Order::from_edges(alloc, order.count(), edges.as_slice()) {
             Ok(among) => return Ok(Some(among.first_extension()?)),

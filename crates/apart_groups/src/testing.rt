@@ -5,11 +5,9 @@ ghost use Rattle.std.specs.Bool.{OnTrue};
 ghost use Rattle.std.specs.List.{AllByRecursion};
 ghost use Rattle.fs_lang.specs.Meaning.{program_of};
 ghost use Rattle.orders.specs.Relation.{comes};
-ghost use Rattle.commute_prune.specs.Doubtful.{AreTouching};
 ghost use Rattle.settled_groups.specs.Groups.{in_turn};
-ghost use Rattle.apart_groups.specs.Groups.{AreGroups, group_of, AreNumbered, IsWithin};
+ghost use Rattle.apart_groups.specs.Groups.{AreGroups, group_of, AreNumbered, IsWithin, MeetIn};
 
-use commute_prune::{are_proper, sure_pairs};
 use fs_lang::Program;
 use orders::Order;
 use rh_base::{NoMemory, Seq};
@@ -90,7 +88,7 @@ fn are_within(numbers: &[usize], pairs: &[(u32, u32)]) -> bool
     true
 }
 
-/// Whether these are groups of an allowed order, where just these pairs of programs touch one another.
+/// Whether these are groups of an allowed order, where programs commute that are no pair of these.
 pub(crate) fn are_groups(
     alloc: Global,
     programs: &[Program],
@@ -99,11 +97,9 @@ pub(crate) fn are_groups(
     groups: &[Seq<u32>],
 ) -> Result<bool, NoMemory>
     requires count { length programs.now ≡ order.now.count }
-    requires touching { AreTouching (map program_of programs.now) (comes order.now) pairs.now }
+    requires pairs { MeetIn (map program_of programs.now) (comes order.now) pairs.now }
     ensures { IfOk result (λ found. OnTrue found (AreGroups (map program_of programs.now) (comes order.now) groups.now)) }
 {
-    are_proper(programs);
-    sure_pairs();
     let whole = in_turn(alloc, groups)?;
     let mut marks = vec![in alloc; false; order.count() as usize]?;
     if !order.is_extension(&whole, marks.as_mut_slice()) {

@@ -7,6 +7,7 @@ ghost use Rattle.fs_lang.specs.Meaning.{program_of};
 ghost use Rattle.orders.specs.Relation.{comes};
 ghost use Rattle.proof_check.specs.Refuted.{HasNoModel};
 ghost use Rattle.settled_groups.specs.Groups.{GroupSettles};
+ghost use Rattle.apart_groups.specs.Groups.{AreGroups};
 ghost use Rattle.full_verdict.specs.Questions.{IsSecondProof};
 
 use answering::{Answer, answer_to};
@@ -84,8 +85,34 @@ fn each_settles(
     Ok(Some(parts))
 }
 
-/// A refuted formula, where a second run changes nothing since it does so in no group. There is none where all is one group, or
-/// where some group doesn't tell.
+/// A refuted formula, where a second run changes nothing since it does so in none of these groups. There is none where all is one
+/// group, or where some group doesn't tell.
+pub fn same_in_groups(
+    alloc: Global,
+    programs: &[Program],
+    order: &Order,
+    groups: &[Seq<u32>],
+    budget: u64,
+) -> Result<Option<Verified>, NoMemory>
+    requires count { length programs.now ≡ order.now.count }
+    requires budget { 1 ≤ budget }
+    requires deterministic { IsDeterministic (map program_of programs.now) (Told (comes order.now)) }
+    requires groups { AreGroups (map program_of programs.now) (comes order.now) groups.now }
+    ensures same { IfOk result (λ found. IfSome found (λ v. IsIdempotent (map program_of programs.now) (Told (comes order.now)))) }
+    ensures proved { IfOk result (λ found. IfSome found (λ v. IsSecondProof (map program_of programs.now) order.now v.formula)) }
+{
+    are_proper(programs);
+    settled_groups();
+    if groups.len() < 2 {
+        return Ok(None);
+    }
+    match each_settles(alloc, programs, groups, budget)? {
+        Some(parts) => joined(alloc, &parts),
+        None => Ok(None),
+    }
+}
+
+/// The same of groups of programs that don't touch one another.
 pub(crate) fn same_by_groups(
     alloc: Global,
     programs: &[Program],
@@ -98,14 +125,6 @@ pub(crate) fn same_by_groups(
     ensures same { IfOk result (λ found. IfSome found (λ v. IsIdempotent (map program_of programs.now) (Told (comes order.now)))) }
     ensures proved { IfOk result (λ found. IfSome found (λ v. IsSecondProof (map program_of programs.now) order.now v.formula)) }
 {
-    are_proper(programs);
-    settled_groups();
     let groups = groups_of(alloc, programs, order)?;
-    if groups.len() < 2 {
-        return Ok(None);
-    }
-    match each_settles(alloc, programs, groups.as_slice(), budget)? {
-        Some(parts) => joined(alloc, &parts),
-        None => Ok(None),
-    }
+    same_in_groups(alloc, programs, order, groups.as_slice(), budget)
 }

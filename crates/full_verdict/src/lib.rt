@@ -8,6 +8,7 @@ mod second;
 mod success;
 mod verdicts;
 
+pub use groups::same_in_groups;
 pub use judging::{judge, judged, order_proofs, two_proofs};
 pub use success::ask_end;
 pub use verdicts::{Asked, Ends, Second, Verdict};

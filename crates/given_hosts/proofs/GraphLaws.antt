@@ -4,9 +4,9 @@ use Rattle.std.specs.Prelude.{IsTrue, IsSome}
 use Rattle.std.specs.List.{AllByRecursion}
 use Rattle.fs_semantics.specs.FileTree.{Path, Tree, IsTree}
 use Rattle.fs_semantics.specs.Programs.{Program, Outcome}
-use Rattle.fs_semantics.specs.Orders.{Told, IsLinearExtension, IsFree, IsExchange, outcome, IsDeterministic, Succeeds, IsCounterexample}
+use Rattle.fs_semantics.specs.Orders.{Told, IsLinearExtension, IsFree, IsExchange, outcome, IsDeterministic, IsIdempotent, Succeeds, IsCounterexample}
 use Rattle.fs_semantics.proofs.Counts.{all_back}
-use Rattle.given_hosts.specs.Given.{Stand, IsGivenTree, IsDeterministicFrom, SucceedsFrom, IsCounterexampleFrom, EndsWithFrom, AreEqualFrom}
+use Rattle.given_hosts.specs.Given.{Stand, IsGivenTree, IsDeterministicFrom, IsIdempotentFrom, SucceedsFrom, IsCounterexampleFrom, EndsWithFrom, AreEqualFrom}
 use Rattle.given_hosts.specs.Guard.{guard, guarded, GoesFirst}
 use Rattle.given_hosts.proofs.GuardLaws.{stand_told, ends_where_stand, fails_elsewhere, in_front, guard_first}
 
@@ -48,6 +48,15 @@ module _ (given : List Path) (es : List Program) (before after : ℕ → ℕ →
           | inr n ↦ same_end o (length es ∷ l.0) t l.1 ∙ fails_elsewhere given es l.0 t n ∙ sym (fails_elsewhere given es r.0 t n) ∙ sym (same_end p (length es ∷ r.0) t r.1)
         ]),
   )
+
+  -- where no run behind the guard changes what one has left, none changes what one from the given folders has left
+  pub idempotent : IsIdempotent (guarded given es) (Told after) → IsIdempotentFrom given es (Told before)
+  idempotent h t g o p a b u e =
+      let again = h t g.is_tree (length es ∷ o) (length es ∷ p) (guarded_order o a) (guarded_order p b) u (same_where_stand t o g.stand a ∙ e) in
+      elim (stand_told given u) [
+        | inl s ↦ sym (same_where_stand u p s b) ∙ again
+        | inr n ↦ absurd (none_not_some (outcome (guarded given es) (length es ∷ p) u) u (fails_elsewhere given es p u n) again)
+      ]
 
   -- where it ends in a tree, the given folders stood, and so it ends without the guard
   pub ended : (o : List ℕ) (t : Tree) (l : (p : List ℕ) × (o ≡ length es ∷ p) × IsLinearExtension (length es) (Told before) p)

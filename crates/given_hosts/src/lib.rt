@@ -37,10 +37,12 @@ pub fn guards()
 {}
 
 /// What is asked from the trees in which given folders stand is what is asked from every tree of the graph with the guard in
-/// front. (Of second runs this is no law: the second begins in what the first left.)
+/// front. Of second runs only the one way: the second begins in what the first left, from which the guard may end in Error.
 pub fn guarded_graphs()
     ensures deterministic { (given : List Path) (es : List Program) (before after : ℕ → ℕ → Bool) → GoesFirst (length es) before after
         → IsDeterministic (guarded given es) (Told after) ↔ IsDeterministicFrom given es (Told before) }
+    ensures idempotent { (given : List Path) (es : List Program) (before after : ℕ → ℕ → Bool) → GoesFirst (length es) before after
+        → IsIdempotent (guarded given es) (Told after) → IsIdempotentFrom given es (Told before) }
     ensures succeeds { (given : List Path) (es : List Program) (before after : ℕ → ℕ → Bool) → GoesFirst (length es) before after
         → Succeeds (guarded given es) (Told after) ↔ SucceedsFrom given es (Told before) }
     ensures counterexample { (given : List Path) (es : List Program) (before after : ℕ → ℕ → Bool) → GoesFirst (length es) before after

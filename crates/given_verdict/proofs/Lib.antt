@@ -2,6 +2,7 @@ pub mod AskedLaws
 pub mod LimitLaws
 pub mod FirstLaws
 pub mod SecondLaws
+pub mod GroupLaws
 pub mod KeepLaws
 pub mod BehindLaws
 pub mod EndLaws

@@ -45,6 +45,10 @@ pub record IsSecondProofFrom (given : List Path) (es : List Program) (order : Re
   pub states : StatesSecondFrom given es order f
   pub no_model : HasNoModel f
 
+-- no second run changes anything, and the formula, which has no model, states the question
+abbrev pub IsSettledFrom : List Path → List Program → Relation → Formula → Type 0
+IsSettledFrom given es order f = IsIdempotentFrom given es (Told (comes order)) × IsSecondProofFrom given es order f
+
 -- From the tree, in which the given folders stand, this allowed order ends in a tree that a second run in it doesn't leave as it is.
 abbrev pub IsSecondRunFrom : List Path → List Program → Relation → Witness → Type 0
 IsSecondRunFrom given es order (witness.Orders tree left right) = ⊥
@@ -69,7 +73,7 @@ IsSecondSpentFrom given es order budget f steps = (StatesSecondFrom given es ord
 
 -- what comes of the questions
 abbrev pub AnswersAgainFrom : List Path → List Program → Relation → ℕ → Answer → Type 0
-AnswersAgainFrom given es order budget (answer.Refuted v) = IsIdempotentFrom given es (Told (comes order)) × IsSecondProofFrom given es order v.formula
+AnswersAgainFrom given es order budget (answer.Refuted v) = IsSettledFrom given es order v.formula
 AnswersAgainFrom given es order budget (answer.Shown w) = IsSecondRunFrom given es order w
 AnswersAgainFrom given es order budget (answer.Spent cnf log) = IsSecondSpentFrom given es order budget cnf log.steps
 

@@ -1,22 +1,27 @@
 //! Whether a second run changes anything.
 
-ghost use Rattle.std.specs.Prelude.{◌≡◌, ◌≢◌, ◌≤◌, [], length, map, IfOk};
+ghost use Rattle.std.specs.Prelude.{◌≡◌, ◌≢◌, ◌≤◌, ℕ, Bool, [], length, map, IfOk, IfSome};
 ghost use Rattle.fs_semantics.specs.Orders.{Told};
 ghost use Rattle.fs_lang.specs.Meaning.{program_of};
 ghost use Rattle.given_hosts.specs.Given.{IsDeterministicFrom};
+ghost use Rattle.given_hosts.specs.Guard.{guarded, GoesFirst};
 ghost use Rattle.orders.specs.Relation.{comes};
-ghost use Rattle.given_verdict.specs.Second.{NeverChangedFrom, IsSecondProofFrom, AnswersAgainFrom};
+ghost use Rattle.apart_groups.specs.Groups.{AreGroups};
+ghost use Rattle.given_verdict.specs.Second.{NeverChangedFrom, IsSecondProofFrom, IsSettledFrom, AnswersAgainFrom};
 
 use crate::behind::ask_others;
 use crate::keeping::all_keep;
 use crate::second::ask_second_from;
 use answering::Answer;
+use apart_groups::{groups_beside, groups_of};
 use commute_prune::are_proper;
 use fs_lang::{Path, Program};
-use given_hosts::second_runs;
+use full_verdict::same_in_groups;
+use given_hosts::{guarded_graphs, guards, second_runs};
+use guarded_graph::{Guarded, with_guard};
 use orders::Order;
 use proof_check::Verified;
-use rh_base::NoMemory;
+use rh_base::{NoMemory, Seq};
 use std::alloc::Global;
 
 /// Whether a second run in another order changes anything, where one in the first extension doesn't. It doesn't where no program
@@ -46,7 +51,58 @@ fn ask_on(
     ask_others(alloc, programs, order, given, budget, same)
 }
 
-/// Asks whether a second run changes anything: in the first extension, and then in any order.
+/// The programs and the guard in groups. Where no program removes a given folder the guard does nothing behind any of them, so that
+/// it touches none.
+fn groups_from(
+    alloc: Global,
+    programs: &[Program],
+    graph: &Guarded,
+    given: &[Path],
+) -> Result<Seq<Seq<u32>>, NoMemory>
+    requires programs { map program_of graph.now.programs ≡ guarded given.now (map program_of programs.now) }
+    requires count { length graph.now.programs ≡ graph.now.order.count }
+    requires first { (before : ℕ → ℕ → Bool) × GoesFirst (length (map program_of programs.now)) before (comes graph.now.order) }
+    ensures { IfOk result (AreGroups (map program_of graph.now.programs) (comes graph.now.order)) }
+{
+    let all = graph.programs.as_slice();
+    if !all_keep(programs, given) {
+        return groups_of(alloc, all, &graph.order);
+    }
+    let guard = graph.order.count() - 1;
+    let groups = groups_beside(alloc, all, &graph.order, guard)?;
+    Ok(groups)
+}
+
+/// A refuted formula, where a second run changes nothing since it does so in no group of the programs and the guard. The guard may
+/// stand ahead of the second run too: where that ends as the first did, the given folders stand still.
+fn same_from_groups(
+    alloc: Global,
+    programs: &[Program],
+    order: &Order,
+    given: &[Path],
+    budget: u64,
+) -> Result<Option<Verified>, NoMemory>
+    requires count { length programs.now ≡ order.now.count }
+    requires budget { 1 ≤ budget }
+    requires deterministic { IsDeterministicFrom given.now (map program_of programs.now) (Told (comes order.now)) }
+    ensures { IfOk result (λ found. IfSome found (λ v. IsSettledFrom given.now (map program_of programs.now) order.now v.formula)) }
+{
+    guards();
+    guarded_graphs();
+    let graph = with_guard(alloc, programs, order, given)?;
+    let groups = groups_from(alloc, programs, &graph, given)?;
+    let found = same_in_groups(
+        alloc,
+        graph.programs.as_slice(),
+        &graph.order,
+        groups.as_slice(),
+        budget,
+    )?;
+    Ok(found)
+}
+
+/// Asks whether a second run changes anything: of groups that don't touch one another, then in the first extension, and then in any
+/// order.
 pub(crate) fn ask_again_from(
     alloc: Global,
     programs: &[Program],
@@ -60,6 +116,9 @@ pub(crate) fn ask_again_from(
     requires deterministic { IsDeterministicFrom given.now (map program_of programs.now) (Told (comes order.now)) }
     ensures { IfOk result (AnswersAgainFrom given.now (map program_of programs.now) order.now budget) }
 {
+    if let Some(same) = same_from_groups(alloc, programs, order, given, budget)? {
+        return Ok(Answer::Refuted(same));
+    }
     let found = ask_second_from(alloc, programs, order, given, budget)?;
     match found {
         Answer::Refuted(same) => ask_on(alloc, programs, order, given, budget, same),

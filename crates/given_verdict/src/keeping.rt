@@ -59,7 +59,8 @@ fn all_spare(programs: &[Program], given: &[Path]) -> bool
 
 /// Whether no program removes a given folder, as far as is seen without a run.
 pub(crate) fn all_keep(programs: &[Program], given: &[Path]) -> bool
-    ensures { IsTrue result → AllByRecursion (KeepsGiven given.now) (map program_of programs.now) }
+    ensures spares { IsTrue result → AllByRecursion (Spares given.now) (map program_of programs.now) }
+    ensures keeps { IsTrue result → AllByRecursion (KeepsGiven given.now) (map program_of programs.now) }
 {
     folders();
     all_spare(programs, given)

@@ -19,4 +19,4 @@ returns c =
     let same = c.deref-2.ensures.value ∙ sym c.deref-3.ensures.value in
     let numbered = subst (λ numbers. AreNumbered numbers groups) same (OnTrue_at c.if-not-are_numbered.false c.are_numbered.ensures) in
     on_true c.are_within.result (λ within.
-    are_groups es (comes order) (c.sure_pairs.ensures.commute es (comes order) c.are_proper.ensures) c.args.pairs.now c.requires.touching c.deref-3.result.now within groups allowed numbered) c.are_within.ensures
+    are_groups es (comes order) c.args.pairs.now c.requires.pairs c.deref-3.result.now within groups allowed numbered) c.are_within.ensures

@@ -13,7 +13,7 @@ returns-then-all_keep c =
     let first = c.in_ok-_first._first in
     let is_first : IsFirstExtension order first = record { allowed = c.in_ok-_first.ensures.allowed; least = c.in_ok-_first.ensures.least } in
     let allowed = subst (λ n. IsLinearExtension n (Told (comes order)) first) (sym (length-map c.args.programs.now program_of ∙ c.requires.count)) c.in_ok-_first.ensures.allowed in (
-      c.second_runs.ensures.kept c.args.given.now es (comes order) c.requires.deterministic c.are_proper.ensures (c.all_keep.ensures c.if-all_keep.true) first allowed
+      c.second_runs.ensures.kept c.args.given.now es (comes order) c.requires.deterministic c.are_proper.ensures (c.all_keep.ensures.keeps c.if-all_keep.true) first allowed
           (λ t h. c.requires.never t first (record { is_first = is_first; shows = h })),
       c.requires.same,
     )

@@ -1,0 +1,14 @@
+use Rattle.std.proofs.Common.{map, sym, subst, ap, ◌∙◌}
+use Rattle.fs_lang.specs.Meaning.{program_of}
+use Rattle.orders.specs.Relation.{comes}
+use Rattle.apart_groups.specs.Groups.{MeetIn, other_pairs}
+use Rattle.apart_groups.proofs.GroupLaws.{touching_meet, others_meet}
+use Rattle.apart_groups.proofs.finding.groups_beside.Goals as goal
+
+pub tested-requires-clause-pairs : goal.tested-requires-clause-pairs
+tested-requires-clause-pairs c =
+    let es = map program_of c.args.programs.now in
+    let order = c.args.order.now in
+    subst (MeetIn es (comes order)) (sym (c.as_slice-2.ensures ∙ c.in_ok-others.ensures ∙ ap (other_pairs c.args.last) c.as_slice.ensures))
+    (others_meet es (comes order) c.args.last c.requires.commutes c.in_ok-touching.touching
+    (touching_meet es (comes order) (c.sure_pairs.ensures.commute es (comes order) c.are_proper.ensures) c.in_ok-touching.touching c.in_ok-touching.ensures))
