@@ -11,7 +11,7 @@ use Rattle.command_line.specs.declared.table.Tasks.{Tasks}
 use Rattle.command_line.specs.declared.request.Request.{Request}
 use Rattle.command_line.specs.declared.words.WordsFault.{WordsFault}
 use Rattle.command_line.specs.declared.size.TheConstants.{MOST_WORKLOAD}
-use Rattle.command_line.specs.Table.{has, beside, ask_row, role_row, ByRole}
+use Rattle.command_line.specs.Table.{has, beside, with_catalog, ask_row, role_row, ByRole}
 use Rattle.command_line.specs.Words.{ask_in, taken, taken_number, with_name, names_in, request_for, request_in, IsMade}
 
 -- names, and then others, if there are such
@@ -53,5 +53,5 @@ from_start (Some names) = refl
 -- the request, once what is asked and its workload are known
 pub whole : (rows : List Row) (a : Ask) (workload : Option ℕ) (made : Result Request WordsFault) → ask_in (first_of (codes "ask") rows) ≡ Some a
     → taken_number (has task.Load (ask_row a).tasks) MOST_WORKLOAD (first_of (codes "workload") rows) ≡ Some workload
-    → IsMade (request_for a workload (beside workload (ask_row a).tasks) rows) made → IsMade (request_in rows) made
+    → IsMade (request_for a workload (beside workload (with_catalog (first_of (codes "compiled") rows) (ask_row a).tasks)) rows) made → IsMade (request_in rows) made
 whole rows a workload made asked counted is = rw (asked, counted) is

@@ -4,9 +4,11 @@ use Rattle.std.specs.Str.{bytes_eq}
 use Rattle.rh_base.specs.declared.limits.TheConstants.{MANIFEST_BYTES, PROOF_BYTES, FACTS_BYTES, LISTING_BYTES, TREE_BYTES, ORDER_BYTES}
 use Rattle.host_limits.specs.declared.limits.Limits.{Limits}
 use Rattle.host_limits.specs.declared.limits.Limits.TheVariants as limits
-use Rattle.command_line.specs.declared.table.TheConstants.{GIVEN_BYTES}
+use Rattle.command_line.specs.declared.table.TheConstants.{GIVEN_BYTES, COMPILED_BYTES, ASSUMED_BYTES}
 use Rattle.command_line.specs.declared.table.Ask.{Ask}
 use Rattle.command_line.specs.declared.table.Ask.TheVariants as ask
+use Rattle.command_line.specs.declared.table.InputKind.{InputKind}
+use Rattle.command_line.specs.declared.table.InputKind.TheVariants as input
 use Rattle.command_line.specs.declared.table.Role.{Role}
 use Rattle.command_line.specs.declared.table.Role.TheVariants as role
 use Rattle.command_line.specs.declared.table.Task.{Task}
@@ -17,11 +19,11 @@ use Rattle.command_line.specs.declared.table.Tasks.{Tasks}
 
 -- to read a text
 abbrev pub reading : Tasks
-reading = record { reads = true; compiles = false; models = false; judges = false; loads = false; replays = false; wants = false; compares = false }
+reading = record { reads = true; compiles = false; plans = false; models = false; judges = false; loads = false; replays = false; wants = false; compares = false; assumes = false }
 
--- to read a manifest and compile it
+-- to read a manifest and compile it, or to read a catalog that was compiled before
 abbrev pub compiling : Tasks
-compiling = record reading { compiles = true }
+compiling = record reading { compiles = true; plans = true }
 
 -- that, and to say what its resources do
 abbrev pub modelling : Tasks
@@ -51,43 +53,62 @@ comparing = record judging { compares = true }
 abbrev pub has : Task → Tasks → Bool
 has task.Read t = t.reads
 has task.Compile t = t.compiles
+has task.Plan t = t.plans
 has task.Model t = t.models
 has task.Judge t = t.judges
 has task.Load t = t.loads
 has task.Replay t = t.replays
 has task.Want t = t.wants
 has task.Compare t = t.compares
+has task.Assume t = t.assumes
 
 -- those that are left beside a workload, which brings its own manifest and listing: to judge them
 abbrev pub beside : Option ℕ → Tasks → Tasks
 beside None t = t
-beside (Some n) t = record { reads = false; compiles = false; models = false; judges = t.judges; loads = false; replays = false; wants = false; compares = false }
+beside (Some n) t = record { reads = false; compiles = false; plans = false; models = false; judges = t.judges; loads = false; replays = false; wants = false; compares = false; assumes = false }
+
+-- those that are left where a compiled catalog stands in the input's place: nothing is to be compiled, and what its resources do may be
+-- assumed
+abbrev pub over_catalog : Tasks → Tasks
+over_catalog t = record t { reads = false; compiles = false; loads = false; assumes = t.models }
+
+-- the same, if a compiled catalog is named and may be
+abbrev pub with_catalog : Option (List ℕ) → Tasks → Tasks
+with_catalog None t = t
+with_catalog (Some name) t = if t.plans then over_catalog t else t
 
 -- ---- a row for each value of `--ask`
 
--- its word, what there is to do for it, and how many bytes its input may have
+-- how many bytes an input of this kind may have
+abbrev pub bytes_of : InputKind → ℕ
+bytes_of input.Manifest = MANIFEST_BYTES
+bytes_of input.Compiled = COMPILED_BYTES
+bytes_of input.Proofs = PROOF_BYTES
+bytes_of input.Listing = LISTING_BYTES
+
+-- its word, what there is to do for it, and what its input is
 pub record AskRow : Type 0 where
   pub word : List ℕ
   pub tasks : Tasks
-  pub limit : ℕ
+  pub input : InputKind
 
 -- a row
-abbrev pub asks_for : List ℕ → Tasks → ℕ → AskRow
-asks_for word tasks limit = record { word = word; tasks = tasks; limit = limit }
+abbrev pub asks_for : List ℕ → Tasks → InputKind → AskRow
+asks_for word tasks kind = record { word = word; tasks = tasks; input = kind }
 
 abbrev pub ask_row : Ask → AskRow
-ask_row ask.Verify = asks_for (codes "verify") rehearsing MANIFEST_BYTES
-ask_row ask.Proof = asks_for (codes "proof") rehearsing MANIFEST_BYTES
-ask_row ask.Catalog = asks_for (codes "catalog") compiling MANIFEST_BYTES
-ask_row ask.Graph = asks_for (codes "graph") compiling MANIFEST_BYTES
-ask_row ask.Programs = asks_for (codes "programs") modelling MANIFEST_BYTES
-ask_row ask.Replay = asks_for (codes "replay") replaying MANIFEST_BYTES
-ask_row ask.Check = asks_for (codes "check") reading PROOF_BYTES
-ask_row ask.Migrate = asks_for (codes "migrate") reading LISTING_BYTES
-ask_row ask.Repair = asks_for (codes "repair") judging MANIFEST_BYTES
-ask_row ask.Ensures = asks_for (codes "ensures") wanting MANIFEST_BYTES
-ask_row ask.Equal = asks_for (codes "equal") comparing MANIFEST_BYTES
-ask_row ask.Explain = asks_for (codes "explain") rehearsing MANIFEST_BYTES
+ask_row ask.Verify = asks_for (codes "verify") rehearsing input.Manifest
+ask_row ask.Proof = asks_for (codes "proof") rehearsing input.Manifest
+ask_row ask.Catalog = asks_for (codes "catalog") compiling input.Manifest
+ask_row ask.Graph = asks_for (codes "graph") compiling input.Manifest
+ask_row ask.Programs = asks_for (codes "programs") modelling input.Manifest
+ask_row ask.Replay = asks_for (codes "replay") replaying input.Manifest
+ask_row ask.Check = asks_for (codes "check") reading input.Proofs
+ask_row ask.Migrate = asks_for (codes "migrate") reading input.Listing
+ask_row ask.Repair = asks_for (codes "repair") judging input.Manifest
+ask_row ask.Ensures = asks_for (codes "ensures") wanting input.Manifest
+ask_row ask.Equal = asks_for (codes "equal") comparing input.Manifest
+ask_row ask.Explain = asks_for (codes "explain") rehearsing input.Manifest
 
 -- all of them
 abbrev pub asks : List Ask
@@ -108,7 +129,7 @@ limits_named word = if bytes_eq word (codes "usual") then Some limits.Usual else
 
 -- ---- a row for each file
 
--- how the words name it, how a refusal calls it, what it serves, and how many bytes it may have; without a number, as many as what is asked allows
+-- how the words name it, how a refusal calls it, what it serves, and how many bytes it may have; without a number, as many as the input
 pub record RoleRow : Type 0 where
   pub word : List ℕ
   pub label : List ℕ
@@ -123,35 +144,39 @@ abbrev pub role_row : Role → RoleRow
 role_row role.Facts = serves (codes "facts") (codes "facts") task.Compile (Some FACTS_BYTES)
 role_row role.Packages = serves (codes "packages") (codes "packages") task.Model (Some LISTING_BYTES)
 role_row role.Data = serves (codes "data") (codes "data") task.Compile (Some FACTS_BYTES)
+role_row role.Compiled = serves (codes "compiled") (codes "compiled") task.Plan None
 role_row role.Input = serves (codes "INPUT") (codes "input") task.Read None
 role_row role.Other = serves (codes "other") (codes "other") task.Compare None
 role_row role.Tree = serves (codes "tree") (codes "tree") task.Replay (Some TREE_BYTES)
 role_row role.Order = serves (codes "order") (codes "order") task.Replay (Some ORDER_BYTES)
+role_row role.Assume = serves (codes "assume") (codes "assume") task.Assume (Some ASSUMED_BYTES)
 role_row role.Given = serves (codes "given") (codes "given") task.Model (Some GIVEN_BYTES)
 
 -- all of them, in the order in which they are read and refusals are looked for
 abbrev pub roles : List Role
-roles = role.Facts ∷ role.Packages ∷ role.Data ∷ role.Input ∷ role.Other ∷ role.Tree ∷ role.Order ∷ role.Given ∷ []
+roles = role.Facts ∷ role.Packages ∷ role.Data ∷ role.Compiled ∷ role.Input ∷ role.Other ∷ role.Tree ∷ role.Order ∷ role.Assume ∷ role.Given ∷ []
 
 -- the place of each
 abbrev pub place : Role → ℕ
 place role.Facts = 0
 place role.Packages = 1
 place role.Data = 2
-place role.Input = 3
-place role.Other = 4
-place role.Tree = 5
-place role.Order = 6
-place role.Given = 7
+place role.Compiled = 3
+place role.Input = 4
+place role.Other = 5
+place role.Tree = 6
+place role.Order = 7
+place role.Assume = 8
+place role.Given = 9
 
 -- how many bytes a file may have
 abbrev pub limit_or : Option ℕ → ℕ → ℕ
 limit_or None limit = limit
 limit_or (Some own) limit = own
 
--- how many bytes a file may have, beside what is asked
-abbrev pub limit_of : Ask → Role → ℕ
-limit_of a r = limit_or (role_row r).limit (ask_row a).limit
+-- how many bytes a file may have, beside an input of this kind
+abbrev pub limit_of : InputKind → Role → ℕ
+limit_of kind r = limit_or (role_row r).limit (bytes_of kind)
 
 -- ---- contents by role
 
@@ -171,6 +196,14 @@ Each R [] (g ∷ others) = ⊥
 Each R (f ∷ files) [] = ⊥
 Each R (f ∷ files) (g ∷ others) = (g.0 ≡ f.0) × R f.0 f.1 g.1 × Each R files others
 
+-- what the input is: a compiled catalog where one is named, and else what is asked about
+abbrev pub kind_or : {A : Type 0} → Option A → InputKind → InputKind
+kind_or None kind = kind
+kind_or (Some x) kind = input.Compiled
+
+abbrev pub input_kind : {A : Type 0} → Ask → ByRole A → InputKind
+input_kind a files = kind_or (given role.Compiled files) (ask_row a).input
+
 -- ---- the options
 
 -- an option, with what stands for its value
@@ -188,6 +221,8 @@ options =
     ∷ (codes "content", codes "T")
     ∷ (codes "other", codes "M")
     ∷ (codes "data", codes "D")
+    ∷ (codes "compiled", codes "C")
+    ∷ (codes "assume", codes "S")
     ∷ (codes "given", codes "G")
     ∷ (codes "limits", codes "L")
     ∷ []

@@ -1,5 +1,6 @@
 -- What the words of the command line ask for.
 use Rattle.std.specs.Prelude.{◌≡◌, ◌≢◌, ◌≤◌, ℕ, ◌+◌, ◌-◌, ◌*◌, ◌==◌, ◌&&◌, nat_le, List, [], ◌∷◌, map, Option, Some, None, option_map, Result, Ok, Err, Bool, true, false, codes, if◌then◌else◌}
+use Rattle.std.specs.Option.{option_or}
 use Rattle.rh_base.specs.Reading.{◌>>=◌}
 use Rattle.clap.specs.Walk.{Row, Rule, Text, first_of}
 use Rattle.clap.specs.Simple.{App, new_app, new_rule, with_rule, on_top, matches_of}
@@ -20,7 +21,7 @@ use Rattle.command_line.specs.declared.request.Request.{Request}
 use Rattle.command_line.specs.declared.size.TheConstants.{MOST_WORKLOAD}
 use Rattle.command_line.specs.declared.words.WordsFault.{WordsFault}
 use Rattle.command_line.specs.declared.words.WordsFault.TheVariants as fault
-use Rattle.command_line.specs.Table.{has, beside, ask_row, ask_named, limits_named, role_row, roles, ByRole, given, options}
+use Rattle.command_line.specs.Table.{has, beside, with_catalog, ask_row, ask_named, limits_named, role_row, roles, ByRole, given, options}
 
 -- an option that takes one value, as `--facts F`
 abbrev pub option_rule : Text → Rule
@@ -77,11 +78,16 @@ taken_number may most None = Some None
 taken_number true most (Some word) = option_map (λ n. Some n) (number_in most word)
 taken_number false most (Some word) = None
 
--- the limits that are given, by an option that may stand or may not; without it, the usual ones
-abbrev pub taken_limits : Bool → Option Text → Option Limits
-taken_limits may None = Some limits.Usual
-taken_limits true (Some word) = limits_named word
-taken_limits false (Some word) = None
+-- without any that are given, those of a whole host where a compiled catalog is named, and else the usual ones
+abbrev pub limits_beside : Option Text → Limits
+limits_beside None = limits.Usual
+limits_beside (Some compiled) = limits.Host
+
+-- the limits that are given, by an option that may stand or may not; without it, those beside what is asked about
+abbrev pub taken_limits : Bool → Limits → Option Text → Option Limits
+taken_limits may other None = Some other
+taken_limits true other (Some word) = limits_named word
+taken_limits false other (Some word) = None
 
 -- what is behind a name that is given, or behind none
 abbrev pub with_name : Role → Option Text → ByRole Text → ByRole Text
@@ -102,14 +108,14 @@ with_other false names other = Some (source.Files names)
 with_other true names None = None
 with_other true names (Some name) = Some (source.Files names)
 
--- the same, if the input is among them too
+-- the same, if the input is among them too, or a compiled catalog in its place
 abbrev pub with_input : Bool → ByRole Text → Option Text → Option Source
 with_input compares names None = None
 with_input compares names (Some name) = with_other compares names (given role.Other names)
 
--- what is asked about: a workload, or files, of which one is the input, and one the manifest that it is compared with, if it is
+-- what is asked about: a workload, or files, of which one is the input or a compiled catalog, and one what it is compared with, if it is
 abbrev pub source_in : Bool → Option ℕ → ByRole Text → Option Source
-source_in compares None names = with_input compares names (given role.Input names)
+source_in compares None names = with_input compares names (option_or (given role.Compiled names) (given role.Input names))
 source_in compares (Some n) names = Some (source.Workload n)
 
 -- the request about a workload or files, with those options that serve one of the tasks
@@ -119,7 +125,7 @@ request_for ask workload tasks rows = do
   source ← source_in (has task.Compare tasks) workload names
   node ← taken (has task.Compile tasks) (first_of (codes "node") rows)
   conflicts ← taken_number (has task.Judge tasks) most_conflicts (first_of (codes "conflicts") rows)
-  limits ← taken_limits (has task.Compile tasks) (first_of (codes "limits") rows)
+  limits ← taken_limits (has task.Plan tasks) (limits_beside (first_of (codes "compiled") rows)) (first_of (codes "limits") rows)
   Some (record { ask = ask; node = node; conflicts = conflicts; limits = limits; wanted = None; source = source })
 
 -- the request that was given so, an entry that is wanted aside, where one was: no option stands that may not, and beside a workload no file
@@ -127,7 +133,7 @@ abbrev pub request_in : List Row → Option Request
 request_in rows = do
   ask ← ask_in (first_of (codes "ask") rows)
   workload ← taken_number (has task.Load (ask_row ask).tasks) MOST_WORKLOAD (first_of (codes "workload") rows)
-  request_for ask workload (beside workload (ask_row ask).tasks) rows
+  request_for ask workload (beside workload (with_catalog (first_of (codes "compiled") rows) (ask_row ask).tasks)) rows
 
 -- the entry stands at the path that the text names, which isn't the root, and has this content, if one is given
 pub record IsEntryAt (text : Text) (held : Option Text) (w : Wanted) : Type 0 where

@@ -10,7 +10,7 @@ mod table;
 mod words;
 
 pub use laws::one_request;
-pub use request::{ByRole, Request, Source, given};
+pub use request::{ByRole, Request, Source, given, input_kind};
 pub use size::Size;
-pub use table::{Ask, GIVEN_BYTES, Role, usage_line};
+pub use table::{ASSUMED_BYTES, Ask, COMPILED_BYTES, GIVEN_BYTES, InputKind, Role, usage_line};
 pub use words::{WordsFault, read_request};

@@ -2,10 +2,10 @@
 
 ghost use Rattle.std.specs.Prelude.{◌≡◌};
 ghost use Rattle.std.specs.Option.{option_map};
-ghost use Rattle.command_line.specs.Table.{given};
+ghost use Rattle.command_line.specs.Table.{given, input_kind};
 
 use crate::size::Size;
-use crate::table::{Ask, Role};
+use crate::table::{Ask, InputKind, Role};
 use host_limits::Limits;
 use rh_base::{Seq, Text};
 use wanted_entry::Wanted;
@@ -16,7 +16,7 @@ pub type ByRole<T> = Seq<(Role, T)>;
 /// What is asked about.
 #[derive(Debug, Drop)]
 pub enum Source {
-    /// The files of these names, of which one is the input.
+    /// The files of these names, of which one is the input or a compiled catalog.
     Files(ByRole<Text>),
     /// The workload of this size, with its listing.
     Workload(Size),
@@ -44,4 +44,14 @@ pub fn given<T>(files: &[(Role, T)], role: Role) -> Option<&T>
         }
     }
     None
+}
+
+/// What the input is, where files are named: a compiled catalog where one is, and else what is asked about.
+pub fn input_kind<T>(ask: Ask, files: &[(Role, T)]) -> InputKind
+    ensures { result ≡ input_kind ask files.now }
+{
+    match given(files, Role::Compiled) {
+        Some(_) => InputKind::Compiled,
+        None => ask.input(),
+    }
 }

@@ -1,7 +1,8 @@
 //! The table of requests: a row for each value of `--ask`, one for each file that may be named, and the options.
 
 ghost use Rattle.std.specs.Prelude.{◌≡◌, ◌==◌, ◌<◌, ◌^◌};
-ghost use Rattle.command_line.specs.Table.{reading, compiling, modelling, judging, rehearsing, replaying, wanting, comparing, has, beside, ask_row, ask_among, ask_named, limits_named, role_row, limit_of, place, usage_line};
+ghost use Rattle.std.specs.Option.{option_map};
+ghost use Rattle.command_line.specs.Table.{reading, compiling, modelling, judging, rehearsing, replaying, wanting, comparing, has, beside, over_catalog, with_catalog, bytes_of, ask_row, ask_among, ask_named, limits_named, role_row, limit_of, place, usage_line};
 
 use crate::size::Size;
 use host_limits::Limits;
@@ -38,6 +39,17 @@ pub enum Ask {
     Explain,
 }
 
+/// What an input may be.
+#[derive(Clone, Copy, Debug, PartialEq, Eq)]
+pub enum InputKind {
+    Manifest,
+    /// A catalog that Puppet compiled.
+    Compiled,
+    Proofs,
+    /// A listing of packages.
+    Listing,
+}
+
 /// The files that a request may name.
 #[derive(Clone, Copy, Debug, PartialEq, Eq)]
 pub enum Role {
@@ -47,14 +59,18 @@ pub enum Role {
     Packages,
     /// Values for the parameters of classes.
     Data,
+    /// A compiled catalog, which is asked about in the place of an input.
+    Compiled,
     /// What is asked about: a manifest, proofs or a listing.
     Input,
-    /// The manifest that it is compared with.
+    /// The manifest or the compiled catalog that it is compared with.
     Other,
     /// The file tree that a replay begins with.
     Tree,
     /// The order of a replay.
     Order,
+    /// What is assumed of resources.
+    Assume,
     /// What every host has.
     Given,
 }
@@ -64,8 +80,10 @@ pub enum Role {
 pub enum Task {
     /// To read the input.
     Read,
-    /// To compile a catalog.
+    /// To compile a manifest.
     Compile,
+    /// To make a catalog, of a manifest or of one that was compiled before.
+    Plan,
     /// To say what its resources do.
     Model,
     /// To judge that.
@@ -76,8 +94,10 @@ pub enum Task {
     Replay,
     /// To look for an entry that is wanted.
     Want,
-    /// To compare it with another manifest.
+    /// To compare it with another one.
     Compare,
+    /// To take what is assumed of resources for what they do.
+    Assume,
 }
 
 /// What there is to do for a request.
@@ -85,12 +105,14 @@ pub enum Task {
 pub struct Tasks {
     pub reads: bool,
     pub compiles: bool,
+    pub plans: bool,
     pub models: bool,
     pub judges: bool,
     pub loads: bool,
     pub replays: bool,
     pub wants: bool,
     pub compares: bool,
+    pub assumes: bool,
 }
 
 /// The values of `--ask`, each of which has a row below.
@@ -110,19 +132,21 @@ const ASKS: [Ask; 12] = [
 ];
 
 /// The files, in the order in which they are read and refusals are looked for. Each has a row below.
-pub(crate) const ROLES: [Role; 8] = [
+pub(crate) const ROLES: [Role; 10] = [
     Role::Facts,
     Role::Packages,
     Role::Data,
+    Role::Compiled,
     Role::Input,
     Role::Other,
     Role::Tree,
     Role::Order,
+    Role::Assume,
     Role::Given,
 ];
 
 /// The options, in the order of the line of usage.
-pub(crate) const OPTIONS: [&str; 14] = [
+pub(crate) const OPTIONS: [&str; 16] = [
     "facts",
     "packages",
     "node",
@@ -135,6 +159,8 @@ pub(crate) const OPTIONS: [&str; 14] = [
     "content",
     "other",
     "data",
+    "compiled",
+    "assume",
     "given",
     "limits",
 ];
@@ -142,11 +168,17 @@ pub(crate) const OPTIONS: [&str; 14] = [
 /// Bytes of a text of what every host has.
 pub const GIVEN_BYTES: usize = 1_048_576;
 
+/// Bytes of a text of assumptions.
+pub const ASSUMED_BYTES: usize = 1_048_576;
+
+/// Bytes of the text of a compiled catalog.
+pub const COMPILED_BYTES: usize = 16_777_216;
+
 /// How the program is called, where the words are refused.
 pub fn usage_line() -> &'static [u8]
     ensures { result.now ≡ usage_line }
 {
-    b"usage: rehearsal [--facts F] [--packages P] [--node N] [--conflicts C] [--ask A] [--tree T] [--order O] [--workload N] [--path P] [--content T] [--other M] [--data D] [--given G] [--limits L] [INPUT]\n"
+    b"usage: rehearsal [--facts F] [--packages P] [--node N] [--conflicts C] [--ask A] [--tree T] [--order O] [--workload N] [--path P] [--content T] [--other M] [--data D] [--compiled C] [--assume S] [--given G] [--limits L] [INPUT]\n"
 }
 
 /// To read a text.
@@ -156,21 +188,24 @@ fn reading() -> Tasks
     Tasks {
         reads: true,
         compiles: false,
+        plans: false,
         models: false,
         judges: false,
         loads: false,
         replays: false,
         wants: false,
         compares: false,
+        assumes: false,
     }
 }
 
-/// To read a manifest and compile it.
+/// To read a manifest and compile it, or to read a catalog that was compiled before.
 fn compiling() -> Tasks
     ensures { result ≡ compiling }
 {
     let mut tasks = reading();
     tasks.compiles = true;
+    tasks.plans = true;
     tasks
 }
 
@@ -236,12 +271,37 @@ impl Tasks {
         match task {
             Task::Read => self.reads,
             Task::Compile => self.compiles,
+            Task::Plan => self.plans,
             Task::Model => self.models,
             Task::Judge => self.judges,
             Task::Load => self.loads,
             Task::Replay => self.replays,
             Task::Want => self.wants,
             Task::Compare => self.compares,
+            Task::Assume => self.assumes,
+        }
+    }
+
+    /// Those that are left where a compiled catalog stands in the input's place: nothing is to be compiled, and what its resources do
+    /// may be assumed.
+    fn over_catalog(self) -> Tasks
+        ensures { result ≡ over_catalog self }
+    {
+        let mut tasks = self;
+        tasks.reads = false;
+        tasks.compiles = false;
+        tasks.loads = false;
+        tasks.assumes = self.models;
+        tasks
+    }
+
+    /// The same, if a compiled catalog is named and may be.
+    pub(crate) fn with_catalog(self, compiled: Option<&str>) -> Tasks
+        ensures { result ≡ with_catalog (option_map (λ s. s.now) compiled.entry) self }
+    {
+        match compiled {
+            Some(_) if self.plans => self.over_catalog(),
+            _ => self,
         }
     }
 
@@ -254,38 +314,54 @@ impl Tasks {
             Some(_) => Tasks {
                 reads: false,
                 compiles: false,
+                plans: false,
                 models: false,
                 judges: self.judges,
                 loads: false,
                 replays: false,
                 wants: false,
                 compares: false,
+                assumes: false,
             },
         }
     }
 }
 
-impl Ask {
-    /// Its word, what there is to do for it, and how many bytes its input may have.
-    fn row(self) -> (&'static str, Tasks, usize)
-        ensures word { result.0.now ≡ (ask_row self).word }
-        ensures tasks { result.1 ≡ (ask_row self).tasks }
-        ensures limit { result.2 ≡ (ask_row self).limit }
-        ensures small { result.2 < 2 ^ 32 }
+impl InputKind {
+    /// How many bytes such an input may have.
+    fn bytes(self) -> usize
+        ensures limit { result ≡ bytes_of self }
+        ensures small { result < 2 ^ 32 }
     {
         match self {
-            Ask::Verify => ("verify", rehearsing(), MANIFEST_BYTES),
-            Ask::Proof => ("proof", rehearsing(), MANIFEST_BYTES),
-            Ask::Catalog => ("catalog", compiling(), MANIFEST_BYTES),
-            Ask::Graph => ("graph", compiling(), MANIFEST_BYTES),
-            Ask::Programs => ("programs", modelling(), MANIFEST_BYTES),
-            Ask::Replay => ("replay", replaying(), MANIFEST_BYTES),
-            Ask::Check => ("check", reading(), PROOF_BYTES),
-            Ask::Migrate => ("migrate", reading(), LISTING_BYTES),
-            Ask::Repair => ("repair", judging(), MANIFEST_BYTES),
-            Ask::Ensures => ("ensures", wanting(), MANIFEST_BYTES),
-            Ask::Equal => ("equal", comparing(), MANIFEST_BYTES),
-            Ask::Explain => ("explain", rehearsing(), MANIFEST_BYTES),
+            InputKind::Manifest => MANIFEST_BYTES,
+            InputKind::Compiled => COMPILED_BYTES,
+            InputKind::Proofs => PROOF_BYTES,
+            InputKind::Listing => LISTING_BYTES,
+        }
+    }
+}
+
+impl Ask {
+    /// Its word, what there is to do for it, and what its input is.
+    fn row(self) -> (&'static str, Tasks, InputKind)
+        ensures word { result.0.now ≡ (ask_row self).word }
+        ensures tasks { result.1 ≡ (ask_row self).tasks }
+        ensures input { result.2 ≡ (ask_row self).input }
+    {
+        match self {
+            Ask::Verify => ("verify", rehearsing(), InputKind::Manifest),
+            Ask::Proof => ("proof", rehearsing(), InputKind::Manifest),
+            Ask::Catalog => ("catalog", compiling(), InputKind::Manifest),
+            Ask::Graph => ("graph", compiling(), InputKind::Manifest),
+            Ask::Programs => ("programs", modelling(), InputKind::Manifest),
+            Ask::Replay => ("replay", replaying(), InputKind::Manifest),
+            Ask::Check => ("check", reading(), InputKind::Proofs),
+            Ask::Migrate => ("migrate", reading(), InputKind::Listing),
+            Ask::Repair => ("repair", judging(), InputKind::Manifest),
+            Ask::Ensures => ("ensures", wanting(), InputKind::Manifest),
+            Ask::Equal => ("equal", comparing(), InputKind::Manifest),
+            Ask::Explain => ("explain", rehearsing(), InputKind::Manifest),
         }
     }
 
@@ -301,6 +377,13 @@ impl Ask {
         ensures { result ≡ (ask_row self).tasks }
     {
         self.row().1
+    }
+
+    /// What its input is.
+    pub(crate) fn input(self) -> InputKind
+        ensures { result ≡ (ask_row self).input }
+    {
+        self.row().2
     }
 
     /// What a word asks for.
@@ -338,7 +421,7 @@ pub(crate) fn limits_named(word: &str) -> Option<Limits>
 
 impl Role {
     /// How the words name it, how a refusal calls it, what it serves, and how many bytes it may have; without a number,
-    /// as many as what is asked allows.
+    /// as many as the input.
     fn row(self) -> (&'static str, &'static str, Task, Option<usize>)
         ensures word { result.0.now ≡ (role_row self).word }
         ensures label { result.1.now ≡ (role_row self).label }
@@ -349,10 +432,12 @@ impl Role {
             Role::Facts => ("facts", "facts", Task::Compile, Some(FACTS_BYTES)),
             Role::Packages => ("packages", "packages", Task::Model, Some(LISTING_BYTES)),
             Role::Data => ("data", "data", Task::Compile, Some(FACTS_BYTES)),
+            Role::Compiled => ("compiled", "compiled", Task::Plan, None),
             Role::Input => ("INPUT", "input", Task::Read, None),
             Role::Other => ("other", "other", Task::Compare, None),
             Role::Tree => ("tree", "tree", Task::Replay, Some(TREE_BYTES)),
             Role::Order => ("order", "order", Task::Replay, Some(ORDER_BYTES)),
+            Role::Assume => ("assume", "assume", Task::Assume, Some(ASSUMED_BYTES)),
             Role::Given => ("given", "given", Task::Model, Some(GIVEN_BYTES)),
         }
     }
@@ -378,14 +463,14 @@ impl Role {
         self.row().2
     }
 
-    /// How many bytes it may have, beside what is asked.
-    pub fn limit(self, ask: Ask) -> usize
-        ensures limit { result ≡ limit_of ask self }
+    /// How many bytes it may have, beside an input of this kind.
+    pub fn limit(self, input: InputKind) -> usize
+        ensures limit { result ≡ limit_of input self }
         ensures small { result < 2 ^ 32 }
     {
         match self.row().3 {
             Some(limit) => limit,
-            None => ask.row().2,
+            None => input.bytes(),
         }
     }
 

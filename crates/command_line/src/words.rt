@@ -1,14 +1,14 @@
 //! What the words ask for.
 
-ghost use Rattle.std.specs.Prelude.{◌≡◌, ◌≢◌, Option, ◌↔◌, ◌<◌, ◌^◌, [], map, string_bytes, None, IsTrue, IfOk, IfErr, OnOk, codes};
-ghost use Rattle.std.specs.Option.{option_map};
+ghost use Rattle.std.specs.Prelude.{◌≡◌, ◌≢◌, Option, ◌↔◌, ◌<◌, ◌^◌, [], map, string_bytes, None, is_some, IsTrue, IfOk, IfErr, OnOk, codes};
+ghost use Rattle.std.specs.Option.{option_map, option_or};
 ghost use Rattle.clap.specs.Words.{found_of, rows_of, first_of, matches_of, fault_of, kind_of};
 ghost use Rattle.clap.specs.declared.error.kind.ErrorKind.TheVariants.{OutOfMemory};
 ghost use Rattle.command_line.specs.declared.size.TheConstants.{MOST_WORKLOAD};
-ghost use Rattle.command_line.specs.Words.{synopsis, ask_in, taken, taken_number, taken_limits, names_in, with_other, source_in, request_for, request_in, IsEntryAt, IsWanted, IsGiven, Makes, IfRefused, IsMade, IsWithin};
+ghost use Rattle.command_line.specs.Words.{synopsis, ask_in, taken, taken_number, limits_beside, taken_limits, names_in, with_other, with_input, source_in, request_for, request_in, IsEntryAt, IsWanted, IsGiven, Makes, IfRefused, IsMade, IsWithin};
 ghost use Rattle.command_line.specs.Table.{given};
 ghost use Rattle.command_line.specs.declared.request.Request.{Request};
-ghost use Rattle.command_line.specs.declared.table.Role.TheVariants.{Other};
+ghost use Rattle.command_line.specs.declared.table.Role.TheVariants.{Compiled, Input, Other};
 ghost use Rattle.wanted_entry.specs.declared.wanted.Wanted.{Wanted};
 
 use crate::command::synopsis;
@@ -118,12 +118,22 @@ fn size(matches: &ArgMatches<'_>, may: bool) -> Result<Option<Size>, WordsFault>
     }
 }
 
-/// The limits that are given, which may be or may not; without any, the usual ones.
-fn limits(matches: &ArgMatches<'_>, may: bool) -> Result<Limits, WordsFault>
-    ensures { IsMade (taken_limits may (first_of (codes "limits") (rows_of (found_of matches.now)))) result }
+/// Without limits that are given, those of a whole host where a compiled catalog is named, and else the usual ones.
+fn limits_beside(compiled: Option<&str>) -> Limits
+    ensures { result ≡ limits_beside (option_map (λ s. s.now) compiled.entry) }
+{
+    match compiled {
+        Some(_) => Limits::Host,
+        None => Limits::Usual,
+    }
+}
+
+/// The limits that are given, which may be or may not; without any, the other ones.
+fn limits(matches: &ArgMatches<'_>, may: bool, other: Limits) -> Result<Limits, WordsFault>
+    ensures { IsMade (taken_limits may other (first_of (codes "limits") (rows_of (found_of matches.now)))) result }
 {
     let Some(word) = value(matches, "limits") else {
-        return Ok(Limits::Usual);
+        return Ok(other);
     };
     if !may {
         return Err(WordsFault::Refused);
@@ -165,17 +175,25 @@ fn with_other(compares: bool, names: ByRole<Text>) -> Result<Source, WordsFault>
     }
 }
 
-/// What is asked about: a workload, or files, of which one is the input, and one the manifest to compare with where two are compared.
+/// Whether the input is among these names, or a compiled catalog in its place.
+fn has_input(names: &[(Role, Text)]) -> bool
+    ensures { result ≡ is_some (option_or (given Compiled names.now) (given Input names.now)) }
+{
+    given(names, Role::Compiled).is_some() || given(names, Role::Input).is_some()
+}
+
+/// What is asked about: a workload, or files, of which one is the input or a compiled catalog, and one what it is compared with where two
+/// are compared.
 fn source(compares: bool, workload: Option<Size>, names: ByRole<Text>) -> Result<Source, WordsFault>
     ensures { IsMade (source_in compares workload names) result }
 {
-    match workload {
-        Some(size) => Ok(Source::Workload(size)),
-        None => match given(names.as_slice(), Role::Input) {
-            Some(_) => with_other(compares, names),
-            None => Err(WordsFault::Refused),
-        },
+    if let Some(size) = workload {
+        return Ok(Source::Workload(size));
     }
+    if !has_input(names.as_slice()) {
+        return Err(WordsFault::Refused);
+    }
+    with_other(compares, names)
 }
 
 #[tactic(auto, unfolding(crate::specs::Words::request_for))]
@@ -194,7 +212,8 @@ fn request_for(
     let source = source(tasks.has(Task::Compare), workload, names)?;
     let node = option(alloc, matches, tasks.has(Task::Compile), "node")?;
     let conflicts = counted(matches, tasks.has(Task::Judge), "conflicts", MOST_CONFLICTS)?;
-    let large = limits(matches, tasks.has(Task::Compile))?;
+    let other = limits_beside(value(matches, "compiled"));
+    let large = limits(matches, tasks.has(Task::Plan), other)?;
     Ok(Request {
         ask,
         node,
@@ -213,7 +232,8 @@ fn plain_request(alloc: Global, matches: &ArgMatches<'_>) -> Result<Request, Wor
 {
     let ask = ask_of(matches)?;
     let workload = size(matches, ask.tasks().has(Task::Load))?;
-    let tasks = ask.tasks().beside(&workload);
+    let compiled = value(matches, "compiled");
+    let tasks = ask.tasks().with_catalog(compiled).beside(&workload);
     request_for(alloc, matches, ask, workload, &tasks)
 }
 

@@ -16,4 +16,5 @@ mod told;
 
 pub use counted::{assumed_at_places, count_assumed};
 pub use laws::{assumed_resources, ordinary_resources, what_stands_is_spared};
+pub use premises::{Premises, assumed_at};
 pub use programs::native_programs;

@@ -13,10 +13,10 @@ use std::alloc::Global;
 /// What is assumed of the resources of a compiled catalog, which are lent; and for each assumption the place of the resource of which it
 /// speaks alone.
 #[derive(Drop)]
-pub(crate) struct Premises<'h> {
-    pub(crate) resources: &'h [CompiledResource],
-    pub(crate) assumptions: &'h Assumptions,
-    pub(crate) places: Seq<Option<usize>>,
+pub struct Premises<'h> {
+    pub resources: &'h [CompiledResource],
+    pub assumptions: &'h Assumptions,
+    pub places: Seq<Option<usize>>,
 }
 
 /// The place of the resource of which an assumption speaks alone, if its reference finds one.
@@ -49,7 +49,7 @@ fn places_of(
 }
 
 impl<'h> Premises<'h> {
-    pub(crate) fn of(
+    pub fn of(
         alloc: Global,
         resources: &'h [CompiledResource],
         assumptions: &'h Assumptions,
@@ -106,7 +106,7 @@ fn assumed_of_place<'h>(premises: &Premises<'h>, place: usize) -> Option<&'h Ass
 }
 
 /// What is assumed of a resource at a place.
-pub(crate) fn assumed_at<'h>(
+pub fn assumed_at<'h>(
     alloc: Global,
     premises: &Premises<'h>,
     place: usize,

@@ -75,10 +75,10 @@ apart long es order fs other t left right o p first second part = record {
 settled_with : (given : List Path) (es : List Program) (order : Relation) (s : Settled) → IsSettledFrom given es order s → IsSettledWith given es order s.pruned
 settled_with given es order s is = record { deterministic = is.deterministic; count = is.pruned }
 
-module _ (terms : Terms) (notes : List ℕ) (budget : ℕ) (same : budget ≡ budget_of terms.conflicts) where
-  tells_unanswered : (es : List Program) (order : Relation) (k : ℕ) (cnf : Formula) (log : Log) → IsUnsettledFrom terms.given es order budget (first.Spent k cnf log) → (report : Report) → report.status ≡ 3
+module _ (terms : Terms) (budget : ℕ) (same : budget ≡ budget_of terms.conflicts) where
+  tells_unanswered : (notes : List ℕ) (es : List Program) (order : Relation) (k : ℕ) (cnf : Formula) (log : Log) → IsUnsettledFrom terms.given es order budget (first.Spent k cnf log) → (report : Report) → report.status ≡ 3
       → report.text ≡ spent_text (length es) notes k asked.Deterministic budget → TellsUnanswered terms notes es order report
-  tells_unanswered es order k cnf log is report status text =
+  tells_unanswered notes es order k cnf log is report status text =
       let used : IsSpentFrom terms.given es order (budget_of terms.conflicts) cnf log.steps = subst (λ b. IsSpentFrom terms.given es order b cnf log.steps) same is.spent in
       let some = given_some terms.conflicts used.limited in
       record {
@@ -100,22 +100,22 @@ module _ (terms : Terms) (notes : List ℕ) (budget : ℕ) (same : budget ≡ bu
       }
 
   -- what is told of one graph that isn't known to be deterministic
-  unsettled : (names : List (List ℕ)) (es : List Program) (order : Relation) (f : First) → IsUnsettledFrom terms.given es order budget f → (report : Report) → report.status ≡ first_status f
+  unsettled : (notes : List ℕ) (names : List (List ℕ)) (es : List Program) (order : Relation) (f : First) → IsUnsettledFrom terms.given es order budget f → (report : Report) → report.status ≡ first_status f
       → report.text ≡ first_lines names es notes budget f → TellsDifference terms notes names es order report ⊎ TellsUnanswered terms notes es order report
-  unsettled names es order (first.Sure k s) is report status text = absurd is.unsure
-  unsettled names es order (first.Differs k (witness.Orders t left right)) is report status text = inl (record {
+  unsettled notes names es order (first.Sure k s) is report status text = absurd is.unsure
+  unsettled notes names es order (first.Differs k (witness.Orders t left right)) is report status text = inl (record {
     pruned = k;
     count = is.pruned;
     different = record { status = status; tree = t; left = left; right = right; counterexample = is.differs.0; exchange = is.differs.1; text = text };
   })
-  unsettled names es order (first.Differs k (witness.Twice t turns)) is report status text = absurd is.differs
-  unsettled names es order (first.Differs k (witness.Ends t turns)) is report status text = absurd is.differs
-  unsettled names es order (first.Spent k cnf log) is report status text = inr (tells_unanswered es order k cnf log is report status text)
+  unsettled notes names es order (first.Differs k (witness.Twice t turns)) is report status text = absurd is.differs
+  unsettled notes names es order (first.Differs k (witness.Ends t turns)) is report status text = absurd is.differs
+  unsettled notes names es order (first.Spent k cnf log) is report status text = inr (tells_unanswered notes es order k cnf log is report status text)
 
-  module _ (long : Long) (names : List (List ℕ)) (es : List Program) (order : Relation) (others : List (List ℕ)) (fs : List Program) (other : Relation) (left_long : length es ≡ order.count) (right_long : length fs ≡ other.count)
+  module _ (long : Long) (notes other_notes : List ℕ) (names : List (List ℕ)) (es : List Program) (order : Relation) (others : List (List ℕ)) (fs : List Program) (other : Relation) (left_long : length es ≡ order.count) (right_long : length fs ≡ other.count)
       (report : Report) where
     tells_spent : (l r : Settled) (cnf : Formula) (log : Log) → IsSettledFrom terms.given es order l → IsSettledFrom terms.given fs other r → IsSpentOnFrom terms.given es order fs other budget cnf log.steps → report.status ≡ 3
-        → report.text ≡ spent_equal_text notes (length es) l.pruned (length fs) r.pruned budget → TellsSpent terms notes es order fs other report
+        → report.text ≡ spent_equal_text notes other_notes (length es) l.pruned (length fs) r.pruned budget → TellsSpent terms notes other_notes es order fs other report
     tells_spent l r cnf log one second spent_on status text =
         let used : IsSpentOnFrom terms.given es order fs other (budget_of terms.conflicts) cnf log.steps = subst (λ b. IsSpentOnFrom terms.given es order fs other b cnf log.steps) same spent_on in
         let some = given_some terms.conflicts used.1.limited in
@@ -130,23 +130,23 @@ module _ (terms : Terms) (notes : List ℕ) (budget : ℕ) (same : budget ≡ bu
           formula = cnf;
           steps = log.steps;
           spent = used;
-          text = subst (λ b. report.text ≡ spent_equal_text notes (length es) l.pruned (length fs) r.pruned b) same text;
+          text = subst (λ b. report.text ≡ spent_equal_text notes other_notes (length es) l.pruned (length fs) r.pruned b) same text;
         }
 
-    tells_left : TellsDifference terms notes names es order report ⊎ TellsUnanswered terms notes es order report → Tells terms notes names es order others fs other report
+    tells_left : TellsDifference terms notes names es order report ⊎ TellsUnanswered terms notes es order report → Tells terms notes other_notes names es order others fs other report
     tells_left (inl d) = differs (inl d)
     tells_left (inr u) = unanswered (inl u)
 
     tells_right : (l : Settled) (rest : List ℕ) → IsSettledFrom terms.given es order l → report.text ≡ settled_lines (length es) notes l.pruned ++ rest
-        → TellsDifference terms notes others fs other (record { status = report.status; text = rest }) ⊎ TellsUnanswered terms notes fs other (record { status = report.status; text = rest })
-        → Tells terms notes names es order others fs other report
+        → TellsDifference terms other_notes others fs other (record { status = report.status; text = rest }) ⊎ TellsUnanswered terms other_notes fs other (record { status = report.status; text = rest })
+        → Tells terms notes other_notes names es order others fs other report
     tells_right l rest one text (inl d) = differs (inr (record { pruned = l.pruned; settled = settled_with terms.given es order l one; rest = rest; behind = d; text = text }))
     tells_right l rest one text (inr u) = unanswered (inr (record { pruned = l.pruned; settled = settled_with terms.given es order l one; rest = rest; behind = u; text = text }))
 
-    tells : (c : Compared) → IsComparedFrom terms.given es order fs other budget c → IsReportOf notes names es order others fs other budget c report → Tells terms notes names es order others fs other report
-    tells (compared.Left f) said is = tells_left (unsettled names es order f said.left report is.status is.text)
+    tells : (c : Compared) → IsComparedFrom terms.given es order fs other budget c → IsReportOf notes other_notes names es order others fs other budget c report → Tells terms notes other_notes names es order others fs other report
+    tells (compared.Left f) said is = tells_left (unsettled notes names es order f said.left report is.status is.text)
     tells (compared.Right l f) said is =
-        tells_right l (first_lines others fs notes budget f) said.left_settled is.text (unsettled others fs other f said.right (record { status = report.status; text = first_lines others fs notes budget f }) is.status refl)
+        tells_right l (first_lines others fs other_notes budget f) said.left_settled is.text (unsettled other_notes others fs other f said.right (record { status = report.status; text = first_lines others fs other_notes budget f }) is.status refl)
     tells (compared.Equal l r v) said is = equal (record {
       status = is.status;
       left = l.pruned;
@@ -171,6 +171,6 @@ module _ (terms : Terms) (notes : List ℕ) (budget : ℕ) (same : budget ≡ bu
     })
     tells (compared.Spent l r cnf log) said is = spent (tells_spent l r cnf log said.left_settled said.right_settled said.spent is.status is.text)
 
-    pub told_is : AreWithinWith terms.limits terms.given es fs → (c : Compared) → IsComparedFrom terms.given es order fs other budget c → IsReportOf notes names es order others fs other budget c report
-        → IsComparedTold terms notes names es order others fs other report
+    pub told_is : AreWithinWith terms.limits terms.given es fs → (c : Compared) → IsComparedFrom terms.given es order fs other budget c → IsReportOf notes other_notes names es order others fs other budget c report
+        → IsComparedTold terms notes other_notes names es order others fs other report
     told_is within c said is = record { within = within; answer = tells c said is }

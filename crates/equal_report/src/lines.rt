@@ -25,20 +25,21 @@ pub fn push_settled(
     push_bytes(b"deterministic\n", into)
 }
 
-/// Begins with the lines on both graphs, which are deterministic.
+/// Begins with the lines on both graphs, which are deterministic. Each has notes of its own.
 fn both(
     alloc: Global,
     notes: &[u8],
+    other_notes: &[u8],
     n: usize,
     pruned: u32,
     m: usize,
     other_pruned: u32,
 ) -> Result<Vec<u8>, NoMemory>
-    ensures { IfOk result (λ bytes. bytes.items ≡ both_lines notes.now n pruned m other_pruned) }
+    ensures { IfOk result (λ bytes. bytes.items ≡ both_lines notes.now other_notes.now n pruned m other_pruned) }
 {
     let mut bytes = Vec::new(alloc);
     push_settled(alloc, n, notes, pruned, &mut bytes)?;
-    push_settled(alloc, m, notes, other_pruned, &mut bytes)?;
+    push_settled(alloc, m, other_notes, other_pruned, &mut bytes)?;
     Ok(bytes)
 }
 
@@ -46,14 +47,15 @@ fn both(
 pub fn equal_text(
     alloc: Global,
     notes: &[u8],
+    other_notes: &[u8],
     n: usize,
     pruned: u32,
     m: usize,
     other_pruned: u32,
 ) -> Result<Seq<u8>, NoMemory>
-    ensures { IfOk result (λ text. text ≡ equal_text notes.now n pruned m other_pruned) }
+    ensures { IfOk result (λ text. text ≡ equal_text notes.now other_notes.now n pruned m other_pruned) }
 {
-    let mut bytes = both(alloc, notes, n, pruned, m, other_pruned)?;
+    let mut bytes = both(alloc, notes, other_notes, n, pruned, m, other_pruned)?;
     push_bytes(b"equal\n", &mut bytes)?;
     Ok(Seq::from_vec(bytes))
 }
@@ -62,6 +64,7 @@ pub fn equal_text(
 pub fn unequal_text(
     alloc: Global,
     notes: &[u8],
+    other_notes: &[u8],
     names: &[Text],
     left: &[Program],
     pruned: u32,
@@ -76,9 +79,17 @@ pub fn unequal_text(
     requires places { AllByRecursion (λ i. i < length left.now) first.now }
     requires others_named { AllByRecursion (λ i. i < length others.now) second.now }
     requires other_places { AllByRecursion (λ i. i < length right.now) second.now }
-    ensures { IfOk result (λ text. text ≡ unequal_text notes.now names.now (map program_of left.now) pruned first.now others.now (map program_of right.now) other_pruned second.now tree.now) }
+    ensures { IfOk result (λ text. text ≡ unequal_text notes.now other_notes.now names.now (map program_of left.now) pruned first.now others.now (map program_of right.now) other_pruned second.now tree.now) }
 {
-    let mut bytes = both(alloc, notes, left.len(), pruned, right.len(), other_pruned)?;
+    let mut bytes = both(
+        alloc,
+        notes,
+        other_notes,
+        left.len(),
+        pruned,
+        right.len(),
+        other_pruned,
+    )?;
     push_bytes(b"not equal\n", &mut bytes)?;
     push_tree(alloc, tree, &mut bytes)?;
     push_run(alloc, names, left, tree, first, &mut bytes)?;
@@ -98,15 +109,16 @@ fn push_spent(alloc: Global, budget: u64, into: &mut Vec<u8>) -> Result<(), NoMe
 pub fn spent_equal_text(
     alloc: Global,
     notes: &[u8],
+    other_notes: &[u8],
     n: usize,
     pruned: u32,
     m: usize,
     other_pruned: u32,
     budget: u64,
 ) -> Result<Seq<u8>, NoMemory>
-    ensures { IfOk result (λ text. text ≡ spent_equal_text notes.now n pruned m other_pruned budget) }
+    ensures { IfOk result (λ text. text ≡ spent_equal_text notes.now other_notes.now n pruned m other_pruned budget) }
 {
-    let mut bytes = both(alloc, notes, n, pruned, m, other_pruned)?;
+    let mut bytes = both(alloc, notes, other_notes, n, pruned, m, other_pruned)?;
     push_spent(alloc, budget, &mut bytes)?;
     Ok(Seq::from_vec(bytes))
 }

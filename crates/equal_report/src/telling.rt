@@ -43,6 +43,7 @@ fn right_lines(
     n: usize,
     notes: &[u8],
     pruned: u32,
+    other_notes: &[u8],
     others: &[Text],
     right: &[Program],
     budget: u64,
@@ -50,9 +51,9 @@ fn right_lines(
 ) -> Result<Seq<u8>, NoMemory>
     requires named { IsTellableFirst (length others.now) first.now }
     requires places { IsTellableFirst (length right.now) first.now }
-    ensures { IfOk result (λ text. text ≡ settled_lines n notes.now pruned ++ first_lines others.now (map program_of right.now) notes.now budget first.now) }
+    ensures { IfOk result (λ text. text ≡ settled_lines n notes.now pruned ++ first_lines others.now (map program_of right.now) other_notes.now budget first.now) }
 {
-    let rest = first_lines(alloc, others, right, notes, budget, first)?;
+    let rest = first_lines(alloc, others, right, other_notes, budget, first)?;
     let mut bytes = Vec::new(alloc);
     push_settled(alloc, n, notes, pruned, &mut bytes)?;
     push_bytes(rest.as_slice(), &mut bytes)?;
@@ -63,6 +64,7 @@ fn right_lines(
 fn lines_of(
     alloc: Global,
     notes: &[u8],
+    other_notes: &[u8],
     names: &[Text],
     left: &[Program],
     one: &[u32],
@@ -78,7 +80,7 @@ fn lines_of(
     requires other_places { AllByRecursion (λ i. i < length right.now) second.now }
     requires names_told { IsTellable (length names.now) (length others.now) compared.now }
     requires programs_told { IsTellable (length left.now) (length right.now) compared.now }
-    ensures { IfOk result (λ text. text ≡ lines_of notes.now names.now (map program_of left.now) one.now others.now (map program_of right.now) second.now budget compared.now) }
+    ensures { IfOk result (λ text. text ≡ lines_of notes.now other_notes.now names.now (map program_of left.now) one.now others.now (map program_of right.now) second.now budget compared.now) }
 {
     match compared {
         Compared::Left(first) => first_lines(alloc, names, left, notes, budget, first),
@@ -90,6 +92,7 @@ fn lines_of(
             left.len(),
             notes,
             settled.pruned,
+            other_notes,
             others,
             right,
             budget,
@@ -99,13 +102,32 @@ fn lines_of(
             left: l,
             right: r,
             ..
-        } => equal_text(alloc, notes, left.len(), l.pruned, right.len(), r.pruned),
+        } => equal_text(
+            alloc,
+            notes,
+            other_notes,
+            left.len(),
+            l.pruned,
+            right.len(),
+            r.pruned,
+        ),
         Compared::Differ {
             left: l,
             right: r,
             tree,
         } => unequal_text(
-            alloc, notes, names, left, l.pruned, one, others, right, r.pruned, second, tree,
+            alloc,
+            notes,
+            other_notes,
+            names,
+            left,
+            l.pruned,
+            one,
+            others,
+            right,
+            r.pruned,
+            second,
+            tree,
         ),
         Compared::Spent {
             left: l,
@@ -114,6 +136,7 @@ fn lines_of(
         } => spent_equal_text(
             alloc,
             notes,
+            other_notes,
             left.len(),
             l.pruned,
             right.len(),
@@ -127,6 +150,7 @@ fn lines_of(
 fn report_of(
     alloc: Global,
     notes: &[u8],
+    other_notes: &[u8],
     names: &[Text],
     left: &[Program],
     order: &Order,
@@ -142,7 +166,7 @@ fn report_of(
     requires right { length right.now ≡ other.now.count }
     requires names_told { IsTellable (length names.now) (length others.now) compared.now }
     requires programs_told { IsTellable (length left.now) (length right.now) compared.now }
-    ensures { IfOk result (IsReportOf notes.now names.now (map program_of left.now) order.now others.now (map program_of right.now) other.now budget compared.now) }
+    ensures { IfOk result (IsReportOf notes.now other_notes.now names.now (map program_of left.now) order.now others.now (map program_of right.now) other.now budget compared.now) }
 {
     let status = status_of(compared);
     let one = order.first_extension()?;
@@ -150,6 +174,7 @@ fn report_of(
     let text = lines_of(
         alloc,
         notes,
+        other_notes,
         names,
         left,
         one.as_slice(),
@@ -162,12 +187,13 @@ fn report_of(
     Ok(Report { status, text })
 }
 
-/// What is told of two graphs that are compared: whether they do the same. The resources of each have these names, and these notes
-/// stand behind each number of them.
+/// What is told of two graphs that are compared: whether they do the same. The resources of each have these names, and behind each
+/// number of them stand these notes.
 pub fn told(
     alloc: Global,
     terms: &Terms,
     notes: &[u8],
+    other_notes: &[u8],
     names: &[Text],
     left: &[Program],
     order: &Order,
@@ -179,7 +205,7 @@ pub fn told(
     requires names { length names.now ≡ order.now.count }
     requires right { length right.now ≡ other.now.count }
     requires others { length others.now ≡ other.now.count }
-    ensures told { IfOk result (IsComparedTold terms.now notes.now names.now (map program_of left.now) order.now others.now (map program_of right.now) other.now) }
+    ensures told { IfOk result (IsComparedTold terms.now notes.now other_notes.now names.now (map program_of left.now) order.now others.now (map program_of right.now) other.now) }
     // It is refused exactly where the two are too large to be compared.
     ensures refused { IfErr result (λ e. IfRefused e (IsTooLargeJoined terms.now.limits terms.now.given (map program_of left.now) (map program_of right.now))) }
 {
@@ -187,7 +213,17 @@ pub fn told(
     let compared = compare_from(alloc, left, order, right, other, terms)?;
     let budget = terms.budget();
     let report = report_of(
-        alloc, notes, names, left, order, others, right, other, budget, &compared,
+        alloc,
+        notes,
+        other_notes,
+        names,
+        left,
+        order,
+        others,
+        right,
+        other,
+        budget,
+        &compared,
     )?;
     Ok(report)
 }

@@ -1,2 +1,3 @@
+pub mod EditLaws
 pub mod ReadingLaws
 pub mod OneReading

@@ -4,6 +4,7 @@ ghost use Rattle.std.specs.Prelude.{◌≡◌, IfOk};
 ghost use Rattle.std.specs.Option.{option_map};
 ghost use Rattle.known_inputs.specs.Inputs.{bytes_of, input_of, wanted_of};
 
+use assumed_text::Assumptions;
 use command_line::{ByRole, Role, given};
 use fs_lang::{Path, Tree};
 use given_text::Given;
@@ -65,13 +66,14 @@ impl Inputs {
     }
 }
 
-/// What the files beside the manifest say. What isn't named says nothing: no facts, no packages, no data, nothing that every host has,
-/// and no tree but that of the folders that every host has.
+/// What the files beside the manifest or the compiled catalog say. What isn't named says nothing: no facts, no packages, no data, nothing
+/// that is assumed or that every host has, and no tree but that of the folders that every host has.
 #[derive(Drop)]
 pub struct Known {
     pub facts: Value,
     pub listing: Listing,
     pub class_data: Data,
     pub tree: Tree,
+    pub assumed: Assumptions,
     pub given: Given,
 }

@@ -1,4 +1,4 @@
-//! Laws of what the files beside a manifest say, as a function that does nothing.
+//! Laws of what the files of a request say, as a function that does nothing.
 
 ghost use Rattle.std.specs.Prelude.{◌≡◌};
 ghost use Rattle.rh_base.specs.declared.fault.Refusal.{Refusal};
@@ -6,6 +6,8 @@ ghost use Rattle.known_inputs.specs.declared.inputs.Inputs.{Inputs as Given};
 ghost use Rattle.known_inputs.specs.declared.inputs.Known.{Known as Said};
 ghost use Rattle.known_inputs.specs.Inputs.{IsKnown, FirstUnread};
 
+use assumed_text::assumption_texts;
+use compiled_text::compiled_texts;
 use given_text::given_texts;
 use pkg_listing::listing_texts;
 use pp_data::text_has_one_data;
@@ -19,5 +21,7 @@ pub fn files_say_one_thing()
     listing_texts();
     text_has_one_data();
     tree_texts();
+    compiled_texts();
+    assumption_texts();
     given_texts();
 }

@@ -1,15 +1,21 @@
-//! Reading the files beside a manifest.
+//! Reading the files of a request, but for a manifest.
 
-ghost use Rattle.std.specs.Prelude.{◌≡◌, ◌↔◌, IsTrue, IfOk, IfErr};
+ghost use Rattle.std.specs.Prelude.{◌≡◌, ◌↔◌, IsTrue, false, IfOk, IfErr, OnOk};
 ghost use Rattle.std.specs.Option.{option_map};
 ghost use Rattle.rh_base.specs.Refused.{IfRefused};
 ghost use Rattle.fs_semantics.specs.FileTree.{is_dir};
 ghost use Rattle.given_hosts.specs.Given.{Stand};
-ghost use Rattle.known_inputs.specs.Inputs.{AreFactsOf, IsListingOf, AreDataOf, IsTreeOf, IsGivenOf, BeginsIn, HasNoFacts, HasNoListing, HasNoData, HasNoTree, HasNoGiven, LacksGiven, IsKnown, FirstUnread};
+ghost use Rattle.given_links.specs.Reading.{read_as};
+ghost use Rattle.command_line.specs.declared.table.Role.TheVariants as role;
+ghost use Rattle.known_inputs.specs.Inputs.{bytes_of, AreFactsOf, IsListingOf, AreDataOf, IsTreeOf, IsCompiledOf, AreAssumedOf, IsGivenOf, BeginsIn, edited_in, wants_edited, HasNoFacts, HasNoListing, HasNoData, HasNoTree, HasNoCompiled, HasNoAssumptions, HasNoGiven, LacksGiven, AreTold, AreNamed, IsKnown, FirstUnread};
 
+use crate::edited::check_edits;
 use crate::inputs::{Inputs, Known};
+use assumed_text::{Assumptions, assumptions_from_json};
 use command_line::Role;
+use compiled_text::{CompiledCatalog, compiled_from_json};
 use fs_lang::{Entry, Path, Tree};
+use given_links::path_readings;
 use given_text::{Given, folder_tree, given_from_json};
 use pkg_listing::{Listing, listing_from_json};
 use pp_data::{Data, data_from_json};
@@ -60,6 +66,28 @@ fn tree_of(alloc: Global, bytes: Option<&[u8]>) -> Result<Option<Tree>, Fault>
     match bytes {
         Some(bytes) => Ok(Some(tree_from_json(alloc, bytes)?)),
         None => Ok(None),
+    }
+}
+
+/// The compiled catalog of a text, if there is one.
+pub fn compiled_of(alloc: Global, bytes: Option<&[u8]>) -> Result<Option<CompiledCatalog>, Fault>
+    ensures compiled { IfOk result (IsCompiledOf (option_map (λ b. b.now) bytes.entry)) }
+    ensures refused { IfErr result (λ e. IfRefused e (HasNoCompiled (option_map (λ b. b.now) bytes.entry))) }
+{
+    match bytes {
+        Some(bytes) => Ok(Some(compiled_from_json(alloc, bytes)?)),
+        None => Ok(None),
+    }
+}
+
+/// What a text assumes; it is nothing without one.
+fn assumed_of(alloc: Global, bytes: Option<&[u8]>) -> Result<Assumptions, Fault>
+    ensures assumed { IfOk result (AreAssumedOf (option_map (λ b. b.now) bytes.entry)) }
+    ensures refused { IfErr result (λ e. IfRefused e (HasNoAssumptions (option_map (λ b. b.now) bytes.entry))) }
+{
+    match bytes {
+        Some(bytes) => assumptions_from_json(alloc, bytes),
+        None => Ok(Assumptions::none(alloc)),
     }
 }
 
@@ -116,23 +144,97 @@ fn beginning(alloc: Global, told: Option<Tree>, folders: &[Path]) -> Result<Tree
     }
 }
 
-/// What the files beside the manifest say, or the refusal of the first that says nothing.
-#[tactic(auto, using(crate::proofs::ReadingLaws::listing_refused, crate::proofs::ReadingLaws::data_refused, crate::proofs::ReadingLaws::tree_refused, crate::proofs::ReadingLaws::given_refused, crate::proofs::ReadingLaws::lack_refused))]
-pub fn known_inputs(alloc: Global, inputs: &Inputs) -> Result<Known, Fault>
-    ensures known { IfOk result (IsKnown inputs.now) }
+/// Facts, packages and class data.
+#[derive(Drop)]
+struct Told {
+    facts: Value,
+    listing: Listing,
+    class_data: Data,
+}
+
+/// A tree, what is assumed, and a compiled catalog.
+#[derive(Drop)]
+struct Named {
+    tree: Option<Tree>,
+    assumed: Assumptions,
+    compiled: Option<CompiledCatalog>,
+}
+
+/// What is told of a node.
+#[tactic(auto, using(crate::proofs::ReadingLaws::listing_refused, crate::proofs::ReadingLaws::data_refused))]
+fn told_of(alloc: Global, inputs: &Inputs) -> Result<Told, Fault>
+    ensures told { IfOk result (λ r. AreTold inputs.now r.facts r.listing r.class_data) }
     ensures refused { IfErr result (λ e. IfRefused e (FirstUnread inputs.now)) }
 {
     let facts = facts_of(alloc, inputs.bytes(Role::Facts))?;
     let listing = listing_of(alloc, inputs.bytes(Role::Packages))?;
     let class_data = class_data_of(alloc, inputs.bytes(Role::Data))?;
-    let told = tree_of(alloc, inputs.bytes(Role::Tree))?;
-    let given = given_of(alloc, inputs.bytes(Role::Given))?;
-    let tree = beginning(alloc, told, given.folders.as_slice())?;
-    Ok(Known {
+    Ok(Told {
         facts,
         listing,
         class_data,
-        tree,
-        given,
     })
+}
+
+/// What the other files say, behind those that tell of a node.
+#[tactic(auto, using(crate::proofs::ReadingLaws::tree_refused, crate::proofs::ReadingLaws::compiled_refused, crate::proofs::ReadingLaws::assumed_refused))]
+fn named_of(alloc: Global, inputs: &Inputs, told: &Told) -> Result<Named, Fault>
+    requires told { AreTold inputs.now told.now.facts told.now.listing told.now.class_data }
+    ensures named { IfOk result (λ r. AreNamed inputs.now r.tree r.compiled r.assumed) }
+    ensures refused { IfErr result (λ e. IfRefused e (FirstUnread inputs.now)) }
+{
+    let tree = tree_of(alloc, inputs.bytes(Role::Tree))?;
+    let compiled = compiled_of(alloc, inputs.bytes(Role::Compiled))?;
+    let assumed = assumed_of(alloc, inputs.bytes(Role::Assume))?;
+    Ok(Named {
+        tree,
+        assumed,
+        compiled,
+    })
+}
+
+/// The folders and links that every host has, where nothing that is wanted is edited, as it stands and as they read it.
+#[tactic(auto, using(crate::proofs::ReadingLaws::edits_refused, crate::proofs::ReadingLaws::given_refused, crate::proofs::ReadingLaws::edits_as_read_refused, crate::proofs::ReadingLaws::nothing_is_read))]
+fn given_beside(alloc: Global, inputs: &Inputs, told: &Told, named: &Named) -> Result<Given, Fault>
+    requires told { AreTold inputs.now told.now.facts told.now.listing told.now.class_data }
+    requires named { AreNamed inputs.now named.now.tree named.now.compiled named.now.assumed }
+    ensures given { IfOk result (IsGivenOf (bytes_of role.Given inputs.now)) }
+    ensures apart { OnOk result (wants_edited (λ p. p) inputs.now.wanted (edited_in named.now.compiled named.now.assumed) ≡ false) }
+    ensures apart_as_read { IfOk result (λ g. wants_edited (read_as g.links) inputs.now.wanted (edited_in named.now.compiled named.now.assumed) ≡ false) }
+    ensures refused { IfErr result (λ e. IfRefused e (FirstUnread inputs.now)) }
+{
+    path_readings();
+    let catalog = &named.compiled;
+    let assumed = &named.assumed;
+    check_edits(alloc, &[], &inputs.wanted, catalog, assumed)?;
+    let given = given_of(alloc, inputs.bytes(Role::Given))?;
+    let links = given.links.as_slice();
+    check_edits(alloc, links, &inputs.wanted, catalog, assumed)?;
+    Ok(given)
+}
+
+/// What the files of a request say, but for a manifest, with the compiled catalog that one of them is; or the refusal of the first that says
+/// nothing.
+#[tactic(auto, using(crate::proofs::ReadingLaws::lack_refused))]
+pub fn known_inputs(
+    alloc: Global,
+    inputs: &Inputs,
+) -> Result<(Known, Option<CompiledCatalog>), Fault>
+    ensures known { IfOk result (λ r. IsKnown inputs.now r.0) }
+    ensures compiled { IfOk result (λ r. IsCompiledOf (bytes_of role.Compiled inputs.now) r.1) }
+    ensures refused { IfErr result (λ e. IfRefused e (FirstUnread inputs.now)) }
+{
+    let told = told_of(alloc, inputs)?;
+    let named = named_of(alloc, inputs, &told)?;
+    let given = given_beside(alloc, inputs, &told, &named)?;
+    let tree = beginning(alloc, named.tree, given.folders.as_slice())?;
+    let known = Known {
+        facts: told.facts,
+        listing: told.listing,
+        class_data: told.class_data,
+        tree,
+        assumed: named.assumed,
+        given,
+    };
+    Ok((known, named.compiled))
 }

@@ -123,7 +123,7 @@ few ask.Check conflicts i report answer = inl (omega (arith, answer.0))
 few ask.Migrate conflicts i report answer = inl (omega (arith, answer.0))
 few ask.Repair conflicts i report answer = few_repaired _ _ _ _ _ report answer.told
 few ask.Ensures conflicts i report answer = few_ensured _ _ _ _ _ _ report answer.told
-few ask.Equal conflicts i report answer = compared_laws.few _ _ _ _ _ _ _ _ report answer.told.answer
+few ask.Equal conflicts i report answer = compared_laws.few _ _ _ _ _ _ _ _ _ report answer.told.answer
 few ask.Explain conflicts i report answer = explained_laws.few _ _ _ _ _ report answer.told.told.answer
 
 has_status : (words : List (String Global)) (held : Held) (report : Report) → Reports words held report → IsOfReport report.status

@@ -10,7 +10,8 @@ use Rattle.command_line.specs.declared.table.Ask.TheVariants as ask
 use Rattle.command_line.specs.declared.request.Request.{Request}
 use Rattle.command_line.specs.declared.request.Source.{Source}
 use Rattle.command_line.specs.declared.request.Source.TheVariants as source
-use Rattle.command_line.specs.Table.{limit_of, ByRole}
+use Rattle.command_line.specs.declared.table.InputKind.{InputKind}
+use Rattle.command_line.specs.Table.{limit_of, ByRole, input_kind}
 use Rattle.command_line.specs.Words.{Makes}
 use Rattle.request_files.specs.Files.{AreRead, FirstTooLong, NoneMissing, AnyMissing, AllTold}
 use Rattle.cnf.specs.declared.log.Step.{Step}
@@ -36,7 +37,7 @@ use Rattle.reports.specs.Sides.{OfInput}
 use Rattle.rehearsal_core.specs.declared.inputs.Loaded.{Loaded}
 use Rattle.rehearsal_core.specs.Verified.{IsRefuted, AreVerified, FirstBad, BreaksProofRule}
 use Rattle.rehearsal_core.specs.Migrated.{BreaksListingRule}
-use Rattle.rehearsal_core.specs.Inputs.{files_in, files_of, Requests, AreInputs, IsLoaded, IsAnswerTo, BreaksFor, Breaks, ReportsOn, RefusesAt, Reports, Refuses, IsHeld, LacksFile}
+use Rattle.rehearsal_core.specs.Inputs.{files_in, files_of, Requests, AreInputs, IsLoaded, IsAnswerTo, BreaksFor, Breaks, ReportsOn, IsTooLongAt, RefusesAt, Reports, Refuses, IsHeld, LacksFile}
 
 -- ---- what is known of each part
 
@@ -63,32 +64,32 @@ NoFault = (f : Formula) (steps : List Step) (n : ℕ) (cause : Cause) → IsAcce
 
 -- ---- files that are told
 
-same_files : (held : Held) (a : Ask) (names files others : ByRole (List ℕ)) → AllTold held names → AreRead held a names files → AreRead held a names others → files ≡ others
-same_files held a [] [] [] told is was = refl
-same_files held a [] [] (g ∷ others) told is was = absurd was
-same_files held a [] (f ∷ files) others told is was = absurd is
-same_files held a (n ∷ names) [] others told is was = absurd is
-same_files held a (n ∷ names) (f ∷ files) [] told is was = absurd was
-same_files held a (n ∷ names) (f ∷ files) (g ∷ others) told is was =
+same_files : (held : Held) (kind : InputKind) (names files others : ByRole (List ℕ)) → AllTold held names → AreRead held kind names files → AreRead held kind names others → files ≡ others
+same_files held kind [] [] [] told is was = refl
+same_files held kind [] [] (g ∷ others) told is was = absurd was
+same_files held kind [] (f ∷ files) others told is was = absurd is
+same_files held kind (n ∷ names) [] others told is was = absurd is
+same_files held kind (n ∷ names) (f ∷ files) [] told is was = absurd was
+same_files held kind (n ∷ names) (f ∷ files) (g ∷ others) told is was =
     let role = is.0 ∙ sym was.0 in
     let bytes = is.1.1 told.0.0 told.0.1 ∙ sym (was.1.1 told.0.0 told.0.1) in
-    let more = same_files held a names files others told.1 is.2 was.2 in
+    let more = same_files held kind names files others told.1 is.2 was.2 in
     λ t. (role t, bytes t) ∷ more t
 
-not_too_long : (held : Held) (a : Ask) (names files : ByRole (List ℕ)) (r : Refusal) → AllTold held names → AreRead held a names files → FirstTooLong held a names r → ⊥
-not_too_long held a [] files r told is long = long
-not_too_long held a (n ∷ names) [] r told is long = absurd is
-not_too_long held a (n ∷ names) (f ∷ files) r told is (inl here) =
+not_too_long : (held : Held) (kind : InputKind) (names files : ByRole (List ℕ)) (r : Refusal) → AllTold held names → AreRead held kind names files → FirstTooLong held kind names r → ⊥
+not_too_long held kind [] files r told is long = long
+not_too_long held kind (n ∷ names) [] r told is long = absurd is
+not_too_long held kind (n ∷ names) (f ∷ files) r told is (inl here) =
     let more = here.0.1 told.0.0 told.0.1 in
-    let less = subst (λ bytes. length bytes ≤ limit_of a n.0) (is.1.1 told.0.0 told.0.1) is.1.2 in
+    let less = subst (λ bytes. length bytes ≤ limit_of kind n.0) (is.1.1 told.0.0 told.0.1) is.1.2 in
     absurd (omega (arith, more, less))
-not_too_long held a (n ∷ names) (f ∷ files) r told is (inr later) = not_too_long held a names files r told.1 is.2 later.1
+not_too_long held kind (n ∷ names) (f ∷ files) r told is (inr later) = not_too_long held kind names files r told.1 is.2 later.1
 
-read_are_there : (held : Held) (a : Ask) (names files : ByRole (List ℕ)) → AreRead held a names files → AnyMissing held names → ⊥
-read_are_there held a [] files is missing = missing
-read_are_there held a (n ∷ names) [] is missing = absurd is
-read_are_there held a (n ∷ names) (f ∷ files) is (inl here) = is.1.0 here
-read_are_there held a (n ∷ names) (f ∷ files) is (inr later) = read_are_there held a names files is.2 later
+read_are_there : (held : Held) (kind : InputKind) (names files : ByRole (List ℕ)) → AreRead held kind names files → AnyMissing held names → ⊥
+read_are_there held kind [] files is missing = missing
+read_are_there held kind (n ∷ names) [] is missing = absurd is
+read_are_there held kind (n ∷ names) (f ∷ files) is (inl here) = is.1.0 here
+read_are_there held kind (n ∷ names) (f ∷ files) is (inr later) = read_are_there held kind names files is.2 later
 
 none_and_any : (held : Held) (names : ByRole (List ℕ)) → NoneMissing held names → AnyMissing held names → ⊥
 none_and_any held [] none missing = missing
@@ -102,7 +103,7 @@ same_inputs held r (source.Files names) i j told is was =
     let node = is.0 ∙ sym was.0 in
     let limits = is.1 ∙ sym was.1 in
     let wanted = is.2 ∙ sym was.2 in
-    let files = same_files held r.ask names i.files j.files told is.3 was.3 in
+    let files = same_files held (input_kind r.ask names) names i.files j.files told is.3 was.3 in
     λ t. record { node = node t; limits = limits t; wanted = wanted t; files = files t }
 same_inputs held r (source.Workload n) i j told is was = is ∙ sym was
 
@@ -113,12 +114,12 @@ same_loaded held r l m told is was =
     let inputs = same_inputs held r r.source l.inputs m.inputs told is.inputs was.inputs in
     λ t. record { ask = a t; conflicts = conflicts t; inputs = inputs t }
 
-loaded_within : (held : Held) (q : Request) (s : Source) (i : Inputs) (r : Refusal) → AllTold held (files_in s) → AreInputs held q s i → FirstTooLong held q.ask (files_in s) r → ⊥
-loaded_within held q (source.Files names) i r told is long = not_too_long held q.ask names i.files r told is.3 long
+loaded_within : (held : Held) (q : Request) (s : Source) (i : Inputs) (r : Refusal) → AllTold held (files_in s) → AreInputs held q s i → FirstTooLong held (input_kind q.ask (files_in s)) (files_in s) r → ⊥
+loaded_within held q (source.Files names) i r told is long = not_too_long held (input_kind q.ask names) names i.files r told is.3 long
 loaded_within held q (source.Workload n) i r told is long = long
 
 loaded_are_there : (held : Held) (q : Request) (s : Source) (i : Inputs) → AreInputs held q s i → AnyMissing held (files_in s) → ⊥
-loaded_are_there held q (source.Files names) i is missing = read_are_there held q.ask names i.files is.3 missing
+loaded_are_there held q (source.Files names) i is missing = read_are_there held (input_kind q.ask names) names i.files is.3 missing
 loaded_are_there held q (source.Workload n) i is missing = missing
 
 -- ---- proofs
@@ -167,7 +168,7 @@ module _ (catalogs : NoCatalogRefusal) (graphs : NoGraphRefusal) (programs : NoR
 
   reported_or_refused : (q : Request) (held : Held) (report : Report) (s : Side) (r : Refusal) → AllTold held (files_of q) → ReportsOn q held report → RefusesAt q held s r → ⊥
   reported_or_refused q held report s r told on (inl long) =
-      of_one (FirstTooLong held q.ask (files_of q)) s r (λ x refused. loaded_within held q q.source on.loaded.inputs x told on.stands.inputs refused) long.1
+      of_one (IsTooLongAt q held) s r (λ x refused. loaded_within held q q.source on.loaded.inputs x told on.stands.inputs refused) long.1
   reported_or_refused q held report s r told on (inr broken) =
       answered_or_not on.loaded.ask on.loaded.conflicts on.loaded.inputs report s r on.says
       (subst (λ l. Breaks l s r) (same_loaded held q broken.loaded on.loaded told broken.stands on.stands) broken.breaks)

@@ -1,5 +1,5 @@
 -- From the report that was written to the headline.
-use Rattle.std.proofs.Common.{◌≡◌, ◌⊎◌, inl, inr, ℕ, [], Option, Some, None, refl, sym, ap, subst, ◌∙◌, arith}
+use Rattle.std.proofs.Common.{◌≡◌, ◌⊎◌, inl, inr, ℕ, [], ◌∷◌, Option, Some, None, refl, sym, ap, subst, ◌∙◌, arith}
 use Rattle.command_line.specs.declared.table.Ask.{Ask}
 use Rattle.command_line.specs.declared.table.Ask.TheVariants as ask
 use Rattle.command_line.specs.declared.table.Role.TheVariants as role
@@ -14,12 +14,14 @@ use Rattle.reports.specs.Questions.{IsReport}
 use Rattle.verdict_report.specs.declared.report.Form.{Form}
 use Rattle.verdict_report.specs.declared.report.Form.TheVariants as form
 use Rattle.verdict_report.specs.declared.report.Report.{Report}
-use Rattle.reports.specs.Comparisons.{names_of, other_names_of, IsComparison}
-use Rattle.known_inputs.specs.Inputs.{bytes_of, IsGivenOf, IsKnown}
+use Rattle.reports.specs.Comparisons.{place_of_source, other_inputs, names_of, other_names_of, IsComparison}
+use Rattle.command_line.specs.Table.{given}
+use Rattle.compiled_text.specs.Compiled.{Compiled}
+use Rattle.known_inputs.specs.Inputs.{bytes_or_none, bytes_of, IsCompiledOf, IsGivenOf, IsKnown}
 use Rattle.known_inputs.specs.declared.inputs.Known.{Known}
 use Rattle.rehearsal_core.specs.Inputs.{Requests, Reports, IsAnswerTo}
 use Rattle.rehearsal_core.specs.Runs.{Run, Appends}
-use Rattle.rehearsal_core.specs.Headline.{ask_for, AsksForVerdict, AsksForEntry, AsksForRepair, AsksForComparison, Modelled, Judged, IsCompared, DoTheSame, DoOtherwise, OneDependsOnOrder, SpendsOnComparison, IsWell, DependsOnOrder, ChangesAgain, SpendsConflicts, LeavesEntry, MissesEntry, SpendsOnEntry, IsMended, SpendsOnRepair, AsksForExplanation, Explained, head_of, IsWellExplained, TellsWhyOrderMatters, TellsWhatChanges, SpendsOnExplanation, IsOfEveryTree, Headline}
+use Rattle.rehearsal_core.specs.Headline.{ask_for, AsksForVerdict, AsksForEntry, AsksForRepair, AsksForComparison, Modelled, Judged, IsCompared, DoTheSame, DoOtherwise, OneDependsOnOrder, SpendsOnComparison, IsWell, DependsOnOrder, ChangesAgain, SpendsConflicts, LeavesEntry, MissesEntry, SpendsOnEntry, IsMended, SpendsOnRepair, AsksForExplanation, Explained, head_of, IsWellExplained, TellsWhyOrderMatters, TellsWhatChanges, SpendsOnExplanation, IsOfEveryTree, AreManifests, Headline}
 use Rattle.rehearsal_core.proofs.ComparedLaws as compared_laws
 use Rattle.rehearsal_core.proofs.ExplainedLaws as explained_laws
 use Rattle.rehearsal_core.specs.Answers.{WritesReport, Tells}
@@ -92,6 +94,7 @@ modelled run report reports a q asked is = record {
   loaded = reports.on.loaded;
   stands = reports.on.stands;
   known = is.known;
+  source = is.source;
   catalog = is.catalog;
   graph = is.graph;
   programs = is.programs;
@@ -224,7 +227,7 @@ depends_of run (report, reports, same, written, left) =
         | inl mended ↦ absurd (omega (arith, same, mended.status))
         | inr spent ↦ absurd (omega (arith, same, spent.status))
       ]
-      | both is answer ↦ inr (inl (record { compared = compared run report reports is answer; report = report; differs = compared_laws.at_one _ _ _ _ _ _ _ _ report answer.told.answer same; written = written }))
+      | both is answer ↦ inr (inl (record { compared = compared run report reports is answer; report = report; differs = compared_laws.at_one _ _ _ _ _ _ _ _ _ report answer.told.answer same; written = written }))
       | why is answer ↦ inr (inr (record { explained = explained_on run report reports is answer; report = report; different = explained_laws.at_one _ _ _ _ _ report answer.told.told.answer same; written = written }))
       | other zero not_verdict not_repair not_entry not_equal not_why ↦ absurd (omega (arith, same, zero))
     ]
@@ -249,7 +252,7 @@ changes_of run (report, reports, same, written, left) =
         | inl mended ↦ absurd (omega (arith, same, mended.status))
         | inr spent ↦ absurd (omega (arith, same, spent.status))
       ]
-      | both is answer ↦ absurd (compared_laws.not_two _ _ _ _ _ _ _ _ report answer.told.answer same)
+      | both is answer ↦ absurd (compared_laws.not_two _ _ _ _ _ _ _ _ _ report answer.told.answer same)
       | why is answer ↦ inr (record { explained = explained_on run report reports is answer; report = report; changed = explained_laws.at_two _ _ _ _ _ report answer.told.told.answer same; written = written })
       | other zero not_verdict not_repair not_entry not_equal not_why ↦ absurd (omega (arith, same, zero))
     ]
@@ -259,7 +262,7 @@ spent_comparison : (run : Run) (report : Report) (reports : Reports run.words ru
 spent_comparison run report reports same written is answer = record {
   compared = compared run report reports is answer;
   report = report;
-  unanswered = compared_laws.at_three _ _ (names_of answer.of) _ _ (other_names_of answer.of) _ _ report answer.told.answer same;
+  unanswered = compared_laws.at_three _ _ _ (names_of answer.of) _ _ (other_names_of answer.of) _ _ report answer.told.answer same;
   written = written;
 }
 
@@ -377,7 +380,7 @@ misses_of run (report, reports, same, written, left) =
         | inl mended ↦ absurd (omega (arith, same, mended.status))
         | inr spent ↦ absurd (omega (arith, same, spent.status))
       ]
-      | both is answer ↦ absurd (compared_laws.not_nine _ _ _ _ _ _ _ _ report answer.told.answer same)
+      | both is answer ↦ absurd (compared_laws.not_nine _ _ _ _ _ _ _ _ _ report answer.told.answer same)
       | why is answer ↦ absurd (explained_laws.not_high _ _ _ _ _ report answer.told.told.answer 9 (omega arith) same)
       | other zero not_verdict not_repair not_entry not_equal not_why ↦ absurd (omega (arith, same, zero))
     ]
@@ -389,7 +392,7 @@ equal_of run asks (report, reports, same, written, left) =
       | verdict f is answer ↦ absurd (no_verdict_compares f (sym is ∙ asked))
       | entry is answer ↦ absurd (no_entry_compares (sym is ∙ asked))
       | repair is answer ↦ absurd (no_repair_compares (sym is ∙ asked))
-      | both is answer ↦ record { compared = compared run report reports is answer; report = report; equal = compared_laws.at_zero _ _ _ _ _ _ _ _ report answer.told.answer same; written = written }
+      | both is answer ↦ record { compared = compared run report reports is answer; report = report; equal = compared_laws.at_zero _ _ _ _ _ _ _ _ _ report answer.told.answer same; written = written }
       | why is answer ↦ absurd (no_equal_explains (sym asked ∙ is))
       | other zero not_verdict not_repair not_entry not_equal not_why ↦ absurd (not_equal asked)
     ]
@@ -414,7 +417,7 @@ unequal_of run (report, reports, same, written, left) =
         | inl mended ↦ absurd (omega (arith, same, mended.status))
         | inr spent ↦ absurd (omega (arith, same, spent.status))
       ]
-      | both is answer ↦ record { compared = compared run report reports is answer; report = report; unequal = compared_laws.at_ten _ _ _ _ _ _ _ _ report answer.told.answer same; written = written }
+      | both is answer ↦ record { compared = compared run report reports is answer; report = report; unequal = compared_laws.at_ten _ _ _ _ _ _ _ _ _ report answer.told.answer same; written = written }
       | why is answer ↦ absurd (explained_laws.not_high _ _ _ _ _ report answer.told.told.answer 10 (omega arith) same)
       | other zero not_verdict not_repair not_entry not_equal not_why ↦ absurd (omega (arith, same, zero))
     ]
@@ -446,6 +449,24 @@ every_tree_of alone i k is none =
       programs = λ e. ap (λ links. program_read_as links e) nothing.1 ∙ alone e;
     }
 
+-- ---- where no compiled catalog is named
+
+without_bytes : (m : Option Compiled) → IsCompiledOf None m → m ≡ None
+without_bytes None is = refl
+without_bytes (Some c) is = absurd is
+
+no_source : (i : Inputs) (m : Option Compiled) → IsCompiledOf (bytes_of role.Compiled i) m → bytes_of role.Compiled i ≡ None → m ≡ None
+no_source i m is none = without_bytes m (subst (λ bytes. IsCompiledOf bytes m) none is)
+
+-- then the other one stands in the place of the input
+no_other_bytes : (i : Inputs) → bytes_of role.Compiled i ≡ None → bytes_of role.Compiled (other_inputs i) ≡ None
+no_other_bytes i none = ap (λ bytes. given role.Compiled ((place_of_source bytes, bytes_or_none (bytes_of role.Other i)) ∷ i.files)) none ∙ none
+
+are_manifests : (run : Run) (c : IsCompared run) → bytes_of role.Compiled c.loaded.inputs ≡ None → AreManifests c
+are_manifests run c none =
+    let i = c.loaded.inputs in
+    (no_source i c.of.source c.of.modelled.planned.compiled.source none, no_source (other_inputs i) c.of.other_source c.of.other_modelled.planned.compiled.source (no_other_bytes i none))
+
 pub headline_of : ReadAlone → (run : Run) (status : ℕ) → Tells run status → Headline run status
 headline_of alone run status tells = record {
   well = λ asks is. well_of run asks (subst (WritesReport run) is (tells.report (inl (omega (arith, is)))));
@@ -460,4 +481,6 @@ headline_of alone run status tells = record {
   explained = λ asks is. explained_of run asks (subst (WritesReport run) is (tells.report (inl (omega (arith, is)))));
   every_tree = λ a m. every_tree_of alone m.loaded.inputs m.known m.modelled.planned.compiled.known;
   every_tree_of_both = λ c. every_tree_of alone c.loaded.inputs c.of.known c.of.modelled.planned.compiled.known;
+  of_manifest = λ a m. no_source m.loaded.inputs m.source m.modelled.planned.compiled.source;
+  of_manifests = λ c. are_manifests run c;
 }

@@ -1,24 +1,25 @@
 -- From the bytes of the files to what is said of the request.
-use Rattle.std.proofs.Common.{◌≡◌, inl, inr, ℕ, ◌<◌, ◌^◌, ◌==◌, Bool, true, false, List, [], ◌∷◌, length, Option, Some, Result, Ok, Err, refl, sym, subst, ◌∙◌, arith, cond}
+use Rattle.std.proofs.Common.{◌≡◌, inl, inr, ℕ, ◌<◌, ◌^◌, ◌==◌, Bool, true, false, List, [], ◌∷◌, length, Option, Some, None, Result, Ok, Err, refl, sym, subst, ◌∙◌, arith, cond}
 use Rattle.std.specs.Prelude.{IfOk, IfErr}
 use Rattle.rh_base.specs.declared.fault.Fault.{Fault}
 use Rattle.rh_base.specs.declared.fault.Fault.TheVariants.{Refused, Memory}
 use Rattle.rh_base.specs.Refused.{IfRefused}
 use Rattle.command_line.specs.declared.table.Ask.{Ask}
+use Rattle.command_line.specs.declared.table.InputKind.{InputKind}
 use Rattle.reports.specs.declared.sides.Untold.{Untold}
 use Rattle.reports.specs.declared.sides.Untold.TheVariants as untold
 use Rattle.reports.specs.declared.sides.Side.TheVariants as sides
 use Rattle.reports.specs.Sides.{refused_in, IfUntold}
-use Rattle.reports.specs.Comparisons.{other_inputs}
+use Rattle.reports.specs.Comparisons.{place_of_source, other_inputs}
 use Rattle.rh_base.specs.declared.fault.Refusal.{Refusal}
 use Rattle.rh_base.specs.Shelf.{Held}
 use Rattle.command_line.specs.declared.request.Request.{Request}
 use Rattle.command_line.specs.declared.request.Source.TheVariants as source
 use Rattle.command_line.specs.declared.table.Role.{Role}
 use Rattle.command_line.specs.declared.table.Role.TheVariants as role
-use Rattle.command_line.specs.Table.{ByRole, given, place}
+use Rattle.command_line.specs.Table.{ByRole, input_kind, given, place}
 use Rattle.request_files.specs.Files.{AreRead, AreShort, NoneMissing, FirstTooLong}
-use Rattle.known_inputs.specs.Inputs.{bytes_or_none, input_of}
+use Rattle.known_inputs.specs.Inputs.{Bytes, bytes_of, bytes_or_none, input_of}
 use Rattle.known_inputs.specs.declared.inputs.Inputs.{Inputs}
 use Rattle.verdict_report.specs.declared.report.Report.{Report}
 use Rattle.rehearsal_core.specs.declared.inputs.Names.{Names}
@@ -32,16 +33,20 @@ use Rattle.rehearsal_core.specs.Steps.{request_about, concluded, SaysOf}
 abbrev pub loaded_from : Names → ByRole (List ℕ) → Loaded
 loaded_from r files = record { ask = r.ask; conflicts = r.conflicts; inputs = record { node = r.node; limits = r.limits; wanted = r.wanted; files = files } }
 
-loaded : (held : Held) (r : Names) (files : ByRole (List ℕ)) → AreRead held r.ask r.files files → IsLoaded held (request_about r) (loaded_from r files)
+loaded : (held : Held) (r : Names) (files : ByRole (List ℕ)) → AreRead held (input_kind r.ask r.files) r.files files → IsLoaded held (request_about r) (loaded_from r files)
 loaded held r files read = record { asked = refl; conflicts = refl; inputs = (refl, refl, refl, read) }
 
--- what there is to say of an answer, from what was read and what the answer is
-pub says : (held : Held) (r : Names) (files : ByRole (List ℕ)) (before now : ℕ) (said : Result Report Untold) → now ≡ before → AreRead held r.ask r.files files
-    → IfOk said (IsAnswer (loaded_from r files)) → IfErr said (λ e. IfUntold e (Breaks (loaded_from r files))) → SaysOf (request_about r) held before now (concluded said)
-says held r files before now (Ok report) same read answers refuses = (same, record { loaded = loaded_from r files; stands = loaded held r files read; says = answers })
-says held r files before now (Err (untold.Refused side x)) same read answers refuses =
-    (same, inr (record { loaded = loaded_from r files; stands = loaded held r files read; breaks = refuses }))
-says held r files before now (Err (untold.Memory m)) same read answers refuses = same
+-- what there is to say of an answer, from what was read beside an input of its kind and what the answer is
+pub says : (held : Held) (r : Names) (kind : InputKind) (files : ByRole (List ℕ)) (before now : ℕ) (said : Result Report Untold) → kind ≡ input_kind r.ask r.files → now ≡ before
+    → AreRead held kind r.files files → IfOk said (IsAnswer (loaded_from r files)) → IfErr said (λ e. IfUntold e (Breaks (loaded_from r files)))
+    → SaysOf (request_about r) held before now (concluded said)
+says held r kind files before now (Ok report) is same read answers refuses =
+    let stands = loaded held r files (subst (λ k. AreRead held k r.files files) is read) in
+    (same, record { loaded = loaded_from r files; stands = stands; says = answers })
+says held r kind files before now (Err (untold.Refused side x)) is same read answers refuses =
+    let stands = loaded held r files (subst (λ k. AreRead held k r.files files) is read) in
+    (same, inr (record { loaded = loaded_from r files; stands = stands; breaks = refuses }))
+says held r kind files before now (Err (untold.Memory m)) is same read answers refuses = same
 
 -- a refusal of one manifest, or of a text that is none, is one of the input
 pub of_input : (a : Ask) (conflicts : Option ℕ) (i : Inputs) (e : Fault) → IfRefused e (BreaksFor a conflicts i sides.Input) → IfUntold (refused_in sides.Input e) (BreaksFor a conflicts i)
@@ -52,9 +57,9 @@ pub not_both : (b : Bool) → b ≡ true → b ≡ false → ⊥
 not_both b is not = let bad : true ≡ false = sym is ∙ not in cc
 
 -- a file is too long
-pub says_long : (held : Held) (r : Names) (before now : ℕ) (x : Refusal) → now ≡ before → NoneMissing held r.files → FirstTooLong held r.ask r.files x
-    → SaysOf (request_about r) held before now (ending.Refused sides.Input x)
-says_long held r before now x same none long = (same, inl (none, long))
+pub says_long : (held : Held) (r : Names) (kind : InputKind) (before now : ℕ) (x : Refusal) → kind ≡ input_kind r.ask r.files → now ≡ before → NoneMissing held r.files
+    → FirstTooLong held kind r.files x → SaysOf (request_about r) held before now (ending.Refused sides.Input x)
+says_long held r kind before now x is same none long = (same, inl (none, subst (λ k. FirstTooLong held k r.files x) is long))
 
 -- the same of a workload, of which nothing is read
 workload_loaded : (held : Held) (r : Request) (n : ℕ) → r.source ≡ source.Workload n
@@ -91,5 +96,11 @@ each_is_short r (f ∷ files) short = either (place f.0 == place r) f.1 files sh
 pub input_is_short : (files : ByRole (List ℕ)) → AreShort files → length (bytes_or_none (given role.Input files)) < 2 ^ 32
 input_is_short = each_is_short role.Input
 
+-- what stands ahead in the place of what is asked about is short
+ahead_is_short : (bytes : Bytes) (other : List ℕ) (files : ByRole (List ℕ)) → length other < 2 ^ 32 → AreShort files
+    → length (bytes_or_none (given role.Input ((place_of_source bytes, other) ∷ files))) < 2 ^ 32
+ahead_is_short None other files short more = short
+ahead_is_short (Some bytes) other files short more = each_is_short role.Input files more
+
 pub other_is_short : (i : Inputs) → AreShort i.files → length (input_of (other_inputs i)) < 2 ^ 32
-other_is_short i = each_is_short role.Other i.files
+other_is_short i short = ahead_is_short (bytes_of role.Compiled i) (bytes_or_none (bytes_of role.Other i)) i.files (each_is_short role.Other i.files short) short

@@ -13,12 +13,12 @@ use Rattle.rehearsal_core.specs.Inputs.{RequestsNone, IsHeld, LacksFile, Reports
 
 -- ---- lines
 
--- how a refusal of the other manifest is told apart
+-- how a refusal of the other manifest, or the other compiled catalog, is told apart
 abbrev pub in_other : Side → List ℕ
 in_other side.Input = []
 in_other side.Other = codes " in other"
 
--- a refusal: its number, its place in the text, whether it is that of the other manifest, and its name, without control characters
+-- a refusal: its number, its place in the text, whether it is that of the other one, and its name, without control characters
 abbrev pub refusal_line : Side → Refusal → List ℕ
 refusal_line s r = codes "refused " ++ (decimal r.number ++ (codes " at " ++ (decimal r.at ++ (in_other s ++ (codes ": " ++ (printed r.name ++ codes "\n"))))))
 

@@ -1,7 +1,12 @@
--- The headline: what each status of a verdict promises of a manifest, over every file tree in which the given folders stand and all
--- orders that its graph allows. The given folders are those that a text names which the words name; without it there are none, so
--- that these are all file trees.
-use Rattle.std.specs.Prelude.{◌≡◌, ◌⊎◌, ℕ, List, [], ◌++◌, length, None}
+-- The headline: what each status of a verdict promises of a manifest, or of a catalog that Puppet compiled, over every file tree in
+-- which the given folders stand and all orders that its graph allows. The given folders are those that a text names which the words
+-- name; without it there are none, so that these are all file trees.
+--
+-- Of a machine this is true where each resource does there what its program does, where the listing tells the files of each package and
+-- equal digests are those of equal contents, and where the given folders and links stand. Of a compiled catalog it rests besides on
+-- these premises: the text is what an agent applies; each resource of which something is assumed does what is assumed of it; and edits
+-- of one file by different resources commute, since each is taken to leave a mark of its own.
+use Rattle.std.specs.Prelude.{◌≡◌, ◌⊎◌, ℕ, List, [], ◌++◌, length, Option, None}
 use Rattle.fs_semantics.specs.FileTree.{Path, Tree, IsTree}
 use Rattle.fs_semantics.specs.Programs.{Program}
 use Rattle.given_hosts.specs.Given.{IsGivenTree}
@@ -17,7 +22,8 @@ use Rattle.command_line.specs.declared.table.Ask.TheVariants as ask
 use Rattle.command_line.specs.declared.table.Role.TheVariants as role
 use Rattle.command_line.specs.declared.request.Request.{Request}
 use Rattle.known_inputs.specs.declared.inputs.Known.{Known}
-use Rattle.reports.specs.Stages.{node_name, IsModelled}
+use Rattle.compiled_text.specs.Compiled.{Compiled}
+use Rattle.reports.specs.Stages.{IsModelled}
 use Rattle.reports.specs.Terms.{terms_of, notes_of, wanted_in}
 use Rattle.reports.specs.Questions.{names_in, quoted_names_in}
 use Rattle.verdict_report.specs.declared.report.Form.{Form}
@@ -32,10 +38,9 @@ use Rattle.equal_report.specs.Told as comparison
 use Rattle.equal_report.specs.Told.{OneDiffers, OneIsUnanswered, TellsEqual, TellsUnequal}
 use Rattle.reports.specs.Comparisons as comparisons
 use Rattle.reports.specs.Comparisons.{AreModelled, other_names_of}
+use Rattle.reports.specs.Explanations.{AreNamed, IsNodeNote}
 use Rattle.explain_report.specs.Told.{ExplainsSure, ExplainsDifference, ExplainsChange, ExplainsSpent}
-use Rattle.node_label.specs.Labels.{IsNodeLineOf}
-use Rattle.placed_names.specs.Placed.{AreNamesAt}
-use Rattle.known_inputs.specs.Inputs.{input_of, bytes_of}
+use Rattle.known_inputs.specs.Inputs.{bytes_of}
 use Rattle.rehearsal_core.specs.declared.inputs.Loaded.{Loaded}
 use Rattle.rehearsal_core.specs.Inputs.{Requests, IsLoaded}
 use Rattle.rehearsal_core.specs.Runs.{Run, Appends}
@@ -61,7 +66,7 @@ AsksForEntry run = (request : Request) × Requests run.words request × (request
 abbrev pub AsksForRepair : Run → Type 0
 AsksForRepair run = (request : Request) × Requests run.words request × (request.ask ≡ ask.Repair)
 
--- the words ask whether two manifests do the same
+-- the words ask whether two manifests, or two compiled catalogs, do the same
 abbrev pub AsksForComparison : Run → Type 0
 AsksForComparison run = (request : Request) × Requests run.words request × (request.ask ≡ ask.Equal)
 
@@ -69,8 +74,9 @@ AsksForComparison run = (request : Request) × Requests run.words request × (re
 abbrev pub AsksForExplanation : Run → Type 0
 AsksForExplanation run = (request : Request) × Requests run.words request × (request.ask ≡ ask.Explain)
 
--- What is asked about. The words ask so; the files that they name, or the workload, say what is known beside the manifest, and give
--- the manifest this catalog, the catalog this graph, and its resources these programs, which are read through the given links.
+-- What is asked about: a manifest, or the compiled catalog that is its source. The words ask so; the files that they name, or the
+-- workload, say what is known beside it, and give it this catalog, the catalog this graph, and its resources these programs, which are
+-- read through the given links.
 pub record Modelled (run : Run) (a : Ask) : Type 0 where
   pub request : Request
   pub made : Requests run.words request
@@ -78,10 +84,11 @@ pub record Modelled (run : Run) (a : Ask) : Type 0 where
   pub loaded : Loaded
   pub stands : IsLoaded run.held request loaded
   pub known : Known
+  pub source : Option Compiled
   pub catalog : Catalog
   pub graph : Graph
   pub programs : List Program
-  pub modelled : IsModelled loaded.inputs known catalog graph programs
+  pub modelled : IsModelled loaded.inputs known source catalog graph programs
 
 -- on what terms it is asked: from the trees in which the given folders stand, within the limits and the conflicts that the words give
 abbrev pub terms_for : {run : Run} {a : Ask} → Modelled run a → Terms
@@ -89,7 +96,7 @@ terms_for m = terms_of m.loaded.inputs m.known m.loaded.conflicts
 
 -- the lines behind the number of resources
 abbrev pub notes_for : {run : Run} {a : Ask} → Modelled run a → List ℕ
-notes_for m = notes_of m.loaded.inputs m.known
+notes_for m = notes_of m.loaded.inputs m.known m.source m.graph.plain
 
 -- the entry that is wanted, its path read through the given links
 abbrev pub wanted_for : {run : Run} {a : Ask} → Modelled run a → Wanted
@@ -171,7 +178,7 @@ pub record SpendsOnEntry (run : Run) : Type 0 where
 pub record IsMended (run : Run) : Type 0 where
   pub of : Modelled run ask.Repair
   pub report : Report
-  pub repaired : TellsArrows (terms_for of) (notes_for of) (quoted_names_in of.catalog of.graph.plain) of.programs of.graph.order report
+  pub repaired : TellsArrows (terms_for of) (notes_for of) (quoted_names_in of.source of.catalog of.graph.plain) of.programs of.graph.order report
   pub written : Appends report.text run.out
 
 -- Status 3 of a repair: the conflicts that the words give were spent on whether the graph is deterministic with some arrows.
@@ -181,8 +188,8 @@ pub record SpendsOnRepair (run : Run) : Type 0 where
   pub unrepaired : repairs.TellsSpent (terms_for of) (notes_for of) of.programs of.graph.order report
   pub written : Appends report.text run.out
 
--- What is compared. The words ask so; the files that they name say what is known beside both manifests, and give each its catalog, its
--- graph and its programs.
+-- What is compared: two manifests, or two compiled catalogs. The words ask so; the files that they name say what is known beside both,
+-- and give each its catalog, its graph and its programs.
 pub record IsCompared (run : Run) : Type 0 where
   pub request : Request
   pub made : Requests run.words request
@@ -199,19 +206,23 @@ OfBoth c told = told c.of.programs c.of.graph.order c.of.other_programs c.of.oth
 abbrev pub OfBothNamed : {run : Run} → IsCompared run → (List (List ℕ) → List Program → Relation → List (List ℕ) → List Program → Relation → Type 0) → Type 0
 OfBothNamed c told = told (comparisons.names_of c.of) c.of.programs c.of.graph.order (other_names_of c.of) c.of.other_programs c.of.other_graph.order
 
--- on what terms both are asked about, and the lines behind the number of resources of each
+-- on what terms both are asked about
 abbrev pub terms_for_both : {run : Run} → IsCompared run → Terms
 terms_for_both c = terms_of c.loaded.inputs c.of.known c.loaded.conflicts
 
-abbrev pub notes_for_both : {run : Run} → IsCompared run → List ℕ
-notes_for_both c = notes_of c.loaded.inputs c.of.known
+-- the lines behind the number of resources of the left one, and of the right one
+abbrev pub left_notes : {run : Run} → IsCompared run → List ℕ
+left_notes c = notes_of c.loaded.inputs c.of.known c.of.source c.of.graph.plain
+
+abbrev pub right_notes : {run : Run} → IsCompared run → List ℕ
+right_notes c = notes_of c.loaded.inputs c.of.known c.of.other_source c.of.other_graph.plain
 
 -- Status 0 of a comparison: both graphs are deterministic, and from every file tree in which the given folders stand all allowed orders
 -- of both end in one same tree or all in error.
 pub record DoTheSame (run : Run) : Type 0 where
   pub compared : IsCompared run
   pub report : Report
-  pub equal : OfBoth compared (λ es order fs other. TellsEqual (terms_for_both compared) (notes_for_both compared) es order fs other report)
+  pub equal : OfBoth compared (λ es order fs other. TellsEqual (terms_for_both compared) (left_notes compared) (right_notes compared) es order fs other report)
   pub written : Appends report.text run.out
 
 -- Status 10: both graphs are deterministic, but from the tree that is told, in which the given folders stand, an order that the left one allows and an order that the
@@ -219,7 +230,7 @@ pub record DoTheSame (run : Run) : Type 0 where
 pub record DoOtherwise (run : Run) : Type 0 where
   pub compared : IsCompared run
   pub report : Report
-  pub unequal : OfBothNamed compared (λ names es order others fs other. TellsUnequal (terms_for_both compared) (notes_for_both compared) names es order others fs other report)
+  pub unequal : OfBothNamed compared (λ names es order others fs other. TellsUnequal (terms_for_both compared) (left_notes compared) (right_notes compared) names es order others fs other report)
   pub written : Appends report.text run.out
 
 -- Status 1 of a comparison: from the tree that is told, in which the given folders stand, two orders that one of the graphs allows have the outcomes that are told, and
@@ -227,7 +238,7 @@ pub record DoOtherwise (run : Run) : Type 0 where
 pub record OneDependsOnOrder (run : Run) : Type 0 where
   pub compared : IsCompared run
   pub report : Report
-  pub differs : OfBothNamed compared (λ names es order others fs other. OneDiffers (terms_for_both compared) (notes_for_both compared) names es order others fs other report)
+  pub differs : OfBothNamed compared (λ names es order others fs other. OneDiffers (terms_for_both compared) (left_notes compared) (right_notes compared) names es order others fs other report)
   pub written : Appends report.text run.out
 
 -- Status 3 of a comparison: the conflicts that the words give were spent on whether one of the graphs is deterministic, or whether
@@ -236,18 +247,19 @@ pub record SpendsOnComparison (run : Run) : Type 0 where
   pub compared : IsCompared run
   pub report : Report
   pub unanswered : OfBoth compared (λ es order fs other.
-      OneIsUnanswered (terms_for_both compared) (notes_for_both compared) es order fs other report
-      ⊎ comparison.TellsSpent (terms_for_both compared) (notes_for_both compared) es order fs other report)
+      OneIsUnanswered (terms_for_both compared) (left_notes compared) (right_notes compared) es order fs other report
+      ⊎ comparison.TellsSpent (terms_for_both compared) (left_notes compared) (right_notes compared) es order fs other report)
   pub written : Appends report.text run.out
 
--- What is explained. The words ask so about this. Its resources are named with the places at which they stand in the manifest; this line
--- tells the node block that runs, where the manifest has node blocks; and pruning leaves aside so many.
+-- What is explained. The words ask so about this. Its resources are named with the places at which they stand in the manifest, or at
+-- which Puppet found them in one; this line tells the node block that runs, where a manifest has node blocks; and pruning leaves aside
+-- so many.
 pub record Explained (run : Run) : Type 0 where
   pub of : Modelled run ask.Explain
   pub names : List (List ℕ)
-  pub named : AreNamesAt (input_of of.loaded.inputs) of.catalog of.graph.plain names
+  pub named : AreNamed of.loaded.inputs of.source of.catalog of.graph.plain names
   pub node : List ℕ
-  pub noted : IsNodeLineOf (input_of of.loaded.inputs) (node_name of.loaded.inputs.node) node
+  pub noted : IsNodeNote of.loaded.inputs of.source node
   pub pruned : ℕ
   pub count : IsPrunedCount of.programs (Comes of.graph.order) pruned
 
@@ -299,6 +311,10 @@ pub record IsOfEveryTree (k : Known) : Type 0 where
   pub trees : (t : Tree) → IsTree t → IsGivenTree k.given.folders t
   pub programs : (e : Program) → program_read_as k.given.links e ≡ e
 
+-- both are manifests
+abbrev pub AreManifests : {run : Run} → IsCompared run → Type 0
+AreManifests c = (c.of.source ≡ None) × (c.of.other_source ≡ None)
+
 -- What each status promises. 1 comes of a verdict, its explanation, an entry that is wanted or a comparison, 2 of a verdict and its
 -- explanation, 3 of these and of a repair, 9 of an entry, 10 of a comparison; other questions have no other status than 0.
 pub record Headline (run : Run) (status : ℕ) : Type 0 where
@@ -315,3 +331,6 @@ pub record Headline (run : Run) (status : ℕ) : Type 0 where
   -- where the words name no text of what every host has, all this is said of every file tree, and of the programs as they are
   pub every_tree : (a : Ask) → (m : Modelled run a) → bytes_of role.Given m.loaded.inputs ≡ None → IsOfEveryTree m.known
   pub every_tree_of_both : (c : IsCompared run) → bytes_of role.Given c.loaded.inputs ≡ None → IsOfEveryTree c.of.known
+  -- where they name no compiled catalog, it is said of a manifest, of which nothing is assumed
+  pub of_manifest : (a : Ask) → (m : Modelled run a) → bytes_of role.Compiled m.loaded.inputs ≡ None → m.source ≡ None
+  pub of_manifests : (c : IsCompared run) → bytes_of role.Compiled c.loaded.inputs ≡ None → AreManifests c

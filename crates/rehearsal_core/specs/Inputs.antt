@@ -10,7 +10,7 @@ use Rattle.command_line.specs.declared.request.Request.{Request}
 use Rattle.command_line.specs.declared.request.Source.{Source}
 use Rattle.command_line.specs.declared.request.Source.TheVariants as source
 use Rattle.command_line.specs.declared.table.Role.TheVariants as role
-use Rattle.command_line.specs.Table.{ByRole}
+use Rattle.command_line.specs.Table.{ByRole, input_kind}
 use Rattle.command_line.specs.Words.{Makes}
 use Rattle.request_files.specs.Files.{AreRead, FirstTooLong, FirstFailed, NoneMissing, AnyMissing, AllTold}
 use Rattle.known_inputs.specs.Inputs.{input_of}
@@ -56,7 +56,7 @@ workload_inputs n = record { node = None; limits = limits.Usual; wanted = None; 
 
 -- what a request is about: files, or a workload
 abbrev pub AreInputs : Held → Request → Source → Inputs → Type 0
-AreInputs held r (source.Files names) i = (i.node ≡ r.node) × (i.limits ≡ r.limits) × (i.wanted ≡ r.wanted) × AreRead held r.ask names i.files
+AreInputs held r (source.Files names) i = (i.node ≡ r.node) × (i.limits ≡ r.limits) × (i.wanted ≡ r.wanted) × AreRead held (input_kind r.ask names) names i.files
 AreInputs held r (source.Workload n) i = i ≡ workload_inputs n
 
 -- the request with the bytes that it is about
@@ -90,7 +90,7 @@ IsAnswerTo ask.Explain conflicts i report = IsReport (question.Explain conflicts
 abbrev pub IsAnswer : Loaded → Report → Type 0
 IsAnswer l report = IsAnswerTo l.ask l.conflicts l.inputs report
 
--- the first rule that the files break, and which manifest does
+-- the first rule that the files break, and which manifest or compiled catalog does
 abbrev pub BreaksFor : Ask → Option ℕ → Inputs → Side → Refusal → Type 0
 BreaksFor ask.Verify conflicts i s r = OfInput (ReportRefusal (question.Verdict form.Lines conflicts) i) s r
 BreaksFor ask.Proof conflicts i s r = OfInput (ReportRefusal (question.Verdict form.Proofs conflicts) i) s r
@@ -121,9 +121,13 @@ pub record BreaksAt (request : Request) (held : Held) (s : Side) (r : Refusal) :
   pub stands : IsLoaded held request loaded
   pub breaks : Breaks loaded s r
 
+-- the first of the files of the request that is too long, beside an input of its kind
+abbrev pub IsTooLongAt : Request → Held → Refusal → Type 0
+IsTooLongAt request held r = FirstTooLong held (input_kind request.ask (files_of request)) (files_of request) r
+
 -- the first refusal of the request: no file is missing but one is too long, or else they break a rule
 abbrev pub RefusesAt : Request → Held → Side → Refusal → Type 0
-RefusesAt request held s r = (NoneMissing held (files_of request) × OfInput (FirstTooLong held request.ask (files_of request)) s r) ⊎ BreaksAt request held s r
+RefusesAt request held s r = (NoneMissing held (files_of request) × OfInput (IsTooLongAt request held) s r) ⊎ BreaksAt request held s r
 
 -- the same of the request that the words make
 pub record Reports (words : List (String Global)) (held : Held) (report : Report) : Type 0 where

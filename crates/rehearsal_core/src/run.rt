@@ -8,6 +8,7 @@ ghost use Rattle.rehearsal_core.specs.Inputs.{IsPrinted, IsAnswer, IsAnswerTo, B
 ghost use Rattle.known_inputs.specs.Inputs.{input_of};
 ghost use Rattle.request_files.specs.Files.{AreShort};
 ghost use Rattle.command_line.specs.declared.table.Ask.TheVariants.{Equal};
+ghost use Rattle.command_line.specs.Table.{input_kind};
 ghost use Rattle.reports.specs.declared.sides.Side.TheVariants.{Input};
 ghost use Rattle.reports.specs.Sides.{IfUntold};
 ghost use Rattle.reports.specs.Comparisons.{other_inputs};
@@ -21,7 +22,10 @@ use crate::inputs::{Loaded, Names};
 use crate::migrating::migrated;
 use crate::tell::{out_of_memory, tell_read_fault, tell_refusal, tell_usage, write_report};
 use crate::workloads::workload_inputs;
-use command_line::{Ask, Request, Size, Source, WordsFault, one_request, read_request};
+use command_line::{
+    Ask, ByRole, InputKind, Request, Size, Source, WordsFault, input_kind, one_request,
+    read_request,
+};
 use given_links::program_readings;
 use known_inputs::Inputs;
 use proof_check::{accepted_logs_have_no_fault, one_list_of_proofs};
@@ -64,7 +68,7 @@ fn listed(alloc: Global, inputs: &Inputs) -> Result<Report, Fault>
     Ok(printed(told))
 }
 
-/// What is said of one manifest, or of a text that is none, or the first rule that it breaks.
+/// What is said of one manifest, of one compiled catalog, or of a text that is neither, or the first rule that it breaks.
 fn answer_one(
     alloc: Global,
     ask: Ask,
@@ -92,7 +96,7 @@ fn answer_one(
     }
 }
 
-/// Whether two manifests are to be compared.
+/// Whether two manifests or two compiled catalogs are to be compared.
 fn is_equal(ask: Ask) -> bool
     ensures { IsTrue result ↔ (ask ≡ Equal) }
 {
@@ -159,6 +163,14 @@ fn concluded(said: Result<Report, Untold>) -> Ending
     }
 }
 
+/// What the input is, of a question about files of these names.
+fn kind_of(ask: Ask, files: &ByRole<Text>) -> InputKind
+    ensures { result ≡ input_kind ask files.now }
+{
+    let names = files.as_slice();
+    input_kind(ask, names)
+}
+
 /// Reads the files of these names and answers what is asked.
 #[tactic(auto, using(crate::proofs::LoadLaws::says, crate::proofs::LoadLaws::says_long))]
 fn read<S: Shelf>(alloc: Global, names: Names, shelf: &mut S) -> Ending
@@ -173,7 +185,8 @@ fn read<S: Shelf>(alloc: Global, names: Names, shelf: &mut S) -> Ending
         wanted,
         files,
     } = names;
-    match read_files(alloc, ask, files, shelf) {
+    let kind = kind_of(ask, &files);
+    match read_files(alloc, kind, files, shelf) {
         Ok(files) => {
             let loaded = Loaded {
                 ask,
@@ -264,7 +277,7 @@ pub fn rehearse<S: Shelf, O: Sink, E: Sink>(
     out: &mut O,
     err: &mut E,
 ) -> u8
-    // what each status promises of a manifest
+    // what each status promises of a manifest or a compiled catalog
     ensures headline { Headline (run_of words.now S.holds S.faults shelf.old shelf.new (put_of O.written O.faults out.old out.new) (put_of E.written E.faults err.old err.new)) result }
     // what each status tells, and where
     ensures tells { Tells (run_of words.now S.holds S.faults shelf.old shelf.new (put_of O.written O.faults out.old out.new) (put_of E.written E.faults err.old err.new)) result }

@@ -62,7 +62,7 @@ pub fn write_report<O: Sink, E: Sink>(report: &Report, out: &mut O, err: &mut E)
     }
 }
 
-/// How a refusal of the other manifest is told apart.
+/// How a refusal of the other manifest, or the other compiled catalog, is told apart.
 fn in_other(side: Side) -> &'static str
     ensures { result.now ≡ in_other side }
 {

@@ -321,14 +321,14 @@ const ASIDE: [(&[&str], &str, u8, &str, &str); 8] = [
         "",
         5,
         "",
-        "usage: rehearsal [--facts F] [--packages P] [--node N] [--conflicts C] [--ask A] [--tree T] [--order O] [--workload N] [--path P] [--content T] [--other M] [--data D] [--given G] [--limits L] [INPUT]\n",
+        "usage: rehearsal [--facts F] [--packages P] [--node N] [--conflicts C] [--ask A] [--tree T] [--order O] [--workload N] [--path P] [--content T] [--other M] [--data D] [--compiled C] [--assume S] [--given G] [--limits L] [INPUT]\n",
     ),
     (
         &["--tree", "listing"],
         "",
         5,
         "",
-        "usage: rehearsal [--facts F] [--packages P] [--node N] [--conflicts C] [--ask A] [--tree T] [--order O] [--workload N] [--path P] [--content T] [--other M] [--data D] [--given G] [--limits L] [INPUT]\n",
+        "usage: rehearsal [--facts F] [--packages P] [--node N] [--conflicts C] [--ask A] [--tree T] [--order O] [--workload N] [--path P] [--content T] [--other M] [--data D] [--compiled C] [--assume S] [--given G] [--limits L] [INPUT]\n",
     ),
 ];
 

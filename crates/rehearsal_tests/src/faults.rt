@@ -8,7 +8,7 @@ const HALF: &str = "resources 1\npruned 1\ndeterministic\n";
 
 /// The first half of the usage line.
 const USAGE_HALF: &str =
-    "usage: rehearsal [--facts F] [--packages P] [--node N] [--conflicts C] [--ask A] [--tree T] [--order";
+    "usage: rehearsal [--facts F] [--packages P] [--node N] [--conflicts C] [--ask A] [--tree T] [--order O] [--workloa";
 
 #[test]
 fn the_status_of_what_fails(rt: HostRuntime) -> Result<(), Fail> {

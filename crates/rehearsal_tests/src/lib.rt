@@ -4,11 +4,21 @@
 #[cfg(test)]
 mod asked;
 #[cfg(test)]
+mod assumed;
+#[cfg(test)]
 mod check;
 #[cfg(test)]
 mod class_data;
 #[cfg(test)]
 mod common;
+#[cfg(test)]
+mod compiled;
+#[cfg(test)]
+mod compiled_equal;
+#[cfg(test)]
+mod compiled_refusals;
+#[cfg(test)]
+mod compiled_sizes;
 #[cfg(test)]
 mod differences;
 #[cfg(test)]
@@ -23,6 +33,8 @@ mod faults;
 mod given;
 #[cfg(test)]
 mod hostile;
+#[cfg(test)]
+mod hosts;
 #[cfg(test)]
 mod made_up;
 #[cfg(test)]

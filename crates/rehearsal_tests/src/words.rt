@@ -4,7 +4,7 @@ use crate::common::{NONE, compare, run};
 use std::test::Fail;
 
 const USAGE: &str =
-    "usage: rehearsal [--facts F] [--packages P] [--node N] [--conflicts C] [--ask A] [--tree T] [--order O] [--workload N] [--path P] [--content T] [--other M] [--data D] [--given G] [--limits L] [INPUT]\n";
+    "usage: rehearsal [--facts F] [--packages P] [--node N] [--conflicts C] [--ask A] [--tree T] [--order O] [--workload N] [--path P] [--content T] [--other M] [--data D] [--compiled C] [--assume S] [--given G] [--limits L] [INPUT]\n";
 
 #[test]
 fn words_that_ask_to_verify(rt: HostRuntime) -> Result<(), Fail> {
@@ -28,9 +28,36 @@ fn words_that_ask_to_verify(rt: HostRuntime) -> Result<(), Fail> {
     Ok(())
 }
 
+/// The words name a compiled catalog in the input's place.
+#[test]
+fn words_that_ask_about_a_catalog(rt: HostRuntime) -> Result<(), Fail> {
+    let rows: [&[&str]; 7] = [
+        &["--compiled", "site.pp"],
+        &["--compiled=site.pp", "--ask", "verify"],
+        &["--compiled", "site.pp", "--limits", "usual"],
+        &["--compiled", "site.pp", "--limits=host", "--conflicts", "1"],
+        &["--compiled", "site.pp", "--ask", "explain"],
+        &[
+            "--limits",
+            "host",
+            "--ask",
+            "verify",
+            "--compiled",
+            "site.pp",
+        ],
+        &["--compiled", "site.pp", "--"],
+    ];
+    for words in rows {
+        let catalog = br#"{"catalog_format":2,"resources":[],"edges":[]}"#;
+        let told = run(rt.alloc(), words, catalog)?;
+        compare(&rt, &told, 0, NONE, "", "words that ask about a catalog");
+    }
+    Ok(())
+}
+
 #[test]
 fn words_that_are_refused(rt: HostRuntime) -> Result<(), Fail> {
-    let rows: [&[&str]; 58] = [
+    let rows: [&[&str]; 81] = [
         &[],
         &["site.pp", "site.pp"],
         &["--help"],
@@ -93,6 +120,37 @@ fn words_that_are_refused(rt: HostRuntime) -> Result<(), Fail> {
         &["--given", "g", "--ask", "graph", "site.pp"],
         &["--given", "g", "--workload", "5"],
         &["--given", "g"],
+        &["--compiled"],
+        &["--compiled", "c", "site.pp"],
+        &["--compiled", "c", "--compiled", "c"],
+        &["--compiled", "c", "--workload", "5"],
+        &["--compiled", "c", "--facts", "f"],
+        &["--compiled", "c", "--data", "d"],
+        &["--compiled", "c", "--node", "n"],
+        &["--compiled", "c", "--ask", "check"],
+        &["--compiled", "c", "--ask", "migrate"],
+        &["--compiled", "c", "--ask", "equal"],
+        &[
+            "--compiled",
+            "c",
+            "--ask",
+            "equal",
+            "--other",
+            "o",
+            "site.pp",
+        ],
+        &["--compiled", "c", "--other", "o"],
+        &["--compiled", "c", "--path", "/a"],
+        &["--compiled", "c", "--tree", "t"],
+        &["--compiled", "c", "--limits", "big"],
+        &["--compiled", "c", "--ask", "catalog", "--packages", "p"],
+        &["--compiled", "c", "--ask", "graph", "--given", "g"],
+        &["--compiled", "c", "--assume", "a", "--ask", "catalog"],
+        &["--compiled", "c", "--assume", "a", "--ask", "graph"],
+        &["--compiled", "c", "--assume"],
+        &["--assume", "a"],
+        &["--assume", "a", "site.pp"],
+        &["--assume", "a", "--workload", "5"],
     ];
     for words in rows {
         let told = run(rt.alloc(), words, b"")?;

@@ -1,91 +1,159 @@
--- Two manifests, each with its catalog, its graph and its programs.
-use Rattle.std.proofs.Common.{◌≡◌, inl, inr, ℕ, List, length, Ok, refl, sym, ◌∙◌}
+-- Two manifests or two compiled catalogs, each with its catalog, its graph and its programs.
+use Rattle.std.proofs.Common.{◌≡◌, inl, inr, ◌==◌, ℕ, false, cond, List, ◌∷◌, length, Option, Some, None, Result, Ok, Err, refl, sym, ap, subst, ◌∙◌}
+use Rattle.std.specs.Prelude.{IfOk, IfErr}
 use Rattle.rh_base.specs.declared.fault.Fault.{Fault}
 use Rattle.rh_base.specs.declared.fault.Fault.TheVariants.{Refused, Memory}
 use Rattle.rh_base.specs.Refused.{IfRefused}
 use Rattle.pp_eval.specs.Verdicts.{Refuses}
 use Rattle.fs_semantics.specs.Programs.{Program}
 use Rattle.catalog_semantics.specs.Catalogs.{Catalog}
-use Rattle.pp_compile.specs.Sources.{IsCatalogOf, IsCatalogRefusal}
+use Rattle.compiled_text.specs.Compiled.{Compiled}
 use Rattle.orders.specs.Relation.{Comes, IsStrictOrder}
 use Rattle.graph_semantics.specs.Graphs.{IsGraphOf, IsGraphRefusal}
 use Rattle.dep_graph.specs.declared.answer.Graph.{Graph}
+use Rattle.command_line.specs.declared.table.Role.{Role}
+use Rattle.command_line.specs.declared.table.Role.TheVariants as role
+use Rattle.command_line.specs.Table.{ByRole, place, given as named}
 use Rattle.host_limits.specs.declared.limits.Limits.{Limits}
 use Rattle.known_inputs.specs.declared.inputs.Inputs.{Inputs}
 use Rattle.known_inputs.specs.declared.inputs.Known.{Known}
-use Rattle.known_inputs.specs.Inputs.{input_of, IsKnown, FirstUnread}
+use Rattle.known_inputs.specs.Inputs as inputs
+use Rattle.known_inputs.specs.Inputs.{Bytes, bytes_of, bytes_or_none, input_of, AreFactsOf, IsListingOf, AreDataOf, IsTreeOf, IsCompiledOf, AreAssumedOf, IsGivenOf, HasNoCompiled, AreTold, IsKnown, FirstUnread}
 use Rattle.given_equal.specs.Sizes.{IsTooLargeJoined}
 use Rattle.reports.specs.declared.sides.Side.TheVariants as side
 use Rattle.reports.specs.Sides.{refused_in, IfUntold}
-use Rattle.reports.specs.Stages.{node_name, IsModelled, programs_in, ProgramsRefusal}
-use Rattle.reports.specs.Comparisons.{ForText, IsInOrder, other_inputs, AreModelled, ComparisonRefusal}
-use Rattle.reports.proofs.Counts.{as_many}
-use Rattle.reports.proofs.StageLaws.{uncompiled, is_compiled, catalog_programs, graph_programs, planned, in_programs, is_modelled, unread_programs, are_places}
+use Rattle.reports.specs.Stages.{node_name, HasCatalog, HasNoCatalog, IsModelled, programs_in, ProgramsRefusal}
+use Rattle.reports.specs.Comparisons.{place_of_source, ForSource, IsInOrder, other_inputs, AreModelled, ComparisonRefusal}
+use Rattle.reports.proofs.CompiledCounts.{as_many}
+use Rattle.reports.proofs.StageLaws.{uncompiled, is_compiled, catalog_programs, graph_programs, planned, in_programs, is_modelled, unread_programs, are_places, are_told_places}
 
 -- ---- one of them
 
-module _ (k : Known) (text name : List ℕ) (l : Limits) where
-  pub uncompiled_for : (e : Fault) → IfRefused e (IsCatalogRefusal text k.facts name k.class_data l) → IfRefused e (λ r. ForText text name l k (λ i. ProgramsRefusal i r))
-  uncompiled_for (Refused r) none = λ i is named limited known. catalog_programs i (Refused r) (uncompiled i k text name l (Refused r) is named limited known none)
-  uncompiled_for (Memory m) none = tt
+module _ (m : Option Compiled) (k : Known) (text name : List ℕ) (l : Limits) where
+  pub uncompiled_for : (e : Fault) → IfRefused e (HasNoCatalog text name l k m) → IfRefused e (λ r. ForSource m text name l k (λ i. ProgramsRefusal i r))
+  uncompiled_for (Refused r) none = λ i is source called limited known. catalog_programs i (Refused r) (uncompiled i k m text name l is source called limited known (Refused r) none)
+  uncompiled_for (Memory x) none = tt
 
-  module _ (c : Catalog) (has : IsCatalogOf text k.facts name k.class_data l (Ok c)) where
-    pub unplanned_for : (e : Fault) → IfRefused e (IsGraphRefusal c) → IfRefused e (λ r. ForText text name l k (λ i. ProgramsRefusal i r))
-    unplanned_for (Refused r) none = λ i is named limited known. graph_programs i k c (Refused r) (is_compiled i k text name l c is named limited known has) none
-    unplanned_for (Memory m) none = tt
+  module _ (c : Catalog) (has : HasCatalog text name l k m c) where
+    pub unplanned_for : (e : Fault) → IfRefused e (IsGraphRefusal c) → IfRefused e (λ r. ForSource m text name l k (λ i. ProgramsRefusal i r))
+    unplanned_for (Refused r) none = λ i is source called limited known. graph_programs i k m c (Refused r) (is_compiled i k m text name l is source called limited known c has) none
+    unplanned_for (Memory x) none = tt
 
     module _ (g : Graph) (graph : IsGraphOf c g.plain (Comes g.order)) (count : g.order.count ≡ length g.plain) (strict : IsStrictOrder g.order) where
-      pub unmodelled_for : (e : Fault) → Refuses (programs_in k c g) e → IfRefused e (λ r. ForText text name l k (λ i. ProgramsRefusal i r))
-      unmodelled_for (Refused r) none = λ i is named limited known.
-          in_programs i k c g (Refused r) (planned i k c g (is_compiled i k text name l c is named limited known has) graph count strict) none
-      unmodelled_for (Memory m) none = tt
+      pub unmodelled_for : (e : Fault) → Refuses (programs_in k m c g.plain) e → IfRefused e (λ r. ForSource m text name l k (λ i. ProgramsRefusal i r))
+      unmodelled_for (Refused r) none = λ i is source called limited known.
+          in_programs i k m c g (Refused r) (planned i k m c g (is_compiled i k m text name l is source called limited known c has) graph count strict) none
+      unmodelled_for (Memory x) none = tt
 
-      pub modelled_for : (es : List Program) → programs_in k c g ≡ Ok es → ForText text name l k (λ i. IsModelled i k c g es)
-      modelled_for es made = λ i is named limited known. is_modelled i k c g es (planned i k c g (is_compiled i k text name l c is named limited known has) graph count strict) made
+      pub modelled_for : (es : List Program) → programs_in k m c g.plain ≡ Ok es → ForSource m text name l k (λ i. IsModelled i k m c g es)
+      modelled_for es made = λ i is source called limited known.
+          is_modelled i k m c g es (planned i k m c g (is_compiled i k m text name l is source called limited known c has) graph count strict) made
 
-pub in_order : (i : Inputs) (k : Known) (c : Catalog) (g : Graph) (es : List Program) → IsModelled i k c g es → IsInOrder c g es
-in_order i k c g es is = record {
-  count = as_many k c g es is.planned.graph.places is.programs ∙ sym is.planned.count;
+pub in_order : (i : Inputs) (k : Known) (m : Option Compiled) (c : Catalog) (g : Graph) (es : List Program) → IsModelled i k m c g es → IsInOrder c g es
+in_order i k m c g es is = record {
+  count = as_many k m c g es is.planned.graph.places (are_told_places (input_of i) (node_name i.node) i.limits k m c g is.planned.compiled.catalog is.planned.graph) is.programs ∙ sym is.planned.count;
   many = is.planned.count;
   places = are_places c g g.plain refl is.planned.graph;
 }
 
+-- ---- the files beside the other
+
+-- the file of a role that is neither that of the input nor that of a compiled catalog
+kept : (r : Role) (x : List ℕ) (files : ByRole (List ℕ)) → (place role.Input == place r) ≡ false → (place role.Compiled == place r) ≡ false
+    → (b : Bytes) → named r ((place_of_source b, x) ∷ files) ≡ named r files
+kept r x files input compiled None = ap (λ t. cond t (Some x) (named r files)) input
+kept r x files input compiled (Some bytes) = ap (λ t. cond t (Some x) (named r files)) compiled
+
+told_too : (i : Inputs) (k : Known) → IsKnown i k → AreTold (other_inputs i) k.facts k.listing k.class_data
+told_too i k is =
+    let b = bytes_of role.Compiled i in
+    let x = bytes_or_none (bytes_of role.Other i) in
+    record {
+      facts = subst (λ o. AreFactsOf o k.facts) (sym (kept role.Facts x i.files refl refl b)) is.told.facts;
+      listing = subst (λ o. IsListingOf o k.listing) (sym (kept role.Packages x i.files refl refl b)) is.told.listing;
+      class_data = subst (λ o. AreDataOf o k.class_data) (sym (kept role.Data x i.files refl refl b)) is.told.class_data;
+    }
+
+tree_too : (i : Inputs) (k : Known) (is : IsKnown i k) → IsTreeOf (bytes_of role.Tree (other_inputs i)) is.tree
+tree_too i k is =
+    subst (λ o. IsTreeOf o is.tree) (sym (kept role.Tree (bytes_or_none (bytes_of role.Other i)) i.files refl refl (bytes_of role.Compiled i))) is.named.tree
+
+-- what the files beside the one say, they say beside the other
+pub known_too : (i : Inputs) (k : Known) (m : Option Compiled) → IsKnown i k → IsCompiledOf (bytes_of role.Compiled (other_inputs i)) m → IsKnown (other_inputs i) k
+known_too i k m is source =
+    let b = bytes_of role.Compiled i in
+    let x = bytes_or_none (bytes_of role.Other i) in
+    record {
+      told = told_too i k is;
+      tree = is.tree;
+      compiled = m;
+      named = record {
+        tree = tree_too i k is;
+        compiled = source;
+        assumed = subst (λ o. AreAssumedOf o k.assumed) (sym (kept role.Assume x i.files refl refl b)) is.named.assumed;
+      };
+      apart = refl;
+      given = subst (λ o. IsGivenOf o k.given) (sym (kept role.Given x i.files refl refl b)) is.given;
+      apart_as_read = refl;
+      begins = is.begins;
+    }
+
+-- the other text is no compiled catalog, which is found out behind all that is said beside it
+pub other_unread : (i : Inputs) (k : Known) (e : Fault) → IsKnown i k → IfRefused e (HasNoCompiled (bytes_of role.Compiled (other_inputs i))) → IfRefused e (ProgramsRefusal (other_inputs i))
+other_unread i k e is none = unread_programs (other_inputs i) e (at e none)
+  where
+    at : (e : Fault) → IfRefused e (HasNoCompiled (bytes_of role.Compiled (other_inputs i))) → IfRefused e (FirstUnread (other_inputs i))
+    at (Refused r) none = inputs.compiled k.facts k.listing k.class_data is.tree (told_too i k is) (tree_too i k is) none
+    at (Memory m) none = tt
+
+-- what holds of each request with such files holds of that with the other
+module _ (i : Inputs) (k : Known) (m : Option Compiled) (text name : List ℕ) (l : Limits) (is : text ≡ input_of (other_inputs i)) (source : IsCompiledOf (bytes_of role.Compiled (other_inputs i)) m)
+    (called : name ≡ node_name i.node) (limited : l ≡ i.limits) (known : IsKnown i k) where
+  other_has : (P : Inputs → Type 0) → ForSource m text name l k P → P (other_inputs i)
+  other_has P each = each (other_inputs i) is source called limited (known_too i k m known source)
+
+  pub other_modelled : {X : Type 0} (Q : X → Inputs → Type 0) (said : Result X Fault) → IfOk said (λ x. ForSource m text name l k (Q x)) → IfOk said (λ x. Q x (other_inputs i))
+  other_modelled Q (Ok x) each = other_has (Q x) each
+  other_modelled Q (Err e) each = tt
+
+  pub other_unmodelled : {X : Type 0} (said : Result X Fault) → IfErr said (λ e. IfRefused e (λ r. ForSource m text name l k (λ j. ProgramsRefusal j r)))
+      → IfErr said (λ e. IfRefused e (ProgramsRefusal (other_inputs i)))
+  other_unmodelled (Ok x) none = tt
+  other_unmodelled (Err (Refused r)) none = other_has (λ j. ProgramsRefusal j r) none
+  other_unmodelled (Err (Memory x)) none = tt
+
 -- ---- both
-
--- what the files beside a manifest say, they say beside the other
-pub known_too : (i : Inputs) (k : Known) → IsKnown i k → IsKnown (other_inputs i) k
-known_too i k is = record {
-  told = record { facts = is.told.facts; listing = is.told.listing; class_data = is.told.class_data };
-  tree = is.tree;
-  is_tree = is.is_tree;
-  given = is.given;
-  begins = is.begins;
-}
-
-pub other_is_modelled : (i : Inputs) (k : Known) (c : Catalog) (g : Graph) (es : List Program) (text name : List ℕ) (l : Limits) → ForText text name l k (λ j. IsModelled j k c g es)
-    → text ≡ input_of (other_inputs i) → name ≡ node_name i.node → l ≡ i.limits → IsKnown i k → IsModelled (other_inputs i) k c g es
-other_is_modelled i k c g es text name l made text_is name_is limited known = made (other_inputs i) text_is name_is limited (known_too i k known)
 
 pub unread_both : (i : Inputs) (e : Fault) → IfRefused e (FirstUnread i) → IfUntold (refused_in side.Input e) (ComparisonRefusal i)
 unread_both i (Refused r) first = inl (unread_programs i (Refused r) first)
 unread_both i (Memory m) first = tt
 
-pub first_refused : (i : Inputs) (k : Known) (text name : List ℕ) (l : Limits) (e : Fault) → IfRefused e (λ r. ForText text name l k (λ j. ProgramsRefusal j r)) → text ≡ input_of i → name ≡ node_name i.node → l ≡ i.limits → IsKnown i k
-    → IfUntold (refused_in side.Input e) (ComparisonRefusal i)
-first_refused i k text name l (Refused r) none text_is name_is limited known = inl (none i text_is name_is limited known)
-first_refused i k text name l (Memory m) none text_is name_is limited known = tt
+pub first_refused : (i : Inputs) (k : Known) (m : Option Compiled) (text name : List ℕ) (l : Limits) (e : Fault) → IfRefused e (λ r. ForSource m text name l k (λ j. ProgramsRefusal j r))
+    → text ≡ input_of i → IsCompiledOf (bytes_of role.Compiled i) m → name ≡ node_name i.node → l ≡ i.limits → IsKnown i k → IfUntold (refused_in side.Input e) (ComparisonRefusal i)
+first_refused i k m text name l (Refused r) none text_is source name_is limited known = inl (none i text_is source name_is limited known)
+first_refused i k m text name l (Memory x) none text_is source name_is limited known = tt
 
-module _ (i : Inputs) (k : Known) (c : Catalog) (g : Graph) (es : List Program) (is : IsModelled i k c g es) where
-  pub other_refused : (text name : List ℕ) (l : Limits) (e : Fault) → IfRefused e (λ r. ForText text name l k (λ j. ProgramsRefusal j r)) → text ≡ input_of (other_inputs i) → name ≡ node_name i.node → l ≡ i.limits → IsKnown i k
-      → IfUntold (refused_in side.Other e) (ComparisonRefusal i)
-  other_refused text name l (Refused r) none text_is name_is limited known =
-      record { known = k; catalog = c; graph = g; programs = es; modelled = is; refused = none (other_inputs i) text_is name_is limited (known_too i k known) }
-  other_refused text name l (Memory m) none text_is name_is limited known = tt
+module _ (i : Inputs) (k : Known) (m : Option Compiled) (c : Catalog) (g : Graph) (es : List Program) (is : IsModelled i k m c g es) where
+  pub other_refused : (e : Fault) → IfRefused e (ProgramsRefusal (other_inputs i)) → IfUntold (refused_in side.Other e) (ComparisonRefusal i)
+  other_refused (Refused r) none = record { known = k; source = m; catalog = c; graph = g; programs = es; modelled = is; refused = none }
+  other_refused (Memory x) none = tt
 
-  module _ (d : Catalog) (h : Graph) (fs : List Program) (other : IsModelled (other_inputs i) k d h fs) where
+  module _ (n : Option Compiled) (d : Catalog) (h : Graph) (fs : List Program) (other : IsModelled (other_inputs i) k n d h fs) where
     abbrev pub both : AreModelled i
-    both = record { known = k; catalog = c; graph = g; programs = es; modelled = is; other_catalog = d; other_graph = h; other_programs = fs; other_modelled = other }
+    both = record {
+      known = k;
+      source = m;
+      catalog = c;
+      graph = g;
+      programs = es;
+      modelled = is;
+      other_source = n;
+      other_catalog = d;
+      other_graph = h;
+      other_programs = fs;
+      other_modelled = other;
+    }
 
     pub too_large_both : (e : Fault) → IfRefused e (IsTooLargeJoined i.limits k.given.folders es fs) → IfUntold (refused_in side.Input e) (ComparisonRefusal i)
     too_large_both (Refused r) large = inr (record { of = both; too_large = large })
-    too_large_both (Memory m) large = tt
+    too_large_both (Memory x) large = tt

@@ -1,5 +1,5 @@
--- There are as many programs as resources in the graph.
-use Rattle.std.proofs.Common.{◌≡◌, ◌<◌, ℕ, zero, suc, List, [], ◌∷◌, ◌++◌, length, map, Option, Some, Result, Ok, Err, refl, sym, ap, ◌∙◌, arith}
+-- There are as many programs as resources of a manifest in the graph.
+use Rattle.std.proofs.Common.{◌≡◌, ◌<◌, ℕ, zero, suc, List, [], ◌∷◌, ◌++◌, length, map, Option, Some, None, Result, Ok, Err, refl, sym, ap, ◌∙◌, arith}
 use Rattle.std.specs.Prelude.{slice_get}
 use Rattle.std.proofs.lemmas.List.{length-map}
 use Rattle.std.specs.List.{AllByRecursion}
@@ -20,7 +20,7 @@ use Rattle.known_inputs.specs.declared.inputs.Known.{Known}
 use Rattle.reports.specs.Stages.{barred_in, read_through, programs_in}
 use Rattle.reports.proofs.Places.{places_within}
 
-one_more : (n : ℕ) (e : Program) (v : Result (List Program) Refusal) (es : List Program) → first_and e v ≡ Ok es
+pub one_more : (n : ℕ) (e : Program) (v : Result (List Program) Refusal) (es : List Program) → first_and e v ≡ Ok es
     → ((fs : List Program) → v ≡ Ok fs → length fs ≡ n) → length es ≡ suc n
 one_more n e (Err r) es h so_far = cc
 one_more n e (Ok fs) es h so_far = let same : e ∷ fs ≡ es = cc in ap length (sym same) ∙ ap suc (so_far fs refl)
@@ -36,10 +36,10 @@ one_each barred seen listing (r ∷ rs) es h =
     with_first (length rs) (or_refused r (new_model barred seen listing r)) (λ place. programs_behind barred (seen ++ place ∷ []) listing rs) es h
     (λ place fs k. one_each barred (seen ++ place ∷ []) listing rs fs k)
 
-there : (resources : List Resource) (i : ℕ) → i < length resources → (r : Resource) × (slice_get resources i ≡ Some r)
+pub there : {X : Type 0} (xs : List X) (i : ℕ) → i < length xs → (x : X) × (slice_get xs i ≡ Some x)
 there [] i h = absurd (omega arith)
-there (r ∷ resources) zero h = (r, refl)
-there (r ∷ resources) (suc i) h = there resources i (omega arith)
+there (x ∷ xs) zero h = (x, refl)
+there (x ∷ xs) (suc i) h = there xs i (omega arith)
 
 all_there : (resources : List Resource) (places : List ℕ) → AllByRecursion (λ i. i < length resources) places → length (resources_at resources places) ≡ length places
 all_there resources [] h = refl
@@ -53,7 +53,8 @@ as_many_read links n (Ok made) es h many =
     let same : map (program_read_as links) made ≡ es = cc in ap length (sym same) ∙ length-map made (program_read_as links) ∙ many made refl
 as_many_read links n (Err r) es h many = cc
 
-pub as_many : (k : Known) (c : Catalog) (g : Graph) (es : List Program) → g.plain ≡ plain_places c → programs_in k c g ≡ Ok es → length es ≡ length g.plain
-as_many k c g es are made =
+-- of the resources of a manifest
+pub as_many_made : (k : Known) (c : Catalog) (g : Graph) (es : List Program) → g.plain ≡ plain_places c → programs_in k None c g.plain ≡ Ok es → length es ≡ length g.plain
+as_many_made k c g es are made =
     as_many_read k.given.links (length g.plain) (programs (barred_in k) k.listing (resources_at c.resources g.plain)) es made (λ fs is.
     one_each (barred_in k) [] k.listing (resources_at c.resources g.plain) fs is ∙ all_there c.resources g.plain (places_within c g.plain are))

@@ -1,6 +1,9 @@
 pub mod Places
+pub mod CompiledLaws
 pub mod Counts
-pub mod ModelLaws
+pub mod CompiledCounts
+pub mod KindLaws
+pub mod ApartLaws
 pub mod StageLaws
 pub mod ReplayLaws
 pub mod LineLaws

@@ -1,5 +1,5 @@
--- What is told of two manifests that are compared, and which refusal comes first.
-use Rattle.std.specs.Prelude.{◌≡◌, ◌⊎◌, ◌<◌, ℕ, List, ◌∷◌, length, Option}
+-- What is told of two manifests or two compiled catalogs that are compared, and which refusal comes first.
+use Rattle.std.specs.Prelude.{◌≡◌, ◌⊎◌, ◌<◌, ℕ, List, ◌∷◌, length, Option, Some, None}
 use Rattle.std.specs.List.{AllByRecursion}
 use Rattle.rh_base.specs.declared.fault.Refusal.{Refusal}
 use Rattle.fs_semantics.specs.Programs.{Program}
@@ -9,7 +9,9 @@ use Rattle.command_line.specs.declared.table.Role.TheVariants as role
 use Rattle.host_limits.specs.declared.limits.Limits.{Limits}
 use Rattle.known_inputs.specs.declared.inputs.Inputs.{Inputs}
 use Rattle.known_inputs.specs.declared.inputs.Known.{Known}
-use Rattle.known_inputs.specs.Inputs.{bytes_of, bytes_or_none, input_of, IsKnown}
+use Rattle.compiled_text.specs.Compiled.{Compiled}
+use Rattle.command_line.specs.declared.table.Role.{Role}
+use Rattle.known_inputs.specs.Inputs.{Bytes, bytes_of, bytes_or_none, input_of, IsCompiledOf, IsKnown}
 use Rattle.verdict_report.specs.declared.report.Report.{Report}
 use Rattle.given_equal.specs.Sizes.{IsTooLargeJoined}
 use Rattle.equal_report.specs.Told.{IsComparedTold}
@@ -19,14 +21,20 @@ use Rattle.reports.specs.Stages.{node_name, IsModelled, ProgramsRefusal}
 use Rattle.reports.specs.Terms.{terms_of, notes_of}
 use Rattle.reports.specs.Questions.{names_in}
 
--- the files of a request, with the other manifest in the place of the input
-abbrev pub other_inputs : Inputs → Inputs
-other_inputs i = record i { files = (role.Input, bytes_or_none (bytes_of role.Other i)) ∷ i.files }
+-- where what is asked about stands: in the place of a compiled catalog, if one is named, and else in that of the input
+abbrev pub place_of_source : Bytes → Role
+place_of_source None = role.Input
+place_of_source (Some bytes) = role.Compiled
 
--- a fact of each request whose input is this text and whose node has this name, which has these limits, and whose files beside it
--- say this
-abbrev pub ForText : List ℕ → List ℕ → Limits → Known → (Inputs → Type 0) → Type 0
-ForText text name limits k P = (i : Inputs) → text ≡ input_of i → name ≡ node_name i.node → limits ≡ i.limits → IsKnown i k → P i
+-- the files of a request, with the other manifest or compiled catalog in the place of the one that is asked about; no entry is wanted
+abbrev pub other_inputs : Inputs → Inputs
+other_inputs i = record i { wanted = None; files = (place_of_source (bytes_of role.Compiled i), bytes_or_none (bytes_of role.Other i)) ∷ i.files }
+
+-- a fact of each request whose input is this text and whose compiled catalog is this, whose node has this name, which has these limits,
+-- and whose files say this
+abbrev pub ForSource : Option Compiled → List ℕ → List ℕ → Limits → Known → (Inputs → Type 0) → Type 0
+ForSource m text name limits k P =
+    (i : Inputs) → text ≡ input_of i → IsCompiledOf (bytes_of role.Compiled i) m → name ≡ node_name i.node → limits ≡ i.limits → IsKnown i k → P i
 
 -- The programs are those of the graph's resources, in their order, and these are resources of the catalog.
 pub record IsInOrder (c : Catalog) (g : Graph) (es : List Program) : Type 0 where
@@ -34,17 +42,19 @@ pub record IsInOrder (c : Catalog) (g : Graph) (es : List Program) : Type 0 wher
   pub many : g.order.count ≡ length g.plain
   pub places : AllByRecursion (λ k. k < length c.resources) g.plain
 
--- The files beside the manifests say this, and both manifests have programs under it.
+-- The files beside them say this, and both manifests, or both compiled catalogs, have programs under it.
 pub record AreModelled (i : Inputs) : Type 0 where
   pub known : Known
+  pub source : Option Compiled
   pub catalog : Catalog
   pub graph : Graph
   pub programs : List Program
-  pub modelled : IsModelled i known catalog graph programs
+  pub modelled : IsModelled i known source catalog graph programs
+  pub other_source : Option Compiled
   pub other_catalog : Catalog
   pub other_graph : Graph
   pub other_programs : List Program
-  pub other_modelled : IsModelled (other_inputs i) known other_catalog other_graph other_programs
+  pub other_modelled : IsModelled (other_inputs i) known other_source other_catalog other_graph other_programs
 
 -- the references of the resources of both
 abbrev pub names_of : {i : Inputs} → AreModelled i → List (List ℕ)
@@ -56,7 +66,8 @@ other_names_of m = names_in m.other_catalog m.other_graph.plain
 -- What is told of both.
 pub record IsComparison (conflicts : Option ℕ) (i : Inputs) (report : Report) : Type 0 where
   pub of : AreModelled i
-  pub told : IsComparedTold (terms_of i of.known conflicts) (notes_of i of.known) (names_of of) of.programs of.graph.order (other_names_of of) of.other_programs of.other_graph.order report
+  pub told : IsComparedTold (terms_of i of.known conflicts) (notes_of i of.known of.source of.graph.plain) (notes_of i of.known of.other_source of.other_graph.plain)
+      (names_of of) of.programs of.graph.order (other_names_of of) of.other_programs of.other_graph.order report
 
 -- the programs of both are too large to be compared
 pub record IsTooLargeFor (i : Inputs) (r : Refusal) : Type 0 where
@@ -66,10 +77,11 @@ pub record IsTooLargeFor (i : Inputs) (r : Refusal) : Type 0 where
 -- the first manifest has programs, and this is the refusal of the other
 pub record IsRefusedInOther (i : Inputs) (r : Refusal) : Type 0 where
   pub known : Known
+  pub source : Option Compiled
   pub catalog : Catalog
   pub graph : Graph
   pub programs : List Program
-  pub modelled : IsModelled i known catalog graph programs
+  pub modelled : IsModelled i known source catalog graph programs
   pub refused : ProgramsRefusal (other_inputs i) r
 
 -- The first refusal: that of the files beside the manifests and of the input, then that of the other manifest, and then that both

@@ -13,14 +13,14 @@ use known_inputs::{Inputs, known_inputs};
 use rh_base::{Fault, Seq};
 use std::alloc::Global;
 
-/// The real resources of built-in types that a manifest declares, each with its attributes; or the first refusal.
+/// The real resources of built-in types that a manifest declares or a compiled catalog has, each with its attributes; or the first refusal.
 pub fn catalog_report(alloc: Global, inputs: &Inputs) -> Result<Seq<u8>, Fault>
     requires { length (input_of inputs.now) < 2 ^ 32 }
     ensures report { IfOk result (IsCatalogReport inputs.now) }
     ensures refused { IfErr result (λ e. IfRefused e (CatalogRefusal inputs.now)) }
 {
-    let known = known_inputs(alloc, inputs)?;
-    let catalog = catalog_for(alloc, inputs, &known)?;
+    let (known, source) = known_inputs(alloc, inputs)?;
+    let catalog = catalog_for(alloc, inputs, &known, &source)?;
     let text = catalog_text(alloc, &catalog)?;
     Ok(bytes_of(text))
 }

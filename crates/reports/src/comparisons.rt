@@ -1,59 +1,63 @@
-//! What is told of two manifests that are compared.
+//! What is told of two manifests or two compiled catalogs that are compared.
 
 ghost use Rattle.std.specs.Prelude.{◌≡◌, ◌<◌, ◌^◌, length, map, IfOk, IfErr};
 ghost use Rattle.rh_base.specs.Refused.{IfRefused};
 ghost use Rattle.fs_lang.specs.Meaning.{program_of};
-ghost use Rattle.known_inputs.specs.Inputs.{input_of, IsKnown};
+ghost use Rattle.command_line.specs.declared.table.Role.TheVariants as role;
+ghost use Rattle.known_inputs.specs.Inputs.{bytes_of, bytes_or_none, input_of, IsCompiledOf, HasNoCompiled, IsKnown};
 ghost use Rattle.given_equal.specs.Sizes.{IsTooLargeJoined};
 ghost use Rattle.equal_report.specs.Told.{IsComparedTold};
 ghost use Rattle.reports.specs.Stages.{IsModelled, ProgramsRefusal};
 ghost use Rattle.reports.specs.Questions.{names_in};
 ghost use Rattle.reports.specs.Sides.{IfUntold};
-ghost use Rattle.reports.specs.Comparisons.{ForText, IsInOrder, other_inputs, IsComparison, ComparisonRefusal};
+ghost use Rattle.reports.specs.Comparisons.{ForSource, IsInOrder, other_inputs, IsComparison, ComparisonRefusal};
 
-use crate::compiling::node_name;
+use crate::compiling::{catalog_under, node_name};
 use crate::modelling::modelled;
 use crate::sides::{Side, Untold, refused_in};
 use crate::terms::{Asked, asked_on};
 use crate::verdicts::names_in;
 use catalog::Catalog;
 use command_line::Role;
+use compiled_text::CompiledCatalog;
 use dep_graph::{Graph, graph};
 use equal_report::told;
 use fs_lang::Program;
 use host_limits::Limits;
-use known_inputs::{Inputs, Known, known_inputs};
-use pp_compile::compile_with;
+use known_inputs::{Inputs, Known, compiled_of, known_inputs};
 use rh_base::{Fault, NoMemory, Seq, Text};
 use std::alloc::Global;
 use verdict_report::Report;
 
-/// A manifest's catalog, its graph, and what its resources do.
+/// A compiled catalog, if what is asked about is one, its catalog or that of the manifest, the graph, and what the resources do.
 #[derive(Drop)]
 struct Modelled {
+    source: Option<CompiledCatalog>,
     catalog: Catalog,
     plan: Graph,
     programs: Seq<Program>,
 }
 
-/// The catalog of a text, its graph and what its resources do, under what the files beside it say.
-fn model_text(
+/// The catalog of a compiled catalog, or else of a text, its graph and what its resources do, under what the files beside it say.
+fn model_source(
     alloc: Global,
+    source: Option<CompiledCatalog>,
     text: &[u8],
     name: &str,
     limits: Limits,
     known: &Known,
 ) -> Result<Modelled, Fault>
     requires { length text.now < 2 ^ 32 }
-    ensures modelled { IfOk result (λ m. ForText text.now name.now limits known.now (λ i. IsModelled i known.now m.catalog m.plan (map program_of m.programs))) }
-    ensures refused { IfErr result (λ e. IfRefused e (λ r. ForText text.now name.now limits known.now (λ i. ProgramsRefusal i r))) }
+    ensures modelled { IfOk result (λ m. ForSource source text.now name.now limits known.now (λ i. IsModelled i known.now m.source m.catalog m.plan (map program_of m.programs))) }
+    ensures refused { IfErr result (λ e. IfRefused e (λ r. ForSource source text.now name.now limits known.now (λ i. ProgramsRefusal i r))) }
 {
-    let catalog = compile_with(alloc, text, &known.facts, name, &known.class_data, limits)?;
+    let catalog = catalog_under(alloc, &source, text, name, limits, known)?;
     let plan = graph(alloc, &catalog)?;
     // so the order relates no other numbers
     plan.order.count();
-    let programs = modelled(alloc, known, &catalog, &plan)?;
+    let programs = modelled(alloc, known, &source, &catalog, &plan)?;
     Ok(Modelled {
+        source,
         catalog,
         plan,
         programs,
@@ -75,12 +79,13 @@ fn names_of(alloc: Global, made: &Modelled) -> Result<Seq<Text>, NoMemory>
 fn told_of_both(
     alloc: Global,
     asked: &Asked,
+    other_asked: &Asked,
     left: &Modelled,
     right: &Modelled,
 ) -> Result<Report, Fault>
     requires left { IsInOrder left.now.catalog left.now.plan (map program_of left.now.programs) }
     requires right { IsInOrder right.now.catalog right.now.plan (map program_of right.now.programs) }
-    ensures told { IfOk result (IsComparedTold asked.now.terms asked.now.notes (names_in left.now.catalog left.now.plan.plain) (map program_of left.now.programs) left.now.plan.order
+    ensures told { IfOk result (IsComparedTold asked.now.terms asked.now.notes other_asked.now.notes (names_in left.now.catalog left.now.plan.plain) (map program_of left.now.programs) left.now.plan.order
         (names_in right.now.catalog right.now.plan.plain) (map program_of right.now.programs) right.now.plan.order) }
     ensures refused { IfErr result (λ e. IfRefused e (IsTooLargeJoined asked.now.terms.limits asked.now.terms.given (map program_of left.now.programs) (map program_of right.now.programs))) }
 {
@@ -89,12 +94,14 @@ fn told_of_both(
     let shown = names.as_slice();
     let other_shown = others.as_slice();
     let notes = asked.notes.as_str().as_bytes();
+    let other_notes = other_asked.notes.as_str().as_bytes();
     let made = left.programs.as_slice();
     let other_made = right.programs.as_slice();
     told(
         alloc,
         &asked.terms,
         notes,
+        other_notes,
         shown,
         made,
         &left.plan.order,
@@ -104,9 +111,9 @@ fn told_of_both(
     )
 }
 
-/// The bytes of the manifest that the input is compared with; none where it isn't named.
-fn other_text(inputs: &Inputs) -> &[u8]
-    ensures { result.now ≡ input_of (other_inputs inputs.now) }
+/// The bytes of the file with which the input or the compiled catalog is compared; none where it isn't named.
+fn other_bytes(inputs: &Inputs) -> &[u8]
+    ensures { result.now ≡ bytes_or_none (bytes_of role.Other inputs.now) }
 {
     match inputs.bytes(Role::Other) {
         Some(bytes) => bytes,
@@ -114,7 +121,28 @@ fn other_text(inputs: &Inputs) -> &[u8]
     }
 }
 
-/// What is told of the input and of the other manifest, once both have programs.
+/// The bytes of the manifest with which the input is compared; those of the input, where compiled catalogs are compared.
+fn other_text(inputs: &Inputs) -> &[u8]
+    ensures { result.now ≡ input_of (other_inputs inputs.now) }
+{
+    match inputs.bytes(Role::Compiled) {
+        Some(_) => inputs.input(),
+        None => other_bytes(inputs),
+    }
+}
+
+/// The compiled catalog with which a compiled catalog is compared.
+fn other_source(alloc: Global, inputs: &Inputs) -> Result<Option<CompiledCatalog>, Fault>
+    ensures compiled { IfOk result (IsCompiledOf (bytes_of role.Compiled (other_inputs inputs.now))) }
+    ensures refused { IfErr result (λ e. IfRefused e (HasNoCompiled (bytes_of role.Compiled (other_inputs inputs.now)))) }
+{
+    match inputs.bytes(Role::Compiled) {
+        Some(_) => compiled_of(alloc, Some(other_bytes(inputs))),
+        None => Ok(None),
+    }
+}
+
+/// What is told of both, once both have programs.
 fn told_of(
     alloc: Global,
     conflicts: Option<u64>,
@@ -123,14 +151,34 @@ fn told_of(
     left: &Modelled,
     right: &Modelled,
 ) -> Result<Report, Untold>
-    requires left { IsModelled inputs.now known.now left.now.catalog left.now.plan (map program_of left.now.programs) }
-    requires right { IsModelled (other_inputs inputs.now) known.now right.now.catalog right.now.plan (map program_of right.now.programs) }
+    requires left { IsModelled inputs.now known.now left.now.source left.now.catalog left.now.plan (map program_of left.now.programs) }
+    requires right { IsModelled (other_inputs inputs.now) known.now right.now.source right.now.catalog right.now.plan (map program_of right.now.programs) }
     ensures report { IfOk result (IsComparison conflicts inputs.now) }
     ensures refused { IfErr result (λ e. IfUntold e (ComparisonRefusal inputs.now)) }
 {
-    let asked = asked_on(alloc, inputs, known, conflicts)?;
-    let report = told_of_both(alloc, &asked, left, right)?;
+    let asked = asked_on(alloc, inputs, known, conflicts, &left.source, &left.plan)?;
+    let other_asked = asked_on(alloc, inputs, known, conflicts, &right.source, &right.plan)?;
+    let report = told_of_both(alloc, &asked, &other_asked, left, right)?;
     Ok(report)
+}
+
+/// The other compiled catalog or the other manifest, with its programs.
+fn model_other(alloc: Global, inputs: &Inputs, known: &Known) -> Result<Modelled, Fault>
+    requires small { length (input_of (other_inputs inputs.now)) < 2 ^ 32 }
+    requires known { IsKnown inputs.now known.now }
+    ensures modelled { IfOk result (λ m. IsModelled (other_inputs inputs.now) known.now m.source m.catalog m.plan (map program_of m.programs)) }
+    ensures refused { IfErr result (λ e. IfRefused e (ProgramsRefusal (other_inputs inputs.now))) }
+{
+    let source = other_source(alloc, inputs)?;
+    let text = other_text(inputs);
+    model_source(
+        alloc,
+        source,
+        text,
+        node_name(&inputs.node),
+        inputs.limits,
+        known,
+    )
 }
 
 /// What is told of both, once the input has programs.
@@ -143,12 +191,11 @@ fn compare_with(
 ) -> Result<Report, Untold>
     requires small { length (input_of (other_inputs inputs.now)) < 2 ^ 32 }
     requires known { IsKnown inputs.now known.now }
-    requires left { IsModelled inputs.now known.now left.now.catalog left.now.plan (map program_of left.now.programs) }
+    requires left { IsModelled inputs.now known.now left.now.source left.now.catalog left.now.plan (map program_of left.now.programs) }
     ensures report { IfOk result (IsComparison conflicts inputs.now) }
     ensures refused { IfErr result (λ e. IfUntold e (ComparisonRefusal inputs.now)) }
 {
-    let text = other_text(inputs);
-    match model_text(alloc, text, node_name(&inputs.node), inputs.limits, known) {
+    match model_other(alloc, inputs, known) {
         Ok(right) => told_of(alloc, conflicts, inputs, known, left, &right),
         Err(fault) => Err(refused_in(Side::Other, fault)),
     }
@@ -160,20 +207,23 @@ fn compare_known(
     conflicts: Option<u64>,
     inputs: &Inputs,
     known: &Known,
+    source: Option<CompiledCatalog>,
 ) -> Result<Report, Untold>
     requires small { length (input_of inputs.now) < 2 ^ 32 }
     requires other_small { length (input_of (other_inputs inputs.now)) < 2 ^ 32 }
     requires known { IsKnown inputs.now known.now }
+    requires source { IsCompiledOf (bytes_of role.Compiled inputs.now) source }
     ensures report { IfOk result (IsComparison conflicts inputs.now) }
     ensures refused { IfErr result (λ e. IfUntold e (ComparisonRefusal inputs.now)) }
 {
     let text = inputs.input();
-    let left = model_text(alloc, text, node_name(&inputs.node), inputs.limits, known)?;
+    let name = node_name(&inputs.node);
+    let left = model_source(alloc, source, text, name, inputs.limits, known)?;
     compare_with(alloc, conflicts, inputs, known, &left)
 }
 
-/// Whether the input and the manifest that it is compared with do the same; or the first refusal. Each question has so many conflicts,
-/// if a number is given.
+/// Whether the input or the compiled catalog does the same as the one with which it is compared; or the first refusal. Each question has
+/// so many conflicts, if a number is given.
 pub fn comparison_on(
     alloc: Global,
     conflicts: Option<u64>,
@@ -184,6 +234,6 @@ pub fn comparison_on(
     ensures report { IfOk result (IsComparison conflicts inputs.now) }
     ensures refused { IfErr result (λ e. IfUntold e (ComparisonRefusal inputs.now)) }
 {
-    let known = known_inputs(alloc, inputs)?;
-    compare_known(alloc, conflicts, inputs, &known)
+    let (known, source) = known_inputs(alloc, inputs)?;
+    compare_known(alloc, conflicts, inputs, &known, source)
 }

@@ -19,8 +19,8 @@ pub fn graph_report(alloc: Global, inputs: &Inputs) -> Result<Seq<u8>, Fault>
     ensures report { IfOk result (IsGraphReport inputs.now) }
     ensures refused { IfErr result (λ e. IfRefused e (GraphRefusal inputs.now)) }
 {
-    let known = known_inputs(alloc, inputs)?;
-    let catalog = catalog_for(alloc, inputs, &known)?;
+    let (known, source) = known_inputs(alloc, inputs)?;
+    let catalog = catalog_for(alloc, inputs, &known, &source)?;
     let plan = graph(alloc, &catalog)?;
     // so the order relates no other numbers
     plan.order.count();

@@ -11,6 +11,7 @@ ghost use Rattle.reports.specs.Questions.{IsReport, ReportRefusal};
 ghost use Rattle.reports.specs.declared.sides.Side.{Side};
 ghost use Rattle.reports.specs.Comparisons.{IsComparison, ComparisonRefusal};
 
+use compiled_text::compiled_texts;
 use graph_semantics::one_graph;
 use known_inputs::files_say_one_thing;
 use pp_compile::one_reading;
@@ -24,6 +25,7 @@ pub fn reports_exclude_refusals()
     ensures comparisons { (given : Option ℕ) (i : Inputs) (report : Report) (s : Side) (r : Refusal) → IsComparison given i report → ComparisonRefusal i s r → ⊥ }
 {
     files_say_one_thing();
+    compiled_texts();
     one_reading();
     one_graph();
     path_counts();

@@ -1,7 +1,8 @@
-//! Reports on a manifest: its catalog, its graph, what its resources do, the verdict on them, the arrows that
-//! they lack, and whether another manifest does the same.
+//! Reports on a manifest or a compiled catalog: its catalog, its graph, what its resources do, the verdict on them, the arrows that
+//! they lack, and whether another manifest or compiled catalog does the same.
 #![tactic(auto)]
 
+mod apart;
 mod bytes;
 mod catalogs;
 mod comparisons;

@@ -1,15 +1,16 @@
 //! What is told of the arrows that resources lack.
 
-ghost use Rattle.std.specs.Prelude.{◌≡◌, ◌<◌, length, map, IfOk, IfErr};
+ghost use Rattle.std.specs.Prelude.{◌≡◌, ◌<◌, length, map, slice_get, IfOk, IfErr};
 ghost use Rattle.std.specs.List.{AllByRecursion};
 ghost use Rattle.rh_base.specs.Refused.{IfRefused};
 ghost use Rattle.fs_lang.specs.Meaning.{program_of};
 ghost use Rattle.given_verdict.specs.Limits.{IsTooLargeWith};
 ghost use Rattle.repair_report.specs.Told.{IsRepairTold};
-ghost use Rattle.reports.specs.Questions.{quoted_at, quoted_names_in};
+ghost use Rattle.reports.specs.Questions.{quoted_as_told, quoted_at, quoted_names_in};
 
 use crate::terms::Asked;
 use catalog::Catalog;
+use compiled_text::CompiledCatalog;
 use dep_graph::Graph;
 use fs_lang::Program;
 use repair_report::{quoted_ref, told};
@@ -17,22 +18,46 @@ use rh_base::{Fault, NoMemory, Seq, Text};
 use std::alloc::Global;
 use verdict_report::Report;
 
-/// The reference of the resource at a place, as it is written in Puppet.
-fn quoted_at(alloc: Global, catalog: &Catalog, place: u32) -> Result<Text, NoMemory>
-    requires { place < length catalog.now.resources }
-    ensures { IfOk result (λ text. text ≡ quoted_at catalog.now place) }
+/// The reference of the resource at a place of a compiled catalog, by the type and the title that its text tells, as it is written in
+/// Puppet.
+fn quoted_as_told(alloc: Global, compiled: &CompiledCatalog, place: usize) -> Result<Text, NoMemory>
+    ensures { IfOk result (λ text. text ≡ quoted_as_told (slice_get compiled.now.resources place)) }
 {
-    quoted_ref(alloc, &catalog.get(place).id)
+    match compiled.resources().get(place) {
+        Some(r) => quoted_ref(alloc, &r.id),
+        None => Ok(Text::new(alloc)),
+    }
+}
+
+/// The reference of the resource at a place, as it is written in Puppet.
+fn quoted_at(
+    alloc: Global,
+    source: &Option<CompiledCatalog>,
+    catalog: &Catalog,
+    place: u32,
+) -> Result<Text, NoMemory>
+    requires { place < length catalog.now.resources }
+    ensures { IfOk result (λ text. text ≡ quoted_at source.now catalog.now place) }
+{
+    match source {
+        None => quoted_ref(alloc, &catalog.get(place).id),
+        Some(compiled) => quoted_as_told(alloc, compiled, place as usize),
+    }
 }
 
 /// The references of plain resources, as they are written in Puppet.
-fn quoted_names_in(alloc: Global, catalog: &Catalog, plain: &[u32]) -> Result<Seq<Text>, NoMemory>
+fn quoted_names_in(
+    alloc: Global,
+    source: &Option<CompiledCatalog>,
+    catalog: &Catalog,
+    plain: &[u32],
+) -> Result<Seq<Text>, NoMemory>
     requires { AllByRecursion (λ k. k < length catalog.now.resources) plain.now }
-    ensures { IfOk result (λ names. names ≡ quoted_names_in catalog.now plain.now) }
+    ensures { IfOk result (λ names. names ≡ quoted_names_in source.now catalog.now plain.now) }
 {
     let mut names = Seq::new(alloc);
     for place in plain {
-        names.push(quoted_at(alloc, catalog, *place)?)?;
+        names.push(quoted_at(alloc, source, catalog, *place)?)?;
     }
     Ok(names)
 }
@@ -41,6 +66,7 @@ fn quoted_names_in(alloc: Global, catalog: &Catalog, plain: &[u32]) -> Result<Se
 pub fn repaired(
     alloc: Global,
     asked: &Asked,
+    source: &Option<CompiledCatalog>,
     catalog: &Catalog,
     plan: &Graph,
     programs: &[Program],
@@ -48,11 +74,11 @@ pub fn repaired(
     requires count { length programs.now ≡ plan.now.order.count }
     requires many { plan.now.order.count ≡ length plan.now.plain }
     requires places { AllByRecursion (λ k. k < length catalog.now.resources) plan.now.plain }
-    ensures told { IfOk result (IsRepairTold asked.now.terms asked.now.notes (quoted_names_in catalog.now plan.now.plain) (map program_of programs.now) plan.now.order) }
+    ensures told { IfOk result (IsRepairTold asked.now.terms asked.now.notes (quoted_names_in source.now catalog.now plan.now.plain) (map program_of programs.now) plan.now.order) }
     ensures refused { IfErr result (λ e. IfRefused e (IsTooLargeWith asked.now.terms.limits asked.now.terms.given (map program_of programs.now))) }
 {
     let plain = plan.plain.as_slice();
-    let names = quoted_names_in(alloc, catalog, plain)?;
+    let names = quoted_names_in(alloc, source, catalog, plain)?;
     let shown = names.as_slice();
     let notes = asked.notes.as_str().as_bytes();
     told(alloc, &asked.terms, notes, shown, programs, &plan.order)

@@ -1,9 +1,14 @@
-//! On what terms the programs of a manifest are asked about, and what stands behind their number.
+//! On what terms the programs of resources are asked about, and what stands behind their number.
 
 ghost use Rattle.std.specs.Prelude.{◌≡◌, IfOk};
-ghost use Rattle.reports.specs.Terms.{terms_of, notes_of, asked_on, wanted_in};
+ghost use Rattle.command_line.specs.declared.table.Role.TheVariants as role;
+ghost use Rattle.known_inputs.specs.Inputs.{bytes_of};
+ghost use Rattle.reports.specs.Terms.{terms_of, given_line, assumed_count, assumed_line, notes_of, asked_on, wanted_in};
 
 use command_line::Role;
+use compiled_models::count_assumed;
+use compiled_text::CompiledCatalog;
+use dep_graph::Graph;
 use fs_lang::Path;
 use given_links::read_path;
 use known_inputs::{Inputs, Known};
@@ -46,9 +51,43 @@ fn terms_of(
     })
 }
 
+/// How many of the resources at these places are assumed.
+fn assumed_count(
+    alloc: Global,
+    known: &Known,
+    source: &Option<CompiledCatalog>,
+    plain: &[u32],
+) -> Result<usize, NoMemory>
+    ensures { IfOk result (λ count. count ≡ assumed_count known.now source.now plain.now) }
+{
+    match source {
+        None => Ok(0),
+        Some(compiled) => count_assumed(alloc, compiled, plain, &known.assumed),
+    }
+}
+
+/// The line on how many of the resources at these places are assumed, where a text of assumptions is named.
+fn assumed_line(
+    alloc: Global,
+    inputs: &Inputs,
+    known: &Known,
+    source: &Option<CompiledCatalog>,
+    plain: &[u32],
+) -> Result<Text, NoMemory>
+    ensures { IfOk result (λ line. line ≡ assumed_line (bytes_of role.Assume inputs.now) (assumed_count known.now source.now plain.now)) }
+{
+    match inputs.bytes(Role::Assume) {
+        Some(_) => {
+            let count = assumed_count(alloc, known, source, plain)?;
+            Ok(Text::from_string(format!(in alloc; "assumed {count}\n")?))
+        }
+        None => Ok(Text::new(alloc)),
+    }
+}
+
 /// The line on how many folders are given, where a text of what every host has is named.
-fn notes_of(alloc: Global, inputs: &Inputs, known: &Known) -> Result<Text, NoMemory>
-    ensures { IfOk result (λ notes. notes ≡ notes_of inputs.now known.now) }
+fn given_line(alloc: Global, inputs: &Inputs, known: &Known) -> Result<Text, NoMemory>
+    ensures { IfOk result (λ line. line ≡ given_line (bytes_of role.Given inputs.now) known.now.given.folders) }
 {
     match inputs.bytes(Role::Given) {
         Some(_) => {
@@ -59,17 +98,35 @@ fn notes_of(alloc: Global, inputs: &Inputs, known: &Known) -> Result<Text, NoMem
     }
 }
 
-/// On what terms the programs of a manifest are asked about, and the lines behind their number.
+/// The lines behind the number of the resources at these places.
+fn notes_of(
+    alloc: Global,
+    inputs: &Inputs,
+    known: &Known,
+    source: &Option<CompiledCatalog>,
+    plain: &[u32],
+) -> Result<Text, NoMemory>
+    ensures { IfOk result (λ notes. notes ≡ notes_of inputs.now known.now source.now plain.now) }
+{
+    let mut notes = assumed_line(alloc, inputs, known, source, plain)?;
+    let given = given_line(alloc, inputs, known)?;
+    notes.push(given.as_str())?;
+    Ok(notes)
+}
+
+/// On what terms the programs of a graph's resources are asked about, and the lines behind their number.
 pub fn asked_on(
     alloc: Global,
     inputs: &Inputs,
     known: &Known,
     conflicts: Option<u64>,
+    source: &Option<CompiledCatalog>,
+    plan: &Graph,
 ) -> Result<Asked, NoMemory>
-    ensures { IfOk result (λ asked. asked ≡ asked_on inputs.now known.now conflicts) }
+    ensures { IfOk result (λ asked. asked ≡ asked_on inputs.now known.now conflicts source.now plan.now.plain) }
 {
     let terms = terms_of(alloc, inputs, known, conflicts)?;
-    let notes = notes_of(alloc, inputs, known)?;
+    let notes = notes_of(alloc, inputs, known, source, plan.plain.as_slice())?;
     Ok(Asked { terms, notes })
 }
 

@@ -19,7 +19,7 @@ use std::alloc::Global;
 use verdict_report::{Form, Report, told};
 
 /// The reference of the resource at a place, as it is shown.
-fn name_at(alloc: Global, catalog: &Catalog, place: u32) -> Result<Text, NoMemory>
+pub(crate) fn name_at(alloc: Global, catalog: &Catalog, place: u32) -> Result<Text, NoMemory>
     requires { place < length catalog.now.resources }
     ensures { IfOk result (λ text. text ≡ reference_at catalog.now place) }
 {

@@ -6,7 +6,7 @@ use Rattle.rh_base.specs.declared.fault.Fault.{Fault}
 use Rattle.rh_base.specs.declared.fault.Fault.TheVariants.{Refused, Memory}
 use Rattle.rh_base.specs.Refused.{IfRefused, IsRefusal}
 use Rattle.rh_base.specs.Shelf.{Held, MayBeThere}
-use Rattle.command_line.specs.declared.table.Ask.{Ask}
+use Rattle.command_line.specs.declared.table.InputKind.{InputKind}
 use Rattle.command_line.specs.declared.table.Role.{Role}
 use Rattle.command_line.specs.Table.{role_row, limit_of, ByRole, Each}
 use Rattle.request_files.specs.declared.fetching.Load.{Load}
@@ -26,9 +26,9 @@ one_more R [] (g ∷ others) r x y is h = absurd is
 one_more R (f ∷ files) [] r x y is h = absurd is
 one_more R (f ∷ files) (g ∷ others) r x y is h = (is.0, is.1, one_more R files others r x y is.2 h)
 
-pub one_load : (held : Held) (a : Ask) (names : ByRole (List ℕ)) (loads : ByRole Load) (r : Role) (name : List ℕ) (l : Load) → AreLoads held a names loads
-    → IsLoad held (limit_of a r) name l → AreLoads held a (names ++ (r, name) ∷ []) (loads ++ (r, l) ∷ [])
-one_load held a names loads r name l are is = one_more (λ role. IsLoad held (limit_of a role)) names loads r name l are is
+pub one_load : (held : Held) (kind : InputKind) (names : ByRole (List ℕ)) (loads : ByRole Load) (r : Role) (name : List ℕ) (l : Load) → AreLoads held kind names loads
+    → IsLoad held (limit_of kind r) name l → AreLoads held kind (names ++ (r, name) ∷ []) (loads ++ (r, l) ∷ [])
+one_load held kind names loads r name l are is = one_more (λ role. IsLoad held (limit_of kind role)) names loads r name l are is
 
 pub one_file : (loads : ByRole Load) (files : ByRole (List ℕ)) (r : Role) (l : Load) (bytes : List ℕ) → AreBytesOf loads files → bytes_in l ≡ Some bytes
     → AreBytesOf (loads ++ (r, l) ∷ []) (files ++ (r, bytes) ∷ [])
@@ -43,10 +43,10 @@ there : (held : Held) (limit : ℕ) (name : List ℕ) (l : Load) → IsLoad held
 there held limit name load.Longer is = is.0
 there held limit name (load.Bytes bytes) is = is.0
 
-pub none_missing : (held : Held) (a : Ask) (names : ByRole (List ℕ)) (loads : ByRole Load) → AreLoads held a names loads → NoneMissing held names
-none_missing held a [] loads are = tt
-none_missing held a (f ∷ names) [] are = absurd are
-none_missing held a (f ∷ names) (l ∷ loads) are = (there held (limit_of a f.0) f.1 l.1 are.1, none_missing held a names loads are.2)
+pub none_missing : (held : Held) (kind : InputKind) (names : ByRole (List ℕ)) (loads : ByRole Load) → AreLoads held kind names loads → NoneMissing held names
+none_missing held kind [] loads are = tt
+none_missing held kind (f ∷ names) [] are = absurd are
+none_missing held kind (f ∷ names) (l ∷ loads) are = (there held (limit_of kind f.0) f.1 l.1 are.1, none_missing held kind names loads are.2)
 
 failed_here : (held : Held) (before now : ℕ) (front back : ByRole (List ℕ)) (r : Role) (name n : List ℕ) → NoneMissing held front → n ≡ name
     → FailsAt n held before now → FirstFailed held before now (front ++ (r, name) ∷ back) n
@@ -60,15 +60,15 @@ long_here (f ∷ front) back [] r l refusal are none is = absurd are
 long_here (f ∷ front) back (g ∷ files) r l refusal are none is = inr ((g.1, are.1), long_here front back files r l refusal are.2 none is)
 
 -- a file that couldn't be fetched, behind those that were, is the first that failed
-pub failed : (a : Ask) (limit : ℕ) (names front rest back : ByRole (List ℕ)) (loads : ByRole Load) (r : Role) (name : List ℕ) (held held_then : Held)
-    (before then now : ℕ) (e : FilesFault) → names ≡ front ++ rest → rest ≡ (r, name) ∷ back → AreLoads held a front loads → held_then ≡ held → then ≡ before
+pub failed : (kind : InputKind) (limit : ℕ) (names front rest back : ByRole (List ℕ)) (loads : ByRole Load) (r : Role) (name : List ℕ) (held held_then : Held)
+    (before then now : ℕ) (e : FilesFault) → names ≡ front ++ rest → rest ≡ (r, name) ∷ back → AreLoads held kind front loads → held_then ≡ held → then ≡ before
     → Reads (IsLoad held_then limit name) (λ n. (n ≡ name) × FailsAt n held_then then now) then now (Err e)
-    → Reads (AreLoads held a names) (FirstFailed held before now names) before now (Err e)
-failed a limit names front rest back loads r name held held_then before then now (fault.Long refusal) whole next are same none h = h
-failed a limit names front rest back loads r name held held_then before then now (fault.Failed n) whole next are same none h =
+    → Reads (AreLoads held kind names) (FirstFailed held before now names) before now (Err e)
+failed kind limit names front rest back loads r name held held_then before then now (fault.Long refusal) whole next are same none h = h
+failed kind limit names front rest back loads r name held held_then before then now (fault.Failed n) whole next are same none h =
     subst (λ ns. FirstFailed held before now ns n) (sym (whole ∙ ap (λ ns. front ++ ns) next))
-    (failed_here held before now front back r name n (none_missing held a front loads are) h.0 (subst₂ (λ hs b. FailsAt n hs b now) same none h.1))
-failed a limit names front rest back loads r name held held_then before then now (fault.Memory m) whole next are same none h = h ∙ none
+    (failed_here held before now front back r name n (none_missing held kind front loads are) h.0 (subst₂ (λ hs b. FailsAt n hs b now) same none h.1))
+failed kind limit names front rest back loads r name held held_then before then now (fault.Memory m) whole next are same none h = h ∙ none
 
 -- the first of which too many bytes were fetched is refused
 pub refused : (loads front rest back : ByRole Load) (files : ByRole (List ℕ)) (r : Role) (l : Load) (e : Fault) → loads ≡ front ++ rest → rest ≡ (r, l) ∷ back
@@ -84,39 +84,39 @@ stand : (held : Held) (limit : ℕ) (name : List ℕ) (l : Load) (bytes : List �
 stand held limit name load.Longer bytes is e = cc
 stand held limit name (load.Bytes b) bytes is e = let same : b ≡ bytes = cc in subst (λ x. StandAt held limit name x) same (is.0, is.1, is.2)
 
-pub are_read : (held : Held) (a : Ask) (names : ByRole (List ℕ)) (loads : ByRole Load) (files : ByRole (List ℕ)) → AreLoads held a names loads
-    → AreBytesOf loads files → AreRead held a names files
-are_read held a [] [] [] is are = tt
-are_read held a [] [] (g ∷ files) is are = absurd are
-are_read held a [] (l ∷ loads) files is are = absurd is
-are_read held a (f ∷ names) [] files is are = absurd is
-are_read held a (f ∷ names) (l ∷ loads) [] is are = absurd are
-are_read held a (f ∷ names) (l ∷ loads) (g ∷ files) is are =
-    (are.0 ∙ is.0, stand held (limit_of a f.0) f.1 l.1 g.1 is.1 are.1, are_read held a names loads files is.2 are.2)
+pub are_read : (held : Held) (kind : InputKind) (names : ByRole (List ℕ)) (loads : ByRole Load) (files : ByRole (List ℕ)) → AreLoads held kind names loads
+    → AreBytesOf loads files → AreRead held kind names files
+are_read held kind [] [] [] is are = tt
+are_read held kind [] [] (g ∷ files) is are = absurd are
+are_read held kind [] (l ∷ loads) files is are = absurd is
+are_read held kind (f ∷ names) [] files is are = absurd is
+are_read held kind (f ∷ names) (l ∷ loads) [] is are = absurd are
+are_read held kind (f ∷ names) (l ∷ loads) (g ∷ files) is are =
+    (are.0 ∙ is.0, stand held (limit_of kind f.0) f.1 l.1 g.1 is.1 are.1, are_read held kind names loads files is.2 are.2)
 
 short : (held : Held) (limit : ℕ) (name : List ℕ) (l : Load) (bytes : List ℕ) → IsLoad held limit name l → bytes_in l ≡ Some bytes → length bytes < 2 ^ 32
 short held limit name load.Longer bytes is e = cc
 short held limit name (load.Bytes b) bytes is e = let same : b ≡ bytes = cc in subst (λ x. length x < 2 ^ 32) same is.3
 
-pub are_short : (held : Held) (a : Ask) (names : ByRole (List ℕ)) (loads : ByRole Load) (files : ByRole (List ℕ)) → AreLoads held a names loads
+pub are_short : (held : Held) (kind : InputKind) (names : ByRole (List ℕ)) (loads : ByRole Load) (files : ByRole (List ℕ)) → AreLoads held kind names loads
     → AreBytesOf loads files → AreShort files
-are_short held a [] [] [] is are = tt
-are_short held a [] [] (g ∷ files) is are = absurd are
-are_short held a [] (l ∷ loads) files is are = absurd is
-are_short held a (f ∷ names) [] files is are = absurd is
-are_short held a (f ∷ names) (l ∷ loads) [] is are = absurd are
-are_short held a (f ∷ names) (l ∷ loads) (g ∷ files) is are = (short held (limit_of a f.0) f.1 l.1 g.1 is.1 are.1, are_short held a names loads files is.2 are.2)
+are_short held kind [] [] [] is are = tt
+are_short held kind [] [] (g ∷ files) is are = absurd are
+are_short held kind [] (l ∷ loads) files is are = absurd is
+are_short held kind (f ∷ names) [] files is are = absurd is
+are_short held kind (f ∷ names) (l ∷ loads) [] is are = absurd are
+are_short held kind (f ∷ names) (l ∷ loads) (g ∷ files) is are = (short held (limit_of kind f.0) f.1 l.1 g.1 is.1 are.1, are_short held kind names loads files is.2 are.2)
 
 longer : (held : Held) (limit : ℕ) (name : List ℕ) (l : Load) → IsLoad held limit name l → bytes_in l ≡ None → IsLonger limit held name
 longer held limit name load.Longer is none = is
 longer held limit name (load.Bytes bytes) is none = cc
 
-pub too_long : (held : Held) (a : Ask) (names : ByRole (List ℕ)) (loads : ByRole Load) (refusal : Refusal) → AreLoads held a names loads
-    → FirstLong loads refusal → FirstTooLong held a names refusal
-too_long held a [] [] refusal is first = first
-too_long held a [] (l ∷ loads) refusal is first = absurd is
-too_long held a (f ∷ names) [] refusal is first = absurd is
-too_long held a (f ∷ names) (l ∷ loads) refusal is (inl h) =
-    inl (longer held (limit_of a f.0) f.1 l.1 is.1 h.0, subst (λ r. IsRefusal 17 0 (role_row r).label refusal) is.0 h.1)
-too_long held a (f ∷ names) (l ∷ loads) refusal is (inr h) =
-    inr ((h.0.0, stand held (limit_of a f.0) f.1 l.1 h.0.0 is.1 h.0.1), too_long held a names loads refusal is.2 h.1)
+pub too_long : (held : Held) (kind : InputKind) (names : ByRole (List ℕ)) (loads : ByRole Load) (refusal : Refusal) → AreLoads held kind names loads
+    → FirstLong loads refusal → FirstTooLong held kind names refusal
+too_long held kind [] [] refusal is first = first
+too_long held kind [] (l ∷ loads) refusal is first = absurd is
+too_long held kind (f ∷ names) [] refusal is first = absurd is
+too_long held kind (f ∷ names) (l ∷ loads) refusal is (inl h) =
+    inl (longer held (limit_of kind f.0) f.1 l.1 is.1 h.0, subst (λ r. IsRefusal 17 0 (role_row r).label refusal) is.0 h.1)
+too_long held kind (f ∷ names) (l ∷ loads) refusal is (inr h) =
+    inr ((h.0.0, stand held (limit_of kind f.0) f.1 l.1 h.0.0 is.1 h.0.1), too_long held kind names loads refusal is.2 h.1)

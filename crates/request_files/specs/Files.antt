@@ -4,7 +4,7 @@ use Rattle.rh_base.specs.declared.fault.Refusal.{Refusal}
 use Rattle.rh_base.specs.Refused.{IsRefusal}
 use Rattle.rh_base.specs.Causes.{Rose}
 use Rattle.rh_base.specs.Shelf.{Held, told_at, IsMissing, MayBeThere}
-use Rattle.command_line.specs.declared.table.Ask.{Ask}
+use Rattle.command_line.specs.declared.table.InputKind.{InputKind}
 use Rattle.command_line.specs.Table.{role_row, limit_of, ByRole, Each}
 use Rattle.request_files.specs.declared.fetching.FilesFault.{FilesFault}
 use Rattle.request_files.specs.declared.fetching.FilesFault.TheVariants as fault
@@ -22,15 +22,15 @@ abbrev pub StandAt : Held → ℕ → List ℕ → List ℕ → Type 0
 StandAt held limit name bytes = MayBeThere held name × AreBytes held name bytes × (length bytes ≤ limit)
 
 -- these are the bytes of the files of these names, none of them missing or too long
-abbrev pub AreRead : Held → Ask → ByRole (List ℕ) → ByRole (List ℕ) → Type 0
-AreRead held a names files = Each (λ role. StandAt held (limit_of a role)) names files
+abbrev pub AreRead : Held → InputKind → ByRole (List ℕ) → ByRole (List ℕ) → Type 0
+AreRead held kind names files = Each (λ role. StandAt held (limit_of kind role)) names files
 
 -- This is the refusal of the first file that has too many bytes.
-abbrev pub FirstTooLong : Held → Ask → ByRole (List ℕ) → Refusal → Type 0
-FirstTooLong held a [] r = ⊥
-FirstTooLong held a (f ∷ names) r =
-    (IsLonger (limit_of a f.0) held f.1 × IsRefusal 17 0 (role_row f.0).label r)
-    ⊎ (((bytes : List ℕ) × StandAt held (limit_of a f.0) f.1 bytes) × FirstTooLong held a names r)
+abbrev pub FirstTooLong : Held → InputKind → ByRole (List ℕ) → Refusal → Type 0
+FirstTooLong held kind [] r = ⊥
+FirstTooLong held kind (f ∷ names) r =
+    (IsLonger (limit_of kind f.0) held f.1 × IsRefusal 17 0 (role_row f.0).label r)
+    ⊎ (((bytes : List ℕ) × StandAt held (limit_of kind f.0) f.1 bytes) × FirstTooLong held kind names r)
 
 -- The file of this name couldn't be read: the shelf's count of faults rose, or it tells what it holds and hasn't the name.
 abbrev pub FailsAt : List ℕ → Held → ℕ → ℕ → Type 0
@@ -64,8 +64,8 @@ AreShort (f ∷ files) = (length f.1 < 2 ^ 32) × AreShort files
 
 -- What was read, or why nothing was. A file that is missing comes before one that is too long, and only a failed read
 -- raises the shelf's count of faults.
-abbrev pub AreReadBy : Ask → ByRole (List ℕ) → Held → ℕ → ℕ → Result (ByRole (List ℕ)) FilesFault → Type 0
-AreReadBy a names held before now (Ok files) = (now ≡ before) × AreRead held a names files
-AreReadBy a names held before now (Err (fault.Long r)) = (now ≡ before) × NoneMissing held names × FirstTooLong held a names r
-AreReadBy a names held before now (Err (fault.Failed name)) = FirstFailed held before now names name
-AreReadBy a names held before now (Err (fault.Memory m)) = now ≡ before
+abbrev pub AreReadBy : InputKind → ByRole (List ℕ) → Held → ℕ → ℕ → Result (ByRole (List ℕ)) FilesFault → Type 0
+AreReadBy kind names held before now (Ok files) = (now ≡ before) × AreRead held kind names files
+AreReadBy kind names held before now (Err (fault.Long r)) = (now ≡ before) × NoneMissing held names × FirstTooLong held kind names r
+AreReadBy kind names held before now (Err (fault.Failed name)) = FirstFailed held before now names name
+AreReadBy kind names held before now (Err (fault.Memory m)) = now ≡ before

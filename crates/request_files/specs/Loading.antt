@@ -3,7 +3,7 @@ use Rattle.std.specs.Prelude.{◌≡◌, ◌⊎◌, ℕ, ◌<◌, ◌≤◌, ◌
 use Rattle.rh_base.specs.declared.fault.Refusal.{Refusal}
 use Rattle.rh_base.specs.Refused.{IsRefusal}
 use Rattle.rh_base.specs.Shelf.{Held, MayBeThere}
-use Rattle.command_line.specs.declared.table.Ask.{Ask}
+use Rattle.command_line.specs.declared.table.InputKind.{InputKind}
 use Rattle.command_line.specs.Table.{role_row, limit_of, ByRole, Each}
 use Rattle.request_files.specs.declared.fetching.Load.{Load}
 use Rattle.request_files.specs.declared.fetching.Load.TheVariants as load
@@ -24,8 +24,8 @@ Reads Is Failed before now (Err (fault.Failed name)) = Failed name
 Reads Is Failed before now (Err (fault.Memory m)) = now ≡ before
 
 -- what was fetched of each file of these names
-abbrev pub AreLoads : Held → Ask → ByRole (List ℕ) → ByRole Load → Type 0
-AreLoads held a names loads = Each (λ role. IsLoad held (limit_of a role)) names loads
+abbrev pub AreLoads : Held → InputKind → ByRole (List ℕ) → ByRole Load → Type 0
+AreLoads held kind names loads = Each (λ role. IsLoad held (limit_of kind role)) names loads
 
 -- the bytes that were fetched, if there aren't too many
 abbrev pub bytes_in : Load → Option (List ℕ)

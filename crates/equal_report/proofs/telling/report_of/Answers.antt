@@ -29,5 +29,5 @@ returns c = record {
   is_second = record { allowed = c.in_ok-second.ensures.allowed; least = c.in_ok-second.ensures.least };
   status = c.status_of-status.ensures;
   text = c.in_ok-text.ensures
-      ∙ (λ i. lines_of c.args.notes.now c.args.names.now (map program_of c.args.left.now) (c.as_slice.ensures i) c.args.others.now (map program_of c.args.right.now) (c.as_slice-2.ensures i) c.args.budget c.args.compared.now);
+      ∙ (λ i. lines_of c.args.notes.now c.args.other_notes.now c.args.names.now (map program_of c.args.left.now) (c.as_slice.ensures i) c.args.others.now (map program_of c.args.right.now) (c.as_slice-2.ensures i) c.args.budget c.args.compared.now);
 }

@@ -23,7 +23,7 @@ report_of-requires-clause-programs_told c =
 pub returns-clause-told : goal.returns-clause-told
 returns-clause-told c =
     let said = c.in_ok-compared.ensures in
-    told_is c.args.terms.now c.args.notes.now c.budget-budget.result c.budget-budget.ensures.budget c.allowed_orders.ensures.long c.args.names.now (map program_of c.args.left.now) c.args.order.now c.args.others.now (map program_of c.args.right.now) c.args.other.now
+    told_is c.args.terms.now c.budget-budget.result c.budget-budget.ensures.budget c.allowed_orders.ensures.long c.args.notes.now c.args.other_notes.now c.args.names.now (map program_of c.args.left.now) c.args.order.now c.args.others.now (map program_of c.args.right.now) c.args.other.now
     (length-map c.args.left.now program_of ∙ c.requires.left) (length-map c.args.right.now program_of ∙ c.requires.right) c.in_ok-report.report said.within c.in_ok-compared.compared
     (subst (λ b. IsComparedFrom c.args.terms.now.given (map program_of c.args.left.now) c.args.order.now (map program_of c.args.right.now) c.args.other.now b c.in_ok-compared.compared) (sym c.budget-budget.ensures.budget) said.compared)
     c.in_ok-report.ensures

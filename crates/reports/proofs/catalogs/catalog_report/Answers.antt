@@ -21,6 +21,7 @@ returns-in_err-text-clause-refused c =
 pub returns-clause-report : goal.returns-clause-report
 returns-clause-report c = record {
   known = c.in_ok-known.known;
+  source = c.in_ok-known.source;
   catalog = c.in_ok-catalog.catalog;
   compiled = c.in_ok-catalog.ensures.compiled;
   text = c.bytes_of.ensures ∙ c.in_ok-text.ensures;

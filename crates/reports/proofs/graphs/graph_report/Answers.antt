@@ -16,7 +16,7 @@ returns-in_err-catalog-clause-refused c =
 pub returns-in_err-plan-clause-refused : goal.returns-in_err-plan-clause-refused
 returns-in_err-plan-clause-refused c =
     let p = err_from_is_err_and c.from_residual-in_err-plan.result c.from_residual-in_err-plan.ensures.1 in
-    rw (p.1, p.2) (in_graph c.args.inputs.now c.in_ok-known.known c.in_ok-catalog.catalog c.in_err-plan.field-0.0 c.in_ok-catalog.ensures.compiled c.in_err-plan.ensures.refused)
+    rw (p.1, p.2) (in_graph c.args.inputs.now c.in_ok-known.known c.in_ok-known.source c.in_ok-catalog.catalog c.in_err-plan.field-0.0 c.in_ok-catalog.ensures.compiled c.in_err-plan.ensures.refused)
 
 pub graph_text-requires : goal.graph_text-requires
 graph_text-requires c = c.in_ok-plan.ensures.count
@@ -29,6 +29,7 @@ returns-in_err-text-clause-refused c =
 pub returns-clause-report : goal.returns-clause-report
 returns-clause-report c = record {
   known = c.in_ok-known.known;
+  source = c.in_ok-known.source;
   catalog = c.in_ok-catalog.catalog;
   graph = c.in_ok-plan.plan;
   planned = record { compiled = c.in_ok-catalog.ensures.compiled; graph = c.in_ok-plan.ensures.graph; count = c.in_ok-plan.ensures.count; strict = c.count.ensures.ordered };

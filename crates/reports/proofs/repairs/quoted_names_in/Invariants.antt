@@ -4,4 +4,4 @@ use Rattle.reports.proofs.repairs.quoted_names_in.Given as goal
 
 -- the references so far
 abbrev pub invariant-loop-place : goal.invariant-loop-place
-invariant-loop-place l = l.names ≡ map (quoted_at l.catalog) (take l.place-index l.plain)
+invariant-loop-place l = l.names ≡ map (quoted_at l.source l.catalog) (take l.place-index l.plain)

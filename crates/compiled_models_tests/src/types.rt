@@ -1,0 +1,48 @@
+//! Types that do nothing, and resources that aren't to be changed.
+
+use crate::answers::expect;
+use std::alloc::Global;
+use std::test::Fail;
+
+/// Types and parameters, and the program or the refusal of such a resource of the title `t`.
+const TYPES: &[(&str, &str, &str)] = &[
+    ("Notify", r#""message":"m""#, "id\n"),
+    ("Anchor", "", "id\n"),
+    ("Filebucket", r#""path":false"#, "id\n"),
+    ("Schedule", "", "id\n"),
+    ("Whit", "", "id\n"),
+    ("Concat_fragment", r#""target":"/nowhere""#, "id\n"),
+    ("Resources", "", "id\n"),
+    ("Resources", r#""purge":false"#, "id\n"),
+    ("Resources", r#""purge":"true""#, "23 at 0: Resources[t]"),
+    ("Exec", r#""command":"/bin/c""#, "50 at 0: Exec[t]"),
+    ("File_line", "", "23 at 0: File_line[t]"),
+    ("Group", r#""ensure":"maybe""#, "55 at 0: Group[t]"),
+    // `noop`
+    ("Exec", r#""noop":true"#, "id\n"),
+    ("File_line", r#""noop":"true""#, "id\n"),
+    ("Exec", r#""noop":false"#, "50 at 0: Exec[t]"),
+    ("Exec", r#""noop":"x""#, "50 at 0: Exec[t]"),
+    ("File", r#""noop":true,"ensure":"maybe""#, "id\n"),
+    (
+        "Group",
+        r#""noop":"false","ensure":"absent""#,
+        "if file?(\"/.rehearsal/group/t\") then rm(\"/.rehearsal/group/t\") else id\n",
+    ),
+];
+
+/// A resource of this type and with these parameters.
+fn resource(alloc: Global, kind: &str, parameters: &str) -> Result<String, Fail> {
+    Ok(format!(in alloc;
+        r#"{{"type":"{kind}","title":"t","kind":"compilable_type","parameters":{{{parameters}}}}}"#
+    )?)
+}
+
+#[test]
+fn types_have_programs(rt: HostRuntime) -> Result<(), Fail> {
+    for (kind, parameters, want) in TYPES {
+        let resources = resource(rt.alloc(), kind, parameters)?;
+        expect(&rt, rt.alloc(), resources.as_str(), "", want)?;
+    }
+    Ok(())
+}

@@ -1,0 +1,294 @@
+//! Two compiled catalogs each: whether they do the same.
+
+use crate::common::{Told, compare, run_over};
+use crate::compiled::{MOTD, Res, catalog};
+use std::alloc::Global;
+use std::process::Abort;
+use std::test::Fail;
+
+const ASKED: &[&str] = &["--ask", "equal", "--compiled", "c", "--other", "old"];
+
+const ASSUMED: &[&str] = &[
+    "--ask",
+    "equal",
+    "--compiled",
+    "c",
+    "--other",
+    "old",
+    "--assume",
+    "assumed",
+];
+
+const GIVEN: &[&str] = &[
+    "--ask",
+    "equal",
+    "--compiled",
+    "c",
+    "--other",
+    "old",
+    "--assume",
+    "assumed",
+    "--given",
+    "given",
+];
+
+/// The words, over the texts of two compiled catalogs and what is assumed of the resources of both.
+fn asked<'a>(
+    alloc: Global,
+    words: &[&str],
+    catalog: &'a str,
+    other: &'a str,
+    assumed: &'a str,
+) -> Result<Told, Fail> {
+    let over: [(&str, &[u8]); 5] = [
+        ("c", catalog.as_bytes()),
+        ("old", other.as_bytes()),
+        ("assumed", assumed.as_bytes()),
+        ("given", br#"{"version":1,"folders":["/etc"]}"#),
+        ("site.pp", b"file { '/etc/motd': content => 'hi' }"),
+    ];
+    run_over(alloc, words, &over)
+}
+
+const EXEC: Res = ("Exec", "e", r#""command":"/bin/e""#, "");
+
+const EXECS: &str = r#"{"version":1,"resources":{"Exec":"none","Exec[f]":"refused"}}"#;
+
+const EDITS: &str = r#"{"version":1,"resources":{"File_line":{"edits":["/etc/hosts"]}}}"#;
+
+const HOSTS: Res = ("File", "/etc/hosts", r#""content":"x""#, "");
+
+const LINE: Res = (
+    "File_line",
+    "db",
+    r#""line":"db","require":"File[/etc/hosts]""#,
+    "",
+);
+
+const OTHER_LINE: Res = (
+    "File_line",
+    "db",
+    r#""line":"web","require":"File[/etc/hosts]""#,
+    "",
+);
+
+const FRAGMENT: Res = (
+    "Concat_fragment",
+    "a",
+    r#""content":"1","target":"/f","order":"10""#,
+    "",
+);
+
+/// The same in another order of its keys, and without the order that every fragment has that tells none.
+const SAME_FRAGMENT: Res = ("Concat_fragment", "a", r#""target":"f","content":"1""#, "");
+
+/// The words, what is assumed, and the resources of both.
+type Row = (
+    &'static [&'static str],
+    &'static str,
+    &'static [Res],
+    &'static [Res],
+);
+
+/// What is told with status 0.
+const SAME: [(Row, &str); 6] = [
+    (
+        (ASKED, "", &[MOTD], &[MOTD]),
+        "resources 1\npruned 1\ndeterministic\nresources 1\npruned 1\ndeterministic\nequal\n",
+    ),
+    // Other resources are assumed on either side.
+    (
+        (ASSUMED, EXECS, &[MOTD, EXEC], &[MOTD]),
+        "resources 2\nassumed 1\npruned 2\ndeterministic\nresources 1\nassumed 0\npruned 1\ndeterministic\nequal\n",
+    ),
+    (
+        (GIVEN, EXECS, &[MOTD], &[EXEC, MOTD]),
+        "resources 1\nassumed 0\ngiven 1\npruned 1\ndeterministic\nresources 2\nassumed 1\ngiven 1\npruned 2\ndeterministic\nequal\n",
+    ),
+    (
+        (ASSUMED, EDITS, &[HOSTS, LINE], &[HOSTS, LINE]),
+        "resources 2\nassumed 1\npruned 2\ndeterministic\nresources 2\nassumed 1\npruned 2\ndeterministic\nequal\n",
+    ),
+    // A file that is put together of fragments which are told alike.
+    (
+        (
+            ASKED,
+            "",
+            &[("Concat_file", "f", r#""path":"/f""#, ""), FRAGMENT],
+            &[("Concat_file", "f", r#""path":"/f""#, ""), SAME_FRAGMENT],
+        ),
+        "resources 2\npruned 2\ndeterministic\nresources 2\npruned 2\ndeterministic\nequal\n",
+    ),
+    // A container is no resource that does anything.
+    (
+        (ASKED, "", &[("Class", "c", "", ""), MOTD], &[MOTD]),
+        "resources 1\npruned 1\ndeterministic\nresources 1\npruned 1\ndeterministic\nequal\n",
+    ),
+];
+
+fn of_both(alloc: Global, row: &Row) -> Result<Told, Fail> {
+    let (words, assumed, left, right) = *row;
+    let text = catalog(alloc, left, &[])?;
+    let other = catalog(alloc, right, &[])?;
+    asked(alloc, words, text.as_str(), other.as_str(), assumed)
+}
+
+#[test]
+fn compiled_catalogs_that_do_the_same(rt: HostRuntime) -> Result<(), Fail> {
+    for (row, report) in SAME {
+        let told = of_both(rt.alloc(), &row)?;
+        compare(&rt, &told, 0, report, "", report);
+    }
+    Ok(())
+}
+
+/// What is told with status 10 or 1, ahead of the tree.
+const OTHERWISE: [(Row, u8, &str); 5] = [
+    (
+        (ASKED, "", &[MOTD], &[]),
+        10,
+        "resources 1\npruned 1\ndeterministic\nresources 0\npruned 0\ndeterministic\nnot equal\n",
+    ),
+    // An edit that says something else isn't the same.
+    (
+        (ASSUMED, EDITS, &[HOSTS, LINE], &[HOSTS, OTHER_LINE]),
+        10,
+        "resources 2\nassumed 1\npruned 2\ndeterministic\nresources 2\nassumed 1\npruned 2\ndeterministic\nnot equal\n",
+    ),
+    // Nor is a file of which another fragment is a part.
+    (
+        (
+            ASKED,
+            "",
+            &[("Concat_file", "f", r#""path":"/f""#, ""), FRAGMENT],
+            &[
+                ("Concat_file", "f", r#""path":"/f""#, ""),
+                FRAGMENT,
+                ("Concat_fragment", "b", r#""content":"2","target":"/f""#, ""),
+            ],
+        ),
+        10,
+        "resources 2\npruned 2\ndeterministic\nresources 3\npruned 3\ndeterministic\nnot equal\n",
+    ),
+    // The right one isn't deterministic: its notes are its own.
+    (
+        (
+            ASSUMED,
+            EDITS,
+            &[HOSTS],
+            &[HOSTS, ("File_line", "db", r#""line":"db""#, "")],
+        ),
+        1,
+        "resources 1\nassumed 0\npruned 1\ndeterministic\nresources 2\nassumed 1\npruned 0\nnot deterministic\n",
+    ),
+    (
+        (
+            ASSUMED,
+            EDITS,
+            &[HOSTS, ("File_line", "db", r#""line":"db""#, "")],
+            &[HOSTS],
+        ),
+        1,
+        "resources 2\nassumed 1\npruned 0\nnot deterministic\n",
+    ),
+];
+
+#[test]
+fn compiled_catalogs_that_do_otherwise(rt: HostRuntime) -> Result<(), Fail> {
+    for (row, status, head) in OTHERWISE {
+        let told = of_both(rt.alloc(), &row)?;
+        assert_eq!(rt; told.status, status, "{head}");
+        assert!(rt; told.out.as_str().starts_with(head), "{head}");
+        assert_eq!(rt; told.err.as_str(), "", "{head}");
+    }
+    Ok(())
+}
+
+/// Where a resource is declared.
+const AT: &str = r#","file":"/m/a.pp","line":7"#;
+
+/// What is refused of either.
+const REFUSED: [(Row, &str); 9] = [
+    (
+        (ASSUMED, EXECS, &[MOTD, MOTD], &[MOTD, MOTD]),
+        "65 at 0: compiled",
+    ),
+    (
+        (ASSUMED, EXECS, &[MOTD], &[MOTD, MOTD]),
+        "65 at 0 in other: compiled",
+    ),
+    (
+        (ASSUMED, EXECS, &[MOTD], &[("Exec", "f", "", AT)]),
+        "50 at 0 in other: Exec[f] (/m/a.pp:7)",
+    ),
+    (
+        (ASSUMED, EXECS, &[("Exec", "f", "", AT)], &[MOTD]),
+        "50 at 0: Exec[f] (/m/a.pp:7)",
+    ),
+    // all of the left one comes ahead of the right one's text
+    (
+        (ASSUMED, EXECS, &[("Exec", "f", "", "")], &[MOTD, MOTD]),
+        "50 at 0: Exec[f]",
+    ),
+    (
+        (
+            ASSUMED,
+            EXECS,
+            &[("File", "/a", r#""require":7"#, "")],
+            &[MOTD, MOTD],
+        ),
+        "29 at 0: File[/a] require",
+    ),
+    (
+        (
+            ASSUMED,
+            EXECS,
+            &[MOTD],
+            &[("File", "/a", r#""before":"File[/a]""#, "")],
+        ),
+        "41 at 0 in other: File[/a] -> File[/a]",
+    ),
+    (
+        (
+            ASSUMED,
+            EXECS,
+            &[MOTD],
+            &[("File", "/a", r#""before":"File[/b]""#, "")],
+        ),
+        "40 at 0 in other: File[/b]",
+    ),
+    // what is assumed is said of both, and is refused of neither
+    ((ASSUMED, "[]", &[MOTD], &[MOTD, MOTD]), "66 at 0: assume"),
+];
+
+fn is_refused(alloc: Global, rt: &impl Abort, row: &Row, line: &str) -> Result<(), Fail> {
+    let told = of_both(alloc, row)?;
+    let err = format!(in alloc; "refused {line}\n")?;
+    compare(rt, &told, 4, "", err.as_str(), line);
+    Ok(())
+}
+
+#[test]
+fn compiled_catalogs_that_are_refused(rt: HostRuntime) -> Result<(), Fail> {
+    for (row, line) in REFUSED {
+        is_refused(rt.alloc(), &rt, &row, line)?;
+    }
+    Ok(())
+}
+
+/// Beside a compiled catalog a manifest is none.
+#[test]
+fn a_manifest_beside_a_compiled_catalog(rt: HostRuntime) -> Result<(), Fail> {
+    let text = catalog(rt.alloc(), &[MOTD], &[])?;
+    let words = ["--ask", "equal", "--compiled", "c", "--other", "site.pp"];
+    let told = asked(rt.alloc(), &words, text.as_str(), "", "")?;
+    compare(
+        &rt,
+        &told,
+        4,
+        "",
+        "refused 65 at 0 in other: compiled\n",
+        "a manifest",
+    );
+    Ok(())
+}
