@@ -38,13 +38,16 @@ class Run:
     def __init__(self, words, copy, page, status, printed, said):
         self.words, self.copy, self.page = words, copy, page
         self.status, self.printed, self.said = status, printed, said
-        name = words.input()
+        self.is_compiled = "--compiled" in words.given
+        name = words.given.get("--compiled", words.input())
         self.is_copied = name == "-" and copy is not None
-        self.manifest = content(copy if self.is_copied else name) if name and words.ask() in OF_MANIFEST else b""
+        # (a compiled catalog has no places)
+        has_places = words.ask() in OF_MANIFEST and not self.is_compiled
+        self.manifest = content(copy if self.is_copied else name) if name and has_places else b""
         self.name = STANDARD_INPUT if self.is_copied else name
         other = words.given.get("--other")
         self.other_is_copied = other == "-" and copy is not None
-        self.other = content(copy if self.other_is_copied else other) if other and words.ask() == "equal" else b""
+        self.other = content(copy if self.other_is_copied else other) if other and has_places and words.ask() == "equal" else b""
         self.other_name = STANDARD_INPUT if self.other_is_copied else other
 
     def words_that_help(self):
@@ -55,7 +58,8 @@ class Run:
 
     def after_yes(self):
         if self.words.ask() in ("verify", "explain") and b"\nfails from every tree\n" in self.printed:
-            return ["No run of this manifest can succeed: from every file tree each order ends in an error."]
+            what = "catalog" if self.is_compiled else "manifest"
+            return [f"No run of this {what} can succeed: from every file tree each order ends in an error."]
         return []
 
     def after_no(self):
@@ -64,9 +68,10 @@ class Run:
         return self.how_to_look() + (self.how_to_mend() if self.status == 1 else [])
 
     def asking(self, *more):
-        """Returns the line that asks this of the same manifest."""
-        kept = self.words.without("--ask", "--conflicts")
-        words = [*kept, "--ask", *more, "MANIFEST" if self.is_copied else self.name]
+        """Returns the line that asks this of the same manifest or compiled catalog."""
+        kept = self.words.without("--ask", "--conflicts", "--compiled")
+        name = ("CATALOG" if self.is_compiled else "MANIFEST") if self.is_copied else self.name
+        words = [*kept, "--ask", *more, *(["--compiled"] if self.is_compiled else []), name]
         return f"  rehearsal {shown(' '.join(map(shlex.quote, words)))}"
 
     def how_to_look(self):
@@ -113,7 +118,7 @@ class Run:
         number, at, name = int(found[1]), int(found[2]), found[4].decode(errors="replace")
         refused, named = (self.other, self.other_name) if found[3] else (self.manifest, self.name)
         behind = refused[at : at + 100].decode(errors="replace")
-        row = refusals.row_for(refusals.rows_of(self.page), number, name, self.words.ask(), behind)
+        row = refusals.row_for(refusals.rows_of(self.page), number, name, self.words.ask(), behind, self.is_compiled)
         lines = []
         if refused and at <= len(refused) and (at > 0 or row and row.has_place()):
             line, column = manifest.place_of(refused, at)
