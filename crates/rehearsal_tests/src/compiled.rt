@@ -585,12 +585,12 @@ fn a_manifest_and_its_catalog(rt: HostRuntime) -> Result<(), Fail> {
 }
 
 /// With this value of `--ask` the same is told of a compiled catalog and of a manifest.
-fn is_told_alike(
+fn is_told_alike<'a>(
     alloc: Global,
     rt: &impl Abort,
-    ask: &str,
-    catalog: &str,
-    manifest: &str,
+    ask: &'a str,
+    catalog: &'a str,
+    manifest: &'a str,
 ) -> Result<(), Fail> {
     let over: [(&str, &[u8]); 3] = [
         ("c", catalog.as_bytes()),

@@ -37,7 +37,12 @@ const ASSUMED: &[&str] = &[
     "host",
 ];
 
-fn asked(alloc: Global, words: &[&str], catalog: &str, assumed: &str) -> Result<Told, Fail> {
+fn asked<'a>(
+    alloc: Global,
+    words: &[&str],
+    catalog: &'a str,
+    assumed: &'a str,
+) -> Result<Told, Fail> {
     let over: [(&str, &[u8]); 3] = [
         ("host", catalog.as_bytes()),
         ("listing", LISTING.as_bytes()),
