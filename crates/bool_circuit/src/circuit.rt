@@ -1,4 +1,8 @@
-//! Circuits: gates are asked for, equal ones are shared, and what folds is folded.
+//! Circuits: gates are asked for, equal ones are shared, and what folds is folded. Sharing is structural hashing (Kuehlmann and others
+//! 2002): a hash table has the gate if it was asked for before. Folding is constant propagation, and the local rules of and-inverter
+//! graphs (idempotence, contradiction, subsumption: Brummayer and Biere 2006), looked for three `And` gates down. A choice folds what
+//! its condition tells of its branches: in a second run over what a first one left most wires are constants then, and no question is
+//! left about them. To look further down folds no more.
 
 ghost use Rattle.std.specs.Prelude.{All, ◌≡◌, ◌≢◌, ◌↔◌, ℕ, ◌+◌, ◌^◌, ◌<◌, ◌≤◌, Bool, true, false, ◌&&◌, ◌||◌, not, if◌then◌else◌, [], length, slice_get, IfOk, OnOk, OnErr, IfSome, IfNone, Some, IsTrue};
 ghost use Rattle.std.specs.Bool.{OnTrue};

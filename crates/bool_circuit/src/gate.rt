@@ -1,4 +1,5 @@
-//! Gates, and the wires that number them.
+//! Gates, and the wires that number them. `And` and `Not` alone would do (an and-inverter graph); a `Mux`, if-then-else, would take
+//! three `And` gates.
 
 /// The number of a wire, which is the place of its gate in the circuit.
 #[derive(Clone, Copy, Debug, PartialEq, Eq, Hash)]

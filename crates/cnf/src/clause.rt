@@ -1,4 +1,5 @@
-//! Clauses: finite sets of literals.
+//! Clauses: disjunctions, as finite sets of literals. They are kept in order and without repetition, so two clauses with the same
+//! literals are one value, and a checker compares them literal by literal. The empty clause is false.
 
 ghost use Rattle.std.specs.Prelude.{◌≡◌, IfOk};
 

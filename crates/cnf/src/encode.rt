@@ -1,4 +1,10 @@
-//! The formula that the goal of a circuit can be true.
+//! The formula that the goal of a circuit can be true: the Tseitin transformation (Tseitin 1968). Each gate gets a literal, with
+//! clauses that say it is equal to what the gate says, in both directions; and a unit clause says the goal. The formula has a model
+//! exactly where some inputs make the goal true, and is as long as the circuit, where multiplying out might be exponential.
+//!
+//! Only gates on which the goal stands (its cone of influence) have clauses. A `Not` gate has no variable: its literal is the
+//! opposite one. A choice (`Mux`, if-then-else) has two clauses beside its four, which say nothing new and help propagation; where its
+//! branches are opposite they would be tautologies, and are left out.
 
 ghost use Rattle.std.specs.Prelude.{◌≡◌, ◌↔◌, ◌+◌, ◌<◌, ◌≤◌, ℕ, Bool, true, ◌&&◌, if◌then◌else◌, [], ◌∷◌, ◌++◌, length, IfOk, OnOk};
 ghost use Rattle.bool_circuit.specs.Gates.{truth_at, input_count, wire_value, PlaceBelow, OperandsBelow};

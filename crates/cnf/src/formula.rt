@@ -1,4 +1,6 @@
-//! Formulas: lists of clauses, kept in one array of words.
+//! Formulas: lists of clauses, kept in one array of 32-bit words: the literals of all clauses one behind the other, and where each
+//! clause ends. A *word* is a literal as a number, 2 (v - 1) for variable v and one more for its negation, as in MiniSat. More than
+//! 2^31 variables, or 2^32 literals, are answered with want of memory.
 
 ghost use Rattle.std.specs.Prelude.{All, ◌≡◌, ◌+◌, ◌-◌, ◌*◌, ◌<◌, ◌≤◌, ◌^◌, [], ◌∷◌, ◌++◌, length, map, slice_get, slice_index, Some, IfOk, OnOk, OnErr};
 ghost use Rattle.cnf.specs.Store.{word_of, lit_of, start_of};

@@ -1,5 +1,6 @@
-//! Clauses, formulas and proofs by resolution, and the formula that a circuit's goal can be true. The solver keeps literals as
-//! the same words: it cites `specs/Store`, and the laws about words in `proofs/StoreLaws`.
+//! Clauses, formulas in conjunctive normal form (CNF) and proofs by resolution, and the formula that a circuit's goal can be true
+//! (the Tseitin transformation). The solver keeps literals as the same words: it cites `specs/Store`, and the laws about words in
+//! `proofs/StoreLaws`.
 #![tactic(auto)]
 
 mod clause;

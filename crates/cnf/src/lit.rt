@@ -1,4 +1,4 @@
-//! Literals.
+//! Literals: a variable or its negation, which is called its opposite. In their order variables rise, and the positive one is first.
 
 ghost use Rattle.std.specs.Prelude.{◌≡◌};
 ghost use Rattle.std.specs.Ordering.{nat_cmp, on, as_partial_cmp};

@@ -1,4 +1,7 @@
-//! Logs: steps of resolution.
+//! Logs: proofs by resolution, as solvers by clause learning write them, close to TraceCheck's format. A step has a clause and how it
+//! is derived: an earlier clause to begin with, and a chain of links, each of which resolves with one clause more. A link names its
+//! pivot besides, so a checker neither searches nor propagates, as it would for RUP or DRAT; and no clause is deleted. Clauses are
+//! numbered from 1, the formula's first; the number of a step is told by its place.
 
 use crate::clause::Clause;
 use crate::lit::Lit;

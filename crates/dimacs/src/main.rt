@@ -1,4 +1,6 @@
-//! Solves a DIMACS formula from standard input.
+//! Solves a formula from standard input, in DIMACS form (the format of the second DIMACS challenge, 1993), by `sat_solver`. It is
+//! there so that the solver can be measured beside others (bench/README.md), and prints what solvers in competitions print: an `s`
+//! line, and a `v` line for each variable. With `--proof` a refutation is printed as a proof text. The status doesn't tell the answer.
 #![tactic(auto)]
 
 mod print;

@@ -1,4 +1,5 @@
-//! Printing what the solver answers.
+//! Printing what the solver answers, as solvers in competitions do: an `s` line, and a `v` line for each variable with its value.
+//! Where a proof is asked for, a refutation is printed as a proof text instead.
 
 ghost use Rattle.std.specs.Prelude.{◌≡◌, ◌<◌, ◌++◌, false, length, slice_index_or, IfOk, OnOk};
 ghost use Rattle.dimacs.specs.Dimacs.{value_line, value_lines, model_text, refutation_text, IsAnswer};

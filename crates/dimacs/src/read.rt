@@ -1,4 +1,5 @@
-//! Reading a formula.
+//! Reading a formula in DIMACS form. It is read by the rules of proof texts, as the only formula of one, with an empty log: so what a
+//! text spells is defined once.
 
 ghost use Rattle.std.specs.Prelude.{◌≡◌, ◌∷◌, [], IfOk, Some, None, map};
 ghost use Rattle.cnf.specs.Formulas.{Formula};

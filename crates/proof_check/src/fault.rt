@@ -1,4 +1,4 @@
-//! What is wrong with a log.
+//! What is wrong with a log: the first step that fails, and why.
 
 ghost use Rattle.std.specs.Prelude.{◌≡◌};
 ghost use Rattle.proof_check.specs.declared.fault.StepFault.TheVariants.{Memory};

@@ -1,4 +1,5 @@
-//! The checker of proofs by resolution: what it accepts has no model.
+//! The checker of proofs by resolution: what it accepts has no model. The logs are in TraceCheck's manner, with each pivot named; so
+//! the checker searches for nothing, and rests on nothing of the solver.
 #![tactic(auto)]
 
 mod fault;

@@ -1,4 +1,6 @@
-//! Checking a log step by step.
+//! Checking a log step by step: each chain is followed by resolution and has to give just the step's clause, neither more nor fewer
+//! literals, and the last clause has to be empty. What is accepted is a value of its own, `Verified`, which nothing but `check` makes:
+//! so the fact that there is no model travels with it.
 
 ghost use Rattle.std.specs.Prelude.{◌≡◌, ◌≢◌, ◌+◌, ◌≤◌, ◌<◌, MatchBool, true, false, [], length, Some, None, IfOk, OnOk, IfErr};
 ghost use Rattle.std.specs.Prelude.{List};

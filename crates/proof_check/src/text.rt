@@ -1,4 +1,6 @@
-//! The texts of proofs, read.
+//! The texts of proofs, read: formulas in DIMACS form, each with its log (what `write_proof` of `cnf` writes). A text is words with
+//! blanks between them, and a line whose first word is `c` is a comment. Reading is recursive descent without backtracking: each
+//! function takes what it reads from the front of the words that are left.
 
 ghost use Rattle.std.specs.Prelude.{◌≡◌, ◌≢◌, ◌≤◌, ◌<◌, ◌+◌, ◌^◌, ◌++◌, ◌∷◌, [], ℕ, List, Some, slice_get, true, false, take, drop, length, map, codes, OnOk, IfOk, IfErr, MatchResult};
 ghost use Rattle.std.specs.Bool.{OnTrue, OnFalse};

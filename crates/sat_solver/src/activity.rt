@@ -1,4 +1,13 @@
-//! In which order variables are decided, and with which sign.
+//! Decisions: first the variable that was in conflicts most and last (VSIDS: Chaff, Moskewicz and others 2001), with the sign that it
+//! had last (phase saving: Pipatsrisawat and Darwiche 2007), at first the negative one. As in MiniSat activities don't decay: what a
+//! conflict adds grows instead, and all are divided once that is too great; and the variables are a binary heap, the most active on
+//! top. The factors were measured (bench/README.md): to grow by a sixty-fourth took a third less than by a sixteenth on random
+//! formulas and on pigeons; to raise only what took part in the conflict, not what is met when the clause is minimized, took a tenth
+//! less.
+//!
+//! Literals may be given that are decided first, in their order: of the question whether two of many programs differ, those of one
+//! pair after the other. They are no assumptions: one that is refuted gives way. Activity then ages four times as fast, since with
+//! each of them the search turns to other variables.
 
 ghost use Rattle.std.specs.Prelude.{◌≡◌, ℕ, ◌+◌, ◌<◌, ◌≤◌, ◌^◌, true, length, Some};
 

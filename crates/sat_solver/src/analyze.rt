@@ -1,4 +1,8 @@
-//! Resolving a clause that is false backwards along the trail.
+//! Conflict analysis (GRASP, Marques-Silva and Sakallah 1996), by marks and a count as in MiniSat: the false clause is resolved with
+//! reasons, backwards along the trail, until one literal of the last level is left, the first unique implication point (first UIP,
+//! as in Chaff). A conflict ahead of all decisions is resolved in the same way down to the empty clause, since the log has to derive
+//! it. The *clause so far* is the resolvent: it has the false literals whose variables are marked. A *hop* is one resolution: the
+//! number of the antecedent, and the pivot.
 
 ghost use Rattle.std.specs.Prelude.{◌≡◌, ◌⊎◌, ℕ, ◌+◌, ◌-◌, ◌*◌, ◌/◌, ◌<◌, ◌≤◌, ◌^◌, ◌==◌, ◌&&◌, ◌||◌, not, true, false, [], ◌∷◌, ◌++◌, length, take, IfOk, OnOk, slice_index, slice_set, Bool};
 ghost use Rattle.sat_solver.specs.Words.{opposite, has};

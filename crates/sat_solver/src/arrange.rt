@@ -1,4 +1,6 @@
-//! The order of the literals of a learned clause.
+//! The second watch of a learned clause: of its literals but the first the one that became false last, as in MiniSat. The search jumps
+//! back to its level (the assertion level), and when it goes back further this literal is unassigned no later than the others are, as
+//! a watched one has to be.
 
 ghost use Rattle.std.specs.Prelude.{◌≡◌, ℕ, ◌-◌, ◌*◌, ◌<◌, ◌≤◌, true, false, length, take, slice_index};
 ghost use Rattle.sat_solver.specs.Words.{opposite, has};

@@ -1,4 +1,7 @@
-//! The search: propagate, then learn or decide, until something is found.
+//! The search of conflict-driven clause learning: propagate, then learn from a conflict or decide, until all variables are set or the
+//! empty clause is derived. A budget bounds the learned clauses: once it is spent, the log so far is the answer, each step of which is
+//! right and new. That each is new, so that there are fewer than 3^v, is also why the search ends, whatever is decided and whenever
+//! it restarts.
 
 ghost use Rattle.std.specs.Prelude.{◌≡◌, ℕ, ◌+◌, ◌-◌, ◌*◌, ◌<◌, ◌≤◌, ◌^◌, true, false, [], length, IfOk, OnOk, None, Some, slice_index_or};
 ghost use Rattle.cnf.specs.Proofs.{IsAccepted};

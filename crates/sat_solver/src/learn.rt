@@ -1,4 +1,7 @@
-//! Adding a learned clause, and going back for it.
+//! Backjumping, or non-chronological backtracking (GRASP, Marques-Silva and Sakallah 1996). A learned clause has one literal of the
+//! last level, and is unit at the highest level of its others (it is asserting). The search goes back there, adds the clause and sets
+//! that literal: this crate calls it to *settle* the clause. With a clause of one literal it goes back ahead of all decisions, and so
+//! it does when it restarts.
 
 ghost use Rattle.std.specs.Prelude.{◌≡◌, ℕ, ◌+◌, ◌*◌, ◌<◌, ◌≤◌, true, false, [], ◌∷◌, ◌++◌, length, take, OnOk, slice_index};
 ghost use Rattle.sat_solver.specs.Words.{opposite, has};

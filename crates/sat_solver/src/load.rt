@@ -1,4 +1,6 @@
-//! Taking a formula in.
+//! Taking the formula in, as its clauses stand: there is no preprocessing. A clause of two literals at least is watched, the literal
+//! of a unit clause is set ahead of all decisions, and an empty clause, or a unit clause whose literal is false, refutes the formula
+//! at once. The store has the clauses in the formula's order, so their numbers are those that the log names.
 
 ghost use Rattle.std.specs.Prelude.{◌≡◌, ℕ, ◌+◌, ◌*◌, ◌<◌, ◌≤◌, ◌^◌, true, false, [], ◌∷◌, ◌++◌, length, map, IfOk, OnOk, None, Some};
 ghost use Rattle.cnf.specs.Literals.{HasVariable};

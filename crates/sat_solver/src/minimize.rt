@@ -1,4 +1,6 @@
-//! Making the clause to learn smaller: a literal goes where its reason has nothing but literals that stand in the clause too.
+//! Minimizing the learned clause (Sörensson and Biere 2009): what the plan found to be redundant is *shed*, that is resolved away with
+//! its reason, which is one more hop of the step. So the log needs no rule of its own for it. Only literals that became false ahead
+//! of the last level are shed; that of the first unique implication point stays.
 
 ghost use Rattle.std.specs.Prelude.{◌≡◌, ℕ, ◌<◌, ◌^◌, length, take, IfOk, OnOk, Bool};
 ghost use Rattle.sat_solver.specs.Words.{has};

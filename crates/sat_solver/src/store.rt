@@ -1,4 +1,6 @@
-//! The clauses of the formula and of the log, in one array of words.
+//! The clause database: the clauses of the formula and behind them those that were learned, in one array of 32-bit words. A clause is
+//! named by its index here, which is one less than its number in the log; its first two literals are the watched ones. No clause is
+//! ever deleted, since later steps of the log may name it.
 
 ghost use Rattle.std.specs.Prelude.{◌≡◌, ◌+◌, ◌-◌, ◌<◌, ◌^◌, [], ◌∷◌, ◌++◌, length, IfOk, OnOk, slice_index, slice_index_or, slice_set, ◌≤◌};
 ghost use Rattle.std.specs.List.{slice_range};

@@ -1,4 +1,7 @@
-//! The literals that hold, with their levels and reasons.
+//! The trail: the assignment as a stack of literals, with the decision levels and the reasons (antecedents) of an implication graph
+//! (GRASP, Marques-Silva and Sakallah 1996), kept as MiniSat keeps them. A level begins with a decision, and `starts` has the place
+//! of each; `done` is how far the trail is propagated. Levels are counted from 0, that of the first decision; what stands ahead of
+//! it, at the field's level 0, holds in every model. A reason is the number of a clause, from 1 as in the log, and 0 for a decision.
 
 ghost use Rattle.std.specs.Prelude.{◌≡◌, ℕ, ◌+◌, ◌*◌, ◌/◌, ◌<◌, ◌≤◌, ◌^◌, true, false, [], ◌∷◌, ◌++◌, length, drop, not, ◌&&◌, IfOk, OnOk, OnErr, None, Some, slice_index, slice_index_or};
 ghost use Rattle.sat_solver.specs.Words.{opposite, has};

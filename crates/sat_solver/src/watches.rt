@@ -1,4 +1,7 @@
-//! For each literal the clauses that watch it.
+//! Watch lists (two watched literals: Chaff, Moskewicz and others 2001): for each literal the clauses that watch it, which are
+//! visited once it is false. Each watcher has a blocker beside its clause, as in later versions of MiniSat: a literal of the clause
+//! that is looked at first; where it holds the clause isn't touched. Lists that are linked through the clauses themselves would take
+//! less memory, and touch each clause.
 
 ghost use Rattle.std.specs.Prelude.{◌≡◌, ℕ, ◌<◌, [], ◌∷◌, ◌++◌, length, IfOk, OnOk, OnErr, slice_index_or, slice_set};
 
