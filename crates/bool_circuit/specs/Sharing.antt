@@ -1,4 +1,4 @@
--- How a circuit keeps its gates.
+-- Structural hashing: how a circuit keeps its gates.
 use Rattle.std.specs.Prelude.{◌≡◌, ℕ, ◌≤◌, List, slice_get, Some}
 use Rattle.bool_circuit.specs.declared.gate.Wire.{Wire}
 use Rattle.bool_circuit.specs.declared.gate.Gate.{Gate}

@@ -1,4 +1,4 @@
--- How the formula of a circuit is made: gate by gate, each with a literal that has its value.
+-- The Tseitin transformation: the formula of a circuit is made gate by gate, each with a literal that has its value.
 use Rattle.std.specs.Prelude.{◌≡◌, ℕ, ◌<◌, ◌≤◌, Bool, true, false, List, ◌++◌, [], ◌∷◌, length, slice_get, Some, unwrap_or, if◌then◌else◌}
 use Rattle.bool_circuit.specs.declared.gate.Gate.{Gate}
 use Rattle.bool_circuit.specs.declared.gate.Gate.TheVariants.{Input, Constant, Not, And, Mux}
@@ -17,10 +17,11 @@ pub record Defines (old new : Formula) (x : Lit) (value : (ℕ → Bool) → Boo
   pub sound : (v : ℕ → Bool) → Satisfies v new.clauses → lit_true v x ≡ value v
   pub extends : (v : ℕ → Bool) → Satisfies v old.clauses → (u : ℕ → Bool) × ((k : ℕ) → k ≤ old.vars → u k ≡ v k) × Satisfies u new.clauses
 
--- the literals of a variable
+-- the positive literal of a variable
 abbrev pub yes : ℕ → Lit
 yes x = record { var = x; positive = true }
 
+-- its negative literal
 abbrev pub no : ℕ → Lit
 no x = record { var = x; positive = false }
 
@@ -29,14 +30,15 @@ abbrev pub with_clauses : List (List Lit) → List (List Lit) → List (List Lit
 with_clauses cs [] = cs
 with_clauses cs (c ∷ more) = with_clauses (cs ++ clause_of c ∷ []) more
 
--- the variable x is that value; it is a and b; it is a where c is true, and else b, which two clauses say once more where a and
--- b aren't opposite
+-- the clauses that say that variable x is that value
 abbrev pub constant_clauses : ℕ → Bool → List (List Lit)
 constant_clauses x b = (record { var = x; positive = b } ∷ []) ∷ []
 
+-- the clauses that say that variable x is a and b
 abbrev pub and_clauses : ℕ → Lit → Lit → List (List Lit)
 and_clauses x a b = (no x ∷ a ∷ []) ∷ (no x ∷ b ∷ []) ∷ (yes x ∷ opposite a ∷ opposite b ∷ []) ∷ []
 
+-- variable x is a where c is true, and else b: four clauses, and where a and b aren't opposite two that say nothing new
 abbrev pub mux_clauses : ℕ → Lit → Lit → Lit → List (List Lit)
 mux_clauses x c a b =
     (no x ∷ opposite c ∷ a ∷ []) ∷ (no x ∷ c ∷ b ∷ []) ∷ (yes x ∷ opposite c ∷ opposite a ∷ []) ∷ (yes x ∷ c ∷ opposite b ∷ [])
@@ -66,7 +68,7 @@ HaveVariables n lits (Mux c a b) = HasVariable n (lit_at lits c.0) × HasVariabl
 abbrev pub lits_value : List Lit → Gate → (ℕ → Bool) → Bool
 lits_value lits g v = gate_value (inputs_in v) (λ w. lit_true v (lit_at lits w)) g
 
--- the operands of the needed wires from k on are needed
+-- the operands of the needed wires from k on are needed, as in a cone of influence
 abbrev pub NeededFrom : List Gate → List Bool → ℕ → Type 0
 NeededFrom gates needed k = (w : ℕ) (g : Gate) → k ≤ w → truth_at needed w ≡ true → slice_get gates w ≡ Some g → AreNeeded needed g
 

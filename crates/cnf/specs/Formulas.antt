@@ -1,4 +1,4 @@
--- Formulas: lists of clauses over the variables from 1 on.
+-- Formulas in conjunctive normal form: lists of clauses over the variables from 1 on.
 use Rattle.std.specs.Prelude.{◌≡◌, ℕ, ◌-◌, Bool, true, false, List, [], slice_get, slice_index_or, unwrap_or}
 use Rattle.std.specs.List.{AllByRecursion}
 use Rattle.cnf.specs.declared.lit.Lit.{Lit}

@@ -1,4 +1,4 @@
--- The text of a formula and its log, as words in lines.
+-- The text of a formula and its log, as words in lines: DIMACS and, but for the pivots, TraceCheck.
 use Rattle.std.specs.Prelude.{ℕ, List, [], ◌∷◌, ◌++◌, length, map, codes, decimal, if◌then◌else◌}
 use Rattle.std.specs.List.{flat_map}
 use Rattle.cnf.specs.declared.lit.Lit.{Lit}
@@ -36,10 +36,11 @@ line_text [] = 10 ∷ []
 line_text (w ∷ []) = w ++ 10 ∷ []
 line_text (w ∷ v ∷ ws) = w ++ 32 ∷ line_text (v ∷ ws)
 
--- the lines of a formula and of a log
+-- the lines of a formula, in DIMACS form
 abbrev pub formula_lines : ℕ → List (List Lit) → List (List Word)
 formula_lines vars clauses = (codes "p" ∷ codes "cnf" ∷ decimal vars ∷ decimal (length clauses) ∷ []) ∷ map clause_words clauses
 
+-- the lines of a log
 abbrev pub log_lines : List Step → List (List Word)
 log_lines steps = (codes "log" ∷ decimal (length steps) ∷ []) ∷ map step_words steps
 

@@ -48,17 +48,19 @@ block_words b =
     codes "p" ∷ codes "cnf" ∷ decimal b.vars ∷ decimal (length b.clauses) ∷
     (flat_map clause_words b.clauses ++ codes "log" ∷ decimal (length b.steps) ∷ flat_map step_words b.steps)
 
--- the numbers fit i64, and literals and pivots have the formula's variables
+-- a link whose number fits i64, and whose pivot has one of the formula's variables
 pub record IsLinkWritten (vars : ℕ) (link : Link) : Type 0 where
   pub low : 1 ≤ link.number
   pub fits : link.number < 2 ^ 63
   pub pivot : HasVariable vars link.pivot
 
+-- a step whose numbers fit i64, and whose literals and pivots have the formula's variables
 pub record IsStepWritten (vars : ℕ) (step : Step) : Type 0 where
   pub variables : HasVariables vars step.clause
   pub fits : step.start < 2 ^ 63
   pub links : AllByRecursion (IsLinkWritten vars) step.chain
 
+-- a formula and a log whose numbers fit i64, and whose literals and pivots have the formula's variables
 pub record IsWritten (b : Written) : Type 0 where
   pub small : b.vars ≤ 2 ^ 31
   pub clause_count : length b.clauses < 2 ^ 63

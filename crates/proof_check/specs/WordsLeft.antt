@@ -4,11 +4,12 @@ use Rattle.std.specs.List.{flat_map}
 use Rattle.cnf.specs.ProofText.{Word}
 use Rattle.proof_check.specs.ProofWords.{is_blank, words_behind, counted, lines_behind}
 
--- the text up to its first line feed, and the lines behind it
+-- the text up to its first line feed
 abbrev pub first_line : List ℕ → List ℕ
 first_line [] = []
 first_line (b ∷ text) = if b == 10 then [] else b ∷ first_line text
 
+-- the lines behind the first line feed
 abbrev pub other_lines : List ℕ → List (List ℕ)
 other_lines [] = []
 other_lines (b ∷ text) = if b == 10 then lines_behind [] text else other_lines text
