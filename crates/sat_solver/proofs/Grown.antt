@@ -13,6 +13,7 @@ use Rattle.sat_solver.proofs.Scans.{names_kept, names_last, all_more}
 
 -- ---- one more watcher
 module _ (w : List (List Watcher)) (x : ℕ) (u : Watcher) (below : x < length w) where
+  -- a clause that is named by a list of watchers is still named with one more watcher
   names_pushed : (y m : ℕ) → names (get_or w y []) m ≡ true → names (get_or (pushing w x u) y []) m ≡ true
   names_pushed y m h = elim (cases_eq y x) [
     | inl e ↦
@@ -21,9 +22,11 @@ module _ (w : List (List Watcher)) (x : ℕ) (u : Watcher) (below : x < length w
     | inr d ↦ ap (λ l. names l m) (get_or-set_other w x y (get_or w x [] ++ u ∷ []) [] d) ∙ h
   ]
 
+  -- the list of the word names the clause of the new watcher
   names_there : names (get_or (pushing w x u) x []) u.clause ≡ true
   names_there = ap (λ l. names l u.clause) (get_or-set_same w x (get_or w x [] ++ u ∷ []) [] below) ∙ names_last (get_or w x []) u u.clause refl
 
+  -- with one more watcher that names a clause all stays sound
   sound_pushed : (f : List (List ℕ)) (t : Way) → IsSound f t w → IsEntry f u → IsSound f t (pushing w x u)
   sound_pushed f t h e = record {
     few = h.few;
@@ -46,20 +49,24 @@ module _ (w : List (List Watcher)) (x : ℕ) (u : Watcher) (below : x < length w
   }
 
 -- ---- one more clause
+-- an earlier clause stays what it is when one is put behind it
 pub get_before : (f : List (List ℕ)) (c : List ℕ) (n : ℕ) → n < length f → get_or (f ++ c ∷ []) n [] ≡ get_or f n []
 get_before [] c n h = absurd (omega arith)
 get_before (d ∷ f) c zero h = refl
 get_before (d ∷ f) c (suc n) h = get_before f c n (omega arith)
 
+-- the clause that is put behind the others stands at their number
 pub get_new : (f : List (List ℕ)) (c : List ℕ) (n : ℕ) → n ≡ length f → get_or (f ++ c ∷ []) n [] ≡ c
 get_new [] c n h = ap (λ i. get_or (c ∷ []) i []) h
 get_new (d ∷ f) c zero h = absurd (omega arith)
 get_new (d ∷ f) c (suc n) h = get_new f c n (omega arith)
 
 module _ (f : List (List ℕ)) (c : List ℕ) where
+  -- the clauses with the new one behind them
   abbrev pub with_clause : List (List ℕ)
   with_clause = f ++ c ∷ []
 
+  -- there is one clause more
   pub long_with : length with_clause ≡ length f + 1
   long_with = length-append f (c ∷ [])
 
@@ -70,6 +77,7 @@ module _ (f : List (List ℕ)) (c : List ℕ) where
     | inr d ↦ let m : n < length f = omega (arith, long_with) in subst P (sym (get_before f c n m)) (old m)
   ]
 
+  -- a clause that is a reason still is one
   gives_more : (ahead : List ℕ) (x n : ℕ) → Gives f ahead x n → Gives with_clause ahead x n
   gives_more ahead x n h =
       let e : clause with_clause n ≡ clause f n = get_before f c n h.there in
@@ -79,6 +87,7 @@ module _ (f : List (List ℕ)) (c : List ℕ) where
         others = λ y p. h.others y (ap (λ d. has d y) (sym e) ∙ p);
       }
 
+  -- a watcher that names a clause still does
   entry_more : (v : Watcher) → IsEntry f v → IsEntry with_clause v
   entry_more v h =
       let e : clause with_clause v.clause ≡ clause f v.clause = get_before f c v.clause h.there in
@@ -88,6 +97,7 @@ module _ (f : List (List ℕ)) (c : List ℕ) where
   entries_more [] h = tt
   entries_more (v ∷ list) h = (entry_more v h.0, entries_more list h.1)
 
+  -- the invariants hold with the new clause, where unit propagation had nothing to do with it ahead of any decision
   pub sound_with : (t : Way) (w : List (List Watcher)) → length f + 1 < 2 ^ 32 → ((x : ℕ) → has c x ≡ true → x < 2 * t.vars) → IsOnce c
       → ((k : ℕ) → k < length t.starts → IsQuiet (take (get_or t.starts k 0) t.words) (take (get_or t.starts k 0) t.words) c) → IsSound f t w → IsSound with_clause t w
   sound_with t w few within once quiet h = record {
@@ -105,6 +115,7 @@ module _ (f : List (List ℕ)) (c : List ℕ) where
     entries = λ x. entries_more (get_or w x []) (h.entries x);
   }
 
+  -- each clause is in the lists of its two watched literals, where the new one is in those of its own
   pub listed_with : (v : List (List Watcher)) → IsListed f v → ((s : ℕ) → s < 2 → 2 ≤ length c → names (get_or v (get_or c s 0) []) (length f) ≡ true) → IsListed with_clause v
   listed_with v old new n s l b d = elim (cases_eq n (length f)) [
     | inl e ↦
@@ -135,6 +146,7 @@ module _ (f : List (List ℕ)) (c : List ℕ) where
     abbrev watched : List (List Watcher)
     watched = watching w (length f) x0 x1
 
+    -- the clause with the last index is the new one
     new_is : clause with_clause (length f) ≡ c
     new_is = get_new f c (length f) refl
 
@@ -150,6 +162,7 @@ module _ (f : List (List ℕ)) (c : List ℕ) where
     entry1 : IsEntry with_clause u1
     entry1 = record { there = omega (arith, long_with); two = subst (λ d. 2 ≤ length d) (sym new_is) two; stands = ap (λ d. has d x0) new_is ∙ has_at c 0 (omega arith) }
 
+    -- the invariants hold with the two watchers of the new clause
     pub sound_watched : IsSound with_clause t watched
     sound_watched = sound_pushed v1 x1 u1 below1 with_clause t (sound_pushed w x0 u0 below0 with_clause t sound entry0) entry1
 
@@ -159,6 +172,7 @@ module _ (f : List (List ℕ)) (c : List ℕ) where
       | inr n ↦ ap (λ i. names (get_or watched (get_or c i 0) []) (length f)) (let e : s ≡ 1 = omega arith in e) ∙ names_there v1 x1 u1 below1
     ]
 
+    -- with its two watchers the new clause is in the lists of its watched literals, as the others are
     pub listed_watched : IsListed f w → IsListed with_clause watched
     listed_watched h =
         listed_with watched (λ n s l b d. names_pushed v1 x1 u1 below1 (get_or (clause f n) s 0) n (names_pushed w x0 u0 below0 (get_or (clause f n) s 0) n (h n s l b d))) named

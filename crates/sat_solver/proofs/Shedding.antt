@@ -52,24 +52,31 @@ leads_on f t b p w reason seen taken new lits c hops more apart within given ew 
 module _ (words : List ℕ) (b p q : ℕ) (seen new : List Bool) (d : List ℕ) (apart : IsApart words) (early : q < b) (in_words : q < length words) (left : IsLeft words b p seen)
     (others : (x : ℕ) → has d x ≡ true → (x ≡ get_or words q 0) ⊎ (has (take q words) (opposite x) ≡ true))
     (joined : (x : ℕ) → has words (opposite x) ≡ true → is_seen new x ≡ (is_seen (set seen (get_or words q 0 / 2) false) x || (has d x && not (x == get_or words q 0)))) where
+  -- the literal on the trail whose opposite is resolved away
   abbrev w : ℕ
   w = get_or words q 0
 
+  -- the literal of the unique implication point
   abbrev last : ℕ
   last = opposite (get_or words p 0)
 
+  -- the two are of different variables
   differ : last / 2 ≡ w / 2 → ⊥
   differ e = let z = apart p q left.within in_words (sym (half_opposite (get_or words p 0)) ∙ e) in let late = left.late in omega arith
 
+  -- the literal of the unique implication point is false
   held : has words (opposite last) ≡ true
   held = and_left (has words (opposite last)) (is_seen seen last) left.stands
 
+  -- it is still marked
   on : is_seen new last ≡ true
   on = joined last held ∙ ap (λ v. v || (has d last && not (last == w))) (get_or-set_other seen (w / 2) (last / 2) false false differ ∙ and_right (has words (opposite last)) (is_seen seen last) left.stands)
 
+  -- a literal that was tested to be another isn't that one
   not_itself : (x : ℕ) → not (x == w) ≡ true → x ≡ w → ⊥
   not_itself x h e = true≢false (sym h ∙ ap not (eq-eqb x w e))
 
+  -- all other marked literals are false ahead of the last level
   ahead : (x : ℕ) → has words (opposite x) ≡ true → is_seen new x ≡ true → (x ≡ last) ⊎ (has (take b words) (opposite x) ≡ true)
   ahead x false_now now = elim (or_cases (is_seen (set seen (w / 2) false) x) (has d x && not (x == w)) (sym (joined x false_now) ∙ now)) [
     | inl e ↦ left.others x (and_from (has words (opposite x)) (is_seen seen x) false_now (still_seen seen (w / 2) (x / 2) e))
@@ -79,6 +86,7 @@ module _ (words : List ℕ) (b p q : ℕ) (seen new : List Bool) (d : List ℕ) 
     ]
   ]
 
+  -- the clause so far keeps its unique implication point
   pub left_less : IsLeft words b p new
   left_less = record {
     late = left.late;
