@@ -9,6 +9,7 @@ use Rattle.cnf.proofs.ClauseLaws.{same_truths, same_is, same_self, one_clause, I
 use Rattle.proof_check.specs.LitSets.{AreOver}
 
 -- ---- what stands in lists of literals
+-- a literal stands in two lists joined exactly where it stands in one of them
 pub has_lit-append : (c d : List Lit) (x : Lit) → has_lit (c ++ d) x ≡ (has_lit c x || has_lit d x)
 has_lit-append [] d x = refl
 has_lit-append (l ∷ c) d x = ap (λ b. same_lit x l || b) (has_lit-append c d x) ∙ assoc (same_lit x l) (has_lit c x) (has_lit d x)
@@ -19,6 +20,7 @@ has_lit-append (l ∷ c) d x = ap (λ b. same_lit x l || b) (has_lit-append c d 
 
 -- a test that tells one literal from another
 module _ (p : Lit → Bool) where
+  -- a literal stands among those that pass a test exactly where it stands there and passes
   pub has_lit-filter : (c : List Lit) (x : Lit) → has_lit (filter p c) x ≡ (p x && has_lit c x)
   has_lit-filter [] x = sym (none (p x))
     where
@@ -57,9 +59,11 @@ without-filter l (m ∷ c) = elim (cases_Bool (same_lit l m)) [
       ∙ sym (ap (λ b. cond (not b) (m ∷ filter (λ m. not (same_lit l m)) c) (filter (λ m. not (same_lit l m)) c)) e)
 ]
 
+-- a literal stands in what is left without one exactly where it stands there and is another
 pub has_lit-without : (l : Lit) (c : List Lit) (x : Lit) → has_lit (without l c) x ≡ (not (same_lit l x) && has_lit c x)
 has_lit-without l c x = ap (λ d. has_lit d x) (without-filter l c) ∙ has_lit-filter (λ m. not (same_lit l m)) c x
 
+-- what holds of all literals holds of those that pass a test
 all_filter : (P : Lit → Type 0) (p : Lit → Bool) (c : List Lit) → AllByRecursion P c → AllByRecursion P (filter p c)
 all_filter P p [] h = tt
 all_filter P p (l ∷ c) h = by (p l) (all_filter P p c h.1)
@@ -68,6 +72,7 @@ all_filter P p (l ∷ c) h = by (p l) (all_filter P p c h.1)
     by true rest = (h.0, rest)
     by false rest = rest
 
+-- the literals of a clause that pass a test are in order
 IsClause-filter : (p : Lit → Bool) (c : List Lit) → IsClause c → IsClause (filter p c)
 IsClause-filter p [] h = tt
 IsClause-filter p (l ∷ c) h = by (p l) (IsClause-filter p c h.1)
@@ -76,14 +81,17 @@ IsClause-filter p (l ∷ c) h = by (p l) (IsClause-filter p c h.1)
     by true rest = (all_filter (λ m. lit_place l < lit_place m) p c h.0, rest)
     by false rest = rest
 
+-- a clause without one of its literals is one
 pub IsClause-without : (l : Lit) (c : List Lit) → IsClause c → IsClause (without l c)
 IsClause-without l c h = subst IsClause (sym (without-filter l c)) (IsClause-filter (λ m. not (same_lit l m)) c h)
 
 -- ---- a set by equality
 module _ (eq : Lit → Lit → Bool) (equal : (x y : Lit) → eq x y ≡ true → x ≡ y) (same : (x : Lit) → eq x x ≡ true) where
+  -- an equality that tells literals apart is that of literals
   eq_is : (x y : Lit) → eq x y ≡ same_lit x y
   eq_is x y = same_truths (eq x y) (same_lit x y) (λ h. same_self x y (equal x y h)) (λ h. subst (λ z. eq x z ≡ true) (same_is x y h) (same x))
 
+  -- a literal is found by that equality exactly where it stands there
   pub any_is : (keys : List Lit) (l : Lit) → list_any (eq l) keys ≡ has_lit keys l
   any_is [] l = refl
   any_is (k ∷ keys) l = ap (λ b. b || list_any (eq l) keys) (eq_is l k) ∙ ap (λ b. same_lit l k || b) (any_is keys l)
@@ -92,10 +100,12 @@ module _ (eq : Lit → Lit → Bool) (equal : (x y : Lit) → eq x y ≡ true �
   pub changed : (old new : List Lit) (l : Lit) (b : Bool) → ((x : Lit) → list_any (eq x) new ≡ cond (eq l x) b (list_any (eq x) old)) → (x : Lit) → has_lit new x ≡ cond (same_lit l x) b (has_lit old x)
   changed old new l b h x = sym (any_is new x) ∙ h x ∙ ap (λ e. cond e b (list_any (eq x) old)) (eq_is l x) ∙ ap (cond (same_lit l x) b) (any_is old x)
 
+-- two literals are one either way round
 turned : (l x : Lit) → same_lit l x ≡ same_lit x l
 turned l x = same_truths (same_lit l x) (same_lit x l) (λ h. same_self x l (sym (same_is l x h))) (λ h. same_self l x (sym (same_is x l h)))
 
 module _ (old new : List Lit) (l : Lit) where
+  -- the set with one more literal is the clause with it
   pub inserted : ((x : Lit) → has_lit new x ≡ cond (same_lit l x) true (has_lit old x)) → clause_of new ≡ with_lit l (clause_of old)
   inserted h = one_clause (clause_of new) (with_lit l (clause_of old)) (IsClause-clause_of new) (IsClause-with_lit l (clause_of old) (IsClause-clause_of old)) (λ x.
       has_lit-clause_of new x ∙ h x ∙ by (same_lit l x) (has_lit old x) ∙ ap (λ b. b || has_lit old x) (turned l x) ∙ ap (λ b. same_lit x l || b) (sym (has_lit-clause_of old x)) ∙ sym (has_lit-with_lit l (clause_of old) x))
@@ -104,6 +114,7 @@ module _ (old new : List Lit) (l : Lit) where
       by true b = refl
       by false b = refl
 
+  -- a set over some variables stays one with a literal of theirs
   pub inserted_over : (vars : ℕ) → ((x : Lit) → has_lit new x ≡ cond (same_lit l x) true (has_lit old x)) → AreOver vars old → HasVariable vars l → AreOver vars new
   inserted_over vars h over here x stands = by (same_lit l x) refl (sym (h x) ∙ stands)
     where
@@ -111,6 +122,7 @@ module _ (old new : List Lit) (l : Lit) where
       by true e p = subst (HasVariable vars) (same_is l x e) here
       by false e p = over x p
 
+  -- the set without a literal is the clause without it
   pub removed : ((x : Lit) → has_lit new x ≡ cond (same_lit l x) false (has_lit old x)) → clause_of new ≡ without l (clause_of old)
   removed h = one_clause (clause_of new) (without l (clause_of old)) (IsClause-clause_of new) (IsClause-without l (clause_of old) (IsClause-clause_of old)) (λ x.
       has_lit-clause_of new x ∙ h x ∙ by (same_lit l x) (has_lit old x) ∙ ap (λ b. not (same_lit l x) && b) (sym (has_lit-clause_of old x)) ∙ sym (has_lit-without l (clause_of old) x))
@@ -119,6 +131,7 @@ module _ (old new : List Lit) (l : Lit) where
       by true b = refl
       by false b = refl
 
+  -- a set over some variables stays one without a literal
   pub removed_over : (vars : ℕ) → ((x : Lit) → has_lit new x ≡ cond (same_lit l x) false (has_lit old x)) → AreOver vars old → AreOver vars new
   removed_over vars h over x stands = by (same_lit l x) (sym (h x) ∙ stands)
     where
@@ -126,6 +139,7 @@ module _ (old new : List Lit) (l : Lit) where
       by true p = absurd (true≢false (sym p))
       by false p = over x p
 
+-- what holds of each literal that stands there holds of all
 all_of : (P : Lit → Type 0) (c : List Lit) → ((x : Lit) → has_lit c x ≡ true → P x) → AllByRecursion P c
 all_of P [] h = tt
 all_of P (l ∷ c) h = (h l (ap (λ b. b || has_lit c l) (same_self l l refl)), all_of P c (λ x q. h x (by (same_lit x l) (has_lit c x) q)))
@@ -134,5 +148,6 @@ all_of P (l ∷ c) h = (h l (ap (λ b. b || has_lit c l) (same_self l l refl)), 
     by true b e = refl
     by false b e = e
 
+-- the clause of a set over some variables is over these
 pub over_variables : (vars : ℕ) (keys : List Lit) → AreOver vars keys → HasVariables vars (clause_of keys)
 over_variables vars keys over = all_of (HasVariable vars) (clause_of keys) (λ x h. over x (sym (has_lit-clause_of keys x) ∙ h))

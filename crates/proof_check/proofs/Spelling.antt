@@ -31,26 +31,32 @@ use Rattle.proof_check.specs.WordReading.{Found, with_words, with_first, word_is
 
 -- ---- numbers
 
+-- a value that is given where a test is true: the test is true, and it is that value
 if_some : {X : Type 0} (b : Bool) (o : Option X) (m : X) → (if b then o else None) ≡ Some m → (b ≡ true) × (o ≡ Some m)
 if_some true o m e = (refl, e)
 if_some false o m e = absurd (none-some m e)
 
+-- a value that is given where a test is false: the test is false, and it is that value
 if_none : {X : Type 0} (b : Bool) (o : Option X) (m : X) → (if b then None else o) ≡ Some m → (b ≡ false) × (o ≡ Some m)
 if_none true o m e = absurd (none-some m e)
 if_none false o m e = (refl, e)
 
+-- of a conjunction that is true both sides are true
 and_parts : (a b : Bool) → (a && b) ≡ true → (a ≡ true) × (b ≡ true)
 and_parts true true e = (refl, refl)
 and_parts true false e = absurd (true≢false (sym e))
 and_parts false b e = absurd (true≢false (sym e))
 
+-- the number that was read, or 0
 value_of : Option ℕ → ℕ
 value_of None = 0
 value_of (Some n) = n
 
+-- the byte of a digit is below 10 as a digit, and adds to a number as in base 10
 digit_read : (n c : ℕ) → 48 ≤ c → c ≤ 57 → (digit_value c < 10) × (10 * n + (c - 48) ≡ n * 10 + digit_value c)
 digit_read n c a b = let k = digit_value_digit c (a, b) in (omega (arith, k), omega (arith, k))
 
+-- what is read as a number is made of digits, has that value in base 10, and fits 63 bits
 digits_spelled : (n : ℕ) (ds : List ℕ) (m : ℕ) → digits_behind n ds ≡ Some m → AllDigits 10 ds × (digits_value_after 10 n ds ≡ m) × (n < 2 ^ 63 → m < 2 ^ 63)
 unfolding value_of
 digits_spelled n [] m e = (tt, ap value_of e, λ l. omega (arith, ap value_of e))
@@ -64,12 +70,15 @@ digits_spelled n (c ∷ cs) m e =
     let r = digits_spelled (10 * n + (c - 48)) cs m e3 in
     ((digit, r.0), subst (λ x. digits_value_after 10 x cs ≡ m) step r.1, λ l. r.2 (ltb-true _ _ small))
 
+-- 0 fits 63 bits
 fits_none : 0 < 2 ^ 63
 fits_none = omega arith
 
+-- a word with a first byte isn't empty
 some_bytes : (b : ℕ) (w : Word) → 0 < length (b ∷ w)
 some_bytes b w = omega arith
 
+-- a word that is read as a number is its decimal text
 pub number_spelled : (w : Word) (m : ℕ) → number_in w ≡ Some m → w ≡ decimal m
 number_spelled [] m e = absurd (none-some m e)
 number_spelled (b ∷ []) m e =
@@ -82,21 +91,26 @@ number_spelled (b ∷ d ∷ w) m e =
     let fits = s.2 fits_none in
     sym (decimal-digits_value (numerals_by_value _ tells_digits) (b ∷ d ∷ w) s.0 (some_bytes b (d ∷ w)) (λ z. absurd (true≢false (sym (eq-eqb b 48 z) ∙ other))) (omega (arith, s.1))) ∙ ap decimal s.1
 
+-- what is read as a number fits 63 bits
 pub number_fits : (w : Word) (m : ℕ) → number_in w ≡ Some m → m < 2 ^ 63
 number_fits [] m e = absurd (none-some m e)
 number_fits (b ∷ []) m e = (digits_spelled 0 (b ∷ []) m e).2 (omega arith)
 number_fits (b ∷ d ∷ w) m e = (digits_spelled 0 (b ∷ d ∷ w) m (if_none _ _ m e).1).2 (omega arith)
 
+-- the decimal text of 0 is the byte `0`
 zero_word : (w : Word) (n : ℕ) → w ≡ decimal n → n ≡ 0 → w ≡ 48 ∷ []
 zero_word w n e f = e ∙ decimal_digit n (omega (arith, f)) ∙ ap (λ k. (48 + k) ∷ []) f
 
+-- more digits don't make a number smaller
 value_grows : (n : ℕ) (ds : List ℕ) → n ≤ digits_value_after 10 n ds
 value_grows n [] = omega arith
 value_grows n (c ∷ cs) = omega (arith, value_grows (n * 10 + digit_value c) cs)
 
+-- a byte with a digit's value is one from `0` to `9`
 pub digit_range : (c : ℕ) → digit_value c < 10 → (48 ≤ c) × (c ≤ 57)
 digit_range c h = digit_at (c ∷ []) 0 (h, tt) (omega arith)
 
+-- digits whose value fits 63 bits are read as it
 digits_read : (n : ℕ) (ds : List ℕ) → AllDigits 10 ds → digits_value_after 10 n ds < 2 ^ 63 → digits_behind n ds ≡ Some (digits_value_after 10 n ds)
 digits_read n [] a h = refl
 digits_read n (c ∷ cs) a h =
@@ -116,6 +130,7 @@ above_zero : (n : ℕ) → (n == 0) ≡ false → 0 < n
 above_zero zero z = absurd (true≢false z)
 above_zero (suc n) z = omega arith
 
+-- the decimal text of a number that fits is read as it
 pub number_read : (n : ℕ) → n < 2 ^ 63 → number_in (decimal n) ≡ Some n
 number_read n h = by_digits (decimal n) refl
   where
@@ -145,6 +160,7 @@ abbrev pub SpellsLit : ℕ → Word → Option Lit → Type 0
 SpellsLit vars w None = w ≡ codes "0"
 SpellsLit vars w (Some l) = (w ≡ lit_word l) × HasVariable vars l
 
+-- a literal that is found among the variables has this number and sign, and one of these variables
 within_found : (vars : ℕ) (p : Bool) (n : ℕ) (l : Lit) → within vars p n ≡ Some l → (l ≡ record { var = n; positive = p }) × (1 ≤ n) × (n ≤ vars)
 within_found vars p n l h =
     let a = if_some (nat_le 1 n && nat_le n vars) (Some record { var = n; positive = p }) l h in
@@ -152,14 +168,17 @@ within_found vars p n l h =
     let same : ◌≡◌ {A = Lit} (record { var = n; positive = p }) l = cc in
     (sym same, leb-true _ _ b.0, leb-true _ _ b.1)
 
+-- a mapped value comes from one that was there
 mapped : {X Y : Type 0} (f : X → Y) (o : Option X) (y : Y) → option_map f o ≡ Some y → (x : X) × (o ≡ Some x) × (f x ≡ y)
 mapped f None y h = absurd cc
 mapped f (Some x) y h = (x, refl, cc)
 
+-- a value behind a first one comes from it
 bound : {X Y : Type 0} (o : Option X) (f : X → Option Y) (y : Y) → (o >>= f) ≡ Some y → (x : X) × (o ≡ Some x) × (f x ≡ Some y)
 bound None f y h = absurd cc
 bound (Some x) f y h = (x, refl, h)
 
+-- a word without a sign that is read as a literal spells it
 unsigned_found : (vars : ℕ) (w : Word) (o : Option Lit) → number_in w >>= plain vars ≡ Some o → SpellsLit vars w o
 unsigned_found vars w o h = by_number (cases_Bool (n == 0))
   where
@@ -181,6 +200,7 @@ unsigned_found vars w o h = by_number (cases_Bool (n == 0))
         let s = within_found vars true n m.0 m.1 in
         subst (SpellsLit vars w) m.2 (number_spelled w n found.1 ∙ ap lit_word (sym s.0), subst (HasVariable vars) (sym s.0) (s.1, s.2))
 
+-- a word behind a `-` that is read as a literal spells it
 negative_found : (vars : ℕ) (w : Word) (o : Option Lit) → (number_in w >>= λ n. option_map Some (within vars false n)) ≡ Some o → SpellsLit vars (45 ∷ w) o
 negative_found vars w o h =
     let f = bound (number_in w) (λ n. option_map Some (within vars false n)) o h in
@@ -188,6 +208,7 @@ negative_found vars w o h =
     let s = within_found vars false f.0 m.0 m.1 in
     subst (SpellsLit vars (45 ∷ w)) m.2 (ap (λ u. 45 ∷ u) (number_spelled w f.0 f.1) ∙ ap lit_word (sym s.0), subst (HasVariable vars) (sym s.0) (s.1, s.2))
 
+-- a word that is read as a literal, or as the word 0, spells it
 signed_found : (vars : ℕ) (w : Word) (o : Option Lit) → signed vars w ≡ Some o → SpellsLit vars w o
 signed_found vars [] o h = absurd cc
 signed_found vars (b ∷ w) o h = by_sign (cases_Bool (b == 45))
@@ -196,16 +217,19 @@ signed_found vars (b ∷ w) o h = by_sign (cases_Bool (b == 45))
     by_sign (inl z) = subst (λ c. SpellsLit vars (c ∷ w) o) (sym (eqb-true b 45 z)) (negative_found vars w o (ap (λ t. if t then negative_in vars w else unsigned_in vars (b ∷ w)) (sym z) ∙ h))
     by_sign (inr z) = unsigned_found vars (b ∷ w) o (ap (λ t. if t then negative_in vars w else unsigned_in vars (b ∷ w)) (sym z) ∙ h)
 
+-- a list that was found with one more in front comes from the list behind it
 first_some : {X : Type 0} (x : X) (r : Found (List X)) (y : List X × List Word) → with_first x r ≡ Some y → (z : List X × List Word) × (r ≡ Some z) × ((x ∷ z.0, z.1) ≡ y)
 first_some x None y h = absurd cc
 first_some x (Some z) y h = (z, refl, cc)
 
 -- ---- clauses
 
+-- these words begin with the literals of a clause and a 0, over the variables
 pub record SpellsLits (vars : ℕ) (ws : List Word) (x : List Lit × List Word) : Type 0 where
   pub words : ws ≡ clause_words x.0 ++ x.1
   pub valid : HasVariables vars x.0
 
+-- literals that are read are what the words spell
 pub lits_found : (vars : ℕ) (ws : List Word) (x : List Lit × List Word) → lits_in vars ws ≡ Some x → SpellsLits vars ws x
 lits_found vars [] x h = absurd cc
 lits_found vars (w ∷ ws) x h = by_lit (lits_found vars ws) (signed vars w) refl h
@@ -221,17 +245,21 @@ lits_found vars (w ∷ ws) x h = by_lit (lits_found vars ws) (signed vars w) ref
         let s = signed_found vars w (Some l) e in
         subst (SpellsLits vars (w ∷ ws)) f.2 (record { words = ap (λ v. v ∷ ws) s.0 ∙ ap (λ vs. lit_word l ∷ vs) m.words; valid = (s.1, m.valid) })
 
+-- literals that are read are over the variables
 pub lits_valid : (vars : ℕ) (ws rest : List Word) (lits : List Lit) → lits_in vars ws ≡ Some (lits, rest) → HasVariables vars lits
 lits_valid vars ws rest lits h = (lits_found vars ws (lits, rest) h).valid
 
+-- the same, where the number of variables is told otherwise
 pub lits_have : (vars n : ℕ) (ws rest : List Word) (lits : List Lit) → lits_in vars ws ≡ Some (lits, rest) → n ≡ vars → HasVariables n lits
 lits_have vars n ws rest lits h e = subst (λ k. HasVariables k lits) (sym e) (lits_valid vars ws rest lits h)
 
+-- what holds of all entries by recursion holds of each of them by its place
 pub all_indexed : {X : Type 0} (P : X → Type 0) (xs : List X) → AllByRecursion P xs → All P xs
 all_indexed P [] h k d l = absurd (omega arith)
 all_indexed P (x ∷ xs) h zero d l = h.0
 all_indexed P (x ∷ xs) h (suc k) d l = all_indexed P xs h.1 k d (omega arith)
 
+-- a literal of the variables is found among them
 within_read : (vars : ℕ) (l : Lit) → HasVariable vars l → within vars l.positive l.var ≡ Some l
 within_read vars l h = ap (λ b. if b then Some l else None) (ap (λ b. b && nat_le l.var vars) (le-leb _ _ h.0) ∙ le-leb _ _ h.1)
 
@@ -239,6 +267,7 @@ within_read vars l h = ap (λ b. if b then Some l else None) (ap (λ b. b && nat
 abbrev pub IsSmall : ℕ → Type 0
 IsSmall vars = vars < 2 ^ 63
 
+-- the decimal text of a number has no sign
 no_minus : (w : Word) (n : ℕ) → n < 2 ^ 63 → w ≡ decimal n → (vars : ℕ) → signed vars w ≡ (number_in w >>= plain vars)
 no_minus [] n h e vars = absurd (let d = decimal_is_IsNumeral n (omega arith) in omega (arith, d.0.0, ap length e))
 no_minus (b ∷ w) n h e vars =
@@ -247,6 +276,7 @@ no_minus (b ∷ w) n h e vars =
     let r = digit_range b a.0 in
     ap (λ t. if t then negative_in vars w else unsigned_in vars (b ∷ w)) (ne_eqb b 45 (λ q. omega (arith, r.0, q)))
 
+-- the word of a literal is read as it
 signed_read : (vars : ℕ) (l : Lit) → IsSmall vars → HasVariable vars l → signed vars (lit_word l) ≡ Some (Some l)
 signed_read vars l small h = by_sign l.positive refl
   where
@@ -267,9 +297,11 @@ signed_read vars l small h = by_sign l.positive refl
         ∙ ap (λ q. option_map Some (within vars q l.var)) (sym e)
         ∙ ap (option_map Some) (within_read vars l h)
 
+-- the word 0 is read as the end
 zero_signed : (vars : ℕ) → signed vars (codes "0") ≡ Some None
 zero_signed vars = refl
 
+-- the words of a clause are read as its literals
 pub lits_read : (vars : ℕ) (lits : List Lit) (rest : List Word) → IsSmall vars → HasVariables vars lits → lits_in vars (clause_words lits ++ rest) ≡ Some (lits, rest)
 lits_read vars [] rest small h = ap (λ o. lits_or o (lits_in vars rest) rest) (zero_signed vars)
 lits_read vars (l ∷ lits) rest small h =
@@ -278,21 +310,25 @@ lits_read vars (l ∷ lits) rest small h =
 
 -- ---- counts and fixed words
 
+-- what is found with words behind it is found, and these are behind it
 with_found : {X : Type 0} (ws : List Word) (o : Option X) (x : X × List Word) → with_words ws o ≡ Some x → (o ≡ Some x.0) × (ws ≡ x.1)
 with_found ws None x h = absurd cc
 with_found {X} ws (Some y) x h =
     let same : ◌≡◌ {A = X × List Word} (y, ws) x = cc in
     (ap (λ (p : X × List Word). Some p.0) same, ap (λ (p : X × List Word). p.1) same)
 
+-- a number that is read is the first word's, in decimals, and fits 63 bits
 count_found : (ws : List Word) (x : ℕ × List Word) → count_in ws ≡ Some x → (ws ≡ decimal x.0 ∷ x.1) × (x.0 < 2 ^ 63)
 count_found [] x h = absurd cc
 count_found (w ∷ ws) x h =
     let f = with_found ws (number_in w) x h in
     (ap (λ v. v ∷ ws) (number_spelled w x.0 f.0) ∙ ap (λ vs. decimal x.0 ∷ vs) f.1, number_fits w x.0 f.0)
 
+-- the decimal text of a number is read as it
 count_read : (n : ℕ) (rest : List Word) → n < 2 ^ 63 → count_in (decimal n ∷ rest) ≡ Some (n, rest)
 count_read n rest h = ap (with_words rest) (number_read n h)
 
+-- a fixed word that is read is the first one
 word_found : (w : Word) (ws : List Word) (x : Unit {0} × List Word) → word_is w ws ≡ Some x → ws ≡ w ∷ x.1
 word_found w [] x h = absurd cc
 word_found w (v ∷ ws) x h =
@@ -300,11 +336,13 @@ word_found w (v ∷ ws) x h =
     let same : ◌≡◌ {A = Unit {0} × List Word} (tt, ws) x = cc in
     ap (λ u. u ∷ ws) ((bytes_eq-Decides v w).0 f.0) ∙ ap (λ (p : Unit {0} × List Word). w ∷ p.1) same
 
+-- a fixed word is read as itself
 word_read : (w : Word) (rest : List Word) → word_is w (w ∷ rest) ≡ Some (tt, rest)
 word_read w rest = ap (λ b. if b then Some (tt, rest) else None) ((bytes_eq-Decides w w).1 refl)
 
 -- ---- links
 
+-- these words begin with links and a 0, whose numbers fit and whose pivots are over the variables
 pub record SpellsLinks (vars : ℕ) (ws : List Word) (x : List Link × List Word) : Type 0 where
   pub words : ws ≡ flat_map link_words x.0 ++ (codes "0" ∷ x.1)
   pub valid : AllByRecursion (IsLinkWritten vars) x.0
@@ -323,16 +361,19 @@ one_link vars n w v us x (Some (Some l)) others e z s h =
       valid = (record { low = above_zero n z; fits = number_fits w n e; pivot = g.1 }, m.valid);
     })
 
+-- at the word 0 the links end
 no_link : (vars n : ℕ) (w : Word) (ws : List Word) (x : List Link × List Word) → number_in w ≡ Some n → (n == 0) ≡ true → Some ([], ws) ≡ Some x → SpellsLinks vars (w ∷ ws) x
 no_link vars n w ws x e z h =
     let same : ◌≡◌ {A = List Link × List Word} ([], ws) x = cc in
     subst (SpellsLinks vars (w ∷ ws)) same (record { words = ap (λ v. v ∷ ws) (zero_word w n (number_spelled w n e) (eqb-true n 0 z)); valid = tt })
 
 mutual
+  -- links that are read are what the words spell
   pub links_found : (vars : ℕ) (ws : List Word) (x : List Link × List Word) → links_in vars ws ≡ Some x → SpellsLinks vars ws x
   links_found vars [] x h = absurd cc
   links_found vars (w ∷ ws) x h = links_by vars (number_in w) w ws x refl h
 
+  -- the same, by the number that the first word is read as
   links_by : (vars : ℕ) (o : Option ℕ) (w : Word) (ws : List Word) (x : List Link × List Word) → number_in w ≡ o → links_behind vars o ws ≡ Some x → SpellsLinks vars (w ∷ ws) x
   links_by vars None w [] x e h = absurd cc
   links_by vars None w (v ∷ us) x e h = absurd cc
@@ -345,6 +386,7 @@ mutual
     | inr z ↦ one_link vars n w v us x (signed vars v) (links_found vars us) e z refl (ap (λ b. if b then Some ([], v ∷ us) else with_link n (signed vars v) (links_in vars us)) (sym z) ∙ h)
   ]
 
+-- the words of links are read as them
 pub links_read : (vars : ℕ) (links : List Link) (rest : List Word) → IsSmall vars → AllByRecursion (IsLinkWritten vars) links → links_in vars (flat_map link_words links ++ (codes "0" ∷ rest)) ≡ Some (links, rest)
 links_read vars [] [] small h = refl
 links_read vars [] (v ∷ rest) small h = refl
@@ -355,6 +397,7 @@ links_read vars (l ∷ links) rest small h =
     ∙ ap (λ o. with_link l.number o (links_in vars (flat_map link_words links ++ (codes "0" ∷ rest)))) (signed_read vars l.pivot small h.0.pivot)
     ∙ ap (with_first l) (links_read vars links rest small h.1)
 
+-- the images of a list with one more entry are those from before and its image
 pub map_more : {X Y : Type 0} (f : X → Y) (xs : List X) (x : X) → map f (xs ++ x ∷ []) ≡ map f xs ++ f x ∷ []
 map_more f [] x = refl
 map_more f (y ∷ xs) x = ap (λ l. f y ∷ l) (map_more f xs x)
@@ -369,6 +412,7 @@ pub record SpellsClauses (vars many : ℕ) (ws : List Word) (x : List (List Lit)
   pub valid : AllByRecursion (HasVariables vars) written
   pub read : x.0 ≡ map clause_of written
 
+-- clauses that are read are what the words spell
 pub clauses_found : (vars many : ℕ) (ws : List Word) (x : List (List Lit) × List Word) → clauses_in vars many ws ≡ Some x → SpellsClauses vars many ws x
 clauses_found vars zero ws x h =
     let same : ◌≡◌ {A = List (List Lit) × List Word} ([], ws) x = cc in
@@ -386,6 +430,7 @@ clauses_found vars (suc n) ws x h =
       read = ap (λ cs. clause_of a.0.0 ∷ cs) m.read;
     })
 
+-- the words of clauses are read as them, each in order and without repetition
 pub clauses_read : (vars : ℕ) (written : List (List Lit)) (rest : List Word) → IsSmall vars → AllByRecursion (HasVariables vars) written
     → clauses_in vars (length written) (flat_map clause_words written ++ rest) ≡ Some (map clause_of written, rest)
 clauses_read vars [] rest small h = refl
@@ -394,6 +439,7 @@ clauses_read vars (c ∷ written) rest small h =
     ∙ ap (λ r. r >>= λ x. with_first (clause_of x.0) (clauses_in vars (length written) x.1)) (lits_read vars c (flat_map clause_words written ++ rest) small h.0)
     ∙ ap (with_first (clause_of c)) (clauses_read vars written rest small h.1)
 
+-- these words begin with the words of a formula that is within bounds
 pub record SpellsFormula (ws : List Word) (x : Formula × List Word) : Type 0 where
   pub written : List (List Lit)
   pub words : ws ≡ codes "p" ∷ codes "cnf" ∷ decimal x.0.vars ∷ decimal (length written) ∷ (flat_map clause_words written ++ x.1)
@@ -402,6 +448,7 @@ pub record SpellsFormula (ws : List Word) (x : Formula × List Word) : Type 0 wh
   pub valid : AllByRecursion (HasVariables x.0.vars) written
   pub read : x.0 ≡ record { vars = x.0.vars; clauses = map clause_of written }
 
+-- a formula that is read is what the words spell
 pub formula_found : (ws : List Word) (x : Formula × List Word) → formula_in ws ≡ Some x → SpellsFormula ws x
 unfolding formula_in
 formula_found ws x h =
@@ -425,6 +472,7 @@ formula_found ws x h =
       read = ap (λ ys. record { vars = v.0.0; clauses = ys }) m.read;
     })
 
+-- the words of a formula are read as it
 pub formula_read : (vars : ℕ) (written : List (List Lit)) (rest : List Word) → vars ≤ 2 ^ 31 → length written < 2 ^ 63 → AllByRecursion (HasVariables vars) written
     → formula_in (codes "p" ∷ codes "cnf" ∷ decimal vars ∷ decimal (length written) ∷ (flat_map clause_words written ++ rest)) ≡ Some (record { vars = vars; clauses = map clause_of written }, rest)
 unfolding formula_in
@@ -436,20 +484,24 @@ formula_read vars written rest small short h =
 
 -- ---- steps and logs
 
+-- a step as it is read: its clause in order and without repetition
 abbrev pub read_step : Step → Step
 read_step s = record { clause = clause_of s.clause; start = s.start; chain = s.chain }
 
+-- these words begin with the words of a step over the variables
 pub record SpellsStep (vars : ℕ) (ws : List Word) (x : Step × List Word) : Type 0 where
   pub written : Step
   pub words : ws ≡ step_words written ++ x.1
   pub valid : IsStepWritten vars written
   pub read : x.0 ≡ read_step written
 
+-- the parts of a step's words, one behind the other, are its words
 step_text : (lits : List Lit) (start : ℕ) (chain : List Link) (rest : List Word)
     → clause_words lits ++ (decimal start ∷ (flat_map link_words chain ++ (codes "0" ∷ rest))) ≡ step_words (record { clause = lits; start = start; chain = chain }) ++ rest
 step_text lits start chain rest =
     ap (λ us. clause_words lits ++ (decimal start ∷ us)) (sym (append_assoc (flat_map link_words chain) (codes "0" ∷ []) rest)) ∙ sym (append_assoc (clause_words lits) (chain_words start chain) rest)
 
+-- a step that is read is what the words spell
 pub step_found : (vars : ℕ) (ws : List Word) (x : Step × List Word) → step_in vars ws ≡ Some x → SpellsStep vars ws x
 unfolding step_in
 step_found vars ws x h =
@@ -467,6 +519,7 @@ step_found vars ws x h =
       read = refl;
     })
 
+-- the words of a step are read as it
 pub step_read : (vars : ℕ) (s : Step) (rest : List Word) → IsSmall vars → IsStepWritten vars s → step_in vars (step_words s ++ rest) ≡ Some (read_step s, rest)
 unfolding step_in
 step_read vars s rest small h =
@@ -476,6 +529,7 @@ step_read vars s rest small h =
     ∙ ap (λ r. r >>= λ n. links_in vars n.1 >>= λ c. Some (record { clause = clause_of s.clause; start = n.0; chain = c.0 }, c.1)) (count_read s.start tail h.fits)
     ∙ ap (λ r. r >>= λ c. Some (record { clause = clause_of s.clause; start = s.start; chain = c.0 }, c.1)) (links_read vars s.chain rest small h.links)
 
+-- these words begin with the words of so many steps
 pub record SpellsSteps (vars many : ℕ) (ws : List Word) (x : List Step × List Word) : Type 0 where
   pub written : List Step
   pub words : ws ≡ flat_map step_words written ++ x.1
@@ -483,6 +537,7 @@ pub record SpellsSteps (vars many : ℕ) (ws : List Word) (x : List Step × List
   pub valid : AllByRecursion (IsStepWritten vars) written
   pub read : x.0 ≡ map read_step written
 
+-- steps that are read are what the words spell
 pub steps_found : (vars many : ℕ) (ws : List Word) (x : List Step × List Word) → steps_in vars many ws ≡ Some x → SpellsSteps vars many ws x
 steps_found vars zero ws x h =
     let same : ◌≡◌ {A = List Step × List Word} ([], ws) x = cc in
@@ -500,6 +555,7 @@ steps_found vars (suc n) ws x h =
       read = ap (λ s. s ∷ f.0.0) l.read ∙ ap (λ ss. read_step l.written ∷ ss) m.read;
     })
 
+-- the words of steps are read as them
 pub steps_read : (vars : ℕ) (written : List Step) (rest : List Word) → IsSmall vars → AllByRecursion (IsStepWritten vars) written
     → steps_in vars (length written) (flat_map step_words written ++ rest) ≡ Some (map read_step written, rest)
 steps_read vars [] rest small h = refl
@@ -508,6 +564,7 @@ steps_read vars (s ∷ written) rest small h =
     ∙ ap (λ r. r >>= λ x. with_first x.0 (steps_in vars (length written) x.1)) (step_read vars s (flat_map step_words written ++ rest) small h.0)
     ∙ ap (with_first (read_step s)) (steps_read vars written rest small h.1)
 
+-- these words begin with the words of a log
 pub record SpellsLog (vars : ℕ) (ws : List Word) (x : List Step × List Word) : Type 0 where
   pub written : List Step
   pub words : ws ≡ codes "log" ∷ decimal (length written) ∷ (flat_map step_words written ++ x.1)
@@ -515,6 +572,7 @@ pub record SpellsLog (vars : ℕ) (ws : List Word) (x : List Step × List Word) 
   pub valid : AllByRecursion (IsStepWritten vars) written
   pub read : x.0 ≡ map read_step written
 
+-- a log that is read is what the words spell
 pub log_found : (vars : ℕ) (ws : List Word) (x : List Step × List Word) → log_in vars ws ≡ Some x → SpellsLog vars ws x
 unfolding log_in
 log_found vars ws x h =
@@ -530,6 +588,7 @@ log_found vars ws x h =
       read = m.read;
     }
 
+-- the words of a log are read as it
 pub log_read : (vars : ℕ) (written : List Step) (rest : List Word) → IsSmall vars → length written < 2 ^ 63 → AllByRecursion (IsStepWritten vars) written
     → log_in vars (codes "log" ∷ decimal (length written) ∷ (flat_map step_words written ++ rest)) ≡ Some (map read_step written, rest)
 unfolding log_in
@@ -538,17 +597,20 @@ log_read vars written rest small short h =
 
 -- ---- whole texts
 
+-- these words begin with the words of a formula and its log
 pub record SpellsBlock (ws : List Word) (x : Refutation × List Word) : Type 0 where
   pub written : Written
   pub words : ws ≡ block_words written ++ x.1
   pub valid : IsWritten written
   pub read : x.0 ≡ read_of written
 
+-- the parts of the words of a formula and its log, one behind the other, are these words
 block_text : (b : Written) (rest : List Word)
     → codes "p" ∷ codes "cnf" ∷ decimal b.vars ∷ decimal (length b.clauses) ∷ (flat_map clause_words b.clauses ++ (codes "log" ∷ decimal (length b.steps) ∷ (flat_map step_words b.steps ++ rest))) ≡ block_words b ++ rest
 block_text b rest =
     ap (λ us. codes "p" ∷ codes "cnf" ∷ decimal b.vars ∷ decimal (length b.clauses) ∷ us) (sym (append_assoc (flat_map clause_words b.clauses) (codes "log" ∷ decimal (length b.steps) ∷ flat_map step_words b.steps) rest))
 
+-- a formula and log that are read are what the words spell
 pub block_found : (ws : List Word) (x : Refutation × List Word) → block_in ws ≡ Some x → SpellsBlock ws x
 unfolding block_in
 block_found ws x h =
@@ -565,6 +627,7 @@ block_found ws x h =
       read = ap (λ (g : Formula). record { formula = g; steps = l.0.0 }) formula.read ∙ ap (λ ss. record { formula = record { vars = f.0.0.vars; clauses = map clause_of formula.written }; steps = ss }) log.read;
     })
 
+-- the words of a formula and its log are read as them
 pub block_read : (b : Written) (rest : List Word) → IsWritten b → block_in (block_words b ++ rest) ≡ Some (read_of b, rest)
 unfolding block_in
 block_read b rest h =
@@ -573,6 +636,7 @@ block_read b rest h =
     ∙ ap (λ r. r >>= λ f. log_in f.0.vars f.1 >>= λ l. Some (record { formula = f.0; steps = l.0 }, l.1)) (formula_read b.vars b.clauses log h.small (omega (arith, h.clause_count)) h.clauses)
     ∙ ap (λ r. r >>= λ l. Some (record { formula = record { vars = b.vars; clauses = map clause_of b.clauses }; steps = l.0 }, l.1)) (log_read b.vars b.steps rest (omega (arith, h.small)) (omega (arith, h.step_count)) h.steps)
 
+-- these words begin with the words of so many formulas with their logs
 pub record SpellsBlocks (many : ℕ) (ws : List Word) (x : List Refutation × List Word) : Type 0 where
   pub written : List Written
   pub words : ws ≡ flat_map block_words written ++ x.1
@@ -580,6 +644,7 @@ pub record SpellsBlocks (many : ℕ) (ws : List Word) (x : List Refutation × Li
   pub valid : AllByRecursion IsWritten written
   pub read : x.0 ≡ map read_of written
 
+-- formulas and logs that are read are what the words spell
 pub blocks_found : (many : ℕ) (ws : List Word) (x : List Refutation × List Word) → blocks_in many ws ≡ Some x → SpellsBlocks many ws x
 blocks_found zero ws x h =
     let same : ◌≡◌ {A = List Refutation × List Word} ([], ws) x = cc in
@@ -597,6 +662,7 @@ blocks_found (suc n) ws x h =
       read = ap (λ r. r ∷ f.0.0) l.read ∙ ap (λ rs. read_of l.written ∷ rs) m.read;
     })
 
+-- the words of formulas and logs are read as them
 pub blocks_read : (written : List Written) (rest : List Word) → AllByRecursion IsWritten written → blocks_in (length written) (flat_map block_words written ++ rest) ≡ Some (map read_of written, rest)
 blocks_read [] rest h = refl
 blocks_read (b ∷ written) rest h =
@@ -604,6 +670,7 @@ blocks_read (b ∷ written) rest h =
     ∙ ap (λ r. r >>= λ x. with_first x.0 (blocks_in (length written) x.1)) (block_read b (flat_map block_words written ++ rest) h.0)
     ∙ ap (with_first (read_of b)) (blocks_read written rest h.1)
 
+-- what is found where no word is left is all
 ended_is : {X : Type 0} (x : X × List Word) (y : X) → ended x ≡ Some y → (x.0 ≡ y) × (x.1 ≡ [])
 ended_is (x, []) y h = (cc, refl)
 ended_is (x, w ∷ ws) y h = absurd cc
@@ -637,6 +704,7 @@ proofs_read text ps h =
     ∙ ap (λ r. r >>= ended) (blocks_read h.blocks [] h.valid)
     ∙ ap Some (sym h.read)
 
+-- a text spells one list of formulas and logs at most
 pub one_list : (text : List ℕ) (ps qs : List Refutation) → IsProofText text ps → IsProofText text qs → ps ≡ qs
 one_list text ps qs h k = let same : ◌≡◌ {A = Option (List Refutation)} (Some ps) (Some qs) = sym (proofs_read text ps h) ∙ proofs_read text qs k in cc
 
@@ -644,11 +712,14 @@ one_list text ps qs h k = let same : ◌≡◌ {A = Option (List Refutation)} (S
 pub text_found : (text : List ℕ) (ps : List Refutation) → proofs_in (words_left true text) ≡ Some ps → IsProofText text ps
 text_found text ps h = proofs_found text ps (ap proofs_in (sym (words_left-all text)) ∙ h)
 
+-- what a text spells is read from its words
 pub text_read : (text : List ℕ) (ps : List Refutation) → IsProofText text ps → proofs_in (words_left true text) ≡ Some ps
 text_read text ps h = ap proofs_in (words_left-all text) ∙ proofs_read text ps h
 
+-- and nothing else is
 pub text_same : (text : List ℕ) (found ps : List Refutation) → proofs_in (words_left true text) ≡ Some found → IsProofText text ps → found ≡ ps
 text_same text found ps h k = let same : ◌≡◌ {A = Option (List Refutation)} (Some found) (Some ps) = sym h ∙ text_read text ps k in cc
 
+-- a text that isn't read spells nothing
 pub text_none : (text : List ℕ) (ps : List Refutation) → proofs_in (words_left true text) ≡ None → IsProofText text ps → ⊥
 text_none text ps h k = none-some ps (sym h ∙ text_read text ps k)

@@ -93,6 +93,7 @@ with_link n (Some None) more = None
 with_link n (Some (Some l)) more = with_first (record { number = n; pivot = l }) more
 
 abbrev mutual
+  -- links up to the word 0
   pub links_in : ℕ → List Word → Found (List Link)
   links_in vars [] = None
   links_in vars (w ∷ ws) = links_behind vars (number_in w) ws

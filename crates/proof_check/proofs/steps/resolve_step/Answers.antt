@@ -13,6 +13,7 @@ use Rattle.proof_check.proofs.Chains.{if_cause}
 use Rattle.proof_check.proofs.steps.resolve_step.Goals as goal
 use Rattle.proof_check.proofs.steps.resolve_step.Goals.{After-follow_chain}
 
+-- the clause that was loaded is the one with which the step's chain begins
 found_at : (c : After-follow_chain) → numbered (earlier_of c.args.cnf.now c.args.steps.now) c.args.step.now.start ≡ Some c.load.new.into.items
 found_at c = when_true _ _ c.if-not-found.false c.in_ok-found.ensures
 

@@ -13,6 +13,7 @@ use Rattle.proof_check.specs.Refuted.{Refutation, refutation}
 use Rattle.proof_check.proofs.Spelling.{text_found, text_same, text_none}
 use Rattle.proof_check.proofs.text.read_proofs.Goals as goal
 
+-- what holds besides can be told with a refusal
 also : (e : Fault) (P : Refusal → Type 0) (Q : Type 0) → Q → IfRefused e P → IfRefused e (λ r. P r × Q)
 also (Refused r) P Q q h = (h, q)
 also (Memory m) P Q q h = tt
