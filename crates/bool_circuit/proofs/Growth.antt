@@ -10,9 +10,11 @@ use Rattle.bool_circuit.specs.Sharing.{IsSharing, IsOperation}
 use Rattle.bool_circuit.specs.Placed.{IsPlaced}
 use Rattle.bool_circuit.proofs.Values.{wire_value-append, wire_value-at, gate_value-same}
 
+-- a circuit that stays has grown by nothing
 pub grows_self : (gates : List Gate) → Grows gates gates
 grows_self gates = record { more = omega arith; front = take_all (length gates) gates (omega arith); values = λ inputs k h. refl }
 
+-- one gate more leaves the old ones and their values
 pub grows_push : (gates : List Gate) (g : Gate) → Grows gates (gates ++ g ∷ [])
 grows_push gates g = record {
   more = omega (arith, length_push gates g);
@@ -20,6 +22,7 @@ grows_push gates g = record {
   values = λ inputs k h. wire_value-append inputs gates (g ∷ []) k h;
 }
 
+-- a circuit that grew twice has grown
 pub grows_more : (a b c : List Gate) → Grows a b → Grows b c → Grows a c
 grows_more a b c f g = record {
   more = let p = f.more in let q = g.more in omega arith;
@@ -34,15 +37,18 @@ at_push [] g (suc k) h e = absurd cc
 at_push (x ∷ gates) g zero h e = inl e
 at_push (x ∷ gates) g (suc k) h e = elim (at_push gates g k h e) [ inl p ↦ inl p | inr p ↦ inr (ap suc p.0, p.1) ]
 
+-- a gate keeps its place when one is put last
 pub stays : (gates : List Gate) (g : Gate) (k : ℕ) (h : Gate) → slice_get gates k ≡ Some h → slice_get (gates ++ g ∷ []) k ≡ Some h
 stays [] g k h e = absurd cc
 stays (x ∷ gates) g zero h e = e
 stays (x ∷ gates) g (suc k) h e = stays gates g k h e
 
+-- the gate that is put last stands at the end
 pub last_stands : (gates : List Gate) (g : Gate) → slice_get (gates ++ g ∷ []) (length gates) ≡ Some g
 last_stands [] g = refl
 last_stands (x ∷ gates) g = last_stands gates g
 
+-- one operation more leaves the number of inputs
 pub input_count-push : (gates : List Gate) (g : Gate) → IsOperation g → input_count (gates ++ g ∷ []) ≡ input_count gates
 input_count-push [] (Input i) h = absurd h
 input_count-push [] (Constant b) h = refl
@@ -55,6 +61,7 @@ input_count-push (Not a ∷ gates) g h = input_count-push gates g h
 input_count-push (And a b ∷ gates) g h = input_count-push gates g h
 input_count-push (Mux c a b ∷ gates) g h = input_count-push gates g h
 
+-- one input more makes it one greater
 pub input_count-push_input : (gates : List Gate) (i : ℕ) → input_count (gates ++ Input i ∷ []) ≡ input_count gates + 1
 input_count-push_input [] i = refl
 input_count-push_input (Input j ∷ gates) i = let e = input_count-push_input gates i in omega arith
@@ -63,6 +70,7 @@ input_count-push_input (Not a ∷ gates) i = input_count-push_input gates i
 input_count-push_input (And a b ∷ gates) i = input_count-push_input gates i
 input_count-push_input (Mux c a b ∷ gates) i = input_count-push_input gates i
 
+-- there are no more inputs than gates
 pub input_count_within : (gates : List Gate) → input_count gates ≤ length gates
 input_count_within [] = omega arith
 input_count_within (Input i ∷ gates) = let e = input_count_within gates in omega arith
@@ -83,21 +91,25 @@ input_below (Mux c a b ∷ gates) (suc k) i e = input_below gates k i e
 
 -- one more gate, which stands on wires that are there, and is not there yet
 module _ (gates : List Gate) (g : Gate) (s : IsSharing gates) (new : (k : ℕ) → slice_get gates k ≢ Some g) (below : OperandsBelow (length gates) g) where
+  -- with a gate put last whose operands stand there, each gate stands on wires ahead of it
   operands_push : (k : ℕ) (h : Gate) → slice_get (gates ++ g ∷ []) k ≡ Some h → OperandsBelow k h
   operands_push k h e = elim (at_push gates g k h e) [
     | inl p ↦ s.circuit.operands k h p
     | inr p ↦ subst (OperandsBelow k) p.1 (subst (λ n. OperandsBelow n g) (sym p.0) below)
   ]
 
+  -- with a gate put last that stood nowhere, each gate stands once
   once_push : (j k : ℕ) (h : Gate) → slice_get (gates ++ g ∷ []) j ≡ Some h → slice_get (gates ++ g ∷ []) k ≡ Some h → j ≡ k
   once_push j k h d e = elim (at_push gates g j h d) [
     | inl p ↦ elim (at_push gates g k h e) [ inl q ↦ s.once j k h p q | inr q ↦ absurd (new j (p ∙ ap Some (sym q.1))) ]
     | inr p ↦ elim (at_push gates g k h e) [ inl q ↦ absurd (new k (q ∙ ap Some (sym p.1))) | inr q ↦ p.0 ∙ sym q.0 ]
   ]
 
+  -- the fronts of the old gates stay
   front_push : (k : ℕ) → k ≤ length gates → take k (gates ++ g ∷ []) ≡ take k gates
   front_push k h = take-append-le k gates (g ∷ []) h
 
+  -- a gate that is new, whose operands stand there in order, leaves equal gates shared
   pub sharing_push : ((i : ℕ) → g ≡ Input i → i ≡ input_count gates) → ((a b : Wire) → g ≡ And a b → a.0 ≤ b.0) → IsSharing (gates ++ g ∷ [])
   sharing_push place order = record {
     circuit = record {
@@ -119,19 +131,24 @@ place_below gates k (Not a) s e = tt
 place_below gates k (And a b) s e = tt
 place_below gates k (Mux c a b) s e = tt
 
+-- an operation is no input
 no_input : (g : Gate) (i : ℕ) → IsOperation g → g ≡ Input i → ⊥
 no_input g i o e = subst IsOperation e o
 
+-- an `And` that is an operation has its operands in order
 in_order : (g : Gate) (a b : Wire) → IsOperation g → g ≡ And a b → a.0 ≤ b.0
 in_order g a b o e = subst IsOperation e o
 
 module _ (old : List Gate) (g : Gate) (new : List Gate) (p : IsPlaced old g new) where
+  -- to put a gate in lets the circuit grow
   pub placed_grows : Grows old new
   placed_grows = elim p [ inl e ↦ subst (Grows old) (sym e) (grows_self old) | inr e ↦ subst (Grows old) (sym e.0) (grows_push old g) ]
 
+  -- to put an operation in leaves the number of inputs
   pub placed_inputs : IsOperation g → input_count new ≡ input_count old
   placed_inputs o = elim p [ inl e ↦ ap input_count e | inr e ↦ ap input_count e.0 ∙ input_count-push old g o ]
 
+  -- to put an operation in leaves equal gates shared
   pub placed_sharing : IsSharing old → OperandsBelow (length old) g → IsOperation g → IsSharing new
   placed_sharing s below o = elim p [
     | inl e ↦ subst IsSharing (sym e) s
@@ -149,17 +166,21 @@ value_in old new w g s f below at inputs =
 pub new_input : (gates : List Gate) → IsCircuit gates → (k : ℕ) → slice_get gates k ≢ Some (Input (input_count gates))
 new_input gates s k e = let a = s.places k (input_count gates) e in let b = input_below gates k (input_count gates) e in omega arith
 
+-- one input more leaves equal gates shared
 pub input_sharing : (gates : List Gate) → IsSharing gates → IsSharing (gates ++ Input (input_count gates) ∷ [])
 input_sharing gates s = sharing_push gates (Input (input_count gates)) s (new_input gates s.circuit) tt (λ i e. cc) (λ a b e. cc)
 
 -- putting the next input
 module _ (old new : List Gate) (w : ℕ) (s : IsSharing old) (p : IsPlaced old (Input (input_count old)) new) (at : slice_get new w ≡ Some (Input (input_count old))) where
+  -- the next input is new, so it stands last
   pub placed_last : new ≡ old ++ Input (input_count old) ∷ []
   placed_last = elim p [ inl e ↦ absurd (new_input old s.circuit w (ap (λ gs. slice_get gs w) (sym e) ∙ at)) | inr e ↦ e.0 ]
 
+  -- to put the next input in leaves equal gates shared
   pub placed_input_sharing : IsSharing new
   placed_input_sharing = subst IsSharing (sym placed_last) (input_sharing old s)
 
+  -- and makes their number one greater
   pub placed_input_count : input_count new ≡ input_count old + 1
   placed_input_count = ap input_count placed_last ∙ input_count-push_input old (input_count old)
 

@@ -17,34 +17,41 @@ value_more gates inputs into k g at within so_far =
     ∙ sym (wire_values-push inputs (take k gates) g)
     ∙ ap (wire_values inputs) (sym (take_more gates k g (slice_get_within gates k g at) ∙ ap (λ x. take k gates ++ x ∷ []) (get_or_from_slice_get gates k g g at)))
 
+-- how conjunctions are nested doesn't matter
 and_assoc : (x y z : Bool) → (x && y) && z ≡ x && (y && z)
 and_assoc true y z = refl
 and_assoc false y z = refl
 
+-- a conjunction with true is its other side
 and_true : (x : Bool) → x && true ≡ x
 and_true true = refl
 and_true false = refl
 
+-- of a conjunction that is true the left side is true
 true_from_and_left : (x y : Bool) → x && y ≡ true → x ≡ true
 true_from_and_left true y h = refl
 true_from_and_left false y h = h
 
+-- of a conjunction that is true the right side is true
 true_from_and_right : (x y : Bool) → x && y ≡ true → y ≡ true
 true_from_and_right true y h = h
 true_from_and_right false y h = absurd (true≢false (sym h))
 
+-- truth values that are told to be the same are
 same_from_truth : (x y : Bool) → same_truth x y ≡ true → x ≡ y
 same_from_truth true true h = refl
 same_from_truth true false h = absurd (true≢false (sym h))
 same_from_truth false true h = absurd (true≢false (sym h))
 same_from_truth false false h = refl
 
+-- and truth values that are the same are told to be
 truth_from_same : (x y : Bool) → x ≡ y → same_truth x y ≡ true
 truth_from_same true y h = sym h
 truth_from_same false true h = absurd (true≢false (sym h))
 truth_from_same false false h = refl
 
 module _ (v : ℕ → Bool) where
+  -- lists of wires that are told to agree have the same values place by place
   agree_from : (left right : List Wire) → agreement v left right ≡ true → Agree v left right
   agree_from [] right h i a b p q = absurd cc
   agree_from (x ∷ left) [] h i a b p q = absurd cc
@@ -54,6 +61,7 @@ module _ (v : ℕ → Bool) where
   agree_from (x ∷ left) (y ∷ right) h (suc i) a b p q =
       agree_from left right (true_from_and_right (same_truth (v x.0) (v y.0)) (agreement v left right) h) i a b p q
 
+  -- and lists that do are told to agree
   agree_to : (left right : List Wire) → Agree v left right → agreement v left right ≡ true
   agree_to [] right h = refl
   agree_to (x ∷ left) [] h = refl
@@ -65,6 +73,7 @@ module _ (v : ℕ → Bool) where
       → agreement v (drop i left) (drop i right) ≡ (same_truth (v (get_or left i d).0) (v (get_or right i d).0) && agreement v (drop (i + 1) left) (drop (i + 1) right))
   agreement_more left right i d h k = ap (λ ws. agreement v ws (drop i right)) (drop_more left i d h) ∙ ap (λ ws. agreement v (get_or left i d ∷ drop (i + 1) left) ws) (drop_more right i d k)
 
+  -- past its end a list of wires agrees with any
   pub agreement_all : (left right : List Wire) (i : ℕ) → length left ≤ i → agreement v (drop i left) (drop i right) ≡ true
   agreement_all left right i h = ap (λ ws. agreement v ws (drop i right)) (drop_all i left h)
 

@@ -10,6 +10,7 @@ use Rattle.bool_circuit.specs.declared.gate.Gate.TheVariants.{And}
 use Rattle.bool_circuit.specs.Gates.{IsAndOver}
 use Rattle.bool_circuit.specs.Sharing.{IsSharing}
 
+-- a gate that is put in unless it is found stood there already, or is new and stands last
 pub placed : {X : Type 0} (eq : X → X → Bool) → (old new : List X) (g : X) → new ≡ (if list_any (eq g) old then old else old ++ g ∷ []) → ((x : X) → eq x x ≡ true)
     → (new ≡ old) ⊎ ((new ≡ old ++ g ∷ []) × ((k : ℕ) → slice_get old k ≢ Some g))
 placed eq old new g e same = by (list_any (eq g) old) refl
@@ -30,6 +31,7 @@ absent_at eq ks g e same k there = true≢false (sym (any_passes_from_place (eq 
 
 -- an `And` gate stands once, in whichever order its operands are named
 module _ (gates : List Gate) (s : IsSharing gates) (low high : Wire) (order : low.0 ≤ high.0) where
+  -- an `And` gate over two wires has them in order
   in_order : (k : ℕ) → IsAndOver gates low high k → slice_get gates k ≡ Some (And low high)
   in_order k h = elim h [
     | inl e ↦ e
@@ -39,8 +41,10 @@ module _ (gates : List Gate) (s : IsSharing gates) (low high : Wire) (order : lo
         e ∙ ap (λ w. Some (And w low)) (sym same) ∙ ap (λ w. Some (And low w)) same
   ]
 
+  -- there is one `And` gate over two wires at most, in either order
   pub one_and : (w k : ℕ) → slice_get gates w ≡ Some (And low high) → IsAndOver gates low high k → w ≡ k
   one_and w k at h = s.once w k (And low high) at (in_order k h)
 
+  -- where the one with its wires in order doesn't stand, neither does the other
   pub no_and : ((k : ℕ) → slice_get gates k ≢ Some (And low high)) → (k : ℕ) → IsAndOver gates low high k → ⊥
   no_and none k h = none k (in_order k h)

@@ -7,16 +7,19 @@ use Rattle.bool_circuit.specs.declared.gate.Gate.TheVariants.{Input, Constant, N
 use Rattle.bool_circuit.specs.Gates.{truth_at, gate_value, values_from, wire_values, wire_value, OperandsBelow, IsCircuit}
 
 module _ (inputs : ℕ → Bool) where
+  -- the values of gates and of more behind them are those of the first, and then of the others
   pub values_from-append : (known : List Bool) (gates more : List Gate) → values_from inputs known (gates ++ more) ≡ values_from inputs (values_from inputs known gates) more
   values_from-append known [] more = refl
   values_from-append known (g ∷ gates) more = values_from-append (known ++ gate_value inputs (truth_at known) g ∷ []) gates more
 
+  -- each gate has one value
   pub length-values_from : (known : List Bool) (gates : List Gate) → length (values_from inputs known gates) ≡ length known + length gates
   length-values_from known [] = sym (add-zero (length known))
   length-values_from known (g ∷ gates) =
       let rest = length-values_from (known ++ gate_value inputs (truth_at known) g ∷ []) gates in
       omega (arith, rest, length_push known (gate_value inputs (truth_at known) g))
 
+  -- each wire of a circuit has one value
   pub length-wire_values : (gates : List Gate) → length (wire_values inputs gates) ≡ length gates
   length-wire_values gates = let e = length-values_from [] gates in omega arith
 
@@ -27,11 +30,13 @@ module _ (inputs : ℕ → Bool) where
       let v = gate_value inputs (truth_at known) g in
       values_from-front (known ++ v ∷ []) gates k (omega (arith, length_push known v)) ∙ get_or_append_left known (v ∷ []) false k h
 
+  -- gates behind a wire don't change its value
   pub wire_value-append : (gates more : List Gate) (k : ℕ) → k < length gates → wire_value (gates ++ more) inputs k ≡ wire_value gates inputs k
   wire_value-append gates more k h =
       ap (λ vs. truth_at vs k) (values_from-append [] gates more)
       ∙ values_from-front (wire_values inputs gates) more k (omega (arith, length-wire_values gates))
 
+  -- the value of a gate that is put last is what it says of the wires ahead
   pub wire_values-push : (gates : List Gate) (g : Gate) → wire_values inputs (gates ++ g ∷ []) ≡ wire_values inputs gates ++ gate_value inputs (truth_at (wire_values inputs gates)) g ∷ []
   wire_values-push gates g = values_from-append [] gates (g ∷ [])
 

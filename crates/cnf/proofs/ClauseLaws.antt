@@ -18,12 +18,15 @@ same_truths true y f g = sym (f refl)
 same_truths false true f g = g refl
 same_truths false false f g = refl
 
+-- literals with one place in the order are one
 pub same_is : (l m : Lit) → same_lit l m ≡ true → l ≡ m
 same_is l m h = ties_are_same l m (eqb-true (lit_place l) (lit_place m) h)
 
+-- a literal has one place in the order
 pub same_self : (l m : Lit) → l ≡ m → same_lit l m ≡ true
 same_self l m h = eq-eqb (lit_place l) (lit_place m) (ap lit_place h)
 
+-- literals with different places are different
 pub differs : (l m : Lit) → (lit_place l ≡ lit_place m → ⊥) → same_lit l m ≡ false
 differs l m h = ne_eqb (lit_place l) (lit_place m) h
 
@@ -32,11 +35,13 @@ pub absent_below : (l : Lit) (c : List Lit) → AllByRecursion (λ m. lit_place 
 absent_below l [] h = refl
 absent_below l (m ∷ c) h = let below = h.0 in ap (λ b. b || has_lit c l) (differs l m (λ e. omega arith)) ∙ absent_below l c h.1
 
+-- what is below a clause's first literal is below all of it
 pub below_more : (l m : Lit) (c : List Lit) → lit_place l ≤ lit_place m → AllByRecursion (λ x. lit_place m < lit_place x) c → AllByRecursion (λ x. lit_place l < lit_place x) c
 below_more l m [] h all = tt
 below_more l m (x ∷ c) h all = (let a = all.0 in omega arith, below_more l m c h all.1)
 
 -- ---- one more literal
+-- which of two literals comes first matters to no literal that is looked for
 has_other : (l m x : Lit) (c : List Lit) → (same_lit x m || (same_lit x l || has_lit c x)) ≡ (same_lit x l || (same_lit x m || has_lit c x))
 has_other l m x c = swap (same_lit x m) (same_lit x l) (has_lit c x)
   where
@@ -45,6 +50,7 @@ has_other l m x c = swap (same_lit x m) (same_lit x l) (has_lit c x)
     swap true false d = refl
     swap false b d = refl
 
+-- what implies a side of a disjunction adds nothing to it
 or_twice : (a b d : Bool) → (a ≡ true → b ≡ true) → (b || d) ≡ (a || (b || d))
 or_twice true true d h = refl
 or_twice true false d h = absurd (true≢false (sym (h refl)))
@@ -54,16 +60,19 @@ or_twice false b d h = refl
 pub with_lit-below : (l m : Lit) (c : List Lit) → lit_place l < lit_place m → with_lit l (m ∷ c) ≡ l ∷ m ∷ c
 with_lit-below l m c h = ap (λ b. if b then l ∷ m ∷ c else (if same_lit l m then m ∷ c else m ∷ with_lit l c)) (lt-ltb (lit_place l) (lit_place m) h)
 
+-- a literal that stands first is put in without change
 pub with_lit-at : (l m : Lit) (c : List Lit) → lit_place l ≡ lit_place m → with_lit l (m ∷ c) ≡ m ∷ c
 with_lit-at l m c h =
     ap (λ b. if b then l ∷ m ∷ c else (if same_lit l m then m ∷ c else m ∷ with_lit l c)) (le-ltb (lit_place l) (lit_place m) (omega arith))
     ∙ ap (λ b. if b then m ∷ c else m ∷ with_lit l c) (eq-eqb (lit_place l) (lit_place m) h)
 
+-- a literal that comes behind the first one is put in behind it
 pub with_lit-above : (l m : Lit) (c : List Lit) → lit_place m < lit_place l → with_lit l (m ∷ c) ≡ m ∷ with_lit l c
 with_lit-above l m c h =
     ap (λ b. if b then l ∷ m ∷ c else (if same_lit l m then m ∷ c else m ∷ with_lit l c)) (le-ltb (lit_place l) (lit_place m) (omega arith))
     ∙ ap (λ b. if b then m ∷ c else m ∷ with_lit l c) (differs l m (λ e. omega arith))
 
+-- a literal stands in a clause with one more exactly where it stood there, or is that one
 pub has_lit-with_lit : (l : Lit) (c : List Lit) (x : Lit) → has_lit (with_lit l c) x ≡ (same_lit x l || has_lit c x)
 has_lit-with_lit l [] x = refl
 has_lit-with_lit l (m ∷ c) x = elim (cases_order (lit_place l) (lit_place m)) [
@@ -79,6 +88,7 @@ has_lit-with_lit l (m ∷ c) x = elim (cases_order (lit_place l) (lit_place m)) 
   ]
 ]
 
+-- literals that all come behind a place still do with one more that does
 all_with_lit : (k : ℕ) (l : Lit) (c : List Lit) → k < lit_place l → AllByRecursion (λ m. k < lit_place m) c → AllByRecursion (λ m. k < lit_place m) (with_lit l c)
 all_with_lit k l [] h all = (h, tt)
 all_with_lit k l (m ∷ c) h all = elim (cases_order (lit_place l) (lit_place m)) [
@@ -89,6 +99,7 @@ all_with_lit k l (m ∷ c) h all = elim (cases_order (lit_place l) (lit_place m)
   ]
 ]
 
+-- a clause with one more literal is a clause
 pub IsClause-with_lit : (l : Lit) (c : List Lit) → IsClause c → IsClause (with_lit l c)
 IsClause-with_lit l [] h = (tt, tt)
 IsClause-with_lit l (m ∷ c) h = elim (cases_order (lit_place l) (lit_place m)) [
@@ -99,16 +110,19 @@ IsClause-with_lit l (m ∷ c) h = elim (cases_order (lit_place l) (lit_place m))
   ]
 ]
 
+-- the clause of some literals is in order
 pub IsClause-clause_of : (lits : List Lit) → IsClause (clause_of lits)
 IsClause-clause_of [] = tt
 IsClause-clause_of (l ∷ lits) = IsClause-with_lit l (clause_of lits) (IsClause-clause_of lits)
 
+-- the clause of some literals has just these
 pub has_lit-clause_of : (lits : List Lit) (x : Lit) → has_lit (clause_of lits) x ≡ has_lit lits x
 has_lit-clause_of [] x = refl
 has_lit-clause_of (l ∷ lits) x = has_lit-with_lit l (clause_of lits) x ∙ ap (λ b. same_lit x l || b) (has_lit-clause_of lits x)
 
 -- ---- each set of literals has one clause
 module _ (l : Lit) (c d : List Lit) (in_c : IsClause (l ∷ c)) (in_d : IsClause (l ∷ d)) where
+  -- clauses with one first literal and the same literals have the same behind it
   same_rest : ((x : Lit) → has_lit (l ∷ c) x ≡ has_lit (l ∷ d) x) → (x : Lit) → has_lit c x ≡ has_lit d x
   same_rest same x = elim (cases_Bool (same_lit x l)) [
     | inl e ↦
@@ -117,11 +131,13 @@ module _ (l : Lit) (c d : List Lit) (in_c : IsClause (l ∷ c)) (in_d : IsClause
     | inr e ↦ ap (λ b. b || has_lit c x) (sym e) ∙ same x ∙ ap (λ b. b || has_lit d x) e
   ]
 
+-- of two clauses the one with the greater first literal lacks that of the other
 not_there : (l m : Lit) (c d : List Lit) → lit_place l < lit_place m → AllByRecursion (λ x. lit_place m < lit_place x) d → has_lit (l ∷ c) l ≡ has_lit (m ∷ d) l → ⊥
 not_there l m c d h all same =
     let below = absent_below l (m ∷ d) (h, below_more l m d (omega arith) all) in
     true≢false (ap (λ b. b || has_lit c l) (sym (same_self l l refl)) ∙ same ∙ below)
 
+-- clauses with the same literals are one
 pub one_clause : (c d : List Lit) → IsClause c → IsClause d → ((x : Lit) → has_lit c x ≡ has_lit d x) → c ≡ d
 one_clause [] [] h k same = refl
 one_clause [] (m ∷ d) h k same = absurd (true≢false (ap (λ b. b || has_lit d m) (sym (same_self m m refl)) ∙ sym (same m)))
@@ -138,19 +154,23 @@ one_clause (l ∷ c) (m ∷ d) h k same = elim (cases_order (lit_place l) (lit_p
   ]
 ]
 
+-- a clause that has just these literals is theirs
 pub clause_from : (lits c : List Lit) → IsClauseOf lits c → c ≡ clause_of lits
 clause_from lits c h = one_clause c (clause_of lits) h.ordered (IsClause-clause_of lits) (λ x. h.same x ∙ sym (has_lit-clause_of lits x))
 
 -- ---- truth
+-- two sides of a disjunction exchanged
 or_swap : (a b d : Bool) → (a || (b || d)) ≡ (b || (a || d))
 or_swap true true d = refl
 or_swap true false d = refl
 or_swap false b d = refl
 
+-- a side of a disjunction twice is that side
 or_same : (a d : Bool) → (a || d) ≡ (a || (a || d))
 or_same true d = refl
 or_same false d = refl
 
+-- a clause with one more literal is true where that literal or the clause is
 pub clause_true-with_lit : (v : ℕ → Bool) (l : Lit) (c : List Lit) → clause_true v (with_lit l c) ≡ (lit_true v l || clause_true v c)
 clause_true-with_lit v l [] = refl
 clause_true-with_lit v l (m ∷ c) = elim (cases_order (lit_place l) (lit_place m)) [
@@ -167,10 +187,12 @@ clause_true-with_lit v l (m ∷ c) = elim (cases_order (lit_place l) (lit_place 
   ]
 ]
 
+-- the clause of some literals is true where one of these is
 pub clause_true-clause_of : (v : ℕ → Bool) (lits : List Lit) → clause_true v (clause_of lits) ≡ clause_true v lits
 clause_true-clause_of v [] = refl
 clause_true-clause_of v (l ∷ lits) = clause_true-with_lit v l (clause_of lits) ∙ ap (λ b. lit_true v l || b) (clause_true-clause_of v lits)
 
+-- literals of two clauses joined are true where one of the two is
 pub clause_true-append : (v : ℕ → Bool) (c d : List Lit) → clause_true v (c ++ d) ≡ (clause_true v c || clause_true v d)
 clause_true-append v [] d = refl
 clause_true-append v (l ∷ c) d = ap (λ b. lit_true v l || b) (clause_true-append v c d) ∙ or_assoc (lit_true v l) (clause_true v c) (clause_true v d)
@@ -192,6 +214,7 @@ clause_true-without v l (m ∷ c) f = elim (cases_Bool (same_lit l m)) [
       ∙ ap (λ b. lit_true v m || b) (clause_true-without v l c f)
 ]
 
+-- the opposite of a literal is true exactly where the literal is false
 pub lit_true-opposite : (v : ℕ → Bool) (l : Lit) → lit_true v (opposite l) ≡ not (lit_true v l)
 lit_true-opposite v l = by l.positive (v l.var)
   where
@@ -211,6 +234,7 @@ resolvent_true v pivot c d h k =
     ]
 
 -- ---- a list that was sorted and rid of what stands twice
+-- numbers that compare as less are
 less_from : (a b : ℕ) → nat_cmp a b ≡ Less → a < b
 less_from a b h = elim (cases_Bool (nat_lt a b)) [
   | inl e ↦ ltb-true a b e
@@ -221,6 +245,7 @@ less_from a b h = elim (cases_Bool (nat_lt a b)) [
     not_less true g = cc
     not_less false g = cc
 
+-- literals that are sorted without repetition are a clause
 pub IsClause-from_sorted : (c : List Lit) → IsStrictlySortedBy (on lit_place nat_cmp) c → IsClause c
 IsClause-from_sorted [] h = tt
 IsClause-from_sorted (l ∷ c) h = (each c (sorted_head (on lit_place nat_cmp) l c h), IsClause-from_sorted c (sorted_tail (on lit_place nat_cmp) l c h))
@@ -230,6 +255,7 @@ IsClause-from_sorted (l ∷ c) h = (each c (sorted_head (on lit_place nat_cmp) l
     each (m ∷ d) h = (less_from (lit_place l) (lit_place m) h.0, each d h.1)
 
 module _ {X : Type 0} (E : X → X → Bool) (p : X → Bool) (alike : (a b : X) → E a b ≡ true → p a ≡ p b) where
+  -- what is looked for is found behind a first entry, with repetitions or without
   list_any-dedup_from : (k : X) (xs : List X) → list_any p (dedup_from E k xs) ≡ (p k || list_any p xs)
   list_any-dedup_from k [] = refl
   list_any-dedup_from k (x ∷ xs) = elim (cases_Bool (E x k)) [
@@ -243,6 +269,7 @@ module _ {X : Type 0} (E : X → X → Bool) (p : X → Bool) (alike : (a b : X)
         ∙ ap (λ b. p k || b) (list_any-dedup_from x xs)
   ]
 
+  -- what is looked for is found in a list without its repetitions exactly where it is found in the list
   pub list_any-dedup : (xs : List X) → list_any p (dedup E xs) ≡ list_any p xs
   list_any-dedup [] = refl
   list_any-dedup (x ∷ xs) = list_any-dedup_from x xs
@@ -258,6 +285,7 @@ all_with_lit_of P l (m ∷ c) p h = elim (cases_order (lit_place l) (lit_place m
   ]
 ]
 
+-- what holds of some literals holds of their clause
 pub all-clause_of : (P : Lit → Type 0) (lits : List Lit) → AllByRecursion P lits → AllByRecursion P (clause_of lits)
 all-clause_of P [] h = tt
 all-clause_of P (l ∷ lits) h = all_with_lit_of P l (clause_of lits) h.0 (all-clause_of P lits h.1)

@@ -8,6 +8,7 @@ use Rattle.cnf.proofs.ClauseLaws.{lit_true-opposite}
 use Rattle.cnf.proofs.Definitions.{fresh_defines, lit_true-same}
 
 -- ---- constants
+-- the clause of a constant gives its variable that value
 constant_says : (v : ℕ → Bool) (x : ℕ) (b : Bool) → Satisfies v (constant_clauses x b) → v x ≡ b
 constant_says v x true s = by (v x) s.0
   where
@@ -20,17 +21,21 @@ constant_says v x false s = by (v x) s.0
     by true h = sym h
     by false h = refl
 
+-- a variable with that value makes it true
 constant_holds : (v : ℕ → Bool) (x : ℕ) (b : Bool) → v x ≡ b → Satisfies v (constant_clauses x b)
 constant_holds v x true h = (ap (λ y. y || false) h, tt)
 constant_holds v x false h = (ap (λ y. not y || false) h, tt)
 
+-- with the clause of a constant a new variable is defined as that constant
 pub constant_defines : (f : Formula) (b : Bool) → IsFormula f → Defines f (record { vars = f.vars + 1; clauses = with_clauses f.clauses (constant_clauses (f.vars + 1) b) }) (yes (f.vars + 1)) (λ v. b)
 constant_defines f b is = fresh_defines f is (constant_clauses (f.vars + 1) b) (λ v. b) (λ u v same. refl) (λ v s. constant_says v (f.vars + 1) b s) (λ v h. constant_holds v (f.vars + 1) b h)
 
 -- ---- and
+-- the three clauses of a conjunction are true, as truth values of the variable and of the two literals
 abbrev AndHolds : Bool → Bool → Bool → Bool → Bool → Type 0
 AndHolds x a b not_a not_b = ((not x || (a || false)) ≡ true) × (((not x || (b || false)) ≡ true) × (((x || (not_a || (not_b || false))) ≡ true) × Unit {0}))
 
+-- where they are true the variable is the conjunction
 and_is : (x a b : Bool) → AndHolds x a b (not a) (not b) → x ≡ (a && b)
 and_is true true true h = refl
 and_is true true false h = sym h.1.0
@@ -39,6 +44,7 @@ and_is false true true h = h.1.1.0
 and_is false true false h = refl
 and_is false false b h = refl
 
+-- the conjunction makes them true
 and_true : (a b : Bool) → AndHolds (a && b) a b (not a) (not b)
 and_true true true = (refl, (refl, (refl, tt)))
 and_true true false = (refl, (refl, (refl, tt)))
@@ -46,18 +52,21 @@ and_true false true = (refl, (refl, (refl, tt)))
 and_true false false = (refl, (refl, (refl, tt)))
 
 module _ (v : ℕ → Bool) (x : ℕ) (a b : Lit) where
+  -- the clauses of a conjunction give its variable that value
   and_says : Satisfies v (and_clauses x a b) → v x ≡ (lit_true v a && lit_true v b)
   and_says s =
       and_is (v x) (lit_true v a) (lit_true v b)
       (subst (λ n. AndHolds (v x) (lit_true v a) (lit_true v b) n (not (lit_true v b))) (lit_true-opposite v a)
       (subst (λ n. AndHolds (v x) (lit_true v a) (lit_true v b) (lit_true v (opposite a)) n) (lit_true-opposite v b) s))
 
+  -- a variable with that value makes them true
   and_holds : v x ≡ (lit_true v a && lit_true v b) → Satisfies v (and_clauses x a b)
   and_holds h =
       subst (λ n. AndHolds (v x) (lit_true v a) (lit_true v b) (lit_true v (opposite a)) n) (sym (lit_true-opposite v b))
       (subst (λ n. AndHolds (v x) (lit_true v a) (lit_true v b) n (not (lit_true v b))) (sym (lit_true-opposite v a))
       (subst (λ y. AndHolds y (lit_true v a) (lit_true v b) (not (lit_true v a)) (not (lit_true v b))) (sym h) (and_true (lit_true v a) (lit_true v b))))
 
+-- with the clauses of a conjunction a new variable is defined as the conjunction of two literals
 pub and_defines : (f : Formula) (a b : Lit) → IsFormula f → HasVariable f.vars a → HasVariable f.vars b
     → Defines f (record { vars = f.vars + 1; clauses = with_clauses f.clauses (and_clauses (f.vars + 1) a b) }) (yes (f.vars + 1)) (λ v. lit_true v a && lit_true v b)
 and_defines f a b is ha hb =
@@ -72,11 +81,13 @@ abbrev MoreHolds : Bool → Bool → Bool → Bool → Bool → Bool → Type 0
 MoreHolds true x a b not_a not_b = Unit {0}
 MoreHolds false x a b not_a not_b = ((not x || (a || (b || false))) ≡ true) × (((x || (not_a || (not_b || false))) ≡ true) × Unit {0})
 
+-- the clauses of a choice are true, as truth values of the variable, the condition and the two branches
 abbrev MuxHolds : Bool → Bool → Bool → Bool → Bool → Bool → Bool → Bool → Type 0
 MuxHolds apart x c a b not_c not_a not_b =
     ((not x || (not_c || (a || false))) ≡ true) × (((not x || (c || (b || false))) ≡ true) × (((x || (not_c || (not_a || false))) ≡ true)
     × (((x || (c || (not_b || false))) ≡ true) × MoreHolds apart x a b not_a not_b)))
 
+-- where they are true the variable is the choice
 mux_is : (apart x c a b : Bool) → MuxHolds apart x c a b (not c) (not a) (not b) → x ≡ (if c then a else b)
 mux_is apart true true true b h = refl
 mux_is apart true true false b h = sym h.0
@@ -87,6 +98,7 @@ mux_is apart false true false b h = refl
 mux_is apart false false a true h = h.1.1.1.0
 mux_is apart false false a false h = refl
 
+-- the choice makes the two clauses true that say nothing new
 more_true : (apart c a b : Bool) → MoreHolds apart (if c then a else b) a b (not a) (not b)
 more_true true c a b = tt
 more_true false true true b = (refl, (refl, tt))
@@ -97,6 +109,7 @@ more_true false false true false = (refl, (refl, tt))
 more_true false false false true = (refl, (refl, tt))
 more_true false false false false = (refl, (refl, tt))
 
+-- the choice makes all of its clauses true
 mux_true : (apart c a b : Bool) → MuxHolds apart (if c then a else b) c a b (not c) (not a) (not b)
 mux_true apart true true b = (refl, (refl, (refl, (refl, more_true apart true true b))))
 mux_true apart true false b = (refl, (refl, (refl, (refl, more_true apart true false b))))
@@ -109,13 +122,16 @@ module _ (v : ℕ → Bool) (x : ℕ) (c a b : Lit) where
   more_says true s = tt
   more_says false s = s
 
+  -- the two clauses that say nothing new are true, or are left out
   says_more : (apart : Bool) → MoreHolds apart (v x) (lit_true v a) (lit_true v b) (lit_true v (opposite a)) (lit_true v (opposite b)) → Satisfies v (if apart then [] else (no x ∷ a ∷ b ∷ []) ∷ (yes x ∷ opposite a ∷ opposite b ∷ []) ∷ [])
   says_more true s = tt
   says_more false s = s
 
+  -- whether the two branches are opposite literals
   abbrev apart : Bool
   apart = same_lit a (opposite b)
 
+  -- the clauses of a choice give its variable that value
   mux_says : Satisfies v (mux_clauses x c a b) → v x ≡ (if lit_true v c then lit_true v a else lit_true v b)
   mux_says s =
       mux_is apart (v x) (lit_true v c) (lit_true v a) (lit_true v b)
@@ -124,6 +140,7 @@ module _ (v : ℕ → Bool) (x : ℕ) (c a b : Lit) where
       (subst (λ n. MuxHolds apart (v x) (lit_true v c) (lit_true v a) (lit_true v b) (lit_true v (opposite c)) (lit_true v (opposite a)) n) (lit_true-opposite v b)
       (s.0, (s.1.0, (s.1.1.0, (s.1.1.1.0, more_says apart s.1.1.1.1)))))))
 
+  -- a variable with that value makes them true
   mux_holds : v x ≡ (if lit_true v c then lit_true v a else lit_true v b) → Satisfies v (mux_clauses x c a b)
   mux_holds h =
       let s = subst (λ n. MuxHolds apart (v x) (lit_true v c) (lit_true v a) (lit_true v b) (lit_true v (opposite c)) (lit_true v (opposite a)) n) (sym (lit_true-opposite v b))
@@ -133,6 +150,7 @@ module _ (v : ℕ → Bool) (x : ℕ) (c a b : Lit) where
       (mux_true apart (lit_true v c) (lit_true v a) (lit_true v b))))) in
       (s.0, (s.1.0, (s.1.1.0, (s.1.1.1.0, says_more apart s.1.1.1.1))))
 
+-- with the clauses of a choice a new variable is defined as the choice of two literals
 pub mux_defines : (f : Formula) (c a b : Lit) → IsFormula f → HasVariable f.vars c → HasVariable f.vars a → HasVariable f.vars b
     → Defines f (record { vars = f.vars + 1; clauses = with_clauses f.clauses (mux_clauses (f.vars + 1) c a b) }) (yes (f.vars + 1)) (λ v. if lit_true v c then lit_true v a else lit_true v b)
 mux_defines f c a b is hc ha hb =

@@ -23,27 +23,33 @@ lit_of-word_of l h = by l.var l.positive h
         let f : (2 * (x - 1) + 1) % 2 ≡ 1 = omega arith in
         λ i. record { var = e i; positive = ne_eqb ((2 * (x - 1) + 1) % 2) 0 (λ g. omega arith) i }
 
+-- literals that are made words and read back are the same
 pub map_lit_of-map_word_of : (n : ℕ) (c : List Lit) → HasVariables n c → map lit_of (map word_of c) ≡ c
 map_lit_of-map_word_of n [] h = refl
 map_lit_of-map_word_of n (l ∷ c) h = ap (λ x. x ∷ map lit_of (map word_of c)) (lit_of-word_of l h.0.0) ∙ ap (λ x. l ∷ x) (map_lit_of-map_word_of n c h.1)
 
 -- ---- one more clause
+-- what stands in a part of the words stands there with more behind them
 range_append : (words more : List ℕ) (a b : ℕ) → a ≤ b → b ≤ length words → slice_range (words ++ more) a b ≡ slice_range words a b
 range_append words more a b h k =
     ap (take (b - a)) (drop-append-le a words more (omega arith)) ∙ take-append-le (b - a) (drop a words) more (omega (arith, length-drop a words))
 
+-- what was put behind the words is what stands there up to the end
 range_last : (words more : List ℕ) (n : ℕ) → n ≡ length (words ++ more) → slice_range (words ++ more) (length words) n ≡ more
 range_last words more n e =
     ap (take (n - length words)) (drop_at words more (length words) refl) ∙ take_all (n - length words) more (omega (arith, length-append words more))
 
+-- places that rise to an end begin no later than there
 rise_within : (s : ℕ) (ends : List ℕ) (n : ℕ) → Rise s ends n → s ≤ n
 rise_within s [] n h = omega arith
 rise_within s (e ∷ ends) n h = let a = h.0 in let b = rise_within e ends n h.1 in omega arith
 
+-- places that rise still do with one more that isn't earlier
 pub rise_push : (s : ℕ) (ends : List ℕ) (n m : ℕ) → Rise s ends n → n ≤ m → Rise s (ends ++ m ∷ []) m
 rise_push s [] n m h k = (omega arith, refl)
 rise_push s (e ∷ ends) n m h k = (h.0, rise_push e ends n m h.1 k)
 
+-- words that are put last, with their end, are one clause more
 pub clauses_push : (s : ℕ) (words more ends : List ℕ) (n : ℕ) → Rise s ends (length words) → n ≡ length (words ++ more)
     → clauses_from s (words ++ more) (ends ++ n ∷ []) ≡ clauses_from s words ends ++ map lit_of more ∷ []
 clauses_push s words more [] n h e = ap (λ (ws : List ℕ). map lit_of ws ∷ []) (ap (λ x. slice_range (words ++ more) x n) h ∙ range_last words more n e)
@@ -52,34 +58,41 @@ clauses_push s words more (end ∷ ends) n h e =
     ap (λ (ws : List ℕ). map lit_of ws ∷ clauses_from end (words ++ more) (ends ++ n ∷ [])) (range_append words more s end h.0 within)
     ∙ ap (λ cs. map lit_of (slice_range words s end) ∷ cs) (clauses_push end words more ends n h.1 e)
 
+-- what holds of all entries and of one more holds of all with it
 pub all_push : {X : Type 0} (P : X → Type 0) (xs : List X) (x : X) → AllByRecursion P xs → P x → AllByRecursion P (xs ++ x ∷ [])
 all_push P [] x h p = (p, tt)
 all_push P (y ∷ xs) x h p = (h.0, all_push P xs x h.1 p)
 
 -- ---- a clause by its index
+-- there are as many clauses as ends
 pub length-clauses_from : (s : ℕ) (words ends : List ℕ) → length (clauses_from s words ends) ≡ length ends
 length-clauses_from s words [] = refl
 length-clauses_from s words (e ∷ ends) = ap suc (length-clauses_from e words ends)
 
+-- the clause with an index has the words between where it begins and where it ends
 pub clause_stands : (s : ℕ) (words ends : List ℕ) (i : ℕ) → i < length ends
     → slice_get (clauses_from s words ends) i ≡ Some (map lit_of (slice_range words (start_of s ends i) (get_or ends i 0)))
 clause_stands s words [] i h = absurd (omega arith)
 clause_stands s words (e ∷ ends) zero h = refl
 clause_stands s words (e ∷ ends) (suc i) h = clause_stands e words ends i (omega arith)
 
+-- a clause begins where the one ahead of it ends
 pub start_is : (s : ℕ) (ends : List ℕ) (i : ℕ) → i < length ends → start_of s ends (suc i) ≡ get_or ends i 0
 start_is s [] i h = absurd (omega arith)
 start_is s (e ∷ ends) zero h = refl
 start_is s (e ∷ ends) (suc i) h = start_is e ends i (omega arith)
 
+-- each clause begins no later than it ends, and ends within the words
 pub rise_at : (s : ℕ) (ends : List ℕ) (n i : ℕ) → Rise s ends n → i < length ends → (start_of s ends i ≤ get_or ends i 0) × (get_or ends i 0 ≤ n)
 rise_at s [] n i h k = absurd (omega arith)
 rise_at s (e ∷ ends) n zero h k = (h.0, rise_within e ends n h.1)
 rise_at s (e ∷ ends) n (suc i) h k = rise_at e ends n i h.1 (omega arith)
 
+-- a part of the words is as long as its two places are apart
 pub length-range : (words : List ℕ) (a b : ℕ) → a ≤ b → b ≤ length words → length (slice_range words a b) ≡ b - a
 length-range words a b h k = length-take (b - a) (drop a words) ∙ (let e = length-drop a words in omega arith)
 
+-- a literal of a clause is that of the word which stands as far behind the clause's beginning
 pub lit_stands : (words : List ℕ) (a b k : ℕ) → a ≤ b → b ≤ length words → k < b - a → slice_get (map lit_of (slice_range words a b)) k ≡ Some (lit_of (get_or words (a + k) 0))
 lit_stands words a b k h l m =
     let r = slice_range words a b in
@@ -87,17 +100,21 @@ lit_stands words a b k h l m =
     slice_get-get_or (map lit_of r) k (lit_of 0) (omega (arith, length-map r lit_of))
     ∙ ap Some (get_or-map lit_of r k 0 (lit_of 0) (omega arith) ∙ ap lit_of (get_or-take (b - a) (drop a words) k 0 m ∙ get_or-drop a words k 0))
 
+-- a formula has as many clauses as there are ends
 pub count_is : (words ends : List ℕ) → length (clauses_from 0 words ends) ≡ length ends
 count_is words ends = length-clauses_from 0 words ends
 
 -- one more clause is kept
 module _ (vars : ℕ) (words ends : List ℕ) (c : List Lit) (s : IsStored vars words ends) (variables : HasVariables vars c) where
+  -- with a clause's words and their end behind, the formula has that clause more
   formula_push' : clauses_from 0 (words ++ map word_of c) (ends ++ length (words ++ map word_of c) ∷ []) ≡ clauses_from 0 words ends ++ c ∷ []
   formula_push' = clauses_push 0 words (map word_of c) ends (length (words ++ map word_of c)) s.rise refl ∙ ap (λ d. clauses_from 0 words ends ++ d ∷ []) (map_lit_of-map_word_of vars c variables)
 
+  -- the same of the formula with its variables
   pub formula_push : formula_of vars (words ++ map word_of c) (ends ++ length (words ++ map word_of c) ∷ []) ≡ record { vars = vars; clauses = clauses_from 0 words ends ++ c ∷ [] }
   formula_push = λ i. record { vars = vars; clauses = formula_push' i }
 
+  -- words and ends keep a formula with one clause more over its variables
   pub stored_push : IsClause c → IsStored vars (words ++ map word_of c) (ends ++ length (words ++ map word_of c) ∷ [])
   stored_push clause = record {
     small = s.small;
@@ -113,10 +130,12 @@ pub more_variables : (n m : ℕ) (c : List Lit) → n ≤ m → HasVariables n c
 more_variables n m [] h k = tt
 more_variables n m (l ∷ c) h k = ((k.0.0, let a = k.0.1 in omega arith), more_variables n m c h k.1)
 
+-- clauses over some variables are clauses over more
 all_more_variables : (n m : ℕ) (cs : List (List Lit)) → n ≤ m → AllByRecursion (HasVariables n) cs → AllByRecursion (HasVariables m) cs
 all_more_variables n m [] h k = tt
 all_more_variables n m (c ∷ cs) h k = (more_variables n m c h k.0, all_more_variables n m cs h k.1)
 
+-- words and ends keep a formula of more variables, too
 pub stored_more : (n m : ℕ) (words ends : List ℕ) → n ≤ m → m ≤ 2 ^ 31 → IsStored n words ends → IsStored m words ends
 stored_more n m words ends h k s = record {
   small = k;
@@ -126,18 +145,22 @@ stored_more n m words ends h k s = record {
 
 -- the clause with a number, and what stands in it
 module _ (vars : ℕ) (words ends : List ℕ) (s : IsStored vars words ends) (i : ℕ) (low : 1 ≤ i) (high : i ≤ length ends) where
+  -- a clause begins no later than it ends, and ends within the words
   pub bounds_at : (start_of 0 ends (i - 1) ≤ get_or ends (i - 1) 0) × (get_or ends (i - 1) 0 ≤ length words)
   bounds_at = rise_at 0 ends (length words) (i - 1) s.rise (omega arith)
 
+  -- the clause with a number is made of the words between its bounds
   pub clause_is : clause_at (formula_of vars words ends) i ≡ map lit_of (slice_range words (start_of 0 ends (i - 1)) (get_or ends (i - 1) 0))
   clause_is = ap (λ o. unwrap_or o []) (clause_stands 0 words ends (i - 1) (omega arith))
 
+  -- its length is how far its bounds are apart
   pub length_is : length (clause_at (formula_of vars words ends) i) ≡ get_or ends (i - 1) 0 - start_of 0 ends (i - 1)
   length_is =
       ap length clause_is
       ∙ length-map (slice_range words (start_of 0 ends (i - 1)) (get_or ends (i - 1) 0)) lit_of
       ∙ length-range words (start_of 0 ends (i - 1)) (get_or ends (i - 1) 0) bounds_at.0 bounds_at.1
 
+  -- its literals are those of the words from where it begins on
   pub lit_is : (k : ℕ) → k < length (clause_at (formula_of vars words ends) i) → slice_get (clause_at (formula_of vars words ends) i) k ≡ Some (lit_of (get_or words (start_of 0 ends (i - 1) + k) 0))
   lit_is k h =
       ap (λ c. slice_get c k) clause_is
@@ -151,6 +174,7 @@ pub record ClauseKept (words ends : List ℕ) (f : Formula) (i : ℕ) : Type 0 w
   pub long : length (clause_at f i) ≡ get_or ends (i - 1) 0 - start_of 0 ends (i - 1)
   pub lits : (k : ℕ) → k < length (clause_at f i) → slice_get (clause_at f i) k ≡ Some (lit_of (get_or words (start_of 0 ends (i - 1) + k) 0))
 
+-- the same of the formula that words and ends keep
 pub clause_kept : (vars : ℕ) (words ends : List ℕ) (f : Formula) (i : ℕ) → IsStored vars words ends → formula_of vars words ends ≡ f → 1 ≤ i → i ≤ length f.clauses → ClauseKept words ends f i
 clause_kept vars words ends f i s is low high =
     let e = ap (λ (g : Formula). length g.clauses) is in
@@ -172,13 +196,16 @@ start_at ends i h k =
 
 -- the same, of words and ends that were pushed
 module _ (vars : ℕ) (words ends words' ends' : List ℕ) (c : List Lit) (s : IsStored vars words ends) (variables : HasVariables vars c) (w : words' ≡ words ++ map word_of c) (e : ends' ≡ ends ++ length words' ∷ []) where
+  -- the new end is where the words end now
   ends_are : ends' ≡ ends ++ length (words ++ map word_of c) ∷ []
   ends_are = e ∙ ap (λ (ws : List ℕ). ends ++ length ws ∷ []) w
 
+  -- after a clause was put last, words and ends keep a formula
   pub pushed_stored : IsClause c → IsStored vars words' ends'
   pushed_stored clause =
       subst (λ ws. IsStored vars ws ends') (sym w) (subst (IsStored vars (words ++ map word_of c)) (sym ends_are) (stored_push vars words ends c s variables clause))
 
+  -- and it is the one from before with that clause behind it
   pub pushed_formula : formula_of vars words' ends' ≡ record { vars = vars; clauses = clauses_from 0 words ends ++ c ∷ [] }
   pushed_formula =
       ap (λ ws. formula_of vars ws ends') w ∙ ap (formula_of vars (words ++ map word_of c)) ends_are ∙ formula_push vars words ends c s variables

@@ -23,6 +23,7 @@ line_text-append (w ∷ x ∷ ws) v vs =
     ∙ sym (append_assoc w (32 ∷ []) (spaced (x ∷ ws) ++ line_text (v ∷ vs)))
     ∙ sym (append_assoc (w ++ 32 ∷ []) (spaced (x ∷ ws)) (line_text (v ∷ vs)))
 
+-- words of two lists, each with a space behind it, one behind the other
 pub spaced-append : (ws vs : List Word) → spaced (ws ++ vs) ≡ spaced ws ++ spaced vs
 spaced-append [] vs = refl
 spaced-append (w ∷ ws) vs = ap (λ t. (w ++ 32 ∷ []) ++ t) (spaced-append ws vs) ∙ sym (append_assoc (w ++ 32 ∷ []) (spaced ws) (spaced vs))
@@ -31,6 +32,7 @@ spaced-append (w ∷ ws) vs = ap (λ t. (w ++ 32 ∷ []) ++ t) (spaced-append ws
 abbrev pub lit_piece : Lit → List ℕ
 lit_piece l = lit_word l ++ 32 ∷ []
 
+-- the words of literals with spaces are those of each literal, one behind the other
 pub spaced_lits : (c : List Lit) → spaced (map lit_word c) ≡ flat_map lit_piece c
 spaced_lits [] = refl
 spaced_lits (l ∷ c) = ap (λ t. (lit_word l ++ 32 ∷ []) ++ t) (spaced_lits c)
@@ -39,6 +41,7 @@ spaced_lits (l ∷ c) = ap (λ t. (lit_word l ++ 32 ∷ []) ++ t) (spaced_lits c
 abbrev pub link_piece : Link → List ℕ
 link_piece link = decimal link.number ++ (32 ∷ (lit_word link.pivot ++ 32 ∷ []))
 
+-- the words of links with spaces are those of each link, one behind the other
 pub spaced_links : (chain : List Link) → spaced (flat_map link_words chain) ≡ flat_map link_piece chain
 spaced_links [] = refl
 spaced_links (k ∷ chain) =
@@ -46,9 +49,11 @@ spaced_links (k ∷ chain) =
     ∙ sym (append_assoc (decimal k.number ++ 32 ∷ []) (lit_word k.pivot ++ 32 ∷ []) (flat_map link_piece chain))
     ∙ ap (λ t. t ++ flat_map link_piece chain) (append_assoc (decimal k.number) (32 ∷ []) (lit_word k.pivot ++ 32 ∷ []))
 
+-- the line of a clause is its literals with spaces, and a 0
 pub clause_line : (c : List Lit) → line_text (clause_words c) ≡ flat_map lit_piece c ++ codes "0\n"
 clause_line c = line_text-append (map lit_word c) (codes "0") [] ∙ ap (λ t. t ++ codes "0\n") (spaced_lits c)
 
+-- the line of a step is its literals with spaces, a 0, where it begins, its links with spaces, and a 0
 pub step_line : (s : Step) → line_text (step_words s) ≡ flat_map lit_piece s.clause ++ (codes "0 " ++ (decimal s.start ++ (32 ∷ (flat_map link_piece s.chain ++ codes "0\n"))))
 step_line s =
     ap line_text (append_assoc (map lit_word s.clause) (codes "0" ∷ []) (chain_words s.start s.chain))
@@ -67,6 +72,7 @@ flat_map-take_more f xs k x at =
     ∙ flat_map-append f (take k xs) (x ∷ [])
     ∙ ap (λ t. flat_map f (take k xs) ++ t) (append-nil (f x))
 
+-- the lines of one clause more are those from before and its line
 pub lines_more : (cs : List (List Lit)) (k : ℕ) → k < length cs
     → flat_map line_text (map clause_words (take (k + 1) cs)) ≡ flat_map line_text (map clause_words (take k cs)) ++ line_text (clause_words (unwrap_or (slice_get cs (k + 1 - 1)) []))
 lines_more cs k h =

@@ -9,6 +9,7 @@ use Rattle.proof_check.specs.Refuted.{Refutation}
 use Rattle.proof_check.specs.ProofWords.{IsProofText}
 use Rattle.dimacs.specs.Dimacs.{framed, alone, IsDimacs, Reads}
 
+-- the one formula that the framed text spells, without steps, is what the text spells
 pub reads_only : (text bytes : List ℕ) → bytes ≡ framed text → (found : List Refutation) → IsProofText bytes found
     → ((ps : List Refutation) → IsProofText bytes ps → found ≡ ps) → (r : Option Formula)
     → ((f : Formula) → r ≡ Some f → found ≡ alone f ∷ []) → (r ≡ None → (f : Formula) → found ≡ alone f ∷ [] → ⊥) → Reads text r
@@ -17,6 +18,7 @@ reads_only text bytes is found spelled only (Some f) some none =
 reads_only text bytes is found spelled only None some none =
     λ f h. none refl f (only (alone f ∷ []) (subst (λ (b : List ℕ). IsProofText b (alone f ∷ [])) (sym is) h))
 
+-- a framed text that is refused comes of a text that spells no formula
 pub reads_none : (text bytes : List ℕ) → bytes ≡ framed text → (fault : Fault) (r : Refusal) → fault ≡ Refused r → (Q : Refusal → Type 0)
     → IfRefused fault (λ s. Q s × ((ps : List Refutation) → IsProofText bytes ps → ⊥)) → (f : Formula) → IsDimacs text f → ⊥
 reads_none text bytes is fault r e Q h f spelled =

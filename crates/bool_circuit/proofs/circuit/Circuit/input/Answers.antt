@@ -11,9 +11,11 @@ use Rattle.bool_circuit.proofs.circuit.Circuit.input.Goals.{In_ok-w}
 is_placed : (c : In_ok-w) → IsPlaced c.self.inside.gates.keys (Input (input_count c.self.inside.gates.keys)) c.place.new.gates.keys
 is_placed c = subst (λ n. IsPlaced c.self.inside.gates.keys (Input n) c.place.new.gates.keys) c.self.invariant.1 c.in_ok-w.ensures.placed
 
+-- it stands at the wire that is returned
 stands : (c : In_ok-w) → slice_get c.place.new.gates.keys c.in_ok-w.w ≡ Some (Input (input_count c.self.inside.gates.keys))
 stands c = c.in_ok-w.ensures.stands ∙ ap (λ n. Some (Input n)) c.self.invariant.1
 
+-- there is one input more
 counted : (c : In_ok-w) → input_count c.place.new.gates.keys ≡ c.self.inside.inputs + 1
 counted c = placed_input_count c.self.inside.gates.keys c.place.new.gates.keys c.in_ok-w.w c.self.invariant.0 (is_placed c) (stands c) ∙ ap (λ n. n + 1) (sym c.self.invariant.1)
 

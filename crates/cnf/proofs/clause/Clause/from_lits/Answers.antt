@@ -12,12 +12,14 @@ use Rattle.cnf.proofs.ClauseLaws.{IsClause-from_sorted, list_any-dedup, clause_f
 use Rattle.cnf.proofs.clause.Clause.from_lits.Goals as goal
 use Rattle.cnf.proofs.clause.Clause.from_lits.Goals.{After-dedup}
 
+-- sorted literals without repetition are in order
 ordered : (c : After-dedup) → IsClause c.dedup.new.self.items
 ordered c =
     let sorted = c.sort_unstable.new.self.items in
     let is = dedup_is eq-value.it sorted c.dedup.new.self.items c.dedup.ensures.filtered in
     subst IsClause (sym is) (IsClause-from_sorted _ (IsStrictlySortedBy-dedup (on_total lit_place nat_cmp_total) (λ x y. search (comparing, rules)) sorted c.sort_unstable.ensures.sorted))
 
+-- they are just the literals that were given
 members : (c : After-dedup) → IsClauseOf c.args.lits.now c.dedup.new.self.items
 members c =
     let sorted = c.sort_unstable.new.self.items in
