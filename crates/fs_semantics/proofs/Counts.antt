@@ -3,16 +3,20 @@ use Rattle.std.proofs.Common.{◌≡◌, ◌≢◌, ℕ, true, false, cond, ◌=
 use Rattle.std.specs.List.{AllByRecursion}
 use Rattle.fs_semantics.specs.Orders.{times, NoneAhead}
 
+-- how often a number stands in two lists joined
 pub times_append : (k : ℕ) (xs ys : List ℕ) → times k (xs ++ ys) ≡ times k xs + times k ys
 times_append k [] ys = omega arith
 times_append k (x ∷ xs) ys = omega (arith, times_append k xs ys)
 
+-- a list with a number in front has it once more
 pub times_itself : (x : ℕ) (xs : List ℕ) → times x (x ∷ xs) ≡ 1 + times x xs
 times_itself x xs = ap (λ b. cond b 1 0 + times x xs) (eq-eqb x x refl)
 
+-- what isn't the number counts for nothing
 pub none_here : (k x : ℕ) (xs : List ℕ) → (x == k) ≡ false → times k (x ∷ xs) ≡ times k xs
 none_here k x xs e = ap (λ b. cond b 1 0 + times k xs) e ∙ zero-add _
 
+-- another number in front counts for nothing
 pub times_other : (k x : ℕ) (xs : List ℕ) → k ≢ x → times k (x ∷ xs) ≡ times k xs
 times_other k x xs ne = none_here k x xs (ne_eqb x k (λ e. ne (sym e)))
 
@@ -24,14 +28,17 @@ times_found k (x ∷ xs) h = elim (x == k) as (λ b. (x == k) ≡ b → (front :
   | false ↦ λ e. let rest = times_found k xs (omega (arith, none_here k x xs e)) in (x ∷ rest.0, rest.1, ap (λ ys. x ∷ ys) rest.2)
 ] refl
 
+-- what holds of all numbers of two lists holds of all of both joined
 pub all_append : (P : ℕ → Type 0) (xs ys : List ℕ) → AllByRecursion P xs → AllByRecursion P ys → AllByRecursion P (xs ++ ys)
 all_append P [] ys h i = i
 all_append P (x ∷ xs) ys h i = (h.0, all_append P xs ys h.1 i)
 
+-- what holds of all numbers of two lists joined holds of those of the first
 pub all_front : (P : ℕ → Type 0) (xs ys : List ℕ) → AllByRecursion P (xs ++ ys) → AllByRecursion P xs
 all_front P [] ys h = tt
 all_front P (x ∷ xs) ys h = (h.0, all_front P xs ys h.1)
 
+-- and of those of the second
 pub all_back : (P : ℕ → Type 0) (xs ys : List ℕ) → AllByRecursion P (xs ++ ys) → AllByRecursion P ys
 all_back P [] ys h = h
 all_back P (x ∷ xs) ys h = all_back P xs ys h.1
@@ -47,6 +54,7 @@ pub all_from : (P : ℕ → Type 0) (xs : List ℕ) → ((k : ℕ) → 0 < times
 all_from P [] h = tt
 all_from P (x ∷ xs) h = (h x (omega (arith, times_itself x xs)), all_from P xs (λ k m. h k (omega arith)))
 
+-- in an allowed order no number comes before one that stands ahead of it
 pub none_ahead_behind : (before : ℕ → ℕ → Type 0) (front : List ℕ) (x : ℕ) (back : List ℕ) → NoneAhead before (front ++ x ∷ back) → AllByRecursion (λ z. before x z → ⊥) front
 none_ahead_behind before [] x back h = tt
 none_ahead_behind before (y ∷ front) x back h =

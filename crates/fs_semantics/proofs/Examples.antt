@@ -28,6 +28,7 @@ link_in_its_place t target h = put_is (codes "motd") [] (codes "hi") t ∙ rw h 
 root_stays : (t : Tree) → (holds (IsDir []) t ≡ true) × (holds (IsNone []) t ≡ false) × (run (Mkdir []) t ≡ None)
 root_stays t = (refl, refl, refl)
 
+-- what is neither file, nor link, nor empty folder can't be removed
 no_removal : (a b : Bool) (t u : Tree) → a ≡ false → b ≡ false → cond (a || b || false) (Some u) None ≡ None
 no_removal true b t u h k = cc
 no_removal false true t u h k = cc

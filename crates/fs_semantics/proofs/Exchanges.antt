@@ -12,6 +12,7 @@ use Rattle.fs_semantics.proofs.Commuting.{none_above, same_times, outcome-append
 use Rattle.fs_semantics.proofs.Decided.{outcome_told}
 
 module _ (before : ℕ → ℕ → Type 0) where
+  -- two neighbours of which the first needn't come first may be exchanged in an allowed order
   swapped_kept : (front : List ℕ) (x y : ℕ) (back : List ℕ) → (before x y → ⊥) → NoneAhead before (front ++ x ∷ y ∷ back) → NoneAhead before (front ++ y ∷ x ∷ back)
   swapped_kept [] x y back free h = ((free, h.1.0), (h.0.1, h.1.1))
   swapped_kept (z ∷ front) x y back free h =
@@ -38,21 +39,25 @@ module _ (before : ℕ → ℕ → Type 0) where
     same : {order : List ℕ} → Turned order order
     turn : {order other last : List ℕ} → IsExchange before order other → Turned other last → Turned order last
 
+  -- exchanges behind a number are exchanges of the list with it in front
   turned_on : (x : ℕ) {order last : List ℕ} → Turned order last → Turned (x ∷ order) (x ∷ last)
   turned_on x same = same
   turned_on x (turn e t) =
       turn (record { front = x ∷ e.front; left = e.left; right = e.right; back = e.back; was = ap (λ o. x ∷ o) e.was; is = ap (λ o. x ∷ o) e.is; free = e.free }) (turned_on x t)
 
+  -- exchanges after exchanges are exchanges
   turned_then : {order other last : List ℕ} → Turned order other → Turned other last → Turned order last
   turned_then same t = t
   turned_then (turn e s) t = turn e (turned_then s t)
 
+  -- a number that is free of all ahead of it comes to the front by exchanges
   to_front : (front : List ℕ) (x : ℕ) (back : List ℕ) → AllByRecursion (λ z. IsFree before z x) front → Turned (front ++ x ∷ back) (x ∷ front ++ back)
   to_front [] x back h = same
   to_front (z ∷ front) x back h =
       turned_then (turned_on z (to_front front x back h.1))
       (turn (record { front = []; left = z; right = x; back = front ++ back; was = refl; is = refl; free = h.0 }) same)
 
+  -- two allowed orders of the same numbers are joined by exchanges of free neighbours
   turned : (right left : List ℕ) → ((k : ℕ) → times k left ≡ times k right) → ((k : ℕ) → times k right ≤ 1) → NoneAhead before left → NoneAhead before right → Turned left right
   turned [] [] same_times once l r = same
   turned [] (x ∷ left) same_times once l r = absurd (omega (arith, same_times x, times_itself x left))
@@ -70,6 +75,7 @@ module _ (before : ℕ → ℕ → Type 0) where
       (turned_then (to_front front x back (all_from (λ z. IsFree before z x) front free))
       (turned_on x (turned right (front ++ back) (λ k. omega (arith, counts k, same_times k, times_append k front back)) (λ k. omega (arith, once k)) (none_ahead_without before front x back kept) r.1)))
 
+  -- no number stands twice in an allowed order
   at_most_once : (n : ℕ) (order : List ℕ) → IsLinearExtension n before order → (k : ℕ) → times k order ≤ 1
   at_most_once n order l k = ⊎_elim (λ h. let e = l.once k h in omega arith) (λ h. let e = none_above n k order l.below h in omega arith) (cases_lt k n)
 
@@ -86,6 +92,7 @@ module _ (before : ℕ → ℕ → Type 0) where
       let next = exchanged n _ _ e l in
       h _ _ l next e ∙ agree n tells h j next
 
+  -- where orders that differ by one exchange of free neighbours end alike, all do
   pub neighbours_enough : (es : List Program) → NeighboursAgree es before → IsDeterministic es before
   neighbours_enough es h t tree o p a b = agree (length es) (λ order. outcome es order t) (h t tree) (joined (length es) o p a b) a
 
@@ -100,9 +107,11 @@ module _ (before : ℕ → ℕ → Type 0) where
         | inr n ↦ (order, other, e, record { is_tree = tree; left_allowed = l; right_allowed = next; differ = n })
       ]
 
+  -- with any counterexample there is one whose orders differ by one exchange of free neighbours
   pub one_exchange : (es : List Program) (t : Tree) (o p : List ℕ) → IsCounterexample es before t o p → (q : List ℕ) × (r : List ℕ) × IsExchange before q r × IsCounterexample es before t q r
   one_exchange es t o p c = neighbours_differ es t c.is_tree (joined (length es) o p c.left_allowed c.right_allowed) c.left_allowed c.differ
 
+  -- where two programs commute from where a front ends, orders that exchange them behind it end alike
   two_steps : (es : List Program) (front : List ℕ) (x y : ℕ) (back : List ℕ) (t : Tree)
       → ((u : Tree) → outcome es front t ≡ Some u → and_then (run (get_or es x Id) u) (run (get_or es y Id)) ≡ and_then (run (get_or es y Id) u) (run (get_or es x Id)))
       → outcome es (front ++ x ∷ y ∷ back) t ≡ outcome es (front ++ y ∷ x ∷ back) t
@@ -114,6 +123,7 @@ module _ (before : ℕ → ℕ → Type 0) where
       ∙ and_then_assoc (run (get_or es y Id) u) (run (get_or es x Id)) (outcome es back))
       ∙ sym (outcome-append es front (y ∷ x ∷ back) t)
 
+  -- where free programs commute, all allowed orders end alike
   pub free_enough : (es : List Program) → AllByRecursion IsProper es → FreeCommute es before → IsDeterministic es before
   free_enough es proper commute = neighbours_enough es (λ t tree o p a b e.
       let P : ℕ → Type 0 = λ k. k < length es in

@@ -5,6 +5,7 @@ use Rattle.fs_semantics.specs.Orders.{times}
 use Rattle.fs_semantics.specs.Programs.{Outcome, and_then}
 use Rattle.fs_semantics.proofs.Counts.{times_append, times_itself, times_found}
 
+-- how three steps are grouped doesn't matter
 pub and_then_assoc : (r : Outcome) (f g : Tree → Outcome) → and_then (and_then r f) g ≡ and_then r (λ t. and_then (f t) g)
 and_then_assoc None f g = refl
 and_then_assoc (Some t) f g = refl

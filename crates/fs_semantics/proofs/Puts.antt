@@ -10,19 +10,23 @@ use Rattle.fs_semantics.proofs.Trees.{at_inserted, at_other, at_removed, at_kept
 abbrev pub can_put : Path → Tree → Bool
 can_put p t = (is_no_entry (map.get t p) || is_file_entry (map.get t p)) && is_dir t (parent p)
 
+-- to put a file, as one step: a new entry where it can be put, else Error
 abbrev pub put_step : Path → List ℕ → Tree → Outcome
 put_step p content t = cond (can_put p t) (Some (map.insert t p (File content))) None
 
+-- what ends stays as it is when nothing follows
 then_done : (b : Bool) (u : Tree) → and_then (cond b (Some u) None) (λ t. Some t) ≡ cond b (Some u) None
 then_done true u = refl
 then_done false u = refl
 
+-- over a file that is there, `put` is that step
 put_over : (s : List ℕ) (p : Path) (content old : List ℕ) (t : Tree) → map.get t (s ∷ p) ≡ Some (File old) → run (put (s ∷ p) content) t ≡ put_step (s ∷ p) content t
 put_over s p content old t h =
     let rest : map.get (map.remove t (s ∷ p)) (s ∷ p) ≡ None = at_removed t (s ∷ p) in
     let above : is_dir (map.remove t (s ∷ p)) (parent (s ∷ p)) ≡ is_dir t (parent (s ∷ p)) = is_dir_other _ _ (parent (s ∷ p)) (at_kept t (s ∷ p) _ (parent_differs s p)) in
     rw (h, rest, above, insert-remove t (s ∷ p) (File content)) (then_done _ _)
 
+-- whatever stands at the path, `put` is that step
 put_by : (s : List ℕ) (p : Path) (content : List ℕ) (t : Tree) (e : Option Entry) → map.get t (s ∷ p) ≡ e → run (put (s ∷ p) content) t ≡ put_step (s ∷ p) content t
 put_by s p content t None h = rw h
 put_by s p content t (Some Folder) h = rw h
@@ -40,16 +44,19 @@ can_put_other p q x t h k =
     let above : is_dir (map.insert t q x) (parent p) ≡ is_dir t (parent p) = is_dir_other _ _ (parent p) (at_other t q (parent p) x k) in
     rw (same, above)
 
+-- two tests ahead of one step may be made in either order
 two_tests : (a b : Bool) (x y : Tree) → x ≡ y → cond a (cond b (Some x) None) None ≡ cond b (cond a (Some y) None) None
 two_tests true true x y h = ap (λ t. Some t) h
 two_tests true false x y h = refl
 two_tests false true x y h = refl
 two_tests false false x y h = refl
 
+-- what follows a step that is made where a test is true
 then_step : (b : Bool) (t : Tree) (f : Tree → Outcome) → and_then (cond b (Some t) None) f ≡ cond b (f t) None
 then_step true t f = refl
 then_step false t f = refl
 
+-- two such steps at different paths, neither of which is the other's parent, commute
 pub steps_commute : (p q : Path) (c d : List ℕ) (t : Tree) → p ≢ q → parent p ≢ q → parent q ≢ p
     → and_then (put_step p c t) (put_step q d) ≡ and_then (put_step q d t) (put_step p c)
 steps_commute p q c d t h k l =
@@ -57,10 +64,12 @@ steps_commute p q c d t h k l =
     ∙ two_tests (can_put p t) (can_put q t) _ _ (insert-comm t p q (File c) (File d) h)
     ∙ sym (then_step (can_put q t) (map.insert t q (File d)) (put_step p c) ∙ ap (λ b. cond (can_put q t) (cond b (Some (map.insert (map.insert t q (File d)) p (File c))) None) None) (can_put_other p q (File d) t h k))
 
+-- a step that ends in a tree had its test true, and leaves that tree
 guarded : (b : Bool) (u v : Tree) → cond b (Some u) None ≡ Some v → (b ≡ true) × (u ≡ v)
 guarded true u v h = (refl, cc)
 guarded false u v h = (cc, cc)
 
+-- of a conjunction that is true the right side is true
 and_right : (a b : Bool) → (a && b) ≡ true → b ≡ true
 and_right true b h = h
 and_right false b h = cc

@@ -9,15 +9,18 @@ use Rattle.fs_semantics.specs.Orders.{IsLinearExtension, outcome, IsDeterministi
 use Rattle.fs_semantics.proofs.Commuting.{outcome_keeps_tree}
 use Rattle.fs_semantics.proofs.Decided.{outcome_told}
 
+-- a run that doesn't end in a tree ends in Error
 none_or_some : (r : Outcome) → (IsSome r → ⊥) → r ≡ None
 none_or_some None h = refl
 none_or_some (Some u) h = absurd (h refl)
 
+-- a run that ends in a tree doesn't end in Error
 some_not_none : (r : Outcome) → IsSome r → r ≡ None → ⊥
 some_not_none None h e = cc
 some_not_none (Some u) h e = cc
 
 module _ (es : List Program) (before : ℕ → ℕ → Type 0) where
+  -- programs are deterministic exactly where no tree and no two orders are a counterexample
   pub deterministic_exactly : IsDeterministic es before ↔ ((t : Tree) (o p : List ℕ) → IsCounterexample es before t o p → ⊥)
   deterministic_exactly = (
     (λ h t o p c. c.differ (h t c.is_tree o p c.left_allowed c.right_allowed)),
@@ -27,6 +30,7 @@ module _ (es : List Program) (before : ℕ → ℕ → Type 0) where
     ]),
   )
 
+  -- deterministic programs are idempotent exactly where no tree and no order are one for a second run
   pub idempotent_exactly : AllByRecursion IsProper es → IsDeterministic es before → IsIdempotent es before ↔ ((t : Tree) (o : List ℕ) → IsSecondRunCounterexample es before t o → ⊥)
   idempotent_exactly proper sure = (
     (λ h t o c. c.changes (h t c.is_tree o o c.allowed c.allowed c.after c.ends)),
@@ -36,6 +40,7 @@ module _ (es : List Program) (before : ℕ → ℕ → Type 0) where
     ]),
   )
 
+  -- programs don't succeed exactly where all orders fail from every tree
   pub fails_exactly : (Succeeds es before → ⊥) ↔ ((t : Tree) → IsTree t → (o : List ℕ) → IsLinearExtension (length es) before o → outcome es o t ≡ None)
   fails_exactly = (
     (λ h t tree o a. none_or_some (outcome es o t) (λ e. h (record { tree = t; is_tree = tree; order = o; allowed = a; ends = e }))),
