@@ -16,18 +16,22 @@ use Rattle.finite_domain.specs.Layouts.{all_texts, first_uses, letters, other_se
 use Rattle.finite_domain.proofs.Matters.{all_mentioned, all_listed}
 use Rattle.finite_domain.proofs.Texts.{text_same, text_itself, among_append, among_left, among_right, first_uses_are, place, place_below, one_place, numbers, number_among, among_numbers}
 
+-- what holds of the letter x holds of so many of them
 pub all_letters : (P : ℕ → Type 0) → P 120 → (n : ℕ) → AllByRecursion P (letters n)
 all_letters P x zero = tt
 all_letters P x (suc n) = (x, all_letters P x n)
 
+-- what holds of all of two lists holds of all of both joined
 all_joined : (P : ℕ → Type 0) (xs ys : List ℕ) → AllByRecursion P xs → AllByRecursion P ys → AllByRecursion P (xs ++ ys)
 all_joined P [] ys h k = k
 all_joined P (x ∷ xs) ys h k = (h.0, all_joined P xs ys h.1 k)
 
+-- ASCII is made of bytes
 ascii_bytes : (xs : List ℕ) → IsAscii xs → IsBytes xs
 ascii_bytes [] h = tt
 ascii_bytes (x ∷ xs) h = let first : x < 128 = h 0 in (omega (arith, first), ascii_bytes xs (λ i. h (suc i)))
 
+-- what the fresh children may be called is a segment
 other_is_segment : (n : ℕ) → IsSegment (other_segment n)
 other_is_segment n = record {
   bytes = (omega arith, (omega arith, (omega arith, (omega arith, (omega arith, all_letters (λ b. b < 256) (omega arith) n)))));
@@ -39,10 +43,12 @@ other_is_segment n = record {
 }
 
 module _ (es : List Program) (l : Layout) (laid : IsLayout es l) where
+  -- the named paths are those of the layout without the fresh ones
   named_is : (p : Path) → is_among p (domain_of l).named ≡ (not (is_among p (fresh_paths l)) && is_among p l.paths)
   named_is p = any-filter_same (path_eq p) (λ q. not (is_among q (fresh_paths l))) (not (is_among p (fresh_paths l)))
       (λ k h. ap (λ q. not (is_among q (fresh_paths l))) (sym (path_eq_same p k h))) l.paths
 
+  -- no fresh child is named
   fresh_not_named : (p : Path) → IsFreshChild es (other_segment laid.segment) p → IsNamed es p → ⊥
   fresh_not_named p f name = laid.first_segment.fails (
     f.0,
@@ -50,6 +56,7 @@ module _ (es : List Program) (l : Layout) (laid : IsLayout es l) where
     subst (SpeakOf es) (ap (λ q. q ++ name.more) f.2 ∙ append_assoc f.0 (other_segment laid.segment ∷ []) name.more) name.spoken,
   )
 
+  -- the named paths of the layout are those of the programs
   named : (p : Path) → IsTrue (is_among p (domain_of l).named) ↔ IsNamed es p
   named p = (
     (λ h.
@@ -65,15 +72,18 @@ module _ (es : List Program) (l : Layout) (laid : IsLayout es l) where
     | inr f ↦ (laid.paths p).1 (inr ((laid.fresh p).0 f))
   ]
 
+  -- a path of the layout is named or fresh
   among_path : (p : Path) → is_among p l.paths ≡ true → is_path_of (domain_of l) p ≡ true
   among_path p h = elim ((laid.paths p).0 h) [
     | inl name ↦ or_left _ _ ((named p).1 name)
     | inr f ↦ or_right (is_among p (domain_of l).named) _ ((laid.fresh p).1 f)
   ]
 
+  -- the fresh text of a path, by its place
   text : Path → List ℕ
   text p = stem laid.start ++ decimal (place p l.paths)
 
+  -- fresh texts are made of bytes
   bytes : (p : Path) → is_path_of (domain_of l) p ≡ true → IsBytes (text p)
   unfolding text
   bytes p h =
@@ -82,6 +92,7 @@ module _ (es : List Program) (l : Layout) (laid : IsLayout es l) where
       (omega arith, (omega arith, (omega arith, (omega arith, all_letters (λ b. b < 256) (omega arith) laid.start))))
       (ascii_bytes (decimal (place p l.paths)) (IsAscii-decimal (place p l.paths) (omega (arith, laid.few))))
 
+  -- each path has a fresh text of its own
   own_text : (p q : Path) → is_path_of (domain_of l) p ≡ true → is_path_of (domain_of l) q ≡ true → text p ≡ text q → p ≡ q
   unfolding text
   own_text p q h k e =
@@ -90,6 +101,7 @@ module _ (es : List Program) (l : Layout) (laid : IsLayout es l) where
       one_place p q l.paths (path_among p h) (path_among q k)
       (decimal_injective (place p l.paths) (place q l.paths) (omega (arith, laid.few)) (omega (arith, laid.few)) (append_cancel_left (stem laid.start) _ _ e))
 
+  -- the contents of the layout are the empty one, the constants and the fresh texts
   contents : (c : List ℕ) → IsTrue (is_text_among c l.contents) ↔ ((c ≡ []) ⊎ AnyMentions es (Text c) ⊎ ((p : Path) × IsTrue (is_path_of (domain_of l) p) × (c ≡ text p)))
   unfolding text
   contents c = (
@@ -113,6 +125,7 @@ module _ (es : List Program) (l : Layout) (laid : IsLayout es l) where
           (ap (λ b. is_text_among b (numbered (stem laid.start) 0 l.paths)) (new.2 ∙ numbers (stem laid.start) (place new.0 l.paths) (0 + place new.0 l.paths) (omega arith))
           ∙ number_among (stem laid.start) 0 new.0 l.paths (path_among new.0 new.1))
 
+  -- what is laid out is a domain of the programs
   pub is_domain : IsDomain es (domain_of l)
   unfolding text
   is_domain = record {

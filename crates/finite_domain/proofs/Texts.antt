@@ -17,35 +17,43 @@ use Rattle.fs_semantics.proofs.Trees.{path_total, path_eq_refl, path_eq_same}
 use Rattle.finite_domain.specs.Domains.{text_eq, is_text_among}
 use Rattle.finite_domain.specs.Layouts.{first_uses, numbered}
 
+-- texts that are told to be the same are
 pub text_same : (c d : List ℕ) → text_eq c d ≡ true → c ≡ d
 text_same c d h = slice_cmp-IsAntisymmetric nat_cmp-IsAntisymmetric c d ((Equal-is (slice_cmp nat_cmp c d)).0 h)
 
+-- and the same texts are told to be
 pub text_itself : (c d : List ℕ) → c ≡ d → text_eq c d ≡ true
 text_itself c d e = ap (text_eq c) (sym e) ∙ ap is_eq (tied_itself nat_list_cmp_total c)
 
 -- ---- in two lists
 
+-- a text of two lists joined is in one of them
 pub among_append : (c : List ℕ) (cs ds : List (List ℕ)) → is_text_among c (cs ++ ds) ≡ true → (is_text_among c cs ≡ true) ⊎ (is_text_among c ds ≡ true)
 among_append c cs ds h = or_cases _ _ (sym (list_any-append (text_eq c) cs ds) ∙ h)
 
+-- a text of the first of two lists is in both joined
 pub among_left : (c : List ℕ) (cs ds : List (List ℕ)) → is_text_among c cs ≡ true → is_text_among c (cs ++ ds) ≡ true
 among_left c cs ds h = list_any-append (text_eq c) cs ds ∙ or_left _ _ h
 
+-- and so is one of the second
 pub among_right : (c : List ℕ) (cs ds : List (List ℕ)) → is_text_among c ds ≡ true → is_text_among c (cs ++ ds) ≡ true
 among_right c cs ds h = list_any-append (text_eq c) cs ds ∙ or_right _ _ h
 
 -- ---- without repetitions
 
+-- of a disjunction only what the first side lacks counts of the second
 either : (a b : Bool) → (a || (not a && b)) ≡ (a || b)
 either true b = refl
 either false b = refl
 
+-- that texts are the same holds either way round
 text_eq_sym : (c d : List ℕ) → text_eq c d ≡ text_eq d c
 text_eq_sym c d = elim (cases_Bool (text_eq c d)) [
   | inl is ↦ is ∙ sym (text_itself d c (sym (text_same c d is)))
   | inr other ↦ other ∙ sym (false_from_ne_true _ (λ h. both_ways _ other (text_itself c d (sym (text_same d c h)))))
 ]
 
+-- without repetitions the same texts are in the list
 pub first_uses_are : (c : List ℕ) (cs : List (List ℕ)) → is_text_among c (first_uses cs) ≡ is_text_among c cs
 first_uses_are c [] = refl
 first_uses_are c (d ∷ cs) =
@@ -59,6 +67,7 @@ abbrev pub place : Path → List Path → ℕ
 place p [] = 0
 place p (q ∷ ps) = cond (path_eq p q) 0 (place p ps + 1)
 
+-- the place of a path is within the list
 pub place_below : (p : Path) (ps : List Path) → is_among p ps ≡ true → place p ps < length ps
 place_below p [] h = cc
 place_below p (q ∷ ps) h = elim (path_eq p q) as (λ b. (b || is_among p ps) ≡ true → cond b 0 (place p ps + 1) < length (q ∷ ps)) [
@@ -66,6 +75,7 @@ place_below p (q ∷ ps) h = elim (path_eq p q) as (λ b. (b || is_among p ps) �
   | false ↦ λ k. omega (arith, place_below p ps k)
 ] h
 
+-- paths of the list with one place are one
 pub one_place : (p q : Path) (ps : List Path) → is_among p ps ≡ true → is_among q ps ≡ true → place p ps ≡ place q ps → p ≡ q
 one_place p q [] h k e = cc
 one_place p q (r ∷ ps) h k e =
@@ -80,9 +90,11 @@ one_place p q (r ∷ ps) h k e =
       ] refl k e
     ] refl h e
 
+-- equal numbers have one decimal text
 pub numbers : (start : List ℕ) (k n : ℕ) → k ≡ n → start ++ decimal k ≡ start ++ decimal n
 numbers start k n e = ap (λ x. start ++ decimal x) e
 
+-- the text with the number of a path's place is among the numbered ones
 pub number_among : (start : List ℕ) (n : ℕ) (p : Path) (ps : List Path) → is_among p ps ≡ true → is_text_among (start ++ decimal (n + place p ps)) (numbered start n ps) ≡ true
 number_among start n p [] h = cc
 number_among start n p (q ∷ ps) h = elim (path_eq p q) as (λ b. (b || is_among p ps) ≡ true → is_text_among (start ++ decimal (n + cond b 0 (place p ps + 1))) (numbered start n (q ∷ ps)) ≡ true) [
@@ -101,6 +113,7 @@ later_differs p q (r ∷ ps) all h = elim (or_cases (path_eq p r) (is_among p ps
   | inr there ↦ later_differs p q ps all.1 there
 ]
 
+-- and each of the numbered texts has the number of a path's place
 pub among_numbers : (start : List ℕ) (n : ℕ) (c : List ℕ) (ps : List Path) → IsStrictlySortedBy path_cmp ps → is_text_among c (numbered start n ps) ≡ true
     → (p : Path) × IsTrue (is_among p ps) × (c ≡ start ++ decimal (n + place p ps))
 among_numbers start n c [] sorted h = cc
