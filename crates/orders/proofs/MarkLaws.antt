@@ -30,6 +30,7 @@ count_more order marks k node within unset h =
     g ∙ h ∙ sym (ap (λ b. cond b 1 0) (get_or-set_other marks node k true false ne))) (cases_eq k node)
 
 module _ (list : List ℕ) (i : ℕ) (marks : List Bool) (within : i < length list) (h : IsMarked list i marks) where
+  -- one more number of the list is marked, if it wasn't
   pub marked_more : (new : List Bool) → new ≡ set marks (get_or list i 0) true → length new ≡ length marks → get_or list i 0 < length marks → get_or marks (get_or list i 0) false ≡ false → IsMarked list (i + 1) new
   marked_more new e len below unset = record {
     below = subst (λ (n : ℕ). AllByRecursion (λ k. k < n) (take (i + 1) list)) (sym len)
@@ -45,10 +46,12 @@ module _ (list : List ℕ) (i : ℕ) (marks : List Bool) (within : i < length li
       let e : times (get_or list i 0) (take i list) ≡ 1 = h.counts (get_or list i 0) below ∙ ap (λ b. cond b 1 0) is in
       omega (arith, o.once (get_or list i 0) (omega arith), times_split (get_or list i 0) list i within, times_itself (get_or list i 0) (drop (i + 1) list))
 
+-- a truth value that counts for one is true
 one_set : (b : Bool) → ◌≡◌ {A = ℕ} (cond b 1 0) 1 → b ≡ true
 one_set true e = refl
 one_set false e = absurd (omega arith)
 
+-- where the whole list is marked, it has each number once exactly where all marks are set
 pub marked_all : (list : List ℕ) (i : ℕ) (marks : List Bool) → length list ≤ i → IsMarked list i marks
     → (EachOnce (length marks) list → (k : ℕ) → k < length marks → get_or marks k false ≡ true) × (((k : ℕ) → k < length marks → get_or marks k false ≡ true) → EachOnce (length marks) list)
 marked_all list i marks all h =

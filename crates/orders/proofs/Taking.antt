@@ -21,22 +21,27 @@ pub record IsTaking (order : Relation) (taken : List Bool) (waits list : List �
   pub kept : NoneAhead (Comes order) list
   pub least : TakesLeast order.count (Comes order) [] list
 
+-- what counts for one at least is true
 pub one_or_none : (t : Bool) → 1 ≤ cond t 1 0 → t ≡ true
 one_or_none true h = refl
 one_or_none false h = absurd (omega arith)
 
+-- what counts for nothing is false
 none_then_false : (t : Bool) → ◌≡◌ {A = ℕ} (cond t 1 0) 0 → t ≡ false
 none_then_false true h = absurd (omega arith)
 none_then_false false h = refl
 
+-- a node that is taken is one of the marks
 pub within_taken : (taken : List Bool) (k : ℕ) → get_or taken k false ≡ true → k < length taken
 within_taken taken k e = ⊎_elim (λ l. l) (λ l. absurd (clash (get_or_past taken k false l) e)) (cases_lt k (length taken))
 
+-- an order that takes the least each time still does with the least one more
 takes_push : (n : ℕ) (before : ℕ → ℕ → Type 0) (taken list : List ℕ) (k : ℕ) → TakesLeast n before taken list → IsLeastReady n before (taken ++ list) k → TakesLeast n before taken (list ++ k ∷ [])
 takes_push n before taken [] k h r = (subst (λ (t : List ℕ). IsLeastReady n before t k) (append-nil taken) r, tt)
 takes_push n before taken (x ∷ list) k h r =
     (h.0, takes_push n before (taken ++ x ∷ []) list k h.1 (subst (λ (t : List ℕ). IsLeastReady n before t k) (sym (append_assoc taken (x ∷ []) list)) r))
 
+-- nothing is taken at first, and each node waits for all that come before it
 pub begun : (order : Relation) (taken : List Bool) (waits : List ℕ) → length taken ≡ order.count → ((k : ℕ) → get_or taken k false ≡ false) → length waits ≡ order.count
     → ((b : ℕ) → b < order.count → slice_index waits b ≡ waiting (comes order) [] order.count b) → IsTaking order taken waits []
 begun order taken waits size unset len h = record {
@@ -55,6 +60,7 @@ module _ (order : Relation) (ordered : IsStrictOrder order) (taken : List Bool) 
     predecessors : (a : ℕ) → Comes order a node → get_or taken a false ≡ true
     predecessors a c = waiting_none (comes order) taken order.count node (sym (h.waits_are node within) ∙ can.free) a (ordered.within a node c).0 c
 
+    -- a node that isn't taken and waits for none may come next
     ready : IsReady order.count (Comes order) list node
     ready = record {
       below = within;
@@ -62,6 +68,7 @@ module _ (order : Relation) (ordered : IsStrictOrder order) (taken : List Bool) 
       free = λ a c. let e = h.counts a ∙ ap (λ t. cond t 1 0) (predecessors a c) in omega arith;
     }
 
+    -- and a node that may come next waits for none
     ready_can : (j : ℕ) → IsReady order.count (Comes order) list j → CanGo taken waits j
     ready_can j r = record {
       fresh = none_then_false (get_or taken j false) (sym (h.counts j) ∙ r.fresh);
@@ -70,9 +77,11 @@ module _ (order : Relation) (ordered : IsStrictOrder order) (taken : List Bool) 
           ∙ waiting_zero (comes order) taken order.count j (λ a l c. one_or_none (get_or taken a false) (let e = h.counts a in let f = r.free a c in omega arith));
     }
 
+    -- the least node that waits for none is the least that may come next
     least_ready : IsLeastReady order.count (Comes order) list node
     least_ready = record { ready = ready; least = λ j r. ⊎_elim (λ l. absurd (least j l (ready_can j r))) (λ l. l) (cases_lt j node) }
 
+    -- the node is one of the marks
     within_len : node < length taken
     within_len = rw h.taken_len within
 
@@ -84,17 +93,20 @@ module _ (order : Relation) (ordered : IsStrictOrder order) (taken : List Bool) 
         let g : ◌≡◌ {A = ℕ} (cond (comes order node b) 1 0) 1 = ap (λ t. cond t 1 0) c in
         omega arith
 
+    -- what comes before a taken node is taken, the new one too
     closed_more : (a b : ℕ) → get_or (set taken node true) b false ≡ true → Comes order a b → get_or (set taken node true) a false ≡ true
     closed_more a b t c =
         let taken_a : get_or taken a false ≡ true =
         ⊎_elim (λ e. predecessors a (subst (λ (v : ℕ). Comes order a v) e c)) (λ ne. h.closed a b (sym (get_or-set_other taken node b true false ne) ∙ t) c) (cases_eq b node) in
         ⊎_elim (λ e. subst (λ (v : ℕ). get_or (set taken node true) v false ≡ true) (sym e) (get_or-set_same taken node true false within_len)) (λ ne. get_or-set_other taken node a true false ne ∙ taken_a) (cases_eq a node)
 
+    -- the node doesn't come before any that was taken
     not_ahead : (b : ℕ) → 1 ≤ times b list → Comes order node b → ⊥
     not_ahead b m c =
         let t : get_or taken b false ≡ true = one_or_none (get_or taken b false) (let e = h.counts b in omega arith) in
         clash can.fresh (h.closed node b t c)
 
+    -- with the least node taken that waits for none, the order goes on
     pub taking_more : (new : List ℕ) → length new ≡ order.count
         → ((b : ℕ) → b < order.count → (if comes order node b then 1 else 0) + slice_index new b ≡ slice_index waits b)
         → IsTaking order (set taken node true) new (list ++ node ∷ [])
@@ -134,6 +146,7 @@ module _ (order : Relation) (ordered : IsStrictOrder order) (taken : List Bool) 
         next m r false c t u =
             (r.0, r.1, r.2, λ a i d. ⊎_elim (λ l. r.3 a l d) (λ l. let e : a ≡ m = omega arith in absurd (clash c (subst (λ (v : ℕ). Comes order v r.0) e d))) (cases_lt a m))
 
+    -- where no node waits for none, all are taken
     all_taken : (k : ℕ) → k < order.count → get_or taken k false ≡ true
     all_taken k l = elim (get_or taken k false) as (λ t. get_or taken k false ≡ t → t ≡ true) [
       | true ↦ λ e. refl
@@ -142,6 +155,7 @@ module _ (order : Relation) (ordered : IsStrictOrder order) (taken : List Bool) 
           absurd (none z.0 z.1 (record { fresh = z.2; free = h.waits_are z.0 z.1 ∙ waiting_zero (comes order) taken order.count z.0 z.3 }))
     ] refl
 
+    -- once all are taken the list is a linear extension
     pub taken_all : IsLinearExtension order.count (Comes order) list
     taken_all = record {
       below = all_from (λ k. k < order.count) list (λ k m.

@@ -10,26 +10,31 @@ pub record IsHeld (before : ℕ → ℕ → Bool) (n a b : ℕ) (less more : Lis
   pub changed : (j : ℕ) → j < b → slice_index more j ≡ (if before a j then 1 else 0) + slice_index less j
   pub kept : (j : ℕ) → b ≤ j → slice_index more j ≡ slice_index less j
 
+-- a truth value counts for one at most
 one_at_most : (t : Bool) → cond t 1 0 ≤ 1
 one_at_most true = omega arith
 one_at_most false = omega arith
 
+-- where none is left to wait for, one that comes before is taken
 none_left : (p t : Bool) (n : ℕ) → p ≡ true → cond (p && not t) 1 0 + n ≡ 0 → t ≡ true
 none_left true true n e h = refl
 none_left true false n e h = absurd (omega arith)
 none_left false t n e h = cc
 
+-- one that is taken isn't waited for
 all_gone : (p t : Bool) → (p ≡ true → t ≡ true) → (p && not t) ≡ false
 all_gone true true h = refl
 all_gone true false h = sym (h refl)
 all_gone false t h = refl
 
+-- a node that is taken now was waited for once where it comes before
 at_itself : (p t u : Bool) (n : ℕ) → t ≡ false → u ≡ true → cond p 1 0 + (cond (p && not u) 1 0 + n) ≡ cond (p && not t) 1 0 + n
 at_itself true false true n e f = omega arith
 at_itself false false true n e f = omega arith
 at_itself p true u n e f = cc
 at_itself p false false n e f = cc
 
+-- no node waits for more than there are
 pub waiting_le : (before : ℕ → ℕ → Bool) (taken : List Bool) (n b : ℕ) → waiting before taken n b ≤ n
 waiting_le before taken zero b = omega arith
 waiting_le before taken (suc n) b = omega (arith, waiting_le before taken n b, one_at_most (holds_up before taken n b))
@@ -83,8 +88,10 @@ count_false_set (true ∷ marks) zero l e = cc
 count_false_set (false ∷ marks) zero l e = omega arith
 count_false_set (mark ∷ marks) (suc k) l e = omega (arith, count_false_set marks k (omega arith) e)
 
+-- to set a mark that isn't set leaves one less unset
 pub count_false_less : (marks : List Bool) (k : ℕ) → k < length marks → get_or marks k false ≡ false → count_false (set marks k true) < count_false marks
 count_false_less marks k l e = omega (arith, count_false_set marks k l e)
 
+-- nothing is both true and false
 pub clash : {t : Bool} → t ≡ false → t ≡ true → ⊥
 clash e f = cc

@@ -12,12 +12,15 @@ use Rattle.fs_semantics.proofs.Commuting.{same_times}
 use Rattle.fs_semantics.proofs.Exchanges.{exchanged as next_is_allowed}
 
 -- ---- places
+-- the first of an order stands at place 0
 place_here : (k : ℕ) (order : List ℕ) → place k (k ∷ order) ≡ 0
 place_here k order = ap (λ b. cond b 0 (suc (place k order))) (eq-eqb k k refl)
 
+-- any other stands one place further than in the rest
 place_on : (k i : ℕ) (order : List ℕ) → k ≢ i → place k (i ∷ order) ≡ suc (place k order)
 place_on k i order ne = ap (λ b. cond b 0 (suc (place k order))) (ne_eqb i k (λ e. ne (sym e)))
 
+-- a node of the order stands at a place within it
 pub place_within : (k : ℕ) (order : List ℕ) → 1 ≤ times k order → place k order < length order
 place_within k [] h = absurd (omega arith)
 place_within k (i ∷ order) h =
@@ -56,12 +59,14 @@ place_kept before (z ∷ order) x y h m l c =
     (λ d. place_kept before order x y h.1 there (omega (arith, place_on x z order ne, place_on y z order d)) c) (cases_eq y z)) (cases_eq x z)
 
 -- ---- exchanges of neighbours
+-- an order is what stands ahead of two neighbours, the two, and what stands behind
 split_two : (order : List ℕ) (k : ℕ) → suc k < length order → order ≡ take k order ++ get_or order k 0 ∷ get_or order (suc k) 0 ∷ drop (suc (suc k)) order
 split_two [] k h = absurd (omega arith)
 split_two (x ∷ []) zero h = absurd (omega arith)
 split_two (x ∷ y ∷ order) zero h = refl
 split_two (x ∷ order) (suc k) h = ap (λ o. x ∷ o) (split_two order k (omega arith))
 
+-- two neighbours written at each other's place are exchanged
 swap_two : (d : ℕ) (order : List ℕ) (k : ℕ) → suc k < length order
     → set (set order k (get_or order (suc k) d)) (suc k) (get_or order k d) ≡ take k order ++ get_or order (suc k) 0 ∷ get_or order k 0 ∷ drop (suc (suc k)) order
 swap_two d [] k h = absurd (omega arith)
@@ -69,11 +74,13 @@ swap_two d (x ∷ []) zero h = absurd (omega arith)
 swap_two d (x ∷ y ∷ order) zero h = refl
 swap_two d (x ∷ order) (suc k) h = ap (λ o. x ∷ o) (swap_two d order k (omega arith))
 
+-- to swap two places next to one another exchanges these neighbours
 swapped : (order : List ℕ) (k : ℕ) → suc k < length order → swap order k (k + 1) ≡ take k order ++ get_or order (suc k) 0 ∷ get_or order k 0 ∷ drop (suc (suc k)) order
 swapped [] k h = absurd (omega arith)
 swapped (x ∷ order) k h = ap (swap (x ∷ order) k) (add-one k) ∙ swap_two x (x ∷ order) k h
 
 -- ---- pairs that stand the other way round
+-- how many of two lists stand ahead of a node is counted in each
 ahead_append : (to : List ℕ) (k : ℕ) (xs ys : List ℕ) → count_ahead to k (xs ++ ys) ≡ count_ahead to k xs + count_ahead to k ys
 ahead_append to k [] ys = omega arith
 ahead_append to k (x ∷ xs) ys = omega (arith, ahead_append to k xs ys)
@@ -89,15 +96,18 @@ turned_less to (z ∷ front) x y back h =
     omega (arith, turned_less to front x y back h, ahead_append to z front (x ∷ y ∷ back), ahead_append to z front (y ∷ x ∷ back))
 
 -- ---- each number once
+-- an allowed order has each node once
 pub each_once_of : (n : ℕ) (before : ℕ → ℕ → Type 0) (order : List ℕ) → IsLinearExtension n before order → EachOnce n order
 each_once_of n before order l = record { below = l.below; once = l.once }
 
+-- no node stands there twice
 pub at_most : (n : ℕ) (order : List ℕ) → EachOnce n order → (k : ℕ) → times k order ≤ 1
 at_most n order o k =
     ⊎_elim
     (λ l. let e = o.once k l in omega arith)
     (λ l. ⊎_elim (λ m. omega arith) (λ m. let b = all_at (λ j. j < n) order k o.below m in omega arith) (cases_lt (times k order) 1)) (cases_lt k n)
 
+-- lists with the same numbers equally often are equally long
 same_length : (xs ys : List ℕ) → ((k : ℕ) → times k xs ≡ times k ys) → length xs ≡ length ys
 same_length [] [] h = refl
 same_length [] (y ∷ ys) h = absurd (omega (arith, h y, times_itself y ys))
@@ -112,9 +122,11 @@ same_length (x ∷ xs) ys h =
 -- ---- the end: neighbours all stand as in the other order
 module _ (order to : List ℕ) (counts : (k : ℕ) → times k order ≡ times k to) (once : (k : ℕ) → times k to ≤ 1)
     (sorted : (k : ℕ) → k + 1 < length order → place (get_or order k 0) to ≤ place (get_or order (k + 1) 0) to) where
+  -- each node of the order stands in the other one
   there : (i : ℕ) → i < length order → 1 ≤ times (get_or order i 0) to
   there i l = omega (arith, times_at order i l, counts (get_or order i 0))
 
+  -- two neighbours are different nodes
   differ : (k : ℕ) → suc k < length order → get_or order k 0 ≢ get_or order (suc k) 0
   differ k l e =
       let x = get_or order k 0 in
@@ -133,10 +145,12 @@ module _ (order to : List ℕ) (counts : (k : ℕ) → times k order ≡ times k
       absurd (differ k l (sym (at_place (get_or order k 0) to (there k (omega arith))) ∙ ap (λ p. get_or to p 0) e ∙ at_place (get_or order (suc k) 0) to (there (suc k) l))))
       (cases_lt (place (get_or order k 0) to) (place (get_or order (suc k) 0) to))
 
+  -- where neighbours all stand as in the other order, a node stands there no earlier
   at_least : (i : ℕ) → i < length order → i ≤ place (get_or order i 0) to
   at_least zero l = omega arith
   at_least (suc i) l = let e = at_least i (omega arith) in let f = rises i l in omega arith
 
+  -- and no later
   at_most_place : (d i : ℕ) → suc (i + d) ≡ length order → place (get_or order i 0) to ≤ i
   at_most_place zero i e =
       let l : i < length order = omega arith in
@@ -146,21 +160,25 @@ module _ (order to : List ℕ) (counts : (k : ℕ) → times k order ≡ times k
       let g = rises i (omega arith) in
       omega arith
 
+  -- so at each place the same node stands in both
   same_at : (i : ℕ) → i < length order → get_or order i 0 ≡ get_or to i 0
   same_at i l =
       let d = length order - suc i in
       let e : place (get_or order i 0) to ≡ i = let f = at_least i l in let g = at_most_place d i (omega arith) in omega arith in
       sym (at_place (get_or order i 0) to (there i l)) ∙ ap (λ p. get_or to p 0) e
 
+  -- an order whose neighbours all stand as in another one is that one
   pub same_order : order ≡ to
   same_order = ext_get_or 0 order to (same_length order to counts) same_at
 
 -- ---- the walk
+-- a walk that has come to an order, and how many pairs still stand the other way round than at its end
 pub record IsWalking (n : ℕ) (before : ℕ → ℕ → Type 0) (from to order : List ℕ) (orders : List (List ℕ)) : Type 0 where
   pub walk : IsWalk n before from orders order
   pub allowed : IsLinearExtension n before order
   pub count : length orders + count_turned order to ≡ count_turned from to + 1
 
+-- a walk with one exchange more is a walk
 walk_push : (n : ℕ) (before : ℕ → ℕ → Type 0) (from order next : List ℕ) (orders : List (List ℕ)) → IsWalk n before from orders order → IsExchange before order next → IsLinearExtension n before next
     → IsWalk n before from (orders ++ next ∷ []) next
 walk_push n before from order next [] h e l = absurd h
@@ -169,12 +187,15 @@ walk_push n before from order next (o ∷ p ∷ orders) h e l = (h.0, h.1, h.2, 
 
 module _ (n : ℕ) (before : ℕ → ℕ → Type 0) (from to order : List ℕ) (orders : List (List ℕ)) (last : IsLinearExtension n before to) (h : IsWalking n before from to order orders)
     (k : ℕ) (within : k + 1 < length order) (turned : place (get_or order (k + 1) 0) to < place (get_or order k 0) to) where
+  -- the second neighbour stands in the order
   within' : suc k < length order
   within' = omega arith
 
+  -- the two stand the other way round in the order to go to
   turned' : place (get_or order (suc k) 0) to < place (get_or order k 0) to
   turned' = subst (λ (j : ℕ). place (get_or order j 0) to < place (get_or order k 0) to) (add-one k) turned
 
+  -- neighbours that stand the other way round in another allowed order are free
   free : IsFree before (get_or order k 0) (get_or order (suc k) 0)
   free = record {
     differ = λ e. let f = ap (λ v. place v to) e in let g = turned' in omega arith;
@@ -183,6 +204,7 @@ module _ (n : ℕ) (before : ℕ → ℕ → Type 0) (from to order : List ℕ) 
     not_after = (none_ahead_at before (take k order) (get_or order k 0) (get_or order (suc k) 0 ∷ drop (suc (suc k)) order) (subst (NoneAhead before) (split_two order k within') h.allowed.kept)).0;
   }
 
+  -- to swap them is an exchange of free neighbours
   exchanged : IsExchange before order (swap order k (k + 1))
   exchanged = record {
     front = take k order;
@@ -194,15 +216,18 @@ module _ (n : ℕ) (before : ℕ → ℕ → Type 0) (from to order : List ℕ) 
     free = free;
   }
 
+  -- it leaves one pair less that stands the other way round
   fewer : count_turned order to ≡ suc (count_turned (swap order k (k + 1)) to)
   fewer =
       ap (λ (o : List ℕ). count_turned o to) (split_two order k within')
       ∙ turned_less to (take k order) (get_or order k 0) (get_or order (suc k) 0) (drop (suc (suc k)) order) turned'
       ∙ ap (λ (o : List ℕ). suc (count_turned o to)) (sym (swapped order k within'))
 
+  -- so fewer are left
   pub walking_less : count_turned (swap order k (k + 1)) to < count_turned order to
   walking_less = let e = fewer in omega arith
 
+  -- and the walk goes on from there
   pub walking_more : IsWalking n before from to (swap order k (k + 1)) (orders ++ swap order k (k + 1) ∷ [])
   walking_more =
       let l = next_is_allowed before n order (swap order k (k + 1)) exchanged h.allowed in
@@ -213,6 +238,7 @@ module _ (n : ℕ) (before : ℕ → ℕ → Type 0) (from to order : List ℕ) 
       }
 
 -- ---- no pair of an order stands the other way round in itself
+-- nothing stands ahead of the first of an order
 ahead_first : (x : ℕ) (to xs : List ℕ) → count_ahead (x ∷ to) x xs ≡ 0
 ahead_first x to [] = refl
 ahead_first x to (i ∷ xs) =
@@ -221,12 +247,15 @@ ahead_first x to (i ∷ xs) =
     let g = ahead_first x to xs in
     omega arith
 
+-- what is below stays below with one added to both
 lt_suc : (a b : ℕ) → nat_lt (suc a) (suc b) ≡ nat_lt a b
 lt_suc a b = ⊎_elim (λ l. lt-ltb (suc a) (suc b) (omega arith) ∙ sym (lt-ltb a b l)) (λ l. le-ltb (suc a) (suc b) (omega arith) ∙ sym (le-ltb a b l)) (cases_lt a b)
 
+-- what doesn't stand in a list isn't its first
 absent_head : (x i : ℕ) (xs : List ℕ) → times x (i ∷ xs) ≡ 0 → i ≢ x
 absent_head x i xs h e = let f = subst (λ (v : ℕ). times x (v ∷ xs) ≡ 0) e h in omega (arith, f, times_itself x xs)
 
+-- a node put in front of the other order changes nothing for those behind it
 ahead_on : (x : ℕ) (to : List ℕ) (k : ℕ) (xs : List ℕ) → k ≢ x → times x xs ≡ 0 → count_ahead (x ∷ to) k xs ≡ count_ahead to k xs
 ahead_on x to k [] ne h = refl
 ahead_on x to k (i ∷ xs) ne h =
@@ -236,6 +265,7 @@ ahead_on x to k (i ∷ xs) ne h =
     let g = ahead_on x to k xs ne (omega arith) in
     omega arith
 
+-- nor does it change which pairs stand the other way round
 turned_on : (x : ℕ) (to xs : List ℕ) → times x xs ≡ 0 → count_turned xs (x ∷ to) ≡ count_turned xs to
 turned_on x to [] h = refl
 turned_on x to (i ∷ xs) h =
@@ -243,6 +273,7 @@ turned_on x to (i ∷ xs) h =
     let f = turned_on x to xs (omega arith) in
     omega arith
 
+-- no pair of an order stands the other way round in itself
 turned_itself : (to : List ℕ) → ((k : ℕ) → times k to ≤ 1) → count_turned to to ≡ 0
 turned_itself [] once = refl
 turned_itself (x ∷ to) once =
@@ -253,12 +284,15 @@ turned_itself (x ∷ to) once =
 
 -- ---- what the array of places tells
 module _ (n : ℕ) (before : ℕ → ℕ → Type 0) (order to : List ℕ) (places : List ℕ) (l : IsLinearExtension n before order) (told : (k : ℕ) → k < n → slice_index places k ≡ place k to) where
+  -- the array has the place of each node of the order
   told_at : (i : ℕ) → i < length order → slice_index places (get_or order i 0) ≡ place (get_or order i 0) to
   told_at i h = told (get_or order i 0) (all_at (λ k. k < n) order (get_or order i 0) l.below (times_at order i h))
 
+  -- neighbours whose places are the other way round in the array stand so in the other order
   pub turned_there : (k : ℕ) → k + 1 < length order → slice_index places (slice_index order (k + 1)) < slice_index places (slice_index order k) → place (get_or order (k + 1) 0) to < place (get_or order k 0) to
   turned_there k h t = let e = told_at k (omega arith) in let f = told_at (k + 1) h in omega arith
 
+  -- and where no places are, no neighbours do
   pub sorted_there : ((k : ℕ) → k + 1 < length order → slice_index places (slice_index order k) ≤ slice_index places (slice_index order (k + 1)))
       → (k : ℕ) → k + 1 < length order → place (get_or order k 0) to ≤ place (get_or order (k + 1) 0) to
   sorted_there s k h = let e = told_at k (omega arith) in let f = told_at (k + 1) h in let g = s k h in omega arith
@@ -266,15 +300,19 @@ module _ (n : ℕ) (before : ℕ → ℕ → Type 0) (order to : List ℕ) (plac
 -- ---- the walk has come to its end
 module _ (n : ℕ) (before : ℕ → ℕ → Type 0) (from to order : List ℕ) (orders : List (List ℕ)) (last : IsLinearExtension n before to) (h : IsWalking n before from to order orders)
     (sorted : (k : ℕ) → k + 1 < length order → place (get_or order k 0) to ≤ place (get_or order (k + 1) 0) to) where
+  -- the other order has each node once at most
   once : (k : ℕ) → times k to ≤ 1
   once = at_most n to (each_once_of n before to last)
 
+  -- where no neighbours stand the other way round, the walk has come to its end
   come : order ≡ to
   come = same_order order to (same_times n before order to h.allowed last) once sorted
 
+  -- it is a walk to that end
   pub walked : IsWalk n before from orders to
   walked = subst (λ (o : List ℕ). IsWalk n before from orders o) come h.walk
 
+  -- it has one order more than pairs that stood the other way round
   pub walked_length : length orders ≡ count_turned from to + 1
   walked_length =
       let e = turned_itself to once in
@@ -283,14 +321,17 @@ module _ (n : ℕ) (before : ℕ → ℕ → Type 0) (from to order : List ℕ) 
       omega arith
 
 -- ---- the array of places
+-- the array has the places of the first i nodes
 pub record IsPlaced (n : ℕ) (order : List ℕ) (i : ℕ) (places : List ℕ) : Type 0 where
   pub len : length places ≡ n
   pub placed : (k : ℕ) → 1 ≤ times k (take i order) → slice_index places k ≡ place k order
 
 module _ (n : ℕ) (order : List ℕ) (each : EachOnce n order) (i : ℕ) (places : List ℕ) (within : i < length order) (h : IsPlaced n order i places) where
+  -- the next node is one of those of the array
   pub node_within : get_or order i 0 < n
   node_within = all_at (λ k. k < n) order (get_or order i 0) each.below (times_at order i within)
 
+  -- with its place written down the array has one node more
   pub placed_more : IsPlaced n order (i + 1) (set places (get_or order i 0) i)
   placed_more = record {
     len = length-set places (get_or order i 0) i ∙ h.len;
