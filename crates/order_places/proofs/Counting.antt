@@ -9,6 +9,7 @@ abbrev pub total : ℕ → List ℕ → ℕ
 total zero order = 0
 total (suc n) order = total n order + times n order
 
+-- a number past the last counts for nothing in the total
 one_more : (n i : ℕ) (order : List ℕ) → n ≤ i → total n (i ∷ order) ≡ total n order
 one_more zero i order h = refl
 one_more (suc n) i order h = elim (i == n) as (λ b. (i == n) ≡ b → total n (i ∷ order) + (cond b 1 0 + times n order) ≡ total n order + times n order) [
@@ -16,6 +17,7 @@ one_more (suc n) i order h = elim (i == n) as (λ b. (i == n) ≡ b → total n 
   | false ↦ λ e. let rest = one_more n i order (omega (arith, h)) in omega (arith, rest)
 ] refl
 
+-- a number below the last counts for one in the total
 counted : (n i : ℕ) (order : List ℕ) → i < n → total n (i ∷ order) ≡ 1 + total n order
 counted zero i order h = absurd (omega (arith, h))
 counted (suc n) i order h = elim (i == n) as (λ b. (i == n) ≡ b → total n (i ∷ order) + (cond b 1 0 + times n order) ≡ 1 + (total n order + times n order)) [
@@ -29,6 +31,7 @@ counted (suc n) i order h = elim (i == n) as (λ b. (i == n) ≡ b → total n (
       | false ↦ λ e. let past = ltb-false i n e in absurd (k (omega (arith, h, past)))
     ] refl
 
+-- the empty list has a total of nothing
 none_counted : (n : ℕ) → total n [] ≡ 0
 none_counted zero = refl
 none_counted (suc n) = let none = none_counted n in omega (arith, none)
@@ -38,6 +41,7 @@ pub total_is : (n : ℕ) (order : List ℕ) → AllByRecursion (λ k. k < n) ord
 total_is n [] h = none_counted n
 total_is n (i ∷ order) h = let one = counted n i order h.0 in let rest = total_is n order h.1 in omega (arith, one, rest)
 
+-- a list with each number once at most has a total of at most as many
 at_most : (n : ℕ) (order : List ℕ) → ((k : ℕ) → k < n → times k order ≤ 1) → total n order ≤ n
 at_most zero order h = omega arith
 at_most (suc n) order h = let rest = at_most n order (λ k b. h k (omega (arith, b))) in let last = h n (omega arith) in omega (arith, rest, last)
@@ -59,9 +63,11 @@ each_once (suc n) order h e k b =
       | false ↦ λ l. let past = ltb-false k n l in absurd (f (omega (arith, b, past)))
     ] refl
 
+-- a list with each number once has a total of just as many
 all_one : (n : ℕ) (order : List ℕ) → ((k : ℕ) → k < n → times k order ≡ 1) → total n order ≡ n
 all_one zero order h = refl
 all_one (suc n) order h = let rest = all_one n order (λ k b. h k (omega (arith, b))) in let last = h n (omega arith) in omega (arith, rest, last)
 
+-- a list of numbers below n, each once, has n entries
 pub long_enough : (n : ℕ) (order : List ℕ) → AllByRecursion (λ k. k < n) order → ((k : ℕ) → k < n → times k order ≡ 1) → length order ≡ n
 long_enough n order below once = sym (total_is n order below) ∙ all_one n order once

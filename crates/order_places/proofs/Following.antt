@@ -7,31 +7,38 @@ use Rattle.fs_semantics.specs.Orders.{Told, NoneAhead, times, IsLinearExtension}
 use Rattle.order_places.specs.Places.{all_taken, is_ready, with_taken, may_follow, is_in_order, IsStrict}
 use Rattle.order_places.proofs.Counting.{total_is, each_once, long_enough}
 
+-- of a conjunction that is true the left side is true
 left : (a b : Bool) → (a && b) ≡ true → a ≡ true
 left true b h = refl
 left false b h = h
 
+-- of a conjunction that is true the right side is true
 right : (a b : Bool) → (a && b) ≡ true → b ≡ true
 right true b h = h
 right false true h = refl
 right false false h = h
 
+-- a conjunction of two that are true is true
 both : (a b : Bool) → a ≡ true → b ≡ true → (a && b) ≡ true
 both a b h k = λ i. h i && k i
 
+-- what is negated and true is false
 off : (a : Bool) → not a ≡ true → a ≡ false
 off true h = sym h
 off false h = refl
 
+-- of a disjunction that is false the first side is false
 neither_first : (a b : Bool) → (a || b) ≡ false → a ≡ false
 neither_first true b h = h
 neither_first false b h = refl
 
+-- of a disjunction that is false the second side is false
 neither_second : (a b : Bool) → (a || b) ≡ false → b ≡ false
 neither_second true b h = cc
 neither_second false b h = h
 
 module _ (n : ℕ) (before : ℕ → ℕ → Bool) where
+  -- where all that comes before a node is taken, each of these is
   taken_at : (taken : ℕ → Bool) (i m a : ℕ) → all_taken before taken i m ≡ true → a < m → IsTrue (before a i) → taken a ≡ true
   taken_at taken i zero a h b e = absurd (omega (arith, b))
   taken_at taken i (suc m) a h b e = elim (nat_lt a m) as (λ c. nat_lt a m ≡ c → taken a ≡ true) [
@@ -44,6 +51,7 @@ module _ (n : ℕ) (before : ℕ → ℕ → Bool) where
       implied true y h e = h
       implied false y h e = cc
 
+  -- and where each of these is, all are
   at_taken : (taken : ℕ → Bool) (i m : ℕ) → ((a : ℕ) → a < m → IsTrue (before a i) → taken a ≡ true) → all_taken before taken i m ≡ true
   at_taken taken i zero h = refl
   at_taken taken i (suc m) h = both (all_taken before taken i m) (not (before m i) || taken m) (at_taken taken i m (λ a b. h a (omega (arith, b)))) (implied (before m i) (taken m) (h m (omega arith)))
@@ -60,14 +68,17 @@ module _ (n : ℕ) (before : ℕ → ℕ → Bool) where
     once : (k : ℕ) → times k order ≤ 1
     kept : NoneAhead (Told before) order
 
+  -- nodes that aren't taken once one more is weren't taken before
   untaken : (taken : ℕ → Bool) (i : ℕ) (order : List ℕ) → AllByRecursion (λ k. with_taken taken i k ≡ false) order → AllByRecursion (λ k. taken k ≡ false) order
   untaken taken i [] h = tt
   untaken taken i (k ∷ order) h = (neither_first (taken k) (k == i) h.0, untaken taken i order h.1)
 
+  -- and that one isn't among them
   none_is : (taken : ℕ → Bool) (i : ℕ) (order : List ℕ) → AllByRecursion (λ k. with_taken taken i k ≡ false) order → times i order ≡ 0
   none_is taken i [] h = refl
   none_is taken i (k ∷ order) h = let none = none_is taken i order h.1 in ap (λ b. cond b 1 0 + times i order) (neither_second (taken k) (k == i) h.0) ∙ omega (arith, none)
 
+  -- where all that comes before a node is taken, none that is left comes before it
   none_held : (taken : ℕ → Bool) (i : ℕ) (order : List ℕ) → all_taken before taken i n ≡ true → AllByRecursion (λ k. k < n) order → AllByRecursion (λ k. taken k ≡ false) order
       → AllByRecursion (λ a. Told before a i → ⊥) order
   none_held taken i [] h below fresh = tt
@@ -76,6 +87,7 @@ module _ (n : ℕ) (before : ℕ → ℕ → Bool) where
     none_held taken i order h below.1 fresh.1,
   )
 
+  -- an order each node of which may come next keeps what comes before what, and takes each node once
   follows : (taken : ℕ → Bool) (order : List ℕ) → may_follow before n taken order ≡ true → Follows taken order
   follows taken [] h = record { below = tt; fresh = tt; once = λ k. omega arith; kept = tt }
   follows taken (i ∷ order) h =
@@ -104,6 +116,7 @@ module _ (n : ℕ) (before : ℕ → ℕ → Bool) where
     once : (k : ℕ) → k < n → times k order ≤ 1
     kept : NoneAhead (Told before) order
 
+  -- what holds of all nodes of an order holds of one that stands there
   at_stands : (P : ℕ → Type 0) (a : ℕ) (order : List ℕ) → AllByRecursion P order → 1 ≤ times a order → P a
   at_stands P a [] all h = absurd (omega (arith, h))
   at_stands P a (i ∷ order) all h = elim (i == a) as (λ b. (i == a) ≡ b → 1 ≤ cond b 1 0 + times a order → P a) [
@@ -111,6 +124,7 @@ module _ (n : ℕ) (before : ℕ → ℕ → Bool) where
     | false ↦ λ e k. at_stands P a order all.1 (omega (arith, k))
   ] refl h
 
+  -- nodes that aren't taken still aren't once another one is
   still_fresh : (taken : ℕ → Bool) (i : ℕ) (order : List ℕ) → AllByRecursion (λ k. taken k ≡ false) order → times i order ≤ 0 → AllByRecursion (λ k. with_taken taken i k ≡ false) order
   still_fresh taken i [] fresh h = tt
   still_fresh taken i (k ∷ order) fresh h = elim (k == i) as (λ b. (k == i) ≡ b → cond b 1 0 + times i order ≤ 0 → (with_taken taken i k ≡ false) × AllByRecursion (λ j. with_taken taken i j ≡ false) order) [
@@ -118,16 +132,20 @@ module _ (n : ℕ) (before : ℕ → ℕ → Bool) where
     | false ↦ λ e l. ((λ t. fresh.0 t || e t), still_fresh taken i order fresh.1 (omega (arith, l)))
   ] refl h
 
+  -- each number is told to be itself
   equal_is : (i : ℕ) → (i == i) ≡ true
   equal_is i = elim (i == i) as (λ b. (i == i) ≡ b → b ≡ true) [ true ↦ λ k. refl | false ↦ λ k. absurd (eqb-false i i k refl) ] refl
 
+  -- a disjunction with a true right side is true
   or_right : (a b : Bool) → b ≡ true → (a || b) ≡ true
   or_right true b h = refl
   or_right false b h = h
 
+  -- a disjunction with a true left side is true
   or_left : (a b : Bool) → a ≡ true → (a || b) ≡ true
   or_left a b h = ap (λ c. c || b) h
 
+  -- in an order that keeps what comes before what, and has all that is left, each may come next
   covers_follow : ((a : ℕ) → Told before a a → ⊥) → (taken : ℕ → Bool) (order : List ℕ) → Covers taken order → may_follow before n taken order ≡ true
   covers_follow never taken [] c = refl
   covers_follow never taken (i ∷ order) c =
@@ -162,6 +180,7 @@ module _ (n : ℕ) (before : ℕ → ℕ → Bool) where
       fewer k true h = omega (arith, h)
       fewer k false h = omega (arith, h)
 
+  -- each node of an order may come next exactly where the order is allowed
   pub in_order_exactly : (order : List ℕ) → IsStrict n before → length order ≡ n → (is_in_order before n order ≡ true) ↔ IsLinearExtension n (Told before) order
   in_order_exactly order strict long = (
     (λ h. let f = follows (λ k. false) order h in record {
@@ -182,5 +201,6 @@ module _ (n : ℕ) (before : ℕ → ℕ → Bool) where
       none_yet [] = tt
       none_yet (x ∷ xs) = (refl, none_yet xs)
 
+-- an allowed order has as many nodes as there are
 pub order_is_long : (n : ℕ) (before : ℕ → ℕ → Bool) (order : List ℕ) → IsLinearExtension n (Told before) order → length order ≡ n
 order_is_long n before order l = long_enough n order l.below l.once

@@ -5,10 +5,12 @@ use Rattle.fs_semantics.specs.Orders.{Told, IsLinearExtension, IsFree}
 use Rattle.order_places.specs.Places.{exchanged, around}
 use Rattle.order_places.proofs.Exchanging.{free, all_behind}
 
+-- to exchange further behind leaves the first node
 skip : (j a : ℕ) (order : List ℕ) → exchanged (suc j) (a ∷ order) ≡ a ∷ exchanged j order
 skip j a [] = refl
 skip j a (b ∷ order) = refl
 
+-- the node behind a place is the one at it in the rest
 next_at : (j a : ℕ) (order : List ℕ) → slice_index_or (a ∷ order) (suc j + 1) 0 ≡ slice_index_or order (j + 1) 0
 next_at j a order = let one : suc j + 1 ≡ suc (j + 1) = omega arith in ap (λ n. slice_index_or (a ∷ order) n 0) one
 
@@ -20,6 +22,7 @@ more j a (b ∷ c ∷ order) x y h =
     let long : length (a ∷ b ∷ c ∷ order) - 2 ≡ suc (length (b ∷ c ∷ order) - 2) = omega arith in
     ap (λ n. take (suc j) (take n (a ∷ b ∷ c ∷ order)) ++ x ∷ y ∷ drop (suc j) (c ∷ order)) long
 
+-- an order is these two of its nodes with what stands around them
 pub whole : (j : ℕ) (order : List ℕ) → j + 1 < length order → around j order (slice_index_or order j 0) (slice_index_or order (j + 1) 0) ≡ order
 whole j [] h = absurd (omega (arith, h))
 whole j (a ∷ []) h = absurd (omega (arith, h))
@@ -28,6 +31,7 @@ whole (suc j) (a ∷ b ∷ order) h =
     let two : 2 ≤ length (b ∷ order) = omega (arith, h) in
     ap (around (suc j) (a ∷ b ∷ order) (slice_index_or (b ∷ order) j 0)) (next_at j a (b ∷ order)) ∙ more j a (b ∷ order) _ _ two ∙ ap (λ xs. a ∷ xs) (whole j (b ∷ order) (omega (arith, h)))
 
+-- with the two the other way round it is the exchanged order
 pub other : (j : ℕ) (order : List ℕ) → j + 1 < length order → around j order (slice_index_or order (j + 1) 0) (slice_index_or order j 0) ≡ exchanged j order
 other j [] h = absurd (omega (arith, h))
 other j (a ∷ []) h = absurd (omega (arith, h))
@@ -36,6 +40,7 @@ other (suc j) (a ∷ b ∷ order) h =
     let two : 2 ≤ length (b ∷ order) = omega (arith, h) in
     ap (λ x. around (suc j) (a ∷ b ∷ order) x (slice_index_or (b ∷ order) j 0)) (next_at j a (b ∷ order)) ∙ more j a (b ∷ order) _ _ two ∙ ap (λ xs. a ∷ xs) (other j (b ∷ order) (omega (arith, h))) ∙ sym (skip j a (b ∷ order))
 
+-- two neighbours that stand either way round in allowed orders are free, and are nodes
 pub bounded : (n : ℕ) (before : ℕ → ℕ → Bool) (order : List ℕ) (j : ℕ) → j + 1 < length order → IsLinearExtension n (Told before) order → IsLinearExtension n (Told before) (exchanged j order)
     → IsFree (Told before) (slice_index_or order j 0) (slice_index_or order (j + 1) 0) × (slice_index_or order j 0 < n) × (slice_index_or order (j + 1) 0 < n)
 bounded n before order j h one two =
