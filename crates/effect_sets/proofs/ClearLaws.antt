@@ -8,10 +8,12 @@ use Rattle.effect_sets.specs.Footprints.{Paths}
 use Rattle.effect_sets.specs.Members.{is_parent_of}
 use Rattle.effect_sets.proofs.FoundLaws.{neither}
 
+-- of a disjunction that is false the left side is false
 neither_left : (a b : Bool) → (a || b) ≡ false → a ≡ false
 neither_left true b h = h
 neither_left false b h = refl
 
+-- of a disjunction that is false the right side is false
 neither_right : (a b : Bool) → (a || b) ≡ false → b ≡ false
 neither_right true b h = absurd_or h
   where
@@ -38,6 +40,7 @@ clear_of_three s a b c x y z h k l = (
       (l.1 (λ q here. neither_right (a q || b q) (c q) (all q here)))),
 )
 
+-- the parent of a path of the list is a parent of one
 parent_among : (q : Path) (ps : List Path) → is_among q ps ≡ true → is_parent_of (parent q) ps ≡ true
 parent_among q [] h = cc
 parent_among q (p ∷ ps) h = elim (or_cases (path_eq q p) (is_among q ps) h) [
@@ -45,6 +48,7 @@ parent_among q (p ∷ ps) h = elim (or_cases (path_eq q p) (is_among q ps) h) [
   | inr there ↦ or_right _ _ (parent_among q ps there)
 ]
 
+-- and a parent of one is the parent of a path of the list
 child_among : (r : Path) (ps : List Path) → is_parent_of r ps ≡ true → (q : Path) × (is_among q ps ≡ true) × (r ≡ parent q)
 child_among r [] h = cc
 child_among r (p ∷ ps) h = elim (or_cases (path_eq r (parent p)) (is_parent_of r ps) h) [

@@ -62,6 +62,7 @@ module _ (n : ℕ) (before : ℕ → ℕ → Bool) where
 
   -- ---- what follows is an allowed order
 
+  -- an order of nodes that aren't taken, each once at most, which keeps what comes before what
   record Follows (taken : ℕ → Bool) (order : List ℕ) : Type 0 where
     below : AllByRecursion (λ i. i < n) order
     fresh : AllByRecursion (λ i. taken i ≡ false) order
@@ -109,6 +110,7 @@ module _ (n : ℕ) (before : ℕ → ℕ → Bool) where
 
   -- ---- in an allowed order each may come next
 
+  -- such an order that has every node that isn't taken
   record Covers (taken : ℕ → Bool) (order : List ℕ) : Type 0 where
     below : AllByRecursion (λ i. i < n) order
     all : (k : ℕ) → k < n → (taken k ≡ true) ⊎ (1 ≤ times k order)
