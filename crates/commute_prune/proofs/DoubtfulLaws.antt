@@ -23,23 +23,29 @@ use Rattle.commute_prune.proofs.PairLaws.{pairs_from, pairs_in}
 
 -- whichever order the pairs are told by
 module _ (es : List Program) (before : ℕ → ℕ → Bool) (order : Relation) (rows : List (List Bool)) (matrix : IsMatrixOf (length es) (footprint_at es before) rows) (long : length es ≡ order.count) where
+  -- programs that the rows tell to be apart are
   apart_from_rows : (a b : ℕ) → a < length es → b < length es → are_apart rows a b ≡ true → AreApartWhereSure es before a b
   apart_from_rows a b low high h =
       let two = and_parts (cell rows a b) (cell rows b a) h in
       record { left = (matrix.cells a b low high).0 two.0; right = (matrix.cells b a high low).0 two.1 }
 
+  -- and programs that are apart are told to be
   rows_from_apart : (a b : ℕ) → a < length es → b < length es → AreApartWhereSure es before a b → are_apart rows a b ≡ true
   rows_from_apart a b low high h = and_from (cell rows a b) (cell rows b a) ((matrix.cells a b low high).1 h.left) ((matrix.cells b a high low).1 h.right)
 
+  -- that one doesn't come before another is told
   not_told : (a b : ℕ) → (Comes order a b → ⊥) → not (comes order a b) ≡ true
   not_told a b h = elim (cases_Bool (comes order a b)) [ inl yes_ ↦ absurd (h yes_) | inr none ↦ ap not none ]
 
+  -- and what is told so is so
   told_not : (a b : ℕ) → not (comes order a b) ≡ true → Comes order a b → ⊥
   told_not a b h k = let wrong : false ≡ true = sym (ap not k) ∙ h in cc
 
+  -- that a number is less is told
   less_told : (a b : ℕ) → a < b → nat_lt a b ≡ true
   less_told a b h = elim (cases_Bool (nat_lt a b)) [ inl yes_ ↦ yes_ | inr none ↦ absurd (omega (arith, h, ltb-false a b none)) ]
 
+  -- a free pair is listed, or apart
   listed : (a b : ℕ) → a < b → b < length es → IsFree (Told (comes order)) a b → Contains (pairs_of (is_doubtful order rows) order.count order.count) (a, b) ⊎ AreApartWhereSure es before a b
   listed a b less high free =
       let low : a < length es = omega (arith, less, high) in
@@ -52,6 +58,7 @@ module _ (es : List Program) (before : ℕ → ℕ → Bool) (order : Relation) 
             (and_from (nat_lt a b && not (comes order a b) && not (comes order b a)) (not (are_apart rows a b)) second (ap not meet)))
       ]
 
+  -- a listed pair is free, and isn't apart
   of_pair : (a b : ℕ) → Contains (pairs_of (is_doubtful order rows) order.count order.count) (a, b) → (a < b) × (b < length es) × IsFree (Told (comes order)) a b × (AreApartWhereSure es before a b → ⊥)
   of_pair a b h =
       let pair = pairs_from (is_doubtful order rows) order.count order.count (a, b) h in
@@ -66,12 +73,14 @@ module _ (es : List Program) (before : ℕ → ℕ → Bool) (order : Relation) 
         (λ apart. let wrong : false ≡ true = sym (ap not (rows_from_apart a b (omega (arith, less, high, long)) (omega (arith, high, long)) apart)) ∙ last.1 in cc),
       )
 
+  -- where nothing comes before another, the listed pairs are just those that aren't apart
   pub are_touching : ((a b : ℕ) → Comes order a b → ⊥) → AreTouching es before (pairs_of (is_doubtful order rows) order.count order.count)
   are_touching free = record {
     all = λ a b less high. listed a b less high (record { differ = λ same. omega (arith, less, same); not_before = free a b; not_after = free b a });
     only = λ a b h. let pair = of_pair a b h in (pair.0, pair.1, pair.3);
   }
 
+-- the listed pairs are just the doubtful ones
 pub are_doubtful : (es : List Program) (order : Relation) (rows : List (List Bool)) → IsMatrixOf (length es) (footprint_at es (comes order)) rows → length es ≡ order.count
     → AreDoubtful es (comes order) (pairs_of (is_doubtful order rows) order.count order.count)
 are_doubtful es order rows matrix long = record {
@@ -119,10 +128,12 @@ none_writes (e ∷ es) q h = elim (cases_Bool ((footprint e).writes q)) [
 
 -- whatever is said of the makers of folders and of footprints
 module _ (es : List Program) (before : ℕ → ℕ → Bool) where
+  -- what footprints tell of folders is true: a folder that is made before and written by none is sure
   abbrev pub ByFootprints : Type 0
   ByFootprints = (i maker : ℕ) (p : Path) → maker < length es → maker ≢ i → Told before maker i → In (sure_after (get_or es maker Id) nowhere) p
       → AllByRecursion (λ e. (footprint e).writes p ≡ false) es → IsSureBefore nowhere es (Told before) i p
 
+  -- the folders that surely stand by footprints are sure
   sure_there : ByFootprints → (i : ℕ) (p : Path) → surely_stands es before i p ≡ true → IsSureBefore nowhere es (Told before) i p
   sure_there by i p h =
       let two = and_parts (is_left_before before i 0 es p) (not (is_written es p)) h in
@@ -151,6 +162,7 @@ module _ (es : List Program) (before : ℕ → ℕ → Bool) where
       three true w d true false m e = let wrong : false ≡ true = m refl in cc
       three true w d false t m e = cc
 
+  -- programs that are apart, each with its own sure folders, are apart with those of both
   pub apart_with_both : (a b : ℕ) → AreApartWhereSure es before a b
       → AreApart (where_stand (either (surely_stands es before a) (surely_stands es before b)) (footprint (get_or es a Id)))
       (where_stand (either (surely_stands es before a) (surely_stands es before b)) (footprint (get_or es b Id)))
@@ -161,6 +173,7 @@ module _ (es : List Program) (before : ℕ → ℕ → Bool) where
         right = fewer_reads _ _ g f (either f g) (either f g) (λ q. or_right (f q) (g q)) (λ q. or_left (f q) (g q)) apart.right;
       }
 
+  -- the folders of both are sure before the one or before the other
   pub sure_either : ByFootprints → (a b : ℕ) (p : Path) → In (either (surely_stands es before a) (surely_stands es before b)) p → IsSureBeforeEither nowhere es (Told before) a b p
   sure_either by a b p h = elim (or_cases (surely_stands es before a p) (surely_stands es before b p) h) [
     | inl left ↦ inl (sure_there by a p left)

@@ -12,6 +12,7 @@ use Rattle.commute_prune.proofs.Lists.{none_left, others_left}
 use Rattle.commute_prune.proofs.MovedLaws.{AllAgree, agree_from, kept_of, completed}
 use Rattle.commute_prune.proofs.StepLaws.{up_below, without_keeps, without_short}
 
+-- equations that follow from one another are told alike
 same_test : (a b c d : ℕ) → (a ≡ b → c ≡ d) → (c ≡ d → a ≡ b) → (a == b) ≡ (c == d)
 same_test a b c d h k = elim (a == b) as (λ x. (a == b) ≡ x → x ≡ (c == d)) [
   | true ↦ λ e. sym (eq-eqb c d (h (eqb-true a b e)))
@@ -20,10 +21,12 @@ same_test a b c d h k = elim (a == b) as (λ x. (a == b) ≡ x → x ≡ (c == d
 
 -- ---- places in a list
 
+-- how many numbers stand ahead of this one
 place : ℕ → List ℕ → ℕ
 place k [] = zero
 place k (j ∷ ks) = cond (j == k) zero (suc (place k ks))
 
+-- at the place of a number it stands
 place_at : (k : ℕ) (ks : List ℕ) → 0 < times k ks → get_or ks (place k ks) 0 ≡ k
 unfolding place
 place_at k [] h = absurd (omega arith)
@@ -32,6 +35,7 @@ place_at k (j ∷ ks) h = elim (j == k) as (λ b. (j == k) ≡ b → 0 < cond b 
   | false ↦ λ e h. place_at k ks (omega arith)
 ] refl h
 
+-- the place of a number is within the list
 place_below : (k : ℕ) (ks : List ℕ) → 0 < times k ks → place k ks < length ks
 unfolding place
 place_below k [] h = absurd (omega arith)
@@ -40,14 +44,17 @@ place_below k (j ∷ ks) h = elim (j == k) as (λ b. 0 < cond b 1 0 + times k ks
   | false ↦ λ h. omega (arith, place_below k ks (omega arith))
 ] h
 
+-- what stands at a place stands in the list
 counted : (ks : List ℕ) (i : ℕ) → i < length ks → 0 < times (get_or ks i 0) ks
 counted [] i h = absurd (omega arith)
 counted (j ∷ ks) zero h = omega (arith, times_itself j ks)
 counted (j ∷ ks) (suc i) h = omega (arith, counted ks i (omega arith))
 
+-- no number stands in the list twice
 abbrev AtMostOnce : List ℕ → Type 0
 AtMostOnce ks = (j : ℕ) → times j ks ≤ 1
 
+-- where no number stands twice, the place of what stands at one is that place
 place_of : (ks : List ℕ) (i : ℕ) → AtMostOnce ks → i < length ks → place (get_or ks i 0) ks ≡ i
 unfolding place
 place_of [] i once h = absurd (omega arith)
@@ -68,6 +75,7 @@ places_counted ks (j ∷ o) i once all h =
     (λ e. sym (place_at j ks all.0) ∙ ap (λ n. get_or ks n 0) e) (λ e. ap (λ n. place n ks) e ∙ place_of ks i once h))
     ∙ ap (λ n. cond (j == get_or ks i 0) 1 0 + n) (places_counted ks o i once all.1 h)
 
+-- a number stands among those at some places as often as its place does
 numbers_counted : (ks o : List ℕ) (k : ℕ) → AtMostOnce ks → AllByRecursion (λ i. i < length ks) o → 0 < times k ks → times k (map (λ i. get_or ks i 0) o) ≡ times (place k ks) o
 numbers_counted ks [] k once all h = refl
 numbers_counted ks (i ∷ o) k once all h =
@@ -75,47 +83,57 @@ numbers_counted ks (i ∷ o) k once all h =
     (λ e. sym (place_of ks i once all.0) ∙ ap (λ n. place n ks) e) (λ e. ap (λ n. get_or ks n 0) e ∙ place_at k ks h))
     ∙ ap (λ n. cond (i == place k ks) 1 0 + n) (numbers_counted ks o k once all.1 h)
 
+-- a number that isn't in the list stands at no place
 none_counted : (ks o : List ℕ) (k : ℕ) → AllByRecursion (λ i. i < length ks) o → times k ks ≡ 0 → times k (map (λ i. get_or ks i 0) o) ≡ 0
 none_counted ks [] k all h = refl
 none_counted ks (i ∷ o) k all h =
     times_other k (get_or ks i 0) (map (λ i. get_or ks i 0) o) (λ f. let e = sym f in let there = counted ks i all.0 in omega (arith, there, h, ap (λ n. times n ks) e))
     ∙ none_counted ks o k all.1 h
 
+-- there are as many images as numbers
 length-numbers : (f : ℕ → Program) (ks : List ℕ) → length (map f ks) ≡ length ks
 length-numbers f [] = refl
 length-numbers f (k ∷ ks) = ap suc (length-numbers f ks)
 
+-- the chosen program at a place is that of the number there
 program_at : (es : List Program) (ks : List ℕ) (i : ℕ) → i < length ks → get_or (chosen es ks) i Id ≡ get_or es (get_or ks i 0) Id
 program_at es [] i h = absurd (omega arith)
 program_at es (k ∷ ks) zero h = refl
 program_at es (k ∷ ks) (suc i) h = program_at es ks i (omega arith)
 
+-- the chosen programs, by places, end as all programs do, by numbers
 outcome_chosen : (es : List Program) (ks o : List ℕ) → AllByRecursion (λ i. i < length ks) o → (t : Tree) → outcome (chosen es ks) o t ≡ outcome es (map (λ i. get_or ks i 0) o) t
 outcome_chosen es ks [] all t = refl
 outcome_chosen es ks (i ∷ o) all t = (λ n. and_then (run (program_at es ks i all.0 n) t) (λ u. outcome_chosen es ks o all.1 u n))
 
+-- the numbers at the places of some numbers are these
 back_and_forth : (ks o : List ℕ) → AllByRecursion (λ j. 0 < times j ks) o → map (λ i. get_or ks i 0) (map (λ k. place k ks) o) ≡ o
 back_and_forth ks [] all = refl
 back_and_forth ks (j ∷ o) all = (λ n. place_at j ks all.0 n ∷ back_and_forth ks o all.1 n)
 
+-- the places of numbers of the list are within it
 all_places : (ks o : List ℕ) → AllByRecursion (λ j. 0 < times j ks) o → AllByRecursion (λ i. i < length ks) (map (λ k. place k ks) o)
 all_places ks [] all = tt
 all_places ks (j ∷ o) all = (place_below j ks all.0, all_places ks o all.1)
 
 module _ (before : ℕ → ℕ → Type 0) where
+  -- by places none stands ahead of one that comes before it, where by numbers none does
   ahead : (ks o : List ℕ) (b : ℕ) → 0 < times b ks → AllByRecursion (λ j. 0 < times j ks) o → AllByRecursion (λ a. before a b → ⊥) o
       → AllByRecursion (λ a. between before ks a (place b ks) → ⊥) (map (λ k. place k ks) o)
   ahead ks [] b h all none = tt
   ahead ks (j ∷ o) b h all none = ((λ k. none.0 (subst₂ before (place_at j ks all.0) (place_at b ks h) k)), ahead ks o b h all.1 none.1)
 
+  -- an order by numbers that keeps what comes before what does so by places
   places_ahead : (ks o : List ℕ) → AllByRecursion (λ j. 0 < times j ks) o → NoneAhead before o → NoneAhead (between before ks) (map (λ k. place k ks) o)
   places_ahead ks [] all h = tt
   places_ahead ks (j ∷ o) all h = (ahead ks o j all.0 all.1 h.0, places_ahead ks o all.1 h.1)
 
+  -- by numbers none stands ahead of one that comes before it, where by places none does
   numbers_ahead_of : (ks o : List ℕ) (b : ℕ) → AllByRecursion (λ a. between before ks a b → ⊥) o → AllByRecursion (λ a. before a (get_or ks b 0) → ⊥) (map (λ i. get_or ks i 0) o)
   numbers_ahead_of ks [] b h = tt
   numbers_ahead_of ks (a ∷ o) b h = (h.0, numbers_ahead_of ks o b h.1)
 
+  -- an order by places that keeps what comes before what does so by numbers
   numbers_ahead : (ks o : List ℕ) → NoneAhead (between before ks) o → NoneAhead before (map (λ i. get_or ks i 0) o)
   numbers_ahead ks [] h = tt
   numbers_ahead ks (b ∷ o) h = (numbers_ahead_of ks o b h.0, numbers_ahead ks o h.1)
@@ -133,6 +151,7 @@ module _ (before : ℕ → ℕ → Type 0) where
         kept = places_ahead ks o all order.kept;
       }
 
+  -- an allowed order of the chosen programs is, by numbers, an order of these
   as_numbers : (es : List Program) (ks o : List ℕ) → AtMostOnce ks → IsLinearExtension (length (chosen es ks)) (between before ks) o → IsOrderOf before ks (map (λ i. get_or ks i 0) o)
   as_numbers es ks o once order =
       let size = length-numbers (λ k. get_or es k Id) ks in
@@ -147,6 +166,7 @@ module _ (before : ℕ → ℕ → Type 0) where
         kept = numbers_ahead ks o order.kept;
       }
 
+  -- where the chosen programs are deterministic, all orders of their numbers end alike
   agree_kept : (es : List Program) (ks : List ℕ) → AtMostOnce ks → IsDeterministic (chosen es ks) (between before ks) → AllAgree es before ks
   agree_kept es ks once deterministic t tree o p a b =
       sym (replaced o a) ∙ deterministic t tree _ _ (as_places es ks o once a) (as_places es ks p once b) ∙ replaced p b
@@ -158,10 +178,12 @@ module _ (before : ℕ → ℕ → Type 0) where
 
 -- ---- all numbers
 
+-- no smaller number stands among those from one on
 lower_none : (k n j : ℕ) → j < k → times j (up_from k n) ≡ 0
 lower_none k zero j h = refl
 lower_none k (suc n) j h = times_other j k (up_from (suc k) n) (λ e. omega arith) ∙ lower_none (suc k) n j (omega arith)
 
+-- each of those stands there once
 pub up_once : (k n j : ℕ) → k ≤ j → j < k + n → times j (up_from k n) ≡ 1
 up_once k zero j h l = absurd (omega arith)
 up_once k (suc n) j h l = elim (k == j) as (λ b. (k == j) ≡ b → cond b 1 0 + times j (up_from (suc k) n) ≡ 1) [
@@ -169,15 +191,18 @@ up_once k (suc n) j h l = elim (k == j) as (λ b. (k == j) ≡ b → cond b 1 0 
   | false ↦ λ e. omega (arith, up_once (suc k) n j (let other : k ≡ j → ⊥ = eqb-false k j e in omega arith) (omega arith))
 ] refl
 
+-- and no greater one does
 pub higher_none : (k n j : ℕ) → k + n ≤ j → times j (up_from k n) ≡ 0
 higher_none k zero j h = refl
 higher_none k (suc n) j h = times_other j k (up_from (suc k) n) (λ e. omega arith) ∙ higher_none (suc k) n j (omega arith)
 
+-- no number past the last stands in an order
 outside : (n j : ℕ) (o : List ℕ) → AllByRecursion (λ i. i < n) o → n ≤ j → times j o ≡ 0
 outside n j [] all h = refl
 outside n j (i ∷ o) all h = let low : i < n = all.0 in times_other j i o (λ e. omega arith) ∙ outside n j o all.1 h
 
 module _ (n : ℕ) (before : ℕ → ℕ → Type 0) where
+  -- an allowed order is one of all numbers
   order_of_all : (o : List ℕ) → IsLinearExtension n before o → IsOrderOf before (up_from 0 n) o
   order_of_all o a = record {
     same = λ k. elim (nat_lt k n) as (λ b. nat_lt k n ≡ b → times k o ≡ times k (up_from 0 n)) [
@@ -187,6 +212,7 @@ module _ (n : ℕ) (before : ℕ → ℕ → Type 0) where
     kept = a.kept;
   }
 
+  -- and an order of all numbers is allowed
   all_in_order : (o : List ℕ) → IsOrderOf before (up_from 0 n) o → IsLinearExtension n before o
   all_in_order o a = record {
     below = all_from (λ k. k < n) o (λ k h. elim (nat_lt k n) as (λ b. nat_lt k n ≡ b → k < n) [
@@ -197,16 +223,19 @@ module _ (n : ℕ) (before : ℕ → ℕ → Type 0) where
     kept = a.kept;
   }
 
+-- there are so many numbers from one on
 length-up : (k n : ℕ) → length (up_from k n) ≡ n
 length-up k zero = refl
 length-up k (suc n) = ap suc (length-up (suc k) n)
 
+-- and none of them twice
 once_up : (n : ℕ) → AtMostOnce (up_from 0 n)
 once_up n j = elim (nat_lt j n) as (λ b. nat_lt j n ≡ b → times j (up_from 0 n) ≤ 1) [
   | true ↦ λ e. omega (arith, up_once 0 n j (omega arith) (omega (arith, ltb-true j n e)))
   | false ↦ λ e. omega (arith, higher_none 0 n j (omega (arith, ltb-false j n e)))
 ] refl
 
+-- where no number stands twice, none does without one of them
 fewer : (k : ℕ) (ks : List ℕ) → AtMostOnce ks → AtMostOnce (without k ks)
 fewer k ks once j = elim (j == k) as (λ b. (j == k) ≡ b → times j (without k ks) ≤ 1) [
   | true ↦ λ e. omega (arith, none_left k ks, ap (λ i. times i (without k ks)) (eqb-true j k e))
@@ -214,21 +243,25 @@ fewer k ks once j = elim (j == k) as (λ b. (j == k) ≡ b → times j (without 
 ] refl
 
 module _ (es : List Program) (before : ℕ → ℕ → Type 0) where
+  -- moves keep no number twice
   kept_once : (moves : List Move) (ks kept : List ℕ) → Leads es before moves ks kept → AtMostOnce ks → AtMostOnce kept
   kept_once [] ks kept leads once = subst AtMostOnce (sym leads) once
   kept_once (ToFirst k ∷ moves) ks kept leads once = kept_once moves (without k ks) kept leads.1 (fewer k ks once)
   kept_once (ToLast k ∷ moves) ks kept leads once = kept_once moves (without k ks) kept leads.1 (fewer k ks once)
 
+  -- moves keep numbers of programs
   kept_below : (moves : List Move) (ks kept : List ℕ) (n : ℕ) → Leads es before moves ks kept → AllByRecursion (λ k. k < n) ks → AllByRecursion (λ k. k < n) kept
   kept_below [] ks kept n leads all = subst (AllByRecursion (λ k. k < n)) (sym leads) all
   kept_below (ToFirst k ∷ moves) ks kept n leads all = kept_below moves (without k ks) kept n leads.1 (without_keeps (λ k. k < n) k ks all)
   kept_below (ToLast k ∷ moves) ks kept n leads all = kept_below moves (without k ks) kept n leads.1 (without_keeps (λ k. k < n) k ks all)
 
+  -- moves keep no more numbers than there were
   kept_short : (moves : List Move) (ks kept : List ℕ) → Leads es before moves ks kept → length kept ≤ length ks
   kept_short [] ks kept leads = omega (arith, ap length leads)
   kept_short (ToFirst k ∷ moves) ks kept leads = omega (arith, kept_short moves (without k ks) kept leads.1, without_short k ks)
   kept_short (ToLast k ∷ moves) ks kept leads = omega (arith, kept_short moves (without k ks) kept leads.1, without_short k ks)
 
+  -- what moves keep are some of the programs, none of them twice
   pub some_kept : (moves : List Move) (kept : List ℕ) → Leads es before moves (up_from 0 (length es)) kept → AreSome (length es) kept
   some_kept moves kept leads = record {
     below = kept_below moves (up_from 0 (length es)) kept (length es) leads (up_below 0 (length es) (length es) (omega arith));
@@ -237,16 +270,19 @@ module _ (es : List Program) (before : ℕ → ℕ → Type 0) where
   }
 
   module _ (proper : AllByRecursion IsProper es) (moves : List Move) (kept : List ℕ) (leads : Leads es before moves (up_from 0 (length es)) kept) where
+    -- all programs are deterministic where the kept ones are
     pub kept_is_enough : IsDeterministic (chosen es kept) (between before kept) → IsDeterministic es before
     kept_is_enough h t tree o p a b =
         agree_from es proper before moves (up_from 0 (length es)) kept leads (agree_kept before es kept (kept_once moves _ kept leads (once_up (length es))) h) t tree o p
         (order_of_all (length es) before o a) (order_of_all (length es) before p b)
 
+    -- an order of the kept ones, with what goes first and what goes last around it, is one of all
     pub completed_order : (o : List ℕ) → IsLinearExtension (length (chosen es kept)) (between before kept) o
         → IsLinearExtension (length es) before (firsts moves ++ (map (λ i. get_or kept i 0) o ++ lasts moves))
     completed_order o a = all_in_order (length es) before _
         (completed es proper before moves (up_from 0 (length es)) kept (map (λ i. get_or kept i 0) o) leads (as_numbers before es kept o (kept_once moves _ kept leads (once_up (length es))) a))
 
+    -- an order of all ends as one of the kept ones does, with those around it
     pub ends_as_kept : (o : List ℕ) → IsLinearExtension (length es) before o → EndsAsKept es before moves kept o
     ends_as_kept o a =
         let once = kept_once moves _ kept leads (once_up (length es)) in

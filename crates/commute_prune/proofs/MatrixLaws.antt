@@ -12,6 +12,7 @@ use Rattle.commute_prune.specs.Numbers.{Extends, has, any_marked}
 use Rattle.commute_prune.specs.Numbered.{clear_by_marks, shares, is_clear, StandsFor, AreOf}
 use Rattle.commute_prune.proofs.NumberLaws.{still_numbers}
 
+-- what is there twice is one
 of_some : {x y : Numbered} → ◌≡◌ {A = Option Numbered} (Some x) (Some y) → x ≡ y
 of_some e = cc
 
@@ -25,11 +26,13 @@ get_last (z ∷ xs) y (suc i) x h = elim (get_last xs y i x h) [
   | inr new ↦ inr (omega (arith, new.0), new.1)
 ]
 
+-- the program at a place is what the code's program there means
 pub map_at : (es : List CodeProgram) (i : ℕ) (e : CodeProgram) → i < length es → e ≡ get_or es i e → get_or (map program_of es) i Id ≡ program_of e
 map_at [] i e h is = absurd (omega arith)
 map_at (x ∷ es) zero e h is = ap program_of (sym is)
 map_at (x ∷ es) (suc i) e h is = map_at es i e (omega arith) is
 
+-- the sets of a program are its sets still when more paths have numbers
 still_sets : (m more : BTreeMap Path ℕ) (e : Program) (x : Numbered) → Extends m more → StandsFor m e x → StandsFor more e x
 still_sets m more e x k s = (
   s.0,
@@ -53,9 +56,11 @@ one_more_of m more es xs y n k long are new i x h = elim (get_last xs y i x h) [
   | inr last ↦ subst (λ j. StandsFor more (get_or es j Id) x) (sym (last.0 ∙ long)) (subst (StandsFor more (get_or es n Id)) last.1 new)
 ]
 
+-- no sets are those of no programs
 pub none_of : (m : BTreeMap Path ℕ) (es : List Program) → AreOf m es []
 none_of m es i x h = let no : ◌≡◌ {A = Option Numbered} None (Some x) = h in cc
 
+-- a list of numbers has a marked one exactly where it shares one with those that are marked
 marks_share : (marks : List Bool) (ns : List ℕ) → ((n : ℕ) → get_or marks n false ≡ has n ns) → (ks : List ℕ) → any_marked marks ks ≡ shares ns ks
 marks_share marks ns h ks = ap (λ (f : ℕ → Bool). list_any f ks) (λ i n. h n i)
 

@@ -18,6 +18,7 @@ use Rattle.commute_prune.proofs.Lists.{none_left, others_left}
 abbrev pub AllAgree : List Program → (ℕ → ℕ → Type 0) → List ℕ → Type 0
 AllAgree es before ks = (t : Tree) → IsTree t → (o p : List ℕ) → IsOrderOf before ks o → IsOrderOf before ks p → outcome es o t ≡ outcome es p t
 
+-- the program with a number is proper
 proper_at : (es : List Program) → AllByRecursion IsProper es → (i : ℕ) → IsProper (get_or es i Id)
 proper_at [] all i = tt
 proper_at (e ∷ es) all zero = all.0
@@ -27,12 +28,14 @@ proper_at (e ∷ es) all (suc i) = proper_at es all.1 i
 split_times : (j k : ℕ) (f g : List ℕ) → times j (f ++ k ∷ g) ≡ times j (f ++ g) + cond (k == j) 1 0
 split_times j k f g = omega (arith, times_append j f (k ∷ g), times_append j f g)
 
+-- an order without one of its numbers has the others as often as before
 rest_same : (k : ℕ) (ks f g : List ℕ) → times k ks ≡ 1 → ((j : ℕ) → times j (f ++ k ∷ g) ≡ times j ks) → (j : ℕ) → times j (f ++ g) ≡ times j (without k ks)
 rest_same k ks f g once same j = elim (k == j) as (λ b. (k == j) ≡ b → times j (f ++ k ∷ g) ≡ times j (f ++ g) + cond b 1 0 → times j (f ++ g) ≡ times j (without k ks)) [
   | true ↦ λ e h. let is : k ≡ j = eqb-true k j e in omega (arith, h, same j, ap (λ i. times i ks) is, once, none_left k ks, ap (λ i. times i (without k ks)) is)
   | false ↦ λ e h. omega (arith, h, same j, others_left j k ks (λ f. eqb-false k j e (sym f)))
 ] refl (split_times j k f g)
 
+-- an order of the others, with that number in front, has each as often as before
 more_same : (k : ℕ) (ks o : List ℕ) → times k ks ≡ 1 → ((j : ℕ) → times j o ≡ times j (without k ks)) → (j : ℕ) → times j (k ∷ o) ≡ times j ks
 more_same k ks o once same j = elim (k == j) as (λ b. (k == j) ≡ b → cond b 1 0 + times j o ≡ times j ks) [
   | true ↦ λ e. let is : k ≡ j = eqb-true k j e in omega (arith, same j, ap (λ i. times i ks) is, once, none_left k ks, ap (λ i. times i (without k ks)) is)
@@ -47,31 +50,39 @@ still_one j k ks h = elim (j == k) as (λ b. (j == k) ≡ b → 0 < times j ks) 
 ] refl
 
 module _ (es : List Program) (proper : AllByRecursion IsProper es) (before : ℕ → ℕ → Type 0) where
+  -- a program leaves a file tree one
   tree_after : (i : ℕ) (t u : Tree) → IsTree t → run (get_or es i Id) t ≡ Some u → IsTree u
   tree_after i t u tree h = keeps_tree (get_or es i Id) t u (proper_at es proper i) tree h
 
+  -- the programs with these two numbers commute
   abbrev CommuteAt : ℕ → ℕ → Type 0
   CommuteAt k j = Commutes (get_or es k Id) (get_or es j Id)
 
+  -- programs that are apart commute
   commute_at : (k j : ℕ) → ApartAt es k j → CommuteAt k j
   commute_at k j apart = apart_commute (get_or es k Id) (get_or es j Id) (proper_at es proper k) (proper_at es proper j) apart
 
+  -- programs that commute may change places at the front of an order
   swapped : (k j : ℕ) (o : List ℕ) (t : Tree) → IsTree t → CommuteAt k j → outcome es (k ∷ j ∷ o) t ≡ outcome es (j ∷ k ∷ o) t
   swapped k j o t tree c =
       sym (and_then_assoc (run (get_or es k Id) t) (run (get_or es j Id)) (outcome es o)) ∙ ap (λ r. and_then r (outcome es o)) (c t tree)
       ∙ and_then_assoc (run (get_or es j Id) t) (run (get_or es k Id)) (outcome es o)
 
+  -- orders that end alike from every tree do so behind a program
   after : (i : ℕ) (o p : List ℕ) (t : Tree) → IsTree t → ((u : Tree) → IsTree u → outcome es o u ≡ outcome es p u) → outcome es (i ∷ o) t ≡ outcome es (i ∷ p) t
   after i o p t tree h = then_alike (run (get_or es i Id) t) (outcome es o) (outcome es p) (λ u k. h u (tree_after i t u tree k))
 
+  -- a program that commutes with all behind it may go last
   to_end : (k : ℕ) (g : List ℕ) → AllByRecursion (CommuteAt k) g → (t : Tree) → IsTree t → outcome es (k ∷ g) t ≡ outcome es (g ++ k ∷ []) t
   to_end k [] all t tree = refl
   to_end k (j ∷ g) all t tree = swapped k j g t tree all.0 ∙ after j (k ∷ g) (g ++ k ∷ []) t tree (to_end k g all.1)
 
+  -- and so it may from within an order
   moved_last : (f : List ℕ) (k : ℕ) (g : List ℕ) → AllByRecursion (CommuteAt k) g → (t : Tree) → IsTree t → outcome es (f ++ k ∷ g) t ≡ outcome es ((f ++ g) ++ k ∷ []) t
   moved_last [] k g all t tree = to_end k g all t tree
   moved_last (i ∷ f) k g all t tree = after i (f ++ k ∷ g) ((f ++ g) ++ k ∷ []) t tree (moved_last f k g all)
 
+  -- a program that commutes with all ahead of it may go first
   moved_first : (f : List ℕ) (k : ℕ) (g : List ℕ) → AllByRecursion (CommuteAt k) f → (t : Tree) → IsTree t → outcome es (f ++ k ∷ g) t ≡ outcome es (k ∷ f ++ g) t
   moved_first [] k g all t tree = refl
   moved_first (i ∷ f) k g all t tree =
@@ -85,16 +96,19 @@ module _ (es : List Program) (proper : AllByRecursion IsProper es) (before : ℕ
       let left = rest_same k ks f g once same j in
       (still_one j k ks (omega (arith, h, left)), (λ e. omega (arith, h, left, none_left k ks, ap (λ i. times i (without k ks)) e)))
 
+  -- the order without a program, which may as well go last
   record LastOf (k : ℕ) (ks o : List ℕ) : Type 0 where
     rest : List ℕ
     order : IsOrderOf before (without k ks) rest
     alike : (t : Tree) → IsTree t → outcome es o t ≡ outcome es (rest ++ k ∷ []) t
 
+  -- the order without a program, which may as well go first
   record FirstOf (k : ℕ) (ks o : List ℕ) : Type 0 where
     rest : List ℕ
     order : IsOrderOf before (without k ks) rest
     alike : (t : Tree) → IsTree t → outcome es o t ≡ outcome es (k ∷ rest) t
 
+  -- where a program may be last, each order ends as one in which it is
   last_of : (k : ℕ) (ks o : List ℕ) → MayBeLast es before ks k → IsOrderOf before ks o → LastOf k ks o
   last_of k ks o may order =
       let s = times_found k o (omega (arith, order.same k, may.once)) in
@@ -110,6 +124,7 @@ module _ (es : List Program) (proper : AllByRecursion IsProper es) (before : ℕ
             commute_at k j (may.apart j other.0 other.1 (all_at (λ i. before i k → ⊥) g j (none_ahead_at before f k g kept) h)))) t tree;
       }
 
+  -- where a program may be first, each order ends as one in which it is
   first_of_order : (k : ℕ) (ks o : List ℕ) → MayBeFirst es before ks k → IsOrderOf before ks o → FirstOf k ks o
   first_of_order k ks o may order =
       let s = times_found k o (omega (arith, order.same k, may.once)) in
@@ -125,6 +140,7 @@ module _ (es : List Program) (proper : AllByRecursion IsProper es) (before : ℕ
             commute_at k j (may.apart j other.0 other.1 (all_at (λ i. before k i → ⊥) f j (none_ahead_behind before f k g kept) h)))) t tree;
       }
 
+  -- where all orders of the kept ones end alike, all orders do
   pub agree_from : (moves : List Move) (ks kept : List ℕ) → Leads es before moves ks kept → AllAgree es before kept → AllAgree es before ks
   agree_from [] ks kept leads h t tree o p a b = subst (AllAgree es before) leads h t tree o p a b
   agree_from (ToLast k ∷ moves) ks kept leads h t tree o p a b =
@@ -144,6 +160,7 @@ module _ (es : List Program) (proper : AllByRecursion IsProper es) (before : ℕ
     pub order : IsOrderOf before kept rest
     pub alike : (t : Tree) → IsTree t → outcome es o t ≡ outcome es (firsts moves ++ (rest ++ lasts moves)) t
 
+  -- each order ends as one of the kept ones, with what goes first and what goes last
   pub kept_of : (moves : List Move) (ks kept o : List ℕ) → Leads es before moves ks kept → IsOrderOf before ks o → KeptOf moves kept o
   kept_of [] ks kept o leads order = record {
     rest = o;

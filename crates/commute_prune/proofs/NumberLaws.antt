@@ -11,9 +11,11 @@ use Rattle.commute_prune.specs.Numbers.{number_in, IsNumbering, Extends, has, Ar
 at : (m more : BTreeMap Path ℕ) (p : Path) (n : ℕ) → Updates path_cmp m more p (Some n) → (q : Path) → number_in more q ≡ cond (path_eq p q) (Some n) (number_in m q)
 at m more p n u q = u.0 q
 
+-- what is there twice is one
 of_some : {x y : ℕ} → ◌≡◌ {A = Option ℕ} (Some x) (Some y) → x ≡ y
 of_some e = cc
 
+-- what isn't there has no number
 no_number : {n : ℕ} (o : Option ℕ) → o ≡ None → o ≡ Some n → ⊥
 no_number {n} o h k = let no : ◌≡◌ {A = Option ℕ} None (Some n) = sym h ∙ k in cc
 
@@ -25,6 +27,7 @@ from m more p n u q k h = elim (cases_Bool (path_eq p q)) [
   | inr other ↦ inr (sym (at m more p n u q ∙ ap (λ b. cond b (Some n) (number_in m q)) other) ∙ h)
 ]
 
+-- a new path with the count as its number leaves different paths different numbers
 pub numbering_more : (m more : BTreeMap Path ℕ) (p : Path) → IsNumbering m → number_in m p ≡ None → Updates path_cmp m more p (Some (btree_map_len m)) → btree_map_len more ≡ btree_map_len m + 1
     → IsNumbering more
 numbering_more m more p is new u long = record {
@@ -44,12 +47,14 @@ numbering_more m more p is new u long = record {
   ];
 }
 
+-- a new path keeps the numbers that were given
 pub extends_more : (m more : BTreeMap Path ℕ) (p : Path) (n : ℕ) → number_in m p ≡ None → Updates path_cmp m more p (Some n) → Extends m more
 extends_more m more p n new u q k h = elim (cases_Bool (path_eq p q)) [
   | inl same ↦ absurd (no_number (number_in m p) new (ap (number_in m) (path_eq_same p q same) ∙ h))
   | inr other ↦ at m more p n u q ∙ ap (λ b. cond b (Some n) (number_in m q)) other ∙ h
 ]
 
+-- a numbering keeps its own numbers
 pub extends_same : (m : BTreeMap Path ℕ) → Extends m m
 extends_same m p n h = h
 
@@ -60,6 +65,7 @@ still_numbers m more f ns x a = record {
   stems = λ n h. let s = a.stems n h in (s.0, s.1, x s.0 n s.2);
 }
 
+-- a number stands in a list with one more exactly where it stood there, or is that one
 has_last : (n k : ℕ) (ns : List ℕ) → has n (ns ++ k ∷ []) ≡ (has n ns || (n == k))
 has_last n k [] = or_nothing (n == k)
   where
@@ -86,6 +92,7 @@ one_number m more f g p n ns x a here is = record {
   ];
 }
 
+-- a path is in a list with one more exactly where it was there, or is that one
 pub among_last : (q p : Path) (front : List Path) → is_among q (front ++ p ∷ []) ≡ (path_eq q p || is_among q front)
 among_last q p [] = refl
 among_last q p (r ∷ front) = ap (λ b. path_eq q r || b) (among_last q p front) ∙ move (path_eq q r) (path_eq q p) (is_among q front)

@@ -6,6 +6,7 @@ use Rattle.fs_semantics.specs.Changes.{IsProper, AreProperSteps}
 use Rattle.fs_lang.specs.declared.program.Program.{Program}
 use Rattle.fs_lang.specs.Meaning.{program_of, programs_in}
 
+-- programs of proper steps are all proper
 pub all_proper : (es : List Program) → AreProperSteps (programs_in es) → AllByRecursion IsProper (map program_of es)
 all_proper [] h = tt
 all_proper (e ∷ es) h = (h.0, all_proper es h.1)

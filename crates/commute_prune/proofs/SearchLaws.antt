@@ -18,6 +18,7 @@ use Rattle.commute_prune.proofs.PrunedLaws.{all_true, true_all}
 
 -- ---- nothing seen
 
+-- at first all are kept, and all are marked
 marked_at_first : (n : ℕ) → AreMarked (up_from 0 n) (replicate n true)
 marked_at_first n j = elim (cases_Bool (nat_lt j n)) [
   | inl less ↦
@@ -29,12 +30,14 @@ marked_at_first n j = elim (cases_Bool (nat_lt j n)) [
       ((λ m. let no : true ≡ false = sym m ∙ get_or_past (replicate n true) j false (omega (arith, h, length-replicate n true)) in absurd cc), λ t. absurd (omega (arith, t, none)))
 ]
 
+-- at first nothing is noted
 none_noted : (n k : ℕ) → ◌≡◌ {A = ℕ} (get_or (replicate n 0) k 0) 0
 none_noted n k = elim (cases_Bool (nat_lt k n)) [
   | inl less ↦ get_or-replicate n k 0 0 (ltb-true k n less)
   | inr more ↦ get_or_past (replicate n 0) k 0 (let h = ltb-false k n more in omega (arith, h, length-replicate {A = ℕ} n 0))
 ]
 
+-- so nothing was passed over
 unseen : (lets_go : ℕ → ℕ → Bool) (n : ℕ) (kept : List ℕ) → IsSeen lets_go n kept (replicate n 0)
 unseen lets_go n kept = record {
   long = length-replicate {A = ℕ} n 0;
@@ -42,6 +45,7 @@ unseen lets_go n kept = record {
   passed = λ k j less there. let e = none_noted n k in absurd (omega (arith, e, less));
 }
 
+-- a search begins with all marked and nothing noted
 pub search_starts : (order : Relation) (rows : List (List Bool)) (kept : List ℕ) (s : Search) → kept ≡ up_from 0 order.count → IsNothingSeen order.count s → IsSearch order rows kept s
 search_starts order rows kept s all h = record {
   long = ap length h.stays ∙ length-replicate order.count true;
@@ -52,12 +56,14 @@ search_starts order rows kept s all h = record {
 
 -- ---- one is taken out
 
+-- what is kept without a program was kept before
 kept_before : (j k : ℕ) (kept : List ℕ) → 0 < times j (without k kept) → 0 < times j kept
 kept_before j k kept h = elim (cases_Bool (j == k)) [
   | inl here ↦ let e = ap (λ i. times i (without k kept)) (eqb-true j k here) ∙ none_left k kept in absurd (omega (arith, h, e))
   | inr other ↦ let e = others_left j k kept (eqb-false j k other) in omega (arith, h, e)
 ]
 
+-- with its mark taken away the marks are those without it
 marked_without : (kept : List ℕ) (stays : List Bool) (k : ℕ) → k < length stays → AreMarked kept stays → AreMarked (without k kept) (slice_set stays k false)
 marked_without kept stays k within m j = elim (cases_Bool (j == k)) [
   | inl here ↦
@@ -73,6 +79,7 @@ marked_without kept stays k within m j = elim (cases_Bool (j == k)) [
       ((λ t. let there = (m j).0 (sym at ∙ t) in omega (arith, e, there)), λ t. at ∙ (m j).1 (omega (arith, e, t)))
 ]
 
+-- what was passed over lets go still when one less is kept
 seen_without : (lets_go : ℕ → ℕ → Bool) (n : ℕ) (kept seen : List ℕ) (x : ℕ) → IsSeen lets_go n kept seen → IsSeen lets_go n (without x kept) seen
 seen_without lets_go n kept seen x h = record {
   long = h.long;
@@ -80,6 +87,7 @@ seen_without lets_go n kept seen x h = record {
   passed = λ k j less there. h.passed k j less (kept_before j x kept there);
 }
 
+-- the search goes on without a program that moved
 pub search_without : (order : Relation) (rows : List (List Bool)) (kept : List ℕ) (k : ℕ) (s t : Search) → k < length s.stays.items
     → t.stays.items ≡ slice_set s.stays.items k false → t.first.items ≡ s.first.items → t.last.items ≡ s.last.items → IsSearch order rows kept s → IsSearch order rows (without k kept) t
 search_without order rows kept k s t within stays first last h = record {
@@ -101,6 +109,7 @@ module _ (lets_go : ℕ → ℕ → Bool) (n : ℕ) (kept : List ℕ) (stays : L
 
   module _ (seen : List ℕ) (at : ℕ) (h : IsSeen lets_go n kept seen) (within : k < n) (few : at ≤ n)
       (passed : (j : ℕ) → get_or seen k 0 ≤ j → j < at → blocks lets_go stays k j ≡ false) where
+    -- all kept ones below the place that was come to let the program go
     now_seen : (j : ℕ) → j < at → 0 < times j kept → lets_go k j ≡ true
     now_seen j less there = elim (cases_Bool (nat_lt j (get_or seen k 0))) [
       | inl before ↦ h.passed k j (ltb-true j (get_or seen k 0) before) there

@@ -49,23 +49,27 @@ written_told m (e ∷ es) (x ∷ xs) q n is long are here =
     let rest = written_told m es xs q n is (omega (arith, long)) (λ j y h. are (suc j) y h) here in
     ap₂ (λ a b. a || b) own rest
 
+-- by numbers a folder surely stands exactly where by paths it does
 stands_told : (before : ℕ → ℕ → Bool) (m : BTreeMap Path ℕ) (i : ℕ) (es : List Program) (xs : List Numbered) (q : Path) (n : ℕ) → IsNumbering m → length xs ≡ length es → AreOf m es xs
     → number_in m q ≡ Some n → stands_at before i xs n ≡ surely_stands es before i q
 stands_told before m i es xs q n is long are here = ap₂ (λ a b. a && not b) (left_told before m i 0 es xs q n is long are here) (written_told m es xs q n is long are here)
 
 -- ---- what is left of a list
 
+-- what is left out of one side is left out of both
 left_out : (a b c : Bool) → (a ≡ true → c ≡ true) → (b && not c) ≡ ((a || b) && not c)
 left_out true true true h = refl
 left_out true false true h = refl
 left_out true b false h = let no : false ≡ true = h refl in cc
 left_out false b c h = refl
 
+-- what isn't left out stays
 stays_in : (a b c : Bool) → (a ≡ true → c ≡ false) → (a || (b && not c)) ≡ ((a || b) && not c)
 stays_in true b true h = let no : true ≡ false = h refl in cc
 stays_in true b false h = refl
 stays_in false b c h = refl
 
+-- a number is among those that aren't sure exactly where it is there and isn't
 has_unsure : (stands : ℕ → Bool) (ns : List ℕ) (n : ℕ) → has n (unsure stands ns) ≡ (has n ns && not (stands n))
 has_unsure stands [] n = refl
 has_unsure stands (k ∷ ns) n = elim (stands k) as (λ b. stands k ≡ b → has n (if b then unsure stands ns else (k ∷ unsure stands ns)) ≡ (((n == k) || has n ns) && not (stands n))) [
@@ -78,6 +82,7 @@ abbrev without : Paths → List Path → List Path
 without folders [] = []
 without folders (p ∷ ps) = if folders p then without folders ps else (p ∷ without folders ps)
 
+-- a path is left without the folders exactly where it is there and is none of them
 among_without : (folders : Paths) (ps : List Path) (q : Path) → is_among q (without folders ps) ≡ (is_among q ps && not (folders q))
 among_without folders [] q = refl
 among_without folders (p ∷ ps) q = elim (folders p) as (λ b. folders p ≡ b → is_among q (if b then without folders ps else (p ∷ without folders ps)) ≡ ((path_eq q p || is_among q ps) && not (folders q))) [
@@ -87,6 +92,7 @@ among_without folders (p ∷ ps) q = elim (folders p) as (λ b. folders p ≡ b 
 
 -- ---- footprints
 
+-- the numbers without those of the folders are those of the paths without these
 reads_left : (m : BTreeMap Path ℕ) (folders : Paths) (stands : ℕ → Bool) (ps : List Path) (ns : List ℕ) → ((q : Path) (n : ℕ) → number_in m q ≡ Some n → stands n ≡ folders q)
     → AreNumbers m (λ q. is_among q ps) ns → AreNumbers m (λ q. is_among q (without folders ps)) (unsure stands ns)
 reads_left m folders stands ps ns told a = record {
@@ -100,6 +106,7 @@ reads_left m folders stands ps ns told a = record {
       (s.0, among_without folders ps s.0 ∙ and_from (is_among s.0 ps) (not (folders s.0)) s.1 (ap not (sym (told s.0 n s.2)) ∙ two.1), s.2);
 }
 
+-- the sets without the folders are those of the footprint without these
 reduced_sets : (m : BTreeMap Path ℕ) (x y : Numbered) (f : Footprint) (folders : Paths) (stands : ℕ → Bool) → AreSetsOf m f x → ((q : Path) (n : ℕ) → number_in m q ≡ Some n → stands n ≡ folders q)
     → IsReduced stands x y → AreSetsOf m (where_stand folders f) y
 reduced_sets m x y f folders stands s told r =
@@ -122,6 +129,7 @@ reduced_sets m x y f folders stands s told r =
       },
     )
 
+-- the reduced sets are those of the footprints where the sure folders stand
 pub footprints_at : (before : ℕ → ℕ → Bool) (m : BTreeMap Path ℕ) (es : List Program) (xs ys : List Numbered) → IsNumbering m → length xs ≡ length es → AreOf m es xs → AreReduced before xs ys
     → AreFootprints m (footprint_at es before) ys
 footprints_at before m es xs ys is long are reduced i y h =
@@ -131,6 +139,7 @@ footprints_at before m es xs ys is long are reduced i y h =
 
 -- ---- one after the other
 
+-- what stands at a place within the list is there
 got_at : (xs : List Numbered) (i : ℕ) (x : Numbered) → i < length xs → x ≡ get_or xs i x → slice_get xs i ≡ Some x
 got_at [] i x low is = absurd (omega (arith, low))
 got_at (y ∷ xs) zero x low is = ap Some (sym is)
