@@ -93,6 +93,7 @@ module _ (f : List (List ℕ)) (c : List ℕ) where
       let e : clause with_clause v.clause ≡ clause f v.clause = get_before f c v.clause h.there in
       record { there = (let l = h.there in omega (arith, long_with)); two = subst (λ d. 2 ≤ length d) (sym e) h.two; stands = ap (λ d. has d v.blocker) e ∙ h.stands }
 
+  -- so do all of a list
   entries_more : (list : List Watcher) → AllByRecursion (IsEntry f) list → AllByRecursion (IsEntry with_clause) list
   entries_more [] h = tt
   entries_more (v ∷ list) h = (entry_more v h.0, entries_more list h.1)
@@ -128,21 +129,27 @@ module _ (f : List (List ℕ)) (c : List ℕ) where
 
   -- ---- a clause of two literals at least, with its watchers
   module _ (t : Way) (w : List (List Watcher)) (within : (x : ℕ) → has c x ≡ true → x < 2 * t.vars) (two : 2 ≤ length c) (sound : IsSound with_clause t w) where
+    -- the literal that is watched first
     abbrev x0 : ℕ
     x0 = get_or c 0 0
 
+    -- the literal that is watched second
     abbrev x1 : ℕ
     x1 = get_or c 1 0
 
+    -- the watcher in the list of the first
     abbrev u0 : Watcher
     u0 = record { clause = length f; blocker = x1 }
 
+    -- the watcher in the list of the second
     abbrev u1 : Watcher
     u1 = record { clause = length f; blocker = x0 }
 
+    -- the watch lists with the first watcher
     abbrev v1 : List (List Watcher)
     v1 = pushing w x0 u0
 
+    -- the watch lists with both
     abbrev watched : List (List Watcher)
     watched = watching w (length f) x0 x1
 
@@ -150,15 +157,19 @@ module _ (f : List (List ℕ)) (c : List ℕ) where
     new_is : clause with_clause (length f) ≡ c
     new_is = get_new f c (length f) refl
 
+    -- the first literal has a list
     below0 : x0 < length w
     below0 = let l = sound.long in let q = within x0 (has_at c 0 (omega arith)) in omega arith
 
+    -- and so has the second
     below1 : x1 < length v1
     below1 = let l = sound.long in let q = within x1 (has_at c 1 (omega arith)) in omega (arith, length-set w x0 (get_or w x0 [] ++ u0 ∷ []))
 
+    -- the first watcher names the new clause
     entry0 : IsEntry with_clause u0
     entry0 = record { there = omega (arith, long_with); two = subst (λ d. 2 ≤ length d) (sym new_is) two; stands = ap (λ d. has d x1) new_is ∙ has_at c 1 (omega arith) }
 
+    -- and so does the second
     entry1 : IsEntry with_clause u1
     entry1 = record { there = omega (arith, long_with); two = subst (λ d. 2 ≤ length d) (sym new_is) two; stands = ap (λ d. has d x0) new_is ∙ has_at c 0 (omega arith) }
 
@@ -166,6 +177,7 @@ module _ (f : List (List ℕ)) (c : List ℕ) where
     pub sound_watched : IsSound with_clause t watched
     sound_watched = sound_pushed v1 x1 u1 below1 with_clause t (sound_pushed w x0 u0 below0 with_clause t sound entry0) entry1
 
+    -- the new clause is named by the lists of both
     named : (s : ℕ) → s < 2 → 2 ≤ length c → names (get_or watched (get_or c s 0) []) (length f) ≡ true
     named s b d = elim (cases_eq s 0) [
       | inl e ↦ ap (λ i. names (get_or watched (get_or c i 0) []) (length f)) e ∙ names_pushed v1 x1 u1 below1 x0 (length f) (names_there w x0 u0 below0)

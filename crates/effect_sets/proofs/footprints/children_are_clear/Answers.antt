@@ -5,6 +5,7 @@ use Rattle.effect_sets.specs.Members.{Lists, members}
 use Rattle.effect_sets.proofs.ClearLaws.{clear_of_children}
 use Rattle.effect_sets.proofs.footprints.children_are_clear.Goals as goal
 
+-- it tells whether nothing that the first changes lies in a path whose children matter to the second
 abbrev Clear : Bool → Lists → Lists → Type 0
 Clear b f g = IsTrue b ↔ ((q : Path) → IsTrue (is_among q f.writes || is_among q f.folders) → is_among (parent q) g.children ≡ false)
 

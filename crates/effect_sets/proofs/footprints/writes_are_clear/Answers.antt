@@ -5,6 +5,7 @@ use Rattle.effect_sets.specs.Members.{Lists, members}
 use Rattle.effect_sets.proofs.ClearLaws.{clear_of_three}
 use Rattle.effect_sets.proofs.footprints.writes_are_clear.Goals as goal
 
+-- it tells whether nothing that the first writes is read, written or made sure of by the second
 abbrev Clear : Bool → Lists → Lists → Type 0
 Clear b f g = IsTrue b ↔ ((q : Path) → IsTrue (is_among q f.writes) → (is_among q g.reads || is_among q g.writes || is_among q g.folders) ≡ false)
 
