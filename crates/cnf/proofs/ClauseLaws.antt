@@ -35,7 +35,7 @@ pub absent_below : (l : Lit) (c : List Lit) → AllByRecursion (λ m. lit_place 
 absent_below l [] h = refl
 absent_below l (m ∷ c) h = let below = h.0 in ap (λ b. b || has_lit c l) (differs l m (λ e. omega arith)) ∙ absent_below l c h.1
 
--- what is below a clause's first literal is below all of it
+-- what comes no later than a literal comes ahead of all that are behind that one
 pub below_more : (l m : Lit) (c : List Lit) → lit_place l ≤ lit_place m → AllByRecursion (λ x. lit_place m < lit_place x) c → AllByRecursion (λ x. lit_place l < lit_place x) c
 below_more l m [] h all = tt
 below_more l m (x ∷ c) h all = (let a = all.0 in omega arith, below_more l m c h all.1)

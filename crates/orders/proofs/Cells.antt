@@ -42,7 +42,7 @@ module _ (n : ℕ) (words : List ℕ) (a b x y : ℕ) (size : length words ≡ n
   abbrev put : ℕ
   put = bit_or (slice_index words at) (1 * 2 ^ (b % 64) % 2 ^ 64)
 
-  -- just that bit is set besides, at another place of the table
+  -- a bit of the table is set afterwards where it is the one that is set now, or was set before
   abbrev Goal : Type 0
   Goal = cell (width_of n) (set words at put) x y ≡ (((x == a) && (y == b)) || cell (width_of n) words x y)
 
