@@ -1,4 +1,4 @@
-//! Decisions: first the variable that was in conflicts most and last (VSIDS: Chaff, Moskewicz and others 2001), with the sign that it
+//! Decisions: first the variable that was in most of the latest conflicts (VSIDS: Chaff, Moskewicz and others 2001), with the sign it
 //! had last (phase saving: Pipatsrisawat and Darwiche 2007), at first the negative one. As in MiniSat activities don't decay: what a
 //! conflict adds grows instead, and all are divided once that is too great; and the variables are a binary heap, the most active on
 //! top. The factors were measured (bench/README.md): to grow by a sixty-fourth took a third less than by a sixteenth on random

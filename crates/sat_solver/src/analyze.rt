@@ -1,6 +1,6 @@
 //! Conflict analysis (GRASP, Marques-Silva and Sakallah 1996), by marks and a count as in MiniSat: the false clause is resolved with
-//! reasons, backwards along the trail, until one literal of the last level is left, the first unique implication point (first UIP,
-//! as in Chaff). A conflict ahead of all decisions is resolved in the same way down to the empty clause, since the log has to derive
+//! reasons, backwards along the trail, until one literal of the last level is left, the first unique implication point (first UIP:
+//! Zhang and others 2001). A conflict ahead of all decisions is resolved in the same way down to the empty clause, since the log has to derive
 //! it. The *clause so far* is the resolvent: it has the false literals whose variables are marked. A *hop* is one resolution: the
 //! number of the antecedent, and the pivot.
 

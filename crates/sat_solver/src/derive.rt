@@ -1,6 +1,6 @@
 //! The clause to learn from a conflict, and its step of the log: the false clause to begin with, and the chain of clauses with which
 //! analysis and minimization resolved it, each with its pivot. That is a derivation by resolution in TraceCheck's manner; a checker
-//! follows it without unit propagation, in which the hints of LRAT would have to be used.
+//! follows it without unit propagation, for which the hints of LRAT are meant.
 
 ghost use Rattle.std.specs.Prelude.{◌≡◌, ℕ, ◌+◌, ◌*◌, ◌<◌, List, [], length, map, IfOk, OnOk};
 ghost use Rattle.cnf.specs.declared.lit.Lit.{Lit};

@@ -1,5 +1,5 @@
 //! When the search restarts: the pauses, in conflicts, are Luby's numbers 1, 1, 2, 1, 1, 2, 4, .. times 50 (Luby, Sinclair and
-//! uckerman 1993). They are computed from two numbers, by Knuth's "reluctant doubling". The factor was measured: with 50 in place of
+//! Zuckerman 1993). They are computed from two numbers, by Knuth's "reluctant doubling". The factor was measured: with 50 in place of
 //! 100 colouring takes a third less, pigeons a tenth more. No contract says which pauses they are: a restart changes no answer.
 
 /// How many steps a restart comes after, for each one in Luby's numbers.
