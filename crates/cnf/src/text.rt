@@ -1,5 +1,6 @@
 //! The text of a formula and its log: the formula in DIMACS form (`p cnf`), and behind it a line for each step, its clause up to a 0
-//! and its chain up to a 0, as in TraceCheck's format but for the pivot behind each number.
+//! and its chain up to a 0. That is TraceCheck's format without a step's own number, and with a pivot behind each number of the
+//! chain but the first.
 
 ghost use Rattle.std.specs.Prelude.{◌≡◌, ◌+◌, ◌≤◌, [], ◌∷◌, ◌++◌, length, decimal, OnOk, OnErr};
 ghost use Rattle.std.specs.List.{flat_map};
