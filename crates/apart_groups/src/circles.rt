@@ -1,4 +1,5 @@
-//! Labels between which the order leads back and forth. What is found here is tested before it is used.
+//! Labels between which the order leads back and forth, which are made one: strongly connected components, as far as two labels
+//! tell them. Longer circles are found when labels are sorted. What is found here is tested before it is used.
 
 use crate::labels::{label_of, merge};
 use orders::Order;

@@ -1,4 +1,7 @@
 //! Labels of programs: those of one group have one label. What is found here is tested before it is used.
+//!
+//! Connected components by relabelling, pair by pair; then a topological sort of the labels, in which a circle is made one
+//! label and the sort begins anew.
 
 ghost use Rattle.std.specs.Prelude.{◌<◌, IfOk};
 ghost use Rattle.orders.specs.Paths.{EndsBelow};

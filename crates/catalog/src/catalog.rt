@@ -1,4 +1,4 @@
-//! The catalog and its calls.
+//! The catalog and its calls. Members of a container are found by one scan of the resources, of which there are at most 16,384.
 
 ghost use Rattle.std.specs.Prelude.{◌≡◌, ◌<◌, ◌≤◌, ◌^◌, ◌++◌, ◌∷◌, [], Some, length, slice_get, IfOk, OnOk, OnErr};
 ghost use Rattle.pp_eval.specs.Verdicts.{AnswersBy};

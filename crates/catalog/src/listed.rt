@@ -1,4 +1,5 @@
-//! Resources in the order in which they were declared.
+//! Resources in the order in which they were declared. The size of all attributes is kept as a number, so that adding a
+//! resource asks for the limit without a walk over all of them.
 
 ghost use Rattle.std.specs.Prelude.{◌≡◌, ◌<◌, ◌≤◌, ◌++◌, ◌∷◌, [], true, false, None, length, filter, IfSome, IfOk, OnOk, OnErr};
 ghost use Rattle.rh_base.specs.Refused.{IfRefused};

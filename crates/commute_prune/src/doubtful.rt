@@ -1,4 +1,7 @@
 //! The pairs of programs whose order may matter, and those that touch one another.
+//!
+//! These are the dependent pairs of partial-order reduction, the former those alone of which neither has to come first. What
+//! predecessors leave counts, too: a file in /etc looks at /etc, but its own package has made sure of that.
 
 ghost use Rattle.std.specs.Prelude.{◌≡◌, ◌<◌, ◌++◌, ℕ, map, length, IfOk, OnOk};
 ghost use Rattle.fs_lang.specs.Meaning.{program_of};

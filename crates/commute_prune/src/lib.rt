@@ -1,4 +1,8 @@
 //! Setting aside programs whose order doesn't matter, and the pairs of programs whose order may matter.
+//!
+//! The idea is that of partial-order reduction: orders that differ by exchanges of independent programs end alike, so one of
+//! them is enough (Mazurkiewicz 1977, Godefroid 1996). Independent are programs whose footprints are apart (`effect_sets`). It
+//! comes before any formula, since it costs a look at each pair, where a formula has an order of all programs.
 #![tactic(auto)]
 
 mod doubtful;

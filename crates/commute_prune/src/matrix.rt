@@ -1,4 +1,5 @@
-//! Which programs change nothing that another one looks at, pair by pair.
+//! Which programs change nothing that another one looks at, pair by pair: independence as a table. Each pair of programs is
+//! compared once, by marks at the numbers of the one, and after that it is looked up.
 
 ghost use Rattle.std.specs.Prelude.{◌≡◌, ◌<◌, map, length, IfOk, OnOk};
 ghost use Rattle.std.specs.List.{AllByRecursion};

@@ -1,4 +1,5 @@
-//! Paths by number, so that sets of them are compared as sets of numbers.
+//! Paths by number, so that sets of them are compared as sets of numbers: interning. A path is compared with others once, where
+//! it gets its number, and not once for each pair of programs.
 
 ghost use Rattle.std.specs.Prelude.{◌≡◌, Some, IfOk, OnOk};
 ghost use Rattle.effect_sets.specs.Members.{members};

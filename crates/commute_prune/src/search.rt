@@ -1,4 +1,8 @@
 //! The search for the next program that may go first or last.
+//!
+//! Of each program it is noted up to which other one all that are kept let it go to an end of the order, and the search goes on
+//! from there: what is kept gets less with each move, so what let it go lets it go still. So each pair is looked at once for
+//! each end, quadratically often; without the notes a thousand programs took a thousand million looks.
 
 ghost use Rattle.std.specs.Prelude.{◌≡◌, ℕ, ◌<◌, ◌≤◌, Bool, true, false, List, length, slice_index_or, IfOk, IfSome};
 ghost use Rattle.std.specs.List.{AllByRecursion, find};

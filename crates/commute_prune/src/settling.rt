@@ -1,4 +1,9 @@
 //! Pruning.
+//!
+//! A program that none of those left has to follow, and that is apart from each which needn't come before it, can be moved to
+//! the end of every order without another outcome. So it has no say in whether all orders end alike, and what is left is asked
+//! the same: an elimination that is greedy and ends, since each move takes one away. The least one goes, and last before first;
+//! so each move is fixed, and the number of pruned programs, which is printed, can be stated.
 
 ghost use Rattle.std.specs.Prelude.{◌≡◌, ◌<◌, length, map, IfOk, OnOk};
 ghost use Rattle.std.specs.List.{AllByRecursion};

@@ -1,5 +1,10 @@
-//! Which programs are clear of one another where the folders stand that are sure before each: a program that comes before it leaves
-//! them, and none removes them.
+//! Which programs are clear of one another where the folders stand that are sure before each: a program that comes before it
+//! leaves them, and none removes them.
+//!
+//! A must-analysis along the order of the programs. It is enough that two programs commute from trees with these folders, since
+//! whenever one of them runs these stand (`sure_folders`); else a file right in /etc is doubtful beside each package that makes
+//! sure of /etc. Only folders are followed: a file that a predecessor surely puts could be, too, and on sites of real packages
+//! that wasn't needed. Pruning, and the number of pruned resources, go by footprints alone.
 
 ghost use Rattle.std.specs.Prelude.{◌≡◌, ◌<◌, ◌&&◌, ℕ, not, false, map, length, slice_get, slice_index_or, Some, IfOk};
 ghost use Rattle.std.specs.List.{AllByRecursion, list_any};

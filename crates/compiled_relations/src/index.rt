@@ -1,4 +1,5 @@
-//! What references find among the resources of a compiled catalog.
+//! What references find among the resources of a compiled catalog. There is a map by hash for each way in which a resource may
+//! be called, name, alias and path, and they are asked in turn; in each the resource counts that stands first.
 
 ghost use Rattle.std.specs.Prelude.{◌≡◌, ◌<◌, length, IfOk, IfSome};
 ghost use Rattle.compiled_relations.specs.Finding.{at_path, place_found, reference_found, found_by};

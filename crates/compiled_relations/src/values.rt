@@ -1,4 +1,5 @@
-//! The values of relations.
+//! The values of relations. A text is read twice: once where it is asked whether it is a reference, which comes ahead of all
+//! that it may find, and once where it finds; so no list of references has to be kept between.
 
 ghost use Rattle.std.specs.Prelude.{◌≡◌, is_some, IfOk};
 ghost use Rattle.rh_base.specs.Refused.{IfRefused};

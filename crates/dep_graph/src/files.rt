@@ -1,4 +1,5 @@
-//! Automatic edges between files.
+//! Automatic edges between files. "Nearest" counts segments: of the managed files above a path those with the most come before
+//! it.
 
 ghost use Rattle.std.specs.Prelude.{◌≡◌, ◌<◌, ◌++◌, ◌∷◌, [], ℕ, List, option_map, IfOk, OnOk};
 ghost use Rattle.std.specs.List.{All};

@@ -1,4 +1,5 @@
-//! The edges of relations.
+//! The edges of relations. A relation of two large sides goes through a node of its own, so that it costs their sum and not
+//! their product; no clause speaks of that node.
 
 ghost use Rattle.std.specs.Prelude.{◌≡◌, ◌++◌, map, IfOk, OnOk};
 ghost use Rattle.dep_graph.specs.Numbered.{crossing, through, is_wide, link_edges, hub_after, edges_of_links, hubs_after};

@@ -1,4 +1,8 @@
 //! The graph of a catalog: what comes before what.
+//!
+//! A container has two nodes, a start and an end, between which its members lie, so that a relation of a class is an edge and
+//! not one for each member. The order of all nodes is the closure of the edges (`orders`); that of the plain resources is read
+//! off it.
 #![tactic(auto)]
 
 mod answer;

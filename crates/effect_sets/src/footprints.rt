@@ -1,4 +1,8 @@
 //! Footprints, and whether two are apart.
+//!
+//! They keep ordered sets, where lists would do for their meaning: what two have in common is found by walking along both. They
+//! keep the parents of what is changed too, since `apart` takes no memory. Sets are lent by calls, since the parents are an
+//! invariant that open fields couldn't keep.
 
 ghost use Rattle.std.specs.Prelude.{◌≡◌, ◌↔◌, ◌&&◌, ◌||◌, false, IsTrue, IfOk};
 ghost use Rattle.fs_semantics.specs.FileTree.{Path as Segments, parent, is_among};

@@ -1,4 +1,5 @@
-//! Which paths are sure to be folders, and whether they stay so.
+//! Which paths are sure to be folders, and whether they stay so. It is asked of both branches ahead of a choice, so that the
+//! set is copied only where one of them changes it.
 
 ghost use Rattle.std.specs.Prelude.{◌≡◌, IsTrue, option_map};
 ghost use Rattle.fs_semantics.specs.Programs.{If};

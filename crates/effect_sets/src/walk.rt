@@ -1,4 +1,9 @@
 //! The footprint of a program, from left to right.
+//!
+//! A forward analysis of data flow (Kildall 1973) in one pass, since programs have no loops. What is read, written and made
+//! sure of is so in some run; a folder is sure where it is so in every run that comes there, so behind a choice where it is so
+//! behind both branches, and to look at it isn't to read it. Where neither branch changes which folders are sure nothing is
+//! copied for the second one.
 
 ghost use Rattle.std.specs.Prelude.{◌≡◌, ◌&&◌, OnOk};
 ghost use Rattle.fs_semantics.specs.Programs.{If, Rm, Cp};

@@ -1,4 +1,5 @@
-//! Whether two deterministic graphs do the same.
+//! Whether two deterministic graphs do the same. Which two orders are run isn't said, only that the formula has a model exactly
+//! where the first extensions end apart. What is told of a yes is a checked refutation all the same.
 
 ghost use Rattle.std.specs.Prelude.{◌≡◌, ◌≤◌, ◌++◌, map, length, IfOk};
 ghost use Rattle.fs_semantics.specs.Orders.{Told, IsDeterministic};

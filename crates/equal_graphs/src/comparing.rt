@@ -1,4 +1,5 @@
-//! Comparing two graphs.
+//! Comparing two graphs. A witness of the formula has a run of the left graph; its tree is what matters, since the orders that
+//! are told are the first extensions.
 
 ghost use Rattle.std.specs.Prelude.{◌≡◌, ◌≤◌, ◌++◌, length, map, IfOk, IfErr};
 ghost use Rattle.rh_base.specs.Refused.{IfRefused};

@@ -1,4 +1,5 @@
-//! The domain of two lists of programs together, and their limits.
+//! The domain of two lists of programs together, and their limits. That both are too large together is asked first, over the
+//! domain of both, and then of each by itself: a list's own domain is never wider, but the question of order of each asks.
 
 ghost use Rattle.std.specs.Prelude.{◌≡◌, ◌++◌, List, map, IfOk, IfErr, OnOk};
 ghost use Rattle.rh_base.specs.Refused.{IfRefused};

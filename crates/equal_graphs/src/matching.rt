@@ -1,5 +1,6 @@
-//! Orders of two graphs in which programs that are the same come in the same turns, as far as they may: what is then the same of two
-//! runs is the same wires.
+//! Orders of two graphs in which programs that are the same come in the same turns, as far as they may: what is then the same
+//! of two runs is the same wires. The matching is greedy, by the programs' texts; an order that the graph doesn't allow gives
+//! way to the first extension, and only how long it takes depends on any of it.
 
 ghost use Rattle.std.specs.Prelude.{◌≡◌, ◌<◌, ℕ, Some, length, IfOk, IfSome};
 ghost use Rattle.fs_semantics.specs.Orders.{IsLinearExtension};

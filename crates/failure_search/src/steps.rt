@@ -1,4 +1,4 @@
-//! The first of some steps that fails.
+//! The first of some steps that fails. Steps are taken in blocks, since the numbers of an order are of 32 bits.
 
 ghost use Rattle.std.specs.Prelude.{◌≡◌, ◌<◌, ◌≤◌, None, IfOk};
 ghost use Rattle.fs_semantics.specs.Programs.{run, run_all};

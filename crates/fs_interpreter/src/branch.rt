@@ -1,4 +1,7 @@
 //! Cells kept aside while a branch of a program runs, and the choice between the two results.
+//!
+//! Both branches run from the same cells. States are merged where either may have written, and nowhere else, as single
+//! assignment has a choice only for what was assigned (Cytron and others 1991); so all other places keep their wires.
 
 ghost use Rattle.std.specs.Prelude.{◌≡◌, ◌<◌, length, IfOk, OnOk, if◌then◌else◌};
 ghost use Rattle.std.specs.List.{AllByRecursion};

@@ -1,4 +1,8 @@
 //! Paths and contents by number, found by hash.
+//!
+//! A path is numbered when its parent stands there. So parents have lower places than what is below them, and a tree is read
+//! back in one pass. What the map of hashes answers is compared with the path at its place: no clause and no law rests on the
+//! map, and it may keep what a failed call left.
 
 use crate::grow::push_node;
 use fs_lang::Path;

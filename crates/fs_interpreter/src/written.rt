@@ -1,4 +1,4 @@
-//! The places at which programs may write.
+//! The places at which programs may write: read off the program, whichever way its choices go.
 
 ghost use Rattle.std.specs.Prelude.{◌≡◌, ◌<◌, ◌++◌, ◌||◌, ◌==◌, ℕ, true, length, OnOk, IfOk};
 ghost use Rattle.std.specs.List.{AllByRecursion};

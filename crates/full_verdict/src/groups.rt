@@ -1,4 +1,11 @@
 //! Whether a second run changes anything, asked of each of several groups of programs by itself.
+//!
+//! Compositional reasoning: programs of different groups commute, so where each group leaves what it left, all do
+//! (`settled_groups`). The formula of the whole grows faster than the graph, and packages with their files and services mostly
+//! don't touch one another. Also programs that come one before the other are of one group, if they touch: what comes behind may
+//! undo what settles by itself. A group that doesn't settle says nothing, since it may never meet the tree from which it
+//! doesn't; then the whole graph is asked, and what the groups took till then is lost. All groups have one refutation together,
+//! so that one proof is printed.
 
 ghost use Rattle.std.specs.Prelude.{◌≡◌, ◌≤◌, ◌<◌, ◌^◌, map, length, IfOk, IfSome};
 ghost use Rattle.std.specs.List.{AllByRecursion};

@@ -1,5 +1,6 @@
 //! The verdict on a graph of programs: whether it is deterministic, whether a second run changes anything, and whether it
-//! succeeds from some tree.
+//! succeeds from some tree. Where it is deterministic one allowed order stands for all, so that the other two need no formula
+//! with an order in it.
 #![tactic(auto)]
 
 mod groups;

@@ -1,4 +1,5 @@
-//! Whether the graph succeeds from some tree.
+//! Whether the graph succeeds from some tree. Runs from a few trees come before the formula: mostly one of them ends, and
+//! nothing is left to be solved.
 
 ghost use Rattle.std.specs.Prelude.{◌≡◌, ◌≤◌, map, length, IfOk, IfSome};
 ghost use Rattle.fs_semantics.specs.Orders.{Told, IsDeterministic, Succeeds};

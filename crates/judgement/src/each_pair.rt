@@ -1,4 +1,5 @@
-//! Whether the programs of a pair commute, asked over the domain of these two alone.
+//! Whether the programs of a pair commute, asked over the domain of these two alone, so that a conflict about one pair goes
+//! through no gate of another.
 
 ghost use Rattle.std.specs.Prelude.{◌≡◌, ◌≤◌, ◌<◌, map, length, slice_index_or, IfOk, IfSome};
 ghost use Rattle.fs_semantics.specs.Programs.{Id};

@@ -1,5 +1,9 @@
-//! Refuted formulas, joined into one: that some of them has a model. Each stands on variables of its own, behind a variable that
-//! tells that it is the one; the last clause says that it is one of them.
+//! Refuted formulas, joined into one: that some of them has a model. Each stands on variables of its own, behind a variable
+//! that tells that it is the one; the last clause says that it is one of them.
+//!
+//! These variables are selectors: each step of a part carries the opposite of its own, so a part's log ends in the unit clause
+//! that it isn't this one, and these units refute the last clause. The whole is checked as any log is, so nothing has to be
+//! proved of how numbers and variables move; where a fault were found, what is kept would be asked about by its order.
 
 ghost use Rattle.std.specs.Prelude.{All, ◌≤◌, length, IfOk, IfSome};
 ghost use Rattle.std.specs.Bool.{OnTrue};

@@ -1,4 +1,12 @@
 //! Answering the first question.
+//!
+//! Where more than a few programs are kept pairs are looked at before the question of order is asked, and else before it is
+//! asked of the whole graph: mostly a tree that is tried tells, and a formula over every given folder is large. No pair is
+//! tried twice from the same trees. What a model over the kept programs shows is completed by what was pruned and replayed on
+//! the whole graph, which is asked about where that doesn't bear it out: a step of counterexample-guided refinement (Clarke,
+//! Grumberg, Jha, Lu and Veith 2000). That what is kept is deterministic or isn't is a law, by finite search, and not asked.
+//! Each search has the whole budget; what is told to be spent is the last one, over a formula that states the question, and a
+//! pair that isn't refuted is only left open.
 
 ghost use Rattle.std.specs.Prelude.{◌≡◌, ◌≢◌, ◌↔◌, ◌+◌, ◌≤◌, [], length, map, IfSome, IfOk, IfErr};
 ghost use Rattle.fs_semantics.specs.Orders.{Told, IsDeterministic, IsExchange, IsCounterexample};

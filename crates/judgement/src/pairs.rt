@@ -1,4 +1,5 @@
-//! Whether all programs commute of which neither comes before the other.
+//! Whether all programs commute of which neither comes before the other. Then no order matters, so a refutation of this formula
+//! answers the first question as one of the formula of orders does, and stands in its place in a proof.
 
 ghost use Rattle.std.specs.Prelude.{◌≡◌, ◌≤◌, map, length, IfOk, IfNone, IfSome};
 ghost use Rattle.fs_semantics.specs.Orders.{Told};

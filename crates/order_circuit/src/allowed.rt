@@ -1,4 +1,5 @@
-//! Whether the order that codes tell is allowed.
+//! Whether the order that codes tell is allowed: place by place, with a wire for each node that tells whether it is taken. A
+//! node may come where it isn't and all that come before it are.
 
 ghost use Rattle.std.specs.Prelude.{◌≡◌, ◌==◌, ◌<◌, true, false, not, ◌&&◌, ◌||◌, length, if◌then◌else◌, IfOk};
 ghost use Rattle.fs_interpreter.specs.Meanings.{Grows, IsBit};

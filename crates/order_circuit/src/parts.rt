@@ -1,4 +1,5 @@
-//! The node at a place of an order, and what stands ahead of the place or from it on.
+//! The node at a place of an order, and what stands ahead of the place or from it on. A code outside of the part gives way to a
+//! number that no program has, so that nothing runs there.
 
 ghost use Rattle.std.specs.Prelude.{◌≡◌, ◌<◌, map, length, slice_index_or, if◌then◌else◌, IfOk};
 ghost use Rattle.bool_circuit.specs.Gates.{wire_value};

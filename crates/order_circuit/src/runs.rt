@@ -1,4 +1,6 @@
-//! Runs in the order that codes tell.
+//! Runs in the order that codes tell. At each place each program is run on the same cells, and the one is chosen that the code
+//! tells; so a run costs as many times what one in a known order costs as there are programs; known orders are run without
+//! codes (`order_encode`).
 
 ghost use Rattle.std.specs.Prelude.{◌≡◌, ◌<◌, true, false, map, length, slice_index_or, IfOk};
 ghost use Rattle.bool_circuit.specs.Gates.{wire_value};

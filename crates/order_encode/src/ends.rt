@@ -1,4 +1,9 @@
 //! Whether two orders that part at a place end differently.
+//!
+//! What stands ahead of the place is run once, the two programs there the one way and the other, and what stands behind on
+//! either. A solver would have to find out again, step by step, that what is alike behind the fork stays alike. So a difference
+//! of the two programs right behind the fork is asked besides: it follows from a difference at the end, so the question is the
+//! same.
 
 ghost use Rattle.std.specs.Prelude.{◌≡◌, ◌≢◌, ◌↔◌, ◌<◌, ◌∷◌, true, false, map, length, IfOk};
 ghost use Rattle.bool_circuit.specs.Gates.{wire_value};

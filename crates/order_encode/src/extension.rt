@@ -1,4 +1,4 @@
-//! The questions about the first extension.
+//! The questions about the first extension, which stands for all allowed orders once a graph is known to be deterministic.
 
 ghost use Rattle.std.specs.Prelude.{◌≡◌, ◌↔◌, map, length, IfOk};
 ghost use Rattle.cnf.specs.Formulas.{IsSatisfiable};

@@ -1,4 +1,5 @@
-//! Whether two programs end apart right behind the place where two orders part.
+//! Whether two programs end apart right behind the place where two orders part: a disjunction over the free pairs. The wires of
+//! the pairs are named, so that a solver tries one pair after the other and refutes each with what it learned of those before.
 
 ghost use Rattle.std.specs.Prelude.{◌≡◌, ◌↔◌, ◌==◌, ◌&&◌, ◌<◌, ℕ, true, map, length, IfOk};
 ghost use Rattle.bool_circuit.specs.Gates.{wire_value};

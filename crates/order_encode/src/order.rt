@@ -1,4 +1,8 @@
 //! The question of order.
+//!
+//! Two allowed orders are joined by exchanges of neighbours (`orders`), so it is enough to ask about one exchange: the inputs
+//! tell one order and a place, and not two orders. The place is a number of inputs, and a node stands at each place by what its
+//! code tells; so no clause says that just one does.
 
 ghost use Rattle.std.specs.Prelude.{◌≡◌, ◌↔◌, map, length, IfOk};
 ghost use Rattle.cnf.specs.Formulas.{IsSatisfiable};

@@ -1,4 +1,10 @@
 //! The question of pairs: do two programs, neither of which comes before the other, end apart from one tree?
+//!
+//! It has no inputs for an order or a place, and no run ahead of the two, so it is far smaller than the question of order, and
+//! it is asked first; where it has no model no order matters. One pair is tried at a time: named are, for each pair, the wires
+//! that some pair up to this one ends apart. Such a wire holds with each later one; so once it is decided no other pair is
+//! tried beside it, and where it is refuted the next one is that of the next pair. All are asked from the same cells, since
+//! what is learned of one serves the next only where they share these. What other ways took stands in bench/NOTES.md.
 
 ghost use Rattle.std.specs.Prelude.{◌≡◌, ◌↔◌, ◌⊎◌, ◌<◌, true, map, length, Some, IfOk};
 ghost use Rattle.bool_circuit.specs.Gates.{wire_value};

@@ -1,4 +1,5 @@
-//! The question whether two orders, each of programs of its own, end differently.
+//! The question whether two orders, each of programs of its own, end differently: a miter (Brand 1993), as equivalence is
+//! checked of circuits.
 
 ghost use Rattle.std.specs.Prelude.{◌≡◌, ◌↔◌, ◌<◌, true, map, length, IfOk};
 ghost use Rattle.std.specs.List.{AllByRecursion};

@@ -1,4 +1,5 @@
-//! A formula with what is needed to read its models.
+//! A formula with what is needed to read its models. It keeps its circuit, so that a model is read as the tree for which the
+//! cells stand, and not as variables.
 
 ghost use Rattle.std.specs.Prelude.{◌≡◌, ◌<◌, true, length, IfOk};
 ghost use Rattle.bool_circuit.specs.Gates.{wire_value};

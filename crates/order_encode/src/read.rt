@@ -1,4 +1,5 @@
-//! What a model of a question shows.
+//! What a model of a question shows: the circuit is evaluated at the inputs, with which the model begins, and its wires tell
+//! the tree and the orders.
 
 ghost use Rattle.std.specs.Prelude.{◌≡◌, ◌≤◌, ◌<◌, ◌^◌, ◌∷◌, ◌==◌, length, take, map, if◌then◌else◌, IfOk};
 ghost use Rattle.std.specs.List.{AllByRecursion};

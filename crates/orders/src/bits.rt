@@ -1,4 +1,5 @@
-//! Rows of bits, one row and one bit in each row for each of n nodes.
+//! Rows of bits, one row and one bit in each row for each of n nodes: a Boolean matrix, of which a row is joined 64 bits at a
+//! time.
 ghost use Rattle.std.specs.Prelude.{◌≡◌, ◌==◌, ℕ, ◌+◌, ◌*◌, ◌^◌, ◌<◌, ◌≤◌, ◌&&◌, ◌||◌, false, length, IfOk};
 ghost use Rattle.orders.specs.Relation.{old_number};
 ghost use Rattle.orders.specs.Table.{width_of, cell};

@@ -1,4 +1,4 @@
-//! The edges of each node as a chain through the list of all edges.
+//! The edges of each node as a chain through the list of all edges: adjacency lists in two flat arrays, made in one pass.
 ghost use Rattle.std.specs.Prelude.{IfOk};
 ghost use Rattle.orders.specs.Paths.{EndsBelow};
 ghost use Rattle.orders.specs.Search.{AreLinks};

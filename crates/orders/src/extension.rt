@@ -1,4 +1,7 @@
 //! Linear extensions of an order.
+//!
+//! The first one by counting what each node waits for (Kahn 1962), where the least goes of those that wait for none. So it is
+//! the first of all in the order of lists, and who speaks of it need not speak of how it is found.
 ghost use Rattle.std.specs.Prelude.{◌≡◌, ◌==◌, ℕ, ◌+◌, ◌<◌, ◌≤◌, ◌&&◌, ◌↔◌, [], false, true, length, slice_index, if◌then◌else◌, IfOk, IsTrue, MatchOption};
 ghost use Rattle.std.specs.List.{AllByRecursion};
 ghost use Rattle.fs_semantics.specs.Orders.{IsLinearExtension, NoneAhead};

@@ -1,4 +1,6 @@
 //! Strict orders of nodes 0, 1, ..: reachability along edges, linear extensions, exchanges of neighbours.
+//!
+//! An order is kept as its transitive closure, since whether one node comes before another is asked of every pair, and often.
 #![tactic(auto)]
 
 mod bits;

@@ -1,4 +1,5 @@
-//! Strict orders, and what is asked of them.
+//! Strict orders, and what is asked of them. Contracts see the count of nodes and a table of truth values, of which they know
+//! that it is a strict order; rows of bits are the representation's matter. Reachability is a path of at least one edge.
 
 ghost use Rattle.std.specs.Prelude.{◌≡◌, ℕ, ◌+◌, ◌-◌, ◌<◌, ◌↔◌, IfOk, IfErr, OnOk, IsTrue};
 ghost use Rattle.orders.specs.Paths.{EndsBelow, Path, IsCycle};

@@ -1,4 +1,8 @@
 //! What is reached from each node, by a search depth first with a stack of its own.
+//!
+//! The transitive closure of a graph without circles: once a node is done its row of bits is joined into that of each node from
+//! which an edge leads to it, so an edge costs one row. An edge to a node that was entered and isn't done closes a circle
+//! (Tarjan 1972). The stack is its own, since recursion would go as deep as the longest path.
 ghost use Rattle.std.specs.Prelude.{◌≡◌, ◌==◌, ℕ, ◌-◌, ◌*◌, ◌<◌, ◌&&◌, ◌||◌, [], true, false, List, length, slice_index, slice_index_or, slice_set, IfOk, IfErr};
 ghost use Rattle.orders.specs.Paths.{EndsBelow, IsCycle};
 ghost use Rattle.orders.specs.Table.{width_of, cell};

@@ -1,4 +1,6 @@
-//! A walk from one linear extension to another.
+//! A walk from one linear extension to another: bubble sort by the places that nodes have in the other one. Neighbours that
+//! stand the other way round there are free, so each exchange leaves a linear extension. That all are joined so is why it is
+//! enough to ask about one exchange.
 ghost use Rattle.std.specs.Prelude.{◌≡◌, ◌+◌, length, IfOk};
 ghost use Rattle.fs_semantics.specs.Orders.{IsLinearExtension};
 ghost use Rattle.orders.specs.Relation.{Comes};

@@ -1,4 +1,5 @@
-//! A beginning that no content has, and the texts with it.
+//! A beginning that no content has, and the texts with it. It is found in one pass, by the longest run of x behind `text` at
+//! the start of a content; trying one after the other would be quadratic.
 
 ghost use Rattle.std.specs.Prelude.{◌≡◌, ◌≢◌, ◌⊎◌, ◌↔◌, ◌<◌, ◌≤◌, ◌++◌, ◌∷◌, ℕ, List, false, decimal, length, IfOk, OnOk, MatchOption};
 ghost use Rattle.finite_domain.specs.Domains.{is_text_among};

@@ -1,4 +1,5 @@
-//! What is made real in a round. No pair of a resource with a collector or a realization is looked at twice.
+//! What is made real in a round. No pair of a resource with a collector or a realization is looked at twice: the semi-naive
+//! evaluation of a fixpoint (Bancilhon and Ramakrishnan 1986), in which only what is new is joined with the rest.
 
 ghost use Rattle.std.specs.Prelude.{◌≡◌, ◌<◌, ◌≤◌, length, drop, slice_get, Some};
 ghost use Rattle.std.specs.List.{list_any};

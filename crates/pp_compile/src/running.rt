@@ -1,4 +1,7 @@
 //! Rounds: what is called for is made real, and the defined resources run.
+//!
+//! The iteration of a fixpoint, body by body: a body may declare and call for more. It ends, since a body runs once and only so
+//! many resources may be declared; as many rounds as these, and one more, are enough.
 
 ghost use Rattle.std.specs.Prelude.{◌≡◌, ◌<◌, Some, None, length, slice_get, MatchOption, OnOk};
 ghost use Rattle.pp_eval.specs.Verdicts.{AnswersBy};

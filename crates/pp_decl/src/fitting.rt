@@ -1,4 +1,10 @@
 //! Whether there is room for the body of one more class, with its deepest block.
+//!
+//! The bodies of classes that run within one another go down the stack, and so do the blocks that are open in them; 64 bodies
+//! with 63 blocks in each took more than a usual stack has. So what may still be open is one word, `Room`, in the definitions
+//! and in the code: bodies, and bodies and blocks together. A class is declared only where its body fits with its deepest
+//! block, counted on its tree, so that no block ever has to be refused. What stands at the top, in a node's block or in the
+//! body of a defined resource is within no body; its own blocks count, and are few, since brackets nest at most 64 deep.
 
 ghost use Rattle.std.specs.Prelude.{◌≡◌};
 ghost use Rattle.catalog_semantics.specs.Rooms.{depth, block_depth, has_room_for};

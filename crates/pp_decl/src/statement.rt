@@ -1,4 +1,5 @@
-//! Statements, and the bodies of classes that they run.
+//! Statements, and the bodies of classes that they run. An `if` or a `case` first chooses a block, which changes no state, and
+//! then runs it; so choosing stands apart from this cycle of functions (`pp_decl_choices`).
 
 ghost use Rattle.std.specs.Prelude.{◌≡◌, ◌++◌, map, OnOk};
 ghost use Rattle.pp_eval.specs.Verdicts.{AnswersBy};

@@ -1,4 +1,4 @@
-//! Parents of classes that are still to be declared.
+//! Parents of classes that are still to be declared. They are collected nearest first and run from the end, without recursion.
 
 ghost use Rattle.std.specs.Prelude.{◌≡◌, ◌+◌, ◌∷◌, ◌++◌, [], length, map, option_map, IfOk, OnOk};
 ghost use Rattle.pp_eval.specs.Verdicts.{AnswersBy};

@@ -1,4 +1,5 @@
-//! What comes before what.
+//! What comes before what. The ties of the run become relations once the rounds are over, since only then it is known what
+//! collectors match.
 
 ghost use Rattle.std.specs.Prelude.{◌≡◌, ◌++◌, Some, map, IfOk, OnOk};
 ghost use Rattle.catalog_semantics.specs.Catalogs.{matched, refs_of, relation_of, catalog_in};

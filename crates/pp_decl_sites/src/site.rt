@@ -1,4 +1,8 @@
 //! What holds while a manifest is gone through.
+//!
+//! What doesn't change then is a site, what changes is a state (`pp_decl_state`); that the two belong to one manifest is the
+//! caller's matter. A site lends the manifest's statements, so no tree is copied; a parameter stands beside its value from
+//! class data. Parents go in a circle exactly where a chain of them is longer than there are classes, so that is counted.
 
 ghost use Rattle.std.specs.Prelude.{◌≡◌, length, option_map, IfOk};
 ghost use Rattle.pp_eval.specs.Verdicts.{AnswersBy};

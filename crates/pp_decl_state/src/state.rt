@@ -1,4 +1,8 @@
 //! The state between two statements.
+//!
+//! It carries its limits, which are chosen with the first state and never change, so each refusal stays where it was. It lends
+//! no catalog while statements run: what is asked of it then it answers itself (`get`, `count`, `place_of`), and `finish` gives
+//! the catalog, without relations.
 
 ghost use Rattle.std.specs.Prelude.{◌≡◌, ◌∷◌, [], length, IfOk, OnOk};
 ghost use Rattle.pp_eval.specs.Verdicts.{AnswersBy};

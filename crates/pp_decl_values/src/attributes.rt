@@ -1,4 +1,5 @@
-//! Attributes as they are evaluated.
+//! Attributes as they are evaluated. Names of those that were `undef` count as standing, so they are kept apart from those that
+//! are given.
 
 ghost use Rattle.std.specs.Prelude.{◌≡◌, ◌∷◌, ◌++◌, [], None, true, OnOk, IfOk, IfErr};
 ghost use Rattle.pp_value.specs.Values.{value_at, is_undef};

@@ -1,4 +1,7 @@
 //! The places of classes by their names, ASCII case aside.
+//!
+//! A map by hash, whose keys are names in lower case. A look-up takes no memory, so the name that is sought isn't copied: a
+//! type of its own hashes and compares it letter by letter, as if in lower case. No clause sees the map.
 
 ghost use Rattle.std.specs.Prelude.{◌≡◌, ◌∷◌, ◌++◌, [], None, OnOk, OnErr, IfOk, map};
 ghost use Rattle.std.specs.Char.{to_ascii_lowercase};

@@ -1,4 +1,7 @@
 //! The evaluation of expressions, from left to right.
+//!
+//! It walks the tree, and stops at the first refusal. Indexing lends along variables and indexes, and copies only what it
+//! gives: a member of a value isn't made, so it isn't asked for its size either.
 
 ghost use Rattle.std.specs.Prelude.{[], None, map, option_map};
 ghost use Rattle.pp_value.specs.declared.value.Value.TheVariants as v;

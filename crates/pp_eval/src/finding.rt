@@ -1,4 +1,5 @@
-//! The look-up of a variable.
+//! The look-up of a variable. A class that inherits keeps the place of its parent's scope. Parents are entered first, so
+//! looking through inherited classes ends.
 
 ghost use Rattle.std.specs.Prelude.{◌≡◌, ◌-◌, option_map, length, slice_get, option_and_then, codes};
 ghost use Rattle.pp_eval.specs.Names.{is_qualified};

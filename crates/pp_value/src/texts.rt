@@ -1,4 +1,8 @@
 //! Texts, ASCII case aside.
+//!
+//! A text is sought in a text by a rolling hash (Karp and Rabin 1987): the hash of the window that is looked at follows from
+//! the one before it, and bytes are compared only where it is the hash of what is sought. Two texts may have one hash, so the
+//! bytes decide; the proof needs of the hash only that equal texts have equal ones.
 
 ghost use Rattle.std.specs.Prelude.{◌≡◌, false};
 ghost use Rattle.pp_value.specs.Texts.{lowered, same_text, less_text, begins, is_part};

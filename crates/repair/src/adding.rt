@@ -1,4 +1,5 @@
-//! Adding arrows until none is missing.
+//! Adding arrows until none is missing. Each graph is judged by itself: between two questions only the pairs of the order are
+//! kept.
 
 ghost use Rattle.std.specs.Prelude.{◌≡◌, ◌≤◌, length, map, IfOk};
 ghost use Rattle.fs_lang.specs.Meaning.{program_of};

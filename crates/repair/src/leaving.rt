@@ -1,4 +1,8 @@
-//! Leaving out the arrows that aren't needed.
+//! Leaving out the arrows that aren't needed: a deletion filter (Chinneck and Dravnieks 1991), from the last but one on.
+//!
+//! The last arrow that was added isn't tried again, since the graph without it was judged when it was added; so one missing
+//! arrow takes two questions, and each further one two more. A budget that is spent meanwhile ends the repair, with the arrows
+//! that were asked about: whether the one that was tried is needed isn't known then.
 
 ghost use Rattle.std.specs.Prelude.{◌≡◌, ◌≤◌, ◌++◌, ◌∷◌, length, map, IfOk, OnOk};
 ghost use Rattle.fs_semantics.specs.Orders.{IsDeterministic};

@@ -1,4 +1,5 @@
-//! One arrow that is missing.
+//! One arrow that is missing. Of two runs that differ by one exchange the one is followed that ends in a tree; where both do,
+//! and in different ones, the first is, since nothing tells which arrow is meant.
 
 ghost use Rattle.std.specs.Prelude.{◌≡◌, ◌≤◌, length, map, IfOk};
 ghost use Rattle.fs_semantics.specs.Orders.{Told, IsExchange, IsCounterexample};

@@ -1,4 +1,5 @@
-//! The order with arrows.
+//! The order with arrows. It is made of all pairs of the order, and not of the edges that the graph began with: `repair` is
+//! lent the order alone.
 
 ghost use Rattle.std.specs.Prelude.{◌≡◌, ◌<◌, ◌++◌, IfOk, OnOk};
 ghost use Rattle.orders.specs.Relation.{comes};

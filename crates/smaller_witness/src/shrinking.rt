@@ -1,4 +1,6 @@
-//! Smaller trees that show the same.
+//! Smaller trees that show the same, found by replays alone: each part goes for good without which the runs show the same. So
+//! what is left is as true a counterexample as the one that it was made of; that nothing more could go isn't said. Parts at and
+//! above given folders aren't tried, so that they cost none of the trials; that the given folders stand is tested besides.
 
 ghost use Rattle.std.specs.Prelude.{◌≡◌, ◌↔◌, ℕ, Bool, length, map, IsTrue, IfOk};
 ghost use Rattle.fs_semantics.specs.Orders.{Told, IsCounterexample, IsSecondRunCounterexample};

@@ -1,4 +1,4 @@
-//! Codes that are less than a number.
+//! Codes that are less than a number: a comparator, from the lowest bit on.
 
 ghost use Rattle.std.specs.Prelude.{◌≡◌, ◌<◌, false, length, nat_lt, IfOk};
 ghost use Rattle.bool_circuit.specs.Gates.{Grows, input_count, wire_value};

@@ -1,4 +1,4 @@
-//! The comparison of cells.
+//! The comparison of cells. Places with the same wires add no gates, so two runs are compared only where they may differ.
 
 ghost use Rattle.std.specs.Prelude.{◌≡◌, ◌↔◌, ◌<◌, true, length, slice_get, IfOk, IsTrue};
 ghost use Rattle.bool_circuit.specs.Gates.{wire_value};

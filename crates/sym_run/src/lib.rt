@@ -1,5 +1,10 @@
-//! Programs run on the wires of a circuit: cells that stand for any tree over a domain, and the choice between cells and
-//! their comparison.
+//! Programs run on the wires of a circuit: cells that stand for any tree over a domain, and the choice between cells and their
+//! comparison.
+//!
+//! Symbolic execution (King 1976) by bit-blasting: what stands at a path is three wires and a content's number in binary.
+//! States are merged behind a choice, as bounded model checkers of programs do it (Clarke, Kroening and Lerda 2004), so that a
+//! circuit grows with the program and not with the number of ways through it. The interpreter is that of truth values too, so
+//! what a formula says of a program is what a replay does.
 #![tactic(auto)]
 
 mod below;

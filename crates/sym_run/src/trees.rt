@@ -1,4 +1,5 @@
-//! Cells that stand for any tree over a domain.
+//! Cells that stand for any tree over a domain: new inputs, and a wire that tells whether they make a tree, in which each entry
+//! lies in a folder and each content is one of the domain.
 
 ghost use Rattle.std.specs.Prelude.{◌≡◌, ◌↔◌, ◌<◌, true, ℕ, List, length, slice_get, Some, IfOk};
 ghost use Rattle.std.specs.List.{AllByRecursion};
