@@ -153,14 +153,18 @@ pub(crate) fn placed(
 {
     order.count();
     let Parts { near, others } = parted(alloc, place, order, list, a, b)?;
-    let (front, back) = match place {
-        Place::Early => (near, others),
-        Place::Late => (others, near),
-    };
-    Ok(Exchange {
-        front,
-        first: a,
-        second: b,
-        back,
-    })
+    match place {
+        Place::Early => Ok(Exchange {
+            front: near,
+            first: a,
+            second: b,
+            back: others,
+        }),
+        Place::Late => Ok(Exchange {
+            front: others,
+            first: a,
+            second: b,
+            back: near,
+        }),
+    }
 }
