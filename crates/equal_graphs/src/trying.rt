@@ -9,8 +9,7 @@ ghost use Rattle.equal_graphs.specs.Tried.{PartsFrom};
 
 use crate::joining::joined;
 use fs_lang::{Program, Tree};
-use fs_replay::replay;
-use kept_graph::same_outcome;
+use fs_replay::{replay, same_outcome};
 use orders::Order;
 use rh_base::{NoMemory, Seq};
 use std::alloc::Global;

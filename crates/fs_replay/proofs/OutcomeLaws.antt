@@ -30,7 +30,7 @@ module _ (keeps : (e : Steps) (t u : Tree) → HasParents t → run e t ≡ Some
     | Some u ↦ λ k. keeps e t u h k
   ] refl
 
-  then_parents : (o : Outcome) (f : Tree → Outcome) → IfSome o HasParents → ((t : Tree) → HasParents t → IfSome (f t) HasParents) → IfSome (and_then o f) HasParents
+  pub then_parents : (o : Outcome) (f : Tree → Outcome) → IfSome o HasParents → ((t : Tree) → HasParents t → IfSome (f t) HasParents) → IfSome (and_then o f) HasParents
   then_parents None f h k = tt
   then_parents (Some t) f h k = k t h
 

@@ -46,13 +46,13 @@ fn has_path(table: &Table, p: &Path) -> bool
     }
 }
 
-/// The path, and those above it.
+/// The path, and those above it. Mostly it is there already, since a program names a path several times.
 pub(crate) fn cover_path(alloc: Global, table: &mut Table, p: &Path) -> Result<(), NoMemory>
     ensures there { OnOk result (HasPath table.new p.now) }
     ensures keeps { Keeps table.old table.new }
 {
     additions();
-    if p.segments().is_empty() {
+    if p.segments().is_empty() || has_path(table, p) {
         return Ok(());
     }
     cover_above(alloc, table, p)?;
@@ -66,8 +66,21 @@ pub(crate) fn cover_content(alloc: Global, table: &mut Table, c: &Text) -> Resul
     ensures keeps { Keeps table.old table.new }
 {
     additions();
+    if has_content(table, c) {
+        return Ok(());
+    }
     table.add_content(alloc, c.copy(alloc)?)?;
     Ok(())
+}
+
+fn has_content(table: &Table, c: &Text) -> bool
+    ensures { IsTrue result → HasContent table.now c.now }
+{
+    searches();
+    match table.number(c) {
+        Some(_) => true,
+        None => false,
+    }
 }
 
 #[cycle(cover_test)]

@@ -13,7 +13,8 @@ ghost use Rattle.fs_interpreter.specs.States.{AreCells};
 ghost use Rattle.fs_interpreter.specs.Standing.{StandsFor};
 ghost use Rattle.fs_replay.specs.Told.{plain_state};
 
-use crate::cover::{cover, cover_all, table_of};
+use crate::cover::{cover, table_of};
+use crate::ground::Ground;
 use crate::standing::{cells_of, tree_of};
 use fs_interpreter::{Cells, Plain, Table, run_plain, states};
 use fs_lang::{Outcome, Program, Tree};
@@ -22,7 +23,11 @@ use rh_base::NoMemory;
 use std::alloc::Global;
 
 /// The outcome for which the cells stand.
-fn outcome_told(alloc: Global, table: &Table, cells: &Cells<Plain>) -> Result<Outcome, NoMemory>
+pub(crate) fn outcome_told(
+    alloc: Global,
+    table: &Table,
+    cells: &Cells<Plain>,
+) -> Result<Outcome, NoMemory>
     requires cells { AreCells plain_meanings cells.now }
     requires places { length cells.now.present ≡ length table.now.paths }
     requires stands { (o : Ending) × StandsFor table.now (plain_state cells.now) o × IfSome o HasParents }
@@ -36,7 +41,7 @@ fn outcome_told(alloc: Global, table: &Table, cells: &Cells<Plain>) -> Result<Ou
 }
 
 /// The programs in this order, on one table and the same cells.
-fn run_in_order(
+pub(crate) fn run_in_order(
     alloc: Global,
     table: &Table,
     programs: &[Program],
@@ -96,9 +101,11 @@ pub fn replay(
     tree.is_tree();
     constructs();
     states();
-    let mut table = table_of(alloc, tree)?;
-    cover_all(alloc, &mut table, programs)?;
-    let mut cells = cells_of(alloc, &table, tree)?;
+    let Ground {
+        table,
+        mut cells,
+        ..
+    } = Ground::of(alloc, programs, tree)?;
     run_in_order(alloc, &table, programs, order, &mut cells)?;
     outcome_told(alloc, &table, &cells)
 }

@@ -1,6 +1,5 @@
 pub mod PairLaws
 pub mod CompletionLaws
 pub mod KeptLaws
-pub mod CompareLaws
 pub mod AroundLaws
 pub mod ContractedLaws

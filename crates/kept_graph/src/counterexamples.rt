@@ -8,12 +8,11 @@ ghost use Rattle.orders.specs.Relation.{Comes};
 ghost use Rattle.kept_graph.specs.Kept.{IsKept};
 ghost use Rattle.kept_graph.specs.Completed.{IsCompleted, AgreeCompleted};
 
-use crate::comparing::same_outcome;
 use crate::completing::{complete, completions};
 use crate::kept::Kept;
 use commute_prune::are_proper;
 use fs_lang::{Program, Tree};
-use fs_replay::replay;
+use fs_replay::{replay, same_outcome};
 use orders::Order;
 use rh_base::{NoMemory, Seq};
 use std::alloc::Global;

@@ -3,9 +3,11 @@
 ghost use Rattle.std.specs.Prelude.{◌≡◌, ◌<◌, ◌++◌, ◌∷◌, [], length, if◌then◌else◌, IfOk, OnOk};
 ghost use Rattle.std.specs.List.{AllByRecursion};
 ghost use Rattle.fs_semantics.specs.Orders.{IsLinearExtension, IsFree};
+ghost use Rattle.fs_replay.specs.Exchanged.{one_way, other_way};
 ghost use Rattle.orders.specs.Relation.{comes, Comes};
 ghost use Rattle.tried_trees.specs.Placing.{near, aside, those, IsPlaced};
 
+use fs_replay::Exchange;
 use orders::Order;
 use rh_base::{NoMemory, Seq};
 use std::alloc::Global;
@@ -123,23 +125,18 @@ fn between(
     Ok(list)
 }
 
-/// The two in either order between others.
-fn swapped(
-    alloc: Global,
-    front: &Seq<u32>,
-    a: u32,
-    b: u32,
-    back: &Seq<u32>,
-) -> Result<Swap, NoMemory>
-    ensures left { IfOk result (λ swap. swap.left ≡ front.now ++ a ∷ b ∷ back.now) }
-    ensures right { IfOk result (λ swap. swap.right ≡ front.now ++ b ∷ a ∷ back.now) }
+/// Both orders of an exchange.
+pub(crate) fn swapped(alloc: Global, exchange: &Exchange) -> Result<Swap, NoMemory>
+    ensures left { IfOk result (λ swap. swap.left ≡ one_way exchange.now) }
+    ensures right { IfOk result (λ swap. swap.right ≡ other_way exchange.now) }
 {
-    let left = between(alloc, front, a, b, back)?;
-    let right = between(alloc, front, b, a, back)?;
+    let (front, back) = (&exchange.front, &exchange.back);
+    let left = between(alloc, front, exchange.first, exchange.second, back)?;
+    let right = between(alloc, front, exchange.second, exchange.first, back)?;
     Ok(Swap { left, right })
 }
 
-/// Two free programs in either order, next to one another, as early or as late as the order allows.
+/// Two free programs next to one another, as early or as late as the order allows.
 pub(crate) fn placed(
     alloc: Global,
     place: Place,
@@ -147,23 +144,27 @@ pub(crate) fn placed(
     list: &[u32],
     a: u32,
     b: u32,
-) -> Result<Swap, NoMemory>
+) -> Result<Exchange, NoMemory>
     requires list { IsLinearExtension order.now.count (Comes order.now) list.now }
     requires a { a < order.now.count }
     requires b { b < order.now.count }
     requires free { IsFree (Comes order.now) a b }
-    ensures { IfOk result (λ swap. IsPlaced place order.now a b swap.left swap.right) }
+    ensures { IfOk result (λ x. IsPlaced place order.now a b (one_way x) (other_way x)) }
 {
     order.count();
-    let parts = parted(alloc, place, order, list, a, b)?;
+    let Parts { near, others } = parted(alloc, place, order, list, a, b)?;
     match place {
-        Place::Early => {
-            let early = swapped(alloc, &parts.near, a, b, &parts.others)?;
-            Ok(early)
-        }
-        Place::Late => {
-            let late = swapped(alloc, &parts.others, a, b, &parts.near)?;
-            Ok(late)
-        }
+        Place::Early => Ok(Exchange {
+            front: near,
+            first: a,
+            second: b,
+            back: others,
+        }),
+        Place::Late => Ok(Exchange {
+            front: others,
+            first: a,
+            second: b,
+            back: near,
+        }),
     }
 }

@@ -5,14 +5,15 @@ ghost use Rattle.std.specs.List.{AllByRecursion};
 ghost use Rattle.std.specs.FinMap as map_of;
 ghost use Rattle.fs_semantics.specs.Orders.{IsLinearExtension, IsFree};
 ghost use Rattle.fs_lang.specs.Meaning.{program_of};
+ghost use Rattle.fs_replay.specs.Exchanged.{IsGround};
 ghost use Rattle.orders.specs.Relation.{Comes};
 ghost use Rattle.tried_trees.specs.declared.placing.Place.TheVariants.{Early, Late};
 ghost use Rattle.tried_trees.specs.Tried.{IsDifference, IsTried};
 
-use crate::placing::{Place, placed};
+use crate::placing::{Place, Swap, placed, swapped};
 use crate::standing::trees_of;
 use fs_lang::{Program, Tree};
-use kept_graph::end_alike;
+use fs_replay::{Ground, end_alike_exchanged};
 use orders::Order;
 use rh_base::{NoMemory, Seq};
 use std::alloc::Global;
@@ -39,39 +40,31 @@ fn is_free_pair(order: &Order, a: u32, b: u32) -> bool
 /// One pair on one tree.
 fn try_pair(
     alloc: Global,
-    programs: &[Program],
+    ground: &Ground,
     order: &Order,
     list: &[u32],
     place: Place,
     pair: (u32, u32),
-    tree: &Tree,
 ) -> Result<Option<Difference>, NoMemory>
-    requires count { length programs.now ≡ order.now.count }
+    requires ground { IsGround ground.now }
+    requires count { length ground.now.programs.now ≡ order.now.count }
     requires list { IsLinearExtension order.now.count (Comes order.now) list.now }
-    ensures found { IfOk result (λ found. IfSome found (IsDifference (map program_of programs.now) order.now)) }
-    ensures tried { IfOk result (λ found. MatchOption found (IsTried place (map program_of programs.now) order.now tree.now pair) (λ d. Unit)) }
+    ensures found { IfOk result (λ found. IfSome found (IsDifference (map program_of ground.now.programs.now) order.now)) }
+    ensures tried { IfOk result (λ found. MatchOption found (IsTried place (map program_of ground.now.programs.now) order.now ground.now.tree.now pair) (λ d. Unit)) }
 {
-    tree.is_tree();
+    ground.tree.is_tree();
     let free = is_free_pair(order, pair.0, pair.1);
     if !free {
         return Ok(None);
     }
-    let swap = placed(alloc, place, order, list, pair.0, pair.1)?;
-    let alike = end_alike(
-        alloc,
-        programs,
-        tree,
-        swap.left.as_slice(),
-        swap.right.as_slice(),
-    )?;
+    let exchange = placed(alloc, place, order, list, pair.0, pair.1)?;
+    let alike = end_alike_exchanged(alloc, ground, &exchange)?;
     if alike {
         return Ok(None);
     }
-    Ok(Some(Difference {
-        tree: tree.copy(alloc)?,
-        left: swap.left,
-        right: swap.right,
-    }))
+    let Swap { left, right } = swapped(alloc, &exchange)?;
+    let tree = ground.tree.copy(alloc)?;
+    Ok(Some(Difference { tree, left, right }))
 }
 
 /// Each pair on one tree.
@@ -89,8 +82,9 @@ fn try_place(
     ensures found { IfOk result (λ found. IfSome found (IsDifference (map program_of programs.now) order.now)) }
     ensures tried { IfOk result (λ found. MatchOption found (AllByRecursion (IsTried place (map program_of programs.now) order.now tree.now) pairs.now) (λ d. Unit)) }
 {
+    let ground = Ground::of(alloc, programs, tree)?;
     for pair in pairs {
-        if let Some(found) = try_pair(alloc, programs, order, list, place, *pair, tree)? {
+        if let Some(found) = try_pair(alloc, &ground, order, list, place, *pair)? {
             return Ok(Some(found));
         }
     }

@@ -1,6 +1,6 @@
 use Rattle.std.proofs.Common.{refl}
-use Rattle.kept_graph.proofs.CompareLaws.{both_end}
-use Rattle.kept_graph.proofs.comparing.same_tree.Goals as goal
+use Rattle.fs_replay.proofs.CompareLaws.{both_end}
+use Rattle.fs_replay.proofs.comparing.same_tree.Goals as goal
 
 pub returns-in-None-next : goal.returns-in-None-next
 returns-in-None-next c = (
