@@ -19,7 +19,7 @@ or_nothing : (o : Option ℕ) → or_else o None ≡ o
 or_nothing None = refl
 or_nothing (Some n) = refl
 
--- what has a value behind one more pair had it, or is that pair's type
+-- with one more pair behind them, a type has the value that it had, or else that of the pair if this is of the type
 value_last : (types : List (List ℕ × ℕ)) (kind other : List ℕ) (n : ℕ) → value_at kind (types ++ (other, n) ∷ []) ≡ or_else (value_at kind types) (cond (bytes_eq other kind) (Some n) None)
 value_last [] kind other n = refl
 value_last (p ∷ types) kind other n = at (bytes_eq p.0 kind) (value_last types kind other n)

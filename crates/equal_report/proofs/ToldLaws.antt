@@ -120,7 +120,7 @@ module _ (terms : Terms) (budget : ℕ) (same : budget ≡ budget_of terms.confl
 
   module _ (long : Long) (notes other_notes : List ℕ) (names : List (List ℕ)) (es : List Program) (order : Relation) (others : List (List ℕ)) (fs : List Program) (other : Relation) (left_long : length es ≡ order.count) (right_long : length fs ≡ other.count)
       (report : Report) where
-    -- where it was spent on whether the two do the same the report tells so
+    -- where the budget was spent on whether the two do the same the report tells so
     tells_spent : (l r : Settled) (cnf : Formula) (log : Log) → IsSettledFrom terms.given es order l → IsSettledFrom terms.given fs other r → IsSpentOnFrom terms.given es order fs other budget cnf log.steps → report.status ≡ 3
         → report.text ≡ spent_equal_text notes other_notes (length es) l.pruned (length fs) r.pruned budget → TellsSpent terms notes other_notes es order fs other report
     tells_spent l r cnf log one second spent_on status text =

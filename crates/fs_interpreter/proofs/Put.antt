@@ -127,7 +127,7 @@ clear_becomes m n old i b e ok g a h own_b none own means = let same : length (s
 pub one_keeps : {B Bit Code : Type 0} (m n : Meanings Bit Code) (c : OneCell B Bit Code) → Grows m n → IsOne m (λ v. one_told m v c) c → (v : Valuation) → one_told n v c ≡ one_told m v c
 one_keeps m n c g one v = λ k. record { present = g.bit c.present one.present v k; folder = g.bit c.folder one.folder v k; link = g.bit c.link one.link v k; content = g.code c.content one.content v k }
 
--- and so it does where the list of those bits is only equal to the one that was set
+-- an entry goes so, too, where the list of those bits is only equal to the one that was set
 pub clear_as : {B Bit Code : Type 0} (m n : Meanings Bit Code) (old : Cells B Bit Code) (i : ℕ) (b e : Bit) (present : List Bit) (ok : Valuation → Bool)
     → Grows m n → AreCells m old → i < length old.present → n.owns b → ((v : Valuation) → n.bit v b ≡ false) → n.owns e → ((v : Valuation) → n.bit v e ≡ (m.bit v old.error || not (ok v)))
     → present ≡ slice_set old.present i b

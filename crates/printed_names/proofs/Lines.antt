@@ -69,7 +69,7 @@ high c (b ∷ bytes) own h = (first (is_control b) refl, high c bytes (λ k less
     first false is = is
     first true is = let same = own 0 (omega arith) (small b is) in absurd (true≢false (sym is ∙ (sym (ap is_control same) ∙ h)))
 
--- and so is a character that isn't one
+-- a character that isn't a control character is printed as it is
 pub other_char : (c : ℕ) → is_control c ≡ false → printed (encode_utf8 c) ≡ encode_utf8 c
 other_char c h = as_it_is (encode_utf8 c) (high c (encode_utf8 c) (λ k less low. inside_one c [] (encode_utf8 c) k (sym (append-nil (encode_utf8 c))) less low) h)
 

@@ -72,7 +72,7 @@ memory_tells run status is front out = record {
   known = inr (inr (inr (inr (inr is))));
 }
 
--- and what follows of status 8 does
+-- at status 8, where no put on out failed, what has to follow does
 memory_owes : (run : Run) (status : ℕ) → status ≡ 8 → IsSound run.out → Owed run status
 memory_owes run status is sound = record {
   usage = λ none. inr (inr is);
@@ -304,7 +304,7 @@ never_failed held before now [] name never there failed = failed
 never_failed held before now (f ∷ files) name never there (inl here) = elim here.1 [ inl rose ↦ never rose | inr missing ↦ there name missing ]
 never_failed held before now (f ∷ files) name never there (inr later) = never_failed held before now files name never there later.1
 
--- and where the shelf doesn't and no name is missing, it isn't 6
+-- where the shelf doesn't fail and no name is missing, the status isn't 6
 pub never_a_read_fault : (run : Run) (status : ℕ) → Tells run status → (Rose run.shelf_before run.shelf_now → ⊥) → ((n : List ℕ) → IsMissing run.held n → ⊥) → status ≡ 6 → ⊥
 never_a_read_fault run status tells never there is =
     let told = tells.read is in

@@ -495,7 +495,7 @@ no_source i m is none = without_bytes m (subst (λ bytes. IsCompiledOf bytes m) 
 no_other_bytes : (i : Inputs) → bytes_of role.Compiled i ≡ None → bytes_of role.Compiled (other_inputs i) ≡ None
 no_other_bytes i none = ap (λ bytes. given role.Compiled ((place_of_source bytes, bytes_or_none (bytes_of role.Other i)) ∷ i.files)) none ∙ none
 
--- and so are both that are compared
+-- where none is named both that are compared are manifests
 are_manifests : (run : Run) (c : IsCompared run) → bytes_of role.Compiled c.loaded.inputs ≡ None → AreManifests c
 are_manifests run c none =
     let i = c.loaded.inputs in

@@ -107,6 +107,6 @@ ahead_is_short : (bytes : Bytes) (other : List ℕ) (files : ByRole (List ℕ)) 
 ahead_is_short None other files short more = short
 ahead_is_short (Some bytes) other files short more = each_is_short role.Input files more
 
--- and so is what it is compared with
+-- and so is the input of the other side
 pub other_is_short : (i : Inputs) → AreShort i.files → length (input_of (other_inputs i)) < 2 ^ 32
 other_is_short i short = ahead_is_short (bytes_of role.Compiled i) (bytes_or_none (bytes_of role.Other i)) i.files (each_is_short role.Other i.files short) short

@@ -110,7 +110,7 @@ module _ (es : List Program) (order : Relation) (strict : IsStrictOrder order) (
   pub not_without : IsDeterministic es (ComesWith order arrows) → ⊥
   not_without det = missing.differ (det missing.tree missing.is_tree missing.run missing.other (with_arrows missing.run missing.run_allowed) (with_arrows missing.other missing.other_allowed))
 
-  -- and were missing, each when it was added
+  -- with the new one the arrows were missing, each when it was added
   pub missing_more : WereMissing es order (arrows ++ arrow ∷ [])
   missing_more = record {
     added = added_one;

@@ -214,7 +214,7 @@ module _ (known : OneKnown) (unread : NoneUnread) (texts : OneCompiled) (manifes
       few_too : (i : Inputs) (k j : Known) (es fs : List Program) → k ≡ j → es ≡ fs → HasFewPathsWith i.limits k.given.folders es → HasFewPathsWith i.limits j.given.folders fs
       few_too i k j es fs files same few = subst₂ (λ (x : Known) (all : List Program). HasFewPathsWith i.limits x.given.folders all) files same few
 
-      -- and so it is of the same programs under what is known otherwise
+      -- the same programs aren't both within the limits and refused as too large
       too_large_or_not : (i : Inputs) (k j : Known) (es fs : List Program) (r : Refusal) → k ≡ j → es ≡ fs → HasFewPathsWith i.limits k.given.folders es → IsLightWith i.limits es
           → IsTooLargeWith i.limits j.given.folders fs r → ⊥
       too_large_or_not i k j es fs r files same few light large =

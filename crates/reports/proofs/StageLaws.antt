@@ -32,7 +32,7 @@ unread i (Memory m) first = tt
 -- of a text and a name that are those of the request, and of the compiled catalog that it names, if it names one
 module _ (i : Inputs) (k : Known) (m : Option Compiled) (text name : List ℕ) (l : Limits) (is : text ≡ input_of i) (source : IsCompiledOf (bytes_of role.Compiled i) m) (named : name ≡ node_name i.node)
     (limited : l ≡ i.limits) (known : IsKnown i k) where
-  -- and so does what refuses what is asked about
+  -- what refuses what is asked about refuses the catalog
   pub uncompiled : (e : Fault) → IfRefused e (HasNoCatalog text name l k m) → IfRefused e (CatalogRefusal i)
   uncompiled (Refused r) none =
       stages.uncompiled k m known source

@@ -77,7 +77,7 @@ module _ (es : List Program) (before : ℕ → ℕ → Type 0) (proper : AllByRe
       outcome_keeps_folder es p sure.stays (a ∷ split.1) parts.0 u stood parts.2
 
   module _ (t : Tree) (tree : IsTree t) where
-    -- what settled a group before programs that commute with it leaves it settled behind them
+    -- a tree that a group leaves as it is becomes, by programs that commute with it, one that it leaves as it is, too
     stays : (group front order : List ℕ) → IsLinearExtension (length es) before (front ++ order) → ((a : ℕ) → 0 < times a group → 0 < times a front) → AllByRecursion (CommutesWithGroup es before group) order
         → (v u : Tree) → outcome es front t ≡ Some v → outcome es group v ≡ Some v → outcome es order v ≡ Some u → outcome es group u ≡ Some u
     stays group front [] allowed ran commute v u at settled h = let same : v ≡ u = cc in subst (λ w. outcome es group w ≡ Some w) same settled
