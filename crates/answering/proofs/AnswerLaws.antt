@@ -8,11 +8,13 @@ use Rattle.answering.specs.declared.answering.Answer.{Answer}
 use Rattle.answering.specs.declared.answering.Answer.TheVariants as answer
 
 module _ {B : Type 0} (q : Asked B) (budget : ℕ) where
+  -- a witness that some model tells answers the question
   pub read : (a : Answer) → IsReadFrom q a → Answers q budget a
   read (answer.Refuted w) h = absurd h
   read (answer.Shown w) h = h
   read (answer.Spent cnf log) h = absurd h
 
+  -- and so does the formula without a model
   pub refuted : (f : Formula) → f ≡ q.formula → (a : Answer) → IsRefuted f a → Answers q budget a
   refuted f is (answer.Refuted v) h = subst (λ g. (v.formula ≡ g) × HasNoModel g) is h
   refuted f is (answer.Shown w) h = absurd h

@@ -20,10 +20,12 @@ of_member P [] x h all = absurd (omega (arith, h.1))
 of_member P (y ∷ xs) x (zero, h, at) all = subst P at all.0
 of_member P (y ∷ xs) x (suc i, h, at) all = of_member P xs x (i, omega (arith, h), at) all.1
 
+-- what follows from what holds of each holds of each
 each_of : (P Q : ℕ → Type 0) (xs : List ℕ) → ((k : ℕ) → P k → Q k) → AllByRecursion P xs → AllByRecursion Q xs
 each_of P Q [] f all = tt
 each_of P Q (x ∷ xs) f all = (f x all.0, each_of P Q xs f all.1)
 
+-- what holds of all, twice over, holds of all together
 both_of : (P Q : ℕ → Type 0) (xs : List ℕ) → AllByRecursion P xs → AllByRecursion Q xs → AllByRecursion (λ k. P k × Q k) xs
 both_of P Q [] all too = tt
 both_of P Q (x ∷ xs) all too = ((all.0, too.0), both_of P Q xs all.1 too.1)
@@ -32,12 +34,15 @@ both_of P Q (x ∷ xs) all too = ((all.0, too.0), both_of P Q xs all.1 too.1)
 abbrev NumberedFrom : List ℕ → ℕ → List (List ℕ) → Type 0
 NumberedFrom numbers n groups = (i : ℕ) → i < length groups → AllByRecursion (λ k. group_of numbers k ≡ n + i) (get_or groups i [])
 
+-- the programs of the first group have its number
 of_head : (numbers : List ℕ) (n : ℕ) (group : List ℕ) (groups : List (List ℕ)) → NumberedFrom numbers n (group ∷ groups) → AllByRecursion (λ k. group_of numbers k ≡ n) group
 of_head numbers n group groups h = each_of (λ k. group_of numbers k ≡ n + 0) (λ k. group_of numbers k ≡ n) group (λ k e. omega (arith, e)) (h 0 (omega arith))
 
+-- and the others are numbered from the next one on
 of_tail : (numbers : List ℕ) (n : ℕ) (group : List ℕ) (groups : List (List ℕ)) → NumberedFrom numbers n (group ∷ groups) → NumberedFrom numbers (suc n) groups
 of_tail numbers n group groups h i low = each_of (λ k. group_of numbers k ≡ n + suc i) (λ k. group_of numbers k ≡ suc n + i) (get_or groups i []) (λ k e. omega (arith, e)) (h (suc i) (omega (arith, low)))
 
+-- the programs of all groups have at least the first number
 later : (numbers : List ℕ) (n : ℕ) (groups : List (List ℕ)) → NumberedFrom numbers n groups → AllByRecursion (λ k. n ≤ group_of numbers k) (in_turn groups)
 later numbers n [] h = tt
 later numbers n (group ∷ groups) h =
@@ -51,6 +56,7 @@ ApartCommute es before = (a b : ℕ) → AreApartWhereSure es before a b → Com
 
 module _ (es : List Program) (before : ℕ → ℕ → Bool) (pairs : List (ℕ × ℕ)) (meet : MeetIn es before pairs)
     (numbers : List ℕ) (within : AllByRecursion (IsWithin numbers) pairs) where
+  -- what is sure before one of two is so the other way round
   turned : (a b : ℕ) (p : Path) → IsSureBeforeEither nowhere es (Told before) b a p → IsSureBeforeEither nowhere es (Told before) a b p
   turned a b p (inl h) = inr h
   turned a b p (inr h) = inl h
@@ -62,6 +68,7 @@ module _ (es : List Program) (before : ℕ → ℕ → Bool) (pairs : List (ℕ 
     | inr h ↦ h
   ]
 
+  -- programs of groups of which the one has a lesser number commute
   commute : (a b : ℕ) → a < length es → b < length es → group_of numbers a < group_of numbers b → CommuteWhereSure es (Told before) a b
   commute a b low high less = elim (cases_order a b) [
     | inl same ↦ absurd (omega (arith, less, ap (group_of numbers) same))
@@ -71,10 +78,12 @@ module _ (es : List Program) (before : ℕ → ℕ → Bool) (pairs : List (ℕ 
     ]
   ]
 
+  -- each program of a group commutes with one of a later group
   with_later : (n b : ℕ) (group : List ℕ) → b < length es → n < group_of numbers b → AllByRecursion (λ k. k < length es) group → AllByRecursion (λ k. group_of numbers k ≡ n) group → CommutesWithGroup es (Told before) group b
   with_later n b [] high less low is = tt
   with_later n b (a ∷ group) high less low is = (commute a b low.0 high (omega (arith, less, is.0)), with_later n b group high less low.1 is.1)
 
+  -- groups that are numbered in turn commute
   groups_commute : (n : ℕ) (groups : List (List ℕ)) → AllByRecursion (λ k. k < length es) (in_turn groups) → NumberedFrom numbers n groups → GroupsCommute es (Told before) groups
   groups_commute n [] low h = tt
   groups_commute n (group ∷ groups) low h =
@@ -87,12 +96,15 @@ module _ (es : List Program) (before : ℕ → ℕ → Bool) (pairs : List (ℕ 
         groups_commute (suc n) groups rest tail,
       )
 
+  -- groups that have their numbers are numbered from zero on
   from_zero : (groups : List (List ℕ)) → AreNumbered numbers groups → NumberedFrom numbers 0 groups
   from_zero groups h i low = each_of (λ k. group_of numbers k ≡ i) (λ k. group_of numbers k ≡ 0 + i) (get_or groups i []) (λ k e. omega (arith, e)) (h i low)
 
+  -- groups in an allowed order, each with its number, are groups that commute
   pub are_groups : (groups : List (List ℕ)) → IsLinearExtension (length es) (Told before) (in_turn groups) → AreNumbered numbers groups → AreGroups es before groups
   are_groups groups allowed numbered = record { allowed = allowed; commute = groups_commute 0 groups allowed.below (from_zero groups numbered) }
 
+-- nothing behind numbers leaves them
 append_nil : (xs : List ℕ) → xs ++ [] ≡ xs
 append_nil [] = refl
 append_nil (x ∷ xs) = ap (λ ys. x ∷ ys) (append_nil xs)
@@ -103,15 +115,18 @@ one_group es before order allowed = record { allowed = subst (IsLinearExtension 
 
 -- ---- pairs that meet
 
+-- the pairs that aren't apart are all that needn't commute
 pub touching_meet : (es : List Program) (before : ℕ → ℕ → Bool) → ApartCommute es before → (pairs : List (ℕ × ℕ)) → AreTouching es before pairs → MeetIn es before pairs
 touching_meet es before apart pairs touching a b less high = elim (touching.all a b less high) [
   | inl there ↦ inl there
   | inr h ↦ inr (apart a b h)
 ]
 
+-- the first of a list is one of it
 first_of : (x : ℕ × ℕ) (xs : List (ℕ × ℕ)) → Contains (x ∷ xs) x
 first_of x xs = (0, omega arith, refl)
 
+-- and one of the rest is one of it
 behind_one : (y : ℕ × ℕ) (xs : List (ℕ × ℕ)) (x : ℕ × ℕ) → Contains xs x → Contains (y ∷ xs) x
 behind_one y xs x h = (suc h.0, omega (arith, h.1), h.2)
 

@@ -10,9 +10,11 @@ use Rattle.pkg_listing.proofs.SetLaws.{SameText}
 use Rattle.model_semantics.specs.Words.{marked}
 use Rattle.assumed_models.specs.Behaviors.{edit_mark}
 
+-- marks of edits with equal parts have these equal
 two : (a b c d : List ℕ) → ◌≡◌ {A = Path} (marked (codes "edit") (a ∷ b ∷ [])) (marked (codes "edit") (c ∷ d ∷ [])) → (a ≡ c) × (b ≡ d)
 two a b c d h = (cc, cc)
 
+-- the same mark of an edit is one of the same file and of the same resource
 pub marks_tell : SameText → ((a b : List ℕ) → segment_of a ≡ segment_of b → a ≡ b) → (r s : Resource) (p q : Path) → AllByRecursion IsSegment p → AllByRecursion IsSegment q → edit_mark r p ≡ edit_mark s q
     → (p ≡ q) × (shown_ref r.id ≡ shown_ref s.id)
 marks_tell texts names r s p q is_p is_q h =

@@ -13,6 +13,7 @@ use Rattle.model_semantics.specs.Words.{steps}
 use Rattle.assumed_models.specs.LostEdits.{inside, lost_steps, all_inside, with_lost_edits}
 use Rattle.assumed_models.proofs.LostLaws.{steps_lost}
 
+-- the steps of a list are its programs as steps
 steps_are : (es : List Program) → programs_in es ≡ steps (map program_of es)
 steps_are [] = refl
 steps_are (e ∷ es) = ap (language.next (program_of e)) (steps_are es)
@@ -28,6 +29,7 @@ lost_inside marks es made h =
 pub steps_inside : (marks : Path → List Path) (x : Program) (es made : List Program) → x ≡ program.Steps es → map program_of made ≡ flat_map (lost_steps marks) (map program_of es) → program_of (program.Steps made) ≡ inside marks (program_of x)
 steps_inside marks x es made is h = lost_inside marks es made h ∙ ap (λ y. inside marks (program_of y)) (sym is)
 
+-- a program that means what it should does so by an equal name
 same_ok : (a b : language.Program) (r : Result Program NoMemory) → a ≡ b → IfOk r (λ g. program_of g ≡ a) → IfOk r (λ g. program_of g ≡ b)
 same_ok a b (Ok g) e h = h ∙ e
 same_ok a b (Err m) e h = tt
@@ -42,12 +44,15 @@ choice_inside marks x a e f l m r is left right h =
 
 -- ---- sizes
 
+-- a program of a list is smaller than the list
 behind_smaller : (front : List Program) (e : Program) (rest : List Program) → program_size (program_of e) < programs_size (programs_in (front ++ e ∷ rest))
 behind_smaller [] e rest = omega arith
 behind_smaller (f ∷ front) e rest = let more = behind_smaller front e rest in omega (arith, more)
 
+-- and so is the next of those that are left
 pub next_smaller : (all front left rest : List Program) (e : Program) → all ≡ front ++ left → left ≡ e ∷ rest → program_size (program_of e) < programs_size (programs_in all)
 next_smaller all front left rest e is at = subst (λ l. program_size (program_of e) < programs_size (programs_in l)) (sym (is ∙ ap (λ l. front ++ l) at)) (behind_smaller front e rest)
 
+-- a sequence is one larger than its steps
 pub steps_size : (x : Program) (es : List Program) → x ≡ program.Steps es → program_size (program_of x) ≡ 1 + programs_size (programs_in es)
 steps_size x es is = ap (λ y. program_size (program_of y)) is ∙ ap program_size (program_of_steps es)

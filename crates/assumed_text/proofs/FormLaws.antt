@@ -20,9 +20,11 @@ use Rattle.assumed_text.proofs.PathLaws.{OnceWhere, fit_is, fit_back}
 
 -- ---- keys
 
+-- a key that is told to be the word is that word
 same : (key word : List ℕ) → bytes_eq key word ≡ true → key ≡ word
 same key word h = (bytes_eq-Decides key word).0 h
 
+-- and one that is it is told to be
 equal : (key word : List ℕ) → key ≡ word → bytes_eq key word ≡ true
 equal key word h = (bytes_eq-Decides key word).1 h
 
@@ -31,15 +33,18 @@ one_of : (a b : Bool) (P Q : Type 0) → (a ≡ true → P) → (b ≡ true → 
 one_of true b P Q f g h = inl (f refl)
 one_of false b P Q f g h = inr (g h)
 
+-- where each test tells what it is about, one of the two is told where one holds
 is_one_of : (a b : Bool) (P Q : Type 0) → (P → a ≡ true) → (Q → b ≡ true) → P ⊎ Q → (a || b) ≡ true
 is_one_of a b P Q f g (inl p) = ap (λ t. t || b) (f p)
 is_one_of true b P Q f g (inr q) = refl
 is_one_of false b P Q f g (inr q) = g q
 
+-- of a conjunction that is true both sides are true
 two_true : (a b : Bool) → (a && b) ≡ true → (a ≡ true) × (b ≡ true)
 two_true true b h = (refl, h)
 two_true false b h = absurd (true≢false (sym h))
 
+-- a key that is told to be one of actions is one
 action_is : (key : List ℕ) → is_action key ≡ true → IsAction key
 action_is key =
     one_of (bytes_eq key (codes "needs")) (bytes_eq key (codes "folders") || (bytes_eq key (codes "makes") || (bytes_eq key (codes "edits") || bytes_eq key (codes "removes")))) (key ≡ codes "needs") _ (same key (codes "needs"))
@@ -47,6 +52,7 @@ action_is key =
     (one_of (bytes_eq key (codes "makes")) (bytes_eq key (codes "edits") || bytes_eq key (codes "removes")) (key ≡ codes "makes") _ (same key (codes "makes"))
     (one_of (bytes_eq key (codes "edits")) (bytes_eq key (codes "removes")) (key ≡ codes "edits") (key ≡ codes "removes") (same key (codes "edits")) (same key (codes "removes")))))
 
+-- and one that is so is told to be
 action_back : (key : List ℕ) → IsAction key → is_action key ≡ true
 action_back key =
     is_one_of (bytes_eq key (codes "needs")) (bytes_eq key (codes "folders") || (bytes_eq key (codes "makes") || (bytes_eq key (codes "edits") || bytes_eq key (codes "removes")))) (key ≡ codes "needs") _ (equal key (codes "needs"))
@@ -54,6 +60,7 @@ action_back key =
     (is_one_of (bytes_eq key (codes "makes")) (bytes_eq key (codes "edits") || bytes_eq key (codes "removes")) (key ≡ codes "makes") _ (equal key (codes "makes"))
     (is_one_of (bytes_eq key (codes "edits")) (bytes_eq key (codes "removes")) (key ≡ codes "edits") (key ≡ codes "removes") (equal key (codes "edits")) (equal key (codes "removes")))))
 
+-- members that are told to have no other keys have none
 parts_are : (members : Members) → has_only_parts members ≡ true → HasOnlyParts members
 parts_are no_members h = tt
 parts_are (member key d members) h =
@@ -62,35 +69,42 @@ parts_are (member key d members) h =
       parts_are members two.1,
     )
 
+-- and those that have none are told to
 parts_back : (members : Members) → HasOnlyParts members → has_only_parts members ≡ true
 parts_back no_members h = refl
 parts_back (member key d members) h =
     ap₂ (λ a b. a && b) (is_one_of (is_action key) (bytes_eq key (codes "creates")) (IsAction key) (key ≡ codes "creates") (action_back key) (equal key (codes "creates")) h.0) (parts_back members h.1)
 
+-- members that are told to have an action have one
 acts : (members : Members) → has_action members ≡ true → HasAction members
 acts no_members h = absurd (true≢false (sym h))
 acts (member key d members) h = one_of (is_action key) (has_action members) (IsAction key) (HasAction members) (action_is key) (acts members) h
 
+-- and those that have one are told to
 acts_back : (members : Members) → HasAction members → has_action members ≡ true
 acts_back no_members h = absurd h
 acts_back (member key d members) h = is_one_of (is_action key) (has_action members) (IsAction key) (HasAction members) (action_back key) (acts_back members) h
 
 -- ---- behaviors
 
+-- paths that are read of an array, where it stands, are those of its form
 paths_are : (o : Option Data) (paths : List Path) → paths_in o ≡ Some paths → AllByRecursion (AllByRecursion IsSegment) paths → ArePathsAt paths o
 paths_are None paths h s = sym (same_some [] paths h)
 paths_are (Some d) paths h s =
     let items = step (as_array d) folders_of paths h in (items.0, array_is d items.0 items.1, folders_are items.0 paths items.2 s)
 
+-- and paths of the form are read
 paths_back : (o : Option Data) (paths : List Path) → ArePathsAt paths o → paths_in o ≡ Some paths
 paths_back None paths h = ap (λ (ps : List Path). Some ps) (sym h)
 paths_back (Some d) paths h = ap (λ e. as_array e >>= folders_of) h.1 ∙ folders_back h.0 paths h.2
 
+-- a path that is read, where it stands, is the one of its form
 one_path : (o : Option Data) (path : Option Path) → path_in o ≡ Some path → IfProper path → IsPathAt path o
 one_path None path h s = sym (same_some None path h)
 one_path (Some d) path h s =
     let p = mapped (λ (q : Path). Some q) (path_of d) path h in (p.0, sym p.2, path_is d p.0 p.1 (subst IfProper (sym p.2) s))
 
+-- and a path of the form is read
 one_path_back : (o : Option Data) (path : Option Path) → IsPathAt path o → path_in o ≡ Some path
 one_path_back None path h = ap (λ (p : Option Path). Some p) (sym h)
 one_path_back (Some d) path h = ap (option_map (λ (q : Path). Some q)) (path_back d h.0 h.2) ∙ ap (λ (p : Option Path). Some p) (sym h.1)
@@ -104,6 +118,7 @@ record HasParts (b : Behavior) (members : Members) : Type 0 where
   removes : paths_in (get_member (codes "removes") members) ≡ Some b.removes
   creates : path_in (get_member (codes "creates") members) ≡ Some b.creates
 
+-- a behavior that is read of an object has the object's parts
 has_parts : (members : Members) (b : Behavior) → behavior_of (object members) ≡ Some b → HasParts b members
 has_parts members b h =
     let needs = step (paths_in (get_member (codes "needs") members)) (λ needs. paths_in (get_member (codes "folders") members) >>= (λ folders. paths_in (get_member (codes "makes") members) >>= (λ makes. paths_in (get_member (codes "edits") members)
@@ -125,6 +140,7 @@ has_parts members b h =
       creates = creates.1 ∙ ap (λ (c : Behavior). Some c.creates) creates.2;
     }
 
+-- and one that has them is read of it
 parts_read : (members : Members) (b : Behavior) → HasParts b members → behavior_of (object members) ≡ Some b
 parts_read members b h =
     taken (paths_in (get_member (codes "needs") members)) (λ needs. paths_in (get_member (codes "folders") members) >>= (λ folders. paths_in (get_member (codes "makes") members) >>= (λ makes. paths_in (get_member (codes "edits") members)
@@ -138,6 +154,7 @@ parts_read members b h =
     ∙ (taken (paths_in (get_member (codes "removes") members)) (λ removes. option_map (behavior_with b.needs b.folders b.makes b.edits removes) (path_in (get_member (codes "creates") members))) b.removes h.removes
     ∙ ap (option_map (behavior_with b.needs b.folders b.makes b.edits b.removes)) h.creates))))
 
+-- a behavior that is told by an object is the one of its form
 behavior_is : OnceWhere → (members : Members) (b : Behavior) → behaves (object members) members ≡ Some b → IsProperBehavior b → IsBehavior b (object members)
 behavior_is once members b h s =
     let tests = guarded (has_only_parts members && has_action members) (behavior_of (object members) >>= if_fit) b h in
@@ -160,6 +177,7 @@ behavior_is once members b h s =
       few = (fit_is once b b (ap if_fit (sym fit.0) ∙ read.2)).2;
     }
 
+-- and a behavior of the form is told
 behavior_back : OnceWhere → (d : Data) (b : Behavior) → IsBehavior b d → (as_object d >>= behaves d) ≡ Some b
 behavior_back once d b h =
     ap (λ e. as_object e >>= behaves e) h.is_object
@@ -176,6 +194,7 @@ behavior_back once d b h =
 
 -- ---- what is assumed
 
+-- what a word says is what its form says
 word_is : (word : List ℕ) (a : Assumed) → word_of word ≡ Some a → IsAssumed a (string word)
 word_is word a h = at (bytes_eq word (codes "none")) (bytes_eq word (codes "refused")) refl refl h
   where
@@ -184,6 +203,7 @@ word_is word a h = at (bytes_eq word (codes "none")) (bytes_eq word (codes "refu
     at false true e f k = subst (λ b. IsAssumed b (string word)) (same_some Refused a k) (ap string (same word (codes "refused") f))
     at false false e f k = absurd (no_value a k)
 
+-- what JSON tells to be assumed is what its form says
 assumed_is : OnceWhere → (d : Data) (a : Assumed) → assumed_of d ≡ Some a → IsProper a → IsAssumed a d
 assumed_is once null a h s = absurd (no_value a h)
 assumed_is once (boolean b) a h s = absurd (no_value a h)
@@ -194,6 +214,7 @@ assumed_is once (object members) a h s =
     let b = mapped Does (behaves (object members) members) a h in
     subst (λ c. IsAssumed c (object members)) b.2 (behavior_is once members b.0 b.1 (subst IsProper (sym b.2) s))
 
+-- and what the form says is told
 assumed_back : OnceWhere → (d : Data) (a : Assumed) → IsAssumed a d → assumed_of d ≡ Some a
 assumed_back once d Nothing h = ap assumed_of h
 assumed_back once d Refused h = ap assumed_of h
@@ -202,6 +223,7 @@ assumed_back once d (Does b) h =
 
 -- ---- assumptions
 
+-- the assumption of a member is that of its form
 assumption_is : ReferencesWhere → OnceWhere → (key : List ℕ) (d : Data) (a : Assumption) → assumption_of key d ≡ Some a → IsProperAssumption a → IsAssumption a key d
 assumption_is references once key d a h s =
     let subject = step (subject_of key) (λ subject. option_map (assumption_with subject) (assumed_of d)) a h in
@@ -211,11 +233,13 @@ assumption_is references once key d a h s =
       assumed = assumed_is once d a.assumed (assumed.1 ∙ ap (λ (b : Assumption). Some b.assumed) assumed.2) s;
     }
 
+-- and one of the form is read
 assumption_back : ReferencesWhere → OnceWhere → (key : List ℕ) (d : Data) (a : Assumption) → IsAssumption a key d → assumption_of key d ≡ Some a
 assumption_back references once key d a h =
     taken (subject_of key) (λ subject. option_map (assumption_with subject) (assumed_of d)) a.subject ((subject_where references key a.subject).1 h.subject)
     ∙ ap (option_map (assumption_with a.subject)) (assumed_back once d a.assumed h.assumed)
 
+-- the assumptions of members are those of their form
 rows_are : ReferencesWhere → OnceWhere → (members : Members) (rows : List Assumption) → rows_of members ≡ Some rows → AllByRecursion IsProperAssumption rows → AreAssumptions rows members
 rows_are references once no_members rows h s = subst (λ l. AreAssumptions l no_members) (same_some [] rows h) tt
 rows_are references once (member key d members) rows h s =
@@ -224,6 +248,7 @@ rows_are references once (member key d members) rows h s =
     let both = subst (AllByRecursion IsProperAssumption) (sym rest.2) s in
     subst (λ l. AreAssumptions l (member key d members)) rest.2 (assumption_is references once key d first.0 first.1 both.0, rows_are references once members rest.0 rest.1 both.1)
 
+-- and those of the form are read
 rows_back : ReferencesWhere → OnceWhere → (members : Members) (rows : List Assumption) → AreAssumptions rows members → rows_of members ≡ Some rows
 rows_back references once no_members [] h = refl
 rows_back references once no_members (a ∷ rows) h = absurd h
@@ -234,10 +259,12 @@ rows_back references once (member key d members) (a ∷ rows) h =
 
 -- ---- the whole
 
+-- a number that is told to be 1 is there and is 1
 one_is : (o : Option ℕ) → is_one o ≡ true → o ≡ Some 1
 one_is None h = absurd (true≢false (sym h))
 one_is (Some n) h = ap (λ m. Some m) (eqb-true n 1 h)
 
+-- JSON that gives a whole number is that number
 number_is : (d : Data) (n : ℕ) → (as_number d >>= as_u64) ≡ Some n → d ≡ number (unsigned n)
 number_is null n h = absurd (no_value n h)
 number_is (boolean b) n h = absurd (no_value n h)
@@ -248,15 +275,18 @@ number_is (string s) n h = absurd (no_value n h)
 number_is (array items) n h = absurd (no_value n h)
 number_is (object _) n h = absurd (no_value n h)
 
+-- a version that is told to be right is the number 1
 version_is : (o : Option Data) → has_version o ≡ true → o ≡ Some (number (unsigned 1))
 version_is None h = absurd (true≢false (sym h))
 version_is (Some d) h = ap (λ e. Some e) (number_is d 1 (one_is (as_number d >>= as_u64) h))
 
+-- assumptions that are read of what may stand there are read of an object
 some_rows : (o : Option Data) (rows : List Assumption) → rows_in o ≡ Some rows → (resources : Members) × (o ≡ Some (object resources)) × (rows_of resources ≡ Some rows)
 some_rows None rows h = absurd (no_value rows h)
 some_rows (Some d) rows h =
     let resources = step (as_object d) rows_of rows h in (resources.0, ap (λ e. Some e) (object_is d resources.0 resources.1), resources.2)
 
+-- assumptions that are read of an object of two keys are those that it says
 with_is : ReferencesWhere → OnceWhere → (members : Members) (rows : List Assumption) → rows_with (object members) (members_len members) ≡ Some rows → AllByRecursion IsProperAssumption rows → SaysAssumptions rows (object members)
 with_is references once members rows h s =
     let tests = guarded ((members_len members == 2) && has_version (get_member (codes "version") members)) (rows_in (get_member (codes "resources") members)) rows h in
@@ -272,12 +302,14 @@ with_is references once members rows h s =
       are_assumptions = rows_are references once found.0 rows found.2 s;
     }
 
+-- assumptions that JSON tells are those that it says
 pub says : ReferencesWhere → OnceWhere → (d : Data) (rows : List Assumption) → all_rows d ≡ Some rows → AllByRecursion IsProperAssumption rows → SaysAssumptions rows d
 says references once d rows h s =
     let members = step (as_object d) (λ members. rows_with d (members_len members)) rows h in
     let is = object_is d members.0 members.1 in
     subst (SaysAssumptions rows) (sym is) (with_is references once members.0 rows (ap (λ e. rows_with e (members_len members.0)) (sym is) ∙ members.2) s)
 
+-- and those that it says are told
 pub says_back : ReferencesWhere → OnceWhere → (d : Data) (rows : List Assumption) → SaysAssumptions rows d → all_rows d ≡ Some rows
 says_back references once d rows h =
     ap all_rows h.is_object

@@ -14,12 +14,14 @@ use Rattle.assumed_text.specs.Reading.{with_new, all_paths, if_fit}
 abbrev pub OnceWhere : Type 0
 OnceWhere = (ps : List Path) → (stand_once ps ≡ true) ↔ AreApart ps
 
+-- two steps that are the same behind each value are the same
 bind_same : {X Y : Type 0} (o : Option X) (f g : X → Option Y) → ((x : X) → f x ≡ g x) → (o >>= f) ≡ (o >>= g)
 bind_same None f g h = refl
 bind_same (Some x) f g h = h x
 
 -- ---- some paths, and then others
 
+-- two lists are new behind some paths where the first is, and the second is behind that
 new_append : (seen ps qs : List Path) → with_new seen (ps ++ qs) ≡ (with_new seen ps >>= (λ s. with_new s qs))
 new_append seen [] qs = refl
 new_append seen (p ∷ ps) qs = at (is_among p seen) (new_append (seen ++ p ∷ []) ps qs)
@@ -29,6 +31,7 @@ new_append seen (p ∷ ps) qs = at (is_among p seen) (new_append (seen ++ p ∷ 
     at true h = refl
     at false h = h
 
+-- the paths of a behavior are new part by part exactly where they are all together
 all_is : (b : Behavior) → all_paths b ≡ with_new [] (paths_of b)
 all_is b = sym (
     new_append [] b.needs (b.folders ++ (b.makes ++ (b.edits ++ b.removes)))
@@ -38,6 +41,7 @@ all_is b = sym (
     new_append s b.makes (b.edits ++ b.removes)
     ∙ bind_same (with_new s b.makes) (λ s. with_new s (b.edits ++ b.removes)) (λ s. with_new s b.edits >>= (λ s. with_new s b.removes)) (λ s. new_append s b.edits b.removes))))
 
+-- paths that are new come behind those that were seen
 new_is : (seen ps : List Path) → with_new seen ps ≡ cond (are_new seen ps) (Some (seen ++ ps)) None
 new_is seen [] = ap (λ (l : List Path). Some l) (sym (append-nil seen))
 new_is seen (p ∷ ps) = at (is_among p seen) (new_is (seen ++ p ∷ []) ps)
@@ -52,6 +56,7 @@ new_is seen (p ∷ ps) = at (is_among p seen) (new_is (seen ++ p ∷ []) ps)
 
 -- ---- behaviors that are fit
 
+-- a behavior that passes as fit is itself, and its paths stand once and are few
 pub fit_is : OnceWhere → (b c : Behavior) → if_fit b ≡ Some c → (b ≡ c) × AreApart (paths_of b) × (length (paths_of b) ≤ BEHAVIOR_PATHS)
 fit_is once b c h =
     let paths = step (all_paths b) (λ (ps : List Path). cond (nat_le (length ps) BEHAVIOR_PATHS) (Some b) None) c h in
@@ -63,6 +68,7 @@ fit_is once b c h =
       subst (λ (ps : List Path). length ps ≤ BEHAVIOR_PATHS) (sym same) (leb-true (length paths.0) BEHAVIOR_PATHS few.0),
     )
 
+-- and one whose paths do passes
 pub fit_back : OnceWhere → (b : Behavior) → AreApart (paths_of b) → length (paths_of b) ≤ BEHAVIOR_PATHS → if_fit b ≡ Some b
 fit_back once b apart few =
     taken (all_paths b) (λ (ps : List Path). cond (nat_le (length ps) BEHAVIOR_PATHS) (Some b) None) (paths_of b)

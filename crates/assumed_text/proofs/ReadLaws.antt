@@ -15,14 +15,17 @@ use Rattle.assumed_text.specs.Reading.{assumption_of, rows_of, rows_with, all_ro
 abbrev pub AreRead : List Assumption → List Entry → Option (List Assumption) → Type 0
 AreRead rows es whole = (option_map (λ more. rows ++ more) (rows_of (members_view es)) ≡ whole) × AllByRecursion IsProperAssumption rows
 
+-- what holds of all of a list and of one more holds of all with that one at the end
 all_last : {X : Type 0} (P : X → Type 0) (xs : List X) (x : X) → AllByRecursion P xs → P x → AllByRecursion P (xs ++ x ∷ [])
 all_last P [] x h k = (k, tt)
 all_last P (y ∷ xs) x h k = (h.0, all_last P xs x h.1 k)
 
+-- one assumption ahead of the rest is one behind those that were read
 by_more : (o : Option (List Assumption)) (rows : List Assumption) (a : Assumption) → option_map (λ more. (rows ++ a ∷ []) ++ more) o ≡ option_map (λ more. rows ++ more) (option_map (λ more. a ∷ more) o)
 by_more None rows a = refl
 by_more (Some more) rows a = ap (λ (l : List Assumption). Some l) (append_assoc rows (a ∷ []) more)
 
+-- with one more assumption read, what was read and what is left are the same whole
 one_more : (rows : List Assumption) (e : Entry) (rest : List Entry) (a : Assumption) (whole : Option (List Assumption)) → assumption_of (string_bytes e.0) (view e.1) ≡ Some a → IsProperAssumption a
     → AreRead rows (e ∷ rest) whole → AreRead (rows ++ a ∷ []) rest whole
 one_more rows e rest a whole is proper r = (
@@ -30,6 +33,7 @@ one_more rows e rest a whole is proper r = (
   all_last IsProperAssumption rows a r.1 proper,
 )
 
+-- and so it is where it is read of the next stored entry
 pub next_row : (rows new : List Assumption) (es rest : List Entry) (k : String Global) (v : Value) (name : List ℕ) (a : Assumption) (whole : Option (List Assumption)) → es ≡ (k, v) ∷ rest → name ≡ string_bytes k
     → assumption_of name (view v) ≡ Some a → IsProperAssumption a → new ≡ rows ++ a ∷ [] → AreRead rows es whole → AreRead new rest whole
 next_row rows new es rest k v name a whole next name_is is proper pushed r =

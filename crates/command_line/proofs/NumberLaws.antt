@@ -8,10 +8,12 @@ guarded : {X : Type 0} (b : Bool) (x : Option X) (y : X) → cond b x None ≡ S
 guarded true x y h = (refl, h)
 guarded false x y h = cc
 
+-- what is there unless a test holds is there because it doesn't
 barred : {X : Type 0} (b : Bool) (x : Option X) (y : X) → cond b None x ≡ Some y → (b ≡ false) × (x ≡ Some y)
 barred true x y h = cc
 barred false x y h = (refl, h)
 
+-- of a conjunction that is true both sides are true
 both : (a b : Bool) → (a && b) ≡ true → (a ≡ true) × (b ≡ true)
 both true true h = (refl, refl)
 both true false h = cc
@@ -26,6 +28,7 @@ one_digit most n b m word h =
     let digit = both (nat_le 48 b) (nat_le b 57) outer.0 in
     (leb-true 48 b digit.0, leb-true (10 * n + (b - 48)) most inner.0, inner.1)
 
+-- digits behind a number tell no lesser one
 at_least : (most n m : ℕ) (word : List ℕ) → digits_within most n word ≡ Some m → n ≤ m
 at_least most n m [] h = let same : n ≡ m = cc in omega (arith, same)
 at_least most n m (b ∷ word) h =
@@ -33,10 +36,12 @@ at_least most n m (b ∷ word) h =
     let more = at_least most (10 * n + (b - 48)) m word one.2 in
     omega (arith, more)
 
+-- and none greater than may be
 at_most : (most n m : ℕ) (word : List ℕ) → n ≤ most → digits_within most n word ≡ Some m → m ≤ most
 at_most most n m [] small h = let same : n ≡ m = cc in omega (arith, same, small)
 at_most most n m (b ∷ word) small h = let one = one_digit most n b m word h in at_most most (10 * n + (b - 48)) m word one.1 one.2
 
+-- a number in the words is from 1 to the greatest one
 pub in_range : (most m : ℕ) (word : List ℕ) → number_in most word ≡ Some m → (1 ≤ m) × (m ≤ most)
 in_range most m [] h = cc
 in_range most m (b ∷ word) h =

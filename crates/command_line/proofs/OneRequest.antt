@@ -16,12 +16,14 @@ use Rattle.command_line.specs.Words.{synopsis, IsEntryAt, IsWanted, Makes}
 abbrev pub OnePath : Type 0
 OnePath = (text : List ℕ) (p q : List (List ℕ)) → IsPathText text p → IsPathText text q → p ≡ q
 
+-- a path and a content tell one entry
 one_entry : OnePath → (text : Text) (content : Option Text) (a b : Wanted) → IsEntryAt text content a → IsEntryAt text content b → a ≡ b
 one_entry one text content a b is was =
     let path = one text a.path b.path is.names was.names in
     let held = is.holds ∙ sym was.holds in
     λ t. record { path = path t; content = held t }
 
+-- and so it is where they may be given or not
 one_wanted : OnePath → (may : Bool) (path content : Option Text) (a b : Option Wanted) → IsWanted may path content a → IsWanted may path content b → a ≡ b
 one_wanted one true (Some text) content (Some a) (Some b) is was = ap Some (one_entry one text content a b is was)
 one_wanted one true (Some text) content (Some a) None is was = absurd was
@@ -36,6 +38,7 @@ same_plain : (words : List Text) (r s : Request) → Makes words r → Makes wor
 same_plain words r s is was =
     let both : ◌≡◌ {A = Option Request} (Some (record r { wanted = None })) (Some (record s { wanted = None })) = sym is.given.plain ∙ was.given.plain in cc
 
+-- words make one request only
 pub same_request : OnePath → (words : List Text) (r s : Request) → Makes words r → Makes words s → r ≡ s
 same_request one words r s is was =
     let same = same_plain words r s is was in

@@ -23,10 +23,12 @@ behind names (Some more) = Some (names ++ more)
 abbrev pub told : Tasks → List Row → Role → Option (Option Text)
 told tasks rows r = taken (has (role_row r).task tasks) (first_of (role_row r).word rows)
 
+-- where the words of a role are refused the names are
 pub refused : (tasks : Tasks) (rows : List Row) (r : Role) (rest : List Role) (names : ByRole Text) → told tasks rows r ≡ None
     → behind names (names_in tasks rows (r ∷ rest)) ≡ None
 refused tasks rows r rest names h = rw (h) refl
 
+-- where a role has no name the names are those of the others
 pub not_given : (tasks : Tasks) (rows : List Row) (r : Role) (rest : List Role) (names : ByRole Text) → told tasks rows r ≡ Some None
     → behind names (names_in tasks rows (r ∷ rest)) ≡ behind names (names_in tasks rows rest)
 not_given tasks rows r rest names h = rw (h) (same (names_in tasks rows rest))
@@ -35,6 +37,7 @@ not_given tasks rows r rest names h = rw (h) (same (names_in tasks rows rest))
     same None = refl
     same (Some more) = refl
 
+-- where it has one, that comes next
 pub one_more : (tasks : Tasks) (rows : List Row) (r : Role) (rest : List Role) (names : ByRole Text) (name : Text) → told tasks rows r ≡ Some (Some name)
     → behind names (names_in tasks rows (r ∷ rest)) ≡ behind (names ++ (r, name) ∷ []) (names_in tasks rows rest)
 one_more tasks rows r rest names name h = rw (h) (same (names_in tasks rows rest))
@@ -43,9 +46,11 @@ one_more tasks rows r rest names name h = rw (h) (same (names_in tasks rows rest
     same None = refl
     same (Some more) = ap (λ l. Some l) (sym (append_assoc names ((r, name) ∷ []) more))
 
+-- where no roles are left the names so far are all
 pub at_end : (names : ByRole Text) → behind names (Some []) ≡ Some names
 at_end names = ap (λ l. Some l) (append-nil names)
 
+-- what comes behind no names is all
 pub from_start : (o : Option (ByRole Text)) → behind [] o ≡ o
 from_start None = refl
 from_start (Some names) = refl

@@ -15,19 +15,23 @@ use Rattle.wanted_entry.specs.declared.wanted.Wanted.{Wanted}
 use Rattle.wanted_entry.specs.Entries.{probe_of}
 use Rattle.ensured_entry.specs.Sizes.{IsProbed, IsTooWide, IsTooLargeWith}
 
+-- the programs with the probe behind them mean the programs and the probe
 pub probed : (es : List code.Program) (w : Wanted) (all : List code.Program) → IsProbed es w all → map program_of all ≡ map program_of es ++ probe_of w ∷ []
 probed es w all is = ap (map program_of) is.are ∙ map-append program_of es (is.last ∷ []) ∙ ap (λ e. map program_of es ++ e ∷ []) is.probe
 
+-- a table that has what all programs name has what the first ones do
 pub covers_front : (table : Listed) (es more : List code.Program) → CoversSteps table (programs_in (es ++ more)) → CoversSteps table (programs_in es)
 covers_front table [] more h = tt
 covers_front table (e ∷ es) more h = (h.0, covers_front table es more h.1)
 
 -- ---- what is refused
 
+-- a refusal for more paths than the limit is due
 pub too_wide : (es : List Program) (n : ℕ) → HasPaths es n → (e : Fault) → DOMAIN_PATHS < n → IfRefused e (IsRefusal 70 0 (codes "domain")) → IfRefused e (IsTooWide es)
 too_wide es n paths (Refused r) more is = ((n, paths, more), is)
 too_wide es n paths (Memory m) more is = tt
 
+-- and the domain hasn't few paths then
 pub not_few : (es : List Program) (n : ℕ) → ((m : ℕ) → HasPaths es m → n ≡ m) → DOMAIN_PATHS < n → HasFewPaths es → ⊥
 not_few es n one more few = let same = one few.0 few.1 in let less = few.2 in omega (arith, same, less, more)
 
@@ -36,6 +40,7 @@ pub probed_too_wide : (es : List Program) (probe : Program) (e : Fault) → IfRe
 probed_too_wide es probe (Refused r) wide = inr (inl wide)
 probed_too_wide es probe (Memory m) h = tt
 
+-- a refusal of the graph by itself is due with the probe, where the paths with it are few
 pub too_large_itself : (es : List Program) (probe : Program) → HasFewPaths (es ++ probe ∷ []) → (e : Fault) → IfRefused e (IsTooLarge es) → IfRefused e (IsTooLargeWith es probe)
 too_large_itself es probe few (Refused r) (inl wide) = inl wide
 too_large_itself es probe few (Refused r) (inr heavy) = inr (inr (heavy.0, few, heavy.1, heavy.2))

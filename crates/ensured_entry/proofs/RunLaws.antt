@@ -30,9 +30,11 @@ failed o w e = ((λ h. cc), (λ m. let bad : ◌≡◌ {A = Option Tree} None (S
 pub missed_at : (es : List Program) (o : List ℕ) (w : Wanted) (t copy : Tree) → copy ≡ t → IsTree t → EndsMissing es o w t → MissesFrom es o w copy
 missed_at es o w t copy same tree missed = subst (MissesFrom es o w) (sym same) (tree, missed)
 
+-- the numbers of an order of so many programs are below their count
 pub below : (n m : ℕ) (order : List ℕ) → n ≡ m → AllByRecursion (λ k. k < m) order → AllByRecursion (λ k. k < n) order
 below n m order e all = subst (λ c. AllByRecursion (λ k. k < c) order) (sym e) all
 
 module _ (es : List Program) (order : Relation) (long : length es ≡ order.count) (first : List ℕ) (is_first : IsFirstExtension order first) where
+  -- a tree from which the first extension misses the entry is a witness of that
   pub missed_from : (w : Wanted) (t : Tree) → MissesFrom es first w t → IsMissed es order w (witness.Ends t first)
   missed_from w t h = record { is_tree = h.0; allowed = allowed es order first long is_first; after = h.1.0; ends = h.1.1; misses = h.1.2 }

@@ -37,17 +37,20 @@ given_some : (given : Option ℕ) → (budget_of given ≡ 2 ^ 64 - 1 → ⊥) �
 given_some None limited = absurd (limited refl)
 given_some (Some c) limited = (c, refl)
 
+-- where the budget was spent on a question it isn't the greatest number
 limited_in : (given : List Path) (es : List Program) (order : Relation) (w : Wanted) (budget : ℕ) (a : Late) (f : Formula) (steps : List Step) → IsSpentOnFrom given es order w budget a f steps → budget ≡ 2 ^ 64 - 1 → ⊥
 limited_in given es order w budget late.Ensures f steps spent = spent.1.limited
 limited_in given es order w budget late.Succeeds f steps spent = spent.1.limited
 
 module _ (terms : Terms) (notes : List ℕ) (w : Wanted) (names : List (List ℕ)) (es : List Program) (order : Relation) (budget : ℕ) (same : budget ≡ budget_of terms.conflicts) where
+  -- where two orders differ the report tells so
   tells_different : (k : ℕ) (x : Witness) (report : Report) → IsDifferenceFrom terms.given es (Comes order) x → IsReportOf notes names es budget (ensured.First (first.Differs k x)) report → IsDifferent form.Lines terms notes names es order k report
   tells_different k (witness.Orders t left right) report shown is =
       record { status = is.status; tree = t; left = left; right = right; counterexample = shown.0; exchange = shown.1; text = is.text }
   tells_different k (witness.Twice t turns) report shown is = absurd shown
   tells_different k (witness.Ends t turns) report shown is = absurd shown
 
+  -- where the budget was spent on the question of order the report tells so
   tells_unanswered : (k : ℕ) (cnf : Formula) (log : Log) (report : Report) → IsSpentFrom terms.given es order budget cnf log.steps → IsReportOf notes names es budget (ensured.First (first.Spent k cnf log)) report → IsUnanswered form.Lines terms notes es order k report
   tells_unanswered k cnf log report spent is =
       let used : IsSpentFrom terms.given es order (budget_of terms.conflicts) cnf log.steps = subst (λ b. IsSpentFrom terms.given es order b cnf log.steps) same spent in
@@ -66,11 +69,13 @@ module _ (terms : Terms) (notes : List ℕ) (w : Wanted) (names : List (List ℕ
         text = subst (λ b. report.text ≡ spent_text (length es) notes k asked.Deterministic b) same is.text;
       }
 
+  -- where a run ends without the entry the report tells so
   tells_missed : (k : ℕ) (x : Witness) (report : Report) → IsDeterministicFrom terms.given es (Comes order) → IsMissedFrom terms.given es order w x → report.status ≡ 9 → report.text ≡ missed_of names es notes k x → TellsMissed terms notes w names es order k report
   tells_missed k (witness.Orders t left right) report sure shown status text = absurd shown
   tells_missed k (witness.Twice t turns) report sure shown status text = absurd shown
   tells_missed k (witness.Ends t turns) report sure shown status text = record { status = status; deterministic = sure; tree = t; turns = turns; without = shown; text = text }
 
+  -- where the budget was spent on a later question the report tells so
   tells_spent : (k : ℕ) (a : Late) (cnf : Formula) (log : Log) (report : Report) → IsDeterministicFrom terms.given es (Comes order) → IsSpentOnFrom terms.given es order w budget a cnf log.steps → IsKnownBeforeFrom terms.given es order w a
       → report.status ≡ 3 → report.text ≡ spent_late_text (length es) notes k a budget → TellsSpent terms notes w es order k report
   tells_spent k a cnf log report sure spent known status text =
@@ -90,6 +95,7 @@ module _ (terms : Terms) (notes : List ℕ) (w : Wanted) (names : List (List ℕ
       }
 
   module _ (report : Report) (paths : HasFewPathsWith terms.limits terms.given es) (probed : HasFewPathsProbed terms.limits terms.given es w) (weight : IsLightWith terms.limits es) where
+    -- whatever the answer is, what the report tells holds
     pub told_is : (e : Ensured) → IsEnsuredFrom terms.given es order w budget e → IsReportOf notes names es budget e report → IsEntryTold terms notes w names es order report
     told_is (ensured.First (first.Sure k s)) said is = absurd said.unsure
     told_is (ensured.First (first.Differs k x)) said is = record { paths = paths; probed = probed; weight = weight; pruned = k; count = said.pruned; answer = inr (inl (tells_different k x report said.differs is)) }

@@ -33,9 +33,11 @@ use Rattle.equal_report.specs.Told.{IsSettledWith, TellsDifference, TellsUnanswe
 
 -- ---- what the lines need
 
+-- the numbers of an order of so many programs are below their count
 pub below : (n m : ℕ) (order : List ℕ) → n ≡ m → AllByRecursion (λ k. k < m) order → AllByRecursion (λ k. k < n) order
 below n m order e all = subst (λ c. AllByRecursion (λ k. k < c) order) (sym e) all
 
+-- an answer about one graph speaks of its programs
 tellable_first : (given : List Path) (n : ℕ) (es : List Program) (order : Relation) (budget : ℕ) → n ≡ length es → (f : First) → IsUnsettledFrom given es order budget f → IsTellableFirst n f
 tellable_first given n es order budget same (first.Sure k s) is = is.unsure
 tellable_first given n es order budget same (first.Differs k (witness.Orders t left right)) is =
@@ -44,6 +46,7 @@ tellable_first given n es order budget same (first.Differs k (witness.Twice t tu
 tellable_first given n es order budget same (first.Differs k (witness.Ends t turns)) is = is.differs
 tellable_first given n es order budget same (first.Spent k cnf log) is = tt
 
+-- an answer about two graphs speaks of the programs of the one that it is about
 pub tellable : (given : List Path) (n m : ℕ) (es : List Program) (order : Relation) (fs : List Program) (other : Relation) (budget : ℕ) → n ≡ length es → m ≡ length fs
     → (c : Compared) → IfLeft c (IsUnsettledFrom given es order budget) → IfRight c (IsUnsettledFrom given fs other budget) → IsTellable n m c
 tellable given n m es order fs other budget left right (compared.Left f) is more = tellable_first given n es order budget left f is
@@ -59,6 +62,7 @@ given_some : (given : Option ℕ) → (budget_of given ≡ 2 ^ 64 - 1 → ⊥) �
 given_some None limited = absurd (limited refl)
 given_some (Some c) limited = (c, refl)
 
+-- the first extension is an allowed order
 allowed : (es : List Program) (order : Relation) (o : List ℕ) → length es ≡ order.count → IsFirstExtension order o → IsLinearExtension (length es) (Comes order) o
 allowed es order o long is = subst (λ n. IsLinearExtension n (Comes order) o) (sym long) is.allowed
 
@@ -72,10 +76,12 @@ apart long es order fs other t left right o p first second part = record {
   differ = λ e. part.differ (ap (λ x. outcome es x t) (first_same long order part.left o part.left_first first) ∙ e ∙ sym (ap (λ x. outcome fs x t) (first_same long other part.right p part.right_first second)));
 }
 
+-- a graph that is deterministic is told so, with what pruning leaves aside
 settled_with : (given : List Path) (es : List Program) (order : Relation) (s : Settled) → IsSettledFrom given es order s → IsSettledWith given es order s.pruned
 settled_with given es order s is = record { deterministic = is.deterministic; count = is.pruned }
 
 module _ (terms : Terms) (budget : ℕ) (same : budget ≡ budget_of terms.conflicts) where
+  -- where the budget was spent on the order of one graph the report tells so
   tells_unanswered : (notes : List ℕ) (es : List Program) (order : Relation) (k : ℕ) (cnf : Formula) (log : Log) → IsUnsettledFrom terms.given es order budget (first.Spent k cnf log) → (report : Report) → report.status ≡ 3
       → report.text ≡ spent_text (length es) notes k asked.Deterministic budget → TellsUnanswered terms notes es order report
   tells_unanswered notes es order k cnf log is report status text =
@@ -114,6 +120,7 @@ module _ (terms : Terms) (budget : ℕ) (same : budget ≡ budget_of terms.confl
 
   module _ (long : Long) (notes other_notes : List ℕ) (names : List (List ℕ)) (es : List Program) (order : Relation) (others : List (List ℕ)) (fs : List Program) (other : Relation) (left_long : length es ≡ order.count) (right_long : length fs ≡ other.count)
       (report : Report) where
+    -- where the budget was spent on whether the two do the same the report tells so
     tells_spent : (l r : Settled) (cnf : Formula) (log : Log) → IsSettledFrom terms.given es order l → IsSettledFrom terms.given fs other r → IsSpentOnFrom terms.given es order fs other budget cnf log.steps → report.status ≡ 3
         → report.text ≡ spent_equal_text notes other_notes (length es) l.pruned (length fs) r.pruned budget → TellsSpent terms notes other_notes es order fs other report
     tells_spent l r cnf log one second spent_on status text =
@@ -133,16 +140,19 @@ module _ (terms : Terms) (budget : ℕ) (same : budget ≡ budget_of terms.confl
           text = subst (λ b. report.text ≡ spent_equal_text notes other_notes (length es) l.pruned (length fs) r.pruned b) same text;
         }
 
+    -- what is told of the left graph is one of what may be told
     tells_left : TellsDifference terms notes names es order report ⊎ TellsUnanswered terms notes es order report → Tells terms notes other_notes names es order others fs other report
     tells_left (inl d) = differs (inl d)
     tells_left (inr u) = unanswered (inl u)
 
+    -- and so is what is told of the right one, behind the lines of the left
     tells_right : (l : Settled) (rest : List ℕ) → IsSettledFrom terms.given es order l → report.text ≡ settled_lines (length es) notes l.pruned ++ rest
         → TellsDifference terms other_notes others fs other (record { status = report.status; text = rest }) ⊎ TellsUnanswered terms other_notes fs other (record { status = report.status; text = rest })
         → Tells terms notes other_notes names es order others fs other report
     tells_right l rest one text (inl d) = differs (inr (record { pruned = l.pruned; settled = settled_with terms.given es order l one; rest = rest; behind = d; text = text }))
     tells_right l rest one text (inr u) = unanswered (inr (record { pruned = l.pruned; settled = settled_with terms.given es order l one; rest = rest; behind = u; text = text }))
 
+    -- whatever the answer is, the report is one of what may be told
     tells : (c : Compared) → IsComparedFrom terms.given es order fs other budget c → IsReportOf notes other_notes names es order others fs other budget c report → Tells terms notes other_notes names es order others fs other report
     tells (compared.Left f) said is = tells_left (unsettled notes names es order f said.left report is.status is.text)
     tells (compared.Right l f) said is =
@@ -171,6 +181,7 @@ module _ (terms : Terms) (budget : ℕ) (same : budget ≡ budget_of terms.confl
     })
     tells (compared.Spent l r cnf log) said is = spent (tells_spent l r cnf log said.left_settled said.right_settled said.spent is.status is.text)
 
+    -- and of graphs within the limits, what it tells holds
     pub told_is : AreWithinWith terms.limits terms.given es fs → (c : Compared) → IsComparedFrom terms.given es order fs other budget c → IsReportOf notes other_notes names es order others fs other budget c report
         → IsComparedTold terms notes other_notes names es order others fs other report
     told_is within c said is = record { within = within; answer = tells c said is }

@@ -38,13 +38,16 @@ use Rattle.explain_report.specs.Told.{IsEnding, ExplainsDifference, ExplainsChan
 
 -- ---- the end of the text
 
+-- where some tree has a run without error the last line tells so
 pub ends_well : (given : List Path) (names : List (List ℕ)) (es : List Program) (order : Relation) (last : List ℕ) → SucceedsFrom given es (Comes order) → last ≡ succeeds_line ++ [] → IsEnding given names es order last
 ends_well given names es order last succeeds is = inl (is ∙ append-nil succeeds_line, succeeds)
 
+-- and where none has, it tells where the first extension fails from the given folders alone
 pub ends_never : (given : List Path) (names : List (List ℕ)) (es : List Program) (order : Relation) (line last : List ℕ) → (SucceedsFrom given es (Comes order) → ⊥) → TellsFromNothing given names es order line → last ≡ fails_line ++ line
     → IsEnding given names es order last
 ends_never given names es order line last never told is = inr (never, line, told, is)
 
+-- what is said of success in an answer is so
 pub end_holds : (given : List Path) (es : List Program) (order : Relation) (k : ℕ) (s : Sure) (v : Refutation) (e : Ends) → IfFrom (verdict.Judged k s (second.Same v) e) (λ w. SucceedsFrom given es (Comes order))
     → IfNever (verdict.Judged k s (second.Same v) e) (λ f. SucceedsFrom given es (Comes order) → ⊥) → EndHolds given es order e
 end_holds given es order k s v (ends.From w) succeeds never = succeeds
@@ -52,6 +55,7 @@ end_holds given es order k s v (ends.Never u) succeeds never = never
 
 -- ---- a second run
 
+-- an outcome that is a tree is one
 some_end : (o : Outcome) (u : Tree) → o ≡ Some u → IsSome o
 some_end None u is = cc
 some_end (Some t) u is = refl
@@ -66,6 +70,7 @@ succeeds_first given es order t turns changed = record {
   ends = some_end (outcome es turns t) changed.shows.after changed.shows.ends;
 }
 
+-- where a second run changes something the report explains it
 pub explains_change : (given : List Path) (names : List (List ℕ)) (es : List Program) (order : Relation) (head lines shown text : List ℕ) (w : Witness) (t : Tree) (o turns : List ℕ) → w ≡ witness.Twice t o → turns ≡ o
     → ((r : Relation) → IsSecondRunCounterexampleFrom given es (Comes r) t turns → TellsAgain given names es r turns lines) → shown ≡ lines → text ≡ again_text head shown
     → IsDeterministicFrom given es (Comes order) → IsChangeFrom given es order w → ExplainsChange given names es order head (record { status = 2; text = text })
@@ -85,6 +90,7 @@ explains_change given names es order head lines shown text w t o turns is same t
 
 -- ---- two orders
 
+-- where two orders differ the report explains it
 pub explains_difference : (given : List Path) (names : List (List ℕ)) (es : List Program) (order : Relation) (head lines shown text : List ℕ) (w : Witness) (t : Tree) (l r left right : List ℕ) → w ≡ witness.Orders t l r
     → left ≡ l → right ≡ r → ((o : Relation) → IsCounterexampleFrom given es (Comes o) t left right → IsExchange (Comes o) left right → TellsApart given names es o lines) → shown ≡ lines → text ≡ apart_text head shown
     → IsDifferenceFrom given es (Comes order) w → ExplainsDifference given names es order head (record { status = 1; text = text })
@@ -96,16 +102,19 @@ explains_difference given names es order head lines shown text w t l r left righ
 
 -- ---- conflicts that are spent
 
+-- conflicts that are spent are given
 given_some : (given : Option ℕ) → (budget_of given ≡ 2 ^ 64 - 1 → ⊥) → (c : ℕ) × (given ≡ Some c)
 given_some None limited = absurd (limited refl)
 given_some (Some c) limited = (c, refl)
 
+-- where the budget was spent on a question it isn't the greatest number
 limited_in : (given : List Path) (es : List Program) (order : Relation) (budget : ℕ) (a : Asked) (f : Formula) (steps : List Step) → IsSpentOnFrom given es order budget a f steps → budget ≡ 2 ^ 64 - 1 → ⊥
 limited_in given es order budget asked.Deterministic f steps spent = spent.limited
 limited_in given es order budget asked.Idempotent f steps (inl spent) = spent.1.limited
 limited_in given es order budget asked.Idempotent f steps (inr spent) = spent.spent.limited
 limited_in given es order budget asked.Succeeds f steps spent = spent.1.limited
 
+-- where the budget was spent the report explains on what
 pub explains_spent : (terms : Terms) (es : List Program) (order : Relation) (head : List ℕ) (k : ℕ) (a : Asked) (f : Formula) (log : Log) (proofs : List Refutation) (budget : ℕ) (report : Report)
     → budget ≡ budget_of terms.conflicts → IsVerdictFrom terms.given es order (budget_of terms.conflicts) (verdict.Spent k a f log proofs) → report ≡ record { status = 3; text = spent_text head a budget }
     → ExplainsSpent terms es order head report
@@ -125,6 +134,7 @@ explains_spent terms es order head k a f log proofs budget report same said is =
 
 -- ---- the last question
 
+-- what a verdict answers to the last question is so
 end_told : (given : List Path) (es : List Program) (order : Relation) (budget : ℕ) (k : ℕ) (s : Sure) (again : Second) (end : Ends)
     → IsVerdictFrom given es order budget (verdict.Judged k s again end) → EndHolds given es order end
 end_told given es order budget k s again (ends.From w) said = said.succeeds

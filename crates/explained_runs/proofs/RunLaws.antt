@@ -38,18 +38,22 @@ says_fails names es order t x f words last explained fails tells is = record {
 
 -- ---- the neighbours that are exchanged
 
+-- against an empty order no place is found at which two differ
 pub nothing_left : (order rest : List ℕ) → length rest ≡ 0 → first_apart order rest ≡ (0, 0)
 nothing_left [] rest none = refl
 nothing_left (i ∷ order) [] none = refl
 nothing_left (i ∷ order) (j ∷ rest) none = absurd (omega (arith, none))
 
+-- orders of which two neighbours are exchanged differ first at these two
 apart_at : (front back : List ℕ) (a b : ℕ) → a ≢ b → first_apart (front ++ a ∷ b ∷ back) (front ++ b ∷ a ∷ back) ≡ (a, b)
 apart_at [] back a b h = ap (λ c. cond c (first_apart (b ∷ back) (a ∷ back)) (a, b)) (ne_eqb a b h)
 apart_at (x ∷ front) back a b h = ap (λ c. cond c (first_apart (front ++ a ∷ b ∷ back) (front ++ b ∷ a ∷ back)) (x, x)) (eq-eqb x x refl) ∙ apart_at front back a b h
 
+-- the nodes at the first place at which they differ are those that are exchanged
 exchanged : (before : ℕ → ℕ → Type 0) (left right : List ℕ) (e : IsExchange before left right) → first_apart left right ≡ (e.left, e.right)
 exchanged before left right e = ap (λ o. first_apart o right) e.was ∙ ap (λ o. first_apart (e.front ++ e.left ∷ e.right ∷ e.back) o) e.is ∙ apart_at e.front e.back e.left e.right e.free.differ
 
+-- lines made of these parts tell of the two orders
 pub tells_both : (names : List (List ℕ)) (es : List Program) (t : Tree) (left right : List ℕ) (p : ℕ × ℕ) (a b how other list lines : List ℕ) → p ≡ first_apart left right
     → a ≡ name_at names p.0 → b ≡ name_at names p.1 → TellsHow names es left t how → TellsHow names es right t other → ListsWhere (outcome es left t) (outcome es right t) list
     → lines ≡ apart_lines a b t how other list → TellsBoth names es t left right lines
@@ -64,6 +68,7 @@ tells_both names es t left right p a b how other list lines places first second 
       ∙ ap (λ (q : ℕ × ℕ). apart_lines (name_at names q.0) (name_at names q.1) t how other list) places;
 }
 
+-- and where the orders are a counterexample by an exchange they tell that these part
 pub tells_apart : (given : List Path) (names : List (List ℕ)) (es : List Program) (order : Relation) (t : Tree) (left right lines : List ℕ) → IsCounterexampleFrom given es (Comes order) t left right
     → IsExchange (Comes order) left right → TellsBoth names es t left right lines → TellsApart given names es order lines
 tells_apart given names es order t left right lines shown e told = record {
@@ -83,6 +88,7 @@ tells_apart given names es order t left right lines shown e told = record {
 
 -- ---- a second run
 
+-- lines on a second run of a counterexample tell that it changes something
 pub tells_again : (given : List Path) (names : List (List ℕ)) (es : List Program) (order : Relation) (t after : Tree) (turns lines : List ℕ) → outcome es turns t ≡ Some after
     → TellsSecond names es t turns after lines → IsSecondRunCounterexampleFrom given es (Comes order) t turns → TellsAgain given names es order turns lines
 tells_again given names es order t after turns lines ends told c =
@@ -102,16 +108,19 @@ tells_again given names es order t after turns lines ends told c =
       are = told.are;
     }
 
+-- a first run that ends in Error is no such counterexample
 pub never_again : (given : List Path) (names : List (List ℕ)) (es : List Program) (order : Relation) (t : Tree) (turns lines : List ℕ) → outcome es turns t ≡ None
     → IsSecondRunCounterexampleFrom given es (Comes order) t turns → TellsAgain given names es order turns lines
 never_again given names es order t turns lines fails c = let clash : ◌≡◌ {A = Outcome} None (Some c.shows.after) = sym fails ∙ c.shows.ends in cc
 
 -- ---- from nothing
 
+-- an outcome that is a tree is one
 some_end : (o : Outcome) (u : Tree) → o ≡ Some u → IsSome o
 some_end None u is = cc
 some_end (Some t) u is = refl
 
+-- where no run ends in a tree, the line tells where the first extension fails from the given folders alone
 pub tells_from_nothing : (given : List Path) (names : List (List ℕ)) (es : List Program) (order : Relation) (first turns words line : List ℕ) (t : Tree) → IsOfGiven given t → turns ≡ first → length es ≡ order.count
     → IsLinearExtension order.count (Comes order) first → TakesLeast order.count (Comes order) [] first → TellsHow names es turns t words → line ≡ from_line t words
     → (SucceedsFrom given es (Comes order) → ⊥) → TellsFromNothing given names es order line
@@ -125,11 +134,13 @@ tells_from_nothing given names es order first turns words line t alone same coun
 
 -- ---- what is left of a tree
 
+-- a counterexample of two orders is one from a smaller tree that shows it and in which the given folders stand
 pub apart_from : (given : List Path) (es : List Program) (order : Relation) (t u : Tree) (left right : List ℕ) → (Stand given t → Stand given u)
     → (IsCounterexample es (Comes order) t left right → IsCounterexample es (Comes order) u left right)
     → IsCounterexampleFrom given es (Comes order) t left right → IsCounterexampleFrom given es (Comes order) u left right
 apart_from given es order t u left right stand shows c = record { stand = stand c.stand; shows = shows c.shows }
 
+-- and so is one of a second run
 pub again_from : (given : List Path) (es : List Program) (order : Relation) (t u : Tree) (turns : List ℕ) → (Stand given t → Stand given u)
     → (IsSecondRunCounterexample es (Comes order) t turns → IsSecondRunCounterexample es (Comes order) u turns)
     → IsSecondRunCounterexampleFrom given es (Comes order) t turns → IsSecondRunCounterexampleFrom given es (Comes order) u turns

@@ -5,27 +5,33 @@ use Rattle.std.specs.Prelude.{slice_index}
 use Rattle.std.specs.Str.{IsCharBoundary}
 use Rattle.explained_text.specs.Words.{goes_on, cut_at}
 
+-- a byte with which no character begins, by its bounds
 record GoesOn (b : ℕ) : Type 0 where
   above : 128 ≤ b
   below : b < 192
 
+-- a byte that passes both tests is within these bounds
 on_parts : (b : ℕ) (x y : Bool) → nat_lt b 128 ≡ x → nat_lt b 192 ≡ y → (not x && y) ≡ true → GoesOn b
 on_parts b true true h k e = cc
 on_parts b true false h k e = cc
 on_parts b false true h k e = record { above = ltb-false b 128 h; below = ltb-true b 192 k }
 on_parts b false false h k e = cc
 
+-- a byte that is told to go on does so
 goes : (b : ℕ) → goes_on b ≡ true → GoesOn b
 goes b e = on_parts b (nat_lt b 128) (nat_lt b 192) refl refl e
 
+-- a byte past ASCII that doesn't pass both tests is at least 192
 off_parts : (b : ℕ) (x y : Bool) → nat_lt b 128 ≡ x → nat_lt b 192 ≡ y → (not x && y) ≡ false → 128 ≤ b → 192 ≤ b
 off_parts b true y h k e l = let low = ltb-true b 128 h in absurd (omega (arith, low, l))
 off_parts b false true h k e l = cc
 off_parts b false false h k e l = ltb-false b 192 k
 
+-- a byte past ASCII that isn't told to go on is at least 192
 stops : (b : ℕ) → goes_on b ≡ false → 128 ≤ b → 192 ≤ b
 stops b e l = off_parts b (nat_lt b 128) (nat_lt b 192) refl refl e l
 
+-- of two numbers one is less, or the other is at most that one
 either : (x y : ℕ) → (x < y) ⊎ (y ≤ x)
 either x zero = inr (omega arith)
 either zero (suc y) = inl (omega arith)

@@ -8,20 +8,24 @@ use Rattle.fs_semantics.specs.Orders.{outcome}
 use Rattle.failure_semantics.specs.Failures.{Failure, FailsAt}
 use Rattle.failure_semantics.specs.Orders.{OrderFailsAt}
 
+-- what holds of all numbers of a list holds of all of its fronts
 pub all_ahead : (P : ℕ → Type 0) (xs : List ℕ) (k : ℕ) → AllByRecursion P xs → AllByRecursion P (take k xs)
 all_ahead P xs zero h = tt
 all_ahead P [] (suc k) h = tt
 all_ahead P (x ∷ xs) (suc k) h = (h.0, all_ahead P xs k h.1)
 
+-- the whole list is its longest front
 pub take_whole : (xs : List ℕ) → take (length xs) xs ≡ xs
 take_whole [] = refl
 take_whole (x ∷ xs) = ap (λ ys. x ∷ ys) (take_whole xs)
 
+-- an outcome is Error or a tree
 ended : (o : Outcome) → (o ≡ None) ⊎ ((u : Tree) × (o ≡ Some u))
 ended None = inl refl
 ended (Some u) = inr (u, refl)
 
 module _ (es : List Program) where
+  -- the program with this number
   abbrev at : ℕ → Program
   at i = slice_index_or es i Id
 
@@ -38,6 +42,7 @@ module _ (es : List Program) where
     | inr w ↦ next_fails order w.0 u k (omega (arith, b)) (sym (ap (λ o. and_then o (outcome es (take k order))) w.1) ∙ h) (sym (ap (λ o. and_then o (outcome es (take (suc k) order))) w.1) ∙ e)
   ]
 
+  -- a list is what stands ahead of a place, the number there, and what stands behind it
   split_at : (order : List ℕ) (k : ℕ) → k < length order → order ≡ take k order ++ slice_index_or order k 0 ∷ drop (suc k) order
   split_at [] k b = absurd (omega (arith, b))
   split_at (i ∷ order) zero b = refl
@@ -60,6 +65,7 @@ module _ (es : List Program) where
   long_enough [] t h = cc
   long_enough (i ∷ order) t h = omega arith
 
+-- what holds of all numbers of a list holds of the one at a place
 pub all_at : (P : ℕ → Type 0) (xs : List ℕ) (k : ℕ) → AllByRecursion P xs → k < length xs → P (slice_index_or xs k 0)
 all_at P [] k h b = absurd (omega (arith, b))
 all_at P (x ∷ xs) zero h b = h.0

@@ -13,18 +13,22 @@ ended : (o : Outcome) → (o ≡ None) ⊎ ((u : Tree) × (o ≡ Some u))
 ended None = inl refl
 ended (Some u) = inr (u, refl)
 
+-- a construct that ends in Error by itself, for a reason that holds, fails here
 tried : (e : Program) (t : Tree) (r : Reason) → run e t ≡ None → Explains e r t → (f : Failure) × FailsHere e t f
 tried e t r h why = (record { construct = e; reason = r; tree = t }, record { construct = refl; tree = refl; fails = h; reason = why })
 
+-- a truth value is true or false
 true_or : (b : Bool) → (b ≡ true) ⊎ (b ≡ false)
 true_or true = inl refl
 true_or false = inr refl
 
+-- nothing is both true and false
 off : (b : Bool) → b ≡ false → b ≡ true → ⊥
 off true h k = cc
 off false h k = cc
 
 mutual
+  -- a program that ends in Error has a construct that gave it
   pub found : (c : Choice) (e : Program) (t : Tree) → run e t ≡ None → (f : Failure) × FailsIn c e t f
   found c Id t h = cc
   found c Err t h = (refusal c t, refl)
@@ -39,6 +43,7 @@ mutual
     | inr other ↦ let f = found (Some (a, t)) g t (ap (λ b. cond b (run e t) (run g t)) (sym other) ∙ h) in (f.0, inr (off (holds a t) other, f.1))
   ]
 
+  -- and so have steps
   found_in : (c : Choice) (es : Programs) (t : Tree) → run_all es t ≡ None → (f : Failure) × FailInSteps c es t f
   found_in c none t h = cc
   found_in c (next e es) t h = elim (ended (run e t)) [
@@ -47,6 +52,7 @@ mutual
   ]
 
 mutual
+  -- a program with a construct that gave Error ends in Error
   pub error : (c : Choice) (e : Program) (t : Tree) (f : Failure) → FailsIn c e t f → run e t ≡ None
   error c Id t f h = absurd h
   error c Err t f h = refl
@@ -65,6 +71,7 @@ mutual
       not_true true h = absurd (h refl)
       not_true false h = refl
 
+  -- and so do steps
   error_in : (c : Choice) (es : Programs) (t : Tree) (f : Failure) → FailInSteps c es t f → run_all es t ≡ None
   error_in c none t f h = absurd h
   error_in c (next e es) t f h = elim h [
@@ -79,14 +86,17 @@ abbrev Missed : Choice → Type 0
 Missed None = Unit {0}
 Missed (Some c) = IsTrue (holds c.0 c.1) → ⊥
 
+-- the reason holds, and the construct ends in Error by itself
 pub record Told (f : Failure) : Type 0 where
   pub why : Explains f.construct f.reason f.tree
   pub fails : run f.construct f.tree ≡ None
 
+-- of a choice whose test didn't hold the refusal is told so
 refused : (c : Choice) (t : Tree) → Missed c → Told (refusal c t)
 refused None t m = record { why = tt; fails = refl }
 refused (Some c) t m = record { why = m; fails = refl }
 
+-- and so is what fails here
 here : (e : Program) (t : Tree) (f : Failure) → FailsHere e t f → Told f
 here e t f h = record {
   why = subst (λ x. Explains x f.reason f.tree) (sym h.construct) (subst (λ u. Explains e f.reason u) (sym h.tree) h.reason);
@@ -94,6 +104,7 @@ here e t f h = record {
 }
 
 mutual
+  -- what fails in a program is told so
   pub told : (c : Choice) (e : Program) (t : Tree) (f : Failure) → Missed c → FailsIn c e t f → Told f
   told c Id t f m h = absurd h
   told c Err t f m h = subst Told (sym h) (refused c t m)
@@ -108,6 +119,7 @@ mutual
     | inr x ↦ told (Some (a, t)) g t f x.0 x.1
   ]
 
+  -- and what fails in steps
   told_in : (c : Choice) (es : Programs) (t : Tree) (f : Failure) → Missed c → FailInSteps c es t f → Told f
   told_in c none t f m h = absurd h
   told_in c (next e es) t f m h = elim h [

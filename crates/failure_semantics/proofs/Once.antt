@@ -15,10 +15,12 @@ same e t r one f g h k =
     let d = h.tree ∙ sym k.tree in
     λ i. record { construct = a i; reason = b i; tree = d i }
 
+-- a run ends in one tree only
 ends_once : (e : Program) (t u v : Tree) → run e t ≡ Some u → run e t ≡ Some v → u ≡ v
 ends_once e t u v h k = cc
 
 mutual
+  -- one construct at most gives Error in a program
   pub once : (c : Choice) (e : Program) (t : Tree) (f g : Failure) → FailsIn c e t f → FailsIn c e t g → f ≡ g
   once c Id t f g h k = absurd h
   once c Err t f g h k = h ∙ sym k
@@ -33,6 +35,7 @@ mutual
     | inr x ↦ elim k [ inl y ↦ absurd (x.0 y.0) | inr y ↦ once (Some (a, t)) o t f g x.1 y.1 ]
   ]
 
+  -- and in steps
   once_in : (c : Choice) (es : Programs) (t : Tree) (f g : Failure) → FailInSteps c es t f → FailInSteps c es t g → f ≡ g
   once_in c none t f g h k = absurd h
   once_in c (next e es) t f g h k = elim h [

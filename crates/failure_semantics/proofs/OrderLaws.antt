@@ -9,11 +9,13 @@ use Rattle.failure_semantics.specs.Orders.{OrderFailsAt, EndsShortestFront}
 use Rattle.failure_semantics.proofs.Found.{found, error}
 use Rattle.failure_semantics.proofs.Once.{once}
 
+-- an outcome is Error or a tree
 ended : (o : Outcome) → (o ≡ None) ⊎ ((u : Tree) × (o ≡ Some u))
 ended None = inl refl
 ended (Some u) = inr (u, refl)
 
 module _ (es : List Program) where
+  -- the program with this number
   abbrev at : ℕ → Program
   at i = slice_index_or es i Id
 
@@ -28,6 +30,7 @@ module _ (es : List Program) where
     fails = h.fails;
   }
 
+  -- an order that ends in Error fails at some resource
   pub some_fails : (order : List ℕ) (t : Tree) → outcome es order t ≡ None → (i : ℕ) × (f : Failure) × OrderFailsAt es order t i f
   some_fails [] t h = cc
   some_fails (j ∷ order) t h = elim (ended (run (at j) t)) [
@@ -47,10 +50,12 @@ module _ (es : List Program) where
       again more None = refl
       again more (Some u) = more u
 
+  -- the front up to the resource at which an order fails ends in Error
   front_fails : (order : List ℕ) (t : Tree) (i : ℕ) (f : Failure) (h : OrderFailsAt es order t i f) → outcome es (h.front ++ i ∷ []) t ≡ None
   front_fails order t i f h =
       joined h.front (i ∷ []) t ∙ ap (λ o. and_then o (outcome es (i ∷ []))) h.ends ∙ ap (λ o. and_then o (outcome es [])) (error None (at i) h.reached f h.fails)
 
+  -- and so does the order
   pub order_fails : (order : List ℕ) (t : Tree) (i : ℕ) (f : Failure) → OrderFailsAt es order t i f → outcome es order t ≡ None
   order_fails order t i f h =
       ap (λ o. outcome es o t) h.was ∙ joined h.front (i ∷ h.back) t ∙ ap (λ o. and_then o (outcome es (i ∷ h.back))) h.ends
@@ -64,6 +69,7 @@ module _ (es : List Program) where
     pub failure : f ≡ g
     pub ahead : front ≡ other
 
+  -- of two cuts of an order, each at a resource that fails where those ahead of it end in a tree, the parts are the same
   compare : (front other back rest : List ℕ) (t u v : Tree) (i j : ℕ) (f g : Failure) → front ++ i ∷ back ≡ other ++ j ∷ rest
       → outcome es front t ≡ Some u → outcome es other t ≡ Some v → FailsAt (at i) u f → FailsAt (at j) v g → Same i j f g front other
   compare [] [] back rest t u v i j f g e h k x y =
@@ -93,11 +99,13 @@ module _ (es : List Program) where
             record { number = s.number; failure = s.failure; ahead = λ m. number m ∷ s.ahead m }
       ]
 
+  -- an order fails at one resource only, by one failure
   pub one_fails : (order : List ℕ) (t : Tree) (i j : ℕ) (f g : Failure) (h : OrderFailsAt es order t i f) (k : OrderFailsAt es order t j g) → (i ≡ j) × (f ≡ g)
   one_fails order t i j f g h k = let s = compare h.front k.front h.back k.back t h.reached k.reached i j f g (sym h.was ∙ k.was) h.ends k.ends h.fails k.fails in (s.number, s.failure)
 
   -- ---- the last of the shortest front
 
+  -- of two fronts of an order one is shorter than the other, or has it as its own front
   split_short : (ahead other back more : List ℕ) (i : ℕ) → ahead ++ i ∷ back ≡ other ++ more → (length ahead < length other) ⊎ ((rest : List ℕ) × (ahead ≡ other ++ rest))
   split_short ahead [] back more i e = inr (ahead, refl)
   split_short [] (b ∷ other) back more i e = inl (omega arith)
@@ -109,10 +117,12 @@ module _ (es : List Program) where
         | inr r ↦ inr (r.0, λ m. first m ∷ r.1 m)
       ]
 
+  -- three lists may be joined from either end
   append_assoc : (a b d : List ℕ) → a ++ (b ++ d) ≡ (a ++ b) ++ d
   append_assoc [] b d = refl
   append_assoc (x ∷ a) b d = ap (λ o. x ∷ o) (append_assoc a b d)
 
+  -- the resource at which an order fails is the last of its shortest front that ends in Error
   pub is_last : (order : List ℕ) (t : Tree) (i : ℕ) (f : Failure) → OrderFailsAt es order t i f → EndsShortestFront es order t i
   is_last order t i f h = record {
     ahead = h.front;
@@ -125,10 +135,12 @@ module _ (es : List Program) where
     ];
   }
 
+  -- two lists joined are as long as both together
   length_append : (a b : List ℕ) → length (a ++ b) ≡ length a + length b
   length_append [] b = omega arith
   length_append (x ∷ a) b = let rest = length_append a b in omega (arith, rest)
 
+  -- cuts of an order behind fronts of the same length are the same
   same_length : (a b : List ℕ) (i j : ℕ) (back more : List ℕ) → a ++ i ∷ back ≡ b ++ j ∷ more → length a ≡ length b → (i ≡ j) × (a ≡ b)
   same_length [] [] i j back more e l = (cc, refl)
   same_length [] (y ∷ b) i j back more e l = absurd (omega (arith, l))
@@ -139,6 +151,7 @@ module _ (es : List Program) where
       let s = same_length a b i j back more tail (omega (arith, l)) in
       (s.0, λ m. first m ∷ s.1 m)
 
+  -- and the order fails at the last resource of that front
   pub last_fails : (order : List ℕ) (t : Tree) (i : ℕ) → EndsShortestFront es order t i → (f : Failure) × OrderFailsAt es order t i f
   last_fails order t i h =
       let failing : outcome es order t ≡ None = ap (λ o. outcome es o t) h.fails.was ∙ joined (h.ahead ++ i ∷ []) h.fails.more t ∙ ap (λ o. and_then o (outcome es h.fails.more)) h.fails.fails in

@@ -9,6 +9,7 @@ use Rattle.fs_interpreter.specs.Growth.{Seen, linked, linked_top}
 use Rattle.fs_interpreter.proofs.SearchLaws.{place_below, place_there, place_found, place_nowhere, no_children, content_there, content_found}
 use Rattle.fs_interpreter.proofs.KeptLists.{KeptLists, Was, get_cases, get_front, place_front, place_last, children_last, linked_paths, linked_was, paths_append}
 
+-- a path but the root differs from its parent
 pub own_parent : (p : Path) → p ≢ [] → parent p ≢ p
 own_parent [] n h = n refl
 own_parent (s ∷ p) n h = parent_differs s p h
@@ -18,12 +19,14 @@ other : (table : Listed) (p r : Path) → HasPath table r → p ≢ [] → place
 other table p r (inl top) n none e = n (e ∙ top)
 other table p r (inr there) n none e = place_nowhere table.paths p none there.0 (there.1 ∙ ap Some (sym e))
 
+-- a path but the new one stands where it stood, or nowhere still
 stays : (paths : List Path) (p r : Path) → p ≢ r → place_in (paths ++ p ∷ []) r ≡ place_in paths r
 stays paths p r n = elim (place_in paths r) as (λ o. place_in paths r ≡ o → place_in (paths ++ p ∷ []) r ≡ o) [
   | None ↦ λ e. place_last paths p r e ∙ ap (λ b. cond b (Some (length paths)) None) (path_eq_other p r n)
   | Some j ↦ λ e. place_front paths p r j e
 ] refl
 
+-- there are as many nodes as paths
 length_paths : (nodes : List Seen) (paths : List Path) → map (λ s. s.path) nodes ≡ paths → length nodes ≡ length paths
 length_paths nodes paths e = same nodes ∙ ap length e
   where
@@ -31,6 +34,7 @@ length_paths nodes paths e = same nodes ∙ ap length e
     same [] = refl
     same (n ∷ ns) = ap suc (same ns)
 
+-- the path of the node at a place stands at that place of the paths
 path_of : (nodes : List Seen) (k : ℕ) (m : Seen) → slice_get nodes k ≡ Some m → slice_get (map (λ (s : Seen). s.path) nodes) k ≡ Some m.path
 path_of [] k m h = cc
 path_of (n ∷ nodes) zero m h = let same : n ≡ m = cc in ap (λ (s : Seen). Some s.path) same
@@ -51,18 +55,22 @@ place_more paths p none place places place' more q i h = elim (place_in paths q)
     new true k m = m ∙ k
     new false k m = cc
 
+-- the children of a path with a path more are those as before, and the new one if it is a child
 last_in : (paths : List Path) (p q : Path) → children_in (paths ++ p ∷ []) q ≡ cond (path_eq (parent p) q) (children_in paths q ++ length paths ∷ []) (children_in paths q)
 last_in paths p q = children_last 0 paths p q ∙ ap (λ n. cond (path_eq (parent p) q) (children_in paths q ++ n ∷ []) (children_in paths q)) (omega arith)
 
 module _ (paths : List Path) (contents : List (List ℕ)) (p : Path) (is : IsTable (record { paths = paths; contents = contents })) (not_root : p ≢ []) (covered : HasPath (record { paths = paths; contents = contents }) (parent p))
     (none : place_in paths p ≡ None) where
+  -- the table as it was
   abbrev told : Listed
   told = record { paths = paths; contents = contents }
 
+  -- what was the root or in the table is so with a path more
   front : (q : Path) → HasPath told q → (q ≡ []) ⊎ ((j : ℕ) × (slice_get (paths ++ p ∷ []) j ≡ Some q))
   front q (inl top) = inl top
   front q (inr there) = inr (there.0, get_front paths (p ∷ []) q there.0 there.1)
 
+  -- with a path more this is a table still
   table_more : IsTable (record { paths = paths ++ p ∷ []; contents = contents })
   table_more = record {
     once = λ i j q h k. elim (get_cases paths p q i h) [
@@ -97,12 +105,15 @@ module _ (paths : List Path) (contents : List (List ℕ)) (p : Path) (is : IsTab
   }
 
   module _ (nodes : List Seen) (tops : List ℕ) (place : Path → Option ℕ) (number : List ℕ → Option ℕ) (kept : KeptLists paths nodes tops contents place number) where
+    -- where the parent of the new path stands
     abbrev above : Option ℕ
     above = place_in paths (parent p)
 
+    -- the new node, which has no children yet
     abbrev node : Seen
     node = record { path = p; parent = above; children = [] }
 
+    -- there are as many nodes as paths
     size : length nodes ≡ length paths
     size = length_paths nodes paths kept.are
 
@@ -110,9 +121,11 @@ module _ (paths : List Path) (contents : List (List ℕ)) (p : Path) (is : IsTab
     its_path : (k : ℕ) (m : Seen) → slice_get nodes k ≡ Some m → slice_get paths k ≡ Some m.path
     its_path k m h = sym (ap (λ ps. slice_get ps k) kept.are) ∙ path_of nodes k m h
 
+    -- what stands at the place above is the parent of the new path
     above_there : (k : ℕ) → above ≡ Some k → slice_get paths k ≡ Some (parent p)
     above_there k e = place_there paths (parent p) k e
 
+    -- the children of the root, with the new one if it is such a child
     top_more : linked_top above (length nodes) tops ≡ children_in (paths ++ p ∷ []) []
     top_more = elim above as (λ o. above ≡ o → linked_top o (length nodes) tops ≡ children_in (paths ++ p ∷ []) []) [
       | None ↦ λ e. elim covered [
@@ -129,9 +142,11 @@ module _ (paths : List Path) (contents : List (List ℕ)) (p : Path) (is : IsTab
     no_more : (q : Path) → parent p ≢ q → children_in (paths ++ p ∷ []) q ≡ children_in paths q
     no_more q n = last_in paths p q ∙ ap (λ b. cond b (children_in paths q ++ length paths ∷ []) (children_in paths q)) (path_eq_other (parent p) q n)
 
+    -- the parent of the new path has it as one child more
     one_more : children_in (paths ++ p ∷ []) (parent p) ≡ children_in paths (parent p) ++ length paths ∷ []
     one_more = last_in paths p (parent p) ∙ ap (λ b. cond b (children_in paths (parent p) ++ length paths ∷ []) (children_in paths (parent p))) (path_eq_refl (parent p))
 
+    -- the children of a node that was there are those of its path among the paths with one more
     old_children : (k : ℕ) (m : Seen) (children : List ℕ) → slice_get nodes k ≡ Some m
         → ((above ≡ Some k) × (children ≡ m.children ++ length nodes ∷ [])) ⊎ ((above ≢ Some k) × (children ≡ m.children)) → children ≡ children_in (paths ++ p ∷ []) m.path
     old_children k m children h (inl here) =
@@ -145,15 +160,18 @@ module _ (paths : List Path) (contents : List (List ℕ)) (p : Path) (is : IsTab
         let j = is.once found.0 k (parent p) (place_there paths (parent p) found.0 found.1) there in
         not.0 (found.1 ∙ ap Some j)))
 
+    -- the new node has no children among the paths with one more
     new_children : (children : List ℕ) → ((above ≡ Some (length nodes)) × (children ≡ [] ++ length nodes ∷ [])) ⊎ ((above ≢ Some (length nodes)) × (children ≡ [])) → children ≡ children_in (paths ++ p ∷ []) p
     new_children children (inl here) =
         let below = subst (λ o. IfSome o (λ i. i < length paths)) here.0 (place_below paths (parent p)) in
         let s = size in absurd (omega arith)
     new_children children (inr not) = not.1 ∙ no_children told p is not_root none ∙ sym (no_more p (own_parent p not_root))
 
+    -- each of the linked nodes is one of before or the new one, with a child more at the place above
     was : (k : ℕ) (s : Seen) → slice_get (linked above (length nodes) (nodes ++ node ∷ [])) k ≡ Some s → Was above (length nodes) (nodes ++ node ∷ []) k s
     was k s h = linked_was above (length nodes) (nodes ++ node ∷ []) k s h
 
+    -- the children of each node are those of its path among the paths with one more
     children_more : (k : ℕ) (s : Seen) → slice_get (linked above (length nodes) (nodes ++ node ∷ [])) k ≡ Some s → s.children ≡ children_in (paths ++ p ∷ []) s.path
     children_more k s h =
         let w = was k s h in
@@ -165,6 +183,7 @@ module _ (paths : List Path) (contents : List (List ℕ)) (p : Path) (is : IsTab
               ∙ ap (children_in (paths ++ p ∷ [])) (ap (λ (m : Seen). m.path) new.1 ∙ sym w.path)
         ]
 
+    -- the parent of each node stands where the parent of its path stands among the paths with one more
     parents_more : (k : ℕ) (s : Seen) → slice_get (linked above (length nodes) (nodes ++ node ∷ [])) k ≡ Some s → s.parent ≡ place_in (paths ++ p ∷ []) (parent s.path)
     parents_more k s h =
         let w = was k s h in
@@ -176,6 +195,7 @@ module _ (paths : List Path) (contents : List (List ℕ)) (p : Path) (is : IsTab
               ∙ ap (λ q. place_in (paths ++ p ∷ []) (parent q)) (ap (λ (m : Seen). m.path) new.1 ∙ sym w.path)
         ]
 
+    -- with a new path, its node linked and its place found, the table is kept as before
     pub path_more : (place' : Path → Option ℕ) → ((q : Path) → place' q ≡ cond (path_eq p q) (Some (length paths)) (place q))
         → KeptLists (paths ++ p ∷ []) (linked above (length nodes) (nodes ++ node ∷ [])) (linked_top above (length nodes) tops) contents place' number
     path_more place' more = record {
@@ -191,9 +211,11 @@ module _ (paths : List Path) (contents : List (List ℕ)) (p : Path) (is : IsTab
 -- ---- a content more
 
 module _ (paths : List Path) (contents : List (List ℕ)) (c : List ℕ) (is : IsTable (record { paths = paths; contents = contents })) (none : content_place contents c ≡ None) where
+  -- the new content stands at no place yet
   not_there : (i : ℕ) → slice_get contents i ≢ Some c
   not_there i h = let found = content_found contents c i h in let no : ◌≡◌ {A = Option ℕ} None (Some found.0) = sym none ∙ found.1 in cc
 
+  -- with one more each content stands at one place still
   contents_more : (i j : ℕ) (d : List ℕ) → slice_get (contents ++ c ∷ []) i ≡ Some d → slice_get (contents ++ c ∷ []) j ≡ Some d → i ≡ j
   contents_more i j d h k = elim (get_cases contents c d i h) [
     | inl a ↦ elim (get_cases contents c d j k) [
@@ -206,6 +228,7 @@ module _ (paths : List Path) (contents : List (List ℕ)) (c : List ℕ) (is : I
     ]
   ]
 
+  -- with a new content, its number found, the table is kept as before
   pub content_more : (nodes : List Seen) (tops : List ℕ) (place : Path → Option ℕ) (number number' : List ℕ → Option ℕ) → KeptLists paths nodes tops contents place number
       → number' c ≡ Some (length contents) → ((d : List ℕ) → d ≢ c → number' d ≡ number d) → KeptLists paths nodes tops (contents ++ c ∷ []) place number'
   content_more nodes tops place number number' kept here elsewhere = record {

@@ -16,12 +16,15 @@ use Rattle.fs_interpreter.proofs.AsideLaws.{told_later, own_later, back_again, c
 abbrev pub WritesAt : List ℕ → (State → State) → Type 0
 WritesAt places f = (s : State) (j : ℕ) → has j places ≡ false → (f s).cell j ≡ s.cell j
 
+-- what is kept aside is one's own as bits grow, and over as many places
 pub aside_later : {B Bit Code : Type 0} (m n : Meanings Bit Code) (c k : ℕ) (a : Aside B Bit Code) → Grows m n → c ≡ k → IsAside m c a → IsAside n k a
 aside_later m n c k a g e own = subst (λ x. IsAside n x a) e (record { cells = own_later m n c a.cells.items g own.cells; error = g.owns a.error own.error })
 
+-- what was read of a state was read of each that is the same
 pub read_so : {B Bit Code : Type 0} (m : Meanings Bit Code) (places : List ℕ) (f g : Valuation → State) (a : Aside B Bit Code) → IsRead m places f a → ((v : Valuation) → f v ≡ g v) → IsRead m places g a
 read_so m places f g a h e = record { cells = λ v. h.cells v ∙ ap (λ (s : State). read_at places s.cell) (e v); error = λ v. h.error v ∙ ap (λ (s : State). s.error) (e v) }
 
+-- a branch that is tried and then undone leaves the cells as they were
 pub try_same : {B Bit Code : Type 0} (m0 m1 m2 m3 : Meanings Bit Code) (cells0 cells1 cells2 : Cells B Bit Code) (old : Aside B Bit Code) (places : List ℕ) (n : ℕ) (f : State → State)
     → Grows m0 m1 → Grows m1 m2 → Grows m2 m3 → AreCells m0 cells0 → IsAside m1 n old → IsRead m1 places (λ v. state_of m0 v cells0) old
     → Becomes m1 m2 cells0 cells1 (λ v s. f s)
@@ -41,11 +44,13 @@ try_same m0 m1 m2 m3 cells0 cells1 cells2 old places n f g01 g12 g23 a own read 
           restored.told v ∙ (λ k. record { cell = again k; error = error k });
     }
 
+-- the choice of what two branches left is what the one or the other left
 either : (b : Bool) (places : List ℕ) (e f s : State) → ((j : ℕ) → has j places ≡ false → e.cell j ≡ s.cell j) → ((j : ℕ) → has j places ≡ false → f.cell j ≡ s.cell j)
     → ◌≡◌ {A = State} (record { cell = put_where b (read_at places e.cell) f.cell; error = if b then e.error else f.error }) (if b then e else f)
 either true places e f s h k = let same = chosen_is true places e.cell f.cell (λ j other. k j other ∙ sym (h j other)) in (λ t. record { cell = same t; error = e.error })
 either false places e f s h k = let same = chosen_is false places e.cell f.cell (λ j other. k j other ∙ sym (h j other)) in (λ t. record { cell = same t; error = f.error })
 
+-- two branches, tried and chosen between, leave what the branch leaves that the test names
 pub branch_is : {B Bit Code : Type 0} (m0 m1 m2 m3 m4 : Meanings Bit Code) (cells0 cells2 cells3 cells4 : Cells B Bit Code) (c : Bit) (made : Aside B Bit Code) (places : List ℕ) (n : ℕ)
     (test : Cellwise → Bool) (e f : State → State)
     → Grows m0 m1 → Grows m1 m2 → Grows m2 m3 → AreCells m0 cells0
@@ -70,10 +75,12 @@ branch_is m0 m1 m2 m3 m4 cells0 cells2 cells3 cells4 c made places n test e f g0
           ∙ either (test was.cell) places (e was) (f was) was (frame_e was) (frame_f was);
     }
 
+-- what follows from what holds of an Ok result holds of an Ok result
 pub on_ok : {X E P Q : Type 0} (r : Result X E) → (P → Q) → OnOk r P → OnOk r Q
 on_ok (Ok x) f h = f h
 on_ok (Err e) f h = tt
 
+-- what was read at some places was read at the same places named otherwise
 pub read_at_same : {B Bit Code : Type 0} (m : Meanings Bit Code) (places more : List ℕ) (f : Valuation → State) (a : Aside B Bit Code) → more ≡ places → IsRead m more f a → IsRead m places f a
 read_at_same m places more f a e h = subst (λ is. IsRead m is f a) e h
 

@@ -17,6 +17,7 @@ set_more (k ∷ nodes) zero i n m h e = let same : k ≡ n = cc in
     ap (λ s. s ∷ seen_all nodes) (e ∙ sym (ap (λ (x : Node). record { path = x.path; parent = x.parent; children = x.children.items ++ i ∷ [] }) same))
 set_more (k ∷ nodes) (suc j) i n m h e = ap (λ ss. seen k ∷ ss) (set_more nodes j i n m h e)
 
+-- what holds anyway holds after an Err
 pub on_err : {X E : Type 0} (r : Result X E) {P : Type 0} → P → OnErr r P
 on_err (Ok x) p = tt
 on_err (Err e) p = p

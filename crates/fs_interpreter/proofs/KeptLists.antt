@@ -4,6 +4,7 @@ use Rattle.fs_semantics.specs.FileTree.{Path, path_eq, parent}
 use Rattle.fs_interpreter.specs.Places.{IsTable, one_further, place_in, content_place, children_from, children_in}
 use Rattle.fs_interpreter.specs.Growth.{Seen, with_child, linked}
 
+-- what `IsKept` says, over the plain lists and the two maps as functions
 pub record KeptLists (paths : List Path) (nodes : List Seen) (tops : List ℕ) (contents : List (List ℕ)) (place : Path → Option ℕ) (number : List ℕ → Option ℕ) : Type 0 where
   pub are : map (λ s. s.path) nodes ≡ paths
   pub table : IsTable (record { paths = paths; contents = contents })
@@ -15,6 +16,7 @@ pub record KeptLists (paths : List Path) (nodes : List Seen) (tops : List ℕ) (
 
 -- ---- a list with one more at its end
 
+-- what stands in a list with one more stood there, or is that one at the end
 pub get_cases : {X : Type 0} (xs : List X) (x y : X) (i : ℕ) → slice_get (xs ++ x ∷ []) i ≡ Some y → (slice_get xs i ≡ Some y) ⊎ ((i ≡ length xs) × (x ≡ y))
 get_cases [] x y zero h = inr (refl, cc)
 get_cases [] x y (suc i) h = cc
@@ -24,15 +26,18 @@ get_cases (z ∷ xs) x y (suc i) h = elim (get_cases xs x y i h) [
   | inr last ↦ inr (ap suc last.0, last.1)
 ]
 
+-- what stands in a list stands at the same place when more comes behind it
 pub get_front : {X : Type 0} (xs ys : List X) (y : X) (i : ℕ) → slice_get xs i ≡ Some y → slice_get (xs ++ ys) i ≡ Some y
 get_front [] ys y i h = cc
 get_front (x ∷ xs) ys y zero h = h
 get_front (x ∷ xs) ys y (suc i) h = get_front xs ys y i h
 
+-- the last one stands at the end
 pub get_last : {X : Type 0} (xs : List X) (x : X) → slice_get (xs ++ x ∷ []) (length xs) ≡ Some x
 get_last [] x = refl
 get_last (y ∷ xs) x = get_last xs x
 
+-- a path that is found is found at the same place when one more comes behind
 pub place_front : (paths : List Path) (p q : Path) (i : ℕ) → place_in paths q ≡ Some i → place_in (paths ++ p ∷ []) q ≡ Some i
 place_front [] p q i h = cc
 place_front (r ∷ paths) p q i h = elim (path_eq r q) as (λ b. cond b (Some 0) (one_further (place_in paths q)) ≡ Some i → cond b (Some 0) (one_further (place_in (paths ++ p ∷ []) q)) ≡ Some i) [
@@ -43,6 +48,7 @@ place_front (r ∷ paths) p q i h = elim (path_eq r q) as (λ b. cond b (Some 0)
   ] refl k
 ] h
 
+-- a path that wasn't found is found at the end exactly where it is the new one
 pub place_last : (paths : List Path) (p q : Path) → place_in paths q ≡ None → place_in (paths ++ p ∷ []) q ≡ cond (path_eq p q) (Some (length paths)) None
 place_last [] p q h = refl
 place_last (r ∷ paths) p q h = elim (path_eq r q) as (λ b. cond b (Some 0) (one_further (place_in paths q)) ≡ None → cond b (Some 0) (one_further (place_in (paths ++ p ∷ []) q)) ≡ cond (path_eq p q) (Some (suc (length paths))) None) [
@@ -57,6 +63,7 @@ place_last (r ∷ paths) p q h = elim (path_eq r q) as (λ b. cond b (Some 0) (o
     further true n = refl
     further false n = refl
 
+-- the children of a path with a path more are those as before, and the new one if it is a child
 pub children_last : (k : ℕ) (paths : List Path) (p q : Path)
     → children_from k (paths ++ p ∷ []) q ≡ cond (path_eq (parent p) q) (children_from k paths q ++ (k + length paths) ∷ []) (children_from k paths q)
 children_last k [] p q = ap (λ n. cond (path_eq (parent p) q) (n ∷ []) []) (omega arith)
@@ -72,15 +79,18 @@ children_last k (r ∷ paths) p q =
 
 -- ---- nodes that are linked
 
+-- a child more leaves the paths of the nodes as they were
 child_paths : (j i : ℕ) (nodes : List Seen) → map (λ s. s.path) (with_child j i nodes) ≡ map (λ s. s.path) nodes
 child_paths j i [] = refl
 child_paths zero i (s ∷ nodes) = refl
 child_paths (suc j) i (s ∷ nodes) = ap (λ ps. s.path ∷ ps) (child_paths j i nodes)
 
+-- and so does a link to the place above
 pub linked_paths : (above : Option ℕ) (i : ℕ) (nodes : List Seen) → map (λ s. s.path) (linked above i nodes) ≡ map (λ s. s.path) nodes
 linked_paths None i nodes = refl
 linked_paths (Some j) i nodes = child_paths j i nodes
 
+-- the paths of nodes with one more are those with its path at the end
 pub paths_append : (xs : List Seen) (s : Seen) → map (λ s. s.path) (xs ++ s ∷ []) ≡ map (λ s. s.path) xs ++ s.path ∷ []
 paths_append [] s = refl
 paths_append (x ∷ xs) s = ap (λ ps. x.path ∷ ps) (paths_append xs s)
@@ -93,6 +103,7 @@ pub record Was (above : Option ℕ) (i : ℕ) (nodes : List Seen) (k : ℕ) (s :
   pub parent : s.parent ≡ node.parent
   pub children : ((above ≡ Some k) × (s.children ≡ node.children ++ i ∷ [])) ⊎ ((above ≢ Some k) × (s.children ≡ node.children))
 
+-- with a child more at one place, each node was there, with that child less if it is at that place
 child_was : (j i : ℕ) (nodes : List Seen) (k : ℕ) (s : Seen) → slice_get (with_child j i nodes) k ≡ Some s → Was (Some j) i nodes k s
 child_was j i [] k s h = cc
 child_was zero i (m ∷ nodes) zero s h =
@@ -111,6 +122,7 @@ child_was (suc j) i (m ∷ nodes) (suc k) s h = let was = child_was j i nodes k 
   ];
 }
 
+-- and so it is where the new place is linked to the one above, or to the root
 pub linked_was : (above : Option ℕ) (i : ℕ) (nodes : List Seen) (k : ℕ) (s : Seen) → slice_get (linked above i nodes) k ≡ Some s → Was above i nodes k s
 linked_was None i nodes k s h = record { node = s; there = h; path = refl; parent = refl; children = inr ((λ e. cc), refl) }
 linked_was (Some j) i nodes k s h = child_was j i nodes k s h

@@ -15,20 +15,24 @@ use Rattle.fs_interpreter.proofs.SearchLaws.{place_there, place_found, content_t
 use Rattle.fs_interpreter.proofs.AddedLaws.{path_more, content_more}
 use Rattle.fs_interpreter.proofs.TableLaws.{length-paths}
 
+-- what is seen at a place is what is seen of the node there
 seen_at : (nodes : List Node) (i : ℕ) (n : Node) → slice_get nodes i ≡ Some n → slice_get (seen_all nodes) i ≡ Some (seen n)
 seen_at [] i n h = cc
 seen_at (m ∷ nodes) zero n h = let same : m ≡ n = cc in ap (λ (x : Node). Some (seen x)) same
 seen_at (m ∷ nodes) (suc i) n h = seen_at nodes i n h
 
+-- and each that is seen is seen of a node at that place
 node_of : (nodes : List Node) (i : ℕ) (s : Seen) → slice_get (seen_all nodes) i ≡ Some s → (n : Node) × (slice_get nodes i ≡ Some n) × (seen n ≡ s)
 node_of [] i s h = cc
 node_of (m ∷ nodes) zero s h = (m, refl, cc)
 node_of (m ∷ nodes) (suc i) s h = node_of nodes i s h
 
+-- the paths of what is seen are those of the nodes
 pub seen_paths : (nodes : List Node) → map (λ (s : Seen). s.path) (seen_all nodes) ≡ paths_of nodes
 seen_paths [] = refl
 seen_paths (n ∷ nodes) = ap (λ ps. n.path ∷ ps) (seen_paths nodes)
 
+-- a table that is kept is so over plain lists
 pub to_lists : (t : Inside) → IsKept t → KeptLists (paths_of t.nodes.items) (seen_all t.nodes.items) t.top.items t.contents.items (hashed.get path_eq t.places) (hashed.get bytes_eq t.numbers)
 to_lists t kept = record {
   are = seen_paths t.nodes.items;
@@ -42,6 +46,7 @@ to_lists t kept = record {
   numbers = kept.numbers;
 }
 
+-- and a table that is kept over plain lists is kept
 pub from_lists : (t : Inside) → KeptLists (paths_of t.nodes.items) (seen_all t.nodes.items) t.top.items t.contents.items (hashed.get path_eq t.places) (hashed.get bytes_eq t.numbers) → IsKept t
 from_lists t kept = record {
   table = kept.table;
@@ -52,11 +57,13 @@ from_lists t kept = record {
   numbers = kept.numbers;
 }
 
+-- what is kept over lists is kept over the same lists named otherwise
 carried : {P P' : List Path} {N N' : List Seen} {T T' : List ℕ} {C C' : List (List ℕ)} {place : Path → Option ℕ} {number : List ℕ → Option ℕ}
     → P ≡ P' → N ≡ N' → T ≡ T' → C ≡ C' → KeptLists P N T C place number → KeptLists P' N' T' C' place number
 carried {P} {P'} {N} {N'} {T} {T'} {C} {C'} {place} {number} p n t c kept =
     subst (λ x. KeptLists x N' T' C' place number) p (subst (λ x. KeptLists P x T' C' place number) n (subst (λ x. KeptLists P N x C' place number) t (subst (λ x. KeptLists P N T x place number) c kept)))
 
+-- as many are seen as there are nodes
 seen_length : (nodes : List Node) → length (seen_all nodes) ≡ length nodes
 seen_length [] = refl
 seen_length (n ∷ nodes) = ap suc (seen_length nodes)
@@ -67,6 +74,7 @@ more_paths nodes more s above i e =
     sym (seen_paths more) ∙ ap (map (λ (x : Seen). x.path)) e ∙ linked_paths above i (seen_all nodes ++ s ∷ []) ∙ paths_append (seen_all nodes) s
     ∙ ap (λ ps. ps ++ s.path ∷ []) (seen_paths nodes)
 
+-- nodes that are seen alike have the same paths
 pub same_paths : (nodes more : List Node) → seen_all more ≡ seen_all nodes → paths_of more ≡ paths_of nodes
 same_paths nodes more e = sym (seen_paths more) ∙ ap (map (λ (x : Seen). x.path)) e ∙ seen_paths nodes
 
@@ -79,6 +87,7 @@ same_kept t u kept nodes top contents places numbers =
     from_lists u (carried (sym (same_paths t.nodes.items u.nodes.items nodes)) (sym nodes) (sym top) (sym contents)
     (record { are = was.are; table = was.table; top = was.top; children = was.children; parents = was.parents; places = places; numbers = numbers }))
 
+-- a table with a new path, its node linked and its place found, is kept
 pub path_kept : (t u : Inside) (p : Path) (above : Option ℕ) (children : List ℕ) (i : ℕ) → IsKept t → p ≢ [] → HasPath (listed t) (parent p) → place_in (paths_of t.nodes.items) p ≡ None
     → place_in (paths_of t.nodes.items) (parent p) ≡ above → children ≡ [] → i ≡ length t.nodes.items
     → ((q : Path) → hashed.get path_eq u.places q ≡ cond (path_eq p q) (Some i) (hashed.get path_eq t.places q))
@@ -113,6 +122,7 @@ numbers_more m n key c i same more = (
     differ true h = absurd (h refl)
     differ false h = refl
 
+-- a table with a new content, its number found, is kept
 pub content_kept : (t u : Inside) (c : List ℕ) → IsKept t → content_place t.contents.items c ≡ None → u.nodes ≡ t.nodes → u.top ≡ t.top → u.places ≡ t.places
     → u.contents.items ≡ t.contents.items ++ c ∷ [] → (hashed.get bytes_eq u.numbers c ≡ Some (length t.contents.items)) × ((d : List ℕ) → d ≢ c → hashed.get bytes_eq u.numbers d ≡ hashed.get bytes_eq t.numbers d)
     → IsKept u
@@ -128,6 +138,7 @@ last_number paths contents c is =
     let found = content_found (contents ++ c ∷ []) c (length contents) (get_last contents c) in
     found.1 ∙ ap Some (is.contents_once found.0 (length contents) c (content_there (contents ++ c ∷ []) c found.0 found.1) (get_last contents c))
 
+-- and the path that is put last stands at the last place
 pub last_place : (paths : List Path) (contents : List (List ℕ)) (p : Path) → IsTable (record { paths = paths ++ p ∷ []; contents = contents }) → place_in (paths ++ p ∷ []) p ≡ Some (length paths)
 last_place paths contents p is =
     let found = place_found (paths ++ p ∷ []) p (length paths) (get_last paths p) in

@@ -14,14 +14,17 @@ use Rattle.fs_interpreter.proofs.SearchLaws.{place_there, content_there, content
 use Rattle.fs_interpreter.proofs.StepLaws.{error_stays, error_stays_in_all}
 use Rattle.fs_interpreter.proofs.TestLaws.{Seen, seen, dir_is, none_is, any_is, cell_file, told_is}
 
+-- a disjunction with a true right side is true
 or_right : (a b : Bool) → b ≡ true → (a || b) ≡ true
 or_right true b h = refl
 or_right false b h = h
 
+-- a disjunction of two that are false is false
 neither : (a b : Bool) → a ≡ false → b ≡ false → (a || b) ≡ false
 neither true b h k = h
 neither false b h k = k
 
+-- the parent of a path that is the root or in the table is so too
 parent_covered : (table : Listed) (p : Path) → IsTable table → HasPath table p → HasPath table (parent p)
 parent_covered table p is (inl e) = inl (ap parent e)
 parent_covered table p is (inr h) = is.parents h.0 p h.1
@@ -41,16 +44,19 @@ changed table s t u p i c ok is st at fine here others = record {
   nothing_else = λ q h. others q (λ same. h i (place_there table.paths p i at ∙ ap Some (sym same))) ∙ st.nothing_else q h;
 }
 
+-- where the condition doesn't hold, what is put is Error
 put_fails : (table : Listed) (o : Option ℕ) (ok : Bool) (c : Cell) (s : State) → ok ≡ false → (put o ok c s).error ≡ true
 put_fails table None ok c s h = refl
 put_fails table (Some i) ok c s h = or_right s.error (not ok) (ap not h)
 
+-- a place is free for a new entry by what the cells tell exactly where it is in the tree
 free_is : (table : Listed) (s : State) (t : Tree) (p : Path) → IsTable table → Stands table s t → HasPath table p → free_at table p s.cell ≡ (is_none t p && is_dir t (parent p))
 free_is table s t p is st h =
     let here = none_is table s t p (seen table s t p is st h) in
     let above = dir_is table s t (parent p) (seen table s t (parent p) is st (parent_covered table p is h)) in
     (λ i. here i && above i)
 
+-- of a conjunction that is true the left side is true
 first : (a b : Bool) → (a && b) ≡ true → a ≡ true
 first true b h = refl
 first false b h = h
@@ -73,6 +79,7 @@ made_is table s t p x c ok is st h same tells = elim (is_none t p && is_dir t (p
 
 -- ---- an entry that goes
 
+-- by its cell an entry may go where it is a file, a link or a folder without children
 goes : (contents : List (List ℕ)) (c : Cell) (o : Option Entry) (any : Bool) → Tells contents c o
     → (c.present && not (c.folder && any)) ≡ ((is_file_entry o || is_link_entry o) || (is_folder_entry o && not any))
 goes contents c None any h = ap (λ b. b && not (c.folder && any)) h
@@ -80,14 +87,17 @@ goes contents c (Some Folder) any h = λ i. h.0 i && not (h.1 i && any)
 goes contents c (Some (File x)) any h = λ i. h.0 i && not (h.1 i && any)
 goes contents c (Some (LinkTo x)) any h = λ i. h.0 i && not (h.1 i && any)
 
+-- a path that isn't the root isn't told to be
 not_root : (p : Path) → p ≢ [] → is_root p ≡ false
 not_root [] h = absurd (h refl)
 not_root (s ∷ p) h = refl
 
+-- a path but the root is a folder where its entry is one
 dir_entry : (t : Tree) (p : Path) → p ≢ [] → is_dir t p ≡ is_folder_entry (map.get t p)
 dir_entry t [] h = absurd (h refl)
 dir_entry t (s ∷ p) h = refl
 
+-- what goes from the cells goes from the tree, and where it can't both are Error
 removed_is : (table : Listed) (s : State) (t : Tree) (p : Path) → IsTable table → Stands table s t → Seen table s t p
     → StandsFor table (removed_at (place_in table.paths p) (children_in table.paths p) s) (removed p t)
 removed_is table s t p is st (inl h) =
@@ -111,6 +121,7 @@ removed_is table s t p is st (inr h) =
 
 -- ---- a file that is copied
 
+-- a copy of what one cell tells is the copy of the entry that it tells of
 copied_here : (table : Listed) (s : State) (t : Tree) (q : Path) (i : ℕ) (o : Option Entry) → IsTable table → Stands table s t → HasPath table q → Tells table.contents (s.cell i) o
     → StandsFor table (put (place_in table.paths q) (file_at (Some i) s.cell && free_at table q s.cell) (file_cell (s.cell i).content) s) (copied o q t)
 copied_here table s t q i None is st h tells = put_fails table (place_in table.paths q) _ _ s (ap (λ b. b && free_at table q s.cell) (cell_file table.contents (s.cell i) None tells))
@@ -121,6 +132,7 @@ copied_here table s t q i (Some (File x)) is st h tells =
     (ap (λ b. b && free_at table q s.cell) (cell_file table.contents (s.cell i) (Some (File x)) tells) ∙ free_is table s t q is st h)
     (refl, refl, refl, tells.3)
 
+-- what is copied among the cells is copied in the tree, and where it can't be both are Error
 copied_is : (table : Listed) (s : State) (t : Tree) (p q : Path) → IsTable table → Stands table s t → Seen table s t p → HasPath table q
     → StandsFor table (copied_at (place_in table.paths p) (place_in table.paths q) (free_at table q s.cell) s) (copied (map.get t p) q t)
 copied_is table s t p q is st (inl h) k = subst (λ o. StandsFor table (copied_at o (place_in table.paths q) (free_at table q s.cell) s) (copied (map.get t p) q t)) (sym h.1)
@@ -130,12 +142,14 @@ copied_is table s t p q is st (inr h) k = subst (λ o. StandsFor table (copied_a
 
 -- ---- contents
 
+-- the number of a content that is there leads to it
 number_there : (contents : List (List ℕ)) (c : List ℕ) (i : ℕ) → slice_get contents i ≡ Some c → slice_get contents (number_in contents c) ≡ Some c
 number_there contents c i h = let found = content_found contents c i h in ap (λ o. slice_get contents (or_zero o)) found.1 ∙ content_there contents c found.0 found.1
 
 -- ---- programs
 
 mutual
+  -- what a program makes of cells that stand for a tree stands for what it makes of the tree
   pub run_is : (table : Listed) (e : Program) (s : State) (t : Tree) → IsTable table → Covers table e → Stands table s t → StandsFor table (stepped table e s) (run e t)
   run_is table Id s t is c st = st
   run_is table Err s t is c st = refl
@@ -154,12 +168,14 @@ mutual
         | false ↦ run_is table f s t is c.2 st
       ])
 
+  -- and so do several programs, one after the other, from an outcome on
   pub all_run_is : (table : Listed) (es : Programs) (s : State) (o : Outcome) → IsTable table → CoversSteps table es → StandsFor table s o → StandsFor table (all_stepped table es s) (and_then o (run_all es))
   all_run_is table none s None is c h = h
   all_run_is table none s (Some t) is c h = h
   all_run_is table (next e es) s None is c h = error_stays_in_all table (next e es) s h
   all_run_is table (next e es) s (Some t) is c h = all_run_is table es (stepped table e s) (run e t) is c.1 (run_is table e s t is c.0 h)
 
+-- and one program from an outcome on, Error included
 pub outcome_is : (table : Listed) (e : Program) (s : State) (o : Outcome) → IsTable table → Covers table e → StandsFor table s o → StandsFor table (stepped table e s) (and_then o (run e))
 outcome_is table e s None is c h = error_stays table e s h
 outcome_is table e s (Some t) is c h = run_is table e s t is c h

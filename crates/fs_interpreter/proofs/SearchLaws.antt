@@ -11,10 +11,12 @@ use Rattle.fs_semantics.specs.FileTree.{Path, path_eq, parent}
 use Rattle.fs_semantics.proofs.Trees.{path_eq_same, path_eq_refl, path_eq_other}
 use Rattle.fs_interpreter.specs.Places.{Listed, IsTable, one_further, place_in, content_place, children_from, children_in}
 
+-- a place below a count is, one further, below one more
 further_below : (n : ℕ) (o : Option ℕ) → IfSome o (λ i. i < n) → IfSome (one_further o) (λ i. i < suc n)
 further_below n None h = tt
 further_below n (Some i) h = omega arith
 
+-- the place of a path is within the list
 pub place_below : (paths : List Path) (p : Path) → IfSome (place_in paths p) (λ i. i < length paths)
 place_below [] p = tt
 place_below (q ∷ paths) p = elim (path_eq q p) as (λ b. IfSome (cond b (Some 0) (one_further (place_in paths p))) (λ i. i < length (q ∷ paths))) [
@@ -53,6 +55,7 @@ place_found paths p i h = elim (place_in paths p) as (λ o. place_in paths p ≡
   | Some j ↦ λ e. (j, refl)
 ] refl
 
+-- a path that is the parent of none has no children
 no_children_from : (k : ℕ) (paths : List Path) (p : Path) → ((i : ℕ) (q : Path) → slice_get paths i ≡ Some q → parent q ≢ p) → children_from k paths p ≡ []
 no_children_from k [] p h = refl
 no_children_from k (q ∷ paths) p h = ap (λ b. cond b (k ∷ children_from (suc k) paths p) (children_from (suc k) paths p)) (path_eq_other (parent q) p (h 0 q refl))
@@ -65,10 +68,12 @@ no_children table p is n none = sym (no_children_from 0 table.paths p (λ i q e 
   | inr there ↦ place_nowhere table.paths p none there.0 (there.1 ∙ ap Some f)
 ]))
 
+-- numbers below a bound are below each greater one
 within : (k m n : ℕ) (places : List ℕ) → m ≤ n → AllByRecursion (λ i. i < m) places → AllByRecursion (λ i. i < n) places
 within k m n [] h all = tt
 within k m n (i ∷ places) h all = (omega (arith, all.0), within k m n places h all.1)
 
+-- the places of children are below the end of the list that is numbered
 children_from_below : (k : ℕ) (paths : List Path) (p : Path) → AllByRecursion (λ i. i < k + length paths) (children_from k paths p)
 children_from_below k [] p = tt
 children_from_below k (q ∷ paths) p =
@@ -78,14 +83,17 @@ children_from_below k (q ∷ paths) p =
       | false ↦ more
     ]
 
+-- the places of children are within the list
 pub children_below : (paths : List Path) (p : Path) → AllByRecursion (λ i. i < length paths) (children_in paths p)
 children_below paths p = within 0 (0 + length paths) (length paths) (children_in paths p) (omega arith) (children_from_below 0 paths p)
 
 -- ---- contents
 
+-- texts that compare equal are equal
 bytes_same : (c d : List ℕ) → is_eq (slice_cmp nat_cmp c d) ≡ true → c ≡ d
 bytes_same c d h = slice_cmp-IsAntisymmetric nat_cmp-IsAntisymmetric c d ((Equal-is (slice_cmp nat_cmp c d)).0 h)
 
+-- the content that is found at a place is there
 pub content_there : (contents : List (List ℕ)) (c : List ℕ) (i : ℕ) → content_place contents c ≡ Some i → slice_get contents i ≡ Some c
 content_there [] c i h = cc
 content_there (d ∷ contents) c i h = elim (is_eq (slice_cmp nat_cmp d c)) as (λ b. is_eq (slice_cmp nat_cmp d c) ≡ b → cond b (Some 0) (one_further (content_place contents c)) ≡ Some i → slice_get (d ∷ contents) i ≡ Some c) [
@@ -96,6 +104,7 @@ content_there (d ∷ contents) c i h = elim (is_eq (slice_cmp nat_cmp d c)) as (
   ] refl k
 ] refl h
 
+-- and a content that is there is found
 pub content_found : (contents : List (List ℕ)) (c : List ℕ) (i : ℕ) → slice_get contents i ≡ Some c → (j : ℕ) × (content_place contents c ≡ Some j)
 content_found [] c i h = cc
 content_found (d ∷ contents) c zero h = (

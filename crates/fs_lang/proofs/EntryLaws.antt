@@ -16,10 +16,12 @@ use Rattle.fs_lang.specs.declared.program.Entry.{Entry}
 use Rattle.fs_lang.specs.Meaning.{entry_of}
 use Rattle.fs_lang.specs.Trees.{entries_of, tree_of}
 
+-- a list of no length is empty
 no_items : {A : Type 0} (es : List A) → length es ≡ 0 → es ≡ []
 no_items [] e = refl
 no_items (x ∷ es) e = absurd (omega arith)
 
+-- an entry whose path is less than all others is put in front
 put_first : (k : Path) (x : tree.Entry) (es : List (Path × Entry)) → AllByRecursion (λ q. path_cmp k q ≡ Less) (keys_of es) → put path_cmp k x (entries_of es) ≡ (k, x) ∷ entries_of es
 put_first k x [] h = refl
 put_first k x (e ∷ es) h =
@@ -33,6 +35,7 @@ in_order (e ∷ es) h =
     entries-insert path_total (finite.from_entries (entries_of es)) e.0 (entry_of e.1)
     ∙ ap (put path_cmp e.0 (entry_of e.1)) (in_order es h.1) ∙ put_first e.0 (entry_of e.1) es h.0
 
+-- the entries of an ordered map are those of its tree, in order
 pub entries_are : (m : BTreeMap Path Entry) → IsOrdered path_cmp m → entries_of m.entries ≡ finite.entries (tree_of m)
 entries_are m h = sym (in_order m.entries h)
 
@@ -41,6 +44,7 @@ below : (k : Path) (v : Entry) (rest : List (Path × Entry)) (q : Path) (es : Li
 below k v rest q [] h = h.0
 below k v rest q (e ∷ es) h = below k v rest q es h.1
 
+-- an entry that comes right behind others in sorted entries is put at their end
 pub put_last : (es rest : List (Path × Entry)) (k : Path) (v : Entry) → IsStrictlySortedBy path_cmp (keys_of (es ++ (k, v) ∷ rest)) → insert_entry path_cmp es k v ≡ es ++ (k, v) ∷ []
 unfolding IsStrictlySortedBy
 put_last [] rest k v h = refl
@@ -48,6 +52,7 @@ put_last (e ∷ es) rest k v h =
     ap (λ r. match_ordering r ((k, v) ∷ e ∷ es) ((e.0, v) ∷ es) (e ∷ insert_entry path_cmp es k v)) (path_total.antisymm k e.0 ∙ ap ordering_reverse (below k v rest e.0 es h.0))
     ∙ ap (λ l. e ∷ l) (put_last es rest k v h.1)
 
+-- with one more entry copied, what was copied and what is left to copy are the same whole
 pub copied_next : (all es old rest new : List (Path × Entry)) (p : Path) (x : Entry) → IsStrictlySortedBy path_cmp (keys_of all) → es ++ old ≡ all → old ≡ (p, x) ∷ rest → new ≡ insert_entry path_cmp es p x → new ++ rest ≡ all
 copied_next all es old rest new p x sorted so_far next is =
     let whole : es ++ (p, x) ∷ rest ≡ all = ap (λ l. es ++ l) (sym next) ∙ so_far in

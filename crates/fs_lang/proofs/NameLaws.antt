@@ -11,41 +11,49 @@ use Rattle.fs_semantics.specs.FileTree.{IsBytes, IsSegment}
 use Rattle.fs_lang.specs.Reading.{HasNo}
 use Rattle.fs_lang.specs.Names.{IsName, replaced, segment_of}
 
+-- where a text was split at an ASCII byte, the front has none of it; where it wasn't, the whole text has none
 pub cut_at : (c : ℕ) (bs : List ℕ) (r : Option (Bor (List ℕ) × Bor (List ℕ))) → c < 128 → IsSplitOnceResult c bs r → MatchOption r (HasNo c bs) (λ x. (bs ≡ x.0.now ++ c ∷ x.1.now) × HasNo c x.0.now)
 cut_at c bs None l h = split_parts c bs None h (omega (arith, l))
 cut_at c bs (Some x) l h = split_parts c bs (Some x) h (omega (arith, l))
 
 -- ---- replacing
 
+-- where the byte isn't in a text, nothing is replaced
 replaced_none : (c : ℕ) (other text : List ℕ) → HasNo c text → replaced c other text ≡ text
 replaced_none c other [] none = refl
 replaced_none c other (b ∷ text) none =
     ap (λ v. cond v (other ++ replaced c other text) (b ∷ replaced c other text)) (ne_eqb b c (none 0 (omega arith)))
     ∙ ap (λ t. b ∷ t) (replaced_none c other text (λ i h. none (suc i) (omega arith)))
 
+-- a first byte that is replaced gives way to the other text
 replaced_here : (c : ℕ) (other text : List ℕ) → replaced c other (c ∷ text) ≡ other ++ replaced c other text
 replaced_here c other text = ap (λ v. cond v (other ++ replaced c other text) (c ∷ replaced c other text)) (eq-eqb c c refl)
 
+-- and so does one behind a front that has none of them
 replaced_front : (c : ℕ) (other front tail : List ℕ) → HasNo c front → replaced c other (front ++ c ∷ tail) ≡ front ++ (other ++ replaced c other tail)
 replaced_front c other [] tail none = replaced_here c other tail
 replaced_front c other (b ∷ front) tail none =
     ap (λ v. cond v (other ++ replaced c other (front ++ c ∷ tail)) (b ∷ replaced c other (front ++ c ∷ tail))) (ne_eqb b c (none 0 (omega arith)))
     ∙ ap (λ t. b ∷ t) (replaced_front c other front tail (λ i h. none (suc i) (omega arith)))
 
+-- with one more replaced, what was made so far and what is left to replace are the same whole
 pub next_replaced : (c : ℕ) (other made new text front tail : List ℕ) → text ≡ front ++ c ∷ tail → HasNo c front → new ≡ (made ++ front) ++ other → new ++ replaced c other tail ≡ made ++ replaced c other text
 next_replaced c other made new text front tail is none e =
     ap (λ l. l ++ replaced c other tail) e ∙ append_assoc (made ++ front) other (replaced c other tail) ∙ append_assoc made front (other ++ replaced c other tail)
     ∙ ap (λ l. made ++ l) (sym (ap (replaced c other) is ∙ replaced_front c other front tail none))
 
+-- where none is left to replace, what was made so far and the rest are the whole
 pub last_replaced : (c : ℕ) (other made new text : List ℕ) → HasNo c text → new ≡ made ++ text → made ++ replaced c other text ≡ new
 last_replaced c other made new text none e = ap (λ l. made ++ l) (replaced_none c other text none) ∙ sym e
 
 -- ---- what is replaced is a segment
 
+-- what holds of all numbers of two lists holds of all of both joined
 all_append : (P : ℕ → Type 0) (xs ys : List ℕ) → AllByRecursion P xs → AllByRecursion P ys → AllByRecursion P (xs ++ ys)
 all_append P [] ys h k = k
 all_append P (x ∷ xs) ys h k = (h.0, all_append P xs ys h.1 k)
 
+-- what holds of the other text and of all bytes that stay holds of the whole that is made
 all_replaced : (P : ℕ → Type 0) (c : ℕ) (other text : List ℕ) → AllByRecursion P other → AllByRecursion (λ b. b ≢ c → P b) text → AllByRecursion P (replaced c other text)
 all_replaced P c other [] h k = tt
 all_replaced P c other (b ∷ text) h k = at (b == c) refl (all_replaced P c other text h k.1)
@@ -54,6 +62,7 @@ all_replaced P c other (b ∷ text) h k = at (b == c) refl (all_replaced P c oth
     at true e more = all_append P other (replaced c other text) h more
     at false e more = (k.0 (λ s. let clash : true ≡ false = sym (eq-eqb b c s) ∙ e in cc), more)
 
+-- what holds of all implies what each of them implies
 all_weaker : (P Q : ℕ → Type 0) (text : List ℕ) → ((b : ℕ) → P b → Q b) → AllByRecursion P text → AllByRecursion Q text
 all_weaker P Q [] f h = tt
 all_weaker P Q (b ∷ text) f h = (f b h.0, all_weaker P Q text f h.1)
@@ -73,13 +82,16 @@ short_kept c x y z (b ∷ text) w l h = at (b == c) w l h (short_kept c x y z te
         let rest = more w (omega arith) tail in
         ap (λ k. k ∷ text) head ∙ ap (λ t. d ∷ t) rest
 
+-- a name that becomes a text of fewer than three bytes was that text
 escaped_short : (name w : List ℕ) → length w < 3 → replaced 47 (codes "%2F") (replaced 37 (codes "%25") name) ≡ w → name ≡ w
 escaped_short name w l h = short_kept 37 37 50 53 name w l (short_kept 47 37 50 70 (replaced 37 (codes "%25") name) w l h)
 
+-- what holds of each number holds of all in a list
 every : (P : ℕ → Type 0) (text : List ℕ) → ((b : ℕ) → P b) → AllByRecursion P text
 every P [] f = tt
 every P (b ∷ text) f = (f b, every P text f)
 
+-- a name that isn't one dot or two becomes a segment
 escaped_segment : (name : List ℕ) → IsName name → IsBytes name → name ≢ codes "." → name ≢ codes ".." → IsSegment (replaced 47 (codes "%2F") (replaced 37 (codes "%25") name))
 escaped_segment name is bytes dot dots = record {
   bytes = all_replaced (λ b. b < 256) 47 (codes "%2F") (replaced 37 (codes "%25") name) (omega arith, (omega arith, (omega arith, tt)))
@@ -94,6 +106,7 @@ escaped_segment name is bytes dot dots = record {
   not_dots = λ e. dots (escaped_short name (codes "..") (omega arith) e);
 }
 
+-- texts of different lengths differ
 other_length : (xs ys : List ℕ) → length xs ≢ length ys → xs ≢ ys
 other_length xs ys n e = n (ap length e)
 
@@ -116,6 +129,7 @@ dots_segment s (inr e) = subst IsSegment (sym e) (record {
   not_dots = λ h. other_length _ _ (omega arith) h;
 })
 
+-- each name of bytes becomes a segment
 pub segment_proper : (name : List ℕ) → IsName name → IsBytes name → IsSegment (segment_of name)
 segment_proper name is bytes = at (bytes_eq name (codes ".")) (bytes_eq name (codes "..")) refl refl
   where

@@ -17,6 +17,7 @@ use Rattle.fs_lang.specs.declared.program.Entry.TheVariants as entry
 use Rattle.fs_lang.specs.Meaning.{entry_of}
 use Rattle.fs_lang.specs.Trees.{entries_of, tree_of, TextIsBytes}
 
+-- what is found among entries as the definitions have them is the entry of the code there
 found : (q : Path) (es : List (Path × Entry)) → find path_cmp q (entries_of es) ≡ option_map entry_of (lookup (is_at (path_cmp q)) es)
 found q [] = refl
 found q (e ∷ es) = ap (cond (path_eq q e.0) (Some (entry_of e.1))) (found q es) ∙ inside (path_eq q e.0) e.1 (lookup (is_at (path_cmp q)) es)
@@ -29,6 +30,7 @@ found q (e ∷ es) = ap (cond (path_eq q e.0) (Some (entry_of e.1))) (found q es
 pub get_tree : (m : BTreeMap Path Entry) (q : Path) → finite.get (tree_of m) q ≡ option_map entry_of (stored.get path_cmp m q)
 get_tree m q = get-from_entries path_total (entries_of m.entries) q ∙ found q m.entries
 
+-- the entry of the definitions is told of the new entry or of the old one, whichever it is
 inserted_at : (b : Bool) (x : Entry) (r : Option Entry) → option_map entry_of (cond b (Some x) r) ≡ cond b (Some (entry_of x)) (option_map entry_of r)
 inserted_at true x r = refl
 inserted_at false x r = refl
@@ -41,6 +43,7 @@ inserted m n p x more = same_tree (tree_of n) (finite.insert (tree_of m) p (entr
     ∙ ap (cond (path_eq q p) (Some (entry_of x))) (sym (get_tree m q))
     ∙ sym (get-insert path_total (tree_of m) p (entry_of x) q))
 
+-- a content or target that the code holds to be of bytes is so
 has_bytes : (x : Entry) → TextIsBytes x → (text : List ℕ) → HasText (Some (entry_of x)) text → IsBytes text
 has_bytes entry.Folder h text k = absurd k
 has_bytes (entry.File content) h text k = subst IsBytes (sym k) h
@@ -50,6 +53,7 @@ has_bytes (entry.Link target) h text k = subst IsBytes (sym k) h
 pub grown : (t : Tree) (p : Path) (x : Entry) → IsTree t → AllByRecursion IsSegment p → TextIsBytes x → IsFreeAt t p → IsFolderAt t (parent p) → IsTree (finite.insert t p (entry_of x))
 grown t p x is proper bytes free above = insert_keeps_tree t p (entry_of x) is proper (has_bytes x bytes) ((free_at t p).1 free) ((folder_at t (parent p)).1 above)
 
+-- the tree without entries is a file tree
 pub empty_tree : IsTree finite.empty
 empty_tree = record {
   no_root = get-empty path_cmp [];
@@ -58,12 +62,15 @@ empty_tree = record {
   texts = λ p text h. absurd (subst (λ r. HasText r text) (get-empty path_cmp p) h);
 }
 
+-- a map without entries is the empty tree
 pub no_entries : (m : BTreeMap Path Entry) → m.entries ≡ [] → tree_of m ≡ finite.empty
 no_entries m e = ap (λ es. finite.from_entries (entries_of es)) e
 
+-- maps with the same entries are the same tree
 pub unchanged : (m n : BTreeMap Path Entry) → n.entries ≡ m.entries → tree_of n ≡ tree_of m
 unchanged m n e = ap (λ es. finite.from_entries (entries_of es)) e
 
+-- two functions on what may be there, one after the other, are both at once
 pub mapped_twice : {A B C : Type 0} (f : A → B) (g : B → C) (r : Option A) → option_map (λ x. g (f x)) r ≡ option_map g (option_map f r)
 mapped_twice f g None = refl
 mapped_twice f g (Some x) = refl

@@ -25,14 +25,17 @@ use Rattle.given_verdict.proofs.NoneLaws.{difference, states_end, end_proof, end
 use Rattle.given_entry.specs.Questions.{EnsuresFrom, StatesMissingFrom, IsEntryProofFrom, IsMissedFrom}
 use Rattle.given_entry.specs.Answers.{IsSpentOnFrom, IsKnownBeforeFrom, IsEnsuredFrom}
 
+-- where the list is told to be empty no folder is given
 pub none_given : (given : List Path) (b : Bool) → b ≡ (length given == 0) → b ≡ true → given ≡ []
 none_given [] b h k = refl
 none_given (p ∷ ps) b h k = let none = eqb-true (length (p ∷ ps)) 0 (sym h ∙ k) in absurd (omega (arith, none))
 
 module _ (es : List Program) (order : Relation) (w : Wanted) where
+  -- what ensures the entry does so from the trees of no given folders
   ensures : Ensures es (Told (comes order)) w → EnsuresFrom [] es (Told (comes order)) w
   ensures h t g o allowed u ends = h t g.is_tree o allowed u ends
 
+  -- a formula that states the question states it from these
   states_missing : (f : Formula) → StatesMissing es order w f → StatesMissingFrom [] es order w f
   states_missing f h d lay = (
     (λ sat.
@@ -41,22 +44,27 @@ module _ (es : List Program) (order : Relation) (w : Wanted) where
     (λ m. (h d lay).1 (record { tree = m.tree; first = m.first; missed = record { is_first = m.is_first; over = m.over; without = m.missed.shows } })),
   )
 
+  -- and a proof is one from these
   entry_proof : (f : Formula) → IsEntryProof es order w f → IsEntryProofFrom [] es order w f
   entry_proof f h = record { states = states_missing f h.states; no_model = h.no_model }
 
+  -- and a witness of a run without the entry
   missed : (x : Witness) → IsMissed es order w x → IsMissedFrom [] es order w x
   missed (witness.Orders tree left right) h = h
   missed (witness.Twice tree first) h = h
   missed (witness.Ends tree first) h = record { stand = tt; shows = h }
 
+  -- and what the budget was spent on
   spent_on : (budget : ℕ) (a : Late) (f : Formula) (steps : List Step) → IsSpentOn es order w budget a f steps → IsSpentOnFrom [] es order w budget a f steps
   spent_on budget late.Ensures f steps h = (states_missing f h.0, h.1)
   spent_on budget late.Succeeds f steps h = (states_end es order f h.0, h.1)
 
+  -- and what is known before a later question
   known : (a : Late) → IsKnownBefore es order w a → IsKnownBeforeFrom [] es order w a
   known late.Ensures h = h
   known late.Succeeds h = ensures h
 
+  -- and all that is said of an answer
   pub ensured_from : (budget : ℕ) (e : Ensured) → IsEnsured es order w budget e → IsEnsuredFrom [] es order w budget e
   ensured_from budget (ensured.First (first.Sure n s)) h = absurd h.unsure
   ensured_from budget (ensured.First (first.Differs n x)) h = record {

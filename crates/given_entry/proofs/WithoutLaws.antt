@@ -36,12 +36,14 @@ use Rattle.given_entry.proofs.EntryLaws.{one_order, ensures, missed, states, ent
 
 -- ---- what is needed to leave the guard out
 
+-- an answer of orders that differ has two orders
 pub first_orders : (es : List Program) (order : Relation) (w : Wanted) (budget : ℕ) (e : Ensured) → IsEnsured es order w budget e → IfFirst e (λ f. IfDiffers f HasTwoOrders)
 first_orders es order w budget (ensured.First f) h = two_orders es (Told (comes order)) f h.differs
 first_orders es order w budget (ensured.Holds n s v end) h = tt
 first_orders es order w budget (ensured.Fails n s x) h = tt
 first_orders es order w budget (ensured.Spent n s a f log) h = tt
 
+-- an answer of a graph that ensures the entry and succeeds has one order
 pub from_order : (es : List Program) (order : Relation) (w : Wanted) (budget : ℕ) (e : Ensured) → IsEnsured es order w budget e → IfFrom e HasOneOrder
 from_order es order w budget (ensured.First f) h = tt
 from_order es order w budget (ensured.Holds n s v (ends.From x)) h = end_laws.one_order es order x h.from
@@ -49,19 +51,23 @@ from_order es order w budget (ensured.Holds n s v (ends.Never u)) h = tt
 from_order es order w budget (ensured.Fails n s x) h = tt
 from_order es order w budget (ensured.Spent n s a f log) h = tt
 
+-- and so has one of a graph that doesn't ensure it
 pub fails_order : (es : List Program) (order : Relation) (w : Wanted) (budget : ℕ) (e : Ensured) → IsEnsured es order w budget e → IfFails e HasOneOrder
 fails_order es order w budget (ensured.First f) h = tt
 fails_order es order w budget (ensured.Holds n s v end) h = tt
 fails_order es order w budget (ensured.Fails n s x) h = one_order es order w x h.fails
 fails_order es order w budget (ensured.Spent n s a f log) h = tt
 
+-- what is said of the witness of success is said of what ends
 pub run_in : (n : ℕ) (s : Sure) (v : _) (end : Ends) (P : Witness → Type 0) → IfFrom (ensured.Holds n s v end) P → IfRun end P
 run_in n s v (ends.From x) P h = h
 run_in n s v (ends.Never u) P h = h
 
+-- the answer without the entry, with the guard left out, is the one of the run without it
 pub fails_are : (order : Relation) (e : Ensured) (n m : ℕ) (s : Sure) (x v : Witness) → e ≡ ensured.Fails n s x → m ≡ n - 1 → IsRunOf order x v → IsEnsuredWithout order e (ensured.Fails m s v)
 fails_are order e n m s x v is less run = subst (λ d. IsEnsuredWithout order d (ensured.Fails m s v)) (sym is) (v, run, ap (λ k. ensured.Fails k s v) less)
 
+-- and so is what ends in a tree
 pub from_is : (order : Relation) (end : Ends) (x v : Witness) → end ≡ ends.From x → IsRunOf order x v → AreEndsOf order end (ends.From v)
 from_is order end x v is run = subst (λ d. AreEndsOf order d (ends.From v)) (sym is) (v, run, refl)
 
@@ -73,14 +79,17 @@ module _ (given : List Path) (es : List Program) (order : Relation) (long : leng
     (few : (kept : List ℕ) → Keeps es (Told (comes order)) kept → length kept ≤ length es)
     (w : Wanted) (budget : ℕ) (more : Relation) (count : length (guarded given es) ≡ more.count) (before : comes more ≡ guard_before order.count (comes order))
     (turns whole : List ℕ) (is_first : IsFirstExtension order turns) (is_whole : IsFirstExtension more whole) where
+  -- what the budget was spent on with the guard it was spent on without it
   spent_on : (a : Late) (f : Formula) (steps : List Step) → IsDeterministicFrom given es (Told (comes order)) → IsSpentOn (guarded given es) more w budget a f steps → IsSpentOnFrom given es order w budget a f steps
   spent_on late.Ensures f steps d h = (states given es order long w more before d some count turns whole is_first is_whole f h.0, h.1)
   spent_on late.Succeeds f steps d h = (end_laws.states given es order long d more count before some turns whole is_first is_whole f h.0, h.1)
 
+  -- what is known with the guard is known from the trees in which the folders stand
   known : (a : Late) → IsKnownBefore (guarded given es) more w a → IsKnownBeforeFrom given es order w a
   known late.Ensures h = h
   known late.Succeeds h = ensures given es order long w more before h
 
+  -- all that is said of an answer with the guard is said of the answer without it
   said : (a b : Ensured) → IsEnsured (guarded given es) more w budget a → IsEnsuredWithout order a b → IsEnsuredFrom given es order w budget b
   said (ensured.First (first.Sure n s)) b h is = absurd h.unsure
   said (ensured.First (first.Differs n x)) b h is =
@@ -206,5 +215,6 @@ module _ (given : List Path) (es : List Program) (order : Relation) (long : leng
         known = known a h.known;
       })
 
+  -- and so it is of the programs that are those with the guard
   pub entry_from : (fs : List Program) (a b : Ensured) → fs ≡ guarded given es → IsEnsured fs more w budget a → IsEnsuredWithout order a b → IsEnsuredFrom given es order w budget b
   entry_from fs a b e h is = said a b (subst (λ gs. IsEnsured gs more w budget a) e h) is

@@ -18,26 +18,31 @@ use Rattle.given_verdict.proofs.NoneLaws.{difference}
 use Rattle.given_equal.specs.Questions.{StatesPartingFrom}
 use Rattle.given_equal.specs.Answers.{IsSettledFrom, IsUnsettledFrom, IsComparedFrom}
 
+-- where the list is told to be empty no folder is given
 pub none_given : (given : List Path) (b : Bool) → b ≡ (length given == 0) → b ≡ true → given ≡ []
 none_given [] b h k = refl
 none_given (p ∷ ps) b h k = let none = eqb-true (length (p ∷ ps)) 0 (sym h ∙ k) in absurd (omega (arith, none))
 
 module _ (es : List Program) (order : Relation) where
+  -- a graph that is deterministic is so from the trees of no given folders
   settled : (s : Settled) → IsSettled es order s → IsSettledFrom [] es order s
   settled s h = record { pruned = h.pruned; deterministic = (none.deterministic es (Told (comes order))).1 h.deterministic; alone = h.alone; proved = h.proved }
 
+  -- and one that isn't known to be so isn't from these
   unsettled : (budget : ℕ) (f : First) → IsUnsettled es order budget f → IsUnsettledFrom [] es order budget f
   unsettled budget (first.Sure n s) h = absurd h.unsure
   unsettled budget (first.Differs n x) h = record { unsure = tt; pruned = h.pruned; differs = difference es order x h.differs; spent = tt }
   unsettled budget (first.Spent n f log) h = record { unsure = tt; pruned = h.pruned; differs = tt; spent = h.spent }
 
 module _ (es : List Program) (order : Relation) (fs : List Program) (other : Relation) where
+  -- a formula that states the question states it from these
   states : (f : Formula) → StatesParting es order fs other f → StatesPartingFrom [] es order fs other f
   states f h d lay = (
     (λ sat. let p = (h d lay).0 sat in record { tree = p.tree; over = p.over; part = record { stand = tt; shows = p.part } }),
     (λ p. (h d lay).1 (record { tree = p.tree; over = p.over; part = p.part.shows })),
   )
 
+  -- and all that is said of an answer is said from these
   pub compared_from : (budget : ℕ) (c : Compared) → IsCompared es order fs other budget c → IsComparedFrom [] es order fs other budget c
   compared_from budget (compared.Left f) h = record {
     left = unsettled es order budget f h.left;

@@ -18,6 +18,7 @@ use Rattle.given_verdict.proofs.SideLaws.{fails_from, ends_from}
 use Rattle.given_equal.specs.Sizes.{joined}
 use Rattle.given_equal.specs.Questions.{FirstsPartFrom, StatesPartingFrom}
 
+-- where folders are given, the layout of both graphs is that of both with their guards
 layout_of_both : (given : List Path) (es fs : List Program) → given ≢ [] → (l : Layout) → IsLayout (joined given es fs) l → IsLayout (guarded given es ++ guarded given fs) l
 layout_of_both [] es fs some l h = absurd (some refl)
 layout_of_both (p ∷ ps) es fs some l h = h
@@ -26,6 +27,7 @@ module _ (given : List Path) (es : List Program) (order : Relation) (long : leng
     (count : length (guarded given es) ≡ more.count) (sure : IsDeterministicFrom given es (Told (comes order)))
     (fs : List Program) (other : Relation) (other_long : length fs ≡ other.count) (second : Relation) (other_before : comes second ≡ guard_before other.count (comes other))
     (other_count : length (guarded given fs) ≡ second.count) (other_sure : IsDeterministicFrom given fs (Told (comes other))) where
+  -- first extensions that part with the guards part from a tree in which the folders stand
   pub part : (first other_first : List ℕ) → IsFirstExtension order first → IsFirstExtension other other_first → (t : Tree) → FirstsPart (guarded given es) more (guarded given fs) second t → FirstsPartFrom given es order fs other t
   part first other_first is_first is_other_first t p = elim (stand_told given t) [
     | inl g ↦
@@ -39,6 +41,7 @@ module _ (given : List Path) (es : List Program) (order : Relation) (long : leng
     | inr n ↦ absurd (p.differ (fails_from given es order long more before count t n p.left p.left_first ∙ sym (fails_from given fs other other_long second other_before other_count t n p.right p.right_first)))
   ]
 
+  -- and where they do so from such a tree, they part with the guards
   part_back : (whole other_whole : List ℕ) → IsFirstExtension more whole → IsFirstExtension second other_whole → (t : Tree) → FirstsPartFrom given es order fs other t → FirstsPart (guarded given es) more (guarded given fs) second t
   part_back whole other_whole is_whole is_other_whole t p =
       let shows = p.shows in
@@ -49,6 +52,7 @@ module _ (given : List Path) (es : List Program) (order : Relation) (long : leng
 
   module _ (some : given ≢ []) (first whole other_first other_whole : List ℕ) (is_first : IsFirstExtension order first) (is_whole : IsFirstExtension more whole)
       (is_other_first : IsFirstExtension other other_first) (is_other_whole : IsFirstExtension second other_whole) where
+    -- a formula that states the question with the guards states it from these trees
     pub states : (f : Formula) → StatesParting (guarded given es) more (guarded given fs) second f → StatesPartingFrom given es order fs other f
     states f stated d lay =
         let exact = stated d (layout_of_both given es fs some (layout_of d) lay) in (

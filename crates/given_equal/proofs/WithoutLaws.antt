@@ -30,6 +30,7 @@ use Rattle.given_equal.proofs.PartLaws.{part, states}
 
 -- ---- what is needed to leave the guard out
 
+-- an answer of orders of the first graph that differ has two orders
 pub left_orders : (es : List Program) (order : Relation) (fs : List Program) (other : Relation) (budget : ℕ) (c : Compared) → IsCompared es order fs other budget c → IfLeft c (λ f. IfDiffers f HasTwoOrders)
 left_orders es order fs other budget (compared.Left f) h = two_orders es (Told (comes order)) f h.left.differs
 left_orders es order fs other budget (compared.Right l f) h = tt
@@ -37,6 +38,7 @@ left_orders es order fs other budget (compared.Equal l r v) h = tt
 left_orders es order fs other budget (compared.Differ l r t) h = tt
 left_orders es order fs other budget (compared.Spent l r f log) h = tt
 
+-- and so has one of the second
 pub right_orders : (es : List Program) (order : Relation) (fs : List Program) (other : Relation) (budget : ℕ) (c : Compared) → IsCompared es order fs other budget c → IfRight c (λ f. IfDiffers f HasTwoOrders)
 right_orders es order fs other budget (compared.Left f) h = tt
 right_orders es order fs other budget (compared.Right l f) h = two_orders fs (Told (comes other)) f h.right.differs
@@ -60,6 +62,7 @@ pub record Side (given : List Path) (es : List Program) (order more : Relation) 
   pub is_whole : IsFirstExtension more whole
 
 module _ (given : List Path) (some : given ≢ []) (es : List Program) (order more : Relation) (side : Side given es order more) where
+  -- a graph that is deterministic with the guard is so from the trees in which the folders stand
   settled : (s : Settled) → IsSettled (guarded given es) more s → IsSettledFrom given es order (without s)
   settled s h = record {
     pruned = pruned_from given es order side.long more side.before some side.kept_by side.one side.few s.pruned h.pruned;
@@ -68,6 +71,7 @@ module _ (given : List Path) (some : given ≢ []) (es : List Program) (order mo
     proved = proved_from given es order side.long more side.before some s.sure h.proved;
   }
 
+  -- and one that isn't known to be so with the guard isn't from these
   unsettled : (budget : ℕ) (f a : First) → IsUnsettled (guarded given es) more budget f → IsAnswerWithout f a → IsUnsettledFrom given es order budget a
   unsettled budget (first.Sure n s) a h is = absurd h.unsure
   unsettled budget (first.Differs n x) a h is = subst (IsUnsettledFrom given es order budget) (sym is.2) (record {
@@ -87,11 +91,13 @@ module _ (given : List Path) (some : given ≢ []) (es : List Program) (order mo
 
 module _ (given : List Path) (some : given ≢ []) (es : List Program) (order more : Relation) (side : Side given es order more)
     (fs : List Program) (other second : Relation) (other_side : Side given fs other second) (budget : ℕ) where
+  -- a formula that states the question with the guards states it from these
   states_of : IsDeterministicFrom given es (Told (comes order)) → IsDeterministicFrom given fs (Told (comes other)) → (f : Formula) → StatesParting (guarded given es) more (guarded given fs) second f → StatesPartingFrom given es order fs other f
   states_of sure other_sure f h =
       states given es order side.long more side.before side.count sure fs other other_side.long second other_side.before other_side.count other_sure some side.first side.whole other_side.first other_side.whole
       side.is_first side.is_whole other_side.is_first other_side.is_whole f h
 
+  -- all that is said of an answer with the guards is said of the answer without them
   said : (a b : Compared) → IsCompared (guarded given es) more (guarded given fs) second budget a → IsComparedWithout a b → IsComparedFrom given es order fs other budget b
   said (compared.Left f) b h is = subst (IsComparedFrom given es order fs other budget) (sym is.2) (record {
     left = unsettled given some es order more side budget f is.0 h.left is.1;
@@ -153,5 +159,6 @@ module _ (given : List Path) (some : given ≢ []) (es : List Program) (order mo
         spent = (states_of one.deterministic two.deterministic f h.spent.0, h.spent.1);
       })
 
+  -- and so it is of the programs that are those with the guards
   pub both_from : (gs ks : List Program) (a b : Compared) → gs ≡ guarded given es → ks ≡ guarded given fs → IsCompared gs more ks second budget a → IsComparedWithout a b → IsComparedFrom given es order fs other budget b
   both_from gs ks a b d e h is = said a b (subst (λ xs. IsCompared (guarded given es) more xs second budget a) e (subst (λ xs. IsCompared xs more ks second budget a) d h)) is

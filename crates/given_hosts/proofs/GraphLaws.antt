@@ -10,29 +10,37 @@ use Rattle.given_hosts.specs.Given.{Stand, IsGivenTree, IsDeterministicFrom, IsI
 use Rattle.given_hosts.specs.Guard.{guard, guarded, GoesFirst}
 use Rattle.given_hosts.proofs.GuardLaws.{stand_told, ends_where_stand, fails_elsewhere, in_front, guard_first}
 
+-- a run that ends in a tree doesn't end in Error
 some_not_none : (r : Outcome) → IsSome r → r ≡ None → ⊥
 some_not_none None h e = cc
 some_not_none (Some u) h e = cc
 
+-- and one that ends in Error ends in no tree
 none_not_some : (r : Outcome) (u : Tree) → r ≡ None → r ≡ Some u → ⊥
 none_not_some r u h e = cc
 
+-- the guard is one program more
 pub longer : (given : List Path) (es : List Program) → length (guarded given es) ≡ length es + 1
 longer given es = length-append es (guard given ∷ [])
 
 module _ (given : List Path) (es : List Program) (before after : ℕ → ℕ → Bool) (first : GoesFirst (length es) before after) where
+  -- the guard and then an allowed order is an allowed order with it
   pub guarded_order : (p : List ℕ) → IsLinearExtension (length es) (Told before) p → IsLinearExtension (length (guarded given es)) (Told after) (length es ∷ p)
   guarded_order p l = subst (λ n. IsLinearExtension n (Told after) (length es ∷ p)) (sym (longer given es)) (in_front (length es) before after first p l)
 
+  -- and each allowed order with the guard is the guard and then an allowed one
   pub order_behind : (o : List ℕ) → IsLinearExtension (length (guarded given es)) (Told after) o → (p : List ℕ) × (o ≡ length es ∷ p) × IsLinearExtension (length es) (Told before) p
   order_behind o l = guard_first (length es) before after first o (subst (λ n. IsLinearExtension n (Told after) o) (longer given es) l)
 
+  -- where the given folders stand, a run behind the guard ends as one without it
   same_where_stand : (t : Tree) (p : List ℕ) → Stand given t → IsLinearExtension (length es) (Told before) p → outcome (guarded given es) (length es ∷ p) t ≡ outcome es p t
   same_where_stand t p h l = ends_where_stand given es p t l.below h
 
+  -- the same order ends alike
   same_end : (o p : List ℕ) (t : Tree) → o ≡ p → outcome (guarded given es) o t ≡ outcome (guarded given es) p t
   same_end o p t e = ap (λ q. outcome (guarded given es) q t) e
 
+  -- with the guard all orders end alike exactly where they do from the trees in which the given folders stand
   pub deterministic : IsDeterministic (guarded given es) (Told after) ↔ IsDeterministicFrom given es (Told before)
   deterministic = (
     (λ h t g o p a b.
@@ -66,6 +74,7 @@ module _ (given : List Path) (es : List Program) (before after : ℕ → ℕ →
     | inr n ↦ absurd (h (same_end o (length es ∷ l.0) t l.1 ∙ fails_elsewhere given es l.0 t n))
   ]
 
+  -- with the guard some run ends in a tree exactly where one does from a tree in which they stand
   pub succeeds : Succeeds (guarded given es) (Told after) ↔ SucceedsFrom given es (Told before)
   succeeds = (
     (λ s.
@@ -88,6 +97,7 @@ module _ (given : List Path) (es : List Program) (before after : ℕ → ℕ →
       let same : o ≡ b.0 = cc in
       subst (IsLinearExtension (length es) (Told before)) (sym same) b.2
 
+  -- a counterexample with the guard is one from a tree in which they stand
   pub counterexample : (t : Tree) (o p : List ℕ) → IsCounterexample (guarded given es) (Told after) t (length es ∷ o) (length es ∷ p) ↔ IsCounterexampleFrom given es (Told before) t o p
   counterexample t o p = (
     (λ c.
@@ -128,12 +138,14 @@ module _ (given : List Path) (es : List Program) (before after : ℕ → ℕ →
 pub none_to_stand : (t : Tree) → IsTree t → IsGivenTree [] t
 none_to_stand t h = record { is_tree = h; stand = tt }
 
+-- with the guard all runs end in trees that pass exactly where they do from the trees in which they stand
 pub ends_with : (given : List Path) (es : List Program) (before after : ℕ → ℕ → Bool) → GoesFirst (length es) before after → (passes : Tree → Bool)
     → EndsWithFrom [] (guarded given es) (Told after) passes ↔ EndsWithFrom given es (Told before) passes
 ends_with given es before after first passes =
     let l = leaves given es before after first (λ u. IsTrue (passes u)) in
     ((λ h. l.0 (λ t tree. h t (none_to_stand t tree))), (λ h t g. l.1 h t g.is_tree))
 
+-- with the guard the graphs are equal exactly where they are from the trees in which they stand
 pub equal : (given : List Path) (es fs : List Program) (before after other guarded_other : ℕ → ℕ → Bool) → GoesFirst (length es) before after → GoesFirst (length fs) other guarded_other
     → AreEqualFrom [] (guarded given es) (Told after) (guarded given fs) (Told guarded_other) ↔ AreEqualFrom given es (Told before) fs (Told other)
 equal given es fs before after other guarded_other first second = (
@@ -155,12 +167,15 @@ equal given es fs before after other guarded_other first second = (
 -- ---- exchanges
 
 module _ (n : ℕ) (before after : ℕ → ℕ → Bool) (first : GoesFirst n before after) where
+  -- programs that are free with the guard are free without it
   free_before : (a b : ℕ) → a < n → b < n → IsFree (Told after) a b → IsFree (Told before) a b
   free_before a b x y f = record { differ = f.differ; not_before = λ h. f.not_before ((first.others a b x y).1 h); not_after = λ h. f.not_after ((first.others b a y x).1 h) }
 
+  -- and those that are free without it are free with it
   free_after : (a b : ℕ) → a < n → b < n → IsFree (Told before) a b → IsFree (Told after) a b
   free_after a b x y f = record { differ = f.differ; not_before = λ h. f.not_before ((first.others a b x y).0 h); not_after = λ h. f.not_after ((first.others b a y x).0 h) }
 
+  -- an exchange behind the guard is one without it
   within : (front : List ℕ) (left right : ℕ) (back o p : List ℕ) → AllByRecursion (λ k. k < n) o → n ∷ o ≡ front ++ left ∷ right ∷ back → n ∷ p ≡ front ++ right ∷ left ∷ back
       → IsFree (Told after) left right → IsExchange (Told before) o p
   within [] left right back o p below was is f =
@@ -173,6 +188,7 @@ module _ (n : ℕ) (before after : ℕ → ℕ → Bool) (first : GoesFirst n be
       let two = all_back (λ k. k < n) front (left ∷ right ∷ back) (subst (AllByRecursion (λ k. k < n)) a below) in
       record { front = front; left = left; right = right; back = back; was = a; is = b; free = free_before left right two.0 two.1.0 f }
 
+  -- behind the guard orders differ by an exchange exactly where they do without it
   pub exchange : (o p : List ℕ) → IsLinearExtension n (Told before) o → IsExchange (Told after) (n ∷ o) (n ∷ p) ↔ IsExchange (Told before) o p
   exchange o p l = (
     (λ e. within e.front e.left e.right e.back o p l.below e.was e.is e.free),

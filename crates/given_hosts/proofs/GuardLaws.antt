@@ -13,6 +13,7 @@ use Rattle.given_hosts.specs.Guard.{need, need_all, guard, guarded, guard_before
 
 -- ---- the guard by itself
 
+-- nothing is both true and false
 off : (b : Bool) → b ≡ false → b ≡ true → ⊥
 off true h k = cc
 off false h k = cc
@@ -25,18 +26,22 @@ stand_told (p ∷ given) t = elim (is_dir t p) as (λ b. is_dir t p ≡ b → St
   | false ↦ λ e. inr (λ h. off (is_dir t p) e h.0)
 ] refl
 
+-- a folder that stands is found, and nothing changes
 found : (p : Path) (t : Tree) → is_dir t p ≡ true → run (need p) t ≡ Some t
 found p t h =
     ap (λ b. and_then (cond b (Some t) None) (λ u. and_then (cond (is_dir u p) (Some u) (run (Mkdir p) u)) (λ v. Some v))) h
     ∙ ap (λ b. and_then (cond b (Some t) (run (Mkdir p) t)) (λ v. Some v)) h
 
+-- where it doesn't stand the need for it ends in Error
 lacks : (p : Path) (t : Tree) → is_dir t p ≡ false → run (need p) t ≡ None
 lacks p t h = ap (λ b. and_then (cond b (Some t) None) (λ u. and_then (cond (is_dir u p) (Some u) (run (Mkdir p) u)) (λ v. Some v))) h
 
+-- the guard changes nothing where the given folders stand
 pub guard_stands : (given : List Path) (t : Tree) → Stand given t → run (guard given) t ≡ Some t
 guard_stands [] t h = refl
 guard_stands (p ∷ given) t h = ap (λ r. and_then r (run_all (need_all given))) (found p t h.0) ∙ guard_stands given t h.1
 
+-- and ends in Error where one doesn't
 pub guard_fails : (given : List Path) (t : Tree) → (Stand given t → ⊥) → run (guard given) t ≡ None
 guard_fails [] t n = absurd (n tt)
 guard_fails (p ∷ given) t n = elim (is_dir t p) as (λ b. is_dir t p ≡ b → run_all (need_all (p ∷ given)) t ≡ None) [
@@ -46,11 +51,13 @@ guard_fails (p ∷ given) t n = elim (is_dir t p) as (λ b. is_dir t p ≡ b →
 
 -- ---- behind the programs
 
+-- the programs ahead stand where they stood
 ahead : (xs ys : List Program) (i : ℕ) → i < length xs → get_or (xs ++ ys) i Id ≡ get_or xs i Id
 ahead [] ys i h = absurd (omega (arith, h))
 ahead (x ∷ xs) ys zero h = refl
 ahead (x ∷ xs) ys (suc i) h = ahead xs ys i (omega (arith, h))
 
+-- what is put last stands at the end
 pub last_one : (xs : List Program) (y : Program) → get_or (xs ++ y ∷ []) (length xs) Id ≡ y
 last_one [] y = refl
 last_one (x ∷ xs) y = last_one xs y
@@ -62,19 +69,23 @@ outcome_ahead es more (k ∷ o) t h =
     ap (λ e. and_then (run e t) (outcome (es ++ more) o)) (ahead es more k h.0)
     ∙ ap (and_then (run (get_or es k Id) t)) (λ n u. outcome_ahead es more o u h.1 n)
 
+-- an order with the guard in front runs the guard, and then the rest
 pub outcome_guarded : (given : List Path) (es : List Program) (o : List ℕ) (t : Tree)
     → outcome (guarded given es) (length es ∷ o) t ≡ and_then (run (guard given) t) (outcome (guarded given es) o)
 outcome_guarded given es o t = ap (λ e. and_then (run e t) (outcome (guarded given es) o)) (last_one es (guard given))
 
+-- where the given folders stand, an order behind the guard ends as it does without it
 pub ends_where_stand : (given : List Path) (es : List Program) (o : List ℕ) (t : Tree) → AllByRecursion (λ k. k < length es) o
     → Stand given t → outcome (guarded given es) (length es ∷ o) t ≡ outcome es o t
 ends_where_stand given es o t below h =
     outcome_guarded given es o t ∙ ap (λ r. and_then r (outcome (guarded given es) o)) (guard_stands given t h) ∙ outcome_ahead es (guard given ∷ []) o t below
 
+-- and elsewhere it ends in Error
 pub fails_elsewhere : (given : List Path) (es : List Program) (o : List ℕ) (t : Tree)
     → (Stand given t → ⊥) → outcome (guarded given es) (length es ∷ o) t ≡ None
 fails_elsewhere given es o t h = outcome_guarded given es o t ∙ ap (λ r. and_then r (outcome (guarded given es) o)) (guard_fails given t h)
 
+-- proper programs are so with the guard of proper paths
 pub proper_with : (given : List Path) (es : List Program) → AllByRecursion (AllByRecursion IsSegment) given → AllByRecursion IsProper es → AllByRecursion IsProper (guarded given es)
 proper_with given [] k h = (proper_guard given k, tt)
   where
@@ -86,26 +97,32 @@ proper_with given (e ∷ es) k h = (h.0, proper_with given es k h.1)
 -- ---- its place
 
 module _ (n : ℕ) (before after : ℕ → ℕ → Bool) (first : GoesFirst n before after) where
+  -- programs of which none must come before another with the guard needn't without it
   less_ahead : (k : ℕ) (o : List ℕ) → k < n → AllByRecursion (λ j. j < n) o → AllByRecursion (λ a. Told after a k → ⊥) o → AllByRecursion (λ a. Told before a k → ⊥) o
   less_ahead k [] low below h = tt
   less_ahead k (j ∷ o) low below h = ((λ b. h.0 ((first.others j k below.0 low).1 b)), less_ahead k o low below.1 h.1)
 
+  -- and those that needn't without it needn't with it
   more_ahead : (k : ℕ) (o : List ℕ) → k < n → AllByRecursion (λ j. j < n) o → AllByRecursion (λ a. Told before a k → ⊥) o → AllByRecursion (λ a. Told after a k → ⊥) o
   more_ahead k [] low below h = tt
   more_ahead k (j ∷ o) low below h = ((λ b. h.0 ((first.others j k below.0 low).0 b)), more_ahead k o low below.1 h.1)
 
+  -- an order that is kept with the guard is kept without it
   kept_before : (o : List ℕ) → AllByRecursion (λ j. j < n) o → NoneAhead (Told after) o → NoneAhead (Told before) o
   kept_before [] below h = tt
   kept_before (k ∷ o) below h = (less_ahead k o below.0 below.1 h.0, kept_before o below.1 h.1)
 
+  -- and one that is kept without it is kept with it
   kept_after : (o : List ℕ) → AllByRecursion (λ j. j < n) o → NoneAhead (Told before) o → NoneAhead (Told after) o
   kept_after [] below h = tt
   kept_after (k ∷ o) below h = (more_ahead k o below.0 below.1 h.0, kept_after o below.1 h.1)
 
+  -- no program comes before the guard
   none_behind : (o : List ℕ) → AllByRecursion (λ j. j < n) o → AllByRecursion (λ a. Told after a n → ⊥) o
   none_behind [] below = tt
   none_behind (k ∷ o) below = let low : k < n = below.0 in ((λ b. first.never_behind k (omega arith) b), none_behind o below.1)
 
+  -- numbers below a bound are below one more
   below_more : (o : List ℕ) → AllByRecursion (λ j. j < n) o → AllByRecursion (λ j. j < n + 1) o
   below_more [] h = tt
   below_more (k ∷ o) h = let low : k < n = h.0 in (omega arith, below_more o h.1)
@@ -121,6 +138,7 @@ module _ (n : ℕ) (before after : ℕ → ℕ → Bool) (first : GoesFirst n be
     kept = (none_behind o l.below, kept_after o l.below l.kept);
   }
 
+  -- nothing stands ahead of the guard
   off_front : (front back : List ℕ) → IsLinearExtension (n + 1) (Told after) (front ++ n ∷ back) → front ≡ []
   off_front [] back l = refl
   off_front (k ∷ front) back l =
@@ -145,6 +163,7 @@ module _ (n : ℕ) (before after : ℕ → ℕ → Bool) (first : GoesFirst n be
         kept = kept_before back below l.kept.1;
       }
 
+  -- an allowed order with the guard is the guard and then an allowed one
   pub guard_first : (o : List ℕ) → IsLinearExtension (n + 1) (Told after) o → (p : List ℕ) × (o ≡ n ∷ p) × IsLinearExtension n (Told before) p
   guard_first o l =
       let split = times_found n o (omega (arith, l.once n (omega arith))) in
@@ -154,14 +173,17 @@ module _ (n : ℕ) (before after : ℕ → ℕ → Bool) (first : GoesFirst n be
 
 -- ---- the order with the guard in front
 
+-- a conjunction of two that are true is true
 joined : (a b : Bool) → a ≡ true → b ≡ true → (a && b) ≡ true
 joined true b h k = k
 joined false b h k = cc
 
+-- of a conjunction that is true both sides are true
 both : (a b : Bool) → (a && b) ≡ true → (a ≡ true) × (b ≡ true)
 both true b h = (refl, h)
 both false b h = cc
 
+-- the order that is made with the guard has it first
 pub goes_first : (n : ℕ) (before : ℕ → ℕ → Bool) → GoesFirst n before (guard_before n before)
 goes_first n before = record {
   first = λ b h. joined (nat_lt b n) ((n == n) || before n b) (lt-ltb b n h) (ap (λ v. v || before n b) (eq-eqb n n refl));

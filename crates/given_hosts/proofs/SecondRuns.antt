@@ -12,13 +12,16 @@ use Rattle.given_hosts.specs.Given.{Stand, IsGivenTree, IsDeterministicFrom, IsI
 use Rattle.given_hosts.specs.Guard.{GoesFirst, steps_in, first_run, after_first, KeepsGiven}
 use Rattle.given_hosts.proofs.GuardLaws.{stand_told, guard_stands, guard_fails, last_one, outcome_ahead, in_front, guard_first}
 
+-- the steps of an order end as the order does
 steps_are : (es : List Program) (o : List ℕ) (t : Tree) → run_all (steps_in es o) t ≡ outcome es o t
 steps_are es [] t = refl
 steps_are es (i ∷ o) t = ap (and_then (run (get_or es i Id) t)) (λ n u. steps_are es o u n)
 
+-- where the given folders stand, the first run as one program ends as the order does
 pub first_stands : (given : List Path) (es : List Program) (o : List ℕ) (t : Tree) → Stand given t → run (first_run given es o) t ≡ outcome es o t
 first_stands given es o t h = ap (λ r. and_then r (run_all (steps_in es o))) (guard_stands given t h) ∙ steps_are es o t
 
+-- and elsewhere it ends in Error
 pub first_fails : (given : List Path) (es : List Program) (o : List ℕ) (t : Tree) → (Stand given t → ⊥) → run (first_run given es o) t ≡ None
 first_fails given es o t h = ap (λ r. and_then r (run_all (steps_in es o))) (guard_fails given t h)
 
@@ -34,6 +37,7 @@ behind_first given es first o t below =
     ap (λ e. and_then (run e t) (outcome (after_first given es first) o)) (last_one es (first_run given es first))
     ∙ ap (and_then (run (first_run given es first) t)) (λ n u. outcome_ahead es (first_run given es first ∷ []) o u below n)
 
+-- of two outcomes that differ one differs from a third
 differs_or_not : (a b c : Outcome) → (a ≡ b → ⊥) → (a ≢ c) ⊎ (b ≢ c)
 differs_or_not a b c h = elim (outcome_told a c) [
   | inl e ↦ inr (λ k. h (e ∙ sym k))
@@ -51,12 +55,14 @@ module _ (given : List Path) (es : List Program) (before : ℕ → ℕ → Bool)
     ]),
   )
 
+  -- where no program removes a given folder, the folders stand after a run
   leaves_given : (o : List ℕ) (t u : Tree) → ((i : ℕ) → KeepsGiven given (get_or es i Id)) → Stand given t → outcome es o t ≡ Some u → Stand given u
   leaves_given [] t u keep h done = let same : t ≡ u = cc in subst (Stand given) same h
   leaves_given (i ∷ o) t u keep h done =
       let step = split_then (run (get_or es i Id) t) (outcome es o) u done in
       leaves_given o step.0 u keep (keep i t step.0 h step.1) step.2
 
+  -- what holds of all programs, and of the one that does nothing, holds of the one with a number
   all_at : (Q : Program → Type 0) (fs : List Program) → AllByRecursion Q fs → Q Id → (i : ℕ) → Q (get_or fs i Id)
   all_at Q [] all id i = id
   all_at Q (e ∷ fs) all id zero = all.0
@@ -75,24 +81,30 @@ module _ (given : List Path) (es : List Program) (before : ℕ → ℕ → Bool)
       ]
 
   module _ (first : List ℕ) (allowed : IsLinearExtension (length es) (Told before) first) (after : ℕ → ℕ → Bool) (goes : GoesFirst (length es) before after) where
+    -- the first run is one program more
     longer : length (after_first given es first) ≡ length es + 1
     longer = length-append es (first_run given es first ∷ [])
 
+    -- an allowed order with the first run is the first run and then an allowed one
     order_behind : (o : List ℕ) → IsLinearExtension (length (after_first given es first)) (Told after) o → (p : List ℕ) × (o ≡ length es ∷ p) × IsLinearExtension (length es) (Told before) p
     order_behind o l = guard_first (length es) before after goes o (subst (λ n. IsLinearExtension n (Told after) o) longer l)
 
+    -- and it ends as that order does behind the first run
     ends_behind : (o p : List ℕ) (t : Tree) → o ≡ length es ∷ p → IsLinearExtension (length es) (Told before) p
         → outcome (after_first given es first) o t ≡ and_then (run (first_run given es first) t) (outcome es p)
     ends_behind o p t e l = ap (λ q. outcome (after_first given es first) q t) e ∙ behind_first given es first p t l.below
 
+    -- where the given folders stand, it ends as that order does behind the first order
     where_stand : (o p : List ℕ) (t : Tree) → o ≡ length es ∷ p → IsLinearExtension (length es) (Told before) p → Stand given t
         → outcome (after_first given es first) o t ≡ and_then (outcome es first t) (outcome es p)
     where_stand o p t e l h = ends_behind o p t e l ∙ ap (λ r. and_then r (outcome es p)) (first_stands given es first t h)
 
+    -- and elsewhere it ends in Error
     elsewhere : (o p : List ℕ) (t : Tree) → o ≡ length es ∷ p → IsLinearExtension (length es) (Told before) p → (Stand given t → ⊥)
         → outcome (after_first given es first) o t ≡ None
     elsewhere o p t e l h = ends_behind o p t e l ∙ ap (λ r. and_then r (outcome es p)) (first_fails given es first t h)
 
+    -- where no second run changes anything, all orders behind the first run end alike
     alike : IsIdempotentFrom given es (Told before) → IsDeterministic (after_first given es first) (Told after)
     alike h t tree o p a b =
         let l = order_behind o a in
@@ -105,6 +117,7 @@ module _ (given : List Path) (es : List Program) (before : ℕ → ℕ → Bool)
           | inr n ↦ elsewhere o l.0 t l.1 l.2 n ∙ sym (elsewhere p r.0 t r.1 r.2 n)
         ]
 
+    -- the first run and then an allowed order is an allowed order
     front : (p : List ℕ) → IsLinearExtension (length es) (Told before) p → IsLinearExtension (length (after_first given es first)) (Told after) (length es ∷ p)
     front p l = subst (λ n. IsLinearExtension n (Told after) (length es ∷ p)) (sym longer) (in_front (length es) before after goes p l)
 
@@ -113,6 +126,7 @@ module _ (given : List Path) (es : List Program) (before : ℕ → ℕ → Bool)
         → outcome (after_first given es first) (length es ∷ p) t ≡ outcome es p u
     from_end p t u g l done = where_stand (length es ∷ p) p t refl l g ∙ ap (λ r. and_then r (outcome es p)) done
 
+    -- where those end alike, and the second run in the first order changes nothing, none does
     settled : IsDeterministic (after_first given es first) (Told after) → ((t : Tree) → IsSecondRunCounterexampleFrom given es (Told before) t first → ⊥)
         → IsIdempotentFrom given es (Told before)
     settled alike h t g o p a b u done =
@@ -130,10 +144,12 @@ module _ (given : List Path) (es : List Program) (before : ℕ → ℕ → Bool)
       (λ h. settled h.0 h.1),
     )
 
+    -- an outcome is Error or a tree
     ended : (r : Outcome) → (r ≡ None) ⊎ ((u : Tree) × (r ≡ Some u))
     ended None = inl refl
     ended (Some u) = inr (u, refl)
 
+    -- a second run that changes what the first order left is shown in some order
     shown : (t u : Tree) (o : List ℕ) → IsGivenTree given t → IsLinearExtension (length es) (Told before) o → outcome es first t ≡ Some u → outcome es o u ≢ Some u
         → IsSecondRunCounterexampleFrom given es (Told before) t o
     shown t u o g l done n = record { stand = g.stand; shows = record { is_tree = g.is_tree; allowed = l; after = u; ends = sure t g o first l allowed ∙ done; changes = n } }

@@ -22,6 +22,7 @@ steps_alike links (f ∷ fs) (e ∷ es) h =
 -- ---- what they speak of
 
 module _ (f : Path → Path) where
+  -- what a test with other paths mentions is what the test mentioned, with the other path in place
   test_to : (a : Test) (y : Matter) → TestMentions (test_with f a) y → (x : Matter) × TestMentions a x × (y ≡ matter_with f x)
   test_to True y h = absurd h
   test_to False y h = absurd h
@@ -36,6 +37,7 @@ module _ (f : Path → Path) where
   test_to (IsEmpty p) y h = (Below p, refl, h)
   test_to (IsNone p) y h = (At p, refl, h)
 
+  -- and what a test mentions is mentioned with the other path in place
   test_back : (a : Test) (x y : Matter) → TestMentions a x → y ≡ matter_with f x → TestMentions (test_with f a) y
   test_back True x y h e = absurd h
   test_back False x y h e = absurd h
@@ -51,6 +53,7 @@ module _ (f : Path → Path) where
   test_back (IsNone p) x y h e = e ∙ ap (matter_with f) h
 
   mutual
+    -- what a program with other paths mentions is what the program mentioned, with the other path in place
     to : (e : Program) (y : Matter) → Mentions (program_with f e) y → (x : Matter) × Mentions e x × (y ≡ matter_with f x)
     to Id y h = absurd h
     to Err y h = absurd h
@@ -67,12 +70,14 @@ module _ (f : Path → Path) where
     to (If a d e) y (inr (inl h)) = let r = to d y h in (r.0, inr (inl r.1), r.2)
     to (If a d e) y (inr (inr h)) = let r = to e y h in (r.0, inr (inr r.1), r.2)
 
+    -- and so it is with steps
     to_in : (es : Programs) (y : Matter) → StepsMention (steps_with f es) y → (x : Matter) × StepsMention es x × (y ≡ matter_with f x)
     to_in none y h = absurd h
     to_in (next e es) y (inl h) = let r = to e y h in (r.0, inl r.1, r.2)
     to_in (next e es) y (inr h) = let r = to_in es y h in (r.0, inr r.1, r.2)
 
   mutual
+    -- and what a program mentions is mentioned with the other path in place
     back : (e : Program) (x y : Matter) → Mentions e x → y ≡ matter_with f x → Mentions (program_with f e) y
     back Id x y h k = absurd h
     back Err x y h k = absurd h
@@ -89,16 +94,19 @@ module _ (f : Path → Path) where
     back (If a d e) x y (inr (inl h)) k = inr (inl (back d x y h k))
     back (If a d e) x y (inr (inr h)) k = inr (inr (back e x y h k))
 
+    -- and so it is with steps
     back_in : (es : Programs) (x y : Matter) → StepsMention es x → y ≡ matter_with f x → StepsMention (steps_with f es) y
     back_in none x y h k = absurd h
     back_in (next e es) x y (inl h) k = inl (back e x y h k)
     back_in (next e es) x y (inr h) k = inr (back_in es x y h k)
 
+-- what a program that is read mentions is what the program did, each path as it is read
 pub mentions : (links : List GivenLink) (e : Program) (y : Matter) → Mentions (program_read_as links e) y ↔ ((x : Matter) × Mentions e x × (y ≡ matter_with (read_as links) x))
 mentions links e y = ((λ h. to (read_as links) e y h), (λ r. back (read_as links) e r.0 y r.1 r.2))
 
 -- ---- without links
 
+-- without links a test is read as itself
 test_same : (a : Test) → test_with (read_as []) a ≡ a
 test_same True = refl
 test_same False = refl
@@ -112,6 +120,7 @@ test_same (IsEmpty p) = ap IsEmpty (no_link p)
 test_same (IsNone p) = ap IsNone (no_link p)
 
 mutual
+  -- without links a program is read as itself
   pub same : (e : Program) → program_read_as [] e ≡ e
   same Id = refl
   same Err = refl
@@ -123,6 +132,7 @@ mutual
   same (Steps es) = ap Steps (same_steps es)
   same (If a d e) = (λ i. If (test_same a i) (same d i) (same e i))
 
+  -- and so are steps
   same_steps : (es : Programs) → steps_with (read_as []) es ≡ es
   same_steps none = refl
   same_steps (next e es) = ap₂ next (same e) (same_steps es)

@@ -20,12 +20,14 @@ use Rattle.repair.specs.declared.repaired.Repaired.TheVariants as repaired
 use Rattle.given_repair.specs.Repairs.{RepairsFrom, AreNeededFrom, PointRightFrom, IsSpentWithFrom, IsRepairedFrom}
 use Rattle.given_repair.proofs.RunLaws.{Followed, goes, can_be_added, behind, deterministic_from, deterministic_with}
 
+-- a run that ends in a tree doesn't end in Error
 some_not_none : (r : Outcome) → IsSome r → r ≡ None → ⊥
 some_not_none None h e = cc
 some_not_none (Some u) h e = cc
 
 -- ---- where no folder is given
 module _ (es : List Program) (order : Relation) where
+  -- arrows that point the way that succeeds do so from the trees of no given folders
   right_of_none : (arrows : List (ℕ × ℕ)) → PointRight es order arrows → PointRightFrom [] es order arrows
   right_of_none arrows r = record {
     tree = r.tree;
@@ -38,6 +40,7 @@ module _ (es : List Program) (order : Relation) where
     differ = r.differ;
   }
 
+  -- and all that is said of an answer is said from these
   pub repaired_of_none : (budget : ℕ) (a : Repaired) → IsRepaired es order budget a → IsRepairedFrom [] es order budget a
   repaired_of_none budget (repaired.Done arrows) h = record {
     added = h.added;
@@ -60,6 +63,7 @@ module _ (es : List Program) (order : Relation) where
   }
 
 -- ---- where some are
+-- what the budget was spent on with the guard it was spent on from the trees in which the folders stand
 spent_of_guarded : (given : List Path) (es : List Program) (order more : Relation) → given ≢ [] → comes more ≡ guard_before order.count (comes order) → (budget : ℕ) (arrows : List (ℕ × ℕ)) (f : Formula) (steps : List Step)
     → IsSpentWith (guarded given es) more budget arrows f steps → IsSpentWithFrom given es order budget arrows f steps
 spent_of_guarded [] es order more some before budget arrows f steps h = absurd (some refl)
@@ -67,6 +71,7 @@ spent_of_guarded (p ∷ ps) es order more some before budget arrows f steps h = 
 
 module _ (given : List Path) (es : List Program) (order more : Relation) (long : length es ≡ order.count) (strict : IsStrictOrder order)
     (strict_more : IsStrictOrder more) (count : more.count ≡ order.count + 1) (before : comes more ≡ guard_before order.count (comes order)) (followed : Followed) where
+  -- arrows that point the way that succeeds with the guard do so from these
   right_from : (arrows : List (ℕ × ℕ)) → PointRight (guarded given es) more arrows → PointRightFrom given es order arrows
   right_from arrows r =
       let l = behind given es order more long strict strict_more count before arrows r.run r.follows in
@@ -90,6 +95,7 @@ module _ (given : List Path) (es : List Program) (order more : Relation) (long :
         | inr n ↦ absurd (some_not_none (outcome (guarded given es) r.run r.tree) r.ends (left ∙ fails_elsewhere given es l.0 r.tree n))
       ]
 
+  -- and all that is said of an answer with the guard is said from these
   pub repaired_of_guarded : given ≢ [] → (budget : ℕ) (a : Repaired) → IsRepaired (guarded given es) more budget a → IsRepairedFrom given es order budget a
   repaired_of_guarded some budget (repaired.Done arrows) h =
       let same = deterministic given es (comes order) (comes more) (goes given es order more long strict strict_more count before) in

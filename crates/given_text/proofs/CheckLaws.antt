@@ -6,6 +6,7 @@ use Rattle.fs_semantics.proofs.Trees.{path_eq_word}
 use Rattle.fs_semantics.specs.Disjoint.{IsAncestor}
 use Rattle.given_links.specs.Links.{IsWithin}
 
+-- a path is another or below it exactly where the two are the same or the other is above it
 pub within_where : (p q : Path) → IsWithin p q ↔ ((p ≡ q) ⊎ IsAncestor q p)
 within_where p q = ((λ w. at w.0 w.1), back)
   where

@@ -15,6 +15,7 @@ use Rattle.given_text.specs.Reading.{link_with, link_of, links_of, links_in, is_
 
 -- ---- links
 
+-- a link that is read of a member is the member's link
 link_is : (key : List ℕ) (d : Data) (l : GivenLink) → link_of key d ≡ Some l → IsProperLink l → IsLinkOf l key d
 link_is key d l h s =
     let path = step (managed_path key) (λ p. option_map (link_with p) (path_of d)) l h in
@@ -25,11 +26,13 @@ link_is key d l h s =
       path_is d l.target (target.1 ∙ ap (λ p. Some p) to) s.1,
     )
 
+-- and a member's link is read of it
 link_back : (key : List ℕ) (d : Data) (l : GivenLink) → IsLinkOf l key d → link_of key d ≡ Some l
 link_back key d l h =
     taken (managed_path key) (λ p. option_map (link_with p) (path_of d)) l.path (path_back (string key) l.path h.0)
     ∙ ap (option_map (link_with l.path)) (path_back d l.target h.1)
 
+-- links that are read of members are those of the members
 links_are : (members : Members) (links : List GivenLink) → links_of members ≡ Some links → AllByRecursion IsProperLink links → AreLinksOf links members
 links_are no_members links h s = subst (λ ls. AreLinksOf ls no_members) (same_some [] links h) tt
 links_are (member key d members) links h s =
@@ -38,6 +41,7 @@ links_are (member key d members) links h s =
     let both = subst (AllByRecursion IsProperLink) (sym rest.2) s in
     subst (λ ls. AreLinksOf ls (member key d members)) rest.2 (link_is key d first.0 first.1 both.0, links_are members rest.0 rest.1 both.1)
 
+-- and the links of members are read of them
 links_back : (members : Members) (links : List GivenLink) → AreLinksOf links members → links_of members ≡ Some links
 links_back no_members [] h = refl
 links_back no_members (l ∷ links) h = absurd h
@@ -46,6 +50,7 @@ links_back (member key d members) (l ∷ links) h =
     taken (link_of key d) (λ m. option_map (λ ls. m ∷ ls) (links_of members)) l (link_back key d l h.0)
     ∙ ap (option_map (λ ls. l ∷ ls)) (links_back members links h.1)
 
+-- the links that are read, where they may be missing, are those that stand there
 many_is : (o : Option Data) (keys : ℕ) (links : List GivenLink) → links_in o keys ≡ Some links → AllByRecursion IsProperLink links → LinksAre links o keys
 many_is None keys links h s =
     let two = guarded (keys == 2) (Some []) links h in (sym (same_some [] links two.1), eqb-true keys 2 two.0)
@@ -54,6 +59,7 @@ many_is (Some d) keys links h s =
     let members = step (as_object d) links_of links three.1 in
     (members.0, object_is d members.0 members.1, links_are members.0 links members.2 s, eqb-true keys 3 three.0)
 
+-- and those that stand there are read
 many_back : (o : Option Data) (keys : ℕ) (links : List GivenLink) → LinksAre links o keys → links_in o keys ≡ Some links
 many_back None keys links h = ap (λ k. cond (k == 2) (Some []) None) h.1 ∙ ap (λ ls. Some ls) (sym h.0)
 many_back (Some d) keys links h =
@@ -61,10 +67,12 @@ many_back (Some d) keys links h =
 
 -- ---- the version
 
+-- a number that is told to be 1 is there and is 1
 one_is : (o : Option ℕ) → is_one o ≡ true → o ≡ Some 1
 one_is None h = cc
 one_is (Some n) h = ap (λ m. Some m) (eqb-true n 1 h)
 
+-- JSON that gives a whole number is that number
 number_is : (d : Data) (n : ℕ) → option_and_then as_u64 (as_number d) ≡ Some n → d ≡ number (unsigned n)
 number_is null n h = absurd (no_value n h)
 number_is (boolean b) n h = absurd (no_value n h)
@@ -75,17 +83,20 @@ number_is (string s) n h = absurd (no_value n h)
 number_is (array items) n h = absurd (no_value n h)
 number_is (object _) n h = absurd (no_value n h)
 
+-- a version that is told to be right is the number 1
 version_is : (o : Option Data) → has_version o ≡ true → o ≡ Some (number (unsigned 1))
 version_is None h = cc
 version_is (Some d) h = ap (λ e. Some e) (number_is d 1 (one_is (option_and_then as_u64 (as_number d)) h))
 
 -- ---- folders and links
 
+-- folders that are read are read of a list
 some_folders : (o : Option Data) (folders : List Path) → folders_in o ≡ Some folders → (items : Items) × (o ≡ Some (array items)) × (folders_of items ≡ Some folders)
 some_folders None folders h = absurd (no_value folders h)
 some_folders (Some d) folders h =
     let items = step (as_array d) folders_of folders h in (items.0, ap (λ e. Some e) (array_is d items.0 items.1), items.2)
 
+-- what is read of an object as folders and links is what the object states
 with_is : (members : Members) (g : Given) → stated_with (object members) (members_len members) ≡ Some g → IsProper g → IsStated g (object members)
 with_is members g h s =
     let version = guarded (has_version (get_member (codes "version") members))
@@ -105,12 +116,14 @@ with_is members g h s =
       are_links = many_is (get_member (codes "links") members) (members_len members) g.links (links.1 ∙ ap (λ ls. Some ls) second) s.1;
     }
 
+-- what is read of JSON as folders and links is what it states
 pub stated_is : (d : Data) (g : Given) → stated_of d ≡ Some g → IsProper g → IsStated g d
 stated_is d g h s =
     let members = step (as_object d) (λ members. stated_with d (members_len members)) g h in
     let is = object_is d members.0 members.1 in
     subst (IsStated g) (sym is) (with_is members.0 g (ap (λ e. stated_with e (members_len members.0)) (sym is) ∙ members.2) s)
 
+-- and what JSON states is read of it
 pub stated_back : (d : Data) (g : Given) → IsStated g d → stated_of d ≡ Some g
 stated_back d g h =
     let links = get_member (codes "links") h.members in

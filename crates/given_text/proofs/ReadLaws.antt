@@ -15,14 +15,17 @@ use Rattle.given_text.specs.Reading.{link_of, links_of, stated_with, stated_of, 
 abbrev pub AreRead : List GivenLink → List Entry → Option (List GivenLink) → Type 0
 AreRead links es whole = (option_map (λ more. links ++ more) (links_of (members_view es)) ≡ whole) × AllByRecursion IsProperLink links
 
+-- what holds of all of a list and of one more holds of all with that one at the end
 all_last : {X : Type 0} (P : X → Type 0) (xs : List X) (x : X) → AllByRecursion P xs → P x → AllByRecursion P (xs ++ x ∷ [])
 all_last P [] x h k = (k, tt)
 all_last P (y ∷ xs) x h k = (h.0, all_last P xs x h.1 k)
 
+-- one link ahead of the rest is one behind those that were read
 by_more : (o : Option (List GivenLink)) (links : List GivenLink) (l : GivenLink) → option_map (λ more. (links ++ l ∷ []) ++ more) o ≡ option_map (λ more. links ++ more) (option_map (λ more. l ∷ more) o)
 by_more None links l = refl
 by_more (Some more) links l = ap (λ (ls : List GivenLink). Some ls) (append_assoc links (l ∷ []) more)
 
+-- with one more link read, what was read and what is left are the same whole
 one_more : (links : List GivenLink) (e : Entry) (rest : List Entry) (l : GivenLink) (whole : Option (List GivenLink)) → link_of (string_bytes e.0) (view e.1) ≡ Some l → IsProperLink l
     → AreRead links (e ∷ rest) whole → AreRead (links ++ l ∷ []) rest whole
 one_more links e rest l whole is proper r = (
@@ -30,6 +33,7 @@ one_more links e rest l whole is proper r = (
   all_last IsProperLink links l r.1 proper,
 )
 
+-- and so it is where the link is read of the next stored entry
 pub next_link : (links new : List GivenLink) (es rest : List Entry) (k : String Global) (v : Value) (name : List ℕ) (l : GivenLink) (whole : Option (List GivenLink)) → es ≡ (k, v) ∷ rest → name ≡ string_bytes k
     → link_of name (view v) ≡ Some l → IsProperLink l → new ≡ links ++ l ∷ [] → AreRead links es whole → AreRead new rest whole
 next_link links new es rest k v name l whole next name_is is proper pushed r =

@@ -26,6 +26,7 @@ use Rattle.known_inputs.specs.Inputs.{Bytes, bytes_of, AreFactsOf, IsListingOf, 
 
 -- ---- one text
 
+-- bytes say one thing as facts
 same_facts : (bytes : List ℕ) (x y : Value) → AreFacts bytes x → AreFacts bytes y → x ≡ y
 same_facts bytes x y a b = a.value ∙ ap fact_of (same_Some _ _ (sym a.is_read ∙ b.is_read)) ∙ sym b.value
 
@@ -33,24 +34,30 @@ same_facts bytes x y a b = a.value ∙ ap fact_of (same_Some _ _ (sym a.is_read 
 abbrev pub OneListing : Type 0
 OneListing = (bytes : List ℕ) (a b : Packages) → IsListingText bytes a → IsListingText bytes b → a ≡ b
 
+-- a text says the levels of one class data
 abbrev pub OneData : Type 0
 OneData = (bytes : List ℕ) (a b : List Level) → AreData bytes a → AreData bytes b → a ≡ b
 
+-- a text is that of one tree only
 abbrev pub OneTree : Type 0
 OneTree = (bytes : List ℕ) (t u : Tree) → IsTreeText bytes t → IsTreeText bytes u → t ≡ u
 
+-- the bytes of a file, if one is named, say one thing as facts
 one_facts : (bytes : Bytes) (x y : Value) → AreFactsOf bytes x → AreFactsOf bytes y → x ≡ y
 one_facts None x y a b = a ∙ sym b
 one_facts (Some bytes) x y a b = same_facts bytes x y a b
 
+-- as a listing they say one
 one_listing : OneListing → (bytes : Bytes) (a b : Packages) → IsListingOf bytes a → IsListingOf bytes b → a ≡ b
 one_listing one None a b is was = is ∙ sym was
 one_listing one (Some bytes) a b is was = one bytes a b is was
 
+-- and as class data
 one_data : OneData → (bytes : Bytes) (a b : List Level) → AreDataOf bytes a → AreDataOf bytes b → a ≡ b
 one_data one None a b is was = is ∙ sym was
 one_data one (Some bytes) a b is was = one bytes a b is was
 
+-- and as a tree
 one_tree : OneTree → (bytes : Bytes) (t u : Option Tree) → IsTreeOf bytes t → IsTreeOf bytes u → t ≡ u
 one_tree one None None None is was = refl
 one_tree one None None (Some u) is was = absurd was
@@ -63,9 +70,11 @@ one_tree one (Some bytes) (Some t) (Some u) is was = ap (λ v. Some v) (one byte
 abbrev pub OneGiven : Type 0
 OneGiven = (bytes : List ℕ) (g h : Given) → IsGivenText bytes g → IsGivenText bytes h → g ≡ h
 
+-- paths have one tree of just these
 abbrev pub OneJust : Type 0
 OneJust = (paths : List Path) (t u : Tree) → HasJust paths t → HasJust paths u → t ≡ u
 
+-- the bytes of a file, if one is named, give one thing
 one_given : OneGiven → (bytes : Bytes) (g h : Given) → IsGivenOf bytes g → IsGivenOf bytes h → g ≡ h
 one_given one None g h is was =
     let folders : g.folders ≡ h.folders = is.0 ∙ sym was.0 in
@@ -73,20 +82,25 @@ one_given one None g h is was =
     λ t. record { folders = folders t; links = links t }
 one_given one (Some bytes) g h is was = one bytes g h is was
 
+-- a run begins in one tree
 one_beginning : OneJust → (told : Option Tree) (folders : List Path) (t u : Tree) → BeginsIn told folders t → BeginsIn told folders u → t ≡ u
 one_beginning one None folders t u is was = one folders t u is was
 one_beginning one (Some told) folders t u is was = is.0 ∙ sym was.0
 
+-- a text says one list of assumptions only
 abbrev pub OneAssumed : Type 0
 OneAssumed = (bytes : List ℕ) (rows others : List Assumption) → IsAssumptionsText bytes rows → IsAssumptionsText bytes others → rows ≡ others
 
+-- the bytes of a file, if one is named, say one list of assumptions
 one_assumed : OneAssumed → (bytes : Bytes) (rows others : List Assumption) → AreAssumedOf bytes rows → AreAssumedOf bytes others → rows ≡ others
 one_assumed one None rows others is was = is ∙ sym was
 one_assumed one (Some bytes) rows others is was = one bytes rows others is was
 
+-- a text is that of one compiled catalog only
 abbrev pub OneCompiled : Type 0
 OneCompiled = (bytes : List ℕ) (c d : Compiled) → IsCompiledText bytes c → IsCompiledText bytes d → c ≡ d
 
+-- the bytes of a file, if one is named, say one compiled catalog
 one_compiled : OneCompiled → (bytes : Bytes) (c d : Option Compiled) → IsCompiledOf bytes c → IsCompiledOf bytes d → c ≡ d
 one_compiled one None None None is was = refl
 one_compiled one None None (Some d) is was = absurd was
@@ -97,6 +111,7 @@ one_compiled one (Some bytes) (Some c) (Some d) is was = ap (λ v. Some v) (one 
 
 -- ---- all files
 
+-- the files say one thing together
 pub one_known : OneListing → OneData → OneTree → OneAssumed → OneGiven → OneJust → (i : Inputs) (k m : Known) → IsKnown i k → IsKnown i m → k ≡ m
 one_known listings data_texts trees assumptions givens justs i k m is was =
     let facts = one_facts (bytes_of role.Facts i) k.facts m.facts is.told.facts was.told.facts in
@@ -126,6 +141,7 @@ same_edits catalogs assumptions i k is t c rows named =
     let one = one_compiled catalogs (bytes_of role.Compiled i) c is.compiled named.compiled is.named.compiled in
     ap (λ d. edited_in d rows) one ∙ ap (λ rs. edited_in is.compiled rs) same
 
+-- where they say something none of them is refused
 pub none_refused : OneTree → OneCompiled → OneAssumed → OneGiven → (i : Inputs) (k : Known) (r : Refusal) → IsKnown i k → FirstUnread i r → ⊥
 none_refused trees catalogs assumptions givens i k r is (FirstUnread.facts none) = none.none k.facts is.told.facts
 none_refused trees catalogs assumptions givens i k r is (FirstUnread.listing x facts none) = none.none k.listing is.told.listing

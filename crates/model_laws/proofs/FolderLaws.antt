@@ -11,6 +11,7 @@ use Rattle.model_laws.specs.Folders.{AreFalling, of_length}
 -- ---- of one length
 
 module _ (n : ℕ) where
+  -- those of one length in two lists joined are those of the one and then those of the other
   of_both : (ps qs : List Path) → of_length n (ps ++ qs) ≡ of_length n ps ++ of_length n qs
   of_both [] qs = refl
   of_both (p ∷ ps) qs = by (of_both ps qs) (length p == n)
@@ -19,6 +20,7 @@ module _ (n : ℕ) where
       by more true = ap (λ rest. p ∷ rest) more
       by more false = more
 
+  -- those of one length among themselves are all
   of_same : (ps : List Path) → of_length n (of_length n ps) ≡ of_length n ps
   of_same [] = refl
   of_same (p ∷ ps) = by (of_same ps) (length p == n) refl
@@ -27,6 +29,7 @@ module _ (n : ℕ) where
       by more true is = ap (λ t. cond t (p ∷ of_length n (of_length n ps)) (of_length n (of_length n ps))) is ∙ ap (λ rest. p ∷ rest) more
       by more false is = more
 
+  -- none of another length is of this one
   of_other : (m : ℕ) (ps : List Path) → (m ≡ n → ⊥) → of_length n (of_length m ps) ≡ []
   of_other m [] h = refl
   of_other m (p ∷ ps) h = by (of_other m ps h) (length p == m) refl
@@ -38,17 +41,20 @@ module _ (n : ℕ) where
       by more true is = ap (λ t. cond t (p ∷ of_length n (of_length m ps)) (of_length n (of_length m ps))) (none (eqb-true (length p) m is)) ∙ more
       by more false is = more
 
+  -- none of those from a lesser depth on is of this length
   of_fewer : (m : ℕ) (ps : List Path) → m < n → of_length n (from_depth m ps) ≡ []
   of_fewer zero ps h = of_other 0 ps (λ e. omega arith)
   of_fewer (suc m) ps h =
       of_both (of_length (suc m) ps) (from_depth m ps)
       ∙ (λ i. of_other (suc m) ps (λ e. omega arith) i ++ of_fewer m ps (omega arith) i)
 
+  -- from this depth on all of this length are found in their order
   here : (m : ℕ) (ps : List Path) → suc m ≡ n → of_length n (of_length (suc m) ps ++ from_depth m ps) ≡ of_length n ps
   here m ps is =
       of_both (of_length (suc m) ps) (from_depth m ps)
       ∙ ((λ i. of_length n (of_length (is i) ps) ++ of_fewer m ps (omega arith) i) ∙ (append-nil (of_length n (of_length n ps)) ∙ of_same ps))
 
+  -- and so they are from the next depth on
   below : (m : ℕ) (ps : List Path) → (n ≤ m → of_length n (from_depth m ps) ≡ of_length n ps) → (suc m ≡ n → ⊥) → n ≤ suc m → of_length n (of_length (suc m) ps ++ from_depth m ps) ≡ of_length n ps
   below m ps more other h = of_both (of_length (suc m) ps) (from_depth m ps) ∙ (λ i. of_other (suc m) ps other i ++ more (less (nat_le n m) refl) i)
     where
@@ -56,15 +62,18 @@ module _ (n : ℕ) where
       less true is = leb-true n m is
       less false is = absurd (other (let high = leb-false n m is in omega arith))
 
+  -- and so from one depth to the next, whether or not it is this one
   step : (m : ℕ) (ps : List Path) → (n ≤ m → of_length n (from_depth m ps) ≡ of_length n ps) → n ≤ suc m → (t : Bool) → (suc m == n) ≡ t
       → of_length n (of_length (suc m) ps ++ from_depth m ps) ≡ of_length n ps
   step m ps more h true is = here m ps (eqb-true (suc m) n is)
   step m ps more h false is = below m ps more (λ e. true≢false (sym (eq-eqb (suc m) n e) ∙ is)) h
 
+  -- from each depth that is no less, all of this length are found in their order
   of_more : (m : ℕ) (ps : List Path) → n ≤ m → of_length n (from_depth m ps) ≡ of_length n ps
   of_more zero ps h = let none : n ≡ 0 = omega arith in subst (λ k. of_length n (of_length k ps) ≡ of_length n ps) none (of_same ps)
   of_more (suc m) ps h = step m ps (λ less. of_more m ps less) h (suc m == n) refl
 
+  -- beyond the deepest none is
   of_none : (ps : List Path) → deepest ps < n → of_length n ps ≡ []
   of_none [] h = refl
   of_none (p ∷ ps) h =
@@ -72,6 +81,7 @@ module _ (n : ℕ) where
       let more = le-max_right (length p) (deepest ps) in
       ap (λ t. cond t (p ∷ of_length n ps) (of_length n ps)) (ne_eqb (length p) n (λ e. omega arith)) ∙ of_none ps (omega arith)
 
+  -- with the deepest first, those of one length stand in their order
   pub in_order : (ps : List Path) → of_length n (deepest_first ps) ≡ of_length n ps
   in_order ps = by (nat_le n (deepest ps)) refl
     where
@@ -81,10 +91,12 @@ module _ (n : ℕ) where
 
 -- ---- falling
 
+-- what holds of all of two lists holds of all of both joined
 all_both : (P : Path → Type 0) (ps qs : List Path) → AllByRecursion P ps → AllByRecursion P qs → AllByRecursion P (ps ++ qs)
 all_both P [] qs h k = k
 all_both P (p ∷ ps) qs h k = (h.0, all_both P ps qs h.1 k)
 
+-- those of one length have no more segments than each greater bound
 all_of : (n m : ℕ) (ps : List Path) → n ≤ m → AllByRecursion (λ (q : Path). length q ≤ m) (of_length n ps)
 all_of n m [] h = tt
 all_of n m (p ∷ ps) h = by (all_of n m ps h) (length p == n) refl
@@ -93,6 +105,7 @@ all_of n m (p ∷ ps) h = by (all_of n m ps h) (length p == n) refl
     by more true is = (omega (arith, eqb-true (length p) n is), more)
     by more false is = more
 
+-- and so have those from one depth on
 all_from : (n m : ℕ) (ps : List Path) → n ≤ m → AllByRecursion (λ (q : Path). length q ≤ m) (from_depth n ps)
 all_from zero m ps h = all_of 0 m ps h
 all_from (suc n) m ps h = all_both (λ (q : Path). length q ≤ m) (of_length (suc n) ps) (from_depth n ps) (all_of (suc n) m ps h) (all_from n m ps (omega arith))
@@ -110,9 +123,11 @@ falls n (p ∷ ps) rest all falling = by (falls n ps rest all falling) (length p
         )
     by more false is = more
 
+-- from one depth on none has more segments than one ahead of it
 from_falls : (n : ℕ) (ps : List Path) → AreFalling (from_depth n ps)
 from_falls zero ps = subst AreFalling (append-nil (of_length 0 ps)) (falls 0 ps [] tt tt)
 from_falls (suc n) ps = falls (suc n) ps (from_depth n ps) (all_from n (suc n) ps (omega arith)) (from_falls n ps)
 
+-- with the deepest first none has
 pub falling : (ps : List Path) → AreFalling (deepest_first ps)
 falling ps = from_falls (deepest ps) ps

@@ -16,10 +16,12 @@ use Rattle.model_semantics.specs.Names.{is_name, named, path_or_bad, spelled}
 
 -- ---- names
 
+-- a name without a zero is told to have none
 zero_nowhere : (name : List ℕ) → AllByRecursion (λ b. b ≢ 0) name → list_any (λ b. b == 0) name ≡ false
 zero_nowhere [] h = refl
 zero_nowhere (b ∷ name) h = ap₂ (λ x y. x || y) (ne_eqb b 0 h.0) (zero_nowhere name h.1)
 
+-- and one that is told to have none has none
 no_zero : (name : List ℕ) → list_any (λ b. b == 0) name ≡ false → AllByRecursion (λ b. b ≢ 0) name
 no_zero [] h = tt
 no_zero (b ∷ name) h = let two = neither (b == 0) (list_any (λ c. c == 0) name) h in ((λ e. true≢false (sym (eq-eqb b 0 e) ∙ two.0)), no_zero name two.1)
@@ -28,19 +30,23 @@ no_zero (b ∷ name) h = let two = neither (b == 0) (list_any (λ c. c == 0) nam
     neither true y e = absurd (true≢false e)
     neither false y e = (refl, e)
 
+-- a name is told to be one
 name_test : (name : List ℕ) → IsName name → is_name name ≡ true
 name_test [] h = absurd (h.nonempty refl)
 name_test (b ∷ name) h =
     ap₂ (λ x y. not x && y) (eqb-suc-zero (length name)) (ap₂ (λ x y. x && not y) (le-leb (length (b ∷ name)) NAME_BYTES h.bytes) (zero_nowhere (b ∷ name) h.no_zero))
 
+-- of a conjunction that is true both sides are true
 both : (a b : Bool) → (a && b) ≡ true → (a ≡ true) × (b ≡ true)
 both true b h = (refl, h)
 both false b h = absurd (true≢false (sym h))
 
+-- where the opposite of a truth value is true it is false
 not_true : (a : Bool) → not a ≡ true → a ≡ false
 not_true true h = absurd (true≢false (sym h))
 not_true false h = refl
 
+-- and what is told to be a name is one
 is_a_name : (name : List ℕ) → is_name name ≡ true → IsName name
 is_a_name [] h = absurd (true≢false (sym h))
 is_a_name (b ∷ name) h =
@@ -52,9 +58,11 @@ is_a_name (b ∷ name) h =
       no_zero = no_zero (b ∷ name) (not_true (list_any (λ c. c == 0) (b ∷ name)) rest.1);
     }
 
+-- a name has its segment
 pub named_so : (name s : List ℕ) → IsName name → s ≡ segment_of name → named name ≡ Ok s
 named_so name s h is = ap (λ t. cond t (Ok (segment_of name)) (Err cause.Name)) (name_test name h) ∙ ap (λ x. Ok x) (sym is)
 
+-- and what is none has none
 pub unnamed : (name : List ℕ) → (IsName name → ⊥) → named name ≡ Err cause.Name
 unnamed name n = at (is_name name) refl
   where
@@ -64,9 +72,11 @@ unnamed name n = at (is_name name) refl
 
 -- ---- paths
 
+-- a text of a path spells it
 pub spelled_so : (text : List ℕ) (p : Path) → IsPathText text p → spelled text ≡ Ok p
 spelled_so text p h = ap path_or_bad (path_again text p h)
 
+-- and one of no path spells none
 pub unspelled : (text : List ℕ) → IsUtf8 text → ((p : Path) → IsPathText text p → ⊥) → spelled text ≡ Err cause.Name
 unspelled text utf n = at (path_in text) refl
   where

@@ -8,19 +8,23 @@ use Rattle.fs_lang.specs.declared.program.Program.TheVariants as program
 use Rattle.fs_lang.specs.Meaning.{program_of, programs_in, program_of_steps}
 use Rattle.model_semantics.specs.Words.{steps, sequence, sweep, from_depth}
 
+-- the meanings of a list with one more are those and that of the one
 pub one_more : (es : List Program) (e : Program) → map program_of (es ++ e ∷ []) ≡ map program_of es ++ program_of e ∷ []
 one_more [] e = refl
 one_more (x ∷ es) e = ap (λ l. program_of x ∷ l) (one_more es e)
 
+-- the steps of a list are its programs as steps
 steps_are : (es : List Program) → programs_in es ≡ steps (map program_of es)
 steps_are [] = refl
 steps_are (e ∷ es) = ap (language.next (program_of e)) (steps_are es)
 
+-- steps of two programs or more are their sequence
 pub two_or_more : (es : List Program) → 1 < length es → program_of (program.Steps es) ≡ sequence (map program_of es)
 two_or_more [] h = absurd (omega (arith, h))
 two_or_more (e ∷ []) h = absurd (omega (arith, h))
 two_or_more (e ∷ f ∷ es) h = program_of_steps (e ∷ f ∷ es) ∙ ap language.Steps (steps_are (e ∷ f ∷ es))
 
+-- the images of two lists joined are those of the one and then those of the other
 map_both : {X Y : Type 0} (f : X → Y) (xs ys : List X) → map f (xs ++ ys) ≡ map f xs ++ map f ys
 map_both f [] ys = refl
 map_both f (x ∷ xs) ys = ap (λ l. f x ∷ l) (map_both f xs ys)

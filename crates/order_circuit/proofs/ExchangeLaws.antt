@@ -7,6 +7,7 @@ use Rattle.order_places.specs.Places.{exchanged}
 abbrev pub exchanged_from : ℕ → ℕ → List ℕ → List ℕ
 exchanged_from k j xs = cond (nat_lt j k) xs (exchanged (j - k) xs)
 
+-- an exchange further behind leaves the first node
 skip : (j a : ℕ) (order : List ℕ) → exchanged (suc j) (a ∷ order) ≡ a ∷ exchanged j order
 skip j a [] = refl
 skip j a (b ∷ order) = refl
@@ -36,5 +37,6 @@ exchange_step k j held next rest = elim (nat_lt j k) as (λ b. nat_lt j k ≡ b 
       | false ↦ λ l. let past = ltb-false k j l in absurd (f (omega (arith, h, past)))
     ] refl
 
+-- from the start on all of the exchange is left
 pub exchange_start : (j : ℕ) (xs : List ℕ) → exchanged_from 0 j xs ≡ exchanged j xs
 exchange_start j xs = let whole : j - 0 ≡ j = omega arith in ap (λ b. cond b xs (exchanged (j - 0) xs)) (le-ltb j 0 (omega arith)) ∙ ap (λ m. exchanged m xs) whole

@@ -16,32 +16,39 @@ use Rattle.fs_interpreter.specs.Standing.{StandsFor}
 use Rattle.sym_run.specs.Wires.{AreWires, circuit_meanings}
 use Rattle.order_circuit.specs.Codes.{node, nodes, AreRows}
 
+-- rows of wires are so as the circuit grows
 pub rows_stay : (old new : List Gate) (rows : List (List Wire)) → Grows (circuit_meanings old) (circuit_meanings new) → AreRows old rows → AreRows new rows
 rows_stay old new [] g h = tt
 rows_stay old new (ws ∷ rows) g h = (g.owns_code ws h.0, rows_stay old new rows g h.1)
 
+-- and tell the same nodes
 pub nodes_stay : (old new : List Gate) (rows : List (List Wire)) → Grows (circuit_meanings old) (circuit_meanings new) → AreRows old rows → (v : Valuation) → nodes new v rows ≡ nodes old v rows
 nodes_stay old new [] g h v = refl
 nodes_stay old new (ws ∷ rows) g h v = λ i. g.code ws h.0 v i ∷ nodes_stay old new rows g h.1 v i
 
+-- one more code of wires makes the rows one more
 pub rows_more : (gates : List Gate) (rows : List (List Wire)) (ws : List Wire) → AreRows gates rows → AreWires gates ws → AreRows gates (rows ++ ws ∷ [])
 rows_more gates [] ws h k = (k, tt)
 rows_more gates (r ∷ rows) ws h k = (h.0, rows_more gates rows ws h.1 k)
 
+-- and tells one more node at the end
 pub nodes_more : (gates : List Gate) (v : Valuation) (rows : List (List Wire)) (ws : List Wire) → nodes gates v (rows ++ ws ∷ []) ≡ nodes gates v rows ++ node gates v ws ∷ []
 nodes_more gates v [] ws = refl
 nodes_more gates v (r ∷ rows) ws = ap (λ ns. node gates v r ∷ ns) (nodes_more gates v rows ws)
 
+-- the code at a place is of wires
 pub row_at : (gates : List Gate) (rows : List (List Wire)) (i : ℕ) (code : List Wire) → code ≡ get_or rows i code → AreRows gates rows → i < length rows → AreWires gates code
 row_at gates [] i code e h l = absurd (omega (arith, l))
 row_at gates (r ∷ rows) zero code e h l = subst (AreWires gates) (sym e) h.0
 row_at gates (r ∷ rows) (suc i) code e h l = row_at gates rows i code e h.1 (omega (arith, l))
 
+-- what is read twice at a place is one code
 pub row_same : (rows : List (List Wire)) (i : ℕ) (code other : List Wire) → code ≡ get_or rows i code → other ≡ get_or rows i other → i < length rows → other ≡ code
 row_same [] i code other e f l = absurd (omega (arith, l))
 row_same (r ∷ rows) zero code other e f l = f ∙ sym e
 row_same (r ∷ rows) (suc i) code other e f l = row_same rows i code other e f (omega (arith, l))
 
+-- the nodes from a place on are the one there and those behind it
 pub nodes_from : (gates : List Gate) (v : Valuation) (rows : List (List Wire)) (i : ℕ) (code : List Wire) → code ≡ get_or rows i code → i < length rows → nodes gates v (drop i rows) ≡ node gates v code ∷ nodes gates v (drop (i + 1) rows)
 nodes_from gates v [] i code e l = absurd (omega (arith, l))
 nodes_from gates v (r ∷ rows) zero code e l = ap (λ ws. node gates v ws ∷ nodes gates v rows) (sym e)
@@ -49,35 +56,42 @@ nodes_from gates v (r ∷ rows) (suc i) code e l =
     let next : suc (i + 1) ≡ suc i + 1 = omega arith in
     nodes_from gates v rows i code e (omega (arith, l)) ∙ ap (λ k. node gates v code ∷ nodes gates v (drop k (r ∷ rows))) next
 
+-- past the end no code is left
 pub none_behind : (rows : List (List Wire)) (i : ℕ) → length rows ≤ i → drop i rows ≡ []
 none_behind [] zero h = refl
 none_behind [] (suc i) h = refl
 none_behind (r ∷ rows) zero h = absurd (omega (arith, h))
 none_behind (r ∷ rows) (suc i) h = none_behind rows i (omega (arith, h))
 
+-- no further program leaves the outcome
 pub no_more : (es : List Steps) (o : Outcome) → and_then o (outcome es []) ≡ o
 no_more es None = refl
 no_more es (Some t) = refl
 
+-- of three steps of a run the last two may be taken together
 pub after : (o : Outcome) (f : Tree → Outcome) (g : Tree → Outcome) → and_then (and_then o f) g ≡ and_then o (λ t. and_then (f t) g)
 after None f g = refl
 after (Some t) f g = refl
 
+-- a table that has what all programs name has what the one at a place does
 pub covers_at : (table : Listed) (programs : List Program) (i : ℕ) (p : Program) → CoversSteps table (programs_in programs) → p ≡ get_or programs i p → i < length programs → Covers table (program_of p)
 covers_at table [] i p h e l = absurd (omega (arith, l))
 covers_at table (q ∷ programs) zero p h e l = subst (λ r. Covers table (program_of r)) (sym e) h.0
 covers_at table (q ∷ programs) (suc i) p h e l = covers_at table programs i p h.1 e (omega (arith, l))
 
+-- the program at a place means what the code's program there means
 pub program_at : (programs : List Program) (i : ℕ) (p : Program) → p ≡ get_or programs i p → i < length programs → slice_index_or (map program_of programs) i Id ≡ program_of p
 program_at [] i p e l = absurd (omega (arith, l))
 program_at (q ∷ programs) zero p e l = ap program_of (sym e)
 program_at (q ∷ programs) (suc i) p e l = program_at programs i p e (omega (arith, l))
 
+-- past the end stands the program that does nothing
 pub no_program : (programs : List Program) (i : ℕ) → length programs ≤ i → slice_index_or (map program_of programs) i Id ≡ Id
 no_program [] i h = refl
 no_program (q ∷ programs) zero h = absurd (omega (arith, h))
 no_program (q ∷ programs) (suc i) h = no_program programs i (omega (arith, h))
 
+-- the program that does nothing leaves the outcome
 pub as_before : (o : Outcome) → and_then o (run Id) ≡ o
 as_before None = refl
 as_before (Some t) = refl
@@ -116,6 +130,7 @@ run_end table programs n o s h = elim (nat_lt n (length programs)) as (λ b. nat
 pub run_start : (table : Listed) (es : List Steps) (n : ℕ) (o : Outcome) (s : State) → StandsFor table s o → StandsFor table s (cond (nat_lt n 0) (and_then o (run (slice_index_or es n Id))) o)
 run_start table es n o s h = subst (λ b. StandsFor table s (cond b (and_then o (run (slice_index_or es n Id))) o)) (sym (le-ltb n 0 (omega arith))) h
 
+-- what follows from a property of an Ok result holds of it
 pub if_ok : {X E : Type 0} (P Q : X → Type 0) (r : Result X E) → ((x : X) → P x → Q x) → IfOk r P → IfOk r Q
 if_ok P Q (Ok x) f h = f x h
 if_ok P Q (Err e) f h = tt

@@ -22,6 +22,7 @@ use Rattle.order_encode.proofs.KnownLaws.{node_below}
 
 -- ---- inputs are never fewer
 
+-- a front of a circuit has no more inputs than the circuit
 fewer_in_front : (n : ℕ) (gates : List Gate) → input_count (take n gates) ≤ input_count gates
 fewer_in_front zero gates = omega arith
 fewer_in_front (suc n) [] = omega arith
@@ -31,6 +32,7 @@ fewer_in_front (suc n) (Not a ∷ gates) = fewer_in_front n gates
 fewer_in_front (suc n) (And a b ∷ gates) = fewer_in_front n gates
 fewer_in_front (suc n) (Mux c a b ∷ gates) = fewer_in_front n gates
 
+-- a circuit has no fewer inputs as it grows
 pub no_fewer : (old new : List Gate) → Grows old new → input_count old ≤ input_count new
 no_fewer old new g = subst (λ gates. input_count gates ≤ input_count new) g.front (fewer_in_front (length old) new)
 

@@ -37,6 +37,7 @@ pub record AsksOfTrees {B : Type 0} (d : Domain) (old new : List Gate) (cells : 
   pub exact : (v : Valuation) → (wire_value new v goal.0 ≡ true) ↔ TellsTree d old cells P v
 
 module _ {B : Type 0} {d : Domain} {old new : List Gate} {cells : Cells B Wire (List Wire)} {well goal : Wire} {P : Tree → Type 0} (is : AsksOfTrees d old new cells well goal P) where
+  -- the cells stand for the tree that is told as the circuit grows, too
   told_stands : (v : Valuation) → (told : TellsTree d old cells P v) → Stands d.table (state_of (circuit_meanings new) v cells) told.tree
   told_stands v told = still_stands d.table (Some told.tree) is.grows is.trees.are_cells v told.stands
 
@@ -46,6 +47,7 @@ module _ {B : Type 0} {d : Domain} {old new : List Gate} {cells : Cells B Wire (
       let told = (is.exact v).0 h in
       record { tree = told.tree; is_tree = told.over.is_tree; stands = told_stands v told; small = small v }
 
+  -- the formula has a model exactly where some tree over the domain has the property
   pub tree_exact : (f : Formula) → StatesGoal new goal.0 f → IsSatisfiable f ↔ ((t : Tree) × IsTreeOver d t × P t)
   tree_exact f states = (
     (λ sat. let told = (is.exact (inputs_in sat.0)).0 (states.models sat.0 sat.1) in (told.tree, told.over, told.held)),
@@ -55,6 +57,7 @@ module _ {B : Type 0} {d : Domain} {old new : List Gate} {cells : Cells B Wire (
         (model.0, model.2)),
   )
 
+  -- a witness that a model tells has a tree with the property, and what was asked
   pub tree_shown : OneOutcome → {a : Asks} (q : Asked B) → q ≡ record { gates = new; table = d.table; cells = cells; asks = a; formula = q.formula } → StatesGoal new goal.0 q.formula
       → (w : Witness) → (can : CanShow q w) → (t : Tree) × (IsTreeOver d t × P t) × IsReadAs (wire_value new (inputs_in can.0)) a t w
   tree_shown one q holds states w can =
@@ -78,6 +81,7 @@ asks_order {d = d} {old = old} {new = new} {cells = cells} {goal = goal} P same 
 module _ (programs : List Program) (order : Relation) (d : Domain) (first : List ℕ) (is_first : IsFirstExtension order first) where
   -- ---- a second run
 
+  -- a tree from which the first extension's second run changes something shows such a change
   change_is : length programs ≡ order.count → (t : Tree) → IsTreeOver d t → ChangesTwice programs first t → IsChangedAgain programs order d t first
   change_is same t over h = record {
     is_first = is_first;
@@ -91,6 +95,7 @@ module _ (programs : List Program) (order : Relation) (d : Domain) (first : List
     };
   }
 
+  -- the formula has a model exactly where a second run changes something from some tree
   pub change_exact : {S : Type 0} → Long → length programs ≡ order.count → S ↔ ((t : Tree) × IsTreeOver d t × ChangesTwice programs first t) → S ↔ HasSecondChange programs order d
   change_exact long same exact = (
     (λ s. let h = exact.0 s in record { tree = h.0; first = first; changed = change_is same h.0 h.1 h.2 }),
@@ -100,14 +105,17 @@ module _ (programs : List Program) (order : Relation) (d : Domain) (first : List
         exact.1 (h.tree, record { is_tree = w.counterexample.is_tree; is_over = w.over }, subst (λ o. ChangesTwice programs o h.tree) one (w.counterexample.after, w.counterexample.ends, w.counterexample.changes))),
   )
 
+  -- and a witness with such a tree shows that it does
   pub change_shown : (w : Witness) → length programs ≡ order.count → (t : Tree) × (IsTreeOver d t × ChangesTwice programs first t) × (w ≡ witness.Twice t first) → ShowsChange programs order d w
   change_shown w same h = subst (ShowsChange programs order d) (sym h.2) (change_is same h.0 h.1.0 h.1.1)
 
   -- ---- an end
 
+  -- a tree from which the first extension ends in a tree shows such an end
   end_is : (t : Tree) → IsTreeOver d t → Ends programs first t → IsEndedFrom programs order d t first
   end_is t over h = record { is_first = is_first; is_tree = over.is_tree; over = over.is_over; ends = h }
 
+  -- the formula has a model exactly where the first extension ends in a tree from some tree
   pub end_exact : {S : Type 0} → Long → S ↔ ((t : Tree) × IsTreeOver d t × Ends programs first t) → S ↔ HasEnd programs order d
   end_exact long exact = (
     (λ s. let h = exact.0 s in record { tree = h.0; first = first; ended = end_is h.0 h.1 h.2 }),
@@ -117,5 +125,6 @@ module _ (programs : List Program) (order : Relation) (d : Domain) (first : List
         exact.1 (h.tree, record { is_tree = w.is_tree; is_over = w.over }, subst (λ o. Ends programs o h.tree) one w.ends)),
   )
 
+  -- and a witness with such a tree shows that it does
   pub end_shown : (w : Witness) → (t : Tree) × (IsTreeOver d t × Ends programs first t) × (w ≡ witness.Ends t first) → ShowsEnd programs order d w
   end_shown w h = subst (ShowsEnd programs order d) (sym h.2) (end_is h.0 h.1.0 h.1.1)

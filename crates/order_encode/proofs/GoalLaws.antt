@@ -20,17 +20,21 @@ use Rattle.sym_run.specs.Wires.{circuit_meanings}
 use Rattle.order_encode.specs.Asking.{AreTrees}
 use Rattle.order_encode.specs.Goals.{TellsTree, AreAllowed, EndApart}
 
+-- false isn't true
 false_not_true : {P : Type 0} → false ≡ true → P
 false_not_true e = cc
 
+-- of a conjunction that is true both sides are true
 pub and_true : (a b : Bool) → (a && b) ≡ true → (a ≡ true) × (b ≡ true)
 and_true true true e = (refl, refl)
 and_true true false e = false_not_true e
 and_true false b e = false_not_true e
 
+-- a conjunction of two that are true is true
 pub true_and : (a b : Bool) → a ≡ true → b ≡ true → (a && b) ≡ true
 true_and a b e h = λ i. e i && h i
 
+-- what follows from two properties of an Ok result holds of it
 pub if_ok_both : {X E : Type 0} (P Q R : X → Type 0) (r : Result X E) → ((x : X) → P x → Q x → R x) → IfOk r P → IfOk r Q → IfOk r R
 if_ok_both P Q R (Ok x) f h k = f x h k
 if_ok_both P Q R (Err e) f h k = tt
@@ -39,6 +43,7 @@ if_ok_both P Q R (Err e) f h k = tt
 pub tells_same : {P : Type 0} {a b : Bool} → a ≡ b → (b ≡ true) ↔ P → (a ≡ true) ↔ P
 tells_same same h = ((λ e. h.0 (sym same ∙ e)), (λ p. same ∙ h.1 p))
 
+-- the opposite of a truth value is true exactly where what that says doesn't hold
 pub not_is : {P : Type 0} (b : Bool) → (b ≡ true) ↔ P → (not b ≡ true) ↔ (P → ⊥)
 not_is true h = (λ e. false_not_true e, λ k. absurd (k (h.0 refl)))
 not_is false h = (λ e p. false_not_true (h.1 p), λ k. refl)

@@ -2,6 +2,7 @@
 use Rattle.std.proofs.Common.{◌≡◌, ℕ, zero, suc, ◌<◌, List, [], ◌∷◌, length, get_or, map, sym, subst, arith}
 use Rattle.std.specs.List.{AllByRecursion}
 
+-- the node at a place of an order of nodes below n is below n
 pub node_below : (n : ℕ) (order : List ℕ) (i : ℕ) → AllByRecursion (λ k. k < n) order → i < length order → get_or order i 0 < n
 node_below n [] i all h = absurd (omega (arith, h))
 node_below n (k ∷ order) zero all h = all.0

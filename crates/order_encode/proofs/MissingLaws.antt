@@ -23,6 +23,7 @@ use Rattle.order_encode.proofs.ToldLaws.{FindsPath, FindsNoPath, FindsContent, F
 
 -- no error is told, and the entry isn't, exactly where the outcome is a tree without it
 module _ (finds_path : FindsPath) (finds_no_path : FindsNoPath) (finds : FindsContent) (finds_not : FindsNoContent) (table : Listed) (is : IsTable table) (s : State) (w : Wanted) where
+  -- no error and no entry are told exactly where the outcome is a tree without the entry
   pub misses_is : (o : Outcome) (has : Bool) → StandsFor table s o → has ≡ wanted_told table w s.cell → ((not s.error && not has) ≡ true) ↔ ((u : Tree) × (o ≡ Some u) × (HasWanted u w → ⊥))
   misses_is None has h e = ((λ k. let no : false ≡ true = sym (ap (λ b. not b && not has) h) ∙ k in cc), (λ m. let none = m.1 in cc))
   misses_is (Some t) has h e = (
@@ -41,6 +42,7 @@ module _ (finds_path : FindsPath) (finds_no_path : FindsNoPath) (finds : FindsCo
 -- ---- the question
 
 module _ (programs : List Program) (order : Relation) (d : Domain) (wanted : Wanted) (first : List ℕ) (is_first : IsFirstExtension order first) (long : length programs ≡ order.count) where
+  -- a tree from which the first extension ends without the entry shows that it misses it
   missed_is : (t : Tree) → IsTreeOver d t → EndsMissing programs first wanted t → IsMissedFrom programs order d wanted t first
   missed_is t over h = record {
     is_first = is_first;
@@ -54,6 +56,7 @@ module _ (programs : List Program) (order : Relation) (d : Domain) (wanted : Wan
     };
   }
 
+  -- the formula has a model exactly where the first extension misses the entry from some tree
   pub missing_exact : {S : Type 0} → Long → S ↔ ((t : Tree) × IsTreeOver d t × EndsMissing programs first wanted t) → S ↔ HasMissing programs order d wanted
   missing_exact lng exact = (
     (λ s. let h = exact.0 s in record { tree = h.0; first = first; missed = missed_is h.0 h.1 h.2 }),
@@ -63,5 +66,6 @@ module _ (programs : List Program) (order : Relation) (d : Domain) (wanted : Wan
         exact.1 (h.tree, record { is_tree = m.without.is_tree; is_over = m.over }, subst (λ o. EndsMissing programs o wanted h.tree) one (m.without.after, m.without.ends, m.without.misses))),
   )
 
+  -- and a witness with such a tree shows that it does
   pub missing_shown : (w : Witness) → (t : Tree) × (IsTreeOver d t × EndsMissing programs first wanted t) × (w ≡ witness.Ends t first) → ShowsMissing programs order d wanted w
   missing_shown w h = subst (ShowsMissing programs order d wanted) (sym h.2) (missed_is h.0 h.1.0 h.1.1)

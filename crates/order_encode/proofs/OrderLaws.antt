@@ -35,6 +35,7 @@ use Rattle.order_encode.proofs.WitnessLaws.{Exactly, Long, Found, Placed, strict
 abbrev pub OneOutcome : Type 0
 OneOutcome = (table : Listed) (s : State) (o u : Outcome) → StandsFor table s o → StandsFor table s u → o ≡ u
 
+-- cells stand for one tree only
 pub one_tree : OneOutcome → (table : Listed) (s : State) (t u : Tree) → Stands table s t → Stands table s u → t ≡ u
 one_tree one table s t u h k = got (one table s (Some t) (Some u) h k)
   where
@@ -46,6 +47,7 @@ abbrev pub Neighbours : Type 0
 Neighbours = (es : List Program) (before : ℕ → ℕ → Bool) (t : Tree) (o p : List ℕ) → IsCounterexample es (Told before) t o p
     → (q : List ℕ) × (r : List ℕ) × IsExchange (Told before) q r × IsCounterexample es (Told before) t q r
 
+-- numbers below a bound are below each greater one
 all_below : (m n : ℕ) (order : List ℕ) → m ≤ n → AllByRecursion (λ k. k < m) order → AllByRecursion (λ k. k < n) order
 all_below m n [] h all = tt
 all_below m n (k ∷ order) h all = (omega (arith, h, all.0), all_below m n order h all.1)
@@ -54,6 +56,7 @@ all_below m n (k ∷ order) h all = (omega (arith, h, all.0), all_below m n orde
 abbrev pub OrderGoal : List Program → Relation → Domain → List Gate → Asking → Valuation → Type 0
 OrderGoal programs order d gates a v = TellsTree d gates a.cells (EndApart programs order (node gates v a.place) (nodes gates v a.codes) (exchanged (node gates v a.place) (nodes gates v a.codes))) v
 
+-- inputs at which the goal holds tell a tree and small numbers
 pub order_readable : Exactly → (programs : List Program) (order : Relation) (d : Domain) (old new : List Gate) (a : Asking) (v : Valuation) → IsStrictOrder order → order.count ≤ 2 ^ 32 → IsAsking old d order.count a → Grows (circuit_meanings old) (circuit_meanings new)
     → OrderGoal programs order d old a v → IsReadable new d.table a.cells (asks.Orders a.codes a.place) v
 order_readable exactly programs order d old new a v strict small is g told =
@@ -72,6 +75,7 @@ order_readable exactly programs order d old new a v strict small is g told =
       );
     }
 
+-- the formula has a model exactly where two orders end differently from some tree over the domain
 pub order_exact : Exactly → Long → Found → Placed → Neighbours → (programs : List Program) (order : Relation) (d : Domain) (old new : List Gate) (a : Asking) (w : Wire) (f : Formula) → IsStrictOrder order → length programs ≡ order.count → IsAsking old d order.count a
     → ((v : Valuation) → (wire_value new v w.0 ≡ true) ↔ OrderGoal programs order d old a v) → StatesGoal new w.0 f
     → IsSatisfiable f ↔ HaveDifferentOutcomes programs (Comes order) d
@@ -89,6 +93,7 @@ order_exact exactly lng found placed neighbours programs order d old new a w f s
       (model.0, model.2)),
 )
 
+-- and a witness that a model tells shows two neighbours that end differently
 pub order_models : OneOutcome → Exactly → Found → (programs : List Program) (order : Relation) (d : Domain) (old new : List Gate) (a : Asking) (goal : Wire) (f : Formula) → IsStrictOrder order → length programs ≡ order.count → IsAsking old d order.count a → Grows (circuit_meanings old) (circuit_meanings new)
     → ((v : Valuation) → (wire_value new v goal.0 ≡ true) ↔ OrderGoal programs order d old a v) → StatesGoal new goal.0 f
     → (v : ℕ → Bool) → Satisfies v f.clauses → (w : Witness) → Shows (record { gates = new; table = d.table; cells = a.cells; asks = asks.Orders a.codes a.place; formula = f }) (inputs_in v) w → ShowsDifference programs (Comes order) d w

@@ -18,6 +18,7 @@ either_is true b free h = ((λ e. inl refl), (λ s. refl))
 either_is false b free h = ((λ e. inr (free, h.0 e)), (λ s. at_either s (λ e. cc) (λ p. h.1 p.1)))
 
 module _ (es : List Program) (order : Relation) (o : Outcome) (i : ℕ) where
+  -- directly behind a node there is none yet, so nothing more is asked
   pub none_behind : {S : Type 0} (k : ℕ) → k ≡ i + 1 → S ↔ (S ⊎ ApartBehind es order o i k)
   none_behind k e = ((λ s. inl s), (λ h. at_either h (λ s. s) (λ b. let low = b.1 in let high = b.2 in absurd (omega (arith, e, low, high)))))
 
@@ -39,6 +40,7 @@ module _ (es : List Program) (order : Relation) (o : Outcome) (i : ℕ) where
   )
 
 module _ (es : List Program) (order : Relation) (o : Outcome) where
+  -- below zero there is no row yet, so nothing is asked
   pub none_below : {S : Type 0} (n : ℕ) → n ≡ 0 → (S → ⊥) → S ↔ ApartBelow es order o n
   none_below n e never = ((λ s. absurd (never s)), (λ h. let low = h.1 in absurd (omega (arith, e, low))))
 

@@ -12,12 +12,14 @@ use Rattle.fs_interpreter.specs.declared.cells.Cells.{Cells}
 use Rattle.sym_run.specs.Wires.{number as number_by, circuit_meanings}
 use Rattle.order_encode.proofs.InputsMatter.{values_same}
 
+-- what stands in the front of a model stands in the model
 front_same : (n : ℕ) (model : List Bool) (i : ℕ) → i < n → slice_index_or (take n model) i false ≡ slice_index_or model i false
 front_same zero model i h = absurd (omega (arith, h))
 front_same (suc n) [] i h = refl
 front_same (suc n) (b ∷ model) zero h = refl
 front_same (suc n) (b ∷ model) (suc i) h = front_same n model i (omega (arith, h))
 
+-- wires have the values under a model that they have under the inputs with which it begins
 pub model_values : (gates : List Gate) (model : List Bool) → IsCircuit gates → wire_value gates (truth_at (take (input_count gates) model)) ≡ wire_value gates (inputs_in (valuation_of model))
 model_values gates model is = λ t k. values_same gates (truth_at (take (input_count gates) model)) (inputs_in (valuation_of model)) is (λ i h. front_same (input_count gates) model i h ∙ ap (λ j. slice_index_or model j false) (next i)) k t
   where
@@ -36,10 +38,12 @@ by_values f cells = record {
   error = f cells.error.0;
 }
 
+-- where wires have the same values, the cells tell the same
 pub model_state : {B : Type 0} (gates : List Gate) (u v : Valuation) (cells : Cells B Wire (List Wire)) → wire_value gates u ≡ wire_value gates v → state_of (circuit_meanings gates) u cells ≡ state_of (circuit_meanings gates) v cells
 unfolding by_values
 model_state gates u v cells e = ap (λ f. by_values f cells) e
 
+-- what is left from a place on is the number there and what is left behind it
 pub rest_from : (rest : List ℕ) (k : ℕ) → k < length rest → drop k rest ≡ get_or rest k 0 ∷ drop (k + 1) rest
 rest_from [] k h = absurd (omega (arith, h))
 rest_from (x ∷ rest) zero h = refl
@@ -47,6 +51,7 @@ rest_from (x ∷ rest) (suc k) h =
     let next : suc (k + 1) ≡ suc k + 1 = omega arith in
     rest_from rest k (omega (arith, h)) ∙ ap (λ n. get_or rest k 0 ∷ drop n (x ∷ rest)) next
 
+-- past the end nothing is left
 pub rest_done : (rest : List ℕ) (k : ℕ) → length rest ≤ k → drop k rest ≡ []
 rest_done [] zero h = refl
 rest_done [] (suc k) h = refl

@@ -3,18 +3,21 @@ use Rattle.std.proofs.Common.{◌≡◌, inl, inr, ℕ, zero, suc, ◌+◌, ◌<
 use Rattle.fs_semantics.specs.FileTree.{Path, parent}
 use Rattle.fs_interpreter.specs.Places.{Listed, IsTable, HasPath, or_added}
 
+-- what stands in a front stands in the list, at a place within the front
 front_get : {X : Type 0} (i : ℕ) (xs : List X) (j : ℕ) (x : X) → slice_get (take i xs) j ≡ Some x → (j < i) × (slice_get xs j ≡ Some x)
 front_get zero xs j x e = cc
 front_get (suc i) [] j x e = cc
 front_get (suc i) (y ∷ xs) zero x e = (omega arith, e)
 front_get (suc i) (y ∷ xs) (suc j) x e = let rest = front_get i xs j x e in (omega (arith, rest.0), rest.1)
 
+-- and what stands in the list within the front stands in the front
 pub get_front : {X : Type 0} (i : ℕ) (xs : List X) (j : ℕ) (x : X) → j < i → slice_get xs j ≡ Some x → slice_get (take i xs) j ≡ Some x
 get_front zero xs j x h e = absurd (omega (arith, h))
 get_front (suc i) [] j x h e = e
 get_front (suc i) (y ∷ xs) zero x h e = e
 get_front (suc i) (y ∷ xs) (suc j) x h e = get_front i xs j x (omega (arith, h)) e
 
+-- a front with the next one is one longer
 one_more : {X : Type 0} (i : ℕ) (xs : List X) (x : X) → slice_get xs i ≡ Some x → take i xs ++ x ∷ [] ≡ take (i + 1) xs
 one_more i [] x e = cc
 one_more zero (y ∷ xs) x e = let same : x ≡ y = cc in ap (λ z. z ∷ []) same

@@ -17,21 +17,27 @@ use Rattle.order_encode.specs.Witnesses.{AreDifferentNeighbours, IsFirstExtensio
 use Rattle.order_encode.specs.Asking.{IsAsking}
 use Rattle.order_encode.specs.declared.asking.Asking.{Asking}
 
+-- an order of nodes is strict place by place
 pub strict_is : (order : Relation) → IsStrictOrder order → IsStrict order.count (comes order)
 strict_is order h = record { within = λ a b e. (h.within a b e).0; never_itself = h.never_itself }
 
+-- an order is told to be allowed exactly where it is
 abbrev pub Exactly : Type 0
 Exactly = (n : ℕ) (before : ℕ → ℕ → Bool) (order : List ℕ) → IsStrict n before → length order ≡ n → (is_in_order before n order ≡ true) ↔ IsLinearExtension n (Told before) order
 
+-- an allowed order has as many nodes as there are
 abbrev pub Long : Type 0
 Long = (n : ℕ) (before : ℕ → ℕ → Bool) (order : List ℕ) → IsLinearExtension n (Told before) order → length order ≡ n
 
+-- two allowed orders, of which one is the other with an exchange at a place, are neighbours
 abbrev pub Found : Type 0
 Found = (n : ℕ) (before : ℕ → ℕ → Bool) (order : List ℕ) (j : ℕ) → j + 1 < length order → IsLinearExtension n (Told before) order → IsLinearExtension n (Told before) (exchanged j order) → AreNeighbours n before order (exchanged j order)
 
+-- neighbours differ by an exchange at some place
 abbrev pub Placed : Type 0
 Placed = (n : ℕ) (before : ℕ → ℕ → Bool) (order other : List ℕ) → AreNeighbours n before order other → (j : ℕ) × (j + 1 < length order) × (exchanged j order ≡ other)
 
+-- an exchange leaves as many nodes
 pub exchanged_long : (j : ℕ) (order : List ℕ) → length (exchanged j order) ≡ length order
 exchanged_long j [] = refl
 exchanged_long j (a ∷ []) = refl
@@ -95,9 +101,11 @@ witness_is_goal exactly lng placed programs order d gates a strict same asks t o
 
 -- ---- there is one first extension
 
+-- there is one least node that may come next
 least_one : (n : ℕ) (before : ℕ → ℕ → Type 0) (taken : List ℕ) (j k : ℕ) → IsLeastReady n before taken j → IsLeastReady n before taken k → j ≡ k
 least_one n before taken j k a b = let low = a.least k b.ready in let high = b.least j a.ready in omega (arith, low, high)
 
+-- two orders of the same length that always take the least are the same
 pub least_same : (n : ℕ) (before : ℕ → ℕ → Type 0) (taken a b : List ℕ) → length a ≡ length b → TakesLeast n before taken a → TakesLeast n before taken b → a ≡ b
 least_same n before taken [] [] long p q = refl
 least_same n before taken [] (k ∷ b) long p q = absurd (omega (arith, long))
@@ -107,5 +115,6 @@ least_same n before taken (j ∷ a) (k ∷ b) long p q =
     let rest = subst (λ i. TakesLeast n before (taken ++ i ∷ []) b) (sym same) q.1 in
     λ t. same t ∷ least_same n before (taken ++ j ∷ []) a b (omega (arith, long)) p.1 rest t
 
+-- there is one first extension
 pub first_same : Long → (order : Relation) (a b : List ℕ) → IsFirstExtension order a → IsFirstExtension order b → a ≡ b
 first_same long order a b p q = least_same order.count (Comes order) [] a b (long order.count (comes order) a p.allowed ∙ sym (long order.count (comes order) b q.allowed)) p.least q.least

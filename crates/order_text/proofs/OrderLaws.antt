@@ -9,20 +9,25 @@ use Rattle.rh_base.specs.declared.fault.Fault.{Fault}
 use Rattle.rh_base.specs.declared.fault.Fault.TheVariants.{Refused, Memory}
 use Rattle.order_text.specs.OrderText.{AreTexts, IsOrderText, texts_of}
 
+-- what isn't there is no value
 no_value : {X : Type 0} (x : X) → None ≡ Some x → ⊥
 no_value x h = cc
 
+-- what is there twice is one
 same_some : {X : Type 0} (x y : X) → ◌≡◌ {A = Option X} (Some x) (Some y) → x ≡ y
 same_some x y h = cc
 
+-- a step that gave something found what it needs and gave it of that
 step : {X Y : Type 0} (o : Option X) (f : X → Option Y) (y : Y) → (o >>= f) ≡ Some y → (x : X) × (o ≡ Some x) × (f x ≡ Some y)
 step None f y h = absurd (no_value y h)
 step (Some x) f y h = (x, refl, h)
 
+-- what was made of something was made of what is there
 mapped : {X Y : Type 0} (f : X → Y) (o : Option X) (y : Y) → option_map f o ≡ Some y → (x : X) × (o ≡ Some x) × (f x ≡ y)
 mapped f None y h = absurd (no_value y h)
 mapped f (Some x) y h = (x, refl, same_some (f x) y h)
 
+-- JSON that gives a text is that string
 string_is : (d : Data) (text : List ℕ) → as_str d ≡ Some text → d ≡ string text
 string_is null text h = absurd (no_value text h)
 string_is (boolean b) text h = absurd (no_value text h)
@@ -31,6 +36,7 @@ string_is (string s) text h = ap string (same_some s text h)
 string_is (array found) text h = absurd (no_value text h)
 string_is (object found) text h = absurd (no_value text h)
 
+-- JSON that gives items is their list
 array_is : (d : Data) (items : Items) → Some items ≡ as_array d → d ≡ array items
 array_is null items h = absurd (no_value items (sym h))
 array_is (boolean b) items h = absurd (no_value items (sym h))
@@ -39,6 +45,7 @@ array_is (string s) items h = absurd (no_value items (sym h))
 array_is (array found) items h = ap array (same_some found items (sym h))
 array_is (object found) items h = absurd (no_value items (sym h))
 
+-- the texts that are read of items are those of their form
 texts_are : (items : Items) (ts : List (List ℕ)) → texts_of items ≡ Some ts → AreTexts ts items
 texts_are no_items ts h = subst (λ l. AreTexts l no_items) (same_some [] ts h) tt
 texts_are (item d items) ts h =
@@ -46,31 +53,38 @@ texts_are (item d items) ts h =
     let rest = mapped (λ l. first.0 ∷ l) (texts_of items) ts first.2 in
     subst (λ l. AreTexts l (item d items)) rest.2 (string_is d first.0 first.1, texts_are items rest.0 rest.1)
 
+-- and texts of the form are read
 texts_back : (items : Items) (ts : List (List ℕ)) → AreTexts ts items → texts_of items ≡ Some ts
 texts_back no_items [] h = refl
 texts_back no_items (t ∷ ts) h = absurd h
 texts_back (item d items) [] h = absurd h
 texts_back (item d items) (t ∷ ts) h = ap (λ e. as_str e >>= (λ u. option_map (λ l. u ∷ l) (texts_of items))) h.0 ∙ ap (option_map (λ l. t ∷ l)) (texts_back items ts h.1)
 
+-- bytes are read as one list only
 same_items : (bytes : List ℕ) (a b : Items) → read bytes ≡ Some (array a) → read bytes ≡ Some (array b) → a ≡ b
 same_items bytes a b e f = at (same_some (array a) (array b) (sym e ∙ f))
   where
     at : array a ≡ array b → a ≡ b
     at h = cc
 
+-- the texts of an order are read of the list that the bytes are read as
 same_texts : (bytes : List ℕ) (items : Items) (ts : List (List ℕ)) → read bytes ≡ Some (array items) → IsOrderText bytes ts → texts_of items ≡ Some ts
 same_texts bytes items ts e h = ap texts_of (same_items bytes items h.items e h.is_read) ∙ texts_back h.items ts h.are_texts
 
+-- bytes are the text of one order only
 pub one : (bytes : List ℕ) (a b : List (List ℕ)) → IsOrderText bytes a → IsOrderText bytes b → a ≡ b
 one bytes a b h k = same_some a b (sym (texts_back h.items a h.are_texts) ∙ same_texts bytes h.items b h.is_read k)
 
+-- and bytes whose list gives texts are a text of these
 pub order_read : (bytes : List ℕ) (json : Data) (items : Items) (ts : List (List ℕ)) → IsUtf8 bytes → read bytes ≡ Some json → Some items ≡ as_array json → texts_of items ≡ Some ts → IsOrderText bytes ts
 order_read bytes json items ts text e is h =
     record { text = text; items = items; is_read = e ∙ ap (λ d. Some d) (array_is json items is); are_texts = texts_are items ts h }
 
+-- bytes whose list gives none are a text of none
 no_texts : (bytes : List ℕ) (json : Data) (items : Items) → read bytes ≡ Some json → Some items ≡ as_array json → texts_of items ≡ None → (ts : List (List ℕ)) → IsOrderText bytes ts → ⊥
 no_texts bytes json items e is n ts h = no_value ts (sym n ∙ same_texts bytes items ts (e ∙ ap (λ d. Some d) (array_is json items is)) h)
 
+-- and a refusal for that comes with it
 pub refused_texts : (bytes : List ℕ) (json : Data) (items : Items) (f : Fault) → read bytes ≡ Some json → Some items ≡ as_array json → texts_of items ≡ None → IfRefused f (IsRefusal 63 0 (codes "order"))
     → IfRefused f (λ r. IsRefusal 63 0 (codes "order") r × ((ts : List (List ℕ)) → IsOrderText bytes ts → ⊥))
 refused_texts bytes json items (Refused r) e is n h = (h, no_texts bytes json items e is n)

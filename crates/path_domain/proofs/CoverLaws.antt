@@ -22,6 +22,7 @@ Held table (Below p) = HasPath table p
 Held table (Text c) = HasContent table c
 
 module _ (table : Listed) where
+  -- a table that has all that a test mentions has the test's paths
   covers_test : (a : Test) → ((x : Matter) → TestMentions a x → Held table x) → CoversTest table a
   covers_test True h = tt
   covers_test False h = tt
@@ -35,6 +36,7 @@ module _ (table : Listed) where
   covers_test (IsNone p) h = h (At p) refl
 
   mutual
+    -- a table that has all that a program mentions has the program's paths and contents
     covers : (e : Program) → ((x : Matter) → Mentions e x → Held table x) → Covers table e
     covers Id h = tt
     covers Err h = tt
@@ -46,15 +48,18 @@ module _ (table : Listed) where
     covers (Steps es) h = covers_steps es h
     covers (If a e f) h = (covers_test a (λ x m. h x (inl m)), covers e (λ x m. h x (inr (inl m))), covers f (λ x m. h x (inr (inr m))))
 
+    -- and so it is with steps
     covers_steps : (es : Programs) → ((x : Matter) → StepsMention es x → Held table x) → CoversSteps table es
     covers_steps none h = tt
     covers_steps (next e es) h = (covers e (λ x m. h x (inl m)), covers_steps es (λ x m. h x (inr m)))
 
+-- what the steps of a list mention one of its programs mentions
 any_of : (es : List CodeProgram) (x : Matter) → StepsMention (programs_in es) x → AnyMentions (map program_of es) x
 any_of [] x h = h
 any_of (e ∷ es) x (inl h) = inl h
 any_of (e ∷ es) x (inr h) = inr (any_of es x h)
 
+-- a text that is among all stands at some place
 text_stands : (cs : List (List ℕ)) (c : List ℕ) → is_text_among c cs ≡ true → (i : ℕ) × (slice_get cs i ≡ Some c)
 text_stands [] c h = cc
 text_stands (d ∷ cs) c h = elim (or_cases (text_eq c d) (is_text_among c cs) h) [
@@ -63,6 +68,7 @@ text_stands (d ∷ cs) c h = elim (or_cases (text_eq c d) (is_text_among c cs) h
 ]
 
 module _ (es : List Program) (l : Layout) (laid : IsLayout es l) (table : Listed) (paths : table.paths ≡ l.paths) (contents : table.contents ≡ l.contents) where
+  -- a table with the paths of the layout has each path that the programs speak of
   spoken_held : (p : Path) → SpeakOf es p → HasPath table p
   spoken_held p h = elim (root_or p) [
     | inl root ↦ inl root
@@ -72,6 +78,7 @@ module _ (es : List Program) (l : Layout) (laid : IsLayout es l) (table : Listed
         inr (at.0, ap (λ ps. slice_get ps at.0) paths ∙ at.1)
   ]
 
+  -- and with its contents it has all that they mention
   held : (x : Matter) → AnyMentions es x → Held table x
   held (At p) h = spoken_held p (inl h)
   held (Below p) h = spoken_held p (inr h)
@@ -80,5 +87,6 @@ module _ (es : List Program) (l : Layout) (laid : IsLayout es l) (table : Listed
       let at = text_stands l.contents c (ap (is_text_among c) laid.contents ∙ there) in
       (at.0, ap (λ cs. slice_get cs at.0) contents ∙ at.1)
 
+-- a table with the layout of the programs' domain has the paths and contents of all of them
 pub all_covered : (es : List CodeProgram) (l : Layout) → IsLayout (map program_of es) l → (table : Listed) → table.paths ≡ l.paths → table.contents ≡ l.contents → CoversSteps table (programs_in es)
 all_covered es l laid table paths contents = covers_steps table (programs_in es) (λ x m. held (map program_of es) l laid table paths contents x (any_of es x m))

@@ -23,9 +23,11 @@ use Rattle.path_domain.proofs.PlaceLaws.{places_rise, at_places}
 
 -- ---- lists with the same members
 
+-- the two lists have the same members
 abbrev SameMembers : List Path → List Path → Type 0
 SameMembers ps qs = (p : Path) → is_among p ps ≡ is_among p qs
 
+-- a path among all with those above them is one of them or above one
 front_of : (q : Path) (ps : List Path) → is_among q (all_fronts ps) ≡ true → (p : Path) × IsTrue (is_among p ps) × IsTrue (is_among q (fronts p))
 front_of q [] h = cc
 front_of q (p ∷ ps) h = elim (or_cases _ _ (sym (list_any-append (path_eq q) (fronts p) (all_fronts ps)) ∙ h)) [
@@ -33,6 +35,7 @@ front_of q (p ∷ ps) h = elim (or_cases _ _ (sym (list_any-append (path_eq q) (
   | inr there ↦ let more = front_of q ps there in (more.0, or_right _ _ more.1, more.2)
 ]
 
+-- and one of them, or one above it, is among all with those above them
 among_fronts : (q p : Path) (ps : List Path) → is_among p ps ≡ true → is_among q (fronts p) ≡ true → is_among q (all_fronts ps) ≡ true
 among_fronts q p [] h k = cc
 among_fronts q p (r ∷ ps) h k = list_any-append (path_eq q) (fronts r) (all_fronts ps) ∙ elim (or_cases (path_eq p r) (is_among p ps) h) [
@@ -40,11 +43,13 @@ among_fronts q p (r ∷ ps) h k = list_any-append (path_eq q) (fronts r) (all_fr
   | inr there ↦ or_right (is_among q (fronts r)) _ (among_fronts q p ps there k)
 ]
 
+-- lists with the same members have the same paths above them
 same_fronts : (ps qs : List Path) (q : Path) → SameMembers ps qs → is_among q (all_fronts ps) ≡ true → is_among q (all_fronts qs) ≡ true
 same_fronts ps qs q same h = let f = front_of q ps h in among_fronts q f.0 qs (sym (same f.0) ∙ f.1) f.2
 
 -- ---- segments
 
+-- a segment that a path has stands somewhere in it
 has_text : (c : List ℕ) (p : List (List ℕ)) → is_text_among c p ≡ true → (front : List (List ℕ)) × (back : List (List ℕ)) × (p ≡ front ++ c ∷ back)
 has_text c [] h = cc
 has_text c (s ∷ p) h = elim (or_cases (text_eq c s) (is_text_among c p) h) [
@@ -52,6 +57,7 @@ has_text c (s ∷ p) h = elim (or_cases (text_eq c s) (is_text_among c p) h) [
   | inr there ↦ let more = has_text c p there in (s ∷ more.0, more.1, ap (λ q. s ∷ q) more.2)
 ]
 
+-- where some path has a segment, it is one of the paths
 path_with : (c : List ℕ) (ps : List Path) → has_segment c ps ≡ true → (p : Path) × IsTrue (is_among p ps) × IsTrue (is_text_among c p)
 path_with c [] h = cc
 path_with c (p ∷ ps) h = elim (or_cases (is_text_among c p) (has_segment c ps) h) [
@@ -59,6 +65,7 @@ path_with c (p ∷ ps) h = elim (or_cases (is_text_among c p) (has_segment c ps)
   | inr there ↦ let more = path_with c ps there in (more.0, or_right _ _ more.1, more.2)
 ]
 
+-- and where one of the paths has a segment, some path has it
 with_path : (c : List ℕ) (p : Path) (ps : List Path) → is_among p ps ≡ true → is_text_among c p ≡ true → has_segment c ps ≡ true
 with_path c p [] h k = cc
 with_path c p (q ∷ ps) h k = elim (or_cases (path_eq p q) (is_among p ps) h) [
@@ -66,11 +73,13 @@ with_path c p (q ∷ ps) h k = elim (or_cases (path_eq p q) (is_among p ps) h) [
   | inr there ↦ or_right (is_text_among c q) _ (with_path c p ps there k)
 ]
 
+-- a segment of a path stands in it
 within : (front : Path) (s : Segment) (back : Path) → is_text_among s (front ++ s ∷ back) ≡ true
 within front s back = among_right s front (s ∷ back) (or_left _ _ (text_itself s s refl))
 
 -- ---- children
 
+-- what a fresh child may be called is a segment
 pub other_is_segment : (n : ℕ) → IsSegment (other_segment n)
 other_is_segment n = record {
   bytes = (omega arith, (omega arith, (omega arith, (omega arith, (omega arith, all_letters (λ b. b < 256) (omega arith) n)))));
@@ -81,6 +90,7 @@ other_is_segment n = record {
   not_dots = λ e. let first : ◌≡◌ {A = ℕ} 111 46 = cc in absurd (omega arith);
 }
 
+-- a child with this name is the child of one of the paths
 child_in : (q : Path) (name : Segment) (ws : List Path) → list_any (λ p. path_eq q (p ++ name ∷ [])) ws ≡ true → (p : Path) × IsTrue (is_among p ws) × (q ≡ p ++ name ∷ [])
 child_in q name [] h = cc
 child_in q name (w ∷ ws) h = elim (or_cases (path_eq q (w ++ name ∷ [])) (list_any (λ p. path_eq q (p ++ name ∷ [])) ws) h) [
@@ -88,6 +98,7 @@ child_in q name (w ∷ ws) h = elim (or_cases (path_eq q (w ++ name ∷ [])) (li
   | inr there ↦ let more = child_in q name ws there in (more.0, or_right _ _ more.1, more.2)
 ]
 
+-- and the child of one of the paths is one with this name
 in_child : (q p : Path) (name : Segment) (ws : List Path) → is_among p ws ≡ true → q ≡ p ++ name ∷ [] → list_any (λ r. path_eq q (r ++ name ∷ [])) ws ≡ true
 in_child q p name [] h e = cc
 in_child q p name (w ∷ ws) h e = elim (or_cases (path_eq p w) (is_among p ws) h) [
@@ -95,18 +106,22 @@ in_child q p name (w ∷ ws) h e = elim (or_cases (path_eq p w) (is_among p ws) 
   | inr there ↦ or_right (path_eq q (w ++ name ∷ [])) _ (in_child q p name ws there e)
 ]
 
+-- no child is the root
 no_child_root : (p : Path) (s : Segment) → p ++ s ∷ [] ≢ []
 no_child_root [] s e = cc
 no_child_root (t ∷ p) s e = cc
 
+-- a path is the root or isn't
 pub root_or : (p : Path) → (p ≡ []) ⊎ (p ≢ [])
 root_or [] = inl refl
 root_or (s ∷ p) = inr (λ e. cc)
 
+-- nothing behind a path leaves the path
 pub append_none : (p : Path) → p ++ [] ≡ p
 append_none [] = refl
 append_none (s ∷ p) = ap (λ q. s ∷ q) (append_none p)
 
+-- a disjunction with false is its other side
 or_none : (b : Bool) → (b || false) ≡ b
 or_none true = refl
 or_none false = refl
@@ -118,11 +133,13 @@ named_exactly es ps same q = (
   (λ h. same_fronts (paths_among (all_matters es)) ps q (λ p. sym (same p)) ((named_told es q).1 h)),
 )
 
+-- the paths that were gathered are just those that the programs mention
 pub paths_in : (es : List Program) (f : Found) → told f ≡ gather (all_matters es) nothing → (q : Path) → is_among q f.paths.keys ≡ is_among q (paths_among (all_matters es))
 paths_in es f found q = ap (λ (g : Gathered). g.paths q) found ∙ paths_are (all_matters es) nothing q ∙ or_none (is_among q (paths_among (all_matters es)))
 
 -- ---- the parts of a layout
 
+-- what was gathered of the programs for a layout: paths, those that are watched, the segment, the fresh children, and all paths in order
 pub record Parts (es : List Program) (ps ws ks : List Path) (fresh : Paths) (n : ℕ) : Type 0 where
   pub paths : (q : Path) → is_among q ps ≡ is_among q (paths_among (all_matters es))
   pub watched : (q : Path) → is_among q ws ≡ is_among q (watched_among (all_matters es))
@@ -130,6 +147,7 @@ pub record Parts (es : List Program) (ps ws ks : List Path) (fresh : Paths) (n :
   pub children : (q : Path) → fresh q ≡ list_any (λ p. path_eq q (p ++ other_segment n ∷ [])) ws
   pub all : (q : Path) → is_among q ks ≡ (fresh q || is_among q (all_fronts ps))
 
+-- what the code gathered is this
 pub parts_of : (es : List Program) (f : Found) (ks : List Path) (name : List ℕ) (fresh : Paths) → told f ≡ gather (all_matters es) nothing
     → (named : (n : ℕ) × (name ≡ other_segment n) × IsFirstFailure (λ k. IsTrue (has_segment (other_segment k) f.paths.keys)) n)
     → ((q : Path) → fresh q ≡ list_any (λ p. path_eq q (p ++ name ∷ [])) f.watched.keys) → ((q : Path) → is_among q ks ≡ (fresh q || is_among q (all_fronts f.paths.keys)))
@@ -143,35 +161,43 @@ parts_of es f ks name fresh found named children all = record {
 }
 
 module _ (es : List Program) (ps ws ks : List Path) (fresh : Paths) (n : ℕ) (parts : Parts es ps ws ks fresh n) where
+  -- a segment that some gathered path has is one that the programs have
   segment_there : (c : List ℕ) → IsTrue (has_segment c ps) → HaveSegment es c
   segment_there c h =
       let p = path_with c ps h in
       let t = has_text c p.0 p.2 in
       (t.0, t.1, (paths_told es (t.0 ++ c ∷ t.1)).0 (sym (parts.paths (t.0 ++ c ∷ t.1)) ∙ ap (λ q. is_among q ps) (sym t.2) ∙ p.1))
 
+  -- and each segment that the programs have some gathered path has
   segment_found : (c : List ℕ) → HaveSegment es c → IsTrue (has_segment c ps)
   segment_found c h = with_path c (h.0 ++ c ∷ h.1) ps (parts.paths (h.0 ++ c ∷ h.1) ∙ (paths_told es (h.0 ++ c ∷ h.1)).1 h.2) (within h.0 c h.1)
 
+  -- the name of the fresh children is the first that the programs don't have
   first_segment : IsFirstFailure (λ k. HaveSegment es (other_segment k)) n
   first_segment = record {
     fails = λ h. parts.segment.fails (segment_found (other_segment n) h);
     holds = λ k l. segment_there (other_segment k) (parts.segment.holds k l);
   }
 
+  -- a gathered path, or one above it, is named
   named_there : (q : Path) → is_among q (all_fronts ps) ≡ true → IsNamed es q
   named_there q = (named_exactly es ps parts.paths q).0
 
+  -- and each named path is a gathered one or above one
   named_found : (q : Path) → IsNamed es q → is_among q (all_fronts ps) ≡ true
   named_found q = (named_exactly es ps parts.paths q).1
 
+  -- a path that is marked as fresh is a fresh child
   fresh_there : (q : Path) → fresh q ≡ true → IsFreshChild es (other_segment n) q
   fresh_there q h =
       let c = child_in q (other_segment n) ws (sym (parts.children q) ∙ h) in
       (c.0, (watched_told es c.0).0 (sym (parts.watched c.0) ∙ c.1), c.2)
 
+  -- and each fresh child is marked as fresh
   fresh_found : (q : Path) → IsFreshChild es (other_segment n) q → fresh q ≡ true
   fresh_found q h = parts.children q ∙ in_child q h.0 (other_segment n) ws (parts.watched h.0 ∙ (watched_told es h.0).1 h.1) h.2
 
+  -- the paths that are laid out are the named ones and the fresh children
   laid_paths : (p : Path) → IsTrue (is_among p ks) ↔ (IsNamed es p ⊎ IsFreshChild es (other_segment n) p)
   laid_paths p = (
     (λ h. elim (or_cases (fresh p) (is_among p (all_fronts ps)) (sym (parts.all p) ∙ h)) [
@@ -181,9 +207,11 @@ module _ (es : List Program) (ps ws ks : List Path) (fresh : Paths) (n : ℕ) (p
     (λ h. parts.all p ∙ elim h [ inl name ↦ or_right (fresh p) _ (named_found p name) | inr new ↦ or_left _ _ (fresh_found p new) ]),
   )
 
+  -- each named path is laid out
   among_named : (p : Path) → IsNamed es p → is_among p ks ≡ true
   among_named p h = (laid_paths p).1 (inl h)
 
+  -- the parent of a named path is the root or laid out
   parent_there : (p : Path) → IsNamed es p → (parent p ≡ []) ⊎ IsTrue (is_among (parent p) ks)
   parent_there p name = elim (root_or (parent p)) [
     | inl root ↦ inl root
@@ -196,12 +224,14 @@ module _ (es : List Program) (ps ws ks : List Path) (fresh : Paths) (n : ℕ) (p
         }))
   ]
 
+  -- and so is a path whose children matter
   above_child : (r : Path) → AnyMentions es (Below r) → (r ≡ []) ⊎ IsTrue (is_among r ks)
   above_child r h = elim (root_or r) [
     | inl root ↦ inl root
     | inr below ↦ inr (among_named r (record { not_root = below; more = []; spoken = subst (SpeakOf es) (sym (append_none r)) (inr h) }))
   ]
 
+  -- none of the laid out paths is the root, and each has its parent there
   pub have_parents : HaveParents ks
   have_parents p h = elim ((laid_paths p).0 h) [
     | inl name ↦ (name.not_root, parent_there p name)
@@ -214,18 +244,22 @@ module _ (es : List Program) (ps ws ks : List Path) (fresh : Paths) (n : ℕ) (p
     )
   ]
 
+  -- a stem with which one of the contents begins is one with which a constant begins
   start_there : (cs : List (List ℕ)) (k : ℕ) → cs ≡ first_uses ([] ∷ all_texts es) → HaveStart cs (stem k) → HaveStart (all_texts es) (stem k)
   start_there cs k e h = (h.0, sym (first_uses_are (stem k ++ h.0) ([] ∷ all_texts es)) ∙ sym (ap (is_text_among (stem k ++ h.0)) e) ∙ h.1)
 
+  -- and a stem with which a constant begins is one with which one of the contents begins
   start_found : (cs : List (List ℕ)) (k : ℕ) → cs ≡ first_uses ([] ∷ all_texts es) → HaveStart (all_texts es) (stem k) → HaveStart cs (stem k)
   start_found cs k e h = (h.0, ap (is_text_among (stem k ++ h.0)) e ∙ first_uses_are (stem k ++ h.0) ([] ∷ all_texts es) ∙ h.1)
 
+  -- the paths at the places of the fresh ones are the fresh children
   fresh_are : (places : List ℕ) (q : Path) → places ≡ places_from 0 fresh ks → IsTrue (is_among q (map (λ i. slice_index_or ks i []) places)) ↔ IsFreshChild es (other_segment n) q
   fresh_are places q e = (
     (λ h. fresh_there q (and_parts (fresh q) (is_among q ks) (sym (at_places q fresh ks) ∙ sym (ap (λ is. is_among q (map (λ i. slice_index_or ks i []) is)) e) ∙ h)).0),
     (λ h. ap (λ is. is_among q (map (λ i. slice_index_or ks i []) is)) e ∙ at_places q fresh ks ∙ and_from (fresh q) (is_among q ks) (fresh_found q h) ((laid_paths q).1 (inr h))),
   )
 
+  -- what is made of these parts is the layout of the programs' domain
   pub is_layout : (l : Layout) (start : ℕ) (cs : List (List ℕ)) → l.paths ≡ ks → IsStrictlySortedBy path_cmp ks → l.fresh ≡ places_from 0 fresh ks
       → cs ≡ first_uses ([] ∷ all_texts es) → Starts start cs → l.contents ≡ cs ++ numbered (stem start) 0 ks → length ks ≤ 2 ^ 64 → IsLayout es l
   is_layout l start cs same sorted places old starts texts few = subst (λ x. IsLayout es x) (sym (λ i. record { paths = same i; fresh = l.fresh; contents = l.contents })) (record {

@@ -14,25 +14,30 @@ use Rattle.finite_domain.proofs.Texts.{text_same, text_itself, among_append, amo
 use Rattle.path_domain.specs.Laid.{Starts}
 use Rattle.path_domain.proofs.TextLaws.{next_number, letters_end}
 
+-- the text begins with this start
 abbrev pub Begins : List ℕ → List ℕ → Type 0
 Begins c start = (rest : List ℕ) × (c ≡ start ++ rest)
 
+-- a text that begins with so many letters x begins with fewer, too
 fewer : (n k : ℕ) (left : List ℕ) → n ≤ k → Begins (letters k ++ left) (letters n)
 fewer zero k left h = (letters k ++ left, refl)
 fewer (suc n) zero left h = absurd (omega (arith, h))
 fewer (suc n) (suc k) left h = let more = fewer n k left (omega (arith, h)) in (more.0, ap (λ c. 120 ∷ c) more.1)
 
+-- where no further letter x follows, it begins with no more
 not_more : (n k : ℕ) (left : List ℕ) → ((rest : List ℕ) → left ≢ 120 ∷ rest) → Begins (letters k ++ left) (letters n) → n ≤ k
 not_more zero k left h b = omega arith
 not_more (suc n) zero left h b = absurd (h (letters n ++ b.0) b.1)
 not_more (suc n) (suc k) left h b = let same : letters k ++ left ≡ letters n ++ b.0 = cc in let more = not_more n k left h (b.0, same) in omega (arith, more)
 
+-- a text of so many letters x, and then none, begins with just as many or fewer
 pub counted : (c left : List ℕ) (k : ℕ) → c ≡ letters k ++ left → ((rest : List ℕ) → left ≢ 120 ∷ rest) → (n : ℕ) → (n ≤ k) ↔ Begins c (letters n)
 counted c left k is h n = (
   (λ l. let f = fewer n k left l in (f.0, is ∙ f.1)),
   (λ b. not_more n k left h (b.0, sym is ∙ b.1)),
 )
 
+-- a text that begins with n letters is no shorter than n
 pub letters_long : (n : ℕ) (left : List ℕ) → n ≤ length (letters n ++ left)
 letters_long zero left = omega arith
 letters_long (suc n) left = omega (arith, letters_long n left)
@@ -47,9 +52,11 @@ stems_are c rest k is counts n = (
       let few = (counts n).1 (b.0, same) in omega (arith, few)),
 )
 
+-- a stem with a letter more is the next stem
 pub stem_more : (n : ℕ) → stem n ++ 120 ∷ [] ≡ stem (suc n)
 stem_more n = ap (λ c. 116 ∷ 101 ∷ 120 ∷ 116 ∷ c) (letters_end n)
 
+-- the front of a list with the next one is one longer
 take_next : (cs : List (List ℕ)) (i : ℕ) (c : List ℕ) → slice_get cs i ≡ Some c → take (i + 1) cs ≡ take i cs ++ c ∷ []
 take_next cs i c h =
     let below = slice_get_within cs i c h in
@@ -57,6 +64,7 @@ take_next cs i c h =
     let same : get_or cs i [] ≡ c = cc in
     take_more cs i [] below ∙ ap (λ d. take i cs ++ d ∷ []) same
 
+-- where no contents are, none begins with a stem
 pub start_none : (cs : List (List ℕ)) → cs ≡ [] → Starts 0 cs
 start_none cs e n = ((λ h. absurd (omega (arith, h))), (λ h. let no : false ≡ true = sym (ap (is_text_among (stem n ++ h.0)) e) ∙ h.1 in cc))
 
@@ -83,6 +91,7 @@ pub numbers_to : List ℕ → ℕ → List (List ℕ)
 numbers_to start zero = []
 numbers_to start (suc n) = numbers_to start n ++ (start ++ decimal n) ∷ []
 
+-- no numbered texts behind contents leave these
 pub numbers_none : (start : List ℕ) (cs ds : List (List ℕ)) → cs ≡ ds → cs ≡ ds ++ numbers_to start 0
 unfolding numbers_to
 numbers_none start cs ds e = e ∙ sym (nothing ds)
@@ -91,6 +100,7 @@ numbers_none start cs ds e = e ∙ sym (nothing ds)
     nothing [] = refl
     nothing (c ∷ cs) = ap (λ ds. c ∷ ds) (nothing cs)
 
+-- each of the first texts by number has a number below their count
 in_numbers : (start : List ℕ) (n : ℕ) (c : List ℕ) → is_text_among c (numbers_to start n) ≡ true → (k : ℕ) × (k < n) × (c ≡ start ++ decimal k)
 unfolding numbers_to
 in_numbers start zero c h = cc
@@ -99,9 +109,11 @@ in_numbers start (suc n) c h = elim (among_append c (numbers_to start n) ((start
   | inr new ↦ (n, omega arith, elim (or_cases (text_eq c (start ++ decimal n)) false new) [ inl e ↦ text_same c _ e | inr none ↦ absurd (both_ways false refl none) ])
 ]
 
+-- two texts are the same either way round
 pub flip : (c d : List ℕ) → text_eq c d ≡ text_eq d c
 flip c d = same_bool (text_eq c d) (text_eq d c) (λ h. text_itself d c (sym (text_same c d h))) (λ h. text_itself c d (sym (text_same d c h)))
 
+-- a content that isn't among all has no place
 pub not_placed : (cs : List (List ℕ)) (c : List ℕ) → is_text_among c cs ≡ false → content_place cs c ≡ None
 not_placed [] c h = refl
 not_placed (d ∷ cs) c h = elim (text_eq d c) as (λ b. (b || is_text_among c cs) ≡ false → cond b (Some 0) (one_further (content_place cs c)) ≡ None) [
@@ -109,6 +121,7 @@ not_placed (d ∷ cs) c h = elim (text_eq d c) as (λ b. (b || is_text_among c c
   | false ↦ λ k. ap one_further (not_placed cs c k)
 ] (ap (λ b. b || is_text_among c cs) (flip d c) ∙ h)
 
+-- the next text by number isn't among the earlier ones
 is_new : (start : List ℕ) (i : ℕ) (cs : List (List ℕ)) → i < 2 ^ 64 → is_text_among (start ++ decimal i) cs ≡ false → is_text_among (start ++ decimal i) (cs ++ numbers_to start i) ≡ false
 is_new start i cs few h = false_from_ne_true _ (λ k. elim (among_append (start ++ decimal i) cs (numbers_to start i) k) [
   | inl old ↦ both_ways _ h old
@@ -118,6 +131,7 @@ is_new start i cs few h = false_from_ne_true _ (λ k. elim (among_append (start 
       omega (arith, same, n.1)
 ])
 
+-- the next text by number comes last
 pub number_more : (start : List ℕ) (i : ℕ) (old cs : List (List ℕ)) (c : List ℕ) → i < 2 ^ 64 → cs ≡ old ++ numbers_to start i → c ≡ start ++ decimal i → is_text_among (start ++ decimal i) old ≡ false
     → or_added (content_place cs c) cs c ≡ old ++ numbers_to start (i + 1)
 unfolding numbers_to
@@ -125,15 +139,19 @@ number_more start i old cs c few is new fresh =
     let none : content_place cs c ≡ None = ap (content_place cs) new ∙ not_placed cs (start ++ decimal i) (ap (is_text_among (start ++ decimal i)) is ∙ is_new start i old few fresh) in
     ap (λ o. or_added o cs c) none ∙ ap (λ d. cs ++ d ∷ []) new ∙ ap (λ ds. ds ++ (start ++ decimal i) ∷ []) is ∙ append_assoc old (numbers_to start i) ((start ++ decimal i) ∷ []) ∙ ap (λ n. old ++ numbers_to start n) (next_number i)
 
+-- zero more is as many
 no_more : (n : ℕ) → n ≡ n + 0
 no_more n = omega arith
 
+-- from zero on is as many
 from_none : (n : ℕ) → n ≡ 0 + n
 from_none n = omega arith
 
+-- one added to either side of a sum is the same
 one_moved : (n m : ℕ) → n + 1 + m ≡ n + suc m
 one_moved n m = omega arith
 
+-- the first texts by number, with one more for each path, are the first of so many
 numbers_are : (start : List ℕ) (n : ℕ) (ps : List Path) → numbers_to start n ++ numbered start n ps ≡ numbers_to start (n + length ps)
 unfolding numbers_to
 numbers_are start n [] = nothing (numbers_to start n) ∙ ap (numbers_to start) (no_more n)
@@ -143,6 +161,7 @@ numbers_are start n [] = nothing (numbers_to start n) ∙ ap (numbers_to start) 
     nothing (c ∷ cs) = ap (λ ds. c ∷ ds) (nothing cs)
 numbers_are start n (p ∷ ps) = sym (append_assoc (numbers_to start n) ((start ++ decimal n) ∷ []) (numbered start (n + 1) ps)) ∙ ap (λ ds. ds ++ numbered start (n + 1) ps) (ap (numbers_to start) (next_number n)) ∙ numbers_are start (n + 1) ps ∙ ap (numbers_to start) (one_moved n (length ps))
 
+-- when there is one for each path, these are the numbered texts of the paths
 pub all_numbers : (start : List ℕ) (i : ℕ) (ps : List Path) (cs old : List (List ℕ)) → i ≡ length ps → cs ≡ old ++ numbers_to start i → cs ≡ old ++ numbered start 0 ps
 unfolding numbers_to
 all_numbers start i ps cs old done is = is ∙ ap (λ n. old ++ numbers_to start n) done ∙ ap (λ n. old ++ numbers_to start n) (from_none (length ps)) ∙ ap (λ ds. old ++ ds) (sym (numbers_are start 0 ps))

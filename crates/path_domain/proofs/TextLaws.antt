@@ -17,24 +17,30 @@ use Rattle.finite_domain.specs.Matters.{has_segment}
 use Rattle.finite_domain.proofs.Texts.{text_same, text_itself}
 use Rattle.path_domain.specs.Segments.{Texts, texts_in, with_text}
 
+-- what is implied by a side of a disjunction is the whole of it
 same_or : (b x : Bool) → (b ≡ true → x ≡ true) → x ≡ (b || x)
 same_or true x h = h refl
 same_or false x h = refl
 
+-- a text that is in the set is one more without a change
 pub already : {Y : Type 0} (s : BTreeSet (String Y)) (c : List ℕ) → texts_in s c ≡ true → texts_in s ≡ with_text c (texts_in s)
 already s c h = λ i d. same_or (text_eq d c) (texts_in s d) (λ e. ap (texts_in s) (text_same d c e) ∙ h) i
 
+-- true under a condition, and else another truth value, is one of the two
 one_more : (b x : Bool) → cond b true x ≡ (b || x)
 one_more true x = refl
 one_more false x = refl
 
+-- two texts are the same either way round, byte by byte or in order
 bytes_flip : (c d : List ℕ) → bytes_eq c d ≡ text_eq d c
 bytes_flip c d = same_bool (bytes_eq c d) (text_eq d c) (λ h. text_itself d c (sym ((bytes_eq-Decides c d).0 h))) (λ h. (bytes_eq-Decides c d).1 (sym (text_same d c h)))
 
+-- a set into which a text was put has that text more
 pub put_in : {Y : Type 0} (s n : BTreeSet (String Y)) (k : String Y) (c : List ℕ) → string_bytes k ≡ c → Updates string_cmp s n k true → texts_in n ≡ with_text c (texts_in s)
 put_in s n k c is u = λ i d.
     (btree_set_updates_text (string_bytes k) s n true u d ∙ ap (λ b. cond (bytes_eq b d) true (texts_in s d)) is ∙ ap (λ b. cond b true (texts_in s d)) (bytes_flip c d) ∙ one_more (text_eq d c) (texts_in s d)) i
 
+-- the sides of a disjunction may be told in another order
 pub moved : (a b c : Bool) → (a || (b || c)) ≡ ((b || a) || c)
 moved true true c = refl
 moved true false c = refl
@@ -45,6 +51,7 @@ moved false false c = refl
 pub one_text : (old rest : List (List ℕ)) (t : List ℕ) (f g : Texts) (c : List ℕ) → old ≡ t ∷ rest → g ≡ with_text t f → (is_text_among c rest || g c) ≡ (is_text_among c old || f c)
 one_text old rest t f g c next is = ap (λ k. is_text_among c rest || k c) is ∙ moved (is_text_among c rest) (text_eq c t) (f c) ∙ sym (ap (λ l. is_text_among c l || f c) next)
 
+-- with the segments of one path put, what was put and what is left are the same whole
 pub one_path : (old rest : List Path) (p : Path) (f g : Texts) (c : List ℕ) → old ≡ p ∷ rest → g c ≡ (is_text_among c p || f c) → (has_segment c rest || g c) ≡ (has_segment c old || f c)
 one_path old rest p f g c next is = ap (λ k. has_segment c rest || k) is ∙ moved (has_segment c rest) (is_text_among c p) (f c) ∙ sym (ap (λ l. has_segment c l || f c) next)
 
@@ -53,6 +60,7 @@ pub longest : {Y : Type 0} → List (String Y) → ℕ
 longest [] = 0
 longest (k ∷ ks) = max (length (string_bytes k)) (longest ks)
 
+-- a text that is among all is no longer than the longest
 not_longer_than : {Y : Type 0} (c : List ℕ) (ks : List (String Y)) → list_any (λ k. text_eq c (string_bytes k)) ks ≡ true → length c ≤ longest ks
 unfolding longest
 not_longer_than c [] h = cc
@@ -61,23 +69,29 @@ not_longer_than c (k ∷ ks) h = elim (or_cases (text_eq c (string_bytes k)) (li
   | inr there ↦ omega (arith, not_longer_than c ks there)
 ]
 
+-- and so is a member of the set
 pub not_longer : {Y : Type 0} (c : List ℕ) (s : BTreeSet (String Y)) → texts_in s c ≡ true → length c ≤ longest s.keys
 not_longer c s h = not_longer_than c s.keys h
 
+-- the next number is one more
 pub next_number : (k : ℕ) → suc k ≡ k + 1
 next_number k = omega arith
 
+-- a letter behind n letters is one of n + 1
 pub letters_more : (n : ℕ) (rest : List ℕ) → letters n ++ 120 ∷ rest ≡ letters (suc n) ++ rest
 letters_more zero rest = refl
 letters_more (suc n) rest = ap (λ c. 120 ∷ c) (letters_more n rest)
 
+-- nothing behind a text leaves the text
 append_nothing : (c : List ℕ) → c ++ [] ≡ c
 append_nothing [] = refl
 append_nothing (b ∷ c) = ap (λ d. b ∷ d) (append_nothing c)
 
+-- a letter at the end of n letters makes them n + 1
 pub letters_end : (n : ℕ) → letters n ++ 120 ∷ [] ≡ letters (suc n)
 letters_end n = letters_more n [] ∙ append_nothing (letters (suc n))
 
+-- the next name of fresh children has one letter more
 pub other_more : (n : ℕ) → other_segment n ++ 120 ∷ [] ≡ other_segment (suc n)
 other_more n = ap (λ c. 111 ∷ 116 ∷ 104 ∷ 101 ∷ 114 ∷ c) (letters_end n)
 

@@ -26,17 +26,21 @@ use Rattle.pkg_listing.proofs.FormLaws.{step, mapped, package_is, AreProper}
 
 -- ---- one package
 
+-- a path that a text gives may be listed
 path_fits : (p : Path) (d : Data) → IsPath p d → MayBeListed p
 path_fits p d h = record { segments = h.spells.segments; managed = h.managed; bytes = text_short p h.text h.managed.0 h.spells; depth = h.spells.depth }
 
+-- a digest that JSON gives is one
 digest_fits : (g : Option (List ℕ)) (d : Data) → IsDigestOf g d → IsDigest g
 digest_fits None d h = tt
 digest_fits (Some digest) d h = h.1
 
+-- the path of a file that JSON gives may be listed, and its digest is one
 file_fits : (version : Version) (f : Listed) (d : Data) → IsFile version f d → MayBeListed f.path × IsDigest f.digest
 file_fits First f d h = (path_fits f.path d h.0, subst IsDigest (sym h.1) tt)
 file_fits Second f d h = (path_fits f.path h.path h.is_path, digest_fits f.digest h.digest h.is_digest)
 
+-- and so it is with all files of a list
 files_fit : (version : Version) (files : List Listed) (items : Items) → AreFiles version files items
     → AllByRecursion MayBeListed (map (λ f. f.path) files) × AllByRecursion (λ f. IsDigest f.digest) files
 files_fit version [] items h = (tt, tt)
@@ -46,15 +50,18 @@ files_fit version (f ∷ files) (item d items) h =
     let rest = files_fit version files items h.1 in
     ((here.0, rest.0), (here.1, rest.1))
 
+-- the folders of a list may be listed
 folders_fit : (folders : List Path) (items : Items) → AreFolders folders items → AllByRecursion MayBeListed folders
 folders_fit [] items h = tt
 folders_fit (p ∷ folders) no_items h = absurd h
 folders_fit (p ∷ folders) (item d items) h = (path_fits p d h.0, folders_fit folders items h.1)
 
+-- what holds of all of two lists holds of all of both joined
 all_append : {X : Type 0} (P : X → Type 0) (xs ys : List X) → AllByRecursion P xs → AllByRecursion P ys → AllByRecursion P (xs ++ ys)
 all_append P [] ys h k = k
 all_append P (x ∷ xs) ys h k = (h.0, all_append P xs ys h.1 k)
 
+-- a package that is read is fit
 package_fits : (version : Version) (d : Data) (p : Package) → package_of version d ≡ Some p → ArePathsProper p → IsFit p
 package_fits version d p h s =
     let is = package_is version d p h s in
@@ -66,6 +73,7 @@ package_fits version d p h s =
 
 -- ---- all packages
 
+-- the packages that are read are fit, and their names are the keys
 packages_fit : (version : Version) (es : List Entry) (ps : Packages) → packages_of version (members_view es) ≡ Some ps → AreProper ps → AllByRecursion (λ p. IsFit p.1) ps × (names_of ps ≡ map string_bytes (keys_of es))
 packages_fit version [] ps h s =
     let none : ◌≡◌ {A = Packages} [] ps = at ps h in
@@ -82,15 +90,18 @@ packages_fit version (e ∷ es) ps h s =
     subst (λ qs. AllByRecursion (λ p. IsFit p.1) qs × (names_of qs ≡ name ∷ map string_bytes (keys_of es))) rest.2
     ((package_fits version (view e.1) first.0 first.1 both.0, more.0), ap (λ l. name ∷ l) more.1)
 
+-- a key that is less than all others is less by its bytes
 all_names : (k : String Global) (ks : List (String Global)) → AllByRecursion (λ y. string_cmp k y ≡ Less) ks → AllByRecursion (λ y. slice_cmp nat_cmp (string_bytes k) y ≡ Less) (map string_bytes ks)
 all_names k [] h = tt
 all_names k (l ∷ ks) h = (h.0, all_names k ks h.1)
 
+-- keys that rise do so by their bytes
 names_rise : (ks : List (String Global)) → IsStrictlySortedBy string_cmp ks → IsStrictlySortedBy (slice_cmp nat_cmp) (map string_bytes ks)
 unfolding IsStrictlySortedBy
 names_rise [] h = tt
 names_rise (k ∷ ks) h = (all_names k ks h.0, names_rise ks h.1)
 
+-- packages that are read of members whose keys rise are fit, and their names rise
 pub all_fit : (version : Version) (es : List Entry) (ps : Packages) → IsStrictlySortedBy string_cmp (keys_of es) → packages_of version (members_view es) ≡ Some ps → AreProper ps → AreFit ps
 all_fit version es ps sorted h s =
     let fit = packages_fit version es ps h s in record {
@@ -98,15 +109,18 @@ all_fit version es ps sorted h s =
       packages = fit.0;
     }
 
+-- no packages are fit
 pub no_packages : AreFit []
 unfolding IsStrictlySortedBy
 no_packages = record { names = tt; packages = tt }
 
+-- and so is a list of none
 pub none_fit : (ps : Packages) → ps ≡ [] → AreFit ps
 none_fit ps h = subst AreFit (sym h) no_packages
 
 -- ---- what is found
 
+-- a package that stands under a name among fit ones is fit
 value_fits : (name : List ℕ) (ps : Packages) (p : Package) → AllByRecursion (λ q. IsFit q.1) ps → value_at name ps ≡ Some p → IsFit p
 value_fits name [] p h e = absurd (none p e)
   where
@@ -118,12 +132,14 @@ value_fits name (q ∷ ps) p h e = at (value_fits name ps p h.1) (bytes_eq q.0 n
     at later true e = let same : q.1 ≡ p = cc in subst IsFit same h.0
     at later false e = later e
 
+-- and so is one that is found there
 pub found_fits : (name : List ℕ) (ps : Packages) (r : Option (Bor Package)) → AreFit ps → option_map (λ p. p.now) r ≡ value_at name ps → IfSome r (λ p. IsFit p.now)
 found_fits name ps None h e = tt
 found_fits name ps (Some p) h e = value_fits name ps p.now h.packages (sym e)
 
 -- ---- names that rise stand once
 
+-- a name that is less than a key isn't that key
 below_differs : (name key : List ℕ) → slice_cmp nat_cmp name key ≡ Less → bytes_eq name key ≡ false
 below_differs name key h = at (bytes_eq name key) refl
   where

@@ -29,20 +29,25 @@ use Rattle.pkg_listing.proofs.PathLaws.{path_spelled, managed_where, read_path}
 
 -- ---- steps of reading
 
+-- what isn't there is no value
 pub no_value : {X : Type 0} (x : X) → None ≡ Some x → ⊥
 no_value x h = cc
 
+-- what is there twice is one
 pub same_some : {X : Type 0} (x y : X) → ◌≡◌ {A = Option X} (Some x) (Some y) → x ≡ y
 same_some x y h = cc
 
+-- a step that gave something found what it needs and gave it of that
 pub step : {X Y : Type 0} (o : Option X) (f : X → Option Y) (y : Y) → (o >>= f) ≡ Some y → (x : X) × (o ≡ Some x) × (f x ≡ Some y)
 step None f y h = absurd (no_value y h)
 step (Some x) f y h = (x, refl, h)
 
+-- what was made of something was made of what is there
 pub mapped : {X Y : Type 0} (f : X → Y) (o : Option X) (y : Y) → option_map f o ≡ Some y → (x : X) × (o ≡ Some x) × (f x ≡ y)
 mapped f None y h = absurd (no_value y h)
 mapped f (Some x) y h = (x, refl, same_some (f x) y h)
 
+-- what is there under a condition is there, and the condition holds
 pub guarded : {X : Type 0} (t : Bool) (o : Option X) (x : X) → cond t o None ≡ Some x → (t ≡ true) × (o ≡ Some x)
 guarded true o x h = (refl, h)
 guarded false o x h = absurd (no_value x h)
@@ -53,6 +58,7 @@ taken o f x h = ap (λ p. p >>= f) h
 
 -- ---- what stands in JSON
 
+-- JSON that gives members is their object
 pub object_is : (d : Data) (members : Members) → as_object d ≡ Some members → d ≡ object members
 object_is null members h = absurd (no_value members h)
 object_is (boolean b) members h = absurd (no_value members h)
@@ -61,6 +67,7 @@ object_is (string s) members h = absurd (no_value members h)
 object_is (array items) members h = absurd (no_value members h)
 object_is (object found) members h = ap object (same_some found members h)
 
+-- JSON that gives items is their list
 pub array_is : (d : Data) (items : Items) → as_array d ≡ Some items → d ≡ array items
 array_is null items h = absurd (no_value items h)
 array_is (boolean b) items h = absurd (no_value items h)
@@ -69,6 +76,7 @@ array_is (string s) items h = absurd (no_value items h)
 array_is (array found) items h = ap array (same_some found items h)
 array_is (object found) items h = absurd (no_value items h)
 
+-- JSON that gives a text is that string
 string_is : (d : Data) (text : List ℕ) → as_str d ≡ Some text → d ≡ string text
 string_is null text h = absurd (no_value text h)
 string_is (boolean b) text h = absurd (no_value text h)
@@ -79,9 +87,11 @@ string_is (object found) text h = absurd (no_value text h)
 
 -- ---- paths and digests
 
+-- a path that passes as one that may be managed is itself, and passes the test
 managed_is : (p q : Path) → if_managed p ≡ Some q → (is_managed p ≡ true) × (p ≡ q)
 managed_is p q h = let two = guarded (is_managed p) (Some p) q h in (two.0, same_some p q two.1)
 
+-- a path that is read of JSON is the one of its form
 pub path_is : (d : Data) (p : Path) → path_of d ≡ Some p → AllByRecursion IsSegment p → IsPath p d
 path_is d p h s =
     let text = step (as_str d) managed_path p h in
@@ -94,27 +104,33 @@ path_is d p h s =
       managed = subst MayBeManaged managed.1 ((managed_where read.0).0 managed.0);
     }
 
+-- and a path of the form is read
 pub path_back : (d : Data) (p : Path) → IsPath p d → path_of d ≡ Some p
 path_back d p h = ap path_of h.is_text ∙ read_path h.text p h.spells h.managed
 
+-- of a conjunction that is true both sides are true
 both : (a b : Bool) → (a && b) ≡ true → (a ≡ true) × (b ≡ true)
 both true b h = (refl, h)
 both false b h = absurd (true≢false (sym h))
 
+-- a text whose length passes the test may be a digest
 digest_length : (l : List ℕ) → (not (length l == 0) && nat_le (length l) DIGEST_BYTES) ≡ true → IsDigest (Some l)
 digest_length [] h = absurd (true≢false (sym h))
 digest_length (b ∷ l) h = (omega arith, leb-true (length (b ∷ l)) DIGEST_BYTES (both (not (length (b ∷ l) == 0)) (nat_le (length (b ∷ l)) DIGEST_BYTES) h).1)
 
+-- and a digest's length passes it
 digest_test : (l : List ℕ) → IsDigest (Some l) → (not (length l == 0) && nat_le (length l) DIGEST_BYTES) ≡ true
 digest_test [] h = absurd (omega (arith, h.0))
 digest_test (b ∷ l) h = ap₂ (λ x y. not x && y) (eqb-suc-zero (length l)) (le-leb (length (b ∷ l)) DIGEST_BYTES h.1)
 
+-- a text that passes as a digest is itself, and may be one
 digest_text_is : (text digest : List ℕ) → if_digest text ≡ Some digest → (text ≡ digest) × IsDigest (Some digest)
 digest_text_is text digest h =
     let two = guarded (not (length text == 0) && nat_le (length text) DIGEST_BYTES) (Some text) digest h in
     let same = same_some text digest two.1 in
     (same, subst (λ d. IsDigest (Some d)) same (digest_length text two.0))
 
+-- a digest that is read of JSON, or none, is the one of its form
 pub digest_is : (d : Data) (digest : Option (List ℕ)) → digest_of d ≡ Some digest → IsDigestOf digest d
 digest_is null digest h = subst (λ g. IsDigestOf g null) (same_some None digest h) refl
 digest_is (boolean b) digest h = absurd (no_value digest h)
@@ -126,18 +142,22 @@ digest_is (string text) digest h =
 digest_is (array items) digest h = absurd (no_value digest h)
 digest_is (object _) digest h = absurd (no_value digest h)
 
+-- a text that may be a digest passes as one
 digest_text_back : (text : List ℕ) → IsDigest (Some text) → if_digest text ≡ Some text
 digest_text_back text h = ap (λ t. cond t (Some text) None) (digest_test text h)
 
+-- and a digest of the form, or none, is read
 pub digest_back : (d : Data) (digest : Option (List ℕ)) → IsDigestOf digest d → digest_of d ≡ Some digest
 digest_back d None h = ap digest_of h
 digest_back d (Some digest) h = ap digest_of h.0 ∙ ap (option_map (λ t. Some t)) (digest_text_back digest h.1)
 
 -- ---- files and folders
 
+-- a file with a path and a digest has these
 listed_same : (f : Listed) (p : Path) (digest : Option (List ℕ)) → file_with digest p ≡ f → (p ≡ f.path) × (digest ≡ f.digest)
 listed_same f p digest h = (ap (λ l. l.path) h, ap (λ l. l.digest) h)
 
+-- a file that is read of a list of two is that of its path and its digest
 pair_is : (d : Data) (items : Items) (f : Listed) → d ≡ array items → pair_of items ≡ Some f → AllByRecursion IsSegment f.path → IsPair f d
 pair_is d no_items f e h s = absurd (no_value f h)
 pair_is d (item p no_items) f e h s = absurd (no_value f h)
@@ -154,6 +174,7 @@ pair_is d (item p (item digest no_items)) f e h s =
     }
 pair_is d (item p (item digest (item c more))) f e h s = absurd (no_value f h)
 
+-- a file that is read of JSON is the one of its form
 pub file_is : (version : Version) (d : Data) (f : Listed) → file_of version d ≡ Some f → AllByRecursion IsSegment f.path → IsFile version f d
 file_is First d f h s =
     let path = mapped (file_with None) (path_of d) f h in
@@ -163,9 +184,11 @@ file_is Second d f h s =
     let items = step (as_array d) pair_of f h in
     pair_is d items.0 f (array_is d items.0 items.1) items.2 s
 
+-- a file without a digest is its path with none
 with_none : (f : Listed) → f.digest ≡ None → file_with None f.path ≡ f
 with_none f h = ap (λ g. file_with g f.path) (sym h)
 
+-- and a file of the form is read
 pub file_back : (version : Version) (d : Data) (f : Listed) → IsFile version f d → file_of version d ≡ Some f
 file_back First d f h = ap (option_map (file_with None)) (path_back d f.path h.0) ∙ ap (λ l. Some l) (with_none f h.1)
 file_back Second d f h =
@@ -173,6 +196,7 @@ file_back Second d f h =
     ∙ (taken (path_of h.path) (λ q. option_map (λ g. file_with g q) (digest_of h.digest)) f.path (path_back h.path f.path h.is_path)
     ∙ ap (option_map (λ g. file_with g f.path)) (digest_back h.digest f.digest h.is_digest))
 
+-- the files that are read of items are those of their form
 pub files_are : (version : Version) (items : Items) (files : List Listed) → files_of version items ≡ Some files → AllByRecursion (λ f. AllByRecursion IsSegment f.path) files → AreFiles version files items
 files_are version no_items files h s = subst (λ fs. AreFiles version fs no_items) (same_some [] files h) tt
 files_are version (item d items) files h s =
@@ -181,6 +205,7 @@ files_are version (item d items) files h s =
     let both = subst (AllByRecursion (λ f. AllByRecursion IsSegment f.path)) (sym rest.2) s in
     subst (λ fs. AreFiles version fs (item d items)) rest.2 (file_is version d first.0 first.1 both.0, files_are version items rest.0 rest.1 both.1)
 
+-- and files of the form are read
 pub files_back : (version : Version) (items : Items) (files : List Listed) → AreFiles version files items → files_of version items ≡ Some files
 files_back version no_items [] h = refl
 files_back version no_items (f ∷ files) h = absurd h
@@ -188,6 +213,7 @@ files_back version (item d items) [] h = absurd h
 files_back version (item d items) (f ∷ files) h =
     taken (file_of version d) (λ g. option_map (λ fs. g ∷ fs) (files_of version items)) f (file_back version d f h.0) ∙ ap (option_map (λ fs. f ∷ fs)) (files_back version items files h.1)
 
+-- the folders that are read of items are those of their form
 pub folders_are : (items : Items) (folders : List Path) → folders_of items ≡ Some folders → AllByRecursion (AllByRecursion IsSegment) folders → AreFolders folders items
 folders_are no_items folders h s = subst (λ ps. AreFolders ps no_items) (same_some [] folders h) tt
 folders_are (item d items) folders h s =
@@ -196,6 +222,7 @@ folders_are (item d items) folders h s =
     let both = subst (AllByRecursion (AllByRecursion IsSegment)) (sym rest.2) s in
     subst (λ ps. AreFolders ps (item d items)) rest.2 (path_is d first.0 first.1 both.0, folders_are items rest.0 rest.1 both.1)
 
+-- and folders of the form are read
 pub folders_back : (items : Items) (folders : List Path) → AreFolders folders items → folders_of items ≡ Some folders
 folders_back no_items [] h = refl
 folders_back no_items (p ∷ folders) h = absurd h
@@ -205,6 +232,7 @@ folders_back (item d items) (p ∷ folders) h =
 
 -- ---- objects of two keys
 
+-- JSON is an object of just these two keys, with these values
 pub record Two (a b : List ℕ) (d x y : Data) : Type 0 where
   pub members : Members
   pub is_object : d ≡ object members
@@ -212,6 +240,7 @@ pub record Two (a b : List ℕ) (d x y : Data) : Type 0 where
   pub first : get_member a members ≡ Some x
   pub second : get_member b members ≡ Some y
 
+-- values that are read of an object of two keys are those of its form
 pub two_are : (a b : List ℕ) (d : Data) (two : Data × Data) → two_of a b d ≡ Some two → Two a b d two.0 two.1
 two_are a b d two h =
     let members = step (as_object d) (two_among a b) two h in
@@ -226,6 +255,7 @@ two_are a b d two h =
       second = second.1 ∙ ap (λ t. Some t.1) second.2;
     }
 
+-- and values of the form are read
 pub two_back : (a b : List ℕ) (d x y : Data) → Two a b d x y → two_of a b d ≡ Some (x, y)
 two_back a b d x y t =
     ap (two_of a b) t.is_object
@@ -234,9 +264,11 @@ two_back a b d x y t =
 
 -- ---- packages
 
+-- a package that passes as one in which no path stands twice is itself, and passes the test
 once_is : (p q : Package) → if_once p ≡ Some q → (stand_once (paths_of p) ≡ true) × (p ≡ q)
 once_is p q h = let two = guarded (stand_once (paths_of p)) (Some p) q h in (two.0, same_some p q two.1)
 
+-- a package that is read of JSON is the one of its form
 pub package_is : (version : Version) (d : Data) (p : Package) → package_of version d ≡ Some p → ArePathsProper p → IsPackage version p d
 package_is version d p h s =
     let two = step (two_of (codes "files") (codes "folders") d) (package_among version) p h in
@@ -262,6 +294,7 @@ package_is version d p h s =
       once = subst (λ q. stand_once (paths_of q) ≡ true) once.1 once.0;
     }
 
+-- and a package of the form is read
 pub package_back : (version : Version) (d : Data) (p : Package) → IsPackage version p d → package_of version d ≡ Some p
 package_back version d p h =
     let two = two_back (codes "files") (codes "folders") d (array h.files) (array h.folders)
@@ -271,9 +304,11 @@ package_back version d p h =
     ∙ (ap (λ o. option_map (λ ps. package_with p.files ps) o >>= if_once) (folders_back h.folders p.folders h.are_folders)
     ∙ ap (λ t. cond t (Some p) None) h.once))
 
+-- each path of the packages is made of segments
 abbrev pub AreProper : Packages → Type 0
 AreProper ps = AllByRecursion (λ p. ArePathsProper p.1) ps
 
+-- the packages that are read of members are those of their form
 pub packages_are : (version : Version) (members : Members) (ps : Packages) → packages_of version members ≡ Some ps → AreProper ps → ArePackages version ps members
 packages_are version no_members ps h s = subst (λ qs. ArePackages version qs no_members) (same_some [] ps h) tt
 packages_are version (member name d members) ps h s =
@@ -282,9 +317,11 @@ packages_are version (member name d members) ps h s =
     let both = subst AreProper (sym rest.2) s in
     subst (λ qs. ArePackages version qs (member name d members)) rest.2 (refl, package_is version d first.0 first.1 both.0, packages_are version members rest.0 rest.1 both.1)
 
+-- a package with its name is the pair of the two
 named : (name : List ℕ) (p : List ℕ × Package) → p.0 ≡ name → (name, p.1) ≡ p
 named name p h = ap (λ n. (n, p.1)) (sym h)
 
+-- and packages of the form are read
 pub packages_back : (version : Version) (members : Members) (ps : Packages) → ArePackages version ps members → packages_of version members ≡ Some ps
 packages_back version no_members [] h = refl
 packages_back version no_members (p ∷ ps) h = absurd h
@@ -295,6 +332,7 @@ packages_back version (member name d members) (p ∷ ps) h =
 
 -- ---- listings
 
+-- the version with a number is written as that number
 numbered_is : (n : ℕ) (version : Version) → version_numbered n ≡ Some version → IsVersion version (number (unsigned n))
 numbered_is n version h = at (n == 1) (n == 2) refl refl h
   where
@@ -303,6 +341,7 @@ numbered_is n version h = at (n == 1) (n == 2) refl refl h
     at false true e f g = subst (λ v. IsVersion v (number (unsigned n))) (same_some Second version g) (ap (λ m. number (unsigned m)) (eqb-true n 2 f))
     at false false e f g = absurd (no_value version g)
 
+-- a version that is read of JSON is the one of its form
 pub version_is : (d : Data) (version : Version) → version_of d ≡ Some version → IsVersion version d
 version_is null version h = absurd (no_value version h)
 version_is (boolean b) version h = absurd (no_value version h)
@@ -313,10 +352,12 @@ version_is (string s) version h = absurd (no_value version h)
 version_is (array items) version h = absurd (no_value version h)
 version_is (object _) version h = absurd (no_value version h)
 
+-- and a version of the form is read
 pub version_back : (d : Data) (version : Version) → IsVersion version d → version_of d ≡ Some version
 version_back d First h = ap version_of h
 version_back d Second h = ap version_of h
 
+-- a listing that is read of JSON is the one of its form
 pub listing_is : (d : Data) (ps : Packages) → listing_of d ≡ Some ps → AreProper ps → IsListing ps d
 listing_is d ps h s =
     let two = step (two_of (codes "version") (codes "packages") d) listing_among ps h in
@@ -336,6 +377,7 @@ listing_is d ps h s =
       are_packages = packages_are version.0 packages.0 ps packages.2 s;
     }
 
+-- and a listing of the form is read
 pub listing_back : (d : Data) (ps : Packages) → IsListing ps d → listing_of d ≡ Some ps
 listing_back d ps h =
     let two = two_back (codes "version") (codes "packages") d h.numbered (object h.packages)
@@ -346,32 +388,40 @@ listing_back d ps h =
 
 -- ---- texts
 
+-- a text is read as one JSON only
 same_data : (bytes : List ℕ) (a b : Data) → read bytes ≡ Some a → read bytes ≡ Some b → a ≡ b
 same_data bytes a b e f = same_some a b (sym e ∙ f)
 
+-- the listing of a text is read of the JSON that the text is read as
 pub same_listing : (bytes : List ℕ) (json : Data) (ps : Packages) → read bytes ≡ Some json → IsListingText bytes ps → listing_of json ≡ Some ps
 same_listing bytes json ps e h = ap listing_of (same_data bytes json h.json e h.is_read) ∙ listing_back h.json ps h.is_listing
 
+-- a text gives one listing only
 pub one_listing : (bytes : List ℕ) (a b : Packages) → IsListingText bytes a → IsListingText bytes b → a ≡ b
 one_listing bytes a b h k = same_some a b (sym (listing_back h.json a h.is_listing) ∙ same_listing bytes h.json b h.is_read k)
 
+-- a text whose JSON gives no listing gives none
 pub no_listing : (bytes : List ℕ) (json : Data) → read bytes ≡ Some json → listing_of json ≡ None → (ps : Packages) → IsListingText bytes ps → ⊥
 no_listing bytes json e n ps h = no_value ps (sym n ∙ same_listing bytes json ps e h)
 
+-- and one whose JSON gives a listing is a text of it
 pub listing_read : (bytes : List ℕ) (json : Data) (ps : Packages) → IsUtf8 bytes → read bytes ≡ Some json → listing_of json ≡ Some ps → AreProper ps → IsListingText bytes ps
 listing_read bytes json ps text e h s = record { text = text; json = json; is_read = e; is_listing = listing_is json ps h s }
 
 -- ---- objects as they are stored
 
+-- an object that has not just two entries has no two values
 pub not_two : (a b : List ℕ) (d : Data) (es : List Entry) → Some (members_view es) ≡ as_object d → (length es ≡ 2 → ⊥) → None ≡ two_of a b d
 not_two a b d es h n =
     sym (ap (λ o. o >>= two_among a b) (sym h)
     ∙ ap (λ k. cond (k == 2) (get_member a (members_view es) >>= (λ x. option_map (λ y. (x, y)) (get_member b (members_view es)))) None) (members_len-members_view es)
     ∙ ap (λ t. cond t (get_member a (members_view es) >>= (λ x. option_map (λ y. (x, y)) (get_member b (members_view es)))) None) (ne_eqb (length es) 2 n))
 
+-- a value under a key of JSON is the one of its members
 got : (key : List ℕ) (d : Data) (members : Members) → Some members ≡ as_object d → get key d ≡ get_member key members
 got key d members h = ap (get key) (object_is d members (sym h))
 
+-- an object of two entries with a value under each key has these two
 pub two_got : (a b : List ℕ) (d x y : Data) (es : List Entry) → Some (members_view es) ≡ as_object d → length es ≡ 2 → Some x ≡ get a d → Some y ≡ get b d → Some (x, y) ≡ two_of a b d
 two_got a b d x y es h n first second =
     sym (two_back a b d x y (record {
@@ -382,6 +432,7 @@ two_got a b d x y es h n first second =
       second = sym (got b d (members_view es) h) ∙ sym second;
     }))
 
+-- a refusal of JSON that gives no listing is one of a text that gives none
 pub refused_with : (bytes : List ℕ) (json : Data) (f : Fault) → read bytes ≡ Some json → listing_of json ≡ None → IfRefused f (IsRefusal 61 0 (codes "packages"))
     → IfRefused f (λ r. IsRefusal 61 0 (codes "packages") r × ((ps : Packages) → IsListingText bytes ps → ⊥))
 refused_with bytes json (Refused r) is none h = (h, no_listing bytes json is none)

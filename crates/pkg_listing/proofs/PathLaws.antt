@@ -17,10 +17,12 @@ use Rattle.pkg_listing.specs.Reading.{is_managed, if_managed, managed_path}
 
 -- ---- the bytes of a text whose path is made of segments
 
+-- where pieces with a byte more are of bytes, the byte is one and the pieces are of bytes
 with_byte_bytes : (b : ℕ) (ps : List (List ℕ)) → AllByRecursion IsBytes (with_byte b ps) → (b < 256) × AllByRecursion IsBytes ps
 with_byte_bytes b [] h = (h.0.0, tt)
 with_byte_bytes b (p ∷ ps) h = (h.0.0, (h.0.1, h.1))
 
+-- a text whose pieces are of bytes is of bytes
 text_bytes : (text : List ℕ) → AllByRecursion IsBytes (pieces text) → IsBytes text
 text_bytes [] h = tt
 text_bytes (b ∷ text) h = at (text_bytes text) (b == 47) refl h
@@ -38,15 +40,18 @@ piece_bytes (b ∷ q) k h s = at (is_good (b ∷ q)) (ap (λ v. cond v (Some [])
     at true e = let same : ◌≡◌ {A = Path} ((b ∷ q) ∷ []) k = cc in (subst (AllByRecursion IsSegment) (sym same) s).0.bytes
     at false e = cc
 
+-- what is joined is one path behind the other
 parts_of : (a b : Option Path) (p : Path) → joined a b ≡ Some p → (k : Path) × (r : Path) × (a ≡ Some k) × (b ≡ Some r) × (k ++ r ≡ p)
 parts_of None b p h = cc
 parts_of (Some k) None p h = cc
 parts_of (Some k) (Some r) p h = let same : k ++ r ≡ p = cc in (k, r, refl, refl, same)
 
+-- the parts of a path of segments are of segments
 all_parts : (k r : Path) → AllByRecursion IsSegment (k ++ r) → AllByRecursion IsSegment k × AllByRecursion IsSegment r
 all_parts [] r h = (tt, h)
 all_parts (s ∷ k) r h = let two = all_parts k r h.1 in ((h.0, two.0), two.1)
 
+-- pieces that add a path of segments are of bytes
 pieces_bytes : (ps : List (List ℕ)) (p : Path) → segments_of ps ≡ Some p → AllByRecursion IsSegment p → AllByRecursion IsBytes ps
 pieces_bytes [] p h s = tt
 pieces_bytes (q ∷ qs) p h s =
@@ -54,10 +59,12 @@ pieces_bytes (q ∷ qs) p h s =
     let two = all_parts parts.0 parts.1 (subst (AllByRecursion IsSegment) (sym parts.4) s) in
     (piece_bytes q parts.0 parts.2 two.0, pieces_bytes qs parts.1 parts.3 two.1)
 
+-- what is there under a condition is there, and the condition holds
 guarded : {X : Type 0} (t : Bool) (o : Option X) (x : X) → cond t o None ≡ Some x → (t ≡ true) × (o ≡ Some x)
 guarded true o x h = (refl, h)
 guarded false o x h = cc
 
+-- a path within the limit of segments is the one that was read
 within_some : (o : Option Path) (p : Path) → within o ≡ Some p → o ≡ Some p
 within_some None p h = cc
 within_some (Some q) p h = (guarded (nat_le (length q) PATH_SEGMENTS) (Some q) p h).1
@@ -70,10 +77,12 @@ path_spelled text p s h =
 
 -- ---- what is written of a path is no longer than a text of it
 
+-- slashes that aren't none are one at least
 some_slash : (slashes : List ℕ) → slashes ≢ [] → 1 ≤ length slashes
 some_slash [] n = absurd (n refl)
 some_slash (b ∷ slashes) n = omega arith
 
+-- what is written of a path's segments is no longer than a text that spells them
 spelled_short : (p : Path) (text : List ℕ) → Segments p text → length (spelled p) ≤ length text
 spelled_short [] text h = omega arith
 spelled_short (s ∷ p) text h =
@@ -83,16 +92,19 @@ spelled_short (s ∷ p) text h =
     let mine = length-append s (spelled p) in
     omega arith
 
+-- what is written of a path is short enough where a text of it is
 pub text_short : (p : Path) (text : List ℕ) → p ≢ [] → IsPathText text p → length (path_text p) ≤ PATH_BYTES
 text_short [] text n h = absurd (n refl)
 text_short (s ∷ p) text n h = let short = spelled_short (s ∷ p) text h.spelled in let bytes = h.bytes in omega arith
 
 -- ---- paths that may be managed
 
+-- where the opposite of a truth value is true it is false
 not_true : (a : Bool) → not a ≡ true → a ≡ false
 not_true true h = absurd (true≢false (sym h))
 not_true false h = refl
 
+-- texts that differ are told to
 differ : (s t : List ℕ) → (s ≡ t → ⊥) → bytes_eq s t ≡ false
 differ s t n = at (bytes_eq s t) refl
   where
@@ -100,6 +112,7 @@ differ s t n = at (bytes_eq s t) refl
     at true e = absurd (n ((bytes_eq-Decides s t).0 e))
     at false e = refl
 
+-- a path is told to be one that may be managed exactly where it is
 pub managed_where : (p : Path) → (is_managed p ≡ true) ↔ MayBeManaged p
 managed_where [] = ((λ h. cc), (λ m. absurd (m.0 refl)))
 managed_where (s ∷ p) = (
@@ -107,9 +120,11 @@ managed_where (s ∷ p) = (
   (λ m. ap not (differ s (codes ".rehearsal") m.1)),
 )
 
+-- a path that may be managed passes
 pub managed_so : (p : Path) → MayBeManaged p → if_managed p ≡ Some p
 managed_so p m = ap (λ t. cond t (Some p) None) ((managed_where p).1 m)
 
+-- and one that may not doesn't
 pub unmanaged_so : (p : Path) → (MayBeManaged p → ⊥) → if_managed p ≡ None
 unmanaged_so p n = at (is_managed p) refl
   where
@@ -119,9 +134,11 @@ unmanaged_so p n = at (is_managed p) refl
 
 -- ---- a path that is read, and none
 
+-- a text of a path that may be managed gives the path
 pub read_path : (text : List ℕ) (p : Path) → IsPathText text p → MayBeManaged p → managed_path text ≡ Some p
 read_path text p h m = ap (λ o. o >>= if_managed) (path_again text p h) ∙ managed_so p m
 
+-- a text that is none of a path is read as none
 none_in : (text : List ℕ) → IsBytes text → ((p : Path) → IsPathText text p → ⊥) → path_in text ≡ None
 none_in text bytes n = at (path_in text) refl
   where
@@ -129,9 +146,11 @@ none_in text bytes n = at (path_in text) refl
     at None e = refl
     at (Some p) e = absurd (n p (path_found text p bytes e))
 
+-- and gives none that may be managed
 pub no_path : (text : List ℕ) → IsUtf8 text → ((p : Path) → IsPathText text p → ⊥) → managed_path text ≡ None
 no_path text utf n = ap (λ o. o >>= if_managed) (none_in text (utf8_bytes text utf) n)
 
+-- a text of a path that may not be managed gives none
 pub unmanaged_path : (text : List ℕ) (p : Path) → IsPathText text p → (b : Bool) → (MayBeManaged p → b ≡ true) → b ≡ false → managed_path text ≡ None
 unmanaged_path text p h b back e =
     ap (λ o. o >>= if_managed) (path_again text p h) ∙ unmanaged_so p (λ m. true≢false (sym (back m) ∙ e))

@@ -36,37 +36,46 @@ pub record AreRead (version : Version) (ps : Packages) (es : List Entry) (whole 
   pub sorted : IsStrictlySortedBy string_cmp (keys_of es)
   pub proper : AreProper ps
 
+-- what is made of something, and is that itself, is what was there
 option_same : {X : Type 0} (o : Option X) → option_map (λ x. x) o ≡ o
 option_same None = refl
 option_same (Some x) = refl
 
+-- at the start nothing is read, and all members are left
 pub nothing_read : (version : Version) (es : List Entry) → IsStrictlySortedBy string_cmp (keys_of es) → AreRead version [] es (packages_of version (members_view es))
 nothing_read version es h = record { read = option_same (packages_of version (members_view es)); before = tt; sorted = h; proper = tt }
 
+-- names that come before all keys come before the first
 heads : (k : String Global) (ks : List (String Global)) (ps : Packages) → ComeBefore ps (k ∷ ks) → AllByRecursion (λ q. slice_cmp nat_cmp q.0 (string_bytes k) ≡ Less) ps
 heads k ks [] h = tt
 heads k ks (q ∷ ps) h = (h.0.0, heads k ks ps h.1)
 
+-- and before the rest
 tails : (k : String Global) (ks : List (String Global)) (ps : Packages) → ComeBefore ps (k ∷ ks) → ComeBefore ps ks
 tails k ks [] h = tt
 tails k ks (q ∷ ps) h = (h.0.1, tails k ks ps h.1)
 
+-- what holds of all of a list and of one more holds of all with that one at the end
 all_last : {X : Type 0} (P : X → Type 0) (xs : List X) (x : X) → AllByRecursion P xs → P x → AllByRecursion P (xs ++ x ∷ [])
 all_last P [] x h k = (k, tt)
 all_last P (y ∷ xs) x h k = (h.0, all_last P xs x h.1 k)
 
+-- one package ahead of the rest is one behind those that were read
 by_more : (o : Option Packages) (ps : Packages) (q : List ℕ × Package) → option_map (λ more. (ps ++ q ∷ []) ++ more) o ≡ option_map (λ more. ps ++ more) (option_map (λ more. q ∷ more) o)
 by_more None ps q = refl
 by_more (Some more) ps q = ap (λ (qs : Packages). Some qs) (append_assoc ps (q ∷ []) more)
 
+-- a key that is less than all others is less by its bytes
 names_behind : (k : String Global) (ks : List (String Global)) → AllByRecursion (λ y. string_cmp k y ≡ Less) ks → AllByRecursion (λ l. slice_cmp nat_cmp (string_bytes k) (string_bytes l) ≡ Less) ks
 names_behind k [] h = tt
 names_behind k (l ∷ ks) h = (h.0, names_behind k ks h.1)
 
+-- of keys that rise the first is less than all others, and these rise
 first_and_rest : (k : String Global) (ks : List (String Global)) → IsStrictlySortedBy string_cmp (k ∷ ks) → AllByRecursion (λ y. string_cmp k y ≡ Less) ks × IsStrictlySortedBy string_cmp ks
 unfolding IsStrictlySortedBy
 first_and_rest k ks h = h
 
+-- with one more package read, what was read and what is left are the same whole
 one_more : (version : Version) (ps : Packages) (e : Entry) (rest : List Entry) (p : Package) (whole : Option Packages) → package_of version (view e.1) ≡ Some p → ArePathsProper p
     → AreRead version ps (e ∷ rest) whole → AreRead version (with_pair (string_bytes e.0) p ps) rest whole
 one_more version ps e rest p whole is proper r =
@@ -81,21 +90,25 @@ one_more version ps e rest p whole is proper r =
       proper = all_last (λ q. ArePathsProper q.1) ps (name, p) r.proper proper;
     })
 
+-- and so it is where the package is read of the next stored entry
 pub next_read : (version : Version) (ps new : Packages) (es rest : List Entry) (k : String Global) (v : Value) (name : List ℕ) (whole : Option Packages) → es ≡ (k, v) ∷ rest → name ≡ string_bytes k
     → AddsPackage version name (view v) ps new → AreRead version ps es whole → AreRead version new rest whole
 next_read version ps new es rest k v name whole next name_is added r =
     let read = subst (λ l. AreRead version ps l whole) next r in
     subst (λ qs. AreRead version qs rest whole) (ap (λ n. with_pair n added.0 ps) (sym name_is) ∙ sym added.3) (one_more version ps (k, v) rest added.0 whole added.1 added.2 read)
 
+-- where the next member is no package, there is no whole
 pub no_more : (version : Version) (ps : Packages) (es rest : List Entry) (k : String Global) (v : Value) (whole : Option Packages) → es ≡ (k, v) ∷ rest → package_of version (view v) ≡ None → AreRead version ps es whole → whole ≡ None
 no_more version ps es rest k v whole next none r =
     let read = subst (λ l. AreRead version ps l whole) next r in
     sym read.read ∙ ap (λ o. option_map (λ more. ps ++ more) (o >>= (λ q. option_map (λ qs. (string_bytes k, q) ∷ qs) (packages_of version (members_view rest))))) none
 
+-- a fault of the next member is one of the whole
 pub passed : (version : Version) (ps : Packages) (es rest : List Entry) (k : String Global) (v : Value) (whole : Option Packages) (e : Misread) → es ≡ (k, v) ∷ rest → Fails e (package_of version (view v)) → AreRead version ps es whole → Fails e whole
 passed version ps es rest k v whole misread.Form next none r = no_more version ps es rest k v whole next none r
 passed version ps es rest k v whole (misread.Memory m) next none r = tt
 
+-- where no members are left, what was read is the whole
 pub all_read : (version : Version) (ps : Packages) (es : List Entry) (whole : Option Packages) → es ≡ [] → AreRead version ps es whole → whole ≡ Some ps
 all_read version ps es whole none r =
     let read = subst (λ l. AreRead version ps l whole) none r in
@@ -103,17 +116,21 @@ all_read version ps es whole none r =
 
 -- ---- paths that stand once
 
+-- the paths of these files
 abbrev OfFiles : List Listed → List Path
 OfFiles files = map (λ f. f.path) files
 
+-- paths that were all added were new, and come last
 added : (b : Bool) (ps old new : List Path) → AddsAll (Ok b) ps old new → b ≡ true → (are_new old ps ≡ true) × (new ≡ old ++ ps)
 added true ps old new h e = h
 added false ps old new h e = absurd (true≢false (sym e))
 
+-- paths that weren't all added were not all new
 not_added : (b : Bool) (ps old new : List Path) → AddsAll (Ok b) ps old new → b ≡ false → are_new old ps ≡ false
 not_added true ps old new h e = absurd (true≢false e)
 not_added false ps old new h e = h
 
+-- where a path stands twice among the files, one does so among all
 pub twice : (b : Bool) (slice files : List Listed) (qs old new : List Path) → AddsAll (Ok b) (OfFiles slice) old new → b ≡ false → slice ≡ files → old ≡ []
     → false ≡ stand_once (OfFiles files ++ qs)
 twice b slice files qs old new h e is none =
@@ -137,10 +154,12 @@ told_once r b slice files folders qs old new seen now h e is none same same_seen
 
 -- ---- lists that are no pair
 
+-- a list of more than two items is no pair
 pub too_many : (items more : List Value) (x y : Value) → items ≡ x ∷ y ∷ more → (length more == 0) ≡ false → pair_of (items_view items) ≡ None
 too_many items [] x y e n = absurd (true≢false n)
 too_many items (z ∷ more) x y e n = ap (λ l. pair_of (items_view l)) e
 
+-- what holds anyway holds after an Ok
 pub on_ok : {X E : Type 0} (r : Result X E) (P : Type 0) → P → OnOk r P
 on_ok (Ok x) P h = h
 on_ok (Err e) P h = tt

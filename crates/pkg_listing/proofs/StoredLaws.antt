@@ -17,13 +17,16 @@ use Rattle.pkg_listing.specs.declared.listing.Package.{Package}
 use Rattle.pkg_listing.specs.ListingText.{package_data, packages_data, listing_data, listing_text}
 use Rattle.pkg_listing.proofs.TextLaws.{no_float, shallow, put_last}
 
+-- an entry that is inserted among those stored is a member that is put
 pub put_member : (es new : List Entry) (k : String Global) (v : json.Value) (key : List ℕ) (d : Data) → new ≡ insert_entry string_cmp es k v → string_bytes k ≡ key → view v ≡ d → members_view new ≡ put key d (members_view es)
 put_member es new k v key d e key_is data_is =
     ap members_view e ∙ members_view-insert_entry es k v ∙ ap (λ l. put l (view v) (members_view es)) key_is ∙ ap (λ x. put key x (members_view es)) data_is
 
+-- what is stored of a listing is written as its text
 pub written_text : (ps : Packages) (v : json.Value) (bytes : List ℕ) → view v ≡ listing_data ps → (has_float (view v) ≡ false → bytes ≡ compact_text (view v)) → bytes ≡ listing_text ps
 written_text ps v bytes is h = subst (λ d. has_float d ≡ false → bytes ≡ compact_text d) is h (no_float ps)
 
+-- and that text is read as the listing's JSON
 pub written_read : (ps : Packages) (v : json.Value) (bytes : List ℕ) → view v ≡ listing_data ps → (depth (view v) ≤ max_depth → read bytes ≡ Some (view v)) → read bytes ≡ Some (listing_data ps)
 written_read ps v bytes is h = subst (λ d. depth d ≤ max_depth → read bytes ≡ Some d) is h (shallow ps)
 

@@ -39,6 +39,7 @@ not_missing Untold name bytes h k = k
 not_missing (Only files) name bytes h k = let no : ◌≡◌ {A = Option (List ℕ)} (Some bytes) None = sym h ∙ k in cc
 not_missing (ElseEmpty files) name bytes h k = k
 
+-- words that make a request don't make none
 none_made : (words : List (String Global)) (request : Request) → Requests words request → RequestsNone words → ⊥
 none_made words request made none = none request made
 
@@ -71,6 +72,7 @@ memory_tells run status is front out = record {
   known = inr (inr (inr (inr (inr is))));
 }
 
+-- at status 8, where no put on out failed, what has to follow does
 memory_owes : (run : Run) (status : ℕ) → status ≡ 8 → IsSound run.out → Owed run status
 memory_owes run status is sound = record {
   usage = λ none. inr (inr is);
@@ -80,14 +82,17 @@ memory_owes run status is sound = record {
   untold = λ failed. inr is;
 }
 
+-- what a status tells and what follows of it are its ending
 ended : (run : Run) (status : ℕ) → Tells run status → Owed run status → Ended run status
 ended run status tells owed = record { tells = tells; owed = owed }
 
+-- where memory was refused the run ends so
 pub memory_ends : (run : Run) (status : ℕ) → status ≡ 8 → AppendsFront memory_line run.err → IsLeft run.out → IsSound run.out → Ended run status
 memory_ends run status is front out sound = ended run status (memory_tells run status is front out) (memory_owes run status is sound)
 
 -- ---- a report was to be written
 
+-- a verdict has the status of a report
 few_told : (f : Form) (terms : Terms) (notes : List ℕ) (names : List (List ℕ)) (es : List Program) (order : Relation) (report : Report) → IsTold f terms notes names es order report → IsOfReport report.status
 few_told f terms notes names es order report told = elim told.answer [
   | inl sure ↦ inl (omega (arith, sure.status))
@@ -96,12 +101,14 @@ few_told f terms notes names es order report told = elim told.answer [
   | inr (inr (inr spent)) ↦ inl (omega (arith, spent.status))
 ]
 
+-- and so has a repair
 few_repaired : (terms : Terms) (notes : List ℕ) (names : List (List ℕ)) (es : List Program) (order : Relation) (report : Report) → IsRepairTold terms notes names es order report → IsOfReport report.status
 few_repaired terms notes names es order report told = elim told.answer [
   | inl repaired ↦ inl (omega (arith, repaired.status))
   | inr spent ↦ inl (omega (arith, spent.status))
 ]
 
+-- and an entry that is wanted
 few_ensured : (terms : Terms) (notes : List ℕ) (w : Wanted) (names : List (List ℕ)) (es : List Program) (order : Relation) (report : Report) → IsEntryTold terms notes w names es order report → IsOfReport report.status
 few_ensured terms notes w names es order report told = elim told.answer [
   | inl held ↦ inl (omega (arith, held.status))
@@ -126,9 +133,11 @@ few ask.Ensures conflicts i report answer = few_ensured _ _ _ _ _ _ report answe
 few ask.Equal conflicts i report answer = compared_laws.few _ _ _ _ _ _ _ _ _ report answer.told.answer
 few ask.Explain conflicts i report answer = explained_laws.few _ _ _ _ _ report answer.told.told.answer
 
+-- whatever is reported has the status of one
 has_status : (words : List (String Global)) (held : Held) (report : Report) → Reports words held report → IsOfReport report.status
 has_status words held report reports = few reports.on.loaded.ask reports.on.loaded.conflicts reports.on.loaded.inputs report reports.on.says
 
+-- where a report was to be written the run ends so
 pub report_ends : (run : Run) (status : ℕ) (report : Report) → Reports run.words run.held report → run.shelf_now ≡ run.shelf_before
     → TellsReport report run.out run.err status → Ended run status
 report_ends run status report reports read (inl told) =
@@ -177,6 +186,7 @@ record Cause (run : Run) (at : ℕ) (line : List ℕ) : Type 0 where
   decided : IsHeld run.words run.held → (Rose run.shelf_before run.shelf_now → ⊥) → at ≡ 4
   unread : run.shelf_now ≢ run.shelf_before → at ≡ 6
 
+-- a line that was told on err is what its status tells
 told_line : (run : Run) (status at : ℕ) (line : List ℕ) → HasCause run at line → IsLeft run.out → status ≡ at → Appends line run.err → Tells run status
 told_line run status at line cause out is told = elim cause [
   | inl c ↦ record {
@@ -208,6 +218,7 @@ told_line run status at line cause out is told = elim cause [
   }
 ]
 
+-- where a line was to be told the run ends so
 line_ends : (run : Run) (status at : ℕ) (line : List ℕ) → Cause run at line → IsLeft run.out → IsSound run.out → TellsLine at line run.err status → Ended run status
 line_ends run status at line cause out sound (inl told) =
     ended run status
@@ -239,6 +250,7 @@ line_ends run status at line cause out sound (inr (inl told)) =
     })
 line_ends run status at line cause out sound (inr (inr told)) = memory_ends run status told.0 told.1 out sound
 
+-- and so it does with a refusal
 pub refusal_ends : (run : Run) (status : ℕ) (s : Side) (r : Refusal) → Refuses run.words run.held s r → run.shelf_now ≡ run.shelf_before → IsLeft run.out → IsSound run.out
     → TellsLine 4 (refusal_line s r) run.err status → Ended run status
 refusal_ends run status s r refuses read out sound told =
@@ -250,6 +262,7 @@ refusal_ends run status s r refuses read out sound told =
       unread = λ failed. absurd (failed read);
     }) out sound told
 
+-- and where the words make no request
 pub usage_ends : (run : Run) (status : ℕ) → RequestsNone run.words → run.shelf_now ≡ run.shelf_before → IsLeft run.out → IsSound run.out
     → TellsLine 5 usage_line run.err status → Ended run status
 usage_ends run status none read out sound told =
@@ -261,6 +274,7 @@ usage_ends run status none read out sound told =
       unread = λ failed. absurd (failed read);
     }) out sound told
 
+-- and where a file couldn't be read
 pub read_fault_ends : OneRequest → (run : Run) (status : ℕ) (name : List ℕ) → FailsToRead run.words run.held run.shelf_before run.shelf_now name → IsLeft run.out → IsSound run.out
     → TellsLine 6 (read_fault_line name) run.err status → Ended run status
 read_fault_ends one run status name fails out sound told =
@@ -276,9 +290,11 @@ read_fault_ends one run status name fails out sound told =
 
 -- ---- where no count of faults can rise
 
+-- no count of faults rises from 0 to 0
 pub never_rose : Rose 0 0 → ⊥
 never_rose h = absurd (omega (arith, h))
 
+-- where no sink fails the status isn't 7
 pub never_a_write_fault : (run : Run) (status : ℕ) → Tells run status → (HasFailed run.out → ⊥) → (HasFailed run.err → ⊥) → status ≡ 7 → ⊥
 never_a_write_fault run status tells out err is = elim (tells.write is) [ inl o ↦ out o.0 | inr e ↦ err e.0 ]
 
@@ -288,6 +304,7 @@ never_failed held before now [] name never there failed = failed
 never_failed held before now (f ∷ files) name never there (inl here) = elim here.1 [ inl rose ↦ never rose | inr missing ↦ there name missing ]
 never_failed held before now (f ∷ files) name never there (inr later) = never_failed held before now files name never there later.1
 
+-- where the shelf doesn't fail and no name is missing, the status isn't 6
 pub never_a_read_fault : (run : Run) (status : ℕ) → Tells run status → (Rose run.shelf_before run.shelf_now → ⊥) → ((n : List ℕ) → IsMissing run.held n → ⊥) → status ≡ 6 → ⊥
 never_a_read_fault run status tells never there is =
     let told = tells.read is in
@@ -304,6 +321,7 @@ lacking one run status tells lacks = elim tells.known [
   | inr (inr (inr others)) ↦ others
 ]
 
+-- what follows of the status follows of how the run ended
 pub owes : NoCatalogRefusal → NoGraphRefusal → NoReportRefusal → NoComparisonRefusal → OneList → NoFault → OneRequest → (run : Run) (status : ℕ) → Ended run status → Owes run status
 owes catalogs graphs programs comparisons lists faults one run status ends = record {
   owed = ends.owed;
@@ -314,6 +332,7 @@ owes catalogs graphs programs comparisons lists faults one run status ends = rec
 
 -- ---- from the request to the words that make it
 
+-- what is said of a request is said of the words that make it
 pub says_of_words : (words : List (String Global)) (request : Request) (held : Held) (before now : ℕ) (e : Ending)
     → Requests words request → SaysOf request held before now e → Says words held before now e
 says_of_words words request held before now (ending.Report report) made h = (h.0, record { request = request; made = made; on = h.1 })

@@ -52,22 +52,28 @@ is_other ask.Ensures = ⊥
 is_other ask.Equal = ⊥
 is_other ask.Explain = ⊥
 
+-- the other values ask for no verdict
 no_verdict : (a : Ask) → is_other a → (f : Form) → a ≡ ask_for f → ⊥
 no_verdict a h form.Lines e = subst is_other e h
 no_verdict a h form.Proofs e = subst is_other e h
 
+-- and for no repair
 no_repair : (a : Ask) → is_other a → a ≡ ask.Repair → ⊥
 no_repair a h e = subst is_other e h
 
+-- and for no entry that is wanted
 no_entry : (a : Ask) → is_other a → a ≡ ask.Ensures → ⊥
 no_entry a h e = subst is_other e h
 
+-- and for no comparison
 no_equal : (a : Ask) → is_other a → a ≡ ask.Equal → ⊥
 no_equal a h e = subst is_other e h
 
+-- and for no explanation
 no_why : (a : Ask) → is_other a → a ≡ ask.Explain → ⊥
 no_why a h e = subst is_other e h
 
+-- an answer is of the kind that is asked for
 kind_of : (a : Ask) (conflicts : Option ℕ) (i : Inputs) (report : Report) → IsAnswerTo a conflicts i report → Kind a conflicts i report
 kind_of ask.Verify conflicts i report answer = verdict form.Lines refl answer
 kind_of ask.Proof conflicts i report answer = verdict form.Proofs refl answer
@@ -82,6 +88,7 @@ kind_of ask.Ensures conflicts i report answer = entry refl answer
 kind_of ask.Equal conflicts i report answer = both refl answer
 kind_of ask.Explain conflicts i report answer = why refl answer
 
+-- and so is a report
 kind : (run : Run) (report : Report) (reports : Reports run.words run.held report) → Kind reports.on.loaded.ask reports.on.loaded.conflicts reports.on.loaded.inputs report
 kind run report reports = kind_of reports.on.loaded.ask reports.on.loaded.conflicts reports.on.loaded.inputs report reports.on.says
 
@@ -113,38 +120,48 @@ no_verdict_repairs : (f : Form) → ask_for f ≡ ask.Repair → ⊥
 no_verdict_repairs form.Lines e = cc
 no_verdict_repairs form.Proofs e = cc
 
+-- a request for a verdict is none for an entry
 no_verdict_wants : (f : Form) → ask_for f ≡ ask.Ensures → ⊥
 no_verdict_wants form.Lines e = cc
 no_verdict_wants form.Proofs e = cc
 
+-- and neither is one for a repair
 no_repair_wants : ask.Repair ≡ ask.Ensures → ⊥
 no_repair_wants e = cc
 
+-- a request for a verdict is none for a comparison
 no_verdict_compares : (f : Form) → ask_for f ≡ ask.Equal → ⊥
 no_verdict_compares form.Lines e = cc
 no_verdict_compares form.Proofs e = cc
 
+-- and neither is one for a repair
 no_repair_compares : ask.Repair ≡ ask.Equal → ⊥
 no_repair_compares e = cc
 
+-- nor is one for an entry
 no_entry_compares : ask.Ensures ≡ ask.Equal → ⊥
 no_entry_compares e = cc
 
+-- a request for a verdict is none for an explanation
 no_verdict_explains : (f : Form) → ask_for f ≡ ask.Explain → ⊥
 no_verdict_explains form.Lines e = cc
 no_verdict_explains form.Proofs e = cc
 
+-- and neither is one for a repair
 no_repair_explains : ask.Repair ≡ ask.Explain → ⊥
 no_repair_explains e = cc
 
+-- nor is one for an entry
 no_entry_explains : ask.Ensures ≡ ask.Explain → ⊥
 no_entry_explains e = cc
 
+-- nor one for a comparison
 no_equal_explains : ask.Equal ≡ ask.Explain → ⊥
 no_equal_explains e = cc
 
 -- a verdict that is told, and an entry that is
 module _ (run : Run) (report : Report) (reports : Reports run.words run.held report) where
+  -- what is judged, of a report on a verdict
   abbrev verdict_on : (f : Form) → reports.on.loaded.ask ≡ ask_for f → (answer : IsReport (question.Verdict f reports.on.loaded.conflicts) reports.on.loaded.inputs report) → Judged run
   verdict_on f is answer = record {
     ask = ask_for f;
@@ -155,6 +172,7 @@ module _ (run : Run) (report : Report) (reports : Reports run.words run.held rep
     count = answer.told.count;
   }
 
+  -- and of one on an entry that is wanted
   abbrev entry_on : reports.on.loaded.ask ≡ ask.Ensures → (answer : IsReport (question.Ensures reports.on.loaded.conflicts) reports.on.loaded.inputs report) → Judged run
   entry_on is answer = record {
     ask = ask.Ensures;
@@ -190,6 +208,7 @@ explained_on run report reports asked is = record {
 
 -- ---- what each status promises
 
+-- where a verdict is asked for, status 0 promises that all is well
 well_of : (run : Run) → AsksForVerdict run → WritesReport run 0 → IsWell run
 well_of run asks (report, reports, same, written, left) =
     let asked = asked_for run report reports asks.0 asks.1 ∙ asks.3 in
@@ -207,6 +226,7 @@ well_of run asks (report, reports, same, written, left) =
       | other zero not_verdict not_repair not_entry not_equal not_why ↦ absurd (not_verdict asks.2 asked)
     ]
 
+-- status 1 promises that orders differ
 depends_of : (run : Run) → WritesReport run 1 → DependsOnOrder run ⊎ (OneDependsOnOrder run ⊎ TellsWhyOrderMatters run)
 depends_of run (report, reports, same, written, left) =
     elim (kind run report reports) [
@@ -232,6 +252,7 @@ depends_of run (report, reports, same, written, left) =
       | other zero not_verdict not_repair not_entry not_equal not_why ↦ absurd (omega (arith, same, zero))
     ]
 
+-- status 2 promises that a second run changes something
 changes_of : (run : Run) → WritesReport run 2 → ChangesAgain run ⊎ TellsWhatChanges run
 changes_of run (report, reports, same, written, left) =
     elim (kind run report reports) [
@@ -257,6 +278,7 @@ changes_of run (report, reports, same, written, left) =
       | other zero not_verdict not_repair not_entry not_equal not_why ↦ absurd (omega (arith, same, zero))
     ]
 
+-- a comparison of status 3 promises that the conflicts were spent on it
 spent_comparison : (run : Run) (report : Report) (reports : Reports run.words run.held report) → report.status ≡ 3 → Appends report.text run.out → reports.on.loaded.ask ≡ ask.Equal
     → IsComparison reports.on.loaded.conflicts reports.on.loaded.inputs report → SpendsOnComparison run
 spent_comparison run report reports same written is answer = record {
@@ -266,6 +288,7 @@ spent_comparison run report reports same written is answer = record {
   written = written;
 }
 
+-- and so does an explanation of that status
 spent_explanation : (run : Run) (report : Report) (reports : Reports run.words run.held report) → report.status ≡ 3 → Appends report.text run.out → reports.on.loaded.ask ≡ ask.Explain
     → IsReport (question.Explain reports.on.loaded.conflicts) reports.on.loaded.inputs report → SpendsOnExplanation run
 spent_explanation run report reports same written is answer =
@@ -277,6 +300,7 @@ spent_explanation run report reports same written is answer =
       written = written;
     }
 
+-- status 3 promises that the conflicts were spent, whatever was asked
 spends_of : (run : Run) → WritesReport run 3 → SpendsConflicts run ⊎ (SpendsOnRepair run ⊎ (SpendsOnEntry run ⊎ (SpendsOnComparison run ⊎ SpendsOnExplanation run)))
 spends_of run (report, reports, same, written, left) =
     elim (kind run report reports) [
@@ -327,6 +351,7 @@ spends_of run (report, reports, same, written, left) =
       | other zero not_verdict not_repair not_entry not_equal not_why ↦ absurd (omega (arith, same, zero))
     ]
 
+-- where a repair is asked for, status 0 promises that the arrows repair
 mended_of : (run : Run) → AsksForRepair run → WritesReport run 0 → IsMended run
 mended_of run asks (report, reports, same, written, left) =
     let asked = asked_for run report reports asks.0 asks.1 ∙ asks.2 in
@@ -342,6 +367,7 @@ mended_of run asks (report, reports, same, written, left) =
       | other zero not_verdict not_repair not_entry not_equal not_why ↦ absurd (not_repair asked)
     ]
 
+-- where an entry is wanted, status 0 promises that each run leaves it
 leaves_of : (run : Run) → AsksForEntry run → WritesReport run 0 → LeavesEntry run
 leaves_of run asks (report, reports, same, written, left) =
     let asked = asked_for run report reports asks.0 asks.1 ∙ asks.2 in
@@ -360,6 +386,7 @@ leaves_of run asks (report, reports, same, written, left) =
       | other zero not_verdict not_repair not_entry not_equal not_why ↦ absurd (not_entry asked)
     ]
 
+-- status 9 promises that one doesn't
 misses_of : (run : Run) → WritesReport run 9 → MissesEntry run
 misses_of run (report, reports, same, written, left) =
     elim (kind run report reports) [
@@ -385,6 +412,7 @@ misses_of run (report, reports, same, written, left) =
       | other zero not_verdict not_repair not_entry not_equal not_why ↦ absurd (omega (arith, same, zero))
     ]
 
+-- where two are compared, status 0 promises that they do the same
 equal_of : (run : Run) → AsksForComparison run → WritesReport run 0 → DoTheSame run
 equal_of run asks (report, reports, same, written, left) =
     let asked = asked_for run report reports asks.0 asks.1 ∙ asks.2 in
@@ -397,6 +425,7 @@ equal_of run asks (report, reports, same, written, left) =
       | other zero not_verdict not_repair not_entry not_equal not_why ↦ absurd (not_equal asked)
     ]
 
+-- status 10 promises that they don't
 unequal_of : (run : Run) → WritesReport run 10 → DoOtherwise run
 unequal_of run (report, reports, same, written, left) =
     elim (kind run report reports) [
@@ -422,6 +451,7 @@ unequal_of run (report, reports, same, written, left) =
       | other zero not_verdict not_repair not_entry not_equal not_why ↦ absurd (omega (arith, same, zero))
     ]
 
+-- where an explanation is asked for, status 0 promises that all is well
 explained_of : (run : Run) → AsksForExplanation run → WritesReport run 0 → IsWellExplained run
 explained_of run asks (report, reports, same, written, left) =
     let asked = asked_for run report reports asks.0 asks.1 ∙ asks.2 in
@@ -440,6 +470,7 @@ explained_of run asks (report, reports, same, written, left) =
 abbrev pub ReadAlone : Type 0
 ReadAlone = (e : Program) → program_read_as [] e ≡ e
 
+-- where nothing is given, all is said of every file tree, and of the programs as they are
 every_tree_of : ReadAlone → (i : Inputs) (k : Known) → IsKnown i k → bytes_of role.Given i ≡ None → IsOfEveryTree k
 every_tree_of alone i k is none =
     let nothing : (k.given.folders ≡ []) × (k.given.links ≡ []) = subst (λ b. IsGivenOf b k.given) none is.given in
@@ -451,10 +482,12 @@ every_tree_of alone i k is none =
 
 -- ---- where no compiled catalog is named
 
+-- without bytes there is no compiled catalog
 without_bytes : (m : Option Compiled) → IsCompiledOf None m → m ≡ None
 without_bytes None is = refl
 without_bytes (Some c) is = absurd is
 
+-- where none is named what is asked about is a manifest
 no_source : (i : Inputs) (m : Option Compiled) → IsCompiledOf (bytes_of role.Compiled i) m → bytes_of role.Compiled i ≡ None → m ≡ None
 no_source i m is none = without_bytes m (subst (λ bytes. IsCompiledOf bytes m) none is)
 
@@ -462,11 +495,13 @@ no_source i m is none = without_bytes m (subst (λ bytes. IsCompiledOf bytes m) 
 no_other_bytes : (i : Inputs) → bytes_of role.Compiled i ≡ None → bytes_of role.Compiled (other_inputs i) ≡ None
 no_other_bytes i none = ap (λ bytes. given role.Compiled ((place_of_source bytes, bytes_or_none (bytes_of role.Other i)) ∷ i.files)) none ∙ none
 
+-- where none is named both that are compared are manifests
 are_manifests : (run : Run) (c : IsCompared run) → bytes_of role.Compiled c.loaded.inputs ≡ None → AreManifests c
 are_manifests run c none =
     let i = c.loaded.inputs in
     (no_source i c.of.source c.of.modelled.planned.compiled.source none, no_source (other_inputs i) c.of.other_source c.of.other_modelled.planned.compiled.source (no_other_bytes i none))
 
+-- what a status tells is what it promises
 pub headline_of : ReadAlone → (run : Run) (status : ℕ) → Tells run status → Headline run status
 headline_of alone run status tells = record {
   well = λ asks is. well_of run asks (subst (WritesReport run) is (tells.report (inl (omega (arith, is)))));

@@ -33,6 +33,7 @@ use Rattle.rehearsal_core.specs.Steps.{request_about, concluded, SaysOf}
 abbrev pub loaded_from : Names → ByRole (List ℕ) → Loaded
 loaded_from r files = record { ask = r.ask; conflicts = r.conflicts; inputs = record { node = r.node; limits = r.limits; wanted = r.wanted; files = files } }
 
+-- the request with the bytes that were read of its files is loaded
 loaded : (held : Held) (r : Names) (files : ByRole (List ℕ)) → AreRead held (input_kind r.ask r.files) r.files files → IsLoaded held (request_about r) (loaded_from r files)
 loaded held r files read = record { asked = refl; conflicts = refl; inputs = (refl, refl, refl, read) }
 
@@ -53,6 +54,7 @@ pub of_input : (a : Ask) (conflicts : Option ℕ) (i : Inputs) (e : Fault) → I
 of_input a conflicts i (Refused r) h = h
 of_input a conflicts i (Memory m) h = tt
 
+-- nothing is both true and false
 pub not_both : (b : Bool) → b ≡ true → b ≡ false → ⊥
 not_both b is not = let bad : true ≡ false = sym is ∙ not in cc
 
@@ -66,6 +68,7 @@ workload_loaded : (held : Held) (r : Request) (n : ℕ) → r.source ≡ source.
     → IsLoaded held r (record { ask = r.ask; conflicts = r.conflicts; inputs = workload_inputs n })
 workload_loaded held r n is = record { asked = refl; conflicts = refl; inputs = subst (λ s. AreInputs held r s (workload_inputs n)) (sym is) refl }
 
+-- what there is to say of a workload is said of the request
 pub says_of_workload : (held : Held) (r : Request) (n before now : ℕ) (said : Result Report Untold) → r.source ≡ source.Workload n → now ≡ before
     → IfOk said (IsAnswerTo r.ask r.conflicts (workload_inputs n)) → IfErr said (λ e. IfUntold e (BreaksFor r.ask r.conflicts (workload_inputs n)))
     → SaysOf r held before now (concluded said)
@@ -84,6 +87,7 @@ says_of_named held r names before now e is says = subst (λ s. SaysOf (record r 
 abbrev short_at : Role → Type 0
 short_at role = (files : ByRole (List ℕ)) → AreShort files → length (bytes_or_none (given role files)) < 2 ^ 32
 
+-- of short files the one of each role is short
 each_is_short : (r : Role) → short_at r
 each_is_short r [] short = omega arith
 each_is_short r (f ∷ files) short = either (place f.0 == place r) f.1 files short.0 (each_is_short r files short.1)
@@ -93,6 +97,7 @@ each_is_short r (f ∷ files) short = either (place f.0 == place r) f.1 files sh
     either true bytes files here more = here
     either false bytes files here more = more
 
+-- the input is short where each file is
 pub input_is_short : (files : ByRole (List ℕ)) → AreShort files → length (bytes_or_none (given role.Input files)) < 2 ^ 32
 input_is_short = each_is_short role.Input
 
@@ -102,5 +107,6 @@ ahead_is_short : (bytes : Bytes) (other : List ℕ) (files : ByRole (List ℕ)) 
 ahead_is_short None other files short more = short
 ahead_is_short (Some bytes) other files short more = each_is_short role.Input files more
 
+-- and so is the input of the other side
 pub other_is_short : (i : Inputs) → AreShort i.files → length (input_of (other_inputs i)) < 2 ^ 32
 other_is_short i short = ahead_is_short (bytes_of role.Compiled i) (bytes_or_none (bytes_of role.Other i)) i.files (each_is_short role.Other i.files short) short

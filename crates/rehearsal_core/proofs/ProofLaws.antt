@@ -17,6 +17,7 @@ pub broken : (e : Fault) (P Q : Refusal → Type 0) → ((r : Refusal) → P r �
 broken (Refused r) P Q f h = f r h
 broken (Memory m) P Q f h = tt
 
+-- a formula with its log
 abbrev pub Proof : Type 0
 Proof = Formula × Log
 
@@ -26,17 +27,21 @@ pub one_more : (front : List Proof) (p : Proof) → AllByRecursion IsRefuted (ma
 one_more [] p h is = (is, tt)
 one_more (q ∷ front) p h is = (h.0, one_more front p h.1 is)
 
+-- the refutations of two lists joined are those of the one and then those of the other
 map_joined : (front back : List Proof) → map refutation (front ++ back) ≡ map refutation front ++ map refutation back
 map_joined [] back = refl
 map_joined (p ∷ front) back = ap (λ ps. refutation p ∷ ps) (map_joined front back)
 
+-- there are as many refutations as proofs
 map_length : (front : List Proof) → length (map refutation front) ≡ length front
 map_length [] = refl
 map_length (p ∷ front) = ap suc (map_length front)
 
+-- the proof with this number fails in some step, and this is the refusal for it
 abbrev pub NoProof : Formula → Log → ℕ → Refusal → Type 0
 NoProof f log number r = (step : ℕ) × (cause : Cause) × IsFault f log.steps step cause × IsRefusal 81 0 (bad_proof number step) r
 
+-- the first of these that is no proof has this refusal
 abbrev pub HasFirstBad : List Proof → Refusal → Type 0
 HasFirstBad proofs r = (number : ℕ) × (step : ℕ) × FirstBad (map refutation proofs) number step × IsRefusal 81 0 (bad_proof number step) r
 
@@ -54,6 +59,7 @@ first_bad front p back step cause h fault = record {
   fault = fault;
 }
 
+-- behind proofs, one that is none is the first that is refused
 pub first_is_refused : (proofs front : List Proof) (p : Proof) (back rest : List Proof) (number : ℕ) (r : Refusal) → proofs ≡ front ++ rest → rest ≡ p ∷ back
     → AllByRecursion IsRefuted (map refutation front) → number ≡ length front → NoProof p.0 p.1 (number + 1) r → HasFirstBad proofs r
 first_is_refused proofs front p back rest number r whole next h counted bad =

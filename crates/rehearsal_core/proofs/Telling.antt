@@ -6,10 +6,12 @@ use Rattle.rh_base.specs.declared.sink.SinkFault.TheVariants as faults
 use Rattle.rh_base.specs.Sink.{appended, PutGives}
 use Rattle.rehearsal_core.specs.Runs.{AppendsFront}
 
+-- the whole piece is its longest front
 take_all : (piece : List ℕ) → take (length piece) piece ≡ piece
 take_all [] = refl
 take_all (b ∷ piece) = ap (λ t. b ∷ t) (take_all piece)
 
+-- nothing appended leaves what was written
 nothing : (written : Option (List ℕ)) → written ≡ appended [] written
 nothing None = refl
 nothing (Some bytes) = ap (λ b. Some b) (sym (append-nil bytes))

@@ -16,6 +16,7 @@ use Rattle.repair.proofs.RunLaws.{deterministic_by_more}
 use Rattle.repair.proofs.ArrowLaws.{deterministic_more, runs_of_fewer, added_fewer, no_arrows}
 use Rattle.repair.proofs.AddLaws.{none_pushed}
 
+-- a list of no length is empty
 pub no_items : (xs : List (ℕ × ℕ)) → length xs ≡ 0 → xs ≡ []
 no_items [] e = refl
 no_items (x ∷ xs) e = absurd (omega (arith, e))
@@ -26,6 +27,7 @@ between_more xs ys zs = All-append (Contains ((xs ++ ys) ++ zs)) xs zs
     (λ k d h. Contains-append_left (xs ++ ys) zs (get_or xs k d) (Contains-append_left xs ys (get_or xs k d) (Contains-get_or xs k d h)))
     (λ k d h. Contains-append_right (xs ++ ys) zs (get_or zs k d) (Contains-get_or zs k d h))
 
+-- where more arrows point the way that succeeds, fewer do
 pub right_fewer : (es : List Program) (order : Relation) (arrows more : List (ℕ × ℕ)) → All (Contains more) arrows → PointRight es order more → PointRight es order arrows
 right_fewer es order arrows more sub p = record {
   tree = p.tree;
@@ -39,6 +41,7 @@ right_fewer es order arrows more sub p = record {
 }
 
 module _ (es : List Program) (order : Relation) where
+  -- the graph is deterministic with the arrows
   abbrev Sure : List (ℕ × ℕ) → Type 0
   Sure arrows = IsDeterministic es (ComesWith order arrows)
 
@@ -52,6 +55,7 @@ module _ (es : List Program) (order : Relation) where
           (deterministic_more order (rest ++ (front ++ back)) ((rest ++ arrow ∷ []) ++ (front ++ back)) (between_more rest (arrow ∷ []) (front ++ back)) es d);
     }
 
+    -- an arrow without which the graph isn't deterministic is needed with the others that are
     needed_on : AreNeededBeside es order (rest ++ arrow ∷ []) needed → (Sure (rest ++ needed) → ⊥) → AreNeededBeside es order rest (arrow ∷ needed)
     needed_on old other [] one back e d = let same : needed ≡ back = cc in other (subst (λ xs. Sure (rest ++ xs)) (sym same) d)
     needed_on old other (x ∷ front) one back e d =
@@ -78,16 +82,20 @@ module _ (es : List Program) (order : Relation) where
   }
 
   module _ (strict : IsStrictOrder order) where
+    -- a graph that is deterministic with no arrows is deterministic
     nothing_to : Sure [] → IsDeterministic es (Told (comes order))
     nothing_to = deterministic_by_more (ComesWith order []) (Comes order) (λ a b h. (no_arrows order strict a b).0 h) es
 
+    -- and one that is deterministic is so with any arrows
     from_nothing : (arrows : List (ℕ × ℕ)) → IsDeterministic es (Told (comes order)) → Sure arrows
     from_nothing arrows = deterministic_by_more (Comes order) (ComesWith order arrows) (λ a b h. step (inl h)) es
 
+    -- of a graph that is deterministic no arrow is needed
     nothing_needed : (arrows : List (ℕ × ℕ)) → AreNeeded es order arrows → IsDeterministic es (Told (comes order)) → arrows ≡ []
     nothing_needed [] needed det = refl
     nothing_needed (x ∷ arrows) needed det = absurd (needed [] x arrows refl (from_nothing arrows det))
 
+    -- when all arrows were looked at, those that are needed repair the graph, and all is said of the answer
     pub all_looked_at : {budget : ℕ} (all needed : List (ℕ × ℕ)) → WereMissing es order all → all ≢ [] → AreLeft es order all [] needed → IsRepaired es order budget (repaired.Done needed)
     all_looked_at all needed were some left =
         let added = added_fewer order needed all left.among were.added in
@@ -100,6 +108,7 @@ module _ (es : List Program) (order : Relation) where
           spent = tt;
         }
 
+    -- and so it is where none was missing
     pub none_to_look_at : {budget : ℕ} → WereMissing es order [] → Sure [] → IsRepaired es order budget (repaired.Done [])
     none_to_look_at were sure = record {
       added = were.added;
@@ -110,6 +119,7 @@ module _ (es : List Program) (order : Relation) where
       spent = tt;
     }
 
+  -- and where the budget was spent
   pub budget_spent : {budget : ℕ} (arrows : List (ℕ × ℕ)) (f : Formula) (log : Log) → CanBeAdded order arrows → IsSpentWith es order budget arrows f log.steps
       → IsRepaired es order budget (repaired.Spent arrows f log)
   budget_spent arrows f log added spent = record { added = added; repairs = tt; needed = tt; right = tt; nothing = tt; spent = spent }

@@ -10,24 +10,30 @@ use Rattle.orders.proofs.Walks.{at_place, place_kept}
 
 -- ---- what comes before fewer allows more runs
 module _ (before other : ℕ → ℕ → Type 0) (sub : (a b : ℕ) → before a b → other a b) where
+  -- where none of a run must come before a resource, none must by fewer pairs
   none_behind : (b : ℕ) (run : List ℕ) → AllByRecursion (λ a. other a b → ⊥) run → AllByRecursion (λ a. before a b → ⊥) run
   none_behind b [] h = tt
   none_behind b (a ∷ run) h = (λ c. h.0 (sub a b c), none_behind b run h.1)
 
+  -- a run that is kept by more pairs is kept by fewer
   none_ahead : (run : List ℕ) → NoneAhead other run → NoneAhead before run
   none_ahead [] h = tt
   none_ahead (b ∷ run) h = (none_behind b run h.0, none_ahead run h.1)
 
+  -- and so it is allowed
   pub allowed_by_fewer : (n : ℕ) (run : List ℕ) → IsLinearExtension n other run → IsLinearExtension n before run
   allowed_by_fewer n run l = record { below = l.below; once = l.once; kept = none_ahead run l.kept }
 
+  -- a graph that is deterministic by fewer pairs is so by more
   pub deterministic_by_more : (es : List Program) → IsDeterministic es before → IsDeterministic es other
   deterministic_by_more es det t is o p a b = det t is o p (allowed_by_fewer (length es) o a) (allowed_by_fewer (length es) p b)
 
 -- ---- places
+-- the first of a run stands at its start
 place_here : (k : ℕ) (run : List ℕ) → place k (k ∷ run) ≡ 0
 place_here k run = ap (λ b. cond b 0 (suc (place k run))) (eq-eqb k k refl)
 
+-- and what isn't the first stands one further than in the rest
 place_on : (k i : ℕ) (run : List ℕ) → k ≢ i → place k (i ∷ run) ≡ suc (place k run)
 place_on k i run ne = ap (λ b. cond b 0 (suc (place k run))) (ne_eqb i k (λ e. ne (sym e)))
 
@@ -43,6 +49,7 @@ ahead_of before n run l a b left right differ h =
     (cases_lt (place b run) (place a run)))
     (cases_lt (place a run) (place b run))
 
+-- in a run in which each stands once, what stands in the rest isn't the first
 apart_from_head : (x a : ℕ) (run : List ℕ) → times x (x ∷ run) ≤ 1 → 0 < times a run → a ≢ x
 apart_from_head x a run once h e =
     let m : 0 < times x run = subst (λ (v : ℕ). 0 < times v run) e h in

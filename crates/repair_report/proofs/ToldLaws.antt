@@ -24,14 +24,17 @@ given_some : (given : Option ℕ) → budget_of given ≢ 2 ^ 64 - 1 → (c : �
 given_some None limited = absurd (limited refl)
 given_some (Some c) limited = (c, refl)
 
+-- arrows between free resources are between the resources that have names
 within : (order : Relation) (n : ℕ) (arrows : List (ℕ × ℕ)) → n ≡ order.count → All (IsBetweenFree order) arrows → All (IsArrowWithin n) arrows
 within order n arrows is all = λ k d h. let free = all k d h in let from = free.from in let to = free.to in (omega (arith, from, is), omega (arith, to, is))
 
 module _ (es : List Program) (order : Relation) (terms : Terms) (notes : List ℕ) (names : List (List ℕ)) (budget : ℕ) (is : budget ≡ budget_of terms.conflicts) where
+  -- the arrows of an answer are between the resources that have names
   pub tellable : (r : Repaired) → length names ≡ order.count → CanBeAdded order (added_in r) → AreTellable (length names) r
   tellable (repaired.Done added) long h = within order (length names) added long h.free
   tellable (repaired.Spent added cnf log) long h = tt
 
+  -- whatever the answer is, what the report tells holds
   pub told_is : (r : Repaired) (report : Report) → HasFewPathsWith terms.limits terms.given es → IsLightWith terms.limits es → IsRepairedFrom terms.given es order (budget_of terms.conflicts) r → IsReportOf names (length es) notes budget r report
       → IsRepairTold terms notes names es order report
   told_is (repaired.Done added) report few light h shown =

@@ -30,25 +30,30 @@ use Rattle.reports.proofs.StageLaws.{uncompiled, is_compiled, catalog_programs, 
 -- ---- one of them
 
 module _ (m : Option Compiled) (k : Known) (text name : List ℕ) (l : Limits) where
+  -- a refusal of the catalog of one side is one of each request with that side as its input
   pub uncompiled_for : (e : Fault) → IfRefused e (HasNoCatalog text name l k m) → IfRefused e (λ r. ForSource m text name l k (λ i. ProgramsRefusal i r))
   uncompiled_for (Refused r) none = λ i is source called limited known. catalog_programs i (Refused r) (uncompiled i k m text name l is source called limited known (Refused r) none)
   uncompiled_for (Memory x) none = tt
 
   module _ (c : Catalog) (has : HasCatalog text name l k m c) where
+    -- and so is one of its graph
     pub unplanned_for : (e : Fault) → IfRefused e (IsGraphRefusal c) → IfRefused e (λ r. ForSource m text name l k (λ i. ProgramsRefusal i r))
     unplanned_for (Refused r) none = λ i is source called limited known. graph_programs i k m c (Refused r) (is_compiled i k m text name l is source called limited known c has) none
     unplanned_for (Memory x) none = tt
 
     module _ (g : Graph) (graph : IsGraphOf c g.plain (Comes g.order)) (count : g.order.count ≡ length g.plain) (strict : IsStrictOrder g.order) where
+      -- and one of its programs
       pub unmodelled_for : (e : Fault) → Refuses (programs_in k m c g.plain) e → IfRefused e (λ r. ForSource m text name l k (λ i. ProgramsRefusal i r))
       unmodelled_for (Refused r) none = λ i is source called limited known.
           in_programs i k m c g (Refused r) (planned i k m c g (is_compiled i k m text name l is source called limited known c has) graph count strict) none
       unmodelled_for (Memory x) none = tt
 
+      -- the programs of one side are those of each request with that side as its input
       pub modelled_for : (es : List Program) → programs_in k m c g.plain ≡ Ok es → ForSource m text name l k (λ i. IsModelled i k m c g es)
       modelled_for es made = λ i is source called limited known.
           is_modelled i k m c g es (planned i k m c g (is_compiled i k m text name l is source called limited known c has) graph count strict) made
 
+-- programs of a graph's resources are in its order
 pub in_order : (i : Inputs) (k : Known) (m : Option Compiled) (c : Catalog) (g : Graph) (es : List Program) → IsModelled i k m c g es → IsInOrder c g es
 in_order i k m c g es is = record {
   count = as_many k m c g es is.planned.graph.places (are_told_places (input_of i) (node_name i.node) i.limits k m c g is.planned.compiled.catalog is.planned.graph) is.programs ∙ sym is.planned.count;
@@ -64,6 +69,7 @@ kept : (r : Role) (x : List ℕ) (files : ByRole (List ℕ)) → (place role.Inp
 kept r x files input compiled None = ap (λ t. cond t (Some x) (named r files)) input
 kept r x files input compiled (Some bytes) = ap (λ t. cond t (Some x) (named r files)) compiled
 
+-- what the files beside the one say of facts, packages and class data, they say beside the other
 told_too : (i : Inputs) (k : Known) → IsKnown i k → AreTold (other_inputs i) k.facts k.listing k.class_data
 told_too i k is =
     let b = bytes_of role.Compiled i in
@@ -74,6 +80,7 @@ told_too i k is =
       class_data = subst (λ o. AreDataOf o k.class_data) (sym (kept role.Data x i.files refl refl b)) is.told.class_data;
     }
 
+-- and so it is of the tree
 tree_too : (i : Inputs) (k : Known) (is : IsKnown i k) → IsTreeOf (bytes_of role.Tree (other_inputs i)) is.tree
 tree_too i k is =
     subst (λ o. IsTreeOf o is.tree) (sym (kept role.Tree (bytes_or_none (bytes_of role.Other i)) i.files refl refl (bytes_of role.Compiled i))) is.named.tree
@@ -109,13 +116,16 @@ other_unread i k e is none = unread_programs (other_inputs i) e (at e none)
 -- what holds of each request with such files holds of that with the other
 module _ (i : Inputs) (k : Known) (m : Option Compiled) (text name : List ℕ) (l : Limits) (is : text ≡ input_of (other_inputs i)) (source : IsCompiledOf (bytes_of role.Compiled (other_inputs i)) m)
     (called : name ≡ node_name i.node) (limited : l ≡ i.limits) (known : IsKnown i k) where
+  -- what holds of each request with the other side as its input holds of this one's
   other_has : (P : Inputs → Type 0) → ForSource m text name l k P → P (other_inputs i)
   other_has P each = each (other_inputs i) is source called limited (known_too i k m known source)
 
+  -- what was answered of the other side is answered of these files with it
   pub other_modelled : {X : Type 0} (Q : X → Inputs → Type 0) (said : Result X Fault) → IfOk said (λ x. ForSource m text name l k (Q x)) → IfOk said (λ x. Q x (other_inputs i))
   other_modelled Q (Ok x) each = other_has (Q x) each
   other_modelled Q (Err e) each = tt
 
+  -- and what was refused of it is refused of these
   pub other_unmodelled : {X : Type 0} (said : Result X Fault) → IfErr said (λ e. IfRefused e (λ r. ForSource m text name l k (λ j. ProgramsRefusal j r)))
       → IfErr said (λ e. IfRefused e (ProgramsRefusal (other_inputs i)))
   other_unmodelled (Ok x) none = tt
@@ -124,21 +134,25 @@ module _ (i : Inputs) (k : Known) (m : Option Compiled) (text name : List ℕ) (
 
 -- ---- both
 
+-- a refusal of the files beside both is one of the input's side
 pub unread_both : (i : Inputs) (e : Fault) → IfRefused e (FirstUnread i) → IfUntold (refused_in side.Input e) (ComparisonRefusal i)
 unread_both i (Refused r) first = inl (unread_programs i (Refused r) first)
 unread_both i (Memory m) first = tt
 
+-- a refusal of the first side is one of the comparison
 pub first_refused : (i : Inputs) (k : Known) (m : Option Compiled) (text name : List ℕ) (l : Limits) (e : Fault) → IfRefused e (λ r. ForSource m text name l k (λ j. ProgramsRefusal j r))
     → text ≡ input_of i → IsCompiledOf (bytes_of role.Compiled i) m → name ≡ node_name i.node → l ≡ i.limits → IsKnown i k → IfUntold (refused_in side.Input e) (ComparisonRefusal i)
 first_refused i k m text name l (Refused r) none text_is source name_is limited known = inl (none i text_is source name_is limited known)
 first_refused i k m text name l (Memory x) none text_is source name_is limited known = tt
 
 module _ (i : Inputs) (k : Known) (m : Option Compiled) (c : Catalog) (g : Graph) (es : List Program) (is : IsModelled i k m c g es) where
+  -- and one of the other side, behind a first that has programs
   pub other_refused : (e : Fault) → IfRefused e (ProgramsRefusal (other_inputs i)) → IfUntold (refused_in side.Other e) (ComparisonRefusal i)
   other_refused (Refused r) none = record { known = k; source = m; catalog = c; graph = g; programs = es; modelled = is; refused = none }
   other_refused (Memory x) none = tt
 
   module _ (n : Option Compiled) (d : Catalog) (h : Graph) (fs : List Program) (other : IsModelled (other_inputs i) k n d h fs) where
+    -- both sides, with their programs
     abbrev pub both : AreModelled i
     both = record {
       known = k;
@@ -154,6 +168,7 @@ module _ (i : Inputs) (k : Known) (m : Option Compiled) (c : Catalog) (g : Graph
       other_modelled = other;
     }
 
+    -- a refusal of both as too large is one of the comparison
     pub too_large_both : (e : Fault) → IfRefused e (IsTooLargeJoined i.limits k.given.folders es fs) → IfUntold (refused_in side.Input e) (ComparisonRefusal i)
     too_large_both (Refused r) large = inr (record { of = both; too_large = large })
     too_large_both (Memory x) large = tt

@@ -18,11 +18,13 @@ use Rattle.reports.specs.Stages.{AreTold, setting_of, programs_in}
 use Rattle.reports.proofs.Places.{places_within}
 use Rattle.reports.proofs.Counts.{one_more, there, as_many_made}
 
+-- one program and as many as there are resources left are one more
 with_first : (n : ℕ) (among : Program → Program) (v : Result Done Refusal) (more : List Path → Result (List Program) Refusal) (es : List Program) → programs_with among v more ≡ Ok es
     → ((places : List Path) (fs : List Program) → more places ≡ Ok fs → length fs ≡ n) → length es ≡ suc n
 with_first n among (Err r) more es h so_far = cc
 with_first n among (Ok d) more es h so_far = one_more n (among d.0) (more d.1) es h (so_far d.1)
 
+-- each native resource has one program
 one_each : (s : Setting) (edits : List Edit) (seen : List Path) (ns : List Native) (es : List Program) → programs_behind s edits seen ns ≡ Ok es → length es ≡ length ns
 one_each s edits seen [] es h = let same : [] ≡ es = cc in ap length (sym same)
 one_each s edits seen (n ∷ ns) es h =
@@ -40,6 +42,7 @@ all_native texts resources (i ∷ places) told made =
     ∙ ap (λ (o : Option Resource). length (native_at i (Some text.0) o ++ natives_at texts resources places)) resource.1
     ∙ ap suc (all_native texts resources places told.1 made.1)
 
+-- there are as many programs as places of native resources
 as_many_natives : (s : Setting) (resources : List Resource) (places : List ℕ) (es : List Program) → AllByRecursion (λ i. i < length s.resources) places
     → AllByRecursion (λ i. i < length resources) places → programs s (natives_at s.resources resources places) ≡ Ok es → length es ≡ length places
 as_many_natives s resources places es told made is =

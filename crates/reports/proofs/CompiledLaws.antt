@@ -15,6 +15,7 @@ use Rattle.compiled_catalog.specs.Catalogs.{few_declared, few_native, resource_a
 use Rattle.known_inputs.specs.declared.inputs.Known.{Known}
 use Rattle.reports.specs.Stages.{HasCatalog, AreTold}
 
+-- what is made twice is one
 same_ok : {X : Type 0} (x y : X) → ◌≡◌ {A = Result X Refusal} (Ok x) (Ok y) → x ≡ y
 same_ok x y h = cc
 
@@ -23,21 +24,25 @@ given_first : {X Y : Type 0} (v : Result X Refusal) (f : X → Result Y Refusal)
 given_first (Ok x) f y h = (x, refl, h)
 given_first (Err e) f y h = cc
 
+-- what was made where a test would refuse it is what was given
 unless_refused : {X : Type 0} (t : Bool) (e : Refusal) (x y : X) → cond t (Err e) (Ok x) ≡ Ok y → x ≡ y
 unless_refused true e x y h = cc
 unless_refused false e x y h = same_ok x y h
 
 -- ---- references
 
+-- the references with one resource more are those and its own
 named_last : (before : List Resource) (r : Resource) → references_of (before ++ r ∷ []) ≡ references_of before ++ r.id ∷ []
 named_last [] r = refl
 named_last (x ∷ before) r = ap (λ refs. x.id ∷ refs) (named_last before r)
 
+-- a resource of a compiled catalog adds the reference as which it counts
 one_named : (m : Compiled) (before more : List Resource) (r : CompiledResource) → with_one m before r ≡ Ok more → references_of more ≡ references_of before ++ counts_as r ∷ []
 one_named m before more r h =
     let x = given_first (settled_attributes m.resources r) (λ ps. within_size 0 (before ++ resource_at m (length before) r ps ∷ [])) more h in
     ap references_of (sym (unless_refused _ _ (before ++ resource_at m (length before) r x.0 ∷ []) more x.2)) ∙ named_last before (resource_at m (length before) r x.0)
 
+-- and so do all, in their order
 all_named : (m : Compiled) (rs : List CompiledResource) (before all : List Resource) → with_all m before rs ≡ Ok all → references_of all ≡ references_of before ++ map counts_as rs
 all_named m [] before all h = ap references_of (sym (same_ok before all h)) ∙ sym (append-nil (references_of before))
 all_named m (r ∷ rs) before all h =
@@ -52,6 +57,7 @@ references_are m l c h =
     let made = given_first (with_all m [] m.resources) _ c native.2 in
     ap (λ (d : Catalog). references_of d.resources) (sym (same_ok _ c made.2)) ∙ all_named m m.resources [] made.0 made.1
 
+-- a compiled catalog's catalog has as many resources
 as_long : (m : Compiled) (l : Limits) (c : Catalog) → catalog_of m l ≡ Ok c → length c.resources ≡ length m.resources
 as_long m l c h = sym (length-map c.resources (λ (r : Resource). r.id)) ∙ ap length (references_are m l c h) ∙ length-map m.resources counts_as
 

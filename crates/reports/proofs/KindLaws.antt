@@ -26,49 +26,61 @@ pub record IsLowByte (b : ℕ) : Type 0 where
   pub of : IsByte b
   pub low : to_ascii_lowercase b ≡ b
 
+-- each byte of the type stays as it is in lower case, and is no bracket
 abbrev pub IsLow : List ℕ → Type 0
 IsLow kind = AllByRecursion IsLowByte kind
 
+-- a byte of a word is of ASCII and no bracket
 of_word : (c : ℕ) → IsTrue (is_word_byte c) → IsByte c
 of_word c h = record { ascii = grind (arith, nat_tests); no_bracket = λ e. grind (arith, nat_tests) }
 
+-- and so is a letter
 pub of_letter : (c : ℕ) → IsTrue (is_ascii_alphabetic c) → IsByte c
 of_letter c h = record { ascii = grind (arith, nat_tests); no_bracket = λ e. grind (arith, nat_tests) }
 
+-- in lower case such a byte stays as it is
 lowered_byte : (c : ℕ) → IsByte c → IsLowByte (to_ascii_lowercase c)
 lowered_byte c is = record {
   of = record { ascii = lowercase_ascii c is.ascii; no_bracket = λ e. (let n = is.no_bracket in grind (arith, nat_tests)) };
   low = lowercase-lowercase c;
 }
 
+-- with a capital it is no bracket still
 capital_byte : (first : Bool) (c : ℕ) → IsLowByte c → IsByte (capital_if first c)
 capital_byte true c is = record { ascii = uppercase_ascii c is.of.ascii; no_bracket = λ e. (let n = is.of.no_bracket in grind (arith, nat_tests)) }
 capital_byte false c is = is.of
 
+-- and in lower case again it is what it was
 low_again : (first : Bool) (c : ℕ) → IsLowByte c → to_ascii_lowercase (capital_if first c) ≡ c
 low_again true c is = lowercase-uppercase c ∙ is.low
 low_again false c is = is.low
 
 -- ---- types
 
+-- a word ahead of such bytes is of such bytes
 all_of_words : (text rest : List ℕ) → AllByRecursion (λ d. IsTrue (is_word_byte d)) text → AllByRecursion IsByte rest → AllByRecursion IsByte (text ++ rest)
 all_of_words [] rest h more = more
 all_of_words (c ∷ text) rest h more = (of_word c h.0, all_of_words text rest h.1 more)
 
+-- and so is a segment of a type
 all_of_segment : (s rest : List ℕ) → IsTypeSegment s → AllByRecursion IsByte rest → AllByRecursion IsByte (s ++ rest)
 all_of_segment [] rest h more = absurd h
 all_of_segment (c ∷ s) rest h more = (of_letter c h.0, all_of_words s rest h.1 more)
 
+-- a colon is such a byte
 colon : IsByte 58
 colon = record { ascii = omega arith; no_bracket = λ e. omega (arith, e) }
 
+-- segments behind colons are of such bytes
 all_of_segments : (segments : List (List ℕ)) → AllByRecursion IsTypeSegment segments → AllByRecursion IsByte (behind_colons segments)
 all_of_segments [] h = tt
 all_of_segments (s ∷ segments) h = (colon, (colon, all_of_segment s (behind_colons segments) h.0 (all_of_segments segments h.1)))
 
+-- and so is a type
 all_of_type : (text : List ℕ) → IsType text → AllByRecursion IsByte text
 all_of_type text is = subst (AllByRecursion IsByte) (sym is.joined) (all_of_segment is.first (behind_colons is.others) is.are_segments.0 (all_of_segments is.others is.are_segments.1))
 
+-- and what is left of a text of such bytes without its root
 all_unrooted : (text : List ℕ) → AllByRecursion IsByte text → AllByRecursion IsByte (unrooted text)
 all_unrooted [] h = tt
 all_unrooted (c ∷ []) h = h
@@ -78,6 +90,7 @@ all_unrooted (c ∷ d ∷ text) h = at (is_colon c && is_colon d)
     at true = h.1.1
     at false = h
 
+-- in lower case such a text is in lower case
 all_lowered : (text : List ℕ) → AllByRecursion IsByte text → IsLow (lowered text)
 all_lowered [] h = tt
 all_lowered (c ∷ text) h = (lowered_byte c h.0, all_lowered text h.1)
@@ -88,27 +101,33 @@ low_type text is = all_lowered (unrooted text) (all_unrooted text (all_of_type t
 
 -- ---- what is shown
 
+-- a type in lower case is of such bytes with capitals, too
 capitals_are : (first : Bool) (kind : List ℕ) → IsLow kind → AllByRecursion IsByte (with_capitals first kind)
 capitals_are first [] h = tt
 capitals_are first (c ∷ kind) h = (capital_byte first c h.0, capitals_are (c == 58) kind h.1)
 
+-- and in lower case again it is what it was
 again : (first : Bool) (kind : List ℕ) → IsLow kind → map to_ascii_lowercase (with_capitals first kind) ≡ kind
 again first [] h = refl
 again first (c ∷ kind) h = (λ i. low_again first c h.0 i ∷ again (c == 58) kind h.1 i)
 
+-- a text of such bytes is of ASCII
 all_ascii : (text : List ℕ) → AllByRecursion IsByte text → IsAscii text
 all_ascii [] h = IsAscii-nil
 all_ascii (c ∷ text) h = IsAscii-cons c text h.0.ascii (all_ascii text h.1)
 
+-- and so is a type in lower case
 low_ascii : (kind : List ℕ) → IsLow kind → IsAscii kind
 low_ascii [] h = IsAscii-nil
 low_ascii (c ∷ kind) h = IsAscii-cons c kind h.0.of.ascii (low_ascii kind h.1)
 
+-- it is shown with capitals
 shown : (kind : List ℕ) → IsLow kind → capitalized kind ≡ with_capitals true kind
 shown kind h =
     ap (λ (letters : List ℕ). encode_utf8_all (with_capitals true letters)) (chars-IsAscii kind (low_ascii kind h))
     ∙ encodes-IsAscii (with_capitals true kind) (all_ascii (with_capitals true kind) (capitals_are true kind h))
 
+-- lists that are the same begin alike and go on alike
 same_list : (c d : ℕ) (f g : List ℕ) → ◌≡◌ {A = List ℕ} (c ∷ f) (d ∷ g) → (c ≡ d) × (f ≡ g)
 same_list c d f g e = ((cc), (cc))
 
@@ -122,6 +141,7 @@ same_parts (c ∷ f) (d ∷ g) r s h k e =
     let more = same_parts f g r s h.1 k.1 two.1 in
     ((λ i. two.0 i ∷ more.0 i), more.1)
 
+-- references to types in lower case that are shown alike are the same
 pub same_reference : (r q : Ref) → IsLow r.kind → IsLow q.kind → shown_ref r ≡ shown_ref q → r ≡ q
 same_reference r q h k e =
     let end : (x : Ref) → List ℕ = λ (x : Ref). x.title ++ codes "]" in

@@ -18,6 +18,7 @@ one_unmarked plain i marks h =
     append_assoc marks (false ∷ []) (map (λ place. false) (drop (i + 1) plain)) ∙ ap (λ ps. marks ++ map (λ place. false) ps) (sym places)
 
 module _ (k : Known) (m : Option Compiled) (c : Catalog) (plain : List ℕ) where
+  -- there are as many marks as resources
   pub marked : (marks : List Bool) → marks ≡ map (is_assumed_at k m) plain → length marks ≡ length plain
   marked marks are = ap length are ∙ length-map plain (is_assumed_at k m)
 
@@ -38,10 +39,12 @@ module _ (k : Known) (m : Option Compiled) (c : Catalog) (plain : List ℕ) wher
       ∙ ap (λ b. into ++ (resource_program b c place (program_of e) ++ more)) (mark_at marks i d are h)
       ∙ ap (λ ps. into ++ program_lines k m c ps (map program_of (e ∷ rest))) (sym places)
 
+  -- where no programs are left, no lines are
   all_told : (into places : List ℕ) → into ++ program_lines k m c places [] ≡ into
   all_told into [] = append-nil into
   all_told into (place ∷ places) = append-nil into
 
+  -- and the lines so far are all
   pub ended : (places : List ℕ) (rest : List Program) (into all : List ℕ) → length rest ≡ 0 → into ++ program_lines k m c places (map program_of rest) ≡ all → into ≡ all
   ended places [] into all none told = sym (all_told into places) ∙ told
   ended places (e ∷ rest) into all none told = absurd (omega (arith, none))

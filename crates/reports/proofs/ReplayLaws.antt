@@ -7,6 +7,7 @@ use Rattle.catalog_semantics.specs.Catalogs.{Catalog}
 use Rattle.dep_graph.specs.declared.answer.Graph.{Graph}
 use Rattle.reports.specs.Replays.{IsOrderFor}
 
+-- the order that is asked is of the graph's resources
 below : (text : Option (List ℕ)) (c : Catalog) (g : Graph) (o : List ℕ) → IsOrderFor text c g o → AllByRecursion (λ i. i < length g.plain) o
 below None c g o is = is.0.below
 below (Some bytes) c g o is = is.named.allowed.below

@@ -24,6 +24,7 @@ use Rattle.reports.specs.Stages.{node_name, HasCatalog, HasNoCatalog, IsCompiled
 
 -- ---- catalogs
 
+-- what refuses the files refuses the catalog
 pub unread : (i : Inputs) (e : Fault) → IfRefused e (FirstUnread i) → IfRefused e (CatalogRefusal i)
 unread i (Refused r) first = stages.unread first
 unread i (Memory m) first = tt
@@ -31,12 +32,14 @@ unread i (Memory m) first = tt
 -- of a text and a name that are those of the request, and of the compiled catalog that it names, if it names one
 module _ (i : Inputs) (k : Known) (m : Option Compiled) (text name : List ℕ) (l : Limits) (is : text ≡ input_of i) (source : IsCompiledOf (bytes_of role.Compiled i) m) (named : name ≡ node_name i.node)
     (limited : l ≡ i.limits) (known : IsKnown i k) where
+  -- what refuses what is asked about refuses the catalog
   pub uncompiled : (e : Fault) → IfRefused e (HasNoCatalog text name l k m) → IfRefused e (CatalogRefusal i)
   uncompiled (Refused r) none =
       stages.uncompiled k m known source
       (subst (λ n. HasNoCatalog (input_of i) (node_name i.node) n k m r) limited (subst₂ (λ t n. HasNoCatalog t n l k m r) is named none))
   uncompiled (Memory x) none = tt
 
+  -- a catalog of what is asked about is that of the files
   pub is_compiled : (c : Catalog) → HasCatalog text name l k m c → IsCompiled i k m c
   is_compiled c has = record {
     known = known;
@@ -44,52 +47,64 @@ module _ (i : Inputs) (k : Known) (m : Option Compiled) (text name : List ℕ) (
     catalog = subst (λ n. HasCatalog (input_of i) (node_name i.node) n k m c) limited (subst₂ (λ t n. HasCatalog t n l k m c) is named has);
   }
 
+  -- and so it is of what was answered
   pub compiled_answer : (said : Result Catalog Fault) → IfOk said (HasCatalog text name l k m) → IfOk said (IsCompiled i k m)
   compiled_answer (Ok c) has = is_compiled c has
   compiled_answer (Err e) has = tt
 
+  -- and of what was refused
   pub uncompiled_answer : (said : Result Catalog Fault) → IfErr said (λ e. IfRefused e (HasNoCatalog text name l k m)) → IfErr said (λ e. IfRefused e (CatalogRefusal i))
   uncompiled_answer (Ok c) none = tt
   uncompiled_answer (Err e) none = uncompiled e none
 
 -- ---- graphs
 
+-- what refuses the catalog refuses the graph
 pub before_graph : (i : Inputs) (e : Fault) → IfRefused e (CatalogRefusal i) → IfRefused e (GraphRefusal i)
 before_graph i (Refused r) first = stages.before_graph first
 before_graph i (Memory m) first = tt
 
+-- and so does what refuses the files
 pub unread_graph : (i : Inputs) (e : Fault) → IfRefused e (FirstUnread i) → IfRefused e (GraphRefusal i)
 unread_graph i e first = before_graph i e (unread i e first)
 
+-- and what refuses a catalog for its graph
 pub in_graph : (i : Inputs) (k : Known) (m : Option Compiled) (c : Catalog) (e : Fault) → IsCompiled i k m c → IfRefused e (IsGraphRefusal c) → IfRefused e (GraphRefusal i)
 in_graph i k m c (Refused r) compiled none = stages.in_graph k m c compiled none
 in_graph i k m c (Memory x) compiled none = tt
 
 -- ---- programs
 
+-- what refuses the graph refuses the programs
 pub before_programs : (i : Inputs) (e : Fault) → IfRefused e (GraphRefusal i) → IfRefused e (ProgramsRefusal i)
 before_programs i (Refused r) first = stages.before_programs first
 before_programs i (Memory m) first = tt
 
+-- and so does what refuses a resource's program
 pub in_programs : (i : Inputs) (k : Known) (m : Option Compiled) (c : Catalog) (g : Graph) (e : Fault) → IsPlanned i k m c g → Refuses (programs_in k m c g.plain) e
     → IfRefused e (ProgramsRefusal i)
 in_programs i k m c g (Refused r) planned none = stages.in_programs k m c g planned none
 in_programs i k m c g (Memory x) planned none = tt
 
+-- programs of a graph's resources are those of the files
 pub is_modelled : (i : Inputs) (k : Known) (m : Option Compiled) (c : Catalog) (g : Graph) (es : List Program) → IsPlanned i k m c g → programs_in k m c g.plain ≡ Ok es → IsModelled i k m c g es
 is_modelled i k m c g es planned made = record { planned = planned; programs = made }
 
 -- ---- what comes before programs
 
+-- what refuses the files refuses the programs
 pub unread_programs : (i : Inputs) (e : Fault) → IfRefused e (FirstUnread i) → IfRefused e (ProgramsRefusal i)
 unread_programs i e first = before_programs i e (unread_graph i e first)
 
+-- and so does what refuses the catalog
 pub catalog_programs : (i : Inputs) (e : Fault) → IfRefused e (CatalogRefusal i) → IfRefused e (ProgramsRefusal i)
 catalog_programs i e first = before_programs i e (before_graph i e first)
 
+-- and what refuses a catalog for its graph
 pub graph_programs : (i : Inputs) (k : Known) (m : Option Compiled) (c : Catalog) (e : Fault) → IsCompiled i k m c → IfRefused e (IsGraphRefusal c) → IfRefused e (ProgramsRefusal i)
 graph_programs i k m c e compiled none = before_programs i e (in_graph i k m c e compiled none)
 
+-- a graph of the files' catalog is that of the files
 pub planned : (i : Inputs) (k : Known) (m : Option Compiled) (c : Catalog) (g : Graph) → IsCompiled i k m c → IsGraphOf c g.plain (Comes g.order) → g.order.count ≡ length g.plain
     → IsStrictOrder g.order → IsPlanned i k m c g
 planned i k m c g compiled is count strict = record { compiled = compiled; graph = is; count = count; strict = strict }

@@ -26,10 +26,12 @@ one_more R [] (g ∷ others) r x y is h = absurd is
 one_more R (f ∷ files) [] r x y is h = absurd is
 one_more R (f ∷ files) (g ∷ others) r x y is h = (is.0, is.1, one_more R files others r x y is.2 h)
 
+-- what was fetched of one file more comes behind what was fetched of the others
 pub one_load : (held : Held) (kind : InputKind) (names : ByRole (List ℕ)) (loads : ByRole Load) (r : Role) (name : List ℕ) (l : Load) → AreLoads held kind names loads
     → IsLoad held (limit_of kind r) name l → AreLoads held kind (names ++ (r, name) ∷ []) (loads ++ (r, l) ∷ [])
 one_load held kind names loads r name l are is = one_more (λ role. IsLoad held (limit_of kind role)) names loads r name l are is
 
+-- and so do its bytes
 pub one_file : (loads : ByRole Load) (files : ByRole (List ℕ)) (r : Role) (l : Load) (bytes : List ℕ) → AreBytesOf loads files → bytes_in l ≡ Some bytes
     → AreBytesOf (loads ++ (r, l) ∷ []) (files ++ (r, bytes) ∷ [])
 one_file loads files r l bytes are is = one_more (λ role load b. bytes_in load ≡ Some b) loads files r l bytes are is
@@ -43,16 +45,19 @@ there : (held : Held) (limit : ℕ) (name : List ℕ) (l : Load) → IsLoad held
 there held limit name load.Longer is = is.0
 there held limit name (load.Bytes bytes) is = is.0
 
+-- none of the files of which something was fetched is missing
 pub none_missing : (held : Held) (kind : InputKind) (names : ByRole (List ℕ)) (loads : ByRole Load) → AreLoads held kind names loads → NoneMissing held names
 none_missing held kind [] loads are = tt
 none_missing held kind (f ∷ names) [] are = absurd are
 none_missing held kind (f ∷ names) (l ∷ loads) are = (there held (limit_of kind f.0) f.1 l.1 are.1, none_missing held kind names loads are.2)
 
+-- a file that couldn't be read, behind others that aren't missing, is the first that failed
 failed_here : (held : Held) (before now : ℕ) (front back : ByRole (List ℕ)) (r : Role) (name n : List ℕ) → NoneMissing held front → n ≡ name
     → FailsAt n held before now → FirstFailed held before now (front ++ (r, name) ∷ back) n
 failed_here held before now [] back r name n none same fails = inl (sym same, fails)
 failed_here held before now (f ∷ front) back r name n none same fails = inr (none.0, failed_here held before now front back r name n none.1 same fails)
 
+-- a file of which too many bytes were fetched, behind others that are short enough, is the first that is refused
 long_here : (front back : ByRole Load) (files : ByRole (List ℕ)) (r : Role) (l : Load) (refusal : Refusal) → AreBytesOf front files → bytes_in l ≡ None
     → IsRefusal 17 0 (role_row r).label refusal → FirstLong (front ++ (r, l) ∷ back) refusal
 long_here [] back files r l refusal are none is = inl (none, is)
@@ -84,6 +89,7 @@ stand : (held : Held) (limit : ℕ) (name : List ℕ) (l : Load) (bytes : List �
 stand held limit name load.Longer bytes is e = cc
 stand held limit name (load.Bytes b) bytes is e = let same : b ≡ bytes = cc in subst (λ x. StandAt held limit name x) same (is.0, is.1, is.2)
 
+-- the bytes of all that was fetched are those of the files
 pub are_read : (held : Held) (kind : InputKind) (names : ByRole (List ℕ)) (loads : ByRole Load) (files : ByRole (List ℕ)) → AreLoads held kind names loads
     → AreBytesOf loads files → AreRead held kind names files
 are_read held kind [] [] [] is are = tt
@@ -94,10 +100,12 @@ are_read held kind (f ∷ names) (l ∷ loads) [] is are = absurd are
 are_read held kind (f ∷ names) (l ∷ loads) (g ∷ files) is are =
     (are.0 ∙ is.0, stand held (limit_of kind f.0) f.1 l.1 g.1 is.1 are.1, are_read held kind names loads files is.2 are.2)
 
+-- the bytes of a file that was fetched are fewer than a place of four bytes can count
 short : (held : Held) (limit : ℕ) (name : List ℕ) (l : Load) (bytes : List ℕ) → IsLoad held limit name l → bytes_in l ≡ Some bytes → length bytes < 2 ^ 32
 short held limit name load.Longer bytes is e = cc
 short held limit name (load.Bytes b) bytes is e = let same : b ≡ bytes = cc in subst (λ x. length x < 2 ^ 32) same is.3
 
+-- and so are those of all
 pub are_short : (held : Held) (kind : InputKind) (names : ByRole (List ℕ)) (loads : ByRole Load) (files : ByRole (List ℕ)) → AreLoads held kind names loads
     → AreBytesOf loads files → AreShort files
 are_short held kind [] [] [] is are = tt
@@ -107,10 +115,12 @@ are_short held kind (f ∷ names) [] files is are = absurd is
 are_short held kind (f ∷ names) (l ∷ loads) [] is are = absurd are
 are_short held kind (f ∷ names) (l ∷ loads) (g ∷ files) is are = (short held (limit_of kind f.0) f.1 l.1 g.1 is.1 are.1, are_short held kind names loads files is.2 are.2)
 
+-- a file of which too many bytes were fetched is too long
 longer : (held : Held) (limit : ℕ) (name : List ℕ) (l : Load) → IsLoad held limit name l → bytes_in l ≡ None → IsLonger limit held name
 longer held limit name load.Longer is none = is
 longer held limit name (load.Bytes bytes) is none = cc
 
+-- and the first that is refused is the first that is too long
 pub too_long : (held : Held) (kind : InputKind) (names : ByRole (List ℕ)) (loads : ByRole Load) (refusal : Refusal) → AreLoads held kind names loads
     → FirstLong loads refusal → FirstTooLong held kind names refusal
 too_long held kind [] [] refusal is first = first

@@ -16,6 +16,7 @@ use Rattle.sure_folders.proofs.Turns.{outcome_keeps_folder, sure_folders_stand}
 use Rattle.settled_groups.specs.Groups.{in_turn, GroupSettles, CommutesWithGroup, GroupsCommute}
 
 module _ (es : List Program) (before : ℕ → ℕ → Type 0) (proper : AllByRecursion IsProper es) where
+  -- a folder that is sure before one of two programs is removed by none
   never_removed : (a b : ℕ) (p : Path) → IsSureBeforeEither nowhere es before a b p → IsNeverRemoved es p
   never_removed a b p (inl s) = s.stays
   never_removed a b p (inr s) = s.stays
@@ -24,10 +25,12 @@ module _ (es : List Program) (before : ℕ → ℕ → Type 0) (proper : AllByRe
   abbrev Sure : ℕ → List ℕ → Tree → Type 0
   Sure y group t = IsTree t × AllByRecursion (λ a. Stand (IsSureBeforeEither nowhere es before a y) t) group
 
+  -- the folders that are sure before one of two stand still after a program
   stand_after : (i : ℕ) (a y : ℕ) (t u : Tree) → Stand (IsSureBeforeEither nowhere es before a y) t → run (get_or es i Id) t ≡ Some u → Stand (IsSureBeforeEither nowhere es before a y) u
   stand_after i a y t u stand h p sure =
       folder_kept (get_or es i Id) p t u (all_at (λ e. MayRemove e p → ⊥) es (never_removed a y p sure) (λ none. none) i) (stand p sure) h
 
+  -- and so do those of a whole group
   all_stand_after : (i : ℕ) (y : ℕ) (group : List ℕ) (t u : Tree) → AllByRecursion (λ a. Stand (IsSureBeforeEither nowhere es before a y) t) group → run (get_or es i Id) t ≡ Some u
       → AllByRecursion (λ a. Stand (IsSureBeforeEither nowhere es before a y) u) group
   all_stand_after i y [] t u all h = tt
@@ -74,6 +77,7 @@ module _ (es : List Program) (before : ℕ → ℕ → Type 0) (proper : AllByRe
       outcome_keeps_folder es p sure.stays (a ∷ split.1) parts.0 u stood parts.2
 
   module _ (t : Tree) (tree : IsTree t) where
+    -- a tree that a group leaves as it is becomes, by programs that commute with it, one that it leaves as it is, too
     stays : (group front order : List ℕ) → IsLinearExtension (length es) before (front ++ order) → ((a : ℕ) → 0 < times a group → 0 < times a front) → AllByRecursion (CommutesWithGroup es before group) order
         → (v u : Tree) → outcome es front t ≡ Some v → outcome es group v ≡ Some v → outcome es order v ≡ Some u → outcome es group u ≡ Some u
     stays group front [] allowed ran commute v u at settled h = let same : v ≡ u = cc in subst (λ w. outcome es group w ≡ Some w) same settled
@@ -98,10 +102,12 @@ module _ (es : List Program) (before : ℕ → ℕ → Type 0) (proper : AllByRe
           all_settled groups (front ++ group) still_allowed settle.1 commute.1 parts.0 u next parts.2,
         )
 
+  -- where each group leaves a tree as it is, all in turn do
   unchanged : (groups : List (List ℕ)) (u : Tree) → AllByRecursion (λ group. outcome es group u ≡ Some u) groups → outcome es (in_turn groups) u ≡ Some u
   unchanged [] u all = refl
   unchanged (group ∷ groups) u all = outcome-append es group (in_turn groups) u ∙ ap (λ r. and_then r (outcome es (in_turn groups))) all.0 ∙ unchanged groups u all.1
 
+  -- where all orders end alike and groups that settle and commute are an allowed order, no second run changes anything
   pub second_run : IsDeterministic es before → (groups : List (List ℕ)) → IsLinearExtension (length es) before (in_turn groups) → AllByRecursion (GroupSettles es) groups → GroupsCommute es before groups → IsIdempotent es before
   second_run sure groups allowed settle commute t tree o p a b u done =
       let whole = in_turn groups in

@@ -9,27 +9,32 @@ use Rattle.fs_interpreter.specs.States.{State, state_of, truth, number}
 use Rattle.fs_interpreter.specs.declared.cells.Cells.{Cells}
 use Rattle.sym_run.specs.Bitwise.{AreOwnBits, AreOwnCodes, AreBits, AreCodes, BitsSoFar, CodesSoFar, bit_at, code_at}
 
+-- what stands in a list stands at the same place when more comes behind it
 get_before : {X : Type 0} (xs ys : List X) (k : ℕ) → k < length xs → slice_get (xs ++ ys) k ≡ slice_get xs k
 get_before [] ys k h = absurd (omega arith)
 get_before (x ∷ xs) ys zero h = refl
 get_before (x ∷ xs) ys (suc k) h = get_before xs ys k (omega arith)
 
+-- the last one stands at the end
 get_last : {X : Type 0} (xs : List X) (x : X) → slice_get (xs ++ x ∷ []) (length xs) ≡ Some x
 get_last [] x = refl
 get_last (y ∷ xs) x = get_last xs x
 
+-- what holds of all of a list and of one more holds of all with that one at the end
 all_pushed : {X : Type 0} (P : X → Type 0) (xs : List X) (x : X) → P x → ((i : ℕ) (y : X) → slice_get xs i ≡ Some y → P y) → (i : ℕ) (y : X) → slice_get (xs ++ x ∷ []) i ≡ Some y → P y
 all_pushed P [] x p all zero y e = let same : x ≡ y = cc in subst P same p
 all_pushed P [] x p all (suc i) y e = cc
 all_pushed P (z ∷ xs) x p all zero y e = all zero y e
 all_pushed P (z ∷ xs) x p all (suc i) y e = all_pushed P xs x p (λ j w. all (suc j) w) i y e
 
+-- a number below one more than n is below n or n itself
 below_or_same : (k n : ℕ) → k < n + 1 → (k < n) ⊎ (k ≡ n)
 below_or_same k n h = elim (nat_lt k n) as (λ b. nat_lt k n ≡ b → (k < n) ⊎ (k ≡ n)) [
   | true ↦ λ e. inl (ltb-true k n e)
   | false ↦ λ e. let low = ltb-false k n e in inr (omega (arith, h, low))
 ] refl
 
+-- bits that are one's own mean the same at each place as bits grow
 pub bit_stays : {Bit Code : Type 0} (m n : Meanings Bit Code) (bs : List Bit) → Grows m n → AreOwnBits m bs → (v : Valuation) (i : ℕ) → bit_at n v bs i ≡ bit_at m v bs i
 bit_stays {Bit} m n bs g own v i = by_get (slice_get bs i) refl
   where
@@ -37,6 +42,7 @@ bit_stays {Bit} m n bs g own v i = by_get (slice_get bs i) refl
     by_get None e = refl
     by_get (Some b) e = g.bit b (own i b e) v
 
+-- and so do codes
 pub code_stays : {Bit Code : Type 0} (m n : Meanings Bit Code) (cs : List Code) → Grows m n → AreOwnCodes m cs → (v : Valuation) (i : ℕ) → code_at n v cs i ≡ code_at m v cs i
 code_stays {Bit} {Code} m n cs g own v i = by_get (slice_get cs i) refl
   where
@@ -44,12 +50,15 @@ code_stays {Bit} {Code} m n cs g own v i = by_get (slice_get cs i) refl
     by_get None e = refl
     by_get (Some c) e = g.code c (own i c e) v
 
+-- bits that are one's own are so as bits grow
 pub own_later : {Bit Code : Type 0} (m n : Meanings Bit Code) (bs : List Bit) → Grows m n → AreOwnBits m bs → AreOwnBits n bs
 own_later m n bs g own i b e = g.owns b (own i b e)
 
+-- and so are codes
 pub own_codes_later : {Bit Code : Type 0} (m n : Meanings Bit Code) (cs : List Code) → Grows m n → AreOwnCodes m cs → AreOwnCodes n cs
 own_codes_later m n cs g own i c e = g.owns_code c (own i c e)
 
+-- one more bit that means what is wanted there makes the bits so far one more
 pub bits_more : {Bit Code : Type 0} (m n : Meanings Bit Code) (meaning : Valuation → ℕ → Bool) (k : ℕ) (bs : List Bit) (b : Bit) → Grows m n → BitsSoFar m meaning k bs → n.owns b → ((v : Valuation) → n.bit v b ≡ meaning v k)
     → BitsSoFar n meaning (k + 1) (bs ++ b ∷ [])
 bits_more m n meaning k bs b g so_far own means = record {
@@ -61,6 +70,7 @@ bits_more m n meaning k bs b g so_far own means = record {
   ];
 }
 
+-- and so does one more code
 pub codes_more : {Bit Code : Type 0} (m n : Meanings Bit Code) (meaning : Valuation → ℕ → ℕ) (k : ℕ) (cs : List Code) (x : Code) → Grows m n → CodesSoFar m meaning k cs → n.owns_code x → ((v : Valuation) → n.code v x ≡ meaning v k)
     → CodesSoFar n meaning (k + 1) (cs ++ x ∷ [])
 codes_more m n meaning k cs x g so_far own means = record {
@@ -77,10 +87,12 @@ both_past : (c : Bool) {Bit : Type 0} (f g : Bit → Bool) (ls bs : List Bit) (i
 both_past true f g ls bs i h k = ap (truth f) (slice_get_past ls i h)
 both_past false f g ls bs i h k = ap (truth g) (slice_get_past bs i k)
 
+-- the same of codes, whose meaning there is 0
 both_codes_past : (c : Bool) {Code : Type 0} (f g : Code → ℕ) (ls bs : List Code) (i : ℕ) → length ls ≤ i → length bs ≤ i → cond c (number f (slice_get ls i)) (number g (slice_get bs i)) ≡ 0
 both_codes_past true f g ls bs i h k = ap (number f) (slice_get_past ls i h)
 both_codes_past false f g ls bs i h k = ap (number g) (slice_get_past bs i k)
 
+-- bits chosen at all places mean what was chosen at every place
 pub bits_done : {Bit Code : Type 0} (m l : Meanings Bit Code) (c : Valuation → Bool) (ls bs xs : List Bit) (k : ℕ) → BitsSoFar m (λ v i. cond (c v) (bit_at l v ls i) (bit_at l v bs i)) k xs → length ls ≤ k → length bs ≤ k
     → AreBits m (λ v i. cond (c v) (bit_at l v ls i) (bit_at l v bs i)) xs
 bits_done m l c ls bs xs k so_far h j = record {
@@ -92,6 +104,7 @@ bits_done m l c ls bs xs k so_far h j = record {
   ] refl;
 }
 
+-- and so do codes
 pub codes_done : {Bit Code : Type 0} (m l : Meanings Bit Code) (c : Valuation → Bool) (ls bs xs : List Code) (k : ℕ) → CodesSoFar m (λ v i. cond (c v) (code_at l v ls i) (code_at l v bs i)) k xs → length ls ≤ k → length bs ≤ k
     → AreCodes m (λ v i. cond (c v) (code_at l v ls i) (code_at l v bs i)) xs
 codes_done m l c ls bs xs k so_far h j = record {
@@ -105,9 +118,11 @@ codes_done m l c ls bs xs k so_far h j = record {
 
 -- ---- the choice between cells
 
+-- bits mean the same as bits grow, however it is told
 pub bits_later : {Bit Code : Type 0} (m n : Meanings Bit Code) (f g : Valuation → ℕ → Bool) (bs : List Bit) → Grows m n → AreBits m f bs → ((v : Valuation) (i : ℕ) → f v i ≡ g v i) → AreBits n g bs
 bits_later m n f g bs grows h e = record { owned = own_later m n bs grows h.owned; mean = λ v i. bit_stays m n bs grows h.owned v i ∙ h.mean v i ∙ e v i }
 
+-- and so do codes
 pub codes_later : {Bit Code : Type 0} (m n : Meanings Bit Code) (f g : Valuation → ℕ → ℕ) (cs : List Code) → Grows m n → AreCodes m f cs → ((v : Valuation) (i : ℕ) → f v i ≡ g v i) → AreCodes n g cs
 codes_later m n f g cs grows h e = record { owned = own_codes_later m n cs grows h.owned; mean = λ v i. code_stays m n cs grows h.owned v i ∙ h.mean v i ∙ e v i }
 
@@ -116,14 +131,17 @@ pub chosen_later : {Bit Code : Type 0} (l m : Meanings Bit Code) (w : Bit) (ls b
     → (v : Valuation) (i : ℕ) → cond (m.bit v w) (bit_at m v ls i) (bit_at m v bs i) ≡ cond (l.bit v w) (bit_at l v ls i) (bit_at l v bs i)
 chosen_later l m w ls bs g own a b v i = λ t. cond (g.bit w own v t) (bit_stays l m ls g a v i t) (bit_stays l m bs g b v i t)
 
+-- and what was chosen of codes that stayed
 pub chosen_codes_later : {Bit Code : Type 0} (l m : Meanings Bit Code) (w : Bit) (ls bs : List Code) → Grows l m → l.owns w → AreOwnCodes l ls → AreOwnCodes l bs
     → (v : Valuation) (i : ℕ) → cond (m.bit v w) (code_at m v ls i) (code_at m v bs i) ≡ cond (l.bit v w) (code_at l v ls i) (code_at l v bs i)
 chosen_codes_later l m w ls bs g own a b v i = λ t. cond (g.bit w own v t) (code_stays l m ls g a v i t) (code_stays l m bs g b v i t)
 
+-- a state that is chosen part by part is the one or the other
 one_or_other : (c : Bool) (s t : State) → record { cell = λ i. record { present = cond c (s.cell i).present (t.cell i).present; folder = cond c (s.cell i).folder (t.cell i).folder; link = cond c (s.cell i).link (t.cell i).link; content = cond c (s.cell i).content (t.cell i).content }; error = cond c s.error t.error } ≡ cond c s t
 one_or_other true s t = refl
 one_or_other false s t = refl
 
+-- cells whose bits and codes are chosen tell the one state or the other
 pub chosen_state : {B Bit Code : Type 0} (l n : Meanings Bit Code) (w : Bit) (a b cells : Cells B Bit Code)
     → AreBits n (λ v i. cond (l.bit v w) (bit_at l v a.present i) (bit_at l v b.present i)) cells.present
     → AreBits n (λ v i. cond (l.bit v w) (bit_at l v a.folder i) (bit_at l v b.folder i)) cells.folder
@@ -141,11 +159,13 @@ pub chosen_at : {Bit Code : Type 0} (l m : Meanings Bit Code) (w : Bit) (ls bs :
 chosen_at l m w ls bs i x y g own a b at_a at_b v =
     (λ t. cond (g.bit w own v t) (g.bit x (a i x at_a) v t) (g.bit y (b i y at_b) v t)) ∙ sym (λ t. cond (l.bit v w) (truth (l.bit v) (at_a t)) (truth (l.bit v) (at_b t)))
 
+-- and the same of codes
 pub chosen_code_at : {Bit Code : Type 0} (l m : Meanings Bit Code) (w : Bit) (ls bs : List Code) (i : ℕ) (x y : Code) → Grows l m → l.owns w → AreOwnCodes l ls → AreOwnCodes l bs → slice_get ls i ≡ Some x → slice_get bs i ≡ Some y
     → (v : Valuation) → cond (m.bit v w) (m.code v x) (m.code v y) ≡ cond (l.bit v w) (code_at l v ls i) (code_at l v bs i)
 chosen_code_at l m w ls bs i x y g own a b at_a at_b v =
     (λ t. cond (g.bit w own v t) (g.code x (a i x at_a) v t) (g.code y (b i y at_b) v t)) ∙ sym (λ t. cond (l.bit v w) (number (l.code v) (at_a t)) (number (l.code v) (at_b t)))
 
+-- what stands at a place is what is read there
 pub item_is : {X : Type 0} (xs : List X) (i : ℕ) (x d : X) → slice_get xs i ≡ Some x → slice_index_or xs i d ≡ x
 item_is [] i x d h = cc
 item_is (y ∷ xs) zero x d h = cc

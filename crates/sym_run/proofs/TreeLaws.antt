@@ -22,6 +22,7 @@ pub record Fits (table : Listed) (cell : Cellwise) (i : ℕ) (p : Path) : Type 0
   pub above : (cell i).present ≡ true → dir_at (place_in table.paths (parent p)) cell ≡ true
   pub known : (cell i).present ≡ true → (cell i).folder ≡ false → (cell i).content < length table.contents
 
+-- where the first n cells are told to fit, each of them is
 pub all_at : (table : Listed) (cell : Cellwise) (n : ℕ) → all_fit table cell n ≡ true → (i : ℕ) → i < n → fits_at table cell i ≡ true
 all_at table cell zero h i k = absurd (omega arith)
 all_at table cell (suc n) h i k = elim (nat_lt i n) as (λ c. nat_lt i n ≡ c → fits_at table cell i ≡ true) [
@@ -30,23 +31,28 @@ all_at table cell (suc n) h i k = elim (nat_lt i n) as (λ c. nat_lt i n ≡ c �
       subst (λ j. fits_at table cell j ≡ true) here (right (all_fit table cell n) (fits_at table cell n) h)
 ] refl
 
+-- and where each of them is, all are
 pub at_all : (table : Listed) (cell : Cellwise) (n : ℕ) → ((i : ℕ) → i < n → fits_at table cell i ≡ true) → all_fit table cell n ≡ true
 at_all table cell zero h = refl
 at_all table cell (suc n) h = both (all_fit table cell n) (fits_at table cell n) (at_all table cell n (λ i k. h i (omega (arith, k)))) (h n (omega arith))
 
+-- what a condition implies is so under that condition
 when : (b x : Bool) → (b ≡ true → x ≡ true) → cond b x true ≡ true
 when true x h = h refl
 when false x h = refl
 
+-- what holds where a condition fails is so unless the condition holds
 unless : (b x : Bool) → (b ≡ false → x ≡ true) → cond b true x ≡ true
 unless true x h = refl
 unless false x h = h refl
 
+-- the path that stands at a place is the one that is read there
 pub path_is : (paths : List Path) (i : ℕ) (p : Path) → slice_get paths i ≡ Some p → slice_index_or paths i [] ≡ p
 path_is [] i p h = cc
 path_is (q ∷ paths) zero p h = cc
 path_is (q ∷ paths) (suc i) p h = path_is paths i p h
 
+-- a cell that is told to fit fits
 pub fits_means : (table : Listed) (cell : Cellwise) (i : ℕ) (p : Path) → slice_get table.paths i ≡ Some p → fits_at table cell i ≡ true → Fits table cell i p
 fits_means table cell i p at h =
     let q = slice_index_or table.paths i [] in
@@ -58,6 +64,7 @@ fits_means table cell i p at h =
           (unless_false (cell i).folder known text (right (dir_at (place_in table.paths (parent q)) cell) (cond (cell i).folder true known) (where_true (cell i).present _ there h)));
     }
 
+-- and a cell that fits is told to
 pub means_fits : (table : Listed) (cell : Cellwise) (i : ℕ) (p : Path) → slice_get table.paths i ≡ Some p → Fits table cell i p → fits_at table cell i ≡ true
 means_fits table cell i p at f =
     let q = slice_index_or table.paths i [] in
@@ -68,6 +75,7 @@ means_fits table cell i p at f =
 
 -- ---- the tree that cells tell
 
+-- what is put into a tree stands there, and the rest stays
 abbrev pub Putting : Type 0
 Putting = (t : Tree) (p : Path) (x : Entry) → IsWith t (map.insert t p x) p (Some x)
 
@@ -77,6 +85,7 @@ record IsGrown (table : Listed) (cell : Cellwise) (n : ℕ) (u : Tree) : Type 0 
   above : (k : ℕ) (p : Path) → n ≤ k → slice_get table.paths k ≡ Some p → map.get u p ≡ None
   elsewhere : (p : Path) → ((k : ℕ) → slice_get table.paths k ≢ Some p) → map.get u p ≡ None
 
+-- with the cell of one more place the tree has what one place more tells
 one_more : Putting → (table : Listed) (cell : Cellwise) (n : ℕ) (u : Tree) (p : Path) → IsTable table → IsGrown table cell n u → slice_get table.paths n ≡ Some p
     → (o : Option Entry) → entry_in table.contents (cell n) ≡ o → IsGrown table cell (suc n) (with_entry u p o)
 one_more put table cell n u p is g at None e = record {
@@ -101,6 +110,7 @@ one_more put table cell n u p is g at (Some x) e = let with = put u p x in recor
   elsewhere = λ q nowhere. with.elsewhere q (λ same. nowhere n (at ∙ ap Some (sym same))) ∙ g.elsewhere q nowhere;
 }
 
+-- the tree that is made of the first n cells has what they tell, and nothing else
 is_grown : Putting → (table : Listed) (cell : Cellwise) → IsTable table → (n : ℕ) → n ≤ length table.paths → IsGrown table cell n (grown table cell n)
 is_grown put table cell is zero h = record {
   below = λ k p low there. absurd (omega (arith, low));
@@ -111,11 +121,13 @@ is_grown put table cell is (suc n) h =
     let at = slice_get-get_or table.paths n [] (omega (arith, h)) in
     one_more put table cell n (grown table cell n) (slice_index_or table.paths n []) is (is_grown put table cell is n (omega (arith, h))) (at ∙ ap Some (sym (path_is table.paths n (get_or table.paths n []) at))) (entry_in table.contents (cell n)) refl
 
+-- a text stands at each number below the count of contents
 text_at : (contents : List (List ℕ)) (n : ℕ) → n < length contents → slice_get contents n ≡ Some (slice_index_or contents n [])
 text_at [] n h = absurd (omega arith)
 text_at (c ∷ contents) zero h = refl
 text_at (c ∷ contents) (suc n) h = text_at contents n (omega (arith, h))
 
+-- a cell tells the entry that is made of it, where its content is known
 cell_tells : (contents : List (List ℕ)) (c : Cell) → (c.present ≡ true → c.folder ≡ false → c.content < length contents) → Tells contents c (entry_in contents c)
 cell_tells contents c known = by_present c.present c.folder c.link refl refl refl
   where
@@ -136,28 +148,33 @@ grown_stands put table s is fine fit = let g = is_grown put table s.cell is (len
 
 -- ---- what stands for a tree fits, and what fits is a tree
 
+-- a cell that is present tells of an entry
 there_is : (contents : List (List ℕ)) (c : Cell) (o : Option Entry) → Tells contents c o → c.present ≡ true → IsTrue (is_some o)
 there_is contents c None h e = let clash : ◌≡◌ {A = Bool} true false = sym e ∙ h in cc
 there_is contents c (Some x) h e = refl
 
+-- a cell that tells of an entry is present
 is_there : (contents : List (List ℕ)) (c : Cell) (o : Option Entry) → Tells contents c o → IsTrue (is_some o) → c.present ≡ true
 is_there contents c None h e = cc
 is_there contents c (Some Folder) h e = h.0
 is_there contents c (Some (File x)) h e = h.0
 is_there contents c (Some (Link x)) h e = h.0
 
+-- a cell that is present and no folder has a content that is known
 pub known_is : (contents : List (List ℕ)) (c : Cell) (o : Option Entry) → Tells contents c o → c.present ≡ true → c.folder ≡ false → c.content < length contents
 known_is contents c None h p f = let clash : ◌≡◌ {A = Bool} true false = sym p ∙ h in cc
 known_is contents c (Some Folder) h p f = let clash : ◌≡◌ {A = Bool} true false = sym h.1 ∙ f in cc
 known_is contents c (Some (File x)) h p f = slice_get_within contents c.content x h.3
 known_is contents c (Some (Link x)) h p f = slice_get_within contents c.content x h.3
 
+-- by its cell an entry is a folder exactly where it is one
 dir_cell : (contents : List (List ℕ)) (c : Cell) (o : Option Entry) → Tells contents c o → (c.present && c.folder) ≡ is_folder_entry o
 dir_cell contents c None h = ap (λ b. b && c.folder) h
 dir_cell contents c (Some Folder) h = λ i. h.0 i && h.1 i
 dir_cell contents c (Some (File x)) h = λ i. h.0 i && h.1 i
 dir_cell contents c (Some (Link x)) h = λ i. h.0 i && h.1 i
 
+-- a path but the root is a folder where its entry is one
 dir_told : (t : Tree) (p : Path) → p ≢ [] → is_dir t p ≡ is_folder_entry (map.get t p)
 dir_told t [] h = absurd (h refl)
 dir_told t (s ∷ p) h = refl
@@ -175,26 +192,31 @@ dir_above table s t i p is st at = by_place (place_in table.paths (parent p)) re
         dir_cell table.contents (s.cell j) (map.get t (parent p)) (st.tells j (parent p) there)
         ∙ sym (dir_told t (parent p) (λ top. is.no_root j (there ∙ ap Some top)))
 
+-- cells that stand for a file tree fit
 pub stands_fits : (table : Listed) (s : State) (t : Tree) → IsTable table → Stands table s t → IsTree t → (i : ℕ) (p : Path) → slice_get table.paths i ≡ Some p → Fits table s.cell i p
 stands_fits table s t is st tree i p at = record {
   above = λ there. dir_above table s t i p is st at ∙ tree.parents p (there_is table.contents (s.cell i) (map.get t p) (st.tells i p at) there);
   known = known_is table.contents (s.cell i) (map.get t p) (st.tells i p at);
 }
 
+-- the content or target of an entry is the text with the number in its cell
 pub text_in : (contents : List (List ℕ)) (c : Cell) (o : Option Entry) (text : List ℕ) → Tells contents c o → HasText o text → slice_get contents c.content ≡ Some text
 text_in contents c None text h k = absurd k
 text_in contents c (Some Folder) text h k = absurd k
 text_in contents c (Some (File x)) text h k = h.3 ∙ ap Some (sym k)
 text_in contents c (Some (Link x)) text h k = h.3 ∙ ap Some (sym k)
 
+-- where nothing is, no text is
 pub nothing_has_text : (o : Option Entry) (text : List ℕ) → o ≡ None → HasText o text → ⊥
 nothing_has_text None text e h = h
 nothing_has_text (Some x) text e h = cc
 
+-- where nothing is, no entry is
 pub nothing_there : (o : Option Entry) → o ≡ None → IsTrue (is_some o) → ⊥
 nothing_there None e h = cc
 nothing_there (Some x) e h = cc
 
+-- a tree for which fitting cells stand is a file tree, where all paths are of segments and all contents of bytes
 pub stands_for_tree : (table : Listed) (s : State) (t : Tree) → IsTable table → ((i : ℕ) (p : Path) → slice_get table.paths i ≡ Some p → AllByRecursion IsSegment p) → ((i : ℕ) (c : List ℕ) → slice_get table.contents i ≡ Some c → IsBytes c)
     → Stands table s t → ((i : ℕ) (p : Path) → slice_get table.paths i ≡ Some p → Fits table s.cell i p) → IsTree t
 stands_for_tree table s t is proper bytes st fit = record {

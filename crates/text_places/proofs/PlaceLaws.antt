@@ -13,29 +13,36 @@ pub record IsRead (text : List ℕ) (line column : ℕ) : Type 0 where
   pub line_is : line ≡ 1 + line_feeds text
   pub column_is : column ≡ 1 + length begun
 
+-- two texts joined have the line feeds of both
 feeds_append : (a b : List ℕ) → line_feeds (a ++ b) ≡ line_feeds a + line_feeds b
 feeds_append [] b = omega arith
 feeds_append (x ∷ a) b = let rest = feeds_append a b in omega (arith, rest)
 
+-- three texts may be joined from either end
 append_assoc : (a b d : List ℕ) → (a ++ b) ++ d ≡ a ++ (b ++ d)
 append_assoc [] b d = refl
 append_assoc (x ∷ a) b d = ap (λ o. x ∷ o) (append_assoc a b d)
 
+-- nothing behind a text leaves the text
 append_none : (a : List ℕ) → a ++ [] ≡ a
 append_none [] = refl
 append_none (x ∷ a) = ap (λ o. x ∷ o) (append_none a)
 
+-- two texts joined are as long as both together
 length_append : (a b : List ℕ) → length (a ++ b) ≡ length a + length b
 length_append [] b = omega arith
 length_append (x ∷ a) b = let rest = length_append a b in omega (arith, rest)
 
+-- a text without a line feed has none with another byte behind it
 all_append : (a : List ℕ) (x : ℕ) → AllByRecursion (λ b. b ≢ 10) a → x ≢ 10 → AllByRecursion (λ b. b ≢ 10) (a ++ x ∷ [])
 all_append [] x h k = (k, tt)
 all_append (b ∷ a) x h k = (h.0, all_append a x h.1 k)
 
+-- a line feed is one
 one_feed : (b : ℕ) → b ≡ 10 → line_feeds (b ∷ []) ≡ 1
 one_feed b e = ap (λ x. line_feeds (x ∷ [])) e
 
+-- and another byte is none
 no_feed : (b : ℕ) → b ≢ 10 → line_feeds (b ∷ []) ≡ 0
 no_feed b h = elim (b == 10) as (λ c. (b == 10) ≡ c → cond c 1 0 + 0 ≡ 0) [
   | true ↦ λ e. absurd (h (eqb-true b 10 e))
@@ -76,6 +83,7 @@ byte_read text b line column h r =
       column_is = omega (arith, col, long);
     }
 
+-- the front with the next byte is one longer
 pub next_taken : (text : List ℕ) (i : ℕ) → i < length text → take (i + 1) text ≡ take i text ++ get_or text i 0 ∷ []
 next_taken [] i h = absurd (omega (arith, h))
 next_taken (b ∷ text) zero h = let one : 0 + 1 ≡ suc 0 = omega arith in ap (λ n. take n (b ∷ text)) one
@@ -85,6 +93,7 @@ next_taken (b ∷ text) (suc i) h =
 
 -- ---- one place
 
+-- whole lines with something behind them aren't a text without a line feed
 ends_feed : (more begun other : List ℕ) → more ++ 10 ∷ begun ≡ other → AllByRecursion (λ b. b ≢ 10) other → ⊥
 ends_feed [] begun other e h = let k = subst (AllByRecursion (λ b. b ≢ 10)) (sym e) h in k.0 refl
 ends_feed (x ∷ more) begun other e h = let k = subst (AllByRecursion (λ b. b ≢ 10)) (sym e) h in ends_feed more begun (more ++ 10 ∷ begun) refl k.1
@@ -115,6 +124,7 @@ begun_alike (x ∷ lines) begun (y ∷ other) begun_other e w v h k =
         cut [] e = inl cc
         cut (y ∷ more) e = inr (more, cc)
 
+-- a byte stands in one line and column
 pub one_place : (text : List ℕ) (at line column other more : ℕ) → IsPlace text at line column → IsPlace text at other more → (line ≡ other) × (column ≡ more)
 one_place text at line column other more p q =
     let long = begun_alike p.lines p.begun q.lines q.begun (sym p.ahead ∙ q.ahead) p.whole q.whole p.within q.within in
@@ -122,6 +132,7 @@ one_place text at line column other more p q =
 
 -- ---- places apart
 
+-- a front is as long as it is counted
 length_take : (text : List ℕ) (a : ℕ) → a ≤ length text → length (take a text) ≡ a
 length_take text zero h = refl
 length_take [] (suc a) h = absurd (omega (arith, h))
@@ -144,10 +155,12 @@ no_feeds (b ∷ rest) h = (
   no_feeds rest (omega (arith, h)),
 )
 
+-- two texts without a line feed have none together
 all_joined : (a b : List ℕ) → AllByRecursion (λ x. x ≢ 10) a → AllByRecursion (λ x. x ≢ 10) b → AllByRecursion (λ x. x ≢ 10) (a ++ b)
 all_joined [] b h k = k
 all_joined (x ∷ a) b h k = (h.0, all_joined a b h.1 k)
 
+-- a byte further behind doesn't stand in the same line and column
 not_later : (text : List ℕ) (a b line column : ℕ) → a ≤ b → b ≤ length text → IsPlace text a line column → IsPlace text b line column → a ≡ b
 not_later text a b line column h k p q =
     let r = longer_front text a b h k in
@@ -163,6 +176,7 @@ not_later text a b line column h k p q =
     let e = r.2 in
     omega (arith, long, more, left, right, e)
 
+-- bytes in the same line and column are one
 pub apart : (text : List ℕ) (a b line column : ℕ) → a ≤ length text → b ≤ length text → IsPlace text a line column → IsPlace text b line column → a ≡ b
 apart text a b line column h k p q = elim (either a b) [
   | inl l ↦ not_later text a b line column l k p q
@@ -176,12 +190,14 @@ apart text a b line column h k p q = elim (either a b) [
 
 -- ---- the loop
 
+-- with a line feed read, the next line is begun
 pub feed_step : (text : List ℕ) (i line column next now : ℕ) → i < length text → IsRead (take i text) line column → get_or text i 0 ≡ 10 → next ≡ line + 1 → now ≡ 1 → IsRead (take (i + 1) text) next now
 feed_step text i line column next now h r e a b =
     subst (λ n. IsRead (take (i + 1) text) n now) (sym a)
     (subst (λ m. IsRead (take (i + 1) text) (line + 1) m) (sym b)
     (subst (λ xs. IsRead xs (line + 1) 1) (sym (next_taken text i h)) (feed_read (take i text) (get_or text i 0) line column e r)))
 
+-- and with another byte, the column is one more
 pub byte_step : (text : List ℕ) (i line column next now : ℕ) → i < length text → IsRead (take i text) line column → get_or text i 0 ≢ 10 → next ≡ line → now ≡ column + 1 → IsRead (take (i + 1) text) next now
 byte_step text i line column next now h r e a b =
     subst (λ n. IsRead (take (i + 1) text) n now) (sym a)

@@ -24,23 +24,28 @@ use Rattle.tree_text.proofs.TextLaws.{no_float, shallow}
 
 -- ---- writing
 
+-- an entry that is inserted among those stored is a member that is put
 pub put_member : (es new : List Entry) (k : String Global) (v : json.Value) (key : List ℕ) (d : Data) → new ≡ insert_entry string_cmp es k v → string_bytes k ≡ key → view v ≡ d → members_view new ≡ put key d (members_view es)
 put_member es new k v key d e key_is data_is =
     ap members_view e ∙ members_view-insert_entry es k v ∙ ap (λ l. put l (view v) (members_view es)) key_is ∙ ap (λ x. put key x (members_view es)) data_is
 
+-- what is stored with a tree's members is the object of the tree
 stored_is : (m : BTreeMap (String Global) json.Value) (t : Tree) → members_view m.entries ≡ members_of t → view (json.Object m) ≡ object (members_of t)
 stored_is m t e = view-Object m ∙ ap object e
 
+-- and is written as the text of the tree
 pub written_text : (m : BTreeMap (String Global) json.Value) (t : Tree) (bytes : List ℕ) → members_view m.entries ≡ members_of t
     → (has_float (view (json.Object m)) ≡ false → bytes ≡ compact_text (view (json.Object m))) → bytes ≡ tree_text t
 written_text m t bytes e h = subst (λ d. has_float d ≡ false → bytes ≡ compact_text d) (stored_is m t e) h (no_float t)
 
+-- and that text is read as the object of the tree
 pub written_read : (m : BTreeMap (String Global) json.Value) (t : Tree) (bytes : List ℕ) → members_view m.entries ≡ members_of t
     → (depth (view (json.Object m)) ≤ max_depth → read bytes ≡ Some (view (json.Object m))) → read bytes ≡ Some (object (members_of t))
 written_read m t bytes e h = subst (λ d. depth d ≤ max_depth → read bytes ≡ Some d) (stored_is m t e) h (shallow t)
 
 -- ---- links
 
+-- JSON that gives members is their object
 object_is : (d : Data) (ms : Members) → as_object d ≡ Some ms → d ≡ object ms
 object_is null ms h = cc
 object_is (boolean b) ms h = cc
@@ -49,6 +54,7 @@ object_is (string s) ms h = cc
 object_is (array items) ms h = cc
 object_is (object found) ms h = let same : found ≡ ms = cc in ap object same
 
+-- the target is looked up in an object of one entry, and else there is none
 pub target_of : (d : Data) (es : List Entry) → as_object d ≡ Some (members_view es)
     → option_and_then target_in (as_object d) ≡ cond (length es == 1) (option_and_then as_str (get (codes "link") d)) None
 target_of d es h =
@@ -56,18 +62,22 @@ target_of d es h =
     ∙ ap (λ n. cond (n == 1) (option_and_then as_str (get_member (codes "link") (members_view es))) None) (members_len-members_view es)
     ∙ ap (λ e. cond (length es == 1) (option_and_then as_str (get (codes "link") e)) None) (sym (object_is d (members_view es) h))
 
+-- in an object of one entry the target is the text under `link`
 pub target_one : (d : Data) (es : List Entry) → as_object d ≡ Some (members_view es) → (length es == 1) ≡ true
     → option_and_then target_in (as_object d) ≡ option_and_then as_str (get (codes "link") d)
 target_one d es h one = target_of d es h ∙ ap (λ b. cond b (option_and_then as_str (get (codes "link") d)) None) one
 
+-- in an object of more entries, or of none, there is no target
 pub target_none : (d : Data) (es : List Entry) → as_object d ≡ Some (members_view es) → (length es == 1) ≡ false → option_and_then target_in (as_object d) ≡ None
 target_none d es h one = target_of d es h ∙ ap (λ b. cond b (option_and_then as_str (get (codes "link") d)) None) one
 
 -- ---- the entry for which JSON stands
 
+-- what is there twice is one
 some_same : {X : Type 0} (x y : X) → ◌≡◌ {A = Option X} (Some x) (Some y) → x ≡ y
 some_same x y e = cc
 
+-- JSON that is there and gives a text is that string
 string_is : (o : Option Data) (s : List ℕ) → option_and_then as_str o ≡ Some s → o ≡ Some (string s)
 string_is None s h = cc
 string_is (Some null) s h = cc
@@ -77,6 +87,7 @@ string_is (Some (string t)) s h = let same : t ≡ s = cc in ap (λ u. Some (str
 string_is (Some (array items)) s h = cc
 string_is (Some (object ms)) s h = cc
 
+-- what is there under a condition is there, and the condition holds
 guarded : {Y : Type 0} (t : Bool) (o : Option Y) (y : Y) → cond t o None ≡ Some y → (t ≡ true) × (o ≡ Some y)
 guarded true o y h = (refl, h)
 guarded false o y h = cc
@@ -92,11 +103,13 @@ one_member (member k c no_members) key d n h = at (slice_cmp nat_cmp key k) refl
     at Equal s h = let same : c ≡ d = some_same c d h in ap (λ x. member x c no_members) (sym (same_key key k s)) ∙ ap (λ x. member key x no_members) same
     at Greater s h = cc
 
+-- members with a target are just the one of `link`
 link_is : (ms : Members) (s : List ℕ) → target_in ms ≡ Some s → ms ≡ member (codes "link") (string s) no_members
 link_is ms s h =
     let two = guarded (members_len ms == 1) (option_and_then as_str (get_member (codes "link") ms)) s h in
     one_member ms (codes "link") (string s) (eqb-true (members_len ms) 1 two.0) (string_is (get_member (codes "link") ms) s two.1)
 
+-- JSON that is read as an entry is what stands for the entry
 pub entry_is : (d : Data) (x : fs.Entry) → entry_in d ≡ Some x → d ≡ entry_data x
 entry_is null x h = ap entry_data (some_same Folder x h)
 entry_is (boolean b) x h = cc
@@ -109,10 +122,12 @@ entry_is (object ms) x h = at (target_in ms) refl h
     at None e h = cc
     at (Some s) e h = ap object (link_is ms s e) ∙ ap entry_data (some_same (Link s) x h)
 
+-- and what stands for an entry is read as it
 pub entry_back : (x : fs.Entry) → entry_in (entry_data x) ≡ Some x
 entry_back Folder = refl
 entry_back (File content) = refl
 entry_back (Link target) = ap (λ o. option_map Link (option_and_then as_str (match_ordering o None (Some (string target)) None))) (tied_itself nat_list_cmp_total (codes "link"))
 
+-- JSON that isn't read as an entry stands for none
 pub no_entry : (d : Data) (x : fs.Entry) → entry_in d ≡ None → d ≡ entry_data x → ⊥
 no_entry d x h e = let clash : ◌≡◌ {A = Option fs.Entry} None (Some x) = sym h ∙ ap entry_in e ∙ entry_back x in cc

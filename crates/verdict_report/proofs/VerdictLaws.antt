@@ -42,11 +42,13 @@ given_some : (given : Option ℕ) → (budget_of given ≡ 2 ^ 64 - 1 → ⊥) �
 given_some None limited = absurd (limited refl)
 given_some (Some c) limited = (c, refl)
 
+-- an outcome that is a tree is one
 some_end : (o : Outcome) (u : Tree) → o ≡ Some u → IsSome o
 some_end None u is = cc
 some_end (Some t) u is = refl
 
 module _ (given : List Path) (es : List Program) (order : Relation) where
+  -- where the budget was spent on a question it isn't the greatest number
   limited_in : (budget : ℕ) (a : Asked) (f : Formula) (steps : List Step) → IsSpentOnFrom given es order budget a f steps → budget ≡ 2 ^ 64 - 1 → ⊥
   limited_in budget asked.Deterministic f steps spent = spent.limited
   limited_in budget asked.Idempotent f steps (inl spent) = spent.1.limited
@@ -58,6 +60,7 @@ module _ (given : List Path) (es : List Program) (order : Relation) where
   order_proof sure.Pruned alone proved = alone.0 tt
   order_proof (sure.Proved v) alone proved = (proved, refl)
 
+  -- the proof of the first question is so with nothing behind it
   order_proof_alone : (s : Sure) → IsOrderProofFrom given es order (proofs_in s) → IsOrderProofFrom given es order (proofs_in s ++ [])
   order_proof_alone sure.Pruned is = is
   order_proof_alone (sure.Proved v) is = is
@@ -72,9 +75,11 @@ module _ (given : List Path) (es : List Program) (order : Relation) where
     ends = some_end (outcome es turns t) changed.shows.after changed.shows.ends;
   }
 
+  -- that proof and the one of the second question are two
   two_proofs : (s : Sure) (v : Refutation) → IsOrderProofFrom given es order (proofs_in s) → IsSecondProofFrom given es order v.formula → AreTwoProofsFrom given es order (proofs_in s ++ v ∷ [])
   two_proofs s v first again = record { front = proofs_in s; last = v; are = refl; first = first; second = again }
 
+  -- and with that of the third they are three
   three_proofs : (s : Sure) (v u : Refutation) → IsOrderProofFrom given es order (proofs_in s) → IsSecondProofFrom given es order v.formula → IsEndProofFrom given es order u.formula
       → AreThreeProofs given es order (proofs_in s ++ v ∷ u ∷ [])
   three_proofs s v u first again last = record {
@@ -87,6 +92,7 @@ module _ (given : List Path) (es : List Program) (order : Relation) where
 
   -- ---- what can be told
 
+  -- a difference of orders has two orders of these programs
   tellable_orders : (n : ℕ) → n ≡ length es → (w : Witness) → IsDifferenceFrom given es (Comes order) w → HasOrders n w
   tellable_orders n is (witness.Orders t left right) h = (
     subst (λ m. AllByRecursion (λ i. i < m) left) (sym is) h.0.shows.left_allowed.below,
@@ -95,11 +101,13 @@ module _ (given : List Path) (es : List Program) (order : Relation) where
   tellable_orders n is (witness.Twice t turns) h = h
   tellable_orders n is (witness.Ends t turns) h = h
 
+  -- a second run that changes something has an order of these programs
   tellable_turns : (n : ℕ) → n ≡ length es → (w : Witness) → IsChangeFrom given es order w → HasTurns n w
   tellable_turns n is (witness.Orders t left right) h = h
   tellable_turns n is (witness.Twice t turns) h = subst (λ m. AllByRecursion (λ i. i < m) turns) (sym is) h.0.shows.allowed.below
   tellable_turns n is (witness.Ends t turns) h = h
 
+  -- a verdict speaks of these programs
   pub tellable : (n : ℕ) → n ≡ length es → (budget : ℕ) (judged : Verdict) → IsVerdictFrom given es order budget judged → IsTellable n judged
   tellable n is budget (verdict.NotDeterministic k w) said = tellable_orders n is w said.differs
   tellable n is budget (verdict.Judged k s (second.Same v) e) said = tt
@@ -109,6 +117,7 @@ module _ (given : List Path) (es : List Program) (order : Relation) where
 module _ (f : Form) (terms : Terms) (notes : List ℕ) (names : List (List ℕ)) (es : List Program) (order : Relation) (budget : ℕ) where
   -- ---- the four answers
 
+  -- where two orders differ the report tells so
   tells_different : (k : ℕ) (w : Witness) (report : Report) → IsDifferenceFrom terms.given es (Comes order) w
       → IsReportOf f notes names es budget (verdict.NotDeterministic k w) report → IsDifferent f terms notes names es order k report
   tells_different k (witness.Orders t left right) report shown is =
@@ -116,6 +125,7 @@ module _ (f : Form) (terms : Terms) (notes : List ℕ) (names : List (List ℕ))
   tells_different k (witness.Twice t turns) report shown is = absurd shown
   tells_different k (witness.Ends t turns) report shown is = absurd shown
 
+  -- where a second run changes something the report tells so
   tells_changed : (k : ℕ) (s : Sure) (w : Witness) (e : Ends) (report : Report) → IsDeterministicFrom terms.given es (Comes order)
       → IsOrderProofFrom terms.given es order (proofs_in s) → IsChangeFrom terms.given es order w → IsReportOf f notes names es budget (verdict.Judged k s (second.Differs w) e) report
       → IsChanged f terms notes names es order k report
@@ -133,6 +143,7 @@ module _ (f : Form) (terms : Terms) (notes : List ℕ) (names : List (List ℕ))
   }
   tells_changed k s (witness.Ends t turns) e report same refuted shown is = absurd shown
 
+  -- where all is well the report tells so, and whether some tree has a run without error
   tells_sure : (k : ℕ) (s : Sure) (v : Refutation) (e : Ends) (report : Report) → IsDeterministicFrom terms.given es (Comes order)
       → IsOrderProofFrom terms.given es order (proofs_in s) → IsIdempotentFrom terms.given es (Comes order) → IsSecondProofFrom terms.given es order v.formula
       → IfFrom (verdict.Judged k s (second.Same v) e) (λ w. SucceedsFrom terms.given es (Comes order))
@@ -158,6 +169,7 @@ module _ (f : Form) (terms : Terms) (notes : List ℕ) (names : List (List ℕ))
     text = is.text;
   }
 
+  -- where the budget was spent the report tells on what
   tells_spent : (k : ℕ) (a : Asked) (cnf : Formula) (log : Log) (proofs : List Refutation) (report : Report) → budget ≡ budget_of terms.conflicts
       → IsSpentOnFrom terms.given es order (budget_of terms.conflicts) a cnf log.steps → IsKnownBeforeFrom terms.given es order a → AreProofsBeforeFrom terms.given es order a proofs
       → IsReportOf f notes names es budget (verdict.Spent k a cnf log proofs) report → IsUnanswered f terms notes es order k report
@@ -180,6 +192,7 @@ module _ (f : Form) (terms : Terms) (notes : List ℕ) (names : List (List ℕ))
 
   -- ---- the headline
 
+  -- whatever the verdict is, what the report tells holds
   pub told_is : (judged : Verdict) (report : Report) → budget ≡ budget_of terms.conflicts → HasFewPathsWith terms.limits terms.given es → IsLightWith terms.limits es
       → IsVerdictFrom terms.given es order (budget_of terms.conflicts) judged → IsReportOf f notes names es budget judged report → IsTold f terms notes names es order report
   told_is (verdict.NotDeterministic k w) report same few light said is =

@@ -18,25 +18,30 @@ use Rattle.wanted_entry.specs.Entries.{HasEntry, EndsWithout, or_empty, probe_of
 abbrev pub HaveShadows : Type 0
 HaveShadows = (es : List Program) (d : Domain) → IsDomain es d → (t : Tree) → IsTree t → (m : List ℕ → List ℕ) × (s : Tree) × IsTree s × IsShadow es d m t s
 
+-- programs end, from a tree and from its shadow, as shadows
 abbrev pub RunAsShadows : Type 0
 RunAsShadows = (es : List Program) (d : Domain) → IsDomain es d → (m : List ℕ → List ℕ) (t s : Tree) → IsShadow es d m t s
     → (i : ℕ) → EndAsShadows es d m t s (run (get_or es i Id) t) (run (get_or es i Id) s)
 
 -- ---- a run of the programs, over the domain of these and more
 
+-- two steps that end in a tree end in one each
 split : (o : Outcome) (f : Tree → Outcome) (u : Tree) → and_then o f ≡ Some u → (t : Tree) × (o ≡ Some t) × (f t ≡ Some u)
 split None f u h = cc
 split (Some t) f u h = (t, refl, h)
 
 module _ (es more : List Program) (d : Domain) (dom : IsDomain (es ++ more) d) (m : List ℕ → List ℕ) where
+  -- the other ends in a tree, too, which is a shadow of this one
   abbrev EndsToo : Tree → Outcome → Type 0
   EndsToo u q = (v : Tree) × (q ≡ Some v) × IsShadow (es ++ more) d m u v
 
+  -- what ends as a shadow of a run that ends in a tree ends in a shadow of that tree
   ended : (t s : Tree) (r q : Outcome) (u : Tree) → EndAsShadows (es ++ more) d m t s r q → r ≡ Some u → EndsToo u q
   ended t s None q u h e = cc
   ended t s (Some w) None u h e = absurd h
   ended t s (Some w) (Some v) u h e = let same : w ≡ u = cc in (v, refl, subst (λ x. IsShadow (es ++ more) d m x v) same h.shadow)
 
+  -- a run of the programs ends from a shadow in a shadow of what it ends in
   run_too : RunAsShadows → (o : List ℕ) → AllByRecursion (λ k. k < length es) o → (t s u : Tree) → IsShadow (es ++ more) d m t s → outcome es o t ≡ Some u → EndsToo u (outcome es o s)
   run_too runs [] low t s u shadow h = let same : t ≡ u = cc in (s, refl, subst (λ x. IsShadow (es ++ more) d m x s) same shadow)
   run_too runs (i ∷ o) low t s u shadow h =
@@ -49,10 +54,12 @@ module _ (es more : List Program) (d : Domain) (dom : IsDomain (es ++ more) d) (
 
 -- ---- the entry
 
+-- what the last program mentions one of all mentions
 last_mentions : (es : List Program) (e : Program) (x : Matter) → Mentions e x → AnyMentions (es ++ e ∷ []) x
 last_mentions [] e x h = inl h
 last_mentions (f ∷ es) e x h = inr (last_mentions es e x h)
 
+-- where an entry is that was mapped, one was
 some_mapped : (m : List ℕ → List ℕ) (r : Option Entry) → IsSome (mapped m r) → IsSome r
 some_mapped m None h = h
 some_mapped m (Some x) h = refl
@@ -65,6 +72,7 @@ file_mapped m (Some (File c)) content h = (c, refl, cc)
 file_mapped m (Some (Link c)) content h = cc
 
 module _ (all : List Program) (d : Domain) (m : List ℕ → List ℕ) (u v : Tree) (shadow : IsShadow all d m u v) (p : Path) (known : is_known d p ≡ true) where
+  -- an entry that the shadow has at a known path the tree has, where its content is one of the programs'
   had_too : (content : Option (List ℕ)) → AnyMentions all (Text (or_empty content)) → HasEntry v p content → HasEntry u p content
   had_too None mentioned h = some_mapped m (map.get u p) (subst IsSome (shadow.entries p known) h)
   had_too (Some content) mentioned h =
@@ -73,6 +81,7 @@ module _ (all : List Program) (d : Domain) (m : List ℕ → List ℕ) (u v : Tr
       let same = shadow.one_to_one from.0 content (inr (p, known, held)) (inl mentioned) (from.2 ∙ sym (shadow.constants content mentioned)) in
       from.1 ∙ ap (λ c. Some (File c)) same
 
+-- where a run ends without the entry, one does so from a tree over the domain of the programs and the probe
 pub without_over : HaveShadows → RunAsShadows → (es : List Program) (w : Wanted) (d : Domain) → IsDomain (es ++ probe_of w ∷ []) d → (before : ℕ → ℕ → Type 0) (t : Tree) (o : List ℕ)
     → EndsWithout es before w t o → (s : Tree) × IsOver d s × EndsWithout es before w s o
 without_over have runs es w d dom before t o e =

@@ -5,10 +5,12 @@ use Rattle.clap.proofs.OnLiterals.{clap_on_literals}
 use Rattle.command_line.specs.Words.{synopsis}
 use Rattle.command_line.proofs.words.parsed.Goals as goal
 
+-- the command of these options is simple
 plain : is_simple synopsis ≡ true
 unfolding clap_on_literals
 plain = refl
 
+-- and none of its arguments has a rule on another
 free : is_simple_and_free synopsis ≡ true
 unfolding clap_on_literals
 free = refl

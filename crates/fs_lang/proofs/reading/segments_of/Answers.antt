@@ -4,6 +4,7 @@ use Rattle.fs_lang.specs.Reading.{piece_of, Adds}
 use Rattle.fs_lang.proofs.Pieces.{last_piece}
 use Rattle.fs_lang.proofs.reading.segments_of.Goals as goal
 
+-- a piece that was added without a fault was good, and its segments came behind the others
 added : (r : Option Path) (old new : Path) → Adds (Ok tt) r old new → (k : Path) × (r ≡ Some k) × (new ≡ old ++ k)
 added None old new h = absurd h
 added (Some k) old new h = (k, refl, h)
