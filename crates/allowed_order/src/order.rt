@@ -73,7 +73,8 @@ pub fn order_of(
     requires count { order.now.count ≡ length plain.now }
     ensures found { IfOk result (IsOrderOf catalog.now plain.now (Comes order.now) bytes.now) }
     // Where no two of the resources are shown alike, each order that the text names is the one that is found.
-    ensures only { AreToldApart catalog.now plain.now → (o : List ℕ) → IsOrderOf catalog.now plain.now (Comes order.now) bytes.now o → IfOk result (λ found. found ≡ o) }
+    ensures only { AreToldApart catalog.now plain.now → (o : List ℕ)
+        → IsOrderOf catalog.now plain.now (Comes order.now) bytes.now o → IfOk result (λ found. found ≡ o) }
     ensures refused { IfErr result (λ e. IfRefused e (λ r. IsRefusal 63 0 (codes "order") r
         × (AreToldApart catalog.now plain.now → (o : List ℕ) → IsOrderOf catalog.now plain.now (Comes order.now) bytes.now o → ⊥))) }
 {

@@ -51,7 +51,9 @@ file_edited r p = need p ∷ (dirs (edit_mark r p) ++ put (edit_mark r p) (attri
 
 -- what is needed, then the folders, then what is made, then the edits, and then what is removed
 abbrev pub steps_of : Resource → Behavior → List Program
-steps_of r b = map need b.needs ++ (flat_map folder_made b.folders ++ (map (file_made r) b.makes ++ (flat_map (file_edited r) b.edits ++ map drop_file b.removes)))
+steps_of r b = map need b.needs ++
+    (flat_map folder_made b.folders ++
+    (map (file_made r) b.makes ++ (flat_map (file_edited r) b.edits ++ map drop_file b.removes)))
 
 -- ---- the program
 
@@ -69,4 +71,5 @@ writes_files b = not (are_none b.makes) || not (are_none b.edits)
 
 -- The program of a behavior. A resource that makes or edits a file is told by its reference, which has to be a name then.
 abbrev pub program_of_behavior : Resource → Behavior → Result Program Cause
-program_of_behavior r b = if writes_files b && not (is_name (shown_ref r.id)) then Err cause.Name else Ok (unless_there b.creates (sequence (steps_of r b)))
+program_of_behavior r b = if writes_files b && not (is_name (shown_ref r.id)) then Err cause.Name else Ok
+    (unless_there b.creates (sequence (steps_of r b)))

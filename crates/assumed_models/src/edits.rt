@@ -117,7 +117,8 @@ fn push_drop_at(
     place: usize,
     steps: &mut Seq<Program>,
 ) -> Result<(), NoMemory>
-    ensures { OnOk result (map program_of steps.new ≡ map program_of steps.old ++ drops (marks_in (edits_beside place (if_any (slice_get edits.now i) [])))) }
+    ensures { OnOk result (map program_of steps.new ≡ map program_of steps.old ++ drops
+        (marks_in (edits_beside place (if_any (slice_get edits.now i) [])))) }
 {
     match edits.get(i) {
         Some(edit) => push_drop(alloc, edit, place, steps),

@@ -20,7 +20,8 @@ fn drops_behind(
     place: usize,
     program: &Program,
 ) -> Result<Seq<Program>, NoMemory>
-    ensures { IfOk result (λ drops. map program_of drops ≡ drops_behind (marks_of (edits_beside place edits.now)) (program_of program.now)) }
+    ensures { IfOk result (λ drops. map program_of drops ≡ drops_behind (marks_of (edits_beside place edits.now))
+        (program_of program.now)) }
 {
     match program {
         Program::Creat(p, _) => edits.drops(alloc, place, p),
@@ -51,7 +52,8 @@ fn push_lost(
     program: Program,
     steps: &mut Seq<Program>,
 ) -> Result<(), NoMemory>
-    ensures { OnOk result (map program_of steps.new ≡ map program_of steps.old ++ lost_steps (marks_of (edits_beside place edits.now)) (program_of program)) }
+    ensures { OnOk result (map program_of steps.new ≡ map program_of steps.old ++ lost_steps
+        (marks_of (edits_beside place edits.now)) (program_of program)) }
 {
     let drops = drops_behind(alloc, edits, place, &program)?;
     let step = inside(alloc, edits, place, program)?;
@@ -67,7 +69,8 @@ fn all_inside(
     place: usize,
     programs: Seq<Program>,
 ) -> Result<Seq<Program>, NoMemory>
-    ensures { IfOk result (λ steps. map program_of steps ≡ flat_map (lost_steps (marks_of (edits_beside place edits.now))) (map program_of programs)) }
+    ensures { IfOk result (λ steps. map program_of steps ≡ flat_map
+        (lost_steps (marks_of (edits_beside place edits.now))) (map program_of programs)) }
 {
     let mut steps = Seq::new(alloc);
     for program in programs.into_vec() {
@@ -86,7 +89,9 @@ fn branches(
     e: Program,
     f: Program,
 ) -> Result<Program, NoMemory>
-    ensures { IfOk result (λ g. program_of g ≡ If (test_of a) (with_lost_edits (marks_of (edits_beside place edits.now)) (program_of e)) (with_lost_edits (marks_of (edits_beside place edits.now)) (program_of f))) }
+    ensures { IfOk result (λ g. program_of g ≡ If (test_of a)
+        (with_lost_edits (marks_of (edits_beside place edits.now)) (program_of e))
+        (with_lost_edits (marks_of (edits_beside place edits.now)) (program_of f))) }
 {
     let left = with_lost_edits(alloc, edits, place, e)?;
     let right = with_lost_edits(alloc, edits, place, f)?;

@@ -79,7 +79,8 @@ with_new seen (p ∷ paths) = if is_among p seen then None else with_new (seen +
 -- the paths on which a behavior acts, if none stands twice
 abbrev pub all_paths : Behavior → Option (List Path)
 all_paths b =
-    with_new [] b.needs >>= (λ seen. with_new seen b.folders >>= (λ seen. with_new seen b.makes >>= (λ seen. with_new seen b.edits >>= (λ seen. with_new seen b.removes))))
+    with_new [] b.needs >>= (λ seen. with_new seen b.folders >>=
+    (λ seen. with_new seen b.makes >>= (λ seen. with_new seen b.edits >>= (λ seen. with_new seen b.removes))))
 
 -- the behavior, if none of its paths stands twice, and they aren't too many
 abbrev pub if_fit : Behavior → Option Behavior

@@ -13,7 +13,8 @@ use pkg_listing::package_paths;
 
 /// A text says one list of assumptions at most, and a key names one subject at most; and what a text says is sound.
 pub fn assumption_texts()
-    ensures one { (bytes : List ℕ) (rows others : List Row) → IsAssumptionsText bytes rows → IsAssumptionsText bytes others → rows ≡ others }
+    ensures one { (bytes : List ℕ) (rows others : List Row) → IsAssumptionsText bytes rows
+        → IsAssumptionsText bytes others → rows ≡ others }
     ensures sound { (bytes : List ℕ) (rows : List Row) → IsAssumptionsText bytes rows → AllByRecursion IsSoundAssumption rows }
     ensures subjects { (key : List ℕ) (s : Named) → (subject_of key ≡ Some s) ↔ IsSubject s key }
 {

@@ -108,7 +108,8 @@ pub fn assumptions_from_json(alloc: Global, bytes: &[u8]) -> Result<Assumptions,
     ensures found { IfOk result (IsAssumptionsText bytes.now) }
     // What this text says is what is found.
     ensures only { (rows : List Row) → IsAssumptionsText bytes.now rows → IfOk result (λ found. found ≡ rows) }
-    ensures refused { IfErr result (λ e. IfRefused e (λ r. IsRefusal 66 0 (codes "assume") r × ((rows : List Row) → IsAssumptionsText bytes.now rows → ⊥))) }
+    ensures refused { IfErr result (λ e. IfRefused e (λ r. IsRefusal 66 0 (codes "assume") r
+        × ((rows : List Row) → IsAssumptionsText bytes.now rows → ⊥))) }
 {
     assumption_texts();
     let json = match Json::from_slice(alloc, bytes) {

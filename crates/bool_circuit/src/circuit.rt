@@ -154,7 +154,8 @@ impl Circuit {
         requires operands { OperandsBelow (length self.old) g }
         requires operation { IsOperation g }
         ensures wire { IfOk result (λ w. w.0 < length self.new) }
-        ensures value { IfOk result (λ w. (inputs : ℕ → Bool) → wire_value self.new inputs w.0 ≡ gate_value inputs (wire_value self.old inputs) g) }
+        ensures value { IfOk result (λ w. (inputs : ℕ → Bool)
+            → wire_value self.new inputs w.0 ≡ gate_value inputs (wire_value self.old inputs) g) }
         ensures inputs { input_count self.new ≡ input_count self.old }
         ensures grows { Grows self.old self.new }
         ensures err { OnErr result (self.new ≡ self.old) }
@@ -206,7 +207,8 @@ impl Circuit {
         requires a { a.0 < length self.now }
         requires b { b.0 < length self.now }
         ensures wire { IfSome result (λ w. w.0 < length self.now) }
-        ensures value { IfSome result (λ w. (inputs : ℕ → Bool) → wire_value self.now inputs w.0 ≡ (wire_value self.now inputs a.0 && wire_value self.now inputs b.0)) }
+        ensures value { IfSome result (λ w. (inputs : ℕ → Bool)
+            → wire_value self.now inputs w.0 ≡ (wire_value self.now inputs a.0 && wire_value self.now inputs b.0)) }
     {
         if a == b {
             return Some(a);
@@ -228,7 +230,8 @@ impl Circuit {
         requires a { a.0 < length self.now }
         requires b { b.0 < length self.now }
         ensures wire { IfSome result (λ w. w.0 < length self.now) }
-        ensures value { IfSome result (λ w. (inputs : ℕ → Bool) → wire_value self.now inputs w.0 ≡ (wire_value self.now inputs a.0 && wire_value self.now inputs b.0)) }
+        ensures value { IfSome result (λ w. (inputs : ℕ → Bool)
+            → wire_value self.now inputs w.0 ≡ (wire_value self.now inputs a.0 && wire_value self.now inputs b.0)) }
     {
         if self.known_where(a, b) == Some(true) {
             return Some(b);
@@ -342,7 +345,8 @@ impl Circuit {
         requires w { w.0 < length self.old }
         requires c { c.0 < length self.old }
         ensures wire { IfOk result (λ x. x.0 < length self.new) }
-        ensures value { IfOk result (λ x. (inputs : ℕ → Bool) → wire_value self.old inputs c.0 ≡ true → wire_value self.new inputs x.0 ≡ wire_value self.old inputs w.0) }
+        ensures value { IfOk result (λ x. (inputs : ℕ → Bool) → wire_value self.old inputs c.0 ≡ true
+            → wire_value self.new inputs x.0 ≡ wire_value self.old inputs w.0) }
         ensures inputs { input_count self.new ≡ input_count self.old }
         ensures grows { Grows self.old self.new }
     {
@@ -357,7 +361,8 @@ impl Circuit {
         requires w { w.0 < length self.old }
         requires c { c.0 < length self.old }
         ensures wire { IfOk result (λ x. x.0 < length self.new) }
-        ensures value { IfOk result (λ x. (inputs : ℕ → Bool) → wire_value self.old inputs c.0 ≡ false → wire_value self.new inputs x.0 ≡ wire_value self.old inputs w.0) }
+        ensures value { IfOk result (λ x. (inputs : ℕ → Bool) → wire_value self.old inputs c.0 ≡ false
+            → wire_value self.new inputs x.0 ≡ wire_value self.old inputs w.0) }
         ensures inputs { input_count self.new ≡ input_count self.old }
         ensures grows { Grows self.old self.new }
     {
@@ -372,7 +377,8 @@ impl Circuit {
         requires a { a.0 < length self.old }
         requires b { b.0 < length self.old }
         ensures wire { IfOk result (λ w. w.0 < length self.new) }
-        ensures value { IfOk result (λ w. (inputs : ℕ → Bool) → wire_value self.new inputs w.0 ≡ (wire_value self.old inputs a.0 && wire_value self.old inputs b.0)) }
+        ensures value { IfOk result (λ w. (inputs : ℕ → Bool)
+            → wire_value self.new inputs w.0 ≡ (wire_value self.old inputs a.0 && wire_value self.old inputs b.0)) }
         ensures shared { IfOk result (λ w. (k : ℕ) → IsAndOver self.old a b k → (w.0 ≡ k) × (self.new ≡ self.old)) }
         ensures inputs { input_count self.new ≡ input_count self.old }
         ensures grows { Grows self.old self.new }
@@ -389,7 +395,9 @@ impl Circuit {
         requires order { low.0 ≤ high.0 }
         requires high { high.0 < length self.old }
         ensures wire { IfOk result (λ w. w.0 < length self.new) }
-        ensures value { IfOk result (λ w. (inputs : ℕ → Bool) → wire_value self.new inputs w.0 ≡ (wire_value self.old inputs low.0 && wire_value self.old inputs high.0)) }
+        ensures value { IfOk result (λ w. (inputs : ℕ → Bool)
+            → wire_value self.new inputs w.0 ≡
+            (wire_value self.old inputs low.0 && wire_value self.old inputs high.0)) }
         ensures shared { IfOk result (λ w. (k : ℕ) → IsAndOver self.old low high k → (w.0 ≡ k) × (self.new ≡ self.old)) }
         ensures inputs { input_count self.new ≡ input_count self.old }
         ensures grows { Grows self.old self.new }
@@ -406,7 +414,9 @@ impl Circuit {
     fn find_and(&self, low: Wire, high: Wire) -> Option<Wire>
         requires { low.0 ≤ high.0 }
         ensures wire { IfSome result (λ w. w.0 < length self.now) }
-        ensures value { IfSome result (λ w. (inputs : ℕ → Bool) → wire_value self.now inputs w.0 ≡ (wire_value self.now inputs low.0 && wire_value self.now inputs high.0)) }
+        ensures value { IfSome result (λ w. (inputs : ℕ → Bool)
+            → wire_value self.now inputs w.0 ≡
+            (wire_value self.now inputs low.0 && wire_value self.now inputs high.0)) }
         ensures one { IfSome result (λ w. (k : ℕ) → IsAndOver self.now low high k → w.0 ≡ k) }
         ensures absent { IfNone result ((k : ℕ) → IsAndOver self.now low high k → ⊥) }
     {
@@ -418,7 +428,9 @@ impl Circuit {
         requires order { low.0 ≤ high.0 }
         requires high { high.0 < length self.old }
         ensures wire { IfOk result (λ w. w.0 < length self.new) }
-        ensures value { IfOk result (λ w. (inputs : ℕ → Bool) → wire_value self.new inputs w.0 ≡ (wire_value self.old inputs low.0 && wire_value self.old inputs high.0)) }
+        ensures value { IfOk result (λ w. (inputs : ℕ → Bool)
+            → wire_value self.new inputs w.0 ≡
+            (wire_value self.old inputs low.0 && wire_value self.old inputs high.0)) }
         ensures inputs { input_count self.new ≡ input_count self.old }
         ensures grows { Grows self.old self.new }
         ensures err { OnErr result (self.new ≡ self.old) }
@@ -436,7 +448,8 @@ impl Circuit {
         requires a { a.0 < length self.old }
         requires b { b.0 < length self.old }
         ensures wire { IfOk result (λ w. w.0 < length self.new) }
-        ensures value { IfOk result (λ w. (inputs : ℕ → Bool) → wire_value self.new inputs w.0 ≡ (wire_value self.old inputs a.0 || wire_value self.old inputs b.0)) }
+        ensures value { IfOk result (λ w. (inputs : ℕ → Bool)
+            → wire_value self.new inputs w.0 ≡ (wire_value self.old inputs a.0 || wire_value self.old inputs b.0)) }
         ensures inputs { input_count self.new ≡ input_count self.old }
         ensures grows { Grows self.old self.new }
     {
@@ -452,7 +465,9 @@ impl Circuit {
         requires a { a.0 < length self.old }
         requires b { b.0 < length self.old }
         ensures wire { IfOk result (λ w. w.0 < length self.new) }
-        ensures value { IfOk result (λ w. (inputs : ℕ → Bool) → wire_value self.new inputs w.0 ≡ (if wire_value self.old inputs c.0 then wire_value self.old inputs a.0 else wire_value self.old inputs b.0)) }
+        ensures value { IfOk result (λ w. (inputs : ℕ → Bool)
+            → wire_value self.new inputs w.0 ≡
+            (if wire_value self.old inputs c.0 then wire_value self.old inputs a.0 else wire_value self.old inputs b.0)) }
         ensures inputs { input_count self.new ≡ input_count self.old }
         ensures grows { Grows self.old self.new }
     {
@@ -476,7 +491,9 @@ impl Circuit {
         requires a { a.0 < length self.old }
         requires b { b.0 < length self.old }
         ensures wire { IfOk result (λ w. w.0 < length self.new) }
-        ensures value { IfOk result (λ w. (inputs : ℕ → Bool) → wire_value self.new inputs w.0 ≡ (if wire_value self.old inputs c.0 then wire_value self.old inputs a.0 else wire_value self.old inputs b.0)) }
+        ensures value { IfOk result (λ w. (inputs : ℕ → Bool)
+            → wire_value self.new inputs w.0 ≡
+            (if wire_value self.old inputs c.0 then wire_value self.old inputs a.0 else wire_value self.old inputs b.0)) }
         ensures inputs { input_count self.new ≡ input_count self.old }
         ensures grows { Grows self.old self.new }
     {
@@ -496,7 +513,9 @@ impl Circuit {
         requires c { c.0 < length self.old }
         requires b { b.0 < length self.old }
         ensures wire { IfOk result (λ w. w.0 < length self.new) }
-        ensures value { IfOk result (λ w. (inputs : ℕ → Bool) → wire_value self.new inputs w.0 ≡ (not (wire_value self.old inputs c.0) && wire_value self.old inputs b.0)) }
+        ensures value { IfOk result (λ w. (inputs : ℕ → Bool)
+            → wire_value self.new inputs w.0 ≡
+            (not (wire_value self.old inputs c.0) && wire_value self.old inputs b.0)) }
         ensures inputs { input_count self.new ≡ input_count self.old }
         ensures grows { Grows self.old self.new }
     {
@@ -509,7 +528,9 @@ impl Circuit {
         requires c { c.0 < length self.old }
         requires a { a.0 < length self.old }
         ensures wire { IfOk result (λ w. w.0 < length self.new) }
-        ensures value { IfOk result (λ w. (inputs : ℕ → Bool) → wire_value self.new inputs w.0 ≡ (not (wire_value self.old inputs c.0) || wire_value self.old inputs a.0)) }
+        ensures value { IfOk result (λ w. (inputs : ℕ → Bool)
+            → wire_value self.new inputs w.0 ≡
+            (not (wire_value self.old inputs c.0) || wire_value self.old inputs a.0)) }
         ensures inputs { input_count self.new ≡ input_count self.old }
         ensures grows { Grows self.old self.new }
     {
@@ -522,7 +543,9 @@ impl Circuit {
         requires a { a.0 < length self.old }
         requires b { b.0 < length self.old }
         ensures wire { IfOk result (λ w. w.0 < length self.new) }
-        ensures value { IfOk result (λ w. (inputs : ℕ → Bool) → wire_value self.new inputs w.0 ≡ same_truth (wire_value self.old inputs a.0) (wire_value self.old inputs b.0)) }
+        ensures value { IfOk result (λ w. (inputs : ℕ → Bool)
+            → wire_value self.new inputs w.0 ≡ same_truth (wire_value self.old inputs a.0)
+            (wire_value self.old inputs b.0)) }
         ensures inputs { input_count self.new ≡ input_count self.old }
         ensures grows { Grows self.old self.new }
     {
@@ -536,7 +559,8 @@ impl Circuit {
         requires a { All (λ w. w.0 < length self.old) a.now }
         requires b { All (λ w. w.0 < length self.old) b.now }
         ensures wire { IfOk result (λ w. w.0 < length self.new) }
-        ensures value { IfOk result (λ w. (inputs : ℕ → Bool) → IsTrue (wire_value self.new inputs w.0) ↔ Agree (wire_value self.old inputs) a.now b.now) }
+        ensures value { IfOk result (λ w. (inputs : ℕ → Bool) → IsTrue (wire_value self.new inputs w.0)
+            ↔ Agree (wire_value self.old inputs) a.now b.now) }
         ensures inputs { input_count self.new ≡ input_count self.old }
         ensures grows { Grows self.old self.new }
     {

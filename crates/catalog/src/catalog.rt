@@ -134,7 +134,10 @@ impl Catalog {
 
     /// Puts a class into a container.
     pub fn hold(&mut self, outer: u32, class: u32) -> Result<(), NoMemory>
-        ensures ok { OnOk result (self.new ≡ record self.old { holdings = self.old.holdings ++ record { outer = outer; class = class } ∷ [] }) }
+        ensures ok { OnOk result
+            (self.new ≡ record self.old {
+              holdings = self.old.holdings ++ record { outer = outer; class = class } ∷ [];
+            }) }
         ensures err { OnErr result (self.new ≡ self.old) }
     {
         self.held.hold(outer, class)

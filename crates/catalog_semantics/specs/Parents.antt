@@ -20,7 +20,8 @@ pub record IsAhead (site : Site) (s : State) (p d : Definition) : Type 0 where
 -- The line ends with the parent of the class, and ahead of each stands its own, up to one that has none ahead.
 pub data StandAhead (site : Site) (s : State) : Definition → List Definition → Type 0 where
   none : {d : Definition} {line : List Definition} → HasNoneAhead s d → line ≡ [] → StandAhead site s d line
-  parent : {d : Definition} {line : List Definition} (p : Definition) (front : List Definition) → IsAhead site s p d → line ≡ front ++ p ∷ []
+  parent : {d : Definition} {line : List Definition} (p : Definition) (front : List Definition) → IsAhead site s p d
+      → line ≡ front ++ p ∷ []
       → StandAhead site s p front → StandAhead site s d line
 
 -- They stand in line, each once.

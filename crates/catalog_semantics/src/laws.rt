@@ -41,8 +41,10 @@ ghost use Rattle.catalog_semantics.specs.Nesting.{Deeper};
 pub fn statements_only_add()
     ensures whole { (site : Site) (x : Stmt) (s t : State) → effect_of site x s ≡ Ok t → Extends s t }
     ensures within { (room : Room) (site : Site) (x : Stmt) (s t : State) → effect_at room site x s ≡ Ok t → Extends s t }
-    ensures blocks { (room : Room) (site : Site) (body : List Stmt) (s t : State) → in_turn (map (effect_at room site) body) s ≡ Ok t → Extends s t }
-    ensures openings { (d : Definition) (r : Resource) (scope : Scope) (s t : State) → opened d r scope s ≡ Ok t → Extends (entering scope s) t }
+    ensures blocks { (room : Room) (site : Site) (body : List Stmt) (s t : State)
+        → in_turn (map (effect_at room site) body) s ≡ Ok t → Extends s t }
+    ensures openings { (d : Definition) (r : Resource) (scope : Scope) (s t : State) → opened d r scope s ≡ Ok t
+        → Extends (entering scope s) t }
 {}
 
 /// What only adds may be followed by what only adds.
@@ -140,7 +142,8 @@ pub fn parents_go_ahead()
 /// Where the main code ends every resource has the defaults of its type, or the first is refused with which the attributes are too
 /// large.
 pub fn defaults_take_hold()
-    ensures filled { (s t : State) → main_ended s ≡ Ok t → t ≡ record s { main_has_ended = true; resources = map (filled s.defaults) s.resources } }
+    ensures filled { (s t : State) → main_ended s ≡ Ok t
+        → t ≡ record s { main_has_ended = true; resources = map (filled s.defaults) s.resources } }
     ensures refused { (s : State) (e : Refusal) → main_ended s ≡ Err e → IsFirstTooLarge s.defaults s.resources e }
 {}
 
@@ -167,5 +170,6 @@ pub fn catalogs_are_sound()
 
 /// A class is refused for its parents exactly where their chain meets a class twice.
 pub fn circles_are_refused()
-    ensures { (classes : List Definition) (d : Definition) → definition_of d.name classes ≡ Some d → (inherits_itself classes d ≡ true) ↔ MeetsTwice classes d }
+    ensures { (classes : List Definition) (d : Definition) → definition_of d.name classes ≡ Some d
+        → (inherits_itself classes d ≡ true) ↔ MeetsTwice classes d }
 {}

@@ -55,6 +55,7 @@ pub data_map : (xs : List Pair) → data_of (v.Map xs) ≡ object (members_with 
 unfolding block.shape-the_row-Value-1 block.hidden-the_row-Value-1 denote.Hole.Carrier.hidden
 data_map xs = ap object (rows no_members xs)
   where
-    rows : (so_far : Members) (xs : List Pair) → data_keyed so_far (block.shape-the_row-Value-1 xs) (block.hidden-the_row-Value-1 xs) ≡ members_with so_far xs
+    rows : (so_far : Members) (xs : List Pair)
+        → data_keyed so_far (block.shape-the_row-Value-1 xs) (block.hidden-the_row-Value-1 xs) ≡ members_with so_far xs
     rows so_far [] = refl
     rows so_far (p ∷ xs) = rows (put p.0 (data_of p.1) so_far) xs

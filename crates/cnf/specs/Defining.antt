@@ -77,6 +77,7 @@ pub record Encodes (gates : List Gate) (needed : List Bool) (k : ℕ) (lits : Li
   pub long : length lits ≡ k
   pub inputs : input_count gates ≤ f.vars
   pub variables : (w : ℕ) → w < k → truth_at needed w ≡ true → HasVariable f.vars (lit_at lits w)
-  pub sound : (v : ℕ → Bool) → Satisfies v f.clauses → (w : ℕ) → w < k → truth_at needed w ≡ true → lit_true v (lit_at lits w) ≡ wire_value gates (inputs_in v) w
+  pub sound : (v : ℕ → Bool) → Satisfies v f.clauses → (w : ℕ) → w < k → truth_at needed w ≡ true
+      → lit_true v (lit_at lits w) ≡ wire_value gates (inputs_in v) w
   pub extends : (inputs : ℕ → Bool) → (u : ℕ → Bool) × ((i : ℕ) → i < input_count gates → inputs_in u i ≡ inputs i) × Satisfies u f.clauses
       × ((w : ℕ) → w < k → truth_at needed w ≡ true → lit_true u (lit_at lits w) ≡ wire_value gates inputs w)

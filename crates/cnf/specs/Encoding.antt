@@ -12,4 +12,5 @@ inputs_in v i = v (i + 1)
 pub record StatesGoal (gates : List Gate) (goal : ℕ) (f : Formula) : Type 0 where
   pub variables : input_count gates ≤ f.vars
   pub models : (v : ℕ → Bool) → Satisfies v f.clauses → wire_value gates (inputs_in v) goal ≡ true
-  pub inputs : (inputs : ℕ → Bool) → wire_value gates inputs goal ≡ true → (v : ℕ → Bool) × ((i : ℕ) → i < input_count gates → inputs_in v i ≡ inputs i) × Satisfies v f.clauses
+  pub inputs : (inputs : ℕ → Bool) → wire_value gates inputs goal ≡ true → (v : ℕ → Bool)
+      × ((i : ℕ) → i < input_count gates → inputs_in v i ≡ inputs i) × Satisfies v f.clauses

@@ -16,7 +16,8 @@ numbered clauses (suc n) = slice_get clauses n
 -- the pivot's opposite is in the named clause; the next clause so far is their resolvent.
 abbrev pub Leads : List (List Lit) → List Lit → List Link → List Lit → Type 0
 Leads earlier c [] d = c ≡ d
-Leads earlier c (link ∷ chain) d = (named : List Lit) × (numbered earlier link.number ≡ Some named) × (has_lit c link.pivot ≡ true) × (has_lit named (opposite link.pivot) ≡ true)
+Leads earlier c (link ∷ chain) d = (named : List Lit) × (numbered earlier link.number ≡ Some named)
+    × (has_lit c link.pivot ≡ true) × (has_lit named (opposite link.pivot) ≡ true)
     × Leads earlier (resolvent link.pivot c named) chain d
 
 -- the step's chain begins at an earlier clause and leads to just the step's clause

@@ -46,7 +46,8 @@ fn push_lits(out: &mut Vec<u8>, lits: &[Lit]) -> Result<(), NoMemory>
 
 /// Appends links, each with a space.
 fn push_links(out: &mut Vec<u8>, links: &[Link]) -> Result<(), NoMemory>
-    ensures { OnOk result (out.new.items ≡ out.old.items ++ flat_map (λ k. decimal k.number ++ (32 ∷ (lit_word k.pivot ++ 32 ∷ []))) links.now) }
+    ensures { OnOk result (out.new.items ≡ out.old.items ++ flat_map
+        (λ k. decimal k.number ++ (32 ∷ (lit_word k.pivot ++ 32 ∷ []))) links.now) }
 {
     for link in links {
         push_number(out, link.number)?;

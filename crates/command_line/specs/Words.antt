@@ -61,7 +61,8 @@ taken false (Some word) = None
 abbrev pub digits_within : ℕ → ℕ → Text → Option ℕ
 digits_within most n [] = Some n
 digits_within most n (b ∷ word) =
-    if nat_le 48 b && nat_le b 57 then (if nat_le (10 * n + (b - 48)) most then digits_within most (10 * n + (b - 48)) word else None) else None
+    if nat_le 48 b && nat_le b 57 then
+    (if nat_le (10 * n + (b - 48)) most then digits_within most (10 * n + (b - 48)) word else None) else None
 
 -- a number from 1 to the greatest one, without a sign and without a leading zero
 abbrev pub number_in : ℕ → Text → Option ℕ

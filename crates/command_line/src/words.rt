@@ -259,8 +259,12 @@ fn entry_at(alloc: Global, path: &str, content: Option<&str>) -> Result<Wanted, 
 
 /// The entry that is wanted, where one may be; nothing is given of one where none may.
 fn wanted(alloc: Global, matches: &ArgMatches<'_>, may: bool) -> Result<Option<Wanted>, WordsFault>
-    ensures made { IfOk result (IsWanted may (first_of (codes "path") (rows_of (found_of matches.now))) (first_of (codes "content") (rows_of (found_of matches.now)))) }
-    ensures refused { IfErr result (λ e. IfRefused e ((w : Option Wanted) → IsWanted may (first_of (codes "path") (rows_of (found_of matches.now))) (first_of (codes "content") (rows_of (found_of matches.now))) w → ⊥)) }
+    ensures made { IfOk result
+        (IsWanted may (first_of (codes "path") (rows_of (found_of matches.now)))
+        (first_of (codes "content") (rows_of (found_of matches.now)))) }
+    ensures refused { IfErr result (λ e. IfRefused e ((w : Option Wanted)
+        → IsWanted may (first_of (codes "path") (rows_of (found_of matches.now)))
+        (first_of (codes "content") (rows_of (found_of matches.now))) w → ⊥)) }
 {
     let content = value(matches, "content");
     match (may, value(matches, "path")) {

@@ -25,8 +25,10 @@ lates (ToLast k ∷ moves) = k ∷ lates moves
 -- what one move makes of this, and whether there was one
 abbrev pub Stepped : Option Move → Pruning → Pruning → Bool → Type 0
 Stepped None s t more = (more ≡ false) × (t ≡ s)
-Stepped (Some (ToLast k)) s t more = (more ≡ true) × (t.kept ≡ without k s.kept) × (t.first ≡ s.first) × (t.late.items ≡ s.late.items ++ k ∷ [])
-Stepped (Some (ToFirst k)) s t more = (more ≡ true) × (t.kept ≡ without k s.kept) × (t.first ≡ s.first ++ k ∷ []) × (t.late.items ≡ s.late.items)
+Stepped (Some (ToLast k)) s t more = (more ≡ true) × (t.kept ≡ without k s.kept) × (t.first ≡ s.first)
+    × (t.late.items ≡ s.late.items ++ k ∷ [])
+Stepped (Some (ToFirst k)) s t more = (more ≡ true) × (t.kept ≡ without k s.kept) × (t.first ≡ s.first ++ k ∷ [])
+    × (t.late.items ≡ s.late.items)
 
 -- each is less than those behind it
 abbrev pub Rises : List ℕ → Type 0
@@ -59,6 +61,7 @@ pub record IsOnTheWay (order : Relation) (rows : List (List Bool)) (p : Pruning)
   pub below : AllByRecursion (λ j. j < order.count) p.kept
   pub ended : more ≡ false → next_move order rows p.kept ≡ None
   pub done : List Move
-  pub leads : (rest : List Move) (left : List ℕ) → Finds order rows rest p.kept left → Finds order rows (done ++ rest) (up_from 0 order.count) left
+  pub leads : (rest : List Move) (left : List ℕ) → Finds order rows rest p.kept left
+      → Finds order rows (done ++ rest) (up_from 0 order.count) left
   pub first_is : p.first ≡ firsts done
   pub late_is : p.late.items ≡ lates done

@@ -55,7 +55,8 @@ Never P = (k : ℕ) → P k → ⊥
 -- At each move the least that may go last goes; where none may, the least that may go first. What is kept may go neither way.
 abbrev pub Prunes : List Program → (ℕ → ℕ → Type 0) → List Move → List ℕ → List ℕ → Type 0
 Prunes es before [] ks kept = (kept ≡ ks) × Never (MayBeLast es before ks) × Never (MayBeFirst es before ks)
-Prunes es before (ToFirst k ∷ moves) ks kept = Never (MayBeLast es before ks) × IsLeast (MayBeFirst es before ks) k × Prunes es before moves (without k ks) kept
+Prunes es before (ToFirst k ∷ moves) ks kept = Never (MayBeLast es before ks) × IsLeast (MayBeFirst es before ks) k
+    × Prunes es before moves (without k ks) kept
 Prunes es before (ToLast k ∷ moves) ks kept = IsLeast (MayBeLast es before ks) k × Prunes es before moves (without k ks) kept
 
 -- what goes first, in order, and what goes last

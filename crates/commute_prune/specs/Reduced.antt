@@ -29,4 +29,5 @@ pub record IsReduced (stands : ℕ → Bool) (f g : Numbered) : Type 0 where
 
 -- at each place the second list has what the first has there, without the folders that surely stand
 abbrev pub AreReduced : (ℕ → ℕ → Bool) → List Numbered → List Numbered → Type 0
-AreReduced before fs gs = (i : ℕ) (g : Numbered) → slice_get gs i ≡ Some g → (f : Numbered) × (slice_get fs i ≡ Some f) × IsReduced (stands_at before i fs) f g
+AreReduced before fs gs = (i : ℕ) (g : Numbered) → slice_get gs i ≡ Some g → (f : Numbered) × (slice_get fs i ≡ Some f)
+    × IsReduced (stands_at before i fs) f g

@@ -40,8 +40,10 @@ pub fn pruning()
 pub fn sure_pairs()
     ensures commute { (es : List Program) (before : ℕ → ℕ → Bool) → AllByRecursion IsProper es → (a b : ℕ) → AreApartWhereSure es before a b
         → CommuteFrom (IsTreeWith (IsSureBeforeEither nowhere es (Told before) a b)) (slice_index_or es a Id) (slice_index_or es b Id) }
-    ensures enough { (es : List Program) (before : ℕ → ℕ → Bool) → AllByRecursion IsProper es → (pairs : List (ℕ × ℕ)) → AreDoubtful es before pairs
-        → ((a b : ℕ) → Contains pairs (a, b) → Commutes (slice_index_or es a Id) (slice_index_or es b Id)) → IsDeterministic es (Told before) }
+    ensures enough { (es : List Program) (before : ℕ → ℕ → Bool) → AllByRecursion IsProper es → (pairs : List (ℕ × ℕ))
+        → AreDoubtful es before pairs
+        → ((a b : ℕ) → Contains pairs (a, b) → Commutes (slice_index_or es a Id) (slice_index_or es b Id))
+        → IsDeterministic es (Told before) }
 {
     apart_where_sure();
     sure_before();

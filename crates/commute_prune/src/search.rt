@@ -154,7 +154,8 @@ impl Search {
     /// A program isn't kept any more.
     pub(crate) fn take_out(&mut self, k: u32)
         requires { k < length self.old.stays.items }
-        ensures { (order : Relation) (rows : List (List Bool)) (kept : List ℕ) → IsSearch order rows kept self.old → IsSearch order rows (without k kept) self.new }
+        ensures { (order : Relation) (rows : List (List Bool)) (kept : List ℕ) → IsSearch order rows kept self.old
+            → IsSearch order rows (without k kept) self.new }
     {
         self.stays[k as usize] = false;
     }

@@ -71,7 +71,8 @@ fn unsure(
     left: &[bool],
     written: &[bool],
 ) -> Result<Vec<usize>, NoMemory>
-    ensures { IfOk result (λ rest. rest.items ≡ unsure (λ n. slice_index_or left.now n false && not (slice_index_or written.now n false)) ns.now) }
+    ensures { IfOk result (λ rest. rest.items ≡ unsure
+        (λ n. slice_index_or left.now n false && not (slice_index_or written.now n false)) ns.now) }
 {
     let mut rest = Vec::new(alloc);
     for n in ns {

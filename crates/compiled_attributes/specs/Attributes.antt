@@ -28,7 +28,8 @@ is_noop r = is_true (codes "noop") r.parameters
 
 -- as those of a container, of a file that is put together, or of a native resource, which may be of a type that has a model
 abbrev pub reading_of : CompiledResource → Reading
-reading_of r = if r.is_container then reading.Container else (if is_concat_file r then reading.Concat else reading.Native (kind_of r.id.kind))
+reading_of r = if r.is_container then reading.Container else
+    (if is_concat_file r then reading.Concat else reading.Native (kind_of r.id.kind))
 
 -- what becomes of an attribute, read so beside the others; none where it is left out
 abbrev pub value_read : Reading → List Pair → List ℕ → Value → Option Value
@@ -85,7 +86,8 @@ added_value name (Some p) = if bytes_eq p.0 name then Some p.1 else None
 -- What an attribute of a resource is: what is added, or else what becomes of the text's attribute of this name.
 abbrev pub attribute_of : List CompiledResource → CompiledResource → List ℕ → Option Value
 attribute_of resources r name =
-    option_or (added_value name (added_to resources r (reading_of r))) (option_and_then (value_read (reading_of r) r.parameters name) (value_at name r.parameters))
+    option_or (added_value name (added_to resources r (reading_of r)))
+    (option_and_then (value_read (reading_of r) r.parameters name) (value_at name r.parameters))
 
 -- ---- native resources of their own type
 

@@ -132,4 +132,5 @@ content_with ps fragments = codes "concat:" ++ (frame_text ps ++ flat_map piece_
 
 -- the content, unless there is none
 abbrev pub filling_of : List CompiledResource → CompiledResource → Option (List ℕ)
-filling_of resources r = if is_filled r && is_none (why_unfilled resources r) then Some (content_with r.parameters (gathered resources r)) else None
+filling_of resources r = if is_filled r && is_none (why_unfilled resources r) then Some
+    (content_with r.parameters (gathered resources r)) else None

@@ -112,7 +112,8 @@ fn put_read(
     pair: &(Text, Value),
     attributes: &mut BTreeMap<Name, Value>,
 ) -> Result<(), NoMemory>
-    ensures { OnOk result (attributes.new.entries ≡ with_attribute attributes.old.entries pair.now.0 (value_read reading ps.now pair.now.0 pair.now.1)) }
+    ensures { OnOk result (attributes.new.entries ≡ with_attribute attributes.old.entries pair.now.0
+        (value_read reading ps.now pair.now.0 pair.now.1)) }
 {
     let Some(x) = value_read(alloc, reading, ps, pair.0.as_str(), &pair.1)? else {
         return Ok(());

@@ -62,7 +62,9 @@ fn note(
     target: &Text,
     place: usize,
 ) -> Result<(), NoMemory>
-    ensures { OnOk result ((x : List ℕ) → places_in by_target.new.entries x ≡ places_in by_target.old.entries x ++ if_target x (Some target.now) place) }
+    ensures { OnOk result ((x : List ℕ)
+        → places_in by_target.new.entries x ≡ places_in by_target.old.entries x ++ if_target x
+        (Some target.now) place) }
 {
     let name = target.copy(alloc)?;
     let before = by_target.insert(name, Seq::new(alloc))?;
@@ -80,7 +82,9 @@ fn note_fragment(
     r: &CompiledResource,
     place: usize,
 ) -> Result<(), NoMemory>
-    ensures { OnOk result ((x : List ℕ) → places_in by_target.new.entries x ≡ places_in by_target.old.entries x ++ if_target x (target_of r.now) place) }
+    ensures { OnOk result ((x : List ℕ)
+        → places_in by_target.new.entries x ≡ places_in by_target.old.entries x ++ if_target x
+        (target_of r.now) place) }
 {
     match target_of(r) {
         Some(target) => note(alloc, by_target, target, place),
@@ -154,7 +158,9 @@ fn places_of(
     fragments: &Fragments,
     file: &CompiledResource,
 ) -> Result<BTreeSet<usize>, NoMemory>
-    ensures { IfOk result (λ s. s.keys ≡ with_places (with_places [] (places_in fragments.now (counts_as file.now).title)) (places_in fragments.now file.now.id.title)) }
+    ensures { IfOk result (λ s. s.keys ≡ with_places
+        (with_places [] (places_in fragments.now (counts_as file.now).title))
+        (places_in fragments.now file.now.id.title)) }
 {
     let mut places = BTreeSet::new(alloc);
     add_places(&mut places, fragments.places(path_of(file)))?;
@@ -178,7 +184,8 @@ fn push_at<'r>(
     place: usize,
     found: &mut Vec<&'r CompiledResource>,
 ) -> Result<(), NoMemory>
-    ensures { OnOk result (map (λ r. r.now) found.new.items ≡ map (λ r. r.now) found.old.items ++ if_there (slice_get resources.now place) []) }
+    ensures { OnOk result (map (λ r. r.now) found.new.items ≡ map (λ r. r.now) found.old.items ++ if_there
+        (slice_get resources.now place) []) }
 {
     match resource_at(resources, place) {
         Some(r) => {

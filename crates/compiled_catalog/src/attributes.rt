@@ -93,7 +93,8 @@ fn relate(
     name: &str,
     attributes: &mut Pairs,
 ) -> Result<(), Fault>
-    ensures { AnswersBy (λ done. attributes.new) (with_related index.now r.now name.now attributes.old (value_at name.now attributes.old)) result }
+    ensures { AnswersBy (λ done. attributes.new)
+        (with_related index.now r.now name.now attributes.old (value_at name.now attributes.old)) result }
 {
     let Some(value) = attributes.find(name) else {
         return Ok(());

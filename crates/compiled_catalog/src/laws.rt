@@ -14,12 +14,14 @@ use compiled_relations::relations_are_references;
 
 /// In the catalog of a compiled catalog each reference stands once.
 pub fn compiled_references_stand_once()
-    ensures { (c : Compiled) (limits : Limits) (k : Catalog) → IsSound c → catalog_of c limits ≡ Ok k → StandOnce (references_of k.resources) }
+    ensures { (c : Compiled) (limits : Limits) (k : Catalog) → IsSound c → catalog_of c limits ≡ Ok k
+        → StandOnce (references_of k.resources) }
 {}
 
 /// In it no attribute holds an opaque value, the value of a relation is references, and each attribute stands once.
 pub fn compiled_attributes_are_sound()
-    ensures { (c : Compiled) (limits : Limits) (k : Catalog) → catalog_of c limits ≡ Ok k → AllByRecursion (λ r. AreSoundAttributes r.attrs) k.resources }
+    ensures { (c : Compiled) (limits : Limits) (k : Catalog) → catalog_of c limits ≡ Ok k
+        → AllByRecursion (λ r. AreSoundAttributes r.attrs) k.resources }
 {
     names_in_order();
     relations_are_references();

@@ -67,7 +67,8 @@ IsFaultOf n (fault.Memory m) (faults.Memory k) = Unit {0}
 IsFaultOf n (fault.Memory m) (faults.Refused x) = ⊥
 
 -- The program of one resource more is added, and its place is taken; or it is refused.
-abbrev pub AddsProgram : Setting → List Edit → Native → Result (Unit {0}) Fault → List Path → List Path → List Program → List Program → Type 0
+abbrev pub AddsProgram : Setting → List Edit → Native → Result (Unit {0}) Fault → List Path → List Path → List Program
+    → List Program → Type 0
 AddsProgram s edits n (Ok done) seen new_seen old new =
     (d : Done) × (or_refused n (done_of s edits seen n) ≡ Ok d) × (new_seen ≡ seen ++ d.1) × (new ≡ old ++ program_among s edits n d.0 ∷ [])
 AddsProgram s edits n (Err e) seen new_seen old new = Refuses (or_refused n (done_of s edits seen n)) e

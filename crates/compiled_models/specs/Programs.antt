@@ -79,7 +79,8 @@ is_idle r = is_one_of idle_types r.id.kind || (bytes_eq r.id.kind (codes "resour
 
 -- the program that a resource has whatever its model is: what is assumed of it, and none where it isn't to be changed or is idle
 abbrev pub program_told : Setting → Native → Option (Result Program Cause)
-program_told s n = option_or (program_assumed n.resource (assumed_of s n)) (if is_noop n.text || is_idle n.resource then Some (Ok Id) else None)
+program_told s n = option_or (program_assumed n.resource (assumed_of s n))
+    (if is_noop n.text || is_idle n.resource then Some (Ok Id) else None)
 
 -- ---- edits
 
@@ -191,7 +192,8 @@ or_refused n (Ok d) = Ok d
 or_refused n (Err c) = Err (refusal_of n c)
 
 -- this program and the others, unless one of those is refused
-abbrev pub programs_with : (Program → Program) → Result Done Refusal → (List Path → Result (List Program) Refusal) → Result (List Program) Refusal
+abbrev pub programs_with : (Program → Program) → Result Done Refusal → (List Path → Result (List Program) Refusal)
+    → Result (List Program) Refusal
 programs_with among (Err x) more = Err x
 programs_with among (Ok d) more = first_and (among d.0) (more d.1)
 

@@ -53,7 +53,8 @@ fn push_assumed(
     edits: &mut Seq<Edit>,
 ) -> Result<(), NoMemory>
     requires { IsSound host.now }
-    ensures { OnOk result (edits.new ≡ edits.old ++ edits_by host.now.links.now (native_of n.now) (assumed_of (setting_of host.now) (native_of n.now))) }
+    ensures { OnOk result (edits.new ≡ edits.old ++ edits_by host.now.links.now (native_of n.now)
+        (assumed_of (setting_of host.now) (native_of n.now))) }
 {
     match assumed_at(alloc, &host.premises, n.place as usize, n.text)? {
         Some(Assumed::Does(behavior)) => {
@@ -73,7 +74,8 @@ pub(crate) fn edits_of(
     requires sound { IsSound host.now }
     requires told { AllByRecursion (λ i. i < length host.now.catalog.now.resources) plain.now }
     requires made { AllByRecursion (λ i. i < length catalog.now.resources) plain.now }
-    ensures { IfOk result (λ e. e ≡ edits_of (setting_of host.now) (natives_at host.now.catalog.now.resources catalog.now.resources plain.now)) }
+    ensures { IfOk result (λ e. e ≡ edits_of (setting_of host.now)
+        (natives_at host.now.catalog.now.resources catalog.now.resources plain.now)) }
 {
     let mut edits = Seq::new(alloc);
     for place in plain {

@@ -113,7 +113,8 @@ pub fn assumed_at<'h>(
     r: &CompiledResource,
 ) -> Result<Option<&'h Assumed>, NoMemory>
     requires { ArePlaced premises.now }
-    ensures { IfOk result (λ found. option_map (λ x. x.now) found ≡ assumed_at premises.now.resources.now premises.now.assumptions.now place r.now) }
+    ensures { IfOk result (λ found. option_map (λ x. x.now) found
+        ≡ assumed_at premises.now.resources.now premises.now.assumptions.now place r.now) }
 {
     if let Some(own) = assumed_of_place(premises, place) {
         return Ok(Some(own));

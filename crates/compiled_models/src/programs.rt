@@ -71,7 +71,9 @@ fn modelled(
     places: &mut PathSet,
 ) -> Result<Program, ModelFault>
     requires { IsSound host.now }
-    ensures { AddsDone (done_by host.now.links.now places.old (model_of (setting_of host.now) (edits_beside n.now.place edits.now) (native_of n.now))) result places.old places.new }
+    ensures { AddsDone (done_by host.now.links.now places.old
+        (model_of (setting_of host.now) (edits_beside n.now.place edits.now)
+        (native_of n.now))) result places.old places.new }
 {
     let m = model_of(alloc, host, edits.as_slice(), n)?;
     done_by(alloc, host.links, m, places)
@@ -102,7 +104,8 @@ fn program_among(
     place: usize,
     program: &Program,
 ) -> Result<Program, NoMemory>
-    ensures { IfOk result (λ e. meaning e ≡ with_lost_edits (marks_of (edits_beside place edits.now)) (program_read_as links.now (meaning program.now))) }
+    ensures { IfOk result (λ e. meaning e ≡ with_lost_edits (marks_of (edits_beside place edits.now))
+        (program_read_as links.now (meaning program.now))) }
 {
     let read = read_program(alloc, links, program)?;
     with_lost_edits(alloc, edits, place, read)
@@ -118,7 +121,8 @@ fn push_program(
     into: &mut Seq<Program>,
 ) -> Result<(), Fault>
     requires { IsSound host.now }
-    ensures { AddsProgram (setting_of host.now) edits.now (native_of n.now) result places.old places.new (map meaning into.old) (map meaning into.new) }
+    ensures { AddsProgram (setting_of host.now) edits.now (native_of n.now) result places.old places.new
+        (map meaning into.old) (map meaning into.new) }
 {
     match done_of(alloc, host, edits, n, places) {
         Ok(program) => {
@@ -141,7 +145,9 @@ fn programs_beside(
     requires sound { IsSound host.now }
     requires told { AllByRecursion (λ i. i < length host.now.catalog.now.resources) plain.now }
     requires made { AllByRecursion (λ i. i < length catalog.now.resources) plain.now }
-    ensures { AnswersBy (λ es. map meaning es) (programs_behind (setting_of host.now) edits.now [] (natives_at host.now.catalog.now.resources catalog.now.resources plain.now)) result }
+    ensures { AnswersBy (λ es. map meaning es)
+        (programs_behind (setting_of host.now) edits.now []
+        (natives_at host.now.catalog.now.resources catalog.now.resources plain.now)) result }
 {
     let mut places = PathSet::new(alloc);
     let mut made = Seq::new(alloc);
@@ -168,7 +174,9 @@ pub fn native_programs(
 ) -> Result<Seq<Program>, Fault>
     requires told { AllByRecursion (λ i. i < length texts.now.resources) plain.now }
     requires made { AllByRecursion (λ i. i < length catalog.now.resources) plain.now }
-    ensures { AnswersBy (λ es. map meaning es) (programs (setting_with texts.now.resources assumptions.now listing.now links.now) (natives_at texts.now.resources catalog.now.resources plain.now)) result }
+    ensures { AnswersBy (λ es. map meaning es)
+        (programs (setting_with texts.now.resources assumptions.now listing.now links.now)
+        (natives_at texts.now.resources catalog.now.resources plain.now)) result }
 {
     let host = Host::of(alloc, texts, assumptions, listing, links)?;
     let edits = edits_of(alloc, &host, catalog, plain)?;

@@ -57,7 +57,8 @@ leads_to own target f = bytes_eq target f.text && leads_out own f.path
 -- the places of the files to which such a link leads
 abbrev pub targets_among : Option Path → List ℕ → List LinkedFile → List ℕ
 targets_among own target [] = []
-targets_among own target (f ∷ files) = if leads_to own target f then f.place ∷ targets_among own target files else targets_among own target files
+targets_among own target
+    (f ∷ files) = if leads_to own target f then f.place ∷ targets_among own target files else targets_among own target files
 
 -- pairs of places: each of those that come first, with the one that comes second
 abbrev pub before_one : List ℕ → ℕ → List (ℕ × ℕ)

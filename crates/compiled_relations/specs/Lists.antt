@@ -15,4 +15,5 @@ are_all_references (x ∷ xs) = (is_undef x || are_references x) && are_all_refe
 -- each of these but undef, with what its texts find
 abbrev pub related_to_all : List CompiledResource → CompiledResource → List Value → Result (List Value) Refusal
 related_to_all all r [] = Ok []
-related_to_all all r (x ∷ xs) = if is_undef x then related_to_all all r xs else (related_to all r x >>= (λ item. related_to_all all r xs >>= (λ items. Ok (item ∷ items))))
+related_to_all all r (x ∷ xs) = if is_undef x then related_to_all all r xs else
+    (related_to all r x >>= (λ item. related_to_all all r xs >>= (λ items. Ok (item ∷ items))))

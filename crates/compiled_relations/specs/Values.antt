@@ -46,4 +46,5 @@ abbrev mutual
 
   pub related_to_row : {m : _} → List CompiledResource → CompiledResource → Row_of-Value m → Result (List Value) Refusal
   related_to_row all r end_of-Value = Ok []
-  related_to_row all r (more_of-Value x row) = if is_undef x then related_to_row all r row else (related_to all r x >>= (λ item. related_to_row all r row >>= (λ items. Ok (item ∷ items))))
+  related_to_row all r (more_of-Value x row) = if is_undef x then related_to_row all r row else
+      (related_to all r x >>= (λ item. related_to_row all r row >>= (λ items. Ok (item ∷ items))))

@@ -12,7 +12,8 @@ ghost use Rattle.compiled_relations.specs.Related.{IsRelation};
 
 /// Each resource of a compiled catalog is found by its type and title.
 pub fn resources_are_found()
-    ensures { (c : Compiled) (place : ℕ) (r : CompiledResource) → IsSound c → slice_get c.resources place ≡ Some r → r.id.title ≢ [] → place_found c.resources r.id ≡ Some place }
+    ensures { (c : Compiled) (place : ℕ) (r : CompiledResource) → IsSound c → slice_get c.resources place ≡ Some r
+        → r.id.title ≢ [] → place_found c.resources r.id ≡ Some place }
 {}
 
 /// Texts of paths are written alike exactly where they spell one path.
@@ -22,5 +23,6 @@ pub fn paths_are_written_alike()
 
 /// What references of a relation find are references of resources, and nothing in them is opaque.
 pub fn relations_are_references()
-    ensures { (all : List CompiledResource) (r : CompiledResource) (x y : Value) → related_to all r x ≡ Ok y → are_references x ≡ true → IsRelation all y }
+    ensures { (all : List CompiledResource) (r : CompiledResource) (x y : Value) → related_to all r x ≡ Ok y
+        → are_references x ≡ true → IsRelation all y }
 {}

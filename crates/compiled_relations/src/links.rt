@@ -147,7 +147,8 @@ fn push_targets(
     place: u32,
     pairs: &mut Seq<(u32, u32)>,
 ) -> Result<(), NoMemory>
-    ensures { OnOk result (pairs.new ≡ pairs.old ++ before_one (targets_among (option_map (λ p. p.now) own.entry) target.now files.now) place) }
+    ensures { OnOk result (pairs.new ≡ pairs.old ++ before_one
+        (targets_among (option_map (λ p. p.now) own.entry) target.now files.now) place) }
 {
     for f in files {
         if leads_to(own, target, f) {

@@ -69,7 +69,9 @@ fn insert_attribute(
     pair: &(Text, Value),
     pairs: &mut PlacePairs,
 ) -> Result<(), NoMemory>
-    ensures { OnOk result ((p : ℕ × ℕ) → has_pair pairs.new p ≡ (has_pair pairs.old p || has_pair (flat_map (related_by catalog.now) (relations_by r.now pair.now)) p)) }
+    ensures { OnOk result ((p : ℕ × ℕ)
+        → has_pair pairs.new p ≡
+        (has_pair pairs.old p || has_pair (flat_map (related_by catalog.now) (relations_by r.now pair.now)) p)) }
 {
     let before = says_before(pair.0.as_str());
     let after = says_after(pair.0.as_str());
@@ -93,7 +95,9 @@ fn insert_resource(
     r: &Resource,
     pairs: &mut PlacePairs,
 ) -> Result<(), NoMemory>
-    ensures { OnOk result ((p : ℕ × ℕ) → has_pair pairs.new p ≡ (has_pair pairs.old p || has_pair (flat_map (related_by catalog.now) (relations_of r.now)) p)) }
+    ensures { OnOk result ((p : ℕ × ℕ)
+        → has_pair pairs.new p ≡
+        (has_pair pairs.old p || has_pair (flat_map (related_by catalog.now) (relations_of r.now)) p)) }
 {
     if r.is_virtual {
         return Ok(());

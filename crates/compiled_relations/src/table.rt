@@ -46,7 +46,8 @@ impl Table {
     /// Adds a reference that has no place.
     fn add(&mut self, r: Ref, place: usize) -> Result<(), NoMemory>
         requires { place_among r self.old ≡ None }
-        ensures { OnOk result ((q : Ref) → place_among q self.new ≡ or_else (place_among q self.old) (if same_ref q r then Some place else None)) }
+        ensures { OnOk result ((q : Ref)
+            → place_among q self.new ≡ or_else (place_among q self.old) (if same_ref q r then Some place else None)) }
     {
         self.places.insert(r, place)?;
         Ok(())
@@ -54,7 +55,8 @@ impl Table {
 
     /// Notes that a reference stands at a place, unless it stood at one before.
     fn note(&mut self, r: Ref, place: usize) -> Result<(), NoMemory>
-        ensures { OnOk result ((q : Ref) → place_among q self.new ≡ or_else (place_among q self.old) (if same_ref q r then Some place else None)) }
+        ensures { OnOk result ((q : Ref)
+            → place_among q self.new ≡ or_else (place_among q self.old) (if same_ref q r then Some place else None)) }
     {
         if self.find(&r).is_some() {
             return Ok(());
@@ -64,7 +66,8 @@ impl Table {
 
     /// Notes that each of these stands at a place.
     pub fn note_all(&mut self, refs: Seq<Ref>, place: usize) -> Result<(), NoMemory>
-        ensures { OnOk result ((q : Ref) → place_among q self.new ≡ or_else (place_among q self.old) (if is_one q refs then Some place else None)) }
+        ensures { OnOk result ((q : Ref)
+            → place_among q self.new ≡ or_else (place_among q self.old) (if is_one q refs then Some place else None)) }
     {
         let mut left = refs.into_vec();
         while let Some(r) = left.pop() {

@@ -77,7 +77,8 @@ is_class_at resources place = passes is_class (slice_get resources place)
 -- what is contained twice is a class
 abbrev pub AreHeldOnce : List CompiledResource → List Containment → Type 0
 AreHeldOnce resources [] = Unit {0}
-AreHeldOnce resources (e ∷ edges) = AllByRecursion (λ f. f.inner ≡ e.inner → is_class_at resources e.inner ≡ true) edges × AreHeldOnce resources edges
+AreHeldOnce resources (e ∷ edges) = AllByRecursion (λ f. f.inner ≡ e.inner → is_class_at resources e.inner ≡ true) edges
+    × AreHeldOnce resources edges
 
 -- the container in the first of these edges that contain the place
 abbrev pub first_outer : ℕ → List Containment → Option ℕ

@@ -232,4 +232,5 @@ IfForm (misread.Memory m) P = Unit {0}
 
 -- each resource has a slot, which has the container in the first of these edges that contain it; a class has none
 abbrev pub AreHolders : List CompiledResource → List Containment → List (Option ℕ) → Type 0
-AreHolders resources edges holders = (place : ℕ) → place < length resources → slice_get holders place ≡ Some (holder_of (compiled_with resources edges) place)
+AreHolders resources edges holders = (place : ℕ) → place < length resources
+    → slice_get holders place ≡ Some (holder_of (compiled_with resources edges) place)

@@ -15,7 +15,8 @@ pub fn compiled_texts()
     ensures one { (bytes : List ℕ) (c d : Compiled) → IsCompiledText bytes c → IsCompiledText bytes d → c ≡ d }
     ensures sound { (bytes : List ℕ) (c : Compiled) → IsCompiledText bytes c → IsSound c }
     ensures references { (text : List ℕ) (r : Ref) → (reference_of text ≡ Some r) ↔ IsReference text r }
-    ensures places { (c : Compiled) (r : Ref) (place : ℕ) → AreDistinct (ids_of c.resources) → (place_of r (ids_of c.resources) ≡ Some place) ↔ (id_at c.resources place ≡ Some r) }
+    ensures places { (c : Compiled) (r : Ref) (place : ℕ) → AreDistinct (ids_of c.resources)
+        → (place_of r (ids_of c.resources) ≡ Some place) ↔ (id_at c.resources place ≡ Some r) }
 {}
 
 /// Values in which no object says a type of its own are read as facts are.

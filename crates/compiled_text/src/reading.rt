@@ -83,7 +83,8 @@ pub fn compiled_from_json(alloc: Global, bytes: &[u8]) -> Result<CompiledCatalog
     ensures found { IfOk result (IsCompiledText bytes.now) }
     // What this text says is what is found.
     ensures only { (c : Compiled) → IsCompiledText bytes.now c → IfOk result (λ d. d ≡ c) }
-    ensures refused { IfErr result (λ e. IfRefused e (λ r. IsRefusal 65 0 (codes "compiled") r × ((c : Compiled) → IsCompiledText bytes.now c → ⊥))) }
+    ensures refused { IfErr result (λ e. IfRefused e (λ r. IsRefusal 65 0 (codes "compiled") r
+        × ((c : Compiled) → IsCompiledText bytes.now c → ⊥))) }
 {
     compiled_texts();
     let json = match Json::from_slice(alloc, bytes) {

@@ -64,7 +64,8 @@ fn push_file(
     place: u32,
     files: &mut Seq<ManagedFile>,
 ) -> Result<(), NoMemory>
-    ensures { OnOk result ((places : List ℕ) → AreFiles catalog.now places files.old → AreFiles catalog.now (places ++ place ∷ []) files.new) }
+    ensures { OnOk result ((places : List ℕ) → AreFiles catalog.now places files.old
+        → AreFiles catalog.now (places ++ place ∷ []) files.new) }
 {
     path_texts();
     let Some(r) = resource_at(catalog, place) else {

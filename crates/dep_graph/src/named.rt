@@ -135,7 +135,8 @@ fn push_somebody(
     name: &str,
     targets: &mut Seq<u32>,
 ) -> Result<(), NoMemory>
-    ensures { OnOk result (targets.new ≡ targets.old ++ flat_map (named_targets catalog.now plain.now) (somebodies kind.now (name.now ∷ []))) }
+    ensures { OnOk result (targets.new ≡ targets.old ++ flat_map (named_targets catalog.now plain.now)
+        (somebodies kind.now (name.now ∷ []))) }
 {
     if !is_somebody(name) {
         return Ok(());
@@ -161,7 +162,8 @@ fn push_text(
     value: Option<&Value>,
     targets: &mut Seq<u32>,
 ) -> Result<(), NoMemory>
-    ensures { OnOk result (targets.new ≡ targets.old ++ flat_map (named_targets catalog.now plain.now) (somebodies kind.now (text_in (option_map (λ x. x.now) value.entry)))) }
+    ensures { OnOk result (targets.new ≡ targets.old ++ flat_map (named_targets catalog.now plain.now)
+        (somebodies kind.now (text_in (option_map (λ x. x.now) value.entry)))) }
 {
     let Some(value) = value else {
         return Ok(());
@@ -193,7 +195,8 @@ fn push_members(
     items: &[Value],
     targets: &mut Seq<u32>,
 ) -> Result<(), NoMemory>
-    ensures { OnOk result (targets.new ≡ targets.old ++ flat_map (named_targets catalog.now plain.now) (somebodies kind.now (flat_map member_text items.now))) }
+    ensures { OnOk result (targets.new ≡ targets.old ++ flat_map (named_targets catalog.now plain.now)
+        (somebodies kind.now (flat_map member_text items.now))) }
 {
     for item in items {
         push_text(alloc, catalog, plain, kind, Some(item), targets)?;
@@ -211,7 +214,8 @@ fn push_listed(
     items: &[Value],
     targets: &mut Seq<u32>,
 ) -> Result<(), NoMemory>
-    ensures { OnOk result (targets.new ≡ targets.old ++ flat_map (named_targets catalog.now plain.now) (somebodies kind.now (list_or_none (texts_of items.now)))) }
+    ensures { OnOk result (targets.new ≡ targets.old ++ flat_map (named_targets catalog.now plain.now)
+        (somebodies kind.now (list_or_none (texts_of items.now)))) }
 {
     if !are_texts(items) {
         return Ok(());
@@ -228,7 +232,8 @@ fn push_titles(
     value: &Value,
     targets: &mut Seq<u32>,
 ) -> Result<(), NoMemory>
-    ensures { OnOk result (targets.new ≡ targets.old ++ flat_map (named_targets catalog.now plain.now) (somebodies kind.now (list_or_none (titles_of value.now)))) }
+    ensures { OnOk result (targets.new ≡ targets.old ++ flat_map (named_targets catalog.now plain.now)
+        (somebodies kind.now (list_or_none (titles_of value.now)))) }
 {
     match value {
         Value::Str(name) => push_somebody(alloc, catalog, plain, kind, name.as_str(), targets),
@@ -246,7 +251,8 @@ fn push_texts(
     value: Option<&Value>,
     targets: &mut Seq<u32>,
 ) -> Result<(), NoMemory>
-    ensures { OnOk result (targets.new ≡ targets.old ++ flat_map (named_targets catalog.now plain.now) (somebodies kind.now (texts_in (option_map (λ x. x.now) value.entry)))) }
+    ensures { OnOk result (targets.new ≡ targets.old ++ flat_map (named_targets catalog.now plain.now)
+        (somebodies kind.now (texts_in (option_map (λ x. x.now) value.entry)))) }
 {
     match value {
         Some(value) => push_titles(alloc, catalog, plain, kind, value, targets),
@@ -262,7 +268,8 @@ fn push_user_or_root(
     value: Option<&Value>,
     targets: &mut Seq<u32>,
 ) -> Result<(), NoMemory>
-    ensures { OnOk result (targets.new ≡ targets.old ++ flat_map (named_targets catalog.now plain.now) (somebodies (codes "user") (user_or_root (option_map (λ x. x.now) value.entry)))) }
+    ensures { OnOk result (targets.new ≡ targets.old ++ flat_map (named_targets catalog.now plain.now)
+        (somebodies (codes "user") (user_or_root (option_map (λ x. x.now) value.entry)))) }
 {
     match value {
         None => push_somebody(alloc, catalog, plain, "user", "root", targets),
@@ -278,7 +285,9 @@ fn push_owners(
     r: &Resource,
     targets: &mut Seq<u32>,
 ) -> Result<(), NoMemory>
-    ensures { OnOk result (targets.new ≡ targets.old ++ flat_map (named_targets catalog.now plain.now) (somebodies (codes "user") (text_in (attribute r.now (codes "owner"))) ++ somebodies (codes "group") (text_in (attribute r.now (codes "group"))))) }
+    ensures { OnOk result (targets.new ≡ targets.old ++ flat_map (named_targets catalog.now plain.now)
+        (somebodies (codes "user") (text_in (attribute r.now (codes "owner"))) ++ somebodies (codes "group")
+        (text_in (attribute r.now (codes "group"))))) }
 {
     let owner = r.attrs.find("owner");
     push_text(alloc, catalog, plain, "user", owner, targets)?;
@@ -294,7 +303,9 @@ fn push_groups(
     r: &Resource,
     targets: &mut Seq<u32>,
 ) -> Result<(), NoMemory>
-    ensures { OnOk result (targets.new ≡ targets.old ++ flat_map (named_targets catalog.now plain.now) (somebodies (codes "group") (text_in (attribute r.now (codes "gid")) ++ texts_in (attribute r.now (codes "groups"))))) }
+    ensures { OnOk result (targets.new ≡ targets.old ++ flat_map (named_targets catalog.now plain.now)
+        (somebodies (codes "group")
+        (text_in (attribute r.now (codes "gid")) ++ texts_in (attribute r.now (codes "groups"))))) }
 {
     let gid = r.attrs.find("gid");
     push_text(alloc, catalog, plain, "group", gid, targets)?;
@@ -354,7 +365,8 @@ fn push_by_names(
 ) -> Result<(), NoMemory>
     requires plain { All (λ p. p < declared_bound) plain.now }
     requires place { place < declared_bound }
-    ensures { OnOk result (edges.new ≡ edges.old ++ edges_by_names catalog.now links.now plain.now place (slice_get catalog.now.resources place)) }
+    ensures { OnOk result (edges.new ≡ edges.old ++ edges_by_names catalog.now links.now plain.now place
+        (slice_get catalog.now.resources place)) }
 {
     let Some(r) = resource_at(catalog, place) else {
         return Ok(());

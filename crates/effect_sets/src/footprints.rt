@@ -113,7 +113,8 @@ fn all_three(a: bool, b: bool, c: bool) -> bool
 
 /// Whether nothing that the first writes is looked at, written or made sure of by the second.
 fn writes_are_clear(f: &Footprint, g: &Footprint) -> bool
-    ensures { IsTrue result ↔ ((q : Segments) → IsTrue (is_among q f.now.writes) → (is_among q g.now.reads || is_among q g.now.writes || is_among q g.now.folders) ≡ false) }
+    ensures { IsTrue result ↔ ((q : Segments) → IsTrue (is_among q f.now.writes)
+        → (is_among q g.now.reads || is_among q g.now.writes || is_among q g.now.folders) ≡ false) }
 {
     let of_reads = f.found.writes.is_disjoint(&g.found.reads);
     let of_writes = f.found.writes.is_disjoint(&g.found.writes);
@@ -130,7 +131,8 @@ fn folders_are_clear(f: &Footprint, g: &Footprint) -> bool
 
 /// Whether nothing that the first changes has a parent whose children matter to the second.
 fn children_are_clear(f: &Footprint, g: &Footprint) -> bool
-    ensures { IsTrue result ↔ ((q : Segments) → IsTrue (is_among q f.now.writes || is_among q f.now.folders) → is_among (parent q) g.now.children ≡ false) }
+    ensures { IsTrue result ↔ ((q : Segments) → IsTrue (is_among q f.now.writes || is_among q f.now.folders)
+        → is_among (parent q) g.now.children ≡ false) }
 {
     f.parents.is_disjoint(&g.found.children)
 }

@@ -54,7 +54,8 @@ fn all_keep(programs: &[Program], sure: &BTreeSet<Path>) -> bool
 
 #[cycle(kept)]
 fn choice_keeps(test: &Test, e: &Program, f: &Program, sure: &BTreeSet<Path>) -> bool
-    ensures { IsTrue result → sure_after (If (test_of test.now) (program_of e.now) (program_of f.now)) (members sure.now) ≡ members sure.now }
+    ensures { IsTrue result → sure_after (If (test_of test.now) (program_of e.now) (program_of f.now))
+        (members sure.now) ≡ members sure.now }
 {
     match ensured_path(test, e, f) {
         Some(p) => sure.contains(p),

@@ -44,7 +44,9 @@ fn look_for_both(
     sure: &BTreeSet<Path>,
     found: &mut Found,
 ) -> Result<(), NoMemory>
-    ensures { OnOk result (told found.new ≡ joined (told found.old) (joined (test_footprint (test_of a.now) (members sure.now)) (test_footprint (test_of b.now) (members sure.now)))) }
+    ensures { OnOk result (told found.new ≡ joined (told found.old)
+        (joined (test_footprint (test_of a.now) (members sure.now))
+        (test_footprint (test_of b.now) (members sure.now)))) }
 {
     look_for(alloc, a, sure, found)?;
     look_for(alloc, b, sure, found)

@@ -44,7 +44,8 @@ fn walk_copy(
     sure: &BTreeSet<Path>,
     found: &mut Found,
 ) -> Result<(), NoMemory>
-    ensures { OnOk result (told found.new ≡ joined (told found.old) (joined (looking from.now (members sure.now)) (making p.now (members sure.now)))) }
+    ensures { OnOk result (told found.new ≡ joined (told found.old)
+        (joined (looking from.now (members sure.now)) (making p.now (members sure.now)))) }
 {
     look(alloc, found, from, sure)?;
     make(alloc, found, p, sure)
@@ -73,7 +74,8 @@ pub(crate) fn walk(
     sure: &mut BTreeSet<Path>,
     found: &mut Found,
 ) -> Result<(), NoMemory>
-    ensures footprint { OnOk result (told found.new ≡ joined (told found.old) (footprint_after (program_of program.now) (members sure.old))) }
+    ensures footprint { OnOk result
+        (told found.new ≡ joined (told found.old) (footprint_after (program_of program.now) (members sure.old))) }
     ensures sure { OnOk result (members sure.new ≡ sure_after (program_of program.now) (members sure.old)) }
 {
     match program {
@@ -95,7 +97,8 @@ fn walk_all(
     sure: &mut BTreeSet<Path>,
     found: &mut Found,
 ) -> Result<(), NoMemory>
-    ensures footprint { OnOk result (told found.new ≡ joined (told found.old) (steps_footprint (programs_in programs.now) (members sure.old))) }
+    ensures footprint { OnOk result
+        (told found.new ≡ joined (told found.old) (steps_footprint (programs_in programs.now) (members sure.old))) }
     ensures sure { OnOk result (members sure.new ≡ sure_after_steps (programs_in programs.now) (members sure.old)) }
 {
     for program in programs {
@@ -113,8 +116,12 @@ fn walk_choice(
     sure: &mut BTreeSet<Path>,
     found: &mut Found,
 ) -> Result<(), NoMemory>
-    ensures footprint { OnOk result (told found.new ≡ joined (told found.old) (footprint_after (If (test_of test.now) (program_of e.now) (program_of f.now)) (members sure.old))) }
-    ensures sure { OnOk result (members sure.new ≡ sure_after (If (test_of test.now) (program_of e.now) (program_of f.now)) (members sure.old)) }
+    ensures footprint { OnOk result
+        (told found.new ≡ joined (told found.old)
+        (footprint_after (If (test_of test.now) (program_of e.now) (program_of f.now)) (members sure.old))) }
+    ensures sure { OnOk result
+        (members sure.new ≡ sure_after (If (test_of test.now) (program_of e.now) (program_of f.now))
+        (members sure.old)) }
 {
     match ensured_path(test, e, f) {
         Some(p) => walk_ensured(alloc, p, sure, found),
@@ -134,8 +141,13 @@ fn walk_branches(
     sure: &mut BTreeSet<Path>,
     found: &mut Found,
 ) -> Result<(), NoMemory>
-    ensures footprint { OnOk result (told found.new ≡ joined (told found.old) (joined (footprint_after (program_of e.now) (members sure.old)) (footprint_after (program_of f.now) (members sure.old)))) }
-    ensures sure { OnOk result (members sure.new ≡ (λ q. sure_after (program_of e.now) (members sure.old) q && sure_after (program_of f.now) (members sure.old) q)) }
+    ensures footprint { OnOk result
+        (told found.new ≡ joined (told found.old)
+        (joined (footprint_after (program_of e.now) (members sure.old))
+        (footprint_after (program_of f.now) (members sure.old)))) }
+    ensures sure { OnOk result
+        (members sure.new ≡ (λ q. sure_after (program_of e.now) (members sure.old) q && sure_after (program_of f.now)
+        (members sure.old) q)) }
 {
     let first = keeps(e, sure);
     let second = keeps(f, sure);
@@ -155,8 +167,13 @@ fn walk_apart(
     sure: &mut BTreeSet<Path>,
     found: &mut Found,
 ) -> Result<(), NoMemory>
-    ensures footprint { OnOk result (told found.new ≡ joined (told found.old) (joined (footprint_after (program_of e.now) (members sure.old)) (footprint_after (program_of f.now) (members sure.old)))) }
-    ensures sure { OnOk result (members sure.new ≡ (λ q. sure_after (program_of e.now) (members sure.old) q && sure_after (program_of f.now) (members sure.old) q)) }
+    ensures footprint { OnOk result
+        (told found.new ≡ joined (told found.old)
+        (joined (footprint_after (program_of e.now) (members sure.old))
+        (footprint_after (program_of f.now) (members sure.old)))) }
+    ensures sure { OnOk result
+        (members sure.new ≡ (λ q. sure_after (program_of e.now) (members sure.old) q && sure_after (program_of f.now)
+        (members sure.old) q)) }
 {
     let mut other = copied(alloc, sure)?;
     walk(alloc, e, sure, found)?;

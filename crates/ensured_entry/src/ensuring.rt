@@ -250,7 +250,8 @@ fn check_with_probe(alloc: Global, programs: &[Program], wanted: &Wanted) -> Res
     ensures probed { IfOk result (λ u. HasFewPaths (map program_of programs.now ++ probe_of wanted.now ∷ [])) }
     ensures weight { IfOk result (λ u. IsLight (map program_of programs.now)) }
     ensures refused { IfErr result (λ e. IfRefused e (IsTooLargeWith (map program_of programs.now) (probe_of wanted.now))) }
-    ensures only { HasFewPaths (map program_of programs.now) → HasFewPaths (map program_of programs.now ++ probe_of wanted.now ∷ []) → IsLight (map program_of programs.now)
+    ensures only { HasFewPaths (map program_of programs.now)
+        → HasFewPaths (map program_of programs.now ++ probe_of wanted.now ∷ []) → IsLight (map program_of programs.now)
         → IfErr result (λ e. IfRefused e (λ r. ⊥)) }
 {
     check_probed(alloc, programs, wanted)?;
@@ -294,15 +295,19 @@ pub fn judge_entry(
     ensures probed { IfOk result (λ e. HasFewPaths (map program_of programs.now ++ probe_of wanted.now ∷ [])) }
     ensures weight { IfOk result (λ e. IsLight (map program_of programs.now)) }
     ensures refused { IfErr result (λ e. IfRefused e (IsTooLargeWith (map program_of programs.now) (probe_of wanted.now))) }
-    ensures only { HasFewPaths (map program_of programs.now) → HasFewPaths (map program_of programs.now ++ probe_of wanted.now ∷ []) → IsLight (map program_of programs.now)
+    ensures only { HasFewPaths (map program_of programs.now)
+        → HasFewPaths (map program_of programs.now ++ probe_of wanted.now ∷ []) → IsLight (map program_of programs.now)
         → IfErr result (λ e. IfRefused e (λ r. ⊥)) }
     // What is answered to the question of order is what `judge_order` answers.
     ensures pruned { IfOk result (λ e. IsPrunedCount (map program_of programs.now) (Told (comes order.now)) (pruned_in e)) }
     ensures unsure { IfOk result (λ e. IfFirst e IsUnsure) }
-    ensures differs { IfOk result (λ e. IfFirst e (λ f. IfDiffers f (IsDifference (map program_of programs.now) (Told (comes order.now))))) }
-    ensures spent_on_order { IfOk result (λ e. IfFirst e (λ f. IfSpent f (IsSpent (map program_of programs.now) (Told (comes order.now)) budget))) }
+    ensures differs { IfOk result
+        (λ e. IfFirst e (λ f. IfDiffers f (IsDifference (map program_of programs.now) (Told (comes order.now))))) }
+    ensures spent_on_order { IfOk result
+        (λ e. IfFirst e (λ f. IfSpent f (IsSpent (map program_of programs.now) (Told (comes order.now)) budget))) }
     ensures deterministic { IfOk result (λ e. IfSure e (λ sure. IsDeterministic (map program_of programs.now) (Told (comes order.now)))) }
-    ensures alone { IfOk result (λ e. IfSure e (λ sure. IsByPruning sure ↔ Keeps (map program_of programs.now) (Told (comes order.now)) [])) }
+    ensures alone { IfOk result (λ e. IfSure e (λ sure. IsByPruning sure
+        ↔ Keeps (map program_of programs.now) (Told (comes order.now)) [])) }
     ensures proved { IfOk result (λ e. IfSure e (λ sure. IfByProof sure (IsProof (map program_of programs.now) (Told (comes order.now))))) }
     // Over every file tree and all orders.
     ensures holds { IfOk result (λ e. IfHolds e (λ f. Ensures (map program_of programs.now) (Told (comes order.now)) wanted.now)) }
@@ -313,7 +318,8 @@ pub fn judge_entry(
     ensures failing { IfOk result (λ e. IfNever e (IsEndProof (map program_of programs.now) order.now)) }
     ensures fails { IfOk result (λ e. IfFails e (IsMissed (map program_of programs.now) order.now wanted.now)) }
     ensures spent { IfOk result (λ e. IfSpentOn e (IsSpentOn (map program_of programs.now) order.now wanted.now budget)) }
-    ensures known { IfOk result (λ e. IfSpentOn e (λ asked f steps. IsKnownBefore (map program_of programs.now) order.now wanted.now asked)) }
+    ensures known { IfOk result
+        (λ e. IfSpentOn e (λ asked f steps. IsKnownBefore (map program_of programs.now) order.now wanted.now asked)) }
 {
     check_with_probe(alloc, programs, wanted)?;
     let ensured = ensured_any(alloc, programs, order, wanted, budget)?;

@@ -32,6 +32,7 @@ IsTellable n (ensured.Fails k s w) = HasRun n w
 IsTellable n (ensured.Spent k s a cnf log) = Unit {0}
 
 -- the report has the status of the answer, and its lines
-pub record IsReportOf (notes : List ℕ) (names : List (List ℕ)) (es : List Program) (budget : ℕ) (answered : Ensured) (report : Report) : Type 0 where
+pub record IsReportOf (notes : List ℕ) (names : List (List ℕ)) (es : List Program) (budget : ℕ) (answered : Ensured)
+    (report : Report) : Type 0 where
   pub status : report.status ≡ status_of answered
   pub text : report.text ≡ lines_of names es notes budget answered

@@ -24,11 +24,13 @@ use Rattle.entry_report.specs.Lines.{ensured_text, missed_text, spent_late_text}
 
 -- the last line: some such tree has a run without error, or none has
 abbrev pub IsEnding : List Path → List Program → Relation → List ℕ → Type 0
-IsEnding given es order last = ((last ≡ succeeds_line) × SucceedsFrom given es (Comes order)) ⊎ ((last ≡ fails_line) × (SucceedsFrom given es (Comes order) → ⊥))
+IsEnding given es order last = ((last ≡ succeeds_line) × SucceedsFrom given es (Comes order))
+    ⊎ ((last ≡ fails_line) × (SucceedsFrom given es (Comes order) → ⊥))
 
 -- Status 0. From every file tree in which the given folders stand all allowed orders end in one same tree or all in error, and each
 -- that ends leaves the entry.
-pub record TellsEnsured (terms : Terms) (notes : List ℕ) (w : Wanted) (es : List Program) (order : Relation) (k : ℕ) (report : Report) : Type 0 where
+pub record TellsEnsured (terms : Terms) (notes : List ℕ) (w : Wanted) (es : List Program) (order : Relation) (k : ℕ)
+    (report : Report) : Type 0 where
   pub status : report.status ≡ 0
   pub deterministic : IsDeterministicFrom terms.given es (Comes order)
   pub ensures : EnsuresFrom terms.given es (Comes order) w
@@ -38,7 +40,8 @@ pub record TellsEnsured (terms : Terms) (notes : List ℕ) (w : Wanted) (es : Li
 
 -- Status 9. From every file tree in which the given folders stand all allowed orders end alike; but from the tree that is told, which
 -- is such a one, this allowed order ends in a tree, which is told, without the entry.
-pub record TellsMissed (terms : Terms) (notes : List ℕ) (w : Wanted) (names : List (List ℕ)) (es : List Program) (order : Relation) (k : ℕ) (report : Report) : Type 0 where
+pub record TellsMissed (terms : Terms) (notes : List ℕ) (w : Wanted) (names : List (List ℕ)) (es : List Program)
+    (order : Relation) (k : ℕ) (report : Report) : Type 0 where
   pub status : report.status ≡ 9
   pub deterministic : IsDeterministicFrom terms.given es (Comes order)
   pub tree : Tree
@@ -48,7 +51,8 @@ pub record TellsMissed (terms : Terms) (notes : List ℕ) (w : Wanted) (names : 
 
 -- Status 3, behind `deterministic`. A number of conflicts is given, and a working log of just as many steps over a formula that
 -- states the question shows that they are spent. The lines ahead are true.
-pub record TellsSpent (terms : Terms) (notes : List ℕ) (w : Wanted) (es : List Program) (order : Relation) (k : ℕ) (report : Report) : Type 0 where
+pub record TellsSpent (terms : Terms) (notes : List ℕ) (w : Wanted) (es : List Program) (order : Relation) (k : ℕ)
+    (report : Report) : Type 0 where
   pub status : report.status ≡ 3
   pub deterministic : IsDeterministicFrom terms.given es (Comes order)
   pub conflicts : ℕ
@@ -62,7 +66,8 @@ pub record TellsSpent (terms : Terms) (notes : List ℕ) (w : Wanted) (es : List
 
 -- What is told of programs in an order and an entry that is wanted, which are within the limits: how many pruning leaves aside, and
 -- one of the five; two of them are those of a verdict. These notes stand behind the number of resources.
-pub record IsEntryTold (terms : Terms) (notes : List ℕ) (w : Wanted) (names : List (List ℕ)) (es : List Program) (order : Relation) (report : Report) : Type 0 where
+pub record IsEntryTold (terms : Terms) (notes : List ℕ) (w : Wanted) (names : List (List ℕ)) (es : List Program)
+    (order : Relation) (report : Report) : Type 0 where
   pub paths : HasFewPathsWith terms.limits terms.given es
   pub probed : HasFewPathsProbed terms.limits terms.given es w
   pub weight : IsLightWith terms.limits es

@@ -138,7 +138,9 @@ pub fn told(
     requires names { length names.now ≡ order.now.count }
     ensures told { IfOk result (IsEntryTold terms.now notes.now wanted.now names.now (map program_of programs.now) order.now) }
     // It is refused exactly where the graph is too large to be asked about, or the domain with the entry is.
-    ensures refused { IfErr result (λ e. IfRefused e (IsTooLargeProbed terms.now.limits terms.now.given (map program_of programs.now) wanted.now)) }
+    ensures refused { IfErr result
+        (λ e. IfRefused e (IsTooLargeProbed terms.now.limits terms.now.given
+        (map program_of programs.now) wanted.now)) }
 {
     let answered = judge_entry_from(alloc, programs, order, wanted, terms)?;
     let budget = terms.budget();

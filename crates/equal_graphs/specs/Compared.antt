@@ -102,7 +102,8 @@ abbrev pub IsSpentOn : List Program → Relation → List Program → Relation �
 IsSpentOn es order fs other budget f steps = StatesParting es order fs other f × UsesUp budget f steps
 
 -- all that is said of an answer
-pub record IsCompared (es : List Program) (order : Relation) (fs : List Program) (other : Relation) (budget : ℕ) (c : Compared) : Type 0 where
+pub record IsCompared (es : List Program) (order : Relation) (fs : List Program) (other : Relation) (budget : ℕ)
+    (c : Compared) : Type 0 where
   pub left : IfLeft c (IsUnsettled es order budget)
   pub left_settled : IfLeftSettled c (IsSettled es order)
   pub right : IfRight c (IsUnsettled fs other budget)

@@ -8,10 +8,12 @@ use Rattle.order_encode.specs.Witnesses.{IsFirstExtension}
 
 -- Both graphs end alike: from every tree each allowed order of the one and each of the other end in one same tree, or both in Error.
 abbrev pub AreEqual : List Program → (ℕ → ℕ → Type 0) → List Program → (ℕ → ℕ → Type 0) → Type 0
-AreEqual es before fs other = (t : Tree) → IsTree t → (o p : List ℕ) → IsLinearExtension (length es) before o → IsLinearExtension (length fs) other p → outcome es o t ≡ outcome fs p t
+AreEqual es before fs other = (t : Tree) → IsTree t → (o p : List ℕ) → IsLinearExtension (length es) before o
+    → IsLinearExtension (length fs) other p → outcome es o t ≡ outcome fs p t
 
 -- From the tree an allowed order of the one and an allowed order of the other have different outcomes.
-pub record EndApart (es : List Program) (before : ℕ → ℕ → Type 0) (fs : List Program) (other : ℕ → ℕ → Type 0) (tree : Tree) (left right : List ℕ) : Type 0 where
+pub record EndApart (es : List Program) (before : ℕ → ℕ → Type 0) (fs : List Program) (other : ℕ → ℕ → Type 0)
+    (tree : Tree) (left right : List ℕ) : Type 0 where
   pub is_tree : IsTree tree
   pub left_allowed : IsLinearExtension (length es) before left
   pub right_allowed : IsLinearExtension (length fs) other right

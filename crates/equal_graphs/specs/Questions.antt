@@ -46,4 +46,5 @@ tree_in (witness.Ends tree first) = tree
 
 -- what comes of it
 abbrev pub AnswersParting : List Program → Relation → List Program → Relation → ℕ → Answer → Type 0
-AnswersParting es order fs other budget a = AnswersBy (StatesParting es order fs other) (AreEqual es (Told (comes order)) fs (Told (comes other))) (IsParting es order fs other) budget a
+AnswersParting es order fs other budget a = AnswersBy (StatesParting es order fs other)
+    (AreEqual es (Told (comes order)) fs (Told (comes other))) (IsParting es order fs other) budget a

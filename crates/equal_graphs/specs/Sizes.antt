@@ -20,4 +20,5 @@ pub record AreWithin (es fs : List Program) : Type 0 where
 -- The refusal is due: the paths of the domain of both lists together are too many; or, where they aren't, one of the lists is too
 -- large by itself.
 abbrev pub IsTooLargeTogether : List Program → List Program → Refusal → Type 0
-IsTooLargeTogether es fs r = IsTooWide es fs r ⊎ (HasFewPaths (es ++ fs) × (IsTooLarge es r ⊎ (HasFewPaths es × IsLight es × IsTooLarge fs r)))
+IsTooLargeTogether es fs r = IsTooWide es fs r
+    ⊎ (HasFewPaths (es ++ fs) × (IsTooLarge es r ⊎ (HasFewPaths es × IsLight es × IsTooLarge fs r)))

@@ -42,7 +42,9 @@ fn parting_question(
     requires left_covers { CoversSteps domain.now.table (programs_in left.now) }
     requires right_covers { CoversSteps domain.now.table (programs_in right.now) }
     ensures states { IfOk result (λ q. StatesParting (map program_of left.now) order.now (map program_of right.now) other.now q.formula) }
-    ensures equal { IfOk result (λ q. HasNoModel q.formula → AreEqual (map program_of left.now) (Told (comes order.now)) (map program_of right.now) (Told (comes other.now))) }
+    ensures equal { IfOk result (λ q. HasNoModel q.formula
+        → AreEqual (map program_of left.now) (Told (comes order.now)) (map program_of right.now)
+        (Told (comes other.now))) }
     ensures models { IfOk result (λ q. (w : Witness) → CanShow q w
         → IsParting (map program_of left.now) order.now (map program_of right.now) other.now w) }
 {

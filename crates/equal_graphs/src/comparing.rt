@@ -276,10 +276,13 @@ pub fn compare(
     ensures right { IfOk result (λ c. IfRight c (IsUnsettled (map program_of right.now) other.now budget)) }
     ensures right_settled { IfOk result (λ c. IfRightSettled c (IsSettled (map program_of right.now) other.now)) }
     // Over every file tree and all orders of both.
-    ensures equal { IfOk result (λ c. IfEqual c (λ f. AreEqual (map program_of left.now) (Told (comes order.now)) (map program_of right.now) (Told (comes other.now)))) }
+    ensures equal { IfOk result
+        (λ c. IfEqual c (λ f. AreEqual (map program_of left.now) (Told (comes order.now)) (map program_of right.now)
+        (Told (comes other.now)))) }
     ensures refuted { IfOk result (λ c. IfEqual c (IsEqualProof (map program_of left.now) order.now (map program_of right.now) other.now)) }
     ensures differ { IfOk result (λ c. IfDiffer c (FirstsPart (map program_of left.now) order.now (map program_of right.now) other.now)) }
-    ensures spent { IfOk result (λ c. IfSpentOn c (IsSpentOn (map program_of left.now) order.now (map program_of right.now) other.now budget)) }
+    ensures spent { IfOk result
+        (λ c. IfSpentOn c (IsSpentOn (map program_of left.now) order.now (map program_of right.now) other.now budget)) }
 {
     check_within(alloc, left, right)?;
     let compared = compare_any(alloc, left, order, right, other, budget)?;

@@ -26,7 +26,8 @@ fn end_differently(
 ) -> Result<bool, NoMemory>
     requires nodes { AllByRecursion (λ k. k < length left.now) order.now }
     requires others { AllByRecursion (λ k. k < length right.now) other.now }
-    ensures { IfOk result (λ apart. IsTrue apart ↔ EndDifferently (map program_of left.now) order.now (map program_of right.now) other.now tree.now) }
+    ensures { IfOk result (λ apart. IsTrue apart
+        ↔ EndDifferently (map program_of left.now) order.now (map program_of right.now) other.now tree.now) }
 {
     let one = replay(alloc, left, order, tree)?;
     let second = replay(alloc, right, other, tree)?;

@@ -22,7 +22,8 @@ abbrev pub equal_text : List ℕ → List ℕ → ℕ → ℕ → ℕ → ℕ �
 equal_text notes other_notes n k m j = both_lines notes other_notes n k m j ++ codes "equal\n"
 
 -- they don't: from the tree an order of the one and an order of the other end differently
-abbrev pub unequal_text : List ℕ → List ℕ → List (List ℕ) → List Program → ℕ → List ℕ → List (List ℕ) → List Program → ℕ → List ℕ → Tree → List ℕ
+abbrev pub unequal_text : List ℕ → List ℕ → List (List ℕ) → List Program → ℕ → List ℕ → List (List ℕ) → List Program → ℕ
+    → List ℕ → Tree → List ℕ
 unequal_text notes other_notes names es k o others fs j p t =
     both_lines notes other_notes (length es) k (length fs) j ++ (codes "not equal\n" ++ (tree_line t ++ (run_lines names es t o ++ run_lines others fs t p)))
 
@@ -45,9 +46,14 @@ status_of (compared.Differ l r t) = 10
 status_of (compared.Spent l r cnf log) = 3
 
 -- its lines, where each question had so many conflicts; o and p are the first extensions
-abbrev pub lines_of : List ℕ → List ℕ → List (List ℕ) → List Program → List ℕ → List (List ℕ) → List Program → List ℕ → ℕ → Compared → List ℕ
+abbrev pub lines_of : List ℕ → List ℕ → List (List ℕ) → List Program → List ℕ → List (List ℕ) → List Program → List ℕ
+    → ℕ → Compared → List ℕ
 lines_of notes other_notes names es o others fs p budget (compared.Left f) = first_lines names es notes budget f
-lines_of notes other_notes names es o others fs p budget (compared.Right l f) = settled_lines (length es) notes l.pruned ++ first_lines others fs other_notes budget f
-lines_of notes other_notes names es o others fs p budget (compared.Equal l r v) = equal_text notes other_notes (length es) l.pruned (length fs) r.pruned
-lines_of notes other_notes names es o others fs p budget (compared.Differ l r t) = unequal_text notes other_notes names es l.pruned o others fs r.pruned p t
-lines_of notes other_notes names es o others fs p budget (compared.Spent l r cnf log) = spent_equal_text notes other_notes (length es) l.pruned (length fs) r.pruned budget
+lines_of notes other_notes names es o others fs p budget (compared.Right l f) = settled_lines (length es) notes l.pruned
+    ++ first_lines others fs other_notes budget f
+lines_of notes other_notes names es o others fs p budget (compared.Equal l r v) = equal_text notes other_notes
+    (length es) l.pruned (length fs) r.pruned
+lines_of notes other_notes names es o others fs p budget
+    (compared.Differ l r t) = unequal_text notes other_notes names es l.pruned o others fs r.pruned p t
+lines_of notes other_notes names es o others fs p budget
+    (compared.Spent l r cnf log) = spent_equal_text notes other_notes (length es) l.pruned (length fs) r.pruned budget

@@ -18,7 +18,9 @@ IsTellable n m (compared.Differ l r t) = Unit {0}
 IsTellable n m (compared.Spent l r cnf log) = Unit {0}
 
 -- the report has the status of the answer, and its lines, in which the first extensions are run where two runs are told
-pub record IsReportOf (notes other_notes : List ℕ) (names : List (List ℕ)) (es : List Program) (order : Relation) (others : List (List ℕ)) (fs : List Program) (other : Relation) (budget : ℕ) (answered : Compared) (report : Report) : Type 0 where
+pub record IsReportOf (notes other_notes : List ℕ) (names : List (List ℕ)) (es : List Program) (order : Relation)
+    (others : List (List ℕ)) (fs : List Program) (other : Relation) (budget : ℕ) (answered : Compared)
+    (report : Report) : Type 0 where
   pub first : List ℕ
   pub is_first : IsFirstExtension order first
   pub second : List ℕ

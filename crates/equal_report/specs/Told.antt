@@ -24,7 +24,8 @@ pub record IsSettledWith (given : List Path) (es : List Program) (order : Relati
   pub count : IsPrunedCount es (Comes order) k
 
 -- This is told of the right graph, behind the lines of the left one, which is deterministic.
-pub record IsBehind (given : List Path) (notes : List ℕ) (es : List Program) (order : Relation) (told : Report → Type 0) (report : Report) : Type 0 where
+pub record IsBehind (given : List Path) (notes : List ℕ) (es : List Program) (order : Relation) (told : Report → Type 0)
+    (report : Report) : Type 0 where
   pub pruned : ℕ
   pub settled : IsSettledWith given es order pruned
   pub rest : List ℕ
@@ -32,7 +33,8 @@ pub record IsBehind (given : List Path) (notes : List ℕ) (es : List Program) (
   pub text : report.text ≡ settled_lines (length es) notes pruned ++ rest
 
 -- from the tree that is told two orders that one graph allows have the outcomes that are told, which differ
-pub record TellsDifference (terms : Terms) (notes : List ℕ) (names : List (List ℕ)) (es : List Program) (order : Relation) (report : Report) : Type 0 where
+pub record TellsDifference (terms : Terms) (notes : List ℕ) (names : List (List ℕ)) (es : List Program)
+    (order : Relation) (report : Report) : Type 0 where
   pub pruned : ℕ
   pub count : IsPrunedCount es (Comes order) pruned
   pub different : IsDifferent form.Lines terms notes names es order pruned report
@@ -44,17 +46,20 @@ pub record TellsUnanswered (terms : Terms) (notes : List ℕ) (es : List Program
   pub unanswered : IsUnanswered form.Lines terms notes es order pruned report
 
 -- Status 1. The left graph isn't deterministic; or it is, and the right one isn't.
-abbrev pub OneDiffers : Terms → List ℕ → List ℕ → List (List ℕ) → List Program → Relation → List (List ℕ) → List Program → Relation → Report → Type 0
+abbrev pub OneDiffers : Terms → List ℕ → List ℕ → List (List ℕ) → List Program → Relation → List (List ℕ) → List Program
+    → Relation → Report → Type 0
 OneDiffers terms notes other_notes names es order others fs other report = TellsDifference terms notes names es order report ⊎ IsBehind terms.given notes es order (TellsDifference terms other_notes others fs other) report
 
 -- Status 3. The conflicts that are given were spent on whether the left graph is deterministic; or it is, and they were spent on
 -- whether the right one is.
 abbrev pub OneIsUnanswered : Terms → List ℕ → List ℕ → List Program → Relation → List Program → Relation → Report → Type 0
-OneIsUnanswered terms notes other_notes es order fs other report = TellsUnanswered terms notes es order report ⊎ IsBehind terms.given notes es order (TellsUnanswered terms other_notes fs other) report
+OneIsUnanswered terms notes other_notes es order fs other report = TellsUnanswered terms notes es order report
+    ⊎ IsBehind terms.given notes es order (TellsUnanswered terms other_notes fs other) report
 
 -- Status 0. Both graphs are deterministic, and from every file tree in which the given folders stand all allowed orders of both end in
 -- one same tree or all in error.
-pub record TellsEqual (terms : Terms) (notes other_notes : List ℕ) (es : List Program) (order : Relation) (fs : List Program) (other : Relation) (report : Report) : Type 0 where
+pub record TellsEqual (terms : Terms) (notes other_notes : List ℕ) (es : List Program) (order : Relation)
+    (fs : List Program) (other : Relation) (report : Report) : Type 0 where
   pub status : report.status ≡ 0
   pub left : ℕ
   pub left_settled : IsSettledWith terms.given es order left
@@ -65,7 +70,8 @@ pub record TellsEqual (terms : Terms) (notes other_notes : List ℕ) (es : List 
 
 -- Status 10. Both graphs are deterministic, but from the tree that is told, in which the given folders stand, the one order, which the
 -- left graph allows, and the other, which the right one allows, have the outcomes that are told, and these differ.
-pub record TellsUnequal (terms : Terms) (notes other_notes : List ℕ) (names : List (List ℕ)) (es : List Program) (order : Relation) (others : List (List ℕ)) (fs : List Program) (other : Relation) (report : Report) : Type 0 where
+pub record TellsUnequal (terms : Terms) (notes other_notes : List ℕ) (names : List (List ℕ)) (es : List Program)
+    (order : Relation) (others : List (List ℕ)) (fs : List Program) (other : Relation) (report : Report) : Type 0 where
   pub status : report.status ≡ 10
   pub left : ℕ
   pub left_settled : IsSettledWith terms.given es order left
@@ -80,7 +86,8 @@ pub record TellsUnequal (terms : Terms) (notes other_notes : List ℕ) (names : 
 
 -- Status 3 behind the lines of both graphs, which are deterministic. A number of conflicts is given, and a working log of just as many
 -- steps over a formula that states whether they do the same shows that they are spent.
-pub record TellsSpent (terms : Terms) (notes other_notes : List ℕ) (es : List Program) (order : Relation) (fs : List Program) (other : Relation) (report : Report) : Type 0 where
+pub record TellsSpent (terms : Terms) (notes other_notes : List ℕ) (es : List Program) (order : Relation)
+    (fs : List Program) (other : Relation) (report : Report) : Type 0 where
   pub status : report.status ≡ 3
   pub left : ℕ
   pub left_settled : IsSettledWith terms.given es order left
@@ -94,15 +101,20 @@ pub record TellsSpent (terms : Terms) (notes other_notes : List ℕ) (es : List 
   pub text : report.text ≡ spent_equal_text notes other_notes (length es) left (length fs) right (budget_of terms.conflicts)
 
 -- one of the five
-pub data Tells (terms : Terms) (notes other_notes : List ℕ) (names : List (List ℕ)) (es : List Program) (order : Relation) (others : List (List ℕ)) (fs : List Program) (other : Relation) (report : Report) : Type 0 where
-  differs : OneDiffers terms notes other_notes names es order others fs other report → Tells terms notes other_notes names es order others fs other report
-  unanswered : OneIsUnanswered terms notes other_notes es order fs other report → Tells terms notes other_notes names es order others fs other report
+pub data Tells (terms : Terms) (notes other_notes : List ℕ) (names : List (List ℕ)) (es : List Program)
+    (order : Relation) (others : List (List ℕ)) (fs : List Program) (other : Relation) (report : Report) : Type 0 where
+  differs : OneDiffers terms notes other_notes names es order others fs other report
+      → Tells terms notes other_notes names es order others fs other report
+  unanswered : OneIsUnanswered terms notes other_notes es order fs other report
+      → Tells terms notes other_notes names es order others fs other report
   equal : TellsEqual terms notes other_notes es order fs other report → Tells terms notes other_notes names es order others fs other report
-  unequal : TellsUnequal terms notes other_notes names es order others fs other report → Tells terms notes other_notes names es order others fs other report
+  unequal : TellsUnequal terms notes other_notes names es order others fs other report
+      → Tells terms notes other_notes names es order others fs other report
   spent : TellsSpent terms notes other_notes es order fs other report → Tells terms notes other_notes names es order others fs other report
 
 -- What is told of two graphs that are compared, which are within the limits. Each has notes, which stand behind each number of its
 -- resources.
-pub record IsComparedTold (terms : Terms) (notes other_notes : List ℕ) (names : List (List ℕ)) (es : List Program) (order : Relation) (others : List (List ℕ)) (fs : List Program) (other : Relation) (report : Report) : Type 0 where
+pub record IsComparedTold (terms : Terms) (notes other_notes : List ℕ) (names : List (List ℕ)) (es : List Program)
+    (order : Relation) (others : List (List ℕ)) (fs : List Program) (other : Relation) (report : Report) : Type 0 where
   pub within : AreWithinWith terms.limits terms.given es fs
   pub answer : Tells terms notes other_notes names es order others fs other report

@@ -79,7 +79,9 @@ pub fn unequal_text(
     requires places { AllByRecursion (λ i. i < length left.now) first.now }
     requires others_named { AllByRecursion (λ i. i < length others.now) second.now }
     requires other_places { AllByRecursion (λ i. i < length right.now) second.now }
-    ensures { IfOk result (λ text. text ≡ unequal_text notes.now other_notes.now names.now (map program_of left.now) pruned first.now others.now (map program_of right.now) other_pruned second.now tree.now) }
+    ensures { IfOk result (λ text. text ≡ unequal_text notes.now other_notes.now names.now
+        (map program_of left.now) pruned first.now others.now
+        (map program_of right.now) other_pruned second.now tree.now) }
 {
     let mut bytes = both(
         alloc,

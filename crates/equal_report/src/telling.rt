@@ -51,7 +51,8 @@ fn right_lines(
 ) -> Result<Seq<u8>, NoMemory>
     requires named { IsTellableFirst (length others.now) first.now }
     requires places { IsTellableFirst (length right.now) first.now }
-    ensures { IfOk result (λ text. text ≡ settled_lines n notes.now pruned ++ first_lines others.now (map program_of right.now) other_notes.now budget first.now) }
+    ensures { IfOk result (λ text. text ≡ settled_lines n notes.now pruned ++ first_lines others.now
+        (map program_of right.now) other_notes.now budget first.now) }
 {
     let rest = first_lines(alloc, others, right, other_notes, budget, first)?;
     let mut bytes = Vec::new(alloc);
@@ -80,7 +81,8 @@ fn lines_of(
     requires other_places { AllByRecursion (λ i. i < length right.now) second.now }
     requires names_told { IsTellable (length names.now) (length others.now) compared.now }
     requires programs_told { IsTellable (length left.now) (length right.now) compared.now }
-    ensures { IfOk result (λ text. text ≡ lines_of notes.now other_notes.now names.now (map program_of left.now) one.now others.now (map program_of right.now) second.now budget compared.now) }
+    ensures { IfOk result (λ text. text ≡ lines_of notes.now other_notes.now names.now
+        (map program_of left.now) one.now others.now (map program_of right.now) second.now budget compared.now) }
 {
     match compared {
         Compared::Left(first) => first_lines(alloc, names, left, notes, budget, first),
@@ -166,7 +168,8 @@ fn report_of(
     requires right { length right.now ≡ other.now.count }
     requires names_told { IsTellable (length names.now) (length others.now) compared.now }
     requires programs_told { IsTellable (length left.now) (length right.now) compared.now }
-    ensures { IfOk result (IsReportOf notes.now other_notes.now names.now (map program_of left.now) order.now others.now (map program_of right.now) other.now budget compared.now) }
+    ensures { IfOk result (IsReportOf notes.now other_notes.now names.now (map program_of left.now) order.now others.now
+        (map program_of right.now) other.now budget compared.now) }
 {
     let status = status_of(compared);
     let one = order.first_extension()?;
@@ -205,9 +208,13 @@ pub fn told(
     requires names { length names.now ≡ order.now.count }
     requires right { length right.now ≡ other.now.count }
     requires others { length others.now ≡ other.now.count }
-    ensures told { IfOk result (IsComparedTold terms.now notes.now other_notes.now names.now (map program_of left.now) order.now others.now (map program_of right.now) other.now) }
+    ensures told { IfOk result
+        (IsComparedTold terms.now notes.now other_notes.now names.now (map program_of left.now) order.now others.now
+        (map program_of right.now) other.now) }
     // It is refused exactly where the two are too large to be compared.
-    ensures refused { IfErr result (λ e. IfRefused e (IsTooLargeJoined terms.now.limits terms.now.given (map program_of left.now) (map program_of right.now))) }
+    ensures refused { IfErr result
+        (λ e. IfRefused e (IsTooLargeJoined terms.now.limits terms.now.given (map program_of left.now)
+        (map program_of right.now))) }
 {
     allowed_orders();
     let compared = compare_from(alloc, left, order, right, other, terms)?;

@@ -24,11 +24,13 @@ use Rattle.explain_report.specs.Lines.{sure_text, apart_text, again_text, spent_
 abbrev pub IsEnding : List Path → List (List ℕ) → List Program → Relation → List ℕ → Type 0
 IsEnding given names es order last =
     ((last ≡ succeeds_line) × SucceedsFrom given es (Comes order))
-    ⊎ ((SucceedsFrom given es (Comes order) → ⊥) × (line : List ℕ) × TellsFromNothing given names es order line × (last ≡ fails_line ++ line))
+    ⊎ ((SucceedsFrom given es (Comes order) → ⊥) × (line : List ℕ) × TellsFromNothing given names es order line
+    × (last ≡ fails_line ++ line))
 
 -- Status 0. From every file tree in which the given folders stand all allowed orders end in one same tree or all in error, and a
 -- second run, in whatever allowed order, changes nothing.
-pub record ExplainsSure (given : List Path) (names : List (List ℕ)) (es : List Program) (order : Relation) (head : List ℕ) (report : Report) : Type 0 where
+pub record ExplainsSure (given : List Path) (names : List (List ℕ)) (es : List Program) (order : Relation)
+    (head : List ℕ) (report : Report) : Type 0 where
   pub status : report.status ≡ 0
   pub deterministic : IsDeterministicFrom given es (Comes order)
   pub idempotent : IsIdempotentFrom given es (Comes order)
@@ -37,7 +39,8 @@ pub record ExplainsSure (given : List Path) (names : List (List ℕ)) (es : List
   pub text : report.text ≡ sure_text head last
 
 -- Status 1. From a tree in which the given folders stand two allowed orders end apart, and the lines tell of their runs.
-pub record ExplainsDifference (given : List Path) (names : List (List ℕ)) (es : List Program) (order : Relation) (head : List ℕ) (report : Report) : Type 0 where
+pub record ExplainsDifference (given : List Path) (names : List (List ℕ)) (es : List Program) (order : Relation)
+    (head : List ℕ) (report : Report) : Type 0 where
   pub status : report.status ≡ 1
   pub lines : List ℕ
   pub told : TellsApart given names es order lines
@@ -45,7 +48,8 @@ pub record ExplainsDifference (given : List Path) (names : List (List ℕ)) (es 
 
 -- Status 2. From every file tree in which the given folders stand all allowed orders end alike; but a second run changes what the first
 -- left, in this allowed order, and the lines tell of it. Where no folder is given the order is the first extension.
-pub record ExplainsChange (given : List Path) (names : List (List ℕ)) (es : List Program) (order : Relation) (head : List ℕ) (report : Report) : Type 0 where
+pub record ExplainsChange (given : List Path) (names : List (List ℕ)) (es : List Program) (order : Relation)
+    (head : List ℕ) (report : Report) : Type 0 where
   pub status : report.status ≡ 2
   pub deterministic : IsDeterministicFrom given es (Comes order)
   pub turns : List ℕ
@@ -72,11 +76,13 @@ pub record ExplainsSpent (terms : Terms) (es : List Program) (order : Relation) 
 abbrev pub Explains : Terms → List (List ℕ) → List Program → Relation → List ℕ → Report → Type 0
 Explains terms names es order head report =
     ExplainsSure terms.given names es order head report
-    ⊎ (ExplainsDifference terms.given names es order head report ⊎ (ExplainsChange terms.given names es order head report ⊎ ExplainsSpent terms es order head report))
+    ⊎ (ExplainsDifference terms.given names es order head report
+    ⊎ (ExplainsChange terms.given names es order head report ⊎ ExplainsSpent terms es order head report))
 
 -- What is explained of programs and the order between them, which are within the limits. These notes stand behind the number of
 -- resources, and then how many of them pruning leaves aside.
-pub record IsExplained (terms : Terms) (notes : List ℕ) (names : List (List ℕ)) (es : List Program) (order : Relation) (report : Report) : Type 0 where
+pub record IsExplained (terms : Terms) (notes : List ℕ) (names : List (List ℕ)) (es : List Program) (order : Relation)
+    (report : Report) : Type 0 where
   pub paths : HasFewPathsWith terms.limits terms.given es
   pub weight : IsLightWith terms.limits es
   pub pruned : ℕ

@@ -51,7 +51,8 @@ pub fn explain_change(
 ) -> Result<Report, NoMemory>
     requires { HasTurns (length programs.now) witness.now }
     ensures { IfOk result (λ report. (order : Relation) → IsDeterministicFrom given.now (map program_of programs.now) (Comes order)
-        → IsChangeFrom given.now (map program_of programs.now) order witness.now → ExplainsChange given.now names.now (map program_of programs.now) order head.now report) }
+        → IsChangeFrom given.now (map program_of programs.now) order witness.now
+        → ExplainsChange given.now names.now (map program_of programs.now) order head.now report) }
 {
     let Witness::Twice { tree, order } = witness else {
         unreachable!();

@@ -24,7 +24,8 @@ pub record TellsBoth (names : List (List ℕ)) (es : List Program) (t : Tree) (l
   pub are : lines ≡ apart_lines (name_at names (first_apart left right).0) (name_at names (first_apart left right).1) t how other list
 
 -- the lines on a second run, where the first began in one tree and ended in another
-pub record TellsSecond (names : List (List ℕ)) (es : List Program) (t : Tree) (turns : List ℕ) (after : Tree) (lines : List ℕ) : Type 0 where
+pub record TellsSecond (names : List (List ℕ)) (es : List Program) (t : Tree) (turns : List ℕ) (after : Tree)
+    (lines : List ℕ) : Type 0 where
   pub how : List ℕ
   pub second : TellsHow names es turns after how
   pub list : List ℕ

@@ -74,7 +74,8 @@ pub record TellsApart (given : List Path) (names : List (List ℕ)) (es : List P
 -- A run in this allowed order, from a tree in which the given folders stand, ends in a tree that a second run in it doesn't leave as it
 -- is. What is told is the tree from which the first began; how the second ends; and the paths at which the second changed what the
 -- first left.
-pub record TellsAgain (given : List Path) (names : List (List ℕ)) (es : List Program) (order : Relation) (turns lines : List ℕ) : Type 0 where
+pub record TellsAgain (given : List Path) (names : List (List ℕ)) (es : List Program) (order : Relation)
+    (turns lines : List ℕ) : Type 0 where
   pub tree : Tree
   pub counterexample : IsSecondRunCounterexampleFrom given es (Comes order) tree turns
   pub how : List ℕ
@@ -84,7 +85,8 @@ pub record TellsAgain (given : List Path) (names : List (List ℕ)) (es : List P
   pub are : lines ≡ again_lines tree how list
 
 -- Where the first extension fails from the tree of the given folders alone; where none is given, from the tree without entries.
-pub record TellsFromNothing (given : List Path) (names : List (List ℕ)) (es : List Program) (order : Relation) (line : List ℕ) : Type 0 where
+pub record TellsFromNothing (given : List Path) (names : List (List ℕ)) (es : List Program) (order : Relation)
+    (line : List ℕ) : Type 0 where
   pub first : List ℕ
   pub allowed : IsLinearExtension order.count (Comes order) first
   pub least : TakesLeast order.count (Comes order) [] first

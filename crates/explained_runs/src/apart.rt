@@ -31,7 +31,8 @@ fn lines_apart(
 ) -> Result<Text, NoMemory>
     requires left { AllByRecursion (λ i. i < length programs.now) left.now }
     requires right { AllByRecursion (λ i. i < length programs.now) right.now }
-    ensures { IfOk result (ListsWhere (outcome (map program_of programs.now) left.now tree.now) (outcome (map program_of programs.now) right.now tree.now)) }
+    ensures { IfOk result (ListsWhere (outcome (map program_of programs.now) left.now tree.now)
+        (outcome (map program_of programs.now) right.now tree.now)) }
 {
     let first = replay(alloc, programs, left, tree)?;
     let second = replay(alloc, programs, right, tree)?;
@@ -93,7 +94,8 @@ pub fn apart_lines(
 ) -> Result<Seq<u8>, NoMemory>
     requires left { AllByRecursion (λ i. i < length programs.now) left.now }
     requires right { AllByRecursion (λ i. i < length programs.now) right.now }
-    ensures { IfOk result (λ lines. (order : Relation) → IsCounterexampleFrom given.now (map program_of programs.now) (Comes order) tree.now left.now right.now
+    ensures { IfOk result (λ lines. (order : Relation)
+        → IsCounterexampleFrom given.now (map program_of programs.now) (Comes order) tree.now left.now right.now
         → IsExchange (Comes order) left.now right.now → TellsApart given.now names.now (map program_of programs.now) order lines) }
 {
     let smaller = smaller_apart(alloc, programs, left, right, tree, given)?;

@@ -32,7 +32,8 @@ pub fn nothing_line(
     given: &[Path],
 ) -> Result<Seq<u8>, NoMemory>
     requires { length programs.now ≡ order.now.count }
-    ensures { IfOk result (λ line. (SucceedsFrom given.now (map program_of programs.now) (Comes order.now) → ⊥) → TellsFromNothing given.now names.now (map program_of programs.now) order.now line) }
+    ensures { IfOk result (λ line. (SucceedsFrom given.now (map program_of programs.now) (Comes order.now) → ⊥)
+        → TellsFromNothing given.now names.now (map program_of programs.now) order.now line) }
 {
     let first = order.first_extension()?;
     let tree = given_tree(alloc, given)?;

@@ -20,7 +20,8 @@ use tree_differences::differences;
 
 /// That a run fails, at which resource, and why.
 fn fails_words(alloc: Global, names: &[Text], failed: &Failed) -> Result<Text, NoMemory>
-    ensures { IfOk result (λ words. words ≡ fails_words (name_at names.now failed.now.resource) (program_of failed.now.failure.construct.now) (reason_of failed.now.failure.reason)) }
+    ensures { IfOk result (λ words. words ≡ fails_words (name_at names.now failed.now.resource)
+        (program_of failed.now.failure.construct.now) (reason_of failed.now.failure.reason)) }
 {
     let mut words = Text::new(alloc);
     push_failure(

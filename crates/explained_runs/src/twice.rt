@@ -72,7 +72,8 @@ pub fn again_lines(
     given: &[Path],
 ) -> Result<Seq<u8>, NoMemory>
     requires { AllByRecursion (λ i. i < length programs.now) order.now }
-    ensures { IfOk result (λ lines. (o : Relation) → IsSecondRunCounterexampleFrom given.now (map program_of programs.now) (Comes o) tree.now order.now
+    ensures { IfOk result (λ lines. (o : Relation)
+        → IsSecondRunCounterexampleFrom given.now (map program_of programs.now) (Comes o) tree.now order.now
         → TellsAgain given.now names.now (map program_of programs.now) o order.now lines) }
 {
     let smaller = smaller_again(alloc, programs, order, tree, given)?;

@@ -17,7 +17,8 @@ pub fn push_failure(
     failure: &Failure,
     into: &mut Text,
 ) -> Result<(), NoMemory>
-    ensures { OnOk result (into.new ≡ into.old ++ fails_words name.now (program_of failure.now.construct.now) (reason_of failure.now.reason)) }
+    ensures { OnOk result (into.new ≡ into.old ++ fails_words name.now (program_of failure.now.construct.now)
+        (reason_of failure.now.reason)) }
 {
     into.push("fails at ")?;
     into.push(name)?;

@@ -112,7 +112,9 @@ fn push_copying(
     reason: &Reason,
     into: &mut Text,
 ) -> Result<(), NoMemory>
-    ensures { OnOk result (into.new ≡ into.old ++ (codes "cp " ++ (path_shown p.now ++ (codes " " ++ (path_shown q.now ++ copy_words p.now q.now (reason_of reason.now)))))) }
+    ensures { OnOk result (into.new ≡ into.old ++
+        (codes "cp " ++ (path_shown p.now ++
+        (codes " " ++ (path_shown q.now ++ copy_words p.now q.now (reason_of reason.now)))))) }
 {
     push_path(alloc, "cp ", p, into)?;
     push_path(alloc, " ", q, into)?;

@@ -41,7 +41,8 @@ IsFound es order t (Some x) = (f : model.Failure) × OrderFailsAt es order t x.r
 -- the order ends in this tree; or the front of so many does, and the next program ends in Error from it
 abbrev pub IsSearched : List Program → List ℕ → Tree → Searched → Type 0
 IsSearched es order t (searched.Ends u) = outcome es order t ≡ Some u
-IsSearched es order t (searched.Fails k u) = (k < length order) × (outcome es (take k order) t ≡ Some u) × (run (slice_index_or es (slice_index_or order k 0) Id) u ≡ None)
+IsSearched es order t (searched.Fails k u) = (k < length order) × (outcome es (take k order) t ≡ Some u)
+    × (run (slice_index_or es (slice_index_or order k 0) Id) u ≡ None)
 
 -- what fails in this step from this tree fails in the steps
 abbrev pub LeadsInto : Program → Tree → Programs → Tree → Type 0

@@ -53,4 +53,5 @@ pub record IsDomain (es : List Program) (d : Domain) : Type 0 where
   pub bytes : (p : Path) → IsTrue (is_path_of d p) → IsBytes (text p)
   pub new_text : (p : Path) → IsTrue (is_path_of d p) → AnyMentions es (Text (text p)) → ⊥
   pub own_text : (p q : Path) → IsTrue (is_path_of d p) → IsTrue (is_path_of d q) → text p ≡ text q → p ≡ q
-  pub contents : (c : List ℕ) → IsTrue (is_text_among c d.contents) ↔ ((c ≡ []) ⊎ AnyMentions es (Text c) ⊎ ((p : Path) × IsTrue (is_path_of d p) × (c ≡ text p)))
+  pub contents : (c : List ℕ) → IsTrue (is_text_among c d.contents)
+      ↔ ((c ≡ []) ⊎ AnyMentions es (Text c) ⊎ ((p : Path) × IsTrue (is_path_of d p) × (c ≡ text p)))

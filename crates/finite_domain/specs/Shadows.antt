@@ -61,4 +61,5 @@ EndAsShadows es d m t s (Some u) (Some v) = IsShadowStep es d m t s u v
 pub record StandsFor (es : List Program) (s t : Tree) : Type 0 where
   pub alike : (o p : List ℕ) → (outcome es o t ≡ outcome es p t) ↔ (outcome es o s ≡ outcome es p s)
   pub ends : (o : List ℕ) → is_some (outcome es o t) ≡ is_some (outcome es o s)
-  pub again : (o p : List ℕ) (u v : Tree) → outcome es o t ≡ Some u → outcome es o s ≡ Some v → (outcome es p u ≡ Some u) ↔ (outcome es p v ≡ Some v)
+  pub again : (o p : List ℕ) (u v : Tree) → outcome es o t ≡ Some u → outcome es o s ≡ Some v
+      → (outcome es p u ≡ Some u) ↔ (outcome es p v ≡ Some v)

@@ -38,6 +38,7 @@ pub record IsAside {B Bit Code : Type 0} (m : Meanings Bit Code) (n : ℕ) (a : 
   pub error : m.owns a.error
 
 -- what is kept aside is what stands at these places
-pub record IsRead {B Bit Code : Type 0} (m : Meanings Bit Code) (places : List ℕ) (state : Valuation → State) (a : Aside B Bit Code) : Type 0 where
+pub record IsRead {B Bit Code : Type 0} (m : Meanings Bit Code) (places : List ℕ) (state : Valuation → State)
+    (a : Aside B Bit Code) : Type 0 where
   pub cells : (v : Valuation) → kept_told m v a.cells.items ≡ read_at places (state v).cell
   pub error : (v : Valuation) → m.bit v a.error ≡ (state v).error

@@ -26,7 +26,8 @@ pub record IsOne {B Bit Code : Type 0} (m : Meanings Bit Code) (meaning : Valuat
   pub tells : (v : Valuation) → one_told m v c ≡ meaning v
 
 -- the cells are still cells over as many places, and what they tell under each valuation has changed so
-pub record Becomes {B Bit Code : Type 0} (m n : Meanings Bit Code) (old new : Cells B Bit Code) (change : Valuation → State → State) : Type 0 where
+pub record Becomes {B Bit Code : Type 0} (m n : Meanings Bit Code) (old new : Cells B Bit Code)
+    (change : Valuation → State → State) : Type 0 where
   pub cells : AreCells n new
   pub places : length new.present ≡ length old.present
   pub told : (v : Valuation) → state_of n v new ≡ change v (state_of m v old)

@@ -10,8 +10,10 @@ use Rattle.fs_interpreter.specs.States.{Cell, State}
 abbrev pub Tells : List (List ℕ) → Cell → Option Entry → Type 0
 Tells contents c None = c.present ≡ false
 Tells contents c (Some Folder) = (c.present ≡ true) × (c.folder ≡ true)
-Tells contents c (Some (File content)) = (c.present ≡ true) × (c.folder ≡ false) × (c.link ≡ false) × (slice_get contents c.content ≡ Some content)
-Tells contents c (Some (Link target)) = (c.present ≡ true) × (c.folder ≡ false) × (c.link ≡ true) × (slice_get contents c.content ≡ Some target)
+Tells contents c (Some (File content)) = (c.present ≡ true) × (c.folder ≡ false) × (c.link ≡ false)
+    × (slice_get contents c.content ≡ Some content)
+Tells contents c (Some (Link target)) = (c.present ≡ true) × (c.folder ≡ false) × (c.link ≡ true)
+    × (slice_get contents c.content ≡ Some target)
 
 -- What the cells tell is this tree: at each path of the table stands what its cell tells, and elsewhere nothing.
 pub record Stands (table : Listed) (s : State) (t : Tree) : Type 0 where

@@ -41,7 +41,10 @@ pub trait Bits: Drop {
         requires c { (meanings self.old).owns c.now }
         requires a { (meanings self.old).owns a.now }
         requires b { (meanings self.old).owns b.now }
-        ensures gives { IfOk result (IsBit (meanings self.new) (λ v. if (meanings self.old).bit v c.now then (meanings self.old).bit v a.now else (meanings self.old).bit v b.now)) }
+        ensures gives { IfOk result
+            (IsBit (meanings self.new)
+            (λ v. if (meanings self.old).bit v c.now then (meanings self.old).bit v a.now else
+            (meanings self.old).bit v b.now)) }
         ensures grows { Grows (meanings self.old) (meanings self.new) };
 
     /// A code that means this number, whatever the inputs are.
@@ -59,13 +62,17 @@ pub trait Bits: Drop {
         requires c { (meanings self.old).owns c.now }
         requires a { (meanings self.old).owns_code a.now }
         requires b { (meanings self.old).owns_code b.now }
-        ensures gives { IfOk result (IsCode (meanings self.new) (λ v. if (meanings self.old).bit v c.now then (meanings self.old).code v a.now else (meanings self.old).code v b.now)) }
+        ensures gives { IfOk result
+            (IsCode (meanings self.new)
+            (λ v. if (meanings self.old).bit v c.now then (meanings self.old).code v a.now else
+            (meanings self.old).code v b.now)) }
         ensures grows { Grows (meanings self.old) (meanings self.new) };
 
     /// Whether the two mean one number.
     fn same(&mut self, a: &Self::Code, b: &Self::Code) -> Result<Self::Bit, NoMemory>
         requires a { (meanings self.old).owns_code a.now }
         requires b { (meanings self.old).owns_code b.now }
-        ensures gives { IfOk result (IsBit (meanings self.new) (λ v. (meanings self.old).code v a.now == (meanings self.old).code v b.now)) }
+        ensures gives { IfOk result
+            (IsBit (meanings self.new) (λ v. (meanings self.old).code v a.now == (meanings self.old).code v b.now)) }
         ensures grows { Grows (meanings self.old) (meanings self.new) };
 }

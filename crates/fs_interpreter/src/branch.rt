@@ -55,7 +55,8 @@ fn copy_all<B: Bits>(
     requires cells { AreCells (B.meanings bits.old) cells.now }
     requires places { AllByRecursion (λ i. i < length cells.now.present) places.now }
     ensures own { IfOk result (λ ks. AreOwn (B.meanings bits.new) (length cells.now.present) ks.items) }
-    ensures told { IfOk result (λ ks. (v : Valuation) → kept_told (B.meanings bits.new) v ks.items ≡ read_at places.now (cell_at (B.meanings bits.old) v cells.now)) }
+    ensures told { IfOk result (λ ks. (v : Valuation)
+        → kept_told (B.meanings bits.new) v ks.items ≡ read_at places.now (cell_at (B.meanings bits.old) v cells.now)) }
     ensures grows { Grows (B.meanings bits.old) (B.meanings bits.new) }
 {
     let mut kept = Vec::new(alloc);
@@ -90,7 +91,11 @@ pub(crate) fn keep<B: Bits>(
 pub(crate) fn restore<B: Bits>(bits: &B, cells: &mut Cells<B>, aside: Aside<B>)
     requires cells { AreCells (B.meanings bits.now) cells.old }
     requires aside { IsAside (B.meanings bits.now) (length cells.old.present) aside }
-    ensures { Becomes (B.meanings bits.now) (B.meanings bits.now) cells.old cells.new (λ v s. record { cell = put_back (kept_told (B.meanings bits.now) v aside.cells.items) s.cell; error = (B.meanings bits.now).bit v aside.error }) }
+    ensures { Becomes (B.meanings bits.now) (B.meanings bits.now) cells.old cells.new
+        (λ v s. record {
+          cell = put_back (kept_told (B.meanings bits.now) v aside.cells.items) s.cell;
+          error = (B.meanings bits.now).bit v aside.error;
+        }) }
 {
     let Aside {
         cells: mut kept,
@@ -114,7 +119,10 @@ fn chosen<B: Bits>(
     requires place { i < length cells.now.present }
     requires one { IsOne (B.meanings bits.old) (λ v. one_told (B.meanings bits.old) v one.now) one.now }
     requires c { (B.meanings bits.old).owns c.now }
-    ensures gives { IfOk result (IsOne (B.meanings bits.new) (λ v. if (B.meanings bits.old).bit v c.now then one_told (B.meanings bits.old) v one.now else cell_at (B.meanings bits.old) v cells.now i)) }
+    ensures gives { IfOk result
+        (IsOne (B.meanings bits.new)
+        (λ v. if (B.meanings bits.old).bit v c.now then one_told (B.meanings bits.old) v one.now else cell_at
+        (B.meanings bits.old) v cells.now i)) }
     ensures grows { Grows (B.meanings bits.old) (B.meanings bits.new) }
 {
     let present = bits.mux(c, &one.present, cells.present.at(i))?;
@@ -139,7 +147,14 @@ fn choose_one<B: Bits>(
     requires place { kept.now.place < length cells.old.present }
     requires one { IsOne (B.meanings bits.old) (λ v. one_told (B.meanings bits.old) v kept.now.cell) kept.now.cell }
     requires c { (B.meanings bits.old).owns c.now }
-    ensures changes { OnOk result (Becomes (B.meanings bits.old) (B.meanings bits.new) cells.old cells.new (λ v s. record { cell = with_cell kept.now.place (if (B.meanings bits.old).bit v c.now then one_told (B.meanings bits.old) v kept.now.cell else s.cell kept.now.place) s.cell; error = s.error })) }
+    ensures changes { OnOk result
+        (Becomes (B.meanings bits.old) (B.meanings bits.new) cells.old cells.new
+        (λ v s. record {
+          cell = with_cell kept.now.place
+              (if (B.meanings bits.old).bit v c.now then one_told
+              (B.meanings bits.old) v kept.now.cell else s.cell kept.now.place) s.cell;
+          error = s.error;
+        })) }
     ensures grows { Grows (B.meanings bits.old) (B.meanings bits.new) }
 {
     let cell = chosen(bits, c, &kept.cell, cells, kept.place)?;
@@ -156,7 +171,12 @@ fn choose_all<B: Bits>(
     requires cells { AreCells (B.meanings bits.old) cells.old }
     requires kept { AreOwn (B.meanings bits.old) (length cells.old.present) kept.now }
     requires c { (B.meanings bits.old).owns c.now }
-    ensures changes { OnOk result (Becomes (B.meanings bits.old) (B.meanings bits.new) cells.old cells.new (λ v s. record { cell = put_where ((B.meanings bits.old).bit v c.now) (kept_told (B.meanings bits.old) v kept.now) s.cell; error = s.error })) }
+    ensures changes { OnOk result
+        (Becomes (B.meanings bits.old) (B.meanings bits.new) cells.old cells.new
+        (λ v s. record {
+          cell = put_where ((B.meanings bits.old).bit v c.now) (kept_told (B.meanings bits.old) v kept.now) s.cell;
+          error = s.error;
+        })) }
     ensures grows { Grows (B.meanings bits.old) (B.meanings bits.new) }
 {
     for one in kept {
@@ -175,7 +195,13 @@ pub(crate) fn choose<B: Bits>(
     requires cells { AreCells (B.meanings bits.old) cells.old }
     requires aside { IsAside (B.meanings bits.old) (length cells.old.present) aside.now }
     requires c { (B.meanings bits.old).owns c.now }
-    ensures changes { OnOk result (Becomes (B.meanings bits.old) (B.meanings bits.new) cells.old cells.new (λ v s. record { cell = put_where ((B.meanings bits.old).bit v c.now) (kept_told (B.meanings bits.old) v aside.now.cells.items) s.cell; error = if (B.meanings bits.old).bit v c.now then (B.meanings bits.old).bit v aside.now.error else s.error })) }
+    ensures changes { OnOk result
+        (Becomes (B.meanings bits.old) (B.meanings bits.new) cells.old cells.new
+        (λ v s. record {
+          cell = put_where ((B.meanings bits.old).bit v c.now)
+              (kept_told (B.meanings bits.old) v aside.now.cells.items) s.cell;
+          error = if (B.meanings bits.old).bit v c.now then (B.meanings bits.old).bit v aside.now.error else s.error;
+        })) }
     ensures grows { Grows (B.meanings bits.old) (B.meanings bits.new) }
 {
     let error = bits.mux(c, &aside.error, &cells.error)?;

@@ -33,7 +33,9 @@ pub(crate) fn push_node(
     node: Node,
 ) -> Result<(), NoMemory>
     requires { IfSome node.parent (λ j. j < length nodes.old.items) }
-    ensures nodes { OnOk result (seen_all nodes.new.items ≡ linked node.parent (length nodes.old.items) (seen_all nodes.old.items ++ seen node ∷ [])) }
+    ensures nodes { OnOk result
+        (seen_all nodes.new.items ≡ linked node.parent (length nodes.old.items)
+        (seen_all nodes.old.items ++ seen node ∷ [])) }
     ensures top { OnOk result (top.new.items ≡ linked_top node.parent (length nodes.old.items) top.old.items) }
     ensures same { OnErr result (seen_all nodes.new.items ≡ seen_all nodes.old.items) }
     ensures same_top { OnErr result (top.new.items ≡ top.old.items) }

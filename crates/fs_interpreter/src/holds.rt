@@ -24,7 +24,9 @@ pub(crate) fn holds<B: Bits>(
 ) -> Result<B::Bit, NoMemory>
     requires cells { AreCells (B.meanings bits.old) cells.now }
     requires places { length cells.now.present ≡ length table.now.paths }
-    ensures gives { IfOk result (IsBit (B.meanings bits.new) (λ v. told table.now (test_of test.now) (cell_at (B.meanings bits.old) v cells.now))) }
+    ensures gives { IfOk result
+        (IsBit (B.meanings bits.new)
+        (λ v. told table.now (test_of test.now) (cell_at (B.meanings bits.old) v cells.now))) }
     ensures grows { Grows (B.meanings bits.old) (B.meanings bits.new) }
     ensures cells { AreCells (B.meanings bits.new) cells.now }
 {
@@ -51,7 +53,9 @@ fn fails<B: Bits>(
 ) -> Result<B::Bit, NoMemory>
     requires cells { AreCells (B.meanings bits.old) cells.now }
     requires places { length cells.now.present ≡ length table.now.paths }
-    ensures gives { IfOk result (IsBit (B.meanings bits.new) (λ v. not (told table.now (test_of a.now) (cell_at (B.meanings bits.old) v cells.now)))) }
+    ensures gives { IfOk result
+        (IsBit (B.meanings bits.new)
+        (λ v. not (told table.now (test_of a.now) (cell_at (B.meanings bits.old) v cells.now)))) }
     ensures grows { Grows (B.meanings bits.old) (B.meanings bits.new) }
     ensures cells { AreCells (B.meanings bits.new) cells.now }
 {
@@ -69,7 +73,10 @@ fn both_hold<B: Bits>(
 ) -> Result<B::Bit, NoMemory>
     requires cells { AreCells (B.meanings bits.old) cells.now }
     requires places { length cells.now.present ≡ length table.now.paths }
-    ensures gives { IfOk result (IsBit (B.meanings bits.new) (λ v. told table.now (test_of a.now) (cell_at (B.meanings bits.old) v cells.now) && told table.now (test_of b.now) (cell_at (B.meanings bits.old) v cells.now))) }
+    ensures gives { IfOk result
+        (IsBit (B.meanings bits.new)
+        (λ v. told table.now (test_of a.now) (cell_at (B.meanings bits.old) v cells.now) && told table.now
+        (test_of b.now) (cell_at (B.meanings bits.old) v cells.now))) }
     ensures grows { Grows (B.meanings bits.old) (B.meanings bits.new) }
     ensures cells { AreCells (B.meanings bits.new) cells.now }
 {
@@ -88,7 +95,10 @@ fn one_holds<B: Bits>(
 ) -> Result<B::Bit, NoMemory>
     requires cells { AreCells (B.meanings bits.old) cells.now }
     requires places { length cells.now.present ≡ length table.now.paths }
-    ensures gives { IfOk result (IsBit (B.meanings bits.new) (λ v. told table.now (test_of a.now) (cell_at (B.meanings bits.old) v cells.now) || told table.now (test_of b.now) (cell_at (B.meanings bits.old) v cells.now))) }
+    ensures gives { IfOk result
+        (IsBit (B.meanings bits.new)
+        (λ v. told table.now (test_of a.now) (cell_at (B.meanings bits.old) v cells.now) || told table.now
+        (test_of b.now) (cell_at (B.meanings bits.old) v cells.now))) }
     ensures grows { Grows (B.meanings bits.old) (B.meanings bits.new) }
     ensures cells { AreCells (B.meanings bits.new) cells.now }
 {

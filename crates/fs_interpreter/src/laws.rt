@@ -20,7 +20,8 @@ pub fn searches()
     ensures path { (paths : List Path) (p : Path) (i : ℕ) → place_in paths p ≡ Some i → slice_get paths i ≡ Some p }
     ensures no_path { (paths : List Path) (p : Path) → place_in paths p ≡ None → (i : ℕ) → slice_get paths i ≢ Some p }
     ensures content { (contents : List (List ℕ)) (c : List ℕ) (i : ℕ) → content_place contents c ≡ Some i → slice_get contents i ≡ Some c }
-    ensures no_content { (contents : List (List ℕ)) (c : List ℕ) → content_place contents c ≡ None → (i : ℕ) → slice_get contents i ≢ Some c }
+    ensures no_content { (contents : List (List ℕ)) (c : List ℕ) → content_place contents c ≡ None → (i : ℕ)
+        → slice_get contents i ≢ Some c }
 {}
 
 /// What a cell tells is one entry or none, and what cells tell stands for one outcome at most.

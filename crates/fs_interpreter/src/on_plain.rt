@@ -28,7 +28,9 @@ pub fn run_plain(
     requires covers { Covers table.now (program_of program.now) }
     ensures cells { OnOk result (AreCells plain_meanings cells.new) }
     ensures places { OnOk result (length cells.new.present ≡ length table.now.paths) }
-    ensures stands { OnOk result ((v : Valuation) (o : Outcome) → StandsFor table.now (state_of plain_meanings v cells.old) o → StandsFor table.now (state_of plain_meanings v cells.new) (and_then o (run (program_of program.now)))) }
+    ensures stands { OnOk result ((v : Valuation) (o : Outcome)
+        → StandsFor table.now (state_of plain_meanings v cells.old) o
+        → StandsFor table.now (state_of plain_meanings v cells.new) (and_then o (run (program_of program.now)))) }
 {
     let mut bits = Plain;
     run_with(alloc, &mut bits, table, program, cells)

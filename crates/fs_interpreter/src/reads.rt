@@ -15,7 +15,8 @@ use rh_base::NoMemory;
 pub(crate) fn or<B: Bits>(bits: &mut B, a: &B::Bit, b: &B::Bit) -> Result<B::Bit, NoMemory>
     requires a { (B.meanings bits.old).owns a.now }
     requires b { (B.meanings bits.old).owns b.now }
-    ensures gives { IfOk result (IsBit (B.meanings bits.new) (λ v. (B.meanings bits.old).bit v a.now || (B.meanings bits.old).bit v b.now)) }
+    ensures gives { IfOk result
+        (IsBit (B.meanings bits.new) (λ v. (B.meanings bits.old).bit v a.now || (B.meanings bits.old).bit v b.now)) }
     ensures grows { Grows (B.meanings bits.old) (B.meanings bits.new) }
 {
     let no_a = bits.not(a)?;
@@ -159,7 +160,8 @@ pub(crate) fn empty_at<B: Bits>(
     requires cells { AreCells (B.meanings bits.old) cells.now }
     requires place { IfSome place (λ i. i < length cells.now.present) }
     requires children { AllByRecursion (λ i. i < length cells.now.present) children.now }
-    ensures gives { IfOk result (IsBit (B.meanings bits.new) (λ v. empty_at place children.now (cell_at (B.meanings bits.old) v cells.now))) }
+    ensures gives { IfOk result
+        (IsBit (B.meanings bits.new) (λ v. empty_at place children.now (cell_at (B.meanings bits.old) v cells.now))) }
     ensures grows { Grows (B.meanings bits.old) (B.meanings bits.new) }
     ensures cells { AreCells (B.meanings bits.new) cells.now }
 {

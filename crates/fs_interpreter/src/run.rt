@@ -34,7 +34,9 @@ fn step<B: Bits>(
 ) -> Result<(), NoMemory>
     requires cells { AreCells (B.meanings bits.old) cells.old }
     requires places { length cells.old.present ≡ length table.now.paths }
-    ensures changes { OnOk result (Becomes (B.meanings bits.old) (B.meanings bits.new) cells.old cells.new (λ v s. stepped table.now (program_of program.now) s)) }
+    ensures changes { OnOk result
+        (Becomes (B.meanings bits.old) (B.meanings bits.new) cells.old cells.new
+        (λ v s. stepped table.now (program_of program.now) s)) }
     ensures grows { Grows (B.meanings bits.old) (B.meanings bits.new) }
 {
     match program {
@@ -60,7 +62,9 @@ fn step_all<B: Bits>(
 ) -> Result<(), NoMemory>
     requires cells { AreCells (B.meanings bits.old) cells.old }
     requires places { length cells.old.present ≡ length table.now.paths }
-    ensures changes { OnOk result (Becomes (B.meanings bits.old) (B.meanings bits.new) cells.old cells.new (λ v s. all_stepped table.now (programs_in programs.now) s)) }
+    ensures changes { OnOk result
+        (Becomes (B.meanings bits.old) (B.meanings bits.new) cells.old cells.new
+        (λ v s. all_stepped table.now (programs_in programs.now) s)) }
     ensures grows { Grows (B.meanings bits.old) (B.meanings bits.new) }
 {
     for program in programs {
@@ -82,7 +86,10 @@ fn branch<B: Bits>(
 ) -> Result<(), NoMemory>
     requires cells { AreCells (B.meanings bits.old) cells.old }
     requires places { length cells.old.present ≡ length table.now.paths }
-    ensures changes { OnOk result (Becomes (B.meanings bits.old) (B.meanings bits.new) cells.old cells.new (λ v s. if told table.now (test_of a.now) s.cell then stepped table.now (program_of e.now) s else stepped table.now (program_of f.now) s)) }
+    ensures changes { OnOk result
+        (Becomes (B.meanings bits.old) (B.meanings bits.new) cells.old cells.new
+        (λ v s. if told table.now (test_of a.now) s.cell then stepped table.now
+        (program_of e.now) s else stepped table.now (program_of f.now) s)) }
     ensures grows { Grows (B.meanings bits.old) (B.meanings bits.new) }
 {
     let places = written_by_both(alloc, table, e, f)?;
@@ -107,7 +114,9 @@ fn try_branch<B: Bits>(
     requires all { (j : ℕ) → has j (written table.now.paths (program_of e.now)) ≡ true → has j places.now ≡ true }
     requires below { AllByRecursion (λ i. i < length table.now.paths) places.now }
     ensures own { IfOk result (IsAside (B.meanings bits.new) (length cells.old.present)) }
-    ensures read { IfOk result (IsRead (B.meanings bits.new) places.now (λ v. stepped table.now (program_of e.now) (state_of (B.meanings bits.old) v cells.old))) }
+    ensures read { IfOk result
+        (IsRead (B.meanings bits.new) places.now
+        (λ v. stepped table.now (program_of e.now) (state_of (B.meanings bits.old) v cells.old))) }
     ensures same { OnOk result (Becomes (B.meanings bits.old) (B.meanings bits.new) cells.old cells.new (λ v s. s)) }
     ensures grows { Grows (B.meanings bits.old) (B.meanings bits.new) }
 {
@@ -130,7 +139,10 @@ pub fn run_with<B: Bits>(
     requires cells { AreCells (B.meanings bits.old) cells.old }
     requires places { length cells.old.present ≡ length table.now.paths }
     requires covers { Covers table.now (program_of program.now) }
-    ensures stands { OnOk result ((v : Valuation) (o : Outcome) → StandsFor table.now (state_of (B.meanings bits.old) v cells.old) o → StandsFor table.now (state_of (B.meanings bits.new) v cells.new) (and_then o (run (program_of program.now)))) }
+    ensures stands { OnOk result ((v : Valuation) (o : Outcome)
+        → StandsFor table.now (state_of (B.meanings bits.old) v cells.old) o
+        → StandsFor table.now (state_of (B.meanings bits.new) v cells.new)
+        (and_then o (run (program_of program.now)))) }
     ensures cells { OnOk result (AreCells (B.meanings bits.new) cells.new) }
     ensures places { OnOk result (length cells.new.present ≡ length table.now.paths) }
     ensures grows { Grows (B.meanings bits.old) (B.meanings bits.new) }

@@ -38,7 +38,9 @@ fn put<B: Bits>(
     requires place { IfSome place (λ i. i < length cells.old.present) }
     requires ok { (B.meanings bits.old).owns ok.now }
     requires cell { IsOne (B.meanings bits.old) (λ v. one_told (B.meanings bits.old) v cell) cell }
-    ensures changes { OnOk result (Becomes (B.meanings bits.old) (B.meanings bits.new) cells.old cells.new (λ v s. put_in place ((B.meanings bits.old).bit v ok.now) (one_told (B.meanings bits.old) v cell) s)) }
+    ensures changes { OnOk result
+        (Becomes (B.meanings bits.old) (B.meanings bits.new) cells.old cells.new
+        (λ v s. put_in place ((B.meanings bits.old).bit v ok.now) (one_told (B.meanings bits.old) v cell) s)) }
     ensures grows { Grows (B.meanings bits.old) (B.meanings bits.new) }
 {
     match place {
@@ -58,7 +60,9 @@ fn put_at<B: Bits>(
     requires place { i < length cells.old.present }
     requires ok { (B.meanings bits.old).owns ok.now }
     requires cell { IsOne (B.meanings bits.old) (λ v. one_told (B.meanings bits.old) v cell) cell }
-    ensures changes { OnOk result (Becomes (B.meanings bits.old) (B.meanings bits.new) cells.old cells.new (λ v s. put_in (Some i) ((B.meanings bits.old).bit v ok.now) (one_told (B.meanings bits.old) v cell) s)) }
+    ensures changes { OnOk result
+        (Becomes (B.meanings bits.old) (B.meanings bits.new) cells.old cells.new
+        (λ v s. put_in (Some i) ((B.meanings bits.old).bit v ok.now) (one_told (B.meanings bits.old) v cell) s)) }
     ensures grows { Grows (B.meanings bits.old) (B.meanings bits.new) }
 {
     let bad = bits.not(ok)?;
@@ -75,7 +79,9 @@ pub(crate) fn new_cell<B: Bits>(
     link: bool,
     content: u64,
 ) -> Result<OneCell<B>, NoMemory>
-    ensures gives { IfOk result (IsOne (B.meanings bits.new) (λ v. record { present = true; folder = folder; link = link; content = content })) }
+    ensures gives { IfOk result
+        (IsOne (B.meanings bits.new)
+        (λ v. record { present = true; folder = folder; link = link; content = content })) }
     ensures grows { Grows (B.meanings bits.old) (B.meanings bits.new) }
 {
     let content = bits.code(content)?;
@@ -127,7 +133,10 @@ fn free_place<B: Bits>(
     requires cells { AreCells (B.meanings bits.old) cells.now }
     requires place { i < length cells.now.present }
     requires above { IfSome above (λ j. j < length cells.now.present) }
-    ensures gives { IfOk result (IsBit (B.meanings bits.new) (λ v. none_at (Some i) (cell_at (B.meanings bits.old) v cells.now) && dir_at above (cell_at (B.meanings bits.old) v cells.now))) }
+    ensures gives { IfOk result
+        (IsBit (B.meanings bits.new)
+        (λ v. none_at (Some i) (cell_at (B.meanings bits.old) v cells.now) && dir_at above
+        (cell_at (B.meanings bits.old) v cells.now))) }
     ensures grows { Grows (B.meanings bits.old) (B.meanings bits.new) }
 {
     let dir = dir_at(bits, cells, above)?;
@@ -146,7 +155,10 @@ pub(crate) fn make<B: Bits>(
     requires cells { AreCells (B.meanings bits.old) cells.old }
     requires places { length cells.old.present ≡ length table.now.paths }
     requires cell { IsOne (B.meanings bits.old) (λ v. one_told (B.meanings bits.old) v cell) cell }
-    ensures changes { OnOk result (Becomes (B.meanings bits.old) (B.meanings bits.new) cells.old cells.new (λ v s. put_in (place_in table.now.paths p.now) (free_at table.now p.now s.cell) (one_told (B.meanings bits.old) v cell) s)) }
+    ensures changes { OnOk result
+        (Becomes (B.meanings bits.old) (B.meanings bits.new) cells.old cells.new
+        (λ v s. put_in (place_in table.now.paths p.now) (free_at table.now p.now s.cell)
+        (one_told (B.meanings bits.old) v cell) s)) }
     ensures grows { Grows (B.meanings bits.old) (B.meanings bits.new) }
 {
     let free = free_at(bits, table, p, cells)?;
@@ -164,7 +176,11 @@ fn removable<B: Bits>(
     requires cells { AreCells (B.meanings bits.old) cells.now }
     requires place { i < length cells.now.present }
     requires children { AllByRecursion (λ j. j < length cells.now.present) children.now }
-    ensures gives { IfOk result (IsBit (B.meanings bits.new) (λ v. (cell_at (B.meanings bits.old) v cells.now i).present && not ((cell_at (B.meanings bits.old) v cells.now i).folder && any_present children.now (cell_at (B.meanings bits.old) v cells.now)))) }
+    ensures gives { IfOk result
+        (IsBit (B.meanings bits.new)
+        (λ v. (cell_at (B.meanings bits.old) v cells.now i).present && not
+        ((cell_at (B.meanings bits.old) v cells.now i).folder && any_present children.now
+        (cell_at (B.meanings bits.old) v cells.now)))) }
     ensures grows { Grows (B.meanings bits.old) (B.meanings bits.new) }
 {
     let any = any_present(bits, cells, children)?;
@@ -178,7 +194,9 @@ fn clear<B: Bits>(bits: &mut B, cells: &mut Cells<B>, i: usize, ok: &B::Bit) -> 
     requires cells { AreCells (B.meanings bits.old) cells.old }
     requires place { i < length cells.old.present }
     requires ok { (B.meanings bits.old).owns ok.now }
-    ensures changes { OnOk result (Becomes (B.meanings bits.old) (B.meanings bits.new) cells.old cells.new (λ v s. put_in (Some i) ((B.meanings bits.old).bit v ok.now) (record (s.cell i) { present = false }) s)) }
+    ensures changes { OnOk result
+        (Becomes (B.meanings bits.old) (B.meanings bits.new) cells.old cells.new
+        (λ v s. put_in (Some i) ((B.meanings bits.old).bit v ok.now) (record (s.cell i) { present = false }) s)) }
     ensures grows { Grows (B.meanings bits.old) (B.meanings bits.new) }
 {
     let absent = bits.constant(false)?;
@@ -198,7 +216,9 @@ fn remove_at<B: Bits>(
     requires cells { AreCells (B.meanings bits.old) cells.old }
     requires place { i < length cells.old.present }
     requires children { AllByRecursion (λ j. j < length cells.old.present) children.now }
-    ensures changes { OnOk result (Becomes (B.meanings bits.old) (B.meanings bits.new) cells.old cells.new (λ v s. removed_at (Some i) children.now s)) }
+    ensures changes { OnOk result
+        (Becomes (B.meanings bits.old) (B.meanings bits.new) cells.old cells.new
+        (λ v s. removed_at (Some i) children.now s)) }
     ensures grows { Grows (B.meanings bits.old) (B.meanings bits.new) }
 {
     let gone = removable(bits, cells, i, children)?;
@@ -214,7 +234,9 @@ pub(crate) fn remove<B: Bits>(
 ) -> Result<(), NoMemory>
     requires cells { AreCells (B.meanings bits.old) cells.old }
     requires places { length cells.old.present ≡ length table.now.paths }
-    ensures changes { OnOk result (Becomes (B.meanings bits.old) (B.meanings bits.new) cells.old cells.new (λ v s. removed_at (place_in table.now.paths p.now) (children_in table.now.paths p.now) s)) }
+    ensures changes { OnOk result
+        (Becomes (B.meanings bits.old) (B.meanings bits.new) cells.old cells.new
+        (λ v s. removed_at (place_in table.now.paths p.now) (children_in table.now.paths p.now) s)) }
     ensures grows { Grows (B.meanings bits.old) (B.meanings bits.new) }
 {
     match table.position(p) {
@@ -234,7 +256,10 @@ fn copyable<B: Bits>(
     requires cells { AreCells (B.meanings bits.old) cells.now }
     requires place { i < length cells.now.present }
     requires places { length cells.now.present ≡ length table.now.paths }
-    ensures gives { IfOk result (IsBit (B.meanings bits.new) (λ v. is_file (Some i) (cell_at (B.meanings bits.old) v cells.now) && free_at table.now q.now (cell_at (B.meanings bits.old) v cells.now))) }
+    ensures gives { IfOk result
+        (IsBit (B.meanings bits.new)
+        (λ v. is_file (Some i) (cell_at (B.meanings bits.old) v cells.now) && free_at table.now q.now
+        (cell_at (B.meanings bits.old) v cells.now))) }
     ensures grows { Grows (B.meanings bits.old) (B.meanings bits.new) }
 {
     let file = file_at(bits, cells, Some(i))?;
@@ -271,7 +296,9 @@ fn copy_from<B: Bits>(
     requires cells { AreCells (B.meanings bits.old) cells.old }
     requires place { i < length cells.old.present }
     requires places { length cells.old.present ≡ length table.now.paths }
-    ensures changes { OnOk result (Becomes (B.meanings bits.old) (B.meanings bits.new) cells.old cells.new (λ v s. copied_at (Some i) (place_in table.now.paths q.now) (free_at table.now q.now s.cell) s)) }
+    ensures changes { OnOk result
+        (Becomes (B.meanings bits.old) (B.meanings bits.new) cells.old cells.new
+        (λ v s. copied_at (Some i) (place_in table.now.paths q.now) (free_at table.now q.now s.cell) s)) }
     ensures grows { Grows (B.meanings bits.old) (B.meanings bits.new) }
 {
     let ok = copyable(bits, table, i, q, cells)?;
@@ -290,7 +317,10 @@ pub(crate) fn copy<B: Bits>(
 ) -> Result<(), NoMemory>
     requires cells { AreCells (B.meanings bits.old) cells.old }
     requires places { length cells.old.present ≡ length table.now.paths }
-    ensures changes { OnOk result (Becomes (B.meanings bits.old) (B.meanings bits.new) cells.old cells.new (λ v s. copied_at (place_in table.now.paths p.now) (place_in table.now.paths q.now) (free_at table.now q.now s.cell) s)) }
+    ensures changes { OnOk result
+        (Becomes (B.meanings bits.old) (B.meanings bits.new) cells.old cells.new
+        (λ v s. copied_at (place_in table.now.paths p.now) (place_in table.now.paths q.now)
+        (free_at table.now q.now s.cell) s)) }
     ensures grows { Grows (B.meanings bits.old) (B.meanings bits.new) }
 {
     match table.position(p) {
@@ -309,7 +339,10 @@ pub(crate) fn add_entry<B: Bits>(
 ) -> Result<(), NoMemory>
     requires cells { AreCells (B.meanings bits.old) cells.old }
     requires places { length cells.old.present ≡ length table.now.paths }
-    ensures changes { OnOk result (Becomes (B.meanings bits.old) (B.meanings bits.new) cells.old cells.new (λ v s. put_in (place_in table.now.paths p.now) (free_at table.now p.now s.cell) (record { present = true; folder = entry.folder; link = entry.link; content = entry.content }) s)) }
+    ensures changes { OnOk result
+        (Becomes (B.meanings bits.old) (B.meanings bits.new) cells.old cells.new
+        (λ v s. put_in (place_in table.now.paths p.now) (free_at table.now p.now s.cell)
+        (record { present = true; folder = entry.folder; link = entry.link; content = entry.content }) s)) }
     ensures grows { Grows (B.meanings bits.old) (B.meanings bits.new) }
 {
     let cell = new_cell(bits, entry.folder, entry.link, entry.content)?;

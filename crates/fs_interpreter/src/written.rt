@@ -62,8 +62,10 @@ pub(crate) fn written_by_both(
     e: &Program,
     f: &Program,
 ) -> Result<Vec<usize>, NoMemory>
-    ensures first { IfOk result (λ places. (j : ℕ) → has j (written table.now.paths (program_of e.now)) ≡ true → has j places.items ≡ true) }
-    ensures second { IfOk result (λ places. (j : ℕ) → has j (written table.now.paths (program_of f.now)) ≡ true → has j places.items ≡ true) }
+    ensures first { IfOk result (λ places. (j : ℕ) → has j (written table.now.paths (program_of e.now)) ≡ true
+        → has j places.items ≡ true) }
+    ensures second { IfOk result (λ places. (j : ℕ) → has j (written table.now.paths (program_of f.now)) ≡ true
+        → has j places.items ≡ true) }
     ensures below { IfOk result (λ places. AllByRecursion (λ i. i < length table.now.paths) places.items) }
 {
     let mut places = Vec::new(alloc);

@@ -37,7 +37,9 @@ back (tree.Link target) = refl
 
 -- trees by codes of their paths and entries, which the kit asks for where contracts see a type as a tree
 abbrev pub coded_tree : Coded Tree
-coded_tree = finite.code (coded_list (coded_list coded_ℕ)) (code_by (Option (List ℕ × Option (List ℕ))) (coded_option (coded× (coded_list coded_ℕ) (coded_option (coded_list coded_ℕ)))) to_texts from_texts back)
+coded_tree = finite.code (coded_list (coded_list coded_ℕ)) (code_by (Option (List ℕ
+    × Option (List ℕ))) (coded_option
+    (coded× (coded_list coded_ℕ) (coded_option (coded_list coded_ℕ)))) to_texts from_texts back)
 
 -- the entry's content or target is of bytes
 abbrev pub TextIsBytes : Entry → Type 0

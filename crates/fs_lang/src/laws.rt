@@ -13,7 +13,8 @@ ghost use Rattle.fs_lang.specs.Names.{segment_of};
 pub fn path_texts()
     ensures once { (text : List ℕ) (p q : Path) → IsPathText text p → IsPathText text q → p ≡ q }
     ensures same { (p q : Path) → AllByRecursion IsSegment p → AllByRecursion IsSegment q → path_text p ≡ path_text q → p ≡ q }
-    ensures again { (p : Path) → AllByRecursion IsSegment p → length (path_text p) ≤ PATH_BYTES → length p ≤ PATH_SEGMENTS → IsPathText (path_text p) p }
+    ensures again { (p : Path) → AllByRecursion IsSegment p → length (path_text p) ≤ PATH_BYTES
+        → length p ≤ PATH_SEGMENTS → IsPathText (path_text p) p }
     ensures below { (p : Path) → parent p ≢ [] → (more : List ℕ) × (more ≢ []) × (path_text p ≡ path_text (parent p) ++ more) }
 {}
 

@@ -95,7 +95,8 @@ fn run_on(
     requires ground { IsGround ground.now }
     requires below { AllByRecursion (λ i. i < length ground.now.programs.now) order.now }
     requires stand { (o : Ending) × StandOn ground.now o cells.old }
-    ensures { OnOk result ((o : Ending) → StandOn ground.now o cells.old → StandOn ground.now (and_then o (outcome (map program_of ground.now.programs.now) order.now)) cells.new) }
+    ensures { OnOk result ((o : Ending) → StandOn ground.now o cells.old
+        → StandOn ground.now (and_then o (outcome (map program_of ground.now.programs.now) order.now)) cells.new) }
 {
     constructs();
     run_in_order(alloc, &ground.table, ground.programs, order, cells)
@@ -110,7 +111,8 @@ fn stand_alike(
 ) -> Result<bool, NoMemory>
     requires left { (o : Ending) × StandOn ground.now o left.now }
     requires right { (o : Ending) × StandOn ground.now o right.now }
-    ensures { IfOk result (λ alike. (o u : Ending) → StandOn ground.now o left.now → StandOn ground.now u right.now → IsTrue alike ↔ (o ≡ u)) }
+    ensures { IfOk result (λ alike. (o u : Ending) → StandOn ground.now o left.now → StandOn ground.now u right.now
+        → IsTrue alike ↔ (o ≡ u)) }
 {
     states();
     let one = outcome_told(alloc, &ground.table, left)?;

@@ -54,7 +54,8 @@ pub(crate) fn run_in_order(
     requires covers { CoversSteps table.now (programs_in programs.now) }
     ensures cells { OnOk result (AreCells plain_meanings cells.new) }
     ensures places { OnOk result (length cells.new.present ≡ length table.now.paths) }
-    ensures stands { OnOk result ((o : Ending) → StandsFor table.now (plain_state cells.old) o → StandsFor table.now (plain_state cells.new) (and_then o (outcome (map program_of programs.now) order.now))) }
+    ensures stands { OnOk result ((o : Ending) → StandsFor table.now (plain_state cells.old) o
+        → StandsFor table.now (plain_state cells.new) (and_then o (outcome (map program_of programs.now) order.now))) }
 {
     for i in order {
         run_plain(alloc, table, &programs[*i as usize], cells)?;

@@ -22,7 +22,8 @@ pub fn commuting_programs()
 /// Two allowed orders have each number equally often, whatever comes before what. With no order between the programs the
 /// list of their numbers is allowed.
 pub fn linear_extensions()
-    ensures alike { (n : ℕ) (before : ℕ → ℕ → Bool) (o p : List ℕ) → IsLinearExtension n (Told before) o → IsLinearExtension n (Told before) p
+    ensures alike { (n : ℕ) (before : ℕ → ℕ → Bool) (o p : List ℕ) → IsLinearExtension n (Told before) o
+        → IsLinearExtension n (Told before) p
         → (k : ℕ) → times k o ≡ times k p }
     ensures unordered { (n : ℕ) → IsLinearExtension n Unordered (up_from 0 n) }
 {}
@@ -31,7 +32,8 @@ pub fn linear_extensions()
 /// proper and free ones commute. Where two allowed orders end differently, two that differ by one exchange do.
 pub fn neighbours()
     ensures enough { (es : List Program) (before : ℕ → ℕ → Bool) → NeighboursAgree es (Told before) → IsDeterministic es (Told before) }
-    ensures free { (es : List Program) (before : ℕ → ℕ → Bool) → AllByRecursion IsProper es → FreeCommute es (Told before) → IsDeterministic es (Told before) }
+    ensures free { (es : List Program) (before : ℕ → ℕ → Bool) → AllByRecursion IsProper es
+        → FreeCommute es (Told before) → IsDeterministic es (Told before) }
     ensures exchange { (es : List Program) (before : ℕ → ℕ → Bool) (t : Tree) (o p : List ℕ) → IsCounterexample es (Told before) t o p
         → (q : List ℕ) × (r : List ℕ) × IsExchange (Told before) q r × IsCounterexample es (Told before) t q r }
 {}
@@ -45,5 +47,7 @@ pub fn counterexamples()
     ensures idempotent { (es : List Program) (before : ℕ → ℕ → Bool) → AllByRecursion IsProper es → IsDeterministic es (Told before)
         → IsIdempotent es (Told before) ↔ ((t : Tree) (o : List ℕ) → IsSecondRunCounterexample es (Told before) t o → ⊥) }
     ensures fails { (es : List Program) (before : ℕ → ℕ → Bool)
-        → (Succeeds es (Told before) → ⊥) ↔ ((t : Tree) → IsTree t → (o : List ℕ) → IsLinearExtension (length es) (Told before) o → outcome es o t ≡ None) }
+        → (Succeeds es (Told before) → ⊥)
+        ↔ ((t : Tree) → IsTree t → (o : List ℕ) → IsLinearExtension (length es) (Told before) o
+        → outcome es o t ≡ None) }
 {}

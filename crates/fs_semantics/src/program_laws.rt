@@ -32,8 +32,10 @@ pub fn changes()
     ensures rm { (p : Path) (t u : Tree) → (run (Rm p) t ≡ Some u) ↔ Removes p t u }
     ensures cp { (from p : Path) (t u : Tree) → (run (Cp from p) t ≡ Some u) ↔ Copies from p t u }
     ensures no_steps { (t u : Tree) → (run (Steps none) t ≡ Some u) ↔ (t ≡ u) }
-    ensures steps { (e : Program) (es : Programs) (t v : Tree) → (run (Steps (next e es)) t ≡ Some v) ↔ ((u : Tree) × (run e t ≡ Some u) × (run (Steps es) u ≡ Some v)) }
-    ensures choice { (a : Test) (e f : Program) (t u : Tree) → (run (If a e f) t ≡ Some u) ↔ ((IsTrue (holds a t) × (run e t ≡ Some u)) ⊎ ((IsTrue (holds a t) → ⊥) × (run f t ≡ Some u))) }
+    ensures steps { (e : Program) (es : Programs) (t v : Tree) → (run (Steps (next e es)) t ≡ Some v)
+        ↔ ((u : Tree) × (run e t ≡ Some u) × (run (Steps es) u ≡ Some v)) }
+    ensures choice { (a : Test) (e f : Program) (t u : Tree) → (run (If a e f) t ≡ Some u)
+        ↔ ((IsTrue (holds a t) × (run e t ≡ Some u)) ⊎ ((IsTrue (holds a t) → ⊥) × (run f t ≡ Some u))) }
 {}
 
 /// What a program leaves: what stands at each path that it doesn't change; a file tree, where it is proper; and, from trees

@@ -22,5 +22,6 @@ pub fn file_trees()
     ensures same { (t u : Tree) → ((p : Path) → map.get t p ≡ map.get u p) → t ≡ u }
     ensures put { (t : Tree) (p : Path) (x : Entry) → IsWith t (map.insert t p x) p (Some x) }
     ensures taken { (t : Tree) (p : Path) → IsWith t (map.remove t p) p None }
-    ensures keys { (test : Path → Bool) (t : Tree) → IsTrue (list_any test (map.keys t)) ↔ ((p : Path) × IsTrue (map.contains_key t p) × IsTrue (test p)) }
+    ensures keys { (test : Path → Bool) (t : Tree) → IsTrue (list_any test (map.keys t))
+        ↔ ((p : Path) × IsTrue (map.contains_key t p) × IsTrue (test p)) }
 {}

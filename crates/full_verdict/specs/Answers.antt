@@ -18,7 +18,8 @@ use Rattle.full_verdict.specs.Verdicts.{pruned_in, IsByPruning, IfByProof, IfDif
 
 -- whether a second run changes anything
 abbrev pub AnswersSecond : List Program → Relation → ℕ → Answer → Type 0
-AnswersSecond es order budget a = AnswersBy (StatesSecond es order) (IsIdempotent es (Told (comes order))) (IsSecondChange es order) budget a
+AnswersSecond es order budget a = AnswersBy (StatesSecond es order) (IsIdempotent es (Told (comes order)))
+    (IsSecondChange es order) budget a
 
 -- whether the graph succeeds
 abbrev pub AnswersEnd : List Program → Relation → ℕ → Answer → Type 0

@@ -186,13 +186,18 @@ pub fn judge(
     ensures paths { IfOk result (λ judged. HasFewPaths (map program_of programs.now)) }
     ensures weight { IfOk result (λ judged. IsLight (map program_of programs.now)) }
     ensures refused { IfErr result (λ e. IfRefused e (IsTooLarge (map program_of programs.now))) }
-    ensures only { HasFewPaths (map program_of programs.now) → IsLight (map program_of programs.now) → IfErr result (λ e. IfRefused e (λ r. ⊥)) }
+    ensures only { HasFewPaths (map program_of programs.now) → IsLight (map program_of programs.now)
+        → IfErr result (λ e. IfRefused e (λ r. ⊥)) }
     ensures pruned { IfOk result (λ judged. IsPrunedCount (map program_of programs.now) (Told (comes order.now)) (pruned_in judged)) }
     ensures differs { IfOk result (λ judged. IfDifferent judged (IsDifference (map program_of programs.now) (Told (comes order.now)))) }
-    ensures deterministic { IfOk result (λ judged. IfJudged judged (λ sure. IsDeterministic (map program_of programs.now) (Told (comes order.now)))) }
+    ensures deterministic { IfOk result
+        (λ judged. IfJudged judged (λ sure. IsDeterministic (map program_of programs.now) (Told (comes order.now)))) }
     // Pruning alone shows it exactly where it keeps nothing.
-    ensures alone { IfOk result (λ judged. IfJudged judged (λ sure. IsByPruning sure ↔ Keeps (map program_of programs.now) (Told (comes order.now)) [])) }
-    ensures proved { IfOk result (λ judged. IfJudged judged (λ sure. IfByProof sure (IsProof (map program_of programs.now) (Told (comes order.now))))) }
+    ensures alone { IfOk result (λ judged. IfJudged judged (λ sure. IsByPruning sure
+        ↔ Keeps (map program_of programs.now) (Told (comes order.now)) [])) }
+    ensures proved { IfOk result
+        (λ judged. IfJudged judged
+        (λ sure. IfByProof sure (IsProof (map program_of programs.now) (Told (comes order.now))))) }
     ensures idempotent { IfOk result (λ judged. IfSame judged (λ f. IsIdempotent (map program_of programs.now) (Told (comes order.now)))) }
     ensures same { IfOk result (λ judged. IfSame judged (IsSecondProof (map program_of programs.now) order.now)) }
     ensures changed { IfOk result (λ judged. IfChanged judged (IsSecondChange (map program_of programs.now) order.now)) }
@@ -201,7 +206,8 @@ pub fn judge(
     ensures fails { IfOk result (λ judged. IfNever judged (λ f. Succeeds (map program_of programs.now) (Told (comes order.now)) → ⊥)) }
     ensures never { IfOk result (λ judged. IfNever judged (IsEndProof (map program_of programs.now) order.now)) }
     ensures spent { IfOk result (λ judged. IfSpent judged (IsSpentOn (map program_of programs.now) order.now budget)) }
-    ensures known { IfOk result (λ judged. IfSpentAfter judged (λ asked proofs. IsKnownBefore (map program_of programs.now) order.now asked)) }
+    ensures known { IfOk result
+        (λ judged. IfSpentAfter judged (λ asked proofs. IsKnownBefore (map program_of programs.now) order.now asked)) }
     ensures refuted { IfOk result (λ judged. IfSpentAfter judged (AreProofsBefore (map program_of programs.now) order.now)) }
 {
     check_size(alloc, programs)?;

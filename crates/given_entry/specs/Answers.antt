@@ -70,6 +70,7 @@ AreEndsOf order (ends.Never u) end = end ≡ ends.Never u
 -- The same answer, with one program less that was pruned, and no guard in its orders: those of one run are the first extension.
 abbrev pub IsEnsuredWithout : Relation → Ensured → Ensured → Type 0
 IsEnsuredWithout order (ensured.First f) e = (a : First) × IsAnswerWithout f a × (e ≡ ensured.First a)
-IsEnsuredWithout order (ensured.Holds pruned s v end) e = (more : Ends) × AreEndsOf order end more × (e ≡ ensured.Holds (pruned - 1) s v more)
+IsEnsuredWithout order (ensured.Holds pruned s v end) e = (more : Ends) × AreEndsOf order end more
+    × (e ≡ ensured.Holds (pruned - 1) s v more)
 IsEnsuredWithout order (ensured.Fails pruned s w) e = (v : Witness) × IsRunOf order w v × (e ≡ ensured.Fails (pruned - 1) s v)
 IsEnsuredWithout order (ensured.Spent pruned s asked cnf log) e = e ≡ ensured.Spent (pruned - 1) s asked cnf log

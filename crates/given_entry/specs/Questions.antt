@@ -23,7 +23,8 @@ EnsuresFrom given programs before w = (t : Tree) → IsGivenTree given t → (o 
     → (u : Tree) → outcome programs o t ≡ Some u → HasWanted u w
 
 -- From the tree, in which the given folders stand, the allowed order ends in a tree that hasn't the entry.
-pub record EndsWithoutFrom (given : List Path) (programs : List Program) (before : ℕ → ℕ → Type 0) (w : Wanted) (tree : Tree) (order : List ℕ) : Type 0 where
+pub record EndsWithoutFrom (given : List Path) (programs : List Program) (before : ℕ → ℕ → Type 0) (w : Wanted)
+    (tree : Tree) (order : List ℕ) : Type 0 where
   pub stand : Stand given tree
   pub shows : EndsWithout programs before w tree order
 
@@ -38,7 +39,8 @@ pub record HasMissingFrom (given : List Path) (es : List Program) (order : Relat
 -- The formula states whether a run ends without the entry: it can be true exactly where the first extension ends, from some tree over
 -- the domain of the programs, the given paths and the probe, in which the given folders stand, in a tree without it.
 abbrev pub StatesMissingFrom : List Path → List Program → Relation → Wanted → Formula → Type 0
-StatesMissingFrom given es order w f = (d : Domain) → IsLayout (probed given es w) (layout_of d) → IsSatisfiable f ↔ HasMissingFrom given es order d w
+StatesMissingFrom given es order w f = (d : Domain) → IsLayout (probed given es w) (layout_of d) → IsSatisfiable f
+    ↔ HasMissingFrom given es order d w
 
 -- the formula states it, and has no model
 pub record IsEntryProofFrom (given : List Path) (es : List Program) (order : Relation) (w : Wanted) (f : Formula) : Type 0 where

@@ -85,10 +85,15 @@ pub fn judge_entry_from(
     ensures paths { IfOk result (λ e. HasFewPathsWith terms.now.limits terms.now.given (map program_of programs.now)) }
     ensures probed { IfOk result (λ e. HasFewPathsProbed terms.now.limits terms.now.given (map program_of programs.now) wanted.now) }
     ensures weight { IfOk result (λ e. IsLightWith terms.now.limits (map program_of programs.now)) }
-    ensures refused { IfErr result (λ e. IfRefused e (IsTooLargeProbed terms.now.limits terms.now.given (map program_of programs.now) wanted.now)) }
-    ensures only { HasFewPathsWith terms.now.limits terms.now.given (map program_of programs.now) → HasFewPathsProbed terms.now.limits terms.now.given (map program_of programs.now) wanted.now
+    ensures refused { IfErr result
+        (λ e. IfRefused e (IsTooLargeProbed terms.now.limits terms.now.given
+        (map program_of programs.now) wanted.now)) }
+    ensures only { HasFewPathsWith terms.now.limits terms.now.given (map program_of programs.now)
+        → HasFewPathsProbed terms.now.limits terms.now.given (map program_of programs.now) wanted.now
         → IsLightWith terms.now.limits (map program_of programs.now) → IfErr result (λ e. IfRefused e (λ r. ⊥)) }
-    ensures ensured { IfOk result (IsEnsuredFrom terms.now.given (map program_of programs.now) order.now wanted.now (budget_of terms.now.conflicts)) }
+    ensures ensured { IfOk result
+        (IsEnsuredFrom terms.now.given (map program_of programs.now) order.now wanted.now
+        (budget_of terms.now.conflicts)) }
 {
     let given = terms.given.as_slice();
     check_size_probed(alloc, programs, given, wanted, terms.limits)?;

@@ -65,7 +65,8 @@ pub(crate) fn check_size_probed(
     ensures probed { IfOk result (λ u. HasFewPathsProbed limits given.now (map program_of programs.now) wanted.now) }
     ensures weight { IfOk result (λ u. IsLightWith limits (map program_of programs.now)) }
     ensures refused { IfErr result (λ e. IfRefused e (IsTooLargeProbed limits given.now (map program_of programs.now) wanted.now)) }
-    ensures only { HasFewPathsWith limits given.now (map program_of programs.now) → HasFewPathsProbed limits given.now (map program_of programs.now) wanted.now
+    ensures only { HasFewPathsWith limits given.now (map program_of programs.now)
+        → HasFewPathsProbed limits given.now (map program_of programs.now) wanted.now
         → IsLightWith limits (map program_of programs.now) → IfErr result (λ e. IfRefused e (λ r. ⊥)) }
 {
     check_probed(alloc, programs, given, wanted, limits)?;

@@ -40,7 +40,8 @@ abbrev pub IsSpentOnFrom : List Path → List Program → Relation → List Prog
 IsSpentOnFrom given es order fs other budget f steps = StatesPartingFrom given es order fs other f × UsesUp budget f steps
 
 -- What an answer says of every file tree is said of those in which the given folders stand. Pruning is the same, whatever is given.
-pub record IsComparedFrom (given : List Path) (es : List Program) (order : Relation) (fs : List Program) (other : Relation) (budget : ℕ) (c : Compared) : Type 0 where
+pub record IsComparedFrom (given : List Path) (es : List Program) (order : Relation) (fs : List Program)
+    (other : Relation) (budget : ℕ) (c : Compared) : Type 0 where
   pub left : IfLeft c (IsUnsettledFrom given es order budget)
   pub left_settled : IfLeftSettled c (IsSettledFrom given es order)
   pub right : IfRight c (IsUnsettledFrom given fs other budget)

@@ -14,12 +14,14 @@ use Rattle.equal_graphs.specs.Equal.{FirstsPart}
 use Rattle.given_equal.specs.Sizes.{joined}
 
 -- From the tree, in which the given folders stand, the two first extensions have different outcomes.
-pub record FirstsPartFrom (given : List Path) (es : List Program) (order : Relation) (fs : List Program) (other : Relation) (tree : Tree) : Type 0 where
+pub record FirstsPartFrom (given : List Path) (es : List Program) (order : Relation) (fs : List Program)
+    (other : Relation) (tree : Tree) : Type 0 where
   pub stand : Stand given tree
   pub shows : FirstsPart es order fs other tree
 
 -- From some tree over the domain they do.
-pub record PartOverFrom (given : List Path) (es : List Program) (order : Relation) (fs : List Program) (other : Relation) (d : Domain) : Type 0 where
+pub record PartOverFrom (given : List Path) (es : List Program) (order : Relation) (fs : List Program)
+    (other : Relation) (d : Domain) : Type 0 where
   pub tree : Tree
   pub over : IsOverDomain d tree
   pub part : FirstsPartFrom given es order fs other tree
@@ -27,9 +29,11 @@ pub record PartOverFrom (given : List Path) (es : List Program) (order : Relatio
 -- The formula states whether the graphs do the same: it can be true exactly where, from some tree over the domain of the programs of
 -- both and the given paths, in which the given folders stand, the two first extensions have different outcomes.
 abbrev pub StatesPartingFrom : List Path → List Program → Relation → List Program → Relation → Formula → Type 0
-StatesPartingFrom given es order fs other f = (d : Domain) → IsLayout (joined given es fs) (layout_of d) → IsSatisfiable f ↔ PartOverFrom given es order fs other d
+StatesPartingFrom given es order fs other f = (d : Domain) → IsLayout (joined given es fs) (layout_of d)
+    → IsSatisfiable f ↔ PartOverFrom given es order fs other d
 
 -- the formula states it, and has no model
-pub record IsEqualProofFrom (given : List Path) (es : List Program) (order : Relation) (fs : List Program) (other : Relation) (f : Formula) : Type 0 where
+pub record IsEqualProofFrom (given : List Path) (es : List Program) (order : Relation) (fs : List Program)
+    (other : Relation) (f : Formula) : Type 0 where
   pub states : StatesPartingFrom given es order fs other f
   pub no_model : HasNoModel f

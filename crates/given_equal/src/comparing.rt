@@ -90,10 +90,16 @@ pub fn compare_from(
     requires left_count { length left.now ≡ order.now.count }
     requires right_count { length right.now ≡ other.now.count }
     // It is refused exactly where the two are too large: together by the paths of their domain, or one of them by itself.
-    ensures within { IfOk result (λ c. AreWithinWith terms.now.limits terms.now.given (map program_of left.now) (map program_of right.now)) }
-    ensures refused { IfErr result (λ e. IfRefused e (IsTooLargeJoined terms.now.limits terms.now.given (map program_of left.now) (map program_of right.now))) }
-    ensures only { AreWithinWith terms.now.limits terms.now.given (map program_of left.now) (map program_of right.now) → IfErr result (λ e. IfRefused e (λ r. ⊥)) }
-    ensures compared { IfOk result (IsComparedFrom terms.now.given (map program_of left.now) order.now (map program_of right.now) other.now (budget_of terms.now.conflicts)) }
+    ensures within { IfOk result
+        (λ c. AreWithinWith terms.now.limits terms.now.given (map program_of left.now) (map program_of right.now)) }
+    ensures refused { IfErr result
+        (λ e. IfRefused e (IsTooLargeJoined terms.now.limits terms.now.given (map program_of left.now)
+        (map program_of right.now))) }
+    ensures only { AreWithinWith terms.now.limits terms.now.given (map program_of left.now) (map program_of right.now)
+        → IfErr result (λ e. IfRefused e (λ r. ⊥)) }
+    ensures compared { IfOk result
+        (IsComparedFrom terms.now.given (map program_of left.now) order.now (map program_of right.now) other.now
+        (budget_of terms.now.conflicts)) }
 {
     let given = terms.given.as_slice();
     check_within(alloc, left, right, given, terms.limits)?;

@@ -41,8 +41,10 @@ fn check_joined(
     limits: Limits,
 ) -> Result<(), Fault>
     ensures paths { IfOk result (λ u. HasFewPathsJoined limits given.now (map program_of left.now) (map program_of right.now)) }
-    ensures refused { IfErr result (λ e. IfRefused e (IsTooWideJoined limits given.now (map program_of left.now) (map program_of right.now))) }
-    ensures only { HasFewPathsJoined limits given.now (map program_of left.now) (map program_of right.now) → IfErr result (λ e. IfRefused e (λ r. ⊥)) }
+    ensures refused { IfErr result
+        (λ e. IfRefused e (IsTooWideJoined limits given.now (map program_of left.now) (map program_of right.now))) }
+    ensures only { HasFewPathsJoined limits given.now (map program_of left.now) (map program_of right.now)
+        → IfErr result (λ e. IfRefused e (λ r. ⊥)) }
 {
     path_counts();
     if path_count_joined(alloc, left, right, given)? > limits.domain_paths() {
@@ -61,8 +63,10 @@ pub(crate) fn check_within(
     limits: Limits,
 ) -> Result<(), Fault>
     ensures within { IfOk result (λ u. AreWithinWith limits given.now (map program_of left.now) (map program_of right.now)) }
-    ensures refused { IfErr result (λ e. IfRefused e (IsTooLargeJoined limits given.now (map program_of left.now) (map program_of right.now))) }
-    ensures only { AreWithinWith limits given.now (map program_of left.now) (map program_of right.now) → IfErr result (λ e. IfRefused e (λ r. ⊥)) }
+    ensures refused { IfErr result
+        (λ e. IfRefused e (IsTooLargeJoined limits given.now (map program_of left.now) (map program_of right.now))) }
+    ensures only { AreWithinWith limits given.now (map program_of left.now) (map program_of right.now)
+        → IfErr result (λ e. IfRefused e (λ r. ⊥)) }
 {
     check_joined(alloc, left, right, given, limits)?;
     check_size_with(alloc, left, given, limits)?;

@@ -37,13 +37,15 @@ pub record SucceedsFrom (given : List Path) (programs : List Program) (before : 
   pub ends : IsSome (outcome programs order tree)
 
 -- Two allowed orders that end differently from one tree, in which the given folders stand.
-pub record IsCounterexampleFrom (given : List Path) (programs : List Program) (before : ℕ → ℕ → Type 0) (tree : Tree) (left right : List ℕ) : Type 0 where
+pub record IsCounterexampleFrom (given : List Path) (programs : List Program) (before : ℕ → ℕ → Type 0) (tree : Tree)
+    (left right : List ℕ) : Type 0 where
   pub stand : Stand given tree
   pub shows : IsCounterexample programs before tree left right
 
 -- An allowed order that ends, from a tree in which the given folders stand, in a tree which a second run in the same order doesn't
 -- leave as it is.
-pub record IsSecondRunCounterexampleFrom (given : List Path) (programs : List Program) (before : ℕ → ℕ → Type 0) (tree : Tree) (order : List ℕ) : Type 0 where
+pub record IsSecondRunCounterexampleFrom (given : List Path) (programs : List Program) (before : ℕ → ℕ → Type 0)
+    (tree : Tree) (order : List ℕ) : Type 0 where
   pub stand : Stand given tree
   pub shows : IsSecondRunCounterexample programs before tree order
 

@@ -13,8 +13,10 @@ ghost use Rattle.given_hosts.specs.Guard.{guarded, guard_before, GoesFirst, afte
 
 /// Where no folder is given, each of these says what is said of every file tree.
 pub fn none_given()
-    ensures deterministic { (es : List Program) (before : ℕ → ℕ → Bool) → IsDeterministicFrom [] es (Told before) ↔ IsDeterministic es (Told before) }
-    ensures idempotent { (es : List Program) (before : ℕ → ℕ → Bool) → IsIdempotentFrom [] es (Told before) ↔ IsIdempotent es (Told before) }
+    ensures deterministic { (es : List Program) (before : ℕ → ℕ → Bool) → IsDeterministicFrom [] es (Told before)
+        ↔ IsDeterministic es (Told before) }
+    ensures idempotent { (es : List Program) (before : ℕ → ℕ → Bool) → IsIdempotentFrom [] es (Told before)
+        ↔ IsIdempotent es (Told before) }
     ensures succeeds { (es : List Program) (before : ℕ → ℕ → Bool) → SucceedsFrom [] es (Told before) ↔ Succeeds es (Told before) }
     ensures counterexample { (es : List Program) (before : ℕ → ℕ → Bool) (t : Tree) (o p : List ℕ)
         → IsCounterexampleFrom [] es (Told before) t o p ↔ IsCounterexample es (Told before) t o p }
@@ -54,7 +56,8 @@ pub fn guarded_graphs()
         → (passes : Tree → Bool) → EndsWithFrom [] (guarded given es) (Told after) passes ↔ EndsWithFrom given es (Told before) passes }
     ensures equal { (given : List Path) (es fs : List Program) (before after other guarded_other : ℕ → ℕ → Bool)
         → GoesFirst (length es) before after → GoesFirst (length fs) other guarded_other
-        → AreEqualFrom [] (guarded given es) (Told after) (guarded given fs) (Told guarded_other) ↔ AreEqualFrom given es (Told before) fs (Told other) }
+        → AreEqualFrom [] (guarded given es) (Told after) (guarded given fs) (Told guarded_other)
+        ↔ AreEqualFrom given es (Told before) fs (Told other) }
 {}
 
 /// Second runs of a graph that is deterministic from the trees in which given folders stand. A second run in an order of its own
@@ -62,9 +65,11 @@ pub fn guarded_graphs()
 /// all; else it does so exactly where all orders end alike behind a first run.
 pub fn second_runs()
     ensures exact { (given : List Path) (es : List Program) (before : ℕ → ℕ → Bool) → IsDeterministicFrom given es (Told before)
-        → IsIdempotentFrom given es (Told before) ↔ ((t : Tree) (o : List ℕ) → IsSecondRunCounterexampleFrom given es (Told before) t o → ⊥) }
+        → IsIdempotentFrom given es (Told before)
+        ↔ ((t : Tree) (o : List ℕ) → IsSecondRunCounterexampleFrom given es (Told before) t o → ⊥) }
     ensures kept { (given : List Path) (es : List Program) (before : ℕ → ℕ → Bool) → IsDeterministicFrom given es (Told before)
-        → AllByRecursion IsProper es → AllByRecursion (KeepsGiven given) es → (first : List ℕ) → IsLinearExtension (length es) (Told before) first
+        → AllByRecursion IsProper es → AllByRecursion (KeepsGiven given) es → (first : List ℕ)
+        → IsLinearExtension (length es) (Told before) first
         → ((t : Tree) → IsSecondRunCounterexampleFrom given es (Told before) t first → ⊥) → IsIdempotentFrom given es (Told before) }
     ensures after_first { (given : List Path) (es : List Program) (before : ℕ → ℕ → Bool) → IsDeterministicFrom given es (Told before)
         → (first : List ℕ) → IsLinearExtension (length es) (Told before) first → (after : ℕ → ℕ → Bool) → GoesFirst (length es) before after

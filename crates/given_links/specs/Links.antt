@@ -27,4 +27,5 @@ pub record AreLinks (links : List GivenLink) : Type 0 where
 -- itself.
 pub data IsReadAs (links : List GivenLink) : Path → Path → Type 0 where
   stays : {p : Path} → IsBehindNone p links → IsReadAs links p p
-  goes : {p q : Path} (l : GivenLink) (more : Path) → IsOneOf l links → p ≡ l.path ++ more → IsReadAs links (l.target ++ more) q → IsReadAs links p q
+  goes : {p q : Path} (l : GivenLink) (more : Path) → IsOneOf l links → p ≡ l.path ++ more
+      → IsReadAs links (l.target ++ more) q → IsReadAs links p q

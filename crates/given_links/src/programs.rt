@@ -29,7 +29,8 @@ fn negation(alloc: Global, links: &[GivenLink], a: &Test) -> Result<Test, NoMemo
 #[cycle(read_test)]
 #[tactic(auto, using(fs_lang::specs::Meaning::test_of_and))]
 fn conjunction(alloc: Global, links: &[GivenLink], a: &Test, b: &Test) -> Result<Test, NoMemory>
-    ensures { IfOk result (λ c. test_of c ≡ And (test_with (read_as links.now) (test_of a.now)) (test_with (read_as links.now) (test_of b.now))) }
+    ensures { IfOk result (λ c. test_of c ≡ And (test_with (read_as links.now) (test_of a.now))
+        (test_with (read_as links.now) (test_of b.now))) }
 {
     let left = boxed_test(alloc, links, a)?;
     Ok(Test::And(left, boxed_test(alloc, links, b)?))
@@ -38,7 +39,8 @@ fn conjunction(alloc: Global, links: &[GivenLink], a: &Test, b: &Test) -> Result
 #[cycle(read_test)]
 #[tactic(auto, using(fs_lang::specs::Meaning::test_of_or))]
 fn disjunction(alloc: Global, links: &[GivenLink], a: &Test, b: &Test) -> Result<Test, NoMemory>
-    ensures { IfOk result (λ c. test_of c ≡ Or (test_with (read_as links.now) (test_of a.now)) (test_with (read_as links.now) (test_of b.now))) }
+    ensures { IfOk result (λ c. test_of c ≡ Or (test_with (read_as links.now) (test_of a.now))
+        (test_with (read_as links.now) (test_of b.now))) }
 {
     let left = boxed_test(alloc, links, a)?;
     Ok(Test::Or(left, boxed_test(alloc, links, b)?))
@@ -101,7 +103,8 @@ fn choice(
     e: &Program,
     f: &Program,
 ) -> Result<Program, NoMemory>
-    ensures { IfOk result (λ read. program_of read ≡ If (test_with (read_as links.now) (test_of a.now)) (program_read_as links.now (program_of e.now)) (program_read_as links.now (program_of f.now))) }
+    ensures { IfOk result (λ read. program_of read ≡ If (test_with (read_as links.now) (test_of a.now))
+        (program_read_as links.now (program_of e.now)) (program_read_as links.now (program_of f.now))) }
 {
     let test = read_test(alloc, links, a)?;
     let left = boxed_program(alloc, links, e)?;

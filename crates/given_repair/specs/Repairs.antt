@@ -35,7 +35,8 @@ pub record PointRightFrom (given : List Path) (es : List Program) (order : Relat
   pub differ : outcome es run tree ≢ outcome es other tree
 
 -- The budget was spent on the question whether the graph that is asked about is deterministic with these arrows.
-pub record IsSpentWithFrom (given : List Path) (es : List Program) (order : Relation) (budget : ℕ) (arrows : List (ℕ × ℕ)) (f : Formula) (steps : List Step) : Type 0 where
+pub record IsSpentWithFrom (given : List Path) (es : List Program) (order : Relation) (budget : ℕ)
+    (arrows : List (ℕ × ℕ)) (f : Formula) (steps : List Step) : Type 0 where
   pub asked : Relation
   pub before : comes asked ≡ asked_order given order
   pub spent : IsSpentWith (asked_programs given es) asked budget arrows f steps

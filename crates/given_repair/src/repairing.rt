@@ -71,8 +71,10 @@ pub fn repair_from(
     ensures paths { IfOk result (λ repaired. HasFewPathsWith terms.now.limits terms.now.given (map program_of programs.now)) }
     ensures weight { IfOk result (λ repaired. IsLightWith terms.now.limits (map program_of programs.now)) }
     ensures refused { IfErr result (λ e. IfRefused e (IsTooLargeWith terms.now.limits terms.now.given (map program_of programs.now))) }
-    ensures only { HasFewPathsWith terms.now.limits terms.now.given (map program_of programs.now) → IsLightWith terms.now.limits (map program_of programs.now) → IfErr result (λ e. IfRefused e (λ r. ⊥)) }
-    ensures repaired { IfOk result (IsRepairedFrom terms.now.given (map program_of programs.now) order.now (budget_of terms.now.conflicts)) }
+    ensures only { HasFewPathsWith terms.now.limits terms.now.given (map program_of programs.now)
+        → IsLightWith terms.now.limits (map program_of programs.now) → IfErr result (λ e. IfRefused e (λ r. ⊥)) }
+    ensures repaired { IfOk result
+        (IsRepairedFrom terms.now.given (map program_of programs.now) order.now (budget_of terms.now.conflicts)) }
 {
     let given = terms.given.as_slice();
     check_size_with(alloc, programs, given, terms.limits)?;

@@ -15,7 +15,8 @@ pub fn given_texts()
     ensures links { (bytes : List ℕ) (g : Said) → IsGivenText bytes g → AreLinks g.links }
     ensures folders { (bytes : List ℕ) (g : Said) → (is : IsGivenText bytes g) → (p : Path)
         → IsTrue (is_among p g.folders) ↔ ((p ≢ []) × IsAboveOne p (named is.gives.stated)) }
-    ensures parents { (bytes : List ℕ) (g : Said) → IsGivenText bytes g → (p : Path) → IsTrue (is_among p g.folders) → (parent p ≡ []) ⊎ IsTrue (is_among (parent p) g.folders) }
+    ensures parents { (bytes : List ℕ) (g : Said) → IsGivenText bytes g → (p : Path) → IsTrue (is_among p g.folders)
+        → (parent p ≡ []) ⊎ IsTrue (is_among (parent p) g.folders) }
     ensures proper { (bytes : List ℕ) (g : Said) → IsGivenText bytes g → AllByRecursion (AllByRecursion IsSegment) g.folders }
     ensures trees { (paths : List Path) (t u : Tree) → HasJust paths t → HasJust paths u → t ≡ u }
 {}

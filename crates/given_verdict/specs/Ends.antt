@@ -33,7 +33,8 @@ pub record HasEndFrom (given : List Path) (es : List Program) (order : Relation)
 -- The formula states the question: it can be true exactly where, from some tree over the domain of the programs and the given paths,
 -- in which the given folders stand, the first extension ends in a tree.
 abbrev pub StatesEndFrom : List Path → List Program → Relation → Formula → Type 0
-StatesEndFrom given es order f = (d : Domain) → IsLayout (asked_programs given es) (layout_of d) → IsSatisfiable f ↔ HasEndFrom given es order d
+StatesEndFrom given es order f = (d : Domain) → IsLayout (asked_programs given es) (layout_of d) → IsSatisfiable f
+    ↔ HasEndFrom given es order d
 
 -- the formula states the question, and has no model
 pub record IsEndProofFrom (given : List Path) (es : List Program) (order : Relation) (f : Formula) : Type 0 where
@@ -48,7 +49,8 @@ IsEndFrom given es order (witness.Ends tree first) = IsRunFrom given es order tr
 
 -- what comes of it
 abbrev pub AnswersEndFrom : List Path → List Program → Relation → ℕ → Answer → Type 0
-AnswersEndFrom given es order budget a = AnswersBy (StatesEndFrom given es order) (SucceedsFrom given es (Told (comes order)) → ⊥) (IsEndFrom given es order) budget a
+AnswersEndFrom given es order budget a = AnswersBy (StatesEndFrom given es order)
+    (SucceedsFrom given es (Told (comes order)) → ⊥) (IsEndFrom given es order) budget a
 
 -- the witness has this tree, with the first extension
 abbrev pub IsFirstRun : Relation → Tree → Witness → Type 0

@@ -19,7 +19,8 @@ use Rattle.given_verdict.specs.Graphs.{asked_programs, asked_order}
 -- From the tree, in which the given folders stand, these allowed orders have different outcomes, and the second is the first with
 -- two free neighbours exchanged.
 abbrev pub IsDifferenceFrom : List Path → List Program → (ℕ → ℕ → Type 0) → Witness → Type 0
-IsDifferenceFrom given es before (witness.Orders tree left right) = IsCounterexampleFrom given es before tree left right × IsExchange before left right
+IsDifferenceFrom given es before (witness.Orders tree left right) = IsCounterexampleFrom given es before tree left right
+    × IsExchange before left right
 IsDifferenceFrom given es before (witness.Twice tree order) = ⊥
 IsDifferenceFrom given es before (witness.Ends tree order) = ⊥
 

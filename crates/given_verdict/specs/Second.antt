@@ -38,7 +38,8 @@ pub record HasChangeFrom (given : List Path) (es : List Program) (order : Relati
 -- The formula states the question: it can be true exactly where, from some tree over the domain of the programs and the given paths,
 -- the first extension ends in a tree that it doesn't leave as it is.
 abbrev pub StatesSecondFrom : List Path → List Program → Relation → Formula → Type 0
-StatesSecondFrom given es order f = (d : Domain) → IsLayout (asked_programs given es) (layout_of d) → IsSatisfiable f ↔ HasChangeFrom given es order d
+StatesSecondFrom given es order f = (d : Domain) → IsLayout (asked_programs given es) (layout_of d) → IsSatisfiable f
+    ↔ HasChangeFrom given es order d
 
 -- the formula states that question, and has no model
 pub record IsSecondProofFrom (given : List Path) (es : List Program) (order : Relation) (f : Formula) : Type 0 where
@@ -58,18 +59,21 @@ IsSecondRunFrom given es order (witness.Ends tree o) = ⊥
 -- The same. Where no folder is given the order is the first extension.
 abbrev pub IsChangeFrom : List Path → List Program → Relation → Witness → Type 0
 IsChangeFrom given es order (witness.Orders tree left right) = ⊥
-IsChangeFrom given es order (witness.Twice tree o) = IsSecondRunCounterexampleFrom given es (Comes order) tree o × (given ≡ [] → IsFirstExtension order o)
+IsChangeFrom given es order (witness.Twice tree o) = IsSecondRunCounterexampleFrom given es (Comes order) tree o
+    × (given ≡ [] → IsFirstExtension order o)
 IsChangeFrom given es order (witness.Ends tree o) = ⊥
 
 -- The budget was spent on a formula that states whether all orders end alike behind a run in the first extension.
-pub record IsSpentBehind (given : List Path) (es : List Program) (order : Relation) (budget : ℕ) (f : Formula) (steps : List Step) : Type 0 where
+pub record IsSpentBehind (given : List Path) (es : List Program) (order : Relation) (budget : ℕ) (f : Formula)
+    (steps : List Step) : Type 0 where
   pub first : List ℕ
   pub is_first : IsFirstExtension order first
   pub spent : IsSpent (after_first given es first) (Told (guard_before order.count (comes order))) budget f steps
 
 -- The budget was spent on one of the two questions.
 abbrev pub IsSecondSpentFrom : List Path → List Program → Relation → ℕ → Formula → List Step → Type 0
-IsSecondSpentFrom given es order budget f steps = (StatesSecondFrom given es order f × UsesUp budget f steps) ⊎ IsSpentBehind given es order budget f steps
+IsSecondSpentFrom given es order budget f steps = (StatesSecondFrom given es order f × UsesUp budget f steps)
+    ⊎ IsSpentBehind given es order budget f steps
 
 -- what comes of the questions
 abbrev pub AnswersAgainFrom : List Path → List Program → Relation → ℕ → Answer → Type 0
@@ -97,7 +101,8 @@ IsChangeTree given es order (witness.Ends tree o) = (first : List ℕ) × IsChan
 
 -- what comes of it
 abbrev pub AnswersSecondFrom : List Path → List Program → Relation → ℕ → Answer → Type 0
-AnswersSecondFrom given es order budget a = AnswersBy (StatesSecondFrom given es order) (NeverChangedFrom given es order) (IsSecondChangeFrom given es order) budget a
+AnswersSecondFrom given es order budget a = AnswersBy (StatesSecondFrom given es order)
+    (NeverChangedFrom given es order) (IsSecondChangeFrom given es order) budget a
 
 -- the same tree, with the first extension
 abbrev pub IsWithFirst : Relation → Witness → Witness → Type 0

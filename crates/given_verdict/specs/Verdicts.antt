@@ -27,7 +27,8 @@ IsSpentOnFrom given es order budget asked.Succeeds f steps = StatesEndFrom given
 abbrev pub IsKnownBeforeFrom : List Path → List Program → Relation → Asked → Type 0
 IsKnownBeforeFrom given es order asked.Deterministic = Unit {0}
 IsKnownBeforeFrom given es order asked.Idempotent = IsDeterministicFrom given es (Told (comes order))
-IsKnownBeforeFrom given es order asked.Succeeds = IsDeterministicFrom given es (Told (comes order)) × IsIdempotentFrom given es (Told (comes order))
+IsKnownBeforeFrom given es order asked.Succeeds = IsDeterministicFrom given es (Told (comes order))
+    × IsIdempotentFrom given es (Told (comes order))
 
 -- what was refuted to answer the first question: nothing where pruning keeps nothing, else one formula
 abbrev pub IsOrderProofFrom : List Path → List Program → Relation → List Refutation → Type 0

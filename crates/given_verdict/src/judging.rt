@@ -182,7 +182,8 @@ pub fn judge_from(
     ensures paths { IfOk result (λ judged. HasFewPathsWith terms.now.limits terms.now.given (map program_of programs.now)) }
     ensures weight { IfOk result (λ judged. IsLightWith terms.now.limits (map program_of programs.now)) }
     ensures refused { IfErr result (λ e. IfRefused e (IsTooLargeWith terms.now.limits terms.now.given (map program_of programs.now))) }
-    ensures only { HasFewPathsWith terms.now.limits terms.now.given (map program_of programs.now) → IsLightWith terms.now.limits (map program_of programs.now) → IfErr result (λ e. IfRefused e (λ r. ⊥)) }
+    ensures only { HasFewPathsWith terms.now.limits terms.now.given (map program_of programs.now)
+        → IsLightWith terms.now.limits (map program_of programs.now) → IfErr result (λ e. IfRefused e (λ r. ⊥)) }
     ensures judged { IfOk result (IsVerdictFrom terms.now.given (map program_of programs.now) order.now (budget_of terms.now.conflicts)) }
 {
     let given = terms.given.as_slice();

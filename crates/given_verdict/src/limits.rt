@@ -58,7 +58,8 @@ pub fn check_size_with(
     ensures weight { IfOk result (λ u. IsLightWith limits (map program_of programs.now)) }
     ensures refused { IfErr result (λ e. IfRefused e (IsTooLargeWith limits given.now (map program_of programs.now))) }
     // Programs within both limits aren't refused.
-    ensures only { HasFewPathsWith limits given.now (map program_of programs.now) → IsLightWith limits (map program_of programs.now) → IfErr result (λ e. IfRefused e (λ r. ⊥)) }
+    ensures only { HasFewPathsWith limits given.now (map program_of programs.now)
+        → IsLightWith limits (map program_of programs.now) → IfErr result (λ e. IfRefused e (λ r. ⊥)) }
 {
     path_counts();
     weights();

@@ -106,7 +106,8 @@ fn ask_runs(
     requires count { length programs.now ≡ order.now.count }
     requires budget { 1 ≤ budget }
     requires given { given.now ≢ [] }
-    ensures { IfOk result (AnswersBy (StatesSecondFrom given.now (map program_of programs.now) order.now) (NeverChangedFrom given.now (map program_of programs.now) order.now)
+    ensures { IfOk result (AnswersBy (StatesSecondFrom given.now (map program_of programs.now) order.now)
+        (NeverChangedFrom given.now (map program_of programs.now) order.now)
         (IsChangeTree given.now (map program_of programs.now) order.now) budget) }
 {
     let question = second_question(alloc, programs, order, given)?;

@@ -160,7 +160,8 @@ pair_line true left right = left ++ (codes " -> " ++ (right ++ codes "\n"))
 -- the lines of those that come after one, among the first n
 abbrev pub pair_lines : Catalog → List ℕ → (ℕ → ℕ → Bool) → ℕ → ℕ → List ℕ
 pair_lines c plain before i zero = []
-pair_lines c plain before i (suc j) = pair_lines c plain before i j ++ pair_line (before i j) (printed_at c (slice_index plain i)) (printed_at c (slice_index plain j))
+pair_lines c plain before i (suc j) = pair_lines c plain before i j ++ pair_line (before i j)
+    (printed_at c (slice_index plain i)) (printed_at c (slice_index plain j))
 
 -- of the first n, each with those that come after it
 abbrev pub order_lines : Catalog → List ℕ → (ℕ → ℕ → Bool) → ℕ → List ℕ

@@ -52,7 +52,8 @@ fn push_row(order: &Order, i: u32, pairs: &mut Seq<(u32, u32)>) -> Result<(), No
 
 fn pairs_of(alloc: Global, order: &Order) -> Result<Seq<(u32, u32)>, NoMemory>
     requires { order.now.count + 1 < 2 ^ 32 }
-    ensures { IfOk result (λ pairs. pairs ≡ pairs_of (guard_before order.now.count (comes order.now)) (order.now.count + 1) (order.now.count + 1)) }
+    ensures { IfOk result (λ pairs. pairs ≡ pairs_of (guard_before order.now.count (comes order.now))
+        (order.now.count + 1) (order.now.count + 1)) }
 {
     let n = order.count() + 1;
     let mut pairs = Seq::new(alloc);

@@ -28,7 +28,8 @@ MayNotCommute es before budget = (FreeCommute es before → ⊥) ⊎ (budget ≢
 
 -- What each answer to the question of order says.
 abbrev pub AnswersOrder : List Program → Relation → ℕ → Answer → Type 0
-AnswersOrder es order budget a = AnswersBy (States es (Told (comes order))) (IsDeterministic es (Told (comes order))) (IsDifference es (Told (comes order))) budget a
+AnswersOrder es order budget a = AnswersBy (States es (Told (comes order))) (IsDeterministic es (Told (comes order)))
+    (IsDifference es (Told (comes order))) budget a
 
 -- the witness has two orders
 abbrev pub HasTwoOrders : Witness → Type 0

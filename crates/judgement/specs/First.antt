@@ -24,7 +24,8 @@ pub record IsProof (es : List Program) (before : ℕ → ℕ → Type 0) (f : Fo
   pub kept : List ℕ
   pub keeps : Keeps es before kept
   pub some : kept ≢ []
-  pub states : (IsKeptDeterministic es before kept × StatesKept es before kept f) ⊎ ((IsKeptDeterministic es before kept → ⊥) × States es before f)
+  pub states : (IsKeptDeterministic es before kept × StatesKept es before kept f)
+      ⊎ ((IsKeptDeterministic es before kept → ⊥) × States es before f)
   pub no_model : HasNoModel f
 
 -- Pruning keeps some programs. The formula states the question of the kept graph, or, where that graph isn't deterministic, of

@@ -35,7 +35,8 @@ pub(crate) fn question(
     ensures laid { IfOk result (λ q. (d : Domain) × IsLayout (map program_of programs.now) (layout_of d)) }
     ensures states { IfOk result (λ q. States (map program_of programs.now) (Told (comes order.now)) q.formula) }
     ensures sure { IfOk result (λ q. HasNoModel q.formula → IsDeterministic (map program_of programs.now) (Told (comes order.now))) }
-    ensures models { IfOk result (λ q. (w : Witness) → CanShow q w → IsDifference (map program_of programs.now) (Told (comes order.now)) w) }
+    ensures models { IfOk result (λ q. (w : Witness) → CanShow q w
+        → IsDifference (map program_of programs.now) (Told (comes order.now)) w) }
 {
     counterexamples();
     domains();

@@ -46,7 +46,9 @@ fn commute(
     requires a { a < length programs.now }
     requires b { b < length programs.now }
     requires budget { 1 ≤ budget }
-    ensures { IfOk result (λ found. IfSome found (λ v. Commutes (slice_index_or (map program_of programs.now) a Id) (slice_index_or (map program_of programs.now) b Id))) }
+    ensures { IfOk result (λ found. IfSome found
+        (λ v. Commutes (slice_index_or (map program_of programs.now) a Id)
+        (slice_index_or (map program_of programs.now) b Id))) }
 {
     let two = two_programs(alloc, programs, a, b)?;
     let order = unordered(alloc, 2)?;

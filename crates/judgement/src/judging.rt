@@ -173,7 +173,8 @@ fn judge_kept(
     requires budget { 1 ≤ budget }
     requires kept { IsKept (map program_of programs.now) order.now kept.now }
     requires some { kept.now.pruned.kept ≢ [] }
-    requires enough { IsDeterministic (map program_of kept.now.programs) (Told (comes kept.now.order)) → IsDeterministic (map program_of programs.now) (Told (comes order.now)) }
+    requires enough { IsDeterministic (map program_of kept.now.programs) (Told (comes kept.now.order))
+        → IsDeterministic (map program_of programs.now) (Told (comes order.now)) }
     ensures { IfOk result (IsJudged (map program_of programs.now) order.now budget) }
 {
     pruning();
@@ -214,7 +215,8 @@ fn judge_pairs(
     requires budget { 1 ≤ budget }
     requires kept { IsKept (map program_of programs.now) order.now kept.now }
     requires some { kept.now.pruned.kept ≢ [] }
-    requires enough { IsDeterministic (map program_of kept.now.programs) (Told (comes kept.now.order)) → IsDeterministic (map program_of programs.now) (Told (comes order.now)) }
+    requires enough { IsDeterministic (map program_of kept.now.programs) (Told (comes kept.now.order))
+        → IsDeterministic (map program_of programs.now) (Told (comes order.now)) }
     ensures { IfOk result (IsJudged (map program_of programs.now) order.now budget) }
 {
     if kept.programs.as_slice().len() <= FEW {
@@ -264,7 +266,8 @@ pub fn judge_order(
     ensures paths { IfOk result (λ first. HasFewPaths (map program_of programs.now)) }
     ensures weight { IfOk result (λ first. IsLight (map program_of programs.now)) }
     ensures refused { IfErr result (λ e. IfRefused e (IsTooLarge (map program_of programs.now))) }
-    ensures only { HasFewPaths (map program_of programs.now) → IsLight (map program_of programs.now) → IfErr result (λ e. IfRefused e (λ r. ⊥)) }
+    ensures only { HasFewPaths (map program_of programs.now) → IsLight (map program_of programs.now)
+        → IfErr result (λ e. IfRefused e (λ r. ⊥)) }
     ensures pruned { IfOk result (λ first. IsPrunedCount (map program_of programs.now) (Told (comes order.now)) (pruned_in first)) }
     // Pruning alone answers exactly where it keeps nothing.
     ensures alone { IfOk result (λ first. IsAlone first ↔ Keeps (map program_of programs.now) (Told (comes order.now)) []) }

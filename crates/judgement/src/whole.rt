@@ -50,7 +50,8 @@ fn ask_contracted(
     requires kept { IsKept (map program_of programs.now) order.now kept.now }
     requires contracted { IsContracted (map program_of programs.now) order.now kept.now.pruned contracted.now }
     requires budget { 1 ≤ budget }
-    ensures { IfOk result (AnswersBy (States (map program_of programs.now) (Told (comes order.now))) (IsDeterministic (map program_of programs.now) (Told (comes order.now)))
+    ensures { IfOk result (AnswersBy (States (map program_of programs.now) (Told (comes order.now)))
+        (IsDeterministic (map program_of programs.now) (Told (comes order.now)))
         (IsDifference (map program_of contracted.now.programs) (Told (comes contracted.now.order))) budget) }
 {
     domains();

@@ -9,7 +9,8 @@ use Rattle.kept_graph.specs.declared.counterexamples.Completed.{Completed}
 use Rattle.kept_graph.specs.Kept.{completion}
 
 -- The completed orders are a counterexample of all programs.
-pub record IsCompleted (es : List Program) (order : Relation) (pruned : Pruned) (t : Tree) (left right : List ℕ) (c : Completed) : Type 0 where
+pub record IsCompleted (es : List Program) (order : Relation) (pruned : Pruned) (t : Tree) (left right : List ℕ)
+    (c : Completed) : Type 0 where
   pub left_is : c.left ≡ completion pruned left
   pub right_is : c.right ≡ completion pruned right
   pub counterexample : IsCounterexample es (Comes order) t c.left c.right

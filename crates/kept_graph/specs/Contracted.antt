@@ -33,7 +33,8 @@ contracted_programs es p = chosen es p.kept ++ as_one es p.first ∷ as_one es p
 pub record IsContracted (es : List Program) (order : Relation) (p : Pruned) (c : Contracted) : Type 0 where
   pub programs : map program_of c.programs ≡ contracted_programs es p
   pub count : c.order.count ≡ length p.kept + 2
-  pub before : (a b : ℕ) → a < length p.kept + 2 → b < length p.kept + 2 → Comes c.order a b ↔ Around (length p.kept) (between (Comes order) p.kept) a b
+  pub before : (a b : ℕ) → a < length p.kept + 2 → b < length p.kept + 2 → Comes c.order a b
+      ↔ Around (length p.kept) (between (Comes order) p.kept) a b
 
 -- the programs that a node of the contracted graph stands for, by their numbers
 abbrev pub members : Pruned → ℕ → List ℕ

@@ -49,7 +49,8 @@ pub(crate) fn complete(alloc: Global, pruned: &Pruned, order: &[u32]) -> Result<
 /// orders that do.
 pub(crate) fn completions()
     ensures allowed { (es : List Program) → AllByRecursion IsProper es → (order : Relation) (kept : K) → IsKept es order kept
-        → (o : List ℕ) → IsLinearExtension kept.order.count (Comes kept.order) o → IsLinearExtension (length es) (Comes order) (completion kept.pruned o) }
+        → (o : List ℕ) → IsLinearExtension kept.order.count (Comes kept.order) o
+        → IsLinearExtension (length es) (Comes order) (completion kept.pruned o) }
     ensures exchange { (es : List Program) (order : Relation) (kept : K) → IsKept es order kept
         → (o p : List ℕ) → IsLinearExtension kept.order.count (Comes kept.order) o → IsExchange (Comes kept.order) o p
         → IsExchange (Comes order) (completion kept.pruned o) (completion kept.pruned p) }

@@ -143,15 +143,18 @@ pub fn expand(alloc: Global, pruned: &Pruned, order: &[u32]) -> Result<Seq<u32>,
 /// differ by one exchange of free neighbours where those do. Each allowed order of the whole ends as one that is so made.
 pub fn contractions()
     ensures deterministic { (es : List E) → AllByRecursion IsProper es → (order : Relation) (p : P) → IsPruned es (Told (comes order)) p
-        → (c : C) → IsContracted es order p c → IsDeterministic (map program_of c.programs) (Told (comes c.order)) → IsDeterministic es (Told (comes order)) }
+        → (c : C) → IsContracted es order p c → IsDeterministic (map program_of c.programs) (Told (comes c.order))
+        → IsDeterministic es (Told (comes order)) }
     ensures counterexample { (es : List E) → AllByRecursion IsProper es → (order : Relation) (p : P) → IsPruned es (Told (comes order)) p
         → (c : C) → IsContracted es order p c → (t : Tree) (o q : List ℕ) → IsCounterexample es (Comes order) t o q
         → (left : List ℕ) × (right : List ℕ) × IsCounterexample (map program_of c.programs) (Comes c.order) t left right }
     ensures expanded { (es : List E) → AllByRecursion IsProper es → (order : Relation) (p : P) → IsPruned es (Told (comes order)) p
-        → (c : C) → IsContracted es order p c → (t : Tree) (o q : List ℕ) → IsCounterexample (map program_of c.programs) (Comes c.order) t o q
+        → (c : C) → IsContracted es order p c → (t : Tree) (o q : List ℕ)
+        → IsCounterexample (map program_of c.programs) (Comes c.order) t o q
         → IsCounterexample es (Comes order) t (expanded p o) (expanded p q) }
     ensures exchange { (es : List E) (order : Relation) (p : P) → IsPruned es (Told (comes order)) p
-        → (c : C) → IsContracted es order p c → (o q : List ℕ) → IsLinearExtension c.order.count (Comes c.order) o → IsExchange (Comes c.order) o q
+        → (c : C) → IsContracted es order p c → (o q : List ℕ) → IsLinearExtension c.order.count (Comes c.order) o
+        → IsExchange (Comes c.order) o q
         → IsExchange (Comes order) (expanded p o) (expanded p q) }
 {
     pruning();

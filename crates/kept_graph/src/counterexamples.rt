@@ -57,11 +57,15 @@ pub fn refute(
     requires kept { IsKept (map program_of programs.now) order.now kept.now }
     requires left { IsLinearExtension kept.now.order.count (Comes kept.now.order) left.now }
     requires right { IsLinearExtension kept.now.order.count (Comes kept.now.order) right.now }
-    ensures found { IfOk result (λ found. IfSome found (IsCompleted (map program_of programs.now) order.now kept.now.pruned tree.now left.now right.now)) }
+    ensures found { IfOk result
+        (λ found. IfSome found (IsCompleted
+        (map program_of programs.now) order.now kept.now.pruned tree.now left.now right.now)) }
     ensures exchange { IsExchange (Comes kept.now.order) left.now right.now
         → IfOk result (λ found. IfSome found (λ c. IsExchange (Comes order.now) c.left c.right)) }
     // Nothing is answered exactly where they end alike.
-    ensures agree { IfOk result (λ found. MatchOption found (AgreeCompleted (map program_of programs.now) kept.now.pruned tree.now left.now right.now) (λ c. Unit)) }
+    ensures agree { IfOk result
+        (λ found. MatchOption found
+        (AgreeCompleted (map program_of programs.now) kept.now.pruned tree.now left.now right.now) (λ c. Unit)) }
 {
     completions();
     are_proper(programs);

@@ -81,7 +81,9 @@ pub fn keep(alloc: Global, programs: &[Program], order: &Order) -> Result<Kept, 
 /// these.
 pub fn kept_graphs()
     ensures counterexamples { (es : List E) (order : Relation) (kept : K) → IsKept es order kept → (t : Tree) (o p : List ℕ)
-        → IsCounterexample (map program_of kept.programs) (Comes kept.order) t o p ↔ IsCounterexample (chosen es kept.pruned.kept) (between (Comes order) kept.pruned.kept) t o p }
+        → IsCounterexample (map program_of kept.programs) (Comes kept.order) t o p
+        ↔ IsCounterexample (chosen es kept.pruned.kept) (between (Comes order) kept.pruned.kept) t o p }
     ensures deterministic { (es : List E) (order : Relation) (kept : K) → IsKept es order kept
-        → IsDeterministic (map program_of kept.programs) (Told (comes kept.order)) ↔ IsDeterministic (chosen es kept.pruned.kept) (between (Told (comes order)) kept.pruned.kept) }
+        → IsDeterministic (map program_of kept.programs) (Told (comes kept.order))
+        ↔ IsDeterministic (chosen es kept.pruned.kept) (between (Told (comes order)) kept.pruned.kept) }
 {}

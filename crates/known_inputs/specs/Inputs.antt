@@ -215,17 +215,26 @@ pub record IsKnown (i : Inputs) (k : Known) : Type 0 where
 pub data FirstUnread (i : Inputs) (r : Refusal) : Type 0 where
   facts : HasNoFacts (bytes_of role.Facts i) r → FirstUnread i r
   listing : (x : Value) → AreFactsOf (bytes_of role.Facts i) x → HasNoListing (bytes_of role.Packages i) r → FirstUnread i r
-  class_data : (x : Value) (packages : Packages) → AreFactsOf (bytes_of role.Facts i) x → IsListingOf (bytes_of role.Packages i) packages → HasNoData (bytes_of role.Data i) r → FirstUnread i r
-  tree : (x : Value) (packages : Packages) (levels : List Level) → AreTold i x packages levels → HasNoTree (bytes_of role.Tree i) r → FirstUnread i r
-  compiled : (x : Value) (packages : Packages) (levels : List Level) (t : Option Tree) → AreTold i x packages levels → IsTreeOf (bytes_of role.Tree i) t
+  class_data : (x : Value) (packages : Packages) → AreFactsOf (bytes_of role.Facts i) x
+      → IsListingOf (bytes_of role.Packages i) packages → HasNoData (bytes_of role.Data i) r → FirstUnread i r
+  tree : (x : Value) (packages : Packages) (levels : List Level) → AreTold i x packages levels
+      → HasNoTree (bytes_of role.Tree i) r → FirstUnread i r
+  compiled : (x : Value) (packages : Packages) (levels : List Level) (t : Option Tree) → AreTold i x packages levels
+      → IsTreeOf (bytes_of role.Tree i) t
       → HasNoCompiled (bytes_of role.Compiled i) r → FirstUnread i r
-  assumed : (x : Value) (packages : Packages) (levels : List Level) (t : Option Tree) (c : Option Compiled) → AreTold i x packages levels → IsTreeOf (bytes_of role.Tree i) t
+  assumed : (x : Value) (packages : Packages) (levels : List Level) (t : Option Tree) (c : Option Compiled)
+      → AreTold i x packages levels → IsTreeOf (bytes_of role.Tree i) t
       → IsCompiledOf (bytes_of role.Compiled i) c → HasNoAssumptions (bytes_of role.Assume i) r → FirstUnread i r
-  edited : (x : Value) (packages : Packages) (levels : List Level) (t : Option Tree) (c : Option Compiled) (rows : List Assumption) → AreTold i x packages levels
+  edited : (x : Value) (packages : Packages) (levels : List Level) (t : Option Tree) (c : Option Compiled)
+      (rows : List Assumption) → AreTold i x packages levels
       → AreNamed i t c rows → WantsEdited (λ p. p) i.wanted (edited_in c rows) r → FirstUnread i r
-  given : (x : Value) (packages : Packages) (levels : List Level) (t : Option Tree) (c : Option Compiled) (rows : List Assumption) → AreTold i x packages levels
+  given : (x : Value) (packages : Packages) (levels : List Level) (t : Option Tree) (c : Option Compiled)
+      (rows : List Assumption) → AreTold i x packages levels
       → AreNamed i t c rows → HasNoGiven (bytes_of role.Given i) r → FirstUnread i r
-  edited_as_read : (x : Value) (packages : Packages) (levels : List Level) (t : Option Tree) (c : Option Compiled) (rows : List Assumption) (g : Given)
-      → AreTold i x packages levels → AreNamed i t c rows → IsGivenOf (bytes_of role.Given i) g → WantsEdited (read_as g.links) i.wanted (edited_in c rows) r → FirstUnread i r
-  lacks : (x : Value) (packages : Packages) (levels : List Level) (t : Option Tree) (c : Option Compiled) (rows : List Assumption) (g : Given)
+  edited_as_read : (x : Value) (packages : Packages) (levels : List Level) (t : Option Tree) (c : Option Compiled)
+      (rows : List Assumption) (g : Given)
+      → AreTold i x packages levels → AreNamed i t c rows → IsGivenOf (bytes_of role.Given i) g
+      → WantsEdited (read_as g.links) i.wanted (edited_in c rows) r → FirstUnread i r
+  lacks : (x : Value) (packages : Packages) (levels : List Level) (t : Option Tree) (c : Option Compiled)
+      (rows : List Assumption) (g : Given)
       → AreTold i x packages levels → AreNamed i t c rows → IsGivenOf (bytes_of role.Given i) g → LacksGiven t g.folders r → FirstUnread i r

@@ -62,7 +62,8 @@ fn is_edited_at(
     r: &CompiledResource,
 ) -> Result<bool, NoMemory>
     requires { ArePlaced premises.now }
-    ensures { IfOk result (λ b. b ≡ is_among path.now (map (read_as links.now) (edits_at premises.now.resources.now premises.now.assumptions.now place r.now))) }
+    ensures { IfOk result (λ b. b ≡ is_among path.now
+        (map (read_as links.now) (edits_at premises.now.resources.now premises.now.assumptions.now place r.now))) }
 {
     if r.is_container {
         return Ok(false);
@@ -80,7 +81,9 @@ fn is_edited(
     premises: &Premises<'_>,
 ) -> Result<bool, NoMemory>
     requires { ArePlaced premises.now }
-    ensures { IfOk result (λ b. b ≡ is_among path.now (map (read_as links.now) (edits_from premises.now.resources.now premises.now.assumptions.now 0 premises.now.resources.now))) }
+    ensures { IfOk result (λ b. b ≡ is_among path.now
+        (map (read_as links.now)
+        (edits_from premises.now.resources.now premises.now.assumptions.now 0 premises.now.resources.now))) }
 {
     let mut place = 0;
     for r in premises.resources {

@@ -200,7 +200,9 @@ fn given_beside(alloc: Global, inputs: &Inputs, told: &Told, named: &Named) -> R
     requires named { AreNamed inputs.now named.now.tree named.now.compiled named.now.assumed }
     ensures given { IfOk result (IsGivenOf (bytes_of role.Given inputs.now)) }
     ensures apart { OnOk result (wants_edited (λ p. p) inputs.now.wanted (edited_in named.now.compiled named.now.assumed) ≡ false) }
-    ensures apart_as_read { IfOk result (λ g. wants_edited (read_as g.links) inputs.now.wanted (edited_in named.now.compiled named.now.assumed) ≡ false) }
+    ensures apart_as_read { IfOk result
+        (λ g. wants_edited (read_as g.links) inputs.now.wanted (edited_in named.now.compiled named.now.assumed)
+        ≡ false) }
     ensures refused { IfErr result (λ e. IfRefused e (FirstUnread inputs.now)) }
 {
     path_readings();

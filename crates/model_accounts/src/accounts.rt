@@ -238,7 +238,8 @@ fn home_made(alloc: Global, m: &Path, home: &Path) -> Result<Program, NoMemory>
 
 /// Adds the mark of a user whose home is made with it.
 fn push_home(alloc: Global, m: &Path, home: &Path, steps: &mut Seq<Program>) -> Result<(), NoMemory>
-    ensures { OnOk result (map program_of steps.new ≡ map program_of steps.old ++ (dirs m.now ++ If (IsFile m.now) Id (sequence (dirs home.now ++ (dir home.now ∷ Creat m.now [] ∷ []))) ∷ [])) }
+    ensures { OnOk result (map program_of steps.new ≡ map program_of steps.old ++
+        (dirs m.now ++ If (IsFile m.now) Id (sequence (dirs home.now ++ (dir home.now ∷ Creat m.now [] ∷ []))) ∷ [])) }
 {
     push_dirs(alloc, m, steps)?;
     let test = is_file(alloc, m)?;

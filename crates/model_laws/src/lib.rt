@@ -21,7 +21,8 @@ pub fn words_leave()
     ensures dir_elsewhere { (p : Path) (t u : Tree) (q : Path) → run (dir p) t ≡ Some u → q ≢ p → map.get u q ≡ map.get t q }
     // After `put` there is the file with this content, and nothing changes elsewhere.
     ensures put { (p : Path) (content : List ℕ) (t u : Tree) → run (put p content) t ≡ Some u → map.get u p ≡ Some (File content) }
-    ensures put_elsewhere { (p : Path) (content : List ℕ) (t u : Tree) (q : Path) → run (put p content) t ≡ Some u → q ≢ p → map.get u q ≡ map.get t q }
+    ensures put_elsewhere { (p : Path) (content : List ℕ) (t u : Tree) (q : Path) → run (put p content) t ≡ Some u
+        → q ≢ p → map.get u q ≡ map.get t q }
     // After `drop_file` there is no file.
     ensures drop { (p : Path) (t u : Tree) → run (drop_file p) t ≡ Some u → IsFileAt u p → ⊥ }
     // `need` ends in a tree, which it leaves as it is, exactly where the file is there.
@@ -35,7 +36,8 @@ pub fn words_leave()
 /// A sequence runs its steps, and the steps of two lists one list after the other. After `mark` the file is there.
 pub fn sequences_join()
     ensures steps { (es : List Program) (t : Tree) → run (sequence es) t ≡ run_all (steps es) t }
-    ensures joined { (es fs : List Program) (t : Tree) → run_all (steps (es ++ fs)) t ≡ and_then (run_all (steps es) t) (run_all (steps fs)) }
+    ensures joined { (es fs : List Program) (t : Tree)
+        → run_all (steps (es ++ fs)) t ≡ and_then (run_all (steps es) t) (run_all (steps fs)) }
     ensures mark { (m : Path) (t u : Tree) → run (sequence (mark m)) t ≡ Some u → IsFileAt u m }
 {
     changes();
@@ -45,7 +47,8 @@ pub fn sequences_join()
 /// Names with one mark under a word are the same; and so are names of users with one mark, and the users.
 pub fn places_tell_names()
     ensures named { (word a b : List ℕ) (p : Path) → mark_named word a ≡ Ok p → mark_named word b ≡ Ok p → a ≡ b }
-    ensures of_users { (word u v a b : List ℕ) (p : Path) → mark_of_user word u a ≡ Ok p → mark_of_user word v b ≡ Ok p → (u ≡ v) × (a ≡ b) }
+    ensures of_users { (word u v a b : List ℕ) (p : Path) → mark_of_user word u a ≡ Ok p → mark_of_user word v b ≡ Ok p
+        → (u ≡ v) × (a ≡ b) }
 {
     segments_of_names();
 }

@@ -88,7 +88,8 @@ fn files_written(alloc: Global, name: &str, p: &Package, m: &Path) -> Result<Pro
 
 /// Removes the files of a package and the folders that have become empty, and then its mark.
 fn files_removed(alloc: Global, p: &Package, m: &Path) -> Result<Program, NoMemory>
-    ensures { IfOk result (λ e. program_of e ≡ sequence (map (λ f. drop_file f.path) p.now.files ++ (map sweep (deepest_first p.now.folders) ++ Rm m.now ∷ []))) }
+    ensures { IfOk result (λ e. program_of e ≡ sequence
+        (map (λ f. drop_file f.path) p.now.files ++ (map sweep (deepest_first p.now.folders) ++ Rm m.now ∷ []))) }
 {
     let mut steps = Seq::new(alloc);
     push_drops(alloc, p.files.as_slice(), &mut steps)?;

@@ -259,7 +259,8 @@ new_model barred seen listing r = model_of listing r >>= unless_barred barred >>
 -- the programs in order
 abbrev pub programs_behind : List Path → List Path → Packages → List Resource → Result (List Program) Refusal
 programs_behind barred seen listing [] = Ok []
-programs_behind barred seen listing (r ∷ rs) = programs_with (or_refused r (new_model barred seen listing r)) (λ place. programs_behind barred (seen ++ place ∷ []) listing rs)
+programs_behind barred seen listing (r ∷ rs) = programs_with (or_refused r (new_model barred seen listing r))
+    (λ place. programs_behind barred (seen ++ place ∷ []) listing rs)
 
 -- the programs of resources, of which no file may have a barred path; or the first refusal
 abbrev pub programs : List Path → Packages → List Resource → Result (List Program) Refusal

@@ -82,7 +82,8 @@ pub fn is_taken(alloc: Global, p: &Path) -> Result<Test, NoMemory>
 
 /// Puts a link with this target, whether a file or a link was there or not.
 pub fn linked(alloc: Global, p: &Path, target: &str) -> Result<Program, NoMemory>
-    ensures { IfOk result (λ e. program_of e ≡ If (is_taken p.now) (sequence (Rm p.now ∷ Link p.now target.now ∷ [])) (Link p.now target.now)) }
+    ensures { IfOk result (λ e. program_of e ≡ If (is_taken p.now) (sequence (Rm p.now ∷ Link p.now target.now ∷ []))
+        (Link p.now target.now)) }
 {
     let gone = removal(alloc, p)?;
     let made = link(alloc, p, target)?;

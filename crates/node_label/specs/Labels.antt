@@ -45,4 +45,5 @@ IsNodeLine site line =
 pub record IsNodeLineOf (text node_name line : List ℕ) : Type 0 where
   pub manifest : Manifest
   pub parsed : IsParsed text manifest
-  pub is : (data_levels : List Level) (facts : List Pair) (site : Site) → site_of manifest data_levels facts node_name ≡ Ok site → IsNodeLine site line
+  pub is : (data_levels : List Level) (facts : List Pair) (site : Site)
+      → site_of manifest data_levels facts node_name ≡ Ok site → IsNodeLine site line

@@ -34,4 +34,6 @@ part_of false j order = drop j order
 -- program.
 abbrev pub kept_from : Bool → ℕ → ℕ → ℕ → List ℕ → List ℕ
 kept_from ahead blank j k [] = []
-kept_from ahead blank j k (i ∷ order) = (if nat_lt j (k + 1) then (if ahead then blank else i) else (if ahead then i else blank)) ∷ kept_from ahead blank j (k + 1) order
+kept_from ahead blank j k (i ∷ order) =
+    (if nat_lt j (k + 1) then (if ahead then blank else i) else (if ahead then i else blank)) ∷ kept_from ahead blank j
+    (k + 1) order

@@ -31,7 +31,10 @@ fn and_taken(
     requires a { a < order.now.count }
     requires i { i < order.now.count }
     requires all { all.0 < length sym.old }
-    ensures gives { IfOk result (IsBit (circuit_meanings sym.new) (λ v. (circuit_meanings sym.old).bit v all && (not (comes order.now a i) || bit_at (circuit_meanings sym.old) v taken.now a))) }
+    ensures gives { IfOk result
+        (IsBit (circuit_meanings sym.new)
+        (λ v. (circuit_meanings sym.old).bit v all &&
+        (not (comes order.now a i) || bit_at (circuit_meanings sym.old) v taken.now a))) }
     ensures grows { Grows (circuit_meanings sym.old) (circuit_meanings sym.new) }
 {
     if order.before(a, i) {
@@ -46,7 +49,9 @@ fn all_taken(sym: &mut Sym, order: &Order, taken: &Seq<Wire>, i: u32) -> Result<
     requires taken { AreOwnBits (circuit_meanings sym.old) taken.now }
     requires long { length taken.now ≡ order.now.count }
     requires i { i < order.now.count }
-    ensures gives { IfOk result (IsBit (circuit_meanings sym.new) (λ v. all_taken (comes order.now) (bit_at (circuit_meanings sym.old) v taken.now) i order.now.count)) }
+    ensures gives { IfOk result
+        (IsBit (circuit_meanings sym.new)
+        (λ v. all_taken (comes order.now) (bit_at (circuit_meanings sym.old) v taken.now) i order.now.count)) }
     ensures grows { Grows (circuit_meanings sym.old) (circuit_meanings sym.new) }
 {
     let mut all = sym.constant(true)?;
@@ -68,7 +73,10 @@ fn may_stand(
     requires long { length taken.now ≡ order.now.count }
     requires code { AreWires sym.old code.now }
     requires i { i < order.now.count }
-    ensures gives { IfOk result (IsBit (circuit_meanings sym.new) (λ v. if i == node sym.old v code.now then not (bit_at (circuit_meanings sym.old) v taken.now i) && all_taken (comes order.now) (bit_at (circuit_meanings sym.old) v taken.now) i order.now.count else true)) }
+    ensures gives { IfOk result
+        (IsBit (circuit_meanings sym.new)
+        (λ v. if i == node sym.old v code.now then not (bit_at (circuit_meanings sym.old) v taken.now i) && all_taken
+        (comes order.now) (bit_at (circuit_meanings sym.old) v taken.now) i order.now.count else true)) }
     ensures grows { Grows (circuit_meanings sym.old) (circuit_meanings sym.new) }
 {
     let told = all_taken(sym, order, taken, i)?;
@@ -89,7 +97,10 @@ fn all_stand(
     requires taken { AreOwnBits (circuit_meanings sym.old) taken.now }
     requires long { length taken.now ≡ order.now.count }
     requires code { AreWires sym.old code.now }
-    ensures gives { IfOk result (IsBit (circuit_meanings sym.new) (λ v. all_stand (comes order.now) order.now.count (bit_at (circuit_meanings sym.old) v taken.now) (node sym.old v code.now) order.now.count)) }
+    ensures gives { IfOk result
+        (IsBit (circuit_meanings sym.new)
+        (λ v. all_stand (comes order.now) order.now.count (bit_at (circuit_meanings sym.old) v taken.now)
+        (node sym.old v code.now) order.now.count)) }
     ensures grows { Grows (circuit_meanings sym.old) (circuit_meanings sym.new) }
 {
     let mut all = sym.constant(true)?;
@@ -110,7 +121,10 @@ fn may_come(
     requires taken { AreOwnBits (circuit_meanings sym.old) taken.now }
     requires long { length taken.now ≡ order.now.count }
     requires code { AreWires sym.old code.now }
-    ensures gives { IfOk result (IsBit (circuit_meanings sym.new) (λ v. is_ready (comes order.now) order.now.count (bit_at (circuit_meanings sym.old) v taken.now) (node sym.old v code.now))) }
+    ensures gives { IfOk result
+        (IsBit (circuit_meanings sym.new)
+        (λ v. is_ready (comes order.now) order.now.count (bit_at (circuit_meanings sym.old) v taken.now)
+        (node sym.old v code.now))) }
     ensures grows { Grows (circuit_meanings sym.old) (circuit_meanings sym.new) }
 {
     let all = all_stand(sym, order, taken, code)?;
@@ -127,7 +141,10 @@ fn with_taken(
 ) -> Result<Seq<Wire>, NoMemory>
     requires taken { AreOwnBits (circuit_meanings sym.old) taken.now }
     requires code { AreWires sym.old code.now }
-    ensures gives { IfOk result (BitsSoFar (circuit_meanings sym.new) (λ v. with_taken (bit_at (circuit_meanings sym.old) v taken.now) (node sym.old v code.now)) (length taken.now)) }
+    ensures gives { IfOk result
+        (BitsSoFar (circuit_meanings sym.new)
+        (λ v. with_taken (bit_at (circuit_meanings sym.old) v taken.now) (node sym.old v code.now))
+        (length taken.now)) }
     ensures grows { Grows (circuit_meanings sym.old) (circuit_meanings sym.new) }
 {
     let mut more = Seq::new(alloc);
@@ -160,7 +177,9 @@ pub fn in_order(
     codes: &[Seq<Wire>],
 ) -> Result<Wire, NoMemory>
     requires codes { AreRows sym.old codes.now }
-    ensures gives { IfOk result (IsBit (circuit_meanings sym.new) (λ v. is_in_order (comes order.now) order.now.count (nodes sym.old v codes.now))) }
+    ensures gives { IfOk result
+        (IsBit (circuit_meanings sym.new)
+        (λ v. is_in_order (comes order.now) order.now.count (nodes sym.old v codes.now))) }
     ensures grows { Grows (circuit_meanings sym.old) (circuit_meanings sym.new) }
 {
     let mut taken = none_taken(alloc, sym, order.count())?;

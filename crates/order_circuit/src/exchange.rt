@@ -36,7 +36,9 @@ fn exchanged_behind(
     requires rest { AreRows sym.old rest.now }
     requires place { AreWires sym.old place.now }
     ensures rows { IfOk result (AreRows sym.new) }
-    ensures value { IfOk result (λ codes. (v : Valuation) → nodes sym.new v codes ≡ exchanged (node sym.old v place.now) (node sym.old v first.now ∷ nodes sym.old v rest.now)) }
+    ensures value { IfOk result (λ codes. (v : Valuation)
+        → nodes sym.new v codes ≡ exchanged (node sym.old v place.now)
+        (node sym.old v first.now ∷ nodes sym.old v rest.now)) }
     ensures grows { Grows (circuit_meanings sym.old) (circuit_meanings sym.new) }
 {
     let mut held = copy(sym, first)?;
@@ -61,7 +63,8 @@ pub fn exchanged_codes(
     requires codes { AreRows sym.old codes.now }
     requires place { AreWires sym.old place.now }
     ensures rows { IfOk result (AreRows sym.new) }
-    ensures value { IfOk result (λ other. (v : Valuation) → nodes sym.new v other ≡ exchanged (node sym.old v place.now) (nodes sym.old v codes.now)) }
+    ensures value { IfOk result (λ other. (v : Valuation)
+        → nodes sym.new v other ≡ exchanged (node sym.old v place.now) (nodes sym.old v codes.now)) }
     ensures grows { Grows (circuit_meanings sym.old) (circuit_meanings sym.new) }
 {
     match codes.split_first() {

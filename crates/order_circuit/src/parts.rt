@@ -28,7 +28,8 @@ pub fn code_at(sym: &mut Sym, codes: &[Seq<Wire>], place: &Seq<Wire>) -> Result<
     requires codes { AreRows sym.old codes.now }
     requires place { AreWires sym.old place.now }
     ensures wires { IfOk result (AreWires sym.new) }
-    ensures value { IfOk result (λ code. (v : Valuation) → node sym.new v code ≡ slice_index_or (nodes sym.old v codes.now) (node sym.old v place.now) 0) }
+    ensures value { IfOk result (λ code. (v : Valuation)
+        → node sym.new v code ≡ slice_index_or (nodes sym.old v codes.now) (node sym.old v place.now) 0) }
     ensures grows { Grows (circuit_meanings sym.old) (circuit_meanings sym.new) }
 {
     let mut chosen = sym.code(0)?;
@@ -50,7 +51,9 @@ fn kept_code(
     requires code { AreWires sym.old code.now }
     requires reached { reached.now.0 < length sym.old }
     ensures wires { IfOk result (AreWires sym.new) }
-    ensures value { IfOk result (λ kept. (v : Valuation) → node sym.new v kept ≡ (if wire_value sym.old v reached.now.0 then (if ahead then blank else node sym.old v code.now) else (if ahead then node sym.old v code.now else blank))) }
+    ensures value { IfOk result (λ kept. (v : Valuation)
+        → node sym.new v kept ≡ (if wire_value sym.old v reached.now.0 then
+        (if ahead then blank else node sym.old v code.now) else (if ahead then node sym.old v code.now else blank))) }
     ensures grows { Grows (circuit_meanings sym.old) (circuit_meanings sym.new) }
 {
     let none = sym.code(blank)?;
@@ -73,7 +76,8 @@ fn kept_codes(
     requires codes { AreRows sym.old codes.now }
     requires place { AreWires sym.old place.now }
     ensures rows { IfOk result (AreRows sym.new) }
-    ensures value { IfOk result (λ kept. (v : Valuation) → nodes sym.new v kept ≡ kept_from ahead blank (node sym.old v place.now) 0 (nodes sym.old v codes.now)) }
+    ensures value { IfOk result (λ kept. (v : Valuation)
+        → nodes sym.new v kept ≡ kept_from ahead blank (node sym.old v place.now) 0 (nodes sym.old v codes.now)) }
     ensures grows { Grows (circuit_meanings sym.old) (circuit_meanings sym.new) }
 {
     let mut kept = Seq::new(alloc);
@@ -103,7 +107,11 @@ pub fn run_part(
     requires covers { CoversSteps domain.now.table (programs_in programs.now) }
     ensures cells { IfOk result (AreCells (circuit_meanings sym.new)) }
     ensures places { IfOk result (λ made. length made.present ≡ length domain.now.table.paths) }
-    ensures stands { IfOk result (λ made. (v : Valuation) (o : Outcome) → StandsFor domain.now.table (state_of (circuit_meanings sym.old) v start.now) o → StandsFor domain.now.table (state_of (circuit_meanings sym.new) v made) (and_then o (outcome (map program_of programs.now) (part_of ahead (node sym.old v place.now) (nodes sym.old v codes.now))))) }
+    ensures stands { IfOk result (λ made. (v : Valuation) (o : Outcome)
+        → StandsFor domain.now.table (state_of (circuit_meanings sym.old) v start.now) o
+        → StandsFor domain.now.table (state_of (circuit_meanings sym.new) v made)
+        (and_then o (outcome (map program_of programs.now)
+        (part_of ahead (node sym.old v place.now) (nodes sym.old v codes.now))))) }
     ensures grows { Grows (circuit_meanings sym.old) (circuit_meanings sym.new) }
 {
     let kept = kept_codes(alloc, sym, codes, place, programs.len() as u64, ahead)?;

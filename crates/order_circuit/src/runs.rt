@@ -34,7 +34,8 @@ pub fn copy_cells(
     requires places { length cells.now.present ≡ length domain.now.table.paths }
     ensures cells { IfOk result (AreCells (circuit_meanings sym.new)) }
     ensures places { IfOk result (λ copy. length copy.present ≡ length domain.now.table.paths) }
-    ensures told { IfOk result (λ copy. (v : Valuation) → state_of (circuit_meanings sym.new) v copy ≡ state_of (circuit_meanings sym.old) v cells.now) }
+    ensures told { IfOk result (λ copy. (v : Valuation)
+        → state_of (circuit_meanings sym.new) v copy ≡ state_of (circuit_meanings sym.old) v cells.now) }
     ensures grows { Grows (circuit_meanings sym.old) (circuit_meanings sym.new) }
 {
     choose(alloc, sym, domain, cells.error, cells, cells)
@@ -58,8 +59,12 @@ fn run_one(
     requires covers { Covers domain.now.table (program_of program.now) }
     ensures cells { IfOk result (AreCells (circuit_meanings sym.new)) }
     ensures places { IfOk result (λ made. length made.present ≡ length domain.now.table.paths) }
-    ensures ran { IfOk result (λ made. (v : Valuation) (o : Outcome) → wire_value sym.old v when.0 ≡ true → StandsFor domain.now.table (state_of (circuit_meanings sym.old) v cells.now) o → StandsFor domain.now.table (state_of (circuit_meanings sym.new) v made) (and_then o (run (program_of program.now)))) }
-    ensures stayed { IfOk result (λ made. (v : Valuation) → wire_value sym.old v when.0 ≡ false → state_of (circuit_meanings sym.new) v made ≡ state_of (circuit_meanings sym.old) v other.now) }
+    ensures ran { IfOk result (λ made. (v : Valuation) (o : Outcome) → wire_value sym.old v when.0 ≡ true
+        → StandsFor domain.now.table (state_of (circuit_meanings sym.old) v cells.now) o
+        → StandsFor domain.now.table (state_of (circuit_meanings sym.new) v made)
+        (and_then o (run (program_of program.now)))) }
+    ensures stayed { IfOk result (λ made. (v : Valuation) → wire_value sym.old v when.0 ≡ false
+        → state_of (circuit_meanings sym.new) v made ≡ state_of (circuit_meanings sym.old) v other.now) }
     ensures grows { Grows (circuit_meanings sym.old) (circuit_meanings sym.new) }
 {
     let mut made = copy_cells(alloc, sym, domain, cells)?;
@@ -82,7 +87,10 @@ pub fn run_place(
     requires covers { CoversSteps domain.now.table (programs_in programs.now) }
     ensures cells { IfOk result (AreCells (circuit_meanings sym.new)) }
     ensures places { IfOk result (λ made. length made.present ≡ length domain.now.table.paths) }
-    ensures stands { IfOk result (λ made. (v : Valuation) (o : Outcome) → StandsFor domain.now.table (state_of (circuit_meanings sym.old) v cells.now) o → StandsFor domain.now.table (state_of (circuit_meanings sym.new) v made) (and_then o (run (slice_index_or (map program_of programs.now) (node sym.old v code.now) Id)))) }
+    ensures stands { IfOk result (λ made. (v : Valuation) (o : Outcome)
+        → StandsFor domain.now.table (state_of (circuit_meanings sym.old) v cells.now) o
+        → StandsFor domain.now.table (state_of (circuit_meanings sym.new) v made)
+        (and_then o (run (slice_index_or (map program_of programs.now) (node sym.old v code.now) Id)))) }
     ensures grows { Grows (circuit_meanings sym.old) (circuit_meanings sym.new) }
 {
     let mut made = copy_cells(alloc, sym, domain, cells)?;
@@ -108,7 +116,10 @@ pub(crate) fn run_in_order(
     requires covers { CoversSteps domain.now.table (programs_in programs.now) }
     ensures cells { IfOk result (AreCells (circuit_meanings sym.new)) }
     ensures places { IfOk result (λ made. length made.present ≡ length domain.now.table.paths) }
-    ensures stands { IfOk result (λ made. (v : Valuation) (o : Outcome) → StandsFor domain.now.table (state_of (circuit_meanings sym.old) v start.now) o → StandsFor domain.now.table (state_of (circuit_meanings sym.new) v made) (and_then o (outcome (map program_of programs.now) (nodes sym.old v codes.now)))) }
+    ensures stands { IfOk result (λ made. (v : Valuation) (o : Outcome)
+        → StandsFor domain.now.table (state_of (circuit_meanings sym.old) v start.now) o
+        → StandsFor domain.now.table (state_of (circuit_meanings sym.new) v made)
+        (and_then o (outcome (map program_of programs.now) (nodes sym.old v codes.now)))) }
     ensures grows { Grows (circuit_meanings sym.old) (circuit_meanings sym.new) }
 {
     let mut cells = copy_cells(alloc, sym, domain, start)?;

@@ -42,12 +42,14 @@ AreSmallBy values (asks.Ends order) = Unit {0}
 -- The witness has this tree, and beside it the order that the codes tell by these values, and the same with the nodes at the
 -- place and the next exchanged; or the order that was asked about.
 abbrev pub IsReadAs : (ℕ → Bool) → Asks → Tree → Witness → Type 0
-IsReadAs values (asks.Orders codes place) tree w = w ≡ witness.Orders tree (map (number values) codes) (exchanged (number values place) (map (number values) codes))
+IsReadAs values (asks.Orders codes place) tree w = w ≡ witness.Orders tree (map (number values) codes)
+    (exchanged (number values place) (map (number values) codes))
 IsReadAs values (asks.Twice order) tree w = w ≡ witness.Twice tree order
 IsReadAs values (asks.Ends order) tree w = w ≡ witness.Ends tree order
 
 -- the inputs tell a tree, and numbers that are small
-pub record IsReadable {B : Type 0} (gates : List Gate) (table : Listed) (cells : Cells B Wire (List Wire)) (a : Asks) (v : Valuation) : Type 0 where
+pub record IsReadable {B : Type 0} (gates : List Gate) (table : Listed) (cells : Cells B Wire (List Wire)) (a : Asks)
+    (v : Valuation) : Type 0 where
   pub tree : Tree
   pub is_tree : IsTree tree
   pub stands : Stands table (state_of (circuit_meanings gates) v cells) tree
@@ -63,7 +65,8 @@ pub record IsAsked {B : Type 0} (q : Asked B) : Type 0 where
 
 -- The witness is what the inputs tell: the tree for which the cells stand, with what is asked.
 abbrev pub Shows : {B : Type 0} → Asked B → Valuation → Witness → Type 0
-Shows q v w = (tree : Tree) × Stands q.table (state_of (circuit_meanings q.gates) v q.cells) tree × IsReadAs (wire_value q.gates v) q.asks tree w
+Shows q v w = (tree : Tree) × Stands q.table (state_of (circuit_meanings q.gates) v q.cells) tree
+    × IsReadAs (wire_value q.gates v) q.asks tree w
 
 -- some model of the formula tells this witness
 abbrev pub CanShow : {B : Type 0} → Asked B → Witness → Type 0

@@ -20,7 +20,8 @@ pub record AreTrees {B : Type 0} (gates : List Gate) (d : Domain) (cells : Cells
   pub are_cells : AreCells (circuit_meanings gates) cells
   pub places : length cells.present ≡ length d.table.paths
   pub owned : well.0 < length gates
-  pub exact : (v : Valuation) → (wire_value gates v well.0 ≡ true) ↔ ((t : Tree) × IsTreeOver d t × Stands d.table (state_of (circuit_meanings gates) v cells) t)
+  pub exact : (v : Valuation) → (wire_value gates v well.0 ≡ true)
+      ↔ ((t : Tree) × IsTreeOver d t × Stands d.table (state_of (circuit_meanings gates) v cells) t)
 
 -- Together with the codes the cells can stand for each tree, each list of nodes and each place.
 pub record IsAsking (gates : List Gate) (d : Domain) (n : ℕ) (a : Asking) : Type 0 where
@@ -29,4 +30,5 @@ pub record IsAsking (gates : List Gate) (d : Domain) (n : ℕ) (a : Asking) : Ty
   pub codes : AreRows gates a.codes
   pub place : AreWires gates a.place
   pub every : (t : Tree) → IsTreeOver d t → (order : List ℕ) → length order ≡ n → AllByRecursion (λ k. k < n) order → (j : ℕ) → j < n
-      → (v : Valuation) × Stands d.table (state_of (circuit_meanings gates) v a.cells) t × (nodes gates v a.codes ≡ order) × (node gates v a.place ≡ j)
+      → (v : Valuation) × Stands d.table (state_of (circuit_meanings gates) v a.cells) t
+      × (nodes gates v a.codes ≡ order) × (node gates v a.place ≡ j)

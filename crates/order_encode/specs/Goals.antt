@@ -16,7 +16,8 @@ use Rattle.sym_run.specs.Wires.{circuit_meanings}
 use Rattle.sym_run.specs.Trees.{IsTreeOver}
 
 -- the inputs tell a tree over the domain of which this holds
-pub record TellsTree {B : Type 0} (d : Domain) (gates : List Gate) (cells : Cells B Wire (List Wire)) (holds : Tree → Type 0) (v : Valuation) : Type 0 where
+pub record TellsTree {B : Type 0} (d : Domain) (gates : List Gate) (cells : Cells B Wire (List Wire))
+    (holds : Tree → Type 0) (v : Valuation) : Type 0 where
   pub tree : Tree
   pub over : IsTreeOver d tree
   pub stands : Stands d.table (state_of (circuit_meanings gates) v cells) tree

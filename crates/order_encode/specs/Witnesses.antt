@@ -18,7 +18,8 @@ IsOverDomain d tree = IsOver (domain_of (layout_of d)) tree
 
 -- Two allowed orders, the second the first with two free neighbours exchanged, have different outcomes from a tree over the
 -- domain.
-pub record AreDifferentNeighbours (programs : List Program) (before : ℕ → ℕ → Type 0) (d : Domain) (tree : Tree) (left right : List ℕ) : Type 0 where
+pub record AreDifferentNeighbours (programs : List Program) (before : ℕ → ℕ → Type 0) (d : Domain) (tree : Tree)
+    (left right : List ℕ) : Type 0 where
   pub over : IsOverDomain d tree
   pub exchange : IsExchange before left right
   pub counterexample : IsCounterexample programs before tree left right

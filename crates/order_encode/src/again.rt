@@ -36,7 +36,9 @@ fn ends(
     requires places { length start.now.present ≡ length domain.now.table.paths }
     requires covers { CoversSteps domain.now.table (programs_in programs.now) }
     ensures wire { IfOk result (λ w. w.0 < length sym.new) }
-    ensures exact { IfOk result (λ w. (v : Valuation) (t : Tree) → Stands domain.now.table (state_of (circuit_meanings sym.old) v start.now) t → (wire_value sym.new v w.0 ≡ true) ↔ Ends (map program_of programs.now) order.now t) }
+    ensures exact { IfOk result (λ w. (v : Valuation) (t : Tree)
+        → Stands domain.now.table (state_of (circuit_meanings sym.old) v start.now) t
+        → (wire_value sym.new v w.0 ≡ true) ↔ Ends (map program_of programs.now) order.now t) }
     ensures grows { Grows (circuit_meanings sym.old) (circuit_meanings sym.new) }
 {
     let made = run_known(alloc, sym, domain, programs, order, start)?;
@@ -57,7 +59,9 @@ fn changes(
     requires places { length start.now.present ≡ length domain.now.table.paths }
     requires covers { CoversSteps domain.now.table (programs_in programs.now) }
     ensures wire { IfOk result (λ w. w.0 < length sym.new) }
-    ensures exact { IfOk result (λ w. (v : Valuation) (t : Tree) → Stands domain.now.table (state_of (circuit_meanings sym.old) v start.now) t → (wire_value sym.new v w.0 ≡ true) ↔ ChangesTwice (map program_of programs.now) order.now t) }
+    ensures exact { IfOk result (λ w. (v : Valuation) (t : Tree)
+        → Stands domain.now.table (state_of (circuit_meanings sym.old) v start.now) t
+        → (wire_value sym.new v w.0 ≡ true) ↔ ChangesTwice (map program_of programs.now) order.now t) }
     ensures grows { Grows (circuit_meanings sym.old) (circuit_meanings sym.new) }
 {
     let first = run_known(alloc, sym, domain, programs, order, start)?;
@@ -82,7 +86,8 @@ pub(crate) fn goal_of_end(
     requires trees { AreTrees sym.old domain.now start.now well }
     requires covers { CoversSteps domain.now.table (programs_in programs.now) }
     ensures wire { IfOk result (λ w. w.0 < length sym.new) }
-    ensures exact { IfOk result (λ w. (v : Valuation) → (wire_value sym.new v w.0 ≡ true) ↔ TellsTree domain.now sym.old start.now (Ends (map program_of programs.now) order.now) v) }
+    ensures exact { IfOk result (λ w. (v : Valuation) → (wire_value sym.new v w.0 ≡ true)
+        ↔ TellsTree domain.now sym.old start.now (Ends (map program_of programs.now) order.now) v) }
     ensures grows { Grows (circuit_meanings sym.old) (circuit_meanings sym.new) }
 {
     let end = ends(alloc, sym, domain, programs, order, start)?;
@@ -103,7 +108,8 @@ pub(crate) fn goal_of_change(
     requires trees { AreTrees sym.old domain.now start.now well }
     requires covers { CoversSteps domain.now.table (programs_in programs.now) }
     ensures wire { IfOk result (λ w. w.0 < length sym.new) }
-    ensures exact { IfOk result (λ w. (v : Valuation) → (wire_value sym.new v w.0 ≡ true) ↔ TellsTree domain.now sym.old start.now (ChangesTwice (map program_of programs.now) order.now) v) }
+    ensures exact { IfOk result (λ w. (v : Valuation) → (wire_value sym.new v w.0 ≡ true)
+        ↔ TellsTree domain.now sym.old start.now (ChangesTwice (map program_of programs.now) order.now) v) }
     ensures grows { Grows (circuit_meanings sym.old) (circuit_meanings sym.new) }
 {
     let change = changes(alloc, sym, domain, programs, order, start)?;

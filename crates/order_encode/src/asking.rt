@@ -32,7 +32,8 @@ pub(crate) fn tree_inputs(
     domain: &Domain,
 ) -> Result<(Sym, Cells<Sym>, Wire), NoMemory>
     ensures trees { IfOk result (λ r. AreTrees r.0 domain.now r.1 r.2) }
-    ensures every { IfOk result (λ r. (t : Tree) → IsTreeOver domain.now t → (v : Valuation) × Stands domain.now.table (state_of (circuit_meanings r.0) v r.1) t) }
+    ensures every { IfOk result (λ r. (t : Tree) → IsTreeOver domain.now t → (v : Valuation)
+        × Stands domain.now.table (state_of (circuit_meanings r.0) v r.1) t) }
 {
     let mut sym = Sym::new(alloc)?;
     let (cells, well) = any_tree(alloc, &mut sym, domain)?;

@@ -53,8 +53,12 @@ fn run_on(
     requires covers { CoversSteps domain.now.table (programs_in programs.now) }
     ensures cells { IfOk result (AreCells (circuit_meanings sym.new)) }
     ensures places { IfOk result (λ made. length made.present ≡ length domain.now.table.paths) }
-    ensures stands { IfOk result (λ made. (v : Valuation) (o : Outcome) → StandsFor domain.now.table (state_of (circuit_meanings sym.old) v fork.now) o
-        → StandsFor domain.now.table (state_of (circuit_meanings sym.new) v made) (and_then o (outcome (map program_of programs.now) (node sym.old v first.now ∷ node sym.old v second.now ∷ part_of false (node sym.old v place.now) (nodes sym.old v rest.now))))) }
+    ensures stands { IfOk result (λ made. (v : Valuation) (o : Outcome)
+        → StandsFor domain.now.table (state_of (circuit_meanings sym.old) v fork.now) o
+        → StandsFor domain.now.table (state_of (circuit_meanings sym.new) v made)
+        (and_then o (outcome (map program_of programs.now)
+        (node sym.old v first.now ∷ node sym.old v second.now ∷ part_of false (node sym.old v place.now)
+        (nodes sym.old v rest.now))))) }
     ensures grows { Grows (circuit_meanings sym.old) (circuit_meanings sym.new) }
 {
     let one = run_place(alloc, sym, domain, programs, first, fork)?;
@@ -86,9 +90,12 @@ fn end_apart_from(
     requires places { length fork.now.present ≡ length domain.now.table.paths }
     requires covers { CoversSteps domain.now.table (programs_in programs.now) }
     ensures wire { IfOk result (λ w. w.0 < length sym.new) }
-    ensures exact { IfOk result (λ w. (v : Valuation) (o : Outcome) → StandsFor domain.now.table (state_of (circuit_meanings sym.old) v fork.now) o
+    ensures exact { IfOk result (λ w. (v : Valuation) (o : Outcome)
+        → StandsFor domain.now.table (state_of (circuit_meanings sym.old) v fork.now) o
         → AreFreeNodes order.now (node sym.old v first.now) (node sym.old v second.now)
-        → (wire_value sym.new v w.0 ≡ true) ↔ EndApartThen (map program_of programs.now) o (node sym.old v first.now) (node sym.old v second.now) (part_of false (node sym.old v place.now) (nodes sym.old v rest.now))) }
+        → (wire_value sym.new v w.0 ≡ true)
+        ↔ EndApartThen (map program_of programs.now) o (node sym.old v first.now) (node sym.old v second.now)
+        (part_of false (node sym.old v place.now) (nodes sym.old v rest.now))) }
     ensures grows { Grows (circuit_meanings sym.old) (circuit_meanings sym.new) }
 {
     let near = some_pair_differs(
@@ -126,9 +133,13 @@ pub(crate) fn end_apart(
     requires places { length start.now.present ≡ length domain.now.table.paths }
     requires covers { CoversSteps domain.now.table (programs_in programs.now) }
     ensures wire { IfOk result (λ w. w.0 < length sym.new) }
-    ensures exact { IfOk result (λ w. (v : Valuation) (t : Tree) → Stands domain.now.table (state_of (circuit_meanings sym.old) v start.now) t
-        → AreAllowed order.now (node sym.old v place.now) (nodes sym.old v codes.now) (exchanged (node sym.old v place.now) (nodes sym.old v codes.now))
-        → (wire_value sym.new v w.0 ≡ true) ↔ (outcome (map program_of programs.now) (nodes sym.old v codes.now) t ≢ outcome (map program_of programs.now) (exchanged (node sym.old v place.now) (nodes sym.old v codes.now)) t)) }
+    ensures exact { IfOk result (λ w. (v : Valuation) (t : Tree)
+        → Stands domain.now.table (state_of (circuit_meanings sym.old) v start.now) t
+        → AreAllowed order.now (node sym.old v place.now) (nodes sym.old v codes.now)
+        (exchanged (node sym.old v place.now) (nodes sym.old v codes.now))
+        → (wire_value sym.new v w.0 ≡ true)
+        ↔ (outcome (map program_of programs.now) (nodes sym.old v codes.now) t ≢ outcome (map program_of programs.now)
+        (exchanged (node sym.old v place.now) (nodes sym.old v codes.now)) t)) }
     ensures grows { Grows (circuit_meanings sym.old) (circuit_meanings sym.new) }
 {
     allowed_orders();

@@ -37,7 +37,8 @@ fn tells_both(
     requires first { AreWires sym.old first.now }
     requires second { AreWires sym.old second.now }
     ensures wire { IfOk result (λ w. w.0 < length sym.new) }
-    ensures value { IfOk result (λ w. (v : Valuation) → wire_value sym.new v w.0 ≡ ((i == node sym.old v first.now) && (k == node sym.old v second.now))) }
+    ensures value { IfOk result (λ w. (v : Valuation)
+        → wire_value sym.new v w.0 ≡ ((i == node sym.old v first.now) && (k == node sym.old v second.now))) }
     ensures grows { Grows (circuit_meanings sym.old) (circuit_meanings sym.new) }
 {
     let one = tells(sym, u64::from(i), first)?;
@@ -56,7 +57,8 @@ fn tells_pair(
     requires first { AreWires sym.old first.now }
     requires second { AreWires sym.old second.now }
     ensures wire { IfOk result (λ w. w.0 < length sym.new) }
-    ensures value { IfOk result (λ w. (v : Valuation) → wire_value sym.new v w.0 ≡ are_these i k (node sym.old v first.now) (node sym.old v second.now)) }
+    ensures value { IfOk result (λ w. (v : Valuation)
+        → wire_value sym.new v w.0 ≡ are_these i k (node sym.old v first.now) (node sym.old v second.now)) }
     ensures grows { Grows (circuit_meanings sym.old) (circuit_meanings sym.new) }
 {
     let forward = tells_both(sym, i, first, k, second)?;
@@ -80,7 +82,8 @@ pub(crate) fn differ(
     requires places { length fork.now.present ≡ length domain.now.table.paths }
     requires covers { CoversSteps domain.now.table (programs_in programs.now) }
     ensures wire { IfOk result (λ w. w.0 < length sym.new) }
-    ensures exact { IfOk result (λ w. (v : Valuation) (o : Outcome) → StandsFor domain.now.table (state_of (circuit_meanings sym.old) v fork.now) o
+    ensures exact { IfOk result (λ w. (v : Valuation) (o : Outcome)
+        → StandsFor domain.now.table (state_of (circuit_meanings sym.old) v fork.now) o
         → (wire_value sym.new v w.0 ≡ true) ↔ EndApartAt (map program_of programs.now) o i k) }
     ensures grows { Grows (circuit_meanings sym.old) (circuit_meanings sym.new) }
 {
@@ -110,8 +113,11 @@ fn pair_differs(
     requires places { length fork.now.present ≡ length domain.now.table.paths }
     requires covers { CoversSteps domain.now.table (programs_in programs.now) }
     ensures wire { IfOk result (λ w. w.0 < length sym.new) }
-    ensures exact { IfOk result (λ w. (v : Valuation) (o : Outcome) → StandsFor domain.now.table (state_of (circuit_meanings sym.old) v fork.now) o
-        → (wire_value sym.new v w.0 ≡ true) ↔ ((are_these i k (node sym.old v first.now) (node sym.old v second.now) ≡ true) × EndApartAt (map program_of programs.now) o i k)) }
+    ensures exact { IfOk result (λ w. (v : Valuation) (o : Outcome)
+        → StandsFor domain.now.table (state_of (circuit_meanings sym.old) v fork.now) o
+        → (wire_value sym.new v w.0 ≡ true)
+        ↔ ((are_these i k (node sym.old v first.now) (node sym.old v second.now) ≡ true)
+        × EndApartAt (map program_of programs.now) o i k)) }
     ensures grows { Grows (circuit_meanings sym.old) (circuit_meanings sym.new) }
 {
     let told = tells_pair(sym, i, k, first, second)?;
@@ -146,8 +152,10 @@ fn with_pair(
     requires any { any.0 < length sym.old }
     ensures wire { IfOk result (λ w. w.0 < length sym.new) }
     ensures stays { IfOk result (λ w. (v : Valuation) → wire_value sym.old v any.0 ≡ true → wire_value sym.new v w.0 ≡ true) }
-    ensures found { IfOk result (λ w. (v : Valuation) (o : Outcome) → StandsFor domain.now.table (state_of (circuit_meanings sym.old) v fork.now) o
-        → IsFree (Comes order.now) i k → are_these i k (node sym.old v first.now) (node sym.old v second.now) ≡ true → EndApartAt (map program_of programs.now) o i k → wire_value sym.new v w.0 ≡ true) }
+    ensures found { IfOk result (λ w. (v : Valuation) (o : Outcome)
+        → StandsFor domain.now.table (state_of (circuit_meanings sym.old) v fork.now) o
+        → IsFree (Comes order.now) i k → are_these i k (node sym.old v first.now) (node sym.old v second.now) ≡ true
+        → EndApartAt (map program_of programs.now) o i k → wire_value sym.new v w.0 ≡ true) }
     ensures grows { Grows (circuit_meanings sym.old) (circuit_meanings sym.new) }
 {
     let ahead = order.before(i, k);
@@ -187,8 +195,11 @@ fn with_row(
     requires so_far { so_far.0 < length sym.old }
     ensures wire { IfOk result (λ w. w.0 < length sym.new) }
     ensures stays { IfOk result (λ w. (v : Valuation) → wire_value sym.old v so_far.0 ≡ true → wire_value sym.new v w.0 ≡ true) }
-    ensures found { IfOk result (λ w. (v : Valuation) (o : Outcome) → StandsFor domain.now.table (state_of (circuit_meanings sym.old) v fork.now) o
-        → (k : ℕ) → i < k → k < order.now.count → IsFree (Comes order.now) i k → are_these i k (node sym.old v first.now) (node sym.old v second.now) ≡ true → EndApartAt (map program_of programs.now) o i k → wire_value sym.new v w.0 ≡ true) }
+    ensures found { IfOk result (λ w. (v : Valuation) (o : Outcome)
+        → StandsFor domain.now.table (state_of (circuit_meanings sym.old) v fork.now) o
+        → (k : ℕ) → i < k → k < order.now.count → IsFree (Comes order.now) i k
+        → are_these i k (node sym.old v first.now) (node sym.old v second.now) ≡ true
+        → EndApartAt (map program_of programs.now) o i k → wire_value sym.new v w.0 ≡ true) }
     ensures grows { Grows (circuit_meanings sym.old) (circuit_meanings sym.new) }
 {
     let n = order.count();
@@ -221,8 +232,11 @@ pub(crate) fn some_pair_differs(
     requires places { length fork.now.present ≡ length domain.now.table.paths }
     requires covers { CoversSteps domain.now.table (programs_in programs.now) }
     ensures wire { IfOk result (λ w. w.0 < length sym.new) }
-    ensures found { IfOk result (λ w. (v : Valuation) (o : Outcome) → StandsFor domain.now.table (state_of (circuit_meanings sym.old) v fork.now) o
-        → AreFreeNodes order.now (node sym.old v first.now) (node sym.old v second.now) → EndApartAt (map program_of programs.now) o (node sym.old v first.now) (node sym.old v second.now) → wire_value sym.new v w.0 ≡ true) }
+    ensures found { IfOk result (λ w. (v : Valuation) (o : Outcome)
+        → StandsFor domain.now.table (state_of (circuit_meanings sym.old) v fork.now) o
+        → AreFreeNodes order.now (node sym.old v first.now) (node sym.old v second.now)
+        → EndApartAt (map program_of programs.now) o (node sym.old v first.now) (node sym.old v second.now)
+        → wire_value sym.new v w.0 ≡ true) }
     ensures grows { Grows (circuit_meanings sym.old) (circuit_meanings sym.new) }
 {
     let mut any = sym.constant(false)?;

@@ -36,7 +36,8 @@ fn allowed(
     requires right { AreRows sym.old right.now }
     requires place { AreWires sym.old place.now }
     ensures wire { IfOk result (λ w. w.0 < length sym.new) }
-    ensures exact { IfOk result (λ w. (v : Valuation) → (wire_value sym.new v w.0 ≡ true) ↔ AreAllowed order.now (node sym.old v place.now) (nodes sym.old v left.now) (nodes sym.old v right.now)) }
+    ensures exact { IfOk result (λ w. (v : Valuation) → (wire_value sym.new v w.0 ≡ true)
+        ↔ AreAllowed order.now (node sym.old v place.now) (nodes sym.old v left.now) (nodes sym.old v right.now)) }
     ensures grows { Grows (circuit_meanings sym.old) (circuit_meanings sym.new) }
 {
     let first = in_order(alloc, sym, order, left)?;
@@ -63,7 +64,9 @@ pub(crate) fn goal(
     requires count { length programs.now ≡ order.now.count }
     ensures wire { IfOk result (λ w. w.0 < length sym.new) }
     ensures exact { IfOk result (λ w. (v : Valuation) → (wire_value sym.new v w.0 ≡ true) ↔ TellsTree domain.now sym.old asking.now.cells
-        (EndApart (map program_of programs.now) order.now (node sym.old v asking.now.place) (nodes sym.old v asking.now.codes) (exchanged (node sym.old v asking.now.place) (nodes sym.old v asking.now.codes))) v) }
+        (EndApart (map program_of programs.now) order.now (node sym.old v asking.now.place)
+        (nodes sym.old v asking.now.codes)
+        (exchanged (node sym.old v asking.now.place) (nodes sym.old v asking.now.codes))) v) }
     ensures grows { Grows (circuit_meanings sym.old) (circuit_meanings sym.new) }
 {
     let left = asking.codes.as_slice();

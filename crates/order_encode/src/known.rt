@@ -32,7 +32,10 @@ fn run_steps(
     requires cells { AreCells (circuit_meanings sym.old) cells.old }
     requires places { length cells.old.present ≡ length domain.now.table.paths }
     requires covers { CoversSteps domain.now.table (programs_in programs.now) }
-    ensures stands { OnOk result ((v : Valuation) (o : Outcome) → StandsFor domain.now.table (state_of (circuit_meanings sym.old) v cells.old) o → StandsFor domain.now.table (state_of (circuit_meanings sym.new) v cells.new) (and_then o (outcome (map program_of programs.now) order.now))) }
+    ensures stands { OnOk result ((v : Valuation) (o : Outcome)
+        → StandsFor domain.now.table (state_of (circuit_meanings sym.old) v cells.old) o
+        → StandsFor domain.now.table (state_of (circuit_meanings sym.new) v cells.new)
+        (and_then o (outcome (map program_of programs.now) order.now))) }
     ensures cells { OnOk result (AreCells (circuit_meanings sym.new) cells.new) }
     ensures places { OnOk result (length cells.new.present ≡ length domain.now.table.paths) }
     ensures grows { Grows (circuit_meanings sym.old) (circuit_meanings sym.new) }
@@ -58,7 +61,10 @@ pub(crate) fn run_known(
     requires covers { CoversSteps domain.now.table (programs_in programs.now) }
     ensures cells { IfOk result (AreCells (circuit_meanings sym.new)) }
     ensures places { IfOk result (λ made. length made.present ≡ length domain.now.table.paths) }
-    ensures stands { IfOk result (λ made. (v : Valuation) (o : Outcome) → StandsFor domain.now.table (state_of (circuit_meanings sym.old) v start.now) o → StandsFor domain.now.table (state_of (circuit_meanings sym.new) v made) (and_then o (outcome (map program_of programs.now) order.now))) }
+    ensures stands { IfOk result (λ made. (v : Valuation) (o : Outcome)
+        → StandsFor domain.now.table (state_of (circuit_meanings sym.old) v start.now) o
+        → StandsFor domain.now.table (state_of (circuit_meanings sym.new) v made)
+        (and_then o (outcome (map program_of programs.now) order.now))) }
     ensures grows { Grows (circuit_meanings sym.old) (circuit_meanings sym.new) }
 {
     let mut cells = copy_cells(alloc, sym, domain, start)?;

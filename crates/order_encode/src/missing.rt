@@ -48,7 +48,9 @@ fn misses(
     requires places { length start.now.present ≡ length domain.now.table.paths }
     requires covers { CoversSteps domain.now.table (programs_in programs.now) }
     ensures wire { IfOk result (λ w. w.0 < length sym.new) }
-    ensures exact { IfOk result (λ w. (v : Valuation) (t : Tree) → Stands domain.now.table (state_of (circuit_meanings sym.old) v start.now) t → (wire_value sym.new v w.0 ≡ true) ↔ EndsMissing (map program_of programs.now) order.now wanted.now t) }
+    ensures exact { IfOk result (λ w. (v : Valuation) (t : Tree)
+        → Stands domain.now.table (state_of (circuit_meanings sym.old) v start.now) t
+        → (wire_value sym.new v w.0 ≡ true) ↔ EndsMissing (map program_of programs.now) order.now wanted.now t) }
     ensures grows { Grows (circuit_meanings sym.old) (circuit_meanings sym.new) }
 {
     domain.table.is_table();
@@ -75,7 +77,8 @@ fn goal_of_missing(
     requires trees { AreTrees sym.old domain.now start.now well }
     requires covers { CoversSteps domain.now.table (programs_in programs.now) }
     ensures wire { IfOk result (λ w. w.0 < length sym.new) }
-    ensures exact { IfOk result (λ w. (v : Valuation) → (wire_value sym.new v w.0 ≡ true) ↔ TellsTree domain.now sym.old start.now (EndsMissing (map program_of programs.now) order.now wanted.now) v) }
+    ensures exact { IfOk result (λ w. (v : Valuation) → (wire_value sym.new v w.0 ≡ true)
+        ↔ TellsTree domain.now sym.old start.now (EndsMissing (map program_of programs.now) order.now wanted.now) v) }
     ensures grows { Grows (circuit_meanings sym.old) (circuit_meanings sym.new) }
 {
     let missed = misses(alloc, sym, domain, programs, order, wanted, start)?;
@@ -93,7 +96,8 @@ pub fn ask_missing(
     requires nodes { length programs.now ≡ order.now.count }
     requires covers { CoversSteps domain.now.table (programs_in programs.now) }
     ensures exact { IfOk result (λ q. IsSatisfiable q.formula ↔ HasMissing (map program_of programs.now) order.now domain.now wanted.now) }
-    ensures models { IfOk result (λ q. (w : Witness) → CanShow q w → ShowsMissing (map program_of programs.now) order.now domain.now wanted.now w) }
+    ensures models { IfOk result (λ q. (w : Witness) → CanShow q w
+        → ShowsMissing (map program_of programs.now) order.now domain.now wanted.now w) }
 {
     states();
     allowed_orders();

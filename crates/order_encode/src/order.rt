@@ -51,8 +51,10 @@ pub fn ask_order(
 ) -> Result<Question, NoMemory>
     requires nodes { length programs.now ≡ order.now.count }
     requires covers { CoversSteps domain.now.table (programs_in programs.now) }
-    ensures exact { IfOk result (λ q. IsSatisfiable q.formula ↔ HaveDifferentOutcomes (map program_of programs.now) (Comes order.now) domain.now) }
-    ensures models { IfOk result (λ q. (w : Witness) → CanShow q w → ShowsDifference (map program_of programs.now) (Comes order.now) domain.now w) }
+    ensures exact { IfOk result (λ q. IsSatisfiable q.formula
+        ↔ HaveDifferentOutcomes (map program_of programs.now) (Comes order.now) domain.now) }
+    ensures models { IfOk result (λ q. (w : Witness) → CanShow q w
+        → ShowsDifference (map program_of programs.now) (Comes order.now) domain.now w) }
 {
     states();
     allowed_orders();

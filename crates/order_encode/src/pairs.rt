@@ -56,8 +56,11 @@ fn or_apart(
     requires covers { CoversSteps domain.now.table (programs_in programs.now) }
     requires any { any.0 < length sym.old }
     ensures wire { IfOk result (λ w. w.0 < length sym.new) }
-    ensures exact { IfOk result (λ w. (v : Valuation) (o : Outcome) → StandsFor domain.now.table (state_of (circuit_meanings sym.old) v start.now) o
-        → (wire_value sym.new v w.0 ≡ true) ↔ ((wire_value sym.old v any.0 ≡ true) ⊎ (IsFree (Comes order.now) i k × EndApartAt (map program_of programs.now) o i k))) }
+    ensures exact { IfOk result (λ w. (v : Valuation) (o : Outcome)
+        → StandsFor domain.now.table (state_of (circuit_meanings sym.old) v start.now) o
+        → (wire_value sym.new v w.0 ≡ true)
+        ↔ ((wire_value sym.old v any.0 ≡ true)
+        ⊎ (IsFree (Comes order.now) i k × EndApartAt (map program_of programs.now) o i k))) }
     ensures grows { Grows (circuit_meanings sym.old) (circuit_meanings sym.new) }
 {
     if !order.free(i, k) {
@@ -88,8 +91,11 @@ fn or_row_apart(
     requires covers { CoversSteps domain.now.table (programs_in programs.now) }
     requires so_far { so_far.0 < length sym.old }
     ensures wire { IfOk result (λ w. w.0 < length sym.new) }
-    ensures exact { IfOk result (λ w. (v : Valuation) (o : Outcome) → StandsFor domain.now.table (state_of (circuit_meanings sym.old) v start.now) o
-        → (wire_value sym.new v w.0 ≡ true) ↔ ((wire_value sym.old v so_far.0 ≡ true) ⊎ ApartBehind (map program_of programs.now) order.now o i order.now.count)) }
+    ensures exact { IfOk result (λ w. (v : Valuation) (o : Outcome)
+        → StandsFor domain.now.table (state_of (circuit_meanings sym.old) v start.now) o
+        → (wire_value sym.new v w.0 ≡ true)
+        ↔ ((wire_value sym.old v so_far.0 ≡ true)
+        ⊎ ApartBehind (map program_of programs.now) order.now o i order.now.count)) }
     ensures grows { Grows (circuit_meanings sym.old) (circuit_meanings sym.new) }
 {
     let n = order.count();
@@ -117,7 +123,8 @@ fn some_apart(
     requires places { length start.now.present ≡ length domain.now.table.paths }
     requires covers { CoversSteps domain.now.table (programs_in programs.now) }
     ensures wire { IfOk result (λ w. w.0 < length sym.new) }
-    ensures exact { IfOk result (λ w. (v : Valuation) (o : Outcome) → StandsFor domain.now.table (state_of (circuit_meanings sym.old) v start.now) o
+    ensures exact { IfOk result (λ w. (v : Valuation) (o : Outcome)
+        → StandsFor domain.now.table (state_of (circuit_meanings sym.old) v start.now) o
         → (wire_value sym.new v w.0 ≡ true) ↔ ApartBelow (map program_of programs.now) order.now o order.now.count) }
     ensures grows { Grows (circuit_meanings sym.old) (circuit_meanings sym.new) }
 {
@@ -143,7 +150,9 @@ fn goal_of_pairs(
     requires trees { AreTrees sym.old domain.now start.now well }
     requires covers { CoversSteps domain.now.table (programs_in programs.now) }
     ensures wire { IfOk result (λ w. w.0 < length sym.new) }
-    ensures exact { IfOk result (λ w. (v : Valuation) → (wire_value sym.new v w.0 ≡ true) ↔ TellsTree domain.now sym.old start.now (λ t. ApartBelow (map program_of programs.now) order.now (Some t) order.now.count) v) }
+    ensures exact { IfOk result (λ w. (v : Valuation) → (wire_value sym.new v w.0 ≡ true)
+        ↔ TellsTree domain.now sym.old start.now
+        (λ t. ApartBelow (map program_of programs.now) order.now (Some t) order.now.count) v) }
     ensures grows { Grows (circuit_meanings sym.old) (circuit_meanings sym.new) }
 {
     let apart = some_apart(alloc, sym, domain, programs, order, start, firsts)?;

@@ -48,7 +48,8 @@ fn parts(
     requires left { CoversSteps domain.now.table (programs_in left.now) }
     requires right { CoversSteps domain.now.table (programs_in right.now) }
     ensures wire { IfOk result (λ w. w.0 < length sym.new) }
-    ensures exact { IfOk result (λ w. (v : Valuation) (t : Tree) → Stands domain.now.table (state_of (circuit_meanings sym.old) v start.now) t
+    ensures exact { IfOk result (λ w. (v : Valuation) (t : Tree)
+        → Stands domain.now.table (state_of (circuit_meanings sym.old) v start.now) t
         → (wire_value sym.new v w.0 ≡ true) ↔ EndDifferently (map program_of left.now) order.now (map program_of right.now) other.now t) }
     ensures grows { Grows (circuit_meanings sym.old) (circuit_meanings sym.new) }
 {
@@ -77,7 +78,8 @@ fn goal_of_parting(
     requires right { CoversSteps domain.now.table (programs_in right.now) }
     ensures wire { IfOk result (λ w. w.0 < length sym.new) }
     ensures exact { IfOk result (λ w. (v : Valuation) → (wire_value sym.new v w.0 ≡ true)
-        ↔ TellsTree domain.now sym.old start.now (EndDifferently (map program_of left.now) order.now (map program_of right.now) other.now) v) }
+        ↔ TellsTree domain.now sym.old start.now
+        (EndDifferently (map program_of left.now) order.now (map program_of right.now) other.now) v) }
     ensures grows { Grows (circuit_meanings sym.old) (circuit_meanings sym.new) }
 {
     let apart = parts(alloc, sym, domain, left, order, right, other, start)?;
@@ -98,7 +100,8 @@ pub fn ask_parting(
     requires others { AllByRecursion (λ k. k < length right.now) other.now }
     requires left { CoversSteps domain.now.table (programs_in left.now) }
     requires right { CoversSteps domain.now.table (programs_in right.now) }
-    ensures exact { IfOk result (λ q. IsSatisfiable q.formula ↔ HaveParting (map program_of left.now) order (map program_of right.now) other.now domain.now) }
+    ensures exact { IfOk result (λ q. IsSatisfiable q.formula
+        ↔ HaveParting (map program_of left.now) order (map program_of right.now) other.now domain.now) }
     ensures models { IfOk result (λ q. (w : Witness) → CanShow q w
         → ShowsParting (map program_of left.now) order (map program_of right.now) other.now domain.now w) }
 {

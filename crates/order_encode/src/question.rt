@@ -81,7 +81,8 @@ pub(crate) fn pose(
     requires codes { AreWithin (length sym) asks }
     requires readable { (v : Valuation) → wire_value sym v goal.0 ≡ true → IsReadable sym domain.now.table cells asks v }
     ensures states { IfOk result (λ q. StatesGoal sym goal.0 q.formula) }
-    ensures holds { IfOk result (λ q. q ≡ record { gates = sym; table = domain.now.table; cells = cells; asks = asks; formula = q.formula }) }
+    ensures holds { IfOk result
+        (λ q. q ≡ record { gates = sym; table = domain.now.table; cells = cells; asks = asks; formula = q.formula }) }
 {
     let (cnf, firsts) = from_circuit_with(alloc, sym.circuit(), goal, firsts)?;
     let domain = copy_domain(alloc, domain)?;

@@ -14,7 +14,10 @@ use wanted_entry::Wanted;
 fn is_file<B: Bits>(bits: &mut B, cells: &Cells<B>, i: usize) -> Result<B::Bit, NoMemory>
     requires cells { AreCells (B.meanings bits.old) cells.now }
     requires place { i < length cells.now.present }
-    ensures gives { IfOk result (IsBit (B.meanings bits.new) (λ v. not (cell_at (B.meanings bits.old) v cells.now i).folder && not (cell_at (B.meanings bits.old) v cells.now i).link)) }
+    ensures gives { IfOk result
+        (IsBit (B.meanings bits.new)
+        (λ v. not (cell_at (B.meanings bits.old) v cells.now i).folder && not
+        (cell_at (B.meanings bits.old) v cells.now i).link)) }
     ensures grows { Grows (B.meanings bits.old) (B.meanings bits.new) }
 {
     let folder = bits.not(cells.folder.at(i))?;
@@ -61,7 +64,9 @@ fn is_file_of<B: Bits>(
 ) -> Result<B::Bit, NoMemory>
     requires cells { AreCells (B.meanings bits.old) cells.now }
     requires place { i < length cells.now.present }
-    ensures gives { IfOk result (IsBit (B.meanings bits.new) (λ v. entry_told table.now.contents (Some content.now) (cell_at (B.meanings bits.old) v cells.now i))) }
+    ensures gives { IfOk result
+        (IsBit (B.meanings bits.new)
+        (λ v. entry_told table.now.contents (Some content.now) (cell_at (B.meanings bits.old) v cells.now i))) }
     ensures grows { Grows (B.meanings bits.old) (B.meanings bits.new) }
 {
     let Some(n) = table.number(content) else {
@@ -80,7 +85,9 @@ fn is_wanted_at<B: Bits>(
 ) -> Result<B::Bit, NoMemory>
     requires cells { AreCells (B.meanings bits.old) cells.now }
     requires place { i < length cells.now.present }
-    ensures gives { IfOk result (IsBit (B.meanings bits.new) (λ v. entry_told table.now.contents wanted.now.content (cell_at (B.meanings bits.old) v cells.now i))) }
+    ensures gives { IfOk result
+        (IsBit (B.meanings bits.new)
+        (λ v. entry_told table.now.contents wanted.now.content (cell_at (B.meanings bits.old) v cells.now i))) }
     ensures grows { Grows (B.meanings bits.old) (B.meanings bits.new) }
 {
     match &wanted.content {
@@ -98,7 +105,9 @@ pub(crate) fn has_wanted<B: Bits>(
 ) -> Result<B::Bit, NoMemory>
     requires cells { AreCells (B.meanings bits.old) cells.now }
     requires places { length cells.now.present ≡ length table.now.paths }
-    ensures gives { IfOk result (IsBit (B.meanings bits.new) (λ v. wanted_told table.now wanted.now (cell_at (B.meanings bits.old) v cells.now))) }
+    ensures gives { IfOk result
+        (IsBit (B.meanings bits.new)
+        (λ v. wanted_told table.now wanted.now (cell_at (B.meanings bits.old) v cells.now))) }
     ensures grows { Grows (B.meanings bits.old) (B.meanings bits.new) }
 {
     match table.place(&wanted.path) {

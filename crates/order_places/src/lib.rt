@@ -18,7 +18,8 @@ pub fn allowed_orders()
 /// and the next exchanged.
 pub fn exchanges()
     ensures found { (n : ℕ) (before : ℕ → ℕ → Bool) (order : List ℕ) (j : ℕ) → j + 1 < length order
-        → IsLinearExtension n (Told before) order → IsLinearExtension n (Told before) (exchanged j order) → AreNeighbours n before order (exchanged j order) }
+        → IsLinearExtension n (Told before) order → IsLinearExtension n (Told before) (exchanged j order)
+        → AreNeighbours n before order (exchanged j order) }
     ensures placed { (n : ℕ) (before : ℕ → ℕ → Bool) (order other : List ℕ) → AreNeighbours n before order other
         → (j : ℕ) × (j + 1 < length order) × (exchanged j order ≡ other) }
 {}
@@ -26,10 +27,14 @@ pub fn exchanges()
 /// An order is the two nodes at a place and the next, with what stands ahead and behind; so is the exchanged one, with the two
 /// the other way. Where both are allowed, the two are nodes of which neither comes before the other.
 pub fn places()
-    ensures whole { (order : List ℕ) (j : ℕ) → j + 1 < length order → around j order (slice_index_or order j 0) (slice_index_or order (j + 1) 0) ≡ order }
-    ensures exchanged { (order : List ℕ) (j : ℕ) → j + 1 < length order → around j order (slice_index_or order (j + 1) 0) (slice_index_or order j 0) ≡ exchanged j order }
-    ensures free { (n : ℕ) (before : ℕ → ℕ → Bool) (order : List ℕ) (j : ℕ) → j + 1 < length order → IsLinearExtension n (Told before) order → IsLinearExtension n (Told before) (exchanged j order)
+    ensures whole { (order : List ℕ) (j : ℕ) → j + 1 < length order
+        → around j order (slice_index_or order j 0) (slice_index_or order (j + 1) 0) ≡ order }
+    ensures exchanged { (order : List ℕ) (j : ℕ) → j + 1 < length order
+        → around j order (slice_index_or order (j + 1) 0) (slice_index_or order j 0) ≡ exchanged j order }
+    ensures free { (n : ℕ) (before : ℕ → ℕ → Bool) (order : List ℕ) (j : ℕ) → j + 1 < length order
+        → IsLinearExtension n (Told before) order → IsLinearExtension n (Told before) (exchanged j order)
         → IsFree (Told before) (slice_index_or order j 0) (slice_index_or order (j + 1) 0) }
-    ensures below { (n : ℕ) (before : ℕ → ℕ → Bool) (order : List ℕ) (j : ℕ) → j + 1 < length order → IsLinearExtension n (Told before) order → IsLinearExtension n (Told before) (exchanged j order)
+    ensures below { (n : ℕ) (before : ℕ → ℕ → Bool) (order : List ℕ) (j : ℕ) → j + 1 < length order
+        → IsLinearExtension n (Told before) order → IsLinearExtension n (Told before) (exchanged j order)
         → (slice_index_or order j 0 < n) × (slice_index_or order (j + 1) 0 < n) }
 {}

@@ -40,7 +40,8 @@ pub fn order_from_json(alloc: Global, bytes: &[u8]) -> Result<Seq<Text>, Fault>
     ensures found { IfOk result (IsOrderText bytes.now) }
     // Each order of this text is the one that is found.
     ensures only { (ts : List (List ℕ)) → IsOrderText bytes.now ts → IfOk result (λ found. found ≡ ts) }
-    ensures refused { IfErr result (λ e. IfRefused e (λ r. IsRefusal 63 0 (codes "order") r × ((ts : List (List ℕ)) → IsOrderText bytes.now ts → ⊥))) }
+    ensures refused { IfErr result (λ e. IfRefused e (λ r. IsRefusal 63 0 (codes "order") r
+        × ((ts : List (List ℕ)) → IsOrderText bytes.now ts → ⊥))) }
 {
     one_order();
     let json = match Json::from_slice(alloc, bytes) {

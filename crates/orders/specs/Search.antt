@@ -47,7 +47,8 @@ AreLinked edges (a ∷ b ∷ nodes) = HasEdge edges a b × AreLinked edges (b �
 pub record IsFollowed (n : ℕ) (edges : List (ℕ × ℕ)) (s : State) (k : ℕ) : Type 0 where
   pub done : slice_index_or s.done (target edges k) false ≡ true
   pub found : cell (width_of n) s.words (source edges k) (target edges k) ≡ true
-  pub all_found : (x : ℕ) → x < n → cell (width_of n) s.words (target edges k) x ≡ true → cell (width_of n) s.words (source edges k) x ≡ true
+  pub all_found : (x : ℕ) → x < n → cell (width_of n) s.words (target edges k) x ≡ true
+      → cell (width_of n) s.words (source edges k) x ≡ true
 
 -- What holds between two steps of a search.
 pub record IsSearch (n : ℕ) (edges : List (ℕ × ℕ)) (s : State) : Type 0 where

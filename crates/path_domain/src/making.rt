@@ -45,7 +45,8 @@ pub fn named(alloc: Global, programs: &[Program]) -> Result<BTreeSet<Path>, NoMe
 
 /// The segment of the fresh children.
 fn name_for(alloc: Global, paths: &BTreeSet<Path>) -> Result<Text, NoMemory>
-    ensures { IfOk result (λ name. (n : ℕ) × (name ≡ other_segment n) × IsFirstFailure (λ k. IsTrue (has_segment (other_segment k) paths.now.keys)) n) }
+    ensures { IfOk result (λ name. (n : ℕ) × (name ≡ other_segment n)
+        × IsFirstFailure (λ k. IsTrue (has_segment (other_segment k) paths.now.keys)) n) }
 {
     let segments = segments_of(alloc, paths)?;
     fresh_segment(alloc, &segments)
@@ -67,7 +68,8 @@ fn all_paths(
 /// Adds one text for each path of the table, all with a beginning that no content has.
 fn add_fresh_texts(alloc: Global, table: &mut Table) -> Result<(), NoMemory>
     ensures paths { OnOk result (table.new.paths ≡ table.old.paths) }
-    ensures contents { OnOk result ((n : ℕ) × Starts n table.old.contents × (table.new.contents ≡ table.old.contents ++ numbered (stem n) 0 table.old.paths)) }
+    ensures contents { OnOk result ((n : ℕ) × Starts n table.old.contents
+        × (table.new.contents ≡ table.old.contents ++ numbered (stem n) 0 table.old.paths)) }
 {
     let n = start_of(table);
     let start = stem(alloc, n)?;

@@ -48,7 +48,8 @@ pub(crate) fn segments_of(
 
 /// The first of `other`, `otherx`, .. that isn't in the set.
 pub(crate) fn fresh_segment(alloc: Global, segments: &BTreeSet<String>) -> Result<Text, NoMemory>
-    ensures { IfOk result (λ name. (n : ℕ) × (name ≡ other_segment n) × IsFirstFailure (λ k. IsTrue (texts_in segments.now (other_segment k))) n) }
+    ensures { IfOk result (λ name. (n : ℕ) × (name ≡ other_segment n)
+        × IsFirstFailure (λ k. IsTrue (texts_in segments.now (other_segment k))) n) }
 {
     let mut name = Text::new(alloc);
     name.push("other")?;

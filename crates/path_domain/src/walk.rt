@@ -76,7 +76,9 @@ fn walk_choice(
     f: &Program,
     found: &mut Found,
 ) -> Result<(), NoMemory>
-    ensures { OnOk result (told found.new ≡ gather (matters_of_test (test_of a.now) ++ (matters_of (program_of e.now) ++ matters_of (program_of f.now))) (told found.old)) }
+    ensures { OnOk result (told found.new ≡ gather
+        (matters_of_test (test_of a.now) ++ (matters_of (program_of e.now) ++ matters_of (program_of f.now)))
+        (told found.old)) }
 {
     walk_test(alloc, a, found)?;
     walk(alloc, e, found)?;

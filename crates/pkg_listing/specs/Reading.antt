@@ -80,7 +80,8 @@ folders_of (item d items) = path_of d >>= (λ p. option_map (λ ps. p ∷ ps) (f
 
 -- the values of an object that has just these two keys
 abbrev pub two_among : List ℕ → List ℕ → Members → Option (Data × Data)
-two_among a b members = if members_len members == 2 then get_member a members >>= (λ x. option_map (λ y. (x, y)) (get_member b members)) else None
+two_among a b members = if members_len members == 2 then get_member a members >>=
+    (λ x. option_map (λ y. (x, y)) (get_member b members)) else None
 
 -- the same of JSON, if it is an object
 abbrev pub two_of : List ℕ → List ℕ → Data → Option (Data × Data)
@@ -96,7 +97,8 @@ if_once p = if stand_once (paths_of p) then Some p else None
 
 -- the package of two lists
 abbrev pub lists_of : Version → Data → Data → Option Package
-lists_of version files folders = as_array files >>= files_of version >>= (λ fs. option_map (λ ps. package_with fs ps) (as_array folders >>= folders_of))
+lists_of version files folders = as_array files >>= files_of version >>=
+    (λ fs. option_map (λ ps. package_with fs ps) (as_array folders >>= folders_of))
 
 -- the package of these two values, unless a path stands twice in it
 abbrev pub package_among : Version → Data × Data → Option Package
@@ -109,7 +111,8 @@ package_of version d = two_of (codes "files") (codes "folders") d >>= package_am
 -- the packages of all members, unless one has another form
 abbrev pub packages_of : Version → Members → Option Packages
 packages_of version no_members = Some []
-packages_of version (member name d members) = package_of version d >>= (λ p. option_map (λ ps. (name, p) ∷ ps) (packages_of version members))
+packages_of version (member name d members) = package_of version d >>=
+    (λ p. option_map (λ ps. (name, p) ∷ ps) (packages_of version members))
 
 -- ---- listings
 

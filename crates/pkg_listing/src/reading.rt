@@ -279,7 +279,8 @@ pub fn listing_from_json(alloc: Global, bytes: &[u8]) -> Result<Listing, Fault>
     ensures found { IfOk result (IsListingText bytes.now) }
     // Each listing of this text is the one that is found.
     ensures only { (ps : Packages) → IsListingText bytes.now ps → IfOk result (λ l. l ≡ ps) }
-    ensures refused { IfErr result (λ e. IfRefused e (λ r. IsRefusal 61 0 (codes "packages") r × ((ps : Packages) → IsListingText bytes.now ps → ⊥))) }
+    ensures refused { IfErr result (λ e. IfRefused e (λ r. IsRefusal 61 0 (codes "packages") r
+        × ((ps : Packages) → IsListingText bytes.now ps → ⊥))) }
 {
     listing_texts();
     let json = match Json::from_slice(alloc, bytes) {

@@ -165,8 +165,10 @@ pub fn compile_with(
     ensures catalog { IfOk result (λ c. IsCatalogOf text.now facts.now node.now levels.now limits (Ok c)) }
     ensures refused { IfErr result (λ e. IfRefused e (IsCatalogRefusal text.now facts.now node.now levels.now limits)) }
     // One manifest at most is run, with one catalog or one refusal, and where one is, the text itself isn't refused.
-    ensures one { (v w : Result C Refusal) → IsCatalogOf text.now facts.now node.now levels.now limits v → IsCatalogOf text.now facts.now node.now levels.now limits w → v ≡ w }
-    ensures read { (v : Result C Refusal) (r : Refusal) → IsCatalogOf text.now facts.now node.now levels.now limits v → IsSourceRefusal text.now r → ⊥ }
+    ensures one { (v w : Result C Refusal) → IsCatalogOf text.now facts.now node.now levels.now limits v
+        → IsCatalogOf text.now facts.now node.now levels.now limits w → v ≡ w }
+    ensures read { (v : Result C Refusal) (r : Refusal) → IsCatalogOf text.now facts.now node.now levels.now limits v
+        → IsSourceRefusal text.now r → ⊥ }
     // No opaque value is an attribute, a plain resource is of a built-in type, and what a metaparameter has are references.
     ensures sound { IfOk result (λ c. AreSound c.resources) }
     // Each reference stands once, and what holds or contains something is a class or a defined resource.
@@ -189,8 +191,10 @@ pub fn compile(alloc: Global, text: &[u8], facts: &Value, node: &str) -> Result<
     requires { length text.now < 2 ^ 32 }
     ensures catalog { IfOk result (λ c. IsCatalogOf text.now facts.now node.now [] Usual (Ok c)) }
     ensures refused { IfErr result (λ e. IfRefused e (IsCatalogRefusal text.now facts.now node.now [] Usual)) }
-    ensures one { (v w : Result C Refusal) → IsCatalogOf text.now facts.now node.now [] Usual v → IsCatalogOf text.now facts.now node.now [] Usual w → v ≡ w }
-    ensures read { (v : Result C Refusal) (r : Refusal) → IsCatalogOf text.now facts.now node.now [] Usual v → IsSourceRefusal text.now r → ⊥ }
+    ensures one { (v w : Result C Refusal) → IsCatalogOf text.now facts.now node.now [] Usual v
+        → IsCatalogOf text.now facts.now node.now [] Usual w → v ≡ w }
+    ensures read { (v : Result C Refusal) (r : Refusal) → IsCatalogOf text.now facts.now node.now [] Usual v
+        → IsSourceRefusal text.now r → ⊥ }
     ensures sound { IfOk result (λ c. AreSound c.resources) }
     ensures once { IfOk result (λ c. StandOnce (references_of c.resources)) }
     ensures held { IfOk result (λ c. AreHeld c.resources) }

@@ -80,7 +80,9 @@ fn is_called_from(state: &State, collectors: usize, pending: usize, r: &Resource
 fn is_called(looked: Looked, i: u32, state: &State, r: &Resource) -> bool
     requires collectors { looked.collectors ≤ length state.now.collectors }
     requires pending { looked.pending ≤ length state.now.pending }
-    ensures old { i < looked.resources → result ≡ called_by (drop looked.collectors state.now.collectors) (drop looked.pending state.now.pending) r.now }
+    ensures old { i < looked.resources
+        → result ≡ called_by (drop looked.collectors state.now.collectors)
+        (drop looked.pending state.now.pending) r.now }
     ensures new { looked.resources ≤ i → result ≡ called_by state.now.collectors state.now.pending r.now }
 {
     if i < looked.resources {

@@ -33,7 +33,8 @@ fn is_due(state: &State, place: u32, r: &Resource) -> bool
 /// The place of the first resource that is due.
 #[tactic(auto, using(crate::proofs::RoundLaws::due_here, crate::proofs::RoundLaws::not_here, crate::proofs::RoundLaws::none_due))]
 fn next_due(state: &State) -> Option<u32>
-    ensures { MatchOption result (next_due state.now 0 state.now.resources ≡ None) (λ i. (r : R) × ((next_due state.now 0 state.now.resources ≡ Some (i, r)) × (slice_get state.now.resources i ≡ Some r))) }
+    ensures { MatchOption result (next_due state.now 0 state.now.resources ≡ None) (λ i. (r : R)
+        × ((next_due state.now 0 state.now.resources ≡ Some (i, r)) × (slice_get state.now.resources i ≡ Some r))) }
 {
     for i in 0..state.count() {
         if is_due(state, i, state.get(i)) {
@@ -65,7 +66,8 @@ fn run_defined(
 /// Runs the body of the defined resource at a place.
 pub fn evaluate(alloc: Global, site: &Site<'_>, place: u32, state: &mut State) -> Result<(), Fault>
     requires { place < length state.old.resources }
-    ensures { (r : R) → slice_get state.old.resources place ≡ Some r → AnswersBy (λ done. state.new) (resource_runs site.now (place, r) state.old) result }
+    ensures { (r : R) → slice_get state.old.resources place ≡ Some r
+        → AnswersBy (λ done. state.new) (resource_runs site.now (place, r) state.old) result }
 {
     let r = copy_resource(alloc, state.get(place))?;
     state.mark(place)?;

@@ -100,7 +100,8 @@ fn data_in(alloc: Global, json: &Json) -> Result<Data, Misread>
 pub fn data_from_json(alloc: Global, bytes: &[u8]) -> Result<Data, Fault>
     ensures levels { IfOk result (AreData bytes.now) }
     ensures proper { IfOk result (AllByRecursion IsProperLevel) }
-    ensures refused { IfErr result (λ e. IfRefused e (λ r. IsRefusal 64 0 (codes "data") r × ((levels : List L) → AreData bytes.now levels → ⊥))) }
+    ensures refused { IfErr result (λ e. IfRefused e (λ r. IsRefusal 64 0 (codes "data") r
+        × ((levels : List L) → AreData bytes.now levels → ⊥))) }
 {
     let json = match Json::from_slice(alloc, bytes) {
         Ok(json) => json,

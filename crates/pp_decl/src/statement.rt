@@ -197,7 +197,8 @@ fn declare(
     bodies: &[Body],
     state: &mut State,
 ) -> Result<Seq<Ref>, Fault>
-    ensures { AnswersBy (λ refs. (refs, state.new)) (declared_by site.now (bodies_at left site.now) at is_virtual kind.now bodies.now state.old) result }
+    ensures { AnswersBy (λ refs. (refs, state.new))
+        (declared_by site.now (bodies_at left site.now) at is_virtual kind.now bodies.now state.old) result }
 {
     if kind == "class" {
         return declare_classes(alloc, site, left, bodies, state);
@@ -250,7 +251,9 @@ fn class_body(
     refs: &mut Seq<Ref>,
     state: &mut State,
 ) -> Result<(), Fault>
-    ensures { AnswersBy (λ done. (refs.new, state.new)) (declared_behind refs.old (body_declared (plain_class site.now (bodies_at left site.now)) plain_class_ref b.now state.old)) result }
+    ensures { AnswersBy (λ done. (refs.new, state.new))
+        (declared_behind refs.old
+        (body_declared (plain_class site.now (bodies_at left site.now)) plain_class_ref b.now state.old)) result }
 {
     let titles = titles_at(alloc, &b.title, state.scopes())?;
     let attributes = attributes_at(alloc, b.attrs.as_slice(), state.scopes())?;
@@ -271,7 +274,8 @@ fn class_titles(
     titles: &[Text],
     state: &mut State,
 ) -> Result<(), Fault>
-    ensures { AnswersBy (λ done. state.new) (in_turn (map (plain_class site.now (bodies_at left site.now) at attributes.now) titles.now) state.old) result }
+    ensures { AnswersBy (λ done. state.new)
+        (in_turn (map (plain_class site.now (bodies_at left site.now) at attributes.now) titles.now) state.old) result }
 {
     for title in titles {
         let name = plain_name(alloc, title.as_str())?;
@@ -295,7 +299,8 @@ fn declare_class(
     name: &str,
     state: &mut State,
 ) -> Result<(), Fault>
-    ensures { AnswersBy (λ done. state.new) (class_declared site.now (bodies_at left site.now) at attributes.now name.now state.old) result }
+    ensures { AnswersBy (λ done. state.new)
+        (class_declared site.now (bodies_at left site.now) at attributes.now name.now state.old) result }
 {
     let d = class_named(alloc, site, at, name)?;
     no_circle(alloc, site, d)?;
@@ -394,7 +399,9 @@ fn include_all(
     values: &[Value],
     state: &mut State,
 ) -> Result<(), Fault>
-    ensures { AnswersBy (λ done. state.new) (in_turn (map (each_class (included_then (after_include func at) site.now (bodies_at left site.now) at)) (placed args.now values.now)) state.old) result }
+    ensures { AnswersBy (λ done. state.new)
+        (in_turn (map (each_class (included_then (after_include func at) site.now (bodies_at left site.now) at))
+        (placed args.now values.now)) state.old) result }
 {
     let mut rest = values;
     for arg in args {
@@ -422,7 +429,9 @@ fn include_each(
     names: &[Text],
     state: &mut State,
 ) -> Result<(), Fault>
-    ensures { AnswersBy (λ done. state.new) (in_turn (map (included_then (after_include func at) site.now (bodies_at left site.now) at) names.now) state.old) result }
+    ensures { AnswersBy (λ done. state.new)
+        (in_turn (map (included_then (after_include func at) site.now
+        (bodies_at left site.now) at) names.now) state.old) result }
 {
     for name in names {
         match include(alloc, site, left, at, func, name.as_str(), state) {
@@ -444,7 +453,8 @@ fn include(
     name: &str,
     state: &mut State,
 ) -> Result<(), Fault>
-    ensures { AnswersBy (λ done. state.new) (included_then (after_include func at) site.now (bodies_at left site.now) at name.now state.old) result }
+    ensures { AnswersBy (λ done. state.new)
+        (included_then (after_include func at) site.now (bodies_at left site.now) at name.now state.old) result }
 {
     if !is_declared(alloc, name, state)? {
         let none = Pairs::new(alloc);

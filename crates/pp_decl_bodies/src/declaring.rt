@@ -64,7 +64,8 @@ fn declare_all(
     titles: &[Text],
     state: &mut State,
 ) -> Result<(), Fault>
-    ensures { AnswersBy (λ done. state.new) (in_turn (map (resource_declared at is_virtual kind.now attributes.now) titles.now) state.old) result }
+    ensures { AnswersBy (λ done. state.new)
+        (in_turn (map (resource_declared at is_virtual kind.now attributes.now) titles.now) state.old) result }
 {
     for title in titles {
         match declare_one(alloc, at, is_virtual, kind, attributes, title, state) {
@@ -101,7 +102,9 @@ fn declare_body(
     refs: &mut Seq<Ref>,
     state: &mut State,
 ) -> Result<(), Fault>
-    ensures { AnswersBy (λ done. (refs.new, state.new)) (declared_behind refs.old (body_declared (λ here. resource_declared here is_virtual kind.now) (ref_to kind.now) b.now state.old)) result }
+    ensures { AnswersBy (λ done. (refs.new, state.new))
+        (declared_behind refs.old
+        (body_declared (λ here. resource_declared here is_virtual kind.now) (ref_to kind.now) b.now state.old)) result }
 {
     let titles = titles_at(alloc, &b.title, state.scopes())?;
     let attributes = attributes_at(alloc, b.attrs.as_slice(), state.scopes())?;
@@ -128,7 +131,9 @@ fn declare_bodies(
     bodies: &[Body],
     state: &mut State,
 ) -> Result<Seq<Ref>, Fault>
-    ensures { AnswersBy (λ refs. (refs, state.new)) (bodies_declared (λ here. resource_declared here is_virtual kind.now) (ref_to kind.now) bodies.now state.old) result }
+    ensures { AnswersBy (λ refs. (refs, state.new))
+        (bodies_declared (λ here. resource_declared here is_virtual kind.now)
+        (ref_to kind.now) bodies.now state.old) result }
 {
     let mut refs = Seq::new(alloc);
     for b in bodies {

@@ -27,8 +27,10 @@ pub fn cases_run_one_block()
 
 /// A test that each block passes which stands there is passed by the one that is chosen.
 pub fn chosen_blocks_are_own()
-    ensures arm { (test : List Stmt → Bool) (s : Scoped) (b : List Stmt) (arms : List Arm) (other : List Stmt) → AllByRecursion (λ a. test (out-Arm a).body ≡ true) arms → test other ≡ true
+    ensures arm { (test : List Stmt → Bool) (s : Scoped) (b : List Stmt) (arms : List Arm) (other : List Stmt)
+        → AllByRecursion (λ a. test (out-Arm a).body ≡ true) arms → test other ≡ true
         → chosen_arm s arms other ≡ Ok b → test b ≡ true }
-    ensures option { (test : List Stmt → Bool) (s : Scoped) (b : List Stmt) (e : Expr) (arms : List CaseArm) → AllByRecursion (λ a. test (out-CaseArm a).body ≡ true) arms
+    ensures option { (test : List Stmt → Bool) (s : Scoped) (b : List Stmt) (e : Expr) (arms : List CaseArm)
+        → AllByRecursion (λ a. test (out-CaseArm a).body ≡ true) arms
         → chosen_option s e arms ≡ Ok (Some b) → test b ≡ true }
 {}

@@ -65,7 +65,8 @@ fn begin_body(
     r: &Resource,
     state: &mut State,
 ) -> Result<(), Fault>
-    ensures { AnswersBy (λ done. state.new) (body_begins d.now place r.now (class_scope state.old.scopes.0 d.now.name d.now.parent) state.old) result }
+    ensures { AnswersBy (λ done. state.new)
+        (body_begins d.now place r.now (class_scope state.old.scopes.0 d.now.name d.now.parent) state.old) result }
 {
     all_known(alloc, r.at, d.parameters(), r.attrs.as_slice(), state)?;
     state.enter_class(d.name().as_str(), parent_of(d))?;

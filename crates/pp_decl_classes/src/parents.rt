@@ -92,7 +92,8 @@ pub fn nearest_first<'s, 'm>(
     d: &Definition<'m>,
     state: &State,
 ) -> Result<Vec<&'s Definition<'m>>, Fault>
-    ensures { AnswersBy (λ line. map (λ p. p.now) line.items) (nearest_first (length site.now.classes + 1) site.now state.now d.now) result }
+    ensures { AnswersBy (λ line. map (λ p. p.now) line.items)
+        (nearest_first (length site.now.classes + 1) site.now state.now d.now) result }
 {
     let mut line = Vec::new(alloc);
     let Some(first) = next_parent(alloc, site, d, state)? else {

@@ -17,7 +17,8 @@ use rh_base::{NoMemory, Text};
 impl State {
     /// Enters the scope of a class, which inherits the parent's, if that has one.
     pub fn enter_class(&mut self, name: &str, parent: Option<&str>) -> Result<(), NoMemory>
-        ensures { OnOk result (self.new ≡ entering (class_scope self.old.scopes.0 name.now (option_map (λ p. p.now) parent.entry)) self.old) }
+        ensures { OnOk result (self.new ≡ entering
+            (class_scope self.old.scopes.0 name.now (option_map (λ p. p.now) parent.entry)) self.old) }
     {
         self.scopes.enter_class(name, parent)
     }

@@ -58,7 +58,8 @@ impl State {
 
     /// A class comes before the container whose body runs.
     pub fn require(&mut self, at: u32, class: Ref) -> Result<(), NoMemory>
-        ensures { OnOk result (self.new ≡ before_container at class (option_and_then (slice_get self.old.resources) self.old.running) self.old) }
+        ensures { OnOk result (self.new ≡ before_container at class
+            (option_and_then (slice_get self.old.resources) self.old.running) self.old) }
     {
         let Some(place) = self.running else {
             return Ok(());

@@ -28,7 +28,9 @@ references_in_all (x ∷ xs) = option_and_then (λ first. option_map (λ more. f
 pub references_in_list : (xs : List Value) → references_in (v.List xs) ≡ references_in_all xs
 unfolding block.hidden-the_row-Value-0 denote.Hole.Carrier.hidden
 references_in_list [] = refl
-references_in_list (x ∷ xs) = ap (λ rest. option_and_then (λ first. option_map (λ more. first ++ more) rest) (references_in x)) (references_in_list xs)
+references_in_list (x ∷ xs) = ap
+    (λ rest. option_and_then (λ first. option_map (λ more. first ++ more) rest) (references_in x))
+    (references_in_list xs)
 
 -- the text of a failure: the shown arguments, with a space between them
 abbrev pub failure_of : List Argument → Result (List ℕ) Refusal

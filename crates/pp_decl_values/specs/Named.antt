@@ -32,5 +32,6 @@ attributes_left s names given attrs = given_behind given (attributes_behind s (k
 
 -- One attribute is done, and those behind it are left; or the refusal is that of all of them.
 abbrev pub GoesOn : Scoped → Attr → List (List ℕ × Bool) → List Pair → List (List ℕ × Bool) → List Pair → Result (Unit {0}) Fault → Type 0
-GoesOn s a names given names_now given_now (Ok done) = (attrs : List Attr) → attributes_left s names given (a ∷ attrs) ≡ attributes_left s names_now given_now attrs
+GoesOn s a names given names_now given_now (Ok done) = (attrs : List Attr)
+    → attributes_left s names given (a ∷ attrs) ≡ attributes_left s names_now given_now attrs
 GoesOn s a names given names_now given_now (Err e) = (attrs : List Attr) → Refuses (attributes_left s names given (a ∷ attrs)) e

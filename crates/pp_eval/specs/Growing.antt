@@ -30,7 +30,8 @@ grow_joined (x ∷ a) (y ∷ b) [] h k = absurd k
 grow_joined (x ∷ a) (y ∷ b) (z ∷ c) h k =
     ((k.0.0 ∙ h.0.0, k.0.1 ∙ h.0.1, begins_joined x.bindings y.bindings z.bindings h.0.2 k.0.2), grow_joined a b c h.1 k.1)
 
-grow_bound : (place : ℕ) (more : List Pair) (scopes : List Scope) → ScopesGrow scopes (with_bindings_at place (bindings_at place scopes ++ more) scopes)
+grow_bound : (place : ℕ) (more : List Pair) (scopes : List Scope)
+    → ScopesGrow scopes (with_bindings_at place (bindings_at place scopes ++ more) scopes)
 grow_bound place more [] = tt
 grow_bound zero more (s ∷ scopes) = ((refl, refl, begins_more s.bindings more), grow_same scopes)
 grow_bound (suc place) more (s ∷ scopes) = ((refl, refl, begins_same s.bindings), grow_bound place more scopes)
@@ -63,17 +64,20 @@ value_before : (name : List ℕ) (x : Value) (old more : List Pair) → value_at
 value_before name x [] more h = cc
 value_before name x (p ∷ old) more h = by_test (bytes_eq p.0 name) (value_before name x old more) h
   where
-    by_test : (t : Bool) → (value_at name old ≡ Some x → value_at name (old ++ more) ≡ Some x) → cond t (Some p.1) (value_at name old) ≡ Some x → cond t (Some p.1) (value_at name (old ++ more)) ≡ Some x
+    by_test : (t : Bool) → (value_at name old ≡ Some x → value_at name (old ++ more) ≡ Some x)
+        → cond t (Some p.1) (value_at name old) ≡ Some x → cond t (Some p.1) (value_at name (old ++ more)) ≡ Some x
     by_test true f k = k
     by_test false f k = f k
 
-bound_at : (place : ℕ) (name : List ℕ) (x : Value) (old new : List Scope) → ScopesGrow old new → value_at name (bindings_at place old) ≡ Some x → value_at name (bindings_at place new) ≡ Some x
+bound_at : (place : ℕ) (name : List ℕ) (x : Value) (old new : List Scope) → ScopesGrow old new
+    → value_at name (bindings_at place old) ≡ Some x → value_at name (bindings_at place new) ≡ Some x
 bound_at place name x [] new h k = cc
 bound_at place name x (a ∷ old) [] h k = absurd h
 bound_at zero name x (a ∷ old) (b ∷ new) h k = ap (value_at name) h.0.2.1 ∙ value_before name x a.bindings h.0.2.0 k
 bound_at (suc place) name x (a ∷ old) (b ∷ new) h k = bound_at place name x old new h.1 k
 
-pub bound_stays : (s t : Scoped) (name : List ℕ) (x : Value) → Extends s t → value_at name (bindings_now s) ≡ Some x → value_at name (bindings_now t) ≡ Some x
+pub bound_stays : (s t : Scoped) (name : List ℕ) (x : Value) → Extends s t → value_at name (bindings_now s) ≡ Some x
+    → value_at name (bindings_now t) ≡ Some x
 bound_stays s t name x h k =
     ap (λ (o : List ℕ). value_at name (bindings_at (place_now o) t.0)) h.open_ones ∙ bound_at (place_now s.1) name x s.0 t.0 h.scopes k
 
@@ -83,13 +87,15 @@ inner_at place (a ∷ old) [] h k = absurd h
 inner_at zero (a ∷ old) (b ∷ new) h k = subst IsInnerSort (sym h.0.0) k
 inner_at (suc place) (a ∷ old) (b ∷ new) h k = inner_at place old new h.1 k
 
-inner_opt : (place : Option ℕ) (old new : List Scope) → ScopesGrow old new → IsInner (option_and_then (slice_get old) place) → IsInner (option_and_then (slice_get new) place)
+inner_opt : (place : Option ℕ) (old new : List Scope) → ScopesGrow old new
+    → IsInner (option_and_then (slice_get old) place) → IsInner (option_and_then (slice_get new) place)
 inner_opt None old new h k = absurd k
 inner_opt (Some place) old new h k = inner_at place old new h k
 
 pub inner_stays : (s t : Scoped) → Extends s t → IsInner (current_scope s) → IsInner (current_scope t)
 inner_stays s t h k =
-    subst (λ (o : List ℕ). IsInner (option_and_then (slice_get t.0) (current_place o))) (sym h.open_ones) (inner_opt (current_place s.1) s.0 t.0 h.scopes k)
+    subst (λ (o : List ℕ). IsInner (option_and_then (slice_get t.0) (current_place o))) (sym h.open_ones)
+    (inner_opt (current_place s.1) s.0 t.0 h.scopes k)
 
 some_by : (t : Bool) (a b : Scope) (o r : Option Scope) → (IsSome o → IsSome r) → IsSome (cond t (Some a) o) → IsSome (cond t (Some b) r)
 some_by true a b o r f h = refl

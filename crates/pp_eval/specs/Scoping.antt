@@ -55,7 +55,8 @@ in_scope name (Some scope) = value_at name scope.bindings
 abbrev pub in_class : ℕ → List Scope → List ℕ → Option Scope → Option Value
 in_class zero scopes name scope = None
 in_class (suc n) scopes name None = None
-in_class (suc n) scopes name (Some scope) = or_else (value_at name scope.bindings) (in_class n scopes name (option_and_then (slice_get scopes) scope.parent))
+in_class (suc n) scopes name (Some scope) = or_else (value_at name scope.bindings)
+    (in_class n scopes name (option_and_then (slice_get scopes) scope.parent))
 
 -- there are no more inherited classes than scopes
 abbrev pub in_lineage : List Scope → List ℕ → Option Scope → Option Value
@@ -133,7 +134,8 @@ bindings_at (suc place) (s ∷ scopes) = bindings_at place scopes
 
 -- binding in the scope at a place, where the others stay
 abbrev pub BindsAt : ℕ → List Scope → List ℕ → Value → List Scope → Result (Unit {0}) BindFault → Type 0
-BindsAt place old name x new (Ok done) = (value_at name (bindings_at place old) ≡ None) × (new ≡ with_bindings_at place (bindings_at place old ++ (name, x) ∷ []) old)
+BindsAt place old name x new (Ok done) = (value_at name (bindings_at place old) ≡ None)
+    × (new ≡ with_bindings_at place (bindings_at place old ++ (name, x) ∷ []) old)
 BindsAt place old name x new (Err fault.Again) = ((value_at name (bindings_at place old) ≡ None) → ⊥) × (new ≡ old)
 BindsAt place old name x new (Err (fault.Memory m)) = (value_at name (bindings_at place old) ≡ None) × (new ≡ old)
 
@@ -208,7 +210,8 @@ is_variable (c ∷ name) = (is_ascii_lowercase c || c == 95) && list_all is_name
 -- the bindings, and those of the pairs whose keys are names of variables; a name that stands already stays as it is
 abbrev pub with_facts : List Pair → List Pair → List Pair
 with_facts bindings [] = bindings
-with_facts bindings (p ∷ pairs) = if is_variable p.0 && is_none (value_at p.0 bindings) then with_facts (bindings ++ p ∷ []) pairs else with_facts bindings pairs
+with_facts bindings (p ∷ pairs) = if is_variable p.0 && is_none (value_at p.0 bindings) then with_facts
+    (bindings ++ p ∷ []) pairs else with_facts bindings pairs
 
 -- the pairs of a map, and none of any other value
 abbrev pub pairs_in : Value → List Pair

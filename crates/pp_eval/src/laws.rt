@@ -17,12 +17,14 @@ use pp_value::{
 
 /// A look-up doesn't depend on the bindings of other names.
 pub fn other_names_stay()
-    ensures { (bindings : List Pair) (name other : List ℕ) (x : Value) → name ≢ other → value_at other (bindings ++ (name, x) ∷ []) ≡ value_at other bindings }
+    ensures { (bindings : List Pair) (name other : List ℕ) (x : Value) → name ≢ other
+        → value_at other (bindings ++ (name, x) ∷ []) ≡ value_at other bindings }
 {}
 
 /// A name that had no binding is found with the value that it is bound to.
 pub fn bound_names_are_found()
-    ensures { (bindings : List Pair) (name : List ℕ) (x : Value) → value_at name bindings ≡ None → value_at name (bindings ++ (name, x) ∷ []) ≡ Some x }
+    ensures { (bindings : List Pair) (name : List ℕ) (x : Value) → value_at name bindings ≡ None
+        → value_at name (bindings ++ (name, x) ∷ []) ≡ Some x }
 {}
 
 /// The top has the whole map of the facts.
@@ -32,12 +34,15 @@ pub fn facts_are_found()
 
 /// Where parents stand before the classes that inherit them, a class that is entered keeps this.
 pub fn parents_stand_before()
-    ensures { (s : Scoped) (name : List ℕ) (parent : Option (List ℕ)) → ParentsStandBefore s.0 → ParentsStandBefore (entered s (class_scope s.0 name parent)).0 }
+    ensures { (s : Scoped) (name : List ℕ) (parent : Option (List ℕ)) → ParentsStandBefore s.0
+        → ParentsStandBefore (entered s (class_scope s.0 name parent)).0 }
 {}
 
 /// Where parents stand before the classes that inherit them, looking through these ends: no larger bound finds more.
 pub fn inheriting_ends()
-    ensures { (n m : ℕ) (scopes : List Scope) (name : List ℕ) (place : ℕ) → ParentsStandBefore scopes → place < n → place < m → in_class n scopes name (slice_get scopes place) ≡ in_class m scopes name (slice_get scopes place) }
+    ensures { (n m : ℕ) (scopes : List Scope) (name : List ℕ) (place : ℕ) → ParentsStandBefore scopes → place < n
+        → place < m → in_class n scopes name (slice_get scopes place) ≡ in_class m scopes name
+        (slice_get scopes place) }
 {}
 
 /// Binding a name only adds.
@@ -58,7 +63,8 @@ pub fn extensions_join()
 
 /// A name that is bound in the current scope keeps its value.
 pub fn bound_names_stay()
-    ensures { (s t : Scoped) (name : List ℕ) (x : Value) → Extends s t → value_at name (bindings_now s) ≡ Some x → value_at name (bindings_now t) ≡ Some x }
+    ensures { (s t : Scoped) (name : List ℕ) (x : Value) → Extends s t → value_at name (bindings_now s) ≡ Some x
+        → value_at name (bindings_now t) ≡ Some x }
 {}
 
 /// The current scope stays the scope of a class or of a defined resource.
@@ -78,14 +84,16 @@ pub fn equal_look_ups_give_one_verdict()
 
 /// Where no value that is bound exceeds the limits, no value of an expression does.
 pub fn values_stay_within()
-    ensures { (s : Scoped) → ((name : List ℕ) (x : Value) → find_in s name ≡ Some x → exceeds_limits x ≡ false) → (e : Expr) (x : Value) → value_of s e ≡ Ok x → exceeds_limits x ≡ false }
+    ensures { (s : Scoped) → ((name : List ℕ) (x : Value) → find_in s name ≡ Some x → exceeds_limits x ≡ false)
+        → (e : Expr) (x : Value) → value_of s e ≡ Ok x → exceeds_limits x ≡ false }
 {
     members_stay_within();
 }
 
 /// Where the maps of all values that are bound have distinct keys, so have those of every value of an expression.
 pub fn values_stay_proper()
-    ensures { (s : Scoped) → ((name : List ℕ) (x : Value) → find_in s name ≡ Some x → IsProper x) → (e : Expr) (x : Value) → value_of s e ≡ Ok x → IsProper x }
+    ensures { (s : Scoped) → ((name : List ℕ) (x : Value) → find_in s name ≡ Some x → IsProper x)
+        → (e : Expr) (x : Value) → value_of s e ≡ Ok x → IsProper x }
 {
     sums_are_proper();
     members_are_proper();

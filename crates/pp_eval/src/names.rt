@@ -24,7 +24,8 @@ pub fn is_qualified(name: &str) -> bool
 
 /// What stands before the first colon, and behind it.
 fn cut(text: &str) -> Option<(&str, &str)>
-    ensures { MatchOption result (list_any is_colon text.now ≡ false) (λ x. (text.now ≡ x.0.now ++ 58 ∷ x.1.now) × (length x.1.now < length text.now)) }
+    ensures { MatchOption result (list_any is_colon text.now ≡ false) (λ x. (text.now ≡ x.0.now ++ 58 ∷ x.1.now)
+        × (length x.1.now < length text.now)) }
 {
     text.split_once(':')
 }

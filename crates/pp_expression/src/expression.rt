@@ -365,7 +365,8 @@ fn maybe_pairs(
     tokens: &[Token<'_>],
     from: usize,
 ) -> Read<Seq<(Expr, Expr)>>
-    ensures { Reads (maybe_items (codes "}") (pair_with (expr_at depth)) (length (drop from (told tokens.now)) + 1)) tokens.now from result }
+    ensures { Reads (maybe_items (codes "}") (pair_with (expr_at depth))
+        (length (drop from (told tokens.now)) + 1)) tokens.now from result }
 {
     if let Some((_, rest)) = mark(Kind::Sign, "}", tokens, from) {
         return Ok((Seq::new(alloc), rest));

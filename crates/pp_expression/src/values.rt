@@ -110,7 +110,8 @@ pub fn number(text: &str) -> Option<i64>
 
 /// What stands before the first backslash, and behind it.
 pub(crate) fn cut(text: &str) -> Option<(&str, &str)>
-    ensures { MatchOption result (HasNoBackslash text.now) (λ x. (text.now ≡ x.0.now ++ 92 ∷ x.1.now) × HasNoBackslash x.0.now × (length x.1.now < length text.now)) }
+    ensures { MatchOption result (HasNoBackslash text.now) (λ x. (text.now ≡ x.0.now ++ 92 ∷ x.1.now)
+        × HasNoBackslash x.0.now × (length x.1.now < length text.now)) }
 {
     text.split_once('\\')
 }

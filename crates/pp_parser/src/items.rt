@@ -343,7 +343,8 @@ fn some_items(
     tokens: &[Token<'_>],
     from: usize,
 ) -> Read<Seq<Item>>
-    ensures { Reads (many has_token (item_with (expr_at depth) (type_at depth) (stmt_at (expr_at depth) depth)) turns) tokens.now from result }
+    ensures { Reads (many has_token
+        (item_with (expr_at depth) (type_at depth) (stmt_at (expr_at depth) depth)) turns) tokens.now from result }
 {
     let mut found = Seq::new(alloc);
     let mut rest = from;

@@ -44,7 +44,8 @@ pub fn parse(alloc: Global, tokens: &[Token<'_>]) -> Result<Manifest, Fault>
     ensures all_in { OnOk result (IsNowhere IsLeftOut (told tokens.now)) }
     ensures shallow { OnOk result (IsNowhere IsTooDeep (told tokens.now)) }
     // Where the tokens spell a tree, none is left out and none is nested too deep, the answer is that tree, unless memory runs out.
-    ensures only { (m : Tree) → IsManifest m (told tokens.now) → IsNowhere IsLeftOut (told tokens.now) → IsNowhere IsTooDeep (told tokens.now) → MatchResult result (λ n. n ≡ m) (λ e. IfRefused e (λ r. ⊥)) }
+    ensures only { (m : Tree) → IsManifest m (told tokens.now) → IsNowhere IsLeftOut (told tokens.now)
+        → IsNowhere IsTooDeep (told tokens.now) → MatchResult result (λ n. n ≡ m) (λ e. IfRefused e (λ r. ⊥)) }
     // The first token that is left out; else the first that is nested too deep; else no tree is spelled.
     ensures refused { IfErr result (λ e. IfRefused e (IsParseRefusal (told tokens.now))) }
 {

@@ -25,9 +25,13 @@ pub fn fewest_backslashes()
 
 /// What tokens of a text spell is spelled again by any tokens with its words, places aside.
 pub fn words_spell_again()
-    ensures manifests { (m : Manifest) (text : List ℕ) (ts us : List Lexeme) → Spells text ts → IsManifest m ts → words_in us ≡ manifest_words m → (k : Manifest) × IsManifest k us × SameButPlaces m k }
-    ensures expressions { (x : Expr) (text : List ℕ) (before ts behind us : List Lexeme) → Spells text (before ++ (ts ++ behind)) → IsExpr x ts → words_in us ≡ expr_words x → (y : Expr) × IsExpr y us × (unplaced x ≡ unplaced y) }
-    ensures types { (t : TypeName) (text : List ℕ) (before ts behind us : List Lexeme) → Spells text (before ++ (ts ++ behind)) → IsType t ts → words_in us ≡ type_words t → IsType t us }
+    ensures manifests { (m : Manifest) (text : List ℕ) (ts us : List Lexeme) → Spells text ts → IsManifest m ts
+        → words_in us ≡ manifest_words m → (k : Manifest) × IsManifest k us × SameButPlaces m k }
+    ensures expressions { (x : Expr) (text : List ℕ) (before ts behind us : List Lexeme)
+        → Spells text (before ++ (ts ++ behind)) → IsExpr x ts → words_in us ≡ expr_words x → (y : Expr) × IsExpr y us
+        × (unplaced x ≡ unplaced y) }
+    ensures types { (t : TypeName) (text : List ℕ) (before ts behind us : List Lexeme)
+        → Spells text (before ++ (ts ++ behind)) → IsType t ts → words_in us ≡ type_words t → IsType t us }
 {}
 
 /// The canonical text of a manifest is read back: it is UTF-8 and tokens, and these spell the manifest, places aside.

@@ -163,7 +163,8 @@ fn case_arms(words: &mut Words, arms: &[CaseArm]) -> Result<(), NoMemory>
 
 #[cycle(statement)]
 fn case(words: &mut Words, arms: &[CaseArm], value: &Expr) -> Result<(), NoMemory>
-    ensures { OnOk result (words.new ≡ words.old ++ (keyword (codes "case") ++ (expr_words value.now ++ in_braces (flat_map case_arm_words arms.now)))) }
+    ensures { OnOk result (words.new ≡ words.old ++
+        (keyword (codes "case") ++ (expr_words value.now ++ in_braces (flat_map case_arm_words arms.now)))) }
 {
     words.keyword("case")?;
     expr(words, value)?;

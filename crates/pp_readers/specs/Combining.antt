@@ -50,4 +50,5 @@ after_item x others (Some o) ts = with_first x (others o.1)
 -- items with this sign between them, and there may be one at the end
 abbrev pub listed : {X : Type 0} → List ℕ → (List Lexeme → Bool) → Reader X → ℕ → Reader (List X)
 listed sep test item zero ts = None
-listed sep test item (suc n) ts = if test ts then (item ts >>= λ x. after_item x.0 (listed sep test item n) (mark kind.Sign sep x.1) x.1) else Some ([], ts)
+listed sep test item (suc n) ts = if test ts then
+    (item ts >>= λ x. after_item x.0 (listed sep test item n) (mark kind.Sign sep x.1) x.1) else Some ([], ts)

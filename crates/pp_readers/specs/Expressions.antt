@@ -15,7 +15,8 @@ use Rattle.pp_readers.specs.Values.{name_of, atom, dq}
 
 -- ---- chains of operators
 
-abbrev pub operations_or_end : (List Lexeme → Found Expr) → (List Lexeme → Found (List (Op × Expr))) → Found Op → List Lexeme → Found (List (Op × Expr))
+abbrev pub operations_or_end : (List Lexeme → Found Expr) → (List Lexeme → Found (List (Op × Expr))) → Found Op
+    → List Lexeme → Found (List (Op × Expr))
 operations_or_end next others None ts = Some ([], ts)
 operations_or_end next others (Some o) ts = next o.1 >>= λ x. with_first (o.0, x.0) (others x.1)
 
@@ -93,7 +94,8 @@ maybe_items close item n ts = items_or_end (mark kind.Sign close ts) (items clos
 -- a text with nothing but indexes behind it, with a variable in place of the text; any other form stays
 abbrev pub form_as_variable : Form → Form
 form_as_variable (form.Str name) = form.Var name
-form_as_variable (Index' shape (more_of-Expr at base none) shape' key) = Index' shape (more_of-Expr at (form_as_variable base) none) shape' key
+form_as_variable (Index' shape (more_of-Expr at base none) shape' key) = Index' shape
+    (more_of-Expr at (form_as_variable base) none) shape' key
 form_as_variable f = f
 
 abbrev pub as_variable : Expr → Expr
@@ -147,7 +149,8 @@ abbrev pub with_members : List Expr → Bool → Found (List Expr × Bool) → F
 with_members front part None = None
 with_members front part (Some r) = Some ((front ++ r.0.0, part || r.0.1), r.1)
 
-abbrev pub end_or_member : (List Lexeme → Found Expr) → (List Lexeme → Found (List Expr × Bool)) → Found ℕ → List Lexeme → Found (List Expr × Bool)
+abbrev pub end_or_member : (List Lexeme → Found Expr) → (List Lexeme → Found (List Expr × Bool)) → Found ℕ → List Lexeme
+    → Found (List Expr × Bool)
 end_or_member e others None ts = member_with e ts >>= λ m. with_member m.0 (others m.1)
 end_or_member e others (Some r) ts = Some (([], false), r.1)
 

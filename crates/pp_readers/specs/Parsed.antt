@@ -64,5 +64,6 @@ IsSpelled A tokens from r = IfOk r (λ x. Begins (A x.0) (drop from tokens) (dro
 
 -- Where tokens from the index on spell something, and what follows is of this kind, that is answered, unless memory is refused.
 abbrev pub IsParsed : {X : Type 0} → (X → List Lexeme → Type 0) → (List Lexeme → Type 0) → List Lexeme → ℕ → Result (X × ℕ) Misread → Type 0
-IsParsed {X} A Follows tokens from r = (y : X) (front rest : List Lexeme) → drop from tokens ≡ front ++ rest → A y front → NumbersFit front → Follows rest
+IsParsed {X} A Follows tokens from r = (y : X) (front rest : List Lexeme) → drop from tokens ≡ front ++ rest → A y front
+    → NumbersFit front → Follows rest
     → MatchResult r (λ x. (x.0 ≡ y) × (drop x.1 tokens ≡ rest)) IsMemory

@@ -92,7 +92,8 @@ abbrev pub ands_with : Reader Expr → Reader Search → ℕ → Reader (List Se
 ands_with p s = many (begins kind.Keyword (codes "and")) (behind kind.Keyword (codes "and") (atom_with p s))
 
 abbrev pub conjunction_with : Reader Expr → Reader Search → Reader Search
-conjunction_with p s ts = atom_with p s ts >>= λ y. with_front (y.0 ∷ []) (ands_with p s (length y.1 + 1) y.1) >>= λ ys. all_of ys.0 >>= λ z. Some (z, ys.1)
+conjunction_with p s ts = atom_with p s ts >>= λ y. with_front (y.0 ∷ [])
+    (ands_with p s (length y.1 + 1) y.1) >>= λ ys. all_of ys.0 >>= λ z. Some (z, ys.1)
 
 -- one of these holds
 abbrev pub any_of : List Search → Option Search
@@ -102,7 +103,8 @@ abbrev pub ors_with : Reader Expr → Reader Search → ℕ → Reader (List Sea
 ors_with p s = many (begins kind.Keyword (codes "or")) (behind kind.Keyword (codes "or") (conjunction_with p s))
 
 abbrev pub search_with : Reader Expr → Reader Search → Reader Search
-search_with p s ts = conjunction_with p s ts >>= λ y. with_front (y.0 ∷ []) (ors_with p s (length y.1 + 1) y.1) >>= λ ys. any_of ys.0 >>= λ z. Some (z, ys.1)
+search_with p s ts = conjunction_with p s ts >>= λ y. with_front (y.0 ∷ [])
+    (ors_with p s (length y.1 + 1) y.1) >>= λ ys. any_of ys.0 >>= λ z. Some (z, ys.1)
 
 -- with brackets nested less deep than this
 abbrev pub search_at : Reader Expr → ℕ → Reader Search

@@ -72,7 +72,8 @@ abbrev mutual
 
   pub dq_escaped : List ℕ → Option (List ℕ)
   dq_escaped [] = Some (92 ∷ [])
-  dq_escaped (c ∷ raw) = if is_simple_escape c then with_bytes (simple_value c ∷ []) (dq raw) else (if c == 117 then dq_unicode raw else with_bytes (92 ∷ []) (with_bytes (c ∷ []) (dq raw)))
+  dq_escaped (c ∷ raw) = if is_simple_escape c then with_bytes (simple_value c ∷ []) (dq raw) else
+      (if c == 117 then dq_unicode raw else with_bytes (92 ∷ []) (with_bytes (c ∷ []) (dq raw)))
 
   pub dq_unicode : List ℕ → Option (List ℕ)
   dq_unicode [] = None
@@ -80,11 +81,14 @@ abbrev mutual
 
   pub dq_four : ℕ → ℕ → List ℕ → Option (List ℕ)
   dq_four count value [] = None
-  dq_four count value (b ∷ raw) = if is_hex b then (if count == 3 then with_scalar (value * 16 + digit_of b) (dq raw) else dq_four (count + 1) (value * 16 + digit_of b) raw) else None
+  dq_four count value (b ∷ raw) = if is_hex b then
+      (if count == 3 then with_scalar (value * 16 + digit_of b) (dq raw) else dq_four (count + 1)
+      (value * 16 + digit_of b) raw) else None
 
   pub dq_braced : ℕ → ℕ → List ℕ → Option (List ℕ)
   dq_braced count value [] = None
-  dq_braced count value (b ∷ raw) = if b == 125 then (if count == 0 then None else with_scalar value (dq raw)) else (if is_hex b && not (count == 6) then dq_braced (count + 1) (value * 16 + digit_of b) raw else None)
+  dq_braced count value (b ∷ raw) = if b == 125 then (if count == 0 then None else with_scalar value (dq raw)) else
+      (if is_hex b && not (count == 6) then dq_braced (count + 1) (value * 16 + digit_of b) raw else None)
 
 -- a character with these bytes, and the value of what follows; or none
 abbrev pub GivesChar : Option (ℕ × List ℕ) → Option (List ℕ) → Type 0

@@ -91,7 +91,8 @@ fn enclosed_search(
     tokens: &[Token<'_>],
     from: usize,
 ) -> Read<Option<Search>>
-    ensures { Reads (behind kind.Sign (codes "<|") (before (sought_with (postfix_with (expr_at limit))) kind.Sign (codes "|>"))) tokens.now from result }
+    ensures { Reads (behind kind.Sign (codes "<|")
+        (before (sought_with (postfix_with (expr_at limit))) kind.Sign (codes "|>"))) tokens.now from result }
 {
     let (_, rest) = expect(Kind::Sign, "<|", tokens, from)?;
     let (search, rest) = sought(alloc, limit, tokens, rest)?;

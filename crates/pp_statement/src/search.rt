@@ -97,7 +97,9 @@ fn next_atom(
     tokens: &[Token<'_>],
     from: usize,
 ) -> Read<Search>
-    ensures { Reads (behind kind.Keyword (codes "and") (atom_with (postfix_with (expr_at limit)) (search_at (postfix_with (expr_at limit)) depth))) tokens.now from result }
+    ensures { Reads (behind kind.Keyword (codes "and")
+        (atom_with (postfix_with (expr_at limit))
+        (search_at (postfix_with (expr_at limit)) depth))) tokens.now from result }
 {
     let (_, rest) = expect(Kind::Keyword, "and", tokens, from)?;
     atom(alloc, limit, depth, tokens, rest)
@@ -113,7 +115,9 @@ fn ands(
     tokens: &[Token<'_>],
     from: usize,
 ) -> Read<Seq<Search>>
-    ensures { Reads (λ ts. with_front (first ∷ []) (ands_with (postfix_with (expr_at limit)) (search_at (postfix_with (expr_at limit)) depth) turns ts)) tokens.now from result }
+    ensures { Reads (λ ts. with_front (first ∷ [])
+        (ands_with (postfix_with (expr_at limit))
+        (search_at (postfix_with (expr_at limit)) depth) turns ts)) tokens.now from result }
 {
     let mut found = Seq::new(alloc);
     found.push(first)?;
@@ -138,7 +142,8 @@ fn conjunction(
     tokens: &[Token<'_>],
     from: usize,
 ) -> Read<Search>
-    ensures { Reads (conjunction_with (postfix_with (expr_at limit)) (search_at (postfix_with (expr_at limit)) depth)) tokens.now from result }
+    ensures { Reads (conjunction_with (postfix_with (expr_at limit))
+        (search_at (postfix_with (expr_at limit)) depth)) tokens.now from result }
 {
     let (first, rest) = atom(alloc, limit, depth, tokens, from)?;
     let (found, rest) = ands(
@@ -162,7 +167,9 @@ fn next_conjunction(
     tokens: &[Token<'_>],
     from: usize,
 ) -> Read<Search>
-    ensures { Reads (behind kind.Keyword (codes "or") (conjunction_with (postfix_with (expr_at limit)) (search_at (postfix_with (expr_at limit)) depth))) tokens.now from result }
+    ensures { Reads (behind kind.Keyword (codes "or")
+        (conjunction_with (postfix_with (expr_at limit))
+        (search_at (postfix_with (expr_at limit)) depth))) tokens.now from result }
 {
     let (_, rest) = expect(Kind::Keyword, "or", tokens, from)?;
     conjunction(alloc, limit, depth, tokens, rest)
@@ -178,7 +185,9 @@ fn ors(
     tokens: &[Token<'_>],
     from: usize,
 ) -> Read<Seq<Search>>
-    ensures { Reads (λ ts. with_front (first ∷ []) (ors_with (postfix_with (expr_at limit)) (search_at (postfix_with (expr_at limit)) depth) turns ts)) tokens.now from result }
+    ensures { Reads (λ ts. with_front (first ∷ [])
+        (ors_with (postfix_with (expr_at limit))
+        (search_at (postfix_with (expr_at limit)) depth) turns ts)) tokens.now from result }
 {
     let mut found = Seq::new(alloc);
     found.push(first)?;

@@ -163,7 +163,8 @@ fn next_arm(
     tokens: &[Token<'_>],
     from: usize,
 ) -> Read<Arm>
-    ensures { Reads (behind kind.Keyword (codes "elsif") (arm_with (expr_at limit) (stmt_at (expr_at limit) depth))) tokens.now from result }
+    ensures { Reads (behind kind.Keyword (codes "elsif")
+        (arm_with (expr_at limit) (stmt_at (expr_at limit) depth))) tokens.now from result }
 {
     let (_, rest) = expect(Kind::Keyword, "elsif", tokens, from)?;
     arm(alloc, limit, depth, tokens, rest)
@@ -180,7 +181,8 @@ fn arms_behind(
     tokens: &[Token<'_>],
     from: usize,
 ) -> Read<Seq<Arm>>
-    ensures { Reads (λ ts. with_front (first ∷ []) (more_arms (expr_at limit) (stmt_at (expr_at limit) depth) turns ts)) tokens.now from result }
+    ensures { Reads (λ ts. with_front (first ∷ [])
+        (more_arms (expr_at limit) (stmt_at (expr_at limit) depth) turns ts)) tokens.now from result }
 {
     let mut found = Seq::new(alloc);
     found.push(first)?;

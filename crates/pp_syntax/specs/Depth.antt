@@ -36,8 +36,10 @@ open_from n (t ∷ tokens) = open_from (if opens t then n + 1 else (if closes t 
 -- Each bracket that is opened in these tokens is closed in them, and no other is closed.
 pub data AreClosed : List Lexeme → Type 0 where
   nothing : {tokens : List Lexeme} → tokens ≡ [] → AreClosed tokens
-  other : {tokens : List Lexeme} (t : Lexeme) (more : List Lexeme) → tokens ≡ t ∷ more → opens t ≡ false → closes t ≡ false → AreClosed more → AreClosed tokens
-  bracket : {tokens : List Lexeme} (o c : Lexeme) (inner more : List Lexeme) → tokens ≡ o ∷ (inner ++ c ∷ more) → opens o ≡ true → AreClosed inner → closes c ≡ true → AreClosed more → AreClosed tokens
+  other : {tokens : List Lexeme} (t : Lexeme) (more : List Lexeme) → tokens ≡ t ∷ more → opens t ≡ false
+      → closes t ≡ false → AreClosed more → AreClosed tokens
+  bracket : {tokens : List Lexeme} (o c : Lexeme) (inner more : List Lexeme) → tokens ≡ o ∷ (inner ++ c ∷ more)
+      → opens o ≡ true → AreClosed inner → closes c ≡ true → AreClosed more → AreClosed tokens
 
 -- ---- what stands in one row
 
@@ -47,13 +49,15 @@ IsSign text t = (t.kind ≡ kind.Sign) × (t.text ≡ text)
 
 -- a tight `[`, or a `?` with a `{` directly behind it, with all up to the bracket that closes it
 pub data IsPostfix (tokens : List Lexeme) : Type 0 where
-  index : (o c : Lexeme) (inner : List Lexeme) → tokens ≡ o ∷ (inner ++ c ∷ []) → o.kind ≡ kind.Tight → AreClosed inner → closes c ≡ true → IsPostfix tokens
+  index : (o c : Lexeme) (inner : List Lexeme) → tokens ≡ o ∷ (inner ++ c ∷ []) → o.kind ≡ kind.Tight → AreClosed inner
+      → closes c ≡ true → IsPostfix tokens
   selection : (q o c : Lexeme) (inner : List Lexeme) → tokens ≡ q ∷ o ∷ (inner ++ c ∷ []) → IsSign (codes "?") q → IsSign (codes "{") o → AreClosed inner → closes c ≡ true → IsPostfix tokens
 
 -- The tokens end with so many postfixes in one row.
 abbrev pub EndWithPostfixes : ℕ → List Lexeme → Type 0
 EndWithPostfixes zero tokens = Unit {0}
-EndWithPostfixes (suc n) tokens = (front : List Lexeme) × (last : List Lexeme) × (tokens ≡ front ++ last) × IsPostfix last × EndWithPostfixes n front
+EndWithPostfixes (suc n) tokens = (front : List Lexeme) × (last : List Lexeme) × (tokens ≡ front ++ last)
+    × IsPostfix last × EndWithPostfixes n front
 
 -- the token may stand before an operand
 abbrev pub IsPrefix : Lexeme → Type 0
@@ -62,7 +66,8 @@ IsPrefix t = IsSign (codes "!") t ⊎ IsSign (codes "-") t
 -- The tokens end with so many `!` and `-` in one run.
 abbrev pub EndWithPrefixes : ℕ → List Lexeme → Type 0
 EndWithPrefixes zero tokens = Unit {0}
-EndWithPrefixes (suc n) tokens = (front : List Lexeme) × (last : Lexeme) × (tokens ≡ front ++ last ∷ []) × IsPrefix last × EndWithPrefixes n front
+EndWithPrefixes (suc n) tokens = (front : List Lexeme) × (last : Lexeme) × (tokens ≡ front ++ last ∷ []) × IsPrefix last
+    × EndWithPrefixes n front
 
 -- ---- the depth
 

@@ -85,7 +85,8 @@ Operations level A (o ∷ more) = Operation level A o then Operations level A mo
 -- A { operator A }: one operand is itself, and several are a chain that begins where its first token stands
 pub data ChainOf (level : ℕ) (A : Expr → List Lexeme → Type 0) (y : Expr) (tokens : List Lexeme) : Type 0 where
   operand : A y tokens → ChainOf level A y tokens
-  chain : (first : Expr) (o : Op × Expr) (more : List (Op × Expr)) → y.form ≡ form.Chain first (o ∷ more) → y.at ≡ place_of tokens → (A first then Operations level A (o ∷ more)) tokens → ChainOf level A y tokens
+  chain : (first : Expr) (o : Op × Expr) (more : List (Op × Expr)) → y.form ≡ form.Chain first (o ∷ more)
+      → y.at ≡ place_of tokens → (A first then Operations level A (o ∷ more)) tokens → ChainOf level A y tokens
 
 -- ---- texts
 
@@ -106,7 +107,8 @@ kind_of_first (t ∷ tokens) = prelude.Some t.kind
 -- x is a text with nothing but indexes behind it, and y the same with a variable in its place
 pub data ReadAsVariable : Expr → Expr → Type 0 where
   base : {x y : Expr} (name : List ℕ) → x.form ≡ form.Str name → y.form ≡ form.Var name → y.at ≡ x.at → ReadAsVariable x y
-  index : {x y : Expr} (a b key : Expr) → x.form ≡ form.Index a key → y.form ≡ form.Index b key → y.at ≡ x.at → ReadAsVariable a b → ReadAsVariable x y
+  index : {x y : Expr} (a b key : Expr) → x.form ≡ form.Index a key → y.form ≡ form.Index b key → y.at ≡ x.at
+      → ReadAsVariable a b → ReadAsVariable x y
 
 -- an expression within `${` and `}`; where it is a WORD with nothing but indexes behind it, that is read as a variable
 pub data InnerOf (E : Expr → List Lexeme → Type 0) (y : Expr) (tokens : List Lexeme) : Type 0 where
@@ -179,7 +181,8 @@ pub data SuffixOf (E : Expr → List Lexeme → Type 0) (x y : Expr) (tokens : L
 -- any number of them, which make y of x; each expression on the way begins at the same place
 pub data SuffixesOf (E : Expr → List Lexeme → Type 0) (at : ℕ) : Expr → Expr → List Lexeme → Type 0 where
   none : {x y : Expr} {tokens : List Lexeme} → x ≡ y → tokens ≡ [] → SuffixesOf E at x y tokens
-  one : {x y : Expr} {tokens : List Lexeme} (z : Expr) (front back : List Lexeme) → tokens ≡ front ++ back → SuffixOf E x z front → z.at ≡ at → SuffixesOf E at z y back → SuffixesOf E at x y tokens
+  one : {x y : Expr} {tokens : List Lexeme} (z : Expr) (front back : List Lexeme) → tokens ≡ front ++ back
+      → SuffixOf E x z front → z.at ≡ at → SuffixesOf E at z y back → SuffixesOf E at x y tokens
 
 -- an operand with the indexes and selections behind it
 pub record PostfixOf (E : Expr → List Lexeme → Type 0) (y : Expr) (tokens : List Lexeme) : Type 0 where
@@ -198,7 +201,8 @@ Prefixes (o ∷ more) = Prefixed o then Prefixes more
 -- an operand with the prefixes before it
 pub data UnaryOf (E : Expr → List Lexeme → Type 0) (y : Expr) (tokens : List Lexeme) : Type 0 where
   operand : PostfixOf E y tokens → UnaryOf E y tokens
-  prefixed : (o : Op) (more : List Op) (x : Expr) → y.form ≡ form.Prefix (o ∷ more) x → y.at ≡ place_of tokens → (Prefixes (o ∷ more) then PostfixOf E x) tokens → UnaryOf E y tokens
+  prefixed : (o : Op) (more : List Op) (x : Expr) → y.form ≡ form.Prefix (o ∷ more) x → y.at ≡ place_of tokens
+      → (Prefixes (o ∷ more) then PostfixOf E x) tokens → UnaryOf E y tokens
 
 -- ---- expressions
 

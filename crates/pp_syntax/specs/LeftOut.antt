@@ -10,7 +10,8 @@ pub record IsFirst (P : List Lexeme → Lexeme → List Lexeme → Type 0) (toke
   pub back : List Lexeme
   pub whole : tokens ≡ front ++ t ∷ back
   pub here : P front t back
-  pub first : (before : List Lexeme) (u : Lexeme) (behind : List Lexeme) → tokens ≡ before ++ u ∷ behind → length before < length front → P before u behind → ⊥
+  pub first : (before : List Lexeme) (u : Lexeme) (behind : List Lexeme) → tokens ≡ before ++ u ∷ behind
+      → length before < length front → P before u behind → ⊥
 
 -- No token is such a one.
 abbrev pub IsNowhere : (List Lexeme → Lexeme → List Lexeme → Type 0) → List Lexeme → Type 0

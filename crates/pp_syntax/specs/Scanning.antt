@@ -53,7 +53,8 @@ has_dashes style.Var = false
 -- what is left behind a segment whose longest end so far is before best
 abbrev pub tail_from : Style → List ℕ → List ℕ → List ℕ
 tail_from how best [] = best
-tail_from how best (b ∷ text) = if is_name b then tail_from how text text else (if (b == 45) && has_dashes how then tail_from how best text else best)
+tail_from how best (b ∷ text) = if is_name b then tail_from how text text else
+    (if (b == 45) && has_dashes how then tail_from how best text else best)
 
 -- what is left behind a segment
 abbrev pub segment : Style → List ℕ → Option (List ℕ)
@@ -213,7 +214,8 @@ begins_with c (b ∷ text) = b == c
 
 -- the digits of `\u{` and the `}`: how many bytes they take
 abbrev pub braced_by : List ℕ → List ℕ → Option ℕ
-braced_by digits rest = if nat_lt 0 (length digits) && nat_le (length digits) 6 && begins_with 125 rest && is_scalar (hex_value digits) then Some (length digits + 1) else None
+braced_by digits rest = if nat_lt 0 (length digits) && nat_le (length digits) 6 && begins_with 125 rest && is_scalar
+    (hex_value digits) then Some (length digits + 1) else None
 
 unfoldable pub braced_len : List ℕ → Option ℕ
 braced_len text = braced_by (front_of text (after_all is_hex text)) (after_all is_hex text)
@@ -224,7 +226,8 @@ four_len [] = None
 four_len (a ∷ []) = None
 four_len (a ∷ b ∷ []) = None
 four_len (a ∷ b ∷ c ∷ []) = None
-four_len (a ∷ b ∷ c ∷ d ∷ text) = if is_hex a && is_hex b && is_hex c && is_hex d && is_scalar (hex_value (a ∷ b ∷ c ∷ d ∷ [])) then Some 5 else None
+four_len (a ∷ b ∷ c ∷ d ∷ text) = if is_hex a && is_hex b && is_hex c && is_hex d && is_scalar
+    (hex_value (a ∷ b ∷ c ∷ d ∷ [])) then Some 5 else None
 
 -- how many bytes the escape of a `\u` takes, without the backslash
 abbrev pub unicode_len : List ℕ → Option ℕ
@@ -242,7 +245,8 @@ opens text = begins_with 123 text || is_some (name style.Var text)
 
 -- how many bytes behind this one belong to the same escape; none where the text in double quotes ends before it
 unfoldable pub unit_len : ℕ → List ℕ → Option ℕ
-unit_len b text = if b == 34 then None else (if b == 36 then (if opens text then None else Some 0) else (if b == 92 then escape_len text else Some 0))
+unit_len b text = if b == 34 then None else
+    (if b == 36 then (if opens text then None else Some 0) else (if b == 92 then escape_len text else Some 0))
 
 abbrev pub past_unit : (ℕ → List ℕ) → List ℕ → Option ℕ → List ℕ
 past_unit from text None = text
@@ -321,7 +325,8 @@ after_block (b ∷ text) = if b == 42 then after_close text else None
 -- what is left behind a blank or a comment
 unfoldable pub gap_of : List ℕ → Option (List ℕ)
 gap_of [] = None
-gap_of (b ∷ text) = if is_blank b then Some text else (if b == 35 then Some (after_all (λ c. not (c == 10)) text) else (if b == 47 then after_block text else None))
+gap_of (b ∷ text) = if is_blank b then Some text else
+    (if b == 35 then Some (after_all (λ c. not (c == 10)) text) else (if b == 47 then after_block text else None))
 
 -- so at a place; within double quotes there is none
 abbrev pub gap_at : Place → List ℕ → Option (List ℕ)

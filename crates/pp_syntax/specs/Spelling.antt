@@ -110,11 +110,15 @@ behind_gap p s = record { at = p.at + length s; opened = p.opened; tight = false
 
 -- From this place on the text is these tokens, with blanks and comments between and around them, up to this ending.
 pub data Reads : Place → List ℕ → List Lexeme → Ending → Type 0 where
-  ends : {p : Place} {text : List ℕ} {tokens : List Lexeme} {e : Ending} → text ≡ [] → tokens ≡ [] → e ≡ ending p.opened → Reads p text tokens e
-  gap : {p : Place} {text : List ℕ} {tokens : List Lexeme} {e : Ending} (s rest : List ℕ) → text ≡ s ++ rest → GapAt p s rest → Reads (behind_gap p s) rest tokens e → Reads p text tokens e
-  token : {p : Place} {text : List ℕ} {tokens : List Lexeme} {e : Ending} (k : Kind) (s rest : List ℕ) (more : List Lexeme) → text ≡ s ++ rest → TokenAt p k s rest
+  ends : {p : Place} {text : List ℕ} {tokens : List Lexeme} {e : Ending} → text ≡ [] → tokens ≡ [] → e ≡ ending p.opened
+      → Reads p text tokens e
+  gap : {p : Place} {text : List ℕ} {tokens : List Lexeme} {e : Ending} (s rest : List ℕ) → text ≡ s ++ rest
+      → GapAt p s rest → Reads (behind_gap p s) rest tokens e → Reads p text tokens e
+  token : {p : Place} {text : List ℕ} {tokens : List Lexeme} {e : Ending} (k : Kind) (s rest : List ℕ)
+      (more : List Lexeme) → text ≡ s ++ rest → TokenAt p k s rest
       → tokens ≡ record { kind = k; text = s; at = p.at } ∷ more → Reads (behind p k s) rest more e → Reads p text tokens e
-  stuck : {p : Place} {text : List ℕ} {tokens : List Lexeme} {e : Ending} → text ≢ [] → ((s rest : List ℕ) → text ≡ s ++ rest → ¬ (GapAt p s rest))
+  stuck : {p : Place} {text : List ℕ} {tokens : List Lexeme} {e : Ending} → text ≢ []
+      → ((s rest : List ℕ) → text ≡ s ++ rest → ¬ (GapAt p s rest))
       → ((k : Kind) (s rest : List ℕ) → text ≡ s ++ rest → ¬ (TokenAt p k s rest)) → tokens ≡ [] → e ≡ Fault p.at → Reads p text tokens e
 
 -- The text is these tokens in order, with blanks and comments between and around them.

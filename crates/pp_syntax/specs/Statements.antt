@@ -98,7 +98,8 @@ pub data AtomOf (E : Expr → List Lexeme → Type 0) (S : Search → List Lexem
   enclosed : (Sign (codes "(") then S y then Sign (codes ")")) tokens → AtomOf E S y tokens
 
 -- atoms with `and` between them
-pub data ConjunctionOf (E : Expr → List Lexeme → Type 0) (S : Search → List Lexeme → Type 0) (y : Search) (tokens : List Lexeme) : Type 0 where
+pub data ConjunctionOf (E : Expr → List Lexeme → Type 0) (S : Search → List Lexeme → Type 0) (y : Search)
+    (tokens : List Lexeme) : Type 0 where
   atom : AtomOf E S y tokens → ConjunctionOf E S y tokens
   conjunction : (first second : Search) (more : List Search) → y ≡ search.And (first ∷ second ∷ more) → Separated (Keyword (codes "and")) (AtomOf E S) (first ∷ second ∷ more) tokens → ConjunctionOf E S y tokens
 
@@ -129,7 +130,8 @@ Virtual false = Nothing
 
 -- one side of a chain: a resource or a class that is declared, a collector, or references
 pub data OperandOf (E : Expr → List Lexeme → Type 0) (y : Operand) (tokens : List Lexeme) : Type 0 where
-  resource : (at : ℕ) (virtual : Bool) (name : List ℕ) (bodies : List Body) → y ≡ operand.Declare at virtual name bodies → at ≡ place_of tokens → is_among functions name ≡ false
+  resource : (at : ℕ) (virtual : Bool) (name : List ℕ) (bodies : List Body) → y ≡ operand.Declare at virtual name bodies
+      → at ≡ place_of tokens → is_among functions name ≡ false
       → (Virtual virtual then Some kind.Word name then InBraces (BodiesOf E bodies)) tokens → OperandOf E y tokens
   class : (at : ℕ) (bodies : List Body) → y ≡ operand.Declare at false (codes "class") bodies → (Token kind.Keyword (codes "class") at then InBraces (BodiesOf E bodies)) tokens → OperandOf E y tokens
   collector : (at : ℕ) (name : List ℕ) (sought : Option Search) → y ≡ operand.Collect at name sought → (Token kind.Ref name at then Sign (codes "<|") then MaybeSearch E sought then Sign (codes "|>")) tokens → OperandOf E y tokens
@@ -208,9 +210,12 @@ CaseArms E S (a ∷ more) = CaseArmOf E S a then CaseArms E S more
 
 -- a statement, by the rule for those in its blocks
 pub data StmtOf (E : Expr → List Lexeme → Type 0) (S : Stmt → List Lexeme → Type 0) (y : Stmt) (tokens : List Lexeme) : Type 0 where
-  chain : (at : ℕ) (first : Operand) (others : List Operand) (arrows : List Arrow) → y ≡ stmt.Chain at (first ∷ others) arrows → at ≡ place_of tokens → (OperandOf E first then Links E arrows others) tokens → StandsAlone first others → StmtOf E S y tokens
+  chain : (at : ℕ) (first : Operand) (others : List Operand) (arrows : List Arrow)
+      → y ≡ stmt.Chain at (first ∷ others) arrows → at ≡ place_of tokens
+      → (OperandOf E first then Links E arrows others) tokens → StandsAlone first others → StmtOf E S y tokens
   assign : (at : ℕ) (name : List ℕ) (value : Expr) → y ≡ stmt.Assign at name value → at ≡ place_of tokens → (VariableOf name then Sign (codes "=") then E value) tokens → StmtOf E S y tokens
-  call : (at : ℕ) (f : Func) (args : List Expr) → y ≡ stmt.Call at f args → (Token kind.Word (word_of f) at then ArgsOf E args) tokens → StmtOf E S y tokens
+  call : (at : ℕ) (f : Func) (args : List Expr) → y ≡ stmt.Call at f args
+      → (Token kind.Word (word_of f) at then ArgsOf E args) tokens → StmtOf E S y tokens
   if : (at : ℕ) (first : Arm) (others : List Arm) (other : List Stmt) → y ≡ stmt.If at (first ∷ others) other
       → (Token kind.Keyword (codes "if") at then ArmOf E S first then Each (Keyword (codes "elsif")) (ArmOf E S) others then ElseOf S other) tokens → StmtOf E S y tokens
   unless : (at : ℕ) (test : Expr) (body other : List Stmt) → y ≡ stmt.Unless at test body other → (Token kind.Keyword (codes "unless") at then E test then BlockOf S body then ElseOf S other) tokens → StmtOf E S y tokens
@@ -290,12 +295,15 @@ ParentOf (prelude.Some name) = Keyword (codes "inherits") then Some kind.Word na
 -- `default`, a word, or a text without variables and expressions
 pub data NodeNameOf (E : Expr → List Lexeme → Type 0) : Option (List ℕ) → List Lexeme → Type 0 where
   default : {y : Option (List ℕ)} {tokens : List Lexeme} → y ≡ prelude.None → Keyword (codes "default") tokens → NodeNameOf E y tokens
-  word : {y : Option (List ℕ)} {tokens : List Lexeme} (name : List ℕ) → y ≡ prelude.Some name → Some kind.Word name tokens → NodeNameOf E y tokens
-  text : {y : Option (List ℕ)} {tokens : List Lexeme} (name : List ℕ) (x : Expr) → y ≡ prelude.Some name → StringOf E x tokens → x.form ≡ form.Str name → NodeNameOf E y tokens
+  word : {y : Option (List ℕ)} {tokens : List Lexeme} (name : List ℕ) → y ≡ prelude.Some name
+      → Some kind.Word name tokens → NodeNameOf E y tokens
+  text : {y : Option (List ℕ)} {tokens : List Lexeme} (name : List ℕ) (x : Expr) → y ≡ prelude.Some name
+      → StringOf E x tokens → x.form ≡ form.Str name → NodeNameOf E y tokens
 
 -- what may stand at the top of a manifest
 pub data ItemOf (E : Expr → List Lexeme → Type 0) (S : Stmt → List Lexeme → Type 0) (y : Item) (tokens : List Lexeme) : Type 0 where
-  class : (at : ℕ) (name : List ℕ) (params : List Param) (parent : Option (List ℕ)) (body : List Stmt) → y ≡ item.Class at name params parent body
+  class : (at : ℕ) (name : List ℕ) (params : List Param) (parent : Option (List ℕ)) (body : List Stmt)
+      → y ≡ item.Class at name params parent body
       → (Token kind.Keyword (codes "class") at then Some kind.Word name then ParamsOf E params then ParentOf parent then BlockOf S body) tokens → ItemOf E S y tokens
   define : (at : ℕ) (name : List ℕ) (params : List Param) (body : List Stmt) → y ≡ item.Define at name params body
       → (Token kind.Keyword (codes "define") at then Some kind.Word name then ParamsOf E params then BlockOf S body) tokens → ItemOf E S y tokens

@@ -24,12 +24,17 @@ simple_value c = if c == 110 then 10 else (if c == 114 then 13 else (if c == 116
 -- what stands behind a backslash, and the bytes that the escape stands for
 pub data EscapeOf (value front : List ℕ) : Type 0 where
   simple : (c : ℕ) → front ≡ c ∷ [] → IsTrue (is_simple_escape c) → value ≡ simple_value c ∷ [] → EscapeOf value front
-  four : (digits : List ℕ) → front ≡ 117 ∷ digits → length digits ≡ 4 → Of is_hex digits → IsTrue (is_scalar (hex_value digits)) → value ≡ encode_utf8 (hex_value digits) → EscapeOf value front
-  braced : (digits : List ℕ) → front ≡ 117 ∷ 123 ∷ (digits ++ 125 ∷ []) → 1 ≤ length digits → length digits ≤ 6 → Of is_hex digits → IsTrue (is_scalar (hex_value digits)) → value ≡ encode_utf8 (hex_value digits) → EscapeOf value front
+  four : (digits : List ℕ) → front ≡ 117 ∷ digits → length digits ≡ 4 → Of is_hex digits
+      → IsTrue (is_scalar (hex_value digits)) → value ≡ encode_utf8 (hex_value digits) → EscapeOf value front
+  braced : (digits : List ℕ) → front ≡ 117 ∷ 123 ∷ (digits ++ 125 ∷ []) → 1 ≤ length digits → length digits ≤ 6
+      → Of is_hex digits → IsTrue (is_scalar (hex_value digits)) → value ≡ encode_utf8 (hex_value digits)
+      → EscapeOf value front
 
 -- text in double quotes with this value
 pub data DqOf : List ℕ → List ℕ → Type 0 where
   nothing : {value raw : List ℕ} → value ≡ [] → raw ≡ [] → DqOf value raw
   plain : {value raw : List ℕ} (b : ℕ) (rest more : List ℕ) → value ≡ b ∷ rest → raw ≡ b ∷ more → b ≢ 92 → DqOf rest more → DqOf value raw
-  escape : {value raw : List ℕ} (here rest front more : List ℕ) → value ≡ here ++ rest → raw ≡ 92 ∷ (front ++ more) → EscapeOf here front → DqOf rest more → DqOf value raw
-  backslash : {value raw : List ℕ} (rest more : List ℕ) → value ≡ 92 ∷ rest → raw ≡ 92 ∷ more → NoEscape more → DqOf rest more → DqOf value raw
+  escape : {value raw : List ℕ} (here rest front more : List ℕ) → value ≡ here ++ rest → raw ≡ 92 ∷ (front ++ more)
+      → EscapeOf here front → DqOf rest more → DqOf value raw
+  backslash : {value raw : List ℕ} (rest more : List ℕ) → value ≡ 92 ∷ rest → raw ≡ 92 ∷ more → NoEscape more
+      → DqOf rest more → DqOf value raw

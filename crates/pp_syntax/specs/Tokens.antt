@@ -156,8 +156,10 @@ is_scalar n = nat_le n 55295 || (nat_le 57344 n && nat_le n 1114111)
 -- what may stand behind a backslash to make an escape
 pub data Escape : List ℕ → Type 0 where
   simple : {s : List ℕ} (c : ℕ) → s ≡ c ∷ [] → IsTrue (is_simple_escape c) → Escape s
-  four : {s : List ℕ} (digits : List ℕ) → s ≡ 117 ∷ digits → length digits ≡ 4 → Of is_hex digits → IsTrue (is_scalar (hex_value digits)) → Escape s
-  braced : {s : List ℕ} (digits : List ℕ) → s ≡ 117 ∷ 123 ∷ (digits ++ 125 ∷ []) → 1 ≤ length digits → length digits ≤ 6 → Of is_hex digits → IsTrue (is_scalar (hex_value digits)) → Escape s
+  four : {s : List ℕ} (digits : List ℕ) → s ≡ 117 ∷ digits → length digits ≡ 4 → Of is_hex digits
+      → IsTrue (is_scalar (hex_value digits)) → Escape s
+  braced : {s : List ℕ} (digits : List ℕ) → s ≡ 117 ∷ 123 ∷ (digits ++ 125 ∷ []) → 1 ≤ length digits → length digits ≤ 6
+      → Of is_hex digits → IsTrue (is_scalar (hex_value digits)) → Escape s
 
 -- The text behind a backslash: no escape begins here, so the backslash stands for itself.
 abbrev pub NoEscape : List ℕ → Type 0

@@ -115,7 +115,8 @@ same_list_other xs b = same_with xs b
 abbrev pub same_in : List Pair → List Pair → Bool
 same_in xs ys = (length xs == length ys) && list_all (has_same ys) xs
 
-pairs_rows : (xs : List Pair) (ys : List Pair) → same_pairs (block.shape-the_row-Value-1 xs) (block.hidden-the_row-Value-1 xs) ys ≡ list_all (has_same ys) xs
+pairs_rows : (xs : List Pair) (ys : List Pair)
+    → same_pairs (block.shape-the_row-Value-1 xs) (block.hidden-the_row-Value-1 xs) ys ≡ list_all (has_same ys) xs
 unfolding block.shape-the_row-Value-1 block.hidden-the_row-Value-1 denote.Hole.Carrier.hidden
 pairs_rows [] ys = refl
 pairs_rows (p ∷ xs) ys = ap (λ b. has_same ys p && b) (pairs_rows xs ys)

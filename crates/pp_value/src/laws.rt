@@ -24,7 +24,8 @@ pub fn text_shows_itself()
 
 /// In the sum of two maps a key has its value from the right one, or else from the left one.
 pub fn right_values_win()
-    ensures { (left right : List Pair) → HasDistinctKeys right → (key : List ℕ) → value_at key (with_pairs left right) ≡ option_or (value_at key right) (value_at key left) }
+    ensures { (left right : List Pair) → HasDistinctKeys right → (key : List ℕ)
+        → value_at key (with_pairs left right) ≡ option_or (value_at key right) (value_at key left) }
 {}
 
 /// The sum of values whose maps have distinct keys is such a value.
@@ -51,7 +52,8 @@ pub fn wholes_are_proper()
 /// Pairs with distinct keys keep them with others behind, and their values stay such whose maps have distinct keys.
 pub fn pairs_stay_proper()
     ensures distinct { (pairs more : List Pair) → HasDistinctKeys pairs → HasDistinctKeys (with_pairs pairs more) }
-    ensures proper { (pairs more : List Pair) → AllByRecursion (λ p. IsProper p.1) pairs → AllByRecursion (λ p. IsProper p.1) more → AllByRecursion (λ p. IsProper p.1) (with_pairs pairs more) }
+    ensures proper { (pairs more : List Pair) → AllByRecursion (λ p. IsProper p.1) pairs
+        → AllByRecursion (λ p. IsProper p.1) more → AllByRecursion (λ p. IsProper p.1) (with_pairs pairs more) }
 {}
 
 /// Pairs with distinct keys, put one after the other, are themselves.

@@ -78,7 +78,8 @@ fn member_at(items: &[Value], n: i64) -> Option<&Value>
 /// exactly. None stands for undef, where there is none.
 #[tactic(auto, using(crate::proofs::Tables::index_list, crate::proofs::Tables::index_map))]
 pub fn member<'v>(a: &'v Value, key: &Value) -> Result<Option<&'v Value>, Misfit>
-    ensures { MatchResult result (λ m. index_table a.now key.now ≡ Ok (or_undef (option_map (λ x. x.now) m))) (λ e. index_table a.now key.now ≡ Err e) }
+    ensures { MatchResult result (λ m. index_table a.now key.now ≡ Ok (or_undef (option_map (λ x. x.now) m)))
+        (λ e. index_table a.now key.now ≡ Err e) }
 {
     match (a, key) {
         (Value::List(items), Value::Int(n)) => Ok(member_at(items.as_slice(), *n)),

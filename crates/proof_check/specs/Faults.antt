@@ -16,18 +16,21 @@ LeadsTo earlier step d = (first : List Lit) × (numbered earlier step.start ≡ 
 
 -- the link leads from a clause to their resolvent
 abbrev pub Resolves : List (List Lit) → List Lit → Link → List Lit → Type 0
-Resolves earlier c link d = (named : List Lit) × (numbered earlier link.number ≡ Some named) × (has_lit c link.pivot ≡ true) × (has_lit named (opposite link.pivot) ≡ true) × (d ≡ resolvent link.pivot c named)
+Resolves earlier c link d = (named : List Lit) × (numbered earlier link.number ≡ Some named)
+    × (has_lit c link.pivot ≡ true) × (has_lit named (opposite link.pivot) ≡ true) × (d ≡ resolvent link.pivot c named)
 
 -- the link names no earlier clause; or a pivot is missing
 abbrev pub LinkFails : List (List Lit) → List Lit → Link → ℕ → Cause → Type 0
 LinkFails earlier c link k cause =
     ((numbered earlier link.number ≡ None) × (cause ≡ NoClause link.number))
-    ⊎ ((named : List Lit) × (numbered earlier link.number ≡ Some named) × ((has_lit c link.pivot ≡ false) ⊎ (has_lit named (opposite link.pivot) ≡ false)) × (cause ≡ NoPivot k))
+    ⊎ ((named : List Lit) × (numbered earlier link.number ≡ Some named)
+    × ((has_lit c link.pivot ≡ false) ⊎ (has_lit named (opposite link.pivot) ≡ false)) × (cause ≡ NoPivot k))
 
 -- the first link that fails, of links that are counted from k; or the chain gives another clause
 abbrev pub ChainFails : List (List Lit) → List Lit → List Lit → List Link → ℕ → Cause → Type 0
 ChainFails earlier wanted c [] k cause = (cause ≡ Resolvent c) × (c ≢ wanted)
-ChainFails earlier wanted c (link ∷ chain) k cause = LinkFails earlier c link k cause ⊎ ((d : List Lit) × Resolves earlier c link d × ChainFails earlier wanted d chain (k + 1) cause)
+ChainFails earlier wanted c (link ∷ chain) k cause = LinkFails earlier c link k cause
+    ⊎ ((d : List Lit) × Resolves earlier c link d × ChainFails earlier wanted d chain (k + 1) cause)
 
 -- the step begins at no earlier clause; or its chain fails
 abbrev pub StepFails : List (List Lit) → Step → Cause → Type 0
@@ -39,7 +42,8 @@ StepFails earlier step cause =
 abbrev pub FirstFault : List (List Lit) → List Step → ℕ → Cause → Type 0
 FirstFault earlier [] n cause = ⊥
 FirstFault earlier (step ∷ steps) n cause =
-    ((n ≡ 1) × StepFails earlier step cause) ⊎ (IsRight earlier step × ((m : ℕ) × (n ≡ m + 1) × FirstFault (earlier ++ step.clause ∷ []) steps m cause))
+    ((n ≡ 1) × StepFails earlier step cause)
+    ⊎ (IsRight earlier step × ((m : ℕ) × (n ≡ m + 1) × FirstFault (earlier ++ step.clause ∷ []) steps m cause))
 
 -- the last of these steps has a clause that isn't empty
 abbrev pub EndsFull : List Step → Type 0

@@ -20,7 +20,8 @@ line_words line = counted (words_behind [] line)
 
 -- the words that are left; a line that was begun counts
 abbrev pub words_left : Bool → List ℕ → List Word
-words_left fresh text = (if fresh then line_words (first_line text) else words_behind [] (first_line text)) ++ flat_map line_words (other_lines text)
+words_left fresh text = (if fresh then line_words (first_line text) else words_behind [] (first_line text))
+    ++ flat_map line_words (other_lines text)
 
 -- what a word is made of
 abbrev pub is_inner : ℕ → Bool

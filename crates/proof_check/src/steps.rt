@@ -37,7 +37,8 @@ fn load_formula(cnf: &Cnf, n: u64, into: &mut Vec<Lit>) -> Result<(), NoMemory>
 /// The literals of the clause with a number, if it is one of the formula's or of these steps'.
 #[tactic(auto, using(crate::proofs::Numbers::in_formula, crate::proofs::Numbers::in_steps, crate::proofs::Numbers::in_none))]
 fn load(cnf: &Cnf, steps: &[Step], n: u64, into: &mut Vec<Lit>) -> Result<bool, NoMemory>
-    ensures { IfOk result (λ found. MatchBool found (numbered (earlier_of cnf.now steps.now) n ≡ Some into.new.items) (numbered (earlier_of cnf.now steps.now) n ≡ None)) }
+    ensures { IfOk result (λ found. MatchBool found (numbered (earlier_of cnf.now steps.now) n ≡ Some into.new.items)
+        (numbered (earlier_of cnf.now steps.now) n ≡ None)) }
 {
     into.clear();
     let count = cnf.count();
@@ -149,7 +150,8 @@ fn follow_chain(
     requires clean { AreClean set.old.vars (earlier_of cnf.now steps.now) }
     ensures vars { OnOk result (set.new.vars ≡ set.old.vars) }
     ensures ok { OnOk result (Leads (earlier_of cnf.now steps.now) set.old.lits chain.now set.new.lits) }
-    ensures fails { IfErr result (λ e. IfCause e (λ cause. (wanted : List Lit) → ChainFails (earlier_of cnf.now steps.now) wanted set.old.lits chain.now 1 cause)) }
+    ensures fails { IfErr result (λ e. IfCause e (λ cause. (wanted : List Lit)
+        → ChainFails (earlier_of cnf.now steps.now) wanted set.old.lits chain.now 1 cause)) }
 {
     for i in 0..chain.len() {
         follow(set, cnf, steps, named, chain[i], i as u64 + 1)?;

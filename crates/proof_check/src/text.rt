@@ -419,8 +419,10 @@ pub fn read_proofs(alloc: Global, bytes: &[u8]) -> Result<Vec<(Cnf, Log)>, Fault
     // what the text spells
     ensures spelled { IfOk result (λ found. IsProofText bytes.now (map refutation found.items)) }
     // Where it spells some the answer is these, unless memory runs out.
-    ensures only { (ps : List Refutation) → IsProofText bytes.now ps → MatchResult result (λ found. map refutation found.items ≡ ps) (λ f. IfRefused f (λ r. ⊥)) }
-    ensures refused { IfErr result (λ f. IfRefused f (λ r. IsRefusal 80 0 (codes "proof") r × ((ps : List Refutation) → IsProofText bytes.now ps → ⊥))) }
+    ensures only { (ps : List Refutation) → IsProofText bytes.now ps
+        → MatchResult result (λ found. map refutation found.items ≡ ps) (λ f. IfRefused f (λ r. ⊥)) }
+    ensures refused { IfErr result (λ f. IfRefused f (λ r. IsRefusal 80 0 (codes "proof") r
+        × ((ps : List Refutation) → IsProofText bytes.now ps → ⊥))) }
 {
     match proofs(alloc, bytes) {
         Ok(found) => Ok(found),

@@ -42,7 +42,8 @@ IsOfReport status = (status ≤ 3) ⊎ ((status ≡ 9) ⊎ (status ≡ 10))
 
 -- status 0 to 3, 9 or 10: the report with this status was written to out, and nothing to err
 abbrev pub WritesReport : Run → ℕ → Type 0
-WritesReport run status = (report : Report) × Reports run.words run.held report × (report.status ≡ status) × Appends report.text run.out × IsLeft run.err
+WritesReport run status = (report : Report) × Reports run.words run.held report × (report.status ≡ status)
+    × Appends report.text run.out × IsLeft run.err
 
 -- status 4: the first refusal was told on err, and nothing on out
 abbrev pub TellsRefusal : Run → Type 0
@@ -68,7 +69,8 @@ HasCause run status line =
 -- was to be told, and nothing was put on out.
 abbrev pub FailsToWrite : Run → Type 0
 FailsToWrite run =
-    (HasFailed run.out × (report : Report) × Reports run.words run.held report × AppendsFront report.text run.out × AppendsFront write_fault_line run.err)
+    (HasFailed run.out × (report : Report) × Reports run.words run.held report × AppendsFront report.text run.out
+    × AppendsFront write_fault_line run.err)
     ⊎ (HasFailed run.err × (status : ℕ) × (line : List ℕ) × HasCause run status line × AppendsFront line run.err × IsLeft run.out)
 
 -- status 8: memory was refused, and nothing was put on out

@@ -128,7 +128,8 @@ pub record IsWell (run : Run) : Type 0 where
 pub record DependsOnOrder (run : Run) : Type 0 where
   pub judged : Judged run
   pub report : Report
-  pub different : IsDifferent judged.form (terms_for judged.of) (notes_for judged.of) (names_of judged) judged.of.programs judged.of.graph.order judged.pruned report
+  pub different : IsDifferent judged.form (terms_for judged.of) (notes_for judged.of)
+      (names_of judged) judged.of.programs judged.of.graph.order judged.pruned report
   pub written : Appends report.text run.out
 
 -- Status 2: from every file tree in which the given folders stand all allowed orders end alike, but from the tree that is told, which is
@@ -136,14 +137,16 @@ pub record DependsOnOrder (run : Run) : Type 0 where
 pub record ChangesAgain (run : Run) : Type 0 where
   pub judged : Judged run
   pub report : Report
-  pub changed : IsChanged judged.form (terms_for judged.of) (notes_for judged.of) (names_of judged) judged.of.programs judged.of.graph.order judged.pruned report
+  pub changed : IsChanged judged.form (terms_for judged.of) (notes_for judged.of)
+      (names_of judged) judged.of.programs judged.of.graph.order judged.pruned report
   pub written : Appends report.text run.out
 
 -- Status 3: the conflicts that the words give were spent on the question that is told, and what is told ahead of it is true.
 pub record SpendsConflicts (run : Run) : Type 0 where
   pub judged : Judged run
   pub report : Report
-  pub unanswered : IsUnanswered judged.form (terms_for judged.of) (notes_for judged.of) judged.of.programs judged.of.graph.order judged.pruned report
+  pub unanswered : IsUnanswered judged.form (terms_for judged.of)
+      (notes_for judged.of) judged.of.programs judged.of.graph.order judged.pruned report
   pub written : Appends report.text run.out
 
 -- Status 0 of an entry that is wanted: from every file tree in which the given folders stand all allowed orders end alike, and each
@@ -152,7 +155,8 @@ pub record LeavesEntry (run : Run) : Type 0 where
   pub judged : Judged run
   pub asked : judged.ask ≡ ask.Ensures
   pub report : Report
-  pub ensured : TellsEnsured (terms_for judged.of) (notes_for judged.of) (wanted_for judged.of) judged.of.programs judged.of.graph.order judged.pruned report
+  pub ensured : TellsEnsured (terms_for judged.of) (notes_for judged.of)
+      (wanted_for judged.of) judged.of.programs judged.of.graph.order judged.pruned report
   pub written : Appends report.text run.out
 
 -- Status 9: from every file tree in which the given folders stand all allowed orders end alike; but from the tree that is told, which is
@@ -161,7 +165,8 @@ pub record MissesEntry (run : Run) : Type 0 where
   pub judged : Judged run
   pub asked : judged.ask ≡ ask.Ensures
   pub report : Report
-  pub missed : TellsMissed (terms_for judged.of) (notes_for judged.of) (wanted_for judged.of) (names_of judged) judged.of.programs judged.of.graph.order judged.pruned report
+  pub missed : TellsMissed (terms_for judged.of) (notes_for judged.of) (wanted_for judged.of)
+      (names_of judged) judged.of.programs judged.of.graph.order judged.pruned report
   pub written : Appends report.text run.out
 
 -- Status 3 behind `deterministic`: the conflicts that the words give were spent on whether each run leaves the entry, or whether any
@@ -170,7 +175,8 @@ pub record SpendsOnEntry (run : Run) : Type 0 where
   pub judged : Judged run
   pub asked : judged.ask ≡ ask.Ensures
   pub report : Report
-  pub unanswered : TellsSpent (terms_for judged.of) (notes_for judged.of) (wanted_for judged.of) judged.of.programs judged.of.graph.order judged.pruned report
+  pub unanswered : TellsSpent (terms_for judged.of) (notes_for judged.of)
+      (wanted_for judged.of) judged.of.programs judged.of.graph.order judged.pruned report
   pub written : Appends report.text run.out
 
 -- Status 0 of a repair: with the arrows that are told, every file tree in which the given folders stand has one outcome whatever the
@@ -178,7 +184,8 @@ pub record SpendsOnEntry (run : Run) : Type 0 where
 pub record IsMended (run : Run) : Type 0 where
   pub of : Modelled run ask.Repair
   pub report : Report
-  pub repaired : TellsArrows (terms_for of) (notes_for of) (quoted_names_in of.source of.catalog of.graph.plain) of.programs of.graph.order report
+  pub repaired : TellsArrows (terms_for of) (notes_for of)
+      (quoted_names_in of.source of.catalog of.graph.plain) of.programs of.graph.order report
   pub written : Appends report.text run.out
 
 -- Status 3 of a repair: the conflicts that the words give were spent on whether the graph is deterministic with some arrows.
@@ -203,8 +210,10 @@ abbrev pub OfBoth : {run : Run} → IsCompared run → (List Program → Relatio
 OfBoth c told = told c.of.programs c.of.graph.order c.of.other_programs c.of.other_graph.order
 
 -- the same, with the references of their resources
-abbrev pub OfBothNamed : {run : Run} → IsCompared run → (List (List ℕ) → List Program → Relation → List (List ℕ) → List Program → Relation → Type 0) → Type 0
-OfBothNamed c told = told (comparisons.names_of c.of) c.of.programs c.of.graph.order (other_names_of c.of) c.of.other_programs c.of.other_graph.order
+abbrev pub OfBothNamed : {run : Run} → IsCompared run
+    → (List (List ℕ) → List Program → Relation → List (List ℕ) → List Program → Relation → Type 0) → Type 0
+OfBothNamed c told = told (comparisons.names_of c.of) c.of.programs c.of.graph.order
+    (other_names_of c.of) c.of.other_programs c.of.other_graph.order
 
 -- on what terms both are asked about
 abbrev pub terms_for_both : {run : Run} → IsCompared run → Terms
@@ -222,7 +231,9 @@ right_notes c = notes_of c.loaded.inputs c.of.known c.of.other_source c.of.other
 pub record DoTheSame (run : Run) : Type 0 where
   pub compared : IsCompared run
   pub report : Report
-  pub equal : OfBoth compared (λ es order fs other. TellsEqual (terms_for_both compared) (left_notes compared) (right_notes compared) es order fs other report)
+  pub equal : OfBoth compared
+      (λ es order fs other. TellsEqual (terms_for_both compared) (left_notes compared)
+      (right_notes compared) es order fs other report)
   pub written : Appends report.text run.out
 
 -- Status 10: both graphs are deterministic, but from the tree that is told, in which the given folders stand, an order that the left one allows and an order that the
@@ -230,7 +241,9 @@ pub record DoTheSame (run : Run) : Type 0 where
 pub record DoOtherwise (run : Run) : Type 0 where
   pub compared : IsCompared run
   pub report : Report
-  pub unequal : OfBothNamed compared (λ names es order others fs other. TellsUnequal (terms_for_both compared) (left_notes compared) (right_notes compared) names es order others fs other report)
+  pub unequal : OfBothNamed compared
+      (λ names es order others fs other. TellsUnequal (terms_for_both compared) (left_notes compared)
+      (right_notes compared) names es order others fs other report)
   pub written : Appends report.text run.out
 
 -- Status 1 of a comparison: from the tree that is told, in which the given folders stand, two orders that one of the graphs allows have the outcomes that are told, and
@@ -238,7 +251,9 @@ pub record DoOtherwise (run : Run) : Type 0 where
 pub record OneDependsOnOrder (run : Run) : Type 0 where
   pub compared : IsCompared run
   pub report : Report
-  pub differs : OfBothNamed compared (λ names es order others fs other. OneDiffers (terms_for_both compared) (left_notes compared) (right_notes compared) names es order others fs other report)
+  pub differs : OfBothNamed compared
+      (λ names es order others fs other. OneDiffers (terms_for_both compared) (left_notes compared)
+      (right_notes compared) names es order others fs other report)
   pub written : Appends report.text run.out
 
 -- Status 3 of a comparison: the conflicts that the words give were spent on whether one of the graphs is deterministic, or whether
@@ -285,7 +300,8 @@ pub record IsWellExplained (run : Run) : Type 0 where
 pub record TellsWhyOrderMatters (run : Run) : Type 0 where
   pub explained : Explained run
   pub report : Report
-  pub different : ExplainsDifference (given_for explained) explained.names explained.of.programs explained.of.graph.order (head_of explained) report
+  pub different : ExplainsDifference
+      (given_for explained) explained.names explained.of.programs explained.of.graph.order (head_of explained) report
   pub written : Appends report.text run.out
 
 -- Status 2 of an explanation: from every file tree in which the given folders stand all allowed orders end alike, but from the tree that
@@ -294,7 +310,8 @@ pub record TellsWhyOrderMatters (run : Run) : Type 0 where
 pub record TellsWhatChanges (run : Run) : Type 0 where
   pub explained : Explained run
   pub report : Report
-  pub changed : ExplainsChange (given_for explained) explained.names explained.of.programs explained.of.graph.order (head_of explained) report
+  pub changed : ExplainsChange (given_for explained) explained.names explained.of.programs explained.of.graph.order
+      (head_of explained) report
   pub written : Appends report.text run.out
 
 -- Status 3 of an explanation: the conflicts that the words give were spent on the question that is told, and what is told ahead of it
@@ -321,7 +338,8 @@ pub record Headline (run : Run) (status : ℕ) : Type 0 where
   pub well : AsksForVerdict run → status ≡ 0 → IsWell run
   pub depends : status ≡ 1 → DependsOnOrder run ⊎ (OneDependsOnOrder run ⊎ TellsWhyOrderMatters run)
   pub changes : status ≡ 2 → ChangesAgain run ⊎ TellsWhatChanges run
-  pub spends : status ≡ 3 → SpendsConflicts run ⊎ (SpendsOnRepair run ⊎ (SpendsOnEntry run ⊎ (SpendsOnComparison run ⊎ SpendsOnExplanation run)))
+  pub spends : status ≡ 3 → SpendsConflicts run
+      ⊎ (SpendsOnRepair run ⊎ (SpendsOnEntry run ⊎ (SpendsOnComparison run ⊎ SpendsOnExplanation run)))
   pub mended : AsksForRepair run → status ≡ 0 → IsMended run
   pub leaves : AsksForEntry run → status ≡ 0 → LeavesEntry run
   pub misses : status ≡ 9 → MissesEntry run

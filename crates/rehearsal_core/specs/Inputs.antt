@@ -52,11 +52,17 @@ files_of r = files_in r.source
 
 -- the manifest of a workload of size n, and its listing
 abbrev pub workload_inputs : ℕ → Inputs
-workload_inputs n = record { node = None; limits = limits.Usual; wanted = None; files = (role.Packages, listing_text n) ∷ (role.Input, manifest_text n) ∷ [] }
+workload_inputs n = record {
+  node = None;
+  limits = limits.Usual;
+  wanted = None;
+  files = (role.Packages, listing_text n) ∷ (role.Input, manifest_text n) ∷ [];
+}
 
 -- what a request is about: files, or a workload
 abbrev pub AreInputs : Held → Request → Source → Inputs → Type 0
-AreInputs held r (source.Files names) i = (i.node ≡ r.node) × (i.limits ≡ r.limits) × (i.wanted ≡ r.wanted) × AreRead held (input_kind r.ask names) names i.files
+AreInputs held r (source.Files names) i = (i.node ≡ r.node) × (i.limits ≡ r.limits) × (i.wanted ≡ r.wanted)
+    × AreRead held (input_kind r.ask names) names i.files
 AreInputs held r (source.Workload n) i = i ≡ workload_inputs n
 
 -- the request with the bytes that it is about

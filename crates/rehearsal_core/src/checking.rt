@@ -27,7 +27,8 @@ fn bad_proof(alloc: Global, number: u64, step: u64) -> Fault
 /// Whether a log is a proof of its formula. If it isn't, it is refused as the one of this number.
 fn check_one(alloc: Global, number: u64, cnf: Cnf, log: Log) -> Result<(), Fault>
     ensures ok { OnOk result (IsRefuted (refutation (cnf, log))) }
-    ensures bad { IfErr result (λ e. IfRefused e (λ r. (step : ℕ) × (cause : Cause) × IsFault cnf log.steps step cause × IsRefusal 81 0 (bad_proof number step) r)) }
+    ensures bad { IfErr result (λ e. IfRefused e (λ r. (step : ℕ) × (cause : Cause) × IsFault cnf log.steps step cause
+        × IsRefusal 81 0 (bad_proof number step) r)) }
 {
     match check(alloc, cnf, log) {
         Ok(_) => Ok(()),
@@ -39,7 +40,8 @@ fn check_one(alloc: Global, number: u64, cnf: Cnf, log: Log) -> Result<(), Fault
 /// Whether all are proofs.
 fn check_all(alloc: Global, proofs: Vec<(Cnf, Log)>) -> Result<(), Fault>
     ensures ok { OnOk result (AllByRecursion IsRefuted (map refutation proofs.items)) }
-    ensures bad { IfErr result (λ e. IfRefused e (λ r. (number : ℕ) × (step : ℕ) × FirstBad (map refutation proofs.items) number step × IsRefusal 81 0 (bad_proof number step) r)) }
+    ensures bad { IfErr result (λ e. IfRefused e (λ r. (number : ℕ) × (step : ℕ)
+        × FirstBad (map refutation proofs.items) number step × IsRefusal 81 0 (bad_proof number step) r)) }
 {
     let mut number = 0u64;
     for (cnf, log) in proofs {

@@ -257,7 +257,8 @@ fn answered<S: Shelf, O: Sink, E: Sink>(
     out: &mut O,
     err: &mut E,
 ) -> u8
-    ensures { Ended (run_of words.now S.holds S.faults shelf.old shelf.new (put_of O.written O.faults out.old out.new) (put_of E.written E.faults err.old err.new)) result }
+    ensures { Ended (run_of words.now S.holds S.faults shelf.old shelf.new (put_of O.written O.faults out.old out.new)
+        (put_of E.written E.faults err.old err.new)) result }
 {
     one_request();
     match decide(alloc, words, shelf) {
@@ -278,11 +279,15 @@ pub fn rehearse<S: Shelf, O: Sink, E: Sink>(
     err: &mut E,
 ) -> u8
     // what each status promises of a manifest or a compiled catalog
-    ensures headline { Headline (run_of words.now S.holds S.faults shelf.old shelf.new (put_of O.written O.faults out.old out.new) (put_of E.written E.faults err.old err.new)) result }
+    ensures headline { Headline
+        (run_of words.now S.holds S.faults shelf.old shelf.new (put_of O.written O.faults out.old out.new)
+        (put_of E.written E.faults err.old err.new)) result }
     // what each status tells, and where
-    ensures tells { Tells (run_of words.now S.holds S.faults shelf.old shelf.new (put_of O.written O.faults out.old out.new) (put_of E.written E.faults err.old err.new)) result }
+    ensures tells { Tells (run_of words.now S.holds S.faults shelf.old shelf.new
+        (put_of O.written O.faults out.old out.new) (put_of E.written E.faults err.old err.new)) result }
     // which statuses there are
-    ensures owes { Owes (run_of words.now S.holds S.faults shelf.old shelf.new (put_of O.written O.faults out.old out.new) (put_of E.written E.faults err.old err.new)) result }
+    ensures owes { Owes (run_of words.now S.holds S.faults shelf.old shelf.new
+        (put_of O.written O.faults out.old out.new) (put_of E.written E.faults err.old err.new)) result }
 {
     one_request();
     reports_exclude_refusals();

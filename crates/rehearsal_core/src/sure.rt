@@ -19,9 +19,13 @@ pub fn rehearse_in_memory(
     out: &mut SureSink,
     err: &mut SureSink,
 ) -> u8
-    ensures headline { Headline (sure_run words.now (ElseEmpty (files_of shelf.old)) (sure_put out.old.bytes out.new.bytes) (sure_put err.old.bytes err.new.bytes)) result }
-    ensures tells { Tells (sure_run words.now (ElseEmpty (files_of shelf.old)) (sure_put out.old.bytes out.new.bytes) (sure_put err.old.bytes err.new.bytes)) result }
-    ensures owes { Owes (sure_run words.now (ElseEmpty (files_of shelf.old)) (sure_put out.old.bytes out.new.bytes) (sure_put err.old.bytes err.new.bytes)) result }
+    ensures headline { Headline
+        (sure_run words.now (ElseEmpty (files_of shelf.old)) (sure_put out.old.bytes out.new.bytes)
+        (sure_put err.old.bytes err.new.bytes)) result }
+    ensures tells { Tells (sure_run words.now (ElseEmpty (files_of shelf.old)) (sure_put out.old.bytes out.new.bytes)
+        (sure_put err.old.bytes err.new.bytes)) result }
+    ensures owes { Owes (sure_run words.now (ElseEmpty (files_of shelf.old)) (sure_put out.old.bytes out.new.bytes)
+        (sure_put err.old.bytes err.new.bytes)) result }
     ensures writes { result ≡ 7 → ⊥ }
     ensures reads { result ≡ 6 → ⊥ }
 {

@@ -28,7 +28,8 @@ IfSpent (repaired.Spent added cnf log) P = P added cnf log.steps
 
 -- the budget was spent on the question whether the graph with these arrows is deterministic
 abbrev pub IsSpentWith : List Program → Relation → ℕ → List (ℕ × ℕ) → Formula → List Step → Type 0
-IsSpentWith es order budget arrows f steps = (made : Relation) × IsOrderWith order arrows made × IsSpent es (Told (comes made)) budget f steps
+IsSpentWith es order budget arrows f steps = (made : Relation) × IsOrderWith order arrows made
+    × IsSpent es (Told (comes made)) budget f steps
 
 -- all that is said of the answer
 pub record IsRepaired (es : List Program) (order : Relation) (budget : ℕ) (answered : Repaired) : Type 0 where

@@ -12,7 +12,8 @@ use Rattle.repair.specs.declared.repaired.Repaired.TheVariants as repaired
 
 -- without the last of the arrows the graph isn't deterministic
 abbrev pub IsLastNeeded : List Program → Relation → List (ℕ × ℕ) → Type 0
-IsLastNeeded es order arrows = (front : List (ℕ × ℕ)) (arrow : ℕ × ℕ) → arrows ≡ front ++ arrow ∷ [] → IsDeterministic es (ComesWith order front) → ⊥
+IsLastNeeded es order arrows = (front : List (ℕ × ℕ)) (arrow : ℕ × ℕ) → arrows ≡ front ++ arrow ∷ []
+    → IsDeterministic es (ComesWith order front) → ⊥
 
 -- What is known of arrows that were added one by one: each was missing.
 pub record WereMissing (es : List Program) (order : Relation) (arrows : List (ℕ × ℕ)) : Type 0 where

@@ -11,7 +11,8 @@ ghost use Rattle.repair.specs.Arrows.{ComesWith, IsBetweenFree, Follows};
 /// deterministic graph stays so with more of them.
 pub fn arrows()
     ensures followed { (order : Relation) (arrows : List (ℕ × ℕ)) (run : List ℕ) → IsStrictOrder order → All (IsBetweenFree order) arrows
-        → IsLinearExtension order.count (ComesWith order arrows) run ↔ (IsLinearExtension order.count (Comes order) run × All (Follows run) arrows) }
+        → IsLinearExtension order.count (ComesWith order arrows) run
+        ↔ (IsLinearExtension order.count (Comes order) run × All (Follows run) arrows) }
     ensures none { (order : Relation) (a b : ℕ) → IsStrictOrder order → ComesWith order [] a b ↔ Comes order a b }
     ensures more { (es : List Program) (order : Relation) (arrows more : List (ℕ × ℕ)) → All (Contains more) arrows
         → IsDeterministic es (ComesWith order arrows) → IsDeterministic es (ComesWith order more) }

@@ -60,14 +60,17 @@ pub fn repair(
     ensures paths { IfOk result (λ repaired. HasFewPaths (map program_of programs.now)) }
     ensures weight { IfOk result (λ repaired. IsLight (map program_of programs.now)) }
     ensures refused { IfErr result (λ e. IfRefused e (IsTooLarge (map program_of programs.now))) }
-    ensures only { HasFewPaths (map program_of programs.now) → IsLight (map program_of programs.now) → IfErr result (λ e. IfRefused e (λ r. ⊥)) }
+    ensures only { HasFewPaths (map program_of programs.now) → IsLight (map program_of programs.now)
+        → IfErr result (λ e. IfRefused e (λ r. ⊥)) }
     // Also where the budget was spent, each arrow is between free resources, and they lead in no circle.
     ensures added { IfOk result (λ repaired. CanBeAdded order.now (added_in repaired)) }
     ensures repairs { IfOk result (λ repaired. IfDone repaired (Repairs (map program_of programs.now) order.now)) }
     ensures needed { IfOk result (λ repaired. IfDone repaired (AreNeeded (map program_of programs.now) order.now)) }
-    ensures right { IfOk result (λ repaired. IfDone repaired (λ arrows. arrows ≢ [] → PointRight (map program_of programs.now) order.now arrows)) }
+    ensures right { IfOk result (λ repaired. IfDone repaired (λ arrows. arrows ≢ []
+        → PointRight (map program_of programs.now) order.now arrows)) }
     // No arrow is answered exactly where the graph is deterministic as it is.
-    ensures nothing { IfOk result (λ repaired. IfDone repaired (λ arrows. (arrows ≡ []) ↔ IsDeterministic (map program_of programs.now) (Told (comes order.now)))) }
+    ensures nothing { IfOk result (λ repaired. IfDone repaired (λ arrows. (arrows ≡ [])
+        ↔ IsDeterministic (map program_of programs.now) (Told (comes order.now)))) }
     ensures spent { IfOk result (λ repaired. IfSpent repaired (IsSpentWith (map program_of programs.now) order.now budget)) }
     ensures limited { IfOk result (λ repaired. IfSpent repaired (λ arrows f steps. budget ≢ 2 ^ 64 - 1)) }
 {

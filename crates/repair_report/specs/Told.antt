@@ -15,7 +15,8 @@ use Rattle.repair_report.specs.Lines.{repaired_text, unrepaired_text}
 
 -- Status 0. The arrows that are told can be added, and with them the graph is deterministic; without any one of them it isn't; they
 -- point the way that succeeds; and there are none exactly where the graph is deterministic as it stands.
-pub record TellsArrows (terms : Terms) (notes : List ℕ) (names : List (List ℕ)) (es : List Program) (order : Relation) (report : Report) : Type 0 where
+pub record TellsArrows (terms : Terms) (notes : List ℕ) (names : List (List ℕ)) (es : List Program) (order : Relation)
+    (report : Report) : Type 0 where
   pub status : report.status ≡ 0
   pub arrows : List (ℕ × ℕ)
   pub repairs : RepairsFrom terms.given es order arrows
@@ -39,7 +40,8 @@ pub record TellsSpent (terms : Terms) (notes : List ℕ) (es : List Program) (or
 
 -- What is told of programs and the order between them, which are within the limits: one of the two. These notes stand behind the
 -- number of resources.
-pub record IsRepairTold (terms : Terms) (notes : List ℕ) (names : List (List ℕ)) (es : List Program) (order : Relation) (report : Report) : Type 0 where
+pub record IsRepairTold (terms : Terms) (notes : List ℕ) (names : List (List ℕ)) (es : List Program) (order : Relation)
+    (report : Report) : Type 0 where
   pub paths : HasFewPathsWith terms.limits terms.given es
   pub weight : IsLightWith terms.limits es
   pub answer : TellsArrows terms notes names es order report ⊎ TellsSpent terms notes es order report

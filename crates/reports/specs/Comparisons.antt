@@ -28,13 +28,17 @@ place_of_source (Some bytes) = role.Compiled
 
 -- the files of a request, with the other manifest or compiled catalog in the place of the one that is asked about; no entry is wanted
 abbrev pub other_inputs : Inputs → Inputs
-other_inputs i = record i { wanted = None; files = (place_of_source (bytes_of role.Compiled i), bytes_or_none (bytes_of role.Other i)) ∷ i.files }
+other_inputs i = record i {
+  wanted = None;
+  files = (place_of_source (bytes_of role.Compiled i), bytes_or_none (bytes_of role.Other i)) ∷ i.files;
+}
 
 -- a fact of each request whose input is this text and whose compiled catalog is this, whose node has this name, which has these limits,
 -- and whose files say this
 abbrev pub ForSource : Option Compiled → List ℕ → List ℕ → Limits → Known → (Inputs → Type 0) → Type 0
 ForSource m text name limits k P =
-    (i : Inputs) → text ≡ input_of i → IsCompiledOf (bytes_of role.Compiled i) m → name ≡ node_name i.node → limits ≡ i.limits → IsKnown i k → P i
+    (i : Inputs) → text ≡ input_of i → IsCompiledOf (bytes_of role.Compiled i) m → name ≡ node_name i.node
+    → limits ≡ i.limits → IsKnown i k → P i
 
 -- The programs are those of the graph's resources, in their order, and these are resources of the catalog.
 pub record IsInOrder (c : Catalog) (g : Graph) (es : List Program) : Type 0 where
@@ -66,7 +70,8 @@ other_names_of m = names_in m.other_catalog m.other_graph.plain
 -- What is told of both.
 pub record IsComparison (conflicts : Option ℕ) (i : Inputs) (report : Report) : Type 0 where
   pub of : AreModelled i
-  pub told : IsComparedTold (terms_of i of.known conflicts) (notes_of i of.known of.source of.graph.plain) (notes_of i of.known of.other_source of.other_graph.plain)
+  pub told : IsComparedTold (terms_of i of.known conflicts) (notes_of i of.known of.source of.graph.plain)
+      (notes_of i of.known of.other_source of.other_graph.plain)
       (names_of of) of.programs of.graph.order (other_names_of of) of.other_programs of.other_graph.order report
 
 -- the programs of both are too large to be compared

@@ -34,7 +34,8 @@ IsNodeNote i (Some m) node = node ≡ []
 
 -- Resources are named with their places. Behind their number stand the name of the node block that runs, where there are node blocks, and
 -- the notes.
-pub record IsExplanation (asked : Asked) (i : Inputs) (m : Option Compiled) (c : Catalog) (g : Graph) (es : List Program) (report : Report) : Type 0 where
+pub record IsExplanation (asked : Asked) (i : Inputs) (m : Option Compiled) (c : Catalog) (g : Graph)
+    (es : List Program) (report : Report) : Type 0 where
   pub names : List (List ℕ)
   pub named : AreNamed i m c g.plain names
   pub node : List ℕ

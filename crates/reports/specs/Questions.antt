@@ -52,11 +52,14 @@ quoted_names_in m c plain = map (quoted_at m c) plain
 -- this is told of the programs
 abbrev pub IsToldOf : Question → Inputs → Known → Option Compiled → Catalog → Graph → List Program → Report → Type 0
 IsToldOf question.Programs i k m c g es report = (report.status ≡ 0) × (report.text ≡ program_lines k m c g.plain es)
-IsToldOf (question.Verdict form conflicts) i k m c g es report = IsTold form (terms_of i k conflicts) (notes_of i k m g.plain) (names_in c g.plain) es g.order report
+IsToldOf (question.Verdict form conflicts) i k m c g es report = IsTold form (terms_of i k conflicts)
+    (notes_of i k m g.plain) (names_in c g.plain) es g.order report
 IsToldOf question.Replay i k m c g es report = (report.status ≡ 0) × IsReplayed (bytes_of role.Order i) k.tree c g es report.text
 IsToldOf (question.Explain conflicts) i k m c g es report = IsExplanation (asked_on i k conflicts m g.plain) i m c g es report
-IsToldOf (question.Repair conflicts) i k m c g es report = IsRepairTold (terms_of i k conflicts) (notes_of i k m g.plain) (quoted_names_in m c g.plain) es g.order report
-IsToldOf (question.Ensures conflicts) i k m c g es report = IsEntryTold (terms_of i k conflicts) (notes_of i k m g.plain) (wanted_in i k) (names_in c g.plain) es g.order report
+IsToldOf (question.Repair conflicts) i k m c g es report = IsRepairTold (terms_of i k conflicts)
+    (notes_of i k m g.plain) (quoted_names_in m c g.plain) es g.order report
+IsToldOf (question.Ensures conflicts) i k m c g es report = IsEntryTold (terms_of i k conflicts)
+    (notes_of i k m g.plain) (wanted_in i k) (names_in c g.plain) es g.order report
 
 -- nothing is told of them, for this reason
 abbrev pub HasNoAnswer : Question → Inputs → Known → Option Compiled → Catalog → Graph → List Program → Refusal → Type 0
@@ -80,4 +83,5 @@ pub record IsReport (q : Question) (i : Inputs) (report : Report) : Type 0 where
 -- The first refusal: that of the programs, and then that nothing is told of them.
 pub data ReportRefusal (q : Question) (i : Inputs) (r : Refusal) : Type 0 where
   before_answer : ProgramsRefusal i r → ReportRefusal q i r
-  no_answer : (k : Known) (m : Option Compiled) (c : Catalog) (g : Graph) (es : List Program) → IsModelled i k m c g es → HasNoAnswer q i k m c g es r → ReportRefusal q i r
+  no_answer : (k : Known) (m : Option Compiled) (c : Catalog) (g : Graph) (es : List Program) → IsModelled i k m c g es
+      → HasNoAnswer q i k m c g es r → ReportRefusal q i r

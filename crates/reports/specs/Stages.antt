@@ -87,7 +87,8 @@ pub record IsModelled (i : Inputs) (k : Known) (m : Option Compiled) (c : Catalo
 -- that of the files but the manifest, and then that of the manifest or of the compiled catalog
 pub data CatalogRefusal (i : Inputs) (r : Refusal) : Type 0 where
   unread : FirstUnread i r → CatalogRefusal i r
-  uncompiled : (k : Known) (m : Option Compiled) → IsKnown i k → IsCompiledOf (bytes_of role.Compiled i) m → HasNoCatalog (input_of i) (node_name i.node) i.limits k m r → CatalogRefusal i r
+  uncompiled : (k : Known) (m : Option Compiled) → IsKnown i k → IsCompiledOf (bytes_of role.Compiled i) m
+      → HasNoCatalog (input_of i) (node_name i.node) i.limits k m r → CatalogRefusal i r
 
 -- then that of the graph
 pub data GraphRefusal (i : Inputs) (r : Refusal) : Type 0 where
@@ -97,4 +98,5 @@ pub data GraphRefusal (i : Inputs) (r : Refusal) : Type 0 where
 -- and then that of the first resource without a program
 pub data ProgramsRefusal (i : Inputs) (r : Refusal) : Type 0 where
   before_programs : GraphRefusal i r → ProgramsRefusal i r
-  in_programs : (k : Known) (m : Option Compiled) (c : Catalog) (g : Graph) → IsPlanned i k m c g → programs_in k m c g.plain ≡ Err r → ProgramsRefusal i r
+  in_programs : (k : Known) (m : Option Compiled) (c : Catalog) (g : Graph) → IsPlanned i k m c g
+      → programs_in k m c g.plain ≡ Err r → ProgramsRefusal i r

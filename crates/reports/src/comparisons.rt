@@ -48,8 +48,11 @@ fn model_source(
     known: &Known,
 ) -> Result<Modelled, Fault>
     requires { length text.now < 2 ^ 32 }
-    ensures modelled { IfOk result (λ m. ForSource source text.now name.now limits known.now (λ i. IsModelled i known.now m.source m.catalog m.plan (map program_of m.programs))) }
-    ensures refused { IfErr result (λ e. IfRefused e (λ r. ForSource source text.now name.now limits known.now (λ i. ProgramsRefusal i r))) }
+    ensures modelled { IfOk result
+        (λ m. ForSource source text.now name.now limits known.now
+        (λ i. IsModelled i known.now m.source m.catalog m.plan (map program_of m.programs))) }
+    ensures refused { IfErr result
+        (λ e. IfRefused e (λ r. ForSource source text.now name.now limits known.now (λ i. ProgramsRefusal i r))) }
 {
     let catalog = catalog_under(alloc, &source, text, name, limits, known)?;
     let plan = graph(alloc, &catalog)?;
@@ -85,9 +88,13 @@ fn told_of_both(
 ) -> Result<Report, Fault>
     requires left { IsInOrder left.now.catalog left.now.plan (map program_of left.now.programs) }
     requires right { IsInOrder right.now.catalog right.now.plan (map program_of right.now.programs) }
-    ensures told { IfOk result (IsComparedTold asked.now.terms asked.now.notes other_asked.now.notes (names_in left.now.catalog left.now.plan.plain) (map program_of left.now.programs) left.now.plan.order
+    ensures told { IfOk result
+        (IsComparedTold asked.now.terms asked.now.notes other_asked.now.notes
+        (names_in left.now.catalog left.now.plan.plain) (map program_of left.now.programs) left.now.plan.order
         (names_in right.now.catalog right.now.plan.plain) (map program_of right.now.programs) right.now.plan.order) }
-    ensures refused { IfErr result (λ e. IfRefused e (IsTooLargeJoined asked.now.terms.limits asked.now.terms.given (map program_of left.now.programs) (map program_of right.now.programs))) }
+    ensures refused { IfErr result
+        (λ e. IfRefused e (IsTooLargeJoined asked.now.terms.limits asked.now.terms.given
+        (map program_of left.now.programs) (map program_of right.now.programs))) }
 {
     let names = names_of(alloc, left)?;
     let others = names_of(alloc, right)?;
@@ -152,7 +159,8 @@ fn told_of(
     right: &Modelled,
 ) -> Result<Report, Untold>
     requires left { IsModelled inputs.now known.now left.now.source left.now.catalog left.now.plan (map program_of left.now.programs) }
-    requires right { IsModelled (other_inputs inputs.now) known.now right.now.source right.now.catalog right.now.plan (map program_of right.now.programs) }
+    requires right { IsModelled (other_inputs inputs.now) known.now right.now.source right.now.catalog right.now.plan
+        (map program_of right.now.programs) }
     ensures report { IfOk result (IsComparison conflicts inputs.now) }
     ensures refused { IfErr result (λ e. IfUntold e (ComparisonRefusal inputs.now)) }
 {
@@ -166,7 +174,8 @@ fn told_of(
 fn model_other(alloc: Global, inputs: &Inputs, known: &Known) -> Result<Modelled, Fault>
     requires small { length (input_of (other_inputs inputs.now)) < 2 ^ 32 }
     requires known { IsKnown inputs.now known.now }
-    ensures modelled { IfOk result (λ m. IsModelled (other_inputs inputs.now) known.now m.source m.catalog m.plan (map program_of m.programs)) }
+    ensures modelled { IfOk result
+        (λ m. IsModelled (other_inputs inputs.now) known.now m.source m.catalog m.plan (map program_of m.programs)) }
     ensures refused { IfErr result (λ e. IfRefused e (ProgramsRefusal (other_inputs inputs.now))) }
 {
     let source = other_source(alloc, inputs)?;

@@ -31,8 +31,12 @@ pub fn ensured(
     requires count { length programs.now ≡ plan.now.order.count }
     requires many { plan.now.order.count ≡ length plan.now.plain }
     requires places { AllByRecursion (λ k. k < length catalog.now.resources) plan.now.plain }
-    ensures told { IfOk result (IsEntryTold asked.now.terms asked.now.notes wanted.now (names_in catalog.now plan.now.plain) (map program_of programs.now) plan.now.order) }
-    ensures refused { IfErr result (λ e. IfRefused e (IsTooLargeProbed asked.now.terms.limits asked.now.terms.given (map program_of programs.now) wanted.now)) }
+    ensures told { IfOk result
+        (IsEntryTold asked.now.terms asked.now.notes wanted.now (names_in catalog.now plan.now.plain)
+        (map program_of programs.now) plan.now.order) }
+    ensures refused { IfErr result
+        (λ e. IfRefused e (IsTooLargeProbed asked.now.terms.limits asked.now.terms.given
+        (map program_of programs.now) wanted.now)) }
 {
     let plain = plan.plain.as_slice();
     let names = names_in(alloc, catalog, plain)?;

@@ -133,7 +133,8 @@ pub fn explained(
     requires count { length programs.now ≡ plan.now.order.count }
     requires places { AllByRecursion (λ k. k < length catalog.now.resources) plan.now.plain }
     ensures told { IfOk result (IsExplanation asked.now inputs.now source.now catalog.now plan.now (map program_of programs.now)) }
-    ensures refused { IfErr result (λ e. IfRefused e (IsTooLargeWith asked.now.terms.limits asked.now.terms.given (map program_of programs.now))) }
+    ensures refused { IfErr result
+        (λ e. IfRefused e (IsTooLargeWith asked.now.terms.limits asked.now.terms.given (map program_of programs.now))) }
 {
     let names = names_of(alloc, inputs, source, catalog, plan.plain.as_slice())?;
     let mut notes = node_note(alloc, inputs, known, source, catalog)?;

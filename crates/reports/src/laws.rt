@@ -22,7 +22,8 @@ pub fn reports_exclude_refusals()
     ensures catalogs { (i : Inputs) (report : List ℕ) (r : Refusal) → IsCatalogReport i report → CatalogRefusal i r → ⊥ }
     ensures graphs { (i : Inputs) (report : List ℕ) (r : Refusal) → IsGraphReport i report → GraphRefusal i r → ⊥ }
     ensures programs { (q : Question) (i : Inputs) (report : Report) (r : Refusal) → IsReport q i report → ReportRefusal q i r → ⊥ }
-    ensures comparisons { (given : Option ℕ) (i : Inputs) (report : Report) (s : Side) (r : Refusal) → IsComparison given i report → ComparisonRefusal i s r → ⊥ }
+    ensures comparisons { (given : Option ℕ) (i : Inputs) (report : Report) (s : Side) (r : Refusal)
+        → IsComparison given i report → ComparisonRefusal i s r → ⊥ }
 {
     files_say_one_thing();
     compiled_texts();

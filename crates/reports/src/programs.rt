@@ -82,7 +82,8 @@ fn push_programs(
     into: &mut Vec<u8>,
 ) -> Result<(), NoMemory>
     requires { AllByRecursion (λ i. i < length catalog.now.resources) plain.now }
-    ensures { OnOk result (into.new.items ≡ into.old.items ++ program_lines known.now source.now catalog.now plain.now (map program_of programs.now)) }
+    ensures { OnOk result (into.new.items ≡ into.old.items ++ program_lines known.now source.now catalog.now plain.now
+        (map program_of programs.now)) }
 {
     let assumed = assumed_at(alloc, known, source, plain)?;
     let marks = assumed.as_slice();

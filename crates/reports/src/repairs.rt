@@ -74,8 +74,11 @@ pub fn repaired(
     requires count { length programs.now ≡ plan.now.order.count }
     requires many { plan.now.order.count ≡ length plan.now.plain }
     requires places { AllByRecursion (λ k. k < length catalog.now.resources) plan.now.plain }
-    ensures told { IfOk result (IsRepairTold asked.now.terms asked.now.notes (quoted_names_in source.now catalog.now plan.now.plain) (map program_of programs.now) plan.now.order) }
-    ensures refused { IfErr result (λ e. IfRefused e (IsTooLargeWith asked.now.terms.limits asked.now.terms.given (map program_of programs.now))) }
+    ensures told { IfOk result
+        (IsRepairTold asked.now.terms asked.now.notes (quoted_names_in source.now catalog.now plan.now.plain)
+        (map program_of programs.now) plan.now.order) }
+    ensures refused { IfErr result
+        (λ e. IfRefused e (IsTooLargeWith asked.now.terms.limits asked.now.terms.given (map program_of programs.now))) }
 {
     let plain = plan.plain.as_slice();
     let names = quoted_names_in(alloc, source, catalog, plain)?;

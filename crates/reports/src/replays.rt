@@ -65,7 +65,8 @@ pub fn replayed(
     requires count { plan.now.order.count ≡ length plan.now.plain }
     requires apart { AreToldApart catalog.now plan.now.plain }
     requires programs { length programs.now ≡ length plan.now.plain }
-    ensures told { IfOk result (IsReplayed (option_map (λ b. b.now) text.entry) tree.now catalog.now plan.now (map program_of programs.now)) }
+    ensures told { IfOk result
+        (IsReplayed (option_map (λ b. b.now) text.entry) tree.now catalog.now plan.now (map program_of programs.now)) }
     ensures refused { IfErr result (λ e. IfRefused e (HasNoOrder (option_map (λ b. b.now) text.entry) catalog.now plan.now)) }
 {
     let order = order_for(alloc, text, catalog, plan)?;

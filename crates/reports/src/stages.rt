@@ -43,7 +43,9 @@ fn told_of(
     requires small { length (input_of inputs.now) < 2 ^ 32 }
     requires modelled { IsModelled inputs.now known.now source.now catalog.now plan.now (map program_of programs.now) }
     ensures told { IfOk result (IsToldOf question inputs.now known.now source.now catalog.now plan.now (map program_of programs.now)) }
-    ensures refused { IfErr result (λ e. IfRefused e (HasNoAnswer question inputs.now known.now source.now catalog.now plan.now (map program_of programs.now))) }
+    ensures refused { IfErr result
+        (λ e. IfRefused e (HasNoAnswer question inputs.now known.now source.now catalog.now plan.now
+        (map program_of programs.now))) }
 {
     resources_are_told_apart();
     match question {

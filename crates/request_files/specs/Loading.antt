@@ -14,7 +14,8 @@ use Rattle.request_files.specs.Files.{AreBytes, IsLonger}
 -- The name isn't missing, and what was fetched is what stands under it, in fewer bytes than a place of four bytes can count.
 abbrev pub IsLoad : Held → ℕ → List ℕ → Load → Type 0
 IsLoad held limit name load.Longer = IsLonger limit held name
-IsLoad held limit name (load.Bytes bytes) = MayBeThere held name × AreBytes held name bytes × (length bytes ≤ limit) × (length bytes < 2 ^ 32)
+IsLoad held limit name (load.Bytes bytes) = MayBeThere held name × AreBytes held name bytes × (length bytes ≤ limit)
+    × (length bytes < 2 ^ 32)
 
 -- what was fetched, or the name of the file that failed
 abbrev pub Reads : {A : Type 0} → (A → Type 0) → (List ℕ → Type 0) → ℕ → ℕ → Result A FilesFault → Type 0

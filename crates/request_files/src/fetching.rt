@@ -44,7 +44,9 @@ fn fetch<S: Shelf>(
     shelf: &mut S,
 ) -> Result<Load, FilesFault>
     ensures held { S.holds shelf.new ≡ S.holds shelf.old }
-    ensures reads { Reads (IsLoad (S.holds shelf.old) (limit_of input role) name) (λ n. (n ≡ name) × FailsAt n (S.holds shelf.old) (S.faults shelf.old) (S.faults shelf.new)) (S.faults shelf.old) (S.faults shelf.new) result }
+    ensures reads { Reads (IsLoad (S.holds shelf.old) (limit_of input role) name) (λ n. (n ≡ name)
+        × FailsAt n (S.holds shelf.old) (S.faults shelf.old) (S.faults shelf.new)) (S.faults shelf.old)
+        (S.faults shelf.new) result }
 {
     let mut bytes = Vec::new(alloc);
     match shelf.fetch(name.as_str(), role.limit(input), &mut bytes) {
@@ -63,7 +65,9 @@ pub fn fetch_all<S: Shelf>(
     shelf: &mut S,
 ) -> Result<ByRole<Load>, FilesFault>
     ensures held { S.holds shelf.new ≡ S.holds shelf.old }
-    ensures reads { Reads (AreLoads (S.holds shelf.old) input names) (FirstFailed (S.holds shelf.old) (S.faults shelf.old) (S.faults shelf.new) names) (S.faults shelf.old) (S.faults shelf.new) result }
+    ensures reads { Reads (AreLoads (S.holds shelf.old) input names)
+        (FirstFailed (S.holds shelf.old) (S.faults shelf.old) (S.faults shelf.new) names) (S.faults shelf.old)
+        (S.faults shelf.new) result }
 {
     let mut loads = Seq::new(alloc);
     for (role, name) in names.into_vec() {

@@ -30,7 +30,9 @@ IsFaultOf r (fault.Memory m) (faults.Memory n) = Unit {0}
 IsFaultOf r (fault.Memory m) (faults.Refused x) = ⊥
 
 -- The program of one resource more is added, and its place is kept; or it is refused.
-abbrev pub AddsProgram : List Path → Packages → Resource → Result (Unit {0}) Fault → List Path → List Path → List language.Program → List language.Program → Type 0
+abbrev pub AddsProgram : List Path → Packages → Resource → Result (Unit {0}) Fault → List Path → List Path
+    → List language.Program → List language.Program → Type 0
 AddsProgram barred listing r (Ok done) seen new_seen old new =
-    (m : models.Model) × (models.or_refused r (models.new_model barred seen listing r) ≡ Ok m) × (new_seen ≡ seen ++ m.place ∷ []) × (new ≡ old ++ sequence m.steps ∷ [])
+    (m : models.Model) × (models.or_refused r (models.new_model barred seen listing r) ≡ Ok m)
+    × (new_seen ≡ seen ++ m.place ∷ []) × (new ≡ old ++ sequence m.steps ∷ [])
 AddsProgram barred listing r (Err e) seen new_seen old new = Refuses (models.or_refused r (models.new_model barred seen listing r)) e

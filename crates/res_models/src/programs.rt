@@ -112,7 +112,8 @@ fn push_program(
     places: &mut PathSet,
     into: &mut Vec<Program>,
 ) -> Result<(), Fault>
-    ensures { AddsProgram barred.now listing.now r.now result places.old places.new (map meaning into.old.items) (map meaning into.new.items) }
+    ensures { AddsProgram barred.now listing.now r.now result places.old places.new (map meaning into.old.items)
+        (map meaning into.new.items) }
 {
     match new_model(alloc, r, listing, barred, places) {
         Ok(m) => {
@@ -134,7 +135,8 @@ pub fn programs_of(
     barred: &[Path],
 ) -> Result<Vec<Program>, Fault>
     requires { AllByRecursion (λ i. i < length catalog.now.resources) plain.now }
-    ensures { AnswersBy (λ es. map meaning es.items) (programs barred.now listing.now (resources_at catalog.now.resources plain.now)) result }
+    ensures { AnswersBy (λ es. map meaning es.items)
+        (programs barred.now listing.now (resources_at catalog.now.resources plain.now)) result }
 {
     let mut places = PathSet::new(alloc);
     let mut made = Vec::new(alloc);

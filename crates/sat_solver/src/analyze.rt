@@ -87,9 +87,11 @@ fn mark(
     requires marked { IsMarked trail.now.words trail.now.vars boundary _limit r.old.seen.items r.old.pending }
     ensures marked { OnOk result (IsMarked trail.now.words trail.now.vars boundary _limit r.new.seen.items r.new.pending) }
     ensures grows { OnOk result (r.old.pending ≤ r.new.pending) }
-    ensures seen { OnOk result ((x : ℕ) → has trail.now.words (opposite x) ≡ true → is_seen r.new.seen.items x ≡ (is_seen r.old.seen.items x || (x == word))) }
+    ensures seen { OnOk result ((x : ℕ) → has trail.now.words (opposite x) ≡ true
+        → is_seen r.new.seen.items x ≡ (is_seen r.old.seen.items x || (x == word))) }
     ensures hops { OnOk result (r.new.hops ≡ r.old.hops) }
-    ensures covered { OnOk result (Covers trail.now.words r.old.seen.items r.old.marked.items → Covers trail.now.words r.new.seen.items r.new.marked.items) }
+    ensures covered { OnOk result (Covers trail.now.words r.old.seen.items r.old.marked.items
+        → Covers trail.now.words r.new.seen.items r.new.marked.items) }
 {
     let seen = is_marked(&r.seen, word);
     if seen {
@@ -122,9 +124,11 @@ pub(crate) fn join(
     requires marked { IsMarked trail.now.words trail.now.vars boundary limit r.old.seen.items r.old.pending }
     ensures marked { OnOk result (IsMarked trail.now.words trail.now.vars boundary limit r.new.seen.items r.new.pending) }
     ensures grows { OnOk result (r.old.pending ≤ r.new.pending) }
-    ensures seen { OnOk result ((x : ℕ) → has trail.now.words (opposite x) ≡ true → is_seen r.new.seen.items x ≡ (is_seen r.old.seen.items x || (has lits.now x && not (x == skip)))) }
+    ensures seen { OnOk result ((x : ℕ) → has trail.now.words (opposite x) ≡ true
+        → is_seen r.new.seen.items x ≡ (is_seen r.old.seen.items x || (has lits.now x && not (x == skip)))) }
     ensures hops { OnOk result (r.new.hops ≡ r.old.hops) }
-    ensures covered { OnOk result (Covers trail.now.words r.old.seen.items r.old.marked.items → Covers trail.now.words r.new.seen.items r.new.marked.items) }
+    ensures covered { OnOk result (Covers trail.now.words r.old.seen.items r.old.marked.items
+        → Covers trail.now.words r.new.seen.items r.new.marked.items) }
 {
     for word in lits {
         if *word == skip {
@@ -187,8 +191,11 @@ fn resolve_at(
     requires given { slice_index trail.now.reasons place ≡ 0 → ⊥ }
     ensures marked { OnOk result (IsMarked trail.now.words trail.now.vars boundary place r.new.seen.items r.new.pending) }
     ensures one_less { OnOk result (r.old.pending ≤ r.new.pending + 1) }
-    ensures covered { OnOk result (Covers trail.now.words r.old.seen.items r.old.marked.items → Covers trail.now.words r.new.seen.items r.new.marked.items) }
-    ensures leads { OnOk result ((c : ℕ → Bool) → Reaches store.now c r.old.hops.items (in_clause trail.now.words r.old.seen.items) → Reaches store.now c r.new.hops.items (in_clause trail.now.words r.new.seen.items)) }
+    ensures covered { OnOk result (Covers trail.now.words r.old.seen.items r.old.marked.items
+        → Covers trail.now.words r.new.seen.items r.new.marked.items) }
+    ensures leads { OnOk result ((c : ℕ → Bool)
+        → Reaches store.now c r.old.hops.items (in_clause trail.now.words r.old.seen.items)
+        → Reaches store.now c r.new.hops.items (in_clause trail.now.words r.new.seen.items)) }
 {
     let word = trail.word(place);
     let reason = trail.reason(place);
@@ -212,11 +219,15 @@ fn pass(
     requires some { 0 < r.old.pending }
     requires marked { IsMarked trail.now.words trail.now.vars boundary (place + 1) r.old.seen.items r.old.pending }
     requires reasons { IsGiven store.now trail.now boundary }
-    ensures found { IfOk result (λ b. b ≡ true → (r.new ≡ r.old) × (r.old.pending ≡ 1) × (is_seen r.old.seen.items (slice_index trail.now.words place) ≡ true)) }
+    ensures found { IfOk result (λ b. b ≡ true → (r.new ≡ r.old) × (r.old.pending ≡ 1)
+        × (is_seen r.old.seen.items (slice_index trail.now.words place) ≡ true)) }
     ensures some { IfOk result (λ b. b ≡ false → 0 < r.new.pending) }
     ensures marked { IfOk result (λ b. b ≡ false → IsMarked trail.now.words trail.now.vars boundary place r.new.seen.items r.new.pending) }
-    ensures covered { OnOk result (Covers trail.now.words r.old.seen.items r.old.marked.items → Covers trail.now.words r.new.seen.items r.new.marked.items) }
-    ensures leads { IfOk result (λ b. (c : ℕ → Bool) → Reaches store.now c r.old.hops.items (in_clause trail.now.words r.old.seen.items) → Reaches store.now c r.new.hops.items (in_clause trail.now.words r.new.seen.items)) }
+    ensures covered { OnOk result (Covers trail.now.words r.old.seen.items r.old.marked.items
+        → Covers trail.now.words r.new.seen.items r.new.marked.items) }
+    ensures leads { IfOk result (λ b. (c : ℕ → Bool)
+        → Reaches store.now c r.old.hops.items (in_clause trail.now.words r.old.seen.items)
+        → Reaches store.now c r.new.hops.items (in_clause trail.now.words r.new.seen.items)) }
 {
     let word = trail.word(place);
     let seen = is_marked(&r.seen, word);
@@ -245,8 +256,11 @@ fn descend(
     requires reasons { IsGiven store.now trail.now boundary }
     ensures left { IfOk result (λ p. IsLeft trail.now.words boundary p r.new.seen.items) }
     ensures long { OnOk result (length r.new.seen.items ≡ trail.now.vars) }
-    ensures covered { OnOk result (Covers trail.now.words r.old.seen.items r.old.marked.items → Covers trail.now.words r.new.seen.items r.new.marked.items) }
-    ensures leads { OnOk result ((c : ℕ → Bool) → Reaches store.now c r.old.hops.items (in_clause trail.now.words r.old.seen.items) → Reaches store.now c r.new.hops.items (in_clause trail.now.words r.new.seen.items)) }
+    ensures covered { OnOk result (Covers trail.now.words r.old.seen.items r.old.marked.items
+        → Covers trail.now.words r.new.seen.items r.new.marked.items) }
+    ensures leads { OnOk result ((c : ℕ → Bool)
+        → Reaches store.now c r.old.hops.items (in_clause trail.now.words r.old.seen.items)
+        → Reaches store.now c r.new.hops.items (in_clause trail.now.words r.new.seen.items)) }
 {
     let mut place = trail.len();
     'walk: while place > boundary {
@@ -275,9 +289,12 @@ fn begin(
     requires rested { AtRest store.now (take boundary trail.now.words) }
     requires reasons { IsGiven store.now trail.now boundary }
     ensures some { OnOk result (0 < r.new.pending) }
-    ensures marked { OnOk result (IsMarked trail.now.words trail.now.vars boundary (length trail.now.words) r.new.seen.items r.new.pending) }
+    ensures marked { OnOk result
+        (IsMarked trail.now.words trail.now.vars boundary (length trail.now.words) r.new.seen.items r.new.pending) }
     ensures covered { OnOk result (Covers trail.now.words r.new.seen.items r.new.marked.items) }
-    ensures leads { OnOk result (Reaches store.now (has (clause store.now conflict)) r.new.hops.items (in_clause trail.now.words r.new.seen.items)) }
+    ensures leads { OnOk result
+        (Reaches store.now (has (clause store.now conflict)) r.new.hops.items
+        (in_clause trail.now.words r.new.seen.items)) }
 {
     let lits = store.clause(conflict);
     let limit = trail.len();
@@ -304,7 +321,9 @@ pub(crate) fn to_last_literal(
     ensures left { IfOk result (λ p. IsLeft trail.now.words boundary p r.new.seen.items) }
     ensures long { OnOk result (length r.new.seen.items ≡ trail.now.vars) }
     ensures covered { OnOk result (Covers trail.now.words r.new.seen.items r.new.marked.items) }
-    ensures leads { OnOk result (Reaches store.now (has (clause store.now conflict)) r.new.hops.items (in_clause trail.now.words r.new.seen.items)) }
+    ensures leads { OnOk result
+        (Reaches store.now (has (clause store.now conflict)) r.new.hops.items
+        (in_clause trail.now.words r.new.seen.items)) }
 {
     begin(r, store, trail, boundary, conflict)?;
     let place = descend(r, store, trail, boundary)?;
@@ -321,8 +340,11 @@ fn pass_all(r: &mut Resolvent, store: &Store, trail: &Trail, place: usize) -> Re
     requires reasons { IsGiven store.now trail.now 0 }
     requires all { (p : ℕ) → p < length trail.now.words → slice_index trail.now.reasons p ≡ 0 → ⊥ }
     ensures marked { OnOk result (IsMarked trail.now.words trail.now.vars 0 place r.new.seen.items r.new.pending) }
-    ensures covered { OnOk result (Covers trail.now.words r.old.seen.items r.old.marked.items → Covers trail.now.words r.new.seen.items r.new.marked.items) }
-    ensures leads { OnOk result ((c : ℕ → Bool) → Reaches store.now c r.old.hops.items (in_clause trail.now.words r.old.seen.items) → Reaches store.now c r.new.hops.items (in_clause trail.now.words r.new.seen.items)) }
+    ensures covered { OnOk result (Covers trail.now.words r.old.seen.items r.old.marked.items
+        → Covers trail.now.words r.new.seen.items r.new.marked.items) }
+    ensures leads { OnOk result ((c : ℕ → Bool)
+        → Reaches store.now c r.old.hops.items (in_clause trail.now.words r.old.seen.items)
+        → Reaches store.now c r.new.hops.items (in_clause trail.now.words r.new.seen.items)) }
 {
     let word = trail.word(place);
     let seen = is_marked(&r.seen, word);
@@ -340,7 +362,9 @@ fn descend_all(r: &mut Resolvent, store: &Store, trail: &Trail) -> Result<(), No
     requires reasons { IsGiven store.now trail.now 0 }
     requires all { (p : ℕ) → p < length trail.now.words → slice_index trail.now.reasons p ≡ 0 → ⊥ }
     ensures marked { OnOk result (IsMarked trail.now.words trail.now.vars 0 0 r.new.seen.items r.new.pending) }
-    ensures leads { OnOk result ((c : ℕ → Bool) → Reaches store.now c r.old.hops.items (in_clause trail.now.words r.old.seen.items) → Reaches store.now c r.new.hops.items (in_clause trail.now.words r.new.seen.items)) }
+    ensures leads { OnOk result ((c : ℕ → Bool)
+        → Reaches store.now c r.old.hops.items (in_clause trail.now.words r.old.seen.items)
+        → Reaches store.now c r.new.hops.items (in_clause trail.now.words r.new.seen.items)) }
 {
     let mut place = trail.len();
     'walk: while place > 0 {
@@ -358,7 +382,9 @@ fn begin_all(r: &mut Resolvent, store: &Store, trail: &Trail, conflict: u32) -> 
     requires is_false { IsFalse store.now trail.now.words conflict }
     requires below { (x : ℕ) → has (clause store.now conflict) x ≡ true → x < 2 * trail.now.vars }
     ensures marked { OnOk result (IsMarked trail.now.words trail.now.vars 0 (length trail.now.words) r.new.seen.items r.new.pending) }
-    ensures leads { OnOk result (Reaches store.now (has (clause store.now conflict)) r.new.hops.items (in_clause trail.now.words r.new.seen.items)) }
+    ensures leads { OnOk result
+        (Reaches store.now (has (clause store.now conflict)) r.new.hops.items
+        (in_clause trail.now.words r.new.seen.items)) }
 {
     let lits = store.clause(conflict);
     if lits.len() == 0 {
@@ -384,7 +410,9 @@ pub(crate) fn refute(
     requires reasons { IsGiven store.now trail.now 0 }
     requires all { (p : ℕ) → p < length trail.now.words → slice_index trail.now.reasons p ≡ 0 → ⊥ }
     ensures marked { OnOk result (IsMarked trail.now.words trail.now.vars 0 0 r.new.seen.items r.new.pending) }
-    ensures leads { OnOk result (Reaches store.now (has (clause store.now conflict)) r.new.hops.items (in_clause trail.now.words r.new.seen.items)) }
+    ensures leads { OnOk result
+        (Reaches store.now (has (clause store.now conflict)) r.new.hops.items
+        (in_clause trail.now.words r.new.seen.items)) }
 {
     begin_all(r, store, trail, conflict)?;
     descend_all(r, store, trail)?;
@@ -404,8 +432,10 @@ fn word_at(words: &[u32], i: usize) -> u32
 #[inline]
 fn give(r: &mut Resolvent, word: u32, into: &mut Vec<u32>) -> Result<(), NoMemory>
     requires { word / 2 < length r.old.seen.items }
-    ensures moved { OnOk result (is_seen r.old.seen.items word ≡ true → (into.new.items ≡ into.old.items ++ word ∷ []) × (r.new.seen.items ≡ slice_set r.old.seen.items (word / 2) false)) }
-    ensures not_there { OnOk result (is_seen r.old.seen.items word ≡ false → (into.new.items ≡ into.old.items) × (r.new.seen.items ≡ r.old.seen.items)) }
+    ensures moved { OnOk result (is_seen r.old.seen.items word ≡ true → (into.new.items ≡ into.old.items ++ word ∷ [])
+        × (r.new.seen.items ≡ slice_set r.old.seen.items (word / 2) false)) }
+    ensures not_there { OnOk result (is_seen r.old.seen.items word ≡ false → (into.new.items ≡ into.old.items)
+        × (r.new.seen.items ≡ r.old.seen.items)) }
     ensures marked { OnOk result (r.new.marked ≡ r.old.marked) }
     ensures hops { OnOk result (r.new.hops ≡ r.old.hops) }
 {

@@ -55,7 +55,8 @@ fn last_place(words: &Vec<u32>, trail: &Trail) -> usize
     requires are_false { (x : ℕ) → has words.now.items x ≡ true → has trail.now.words (opposite x) ≡ true }
     ensures low { 1 ≤ result }
     ensures within { result < length words.now.items }
-    ensures behind { (i : ℕ) → 1 ≤ i → i < length words.now.items → IsBehind trail.now.words (slice_index words.now.items result) (slice_index words.now.items i) }
+    ensures behind { (i : ℕ) → 1 ≤ i → i < length words.now.items
+        → IsBehind trail.now.words (slice_index words.now.items result) (slice_index words.now.items i) }
 {
     let mut last = 1;
     'rest: for k in 2..words.len() {
@@ -109,7 +110,8 @@ pub(crate) fn level_of(trail: &Trail, word: u32) -> usize
     requires is_false { has trail.now.words (opposite word) ≡ true }
     ensures within { result ≤ length trail.now.starts }
     ensures before { (j : ℕ) → j < result → has (take (slice_index trail.now.starts j) trail.now.words) (opposite word) ≡ false }
-    ensures there { result < length trail.now.starts → has (take (slice_index trail.now.starts result) trail.now.words) (opposite word) ≡ true }
+    ensures there { result < length trail.now.starts
+        → has (take (slice_index trail.now.starts result) trail.now.words) (opposite word) ≡ true }
 {
     let place = trail.place(word);
     let mut level = trail.level();

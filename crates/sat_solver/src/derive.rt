@@ -66,7 +66,8 @@ fn links_of(alloc: Global, hops: &[Hop]) -> Result<Vec<Link>, NoMemory>
 
 /// The step with these words, which these hops lead to from a clause.
 fn step_of(alloc: Global, conflict: u32, hops: &[Hop], words: &[u32]) -> Result<Step, NoMemory>
-    ensures { IfOk result (λ s. s ≡ record { clause = clause_of (map lit_of words.now); start = conflict + 1; chain = map link_of hops.now }) }
+    ensures { IfOk result (λ s. s
+        ≡ record { clause = clause_of (map lit_of words.now); start = conflict + 1; chain = map link_of hops.now }) }
 {
     let lits = lits_of(alloc, words)?;
     let clause = Clause::from_lits(alloc, &lits)?;

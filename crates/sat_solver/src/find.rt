@@ -150,7 +150,8 @@ fn resolve(
 fn active_word(trail: &Trail, vars: usize, activity: &mut Activity) -> Option<u32>
     requires vars { vars ≡ trail.now.vars }
     requires small { vars ≤ 2 ^ 31 }
-    ensures { (w : ℕ) → result ≡ Some w → (w < 2 * trail.now.vars) × (has trail.now.words w ≡ false) × (has trail.now.words (opposite w) ≡ false) }
+    ensures { (w : ℕ) → result ≡ Some w → (w < 2 * trail.now.vars) × (has trail.now.words w ≡ false)
+        × (has trail.now.words (opposite w) ≡ false) }
 {
     'active: while let Some(var) = activity.pop() {
         let i = var as usize;
@@ -176,7 +177,8 @@ fn active_word(trail: &Trail, vars: usize, activity: &mut Activity) -> Option<u3
 fn free_word(trail: &Trail, vars: usize) -> Option<u32>
     requires vars { vars ≡ trail.now.vars }
     requires small { vars ≤ 2 ^ 31 }
-    ensures some { (w : ℕ) → result ≡ Some w → (w < 2 * trail.now.vars) × (has trail.now.words w ≡ false) × (has trail.now.words (opposite w) ≡ false) }
+    ensures some { (w : ℕ) → result ≡ Some w → (w < 2 * trail.now.vars) × (has trail.now.words w ≡ false)
+        × (has trail.now.words (opposite w) ≡ false) }
     ensures none { result ≡ None → IsFull trail.now }
 {
     'vars: for var in 0..vars {
@@ -216,7 +218,8 @@ fn drop_refuted(trail: &Trail, vars: usize, activity: &mut Activity)
 fn is_unset(trail: &Trail, vars: usize, word: u32) -> bool
     requires vars { vars ≡ trail.now.vars }
     requires small { vars ≤ 2 ^ 31 }
-    ensures { result ≡ true → (word < 2 * trail.now.vars) × (has trail.now.words word ≡ false) × (has trail.now.words (opposite word) ≡ false) }
+    ensures { result ≡ true → (word < 2 * trail.now.vars) × (has trail.now.words word ≡ false)
+        × (has trail.now.words (opposite word) ≡ false) }
 {
     if word as usize >= 2 * vars {
         return false;
@@ -233,7 +236,8 @@ fn is_unset(trail: &Trail, vars: usize, word: u32) -> bool
 fn first_word(trail: &Trail, vars: usize, activity: &mut Activity) -> Option<u32>
     requires vars { vars ≡ trail.now.vars }
     requires small { vars ≤ 2 ^ 31 }
-    ensures { (w : ℕ) → result ≡ Some w → (w < 2 * trail.now.vars) × (has trail.now.words w ≡ false) × (has trail.now.words (opposite w) ≡ false) }
+    ensures { (w : ℕ) → result ≡ Some w → (w < 2 * trail.now.vars) × (has trail.now.words w ≡ false)
+        × (has trail.now.words (opposite w) ≡ false) }
 {
     drop_refuted(trail, vars, activity);
     'first: while let Some(word) = activity.next_first() {
@@ -250,7 +254,8 @@ fn first_word(trail: &Trail, vars: usize, activity: &mut Activity) -> Option<u32
 fn next_word(trail: &Trail, vars: usize, activity: &mut Activity) -> Option<u32>
     requires vars { vars ≡ trail.now.vars }
     requires small { vars ≤ 2 ^ 31 }
-    ensures some { (w : ℕ) → result ≡ Some w → (w < 2 * trail.now.vars) × (has trail.now.words w ≡ false) × (has trail.now.words (opposite w) ≡ false) }
+    ensures some { (w : ℕ) → result ≡ Some w → (w < 2 * trail.now.vars) × (has trail.now.words w ≡ false)
+        × (has trail.now.words (opposite w) ≡ false) }
     ensures none { result ≡ None → IsFull trail.now }
 {
     if let Some(word) = first_word(trail, vars, activity) {

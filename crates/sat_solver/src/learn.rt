@@ -91,8 +91,10 @@ fn level_for(trail: &Trail, words: &[u32]) -> usize
     requires learnable { (last : ℕ) → last + 1 ≡ length trail.now.starts → IsLearnable trail.now last words.now }
     ensures within { result < length trail.now.starts }
     ensures short { length words.now < 2 → result ≡ 0 }
-    ensures there { 2 ≤ length words.now → has (take (slice_index trail.now.starts result) trail.now.words) (opposite (slice_index words.now 1)) ≡ true }
-    ensures before { 2 ≤ length words.now → (j : ℕ) → j < result → has (take (slice_index trail.now.starts j) trail.now.words) (opposite (slice_index words.now 1)) ≡ false }
+    ensures there { 2 ≤ length words.now
+        → has (take (slice_index trail.now.starts result) trail.now.words) (opposite (slice_index words.now 1)) ≡ true }
+    ensures before { 2 ≤ length words.now → (j : ℕ) → j < result
+        → has (take (slice_index trail.now.starts j) trail.now.words) (opposite (slice_index words.now 1)) ≡ false }
 {
     if words.len() < 2 {
         return 0;

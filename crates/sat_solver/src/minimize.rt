@@ -32,8 +32,11 @@ fn shed_at(
     ensures idle { OnOk result (r.new.pending ≡ 0) }
     ensures long { OnOk result (length r.new.seen.items ≡ trail.now.vars) }
     ensures left { OnOk result (IsLeft trail.now.words boundary _left r.new.seen.items) }
-    ensures covered { OnOk result (Covers trail.now.words r.old.seen.items r.old.marked.items → Covers trail.now.words r.new.seen.items r.new.marked.items) }
-    ensures leads { OnOk result ((c : ℕ → Bool) → Reaches store.now c r.old.hops.items (in_clause trail.now.words r.old.seen.items) → Reaches store.now c r.new.hops.items (in_clause trail.now.words r.new.seen.items)) }
+    ensures covered { OnOk result (Covers trail.now.words r.old.seen.items r.old.marked.items
+        → Covers trail.now.words r.new.seen.items r.new.marked.items) }
+    ensures leads { OnOk result ((c : ℕ → Bool)
+        → Reaches store.now c r.old.hops.items (in_clause trail.now.words r.old.seen.items)
+        → Reaches store.now c r.new.hops.items (in_clause trail.now.words r.new.seen.items)) }
 {
     let word = trail.word(place);
     let seen = is_marked(&r.seen, word);
@@ -69,8 +72,11 @@ fn shed(
     ensures idle { OnOk result (r.new.pending ≡ 0) }
     ensures long { OnOk result (length r.new.seen.items ≡ trail.now.vars) }
     ensures left { OnOk result (IsLeft trail.now.words boundary left r.new.seen.items) }
-    ensures covered { OnOk result (Covers trail.now.words r.old.seen.items r.old.marked.items → Covers trail.now.words r.new.seen.items r.new.marked.items) }
-    ensures leads { OnOk result ((c : ℕ → Bool) → Reaches store.now c r.old.hops.items (in_clause trail.now.words r.old.seen.items) → Reaches store.now c r.new.hops.items (in_clause trail.now.words r.new.seen.items)) }
+    ensures covered { OnOk result (Covers trail.now.words r.old.seen.items r.old.marked.items
+        → Covers trail.now.words r.new.seen.items r.new.marked.items) }
+    ensures leads { OnOk result ((c : ℕ → Bool)
+        → Reaches store.now c r.old.hops.items (in_clause trail.now.words r.old.seen.items)
+        → Reaches store.now c r.new.hops.items (in_clause trail.now.words r.new.seen.items)) }
 {
     let Some(place) = trail.place_ahead(word, boundary) else {
         return Ok(());
@@ -94,8 +100,11 @@ fn shrink(
     requires reasons { IsGiven store.now trail.now boundary }
     ensures long { OnOk result (length r.new.seen.items ≡ trail.now.vars) }
     ensures left { OnOk result (IsLeft trail.now.words boundary left r.new.seen.items) }
-    ensures covered { OnOk result (Covers trail.now.words r.old.seen.items r.old.marked.items → Covers trail.now.words r.new.seen.items r.new.marked.items) }
-    ensures leads { OnOk result ((c : ℕ → Bool) → Reaches store.now c r.old.hops.items (in_clause trail.now.words r.old.seen.items) → Reaches store.now c r.new.hops.items (in_clause trail.now.words r.new.seen.items)) }
+    ensures covered { OnOk result (Covers trail.now.words r.old.seen.items r.old.marked.items
+        → Covers trail.now.words r.new.seen.items r.new.marked.items) }
+    ensures leads { OnOk result ((c : ℕ → Bool)
+        → Reaches store.now c r.old.hops.items (in_clause trail.now.words r.old.seen.items)
+        → Reaches store.now c r.new.hops.items (in_clause trail.now.words r.new.seen.items)) }
 {
     'shed: for _literal in 0..r.plan.len() {
         match r.plan.pop() {
@@ -137,7 +146,9 @@ pub(crate) fn analyze(
     ensures left { IfOk result (λ p. IsLeft trail.now.words boundary p r.new.seen.items) }
     ensures long { OnOk result (length r.new.seen.items ≡ trail.now.vars) }
     ensures covered { OnOk result (Covers trail.now.words r.new.seen.items r.new.marked.items) }
-    ensures leads { OnOk result (Reaches store.now (has (clause store.now conflict)) r.new.hops.items (in_clause trail.now.words r.new.seen.items)) }
+    ensures leads { OnOk result
+        (Reaches store.now (has (clause store.now conflict)) r.new.hops.items
+        (in_clause trail.now.words r.new.seen.items)) }
 {
     let place = to_last_literal(r, store, trail, boundary, conflict)?;
     plan(r, store, trail, boundary)?;

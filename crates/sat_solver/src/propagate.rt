@@ -32,7 +32,8 @@ pub(crate) enum Visited {
 #[inline]
 fn free_place(trail: &Trail, lits: &[u32]) -> Option<usize>
     requires { (x : ℕ) → has lits.now x ≡ true → x < 2 * trail.now.vars }
-    ensures some { (k : ℕ) → result ≡ Some k → (2 ≤ k) × (k < length lits.now) × (has trail.now.words (opposite (slice_index lits.now k)) ≡ false) }
+    ensures some { (k : ℕ) → result ≡ Some k → (2 ≤ k) × (k < length lits.now)
+        × (has trail.now.words (opposite (slice_index lits.now k)) ≡ false) }
     ensures none { result ≡ None → (k : ℕ) → 2 ≤ k → k < length lits.now → has trail.now.words (opposite (slice_index lits.now k)) ≡ true }
 {
     for k in 2..lits.len() {
@@ -98,7 +99,9 @@ fn visit_at(
     requires near { side < 2 }
     requires here { slice_index (clause store.old watcher.clause) side ≡ falsified }
     ensures goes { OnOk result (Continues store.old trail.old store.new trail.new) }
-    ensures visits { IfOk result (λ out. (front rest : List Watcher) → Scanning store.old trail.old watches.old front (watcher ∷ rest) falsified None → IsAfter store.new trail.new watches.new front rest falsified watcher out) }
+    ensures visits { IfOk result (λ out. (front rest : List Watcher)
+        → Scanning store.old trail.old watches.old front (watcher ∷ rest) falsified None
+        → IsAfter store.new trail.new watches.new front rest falsified watcher out) }
 {
     let lits = store.clause(watcher.clause);
     let other = lits[1 - side];
@@ -133,7 +136,9 @@ fn visit(
     requires sound { IsSound store.old trail.old watches.old }
     requires entry { IsEntry store.old watcher }
     ensures goes { OnOk result (Continues store.old trail.old store.new trail.new) }
-    ensures visits { IfOk result (λ out. (front rest : List Watcher) → Scanning store.old trail.old watches.old front (watcher ∷ rest) falsified None → IsAfter store.new trail.new watches.new front rest falsified watcher out) }
+    ensures visits { IfOk result (λ out. (front rest : List Watcher)
+        → Scanning store.old trail.old watches.old front (watcher ∷ rest) falsified None
+        → IsAfter store.new trail.new watches.new front rest falsified watcher out) }
 {
     let lits = store.clause(watcher.clause);
     let first = lits[0];
@@ -162,7 +167,8 @@ struct Scan {
 fn keep(scan: &mut Scan, clause: u32, blocker: u32)
     requires order { scan.old.kept ≤ scan.old.next }
     requires within { scan.old.next < length scan.old.list.items }
-    ensures front { take scan.new.kept scan.new.list.items ≡ take scan.old.kept scan.old.list.items ++ record { clause = clause; blocker = blocker } ∷ [] }
+    ensures front { take scan.new.kept scan.new.list.items ≡ take scan.old.kept scan.old.list.items
+        ++ record { clause = clause; blocker = blocker } ∷ [] }
     ensures rest { drop scan.new.next scan.new.list.items ≡ drop (scan.old.next + 1) scan.old.list.items }
     ensures kept { scan.new.kept ≡ scan.old.kept + 1 }
     ensures next { scan.new.next ≡ scan.old.next + 1 }
@@ -206,9 +212,12 @@ fn step_on(
     requires order { scan.old.kept ≤ scan.old.next }
     requires within { scan.old.next < length scan.old.list.items }
     requires none { scan.old.conflict ≡ None }
-    requires scanning { Scanning store.old trail.old watches.old (take scan.old.kept scan.old.list.items) (watcher ∷ drop (scan.old.next + 1) scan.old.list.items) falsified None }
+    requires scanning { Scanning store.old trail.old watches.old (take scan.old.kept scan.old.list.items)
+        (watcher ∷ drop (scan.old.next + 1) scan.old.list.items) falsified None }
     ensures goes { OnOk result (Continues store.old trail.old store.new trail.new) }
-    ensures scanning { OnOk result (Scanning store.new trail.new watches.new (take scan.new.kept scan.new.list.items) (drop scan.new.next scan.new.list.items) falsified scan.new.conflict) }
+    ensures scanning { OnOk result
+        (Scanning store.new trail.new watches.new (take scan.new.kept scan.new.list.items)
+        (drop scan.new.next scan.new.list.items) falsified scan.new.conflict) }
     ensures order { OnOk result (scan.new.kept ≤ scan.new.next) }
     ensures next { OnOk result (scan.new.next ≡ scan.old.next + 1) }
     ensures long { OnOk result (length scan.new.list.items ≡ length scan.old.list.items) }
@@ -247,9 +256,12 @@ fn step(
 ) -> Result<(), NoMemory>
     requires order { scan.old.kept ≤ scan.old.next }
     requires within { scan.old.next < length scan.old.list.items }
-    requires scanning { Scanning store.old trail.old watches.old (take scan.old.kept scan.old.list.items) (drop scan.old.next scan.old.list.items) falsified scan.old.conflict }
+    requires scanning { Scanning store.old trail.old watches.old (take scan.old.kept scan.old.list.items)
+        (drop scan.old.next scan.old.list.items) falsified scan.old.conflict }
     ensures goes { OnOk result (Continues store.old trail.old store.new trail.new) }
-    ensures scanning { OnOk result (Scanning store.new trail.new watches.new (take scan.new.kept scan.new.list.items) (drop scan.new.next scan.new.list.items) falsified scan.new.conflict) }
+    ensures scanning { OnOk result
+        (Scanning store.new trail.new watches.new (take scan.new.kept scan.new.list.items)
+        (drop scan.new.next scan.new.list.items) falsified scan.new.conflict) }
     ensures order { OnOk result (scan.new.kept ≤ scan.new.next) }
     ensures next { OnOk result (scan.new.next ≡ scan.old.next + 1) }
     ensures long { OnOk result (length scan.new.list.items ≡ length scan.old.list.items) }
@@ -290,7 +302,8 @@ fn propagate_word(
     falsified: u32,
 ) -> Result<Option<u32>, NoMemory>
     requires below { falsified < length watches.old }
-    requires scanning { Scanning store.old trail.old (slice_set watches.old falsified []) [] (slice_index_or watches.old falsified []) falsified None }
+    requires scanning { Scanning store.old trail.old (slice_set watches.old falsified []) []
+        (slice_index_or watches.old falsified []) falsified None }
     ensures goes { OnOk result (Continues store.old trail.old store.new trail.new) }
     ensures ends { IfOk result (λ conflict. Ends store.new trail.new watches.new conflict) }
 {

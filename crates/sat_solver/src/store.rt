@@ -52,7 +52,9 @@ fn part(words: &[u32], start: usize, end: usize) -> &[u32]
 fn exchange_words(words: &mut Vec<u32>, start: usize, j: usize, k: usize)
     requires first { start + j < length words.old.items }
     requires second { start + k < length words.old.items }
-    ensures { words.new.items ≡ slice_set (slice_set words.old.items (start + j) (slice_index words.old.items (start + k))) (start + k) (slice_index words.old.items (start + j)) }
+    ensures { words.new.items ≡ slice_set
+        (slice_set words.old.items (start + j) (slice_index words.old.items (start + k))) (start + k)
+        (slice_index words.old.items (start + j)) }
 {
     let word = words[start + j];
     words[start + j] = words[start + k];

@@ -144,7 +144,14 @@ impl Trail {
         requires below { word < 2 * self.old.vars }
         requires free { has self.old.words word ≡ false }
         requires open { has self.old.words (opposite word) ≡ false }
-        ensures ok { OnOk result (self.new ≡ record { vars = self.old.vars; words = self.old.words ++ word ∷ []; reasons = self.old.reasons ++ reason ∷ []; starts = self.old.starts; done = self.old.done }) }
+        ensures ok { OnOk result
+            (self.new ≡ record {
+              vars = self.old.vars;
+              words = self.old.words ++ word ∷ [];
+              reasons = self.old.reasons ++ reason ∷ [];
+              starts = self.old.starts;
+              done = self.old.done;
+            }) }
     {
         let place = push_both(&mut self.words, &mut self.reasons, word, reason)?;
         self.holds[word as usize] = true;
@@ -157,7 +164,9 @@ impl Trail {
     pub(crate) fn next(&mut self) -> Option<u32>
         ensures none { result ≡ None → (self.new ≡ self.old) × (self.old.done ≡ length self.old.words) }
         ensures few { length self.old.words < 2 ^ 32 }
-        ensures some { (w : ℕ) → result ≡ Some w → (self.old.done < length self.old.words) × (w ≡ slice_index self.old.words self.old.done) × (self.new ≡ record { vars = self.old.vars; words = self.old.words; reasons = self.old.reasons; starts = self.old.starts; done = self.old.done + 1 }) }
+        ensures some { (w : ℕ) → result ≡ Some w → (self.old.done < length self.old.words)
+            × (w ≡ slice_index self.old.words self.old.done)
+            × (self.new ≡ record { vars = self.old.vars; words = self.old.words; reasons = self.old.reasons; starts = self.old.starts; done = self.old.done + 1 }) }
     {
         if self.done == self.words.len() {
             return None;
@@ -283,7 +292,14 @@ impl Trail {
         requires below { word < 2 * self.old.vars }
         requires free { has self.old.words word ≡ false }
         requires unset { has self.old.words (opposite word) ≡ false }
-        ensures ok { OnOk result (self.new ≡ record { vars = self.old.vars; words = self.old.words ++ word ∷ []; reasons = self.old.reasons ++ 0 ∷ []; starts = self.old.starts ++ length self.old.words ∷ []; done = self.old.done }) }
+        ensures ok { OnOk result
+            (self.new ≡ record {
+              vars = self.old.vars;
+              words = self.old.words ++ word ∷ [];
+              reasons = self.old.reasons ++ 0 ∷ [];
+              starts = self.old.starts ++ length self.old.words ∷ [];
+              done = self.old.done;
+            }) }
     {
         let place = self.len();
         let _levels = self.level();
@@ -296,7 +312,8 @@ impl Trail {
         requires place { place + 1 ≡ length self.old.words }
         requires few { place < 2 ^ 32 }
         requires last { (k : ℕ) → k < length self.old.starts → slice_index self.old.starts k < place }
-        ensures ok { OnOk result (self.new ≡ record { vars = self.old.vars; words = self.old.words; reasons = self.old.reasons; starts = self.old.starts ++ place ∷ []; done = self.old.done }) }
+        ensures ok { OnOk result
+            (self.new ≡ record { vars = self.old.vars; words = self.old.words; reasons = self.old.reasons; starts = self.old.starts ++ place ∷ []; done = self.old.done }) }
     {
         self.starts.push(place as u32)?;
         Ok(())

@@ -42,7 +42,8 @@ fn may_stay(
     given: &[Path],
 ) -> Result<bool, NoMemory>
     requires { IsAnswerable (length programs.now) question }
-    ensures { IfOk result (λ stays. IsTrue stays ↔ (Shows (map program_of programs.now) question.entry tree.now × Stand given.now tree.now)) }
+    ensures { IfOk result (λ stays. IsTrue stays
+        ↔ (Shows (map program_of programs.now) question.entry tree.now × Stand given.now tree.now)) }
 {
     let stand = all_stand(tree, given);
     let shows = shows(alloc, programs, question, tree)?;
@@ -59,7 +60,8 @@ fn tried(
     given: &[Path],
 ) -> Result<Tree, NoMemory>
     requires { IsAnswerable (length programs.now) question }
-    ensures shows { IfOk result (λ t. Shows (map program_of programs.now) question.entry tree → Shows (map program_of programs.now) question.entry t) }
+    ensures shows { IfOk result (λ t. Shows (map program_of programs.now) question.entry tree
+        → Shows (map program_of programs.now) question.entry t) }
     ensures stand { IfOk result (λ t. Stand given.now tree → Stand given.now t) }
     ensures within { IfOk result (λ t. IsWithin t tree) }
 {
@@ -86,7 +88,8 @@ fn shrunk(
     given: &[Path],
 ) -> Result<Tree, NoMemory>
     requires { IsAnswerable (length programs.now) question }
-    ensures shows { IfOk result (λ t. Shows (map program_of programs.now) question.entry tree.now → Shows (map program_of programs.now) question.entry t) }
+    ensures shows { IfOk result (λ t. Shows (map program_of programs.now) question.entry tree.now
+        → Shows (map program_of programs.now) question.entry t) }
     ensures stand { IfOk result (λ t. Stand given.now tree.now → Stand given.now t) }
     ensures within { IfOk result (λ t. IsWithin t tree.now) }
 {
@@ -116,7 +119,8 @@ pub fn smaller_apart(
 ) -> Result<Tree, NoMemory>
     requires left { AreBelow (length programs.now) left.now }
     requires right { AreBelow (length programs.now) right.now }
-    ensures shows { IfOk result (λ t. (before : ℕ → ℕ → Bool) → IsCounterexample (map program_of programs.now) (Told before) tree.now left.now right.now
+    ensures shows { IfOk result (λ t. (before : ℕ → ℕ → Bool)
+        → IsCounterexample (map program_of programs.now) (Told before) tree.now left.now right.now
         → IsCounterexample (map program_of programs.now) (Told before) t left.now right.now) }
     ensures stand { IfOk result (λ t. Stand given.now tree.now → Stand given.now t) }
     ensures within { IfOk result (λ t. IsWithin t tree.now) }
@@ -136,7 +140,8 @@ pub fn smaller_again(
     given: &[Path],
 ) -> Result<Tree, NoMemory>
     requires { AreBelow (length programs.now) order.now }
-    ensures shows { IfOk result (λ t. (before : ℕ → ℕ → Bool) → IsSecondRunCounterexample (map program_of programs.now) (Told before) tree.now order.now
+    ensures shows { IfOk result (λ t. (before : ℕ → ℕ → Bool)
+        → IsSecondRunCounterexample (map program_of programs.now) (Told before) tree.now order.now
         → IsSecondRunCounterexample (map program_of programs.now) (Told before) t order.now) }
     ensures stand { IfOk result (λ t. Stand given.now tree.now → Stand given.now t) }
     ensures within { IfOk result (λ t. IsWithin t tree.now) }

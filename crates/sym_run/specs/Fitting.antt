@@ -11,7 +11,8 @@ fits above known c cell = if c.present then dir_at above cell && (if c.folder th
 
 -- the cell at a place fits
 abbrev pub fits_at : Listed → Cellwise → ℕ → Bool
-fits_at table cell i = fits (place_in table.paths (parent (slice_index_or table.paths i []))) (nat_lt (cell i).content (length table.contents)) (cell i) cell
+fits_at table cell i = fits (place_in table.paths (parent (slice_index_or table.paths i [])))
+    (nat_lt (cell i).content (length table.contents)) (cell i) cell
 
 -- the cells at the first n places fit
 abbrev pub all_fit : Listed → Cellwise → ℕ → Bool

@@ -18,7 +18,10 @@ pub record IsTreeOver (d : Domain) (t : Tree) : Type 0 where
 
 -- the entry that a cell tells
 abbrev pub entry_in : List (List ℕ) → Cell → Option Entry
-entry_in contents c = if c.present then Some (if c.folder then Folder else (if c.link then Link (slice_index_or contents c.content []) else File (slice_index_or contents c.content []))) else None
+entry_in contents c = if c.present then Some
+    (if c.folder then Folder else
+    (if c.link then Link (slice_index_or contents c.content []) else File
+    (slice_index_or contents c.content []))) else None
 
 -- the tree that the cells at the first n places tell
 abbrev pub grown : Listed → Cellwise → ℕ → Tree

@@ -16,7 +16,8 @@ fn bit_less(circuit: &mut Circuit, x: Wire, y: bool, rest: Wire) -> Result<Wire,
     requires x { x.0 < length circuit.old }
     requires rest { rest.0 < length circuit.old }
     ensures wire { IfOk result (λ w. w.0 < length circuit.new) }
-    ensures value { IfOk result (λ w. (v : Valuation) → wire_value circuit.new v w.0 ≡ bit_less (wire_value circuit.old v x.0) y (wire_value circuit.old v rest.0)) }
+    ensures value { IfOk result (λ w. (v : Valuation)
+        → wire_value circuit.new v w.0 ≡ bit_less (wire_value circuit.old v x.0) y (wire_value circuit.old v rest.0)) }
     ensures inputs { input_count circuit.new ≡ input_count circuit.old }
     ensures grows { Grows circuit.old circuit.new }
 {
@@ -41,7 +42,9 @@ fn less_with(
     requires wires { AreWires circuit.old wires.now }
     requires rest { rest.0 < length circuit.old }
     ensures wire { IfOk result (λ w. w.0 < length circuit.new) }
-    ensures value { IfOk result (λ w. (v : Valuation) → wire_value circuit.new v w.0 ≡ less_with (number (wire_value circuit.old v) wires.now) n (wire_value circuit.old v rest.0)) }
+    ensures value { IfOk result (λ w. (v : Valuation)
+        → wire_value circuit.new v w.0 ≡ less_with (number (wire_value circuit.old v) wires.now) n
+        (wire_value circuit.old v rest.0)) }
     ensures inputs { input_count circuit.new ≡ input_count circuit.old }
     ensures grows { Grows circuit.old circuit.new }
 {
@@ -72,7 +75,8 @@ fn none_less(circuit: &mut Circuit, n: u64, rest: Wire) -> Result<Wire, NoMemory
 fn below_wires(circuit: &mut Circuit, wires: &[Wire], n: u64) -> Result<Wire, NoMemory>
     requires wires { AreWires circuit.old wires.now }
     ensures wire { IfOk result (λ w. w.0 < length circuit.new) }
-    ensures value { IfOk result (λ w. (v : Valuation) → wire_value circuit.new v w.0 ≡ nat_lt (number (wire_value circuit.old v) wires.now) n) }
+    ensures value { IfOk result (λ w. (v : Valuation)
+        → wire_value circuit.new v w.0 ≡ nat_lt (number (wire_value circuit.old v) wires.now) n) }
     ensures inputs { input_count circuit.new ≡ input_count circuit.old }
     ensures grows { Grows circuit.old circuit.new }
 {

@@ -24,7 +24,10 @@ pub(crate) fn choose_bits<B: Bits>(
     requires b { AreOwnBits (B.meanings bits.old) b.now }
     requires long { length a.now ≡ length b.now }
     ensures long { IfOk result (λ chosen. length chosen ≡ length a.now) }
-    ensures chosen { IfOk result (AreBits (B.meanings bits.new) (λ v i. if (B.meanings bits.old).bit v when.now then bit_at (B.meanings bits.old) v a.now i else bit_at (B.meanings bits.old) v b.now i)) }
+    ensures chosen { IfOk result
+        (AreBits (B.meanings bits.new)
+        (λ v i. if (B.meanings bits.old).bit v when.now then bit_at (B.meanings bits.old) v a.now i else bit_at
+        (B.meanings bits.old) v b.now i)) }
     ensures grows { Grows (B.meanings bits.old) (B.meanings bits.new) }
 {
     let mut chosen = Seq::new(alloc);
@@ -48,7 +51,10 @@ pub(crate) fn choose_codes<B: Bits>(
     requires b { AreOwnCodes (B.meanings bits.old) b.now }
     requires long { length a.now ≡ length b.now }
     ensures long { IfOk result (λ chosen. length chosen ≡ length a.now) }
-    ensures chosen { IfOk result (AreCodes (B.meanings bits.new) (λ v i. if (B.meanings bits.old).bit v when.now then code_at (B.meanings bits.old) v a.now i else code_at (B.meanings bits.old) v b.now i)) }
+    ensures chosen { IfOk result
+        (AreCodes (B.meanings bits.new)
+        (λ v i. if (B.meanings bits.old).bit v when.now then code_at (B.meanings bits.old) v a.now i else code_at
+        (B.meanings bits.old) v b.now i)) }
     ensures grows { Grows (B.meanings bits.old) (B.meanings bits.new) }
 {
     let mut chosen = Seq::new(alloc);
@@ -80,7 +86,9 @@ pub(crate) fn dir_at<B: Bits>(
 pub(crate) fn same_bit<B: Bits>(bits: &mut B, a: &B::Bit, b: &B::Bit) -> Result<B::Bit, NoMemory>
     requires a { (B.meanings bits.old).owns a.now }
     requires b { (B.meanings bits.old).owns b.now }
-    ensures gives { IfOk result (IsBit (B.meanings bits.new) (λ v. same_truth ((B.meanings bits.old).bit v a.now) ((B.meanings bits.old).bit v b.now))) }
+    ensures gives { IfOk result
+        (IsBit (B.meanings bits.new)
+        (λ v. same_truth ((B.meanings bits.old).bit v a.now) ((B.meanings bits.old).bit v b.now))) }
     ensures grows { Grows (B.meanings bits.old) (B.meanings bits.new) }
 {
     let other = bits.not(b)?;
@@ -95,7 +103,9 @@ pub(crate) fn where_holds<B: Bits>(
 ) -> Result<B::Bit, NoMemory>
     requires when { (B.meanings bits.old).owns when.now }
     requires a { (B.meanings bits.old).owns a.now }
-    ensures gives { IfOk result (IsBit (B.meanings bits.new) (λ v. if (B.meanings bits.old).bit v when.now then (B.meanings bits.old).bit v a.now else true)) }
+    ensures gives { IfOk result
+        (IsBit (B.meanings bits.new)
+        (λ v. if (B.meanings bits.old).bit v when.now then (B.meanings bits.old).bit v a.now else true)) }
     ensures grows { Grows (B.meanings bits.old) (B.meanings bits.new) }
 {
     let sure = bits.constant(true)?;
@@ -110,7 +120,9 @@ pub(crate) fn unless_holds<B: Bits>(
 ) -> Result<B::Bit, NoMemory>
     requires when { (B.meanings bits.old).owns when.now }
     requires a { (B.meanings bits.old).owns a.now }
-    ensures gives { IfOk result (IsBit (B.meanings bits.new) (λ v. if (B.meanings bits.old).bit v when.now then true else (B.meanings bits.old).bit v a.now)) }
+    ensures gives { IfOk result
+        (IsBit (B.meanings bits.new)
+        (λ v. if (B.meanings bits.old).bit v when.now then true else (B.meanings bits.old).bit v a.now)) }
     ensures grows { Grows (B.meanings bits.old) (B.meanings bits.new) }
 {
     let sure = bits.constant(true)?;

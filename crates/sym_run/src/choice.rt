@@ -27,7 +27,10 @@ fn choose_cells<B: Bits>(
     requires long { length a.now.present ≡ length b.now.present }
     ensures cells { IfOk result (AreCells (B.meanings bits.new)) }
     ensures long { IfOk result (λ cells. length cells.present ≡ length a.now.present) }
-    ensures told { IfOk result (λ cells. (v : Valuation) → state_of (B.meanings bits.new) v cells ≡ (if (B.meanings bits.old).bit v when.now then state_of (B.meanings bits.old) v a.now else state_of (B.meanings bits.old) v b.now)) }
+    ensures told { IfOk result (λ cells. (v : Valuation)
+        → state_of (B.meanings bits.new) v cells ≡
+        (if (B.meanings bits.old).bit v when.now then state_of (B.meanings bits.old) v a.now else state_of
+        (B.meanings bits.old) v b.now)) }
     ensures grows { Grows (B.meanings bits.old) (B.meanings bits.new) }
 {
     let present = choose_bits(alloc, bits, when, &a.present, &b.present)?;
@@ -60,7 +63,10 @@ pub fn choose(
     requires b_places { length b.now.present ≡ length domain.now.table.paths }
     ensures cells { IfOk result (AreCells (circuit_meanings sym.new)) }
     ensures places { IfOk result (λ cells. length cells.present ≡ length domain.now.table.paths) }
-    ensures told { IfOk result (λ cells. (v : Valuation) → state_of (circuit_meanings sym.new) v cells ≡ (if wire_value sym.old v when.0 then state_of (circuit_meanings sym.old) v a.now else state_of (circuit_meanings sym.old) v b.now)) }
+    ensures told { IfOk result (λ cells. (v : Valuation)
+        → state_of (circuit_meanings sym.new) v cells ≡
+        (if wire_value sym.old v when.0 then state_of (circuit_meanings sym.old) v a.now else state_of
+        (circuit_meanings sym.old) v b.now)) }
     ensures grows { Grows (circuit_meanings sym.old) (circuit_meanings sym.new) }
 {
     let _count = domain.table.path_count();

@@ -47,7 +47,8 @@ fn with_last(front: Seq<Wire>, last: Wire) -> Result<Seq<Wire>, NoMemory>
 pub(crate) fn apart<'w>(circuit: &Circuit, wires: &'w [Wire], zero: Wire) -> (&'w [Wire], Wire)
     requires zero { zero.0 < length circuit.now }
     requires own { AreWires circuit.now wires.now }
-    ensures value { (values : ℕ → Bool) → values zero.0 ≡ false → number values wires.now ≡ 2 * number values result.0.now + bit_number (values result.1.0) }
+    ensures value { (values : ℕ → Bool) → values zero.0 ≡ false
+        → number values wires.now ≡ 2 * number values result.0.now + bit_number (values result.1.0) }
     ensures front { AreWires circuit.now result.0.now }
     ensures last { result.1.0 < length circuit.now }
     ensures shorter { length result.0.now ≡ length wires.now - 1 }
@@ -70,7 +71,10 @@ pub(crate) fn pick_wires(
     requires a { AreWires circuit.old a.now }
     requires b { AreWires circuit.old b.now }
     ensures own { IfOk result (λ ws. AreWires circuit.new ws) }
-    ensures value { IfOk result (λ ws. (inputs : ℕ → Bool) → number (wire_value circuit.new inputs) ws ≡ (if wire_value circuit.old inputs c.0 then number (wire_value circuit.old inputs) a.now else number (wire_value circuit.old inputs) b.now)) }
+    ensures value { IfOk result (λ ws. (inputs : ℕ → Bool)
+        → number (wire_value circuit.new inputs) ws ≡
+        (if wire_value circuit.old inputs c.0 then number (wire_value circuit.old inputs) a.now else number
+        (wire_value circuit.old inputs) b.now)) }
     ensures grows { Grows circuit.old circuit.new }
 {
     let zero = circuit.constant(false)?;
@@ -91,7 +95,10 @@ fn pick_with(
     requires a { AreWires circuit.old a.now }
     requires b { AreWires circuit.old b.now }
     ensures own { IfOk result (λ ws. AreWires circuit.new ws) }
-    ensures value { IfOk result (λ ws. (inputs : ℕ → Bool) → number (wire_value circuit.new inputs) ws ≡ (if wire_value circuit.old inputs c.0 then number (wire_value circuit.old inputs) a.now else number (wire_value circuit.old inputs) b.now)) }
+    ensures value { IfOk result (λ ws. (inputs : ℕ → Bool)
+        → number (wire_value circuit.new inputs) ws ≡
+        (if wire_value circuit.old inputs c.0 then number (wire_value circuit.old inputs) a.now else number
+        (wire_value circuit.old inputs) b.now)) }
     ensures grows { Grows circuit.old circuit.new }
 {
     if a.is_empty() && b.is_empty() {
@@ -109,7 +116,9 @@ pub(crate) fn same_wires(circuit: &mut Circuit, a: &[Wire], b: &[Wire]) -> Resul
     requires a { AreWires circuit.old a.now }
     requires b { AreWires circuit.old b.now }
     ensures wire { IfOk result (λ w. w.0 < length circuit.new) }
-    ensures value { IfOk result (λ w. (inputs : ℕ → Bool) → wire_value circuit.new inputs w.0 ≡ (number (wire_value circuit.old inputs) a.now == number (wire_value circuit.old inputs) b.now)) }
+    ensures value { IfOk result (λ w. (inputs : ℕ → Bool)
+        → wire_value circuit.new inputs w.0 ≡
+        (number (wire_value circuit.old inputs) a.now == number (wire_value circuit.old inputs) b.now)) }
     ensures grows { Grows circuit.old circuit.new }
 {
     let zero = circuit.constant(false)?;
@@ -122,7 +131,9 @@ fn same_with(circuit: &mut Circuit, zero: Wire, a: &[Wire], b: &[Wire]) -> Resul
     requires a { AreWires circuit.old a.now }
     requires b { AreWires circuit.old b.now }
     ensures wire { IfOk result (λ w. w.0 < length circuit.new) }
-    ensures value { IfOk result (λ w. (inputs : ℕ → Bool) → wire_value circuit.new inputs w.0 ≡ (number (wire_value circuit.old inputs) a.now == number (wire_value circuit.old inputs) b.now)) }
+    ensures value { IfOk result (λ w. (inputs : ℕ → Bool)
+        → wire_value circuit.new inputs w.0 ≡
+        (number (wire_value circuit.old inputs) a.now == number (wire_value circuit.old inputs) b.now)) }
     ensures grows { Grows circuit.old circuit.new }
 {
     if a.is_empty() && b.is_empty() {
@@ -140,7 +151,10 @@ fn same_bit(circuit: &mut Circuit, a: Wire, b: Wire) -> Result<Wire, NoMemory>
     requires a { a.0 < length circuit.old }
     requires b { b.0 < length circuit.old }
     ensures wire { IfOk result (λ w. w.0 < length circuit.new) }
-    ensures value { IfOk result (λ w. (inputs : ℕ → Bool) → wire_value circuit.new inputs w.0 ≡ (if wire_value circuit.old inputs a.0 then wire_value circuit.old inputs b.0 else not (wire_value circuit.old inputs b.0))) }
+    ensures value { IfOk result (λ w. (inputs : ℕ → Bool)
+        → wire_value circuit.new inputs w.0 ≡
+        (if wire_value circuit.old inputs a.0 then wire_value circuit.old inputs b.0 else not
+        (wire_value circuit.old inputs b.0))) }
     ensures grows { Grows circuit.old circuit.new }
 {
     let other = circuit.not(b)?;

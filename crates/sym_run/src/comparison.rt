@@ -27,7 +27,9 @@ fn same_text<B: Bits>(
     requires b { AreCells (B.meanings bits.old) b.now }
     requires place { i < length a.now.present }
     requires long { length a.now.present ≡ length b.now.present }
-    ensures gives { IfOk result (IsBit (B.meanings bits.new) (λ v. same_text (cell_at (B.meanings bits.old) v a.now i) (cell_at (B.meanings bits.old) v b.now i))) }
+    ensures gives { IfOk result
+        (IsBit (B.meanings bits.new)
+        (λ v. same_text (cell_at (B.meanings bits.old) v a.now i) (cell_at (B.meanings bits.old) v b.now i))) }
     ensures grows { Grows (B.meanings bits.old) (B.meanings bits.new) }
 {
     let link = same_bit(bits, a.link.at(i), b.link.at(i))?;
@@ -45,7 +47,9 @@ fn same_entry<B: Bits>(
     requires b { AreCells (B.meanings bits.old) b.now }
     requires place { i < length a.now.present }
     requires long { length a.now.present ≡ length b.now.present }
-    ensures gives { IfOk result (IsBit (B.meanings bits.new) (λ v. same_entry (cell_at (B.meanings bits.old) v a.now i) (cell_at (B.meanings bits.old) v b.now i))) }
+    ensures gives { IfOk result
+        (IsBit (B.meanings bits.new)
+        (λ v. same_entry (cell_at (B.meanings bits.old) v a.now i) (cell_at (B.meanings bits.old) v b.now i))) }
     ensures grows { Grows (B.meanings bits.old) (B.meanings bits.new) }
 {
     let text = same_text(bits, a, b, i)?;
@@ -65,7 +69,9 @@ fn same_cell<B: Bits>(
     requires b { AreCells (B.meanings bits.old) b.now }
     requires place { i < length a.now.present }
     requires long { length a.now.present ≡ length b.now.present }
-    ensures gives { IfOk result (IsBit (B.meanings bits.new) (λ v. same_cell (cell_at (B.meanings bits.old) v a.now i) (cell_at (B.meanings bits.old) v b.now i))) }
+    ensures gives { IfOk result
+        (IsBit (B.meanings bits.new)
+        (λ v. same_cell (cell_at (B.meanings bits.old) v a.now i) (cell_at (B.meanings bits.old) v b.now i))) }
     ensures grows { Grows (B.meanings bits.old) (B.meanings bits.new) }
 {
     let entry = same_entry(bits, a, b, i)?;
@@ -118,7 +124,10 @@ fn same_place(sym: &mut Sym, a: &Cells<Sym>, b: &Cells<Sym>, i: usize) -> Result
     requires b { AreCells (circuit_meanings sym.old) b.now }
     requires place { i < length a.now.present }
     requires long { length a.now.present ≡ length b.now.present }
-    ensures gives { IfOk result (IsBit (circuit_meanings sym.new) (λ v. same_cell (cell_at (circuit_meanings sym.old) v a.now i) (cell_at (circuit_meanings sym.old) v b.now i))) }
+    ensures gives { IfOk result
+        (IsBit (circuit_meanings sym.new)
+        (λ v. same_cell (cell_at (circuit_meanings sym.old) v a.now i)
+        (cell_at (circuit_meanings sym.old) v b.now i))) }
     ensures grows { Grows (circuit_meanings sym.old) (circuit_meanings sym.new) }
 {
     if has_same_wires(a, b, i) {
@@ -133,7 +142,10 @@ fn same_cells(sym: &mut Sym, a: &Cells<Sym>, b: &Cells<Sym>) -> Result<Wire, NoM
     requires a { AreCells (circuit_meanings sym.old) a.now }
     requires b { AreCells (circuit_meanings sym.old) b.now }
     requires long { length a.now.present ≡ length b.now.present }
-    ensures gives { IfOk result (IsBit (circuit_meanings sym.new) (λ v. same_cells (cell_at (circuit_meanings sym.old) v a.now) (cell_at (circuit_meanings sym.old) v b.now) (length a.now.present))) }
+    ensures gives { IfOk result
+        (IsBit (circuit_meanings sym.new)
+        (λ v. same_cells (cell_at (circuit_meanings sym.old) v a.now) (cell_at (circuit_meanings sym.old) v b.now)
+        (length a.now.present))) }
     ensures grows { Grows (circuit_meanings sym.old) (circuit_meanings sym.new) }
 {
     let mut all = sym.constant(true)?;
@@ -149,7 +161,10 @@ fn same_state(sym: &mut Sym, a: &Cells<Sym>, b: &Cells<Sym>) -> Result<Wire, NoM
     requires a { AreCells (circuit_meanings sym.old) a.now }
     requires b { AreCells (circuit_meanings sym.old) b.now }
     requires long { length a.now.present ≡ length b.now.present }
-    ensures gives { IfOk result (IsBit (circuit_meanings sym.new) (λ v. same_state (state_of (circuit_meanings sym.old) v a.now) (state_of (circuit_meanings sym.old) v b.now) (length a.now.present))) }
+    ensures gives { IfOk result
+        (IsBit (circuit_meanings sym.new)
+        (λ v. same_state (state_of (circuit_meanings sym.old) v a.now) (state_of (circuit_meanings sym.old) v b.now)
+        (length a.now.present))) }
     ensures grows { Grows (circuit_meanings sym.old) (circuit_meanings sym.new) }
 {
     let cells = same_cells(sym, a, b)?;
@@ -170,7 +185,10 @@ pub fn alike(
     requires a_places { length a.now.present ≡ length domain.now.table.paths }
     requires b_places { length b.now.present ≡ length domain.now.table.paths }
     ensures wire { IfOk result (λ w. w.0 < length sym.new) }
-    ensures exact { IfOk result (λ w. (v : Valuation) (o u : Outcome) → StandsFor domain.now.table (state_of (circuit_meanings sym.old) v a.now) o → StandsFor domain.now.table (state_of (circuit_meanings sym.old) v b.now) u → (wire_value sym.new v w.0 ≡ true) ↔ (o ≡ u)) }
+    ensures exact { IfOk result (λ w. (v : Valuation) (o u : Outcome)
+        → StandsFor domain.now.table (state_of (circuit_meanings sym.old) v a.now) o
+        → StandsFor domain.now.table (state_of (circuit_meanings sym.old) v b.now) u → (wire_value sym.new v w.0 ≡ true)
+        ↔ (o ≡ u)) }
     ensures grows { Grows (circuit_meanings sym.old) (circuit_meanings sym.new) }
 {
     domain.table.is_table();

@@ -26,7 +26,10 @@ fn fits<B: Bits>(
     requires place { i < length cells.now.present }
     requires above { IfSome above (λ j. j < length cells.now.present) }
     requires known { (B.meanings bits.old).owns known.now }
-    ensures gives { IfOk result (IsBit (B.meanings bits.new) (λ v. fits above ((B.meanings bits.old).bit v known.now) (cell_at (B.meanings bits.old) v cells.now i) (cell_at (B.meanings bits.old) v cells.now))) }
+    ensures gives { IfOk result
+        (IsBit (B.meanings bits.new)
+        (λ v. fits above ((B.meanings bits.old).bit v known.now) (cell_at (B.meanings bits.old) v cells.now i)
+        (cell_at (B.meanings bits.old) v cells.now))) }
     ensures grows { Grows (B.meanings bits.old) (B.meanings bits.new) }
 {
     let dir = dir_at(bits, cells, above)?;
@@ -47,7 +50,8 @@ fn fits_at(
     requires cells { AreCells (circuit_meanings sym.old) cells.now }
     requires places { length cells.now.present ≡ length table.now.paths }
     requires place { i < length table.now.paths }
-    ensures gives { IfOk result (IsBit (circuit_meanings sym.new) (λ v. fits_at table.now (cell_at (circuit_meanings sym.old) v cells.now) i)) }
+    ensures gives { IfOk result
+        (IsBit (circuit_meanings sym.new) (λ v. fits_at table.now (cell_at (circuit_meanings sym.old) v cells.now) i)) }
     ensures grows { Grows (circuit_meanings sym.old) (circuit_meanings sym.new) }
 {
     let parent = table.path(i).parent(alloc)?;
@@ -65,7 +69,9 @@ pub(crate) fn all_fit(
 ) -> Result<Wire, NoMemory>
     requires cells { AreCells (circuit_meanings sym.old) cells.now }
     requires places { length cells.now.present ≡ length table.now.paths }
-    ensures gives { IfOk result (IsBit (circuit_meanings sym.new) (λ v. all_fit table.now (cell_at (circuit_meanings sym.old) v cells.now) (length table.now.paths))) }
+    ensures gives { IfOk result
+        (IsBit (circuit_meanings sym.new)
+        (λ v. all_fit table.now (cell_at (circuit_meanings sym.old) v cells.now) (length table.now.paths))) }
     ensures grows { Grows (circuit_meanings sym.old) (circuit_meanings sym.new) }
 {
     let mut all = sym.constant(true)?;

@@ -63,8 +63,11 @@ pub(crate) fn new_rows(
 /// these inputs are the same.
 pub fn new_code(alloc: Global, sym: &mut Sym, width: u64) -> Result<Seq<Wire>, NoMemory>
     ensures wires { IfOk result (AreWires sym.new) }
-    ensures every { IfOk result (λ ws. (u : Valuation) (x : ℕ) → x < twice width → (v : Valuation) × AgreeOutside (input_count sym.old) (input_count sym.new) u v × (number (wire_value sym.new v) ws ≡ x)) }
-    ensures same { IfOk result (λ ws. (u v : Valuation) → ((i : ℕ) → input_count sym.old ≤ i → i < input_count sym.new → u i ≡ v i) → number (wire_value sym.new u) ws ≡ number (wire_value sym.new v) ws) }
+    ensures every { IfOk result (λ ws. (u : Valuation) (x : ℕ) → x < twice width → (v : Valuation)
+        × AgreeOutside (input_count sym.old) (input_count sym.new) u v × (number (wire_value sym.new v) ws ≡ x)) }
+    ensures same { IfOk result (λ ws. (u v : Valuation)
+        → ((i : ℕ) → input_count sym.old ≤ i → i < input_count sym.new → u i ≡ v i)
+        → number (wire_value sym.new u) ws ≡ number (wire_value sym.new v) ws) }
     ensures grows { Grows sym.old sym.new }
 {
     let code = new_inputs(alloc, sym, width)?;
@@ -81,8 +84,12 @@ pub fn new_codes(
 ) -> Result<Seq<Seq<Wire>>, NoMemory>
     ensures long { IfOk result (λ rows. length rows ≡ n) }
     ensures wires { IfOk result (λ rows. AllByRecursion (AreWires sym.new) rows) }
-    ensures every { IfOk result (λ rows. (u : Valuation) (want : ℕ → ℕ) → ((i : ℕ) → i < n → want i < twice width) → (v : Valuation) × AgreeOutside (input_count sym.old) (input_count sym.new) u v × ((i : ℕ) (ws : List Wire) → slice_get rows i ≡ Some ws → number (wire_value sym.new v) ws ≡ want i)) }
-    ensures same { IfOk result (λ rows. (u v : Valuation) → ((i : ℕ) → input_count sym.old ≤ i → i < input_count sym.new → u i ≡ v i) → (i : ℕ) (ws : List Wire) → slice_get rows i ≡ Some ws → number (wire_value sym.new u) ws ≡ number (wire_value sym.new v) ws) }
+    ensures every { IfOk result (λ rows. (u : Valuation) (want : ℕ → ℕ) → ((i : ℕ) → i < n → want i < twice width)
+        → (v : Valuation) × AgreeOutside (input_count sym.old) (input_count sym.new) u v
+        × ((i : ℕ) (ws : List Wire) → slice_get rows i ≡ Some ws → number (wire_value sym.new v) ws ≡ want i)) }
+    ensures same { IfOk result (λ rows. (u v : Valuation)
+        → ((i : ℕ) → input_count sym.old ≤ i → i < input_count sym.new → u i ≡ v i) → (i : ℕ) (ws : List Wire)
+        → slice_get rows i ≡ Some ws → number (wire_value sym.new u) ws ≡ number (wire_value sym.new v) ws) }
     ensures grows { Grows sym.old sym.new }
 {
     let codes = new_rows(alloc, sym, n, width)?;

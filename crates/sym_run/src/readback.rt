@@ -82,8 +82,10 @@ impl Sym {
         requires inputs { length inputs.now ≡ input_count self.now }
         requires cells { AreCells (circuit_meanings self.now) state.now }
         requires places { length state.now.present ≡ length domain.now.table.paths }
-        requires stands { (t : FileTree) × IsTree t × Stands domain.now.table (state_of (circuit_meanings self.now) (truth_at inputs.now) state.now) t }
-        ensures { IfOk result (λ tree. Stands domain.now.table (state_of (circuit_meanings self.now) (truth_at inputs.now) state.now) tree) }
+        requires stands { (t : FileTree) × IsTree t
+            × Stands domain.now.table (state_of (circuit_meanings self.now) (truth_at inputs.now) state.now) t }
+        ensures { IfOk result (λ tree. Stands domain.now.table
+            (state_of (circuit_meanings self.now) (truth_at inputs.now) state.now) tree) }
     {
         let values = values_of(self.alloc, &self.circuit, inputs)?;
         tree_by(self.alloc, &domain.table, &values, state)

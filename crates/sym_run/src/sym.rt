@@ -125,7 +125,10 @@ pub fn sym_apply(
     requires cells { AreCells (circuit_meanings sym.old) state.old }
     requires places { length state.old.present ≡ length domain.now.table.paths }
     requires covers { Covers domain.now.table (program_of program.now) }
-    ensures stands { OnOk result ((v : Valuation) (o : Outcome) → StandsFor domain.now.table (state_of (circuit_meanings sym.old) v state.old) o → StandsFor domain.now.table (state_of (circuit_meanings sym.new) v state.new) (and_then o (run (program_of program.now)))) }
+    ensures stands { OnOk result ((v : Valuation) (o : Outcome)
+        → StandsFor domain.now.table (state_of (circuit_meanings sym.old) v state.old) o
+        → StandsFor domain.now.table (state_of (circuit_meanings sym.new) v state.new)
+        (and_then o (run (program_of program.now)))) }
     ensures cells { OnOk result (AreCells (circuit_meanings sym.new) state.new) }
     ensures places { OnOk result (length state.new.present ≡ length domain.now.table.paths) }
     ensures grows { MeaningsGrow (circuit_meanings sym.old) (circuit_meanings sym.new) }

@@ -59,8 +59,12 @@ pub fn any_tree(
     ensures cells { IfOk result (λ r. AreCells (circuit_meanings sym.new) r.0) }
     ensures places { IfOk result (λ r. length r.0.present ≡ length domain.now.table.paths) }
     ensures wire { IfOk result (λ r. r.1.0 < length sym.new) }
-    ensures exact { IfOk result (λ r. (v : Valuation) → (wire_value sym.new v r.1.0 ≡ true) ↔ ((t : Tree) × IsTreeOver domain.now t × Stands domain.now.table (state_of (circuit_meanings sym.new) v r.0) t)) }
-    ensures every { IfOk result (λ r. (u : Valuation) (t : Tree) → IsTreeOver domain.now t → (v : Valuation) × AgreeBelow (input_count sym.old) u v × Stands domain.now.table (state_of (circuit_meanings sym.new) v r.0) t) }
+    ensures exact { IfOk result (λ r. (v : Valuation) → (wire_value sym.new v r.1.0 ≡ true)
+        ↔ ((t : Tree) × IsTreeOver domain.now t
+        × Stands domain.now.table (state_of (circuit_meanings sym.new) v r.0) t)) }
+    ensures every { IfOk result (λ r. (u : Valuation) (t : Tree) → IsTreeOver domain.now t → (v : Valuation)
+        × AgreeBelow (input_count sym.old) u v
+        × Stands domain.now.table (state_of (circuit_meanings sym.new) v r.0) t) }
     ensures grows { Grows (circuit_meanings sym.old) (circuit_meanings sym.new) }
 {
     domain.table.is_table();

@@ -15,7 +15,8 @@ pub fn text(alloc: Global, piece: &str) -> Result<Text, NoMemory>
 
 /// A refusal, as `29 at 5: operand`.
 pub fn refused(alloc: Global, fault: &Fault) -> Result<String, NoMemory>
-    ensures { IfOk result (λ line. IfRefused fault.now (λ r. string_bytes line ≡ decimal r.number ++ (codes " at " ++ (decimal r.at ++ (codes ": " ++ r.name))))) }
+    ensures { IfOk result (λ line. IfRefused fault.now
+        (λ r. string_bytes line ≡ decimal r.number ++ (codes " at " ++ (decimal r.at ++ (codes ": " ++ r.name))))) }
 {
     match fault {
         Fault::Refused(r) => {

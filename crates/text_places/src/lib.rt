@@ -31,6 +31,8 @@ pub fn place_of(text: &[u8], at: usize) -> Place
 
 /// A byte has one line and one column, and within a text no two bytes have both alike.
 pub fn places()
-    ensures one { (text : List ℕ) (at line column other more : ℕ) → IsPlace text at line column → IsPlace text at other more → (line ≡ other) × (column ≡ more) }
-    ensures apart { (text : List ℕ) (a b line column : ℕ) → a ≤ length text → b ≤ length text → IsPlace text a line column → IsPlace text b line column → a ≡ b }
+    ensures one { (text : List ℕ) (at line column other more : ℕ) → IsPlace text at line column
+        → IsPlace text at other more → (line ≡ other) × (column ≡ more) }
+    ensures apart { (text : List ℕ) (a b line column : ℕ) → a ≤ length text → b ≤ length text
+        → IsPlace text a line column → IsPlace text b line column → a ≡ b }
 {}

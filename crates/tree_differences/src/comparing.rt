@@ -50,7 +50,8 @@ fn add_all<'a>(
 ) -> Result<(), NoMemory>
     ensures listed { OnOk result (AreListed first.now second.now into.old.items → AreListed first.now second.now into.new.items) }
     ensures keeps { OnOk result ((text : List ℕ) → HasText into.old.items text → HasText into.new.items text) }
-    ensures there { OnOk result ((p : P) → IsTrue (finite.contains_key from.now p) → finite.get first.now p ≢ finite.get second.now p → HasText into.new.items (path_text p)) }
+    ensures there { OnOk result ((p : P) → IsTrue (finite.contains_key from.now p)
+        → finite.get first.now p ≢ finite.get second.now p → HasText into.new.items (path_text p)) }
 {
     for (p, _) in from.entries() {
         add(alloc, first, second, p, into)?;

@@ -37,7 +37,8 @@ pub record AreMembers (members : Members) (t : Tree) : Type 0 where
 
 -- each path of the tree is within the limits of path texts
 abbrev pub IsWithinLimits : Tree → Type 0
-IsWithinLimits t = (path : Path) (entry : Entry) → map.get t path ≡ Some entry → (length (path_text path) ≤ PATH_BYTES) × (length path ≤ PATH_SEGMENTS)
+IsWithinLimits t = (path : Path) (entry : Entry) → map.get t path ≡ Some entry → (length (path_text path) ≤ PATH_BYTES)
+    × (length path ≤ PATH_SEGMENTS)
 
 -- The bytes are UTF-8 and a JSON object of this tree's entries, each under the text of its path as it is written. Of equal
 -- keys of an object the last counts.

@@ -73,7 +73,8 @@ fn with_text(
 /// Prints two tests in parentheses, with a word between them.
 #[cycle(test_words)]
 fn joined(alloc: Global, a: &Test, word: &str, b: &Test, into: &mut Text) -> Result<(), NoMemory>
-    ensures { OnOk result (into.new ≡ into.old ++ (codes "(" ++ (test_text (test_of a.now) ++ (word.now ++ (test_text (test_of b.now) ++ codes ")"))))) }
+    ensures { OnOk result (into.new ≡ into.old ++
+        (codes "(" ++ (test_text (test_of a.now) ++ (word.now ++ (test_text (test_of b.now) ++ codes ")"))))) }
 {
     into.push("(")?;
     put_test(alloc, a, into)?;
@@ -162,7 +163,10 @@ fn put_choice(
     f: &Program,
     into: &mut Text,
 ) -> Result<(), NoMemory>
-    ensures { OnOk result (into.new ≡ into.old ++ (codes "if " ++ (test_text (test_of a.now) ++ (codes " then " ++ (program_text (program_of e.now) ++ (codes " else " ++ program_text (program_of f.now))))))) }
+    ensures { OnOk result (into.new ≡ into.old ++
+        (codes "if " ++ (test_text (test_of a.now) ++
+        (codes " then " ++ (program_text (program_of e.now) ++
+        (codes " else " ++ program_text (program_of f.now))))))) }
 {
     into.push("if ")?;
     put_test(alloc, a, into)?;

@@ -129,7 +129,8 @@ fn add_member(alloc: Global, key: &str, json: &Json, tree: &mut Tree) -> Result<
 fn tree_in(alloc: Global, members: &Map<String, Json>) -> Result<Tree, Misread>
     ensures members { IfOk result (AreMembers (members_view members.now.entries)) }
     ensures limits { IfOk result IsWithinLimits }
-    ensures none { IfErr result (λ e. IfForm e ((t : T) → IsTree t → IsWithinLimits t → AreMembers (members_view members.now.entries) t → ⊥)) }
+    ensures none { IfErr result (λ e. IfForm e ((t : T) → IsTree t → IsWithinLimits t
+        → AreMembers (members_view members.now.entries) t → ⊥)) }
 {
     path_texts();
     paths();

@@ -48,7 +48,8 @@ fn put_entry(
     entry: &Entry,
     members: &mut Map<String, Json>,
 ) -> Result<(), NoMemory>
-    ensures { OnOk result (members_view members.new.entries ≡ put (path_text p.now) (entry_data (entry_of entry.now)) (members_view members.old.entries)) }
+    ensures { OnOk result (members_view members.new.entries ≡ put (path_text p.now) (entry_data (entry_of entry.now))
+        (members_view members.old.entries)) }
 {
     let key = p.text(alloc)?.into_string();
     let json = entry_json(alloc, entry)?;

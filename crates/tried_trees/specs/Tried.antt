@@ -21,4 +21,5 @@ pub record EndAlike (place : Place) (es : List Program) (order : Relation) (t : 
 
 -- the same of a pair, if both are programs and may stand in either order
 abbrev pub IsTried : Place → List Program → Relation → Tree → (ℕ × ℕ) → Type 0
-IsTried place es order t pair = pair.0 < order.count → pair.1 < order.count → IsFree (Comes order) pair.0 pair.1 → EndAlike place es order t pair.0 pair.1
+IsTried place es order t pair = pair.0 < order.count → pair.1 < order.count → IsFree (Comes order) pair.0 pair.1
+    → EndAlike place es order t pair.0 pair.1

@@ -30,7 +30,9 @@ pub fn first_end(
     requires { AllByRecursion (λ k. k < length programs.now) order.now }
     ensures found { IfOk result (λ found. IfSome found (EndsFrom (map program_of programs.now) order.now)) }
     // Where none is found, the run ends in Error from each of them.
-    ensures none { IfOk result (λ found. MatchOption found (AllByRecursion (Fails (map program_of programs.now) order.now) trees.now) (λ t. Unit)) }
+    ensures none { IfOk result
+        (λ found. MatchOption found (AllByRecursion (Fails (map program_of programs.now) order.now) trees.now)
+        (λ t. Unit)) }
 {
     for tree in trees {
         tree.is_tree();

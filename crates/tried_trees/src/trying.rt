@@ -50,7 +50,9 @@ fn try_pair(
     requires count { length ground.now.programs.now ≡ order.now.count }
     requires list { IsLinearExtension order.now.count (Comes order.now) list.now }
     ensures found { IfOk result (λ found. IfSome found (IsDifference (map program_of ground.now.programs.now) order.now)) }
-    ensures tried { IfOk result (λ found. MatchOption found (IsTried place (map program_of ground.now.programs.now) order.now ground.now.tree.now pair) (λ d. Unit)) }
+    ensures tried { IfOk result
+        (λ found. MatchOption found
+        (IsTried place (map program_of ground.now.programs.now) order.now ground.now.tree.now pair) (λ d. Unit)) }
 {
     ground.tree.is_tree();
     let free = is_free_pair(order, pair.0, pair.1);
@@ -80,7 +82,9 @@ fn try_place(
     requires count { length programs.now ≡ order.now.count }
     requires list { IsLinearExtension order.now.count (Comes order.now) list.now }
     ensures found { IfOk result (λ found. IfSome found (IsDifference (map program_of programs.now) order.now)) }
-    ensures tried { IfOk result (λ found. MatchOption found (AllByRecursion (IsTried place (map program_of programs.now) order.now tree.now) pairs.now) (λ d. Unit)) }
+    ensures tried { IfOk result
+        (λ found. MatchOption found
+        (AllByRecursion (IsTried place (map program_of programs.now) order.now tree.now) pairs.now) (λ d. Unit)) }
 {
     let ground = Ground::of(alloc, programs, tree)?;
     for pair in pairs {
@@ -125,8 +129,12 @@ pub fn try_tree(
     requires count { length programs.now ≡ order.now.count }
     ensures found { IfOk result (λ found. IfSome found (IsDifference (map program_of programs.now) order.now)) }
     // Where nothing is found, each pair ends alike in either order, put early and put late.
-    ensures early { IfOk result (λ found. MatchOption found (AllByRecursion (IsTried Early (map program_of programs.now) order.now tree.now) pairs.now) (λ d. Unit)) }
-    ensures late { IfOk result (λ found. MatchOption found (AllByRecursion (IsTried Late (map program_of programs.now) order.now tree.now) pairs.now) (λ d. Unit)) }
+    ensures early { IfOk result
+        (λ found. MatchOption found
+        (AllByRecursion (IsTried Early (map program_of programs.now) order.now tree.now) pairs.now) (λ d. Unit)) }
+    ensures late { IfOk result
+        (λ found. MatchOption found
+        (AllByRecursion (IsTried Late (map program_of programs.now) order.now tree.now) pairs.now) (λ d. Unit)) }
 {
     let list = order.first_extension()?;
     let early = try_place(
@@ -185,8 +193,12 @@ fn try_first(
     requires count { length programs.now ≡ order.now.count }
     requires list { IsLinearExtension order.now.count (Comes order.now) list.now }
     ensures found { IfOk result (λ found. IfSome found (IsDifference (map program_of programs.now) order.now)) }
-    ensures early { IfOk result (λ found. MatchOption found (AllByRecursion (IsTried Early (map program_of programs.now) order.now map_of.empty) pairs.now) (λ d. Unit)) }
-    ensures late { IfOk result (λ found. MatchOption found (AllByRecursion (IsTried Late (map program_of programs.now) order.now map_of.empty) pairs.now) (λ d. Unit)) }
+    ensures early { IfOk result
+        (λ found. MatchOption found
+        (AllByRecursion (IsTried Early (map program_of programs.now) order.now map_of.empty) pairs.now) (λ d. Unit)) }
+    ensures late { IfOk result
+        (λ found. MatchOption found
+        (AllByRecursion (IsTried Late (map program_of programs.now) order.now map_of.empty) pairs.now) (λ d. Unit)) }
 {
     let empty = Tree::empty(alloc)?;
     let first = try_place(alloc, programs, order, list, Place::Early, pairs, &empty)?;
@@ -218,8 +230,12 @@ pub fn try_pairs(
     requires count { length programs.now ≡ order.now.count }
     ensures found { IfOk result (λ found. IfSome found (IsDifference (map program_of programs.now) order.now)) }
     // Where nothing is found, each pair ends alike from the empty tree in either order, put early and put late.
-    ensures early { IfOk result (λ found. MatchOption found (AllByRecursion (IsTried Early (map program_of programs.now) order.now map_of.empty) pairs.now) (λ d. Unit)) }
-    ensures late { IfOk result (λ found. MatchOption found (AllByRecursion (IsTried Late (map program_of programs.now) order.now map_of.empty) pairs.now) (λ d. Unit)) }
+    ensures early { IfOk result
+        (λ found. MatchOption found
+        (AllByRecursion (IsTried Early (map program_of programs.now) order.now map_of.empty) pairs.now) (λ d. Unit)) }
+    ensures late { IfOk result
+        (λ found. MatchOption found
+        (AllByRecursion (IsTried Late (map program_of programs.now) order.now map_of.empty) pairs.now) (λ d. Unit)) }
 {
     let list = order.first_extension()?;
     let trees = trees_of(alloc, programs)?;

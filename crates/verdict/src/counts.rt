@@ -22,7 +22,9 @@ pub(crate) fn count_of(counts: &BTreeMap<Path, u64>, p: &Path) -> u64
 
 /// One child more for the parent of a path.
 fn add_child(alloc: Global, counts: &mut BTreeMap<Path, u64>, p: &Path) -> Result<(), NoMemory>
-    ensures { OnOk result ((q : Segments) → count_in counts.new q ≡ (if path_eq (parent p.now) q then capped (count_in counts.old q + 1) else count_in counts.old q)) }
+    ensures { OnOk result ((q : Segments)
+        → count_in counts.new q ≡
+        (if path_eq (parent p.now) q then capped (count_in counts.old q + 1) else count_in counts.old q)) }
 {
     let above = p.parent(alloc)?;
     let n = count_of(counts, &above).saturating_add(1);

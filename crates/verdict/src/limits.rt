@@ -27,7 +27,8 @@ pub fn check_size(alloc: Global, programs: &[Program]) -> Result<(), Fault>
     ensures weight { IfOk result (λ u. IsLight (map program_of programs.now)) }
     ensures refused { IfErr result (λ e. IfRefused e (IsTooLarge (map program_of programs.now))) }
     // Programs within both limits aren't refused.
-    ensures only { HasFewPaths (map program_of programs.now) → IsLight (map program_of programs.now) → IfErr result (λ e. IfRefused e (λ r. ⊥)) }
+    ensures only { HasFewPaths (map program_of programs.now) → IsLight (map program_of programs.now)
+        → IfErr result (λ e. IfRefused e (λ r. ⊥)) }
 {
     path_counts();
     weights();

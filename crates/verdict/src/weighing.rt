@@ -76,7 +76,9 @@ fn weigh_all(programs: &[Program], counts: &BTreeMap<Path, u64>, sum: u64) -> u6
 
 #[cycle(weighed)]
 fn weigh_choice(a: &Test, e: &Program, f: &Program, counts: &BTreeMap<Path, u64>, sum: u64) -> u64
-    ensures { result ≡ capped (sum + (test_work (count_in counts.now) (test_of a.now) + (work (count_in counts.now) (program_of e.now) + work (count_in counts.now) (program_of f.now)))) }
+    ensures { result ≡ capped
+        (sum + (test_work (count_in counts.now) (test_of a.now) +
+        (work (count_in counts.now) (program_of e.now) + work (count_in counts.now) (program_of f.now)))) }
 {
     let asked = weigh_test(a, counts, sum);
     weigh(f, counts, weigh(e, counts, asked))

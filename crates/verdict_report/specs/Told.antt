@@ -58,7 +58,8 @@ IsEnding given es order last proofs =
 
 -- Status 0. From every file tree in which the given folders stand all allowed orders end in one same tree or all in error, and a
 -- second run, in whatever allowed order, changes nothing.
-pub record IsSure (f : Form) (terms : Terms) (notes : List ℕ) (es : List Program) (order : Relation) (k : ℕ) (report : Report) : Type 0 where
+pub record IsSure (f : Form) (terms : Terms) (notes : List ℕ) (es : List Program) (order : Relation) (k : ℕ)
+    (report : Report) : Type 0 where
   pub status : report.status ≡ 0
   pub deterministic : IsDeterministicFrom terms.given es (Comes order)
   pub idempotent : IsIdempotentFrom terms.given es (Comes order)
@@ -69,7 +70,8 @@ pub record IsSure (f : Form) (terms : Terms) (notes : List ℕ) (es : List Progr
 
 -- Status 1. From the tree, in which the given folders stand, the two allowed orders have the outcomes that are told, which differ;
 -- and the second is the first with two free neighbours exchanged.
-pub record IsDifferent (f : Form) (terms : Terms) (notes : List ℕ) (names : List (List ℕ)) (es : List Program) (order : Relation) (k : ℕ) (report : Report) : Type 0 where
+pub record IsDifferent (f : Form) (terms : Terms) (notes : List ℕ) (names : List (List ℕ)) (es : List Program)
+    (order : Relation) (k : ℕ) (report : Report) : Type 0 where
   pub status : report.status ≡ 1
   pub tree : Tree
   pub left : List ℕ
@@ -80,7 +82,8 @@ pub record IsDifferent (f : Form) (terms : Terms) (notes : List ℕ) (names : Li
 
 -- Status 2. From every file tree in which the given folders stand all allowed orders end alike; but from the tree that is told, which
 -- is such a one, this allowed order ends in a tree which a second run in it doesn't leave as it is. The outcomes of both runs are told.
-pub record IsChanged (f : Form) (terms : Terms) (notes : List ℕ) (names : List (List ℕ)) (es : List Program) (order : Relation) (k : ℕ) (report : Report) : Type 0 where
+pub record IsChanged (f : Form) (terms : Terms) (notes : List ℕ) (names : List (List ℕ)) (es : List Program)
+    (order : Relation) (k : ℕ) (report : Report) : Type 0 where
   pub status : report.status ≡ 2
   pub deterministic : IsDeterministicFrom terms.given es (Comes order)
   pub tree : Tree
@@ -93,7 +96,8 @@ pub record IsChanged (f : Form) (terms : Terms) (notes : List ℕ) (names : List
 
 -- Status 3. A number of conflicts is given, and a working log of just as many steps over a formula that states the question shows
 -- that they are spent. The lines ahead are true.
-pub record IsUnanswered (f : Form) (terms : Terms) (notes : List ℕ) (es : List Program) (order : Relation) (k : ℕ) (report : Report) : Type 0 where
+pub record IsUnanswered (f : Form) (terms : Terms) (notes : List ℕ) (es : List Program) (order : Relation) (k : ℕ)
+    (report : Report) : Type 0 where
   pub status : report.status ≡ 3
   pub conflicts : ℕ
   pub limited : terms.conflicts ≡ Some conflicts
@@ -108,17 +112,21 @@ pub record IsUnanswered (f : Form) (terms : Terms) (notes : List ℕ) (es : List
 
 -- The headline. What is told of programs and the order between them, which are within the limits: how many pruning leaves aside,
 -- and one of the four. These notes stand behind the number of resources.
-pub record IsTold (f : Form) (terms : Terms) (notes : List ℕ) (names : List (List ℕ)) (es : List Program) (order : Relation) (report : Report) : Type 0 where
+pub record IsTold (f : Form) (terms : Terms) (notes : List ℕ) (names : List (List ℕ)) (es : List Program)
+    (order : Relation) (report : Report) : Type 0 where
   pub paths : HasFewPathsWith terms.limits terms.given es
   pub weight : IsLightWith terms.limits es
   pub pruned : ℕ
   pub count : IsPrunedCount es (Comes order) pruned
-  pub answer : IsSure f terms notes es order pruned report ⊎ (IsDifferent f terms notes names es order pruned report ⊎ (IsChanged f terms notes names es order pruned report ⊎ IsUnanswered f terms notes es order pruned report))
+  pub answer : IsSure f terms notes es order pruned report
+      ⊎ (IsDifferent f terms notes names es order pruned report
+      ⊎ (IsChanged f terms notes names es order pruned report ⊎ IsUnanswered f terms notes es order pruned report))
 
 -- ---- steps
 
 -- the report has the status of the verdict, and its lines or its proofs
-pub record IsReportOf (f : Form) (notes : List ℕ) (names : List (List ℕ)) (es : List Program) (budget : ℕ) (judged : Verdict) (report : Report) : Type 0 where
+pub record IsReportOf (f : Form) (notes : List ℕ) (names : List (List ℕ)) (es : List Program) (budget : ℕ)
+    (judged : Verdict) (report : Report) : Type 0 where
   pub status : report.status ≡ status_of judged
   pub text : IsText f (lines_of names es notes budget judged) (proofs_of judged) report.text
 

@@ -49,7 +49,8 @@ fn push_runs(
     requires left_places { AllByRecursion (λ i. i < length programs.now) left.now }
     requires right_named { AllByRecursion (λ i. i < length names.now) right.now }
     requires right_places { AllByRecursion (λ i. i < length programs.now) right.now }
-    ensures { OnOk result (into.new.items ≡ into.old.items ++ runs_lines names.now (map program_of programs.now) tree.now left.now right.now) }
+    ensures { OnOk result (into.new.items ≡ into.old.items ++ runs_lines names.now
+        (map program_of programs.now) tree.now left.now right.now) }
 {
     push_tree(alloc, tree, into)?;
     push_run(alloc, names, programs, tree, left, into)?;
@@ -71,7 +72,8 @@ fn text_apart(
     requires left_places { AllByRecursion (λ i. i < length programs.now) left.now }
     requires right_named { AllByRecursion (λ i. i < length names.now) right.now }
     requires right_places { AllByRecursion (λ i. i < length programs.now) right.now }
-    ensures { IfOk result (λ text. text ≡ difference_text names.now (map program_of programs.now) notes.now pruned tree.now left.now right.now) }
+    ensures { IfOk result (λ text. text ≡ difference_text names.now
+        (map program_of programs.now) notes.now pruned tree.now left.now right.now) }
 {
     let mut bytes = Vec::new(alloc);
     push_head(alloc, programs.len(), notes, pruned, &mut bytes)?;

@@ -17,7 +17,8 @@ HasWanted u w = HasEntry u w.path w.content
 
 -- The graph ensures the entry: from every tree and in every allowed order, a run that ends in a tree ends in one that has it.
 abbrev pub Ensures : List Program → (ℕ → ℕ → Type 0) → Wanted → Type 0
-Ensures programs before w = (t : Tree) → IsTree t → (o : List ℕ) → IsLinearExtension (length programs) before o → (u : Tree) → outcome programs o t ≡ Some u → HasWanted u w
+Ensures programs before w = (t : Tree) → IsTree t → (o : List ℕ) → IsLinearExtension (length programs) before o
+    → (u : Tree) → outcome programs o t ≡ Some u → HasWanted u w
 
 -- From the tree the allowed order ends in a tree that hasn't the entry.
 pub record EndsWithout (programs : List Program) (before : ℕ → ℕ → Type 0) (w : Wanted) (tree : Tree) (order : List ℕ) : Type 0 where

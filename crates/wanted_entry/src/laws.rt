@@ -17,7 +17,8 @@ pub fn wanted_entries()
     ensures decided { (u : Tree) (w : Wanted) → HasWanted u w ⊎ (HasWanted u w → ⊥) }
     ensures exactly { (es : List Program) (before : ℕ → ℕ → Bool) (w : Wanted)
         → Ensures es (Told before) w ↔ ((t : Tree) (o : List ℕ) → EndsWithout es (Told before) w t o → ⊥) }
-    ensures over { (es : List Program) (w : Wanted) (d : Domain) → IsDomain (es ++ probe_of w ∷ []) d → (before : ℕ → ℕ → Bool) (t : Tree) (o : List ℕ)
+    ensures over { (es : List Program) (w : Wanted) (d : Domain) → IsDomain (es ++ probe_of w ∷ []) d
+        → (before : ℕ → ℕ → Bool) (t : Tree) (o : List ℕ)
         → EndsWithout es (Told before) w t o → (s : Tree) × IsOver d s × EndsWithout es (Told before) w s o }
 {
     shadows();

@@ -90,7 +90,8 @@ pub fn lex(alloc: Global, text: &[u8]) -> Result<Vec<Token<'_>>, Fault>
     ensures slices { IfOk result (λ tokens. AreSlices text.now (told tokens.items)) }
     ensures order { IfOk result (λ tokens. InOrder 0 (told tokens.items)) }
     // Where tokens are spelled the answer is these, unless memory runs out.
-    ensures only { (ts : List Lexeme) → IsUtf8 text.now → Spells text.now ts → MatchResult result (λ tokens. told tokens.items ≡ ts) (λ e. IfRefused e (λ r. ⊥)) }
+    ensures only { (ts : List Lexeme) → IsUtf8 text.now → Spells text.now ts
+        → MatchResult result (λ tokens. told tokens.items ≡ ts) (λ e. IfRefused e (λ r. ⊥)) }
     // A refusal says that the text isn't UTF-8, or that it is and no tokens are spelled; and where.
     ensures refused { IfErr result (λ e. IfRefused e (λ r. IsTextRefusal text.now r ⊎ (IsUtf8 text.now × IsLexicalRefusal text.now r))) }
 {
@@ -116,9 +117,11 @@ pub fn tokens_are_utf8()
 /// What stands as a token before a given rest: a spelling that is set apart; a `"`, a `}` and a `${` before
 /// whatever there is.
 pub fn set_apart_tokens_stand()
-    ensures spelled { (p : Opened) (k : Sort) (s rest : List ℕ) → in_quotes p.opened ≡ false → Spelling k s → NumberStands k s rest → IsSetApart rest → TokenAt p (kind_at p k s) s rest }
+    ensures spelled { (p : Opened) (k : Sort) (s rest : List ℕ) → in_quotes p.opened ≡ false → Spelling k s
+        → NumberStands k s rest → IsSetApart rest → TokenAt p (kind_at p k s) s rest }
     ensures quote { (p : Opened) (rest : List ℕ) → in_quotes p.opened ≡ false → TokenAt p kind.DqOpen (codes "\"") rest }
-    ensures brace { (p : Opened) (rest : List ℕ) → in_quotes p.opened ≡ false → TokenAt p (kind_at p kind.Sign (codes "}")) (codes "}") rest }
+    ensures brace { (p : Opened) (rest : List ℕ) → in_quotes p.opened ≡ false
+        → TokenAt p (kind_at p kind.Sign (codes "}")) (codes "}") rest }
     ensures hole { (p : Opened) (rest : List ℕ) → in_quotes p.opened ≡ true → TokenAt p kind.Hole (codes "${") rest }
     ensures close { (p : Opened) (rest : List ℕ) → in_quotes p.opened ≡ true → TokenAt p kind.DqClose (codes "\"") rest }
 {}

@@ -86,8 +86,10 @@ impl Shelf for MemoryShelf {
         // Each call counts, and one that is to fail fails.
         ensures kept { (self.new.files ≡ self.old.files) × (self.new.failing ≡ self.old.failing) }
         ensures counted { self.new.calls ≡ one_more self.old.calls }
-        ensures failing { is_failing self.old.failing self.new.calls ≡ true → (result ≡ Err ShelfFault.Failed) × (self.new.faults ≡ one_more self.old.faults) }
-        ensures honest { is_failing self.old.failing self.new.calls ≡ false → Answers (found self.old.files name.now) limit result × (self.new.faults ≡ self.old.faults) }
+        ensures failing { is_failing self.old.failing self.new.calls ≡ true → (result ≡ Err ShelfFault.Failed)
+            × (self.new.faults ≡ one_more self.old.faults) }
+        ensures honest { is_failing self.old.failing self.new.calls ≡ false
+            → Answers (found self.old.files name.now) limit result × (self.new.faults ≡ self.old.faults) }
     {
         self.calls = self.calls.saturating_add(1);
         if is_failing(&self.failing, self.calls) {

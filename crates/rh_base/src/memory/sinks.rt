@@ -55,7 +55,8 @@ impl MemorySink {
     pub fn reserve(&mut self, n: usize) -> Result<(), NoMemory>
         ensures ok { OnOk result (n ≤ self.new.spare) }
         ensures grows { self.old.spare ≤ self.new.spare }
-        ensures kept { (self.new.bytes ≡ self.old.bytes) × (self.new.failing ≡ self.old.failing) × (self.new.calls ≡ self.old.calls) × (self.new.faults ≡ self.old.faults) }
+        ensures kept { (self.new.bytes ≡ self.old.bytes) × (self.new.failing ≡ self.old.failing)
+            × (self.new.calls ≡ self.old.calls) × (self.new.faults ≡ self.old.faults) }
     {
         self.bytes.reserve(n)?;
         Ok(())
@@ -73,8 +74,10 @@ impl Sink for MemorySink {
         ensures empty { piece.now ≡ [] → IsOk result }
         ensures uncounted { piece.now ≡ [] → self.new ≡ self.old }
         ensures kept { self.new.failing ≡ self.old.failing }
-        ensures failing { piece.now ≢ [] → is_failing self.old.failing (one_more self.old.calls) ≡ true → FailsHalfway piece.now self.old result self.new }
-        ensures appends { piece.now ≢ [] → is_failing self.old.failing (one_more self.old.calls) ≡ false → Appends piece.now self.old result self.new }
+        ensures failing { piece.now ≢ [] → is_failing self.old.failing (one_more self.old.calls) ≡ true
+            → FailsHalfway piece.now self.old result self.new }
+        ensures appends { piece.now ≢ [] → is_failing self.old.failing (one_more self.old.calls) ≡ false
+            → Appends piece.now self.old result self.new }
         ensures room { length piece.now ≤ self.old.spare → HasMemory result }
     {
         if piece.is_empty() {

@@ -47,7 +47,8 @@ the_items_listed X (p ∷ pairs) = ap (λ items. p.1 ∷ items) (the_items_liste
 
 -- the fields: the pairs, and the places of their keys
 abbrev stored : Former {0}
-stored = via (pair (vec.the_former (entry this) Global) (const (List (List ℕ × ℕ)))) Inside (λ X s. (s.pairs, s.places)) (λ X v. record { pairs = v.0; places = v.1 }) (λ X s. refl) (λ X v. refl)
+stored = via (pair (vec.the_former (entry this) Global) (const (List (List ℕ × ℕ)))) Inside (λ X s. (s.pairs, s.places))
+    (λ X v. record { pairs = v.0; places = v.1 }) (λ X s. refl) (λ X v. refl)
 
 -- ---- other items under the same keys
 
@@ -84,24 +85,31 @@ module _ (R S : RattleType) (h : R.Denot → S.Denot) where
   distinct-prop T [] = Unit-prop
   distinct-prop T (p ∷ pairs) = ×_prop (Coded-set (coded_option T.coded) _ _) (distinct-prop T pairs)
 
-  inside-prop : (T : RattleType) (pairs : List (List ℕ × T.Denot)) (places : List (List ℕ × ℕ)) → IsProp (HasDistinctKeys pairs × (places ≡ places_of 0 pairs))
+  inside-prop : (T : RattleType) (pairs : List (List ℕ × T.Denot)) (places : List (List ℕ × ℕ))
+      → IsProp (HasDistinctKeys pairs × (places ≡ places_of 0 pairs))
   inside-prop T pairs places = ×_prop (distinct-prop T pairs) (Coded-set (coded_list (coded× (coded_list coded_ℕ) coded_ℕ)) _ _)
 
   abbrev pair_row : RattleType → RattleType
   pair_row T = Tuple (text.the_row ∷ T ∷ [])
 
   pair_places : Alike R S h → Alike (pair_row R) (pair_row S) (on_item h)
-  pair_places alike = struct_places (tuple_type (text.the_row ∷ R ∷ [])) (tuple_type (text.the_row ∷ S ∷ [])) (λ n. n, (h, tt)) (on_item h) (λ d. refl) refl
+  pair_places alike = struct_places (tuple_type (text.the_row ∷ R ∷ [])) (tuple_type (text.the_row ∷ S ∷ []))
+      (λ n. n, (h, tt)) (on_item h) (λ d. refl) refl
       ((refl, (λ n. refl, λ n. refl)), (laid _ _ _ alike, tt))
 
   pub the_places : Alike R S h → Alike (keyed.the_row R) (keyed.the_row S) ((the_former this).map R.Denot S.Denot h)
   the_places alike =
       let vec_alike = vec.the_places global.the_row ghosts (pair_row R) (pair_row S) (on_item h) (pair_places alike) in
-      view_places stored (list (entry this)) view (λ X Y k u. refl) (λ X u. refl) R.Denot S.Denot h (keyed.the_row R).coded (keyed.the_row S).coded
+      view_places stored (list (entry this)) view (λ X Y k u. refl) (λ X u. refl) R.Denot S.Denot h
+      (keyed.the_row R).coded (keyed.the_row S).coded
       (invariant R.Denot) (invariant S.Denot) (λ u. inside-prop R u.pairs.items u.places) (λ u. inside-prop S u.pairs.items u.places)
-      (λ u d. (distinct_on h u.pairs.items d.0, d.1 ∙ sym (places_on h 0 u.pairs.items))) (λ u d. (distinct_back h u.pairs.items d.0, d.1 ∙ places_on h 0 u.pairs.items))
+      (λ u d. (distinct_on h u.pairs.items d.0, d.1 ∙ sym (places_on h 0 u.pairs.items)))
+      (λ u d. (distinct_back h u.pairs.items d.0, d.1 ∙ places_on h 0 u.pairs.items))
       (over (inside.the_row R)) (over (inside.the_row S))
-      (struct_places (inside.the_type R) (inside.the_type S) (vec.mapped (on_item h), (λ n. n, tt)) _ (λ d. refl) refl (laid _ _ _ vec_alike, ((refl, (λ n. refl, λ n. refl)), tt)))
+      (struct_places (inside.the_type R) (inside.the_type S) (vec.mapped (on_item h), (λ n. n, tt)) _ (λ d. refl) refl
+      (laid _ _ _ vec_alike, ((refl, (λ n. refl, λ n. refl)), tt)))
 
   pub the_codes_placed : Recodes R S h → Recodes (keyed.the_row R) (keyed.the_row S) ((the_former this).map R.Denot S.Denot h)
-  the_codes_placed same pairs = sym (code_map (coded× (coded_list coded_ℕ) R.coded).code (coded× (coded_list coded_ℕ) S.coded).code (on_item h) (λ x i. gcons ((coded_list coded_ℕ).code x.0) (sym (same x.1) i)) pairs)
+  the_codes_placed same pairs = sym
+      (code_map (coded× (coded_list coded_ℕ) R.coded).code (coded× (coded_list coded_ℕ) S.coded).code (on_item h)
+      (λ x i. gcons ((coded_list coded_ℕ).code x.0) (sym (same x.1) i)) pairs)
