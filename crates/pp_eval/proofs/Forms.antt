@@ -116,4 +116,5 @@ select_is s e control x choices given is x_is same = ap (λ (f : Form). value_in
     ∙ ap (λ (z : Expr). value_of s z >>= λ y. selected e.at y (map (choice_by (evaluated s)) choices)) (sym x_is)
     ∙ ap (λ (cs : List (Option Expr × Expr)). value_of s x >>= λ y. selected e.at y (map (choice_by (evaluated s)) cs)) (sym same)
 
+-- what all forms of expressions give
 pub ruleset forms = (value_int, value_str, value_var, value_bool, value_undef, value_list, value_map, value_refer, value_join, value_chain, value_prefix, value_at, value_select)

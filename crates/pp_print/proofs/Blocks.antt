@@ -59,6 +59,7 @@ sought_equal name value = sym (ap sought (rolls-Equal name value)) ∙ search_ro
 pub sought_differ : (name : List ℕ) (value : Expr) → sought (search.Differ name value) ≡ search_by sought (plain_search.Differ name value)
 sought_differ name value = sym (ap sought (rolls-Differ name value)) ∙ search_rolled (plain_search.Differ name value)
 
+-- the words of all forms of searches
 pub ruleset searches = (sought_or, sought_and, sought_equal, sought_differ)
 
 -- ---- statements
@@ -133,6 +134,7 @@ words_unless at test body other = sym (ap stmt_words (rolls-Unless at test body 
 pub words_case : (at : ℕ) (value : Expr) (arms : List CaseArm) → stmt_words (stmt.Case at value arms) ≡ stmt_by stmt_words arm_words case_arm_words (plain_stmt.Case at value arms)
 words_case at value arms = sym (ap stmt_words (rolls-Case at value arms)) ∙ stmt_rolled (plain_stmt.Case at value arms)
 
+-- the words of all forms of statements
 pub ruleset statements = (words_chain, words_assign, words_call, words_if, words_unless, words_case)
 
 -- ---- types
@@ -195,6 +197,7 @@ type_enum texts = sym (ap type_words (rolls-Enum texts)) ∙ type_rolled (plain_
 pub type_variant : (members : List TypeName) → type_words (type.Variant members) ≡ type_by type_words (plain_type.Variant members)
 type_variant members = sym (ap type_words (rolls-Variant members)) ∙ type_rolled (plain_type.Variant members)
 
+-- the words of all types
 pub ruleset types = (type_any, type_boolean, type_hash, type_str, type_int, type_array, type_optional, type_enum, type_variant)
 
 -- ---- what is written in two steps

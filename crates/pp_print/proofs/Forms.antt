@@ -134,6 +134,7 @@ printed_at base key = sym (ap printed_form (rolls-Index base key)) ∙ printed_r
 pub printed_select : (base : Expr) (choices : List (Option Expr × Expr)) → printed_form (form.Select base choices) ≡ form_by printed {Y = Form} (plain.Select base choices)
 printed_select base choices = sym (ap printed_form (rolls-Select base choices)) ∙ printed_rolled (plain.Select base choices)
 
+-- the words of all forms of expressions
 pub ruleset forms = (printed_int, printed_str, printed_var, printed_bool, printed_undef, printed_list, printed_map, printed_refer, printed_join, printed_chain, printed_prefix, printed_at, printed_select)
 
 -- ---- what is written in two steps

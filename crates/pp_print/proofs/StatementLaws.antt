@@ -32,9 +32,11 @@ use Rattle.pp_print.proofs.Chains.{braced, braces_small, operand_reads, links_re
 
 -- ---- statements without places
 
+-- an arm without places
 unfoldable pub unplaced_arm : Arm → Arm
 unplaced_arm a = roll-Arm (record { test = unplaced (out-Arm a).test; body = map unplaced_stmt (out-Arm a).body })
 
+-- an arm of a `case` without places
 unfoldable pub unplaced_case_arm : CaseArm → CaseArm
 unplaced_case_arm a = roll-CaseArm (record { options = map (option_map unplaced) (out-CaseArm a).options; body = map unplaced_stmt (out-CaseArm a).body })
 

@@ -16,6 +16,7 @@ pub bind_some : {A B : Type 0} (r : Option A) (f : A → Option B) (y : B) → (
 bind_some (Some x) f y h = (x, refl, h)
 bind_some None f y h = cc
 
+-- what begins the tokens, and what begins those behind it, begin them together
 unfoldable pub joins : {A B : List Lexeme → Type 0} {ts mid rest : List Lexeme} → Begins A ts mid → Begins B mid rest → Begins (A then B) ts rest
 joins a b = record {
   front = a.front ++ b.front;
@@ -23,6 +24,7 @@ joins a b = record {
   whole = a.whole ∙ ap (λ r. a.front ++ r) b.whole ∙ sym (append_assoc a.front b.front _);
 }
 
+-- tokens that begin with what is spelled by one rule do so by each rule that follows from it
 unfoldable pub maps : {A B : List Lexeme → Type 0} {ts rest : List Lexeme} → ((us : List Lexeme) → A us → B us) → Begins A ts rest → Begins B ts rest
 maps f a = record { front = a.front; spelled = f a.front a.spelled; whole = a.whole }
 
