@@ -76,7 +76,7 @@ told kind h k each text =
     ap (λ (letters : List ℕ). encode_utf8_all (with_capitals true letters)) (chars-IsAscii kind (is_ascii kind h)) ∙ encodes-IsAscii (with_capitals true kind) (is_ascii (with_capitals true kind) k) in
     subst (λ (letters : List ℕ). (kind_in (letters ++ (codes "[" ++ text)) ≡ kind) × (behind (letters ++ (codes "[" ++ text)) ≡ text)) (sym shown) (each text)
 
--- so each built-in type is told
+-- of a reference that is shown each built-in type is told
 each_is_told : AllByRecursion IsTold built_in_types
 each_is_told = (told (codes "exec") refl refl (λ text. (refl, refl)), (told (codes "file") refl refl (λ text. (refl, refl)), (told (codes "package") refl refl (λ text. (refl, refl)), (told (codes "user") refl refl (λ text. (refl, refl)), (told (codes "group") refl refl (λ text. (refl, refl)), (told (codes "service") refl refl (λ text. (refl, refl)), (told (codes "cron") refl refl (λ text. (refl, refl)), (told (codes "ssh_authorized_key") refl refl (λ text. (refl, refl)), tt))))))))
 

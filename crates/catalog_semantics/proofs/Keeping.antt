@@ -211,7 +211,7 @@ module _ (R : State → State → Type 0) (frame : IsFrame R) where
   abbrev pub BodiesKeep : Bodies → Type 0
   BodiesKeep bodies = (left : ℕ) (body : List Stmt) → MayKeep (bodies.run left body)
 
-  -- so it is of the one that is found
+  -- the way to run a body that is found keeps it
   one_keeps : (at : ℕ) (may_run : Option (Stmt → Effect)) → MayKeep may_run
       → Each (λ (run : Stmt → Effect). (x : Stmt) → Keeps R (run x)) (one_more_body at may_run)
   one_keeps at None h = tt

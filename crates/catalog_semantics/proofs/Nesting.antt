@@ -85,7 +85,7 @@ MayDeeper (Some run) (Some more) = (x : Stmt) → AreDeeper (run x) (more x)
 abbrev pub BodiesDeeper : Bodies → Bodies → Type 0
 BodiesDeeper bodies more = (k : ℕ) (body : List Stmt) → MayDeeper (bodies.run (bodies.left - k) body) (more.run (more.left - k) body)
 
--- so it is of a class that runs
+-- a class whose body runs alike, or not at all, is the same, unless too deep
 class_deeper : (bodies more : Option (Stmt → Effect)) → MayDeeper bodies more → (d : Definition) (r : Resource)
     → AreDeeper (class_runs bodies d r) (class_runs more d r)
 class_deeper None more h d r s = on_deeper (is_new r s) _ _ (λ new. inr (r.at, refl))
@@ -99,13 +99,13 @@ none_less : (n : ℕ) → n - 0 ≡ n
 none_less n = omega arith
 
 module _ (site : Site) (bodies more : Bodies) (deep : BodiesDeeper bodies more) where
-  -- so it is of a body that runs here
+  -- a body that runs here runs alike in both, unless too deep
   here : (body : List Stmt) → MayDeeper (body_in bodies body) (body_in more body)
   here body =
       subst (λ n. MayDeeper (bodies.run n body) (body_in more body)) (none_less bodies.left)
       (subst (λ n. MayDeeper (bodies.run (bodies.left - 0) body) (more.run n body)) (none_less more.left) (deep 0 body))
 
-  -- of a class that is declared
+  -- a class that is declared is the same in both, unless too deep
   declared_deeper : (at : ℕ) (attributes : List Pair) (name : List ℕ)
       → AreDeeper (class_declared site bodies at attributes name) (class_declared site more at attributes name)
   declared_deeper at attributes name s =
@@ -118,17 +118,17 @@ module _ (site : Site) (bodies more : Bodies) (deep : BodiesDeeper bodies more) 
       (λ e. class_deeper (body_in bodies e.body) (body_in more e.body) (here e.body) e (class_resource at e.name [])) parents s)
       (class_deeper (body_in bodies d.body) (body_in more d.body) (here d.body) d (class_resource at d.name attributes)))))
 
-  -- of one that is included
+  -- so is one that is included
   included_deeper : (at : ℕ) (name : List ℕ) → AreDeeper (class_included site bodies at name) (class_included site more at name)
   included_deeper at name s =
       if_deeper (is_declared (class_ref name) s) (Ok s) (class_declared site bodies at [] name s) (Ok s)
       (class_declared site more at [] name s) (inl refl) (declared_deeper at [] name s)
 
-  -- the same of effects that give something beside a state
+  -- from each state on, the second gives what the first does, unless that is too deep
   abbrev ShowDeeper : {A : Type 0} → (State → Result (A × State) Refusal) → (State → Result (A × State) Refusal) → Type 0
   ShowDeeper f g = (s : State) → Deeper (f s) (g s)
 
-  -- of a body that is declared
+  -- a body that is declared gives the same in both, unless too deep
   one_body_deeper : (declare other : ℕ → List Pair → List ℕ → Effect) (refer : List ℕ → Ref)
       → ((at : ℕ) (attributes : List Pair) (title : List ℕ) → AreDeeper (declare at attributes title) (other at attributes title))
       → (b : Body) → ShowDeeper (body_declared declare refer b) (body_declared other refer b)
@@ -137,7 +137,7 @@ module _ (site : Site) (bodies more : Bodies) (deep : BodiesDeeper bodies more) 
       then_deeper (in_turn (map (declare b.title.at attributes) titles) s) (in_turn (map (other b.title.at attributes) titles) s) _ _
       (all_deeper (declare b.title.at attributes) (other b.title.at attributes) (h b.title.at attributes) titles s) (λ t. inl refl)))
 
-  -- of bodies
+  -- so do bodies
   bodies_deeper : (declare other : ℕ → List Pair → List ℕ → Effect) (refer : List ℕ → Ref)
       → ((at : ℕ) (attributes : List Pair) (title : List ℕ) → AreDeeper (declare at attributes title) (other at attributes title))
       → (bs : List Body) → ShowDeeper (bodies_declared declare refer bs) (bodies_declared other refer bs)
@@ -148,7 +148,7 @@ module _ (site : Site) (bodies more : Bodies) (deep : BodiesDeeper bodies more) 
       then_deeper (bodies_declared declare refer bs first.1) (bodies_declared other refer bs first.1) _ _
       (bodies_deeper declare other refer h bs first.1) (λ rest. inl refl))
 
-  -- of classes that are declared
+  -- so do classes that are declared
   classes_deeper : (bs : List Body) → ShowDeeper (classes_declared site bodies bs) (classes_declared site more bs)
   classes_deeper bs =
       bodies_deeper (λ here attributes title. class_declared site bodies here attributes (plain_name title))
@@ -157,21 +157,21 @@ module _ (site : Site) (bodies more : Bodies) (deep : BodiesDeeper bodies more) 
 
   -- ---- functions
 
-  -- of including and then doing something
+  -- including a class and then doing something is the same in both, unless too deep
   include_deeper : (next : List ℕ → State → State) (at : ℕ) (name : List ℕ)
       → AreDeeper (included_then next site bodies at name) (included_then next site more at name)
   include_deeper next at name s =
       then_deeper (class_included site bodies at name s) (class_included site more at name s) _ _ (included_deeper at name s)
       (λ t. inl refl)
 
-  -- of doing so with each class of an argument
+  -- so is doing it with each class of an argument
   argument_deeper : (next : List ℕ → State → State) (at : ℕ) (x : Argument)
       → AreDeeper (each_class (included_then next site bodies at) x) (each_class (included_then next site more at) x)
   argument_deeper next at x s =
       on_deeper (if_there x.0 (class_names x.1)) _ _
       (λ names. all_deeper (included_then next site bodies at) (included_then next site more at) (include_deeper next at) names s)
 
-  -- of each function
+  -- so is each function
   calls_deeper : (at : ℕ) (f : Func) (xs : List Argument) → AreDeeper (calls site bodies at f xs) (calls site more at f xs)
   calls_deeper at func.Include xs =
       all_deeper (each_class (included_then (λ name t. t) site bodies at)) (each_class (included_then (λ name t. t) site more at))
@@ -189,7 +189,7 @@ module _ (site : Site) (bodies more : Bodies) (deep : BodiesDeeper bodies more) 
 
   -- ---- chains
 
-  -- of one side of a chain
+  -- one side of a chain gives the same in both, unless too deep
   side_deeper : (x : Operand) → ShowDeeper (side_of site bodies x) (side_of site more x)
   side_deeper (operand.Declare at is_virtual kind declared) s =
       then_deeper (declared_by site bodies at is_virtual kind declared s) (declared_by site more at is_virtual kind declared s) _ _
@@ -199,22 +199,22 @@ module _ (site : Site) (bodies more : Bodies) (deep : BodiesDeeper bodies more) 
   side_deeper (operand.Collect at kind sought) s = inl refl
   side_deeper (operand.Named es) s = inl refl
 
-  -- of all sides
+  -- so do all sides
   sides_deeper : (xs : List Operand) → ShowDeeper (sides_of site bodies xs) (sides_of site more xs)
   sides_deeper [] s = inl refl
   sides_deeper (x ∷ xs) s = then_deeper (side_of site bodies x s) (side_of site more x s) _ _ (side_deeper x s) (λ first.
       then_deeper (sides_of site bodies xs first.1) (sides_of site more xs first.1) _ _ (sides_deeper xs first.1) (λ rest. inl refl))
 
-  -- of a chain
+  -- a chain is the same in both, unless too deep
   chained_deeper : (at : ℕ) (xs : List Operand) (arrows : List Arrow)
       → AreDeeper (chained site bodies at xs arrows) (chained site more at xs arrows)
   chained_deeper at xs arrows s = then_deeper (sides_of site bodies xs s) (sides_of site more xs s) _ _ (sides_deeper xs s) (λ x. inl refl)
 
-  -- of a call
+  -- so is a call
   called_deeper : (at : ℕ) (f : Func) (args : List Expr) → AreDeeper (called site bodies at f args) (called site more at f args)
   called_deeper at f args s = on_deeper (arguments s.scopes args) _ _ (λ xs. calls_deeper at f xs s)
 
-  -- of an `unless`
+  -- so is an `unless`
   unless_deeper : (e : Expr) (body other body' other' : Effect) → AreDeeper body body' → AreDeeper other other'
       → AreDeeper (unless_true e body other) (unless_true e body' other')
   unless_deeper e body other body' other' h k s =
@@ -294,7 +294,7 @@ module _ (site : Site) (bodies more : Bodies) (deep : BodiesDeeper bodies more) 
 abbrev AlwaysDeeper : Inner → Inner → Type 0
 AlwaysDeeper f g = (bodies more : Bodies) → BodiesDeeper bodies more → AreDeeper (f bodies) (g more)
 
--- so it is one block further in
+-- bodies that run alike do so one block further in
 within_deeper : (bodies more : Bodies) → BodiesDeeper bodies more → BodiesDeeper (within bodies) (within more)
 within_deeper bodies more deep k body =
     subst (λ n. MayDeeper (bodies.run n body) (more.run (more.left - 1 - k) body)) (one_less bodies.left k)
@@ -316,7 +316,7 @@ module _ (site : Site) where
   abbrev KnownCaseArm : Type 0
   KnownCaseArm = (a : CaseArm) × AlwaysDeeper (in_case_arm site a).1 (in_case_arm site a).1
 
-  -- so it is of a block
+  -- a block is the same whatever may be open, unless too deep
   block_deeper : (xs : List KnownStmt) → AlwaysDeeper (block_by (map (effect_in site) (map (λ (x : KnownStmt). x.0) xs)))
       (block_by (map (effect_in site) (map (λ (x : KnownStmt). x.0) xs)))
   block_deeper [] bodies more deep s = inl refl
@@ -324,7 +324,7 @@ module _ (site : Site) where
       then_deeper (effect_in site x.0 bodies s) (effect_in site x.0 more s) _ _ (x.1 bodies more deep s) (block_deeper xs bodies more deep)
 
   module _ (bodies more : Bodies) (deep : BodiesDeeper bodies more) where
-    -- of the arms of an `if`
+    -- the arms of an `if` choose the same, unless too deep
     if_arms_deeper : (xs : List KnownArm) (other other' : Effect) → AreDeeper other other'
         → AreDeeper (first_true (map (arm_in bodies) (map (in_arm site) (map (λ (x : KnownArm). x.0) xs))) other)
         (first_true (map (arm_in more) (map (in_arm site) (map (λ (x : KnownArm). x.0) xs))) other')
@@ -333,7 +333,7 @@ module _ (site : Site) where
         on_deeper (test_of s.scopes (in_arm site x.0).0) _ _ (λ b.
         if_deeper b ((in_arm site x.0).1 bodies s) _ ((in_arm site x.0).1 more s) _ (x.1 bodies more deep s) (if_arms_deeper xs other other' h s))
 
-    -- of those of a `case`
+    -- those of a `case` are the same, unless too deep
     choices_deeper : (xs : List KnownCaseArm)
         → ChoicesDeeper site bodies more deep (flat_map options_of (map (case_arm_in bodies) (map (in_case_arm site) (map (λ (x : KnownCaseArm). x.0) xs))))
         (flat_map options_of (map (case_arm_in more) (map (in_case_arm site) (map (λ (x : KnownCaseArm). x.0) xs))))
@@ -345,7 +345,7 @@ module _ (site : Site) where
   abbrev inner : Stmt-F KnownStmt KnownArm KnownCaseArm → Stmt-F Stmt Arm CaseArm
   inner y = map-Stmt KnownStmt KnownArm KnownCaseArm Stmt Arm CaseArm (λ x. x.0) (λ a. a.0) (λ c. c.0) y
 
-  -- so it is of a statement, where it is of what stands in it
+  -- a statement is the same, unless too deep, where what stands in it is
   layer_deeper : (y : Stmt-F KnownStmt KnownArm KnownCaseArm) → AlwaysDeeper (layer_of site (inner y)) (layer_of site (inner y))
   layer_deeper (plain.Chain at operands arrows) bodies more deep = chained_deeper site bodies more deep at operands arrows
   layer_deeper (plain.Assign at name value) bodies more deep = λ s. inl refl
@@ -360,11 +360,11 @@ module _ (site : Site) where
       let further = within_deeper bodies more deep in
       selected_deeper site (within bodies) (within more) further value _ _ (choices_deeper (within bodies) (within more) further arms)
 
-  -- so of a statement against itself
+  -- so of one statement with less open and with more
   abbrev AloneDeeper : Inner → Type 0
   AloneDeeper f = AlwaysDeeper f f
 
-  -- so it is of each statement
+  -- each statement is the same whatever may be open, unless too deep
   effects_deeper : (x : Stmt) → AloneDeeper (effect_in site x)
   effects_deeper =
       ind-Stmt (λ x. AloneDeeper (effect_in site x)) (λ a. AloneDeeper (in_arm site a).1) (λ c. AloneDeeper (in_case_arm site c).1)
@@ -379,7 +379,7 @@ module _ (site : Site) where
       (rolled_case_arm site (map-CaseArm KnownStmt KnownArm KnownCaseArm Stmt Arm CaseArm (λ x. x.0) (λ a. a.0) (λ c. c.0) y)))
       (block_deeper y.body)))
 
-  -- so it is of a body for which there is room, or not
+  -- a body for which there is room, or not, runs alike, unless too deep
   may_by : (n m left most depth : ℕ) → left ≤ most
       → ((j : ℕ) (body : List Stmt) → MayDeeper (runs_within n site (left - 1 - j) body) (runs_within m site (most - 1 - j) body))
       → (b : Bool) → nat_lt depth left ≡ b → (c : Bool) → nat_lt depth most ≡ c

@@ -22,7 +22,7 @@ meets_real r w = ap (λ (f : Wish-F Bool → Bool). fold-Wish Bool f w) (λ i. �
     by r (open_wish.Equal name x) = refl
     by r (open_wish.Differ name x) = refl
 
--- the same of a search, or none
+-- nor does it matter to a search, or to none
 any_real : (r : Resource) (w : Option Wish) → meets_any (record r { is_virtual = false }) w ≡ meets_any r w
 any_real r None = refl
 any_real r (Some w) = meets_real r w

@@ -95,7 +95,7 @@ all_read becomes (p ∷ ps) es name h =
 
 -- ---- and what is added
 
--- so is one that is added
+-- an attribute that is added is found under its name
 one_added : (o : Option Pair) (es : List Pair) (name : List ℕ) → value_at name (with_added es o) ≡ option_or (added_value name o) (value_at name es)
 one_added None es name = refl
 one_added (Some p) es name = got p.0 p.1 es name ∙ at (bytes_eq p.0 name)

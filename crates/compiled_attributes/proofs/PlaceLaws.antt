@@ -41,7 +41,7 @@ put_first : (n : ℕ) (ps : List ℕ) → AreAbove n ps → insert_key nat_cmp p
 put_first n [] h = refl
 put_first n (p ∷ ps) h = ap (λ o. match_ordering o (n ∷ p ∷ ps) (p ∷ ps) (p ∷ insert_key nat_cmp ps n)) (below n p h.0)
 
--- so it is with one more that is above, or without
+-- with one more that is above, or without, all are above
 at_above : (n m : ℕ) (ps : List ℕ) (t : Bool) → n < m → AreAbove n ps → AreAbove n (cond t (m ∷ ps) ps)
 at_above n m ps true h later = (h, later)
 at_above n m ps false h later = later

@@ -127,7 +127,7 @@ file_with b e r = do
   _ ← unless_reserved (is_reserved p || copies_reserved state)
   Ok (model p (row_of b p state ∷ []))
 
--- its model is that of a manifest's
+-- an ordinary resource has the model of a manifest's
 same_model : (k : Kind) (states : States) (s : Setting) (r : Resource) → is_spared r ≡ false → native_model k states s.listing r ≡ manifest.model_at k states s.listing r
 same_model kind.File states s r h = ap (λ b. file_with b states.ensure r) h
 same_model kind.Package states s r h = refl
@@ -168,7 +168,7 @@ first_alike links e d (Err q) (Ok fs) h more = more
 first_alike links e d (Err q) (Err r) h more = tt
 
 module _ (kept : (marks : Path → List Path) (e : Program) → ((p : Path) → Writes e p → marks p ≡ []) → with_lost_edits marks e ≡ e) where
-  -- so are the programs of ordinary resources, behind those whose places are taken
+  -- behind those whose places are taken, ordinary resources have the programs of a manifest's, read through links
   alike_behind : (s : Setting) (seen : List Path) (ns : List Native) → AllByRecursion (IsOrdinary s) ns
       → AreAlike (programs_behind s [] seen ns) (read_through s.links (manifest.programs_behind (paths_of s.links) seen s.listing (map (λ n. n.resource) ns)))
   alike_behind s seen [] h = refl

@@ -114,7 +114,7 @@ module _ (site : Site) (s : State) where
 
 -- ---- the last of a line
 
--- so are all but the last, and the last
+-- of classes of the site all but the last are such, and so is the last
 pub last_own : (site : Site) (front : List Definition) (p : Definition) → AllByRecursion (IsOwn site) (front ++ p ∷ []) → AllByRecursion (IsOwn site) front × IsOwn site p
 last_own site [] p h = (tt, h.0)
 last_own site (d ∷ front) p h = let rest = last_own site front p h.1 in ((h.0, rest.0), rest.1)

@@ -190,7 +190,7 @@ still_stand given new names a x b all h =
 
 -- ---- what a call leaves
 
--- so they do behind a call that gives one
+-- given names still all stand behind a call that gives one more
 pub stand_after : (given new : List Pair) (names now : List (List ℕ × Bool)) (a : Attr) (x : Value) (r : Result (Unit {0}) Fault) → AllStand given names → now ≡ names ++ (a.name, true) ∷ []
     → AnswersBy (λ done. new) (given_behind given (attribute_of a x)) r → OnOk r (AllStand new now)
 stand_after given new names now a x (Ok done) all e h = subst (AllStand new) (sym e) (still_stand given new names a x true all h)

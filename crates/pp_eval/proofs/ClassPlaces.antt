@@ -174,7 +174,7 @@ again_inside scopes new s name opened more classes (Ok done) is stands low h e f
     grows scopes new s opened more classes classes low e f (kept_again classes scopes s name is stands h.1) h
 again_inside scopes new s name opened more classes (Err m) is stands low h a b e f = stays scopes new opened more classes classes e f refl h
 
--- so does entering a class of a new name
+-- entering a class of a new name keeps what is kept of all
 pub class_inside : (scopes new : List Scope) (s : Scope) (name : List ℕ) (opened more : List ℕ) (classes kept : List Named) (r : Result (Unit {0}) NoMemory) → s.sort ≡ sort.Class name → PlaceBelow (length scopes) s.parent → Inside scopes opened classes
     → OnOk r (new ≡ scopes ++ s ∷ []) → OnOk r (more ≡ opened ++ length scopes ∷ []) → OnOk r (kept ≡ classes ++ (lowered name, length scopes) ∷ [])
     → OnErr r (new ≡ scopes) → OnErr r (more ≡ opened) → OnErr r (kept ≡ classes) → Inside new more kept

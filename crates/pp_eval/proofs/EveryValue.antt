@@ -78,7 +78,7 @@ select_each P at control choices h =
 
 -- ---- variables
 
--- so is what a variable gives, if what is bound is
+-- what a variable gives is so, if what is bound is
 var_each : (P : Value → Type 0) (at : ℕ) (name : List ℕ) (o : Option Value) → ((x : Value) → o ≡ Some x → P x) → Each P (bound_to at name o)
 var_each P at name (Some x) h = h x refl
 var_each P at name None h = tt

@@ -244,7 +244,7 @@ stmt_alike = ind-Stmt StmtAlike ArmAlike CaseArmAlike stmt_step_alike arm_step_a
 
 -- ---- items
 
--- so has the default of a parameter
+-- the default of a parameter has the same words without places
 default_alike : (o : Option Expr) → default_words (option_map unplaced o) ≡ default_words o
 default_alike prelude.None = refl
 default_alike (prelude.Some x) = ap (λ (w : List Word). sign (codes "=") ++ w) (words_alike x)

@@ -219,7 +219,7 @@ module _ {U : List ℕ → Type 0} where
 
       -- ---- indexes and selections
 
-      -- so may one with an index
+      -- an operand with an index may stand
       index_goes : (x z key : Expr) → Goes U x → Goes U key → z.form ≡ form.Index x key → Goes U z
       index_goes x z key gx gk f = closed_goes z _ true (ap printed_form f ∙ printed_at x key) (seq (indexed_goes x gx) (in_tight_takes is_closed gk.words refl refl))
 
@@ -252,7 +252,7 @@ module _ {U : List ℕ → Type 0} where
 
       -- ---- operators
 
-      -- so may one with prefixes
+      -- an operand with prefixes may stand
       pub unary_goes : (y : Expr) (ts : List Lexeme) → UnaryOf E y ts → Fine U ts → Goes U y
       unary_goes y ts (rule.operand d) h = postfix_goes y ts d h
       unary_goes y ts (rule.prefixed o ops x f at d) h =

@@ -350,7 +350,7 @@ module _ (m : ℕ) (nested : (e : ℕ) (x : Expr) (ts : List Lexeme) → IsExprA
 
 -- ---- expressions at any depth
 
--- so do those of an expression within brackets
+-- the words of an expression within brackets spell it again
 pub spelled_again : (m e : ℕ) (x : Expr) (ts : List Lexeme) → IsExprAt m x ts → Small e ts → Nested e x
 spelled_again zero e x ts d good = absurd d
 spelled_again (suc m) zero x ts d good = absurd (omega (arith, good.1))

@@ -76,7 +76,7 @@ module _ {U : List ℕ → Type 0} where
         by_words (ap (λ (q : Form). (printed_form q).words) h ∙ ap (λ (p : Printed). p.words) (printed_at b k) ∙ ap (λ v. cond v (expr_words b) (in_parens (expr_words b)) ++ in_tight (expr_words k)) (texts_of a0 b r).read_indexed)
         (seq front (in_tight_takes is_closed key_words.words refl refl))
 
-    -- so may a word with indexes
+    -- a word with indexes may stand, read as a variable
     indexes_read : (at : ℕ) (a x : Expr) (ts : List Lexeme) → SuffixesOf G at a x ts → Fine U ts → ReadGoes U a → ReadGoes U x
     indexes_read at a x ts (rule.none e n) h known = subst (λ (z : Expr). ReadGoes U z) e known
     indexes_read at a x ts (rule.one z front back e (rule.selection cs d f) z_at more) h known =

@@ -213,7 +213,7 @@ module _ (n : ℕ) (F A : Rule) (next : (x : Expr) (ts : List Lexeme) → Postfi
 -- ---- expressions
 
 module _ (n : ℕ) (F E : Rule) (next : (x : Expr) (ts : List Lexeme) → PostfixOf E x ts → Small n ts → Reprint F 8 x) where
-  -- so do those of a chain of `in`
+  -- the words of a chain of `in` spell it again, where those of each operand do
   in_again : (y : Expr) (ts : List Lexeme) → InOf E y ts → Small n ts → Reprint F 6 y
   in_again = chain_again n F (UnaryOf E) 6 (omega arith) (unary_again n F E next) (λ z us h. h)
 

@@ -118,7 +118,7 @@ module _ {U : List ℕ → Type 0} where
 
   -- ---- names, attributes and bodies
 
-  -- so may a name
+  -- a name may stand behind any word
   named_takes : (P : Last → Bool) (name : List ℕ) (ts : List Lexeme) → NameOf name ts → Fine U ts → Takes U P is_done (named name)
   named_takes P name ts (rule.word d c) h = word_named P name (some_sound kind.Word name ts d h)
   named_takes P name ts (rule.keyword d) h = keyword_named P name (some_sound kind.Keyword name ts d h)

@@ -70,7 +70,7 @@ module _ (n0 : ℕ) where
         ∙ ap (λ (r : List Lexeme). h.first.front ++ r) (ap (λ (r : List Lexeme). r ++ h.back) h.first.second.whole ∙ append_assoc h.first.second.front h.first.second.back h.back);
   }
 
-  -- so they do in a tight bracket
+  -- the words of two bounds in a tight bracket spell them again
   bracketed_pair : (low high : List ℕ) (us : List Lexeme) → words_in us ≡ in_tight (number (pos (int_value low)) ++ (comma ++ number (pos (int_value high))))
       → (Tight then Some kind.Int (decimal (int_value low)) then Comma then Some kind.Int (decimal (int_value high)) then Sign (codes "]")) us
   bracketed_pair low high us w =

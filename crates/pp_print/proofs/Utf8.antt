@@ -191,7 +191,7 @@ dq_utf8 pre value raw (backslash rest more v r n d) u =
 
 -- ---- what tokens stand for
 
--- so is that of a text with its single quotes
+-- the value of a text with its single quotes is UTF-8 where the text is
 quoted_value : (s : List ℕ) → IsUtf8 s → (value : List ℕ) → SqOf value s → IsUtf8 value
 quoted_value s u value h =
     let inner = (parted [] (h.0 ++ 39 ∷ []) 39 (omega arith) (subst (λ (t : List ℕ). IsUtf8 t) h.1 u)).1 in

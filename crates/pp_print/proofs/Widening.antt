@@ -14,7 +14,7 @@ both_wide : (A B C D : Phrase) (ts : List Lexeme) → ((us : List Lexeme) → A 
 both_wide A B C D ts f g h = record { front = h.front; back = h.back; first = f h.front h.first; second = g h.back h.second; whole = h.whole }
 
 module _ {X : Type 0} (A B : X → List Lexeme → Type 0) (f : (x : X) (us : List Lexeme) → A x us → B x us) where
-  -- so are items behind their signs
+  -- items behind their signs are so by a wider rule of items
   each_wide : (S : Phrase) (xs : List X) (ts : List Lexeme) → Each S A xs ts → Each S B xs ts
   each_wide S [] ts h = h
   each_wide S (x ∷ xs) ts h = both_wide S (A x then Each S A xs) S (B x then Each S B xs) ts (λ us k. k) (λ us. both_wide (A x) (Each S A xs) (B x) (Each S B xs) us (f x) (each_wide S xs)) h

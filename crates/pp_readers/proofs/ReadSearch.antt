@@ -38,7 +38,7 @@ name_unmarked : (s x : List ℕ) (us rest : List Lexeme) → NameOf x us → mar
 name_unmarked s x us rest (word t c) = ap (λ r. mark kind.Sign s (r ++ rest)) t.1
 name_unmarked s x us rest (keyword t) = ap (λ r. mark kind.Sign s (r ++ rest)) t.1
 
--- there no `and` begins
+-- where nothing that binds as tightly as `and` stands first, no `and` begins
 no_and : (rest : List Lexeme) → NoAnd rest → begins kind.Keyword (codes "and") rest ≡ false
 no_and rest q = ap is_found (mark_not kind.Keyword (codes "and") rest (λ x h. let r : reach rest ≡ 2 = ap reach (mark_found kind.Keyword (codes "and") rest x h) in omega arith))
 

@@ -198,7 +198,7 @@ abbrev pub LevelOf : (Expr → List Lexeme → Type 0) → ℕ → Expr → List
 LevelOf E zero = UnaryOf E
 LevelOf E (suc n) = ChainOf (6 - n) (LevelOf E n)
 
--- so does what the rule of each level spells
+-- what the rule of each level spells begins as an expression does
 pub level_begun : (E : Expr → List Lexeme → Type 0) (n : ℕ) (y : Expr) (us : List Lexeme) → LevelOf E n y us → Begun us
 level_begun E zero = unary_begun E
 level_begun E (suc n) = chain_begun (6 - n) (LevelOf E n) (level_begun E n)

@@ -87,6 +87,6 @@ mark_found k s (t ∷ ts) x h = by_tests (is_kind t.kind k) (bytes_eq t.text s) 
 pub marked_at : (k : Kind) (s : List ℕ) (ts : List Lexeme) (x : ℕ × List Lexeme) → mark k s ts ≡ Some x → Begins (phrases.Token k s x.0) ts x.1
 marked_at k s ts x h = record { front = record { kind = k; text = s; at = x.0 } ∷ []; spelled = refl; whole = mark_found k s ts x h }
 
--- so do the tokens begin with one of this kind and text
+-- tokens in which such a token is found begin with it
 pub marked : (k : Kind) (s : List ℕ) (ts : List Lexeme) (x : ℕ × List Lexeme) → mark k s ts ≡ Some x → Begins (phrases.Some k s) ts x.1
 marked k s ts x h = record { front = record { kind = k; text = s; at = x.0 } ∷ []; spelled = (x.0, refl); whole = mark_found k s ts x h }

@@ -276,7 +276,7 @@ quote_first s (d ∷ t) back rest h g e =
     let whole : 39 ∷ ((h.0 ++ 39 ∷ []) ++ back) ≡ d ∷ (t ++ rest) = ap (λ (u : List ℕ). u ++ back) (sym h.1) ∙ e in
     g.0 (sym (head_is 39 d ((h.0 ++ 39 ∷ []) ++ back) (t ++ rest) whole))
 
--- the same where the first may be in single quotes
+-- of two spellings at one place the first goes no further, where a byte stands behind the second that isn't inner
 stops : (s t back rest : List ℕ) (b : ℕ) → is_inner b ≡ false → Spelling kind.Sq s ⊎ Shape s → Spelling kind.Sq t ⊎ Shape t → s ++ back ≡ t ++ b ∷ rest → length s ≤ length t
 stops s t back rest b n (inl h) (inl g) e = quoted_stops s t back (b ∷ rest) h g e
 stops s t back rest b n (inl h) (inr g) e = absurd (quote_first s t back (b ∷ rest) h g e)

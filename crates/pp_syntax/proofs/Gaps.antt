@@ -105,7 +105,7 @@ gap_reads s rest (block body e h) = ap (λ t. gap_of (t ++ rest)) e ∙ close_re
 
 -- ---- no token begins with a gap
 
--- a byte that begins no sign begins no token, unless by another rule
+-- a byte that is no colon and begins no sign begins neither a name behind `::` nor a sign
 no_token_with : (c : ℕ) (text : List ℕ) → c ≢ 58 → sign_of (c ∷ []) ≡ None → ((b : ℕ) → sign_of (c ∷ b ∷ []) ≡ None) → ((b d : ℕ) → sign_of (c ∷ b ∷ d ∷ []) ≡ None) → scoped_or_sign (c ∷ text) ≡ None
 unfolding sign one_byte two_bytes three_bytes
 no_token_with c [] n one two three = ap (λ u. or_else (scoped u) (sign (c ∷ []))) (no_colons c [] n) ∙ ap (sign_found []) one

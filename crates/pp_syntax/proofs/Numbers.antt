@@ -136,7 +136,7 @@ octal_digits (b ∷ s) h = (octal_digit b h.0, octal_digits s h.1)
 octal_no_x : (b : ℕ) → is_octal b ≡ true → ((b == 120) || (b == 88)) ≡ false
 octal_no_x b h = grind (arith, nat_tests)
 
--- at an `x` reading goes past nothing or past some of it
+-- reading hexadecimal digits behind an `x` leaves no more than there was
 hex_leaves : (x : ℕ) (text : List ℕ) → Leaves (x ∷ text) (unwrap_rest (x ∷ text) (hex_behind text))
 hex_leaves x text = elim (hex_behind text) as (λ r. hex_behind text ≡ r → Leaves (x ∷ text) (unwrap_rest (x ∷ text) r)) [
   | None ↦ λ e. inr refl

@@ -255,7 +255,7 @@ text_first zero (b ∷ text) = elim (unit_len b text) as (λ r. unit_len b text 
 abbrev PieceFirst : Found → Type 0
 PieceFirst found = (rest : List ℕ) → found ≡ Some (kind.DqText, rest) → FirstAscii rest
 
--- so does what is left behind a piece of text
+-- what is left behind a piece of text that is found begins with an ASCII byte, if it has one
 piece_first : (text : List ℕ) → PieceFirst (piece text)
 unfolding piece
 piece_first text rest h =
