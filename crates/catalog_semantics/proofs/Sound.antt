@@ -132,12 +132,12 @@ under : {X : Type 0} (Q : X → Type 0) (A : Type 0) (x : Result X Refusal) → 
 under Q A (Ok t) h = h
 under Q A (Err e) h = tt
 
--- so do resources that are made real
+-- resources that are made real stay sound
 real_sound : (s : State) (resources : List Resource) → AreSound resources → AreSound (map (made_real s) resources)
 real_sound s [] h = tt
 real_sound s (r ∷ resources) h = (if_sound (is_called_for s r) (record r { is_virtual = false }) r h.0 h.0, real_sound s resources h.1)
 
--- so do the main code and the rounds
+-- the main code and the rounds keep all sound
 whole_sound : IsWholeFrame StaySound
 whole_sound = record {
   main = record {

@@ -120,29 +120,29 @@ module _ (P : Value → Type 0) (keep : FormsKeep P) (s : Scoped) (bound : (name
   abbrev inner : KnownExpr → Expr
   inner e = e.0
 
-  -- so of each member that is evaluated
+  -- each member that is evaluated gives what is so
   members_each : (members : List KnownExpr) → AllByRecursion (λ m. Each P m.verdict) (map (evaluated s) (map inner members))
   members_each [] = tt
   members_each (m ∷ members) = (m.1, members_each members)
 
-  -- so of the value of each pair
+  -- so does the value of each pair
   pairs_each : (members : List (KnownExpr × KnownExpr)) → AllByRecursion (λ m. Each P m.1.verdict) (map (pair_by (evaluated s)) (map (pair_by inner) members))
   pairs_each [] = tt
   pairs_each (m ∷ members) = (m.1.1, pairs_each members)
 
-  -- so of each operand
+  -- so does each operand
   operands_each : (more : List (Op × KnownExpr)) → AllByRecursion (λ o. Each P o.1.verdict) (map (operand_by (evaluated s)) (map (operand_by inner) more))
   operands_each [] = tt
   operands_each (o ∷ more) = (o.1.1, operands_each more)
 
-  -- so of what stands behind each choice
+  -- so does what stands behind each choice
   choices_each : (choices : List (Option KnownExpr × KnownExpr))
       → AreEach P (map (former-Form-Select-1-at-3.map Expr Evaluated (evaluated s)) (map (former-Form-Select-1-at-3.map KnownExpr Expr (λ e. e.0)) choices))
   choices_each [] = tt
   choices_each ((None, x) ∷ choices) = (x.1, choices_each choices)
   choices_each ((Some o, x) ∷ choices) = (x.1, choices_each choices)
 
-  -- so of a form whose expressions are known
+  -- so does a form whose expressions are known
   layer_each : (y : Form-F KnownForm KnownExpr) (at : ℕ)
       → Each P (form_at s (map-Form Form Expr (ℕ → Verdict) Evaluated (value_in s) (evaluated s) (map-Form KnownForm KnownExpr Form Expr (λ f. f.0) (λ e. e.0) y)) at)
   layer_each (plain.Int n) at = keep.int at n
@@ -159,12 +159,12 @@ module _ (P : Value → Type 0) (keep : FormsKeep P) (s : Scoped) (bound : (name
   layer_each (plain.Index base key) at = keep.index at (evaluated s base.0) (evaluated s key.0) base.1
   layer_each (plain.Select control choices) at = select_each P at (evaluated s control.0) (map (former-Form-Select-1-at-3.map Expr Evaluated (evaluated s)) (map (former-Form-Select-1-at-3.map KnownExpr Expr inner) choices)) (choices_each choices)
 
-  -- so of each form
+  -- so does each form
   form_each : (f : Form) → FormEach f
   form_each = ind-Form FormEach ExprEach
       (λ x y is. λ at. subst (λ (z : Form-F Form Expr). Each P (value_in s (roll-Form z) at)) is (subst (Each P) (sym (rolled s (map-Form KnownForm KnownExpr Form Expr (λ f. f.0) (λ e. e.0) y) at)) (layer_each y at)))
       (λ x y is. subst (λ z. ExprEach (roll-Expr z)) is (y.form.1 y.at))
 
-  -- so of what each expression gives
+  -- what each expression gives is so, if what is bound is
   pub so_of_each : (e : Expr) (x : Value) → value_of s e ≡ Ok x → P x
   so_of_each e x h = subst (Each P) h (form_each e.form e.at)
