@@ -42,23 +42,28 @@ front [] = []
 front (b ∷ []) = []
 front (b ∷ d ∷ text) = b ∷ front (d ∷ text)
 
+-- all but the last are what stands before it
 front_is : (text : List ℕ) (b : ℕ) → front (text ++ b ∷ []) ≡ text
 front_is [] b = refl
 front_is (x ∷ []) b = refl
 front_is (x ∷ y ∷ text) b = ap (λ t. x ∷ t) (front_is (y ∷ text) b)
 
+-- of each reference that is shown, the type and what stands behind the bracket are told
 abbrev IsTold : List ℕ → Type 0
 IsTold kind = (text : List ℕ) → (kind_in (capitalized kind ++ (codes "[" ++ text)) ≡ kind) × (behind (capitalized kind ++ (codes "[" ++ text)) ≡ text)
 
+-- each byte is ASCII
 abbrev all_low : List ℕ → Bool
 all_low [] = true
 all_low (b ∷ bytes) = nat_lt b 128 && all_low bytes
 
+-- where a conjunction holds both sides do
 both_parts : (a b : Bool) → (a && b) ≡ true → (a ≡ true) × (b ≡ true)
 both_parts true true e = (refl, refl)
 both_parts true false e = cc
 both_parts false b e = cc
 
+-- a text that is told to be ASCII is
 is_ascii : (bytes : List ℕ) → all_low bytes ≡ true → IsAscii bytes
 is_ascii [] h = λ k. omega arith
 is_ascii (b ∷ bytes) h = let parts = both_parts (nat_lt b 128) (all_low bytes) h in IsAscii-cons b bytes (ltb-true b 128 parts.0) (is_ascii bytes parts.1)
@@ -71,9 +76,11 @@ told kind h k each text =
     ap (λ (letters : List ℕ). encode_utf8_all (with_capitals true letters)) (chars-IsAscii kind (is_ascii kind h)) ∙ encodes-IsAscii (with_capitals true kind) (is_ascii (with_capitals true kind) k) in
     subst (λ (letters : List ℕ). (kind_in (letters ++ (codes "[" ++ text)) ≡ kind) × (behind (letters ++ (codes "[" ++ text)) ≡ text)) (sym shown) (each text)
 
+-- of a reference that is shown each built-in type is told
 each_is_told : AllByRecursion IsTold built_in_types
 each_is_told = (told (codes "exec") refl refl (λ text. (refl, refl)), (told (codes "file") refl refl (λ text. (refl, refl)), (told (codes "package") refl refl (λ text. (refl, refl)), (told (codes "user") refl refl (λ text. (refl, refl)), (told (codes "group") refl refl (λ text. (refl, refl)), (told (codes "service") refl refl (λ text. (refl, refl)), (told (codes "cron") refl refl (λ text. (refl, refl)), (told (codes "ssh_authorized_key") refl refl (λ text. (refl, refl)), tt))))))))
 
+-- what holds of each of some types holds of what is among them
 one_of : (P : List ℕ → Type 0) (kinds : List (List ℕ)) (kind : List ℕ) → AllByRecursion P kinds → list_any (bytes_eq kind) kinds ≡ true → P kind
 one_of P [] kind h is = cc
 one_of P (k ∷ kinds) kind h is = elim (or_cases (bytes_eq kind k) (list_any (bytes_eq kind) kinds) is) [
@@ -81,9 +88,11 @@ one_of P (k ∷ kinds) kind h is = elim (or_cases (bytes_eq kind k) (list_any (b
   | inr more ↦ one_of P kinds kind h.1 more
 ]
 
+-- so it is of a type that is told to be built-in
 is_told : (kind : List ℕ) → is_built_in kind ≡ true → IsTold kind
 is_told kind h = one_of IsTold built_in_types kind each_is_told h
 
+-- references to built-in types that are shown alike are one
 same_reference : (r q : Ref) → is_built_in r.kind ≡ true → is_built_in q.kind ≡ true → shown_ref r ≡ shown_ref q → r ≡ q
 same_reference r q h k same =
     let a = is_told r.kind h (r.title ++ codes "]") in
@@ -100,10 +109,12 @@ abbrev Ascends : ℕ → List ℕ → Type 0
 Ascends n [] = Unit {0}
 Ascends n (k ∷ places) = (n ≤ k) × Ascends (k + 1) places
 
+-- what ascends from a number on does so from a lesser one
 from_less : (n m : ℕ) (places : List ℕ) → n ≤ m → Ascends m places → Ascends n places
 from_less n m [] h up = tt
 from_less n m (k ∷ places) h up = (omega (arith, up.0), up.1)
 
+-- the places of the plain resources ascend
 ascending : (n : ℕ) (resources : List Resource) → Ascends n (plain_from n resources)
 ascending n [] = tt
 ascending n (r ∷ resources) = by (is_plain_sort r.sort && not r.is_virtual) (ascending (n + 1) resources)
@@ -112,11 +123,13 @@ ascending n (r ∷ resources) = by (is_plain_sort r.sort && not r.is_virtual) (a
     by true up = (omega arith, up)
     by false up = from_less n (n + 1) (plain_from (n + 1) resources) (omega arith) up
 
+-- none of them is below the first
 no_less : (n : ℕ) (places : List ℕ) (i : ℕ) → Ascends n places → i < length places → n ≤ slice_index places i
 no_less n [] i up h = absurd (omega arith)
 no_less n (k ∷ places) zero up h = up.0
 no_less n (k ∷ places) (suc i) up h = let low = up.0 in let more = no_less (k + 1) places i up.1 (omega arith) in omega arith
 
+-- a place stands among them once
 one_position : (n : ℕ) (places : List ℕ) (i j : ℕ) → Ascends n places → i < length places → j < length places → slice_index places i ≡ slice_index places j → i ≡ j
 one_position n [] i j up h k same = absurd (omega arith)
 one_position n (p ∷ places) zero zero up h k same = refl
@@ -126,18 +139,22 @@ one_position n (p ∷ places) (suc i) (suc j) up h k same = ap suc (one_position
 
 -- ---- resources
 
+-- a resource of sound ones is sound
 sound_at : (resources : List Resource) (place : ℕ) (r : Resource) → AreSound resources → slice_get resources place ≡ Some r → IsSound r
 sound_at [] place r h at = cc
 sound_at (q ∷ resources) zero r h at = subst IsSound (same_some q r at) h.0
 sound_at (q ∷ resources) (suc place) r h at = sound_at resources place r h.1 at
 
+-- where references stand once, each has one place
 abbrev OnePlace : Type 0
 OnePlace = (refs : List Ref) (i j : ℕ) (r : Ref) → StandOnce refs → slice_get refs i ≡ Some r → slice_get refs j ≡ Some r → i ≡ j
 
 module _ (one : OnePlace) (c : Catalog) (sound : AreSound c.resources) (once : StandOnce (references_of c.resources)) where
+  -- the reference of a resource stands at its place
   reference_there : (place : ℕ) (r : Resource) → slice_get c.resources place ≡ Some r → slice_get (references_of c.resources) place ≡ Some r.id
   reference_there place r at = slice_get-map (λ (q : Resource). q.id) c.resources place ∙ ap (option_map (λ (q : Resource). q.id)) at
 
+  -- plain resources that are shown alike stand at one place
   same_place : (p q : ℕ) (r s : Resource) → IsPlainAt c p r → IsPlainAt c q s → reference_of (slice_get c.resources p) ≡ reference_of (slice_get c.resources q) → p ≡ q
   same_place p q r s a b same =
       let at_p = stands c p r a.real in
@@ -146,6 +163,7 @@ module _ (one : OnePlace) (c : Catalog) (sound : AreSound c.resources) (once : S
       let refs : r.id ≡ s.id = same_reference r.id s.id ((sound_at c.resources p r sound at_p).1 a.plain) ((sound_at c.resources q s sound at_q).1 b.plain) alike in
       one (references_of c.resources) p q s.id once (reference_there p r at_p ∙ ap Some refs) (reference_there q s at_q)
 
+  -- so no two are shown alike
   pub told_apart : AreToldApart c (plain_places c)
   told_apart i j h k same =
       let p = plain_at c (slice_index (plain_places c) i) (Contains-get_or (plain_places c) i 0 h) in

@@ -12,10 +12,12 @@ use Rattle.allowed_order.specs.Names.{position_of, with_names, positions_of}
 use Rattle.allowed_order.specs.AllowedOrder.{shown_at, AreToldApart, IsOrderNamed, IsOrderOf, IsOnlyOrder}
 use Rattle.allowed_order.proofs.NameLaws.{no_value, same_some, Tells, Finds, names_tell, names_find}
 
+-- where two steps find something, the first did and the second went on from it
 step : {X Y : Type 0} (o : Option X) (f : X → Option Y) (y : Y) → (o >>= f) ≡ Some y → (x : X) × (o ≡ Some x) × (f x ≡ Some y)
 step None f y h = absurd (no_value y h)
 step (Some x) f y h = (x, refl, h)
 
+-- an image comes from something
 mapped : {X Y : Type 0} (f : X → Y) (o : Option X) (y : Y) → option_map f o ≡ Some y → (x : X) × (o ≡ Some x) × (f x ≡ y)
 mapped f None y h = absurd (no_value y h)
 mapped f (Some x) y h = (x, refl, same_some (f x) y h)
@@ -23,6 +25,7 @@ mapped f (Some x) y h = (x, refl, same_some (f x) y h)
 -- ---- what texts name
 
 module _ (c : Catalog) (all : List ℕ) (names : List (List ℕ × ℕ)) where
+  -- texts whose positions are found are the references shown there
   texts_shown : Tells c all names → (texts : List (List ℕ)) (o : List ℕ) → positions_of names texts ≡ Some o → texts ≡ map (shown_at c all) o
   texts_shown tells [] o h = ap (map (shown_at c all)) (same_some [] o h)
   texts_shown tells (t ∷ texts) o h =
@@ -31,6 +34,7 @@ module _ (c : Catalog) (all : List ℕ) (names : List (List ℕ × ℕ)) where
       subst (λ is. t ∷ texts ≡ map (shown_at c all) is) rest.2
       ((λ i. (tells t first.0 first.1).1 i ∷ texts_shown tells texts rest.0 rest.1 i))
 
+  -- and the references at positions find these
   shown_found : Finds c all (length all) names → (o : List ℕ) → AllByRecursion (λ i. i < length all) o → positions_of names (map (shown_at c all) o) ≡ Some o
   shown_found finds [] h = refl
   shown_found finds (i ∷ o) h =
@@ -39,6 +43,7 @@ module _ (c : Catalog) (all : List ℕ) (names : List (List ℕ × ℕ)) where
 
 -- ---- the order
 
+-- positions that are found, in an allowed order, are named by the texts
 pub order_found : (c : Catalog) (plain : List ℕ) (before : ℕ → ℕ → Type 0) (texts : List (List ℕ)) (o : List ℕ)
     → positions_of (with_names c 0 plain []) texts ≡ Some o → IsLinearExtension (length plain) before o → IsOrderNamed c plain before texts o
 order_found c plain before texts o h allowed = record {
@@ -46,6 +51,7 @@ order_found c plain before texts o h allowed = record {
   allowed = allowed;
 }
 
+-- an order that the texts name is the positions that are found
 pub order_is : (c : Catalog) (plain : List ℕ) (before : ℕ → ℕ → Type 0) (texts : List (List ℕ)) (o : List ℕ)
     → AreToldApart c plain → IsOrderNamed c plain before texts o → positions_of (with_names c 0 plain []) texts ≡ Some o
 order_is c plain before texts o apart h =
@@ -62,6 +68,7 @@ pub none_allowed : (c : Catalog) (plain : List ℕ) (before : ℕ → ℕ → Ty
 none_allowed c plain before texts p h never apart o named =
     never (subst (IsLinearExtension (length plain) before) (same_some o p (sym (order_is c plain before texts o apart named) ∙ h)) named.allowed)
 
+-- positions in an allowed order are the one order that the texts name
 pub only_order : (c : Catalog) (plain : List ℕ) (before : ℕ → ℕ → Type 0) (texts : List (List ℕ)) (p : List ℕ) → positions_of (with_names c 0 plain []) texts ≡ Some p
     → IsLinearExtension (length plain) before p → IsOnlyOrder c plain before texts (Some p)
 only_order c plain before texts p h allowed =
@@ -69,39 +76,47 @@ only_order c plain before texts p h allowed =
 
 -- ---- as the code has it
 
+-- where not all texts have positions, they name no order
 pub found_none : (c : Catalog) (plain : List ℕ) (before : ℕ → ℕ → Type 0) (texts : List (List ℕ)) (found : Option (List ℕ))
     → found ≡ positions_of (with_names c 0 plain []) texts → found ≡ None → IsOnlyOrder c plain before texts None
 found_none c plain before texts found h is = none_named c plain before texts (sym h ∙ is)
 
+-- the same of the order as the code has it
 pub found_allowed : (c : Catalog) (plain : List ℕ) (before : ℕ → ℕ → Type 0) (texts : List (List ℕ)) (n : ℕ) (found : Option (List ℕ)) (p slice : List ℕ)
     → n ≡ length plain → found ≡ positions_of (with_names c 0 plain []) texts → found ≡ Some p → slice ≡ p → IsLinearExtension n before slice → IsOnlyOrder c plain before texts (Some p)
 found_allowed c plain before texts n found p slice count h is lent allowed =
     only_order c plain before texts p (sym h ∙ is) (subst (λ m. IsLinearExtension m before p) count (subst (IsLinearExtension n before) lent allowed))
 
+-- where the positions are no allowed order, the texts name none
 pub found_free : (c : Catalog) (plain : List ℕ) (before : ℕ → ℕ → Type 0) (texts : List (List ℕ)) (n : ℕ) (found : Option (List ℕ)) (p slice : List ℕ)
     → n ≡ length plain → found ≡ positions_of (with_names c 0 plain []) texts → found ≡ Some p → slice ≡ p → (IsLinearExtension n before slice → ⊥) → IsOnlyOrder c plain before texts None
 found_free c plain before texts n found p slice count h is lent never =
     none_allowed c plain before texts p (sym h ∙ is) (λ allowed. never (subst (IsLinearExtension n before) (sym lent) (subst (λ m. IsLinearExtension m before p) (sym count) allowed)))
 
+-- bytes are the text of one order at most
 abbrev OneText : Type 0
 OneText = (bytes : List ℕ) (a b : List (List ℕ)) → IsOrderText bytes a → IsOrderText bytes b → a ≡ b
 
+-- bytes that are no text of an order name none
 pub no_text : (c : Catalog) (plain : List ℕ) (before : ℕ → ℕ → Type 0) (bytes : List ℕ) (f : Fault)
     → IfRefused f (λ r. IsRefusal 63 0 (codes "order") r × ((ts : List (List ℕ)) → IsOrderText bytes ts → ⊥))
     → IfRefused f (λ r. IsRefusal 63 0 (codes "order") r × (AreToldApart c plain → (o : List ℕ) → IsOrderOf c plain before bytes o → ⊥))
 no_text c plain before bytes (Refused r) h = (h.0, λ apart o order. h.1 order.texts order.text)
 no_text c plain before bytes (Memory m) h = tt
 
+-- an order that the bytes name is named by their texts
 named_so : (c : Catalog) (plain : List ℕ) (before : ℕ → ℕ → Type 0) (bytes : List ℕ) (texts slice : List (List ℕ)) (o : List ℕ) → OneText → IsOrderText bytes texts → slice ≡ texts
     → IsOrderOf c plain before bytes o → IsOrderNamed c plain before slice o
 named_so c plain before bytes texts slice o one text lent order =
     subst (λ ts. IsOrderNamed c plain before ts o) (one bytes order.texts texts order.text text ∙ sym lent) order.named
 
+-- the order that is answered is the only one that the bytes name
 pub only_of : (c : Catalog) (plain : List ℕ) (before : ℕ → ℕ → Type 0) (bytes : List ℕ) (texts slice : List (List ℕ)) (answer : Option (List ℕ)) (found o : List ℕ) → OneText
     → IsOrderText bytes texts → slice ≡ texts → IsOnlyOrder c plain before slice answer → answer ≡ Some found → AreToldApart c plain → IsOrderOf c plain before bytes o → found ≡ o
 only_of c plain before bytes texts slice answer found o one text lent h is apart order =
     (subst (IsOnlyOrder c plain before slice) is h).1 apart o (named_so c plain before bytes texts slice o one text lent order)
 
+-- where none is answered, the bytes name none
 pub none_of : (c : Catalog) (plain : List ℕ) (before : ℕ → ℕ → Type 0) (bytes : List ℕ) (texts slice : List (List ℕ)) (answer : Option (List ℕ)) (f : Fault) → OneText
     → IsOrderText bytes texts → slice ≡ texts → IsOnlyOrder c plain before slice answer → answer ≡ None → IfRefused f (IsRefusal 63 0 (codes "order"))
     → IfRefused f (λ r. IsRefusal 63 0 (codes "order") r × (AreToldApart c plain → (o : List ℕ) → IsOrderOf c plain before bytes o → ⊥))

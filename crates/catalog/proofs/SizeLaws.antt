@@ -10,16 +10,19 @@ use Rattle.catalog.specs.Adding.{changed_at, made_real, given, place_in_text}
 use Rattle.pp_value.specs.declared.value.Ref.{Ref}
 use Rattle.catalog.specs.Places.{placed, IsListed}
 
+-- the size of two lists of attributes is the sum of both
 pub sizes_join : (a b : List Pair) → size_of_attributes (a ++ b) ≡ size_of_attributes a + size_of_attributes b
 sizes_join [] b = omega arith
 sizes_join (p ∷ a) b = let rest = sizes_join a b in omega arith
 
+-- one more resource adds the size of its attributes
 pub size_last : (resources : List Resource) (r : Resource) → size_of_resources (resources ++ r ∷ []) ≡ size_of_resources resources + size_of_attributes r.attrs
 size_last [] r = omega arith
 size_last (q ∷ resources) r = let rest = size_last resources r in omega arith
 
 -- ---- a resource is changed at its place
 
+-- a changed resource adds what it is larger
 pub size_changed : (place : ℕ) (f : Resource → Resource) (resources : List Resource) (r : Resource) → slice_get resources place ≡ Some r
     → size_of_resources (changed_at place f resources) + size_of_attributes r.attrs ≡ size_of_resources resources + size_of_attributes (f r).attrs
 size_changed place f [] r h = absurd (no_item h)
@@ -33,16 +36,19 @@ size_changed zero f (q ∷ resources) r h =
     omega arith
 size_changed (suc place) f (q ∷ resources) r h = let rest = size_changed place f resources r h in omega arith
 
+-- a change that leaves a reference leaves all
 pub references_stay : (place : ℕ) (f : Resource → Resource) → ((r : Resource) → (f r).id ≡ r.id) → (resources : List Resource) → references_of (changed_at place f resources) ≡ references_of resources
 references_stay place f same [] = refl
 references_stay zero f same (r ∷ resources) = ap (λ q. q ∷ references_of resources) (same r)
 references_stay (suc place) f same (r ∷ resources) = ap (λ more. r.id ∷ more) (references_stay place f same resources)
 
+-- a change makes none more or less
 pub count_stays : (place : ℕ) (f : Resource → Resource) (resources : List Resource) → length (changed_at place f resources) ≡ length resources
 count_stays place f [] = refl
 count_stays zero f (r ∷ resources) = refl
 count_stays (suc place) f (r ∷ resources) = ap suc (count_stays place f resources)
 
+-- where the resource at a place stands in the text
 pub place_is : (place : ℕ) (resources : List Resource) (r : Resource) → slice_get resources place ≡ Some r → place_in_text place resources ≡ r.at
 place_is place [] r h = absurd (no_item h)
   where
@@ -51,21 +57,25 @@ place_is place [] r h = absurd (no_item h)
 place_is zero (q ∷ resources) r h = let same : q ≡ r = cc in ap (λ x. x.at) same
 place_is (suc place) (q ∷ resources) r h = place_is place resources r h
 
+-- writing a changed resource at its place is changing it there
 pub set_is : (f : Resource → Resource) (resources : List Resource) (place : ℕ) (d q : Resource) → q ≡ get_or resources place d → place < length resources
     → slice_set resources place (f q) ≡ changed_at place f resources
 set_is f [] place d q h within = refl
 set_is f (r ∷ resources) zero d q h within = ap (λ x. f x ∷ resources) h
 set_is f (r ∷ resources) (suc place) d q h within = ap (λ more. r ∷ more) (set_is f resources place d q h (omega arith))
 
+-- making a resource real leaves the size
 size_stays : (place : ℕ) (resources : List Resource) → size_of_resources (changed_at place made_real resources) ≡ size_of_resources resources
 size_stays place [] = refl
 size_stays zero (r ∷ resources) = refl
 size_stays (suc place) (r ∷ resources) = ap (λ n. size_of_attributes r.attrs + n) (size_stays place resources)
 
+-- one more resource is one more reference
 references_last : (resources : List Resource) (r : Resource) → references_of (resources ++ r ∷ []) ≡ references_of resources ++ r.id ∷ []
 references_last [] r = refl
 references_last (q ∷ resources) r = ap (λ more. q.id ∷ more) (references_last resources r)
 
+-- making a resource real leaves what stands beside the list right
 pub still_listed : (places : List (Ref × ℕ)) (size place : ℕ) (resources : List Resource) → IsListed places size resources → IsListed places size (changed_at place made_real resources)
 still_listed places size place resources h =
     let few = h.few in
@@ -79,14 +89,17 @@ still_listed places size place resources h =
 
 -- ---- sums that stop at the greatest u64
 
+-- a sum that stops at the greatest u64 is the sum, where it isn't over the limit
 pub sum_is : (size a s more : ℕ) → s ≡ min a (2 ^ 64 - 1) → more ≡ min (size + s) (2 ^ 64 - 1) → more ≤ attributes_limit → more ≡ size + a
 sum_is size a s more h k small = omega arith
 
+-- and where it is over the limit, so is the sum
 pub sum_over : (size a s more : ℕ) → s ≡ min a (2 ^ 64 - 1) → more ≡ min (size + s) (2 ^ 64 - 1) → attributes_limit < more → attributes_limit < size + a
 sum_over size a s more h k large = omega arith
 
 -- ---- one more
 
+-- what stands beside the list is right with one more resource
 pub listed_more : (places : List (Ref × ℕ)) (size more : ℕ) (resources : List Resource) (r : Resource) → IsListed places size resources
     → length resources < declared_bound → more ≡ size + size_of_attributes r.attrs → more ≤ attributes_limit
     → IsListed (places ++ (r.id, length resources) ∷ []) more (resources ++ r ∷ [])
@@ -106,6 +119,7 @@ listed_more places size more resources r h room sum small =
 
 -- ---- filled
 
+-- changes that are the same of the resource at a place are the same
 pub changed_same : (place : ℕ) (f g : Resource → Resource) (resources : List Resource) (r : Resource) → slice_get resources place ≡ Some r → f r ≡ g r
     → changed_at place f resources ≡ changed_at place g resources
 changed_same place f g [] r h e = refl
@@ -114,6 +128,7 @@ changed_same zero f g (q ∷ resources) r h e =
     ap (λ x. x ∷ resources) (ap f same ∙ (e ∙ ap g (sym same)))
 changed_same (suc place) f g (q ∷ resources) r h e = ap (λ more. q ∷ more) (changed_same place f g resources r h e)
 
+-- defaults that are filled in add their size
 pub size_filled : (place : ℕ) (pairs : List Pair) (resources : List Resource) (r : Resource) → slice_get resources place ≡ Some r
     → size_of_resources (changed_at place (given pairs) resources) ≡ size_of_resources resources + size_of_attributes (filter (lacks r.attrs) pairs)
 size_filled place pairs resources r h =
@@ -121,6 +136,7 @@ size_filled place pairs resources r h =
     let parts = sizes_join r.attrs (filter (lacks r.attrs) pairs) in
     omega arith
 
+-- what stands beside the list is right with them
 pub listed_filled : (places : List (Ref × ℕ)) (size more place : ℕ) (pairs : List Pair) (resources : List Resource) (r : Resource) → IsListed places size resources
     → slice_get resources place ≡ Some r → more ≡ size + size_of_attributes (filter (lacks r.attrs) pairs) → more ≤ attributes_limit
     → IsListed places more (changed_at place (given pairs) resources)
@@ -136,8 +152,10 @@ listed_filled places size more place pairs resources r h at sum small =
       small = small;
     }
 
+-- so it is of equal lists
 pub listed_as : (places others : List (Ref × ℕ)) (size : ℕ) (resources more : List Resource) → others ≡ places → more ≡ resources → IsListed places size resources → IsListed others size more
 listed_as places others size resources more e k h = subst (λ ps. IsListed ps size more) (sym e) (subst (IsListed places size) (sym k) h)
 
+-- a resource within the list stands at its place
 pub there : (resources : List Resource) (place : ℕ) (r : Resource) → r ≡ get_or resources place r → place < length resources → slice_get resources place ≡ Some r
 there resources place r e within = slice_get-get_or resources place r within ∙ ap Some (sym e)

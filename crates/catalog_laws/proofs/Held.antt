@@ -30,26 +30,33 @@ use Rattle.catalog_laws.specs.Containers.{AreHeld, IsClassAt, HoldClasses}
 
 -- ---- what a resource keeps
 
+-- what never changes of a resource: its sort, its holder and its reference
 record Skeleton : Type 0 where
   sort : Sort
   holder : Option ℕ
   id : Ref
 
+-- that of a resource
 abbrev skeleton : Resource → Skeleton
 skeleton r = record { sort = r.sort; holder = r.holder; id = r.id }
 
+-- those of all
 abbrev skeletons : List Resource → List Skeleton
 skeletons resources = map skeleton resources
 
+-- a class or a defined resource stands at the place
 abbrev ContainerAt : List Skeleton → ℕ → Type 0
 ContainerAt ks place = (k : Skeleton) × (slice_get ks place ≡ Some k) × (is_plain_sort k.sort ≡ false)
 
+-- a class stands at the place
 abbrev ClassAt : List Skeleton → ℕ → Type 0
 ClassAt ks place = (k : Skeleton) × (name : List ℕ) × (slice_get ks place ≡ Some k) × (k.id ≡ class_ref name)
 
+-- what holds it, if anything does, is a container
 abbrev HasHolder : List Skeleton → Skeleton → Type 0
 HasHolder ks k = IfSome k.holder (ContainerAt ks)
 
+-- the holding puts a class into a container
 abbrev HasClass : List Skeleton → Holding → Type 0
 HasClass ks h = ContainerAt ks h.outer × ClassAt ks h.class
 
@@ -61,37 +68,46 @@ record Held (running : Option ℕ) (ks : List Skeleton) (holdings : List Holding
 
 -- ---- more resources behind
 
+-- what stands at a place stands there with more behind
 got_in_front : {A : Type 0} (xs ys : List A) (i : ℕ) (x : A) → slice_get xs i ≡ Some x → slice_get (xs ++ ys) i ≡ Some x
 got_in_front [] ys i x h = cc
 got_in_front (y ∷ xs) ys zero x h = h
 got_in_front (y ∷ xs) ys (suc i) x h = got_in_front xs ys i x h
 
+-- so does a container
 container_stays : (ks more : List Skeleton) (place : ℕ) → ContainerAt ks place → ContainerAt (ks ++ more) place
 container_stays ks more place c = (c.0, got_in_front ks more place c.0 c.1, c.2)
 
+-- so does a class
 class_stays : (ks more : List Skeleton) (place : ℕ) → ClassAt ks place → ClassAt (ks ++ more) place
 class_stays ks more place c = (c.0, c.1, got_in_front ks more place c.0 c.2, c.3)
 
+-- and a container, if there is one
 some_stays : (ks more : List Skeleton) (o : Option ℕ) → IfSome o (ContainerAt ks) → IfSome o (ContainerAt (ks ++ more))
 some_stays ks more None c = tt
 some_stays ks more (Some place) c = container_stays ks more place c
 
+-- what follows for each holds of all
 each_under : {A : Type 0} (P Q : A → Type 0) (xs : List A) → ((x : A) → P x → Q x) → AllByRecursion P xs → AllByRecursion Q xs
 each_under P Q [] f h = tt
 each_under P Q (x ∷ xs) f h = (f x h.0, each_under P Q xs f h.1)
 
+-- what holds of some and of one more holds of all
 each_one_more : {A : Type 0} (P : A → Type 0) (xs : List A) (y : A) → AllByRecursion P xs → P y → AllByRecursion P (xs ++ y ∷ [])
 each_one_more P [] y h k = (k, tt)
 each_one_more P (x ∷ xs) y h k = (h.0, each_one_more P xs y h.1 k)
 
+-- one more resource is one more skeleton
 map_more : (xs : List Resource) (y : Resource) → skeletons (xs ++ y ∷ []) ≡ skeletons xs ++ skeleton y ∷ []
 map_more [] y = refl
 map_more (x ∷ xs) y = ap (λ ks. skeleton x ∷ ks) (map_more xs y)
 
+-- two lists of resources are two lists of skeletons
 map_both : (xs ys : List Resource) → skeletons (xs ++ ys) ≡ skeletons xs ++ skeletons ys
 map_both [] ys = refl
 map_both (x ∷ xs) ys = ap (λ ks. skeleton x ∷ ks) (map_both xs ys)
 
+-- one more resource that nothing holds, or what runs, keeps what holds a container
 held_more : (running : Option ℕ) (ks : List Skeleton) (holdings : List Holding) (k : Skeleton) → Held running ks holdings → (k.holder ≡ None) ⊎ (k.holder ≡ running)
     → Held running (ks ++ k ∷ []) holdings
 held_more running ks holdings k h holder = record {
@@ -107,13 +123,16 @@ held_more running ks holdings k h holder = record {
 
 -- ---- what defaults and realizations leave
 
+-- one of two resources of one skeleton has it
 skeleton_by : (b : Bool) (r q : Resource) → skeleton q ≡ skeleton r → skeleton (cond b r q) ≡ skeleton r
 skeleton_by true r q h = refl
 skeleton_by false r q h = h
 
+-- defaults leave the skeleton
 filled_skeleton : (defaults : List Default) (r : Resource) → skeleton (filled defaults r) ≡ skeleton r
 filled_skeleton defaults r = skeleton_by (is_class r) r _ refl
 
+-- so does adding
 added_skeleton : (s : State) (r : Resource) → skeleton (as_added s r) ≡ skeleton r
 added_skeleton s r = either s.main_has_ended
   where
@@ -121,6 +140,7 @@ added_skeleton s r = either s.main_has_ended
     either true = filled_skeleton s.defaults r
     either false = refl
 
+-- so does making real
 real_skeleton : (s : State) (r : Resource) → skeleton (made_real s r) ≡ skeleton r
 real_skeleton s r = either (is_called_for s r)
   where
@@ -128,6 +148,7 @@ real_skeleton s r = either (is_called_for s r)
     either true = refl
     either false = refl
 
+-- and of all
 real_skeletons : (s : State) (resources : List Resource) → skeletons (map (made_real s) resources) ≡ skeletons resources
 real_skeletons s [] = refl
 real_skeletons s (r ∷ resources) = ap₂ (λ k ks. k ∷ ks) (real_skeleton s r) (real_skeletons s resources)
@@ -151,6 +172,7 @@ alike s t same running holdings = record {
       (subst (λ hs. Held s.running (skeletons t.resources) hs) (sym holdings) (subst (λ ks. Held s.running ks s.holdings) (sym same) h));
 }
 
+-- what is kept from one state to the next is kept over both
 joined : (s t u : State) → Holds s t → Holds t u → Holds s u
 joined s t u h k = record {
   more = h.more ++ k.more;
@@ -159,6 +181,7 @@ joined s t u h k = record {
   held = λ x. k.held (h.held x);
 }
 
+-- a resource that is added keeps what holds a container
 adds : (r : Resource) (s : State) → (r.holder ≡ None) ⊎ (r.holder ≡ s.running) → Holds s (with_resource s (as_added s r))
 adds r s holder = record {
   more = skeleton (as_added s r) ∷ [];
@@ -175,11 +198,13 @@ adds r s holder = record {
     by (inl none) = inl (same ∙ none)
     by (inr now) = inr (same ∙ now)
 
+-- the skeleton at a place is that of the resource there
 of_resources : (resources : List Resource) (place : ℕ) (r : Resource) → slice_get resources place ≡ Some r → slice_get (skeletons resources) place ≡ Some (skeleton r)
 of_resources [] place r h = cc
 of_resources (q ∷ resources) zero r h = let same : ◌≡◌ {A = Resource} q r = cc in ap (λ (x : Resource). Some (skeleton x)) same
 of_resources (q ∷ resources) (suc place) r h = of_resources resources place r h
 
+-- a body that runs keeps what holds a container
 bodies : (place : ℕ) (s t u : State) → IsContainerAt place s.resources → Holds s t → Holds (begun place t) u → Holds s (ended s u)
 bodies place s t u at h k = record {
   more = h.more ++ k.more;
@@ -200,37 +225,45 @@ bodies place s t u at h k = record {
 
 -- ---- the place of a class
 
+-- where a conjunction holds both sides do
 both_true : (a b : Bool) → (a && b) ≡ true → (a ≡ true) × (b ≡ true)
 both_true true b h = (refl, h)
 both_true false b h = cc
 
+-- references that are told to be the same are
 same_is : (q r : Ref) → same_ref q r ≡ true → q ≡ r
 same_is q r h =
     let both = both_true (bytes_eq q.kind r.kind) (bytes_eq q.title r.title) h in
     ap₂ (λ k t. record { kind = k; title = t }) ((bytes_eq-Decides q.kind r.kind).0 both.0) ((bytes_eq-Decides q.title r.title).0 both.1)
 
+-- the reference stands at this place, which is counted from n on
 abbrev FoundAt : ℕ → Ref → List Resource → ℕ → Type 0
 FoundAt n ref resources place = (i : ℕ) × (place ≡ n + i) × (r : Resource) × (slice_get resources i ≡ Some r) × (r.id ≡ ref)
 
+-- what stands among the others stands in all
 found_later : (n : ℕ) (ref : Ref) (q : Resource) (resources : List Resource) (place : ℕ) → FoundAt (n + 1) ref resources place → FoundAt n ref (q ∷ resources) place
 found_later n ref q resources place h = (suc h.0, omega (arith, h.1), h.2, h.3, h.4)
 
+-- what is found at the first or further on stands there
 found_by : (b : Bool) (n : ℕ) (ref : Ref) (q : Resource) (resources : List Resource) (place : ℕ) → same_ref q.id ref ≡ b
     → (place_from (n + 1) ref (references_of resources) ≡ Some place → FoundAt (n + 1) ref resources place)
     → cond b (Some n) (place_from (n + 1) ref (references_of resources)) ≡ Some place → FoundAt n ref (q ∷ resources) place
 found_by true n ref q resources place is later h = let same : n ≡ place = cc in (0, omega (arith, same), q, refl, same_is q.id ref is)
 found_by false n ref q resources place is later h = found_later n ref q resources place (later h)
 
+-- where a reference is found, it stands
 found_at : (n : ℕ) (ref : Ref) (resources : List Resource) (place : ℕ) → place_from n ref (references_of resources) ≡ Some place → FoundAt n ref resources place
 found_at n ref [] place h = cc
 found_at n ref (q ∷ resources) place h = found_by (same_ref q.id ref) n ref q resources place refl (found_at (n + 1) ref resources place) h
 
+-- where a class is found, it stands
 class_found : (name : List ℕ) (resources : List Resource) (place : ℕ) → place_of (class_ref name) resources ≡ Some place → ClassAt (skeletons resources) place
 class_found name resources place h =
     let found = found_at 0 (class_ref name) resources place h in
     let same : place ≡ found.0 = omega (arith, found.1) in
     subst (ClassAt (skeletons resources)) (sym same) (skeleton found.2, name, of_resources resources found.0 found.2 found.3, found.4)
 
+-- a class that is put into the container that runs keeps what holds a container
 holds : (name : List ℕ) (outer class : ℕ) (s : State) → s.running ≡ Some outer → place_of (class_ref name) s.resources ≡ Some class
     → Held s.running (skeletons s.resources) s.holdings → Held s.running (skeletons s.resources) (s.holdings ++ record { outer = outer; class = class } ∷ [])
 holds name outer class s is at h = record {
@@ -242,6 +275,7 @@ holds name outer class s is at h = record {
 
 -- ---- defaults take hold
 
+-- defaults that take hold leave the skeletons
 fills : (defaults : List Default) (done resources all : List Resource) → skeletons (done ++ resources) ≡ skeletons all
     → Each (λ found. skeletons found ≡ skeletons all) (filled_behind defaults done resources)
 fills defaults done [] all same = ap skeletons (sym (append-nil done)) ∙ same
@@ -256,6 +290,7 @@ fills defaults done (r ∷ rest) all same =
 
 -- ---- a whole manifest
 
+-- the main code and the rounds keep what holds a container
 whole_holds : IsWholeFrame Holds
 whole_holds = record {
   main = record {
@@ -289,33 +324,40 @@ whole_holds = record {
 
 -- ---- from what a resource keeps to the resource
 
+-- a skeleton at a place is that of a resource there
 resource_at : (resources : List Resource) (place : ℕ) (k : Skeleton) → slice_get (skeletons resources) place ≡ Some k → (r : Resource) × (slice_get resources place ≡ Some r) × (skeleton r ≡ k)
 resource_at [] place k h = cc
 resource_at (q ∷ resources) zero k h = let same : ◌≡◌ {A = Skeleton} (skeleton q) k = cc in (q, refl, same)
 resource_at (q ∷ resources) (suc place) k h = resource_at resources place k h
 
+-- a container by the skeletons is one
 container_is : (resources : List Resource) (place : ℕ) → ContainerAt (skeletons resources) place → IsContainerAt place resources
 container_is resources place c =
     let r = resource_at resources place c.0 c.1 in
     (r.0, (r.1, ap (λ (k : Skeleton). is_plain_sort k.sort) r.2 ∙ c.2))
 
+-- and so is a class
 class_is : (resources : List Resource) (place : ℕ) → ClassAt (skeletons resources) place → IsClassAt place resources
 class_is resources place c =
     let r = resource_at resources place c.0 c.2 in
     (r.0, c.1, r.1, ap (λ (k : Skeleton). k.id) r.2 ∙ c.3)
 
+-- and a container, if there is one
 some_is : (resources : List Resource) (o : Option ℕ) → IfSome o (ContainerAt (skeletons resources)) → IfSome o (λ place. IsContainerAt place resources)
 some_is resources None c = tt
 some_is resources (Some place) c = container_is resources place c
 
+-- so it is of what holds each resource
 each_is : (all resources : List Resource) → AllByRecursion (HasHolder (skeletons all)) (skeletons resources)
     → AllByRecursion (λ (r : Resource). IfSome r.holder (λ place. IsContainerAt place all)) resources
 each_is all [] h = tt
 each_is all (r ∷ resources) h = (some_is all r.holder h.0, each_is all resources h.1)
 
+-- what holds resources and classes are containers
 abbrev CatalogHeld : Catalog → Type 0
 CatalogHeld c = AreHeld c.resources × HoldClasses c.resources c.holdings
 
+-- so it is of the catalog of a state in which it is
 catalog_is : (t : State) → Held t.running (skeletons t.resources) t.holdings → CatalogHeld (catalog_in t)
 catalog_is t h = (
   each_is t.resources t.resources h.holders,
@@ -323,11 +365,13 @@ catalog_is t h = (
       (λ q c. (container_is t.resources q.outer c.0, class_is t.resources q.class c.1)) h.classes,
 )
 
+-- and of that of a state after the rounds
 ends_held : (t : State) → Held t.running (skeletons t.resources) t.holdings → Each CatalogHeld (all_there t.pending t >>= λ there. few_enough t >>= λ u. Ok (catalog_in u))
 ends_held t h = step_each CatalogHeld (all_there t.pending t) _ (λ there.
     then_each (λ (u : State). u ≡ t) CatalogHeld (few_enough t) _ (few_is t)
     (λ u e. subst (λ (w : State). CatalogHeld (catalog_in w)) (sym e) (catalog_is t h)))
 
+-- what holds resources and classes in a manifest's catalog are containers
 pub catalog_held : (m : Manifest) (facts : Value) (node_name : List ℕ) (data_levels : List Level) (limits : Limits) (c : Catalog)
     → catalog_of m facts node_name data_levels limits ≡ Ok c → CatalogHeld c
 catalog_held m facts node_name data_levels limits c h =

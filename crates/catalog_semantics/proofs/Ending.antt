@@ -38,14 +38,17 @@ pub under_bound : (l : Limits) → declared_limit l ≤ declared_bound
 under_bound chosen.Usual = omega arith
 under_bound chosen.Host = omega arith
 
+-- where the one is within the limits, so is the other
 abbrev FitStill : Limits → State → State → Type 0
 FitStill limits s t = Fits limits s → Fits limits t
 
+-- what follows a test that refuses is so, where it is so if the test holds
 if_true : {A B : Type 0} (Q : B → Type 0) (b : Bool) (e : Refusal) (x : A) (f : A → Result B Refusal) → (b ≡ true → Each Q (f x))
     → Each Q (cond b (Ok x) (Err e) >>= f)
 if_true Q true e x f h = h refl
 if_true Q false e x f h = tt
 
+-- a resource that is added keeps within the limits
 adds_fit : (limits : Limits) (r : Resource) → Keeps (FitStill limits) (added r)
 adds_fit limits r s =
     step_each (FitStill limits s) (is_new r s) _ (λ new. if_true (FitStill limits s) (nat_lt (length s.resources) (declared_limit s.limits)) _ s _ (λ room.
@@ -57,6 +60,7 @@ adds_fit limits r s =
         let same : declared_limit s.limits ≡ declared_limit limits = ap declared_limit h.0 in
         omega (arith, length-append s.resources (as_added s r ∷ []))
 
+-- each single change does
 fitting_frame : (limits : Limits) → IsFrame (FitStill limits)
 fitting_frame limits = record {
   same = λ s h. h;
@@ -70,9 +74,11 @@ fitting_frame limits = record {
   wants = λ more s h. h;
 }
 
+-- the same references are as many resources
 same_length : (s t : State) → Same s t → length t.resources ≡ length s.resources
 same_length s t h = sym (length-map t.resources (λ (r : Resource). r.id)) ∙ ap length h.0 ∙ length-map s.resources (λ (r : Resource). r.id)
 
+-- the main code keeps within the limits
 main_fits : (limits : Limits) → IsMainFrame (FitStill limits)
 main_fits limits = record {
   frame = fitting_frame limits;
@@ -84,6 +90,7 @@ main_fits limits = record {
       (ends_same s);
 }
 
+-- so do the rounds
 pub whole_fits : (limits : Limits) → IsWholeFrame (FitStill limits)
 whole_fits limits = record {
   main = main_fits limits;
@@ -93,9 +100,11 @@ whole_fits limits = record {
 
 -- ---- what has run before the rounds
 
+-- what has run is the same
 abbrev RanStays : State → State → Type 0
 RanStays s t = t.ran ≡ s.ran
 
+-- the main code runs no body of a defined resource
 main_runs_none : IsMainFrame RanStays
 main_runs_none = record {
   frame = record {
@@ -119,21 +128,25 @@ main_runs_none = record {
 
 -- ---- what is due
 
+-- what is due hasn't run
 not_run : (a b c : Bool) → (a && b && not c) ≡ true → c ≡ false
 not_run true true false h = refl
 not_run true true true h = sym h
 not_run true false c h = cc
 not_run false b c h = cc
 
+-- a place before the end, of which the body hasn't run
 abbrev IsNext : State → ℕ → ℕ × Resource → Type 0
 IsNext s end x = (x.0 < end) × (has_run s x.0 ≡ false)
 
+-- so it is of what is due here or further on
 due_case : (b : Bool) (s : State) (n end : ℕ) (r : Resource) (x : ℕ × Resource) (later : Option (ℕ × Resource)) → n < end
     → (b ≡ true → has_run s n ≡ false) → (later ≡ Some x → IsNext s end x) → cond b (Some (n, r)) later ≡ Some x → IsNext s end x
 due_case true s n end r x later h k l is =
     let e : ◌≡◌ {A = ℕ × Resource} (n, r) x = cc in subst (λ (y : ℕ × Resource). IsNext s end y) e (h, k refl)
 due_case false s n end r x later h k l is = l is
 
+-- what is due next stands before the end, and hasn't run
 next_is : (s : State) (n end : ℕ) (resources : List Resource) (x : ℕ × Resource) → n + length resources ≡ end
     → next_due s n resources ≡ Some x → IsNext s end x
 next_is s n end [] x h is = absurd (cc)
@@ -143,9 +156,11 @@ next_is s n end (r ∷ resources) x h is =
 
 -- ---- one run
 
+-- the place counts as run, and nothing is taken away
 abbrev Runs : ℕ → State → State → Type 0
 Runs place s t = (t.ran ≡ s.ran ++ place ∷ []) × Begins s.resources t.resources
 
+-- the body of a resource that runs makes its place count as run
 runs_one : (site : Site) (place : ℕ) (r : Resource) (d : Option Definition) (s : State) → IsContainerAt place s.resources → Each (Runs place s) (type_runs site place r d s)
 runs_one site place r None s at = (refl, begins_same s.resources)
 runs_one site place r (Some d) s at =
@@ -154,32 +169,39 @@ runs_one site place r (Some d) s at =
 
 -- ---- how often
 
+-- no place has run twice, and each is one of a resource
 pub record RunsOnce (s : State) : Type 0 where
   pub distinct : IsDistinct eqb s.ran
   pub below : (q : ℕ) → list_any (eqb q) s.ran ≡ true → q < length s.resources
 
+-- two numbers differ in both directions
 other : (x y : ℕ) → eqb y x ≡ false → eqb x y ≡ false
 other x y h = ne_eqb x y (λ e. eqb-false y x h (sym e))
 
+-- a number that differs from some and from one more differs from all
 all_more : (x y : ℕ) (xs : List ℕ) → AllByRecursion (λ z. eqb x z ≡ false) xs → eqb x y ≡ false
     → AllByRecursion (λ z. eqb x z ≡ false) (xs ++ y ∷ [])
 all_more x y [] h k = (k, tt)
 all_more x y (z ∷ xs) h k = (h.0, all_more x y xs h.1 k)
 
+-- where a disjunction is false both sides are
 or_false : (a b : Bool) → (a || b) ≡ false → (a ≡ false) × (b ≡ false)
 or_false true b h = cc
 or_false false b h = (refl, h)
 
+-- distinct numbers with a new one are distinct
 distinct_more : (xs : List ℕ) (y : ℕ) → IsDistinct eqb xs → list_any (eqb y) xs ≡ false → IsDistinct eqb (xs ++ y ∷ [])
 distinct_more [] y h k = IsDistinct-cons eqb y [] tt h
 distinct_more (x ∷ xs) y h k = let both = or_false (eqb y x) (list_any (eqb y) xs) k in
     IsDistinct-cons eqb x (xs ++ y ∷ []) (all_more x y xs (IsDistinct-head eqb x xs h) (other x y both.0))
     (distinct_more xs y (IsDistinct-tail eqb x xs h) both.1)
 
+-- where a disjunction holds one side does
 or_true : (a b : Bool) → (a || b) ≡ true → (a ≡ true) ⊎ (b ≡ true)
 or_true true b h = inl refl
 or_true false b h = inr h
 
+-- what is among numbers with one more is among them, or is that
 in_more : (q y : ℕ) (xs : List ℕ) → list_any (eqb q) (xs ++ y ∷ []) ≡ true → (list_any (eqb q) xs ≡ true) ⊎ (q ≡ y)
 in_more q y [] h = ⊎_elim (λ a. inr (eqb-true q y a)) (λ b. inl b) (or_true (eqb q y) false h)
 in_more q y (x ∷ xs) h =
@@ -191,6 +213,7 @@ in_more q y (x ∷ xs) h =
     either_true true h = refl
     either_true false h = h
 
+-- where nothing is taken away there are no fewer resources
 longer : (s t : State) → Begins s.resources t.resources → length s.resources ≤ length t.resources
 longer s t h = omega (arith, ap length h.1, length-append s.resources h.0)
 
@@ -203,12 +226,14 @@ once_more place s t below new runs h = record {
       (in_more q place s.ran (subst (λ (w : List ℕ). list_any (eqb q) w ≡ true) runs.0 is));
 }
 
+-- no more bodies have run than resources may be declared
 at_most : (limits : Limits) (s : State) → RunsOnce s → Fits limits s → length s.ran ≤ declared_limit limits
 at_most limits s h fits =
     let few = length-le_from_distinct_below s.ran (length s.resources) h.distinct h.below in
     let room = fits.1 in
     omega arith
 
+-- making resources real runs nothing
 real_once : (s : State) → RunsOnce s → RunsOnce (realized s)
 real_once s h =
     record { distinct = h.distinct; below = λ q is. subst (λ n. q < n) (sym (length-map s.resources (made_real s))) (h.below q is) }
@@ -224,6 +249,7 @@ run_same site f g s x Q h same = behind (resource_runs site x s) h
     behind (Ok t) h = same t h
     behind (Err e) h = refl
 
+-- rounds that go on alike from what is due are the same
 next_same : (site : Site) (f g : Effect) (s : State) (found : Option (ℕ × Resource))
     → ((x : ℕ × Resource) → found ≡ Some x → run_and_go_on site f (Some x) s ≡ run_and_go_on site g (Some x) s)
     → run_and_go_on site f found s ≡ run_and_go_on site g found s
@@ -234,11 +260,13 @@ next_same site f g s (Some x) h = h x refl
 abbrev After : Limits → ℕ → State → State → Type 0
 After limits place s t = Runs place s t × FitStill limits s t
 
+-- the body of a resource that is due runs, and keeps within the limits
 run_gives : (limits : Limits) (site : Site) (x : ℕ × Resource) (s : State) → IsContainerAt x.0 s.resources → Each (After limits x.0 s) (resource_runs site x s)
 run_gives limits site x s at =
     both_each (Runs x.0 s) (FitStill limits s) (resource_runs site x s) (runs_one site x.0 x.1 (definition_of x.1.id.kind site.defined_types) s at)
     (type_keeps (FitStill limits) (whole_fits limits) site x.0 x.1 (definition_of x.1.id.kind site.defined_types) s at)
 
+-- with enough rounds it doesn't matter how many there may be
 pub rounds_same : (limits : Limits) (site : Site) (n m : ℕ) (s : State) → RunsOnce s → Fits limits s → round_limit limits ≤ length s.ran + n
     → round_limit limits ≤ length s.ran + m → rounds n site s ≡ rounds m site s
 rounds_same limits site zero m s once fits h k = let few = at_most limits s once fits in absurd (omega arith)
@@ -254,10 +282,12 @@ rounds_same limits site (suc n) (suc m) s once fits h k =
 
 -- ---- the whole
 
+-- no numbers are distinct
 none_distinct : IsDistinct eqb []
 unfolding IsDistinct
 none_distinct = tt
 
+-- where nothing has run, nothing has twice
 none_run : (s : State) → s.ran ≡ [] → RunsOnce s
 none_run s h =
     record {
@@ -284,15 +314,18 @@ enough_rounds site items facts limits n h =
 
 -- ---- what the rounds reach
 
+-- this is due next
 abbrev FoundAt : State → Option (ℕ × Resource) → Type 0
 FoundAt s found = next_due s 0 s.resources ≡ found
 
+-- a round after which nothing is due, or what follows settles, settles
 step_settles : (site : Site) (go_on : Effect) (s : State) (found : Option (ℕ × Resource)) → FoundAt s found → realized s ≡ s
     → ((x : ℕ × Resource) → found ≡ Some x → Each IsSettled (run_and_go_on site go_on (Some x) s))
     → Each IsSettled (run_and_go_on site go_on found s)
 step_settles site go_on s None e real h = record { real = real; none_due = e }
 step_settles site go_on s (Some x) e real h = h x refl
 
+-- with enough rounds all is settled
 settles : (limits : Limits) (site : Site) (n : ℕ) (s : State) → RunsOnce s → Fits limits s → round_limit limits ≤ length s.ran + n → Each IsSettled (rounds n site s)
 settles limits site zero s once fits h = let few = at_most limits s once fits in absurd (omega arith)
 settles limits site (suc n) s once fits h =

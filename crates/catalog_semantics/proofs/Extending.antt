@@ -21,6 +21,7 @@ use Rattle.catalog_semantics.proofs.Keeping.{Keeps, IsFrame, step_each, bound_ea
 
 -- ---- states
 
+-- a state only adds nothing to itself
 extends_same : (s : State) → Extends s s
 extends_same s = record {
   limits = refl;
@@ -37,6 +38,7 @@ extends_same s = record {
   pending = begins_same s.pending;
 }
 
+-- what only adds to what only adds only adds
 pub extends_joined : (s t u : State) → Extends s t → Extends t u → Extends s u
 extends_joined s t u h k = record {
   limits = k.limits ∙ h.limits;
@@ -52,6 +54,7 @@ extends_joined s t u h k = record {
   pending = begins_joined s.pending t.pending u.pending h.pending k.pending;
 }
 
+-- bindings only add
 scopes_extend : (s : State) (scopes : Scoped) → ScopesExtend s.scopes scopes → Extends s (with_scopes scopes s)
 scopes_extend s scopes h = record {
   limits = refl;
@@ -68,6 +71,7 @@ scopes_extend s scopes h = record {
   pending = begins_same s.pending;
 }
 
+-- so do more resources
 resources_extend : (s : State) (more : List Resource) → Extends s (record s { resources = s.resources ++ more })
 resources_extend s more = record {
   limits = refl;
@@ -84,6 +88,7 @@ resources_extend s more = record {
   pending = begins_same s.pending;
 }
 
+-- so does a holding
 holds_extend : (outer class : ℕ) (s : State) → Extends s (held outer class s)
 holds_extend outer class s = record {
   limits = refl;
@@ -100,6 +105,7 @@ holds_extend outer class s = record {
   pending = begins_same s.pending;
 }
 
+-- so do ties
 ties_extend : (ties : List Tie) (s : State) → Extends s (tied ties s)
 ties_extend ties s = record {
   limits = refl;
@@ -116,6 +122,7 @@ ties_extend ties s = record {
   pending = begins_same s.pending;
 }
 
+-- so does a collector
 collects_extend : (c : Collector) (s : State) → Extends s (collected c s)
 collects_extend c s = record {
   limits = refl;
@@ -132,6 +139,7 @@ collects_extend c s = record {
   pending = begins_same s.pending;
 }
 
+-- so do references that are to be realized
 wants_extend : (more : List Pending) (s : State) → Extends s (wanted more s)
 wants_extend more s = record {
   limits = refl;
@@ -148,13 +156,16 @@ wants_extend more s = record {
   pending = begins_more s.pending more;
 }
 
+-- binding a name only adds
 binds_extend : (at : ℕ) (name : List ℕ) (x : Value) → Keeps Extends (bound at name x)
 binds_extend at name x s = bound_each (Extends s) at name x s (scopes_extend s (with_binding name x s.scopes) (bound_extends s.scopes name x))
 
+-- so does adding a resource
 adds_extend : (r : Resource) → Keeps Extends (added r)
 adds_extend r s = step_each (Extends s) (is_new r s) _ (λ new. step_each (Extends s) (has_room r s) _ (λ room.
     step_each (Extends s) (within_size r.at (s.resources ++ as_added s r ∷ [])) _ (λ fits. resources_extend s (as_added s r ∷ []))))
 
+-- so does a body that runs
 bodies_extend : (place : ℕ) (scope : Scope) (s t u : State) → Extends (entering scope s) t → Extends (begun place t) u
     → Extends s (ended s u)
 bodies_extend place scope s t u h k = record {
@@ -171,6 +182,7 @@ bodies_extend place scope s t u h k = record {
   pending = begins_joined s.pending t.pending u.pending h.pending k.pending;
 }
 
+-- so does each single change
 pub extending : IsFrame Extends
 extending = record {
   same = extends_same;
@@ -184,14 +196,18 @@ extending = record {
   wants = wants_extend;
 }
 
+-- so does a statement, in any room
 pub only_adds_within : (room : Room) (site : Site) (x : Stmt) (s t : State) → effect_at room site x s ≡ Ok t → Extends s t
 only_adds_within room site x s t h = subst (Each (Extends s)) h (effect_at_keeps Extends extending room site x s)
 
+-- so do the statements of a block
 pub blocks_only_add : (room : Room) (site : Site) (body : List Stmt) (s t : State) → in_turn (map (effect_at room site) body) s ≡ Ok t → Extends s t
 blocks_only_add room site body s t h = subst (Each (Extends s)) h (all_keep Extends extending (effect_at room site) body (effect_at_keeps Extends extending room site) s)
 
+-- so does the opening of a body, in its scope
 pub openings_only_add : (d : Definition) (r : Resource) (scope : Scope) (s t : State) → opened d r scope s ≡ Ok t → Extends (entering scope s) t
 openings_only_add d r scope s t h = subst (Each (Extends (entering scope s))) h (opened_keeps Extends extending d r scope s)
 
+-- a statement only adds
 pub only_adds : (site : Site) (x : Stmt) (s t : State) → effect_of site x s ≡ Ok t → Extends s t
 only_adds site x s t h = subst (Each (Extends s)) h (statement_keeps Extends extending site x s)

@@ -11,29 +11,36 @@ use Rattle.catalog_semantics.specs.States.{State, filled, size_of_resources, att
 use Rattle.catalog_semantics.specs.Filling.{IsFirstTooLarge}
 use Rattle.catalog_semantics.specs.Catalogs.{filled_behind, main_ended}
 
+-- equal results have equal states
 same_state : (s t : State) → ◌≡◌ {A = Result State Refusal} (Ok s) (Ok t) → t ≡ s
 same_state s t h = cc
 
+-- and equal lists
 same_list : (x y : List Resource) → ◌≡◌ {A = Result (List Resource) Refusal} (Ok x) (Ok y) → y ≡ x
 same_list x y h = cc
 
 module _ (defaults : List Default) where
+  -- some resources with their defaults, one that has them now, and the others
   abbrev here : List Resource → Resource → List Resource → List Resource
   here done r resources = done ++ filled defaults r ∷ resources
 
+  -- one more resource has its defaults
   abbrev next : List Resource → Resource → List Resource
   next done r = done ++ filled defaults r ∷ []
 
   -- ---- all
 
+  -- these are the first ones, and the others with their defaults
   abbrev AllFilled : List Resource → List Resource → List Resource → Type 0
   AllFilled done resources all = all ≡ done ++ map (filled defaults) resources
 
+  -- where there is room for one, and the others have their defaults, all have
   by_room : (done : List Resource) (r : Resource) (resources all : List Resource) (b : Bool) → (filled_behind defaults (next done r) resources ≡ Ok all → AllFilled (next done r) resources all)
       → (cond b (Err (refusal 32 r.at (codes "attributes"))) (Ok (here done r resources)) >>= λ _. filled_behind defaults (next done r) resources) ≡ Ok all → AllFilled done (r ∷ resources) all
   by_room done r resources all true f h = cc
   by_room done r resources all false f h = f h ∙ append_assoc done (filled defaults r ∷ []) (map (filled defaults) resources)
 
+  -- the resources that are found all have their defaults
   all_filled : (done resources all : List Resource) → filled_behind defaults done resources ≡ Ok all → AllFilled done resources all
   all_filled done [] all h = same_list done all h ∙ sym (append-nil done)
   all_filled done (r ∷ resources) all h = by_room done r resources all (nat_lt attributes_limit (size_of_resources (here done r resources))) (all_filled (next done r) resources all) h
@@ -51,9 +58,11 @@ module _ (defaults : List Default) where
         → size_of_resources (done ++ (map (filled defaults) (before ++ r ∷ []) ++ (behind ++ resource ∷ back))) ≤ attributes_limit
     pub is : e ≡ refusal 32 resource.at (codes "attributes")
 
+  -- equal lists begin alike
   same_head : (q r : Resource) (qs rs : List Resource) → ◌≡◌ {A = List Resource} (q ∷ qs) (r ∷ rs) → (q ≡ r) × (qs ≡ rs)
   same_head q r qs rs h = (cc, cc)
 
+  -- the first for which there is no room among the others is the first in all, if there is room for this one
   one_on : (done : List Resource) (r : Resource) (resources : List Resource) (e : Refusal) → size_of_resources (here done r resources) ≤ attributes_limit → IsFirst (next done r) resources e
       → IsFirst done (r ∷ resources) e
   one_on done r resources e fits f = record {
@@ -79,9 +88,11 @@ module _ (defaults : List Default) where
           ∙ ap (λ (x : Resource). done ++ filled defaults x ∷ (map (filled defaults) (before ++ q ∷ []) ++ (behind ++ f.resource ∷ f.back))) same.0)
           (f.first before q behind same.1)
 
+  -- equal results have equal refusals
   same_refusal : (x e : Refusal) → ◌≡◌ {A = Result (List Resource) Refusal} (Err x) (Err e) → e ≡ x
   same_refusal x e h = cc
 
+  -- a refusal is at this one, where there is no room for it, or at one of the others
   by_size : (done : List Resource) (r : Resource) (resources : List Resource) (e : Refusal) (b : Bool) → nat_lt attributes_limit (size_of_resources (here done r resources)) ≡ b
       → (filled_behind defaults (next done r) resources ≡ Err e → IsFirst (next done r) resources e)
       → (cond b (Err (refusal 32 r.at (codes "attributes"))) (Ok (here done r resources)) >>= λ _. filled_behind defaults (next done r) resources) ≡ Err e → IsFirst done (r ∷ resources) e
@@ -102,6 +113,7 @@ module _ (defaults : List Default) where
       let fits = ltb-false attributes_limit (size_of_resources (here done r resources)) small in
       one_on done r resources e (omega arith) (f h)
 
+  -- the refusal is at the first for which there is no room
   first_large : (done resources : List Resource) (e : Refusal) → filled_behind defaults done resources ≡ Err e → IsFirst done resources e
   first_large done [] e h = cc
   first_large done (r ∷ resources) e h =
@@ -116,6 +128,7 @@ ends_filled s t h = by (filled_behind s.defaults [] s.resources) refl h
     by (Ok all) is k = same_state (record s { main_has_ended = true; resources = all }) t k ∙ ap (λ (rs : List Resource). record s { main_has_ended = true; resources = rs }) (all_filled s.defaults [] s.resources all is)
     by (Err e) is k = cc
 
+-- the main code ends with a refusal at the first resource for which there is no room
 pub ends_refused : (s : State) (e : Refusal) → main_ended s ≡ Err e → IsFirstTooLarge s.defaults s.resources e
 ends_refused s e h =
     let f = first_large s.defaults [] s.resources e (refused (filled_behind s.defaults [] s.resources) h) in

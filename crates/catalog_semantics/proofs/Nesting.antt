@@ -41,27 +41,33 @@ use Rattle.catalog_semantics.specs.Effects.{block_by, arm_in, case_arm_in, effec
 use Rattle.catalog_semantics.proofs.Rolled.{in_arm, in_case_arm, layer_of, rolled, rolled_arm, rolled_case_arm}
 use Rattle.catalog_semantics.specs.Nesting.{Deeper}
 
+-- from each state on, the second is the first unless that is too deep
 abbrev AreDeeper : Effect → Effect → Type 0
 AreDeeper f g = (s : State) → Deeper (f s) (g s)
 
+-- a result that goes on alike unless too deep is so
 on_deeper : {A B : Type 0} (x : Result A Refusal) (f g : A → Result B Refusal) → ((a : A) → Deeper (f a) (g a)) → Deeper (x >>= f) (x >>= g)
 on_deeper (Ok a) f g h = h a
 on_deeper (Err e) f g h = inl refl
 
+-- so is one that is already so, and goes on so
 then_deeper : {A B : Type 0} (x y : Result A Refusal) (f g : A → Result B Refusal) → Deeper x y → ((a : A) → Deeper (f a) (g a))
     → Deeper (x >>= f) (y >>= g)
 then_deeper x y f g (inl e) h = subst (λ (z : Result _ Refusal). Deeper (x >>= f) (z >>= g)) e (on_deeper x f g h)
 then_deeper x y f g (inr deep) h = inr (deep.0, ap (λ r. r >>= f) deep.1)
 
+-- so is a choice of two that are
 if_deeper : {A : Type 0} (b : Bool) (x y x' y' : Result A Refusal) → Deeper x x' → Deeper y y' → Deeper (cond b x y) (cond b x' y')
 if_deeper true x y x' y' h k = h
 if_deeper false x y x' y' h k = k
 
+-- so are effects in turn
 all_deeper : {A : Type 0} (f g : A → Effect) → ((x : A) → AreDeeper (f x) (g x)) → (xs : List A)
     → AreDeeper (in_turn (map f xs)) (in_turn (map g xs))
 all_deeper f g h [] s = inl refl
 all_deeper f g h (x ∷ xs) s = then_deeper (f x s) (g x s) (in_turn (map f xs)) (in_turn (map g xs)) (h x s) (all_deeper f g h xs)
 
+-- so is a body that runs
 body_deeper : (run more : Stmt → Effect) → ((x : Stmt) → AreDeeper (run x) (more x))
     → (d : Definition) (place : ℕ) (r : Resource) (scope : Scope)
     → AreDeeper (body_runs run d place r scope) (body_runs more d place r scope)
@@ -69,6 +75,7 @@ body_deeper run more h d place r scope s =
     on_deeper (body_begins d place r scope s) _ _ (λ t.
     then_deeper (in_turn (map run d.body) t) (in_turn (map more d.body) t) _ _ (all_deeper run more h d.body t) (λ u. inl refl))
 
+-- where the first runs, the second runs alike, unless the first is too deep
 abbrev MayDeeper : Option (Stmt → Effect) → Option (Stmt → Effect) → Type 0
 MayDeeper None more = Unit {0}
 MayDeeper (Some run) None = ⊥
@@ -78,6 +85,7 @@ MayDeeper (Some run) (Some more) = (x : Stmt) → AreDeeper (run x) (more x)
 abbrev pub BodiesDeeper : Bodies → Bodies → Type 0
 BodiesDeeper bodies more = (k : ℕ) (body : List Stmt) → MayDeeper (bodies.run (bodies.left - k) body) (more.run (more.left - k) body)
 
+-- a class whose body runs alike, or not at all, is the same, unless too deep
 class_deeper : (bodies more : Option (Stmt → Effect)) → MayDeeper bodies more → (d : Definition) (r : Resource)
     → AreDeeper (class_runs bodies d r) (class_runs more d r)
 class_deeper None more h d r s = on_deeper (is_new r s) _ _ (λ new. inr (r.at, refl))
@@ -86,15 +94,18 @@ class_deeper (Some run) (Some more) h d r s =
     on_deeper (is_new r s) _ _ (λ new. on_deeper (added r s) _ _
     (λ t. body_deeper run more h d (length s.resources) r (class_scope t.scopes.0 d.name d.parent) t))
 
+-- a number less none is the number
 none_less : (n : ℕ) → n - 0 ≡ n
 none_less n = omega arith
 
 module _ (site : Site) (bodies more : Bodies) (deep : BodiesDeeper bodies more) where
+  -- a body that runs here runs alike in both, unless too deep
   here : (body : List Stmt) → MayDeeper (body_in bodies body) (body_in more body)
   here body =
       subst (λ n. MayDeeper (bodies.run n body) (body_in more body)) (none_less bodies.left)
       (subst (λ n. MayDeeper (bodies.run (bodies.left - 0) body) (more.run n body)) (none_less more.left) (deep 0 body))
 
+  -- a class that is declared is the same in both, unless too deep
   declared_deeper : (at : ℕ) (attributes : List Pair) (name : List ℕ)
       → AreDeeper (class_declared site bodies at attributes name) (class_declared site more at attributes name)
   declared_deeper at attributes name s =
@@ -107,14 +118,17 @@ module _ (site : Site) (bodies more : Bodies) (deep : BodiesDeeper bodies more) 
       (λ e. class_deeper (body_in bodies e.body) (body_in more e.body) (here e.body) e (class_resource at e.name [])) parents s)
       (class_deeper (body_in bodies d.body) (body_in more d.body) (here d.body) d (class_resource at d.name attributes)))))
 
+  -- so is one that is included
   included_deeper : (at : ℕ) (name : List ℕ) → AreDeeper (class_included site bodies at name) (class_included site more at name)
   included_deeper at name s =
       if_deeper (is_declared (class_ref name) s) (Ok s) (class_declared site bodies at [] name s) (Ok s)
       (class_declared site more at [] name s) (inl refl) (declared_deeper at [] name s)
 
+  -- from each state on, the second gives what the first does, unless that is too deep
   abbrev ShowDeeper : {A : Type 0} → (State → Result (A × State) Refusal) → (State → Result (A × State) Refusal) → Type 0
   ShowDeeper f g = (s : State) → Deeper (f s) (g s)
 
+  -- a body that is declared gives the same in both, unless too deep
   one_body_deeper : (declare other : ℕ → List Pair → List ℕ → Effect) (refer : List ℕ → Ref)
       → ((at : ℕ) (attributes : List Pair) (title : List ℕ) → AreDeeper (declare at attributes title) (other at attributes title))
       → (b : Body) → ShowDeeper (body_declared declare refer b) (body_declared other refer b)
@@ -123,6 +137,7 @@ module _ (site : Site) (bodies more : Bodies) (deep : BodiesDeeper bodies more) 
       then_deeper (in_turn (map (declare b.title.at attributes) titles) s) (in_turn (map (other b.title.at attributes) titles) s) _ _
       (all_deeper (declare b.title.at attributes) (other b.title.at attributes) (h b.title.at attributes) titles s) (λ t. inl refl)))
 
+  -- so do bodies
   bodies_deeper : (declare other : ℕ → List Pair → List ℕ → Effect) (refer : List ℕ → Ref)
       → ((at : ℕ) (attributes : List Pair) (title : List ℕ) → AreDeeper (declare at attributes title) (other at attributes title))
       → (bs : List Body) → ShowDeeper (bodies_declared declare refer bs) (bodies_declared other refer bs)
@@ -133,6 +148,7 @@ module _ (site : Site) (bodies more : Bodies) (deep : BodiesDeeper bodies more) 
       then_deeper (bodies_declared declare refer bs first.1) (bodies_declared other refer bs first.1) _ _
       (bodies_deeper declare other refer h bs first.1) (λ rest. inl refl))
 
+  -- so do classes that are declared
   classes_deeper : (bs : List Body) → ShowDeeper (classes_declared site bodies bs) (classes_declared site more bs)
   classes_deeper bs =
       bodies_deeper (λ here attributes title. class_declared site bodies here attributes (plain_name title))
@@ -141,18 +157,21 @@ module _ (site : Site) (bodies more : Bodies) (deep : BodiesDeeper bodies more) 
 
   -- ---- functions
 
+  -- including a class and then doing something is the same in both, unless too deep
   include_deeper : (next : List ℕ → State → State) (at : ℕ) (name : List ℕ)
       → AreDeeper (included_then next site bodies at name) (included_then next site more at name)
   include_deeper next at name s =
       then_deeper (class_included site bodies at name s) (class_included site more at name s) _ _ (included_deeper at name s)
       (λ t. inl refl)
 
+  -- so is doing it with each class of an argument
   argument_deeper : (next : List ℕ → State → State) (at : ℕ) (x : Argument)
       → AreDeeper (each_class (included_then next site bodies at) x) (each_class (included_then next site more at) x)
   argument_deeper next at x s =
       on_deeper (if_there x.0 (class_names x.1)) _ _
       (λ names. all_deeper (included_then next site bodies at) (included_then next site more at) (include_deeper next at) names s)
 
+  -- so is each function
   calls_deeper : (at : ℕ) (f : Func) (xs : List Argument) → AreDeeper (calls site bodies at f xs) (calls site more at f xs)
   calls_deeper at func.Include xs =
       all_deeper (each_class (included_then (λ name t. t) site bodies at)) (each_class (included_then (λ name t. t) site more at))
@@ -170,6 +189,7 @@ module _ (site : Site) (bodies more : Bodies) (deep : BodiesDeeper bodies more) 
 
   -- ---- chains
 
+  -- one side of a chain gives the same in both, unless too deep
   side_deeper : (x : Operand) → ShowDeeper (side_of site bodies x) (side_of site more x)
   side_deeper (operand.Declare at is_virtual kind declared) s =
       then_deeper (declared_by site bodies at is_virtual kind declared s) (declared_by site more at is_virtual kind declared s) _ _
@@ -179,18 +199,22 @@ module _ (site : Site) (bodies more : Bodies) (deep : BodiesDeeper bodies more) 
   side_deeper (operand.Collect at kind sought) s = inl refl
   side_deeper (operand.Named es) s = inl refl
 
+  -- so do all sides
   sides_deeper : (xs : List Operand) → ShowDeeper (sides_of site bodies xs) (sides_of site more xs)
   sides_deeper [] s = inl refl
   sides_deeper (x ∷ xs) s = then_deeper (side_of site bodies x s) (side_of site more x s) _ _ (side_deeper x s) (λ first.
       then_deeper (sides_of site bodies xs first.1) (sides_of site more xs first.1) _ _ (sides_deeper xs first.1) (λ rest. inl refl))
 
+  -- a chain is the same in both, unless too deep
   chained_deeper : (at : ℕ) (xs : List Operand) (arrows : List Arrow)
       → AreDeeper (chained site bodies at xs arrows) (chained site more at xs arrows)
   chained_deeper at xs arrows s = then_deeper (sides_of site bodies xs s) (sides_of site more xs s) _ _ (sides_deeper xs s) (λ x. inl refl)
 
+  -- so is a call
   called_deeper : (at : ℕ) (f : Func) (args : List Expr) → AreDeeper (called site bodies at f args) (called site more at f args)
   called_deeper at f args s = on_deeper (arguments s.scopes args) _ _ (λ xs. calls_deeper at f xs s)
 
+  -- so is an `unless`
   unless_deeper : (e : Expr) (body other body' other' : Effect) → AreDeeper body body' → AreDeeper other other'
       → AreDeeper (unless_true e body other) (unless_true e body' other')
   unless_deeper e body other body' other' h k s =
@@ -198,24 +222,28 @@ module _ (site : Site) (bodies more : Bodies) (deep : BodiesDeeper bodies more) 
 
   -- ---- choices
 
+  -- the same options, each with a block that is the same unless too deep
   abbrev ChoicesDeeper : List (Option Expr × Effect) → List (Option Expr × Effect) → Type 0
   ChoicesDeeper [] [] = Unit {0}
   ChoicesDeeper [] (d ∷ ds) = ⊥
   ChoicesDeeper (c ∷ cs) [] = ⊥
   ChoicesDeeper (c ∷ cs) (d ∷ ds) = ((c.0 ≡ d.0) × AreDeeper c.1 d.1) × ChoicesDeeper cs ds
 
+  -- a block on both sides that is the same unless too deep, or none on either
   abbrev OptionDeeper : Option Effect → Option Effect → Type 0
   OptionDeeper None None = Unit {0}
   OptionDeeper None (Some g) = ⊥
   OptionDeeper (Some f) None = ⊥
   OptionDeeper (Some f) (Some g) = AreDeeper f g
 
+  -- an option with either block before such choices makes such
   same_options : (o : Option Expr) (options : List (Option Expr)) (f g : Effect) → AreDeeper f g → (cs ds : List (Option Expr × Effect))
       → ChoicesDeeper cs ds → ChoicesDeeper (map (λ (option : Option Expr). (option, f)) options ++ cs)
       (map (λ (option : Option Expr). (option, g)) options ++ ds)
   same_options o [] f g h cs ds k = k
   same_options o (p ∷ options) f g h cs ds k = ((refl, h), same_options o options f g h cs ds k)
 
+  -- the blocks of `default` are the same unless too deep
   default_deeper : (cs ds : List (Option Expr × Effect)) → ChoicesDeeper cs ds → OptionDeeper (default_block cs) (default_block ds)
   default_deeper [] [] h = tt
   default_deeper [] (d ∷ ds) h = absurd h
@@ -225,12 +253,14 @@ module _ (site : Site) (bodies more : Bodies) (deep : BodiesDeeper bodies more) 
   default_deeper ((Some e, f) ∷ cs) ((None, g) ∷ ds) h = cc (h.0.0)
   default_deeper ((Some e, f) ∷ cs) ((Some d, g) ∷ ds) h = default_deeper cs ds h.1
 
+  -- so is what is chosen without an equal option
   chosen_deeper : (o p : Option Effect) → OptionDeeper o p → AreDeeper (chosen_block None o) (chosen_block None p)
   chosen_deeper None None h s = inl refl
   chosen_deeper None (Some g) h s = absurd h
   chosen_deeper (Some f) None h s = absurd h
   chosen_deeper (Some f) (Some g) h s = h s
 
+  -- so is what is chosen by the options
   found_deeper : (s : State) (at : ℕ) (x : Value) (cs ds : List (Option Expr × Effect)) → ChoicesDeeper cs ds → (o p : Option Effect)
       → OptionDeeper o p
       → Deeper (first_option s.scopes at x cs >>= λ found. chosen_block found o s)
@@ -251,6 +281,7 @@ module _ (site : Site) (bodies more : Bodies) (deep : BodiesDeeper bodies more) 
       tested (Ok false) rest = rest
       tested (Err e) rest = inl refl
 
+  -- so is a `case`
   selected_deeper : (e : Expr) (cs ds : List (Option Expr × Effect)) → ChoicesDeeper cs ds
       → AreDeeper (selected_block e cs) (selected_block e ds)
   selected_deeper e cs ds h s =
@@ -259,9 +290,11 @@ module _ (site : Site) (bodies more : Bodies) (deep : BodiesDeeper bodies more) 
 
 -- ---- every statement
 
+-- so whatever may be open, if it is so of the bodies
 abbrev AlwaysDeeper : Inner → Inner → Type 0
 AlwaysDeeper f g = (bodies more : Bodies) → BodiesDeeper bodies more → AreDeeper (f bodies) (g more)
 
+-- bodies that run alike do so one block further in
 within_deeper : (bodies more : Bodies) → BodiesDeeper bodies more → BodiesDeeper (within bodies) (within more)
 within_deeper bodies more deep k body =
     subst (λ n. MayDeeper (bodies.run n body) (more.run (more.left - 1 - k) body)) (one_less bodies.left k)
@@ -271,15 +304,19 @@ within_deeper bodies more deep k body =
     one_less n k = omega arith
 
 module _ (site : Site) where
+  -- a statement of which it is known
   abbrev KnownStmt : Type 0
   KnownStmt = (x : Stmt) × AlwaysDeeper (effect_in site x) (effect_in site x)
 
+  -- an arm of which it is known
   abbrev KnownArm : Type 0
   KnownArm = (a : Arm) × AlwaysDeeper (in_arm site a).1 (in_arm site a).1
 
+  -- an arm of a `case` of which it is known
   abbrev KnownCaseArm : Type 0
   KnownCaseArm = (a : CaseArm) × AlwaysDeeper (in_case_arm site a).1 (in_case_arm site a).1
 
+  -- a block is the same whatever may be open, unless too deep
   block_deeper : (xs : List KnownStmt) → AlwaysDeeper (block_by (map (effect_in site) (map (λ (x : KnownStmt). x.0) xs)))
       (block_by (map (effect_in site) (map (λ (x : KnownStmt). x.0) xs)))
   block_deeper [] bodies more deep s = inl refl
@@ -287,6 +324,7 @@ module _ (site : Site) where
       then_deeper (effect_in site x.0 bodies s) (effect_in site x.0 more s) _ _ (x.1 bodies more deep s) (block_deeper xs bodies more deep)
 
   module _ (bodies more : Bodies) (deep : BodiesDeeper bodies more) where
+    -- the arms of an `if` choose the same, unless too deep
     if_arms_deeper : (xs : List KnownArm) (other other' : Effect) → AreDeeper other other'
         → AreDeeper (first_true (map (arm_in bodies) (map (in_arm site) (map (λ (x : KnownArm). x.0) xs))) other)
         (first_true (map (arm_in more) (map (in_arm site) (map (λ (x : KnownArm). x.0) xs))) other')
@@ -295,6 +333,7 @@ module _ (site : Site) where
         on_deeper (test_of s.scopes (in_arm site x.0).0) _ _ (λ b.
         if_deeper b ((in_arm site x.0).1 bodies s) _ ((in_arm site x.0).1 more s) _ (x.1 bodies more deep s) (if_arms_deeper xs other other' h s))
 
+    -- those of a `case` are the same, unless too deep
     choices_deeper : (xs : List KnownCaseArm)
         → ChoicesDeeper site bodies more deep (flat_map options_of (map (case_arm_in bodies) (map (in_case_arm site) (map (λ (x : KnownCaseArm). x.0) xs))))
         (flat_map options_of (map (case_arm_in more) (map (in_case_arm site) (map (λ (x : KnownCaseArm). x.0) xs))))
@@ -302,9 +341,11 @@ module _ (site : Site) where
     choices_deeper (x ∷ xs) =
         same_options site bodies more deep None (in_case_arm site x.0).0 ((in_case_arm site x.0).1 bodies) ((in_case_arm site x.0).1 more) (x.1 bodies more deep) _ _ (choices_deeper xs)
 
+  -- the statement by itself, of which it is known what stands in it
   abbrev inner : Stmt-F KnownStmt KnownArm KnownCaseArm → Stmt-F Stmt Arm CaseArm
   inner y = map-Stmt KnownStmt KnownArm KnownCaseArm Stmt Arm CaseArm (λ x. x.0) (λ a. a.0) (λ c. c.0) y
 
+  -- a statement is the same, unless too deep, where what stands in it is
   layer_deeper : (y : Stmt-F KnownStmt KnownArm KnownCaseArm) → AlwaysDeeper (layer_of site (inner y)) (layer_of site (inner y))
   layer_deeper (plain.Chain at operands arrows) bodies more deep = chained_deeper site bodies more deep at operands arrows
   layer_deeper (plain.Assign at name value) bodies more deep = λ s. inl refl
@@ -319,9 +360,11 @@ module _ (site : Site) where
       let further = within_deeper bodies more deep in
       selected_deeper site (within bodies) (within more) further value _ _ (choices_deeper (within bodies) (within more) further arms)
 
+  -- so of one statement with less open and with more
   abbrev AloneDeeper : Inner → Type 0
   AloneDeeper f = AlwaysDeeper f f
 
+  -- each statement is the same whatever may be open, unless too deep
   effects_deeper : (x : Stmt) → AloneDeeper (effect_in site x)
   effects_deeper =
       ind-Stmt (λ x. AloneDeeper (effect_in site x)) (λ a. AloneDeeper (in_arm site a).1) (λ c. AloneDeeper (in_case_arm site c).1)
@@ -336,6 +379,7 @@ module _ (site : Site) where
       (rolled_case_arm site (map-CaseArm KnownStmt KnownArm KnownCaseArm Stmt Arm CaseArm (λ x. x.0) (λ a. a.0) (λ c. c.0) y)))
       (block_deeper y.body)))
 
+  -- a body for which there is room, or not, runs alike, unless too deep
   may_by : (n m left most depth : ℕ) → left ≤ most
       → ((j : ℕ) (body : List Stmt) → MayDeeper (runs_within n site (left - 1 - j) body) (runs_within m site (most - 1 - j) body))
       → (b : Bool) → nat_lt depth left ≡ b → (c : Bool) → nat_lt depth most ≡ c

@@ -22,18 +22,22 @@ meets_real r w = ap (λ (f : Wish-F Bool → Bool). fold-Wish Bool f w) (λ i. �
     by r (open_wish.Equal name x) = refl
     by r (open_wish.Differ name x) = refl
 
+-- nor does it matter to a search, or to none
 any_real : (r : Resource) (w : Option Wish) → meets_any (record r { is_virtual = false }) w ≡ meets_any r w
 any_real r None = refl
 any_real r (Some w) = meets_real r w
 
+-- and of all collectors
 some_real : (r : Resource) (collectors : List Collector)
     → list_any (λ c. matches c (record r { is_virtual = false })) collectors ≡ list_any (λ c. matches c r) collectors
 some_real r [] = refl
 some_real r (c ∷ collectors) = λ i. (not (is_class r) && bytes_eq r.id.kind c.kind && any_real r c.wish i) || some_real r collectors i
 
+-- whether a resource is called for doesn't depend on whether it is virtual
 called_real : (s : State) (r : Resource) → is_called_for s (record r { is_virtual = false }) ≡ is_called_for s r
 called_real s r = ap (λ (b : Bool). b || list_any (λ p. same_ref p.target r.id) s.pending) (some_real r s.collectors)
 
+-- a resource that was made real stays as it is
 real_again : (s : State) (r : Resource) → made_real (realized s) (made_real s r) ≡ made_real s r
 real_again s r = again (is_called_for s r) refl
   where
@@ -42,6 +46,7 @@ real_again s r = again (is_called_for s r) refl
     again true e = ap (λ (w : Bool). cond w (record r { is_virtual = false }) (record r { is_virtual = false })) (called_real s r ∙ e)
     again false e = ap (λ (w : Bool). cond w (record r { is_virtual = false }) r) e
 
+-- and so do all
 all_again : (s : State) (resources : List Resource)
     → map (made_real (realized s)) (map (made_real s) resources) ≡ map (made_real s) resources
 all_again s [] = refl

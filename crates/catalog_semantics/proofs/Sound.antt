@@ -36,17 +36,21 @@ pub record SoundState (s : State) : Type 0 where
   pub resources : AreSound s.resources
   pub defaults : SoundDefaults s.defaults
 
+-- where the one is sound, so is the other
 abbrev StaySound : State → State → Type 0
 StaySound s t = SoundState s → SoundState t
 
+-- what holds of some and of one more holds of all
 each_more : {A : Type 0} (P : A → Type 0) (xs : List A) (y : A) → AllByRecursion P xs → P y → AllByRecursion P (xs ++ y ∷ [])
 each_more P [] y h k = (k, tt)
 each_more P (x ∷ xs) y h k = (h.0, each_more P xs y h.1 k)
 
+-- one of two lists of clean attributes is clean
 if_clean : (b : Bool) (xs ys : List Pair) → AreClean xs → AreClean ys → AreClean (cond b xs ys)
 if_clean true xs ys h k = h
 if_clean false xs ys h k = k
 
+-- the defaults of a type are clean
 defaults_clean : (kind : List ℕ) (defaults : List Default) → AllByRecursion (λ (d : Default). AreClean d.attributes) defaults
     → AreClean (defaults_of kind defaults)
 defaults_clean kind [] h = tt
@@ -54,15 +58,18 @@ defaults_clean kind (d ∷ defaults) h =
     if_clean (bytes_eq d.kind kind) _ _ (both_clean d.attributes (defaults_of kind defaults) h.0 (defaults_clean kind defaults h.1))
     (defaults_clean kind defaults h.1)
 
+-- clean attributes of which some are left out are clean
 filter_clean : (test : Pair → Bool) (xs : List Pair) → AreClean xs → AreClean (filter test xs)
 filter_clean test [] h = tt
 filter_clean test (x ∷ xs) h =
     if_clean (test x) (x ∷ filter test xs) (filter test xs) (h.0, filter_clean test xs h.1) (filter_clean test xs h.1)
 
+-- one of two sound resources is sound
 if_sound : (b : Bool) (x y : Resource) → IsSound x → IsSound y → IsSound (cond b x y)
 if_sound true x y h k = h
 if_sound false x y h k = k
 
+-- a resource with its defaults is sound
 filled_sound : (defaults : List Default) (r : Resource) → SoundDefaults defaults → IsSound r → IsSound (filled defaults r)
 filled_sound defaults r d h =
     if_sound (is_class r) r _ h (
@@ -75,6 +82,7 @@ filled_sound defaults r d h =
 
 -- ---- one more default
 
+-- one more default goes behind those of its type
 behind : (kind : List ℕ) (defaults : List Default) (d : Default) → defaults_of kind (defaults ++ d ∷ []) ≡ defaults_of kind defaults ++ cond (bytes_eq d.kind kind) d.attributes []
 behind kind [] d = by_test (bytes_eq d.kind kind)
   where
@@ -88,6 +96,7 @@ behind kind (e ∷ defaults) d = by_test (bytes_eq e.kind kind) (behind kind def
     by_test true h = ap (λ (ps : List Pair). e.attributes ++ ps) h ∙ sym (append_assoc e.attributes (defaults_of kind defaults) (cond (bytes_eq d.kind kind) d.attributes []))
     by_test false h = h
 
+-- defaults with one more have distinct names for each type, where the new ones are new
 named_more : (kind : List ℕ) (attributes : List Pair) (defaults : List Default) → ((k : List ℕ) → HasDistinctKeys (defaults_of k defaults)) → AreDistinct (names_of (defaults_of kind defaults)) attributes
     → (k : List ℕ) → HasDistinctKeys (defaults_of k (defaults ++ record { kind = kind; attributes = attributes } ∷ []))
 named_more kind attributes defaults named fit k =
@@ -99,6 +108,7 @@ named_more kind attributes defaults named fit k =
         distinct_behind (defaults_of k defaults) attributes (named k) (subst (λ (w : List ℕ). AreDistinct (names_of (defaults_of w defaults)) attributes) same fit)
     by_test false e = subst HasDistinctKeys (sym (append-nil (defaults_of k defaults))) (named k)
 
+-- a resource that is added keeps all sound
 adds_sound : (r : Resource) → IsSound r → Keeps StaySound (added r)
 adds_sound r sound s = step_each (StaySound s) (is_new r s) _ (λ new. step_each (StaySound s) (has_room r s) _ (λ room.
     step_each (StaySound s) (within_size r.at (s.resources ++ as_added s r ∷ [])) _ (λ fits h. record {
@@ -108,6 +118,7 @@ adds_sound r sound s = step_each (StaySound s) (is_new r s) _ (λ new. step_each
       defaults = h.defaults;
     })))
 
+-- so do defaults that take hold
 fills_sound : (defaults : List Default) (done resources : List Resource) → SoundDefaults defaults
     → AreSound done → AreSound resources → Each AreSound (filled_behind defaults done resources)
 fills_sound defaults done [] d h k = h
@@ -116,14 +127,17 @@ fills_sound defaults done (r ∷ resources) d h k =
     fills_sound defaults (done ++ filled defaults r ∷ []) resources d
     (each_more IsSound done (filled defaults r) h (filled_sound defaults r d k.0)) k.1)
 
+-- what is so under a condition is given under it
 under : {X : Type 0} (Q : X → Type 0) (A : Type 0) (x : Result X Refusal) → (A → Each Q x) → Each (λ t. A → Q t) x
 under Q A (Ok t) h = h
 under Q A (Err e) h = tt
 
+-- resources that are made real stay sound
 real_sound : (s : State) (resources : List Resource) → AreSound resources → AreSound (map (made_real s) resources)
 real_sound s [] h = tt
 real_sound s (r ∷ resources) h = (if_sound (is_called_for s r) (record r { is_virtual = false }) r h.0 h.0, real_sound s resources h.1)
 
+-- the main code and the rounds keep all sound
 whole_sound : IsWholeFrame StaySound
 whole_sound = record {
   main = record {
@@ -159,14 +173,17 @@ whole_sound = record {
   marks = λ place s h. record { resources = h.resources; defaults = h.defaults };
 }
 
+-- the resources of the catalog are sound
 abbrev CatalogSound : Catalog → Type 0
 CatalogSound c = AreSound c.resources
 
+-- a sound state gives a sound catalog
 ends_sound : (t : State) → SoundState t → Each CatalogSound (all_there t.pending t >>= λ there. few_enough t >>= λ u. Ok (catalog_in u))
 ends_sound t h = step_each CatalogSound (all_there t.pending t) _ (λ there.
     then_each (λ (u : State). u ≡ t) CatalogSound (few_enough t) _ (few_is t)
     (λ u e. subst (λ (w : State). AreSound w.resources) (sym e) h.resources))
 
+-- the resources of a manifest's catalog are sound
 pub catalog_sound : (m : Manifest) (facts : Value) (node_name : List ℕ) (data_levels : List Level) (limits : Limits) (c : Catalog)
     → catalog_of m facts node_name data_levels limits ≡ Ok c → AreSound c.resources
 catalog_sound m facts node_name data_levels limits c h =

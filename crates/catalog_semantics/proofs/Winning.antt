@@ -12,15 +12,18 @@ use Rattle.catalog_semantics.specs.declared.catalog.Resource.{Resource}
 use Rattle.catalog_semantics.specs.States.{Default, stands_in, defaults_of, lacks, is_class, filled}
 use Rattle.catalog_semantics.specs.Frames.{AreNewBehind, StandOnce}
 
+-- what is found first or further on is found, where it is found further on
 if_first : (b : Bool) (a c d : Option Value) (x : Value) → (c ≡ Some x → d ≡ Some x) → cond b a c ≡ Some x → cond b a d ≡ Some x
 if_first true a c d x h e = e
 if_first false a c d x h e = h e
 
+-- what a name has it keeps when pairs go behind
 stays_first : (name : List ℕ) (x : Value) (pairs more : List Pair) → value_at name pairs ≡ Some x → value_at name (pairs ++ more) ≡ Some x
 stays_first name x [] more h = cc
 stays_first name x (p ∷ pairs) more h =
     if_first (bytes_eq p.0 name) (Some p.1) (value_at name pairs) (value_at name (pairs ++ more)) x (stays_first name x pairs more) h
 
+-- a resource's own attribute counts before a default
 pub attribute_wins : (defaults : List Default) (r : Resource) (name : List ℕ) (x : Value) → value_at name r.attrs ≡ Some x
     → value_at name (filled defaults r).attrs ≡ Some x
 attribute_wins defaults r name x h = either (is_class r)
@@ -37,6 +40,7 @@ attribute_wins defaults r name x h = either (is_class r)
 
 -- ---- places
 
+-- a reference is told to be the same as itself
 same_self : (r : Ref) → same_ref r r ≡ true
 same_self r = both (bytes_eq r.kind r.kind) (bytes_eq r.title r.title) (text_self r.kind) (text_self r.title)
   where
@@ -47,17 +51,21 @@ same_self r = both (bytes_eq r.kind r.kind) (bytes_eq r.title r.title) (text_sel
     text_self : (xs : List ℕ) → bytes_eq xs xs ≡ true
     text_self xs = (bytes_eq-Decides xs xs).1 refl
 
+-- a disjunction holds where its first side does
 or_holds : (a b : Bool) → a ≡ true → (a || b) ≡ true
 or_holds true b h = refl
 or_holds false b h = cc
 
+-- and where its second does
 or_behind : (a b : Bool) → b ≡ true → (a || b) ≡ true
 or_behind true b h = refl
 or_behind false b h = h
 
+-- references that are equal as found are equal
 is_same : (q r : Ref) → ◌≡◌ {A = Option Ref} (Some q) (Some r) → q ≡ r
 is_same q r h = cc
 
+-- what stands before a place stands among those before it
 stands_at : (refs : List Ref) (i j : ℕ) (r : Ref) → i < j → slice_get refs i ≡ Some r → stands_in r (take j refs) ≡ true
 stands_at refs i zero r h is = absurd (omega arith)
 stands_at [] i (suc j) r h is = cc
@@ -65,6 +73,7 @@ stands_at (q ∷ refs) zero (suc j) r h is =
     or_holds (same_ref q r) _ (subst (λ (w : Ref). same_ref q w ≡ true) (is_same q r is) (same_self q))
 stands_at (q ∷ refs) (suc i) (suc j) r h is = or_behind (same_ref q r) _ (stands_at refs i j r (omega arith) is)
 
+-- where references stand once, none stands among those before it
 new_there : (before refs : List Ref) (j : ℕ) (r : Ref) → AreNewBehind before refs → slice_get refs j ≡ Some r
     → stands_in r (before ++ take j refs) ≡ false
 new_there before [] j r h is = cc
@@ -75,9 +84,11 @@ new_there before (q ∷ refs) (suc j) r h is =
     subst (λ (w : List Ref). stands_in r w ≡ false) (append_assoc before (q ∷ []) (take j refs))
     (new_there (before ++ q ∷ []) refs j r h.1 is)
 
+-- so none stands at an earlier place too
 not_before : (refs : List Ref) (i j : ℕ) (r : Ref) → StandOnce refs → slice_get refs i ≡ Some r → slice_get refs j ≡ Some r → i < j → ⊥
 not_before refs i j r h a b less = let yes_there = stands_at refs i j r less a in let not_there = new_there [] refs j r h b in cc
 
+-- where references stand once, each has one place
 pub one_place : (refs : List Ref) (i j : ℕ) (r : Ref) → StandOnce refs → slice_get refs i ≡ Some r → slice_get refs j ≡ Some r → i ≡ j
 one_place refs i j r h a b =
     ⊎_elim (λ less. absurd (not_before refs i j r h a b less))

@@ -16,10 +16,12 @@ use Rattle.pp_value.specs.declared.value.Value.TheVariants as v
 use Rattle.pp_value.specs.Values.{Keys}
 use Rattle.catalog_text.specs.Json.{data_of, data_row, data_keyed}
 
+-- a whole number has no fraction
 whole : (n : ℤ) → has_float (number (of_integer n)) ≡ false
 whole (pos n) = refl
 whole (negsuc n) = refl
 
+-- one more member without a fraction leaves the object without
 none_put : (k : List ℕ) (d : Data) (ms : Members) → has_float d ≡ false → members_have_float ms ≡ false → members_have_float (put k d ms) ≡ false
 none_put k d no_members h none = ap (λ b. b || false) h
 none_put k d (member l e ms) h none = at (slice_cmp nat_cmp k l) (left (has_float e) (members_have_float ms) none) (none_put k d ms h (right (has_float e) (members_have_float ms) none))
@@ -39,6 +41,7 @@ none_put k d (member l e ms) h none = at (slice_cmp nat_cmp k l) (left (has_floa
     at Greater this later = ap₂ (λ a b. a || b) this later
 
 mutual
+  -- a value has no number with a fraction
   pub no_float : (x : Value) → has_float (data_of x) ≡ false
   no_float v.Undef = refl
   no_float (v.Bool b) = refl
@@ -49,15 +52,18 @@ mutual
   no_float (v.Refer r) = refl
   no_float v.Opaque = refl
 
+  -- nor has a list of values
   row_without : {m : _} (row : Row_of-Value m) → items_have_float (data_row row) ≡ false
   row_without end_of-Value = refl
   row_without (more_of-Value x row) = ap₂ (λ a b. a || b) (no_float x) (row_without row)
 
+  -- nor has a map, behind members that have none
   keyed_without : {m : _} (so_far : Members) (keys : Keys) (row : Row_of-Value m) → members_have_float so_far ≡ false → members_have_float (data_keyed so_far keys row) ≡ false
   keyed_without so_far [] row none = none
   keyed_without so_far (k ∷ keys) end_of-Value none = none
   keyed_without so_far (k ∷ keys) (more_of-Value x row) none = keyed_without (put k.0 (data_of x) so_far) keys row (none_put k.0 (data_of x) so_far (no_float x) none)
 
+-- a member that is stored is put among those that are meant
 pub put_among : (es new : List Entry) (k : String Global) (x : stored.Value) (key : List ℕ) → new ≡ insert_entry string_cmp es k x → string_bytes k ≡ key
     → members_view new ≡ put key (view x) (members_view es)
 put_among es new k x key e key_is = ap members_view e ∙ members_view-insert_entry es k x ∙ ap (λ l. put l (view x) (members_view es)) key_is

@@ -14,24 +14,29 @@ use Rattle.pp_value.specs.Values.{Pair, value_at, HasDistinctKeys}
 use Rattle.compiled_text.specs.declared.catalog.CompiledResource.{CompiledResource}
 use Rattle.compiled_attributes.specs.Attributes.{byte_cmp, reading_of, value_read, added_to, with_attribute, with_all, with_added, attributes_of, added_value, attribute_of}
 
+-- names that are told to be equal are
 same : (a b : List ℕ) → bytes_eq a b ≡ true → a ≡ b
 same a b h = (bytes_eq-Decides a b).0 h
 
+-- and equal names are told to be
 is_same : (a b : List ℕ) → a ≡ b → bytes_eq a b ≡ true
 is_same a b h = (bytes_eq-Decides a b).1 h
 
 -- ---- one more attribute
 
+-- of two values of one name the first counts
 twice : (s : Bool) (x y : Value) (rest : Option Value) → cond s (Some x) rest ≡ cond s (Some x) (cond s (Some y) rest)
 twice true x y rest = refl
 twice false x y rest = refl
 
+-- values of two names are found alike in either order
 apart : (s u : Bool) (x y : Value) (rest : Option Value) → (s ≡ true → u ≡ true → ⊥) → cond s (Some y) (cond u (Some x) rest) ≡ cond u (Some x) (cond s (Some y) rest)
 apart true true x y rest h = absurd (h refl refl)
 apart true false x y rest h = refl
 apart false true x y rest h = refl
 apart false false x y rest h = refl
 
+-- an attribute that is put in order is found, and others as before, where it is so further on
 got_at : (o : Ordering) (k : List ℕ) (v : Value) (e : Pair) (es : List Pair) (name : List ℕ) → byte_cmp k e.0 ≡ o
     → value_at name (insert_entry byte_cmp es k v) ≡ cond (bytes_eq k name) (Some v) (value_at name es)
     → value_at name (match_ordering o ((k, v) ∷ e ∷ es) ((e.0, v) ∷ es) (e ∷ insert_entry byte_cmp es k v)) ≡ cond (bytes_eq k name) (Some v) (value_at name (e ∷ es))
@@ -44,12 +49,14 @@ got_at Greater k v e es name h later =
     ∙ apart (bytes_eq e.0 name) (bytes_eq k name) v e.1 (value_at name es)
     (λ first second. true≢false (sym (is_same k e.0 (same k name second ∙ sym (same e.0 name first))) ∙ (sym (is_eq-slice_cmp k e.0) ∙ ap is_eq h)))
 
+-- an attribute that is put in order is found, and others as before
 got : (k : List ℕ) (v : Value) (es : List Pair) (name : List ℕ) → value_at name (insert_entry byte_cmp es k v) ≡ cond (bytes_eq k name) (Some v) (value_at name es)
 got k v [] name = refl
 got k v (e ∷ es) name = got_at (byte_cmp k e.0) k v e es name refl (got k v es name)
 
 -- ---- all of the text
 
+-- nothing behind something changes it
 or_none : (o : Option Value) → option_or o None ≡ o
 or_none None = refl
 or_none (Some x) = refl
@@ -64,9 +71,11 @@ unnamed : (o : Option Value) (k : List ℕ) (es : List Pair) (name : List ℕ) �
 unnamed None k es name h = refl
 unnamed (Some x) k es name h = got k x es name ∙ ap (λ t. cond t (Some x) (value_at name es)) h
 
+-- what becomes of an attribute
 abbrev Becomes : Type 0
 Becomes = List ℕ → Value → Option Value
 
+-- what becomes of the first attribute is found under its name, and others as before
 read_at : (t : Bool) (becomes : Becomes) (p : Pair) (ps es : List Pair) (name : List ℕ) → bytes_eq p.0 name ≡ t → value_at p.0 ps ≡ None
     → option_or (option_and_then (becomes name) (value_at name ps)) (value_at name (with_attribute es p.0 (becomes p.0 p.1)))
     ≡ option_or (option_and_then (becomes name) (cond t (Some p.1) (value_at name ps))) (value_at name es)
@@ -77,6 +86,7 @@ read_at true becomes p ps es name h free =
 read_at false becomes p ps es name h free =
     ap (λ r. option_or (option_and_then (becomes name) (value_at name ps)) r) (unnamed (becomes p.0 p.1) p.0 es name h)
 
+-- what becomes of each attribute is found under its name
 all_read : (becomes : Becomes) (ps es : List Pair) (name : List ℕ) → HasDistinctKeys ps
     → value_at name (with_all becomes es ps) ≡ option_or (option_and_then (becomes name) (value_at name ps)) (value_at name es)
 all_read becomes [] es name h = refl
@@ -85,6 +95,7 @@ all_read becomes (p ∷ ps) es name h =
 
 -- ---- and what is added
 
+-- an attribute that is added is found under its name
 one_added : (o : Option Pair) (es : List Pair) (name : List ℕ) → value_at name (with_added es o) ≡ option_or (added_value name o) (value_at name es)
 one_added None es name = refl
 one_added (Some p) es name = got p.0 p.1 es name ∙ at (bytes_eq p.0 name)
@@ -93,6 +104,7 @@ one_added (Some p) es name = got p.0 p.1 es name ∙ at (bytes_eq p.0 name)
     at true = refl
     at false = refl
 
+-- each attribute of a resource is what it is by its name
 pub each : (resources : List CompiledResource) (r : CompiledResource) → HasDistinctKeys r.parameters → (name : List ℕ) → value_at name (attributes_of resources r) ≡ attribute_of resources r name
 each resources r h name =
     let becomes = value_read (reading_of r) r.parameters in

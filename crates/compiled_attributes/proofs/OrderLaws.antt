@@ -11,6 +11,7 @@ use Rattle.pp_value.specs.Keys.{value_at, with_pair, with_pairs, HasDistinctKeys
 use Rattle.compiled_attributes.specs.Attributes.{byte_cmp}
 
 module _ {X : Type 0} where
+  -- a key below all of these isn't among them
   none_below : (k : List ℕ) (es : List (List ℕ × X)) → AllByRecursion (λ y. byte_cmp k y ≡ Less) (keys_of es) → value_at k es ≡ None
   none_below k [] h = refl
   none_below k (e ∷ es) h = ap (λ t. cond t (Some e.1) (value_at k es)) (at (bytes_eq e.0 k) refl) ∙ none_below k es h.1

@@ -14,15 +14,19 @@ use Rattle.compiled_attributes.specs.Places.{places_where, places_in, HoldsFragm
 
 -- ---- numbers in order
 
+-- a greater number compares as greater
 above : (p n : ℕ) → n < p → nat_cmp p n ≡ Greater
 above p n h = sym (nat_cmp_is p n Greater h)
 
+-- a lesser one as less
 below : (n p : ℕ) → n < p → nat_cmp n p ≡ Less
 below n p h = sym (nat_cmp_is n p Less h)
 
+-- and a number as equal to itself
 level : (n : ℕ) → nat_cmp n n ≡ Equal
 level n = sym (nat_cmp_is n n Equal refl)
 
+-- each place is above this one
 abbrev AreAbove : ℕ → List ℕ → Type 0
 AreAbove n ps = AllByRecursion (λ p. n < p) ps
 
@@ -37,10 +41,12 @@ put_first : (n : ℕ) (ps : List ℕ) → AreAbove n ps → insert_key nat_cmp p
 put_first n [] h = refl
 put_first n (p ∷ ps) h = ap (λ o. match_ordering o (n ∷ p ∷ ps) (p ∷ ps) (p ∷ insert_key nat_cmp ps n)) (below n p h.0)
 
+-- with one more that is above, or without, all are above
 at_above : (n m : ℕ) (ps : List ℕ) (t : Bool) → n < m → AreAbove n ps → AreAbove n (cond t (m ∷ ps) ps)
 at_above n m ps true h later = (h, later)
 at_above n m ps false h later = later
 
+-- a place of either is put once ahead of those of both
 next_both : (n : ℕ) (ps qs both : List ℕ) (a b : Bool) → AreAbove n ps → AreAbove n qs → with_places ps qs ≡ both
     → with_places (cond a (n ∷ ps) ps) (cond b (n ∷ qs) qs) ≡ cond (a || b) (n ∷ both) both
 next_both n ps qs both true true h k later =
@@ -52,6 +58,7 @@ next_both n ps qs both false false h k later = later
 module _ {X : Type 0} where
   -- ---- places
 
+  -- the places of what passes, counted from further on, are above
   are_above : (test : X → Bool) (n m : ℕ) (rs : List X) → n < m → AreAbove n (places_where test m rs)
   are_above test n m [] h = tt
   are_above test n m (r ∷ rs) h = at_above n m (places_where test (m + 1) rs) (test r) h (are_above test n (m + 1) rs (omega arith))
@@ -63,30 +70,36 @@ module _ {X : Type 0} where
       next_both n (places_where f (n + 1) rs) (places_where g (n + 1) rs) (places_where (λ q. f q || g q) (n + 1) rs) (f r) (g r)
       (are_above f n (n + 1) rs (omega arith)) (are_above g n (n + 1) rs (omega arith)) (both_places f g (n + 1) rs)
 
+  -- where nothing passes there are no places
   nowhere : (n : ℕ) (rs : List X) → places_where (λ r. false) n rs ≡ []
   nowhere n [] = refl
   nowhere n (r ∷ rs) = nowhere (n + 1) rs
 
+  -- places in order, put one after the other, are the same
   put_alone : (f : X → Bool) (n : ℕ) (rs : List X) → with_places [] (places_where f n rs) ≡ places_where f n rs
   put_alone f n rs = ap (λ l. with_places l (places_where f n rs)) (sym (nowhere n rs)) ∙ both_places (λ r. false) f n rs
 
+  -- those of two tests, put together, are the places of what passes either
   put_both : (f g : X → Bool) (n : ℕ) (rs : List X) → with_places (with_places [] (places_where f n rs)) (places_where g n rs) ≡ places_where (λ r. f r || g r) n rs
   put_both f g n rs = ap (λ l. with_places l (places_where g n rs)) (put_alone f n rs) ∙ both_places f g n rs
 
   -- ---- what stands at a place
 
+  -- the first that is left stands at this place
   pub stands : (all : List X) (n : ℕ) (r : X) (rs : List X) → drop n all ≡ r ∷ rs → slice_get all n ≡ Some r
   stands [] zero r rs h = cc
   stands [] (suc n) r rs h = cc
   stands (x ∷ all) zero r rs h = let same : x ≡ r = cc in ap (λ y. Some y) same
   stands (x ∷ all) (suc n) r rs h = stands all n r rs h
 
+  -- and the others are left behind it
   pub behind_it : (all : List X) (n : ℕ) (r : X) (rs : List X) → drop n all ≡ r ∷ rs → drop (suc n) all ≡ rs
   behind_it [] zero r rs h = cc
   behind_it [] (suc n) r rs h = cc
   behind_it (x ∷ all) zero r rs h = cc
   behind_it (x ∷ all) (suc n) r rs h = behind_it all n r rs h
 
+  -- at one more place stands one more
   next_read : (t : Bool) (all : List X) (n : ℕ) (r : X) (ps : List ℕ) (found : List X) → slice_get all n ≡ Some r → at_places all ps ≡ found
       → at_places all (cond t (n ∷ ps) ps) ≡ cond t (r ∷ found) found
   next_read true all n r ps found here later = ap₂ if_there here later
@@ -99,6 +112,7 @@ module _ {X : Type 0} where
       next_read (test r) all n r (places_where test (n + 1) rs) (filter test rs) (stands all n r rs h)
       (read_back test all (n + 1) rs (ap (λ m. drop m all) (add-one n) ∙ behind_it all n r rs h))
 
+  -- one that is there, with others behind it, is ahead of them
   there : (o : Option X) (rs : List X) → if_there o [] ++ rs ≡ if_there o rs
   there None rs = refl
   there (Some r) rs = refl

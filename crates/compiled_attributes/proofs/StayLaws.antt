@@ -21,18 +21,22 @@ use Rattle.compiled_attributes.proofs.AttributeLaws.{each}
 
 -- ---- tests
 
+-- where a disjunction is false both sides are
 neither : (a b : Bool) → (a || b) ≡ false → (a ≡ false) × (b ≡ false)
 neither true b h = absurd (true≢false h)
 neither false b h = (refl, h)
 
+-- a choice of which the test fails is its second side
 skip : {X : Type 0} (t : Bool) (x y : X) → t ≡ false → cond t x y ≡ y
 skip true x y h = absurd (true≢false h)
 skip false x y h = refl
 
+-- so is one of which the first of two tests fails
 skip_both : {X : Type 0} (s t : Bool) (x y : X) → s ≡ false → cond (s && t) x y ≡ y
 skip_both true t x y h = absurd (true≢false h)
 skip_both false t x y h = refl
 
+-- names that differ do so the other way round
 other : (a b : List ℕ) → bytes_eq a b ≡ false → bytes_eq b a ≡ false
 other a b h = at (bytes_eq b a) refl
   where
@@ -55,6 +59,7 @@ record IsUnlisted (name : List ℕ) : Type 0 where
   source : bytes_eq name (codes "source") ≡ false
   target : bytes_eq name (codes "target") ≡ false
 
+-- a name that is none of the rows differs from each
 unlisted : (name : List ℕ) → is_one_of file_rows name ≡ false → IsUnlisted name
 unlisted name h =
     let a = neither _ _ h in
@@ -69,6 +74,7 @@ unlisted name h =
     let k = neither _ _ j.1 in
     record { recurse = a.0; purge = b.0; force = c.0; replace = d.0; ignore = e.0; checksum = f.0; selinux = g.0; ensure = i.0; source = j.0; target = k.0 }
 
+-- it isn't left out of a file
 not_left_out : (f : List Pair) (name : List ℕ) → IsUnlisted name → left_out_of_file f name ≡ false
 not_left_out f name u =
     skip (bytes_eq name (codes "recurse")) (is_idle_recursion f) _ u.recurse
@@ -78,14 +84,17 @@ not_left_out f name u =
     ∙ (skip (bytes_eq name (codes "ignore")) (not (gives (codes "recurse") f)) _ u.ignore
     ∙ ap₂ (λ a b. a || (b || false)) u.checksum u.selinux))))
 
+-- and its value stays
 same_value : (f : List Pair) (name : List ℕ) (x : Value) → IsUnlisted name → file_value f name x ≡ x
 same_value f name x u =
     skip_both (bytes_eq name (codes "ensure")) (is_short_link f) _ _ u.ensure
     ∙ skip_both (bytes_eq name (codes "source")) (are_addresses x) _ x u.source
 
+-- so a file has it as it is
 file_stays : (f : List Pair) (name : List ℕ) (x : Value) → IsUnlisted name → typed_value (Some kind.File) f name x ≡ Some x
 file_stays f name x u = skip (left_out_of_file f name) None (Some (file_value f name x)) (not_left_out f name u) ∙ ap (λ y. Some y) (same_value f name x u)
 
+-- so has a resource of each type
 stays_typed : (k : Option Kind) (f : List Pair) (name : List ℕ) (x : Value) → IsUnlisted name → typed_value k f name x ≡ Some x
 stays_typed None f name x u = refl
 stays_typed (Some kind.File) f name x u = file_stays f name x u
@@ -96,6 +105,7 @@ stays_typed (Some kind.Service) f name x u = refl
 stays_typed (Some kind.Cron) f name x u = refl
 stays_typed (Some kind.Key) f name x u = refl
 
+-- and a native one, where it is told and not left out of all types
 stays_native : (k : Option Kind) (f : List Pair) (name : List ℕ) (x : Value) → IsUnlisted name → left_out_of_all name x ≡ false → has_opaque x ≡ false → native_value k f name x ≡ Some x
 stays_native k f name x u kept told =
     skip (left_out_of_all name x) None _ kept ∙ (skip_both (has_opaque x) (not (has_to_be_known k name)) None _ told ∙ stays_typed k f name x u)
@@ -106,6 +116,7 @@ target_only true name None h = refl
 target_only true name (Some x) h = ap (λ t. cond t (Some x) None) h
 target_only false name o h = refl
 
+-- nothing is added under such a name
 nothing_added : (resources : List CompiledResource) (r : CompiledResource) (k : Option Kind) (name : List ℕ) → IsUnlisted name → added_value name (added_to resources r (reading.Native k)) ≡ None
 nothing_added resources r None name u = refl
 nothing_added resources r (Some kind.File) name u = target_only (is_short_link r.parameters) name (value_at (codes "ensure") r.parameters) (other name (codes "target") u.target)
@@ -118,6 +129,7 @@ nothing_added resources r (Some kind.Key) name u = refl
 
 -- ---- as what it is read
 
+-- a resource that is itself is read as a native one
 read_natively : (r : CompiledResource) → IsItself r → reading_of r ≡ reading.Native (kind_of r.id.kind)
 read_natively r h =
     skip r.is_container reading.Container (cond (is_concat_file r) reading.Concat (reading.Native (kind_of r.id.kind))) h.native
@@ -127,6 +139,7 @@ read_natively r h =
 abbrev ReadSo : List CompiledResource → CompiledResource → List ℕ → Reading → Option Value
 ReadSo resources r name how = option_or (added_value name (added_to resources r how)) (option_and_then (value_read how r.parameters name) (value_at name r.parameters))
 
+-- an attribute of which no row tells stays as it is
 pub stays : (resources : List CompiledResource) (r : CompiledResource) → IsItself r → HasDistinctKeys r.parameters → (name : List ℕ) (x : Value) → IsPlain r name x → value_at name (attributes_of resources r) ≡ Some x
 stays resources r itself distinct name x plain =
     let k = kind_of r.id.kind in
@@ -138,19 +151,23 @@ stays resources r itself distinct name x plain =
 
 -- ---- what can't be told
 
+-- nothing isn't something
 no_value : {X : Type 0} (x : X) → None ≡ Some x → ⊥
 no_value x h = cc
 
+-- an opaque value that is kept has to be known
 told_at : (left o m : Bool) (y x : Value) → (y ≡ x → o ≡ true) → cond left None (cond (o && not (m || false)) None (Some y)) ≡ Some x → m ≡ true
 told_at true o m y x h is = absurd (no_value x is)
 told_at false true true y x h is = refl
 told_at false true false y x h is = absurd (no_value x is)
 told_at false false m y x h is = let same : y ≡ x = cc in absurd (true≢false (sym (h same)))
 
+-- of a type without a model it is that of a relation
 told_in : (v : Option Value) (ps : List Pair) (name : List ℕ) (x : Value) → has_opaque x ≡ true → option_and_then (native_value None ps name) v ≡ Some x → is_metaparameter name ≡ true
 told_in None ps name x h is = absurd (no_value x is)
 told_in (Some y) ps name x h is = told_at (left_out_of_all name y) (has_opaque y) (is_metaparameter name) y x (λ same. ap has_opaque same ∙ h) is
 
+-- a resource without a model has opaque values in its relations alone
 pub only_relations : (resources : List CompiledResource) (r : CompiledResource) → IsItself r → kind_of r.id.kind ≡ None → HasDistinctKeys r.parameters → (name : List ℕ) (x : Value)
     → value_at name (attributes_of resources r) ≡ Some x → has_opaque x ≡ true → is_metaparameter name ≡ true
 only_relations resources r itself unmodelled distinct name x is h =

@@ -8,27 +8,33 @@ use Rattle.compiled_text.specs.declared.catalog.CompiledResource.{CompiledResour
 use Rattle.compiled_attributes.specs.Fragments.{target_of, is_target, is_for}
 use Rattle.compiled_attributes.specs.Places.{places_where, or_none, places_in, if_target}
 
+-- targets, each with its places
 abbrev Table : Type 0
 Table = List (List ℕ × List ℕ)
 
+-- targets that are told to be equal are
 same : (a b : List ℕ) → bytes_eq a b ≡ true → a ≡ b
 same a b h = (bytes_eq-Decides a b).0 h
 
+-- and equal targets are told to be
 is_same : (a b : List ℕ) → a ≡ b → bytes_eq a b ≡ true
 is_same a b h = (bytes_eq-Decides a b).1 h
 
 -- ---- one more entry
 
+-- of two rows of one target the first counts
 twice : (s : Bool) (v w : List ℕ) (rest : Option (List ℕ)) → cond s (Some v) rest ≡ cond s (Some v) (cond s (Some w) rest)
 twice true v w rest = refl
 twice false v w rest = refl
 
+-- rows of two targets are found alike in either order
 apart : (s u : Bool) (v w : List ℕ) (rest : Option (List ℕ)) → (s ≡ true → u ≡ true → ⊥) → cond s (Some w) (cond u (Some v) rest) ≡ cond u (Some v) (cond s (Some w) rest)
 apart true true v w rest h = absurd (h refl refl)
 apart true false v w rest h = refl
 apart false true v w rest h = refl
 apart false false v w rest h = refl
 
+-- a row that is put is found, and others as before, where it is so further on
 got_at : (t : Bool) (x k v : List ℕ) (e : List ℕ × List ℕ) (es : Table) → bytes_eq k e.0 ≡ t
     → lookup (bytes_eq x) (insert_entry bytes_eq es k v) ≡ cond (bytes_eq x k) (Some v) (lookup (bytes_eq x) es)
     → lookup (bytes_eq x) (cond t ((e.0, v) ∷ es) (e ∷ insert_entry bytes_eq es k v)) ≡ cond (bytes_eq x k) (Some v) (cond (bytes_eq x e.0) (Some e.1) (lookup (bytes_eq x) es))
@@ -41,17 +47,20 @@ got_at false x k v e es h later =
     ∙ apart (bytes_eq x e.0) (bytes_eq x k) v e.1 (lookup (bytes_eq x) es)
     (λ first second. true≢false (sym (is_same k e.0 (sym (same x k second) ∙ same x e.0 first)) ∙ h))
 
+-- a row that is put is found, and others as before
 got : (es : Table) (k v x : List ℕ) → lookup (bytes_eq x) (insert_entry bytes_eq es k v) ≡ cond (bytes_eq x k) (Some v) (lookup (bytes_eq x) es)
 got [] k v x = refl
 got (e ∷ es) k v x = got_at (bytes_eq k e.0) x k v e es refl (got es k v x)
 
 -- ---- one more place
 
+-- one more place goes behind those of its target, and leaves the others
 if_same : (t : Bool) (x k new mine : List ℕ) (rest : Option (List ℕ)) (n : ℕ) → (t ≡ true → mine ≡ or_none rest) → new ≡ mine ++ n ∷ []
     → or_none (cond t (Some new) (cond t (Some []) rest)) ≡ or_none rest ++ cond t (n ∷ []) []
 if_same true x k new mine rest n h is = is ∙ ap (λ l. l ++ n ∷ []) (h refl)
 if_same false x k new mine rest n h is = sym (append-nil (or_none rest))
 
+-- a place that is noted goes behind those of its target
 pub noted : (old mid last : Table) (k new mine : List ℕ) (n : ℕ) → mid ≡ insert_entry bytes_eq old k [] → last ≡ insert_entry bytes_eq mid k new → mine ≡ or_none (lookup (bytes_eq k) old) → new ≡ mine ++ n ∷ []
     → (x : List ℕ) → places_in last x ≡ places_in old x ++ if_target x (Some k) n
 noted old mid last k new mine n first second was is x =
@@ -61,6 +70,7 @@ noted old mid last k new mine n first second was is x =
 
 -- ---- all places
 
+-- one more place goes ahead of those further on, if the target is the text
 next_if : (o : Option (List ℕ)) (x : List ℕ) (n : ℕ) (ps : List ℕ) → if_target x o n ++ ps ≡ cond (is_target x o) (n ∷ ps) ps
 next_if None x n ps = refl
 next_if (Some text) x n ps = at (bytes_eq x text)
@@ -69,6 +79,7 @@ next_if (Some text) x n ps = at (bytes_eq x text)
     at true = refl
     at false = refl
 
+-- with one more resource the table and what is left are still the places of all
 pub next_noted : (all : List CompiledResource) (old new : Table) (n : ℕ) (r : CompiledResource) → drop n all ≡ r ∷ drop (n + 1) all
     → ((x : List ℕ) → places_in new x ≡ places_in old x ++ if_target x (target_of r) n)
     → ((x : List ℕ) → places_in old x ++ places_where (is_for x) n (drop n all) ≡ places_where (is_for x) 0 all)

@@ -6,6 +6,7 @@ use Rattle.compiled_text.specs.declared.catalog.CompiledResource.{CompiledResour
 use Rattle.compiled_text.specs.declared.catalog.Containment.{Containment}
 use Rattle.compiled_text.specs.Compiled.{Compiled, passes, is_container_at, is_class_at, first_outer, holder_of, IsContainment, IsSound}
 
+-- a container stands within the resources
 container_within : (rs : List CompiledResource) (place : ℕ) → is_container_at rs place ≡ true → place < length rs
 container_within rs place h = at (slice_get rs place) refl h
   where
@@ -13,9 +14,11 @@ container_within rs place h = at (slice_get rs place) refl h
     at None e k = absurd (true≢false (sym k))
     at (Some r) e k = slice_get_within rs place r e
 
+-- equal places as found are equal
 one_some : (x y : ℕ) → ◌≡◌ {A = Option ℕ} (Some x) (Some y) → x ≡ y
 one_some x y h = cc
 
+-- so does the one that an edge leads from
 outer_within : (rs : List CompiledResource) (edges : List Containment) (place h : ℕ) → AllByRecursion (IsContainment rs) edges → first_outer place edges ≡ Some h → h < length rs
 outer_within rs [] place h all e = cc
 outer_within rs (f ∷ edges) place h all e = at (outer_within rs edges place h all.1) (f.inner == place) e
@@ -24,6 +27,7 @@ outer_within rs (f ∷ edges) place h all e = at (outer_within rs edges place h 
     at later true k = subst (λ n. n < length rs) (one_some f.outer h k) (container_within rs f.outer all.0.container)
     at later false k = later k
 
+-- and so does what contains a resource
 pub holder_within : (c : Compiled) (place h : ℕ) → IsSound c → holder_of c place ≡ Some h → h < length c.resources
 holder_within c place h sound e = at (is_class_at c.resources place) e
   where

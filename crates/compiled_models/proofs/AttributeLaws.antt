@@ -5,6 +5,7 @@ use Rattle.pp_value.specs.Values.{Pair}
 use Rattle.pp_value.specs.declared.value.Value.{Value}
 use Rattle.compiled_models.specs.Files.{without_replace}
 
+-- a name that is missing is missing without `replace`
 still_free : (key : List ℕ) (attrs : List Pair) → value_at key attrs ≡ None → value_at key (without_replace attrs) ≡ None
 still_free key [] h = refl
 still_free key (p ∷ attrs) h = at (not (bytes_eq p.0 (codes "replace"))) (bytes_eq p.0 key) refl (still_free key attrs) h
@@ -18,6 +19,7 @@ still_free key (p ∷ attrs) h = at (not (bytes_eq p.0 (codes "replace"))) (byte
     at true false e more k = ap (λ u. cond u (Some p.1) (value_at key (without_replace attrs))) e ∙ more k
     at false false e more k = more k
 
+-- distinct names stay so without it
 still_distinct : (attrs : List Pair) → HasDistinctKeys attrs → HasDistinctKeys (without_replace attrs)
 still_distinct [] h = tt
 still_distinct (p ∷ attrs) h = at (not (bytes_eq p.0 (codes "replace"))) (still_distinct attrs h.1)
@@ -26,6 +28,7 @@ still_distinct (p ∷ attrs) h = at (not (bytes_eq p.0 (codes "replace"))) (stil
     at true more = (still_free p.0 attrs h.0, more)
     at false more = more
 
+-- past the last nothing is left
 past : (attrs : List Pair) (i : ℕ) → length attrs ≤ i → drop i attrs ≡ []
 past [] zero h = refl
 past [] (suc i) h = refl

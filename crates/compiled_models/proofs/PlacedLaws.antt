@@ -5,10 +5,12 @@ use Rattle.assumed_text.specs.declared.assumed.Assumption.{Assumption}
 use Rattle.compiled_models.specs.Assumed.{place_of_subject, places_of, is_at, assumed_of_place}
 use Rattle.compiled_models.specs.Hosts.{first_of}
 
+-- each assumption has a place beside it, or none
 pub as_many : (resources : List CompiledResource) (rows : List Assumption) → length rows ≡ length (places_of resources rows)
 as_many resources [] = refl
 as_many resources (a ∷ rows) = ap suc (as_many resources rows)
 
+-- the first assumption of a place is that of the resource there
 pub first_is : (resources : List CompiledResource) (place : ℕ) (rows : List Assumption) → first_of place (places_of resources rows) rows ≡ assumed_of_place resources place rows
 first_is resources place [] = refl
 first_is resources place (a ∷ rows) = ap (cond (is_at place (place_of_subject resources a.subject)) (Some a.assumed)) (first_is resources place rows)

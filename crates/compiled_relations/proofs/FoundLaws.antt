@@ -6,10 +6,12 @@ use Rattle.compiled_text.specs.declared.catalog.CompiledResource.{CompiledResour
 use Rattle.compiled_text.specs.Reading.{reference_of}
 use Rattle.compiled_relations.specs.Finding.{place_found, reference_at, reference_found, found_by, StandsIn}
 
+-- where two steps give something, the first did and the second went on from it
 first_read : {X Y : Type 0} (o : Option X) (f : X → Option Y) (y : Y) → (o >>= f) ≡ Some y → (x : X) × (o ≡ Some x) × (f x ≡ Some y)
 first_read None f y h = cc
 first_read (Some x) f y h = (x, refl, h)
 
+-- what a text finds is the reference of a resource
 pub found_stands : (all : List CompiledResource) (text : List ℕ) (ref : Ref) → found_by all text ≡ Some ref → StandsIn all ref
 found_stands all text ref h =
     let named = first_read (reference_of text) (reference_found all) ref h in

@@ -3,9 +3,11 @@ use Rattle.std.proofs.Common.{◌≡◌, ℕ, ◌+◌, ◌<◌, Bool, true, fals
 use Rattle.std.proofs.lemmas.List.{drop_more}
 use Rattle.compiled_relations.specs.Links.{same_pair, has_pair, stands_between, kept_behind}
 
+-- pairs of places
 abbrev Pairs : Type 0
 Pairs = List (ℕ × ℕ)
 
+-- a pair is among some and one more if it is among them, or is that
 last_pair : (before : Pairs) (p q : ℕ × ℕ) → has_pair (before ++ p ∷ []) q ≡ (has_pair before q || same_pair q p)
 last_pair [] p q = none (same_pair q p)
   where
@@ -28,18 +30,22 @@ kept_same before other (p ∷ pairs) h =
     λ i. cond (between i) (skipped i) (p ∷ taken i)
 
 module _ (kept before pairs w : Pairs) (i : ℕ) (d : ℕ × ℕ) (h : i < length pairs) (so_far : kept ++ kept_behind before (drop i pairs) ≡ w) where
+  -- what is kept of the rest is what is kept of the next one and those behind it
   next_is :
       kept ++ cond (stands_between before (get_or pairs i d)) (kept_behind before (drop (i + 1) pairs)) (get_or pairs i d ∷ kept_behind (before ++ get_or pairs i d ∷ []) (drop (i + 1) pairs)) ≡ w
   next_is = sym (ap (λ xs. kept ++ kept_behind before xs) (drop_more pairs i d h)) ∙ so_far
 
+  -- so it is by whether a relation stands between its two
   test_is : (t : Bool) → stands_between before (get_or pairs i d) ≡ t
       → kept ++ cond t (kept_behind before (drop (i + 1) pairs)) (get_or pairs i d ∷ kept_behind (before ++ get_or pairs i d ∷ []) (drop (i + 1) pairs)) ≡ w
   test_is t between =
       sym (ap (λ t. kept ++ cond t (kept_behind before (drop (i + 1) pairs)) (get_or pairs i d ∷ kept_behind (before ++ get_or pairs i d ∷ []) (drop (i + 1) pairs))) between) ∙ next_is
 
+  -- where one does, it is left out
   pub next_skipped : stands_between before (get_or pairs i d) ≡ true → kept ++ kept_behind before (drop (i + 1) pairs) ≡ w
   next_skipped between = test_is true between
 
+  -- and else it is kept, and counts for those behind it
   pub next_kept : (new : Pairs) → stands_between before (get_or pairs i d) ≡ false → ((q : ℕ × ℕ) → has_pair new q ≡ (has_pair before q || same_pair q (get_or pairs i d)))
       → (kept ++ get_or pairs i d ∷ []) ++ kept_behind new (drop (i + 1) pairs) ≡ w
   next_kept new between more =

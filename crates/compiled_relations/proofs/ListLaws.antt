@@ -11,6 +11,7 @@ use Rattle.compiled_text.specs.declared.catalog.CompiledResource.{CompiledResour
 use Rattle.compiled_relations.specs.Values.{are_references, related_to, related_to_row}
 use Rattle.compiled_relations.specs.Lists.{are_all_references, related_to_all}
 
+-- a list is references where each of its members is, or undef
 pub all_references : (xs : List Value) → are_references (v.List xs) ≡ are_all_references xs
 unfolding block.hidden-the_row-Value-0 denote.Hole.Carrier.hidden
 all_references [] = refl
@@ -20,6 +21,7 @@ all_references (x ∷ xs) = ap (λ b. (is_undef x || are_references x) && b) (al
 abbrev with_rest : Bool → Result Value Refusal → Result (List Value) Refusal → Result (List Value) Refusal
 with_rest undef item rest = cond undef rest (item >>= (λ x. rest >>= (λ items. Ok (x ∷ items))))
 
+-- a list becomes the list of what its members become
 pub related_list : (all : List CompiledResource) (r : CompiledResource) (xs : List Value) → related_to all r (v.List xs) ≡ (related_to_all all r xs >>= (λ items. Ok (v.List items)))
 unfolding block.hidden-the_row-Value-0 denote.Hole.Carrier.hidden
 related_list all r xs = ap (λ (m : Result (List Value) Refusal). m >>= (λ items. Ok (v.List items))) (rows xs)

@@ -10,12 +10,15 @@ use Rattle.catalog_semantics.specs.Catalogs.{Catalog}
 use Rattle.graph_semantics.specs.Relations.{relations_of}
 use Rattle.compiled_relations.specs.Links.{has_pair, same_pair, related_by}
 
+-- equal things as found are equal
 one_some : (x y : Resource) → ◌≡◌ {A = Option Resource} (Some x) (Some y) → x ≡ y
 one_some x y h = cc
 
+-- nothing isn't something
 nothing : (x : Resource) → ◌≡◌ {A = Option Resource} None (Some x) → ⊥
 nothing x h = cc
 
+-- what stands at a place is read there
 read_at : (rs : List Resource) (i : ℕ) (r : Resource) → slice_get rs i ≡ Some r → get_or rs i r ≡ r
 read_at [] i r h = refl
 read_at (x ∷ rs) zero r h = one_some x r h
@@ -35,6 +38,7 @@ next_part whole part step done new w rs i r h before is =
 
 -- ---- pairs
 
+-- a pair is among two lists where it is in one of them
 pub any_append : (xs ys : List (ℕ × ℕ)) (p : ℕ × ℕ) → has_pair (xs ++ ys) p ≡ (has_pair xs p || has_pair ys p)
 any_append [] ys p = refl
 any_append (x ∷ xs) ys p = ap (λ t. same_pair p x || t) (any_append xs ys p) ∙ sym (assoc (same_pair p x) (has_pair xs p) (has_pair ys p))
@@ -43,10 +47,12 @@ any_append (x ∷ xs) ys p = ap (λ t. same_pair p x || t) (any_append xs ys p) 
     assoc true b c = refl
     assoc false b c = refl
 
+-- a disjunction of three may be grouped either way
 or_assoc : (a b c : Bool) → ((a || b) || c) ≡ (a || (b || c))
 or_assoc true b c = refl
 or_assoc false b c = refl
 
+-- what one more resource relates is put to what those before it relate
 pub next_pairs : (c : Catalog) (old new : List (ℕ × ℕ)) (rs : List Resource) (i : ℕ) (r : Resource) (p : ℕ × ℕ) (w : Bool) → slice_get rs i ≡ Some r
     → has_pair new p ≡ (has_pair old p || has_pair (flat_map (related_by c) (relations_of r)) p) → (has_pair old p || has_pair (flat_map (related_by c) (flat_map relations_of (drop i rs))) p) ≡ w
     → (has_pair new p || has_pair (flat_map (related_by c) (flat_map relations_of (drop (i + 1) rs))) p) ≡ w

@@ -8,6 +8,7 @@ use Rattle.fs_lang.proofs.PathLaws.{path_found, path_again}
 use Rattle.fs_lang.proofs.TextLaws.{same_text}
 use Rattle.compiled_relations.specs.Finding.{written}
 
+-- a text that spells no path has none
 pub unspelled : (text : List ℕ) → IsUtf8 text → ((p : Path) → IsPathText text p → ⊥) → None ≡ path_in text
 unspelled text utf n = at (path_in text) refl
   where

@@ -19,31 +19,38 @@ use Rattle.compiled_relations.proofs.FoundLaws.{found_stands}
 
 -- ---- steps
 
+-- equal results are equal
 one_ok : {X : Type 0} (x y : X) → ◌≡◌ {A = Result X Refusal} (Ok x) (Ok y) → x ≡ y
 one_ok x y h = cc
 
+-- a refusal isn't a result
 no_ok : {X : Type 0} (e : Refusal) (y : X) → ◌≡◌ {A = Result X Refusal} (Err e) (Ok y) → ⊥
 no_ok e y h = cc
 
+-- where a conjunction holds both sides do
 two_true : (a b : Bool) → (a && b) ≡ true → (a ≡ true) × (b ≡ true)
 two_true true b h = (refl, h)
 two_true false b h = absurd (true≢false (sym h))
 
 -- ---- one value, and lists of them
 
+-- the references within a list are those within its members
 pub within_list : (xs : List Value) → references_within (v.List xs) ≡ flat_map references_within xs
 unfolding block.hidden-the_row-Value-0 denote.Hole.Carrier.hidden
 within_list [] = refl
 within_list (x ∷ xs) = ap (λ rest. references_within x ++ rest) (within_list xs)
 
+-- what a text finds is a relation
 text_becomes : (all : List CompiledResource) (r : CompiledResource) (text : List ℕ) (o : Option Ref) → found_by all text ≡ o → (y : Value) → if_found r text o ≡ Ok y → IsRelation all y
 text_becomes all r text None e y h = absurd (no_ok _ y h)
 text_becomes all r text (Some ref) e y h = subst (IsRelation all) (one_ok (v.Refer ref) y h) (record { known = refl; references = refl; stand = (found_stands all text ref e, tt) })
 
+-- where the references of two lists stand, those of both do
 both_in : (all : List CompiledResource) (xs ys : List Ref) → AllByRecursion (StandsIn all) xs → AllByRecursion (StandsIn all) ys → AllByRecursion (StandsIn all) (xs ++ ys)
 both_in all [] ys h k = k
 both_in all (x ∷ xs) ys h k = (h.0, both_in all xs ys h.1 k)
 
+-- a list of relations is a relation
 list_is : (all : List CompiledResource) (items : List Value) → AllByRecursion (IsRelation all) items → IsRelation all (v.List items)
 unfolding block.hidden-the_row-Value-0 denote.Hole.Carrier.hidden
 list_is all [] h = record { known = refl; references = refl; stand = tt }
@@ -59,11 +66,13 @@ list_is all (x ∷ items) h =
     at (Some a) None k l = l
     at (Some a) (Some b) k l = refl
 
+-- so is a list of what its members become
 list_becomes : (all : List CompiledResource) (found : Result (List Value) Refusal) (y : Value) → ((items : List Value) → found ≡ Ok items → AllByRecursion (IsRelation all) items)
     → (found >>= (λ items. Ok (v.List items))) ≡ Ok y → IsRelation all y
 list_becomes all (Ok items) y each h = subst (IsRelation all) (one_ok (v.List items) y h) (list_is all items (each items refl))
 list_becomes all (Err e) y each h = absurd (no_ok e y h)
 
+-- what one more member becomes is a relation among the others
 one_more : (all : List CompiledResource) (undef refs : Bool) (found : Result Value Refusal) (more : Result (List Value) Refusal) (items : List Value) → ((y : Value) → found ≡ Ok y → refs ≡ true → IsRelation all y)
     → ((rest : List Value) → more ≡ Ok rest → AllByRecursion (IsRelation all) rest) → (undef || refs) ≡ true → cond undef more (found >>= (λ item. more >>= (λ rest. Ok (item ∷ rest)))) ≡ Ok items
     → AllByRecursion (IsRelation all) items
@@ -73,6 +82,7 @@ one_more all false refs (Ok item) (Err e) items one each h k = absurd (no_ok e i
 one_more all false refs (Ok item) (Ok rest) items one each h k = subst (AllByRecursion (IsRelation all)) (one_ok (item ∷ rest) items k) (one item refl h, each rest refl)
 
 mutual
+  -- what references become is a relation
   pub becomes : (all : List CompiledResource) (r : CompiledResource) (x y : Value) → related_to all r x ≡ Ok y → are_references x ≡ true → IsRelation all y
   becomes all r v.Undef y h k = absurd (true≢false (sym k))
   becomes all r (v.Bool b) y h k = absurd (true≢false (sym k))
@@ -83,6 +93,7 @@ mutual
   becomes all r (v.Refer ref) y h k = absurd (true≢false (sym k))
   becomes all r v.Opaque y h k = absurd (true≢false (sym k))
 
+  -- so is what each member of a list becomes
   rows_become : {m : _} (all : List CompiledResource) (r : CompiledResource) (row : Row_of-Value m) (items : List Value) → related_to_row all r row ≡ Ok items → are_references_in row ≡ true
       → AllByRecursion (IsRelation all) items
   rows_become all r end_of-Value items h k = subst (AllByRecursion (IsRelation all)) (one_ok [] items h) tt

@@ -22,9 +22,11 @@ use Rattle.compiled_text.proofs.HolderLaws.{once_where}
 
 -- ---- what a resource has
 
+-- a text at a key of an object is read
 text_back : (key text : List ℕ) (d : Data) → get key d ≡ Some (string text) → text_at key d ≡ Some text
 text_back key text d h = ap (λ o. o >>= as_str) h
 
+-- a reference that is read is that of a type and a title that isn't empty
 id_by : (type_text title_text : List ℕ) (id : Ref) → id_with type_text title_text ≡ Some id → (is_type type_text ≡ true) × (id.title ≢ []) × (id ≡ ref_of type_text title_text)
 id_by type_text title_text id h =
     let is = if_read (is_type type_text) (if_titled (ref_of type_text title_text)) id h in
@@ -32,19 +34,23 @@ id_by type_text title_text id h =
     let same = one_some (ref_of type_text title_text) id titled.1 in
     (is.0, subst (λ r. r.title ≢ []) same (not_empty (ref_of type_text title_text).title titled.0), sym same)
 
+-- and that of such is read
 id_back : (type_text title_text : List ℕ) (id : Ref) → is_type type_text ≡ true → id.title ≢ [] → id ≡ ref_of type_text title_text → id_with type_text title_text ≡ Some id
 id_back type_text title_text id is titled same =
     ap (λ t. cond t (if_titled (ref_of type_text title_text)) None) is
     ∙ (ap if_titled (sym same) ∙ ap (λ t. cond t None (Some id)) (empty_not id.title titled))
 
+-- what is read as parameters is those of an object, or none
 parameters_are : (o : Option Data) (pairs : List Pair) → parameters_in o ≡ Some pairs → AreParameters pairs o
 parameters_are None pairs h = sym (one_some [] pairs h)
 parameters_are (Some d) pairs h = let members = read_under pairs_of (as_object d) pairs h in (members.0, object_found d members.0 members.1, sym members.2)
 
+-- and those are read
 parameters_back : (o : Option Data) (pairs : List Pair) → AreParameters pairs o → parameters_in o ≡ Some pairs
 parameters_back None pairs h = ap (λ ps. Some ps) (sym h)
 parameters_back (Some d) pairs h = ap (λ e. option_map pairs_of (as_object e)) h.1 ∙ ap (λ ps. Some ps) (sym h.2)
 
+-- what is read as a file is a text, null or nothing
 file_is : (o : Option Data) (file : Option (List ℕ)) → file_in o ≡ Some file → IsFile file o
 file_is None file h = sym (one_some None file h)
 file_is (Some null) file h = inl (refl, sym (one_some None file h))
@@ -54,11 +60,13 @@ file_is (Some (string text)) file h = inr (text, refl, sym (one_some (Some text)
 file_is (Some (array items)) file h = absurd (nothing file h)
 file_is (Some (object _)) file h = absurd (nothing file h)
 
+-- and those are read
 file_back : (o : Option Data) (file : Option (List ℕ)) → IsFile file o → file_in o ≡ Some file
 file_back None file h = ap (λ f. Some f) (sym h)
 file_back (Some d) file (inl h) = ap (λ e. file_in (Some e)) h.0 ∙ ap (λ f. Some f) (sym h.1)
 file_back (Some d) file (inr h) = ap (λ e. file_in (Some e)) h.1 ∙ ap (λ f. Some f) (sym h.2)
 
+-- what is read as a line is a whole number, null or nothing
 line_is : (o : Option Data) (line : Option ℤ) → line_in o ≡ Some line → IsLine line o
 line_is None line h = sym (one_some None line h)
 line_is (Some null) line h = inl (refl, sym (one_some None line h))
@@ -68,6 +76,7 @@ line_is (Some (string text)) line h = absurd (nothing line h)
 line_is (Some (array items)) line h = absurd (nothing line h)
 line_is (Some (object _)) line h = absurd (nothing line h)
 
+-- and those are read
 line_back : (o : Option Data) (line : Option ℤ) → IsLine line o → line_in o ≡ Some line
 line_back None line h = ap (λ n. Some n) (sym h)
 line_back (Some d) line (inl h) = ap (λ e. line_in (Some e)) h.0 ∙ ap (λ n. Some n) (sym h.1)
@@ -75,21 +84,27 @@ line_back (Some d) line (inr h) = ap (λ e. line_in (Some e)) h.2 ∙ (ap (optio
 
 -- ---- resources
 
+-- the resource, once its parameters are read
 abbrev behind_parameters : Data → List ℕ → Option ℤ → Ref → List Pair → Option CompiledResource
 behind_parameters d kind line id parameters = option_map (resource_with kind line id parameters) (file_in (get (codes "file") d))
 
+-- the resource, once its reference is
 abbrev behind_id : Data → List ℕ → Option ℤ → Ref → Option CompiledResource
 behind_id d kind line id = parameters_in (get (codes "parameters") d) >>= behind_parameters d kind line id
 
+-- the resource, once its line is
 abbrev behind_line : Data → List ℕ → Option ℤ → Option CompiledResource
 behind_line d kind line = id_of d >>= behind_id d kind line
 
+-- the resource, once its kind is
 abbrev behind_kind : Data → List ℕ → Option CompiledResource
 behind_kind d kind = line_in (get (codes "line") d) >>= behind_line d kind
 
+-- its reference, once its type is read
 abbrev behind_type : Data → List ℕ → Option Ref
 behind_type d type_text = text_at (codes "title") d >>= id_with type_text
 
+-- the parts that are read make the resource of an object
 resource_stands : (d : Data) (kind : List ℕ) (line : Option ℤ) (id : Ref) (parameters : List Pair) (file : Option (List ℕ)) → text_at (codes "kind") d ≡ Some kind → line_in (get (codes "line") d) ≡ Some line → id_of d ≡ Some id
     → parameters_in (get (codes "parameters") d) ≡ Some parameters → file_in (get (codes "file") d) ≡ Some file → IsResource (resource_with kind line id parameters file) d
 resource_stands d kind line id parameters file is_kind is_line is_id are_parameters is_file =
@@ -111,6 +126,7 @@ resource_stands d kind line id parameters file is_kind is_line is_id are_paramet
       line = line_is (get (codes "line") d) line is_line;
     }
 
+-- what is read as a resource is one
 pub resource_is : (d : Data) (r : CompiledResource) → resource_of d ≡ Some r → IsResource r d
 resource_is d r h =
     let kind = first_read (text_at (codes "kind") d) (behind_kind d) r h in
@@ -120,6 +136,7 @@ resource_is d r h =
     let file = read_under (resource_with kind.0 line.0 id.0 parameters.0) (file_in (get (codes "file") d)) r parameters.2 in
     subst (λ q. IsResource q d) file.2 (resource_stands d kind.0 line.0 id.0 parameters.0 file.0 kind.1 line.1 id.1 parameters.1 file.1)
 
+-- and a resource is read
 pub resource_back : (d : Data) (r : CompiledResource) → IsResource r d → resource_of d ≡ Some r
 resource_back d r h =
     let id : id_of d ≡ Some r.id =
@@ -133,6 +150,7 @@ resource_back d r h =
     ∙ (ap (option_map (resource_with h.kind r.line r.id r.parameters)) (file_back (get (codes "file") d) r.file h.file)
     ∙ ap (λ (b : Bool). Some (record { id = r.id; is_container = b; parameters = r.parameters; file = r.file; line = r.line })) (sym h.container)))))
 
+-- what is read as resources is an array of them
 pub resources_are : (items : Items) (resources : List CompiledResource) → resources_of items ≡ Some resources → AreResources resources items
 resources_are no_items resources h = subst (λ rs. AreResources rs no_items) (one_some [] resources h) tt
 resources_are (item d items) resources h =
@@ -140,6 +158,7 @@ resources_are (item d items) resources h =
     let rest = read_under (λ rs. first.0 ∷ rs) (resources_of items) resources first.2 in
     subst (λ rs. AreResources rs (item d items)) rest.2 (resource_is d first.0 first.1, resources_are items rest.0 rest.1)
 
+-- and an array of them is read
 pub resources_back : (items : Items) (resources : List CompiledResource) → AreResources resources items → resources_of items ≡ Some resources
 resources_back no_items [] h = refl
 resources_back (item d _) [] h = absurd h
@@ -149,6 +168,7 @@ resources_back (item d items) (r ∷ resources) h =
 
 -- ---- edges
 
+-- the place that is read is that of a resource which the text names
 names_is : (resources : List CompiledResource) (key : List ℕ) (d : Data) (place : ℕ) → place_at (ids_of resources) key d ≡ Some place → Names resources place (get key d)
 names_is resources key d place h =
     let text = first_read (text_at key d) (place_named (ids_of resources)) place h in
@@ -160,19 +180,23 @@ names_is resources key d place h =
       stands = place_stands reference.0 (ids_of resources) place reference.2;
     }
 
+-- and where references differ, that place is read
 names_back : (resources : List CompiledResource) (key : List ℕ) (d : Data) (place : ℕ) → AreDistinct (ids_of resources) → Names resources place (get key d) → place_at (ids_of resources) key d ≡ Some place
 names_back resources key d place apart h =
     goes_to (text_at key d) (place_named (ids_of resources)) h.text (text_back key h.text d h.is_text)
     ∙ (goes_to (reference_of h.text) (λ r. place_of r (ids_of resources)) h.reference (reference_back h.text h.reference h.is_reference)
     ∙ stands_place h.reference (ids_of resources) place apart h.stands)
 
+-- there are as many references as resources
 count_is : (resources : List CompiledResource) → length (ids_of resources) ≡ length resources
 count_is [] = refl
 count_is (r ∷ resources) = ap suc (count_is resources)
 
+-- the edge, once its source is read
 abbrev behind_outer : List CompiledResource → Data → ℕ → Option Containment
 behind_outer resources d outer = cond (is_container_at resources outer) (option_map (edge_with outer) (place_at (ids_of resources) (codes "target") d)) None
 
+-- what is read as an edge is one, from a container to a resource
 edge_is : (resources : List CompiledResource) (d : Data) (e : Containment) → edge_of resources d ≡ Some e → IsEdge resources e d × IsContainment resources e
 edge_is resources d e h =
     let outer = first_read (place_at (ids_of resources) (codes "source") d) (behind_outer resources d) e h in
@@ -184,12 +208,14 @@ edge_is resources d e h =
       record { container = container.0; resource = subst (λ n. inner.0 < n) (count_is resources) (slice_get_within (ids_of resources) inner.0 target.reference target.stands) },
     )
 
+-- and one from a container to a resource is read, where references differ
 edge_back : (resources : List CompiledResource) (d : Data) (e : Containment) → AreDistinct (ids_of resources) → IsEdge resources e d → IsContainment resources e → edge_of resources d ≡ Some e
 edge_back resources d e apart h c =
     goes_to (place_at (ids_of resources) (codes "source") d) (behind_outer resources d) e.outer (names_back resources (codes "source") d e.outer apart h.source)
     ∙ (ap (λ t. cond t (option_map (edge_with e.outer) (place_at (ids_of resources) (codes "target") d)) None) c.container
     ∙ ap (option_map (edge_with e.outer)) (names_back resources (codes "target") d e.inner apart h.target))
 
+-- what is read as edges is an array of them, each from a container to a resource
 edges_are : (resources : List CompiledResource) (items : Items) (edges : List Containment) → edges_of resources items ≡ Some edges → AreEdges resources edges items × AllByRecursion (IsContainment resources) edges
 edges_are resources no_items edges h = subst (λ es. AreEdges resources es no_items × AllByRecursion (IsContainment resources) es) (one_some [] edges h) (tt, tt)
 edges_are resources (item d items) edges h =
@@ -199,6 +225,7 @@ edges_are resources (item d items) edges h =
     let more = edges_are resources items rest.0 rest.1 in
     subst (λ es. AreEdges resources es (item d items) × AllByRecursion (IsContainment resources) es) rest.2 ((here.0, more.0), (here.1, more.1))
 
+-- and an array of such is read
 edges_back : (resources : List CompiledResource) (items : Items) (edges : List Containment) → AreDistinct (ids_of resources) → AreEdges resources edges items → AllByRecursion (IsContainment resources) edges
     → edges_of resources items ≡ Some edges
 edges_back resources no_items [] apart h c = refl
@@ -214,15 +241,18 @@ edges_within resources items edges h = (edges_are resources items edges h).1
 
 -- ---- the version
 
+-- what is told to be 2 is
 two_is : (o : Option ℕ) → is_two o ≡ true → o ≡ Some 2
 two_is None h = absurd (true≢false (sym h))
 two_is (Some n) h = ap (λ m. Some m) (eqb-true n 2 h)
 
+-- what is read as a whole number is that one
 whole_is : (n : Num) (k : ℕ) → as_u64 n ≡ Some k → n ≡ unsigned k
 whole_is (unsigned m) k h = ap unsigned (one_some m k h)
 whole_is (negative z) k h = absurd (nothing k h)
 whole_is (float x) k h = absurd (nothing k h)
 
+-- what is read as the format of version 2 is it
 format_is : (d : Data) → has_format d ≡ true → get (codes "catalog_format") d ≡ Some (number (unsigned 2))
 format_is d h =
     let two = two_is (get (codes "catalog_format") d >>= as_number >>= as_u64) h in
@@ -230,14 +260,17 @@ format_is d h =
     let e = first_read (get (codes "catalog_format") d) as_number n.0 n.1 in
     e.1 ∙ ap (λ f. Some f) (number_found e.0 n.0 e.2 ∙ ap number (whole_is n.0 2 n.2))
 
+-- and that format is read
 format_back : (d : Data) → get (codes "catalog_format") d ≡ Some (number (unsigned 2)) → has_format d ≡ true
 format_back d h = ap (λ o. is_two (o >>= as_number >>= as_u64)) h
 
 -- ---- the whole
 
+-- the compiled catalog, unless something but a class is contained twice
 abbrev if_free : List CompiledResource → List Containment → Option Compiled
 if_free resources edges = cond (are_free resources [] edges) (Some (compiled_with resources edges)) None
 
+-- the compiled catalog, once the references of its resources differ
 abbrev behind_refs : Data → List CompiledResource → Option Compiled
 behind_refs d resources = items_at (codes "edges") d >>= edges_of resources >>= if_free resources
 
@@ -249,6 +282,7 @@ pub record HasParts (d : Data) (resources : List CompiledResource) (c : Compiled
   pub resources_are : c.resources ≡ resources
   pub sound : IsSound c
 
+-- what is read behind the resources is a sound compiled catalog of them
 pub behind_is : (d : Data) (resources : List CompiledResource) (c : Compiled) → compiled_behind d resources ≡ Some c → HasParts d resources c
 behind_is d resources c h =
     let differ = if_read (are_new [] (ids_of resources) && are_new [] (map counts_as resources)) (behind_refs d resources) c h in
@@ -270,6 +304,7 @@ behind_is d resources c h =
       };
     })
 
+-- what is read as a compiled catalog has its form
 pub compiled_is : (d : Data) (c : Compiled) → compiled_of d ≡ Some c → IsCompiled c d
 compiled_is d c h =
     let format = if_read (has_format d) (items_at (codes "resources") d >>= resources_of >>= compiled_behind d) c h in
@@ -286,6 +321,7 @@ compiled_is d c h =
       sound = parts.sound;
     }
 
+-- and what has the form is read
 pub compiled_back : (d : Data) (c : Compiled) → IsCompiled c d → compiled_of d ≡ Some c
 compiled_back d c h =
     let s = h.sound in

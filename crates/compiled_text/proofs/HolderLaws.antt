@@ -12,10 +12,12 @@ use Rattle.compiled_text.proofs.Steps.{one_some, two_true}
 
 -- ---- the container of a place
 
+-- one more edge to another place changes no container of this one
 outer_last_other : (edges : List Containment) (e : Containment) (place : ℕ) → (e.inner == place) ≡ false → first_outer place (edges ++ e ∷ []) ≡ first_outer place edges
 outer_last_other [] e place h = ap (λ t. cond t (Some e.outer) None) h
 outer_last_other (f ∷ edges) e place h = ap (cond (f.inner == place) (Some f.outer)) (outer_last_other edges e place h)
 
+-- what is missing here and further on is missing in both
 none_head : (t : Bool) (n : ℕ) (o : Option ℕ) → cond t (Some n) o ≡ None → (t ≡ false) × (o ≡ None)
 none_head true n o h = absurd (some n h)
   where
@@ -23,6 +25,7 @@ none_head true n o h = absurd (some n h)
     some n h = cc
 none_head false n o h = (refl, h)
 
+-- one more edge to a place without a container is the container's
 outer_last : (edges : List Containment) (e : Containment) → first_outer e.inner edges ≡ None → first_outer e.inner (edges ++ e ∷ []) ≡ Some e.outer
 outer_last [] e h = ap (λ t. cond t (Some e.outer) None) (eq-eqb e.inner e.inner refl)
 outer_last (f ∷ edges) e h =
@@ -31,11 +34,13 @@ outer_last (f ∷ edges) e h =
 
 -- ---- slots
 
+-- what is written to a slot stands there
 slot_same : (l : List (Option ℕ)) (i : ℕ) (x : Option ℕ) → i < length l → slice_get (set l i x) i ≡ Some x
 slot_same [] i x h = absurd (omega (arith, h))
 slot_same (y ∷ l) zero x h = refl
 slot_same (y ∷ l) (suc i) x h = slot_same l i x (omega (arith, h))
 
+-- and no other slot changes
 slot_other : (l : List (Option ℕ)) (i j : ℕ) (x : Option ℕ) → (i ≡ j → ⊥) → slice_get (set l i x) j ≡ slice_get l j
 slot_other [] i j x n = refl
 slot_other (y ∷ l) zero zero x n = absurd (n refl)
@@ -50,6 +55,7 @@ pub record AreNoted (resources : List CompiledResource) (all done left : List Co
   pub slots : AreHolders resources done holders
   pub free : are_free resources done left ≡ are_free resources [] all
 
+-- at first no containers are noted
 pub none_noted : (resources : List CompiledResource) (all : List Containment) (holders : List (Option ℕ)) → ((place : ℕ) → place < length resources → slice_get holders place ≡ Some None) → AreNoted resources all [] all holders
 none_noted resources all holders h = record { slots = λ place k. h place k ∙ none (is_class_at resources place); free = refl }
   where
@@ -57,9 +63,11 @@ none_noted resources all holders h = record { slots = λ place k. h place k ∙ 
     none true = refl
     none false = refl
 
+-- each resource has a slot
 slot_there : (resources : List CompiledResource) (all done left : List Containment) (holders : List (Option ℕ)) (place : ℕ) → AreNoted resources all done left holders → place < length resources → place < length holders
 slot_there resources all done left holders place n h = slice_get_within holders place (holder_of (compiled_with resources done) place) (n.slots place h)
 
+-- an edge to a class is noted without a change
 class_noted : (resources : List CompiledResource) (all done left : List Containment) (e : Containment) (holders : List (Option ℕ)) → is_class_at resources e.inner ≡ true
     → AreNoted resources all done (e ∷ left) holders → AreNoted resources all (done ++ e ∷ []) left holders
 class_noted resources all done left e holders class n = record {
@@ -79,6 +87,7 @@ slot_is : (resources : List CompiledResource) (all done left : List Containment)
 slot_is resources all done left holders place o other h n is =
     sym (ap (λ c. cond c None (first_outer place done)) other) ∙ one_some (holder_of (compiled_with resources done) place) o (sym (n.slots place h) ∙ is)
 
+-- an edge to what has no container yet is noted in its slot
 edge_noted : (resources : List CompiledResource) (all done left : List Containment) (e : Containment) (holders new : List (Option ℕ)) → is_class_at resources e.inner ≡ false → e.inner < length resources
     → slice_get holders e.inner ≡ Some None → new ≡ set holders e.inner (Some e.outer) → AreNoted resources all done (e ∷ left) holders → AreNoted resources all (done ++ e ∷ []) left new
 edge_noted resources all done left e holders new other within none is n = record {
@@ -102,15 +111,19 @@ edge_noted resources all done left e holders new other within none is n = record
 
 -- ---- the next of all edges
 
+-- what is left begins with the edge at this place
 next_left : (all : List Containment) (i : ℕ) (d : Containment) → i < length all → drop i all ≡ get_or all i d ∷ drop (i + 1) all
 next_left all i d h = drop-cons all i d h ∙ ap (λ j. get_or all i d ∷ drop j all) (sym (add-one i))
 
+-- with it one more is done
 next_done : (all : List Containment) (i : ℕ) (d : Containment) → i < length all → take i all ++ get_or all i d ∷ [] ≡ take (i + 1) all
 next_done all i d h = sym (ap (λ j. take j all) (add-one i) ∙ take-suc all i d h)
 
+-- the containers of the edges before this place are noted
 abbrev NotedTo : List CompiledResource → List Containment → ℕ → List (Option ℕ) → Type 0
 NotedTo resources all i holders = AreNoted resources all (take i all) (drop i all) holders
 
+-- the edge at this place is the first that is left
 here : (resources : List CompiledResource) (all : List Containment) (i : ℕ) (d : Containment) (holders : List (Option ℕ)) → i < length all → NotedTo resources all i holders
     → AreNoted resources all (take i all) (get_or all i d ∷ drop (i + 1) all) holders
 here resources all i d holders h n = subst (λ l. AreNoted resources all (take i all) l holders) (next_left all i d h) n
@@ -143,6 +156,7 @@ edge_next resources all i d holders new within h other none is n =
 
 -- ---- contained once
 
+-- with one more edge a place is contained if it was, or the edge leads to it
 held_last : (place : ℕ) (edges : List Containment) (e : Containment) → is_held place (edges ++ e ∷ []) ≡ (is_held place edges || (e.inner == place))
 held_last place [] e = at (e.inner == place)
   where
@@ -156,26 +170,31 @@ held_last place (f ∷ edges) e = at (f.inner == place) (held_last place edges e
     at true later = refl
     at false later = later
 
+-- what is free behind more edges is free behind fewer
 free_fewer : (class held here : Bool) → (class || not (held || here)) ≡ true → (class || not held) ≡ true
 free_fewer true held here h = refl
 free_fewer false true here h = h
 free_fewer false false here h = refl
 
+-- what the one more contains and is free all the same is a class
 free_else : (class held here : Bool) → (class || not (held || here)) ≡ true → here ≡ true → class ≡ true
 free_else true held here h s = refl
 free_else false true here h s = absurd (true≢false (sym h))
 free_else false false true h s = absurd (true≢false (sym h))
 free_else false false false h s = absurd (true≢false (sym s))
 
+-- what is free behind fewer is free behind one more, if it is a class where that contains it
 free_more : (class held here : Bool) → (class || not held) ≡ true → (here ≡ true → class ≡ true) → (class || not (held || here)) ≡ true
 free_more true held here h k = refl
 free_more false true here h k = h
 free_more false false true h k = k refl
 free_more false false false h k = refl
 
+-- each of these edges is free behind those before
 abbrev AreFree : List CompiledResource → List Containment → List Containment → Type 0
 AreFree resources before edges = AllByRecursion (λ f. is_free resources before f ≡ true) edges
 
+-- edges that are free behind one more are free behind fewer, and lead to a class where that does
 before_fewer : (resources : List CompiledResource) (before edges : List Containment) (e : Containment) → AreFree resources (before ++ e ∷ []) edges
     → AreFree resources before edges × AllByRecursion (λ f. f.inner ≡ e.inner → is_class_at resources e.inner ≡ true) edges
 before_fewer resources before [] e h = (tt, tt)
@@ -188,6 +207,7 @@ before_fewer resources before (f ∷ edges) e h =
       ((λ k. ap (is_class_at resources) (sym k) ∙ free_else class held (e.inner == f.inner) free (eq-eqb e.inner f.inner (sym k))), rest.1),
     )
 
+-- and the other way round
 before_more : (resources : List CompiledResource) (before edges : List Containment) (e : Containment) → AreFree resources before edges
     → AllByRecursion (λ f. f.inner ≡ e.inner → is_class_at resources e.inner ≡ true) edges → AreFree resources (before ++ e ∷ []) edges
 before_more resources before [] e h d = tt
@@ -199,6 +219,7 @@ before_more resources before (f ∷ edges) e h d =
       before_more resources before edges e h.1 d.1,
     )
 
+-- edges that are told to be free contain nothing twice but classes
 free_once : (resources : List CompiledResource) (before edges : List Containment) → are_free resources before edges ≡ true → AreFree resources before edges × AreHeldOnce resources edges
 free_once resources before [] h = (tt, tt)
 free_once resources before (e ∷ edges) h =
@@ -207,11 +228,13 @@ free_once resources before (e ∷ edges) h =
     let fewer = before_fewer resources before edges e rest.0 in
     ((two.0, fewer.0), (fewer.1, rest.1))
 
+-- and edges that contain nothing twice but classes are told to be free
 once_free : (resources : List CompiledResource) (before edges : List Containment) → AreFree resources before edges → AreHeldOnce resources edges → are_free resources before edges ≡ true
 once_free resources before [] h d = refl
 once_free resources before (e ∷ edges) h d =
     ap₂ (λ a b. a && b) h.0 (once_free resources (before ++ e ∷ []) edges (before_more resources before edges e h.1 d.0) d.1)
 
+-- behind no edges each is free
 all_free : (resources : List CompiledResource) (edges : List Containment) → AreFree resources [] edges
 all_free resources [] = tt
 all_free resources (e ∷ edges) = (at (is_class_at resources e.inner), all_free resources edges)
@@ -220,6 +243,7 @@ all_free resources (e ∷ edges) = (at (is_class_at resources e.inner), all_free
     at true = refl
     at false = refl
 
+-- edges are told to be free exactly where they contain nothing twice but classes
 pub once_where : (resources : List CompiledResource) (edges : List Containment)
     → (are_free resources [] edges ≡ true → AreHeldOnce resources edges) × (AreHeldOnce resources edges → are_free resources [] edges ≡ true)
 once_where resources edges = ((λ h. (free_once resources [] edges h).1), (λ d. once_free resources [] edges (all_free resources edges) d))

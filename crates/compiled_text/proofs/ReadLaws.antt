@@ -22,11 +22,13 @@ use Rattle.compiled_text.proofs.FormLaws.{edges_within}
 abbrev pub AreRead : List CompiledResource → List Value → Option (List CompiledResource) → Type 0
 AreRead resources left whole = (option_map (λ more. resources ++ more) (resources_of (items_view left)) ≡ whole) × AllByRecursion IsProperResource resources
 
+-- one more resource is one less to read
 by_more : (o : Option (List CompiledResource)) (resources : List CompiledResource) (r : CompiledResource)
     → option_map (λ more. (resources ++ r ∷ []) ++ more) o ≡ option_map (λ more. resources ++ more) (option_map (λ more. r ∷ more) o)
 by_more None resources r = refl
 by_more (Some more) resources r = ap (λ (rs : List CompiledResource). Some rs) (append_assoc resources (r ∷ []) more)
 
+-- so it is of what was read and what is left
 one_more : (resources : List CompiledResource) (v : Value) (left : List Value) (r : CompiledResource) (whole : Option (List CompiledResource)) → resource_of (view v) ≡ Some r → IsProperResource r
     → AreRead resources (v ∷ left) whole → AreRead (resources ++ r ∷ []) left whole
 one_more resources v left r whole is proper h = (
@@ -35,6 +37,7 @@ one_more resources v left r whole is proper h = (
   one_more_all IsProperResource resources r h.1 proper,
 )
 
+-- so it is of the resource at a place
 pub next_resource : (resources new : List CompiledResource) (values : List Value) (i : ℕ) (v : Value) (r : CompiledResource) (whole : Option (List CompiledResource)) → i < length values → v ≡ get_or values i v
     → resource_of (view v) ≡ Some r → IsProperResource r → new ≡ resources ++ r ∷ [] → AreRead resources (drop i values) whole → AreRead new (drop (i + 1) values) whole
 next_resource resources new values i v r whole within at is proper pushed h =
@@ -44,10 +47,12 @@ next_resource resources new values i v r whole within at is proper pushed h =
 
 -- ---- edges
 
+-- each edge leads to a resource
 all_inner : (resources : List CompiledResource) (edges : List Containment) → AllByRecursion (IsContainment resources) edges → AllByRecursion (λ e. e.inner < length resources) edges
 all_inner resources [] h = tt
 all_inner resources (e ∷ edges) h = (h.0.resource, all_inner resources edges h.1)
 
+-- so do the edges that were read
 pub inner_stand : (resources first second : List CompiledResource) (edges third : List Containment) (items : Items) → edges_of first items ≡ Some edges → first ≡ resources → second ≡ resources → third ≡ edges
     → AllByRecursion (λ e. e.inner < length second) third
 inner_stand resources first second edges third items read is was are =
@@ -55,9 +60,11 @@ inner_stand resources first second edges third items read is was are =
 
 -- ---- what is kept
 
+-- references that are answered as new differ
 new_of : (ids refs : List Ref) → if_new ids ≡ Some refs → (are_new [] ids ≡ true) × (refs ≡ ids)
 new_of ids refs h = let two = if_read (are_new [] ids) (Some ids) refs h in (two.0, sym (one_some ids refs two.1))
 
+-- references, edges and containers that were found are kept beside the compiled catalog
 pub kept : (resources first second third fourth : List CompiledResource) (edges fifth : List Containment) (items : Items) (refs : List Ref) (apart : Bool) (holders : List (Option ℕ))
     → AllByRecursion IsProperResource resources → if_new (ids_of first) ≡ Some refs → first ≡ resources → apart ≡ are_new [] (map counts_as second) → apart ≡ true → second ≡ resources
     → edges_of third items ≡ Some edges → third ≡ resources → are_free fourth [] fifth ≡ true → AreHolders fourth fifth holders → fourth ≡ resources → fifth ≡ edges → IsKept refs holders (compiled_with resources edges)

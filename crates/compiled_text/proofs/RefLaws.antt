@@ -11,6 +11,7 @@ use Rattle.compiled_text.proofs.Steps.{nothing, one_some, read_under, two_true, 
 
 -- ---- equal references
 
+-- references are told to be the same exactly where they are
 pub same_where : (r q : Ref) → (same_ref r q ≡ true → r ≡ q) × (r ≡ q → same_ref r q ≡ true)
 same_where r q = (
   (λ h. let two = two_true _ _ h in
@@ -20,6 +21,7 @@ same_where r q = (
   (λ e. ap (same_ref r) (sym e) ∙ ap₂ (λ a b. a && b) ((bytes_decides r.kind r.kind).1 refl) ((bytes_decides r.title r.title).1 refl)),
 )
 
+-- and to differ where they do
 pub differs : (r q : Ref) → r ≢ q → same_ref r q ≡ false
 differs r q n = at (same_ref r q) refl
   where
@@ -29,9 +31,11 @@ differs r q n = at (same_ref r q) refl
 
 -- ---- places
 
+-- the place of the reference is where it stands
 abbrev StandsThere : Ref → List Ref → Type 0
 StandsThere r refs = (place : ℕ) → place_of r refs ≡ Some place → slice_get refs place ≡ Some r
 
+-- so it is with one more in front
 one_more_stands : (r q : Ref) (refs : List Ref) → StandsThere r refs → StandsThere r (q ∷ refs)
 one_more_stands r q refs again place h = at (same_ref r q) refl h
   where
@@ -62,12 +66,14 @@ stands_place r (q ∷ refs) (suc place) d h =
     ap (λ t. cond t (Some 0) (option_map suc (place_of r refs))) (differs r q (λ e. other_at q refs place r d.0 h (sym e)))
     ∙ ap (option_map suc) (stands_place r refs place d.1 h)
 
+-- where references differ, the place of one is where it stands
 pub places : (r : Ref) (refs : List Ref) (place : ℕ) → AreDistinct refs → (place_of r refs ≡ Some place) ↔ (slice_get refs place ≡ Some r)
 places r refs place d = (place_stands r refs place, stands_place r refs place d)
 
 -- ---- the place as a set tells it
 
 module _ (eq : Ref → Ref → Bool) (same : (a b : Ref) → eq a b ≡ same_ref a b) where
+  -- what a search gives is one further on, unless the first passes
   place_head : (t : Bool) (n : ℕ) (l : ℕ) (o : Option ℕ) → cond (nat_lt n l) (Some n) None ≡ o
       → cond (nat_lt (cond (not t) (1 + n) 0) (suc l)) (Some (cond (not t) (1 + n) 0)) None ≡ cond t (Some 0) (option_map suc o)
   place_head true n l o h = ap (λ t. cond t (Some 0) None) (lt-ltb 0 (suc l) (omega arith))
@@ -84,22 +90,26 @@ module _ (eq : Ref → Ref → Bool) (same : (a b : Ref) → eq a b ≡ same_ref
           ap (λ t. cond t (Some (1 + n)) None) (le-ltb (1 + n) (suc l) (let above = ltb-false n l e in omega arith))
           ∙ ap (option_map suc) (sym (ap (λ t. cond t (Some n) None) e) ∙ h)
 
+  -- what the library finds is the place of the reference
   pub position_is : (r : Ref) (refs : List Ref) → position (eq r) refs ≡ place_of r refs
   position_is r [] = refl
   position_is r (q ∷ refs) =
       place_head (eq r q) (position_or_len (eq r) refs) (length refs) (place_of r refs) (position_is r refs)
       ∙ ap (λ t. cond t (Some 0) (option_map suc (place_of r refs))) (same r q)
 
+  -- what the library tells is whether it is one of them
   pub any_is : (r : Ref) (refs : List Ref) → list_any (eq r) refs ≡ stands_in r refs
   any_is r [] = refl
   any_is r (q ∷ refs) = ap₂ (λ a b. a || b) (same r q) (any_is r refs)
 
 -- ---- references that are new
 
+-- where a disjunction is false both sides are
 neither : (a b : Bool) → (a || b) ≡ false → (a ≡ false) × (b ≡ false)
 neither true b h = absurd (true≢false h)
 neither false b h = (refl, h)
 
+-- one of a list and one more passes if one of the list does, or that
 or_last : (f : Ref → Bool) (refs : List Ref) (q : Ref) → list_any f (refs ++ q ∷ []) ≡ (list_any f refs || f q)
 or_last f [] q = none (f q)
   where
@@ -112,6 +122,7 @@ or_last f (r ∷ refs) q = ap (λ t. f r || t) (or_last f refs q) ∙ sym (assoc
     assoc true b c = refl
     assoc false b c = refl
 
+-- none of the references has been seen
 abbrev AreOthers : List Ref → List Ref → Type 0
 AreOthers seen refs = AllByRecursion (λ r. stands_in r seen ≡ false) refs
 
@@ -123,6 +134,7 @@ fewer_seen seen q (r ∷ refs) h =
     let rest = fewer_seen seen q refs h.1 in
     ((two.0, rest.0), ((λ e. true≢false (sym ((same_where r q).1 (sym e)) ∙ two.1)), rest.1))
 
+-- none has, with one more that differs from all
 more_seen : (seen : List Ref) (q : Ref) (refs : List Ref) → AreOthers seen refs → AllByRecursion (λ r. q ≢ r) refs → AreOthers (seen ++ q ∷ []) refs
 more_seen seen q [] h d = tt
 more_seen seen q (r ∷ refs) h d = (
@@ -130,6 +142,7 @@ more_seen seen q (r ∷ refs) h d = (
   more_seen seen q refs h.1 d.1,
 )
 
+-- references that are told to be new haven't been seen, and differ
 new_others : (seen refs : List Ref) → are_new seen refs ≡ true → AreOthers seen refs × AreDistinct refs
 new_others seen [] h = (tt, tt)
 new_others seen (r ∷ refs) h =
@@ -138,13 +151,16 @@ new_others seen (r ∷ refs) h =
     let fewer = fewer_seen seen r refs rest.0 in
     ((not_so (stands_in r seen) two.0, fewer.0), (fewer.1, rest.1))
 
+-- and those that haven't and differ are told to be new
 others_new : (seen refs : List Ref) → AreOthers seen refs → AreDistinct refs → are_new seen refs ≡ true
 others_new seen [] h d = refl
 others_new seen (r ∷ refs) h d = ap₂ (λ a b. not a && b) h.0 (others_new (seen ++ r ∷ []) refs (more_seen seen r refs h.1 d.0) d.1)
 
+-- at first none has been seen
 none_seen : (refs : List Ref) → AreOthers [] refs
 none_seen [] = tt
 none_seen (r ∷ refs) = (refl, none_seen refs)
 
+-- references are told to be new exactly where they differ
 pub new_where : (refs : List Ref) → (are_new [] refs ≡ true → AreDistinct refs) × (AreDistinct refs → are_new [] refs ≡ true)
 new_where refs = ((λ h. (new_others [] refs h).1), (λ d. others_new [] refs (none_seen refs) d))

@@ -10,6 +10,7 @@ use Rattle.compiled_text.specs.Reading.{spot_behind, at_spot, goes_on, is_type}
 
 -- ---- what goes on is the rest of a type
 
+-- each byte may stand in a segment
 abbrev AreWordBytes : List ℕ → Type 0
 AreWordBytes text = AllByRecursion (λ d. IsTrue (is_word_byte d)) text
 
@@ -31,6 +32,7 @@ StandsAt Beginning text = IsType text
 StandsAt Within text = IsRest text
 StandsAt BetweenColons text = BehindColon text
 
+-- what goes on from each spot to the end of a type stands there
 abbrev Follows : List ℕ → Type 0
 Follows text = (s : Spot) → goes_on text s ≡ true → StandsAt s text
 
@@ -38,9 +40,11 @@ Follows text = (s : Spot) → goes_on text s ≡ true → StandsAt s text
 one_word : (c : ℕ) (text : List ℕ) → is_word_byte c ≡ true → IsRest text → IsRest (c ∷ text)
 one_word c text h r = record { front = c ∷ r.front; others = r.others; words = (h, r.words); are_segments = r.are_segments; joined = ap (λ l. c ∷ l) r.joined }
 
+-- a letter and the rest of a segment begin a type
 one_letter : (c : ℕ) (text : List ℕ) → is_ascii_alphabetic c ≡ true → IsRest text → IsType (c ∷ text)
 one_letter c text h r = record { first = c ∷ r.front; others = r.others; are_segments = ((h, r.words), r.are_segments); joined = ap (λ l. c ∷ l) r.joined }
 
+-- a colon and what stands behind the first of two are the rest of a segment
 one_colon : (c : ℕ) (text : List ℕ) → c ≡ 58 → BehindColon text → IsRest (c ∷ text)
 one_colon c text e b =
     let t = b.2 in record {
@@ -51,28 +55,34 @@ one_colon c text e b =
       joined = ap (λ d. d ∷ text) e ∙ ap (λ l. 58 ∷ l) (b.1 ∙ ap (λ l. 58 ∷ l) t.joined);
     }
 
+-- at the beginning stands a type
 from_beginning : (c : ℕ) (text : List ℕ) (t : Bool) → is_ascii_alphabetic c ≡ t → Follows text → at_spot (goes_on text) (cond t (Some Within) None) ≡ true → IsType (c ∷ text)
 from_beginning c text true e later h = one_letter c text e (later Within h)
 from_beginning c text false e later h = absurd (true≢false (sym h))
 
+-- a colon goes on to another segment
 from_colon : (c : ℕ) (text : List ℕ) (t : Bool) → (c == 58) ≡ t → Follows text → at_spot (goes_on text) (cond t (Some BetweenColons) None) ≡ true → IsRest (c ∷ text)
 from_colon c text true e later h = one_colon c text (eqb-true c 58 e) (later BetweenColons h)
 from_colon c text false e later h = absurd (true≢false (sym h))
 
+-- within a segment stands its rest
 from_within : (c : ℕ) (text : List ℕ) (t : Bool) → is_word_byte c ≡ t → Follows text
     → at_spot (goes_on text) (cond t (Some Within) (cond (c == 58) (Some BetweenColons) None)) ≡ true → IsRest (c ∷ text)
 from_within c text true e later h = one_word c text e (later Within h)
 from_within c text false e later h = from_colon c text (c == 58) refl later h
 
+-- between two colons stands the second, and a type
 from_between : (c : ℕ) (text : List ℕ) (t : Bool) → (c == 58) ≡ t → Follows text → at_spot (goes_on text) (cond t (Some Beginning) None) ≡ true → BehindColon (c ∷ text)
 from_between c text true e later h = (text, ap (λ d. d ∷ text) (eqb-true c 58 e), later Beginning h)
 from_between c text false e later h = absurd (true≢false (sym h))
 
+-- so it is at each spot, where it is with one byte less
 next_byte : (c : ℕ) (text : List ℕ) (s : Spot) → Follows text → goes_on (c ∷ text) s ≡ true → StandsAt s (c ∷ text)
 next_byte c text Beginning later h = from_beginning c text (is_ascii_alphabetic c) refl later h
 next_byte c text Within later h = from_within c text (is_word_byte c) refl later h
 next_byte c text BetweenColons later h = from_between c text (c == 58) refl later h
 
+-- so it is of each text
 stands_at : (text : List ℕ) (s : Spot) → goes_on text s ≡ true → StandsAt s text
 stands_at [] Beginning h = absurd (true≢false (sym h))
 stands_at [] Within h = record { front = []; others = []; words = tt; are_segments = tt; joined = refl }
@@ -81,20 +91,24 @@ stands_at (c ∷ text) s h = next_byte c text s (stands_at text) h
 
 -- ---- a type goes on
 
+-- bytes of a segment go on to what goes on behind them
 words_go_on : (front rest : List ℕ) → AreWordBytes front → goes_on rest Within ≡ true → goes_on (front ++ rest) Within ≡ true
 words_go_on [] rest h k = k
 words_go_on (c ∷ front) rest h k =
     ap (λ t. at_spot (goes_on (front ++ rest)) (cond t (Some Within) (cond (c == 58) (Some BetweenColons) None))) h.0 ∙ words_go_on front rest h.1 k
 
+-- so does a segment
 segment_goes_on : (s rest : List ℕ) → IsTypeSegment s → goes_on rest Within ≡ true → goes_on (s ++ rest) Beginning ≡ true
 segment_goes_on [] rest h k = absurd h
 segment_goes_on (c ∷ s) rest h k =
     ap (λ t. at_spot (goes_on (s ++ rest)) (cond t (Some Within) None)) h.0 ∙ words_go_on s rest h.1 k
 
+-- segments behind `::` go on to the end of a type
 segments_go_on : (segments : List (List ℕ)) → AllByRecursion IsTypeSegment segments → goes_on (behind_colons segments) Within ≡ true
 segments_go_on [] h = refl
 segments_go_on (s ∷ segments) h = segment_goes_on s (behind_colons segments) h.0 (segments_go_on segments h.1)
 
+-- a text is told to be a type exactly where it is
 pub type_where : (text : List ℕ) → (is_type text ≡ true → IsType text) × (IsType text → is_type text ≡ true)
 type_where text = (
   stands_at text Beginning,
@@ -103,6 +117,7 @@ type_where text = (
 
 -- ---- no bracket stands in a type
 
+-- what goes on to the end of a type has no `[`
 no_bracket_behind : (text : List ℕ) (s : Spot) → goes_on text s ≡ true → AllByRecursion (λ c. c ≢ 91) text
 no_bracket_behind [] s h = tt
 no_bracket_behind (c ∷ text) s h = (
@@ -119,5 +134,6 @@ no_bracket_behind (c ∷ text) s h = (
     rest None later k = absurd (true≢false (sym k))
     rest (Some t) later k = later t k
 
+-- a type has no `[`
 pub no_bracket : (text : List ℕ) → is_type text ≡ true → AllByRecursion (λ c. c ≢ 91) text
 no_bracket text h = no_bracket_behind text Beginning h

@@ -22,6 +22,7 @@ use Rattle.compiled_text.specs.Values.{object_value, value_of, values_of, pairs_
 -- ---- as facts are read
 
 mutual
+  -- where no object says its type, the value is as of a fact
   pub untyped : (d : Data) → SaysNoType d → value_of d ≡ facts.fact_of d
   untyped null h = refl
   untyped (boolean b) h = refl
@@ -30,19 +31,23 @@ mutual
   untyped (array items) h = ap v.List (untyped_items items h)
   untyped (object members) h = ap₂ object_value h.0 (untyped_members members h.1)
 
+  -- so are those of an array
   untyped_items : (items : Items) → SayNoType items → values_of items ≡ facts.facts_of items
   untyped_items no_items h = refl
   untyped_items (item d items) h = ap₂ (λ x xs. x ∷ xs) (untyped d h.0) (untyped_items items h.1)
 
+  -- and those of an object
   untyped_members : (members : Members) → HaveNoType members → pairs_of members ≡ facts.pairs_of members
   untyped_members no_members h = refl
   untyped_members (member key d members) h = ap₂ (λ x xs. (key, x) ∷ xs) (untyped d h.0) (untyped_members members h.1)
 
 -- ---- arrays and objects
 
+-- a JSON array is a list of its items' values
 pub of_array : (items : Vec json.Value Global) → value_of (view (json.Array items)) ≡ v.List (values_of (items_view items.items))
 of_array items = ap value_of (view-Array items)
 
+-- a JSON object is a map of its members' values, or what its type says
 pub of_object : (members : BTreeMap (String Global) json.Value) → value_of (view (json.Object members)) ≡ object_value (get_member (codes "__ptype") (members_view members.entries)) (pairs_of (members_view members.entries))
 of_object members = ap value_of (view-Object members)
 
@@ -55,6 +60,7 @@ object_is d members own pairs x is own_is pairs_are x_is =
 
 -- ---- keys that differ
 
+-- a key before all of these isn't among them
 later_keys : (k : String Global) (es : List Entry) → AllByRecursion (λ y. string_cmp k y ≡ Less) (keys_of es) → value_at (string_bytes k) (pairs_of (members_view es)) ≡ None
 later_keys k [] h = refl
 later_keys k (e ∷ es) h =
@@ -67,6 +73,7 @@ later_keys k (e ∷ es) h =
     at true same = sym ((bytes_eq-Decides (string_bytes k) (string_bytes e.0)).1 (sym ((bytes_eq-Decides (string_bytes e.0) (string_bytes k)).0 same))) ∙ less
     at false same = refl
 
+-- members in the byte order of their keys are pairs with distinct keys
 keys_differ : (es : List Entry) → IsStrictlySortedBy string_cmp (keys_of es) → HasDistinctKeys (pairs_of (members_view es))
 unfolding IsStrictlySortedBy
 keys_differ [] h = tt
@@ -78,6 +85,7 @@ pub all_put : (pairs : List Pair) (left es : List Entry) → ((ps : List Pair) �
 all_put pairs left es kept none same sorted =
     ap (λ l. with_pairs pairs (pairs_of (members_view l))) (sym none) ∙ (same ∙ kept (pairs_of (members_view es)) (keys_differ es sorted))
 
+-- values stay proper when a key takes a proper one
 pub put_stays : ((ps more : List Pair) → AllByRecursion (λ p. IsProper p.1) ps → AllByRecursion (λ p. IsProper p.1) more → AllByRecursion (λ p. IsProper p.1) (with_pairs ps more))
     → (old new : List Pair) (name : List ℕ) (x : Value) (r : Result (Unit {0}) NoMemory) → IsProper x → OnOk r (new ≡ with_pair name x old) → OnOk r (AllByRecursion (λ p. IsProper p.1) old → AllByRecursion (λ p. IsProper p.1) new)
 put_stays law old new name x (Ok done) h is = λ before. subst (λ (ps : List Pair). AllByRecursion (λ p. IsProper p.1) ps) (sym is) (law old ((name, x) ∷ []) before (h, tt))
@@ -85,6 +93,7 @@ put_stays law old new name x (Err m) h is = tt
 
 -- ---- a value of a key
 
+-- the value of a key is proper where all are
 value_proper : (key : List ℕ) (pairs : List Pair) (x : Value) → AllByRecursion (λ p. IsProper p.1) pairs → value_at key pairs ≡ Some x → IsProper x
 value_proper key [] x h is = absurd (none x is)
   where

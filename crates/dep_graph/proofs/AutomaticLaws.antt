@@ -27,6 +27,7 @@ use Rattle.graph_semantics.proofs.Basics.{no_way, both_true, true_both, some_sam
 
 -- ---- an edge that is kept
 
+-- an edge that is kept is that one, and no relation stands to the target
 kept_from : (links : List Link) (target place : ℕ) (t : Bool) (e : ℕ × ℕ) → is_linked links (2 * place) (2 * target) ≡ t → Contains (cond t [] ((2 * target, 2 * place) ∷ [])) e
     → (is_linked links (2 * place) (2 * target) ≡ false) × ((2 * target, 2 * place) ≡ e)
 kept_from links target place true e is h = absurd (none_in e h)
@@ -46,16 +47,19 @@ automatic_edge c links are place target r e plain after h =
       to_is = refl;
     })
 
+-- where no relation stands to the target, the edge is kept
 unlinked_kept : (links : List Link) (target place : ℕ) (t : Bool) → is_linked links (2 * place) (2 * target) ≡ t → (t ≡ true → ⊥) → Contains {X = ℕ × ℕ} (cond t [] ((2 * target, 2 * place) ∷ [])) (2 * target, 2 * place)
 unlinked_kept links target place true is h = absurd (h refl)
 unlinked_kept links target place false is h = head_in (2 * target, 2 * place) []
 
+-- so it is where the catalog has none
 pub kept_in : (c : Catalog) (links : List Link) → AreLinks c links → (place target : ℕ) → (IsRelated c place target → ⊥) → Contains (kept_edge links target place) (2 * target, 2 * place)
 kept_in c links are place target free =
     unlinked_kept links target place (is_linked links (2 * place) (2 * target)) refl (λ h. free (linked_related c links are place target h))
 
 -- ---- names
 
+-- a plain resource that is told to have a name manages it
 has_name_is : (c : Catalog) (kind name : List ℕ) (place : ℕ) (r : Resource) → IsPlainAt c place r → is_proper name ≡ true → has_name kind name (slice_get c.resources place) ≡ true → Manages c place kind name
 has_name_is c kind name place r plain proper h =
     let here = ap (has_name kind name) (sym (stands c place r plain.real)) ∙ h in
@@ -65,17 +69,20 @@ has_name_is c kind name place r plain proper h =
       text_is None e = absurd (no_way e)
       text_is (Some text) e = ap (λ (t : List ℕ). Some t) ((bytes_decides text name).0 e)
 
+-- and one that manages it is told to have it
 manages_has : (c : Catalog) (kind name : List ℕ) (place : ℕ) → Manages c place kind name → has_name kind name (slice_get c.resources place) ≡ true
 manages_has c kind name place m =
     ap (has_name kind name) (stands c place m.resource m.plain.real)
     ∙ true_both (bytes_eq m.resource.id.kind kind) (is_text name (name_of m.resource)) ((bytes_decides m.resource.id.kind kind).1 m.kind_is)
     (ap (is_text name) m.name_is ∙ (bytes_decides name name).1 refl)
 
+-- targets are those of a proper name
 proper_targets : (c : Catalog) (plain : List ℕ) (who : List ℕ × List ℕ) (k : ℕ) (t : Bool) → is_proper who.1 ≡ t → Contains (cond t (named_among c who.0 who.1 plain) []) k
     → (is_proper who.1 ≡ true) × Contains (named_among c who.0 who.1 plain) k
 proper_targets c plain who k true is h = (is, h)
 proper_targets c plain who k false is h = absurd (none_in k h)
 
+-- a resource comes after each target that it names
 named_after : (c : Catalog) (place k : ℕ) (r : Resource) → IsPlainAt c place r → Contains (targets_by_names c (plain_places c) r) k → ComesAfter c place k
 named_after c place k r plain h =
     let at = in_flat_map (named_targets c (plain_places c)) (named_by r) k h in
@@ -86,6 +93,7 @@ named_after c place k r plain h =
     let target = plain_at c k among.0 in
     ComesAfter.named r kind name plain at.1 (has_name_is c kind name k target.0 target.1 found.0 among.1)
 
+-- the edges from what a resource names are edges of the graph
 by_names_from : (c : Catalog) (links : List Link) → AreLinks c links → (place : ℕ) (r : Resource) (e : ℕ × ℕ) → IsPlainAt c place r
     → Contains (edges_by_names c links (plain_places c) place (slice_get c.resources place)) e → IsEdge c e
 by_names_from c links are place r e plain h =
@@ -93,12 +101,14 @@ by_names_from c links are place r e plain h =
     let at = in_flat_map (λ target. kept_edge links target place) (targets_by_names c (plain_places c) r) e here in
     automatic_edge c links are place at.0 r e plain (named_after c place at.0 r plain at.1) at.2
 
+-- so are those of all
 pub named_from : (c : Catalog) (links : List Link) → AreLinks c links → (e : ℕ × ℕ) → Contains (named_edges c links (plain_places c) (plain_places c)) e → IsEdge c e
 named_from c links are e h =
     let at = in_flat_map (λ place. edges_by_names c links (plain_places c) place (slice_get c.resources place)) (plain_places c) e h in
     let r = plain_at c at.0 at.1 in
     by_names_from c links are at.0 r.0 e r.1 at.2
 
+-- and each such edge of the graph is made
 pub named_in : (c : Catalog) (links : List Link) → AreLinks c links → (place target : ℕ) (r : Resource) (kind name : List ℕ) → IsPlainAt c place r → Contains (named_by r) (kind, name) → Manages c target kind name
     → (IsRelated c place target → ⊥) → Contains (named_edges c links (plain_places c) (plain_places c)) (2 * target, 2 * place)
 named_in c links are place target r kind name plain names m free =
@@ -120,6 +130,7 @@ file_at c f h =
     let file = subst (λ (x : Resource). FilePath x f.path) (sym same) h.file in
     record { resource = r.0; plain = r.1; kind = file.kind; text = file.text; given = file.given; spelled = file.spelled; free = file.free }
 
+-- a file of the catalog is among the files of the plain resources
 at_file : (c : Catalog) (place : ℕ) (p : Path) → IsFileAt c place p → IsFileAmong c (plain_places c) (record { path = p; place = place })
 at_file c place p h = record {
   place = plain_in c place h.resource h.plain;
@@ -128,6 +139,7 @@ at_file c place p h = record {
   file = record { kind = h.kind; text = h.text; given = h.given; spelled = h.spelled; free = h.free };
 }
 
+-- a file comes after the nearest files above it
 file_after : (c : Catalog) (files : List ManagedFile) → AreFiles c (plain_places c) files → (f : ManagedFile) → Contains files f → (k : ℕ) → Contains (nearest_places files f.path) k → ComesAfter c f.place k
 file_after c files are f among k h =
     let near = near_from (nearest files f.path) f.path files k h in
@@ -140,6 +152,7 @@ file_after c files are f among k h =
     let enough = near.near in
     omega arith)
 
+-- the edges from the nearest files above are edges of the graph
 pub file_from : (c : Catalog) (links : List Link) (files : List ManagedFile) → AreLinks c links → AreFiles c (plain_places c) files → (e : ℕ × ℕ) → Contains (file_edges links files) e → IsEdge c e
 file_from c links files are files_are e h =
     let at = in_flat_map (λ f. kept_edges links f.place (nearest_places files f.path)) files e h in
@@ -147,6 +160,7 @@ file_from c links files are files_are e h =
     let mine = file_at c at.0 ((files_are at.0).0 at.1) in
     automatic_edge c links are at.0.place kept.0 mine.resource e mine.plain (file_after c files files_are at.0 at.1 kept.0 kept.1) kept.2
 
+-- and each such edge of the graph is made
 pub file_in : (c : Catalog) (links : List Link) (files : List ManagedFile) → AreLinks c links → AreFiles c (plain_places c) files → (place target : ℕ) (p q : Path) → IsFileAt c place p → IsFileAt c target q
     → IsAncestor q p → ((other : ℕ) (o : Path) → IsFileAt c other o → IsAncestor o p → length o ≤ length q) → (IsRelated c place target → ⊥) → Contains (file_edges links files) (2 * target, 2 * place)
 file_in c links files are files_are place target p q mine other above far free =

@@ -15,6 +15,7 @@ use Rattle.graph_semantics.proofs.RealPlaces.{stands, isnt_virtual, within}
 use Rattle.graph_semantics.proofs.Elements.{either_way, none_in, head_in, tail_in, in_cases, in_one, in_flat_map, flat_map_in, any_in}
 use Rattle.graph_semantics.proofs.Basics.{both_true, not_true, some_same}
 
+-- where a real resource is done is its last node
 pub last_is : (c : Catalog) (place : ℕ) (r : Resource) → real_at c place ≡ Some r → last_at c place ≡ last_node r.sort place
 last_is c place r h = ap (λ o. last_of o place) (stands c place r h)
 
@@ -28,27 +29,33 @@ record StandsInside (outer n : ℕ) (resources : List Resource) (k : ℕ) : Type
   pub is : k ≡ n + index
   pub inside : is_inside outer resource ≡ true
 
+-- what stands among the others stands in all
 one_on : (outer n k : ℕ) (r : Resource) (resources : List Resource) → StandsInside outer (n + 1) resources k → StandsInside outer n (r ∷ resources) k
 one_on outer n k r resources h = record { index = suc h.index; resource = h.resource; at = h.at; is = omega (arith, h.is); inside = h.inside }
 
+-- a place that is kept is that of a resource inside, here or further on
 inside_step : (outer n k : ℕ) (r : Resource) (resources : List Resource) (t : Bool) → is_inside outer r ≡ t → (Contains (inside outer (n + 1) resources) k → StandsInside outer (n + 1) resources k)
     → Contains (cond t (n ∷ inside outer (n + 1) resources) (inside outer (n + 1) resources)) k → StandsInside outer n (r ∷ resources) k
 inside_step outer n k r resources true is f h =
     either_way (λ e. record { index = 0; resource = r; at = refl; is = omega (arith, e); inside = is }) (λ m. one_on outer n k r resources (f m)) (in_cases n k (inside outer (n + 1) resources) h)
 inside_step outer n k r resources false is f h = one_on outer n k r resources (f h)
 
+-- each place that is kept is that of a resource inside
 in_inside : (outer n k : ℕ) (resources : List Resource) → Contains (inside outer n resources) k → StandsInside outer n resources k
 in_inside outer n k [] h = absurd (none_in k h)
 in_inside outer n k (r ∷ resources) h = inside_step outer n k r resources (is_inside outer r) refl (in_inside outer (n + 1) k resources) h
 
+-- a resource inside has its place kept
 first_inside : (n : ℕ) (t : Bool) (rest : List ℕ) → t ≡ true → Contains (cond t (n ∷ rest) rest) n
 first_inside n true rest h = head_in n rest
 first_inside n false rest h = cc
 
+-- so have those further on
 later_inside : (n k : ℕ) (t : Bool) (rest : List ℕ) → Contains rest k → Contains (cond t (n ∷ rest) rest) k
 later_inside n k true rest h = tail_in n k rest h
 later_inside n k false rest h = h
 
+-- the place of each resource inside is kept
 inside_in : (outer n i : ℕ) (resources : List Resource) (r : Resource) → slice_get resources i ≡ Some r → is_inside outer r ≡ true → Contains (inside outer n resources) (n + i)
 inside_in outer n i [] r h is = absurd (none_some r h) where
   none_some : (r : Resource) → ◌≡◌ {A = Option Resource} None (Some r) → ⊥
@@ -62,26 +69,31 @@ inside_in outer n (suc i) (q ∷ resources) r h is =
     later_inside n (n + suc i) (is_inside outer q) (inside outer (n + 1) resources)
     (subst (Contains (inside outer (n + 1) resources)) next (inside_in outer (n + 1) i resources r h is))
 
+-- a resource that is told to be held by a container is
 holder_is : (outer : ℕ) (o : Option ℕ) → is_held_by outer o ≡ true → o ≡ Some outer
 holder_is outer None h = cc
 holder_is outer (Some k) h = ap (λ (n : ℕ). Some n) (eqb-true k outer h)
 
 -- ---- classes that are contained
 
+-- a class that stands in a row stays there with one more
 class_stays : (k : ℕ) (classes : List ℕ) (t : Bool) (class : ℕ) → Contains classes k → Contains (cond t classes (classes ++ class ∷ [])) k
 class_stays k classes true class h = h
 class_stays k classes false class h = Contains-append_left classes (class ∷ []) k h
 
+-- the one more stands there, too
 class_there : (classes : List ℕ) (t : Bool) (class : ℕ) → list_any (λ k. k == class) classes ≡ t → Contains (cond t classes (classes ++ class ∷ [])) class
 class_there classes true class is =
     let found = any_in (λ k. k == class) classes is in
     subst (Contains classes) (eqb-true found.0 class found.2) found.1
 class_there classes false class is = Contains-push classes class
 
+-- what stands there stood there before, or is the one more
 class_from : (k : ℕ) (classes : List ℕ) (t : Bool) (class : ℕ) → Contains (cond t classes (classes ++ class ∷ [])) k → Contains classes k ⊎ (class ≡ k)
 class_from k classes true class h = inl h
 class_from k classes false class h = Contains-push_cases classes class k h
 
+-- so it is with a holding: it is the class of one in this container
 held_from : (outer k : ℕ) (classes : List ℕ) (h : Holding) (t : Bool) → h.outer == outer ≡ t → Contains (cond t (with_class h.class classes) classes) k
     → Contains classes k ⊎ ((h.outer ≡ outer) × (h.class ≡ k))
 held_from outer k classes h true is m =
@@ -95,6 +107,7 @@ record IsHeld (outer : ℕ) (holdings : List Holding) (k : ℕ) : Type 0 where
   pub outer_is : holding.outer ≡ outer
   pub class_is : holding.class ≡ k
 
+-- what is held behind some classes is one of them, or a holding puts it in
 in_held : (outer k : ℕ) (classes : List ℕ) (holdings : List Holding) → Contains (held_after outer classes holdings) k → Contains classes k ⊎ IsHeld outer holdings k
 in_held outer k classes [] m = inl m
 in_held outer k classes (h ∷ holdings) m =
@@ -103,20 +116,24 @@ in_held outer k classes (h ∷ holdings) m =
     (λ later. inr (record { holding = later.holding; among = tail_in h later.holding holdings later.among; outer_is = later.outer_is; class_is = later.class_is }))
     (in_held outer k (with_held outer classes h) holdings m)
 
+-- what stood there stays with one more holding
 held_more : (outer k : ℕ) (classes : List ℕ) (h : Holding) (t : Bool) → Contains classes k → Contains (cond t (with_class h.class classes) classes) k
 held_more outer k classes h true m = class_stays k classes (list_any (λ j. j == h.class) classes) h.class m
 held_more outer k classes h false m = m
 
+-- and with all
 held_stays : (outer k : ℕ) (classes : List ℕ) (holdings : List Holding) → Contains classes k → Contains (held_after outer classes holdings) k
 held_stays outer k classes [] m = m
 held_stays outer k classes (h ∷ holdings) m = held_stays outer k (with_held outer classes h) holdings (held_more outer k classes h (h.outer == outer) m)
 
+-- the class of a holding in this container stands there
 held_now : (outer : ℕ) (classes : List ℕ) (h : Holding) (t : Bool) → h.outer == outer ≡ t → h.outer ≡ outer → Contains (cond t (with_class h.class classes) classes) h.class
 held_now outer classes h true is same = class_there classes (list_any (λ j. j == h.class) classes) h.class refl
 held_now outer classes h false is same = absurd (differ (sym is ∙ eq-eqb h.outer outer same)) where
   differ : false ≡ true → ⊥
   differ h = cc
 
+-- each class that a holding puts in stands there
 held_in : (outer : ℕ) (classes : List ℕ) (holdings : List Holding) (k : ℕ) → IsHeld outer holdings k → Contains (held_after outer classes holdings) k
 held_in outer classes [] k m = absurd (none_in m.holding m.among)
 held_in outer classes (h ∷ holdings) k m =
@@ -128,10 +145,12 @@ held_in outer classes (h ∷ holdings) k m =
 
 -- ---- members
 
+-- a resource that isn't virtual is real
 some_not_virtual : (r : Resource) (t : Bool) → r.is_virtual ≡ t → t ≡ false → cond t None (Some r) ≡ Some r
 some_not_virtual r true is h = cc
 some_not_virtual r false is h = refl
 
+-- what is listed of a container is a member
 pub member_from : (c : Catalog) (outer k : ℕ) → Contains (members_of outer c) k → IsMember c outer k
 member_from c outer k m = either_way declared contained (Contains-append_cases (inside outer 0 c.resources) (classes_in outer c.holdings) k m) where
   declared : Contains (inside outer 0 c.resources) k → IsMember c outer k
@@ -146,9 +165,11 @@ member_from c outer k m = either_way declared contained (Contains-append_cases (
   contained : Contains (classes_in outer c.holdings) k → IsMember c outer k
   contained m = either_way (λ none. absurd (none_in k none)) (λ h. IsMember.contained h.holding h.among h.outer_is h.class_is) (in_held outer k [] c.holdings m)
 
+-- a real resource whose holder is the container is inside
 held_by : (outer : ℕ) (r : Resource) → r.holder ≡ Some outer → r.is_virtual ≡ false → is_inside outer r ≡ true
 held_by outer r h v = ap (λ o. is_held_by outer o && not r.is_virtual) h ∙ ap (λ t. t && not r.is_virtual) (eq-eqb outer outer refl) ∙ ap not v
 
+-- and each member is listed
 pub member_in : (c : Catalog) (outer k : ℕ) → IsMember c outer k → Contains (members_of outer c) k
 member_in c outer k (IsMember.declared r real holder) =
     Contains-append_left (inside outer 0 c.resources) (classes_in outer c.holdings) k
@@ -169,9 +190,11 @@ pub record IsEdge (c : Catalog) (e : ℕ × ℕ) : Type 0 where
   pub from_is : e.0 ≡ rank from
   pub to_is : e.1 ≡ rank to
 
+-- an edge between nodes is one of their numbers
 edge_of : (c : Catalog) (a b : Node) (x y : ℕ) → Edge c a b → x ≡ rank a → y ≡ rank b → IsEdge c (x, y)
 edge_of c a b x y h i j = record { from = a; to = b; edge = h; from_is = i; to_is = j }
 
+-- the edges that are made of a member are edges of the graph
 member_edge_from : (c : Catalog) (outer k : ℕ) (t : Option Resource) (e : ℕ × ℕ) → real_at c k ≡ t → IsContainerAt c outer → IsMember c outer k
     → Contains (cond (is_some t) ((2 * outer, 2 * k) ∷ (rank (last_at c k), 2 * outer + 1) ∷ []) []) e → IsEdge c e
 member_edge_from c outer k None e is o m h = absurd (none_in e h)
@@ -182,6 +205,7 @@ member_edge_from c outer k (Some r) e is o m h =
     (edge_of c (last_node r.sort k) (End outer) (rank (last_at c k)) (2 * outer + 1) (Edge.leaves outer k r o m is refl refl) (ap rank (last_is c k r is)) refl))
     (in_cases (2 * outer, 2 * k) e ((rank (last_at c k), 2 * outer + 1) ∷ []) h)
 
+-- so are those of a container
 inside_edge_from : (c : Catalog) (k : ℕ) (r : Resource) (t : Bool) (e : ℕ × ℕ) → real_at c k ≡ Some r → is_plain_sort r.sort ≡ t
     → Contains (cond t [] ((2 * k, 2 * k + 1) ∷ flat_map (member_edges c k) (members_of k c))) e → IsEdge c e
 inside_edge_from c k r true e real is h = absurd (none_in e h)
@@ -194,10 +218,12 @@ inside_edge_from c k r false e real is h =
     member_edge_from c k at.0 (real_at c at.0) e refl o (member_from c k at.0 at.1) at.2)
     (in_cases (2 * k, 2 * k + 1) e (flat_map (member_edges c k) (members_of k c)) h)
 
+-- so are those of a place, whatever stands there
 container_edge_from : (c : Catalog) (k : ℕ) (t : Option Resource) (e : ℕ × ℕ) → real_at c k ≡ t → Contains (edges_inside c k t) e → IsEdge c e
 container_edge_from c k None e is h = absurd (none_in e h)
 container_edge_from c k (Some r) e is h = inside_edge_from c k r (is_plain_sort r.sort) e is refl h
 
+-- so are those of all places
 pub structure_from : (c : Catalog) (n : ℕ) (e : ℕ × ℕ) → Contains (structure_edges c n) e → IsEdge c e
 structure_from c zero e h = absurd (none_in e h)
 structure_from c (suc n) e h =
@@ -205,6 +231,7 @@ structure_from c (suc n) e h =
 
 -- ---- and each of these edges is there
 
+-- an edge of a place below the next is made there or before
 last_or_before : (c : Catalog) (n k : ℕ) (e : ℕ × ℕ) (t : Bool) → nat_lt k n ≡ t → k < suc n → (k < n → Contains (structure_edges c n) e) → Contains (container_edges c k) e
     → Contains (structure_edges c n ++ container_edges c n) e
 last_or_before c n k e true is less f h = Contains-append_left (structure_edges c n) (container_edges c n) e (f (ltb-true k n is))
@@ -213,25 +240,30 @@ last_or_before c n k e false is less f h =
     let same : k ≡ n = omega arith in
     Contains-append_right (structure_edges c n) (container_edges c n) e (subst (λ m. Contains (container_edges c m) e) same h)
 
+-- the edges of each place are among all
 pub structure_in : (c : Catalog) (n k : ℕ) (e : ℕ × ℕ) → k < n → Contains (container_edges c k) e → Contains (structure_edges c n) e
 structure_in c zero k e less h = absurd (never less) where
   never : k < 0 → ⊥
   never less = omega (arith, less)
 structure_in c (suc n) k e less h = last_or_before c n k e (nat_lt k n) refl less (λ small. structure_in c n k e small h) h
 
+-- the edges of a container are those of its place
 container_in : (c : Catalog) (k : ℕ) (e : ℕ × ℕ) (o : IsContainerAt c k) → Contains ((2 * k, 2 * k + 1) ∷ flat_map (member_edges c k) (members_of k c)) e → Contains (container_edges c k) e
 container_in c k e o h =
     subst (λ t. Contains (edges_inside c k t) e) (sym o.real) (subst (λ t. Contains (cond t [] ((2 * k, 2 * k + 1) ∷ flat_map (member_edges c k) (members_of k c))) e) (sym o.sort) h)
 
+-- from each container's start to its end an edge is made
 pub whole_in : (c : Catalog) (k : ℕ) → IsContainerAt c k → Contains (structure_edges c (length c.resources)) (2 * k, 2 * k + 1)
 whole_in c k o =
     structure_in c (length c.resources) k (2 * k, 2 * k + 1) (within c k o.resource o.real)
     (container_in c k (2 * k, 2 * k + 1) o (head_in (2 * k, 2 * k + 1) (flat_map (member_edges c k) (members_of k c))))
 
+-- the edges of a real member are made
 member_pairs : (c : Catalog) (outer k : ℕ) (r : Resource) (e : ℕ × ℕ) → real_at c k ≡ Some r
     → Contains ((2 * outer, 2 * k) ∷ (rank (last_at c k), 2 * outer + 1) ∷ []) e → Contains (member_edges c outer k) e
 member_pairs c outer k r e real h = subst (λ t. Contains (cond (is_some t) ((2 * outer, 2 * k) ∷ (rank (last_at c k), 2 * outer + 1) ∷ []) []) e) (sym real) h
 
+-- so they are among all
 member_edge_in : (c : Catalog) (outer k : ℕ) (r : Resource) (e : ℕ × ℕ) → IsContainerAt c outer → IsMember c outer k → real_at c k ≡ Some r
     → Contains ((2 * outer, 2 * k) ∷ (rank (last_at c k), 2 * outer + 1) ∷ []) e → Contains (structure_edges c (length c.resources)) e
 member_edge_in c outer k r e o m real h =
@@ -239,10 +271,12 @@ member_edge_in c outer k r e o m real h =
     (container_in c outer e o (tail_in (2 * outer, 2 * outer + 1) e (flat_map (member_edges c outer) (members_of outer c))
     (flat_map_in (member_edges c outer) (members_of outer c) k e (member_in c outer k m) (member_pairs c outer k r e real h))))
 
+-- from each container's start to each member an edge is made
 pub enters_in : (c : Catalog) (outer k : ℕ) (r : Resource) → IsContainerAt c outer → IsMember c outer k → real_at c k ≡ Some r
     → Contains (structure_edges c (length c.resources)) (2 * outer, 2 * k)
 enters_in c outer k r o m real = member_edge_in c outer k r (2 * outer, 2 * k) o m real (head_in (2 * outer, 2 * k) ((rank (last_at c k), 2 * outer + 1) ∷ []))
 
+-- and from each member to its end
 pub leaves_in : (c : Catalog) (outer k : ℕ) (r : Resource) → IsContainerAt c outer → IsMember c outer k → real_at c k ≡ Some r
     → Contains (structure_edges c (length c.resources)) (rank (last_node r.sort k), 2 * outer + 1)
 leaves_in c outer k r o m real =

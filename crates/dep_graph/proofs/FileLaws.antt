@@ -17,11 +17,13 @@ use Rattle.graph_semantics.proofs.Basics.{no_way, both_true, true_both, some_sam
 abbrev pub OnePath : Type 0
 OnePath = (text : List ℕ) (p q : Path) → IsPathText text p → IsPathText text q → p ≡ q
 
+-- a resource is a file of one path at most
 pub one_file : OnePath → (r : Resource) (p q : Path) → FilePath r p → FilePath r q → p ≡ q
 one_file once r p q h k = once h.text p q h.spelled (subst (λ t. IsPathText t q) (some_same k.text h.text (sym k.given ∙ h.given)) k.spelled)
 
 -- ---- one more place
 
+-- a file among some places is among more
 among_more : (c : Catalog) (places : List ℕ) (place : ℕ) (f : ManagedFile) → IsFileAmong c places f → IsFileAmong c (places ++ place ∷ []) f
 among_more c places place f h =
     record { place = Contains-append_left places (place ∷ []) f.place h.place; resource = h.resource; at = h.at; file = h.file }
@@ -50,6 +52,7 @@ no_file c places place files r here none are f = (
       (among_cases c places place f h),
 )
 
+-- files of one path and one place are one
 same_file : (f g : ManagedFile) → f.path ≡ g.path → f.place ≡ g.place → f ≡ g
 same_file f g p q = λ i. record { path = p i; place = q i }
 
@@ -70,10 +73,12 @@ one_more_file once c places files g r here file are f = (
 
 -- ---- the nearest above
 
+-- a file above isn't farther than the nearest
 nearest_step : (f : ManagedFile) (p : Path) (t : Bool) (n : ℕ) → is_above f.path p ≡ t → t ≡ true → length f.path ≤ cond t (max (length f.path) n) n
 nearest_step f p true n is h = omega arith
 nearest_step f p false n is h = absurd (no_way h)
 
+-- nor is one that isn't farther than the nearest of the others
 nearest_later : (m : ℕ) (t : Bool) (n k : ℕ) → k ≤ n → k ≤ cond t (max m n) n
 nearest_later m true n k h = omega (arith, h)
 nearest_later m false n k h = h
@@ -106,6 +111,7 @@ pub record IsNear (n : ℕ) (p : Path) (files : List ManagedFile) (k : ℕ) : Ty
   pub near : n ≤ length file.path
   pub place : file.place ≡ k
 
+-- a place that is kept is that of a near file, here or further on
 near_step : (n : ℕ) (p : Path) (f : ManagedFile) (files : List ManagedFile) (k : ℕ) (t : Bool) → is_nearest n p f.path ≡ t → (Contains (places_above n p files) k → IsNear n p files k)
     → Contains (cond t (f.place ∷ places_above n p files) (places_above n p files)) k → IsNear n p (f ∷ files) k
 near_step n p f files k true is rest h =
@@ -115,18 +121,22 @@ near_step n p f files k true is rest h =
     (in_cases f.place k (places_above n p files) h)
 near_step n p f files k false is rest h = let r = rest h in record { file = r.file; among = tail_in f r.file files r.among; above = r.above; near = r.near; place = r.place }
 
+-- each place that is kept is that of a near file
 pub near_from : (n : ℕ) (p : Path) (files : List ManagedFile) (k : ℕ) → Contains (places_above n p files) k → IsNear n p files k
 near_from n p [] k h = absurd (none_in k h)
 near_from n p (f ∷ files) k h = near_step n p f files k (is_nearest n p f.path) refl (near_from n p files k) h
 
+-- a near file has its place kept
 first_near : (t : Bool) (k : ℕ) (rest : List ℕ) → t ≡ true → Contains (cond t (k ∷ rest) rest) k
 first_near true k rest h = head_in k rest
 first_near false k rest h = absurd (no_way h)
 
+-- so have those further on
 later_near : (t : Bool) (j k : ℕ) (rest : List ℕ) → Contains rest k → Contains (cond t (j ∷ rest) rest) k
 later_near true j k rest h = tail_in j k rest h
 later_near false j k rest h = h
 
+-- the place of each near file is kept
 pub near_in : (n : ℕ) (p : Path) (files : List ManagedFile) (k : ℕ) → IsNear n p files k → Contains (places_above n p files) k
 near_in n p [] k h = absurd (none_in h.file h.among)
 near_in n p (f ∷ files) k h =
@@ -137,6 +147,7 @@ near_in n p (f ∷ files) k h =
     (λ m. later_near (is_nearest n p f.path) f.place k (places_above n p files) (near_in n p files k (record { file = h.file; among = m; above = h.above; near = h.near; place = h.place })))
     (in_cases f h.file files h.among)
 
+-- what holds of the place of each file holds of those of the nearest
 pub places_bounded : (P : ℕ → Type 0) (files : List ManagedFile) (p : Path) → All (λ f. P f.place) files → All P (nearest_places files p)
 places_bounded P files p h =
     all_from P (nearest_places files p) (λ k m. let r = near_from (nearest files p) p files k m in subst P r.place (All-contains (λ f. P f.place) files r.file h r.among))

@@ -10,12 +10,15 @@ use Rattle.fs_lang.specs.Fronts.{is_front}
 use Rattle.dep_graph.specs.Files.{is_above}
 use Rattle.graph_semantics.proofs.Basics.{no_way, both_true}
 
+-- segments that are told to be equal are
 same_bytes : (s r : List ℕ) → bytes_eq s r ≡ true → s ≡ r
 same_bytes s r h = (bytes_decides s r).0 h
 
+-- a segment is told to be equal to itself
 bytes_same : (s : List ℕ) → bytes_eq s s ≡ true
 bytes_same s = (bytes_decides s s).1 refl
 
+-- a path that is told to be the front of another is
 front_more : (p q : Path) → is_front p q ≡ true → (more : Path) × (q ≡ p ++ more)
 front_more [] q h = (q, refl)
 front_more (s ∷ p) [] h = absurd (no_way h)
@@ -24,23 +27,28 @@ front_more (s ∷ p) (r ∷ q) h =
     let rest = front_more p q both.1 in
     (rest.0, ap (λ x. x ∷ q) (sym (same_bytes s r both.0)) ∙ ap (λ x. s ∷ x) rest.1)
 
+-- and one that is the front is told to be
 more_front : (p more : Path) → is_front p (p ++ more) ≡ true
 more_front [] more = refl
 more_front (s ∷ p) more = ap (λ t. t && is_front p (p ++ more)) (bytes_same s) ∙ more_front p more
 
+-- a front that is shorter has something behind it
 longer : (p q more : Path) → q ≡ p ++ more → length p < length q → more ≢ []
 longer p q more is h none = let same : length q ≡ length p + length more = ap length is ∙ length-append p more in let zero : length more ≡ 0 = ap length none in omega arith
 
+-- a list that isn't empty has a length
 nonempty_length : {X : Type 0} (xs : List X) → xs ≢ [] → 0 < length xs
 nonempty_length [] h = absurd (h refl)
 nonempty_length (x ∷ xs) h = omega arith
 
+-- a path that is told to be above another is an ancestor
 pub above_ancestor : (p q : Path) → is_above p q ≡ true → IsAncestor p q
 above_ancestor p q h =
     let both = both_true (nat_lt (length p) (length q)) (is_front p q) h in
     let rest = front_more p q both.1 in
     (rest.0, longer p q rest.0 rest.1 (ltb-true (length p) (length q) both.0), rest.1)
 
+-- and an ancestor is told to be above
 pub ancestor_above : (p q : Path) → IsAncestor p q → is_above p q ≡ true
 ancestor_above p q h =
     let long : length q ≡ length p + length h.0 = ap length h.2 ∙ length-append p h.0 in
@@ -48,6 +56,7 @@ ancestor_above p q h =
     let less : nat_lt (length p) (length q) ≡ true = lt-ltb (length p) (length q) (omega arith) in
     ap (λ t. t && is_front p q) less ∙ ap (is_front p) h.2 ∙ more_front p h.0
 
+-- a test that tells ancestors is that of paths above
 pub told : (p q : Path) (t : Bool) → (IsTrue t → IsAncestor p q) × (IsAncestor p q → IsTrue t) → t ≡ is_above p q
 told p q true h = sym (ancestor_above p q (h.0 refl))
 told p q false h = decided (is_above p q) refl where

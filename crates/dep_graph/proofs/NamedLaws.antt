@@ -18,6 +18,7 @@ use Rattle.graph_semantics.proofs.Basics.{no_way, both_true, true_both, not_true
 
 -- ---- proper names
 
+-- a name in which no zero is found has none
 no_zeros : (name : List ℕ) → list_any (λ b. b == 0) name ≡ false → AllByRecursion (λ b. b ≢ 0) name
 no_zeros [] h = tt
 no_zeros (b ∷ name) h = step (b == 0) refl h (no_zeros name) where
@@ -25,6 +26,7 @@ no_zeros (b ∷ name) h = step (b == 0) refl h (no_zeros name) where
   step true is h f = absurd (no_way (sym h))
   step false is h f = (λ e. no_way (sym is ∙ eq-eqb b 0 e), f h)
 
+-- and in one that has none, none is found
 zeros_no : (name : List ℕ) → AllByRecursion (λ b. b ≢ 0) name → list_any (λ b. b == 0) name ≡ false
 zeros_no [] h = refl
 zeros_no (b ∷ name) h = step (b == 0) refl (zeros_no name h.1) where
@@ -32,10 +34,12 @@ zeros_no (b ∷ name) h = step (b == 0) refl (zeros_no name h.1) where
   step true is k = absurd (h.0 (eqb-true b 0 is))
   step false is k = k
 
+-- a name that isn't empty hasn't length 0
 length_zero : (name : List ℕ) → name ≢ [] → length name == 0 ≡ false
 length_zero [] h = absurd (h refl)
 length_zero (b ∷ name) h = eqb-suc-zero (length name)
 
+-- a text that is told to be a proper name is
 pub proper_name : (name : List ℕ) → is_proper name ≡ true → IsName name
 proper_name name h =
     let outer = both_true (not (length name == 0) && nat_le (length name) NAME_BYTES) (not (list_any (λ b. b == 0) name)) h in
@@ -46,15 +50,18 @@ proper_name name h =
       no_zero = no_zeros name (not_true (list_any (λ b. b == 0) name) outer.1);
     }
 
+-- and a proper name is told to be
 pub name_proper : (name : List ℕ) → IsName name → is_proper name ≡ true
 name_proper name h =
     true_both (not (length name == 0) && nat_le (length name) NAME_BYTES) (not (list_any (λ b. b == 0) name))
     (true_both (not (length name == 0)) (nat_le (length name) NAME_BYTES) (ap not (length_zero name h.nonempty)) (le-leb (length name) NAME_BYTES h.bytes))
     (ap not (zeros_no name h.no_zero))
 
+-- a test of a proper name is true
 pub named_told : (name : List ℕ) → IsName name → true ≡ is_proper name
 named_told name h = sym (name_proper name h)
 
+-- and of another is false
 pub unnamed_told : (name : List ℕ) → (IsName name → ⊥) → false ≡ is_proper name
 unnamed_told name h = decided (is_proper name) refl where
   decided : (b : Bool) → is_proper name ≡ b → false ≡ is_proper name
@@ -63,6 +70,7 @@ unnamed_told name h = decided (is_proper name) refl where
 
 -- ---- members of a list of texts
 
+-- where all members are texts, the first and the others are those that are found
 texts_step : (x : Value) (t : Option (List ℕ)) (more : Option (List (List ℕ))) (rest : List (List ℕ)) → text_of x ≡ t → is_some (option_and_then (λ text. option_map (λ texts. text ∷ texts) more) t) ≡ true
     → (is_some more ≡ true → rest ≡ list_or_none more) → option_to_list t ++ rest ≡ list_or_none (option_and_then (λ text. option_map (λ texts. text ∷ texts) more) t)
 texts_step x None more rest is h f = absurd (no_way h)
@@ -74,6 +82,7 @@ pub all_texts : (items : List Value) → is_some (texts_of items) ≡ true → f
 all_texts [] h = refl
 all_texts (x ∷ items) h = texts_step x (text_of x) (texts_of items) (flat_map member_text items) refl h (all_texts items)
 
+-- where one isn't a text, none are found
 pub no_texts : (items : List Value) → is_some (texts_of items) ≡ false → list_or_none (texts_of items) ≡ []
 no_texts items h = step (texts_of items) h where
   step : (o : Option (List (List ℕ))) → is_some o ≡ false → list_or_none o ≡ []
@@ -82,17 +91,21 @@ no_texts items h = step (texts_of items) h where
 
 -- ---- bounds
 
+-- what holds of each that stands in a list holds of all
 pub all_from : {X : Type 0} (P : X → Type 0) (xs : List X) → ((x : X) → Contains xs x → P x) → All P xs
 all_from P xs f k d h = f (slice_index_or xs k d) (Contains-get_or xs k d h)
 
+-- a target that is named is a plain resource
 pub named_within : (c : Catalog) (plain : List ℕ) (who : List ℕ × List ℕ) (k : ℕ) → Contains (named_targets c plain who) k → Contains plain k
 named_within c plain who k h = step (is_proper who.1) h where
   step : (t : Bool) → Contains (cond t (named_among c who.0 who.1 plain) []) k → Contains plain k
   step true h = (in_filter (λ place. has_name who.0 who.1 (slice_get c.resources place)) plain k h).0
   step false h = absurd (none_in k h)
 
+-- so is each target that a resource names
 pub targets_within : (c : Catalog) (plain : List ℕ) (r : Resource) (k : ℕ) → Contains (targets_by_names c plain r) k → Contains plain k
 targets_within c plain r k h = let at = in_flat_map (named_targets c plain) (named_by r) k h in named_within c plain at.0 k at.2
 
+-- what holds of all plain resources holds of the targets
 pub targets_bounded : (P : ℕ → Type 0) (c : Catalog) (plain : List ℕ) (r : Resource) → All P plain → All P (targets_by_names c plain r)
 targets_bounded P c plain r h = all_from P (targets_by_names c plain r) (λ k m. All-contains P plain k h (targets_within c plain r k m))

@@ -17,10 +17,12 @@ pub record IsPair (whole : Relation) (plain : List ℕ) (n m : ℕ) (e : ℕ × 
   pub right : e.1 < m
   pub before : comes_at whole plain e.0 e.1 ≡ true
 
+-- a pair that is there is that one, and the test holds
 pair_from : (t : Bool) (i j : ℕ) (e : ℕ × ℕ) → Contains (pair_if t i j) e → (t ≡ true) × ((i, j) ≡ e)
 pair_from true i j e h = (refl, in_one (i, j) e h)
 pair_from false i j e h = absurd (none_in e h)
 
+-- a pair of a row is of this one and one of the first, and the one comes before the other
 row_from : (whole : Relation) (plain : List ℕ) (i j : ℕ) (e : ℕ × ℕ) → Contains (pairs_in_row whole plain i j) e → (e.0 ≡ i) × (e.1 < j) × (comes_at whole plain e.0 e.1 ≡ true)
 row_from whole plain i zero e h = absurd (none_in e h)
 row_from whole plain i (suc j) e h =
@@ -32,6 +34,7 @@ row_from whole plain i (suc j) e h =
     (left, omega (arith, right), ap (λ (p : ℕ × ℕ). comes_at whole plain p.0 p.1) (sym at.1) ∙ at.0))
     (Contains-append_cases (pairs_in_row whole plain i j) (pair_if (comes_at whole plain i j) i j) e h)
 
+-- each pair that is made is one of which the one comes before the other
 pub pairs_from : (whole : Relation) (plain : List ℕ) (n : ℕ) (e : ℕ × ℕ) → Contains (pairs_below whole plain n) e → IsPair whole plain n (length plain) e
 pairs_from whole plain zero e h = absurd (none_in e h)
 pairs_from whole plain (suc i) e h =
@@ -39,14 +42,17 @@ pairs_from whole plain (suc i) e h =
     (λ m. let at = row_from whole plain i (length plain) e m in let same = at.0 in record { left = omega arith; right = at.1; before = at.2 })
     (Contains-append_cases (pairs_below whole plain i) (pairs_in_row whole plain i (length plain)) e h)
 
+-- what is below the next number is below this one, or is it
 here_or_later : (j k : ℕ) (t : Bool) → nat_lt j k ≡ t → j < suc k → (j < k) ⊎ (j ≡ k)
 here_or_later j k true is h = inl (ltb-true j k is)
 here_or_later j k false is h = let up = ltb-false j k is in inr (omega arith)
 
+-- where the test holds, the pair is there
 pair_in : (t : Bool) (i j : ℕ) → t ≡ true → Contains (pair_if t i j) (i, j)
 pair_in true i j h = head_in (i, j) []
 pair_in false i j h = absurd (no_way h)
 
+-- a pair of which the one comes before the other is in the row
 row_in : (whole : Relation) (plain : List ℕ) (i k j : ℕ) → j < k → comes_at whole plain i j ≡ true → Contains (pairs_in_row whole plain i k) (i, j)
 row_in whole plain i zero j less h = absurd (never less) where
   never : j < 0 → ⊥
@@ -57,6 +63,7 @@ row_in whole plain i (suc k) j less h =
     (subst (λ m. Contains (pair_if (comes_at whole plain i m) i m) (i, j)) same (pair_in (comes_at whole plain i j) i j h)))
     (here_or_later j k (nat_lt j k) refl less)
 
+-- and so among all
 pub pairs_in : (whole : Relation) (plain : List ℕ) (n i j : ℕ) → i < n → j < length plain → comes_at whole plain i j ≡ true → Contains (pairs_below whole plain n) (i, j)
 pairs_in whole plain zero i j less right h = absurd (never less) where
   never : i < 0 → ⊥
@@ -67,6 +74,7 @@ pairs_in whole plain (suc n) i j less right h =
     (subst (λ m. Contains (pairs_in_row whole plain m (length plain)) (i, j)) same (row_in whole plain i (length plain) j right h)))
     (here_or_later i n (nat_lt i n) refl less)
 
+-- both of each pair are below the number of plain resources
 pub pairs_bounded : (whole : Relation) (plain : List ℕ) → EndsBelow (length plain) (pairs_below whole plain (length plain))
 pairs_bounded whole plain = all_from (λ (e : ℕ × ℕ). (e.0 < length plain) × (e.1 < length plain)) (pairs_below whole plain (length plain))
     (λ e m. let p = pairs_from whole plain (length plain) e m in (p.left, p.right))
@@ -78,6 +86,7 @@ pairs_path whole plain strict i j (paths.Path.edge h) = (pairs_from whole plain 
 pairs_path whole plain strict i j (paths.Path.and_on h more) =
     strict.transitive _ _ _ (pairs_from whole plain (length plain) _ h).before (pairs_path whole plain strict _ j more)
 
+-- where one plain resource comes before another, a path of pairs leads to it
 pub path_of_pairs : (whole : Relation) (plain : List ℕ) (i j : ℕ) → i < length plain → j < length plain → Comes whole (2 * slice_index plain i) (2 * slice_index plain j)
     → Path (pairs_below whole plain (length plain)) i j
 path_of_pairs whole plain i j left right h = paths.Path.edge (pairs_in whole plain (length plain) i j left right h)

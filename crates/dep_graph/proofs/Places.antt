@@ -15,6 +15,7 @@ at_place [] i x h = absurd (none_some x h) where
 at_place (y ∷ xs) zero x h = (omega arith, sym (some_same y x h))
 at_place (y ∷ xs) (suc i) x h = let rest = at_place xs i x h in (omega (arith, rest.0), rest.1)
 
+-- the rest begins with what stands at the place
 pub rest_at : {X : Type 0} (xs : List X) (i : ℕ) (x : X) → slice_get xs i ≡ Some x → drop i xs ≡ x ∷ drop (i + 1) xs
 rest_at xs i x h = let at = at_place xs i x h in drop_more xs i x at.0 ∙ ap (λ y. y ∷ drop (i + 1) xs) (sym at.1)
 
@@ -23,6 +24,7 @@ plain_with : (n : ℕ) (places rest : List ℕ) (t : Bool) (w : List ℕ) → pl
 plain_with n places rest true w h = append_assoc places (n ∷ []) rest ∙ h
 plain_with n places rest false w h = h
 
+-- one more resource keeps its place, if it is a real plain one
 pub plain_more : (resources : List Resource) (n : ℕ) (r : Resource) (places w : List ℕ) → slice_get resources n ≡ Some r
     → places ++ plain_from n (drop n resources) ≡ w
     → cond (is_plain_sort r.sort && not r.is_virtual) (places ++ n ∷ []) places ++ plain_from (n + 1) (drop (n + 1) resources) ≡ w

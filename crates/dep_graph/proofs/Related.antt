@@ -29,6 +29,7 @@ use Rattle.graph_semantics.proofs.Basics.{no_way, both_true, true_both, some_sam
 
 -- ---- a target is real
 
+-- what a reference names is real
 pub target_real : (c : Catalog) (ref : Ref) (k : ℕ) → target_of c ref ≡ Some k → (r : Resource) × (real_at c k ≡ Some r)
 target_real c ref k h = step (place_of ref c.resources) h where
   there : (place : ℕ) (t : Option Resource) → real_at c place ≡ t → option_map (λ r. place) t ≡ Some k → (r : Resource) × (real_at c k ≡ Some r)
@@ -56,6 +57,7 @@ record Next (c : Catalog) (q : Relation) (old more : List Link) : Type 0 where
   pub of : IsLinkOf c q link
   pub is : more ≡ old ++ link ∷ []
 
+-- the link of a relation goes behind those before
 next_link : (c : Catalog) (q : Relation) (old more : List Link) → with_link c q old ≡ Ok more → Next c q old more
 next_link c q old more h = step (with_nodes side.From c q.at q.from []) (with_nodes side.To c q.at q.to []) refl refl h where
   step : (f t : Result (List ℕ) Refusal) → with_nodes side.From c q.at q.from [] ≡ f → with_nodes side.To c q.at q.to [] ≡ t
@@ -70,6 +72,7 @@ pub record Comes (c : Catalog) (relations : List Relation) (l : Link) : Type 0 w
   pub among : Contains relations relation
   pub of : IsLinkOf c relation l
 
+-- each link comes from a relation, or was there, where it is so of the others
 comes_step : (c : Catalog) (q : Relation) (relations : List Relation) (old ls : List Link) (m : Result (List Link) Refusal) → with_link c q old ≡ m → (m >>= λ more. with_links c relations more) ≡ Ok ls
     → ((more : List Link) → with_links c relations more ≡ Ok ls → (l : Link) → Contains ls l → Contains more l ⊎ Comes c relations l)
     → (l : Link) → Contains ls l → Contains old l ⊎ Comes c (q ∷ relations) l
@@ -82,6 +85,7 @@ comes_step c q relations old ls (Ok more) is h f l k =
     (λ rest. inr (record { relation = rest.relation; among = tail_in q rest.relation relations rest.among; of = rest.of }))
     (f more h l k)
 
+-- each link comes from a relation, or was there
 pub links_come : (c : Catalog) (relations : List Relation) (old ls : List Link) → with_links c relations old ≡ Ok ls → (l : Link) → Contains ls l → Contains old l ⊎ Comes c relations l
 links_come c [] old ls h l k = inl (subst (λ xs. Contains xs l) (sym (ok_same old ls h)) k)
 links_come c (q ∷ relations) old ls h l k = comes_step c q relations old ls (with_link c q old) refl h (λ more. links_come c relations more ls) l k
@@ -91,6 +95,7 @@ pub record HasLinks (c : Catalog) (relations : List Relation) (old ls : List Lin
   pub stay : (l : Link) → Contains old l → Contains ls l
   pub there : (q : Relation) → Contains relations q → (l : Link) × Contains ls l × IsLinkOf c q l
 
+-- each relation has its link, where it is so of the others
 has_step : (c : Catalog) (q : Relation) (relations : List Relation) (old ls : List Link) (m : Result (List Link) Refusal) → with_link c q old ≡ m → (m >>= λ more. with_links c relations more) ≡ Ok ls
     → ((more : List Link) → with_links c relations more ≡ Ok ls → HasLinks c relations more ls) → HasLinks c (q ∷ relations) old ls
 has_step c q relations old ls (Err r) is h f = absurd (err_ok r ls h)
@@ -105,15 +110,18 @@ has_step c q relations old ls (Ok more) is h f =
           (in_cases q p relations k);
     }
 
+-- each relation has its link, and what was there stays
 pub links_there : (c : Catalog) (relations : List Relation) (old ls : List Link) → with_links c relations old ≡ Ok ls → HasLinks c relations old ls
 links_there c [] old ls h = record { stay = λ l k. subst (λ xs. Contains xs l) (ok_same old ls h) k; there = λ q k. absurd (none_in q k) }
 links_there c (q ∷ relations) old ls h = has_step c q relations old ls (with_link c q old) refl h (λ more. links_there c relations more ls)
 
 -- ---- the first reference to nothing
 
+-- what a relation mentions are the references of its two sides
 mentions_split : (q : Relation) (more : List (Ref × ℕ)) → mentions q ++ more ≡ map (λ ref. (ref, q.at)) q.from ++ (map (λ ref. (ref, q.at)) q.to ++ more)
 mentions_split q more = ap (λ xs. xs ++ more) (map-append (λ (ref : Ref). (ref, q.at)) q.from q.to) ∙ append_assoc (map (λ ref. (ref, q.at)) q.from) (map (λ ref. (ref, q.at)) q.to) more
 
+-- where links are made of all relations, no reference names nothing
 pub nothing_missing : (c : Catalog) (relations : List Relation) (old ls : List Link) → with_links c relations old ≡ Ok ls → first_missing c (flat_map mentions relations) ≡ None
 nothing_missing c [] old ls h = refl
 nothing_missing c (q ∷ relations) old ls h = step (with_link c q old) refl h (λ more. nothing_missing c relations more ls) where
@@ -127,6 +135,7 @@ nothing_missing c (q ∷ relations) old ls h = step (with_link c q old) refl h (
       ∙ none_missing side.To c q.at q.to [] next.link.to (flat_map mentions relations) next.of.to
       ∙ f more e
 
+-- the refusal of a link is that of the first reference to nothing
 link_missing : (c : Catalog) (q : Relation) (old : List Link) (r : Refusal) (more : List (Ref × ℕ)) → with_link c q old ≡ Err r → first_missing c (mentions q ++ more) ≡ Some r
 link_missing c q old r more h = ap (first_missing c) (mentions_split q more) ∙ step (with_nodes side.From c q.at q.from []) (with_nodes side.To c q.at q.to []) refl refl h where
   step : (f t : Result (List ℕ) Refusal) → with_nodes side.From c q.at q.from [] ≡ f → with_nodes side.To c q.at q.to [] ≡ t
@@ -142,6 +151,7 @@ link_missing c q old r more h = ap (first_missing c) (mentions_split q more) ∙
         first_err x e = let same : x ≡ r = cc in ap (λ (y : Refusal). Err y) same
   step (Ok from) (Ok to) is at e = absurd (err_ok r (old ++ record { from = from; to = to } ∷ []) (sym e))
 
+-- so is the refusal of all links
 pub something_missing : (c : Catalog) (relations : List Relation) (old : List Link) (r : Refusal) → with_links c relations old ≡ Err r → first_missing c (flat_map mentions relations) ≡ Some r
 something_missing c [] old r h = absurd (err_ok r old (sym h))
 something_missing c (q ∷ relations) old r h = step (with_link c q old) refl h (λ more. something_missing c relations more r) where
@@ -164,25 +174,30 @@ pub record IsFirst (c : Catalog) (q : Relation) (x place : ℕ) : Type 0 where
   pub names : target_of c ref ≡ Some place
   pub is : x ≡ rank (last_at c place)
 
+-- the number is that of the first node of a resource that the relation puts second
 pub record IsSecond (c : Catalog) (q : Relation) (y place : ℕ) : Type 0 where
   pub ref : Ref
   pub among : Contains q.to ref
   pub names : target_of c ref ≡ Some place
   pub is : y ≡ 2 * place
 
+-- each link of the catalog comes from a relation of it
 pub link_of : (c : Catalog) (links : List Link) → AreLinks c links → (l : Link) → Contains links l → Comes c (all_relations c) l
 link_of c links are l k = either_way (λ none. absurd (none_in l none)) (λ m. m) (links_come c (all_relations c) [] links are l k)
 
+-- each number on the first side of a link is that of a resource that the relation puts first
 pub first_of : (c : Catalog) (q : Relation) (l : Link) (x : ℕ) → IsLinkOf c q l → Contains l.from x → (place : ℕ) × IsFirst c q x place
 first_of c q l x of h =
     either_way (λ none. absurd (none_in x none)) (λ n. (n.place, record { ref = n.ref; among = n.among; names = n.names; is = n.is }))
     (nodes_come side.From c q.at q.from [] l.from of.from x h)
 
+-- and each on the second side of one that it puts second
 pub second_of : (c : Catalog) (q : Relation) (l : Link) (y : ℕ) → IsLinkOf c q l → Contains l.to y → (place : ℕ) × IsSecond c q y place
 second_of c q l y of h =
     either_way (λ none. absurd (none_in y none)) (λ n. (n.place, record { ref = n.ref; among = n.among; names = n.names; is = n.is }))
     (nodes_come side.To c q.at q.to [] l.to of.to y h)
 
+-- a relation relates what it puts first to what it puts second
 relates : (c : Catalog) (q : Relation) (x y a b : ℕ) → IsFirst c q x a → IsSecond c q y b → Relates c q a b
 relates c q x y a b f s = record { left = f.ref; right = s.ref; from = f.among; to = s.among; from_is = f.names; to_is = s.names }
 
@@ -217,6 +232,7 @@ related_link c links are q a b among r =
 
 -- ---- numbers of last nodes
 
+-- the last node of a real resource is one of the nodes
 pub low_last : (c : Catalog) (place : ℕ) (r : Resource) → real_at c place ≡ Some r → rank (last_at c place) < bound_of c
 low_last c place r real = subst (λ (n : Node). rank n < bound_of c) (sym (last_is c place r real)) (by_sort r.sort (within c place r real)) where
   by_sort : (s : Sort) → place < length c.resources → rank (last_node s place) < bound_of c
@@ -224,6 +240,7 @@ low_last c place r real = subst (λ (n : Node). rank n < bound_of c) (sym (last_
   by_sort sort.Defined h = omega (arith, h)
   by_sort sort.Class h = omega (arith, h)
 
+-- so are those on the first side of a link
 pub low_from : (c : Catalog) (links : List Link) → AreLinks c links → (l : Link) (x : ℕ) → Contains links l → Contains l.from x → x < bound_of c
 low_from c links are l x among from =
     let q = link_of c links are l among in
@@ -231,6 +248,7 @@ low_from c links are l x among from =
     let real = target_real c f.1.ref f.0 f.1.names in
     subst (λ n. n < bound_of c) (sym f.1.is) (low_last c f.0 real.0 real.1)
 
+-- and those on the second
 pub low_to : (c : Catalog) (links : List Link) → AreLinks c links → (l : Link) (y : ℕ) → Contains links l → Contains l.to y → y < bound_of c
 low_to c links are l y among to =
     let q = link_of c links are l among in
@@ -242,6 +260,7 @@ low_to c links are l y among to =
 
 -- ---- a relation stands directly from the one plain resource to the other
 
+-- a last node with an even number is that of the resource at its place
 last_even : (c : Catalog) (place a : ℕ) (r : Resource) → real_at c place ≡ Some r → 2 * a ≡ rank (last_at c place) → place ≡ a
 last_even c place a r real h = by_sort r.sort (h ∙ ap rank (last_is c place r real)) where
   by_sort : (s : Sort) → 2 * a ≡ rank (last_node s place) → place ≡ a
@@ -249,12 +268,15 @@ last_even c place a r real h = by_sort r.sort (h ∙ ap rank (last_is c place r 
   by_sort sort.Defined e = omega (arith, e)
   by_sort sort.Class e = omega (arith, e)
 
+-- a number that is told to stand in a list does
 has_in : (n : ℕ) (ns : List ℕ) → has n ns ≡ true → Contains ns n
 has_in n ns h = let at = any_in (λ k. k == n) ns h in subst (Contains ns) (eqb-true at.0 n at.2) at.1
 
+-- and one that stands there is told to
 in_has : (n : ℕ) (ns : List ℕ) → Contains ns n → has n ns ≡ true
 in_has n ns h = in_any (λ k. k == n) ns n h (eq-eqb n n refl)
 
+-- where a link joins two places, a relation stands from the one to the other
 pub linked_related : (c : Catalog) (links : List Link) → AreLinks c links → (a b : ℕ) → is_linked links (2 * a) (2 * b) ≡ true → IsRelated c a b
 linked_related c links are a b h =
     let at = any_in (λ l. has (2 * a) l.from && has (2 * b) l.to) links h in
@@ -267,11 +289,13 @@ linked_related c links are a b h =
     let second : s.0 ≡ b = let same = s.1.is in omega arith in
     (q.relation, q.among, subst (λ p. Relates c q.relation p b) first (subst (Relates c q.relation f.0) second (relates c q.relation (2 * a) (2 * b) f.0 s.0 f.1 s.1)))
 
+-- the last node of a plain resource is its only one
 plain_last : (s : Sort) (a : ℕ) → is_plain_sort s ≡ true → rank (last_node s a) ≡ 2 * a
 plain_last sort.Plain a h = refl
 plain_last sort.Defined a h = absurd (no_way h)
 plain_last sort.Class a h = absurd (no_way h)
 
+-- and where a relation stands from a plain resource, a link joins the two
 pub related_linked : (c : Catalog) (links : List Link) → AreLinks c links → (a b : ℕ) (r : Resource) → real_at c a ≡ Some r → is_plain_sort r.sort ≡ true → IsRelated c a b
     → is_linked links (2 * a) (2 * b) ≡ true
 related_linked c links are a b r real plain h =

@@ -22,12 +22,14 @@ pub record IsNodeOf (s : Side) (c : Catalog) (refs : List Ref) (n : ℕ) : Type 
   pub names : target_of c ref ≡ Some place
   pub is : n ≡ side_number s c place
 
+-- what is of some references is of more
 weaker : (s : Side) (c : Catalog) (ref : Ref) (refs : List Ref) (n : ℕ) → IsNodeOf s c refs n → IsNodeOf s c (ref ∷ refs) n
 weaker s c ref refs n h = record { ref = h.ref; place = h.place; among = tail_in ref h.ref refs h.among; names = h.names; is = h.is }
 
 -- ---- the nodes of references
 
 module _ (s : Side) (c : Catalog) (at : ℕ) where
+  -- each node comes from a reference, or was there, where it is so of the others
   come_step : (ref : Ref) (refs : List Ref) (old ns : List ℕ) (t : Option ℕ) → target_of c ref ≡ t → numbered s c at ref t >>= (λ n. with_nodes s c at refs (old ++ n ∷ [])) ≡ Ok ns
       → ((m : ℕ) → with_nodes s c at refs (old ++ m ∷ []) ≡ Ok ns → (n : ℕ) → Contains ns n → Contains (old ++ m ∷ []) n ⊎ IsNodeOf s c refs n)
       → (n : ℕ) → Contains ns n → Contains old n ⊎ IsNodeOf s c (ref ∷ refs) n
@@ -39,6 +41,7 @@ module _ (s : Side) (c : Catalog) (at : ℕ) where
       (λ more. inr (weaker s c ref refs n more))
       (rest (side_number s c place) h n k)
 
+  -- each node comes from a reference, or was there
   pub nodes_come : (refs : List Ref) (old ns : List ℕ) → with_nodes s c at refs old ≡ Ok ns → (n : ℕ) → Contains ns n → Contains old n ⊎ IsNodeOf s c refs n
   nodes_come [] old ns h n k = inl (subst (λ xs. Contains xs n) (sym (ok_same old ns h)) k)
   nodes_come (ref ∷ refs) old ns h n k = come_step ref refs old ns (target_of c ref) refl h (λ m. nodes_come refs (old ++ m ∷ []) ns) n k
@@ -48,6 +51,7 @@ module _ (s : Side) (c : Catalog) (at : ℕ) where
     pub stay : (n : ℕ) → Contains old n → Contains ns n
     pub there : (ref : Ref) (place : ℕ) → Contains refs ref → target_of c ref ≡ Some place → Contains ns (side_number s c place)
 
+  -- each reference has its node, where it is so of the others
   there_step : (ref : Ref) (refs : List Ref) (old ns : List ℕ) (t : Option ℕ) → target_of c ref ≡ t → numbered s c at ref t >>= (λ n. with_nodes s c at refs (old ++ n ∷ [])) ≡ Ok ns
       → ((m : ℕ) → with_nodes s c at refs (old ++ m ∷ []) ≡ Ok ns → AreThere refs (old ++ m ∷ []) ns) → AreThere (ref ∷ refs) old ns
   there_step ref refs old ns None is h rest = absurd (err_ok _ ns h)
@@ -61,30 +65,36 @@ module _ (s : Side) (c : Catalog) (at : ℕ) where
             (in_cases ref r refs k);
       }
 
+  -- each reference has its node, and what was there stays
   pub nodes_there : (refs : List Ref) (old ns : List ℕ) → with_nodes s c at refs old ≡ Ok ns → AreThere refs old ns
   nodes_there [] old ns h = record { stay = λ n k. subst (λ xs. Contains xs n) (ok_same old ns h) k; there = λ ref place k. absurd (none_in ref k) }
   nodes_there (ref ∷ refs) old ns h = there_step ref refs old ns (target_of c ref) refl h (λ m. nodes_there refs (old ++ m ∷ []) ns)
 
   -- ---- the first reference to nothing
 
+  -- the references with this place in the text
   abbrev marks : List Ref → List (Ref × ℕ)
   marks refs = map (λ ref. (ref, at)) refs
 
+  -- a reference that names something isn't the first that doesn't
   none_step : (ref : Ref) (refs : List Ref) (old ns : List ℕ) (w x : Option Refusal) (t : Option ℕ) → numbered s c at ref t >>= (λ n. with_nodes s c at refs (old ++ n ∷ [])) ≡ Ok ns
       → ((m : ℕ) → with_nodes s c at refs (old ++ m ∷ []) ≡ Ok ns → w ≡ x) → cond (is_some t) w (Some (refusal 40 at (shown_ref ref))) ≡ x
   none_step ref refs old ns w x None h rest = absurd (err_ok _ ns h)
   none_step ref refs old ns w x (Some place) h rest = rest (side_number s c place) h
 
+  -- where nodes are found of all references, the first to nothing is further on
   pub none_missing : (refs : List Ref) (old ns : List ℕ) (more : List (Ref × ℕ)) → with_nodes s c at refs old ≡ Ok ns → first_missing c (marks refs ++ more) ≡ first_missing c more
   none_missing [] old ns more h = refl
   none_missing (ref ∷ refs) old ns more h =
       none_step ref refs old ns (first_missing c (marks refs ++ more)) (first_missing c more) (target_of c ref) h (λ m. none_missing refs (old ++ m ∷ []) ns more)
 
+  -- the refusal is at this reference, or at one of the others
   one_step : (ref : Ref) (refs : List Ref) (old : List ℕ) (r : Refusal) (w : Option Refusal) (t : Option ℕ) → numbered s c at ref t >>= (λ n. with_nodes s c at refs (old ++ n ∷ [])) ≡ Err r
       → ((m : ℕ) → with_nodes s c at refs (old ++ m ∷ []) ≡ Err r → w ≡ Some r) → cond (is_some t) w (Some (refusal 40 at (shown_ref ref))) ≡ Some r
   one_step ref refs old r w None h rest = let same : refusal 40 at (shown_ref ref) ≡ r = cc in ap (λ (y : Refusal). Some y) same
   one_step ref refs old r w (Some place) h rest = rest (side_number s c place) h
 
+  -- where nodes aren't found, the refusal is that of the first reference to nothing
   pub one_missing : (refs : List Ref) (old : List ℕ) (r : Refusal) (more : List (Ref × ℕ)) → with_nodes s c at refs old ≡ Err r → first_missing c (marks refs ++ more) ≡ Some r
   one_missing [] old r more h = absurd (err_ok r old (sym h))
   one_missing (ref ∷ refs) old r more h =

@@ -12,6 +12,7 @@ use Rattle.graph_semantics.proofs.Basics.{no_way, both_true, true_both, not_true
 
 -- ---- a real resource stands among the resources
 
+-- a real resource stands there, and isn't virtual
 real_stands : (o : Option Resource) (r : Resource) → option_and_then if_real o ≡ Some r → (o ≡ Some r) × (r.is_virtual ≡ false)
 real_stands None r h = absurd (none_some r h) where
   none_some : (r : Resource) → ◌≡◌ {A = Option Resource} None (Some r) → ⊥
@@ -23,12 +24,15 @@ real_stands (Some q) r h = by_flag q.is_virtual refl h where
     none_some k = cc
   by_flag false is k = (k, subst (λ (x : Resource). x.is_virtual ≡ false) (some_same q r k) is)
 
+-- what is real at a place stands there
 pub stands : (c : Catalog) (place : ℕ) (r : Resource) → real_at c place ≡ Some r → slice_get c.resources place ≡ Some r
 stands c place r h = (real_stands (slice_get c.resources place) r h).0
 
+-- and isn't virtual
 pub isnt_virtual : (c : Catalog) (place : ℕ) (r : Resource) → real_at c place ≡ Some r → r.is_virtual ≡ false
 isnt_virtual c place r h = (real_stands (slice_get c.resources place) r h).1
 
+-- and the place is within the resources
 pub within : (c : Catalog) (place : ℕ) (r : Resource) → real_at c place ≡ Some r → place < length c.resources
 within c place r h = got_within c.resources place r (stands c place r h)
 
@@ -43,9 +47,11 @@ record StandsPlain (n : ℕ) (resources : List Resource) (k : ℕ) : Type 0 wher
   pub plain : is_plain_sort resource.sort ≡ true
   pub real : resource.is_virtual ≡ false
 
+-- what stands among the others stands in all
 one_on : (n k : ℕ) (r : Resource) (resources : List Resource) → StandsPlain (n + 1) resources k → StandsPlain n (r ∷ resources) k
 one_on n k r resources h = record { index = suc h.index; resource = h.resource; at = h.at; is = omega (arith, h.is); plain = h.plain; real = h.real }
 
+-- a place that is kept is that of a plain resource, here or further on
 plain_step : (n k : ℕ) (r : Resource) (resources : List Resource) (t : Bool) → (is_plain_sort r.sort && not r.is_virtual) ≡ t → (Contains (plain_from (n + 1) resources) k → StandsPlain (n + 1) resources k)
     → Contains (cond t (n ∷ plain_from (n + 1) resources) (plain_from (n + 1) resources)) k → StandsPlain n (r ∷ resources) k
 plain_step n k r resources true is f h =
@@ -54,18 +60,22 @@ plain_step n k r resources true is f h =
     (in_cases n k (plain_from (n + 1) resources) h)
 plain_step n k r resources false is f h = one_on n k r resources (f h)
 
+-- each place that is kept is that of a real plain resource
 plain_stands : (n k : ℕ) (resources : List Resource) → Contains (plain_from n resources) k → StandsPlain n resources k
 plain_stands n k [] h = absurd (none_in k h)
 plain_stands n k (r ∷ resources) h = plain_step n k r resources (is_plain_sort r.sort && not r.is_virtual) refl (plain_stands (n + 1) k resources) h
 
+-- a plain resource has its place kept
 first_plain : (n : ℕ) (t : Bool) (rest : List ℕ) → t ≡ true → Contains (cond t (n ∷ rest) rest) n
 first_plain n true rest h = head_in n rest
 first_plain n false rest h = absurd (no_way h)
 
+-- so have those further on
 later_plain : (n k : ℕ) (t : Bool) (rest : List ℕ) → Contains rest k → Contains (cond t (n ∷ rest) rest) k
 later_plain n k true rest h = tail_in n k rest h
 later_plain n k false rest h = h
 
+-- the place of each real plain resource is kept
 plain_in_from : (n i : ℕ) (resources : List Resource) (r : Resource) → slice_get resources i ≡ Some r → (is_plain_sort r.sort && not r.is_virtual) ≡ true → Contains (plain_from n resources) (n + i)
 plain_in_from n i [] r h p = absurd (none_some h) where
   none_some : ◌≡◌ {A = Option Resource} None (Some r) → ⊥
@@ -79,10 +89,12 @@ plain_in_from n (suc i) (q ∷ resources) r h p =
     later_plain n (n + suc i) (is_plain_sort q.sort && not q.is_virtual) (plain_from (n + 1) resources)
     (subst (Contains (plain_from (n + 1) resources)) next (plain_in_from (n + 1) i resources r h p))
 
+-- a resource that isn't virtual is real
 real_of : (r : Resource) (t : Bool) → r.is_virtual ≡ t → t ≡ false → cond t None (Some r) ≡ Some r
 real_of r true is h = absurd (no_way (sym h))
 real_of r false is h = refl
 
+-- at each place of a plain resource a real one stands
 pub plain_at : (c : Catalog) (k : ℕ) → Contains (plain_places c) k → (r : Resource) × IsPlainAt c k r
 plain_at c k h =
     let at = plain_stands 0 k c.resources h in
@@ -94,6 +106,7 @@ plain_at c k h =
       },
     )
 
+-- and each real plain resource has its place among them
 pub plain_in : (c : Catalog) (k : ℕ) (r : Resource) → IsPlainAt c k r → Contains (plain_places c) k
 plain_in c k r h =
     let zero_more : 0 + k ≡ k = omega arith in

@@ -3,6 +3,7 @@ use Rattle.std.proofs.Common.{ℕ, List, [], ◌∷◌, ◌++◌}
 use Rattle.catalog_semantics.specs.Catalogs.{Catalog}
 use Rattle.placed_names.specs.Placed.{IsNameAt, AreNamesAt}
 
+-- with one more resource and its name, resources and names go one with another
 pub one_more : (text : List ℕ) (c : Catalog) (places : List ℕ) (names : List (List ℕ)) (place : ℕ) (name : List ℕ) → AreNamesAt text c places names → IsNameAt text c place name
     → AreNamesAt text c (places ++ place ∷ []) (names ++ name ∷ [])
 one_more text c [] [] place name h k = (k, tt)

@@ -12,13 +12,16 @@ use Rattle.catalog_semantics.proofs.DistinctNames.{all_fit, distinct_behind}
 use Rattle.pp_decl_values.specs.Named.{keys_of}
 use Rattle.pp_decl_state.specs.Defaulting.{noted, names_noted}
 
+-- the keys of noted names are the names
 keys_are : (pairs : List Pair) → keys_of (map noted pairs) ≡ names_of pairs
 keys_are [] = refl
 keys_are (p ∷ pairs) = ap (λ (names : List (List ℕ)). p.0 ∷ names) (keys_are pairs)
 
+-- so are those of the names that defaults gave to a type
 pub keys_noted : (kind : List ℕ) (defaults : List Default) → keys_of (names_noted kind defaults) ≡ names_of (defaults_of kind defaults)
 keys_noted kind defaults = keys_are (defaults_of kind defaults)
 
+-- attributes that are given behind these have distinct names with them
 pub still_distinct : (s : Scoped) (kind : List ℕ) (defaults : List Default) (attrs : List Attr) (pairs : List Pair) → HasDistinctKeys (defaults_of kind defaults)
     → attributes_behind s (keys_of (names_noted kind defaults)) attrs ≡ Ok pairs → HasDistinctKeys (defaults_of kind defaults ++ pairs)
 still_distinct s kind defaults attrs pairs h is =

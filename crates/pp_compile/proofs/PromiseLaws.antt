@@ -31,13 +31,16 @@ promised text facts node_name data_levels limits P f (Err e) has = tt
 
 -- ---- the last state
 
+-- equal results have equal catalogs
 same_catalog : (c d : Catalog) → ◌≡◌ {A = Result Catalog Refusal} (Ok c) (Ok d) → c ≡ d
 same_catalog c d h = cc
 
+-- a catalog that isn't refused for its size is that of the state
 counted : (t : State) (f : Result State Refusal) (c : Catalog) → few_enough t ≡ f → (f >>= λ u. Ok (catalog_in u)) ≡ Ok c → c ≡ catalog_in t
 counted t (Err e) c is h = cc
 counted t (Ok u) c is h = sym (same_catalog (catalog_in u) c h) ∙ ap catalog_in (subst (Each (λ (w : State). w ≡ t)) is (few_is t))
 
+-- so is one of which all that is to be realized is there
 asked : (t : State) (r : Result State Refusal) (c : Catalog) → (r >>= λ there. few_enough t >>= λ u. Ok (catalog_in u)) ≡ Ok c → c ≡ catalog_in t
 asked t (Err e) c h = cc
 asked t (Ok w) c h = counted t (few_enough t) c refl h
@@ -46,6 +49,7 @@ module _
     (settled : (site : Site) (items : List Item) (facts : Value) (limits : Limits) (t : State) → state_after (round_limit limits) site items facts limits ≡ Ok t → IsSettled t)
     (enough : (site : Site) (items : List Item) (facts : Value) (limits : Limits) (n : ℕ) → round_limit limits ≤ n → state_after n site items facts limits ≡ state_after (round_limit limits) site items facts limits)
     (text : List ℕ) (facts : Value) (node_name : List ℕ) (data_levels : List Level) (limits : Limits) where
+  -- the catalog of a state after enough rounds is a settled one
   in_state : (m : Manifest) (c : Catalog) (site : Site) → IsParsed text m → site_of m data_levels (pairs_in facts) node_name ≡ Ok site → (r : Result State Refusal) → state_after (round_limit limits) site m.items facts limits ≡ r
       → (r >>= λ t. all_there t.pending t >>= λ there. few_enough t >>= λ u. Ok (catalog_in u)) ≡ Ok c → IsSettledCatalog text facts node_name data_levels limits c
   in_state m c site p gathered (Err e) is h = cc
@@ -60,10 +64,12 @@ module _
     is = asked t (all_there t.pending t) c h;
   }
 
+  -- so is that of what a manifest defines
   in_site : (m : Manifest) (c : Catalog) → IsParsed text m → (r : Result Site Refusal) → site_of m data_levels (pairs_in facts) node_name ≡ r → (r >>= λ site. catalog_from site m.items facts limits) ≡ Ok c
       → IsSettledCatalog text facts node_name data_levels limits c
   in_site m c p (Err e) is h = cc
   in_site m c p (Ok site) is h = in_state m c site p is (state_after (round_limit limits) site m.items facts limits) refl h
 
+  -- the catalog of a text is a settled one
   pub is_settled : (c : Catalog) (has : IsCatalogOf text facts node_name data_levels limits (Ok c)) → catalog_of has.manifest facts node_name data_levels limits ≡ Ok c → IsSettledCatalog text facts node_name data_levels limits c
   is_settled c has h = in_site has.manifest c has.parsed (site_of has.manifest data_levels (pairs_in facts) node_name) refl h

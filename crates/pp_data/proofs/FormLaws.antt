@@ -19,29 +19,36 @@ use Rattle.pp_data.specs.Reading.{has_only, pairs_in, when_in, level_of, level_w
 
 -- ---- steps of reading
 
+-- nothing isn't something
 no_value : {X : Type 0} (x : X) → None ≡ Some x → ⊥
 no_value x h = cc
 
+-- the first found something, and the second made this of it
 abbrev Step : {X Y : Type 0} → (X → Option Y) → Option X → Y → Type 0
 Step {X} f o y = (x : X) × (o ≡ Some x) × (f x ≡ Some y)
 
+-- two steps that find something are such
 step : {X Y : Type 0} (f : X → Option Y) (o : Option X) (y : Y) → option_and_then f o ≡ Some y → Step f o y
 step f None y h = absurd (no_value y h)
 step f (Some x) y h = (x, refl, h)
 
+-- something is there, and this is its image
 abbrev Mapped : {X Y : Type 0} → (X → Y) → Option X → Y → Type 0
 Mapped {X} f o y = (x : X) × (o ≡ Some x) × (f x ≡ y)
 
+-- an image that is there is one of something
 mapped : {X Y : Type 0} (f : X → Y) (o : Option X) (y : Y) → option_map f o ≡ Some y → Mapped f o y
 mapped f None y h = absurd (no_value y h)
 mapped f (Some x) y h = let same : f x ≡ y = cc in (x, refl, same)
 
+-- what is found behind a test is found where the test holds
 guarded : {Y : Type 0} (t : Bool) (o : Option Y) (y : Y) → cond t o None ≡ Some y → (t ≡ true) × (o ≡ Some y)
 guarded true o y h = (refl, h)
 guarded false o y h = absurd (no_value y h)
 
 -- ---- objects and arrays
 
+-- what is read as an object is one
 object_is : (d : Data) (members : Members) → as_object d ≡ Some members → d ≡ object members
 object_is null members h = absurd (no_value members h)
 object_is (boolean b) members h = absurd (no_value members h)
@@ -50,6 +57,7 @@ object_is (string s) members h = absurd (no_value members h)
 object_is (array items) members h = absurd (no_value members h)
 object_is (object found) members h = let same : found ≡ members = cc in ap object same
 
+-- what is read as an array is one
 array_is : (d : Data) (items : Items) → as_array d ≡ Some items → d ≡ array items
 array_is null items h = absurd (no_value items h)
 array_is (boolean b) items h = absurd (no_value items h)
@@ -64,6 +72,7 @@ got key d members h = ap (get key) (object_is d members h)
 
 -- ---- keys
 
+-- a key that is told to be one of two is
 one_of : (key a b : List ℕ) → (bytes_eq key a || bytes_eq key b) ≡ true → (key ≡ a) ⊎ (key ≡ b)
 one_of key a b h = at (bytes_eq key a) refl h
   where
@@ -71,6 +80,7 @@ one_of key a b h = at (bytes_eq key a) refl h
     at true e h = inl ((bytes_eq-Decides key a).0 e)
     at false e h = inr ((bytes_eq-Decides key b).0 h)
 
+-- and one that is one of two is told to be
 is_one : (key a b : List ℕ) → (key ≡ a) ⊎ (key ≡ b) → (bytes_eq key a || bytes_eq key b) ≡ true
 is_one key a b (inl e) = ap (λ t. t || bytes_eq key b) ((bytes_eq-Decides key a).1 e)
 is_one key a b (inr e) = at (bytes_eq key a) ((bytes_eq-Decides key b).1 e)
@@ -79,16 +89,19 @@ is_one key a b (inr e) = at (bytes_eq key a) ((bytes_eq-Decides key b).1 e)
     at true h = refl
     at false h = h
 
+-- where a conjunction holds both sides do
 both : (a b : Bool) → (a && b) ≡ true → (a ≡ true) × (b ≡ true)
 both true b h = (refl, h)
 both false b h = absurd (true≢false (sym h))
 
+-- an object that is told to have no other keys has none
 only : (a b : List ℕ) (IsKey : List ℕ → Type 0) → ((key : List ℕ) → (key ≡ a) ⊎ (key ≡ b) → IsKey key) → (members : Members) → has_only a b members ≡ true → HasOnly IsKey members
 only a b IsKey is no_members h = tt
 only a b IsKey is (member key d members) h =
     let parts = both (bytes_eq key a || bytes_eq key b) (has_only a b members) h in
     (is key (one_of key a b parts.0), only a b IsKey is members parts.1)
 
+-- and one that has none is told so
 only_back : (a b : List ℕ) (IsKey : List ℕ → Type 0) → ((key : List ℕ) → IsKey key → (key ≡ a) ⊎ (key ≡ b)) → (members : Members) → HasOnly IsKey members → has_only a b members ≡ true
 only_back a b IsKey is no_members h = refl
 only_back a b IsKey is (member key d members) h =
@@ -96,22 +109,27 @@ only_back a b IsKey is (member key d members) h =
 
 -- ---- pairs
 
+-- what is read as pairs is the pairs of an object
 pairs_are : (d : Data) (pairs : List Pair) → pairs_in d ≡ Some pairs → ArePairs pairs d
 pairs_are d pairs h = let m = mapped pairs_of (as_object d) pairs h in record { members = m.0; is_object = object_is d m.0 m.1; are = sym m.2 }
 
+-- and the pairs of an object are read
 pairs_back : (d : Data) (pairs : List Pair) → ArePairs pairs d → pairs_in d ≡ Some pairs
 pairs_back d pairs a = ap pairs_in a.is_object ∙ ap Some (sym a.are)
 
+-- what is read as `when`, or its lack, is what a level asks for
 when_is : (o : Option Data) (pairs : List Pair) → when_in o ≡ Some pairs → IsWhen pairs o
 when_is None pairs h = cc
 when_is (Some d) pairs h = pairs_are d pairs h
 
+-- and what a level asks for is read
 when_back : (o : Option Data) (pairs : List Pair) → IsWhen pairs o → when_in o ≡ Some pairs
 when_back None pairs h = ap Some (sym h)
 when_back (Some d) pairs h = pairs_back d pairs h
 
 -- ---- levels
 
+-- what is read as a level has its form
 level_is : (d : Data) (level : Level) → level_in d ≡ Some level → IsLevel level d
 level_is d level h =
     let object_step = step level_among (as_object d) level h in
@@ -130,6 +148,7 @@ level_is d level h =
       values = pairs_are given_step.0 level.values (given_step.2 ∙ ap (λ l. Some l.values) when_step.2);
     }
 
+-- and what has the form is read
 level_back : (d : Data) (level : Level) → IsLevel level d → level_in d ≡ Some level
 level_back d level l =
     let keys = only_back (codes "when") (codes "values") IsKeyOfLevel (λ key k. k) l.members l.only in
@@ -140,6 +159,7 @@ level_back d level l =
     ∙ (ap (option_and_then (level_with (when_in (get_member (codes "when") l.members)))) values
     ∙ ap (λ w. level_with w level.values) when))
 
+-- what is read as levels is an array of them
 levels_are : (items : Items) (levels : List Level) → levels_in items ≡ Some levels → AreLevels levels items
 levels_are no_items levels h = let same : [] ≡ levels = cc in subst (λ ls. AreLevels ls no_items) same tt
 levels_are (item d items) levels h =
@@ -147,6 +167,7 @@ levels_are (item d items) levels h =
     let rest = mapped (λ more. first.0 ∷ more) (levels_in items) levels first.2 in
     subst (λ ls. AreLevels ls (item d items)) rest.2 (level_is d first.0 first.1, levels_are items rest.0 rest.1)
 
+-- and an array of them is read
 levels_back : (items : Items) (levels : List Level) → AreLevels levels items → levels_in items ≡ Some levels
 levels_back no_items [] h = refl
 levels_back no_items (level ∷ levels) h = absurd h
@@ -156,6 +177,7 @@ levels_back (item d items) (level ∷ levels) h =
 
 -- ---- data
 
+-- what is read as class data has its form
 data_is : (d : Data) (levels : List Level) → data_in d ≡ Some levels → IsData levels d
 data_is d levels h =
     let object_step = step levels_among (as_object d) levels h in
@@ -176,6 +198,7 @@ data_is d levels h =
     same key (inl e) = e
     same key (inr e) = e
 
+-- and what has the form is read
 data_back : (d : Data) (levels : List Level) → IsData levels d → data_in d ≡ Some levels
 data_back d levels s =
     let keys = only_back (codes "levels") (codes "levels") (λ key. key ≡ codes "levels") (λ key k. inl k) s.members s.only in
@@ -183,23 +206,28 @@ data_back d levels s =
     ∙ (ap (λ t. cond t (option_and_then levels_in (option_and_then as_array (get_member (codes "levels") s.members))) None) keys
     ∙ (ap (λ o. option_and_then levels_in (option_and_then as_array o)) s.stands ∙ levels_back s.items levels s.are))
 
+-- JSON that is read as class data is such
 pub read_data : (bytes : List ℕ) (json : Data) (levels : List Level) → IsUtf8 bytes → read bytes ≡ Some json → data_in json ≡ Some levels → AreData bytes levels
 read_data bytes json levels text is h = record { text = text; json = json; is_read = is; is_data = data_is json levels h }
 
+-- class data is what its JSON is read as
 same_json : (bytes : List ℕ) (json : Data) (levels : List Level) → read bytes ≡ Some json → AreData bytes levels → data_in json ≡ Some levels
 same_json bytes json levels is a = let same : json ≡ a.json = at json a.json (sym is ∙ a.is_read) in ap data_in same ∙ data_back a.json levels a.is_data
   where
     at : (x y : Data) → Some x ≡ Some y → x ≡ y
     at x y h = cc
 
+-- JSON that isn't read as class data is none
 pub not_data : (bytes : List ℕ) (json : Data) → read bytes ≡ Some json → data_in json ≡ None → (levels : List Level) → AreData bytes levels → ⊥
 not_data bytes json is none levels a = no_value levels (sym none ∙ same_json bytes json levels is a)
 
+-- the refusal of code 64 comes where the bytes are no class data
 pub refused_with : (bytes : List ℕ) (json : Data) (f : Fault) → read bytes ≡ Some json → data_in json ≡ None → IfRefused f (IsRefusal 64 0 (codes "data"))
     → IfRefused f (λ r. IsRefusal 64 0 (codes "data") r × ((levels : List Level) → AreData bytes levels → ⊥))
 refused_with bytes json (Refused r) is none h = (h, not_data bytes json is none)
 refused_with bytes json (Memory m) is none h = tt
 
+-- bytes are class data in one way at most
 pub one_data : (bytes : List ℕ) (a b : List Level) → AreData bytes a → AreData bytes b → a ≡ b
 one_data bytes a b x y = at a b (sym (data_back x.json a x.is_data) ∙ same_json bytes x.json b x.is_read y)
   where

@@ -13,25 +13,31 @@ unset_last [] (suc i) = refl
 unset_last (m ∷ marks) zero = refl
 unset_last (m ∷ marks) (suc i) = unset_last marks i
 
+-- one more mark that isn't set marks no other place
 pub still_marked : (marks new : List Bool) (places : List ℕ) → new ≡ marks ++ false ∷ [] → AreMarked marks places → AreMarked new places
 still_marked marks new places e h place = ap (λ ms. get_or ms place false) e ∙ (unset_last marks place ∙ h place)
 
+-- a disjunction of three may be grouped either way
 or_assoc : (a b c : Bool) → (a || (b || c)) ≡ ((a || b) || c)
 or_assoc true b c = refl
 or_assoc false b c = refl
 
+-- a disjunction with what is false is its first side
 or_false : (b : Bool) → (b || false) ≡ b
 or_false true = refl
 or_false false = refl
 
+-- and one with what is true is true
 or_true : (b : Bool) → (b || true) ≡ true
 or_true true = refl
 or_true false = refl
 
+-- one more place may be the one that passes
 any_last : (f : ℕ → Bool) (places : List ℕ) (p : ℕ) → list_any f (places ++ p ∷ []) ≡ (list_any f places || f p)
 any_last f [] p = or_false (f p)
 any_last f (q ∷ places) p = ap (λ b. f q || b) (any_last f places p) ∙ or_assoc (f q) (list_any f places) (f p)
 
+-- setting a mark marks that place too
 pub marked_last : (marks : List Bool) (places : List ℕ) (p : ℕ) → AreMarked marks places → p < length marks → AreMarked (slice_set marks p true) (places ++ p ∷ [])
 marked_last marks places p are within j = pick (eqb_tells j p) ∙ sym (any_last (λ k. j == k) places p)
   where

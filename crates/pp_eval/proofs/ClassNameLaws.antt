@@ -8,27 +8,34 @@ use Rattle.indexmap.specs.IndexMap.{insert_entry}
 use Rattle.pp_value.specs.Texts.{lowered}
 use Rattle.pp_eval.specs.ClassNames.{place_among}
 
+-- a class's name and its scope's place, as the code keeps them
 abbrev Entry : Type 0
 Entry = Vec ℕ Global × ℕ
 
+-- the same as the definitions speak of it
 abbrev pub named : Entry → List ℕ × ℕ
 named e = (e.0.items, e.1)
 
+-- tests that follow from one another are equal
 one_bool : (a b : Bool) → (a ≡ true → b ≡ true) → (b ≡ true → a ≡ true) → a ≡ b
 one_bool true b f g = sym (f refl)
 one_bool false true f g = g refl
 one_bool false false f g = refl
 
+-- texts are compared alike in both directions
 bytes_turned : (a b : List ℕ) → bytes_eq a b ≡ bytes_eq b a
 bytes_turned a b = one_bool _ _ (λ h. (bytes_eq-Decides b a).1 (sym ((bytes_eq-Decides a b).0 h))) (λ h. (bytes_eq-Decides a b).1 (sym ((bytes_eq-Decides b a).0 h)))
 
+-- what the map of classes finds is the place of the name, ASCII case aside
 pub found : (name : List ℕ) (entries : List Entry) → lookup (λ k. bytes_eq (lowered name) k.items) entries ≡ place_among name (map (λ e. (e.0.items, e.1)) entries)
 found name [] = refl
 found name (e ∷ entries) = λ i. cond (bytes_turned (lowered name) e.0.items i) (Some e.1) (found name entries i)
 
+-- two names are byte by byte the same
 abbrev pub same_key : Vec ℕ Global → Vec ℕ Global → Bool
 same_key x y = pointwise nat_eq x.items y.items
 
+-- a new name goes last in the map of classes, where it does so among the others
 added_head : (name : List ℕ) (key : Vec ℕ Global) (place : ℕ) (x : Entry) (entries : List Entry)
     → (place_among name (map named entries) ≡ None → map named (insert_entry same_key entries key place) ≡ map named entries ++ (lowered name, place) ∷ [])
     → (t : Bool) → cond t (Some x.1) (place_among name (map named entries)) ≡ None
@@ -36,6 +43,7 @@ added_head : (name : List ℕ) (key : Vec ℕ Global) (place : ℕ) (x : Entry) 
 added_head name key place x entries rest true h = cc
 added_head name key place x entries rest false h = ap (λ more. named x ∷ more) (rest h)
 
+-- a new name goes last in the map of classes, in lower case
 pub added : (entries : List Entry) (name : List ℕ) (key : Vec ℕ Global) (place : ℕ) → key.items ≡ lowered name → place_among name (map named entries) ≡ None
     → map named (insert_entry same_key entries key place) ≡ map named entries ++ (lowered name, place) ∷ []
 added [] name key place e h = ap (λ (k : List ℕ). (k, place) ∷ []) e

@@ -16,9 +16,11 @@ use Rattle.pp_value.specs.declared.value.Value.{Value}
 use Rattle.rh_base.specs.declared.text.NoMemory.{NoMemory}
 use Rattle.pp_eval.specs.Facts.{fact_of, facts_of, pairs_of}
 
+-- a JSON array is a list of its items' facts
 pub of_array : (items : Vec json.Value Global) → fact_of (view (json.Array items)) ≡ v.List (facts_of (items_view items.items))
 of_array items = ap fact_of (view-Array items)
 
+-- a JSON object is a map of its members' facts
 pub of_object : (members : BTreeMap (String Global) json.Value) → fact_of (view (json.Object members)) ≡ v.Map (pairs_of (members_view members.entries))
 of_object members = ap fact_of (view-Object members)
 
@@ -34,6 +36,7 @@ none_after k (e ∷ es) h =
     turned a b true e differ = let same : b ≡ a = (bytes_eq-Decides b a).0 e in let clash : true ≡ false = sym ((bytes_eq-Decides a b).1 (sym same)) ∙ differ in cc
     turned a b false e differ = refl
 
+-- members in the byte order of their keys are pairs with distinct keys
 pub distinct : (es : List Entry) → IsStrictlySortedBy string_cmp (keys_of es) → HasDistinctKeys (pairs_of (members_view es))
 unfolding IsStrictlySortedBy
 distinct [] h = tt

@@ -13,12 +13,14 @@ use Rattle.pp_value.specs.Shown.{show_table, shown, is_long_text}
 use Rattle.pp_eval.specs.Verdicts.{◌>>=◌, if_there, too_large}
 use Rattle.pp_eval.specs.Evaluation.{longer, limited_text}
 
+-- a text is too large where what is put behind it is
 is_over : (text more : List ℕ) → is_long_text more ≡ true → nat_lt VALUE_SIZE (1 + length (text ++ more)) ≡ true
 is_over text more long =
     let sum = length-append text more in
     let large = ltb-true VALUE_SIZE (1 + length more) long in
     lt-ltb VALUE_SIZE (1 + length (text ++ more)) (omega arith)
 
+-- a member that alone is too large makes the text too large
 pub too_long : (whole at : ℕ) (text : List ℕ) (x : Value) (more : List ℕ) → show_table x ≡ Ok more → is_long_text more ≡ true → longer whole text at x ≡ Err (too_large whole)
 too_long whole at text x more h large = by_test (has_opaque x) h
   where

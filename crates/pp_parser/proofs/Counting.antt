@@ -18,6 +18,7 @@ use Rattle.pp_parser.proofs.First.{folded}
 
 -- ---- what each shape says of a token
 
+-- what a token is for the depth agrees with whether it opens or closes a bracket
 pub data ShapedAs (k : Kind) (s : List ℕ) : Type 0 where
   opening : shape_of k s ≡ Opens → opens_by k s ≡ true → closes_by k s ≡ false → ShapedAs k s
   indexing : shape_of k s ≡ Indexes → opens_by k s ≡ true → closes_by k s ≡ false → k ≡ kind.Tight → ShapedAs k s
@@ -27,13 +28,16 @@ pub data ShapedAs (k : Kind) (s : List ℕ) : Type 0 where
   negating : shape_of k s ≡ Prefixes → opens_by k s ≡ false → closes_by k s ≡ false → ((k ≡ kind.Sign) × (s ≡ codes "!")) ⊎ ((k ≡ kind.Sign) × (s ≡ codes "-")) → ShapedAs k s
   plain : shape_of k s ≡ Other → opens_by k s ≡ false → closes_by k s ≡ false → ShapedAs k s
 
+-- what holds of a sign holds of an equal text
 as_text : (s x : List ℕ) → bytes_eq x s ≡ true → ShapedAs kind.Sign x → ShapedAs kind.Sign s
 as_text s x e h = subst (ShapedAs kind.Sign) ((bytes_eq-Decides x s).0 e) h
 
+-- what holds of each sign of a table holds of what is among them
 one_of : (xs : List (List ℕ)) (s : List ℕ) → AllByRecursion (ShapedAs kind.Sign) xs → is_among xs s ≡ true → ShapedAs kind.Sign s
 one_of [] s all h = cc
 one_of (x ∷ xs) s all h = elim (or_cases (bytes_eq x s) (is_among xs s) h) [ inl e ↦ as_text s x e all.0 | inr more ↦ one_of xs s all.1 more ]
 
+-- the same of equal texts, compared the other way round
 turned : (s x : List ℕ) → bytes_eq s x ≡ true → ShapedAs kind.Sign x → ShapedAs kind.Sign s
 turned s x e h = subst (ShapedAs kind.Sign) (sym ((bytes_eq-Decides s x).0 e)) h
 
@@ -54,6 +58,7 @@ none_opens s h e = by_tests (bytes_eq (codes "(") s) (bytes_eq (codes "{") s) (b
     by_tests false true c h e = cc
     by_tests false false c h e = h
 
+-- the shape of each sign agrees with what it opens or closes
 sign_shaped : (s : List ℕ) → ShapedAs kind.Sign s
 sign_shaped s = elim (is_among (codes "(" ∷ codes "<|" ∷ []) s) as (λ v. is_among (codes "(" ∷ codes "<|" ∷ []) s ≡ v → ShapedAs kind.Sign s) [
   | true ↦ λ h. one_of (codes "(" ∷ codes "<|" ∷ []) s (opening refl refl refl, (opening refl refl refl, tt)) h
@@ -81,6 +86,7 @@ sign_shaped s = elim (is_among (codes "(" ∷ codes "<|" ∷ []) s) as (λ v. is
         ∙ ap (λ v. chosen false false false v (is_among (codes "!" ∷ codes "-" ∷ []) s)) d
         ∙ ap (λ v. chosen false false false false v) f
 
+-- so does that of a token of each kind
 shaped_as : (k : Kind) (s : List ℕ) → ShapedAs k s
 shaped_as kind.Sign s = sign_shaped s
 shaped_as kind.Tight s = indexing refl refl refl refl
@@ -100,25 +106,31 @@ shaped_as kind.DqClose s = plain refl refl refl
 shaped_as kind.Keyword s = plain refl refl refl
 shaped_as kind.LeftOut s = plain refl refl refl
 
+-- so does that of each token
 shaped : (t : Lexeme) → ShapedAs t.kind t.text
 shaped t = shaped_as t.kind t.text
 
+-- a test isn't both true and false
 never : (b : Bool) → b ≡ true → b ≡ false → ⊥
 never true h k = cc
 never false h k = cc
 
 -- ---- one token
 
+-- a token counts as its shape does
 moved : (n : Nesting) (t : Lexeme) (s : Shape) → shape_of t.kind t.text ≡ s → behind n t ≡ behind_shape n s
 moved n t s h = ap (behind_shape n) h
 
+-- what counts behind these tokens
 abbrev passed : Nesting → List Lexeme → Nesting
 passed n ts = folded behind n ts
 
+-- tokens one behind the other count one after the other
 passed_append : (n : Nesting) (ts us : List Lexeme) → passed n (ts ++ us) ≡ passed (passed n ts) us
 passed_append n [] us = refl
 passed_append n (t ∷ ts) us = passed_append (behind n t) ts us
 
+-- without the innermost, one less is open
 fewer : (rows : List ℕ) → length (outer_of rows) ≡ length rows - 1
 fewer [] = refl
 fewer (r ∷ rows) = omega arith
@@ -127,9 +139,11 @@ fewer (r ∷ rows) = omega arith
 abbrev open_with : Bool → Bool → ℕ → ℕ
 open_with o c n = cond o (n + 1) (cond c (n - 1) n)
 
+-- how many are open depends on nothing but what the token opens and closes
 open_is : (o c : Bool) (v w : Bool) (n : ℕ) → o ≡ v → c ≡ w → open_with o c n ≡ open_with v w n
 open_is o c v w n h k = ap (λ u. open_with u c n) h ∙ ap (λ u. open_with v u n) k
 
+-- behind a token as many are counted as stand open
 one_open : (n : Nesting) (t : Lexeme) → length (behind n t).opened ≡ open_with (opens t) (closes t) (length n.opened)
 one_open n t = by_shape (shaped t)
   where
@@ -151,6 +165,7 @@ one_open n t = by_shape (shaped t)
     by_shape (negating h o c k) = count Prefixes h ∙ sym (same o c)
     by_shape (plain h o c) = count Other h ∙ sym (same o c)
 
+-- behind tokens as many are counted as stand open
 all_open : (n : Nesting) (ts : List Lexeme) → length (passed n ts).opened ≡ open_from (length n.opened) ts
 all_open n [] = refl
 all_open n (t ∷ ts) = all_open (behind n t) ts ∙ ap (λ k. open_from k ts) (one_open n t)
@@ -170,6 +185,7 @@ opens_one n t o = by_shape (shaped t)
     by_shape (negating h p c k) = absurd (never (opens t) o p)
     by_shape (plain h p c) = absurd (never (opens t) o p)
 
+-- a closing bracket counts as one
 closes_one : (n : Nesting) (t : Lexeme) → closes t ≡ true → behind n t ≡ behind_shape n Closes
 closes_one n t c = by_shape (shaped t)
   where
@@ -203,6 +219,7 @@ closed_row n inner c e rows keeps shut is =
     let before : (passed n inner).opened ≡ e ∷ rows = keeps n ∙ is in
     (ap (λ (m : Nesting). m.opened) whole ∙ ap outer_of before, ap (λ (m : Nesting). m.row) whole ∙ ap innermost before)
 
+-- tokens in which each bracket is closed leave the open ones as they were
 keeps_closed : {ts : List Lexeme} → AreClosed ts → (n : Nesting) → (passed n ts).opened ≡ n.opened
 keeps_closed (nothing e) n = ap (λ (us : List Lexeme). (passed n us).opened) e
 keeps_closed (other t more e o c h) n = ap (λ (us : List Lexeme). (passed n us).opened) e ∙ keeps_closed h (behind n t) ∙ keeps_one n t o c
@@ -214,9 +231,11 @@ keeps_closed (bracket o c inner more e op h cl k) n =
 
 -- ---- rows and runs
 
+-- a tight `[` counts as an index
 indexes_shape : (t : Lexeme) → t.kind ≡ kind.Tight → shape_of t.kind t.text ≡ Indexes
 indexes_shape t k = ap (λ (j : Kind). shape_of j t.text) k
 
+-- a sign counts as its text says
 sign_is : (t : Lexeme) (s : List ℕ) → IsSign s t → shape_of t.kind t.text ≡ sign_shape s
 sign_is t s k = ap (λ (j : Kind). shape_of j t.text) k.0 ∙ ap sign_shape k.1
 
@@ -230,16 +249,19 @@ longer_row n ts (selection q o c inner e a b h cl) =
     let braces : (behind (behind n q) o).opened ≡ (n.row + 1) ∷ n.opened = ap (λ (m : Nesting). m.opened) (moved (behind n q) o Braces (sign_is o (codes "{") b)) ∙ ap (λ (m : Nesting). m.asked ∷ m.opened) asks in
     ap (λ (us : List Lexeme). (passed n us).row) e ∙ (closed_row (behind (behind n q) o) inner c (n.row + 1) n.opened (keeps_closed h) cl braces).1
 
+-- as many postfixes as end the tokens in one row are counted, or more
 row_at_least : (r : ℕ) (n : Nesting) (ts : List Lexeme) → EndWithPostfixes r ts → r ≤ (passed n ts).row
 row_at_least zero n ts h = omega arith
 row_at_least (suc r) n ts h =
     let step : (passed n ts).row ≡ (passed n h.0).row + 1 = ap (λ (us : List Lexeme). (passed n us).row) h.2 ∙ ap (λ (m : Nesting). m.row) (passed_append n h.0 h.1) ∙ longer_row (passed n h.0) h.1 h.3 in
     omega (arith, step, row_at_least r n h.0 h.4)
 
+-- `!` and `-` count as prefixes
 prefix_shape : (t : Lexeme) → IsPrefix t → shape_of t.kind t.text ≡ Prefixes
 prefix_shape t (inl k) = sign_is t (codes "!") k
 prefix_shape t (inr k) = sign_is t (codes "-") k
 
+-- as many prefixes as end the tokens in one run are counted, or more
 run_at_least : (r : ℕ) (n : Nesting) (ts : List Lexeme) → EndWithPrefixes r ts → r ≤ (passed n ts).run
 run_at_least zero n ts h = omega arith
 run_at_least (suc r) n ts h =
@@ -248,6 +270,7 @@ run_at_least (suc r) n ts h =
 
 -- ---- what is counted stands there
 
+-- two lists in which each bracket is closed make one
 closed_append : {ts : List Lexeme} (us : List Lexeme) → AreClosed ts → AreClosed us → AreClosed (ts ++ us)
 closed_append us (nothing e) k = subst (λ (t : List Lexeme). AreClosed (t ++ us)) (sym e) k
 closed_append us (other t more e o c h) k = other t (more ++ us) (ap (λ (l : List Lexeme). l ++ us) e) o c (closed_append us h k)
@@ -269,17 +292,20 @@ abbrev Opened : List ℕ → List Lexeme → Type 0
 Opened [] front = Unit {0}
 Opened (e ∷ rows) front = (start : List Lexeme) × (o : Lexeme) × (inner : List Lexeme) × (front ≡ start ++ o ∷ inner) × (opens o ≡ true) × AreClosed inner × Entry e start o × Opened rows start
 
+-- what is counted is there: the row, the run, what a `?` asks for, and the open brackets
 record Good (n : Nesting) (front : List Lexeme) : Type 0 where
   row : EndWithPostfixes n.row front
   run : EndWithPrefixes n.run front
   asked : Asked n.asked front
   opened : Opened n.opened front
 
+-- tokens in which each bracket is closed leave open what was
 still_open : (rows : List ℕ) (front us : List Lexeme) → Opened rows front → AreClosed us → Opened rows (front ++ us)
 still_open [] front us h k = tt
 still_open (e ∷ rows) front us h k =
     (h.0, h.1, h.2 ++ us, ap (λ (l : List Lexeme). l ++ us) h.3 ∙ append_assoc h.0 (h.1 ∷ h.2) us, h.4, closed_append us h.5 k, h.6, h.7)
 
+-- a token that opens and closes nothing is a list in which each bracket is closed
 single : (t : Lexeme) → opens t ≡ false → closes t ≡ false → AreClosed (t ∷ [])
 single t o c = other t [] refl o c (nothing refl)
 
@@ -295,10 +321,12 @@ row_behind (suc r) start inner o c (inr h) k cl = (
   h.1.4,
 )
 
+-- the `{` behind a `?` ends as many postfixes as that one asks for
 asked_entry : (e : ℕ) (front : List Lexeme) (o : Lexeme) → IsSign (codes "{") o → Asked e front → Entry e front o
 asked_entry zero front o k h = tt
 asked_entry (suc r) front o k h = inr (k, h)
 
+-- behind a closing bracket the row that was put there ends, and the outer ones are open
 good_closed : (n : Nesting) (rows : List ℕ) (front : List Lexeme) (t : Lexeme) → Opened rows front → closes t ≡ true → EndWithPostfixes (innermost rows) (front ++ t ∷ []) × Opened (outer_of rows) (front ++ t ∷ [])
 good_closed n [] front t h c = (tt, tt)
 good_closed n (e ∷ rows) front t h c =
@@ -307,6 +335,7 @@ good_closed n (e ∷ rows) front t h c =
       subst (Opened rows) (sym w) (still_open rows h.0 (h.1 ∷ (h.2 ++ t ∷ [])) h.7 (bracket h.1 t h.2 [] refl h.4 h.5 c (nothing refl))),
     )
 
+-- what is counted is there behind one more token
 good_step : (n : Nesting) (front : List Lexeme) (t : Lexeme) → Good n front → Good (behind n t) (front ++ t ∷ [])
 good_step n front t g = by_shape (shaped t)
   where
@@ -335,15 +364,18 @@ good_step n front t g = by_shape (shaped t)
     })
     by_shape (plain h o c) = to Other h (record { row = tt; run = tt; asked = tt; opened = still_open n.opened front (t ∷ []) g.opened (single t o c) })
 
+-- and behind any more
 good_behind : (n : Nesting) (front ts : List Lexeme) → Good n front → Good (passed n ts) (front ++ ts)
 good_behind n front [] g = subst (Good n) (sym (append-nil front)) g
 good_behind n front (t ∷ ts) g = subst (Good (passed (behind n t) ts)) (append_assoc front (t ∷ []) ts) (good_behind (behind n t) (front ++ t ∷ []) ts (good_step n front t g))
 
+-- what is counted from the start is there
 all_good : (before : List Lexeme) → Good (passed at_start before) before
 all_good before = good_behind at_start [] before (record { row = tt; run = tt; asked = tt; opened = tt })
 
 -- ---- too deep
 
+-- no token is less deep than brackets are open
 deeper : (n : Nesting) (s : Shape) → length n.opened ≤ depth_of n s
 deeper n Opens = omega arith
 deeper n Indexes = omega arith
@@ -353,6 +385,7 @@ deeper n Asks = omega arith
 deeper n Prefixes = omega arith
 deeper n Other = omega arith
 
+-- the depth at a token is that at its shape
 depth_is : (n : Nesting) (t : Lexeme) (s : Shape) → shape_of t.kind t.text ≡ s → depth_of n (shape_of t.kind t.text) ≡ depth_of n s
 depth_is n t s h = ap (depth_of n) h
 

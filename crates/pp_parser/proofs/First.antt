@@ -5,10 +5,12 @@ use Rattle.pp_syntax.specs.Tokens.{Lexeme}
 use Rattle.pp_syntax.specs.LeftOut.{IsFirst, IsNowhere}
 use Rattle.pp_parser.specs.Scanning.{first_where}
 
+-- what is known behind these tokens
 abbrev pub folded : {S : Type 0} → (S → Lexeme → S) → S → List Lexeme → S
 folded step s [] = s
 folded step s (t ∷ tokens) = folded step (step s t) tokens
 
+-- behind one more token it is what one step makes of it
 pub folded-append : {S : Type 0} (step : S → Lexeme → S) (s : S) (before : List Lexeme) (t : Lexeme) → folded step s (before ++ t ∷ []) ≡ step (folded step s before) t
 folded-append step s [] t = refl
 folded-append step s (u ∷ before) t = folded-append step (step s u) before t
@@ -31,6 +33,7 @@ NoneBefore P all before = (b : List Lexeme) (u : Lexeme) (c : List Lexeme) → a
 module _ {S : Type 0} (step : S → Lexeme → S) (test : S → Lexeme → List Lexeme → Bool) (s : S) (P : List Lexeme → Lexeme → List Lexeme → Type 0)
     (tells : (before : List Lexeme) (t : Lexeme) (behind : List Lexeme) → test (folded step s before) t behind ≡ true → P before t behind)
     (told_by : (before : List Lexeme) (t : Lexeme) (behind : List Lexeme) → P before t behind → test (folded step s before) t behind ≡ true) where
+  -- where one more token fails the test, none stands before that and it
   none_yet : (all before : List Lexeme) (t : Lexeme) (tokens : List Lexeme) → all ≡ before ++ t ∷ tokens → test (folded step s before) t tokens ≡ false → NoneBefore P all before → NoneBefore P all (before ++ t ∷ [])
   none_yet all before t tokens e fails none b u c f short p = elim (cases_lt (length b) (length before)) [
     | inl below ↦ none b u c f below p
@@ -51,6 +54,7 @@ module _ {S : Type 0} (step : S → Lexeme → S) (test : S → Lexeme → List 
       some_same : (y z : Lexeme) → ◌≡◌ {A = Option Lexeme} (Some y) (Some z) → y ≡ z
       some_same y z k = cc
 
+  -- where none is found in the rest, and none stands before it, there is none
   pub nowhere : (all before tokens : List Lexeme) → all ≡ before ++ tokens → NoneBefore P all before → first_where step test (folded step s before) tokens ≡ None → IsNowhere P all
   nowhere all before [] e none h = λ b u c f p. none b u c f (omega (arith, ap length e, ap length f, length-append before [], length-append b (u ∷ c))) p
   nowhere all before (t ∷ tokens) e none h = elim (test (folded step s before) t tokens) as (λ v. test (folded step s before) t tokens ≡ v → cond v (Some t) (first_where step test (step (folded step s before) t) tokens) ≡ None → IsNowhere P all) [
@@ -62,8 +66,10 @@ module _ {S : Type 0} (step : S → Lexeme → S) (test : S → Lexeme → List 
       some_none : ◌≡◌ {A = Option Lexeme} (Some t) None → ⊥
       some_none k = cc
 
+  -- what is found in the whole list is the first
   pub found_all : (all : List Lexeme) (x : Lexeme) → first_where step test s all ≡ Some x → IsFirst P all x
   found_all all x h = found all [] all x refl (λ b u c e short p. omega arith) h
 
+  -- where nothing is found in the whole list, there is none
   pub nowhere_all : (all : List Lexeme) → first_where step test s all ≡ None → IsNowhere P all
   nowhere_all all h = nowhere all [] all refl (λ b u c e short p. omega arith) h

@@ -40,15 +40,19 @@ use Rattle.pp_parser.proofs.TypesRead.{Not, optional_read, shaped_read}
 
 -- ---- tokens
 
+-- a word is read
 word_read : ReadsBefore Always (taken word_by) (phrases.Some kind.Word)
 word_read x us rest t f q = taken_read word_by kind.Word x x us rest t refl
 
+-- a type's name in capitals is read
 ref_read : ReadsBefore Always (taken ref_by) (phrases.Some kind.Ref)
 ref_read x us rest t f q = taken_read ref_by kind.Ref x x us rest t refl
 
+-- a variable is read
 variable_read : ReadsBefore Always (taken variable_by) VariableOf
 variable_read x us rest t f q = taken_read variable_by kind.Var (36 ∷ x) x us rest t.0 (ap (λ v. cond v None (Some x)) t.1)
 
+-- where a token stands, the test finds it
 begins_first : (k : Kind) (s : List ℕ) (B : Phrase) (us rest : List Lexeme) → (phrases.Some k s then B) us → begins k s (us ++ rest) ≡ true
 begins_first k s B us rest p = ap (λ r. is_found (mark k s r)) (split p.front p.back rest us p.whole) ∙ ap is_found (mark_here k s p.front (p.back ++ rest) p.first)
 
@@ -56,9 +60,11 @@ begins_first k s B us rest p = ap (λ r. is_found (mark k s r)) (split p.front p
 abbrev NoParent : Phrase
 NoParent rest = Not (begins kind.Keyword (codes "inherits")) rest
 
+-- no parameters stand first
 abbrev NoParams : Phrase
 NoParams rest = Not (begins kind.Sign (codes "(")) rest
 
+-- `inherits` and a word, or nothing, are read
 parent_read : ReadsBefore NoParent parent_with ParentOf
 parent_read o us rest h f q =
     optional_read (begins kind.Keyword (codes "inherits")) (behind kind.Keyword (codes "inherits") (taken word_by)) (λ name. Keyword (codes "inherits") then phrases.Some kind.Word name) Always
@@ -89,6 +95,7 @@ module _ (n : ℕ) (e : Reader Expr) (E : Spells Expr) (reads : ReadsBefore Quie
   abbrev EndsParam : Phrase
   EndsParam rest = Quiet rest × Not (begins kind.Sign (codes "=")) rest
 
+  -- `=` and an expression, or nothing, are read
   default_read : ReadsBefore EndsParam (default_with e) (DefaultOf E)
   default_read o us rest h f q =
       optional_read (begins kind.Sign (codes "=")) (behind kind.Sign (codes "=") e) (λ v. Sign (codes "=") then E v) Quiet (behind_read e E Quiet reads kind.Sign (codes "="))
@@ -102,6 +109,7 @@ module _ (n : ℕ) (e : Reader Expr) (E : Spells Expr) (reads : ReadsBefore Quie
   abbrev EndsType : Phrase
   EndsType rest = Quiet rest × Not begins_type rest
 
+  -- a type, or nothing, is read, before the parameter that it is of
   type_read : ReadsBefore EndsType (maybe_type t) (Short n MaybeType)
   type_read o us rest h f q =
       optional_read begins_type t (Short n IsType) Quiet types (λ y us rest p. (type_begins y us rest p.0).0) o us rest (perhaps o us h) f q.0 q.1
@@ -110,9 +118,11 @@ module _ (n : ℕ) (e : Reader Expr) (E : Spells Expr) (reads : ReadsBefore Quie
       perhaps None us p = p.0
       perhaps (Some y) us p = p
 
+  -- before a parameter's name a type ends
   named_quiet : (p : List ℕ × Option Expr) (us rest : List Lexeme) → (VariableOf p.0 then DefaultOf E p.1) us → EndsType (us ++ rest)
   named_quiet p us rest h = subst EndsType (sym (split h.front h.back rest us h.whole ∙ ap (λ r. r ++ (h.back ++ rest)) h.first.0.1)) (omega arith, refl)
 
+  -- a parameter is read
   param_read : ReadsBefore EndsParam (param_with e t) (Short n (ParamOf E))
   param_read p us rest h f q =
       shaped_read param_of (both (maybe_type t) (both (taken variable_by) (default_with e))) (λ p. Short n MaybeType p.0 then (VariableOf p.1.0 then DefaultOf E p.1.1)) EndsParam
@@ -121,6 +131,7 @@ module _ (n : ℕ) (e : Reader Expr) (E : Spells Expr) (reads : ReadsBefore Quie
       (p.kind, (p.name, p.default)) p us rest
       (first_within n (MaybeType p.kind) (VariableOf p.name then DefaultOf E p.default) (Short n MaybeType p.kind) (λ vs l k. (k, l)) us h.1 h.0) f q refl
 
+  -- a parameter has a token, and doesn't begin with `)`
   param_first : (p : Param) (us rest : List Lexeme) → ParamOf E p us → (mark kind.Sign (codes ")") (us ++ rest) ≡ None) × (us ≢ [])
   param_first p us rest h = by_kind p.kind h.front h.back h.first h.second h.whole
     where
@@ -135,6 +146,7 @@ module _ (n : ℕ) (e : Reader Expr) (E : Spells Expr) (reads : ReadsBefore Quie
           let b = type_begins y front (back ++ rest) m in
           (ap (mark kind.Sign (codes ")")) (split front back rest us w) ∙ b.1, λ empty. b.2 (front_nil front back (sym empty ∙ w)))
 
+  -- parameters and their `)` are read behind a `(`
   params_behind : (ps : List Param) (us rest : List Lexeme) → (Sign (codes "(") then (MaybeListed (ParamOf E) ps then Sign (codes ")"))) us → length us < n → Fit us → behind kind.Sign (codes "(") (params_in e t) (us ++ rest) ≡ Some (ps, rest)
   params_behind ps us rest h l f =
       let short = first_within n (MaybeListed (ParamOf E) ps) (Sign (codes ")")) (MaybeListed (Short n (ParamOf E)) ps) (maybe_listed_within n (ParamOf E) (Short n (ParamOf E)) (λ p vs k a. (a, k)) ps) h.back (back_short n us h.front h.back h.whole l) h.second in
@@ -143,11 +155,13 @@ module _ (n : ℕ) (e : Reader Expr) (E : Spells Expr) (reads : ReadsBefore Quie
       ∙ maybe_row_read (codes ")") paren_closes (param_with e t) (Short n (ParamOf E)) EndsParam param_read (λ at rest. (omega arith, refl)) (λ at rest. (omega arith, refl))
       (λ p us a. long us (param_first p us [] a.0).1) (λ p us rest a. (param_first p us rest a.0).0) ps (length (h.back ++ rest) + 1) h.back rest short (fits_second h.front h.back h.whole f) (omega (arith, length-append h.back rest))
 
+  -- parameters in brackets are read
   params_there : (ps : List Param) (us rest : List Lexeme) → (Sign (codes "(") then (MaybeListed (ParamOf E) ps then Sign (codes ")"))) us → length us < n → Fit us → params_with e t (us ++ rest) ≡ Some (ps, rest)
   params_there ps us rest h l f =
       ap (λ v. cond v (behind kind.Sign (codes "(") (params_in e t) (us ++ rest)) (Some ([], us ++ rest))) (begins_first kind.Sign (codes "(") (MaybeListed (ParamOf E) ps then Sign (codes ")")) us rest h)
       ∙ params_behind ps us rest h l f
 
+  -- parameters in brackets, or nothing, are read
   params_read : ReadsBefore NoParams (params_with e t) (Short n (ParamsOf E))
   params_read [] us rest (inl none, l) f q =
       ap (λ u. params_with e t (u ++ rest)) none ∙ ap (λ v. cond v (behind kind.Sign (codes "(") (params_in e t) rest) (Some ([], rest))) q
@@ -157,19 +171,24 @@ module _ (n : ℕ) (e : Reader Expr) (E : Spells Expr) (reads : ReadsBefore Quie
 
   -- ---- definitions
 
+  -- what holds before a `{` holds before a block
   block_first : (G : Phrase) → ((at : ℕ) (more : List Lexeme) → G (record { kind = kind.Sign; text = codes "{"; at = at } ∷ more)) → (ys : List Stmt) (us rest : List Lexeme) → BlockOf S ys us → G (us ++ rest)
   block_first G g ys us rest h = by_first kind.Sign (codes "{") (Statements S ys then Sign (codes "}")) G g us rest h
 
+  -- no parameters stand first in a parent and a block
   parent_first : (p : Option (List ℕ) × List Stmt) (us rest : List Lexeme) → (ParentOf p.0 then BlockOf S p.1) us → NoParams (us ++ rest)
   parent_first (None, ys) us rest h = subst (λ u. NoParams (u ++ rest)) (sym (h.whole ∙ ap (λ r. r ++ h.back) h.first)) (block_first NoParams (λ at more. refl) ys h.back rest h.second)
   parent_first (Some name, ys) us rest h = subst NoParams (sym (split h.front h.back rest us h.whole)) (by_first kind.Keyword (codes "inherits") (phrases.Some kind.Word name) NoParams (λ at more. refl) h.front (h.back ++ rest) h.first)
 
+  -- a parent and a block are read
   tail_read : ReadsBefore Always (both parent_with (block_with s)) (λ p. ParentOf p.0 then BlockOf S p.1)
   tail_read = both_read parent_with (block_with s) ParentOf (BlockOf S) NoParent Always parent_read blocks (λ ys us rest b g. block_first NoParent (λ at more. refl) ys us rest b)
 
+  -- a class behind `class`: its name, parameters, parent and block
   abbrev ClassTail : List ℕ × (List Param × (Option (List ℕ) × List Stmt)) → Phrase
   ClassTail p = phrases.Some kind.Word p.0 then (Short n (ParamsOf E) p.1.0 then (ParentOf p.1.1.0 then BlockOf S p.1.1.1))
 
+  -- a class behind `class` is read
   class_tail : ReadsBefore Always (both (taken word_by) (both (params_with e t) (both parent_with (block_with s)))) ClassTail
   class_tail =
       both_read (taken word_by) (both (params_with e t) (both parent_with (block_with s))) (phrases.Some kind.Word) (λ p. Short n (ParamsOf E) p.0 then (ParentOf p.1.0 then BlockOf S p.1.1)) Always Always word_read
@@ -182,6 +201,7 @@ module _ (n : ℕ) (e : Reader Expr) (E : Spells Expr) (reads : ReadsBefore Quie
       first_of kind.Keyword (codes "class") (phrases.Some kind.Word name then B) us rest h ∙ ap (λ r. record { kind = kind.Keyword; text = codes "class"; at = h.first.0 } ∷ r) (first_of kind.Word name B h.back rest h.second) in
       ap (item_with e t s) w ∙ ap (class_with e t s) (sym w)
 
+  -- a class is read as an item
   class_read : (at : ℕ) (p : List ℕ × (List Param × (Option (List ℕ) × List Stmt))) (us rest : List Lexeme)
       → (phrases.Token kind.Keyword (codes "class") at then (phrases.Some kind.Word p.0 then (ParamsOf E p.1.0 then (ParentOf p.1.1.0 then BlockOf S p.1.1.1)))) us → length us < n → Fit us → item_with e t s (us ++ rest) ≡ Some (class_of at p, rest)
   class_read at p us rest h l f =
@@ -194,17 +214,21 @@ module _ (n : ℕ) (e : Reader Expr) (E : Spells Expr) (reads : ReadsBefore Quie
       (behind_read (both (taken word_by) (both (params_with e t) (both parent_with (block_with s)))) ClassTail Always class_tail kind.Keyword (codes "class")) p (class_of at p) us rest short f tt
       (token_solid kind.Keyword (codes "class") (phrases.Some kind.Word p.0 then B) us k) (ap (λ a. class_of a p) (place_is kind.Keyword (codes "class") at (phrases.Some kind.Word p.0 then B) us h))
 
+  -- a defined type behind `define`: its name, parameters and block
   abbrev DefineTail : List ℕ × (List Param × List Stmt) → Phrase
   DefineTail p = phrases.Some kind.Word p.0 then (Short n (ParamsOf E) p.1.0 then BlockOf S p.1.1)
 
+  -- a defined type behind `define` is read
   define_tail : ReadsBefore Always (both (taken word_by) (both (params_with e t) (block_with s))) DefineTail
   define_tail =
       both_read (taken word_by) (both (params_with e t) (block_with s)) (phrases.Some kind.Word) (λ p. Short n (ParamsOf E) p.0 then BlockOf S p.1) Always Always word_read
       (both_read (params_with e t) (block_with s) (Short n (ParamsOf E)) (BlockOf S) NoParams Always params_read blocks (λ ys us rest b g. block_first NoParams (λ at more. refl) ys us rest b)) (λ p us rest b g. tt)
 
+  -- what begins with `define` is read as a defined type
   keyed_define : (B : Phrase) (us rest : List Lexeme) → (Keyword (codes "define") then B) us → item_with e t s (us ++ rest) ≡ define_with e t s (us ++ rest)
   keyed_define B us rest h = let w = first_of kind.Keyword (codes "define") B us rest h in ap (item_with e t s) w ∙ ap (define_with e t s) (sym w)
 
+  -- a defined type is read as an item
   define_read : (at : ℕ) (p : List ℕ × (List Param × List Stmt)) (us rest : List Lexeme)
       → (phrases.Token kind.Keyword (codes "define") at then (phrases.Some kind.Word p.0 then (ParamsOf E p.1.0 then BlockOf S p.1.1))) us → length us < n → Fit us → item_with e t s (us ++ rest) ≡ Some (define_of at p, rest)
   define_read at p us rest h l f =
@@ -219,6 +243,7 @@ module _ (n : ℕ) (e : Reader Expr) (E : Spells Expr) (reads : ReadsBefore Quie
 
   -- ---- nodes
 
+  -- the name of a node is read
   node_name_read : ReadsBefore Always (node_name_with e) (NodeNameOf E)
   node_name_read o us rest (grammar.NodeNameOf.default y k) f q = ap (λ u. node_name_with e (u ++ rest)) k.1 ∙ ap (λ z. Some (z, rest)) (sym y)
   node_name_read o us rest (grammar.NodeNameOf.word name y k) f q = ap (λ u. node_name_with e (u ++ rest)) k.1 ∙ ap (λ z. Some (z, rest)) (sym y)
@@ -227,6 +252,7 @@ module _ (n : ℕ) (e : Reader Expr) (E : Spells Expr) (reads : ReadsBefore Quie
       ∙ ap (λ r. r >>= λ x. text_of x.0.form >>= λ m. Some (Some m, x.1)) (strings x us rest h f tt)
       ∙ ap (λ (g : Form). text_of g >>= λ m. Some (Some m, rest)) is ∙ ap (λ z. Some (z, rest)) (sym y)
 
+  -- it has a token, and no block begins with it
   name_first : (o : Option (List ℕ)) (us rest : List Lexeme) → NodeNameOf E o us → (unopened (us ++ rest) ≡ true) × (us ≢ [])
   name_first o us rest (grammar.NodeNameOf.default y k) = (ap (λ u. unopened (u ++ rest)) k.1, λ empty. cc)
   name_first o us rest (grammar.NodeNameOf.word name y k) = (ap (λ u. unopened (u ++ rest)) k.1, λ empty. cc)
@@ -236,28 +262,34 @@ module _ (n : ℕ) (e : Reader Expr) (E : Spells Expr) (reads : ReadsBefore Quie
   abbrev Opening : Phrase
   Opening rest = (at : ℕ) × (more : List Lexeme) × (rest ≡ record { kind = kind.Sign; text = codes "{"; at = at } ∷ more)
 
+  -- the names of a node are names with commas between them
   names_are : (xs : List (Option (List ℕ))) (us : List Lexeme) → Listed (NodeNameOf E) xs us → ListedBy (codes ",") (NodeNameOf E) xs us
   names_are [] us h = absurd h.first
   names_are (x ∷ xs) us h = h
 
+  -- no block begins with them
   names_first : (xs : List (Option (List ℕ))) (us rest : List Lexeme) → Listed (NodeNameOf E) xs us → unopened (us ++ rest) ≡ true
   names_first [] us rest h = absurd h.first
   names_first (x ∷ xs) us rest h =
       ap unopened (split h.front h.back rest us h.whole ∙ split h.first.front h.first.back (h.back ++ rest) h.front h.first.whole) ∙ (name_first x h.first.front (h.first.back ++ (h.back ++ rest)) h.first.first).0
 
+  -- the names of a node are read, before its block
   names_read : ReadsBefore Opening (node_names_with e) (Listed (NodeNameOf E))
   names_read xs us rest h f q =
       ap (λ v. cond v (listed (codes ",") unopened (node_name_with e) (length (us ++ rest) + 1) (us ++ rest)) None) (names_first xs us rest h)
       ∙ listed_read (codes ",") unopened (node_name_with e) (NodeNameOf E) Opening Always node_name_read (λ x us rest a. (name_first x us rest a).0) (λ x us a. (name_first x us [] a).1) (λ us rest a. tt)
       (λ rest o. ap unopened o.2) (λ rest o. ap (mark kind.Sign (codes ",")) o.2) (λ rest o. tt) xs (length (us ++ rest) + 1) us rest (names_are xs us h) f q (omega (arith, length-append us rest))
 
+  -- a node behind `node` is read
   node_tail : ReadsBefore Always (both (node_names_with e) (block_with s)) (λ p. Listed (NodeNameOf E) p.0 then BlockOf S p.1)
   node_tail = both_read (node_names_with e) (block_with s) (Listed (NodeNameOf E)) (BlockOf S) Opening Always names_read blocks
       (λ ys us rest b g. (b.first.0, b.back ++ rest, first_of kind.Sign (codes "{") (Statements S ys then Sign (codes "}")) us rest b))
 
+  -- what begins with `node` is read as a node
   keyed_node : (B : Phrase) (us rest : List Lexeme) → (Keyword (codes "node") then B) us → item_with e t s (us ++ rest) ≡ node_with e s (us ++ rest)
   keyed_node B us rest h = let w = first_of kind.Keyword (codes "node") B us rest h in ap (item_with e t s) w ∙ ap (node_with e s) (sym w)
 
+  -- a node is read as an item
   node_read : (at : ℕ) (p : List (Option (List ℕ)) × List Stmt) (us rest : List Lexeme) → (phrases.Token kind.Keyword (codes "node") at then (Listed (NodeNameOf E) p.0 then BlockOf S p.1)) us → Fit us → item_with e t s (us ++ rest) ≡ Some (node_of at p, rest)
   node_read at p us rest h f =
       let B : Phrase = Listed (NodeNameOf E) p.0 then BlockOf S p.1 in
@@ -269,12 +301,14 @@ module _ (n : ℕ) (e : Reader Expr) (E : Spells Expr) (reads : ReadsBefore Quie
 
   -- ---- items
 
+  -- a type's name with a `{` behind it is read as defaults
   keyed_defaults : (name : List ℕ) (B : Phrase) (us rest : List Lexeme) → (phrases.Some kind.Ref name then (Sign (codes "{") then B)) us → item_with e t s (us ++ rest) ≡ defaults_with e (us ++ rest)
   keyed_defaults name B us rest h =
       let w : us ++ rest ≡ record { kind = kind.Ref; text = name; at = h.first.0 } ∷ (record { kind = kind.Sign; text = codes "{"; at = h.second.first.0 } ∷ (h.second.back ++ rest)) =
       first_of kind.Ref name (Sign (codes "{") then B) us rest h ∙ ap (λ r. record { kind = kind.Ref; text = name; at = h.first.0 } ∷ r) (first_of kind.Sign (codes "{") B h.back rest h.second) in
       ap (item_with e t s) w ∙ ap (defaults_with e) (sym w)
 
+  -- defaults of a type are read as an item
   defaults_read : (at : ℕ) (p : List ℕ × List Attr) (us rest : List Lexeme) → (phrases.Token kind.Ref p.0 at then InBraces (MaybeListed (AttrOf E) p.1)) us → Fit us → item_with e t s (us ++ rest) ≡ Some (defaults_of at p, rest)
   defaults_read at p us rest h f =
       let B : Phrase = InBraces (MaybeListed (AttrOf E) p.1) in
@@ -284,6 +318,7 @@ module _ (n : ℕ) (e : Reader Expr) (E : Spells Expr) (reads : ReadsBefore Quie
       (both_read (taken ref_by) (attributes_with e) (phrases.Some kind.Ref) (λ ys. InBraces (MaybeListed (AttrOf E) ys)) Always Always ref_read attributes (λ y us rest b g. tt)) p (defaults_of at p) us rest k f tt
       (token_solid kind.Ref p.0 B us k) (ap (λ a. defaults_of a p) (place_is kind.Ref p.0 at B us h))
 
+  -- an item is read, before anything that doesn't go on with it
   item_read : ReadsBefore NothingFollows (item_with e t s) (Short n (ItemOf E S))
   item_read y us rest (grammar.ItemOf.class at name params parent body p h, l) f q = class_read at (name, (params, (parent, body))) us rest h l f ∙ ap (λ z. Some (z, rest)) (sym p)
   item_read y us rest (grammar.ItemOf.define at name params body p h, l) f q = define_read at (name, (params, body)) us rest h l f ∙ ap (λ z. Some (z, rest)) (sym p)
@@ -315,13 +350,16 @@ module _ (n : ℕ) (e : Reader Expr) (E : Spells Expr) (reads : ReadsBefore Quie
       )
   item_first y us rest (grammar.ItemOf.plain z p h) = (nothing_follows (us ++ rest) (leads_more us rest (leads z us h)), leads_some us (leads z us h))
 
+  -- where a token stands, the test finds one
   some_here : (us rest : List Lexeme) → us ≢ [] → has_token (us ++ rest) ≡ true
   some_here [] rest some = absurd (some refl)
   some_here (t ∷ us) rest some = refl
 
+  -- at the end nothing follows
   nothing_at_end : NothingFollows []
   nothing_at_end = record { no_operator = refl; no_arrow = refl; no_comma = refl; no_elsif = refl; no_else = refl }
 
+  -- items of few tokens are the first and the others, of few tokens each
   items_next : (x : Item) (xs : List Item) (us : List Lexeme) → Short n (Items E S) (x ∷ xs) us → (Short n (ItemOf E S) x then Short n (Items E S) xs) us
   items_next x xs us h = record {
     front = h.0.front;
@@ -331,6 +369,7 @@ module _ (n : ℕ) (e : Reader Expr) (E : Spells Expr) (reads : ReadsBefore Quie
     whole = h.0.whole;
   }
 
+  -- items are read to the end, where they have few tokens
   pub items_read : (ys : List Item) (us : List Lexeme) → Items E S ys us → length us < n → Fit us → items_with e t s us ≡ Some (ys, [])
   items_read ys us h l f =
       ap (items_with e t s) (sym (append-nil us))

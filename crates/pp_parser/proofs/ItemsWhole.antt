@@ -24,12 +24,14 @@ use Rattle.pp_parser.proofs.TypesFound.{type_at_found}
 use Rattle.pp_parser.proofs.ItemsFound.{items_found}
 use Rattle.pp_parser.proofs.ItemsRead.{items_read}
 
+-- items that are read to the end are spelled so
 pub items_at_found : (depth : ℕ) (ts : List Lexeme) (ys : List Item) → items_at depth ts ≡ Some (ys, []) → Items (IsExprAt depth) (IsStmtAt (IsExprAt depth) depth) ys ts
 items_at_found depth ts ys h =
     let b = items_found (expr_at depth) (IsExprAt depth) (expr_found dq_found depth) (string_finds depth) (type_at depth) (IsTypeAt depth) (type_at_found depth) (λ y us k. (depth, k))
     (stmt_at (expr_at depth) depth) (IsStmtAt (IsExprAt depth) depth) (statement_finds depth depth) (block_finds depth depth) (attributes_finds depth) ts (ys, []) h in
     subst (Items (IsExprAt depth) (IsStmtAt (IsExprAt depth) depth) ys) (sym (b.whole ∙ append-nil b.front)) b.spelled
 
+-- and items of fewer tokens than the depth are read to the end
 pub items_at_read : (depth : ℕ) (ts : List Lexeme) (ys : List Item) → Items (IsExprAt depth) (IsStmtAt (IsExprAt depth) depth) ys ts → NumbersFit ts → length ts < depth → items_at depth ts ≡ Some (ys, [])
 items_at_read depth ts ys h f l =
     items_read depth (expr_at depth) (IsExprAt depth) (λ y us rest k n q. expr_read dq_read depth y us rest k n q) (λ y us rest k n q. string_reads depth y us rest k n)

@@ -8,6 +8,7 @@ use Rattle.pp_readers.proofs.Tokens.{mark_found}
 use Rattle.pp_readers.specs.Combining.{begins, is_found}
 use Rattle.pp_readers.proofs.ReadBodies.{Quiet}
 
+-- no tight `[` stands first there
 pub tight_none : (rest : List Lexeme) → Quiet rest → begins kind.Tight (codes "[") rest ≡ false
 tight_none rest q = by_mark (mark kind.Tight (codes "[") rest) refl
   where

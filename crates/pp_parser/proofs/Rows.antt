@@ -15,6 +15,7 @@ use Rattle.pp_syntax.specs.Lexing.{told, lexeme_of}
 use Rattle.pp_parser.specs.Scanning.{first_too_deep}
 use Rattle.std.proofs.lemmas.List.{length-reverse}
 
+-- a list the other way round is as long
 pub length_reversed : (items : List ℕ) → length items ≡ length (reverse items)
 length_reversed items = sym (length-reverse items)
 
@@ -25,18 +26,22 @@ pub record IsBelow (n : Nesting) (k : ℕ) : Type 0 where
   pub asked : n.asked ≤ k
   pub opened : AllByRecursion (λ r. r ≤ k) n.opened
 
+-- what isn't above a number isn't above the next one
 above : (rows : List ℕ) (k : ℕ) → AllByRecursion (λ r. r ≤ k) rows → AllByRecursion (λ r. r ≤ k + 1) rows
 above [] k h = tt
 above (r ∷ rows) k h = (omega (arith, h.0), above rows k h.1)
 
+-- nor is the innermost of such rows
 inner_below : (rows : List ℕ) (k : ℕ) → AllByRecursion (λ r. r ≤ k) rows → innermost rows ≤ k + 1
 inner_below [] k h = omega arith
 inner_below (r ∷ rows) k h = omega (arith, h.0)
 
+-- nor are the outer ones
 outer_below : (rows : List ℕ) (k : ℕ) → AllByRecursion (λ r. r ≤ k) rows → AllByRecursion (λ r. r ≤ k + 1) (outer_of rows)
 outer_below [] k h = tt
 outer_below (r ∷ rows) k h = above rows k h.1
 
+-- behind a token nothing that counts is more than one above what it was
 pub behind_below : (n : Nesting) (s : Shape) (k : ℕ) → IsBelow n k → IsBelow (behind_shape n s) (k + 1)
 behind_below n Opens k h = record { run = omega arith; row = omega arith; asked = omega arith; opened = (omega arith, above n.opened k h.opened) }
 behind_below n Indexes k h = record { run = omega arith; row = omega arith; asked = omega arith; opened = (omega (arith, h.row), above n.opened k h.opened) }

@@ -38,6 +38,7 @@ Perhaps A None = Nothing
 Perhaps A (Some x) = A x
 
 module _ {X : Type 0} (test : List Lexeme → Bool) (f : Reader X) (A : Spells X) (finds : Finds f A) where
+  -- what is read where the test says, or nothing, is spelled so
   pub optional_found : Finds (optional test f) (Perhaps A)
   optional_found ts x h = by_test (test ts) h
     where
@@ -51,6 +52,7 @@ module _ {X : Type 0} (test : List Lexeme → Bool) (f : Reader X) (A : Spells X
           subst (λ (y : Option X × List Lexeme). Begins (Perhaps A y.0) ts y.1) same (finds ts p.0 p.1)
 
 module _ {X Y : Type 0} (h : X → Y) (f : Reader X) (A : Spells X) (B : Spells Y) (finds : Finds f A) where
+  -- what is made of what is read is spelled as that makes it
   pub shaped_found : ((x : X) (us : List Lexeme) → A x us → B (h x) us) → Finds (shaped h f) B
   shaped_found makes ts x e =
       let p = bind_some (f ts) (λ x. Some (h x.0, x.1)) x e in
@@ -59,6 +61,7 @@ module _ {X Y : Type 0} (h : X → Y) (f : Reader X) (A : Spells X) (B : Spells 
 
 -- ---- words
 
+-- how the name of each type is spelled
 abbrev pub word_text : TypeWord → List ℕ
 word_text word.Any = codes "Any"
 word_text word.Boolean = codes "Boolean"
@@ -78,6 +81,7 @@ told_by s text w x other e rest h = by_test (bytes_eq s text) refl h
     by_test true t k = let same : w ≡ x = cc in (bytes_eq-Decides s text).0 t ∙ e ∙ ap word_text same
     by_test false t k = rest k
 
+-- a text that is told to name a type is its name
 type_word_is : (s : List ℕ) (x : TypeWord) → type_word s ≡ Some x → s ≡ word_text x
 type_word_is s x h =
     told_by s (codes "Any") word.Any x _ refl (λ h. told_by s (codes "Boolean") word.Boolean x _ refl (λ h. told_by s (codes "Hash") word.Hash x _ refl (λ h.
@@ -88,6 +92,7 @@ type_word_is s x h =
 abbrev pub IsWord : Spells TypeWord
 IsWord w = phrases.Some kind.Ref (word_text w)
 
+-- a token that names a type is spelled as its name
 word_is : (k : Kind) (s : List ℕ) (x : TypeWord) (at : ℕ) → type_word_by k s ≡ Some x → IsWord x (token k s at)
 word_is kind.Ref s x at h = (at, ap (λ (u : List ℕ). token kind.Ref u at) (type_word_is s x h))
 word_is kind.Word s x at h = cc
@@ -107,6 +112,7 @@ word_is kind.Keyword s x at h = cc
 word_is kind.Sign s x at h = cc
 word_is kind.LeftOut s x at h = cc
 
+-- what is read as the name of a type is spelled so
 pub word_found : Finds (taken type_word_by) IsWord
 word_found = taken_found type_word_by IsWord word_is
 
@@ -114,6 +120,7 @@ word_found = taken_found type_word_by IsWord word_is
 abbrev pub IsNumber : Spells ℤ
 IsNumber v us = (raw : List ℕ) × phrases.Some kind.Int raw us × (v ≡ pos (int_value raw))
 
+-- a number that is told is that of the INT
 number_value : (s : List ℕ) (v : ℤ) → number s ≡ Some v → v ≡ pos (int_value s)
 number_value s v h = by_test (nat_lt (int_value s) (2 ^ 63)) h
   where
@@ -121,6 +128,7 @@ number_value s v h = by_test (nat_lt (int_value s) (2 ^ 63)) h
     by_test true k = cc
     by_test false k = cc
 
+-- a token that is a number is spelled as it
 number_is : (k : Kind) (s : List ℕ) (x : ℤ) (at : ℕ) → number_by k s ≡ Some x → IsNumber x (token k s at)
 number_is kind.Int s x at h = (s, (at, refl), number_value s x h)
 number_is kind.Ref s x at h = cc
@@ -140,9 +148,11 @@ number_is kind.Keyword s x at h = cc
 number_is kind.Sign s x at h = cc
 number_is kind.LeftOut s x at h = cc
 
+-- what is read as a number is spelled so
 pub number_found : Finds (taken number_by) IsNumber
 number_found = taken_found number_by IsNumber number_is
 
+-- a token that is a text in single quotes is spelled as it
 quoted_is : (k : Kind) (s x : List ℕ) (at : ℕ) → quoted_by k s ≡ Some x → QuotedText x (token k s at)
 quoted_is kind.Sq s x at h = (s, (at, refl), sq_found s x h)
 quoted_is kind.Int s x at h = cc
@@ -162,26 +172,33 @@ quoted_is kind.Keyword s x at h = cc
 quoted_is kind.Sign s x at h = cc
 quoted_is kind.LeftOut s x at h = cc
 
+-- what is read as a text in single quotes is spelled so
 pub quoted_found : Finds (taken quoted_by) QuotedText
 quoted_found = taken_found quoted_by QuotedText quoted_is
 
 -- ---- bounds
 
+-- a comma and a number, or nothing
 abbrev pub Upper : Spells (Option ℤ)
 Upper = Perhaps (λ v. Sign (codes ",") then IsNumber v)
 
+-- one number or two, and the `]` that closes them
 abbrev pub Bounds : Spells (ℤ × Option ℤ)
 Bounds b = (IsNumber b.0 then Upper b.1) then Sign (codes "]")
 
+-- a tight `[` and bounds, or nothing
 abbrev pub MaybeBounds : Spells (Option (ℤ × Option ℤ))
 MaybeBounds = Perhaps (λ b. Tight then Bounds b)
 
+-- what is read as an upper bound, or nothing, is spelled so
 upper_found : Finds upper_with Upper
 upper_found = optional_found (begins kind.Sign (codes ",")) (behind kind.Sign (codes ",") (taken number_by)) (λ v. Sign (codes ",") then IsNumber v) (behind_found (taken number_by) IsNumber number_found kind.Sign (codes ","))
 
+-- what is read as bounds is spelled so
 bounds_found : Finds bounds_with Bounds
 bounds_found = before_found (both (taken number_by) upper_with) (λ b. IsNumber b.0 then Upper b.1) (both_found (taken number_by) upper_with IsNumber Upper number_found upper_found) kind.Sign (codes "]")
 
+-- what is read as bounds in brackets, or nothing, is spelled so
 maybe_bounds_found : Finds maybe_bounds MaybeBounds
 maybe_bounds_found = optional_found (begins kind.Tight (codes "[")) (behind kind.Tight (codes "[") bounds_with) (λ b. Tight then Bounds b) (behind_found bounds_with Bounds bounds_found kind.Tight (codes "["))
 
@@ -233,9 +250,11 @@ module _ (t : Reader TypeName) (T : Spells TypeName) (finds : Finds t T) where
   with_word : (w : TypeWord) (B : List Lexeme → Type 0) (vs us : List Lexeme) → IsWord w vs → B us → (phrases.Some kind.Ref (word_text w) then B) (vs ++ us)
   with_word w B vs us v b = record { front = vs; back = us; first = v; second = b; whole = refl }
 
+  -- a type that is a name alone ends there
   bare : (w : TypeWord) (y : TypeName) → ((us : List Lexeme) → IsWord w us → TypeOf T y us) → (ts : List Lexeme) → Begins (Behind w y) ts ts
   bare w y rule ts = record { front = []; spelled = λ vs v. subst (TypeOf T y) (sym (append-nil vs)) (rule vs v); whole = refl }
 
+  -- `String` with bounds, or without, is a type
   text_is : (b : Option (ℤ × Option ℤ)) (us : List Lexeme) → MaybeBounds b us → Behind word.Text (text_type b) us
   text_is None us n vs v = grammar.TypeOf.text (pos 0) None refl (with_word word.Text (TextBounds (pos 0) None) vs us v (grammar.TextBounds.none refl refl n))
   text_is (Some (low, None)) us p vs v =
@@ -245,6 +264,7 @@ module _ (t : Reader TypeName) (T : Spells TypeName) (finds : Finds t T) where
       let l = both_are low high us p in
       grammar.TypeOf.text low (Some high) refl (with_word word.Text (TextBounds low (Some high)) vs us v (grammar.TextBounds.both l.0 l.1 l.2 (ap Some l.3) l.4))
 
+  -- `Integer` with bounds, or without, is a type
   number_type_is : (b : Option (ℤ × Option ℤ)) (us : List Lexeme) → MaybeBounds b us → Behind word.Number (number_type b) us
   number_type_is None us n vs v = grammar.TypeOf.number None None refl (with_word word.Number (NumberBounds None None) vs us v (grammar.NumberBounds.none refl refl n))
   number_type_is (Some (low, None)) us p vs v =
@@ -254,19 +274,24 @@ module _ (t : Reader TypeName) (T : Spells TypeName) (finds : Finds t T) where
       let l = both_are low high us p in
       grammar.TypeOf.number (Some low) (Some high) refl (with_word word.Number (NumberBounds (Some low) (Some high)) vs us v (grammar.NumberBounds.both l.0 l.1 (ap Some l.2) (ap Some l.3) l.4))
 
+  -- between a tight `[` and `]`
   abbrev Bracketed : (List Lexeme → Type 0) → List Lexeme → Type 0
   Bracketed A = Tight then A then Sign (codes "]")
 
+  -- what is read as a type in brackets is spelled so
   member_found : Finds (member_with t) (λ y. Bracketed (T y))
   member_found = behind_found (before t kind.Sign (codes "]")) (λ y. T y then Sign (codes "]")) (before_found t T finds kind.Sign (codes "]")) kind.Tight (codes "[")
 
+  -- `Array` with a type in brackets, or without, is a type
   array_is : (m : Option TypeName) (us : List Lexeme) → Perhaps (λ y. Bracketed (T y)) m us → Behind word.Array (type.Array m) us
   array_is None us n vs v = grammar.array refl (subst (phrases.Some kind.Ref (codes "Array")) (sym (ap (λ r. vs ++ r) n ∙ append-nil vs)) v)
   array_is (Some m) us p vs v = grammar.array_of m refl (with_word word.Array (Bracketed (T m)) vs us v p)
 
+  -- what is read as types in brackets is spelled so
   members_found : Finds (members_with t) (λ ys. Bracketed (Listed T ys))
   members_found = behind_found (members_in t) (λ ys. Listed T ys then Sign (codes "]")) (λ ts x h. items_found t T finds (codes "]") (length ts + 1) ts x h) kind.Tight (codes "[")
 
+  -- what is read as texts in brackets is spelled so
   texts_found : Finds texts_with (λ ss. Bracketed (Listed QuotedText ss))
   texts_found = behind_found texts_in (λ ss. Listed QuotedText ss then Sign (codes "]")) (λ ts x h. items_found (taken quoted_by) QuotedText quoted_found (codes "]") (length ts + 1) ts x h) kind.Tight (codes "[")
 
@@ -276,6 +301,7 @@ module _ (t : Reader TypeName) (T : Spells TypeName) (finds : Finds t T) where
       let same : ◌≡◌ {A = TypeName × List Lexeme} (y, ts) x = cc in
       subst (λ (z : TypeName × List Lexeme). Begins (Behind w z.0) ts z.1) same b
 
+  -- what is read behind the name of a type makes a type with it
   behind_word : (w : TypeWord) → Finds (type_by t w) (Behind w)
   behind_word word.Any ts x h = ended word.Any type.Any ts x h (bare word.Any type.Any (λ us v. grammar.any refl v) ts)
   behind_word word.Boolean ts x h = ended word.Boolean type.Boolean ts x h (bare word.Boolean type.Boolean (λ us v. grammar.boolean refl v) ts)
@@ -287,6 +313,7 @@ module _ (t : Reader TypeName) (T : Spells TypeName) (finds : Finds t T) where
   behind_word word.Enum ts x h = shaped_found type.Enum texts_with (λ ss. Bracketed (Listed QuotedText ss)) (Behind word.Enum) texts_found (λ ss us p vs v. grammar.enum ss refl (with_word word.Enum (Bracketed (Listed QuotedText ss)) vs us v p)) ts x h
   behind_word word.Variant ts x h = shaped_found type.Variant (members_with t) (λ ys. Bracketed (Listed T ys)) (Behind word.Variant) members_found (λ ys us p vs v. grammar.variant ys refl (with_word word.Variant (Bracketed (Listed T ys)) vs us v p)) ts x h
 
+  -- what is read as a type is spelled so, if it holds of those in its brackets
   type_found : Finds (type_with t) (TypeOf T)
   type_found ts x h =
       let p = bind_some (taken type_word_by ts) (λ w. type_by t w.0 w.1) x h in
@@ -294,6 +321,7 @@ module _ (t : Reader TypeName) (T : Spells TypeName) (finds : Finds t T) where
       let b = behind_word p.0.0 p.0.1 x p.2 in
       record { front = w.front ++ b.front; spelled = b.spelled w.front w.spelled; whole = w.whole ∙ ap (λ r. w.front ++ r) b.whole ∙ sym (append_assoc w.front b.front x.1) }
 
+-- what is read as a type is spelled so, with brackets nested less deep than this
 pub type_at_found : (depth : ℕ) → Finds (type_at depth) (IsTypeAt depth)
 type_at_found zero ts x h = cc
 type_at_found (suc depth) ts x h = type_found (type_at depth) (IsTypeAt depth) (type_at_found depth) ts x h

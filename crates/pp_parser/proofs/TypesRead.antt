@@ -37,6 +37,7 @@ Not test rest = test rest ≡ false
 
 module _ {X : Type 0} (test : List Lexeme → Bool) (f : Reader X) (A : Spells X) (F : Phrase) (reads : ReadsBefore F f A)
     (begun : (x : X) (us rest : List Lexeme) → A x us → test (us ++ rest) ≡ true) where
+  -- what is there, or nothing, is read, where the test tells the two apart
   pub optional_read : (y : Option X) (us rest : List Lexeme) → Perhaps A y us → Fit us → F rest → Not test rest → optional test f (us ++ rest) ≡ Some (y, rest)
   optional_read None us rest e n q stop =
       ap (λ u. optional test f (u ++ rest)) e ∙ ap (λ v. cond v (f rest >>= λ x. Some (Some x.0, x.1)) (Some (None, rest))) stop
@@ -45,9 +46,11 @@ module _ {X : Type 0} (test : List Lexeme → Bool) (f : Reader X) (A : Spells X
       ∙ ap (λ r. r >>= λ x. Some (Some x.0, x.1)) (reads x us rest a n q)
 
 module _ {X Y : Type 0} (h : X → Y) (f : Reader X) (A : Spells X) (F : Phrase) (reads : ReadsBefore F f A) where
+  -- what is made of something is read where that is
   pub shaped_read : (x : X) (y : Y) (us rest : List Lexeme) → A x us → Fit us → F rest → h x ≡ y → shaped h f (us ++ rest) ≡ Some (y, rest)
   shaped_read x y us rest a n q e = ap (λ r. r >>= λ x. Some (h x.0, x.1)) (reads x us rest a n q) ∙ ap (λ z. Some (z, rest)) e
 
+-- where a token stands, the test finds it
 begins_first : (k : Kind) (s : List ℕ) (B : Phrase) (us rest : List Lexeme) → (phrases.Some k s then B) us → begins k s (us ++ rest) ≡ true
 begins_first k s B us rest p = ap (λ r. is_found (mark k s r)) (split p.front p.back rest us p.whole) ∙ ap is_found (mark_here k s p.front (p.back ++ rest) p.first)
 
@@ -57,6 +60,7 @@ no_index rest q = tight_none rest q
 
 -- ---- tokens
 
+-- the name of a type is told to name it
 word_here : (w : TypeWord) → type_word (word_text w) ≡ Some w
 word_here word.Any = refl
 word_here word.Boolean = refl
@@ -68,18 +72,23 @@ word_here word.Optional = refl
 word_here word.Enum = refl
 word_here word.Variant = refl
 
+-- the name of a type is read
 word_read : (w : TypeWord) (us rest : List Lexeme) → IsWord w us → taken type_word_by (us ++ rest) ≡ Some (w, rest)
 word_read w us rest t = taken_read type_word_by kind.Ref (word_text w) w us rest t (word_here w)
 
+-- an INT that fits has its number
 number_here : (raw : List ℕ) → int_value raw < 2 ^ 63 → number raw ≡ Some (pos (int_value raw))
 number_here raw l = ap (λ b. cond b (Some (pos (int_value raw))) None) (lt-ltb _ _ l)
 
+-- an INT among numbers that fit fits
 number_fits : (raw : List ℕ) (us : List Lexeme) → phrases.Some kind.Int raw us → Fit us → int_value raw < 2 ^ 63
 number_fits raw us t f = (subst Fit t.1 f).0 refl
 
+-- a number is read
 number_read : ReadsBefore Always (taken number_by) IsNumber
 number_read v us rest n f q = taken_read number_by kind.Int n.0 v us rest n.1 (number_here n.0 (number_fits n.0 us n.1 f) ∙ ap Some (sym n.2))
 
+-- a text in single quotes is read
 quoted_read : ReadsBefore Always (taken quoted_by) QuotedText
 quoted_read v us rest n f q = taken_read quoted_by kind.Sq n.0 v us rest n.1 (sq_read v n.0 n.2)
 
@@ -89,16 +98,19 @@ quoted_read v us rest n f q = taken_read quoted_by kind.Sq n.0 v us rest n.1 (sq
 abbrev Closed : Phrase
 Closed rest = Not (begins kind.Sign (codes ",")) rest
 
+-- an upper bound, or nothing, is read, before a bracket that closes
 upper_read : ReadsBefore Closed upper_with Upper
 upper_read y us rest a f q =
     optional_read (begins kind.Sign (codes ",")) (behind kind.Sign (codes ",") (taken number_by)) (λ v. Sign (codes ",") then IsNumber v) Always
     (behind_read (taken number_by) IsNumber Always number_read kind.Sign (codes ",")) (λ v us rest p. begins_first kind.Sign (codes ",") (IsNumber v) us rest p) y us rest a f tt q
 
+-- bounds are read
 bounds_read : ReadsBefore Always bounds_with Bounds
 bounds_read =
     before_read (both (taken number_by) upper_with) (λ b. IsNumber b.0 then Upper b.1) Closed
     (both_read (taken number_by) upper_with IsNumber Upper Always Closed number_read upper_read (λ y us rest b q. tt)) kind.Sign (codes "]") (λ us rest t. by_token kind.Sign (codes "]") Closed (λ at more. refl) us rest t)
 
+-- bounds in brackets, or nothing, are read
 maybe_bounds_read : ReadsBefore Quiet maybe_bounds MaybeBounds
 maybe_bounds_read y us rest a f q =
     optional_read (begins kind.Tight (codes "[")) (behind kind.Tight (codes "[") bounds_with) (λ b. Tight then Bounds b) Always
@@ -108,6 +120,7 @@ maybe_bounds_read y us rest a f q =
 with_nothing : (A : List Lexeme → Type 0) (us : List Lexeme) → A us → (A then Nothing) us
 with_nothing A us a = record { front = us; back = []; first = a; second = refl; whole = sym (append-nil us) }
 
+-- `[`, a number and `]` are bounds in brackets
 lower_bounds : (v : ℤ) (low : List ℕ) (us : List Lexeme) → v ≡ pos (int_value low) → (Tight then phrases.Some kind.Int low then Sign (codes "]")) us → MaybeBounds (Some (v, None)) us
 lower_bounds v low us e p =
     let s = p.second in
@@ -119,6 +132,7 @@ lower_bounds v low us e p =
       whole = p.whole;
     }
 
+-- so are `[`, two numbers with a comma between them and `]`
 both_bounds : (v w : ℤ) (low high : List ℕ) (us : List Lexeme) → v ≡ pos (int_value low) → w ≡ pos (int_value high) → (Tight then phrases.Some kind.Int low then phrases.Comma then phrases.Some kind.Int high then Sign (codes "]")) us
     → MaybeBounds (Some (v, Some w)) us
 both_bounds v w low high us e g p =
@@ -143,30 +157,38 @@ both_bounds v w low high us e g p =
 
 module _ (t : Reader TypeName) (T : Spells TypeName) (reads : ReadsBefore Quiet t T) (solid : (y : TypeName) (us : List Lexeme) → T y us → 0 < length us)
     (apart : (y : TypeName) (us rest : List Lexeme) → T y us → mark kind.Sign (codes "]") (us ++ rest) ≡ None) where
+  -- between a tight `[` and `]`
   abbrev Bracketed : (List Lexeme → Type 0) → List Lexeme → Type 0
   Bracketed A = Tight then A then Sign (codes "]")
 
+  -- a closing bracket takes nothing that stands in front of it
   closes_quiet : (us rest : List Lexeme) → Sign (codes "]") us → Quiet (us ++ rest)
   closes_quiet us rest t = by_token kind.Sign (codes "]") Quiet (λ at more. omega arith) us rest t
 
+  -- a type in brackets is read
   member_read : ReadsBefore Always (member_with t) (λ y. Bracketed (T y))
   member_read = behind_read (before t kind.Sign (codes "]")) (λ y. T y then Sign (codes "]")) Always (before_read t T Quiet reads kind.Sign (codes "]") closes_quiet) kind.Tight (codes "[")
 
+  -- so is a type in brackets, or nothing
   maybe_member_read : ReadsBefore Quiet (maybe_member t) (Perhaps (λ y. Bracketed (T y)))
   maybe_member_read y us rest a f q =
       optional_read (begins kind.Tight (codes "[")) (member_with t) (λ y. Bracketed (T y)) Always member_read (λ y us rest p. begins_first kind.Tight (codes "[") (T y then Sign (codes "]")) us rest p) y us rest a f tt (no_index rest q)
 
+  -- types in brackets are read
   members_read : ReadsBefore Always (members_with t) (λ ys. Bracketed (Listed T ys))
   members_read =
       behind_read (members_in t) (λ ys. Listed T ys then Sign (codes "]")) Always
       (λ ys us rest p f q. items_read (codes "]") bracket_closes t T reads solid apart ys (length (us ++ rest) + 1) us rest p f (omega (arith, length-append us rest))) kind.Tight (codes "[")
 
+  -- a text in single quotes has a token
   quoted_solid : (v : List ℕ) (us : List Lexeme) → QuotedText v us → 0 < length us
   quoted_solid v us n = subst (λ u. 0 < length u) (sym n.1.1) (omega arith)
 
+  -- it doesn't begin with `]`
   quoted_apart : (v : List ℕ) (us rest : List Lexeme) → QuotedText v us → mark kind.Sign (codes "]") (us ++ rest) ≡ None
   quoted_apart v us rest n = ap (λ u. mark kind.Sign (codes "]") (u ++ rest)) n.1.1
 
+  -- texts in brackets are read
   texts_read : ReadsBefore Always texts_with (λ ss. Bracketed (Listed QuotedText ss))
   texts_read =
       behind_read texts_in (λ ss. Listed QuotedText ss then Sign (codes "]")) Always
@@ -178,9 +200,11 @@ module _ (t : Reader TypeName) (T : Spells TypeName) (reads : ReadsBefore Quiet 
   with_word w y B us rest p f next =
       ap (type_with t) (split p.front p.back rest us p.whole) ∙ ap (λ r. r >>= λ w. type_by t w.0 w.1) (word_read w p.front (p.back ++ rest) p.first) ∙ next p.back p.second (fits_second p.front p.back p.whole f)
 
+  -- a type that is a name alone is read
   alone : (w : TypeWord) (y : TypeName) (us rest : List Lexeme) → IsWord w us → type_by t w rest ≡ Some (y, rest) → type_with t (us ++ rest) ≡ Some (y, rest)
   alone w y us rest p e = ap (λ r. r >>= λ w. type_by t w.0 w.1) (word_read w us rest p) ∙ e
 
+  -- a type is read, if it holds of those in its brackets
   pub type_read : ReadsBefore Quiet (type_with t) (TypeOf T)
   type_read y us rest (grammar.any e v) f q = alone word.Any y us rest v (ap (λ z. Some (z, rest)) (sym e))
   type_read y us rest (grammar.boolean e v) f q = alone word.Boolean y us rest v (ap (λ z. Some (z, rest)) (sym e))
@@ -228,10 +252,12 @@ type_leads T y us (grammar.optional m e p) = (codes "Optional", p.first.0, p.bac
 type_leads T y us (grammar.enum ss e p) = (codes "Enum", p.first.0, p.back, p.whole ∙ ap (λ r. r ++ p.back) p.first.1)
 type_leads T y us (grammar.variant ys e p) = (codes "Variant", p.first.0, p.back, p.whole ∙ ap (λ r. r ++ p.back) p.first.1)
 
+-- a type begins with a name in capitals
 pub leads_at : (depth : ℕ) (y : TypeName) (us : List Lexeme) → IsTypeAt depth y us → (s : List ℕ) × (at : ℕ) × (more : List Lexeme) × (us ≡ record { kind = kind.Ref; text = s; at = at } ∷ more)
 leads_at zero y us h = absurd h
 leads_at (suc depth) y us h = type_leads (IsTypeAt depth) y us h
 
+-- a type is read, with brackets nested less deep than this
 pub type_at_read : (depth : ℕ) → ReadsBefore Quiet (type_at depth) (IsTypeAt depth)
 type_at_read zero y us rest h f q = absurd h
 type_at_read (suc depth) y us rest h f q =

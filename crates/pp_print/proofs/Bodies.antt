@@ -25,13 +25,16 @@ use Rattle.pp_print.proofs.Widening.{postfix_wide}
 
 -- ---- expressions
 
+-- what is known of expressions within brackets holds of each small one
 pub nested_expr : (e : ℕ) (x : Expr) (ts : List Lexeme) → IsExpr x ts → Small e ts → Nested e x
 nested_expr e x ts d good = spelled_again d.0 e x ts d.1 good
 
+-- the words of what stands within `${` and `}` spell it again
 inner_expr : (e : ℕ) (y : Expr) (ts : List Lexeme) → InnerOf IsExpr y ts → Small e ts → (us : List Lexeme) → words_in us ≡ expr_words y → (z : Expr) × InnerOf (IsExprAt (suc e)) z us × (unplaced y ≡ unplaced z)
 inner_expr e y ts (rule.variable x first d r) good us w = inner_again d.0 (spelled_again d.0) e y ts (rule.variable x first d.1 r) good us w
 inner_expr e y ts (rule.other d n) good us w = inner_again d.0 (spelled_again d.0) e y ts (rule.other d.1 n) good us w
 
+-- an expression at some depth is an expression
 pub widen : (k : ℕ) (x : Expr) (us : List Lexeme) → IsExprAt k x us → IsExpr x us
 widen k x us d = (k, d)
 
@@ -42,15 +45,18 @@ postfix_reads n y ts d good us w =
     let r = at_level_again (IsExprAt (suc e)) 8 y (omega arith) (postfix_again IsExpr nested_expr inner_expr e y ts d (good.0, omega arith)) us w in
     (r.0, postfix_wide (IsExprAt (suc e)) IsExpr (widen (suc e)) r.0 us r.1, r.2)
 
+-- the words of an expression spell it again
 pub expr_reads : (n : ℕ) (x : Expr) (ts : List Lexeme) → IsExpr x ts → Small n ts → (us : List Lexeme) → words_in us ≡ expr_words x → (y : Expr) × IsExpr y us × (unplaced x ≡ unplaced y)
 expr_reads n x ts d good us w = expression_reads x ts d good.0 us w
 
+-- the words of an option spell it again
 pub option_reads : (n : ℕ) (o : Option Expr) (ts : List Lexeme) → OptionOf IsExpr o ts → Small n ts → (us : List Lexeme) → words_in us ≡ option_by expr_words o → (p : Option Expr) × OptionOf IsExpr p us × (option_map unplaced o ≡ option_map unplaced p)
 option_reads n prelude.None ts d good us w = (prelude.None, one_word kind.Keyword (codes "default") us w, refl)
 option_reads n (prelude.Some x) ts d good us w = let r = expr_reads n x ts d good us w in (prelude.Some r.0, r.1, ap (λ (y : Expr). prelude.Some y) r.2)
 
 -- ---- attributes and bodies
 
+-- the word of a name spells it again
 pub name_reads : (n : ℕ) (name : List ℕ) (ts : List Lexeme) → NameOf name ts → Small n ts → (us : List Lexeme) → words_in us ≡ named name → NameOf name us
 name_reads n name ts (statement.word d c) good us w =
     let h : is_among keywords name ≡ false = (subst (λ (r : List Lexeme). AllStand r) d.1 good.0).0 in
@@ -59,6 +65,7 @@ name_reads n name ts (statement.keyword d) good us w =
     let h : is_among keywords name ≡ true = (subst (λ (r : List Lexeme). AllStand r) d.1 good.0).0 in
     statement.keyword (one_word kind.Keyword name us (w ∙ ap (λ b. word (cond b kind.Keyword kind.Word) name) h))
 
+-- the words of an attribute spell it again
 attr_reads : (n : ℕ) (a : Attr) (ts : List Lexeme) → AttrOf IsExpr a ts → Small n ts → (us : List Lexeme) → words_in us ≡ attr_words a → (b : Attr) × AttrOf IsExpr b us × (unplaced_attr a ≡ unplaced_attr b)
 attr_reads n a ts d good us w =
     let p = parts us (named a.name) (sign (codes "=>") ++ expr_words a.value) w in
@@ -75,9 +82,11 @@ attr_reads n a ts d good us w =
       ap (λ (v : Expr). record { at = 0; name = a.name; value = v }) r.2,
     )
 
+-- the words of attributes spell them again
 pub attrs_read : (n : ℕ) (xs : List Attr) (ts : List Lexeme) → MaybeListed (AttrOf IsExpr) xs ts → Small n ts → (us : List Lexeme) → words_in us ≡ listed attr_words xs → (bs : List Attr) × MaybeListed (AttrOf IsExpr) bs us × (map unplaced_attr xs ≡ map unplaced_attr bs)
 attrs_read n xs ts d good us w = maybe_listed_again n (AttrOf IsExpr) (AttrOf IsExpr) attr_words unplaced_attr (attr_reads n) xs ts d good us w
 
+-- the words of a body spell it again
 body_reads : (n : ℕ) (b : Body) (ts : List Lexeme) → BodyOf IsExpr b ts → Small n ts → (us : List Lexeme) → words_in us ≡ body_words b → (c : Body) × BodyOf IsExpr c us × (unplaced_body b ≡ unplaced_body c)
 body_reads n b ts d good us w =
     let p = parts us (expr_words b.title) (sign (codes ":") ++ listed attr_words b.attrs) w in

@@ -30,11 +30,13 @@ use Rattle.pp_print.proofs.Searches.{maybe_search_reads}
 
 -- ---- in braces
 
+-- tokens in braces, and the words between these
 pub record Braced (us : List Lexeme) (ws : List Word) : Type 1 where
   pub inner : List Lexeme
   pub words : words_in inner ≡ ws
   pub build : (A : Phrase) → A inner → InBraces A us
 
+-- tokens with the words of something in braces are that
 pub braced : (us : List Lexeme) (ws : List Word) → words_in us ≡ in_braces ws → Braced us ws
 braced us ws w =
     let p = parts us (sign (codes "{")) (ws ++ sign (codes "}")) w in
@@ -46,6 +48,7 @@ braced us ws w =
           (together A (Sign (codes "}")) p.back ws (sign (codes "}")) q h (one_word kind.Sign (codes "}") q.back q.second));
     }
 
+-- what stands in braces is small where the whole is
 pub braces_small : (n : ℕ) (A : Phrase) (ts : List Lexeme) (d : InBraces A ts) → Small n ts → Small n d.second.front
 braces_small n A ts d good =
     let g = parts_stand n (Sign (codes "{")) (A then Sign (codes "}")) ts d good in
@@ -53,6 +56,7 @@ braces_small n A ts d good =
 
 -- ---- references
 
+-- the words of a reference spell it again
 reference_reads : (n : ℕ) (x : Expr) (ts : List Lexeme) → ReferenceOf IsExpr x ts → Small n ts → (us : List Lexeme) → words_in us ≡ expr_words x → (y : Expr) × ReferenceOf IsExpr y us × (unplaced x ≡ unplaced y)
 reference_reads n x ts r good us w =
     let d = r.spelled in
@@ -65,18 +69,22 @@ reference_reads n x ts r good us w =
 
 -- ---- operands
 
+-- the word of a resource's type spells it again
 word_named : (n : ℕ) (name : List ℕ) (ts us : List Lexeme) → Some kind.Word name ts → Small n ts → words_in us ≡ named name → Some kind.Word name us
 word_named n name ts us d good w =
     let h : is_among keywords name ≡ false = (subst (λ (r : List Lexeme). AllStand r) d.1 good.0).0 in
     one_word kind.Word name us (w ∙ ap (λ b. word (cond b kind.Keyword kind.Word) name) h)
 
+-- the words of `@`, or none, spell it again
 virtual_again : (virtual : Bool) (us : List Lexeme) → words_in us ≡ virtual_words virtual → Virtual virtual us
 virtual_again true us w = one_word kind.Sign (codes "@") us w
 virtual_again false us w = no_word us w
 
+-- tokens with the words of this operand spell it again
 abbrev pub OperandReads : ℕ → Operand → List Lexeme → Type 0
 OperandReads n y us = words_in us ≡ operand_words y → (z : Operand) × OperandOf IsExpr z us × (unplaced_operand y ≡ unplaced_operand z)
 
+-- the words of a resource spell it again
 resource_reads : (n at : ℕ) (virtual : Bool) (name : List ℕ) (bodies : List Body) (ts : List Lexeme) → is_among rule.functions name ≡ false → (Virtual virtual then Some kind.Word name then InBraces (BodiesOf IsExpr bodies)) ts → Small n ts → (us : List Lexeme) → OperandReads n (operand.Declare at virtual name bodies) us
 resource_reads n at virtual name bodies ts free d good us w =
     let p = parts us (virtual_words virtual) (named name ++ in_braces (bodies_words bodies)) w in
@@ -92,6 +100,7 @@ resource_reads n at virtual name bodies ts free d good us w =
       ap (λ (bs : List Body). operand.Declare 0 virtual name bs) r.2,
     )
 
+-- the words of a class that is declared spell it again
 class_reads : (n at : ℕ) (bodies : List Body) (ts : List Lexeme) → (Token kind.Keyword (codes "class") at then InBraces (BodiesOf IsExpr bodies)) ts → Small n ts → (us : List Lexeme) → OperandReads n (operand.Declare at false (codes "class") bodies) us
 class_reads n at bodies ts d good us w =
     let p = parts us (keyword (codes "class")) (in_braces (bodies_words bodies)) w in
@@ -105,6 +114,7 @@ class_reads n at bodies ts d good us w =
       ap (λ (bs : List Body). operand.Declare 0 false (codes "class") bs) r.2,
     )
 
+-- the words of a collector spell it again
 collector_reads : (n at : ℕ) (name : List ℕ) (s : Option Search) (ts : List Lexeme) → (Token kind.Ref name at then Sign (codes "<|") then MaybeSearch IsExpr s then Sign (codes "|>")) ts → Small n ts → (us : List Lexeme) → OperandReads n (operand.Collect at name s) us
 collector_reads n at name s ts d good us w =
     let p = parts us (word kind.Ref name) (sign (codes "<|") ++ (maybe_search s ++ sign (codes "|>"))) w in
@@ -123,9 +133,11 @@ collector_reads n at name s ts d good us w =
       ap (λ (o : Option Search). operand.Collect 0 name o) r.2,
     )
 
+-- the words of one reference spell it again as an operand
 one_reference : (n : ℕ) (x : Expr) (ts : List Lexeme) → ReferenceOf IsExpr x ts → Small n ts → (us : List Lexeme) → OperandReads n (operand.Named (x ∷ [])) us
 one_reference n x ts d good us w = let r = reference_reads n x ts d good us w in (operand.Named (r.0 ∷ []), rule.reference r.0 refl r.1, ap (λ (y : Expr). operand.Named (y ∷ [])) r.2)
 
+-- the words of two references or more spell them again as an operand
 some_references : (n : ℕ) (x y : Expr) (more : List Expr) (ts : List Lexeme) → Listed (ReferenceOf IsExpr) (x ∷ y ∷ more) ts → Small n ts → (us : List Lexeme) → OperandReads n (operand.Named (x ∷ y ∷ more)) us
 some_references n x y more ts d good us w =
     let p = parts us (word kind.Loose (codes "[")) (listed expr_words (x ∷ y ∷ more) ++ sign (codes "]")) w in
@@ -137,17 +149,20 @@ some_references n x y more ts d good us w =
       ap (λ (zs : List Expr). operand.Named zs) r.2,
     )
 
+-- a list of one reference has this reference in front
 listed_one : (n : ℕ) (x : Expr) (ts : List Lexeme) → (d : Listed (ReferenceOf IsExpr) (x ∷ []) ts) → Small n ts → (front : List Lexeme) × ReferenceOf IsExpr x front × Small n front
 listed_one n x ts d good =
     let g = parts_stand n (Separated Comma (ReferenceOf IsExpr) (x ∷ [])) (Maybe Comma) ts d good in
     let k = parts_stand n (ReferenceOf IsExpr x) (Each Comma (ReferenceOf IsExpr) []) d.front d.first g.0 in
     (d.first.front, d.first.first, k.0)
 
+-- the words of references spell them again as an operand
 references_read : (n : ℕ) (xs : List Expr) (ts : List Lexeme) → Listed (ReferenceOf IsExpr) xs ts → Small n ts → (us : List Lexeme) → OperandReads n (operand.Named xs) us
 references_read n [] ts d good us w = absurd d.first
 references_read n (x ∷ []) ts d good us w = let o = listed_one n x ts d good in one_reference n x o.0 o.1 o.2 us w
 references_read n (x ∷ y ∷ more) ts d good us w = some_references n x y more ts d good us w
 
+-- the words of an operand of a chain spell it again
 pub operand_reads : (n : ℕ) (y : Operand) (ts : List Lexeme) → OperandOf IsExpr y ts → Small n ts → (us : List Lexeme) → OperandReads n y us
 operand_reads n y ts (rule.resource at virtual name bodies is at_is free d) good us = subst (λ (o : Operand). OperandReads n o us) (sym is) (resource_reads n at virtual name bodies ts free d good us)
 operand_reads n y ts (rule.class at bodies is d) good us = subst (λ (o : Operand). OperandReads n o us) (sym is) (class_reads n at bodies ts d good us)
@@ -160,12 +175,14 @@ operand_reads n y ts (rule.references xs is d) good us =
 
 -- ---- chains
 
+-- the word of an arrow spells it again
 arrow_again : (a : Arrow) (us : List Lexeme) → words_in us ≡ arrow_words a → ArrowOf a us
 arrow_again arrow.Before us w = one_word kind.Sign (codes "->") us w
 arrow_again arrow.Notify us w = one_word kind.Sign (codes "~>") us w
 arrow_again arrow.After us w = one_word kind.Sign (codes "<-") us w
 arrow_again arrow.Follow us w = one_word kind.Sign (codes "<~") us w
 
+-- the words of arrows with operands spell them again
 pub links_read : (n : ℕ) (arrows : List Arrow) (ys : List Operand) (ts : List Lexeme) → Links IsExpr arrows ys ts → Small n ts → (us : List Lexeme) → words_in us ≡ links arrows ys → (zs : List Operand) × Links IsExpr arrows zs us × (map unplaced_operand ys ≡ map unplaced_operand zs)
 links_read n [] [] ts d good us w = ([], no_word us w, refl)
 links_read n [] (y ∷ ys) ts d good us w = absurd d
@@ -183,6 +200,7 @@ links_read n (a ∷ arrows) (y ∷ ys) ts d good us w =
       ap (λ (z : Operand). z ∷ map unplaced_operand ys) here.2 ∙ ap (λ (r : List Operand). unplaced_operand here.0 ∷ r) rest.2,
     )
 
+-- what may stand alone does so with other places
 pub alone_again : (y z : Operand) (ys zs : List Operand) → unplaced_operand y ≡ unplaced_operand z → map unplaced_operand ys ≡ map unplaced_operand zs → StandsAlone y ys → StandsAlone z zs
 alone_again y (operand.Declare at virtual name bodies) ys zs same others h = tt
 alone_again y (operand.Collect at name s) ys zs same others h = tt

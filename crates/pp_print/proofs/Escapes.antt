@@ -9,12 +9,14 @@ use Rattle.pp_print.specs.Words.{escapes, must_escape, escaped}
 abbrev pub special : ℕ → Bool
 special b = (b == 92) || (b == 39)
 
+-- what must be escaped is a backslash or a quote
 pub must_special : (b : ℕ) (v : List ℕ) → must_escape b v ≡ true → special b ≡ true
 must_special b v h = elim (or_cases (b == 39) ((b == 92) && escapes v) h) [
   | inl e ↦ or_right (b == 92) (b == 39) e
   | inr e ↦ or_left (b == 92) (b == 39) (and_parts (b == 92) (escapes v) e).0
 ]
 
+-- and no other byte is one
 no_special : (b : ℕ) → b ≢ 92 → b ≢ 39 → special b ≡ false
 no_special b n m = ap (λ v. v || (b == 39)) (ne_eqb b 92 n) ∙ ne_eqb b 39 m
 
@@ -22,6 +24,7 @@ no_special b n m = ap (λ v. v || (b == 39)) (ne_eqb b 92 n) ∙ ne_eqb b 39 m
 plain_byte : (b : ℕ) (v : List ℕ) → b ≢ 92 → b ≢ 39 → must_escape b v ≡ false
 plain_byte b v n m = ap (λ t. t || ((b == 92) && escapes v)) (ne_eqb b 39 m) ∙ ap (λ t. t && escapes v) (ne_eqb b 92 n)
 
+-- what needn't be escaped is no quote
 no_quote : (b : ℕ) (v : List ℕ) → must_escape b v ≡ false → b ≢ 39
 no_quote b v h = eqb-false b 39 (or_no_left (b == 39) ((b == 92) && escapes v) h)
   where
@@ -29,9 +32,11 @@ no_quote b v h = eqb-false b 39 (or_no_left (b == 39) ((b == 92) && escapes v) h
     or_no_left true y e = cc
     or_no_left false y e = refl
 
+-- behind a backslash that needn't be escaped stands nothing to be escaped
 no_escapes : (b : ℕ) (v : List ℕ) → b ≡ 92 → must_escape b v ≡ false → escapes v ≡ false
 no_escapes b v e h = sym (ap (λ t. must_escape t v) e) ∙ h
 
+-- what stands there begins with neither a backslash nor a quote
 escapes_special : (c : ℕ) (v : List ℕ) → escapes (c ∷ v) ≡ false → (c ≢ 92) × (c ≢ 39)
 escapes_special c v h = (eqb-false c 92 (left (c == 92) (c == 39) h), eqb-false c 39 (right (c == 92) (c == 39) h))
   where
@@ -47,15 +52,19 @@ escapes_special c v h = (eqb-false c 92 (left (c == 92) (c == 39) h), eqb-false 
 abbrev Reads : List ℕ → List ℕ → Type 0
 Reads raw v = (sq_value raw ≡ v) × SqText raw
 
+-- a backslash or a quote is written with a backslash before it
 escaped_byte : (b : ℕ) (raw v : List ℕ) → special b ≡ true → Reads raw v → Reads (92 ∷ b ∷ raw) (b ∷ v)
 escaped_byte b raw v h r = (ap (λ t. cond t (b ∷ sq_value raw) (92 ∷ b ∷ sq_value raw)) h ∙ ap (λ t. b ∷ t) r.0, inr (refl, r.1))
 
+-- any other byte is written as it is
 bare_byte : (b : ℕ) (raw v : List ℕ) → b ≢ 92 → b ≢ 39 → Reads raw v → Reads (b ∷ raw) (b ∷ v)
 bare_byte b raw v n m r = (ap (λ t. cond t (sq_escaped raw) (b ∷ sq_value raw)) (ne_eqb b 92 n) ∙ ap (λ t. b ∷ t) r.0, inl (m, n, r.1))
 
+-- a backslash before any other byte is written as it is
 bare_backslash : (c : ℕ) (raw v : List ℕ) → c ≢ 92 → c ≢ 39 → Reads raw v → Reads (92 ∷ c ∷ raw) (92 ∷ c ∷ v)
 bare_backslash c raw v n m r = (ap (λ t. cond t (c ∷ sq_value raw) (92 ∷ c ∷ sq_value raw)) (no_special c n m) ∙ ap (λ t. 92 ∷ c ∷ t) r.0, inr (refl, r.1))
 
+-- an escaped text is read as the text
 pub escaped_reads : (v : List ℕ) → Reads (escaped v) v
 escaped_reads [] = (refl, tt)
 escaped_reads (b ∷ []) = elim (must_escape b []) as (λ t. must_escape b [] ≡ t → Reads (cond t (92 ∷ b ∷ []) (b ∷ []) ++ []) (b ∷ [])) [
@@ -77,17 +86,21 @@ escaped_reads (b ∷ c ∷ v) = elim (must_escape b (c ∷ v)) as (λ t. must_es
   ] refl
 ] refl
 
+-- in quotes it is a text in single quotes with this value
 pub quoted_is : (v : List ℕ) → SqOf v (39 ∷ (escaped v ++ 39 ∷ []))
 quoted_is v = (escaped v, refl, sym (escaped_reads v).0)
 
 -- ---- the fewest
 
+-- a byte is written as two at most
 short_byte : (b : ℕ) (v : List ℕ) → length (escaped (b ∷ v)) ≤ length (escaped v) + 2
 short_byte b v = elim (must_escape b v) as (λ t. length (cond t (92 ∷ b ∷ []) (b ∷ []) ++ escaped v) ≤ length (escaped v) + 2) [ true ↦ omega arith | false ↦ omega arith ]
 
+-- one that needn't be escaped is written as one
 plain_short : (b : ℕ) (v : List ℕ) → must_escape b v ≡ false → length (escaped (b ∷ v)) ≡ length (escaped v) + 1
 plain_short b v h = ap (λ t. length (cond t (92 ∷ b ∷ []) (b ∷ []) ++ escaped v)) h ∙ omega arith
 
+-- no other way to write a text in single quotes is shorter
 pub fewest : (raw : List ℕ) → SqText raw → length (escaped (sq_value raw)) ≤ length raw
 fewest [] h = omega arith
 fewest (b ∷ raw) (inl h) = subst (λ (v : List ℕ). length (escaped v) ≤ length (b ∷ raw)) (sym (ap (λ t. cond t (sq_escaped raw) (b ∷ sq_value raw)) (ne_eqb b 92 h.1)))

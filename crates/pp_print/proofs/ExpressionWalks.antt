@@ -36,17 +36,20 @@ record InQuotes (U : List ℕ → Type 0) (ws : List Word) : Type 0 where
 module _ {U : List ℕ → Type 0} where
   -- ---- one expression, by its words
 
+  -- an expression that is printed as an operand behind which a `[` is tight may stand
   closed_goes : (x : Expr) (ws : List Word) (b : Bool) → printed x ≡ operand ws b → Takes U is_free is_closed ws → Goes U x
   closed_goes x ws b is h =
       let words : expr_words x ≡ ws = ap (λ (p : Printed). p.words) is in
       record { words = by_words words (loosen is_done closed_done h); ends = λ i. by_words words h }
 
+  -- so may one that can't be indexed
   open_goes : (x : Expr) (p : Printed) → printed x ≡ p → p.indexable ≡ false → Takes U is_free is_done p.words → Goes U x
   open_goes x p is n h = record {
     words = by_words (ap (λ (q : Printed). q.words) is) h;
     ends = λ i. absurd (both_ways (printed x).indexable (ap (λ (q : Printed). q.indexable) is ∙ n) i);
   }
 
+  -- an expression may stand where operators need brackets round it
   pub at_level_goes : (n : ℕ) (x : Expr) → Goes U x → Takes U is_free is_done (at_level n (printed x))
   at_level_goes n x g = by_level (nat_le n (printed x).level)
     where
@@ -54,6 +57,7 @@ module _ {U : List ℕ → Type 0} where
       by_level true = g.words
       by_level false = in_parens_takes is_done g.words refl refl
 
+  -- an expression before an index ends so that a `[` is tight
   indexed_goes : (x : Expr) → Goes U x → Takes U is_free is_closed (indexed (printed x))
   indexed_goes x g = by_index (printed x).indexable g.ends
     where
@@ -61,6 +65,7 @@ module _ {U : List ℕ → Type 0} where
       by_index true h = h refl
       by_index false h = in_parens_takes is_closed g.words refl refl
 
+  -- an operator may stand behind any word, and a `(` behind it
   operator_takes : (P : Last → Bool) (o : Op) → Takes U P is_free (operator o)
   operator_takes P op.Or = keyword_takes P is_free (codes "or") refl refl
   operator_takes P op.And = keyword_takes P is_free (codes "and") refl refl
@@ -76,12 +81,14 @@ module _ {U : List ℕ → Type 0} where
   operator_takes P op.Times = sign_takes P is_free (codes "*") (refl, refl, refl, refl, refl, refl) refl
   operator_takes P op.Not = sign_takes P is_free (codes "!") (refl, refl, refl, refl, refl, refl) refl
 
+  -- so may several operators
   operators_take : (ops : List Op) → Takes U is_free is_free (flat_map operator ops)
   operators_take [] = nothing is_free is_free (λ l p. p)
   operators_take (o ∷ ops) = seq (operator_takes is_free o) (operators_take ops)
 
   -- ---- texts in double quotes
 
+  -- an expression in `${` may stand within double quotes
   hole_in_quotes : (x : Expr) → Takes U is_free is_done (expr_words x) → InQuotes U (hole_by printed x)
   hole_in_quotes x h = record {
     walk = λ st.
@@ -90,6 +97,7 @@ module _ {U : List ℕ → Type 0} where
     good = (tt, both_good U (expr_words x) (word kind.HoleEnd (codes "}")) h.good (tt, tt));
   }
 
+  -- words that may stand within double quotes may stand with these
   joined_takes : (ws : List Word) → InQuotes U ws → Takes U is_free is_closed (word kind.DqOpen (codes "\"") ++ (ws ++ word kind.DqClose (codes "\"")))
   joined_takes ws h = record {
     walk = λ st out l p. (Closed, refl, ((out, refl), join (InText ∷ st) Held ws (word kind.DqClose (codes "\"")) (InText ∷ st) Held st Closed (h.walk st) ((refl, refl, refl), (refl, refl))));
@@ -108,25 +116,30 @@ module _ {U : List ℕ → Type 0} where
   -- ---- operands
 
   module _ (E : Rule) (goes : (x : Expr) (ts : List Lexeme) → E x ts → Fine U ts → Goes U x) where
+    -- the words of an expression in brackets may stand
     inside : (x : Expr) (ts : List Lexeme) → E x ts → Fine U ts → Takes U is_free is_done (expr_words x)
     inside x ts d h = (goes x ts d h).words
 
+    -- so may those of a pair
     pair_takes : (p : Expr × Expr) (ts : List Lexeme) → PairOf E p ts → Fine U ts → Takes U is_free is_done (pair_by printed p)
     pair_takes p ts d h =
         let g = parts_sound d h in
         let k = parts_sound d.second g.1 in
         seq (inside p.0 d.front d.first g.0) (seq (arrow_takes is_free refl) (inside p.1 d.second.back d.second.second k.1))
 
+    -- so may those of an option
     pub option_takes : (o : Option Expr) (ts : List Lexeme) → OptionOf E o ts → Fine U ts → Takes U is_free is_done (option_by expr_words o)
     option_takes prelude.None ts d h = keyword_takes is_free is_done (codes "default") refl refl
     option_takes (prelude.Some x) ts d h = inside x ts d h
 
+    -- so may those of a choice
     choice_takes : (c : Option Expr × Expr) (ts : List Lexeme) → ChoiceOf E c ts → Fine U ts → Takes U is_free is_done (choice_by printed c)
     choice_takes c ts d h =
         let g = parts_sound d h in
         let k = parts_sound d.second g.1 in
         seq (option_takes c.0 d.front d.first g.0) (seq (arrow_takes is_free refl) (inside c.1 d.second.back d.second.second k.1))
 
+    -- the words of a type's name and titles may stand behind any word
     refer_takes : (P : Last → Bool) (y : Expr) (ts : List Lexeme) (r : ReferenceOf E y ts) → Fine U ts → Takes U P is_closed (refer_by printed r.name r.titles)
     refer_takes P y ts r h =
         let d = r.spelled in
@@ -139,10 +152,12 @@ module _ {U : List ℕ → Type 0} where
     pub reference_words : (P : Last → Bool) (y : Expr) (ts : List Lexeme) → ReferenceOf E y ts → Fine U ts → Takes U P is_closed (expr_words y)
     reference_words P y ts r h = by_words (ap (λ (f : Form). (printed_form f).words) r.form_is ∙ ap (λ (p : Printed). p.words) (printed_refer r.name r.titles)) (refer_takes P y ts r h)
 
+    -- a reference may stand
     reference_goes : (y : Expr) (ts : List Lexeme) → ReferenceOf E y ts → Fine U ts → Goes U y
     reference_goes y ts r h = closed_goes y _ true (ap printed_form r.form_is ∙ printed_refer r.name r.titles) (refer_takes is_free y ts r h)
 
     module _ (inner : (y : Expr) (ts : List Lexeme) → InnerOf E y ts → Fine U ts → Takes U is_free is_done (expr_words y)) where
+      -- a member may stand within double quotes
       member_in_quotes : (y : Expr) (ts : List Lexeme) → MemberOf E y ts → Fine U ts → InQuotes U (hole_by printed y)
       member_in_quotes y ts (rule.text value raw d v f) h = hole_in_quotes y (closed_goes y _ true (ap printed_form f ∙ printed_str value) (quoted_takes is_free value (token_good kind.DqText raw y.at ts d h value v))).words
       member_in_quotes y ts (rule.variable name d f) h =
@@ -153,6 +168,7 @@ module _ {U : List ℕ → Type 0} where
           let k = parts_sound d.second g.1 in
           hole_in_quotes y (inner y d.second.front d.second.first k.0)
 
+      -- so may members
       members_in_quotes : (ms : List Expr) (ts : List Lexeme) → Members E ms ts → Fine U ts → InQuotes U (flat_map (hole_by printed) ms)
       members_in_quotes [] ts d h = record { walk = λ st. (refl, refl); good = tt }
       members_in_quotes (y ∷ ms) ts d h =
@@ -164,6 +180,7 @@ module _ {U : List ℕ → Type 0} where
             good = both_good U (hole_by printed y) (flat_map (hole_by printed) ms) here.good rest.good;
           }
 
+      -- a string may stand
       string_goes : (y : Expr) (ts : List Lexeme) → StringOf E y ts → Fine U ts → Goes U y
       string_goes y ts (rule.single value raw t v f) h = closed_goes y _ true (ap printed_form f ∙ printed_str value) (quoted_takes is_free value (token_good kind.Sq raw y.at ts t h value v))
       string_goes y ts (rule.plain value d f) h =
@@ -175,6 +192,7 @@ module _ {U : List ℕ → Type 0} where
           let k = parts_sound d.second g.1 in
           closed_goes y _ true (ap printed_form f ∙ printed_join ms) (joined_takes (flat_map (hole_by printed) ms) (members_in_quotes ms d.second.front d.second.first.0 k.0))
 
+      -- an operand may stand
       primary_goes : (y : Expr) (ts : List Lexeme) → PrimaryOf E y ts → Fine U ts → Goes U y
       primary_goes y ts (rule.int raw t f) h = open_goes y _ (ap printed_form f ∙ printed_int (pos (int_value raw))) refl (number_takes is_free (int_value raw) (token_sound kind.Int raw y.at ts t h))
       primary_goes y ts (rule.string d) h = string_goes y ts d h
@@ -201,9 +219,11 @@ module _ {U : List ℕ → Type 0} where
 
       -- ---- indexes and selections
 
+      -- an operand with an index may stand
       index_goes : (x z key : Expr) → Goes U x → Goes U key → z.form ≡ form.Index x key → Goes U z
       index_goes x z key gx gk f = closed_goes z _ true (ap printed_form f ∙ printed_at x key) (seq (indexed_goes x gx) (in_tight_takes is_closed gk.words refl refl))
 
+      -- so may one with an index or a selection
       suffix_goes : (x z : Expr) (ts : List Lexeme) → Goes U x → SuffixOf E x z ts → Fine U ts → Goes U z
       suffix_goes x z ts gx (rule.index key d f) h =
           let g = parts_sound d h in
@@ -217,12 +237,14 @@ module _ {U : List ℕ → Type 0} where
           (seq (at_level_goes 8 x gx)
           (seq (sign_takes is_done any (codes "?") (refl, refl, refl, refl, refl, refl) refl) (in_braces_takes any is_done (listed_takes (ChoiceOf E) (choice_by printed) is_free is_done choice_takes refl choices d.second.second.front d.second.second.first m.0) refl refl)))
 
+      -- so may one with several
       suffixes_go : (at : ℕ) (x y : Expr) (ts : List Lexeme) → SuffixesOf E at x y ts → Goes U x → Fine U ts → Goes U y
       suffixes_go at x y ts (rule.none e n) g h = subst (λ (z : Expr). Goes U z) e g
       suffixes_go at x y ts (rule.one z front back e d z_at more) g h =
           let k = halves_sound front back ts e h in
           suffixes_go at z y back more (suffix_goes x z front g d k.0) k.1
 
+      -- an operand with indexes and selections may stand
       pub postfix_goes : (y : Expr) (ts : List Lexeme) → PostfixOf E y ts → Fine U ts → Goes U y
       postfix_goes y ts d h =
           let k = halves_sound d.front d.back ts d.whole h in
@@ -230,6 +252,7 @@ module _ {U : List ℕ → Type 0} where
 
       -- ---- operators
 
+      -- an operand with prefixes may stand
       pub unary_goes : (y : Expr) (ts : List Lexeme) → UnaryOf E y ts → Fine U ts → Goes U y
       unary_goes y ts (rule.operand d) h = postfix_goes y ts d h
       unary_goes y ts (rule.prefixed o ops x f at d) h =
@@ -239,6 +262,7 @@ module _ {U : List ℕ → Type 0} where
   -- ---- chains of one level
 
   module _ (A : Rule) (level : ℕ) (goes : (x : Expr) (ts : List Lexeme) → A x ts → Fine U ts → Goes U x) where
+    -- operators with their right operands may stand behind an operand
     operations_take : (n : ℕ) (os : List (Op × Expr)) (ts : List Lexeme) → Operations level A os ts → Fine U ts → Takes U is_done is_done (flat_map (operation_by printed n) os)
     operations_take n [] ts d h = nothing is_done is_done (λ l p. p)
     operations_take n (o ∷ os) ts d h =
@@ -246,6 +270,7 @@ module _ {U : List ℕ → Type 0} where
         let k = parts_sound d.first.1 g.0 in
         seq (seq (operator_takes is_done o.0) (at_level_goes (n + 1) o.1 (goes o.1 d.first.1.back d.first.1.second k.1))) (operations_take n os d.back d.second g.1)
 
+    -- a chain of operands that may stand may stand
     chain_goes : (y : Expr) (ts : List Lexeme) → ChainOf level A y ts → Fine U ts → Goes U y
     chain_goes y ts (rule.operand d) h = goes y ts d h
     chain_goes y ts (rule.chain x o os f at d) h =
@@ -254,5 +279,6 @@ module _ {U : List ℕ → Type 0} where
         open_goes y _ (ap printed_form f ∙ printed_chain x (o ∷ os)) refl (seq (at_level_goes (n + 1) x (goes x d.front d.first g.0)) (operations_take n (o ∷ os) d.back d.second g.1))
 
   module _ (E : Rule) (unary : (x : Expr) (ts : List Lexeme) → UnaryOf E x ts → Fine U ts → Goes U x) where
+    -- an expression may stand where each operand may
     pub expr_goes : (y : Expr) (ts : List Lexeme) → ExprOf E y ts → Fine U ts → Goes U y
     expr_goes = chain_goes (AndOf E) 0 (chain_goes (ComparisonOf E) 1 (chain_goes (EqualityOf E) 2 (chain_goes (SumOf E) 3 (chain_goes (ProductOf E) 4 (chain_goes (InOf E) 5 (chain_goes (UnaryOf E) 6 unary))))))

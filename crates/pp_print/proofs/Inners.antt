@@ -26,34 +26,42 @@ use Rattle.pp_print.proofs.Phrases.{words_in, parts, one_word, AllStand, Small}
 use Rattle.pp_print.proofs.Reprints.{looser_to}
 use Rattle.pp_print.proofs.Postfixes.{Nested, inside_of, expression_again}
 
+-- a form, opened one step
 abbrev Open : Type 0
 Open = Form-F Form Expr
 
 -- ---- forms told apart
 
+-- a text, opened, is a text
 pub str_no : (name : List ℕ) (f : Form) (d : Open) → form.Str name ≡ f → out-Form f ≡ d → plain.Str name ≡ d
 str_no name f d e h = sym (outs-Str name) ∙ ap out-Form e ∙ h
 
+-- an index, opened, is an index
 pub at_no : (a k : Expr) (f : Form) (d : Open) → form.Index a k ≡ f → out-Form f ≡ d → ◌≡◌ {A = Open} (plain.Index a k) d
 at_no a k f d e h = sym (outs-Index a k) ∙ ap out-Form e ∙ h
 
+-- what is read as a variable is no chain of operators
 no_chain : (x v first : Expr) (more : List (Op × Expr)) → ReadAsVariable x v → x.form ≡ form.Chain first more → ⊥
 no_chain x v first more (base name e f g) h = let p : ◌≡◌ {A = Open} (plain.Str name) (plain.Chain first more) = str_no name (form.Chain first more) (plain.Chain first more) (sym e ∙ h) (outs-Chain first more) in cc
 no_chain x v first more (index a b k e f g r) h = let p : ◌≡◌ {A = Open} (plain.Index a k) (plain.Chain first more) = at_no a k (form.Chain first more) (plain.Chain first more) (sym e ∙ h) (outs-Chain first more) in cc
 
+-- and has no prefix
 no_prefix : (x v z : Expr) (ops : List Op) → ReadAsVariable x v → x.form ≡ form.Prefix ops z → ⊥
 no_prefix x v z ops (base name e f g) h = let p : ◌≡◌ {A = Open} (plain.Str name) (plain.Prefix ops z) = str_no name (form.Prefix ops z) (plain.Prefix ops z) (sym e ∙ h) (outs-Prefix ops z) in cc
 no_prefix x v z ops (index a b k e f g r) h = let p : ◌≡◌ {A = Open} (plain.Index a k) (plain.Prefix ops z) = at_no a k (form.Prefix ops z) (plain.Prefix ops z) (sym e ∙ h) (outs-Prefix ops z) in cc
 
+-- and is no selection
 pub no_select : (x v z : Expr) (cs : List (Option Expr × Expr)) → ReadAsVariable x v → x.form ≡ form.Select z cs → ⊥
 no_select x v z cs (base name e f g) h = let p : ◌≡◌ {A = Open} (plain.Str name) (plain.Select z cs) = str_no name (form.Select z cs) (plain.Select z cs) (sym e ∙ h) (outs-Select z cs) in cc
 no_select x v z cs (index a b k e f g r) h = let p : ◌≡◌ {A = Open} (plain.Index a k) (plain.Select z cs) = at_no a k (form.Select z cs) (plain.Select z cs) (sym e ∙ h) (outs-Select z cs) in cc
 
 -- ---- the same, places aside
 
+-- a form without places, opened, is what its opened form is without
 by_out : (f : Form) (g : Open) → unplaced_form f ≡ roll-Form g → map-Form Form Expr Form Expr unplaced_form unplaced (out-Form f) ≡ g
 by_out f g h = sym (out-roll-Form (map-Form Form Expr Form Expr unplaced_form unplaced (out-Form f))) ∙ ap out-Form (sym (rolled (out-Form f)) ∙ ap unplaced_form (roll-out-Form f) ∙ h) ∙ out-roll-Form g
 
+-- a form that without places is a text is that text
 str_case : (name : List ℕ) (f : Form) (d : Open) → f ≡ roll-Form d → map-Form Form Expr Form Expr unplaced_form unplaced d ≡ plain.Str name → f ≡ form.Str name
 str_case name f (plain.Str text) e h = let same : text ≡ name = cc in e ∙ rolls-Str text ∙ ap (λ (t : List ℕ). form.Str t) same
 str_case name f (plain.Int n) e h = cc
@@ -69,6 +77,7 @@ str_case name f (plain.Prefix ops x) e h = cc
 str_case name f (plain.Index a k) e h = cc
 str_case name f (plain.Select x cs) e h = cc
 
+-- a form that without places is an index is an index of what is so without places
 at_case : (a k : Expr) (f : Form) (d : Open) → f ≡ roll-Form d → map-Form Form Expr Form Expr unplaced_form unplaced d ≡ plain.Index a k → (b : Expr) × (j : Expr) × (f ≡ form.Index b j) × (unplaced b ≡ a) × (unplaced j ≡ k)
 at_case a k f (plain.Index b j) e h = let left : unplaced b ≡ a = cc in let right : unplaced j ≡ k = cc in (b, j, e ∙ rolls-Index b j, left, right)
 at_case a k f (plain.Str text) e h = cc
@@ -84,6 +93,7 @@ at_case a k f (plain.Chain x more) e h = cc
 at_case a k f (plain.Prefix ops x) e h = cc
 at_case a k f (plain.Select x cs) e h = cc
 
+-- a text has no places
 unplaced_str : (name : List ℕ) → unplaced_form (form.Str name) ≡ form.Str name
 unplaced_str name = sym (ap unplaced_form (rolls-Str name)) ∙ rolled (plain.Str name) ∙ rolls-Str name
 
@@ -106,6 +116,7 @@ transport y z w same (index a b k e f g r) =
 
 -- ---- words
 
+-- the text that begins an expression, and the variable that begins what it is read as, with the same words behind them
 pub record Texts (x y : Expr) : Type 0 where
   pub name : List ℕ
   pub more : List Word
@@ -114,6 +125,7 @@ pub record Texts (x y : Expr) : Type 0 where
   pub text_indexed : (printed x).indexable ≡ true
   pub read_indexed : (printed y).indexable ≡ true
 
+-- what is read as a variable begins with a text, and the words behind that stay
 pub texts_of : (x y : Expr) → ReadAsVariable x y → Texts x y
 texts_of x y (base name e f g) = record {
   name = name;
@@ -143,17 +155,21 @@ texts_of x y (index a b k e f g r) =
 
 -- ---- the derivation of a text with indexes
 
+-- a chain that is read as a variable is its one operand
 unchain : (A : Rule) (level : ℕ) (x v : Expr) (ts : List Lexeme) → ReadAsVariable x v → ChainOf level A x ts → A x ts
 unchain A level x v ts r (rule.operand d) = d
 unchain A level x v ts r (rule.chain first o more e at d) = absurd (no_chain x v first (o ∷ more) r e)
 
+-- an operand that is read as a variable has no prefix
 unprefix : (G : Rule) (x v : Expr) (ts : List Lexeme) → ReadAsVariable x v → UnaryOf G x ts → PostfixOf G x ts
 unprefix G x v ts r (rule.operand d) = d
 unprefix G x v ts r (rule.prefixed o ops z e at d) = absurd (no_prefix x v z (o ∷ ops) r e)
 
+-- an expression that is read as a variable is an operand with what stands behind it
 pub unwrap : (G : Rule) (x v : Expr) (ts : List Lexeme) → ReadAsVariable x v → ExprOf G x ts → PostfixOf G x ts
 unwrap G x v ts r d = unprefix G x v ts r (unchain _ 6 x v ts r (unchain _ 5 x v ts r (unchain _ 4 x v ts r (unchain _ 3 x v ts r (unchain _ 2 x v ts r (unchain _ 1 x v ts r (unchain _ 0 x v ts r d)))))))
 
+-- equal indexes have equal bases and keys
 pub same_at : (a k b j : Expr) → form.Index a k ≡ form.Index b j → (a ≡ b) × (k ≡ j)
 same_at a k b j h =
     let same : ◌≡◌ {A = Open} (plain.Index a k) (plain.Index b j) = at_no a k (form.Index b j) (plain.Index b j) h (outs-Index b j) in
@@ -189,6 +205,7 @@ pub record Begun (G : Rule) (x v : Expr) (t : Lexeme) (rest : List Lexeme) (name
   pub behind_text : SuffixesOf G t.at text x rest
   pub behind_read : SuffixesOf G t.at read v rest
 
+-- texts that are equal with one byte behind them are equal
 snoc_same : (xs ys : List ℕ) (b : ℕ) → xs ++ b ∷ [] ≡ ys ++ b ∷ [] → xs ≡ ys
 snoc_same [] [] b h = refl
 snoc_same [] (y ∷ []) b h = cc
@@ -200,12 +217,14 @@ snoc_same (x ∷ xs) (y ∷ ys) b h =
     let tail : xs ++ b ∷ [] ≡ ys ++ b ∷ [] = cc in
     ap (λ (z : ℕ). z ∷ xs) head ∙ ap (λ (r : List ℕ). y ∷ r) (snoc_same xs ys b tail)
 
+-- a text that is written in single quotes has no other value
 value_is : (name value raw : List ℕ) → raw ≡ 39 ∷ (escaped name ++ 39 ∷ []) → SqOf value raw → value ≡ name
 value_is name value raw e v =
     let same : ◌≡◌ {A = List ℕ} (39 ∷ (v.0 ++ 39 ∷ [])) (39 ∷ (escaped name ++ 39 ∷ [])) = sym v.1 ∙ e in
     let tails : v.0 ++ 39 ∷ [] ≡ escaped name ++ 39 ∷ [] = cc in
     v.2 ∙ ap sq_value (snoc_same v.0 (escaped name) 39 tails) ∙ (escaped_reads name).0
 
+-- the first of tokens that begin with a token is this one, and the others stand behind it
 pub first_token : (k : Kind) (s : List ℕ) (at : ℕ) (front back rest : List Lexeme) (t : Lexeme) → Token k s at front → t ∷ rest ≡ front ++ back → (t ≡ record { kind = k; text = s; at = at }) × (rest ≡ back)
 first_token k s at front back rest t d h =
     let same : ◌≡◌ {A = List Lexeme} (t ∷ rest) (record { kind = k; text = s; at = at } ∷ back) = h ∙ ap (λ (r : List Lexeme). r ++ back) d in
@@ -213,9 +232,11 @@ first_token k s at front back rest t d h =
     let tail : rest ≡ back = cc in
     (head, tail)
 
+-- its kind is that of the token
 pub other_kind : {j : Kind} (k : Kind) (s : List ℕ) (at : ℕ) (front back rest : List Lexeme) (t : Lexeme) → Token k s at front → t ∷ rest ≡ front ++ back → t.kind ≡ j → k ≡ j
 other_kind k s at front back rest t d h e = sym (ap (λ (u : Lexeme). u.kind) (first_token k s at front back rest t d h).0) ∙ e
 
+-- so it is where they begin with a token and something behind it
 pub begins_other : {j : Kind} (A B : List Lexeme → Type 0) (k : Kind) (s : List ℕ) (at : ℕ) (front back rest : List Lexeme) (t : Lexeme) (d : (A then B) front) → Token k s at d.front → t ∷ rest ≡ front ++ back → t.kind ≡ j → k ≡ j
 begins_other A B k s at front back rest t d tok h e = other_kind k s at d.front (d.back ++ back) rest t tok (h ∙ ap (λ (r : List Lexeme). r ++ back) d.whole ∙ append_assoc d.front d.back back) e
 
@@ -237,6 +258,7 @@ single G y front back rest t (rule.list ms d f) h e = let k : kind.Loose ≡ kin
 single G y front back rest t (rule.map ps d f) h e = let k : kind.Sign ≡ kind.Sq = begins_other _ _ kind.Sign _ y.at front back rest t d d.first h e in cc
 single G y front back rest t (rule.reference r) h e = let k : kind.Ref ≡ kind.Sq = begins_other _ _ kind.Ref _ y.at front back rest t r.spelled r.spelled.first h e in cc
 
+-- an operand that begins with a text and is read as a variable has a text and a variable that begin it
 begun : (G : Rule) (x v : Expr) (t : Lexeme) (rest : List Lexeme) (name : List ℕ) → PostfixOf G x (t ∷ rest) → ReadAsVariable x v → t.kind ≡ kind.Sq → t.text ≡ 39 ∷ (escaped name ++ 39 ∷ []) → Begun G x v t rest name
 begun G x v t rest name h r e text =
     let s = single G h.operand h.front h.back rest t h.primary h.whole e in
@@ -262,6 +284,7 @@ begun G x v t rest name h r e text =
 
 -- ---- what stands within `${` and `}`
 
+-- where a text in single quotes stands first, no WORD does
 no_word_first : (us : List Lexeme) (s : List ℕ) (more : List Word) → words_in us ≡ word kind.Sq s ++ more → kind_of_first us ≡ prelude.Some kind.Word → ⊥
 no_word_first [] s more h first = cc
 no_word_first (t ∷ us) s more h first =
@@ -274,6 +297,7 @@ no_word_first (t ∷ us) s more h first =
     some_kind k e = cc
 
 module _ (m : ℕ) (nested : (e : ℕ) (x : Expr) (ts : List Lexeme) → IsExprAt m x ts → Small e ts → Nested e x) where
+  -- tokens with the words of what a text is read as begin as those with the words of the text
   as_text : (e : ℕ) (x y : Expr) (k : Kind) (s : List ℕ) (name : List ℕ) (more : List Word) → Nested e x → ReadAsVariable x y → expr_words x ≡ quoted name ++ more → (us : List Lexeme) → words_in us ≡ word k s ++ more
       → (at : ℕ) × (rest : List Lexeme) × (x2 : Expr) × (v : Expr) × (us ≡ record { kind = k; text = s; at = at } ∷ rest) × ReadAsVariable x2 v × (unplaced y ≡ unplaced v)
       × Begun (IsExprAt e) x2 v (record { kind = kind.Sq; text = 39 ∷ (escaped name ++ 39 ∷ []); at = at }) rest name
@@ -293,10 +317,12 @@ module _ (m : ℕ) (nested : (e : ℕ) (x : Expr) (ts : List Lexeme) → IsExprA
         begun (IsExprAt e) again.0 moved.0 q p.back name (unwrap (IsExprAt e) again.0 moved.0 (q ∷ p.back) moved.1 again.1) moved.1 refl refl,
       )
 
+  -- an operand of one token, and indexes behind it, are an expression
   postfix_by : (G : Rule) (x z : Expr) (k : Kind) (s : List ℕ) (at : ℕ) (rest us : List Lexeme) → us ≡ record { kind = k; text = s; at = at } ∷ rest → PrimaryOf G x (record { kind = k; text = s; at = at } ∷ []) → SuffixesOf G at x z rest → ExprOf G z us
   postfix_by G x z k s at rest us e d more = subst (λ (u : List Lexeme). ExprOf G z u) (sym e)
       (looser_to G 0 8 z (record { kind = k; text = s; at = at } ∷ rest) (omega arith) (record { operand = x; front = record { kind = k; text = s; at = at } ∷ []; back = rest; primary = d; suffixes = more; whole = refl }))
 
+  -- the words of what stands within `${` and `}` spell it again, where those of expressions do
   pub inner_again : (e : ℕ) (y : Expr) (ts : List Lexeme) → InnerOf (IsExprAt m) y ts → Small e ts → (us : List Lexeme) → words_in us ≡ expr_words y → (z : Expr) × InnerOf (IsExprAt (suc e)) z us × (unplaced y ≡ unplaced z)
   inner_again e y ts (rule.other d n) good us w =
       let r = (nested e y ts d good).inside us w in
@@ -324,6 +350,7 @@ module _ (m : ℕ) (nested : (e : ℕ) (x : Expr) (ts : List Lexeme) → IsExprA
 
 -- ---- expressions at any depth
 
+-- the words of an expression within brackets spell it again
 pub spelled_again : (m e : ℕ) (x : Expr) (ts : List Lexeme) → IsExprAt m x ts → Small e ts → Nested e x
 spelled_again zero e x ts d good = absurd d
 spelled_again (suc m) zero x ts d good = absurd (omega (arith, good.1))

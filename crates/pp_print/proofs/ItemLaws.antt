@@ -33,10 +33,12 @@ use Rattle.pp_print.proofs.StatementLaws.{stmt_reads, block_reads}
 
 -- ---- parameters
 
+-- the words of a type, or none, spell it again
 type_again : (n : ℕ) (o : Option TypeName) (ts : List Lexeme) → MaybeType o ts → Small n ts → (us : List Lexeme) → words_in us ≡ maybe_type o → MaybeType o us
 type_again n prelude.None ts d good us w = no_word us w
 type_again n (prelude.Some t) ts d good us w = type_reads t ts d good.0 us w
 
+-- the words of a default, or none, spell it again
 default_reads : (n : ℕ) (o : Option Expr) (ts : List Lexeme) → DefaultOf IsExpr o ts → Small n ts → (us : List Lexeme) → words_in us ≡ default_words o → (p : Option Expr) × DefaultOf IsExpr p us × (option_map unplaced o ≡ option_map unplaced p)
 default_reads n prelude.None ts d good us w = (prelude.None, no_word us w, refl)
 default_reads n (prelude.Some x) ts d good us w =
@@ -45,6 +47,7 @@ default_reads n (prelude.Some x) ts d good us w =
     let r = expr_reads n x d.back d.second g.1 p.back p.second in
     (prelude.Some r.0, together (Sign (codes "=")) (IsExpr r.0) us (sign (codes "=")) (expr_words x) p (one_word kind.Sign (codes "=") p.front p.first) r.1, ap (λ (y : Expr). prelude.Some y) r.2)
 
+-- the words of a parameter spell it again
 param_reads : (n : ℕ) (x : Param) (ts : List Lexeme) → ParamOf IsExpr x ts → Small n ts → (us : List Lexeme) → words_in us ≡ param_words x → (y : Param) × ParamOf IsExpr y us × (unplaced_param x ≡ unplaced_param y)
 param_reads n x ts d good us w =
     let p = parts us (maybe_type x.kind) (word kind.Var (36 ∷ x.name) ++ default_words x.default) w in
@@ -58,6 +61,7 @@ param_reads n x ts d good us w =
       ap (λ (o : Option Expr). record { kind = x.kind; name = x.name; default = o }) r.2,
     )
 
+-- brackets round parameters make parameters in brackets
 some_params : (x : Param) (more : List Param) (us : List Lexeme) (p : Parts us (sign (codes "(")) (listed param_words (x ∷ more) ++ sign (codes ")"))) (q : Parts p.back (listed param_words (x ∷ more)) (sign (codes ")")))
     → (ys : List Param) × Listed (ParamOf IsExpr) ys q.front × (map unplaced_param (x ∷ more) ≡ map unplaced_param ys) → (ys : List Param) × ParamsOf IsExpr ys us × (map unplaced_param (x ∷ more) ≡ map unplaced_param ys)
 some_params x more us p q ([], d, same) = cc
@@ -68,6 +72,7 @@ some_params x more us p q (y ∷ ys, d, same) = (
   same,
 )
 
+-- the words of parameters spell them again
 params_read : (n : ℕ) (xs : List Param) (ts : List Lexeme) → ParamsOf IsExpr xs ts → Small n ts → (us : List Lexeme) → words_in us ≡ params_words xs → (ys : List Param) × ParamsOf IsExpr ys us × (map unplaced_param xs ≡ map unplaced_param ys)
 params_read n [] ts d good us w = ([], inl (no_word us w), refl)
 params_read n (x ∷ more) ts d good us w =
@@ -77,6 +82,7 @@ params_read n (x ∷ more) ts d good us w =
     let k = parts_stand n (Listed (ParamOf IsExpr) (x ∷ more)) (Sign (codes ")")) d.back d.second g.1 in
     some_params x more us p q (listed_again n (ParamOf IsExpr) (ParamOf IsExpr) param_words unplaced_param (param_reads n) (x ∷ more) d.second.front d.second.first k.0 q.front q.first)
 
+-- the words of a parent, or none, spell it again
 parent_again : (o : Option (List ℕ)) (us : List Lexeme) → words_in us ≡ parent_words o → ParentOf o us
 parent_again prelude.None us w = no_word us w
 parent_again (prelude.Some name) us w =
@@ -85,19 +91,23 @@ parent_again (prelude.Some name) us w =
 
 -- ---- node names
 
+-- the words of a node's name spell it again
 name_by : (o : Option (List ℕ)) (us : List Lexeme) → words_in us ≡ option_by quoted o → NodeNameOf IsExpr o us
 name_by prelude.None us w = rule.default refl (one_word kind.Keyword (codes "default") us w)
 name_by (prelude.Some name) us w =
     let t = one_word kind.Sq (39 ∷ (escaped name ++ 39 ∷ [])) us w in
     rule.text name (record { at = t.0; form = form.Str name }) refl (derivation.single name (39 ∷ (escaped name ++ 39 ∷ [])) t.1 (quoted_is name) refl) refl
 
+-- and no other name
 node_name_reads : (n : ℕ) (o : Option (List ℕ)) (ts : List Lexeme) → NodeNameOf IsExpr o ts → Small n ts → (us : List Lexeme) → words_in us ≡ option_by quoted o → (p : Option (List ℕ)) × NodeNameOf IsExpr p us × (o ≡ p)
 node_name_reads n o ts d good us w = (o, name_by o us w, refl)
 
+-- a list in which nothing is changed is the same
 map_same : (xs : List (Option (List ℕ))) → map (λ (x : Option (List ℕ)). x) xs ≡ xs
 map_same [] = refl
 map_same (x ∷ xs) = ap (λ (r : List (Option (List ℕ))). x ∷ r) (map_same xs)
 
+-- the words of the names of a node spell them again
 names_read : (n : ℕ) (xs : List (Option (List ℕ))) (ts : List Lexeme) → Listed (NodeNameOf IsExpr) xs ts → Small n ts → (us : List Lexeme) → words_in us ≡ listed (option_by quoted) xs → Listed (NodeNameOf IsExpr) xs us
 names_read n xs ts d good us w =
     let r = listed_again n (NodeNameOf IsExpr) (NodeNameOf IsExpr) (option_by quoted) (λ (x : Option (List ℕ)). x) (node_name_reads n) xs ts d good us w in
@@ -106,15 +116,19 @@ names_read n xs ts d good us w =
 -- ---- items
 
 module _ (n m : ℕ) where
+  -- a statement with blocks nested less deep than this
   abbrev S : Stmt → List Lexeme → Type 0
   S = IsStmtAt IsExpr m
 
+  -- tokens with the words of this item spell it again
   abbrev Reads : Item → List Lexeme → Type 0
   Reads x us = words_in us ≡ item_words x → (y : Item) × ItemOf IsExpr S y us × (unplaced_item x ≡ unplaced_item y)
 
+  -- the words of a block spell it again
   body_again : (body : List Stmt) (ts : List Lexeme) → BlockOf S body ts → Small n ts → (us : List Lexeme) → words_in us ≡ block_words body → (b : List Stmt) × BlockOf S b us × (map unplaced_stmt body ≡ map unplaced_stmt b)
   body_again = block_reads n S (stmt_reads n m)
 
+  -- the words of a class spell it again
   class_reads : (at : ℕ) (name : List ℕ) (params : List Param) (parent : Option (List ℕ)) (body : List Stmt) (ts : List Lexeme) → (Token kind.Keyword (codes "class") at then Some kind.Word name then ParamsOf IsExpr params then ParentOf parent then BlockOf S body) ts → Small n ts
       → (us : List Lexeme) → Reads (item.Class at name params parent body) us
   class_reads at name params parent body ts d good us w =
@@ -138,6 +152,7 @@ module _ (n m : ℕ) where
         ap (λ (c : List Param). item.Class 0 name c parent (map unplaced_stmt body)) x.2 ∙ ap (λ (c : List Stmt). item.Class 0 name (map unplaced_param x.0) parent c) b.2,
       )
 
+  -- the words of a defined type spell it again
   define_reads : (at : ℕ) (name : List ℕ) (params : List Param) (body : List Stmt) (ts : List Lexeme) → (Token kind.Keyword (codes "define") at then Some kind.Word name then ParamsOf IsExpr params then BlockOf S body) ts → Small n ts → (us : List Lexeme) → Reads (item.Define at name params body) us
   define_reads at name params body ts d good us w =
       let p = parts us (keyword (codes "define")) (word kind.Word name ++ (params_words params ++ block_words body)) w in
@@ -157,6 +172,7 @@ module _ (n m : ℕ) where
         ap (λ (c : List Param). item.Define 0 name c (map unplaced_stmt body)) x.2 ∙ ap (λ (c : List Stmt). item.Define 0 name (map unplaced_param x.0) c) b.2,
       )
 
+  -- the words of a node spell it again
   node_reads : (at : ℕ) (names : List (Option (List ℕ))) (body : List Stmt) (ts : List Lexeme) → (Token kind.Keyword (codes "node") at then Listed (NodeNameOf IsExpr) names then BlockOf S body) ts → Small n ts → (us : List Lexeme) → Reads (item.Node at names body) us
   node_reads at names body ts d good us w =
       let p = parts us (keyword (codes "node")) (listed (option_by quoted) names ++ block_words body) w in
@@ -172,6 +188,7 @@ module _ (n m : ℕ) where
         ap (λ (c : List Stmt). item.Node 0 names c) b.2,
       )
 
+  -- the words of defaults spell them again
   defaults_reads : (at : ℕ) (name : List ℕ) (attrs : List Attr) (ts : List Lexeme) → (Token kind.Ref name at then InBraces (MaybeListed (AttrOf IsExpr) attrs)) ts → Small n ts → (us : List Lexeme) → Reads (item.Defaults at name attrs) us
   defaults_reads at name attrs ts d good us w =
       let p = parts us (word kind.Ref name) (in_braces (listed attr_words attrs)) w in
@@ -184,6 +201,7 @@ module _ (n m : ℕ) where
         ap (λ (c : List Attr). item.Defaults 0 name c) r.2,
       )
 
+  -- the words of an item spell it again
   item_reads : (x : Item) (ts : List Lexeme) → ItemOf IsExpr S x ts → Small n ts → (us : List Lexeme) → Reads x us
   item_reads x ts (rule.class at name params parent body is d) good us = subst (λ (y : Item). Reads y us) (sym is) (class_reads at name params parent body ts d good us)
   item_reads x ts (rule.define at name params body is d) good us = subst (λ (y : Item). Reads y us) (sym is) (define_reads at name params body ts d good us)
@@ -191,6 +209,7 @@ module _ (n m : ℕ) where
   item_reads x ts (rule.defaults at name attrs is d) good us = subst (λ (y : Item). Reads y us) (sym is) (defaults_reads at name attrs ts d good us)
   item_reads x ts (rule.plain s is d) good us = subst (λ (y : Item). Reads y us) (sym is) (λ w. let r = stmt_reads n m s ts d good us w in (item.Plain r.0, rule.plain r.0 refl r.1, ap (λ (t : Stmt). item.Plain t) r.2))
 
+  -- the words of items spell them again
   items_read : (xs : List Item) (ts : List Lexeme) → Items IsExpr S xs ts → Small n ts → (us : List Lexeme) → words_in us ≡ flat_map item_words xs → (ys : List Item) × Items IsExpr S ys us × (map unplaced_item xs ≡ map unplaced_item ys)
   items_read [] ts d good us w = ([], no_word us w, refl)
   items_read (x ∷ xs) ts d good us w =

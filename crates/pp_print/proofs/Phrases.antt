@@ -9,11 +9,13 @@ use Rattle.pp_print.specs.declared.words.Word.{Word}
 use Rattle.pp_print.specs.Words.{word, comma, has_dash, listed}
 pub use Rattle.pp_print.specs.Words.{words_in}
 
+-- which tokens spell something
 abbrev pub Phrase : Type 1
 Phrase = List Lexeme → Type 0
 
 -- ---- taken apart
 
+-- the tokens cut where the words of the first part end
 pub record Parts (us : List Lexeme) (a b : List Word) : Type 0 where
   pub front : List Lexeme
   pub back : List Lexeme
@@ -21,6 +23,7 @@ pub record Parts (us : List Lexeme) (a b : List Word) : Type 0 where
   pub second : words_in back ≡ b
   pub whole : us ≡ front ++ back
 
+-- with one token more in front they are cut behind that
 parts_behind : (t : Lexeme) (us : List Lexeme) (w : Word) (a b : List Word) → ◌≡◌ {A = Word} (record { kind = t.kind; text = t.text }) w → Parts us a b → Parts (t ∷ us) (w ∷ a) b
 parts_behind t us w a b same p = record {
   front = t ∷ p.front;
@@ -30,6 +33,7 @@ parts_behind t us w a b same p = record {
   whole = ap (λ (r : List Lexeme). t ∷ r) p.whole;
 }
 
+-- tokens with the words of two parts can be cut between them
 pub parts : (us : List Lexeme) (a b : List Word) → words_in us ≡ a ++ b → Parts us a b
 parts us [] b h = record { front = []; back = us; first = refl; second = h; whole = refl }
 parts [] (w ∷ a) b h = cc
@@ -38,10 +42,12 @@ parts (t ∷ us) (w ∷ a) b h =
     let tail : words_in us ≡ a ++ b = cc in
     parts_behind t us w a b head (parts us a b tail)
 
+-- tokens with no words are none
 pub no_word : (us : List Lexeme) → words_in us ≡ [] → us ≡ []
 no_word [] h = refl
 no_word (t ∷ us) h = cc
 
+-- tokens with one word are one token
 pub one_word : (k : Kind) (s : List ℕ) (us : List Lexeme) → words_in us ≡ word k s → Some k s us
 one_word k s [] h = cc
 one_word k s (t ∷ u ∷ us) h = cc
@@ -49,6 +55,7 @@ one_word k s (t ∷ []) h =
     let same : ◌≡◌ {A = Word} (record { kind = t.kind; text = t.text }) (record { kind = k; text = s }) = cc in
     (t.at, ap (λ (w : Word). record { kind = w.kind; text = w.text; at = t.at } ∷ []) same)
 
+-- two parts that spell two phrases spell both
 pub together : (A B : Phrase) (us : List Lexeme) (a b : List Word) (p : Parts us a b) → A p.front → B p.back → (A then B) us
 together A B us a b p first second = record { front = p.front; back = p.back; first = first; second = second; whole = p.whole }
 
@@ -63,6 +70,7 @@ Stands kind.DqVar s = has_dash s ≡ false
 Stands kind.Int s = int_value s < 2 ^ 63
 Stands _ s = Unit {0}
 
+-- each token stands as its kind says
 abbrev pub AllStand : List Lexeme → Type 0
 AllStand ts = AllByRecursion (λ t. Stands t.kind t.text) ts
 
@@ -70,15 +78,18 @@ AllStand ts = AllByRecursion (λ t. Stands t.kind t.text) ts
 abbrev pub Small : ℕ → List Lexeme → Type 0
 Small d ts = AllStand ts × (length ts < d)
 
+-- of tokens that stand so do both parts
 pub both_stand : (ts us : List Lexeme) → AllStand (ts ++ us) → AllStand ts × AllStand us
 both_stand [] us h = (tt, h)
 both_stand (t ∷ ts) us h = let r = both_stand ts us h.1 in ((h.0, r.0), r.1)
 
+-- and of small ones both are small
 pub both_small : (d : ℕ) (ts us whole : List Lexeme) → whole ≡ ts ++ us → Small d whole → Small d ts × Small d us
 both_small d ts us whole e h =
     let r = both_stand ts us (subst (λ (r : List Lexeme). AllStand r) e h.0) in
     ((r.0, omega (arith, h.1, ap length e, length-append ts us)), (r.1, omega (arith, h.1, ap length e, length-append ts us)))
 
+-- so it is of the two phrases that they spell
 pub parts_stand : (d : ℕ) (A B : Phrase) (ts : List Lexeme) (h : (A then B) ts) → Small d ts → Small d h.front × Small d h.back
 parts_stand d A B ts h good = both_small d h.front h.back ts h.whole good
 
@@ -86,13 +97,16 @@ parts_stand d A B ts h good = both_small d h.front h.back ts h.whole good
 
 -- What is spelled by the one rule is spelled by the other in any tokens with its words, the same but for what h takes away.
 module _ (n : ℕ) {X Y : Type 0} (A B : X → List Lexeme → Type 0) (f : X → List Word) (h : X → Y) where
+  -- these tokens spell something that is the same in what h keeps
   abbrev pub Renewed : X → List Lexeme → Type 0
   Renewed x us = (y : X) × B y us × (h x ≡ h y)
 
+  -- the words of a rule spell the other rule again
   abbrev pub Renews : Type 0
   Renews = (x : X) (ts : List Lexeme) → A x ts → Small n ts → (us : List Lexeme) → words_in us ≡ f x → Renewed x us
 
 module _ (n : ℕ) {X Y : Type 0} (A B : X → List Lexeme → Type 0) (f : X → List Word) (h : X → Y) (again : Renews n A B f h) (S T : Phrase) (sep : List Word) (between : (us : List Lexeme) → words_in us ≡ sep → T us) where
+  -- the words of items behind their signs spell them again
   pub each_again : (xs : List X) (ts : List Lexeme) → Each S A xs ts → Small n ts → (us : List Lexeme) → words_in us ≡ flat_map (λ x. sep ++ f x) xs → (ys : List X) × Each T B ys us × (map h xs ≡ map h ys)
   each_again [] ts d good us w = ([], no_word us w, refl)
   each_again (x ∷ xs) ts d good us w =
@@ -113,6 +127,7 @@ module _ (n : ℕ) {X Y : Type 0} (A B : X → List Lexeme → Type 0) (f : X �
         ap (λ (y : Y). y ∷ map h xs) here.2 ∙ ap (λ (r : List Y). h here.0 ∷ r) rest.2,
       )
 
+  -- so do those of items with signs between them
   pub separated_again : (xs : List X) (ts : List Lexeme) → Separated S A xs ts → Small n ts → (us : List Lexeme) → words_in us ≡ join_by f sep xs → (ys : List X) × Separated T B ys us × (map h xs ≡ map h ys)
   separated_again [] ts d good us w = absurd d
   separated_again (x ∷ xs) ts d good us w =
@@ -126,6 +141,7 @@ module _ (n : ℕ) {X Y : Type 0} (A B : X → List Lexeme → Type 0) (f : X �
       )
 
 module _ (n : ℕ) {X Y : Type 0} (A B : X → List Lexeme → Type 0) (f : X → List Word) (h : X → Y) (again : Renews n A B f h) where
+  -- the word of a comma spells it
   is_comma : (us : List Lexeme) → words_in us ≡ comma → Comma us
   is_comma us w = one_word kind.Sign (44 ∷ []) us w
 
@@ -136,6 +152,7 @@ module _ (n : ℕ) {X Y : Type 0} (A B : X → List Lexeme → Type 0) (f : X �
       let s = separated_again n A B f h again Comma Comma comma is_comma xs d.front d.first g.0 us w in
       (s.0, record { front = us; back = []; first = s.1; second = inl refl; whole = sym (append-nil us) }, s.2)
 
+  -- the words of a list, or of none, spell it again
   pub maybe_listed_again : (xs : List X) (ts : List Lexeme) → MaybeListed A xs ts → Small n ts → (us : List Lexeme) → words_in us ≡ listed f xs → (ys : List X) × MaybeListed B ys us × (map h xs ≡ map h ys)
   maybe_listed_again [] ts d good us w = ([], no_word us w, refl)
   maybe_listed_again (x ∷ xs) ts d good us w = some (listed_again (x ∷ xs) ts d good us w)

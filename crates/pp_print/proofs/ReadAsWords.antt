@@ -21,6 +21,7 @@ use Rattle.pp_print.proofs.Walks.{is_free, is_closed, is_done, Takes, seq, loose
 use Rattle.pp_print.proofs.WordLists.{Fine, parts_sound, halves_sound, token_sound, read_takes}
 use Rattle.pp_print.proofs.ExpressionWalks.{Goes, at_level_goes, postfix_goes, unary_goes, expr_goes}
 
+-- a form, opened one step
 abbrev Open : Type 0
 Open = Form-F Form Expr
 
@@ -44,6 +45,7 @@ single G y front back rest t (rule.list ms d f) h e = let k : kind.Loose ≡ kin
 single G y front back rest t (rule.map ps d f) h e = let k : kind.Sign ≡ kind.Word = begins_other _ _ kind.Sign _ y.at front back rest t d d.first h e in cc
 single G y front back rest t (rule.reference r) h e = let k : kind.Ref ≡ kind.Word = begins_other _ _ kind.Ref _ y.at front back rest t r.spelled r.spelled.first h e in cc
 
+-- the words of what is spelled may stand, and so may those of what it is read as
 record Known (U : List ℕ → Type 0) (E : Rule) : Type 0 where
   goes : (x : Expr) (ts : List Lexeme) → E x ts → Fine U ts → Goes U x
   read : (x y : Expr) (ts : List Lexeme) → E x ts → Fine U ts → kind_of_first ts ≡ prelude.Some kind.Word → ReadAsVariable x y → Takes U is_free is_closed (expr_words y)
@@ -51,6 +53,7 @@ record Known (U : List ℕ → Type 0) (E : Rule) : Type 0 where
 module _ {U : List ℕ → Type 0} where
   -- ---- the word itself
 
+  -- a WORD, read as a variable, may stand
   word_read : (x : Expr) (name : List ℕ) → x.form ≡ form.Str name → Spelling kind.Word name → ReadGoes U x
   word_read x name is h y (base n e f at) =
       let names : ◌≡◌ {A = Open} (plain.Str name) (plain.Str n) = str_no name (form.Str n) (plain.Str n) (sym is ∙ e) (outs-Str n) in
@@ -73,6 +76,7 @@ module _ {U : List ℕ → Type 0} where
         by_words (ap (λ (q : Form). (printed_form q).words) h ∙ ap (λ (p : Printed). p.words) (printed_at b k) ∙ ap (λ v. cond v (expr_words b) (in_parens (expr_words b)) ++ in_tight (expr_words k)) (texts_of a0 b r).read_indexed)
         (seq front (in_tight_takes is_closed key_words.words refl refl))
 
+    -- a word with indexes may stand, read as a variable
     indexes_read : (at : ℕ) (a x : Expr) (ts : List Lexeme) → SuffixesOf G at a x ts → Fine U ts → ReadGoes U a → ReadGoes U x
     indexes_read at a x ts (rule.none e n) h known = subst (λ (z : Expr). ReadGoes U z) e known
     indexes_read at a x ts (rule.one z front back e (rule.selection cs d f) z_at more) h known =
@@ -84,9 +88,11 @@ module _ {U : List ℕ → Type 0} where
         let m = parts_sound d.second g.1 in
         indexes_read at z x back more k.1 (index_read a z key known (goes key d.second.front d.second.first m.0) f)
 
+    -- a kind that is WORD is there as such
     some_kind : (k : Kind) → ◌≡◌ {A = Option Kind} (prelude.Some k) (prelude.Some kind.Word) → k ≡ kind.Word
     some_kind k e = cc
 
+    -- an operand that begins with a WORD may stand, read as a variable
     postfix_read : (x : Expr) (ts : List Lexeme) → PostfixOf G x ts → Fine U ts → kind_of_first ts ≡ prelude.Some kind.Word → ReadGoes U x
     postfix_read x [] d h first = cc
     postfix_read x (t ∷ rest) d h first =
@@ -96,26 +102,32 @@ module _ {U : List ℕ → Type 0} where
 
   -- ---- expressions at any depth
 
+  -- what stands within `${` and `}` may stand
   inner_takes : (E : Rule) → Known U E → (y : Expr) (ts : List Lexeme) → InnerOf E y ts → Fine U ts → Takes U is_free is_done (expr_words y)
   inner_takes E known y ts (rule.variable x first d r) h = loosen is_done closed_done (known.read x y ts d h first r)
   inner_takes E known y ts (rule.other d n) h = (known.goes y ts d h).words
 
+  -- what is known of expressions in brackets is known of expressions
   deeper : (E : Rule) → Known U E → Known U (ExprOf E)
   deeper E known = record {
     goes = expr_goes E (unary_goes E known.goes (inner_takes E known));
     read = λ x y ts d h first r. postfix_read E known.goes x ts (unwrap E x y ts r d) h first y r;
   }
 
+  -- it is known at each depth
   known_at : (m : ℕ) → Known U (IsExprAt m)
   known_at zero = record { goes = λ x ts d h. absurd d; read = λ x y ts d h first r. absurd d }
   known_at (suc m) = deeper (IsExprAt m) (known_at m)
 
+  -- an expression may stand
   pub expression_goes : (x : Expr) (ts : List Lexeme) → IsExpr x ts → Fine U ts → Goes U x
   expression_goes x ts d h = (known_at d.0).goes x ts d.1 h
 
+  -- and its words may
   pub expression_takes : (x : Expr) (ts : List Lexeme) → IsExpr x ts → Fine U ts → Takes U is_free is_done (expr_words x)
   expression_takes x ts d h = (expression_goes x ts d h).words
 
+  -- the words of what stands within `${` and `}` may stand
   inner_words : (y : Expr) (ts : List Lexeme) → InnerOf IsExpr y ts → Fine U ts → Takes U is_free is_done (expr_words y)
   inner_words y ts (rule.variable x first d r) h = inner_takes (IsExprAt d.0) (known_at d.0) y ts (rule.variable x first d.1 r) h
   inner_words y ts (rule.other d n) h = expression_takes y ts d h

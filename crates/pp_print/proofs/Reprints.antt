@@ -32,6 +32,7 @@ loose F zero = PostfixOf F
 loose F (suc zero) = UnaryOf F
 loose F (suc (suc n)) = ChainOf (6 - n) (loose F (suc n))
 
+-- the rule of this level
 abbrev pub RuleAt : Rule → ℕ → Rule
 RuleAt F level = loose F (8 - level)
 
@@ -41,17 +42,21 @@ pub record Reprint (F : Rule) (n : ℕ) (x : Expr) : Type 0 where
   pub own : Again (RuleAt F (printed x).level) x (expr_words x)
   pub needs : (n ≤ (printed x).level) ⊎ Again F x (expr_words x)
 
+-- what a rule spells is spelled by the next looser one
 looser : (F : Rule) (n : ℕ) (y : Expr) (us : List Lexeme) → loose F n y us → loose F (suc n) y us
 looser F zero y us h = rule.operand h
 looser F (suc n) y us h = rule.operand h
 
+-- and by any looser one
 looser_by : (F : Rule) (k n : ℕ) (y : Expr) (us : List Lexeme) → loose F n y us → loose F (k + n) y us
 looser_by F zero n y us h = let same : n ≡ zero + n = omega arith in subst (λ m. loose F m y us) same h
 looser_by F (suc k) n y us h = let same : suc (k + n) ≡ suc k + n = omega arith in subst (λ m. loose F m y us) same (looser F (k + n) y us (looser_by F k n y us h))
 
+-- so from one number of steps to another
 pub looser_to : (F : Rule) (m n : ℕ) (y : Expr) (us : List Lexeme) → m ≤ n → loose F m y us → loose F n y us
 looser_to F m n y us below h = let same : (n - m) + m ≡ n = omega (arith, below) in subst (λ k. loose F k y us) same (looser_by F (n - m) m y us h)
 
+-- the words of an expression in parentheses spell an operand
 pub enclosed_again : (F : Rule) (x : Expr) (us : List Lexeme) → Again F x (expr_words x) → words_in us ≡ in_parens (expr_words x) → (y : Expr) × PostfixOf F y us × (unplaced x ≡ unplaced y)
 enclosed_again F x us again w =
     let p = parts us (sign (codes "(")) (expr_words x ++ sign (codes ")")) w in
@@ -72,11 +77,13 @@ at_level_again F n x most r us w = elim (nat_le n (printed x).level) as (λ v. n
   ]
 ] refl w
 
+-- what is spelled again where fewer brackets are left out is so where more are
 pub weaker : (F : Rule) (m n : ℕ) (x : Expr) → m ≤ n → Reprint F n x → Reprint F m x
 weaker F m n x below r = record { below = r.below; own = r.own; needs = elim r.needs [ inl h ↦ inl (omega arith) | inr h ↦ inr h ] }
 
 -- ---- operators
 
+-- the word of an operator spells it again
 infix_again : (o : Op) (ts us : List Lexeme) → Infix o ts → words_in us ≡ operator o → Infix o us
 infix_again op.Or ts us h w = one_word kind.Keyword (codes "or") us w
 infix_again op.And ts us h w = one_word kind.Keyword (codes "and") us w
@@ -92,6 +99,7 @@ infix_again op.Times ts us h w = one_word kind.Sign (codes "*") us w
 infix_again op.In ts us h w = one_word kind.Keyword (codes "in") us w
 infix_again op.Not ts us h w = absurd h
 
+-- so does that of a prefix
 prefixed_again : (o : Op) (ts us : List Lexeme) → Prefixed o ts → words_in us ≡ operator o → Prefixed o us
 prefixed_again op.Not ts us h w = one_word kind.Sign (codes "!") us w
 prefixed_again op.Minus ts us h w = one_word kind.Sign (codes "-") us w
@@ -107,6 +115,7 @@ prefixed_again op.Plus ts us h w = absurd h
 prefixed_again op.Times ts us h w = absurd h
 prefixed_again op.In ts us h w = absurd h
 
+-- and those of prefixes
 prefixes_again : (ops : List Op) (ts us : List Lexeme) → Prefixes ops ts → words_in us ≡ flat_map operator ops → Prefixes ops us
 prefixes_again [] ts us d w = no_word us w
 prefixes_again (o ∷ ops) ts us d w =
@@ -116,9 +125,11 @@ prefixes_again (o ∷ ops) ts us d w =
 -- ---- chains of one level
 
 module _ (n : ℕ) (F A : Rule) (level : ℕ) (most : level ≤ 6) (next : (x : Expr) (ts : List Lexeme) → A x ts → Small n ts → Reprint F (level + 1) x) where
+  -- the rule of the next tighter level
   abbrev Next : Rule
   Next = RuleAt F (level + 1)
 
+  -- the words of operators with their right operands spell them again
   operations_again : (os : List (Op × Expr)) (ts : List Lexeme) → Operations level A os ts → Small n ts → (us : List Lexeme) → words_in us ≡ flat_map (operation_by printed level) os
       → (ps : List (Op × Expr)) × Operations level Next ps us × (map unplaced_operation os ≡ map unplaced_operation ps)
   operations_again [] ts d good us w = ([], no_word us w, refl)
@@ -136,6 +147,7 @@ module _ (n : ℕ) (F A : Rule) (level : ℕ) (most : level ≤ 6) (next : (x : 
         ap (λ (x : Expr). (o.0, x) ∷ map unplaced_operation os) here.2 ∙ ap (λ (r : List (Op × Expr)). (o.0, unplaced here.0) ∷ r) rest.2,
       )
 
+  -- the words of a chain spell its operand and operators again
   chain_parts : (x : Expr) (o : Op × Expr) (os : List (Op × Expr)) (ts : List Lexeme) → (A x then Operations level A (o ∷ os)) ts → Small n ts → (us : List Lexeme)
       → words_in us ≡ at_level (level + 1) (printed x) ++ flat_map (operation_by printed level) (o ∷ os)
       → (y : Expr) × (ps : List (Op × Expr)) × (Next y then Operations level Next ps) us × (unplaced x ≡ unplaced y) × (map unplaced_operation (o ∷ os) ≡ map unplaced_operation ps)
@@ -146,6 +158,7 @@ module _ (n : ℕ) (F A : Rule) (level : ℕ) (most : level ≤ 6) (next : (x : 
       let rest = operations_again (o ∷ os) d.back d.second g.1 p.back p.second in
       (first.0, rest.0, together (Next first.0) (Operations level Next rest.0) us (at_level (level + 1) (printed x)) (flat_map (operation_by printed level) (o ∷ os)) p first.1 rest.1, first.2, rest.2)
 
+  -- an operand and operators, spelled again, are a chain again
   chained : (y x : Expr) (o : Op × Expr) (os : List (Op × Expr)) (us : List Lexeme) → y.form ≡ form.Chain x (o ∷ os)
       → (r : (z : Expr) × (ps : List (Op × Expr)) × (Next z then Operations level Next ps) us × (unplaced x ≡ unplaced z) × (map unplaced_operation (o ∷ os) ≡ map unplaced_operation ps))
       → (z : Expr) × ChainOf level Next z us × (unplaced y ≡ unplaced z)
@@ -157,6 +170,7 @@ module _ (n : ℕ) (F A : Rule) (level : ℕ) (most : level ≤ 6) (next : (x : 
         (ap unplaced_form e ∙ unplaced_chain x (o ∷ os) ∙ ap (λ (w : Expr). form.Chain w (map unplaced_operation (o ∷ os))) same ∙ ap (λ (r : List (Op × Expr)). form.Chain (unplaced z) r) others ∙ sym (unplaced_chain z (p ∷ ps))),
   )
 
+  -- the words of a chain of a level spell it again, where those of its operands do
   pub chain_again : ((z : Expr) (us : List Lexeme) → ChainOf level Next z us → RuleAt F level z us) → (y : Expr) (ts : List Lexeme) → ChainOf level A y ts → Small n ts → Reprint F level y
   chain_again own y ts (rule.operand d) good = weaker F level (level + 1) y (omega arith) (next y ts d good)
   chain_again own y ts (rule.chain x o os e at d) good =
@@ -175,6 +189,7 @@ module _ (n : ℕ) (F A : Rule) (level : ℕ) (most : level ≤ 6) (next : (x : 
 -- ---- prefixes
 
 module _ (n : ℕ) (F A : Rule) (next : (x : Expr) (ts : List Lexeme) → PostfixOf A x ts → Small n ts → Reprint F 8 x) where
+  -- the words of an operand with prefixes spell it again
   pub unary_again : (y : Expr) (ts : List Lexeme) → UnaryOf A y ts → Small n ts → Reprint F 7 y
   unary_again y ts (rule.operand d) good = weaker F 7 8 y (omega arith) (next y ts d good)
   unary_again y ts (rule.prefixed o ops x e at d) good =
@@ -198,21 +213,27 @@ module _ (n : ℕ) (F A : Rule) (next : (x : Expr) (ts : List Lexeme) → Postfi
 -- ---- expressions
 
 module _ (n : ℕ) (F E : Rule) (next : (x : Expr) (ts : List Lexeme) → PostfixOf E x ts → Small n ts → Reprint F 8 x) where
+  -- the words of a chain of `in` spell it again, where those of each operand do
   in_again : (y : Expr) (ts : List Lexeme) → InOf E y ts → Small n ts → Reprint F 6 y
   in_again = chain_again n F (UnaryOf E) 6 (omega arith) (unary_again n F E next) (λ z us h. h)
 
+  -- of products
   product_again : (y : Expr) (ts : List Lexeme) → ProductOf E y ts → Small n ts → Reprint F 5 y
   product_again = chain_again n F (InOf E) 5 (omega arith) in_again (λ z us h. h)
 
+  -- of sums
   sum_again : (y : Expr) (ts : List Lexeme) → SumOf E y ts → Small n ts → Reprint F 4 y
   sum_again = chain_again n F (ProductOf E) 4 (omega arith) product_again (λ z us h. h)
 
+  -- of `==` and `!=`
   equality_again : (y : Expr) (ts : List Lexeme) → EqualityOf E y ts → Small n ts → Reprint F 3 y
   equality_again = chain_again n F (SumOf E) 3 (omega arith) sum_again (λ z us h. h)
 
+  -- of comparisons
   comparison_again : (y : Expr) (ts : List Lexeme) → ComparisonOf E y ts → Small n ts → Reprint F 2 y
   comparison_again = chain_again n F (EqualityOf E) 2 (omega arith) equality_again (λ z us h. h)
 
+  -- and of `and`
   and_again : (y : Expr) (ts : List Lexeme) → AndOf E y ts → Small n ts → Reprint F 1 y
   and_again = chain_again n F (ComparisonOf E) 1 (omega arith) comparison_again (λ z us h. h)
 

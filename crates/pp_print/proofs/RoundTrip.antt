@@ -17,6 +17,7 @@ use Rattle.pp_print.proofs.StatementWalks.{manifest_walks}
 use Rattle.pp_print.proofs.Utf8.{canonical_utf8}
 use Rattle.pp_print.proofs.ItemLaws.{manifest_reads}
 
+-- a manifest that some text spells has a canonical text that is read as the same, places aside
 pub read_back : Apart → ((text : List ℕ) (tokens : List Lexeme) → IsUtf8 text → Spells text tokens → AllByRecursion (λ t. IsUtf8 t.text) tokens) → (m : Manifest) → IsSpelled m → ReadsBack (canonical m) m
 read_back apart utf8 m h =
     let walk = manifest_walks m h.tokens h.derived (all_sound h.text h.tokens h.spelled) in

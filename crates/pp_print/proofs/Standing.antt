@@ -17,20 +17,25 @@ use Rattle.pp_print.proofs.Phrases.{Stands, AllStand}
 
 -- ---- no dash in the name of a variable
 
+-- letters, digits and `_` are no dash
 no_dash_name : (b : ℕ) → is_name b ≡ true → (b == 45) ≡ false
 no_dash_name b h = ne_eqb b 45 (λ e. both_ways (is_name b) (ap is_name e) h)
 
+-- nor is what begins the name of a variable
 no_dash_first : (b : ℕ) → begins style.Var b ≡ true → (b == 45) ≡ false
 no_dash_first b h = ne_eqb b 45 (λ e. both_ways (begins style.Var b) (ap (begins style.Var) e) h)
 
+-- a text of letters, digits and `_` has no dash
 no_dash_all : (s : List ℕ) → Of is_name s → has_dash s ≡ false
 no_dash_all [] h = refl
 no_dash_all (b ∷ s) h = ap (λ v. v || has_dash s) (no_dash_name b h.0) ∙ no_dash_all s h.1
 
+-- a segment of a variable's name has none
 no_dash_segment : (s : List ℕ) → Segment style.Var s → has_dash s ≡ false
 no_dash_segment [] h = absurd h
 no_dash_segment (b ∷ s) h = ap (λ v. v || has_dash s) (no_dash_first b h.0) ∙ no_dash_all s h.1
 
+-- two texts without a dash make one without
 no_dash_append : (s t : List ℕ) → has_dash s ≡ false → has_dash t ≡ false → has_dash (s ++ t) ≡ false
 no_dash_append [] t h k = k
 no_dash_append (b ∷ s) t h k = ap (λ v. v || has_dash (s ++ t)) (left (b == 45) (has_dash s) h) ∙ no_dash_append s t (right (b == 45) (has_dash s) h) k
@@ -43,10 +48,12 @@ no_dash_append (b ∷ s) t h k = ap (λ v. v || has_dash (s ++ t)) (left (b == 4
     right true y e = cc
     right false y e = e
 
+-- segments of a variable's name have none
 no_dash_joined : (s : List ℕ) → Joined style.Var s → has_dash s ≡ false
 no_dash_joined s (one h) = no_dash_segment s h
 no_dash_joined s (another front back h more e) = ap has_dash e ∙ no_dash_append front (58 ∷ 58 ∷ back) (no_dash_segment front h) (no_dash_joined back more)
 
+-- a variable has none
 no_dash : (s name : List ℕ) → s ≡ 36 ∷ name → Name style.Var name → has_dash s ≡ false
 no_dash s name e (inl h) = ap has_dash e ∙ no_dash_joined name h
 no_dash s name e (inr h) = ap has_dash e ∙ ap has_dash h.1 ∙ no_dash_joined h.0 h.2
@@ -63,9 +70,11 @@ Sound kind.DqVar s = Spelling kind.Var s
 Sound kind.Int s = int_value s < 2 ^ 63
 Sound _ s = Unit {0}
 
+-- each token is sound
 abbrev pub AllSound : List Lexeme → Type 0
 AllSound ts = AllByRecursion (λ t. Sound t.kind t.text) ts
 
+-- a token that is sound stands as its kind says
 pub sound_stands : (k : Kind) (s : List ℕ) → Sound k s → Stands k s
 sound_stands kind.Word s h = h.1
 sound_stands kind.Ref s h = tt
@@ -85,10 +94,12 @@ sound_stands kind.Keyword s h = h
 sound_stands kind.Sign s h = tt
 sound_stands kind.LeftOut s h = tt
 
+-- so do all that are
 all_stand : (ts : List Lexeme) → AllSound ts → AllStand ts
 all_stand [] h = tt
 all_stand (t ∷ ts) h = (sound_stands t.kind t.text h.0, all_stand ts h.1)
 
+-- a spelling is sound, if it is no number that can't stand there
 spelled_sound : (q : Bool) (k : Kind) (s rest : List ℕ) → Fits q k s rest → NumberStands k s rest → Sound k s
 spelled_sound false kind.Word s rest h n = h.0
 spelled_sound false kind.Ref s rest h n = h.0
@@ -125,6 +136,7 @@ spelled_sound true kind.Keyword s rest h n = absurd h
 spelled_sound true kind.Sign s rest h n = tt
 spelled_sound true kind.LeftOut s rest h n = tt
 
+-- a bracket is sound, whatever kind it is told to be
 by_bracket : (s : List ℕ) (a b c d : Bool) → Sound (cond a (cond b kind.Tight kind.Loose) (cond c (cond d kind.HoleEnd kind.Sign) kind.Sign)) s
 by_bracket s true true c d = tt
 by_bracket s true false c d = tt
@@ -132,6 +144,7 @@ by_bracket s false b true true = tt
 by_bracket s false b true false = tt
 by_bracket s false b false d = tt
 
+-- a token is sound where it stands
 kind_sound : (p : Place) (k : Kind) (s : List ℕ) → Sound k s → Sound (kind_at p k s) s
 kind_sound p kind.Sign s h = by_bracket s (bytes_eq s (codes "[")) p.tight (bytes_eq s (codes "}")) (in_hole p.opened)
 kind_sound p kind.Word s h = h
@@ -151,17 +164,21 @@ kind_sound p kind.Loose s h = h
 kind_sound p kind.Keyword s h = h
 kind_sound p kind.LeftOut s h = h
 
+-- the token at a place is sound
 token_sound : (p : Place) (k : Kind) (s rest : List ℕ) → TokenAt p k s rest → Sound k s
 token_sound p k s rest h = subst (λ (j : Kind). Sound j s) (sym h.kind_is) (kind_sound p h.spelled s (spelled_sound (in_quotes p.opened) h.spelled s rest h.longest.fits h.number))
 
+-- tokens that are read are sound
 read_sound : (p : Place) (text : List ℕ) (tokens : List Lexeme) (e : Ending) → Reads p text tokens e → AllSound tokens
 read_sound p text tokens e (ends a b c) = subst (λ (ts : List Lexeme). AllSound ts) (sym b) tt
 read_sound p text tokens e (gap s rest a b r) = read_sound _ rest tokens e r
 read_sound p text tokens e (token k s rest more a b c r) = subst (λ (ts : List Lexeme). AllSound ts) (sym c) (token_sound p k s rest b, read_sound _ rest more e r)
 read_sound p text tokens e (stuck a b c d f) = subst (λ (ts : List Lexeme). AllSound ts) (sym d) tt
 
+-- tokens that a text spells are sound
 pub all_sound : (text : List ℕ) (tokens : List Lexeme) → Spells text tokens → AllSound tokens
 all_sound text tokens h = read_sound _ text tokens _ h
 
+-- and stand as their kinds say
 pub spelled_stand : (text : List ℕ) (tokens : List Lexeme) → Spells text tokens → AllStand tokens
 spelled_stand text tokens h = all_stand tokens (all_sound text tokens h)

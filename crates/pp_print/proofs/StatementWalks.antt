@@ -39,6 +39,7 @@ use Rattle.pp_print.proofs.ExpressionWalks.{option_takes, plain_good}
 use Rattle.pp_print.proofs.ReadAsWords.{expression_goes, expression_takes}
 use Rattle.pp_print.proofs.ResourceWalks.{type_goes, attrs_take, chain_takes}
 
+-- the word of a function is among the functions
 is_function : (f : Func) → is_among functions (word_of f) ≡ true
 is_function func.Include = refl
 is_function func.Require = refl
@@ -56,6 +57,7 @@ same_text x value name f g =
 module _ {U : List ℕ → Type 0} where
   -- ---- calls
 
+  -- the arguments of a call may stand in parentheses
   args_take : (args : List Expr) (ts : List Lexeme) → ArgsOf IsExpr args ts → Fine U ts → Takes U is_free is_done (in_parens (listed expr_words args))
   args_take args ts (rule.bracketed d) h =
       let g = parts_sound d h in
@@ -66,18 +68,21 @@ module _ {U : List ℕ → Type 0} where
   -- ---- statements, where those in blocks may stand
 
   module _ (S : Stmt → List Lexeme → Type 0) (goes : (s : Stmt) (ts : List Lexeme) → S s ts → Fine U ts → Takes U any is_done (stmt_words s)) where
+    -- statements one behind the other may stand
     body_takes : (body : List Stmt) (ts : List Lexeme) → Statements S body ts → Fine U ts → Takes U is_done is_done (flat_map stmt_words body)
     body_takes [] ts d h = nothing is_done is_done (λ l p. p)
     body_takes (s ∷ body) ts d h =
         let g = parts_sound d h in
         seq (narrow is_done (λ l p. refl) (goes s d.front d.first g.0)) (body_takes body d.back d.second g.1)
 
+    -- a block may stand behind any word
     pub block_takes : (P Q : Last → Bool) → Q Other ≡ true → (body : List Stmt) (ts : List Lexeme) → BlockOf S body ts → Fine U ts → Takes U P Q (block_by stmt_words body)
     block_takes P Q next body ts d h =
         let g = parts_sound d h in
         let k = parts_sound d.second g.1 in
         in_braces_takes P Q (body_takes body d.second.front d.second.first k.0) refl next
 
+    -- an `else`, or none, may stand
     else_takes : (other : List Stmt) (ts : List Lexeme) → ElseOf S other ts → Fine U ts → Takes U is_done is_done (else_by stmt_words other)
     else_takes [] ts d h = nothing is_done is_done (λ l p. p)
     else_takes (s ∷ more) ts d h = seq (keyword_takes is_done any (codes "else") refl refl) (block_takes any is_done refl (s ∷ more) d.back d.second (parts_sound d h).1)
@@ -88,9 +93,11 @@ module _ {U : List ℕ → Type 0} where
         let g = parts_sound d h in
         seq (expression_takes x d.front d.first g.0) (block_takes is_done is_done refl body d.back d.second g.1)
 
+    -- a test and its block may stand
     arm_takes : (a : Arm) (ts : List Lexeme) → ArmOf IsExpr S a ts → Fine U ts → Takes U is_free is_done (arm_words a)
     arm_takes a ts d h = tested (out-Arm a).test (out-Arm a).body ts d h
 
+    -- an arm of a `case` may stand
     case_arm_takes : (a : CaseArm) (ts : List Lexeme) → CaseArmOf IsExpr S a ts → Fine U ts → Takes U is_free is_free (case_arm_words a)
     case_arm_takes a ts d h =
         let g = parts_sound d h in
@@ -98,6 +105,7 @@ module _ {U : List ℕ → Type 0} where
         seq (listed_takes (OptionOf IsExpr) (option_by expr_words) is_free is_done (option_takes IsExpr expression_goes) refl (out-CaseArm a).options d.front d.first g.0)
         (seq (sign_takes is_done any (codes ":") (refl, refl, refl, refl, refl, refl) refl) (block_takes any is_free refl (out-CaseArm a).body d.second.back d.second.second k.1))
 
+    -- so may its arms
     case_arms_take : (arms : List CaseArm) (ts : List Lexeme) → CaseArms IsExpr S arms ts → Fine U ts → Takes U is_free is_free (flat_map case_arm_words arms)
     case_arms_take [] ts d h = nothing is_free is_free (λ l p. p)
     case_arms_take (a ∷ arms) ts d h =
@@ -106,6 +114,7 @@ module _ {U : List ℕ → Type 0} where
 
     -- ---- each statement
 
+    -- an `if` may stand behind any word
     if_takes : (at : ℕ) (first : Arm) (others : List Arm) (other : List Stmt) (ts : List Lexeme) → (Token kind.Keyword (codes "if") at then ArmOf IsExpr S first then Each (Keyword (codes "elsif")) (ArmOf IsExpr S) others then ElseOf S other) ts → Fine U ts
         → Takes U any is_done (stmt_words (stmt.If at (first ∷ others) other))
     if_takes at first others other ts d h =
@@ -118,6 +127,7 @@ module _ {U : List ℕ → Type 0} where
         (each_takes (ArmOf IsExpr S) arm_words is_free is_done arm_takes (Keyword (codes "elsif")) (keyword (codes "elsif")) (keyword_takes is_done is_free (codes "elsif") refl refl) others d.second.second.front d.second.second.first m.0))
         (else_takes other d.second.second.back d.second.second.second m.1)))
 
+    -- so may an `unless`
     unless_takes : (at : ℕ) (test : Expr) (body other : List Stmt) (ts : List Lexeme) → (Token kind.Keyword (codes "unless") at then IsExpr test then BlockOf S body then ElseOf S other) ts → Fine U ts → Takes U any is_done (stmt_words (stmt.Unless at test body other))
     unless_takes at test body other ts d h =
         let g = parts_sound d h in
@@ -128,6 +138,7 @@ module _ {U : List ℕ → Type 0} where
         (seq (expression_takes test d.second.front d.second.first k.0)
         (seq (block_takes is_done is_done refl body d.second.second.front d.second.second.first m.0) (else_takes other d.second.second.back d.second.second.second m.1))))
 
+    -- so may a `case`
     case_takes : (at : ℕ) (value : Expr) (arms : List CaseArm) (ts : List Lexeme) → (Token kind.Keyword (codes "case") at then IsExpr value then InBraces (CaseArms IsExpr S arms)) ts → Fine U ts → Takes U any is_done (stmt_words (stmt.Case at value arms))
     case_takes at value arms ts d h =
         let g = parts_sound d h in
@@ -138,6 +149,7 @@ module _ {U : List ℕ → Type 0} where
         (seq (keyword_takes any is_free (codes "case") refl refl)
         (seq (expression_takes value d.second.front d.second.first k.0) (in_braces_takes is_done is_done (case_arms_take arms d.second.second.second.front d.second.second.second.first n.0) refl refl)))
 
+    -- a statement may stand, where those in its blocks may
     stmt_takes : (s : Stmt) (ts : List Lexeme) → StmtOf IsExpr S s ts → Fine U ts → Takes U any is_done (stmt_words s)
     stmt_takes s ts (rule.chain at first others arrows is at_is d alone) h = by_words (ap stmt_words is ∙ words_chain at (first ∷ others) arrows) (chain_takes first others arrows ts d h)
     stmt_takes s ts (rule.assign at name value is at_is d) h =
@@ -153,20 +165,24 @@ module _ {U : List ℕ → Type 0} where
     stmt_takes s ts (rule.unless at test body other is d) h = by_words (ap stmt_words is) (unless_takes at test body other ts d h)
     stmt_takes s ts (rule.case at value arms is d) h = by_words (ap stmt_words is) (case_takes at value arms ts d h)
 
+  -- so may one with blocks nested less deep than this
   statement_takes : (m : ℕ) (s : Stmt) (ts : List Lexeme) → IsStmtAt IsExpr m s ts → Fine U ts → Takes U any is_done (stmt_words s)
   statement_takes zero s ts d h = absurd d
   statement_takes (suc m) s ts d h = stmt_takes (IsStmtAt IsExpr m) (statement_takes m) s ts d h
 
   -- ---- parameters
 
+  -- a type, or none, may stand before a parameter
   maybe_type_takes : (o : Option TypeName) (ts : List Lexeme) → MaybeType o ts → Fine U ts → Takes U any any (maybe_type o)
   maybe_type_takes prelude.None ts d h = nothing any any (λ l p. p)
   maybe_type_takes (prelude.Some t) ts d h = loosen any (λ l p. refl) (type_goes t ts d h)
 
+  -- a default, or none, may stand behind it
   default_takes : (o : Option Expr) (ts : List Lexeme) → DefaultOf IsExpr o ts → Fine U ts → Takes U is_closed is_done (default_words o)
   default_takes prelude.None ts d h = nothing is_closed is_done closed_done
   default_takes (prelude.Some x) ts d h = seq (sign_takes is_closed is_free (codes "=") (refl, refl, refl, refl, refl, refl) refl) (expression_takes x d.back d.second (parts_sound d h).1)
 
+  -- a parameter may stand
   param_takes : (x : Param) (ts : List Lexeme) → ParamOf IsExpr x ts → Fine U ts → Takes U any is_done (param_words x)
   param_takes x ts d h =
       let g = parts_sound d h in
@@ -174,6 +190,7 @@ module _ {U : List ℕ → Type 0} where
       seq (maybe_type_takes x.kind d.front d.first g.0)
       (seq (variable_takes any (36 ∷ x.name) (some_sound kind.Var (36 ∷ x.name) d.second.front d.second.first.0 k.0)) (default_takes x.default d.second.back d.second.second k.1))
 
+  -- parameters in brackets, or none, may stand
   params_take : (xs : List Param) (ts : List Lexeme) → ParamsOf IsExpr xs ts → Fine U ts → Takes U is_free is_free (params_words xs)
   params_take [] ts d h = nothing is_free is_free (λ l p. p)
   params_take (x ∷ more) ts d h =
@@ -181,11 +198,13 @@ module _ {U : List ℕ → Type 0} where
       let k = parts_sound d.second g.1 in
       in_parens_takes is_free (listed_takes (ParamOf IsExpr) param_words any is_done param_takes refl (x ∷ more) d.second.front d.second.first k.0) refl refl
 
+  -- a parent, or none, may stand
   parent_takes : (o : Option (List ℕ)) (ts : List Lexeme) → ParentOf o ts → Fine U ts → Takes U is_free any (parent_words o)
   parent_takes prelude.None ts d h = nothing is_free any (λ l p. refl)
   parent_takes (prelude.Some name) ts d h =
       seq (keyword_takes is_free any (codes "inherits") refl refl) (loosen any (λ l p. refl) (word_takes any name (some_sound kind.Word name d.back d.second (parts_sound d h).1)))
 
+  -- the text that a string is is good, where the tokens stand for good ones
   text_good : (x : Expr) (name : List ℕ) (ts : List Lexeme) → StringOf IsExpr x ts → x.form ≡ form.Str name → Fine U ts → U name
   text_good x name ts (derivation.single value raw t v f) g h = subst U (same_text x value name f g) (token_good kind.Sq raw x.at ts t h value v)
   text_good x name ts (derivation.plain value d f) g h =
@@ -195,11 +214,13 @@ module _ {U : List ℕ → Type 0} where
   text_good x name ts (derivation.joined ms d f) g h =
       let bad : ◌≡◌ {A = Form-F Form Expr} (plain.Str name) (plain.Join ms) = str_no name (form.Join ms) (plain.Join ms) (sym g ∙ f) (outs-Join ms) in cc
 
+  -- so is the name of a node
   node_name_good : (name : List ℕ) (ts : List Lexeme) → NodeNameOf IsExpr (prelude.Some name) ts → Fine U ts → U name
   node_name_good name ts (rule.default e d) h = cc
   node_name_good name ts (rule.word n e d) h = let same : n ≡ name = cc in subst U same (token_good kind.Word n d.0 ts d.1 h)
   node_name_good name ts (rule.text n x e d f) h = let same : n ≡ name = cc in subst U same (text_good x n ts d f h)
 
+  -- the name of a node may stand
   node_name_takes : (o : Option (List ℕ)) (ts : List Lexeme) → NodeNameOf IsExpr o ts → Fine U ts → Takes U any is_done (option_by quoted o)
   node_name_takes prelude.None ts d h = keyword_takes any is_done (codes "default") refl refl
   node_name_takes (prelude.Some name) ts d h = loosen is_done closed_done (quoted_takes any name (node_name_good name ts d h))
@@ -207,9 +228,11 @@ module _ {U : List ℕ → Type 0} where
   -- ---- items
 
   module _ (m : ℕ) where
+    -- a block may stand
     block : (P : Last → Bool) (body : List Stmt) (ts : List Lexeme) → BlockOf (IsStmtAt IsExpr m) body ts → Fine U ts → Takes U P is_done (block_words body)
     block P = block_takes (IsStmtAt IsExpr m) (statement_takes m) P is_done refl
 
+    -- a class may stand
     class_takes : (at : ℕ) (name : List ℕ) (params : List Param) (parent : Option (List ℕ)) (body : List Stmt) (ts : List Lexeme) → (Token kind.Keyword (codes "class") at then Some kind.Word name then ParamsOf IsExpr params then ParentOf parent then BlockOf (IsStmtAt IsExpr m) body) ts → Fine U ts
         → Takes U any is_done (item_words (item.Class at name params parent body))
     class_takes at name params parent body ts d h =
@@ -222,6 +245,7 @@ module _ {U : List ℕ → Type 0} where
         (seq (params_take params d.second.second.front d.second.second.first l.0)
         (seq (parent_takes parent d.second.second.second.front d.second.second.second.first o.0) (block any body d.second.second.second.back d.second.second.second.second o.1))))
 
+    -- a defined type may stand
     define_takes : (at : ℕ) (name : List ℕ) (params : List Param) (body : List Stmt) (ts : List Lexeme) → (Token kind.Keyword (codes "define") at then Some kind.Word name then ParamsOf IsExpr params then BlockOf (IsStmtAt IsExpr m) body) ts → Fine U ts → Takes U any is_done (item_words (item.Define at name params body))
     define_takes at name params body ts d h =
         let g = parts_sound d h in
@@ -231,6 +255,7 @@ module _ {U : List ℕ → Type 0} where
         (seq (heading_takes name (some_sound kind.Word name d.second.front d.second.first k.0))
         (seq (params_take params d.second.second.front d.second.second.first l.0) (block is_free body d.second.second.back d.second.second.second l.1)))
 
+    -- an item may stand behind any word
     item_takes : (x : Item) (ts : List Lexeme) → ItemOf IsExpr (IsStmtAt IsExpr m) x ts → Fine U ts → Takes U any is_done (item_words x)
     item_takes x ts (rule.class at name params parent body is d) h = by_words (ap item_words is) (class_takes at name params parent body ts d h)
     item_takes x ts (rule.define at name params body is d) h = by_words (ap item_words is) (define_takes at name params body ts d h)
@@ -247,15 +272,18 @@ module _ {U : List ℕ → Type 0} where
         by_words (ap item_words is) (seq (reference_takes any name (token_sound kind.Ref name at d.front d.first g.0)) (in_braces_takes is_closed is_done (attrs_take attrs d.second.second.front d.second.second.first l.0) refl refl))
     item_takes x ts (rule.plain s is d) h = by_words (ap item_words is) (statement_takes m s ts d h)
 
+    -- items may stand one behind the other
     items_take : (xs : List Item) (ts : List Lexeme) → Items IsExpr (IsStmtAt IsExpr m) xs ts → Fine U ts → Takes U is_done is_done (flat_map item_words xs)
     items_take [] ts d h = nothing is_done is_done (λ l p. p)
     items_take (x ∷ xs) ts d h =
         let g = parts_sound d h in
         seq (narrow is_done (λ l p. refl) (item_takes x d.front d.first g.0)) (items_take xs d.back d.second g.1)
 
+  -- the words of a manifest may stand
   manifest_takes : (m : Manifest) (ts : List Lexeme) → IsManifest m ts → Fine U ts → Takes U is_done is_done (manifest_words m)
   manifest_takes m ts d h = items_take d.0 m.items ts d.1 h
 
+-- all that tokens stand for is good, where everything is
 all_units : (ts : List Lexeme) → AllByRecursion (λ t. GoodToken (λ s. Unit {0}) t.kind t.text) ts
 all_units [] = tt
 all_units (t ∷ ts) = (unit t.kind t.text, all_units ts)

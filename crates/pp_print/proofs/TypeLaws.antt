@@ -17,12 +17,14 @@ use Rattle.pp_print.proofs.Escapes.{quoted_is}
 use Rattle.pp_print.proofs.Decimals.{int_decimal}
 use Rattle.pp_print.proofs.Phrases.{words_in, parts, no_word, one_word, together, AllStand, Small, parts_stand, listed_again}
 
+-- a list in which nothing is changed is the same
 map_same : {X : Type 0} (xs : List X) → map (λ (x : X). x) xs ≡ xs
 map_same [] = refl
 map_same (x ∷ xs) = ap (λ r. x ∷ r) (map_same xs)
 
 -- ---- in tight brackets
 
+-- the words of something in a tight bracket spell it again there
 tight_again : (A : List Lexeme → Type 0) (us : List Lexeme) (ws : List Word) → ((vs : List Lexeme) → words_in vs ≡ ws → A vs) → words_in us ≡ in_tight ws → (Tight then A then Sign (codes "]")) us
 tight_again A us ws again w =
     let p = parts us (word kind.Tight (codes "[")) (ws ++ sign (codes "]")) w in
@@ -30,6 +32,7 @@ tight_again A us ws again w =
     together Tight (A then Sign (codes "]")) us (word kind.Tight (codes "[")) (ws ++ sign (codes "]")) p (one_word kind.Tight (codes "[") p.front p.first)
     (together A (Sign (codes "]")) p.back ws (sign (codes "]")) q (again q.front q.first) (one_word kind.Sign (codes "]") q.back q.second))
 
+-- the words of a type's name and something behind it spell them again
 named_again : (name : List ℕ) (B : List Lexeme → Type 0) (us : List Lexeme) (ws : List Word) → ((vs : List Lexeme) → words_in vs ≡ ws → B vs) → words_in us ≡ type_word name ++ ws → (TypeWord name then B) us
 named_again name B us ws again w =
     let p = parts us (type_word name) ws w in
@@ -42,9 +45,11 @@ module _ (n0 : ℕ) where
   one_stands : (s : List ℕ) (ts : List Lexeme) → Some kind.Int s ts → Small n0 ts → int_value s < 2 ^ 63
   one_stands s ts d good = (subst (λ (r : List Lexeme). Small n0 r) d.1 good).0.0
 
+  -- the word of a number spells it again, in decimal
   number_again : (s : List ℕ) (us : List Lexeme) → int_value s < 2 ^ 63 → words_in us ≡ number (pos (int_value s)) → Some kind.Int (decimal (int_value s)) us
   number_again s us h w = one_word kind.Int (decimal (int_value s)) us w
 
+  -- the words of two numbers with a comma spell them again
   pair_again : (low high : List ℕ) (us : List Lexeme) → words_in us ≡ number (pos (int_value low)) ++ (comma ++ number (pos (int_value high)))
       → (Some kind.Int (decimal (int_value low)) then Comma then Some kind.Int (decimal (int_value high))) us
   pair_again low high us w =
@@ -65,18 +70,22 @@ module _ (n0 : ℕ) where
         ∙ ap (λ (r : List Lexeme). h.first.front ++ r) (ap (λ (r : List Lexeme). r ++ h.back) h.first.second.whole ∙ append_assoc h.first.second.front h.first.second.back h.back);
   }
 
+  -- the words of two bounds in a tight bracket spell them again
   bracketed_pair : (low high : List ℕ) (us : List Lexeme) → words_in us ≡ in_tight (number (pos (int_value low)) ++ (comma ++ number (pos (int_value high))))
       → (Tight then Some kind.Int (decimal (int_value low)) then Comma then Some kind.Int (decimal (int_value high)) then Sign (codes "]")) us
   bracketed_pair low high us w =
       let t = tight_again (Some kind.Int (decimal (int_value low)) then Comma then Some kind.Int (decimal (int_value high))) us (number (pos (int_value low)) ++ (comma ++ number (pos (int_value high)))) (pair_again low high) w in
       record { front = t.front; back = t.back; first = t.first; second = flat_pair (Some kind.Int (decimal (int_value low))) Comma (Some kind.Int (decimal (int_value high))) (Sign (codes "]")) t.back t.second; whole = t.whole }
 
+  -- a number that fits is that of its decimal text
   back_to : (s : List ℕ) → int_value s < 2 ^ 63 → ◌≡◌ {A = ℤ} (pos (int_value s)) (pos (int_value (decimal (int_value s))))
   back_to s h = ap pos (sym (int_decimal (int_value s) h))
 
+  -- a lower bound of small tokens fits
   low_stands : (s : List ℕ) (ts : List Lexeme) → (Tight then Some kind.Int s then Sign (codes "]")) ts → Small n0 ts → int_value s < 2 ^ 63
   low_stands s ts d good = let g = parts_stand n0 Tight (Some kind.Int s then Sign (codes "]")) ts d good in let k = parts_stand n0 (Some kind.Int s) (Sign (codes "]")) d.back d.second g.1 in one_stands s d.second.front d.second.first k.0
 
+  -- so do both bounds
   both_bounds : (s t : List ℕ) (ts : List Lexeme) → (Tight then Some kind.Int s then Comma then Some kind.Int t then Sign (codes "]")) ts → Small n0 ts → (int_value s < 2 ^ 63) × (int_value t < 2 ^ 63)
   both_bounds s t ts d good =
       let g = parts_stand n0 Tight (Some kind.Int s then Comma then Some kind.Int t then Sign (codes "]")) ts d good in
@@ -85,6 +94,7 @@ module _ (n0 : ℕ) where
       let n = parts_stand n0 (Some kind.Int t) (Sign (codes "]")) d.second.second.back d.second.second.second m.1 in
       (one_stands s d.second.front d.second.first k.0, one_stands t d.second.second.second.front d.second.second.second.first n.0)
 
+  -- the words of the bounds of `String` spell them again
   text_again : (least : ℤ) (most : Option ℤ) (ts : List Lexeme) → TextBounds least most ts → Small n0 ts → (us : List Lexeme) → words_in us ≡ text_bounds least most → TextBounds least most us
   text_again least most ts (rule.none e f d) good us w = rule.none e f (no_word us (w ∙ ap (λ (b : ℤ). text_bounds b most) e ∙ ap (λ (m : Option ℤ). text_bounds (pos 0) m) f))
   text_again least most ts (rule.lower low e f d) good us w =
@@ -99,6 +109,7 @@ module _ (n0 : ℕ) where
       rule.both (decimal (int_value low)) (decimal (int_value high)) (e ∙ back_to low h.0) (f ∙ ap (λ (m : ℤ). prelude.Some m) (back_to high h.1))
       (bracketed_pair low high us (w ∙ ap (λ (b : ℤ). text_bounds b most) e ∙ ap (λ (m : Option ℤ). text_bounds (pos (int_value low)) m) f))
 
+  -- the words of the bounds of `Integer` spell them again
   bounds_again : (least most : Option ℤ) (ts : List Lexeme) → NumberBounds least most ts → Small n0 ts → (us : List Lexeme) → words_in us ≡ number_bounds least most → NumberBounds least most us
   bounds_again least most ts (rule.none e f d) good us w = rule.none e f (no_word us (w ∙ ap (λ (b : Option ℤ). number_bounds b most) e))
   bounds_again least most ts (rule.lower low e f d) good us w =
@@ -112,21 +123,25 @@ module _ (n0 : ℕ) where
 
   -- ---- types
 
+  -- the word of a text in single quotes spells it again
   quoted_again : (v : List ℕ) (ts : List Lexeme) → QuotedText v ts → Small n0 ts → (us : List Lexeme) → words_in us ≡ quoted v → (u : List ℕ) × QuotedText u us × (v ≡ u)
   quoted_again v ts d good us w = (v, (_, one_word kind.Sq _ us w, quoted_is v), refl)
 
   module _ (S T : TypeName → List Lexeme → Type 0) (again : (t : TypeName) (ts : List Lexeme) → S t ts → Small n0 ts → (us : List Lexeme) → words_in us ≡ type_words t → T t us) where
+    -- what stands in the brackets of a type is small where the type is
     member_stands : (name : List ℕ) (A : List Lexeme → Type 0) (ts : List Lexeme) (d : (TypeWord name then Tight then A then Sign (codes "]")) ts) → Small n0 ts → Small n0 d.second.second.front
     member_stands name A ts d good =
         let g = parts_stand n0 (TypeWord name) (Tight then A then Sign (codes "]")) ts d good in
         let k = parts_stand n0 Tight (A then Sign (codes "]")) d.back d.second g.1 in
         (parts_stand n0 A (Sign (codes "]")) d.second.back d.second.second k.1).0
 
+    -- the words of a type's name and something in brackets spell them again, where those of the latter do
     in_brackets : (name : List ℕ) (A B : List Lexeme → Type 0) (ws : List Word) (ts us : List Lexeme) (d : (TypeWord name then Tight then A then Sign (codes "]")) ts) → Small n0 ts
         → ((vs xs : List Lexeme) → A vs → Small n0 vs → words_in xs ≡ ws → B xs) → words_in us ≡ type_word name ++ in_tight ws → (TypeWord name then Tight then B then Sign (codes "]")) us
     in_brackets name A B ws ts us d good more w = named_again name (Tight then B then Sign (codes "]")) us (in_tight ws)
         (λ vs. tight_again B vs ws (λ xs. more d.second.second.front xs d.second.second.first (member_stands name A ts d good))) w
 
+    -- the words of a type spell it again, where those in its brackets do
     type_again : (y : TypeName) (ts : List Lexeme) → TypeOf S y ts → Small n0 ts → (us : List Lexeme) → words_in us ≡ type_words y → TypeOf T y us
     type_again y ts (rule.any e d) good us w = rule.any e (one_word kind.Ref (codes "Any") us (w ∙ ap type_words e ∙ type_any))
     type_again y ts (rule.boolean e d) good us w = rule.boolean e (one_word kind.Ref (codes "Boolean") us (w ∙ ap type_words e ∙ type_boolean))
@@ -151,6 +166,7 @@ module _ (n0 : ℕ) where
             let r = listed_again n0 S T type_words (λ (t : TypeName). t) (λ t ts d good us w. (t, again t ts d good us w, refl)) members vs s g xs h in
             subst (λ (l : List TypeName). Listed T l xs) (sym (sym (map_same members) ∙ r.2 ∙ map_same r.0)) r.1
 
+  -- so do those of one with brackets nested less deep than this
   types_again : (m n : ℕ) (y : TypeName) (ts : List Lexeme) → m ≤ n → IsTypeAt m y ts → Small n0 ts → (us : List Lexeme) → words_in us ≡ type_words y → IsTypeAt n y us
   types_again zero n y ts below d good us w = absurd d
   types_again (suc m) zero y ts below d good us w = absurd (omega arith)

@@ -37,27 +37,32 @@ outside (InText ∷ st) = false
 outside (InHole ∷ st) = true
 outside (InBrace ∷ st) = true
 
+-- directly within double quotes
 abbrev pub in_text : List Mark → Bool
 in_text [] = false
 in_text (InText ∷ st) = true
 in_text (InHole ∷ st) = false
 in_text (InBrace ∷ st) = false
 
+-- directly within a `${`
 abbrev pub in_hole : List Mark → Bool
 in_hole [] = false
 in_hole (InText ∷ st) = false
 in_hole (InHole ∷ st) = true
 in_hole (InBrace ∷ st) = false
 
+-- directly within a brace
 abbrev pub in_brace : List Mark → Bool
 in_brace [] = false
 in_brace (InText ∷ st) = false
 in_brace (InHole ∷ st) = false
 in_brace (InBrace ∷ st) = true
 
+-- behind whatever word
 abbrev pub any : Last → Bool
 any l = true
 
+-- no space stands behind it
 abbrev pub is_held : Last → Bool
 is_held Held = true
 is_held Closed = false
@@ -66,6 +71,7 @@ is_held Star = false
 is_held Heading = false
 is_held Other = false
 
+-- a `[` directly behind it is tight
 abbrev pub is_closed : Last → Bool
 is_closed Held = false
 is_closed Closed = true
@@ -74,6 +80,7 @@ is_closed Star = false
 is_closed Heading = false
 is_closed Other = false
 
+-- it is `class` or `define`
 abbrev pub is_heading : Last → Bool
 is_heading Held = false
 is_heading Closed = false
@@ -100,6 +107,7 @@ is_done Star = false
 is_done Heading = true
 is_done Other = true
 
+-- the sign may stand here
 pub record SignStands (st : List Mark) (l : Last) (s : List ℕ) : Type 0 where
   pub among : IsTrue (is_among signs s)
   pub no_bracket : bytes_eq s (codes "[") ≡ false
@@ -126,10 +134,12 @@ May st l _ s = ⊥
 
 -- ---- what is left behind
 
+-- all that is open but the innermost
 abbrev pub outer : List Mark → List Mark
 outer [] = []
 outer (m ∷ st) = st
 
+-- what is open behind this word
 abbrev pub opened_by : Kind → List ℕ → List Mark → List Mark
 opened_by kind.DqOpen s st = InText ∷ st
 opened_by kind.Hole s st = InHole ∷ st
@@ -138,6 +148,7 @@ opened_by kind.HoleEnd s st = outer st
 opened_by kind.Sign s st = cond (bytes_eq s (codes "{")) (InBrace ∷ st) (cond (bytes_eq s (codes "}")) (outer st) st)
 opened_by _ s st = st
 
+-- what this word is for the one behind it
 abbrev pub last_of : Last → Kind → List ℕ → Last
 last_of l kind.Word s = cond (is_heading l) Closed (cond (is_among functions s) Closed Called)
 last_of l kind.Ref s = Closed
@@ -155,6 +166,7 @@ abbrev pub Walks : List Mark → Last → List Word → List Mark → Last → T
 Walks st l [] st2 l2 = (st ≡ st2) × (l ≡ l2)
 Walks st l (w ∷ ws) st2 l2 = May st l w.kind w.text × Walks (opened_by w.kind w.text st) (last_of l w.kind w.text) ws st2 l2
 
+-- two lists of words that may stand one behind the other make one
 pub join : (st : List Mark) (l : Last) (a b : List Word) (st1 : List Mark) (l1 : Last) (st2 : List Mark) (l2 : Last) → Walks st l a st1 l1 → Walks st1 l1 b st2 l2 → Walks st l (a ++ b) st2 l2
 join st l [] b st1 l1 st2 l2 h k = subst (λ s. Walks s l b st2 l2) (sym h.0) (subst (λ m. Walks st1 m b st2 l2) (sym h.1) k)
 join st l (w ∷ a) b st1 l1 st2 l2 h k = (h.0, join (opened_by w.kind w.text st) (last_of l w.kind w.text) a b st1 l1 st2 l2 h.1 k)
@@ -166,9 +178,11 @@ abbrev pub GoodWord : (List ℕ → Type 0) → Kind → List ℕ → Type 0
 GoodWord U kind.Sq s = (text : List ℕ) × (s ≡ 39 ∷ (escaped text ++ 39 ∷ [])) × U text
 GoodWord U _ s = Unit {0}
 
+-- what is quoted in the words is good
 abbrev pub AllGood : (List ℕ → Type 0) → List Word → Type 0
 AllGood U ws = AllByRecursion (λ w. GoodWord U w.kind w.text) ws
 
+-- so it is in two lists one behind the other
 pub both_good : (U : List ℕ → Type 0) (a b : List Word) → AllGood U a → AllGood U b → AllGood U (a ++ b)
 both_good U [] b h k = k
 both_good U (w ∷ a) b h k = (h.0, both_good U a b h.1 k)
@@ -179,6 +193,7 @@ pub record Takes (U : List ℕ → Type 0) (P Q : Last → Bool) (ws : List Word
   pub walk : (st : List Mark) → outside st ≡ true → (l : Last) → P l ≡ true → (l2 : Last) × (Q l2 ≡ true) × Walks st l ws st l2
   pub good : AllGood U ws
 
+-- a `=>` may follow where a `[` is tight
 pub closed_done : (l : Last) → is_closed l ≡ true → is_done l ≡ true
 closed_done Held h = cc
 closed_done Closed h = refl
@@ -187,6 +202,7 @@ closed_done Star h = cc
 closed_done Heading h = cc
 closed_done Other h = cc
 
+-- it is none of the others
 abbrev pub is_other : Last → Bool
 is_other Held = false
 is_other Closed = false
@@ -195,6 +211,7 @@ is_other Star = false
 is_other Heading = false
 is_other Other = true
 
+-- behind such a word a `=>` may follow
 pub other_done : (l : Last) → is_other l ≡ true → is_done l ≡ true
 other_done Held h = cc
 other_done Closed h = cc
@@ -203,6 +220,7 @@ other_done Star h = cc
 other_done Heading h = cc
 other_done Other h = refl
 
+-- and a `(` may
 pub other_free : (l : Last) → is_other l ≡ true → is_free l ≡ true
 other_free Held h = cc
 other_free Closed h = cc
@@ -217,9 +235,11 @@ other_free Other h = refl
 abbrev pub IsPlain : List ℕ → Type 0
 IsPlain s = IsTrue (is_among signs s) × (bytes_eq s (codes "[") ≡ false) × (bytes_eq s (codes "}") ≡ false) × (bytes_eq s (codes "{") ≡ false) × (bytes_eq s (codes "(") ≡ false) × (bytes_eq s (codes "=>") ≡ false)
 
+-- a sign that is no brace opens and closes nothing
 no_brace : (s : List ℕ) (st : List Mark) → bytes_eq s (codes "{") ≡ false → bytes_eq s (codes "}") ≡ false → opened_by kind.Sign s st ≡ st
 no_brace s st h k = ap (λ v. cond v (InBrace ∷ st) (cond (bytes_eq s (codes "}")) (outer st) st)) h ∙ ap (λ v. cond v (outer st) st) k
 
+-- a `[` behind a word is tight
 pub called_closed : (a b : Bool) → true ≡ is_closed (cond a Closed (cond b Closed Called))
 called_closed true b = refl
 called_closed false true = refl
@@ -228,6 +248,7 @@ called_closed false false = refl
 -- ---- in brackets
 
 module _ {U : List ℕ → Type 0} where
+  -- words that may stand, and words that may behind them, may stand together
   pub seq : {P Q R : Last → Bool} {a b : List Word} → Takes U P Q a → Takes U Q R b → Takes U P R (a ++ b)
   seq {a = a} {b = b} f g = record {
     walk = λ st out l p.
@@ -237,15 +258,19 @@ module _ {U : List ℕ → Type 0} where
     good = both_good U a b f.good g.good;
   }
 
+  -- no words may stand, where what was there before is enough behind them
   pub nothing : (P Q : Last → Bool) → ((l : Last) → P l ≡ true → Q l ≡ true) → Takes U P Q []
   nothing P Q f = record { walk = λ st out l p. (l, f l p, (refl, refl)); good = tt }
 
+  -- what may stand behind more words may stand behind fewer
   pub narrow : (P : Last → Bool) {Q R : Last → Bool} {ws : List Word} → ((l : Last) → P l ≡ true → Q l ≡ true) → Takes U Q R ws → Takes U P R ws
   narrow P f h = record { walk = λ st out l p. h.walk st out l (f l p); good = h.good }
 
+  -- and what ends with fewer sorts of words ends with one of more
   pub loosen : {P Q : Last → Bool} (R : Last → Bool) {ws : List Word} → ((l : Last) → Q l ≡ true → R l ≡ true) → Takes U P Q ws → Takes U P R ws
   loosen R f h = record { walk = λ st out l p. let x = h.walk st out l p in (x.0, f x.0 x.1, x.2); good = h.good }
 
+  -- equal words may stand alike
   pub by_words : {P Q : Last → Bool} {a b : List Word} → a ≡ b → Takes U P Q b → Takes U P Q a
   by_words {P = P} {Q = Q} e h = subst (λ ws. Takes U P Q ws) (sym e) h
 
@@ -253,38 +278,49 @@ module _ {U : List ℕ → Type 0} where
   pub one : (P Q : Last → Bool) (k : Kind) (s : List ℕ) → ((st : List Mark) → opened_by k s st ≡ st) → ((st : List Mark) → outside st ≡ true → (l : Last) → P l ≡ true → May st l k s) → ((l : Last) → P l ≡ true → Q (last_of l k s) ≡ true) → GoodWord U k s → Takes U P Q (word k s)
   one P Q k s keeps may next good = record { walk = λ st out l p. (last_of l k s, next l p, (may st out l p, (keeps st, refl))); good = (good, tt) }
 
+  -- a sign that opens and closes nothing may stand behind any word
   pub sign_takes : (P Q : Last → Bool) (s : List ℕ) → IsPlain s → Q (last_of Other kind.Sign s) ≡ true → Takes U P Q (sign s)
   sign_takes P Q s h next = one P Q kind.Sign s (λ st. no_brace s st h.3 h.2)
       (λ st out l p. (out, record { among = h.0; no_bracket = h.1; brace = λ e. absurd (both_ways (bytes_eq s (codes "}")) h.2 e); paren = λ e. absurd (both_ways (bytes_eq s (codes "(")) h.4 e); arrow = λ e. absurd (both_ways (bytes_eq s (codes "=>")) h.5 e) }))
       (λ l p. next) tt
 
+  -- a `=>` may stand behind anything but `*`
   pub arrow_takes : (Q : Last → Bool) → Q Other ≡ true → Takes U is_done Q (sign (codes "=>"))
   arrow_takes Q next = one is_done Q kind.Sign (codes "=>") (λ st. refl) (λ st out l p. (out, record { among = refl; no_bracket = refl; brace = λ e. cc; paren = λ e. cc; arrow = λ e. p })) (λ l p. next) tt
 
+  -- a `(` may stand behind anything but a word that is no function
   pub paren_takes : (Q : Last → Bool) → Q Other ≡ true → Takes U is_free Q (sign (codes "("))
   paren_takes Q next = one is_free Q kind.Sign (codes "(") (λ st. refl) (λ st out l p. (out, record { among = refl; no_bracket = refl; brace = λ e. cc; paren = λ e. p; arrow = λ e. cc })) (λ l p. next) tt
 
+  -- a tight `[` may stand where it is tight
   pub tight_takes : (Q : Last → Bool) → Q Other ≡ true → Takes U is_closed Q (word kind.Tight (codes "["))
   tight_takes Q next = one is_closed Q kind.Tight (codes "[") (λ st. refl) (λ st out l p. (out, p, refl)) (λ l p. next) tt
 
+  -- a loose `[` may stand behind any word
   pub loose_takes : (P Q : Last → Bool) → Q Other ≡ true → Takes U P Q (word kind.Loose (codes "["))
   loose_takes P Q next = one P Q kind.Loose (codes "[") (λ st. refl) (λ st out l p. (out, refl)) (λ l p. next) tt
 
+  -- a keyword may stand behind any word
   pub keyword_takes : (P Q : Last → Bool) (s : List ℕ) → IsTrue (is_among keywords s) → Q (last_of Other kind.Keyword s) ≡ true → Takes U P Q (keyword s)
   keyword_takes P Q s h next = one P Q kind.Keyword s (λ st. refl) (λ st out l p. (out, h)) (λ l p. next) tt
 
+  -- a comma may stand behind any word
   pub comma_takes : (P Q : Last → Bool) → Q Other ≡ true → Takes U P Q comma
   comma_takes P Q next = sign_takes P Q (codes ",") (refl, refl, refl, refl, refl, refl) next
 
+  -- a text in single quotes may stand behind any word
   pub quoted_takes : (P : Last → Bool) (text : List ℕ) → U text → Takes U P is_closed (quoted text)
   quoted_takes P text good = one P is_closed kind.Sq (39 ∷ (escaped text ++ 39 ∷ [])) (λ st. refl) (λ st out l p. (out, (escaped text, refl, (escaped_reads text).1))) (λ l p. refl) (text, refl, good)
 
+  -- a type's name in capitals may stand behind any word
   pub reference_takes : (P : Last → Bool) (name : List ℕ) → Spelling kind.Ref name → Takes U P is_closed (word kind.Ref name)
   reference_takes P name h = one P is_closed kind.Ref name (λ st. refl) (λ st out l p. (out, h)) (λ l p. refl) tt
 
+  -- a variable may stand behind any word
   pub variable_takes : (P : Last → Bool) (name : List ℕ) → Spelling kind.Var name → Takes U P is_closed (word kind.Var name)
   variable_takes P name h = one P is_closed kind.Var name (λ st. refl) (λ st out l p. (out, h)) (λ l p. refl) tt
 
+  -- a word may stand behind any word
   pub word_takes : (P : Last → Bool) (name : List ℕ) → Spelling kind.Word name → Takes U P is_closed (word kind.Word name)
   word_takes P name h = one P is_closed kind.Word name (λ st. refl) (λ st out l p. (out, h)) (λ l p. sym (called_closed (is_heading l) (is_among functions name))) tt
 
@@ -301,15 +337,19 @@ module _ {U : List ℕ → Type 0} where
   pub heading_takes : (name : List ℕ) → Spelling kind.Word name → Takes U is_heading is_free (word kind.Word name)
   heading_takes name h = one is_heading is_free kind.Word name (λ st. refl) (λ st out l p. (out, h)) (λ l p. ap (λ v. is_free (cond v Closed (cond (is_among functions name) Closed Called))) p) tt
 
+  -- words that may stand may stand in parentheses, behind anything but a word that is no function
   pub in_parens_takes : {P Q : Last → Bool} (R : Last → Bool) {ws : List Word} → Takes U P Q ws → P Other ≡ true → R Closed ≡ true → Takes U is_free R (in_parens ws)
   in_parens_takes {P = P} {Q = Q} R h first next = seq (paren_takes P first) (seq h (sign_takes Q R (codes ")") (refl, refl, refl, refl, refl, refl) next))
 
+  -- they may stand in a tight bracket, where it is tight
   pub in_tight_takes : {P Q : Last → Bool} (R : Last → Bool) {ws : List Word} → Takes U P Q ws → P Other ≡ true → R Closed ≡ true → Takes U is_closed R (in_tight ws)
   in_tight_takes {P = P} {Q = Q} R h first next = seq (tight_takes P first) (seq h (sign_takes Q R (codes "]") (refl, refl, refl, refl, refl, refl) next))
 
+  -- they may stand in a loose bracket
   pub in_loose_takes : {P Q : Last → Bool} (O R : Last → Bool) {ws : List Word} → Takes U P Q ws → P Other ≡ true → R Closed ≡ true → Takes U O R (in_loose ws)
   in_loose_takes {P = P} {Q = Q} O R h first next = seq (loose_takes O P first) (seq h (sign_takes Q R (codes "]") (refl, refl, refl, refl, refl, refl) next))
 
+  -- they may stand in braces
   pub in_braces_takes : {P Q : Last → Bool} (O R : Last → Bool) {ws : List Word} → Takes U P Q ws → P Other ≡ true → R Other ≡ true → Takes U O R (in_braces ws)
   in_braces_takes O R {ws = ws} h first next = record {
     walk = λ st out l p.

@@ -24,10 +24,12 @@ use Rattle.pp_readers.specs.Statements.{attr_of, attr_with, attrs_with, body_of,
 use Rattle.pp_readers.proofs.Combining.{Spells, both_found, behind_found, before_found, made_found, placed_found, many_found, ListedBy, listed_found, listed_some}
 use Rattle.pp_readers.proofs.Names.{name_found}
 
+-- a name is no empty list of tokens
 pub name_some : (x : List ℕ) → NameOf x [] → ⊥
 name_some x (word t c) = let no : ◌≡◌ {A = List Lexeme} [] (record { kind = kind.Word; text = x; at = t.0 } ∷ []) = t.1 in cc
 name_some x (keyword t) = let no : ◌≡◌ {A = List Lexeme} [] (record { kind = kind.Keyword; text = x; at = t.0 } ∷ []) = t.1 in cc
 
+-- the front of an empty list is empty
 pub front_nil : (us vs : List Lexeme) → [] ≡ us ++ vs → us ≡ []
 front_nil [] vs e = refl
 front_nil (t ∷ us) vs e = cc
@@ -54,32 +56,39 @@ each_next sep A x xs us vs p e = record {
 module _ (e : Reader Expr) (E : Spells Expr) (finds : Finds e E) where
   -- ---- attributes and bodies
 
+  -- NAME => expr
   abbrev Parts : List ℕ × Expr → List Lexeme → Type 0
   Parts p = NameOf p.0 then (Sign (codes "=>") then E p.1)
 
+  -- what is read as an attribute is spelled so
   attr_found : Finds (attr_with e) (AttrOf E)
   attr_found =
       placed_found attr_of (both (taken name_by) (behind kind.Sign (codes "=>") e)) Parts (AttrOf E)
       (both_found (taken name_by) (behind kind.Sign (codes "=>") e) NameOf (λ v. Sign (codes "=>") then E v) name_found (behind_found e E finds kind.Sign (codes "=>")))
       (λ p. then_some (NameOf p.0) (Sign (codes "=>") then E p.1) (name_some p.0)) (λ p us s. (refl, s))
 
+  -- attributes with commas between them are attributes, or none
   some_attrs : (qs : List Attr) (us : List Lexeme) → ListedBy (codes ",") (AttrOf E) qs us → MaybeListed (AttrOf E) qs us
   some_attrs [] us h = h
   some_attrs (a ∷ qs) us h = h
 
+  -- what is read as attributes is spelled so
   pub attrs_found : Finds (attrs_with e) (MaybeListed (AttrOf E))
   attrs_found ts x h = maps (some_attrs x.0) (listed_found (codes ",") begins_name (attr_with e) (AttrOf E) attr_found (length ts + 1) ts x h)
 
+  -- what is read as a body is spelled so
   body_found : Finds (body_with e) (BodyOf E)
   body_found =
       made_found body_of (both e (behind kind.Sign (codes ":") (attrs_with e))) (λ p. E p.0 then (Sign (codes ":") then MaybeListed (AttrOf E) p.1)) (BodyOf E)
       (both_found e (behind kind.Sign (codes ":") (attrs_with e)) E (λ qs. Sign (codes ":") then MaybeListed (AttrOf E) qs) finds (behind_found (attrs_with e) (MaybeListed (AttrOf E)) attrs_found kind.Sign (codes ":")))
       (λ at p us s. s)
 
+  -- one body or more with `;` between them are bodies
   some_bodies : (bs : List Body) (us : List Lexeme) → bs ≢ [] → ListedBy (codes ";") (BodyOf E) bs us → BodiesOf E bs us
   some_bodies [] us n h = absurd (n refl)
   some_bodies (b ∷ bs) us n h = h
 
+  -- what is read as bodies is spelled so
   pub bodies_found : Finds (bodies_with e) (BodiesOf E)
   bodies_found ts x h = by_test (unclosed ts) refl h
     where
@@ -91,6 +100,7 @@ module _ (e : Reader Expr) (E : Spells Expr) (finds : Finds e E) where
 -- ---- searches
 
 module _ (p : Reader Expr) (E : Spells Expr) (finds : Finds p (PostfixOf E)) (s : Reader Search) (S : Spells Search) (inner : Finds s S) where
+  -- what is read behind a name is a comparison of it, spelled so
   compared_found : (name : List ℕ) (ts mid : List Lexeme) (r : Found ℕ) (x : Search × List Lexeme) → Begins (NameOf name) ts mid → mark kind.Sign (codes "==") mid ≡ r → compared_or p name r mid ≡ Some x → Begins (AtomOf E S x.0) ts x.1
   compared_found name ts mid (Some o) x n q h =
       let v = bind_some (p o.1) (λ v. Some (search.Equal name v.0, v.1)) x h in
@@ -104,20 +114,24 @@ module _ (p : Reader Expr) (E : Spells Expr) (finds : Finds p (PostfixOf E)) (s 
       subst (λ (y : Search × List Lexeme). Begins (AtomOf E S y.0) ts y.1) same
       (maps (λ us t. grammar.differ name v.0.0 refl t) (joins n (joins (marked kind.Sign (codes "!=") mid o.0 o.1) (finds o.0.1 v.0 v.1))))
 
+  -- what is read in brackets or without is an atom of a search, spelled so
   atom_by : (ts : List Lexeme) (r : Found ℕ) (x : Search × List Lexeme) → mark kind.Sign (codes "(") ts ≡ r → atom_or p s r ts ≡ Some x → Begins (AtomOf E S x.0) ts x.1
   atom_by ts (Some o) x q h = maps (λ us t. grammar.AtomOf.enclosed t) (joins (marked kind.Sign (codes "(") ts o q) (before_found s S inner kind.Sign (codes ")") o.1 x h))
   atom_by ts None x q h =
       let n = bind_some (taken name_by ts) (λ n. compared_with p n.0 n.1) x h in
       compared_found n.0.0 ts n.0.1 (mark kind.Sign (codes "==") n.0.1) x (name_found ts n.0 n.1) refl n.2
 
+  -- what is read as an atom of a search is spelled so
   atom_found : Finds (atom_with p s) (AtomOf E S)
   atom_found ts x h = atom_by ts (mark kind.Sign (codes "(") ts) x refl h
 
+  -- what is read as `and` with atoms is spelled so
   ands_found : (n : ℕ) → Finds (ands_with p s n) (Each (Keyword (codes "and")) (AtomOf E S))
   ands_found =
       many_found (begins kind.Keyword (codes "and")) (behind kind.Keyword (codes "and") (atom_with p s)) (λ y. Keyword (codes "and") then AtomOf E S y)
       (behind_found (atom_with p s) (AtomOf E S) atom_found kind.Keyword (codes "and")) (Each (Keyword (codes "and")) (AtomOf E S)) refl (each_next (Keyword (codes "and")) (AtomOf E S))
 
+  -- an atom and others with `and` before them are a conjunction
   all_are : (y : Search) (ys : List Search) (z : Search) (us : List Lexeme) → all_of (y ∷ ys) ≡ Some z → (AtomOf E S y then Each (Keyword (codes "and")) (AtomOf E S) ys) us → ConjunctionOf E S z us
   all_are y [] z us h t =
       let same : y ≡ z = cc in
@@ -126,6 +140,7 @@ module _ (p : Reader Expr) (E : Spells Expr) (finds : Finds p (PostfixOf E)) (s 
       let same : search.And (y ∷ x ∷ ys) ≡ z = cc in
       subst (λ (q : Search). ConjunctionOf E S q us) same (grammar.ConjunctionOf.conjunction y x ys refl t)
 
+  -- what is read as a conjunction is spelled so
   conjunction_found : Finds (conjunction_with p s) (ConjunctionOf E S)
   conjunction_found ts x h =
       let a = bind_some (atom_with p s ts) (λ y. with_front (y.0 ∷ []) (ands_with p s (length y.1 + 1) y.1) >>= λ ys. all_of ys.0 >>= λ z. Some (z, ys.1)) x h in
@@ -137,11 +152,13 @@ module _ (p : Reader Expr) (E : Spells Expr) (finds : Finds p (PostfixOf E)) (s 
       subst (λ (y : Search × List Lexeme). Begins (ConjunctionOf E S y.0) ts y.1) same
       (maps (λ us. all_are a.0.0 l.0.0 c.0 us c.1) (joins (atom_found ts a.0 a.1) (ands_found (length a.0.1 + 1) a.0.1 l.0 l.1)))
 
+  -- what is read as `or` with conjunctions is spelled so
   ors_found : (n : ℕ) → Finds (ors_with p s n) (Each (Keyword (codes "or")) (ConjunctionOf E S))
   ors_found =
       many_found (begins kind.Keyword (codes "or")) (behind kind.Keyword (codes "or") (conjunction_with p s)) (λ y. Keyword (codes "or") then ConjunctionOf E S y)
       (behind_found (conjunction_with p s) (ConjunctionOf E S) conjunction_found kind.Keyword (codes "or")) (Each (Keyword (codes "or")) (ConjunctionOf E S)) refl (each_next (Keyword (codes "or")) (ConjunctionOf E S))
 
+  -- a conjunction and others with `or` before them are a search
   any_is : (y : Search) (ys : List Search) (z : Search) (us : List Lexeme) → any_of (y ∷ ys) ≡ Some z → (ConjunctionOf E S y then Each (Keyword (codes "or")) (ConjunctionOf E S) ys) us → SearchOf E S z us
   any_is y [] z us h t =
       let same : y ≡ z = cc in
@@ -150,6 +167,7 @@ module _ (p : Reader Expr) (E : Spells Expr) (finds : Finds p (PostfixOf E)) (s 
       let same : search.Or (y ∷ x ∷ ys) ≡ z = cc in
       subst (λ (q : Search). SearchOf E S q us) same (grammar.SearchOf.disjunction y x ys refl t)
 
+  -- what is read as a search is spelled so, if it holds of the searches in its brackets
   pub search_found : Finds (search_with p s) (SearchOf E S)
   search_found ts x h =
       let a = bind_some (conjunction_with p s ts) (λ y. with_front (y.0 ∷ []) (ors_with p s (length y.1 + 1) y.1) >>= λ ys. any_of ys.0 >>= λ z. Some (z, ys.1)) x h in
@@ -162,10 +180,12 @@ module _ (p : Reader Expr) (E : Spells Expr) (finds : Finds p (PostfixOf E)) (s 
       (maps (λ us. any_is a.0.0 l.0.0 c.0 us c.1) (joins (conjunction_found ts a.0 a.1) (ors_found (length a.0.1 + 1) a.0.1 l.0 l.1)))
 
 module _ (p : Reader Expr) (E : Spells Expr) (finds : Finds p (PostfixOf E)) where
+  -- what is read as a search is spelled so, with brackets nested less deep than this
   pub search_at_found : (depth : ℕ) → Finds (search_at p depth) (IsSearchAt E depth)
   search_at_found zero ts x h = cc
   search_at_found (suc depth) ts x h = search_found p E finds (search_at p depth) (IsSearchAt E depth) (search_at_found depth) ts x h
 
+  -- what is read as a search, or as none, is spelled so
   pub sought_found : Finds (sought_with p) (MaybeSearch E)
   sought_found ts x h = by_test (begins kind.Sign (codes "|>") ts) h
     where

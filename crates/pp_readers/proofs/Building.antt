@@ -19,9 +19,11 @@ use Rattle.pp_readers.specs.Combining.{Reader, both, made, behind, before, in_br
 use Rattle.pp_readers.specs.Names.{taken}
 use Rattle.pp_readers.proofs.Combining.{Spells, ListedBy}
 
+-- which tokens spell something
 abbrev pub Phrase : Type 1
 Phrase = List Lexeme → Type 0
 
+-- whatever stands there
 abbrev pub Always : Phrase
 Always rest = Unit {0}
 
@@ -29,12 +31,14 @@ Always rest = Unit {0}
 abbrev pub ReadsBefore : {X : Type 0} → Phrase → Reader X → Spells X → Type 0
 ReadsBefore {X} F f A = (y : X) (us rest : List Lexeme) → A y us → Fit us → F rest → f (us ++ rest) ≡ Some (y, rest)
 
+-- a token that stands there is found
 pub mark_here : (k : Kind) (s : List ℕ) (us rest : List Lexeme) (t : phrases.Some k s us) → mark k s (us ++ rest) ≡ Some (t.0, rest)
 mark_here k s us rest t =
     ap (λ r. mark k s (r ++ rest)) t.1
     ∙ ap (λ v. cond (v && bytes_eq s s) (Some (t.0, rest)) None) (itself_kind k)
     ∙ ap (λ v. cond (true && v) (Some (t.0, rest)) None) ((bytes_eq-Decides s s).1 refl)
 
+-- where none can be found, none is
 pub mark_not : (k : Kind) (s : List ℕ) (ts : List Lexeme) → ((x : ℕ × List Lexeme) → mark k s ts ≡ Some x → ⊥) → mark k s ts ≡ None
 mark_not k s ts never = by_mark (mark k s ts) refl
   where
@@ -42,10 +46,12 @@ mark_not k s ts never = by_mark (mark k s ts) refl
     by_mark None p = refl
     by_mark (Some x) p = absurd (never x p)
 
+-- the rest stands behind the second of two parts
 pub split : (a b rest us : List Lexeme) → us ≡ a ++ b → us ++ rest ≡ a ++ (b ++ rest)
 split a b rest us w = ap (λ r. r ++ rest) w ∙ append_assoc a b rest
 
 module _ {X Y : Type 0} (f : Reader X) (g : Reader Y) (A : Spells X) (B : Spells Y) (F G : Phrase) where
+  -- what one rule and then another spell is read, if the first is read before the second
   pub both_read : ReadsBefore F f A → ReadsBefore G g B → ((y : Y) (us rest : List Lexeme) → B y us → G rest → F (us ++ rest)) → ReadsBefore G (both f g) (λ p. A p.0 then B p.1)
   both_read a b follows p us rest s n q =
       ap (both f g) (split s.front s.back rest us s.whole)
@@ -53,32 +59,38 @@ module _ {X Y : Type 0} (f : Reader X) (g : Reader Y) (A : Spells X) (B : Spells
       ∙ ap (λ r. r >>= λ y. Some ((p.0, y.0), y.1)) (b p.1 s.back rest s.second (fits_second s.front s.back s.whole n) q)
 
 module _ {X : Type 0} (f : Reader X) (A : Spells X) (F : Phrase) (reads : ReadsBefore F f A) where
+  -- what stands behind a token is read, and the token with it
   pub behind_read : (k : Kind) (s : List ℕ) → ReadsBefore F (behind k s f) (λ y. phrases.Some k s then A y)
   behind_read k s y us rest p n q =
       ap (behind k s f) (split p.front p.back rest us p.whole)
       ∙ ap (λ r. r >>= λ o. f o.1) (mark_here k s p.front (p.back ++ rest) p.first)
       ∙ reads y p.back rest p.second (fits_second p.front p.back p.whole n) q
 
+  -- what stands before a token is read, and the token with it
   pub before_read : (k : Kind) (s : List ℕ) → ((us rest : List Lexeme) → phrases.Some k s us → F (us ++ rest)) → ReadsBefore Always (before f k s) (λ y. A y then phrases.Some k s)
   before_read k s quiet y us rest p n q =
       ap (before f k s) (split p.front p.back rest us p.whole)
       ∙ ap (λ r. r >>= λ x. mark k s x.1 >>= λ r. Some (x.0, r.1)) (reads y p.front (p.back ++ rest) p.first (fits_first p.front p.back p.whole n) (quiet p.back rest p.second))
       ∙ ap (λ r. r >>= λ r. Some (y, r.1)) (mark_here k s p.back rest p.second)
 
+-- what stands in braces is read, and the braces with it
 pub in_braces_read : {X : Type 0} (f : Reader X) (A : Spells X) (F : Phrase) → ReadsBefore F f A → ((us rest : List Lexeme) → Sign (codes "}") us → F (us ++ rest)) → ReadsBefore Always (in_braces f) (λ y. InBraces (A y))
 in_braces_read f A F reads quiet =
     behind_read (before f kind.Sign (codes "}")) (λ y. A y then Sign (codes "}")) Always (before_read f A F reads kind.Sign (codes "}") quiet) kind.Sign (codes "{")
 
 -- what is made of what is read
 module _ {X Y : Type 0} (h : ℕ → X → Y) (f : Reader X) (A : Spells X) (F : Phrase) (reads : ReadsBefore F f A) where
+  -- what is made of something is read where that is, if its place doesn't matter
   pub made_read : (x : X) (y : Y) (us rest : List Lexeme) → A x us → Fit us → F rest → ((at : ℕ) → h at x ≡ y) → made h f (us ++ rest) ≡ Some (y, rest)
   made_read x y us rest a n q e =
       ap (λ r. r >>= λ x. Some (h (first_at (us ++ rest)) x.0, x.1)) (reads x us rest a n q) ∙ ap (λ z. Some (z, rest)) (e (first_at (us ++ rest)))
 
+  -- what is made of something is read where that is, at the place of its first token
   pub placed_read : (x : X) (y : Y) (us rest : List Lexeme) → A x us → Fit us → F rest → us ≢ [] → h (place_of us) x ≡ y → made h f (us ++ rest) ≡ Some (y, rest)
   placed_read x y us rest a n q some e =
       ap (λ r. r >>= λ x. Some (h (first_at (us ++ rest)) x.0, x.1)) (reads x us rest a n q) ∙ ap (λ at. Some (h at x, rest)) (first_place us rest some) ∙ ap (λ z. Some (z, rest)) e
 
+-- a token that means something is read as that
 pub taken_read : {X : Type 0} (h : Kind → List ℕ → Option X) (k : Kind) (s : List ℕ) (x : X) (us rest : List Lexeme) → phrases.Some k s us → h k s ≡ Some x → taken h (us ++ rest) ≡ Some (x, rest)
 taken_read h k s x us rest t e = ap (λ r. taken h (r ++ rest)) t.1 ∙ ap (λ r. r >>= λ x. Some (x, rest)) e
 
@@ -87,16 +99,19 @@ module _ {X : Type 0} (test : List Lexeme → Bool) (item : Reader X) (A : Spell
     (begun : (x : X) (us rest : List Lexeme) → A x us → test (us ++ rest) ≡ true) (solid : (x : X) (us : List Lexeme) → A x us → us ≢ []) (quiet : (x : X) (us rest : List Lexeme) → A x us → G (us ++ rest))
     (stops : (rest : List Lexeme) → F rest → test rest ≡ false) (ends : (rest : List Lexeme) → F rest → G rest)
     (none : (us : List Lexeme) → R [] us → us ≡ []) (next : (x : X) (xs : List X) (us : List Lexeme) → R (x ∷ xs) us → (A x then R xs) us) where
+  -- tokens that aren't none are one or more
   longer : (us : List Lexeme) → us ≢ [] → 0 < length us
   longer [] n = absurd (n refl)
   longer (t ∷ us) n = omega arith
 
+  -- before items, as before what ends them, each item can be read
   pub row_quiet : (xs : List X) (us rest : List Lexeme) → R xs us → F rest → G (us ++ rest)
   row_quiet [] us rest r q = subst (λ u. G (u ++ rest)) (sym (none us r)) (ends rest q)
   row_quiet (x ∷ xs) us rest r q =
       let s = next x xs us r in
       subst G (sym (split s.front s.back rest us s.whole)) (quiet x s.front (s.back ++ rest) s.first)
 
+  -- items one behind the other are read, in more turns than they have tokens
   pub many_read : (xs : List X) (n : ℕ) (us rest : List Lexeme) → R xs us → Fit us → F rest → length us < n → many test item n (us ++ rest) ≡ Some (xs, rest)
   many_read xs zero us rest r f q l = absurd (omega arith)
   many_read [] (suc n) us rest r f q l =
@@ -113,19 +128,23 @@ module _ {X : Type 0} (test : List Lexeme → Bool) (item : Reader X) (A : Spell
 module _ {X : Type 0} (sep : List ℕ) (test : List Lexeme → Bool) (item : Reader X) (A : Spells X) (F G : Phrase) (reads : ReadsBefore G item A)
     (begun : (x : X) (us rest : List Lexeme) → A x us → test (us ++ rest) ≡ true) (solid : (x : X) (us : List Lexeme) → A x us → us ≢ []) (quiet : (us rest : List Lexeme) → Sign sep us → G (us ++ rest))
     (stops : (rest : List Lexeme) → F rest → test rest ≡ false) (unseparated : (rest : List Lexeme) → F rest → mark kind.Sign sep rest ≡ None) (ends : (rest : List Lexeme) → F rest → G rest) where
+  -- tokens that aren't none are one or more
   long : (us : List Lexeme) → us ≢ [] → 0 < length us
   long [] n = absurd (n refl)
   long (t ∷ us) n = omega arith
 
+  -- one turn reads an item, and goes on by the sign behind it
   one_turn : (x : X) (n : ℕ) (us rest : List Lexeme) → A x us → Fit us → G rest → listed sep test item (suc n) (us ++ rest) ≡ after_item x (listed sep test item n) (mark kind.Sign sep rest) rest
   one_turn x n us rest a f g =
       ap (λ v. cond v (item (us ++ rest) >>= λ x. after_item x.0 (listed sep test item n) (mark kind.Sign sep x.1) x.1) (Some ([], us ++ rest))) (begun x us rest a)
       ∙ ap (λ r. r >>= λ x. after_item x.0 (listed sep test item n) (mark kind.Sign sep x.1) x.1) (reads x us rest a f g)
 
+  -- where nothing begins, no item is read
   stopped : (n : ℕ) (rest : List Lexeme) → F rest → 0 < n → listed sep test item n rest ≡ Some ([], rest)
   stopped zero rest q l = absurd (omega arith)
   stopped (suc n) rest q l = ap (λ v. cond v (item rest >>= λ x. after_item x.0 (listed sep test item n) (mark kind.Sign sep x.1) x.1) (Some ([], rest))) (stops rest q)
 
+  -- the last item is read, with a sign behind it or without
   last_read : (x : X) (n : ℕ) (us vs rest : List Lexeme) → A x us → Maybe (Sign sep) vs → Fit us → F rest → 0 < n → listed sep test item (suc n) (us ++ (vs ++ rest)) ≡ Some (x ∷ [], rest)
   last_read x n us vs rest a (inl e) f q l =
       ap (λ v. listed sep test item (suc n) (us ++ (v ++ rest))) e ∙ one_turn x n us rest a f (ends rest q) ∙ ap (λ r. after_item x (listed sep test item n) r rest) (unseparated rest q)
@@ -133,6 +152,7 @@ module _ {X : Type 0} (sep : List ℕ) (test : List Lexeme → Bool) (item : Rea
       one_turn x n us (vs ++ rest) a f (quiet vs rest m) ∙ ap (λ r. after_item x (listed sep test item n) r (vs ++ rest)) (mark_here kind.Sign sep vs rest m)
       ∙ ap (with_first x) (stopped n rest q l)
 
+  -- one item or more with signs between them are read
   tail_read : (x : X) (xs : List X) (n : ℕ) (us vs rest : List Lexeme) → (A x then Each (Sign sep) A xs) us → Maybe (Sign sep) vs → Fit us → F rest → length us < n → listed sep test item n (us ++ (vs ++ rest)) ≡ Some (x ∷ xs, rest)
   tail_read x xs zero us vs rest h m f q l = absurd (omega arith)
   tail_read x [] (suc n) us vs rest h m f q l =
@@ -150,6 +170,7 @@ module _ {X : Type 0} (sep : List ℕ) (test : List Lexeme → Bool) (item : Rea
       ∙ ap (λ r. after_item x (listed sep test item n) r (s.front ++ (s.back ++ t))) (mark_here kind.Sign sep s.front (s.back ++ t) s.first)
       ∙ ap (with_first x) (tail_read y ys n s.back vs rest s.second m (fits_second s.front s.back s.whole fs) q shorter)
 
+  -- items with signs between them, or none, are read, in more turns than they have tokens
   pub listed_read : (xs : List X) (n : ℕ) (us rest : List Lexeme) → ListedBy sep A xs us → Fit us → F rest → length us < n → listed sep test item n (us ++ rest) ≡ Some (xs, rest)
   listed_read [] n us rest h f q l = ap (λ u. listed sep test item n (u ++ rest)) h ∙ stopped n rest q (omega arith)
   listed_read (x ∷ xs) n us rest h f q l =

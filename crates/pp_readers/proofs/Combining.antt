@@ -22,6 +22,7 @@ abbrev pub Spells : Type 0 → Type 1
 Spells X = X → List Lexeme → Type 0
 
 module _ {X Y : Type 0} (f : Reader X) (g : Reader Y) (A : Spells X) (B : Spells Y) where
+  -- what is read by one reader and then another is spelled by both
   pub both_found : Finds f A → Finds g B → Finds (both f g) (λ p. A p.0 then B p.1)
   both_found a b ts x h =
       let p = bind_some (f ts) (λ x. g x.1 >>= λ y. Some ((x.0, y.0), y.1)) x h in
@@ -30,11 +31,13 @@ module _ {X Y : Type 0} (f : Reader X) (g : Reader Y) (A : Spells X) (B : Spells
       subst (λ (y : (X × Y) × List Lexeme). Begins (A y.0.0 then B y.0.1) ts y.1) same (joins (a ts p.0 p.1) (b p.0.1 q.0 q.1))
 
 module _ {X : Type 0} (f : Reader X) (A : Spells X) (finds : Finds f A) where
+  -- what is read behind a token is spelled so, and the token with it
   pub behind_found : (k : Kind) (s : List ℕ) → Finds (behind k s f) (λ y. phrases.Some k s then A y)
   behind_found k s ts x h =
       let p = bind_some (mark k s ts) (λ o. f o.1) x h in
       joins (marked k s ts p.0 p.1) (finds p.0.1 x p.2)
 
+  -- what is read before a token is spelled so, and the token with it
   pub before_found : (k : Kind) (s : List ℕ) → Finds (before f k s) (λ y. A y then phrases.Some k s)
   before_found k s ts x h =
       let p = bind_some (f ts) (λ x. mark k s x.1 >>= λ r. Some (x.0, r.1)) x h in
@@ -42,6 +45,7 @@ module _ {X : Type 0} (f : Reader X) (A : Spells X) (finds : Finds f A) where
       let same : ◌≡◌ {A = X × List Lexeme} (p.0.0, q.0.1) x = cc in
       subst (λ (y : X × List Lexeme). Begins (A y.0 then phrases.Some k s) ts y.1) same (joins (finds ts p.0 p.1) (marked k s p.0.1 q.0 q.1))
 
+-- what is read in braces is spelled so
 pub in_braces_found : {X : Type 0} (f : Reader X) (A : Spells X) → Finds f A → Finds (in_braces f) (λ y. InBraces (A y))
 in_braces_found f A finds = behind_found (before f kind.Sign (codes "}")) (λ y. A y then Sign (codes "}")) (before_found f A finds kind.Sign (codes "}")) kind.Sign (codes "{")
 
@@ -71,12 +75,14 @@ first_token k s B us p =
     let place : p.first.0 ≡ place_of us = sym (ap place_of (p.whole ∙ ap (λ r. r ++ p.back) p.first.1)) in
     record { front = p.front; back = p.back; first = subst (λ at. phrases.Token k s at p.front) place p.first.1; second = p.second; whole = p.whole }
 
+-- what begins with a token isn't spelled by no tokens
 pub some_token : (k : Kind) (s : List ℕ) (B : List Lexeme → Type 0) → (phrases.Some k s then B) [] → ⊥
 some_token k s B p =
     let e : ◌≡◌ {A = List Lexeme} [] (record { kind = k; text = s; at = p.first.0 } ∷ p.back) = p.whole ∙ ap (λ r. r ++ p.back) p.first.1 in
     cc
 
 module _ {X : Type 0} (h : Kind → List ℕ → Option X) (A : Spells X) where
+  -- what a token is read as is spelled by it
   pub taken_found : ((k : Kind) (s : List ℕ) (x : X) (at : ℕ) → h k s ≡ Some x → A x (record { kind = k; text = s; at = at } ∷ [])) → Finds (taken h) A
   taken_found spells [] x e = cc
   taken_found spells (t ∷ ts) x e =
@@ -87,6 +93,7 @@ module _ {X : Type 0} (h : Kind → List ℕ → Option X) (A : Spells X) where
 -- rows of items, by what a row is
 module _ {X : Type 0} (test : List Lexeme → Bool) (item : Reader X) (A : Spells X) (finds : Finds item A) (R : Spells (List X)) (none : R [] [])
     (next : (x : X) (xs : List X) (us vs : List Lexeme) → A x us → R xs vs → R (x ∷ xs) (us ++ vs)) where
+  -- what is read as items one behind the other is spelled so
   pub many_found : (n : ℕ) → Finds (many test item n) R
   many_found zero ts x h = cc
   many_found (suc n) ts x h = by_test (many_found n) (test ts) h
@@ -113,9 +120,11 @@ ListedBy sep A [] = Nothing
 ListedBy sep A (x ∷ xs) = Separated (Sign sep) A (x ∷ xs) then Maybe (Sign sep)
 
 module _ {X : Type 0} (sep : List ℕ) (test : List Lexeme → Bool) (item : Reader X) (A : Spells X) (finds : Finds item A) where
+  -- an item with nothing behind it is a list of one
   last : (x : X) (ts mid : List Lexeme) → Begins (A x) ts mid → Begins (ListedBy sep A (x ∷ [])) ts mid
   last x ts mid a = joins (joins a (nothing mid)) (record { front = []; spelled = inl refl; whole = refl })
 
+  -- an item, a sign and a list are a list
   goes_on : (x : X) (xs : List X) (ts mid behind rest : List Lexeme) → Begins (A x) ts mid → Begins (Sign sep) mid behind → Begins (ListedBy sep A xs) behind rest → Begins (ListedBy sep A (x ∷ xs)) ts rest
   goes_on x [] ts mid behind rest a c l =
       let e : behind ≡ rest = l.whole ∙ ap (λ r. r ++ rest) l.spelled in
@@ -125,6 +134,7 @@ module _ {X : Type 0} (sep : List ℕ) (test : List Lexeme → Bool) (item : Rea
       let q = parts p.1 in
       joins (joins a (joins c (joins q.1 q.2))) p.2
 
+  -- what is read as items with a sign between them is spelled so
   pub listed_found : (n : ℕ) → Finds (listed sep test item n) (ListedBy sep A)
   listed_found zero ts x h = cc
   listed_found (suc n) ts x h = by_test (listed_found n) (test ts) h

@@ -19,6 +19,7 @@ use Rattle.pp_readers.specs.Parsed.{Begins}
 use Rattle.pp_readers.specs.Expressions.{with_first, operations, operations_or_end, prefixes, prefixes_or_end, separator, separator_or_end, behind_comma, after_comma, more_items, items, items_or_end, maybe_items}
 use Rattle.pp_readers.proofs.Tokens.{bind_some, joins, maps, marked}
 
+-- what this reader finds is spelled at the front of the tokens by this rule
 abbrev pub Finds : {X : Type 0} → (List Lexeme → Found X) → (X → List Lexeme → Type 0) → Type 0
 Finds {X} f A = (ts : List Lexeme) (x : X × List Lexeme) → f ts ≡ Some x → Begins (A x.0) ts x.1
 
@@ -26,6 +27,7 @@ Finds {X} f A = (ts : List Lexeme) (x : X × List Lexeme) → f ts ≡ Some x �
 pub nothing : (ts : List Lexeme) → Begins Nothing ts ts
 nothing ts = record { front = []; spelled = refl; whole = refl }
 
+-- a list that is found with one more in front comes from a list that is found
 pub with_first_some : {X : Type 0} (x : X) (r : Found (List X)) (y : List X × List Lexeme) → with_first x r ≡ Some y → (z : List X × List Lexeme) × (r ≡ Some z) × ((x ∷ z.0, z.1) ≡ y)
 with_first_some x None y h = cc
 with_first_some x (Some z) y h = (z, refl, cc)
@@ -44,6 +46,7 @@ spelled k s word o p at other is rest h = by_test (bytes_eq s word) refl h
         subst (λ (u : List ℕ). Infix p (record { kind = k; text = u; at = at } ∷ [])) (sym one) (is two (at, refl))
     by_test false t e = rest e
 
+-- a sign that is an operator is spelled as it
 sign_found : (s : List ℕ) (p : Op) (at : ℕ) → sign_operator s ≡ Some p → Infix p (record { kind = kind.Sign; text = s; at = at } ∷ [])
 sign_found s p at h =
     spelled kind.Sign s (codes "<") op.Less p at _ (λ e w. subst (λ (o : Op). Infix o (record { kind = kind.Sign; text = codes "<"; at = at } ∷ [])) e w) (λ h.
@@ -56,12 +59,14 @@ sign_found s p at h =
     spelled kind.Sign s (codes "-") op.Minus p at _ (λ e w. subst (λ (o : Op). Infix o (record { kind = kind.Sign; text = codes "-"; at = at } ∷ [])) e w) (λ h.
     spelled kind.Sign s (codes "*") op.Times p at None (λ e w. subst (λ (o : Op). Infix o (record { kind = kind.Sign; text = codes "*"; at = at } ∷ [])) e w) (λ h. cc) h) h) h) h) h) h) h) h) h
 
+-- a keyword that is an operator is spelled as it
 keyword_found : (s : List ℕ) (p : Op) (at : ℕ) → keyword_operator s ≡ Some p → Infix p (record { kind = kind.Keyword; text = s; at = at } ∷ [])
 keyword_found s p at h =
     spelled kind.Keyword s (codes "or") op.Or p at _ (λ e w. subst (λ (o : Op). Infix o (record { kind = kind.Keyword; text = codes "or"; at = at } ∷ [])) e w) (λ h.
     spelled kind.Keyword s (codes "and") op.And p at _ (λ e w. subst (λ (o : Op). Infix o (record { kind = kind.Keyword; text = codes "and"; at = at } ∷ [])) e w) (λ h.
     spelled kind.Keyword s (codes "in") op.In p at None (λ e w. subst (λ (o : Op). Infix o (record { kind = kind.Keyword; text = codes "in"; at = at } ∷ [])) e w) (λ h. cc) h) h) h
 
+-- a token that is an operator is spelled as it
 operator_found : (k : Kind) (s : List ℕ) (p : Op) (at : ℕ) → operator_of k s ≡ Some p → Infix p (record { kind = k; text = s; at = at } ∷ [])
 operator_found kind.Sign s p at h = sign_found s p at h
 operator_found kind.Keyword s p at h = keyword_found s p at h
@@ -81,6 +86,7 @@ operator_found kind.Tight s p at h = cc
 operator_found kind.Loose s p at h = cc
 operator_found kind.LeftOut s p at h = cc
 
+-- an operator that is found at a level is of that level
 level_found : (level : ℕ) (t : Lexeme) (ts : List Lexeme) (r : Option Op) (x : Op × List Lexeme) → operator_of t.kind t.text ≡ r → at_level level r ts ≡ Some x → Begins (λ us. (level_of x.0 ≡ level) × Infix x.0 us) (t ∷ ts) x.1
 level_found level t ts None x e h = cc
 level_found level t ts (Some o) x e h = by_test (level_of o == level) refl h
@@ -91,11 +97,13 @@ level_found level t ts (Some o) x e h = by_test (level_of o == level) refl h
         subst (λ (y : Op × List Lexeme). Begins (λ us. (level_of y.0 ≡ level) × Infix y.0 us) (t ∷ ts) y.1) same (record { front = t ∷ []; spelled = (eqb-true (level_of o) level q, operator_found t.kind t.text o t.at e); whole = refl })
     by_test false q k = cc
 
+-- an operator that is read at a level is spelled so, and is of that level
 pub infix_found : (level : ℕ) (ts : List Lexeme) (x : Op × List Lexeme) → infix_at level ts ≡ Some x → Begins (λ us. (level_of x.0 ≡ level) × Infix x.0 us) ts x.1
 infix_found level [] x h = cc
 infix_found level (t ∷ ts) x h = level_found level t ts (operator_of t.kind t.text) x refl h
 
 module _ (next : List Lexeme → Found Expr) (A : Expr → List Lexeme → Type 0) (finds : Finds next A) (level : ℕ) where
+  -- what is read as operators with their right operands is spelled so
   pub operations_found : (n : ℕ) → Finds (operations level next n) (Operations level A)
   operations_found zero ts x h = cc
   operations_found (suc n) ts x h = by_infix (operations_found n) (infix_at level ts) refl h
@@ -119,6 +127,7 @@ module _ (next : List Lexeme → Found Expr) (A : Expr → List Lexeme → Type 
 
 -- ---- prefixes
 
+-- a token that is a prefix is spelled as it
 prefix_sign : (k : Kind) (s : List ℕ) (o : Op) (at : ℕ) → prefix_of k s ≡ Some o → Prefixed o (record { kind = k; text = s; at = at } ∷ [])
 prefix_sign kind.Sign s o at h = by_tests (bytes_eq s (codes "!")) (bytes_eq s (codes "-")) refl refl h
   where
@@ -147,11 +156,13 @@ prefix_sign kind.Tight s p at h = cc
 prefix_sign kind.Loose s p at h = cc
 prefix_sign kind.LeftOut s p at h = cc
 
+-- a prefix and those behind it are prefixes, and so are none
 prefix_or_end : (t : Lexeme) (ts : List Lexeme) (r : Option Op) → prefix_of t.kind t.text ≡ r → Begins (Prefixes (prefixes ts).0) ts (prefixes ts).1
     → Begins (Prefixes (prefixes_or_end r (prefixes ts) (t ∷ ts)).0) (t ∷ ts) (prefixes_or_end r (prefixes ts) (t ∷ ts)).1
 prefix_or_end t ts None e others = nothing (t ∷ ts)
 prefix_or_end t ts (Some o) e others = joins (record { front = t ∷ []; spelled = prefix_sign t.kind t.text o t.at e; whole = refl }) others
 
+-- what is read as prefixes is spelled so
 pub prefixes_found : (ts : List Lexeme) → Begins (Prefixes (prefixes ts).0) ts (prefixes ts).1
 prefixes_found [] = nothing []
 prefixes_found (t ∷ ts) = prefix_or_end t ts (prefix_of t.kind t.text) refl (prefixes_found ts)
@@ -171,6 +182,7 @@ Separates : List ℕ → Bool → List Lexeme → List Lexeme → Type 0
 Separates close true ts rest = Begins (Maybe Comma then Sign close) ts rest
 Separates close false ts rest = Begins Comma ts rest
 
+-- behind a comma, the list ends or goes on, as is told
 behind_found : (close : List ℕ) (ts : List Lexeme) (c : ℕ × List Lexeme) (r : Found ℕ) (x : Bool × List Lexeme) → mark kind.Sign (codes ",") ts ≡ Some c → mark kind.Sign close c.1 ≡ r → after_comma r c.1 ≡ Some x → Separates close x.0 ts x.1
 unfolding Separates
 behind_found close ts c None x p q h =
@@ -180,10 +192,12 @@ behind_found close ts c (Some r) x p q h =
     let same : ◌≡◌ {A = Bool × List Lexeme} (true, r.1) x = cc in
     subst (λ (y : Bool × List Lexeme). Separates close y.0 ts y.1) same (joins (maps (λ us s. inr s) (marked kind.Sign (codes ",") ts c p)) (marked kind.Sign close c.1 r q))
 
+-- without a closing sign, the list goes on by a comma, as is told
 comma_found : (close : List ℕ) (ts : List Lexeme) (r : Found ℕ) (x : Bool × List Lexeme) → mark kind.Sign (codes ",") ts ≡ r → behind_comma close r ≡ Some x → Separates close x.0 ts x.1
 comma_found close ts None x p h = cc
 comma_found close ts (Some c) x p h = behind_found close ts c (mark kind.Sign close c.1) x p refl h
 
+-- behind an item, the list ends or goes on, as is told
 separator_found : (close : List ℕ) (ts : List Lexeme) (r : Found ℕ) (x : Bool × List Lexeme) → mark kind.Sign close ts ≡ r → separator_or_end close r (mark kind.Sign (codes ",") ts) ≡ Some x → Separates close x.0 ts x.1
 unfolding Separates
 separator_found close ts None x p h = comma_found close ts (mark kind.Sign (codes ",") ts) x refl h
@@ -193,9 +207,11 @@ separator_found close ts (Some r) x p h =
     subst (λ (y : Bool × List Lexeme). Separates close y.0 ts y.1) same (joins none (marked kind.Sign close ts r p))
 
 module _ {X : Type 0} (item : List Lexeme → Found X) (A : X → List Lexeme → Type 0) (finds : Finds item A) (close : List ℕ) where
+  -- an item and the end of a list are a list of one
   item_last : (x : X) (ts mid rest : List Lexeme) → Begins (A x) ts mid → Begins (Maybe Comma then Sign close) mid rest → Begins (Listed A (x ∷ []) then Sign close) ts rest
   item_last x ts mid rest a b = let p = parts b in joins (joins (joins a (nothing mid)) p.1) p.2
 
+  -- an item, a comma and a list are a list
   item_more : (x : X) (xs : List X) (ts mid next rest : List Lexeme) → Begins (A x) ts mid → Begins Comma mid next → Begins (Listed A xs then Sign close) next rest → Begins (Listed A (x ∷ xs) then Sign close) ts rest
   item_more x [] ts mid next rest a c l = absurd l.spelled.first.first
   item_more x (y ∷ ys) ts mid next rest a c l =
@@ -204,6 +220,7 @@ module _ {X : Type 0} (item : List Lexeme → Found X) (A : X → List Lexeme �
       let r = parts q.1 in
       joins (joins (joins a (joins c (joins r.1 r.2))) q.2) p.2
 
+  -- what is read behind an item makes a list with it
   after_item : (n : ℕ) → Finds (items close item n) (λ xs. Listed A xs then Sign close) → (x : X) (ts mid : List Lexeme) (s : Bool) (behind : List Lexeme) (y : List X × List Lexeme) → Begins (A x) ts mid → Separates close s mid behind
       → with_first x (more_items s (items close item n) behind) ≡ Some y → Begins (Listed A y.0 then Sign close) ts y.1
   unfolding Separates
@@ -214,6 +231,7 @@ module _ {X : Type 0} (item : List Lexeme → Found X) (A : X → List Lexeme �
       let b = with_first_some x (items close item n behind) y h in
       subst (λ (y : List X × List Lexeme). Begins (Listed A y.0 then Sign close) ts y.1) b.2 (item_more x b.0.0 ts mid behind b.0.1 a sep (others behind b.0 b.1))
 
+  -- what is read as one item or more to the closing sign is spelled so
   pub items_found : (n : ℕ) → Finds (items close item n) (λ xs. Listed A xs then Sign close)
   items_found zero ts x h = cc
   items_found (suc n) ts x h =
@@ -221,6 +239,7 @@ module _ {X : Type 0} (item : List Lexeme → Found X) (A : X → List Lexeme �
       let b = bind_some (separator close a.0.1) (λ s. with_first a.0.0 (more_items s.0 (items close item n) s.1)) x a.2 in
       after_item n (items_found n) a.0.0 ts a.0.1 b.0.0 b.0.1 x (finds ts a.0 a.1) (separator_found close a.0.1 (mark kind.Sign close a.0.1) b.0 refl b.1) b.2
 
+  -- so is what is read as none or more, by whether the closing sign stands first
   none_or_items : (n : ℕ) (ts : List Lexeme) (r : Found ℕ) (x : List X × List Lexeme) → mark kind.Sign close ts ≡ r → items_or_end r (items close item n ts) ≡ Some x → Begins (MaybeListed A x.0 then Sign close) ts x.1
   none_or_items n ts (Some r) x p h =
       let same : ◌≡◌ {A = List X × List Lexeme} ([], r.1) x = cc in
@@ -231,5 +250,6 @@ module _ {X : Type 0} (item : List Lexeme → Found X) (A : X → List Lexeme �
       some [] rest l = absurd l.spelled.first.first
       some (y ∷ ys) rest l = l
 
+  -- what is read as items to the closing sign, or as none, is spelled so
   pub maybe_items_found : (n : ℕ) → Finds (maybe_items close item n) (λ xs. MaybeListed A xs then Sign close)
   maybe_items_found n ts x h = none_or_items n ts (mark kind.Sign close ts) x refl h

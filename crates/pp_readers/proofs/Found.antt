@@ -27,12 +27,14 @@ first_is (t ∷ us) rest ts h n = ap first_at h
 abbrev pub Spells : (Expr → List Lexeme → Type 0) → Type 0
 Spells A = (y : Expr) → A y [] → ⊥
 
+-- what such a rule spells is no empty list of tokens
 pub solid : (A : Expr → List Lexeme → Type 0) (y : Expr) (ts rest : List Lexeme) → Spells A → (b : Begins (A y) ts rest) → b.front ≢ []
 solid A y ts rest never b e = never y (subst (A y) e b.spelled)
 
 -- ---- one level of operators
 
 module _ (level : ℕ) (next : List Lexeme → Found Expr) (A : Expr → List Lexeme → Type 0) (finds : Finds next A) (never : Spells A) where
+  -- an operand and operators with their right operands are a chain of that level
   chained : (first : Expr) (more : List (Op × Expr)) (ts mid rest : List Lexeme) → Begins (A first) ts mid → Begins (Operations level A more) mid rest → Begins (ChainOf level A (chain_of (first_at ts) first more)) ts rest
   unfolding joins
   chained first [] ts mid rest a b = record {
@@ -52,6 +54,7 @@ module _ (level : ℕ) (next : List Lexeme → Found Expr) (A : Expr → List Le
       front_nil [] vs e = refl
       front_nil (t ∷ us) vs e = cc
 
+  -- what is read as a chain of a level is spelled so
   pub chain_found : Finds (chain_with level next) (ChainOf level A)
   unfolding chain_with
   chain_found ts x h =
@@ -64,6 +67,7 @@ module _ (level : ℕ) (next : List Lexeme → Found Expr) (A : Expr → List Le
 -- ---- what stands within brackets
 
 module _ (e : List Lexeme → Found Expr) (E : Expr → List Lexeme → Type 0) (finds : Finds e E) where
+  -- what is read to a closing sign is an expression and the sign
   pub enclosed_found : (close : List ℕ) → Finds (enclosed_with e close) (λ y. E y then Sign close)
   unfolding enclosed_with
   enclosed_found close ts x h =
@@ -72,6 +76,7 @@ module _ (e : List Lexeme → Found Expr) (E : Expr → List Lexeme → Type 0) 
       let same : ◌≡◌ {A = Expr × List Lexeme} (a.0.0, b.0.1) x = cc in
       subst (λ (y : Expr × List Lexeme). Begins (E y.0 then Sign close) ts y.1) same (joins (finds ts a.0 a.1) (marked kind.Sign close a.0.1 b.0 b.1))
 
+  -- what is read as a pair of a map is spelled so
   pub pair_found : Finds (pair_with e) (PairOf E)
   unfolding pair_with
   pair_found ts x h =
@@ -81,6 +86,7 @@ module _ (e : List Lexeme → Found Expr) (E : Expr → List Lexeme → Type 0) 
       let same : ◌≡◌ {A = (Expr × Expr) × List Lexeme} ((a.0.0, c.0.0), c.0.1) x = cc in
       subst (λ (y : (Expr × Expr) × List Lexeme). Begins (PairOf E y.0) ts y.1) same (joins (finds ts a.0 a.1) (joins (marked kind.Sign (codes "=>") a.0.1 b.0 b.1) (finds b.0.1 c.0 c.1)))
 
+  -- what is read as `default` or an expression is spelled so
   option_by : (ts : List Lexeme) (r : Found ℕ) (x : Option Expr × List Lexeme) → mark kind.Keyword (codes "default") ts ≡ r → option_or e r ts ≡ Some x → Begins (OptionOf E x.0) ts x.1
   option_by ts None x p h =
       let a = bind_some (e ts) (λ x. Some (Some x.0, x.1)) x h in
@@ -90,9 +96,11 @@ module _ (e : List Lexeme → Found Expr) (E : Expr → List Lexeme → Type 0) 
       let same : ◌≡◌ {A = Option Expr × List Lexeme} (None, r.1) x = cc in
       subst (λ (y : Option Expr × List Lexeme). Begins (OptionOf E y.0) ts y.1) same (marked kind.Keyword (codes "default") ts r p)
 
+  -- what is read as an option is spelled so
   pub option_found : Finds (option_with e) (OptionOf E)
   option_found ts x h = option_by ts (mark kind.Keyword (codes "default") ts) x refl h
 
+  -- what is read as a choice of a selection is spelled so
   pub choice_found : Finds (choice_with e) (ChoiceOf E)
   unfolding choice_with
   choice_found ts x h =
@@ -102,12 +110,14 @@ module _ (e : List Lexeme → Found Expr) (E : Expr → List Lexeme → Type 0) 
       let same : ◌≡◌ {A = (Option Expr × Expr) × List Lexeme} ((a.0.0, c.0.0), c.0.1) x = cc in
       subst (λ (y : (Option Expr × Expr) × List Lexeme). Begins (ChoiceOf E y.0) ts y.1) same (joins (option_found ts a.0 a.1) (joins (marked kind.Sign (codes "=>") a.0.1 b.0 b.1) (finds b.0.1 c.0 c.1)))
 
+  -- what is read as the titles of a reference is spelled so
   pub titles_found : Finds (titles_with e) (λ xs. Tight then (Listed E xs then Sign (codes "]")))
   unfolding titles_with
   titles_found ts x h =
       let a = bind_some (mark kind.Tight (codes "[") ts) (λ o. items (codes "]") e (length o.1 + 1) o.1) x h in
       joins (marked kind.Tight (codes "[") ts a.0 a.1) (items_found e E finds (codes "]") (length a.0.1 + 1) a.0.1 x a.2)
 
+  -- what is read behind a type's name is a reference spelled so
   refer_found : (k : Kind) (t : Lexeme) (ts : List Lexeme) (x : Expr × List Lexeme) → t.kind ≡ k → refer_by e k t ts ≡ Some x → Begins (ReferenceOf E x.0) (t ∷ ts) x.1
   refer_found kind.Ref t ts x is h =
       let a = bind_some (titles_with e ts) (λ x. Some (record { at = t.at; form = form.Refer t.text x.0 }, x.1)) x h in
@@ -132,10 +142,12 @@ module _ (e : List Lexeme → Found Expr) (E : Expr → List Lexeme → Type 0) 
   refer_found kind.Sign t ts x is h = cc
   refer_found kind.LeftOut t ts x is h = cc
 
+  -- what is read as a reference is spelled so
   pub reference_found : Finds (reference_with e) (ReferenceOf E)
   reference_found [] x h = cc
   reference_found (t ∷ ts) x h = refer_found t.kind t ts x refl h
 
+  -- what is read as a list is an operand spelled so
   pub list_found : Finds (list_with e) (PrimaryOf E)
   unfolding list_with
   list_found ts x h =
@@ -145,6 +157,7 @@ module _ (e : List Lexeme → Found Expr) (E : Expr → List Lexeme → Type 0) 
       subst (λ (y : Expr × List Lexeme). Begins (PrimaryOf E y.0) ts y.1) same
       (maps (λ us s. grammar.list b.0.0 s refl) (joins (marked_at kind.Loose (codes "[") ts a.0 a.1) (maybe_items_found e E finds (codes "]") (length a.0.1 + 1) a.0.1 b.0 b.1)))
 
+  -- what is read as a map is an operand spelled so
   pub map_found : Finds (map_with e) (PrimaryOf E)
   unfolding map_with
   map_found ts x h =
@@ -154,12 +167,14 @@ module _ (e : List Lexeme → Found Expr) (E : Expr → List Lexeme → Type 0) 
       subst (λ (y : Expr × List Lexeme). Begins (PrimaryOf E y.0) ts y.1) same
       (maps (λ us s. grammar.map b.0.0 s refl) (joins (marked_at kind.Sign (codes "{") ts a.0 a.1) (maybe_items_found (pair_with e) (PairOf E) pair_found (codes "}") (length a.0.1 + 1) a.0.1 b.0 b.1)))
 
+  -- what is read in brackets or as a map is an operand spelled so
   pub opened_found : (ts : List Lexeme) (r : Found ℕ) (x : Expr × List Lexeme) → mark kind.Sign (codes "(") ts ≡ r → opened_or e r ts ≡ Some x → Begins (PrimaryOf E x.0) ts x.1
   opened_found ts None x p h = map_found ts x h
   opened_found ts (Some o) x p h = maps (λ us s. grammar.enclosed s) (joins (marked kind.Sign (codes "(") ts o p) (enclosed_found (codes ")") o.1 x h))
 
   -- ---- indexes and selections
 
+  -- what is read as an index is spelled so, at the place of what it stands behind
   index_found : (at : ℕ) (b : Expr) (ts : List Lexeme) (x : Expr × List Lexeme) → index_with e at b ts ≡ Some x → Begins (SuffixOf E b x.0) ts x.1 × (x.0.at ≡ at)
   unfolding index_with
   index_found at b ts x h =
@@ -169,6 +184,7 @@ module _ (e : List Lexeme → Found Expr) (E : Expr → List Lexeme → Type 0) 
       subst (λ (y : Expr × List Lexeme). Begins (SuffixOf E b y.0) ts y.1 × (y.0.at ≡ at)) same
       (maps (λ us s. grammar.index k.0.0 s refl) (joins (marked kind.Tight (codes "[") ts o.0 o.1) (enclosed_found (codes "]") o.0.1 k.0 k.1)), refl)
 
+  -- what is read as `?` and choices is spelled so
   choices_found : Finds (choices_with e) (λ cs. Sign (codes "?") then (Sign (codes "{") then (Listed (ChoiceOf E) cs then Sign (codes "}"))))
   unfolding choices_with
   choices_found ts x h =
@@ -176,6 +192,7 @@ module _ (e : List Lexeme → Found Expr) (E : Expr → List Lexeme → Type 0) 
       let o = bind_some (mark kind.Sign (codes "{") q.0.1) (λ o. items (codes "}") (choice_with e) (length o.1 + 1) o.1) x q.2 in
       joins (marked kind.Sign (codes "?") ts q.0 q.1) (joins (marked kind.Sign (codes "{") q.0.1 o.0 o.1) (items_found (choice_with e) (ChoiceOf E) choice_found (codes "}") (length o.0.1 + 1) o.0.1 x o.2))
 
+  -- what is read as a selection is spelled so, at that place
   selection_found : (at : ℕ) (b : Expr) (ts : List Lexeme) (x : Expr × List Lexeme) → selection_with e at b ts ≡ Some x → Begins (SuffixOf E b x.0) ts x.1 × (x.0.at ≡ at)
   unfolding selection_with
   selection_found at b ts x h =
@@ -184,6 +201,7 @@ module _ (e : List Lexeme → Found Expr) (E : Expr → List Lexeme → Type 0) 
       subst (λ (y : Expr × List Lexeme). Begins (SuffixOf E b y.0) ts y.1 × (y.0.at ≡ at)) same
       (maps (λ us s. grammar.selection c.0.0 s refl) (choices_found ts c.0 c.1), refl)
 
+  -- what is read as an index or a selection by its first token is spelled so, at that place
   suffix_kind_found : (k : Kind) (at : ℕ) (b : Expr) (ts : List Lexeme) (x : Expr × List Lexeme) → suffix_by e at b k ts ≡ Some x → Begins (SuffixOf E b x.0) ts x.1 × (x.0.at ≡ at)
   suffix_kind_found kind.Tight at b ts x h = index_found at b ts x h
   suffix_kind_found kind.Sign at b ts x h = selection_found at b ts x h
@@ -203,10 +221,12 @@ module _ (e : List Lexeme → Found Expr) (E : Expr → List Lexeme → Type 0) 
   suffix_kind_found kind.Keyword at b ts x h = cc
   suffix_kind_found kind.LeftOut at b ts x h = cc
 
+  -- what is read as an index or a selection is spelled so, at that place
   suffix_found : (at : ℕ) (b : Expr) (ts : List Lexeme) (x : Expr × List Lexeme) → suffix_with e at b ts ≡ Some x → Begins (SuffixOf E b x.0) ts x.1 × (x.0.at ≡ at)
   suffix_found at b [] x h = cc
   suffix_found at b (t ∷ ts) x h = suffix_kind_found t.kind at b (t ∷ ts) x h
 
+  -- what is read as indexes and selections is spelled so, all at that place
   pub suffixes_found : (at n : ℕ) (b : Expr) (ts : List Lexeme) (x : Expr × List Lexeme) → suffixes e at n b ts ≡ Some x → Begins (SuffixesOf E at b x.0) ts x.1
   suffixes_found at zero b ts x h = cc
   suffixes_found at (suc n) b ts x h = by_test (suffixes_found at n) (begins_suffix ts) h

@@ -20,9 +20,11 @@ use Rattle.pp_syntax.specs.Statements.{function_of}
 use Rattle.pp_readers.specs.Names.{taken, plain_name, name_by, variable_by, ref_by, function_by, unless_function, type_by, arrow_by}
 use Rattle.pp_readers.proofs.Combining.{taken_found}
 
+-- one token of this kind and text, at this place
 abbrev token : Kind → List ℕ → ℕ → List Lexeme
 token k s at = record { kind = k; text = s; at = at } ∷ []
 
+-- a name that is found without `::` is the text, and has none
 plain_found : (s x : List ℕ) → plain_name s ≡ Some x → (s ≡ x) × (is_qualified x ≡ false)
 plain_found s x h = by_test (is_qualified s) refl h
   where
@@ -30,6 +32,7 @@ plain_found s x h = by_test (is_qualified s) refl h
     by_test true p k = cc
     by_test false p k = let e : s ≡ x = cc in (e, subst (λ (u : List ℕ). is_qualified u ≡ false) e p)
 
+-- a token that is a name is spelled as it
 name_is : (k : Kind) (s x : List ℕ) (at : ℕ) → name_by k s ≡ Some x → NameOf x (token k s at)
 name_is kind.Word s x at h = let p = plain_found s x h in word (at, ap (λ (u : List ℕ). token kind.Word u at) p.0) p.1
 name_is kind.Keyword s x at h = let e : s ≡ x = cc in keyword (at, ap (λ (u : List ℕ). token kind.Keyword u at) e)
@@ -49,9 +52,11 @@ name_is kind.Loose s x at h = cc
 name_is kind.Sign s x at h = cc
 name_is kind.LeftOut s x at h = cc
 
+-- what is read as a name is spelled so
 pub name_found : Finds (taken name_by) NameOf
 name_found = taken_found name_by NameOf name_is
 
+-- what is found behind a byte stands behind it
 behind_is : (c : ℕ) (s r : List ℕ) → behind_byte c s ≡ Some r → s ≡ c ∷ r
 behind_is c [] r h = cc
 behind_is c (b ∷ s) r h = by_test (b == c) refl h
@@ -60,6 +65,7 @@ behind_is c (b ∷ s) r h = by_test (b == c) refl h
     by_test true p k = let e : s ≡ r = cc in ap (λ (d : ℕ). d ∷ s) (eqb-true b c p) ∙ ap (λ (u : List ℕ). c ∷ u) e
     by_test false p k = cc
 
+-- a token that is a variable is spelled as it
 variable_is : (k : Kind) (s x : List ℕ) (at : ℕ) → variable_by k s ≡ Some x → VariableOf x (token k s at)
 variable_is kind.Var s x at h =
     let a = bind_some (behind_byte 36 s) plain_name x h in
@@ -82,9 +88,11 @@ variable_is kind.Loose s x at h = cc
 variable_is kind.Sign s x at h = cc
 variable_is kind.LeftOut s x at h = cc
 
+-- what is read as a variable is spelled so
 pub variable_found : Finds (taken variable_by) VariableOf
 variable_found = taken_found variable_by VariableOf variable_is
 
+-- a token that is a type's name in capitals is spelled as it
 ref_is : (k : Kind) (s x : List ℕ) (at : ℕ) → ref_by k s ≡ Some x → phrases.Some kind.Ref x (token k s at)
 ref_is kind.Ref s x at h = let e : s ≡ x = cc in (at, ap (λ (u : List ℕ). token kind.Ref u at) e)
 ref_is kind.Var s x at h = cc
@@ -104,6 +112,7 @@ ref_is kind.Loose s x at h = cc
 ref_is kind.Sign s x at h = cc
 ref_is kind.LeftOut s x at h = cc
 
+-- what is read as a type's name in capitals is spelled so
 pub ref_found : Finds (taken ref_by) (phrases.Some kind.Ref)
 ref_found = taken_found ref_by (phrases.Some kind.Ref) ref_is
 
@@ -119,9 +128,11 @@ tested {X} s w o p other P is rest h = by_test (bytes_eq s w) refl h
         subst (λ (q : X). P q s) two (subst (λ (u : List ℕ). P o u) (sym ((bytes_eq-Decides s w).0 t)) is)
     by_test false t e = rest e
 
+-- the text is the word of the function
 abbrev IsWordOf : Func → List ℕ → Type 0
 IsWordOf f s = s ≡ word_of f
 
+-- a text that is told to be a function is its word
 pub function_word : (s : List ℕ) (f : Func) → function_of s ≡ Some f → s ≡ word_of f
 function_word s f h =
     tested s (codes "include") func.Include f _ IsWordOf refl (λ h.
@@ -132,9 +143,11 @@ function_word s f h =
     tested s (codes "notice") func.Notice f _ IsWordOf refl (λ h.
     tested s (codes "warning") func.Warning f None IsWordOf refl (λ h. cc) h) h) h) h) h) h) h
 
+-- the word of this function
 abbrev IsFunction : Func → List Lexeme → Type 0
 IsFunction f = phrases.Some kind.Word (word_of f)
 
+-- a token that is a function is spelled as it
 function_is : (k : Kind) (s : List ℕ) (f : Func) (at : ℕ) → function_by k s ≡ Some f → IsFunction f (token k s at)
 function_is kind.Word s f at h = (at, ap (λ (u : List ℕ). token kind.Word u at) (function_word s f h))
 function_is kind.Ref s x at h = cc
@@ -154,9 +167,11 @@ function_is kind.Loose s x at h = cc
 function_is kind.Sign s x at h = cc
 function_is kind.LeftOut s x at h = cc
 
+-- what is read as a function is spelled so
 pub function_found : Finds (taken function_by) (λ f. phrases.Some kind.Word (word_of f))
 function_found = taken_found function_by (λ f. phrases.Some kind.Word (word_of f)) function_is
 
+-- texts are compared alike in both directions
 same_turned : (s w : List ℕ) → bytes_eq s w ≡ bytes_eq w s
 same_turned s w = by_tests (bytes_eq s w) (bytes_eq w s) refl refl
   where
@@ -170,6 +185,7 @@ same_turned s w = by_tests (bytes_eq s w) (bytes_eq w s) refl refl
 seven : (a b c d e f g : Bool) → Option Func
 seven a b c d e f g = cond a (Some func.Include) (cond b (Some func.Require) (cond c (Some func.Contain) (cond d (Some func.Realize) (cond e (Some func.Fail) (cond f (Some func.Notice) (cond g (Some func.Warning) None))))))
 
+-- where seven tests find none, none holds
 none_of : (a b c d e f g : Bool) → seven a b c d e f g ≡ None → (a || (b || (c || (d || (e || (f || (g || false))))))) ≡ false
 unfolding seven
 none_of false false false false false false false h = refl
@@ -181,6 +197,7 @@ none_of false false false false true f g h = cc
 none_of false false false false false true g h = cc
 none_of false false false false false false true h = cc
 
+-- where none of seven tests holds, they find none
 none_back : (a b c d e f g : Bool) → (a || (b || (c || (d || (e || (f || (g || false))))))) ≡ false → seven a b c d e f g ≡ None
 unfolding seven
 none_back false false false false false false false h = refl
@@ -192,6 +209,7 @@ none_back false false false false true f g h = cc
 none_back false false false false false true g h = cc
 none_back false false false false false false true h = cc
 
+-- a word is among the functions where one of the seven tests of it holds
 tests_turned : (s : List ℕ) → is_among functions s ≡ (bytes_eq s (codes "include") || (bytes_eq s (codes "require") || (bytes_eq s (codes "contain") || (bytes_eq s (codes "realize") || (bytes_eq s (codes "fail") || (bytes_eq s (codes "notice") || (bytes_eq s (codes "warning") || false)))))))
 tests_turned s =
     ap (λ v. v || is_among (codes "require" ∷ codes "contain" ∷ codes "realize" ∷ codes "fail" ∷ codes "notice" ∷ codes "warning" ∷ []) s) (same_turned (codes "include") s)
@@ -202,11 +220,13 @@ tests_turned s =
     ∙ ap (λ v. bytes_eq s (codes "include") || (bytes_eq s (codes "require") || (bytes_eq s (codes "contain") || (bytes_eq s (codes "realize") || (bytes_eq s (codes "fail") || (v || is_among (codes "warning" ∷ []) s)))))) (same_turned (codes "notice") s)
     ∙ ap (λ v. bytes_eq s (codes "include") || (bytes_eq s (codes "require") || (bytes_eq s (codes "contain") || (bytes_eq s (codes "realize") || (bytes_eq s (codes "fail") || (bytes_eq s (codes "notice") || (v || false))))))) (same_turned (codes "warning") s)
 
+-- a word that is told to be no function is none of them
 pub no_function : (s : List ℕ) → function_of s ≡ None → is_among functions s ≡ false
 unfolding seven
 no_function s h =
     tests_turned s ∙ none_of (bytes_eq s (codes "include")) (bytes_eq s (codes "require")) (bytes_eq s (codes "contain")) (bytes_eq s (codes "realize")) (bytes_eq s (codes "fail")) (bytes_eq s (codes "notice")) (bytes_eq s (codes "warning")) h
 
+-- and one that is none of them is told to be none
 pub function_none : (s : List ℕ) → is_among functions s ≡ false → function_of s ≡ None
 unfolding seven
 function_none s h =
@@ -216,10 +236,12 @@ function_none s h =
 abbrev pub TypeName : List ℕ → List Lexeme → Type 0
 TypeName name us = phrases.Some kind.Word name us × (is_among functions name ≡ false)
 
+-- what is told to be no function's word is the text, and is no function
 type_word : (s x : List ℕ) (r : Option Func) → function_of s ≡ r → unless_function s r ≡ Some x → (s ≡ x) × (is_among functions x ≡ false)
 type_word s x None p h = let e : s ≡ x = cc in (e, subst (λ (u : List ℕ). is_among functions u ≡ false) e (no_function s p))
 type_word s x (Some f) p h = cc
 
+-- a token that is a type's name is spelled as it
 type_is : (k : Kind) (s x : List ℕ) (at : ℕ) → type_by k s ≡ Some x → TypeName x (token k s at)
 type_is kind.Word s x at h = let p = type_word s x (function_of s) refl h in ((at, ap (λ (u : List ℕ). token kind.Word u at) p.0), p.1)
 type_is kind.Ref s x at h = cc
@@ -239,14 +261,17 @@ type_is kind.Loose s x at h = cc
 type_is kind.Sign s x at h = cc
 type_is kind.LeftOut s x at h = cc
 
+-- what is read as a type's name is spelled so
 pub type_found : Finds (taken type_by) TypeName
 type_found = taken_found type_by TypeName type_is
 
 -- ---- arrows
 
+-- the sign of this text is this arrow, wherever it stands
 abbrev IsArrow : Arrow → List ℕ → Type 0
 IsArrow a s = (at : ℕ) → ArrowOf a (token kind.Sign s at)
 
+-- a text that is told to be an arrow is spelled as it
 arrow_sign : (s : List ℕ) (a : Arrow) → arrow_of s ≡ Some a → IsArrow a s
 arrow_sign s a h =
     tested s (codes "->") arrow.Before a _ IsArrow (λ at. (at, refl)) (λ h.
@@ -254,6 +279,7 @@ arrow_sign s a h =
     tested s (codes "<-") arrow.After a _ IsArrow (λ at. (at, refl)) (λ h.
     tested s (codes "<~") arrow.Follow a None IsArrow (λ at. (at, refl)) (λ h. cc) h) h) h) h
 
+-- a token that is an arrow is spelled as it
 arrow_is : (k : Kind) (s : List ℕ) (a : Arrow) (at : ℕ) → arrow_by k s ≡ Some a → ArrowOf a (token k s at)
 arrow_is kind.Sign s a at h = arrow_sign s a h at
 arrow_is kind.Ref s x at h = cc
@@ -273,5 +299,6 @@ arrow_is kind.Tight s x at h = cc
 arrow_is kind.Loose s x at h = cc
 arrow_is kind.LeftOut s x at h = cc
 
+-- what is read as an arrow is spelled so
 pub arrow_found : Finds (taken arrow_by) ArrowOf
 arrow_found = taken_found arrow_by ArrowOf arrow_is

@@ -30,6 +30,7 @@ use Rattle.pp_readers.proofs.Escapes.{before_found}
 
 -- ---- single tokens
 
+-- what is found behind a byte stands behind it
 behind_found : (c : ℕ) (s r : List ℕ) → behind_byte c s ≡ Some r → s ≡ c ∷ r
 behind_found c [] r h = cc
 behind_found c (b ∷ s) r h = by_test (b == c) refl h
@@ -38,6 +39,7 @@ behind_found c (b ∷ s) r h = by_test (b == c) refl h
     by_test true p k = let same : s ≡ r = cc in ap (λ d. d ∷ s) (eqb-true b c p) ∙ ap (λ u. c ∷ u) same
     by_test false p k = cc
 
+-- a text in single quotes that has a value is spelled so
 pub sq_found : (s v : List ℕ) → sq s ≡ Some v → SqOf v s
 unfolding sq
 sq_found s v h =
@@ -48,6 +50,7 @@ sq_found s v h =
     inside r e None p k = cc
     inside r e (Some raw) p k = let same : sq_value raw ≡ v = cc in (raw, e ∙ ap (λ u. 39 ∷ u) (before_found r raw p), sym same)
 
+-- an image comes from a value
 map_some : {A B : Type 0} (g : A → B) (r : Option A) (y : B) → option_map g r ≡ Some y → (x : A) × (r ≡ Some x) × (g x ≡ y)
 map_some g None y h = cc
 map_some g (Some x) y h = (x, refl, cc)
@@ -57,6 +60,7 @@ token_of : (k : Kind) (t : Lexeme) → t.kind ≡ k → phrases.Token k t.text t
 token_of k t is = ap (λ (k : Kind). record { kind = k; text = t.text; at = t.at } ∷ []) is
 
 module _ (E : Expr → List Lexeme → Type 0) where
+  -- an INT that has a form is an operand spelled so
   int_found : (t : Lexeme) (f : Form) → t.kind ≡ kind.Int → int_form t.text ≡ Some f → PrimaryOf E (record { at = t.at; form = f }) (t ∷ [])
   int_found t f is h = by_test (nat_lt (int_value t.text) (2 ^ 63)) h
     where
@@ -64,6 +68,7 @@ module _ (E : Expr → List Lexeme → Type 0) where
       by_test true k = let same : form.Int (pos (int_value t.text)) ≡ f = cc in grammar.int t.text (token_of kind.Int t is) (sym same)
       by_test false k = cc
 
+  -- `true`, `false` and `undef` are operands spelled so
   literal_found : (t : Lexeme) (f : Form) → t.kind ≡ kind.Keyword → literal t.text ≡ Some f → PrimaryOf E (record { at = t.at; form = f }) (t ∷ [])
   literal_found t f is h = by_tests (bytes_eq t.text (codes "true")) (bytes_eq t.text (codes "false")) (bytes_eq t.text (codes "undef")) refl refl refl h
     where
@@ -77,9 +82,11 @@ module _ (E : Expr → List Lexeme → Type 0) where
       by_tests false false true p q r k = let same : form.Undef ≡ f = cc in grammar.undefined (keyword (codes "undef") r) (sym same)
       by_tests false false false p q r k = cc
 
+  -- a text in single quotes that has a form is a string spelled so
   sq_string : (t : Lexeme) (f : Form) → t.kind ≡ kind.Sq → option_map form.Str (sq t.text) ≡ Some f → StringOf E (record { at = t.at; form = f }) (t ∷ [])
   sq_string t f is h = let a = map_some form.Str (sq t.text) f h in grammar.single a.0 t.text (token_of kind.Sq t is) (sq_found t.text a.0 a.1) (sym a.2)
 
+  -- a token that has a form by its kind is an operand spelled so
   atom_kind : (k : Kind) (t : Lexeme) (f : Form) → t.kind ≡ k → atom k t.text ≡ Some f → PrimaryOf E (record { at = t.at; form = f }) (t ∷ [])
   atom_kind kind.Int t f is h = int_found t f is h
   atom_kind kind.Sq t f is h = grammar.string (sq_string t f is h)
@@ -101,6 +108,7 @@ module _ (E : Expr → List Lexeme → Type 0) where
   atom_kind kind.Sign t f is h = cc
   atom_kind kind.LeftOut t f is h = cc
 
+  -- what is read of one token is an operand spelled so
   atom_found : (t : Lexeme) (ts : List Lexeme) (x : Expr × List Lexeme) → atom_at t ts ≡ Some x → Begins (PrimaryOf E x.0) (t ∷ ts) x.1
   atom_found t ts x h =
       let a = bind_some (atom_of t) (λ x. Some (x, ts)) x h in
@@ -111,6 +119,7 @@ module _ (E : Expr → List Lexeme → Type 0) where
 
 -- ---- texts in double quotes
 
+-- a variable or an expression is in two parts where it is in one of them
 pub part-append : (a b : List Lexeme) → has_part (a ++ b) ≡ (has_part a || has_part b)
 part-append [] b = refl
 part-append (t ∷ a) b = by_kind (is_part t.kind) (part-append a b)
@@ -119,6 +128,7 @@ part-append (t ∷ a) b = by_kind (is_part t.kind) (part-append a b)
     by_kind true e = refl
     by_kind false e = e
 
+-- a disjunction holds where its first side does
 or_true : (a b : Bool) → a ≡ true → (a || b) ≡ true
 or_true true b h = refl
 or_true false b h = cc
@@ -148,6 +158,7 @@ word_here (t ∷ us) rest ts h n w = ap Some (word_is t.kind (sym (ap begins_wor
     word_is kind.LeftOut p = cc
 
 module _ (dq_found : (raw v : List ℕ) → dq raw ≡ Some v → DqOf v raw) (e : List Lexeme → Found Expr) (E : Expr → List Lexeme → Type 0) (finds : Finds e E) (never : Spells E) where
+  -- where no WORD is told to stand first, none does
   no_word_first : (us rest ts : List Lexeme) → ts ≡ us ++ rest → begins_word ts ≡ false → kind_of_first us ≡ Some kind.Word → ⊥
   no_word_first [] rest ts h w k = cc
   no_word_first (t ∷ us) rest ts h w k =
@@ -155,6 +166,7 @@ module _ (dq_found : (raw v : List ℕ) → dq raw ≡ Some v → DqOf v raw) (e
       let yes : true ≡ false = sym (ap is_word is) ∙ sym (ap begins_word h) ∙ w in
       cc
 
+  -- an expression in `${`, read as a variable where a WORD stands first, is what may stand there
   inner_by : (v : Bool) (ts : List Lexeme) (y : Expr) (rest : List Lexeme) → begins_word ts ≡ v → Begins (E y) ts rest → Begins (InnerOf E (inner_of v y)) ts rest
   inner_by false ts y rest w b = record { front = b.front; spelled = grammar.other b.spelled (λ k. absurd (no_word_first b.front rest ts b.whole w k)); whole = b.whole }
   inner_by true ts y rest w b = record { front = b.front; spelled = by_variable (variable_found y.at y.form); whole = b.whole }
@@ -163,6 +175,7 @@ module _ (dq_found : (raw v : List ℕ) → dq raw ≡ Some v → DqOf v raw) (e
       by_variable (inl r) = grammar.InnerOf.variable y (word_here b.front rest ts b.whole (solid E y ts rest never b) w) b.spelled r
       by_variable (inr n) = subst (λ (z : Expr). InnerOf E z b.front) (sym n.1) (grammar.other b.spelled (λ k. n.0))
 
+  -- what is read within `${` and `}` is spelled so
   inner_found : Finds (inner_with e) (InnerOf E)
   unfolding inner_with
   inner_found ts x h =
@@ -170,6 +183,7 @@ module _ (dq_found : (raw v : List ℕ) → dq raw ≡ Some v → DqOf v raw) (e
       let same : ◌≡◌ {A = Expr × List Lexeme} (inner_of (begins_word ts) a.0.0, a.0.1) x = cc in
       subst (λ (y : Expr × List Lexeme). Begins (InnerOf E y.0) ts y.1) same (inner_by (begins_word ts) ts a.0.0 a.0.1 refl (finds ts a.0 a.1))
 
+  -- what is read as `${`, an expression and `}` is spelled so
   part_found : Finds (part_with e) (λ y us. (phrases.Some kind.Hole (codes "${") then (InnerOf E y then phrases.Some kind.HoleEnd (codes "}"))) us)
   unfolding part_with hole_with
   part_found ts x h =
@@ -184,9 +198,11 @@ module _ (dq_found : (raw v : List ℕ) → dq raw ≡ Some v → DqOf v raw) (e
   Piece : Expr × Bool → List Lexeme → Type 0
   Piece m us = MemberOf E m.0 us × (has_part us ≡ m.1)
 
+  -- such tokens have an expression among them
   hole_has_part : (y : Expr) (us : List Lexeme) → (phrases.Some kind.Hole (codes "${") then (InnerOf E y then phrases.Some kind.HoleEnd (codes "}"))) us → has_part us ≡ true
   hole_has_part y us s = ap has_part s.whole ∙ part-append s.front s.back ∙ or_true (has_part s.front) (has_part s.back) (ap has_part s.first.1)
 
+  -- what is read by its kind is a member of a text in double quotes, spelled so
   member_kind : (k : Kind) (t : Lexeme) (ts : List Lexeme) (x : (Expr × Bool) × List Lexeme) → t.kind ≡ k → member_by e k t ts (t ∷ ts) ≡ Some x → Begins (Piece x.0) (t ∷ ts) x.1
   unfolding Piece
   member_kind kind.DqText t ts x is h =
@@ -222,20 +238,25 @@ module _ (dq_found : (raw v : List ℕ) → dq raw ≡ Some v → DqOf v raw) (e
   member_kind kind.Sign t ts x is h = cc
   member_kind kind.LeftOut t ts x is h = cc
 
+  -- what is read as a member of a text in double quotes is spelled so
   member_found : Finds (member_with e) Piece
   member_found [] x h = cc
   member_found (t ∷ ts) x h = member_kind t.kind t ts x refl h
 
+  -- members that are found with one more in front come from members that are found
   with_member_some : (m : Expr × Bool) (r : Found (List Expr × Bool)) (y : (List Expr × Bool) × List Lexeme) → with_member m r ≡ Some y → (z : (List Expr × Bool) × List Lexeme) × (r ≡ Some z) × (((m.0 ∷ z.0.0, m.1 || z.0.1), z.1) ≡ y)
   with_member_some m None y h = cc
   with_member_some m (Some z) y h = (z, refl, cc)
 
+  -- members, and whether a variable or an expression is among them
   Pieces : List Expr × Bool → List Lexeme → Type 0
   Pieces r us = Members E r.0 us × (has_part us ≡ r.1)
 
+  -- the closing double quote
   Close : List Lexeme → Type 0
   Close = phrases.Some kind.DqClose (codes "\"")
 
+  -- a member before members makes members, to the closing quote
   one_more : (m : Expr × Bool) (r : List Expr × Bool) (ts mid rest : List Lexeme) → Begins (Piece m) ts mid → Begins (Pieces r then Close) mid rest → Begins (Pieces (m.0 ∷ r.0, m.1 || r.1) then Close) ts rest
   unfolding Piece Pieces joins
   one_more m r ts mid rest a b =
@@ -250,6 +271,7 @@ module _ (dq_found : (raw v : List ℕ) → dq raw ≡ Some v → DqOf v raw) (e
       } in
       joins flagged p.2
 
+  -- what is read as members to the closing quote is spelled so
   members_found : (n : ℕ) → Finds (members e n) (λ r. Pieces r then Close)
   unfolding Pieces Close
   members_found zero ts x h = cc
@@ -271,9 +293,11 @@ module _ (dq_found : (raw v : List ℕ) → dq raw ≡ Some v → DqOf v raw) (e
   alone m us (grammar.MemberOf.variable name token form_is) none = let no : true ≡ false = sym (ap has_part token) ∙ none in cc
   alone m us (grammar.hole s) none = let no : true ≡ false = sym (hole_has_part m us s) ∙ none in cc
 
+  -- the opening double quote at this place
   Open : ℕ → List Lexeme → Type 0
   Open at = phrases.Token kind.DqOpen (codes "\"") at
 
+  -- members without variables and expressions that make a text are a string spelled so
   plain_found : (at : ℕ) (ms : List Expr) (y : Expr) (ts mid rest : List Lexeme) → Begins (Open at) ts mid → Begins (Pieces (ms, false) then Close) mid rest → plain_of at ms ≡ Some y → Begins (StringOf E y) ts rest
   unfolding Pieces Close Open
   plain_found at [] y ts mid rest a b h =
@@ -290,6 +314,7 @@ module _ (dq_found : (raw v : List ℕ) → dq raw ≡ Some v → DqOf v raw) (e
       subst (λ (y : Expr). Begins (StringOf E y) ts rest) same (maps (λ us s. grammar.plain one.0 s one.1) (joins a (joins text p.2)))
   plain_found at (m ∷ n ∷ ms) y ts mid rest a b h = cc
 
+  -- members that make a text are a string spelled so
   joined_found : (at : ℕ) (ms : List Expr) (v : Bool) (y : Expr) (ts mid rest : List Lexeme) → Begins (Open at) ts mid → Begins (Pieces (ms, v) then Close) mid rest → joined at ms v ≡ Some y → Begins (StringOf E y) ts rest
   unfolding Pieces Close Open
   joined_found at ms true y ts mid rest a b h =
@@ -297,6 +322,7 @@ module _ (dq_found : (raw v : List ℕ) → dq raw ≡ Some v → DqOf v raw) (e
       subst (λ (y : Expr). Begins (StringOf E y) ts rest) same (maps (λ us s. grammar.joined ms s refl) (joins a b))
   joined_found at ms false y ts mid rest a b h = plain_found at ms y ts mid rest a b h
 
+  -- what is read as a text in double quotes is a string spelled so
   pub double_found : Finds (double_with e) (StringOf E)
   unfolding double_with quoted_with Open
   double_found ts x h =
@@ -309,6 +335,7 @@ module _ (dq_found : (raw v : List ℕ) → dq raw ≡ Some v → DqOf v raw) (e
 
   -- ---- operands
 
+  -- what is read by its kind is a string spelled so
   string_kind : (k : Kind) (t : Lexeme) (ts : List Lexeme) (x : Expr × List Lexeme) → t.kind ≡ k → string_by e k t ts (t ∷ ts) ≡ Some x → Begins (StringOf E x.0) (t ∷ ts) x.1
   string_kind kind.DqOpen t ts x is h = double_found (t ∷ ts) x h
   string_kind kind.Sq t ts x is h =
@@ -333,10 +360,12 @@ module _ (dq_found : (raw v : List ℕ) → dq raw ≡ Some v → DqOf v raw) (e
   string_kind kind.Sign t ts x is h = cc
   string_kind kind.LeftOut t ts x is h = cc
 
+  -- what is read as a string is spelled so
   pub string_found : Finds (string_with e) (StringOf E)
   string_found [] x h = cc
   string_found (t ∷ ts) x h = string_kind t.kind t ts x refl h
 
+  -- what is read by its kind is an operand spelled so
   primary_kind : (k : Kind) (t : Lexeme) (ts : List Lexeme) (x : Expr × List Lexeme) → primary_by e k t ts (t ∷ ts) ≡ Some x → Begins (PrimaryOf E x.0) (t ∷ ts) x.1
   primary_kind kind.DqOpen t ts x h = maps (λ us s. grammar.string s) (double_found (t ∷ ts) x h)
   primary_kind kind.Sign t ts x h = opened_found e E finds (t ∷ ts) (mark kind.Sign (codes "(") (t ∷ ts)) x refl h
@@ -356,6 +385,7 @@ module _ (dq_found : (raw v : List ℕ) → dq raw ≡ Some v → DqOf v raw) (e
   primary_kind kind.Keyword t ts x h = atom_found E t ts x h
   primary_kind kind.LeftOut t ts x h = atom_found E t ts x h
 
+  -- what is read as an operand is spelled so
   pub primary_found : Finds (primary_with e) (PrimaryOf E)
   primary_found [] x h = cc
   primary_found (t ∷ ts) x h = primary_kind t.kind t ts x h

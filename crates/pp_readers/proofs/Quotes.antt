@@ -26,15 +26,18 @@ use Rattle.pp_readers.proofs.Reading.{Fit, fits_first, fits_second, Reads, made,
 use Rattle.pp_readers.proofs.Listing.{Closes}
 use Rattle.pp_readers.proofs.Spelled.{variable_is, begins_of, word_of, enclosed_read, reference_read, list_read, map_read, suffixes_read}
 
+-- `)` closes a list
 paren_closes : Closes (codes ")")
 paren_closes = record { here = λ at rest. refl; no_comma = λ at rest. refl; quiet = λ at rest. refl }
 
+-- a text in single quotes is read with its value
 pub sq_read : (v s : List ℕ) → SqOf v s → sq s ≡ Some v
 unfolding sq
 sq_read v s h =
     ap (λ u. behind_byte 39 u >>= λ r. option_map sq_value (before_quote r)) h.1 ∙ ap (option_map sq_value) (before_here h.0) ∙ ap Some (sym h.2)
 
 module _ (dq_read : (raw v : List ℕ) → DqOf v raw → dq raw ≡ Some v) (e : List Lexeme → Found Expr) (E : Expr → List Lexeme → Type 0) (reads : Reads 0 e E) (begun : (y : Expr) (us : List Lexeme) → E y us → Begun us) where
+  -- what may stand within `${` and `}` is read
   inner_read : Reads 0 (inner_with e) (InnerOf E)
   unfolding inner_with
   inner_read y us rest (grammar.InnerOf.variable x w h r) f l =
@@ -51,6 +54,7 @@ module _ (dq_read : (raw v : List ℕ) → DqOf v raw → dq raw ≡ Some v) (e 
       by_word false p = refl
       by_word true p = stays (word_of us rest (begun_some us (begun y us h)) p) (variable_found y.at y.form)
 
+  -- `${`, what stands within, and `}` are read
   part_read : (y : Expr) (us rest : List Lexeme) → (phrases.Some kind.Hole (codes "${") then (InnerOf E y then phrases.Some kind.HoleEnd (codes "}"))) us → Fit us → part_with e (us ++ rest) ≡ Some (y, rest)
   unfolding part_with hole_with
   part_read y us rest s f =
@@ -63,6 +67,7 @@ module _ (dq_read : (raw v : List ℕ) → DqOf v raw → dq raw ≡ Some v) (e 
       ∙ ap (λ r. r >>= λ x. mark kind.HoleEnd (codes "}") x.1 >>= λ r. Some (x.0, r.1)) (inner_read y b.front (b.back ++ rest) b.first (fits_first b.front b.back b.whole (fits_second s.front s.back s.whole f)) q)
       ∙ ap (λ r. mark kind.HoleEnd (codes "}") (r ++ rest) >>= λ r. Some (y, r.1)) b.second.1
 
+  -- a member of a text in double quotes is read
   member_read : (y : Expr) (us rest : List Lexeme) → MemberOf E y us → Fit us → member_with e (us ++ rest) ≡ Some ((y, has_part us), rest)
   member_read y us rest (grammar.MemberOf.text value raw t d is) f =
       ap (λ r. member_with e (r ++ rest)) t
@@ -82,6 +87,7 @@ module _ (dq_read : (raw v : List ℕ) → DqOf v raw → dq raw ≡ Some v) (e 
   member_apart y us rest (grammar.hole s) =
       (ap (λ r. mark kind.DqClose (codes "\"") (r ++ rest)) (s.whole ∙ ap (λ u. u ++ s.back) s.first.1), omega (arith, ap length (s.whole ∙ ap (λ u. u ++ s.back) s.first.1)))
 
+  -- members to the closing quote are read, and whether a variable or an expression is among them
   members_read : (ms : List Expr) (n : ℕ) (us ws rest : List Lexeme) → Members E ms us → phrases.Some kind.DqClose (codes "\"") ws → Fit us → length us < n → members e n (us ++ (ws ++ rest)) ≡ Some ((ms, has_part us), rest)
   members_read ms zero us ws rest h c f l = absurd (omega arith)
   members_read [] (suc n) us ws rest h c f l =
@@ -96,6 +102,7 @@ module _ (dq_read : (raw v : List ℕ) → DqOf v raw → dq raw ≡ Some v) (e 
       ∙ ap (with_member (m, has_part h.front)) (members_read ms n h.back ws rest h.second c (fits_second h.front h.back h.whole f) (omega (arith, a.1, ap length h.whole, length-append h.front h.back)))
       ∙ ap (λ v. Some ((m ∷ ms, v), rest)) (sym (ap has_part h.whole ∙ part-append h.front h.back))
 
+  -- a text in double quotes whose members make it is read
   quoted_read : (y : Expr) (ms : List Expr) (us vs ws rest : List Lexeme) → phrases.Token kind.DqOpen (codes "\"") y.at us → Members E ms vs → phrases.Some kind.DqClose (codes "\"") ws → Fit vs → joined y.at ms (has_part vs) ≡ Some y
       → double_with e (us ++ (vs ++ (ws ++ rest))) ≡ Some (y, rest)
   unfolding double_with quoted_with
@@ -104,13 +111,16 @@ module _ (dq_read : (raw v : List ℕ) → DqOf v raw → dq raw ≡ Some v) (e 
       ∙ ap (λ r. r >>= λ ms. joined y.at ms.0.0 ms.0.1 >>= λ x. Some (x, ms.1)) (members_read ms (length (vs ++ (ws ++ rest)) + 1) vs ws rest h c f (omega (arith, length-append vs (ws ++ rest))))
       ∙ ap (λ r. r >>= λ x. Some (x, rest)) j
 
+  -- the rest stands behind the last of three parts
   three : (a b c rest us vs : List Lexeme) → us ≡ a ++ vs → vs ≡ b ++ c → us ++ rest ≡ a ++ (b ++ (c ++ rest))
   three a b c rest us vs p q = ap (λ r. r ++ rest) (p ∙ ap (λ r. a ++ r) q) ∙ append_assoc a (b ++ c) rest ∙ ap (λ r. a ++ r) (append_assoc b c rest)
 
+  -- what is read as a text in double quotes is read as a string and as an operand
   doubled : (y : Expr) (us rest more : List Lexeme) → us ++ rest ≡ record { kind = kind.DqOpen; text = codes "\""; at = y.at } ∷ more → double_with e (us ++ rest) ≡ Some (y, rest)
       → (string_with e (us ++ rest) ≡ Some (y, rest)) × (primary_with e (us ++ rest) ≡ Some (y, rest))
   doubled y us rest more o d = (ap (string_with e) o ∙ ap (double_with e) (sym o) ∙ d, ap (primary_with e) o ∙ ap (double_with e) (sym o) ∙ d)
 
+  -- a text in double quotes without variables and expressions is read
   plain_read : (y : Expr) (v : List ℕ) (us vs ws rest : List Lexeme) → phrases.Token kind.DqOpen (codes "\"") y.at us → PlainOf v vs → phrases.Some kind.DqClose (codes "\"") ws → Fit vs → y.form ≡ form.Str v → double_with e (us ++ (vs ++ (ws ++ rest))) ≡ Some (y, rest)
   plain_read y v us vs ws rest o (grammar.PlainOf.empty p q) c f is =
       quoted_read y [] us vs ws rest o q c f (ap (λ t. joined y.at [] t) (ap has_part q) ∙ ap Some (made y y.at (form.Str []) refl (is ∙ ap form.Str p)))
@@ -119,6 +129,7 @@ module _ (dq_read : (raw v : List ℕ) → DqOf v raw → dq raw ≡ Some v) (e 
       let one : Members E (m ∷ []) vs = record { front = vs; back = []; first = grammar.MemberOf.text v raw t d refl; second = refl; whole = sym (append-nil vs) } in
       quoted_read y (m ∷ []) us vs ws rest o one c f (ap (λ t. joined y.at (m ∷ []) t) (ap has_part t) ∙ ap Some (made y y.at (form.Str v) refl is))
 
+  -- a string is read as a string and as an operand
   strings : (y : Expr) (us rest : List Lexeme) → StringOf E y us → Fit us → (string_with e (us ++ rest) ≡ Some (y, rest)) × (primary_with e (us ++ rest) ≡ Some (y, rest))
   strings y us rest (grammar.single v raw t q is) f = (
     ap (λ r. string_with e (r ++ rest)) t ∙ ap (λ r. (option_map form.Str r >>= λ f. Some record { at = y.at; form = f }) >>= λ x. Some (x, rest)) (sq_read v raw q) ∙ ap (λ z. Some (z, rest)) (made y y.at (form.Str v) refl is),
@@ -136,11 +147,13 @@ module _ (dq_read : (raw v : List ℕ) → DqOf v raw → dq raw ≡ Some v) (e 
       (ap (double_with e) (three s.front b.front b.back rest us s.back s.whole b.whole) ∙ quoted_read y ms s.front b.front b.back rest s.first b.first.0 b.second fb
       (ap (joined y.at ms) b.first.1 ∙ ap Some (made y y.at (form.Join ms) refl is)))
 
+  -- a string is read
   pub string_read : (y : Expr) (us rest : List Lexeme) → StringOf E y us → Fit us → string_with e (us ++ rest) ≡ Some (y, rest)
   string_read y us rest s f = (strings y us rest s f).0
 
   -- ---- operands
 
+  -- an operand is read
   primary_read : (y : Expr) (us rest : List Lexeme) → PrimaryOf E y us → Fit us → primary_with e (us ++ rest) ≡ Some (y, rest)
   primary_read y us rest (grammar.int raw t is) f =
       let small : int_value raw < 2 ^ 63 = (subst Fit t f).0 refl in
@@ -166,6 +179,7 @@ module _ (dq_read : (raw v : List ℕ) → DqOf v raw → dq raw ≡ Some v) (e 
       let w : us ++ rest ≡ record { kind = kind.Ref; text = r.name; at = y.at } ∷ (r.spelled.back ++ rest) = ap (λ u. u ++ rest) (r.spelled.whole ∙ ap (λ u. u ++ r.spelled.back) r.spelled.first) in
       ap (primary_with e) w ∙ ap (Rattle.pp_readers.specs.Expressions.reference_with e) (sym w) ∙ reference_read dq_read e E reads begun y us rest r f
 
+  -- an operand with indexes and selections is read, before anything that is none of them
   pub postfix_read : Reads 7 (postfix_with e) (PostfixOf E)
   unfolding postfix_with
   postfix_read y us rest p f l =
@@ -176,6 +190,7 @@ module _ (dq_read : (raw v : List ℕ) → DqOf v raw → dq raw ≡ Some v) (e 
       ∙ ap (λ at. suffixes e at (length (p.back ++ rest) + 1) p.operand (p.back ++ rest)) (first_place us rest some)
       ∙ suffixes_read dq_read e E reads begun (place_of us) (length (p.back ++ rest) + 1) p.operand y p.back rest p.suffixes (fits_second p.front p.back p.whole f) l (omega (arith, length-append p.back rest))
 
+  -- so is one with prefixes before it
   unary_read : Reads 7 (unary_with e) (UnaryOf E)
   unfolding unary_with
   unary_read y us rest (grammar.UnaryOf.operand p) f l =
@@ -190,6 +205,7 @@ module _ (dq_read : (raw v : List ℕ) → DqOf v raw → dq raw ≡ Some v) (e 
       ∙ ap (λ r. r >>= λ x. Some (prefixed (first_at (us ++ rest)) (o ∷ more) x.0, x.1)) (postfix_read x s.back rest s.second (fits_second s.front s.back s.whole f) l)
       ∙ ap (λ z. Some (z, rest)) (made y (first_at (us ++ rest)) (form.Prefix (o ∷ more) x) (at ∙ sym (first_place us rest some)) is)
 
+  -- the rule of each level is read, before anything that binds less tightly
   levels_read : (n : ℕ) → n ≤ 7 → Reads (7 - n) (levels_with e n) (LevelOf E n)
   levels_read zero h y us rest s f l = unary_read y us rest s f l
   levels_read (suc n) h y us rest s f l =
@@ -197,6 +213,7 @@ module _ (dq_read : (raw v : List ℕ) → DqOf v raw → dq raw ≡ Some v) (e 
       let below : Reads ((6 - n) + 1) (levels_with e n) (LevelOf E n) = subst (λ k. Reads k (levels_with e n) (LevelOf E n)) k (levels_read n (omega arith)) in
       chain_read (6 - n) (levels_with e n) (LevelOf E n) below (level_begun E n) y us rest s f (omega arith)
 
+-- an expression is read, before anything that doesn't go on with it
 pub expr_read : ((raw v : List ℕ) → DqOf v raw → dq raw ≡ Some v) → (depth : ℕ) → Reads 0 (expr_at depth) (IsExprAt depth)
 expr_read dq_read zero y us rest h f l = absurd h
 expr_read dq_read (suc depth) y us rest h f l = levels_read dq_read (expr_at depth) (IsExprAt depth) (expr_read dq_read depth) (expr_begun depth) 7 (omega arith) y us rest h f l

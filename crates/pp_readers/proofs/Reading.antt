@@ -21,20 +21,25 @@ use Rattle.pp_readers.specs.Expressions.{with_first, operations, operations_or_e
 use Rattle.pp_readers.proofs.Steps.{prefix_goes_on, prefix_ends}
 use Rattle.pp_readers.proofs.Solid.{Begun, begun_some}
 
+-- each number fits
 abbrev pub Fit : List Lexeme → Type 0
 Fit us = NumbersFit us
 
+-- the numbers of the front of two parts fit
 pub fit_front : (a b : List Lexeme) → Fit (a ++ b) → Fit a
 fit_front [] b f = tt
 fit_front (t ∷ a) b f = (f.0, fit_front a b f.1)
 
+-- and those of the back
 pub fit_back : (a b : List Lexeme) → Fit (a ++ b) → Fit b
 fit_back [] b f = f
 fit_back (t ∷ a) b f = fit_back a b f.1
 
+-- the same where the tokens are two parts
 pub fits_first : {us : List Lexeme} (a b : List Lexeme) → us ≡ a ++ b → Fit us → Fit a
 fits_first a b e f = fit_front a b (subst Fit e f)
 
+-- and of the second
 pub fits_second : {us : List Lexeme} (a b : List Lexeme) → us ≡ a ++ b → Fit us → Fit b
 fits_second a b e f = fit_back a b (subst Fit e f)
 
@@ -42,15 +47,18 @@ fits_second a b e f = fit_back a b (subst Fit e f)
 abbrev pub Reads : {X : Type 0} → ℕ → (List Lexeme → Found X) → (X → List Lexeme → Type 0) → Type 0
 Reads {X} k f A = (y : X) (us rest : List Lexeme) → A y us → Fit us → reach rest ≤ k → f (us ++ rest) ≡ Some (y, rest)
 
+-- an expression is made of its place and its form
 pub made : (y : Expr) (at : ℕ) (f : Form) → y.at ≡ at → y.form ≡ f → ◌≡◌ {A = Expr} (record { at = at; form = f }) y
 made y at f p q = sym (ap (λ (a : ℕ). record { at = a; form = y.form }) p ∙ ap (λ (g : Form). record { at = at; form = g }) q)
 
+-- with others behind them, tokens begin where they do
 pub first_place : (us rest : List Lexeme) → us ≢ [] → first_at (us ++ rest) ≡ place_of us
 first_place [] rest n = absurd (n refl)
 first_place (t ∷ us) rest n = refl
 
 -- ---- operators
 
+-- an operator of a level is read there
 pub infix_reads : (level : ℕ) (o : Op) (us rest : List Lexeme) → level_of o ≡ level → Infix o us → infix_at level (us ++ rest) ≡ Some (o, rest)
 infix_reads level op.Or us rest e h = ap (λ r. infix_at level (r ++ rest)) h.1 ∙ ap (λ v. cond v (Some (op.Or, rest)) None) (eq-eqb (level_of op.Or) level e)
 infix_reads level op.And us rest e h = ap (λ r. infix_at level (r ++ rest)) h.1 ∙ ap (λ v. cond v (Some (op.And, rest)) None) (eq-eqb (level_of op.And) level e)
@@ -66,6 +74,7 @@ infix_reads level op.Times us rest e h = ap (λ r. infix_at level (r ++ rest)) h
 infix_reads level op.In us rest e h = ap (λ r. infix_at level (r ++ rest)) h.1 ∙ ap (λ v. cond v (Some (op.In, rest)) None) (eq-eqb (level_of op.In) level e)
 infix_reads level op.Not us rest e h = absurd h
 
+-- an operator takes what stands in front of it as tightly as its level says
 infix_reach : (o : Op) (us rest : List Lexeme) → Infix o us → reach (us ++ rest) ≡ level_of o + 1
 infix_reach op.Or us rest h = ap (λ r. reach (r ++ rest)) h.1
 infix_reach op.And us rest h = ap (λ r. reach (r ++ rest)) h.1
@@ -81,6 +90,7 @@ infix_reach op.Times us rest h = ap (λ r. reach (r ++ rest)) h.1
 infix_reach op.In us rest h = ap (λ r. reach (r ++ rest)) h.1
 infix_reach op.Not us rest h = absurd h
 
+-- an operator is one token
 infix_one : (o : Op) (us : List Lexeme) → Infix o us → length us ≡ 1
 infix_one op.Or us h = ap length h.1
 infix_one op.And us h = ap length h.1
@@ -116,6 +126,7 @@ suffix_no_operator kind.Tight s h = refl
 suffix_no_operator kind.Loose s h = refl
 suffix_no_operator kind.LeftOut s h = refl
 
+-- where nothing binds tighter than a level, no operator of it is found
 pub infix_none : (level : ℕ) (ts : List Lexeme) → reach ts ≤ level → infix_at level ts ≡ None
 infix_none level [] h = refl
 infix_none level (t ∷ ts) h = by_suffix (is_suffix t.kind t.text) refl h
@@ -128,6 +139,7 @@ infix_none level (t ∷ ts) h = by_suffix (is_suffix t.kind t.text) refl h
     by_suffix true p l = ap (λ r. at_level level r ts) (suffix_no_operator t.kind t.text p)
     by_suffix false p l = by_operator (operator_of t.kind t.text) l
 
+-- where nothing but operators stands first, no index or selection begins
 pub suffix_none : (ts : List Lexeme) → reach ts ≤ 7 → begins_suffix ts ≡ false
 suffix_none [] h = refl
 suffix_none (t ∷ ts) h = by_suffix (is_suffix t.kind t.text) h
@@ -137,6 +149,7 @@ suffix_none (t ∷ ts) h = by_suffix (is_suffix t.kind t.text) h
     by_suffix false l = refl
 
 module _ (level : ℕ) (next : List Lexeme → Found Expr) (A : Expr → List Lexeme → Type 0) (reads : Reads (level + 1) next A) (begun : (y : Expr) (us : List Lexeme) → A y us → Begun us) where
+  -- before operators of a level an operand of it can be read
   operations_reach : (more : List (Op × Expr)) (us rest : List Lexeme) → Operations level A more us → reach rest ≤ level → reach (us ++ rest) ≤ level + 1
   operations_reach [] us rest h l = subst (λ r. reach (r ++ rest) ≤ level + 1) (sym h) (omega arith)
   operations_reach (o ∷ more) us rest h l =
@@ -147,6 +160,7 @@ module _ (level : ℕ) (next : List Lexeme → Found Expr) (A : Expr → List Le
       let r : reach (us ++ rest) ≡ level_of o.0 + 1 = ap reach e ∙ infix_reach o.0 h.first.1.front (h.first.1.back ++ (h.back ++ rest)) sign in
       omega (arith, r, h.first.0)
 
+  -- operators of a level with their right operands are read
   operations_read : (more : List (Op × Expr)) (n : ℕ) (us rest : List Lexeme) → Operations level A more us → Fit us → reach rest ≤ level → length us < n → operations level next n (us ++ rest) ≡ Some (more, rest)
   operations_read more zero us rest h f l t = absurd (omega arith)
   operations_read [] (suc n) us rest h f l t = ap (λ r. operations level next (suc n) (r ++ rest)) h ∙ ap (λ r. operations_or_end next (operations level next n) r rest) (infix_none level rest l)
@@ -161,6 +175,7 @@ module _ (level : ℕ) (next : List Lexeme → Found Expr) (A : Expr → List Le
       ∙ ap (λ r. r >>= λ x. with_first (o.0, x.0) (operations level next n x.1)) (reads o.1 s.back (h.back ++ rest) s.second (fits_second s.front s.back s.whole ff) (operations_reach more h.back rest h.second l))
       ∙ ap (with_first (o.0, o.1)) (operations_read more n h.back rest h.second (fits_second h.front h.back h.whole f) l shorter)
 
+  -- a chain of a level is read, before anything that binds less tightly
   pub chain_read : Reads level (chain_with level next) (ChainOf level A)
   unfolding chain_with
   chain_read y us rest (grammar.ChainOf.operand a) f l =
@@ -178,6 +193,7 @@ module _ (level : ℕ) (next : List Lexeme → Found Expr) (A : Expr → List Le
 
 -- ---- prefixes
 
+-- a prefix is read
 prefix_reads : (o : Op) (us rest : List Lexeme) → Prefixed o us → prefix_at (us ++ rest) ≡ Some (o, rest)
 prefix_reads op.Not us rest h = ap (λ r. prefix_at (r ++ rest)) h.1
 prefix_reads op.Minus us rest h = ap (λ r. prefix_at (r ++ rest)) h.1
@@ -193,6 +209,7 @@ prefix_reads op.Plus us rest h = absurd h
 prefix_reads op.Times us rest h = absurd h
 prefix_reads op.In us rest h = absurd h
 
+-- prefixes are read, before anything that is none
 pub prefixes_read : (ops : List Op) (us rest : List Lexeme) → Prefixes ops us → prefix_at rest ≡ None → prefixes (us ++ rest) ≡ (ops, rest)
 prefixes_read [] us rest h n = ap (λ r. prefixes (r ++ rest)) h ∙ prefix_ends rest n
 prefixes_read (o ∷ more) us rest h n =

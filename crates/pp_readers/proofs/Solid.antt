@@ -38,6 +38,7 @@ pub data Begun (us : List Lexeme) : Type 0 where
   negation : (at : ℕ) (more : List Lexeme) → us ≡ record { kind = kind.Sign; text = codes "!"; at = at } ∷ more → Begun us
   minus : (at : ℕ) (more : List Lexeme) → us ≡ record { kind = kind.Sign; text = codes "-"; at = at } ∷ more → Begun us
 
+-- tokens that begin as an operand does do so with others behind them
 pub grows : {us : List Lexeme} (front back : List Lexeme) → us ≡ front ++ back → Lead front → Lead us
 grows front back e (kinded k s at more h l) = kinded k s at (more ++ back) (e ∙ ap (λ r. r ++ back) h) l
 grows front back e (truth at more h) = truth at (more ++ back) (e ∙ ap (λ r. r ++ back) h)
@@ -46,11 +47,13 @@ grows front back e (undefined at more h) = undefined at (more ++ back) (e ∙ ap
 grows front back e (enclosed at more h) = enclosed at (more ++ back) (e ∙ ap (λ r. r ++ back) h)
 grows front back e (map at more h) = map at (more ++ back) (e ∙ ap (λ r. r ++ back) h)
 
+-- so do those that begin as an expression does
 pub begun_grows : {us : List Lexeme} (front back : List Lexeme) → us ≡ front ++ back → Begun front → Begun us
 begun_grows front back e (lead l) = lead (grows front back e l)
 begun_grows front back e (negation at more h) = negation at (more ++ back) (e ∙ ap (λ r. r ++ back) h)
 begun_grows front back e (minus at more h) = minus at (more ++ back) (e ∙ ap (λ r. r ++ back) h)
 
+-- no expression begins with no token
 pub begun_some : (us : List Lexeme) → Begun us → us ≢ []
 begun_some us (lead (kinded k s at more h l)) e = let no : record { kind = k; text = s; at = at } ∷ more ≡ [] = sym h ∙ e in cc
 begun_some us (lead (truth at more h)) e = let no : record { kind = kind.Keyword; text = codes "true"; at = at } ∷ more ≡ [] = sym h ∙ e in cc
@@ -81,6 +84,7 @@ no_sign kind.Keyword h = cc
 no_sign kind.Sign h = cc
 no_sign kind.LeftOut h = cc
 
+-- a token that begins an operand is no prefix
 no_prefix : (k : Kind) (s : List ℕ) → is_lead k ≡ true → prefix_of k s ≡ None
 no_prefix kind.Int s h = refl
 no_prefix kind.Sq s h = refl
@@ -100,6 +104,7 @@ no_prefix kind.Keyword s h = refl
 no_prefix kind.Sign s h = cc
 no_prefix kind.LeftOut s h = refl
 
+-- where an operand begins, no prefix stands first
 pub no_prefix_first : (us rest : List Lexeme) → Lead us → prefix_at (us ++ rest) ≡ None
 no_prefix_first us rest (kinded k s at more h l) = ap (λ r. prefix_at (r ++ rest)) h ∙ ap (λ r. Rattle.std.specs.Option.option_map {U = Op × List Lexeme} (λ (o : Op). (o, more ++ rest)) r) (no_prefix k s l)
 no_prefix_first us rest (truth at more h) = ap (λ r. prefix_at (r ++ rest)) h
@@ -109,6 +114,7 @@ no_prefix_first us rest (enclosed at more h) = ap (λ r. prefix_at (r ++ rest)) 
 no_prefix_first us rest (map at more h) = ap (λ r. prefix_at (r ++ rest)) h
 
 module _ (close : List ℕ) (no_open : bytes_eq (codes "(") close ≡ false) (no_brace : bytes_eq (codes "{") close ≡ false) (no_not : bytes_eq (codes "!") close ≡ false) (no_minus : bytes_eq (codes "-") close ≡ false) where
+  -- where an expression begins, such a closing sign doesn't stand first
   pub no_close_first : (us rest : List Lexeme) → Begun us → mark kind.Sign close (us ++ rest) ≡ None
   no_close_first us rest (lead (kinded k s at more h l)) = ap (λ r. mark kind.Sign close (r ++ rest)) h ∙ ap (λ v. cond (v && bytes_eq s close) (Some (at, more ++ rest)) None) (no_sign k l).0
   no_close_first us rest (lead (truth at more h)) = ap (λ r. mark kind.Sign close (r ++ rest)) h
@@ -119,6 +125,7 @@ module _ (close : List ℕ) (no_open : bytes_eq (codes "(") close ≡ false) (no
   no_close_first us rest (negation at more h) = ap (λ r. mark kind.Sign close (r ++ rest)) h ∙ ap (λ v. cond (true && v) (Some (at, more ++ rest)) None) no_not
   no_close_first us rest (minus at more h) = ap (λ r. mark kind.Sign close (r ++ rest)) h ∙ ap (λ v. cond (true && v) (Some (at, more ++ rest)) None) no_minus
 
+-- and no `default` does
 pub no_default_first : (us rest : List Lexeme) → Begun us → mark kind.Keyword (codes "default") (us ++ rest) ≡ None
 no_default_first us rest (lead (kinded k s at more h l)) = ap (λ r. mark kind.Keyword (codes "default") (r ++ rest)) h ∙ ap (λ v. cond (v && bytes_eq s (codes "default")) (Some (at, more ++ rest)) None) (no_sign k l).1
 no_default_first us rest (lead (truth at more h)) = ap (λ r. mark kind.Keyword (codes "default") (r ++ rest)) h
@@ -132,11 +139,13 @@ no_default_first us rest (minus at more h) = ap (λ r. mark kind.Keyword (codes 
 -- ---- the rules
 
 module _ (E : Expr → List Lexeme → Type 0) where
+  -- a string begins as an operand does
   string_lead : (y : Expr) (us : List Lexeme) → StringOf E y us → Lead us
   string_lead y us (grammar.single v raw t q is) = kinded kind.Sq raw y.at [] t refl
   string_lead y us (grammar.plain v s is) = kinded kind.DqOpen (codes "\"") y.at s.back (s.whole ∙ ap (λ r. r ++ s.back) s.first) refl
   string_lead y us (grammar.joined ms s is) = kinded kind.DqOpen (codes "\"") y.at s.back (s.whole ∙ ap (λ r. r ++ s.back) s.first) refl
 
+  -- an operand begins as one does
   pub primary_lead : (y : Expr) (us : List Lexeme) → PrimaryOf E y us → Lead us
   primary_lead y us (grammar.int raw t is) = kinded kind.Int raw y.at [] t refl
   primary_lead y us (grammar.string s) = string_lead y us s
@@ -150,9 +159,11 @@ module _ (E : Expr → List Lexeme → Type 0) where
   primary_lead y us (grammar.PrimaryOf.map ps s is) = map y.at s.back (s.whole ∙ ap (λ r. r ++ s.back) s.first)
   primary_lead y us (grammar.PrimaryOf.reference r) = kinded kind.Ref r.name y.at r.spelled.back (r.spelled.whole ∙ ap (λ u. u ++ r.spelled.back) r.spelled.first) refl
 
+  -- so does one with indexes and selections
   pub postfix_lead : (y : Expr) (us : List Lexeme) → PostfixOf E y us → Lead us
   postfix_lead y us p = grows p.front p.back p.whole (primary_lead p.operand p.front p.primary)
 
+  -- prefixes begin as an expression does
   prefixes_begun : (o : Op) (more : List Op) (us : List Lexeme) → Prefixes (o ∷ more) us → Begun us
   prefixes_begun op.Not more us p = negation p.first.0 p.back (p.whole ∙ ap (λ r. r ++ p.back) p.first.1)
   prefixes_begun op.Minus more us p = minus p.first.0 p.back (p.whole ∙ ap (λ r. r ++ p.back) p.first.1)
@@ -168,13 +179,16 @@ module _ (E : Expr → List Lexeme → Type 0) where
   prefixes_begun op.Times more us p = absurd p.first
   prefixes_begun op.In more us p = absurd p.first
 
+  -- so do tokens that begin with prefixes
   pub prefixed_begun : (o : Op) (more : List Op) (us front back : List Lexeme) → us ≡ front ++ back → Prefixes (o ∷ more) front → Begun us
   prefixed_begun o more us front back e p = begun_grows front back e (prefixes_begun o more front p)
 
+  -- so does an operand with prefixes
   pub unary_begun : (y : Expr) (us : List Lexeme) → UnaryOf E y us → Begun us
   unary_begun y us (grammar.UnaryOf.operand p) = lead (postfix_lead y us p)
   unary_begun y us (grammar.prefixed o more x is at s) = begun_grows s.front s.back s.whole (prefixes_begun o more s.front s.first)
 
+-- so does a chain of operands that do
 pub chain_begun : (level : ℕ) (A : Expr → List Lexeme → Type 0) → ((y : Expr) (us : List Lexeme) → A y us → Begun us) → (y : Expr) (us : List Lexeme) → ChainOf level A y us → Begun us
 chain_begun level A begun y us (grammar.ChainOf.operand a) = begun y us a
 chain_begun level A begun y us (grammar.chain first o more is at s) = begun_grows s.front s.back s.whole (begun first s.front s.first)
@@ -184,10 +198,12 @@ abbrev pub LevelOf : (Expr → List Lexeme → Type 0) → ℕ → Expr → List
 LevelOf E zero = UnaryOf E
 LevelOf E (suc n) = ChainOf (6 - n) (LevelOf E n)
 
+-- what the rule of each level spells begins as an expression does
 pub level_begun : (E : Expr → List Lexeme → Type 0) (n : ℕ) (y : Expr) (us : List Lexeme) → LevelOf E n y us → Begun us
 level_begun E zero = unary_begun E
 level_begun E (suc n) = chain_begun (6 - n) (LevelOf E n) (level_begun E n)
 
+-- an expression begins as one does
 pub expr_begun : (depth : ℕ) (y : Expr) (us : List Lexeme) → IsExprAt depth y us → Begun us
 expr_begun zero y us h = absurd h
 expr_begun (suc depth) y us h = level_begun (IsExprAt depth) 7 y us h

@@ -22,6 +22,7 @@ use Rattle.pp_readers.proofs.Listing.{Closes, bracket_closes, brace_closes, item
 
 -- ---- words as variables
 
+-- what is read as a variable is what the reader makes of it
 pub variable_is : {x y : Expr} → ReadAsVariable x y → as_variable x ≡ y
 variable_is {x} {y} (grammar.base name e g h) = ap (λ (f : Form). record { at = x.at; form = form_as_variable f }) e ∙ made y x.at (form.Var name) h g
 variable_is {x} {y} (grammar.index a b key e g h r) =
@@ -29,21 +30,26 @@ variable_is {x} {y} (grammar.index a b key e g h r) =
     ∙ ap (λ (f : Form). record { at = x.at; form = f }) (at_as_variable a key ∙ ap (λ (c : Expr). form.Index c key) (variable_is r))
     ∙ made y x.at (form.Index b key) h g
 
+-- where the first token is a WORD, the test says so
 pub begins_of : (us rest : List Lexeme) → kind_of_first us ≡ Some kind.Word → begins_word (us ++ rest) ≡ true
 begins_of [] rest h = cc
 begins_of (t ∷ us) rest h = let e : t.kind ≡ kind.Word = cc in ap Rattle.pp_readers.specs.Expressions.is_word e
 
+-- and where the test says so, it is one
 pub word_of : (us rest : List Lexeme) → us ≢ [] → begins_word (us ++ rest) ≡ true → kind_of_first us ≡ Some kind.Word
 word_of us rest n w = Rattle.pp_readers.proofs.Operands.word_here us rest (us ++ rest) refl n w
 
+-- tokens that aren't none are one or more
 longer : (us : List Lexeme) → us ≢ [] → 0 < length us
 longer [] n = absurd (n refl)
 longer (t ∷ us) n = omega arith
 
 module _ (dq_read : (raw v : List ℕ) → DqOf v raw → dq raw ≡ Some v) (e : List Lexeme → Found Expr) (E : Expr → List Lexeme → Type 0) (reads : Reads 0 e E) (begun : (y : Expr) (us : List Lexeme) → E y us → Begun us) where
+  -- an expression has a token
   solid : (y : Expr) (us : List Lexeme) → E y us → 0 < length us
   solid y us h = longer us (begun_some us (begun y us h))
 
+  -- an expression and its closing sign are read
   pub enclosed_read : (close : List ℕ) → Closes close → (y : Expr) (us rest : List Lexeme) → (E y then Sign close) us → Fit us → enclosed_with e close (us ++ rest) ≡ Some (y, rest)
   unfolding enclosed_with
   enclosed_read close closes y us rest s f =
@@ -54,6 +60,7 @@ module _ (dq_read : (raw v : List ℕ) → DqOf v raw → dq raw ≡ Some v) (e 
       ∙ ap (λ r. mark kind.Sign close (r ++ rest) >>= λ r. Some (y, r.1)) s.second.1
       ∙ ap (λ r. r >>= λ r. Some (y, r.1)) (closes.here s.second.0 rest)
 
+  -- a pair of a map is read
   pub pair_read : Reads 0 (pair_with e) (PairOf E)
   unfolding pair_with
   pair_read p us rest s f l =
@@ -66,11 +73,13 @@ module _ (dq_read : (raw v : List ℕ) → DqOf v raw → dq raw ≡ Some v) (e 
       ∙ ap (λ r. mark kind.Sign (codes "=>") (r ++ (a.back ++ rest)) >>= λ arrow. e arrow.1 >>= λ value. Some ((p.0, value.0), value.1)) a.first.1
       ∙ ap (λ r. r >>= λ value. Some ((p.0, value.0), value.1)) (reads p.1 a.back rest a.second (fits_second a.front a.back a.whole fs) l)
 
+  -- an option is read
   pub option_read : Reads 0 (option_with e) (OptionOf E)
   option_read None us rest s f l = ap (λ r. option_with e (r ++ rest)) s.1
   option_read (Some y) us rest s f l =
       ap (λ r. option_or e r (us ++ rest)) (no_default_first us rest (begun y us s)) ∙ ap (λ r. r >>= λ x. Some (Some x.0, x.1)) (reads y us rest s f l)
 
+  -- a choice of a selection is read
   pub choice_read : Reads 0 (choice_with e) (ChoiceOf E)
   unfolding choice_with
   choice_read p us rest s f l =
@@ -85,9 +94,11 @@ module _ (dq_read : (raw v : List ℕ) → DqOf v raw → dq raw ≡ Some v) (e 
 
   -- ---- lists
 
+  -- expressions to their `]` are read
   exprs_read : (xs : List Expr) (n : ℕ) (us rest : List Lexeme) → (Listed E xs then Sign (codes "]")) us → Fit us → length us < n → items (codes "]") e n (us ++ rest) ≡ Some (xs, rest)
   exprs_read = items_read (codes "]") bracket_closes e E reads solid (λ y us rest h. no_close_first (codes "]") refl refl refl refl us rest (begun y us h))
 
+  -- the titles of a reference are read
   pub titles_read : (xs : List Expr) (us rest : List Lexeme) → (Tight then (Listed E xs then Sign (codes "]"))) us → Fit us → titles_with e (us ++ rest) ≡ Some (xs, rest)
   unfolding titles_with
   titles_read xs us rest s f =
@@ -96,6 +107,7 @@ module _ (dq_read : (raw v : List ℕ) → DqOf v raw → dq raw ≡ Some v) (e 
       ∙ ap (λ r. mark kind.Tight (codes "[") (r ++ (s.back ++ rest)) >>= λ o. items (codes "]") e (length o.1 + 1) o.1) s.first.1
       ∙ exprs_read xs (length (s.back ++ rest) + 1) s.back rest s.second (fits_second s.front s.back s.whole f) (omega (arith, length-append s.back rest))
 
+  -- a reference is read
   pub reference_read : (y : Expr) (us rest : List Lexeme) → ReferenceOf E y us → Fit us → reference_with e (us ++ rest) ≡ Some (y, rest)
   reference_read y us rest r f =
       let s = r.spelled in
@@ -104,6 +116,7 @@ module _ (dq_read : (raw v : List ℕ) → DqOf v raw → dq raw ≡ Some v) (e 
       ∙ ap (λ u. u >>= λ x. Some (record { at = y.at; form = form.Refer r.name x.0 }, x.1)) (titles_read r.titles s.back rest s.second (fits_second s.front s.back s.whole f))
       ∙ ap (λ z. Some (z, rest)) (made y y.at (form.Refer r.name r.titles) refl r.form_is)
 
+  -- a list is read
   pub list_read : (y : Expr) (ms : List Expr) (us rest : List Lexeme) → (phrases.Token kind.Loose (codes "[") y.at then (MaybeListed E ms then Sign (codes "]"))) us → y.form ≡ form.List ms → Fit us → list_with e (us ++ rest) ≡ Some (y, rest)
   unfolding list_with
   list_read y ms us rest s is f =
@@ -113,9 +126,11 @@ module _ (dq_read : (raw v : List ℕ) → DqOf v raw → dq raw ≡ Some v) (e 
       (maybe_items_read (codes "]") bracket_closes e E reads solid (λ y us rest h. no_close_first (codes "]") refl refl refl refl us rest (begun y us h)) ms (length (s.back ++ rest) + 1) s.back rest s.second (fits_second s.front s.back s.whole f) (omega (arith, length-append s.back rest)))
       ∙ ap (λ z. Some (z, rest)) (made y y.at (form.List ms) refl is)
 
+  -- a pair begins as an expression does
   pair_begun : (p : Expr × Expr) (us : List Lexeme) → PairOf E p us → Begun us
   pair_begun p us s = begun_grows s.front s.back s.whole (begun p.0 s.front s.first)
 
+  -- a map is read
   pub map_read : (y : Expr) (ps : List (Expr × Expr)) (us rest : List Lexeme) → (phrases.Token kind.Sign (codes "{") y.at then (MaybeListed (PairOf E) ps then Sign (codes "}"))) us → y.form ≡ form.Map ps → Fit us → map_with e (us ++ rest) ≡ Some (y, rest)
   unfolding map_with
   map_read y ps us rest s is f =
@@ -128,9 +143,11 @@ module _ (dq_read : (raw v : List ℕ) → DqOf v raw → dq raw ≡ Some v) (e 
 
   -- ---- indexes and selections
 
+  -- a choice has a token
   choice_solid : (c : Option Expr × Expr) (us : List Lexeme) → ChoiceOf E c us → 0 < length us
   choice_solid c us s = omega (arith, ap length s.whole, length-append s.front s.back, ap length s.second.whole, length-append s.second.front s.second.back, ap length s.second.first.1)
 
+  -- a choice doesn't begin with `}`
   choice_apart : (c : Option Expr × Expr) (us rest : List Lexeme) → ChoiceOf E c us → mark kind.Sign (codes "}") (us ++ rest) ≡ None
   choice_apart c us rest s = ap (λ r. mark kind.Sign (codes "}") (r ++ rest)) s.whole ∙ ap (mark kind.Sign (codes "}")) (append_assoc s.front s.back rest) ∙ first c.0 s.front s.first
     where
@@ -138,6 +155,7 @@ module _ (dq_read : (raw v : List ℕ) → DqOf v raw → dq raw ≡ Some v) (e 
       first None vs h = ap (λ r. mark kind.Sign (codes "}") (r ++ (s.back ++ rest))) h.1
       first (Some y) vs h = no_close_first (codes "}") refl refl refl refl vs (s.back ++ rest) (begun y vs h)
 
+  -- an index or a selection is read, and the test says that one begins
   suffix_read : (at : ℕ) (x z : Expr) (us rest : List Lexeme) → SuffixOf E x z us → z.at ≡ at → Fit us → (begins_suffix (us ++ rest) ≡ true) × (suffix_with e at x (us ++ rest) ≡ Some (z, rest)) × (0 < length us)
   unfolding index_with selection_with choices_with
   suffix_read at x z us rest (grammar.index key s is) place f =
@@ -161,6 +179,7 @@ module _ (dq_read : (raw v : List ℕ) → DqOf v raw → dq raw ≡ Some v) (e 
         omega (arith, ap length s.whole, length-append s.front s.back, ap length s.first.1),
       )
 
+  -- indexes and selections are read, before anything that is none of them
   pub suffixes_read : (at n : ℕ) (x y : Expr) (us rest : List Lexeme) → SuffixesOf E at x y us → Fit us → reach rest ≤ 7 → length us < n → suffixes e at n x (us ++ rest) ≡ Some (y, rest)
   suffixes_read at zero x y us rest h f l t = absurd (omega arith)
   suffixes_read at (suc n) x y us rest (grammar.none p q) f l t =

@@ -27,39 +27,50 @@ use Rattle.pp_readers.proofs.ReadSearch.{NoSuffix}
 use Rattle.pp_readers.proofs.Leads.{leads_at}
 use Rattle.pp_readers.proofs.ReadBlocks.{block_read, stmt_at_read}
 
+-- attributes in braces, with expressions nested less deep than this
 abbrev pub AttributesOf : ℕ → Spells (List Attr)
 AttributesOf limit qs = InBraces (MaybeListed (AttrOf (IsExprAt limit)) qs)
 
 -- ---- both ways, where expressions are those of this limit
 
+-- no expression is spelled by no tokens
 no_expression : (limit : ℕ) (y : Expr) → IsExprAt limit y [] → ⊥
 no_expression limit y h = begun_some [] (expr_begun limit y [] h) refl
 
+-- what is read as a statement is spelled so
 pub statement_finds : (limit depth : ℕ) → Finds (stmt_at (expr_at limit) depth) (IsStmtAt (IsExprAt limit) depth)
 statement_finds limit depth = stmt_at_found (expr_at limit) (IsExprAt limit) (expr_found dq_found limit) (reference_finds limit) (postfix_finds limit) (no_expression limit) depth
 
+-- an expression is read, before anything that doesn't go on with it
 expression_reads : (limit : ℕ) → ReadsBefore Quiet (expr_at limit) (IsExprAt limit)
 expression_reads limit y us rest h f q = expr_read dq_read limit y us rest h f q
 
+-- a reference is read
 references_read : (limit : ℕ) → ReadsBefore Always (reference_with (expr_at limit)) (ReferenceOf (IsExprAt limit))
 references_read limit y us rest h f q = reference_reads limit y us rest h f
 
+-- an operand with indexes and selections is read, before anything that is none of them
 postfixes_read : (limit : ℕ) → ReadsBefore NoSuffix (postfix_with (expr_at limit)) (PostfixOf (IsExprAt limit))
 postfixes_read limit y us rest h f q = postfix_reads limit y us rest h f q
 
+-- a statement is read, before anything that doesn't go on with it
 pub statement_reads : (limit depth : ℕ) → ReadsBefore NothingFollows (stmt_at (expr_at limit) depth) (IsStmtAt (IsExprAt limit) depth)
 statement_reads limit depth = stmt_at_read (expr_at limit) (IsExprAt limit) (expression_reads limit) (expr_begun limit) (references_read limit) (postfixes_read limit) depth
 
+-- what is read as a block is spelled so
 pub block_finds : (limit depth : ℕ) → Finds (block_with (stmt_at (expr_at limit) depth)) (BlockOf (IsStmtAt (IsExprAt limit) depth))
 block_finds limit depth = block_found (expr_at limit) (IsExprAt limit) (expr_found dq_found limit) (stmt_at (expr_at limit) depth) (IsStmtAt (IsExprAt limit) depth) (statement_finds limit depth)
 
+-- a block is read
 pub block_reads : (limit depth : ℕ) → ReadsBefore Always (block_with (stmt_at (expr_at limit) depth)) (BlockOf (IsStmtAt (IsExprAt limit) depth))
 block_reads limit depth =
     block_read (expr_at limit) (IsExprAt limit) (expression_reads limit) (expr_begun limit) (stmt_at (expr_at limit) depth) (IsStmtAt (IsExprAt limit) depth) (statement_reads limit depth) (leads_at (IsExprAt limit) depth)
 
+-- what is read as attributes in braces is spelled so
 pub attributes_finds : (limit : ℕ) → Finds (attributes_with (expr_at limit)) (AttributesOf limit)
 attributes_finds limit = in_braces_found (attrs_with (expr_at limit)) (MaybeListed (AttrOf (IsExprAt limit))) (attrs_found (expr_at limit) (IsExprAt limit) (expr_found dq_found limit))
 
+-- attributes in braces are read
 pub attributes_reads : (limit : ℕ) → ReadsBefore Always (attributes_with (expr_at limit)) (AttributesOf limit)
 attributes_reads limit = attributes_read (expr_at limit) (IsExprAt limit) (expression_reads limit) (expr_begun limit)
 

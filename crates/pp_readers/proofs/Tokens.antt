@@ -11,10 +11,12 @@ use Rattle.pp_readers.specs.Marks.{is_kind, mark}
 use Rattle.rh_base.specs.Reading.{◌>>=◌}
 use Rattle.pp_readers.specs.Parsed.{Begins}
 
+-- where two steps find something, the first found something and the second went on from it
 pub bind_some : {A B : Type 0} (r : Option A) (f : A → Option B) (y : B) → (r >>= f) ≡ Some y → (x : A) × (r ≡ Some x) × (f x ≡ Some y)
 bind_some (Some x) f y h = (x, refl, h)
 bind_some None f y h = cc
 
+-- what begins the tokens, and what begins those behind it, begin them together
 unfoldable pub joins : {A B : List Lexeme → Type 0} {ts mid rest : List Lexeme} → Begins A ts mid → Begins B mid rest → Begins (A then B) ts rest
 joins a b = record {
   front = a.front ++ b.front;
@@ -22,9 +24,11 @@ joins a b = record {
   whole = a.whole ∙ ap (λ r. a.front ++ r) b.whole ∙ sym (append_assoc a.front b.front _);
 }
 
+-- tokens that begin with what is spelled by one rule do so by each rule that follows from it
 unfoldable pub maps : {A B : List Lexeme → Type 0} {ts rest : List Lexeme} → ((us : List Lexeme) → A us → B us) → Begins A ts rest → Begins B ts rest
 maps f a = record { front = a.front; spelled = f a.front a.spelled; whole = a.whole }
 
+-- kinds that are told to be one are
 pub same_kind : (j k : Kind) → is_kind j k ≡ true → j ≡ k
 same_kind kind.Word kind.Word h = refl
 same_kind kind.Ref kind.Ref h = refl
@@ -45,6 +49,7 @@ same_kind kind.Sign kind.Sign h = refl
 same_kind kind.LeftOut kind.LeftOut h = refl
 same_kind j k h = cc
 
+-- each kind is told to be itself
 pub itself_kind : (k : Kind) → is_kind k k ≡ true
 itself_kind kind.Word = refl
 itself_kind kind.Ref = refl
@@ -64,6 +69,7 @@ itself_kind kind.Keyword = refl
 itself_kind kind.Sign = refl
 itself_kind kind.LeftOut = refl
 
+-- a token that is found stands first
 pub mark_found : (k : Kind) (s : List ℕ) (ts : List Lexeme) (x : ℕ × List Lexeme) → mark k s ts ≡ Some x → ts ≡ record { kind = k; text = s; at = x.0 } ∷ x.1
 mark_found k s [] x h = cc
 mark_found k s (t ∷ ts) x h = by_tests (is_kind t.kind k) (bytes_eq t.text s) refl refl h
@@ -81,5 +87,6 @@ mark_found k s (t ∷ ts) x h = by_tests (is_kind t.kind k) (bytes_eq t.text s) 
 pub marked_at : (k : Kind) (s : List ℕ) (ts : List Lexeme) (x : ℕ × List Lexeme) → mark k s ts ≡ Some x → Begins (phrases.Token k s x.0) ts x.1
 marked_at k s ts x h = record { front = record { kind = k; text = s; at = x.0 } ∷ []; spelled = refl; whole = mark_found k s ts x h }
 
+-- tokens in which such a token is found begin with it
 pub marked : (k : Kind) (s : List ℕ) (ts : List Lexeme) (x : ℕ × List Lexeme) → mark k s ts ≡ Some x → Begins (phrases.Some k s) ts x.1
 marked k s ts x h = record { front = record { kind = k; text = s; at = x.0 } ∷ []; spelled = (x.0, refl); whole = mark_found k s ts x h }

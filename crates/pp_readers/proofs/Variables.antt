@@ -9,6 +9,7 @@ use Rattle.pp_syntax.specs.declared.tree.Form.TheVariants as form
 use Rattle.pp_syntax.specs.declared.tree.Form.TheBlock as block
 use Rattle.pp_readers.specs.Expressions.{form_as_variable, as_variable}
 
+-- an index reads as a variable what it stands behind
 pub at_as_variable : (a k : Expr) → form_as_variable (form.Index a k) ≡ form.Index (as_variable a) k
 unfolding block.shape-the_row-Expr-2 block.hidden-the_row-Expr-2 denote.Hole.Carrier.hidden
 at_as_variable a k = refl
@@ -23,10 +24,12 @@ at_same a k b j h =
 abbrev pub Stays : Expr → Type 0
 Stays x = ((z : Expr) → ReadAsVariable x z → ⊥) × (as_variable x ≡ x)
 
+-- an index is this value of the declared type
 at_is : (at kat : ℕ) (f k : Form) → form.Index (record { at = at; form = f }) (record { at = kat; form = k }) ≡ block.Index' tt (block.more_of-Expr at f block.end_of-Expr) tt (block.more_of-Expr kat k block.end_of-Expr)
 unfolding block.shape-the_row-Expr-2 block.hidden-the_row-Expr-2 denote.Hole.Carrier.hidden
 at_is at kat f k = refl
 
+-- a form that is neither a text nor an index stays
 stays : (at : ℕ) (f : Form) → ((name : List ℕ) → f ≢ form.Str name) → ((a k : Expr) → f ≢ form.Index a k) → form_as_variable f ≡ f → Stays (record { at = at; form = f })
 stays at f no_text no_index same = (λ z r. never z r, ap (λ (g : Form). record { at = at; form = g }) same)
   where
@@ -34,6 +37,7 @@ stays at f no_text no_index same = (λ z r. never z r, ap (λ (g : Form). record
     never z (base name e g h) = no_text name e
     never z (index a b k e g h r) = no_index a k e
 
+-- a form is read as a variable, or stays
 pub variable_found : (at : ℕ) (f : Form) → ReadAsVariable (record { at = at; form = f }) (as_variable (record { at = at; form = f })) ⊎ Stays (record { at = at; form = f })
 variable_found at (form.Int n) = inr (stays at (form.Int n) (λ name e. cc) (λ a k e. cc) refl)
 variable_found at (form.Str name) = inl (base name refl refl refl)

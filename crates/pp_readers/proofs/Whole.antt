@@ -18,6 +18,7 @@ use Rattle.pp_readers.proofs.Operands.{primary_found}
 use Rattle.pp_readers.proofs.Solid.{lead, grows, primary_lead, begun_some, LevelOf, level_begun, expr_begun}
 
 module _ (dq_found : (raw v : List ℕ) → dq raw ≡ Some v → DqOf v raw) (e : List Lexeme → Found Expr) (E : Expr → List Lexeme → Type 0) (finds : Finds e E) (never : Spells E) where
+  -- what is read as an operand with indexes and selections is spelled so
   pub postfix_found : Finds (postfix_with e) (PostfixOf E)
   unfolding postfix_with
   postfix_found ts x h =
@@ -32,6 +33,7 @@ module _ (dq_found : (raw v : List ℕ) → dq raw ≡ Some v → DqOf v raw) (e
         whole = whole;
       }
 
+  -- prefixes and an operand behind them are an operand with prefixes, or the operand alone
   unary_by : (ops : List Op) (y : Expr) (ts mid rest : List Lexeme) → Begins (Prefixes ops) ts mid → Begins (PostfixOf E y) mid rest → Begins (UnaryOf E (prefixed (first_at ts) ops y)) ts rest
   unfolding joins
   unary_by [] y ts mid rest p b = record { front = b.front; spelled = grammar.UnaryOf.operand b.spelled; whole = p.whole ∙ ap (λ r. r ++ mid) p.spelled ∙ b.whole }
@@ -43,6 +45,7 @@ module _ (dq_found : (raw v : List ℕ) → dq raw ≡ Some v → DqOf v raw) (e
         whole = both.whole;
       }
 
+  -- what is read as an operand with prefixes is spelled so
   pub unary_found : Finds (unary_with e) (UnaryOf E)
   unfolding unary_with
   unary_found ts x h =
@@ -50,10 +53,12 @@ module _ (dq_found : (raw v : List ℕ) → dq raw ≡ Some v → DqOf v raw) (e
       let same : ◌≡◌ {A = Expr × List Lexeme} (prefixed (first_at ts) (prefixes ts).0 a.0.0, a.0.1) x = cc in
       subst (λ (y : Expr × List Lexeme). Begins (UnaryOf E y.0) ts y.1) same (unary_by (prefixes ts).0 a.0.0 ts (prefixes ts).1 a.0.1 (prefixes_found ts) (postfix_found (prefixes ts).1 a.0 a.1))
 
+  -- what is read by the rule of each level is spelled so
   pub levels_found : (n : ℕ) → Finds (levels_with e n) (LevelOf E n)
   levels_found zero ts x h = unary_found ts x h
   levels_found (suc n) ts x h = chain_found (6 - n) (levels_with e n) (LevelOf E n) (levels_found n) (λ y s. begun_some [] (level_begun E n y [] s) refl) ts x h
 
+-- what is read as an expression is spelled so, with brackets nested less deep than this
 pub expr_found : ((raw v : List ℕ) → dq raw ≡ Some v → DqOf v raw) → (depth : ℕ) → Finds (expr_at depth) (IsExprAt depth)
 expr_found dq_found zero ts x h = cc
 expr_found dq_found (suc depth) ts x h = levels_found dq_found (expr_at depth) (IsExprAt depth) (expr_found dq_found depth) (λ y s. begun_some [] (expr_begun depth y [] s) refl) 7 ts x h

@@ -17,9 +17,11 @@ use Rattle.pp_syntax.proofs.Gaps.{gap_takes, gap_reads, gap_no_token}
 
 -- ---- comments
 
+-- where the test finds no comment, none begins
 opens_not : (text : List ℕ) → opens_comment text ≡ false → NoComment text
 opens_not text h rest e = both_ways (opens_comment text) h (ap opens_comment e)
 
+-- and where none begins, the test finds none
 no_comment : (text : List ℕ) → NoComment text → opens_comment text ≡ false
 no_comment [] n = refl
 no_comment (b ∷ []) n = refl
@@ -34,6 +36,7 @@ no_comment (b ∷ c ∷ rest) n = elim ((b == 47) && (c == 42)) as (λ v. ((b ==
 
 -- ---- one token, longest
 
+-- what is found, within quotes or outside, fits there
 found_takes : (q : Bool) (text : List ℕ) (x : Kind × List ℕ) → found_at q text ≡ Some x → Takes (λ s. Fits q x.0 s x.1) text x.1
 found_takes true text x h = quoted_takes text x h
 found_takes false text x h = elim (opens_comment text) as (λ v. opens_comment text ≡ v → cond v None (code_token text) ≡ Some x → Takes (λ s. Fits false x.0 s x.1) text x.1) [
@@ -43,10 +46,12 @@ found_takes false text x h = elim (opens_comment text) as (λ v. opens_comment t
       record { front = t.front; spelled = (t.spelled, subst (λ (u : List ℕ). NoComment u) t.whole (opens_not text e)); whole = t.whole }
 ] refl h
 
+-- what fits there is found, or something longer
 found_goes : (q : Bool) (k : Kind) (s r : List ℕ) → Fits q k s r → Goes k r (found_at q (s ++ r))
 found_goes true k s r h = quoted_goes k s r h
 found_goes false k s r h = let g = code_goes k s r h.0 in (g.0, ap (λ v. cond v None (code_token (s ++ r))) (no_comment (s ++ r) h.1) ∙ g.1, g.2)
 
+-- what is found leaves no more than a fitting spelling does
 goes_below : (q : Bool) (j k : Kind) (b rest : List ℕ) (found : Found) → Goes j b found → found ≡ Some (k, rest) → length rest ≤ length b
 goes_below q j k b rest found (x, e, far) f =
     let same : ◌≡◌ {A = Kind × List ℕ} x (k, rest) = cc in
@@ -55,6 +60,7 @@ goes_below q j k b rest found (x, e, far) f =
       | inr h ↦ omega (arith, ap (λ (y : Kind × List ℕ). length y.1) same, ap (λ (y : Kind × List ℕ). length y.1) h)
     ]
 
+-- what is found is the longest that fits
 pub found_longest : (q : Bool) (text : List ℕ) (k : Kind) (rest : List ℕ) → found_at q text ≡ Some (k, rest) → Takes (λ s. IsLongest q k s rest) text rest
 found_longest q text k rest h =
     let t = found_takes q text (k, rest) h in
@@ -70,6 +76,7 @@ found_longest q text k rest h =
       whole = t.whole;
     }
 
+-- and the longest that fits is found
 pub longest_found : (q : Bool) (k : Kind) (s r : List ℕ) → IsLongest q k s r → found_at q (s ++ r) ≡ Some (k, r)
 longest_found q k s r h =
     let g = found_goes q k s r h.fits in
@@ -83,14 +90,17 @@ longest_found q k s r h =
 
 -- ---- numbers
 
+-- where the test passes, no letter, digit or `_` stands first
 no_name_is : (rest : List ℕ) → no_name_first rest ≡ true → NoNameFirst rest
 no_name_is [] h = tt
 no_name_is (b ∷ rest) h = not-true (is_name b) h
 
+-- and where none does, the test passes
 no_name_test : (rest : List ℕ) → NoNameFirst rest → no_name_first rest ≡ true
 no_name_test [] h = refl
 no_name_test (b ∷ rest) h = not_from_false (is_name b) h
 
+-- where the test passes, a number may stand there
 stands_is : (k : Kind) (s rest : List ℕ) → number_stands k s rest ≡ true → NumberStands k s rest
 stands_is kind.Int s rest h = let p = and_parts (nat_lt (int_value s) (2 ^ 63)) (no_name_first rest) h in (ltb-true (int_value s) (2 ^ 63) p.0, no_name_is rest p.1)
 stands_is kind.Float s rest h = no_name_is rest h
@@ -110,6 +120,7 @@ stands_is kind.Keyword s rest h = tt
 stands_is kind.Sign s rest h = tt
 stands_is kind.LeftOut s rest h = tt
 
+-- and where it may, the test passes
 stands_test : (k : Kind) (s rest : List ℕ) → NumberStands k s rest → number_stands k s rest ≡ true
 stands_test kind.Int s rest h = and_from (nat_lt (int_value s) (2 ^ 63)) (no_name_first rest) (lt-ltb (int_value s) (2 ^ 63) h.0) (no_name_test rest h.1)
 stands_test kind.Float s rest h = no_name_test rest h
@@ -131,6 +142,7 @@ stands_test kind.LeftOut s rest h = refl
 
 -- ---- at a place
 
+-- what is found and passes the test of numbers is the token at that place
 checked_takes : (p : Place) (text : List ℕ) (k : Kind) (rest : List ℕ) (j : Kind) (r : List ℕ) → found_at (in_quotes p.opened) text ≡ Some (j, r) → checked p text (Some (j, r)) ≡ Some (k, rest) → Takes (λ s. TokenAt p k s rest) text rest
 checked_takes p text k rest j r h e =
     let t = found_longest (in_quotes p.opened) text j r h in
@@ -149,6 +161,7 @@ checked_takes p text k rest j r h e =
       whole = t.whole;
     })
 
+-- what is read at a place is the token there
 pub token_takes : (p : Place) (text : List ℕ) (k : Kind) (rest : List ℕ) → token_at p text ≡ Some (k, rest) → Takes (λ s. TokenAt p k s rest) text rest
 unfolding token_at
 token_takes p text k rest h = elim (found_at (in_quotes p.opened) text) as (λ f. found_at (in_quotes p.opened) text ≡ f → checked p text f ≡ Some (k, rest) → Takes (λ s. TokenAt p k s rest) text rest) [
@@ -156,6 +169,7 @@ token_takes p text k rest h = elim (found_at (in_quotes p.opened) text) as (λ f
   | Some x ↦ λ e g. checked_takes p text k rest x.0 x.1 e g
 ] refl h
 
+-- and the token there is read
 pub token_reads : (p : Place) (k : Kind) (s rest : List ℕ) → TokenAt p k s rest → token_at p (s ++ rest) ≡ Some (k, rest)
 unfolding token_at
 token_reads p k s rest h =
@@ -165,12 +179,14 @@ token_reads p k s rest h =
     ∙ ap (λ v. cond v (Some (kind_at p h.spelled s, rest)) None) (stands_test h.spelled s rest h.number)
     ∙ ap (λ (j : Kind). Some (j, rest)) (sym h.kind_is)
 
+-- what is passed at a place is a gap there
 pub gap_at_takes : (p : Place) (text rest : List ℕ) → gap_at p text ≡ Some rest → Takes (λ s. GapAt p s rest) text rest
 gap_at_takes p text rest h = elim (in_quotes p.opened) as (λ v. in_quotes p.opened ≡ v → cond v None (gap_of text) ≡ Some rest → Takes (λ s. GapAt p s rest) text rest) [
   | true ↦ λ e k. cc
   | false ↦ λ e k. let t = gap_takes text rest k in record { front = t.front; spelled = (e, t.spelled); whole = t.whole }
 ] refl h
 
+-- and a gap there is passed
 pub gap_at_reads : (p : Place) (s rest : List ℕ) → GapAt p s rest → gap_at p (s ++ rest) ≡ Some rest
 gap_at_reads p s rest h = ap (λ v. cond v None (gap_of (s ++ rest))) h.0 ∙ gap_reads s rest h.1
 

@@ -12,27 +12,33 @@ pub record Takes (A : List ℕ → Type 0) (text rest : List ℕ) : Type 0 where
   pub spelled : A front
   pub whole : text ≡ front ++ rest
 
+-- where two steps find something, the first found something and the second went on from it
 pub bind_some : {A B : Type 0} (r : Option A) (f : A → Option B) (y : B) → (r >>= f) ≡ Some y → (x : A) × (r ≡ Some x) × (f x ≡ Some y)
 bind_some (Some x) f y e = (x, refl, e)
 bind_some None f y e = cc
 
+-- what a text has before its rest is its front
 pub front_is : (text front rest : List ℕ) → text ≡ front ++ rest → front_of text rest ≡ front
 front_is text front rest whole =
     let size : length (front ++ rest) - length rest ≡ length front = omega (arith, length-append front rest) in
     ap (λ t. front_of t rest) whole ∙ ap (λ n. take n (front ++ rest)) size ∙ take-append_seam front rest
 
+-- one step of taking all bytes of a set takes bytes of it
 all_step : (test : ℕ → Bool) (b : ℕ) (text : List ℕ) (v : Bool) → test b ≡ v → Takes (Of test) text (after_all test text) → Takes (Of test) (b ∷ text) (cond v (after_all test text) (b ∷ text))
 all_step test b text true e more = record { front = b ∷ more.front; spelled = (e, more.spelled); whole = ap (λ t. b ∷ t) more.whole }
 all_step test b text false e more = record { front = []; spelled = tt; whole = refl }
 
+-- what is taken as all bytes of a set are bytes of it
 pub all_takes : (test : ℕ → Bool) (text : List ℕ) → Takes (Of test) text (after_all test text)
 all_takes test [] = record { front = []; spelled = tt; whole = refl }
 all_takes test (b ∷ text) = all_step test b text (test b) refl (all_takes test text)
 
+-- what is found under a condition is so, and the condition holds
 pub cond_some : {A : Type 0} (v : Bool) (x y : A) → cond v (Some x) None ≡ Some y → (v ≡ true) × (x ≡ y)
 cond_some true x y h = (refl, cc)
 cond_some false x y h = cc
 
+-- what is taken leaves no more than there was
 pub takes_short : (A : List ℕ → Type 0) (text rest : List ℕ) → Takes A text rest → length rest ≤ length text
 takes_short A text rest t = omega (arith, ap length t.whole, length-append t.front rest)
 
@@ -42,10 +48,12 @@ takes_short A text rest t = omega (arith, ap length t.whole, length-append t.fro
 abbrev pub Leaves : List ℕ → List ℕ → Type 0
 Leaves r rest = (length rest < length r) ⊎ (rest ≡ r)
 
+-- a rest behind any front leaves no more
 pub leaves_by : (front r rest : List ℕ) → r ≡ front ++ rest → Leaves r rest
 leaves_by [] r rest e = inr (sym e)
 leaves_by (b ∷ front) r rest e = inl (omega (arith, ap length e, length-append front rest))
 
+-- so does a rest behind what was taken
 pub takes_leaves : (A : List ℕ → Type 0) (r rest : List ℕ) → Takes A r rest → Leaves r rest
 takes_leaves A r rest t = leaves_by t.front r rest t.whole
 
@@ -53,23 +61,29 @@ takes_leaves A r rest t = leaves_by t.front r rest t.whole
 abbrev pub Goes : Kind → List ℕ → Found → Type 0
 Goes k r found = (x : Kind × List ℕ) × (found ≡ Some x) × ((length x.1 < length r) ⊎ (x ≡ (k, r)))
 
+-- where a token of a kind leaves less than this or just this, it goes further or is the one before it
 leaves_goes : (k : Kind) (r rest : List ℕ) → Leaves r rest → (length rest < length r) ⊎ (◌≡◌ {A = Kind × List ℕ} (k, rest) (k, r))
 leaves_goes k r rest (inl h) = inl h
 leaves_goes k r rest (inr e) = inr (ap (λ (t : List ℕ). (k, t)) e)
 
+-- a token of the kind that leaves no more than this rest goes so far
 pub goes_by : (k : Kind) (r rest : List ℕ) (found : Found) → found ≡ Some (k, rest) → Leaves r rest → Goes k r found
 goes_by k r rest found e h = ((k, rest), e, leaves_goes k r rest h)
 
+-- a token of any kind that leaves less goes further
 pub goes_far : (j k : Kind) (r rest : List ℕ) (found : Found) → found ≡ Some (j, rest) → length rest < length r → Goes k r found
 goes_far j k r rest found e h = ((j, rest), e, inl h)
 
+-- what is found alike goes as far
 pub goes_along : (k : Kind) (r : List ℕ) (found other : Found) → found ≡ other → Goes k r other → Goes k r found
 goes_along k r found other e g = (g.0, e ∙ g.1, g.2)
 
+-- reading all bytes of a set goes past a text over it
 pub all_append : (test : ℕ → Bool) (xs r : List ℕ) → Of test xs → after_all test (xs ++ r) ≡ after_all test r
 all_append test [] r h = refl
 all_append test (x ∷ xs) r h = ap (λ v. cond v (after_all test (xs ++ r)) (x ∷ xs ++ r)) h.0 ∙ all_append test xs r h.1
 
+-- what leaves no more than what leaves no more than this leaves no more than this
 pub leaves_along : (r mid rest : List ℕ) → Leaves r mid → Leaves mid rest → Leaves r rest
 leaves_along r mid rest (inl a) (inl b) = inl (omega arith)
 leaves_along r mid rest (inl a) (inr e) = inl (omega (arith, ap length e))

@@ -3,6 +3,7 @@ use Rattle.std.proofs.Common.{◌≡◌, ℕ, ◌+◌, ◌*◌, ◌/◌, ◌%◌
 use Rattle.std.proofs.Math.Nat.{add-mul-mod_self_left, add-mod-mod, mod-eq_of_lt, add-mul, mul_assoc, mul_comm, mul_left_comm}
 use Rattle.pp_value.specs.Hashes.{modulus, base, next_hash, hash_from, power_from}
 
+-- what is reduced is below the modulus
 pub below : (n : ℕ) → n % modulus < modulus
 below n = mod-lt n (lit≤ tt)
 
@@ -29,5 +30,6 @@ goes_from h p s front [] is = is
 goes_from h p s front (c ∷ text) is =
     goes_from (next_hash h c) (p * base % modulus) (next_hash s c) front text (ap (λ n. (n * base + c) % modulus) is ∙ sym (one_more front p s base c modulus))
 
+-- the hash of a text behind another is that one's, grown by the text's length, and the hash of the text
 pub goes : (front : ℕ) (text : List ℕ) → front < modulus → hash_from front text ≡ (front * power_from 1 text + hash_from 0 text) % modulus
 goes front text less = goes_from front 1 0 front text (sym (mod-eq_of_lt less) ∙ ap (λ n. n % modulus) (omega arith))

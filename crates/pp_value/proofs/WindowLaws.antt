@@ -16,12 +16,15 @@ pub record Window (part rest ahead : List ℕ) (front end : ℕ) : Type 0 where
   pub size : length window ≡ length part
   pub hash : end ≡ hash_from front window
 
+-- equal texts begin with the same byte
 heads : (c w : ℕ) (xs ys : List ℕ) → (c ∷ xs) ≡ w ∷ ys → c ≡ w
 heads c w xs ys e = cc
 
+-- and have the same rest
 tails : (c w : ℕ) (xs ys : List ℕ) → (c ∷ xs) ≡ w ∷ ys → xs ≡ ys
 tails c w xs ys e = cc
 
+-- the front of a text that is as long as the part is the first window
 pub first_window : (part text window after : List ℕ) → IsSplitAt text (length part) window after → Window (lowered part) (lowered text) (lowered after) 0 (hash_from 0 (lowered window))
 first_window part text window after cut = record {
   window = lowered window;
@@ -33,10 +36,12 @@ first_window part text window after cut = record {
     whole : text ≡ window ++ after
     whole = sym (take-append-drop (length part) text) ∙ (λ i. sym cut.1 i ++ sym cut.2 i)
 
+-- the hash goes on by the last byte
 hash_goes_on : (front d : ℕ) (xs : List ℕ) → hash_from front (xs ++ d ∷ []) ≡ next_hash (hash_from front xs) d
 hash_goes_on front d [] = refl
 hash_goes_on front d (x ∷ xs) = hash_goes_on (next_hash front x) d xs
 
+-- a window moves on by one byte on either side
 moved : (part : List ℕ) (c d : ℕ) (more beyond : List ℕ) (front end : ℕ) (window : List ℕ) → (c ∷ more) ≡ window ++ d ∷ beyond → length window ≡ length part → end ≡ hash_from front window → Window part more beyond (next_hash front c) (next_hash end d)
 moved part c d more beyond front end [] whole size hash = record {
   window = [];
@@ -51,6 +56,7 @@ moved part c d more beyond front end (w ∷ ws) whole size hash = record {
   hash = ap (λ h. next_hash h d) (hash ∙ ap (λ b. hash_from (next_hash front b) ws) (sym (heads c w more (ws ++ d ∷ beyond) whole))) ∙ sym (hash_goes_on (next_hash front c) d ws);
 }
 
+-- one byte further there is a window again
 next_window : (part : List ℕ) (c d : ℕ) (more beyond : List ℕ) (front end : ℕ) → Window part (c ∷ more) (d ∷ beyond) front end → Window part more beyond (next_hash front c) (next_hash end d)
 next_window part c d more beyond front end w = moved part c d more beyond front end w.window w.whole w.size w.hash
 
@@ -67,6 +73,7 @@ pub ahead_is_left : (part rest ahead : List ℕ) (front end : ℕ) → Window (l
 ahead_is_left part rest ahead front end w =
     omega (arith, ap length w.whole, length-append w.window (lowered ahead), length-map rest to_ascii_lowercase, length-map ahead to_ascii_lowercase)
 
+-- two fronts of one text that are as long as one another are equal
 same_front : (xs ys xs_more ys_more : List ℕ) → xs ++ xs_more ≡ ys ++ ys_more → length xs ≡ length ys → xs ≡ ys
 same_front [] [] xm ym e l = refl
 same_front [] (y ∷ ys) xm ym e l = cc
@@ -85,6 +92,7 @@ other_hash part rest ahead front end w less other = so (begins part rest) refl
         let same : (front * power_from 1 part + hash_from 0 part) % modulus ≡ end = sym (goes front part less) ∙ ap (hash_from front) is ∙ sym w.hash in
         cc ((Decides-eqb ((front * power_from 1 part + hash_from 0 part) % modulus) end).1 same, other)
 
+-- a text doesn't begin with a longer one
 too_short : (part text : List ℕ) → length text < length part → begins part text ≡ false
 too_short [] text less = absurd (omega (arith, less))
 too_short (x ∷ part) [] less = refl
@@ -108,12 +116,14 @@ as_long part (c ∷ text) same = (λ i. begins part (c ∷ text) || shorter part
     left true = refl
     left false = refl
 
+-- where nothing is ahead, the part is in the rest exactly where it stands in front
 pub at_end : (part rest ahead : List ℕ) (front end : ℕ) → length ahead ≡ 0 → Window (lowered part) (lowered rest) (lowered ahead) front end → begins (lowered part) (lowered rest) ≡ is_part (lowered part) (lowered rest)
 at_end part rest ahead front end none w = sym (as_long (lowered part) (lowered rest) same)
   where
     same : length (lowered rest) ≡ length (lowered part)
     same = omega (arith, none, ap length w.whole, length-append w.window (lowered ahead), w.size, length-map ahead to_ascii_lowercase)
 
+-- a part isn't in a shorter text, ASCII case aside
 pub in_shorter : (part text : List ℕ) → length text < length part → is_part (lowered part) (lowered text) ≡ false
 in_shorter part text less = shorter (lowered part) (lowered text) (omega (arith, less, length-map part to_ascii_lowercase, length-map text to_ascii_lowercase))
 

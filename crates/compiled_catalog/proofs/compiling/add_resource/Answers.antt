@@ -1,3 +1,4 @@
+-- That one resource more is added to the catalog, or refused.
 use Rattle.std.proofs.Common.{◌≡◌, ap, sym, subst, ◌∙◌}
 use Rattle.pp_eval.specs.Verdicts.{Refuses}
 use Rattle.catalog.specs.Adding.{with_added}
@@ -8,10 +9,12 @@ use Rattle.compiled_catalog.proofs.compiling.add_resource.Goals.{In_ok-resource}
 use Rattle.compiled_catalog.proofs.compiling.add_resource.Goals as goal
 
 module _ (c : In_ok-resource) where
+  -- adding the resource is adding the one that is due at its place
   as_one :
       with_added c.args.limits c.in_ok-resource.resource c.args.catalog.now ≡ with_added c.args.limits (resource_at c.args.compiled.now c.args.place c.args.r.now c.in_ok-attributes.attributes) c.args.catalog.now
   as_one = ap (λ x. with_added c.args.limits x c.args.catalog.now) c.in_ok-resource.ensures
 
+  -- and that is what is due of the catalog with one more
   answered : with_added c.args.limits c.in_ok-resource.resource c.args.catalog.now ≡ catalog_with (with_one c.args.compiled.now c.args.catalog.now.resources c.args.r.now)
   answered =
       as_one

@@ -1,3 +1,4 @@
+-- That the catalog has all resources one after another, or is refused.
 use Rattle.std.proofs.Common.{◌≡◌, List, Some, slice_get, subst}
 use Rattle.compiled_text.specs.declared.catalog.CompiledResource.{CompiledResource}
 use Rattle.compiled_catalog.proofs.Growing.{there, goes_on, ends}
@@ -5,6 +6,7 @@ use Rattle.compiled_catalog.proofs.compiling.add_resources.Goals.{After-add_reso
 use Rattle.compiled_catalog.proofs.compiling.add_resources.Goals as goal
 
 module _ (c : After-add_resource) where
+  -- the resource at the place of the loop stands there
   stands : slice_get c.args.compiled.now.resources c.loop-place.place ≡ Some c.index-resources-place.result
   stands =
       subst (λ (rs : List CompiledResource). slice_get rs c.loop-place.place ≡ Some c.index-resources-place.result) c.resources-resources.ensures.resources

@@ -1,3 +1,4 @@
+-- That the programs of native resources are made one after another.
 use Rattle.std.proofs.Common.{◌∷◌, ◌+◌, [], List, Result, drop, map, subst, arith}
 use Rattle.rh_base.specs.declared.fault.Refusal.{Refusal}
 use Rattle.fs_semantics.specs.Programs.{Program}
@@ -18,6 +19,7 @@ module _ (c : After-push_program) where
   abbrev whole : Result (List Program) Refusal
   whole = programs_behind (setting_of c.args.host.now) c.args.edits.now [] (natives_at c.args.host.now.catalog.now.resources c.args.catalog.now.resources c.args.plain.now)
 
+  -- with the resource of this turn in front, those behind it are left
   left : AreMade (setting_of c.args.host.now) c.args.edits.now c.loop-place.places (map program_of c.loop-place.made) (native_of c.native_at-n.result ∷ rest) whole
   left =
       subst (λ ns. AreMade (setting_of c.args.host.now) c.args.edits.now c.loop-place.places (map program_of c.loop-place.made) ns whole)

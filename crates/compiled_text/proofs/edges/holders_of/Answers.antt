@@ -1,3 +1,4 @@
+-- That the containers of resources are noted edge by edge.
 use Rattle.std.proofs.Common.{◌∙◌, sym}
 use Rattle.compiled_text.specs.declared.catalog.Containment.{Containment}
 use Rattle.compiled_text.proofs.HolderLaws.{class_next, slot_next, edge_next}

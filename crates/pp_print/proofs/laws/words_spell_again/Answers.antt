@@ -1,3 +1,4 @@
+-- That the words of manifests, expressions and types spell them again.
 use Rattle.std.proofs.Common.{◌++◌, ℕ, List}
 use Rattle.pp_syntax.specs.Tokens.{Lexeme}
 use Rattle.pp_syntax.specs.Spelling.{Spells}
@@ -8,6 +9,7 @@ use Rattle.pp_print.proofs.TypeLaws.{type_reads}
 use Rattle.pp_print.proofs.ItemLaws.{manifest_reads}
 use Rattle.pp_print.proofs.laws.words_spell_again.Goals as goal
 
+-- tokens in the middle of a text's tokens stand as their kinds say
 part_stands : (text : List ℕ) (before ts behind : List Lexeme) → Spells text (before ++ (ts ++ behind)) → AllStand ts
 part_stands text before ts behind h = (both_stand ts behind (both_stand before (ts ++ behind) (spelled_stand text (before ++ (ts ++ behind)) h)).1).0
 

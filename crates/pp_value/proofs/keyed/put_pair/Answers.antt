@@ -1,3 +1,4 @@
+-- That a new key goes last among pairs and places.
 use Rattle.std.proofs.Common.{◌≡◌, ℕ, ap, sym, ◌∙◌, List, [], ◌∷◌, ◌++◌, length, None, Result, Ok, Err, OnOk}
 use Rattle.rh_base.specs.declared.text.NoMemory.{NoMemory}
 use Rattle.pp_value.specs.Keys.{place_among, places_of, with_pair}
@@ -17,10 +18,12 @@ pub returns-in-Some-clause-places_ok : goal.returns-in-Some-clause-places_ok
 returns-in-Some-clause-places_ok g c = c.requires ∙ (sym (places_written 0 c.in-Some.place c.args.item c.args.pairs.now.items) ∙ ap (places_of 0) (sym c.set_item.ensures))
 
 module _ {X : Type 0} (key : List ℕ) (x : X) (pairs new : List (List ℕ × X)) (places after : List (List ℕ × ℕ)) (same : places ≡ places_of 0 pairs) (none : place_among key places ≡ None) where
+  -- the pair that goes last is that of a new key
   pairs_put : (r : Result (Unit {0}) NoMemory) → OnOk r (new ≡ pairs ++ (key, x) ∷ []) → OnOk r (new ≡ with_pair key x pairs)
   pairs_put (Ok done) h = h ∙ sym (new_last key x pairs (none_found key pairs places same none))
   pairs_put (Err m) h = tt
 
+  -- the place that goes last is that of the new key
   places_put : (r : Result (Unit {0}) NoMemory) → OnOk r (new ≡ pairs ++ (key, x) ∷ []) → OnOk r (after ≡ places ++ (key, length pairs) ∷ []) → OnOk r (after ≡ places_of 0 new)
   places_put (Ok done) h k = k ∙ (put_last key x pairs places same none ∙ ap (places_of 0) (sym h))
   places_put (Err m) h k = tt

@@ -1,3 +1,4 @@
+-- That a value fits a type as the definition says.
 use Rattle.std.proofs.Common.{◌≡◌, Bool, Option, Some, ◌∙◌, sym}
 use Rattle.std.specs.List.{list_all}
 use Rattle.pp_syntax.specs.declared.tree.TypeName.{TypeName}
@@ -8,6 +9,7 @@ use Rattle.pp_value.specs.Types.{is_fit}
 use Rattle.pp_value.specs.Levels.{is_fit_array}
 use Rattle.pp_value.proofs.types.+fits.Goals as goal
 
+-- what is told of the members of a list is what the array's type asks for
 array_made : (r : Bool) (read other : TypeName) (member : Option TypeName) (kind : TypeName) (x : Value) → r ≡ on_list (list_all (is_fit read)) x → read ≡ other → member ≡ Some other → kind ≡ t.Array member → r ≡ is_fit kind x
 array_made r read other member kind x h is_read is_member is_kind =
     h ∙ ((λ i. on_list (list_all (is_fit (is_read i))) x) ∙ (sym (is_fit_array other x) ∙ ((λ i. is_fit (t.Array (sym is_member i)) x) ∙ (λ i. is_fit (sym is_kind i) x))))

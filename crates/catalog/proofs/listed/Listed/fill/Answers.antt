@@ -1,3 +1,4 @@
+-- That defaults are filled in, where there is room for them, and what stands beside the list stays right.
 use Rattle.std.proofs.Common.{◌≡◌, ◌+◌, ◌<◌, ◌≤◌, filter, List, Ok, ap, sym, ◌∙◌, subst, arith}
 use Rattle.std.proofs.Common.{Some, get_or}
 use Rattle.std.specs.Prelude.{slice_get}
@@ -23,9 +24,11 @@ returns-then-size-gt-ATTRIBUTES_SIZE-clause-answers c =
     refused_with _ _ (filled_large c.args.place c.args.pairs.now c.args.self.now c.index-r.result.now at (omega arith)) c.refusal.result c.refusal.ensures
 
 module _ (c : goal.After-self-1) where
+  -- the new size isn't over the limit
   small : c.saturating_add-size.result ≤ attributes_limit
   small = let over = c.if-size-gt-ATTRIBUTES_SIZE.false in omega arith
 
+  -- the new size is the old one and that of the defaults that were lacked
   sum : c.saturating_add-size.result ≡ c.self.inside.size + size_of_attributes (filter (lacks c.index-r.result.now.attrs) c.args.pairs.now)
   sum =
       let same : size_of_attributes (filter (lacks c.index-r.result.now.attrs) c.as_slice.result.now) ≡ size_of_attributes (filter (lacks c.index-r.result.now.attrs) c.args.pairs.now) =
@@ -33,9 +36,11 @@ module _ (c : goal.After-self-1) where
       let total = sum_is c.self.inside.size (size_of_attributes (filter (lacks c.index-r.result.now.attrs) c.as_slice.result.now)) c.size_of_lacking.result c.saturating_add-size.result c.size_of_lacking.ensures c.saturating_add-size.ensures small in
       omega arith
 
+  -- the resource stands at the place
   at : slice_get c.args.self.now c.args.place ≡ Some c.index-r.result.now
   at = there c.args.self.now c.args.place c.index-r.result.now (c.index-r.ensures ∙ ap (λ (rs : List Resource). get_or rs c.args.place c.index-r.result.now) c.self.view_is) c.requires
 
+  -- the one at the place has its defaults now
   changed : c.set_attributes.new.resources.items ≡ changed_at c.args.place (given c.args.pairs.now) c.args.self.now
   changed =
       c.set_attributes.ensures
@@ -43,6 +48,7 @@ module _ (c : goal.After-self-1) where
       ∙ changed_same c.args.place (λ r. record r { attrs = c.in_ok-attributes.attributes }) (given c.args.pairs.now) c.args.self.now c.index-r.result.now at
       (ap (λ (more : List Pair). record c.index-r.result.now { attrs = more }) c.in_ok-attributes.ensures))
 
+  -- what stood beside the list was right
   listed : IsListed c.self.inside.refs c.self.inside.size c.args.self.now
   listed = subst (IsListed c.self.inside.refs c.self.inside.size) c.self.view_is c.self.invariant
 
