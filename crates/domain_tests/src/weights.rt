@@ -3,10 +3,10 @@
 use crate::words::programs;
 use fs_lang::{Path, Program};
 use rh_base::Seq;
+use size_limits::weight;
 use std::alloc::Global;
 use std::process::Abort;
 use std::test::Fail;
-use verdict::weight;
 
 fn weight_of(rt: &impl Abort, alloc: Global, words: &str) -> u64 {
     let all = programs(rt, alloc, words);

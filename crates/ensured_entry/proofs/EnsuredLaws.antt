@@ -10,16 +10,16 @@ use Rattle.cnf.specs.declared.log.Log.{Log}
 use Rattle.proof_check.specs.Refuted.{Refutation}
 use Rattle.order_encode.specs.declared.witness.Witness.{Witness}
 use Rattle.order_encode.specs.declared.witness.Witness.TheVariants as witness
-use Rattle.judgement.specs.First.{IsProof, IsAlone, IfProved}
+use Rattle.determinism.specs.First.{IsProof, IsAlone, IfProved}
 use Rattle.answering.specs.Answers.{UsesUp}
-use Rattle.judgement.specs.Answers.{IsJudged}
-use Rattle.judgement.specs.declared.first.First.TheVariants as first
-use Rattle.judgement.specs.declared.first.Sure.{Sure}
-use Rattle.judgement.specs.declared.first.Sure.TheVariants as sure
-use Rattle.full_verdict.specs.declared.verdicts.Ends.{Ends}
-use Rattle.full_verdict.specs.declared.verdicts.Ends.TheVariants as ends
-use Rattle.full_verdict.specs.Questions.{StatesEnd, IsEndProof, IsEnd}
-use Rattle.full_verdict.specs.Verdicts.{IsByPruning, IfByProof}
+use Rattle.determinism.specs.Answers.{IsJudged}
+use Rattle.determinism.specs.declared.first.First.TheVariants as first
+use Rattle.determinism.specs.declared.first.Sure.{Sure}
+use Rattle.determinism.specs.declared.first.Sure.TheVariants as sure
+use Rattle.verdict.specs.declared.verdicts.Ends.{Ends}
+use Rattle.verdict.specs.declared.verdicts.Ends.TheVariants as ends
+use Rattle.verdict.specs.Questions.{StatesEnd, IsEndProof, IsEnd}
+use Rattle.verdict.specs.Verdicts.{IsByPruning, IfByProof}
 use Rattle.wanted_entry.specs.declared.wanted.Wanted.{Wanted}
 use Rattle.wanted_entry.specs.Entries.{Ensures}
 use Rattle.ensured_entry.specs.declared.ensured.Late.{Late}

@@ -10,7 +10,7 @@ use Rattle.fs_semantics.specs.Programs.{Program}
 use Rattle.fs_lang.specs.Meaning.{program_of, programs_in}
 use Rattle.fs_lang.specs.declared.program.Program as code
 use Rattle.fs_interpreter.specs.Places.{Listed, CoversSteps}
-use Rattle.verdict.specs.Limits.{HasPaths, HasFewPaths, IsTooLarge}
+use Rattle.size_limits.specs.Limits.{HasPaths, HasFewPaths, IsTooLarge}
 use Rattle.wanted_entry.specs.declared.wanted.Wanted.{Wanted}
 use Rattle.wanted_entry.specs.Entries.{probe_of}
 use Rattle.ensured_entry.specs.Sizes.{IsProbed, IsTooWide, IsTooLargeWith}

@@ -7,15 +7,15 @@ use Rattle.commute_prune.specs.Keeping.{Keeps}
 use Rattle.cnf.specs.Formulas.{Formula}
 use Rattle.cnf.specs.declared.log.Step.{Step}
 use Rattle.order_encode.specs.declared.witness.Witness.{Witness}
-use Rattle.judgement.specs.First as order_question
-use Rattle.judgement.specs.First.{IsPrunedCount, IsProof, IsSpent, IsDifference, IfDiffers, IfSpent}
+use Rattle.determinism.specs.First as order_question
+use Rattle.determinism.specs.First.{IsPrunedCount, IsProof, IsSpent, IsDifference, IfDiffers, IfSpent}
 use Rattle.answering.specs.Answers.{UsesUp}
-use Rattle.judgement.specs.declared.first.Sure.{Sure}
-use Rattle.judgement.specs.declared.first.First.{First}
-use Rattle.judgement.specs.declared.first.First.TheVariants as first
-use Rattle.full_verdict.specs.declared.verdicts.Ends.TheVariants as ends
-use Rattle.full_verdict.specs.Questions.{StatesEnd, IsEndProof, IsEnd}
-use Rattle.full_verdict.specs.Verdicts.{IsByPruning, IfByProof}
+use Rattle.determinism.specs.declared.first.Sure.{Sure}
+use Rattle.determinism.specs.declared.first.First.{First}
+use Rattle.determinism.specs.declared.first.First.TheVariants as first
+use Rattle.verdict.specs.declared.verdicts.Ends.TheVariants as ends
+use Rattle.verdict.specs.Questions.{StatesEnd, IsEndProof, IsEnd}
+use Rattle.verdict.specs.Verdicts.{IsByPruning, IfByProof}
 use Rattle.wanted_entry.specs.declared.wanted.Wanted.{Wanted}
 use Rattle.wanted_entry.specs.Entries.{Ensures}
 use Rattle.ensured_entry.specs.declared.ensured.Late.{Late}

@@ -5,7 +5,7 @@ use Rattle.rh_base.specs.Refused.{IsRefusal}
 use Rattle.fs_semantics.specs.Programs.{Program}
 use Rattle.fs_lang.specs.Meaning.{program_of}
 use Rattle.fs_lang.specs.declared.program.Program as code
-use Rattle.verdict.specs.Limits.{HasFewPaths, HasManyPaths, IsHeavy}
+use Rattle.size_limits.specs.Limits.{HasFewPaths, HasManyPaths, IsHeavy}
 use Rattle.wanted_entry.specs.declared.wanted.Wanted.{Wanted}
 use Rattle.wanted_entry.specs.Entries.{probe_of}
 

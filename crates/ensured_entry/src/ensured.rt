@@ -1,10 +1,10 @@
 //! Answers to the question whether a graph ensures an entry.
 
 use cnf::{Cnf, Log};
-use full_verdict::Ends;
-use judgement::{First, Sure};
+use determinism::{First, Sure};
 use order_encode::Witness;
 use proof_check::Verified;
+use verdict::Ends;
 
 /// The questions about a deterministic graph, in the order in which they are asked.
 #[derive(Debug, Drop)]

@@ -7,7 +7,7 @@ ghost use Rattle.fs_lang.specs.Meaning.{program_of, programs_in};
 ghost use Rattle.fs_interpreter.specs.Places.{CoversSteps};
 ghost use Rattle.finite_domain.specs.Layouts.{IsLayout};
 ghost use Rattle.path_domain.specs.Laid.{layout_of};
-ghost use Rattle.verdict.specs.Limits.{HasPaths, HasFewPaths};
+ghost use Rattle.size_limits.specs.Limits.{HasPaths, HasFewPaths};
 ghost use Rattle.wanted_entry.specs.Entries.{probe_of};
 ghost use Rattle.ensured_entry.specs.Sizes.{IsTooWide, IsProbed};
 
@@ -15,8 +15,8 @@ use fs_lang::Program;
 use path_domain::{Domain, domain};
 use rh_base::limits::DOMAIN_PATHS;
 use rh_base::{Fault, NoMemory, Seq};
+use size_limits::path_counts;
 use std::alloc::Global;
-use verdict::path_counts;
 use wanted_entry::Wanted;
 
 /// Equal programs.

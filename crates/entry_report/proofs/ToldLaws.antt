@@ -13,9 +13,9 @@ use Rattle.question_terms.specs.Terms.{budget_of}
 use Rattle.question_terms.specs.declared.terms.Terms.{Terms}
 use Rattle.given_verdict.specs.Limits.{HasFewPathsWith, IsLightWith}
 use Rattle.given_verdict.specs.First.{IsDifferenceFrom, IsSpentFrom}
-use Rattle.judgement.specs.declared.first.First.TheVariants as first
-use Rattle.full_verdict.specs.declared.verdicts.Asked.TheVariants as asked
-use Rattle.full_verdict.specs.declared.verdicts.Ends.TheVariants as ends
+use Rattle.determinism.specs.declared.first.First.TheVariants as first
+use Rattle.verdict.specs.declared.verdicts.Asked.TheVariants as asked
+use Rattle.verdict.specs.declared.verdicts.Ends.TheVariants as ends
 use Rattle.verdict_report.specs.declared.report.Form.TheVariants as form
 use Rattle.verdict_report.specs.declared.report.Report.{Report}
 use Rattle.verdict_report.specs.Lines.{spent_text}

@@ -5,9 +5,9 @@ use Rattle.fs_semantics.specs.FileTree.{Tree}
 use Rattle.fs_semantics.specs.Programs.{Program}
 use Rattle.order_encode.specs.declared.witness.Witness.{Witness}
 use Rattle.order_encode.specs.declared.witness.Witness.TheVariants as witness
-use Rattle.judgement.specs.declared.first.First.{First}
-use Rattle.judgement.specs.declared.first.First.TheVariants as first
-use Rattle.full_verdict.specs.declared.verdicts.Asked.TheVariants as asked
+use Rattle.determinism.specs.declared.first.First.{First}
+use Rattle.determinism.specs.declared.first.First.TheVariants as first
+use Rattle.verdict.specs.declared.verdicts.Asked.TheVariants as asked
 use Rattle.verdict_text.specs.Lines.{tree_line}
 use Rattle.verdict_report.specs.Lines.{head_lines, run_lines, difference_of, spent_text, last_line}
 use Rattle.ensured_entry.specs.declared.ensured.Late.{Late}

@@ -4,8 +4,8 @@ use Rattle.std.specs.List.{AllByRecursion}
 use Rattle.fs_semantics.specs.Programs.{Program}
 use Rattle.order_encode.specs.declared.witness.Witness.{Witness}
 use Rattle.order_encode.specs.declared.witness.Witness.TheVariants as witness
-use Rattle.judgement.specs.declared.first.First.{First}
-use Rattle.judgement.specs.declared.first.First.TheVariants as first
+use Rattle.determinism.specs.declared.first.First.{First}
+use Rattle.determinism.specs.declared.first.First.TheVariants as first
 use Rattle.verdict_report.specs.declared.report.Report.{Report}
 use Rattle.verdict_report.specs.Told.{HasOrders}
 use Rattle.ensured_entry.specs.declared.ensured.Ensured.{Ensured}

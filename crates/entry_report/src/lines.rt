@@ -8,10 +8,10 @@ ghost use Rattle.entry_report.specs.Steps.{HasRun};
 
 use ensured_entry::Late;
 use fs_lang::Program;
-use full_verdict::Ends;
 use order_encode::Witness;
 use rh_base::{NoMemory, Seq, Text};
 use std::alloc::Global;
+use verdict::Ends;
 use verdict_report::{push_head, push_last, push_run};
 use verdict_text::{push_bytes, push_tree};
 

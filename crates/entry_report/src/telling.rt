@@ -9,15 +9,15 @@ ghost use Rattle.entry_report.specs.Steps.{IsTellable, IsTellableFirst, IsReport
 ghost use Rattle.entry_report.specs.Told.{IsEntryTold};
 
 use crate::lines::{ensured_text, missed_text, spent_late_text};
+use determinism::First;
 use ensured_entry::Ensured;
 use fs_lang::Program;
-use full_verdict::Asked;
 use given_entry::judge_entry_from;
-use judgement::First;
 use orders::Order;
 use question_terms::Terms;
 use rh_base::{Fault, NoMemory, Seq, Text};
 use std::alloc::Global;
+use verdict::Asked;
 use verdict_report::{Report, difference_text, spent_text};
 use wanted_entry::Wanted;
 

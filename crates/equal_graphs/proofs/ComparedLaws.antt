@@ -11,13 +11,13 @@ use Rattle.cnf.specs.declared.log.Log.{Log}
 use Rattle.proof_check.specs.Refuted.{Refutation}
 use Rattle.order_encode.specs.declared.witness.Witness.{Witness}
 use Rattle.answering.specs.Answers.{UsesUp}
-use Rattle.judgement.specs.First.{IsProof, IsAlone, IfProved}
-use Rattle.judgement.specs.Answers.{IsJudged}
-use Rattle.judgement.specs.declared.first.First.{First}
-use Rattle.judgement.specs.declared.first.First.TheVariants as first
-use Rattle.judgement.specs.declared.first.Sure.{Sure}
-use Rattle.judgement.specs.declared.first.Sure.TheVariants as sure
-use Rattle.full_verdict.specs.Verdicts.{IsByPruning, IfByProof}
+use Rattle.determinism.specs.First.{IsProof, IsAlone, IfProved}
+use Rattle.determinism.specs.Answers.{IsJudged}
+use Rattle.determinism.specs.declared.first.First.{First}
+use Rattle.determinism.specs.declared.first.First.TheVariants as first
+use Rattle.determinism.specs.declared.first.Sure.{Sure}
+use Rattle.determinism.specs.declared.first.Sure.TheVariants as sure
+use Rattle.verdict.specs.Verdicts.{IsByPruning, IfByProof}
 use Rattle.equal_graphs.specs.Equal.{AreEqual, FirstsPart}
 use Rattle.equal_graphs.specs.Questions.{StatesParting, IsEqualProof}
 use Rattle.equal_graphs.specs.declared.compared.Settled.{Settled}

@@ -9,7 +9,7 @@ use Rattle.fs_semantics.specs.Programs.{Program}
 use Rattle.fs_lang.specs.Meaning.{programs_in}
 use Rattle.fs_lang.specs.declared.program.Program as code
 use Rattle.fs_interpreter.specs.Places.{Listed, CoversSteps}
-use Rattle.verdict.specs.Limits.{HasPaths, HasFewPaths, IsLight, IsTooLarge}
+use Rattle.size_limits.specs.Limits.{HasPaths, HasFewPaths, IsLight, IsTooLarge}
 use Rattle.equal_graphs.specs.Sizes.{IsTooWide, IsTooLargeTogether}
 
 pub covers_front : (table : Listed) (es fs : List code.Program) → CoversSteps table (programs_in (es ++ fs)) → CoversSteps table (programs_in es)

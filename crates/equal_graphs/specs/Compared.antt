@@ -8,10 +8,10 @@ use Rattle.commute_prune.specs.Keeping.{Keeps}
 use Rattle.cnf.specs.Formulas.{Formula}
 use Rattle.cnf.specs.declared.log.Step.{Step}
 use Rattle.answering.specs.Answers.{UsesUp}
-use Rattle.judgement.specs.First.{IsPrunedCount, IsProof, IsSpent, IsDifference, pruned_in, IfDiffers, IfSpent}
-use Rattle.judgement.specs.declared.first.First.{First}
-use Rattle.judgement.specs.declared.first.First.TheVariants as first
-use Rattle.full_verdict.specs.Verdicts.{IsByPruning, IfByProof}
+use Rattle.determinism.specs.First.{IsPrunedCount, IsProof, IsSpent, IsDifference, pruned_in, IfDiffers, IfSpent}
+use Rattle.determinism.specs.declared.first.First.{First}
+use Rattle.determinism.specs.declared.first.First.TheVariants as first
+use Rattle.verdict.specs.Verdicts.{IsByPruning, IfByProof}
 use Rattle.equal_graphs.specs.Equal.{AreEqual, FirstsPart}
 use Rattle.equal_graphs.specs.Questions.{StatesParting, IsEqualProof}
 use Rattle.equal_graphs.specs.declared.compared.Settled.{Settled}

@@ -3,7 +3,7 @@ use Rattle.std.specs.Prelude.{◌≡◌, ◌⊎◌, List, ◌++◌, codes}
 use Rattle.rh_base.specs.declared.fault.Refusal.{Refusal}
 use Rattle.rh_base.specs.Refused.{IsRefusal}
 use Rattle.fs_semantics.specs.Programs.{Program}
-use Rattle.verdict.specs.Limits.{HasFewPaths, HasManyPaths, IsLight, IsTooLarge}
+use Rattle.size_limits.specs.Limits.{HasFewPaths, HasManyPaths, IsLight, IsTooLarge}
 
 -- the refusal is due: the paths of the domain of both lists together are too many
 abbrev pub IsTooWide : List Program → List Program → Refusal → Type 0

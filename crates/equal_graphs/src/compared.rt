@@ -1,8 +1,8 @@
 //! Answers to the question whether two graphs do the same.
 
 use cnf::{Cnf, Log};
+use determinism::{First, Sure};
 use fs_lang::Tree;
-use judgement::{First, Sure};
 use proof_check::Verified;
 
 /// Why a graph is deterministic, and how many programs pruning doesn't keep.

@@ -8,15 +8,15 @@ ghost use Rattle.fs_lang.specs.Meaning.{program_of, programs_in};
 ghost use Rattle.fs_interpreter.specs.Places.{CoversSteps};
 ghost use Rattle.finite_domain.specs.Layouts.{IsLayout};
 ghost use Rattle.path_domain.specs.Laid.{layout_of};
-ghost use Rattle.verdict.specs.Limits.{HasPaths, HasFewPaths, IsLight};
+ghost use Rattle.size_limits.specs.Limits.{HasPaths, HasFewPaths, IsLight};
 ghost use Rattle.equal_graphs.specs.Sizes.{IsTooWide, AreWithin, IsTooLargeTogether};
 
 use fs_lang::Program;
 use path_domain::{Domain, domain};
 use rh_base::limits::DOMAIN_PATHS;
 use rh_base::{Fault, NoMemory, Seq};
+use size_limits::{check_size, path_counts};
 use std::alloc::Global;
-use verdict::{check_size, path_counts};
 
 /// Adds equal programs.
 fn copy_all(alloc: Global, programs: &[Program], into: &mut Seq<Program>) -> Result<(), NoMemory>

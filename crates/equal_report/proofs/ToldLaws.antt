@@ -10,9 +10,9 @@ use Rattle.cnf.specs.Formulas.{Formula}
 use Rattle.order_encode.specs.declared.witness.Witness.TheVariants as witness
 use Rattle.order_encode.specs.Witnesses.{IsFirstExtension}
 use Rattle.order_encode.proofs.WitnessLaws.{Long, first_same}
-use Rattle.judgement.specs.declared.first.First.{First}
-use Rattle.judgement.specs.declared.first.First.TheVariants as first
-use Rattle.full_verdict.specs.declared.verdicts.Asked.TheVariants as asked
+use Rattle.determinism.specs.declared.first.First.{First}
+use Rattle.determinism.specs.declared.first.First.TheVariants as first
+use Rattle.verdict.specs.declared.verdicts.Asked.TheVariants as asked
 use Rattle.verdict_report.specs.declared.report.Report.{Report}
 use Rattle.question_terms.specs.Terms.{budget_of}
 use Rattle.question_terms.specs.declared.terms.Terms.{Terms}

@@ -9,7 +9,7 @@ use Rattle.question_terms.specs.Terms.{budget_of}
 use Rattle.question_terms.specs.declared.terms.Terms.{Terms}
 use Rattle.cnf.specs.Formulas.{Formula}
 use Rattle.cnf.specs.declared.log.Step.{Step}
-use Rattle.judgement.specs.First.{IsPrunedCount}
+use Rattle.determinism.specs.First.{IsPrunedCount}
 use Rattle.verdict_report.specs.declared.report.Form.TheVariants as form
 use Rattle.verdict_report.specs.declared.report.Report.{Report}
 use Rattle.verdict_report.specs.Told.{IsDifferent, IsUnanswered}

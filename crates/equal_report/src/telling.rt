@@ -12,11 +12,11 @@ ghost use Rattle.equal_report.specs.Steps.{IsTellable, IsReportOf};
 ghost use Rattle.equal_report.specs.Told.{IsComparedTold};
 
 use crate::lines::{equal_text, push_settled, spent_equal_text, unequal_text};
+use determinism::First;
 use entry_report::{first_lines, first_status};
 use equal_graphs::Compared;
 use fs_lang::Program;
 use given_equal::compare_from;
-use judgement::First;
 use order_places::allowed_orders;
 use orders::Order;
 use question_terms::Terms;

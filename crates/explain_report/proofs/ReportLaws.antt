@@ -14,16 +14,16 @@ use Rattle.cnf.specs.declared.log.Log.{Log}
 use Rattle.proof_check.specs.Refuted.{Refutation}
 use Rattle.order_encode.specs.declared.witness.Witness.{Witness}
 use Rattle.order_encode.specs.declared.witness.Witness.TheVariants as witness
-use Rattle.judgement.specs.declared.first.Sure.{Sure}
-use Rattle.full_verdict.specs.declared.verdicts.Asked.{Asked}
-use Rattle.full_verdict.specs.declared.verdicts.Asked.TheVariants as asked
-use Rattle.full_verdict.specs.declared.verdicts.Second.{Second}
-use Rattle.full_verdict.specs.declared.verdicts.Second.TheVariants as second
-use Rattle.full_verdict.specs.declared.verdicts.Ends.{Ends}
-use Rattle.full_verdict.specs.declared.verdicts.Ends.TheVariants as ends
-use Rattle.full_verdict.specs.declared.verdicts.Verdict.{Verdict}
-use Rattle.full_verdict.specs.declared.verdicts.Verdict.TheVariants as verdict
-use Rattle.full_verdict.specs.Verdicts.{IfFrom, IfNever}
+use Rattle.determinism.specs.declared.first.Sure.{Sure}
+use Rattle.verdict.specs.declared.verdicts.Asked.{Asked}
+use Rattle.verdict.specs.declared.verdicts.Asked.TheVariants as asked
+use Rattle.verdict.specs.declared.verdicts.Second.{Second}
+use Rattle.verdict.specs.declared.verdicts.Second.TheVariants as second
+use Rattle.verdict.specs.declared.verdicts.Ends.{Ends}
+use Rattle.verdict.specs.declared.verdicts.Ends.TheVariants as ends
+use Rattle.verdict.specs.declared.verdicts.Verdict.{Verdict}
+use Rattle.verdict.specs.declared.verdicts.Verdict.TheVariants as verdict
+use Rattle.verdict.specs.Verdicts.{IfFrom, IfNever}
 use Rattle.given_verdict.specs.First.{IsDifferenceFrom}
 use Rattle.order_encode.specs.Witnesses.{IsFirstExtension}
 use Rattle.given_verdict.specs.Second.{IsChangeFrom}

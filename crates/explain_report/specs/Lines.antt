@@ -1,6 +1,6 @@
 -- The text of an explanation.
 use Rattle.std.specs.Prelude.{ℕ, List, ◌++◌, codes}
-use Rattle.full_verdict.specs.declared.verdicts.Asked.{Asked}
+use Rattle.verdict.specs.declared.verdicts.Asked.{Asked}
 use Rattle.verdict_report.specs.Lines.{known_lines, spent_line}
 
 -- all is well: from every tree all orders end alike, and a second run changes nothing

@@ -10,8 +10,8 @@ use Rattle.question_terms.specs.declared.terms.Terms.{Terms}
 use Rattle.cnf.specs.Formulas.{Formula}
 use Rattle.cnf.specs.declared.log.Step.{Step}
 use Rattle.order_encode.specs.Witnesses.{IsFirstExtension}
-use Rattle.judgement.specs.First.{IsPrunedCount}
-use Rattle.full_verdict.specs.declared.verdicts.Asked.{Asked}
+use Rattle.determinism.specs.First.{IsPrunedCount}
+use Rattle.verdict.specs.declared.verdicts.Asked.{Asked}
 use Rattle.given_verdict.specs.Limits.{HasFewPathsWith, IsLightWith}
 use Rattle.given_verdict.specs.Verdicts.{IsSpentOnFrom, IsKnownBeforeFrom}
 use Rattle.verdict_report.specs.declared.report.Report.{Report}

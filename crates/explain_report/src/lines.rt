@@ -4,9 +4,9 @@ ghost use Rattle.std.specs.Prelude.{◌≡◌, ◌++◌, IfOk};
 ghost use Rattle.verdict_report.specs.Lines.{head_lines};
 ghost use Rattle.explain_report.specs.Lines.{sure_text, apart_text, again_text, spent_text};
 
-use full_verdict::Asked;
 use rh_base::{NoMemory, Seq};
 use std::alloc::Global;
+use verdict::Asked;
 use verdict_report::{push_head, push_known, push_spent};
 use verdict_text::push_bytes;
 

@@ -11,10 +11,10 @@ ghost use Rattle.explain_report.specs.Steps.{EndHolds};
 use crate::lines::sure_text;
 use explained_runs::nothing_line;
 use fs_lang::{Path, Program};
-use full_verdict::Ends;
 use orders::Order;
 use rh_base::{NoMemory, Seq, Text};
 use std::alloc::Global;
+use verdict::Ends;
 use verdict_report::{Report, push_last};
 use verdict_text::push_bytes;
 

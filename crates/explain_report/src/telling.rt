@@ -4,7 +4,7 @@ ghost use Rattle.std.specs.Prelude.{◌≡◌, length, map, IfOk, IfErr};
 ghost use Rattle.rh_base.specs.Refused.{IfRefused};
 ghost use Rattle.fs_lang.specs.Meaning.{program_of};
 ghost use Rattle.question_terms.specs.Terms.{budget_of};
-ghost use Rattle.full_verdict.specs.Verdicts.{pruned_in};
+ghost use Rattle.verdict.specs.Verdicts.{pruned_in};
 ghost use Rattle.given_verdict.specs.Limits.{IsTooLargeWith};
 ghost use Rattle.given_verdict.specs.Answers.{IsVerdictFrom};
 ghost use Rattle.verdict_report.specs.Lines.{head_lines};
@@ -17,12 +17,12 @@ use crate::lines::{noted_head, spent_text};
 use crate::parting::{explain_change, explain_difference};
 use crate::sure::explain_sure;
 use fs_lang::Program;
-use full_verdict::{Asked, Second, Verdict};
 use given_verdict::judge_from;
 use orders::Order;
 use question_terms::Terms;
 use rh_base::{Fault, NoMemory, Text};
 use std::alloc::Global;
+use verdict::{Asked, Second, Verdict};
 use verdict_report::Report;
 
 /// How many programs pruning doesn't keep.

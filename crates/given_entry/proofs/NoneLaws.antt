@@ -11,8 +11,8 @@ use Rattle.cnf.specs.Formulas.{Formula}
 use Rattle.cnf.specs.declared.log.Step.{Step}
 use Rattle.order_encode.specs.declared.witness.Witness.{Witness}
 use Rattle.order_encode.specs.declared.witness.Witness.TheVariants as witness
-use Rattle.judgement.specs.declared.first.First.TheVariants as first
-use Rattle.full_verdict.specs.declared.verdicts.Ends.TheVariants as ends
+use Rattle.determinism.specs.declared.first.First.TheVariants as first
+use Rattle.verdict.specs.declared.verdicts.Ends.TheVariants as ends
 use Rattle.wanted_entry.specs.declared.wanted.Wanted.{Wanted}
 use Rattle.wanted_entry.specs.Entries.{Ensures}
 use Rattle.ensured_entry.specs.declared.ensured.Late.{Late}

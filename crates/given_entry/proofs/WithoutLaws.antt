@@ -13,13 +13,13 @@ use Rattle.cnf.specs.Formulas.{Formula}
 use Rattle.cnf.specs.declared.log.Step.{Step}
 use Rattle.order_encode.specs.Witnesses.{IsFirstExtension}
 use Rattle.order_encode.specs.declared.witness.Witness.{Witness}
-use Rattle.judgement.specs.First.{IsSpent, IsDifference, IfDiffers}
-use Rattle.judgement.specs.Answers.{HasTwoOrders}
-use Rattle.judgement.specs.declared.first.First.{First}
-use Rattle.judgement.specs.declared.first.First.TheVariants as first
-use Rattle.judgement.specs.declared.first.Sure.{Sure}
-use Rattle.full_verdict.specs.declared.verdicts.Ends.{Ends}
-use Rattle.full_verdict.specs.declared.verdicts.Ends.TheVariants as ends
+use Rattle.determinism.specs.First.{IsSpent, IsDifference, IfDiffers}
+use Rattle.determinism.specs.Answers.{HasTwoOrders}
+use Rattle.determinism.specs.declared.first.First.{First}
+use Rattle.determinism.specs.declared.first.First.TheVariants as first
+use Rattle.determinism.specs.declared.first.Sure.{Sure}
+use Rattle.verdict.specs.declared.verdicts.Ends.{Ends}
+use Rattle.verdict.specs.declared.verdicts.Ends.TheVariants as ends
 use Rattle.wanted_entry.specs.declared.wanted.Wanted.{Wanted}
 use Rattle.ensured_entry.specs.declared.ensured.Late.{Late}
 use Rattle.ensured_entry.specs.declared.ensured.Late.TheVariants as late

@@ -9,12 +9,12 @@ use Rattle.commute_prune.specs.Keeping.{Keeps}
 use Rattle.cnf.specs.Formulas.{Formula}
 use Rattle.cnf.specs.declared.log.Step.{Step}
 use Rattle.order_encode.specs.declared.witness.Witness.{Witness}
-use Rattle.judgement.specs.First.{IsPrunedCount, IfDiffers, IfSpent}
-use Rattle.judgement.specs.declared.first.First.{First}
+use Rattle.determinism.specs.First.{IsPrunedCount, IfDiffers, IfSpent}
+use Rattle.determinism.specs.declared.first.First.{First}
 use Rattle.answering.specs.Answers.{UsesUp}
-use Rattle.full_verdict.specs.Verdicts.{IsByPruning, IfByProof}
-use Rattle.full_verdict.specs.declared.verdicts.Ends.{Ends}
-use Rattle.full_verdict.specs.declared.verdicts.Ends.TheVariants as ends
+use Rattle.verdict.specs.Verdicts.{IsByPruning, IfByProof}
+use Rattle.verdict.specs.declared.verdicts.Ends.{Ends}
+use Rattle.verdict.specs.declared.verdicts.Ends.TheVariants as ends
 use Rattle.wanted_entry.specs.declared.wanted.Wanted.{Wanted}
 use Rattle.ensured_entry.specs.declared.ensured.Late.{Late}
 use Rattle.ensured_entry.specs.declared.ensured.Late.TheVariants as late

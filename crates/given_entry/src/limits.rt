@@ -3,7 +3,7 @@
 ghost use Rattle.std.specs.Prelude.{map, IfOk, IfErr};
 ghost use Rattle.rh_base.specs.Refused.{IfRefused};
 ghost use Rattle.fs_lang.specs.Meaning.{program_of};
-ghost use Rattle.verdict.specs.Limits.{HasPaths};
+ghost use Rattle.size_limits.specs.Limits.{HasPaths};
 ghost use Rattle.given_verdict.specs.Limits.{HasFewPathsWith, IsLightWith};
 ghost use Rattle.given_entry.specs.Sizes.{probed, HasFewPathsProbed, IsTooWideProbed, IsTooLargeProbed};
 
@@ -13,8 +13,8 @@ use given_verdict::check_size_with;
 use guarded_graph::guarded_programs;
 use host_limits::Limits;
 use rh_base::{Fault, NoMemory};
+use size_limits::path_counts;
 use std::alloc::Global;
-use verdict::path_counts;
 use wanted_entry::Wanted;
 
 /// How many paths the domain of the programs and the probe has, with the given paths.

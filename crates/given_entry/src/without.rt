@@ -1,18 +1,18 @@
 //! An answer about the graph with the guard, as one about the graph.
 
 ghost use Rattle.std.specs.Prelude.{IfOk};
-ghost use Rattle.judgement.specs.First.{IfDiffers};
-ghost use Rattle.judgement.specs.Answers.{HasTwoOrders};
+ghost use Rattle.determinism.specs.First.{IfDiffers};
+ghost use Rattle.determinism.specs.Answers.{HasTwoOrders};
 ghost use Rattle.ensured_entry.specs.Ensured.{IfFirst, IfFails, IfFrom};
 ghost use Rattle.given_verdict.specs.Ends.{HasOneOrder};
 ghost use Rattle.given_entry.specs.Answers.{IfRun, AreEndsOf, IsEnsuredWithout};
 
 use ensured_entry::Ensured;
-use full_verdict::Ends;
 use given_verdict::{answer_without, run_of};
 use orders::Order;
 use rh_base::NoMemory;
 use std::alloc::Global;
+use verdict::Ends;
 
 /// Whether the graph succeeds, with its first extension.
 fn ends_of(alloc: Global, order: &Order, end: Ends) -> Result<Ends, NoMemory>

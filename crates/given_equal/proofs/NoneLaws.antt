@@ -7,8 +7,8 @@ use Rattle.fs_semantics.specs.Orders.{Told}
 use Rattle.given_hosts.proofs.NoneGiven as none
 use Rattle.orders.specs.Relation.{Relation, comes}
 use Rattle.cnf.specs.Formulas.{Formula}
-use Rattle.judgement.specs.declared.first.First.{First}
-use Rattle.judgement.specs.declared.first.First.TheVariants as first
+use Rattle.determinism.specs.declared.first.First.{First}
+use Rattle.determinism.specs.declared.first.First.TheVariants as first
 use Rattle.equal_graphs.specs.Questions.{StatesParting}
 use Rattle.equal_graphs.specs.declared.compared.Settled.{Settled}
 use Rattle.equal_graphs.specs.declared.compared.Compared.{Compared}

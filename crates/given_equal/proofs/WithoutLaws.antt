@@ -11,10 +11,10 @@ use Rattle.orders.specs.Relation.{Relation, comes}
 use Rattle.commute_prune.specs.Keeping.{Keeps}
 use Rattle.cnf.specs.Formulas.{Formula}
 use Rattle.order_encode.specs.Witnesses.{IsFirstExtension}
-use Rattle.judgement.specs.First.{IsDifference, IsSpent, IfDiffers}
-use Rattle.judgement.specs.Answers.{HasTwoOrders}
-use Rattle.judgement.specs.declared.first.First.{First}
-use Rattle.judgement.specs.declared.first.First.TheVariants as first
+use Rattle.determinism.specs.First.{IsDifference, IsSpent, IfDiffers}
+use Rattle.determinism.specs.Answers.{HasTwoOrders}
+use Rattle.determinism.specs.declared.first.First.{First}
+use Rattle.determinism.specs.declared.first.First.TheVariants as first
 use Rattle.equal_graphs.specs.Questions.{StatesParting}
 use Rattle.equal_graphs.specs.declared.compared.Settled.{Settled}
 use Rattle.equal_graphs.specs.declared.compared.Compared.{Compared}

@@ -9,9 +9,9 @@ use Rattle.commute_prune.specs.Keeping.{Keeps}
 use Rattle.cnf.specs.Formulas.{Formula}
 use Rattle.cnf.specs.declared.log.Step.{Step}
 use Rattle.answering.specs.Answers.{UsesUp}
-use Rattle.judgement.specs.First.{IsPrunedCount, pruned_in, IfDiffers, IfSpent}
-use Rattle.judgement.specs.declared.first.First.{First}
-use Rattle.full_verdict.specs.Verdicts.{IsByPruning, IfByProof}
+use Rattle.determinism.specs.First.{IsPrunedCount, pruned_in, IfDiffers, IfSpent}
+use Rattle.determinism.specs.declared.first.First.{First}
+use Rattle.verdict.specs.Verdicts.{IsByPruning, IfByProof}
 use Rattle.equal_graphs.specs.declared.compared.Settled.{Settled}
 use Rattle.equal_graphs.specs.declared.compared.Compared.{Compared}
 use Rattle.equal_graphs.specs.declared.compared.Compared.TheVariants as compared

@@ -3,7 +3,7 @@
 ghost use Rattle.std.specs.Prelude.{map, IfOk, IfErr};
 ghost use Rattle.rh_base.specs.Refused.{IfRefused};
 ghost use Rattle.fs_lang.specs.Meaning.{program_of};
-ghost use Rattle.verdict.specs.Limits.{HasPaths};
+ghost use Rattle.size_limits.specs.Limits.{HasPaths};
 ghost use Rattle.given_equal.specs.Sizes.{joined, HasFewPathsJoined, IsTooWideJoined, AreWithinWith, IsTooLargeJoined};
 
 use equal_graphs::paths_of_both;
@@ -12,8 +12,8 @@ use given_verdict::check_size_with;
 use guarded_graph::guarded_programs;
 use host_limits::Limits;
 use rh_base::{Fault, NoMemory};
+use size_limits::path_counts;
 use std::alloc::Global;
-use verdict::path_counts;
 
 /// How many paths the domain of both has, with the given paths.
 fn path_count_joined(

@@ -1,8 +1,8 @@
 //! An answer about two graphs with their guards, as one about the graphs.
 
 ghost use Rattle.std.specs.Prelude.{◌≡◌, IfOk};
-ghost use Rattle.judgement.specs.First.{IfDiffers};
-ghost use Rattle.judgement.specs.Answers.{HasTwoOrders};
+ghost use Rattle.determinism.specs.First.{IfDiffers};
+ghost use Rattle.determinism.specs.Answers.{HasTwoOrders};
 ghost use Rattle.equal_graphs.specs.Compared.{IfLeft, IfRight};
 ghost use Rattle.given_equal.specs.Answers.{without, IsComparedWithout};
 

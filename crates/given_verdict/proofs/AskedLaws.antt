@@ -8,8 +8,8 @@ use Rattle.given_hosts.specs.Guard.{guarded, guard_before}
 use Rattle.orders.specs.Relation.{Relation, comes}
 use Rattle.cnf.specs.Formulas.{Formula}
 use Rattle.cnf.specs.declared.log.Step.{Step}
-use Rattle.judgement.specs.First.{IsProof, IsSpent}
-use Rattle.verdict.specs.Limits.{HasPaths}
+use Rattle.determinism.specs.First.{IsProof, IsSpent}
+use Rattle.size_limits.specs.Limits.{HasPaths}
 use Rattle.given_verdict.specs.Graphs.{asked_programs}
 use Rattle.given_verdict.specs.First.{IsProofFrom, IsSpentFrom}
 

@@ -19,7 +19,7 @@ use Rattle.proof_check.specs.Refuted.{HasNoModel}
 use Rattle.order_encode.specs.Witnesses.{IsFirstExtension}
 use Rattle.order_encode.specs.declared.witness.Witness.{Witness}
 use Rattle.order_encode.specs.declared.witness.Witness.TheVariants as witness
-use Rattle.judgement.specs.First.{IsDifference}
+use Rattle.determinism.specs.First.{IsDifference}
 use Rattle.given_verdict.specs.Second.{NeverChangedFrom, IsSecondChangeFrom, IsSecondProofFrom, IsSecondRunFrom}
 use Rattle.given_verdict.specs.Behind.{IsDifferenceBehind, EndsDifferently, IsDifferentOf}
 

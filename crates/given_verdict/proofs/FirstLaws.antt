@@ -13,12 +13,12 @@ use Rattle.cnf.specs.Formulas.{Formula}
 use Rattle.cnf.specs.declared.log.Step.{Step}
 use Rattle.order_encode.specs.declared.witness.Witness.{Witness}
 use Rattle.order_encode.specs.declared.witness.Witness.TheVariants as witness
-use Rattle.judgement.specs.First.{IsPrunedCount, IsProof, IsSpent, IsDifference, pruned_in, IsAlone, IfSure, IfProved, IfDiffers, IfSpent}
-use Rattle.judgement.specs.Answers.{IsJudged, HasTwoOrders}
-use Rattle.judgement.specs.declared.first.First.{First}
-use Rattle.judgement.specs.declared.first.First.TheVariants as first
-use Rattle.judgement.specs.declared.first.Sure.{Sure}
-use Rattle.judgement.specs.declared.first.Sure.TheVariants as sure
+use Rattle.determinism.specs.First.{IsPrunedCount, IsProof, IsSpent, IsDifference, pruned_in, IsAlone, IfSure, IfProved, IfDiffers, IfSpent}
+use Rattle.determinism.specs.Answers.{IsJudged, HasTwoOrders}
+use Rattle.determinism.specs.declared.first.First.{First}
+use Rattle.determinism.specs.declared.first.First.TheVariants as first
+use Rattle.determinism.specs.declared.first.Sure.{Sure}
+use Rattle.determinism.specs.declared.first.Sure.TheVariants as sure
 use Rattle.given_verdict.proofs.AskedLaws.{proof_of_guarded, spent_of_guarded}
 use Rattle.given_verdict.specs.First.{IsDifferenceFrom, IsProofFrom, IsSpentFrom, IsJudgedFrom, IsUnguarded, IsAnswerWithout}
 

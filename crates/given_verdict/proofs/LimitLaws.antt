@@ -10,8 +10,8 @@ use Rattle.fs_semantics.specs.Programs.{Program}
 use Rattle.host_limits.specs.Limits.{domain_limit, IsAtMost, IsMoreThan, weight_limit, IsWeightWithin, IsWeightOver}
 use Rattle.host_limits.specs.declared.limits.Limits.{Limits}
 use Rattle.given_verdict.specs.Graphs.{asked_programs}
-use Rattle.verdict.specs.Weights.{Weighs}
-use Rattle.verdict.specs.Limits.{HasPaths}
+use Rattle.size_limits.specs.Weights.{Weighs}
+use Rattle.size_limits.specs.Limits.{HasPaths}
 use Rattle.given_verdict.specs.Limits.{HasFewPathsWith, IsLightWith, IsTooLargeWith}
 
 by_refusal : (e : Fault) (P Q : Refusal → Type 0) → ((r : Refusal) → P r → Q r) → IfRefused e P → IfRefused e Q

@@ -13,16 +13,16 @@ use Rattle.cnf.specs.declared.log.Step.{Step}
 use Rattle.proof_check.specs.Refuted.{Refutation}
 use Rattle.order_encode.specs.declared.witness.Witness.{Witness}
 use Rattle.order_encode.specs.declared.witness.Witness.TheVariants as witness
-use Rattle.judgement.specs.First.{IsDifference}
-use Rattle.full_verdict.specs.declared.verdicts.Asked.{Asked}
-use Rattle.full_verdict.specs.declared.verdicts.Asked.TheVariants as asked
-use Rattle.full_verdict.specs.declared.verdicts.Second.TheVariants as second
-use Rattle.full_verdict.specs.declared.verdicts.Ends.TheVariants as ends
-use Rattle.full_verdict.specs.declared.verdicts.Verdict.{Verdict}
-use Rattle.full_verdict.specs.declared.verdicts.Verdict.TheVariants as verdict
-use Rattle.full_verdict.specs.Questions.{StatesSecond, StatesEnd, IsSecondProof, IsEndProof, IsSecondChange, IsEnd}
-use Rattle.full_verdict.specs.Verdicts.{IsSpentOn, IsKnownBefore, IsOrderProof, AreProofsBefore}
-use Rattle.full_verdict.specs.Answers.{IsVerdict}
+use Rattle.determinism.specs.First.{IsDifference}
+use Rattle.verdict.specs.declared.verdicts.Asked.{Asked}
+use Rattle.verdict.specs.declared.verdicts.Asked.TheVariants as asked
+use Rattle.verdict.specs.declared.verdicts.Second.TheVariants as second
+use Rattle.verdict.specs.declared.verdicts.Ends.TheVariants as ends
+use Rattle.verdict.specs.declared.verdicts.Verdict.{Verdict}
+use Rattle.verdict.specs.declared.verdicts.Verdict.TheVariants as verdict
+use Rattle.verdict.specs.Questions.{StatesSecond, StatesEnd, IsSecondProof, IsEndProof, IsSecondChange, IsEnd}
+use Rattle.verdict.specs.Verdicts.{IsSpentOn, IsKnownBefore, IsOrderProof, AreProofsBefore}
+use Rattle.verdict.specs.Answers.{IsVerdict}
 use Rattle.given_verdict.specs.First.{IsDifferenceFrom}
 use Rattle.given_verdict.specs.Second.{StatesSecondFrom, IsSecondProofFrom, IsChangeFrom}
 use Rattle.given_verdict.specs.Ends.{StatesEndFrom, IsEndProofFrom, IsEndFrom}

@@ -11,10 +11,10 @@ use Rattle.given_hosts.proofs.GraphLaws.{order_behind, deterministic}
 use Rattle.orders.specs.Relation.{Relation, comes}
 use Rattle.commute_prune.specs.Keeping.{Keeps}
 use Rattle.order_encode.specs.Witnesses.{IsFirstExtension}
-use Rattle.judgement.specs.First.{IsPrunedCount, IsProof}
-use Rattle.judgement.specs.declared.first.Sure.{Sure}
-use Rattle.judgement.specs.declared.first.Sure.TheVariants as sure
-use Rattle.full_verdict.specs.Verdicts.{IsByPruning, IfByProof}
+use Rattle.determinism.specs.First.{IsPrunedCount, IsProof}
+use Rattle.determinism.specs.declared.first.Sure.{Sure}
+use Rattle.determinism.specs.declared.first.Sure.TheVariants as sure
+use Rattle.verdict.specs.Verdicts.{IsByPruning, IfByProof}
 use Rattle.given_verdict.specs.First.{IsProofFrom}
 use Rattle.given_verdict.proofs.AskedLaws.{proof_of_guarded}
 use Rattle.given_verdict.proofs.FirstLaws.{counted, alone_back}

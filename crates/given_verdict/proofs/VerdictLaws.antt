@@ -13,20 +13,20 @@ use Rattle.proof_check.specs.Refuted.{Refutation}
 use Rattle.answering.specs.Answers.{UsesUp}
 use Rattle.order_encode.specs.declared.witness.Witness.{Witness}
 use Rattle.order_encode.specs.declared.witness.Witness.TheVariants as witness
-use Rattle.judgement.specs.First.{IsPrunedCount, IsAlone, IfProved}
-use Rattle.judgement.specs.declared.first.First.TheVariants as first
-use Rattle.judgement.specs.declared.first.Sure.{Sure}
-use Rattle.judgement.specs.declared.first.Sure.TheVariants as sure
-use Rattle.full_verdict.specs.declared.verdicts.Asked.{Asked}
-use Rattle.full_verdict.specs.declared.verdicts.Asked.TheVariants as asked
-use Rattle.full_verdict.specs.declared.verdicts.Second.{Second}
-use Rattle.full_verdict.specs.declared.verdicts.Second.TheVariants as second
-use Rattle.full_verdict.specs.declared.verdicts.Ends.{Ends}
-use Rattle.full_verdict.specs.declared.verdicts.Ends.TheVariants as ends
-use Rattle.full_verdict.specs.declared.verdicts.Verdict.TheVariants as verdict
-use Rattle.full_verdict.specs.Verdicts.{IsByPruning, IfByProof, IfSame, IfChanged, IfFrom, IfNever}
-use Rattle.full_verdict.specs.Answers.{proofs_in}
-use Rattle.full_verdict.proofs.VerdictLaws.{alone_by, proved_by}
+use Rattle.determinism.specs.First.{IsPrunedCount, IsAlone, IfProved}
+use Rattle.determinism.specs.declared.first.First.TheVariants as first
+use Rattle.determinism.specs.declared.first.Sure.{Sure}
+use Rattle.determinism.specs.declared.first.Sure.TheVariants as sure
+use Rattle.verdict.specs.declared.verdicts.Asked.{Asked}
+use Rattle.verdict.specs.declared.verdicts.Asked.TheVariants as asked
+use Rattle.verdict.specs.declared.verdicts.Second.{Second}
+use Rattle.verdict.specs.declared.verdicts.Second.TheVariants as second
+use Rattle.verdict.specs.declared.verdicts.Ends.{Ends}
+use Rattle.verdict.specs.declared.verdicts.Ends.TheVariants as ends
+use Rattle.verdict.specs.declared.verdicts.Verdict.TheVariants as verdict
+use Rattle.verdict.specs.Verdicts.{IsByPruning, IfByProof, IfSame, IfChanged, IfFrom, IfNever}
+use Rattle.verdict.specs.Answers.{proofs_in}
+use Rattle.verdict.proofs.VerdictLaws.{alone_by, proved_by}
 use Rattle.given_verdict.specs.First.{IsProofFrom, IsJudgedFrom}
 use Rattle.given_verdict.specs.Second.{IsSecondProofFrom, IsSecondRunFrom, IsChangeFrom, IsSecondSpentFrom}
 use Rattle.given_verdict.specs.Ends.{StatesEndFrom, IsEndProofFrom, IsEndFrom}

@@ -6,9 +6,9 @@ use Rattle.fs_semantics.specs.Orders.{Told}
 use Rattle.given_hosts.specs.Given.{IsDeterministicFrom, IsIdempotentFrom, SucceedsFrom}
 use Rattle.orders.specs.Relation.{Relation, comes}
 use Rattle.commute_prune.specs.Keeping.{Keeps}
-use Rattle.judgement.specs.First.{IsPrunedCount}
-use Rattle.full_verdict.specs.declared.verdicts.Verdict.{Verdict}
-use Rattle.full_verdict.specs.Verdicts.{pruned_in, IsByPruning, IfByProof, IfDifferent, IfJudged, IfSame, IfChanged, IfFrom, IfNever, IfSpent, IfSpentAfter}
+use Rattle.determinism.specs.First.{IsPrunedCount}
+use Rattle.verdict.specs.declared.verdicts.Verdict.{Verdict}
+use Rattle.verdict.specs.Verdicts.{pruned_in, IsByPruning, IfByProof, IfDifferent, IfJudged, IfSame, IfChanged, IfFrom, IfNever, IfSpent, IfSpentAfter}
 use Rattle.given_verdict.specs.First.{IsDifferenceFrom, IsProofFrom}
 use Rattle.given_verdict.specs.Second.{IsSecondProofFrom, IsChangeFrom}
 use Rattle.given_verdict.specs.Ends.{IsEndFrom, IsEndProofFrom}

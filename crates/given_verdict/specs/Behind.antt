@@ -8,9 +8,9 @@ use Rattle.orders.specs.Relation.{Relation, comes}
 use Rattle.order_encode.specs.Witnesses.{IsFirstExtension}
 use Rattle.order_encode.specs.declared.witness.Witness.{Witness}
 use Rattle.order_encode.specs.declared.witness.Witness.TheVariants as witness
-use Rattle.judgement.specs.First.{IsDifference}
-use Rattle.judgement.specs.Answers.{IsJudged}
-use Rattle.judgement.specs.declared.first.First.{First}
+use Rattle.determinism.specs.First.{IsDifference}
+use Rattle.determinism.specs.Answers.{IsJudged}
+use Rattle.determinism.specs.declared.first.First.{First}
 
 -- all that is said of the answer
 pub record IsJudgedBehind (given : List Path) (es : List Program) (order : Relation) (budget : ℕ) (answered : First) : Type 0 where

@@ -11,9 +11,9 @@ use Rattle.cnf.specs.Formulas.{Formula}
 use Rattle.cnf.specs.declared.log.Step.{Step}
 use Rattle.order_encode.specs.declared.witness.Witness.{Witness}
 use Rattle.order_encode.specs.declared.witness.Witness.TheVariants as witness
-use Rattle.judgement.specs.First.{IsPrunedCount, IsProof, IsSpent, pruned_in, IsAlone, IfSure, IfProved, IfDiffers, IfSpent}
-use Rattle.judgement.specs.declared.first.First.{First}
-use Rattle.judgement.specs.declared.first.First.TheVariants as first
+use Rattle.determinism.specs.First.{IsPrunedCount, IsProof, IsSpent, pruned_in, IsAlone, IfSure, IfProved, IfDiffers, IfSpent}
+use Rattle.determinism.specs.declared.first.First.{First}
+use Rattle.determinism.specs.declared.first.First.TheVariants as first
 use Rattle.given_verdict.specs.Graphs.{asked_programs, asked_order}
 
 -- From the tree, in which the given folders stand, these allowed orders have different outcomes, and the second is the first with

@@ -17,7 +17,7 @@ use Rattle.proof_check.specs.Refuted.{HasNoModel}
 use Rattle.order_encode.specs.Witnesses.{IsOverDomain, IsFirstExtension}
 use Rattle.order_encode.specs.declared.witness.Witness.{Witness}
 use Rattle.order_encode.specs.declared.witness.Witness.TheVariants as witness
-use Rattle.judgement.specs.First.{IsSpent}
+use Rattle.determinism.specs.First.{IsSpent}
 use Rattle.answering.specs.Answers.{UsesUp, AnswersBy}
 use Rattle.answering.specs.declared.answering.Answer.{Answer}
 use Rattle.answering.specs.declared.answering.Answer.TheVariants as answer

@@ -10,8 +10,8 @@ use Rattle.cnf.specs.Formulas.{Formula}
 use Rattle.cnf.specs.declared.log.Step.{Step}
 use Rattle.proof_check.specs.Refuted.{Refutation}
 use Rattle.answering.specs.Answers.{UsesUp}
-use Rattle.full_verdict.specs.declared.verdicts.Asked.{Asked}
-use Rattle.full_verdict.specs.declared.verdicts.Asked.TheVariants as asked
+use Rattle.verdict.specs.declared.verdicts.Asked.{Asked}
+use Rattle.verdict.specs.declared.verdicts.Asked.TheVariants as asked
 use Rattle.given_verdict.specs.First.{IsProofFrom, IsSpentFrom}
 use Rattle.given_verdict.specs.Second.{IsSecondProofFrom, IsSecondSpentFrom}
 use Rattle.given_verdict.specs.Ends.{StatesEndFrom}

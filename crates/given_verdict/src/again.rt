@@ -16,13 +16,13 @@ use answering::Answer;
 use apart_groups::{groups_beside, groups_of};
 use commute_prune::are_proper;
 use fs_lang::{Path, Program};
-use full_verdict::same_in_groups;
 use given_hosts::{guarded_graphs, guards, second_runs};
 use guarded_graph::{Guarded, with_guard};
 use orders::Order;
 use proof_check::Verified;
 use rh_base::{NoMemory, Seq};
 use std::alloc::Global;
+use verdict::same_in_groups;
 
 /// Whether a second run in another order changes anything, where one in the first extension doesn't. It doesn't where no program
 /// removes a given folder: all orders then end alike from what the first run left, too.

@@ -16,10 +16,10 @@ ghost use Rattle.given_verdict.specs.Behind.{IsJudgedBehind, IsDifferenceBehind,
 use crate::first::rest_of;
 use crate::second::push_all;
 use answering::Answer;
+use determinism::{First, Sure, joined, judge_any};
 use fs_lang::{Path, Program, Tree};
 use given_hosts::{guards, second_runs};
 use guarded_graph::{guard_of, with_first};
-use judgement::{First, Sure, joined, judge_any};
 use kept_graph::{end_alike, program_at};
 use order_encode::Witness;
 use orders::Order;

@@ -9,13 +9,13 @@ ghost use Rattle.given_verdict.specs.Ends.{AnswersEndFrom, IsFirstRun, IsRunOf, 
 
 use answering::Answer;
 use fs_lang::{Path, Program, Tree};
-use full_verdict::ask_end;
 use given_hosts::{guarded_graphs, guards};
 use guarded_graph::with_guard;
 use order_encode::Witness;
 use orders::Order;
 use rh_base::NoMemory;
 use std::alloc::Global;
+use verdict::ask_end;
 
 /// A run from this tree in the first extension.
 fn first_run(alloc: Global, order: &Order, tree: &Tree) -> Result<Witness, NoMemory>

@@ -2,16 +2,16 @@
 
 ghost use Rattle.std.specs.Prelude.{◌≡◌, ◌≢◌, ◌≤◌, [], length, map, drop, IfOk};
 ghost use Rattle.fs_lang.specs.Meaning.{program_of};
-ghost use Rattle.judgement.specs.First.{IfDiffers};
-ghost use Rattle.judgement.specs.Answers.{HasTwoOrders};
-ghost use Rattle.judgement.specs.declared.first.First.TheVariants as variants;
+ghost use Rattle.determinism.specs.First.{IfDiffers};
+ghost use Rattle.determinism.specs.Answers.{HasTwoOrders};
+ghost use Rattle.determinism.specs.declared.first.First.TheVariants as variants;
 ghost use Rattle.given_verdict.specs.First.{IsJudgedFrom, IsUnguarded, IsAnswerWithout};
 
 use commute_prune::pruning;
+use determinism::{First, judge_any};
 use fs_lang::{Path, Program};
 use given_hosts::{guarded_graphs, guards};
 use guarded_graph::{guard_is_pruned, with_guard};
-use judgement::{First, judge_any};
 use order_encode::Witness;
 use orders::Order;
 use rh_base::{NoMemory, Seq};

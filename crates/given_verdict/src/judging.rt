@@ -6,7 +6,7 @@ ghost use Rattle.fs_semantics.specs.Orders.{Told};
 ghost use Rattle.fs_lang.specs.Meaning.{program_of};
 ghost use Rattle.given_hosts.specs.Given.{IsIdempotentFrom};
 ghost use Rattle.orders.specs.Relation.{comes};
-ghost use Rattle.judgement.specs.declared.first.First.TheVariants as first;
+ghost use Rattle.determinism.specs.declared.first.First.TheVariants as first;
 ghost use Rattle.question_terms.specs.Terms.{budget_of};
 ghost use Rattle.given_verdict.specs.Limits.{HasFewPathsWith, IsLightWith, IsTooLargeWith};
 ghost use Rattle.given_verdict.specs.First.{IsJudgedFrom};
@@ -18,15 +18,15 @@ use crate::ends::{ask_end_from, run_of};
 use crate::first::first_from;
 use crate::limits::check_size_with;
 use answering::Answer;
+use determinism::{First, Sure};
 use fs_lang::{Path, Program};
-use full_verdict::{Asked, Ends, Second, Verdict, judged, order_proofs, two_proofs};
 use given_hosts::none_given;
-use judgement::{First, Sure};
 use orders::Order;
 use proof_check::Verified;
 use question_terms::Terms;
 use rh_base::{Fault, NoMemory, Seq};
 use std::alloc::Global;
+use verdict::{Asked, Ends, Second, Verdict, judged, order_proofs, two_proofs};
 
 /// Asks whether the graph succeeds, where no second run changes anything.
 fn judge_same(

@@ -4,7 +4,7 @@ ghost use Rattle.std.specs.Prelude.{◌≡◌, map, false, IsTrue, IfOk, IfErr};
 ghost use Rattle.rh_base.specs.Refused.{IfRefused};
 ghost use Rattle.fs_lang.specs.Meaning.{program_of};
 ghost use Rattle.host_limits.specs.Limits.{IsWeightWithin, IsWeightOver};
-ghost use Rattle.verdict.specs.Limits.{HasPaths};
+ghost use Rattle.size_limits.specs.Limits.{HasPaths};
 ghost use Rattle.given_verdict.specs.Graphs.{asked_programs};
 ghost use Rattle.given_verdict.specs.Limits.{HasFewPathsWith, IsLightWith, IsTooLargeWith};
 
@@ -13,8 +13,8 @@ use guarded_graph::guarded_programs;
 use host_limits::Limits;
 use path_domain::domain;
 use rh_base::{Fault, NoMemory};
+use size_limits::{path_counts, weight, weights};
 use std::alloc::Global;
-use verdict::{path_counts, weight, weights};
 
 /// How many paths the domain of these programs has.
 fn path_count(alloc: Global, programs: &[Program]) -> Result<u64, NoMemory>

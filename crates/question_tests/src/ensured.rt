@@ -2,16 +2,16 @@
 
 use crate::judging::refused;
 use crate::programs::{in_turn, unordered};
+use determinism::First;
 use ensured_entry::{Ensured, Late, Wanted, judge_entry};
 use fs_lang::{Path, Program};
-use full_verdict::Ends;
-use judgement::First;
 use order_encode::Witness;
 use orders::Order;
 use rh_base::{Fault, Text};
 use std::alloc::Global;
 use std::test::Fail;
 use test_programs::programs;
+use verdict::Ends;
 
 fn text(alloc: Global, words: &str) -> Result<Text, Fail> {
     Ok(Text::from_string(String::from_str(alloc, words)?))

@@ -2,9 +2,9 @@
 
 use crate::judging::refused;
 use crate::programs::unordered;
+use determinism::First;
 use equal_graphs::{Compared, compare};
 use fs_lang::Program;
-use judgement::First;
 use orders::Order;
 use rh_base::Fault;
 use std::alloc::Global;

@@ -5,7 +5,6 @@ ghost use Rattle.orders.specs.Paths.{EndsBelow};
 use crate::judging::refused;
 use crate::programs::in_turn;
 use fs_lang::{Path, Program};
-use full_verdict::{Ends, Second, Verdict};
 use given_repair::repair_from;
 use given_verdict::{check_size_with, judge_from};
 use host_limits::Limits;
@@ -16,6 +15,7 @@ use rh_base::{Fault, Seq};
 use std::alloc::Global;
 use std::test::Fail;
 use test_programs::programs;
+use verdict::{Ends, Second, Verdict};
 
 /// These folders, with ` ` between.
 fn folders(alloc: Global, words: &str) -> Result<Seq<Path>, Fail> {

@@ -1,8 +1,8 @@
 //! Answers to the question of order, and programs that are too large for it.
 
 use crate::programs::{all_again, in_turn, unordered};
+use determinism::{First, Sure, judge_order};
 use fs_lang::Program;
-use judgement::{First, Sure, judge_order};
 use orders::Order;
 use rh_base::{Fault, Refusal};
 use std::alloc::Global;

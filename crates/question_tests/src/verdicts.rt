@@ -5,12 +5,12 @@ ghost use Rattle.orders.specs.Paths.{EndsBelow};
 use crate::judging::refused;
 use crate::programs::{all_again, in_turn, unordered};
 use fs_lang::Program;
-use full_verdict::{Ends, Second, Verdict, judge};
 use orders::Order;
 use rh_base::Fault;
 use std::alloc::Global;
 use std::test::Fail;
 use test_programs::programs;
+use verdict::{Ends, Second, Verdict, judge};
 
 fn of_second_runs(second: &Second) -> &'static str {
     match second {

@@ -8,10 +8,10 @@ use pp_compile::compile;
 use pp_value::{Pairs, Value};
 use res_models::program_of;
 use rh_base::{Fault, Seq};
+use size_limits::weight;
 use std::alloc::Global;
 use std::process::Abort;
 use std::test::Fail;
-use verdict::weight;
 use workload::workload;
 
 /// The catalog of a manifest that stands in no need of facts.

@@ -16,7 +16,7 @@ use Rattle.catalog_semantics.specs.Catalogs.{Catalog}
 use Rattle.dep_graph.specs.declared.answer.Graph.{Graph}
 use Rattle.question_terms.specs.declared.terms.Terms.{Terms}
 use Rattle.wanted_entry.specs.declared.wanted.Wanted.{Wanted}
-use Rattle.judgement.specs.First.{IsPrunedCount}
+use Rattle.determinism.specs.First.{IsPrunedCount}
 use Rattle.command_line.specs.declared.table.Ask.{Ask}
 use Rattle.command_line.specs.declared.table.Ask.TheVariants as ask
 use Rattle.command_line.specs.declared.table.Role.TheVariants as role

@@ -5,7 +5,7 @@ use Rattle.fs_semantics.specs.Orders.{Told, IsDeterministic}
 use Rattle.orders.specs.Relation.{Relation, comes}
 use Rattle.cnf.specs.Formulas.{Formula}
 use Rattle.cnf.specs.declared.log.Step.{Step}
-use Rattle.judgement.specs.First.{IsSpent}
+use Rattle.determinism.specs.First.{IsSpent}
 use Rattle.repair.specs.Arrows.{CanBeAdded, IsOrderWith}
 use Rattle.repair.specs.Repairs.{Repairs, AreNeeded, PointRight}
 use Rattle.repair.specs.declared.repaired.Repaired.{Repaired}

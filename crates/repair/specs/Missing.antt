@@ -4,7 +4,7 @@ use Rattle.fs_semantics.specs.FileTree.{Tree, IsTree}
 use Rattle.fs_semantics.specs.Programs.{Program}
 use Rattle.fs_semantics.specs.Orders.{Told, IsLinearExtension, IsDeterministic, outcome}
 use Rattle.orders.specs.Relation.{Relation, comes, Comes}
-use Rattle.judgement.specs.First.{IsSpent}
+use Rattle.determinism.specs.First.{IsSpent}
 use Rattle.repair.specs.Arrows.{IsBetweenFree, Follows}
 use Rattle.repair.specs.declared.missing.Look.{Look}
 use Rattle.repair.specs.declared.missing.Look.TheVariants as look

@@ -5,13 +5,13 @@ ghost use Rattle.std.specs.Prelude.{◌≡◌, ◌≤◌, length, map, IfOk};
 ghost use Rattle.fs_semantics.specs.Orders.{Told, IsExchange, IsCounterexample};
 ghost use Rattle.fs_lang.specs.Meaning.{program_of};
 ghost use Rattle.orders.specs.Relation.{comes};
-ghost use Rattle.judgement.specs.First.{IsDifference};
+ghost use Rattle.determinism.specs.First.{IsDifference};
 ghost use Rattle.repair.specs.Missing.{first_apart, IsMissing, IsLook};
 
 use cnf::{Cnf, Log};
+use determinism::{First, judge_any};
 use fs_lang::{Outcome, Program, Tree};
 use fs_replay::replay;
-use judgement::{First, judge_any};
 use order_encode::Witness;
 use orders::Order;
 use rh_base::NoMemory;

@@ -5,7 +5,7 @@ ghost use Rattle.rh_base.specs.Refused.{IfRefused};
 ghost use Rattle.fs_semantics.specs.Orders.{Told, IsDeterministic};
 ghost use Rattle.fs_lang.specs.Meaning.{program_of};
 ghost use Rattle.orders.specs.Relation.{comes};
-ghost use Rattle.verdict.specs.Limits.{HasFewPaths, IsLight, IsTooLarge};
+ghost use Rattle.size_limits.specs.Limits.{HasFewPaths, IsLight, IsTooLarge};
 ghost use Rattle.repair.specs.Arrows.{CanBeAdded};
 ghost use Rattle.repair.specs.Repairs.{Repairs, AreNeeded, PointRight};
 ghost use Rattle.repair.specs.Answers.{added_in, IfDone, IfSpent, IsSpentWith, IsRepaired};
@@ -17,8 +17,8 @@ use crate::with::order_pairs;
 use fs_lang::Program;
 use orders::Order;
 use rh_base::{Fault, NoMemory};
+use size_limits::check_size;
 use std::alloc::Global;
-use verdict::check_size;
 
 /// Arrows that are missing from a graph, however large it is. Each question has the whole budget; a budget of `u64::MAX` stands for
 /// none.

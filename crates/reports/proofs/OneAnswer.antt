@@ -16,13 +16,13 @@ use Rattle.fs_semantics.specs.Orders.{Told}
 use Rattle.dep_graph.specs.declared.answer.Graph.{Graph}
 use Rattle.host_limits.specs.declared.limits.Limits.{Limits}
 use Rattle.host_limits.specs.Limits.{weight_limit, IsAtMost, IsMoreThan, IsWeightWithin}
-use Rattle.verdict.specs.Limits.{HasPaths}
+use Rattle.size_limits.specs.Limits.{HasPaths}
 use Rattle.given_verdict.specs.Graphs.{asked_programs}
 use Rattle.given_verdict.specs.Limits.{HasFewPathsWith, HasManyPathsWith, IsLightWith, IsHeavyWith, IsTooLargeWith}
 use Rattle.given_entry.specs.Sizes.{probed, HasFewPathsProbed, HasManyPathsProbed, IsTooLargeProbed}
 use Rattle.given_equal.specs.Sizes.{joined, HasFewPathsJoined, HasManyPathsJoined, AreWithinWith, IsTooLargeJoined}
 use Rattle.wanted_entry.specs.declared.wanted.Wanted.{Wanted}
-use Rattle.verdict.specs.Weights.{Weighs}
+use Rattle.size_limits.specs.Weights.{Weighs}
 use Rattle.command_line.specs.declared.table.Role.TheVariants as role
 use Rattle.known_inputs.specs.declared.inputs.Inputs.{Inputs}
 use Rattle.known_inputs.specs.declared.inputs.Known.{Known}

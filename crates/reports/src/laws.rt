@@ -15,7 +15,7 @@ use compiled_text::compiled_texts;
 use graph_semantics::one_graph;
 use known_inputs::files_say_one_thing;
 use pp_compile::one_reading;
-use verdict::{path_counts, weights};
+use size_limits::{path_counts, weights};
 
 /// Where there is a report, nothing is refused: inputs have one catalog, one graph, one list of programs and one size.
 pub fn reports_exclude_refusals()

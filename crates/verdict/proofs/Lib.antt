@@ -1,3 +1,5 @@
-pub mod WeightLaws
-pub mod OnceLaws
-pub mod LimitLaws
+pub mod FirstExtension
+pub mod SecondLaws
+pub mod EndLaws
+pub mod VerdictLaws
+pub mod GroupLaws

@@ -1,2 +1,3 @@
-pub mod Weights
-pub mod Limits
+pub mod Questions
+pub mod Verdicts
+pub mod Answers

@@ -1,11 +1,15 @@
-//! How large the questions about a graph of programs are, and whether they are too large to be asked.
+//! The verdict on a graph of programs: whether it is deterministic, whether a second run changes anything, and whether it
+//! succeeds from some tree. Where it is deterministic one allowed order stands for all, so that the other two need no formula
+//! with an order in it.
 #![tactic(auto)]
 
-mod counts;
-mod laws;
-mod limits;
-mod weighing;
+mod groups;
+mod judging;
+mod second;
+mod success;
+mod verdicts;
 
-pub use laws::{path_counts, weights};
-pub use limits::check_size;
-pub use weighing::weight;
+pub use groups::same_in_groups;
+pub use judging::{judge, judged, order_proofs, two_proofs};
+pub use success::ask_end;
+pub use verdicts::{Asked, Ends, Second, Verdict};

@@ -16,17 +16,17 @@ use Rattle.cnf.specs.declared.log.Log.{Log}
 use Rattle.proof_check.specs.Refuted.{Refutation}
 use Rattle.order_encode.specs.declared.witness.Witness.{Witness}
 use Rattle.order_encode.specs.declared.witness.Witness.TheVariants as witness
-use Rattle.judgement.specs.declared.first.Sure.{Sure}
-use Rattle.judgement.specs.declared.first.Sure.TheVariants as sure
-use Rattle.full_verdict.specs.declared.verdicts.Asked.{Asked}
-use Rattle.full_verdict.specs.declared.verdicts.Asked.TheVariants as asked
-use Rattle.full_verdict.specs.declared.verdicts.Second.TheVariants as second
-use Rattle.full_verdict.specs.declared.verdicts.Ends.{Ends}
-use Rattle.full_verdict.specs.declared.verdicts.Ends.TheVariants as ends
-use Rattle.full_verdict.specs.declared.verdicts.Verdict.{Verdict}
-use Rattle.full_verdict.specs.declared.verdicts.Verdict.TheVariants as verdict
-use Rattle.full_verdict.specs.Answers.{proofs_in}
-use Rattle.full_verdict.specs.Verdicts.{IsByPruning, IfByProof, IfFrom, IfNever}
+use Rattle.determinism.specs.declared.first.Sure.{Sure}
+use Rattle.determinism.specs.declared.first.Sure.TheVariants as sure
+use Rattle.verdict.specs.declared.verdicts.Asked.{Asked}
+use Rattle.verdict.specs.declared.verdicts.Asked.TheVariants as asked
+use Rattle.verdict.specs.declared.verdicts.Second.TheVariants as second
+use Rattle.verdict.specs.declared.verdicts.Ends.{Ends}
+use Rattle.verdict.specs.declared.verdicts.Ends.TheVariants as ends
+use Rattle.verdict.specs.declared.verdicts.Verdict.{Verdict}
+use Rattle.verdict.specs.declared.verdicts.Verdict.TheVariants as verdict
+use Rattle.verdict.specs.Answers.{proofs_in}
+use Rattle.verdict.specs.Verdicts.{IsByPruning, IfByProof, IfFrom, IfNever}
 use Rattle.given_verdict.specs.Limits.{HasFewPathsWith, IsLightWith}
 use Rattle.given_verdict.specs.First.{IsDifferenceFrom, IsProofFrom}
 use Rattle.given_verdict.specs.Second.{IsSecondProofFrom, IsChangeFrom}

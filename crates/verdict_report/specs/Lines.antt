@@ -9,15 +9,15 @@ use Rattle.cnf.specs.ProofText.{proof_text}
 use Rattle.proof_check.specs.Refuted.{Refutation}
 use Rattle.order_encode.specs.declared.witness.Witness.{Witness}
 use Rattle.order_encode.specs.declared.witness.Witness.TheVariants as witness
-use Rattle.full_verdict.specs.declared.verdicts.Asked.{Asked}
-use Rattle.full_verdict.specs.declared.verdicts.Asked.TheVariants as asked
-use Rattle.full_verdict.specs.declared.verdicts.Second.{Second}
-use Rattle.full_verdict.specs.declared.verdicts.Second.TheVariants as second
-use Rattle.full_verdict.specs.declared.verdicts.Ends.{Ends}
-use Rattle.full_verdict.specs.declared.verdicts.Ends.TheVariants as ends
-use Rattle.full_verdict.specs.declared.verdicts.Verdict.{Verdict}
-use Rattle.full_verdict.specs.declared.verdicts.Verdict.TheVariants as verdict
-use Rattle.full_verdict.specs.Answers.{proofs_in}
+use Rattle.verdict.specs.declared.verdicts.Asked.{Asked}
+use Rattle.verdict.specs.declared.verdicts.Asked.TheVariants as asked
+use Rattle.verdict.specs.declared.verdicts.Second.{Second}
+use Rattle.verdict.specs.declared.verdicts.Second.TheVariants as second
+use Rattle.verdict.specs.declared.verdicts.Ends.{Ends}
+use Rattle.verdict.specs.declared.verdicts.Ends.TheVariants as ends
+use Rattle.verdict.specs.declared.verdicts.Verdict.{Verdict}
+use Rattle.verdict.specs.declared.verdicts.Verdict.TheVariants as verdict
+use Rattle.verdict.specs.Answers.{proofs_in}
 use Rattle.verdict_text.specs.Lines.{tree_line, order_line, outcome_line}
 use Rattle.verdict_report.specs.declared.report.Report.{Report}
 

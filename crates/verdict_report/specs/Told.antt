@@ -15,12 +15,12 @@ use Rattle.cnf.specs.declared.log.Step.{Step}
 use Rattle.proof_check.specs.Refuted.{Refutation}
 use Rattle.order_encode.specs.declared.witness.Witness.{Witness}
 use Rattle.order_encode.specs.declared.witness.Witness.TheVariants as witness
-use Rattle.judgement.specs.First.{IsPrunedCount}
-use Rattle.full_verdict.specs.declared.verdicts.Asked.{Asked}
-use Rattle.full_verdict.specs.declared.verdicts.Second.{Second}
-use Rattle.full_verdict.specs.declared.verdicts.Second.TheVariants as second
-use Rattle.full_verdict.specs.declared.verdicts.Verdict.{Verdict}
-use Rattle.full_verdict.specs.declared.verdicts.Verdict.TheVariants as verdict
+use Rattle.determinism.specs.First.{IsPrunedCount}
+use Rattle.verdict.specs.declared.verdicts.Asked.{Asked}
+use Rattle.verdict.specs.declared.verdicts.Second.{Second}
+use Rattle.verdict.specs.declared.verdicts.Second.TheVariants as second
+use Rattle.verdict.specs.declared.verdicts.Verdict.{Verdict}
+use Rattle.verdict.specs.declared.verdicts.Verdict.TheVariants as verdict
 use Rattle.given_verdict.specs.Limits.{HasFewPathsWith, IsLightWith}
 use Rattle.given_verdict.specs.Ends.{IsEndProofFrom}
 use Rattle.given_verdict.specs.Verdicts.{IsSpentOnFrom, IsKnownBeforeFrom, IsOrderProofFrom, AreTwoProofsFrom, AreProofsBeforeFrom}

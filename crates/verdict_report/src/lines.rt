@@ -3,9 +3,9 @@
 ghost use Rattle.std.specs.Prelude.{◌≡◌, ◌++◌, IfOk, OnOk};
 ghost use Rattle.verdict_report.specs.Lines.{count_lines, head_lines, last_line, sure_text, known_lines, question_name, spent_line, spent_text};
 
-use full_verdict::{Asked, Ends};
 use rh_base::{NoMemory, Seq};
 use std::alloc::Global;
+use verdict::{Asked, Ends};
 use verdict_text::push_bytes;
 
 /// Appends how many resources there are, and the notes that stand behind that.

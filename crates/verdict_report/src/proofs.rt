@@ -3,16 +3,16 @@
 ghost use Rattle.std.specs.Prelude.{◌≡◌, ◌++◌, IfOk, OnOk};
 ghost use Rattle.std.specs.List.{AllByRecursion, flat_map};
 ghost use Rattle.cnf.specs.ProofText.{proof_text};
-ghost use Rattle.full_verdict.specs.Answers.{proofs_in};
+ghost use Rattle.verdict.specs.Answers.{proofs_in};
 ghost use Rattle.verdict_report.specs.Lines.{end_proofs, later_proofs, proofs_of, proofs_text};
 ghost use Rattle.verdict_report.specs.Told.{IsProved};
 
 use cnf::write_proof;
-use full_verdict::{Ends, Second, Verdict};
-use judgement::Sure;
+use determinism::Sure;
 use proof_check::Verified;
 use rh_base::{NoMemory, Seq};
 use std::alloc::Global;
+use verdict::{Ends, Second, Verdict};
 use verdict_text::push_bytes;
 
 /// Adds what was refuted to answer the first question.

@@ -13,12 +13,12 @@ use crate::proofs::{proofs_of, proofs_text};
 use crate::report::{Form, Report};
 use crate::runs::{change_text, difference_text};
 use fs_lang::Program;
-use full_verdict::{Ends, Second, Verdict};
 use given_verdict::judge_from;
 use orders::Order;
 use question_terms::Terms;
 use rh_base::{Fault, NoMemory, Seq, Text};
 use std::alloc::Global;
+use verdict::{Ends, Second, Verdict};
 
 fn status_of(judged: &Verdict) -> u8
     ensures { result ≡ status_of judged.now }

@@ -1,6 +1,6 @@
 use Rattle.std.proofs.Common.{map, subst}
 use Rattle.fs_lang.specs.Meaning.{program_of}
-use Rattle.judgement.specs.Answers.{IsJudged}
+use Rattle.determinism.specs.Answers.{IsJudged}
 use Rattle.ensured_entry.proofs.EnsuredLaws.{unsure_differs, unsure_spent}
 use Rattle.ensured_entry.proofs.ensuring.ensure_on.Goals as goal
 

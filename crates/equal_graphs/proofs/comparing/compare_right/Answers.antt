@@ -1,7 +1,7 @@
 use Rattle.std.proofs.Common.{map, subst}
 use Rattle.fs_lang.specs.Meaning.{program_of}
-use Rattle.judgement.specs.Answers.{IsJudged}
-use Rattle.judgement.specs.declared.first.First.TheVariants as first
+use Rattle.determinism.specs.Answers.{IsJudged}
+use Rattle.determinism.specs.declared.first.First.TheVariants as first
 use Rattle.equal_graphs.proofs.ComparedLaws.{settled, differs, spent, right}
 use Rattle.equal_graphs.proofs.comparing.compare_right.Goals as goal
 

@@ -1,7 +1,7 @@
 use Rattle.std.proofs.Common.{List, ℕ, ◌++◌, map, ap, subst, ◌∙◌}
 use Rattle.std.proofs.lemmas.Result.{IfOk-weaker}
 use Rattle.fs_lang.specs.Meaning.{program_of}
-use Rattle.full_verdict.specs.declared.verdicts.Ends.{Ends}
+use Rattle.verdict.specs.declared.verdicts.Ends.{Ends}
 use Rattle.verdict_report.specs.Lines.{fails_line, last_line}
 use Rattle.explain_report.specs.Steps.{EndHolds}
 use Rattle.explain_report.specs.Told.{IsEnding}

@@ -3,7 +3,7 @@ use Rattle.std.proofs.lemmas.List.{length-map}
 use Rattle.fs_semantics.specs.Orders.{Told, IsDeterministic}
 use Rattle.fs_lang.specs.Meaning.{program_of}
 use Rattle.given_hosts.specs.Guard.{after_first}
-use Rattle.judgement.specs.First.{IsSpent}
+use Rattle.determinism.specs.First.{IsSpent}
 use Rattle.given_verdict.specs.Behind.{IsJudgedBehind}
 use Rattle.given_verdict.proofs.BehindLaws.{idempotent, stated_by_any}
 use Rattle.given_verdict.proofs.behind.ask_others.Goals as goal

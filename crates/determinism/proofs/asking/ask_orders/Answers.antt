@@ -1,0 +1,15 @@
+use Rattle.std.proofs.Common.{map}
+use Rattle.fs_semantics.specs.Orders.{Told, IsDeterministic}
+use Rattle.fs_lang.specs.Meaning.{program_of}
+use Rattle.orders.specs.Relation.{comes}
+use Rattle.answering.specs.Answers.{in_its_words}
+use Rattle.determinism.specs.Questions.{States}
+use Rattle.determinism.specs.First.{IsDifference}
+use Rattle.determinism.proofs.asking.ask_orders.Goals as goal
+
+pub returns : goal.returns
+returns c =
+    let es = map program_of c.args.programs.now in
+    let before = Told (comes c.args.order.now) in
+    let q = c.in_ok-question in
+    in_its_words q.question c.args.budget (States es before) (IsDeterministic es before) (IsDifference es before) q.ensures.states q.ensures.sure q.ensures.models c.in_ok-found.found c.in_ok-found.ensures

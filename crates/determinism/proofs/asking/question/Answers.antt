@@ -1,0 +1,21 @@
+use Rattle.std.proofs.Common.{map}
+use Rattle.fs_lang.specs.Meaning.{program_of}
+use Rattle.orders.specs.Relation.{comes}
+use Rattle.fs_semantics.specs.Orders.{Told}
+use Rattle.determinism.proofs.QuestionLaws.{states, none_differ, difference}
+use Rattle.determinism.proofs.asking.question.Goals as goal
+
+pub returns-clause-states : goal.returns-clause-states
+returns-clause-states c =
+    states c.domains.ensures.laid_out c.witnesses_over_the_domain.ensures.orders (map program_of c.args.programs.now) (comes c.args.order.now) c.in_ok-d.d c.in_ok-d.ensures.layout
+    c.in_ok-posed.posed.formula c.in_ok-posed.ensures.exact
+
+pub returns-clause-sure : goal.returns-clause-sure
+returns-clause-sure c =
+    let es = map program_of c.args.programs.now in
+    none_differ c.domains.ensures.laid_out c.witnesses_over_the_domain.ensures.orders es (comes c.args.order.now) c.in_ok-d.d c.in_ok-d.ensures.layout
+    c.in_ok-posed.posed.formula c.in_ok-posed.ensures.exact (c.counterexamples.ensures.deterministic es (comes c.args.order.now)).1
+
+pub returns-clause-models : goal.returns-clause-models
+returns-clause-models c = λ w shown.
+    difference (map program_of c.args.programs.now) (Told (comes c.args.order.now)) c.in_ok-d.d w (c.in_ok-posed.ensures.models w shown)

@@ -1,6 +1,0 @@
-use Rattle.judgement.proofs.JudgeLaws.{not_deterministic}
-use Rattle.judgement.proofs.judging.judge_found.Goals as goal
-
-pub judge_all-requires-clause-differ : goal.judge_all-requires-clause-differ
-judge_all-requires-clause-differ c =
-    not_deterministic c.requires.kept (c.kept_graphs.ensures.counterexamples _ c.args.order.now c.args.kept.now c.requires.kept) c.args.tree c.args.left.now c.args.right.now c.requires.counterexample

@@ -1,5 +1,0 @@
-use Rattle.judgement.proofs.QuestionLaws.{not_two}
-use Rattle.judgement.proofs.whole.two_orders.Goals as goal
-
-pub unreachable-requires : goal.unreachable-requires
-unreachable-requires c = not_two c.args.witness c.requires c.in-Twice.is

@@ -1,0 +1,3 @@
+pub mod WeightLaws
+pub mod OnceLaws
+pub mod LimitLaws

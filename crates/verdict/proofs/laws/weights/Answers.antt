@@ -1,5 +1,0 @@
-use Rattle.verdict.proofs.OnceLaws.{one_weight}
-use Rattle.verdict.proofs.laws.weights.Goals as goal
-
-pub returns : goal.returns
-returns c = one_weight

@@ -1,0 +1,216 @@
+//! Answering the three questions.
+
+ghost use Rattle.std.specs.Prelude.{◌≡◌, ◌↔◌, ◌≤◌, [], ◌∷◌, ◌++◌, length, map, IfOk, IfErr};
+ghost use Rattle.rh_base.specs.Refused.{IfRefused};
+ghost use Rattle.fs_semantics.specs.Orders.{Told, IsDeterministic, IsIdempotent, Succeeds};
+ghost use Rattle.fs_lang.specs.Meaning.{program_of};
+ghost use Rattle.orders.specs.Relation.{comes};
+ghost use Rattle.commute_prune.specs.Keeping.{Keeps};
+ghost use Rattle.size_limits.specs.Limits.{HasFewPaths, IsLight, IsTooLarge};
+ghost use Rattle.determinism.specs.First.{IsPrunedCount, IsProof, IsDifference};
+ghost use Rattle.determinism.specs.Answers.{IsJudged};
+ghost use Rattle.determinism.specs.declared.first.First.TheVariants as first;
+ghost use Rattle.verdict.specs.Questions.{IsSecondProof, IsEndProof, IsSecondChange, IsEnd};
+ghost use Rattle.verdict.specs.Verdicts.{pruned_in, IsByPruning, IfByProof, IfDifferent, IfJudged, IfSame, IfChanged, IfFrom, IfNever, IfSpent, IfSpentAfter, IsSpentOn, IsKnownBefore, AreProofsBefore};
+ghost use Rattle.verdict.specs.Answers.{IsVerdict, proofs_in};
+
+use crate::second::{ask_second, first_run};
+use crate::success::ask_end;
+use crate::verdicts::{Asked, Ends, Second, Verdict};
+use answering::Answer;
+use determinism::{First, Sure, judge_any};
+use fs_lang::Program;
+use orders::Order;
+use proof_check::Verified;
+use rh_base::{Fault, NoMemory, Seq};
+use size_limits::check_size;
+use std::alloc::Global;
+
+/// What was refuted to answer the first question.
+pub fn order_proofs(alloc: Global, sure: Sure) -> Result<Seq<Verified>, NoMemory>
+    ensures { IfOk result (λ proofs. proofs ≡ proofs_in sure) }
+{
+    let mut proofs = Seq::new(alloc);
+    match sure {
+        Sure::Pruned => {}
+        Sure::Proved(verified) => proofs.push(verified)?,
+    }
+    Ok(proofs)
+}
+
+/// What was refuted to answer the first two questions.
+pub fn two_proofs(alloc: Global, sure: Sure, same: Verified) -> Result<Seq<Verified>, NoMemory>
+    ensures { IfOk result (λ proofs. proofs ≡ proofs_in sure ++ same ∷ []) }
+{
+    let mut proofs = order_proofs(alloc, sure)?;
+    proofs.push(same)?;
+    Ok(proofs)
+}
+
+/// Asks whether the graph succeeds, where no second run changes anything.
+fn judge_same(
+    alloc: Global,
+    programs: &[Program],
+    order: &Order,
+    budget: u64,
+    pruned: u32,
+    sure: Sure,
+    same: Verified,
+) -> Result<Verdict, NoMemory>
+    requires count { length programs.now ≡ order.now.count }
+    requires budget { 1 ≤ budget }
+    requires judged { IsJudged (map program_of programs.now) order.now budget (first.Sure pruned sure) }
+    requires idempotent { IsIdempotent (map program_of programs.now) (Told (comes order.now)) }
+    requires same { IsSecondProof (map program_of programs.now) order.now same.formula }
+    ensures { IfOk result (IsVerdict (map program_of programs.now) order.now budget) }
+{
+    let end = ask_end(alloc, programs, order, budget)?;
+    match end {
+        Answer::Shown(witness) => Ok(Verdict::Judged {
+            pruned,
+            sure,
+            second: Second::Same(same),
+            ends: Ends::From(witness),
+        }),
+        Answer::Refuted(verified) => Ok(Verdict::Judged {
+            pruned,
+            sure,
+            second: Second::Same(same),
+            ends: Ends::Never(verified),
+        }),
+        Answer::Spent(cnf, log) => {
+            let proofs = two_proofs(alloc, sure, same)?;
+            Ok(Verdict::Spent {
+                pruned,
+                asked: Asked::Succeeds,
+                cnf,
+                log,
+                proofs,
+            })
+        }
+    }
+}
+
+/// Asks about the first extension of a deterministic graph.
+fn judge_sure(
+    alloc: Global,
+    programs: &[Program],
+    order: &Order,
+    budget: u64,
+    pruned: u32,
+    sure: Sure,
+) -> Result<Verdict, NoMemory>
+    requires count { length programs.now ≡ order.now.count }
+    requires budget { 1 ≤ budget }
+    requires judged { IsJudged (map program_of programs.now) order.now budget (first.Sure pruned sure) }
+    ensures { IfOk result (IsVerdict (map program_of programs.now) order.now budget) }
+{
+    let again = ask_second(alloc, programs, order, budget)?;
+    match again {
+        Answer::Refuted(same) => judge_same(alloc, programs, order, budget, pruned, sure, same),
+        Answer::Shown(witness) => {
+            let end = first_run(alloc, &witness)?;
+            Ok(Verdict::Judged {
+                pruned,
+                sure,
+                second: Second::Differs(witness),
+                ends: Ends::From(end),
+            })
+        }
+        Answer::Spent(cnf, log) => {
+            let proofs = order_proofs(alloc, sure)?;
+            Ok(Verdict::Spent {
+                pruned,
+                asked: Asked::Idempotent,
+                cnf,
+                log,
+                proofs,
+            })
+        }
+    }
+}
+
+/// Goes on from the answer to the first question.
+fn judge_on(
+    alloc: Global,
+    programs: &[Program],
+    order: &Order,
+    budget: u64,
+    answered: First,
+) -> Result<Verdict, NoMemory>
+    requires count { length programs.now ≡ order.now.count }
+    requires budget { 1 ≤ budget }
+    requires judged { IsJudged (map program_of programs.now) order.now budget answered }
+    ensures { IfOk result (IsVerdict (map program_of programs.now) order.now budget) }
+{
+    match answered {
+        First::Sure { pruned, sure } => judge_sure(alloc, programs, order, budget, pruned, sure),
+        First::Differs { pruned, witness } => Ok(Verdict::NotDeterministic { pruned, witness }),
+        First::Spent { pruned, cnf, log } => Ok(Verdict::Spent {
+            pruned,
+            asked: Asked::Deterministic,
+            cnf,
+            log,
+            proofs: Seq::new(alloc),
+        }),
+    }
+}
+
+/// The verdict on a graph, however large it is. Each question has the whole budget; a budget of `u64::MAX` stands for none.
+pub fn judged(
+    alloc: Global,
+    programs: &[Program],
+    order: &Order,
+    budget: u64,
+) -> Result<Verdict, NoMemory>
+    requires count { length programs.now ≡ order.now.count }
+    requires budget { 1 ≤ budget }
+    ensures { IfOk result (IsVerdict (map program_of programs.now) order.now budget) }
+{
+    let answered = judge_any(alloc, programs, order, budget)?;
+    judge_on(alloc, programs, order, budget, answered)
+}
+
+/// Whether the programs are deterministic; where they are, whether a second run changes anything, and whether they succeed from
+/// some tree. Each question has the whole budget; a budget of `u64::MAX` stands for none. Where a second run changes something,
+/// the first one ends in a tree, and the last question isn't asked.
+pub fn judge(
+    alloc: Global,
+    programs: &[Program],
+    order: &Order,
+    budget: u64,
+) -> Result<Verdict, Fault>
+    requires count { length programs.now ≡ order.now.count }
+    requires budget { 1 ≤ budget }
+    // It is refused exactly where the graph is too large to be asked about.
+    ensures paths { IfOk result (λ judged. HasFewPaths (map program_of programs.now)) }
+    ensures weight { IfOk result (λ judged. IsLight (map program_of programs.now)) }
+    ensures refused { IfErr result (λ e. IfRefused e (IsTooLarge (map program_of programs.now))) }
+    ensures only { HasFewPaths (map program_of programs.now) → IsLight (map program_of programs.now)
+        → IfErr result (λ e. IfRefused e (λ r. ⊥)) }
+    ensures pruned { IfOk result (λ judged. IsPrunedCount (map program_of programs.now) (Told (comes order.now)) (pruned_in judged)) }
+    ensures differs { IfOk result (λ judged. IfDifferent judged (IsDifference (map program_of programs.now) (Told (comes order.now)))) }
+    ensures deterministic { IfOk result
+        (λ judged. IfJudged judged (λ sure. IsDeterministic (map program_of programs.now) (Told (comes order.now)))) }
+    // Pruning alone shows it exactly where it keeps nothing.
+    ensures alone { IfOk result (λ judged. IfJudged judged (λ sure. IsByPruning sure
+        ↔ Keeps (map program_of programs.now) (Told (comes order.now)) [])) }
+    ensures proved { IfOk result
+        (λ judged. IfJudged judged
+        (λ sure. IfByProof sure (IsProof (map program_of programs.now) (Told (comes order.now))))) }
+    ensures idempotent { IfOk result (λ judged. IfSame judged (λ f. IsIdempotent (map program_of programs.now) (Told (comes order.now)))) }
+    ensures same { IfOk result (λ judged. IfSame judged (IsSecondProof (map program_of programs.now) order.now)) }
+    ensures changed { IfOk result (λ judged. IfChanged judged (IsSecondChange (map program_of programs.now) order.now)) }
+    ensures succeeds { IfOk result (λ judged. IfFrom judged (λ w. Succeeds (map program_of programs.now) (Told (comes order.now)))) }
+    ensures from { IfOk result (λ judged. IfFrom judged (IsEnd (map program_of programs.now) order.now)) }
+    ensures fails { IfOk result (λ judged. IfNever judged (λ f. Succeeds (map program_of programs.now) (Told (comes order.now)) → ⊥)) }
+    ensures never { IfOk result (λ judged. IfNever judged (IsEndProof (map program_of programs.now) order.now)) }
+    ensures spent { IfOk result (λ judged. IfSpent judged (IsSpentOn (map program_of programs.now) order.now budget)) }
+    ensures known { IfOk result
+        (λ judged. IfSpentAfter judged (λ asked proofs. IsKnownBefore (map program_of programs.now) order.now asked)) }
+    ensures refuted { IfOk result (λ judged. IfSpentAfter judged (AreProofsBefore (map program_of programs.now) order.now)) }
+{
+    check_size(alloc, programs)?;
+    let verdict = judged(alloc, programs, order, budget)?;
+    Ok(verdict)
+}
