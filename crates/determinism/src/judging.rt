@@ -8,16 +8,14 @@
 //! Each search has the whole budget; what is told to be spent is the last one, over a formula that states the question, and a
 //! pair that isn't refuted is only left open.
 
-ghost use Rattle.std.specs.Prelude.{◌≡◌, ◌≢◌, ◌↔◌, ◌+◌, ◌≤◌, [], length, map, IfSome, IfOk, IfErr};
+ghost use Rattle.std.specs.Prelude.{◌≡◌, ◌≢◌, ◌+◌, ◌≤◌, [], length, map, IfSome, IfOk, IfErr};
 ghost use Rattle.fs_semantics.specs.Orders.{Told, IsDeterministic, IsExchange, IsCounterexample};
 ghost use Rattle.rh_base.specs.Refused.{IfRefused};
 ghost use Rattle.fs_lang.specs.Meaning.{program_of};
 ghost use Rattle.orders.specs.Relation.{comes, Comes};
-ghost use Rattle.commute_prune.specs.Keeping.{Keeps};
 ghost use Rattle.kept_graph.specs.Kept.{IsKept};
 ghost use Rattle.size_limits.specs.Limits.{HasFewPaths, IsLight, IsTooLarge};
 ghost use Rattle.determinism.specs.Questions.{IsKeptDeterministic};
-ghost use Rattle.determinism.specs.First.{IsPrunedCount, IsProof, IsSpent, IsDifference, pruned_in, IsAlone, IfSure, IfProved, IfDiffers, IfSpent};
 ghost use Rattle.determinism.specs.Answers.{IsJudged};
 
 use crate::asking::ask;
@@ -268,13 +266,7 @@ pub fn judge_order(
     ensures refused { IfErr result (λ e. IfRefused e (IsTooLarge (map program_of programs.now))) }
     ensures only { HasFewPaths (map program_of programs.now) → IsLight (map program_of programs.now)
         → IfErr result (λ e. IfRefused e (λ r. ⊥)) }
-    ensures pruned { IfOk result (λ first. IsPrunedCount (map program_of programs.now) (Told (comes order.now)) (pruned_in first)) }
-    // Pruning alone answers exactly where it keeps nothing.
-    ensures alone { IfOk result (λ first. IsAlone first ↔ Keeps (map program_of programs.now) (Told (comes order.now)) []) }
-    ensures deterministic { IfOk result (λ first. IfSure first (IsDeterministic (map program_of programs.now) (Told (comes order.now)))) }
-    ensures proved { IfOk result (λ first. IfProved first (IsProof (map program_of programs.now) (Told (comes order.now)))) }
-    ensures differs { IfOk result (λ first. IfDiffers first (IsDifference (map program_of programs.now) (Told (comes order.now)))) }
-    ensures spent { IfOk result (λ first. IfSpent first (IsSpent (map program_of programs.now) (Told (comes order.now)) budget)) }
+    ensures judged { IfOk result (IsJudged (map program_of programs.now) order.now budget) }
 {
     check_size(alloc, programs)?;
     let first = judge_any(alloc, programs, order, budget)?;

@@ -1,17 +1,14 @@
 //! Answering the three questions.
 
-ghost use Rattle.std.specs.Prelude.{◌≡◌, ◌↔◌, ◌≤◌, [], ◌∷◌, ◌++◌, length, map, IfOk, IfErr};
+ghost use Rattle.std.specs.Prelude.{◌≡◌, ◌≤◌, [], ◌∷◌, ◌++◌, length, map, IfOk, IfErr};
 ghost use Rattle.rh_base.specs.Refused.{IfRefused};
-ghost use Rattle.fs_semantics.specs.Orders.{Told, IsDeterministic, IsIdempotent, Succeeds};
+ghost use Rattle.fs_semantics.specs.Orders.{Told, IsIdempotent, Succeeds};
 ghost use Rattle.fs_lang.specs.Meaning.{program_of};
 ghost use Rattle.orders.specs.Relation.{comes};
-ghost use Rattle.commute_prune.specs.Keeping.{Keeps};
 ghost use Rattle.size_limits.specs.Limits.{HasFewPaths, IsLight, IsTooLarge};
-ghost use Rattle.determinism.specs.First.{IsPrunedCount, IsProof, IsDifference};
 ghost use Rattle.determinism.specs.Answers.{IsJudged};
 ghost use Rattle.determinism.specs.declared.first.First.TheVariants as first;
-ghost use Rattle.verdict.specs.Questions.{IsSecondProof, IsEndProof, IsSecondChange, IsEnd};
-ghost use Rattle.verdict.specs.Verdicts.{pruned_in, IsByPruning, IfByProof, IfDifferent, IfJudged, IfSame, IfChanged, IfFrom, IfNever, IfSpent, IfSpentAfter, IsSpentOn, IsKnownBefore, AreProofsBefore};
+ghost use Rattle.verdict.specs.Questions.{IsSecondProof};
 ghost use Rattle.verdict.specs.Answers.{IsVerdict, proofs_in};
 
 use crate::second::{ask_second, first_run};
@@ -188,27 +185,7 @@ pub fn judge(
     ensures refused { IfErr result (λ e. IfRefused e (IsTooLarge (map program_of programs.now))) }
     ensures only { HasFewPaths (map program_of programs.now) → IsLight (map program_of programs.now)
         → IfErr result (λ e. IfRefused e (λ r. ⊥)) }
-    ensures pruned { IfOk result (λ judged. IsPrunedCount (map program_of programs.now) (Told (comes order.now)) (pruned_in judged)) }
-    ensures differs { IfOk result (λ judged. IfDifferent judged (IsDifference (map program_of programs.now) (Told (comes order.now)))) }
-    ensures deterministic { IfOk result
-        (λ judged. IfJudged judged (λ sure. IsDeterministic (map program_of programs.now) (Told (comes order.now)))) }
-    // Pruning alone shows it exactly where it keeps nothing.
-    ensures alone { IfOk result (λ judged. IfJudged judged (λ sure. IsByPruning sure
-        ↔ Keeps (map program_of programs.now) (Told (comes order.now)) [])) }
-    ensures proved { IfOk result
-        (λ judged. IfJudged judged
-        (λ sure. IfByProof sure (IsProof (map program_of programs.now) (Told (comes order.now))))) }
-    ensures idempotent { IfOk result (λ judged. IfSame judged (λ f. IsIdempotent (map program_of programs.now) (Told (comes order.now)))) }
-    ensures same { IfOk result (λ judged. IfSame judged (IsSecondProof (map program_of programs.now) order.now)) }
-    ensures changed { IfOk result (λ judged. IfChanged judged (IsSecondChange (map program_of programs.now) order.now)) }
-    ensures succeeds { IfOk result (λ judged. IfFrom judged (λ w. Succeeds (map program_of programs.now) (Told (comes order.now)))) }
-    ensures from { IfOk result (λ judged. IfFrom judged (IsEnd (map program_of programs.now) order.now)) }
-    ensures fails { IfOk result (λ judged. IfNever judged (λ f. Succeeds (map program_of programs.now) (Told (comes order.now)) → ⊥)) }
-    ensures never { IfOk result (λ judged. IfNever judged (IsEndProof (map program_of programs.now) order.now)) }
-    ensures spent { IfOk result (λ judged. IfSpent judged (IsSpentOn (map program_of programs.now) order.now budget)) }
-    ensures known { IfOk result
-        (λ judged. IfSpentAfter judged (λ asked proofs. IsKnownBefore (map program_of programs.now) order.now asked)) }
-    ensures refuted { IfOk result (λ judged. IfSpentAfter judged (AreProofsBefore (map program_of programs.now) order.now)) }
+    ensures judged { IfOk result (IsVerdict (map program_of programs.now) order.now budget) }
 {
     check_size(alloc, programs)?;
     let verdict = judged(alloc, programs, order, budget)?;
