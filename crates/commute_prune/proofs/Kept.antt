@@ -9,7 +9,7 @@ use Rattle.fs_semantics.specs.Changes.{IsProper}
 use Rattle.fs_semantics.proofs.Counts.{times_itself, times_other, all_from}
 use Rattle.commute_prune.specs.Pruning.{without, IsOrderOf, Move, ToFirst, ToLast, Leads, firsts, lasts, chosen, between, AreSome, EndsAsKept}
 use Rattle.commute_prune.proofs.Lists.{none_left, others_left}
-use Rattle.commute_prune.proofs.MovedLaws.{AllAgree, agree_from, kept_of, completed}
+use Rattle.commute_prune.proofs.MovedLaws.{ApartCommute, AllAgree, agree_from, kept_of, completed}
 use Rattle.commute_prune.proofs.StepLaws.{up_below, without_keeps, without_short}
 
 -- equations that follow from one another are told alike
@@ -269,24 +269,24 @@ module _ (es : List Program) (before : ℕ → ℕ → Type 0) where
     few = omega (arith, kept_short moves (up_from 0 (length es)) kept leads, length-up 0 (length es));
   }
 
-  module _ (proper : AllByRecursion IsProper es) (moves : List Move) (kept : List ℕ) (leads : Leads es before moves (up_from 0 (length es)) kept) where
+  module _ (apart_commute : ApartCommute) (proper : AllByRecursion IsProper es) (moves : List Move) (kept : List ℕ) (leads : Leads es before moves (up_from 0 (length es)) kept) where
     -- all programs are deterministic where the kept ones are
     pub kept_is_enough : IsDeterministic (chosen es kept) (between before kept) → IsDeterministic es before
     kept_is_enough h t tree o p a b =
-        agree_from es proper before moves (up_from 0 (length es)) kept leads (agree_kept before es kept (kept_once moves _ kept leads (once_up (length es))) h) t tree o p
+        agree_from apart_commute es proper before moves (up_from 0 (length es)) kept leads (agree_kept before es kept (kept_once moves _ kept leads (once_up (length es))) h) t tree o p
         (order_of_all (length es) before o a) (order_of_all (length es) before p b)
 
     -- an order of the kept ones, with what goes first and what goes last around it, is one of all
     pub completed_order : (o : List ℕ) → IsLinearExtension (length (chosen es kept)) (between before kept) o
         → IsLinearExtension (length es) before (firsts moves ++ (map (λ i. get_or kept i 0) o ++ lasts moves))
     completed_order o a = all_in_order (length es) before _
-        (completed es proper before moves (up_from 0 (length es)) kept (map (λ i. get_or kept i 0) o) leads (as_numbers before es kept o (kept_once moves _ kept leads (once_up (length es))) a))
+        (completed apart_commute es proper before moves (up_from 0 (length es)) kept (map (λ i. get_or kept i 0) o) leads (as_numbers before es kept o (kept_once moves _ kept leads (once_up (length es))) a))
 
     -- an order of all ends as one of the kept ones does, with those around it
     pub ends_as_kept : (o : List ℕ) → IsLinearExtension (length es) before o → EndsAsKept es before moves kept o
     ends_as_kept o a =
         let once = kept_once moves _ kept leads (once_up (length es)) in
-        let y = kept_of es proper before moves (up_from 0 (length es)) kept o leads (order_of_all (length es) before o a) in
+        let y = kept_of apart_commute es proper before moves (up_from 0 (length es)) kept o leads (order_of_all (length es) before o a) in
         let all = all_from (λ j. 0 < times j kept) y.rest (λ j h. omega (arith, h, y.order.same j)) in
         record {
           rest = map (λ k. place k kept) y.rest;

@@ -10,13 +10,17 @@ use Rattle.fs_semantics.proofs.ConstructLaws.{keeps_tree}
 use Rattle.fs_semantics.proofs.Counts.{times_append, times_found, all_from, all_at, none_ahead_at, none_ahead_behind, none_ahead_without, none_ahead_push}
 use Rattle.fs_semantics.proofs.Permuted.{and_then_assoc, then_alike}
 use Rattle.fs_semantics.proofs.Commuting.{outcome-append}
-use Rattle.effect_sets.proofs.ApartLaws.{apart_commute}
+use Rattle.effect_sets.specs.Footprints.{footprint, AreApart}
 use Rattle.commute_prune.specs.Pruning.{without, IsOrderOf, ApartAt, MayBeLast, MayBeFirst, Move, ToFirst, ToLast, Leads, firsts, lasts}
 use Rattle.commute_prune.proofs.Lists.{none_left, others_left}
 
 -- all orders of ks end alike
 abbrev pub AllAgree : List Program → (ℕ → ℕ → Type 0) → List ℕ → Type 0
 AllAgree es before ks = (t : Tree) → IsTree t → (o p : List ℕ) → IsOrderOf before ks o → IsOrderOf before ks p → outcome es o t ≡ outcome es p t
+
+-- programs whose footprints are apart commute
+abbrev pub ApartCommute : Type 0
+ApartCommute = (e f : Program) → IsProper e → IsProper f → AreApart (footprint e) (footprint f) → Commutes e f
 
 -- the program with a number is proper
 proper_at : (es : List Program) → AllByRecursion IsProper es → (i : ℕ) → IsProper (get_or es i Id)
@@ -49,7 +53,7 @@ still_one j k ks h = elim (j == k) as (λ b. (j == k) ≡ b → 0 < times j ks) 
   | false ↦ λ e. omega (arith, h, others_left j k ks (eqb-false j k e))
 ] refl
 
-module _ (es : List Program) (proper : AllByRecursion IsProper es) (before : ℕ → ℕ → Type 0) where
+module _ (apart_commute : ApartCommute) (es : List Program) (proper : AllByRecursion IsProper es) (before : ℕ → ℕ → Type 0) where
   -- a program leaves a file tree one
   tree_after : (i : ℕ) (t u : Tree) → IsTree t → run (get_or es i Id) t ≡ Some u → IsTree u
   tree_after i t u tree h = keeps_tree (get_or es i Id) t u (proper_at es proper i) tree h

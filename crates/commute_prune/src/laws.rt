@@ -10,6 +10,7 @@ ghost use Rattle.sure_folders.specs.Before.{IsSureBeforeEither};
 ghost use Rattle.commute_prune.specs.Doubtful.{AreApartWhereSure, AreDoubtful};
 ghost use Rattle.commute_prune.specs.Pruning.{Move, Leads, Prunes, firsts, lasts, chosen, between, AreSome, EndsAsKept};
 
+use effect_sets::apart_programs;
 use sure_folders::{apart_where_sure, sure_before};
 
 /// The moves of a pruning are determined, and lead to what is kept, which is some of all. Where the kept programs are
@@ -33,7 +34,9 @@ pub fn pruning()
     ensures rearranged { (es : List Program) → AllByRecursion IsProper es → (before : ℕ → ℕ → Bool) (moves : List Move) (kept : List ℕ)
         → Leads es (Told before) moves (up_from 0 (length es)) kept
         → (o : List ℕ) → IsLinearExtension (length es) (Told before) o → EndsAsKept es (Told before) moves kept o }
-{}
+{
+    apart_programs();
+}
 
 /// Programs that are apart, each where the folders stand that are sure before it, commute from the trees in which these stand. So
 /// where those of each doubtful pair commute, as where there is none, the order doesn't matter.

@@ -2,13 +2,11 @@
 //! here does nothing, and its contract is a law that callers may use.
 #![tactic(auto)]
 
-ghost use Rattle.std.specs.Prelude.{◌≡◌, ◌↔◌, ℕ, Bool, IsTrue, List, None, slice_index_or};
-ghost use Rattle.fs_semantics.specs.FileTree.{Path, Tree, IsTree, is_among};
+ghost use Rattle.std.specs.Prelude.{◌≡◌, ℕ, Bool, IsTrue, List, None, slice_index_or};
+ghost use Rattle.fs_semantics.specs.FileTree.{Tree, IsTree};
 ghost use Rattle.fs_semantics.specs.Programs.{Program, Id, run};
 ghost use Rattle.fs_semantics.specs.Orders.{outcome, IsDeterministic, IsIdempotent, Succeeds, IsCounterexample, IsSecondRunCounterexample};
-ghost use Rattle.finite_domain.specs.Domains.{SpeakOf, IsNamed, Domain, IsDomain};
-ghost use Rattle.finite_domain.specs.Mentions.{Below, AnyMentions};
-ghost use Rattle.finite_domain.specs.Matters.{all_matters, paths_among, watched_among, all_fronts};
+ghost use Rattle.finite_domain.specs.Domains.{Domain, IsDomain};
 ghost use Rattle.finite_domain.specs.Shadows.{IsOver, IsShadow, EndAsShadows, StandsFor};
 ghost use Rattle.finite_domain.specs.Layouts.{Layout, domain_of, IsLayout};
 ghost use Rattle.finite_domain.specs.Questions.{IsDeterministicOver, IsIdempotentOver, FailsOver};
@@ -51,11 +49,4 @@ pub fn witnesses_over_the_domain()
 pub fn domains()
     ensures exist { (es : List Program) → (d : Domain) × IsDomain es d }
     ensures laid_out { (es : List Program) (l : Layout) → IsLayout es l → IsDomain es (domain_of l) }
-{}
-
-/// The paths of the programs, the named paths and the paths whose children matter, as lists.
-pub fn lists()
-    ensures paths { (es : List Program) (p : Path) → IsTrue (is_among p (paths_among (all_matters es))) ↔ SpeakOf es p }
-    ensures named { (es : List Program) (p : Path) → IsTrue (is_among p (all_fronts (paths_among (all_matters es)))) ↔ IsNamed es p }
-    ensures watched { (es : List Program) (p : Path) → IsTrue (is_among p (watched_among (all_matters es))) ↔ AnyMentions es (Below p) }
 {}

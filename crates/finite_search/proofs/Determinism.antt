@@ -5,11 +5,9 @@ use Rattle.fs_semantics.specs.FileTree.{Path, path_eq, is_root, is_among, Tree, 
 use Rattle.fs_semantics.specs.Programs.{Program}
 use Rattle.fs_semantics.specs.Orders.{Told, IsLinearExtension, outcome, IsDeterministic}
 use Rattle.fs_semantics.proofs.Decided.{outcome_told}
-use Rattle.finite_domain.specs.Domains.{Domain, is_known}
+use Rattle.finite_domain.specs.Domains.{Domain, IsDomain, is_known}
 use Rattle.finite_domain.specs.Shadows.{IsOver}
 use Rattle.finite_domain.specs.Questions.{IsDeterministicOver}
-use Rattle.finite_domain.proofs.Exist.{has_domain}
-use Rattle.finite_domain.proofs.Graphs.{deterministic_from}
 use Rattle.finite_search.proofs.Deciding.{Decided, decided_as, decided_then}
 use Rattle.finite_search.proofs.Extensions.{decided_extensions}
 use Rattle.finite_search.proofs.Entries.{decided_tree}
@@ -42,7 +40,15 @@ made_over d t made = record { paths = λ p k. sym (paths_are d p) ∙ made.paths
 over_made : (d : Domain) (t : Tree) → IsOver d t → IsMadeOf (paths_of d) d.contents t
 over_made d t over = record { paths = λ p k. paths_are d p ∙ over.paths p k; texts = over.contents }
 
-module _ (es : List Program) (before : ℕ → ℕ → Bool) where
+-- every list of programs has a domain
+abbrev pub HaveDomains : Type 0
+HaveDomains = (es : List Program) → (d : Domain) × IsDomain es d
+
+-- what is deterministic from all trees over a domain is so from all trees
+abbrev pub TreesOverAreEnough : Type 0
+TreesOverAreEnough = (es : List Program) (d : Domain) → IsDomain es d → (before : ℕ → ℕ → Bool) → IsDeterministicOver d es (Told before) → IsDeterministic es (Told before)
+
+module _ (have : HaveDomains) (enough : TreesOverAreEnough) (es : List Program) (before : ℕ → ℕ → Bool) where
   -- an allowed order
   abbrev Allowed : List ℕ → Type 0
   Allowed o = IsLinearExtension (length es) (Told before) o
@@ -63,5 +69,5 @@ module _ (es : List Program) (before : ℕ → ℕ → Bool) where
   -- and so from all trees
   pub determinism_decided : Decided (IsDeterministic es (Told before))
   determinism_decided =
-      let d = has_domain es in
-      decided_as (deterministic_from es d.0 d.1 (Told before)) (λ f t tree over. f t tree) (decided_over d.0)
+      let d = have es in
+      decided_as (enough es d.0 d.1 before) (λ f t tree over. f t tree) (decided_over d.0)

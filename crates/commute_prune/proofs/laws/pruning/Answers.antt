@@ -8,7 +8,7 @@ returns c = record {
   leads = λ es before. prunes_leads es (Told before);
   one = λ es before. one_pruning es (Told before);
   some = λ es before moves kept leads. some_kept es (Told before) moves kept leads;
-  enough = λ es proper before moves kept leads. kept_is_enough es (Told before) proper moves kept leads;
-  completed = λ es proper before moves kept leads. completed_order es (Told before) proper moves kept leads;
-  rearranged = λ es proper before moves kept leads. ends_as_kept es (Told before) proper moves kept leads;
+  enough = λ es proper before moves kept leads. kept_is_enough es (Told before) c.apart_programs.ensures proper moves kept leads;
+  completed = λ es proper before moves kept leads. completed_order es (Told before) c.apart_programs.ensures proper moves kept leads;
+  rearranged = λ es proper before moves kept leads. ends_as_kept es (Told before) c.apart_programs.ensures proper moves kept leads;
 }
