@@ -1,15 +1,19 @@
 -- Two programs between the same others, run in either order.
-use Rattle.std.proofs.Common.{◌≡◌, ℕ, Bool, true, false, inl, inr, List, [], ◌∷◌, ◌++◌, Some, None, Result, Ok, Err, IfOk, get_or, refl, sym, ap, subst, ◌∙◌}
+use Rattle.std.proofs.Common.{◌≡◌, ℕ, Bool, true, false, inl, inr, List, [], ◌∷◌, ◌++◌, map, Some, None, Result, Ok, Err, IfOk, get_or, refl, sym, ap, subst, ◌∙◌}
+use Rattle.std.specs.Prelude.{◌↔◌, IsTrue}
 use Rattle.std.specs.List.{AllByRecursion}
 use Rattle.fs_semantics.specs.FileTree.{Tree, IsTree}
 use Rattle.fs_semantics.specs.Programs.{Outcome, Program, Id, and_then, run}
 use Rattle.fs_semantics.specs.Orders.{outcome}
+use Rattle.fs_lang.specs.Meaning.{program_of}
 use Rattle.fs_interpreter.specs.Meanings.{plain_meanings}
 use Rattle.fs_interpreter.specs.Places.{Listed}
 use Rattle.fs_interpreter.specs.States.{State, state_of}
 use Rattle.fs_interpreter.specs.Standing.{StandsFor}
 use Rattle.fs_interpreter.specs.declared.cells.Cells.{Cells}
+use Rattle.fs_interpreter.specs.declared.plain.Plain.{Plain}
 use Rattle.fs_replay.specs.Told.{plain_state}
+use Rattle.fs_replay.specs.declared.exchange.Exchange.{Exchange}
 use Rattle.fs_replay.specs.declared.ground.Ground.{Ground}
 use Rattle.fs_replay.specs.Exchanged.{IsGround, StandOn, HoldTheSame, AreAlike}
 use Rattle.fs_replay.proofs.OutcomeLaws.{parents_of}
@@ -43,6 +47,32 @@ ends_alike es front back a b t same = sym (whole_is es front back a b t) ∙ ap 
 -- cells made of a tree stand for it
 pub stand_first : (g : Ground) → IsGround g → IsTree g.tree.now → StandOn g (Some g.tree.now) g.cells
 stand_first g is tree = record { cells = is.cells; places = is.places; stands = is.stands; parents = parents_of g.tree.now tree }
+
+-- the front leaves what the cells stand for that were copied and run on
+pub stand_ahead : (g : Ground) (x : Exchange) → IsGround g → IsTree g.tree.now → (front : List ℕ) (old new : Cells Plain Bool ℕ) → old ≡ g.cells → front ≡ x.front
+    → ((o : Outcome) → StandOn g o old → StandOn g (and_then o (outcome (map program_of g.programs.now) front)) new)
+    → StandOn g (outcome (map program_of g.programs.now) x.front g.tree.now) new
+stand_ahead g x is tree front old new same ahead runs =
+    subst (λ f. StandOn g (outcome (map program_of g.programs.now) f g.tree.now) new) ahead
+    (runs (Some g.tree.now) (subst (StandOn g (Some g.tree.now)) (sym same) (stand_first g is tree)))
+
+-- outcomes that are read off cells are what these stand for, so a comparison of them is one of those
+pub both_told : {B : Type 0} → ((table : Listed) (s : State) (o u : Outcome) → StandsFor table s o → StandsFor table s u → o ≡ u)
+    → (g : Ground) (left right : Cells B Bool ℕ) (o u one other : Outcome) (r : Bool) → StandsFor g.table (plain_state left) one → StandsFor g.table (plain_state right) other
+    → StandOn g o left → StandOn g u right → IsTrue r ↔ (one ≡ other) → IsTrue r ↔ (o ≡ u)
+both_told same g left right o u one other r told other_told is other_is h =
+    let a = same g.table (plain_state left) o one is.stands told in
+    let b = same g.table (plain_state right) u other other_is.stands other_told in
+    (λ e. a ∙ h.0 e ∙ sym b, λ e. h.1 (sym a ∙ e ∙ b))
+
+-- to compare what is left once the back has run, too, is to compare the whole orders
+pub both_wholes : (es : List Program) (front back last : List ℕ) (a b : ℕ) (t : Tree) (r : Bool) → last ≡ back
+    → IsTrue r ↔ (and_then (and_then (outcome es front t) (outcome es (a ∷ b ∷ []))) (outcome es last) ≡ and_then (and_then (outcome es front t) (outcome es (b ∷ a ∷ []))) (outcome es last))
+    → IsTrue r ↔ (outcome es (front ++ a ∷ b ∷ back) t ≡ outcome es (front ++ b ∷ a ∷ back) t)
+both_wholes es front back last a b t r is h =
+    let one = whole_is es front last a b t ∙ ap (λ l. outcome es (front ++ a ∷ b ∷ l) t) is in
+    let other = whole_is es front last b a t ∙ ap (λ l. outcome es (front ++ b ∷ a ∷ l) t) is in
+    (λ e. sym one ∙ h.0 e ∙ other, λ e. h.1 (one ∙ e ∙ sym other))
 
 -- what follows for each value holds of a result that has one
 pub if_ok : {X E : Type 0} (r : Result X E) {P Q : X → Type 0} → ((x : X) → P x → Q x) → IfOk r P → IfOk r Q

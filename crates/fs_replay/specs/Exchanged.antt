@@ -1,8 +1,9 @@
 -- Two programs between the same others, in either order, from one tree.
-use Rattle.std.specs.Prelude.{◌≡◌, ◌⊎◌, ℕ, Bool, true, List, ◌∷◌, ◌++◌, length, IfSome}
+use Rattle.std.specs.Prelude.{◌≡◌, ◌⊎◌, ℕ, Bool, true, List, [], ◌∷◌, ◌++◌, map, length, IfSome}
 use Rattle.fs_semantics.specs.FileTree.{HasParents}
-use Rattle.fs_semantics.specs.Programs.{Outcome}
-use Rattle.fs_lang.specs.Meaning.{programs_in}
+use Rattle.fs_semantics.specs.Programs.{Outcome, and_then}
+use Rattle.fs_semantics.specs.Orders.{outcome}
+use Rattle.fs_lang.specs.Meaning.{program_of, programs_in}
 use Rattle.fs_interpreter.specs.Meanings.{plain_meanings}
 use Rattle.fs_interpreter.specs.Places.{CoversSteps}
 use Rattle.fs_interpreter.specs.States.{AreCells}
@@ -33,6 +34,14 @@ one_way x = x.front ++ x.first ∷ x.second ∷ x.back
 -- the second ahead of the first, between the same others
 abbrev pub other_way : Exchange → List ℕ
 other_way x = x.front ++ x.second ∷ x.first ∷ x.back
+
+-- what stands once the others ahead have run, and then the two, the first ahead of the second
+abbrev pub left_behind_one_way : Ground → Exchange → Outcome
+left_behind_one_way g x = and_then (outcome (map program_of g.programs.now) x.front g.tree.now) (outcome (map program_of g.programs.now) (x.first ∷ x.second ∷ []))
+
+-- the same, the second ahead of the first
+abbrev pub left_behind_other_way : Ground → Exchange → Outcome
+left_behind_other_way g x = and_then (outcome (map program_of g.programs.now) x.front g.tree.now) (outcome (map program_of g.programs.now) (x.second ∷ x.first ∷ []))
 
 -- each place holds the same in both
 pub record HoldTheSame {B : Type 0} (a b : Cells B Bool ℕ) : Type 0 where

@@ -6,7 +6,7 @@ ghost use Rattle.std.specs.List.{AllByRecursion};
 ghost use Rattle.fs_semantics.specs.Programs.{Outcome as Ending, and_then};
 ghost use Rattle.fs_semantics.specs.Orders.{outcome};
 ghost use Rattle.fs_lang.specs.Meaning.{program_of};
-ghost use Rattle.fs_replay.specs.Exchanged.{IsGround, StandOn, AreAlike, one_way, other_way};
+ghost use Rattle.fs_replay.specs.Exchanged.{IsGround, StandOn, AreAlike, one_way, other_way, left_behind_one_way, left_behind_other_way};
 
 use crate::comparing::same_outcome;
 use crate::ground::Ground;
@@ -95,28 +95,65 @@ fn run_on(
     requires ground { IsGround ground.now }
     requires below { AllByRecursion (λ i. i < length ground.now.programs.now) order.now }
     requires stand { (o : Ending) × StandOn ground.now o cells.old }
-    ensures { OnOk result ((o : Ending) → StandOn ground.now o cells.old
-        → StandOn ground.now (and_then o (outcome (map program_of ground.now.programs.now) order.now)) cells.new) }
+    ensures { OnOk result ((o : Ending) → StandOn ground.now o cells.old → StandOn ground.now (and_then o (outcome (map program_of ground.now.programs.now) order.now)) cells.new) }
 {
     constructs();
     run_in_order(alloc, &ground.table, ground.programs, order, cells)
 }
 
-/// Whether cells stand for the same outcome as others.
-fn stand_alike(
+/// What both runs hold once the two have run, in the one order and in the other.
+#[derive(Drop)]
+struct Runs {
+    left: Cells<Plain>,
+    right: Cells<Plain>,
+}
+
+/// Runs what goes ahead of the two, and then these in either order.
+fn both_ways(alloc: Global, ground: &Ground, exchange: &Exchange) -> Result<Runs, NoMemory>
+    requires ground { IsGround ground.now }
+    requires below { AllByRecursion (λ i. i < length ground.now.programs.now) (one_way exchange.now) }
+    ensures left { IfOk result (λ runs. StandOn ground.now (left_behind_one_way ground.now exchange.now) runs.left) }
+    ensures right { IfOk result (λ runs. StandOn ground.now (left_behind_other_way ground.now exchange.now) runs.right) }
+{
+    ground.tree.is_tree();
+    let front = exchange.front.as_slice();
+    let mut left = cells_like(alloc, &ground.cells)?;
+    run_on(alloc, ground, front, &mut left)?;
+    let mut right = cells_like(alloc, &left)?;
+    run_on(alloc, ground, &[exchange.first, exchange.second], &mut left)?;
+    run_on(
+        alloc,
+        ground,
+        &[exchange.second, exchange.first],
+        &mut right,
+    )?;
+    Ok(Runs { left, right })
+}
+
+/// Whether both runs end alike once these programs have run, too.
+fn end_alike_behind(
     alloc: Global,
     ground: &Ground,
-    left: &Cells<Plain>,
-    right: &Cells<Plain>,
+    back: &[u32],
+    runs: Runs,
 ) -> Result<bool, NoMemory>
-    requires left { (o : Ending) × StandOn ground.now o left.now }
-    requires right { (o : Ending) × StandOn ground.now o right.now }
-    ensures { IfOk result (λ alike. (o u : Ending) → StandOn ground.now o left.now → StandOn ground.now u right.now
-        → IsTrue alike ↔ (o ≡ u)) }
+    requires ground { IsGround ground.now }
+    requires below { AllByRecursion (λ i. i < length ground.now.programs.now) back.now }
+    requires left { (o : Ending) × StandOn ground.now o runs.left }
+    requires right { (o : Ending) × StandOn ground.now o runs.right }
+    ensures { IfOk result (λ alike. (o u : Ending) → StandOn ground.now o runs.left → StandOn ground.now u runs.right
+        → IsTrue alike ↔ (and_then o (outcome (map program_of ground.now.programs.now) back.now)
+        ≡ and_then u (outcome (map program_of ground.now.programs.now) back.now))) }
 {
     states();
-    let one = outcome_told(alloc, &ground.table, left)?;
-    let other = outcome_told(alloc, &ground.table, right)?;
+    let Runs {
+        mut left,
+        mut right,
+    } = runs;
+    run_on(alloc, ground, back, &mut left)?;
+    run_on(alloc, ground, back, &mut right)?;
+    let one = outcome_told(alloc, &ground.table, &left)?;
+    let other = outcome_told(alloc, &ground.table, &right)?;
     Ok(same_outcome(&one, &other))
 }
 
@@ -132,25 +169,11 @@ pub fn end_alike_exchanged(
         ↔ (outcome (map program_of ground.now.programs.now) (one_way exchange.now) ground.now.tree.now
         ≡ outcome (map program_of ground.now.programs.now) (other_way exchange.now) ground.now.tree.now)) }
 {
-    ground.tree.is_tree();
     states();
-    let front = exchange.front.as_slice();
-    let back = exchange.back.as_slice();
-    let mut left = cells_like(alloc, &ground.cells)?;
-    run_on(alloc, ground, front, &mut left)?;
-    let mut right = cells_like(alloc, &left)?;
-    run_on(alloc, ground, &[exchange.first, exchange.second], &mut left)?;
-    run_on(
-        alloc,
-        ground,
-        &[exchange.second, exchange.first],
-        &mut right,
-    )?;
-    let alike = are_alike(&left, &right);
+    let runs = both_ways(alloc, ground, exchange)?;
+    let alike = are_alike(&runs.left, &runs.right);
     if alike {
         return Ok(true);
     }
-    run_on(alloc, ground, back, &mut left)?;
-    run_on(alloc, ground, back, &mut right)?;
-    stand_alike(alloc, ground, &left, &right)
+    end_alike_behind(alloc, ground, exchange.back.as_slice(), runs)
 }
