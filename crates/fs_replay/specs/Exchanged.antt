@@ -37,11 +37,13 @@ other_way x = x.front ++ x.second ∷ x.first ∷ x.back
 
 -- what stands once the others ahead have run, and then the two, the first ahead of the second
 abbrev pub left_behind_one_way : Ground → Exchange → Outcome
-left_behind_one_way g x = and_then (outcome (map program_of g.programs.now) x.front g.tree.now) (outcome (map program_of g.programs.now) (x.first ∷ x.second ∷ []))
+left_behind_one_way g x = and_then (outcome (map program_of g.programs.now) x.front g.tree.now)
+    (outcome (map program_of g.programs.now) (x.first ∷ x.second ∷ []))
 
 -- the same, the second ahead of the first
 abbrev pub left_behind_other_way : Ground → Exchange → Outcome
-left_behind_other_way g x = and_then (outcome (map program_of g.programs.now) x.front g.tree.now) (outcome (map program_of g.programs.now) (x.second ∷ x.first ∷ []))
+left_behind_other_way g x = and_then (outcome (map program_of g.programs.now) x.front g.tree.now)
+    (outcome (map program_of g.programs.now) (x.second ∷ x.first ∷ []))
 
 -- each place holds the same in both
 pub record HoldTheSame {B : Type 0} (a b : Cells B Bool ℕ) : Type 0 where

@@ -95,7 +95,8 @@ fn run_on(
     requires ground { IsGround ground.now }
     requires below { AllByRecursion (λ i. i < length ground.now.programs.now) order.now }
     requires stand { (o : Ending) × StandOn ground.now o cells.old }
-    ensures { OnOk result ((o : Ending) → StandOn ground.now o cells.old → StandOn ground.now (and_then o (outcome (map program_of ground.now.programs.now) order.now)) cells.new) }
+    ensures { OnOk result ((o : Ending) → StandOn ground.now o cells.old
+        → StandOn ground.now (and_then o (outcome (map program_of ground.now.programs.now) order.now)) cells.new) }
 {
     constructs();
     run_in_order(alloc, &ground.table, ground.programs, order, cells)
