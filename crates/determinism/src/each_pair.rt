@@ -1,7 +1,7 @@
 //! Whether the programs of a pair commute, asked over the domain of these two alone, so that a conflict about one pair goes
 //! through no gate of another.
 
-ghost use Rattle.std.specs.Prelude.{◌≡◌, ◌≤◌, ◌<◌, map, length, slice_index_or, IfOk, IfSome};
+ghost use Rattle.std.specs.Prelude.{◌≡◌, ◌≤◌, ◌<◌, map, length, slice_index_or, IsTrue, IfOk, IfSome};
 ghost use Rattle.fs_semantics.specs.Programs.{Id};
 ghost use Rattle.fs_semantics.specs.Changes.{Commutes};
 ghost use Rattle.fs_lang.specs.Meaning.{program_of};
@@ -73,4 +73,24 @@ pub(crate) fn pair_commutes(
         return Ok(None);
     }
     commute(alloc, programs, pair.0, pair.1, budget)
+}
+
+/// Whether the programs of a pair commute by the steps that they share, as those of packages do that list the same files: no formula is
+/// needed then. Where it isn't told nothing is known.
+pub(crate) fn commute_by_parts(
+    alloc: Global,
+    programs: &[Program],
+    pair: (u32, u32),
+) -> Result<bool, NoMemory>
+    ensures { IfOk result (λ told. IsTrue told → PairCommutes (map program_of programs.now) pair) }
+{
+    let n = programs.len();
+    if pair.0 as usize >= n || pair.1 as usize >= n {
+        return Ok(false);
+    }
+    commuting_parts::commute_by_parts(
+        alloc,
+        &programs[pair.0 as usize],
+        &programs[pair.1 as usize],
+    )
 }

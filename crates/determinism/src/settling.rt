@@ -6,7 +6,7 @@ ghost use Rattle.fs_lang.specs.Meaning.{program_of};
 ghost use Rattle.tried_trees.specs.Tried.{IsDifference};
 ghost use Rattle.determinism.specs.Settled.{IsByProof, IsLook, AreSettled, IsSettled};
 
-use crate::each_pair::pair_commutes;
+use crate::each_pair::{commute_by_parts, pair_commutes};
 use crate::joining::joined;
 use commute_prune::{are_proper, doubtful_pairs, sure_pairs};
 use fs_lang::{Program, Tree};
@@ -116,8 +116,8 @@ fn settled_by(alloc: Global, parts: &[Verified]) -> Result<Settled, NoMemory>
     }
 }
 
-/// Looks at each of these pairs. Where all commute, their formulas are joined; at the first one of which nothing is known, all are
-/// tried from these trees.
+/// Looks at each of these pairs. Those that share steps and are apart in the rest need no formula. Where all commute, the formulas of
+/// the others are joined; at the first one of which nothing is known, all are tried from these trees.
 fn look_at_all(
     alloc: Global,
     programs: &[Program],
@@ -132,6 +132,9 @@ fn look_at_all(
 {
     let mut parts = Vec::new(alloc);
     for pair in pairs {
+        if commute_by_parts(alloc, programs, *pair)? {
+            continue;
+        }
         match look_at(alloc, programs, order, *pair, trees, budget)? {
             Look::Commute(verified) => parts.push(verified)?,
             Look::Differ(found) => return Ok(Settled::Differ(found)),

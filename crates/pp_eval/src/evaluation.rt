@@ -4,6 +4,7 @@
 //! gives: a member of a value isn't made, so it isn't asked for its size either.
 
 ghost use Rattle.std.specs.Prelude.{[], None, map, option_map};
+ghost use Rattle.pp_syntax.specs.declared.tree.Op.TheVariants as op;
 ghost use Rattle.pp_value.specs.declared.value.Value.TheVariants as v;
 ghost use Rattle.pp_eval.specs.Scoping.{find_in};
 ghost use Rattle.pp_eval.specs.Verdicts.{AnswersBy, Answers, Refuses};
@@ -181,6 +182,36 @@ fn truth(alloc: Global, at: u32, e: &Expr, scopes: &Scopes) -> Result<Value, Fau
     Ok(Value::Bool(truth_at(alloc, at, &value)?))
 }
 
+/// Whether both count: the right one is looked at only where the left one does.
+#[cycle(evaluation)]
+fn both(alloc: Global, at: u32, right: &Expr, left: &Value, scopes: &Scopes) -> Result<Value, Fault>
+    ensures { Answers (operated at op.And left.now (value_of scopes.now right.now)) result }
+{
+    if truth_at(alloc, at, left)? {
+        truth(alloc, at, right, scopes)
+    } else {
+        Ok(Value::Bool(false))
+    }
+}
+
+/// Whether one of both counts: the right one is looked at only where the left one doesn't.
+#[cycle(evaluation)]
+fn either(
+    alloc: Global,
+    at: u32,
+    right: &Expr,
+    left: &Value,
+    scopes: &Scopes,
+) -> Result<Value, Fault>
+    ensures { Answers (operated at op.Or left.now (value_of scopes.now right.now)) result }
+{
+    if truth_at(alloc, at, left)? {
+        Ok(Value::Bool(true))
+    } else {
+        truth(alloc, at, right, scopes)
+    }
+}
+
 /// The value of an operator between the value on its left and the operand on its right.
 #[cycle(evaluation)]
 fn operated(
@@ -193,20 +224,8 @@ fn operated(
     ensures { Answers (operated at o.now.0 left (value_of scopes.now o.now.1)) result }
 {
     match o.0 {
-        Op::And => {
-            if truth_at(alloc, at, &left)? {
-                truth(alloc, at, &o.1, scopes)
-            } else {
-                Ok(Value::Bool(false))
-            }
-        }
-        Op::Or => {
-            if truth_at(alloc, at, &left)? {
-                Ok(Value::Bool(true))
-            } else {
-                truth(alloc, at, &o.1, scopes)
-            }
-        }
+        Op::And => both(alloc, at, &o.1, &left, scopes),
+        Op::Or => either(alloc, at, &o.1, &left, scopes),
         _ => {
             let right = eval(alloc, &o.1, scopes)?;
             operate(alloc, at, o.0, left, &right)

@@ -98,22 +98,40 @@ fn summed(alloc: Global, at: u32, a: Value, b: &Value) -> Result<Value, Fault>
     }
 }
 
-/// The value of an operator between two operands whose values both count, or its refusal at a place.
+/// The sum of two lent values, with its refusal.
+fn summed_with(alloc: Global, at: u32, a: &Value, b: &Value) -> Result<Value, Fault>
+    ensures { Answers (made at (add_table a.now b.now)) result }
+{
+    summed(alloc, at, a.copy(alloc)?, b)
+}
+
+/// The value of an operator between two lent operands, or its refusal at a place.
+fn operate_on(alloc: Global, at: u32, op: Op, a: &Value, b: &Value) -> Result<Value, Fault>
+    ensures { Answers (made at (operation op a.now b.now)) result }
+{
+    match op {
+        Op::Less => answered(alloc, at, as_value(less(a, b))),
+        Op::Greater => answered(alloc, at, as_value(less(b, a))),
+        Op::AtMost => answered(alloc, at, turned(less(b, a))),
+        Op::AtLeast => answered(alloc, at, turned(less(a, b))),
+        Op::Same => answered(alloc, at, as_value(equal(a, b))),
+        Op::NotSame => answered(alloc, at, turned(equal(a, b))),
+        Op::Plus => summed_with(alloc, at, a, b),
+        Op::Minus => answered(alloc, at, subtract(a, b)),
+        Op::Times => answered(alloc, at, multiply(a, b)),
+        Op::In => answered(alloc, at, as_value(within(a, b))),
+        Op::Or | Op::And | Op::Not => answered(alloc, at, Err(Misfit::Operand)),
+    }
+}
+
+/// The value of an operator between two operands whose values both count, or its refusal at a place. A sum grows in the place of its
+/// left operand.
 pub fn operate(alloc: Global, at: u32, op: Op, a: Value, b: &Value) -> Result<Value, Fault>
     ensures { Answers (made at (operation op a b.now)) result }
 {
     match op {
-        Op::Less => answered(alloc, at, as_value(less(&a, b))),
-        Op::Greater => answered(alloc, at, as_value(less(b, &a))),
-        Op::AtMost => answered(alloc, at, turned(less(b, &a))),
-        Op::AtLeast => answered(alloc, at, turned(less(&a, b))),
-        Op::Same => answered(alloc, at, as_value(equal(&a, b))),
-        Op::NotSame => answered(alloc, at, turned(equal(&a, b))),
         Op::Plus => summed(alloc, at, a, b),
-        Op::Minus => answered(alloc, at, subtract(&a, b)),
-        Op::Times => answered(alloc, at, multiply(&a, b)),
-        Op::In => answered(alloc, at, as_value(within(&a, b))),
-        Op::Or | Op::And | Op::Not => answered(alloc, at, Err(Misfit::Operand)),
+        _ => operate_on(alloc, at, op, &a, b),
     }
 }
 

@@ -60,11 +60,17 @@ decreases-join l = 8 * goal.size-join l + 1
 abbrev pub decreases-truth : goal.decreases-truth
 decreases-truth l = 8 * goal.size-truth l + 1
 
+abbrev pub decreases-both : goal.decreases-both
+decreases-both l = 8 * goal.size-both l + 2
+
+abbrev pub decreases-either : goal.decreases-either
+decreases-either l = 8 * goal.size-either l + 2
+
 abbrev pub decreases-operated : goal.decreases-operated
-decreases-operated l = 8 * goal.size-operated l + 2
+decreases-operated l = 8 * goal.size-operated l + 3
 
 abbrev pub decreases-chain : goal.decreases-chain
-decreases-chain l = 8 * goal.size-chain l + 3
+decreases-chain l = 8 * goal.size-chain l + 4
 
 abbrev pub decreases-prefix : goal.decreases-prefix
 decreases-prefix l = 8 * goal.size-prefix l + 1

@@ -1,0 +1,6 @@
+pub mod CommuteLaws
+pub mod PartLaws
+pub mod PrintLaws
+pub mod SameLaws
+pub mod SetLaws
+pub mod FolderLaws
