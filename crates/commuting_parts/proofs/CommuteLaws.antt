@@ -1,7 +1,7 @@
 -- When runs that are made of parts commute.
-use Rattle.std.proofs.Common.{◌≡◌, Bool, true, false, cond, Some, None, refl, sym, ap, subst, ◌∙◌}
+use Rattle.std.proofs.Common.{◌≡◌, Bool, true, false, cond, Some, None, refl, sym, ap, ◌∙◌}
 use Rattle.fs_semantics.specs.FileTree.{Tree}
-use Rattle.fs_semantics.specs.Programs.{Test, Program, Outcome, Id, Err, If, and_then, holds, run}
+use Rattle.fs_semantics.specs.Programs.{Test, Program, Id, Err, If, and_then, holds, run}
 use Rattle.fs_semantics.specs.Changes.{CommuteFrom}
 use Rattle.fs_semantics.proofs.Permuted.{and_then_assoc, then_alike}
 use Rattle.fs_semantics.proofs.ConstructLaws.{split_then}
@@ -21,7 +21,7 @@ reworded P f g h k left right keep keep_too swap t good =
 -- ---- two runs that each begin with a part of their own
 
 -- the first parts go ahead of the others, where the second one's first part commutes with the rest of the first
-to_front : (P Q : Tree → Type 0) (d m e n : Run) → LeadsTo P Q d → SwapFrom Q m e → (t : Tree) → P t
+pub to_front : (P Q : Tree → Type 0) (d m e n : Run) → LeadsTo P Q d → SwapFrom Q m e → (t : Tree) → P t
     → thens (thens d m) (thens e n) t ≡ thens (thens d e) (thens m n) t
 to_front P Q d m e n leads swap t good =
     and_then_assoc (d t) m (thens e n)

@@ -2,7 +2,7 @@
 use Rattle.std.proofs.Common.{◌≡◌, ◌⊎◌, inl, inr, List, sym, ap, subst₂, ◌∙◌}
 use Rattle.std.specs.Prelude.{IsTrue}
 use Rattle.std.specs.BTreeSet.{BTreeSet}
-use Rattle.fs_semantics.specs.FileTree.{Path, Tree, is_among}
+use Rattle.fs_semantics.specs.FileTree.{Path, is_among}
 use Rattle.fs_semantics.specs.Programs as model
 use Rattle.fs_semantics.specs.Programs.{run}
 use Rattle.fs_semantics.specs.Changes.{IsProper}
@@ -12,7 +12,7 @@ use Rattle.effect_sets.specs.Footprints.{Footprint, nowhere, footprint, sure_aft
 use Rattle.effect_sets.specs.Members.{Lists, members, sets_of}
 use Rattle.sure_folders.specs.Folders.{In}
 use Rattle.commuting_parts.specs.declared.gathering.Divided.{Divided}
-use Rattle.commuting_parts.specs.Runs.{Run, thens, SwapFrom, LeadsTo}
+use Rattle.commuting_parts.specs.Runs.{SwapFrom, LeadsTo}
 use Rattle.commuting_parts.specs.Prints.{TreeWith, CommuteWith, IsClearIn, AreApartIn, IsPrintOf}
 use Rattle.commuting_parts.specs.Parts.{runs, IsDivided}
 use Rattle.commuting_parts.proofs.CommuteLaws.{behind_first}

@@ -4,3 +4,5 @@ pub mod PrintLaws
 pub mod SameLaws
 pub mod SetLaws
 pub mod FolderLaws
+pub mod SweepLaws
+pub mod SplitLaws

@@ -8,6 +8,7 @@ use Rattle.fs_semantics.specs.Programs as model
 use Rattle.fs_semantics.specs.Programs.{and_then, run, run_all}
 use Rattle.fs_semantics.specs.Changes.{IsProper, AreProperSteps}
 use Rattle.fs_semantics.proofs.Permuted.{and_then_assoc, then_alike}
+use Rattle.fs_semantics.proofs.ConstructLaws.{split_then}
 use Rattle.fs_lang.specs.declared.program.Program.{Program}
 use Rattle.fs_lang.specs.Meaning.{program_of, programs_in}
 use Rattle.commuting_parts.specs.Runs.{Run, thens, SameFrom, SwapFrom, LeadsTo}
@@ -29,14 +30,14 @@ pub record MovesAhead (P : Tree → Type 0) (ks : List Program) (e : Program) : 
   pub keeps : LeadsTo P P (run (program_of e))
   pub swaps : (front back : List Program) → ks ≡ front ++ back → SwapFrom P (run (program_of e)) (runs front)
 
-then_some : (es : List Program) (t : Tree) → and_then (runs es t) (runs []) ≡ runs es t
+pub then_some : (es : List Program) (t : Tree) → and_then (runs es t) (runs []) ≡ runs es t
 then_some es t = by (runs es t)
   where
     by : (r : _) → and_then r (runs []) ≡ r
     by None = refl
     by (Some u) = refl
 
-then_one : (e : Program) (u : Tree) → runs (e ∷ []) u ≡ run (program_of e) u
+pub then_one : (e : Program) (u : Tree) → runs (e ∷ []) u ≡ run (program_of e) u
 then_one e u = by (run (program_of e) u)
   where
     by : (r : _) → and_then r (runs []) ≡ r
@@ -69,9 +70,29 @@ module _ (P : Tree → Type 0) (marks : ℕ → Bool) (ks : List Program) where
   own_ahead i [] front is all t good = then_some front t ∙ ap (λ fs. runs fs t) (sym (append-nil front) ∙ sym is)
   own_ahead i (e ∷ es) front is all t good = one_more (marks i) i e es (own_ahead (suc i) es) front is all t good
 
+-- steps that keep such trees and commute with a run do so as a whole
+pub steps_keep : (P : Tree → Type 0) (es : List Program) → AllByRecursion (λ e. LeadsTo P P (run (program_of e))) es → LeadsTo P P (runs es)
+steps_keep P [] all t u good ends = let same : t ≡ u = cc in subst P same good
+steps_keep P (e ∷ es) all t u good ends =
+    let half = split_then (run (program_of e) t) (runs es) u ends in
+    steps_keep P es all.1 half.0 u (all.0 t half.0 good half.1) half.2
+
+pub steps_swap : (P : Tree → Type 0) (f : Run) (es : List Program) → AllByRecursion (λ e. LeadsTo P P (run (program_of e)) × SwapFrom P (run (program_of e)) f) es → SwapFrom P (runs es) f
+steps_swap P f [] all t good = sym (by (f t))
+  where
+    by : (r : _) → and_then r (runs []) ≡ r
+    by None = refl
+    by (Some u) = refl
+steps_swap P f (e ∷ es) all t good =
+    and_then_assoc (run (program_of e) t) (runs es) f
+    ∙ then_alike (run (program_of e) t) (thens (runs es) f) (thens f (runs es)) (λ u is. steps_swap P f es all.1 u (all.0.0 t u good is))
+    ∙ sym (and_then_assoc (run (program_of e) t) f (runs es))
+    ∙ ap (λ r. and_then r (runs es)) (all.0.1 t good)
+    ∙ and_then_assoc (f t) (run (program_of e)) (runs es)
+
 -- ---- two lists
 
-proper_front : (front back : List Program) → AreProperSteps (programs_in (front ++ back)) → AreProperSteps (programs_in front)
+pub proper_front : (front back : List Program) → AreProperSteps (programs_in (front ++ back)) → AreProperSteps (programs_in front)
 proper_front [] back h = tt
 proper_front (e ∷ front) back h = (h.0, proper_front front back h.1)
 
@@ -94,7 +115,7 @@ module _ (commute : (folders : BTreeSet Path) (e f : model.Program) → IsProper
   all_ahead ks proper (e ∷ es) all = (moves_ahead ks proper e all.0, all_ahead ks proper es all.1)
 
   -- a list is its own steps and then the shared ones
-  apart_parts : (marks : ℕ → Bool) (es : List Program) → IsProper (part (marked marks 0 es))
+  pub apart_parts : (marks : ℕ → Bool) (es : List Program) → IsProper (part (marked marks 0 es))
       → AllByRecursion (λ e. IsApartFrom folders (footprint (part (marked marks 0 es))) (program_of e)) (unmarked marks 0 es)
       → SameFrom (TreeWith folders) (runs es) (thens (runs (unmarked marks 0 es)) (runs (marked marks 0 es)))
   apart_parts marks es proper all =

@@ -1,11 +1,6 @@
 -- Tests and programs made of equal parts are equal.
-use Rattle.std.proofs.Common.{◌≡◌, ℕ, Bool, true, ◌+◌, ◌<◌, List, [], ◌∷◌, drop, length, get_or, refl, sym, ap, ◌∙◌}
-use Rattle.std.specs.Prelude.{IsTrue}
-use Rattle.std.specs.Str.{bytes_eq}
-use Rattle.std.specs.Cmp.Lexicographic.{bytes_decides}
+use Rattle.std.proofs.Common.{◌≡◌, List, sym, ap, ◌∙◌}
 use Rattle.fs_semantics.specs.Programs as model
-use Rattle.fs_semantics.specs.FileTree.{Path, path_eq}
-use Rattle.fs_semantics.proofs.Trees.{path_eq_same}
 use Rattle.fs_lang.specs.declared.program.Program.{Program}
 use Rattle.fs_lang.specs.declared.program.Program.TheVariants as program
 use Rattle.fs_lang.specs.declared.program.Test.{Test}

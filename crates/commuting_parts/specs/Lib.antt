@@ -1,3 +1,5 @@
 pub mod Runs
 pub mod Parts
 pub mod Prints
+pub mod Sweeps
+pub mod Splits

@@ -1,5 +1,5 @@
 -- Footprints that are apart where some folders stand.
-use Rattle.std.specs.Prelude.{◌≡◌, Bool, true, false, ◌||◌, IsTrue}
+use Rattle.std.specs.Prelude.{◌≡◌, false, ◌||◌, IsTrue}
 use Rattle.std.specs.BTreeSet.{BTreeSet}
 use Rattle.fs_semantics.specs.FileTree.{Path, Tree, parent, is_among}
 use Rattle.fs_semantics.specs.Programs.{Program}

@@ -17,6 +17,7 @@ use crate::laws::prints;
 use crate::left::leaves_test;
 use crate::parts::commute_by_shared;
 use crate::same::same_program;
+use crate::sweeping::commute_by_sweeps;
 use fs_lang::{Path, Program, Test};
 use rh_base::NoMemory;
 use std::alloc::Global;
@@ -25,7 +26,7 @@ use std::collections::BTreeSet;
 /// How many choices and lists are looked into, one within the other.
 const DEPTH: u32 = 8;
 
-fn does_nothing(program: &Program) -> bool
+pub(crate) fn does_nothing(program: &Program) -> bool
     ensures { IsTrue result → program_of program.now ≡ Id }
 {
     matches!(program, Program::Id)
@@ -129,7 +130,10 @@ fn lists_commute(
     if folders_first(es) > 0 || folders_first(fs) > 0 {
         return commute_behind_folders(alloc, depth, folders, es, fs);
     }
-    commute_by_shared(alloc, folders, es, fs)
+    if commute_by_shared(alloc, folders, es, fs)? {
+        return Ok(true);
+    }
+    commute_by_sweeps(alloc, folders, es, fs)
 }
 
 /// Where neither is a choice.

@@ -52,6 +52,13 @@ pub(crate) fn print_of_steps(alloc: Global, steps: Seq<Program>) -> Result<Footp
     print_of(alloc, &whole)
 }
 
+/// The footprint of a list of steps.
+pub(crate) fn print_of_list(alloc: Global, steps: &[Program]) -> Result<Footprint, NoMemory>
+    ensures { IfOk result (IsPrintOf (part steps.now)) }
+{
+    print_of_steps(alloc, copied(alloc, steps)?)
+}
+
 fn makes_folder(step: &Program) -> bool {
     let Program::If(Test::IsDir(_), e, f) = step else {
         return false;

@@ -2,8 +2,9 @@
 //!
 //! A sufficient test by the structure of both, as a compositional proof of commutativity would go: folders that both make sure of go
 //! ahead, the steps that stand in both lists in the same order are shared, and what is left is apart by its footprint where these
-//! folders stand. Packages that list the same files are such programs; a formula about each two of them would be one over all
-//! that they share. Where nothing is told, the formula is asked (`determinism`).
+//! folders stand. Of two sweeps of one folder, as packages that go have them, only the last one counts. Packages that list the same
+//! files are such programs; a formula about each two of them would be one over all that they share. Where nothing is told, the
+//! formula is asked (`determinism`).
 #![tactic(auto)]
 
 mod apart;
@@ -15,5 +16,7 @@ mod left;
 mod parts;
 mod same;
 mod sharing;
+mod splitting;
+mod sweeping;
 
 pub use commuting::commute_by_parts;

@@ -26,7 +26,7 @@ pub(crate) struct Parts {
     pub shared: Seq<Program>,
 }
 
-fn is_marked(marks: &[bool], i: usize) -> bool
+pub(crate) fn is_marked(marks: &[bool], i: usize) -> bool
     ensures { result ≡ slice_index_or marks.now i false }
 {
     if i < marks.len() { marks[i] } else { false }
@@ -45,7 +45,7 @@ fn put(parts: &mut Parts, is_shared: bool, step: Program) -> Result<(), NoMemory
 }
 
 /// The marked steps, and the others.
-fn parted(alloc: Global, steps: &[Program], marks: &[bool]) -> Result<Parts, NoMemory>
+pub(crate) fn parted(alloc: Global, steps: &[Program], marks: &[bool]) -> Result<Parts, NoMemory>
     ensures own { IfOk result (λ parts. parts.own ≡ unmarked (λ i. slice_index_or marks.now i false) 0 steps.now) }
     ensures shared { IfOk result (λ parts. parts.shared ≡ marked (λ i. slice_index_or marks.now i false) 0 steps.now) }
 {
@@ -61,7 +61,7 @@ fn parted(alloc: Global, steps: &[Program], marks: &[bool]) -> Result<Parts, NoM
 }
 
 /// Whether the step is apart from the shared ones.
-fn step_is_apart(
+pub(crate) fn step_is_apart(
     alloc: Global,
     folders: &BTreeSet<Path>,
     step: &Program,
@@ -74,7 +74,7 @@ fn step_is_apart(
 }
 
 /// Whether each step is apart from the shared ones.
-fn steps_are_apart(
+pub(crate) fn steps_are_apart(
     alloc: Global,
     folders: &BTreeSet<Path>,
     steps: &[Program],

@@ -7,7 +7,7 @@ use fs_lang::{Path, Program, Test};
 use rh_base::Text;
 
 #[tactic(auto, using(fs_semantics::proofs::Trees::path_eq_same))]
-fn same_path(p: &Path, q: &Path) -> bool
+pub(crate) fn same_path(p: &Path, q: &Path) -> bool
     ensures { IsTrue result → p.now ≡ q.now }
 {
     p == q

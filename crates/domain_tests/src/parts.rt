@@ -147,6 +147,37 @@ fn packages_that_go(rt: HostRuntime) {
             "where /m/b: drop /o/p; sweep /x/y; sweep /x; rm /m/b",
             true,
         ),
+        // A file of their own in the same folders.
+        (
+            both,
+            "where /m/b: drop /x/y/o; drop /x/y/q; sweep /x/y; sweep /x; rm /m/b",
+            true,
+        ),
+        (
+            both,
+            "where /m/b: drop /x/o; drop /x/y/p; sweep /x/y; sweep /x; rm /m/b",
+            true,
+        ),
+        // A folder of its own below one of the same.
+        (
+            both,
+            "where /m/b: drop /x/z/o; sweep /x/y; sweep /x/z; sweep /x; rm /m/b",
+            true,
+        ),
+        // Shallow folders ahead of deep ones.
+        (
+            both,
+            "where /m/b: drop /x/y/o; sweep /x; sweep /x/y; rm /m/b",
+            false,
+        ),
+        // A sweep that the other doesn't make, of a folder above.
+        (both, "where /m/b: drop /x/y/o; sweep /x/y; rm /m/b", false),
+        // The mark stands in a folder that both sweep.
+        (
+            "where /m/a: drop /x/p; sweep /x; sweep /m; rm /m/a",
+            "where /m/b: drop /x/q; sweep /x; sweep /m; rm /m/b",
+            false,
+        ),
         // One removes the last file of a folder that the other sweeps.
         (both, "where /m/b: drop /x/y/o; rm /m/b", false),
         (both, "where /m/b: drop /x/y/p; rm /m/b", false),

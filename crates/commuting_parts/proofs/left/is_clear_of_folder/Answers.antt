@@ -1,4 +1,4 @@
-use Rattle.std.proofs.Common.{not, ap, sym, ◌∙◌}
+use Rattle.std.proofs.Common.{not, sym, ◌∙◌}
 use Rattle.std.proofs.lemmas.Bool.{and_parts, not-true}
 use Rattle.fs_semantics.specs.FileTree.{path_eq}
 use Rattle.effect_sets.specs.Members.{members, sets_of}

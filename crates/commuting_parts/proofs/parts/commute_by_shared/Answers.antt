@@ -1,4 +1,4 @@
-use Rattle.std.proofs.Common.{false, get_or, subst}
+use Rattle.std.proofs.Common.{false, get_or}
 use Rattle.std.specs.Prelude.{IsTrue}
 use Rattle.std.proofs.lemmas.Result.{IfOk-weaker}
 use Rattle.commuting_parts.specs.Runs.{SwapFrom}

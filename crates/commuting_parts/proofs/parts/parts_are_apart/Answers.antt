@@ -1,9 +1,7 @@
-use Rattle.std.proofs.Common.{ap, sym, subst, subst₂, ◌∙◌}
-use Rattle.std.specs.List.{AllByRecursion}
-use Rattle.fs_lang.specs.Meaning.{program_of, programs_in}
+use Rattle.std.proofs.Common.{ap, sym, subst₂, ◌∙◌}
+use Rattle.fs_lang.specs.Meaning.{programs_in}
 use Rattle.effect_sets.specs.Members.{members}
 use Rattle.commuting_parts.specs.Prints.{AreApartIn}
-use Rattle.commuting_parts.specs.Parts.{IsApartFrom}
 use Rattle.commuting_parts.proofs.PartLaws.{each_apart}
 use Rattle.commuting_parts.proofs.parts.parts_are_apart.Goals as goal
 

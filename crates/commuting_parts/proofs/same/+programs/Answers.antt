@@ -1,6 +1,6 @@
 use Rattle.std.proofs.Common.{rules, ap, sym, ◌∙◌}
-use Rattle.fs_lang.specs.Meaning.{test_of, program_of, programs_in}
-use Rattle.fs_lang.specs.Sizes.{program_size, programs_size}
+use Rattle.fs_lang.specs.Meaning.{program_of, programs_in}
+use Rattle.fs_lang.specs.Sizes.{program_size}
 use Rattle.fs_lang.proofs.SizeLaws.{if_size}
 use Rattle.commuting_parts.proofs.SameLaws.{same_if, same_list}
 use Rattle.commuting_parts.proofs.same.+programs.Goals as goal
