@@ -13,20 +13,24 @@ use Rattle.size_limits.specs.Limits.{HasPaths}
 use Rattle.given_verdict.specs.Graphs.{asked_programs}
 use Rattle.given_verdict.specs.First.{IsProofFrom, IsSpentFrom}
 
+-- where folders are given, a layout of what is asked about is one of the programs with the guard
 pub layout_of_guarded : (given : List Path) (es : List Program) → given ≢ [] → (l : Layout) → IsLayout (asked_programs given es) l → IsLayout (guarded given es) l
 layout_of_guarded [] es some l h = absurd (some refl)
 layout_of_guarded (p ∷ ps) es some l h = h
 
+-- a proof about the graph with the guard is one from the given trees
 pub proof_of_guarded : (given : List Path) (es : List Program) (order : Relation) → given ≢ [] → (f : Formula)
     → IsProof (guarded given es) (Told (guard_before order.count (comes order))) f → IsProofFrom given es order f
 proof_of_guarded [] es order some f h = absurd (some refl)
 proof_of_guarded (p ∷ ps) es order some f h = h
 
+-- a budget spent on the graph with the guard is one spent on the question from the given trees
 pub spent_of_guarded : (given : List Path) (es : List Program) (order : Relation) → given ≢ [] → (budget : ℕ) (f : Formula) (steps : List Step)
     → IsSpent (guarded given es) (Told (guard_before order.count (comes order))) budget f steps → IsSpentFrom given es order budget f steps
 spent_of_guarded [] es order some budget f steps h = absurd (some refl)
 spent_of_guarded (p ∷ ps) es order some budget f steps h = h
 
+-- the programs with the guard have as many paths as what is asked about
 pub paths_of_guarded : (given : List Path) (es : List Program) → given ≢ [] → (n : ℕ) → HasPaths (guarded given es) n → HasPaths (asked_programs given es) n
 paths_of_guarded [] es some n h = absurd (some refl)
 paths_of_guarded (p ∷ ps) es some n h = h

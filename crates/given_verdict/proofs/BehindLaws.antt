@@ -25,31 +25,38 @@ use Rattle.given_verdict.specs.Behind.{IsDifferenceBehind, EndsDifferently, IsDi
 
 -- ---- a first run as one program
 
+-- programs as the steps of one
 abbrev as_steps : List Program → Programs
 as_steps [] = none
 as_steps (e ∷ es) = next e (as_steps es)
 
+-- the steps that are written in a list are its programs
 programs_are : (es : List Code) → programs_in es ≡ as_steps (map program_of es)
 programs_are [] = refl
 programs_are (e ∷ es) = ap (next (program_of e)) (programs_are es)
 
+-- the programs that an order chooses, as steps, are the steps in that order
 steps_are : (es : List Program) (o : List ℕ) → as_steps (chosen es o) ≡ steps_in es o
 steps_are es [] = refl
 steps_are es (i ∷ o) = ap (next (get_or es i Id)) (steps_are es o)
 
+-- a list that has the guard and then the programs of an order is, as one program, a first run in that order
 pub run_is : (given : List Path) (es : List Program) (o : List ℕ) (steps : List Code) → map program_of steps ≡ guard given ∷ chosen es o → Steps (programs_in steps) ≡ first_run given es o
 run_is given es o steps h = ap Steps (programs_are steps ∙ ap as_steps h ∙ ap (next (guard given)) (steps_are es o))
 
 -- ---- a second run in an order
 
+-- nothing is both false and true
 pub off : (b : Bool) → b ≡ false → b ≡ true → ⊥
 off true h k = cc
 off false h k = cc
 
+-- a run ends in Error, or in a tree
 ended : (r : Outcome) → (r ≡ None) ⊎ ((u : Tree) × (r ≡ Some u))
 ended None = inl refl
 ended (Some u) = inr (u, refl)
 
+-- two runs in an order end as the second does from what the first left
 twice : (es : List Program) (o : List ℕ) (t : Tree) (r : Outcome) → outcome es o t ≡ r → outcome es (o ++ o) t ≡ and_then r (outcome es o)
 twice es o t r h = outcome-append es o o t ∙ ap (λ x. and_then x (outcome es o)) h
 
@@ -65,21 +72,26 @@ differs_changed es o t differ = elim (ended (outcome es o t)) [
 ]
 
 module _ (given : List Path) (es : List Program) (order : Relation) (long : length es ≡ order.count) (sure : IsDeterministicFrom given es (Told (comes order))) where
+  -- the order in which the guard comes before all others
   abbrev after : ℕ → ℕ → Bool
   after = guard_before order.count (comes order)
 
+  -- in it the guard goes first
   goes : GoesFirst (length es) (comes order) (guard_before order.count (comes order))
   goes = subst (λ n. GoesFirst n (comes order) (guard_before order.count (comes order))) (sym long) (goes_first order.count (comes order))
 
+  -- the first extension is an allowed order
   allowed : (first : List ℕ) → IsFirstExtension order first → IsLinearExtension (length es) (Told (comes order)) first
   allowed first is = subst (λ n. IsLinearExtension n (Told (comes order)) first) (sym long) is.allowed
 
+  -- an order that is allowed behind a first run is that run, and then an allowed order of the programs
   pub front : (first o : List ℕ) → IsLinearExtension (length (after_first given es first)) (Told (guard_before order.count (comes order))) o
       → (p : List ℕ) × (o ≡ length es ∷ p) × IsLinearExtension (length es) (Told (comes order)) p
   front first o l =
       guard_first (length es) (comes order) (guard_before order.count (comes order)) goes o
       (subst (λ n. IsLinearExtension n (Told (guard_before order.count (comes order))) o) (length-append es (first_run given es first ∷ [])) l)
 
+  -- behind the first run such an order has numbers of the programs alone
   pub rest_below : (first o : List ℕ) → IsLinearExtension (length (after_first given es first)) (Told (guard_before order.count (comes order))) o → AllByRecursion (λ k. k < length es) (drop 1 o)
   rest_below first o l = let p = front first o l in subst (AllByRecursion (λ k. k < length es)) (sym (ap (drop 1) p.1)) p.2.below
 
@@ -90,6 +102,7 @@ module _ (given : List Path) (es : List Program) (order : Relation) (long : leng
       let d = differs_changed es o t differ in
       record { stand = c.stand; shows = record { is_tree = c.shows.is_tree; allowed = l; after = d.0; ends = d.1; changes = d.2 } }
 
+  -- where one of two orders shows a second run that changes something, so does the witness chosen of them
   one_of : (t : Tree) (o p : List ℕ) → IsLinearExtension (length es) (Told (comes order)) o → (w : Witness) → IsDifferentOf es t o p w
       → IsSecondRunCounterexampleFrom given es (Told (comes order)) t o ⊎ IsSecondRunCounterexampleFrom given es (Told (comes order)) t p → IsSecondRunFrom given es order w
   one_of t o p l w (inl d) (inl c) = subst (IsSecondRunFrom given es order) (sym d.1) (shows t o o l d.0 c)
@@ -97,6 +110,7 @@ module _ (given : List Path) (es : List Program) (order : Relation) (long : leng
   one_of t o p l w (inr d) (inl c) = absurd (d.0 (changed_differs es o t c.shows.after c.shows.ends c.shows.changes))
   one_of t o p l w (inr d) (inr c) = subst (IsSecondRunFrom given es order) (sym d.1) c
 
+  -- two orders that end differently behind a first run make a witness of a second run that changes something
   pub changes : (tree : Tree) (left right : List ℕ) → IsDifferenceBehind given es order (witness.Orders tree left right) → (w : Witness)
       → IsDifferentOf es tree (drop 1 left) (drop 1 right) w → IsSecondRunFrom given es order w
   changes tree left right h w is =
@@ -129,6 +143,7 @@ stated_by_any given es order f same no_model = record {
   no_model = no_model;
 }
 
+-- a second run in the first extension that changes something is one in an allowed order
 pub change_of_first : (given : List Path) (es : List Program) (order : Relation) (w : Witness) → IsSecondChangeFrom given es order w → IsSecondRunFrom given es order w
 change_of_first given es order (witness.Orders tree left right) h = h
 change_of_first given es order (witness.Twice tree o) h = h.shows

@@ -18,6 +18,7 @@ use Rattle.given_verdict.specs.Keeping.{Spares}
 
 -- ---- the guard makes sure of the given folders
 
+-- where one of two holds, it is the first or the second
 or_cases : (a b : Bool) → (a || b) ≡ true → (a ≡ true) ⊎ (b ≡ true)
 or_cases true b h = inl refl
 or_cases false b h = inr h
@@ -30,9 +31,11 @@ table false false true h = refl
 table false false false (inl h) = h
 table false false false (inr h) = h
 
+-- behind the check of a folder it stands for sure, and so does what stood before
 need_sure : (q p : Path) (stood : Paths) → (path_eq p q ≡ true) ⊎ (stood p ≡ true) → folders_after (need q) stood p ≡ true
 need_sure q p stood h = table (path_eq p q) (path_eq p (parent q)) (stood p) h
 
+-- behind the checks of all given folders each of them stands for sure, and so does what stood before
 all_sure : (given : List Path) (p : Path) (stood : Paths) → (is_among p given ≡ true) ⊎ (stood p ≡ true) → folders_after_steps (need_all given) stood p ≡ true
 all_sure [] p stood (inl h) = cc
 all_sure [] p stood (inr h) = h
@@ -44,6 +47,7 @@ all_sure (q ∷ given) p stood (inl h) = elim (or_cases (path_eq p q) (is_among 
 
 -- ---- and removes nothing
 
+-- the check of a folder removes nothing
 need_spares : (q p : Path) → MayRemove (need q) p → ⊥
 need_spares q p (inl (inl m)) = m
 need_spares q p (inl (inr m)) = m
@@ -51,11 +55,13 @@ need_spares q p (inr (inl (inl m))) = m
 need_spares q p (inr (inl (inr m))) = m
 need_spares q p (inr (inr m)) = m
 
+-- and the checks of all given folders remove nothing
 all_spare : (given : List Path) (p : Path) → MayRemoveInSteps (need_all given) p → ⊥
 all_spare [] p m = m
 all_spare (q ∷ given) p (inl m) = need_spares q p m
 all_spare (q ∷ given) p (inr m) = all_spare given p m
 
+-- the guard leaves the given folders standing
 guard_keeps : (given : List Path) → KeepsGiven given (guard given)
 guard_keeps given t u stand done = let same : t ≡ u = some_same (sym (guard_stands given t stand) ∙ done) in subst (Stand given) same stand
   where
@@ -64,14 +70,17 @@ guard_keeps given t u stand done = let same : t ≡ u = some_same (sym (guard_st
 
 -- ---- where the folders stand that are sure
 
+-- what holds of all programs of two lists holds of all of the one behind the other
 all_append : (P : Program → Type 0) (xs ys : List Program) → AllByRecursion P xs → AllByRecursion P ys → AllByRecursion P (xs ++ ys)
 all_append P [] ys all more = more
 all_append P (x ∷ xs) ys all more = (all.0, all_append P xs ys all.1 more)
 
+-- where each program spares the given folders, none may remove one of them
 each_spares : (given : List Path) (p : Path) → is_among p given ≡ true → (es : List Program) → AllByRecursion (Spares given) es → AllByRecursion (λ e. MayRemove e p → ⊥) es
 each_spares given p among [] all = tt
 each_spares given p among (e ∷ es) all = (all.0 p among, each_spares given p among es all.1)
 
+-- where each given path is that of a folder, the given folders stand
 all_stand : (given : List Path) (t : Tree) → ((p : Path) → is_among p given ≡ true → IsTrue (is_dir t p)) → Stand given t
 all_stand [] t h = tt
 all_stand (p ∷ given) t h = (h p (here (path_eq p p) (is_among p given) (path_eq_refl p)), all_stand given t (λ q among. h q (there (path_eq q p) (is_among q given) among)))
@@ -85,9 +94,11 @@ all_stand (p ∷ given) t h = (h p (here (path_eq p p) (is_among p given) (path_
     there false b e = e
 
 module _ (given : List Path) (es : List Program) (before after : ℕ → ℕ → Bool) (first : GoesFirst (length es) before after) (spares : AllByRecursion (Spares given) es) where
+  -- no program may remove a given folder, nor may the guard
   never_removed : (p : Path) → is_among p given ≡ true → IsNeverRemoved (guarded given es) p
   never_removed p among = all_append (λ e. MayRemove e p → ⊥) es (guard given ∷ []) (each_spares given p among es spares) ((λ m. all_spare given p m), tt)
 
+  -- the given folders are sure before each program
   sure_behind : (k : ℕ) → k < length es → (p : Path) → is_among p given ≡ true → IsSureBefore nowhere (guarded given es) (Told after) k p
   sure_behind k low p among = record {
     stands = inr (record {
@@ -100,6 +111,7 @@ module _ (given : List Path) (es : List Program) (before after : ℕ → ℕ →
     stays = never_removed p among;
   }
 
+  -- where the folders stand that are sure before it, each program commutes with the guard
   pub guard_commutes : AllByRecursion (KeepsGiven given) es → (k : ℕ) → k < length es → CommuteWhereSure (guarded given es) (Told after) k (length es)
   guard_commutes keeps k low t tree =
       let one = get_or (guarded given es) k Id in

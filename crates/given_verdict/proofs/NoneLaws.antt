@@ -29,16 +29,19 @@ use Rattle.given_verdict.specs.Ends.{StatesEndFrom, IsEndProofFrom, IsEndFrom}
 use Rattle.given_verdict.specs.Verdicts.{IsSpentOnFrom, IsKnownBeforeFrom, IsOrderProofFrom, AreProofsBeforeFrom}
 use Rattle.given_verdict.specs.Answers.{IsVerdictFrom}
 
+-- where the count of the given folders is zero, there are none
 pub none_there : (given : List Path) → (length given == 0) ≡ true → given ≡ []
 none_there [] h = refl
 none_there (p ∷ given) h = absurd (let none = eqb-true (length (p ∷ given)) 0 h in omega (arith, none))
 
 module _ (es : List Program) (order : Relation) where
+  -- a witness of a difference is one from given trees
   pub difference : (w : Witness) → IsDifference es (Told (comes order)) w → IsDifferenceFrom [] es (Told (comes order)) w
   difference (witness.Orders tree left right) h = (record { stand = tt; shows = h.0 }, h.1)
   difference (witness.Twice tree o) h = h
   difference (witness.Ends tree o) h = h
 
+  -- a formula that states the question about a second run states it from given trees
   states_second : (f : Formula) → StatesSecond es order f → StatesSecondFrom [] es order f
   states_second f h d lay = (
     (λ sat.
@@ -51,6 +54,7 @@ module _ (es : List Program) (order : Relation) where
     })),
   )
 
+  -- a formula that states whether the graph succeeds states it from given trees
   pub states_end : (f : Formula) → StatesEnd es order f → StatesEndFrom [] es order f
   states_end f h d lay = (
     (λ sat.
@@ -63,41 +67,50 @@ module _ (es : List Program) (order : Relation) where
     })),
   )
 
+  -- a proof that no second run changes anything is one from given trees
   second_proof : (f : Formula) → IsSecondProof es order f → IsSecondProofFrom [] es order f
   second_proof f h = record { states = states_second f h.states; no_model = h.no_model }
 
+  -- a proof that the graph never succeeds is one from given trees
   pub end_proof : (f : Formula) → IsEndProof es order f → IsEndProofFrom [] es order f
   end_proof f h = record { states = states_end f h.states; no_model = h.no_model }
 
+  -- a witness of a second run that changes something is one from a given tree
   change : (w : Witness) → IsSecondChange es order w → IsChangeFrom [] es order w
   change (witness.Orders tree left right) h = h
   change (witness.Twice tree o) h = (record { stand = tt; shows = h.1 }, λ empty. h.0)
   change (witness.Ends tree o) h = h
 
+  -- a witness of a run that ends in a tree is one from a given tree
   pub end_of : (w : Witness) → IsEnd es order w → IsEndFrom [] es order w
   end_of (witness.Orders tree left right) h = h
   end_of (witness.Twice tree o) h = h
   end_of (witness.Ends tree o) h = record { is_first = h.0; is_tree = none_to_stand tree h.1; ends = h.2 }
 
+  -- what is said of a spent budget is said of it from given trees
   spent_on : (budget : ℕ) (a : Asked) (f : Formula) (steps : List Step) → IsSpentOn es order budget a f steps → IsSpentOnFrom [] es order budget a f steps
   spent_on budget asked.Deterministic f steps h = h
   spent_on budget asked.Idempotent f steps h = inl (states_second f h.0, h.1)
   spent_on budget asked.Succeeds f steps h = (states_end f h.0, h.1)
 
+  -- what is known when a question is asked is known from given trees
   known : (a : Asked) → IsKnownBefore es order a → IsKnownBeforeFrom [] es order a
   known asked.Deterministic h = h
   known asked.Idempotent h = (none.deterministic es (Told (comes order))).1 h
   known asked.Succeeds h = ((none.deterministic es (Told (comes order))).1 h.0, (none.idempotent es (Told (comes order))).1 h.1)
 
+  -- what was refuted for the first question was refuted from given trees
   order_proof : (proofs : List Refutation) → IsOrderProof es (Told (comes order)) proofs → IsOrderProofFrom [] es order proofs
   order_proof [] h = h
   order_proof (v ∷ vs) h = h
 
+  -- what was refuted before a question was refuted from given trees
   proofs : (a : Asked) (vs : List Refutation) → AreProofsBefore es order a vs → AreProofsBeforeFrom [] es order a vs
   proofs asked.Deterministic vs h = h
   proofs asked.Idempotent vs h = order_proof vs h
   proofs asked.Succeeds vs h = record { front = h.front; last = h.last; are = h.are; first = order_proof h.front h.first; second = second_proof h.last.formula h.second }
 
+  -- a verdict says all that one from given trees has to say
   pub verdict_from : (budget : ℕ) (v : Verdict) → IsVerdict es order budget v → IsVerdictFrom [] es order budget v
   verdict_from budget (verdict.NotDeterministic n w) h = record {
     pruned = h.pruned;

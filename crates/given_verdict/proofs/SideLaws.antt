@@ -20,12 +20,15 @@ use Rattle.given_verdict.proofs.AskedLaws.{proof_of_guarded}
 use Rattle.given_verdict.proofs.FirstLaws.{counted, alone_back}
 
 module _ (given : List Path) (es : List Program) (order : Relation) (long : length es ≡ order.count) (more : Relation) (before : comes more ≡ guard_before order.count (comes order)) where
+  -- the guard goes first in the order with the guard
   pub goes : GoesFirst (length es) (comes order) (comes more)
   goes = subst (GoesFirst (length es) (comes order)) (sym before) (subst (λ n. GoesFirst n (comes order) (guard_before order.count (comes order))) (sym long) (goes_first order.count (comes order)))
 
+  -- where the graph with the guard is deterministic, the graph is so from the given trees
   pub sure_from : IsDeterministic (guarded given es) (Told (comes more)) → IsDeterministicFrom given es (Told (comes order))
   sure_from h = (deterministic given es (comes order) (comes more) goes).0 h
 
+  -- a formula that proves it with the guard proves it from the given trees
   pub proved_from : given ≢ [] → (s : Sure) → IfByProof s (IsProof (guarded given es) (Told (comes more))) → IfByProof s (IsProofFrom given es order)
   proved_from some sure.Pruned h = tt
   proved_from some (sure.Proved v) h = proof_of_guarded given es order some v.formula (subst (λ t. IsProof (guarded given es) (Told t) v.formula) before h)
@@ -33,9 +36,11 @@ module _ (given : List Path) (es : List Program) (order : Relation) (long : leng
   module _ (some : given ≢ []) (kept_by : (kept : List ℕ) → Keeps (guarded given es) (Told (guard_before order.count (comes order))) kept → Keeps es (Told (comes order)) kept)
       (one : (kept left : List ℕ) → Keeps es (Told (comes order)) kept → Keeps es (Told (comes order)) left → kept ≡ left)
       (few : (kept : List ℕ) → Keeps es (Told (comes order)) kept → length kept ≤ length es) where
+    -- one program less is pruned of the graph than of the graph with the guard
     pub pruned_from : (n : ℕ) → IsPrunedCount (guarded given es) (Told (comes more)) n → IsPrunedCount es (Told (comes order)) (n - 1)
     pruned_from n c = counted given es order long some kept_by one few n (subst (λ t. IsPrunedCount (guarded given es) (Told t) n) before c)
 
+    -- where pruning alone answers just when it keeps nothing with the guard, it does just when it keeps nothing without it
     pub alone_from : (n : ℕ) (s : Sure) → IsPrunedCount (guarded given es) (Told (comes more)) n → IsByPruning s ↔ Keeps (guarded given es) (Told (comes more)) [] → IsByPruning s ↔ Keeps es (Told (comes order)) []
     alone_from n s c h = (
       (λ k. kept_by [] (subst (λ t. Keeps (guarded given es) (Told t) []) before (h.0 k))),
@@ -44,12 +49,15 @@ module _ (given : List Path) (es : List Program) (order : Relation) (long : leng
     )
 
   module _ (count : length (guarded given es) ≡ more.count) where
+    -- the first extension with the guard is the guard, and then an allowed order of the programs
     pub behind : (o : List ℕ) → IsFirstExtension more o → (p : List ℕ) × (o ≡ length es ∷ p) × IsLinearExtension (length es) (Told (comes order)) p
     behind o is = order_behind given es (comes order) (comes more) goes o (subst (λ n. IsLinearExtension n (Told (comes more)) o) (sym count) is.allowed)
 
+    -- where a given folder doesn't stand, the first extension with the guard ends in Error
     pub fails_from : (t : Tree) → (Stand given t → ⊥) → (o : List ℕ) → IsFirstExtension more o → outcome (guarded given es) o t ≡ None
     fails_from t n o is = let l = behind o is in ap (λ q. outcome (guarded given es) q t) l.1 ∙ fails_elsewhere given es l.0 t n
 
+    -- where they all stand, it ends as the first extension without the guard does
     pub ends_from : IsDeterministicFrom given es (Told (comes order)) → (t : Tree) → IsGivenTree given t → (o q : List ℕ) → IsFirstExtension more o → IsFirstExtension order q → outcome (guarded given es) o t ≡ outcome es q t
     ends_from sure t g o q is is_first =
         let l = behind o is in
