@@ -7,6 +7,7 @@ use Rattle.fs_semantics.proofs.Permuted.{and_then_assoc, then_alike}
 use Rattle.fs_semantics.proofs.ConstructLaws.{split_then}
 use Rattle.commuting_parts.specs.Runs.{Run, thens, SameFrom, SwapFrom, LeadsTo, LeavesTest}
 
+-- runs that lead from one kind of tree to a second, and on to a third, lead from the first kind to the third
 pub leads_on : (P Q R : Tree → Type 0) (f g : Run) → LeadsTo P Q f → LeadsTo Q R g → LeadsTo P R (thens f g)
 leads_on P Q R f g first second t v good ends =
     let half = split_then (f t) g v ends in
@@ -40,6 +41,7 @@ behind_first P Q R S d m e n leads leads_too leads_on_ firsts left right rests t
 
 -- ---- two runs that share their last part
 
+-- runs that each have a part of their own, and share the rest, commute where the three parts commute and keep such trees
 pub ahead_of_shared : (P : Tree → Type 0) (m n k : Run) → LeadsTo P P m → LeadsTo P P n → LeadsTo P P k
     → SwapFrom P m n → SwapFrom P m k → SwapFrom P n k → SwapFrom P (thens m k) (thens n k)
 ahead_of_shared P m n k keep_left keep_right keep own left right =
@@ -49,6 +51,7 @@ ahead_of_shared P m n k keep_left keep_right keep own left right =
 
 -- ---- choices
 
+-- a choice commutes with a program that leaves its test, where both its branches do
 pub choice_commutes : (P : Tree → Type 0) (c : Test) (a b f : Program) → LeavesTest P c (run f) → CommuteFrom P a f → CommuteFrom P b f → CommuteFrom P (If c a b) f
 choice_commutes P c a b f left first second t good =
     by (holds c t) ∙ sym (then_alike (run f t) (run (If c a b)) (λ u. cond (holds c t) (run a u) (run b u)) (λ u is. ap (λ x. cond x (run a u) (run b u)) (left t u good is)))
@@ -57,6 +60,7 @@ choice_commutes P c a b f left first second t good =
     by true = first t good
     by false = second t good
 
+-- whether it ends in Error where a condition holds tells the condition
 told : (x y : Bool) (t u : Tree) → cond x None (Some u) ≡ cond y None (Some u) → x ≡ y
 told true true t u h = refl
 told true false t u h = cc

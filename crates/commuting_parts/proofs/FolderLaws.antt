@@ -26,6 +26,7 @@ made_sure folders sure more e x is keys all p h = elim (all p h) [
   | inr made ↦ inr (ap (λ f. f p) (sym is.sure) ∙ ap (is_among p) (sym keys) ∙ made)
 ]
 
+-- where the footprints that were found of two programs are apart, those of the programs are
 apart_of : (folders : BTreeSet Path) (e f : model.Program) (x y : Lists) → IsPrintOf e x → IsPrintOf f y → AreApartIn (members folders) (sets_of x) (sets_of y)
     → AreApartIn (members folders) (footprint e) (footprint f)
 apart_of folders e f x y is is_too a = subst₂ (AreApartIn (members folders)) is.sets is_too.sets a
@@ -34,6 +35,7 @@ module _ (commute : (folders : BTreeSet Path) (e f : model.Program) → IsProper
     (makes : (folders more : BTreeSet Path) (e : model.Program) (g : Footprint) → IsProper e → IsClearIn (members folders) (footprint e) g
     → ((p : Path) → In (members more) p → In (members folders) p ⊎ In (sure_after e nowhere) p) → LeadsTo (TreeWith folders) (TreeWith more) (run e))
     (folders left right behind : BTreeSet Path) (es fs : List Program) (l r : Divided) (divided : IsDivided es l) (divided_too : IsDivided fs r) where
+  -- lists commute where the folders they first make sure of are apart, each from the other's rest too, and the rests commute
   pub folders_swap : AreApartIn (members folders) (sets_of l.made_print) (sets_of r.made_print)
       → AreApartIn (members left) (sets_of l.rest_print) (sets_of r.made_print) → AreApartIn (members right) (sets_of r.rest_print) (sets_of l.made_print)
       → (first second third : BTreeSet Path) → first.keys ≡ l.made_print.sure → second.keys ≡ r.made_print.sure → third.keys ≡ r.made_print.sure

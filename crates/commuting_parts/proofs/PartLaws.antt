@@ -19,6 +19,7 @@ use Rattle.commuting_parts.specs.Parts.{runs, part, marked, unmarked, IsApartFro
 use Rattle.commuting_parts.proofs.CommuteLaws.{leads_on, reworded, ahead_of_shared}
 use Rattle.commuting_parts.proofs.PrintLaws.{Within, front_within, apart_within}
 
+-- one list behind another runs as the first, and then the second
 pub runs_append : (es fs : List Program) (t : Tree) → runs (es ++ fs) t ≡ thens (runs es) (runs fs) t
 runs_append [] fs t = refl
 runs_append (e ∷ es) fs t =
@@ -30,6 +31,7 @@ pub record MovesAhead (P : Tree → Type 0) (ks : List Program) (e : Program) : 
   pub keeps : LeadsTo P P (run (program_of e))
   pub swaps : (front back : List Program) → ks ≡ front ++ back → SwapFrom P (run (program_of e)) (runs front)
 
+-- an empty list behind steps changes nothing
 pub then_some : (es : List Program) (t : Tree) → and_then (runs es t) (runs []) ≡ runs es t
 then_some es t = by (runs es t)
   where
@@ -37,6 +39,7 @@ then_some es t = by (runs es t)
     by None = refl
     by (Some u) = refl
 
+-- a list of one step runs as the step
 pub then_one : (e : Program) (u : Tree) → runs (e ∷ []) u ≡ run (program_of e) u
 then_one e u = by (run (program_of e) u)
   where
@@ -50,6 +53,7 @@ module _ (P : Tree → Type 0) (marks : ℕ → Bool) (ks : List Program) where
   GoAhead i es = (front : List Program) → ks ≡ front ++ marked marks i es → AllByRecursion (MovesAhead P ks) (unmarked marks i es)
       → SameFrom P (thens (runs front) (runs es)) (thens (runs (unmarked marks i es)) (runs ks))
 
+  -- where they do so in what follows a step, they do so in the list with that step
   one_more : (b : Bool) (i : ℕ) (e : Program) (es : List Program) → GoAhead (suc i) es → (front : List Program)
       → ks ≡ front ++ cond b (e ∷ marked marks (suc i) es) (marked marks (suc i) es)
       → AllByRecursion (MovesAhead P ks) (cond b (unmarked marks (suc i) es) (e ∷ unmarked marks (suc i) es))
@@ -66,6 +70,7 @@ module _ (P : Tree → Type 0) (marks : ℕ → Bool) (ks : List Program) where
       ahead front is all.1 u (all.0.keeps t u good k))
       ∙ sym (and_then_assoc (run (program_of e) t) (runs (unmarked marks (suc i) es)) (runs ks))
 
+  -- they do so in each list
   pub own_ahead : (i : ℕ) (es : List Program) → GoAhead i es
   own_ahead i [] front is all t good = then_some front t ∙ ap (λ fs. runs fs t) (sym (append-nil front) ∙ sym is)
   own_ahead i (e ∷ es) front is all t good = one_more (marks i) i e es (own_ahead (suc i) es) front is all t good
@@ -77,6 +82,7 @@ steps_keep P (e ∷ es) all t u good ends =
     let half = split_then (run (program_of e) t) (runs es) u ends in
     steps_keep P es all.1 half.0 u (all.0 t half.0 good half.1) half.2
 
+-- steps that keep such trees, and each commute with a run, commute with it as a whole
 pub steps_swap : (P : Tree → Type 0) (f : Run) (es : List Program) → AllByRecursion (λ e. LeadsTo P P (run (program_of e)) × SwapFrom P (run (program_of e)) f) es → SwapFrom P (runs es) f
 steps_swap P f [] all t good = sym (by (f t))
   where
@@ -92,6 +98,7 @@ steps_swap P f (e ∷ es) all t good =
 
 -- ---- two lists
 
+-- the first steps of a proper list are proper
 pub proper_front : (front back : List Program) → AreProperSteps (programs_in (front ++ back)) → AreProperSteps (programs_in front)
 proper_front [] back h = tt
 proper_front (e ∷ front) back h = (h.0, proper_front front back h.1)
@@ -99,6 +106,7 @@ proper_front (e ∷ front) back h = (h.0, proper_front front back h.1)
 module _ (commute : (folders : BTreeSet Path) (e f : model.Program) → IsProper e → IsProper f → AreApartIn (members folders) (footprint e) (footprint f) → CommuteWith folders e f)
     (keeps : (folders : BTreeSet Path) (e : model.Program) (g : Footprint) → IsProper e → IsClearIn (members folders) (footprint e) g → LeadsTo (TreeWith folders) (TreeWith folders) (run e))
     (folders : BTreeSet Path) where
+  -- a step that is apart from the shared steps moves ahead of them
   moves_ahead : (ks : List Program) → IsProper (part ks) → (e : Program) → IsApartFrom folders (footprint (part ks)) (program_of e) → MovesAhead (TreeWith folders) ks e
   moves_ahead ks proper e a = record {
     keeps = keeps folders (program_of e) (footprint (part ks)) a.0 a.1.left;
@@ -109,6 +117,7 @@ module _ (commute : (folders : BTreeSet Path) (e f : model.Program) → IsProper
         (apart_within (members folders) (footprint (program_of e)) (footprint (part front)) (footprint (part ks)) within a.1);
   }
 
+  -- so does each of the steps that are
   all_ahead : (ks : List Program) → IsProper (part ks) → (es : List Program) → AllByRecursion (λ e. IsApartFrom folders (footprint (part ks)) (program_of e)) es
       → AllByRecursion (MovesAhead (TreeWith folders) ks) es
   all_ahead ks proper [] all = tt
@@ -121,6 +130,7 @@ module _ (commute : (folders : BTreeSet Path) (e f : model.Program) → IsProper
   apart_parts marks es proper all =
       own_ahead (TreeWith folders) marks (marked marks 0 es) 0 es [] refl (all_ahead (marked marks 0 es) proper (unmarked marks 0 es) all)
 
+  -- lists commute where their own steps are apart, and apart from those that they share
   pub parts_swap : (marks others : ℕ → Bool) (es fs : List Program) → AreParts folders (unmarked marks 0 es) (marked marks 0 es) (unmarked others 0 fs) (marked others 0 fs)
       → SwapFrom (TreeWith folders) (runs es) (runs fs)
   parts_swap marks others es fs a =
@@ -161,6 +171,7 @@ one_marked marks i es e old new h is now =
     by true = append_assoc old (e ∷ []) (marked marks (suc i) (drop (i + 1) es))
     by false = refl
 
+-- what isn't marked so far, and what follows
 pub one_unmarked : (marks : ℕ → Bool) (i : ℕ) (es : List Program) (e : Program) (old new : List Program) → i < length es → e ≡ get_or es i e
     → new ≡ cond (marks i) old (old ++ e ∷ []) → new ++ unmarked marks (i + 1) (drop (i + 1) es) ≡ old ++ unmarked marks i (drop i es)
 one_unmarked marks i es e old new h is now =
@@ -175,21 +186,25 @@ one_unmarked marks i es e old new h is now =
 
 -- ---- a list and its first steps
 
+-- a list runs as two programs of which one runs as its front, and the other as its back
 pub whole_is : (es front back : List Program) (e f : Program) → front ++ back ≡ es → ((t : Tree) → run (program_of e) t ≡ runs front t) → ((t : Tree) → run (program_of f) t ≡ runs back t)
     → (t : Tree) → runs es t ≡ thens (run (program_of e)) (run (program_of f)) t
 whole_is es front back e f is first second t =
     ap (λ xs. runs xs t) (sym is) ∙ runs_append front back t ∙ ap (λ r. and_then r (runs back)) (sym (first t))
     ∙ then_alike (run (program_of e) t) (runs back) (run (program_of f)) (λ u k. sym (second u))
 
+-- the first items of a list, and then the others, are the list
 pub split_at : (es : List Program) (n : ℕ) → take n es ++ drop n es ≡ es
 split_at es n = take-append-drop n es
 
 -- ---- the same of equal lists
 
+-- steps that are apart from a footprint are apart from it in other words
 pub each_apart : (folders : BTreeSet Path) (es fs : List Program) (g h : Footprint) → g ≡ h → es ≡ fs
     → AllByRecursion (λ e. IsApartFrom folders g (program_of e)) es → AllByRecursion (λ e. IsApartFrom folders h (program_of e)) fs
 each_apart folders es fs g h same list all = subst₂ (λ x xs. AllByRecursion (λ e. IsApartFrom folders x (program_of e)) xs) same list all
 
+-- parts are parts in other words
 pub parts_as : (folders : BTreeSet Path) (a b c d e f g h : List Program) → a ≡ e → b ≡ f → c ≡ g → d ≡ h → AreParts folders a b c d → AreParts folders e f g h
 parts_as folders a b c d e f g h first second third fourth are =
     subst₂ (λ x y. AreParts folders e f x y) third fourth (subst₂ (λ x y. AreParts folders x y c d) first second are)

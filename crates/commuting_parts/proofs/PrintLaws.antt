@@ -20,6 +20,7 @@ use Rattle.commuting_parts.specs.Runs.{LeadsTo, LeavesTest}
 use Rattle.commuting_parts.specs.Prints.{TreeWith, CommuteWith, IsClearIn, AreApartIn}
 use Rattle.commuting_parts.proofs.CommuteLaws.{leaves_asked}
 
+-- what doesn't hold is false
 not_true : (b : Bool) → (b ≡ true → ⊥) → b ≡ false
 not_true true h = absurd (h refl)
 not_true false h = refl
@@ -32,9 +33,11 @@ ByFootprints = (given : Paths) (es : List Program) (before : ℕ → ℕ → Boo
     → maker < length es → maker ≢ i → Told before maker i → In (sure_after (get_or es maker Id) nowhere) p
     → AllByRecursion (λ e. (footprint e).writes p ≡ false) es → IsSureBefore given es (Told before) i p
 
+-- a choice that makes a folder where none stands ensures that folder
 made_sure : (p : Path) → ensured (IsDir p) Id (Mkdir p) ≡ Some p
 made_sure p = ap (λ b. cond b (Some p) None) (path_eq_refl p)
 
+-- the footprint of two branches that look at nothing and change nothing
 abbrev branches : Footprint
 branches = joined no_footprint no_footprint
 
@@ -47,14 +50,17 @@ unremoved by e p unwritten =
 
 -- ---- apart where some folders stand
 
+-- where none of three holds, none does with a condition on the first
 narrowed : (a b c x : Bool) → (a || b || c) ≡ false → ((a && x) || b || c) ≡ false
 narrowed true b c x h = absurd (both_ways _ h (or_left (true || b) c refl))
 narrowed false b c x h = h
 
+-- what holds only where something else does never holds without it
 sure_read : (a x : Bool) → (a ≡ true → x ≡ true) → (a && not x) ≡ false
 sure_read true x h = ap not (h refl)
 sure_read false x h = refl
 
+-- a footprint that is clear of another, some folders aside, is clear of it where those folders stand
 clear_with : (folders : Paths) (f g : Footprint) → IsClearIn folders f g → IsClearOf (where_stand folders f) (where_stand folders g)
 clear_with folders f g c = record {
   writes = λ q w. narrowed (g.reads q) (g.writes q) (g.folders q) (not (folders q)) (c.writes q w);
@@ -63,9 +69,11 @@ clear_with folders f g c = record {
 }
 
 module _ (by : ByFootprints) where
+  -- a program whose footprint is clear, some folders aside, removes none of them
   left_standing : (folders : Paths) (e : Program) (g : Footprint) → IsClearIn folders (footprint e) g → Leaves folders e
   left_standing folders e g c p stands = unremoved by e p (not_true _ (λ w. both_ways _ (c.kept p w) stands))
 
+  -- programs whose footprints are apart, some folders aside, are apart where those folders stand
   apart_with : (folders : Paths) (e f : Program) → AreApartIn folders (footprint e) (footprint f) → AreApartWith folders e f
   apart_with folders e f a = record {
     left = left_standing folders e (footprint f) a.left;
@@ -77,6 +85,7 @@ module _ (by : ByFootprints) where
   abbrev pub ApartCommute : Type 0
   ApartCommute = (folders : Paths) (e f : Program) → IsProper e → IsProper f → AreApartWith folders e f → CommuteFrom (IsTreeWith (In folders)) e f
 
+  -- such programs, where they are proper, commute where the folders stand
   pub apart_commute : ApartCommute → (folders : BTreeSet Path) (e f : Program) → IsProper e → IsProper f
       → AreApartIn (members folders) (footprint e) (footprint f) → CommuteWith folders e f
   apart_commute law folders e f proper proper_too a = law (members folders) e f proper proper_too (apart_with (members folders) e f a)
@@ -109,16 +118,19 @@ module _ (by : ByFootprints) where
 
 -- ---- less that is looked at and changed
 
+-- all that is in the first footprint is in the second
 pub record Within (f g : Footprint) : Type 0 where
   pub reads : (q : Path) → f.reads q ≡ true → g.reads q ≡ true
   pub writes : (q : Path) → f.writes q ≡ true → g.writes q ≡ true
   pub folders : (q : Path) → f.folders q ≡ true → g.folders q ≡ true
   pub children : (q : Path) → f.children q ≡ true → g.children q ≡ true
 
+-- one of two holds with what follows from the second in its place
 one_of : (a b c d : Bool) → (b ≡ true → d ≡ true) → (a || b) ≡ true → (a || d) ≡ true
 one_of true b c d h k = refl
 one_of false b c d h k = h k
 
+-- a footprint within another is so too where both are joined with a third
 joined_within : (x f g : Footprint) → Within f g → Within (joined x f) (joined x g)
 joined_within x f g w = record {
   reads = λ q. one_of (x.reads q) (f.reads q) true (g.reads q) (w.reads q);
@@ -134,6 +146,7 @@ front_within (e ∷ front) back sure =
     joined_within (footprint_after (program_of e) sure) (steps_footprint (programs_in front) (sure_after (program_of e) sure))
     (steps_footprint (programs_in (front ++ back)) (sure_after (program_of e) sure)) (front_within front back (sure_after (program_of e) sure))
 
+-- where one of three holds, one of three others does that follow from them one by one
 three : (a b c d e f : Bool) → (a ≡ true → d ≡ true) → (b ≡ true → e ≡ true) → (c ≡ true → f ≡ true) → (a || b || c) ≡ true → (d || e || f) ≡ true
 three a b c d e f h k l m = elim (or_cases (a || b) c m) [
   | inl m ↦ elim (or_cases a b m) [
@@ -143,9 +156,11 @@ three a b c d e f h k l m = elim (or_cases (a || b) c m) [
   | inr m ↦ or_right (d || e) f (l m)
 ]
 
+-- where one of two holds, one of two others does that follow from them one by one
 two : (a b c d : Bool) → (a ≡ true → c ≡ true) → (b ≡ true → d ≡ true) → (a || b) ≡ true → (c || d) ≡ true
 two a b c d h k m = elim (or_cases a b m) [ inl m ↦ or_left c d (h m) | inr m ↦ or_right c d (k m) ]
 
+-- what is apart from a footprint is apart from what is within it
 pub apart_within : (folders : Paths) (x f g : Footprint) → Within f g → AreApartIn folders x g → AreApartIn folders x f
 apart_within folders x f g w a = record {
   left = record {
@@ -165,12 +180,14 @@ apart_within folders x f g w a = record {
 
 -- ---- tests
 
+-- where neither of two holds, and neither of two others, none of the four does
 neither : (x y z w : Bool) → (x || y) ≡ false → (z || w) ≡ false → ((x || z) || (y || w)) ≡ false
 neither true y z w h k = absurd (both_ways _ h refl)
 neither false true z w h k = absurd (both_ways _ h refl)
 neither false false true w h k = absurd (both_ways _ k refl)
 neither false false false w h k = k
 
+-- a test writes nothing and makes no folder
 changes_nothing : (c : Test) (sure : Paths) (q : Path) → ((test_footprint c sure).writes q || (test_footprint c sure).folders q) ≡ false
 changes_nothing True sure q = refl
 changes_nothing False sure q = refl
@@ -189,6 +206,7 @@ changes_nothing (IsDir p) sure q = refl
 changes_nothing (IsEmpty p) sure q = refl
 changes_nothing (IsNone p) sure q = refl
 
+-- a choice to fail where a test holds ensures no folder
 not_ensured : (c : Test) → ensured c Err Id ≡ None
 not_ensured True = refl
 not_ensured False = refl
@@ -205,17 +223,21 @@ not_ensured (IsNone p) = refl
 abbrev asked : Test → Footprint
 asked c = joined (test_footprint c nowhere) branches
 
+-- a choice to fail where the test holds has that footprint
 asks : (c : Test) → footprint (If c Err Id) ≡ asked c
 asks c = ap (λ o. in_case o (λ p. ensuring p nowhere) (asked c)) (not_ensured c)
 
+-- something or false is just that
 plain : (x : Bool) → (x || false) ≡ x
 plain true = refl
 plain false = refl
 
+-- a test that is asked writes nothing and makes no folder
 unchanged : (c : Test) (q : Path) → ((asked c).writes q || (asked c).folders q) ≡ false
 unchanged c q =
     (λ i. plain ((test_footprint c nowhere).writes q) i || plain ((test_footprint c nowhere).folders q) i) ∙ changes_nothing c nowhere q
 
+-- what is clear of what a test looks at is clear of the test asked
 clear_of_asked : (f : Footprint) (c : Test) → IsClearOf f (test_footprint c nowhere) → IsClearOf f (asked c)
 clear_of_asked f c clear =
     let t = test_footprint c nowhere in
@@ -225,6 +247,7 @@ clear_of_asked f c clear =
       children = λ q h. plain (t.children (parent q)) ∙ clear.children q h;
     }
 
+-- a test that is asked is clear of everything
 asked_is_clear : (f : Footprint) (c : Test) → IsClearOf (asked c) f
 asked_is_clear f c =
     let none : (q : Path) (X : Type 0) → ((asked c).writes q || (asked c).folders q) ≡ true → X = λ q X h. absurd (both_ways _ (unchanged c q) h) in
@@ -246,12 +269,14 @@ test_left law folders c f proper clear t u good ends =
 
 -- ---- what a test looks at
 
+-- who looks at a path outside of a set sees no path of the set
 unread : (f : Paths) (p q : Path) → f p ≡ false → f q ≡ true → see p nowhere q ≡ false
 unread f p q free here = elim (cases_Bool (path_eq q p)) [
   | inl same ↦ absurd (both_ways _ free (ap f (sym (path_eq_same q p same)) ∙ here))
   | inr other ↦ ap (λ b. b && not (is_root q || false)) other
 ]
 
+-- what neither writes a path nor makes a folder there is clear of a look at it
 pub clear_of_path : (f : Footprint) (p : Path) → f.writes p ≡ false → f.folders p ≡ false → IsClearOf f (looking p nowhere)
 clear_of_path f p unwritten unmade = record {
   writes = λ q h. ap (λ b. b || false || false) (unread f.writes p q unwritten h);
@@ -259,10 +284,12 @@ clear_of_path f p unwritten unmade = record {
   children = λ q h. refl;
 }
 
+-- what is clear of a look at a folder, and changes nothing in it, is clear of a look at it and its children
 pub clear_of_folder : (f : Footprint) (p : Path) → IsClearOf f (looking p nowhere)
     → ((q : Path) → IsTrue (f.writes q || f.folders q) → path_eq (parent q) p ≡ false) → IsClearOf f (looking_below p nowhere)
 clear_of_folder f p at below = record { writes = at.writes; folders = at.folders; children = below }
 
+-- where none of three holds, and none of three others, none of the six does
 six : (a b c d e f : Bool) → (a || c || e) ≡ false → (b || d || f) ≡ false → ((a || b) || (c || d) || (e || f)) ≡ false
 six true b c d e f h k = absurd (both_ways _ h (or_left (true || c) e refl))
 six false b true d e f h k = absurd (both_ways _ h refl)

@@ -8,6 +8,7 @@ use Rattle.fs_semantics.specs.FileTree.{Path, path_eq, is_among}
 use Rattle.effect_sets.specs.Footprints.{Paths}
 use Rattle.effect_sets.specs.Members.{members, with_one}
 
+-- the order in which three are asked doesn't matter
 turned : (b c y : Bool) → (c || (b || y)) ≡ ((b || c) || y)
 turned true true y = refl
 turned true false y = refl
@@ -22,9 +23,11 @@ one_added old rest p g h q next is =
 abbrev pub Disjoint : Paths → Paths → Type 0
 Disjoint f g = (q : Path) → IsTrue (f q) → g q ≡ false
 
+-- the lists of two sets that have nothing in common have nothing in common
 pub disjoint_lists : (a b : BTreeSet Path) (xs ys : List Path) → a.keys ≡ xs → b.keys ≡ ys → Disjoint (members a) (members b) → Disjoint (λ q. is_among q xs) (λ q. is_among q ys)
 disjoint_lists a b xs ys left right apart q h = ap (is_among q) (sym right) ∙ apart q (ap (is_among q) left ∙ h)
 
+-- where each of three is false, none of them holds
 pub none_of_three : (a b c : Bool) → a ≡ false → b ≡ false → c ≡ false → (a || b || c) ≡ false
 none_of_three false false c h k l = l
 none_of_three false true c h k l = cc

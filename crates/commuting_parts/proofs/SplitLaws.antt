@@ -41,6 +41,7 @@ swept_half P m n k c keep swap absorbs t good =
     ∙ and_then_assoc (n u) k (thens k c))
     ∙ sym (and_then_assoc (m t) n (thens k (thens k c)))
 
+-- runs that each have an own part, and share the rest and the sweeps at its end, commute where those may be swept ahead too
 swept_swap : (P : Tree → Type 0) (m n k c : Run) → LeadsTo P P m → LeadsTo P P n → SwapFrom P m n → SwapFrom P m k → SwapFrom P n k
     → Absorbs c (thens m (thens k c)) → Absorbs c (thens n (thens k c)) → SwapFrom P (thens m (thens k c)) (thens n (thens k c))
 swept_swap P m n k c keep keep_too own left right first second t good =
@@ -50,6 +51,7 @@ swept_swap P m n k c keep keep_too own left right first second t good =
 module _ (commute : (folders : BTreeSet Path) (e f : model.Program) → IsProper e → IsProper f → AreApartIn (members folders) (footprint e) (footprint f) → CommuteWith folders e f)
     (keeps : (folders : BTreeSet Path) (e : model.Program) (g : Footprint) → IsProper e → IsClearIn (members folders) (footprint e) g → LeadsTo (TreeWith folders) (TreeWith folders) (run e))
     (folders : BTreeSet Path) where
+  -- a file tree in which the folders stand
   abbrev P : Tree → Type 0
   P = TreeWith folders
 
@@ -62,10 +64,12 @@ module _ (commute : (folders : BTreeSet Path) (e f : model.Program) → IsProper
     each_swaps ks proper es all.1,
   )
 
+  -- each step that is apart from a footprint keeps such trees
   each_keeps : (g : Footprint) (es : List Program) → AreApartFrom folders g es → AllByRecursion (λ e. LeadsTo P P (run (program_of e))) es
   each_keeps g [] all = tt
   each_keeps g (e ∷ es) all = (keeps folders (program_of e) g all.0.0 all.0.1.left, each_keeps g es all.1)
 
+  -- the first half of a list is its own steps, and then the shared ones
   half_is : (es : List Program) (p : Parts) → ArePartsOf es p → IsProper (part p.shared) → AreApartFrom folders (footprint (part p.shared)) p.own
       → SameFrom P (runs es) (thens (runs p.own) (runs p.shared))
   half_is es p (marks, own, shared) proper all =
@@ -79,6 +83,7 @@ module _ (commute : (folders : BTreeSet Path) (e f : model.Program) → IsProper
   GoAhead marks i es = (front : List Program) → AreAhead folders marks i front es → AreProperSteps (programs_in (front ++ marked marks i es))
       → SameFrom P (thens (runs front) (runs es)) (thens (runs (unmarked marks i es)) (runs (front ++ marked marks i es)))
 
+  -- where they do so in what follows a step, they do so in the list with that step
   next_ahead : (b : Bool) (marks : ℕ → Bool) (i : ℕ) (e : Program) (es : List Program) → GoAhead marks (suc i) es → (front : List Program)
       → WhereMarked b (AreAhead folders marks (suc i) (front ++ e ∷ []) es) (IsApartFrom folders (footprint (part front)) (program_of e) × AreAhead folders marks (suc i) front es)
       → AreProperSteps (programs_in (front ++ cond b (e ∷ marked marks (suc i) es) (marked marks (suc i) es)))
@@ -98,15 +103,18 @@ module _ (commute : (folders : BTreeSet Path) (e f : model.Program) → IsProper
       ahead front are.1 proper u (keeps folders (program_of e) (footprint (part front)) are.0.0 are.0.1.left t u good k))
       ∙ sym (and_then_assoc (run (program_of e) t) (runs (unmarked marks (suc i) es)) (runs (front ++ marked marks (suc i) es)))
 
+  -- they do so in each list
   go_ahead : (marks : ℕ → Bool) (i : ℕ) (es : List Program) → GoAhead marks i es
   go_ahead marks i [] front are proper t good = then_some front t ∙ ap (λ fs. runs fs t) (sym (append-nil front))
   go_ahead marks i (e ∷ es) front are proper t good = next_ahead (marks i) marks i e es (go_ahead marks (suc i) es) front are proper t good
 
+  -- the other half of a list is its own steps, and then the shared ones
   behind_is : (es : List Program) (p : Parts) → AreOrderedParts folders es p → IsProper (part p.shared) → SameFrom P (runs es) (thens (runs p.own) (runs p.shared))
   behind_is es p (marks, own, shared, ahead) proper =
       subst₂ (λ xs ys. SameFrom P (runs es) (thens (runs xs) (runs ys))) (sym own) (sym shared)
       (go_ahead marks 0 es [] ahead (subst (λ xs. AreProperSteps (programs_in xs)) shared proper))
 
+  -- the own steps of both halves
   abbrev own_steps : Split → List Program
   own_steps s = s.first.own ++ s.behind.own
 
@@ -114,6 +122,7 @@ module _ (commute : (folders : BTreeSet Path) (e f : model.Program) → IsProper
   abbrev common : Split → Run
   common s = thens (runs s.first.shared) (runs s.behind.shared)
 
+  -- the own steps keep such trees
   own_keeps : (s : Split) → IsOrdered folders s → LeadsTo P P (runs (own_steps s))
   own_keeps s o =
       let first = steps_keep P s.first.own (each_keeps (footprint (part s.first.shared)) s.first.own o.first) in
@@ -136,6 +145,7 @@ module _ (commute : (folders : BTreeSet Path) (e f : model.Program) → IsProper
       ∙ to_front P P m k n c keep (λ u good. sym (swap u good)) t good
       ∙ ap (λ r. and_then r (common s)) (sym (runs_append s.first.own s.behind.own t))
 
+  -- the own steps commute with the shared steps of the first half
   own_swaps : (s : Split) → IsOrdered folders s → SwapFrom P (runs (own_steps s)) (runs s.first.shared)
   own_swaps s o =
       let k = runs s.first.shared in
@@ -144,6 +154,7 @@ module _ (commute : (folders : BTreeSet Path) (e f : model.Program) → IsProper
       let behind = steps_swap P k s.behind.own (each_swaps s.first.shared o.proper s.behind.own o.behind) in
       subst (λ r. SwapFrom P r k) (λ i t. sym (runs_append s.first.own s.behind.own t) i) (both_swap P (runs s.first.own) (runs s.behind.own) k keep first behind)
 
+  -- the own steps, and then what is common, begin as well with the sweeps
   own_absorbs : (s : Split) → IsOrdered folders s → Absorbs (runs s.behind.shared) (thens (runs (own_steps s)) (common s))
   own_absorbs s o =
       subst (Absorbs (runs s.behind.shared)) (λ i t. same t i) (all_swept (own_steps s ++ s.first.shared) s.behind.shared o.swept)
@@ -151,6 +162,7 @@ module _ (commute : (folders : BTreeSet Path) (e f : model.Program) → IsProper
       same : (t : Tree) → thens (runs (own_steps s ++ s.first.shared)) (runs s.behind.shared) t ≡ thens (runs (own_steps s)) (common s) t
       same t = ap (λ r. and_then r (runs s.behind.shared)) (runs_append (own_steps s) s.first.shared t) ∙ and_then_assoc (runs (own_steps s) t) (runs s.first.shared) (runs s.behind.shared)
 
+  -- what is own to the one list commutes with what is own to the other
   owns_swap : (l r : Split) → IsOrdered folders l → IsOrdered folders r → AreOwnApart folders l r → SwapFrom P (runs (own_steps l)) (runs (own_steps r))
   owns_swap l r o p a =
       let m = runs l.first.own in
@@ -168,6 +180,7 @@ module _ (commute : (folders : BTreeSet Path) (e f : model.Program) → IsProper
       let all : SwapFrom P (thens d e) (thens m n) = both_swap P d e (thens m n) keep_too (λ t good. sym (with_first t good)) (λ t good. sym (with_behind t good)) in
       subst₂ (SwapFrom P) (λ i t. sym (runs_append l.first.own l.behind.own t) i) (λ i t. sym (runs_append r.first.own r.behind.own t) i) (λ t good. sym (all t good))
 
+  -- lists whose halves are apart commute
   pub splits_swap : (es fs : List Program) (l r : Split) → IsSplit folders es l → IsSplit folders fs r → AreSplitsApart folders l r → SwapFrom P (runs es) (runs fs)
   splits_swap es fs l r is is_too a =
       let m = runs (own_steps l) in

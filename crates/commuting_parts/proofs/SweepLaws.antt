@@ -19,6 +19,7 @@ use Rattle.commuting_parts.specs.Parts.{runs}
 use Rattle.commuting_parts.specs.Sweeps.{sweep, RemovesAt, IsHarmlessTo, AreSwept}
 use Rattle.commuting_parts.proofs.PartLaws.{runs_append}
 
+-- two paths are the same, or they aren't
 same_path : (p q : Path) → (p ≡ q) ⊎ (p ≢ q)
 same_path p q = elim (cases_Bool (path_eq p q)) [
   | inl same ↦ inl (path_eq_same p q same)
@@ -31,11 +32,13 @@ same_path p q = elim (cases_Bool (path_eq p q)) [
 still_there : (t : Tree) (d q : Path) → q ≢ d → IsTrue (map.contains_key t q) → IsTrue (map.contains_key (map.remove t d) q)
 still_there t d q other h = ap is_some (at_kept t d q other) ∙ h
 
+-- what is there without a path was there with it, and isn't that path
 was_there : (t : Tree) (d q : Path) → IsTrue (map.contains_key (map.remove t d) q) → (q ≢ d) × IsTrue (map.contains_key t q)
 was_there t d q h =
     let other : q ≢ d = λ e. let gone : is_some (map.get (map.remove t d) q) ≡ false = ap is_some (ap (map.get (map.remove t d)) e ∙ at_removed t d) in both_ways _ gone h in
     (other, ap is_some (sym (at_kept t d q other)) ∙ h)
 
+-- where the same stands at a path in two trees, it is a folder in both or in neither
 folder_as : (t u : Tree) (p : Path) → map.get t p ≡ map.get u p → IsFolderAt t p → IsFolderAt u p
 folder_as t u p same (inl root) = inl root
 folder_as t u p same (inr is) = inr (sym same ∙ is)
@@ -71,6 +74,7 @@ not_there u d root gone = elim (cases_Bool (is_empty_dir u d)) [
     no (inl is) = root is
     no (inr is) = let wrong : ◌≡◌ {A = Option Entry} None (Some Folder) = sym gone ∙ is in cc
 
+-- two paths may be removed in either order
 both_gone : (t : Tree) (d p : Path) → map.remove (map.remove t d) p ≡ map.remove (map.remove t p) d
 both_gone t d p = same_map path_total path_same _ _ (λ q. elim (same_path q d) [
   | inl e ↦ elim (same_path q p) [
@@ -85,6 +89,7 @@ both_gone t d p = same_map path_total path_same _ _ (λ q. elim (same_path q d) 
 
 -- ---- one sweep
 
+-- a removal of the path doesn't fail
 abbrev goes : Tree → Path → Bool
 goes t p = is_file t p || is_link t p || (not (is_root p) && is_empty_dir t p)
 
@@ -92,22 +97,27 @@ goes t p = is_file t p || is_link t p || (not (is_root p) && is_empty_dir t p)
 abbrev step : (Tree → Bool) → Path → Run
 step b p t = cond (b t) (cond (goes t p) (Some (map.remove t p)) None) (Some t)
 
+-- a path that isn't empty isn't the root
 no_root : (d : Path) → d ≢ [] → not (is_root d) ≡ true
 no_root [] h = absurd (h refl)
 no_root (s ∷ d) h = refl
 
 module _ (d : Path) (root : d ≢ []) where
+  -- a sweep removes the folder where it is empty
   sweeps : (t : Tree) → is_empty_dir t d ≡ true → run (sweep d) t ≡ Some (map.remove t d)
   sweeps t h =
       ap (λ b. cond b (removed d t) (Some t)) h
       ∙ ap (λ b. cond b (Some (map.remove t d)) None) (or_right (is_file t d || is_link t d) _ (and_from (not (is_root d)) (is_empty_dir t d) (no_root d root) h))
 
+  -- it leaves the tree as it is where no empty folder stands there
   leaves : (t : Tree) → is_empty_dir t d ≡ false → run (sweep d) t ≡ Some t
   leaves t h = ap (λ b. cond b (removed d t) (Some t)) h
 
+  -- it leaves the tree as it is where the folder has gone
   gone : (t : Tree) → run (sweep d) (map.remove t d) ≡ Some (map.remove t d)
   gone t = leaves (map.remove t d) (not_there (map.remove t d) d root (at_removed t d))
 
+  -- two sweeps of a folder are one
   once : (t : Tree) → thens (run (sweep d)) (run (sweep d)) t ≡ run (sweep d) t
   once t = elim (cases_Bool (is_empty_dir t d)) [
     | inl h ↦ ap (λ r. and_then r (run (sweep d))) (sweeps t h) ∙ gone t ∙ sym (sweeps t h)
@@ -115,11 +125,13 @@ module _ (d : Path) (root : d ≢ []) where
   ]
 
   module _ (p : Path) (other : d ≢ p) (below : parent d ≢ p) where
+    -- whether another path can be removed is the same without the folder
     goes_as : (t : Tree) → goes (map.remove t d) p ≡ goes t p
     goes_as t =
         let same = at_kept t d p (λ s. other (sym s)) in
         (λ i. is_file_entry (same i) || is_link_entry (same i) || (not (is_root p) && empty_as t d p other below i))
 
+    -- a removal there, if it is asked for, and then a sweep, end the same without the folder and with it
     without : (t : Tree) → is_empty_dir t d ≡ true → (x y : Bool)
         → and_then (cond x (cond y (Some (map.remove (map.remove t d) p)) None) (Some (map.remove t d))) (run (sweep d))
         ≡ and_then (cond x (cond y (Some (map.remove t p)) None) (Some t)) (run (sweep d))
@@ -129,6 +141,7 @@ module _ (d : Path) (root : d ≢ []) where
         leaves (map.remove (map.remove t d) p) (not_there (map.remove (map.remove t d) p) d root (at_kept (map.remove t d) p d other ∙ at_removed t d))
         ∙ ap (λ u. Some u) (both_gone t d p) ∙ sym (sweeps (map.remove t p) (empty_still t d p other h))
 
+    -- a sweep ahead of a removal there, and of a sweep, doesn't matter
     swept_first : (b : Tree → Bool) → ((t : Tree) → b (map.remove t d) ≡ b t) → (t : Tree)
         → thens (run (sweep d)) (thens (step b p) (run (sweep d))) t ≡ thens (step b p) (run (sweep d)) t
     swept_first b same t = elim (cases_Bool (is_empty_dir t d)) [
@@ -157,6 +170,7 @@ module _ (d : Path) (root : d ≢ []) where
 abbrev pub Absorbs : Run → Run → Type 0
 Absorbs s x = (t : Tree) → thens s x t ≡ x t
 
+-- what may come ahead of a step and itself may come ahead of the step and anything that begins as well with it
 past : (s e x : Run) → ((t : Tree) → thens s (thens e s) t ≡ thens e s t) → Absorbs s x → Absorbs s (thens e x)
 past s e x free absorbs t =
     then_alike (s t) (thens e x) (thens e (thens s x)) (λ u is. then_alike (e u) x (thens s x) (λ v k. sym (absorbs v)))
@@ -175,6 +189,7 @@ swept_again d root (e ∷ before) all x absorbs t =
     ∙ past (run (sweep d)) (run (program_of e)) (thens (runs before) x) (harmless d root (program_of e) all.0) (swept_again d root before all.1 x absorbs) t
     ∙ sym (and_then_assoc (run (program_of e) t) (runs before) x)
 
+-- steps, and then sweeps to which these are harmless, begin as well with the sweeps
 pub all_swept : (before cs : List Written) → AreSwept before cs → Absorbs (runs cs) (thens (runs before) (runs cs))
 all_swept before [] swept t = refl
 all_swept before (c ∷ cs) swept t =
