@@ -12,25 +12,30 @@ use Rattle.commute_prune.proofs.PairLaws.{pairs_from, pairs_in}
 use Rattle.kept_graph.specs.Contracted.{Around, star}
 use Rattle.kept_graph.proofs.CompletionLaws.{extension_by}
 
+-- no number from n on stands in a list of numbers below n
 pub outside : (n j : ℕ) (o : List ℕ) → AllByRecursion (λ i. i < n) o → n ≤ j → times j o ≡ 0
 outside n j [] all h = refl
 outside n j (i ∷ o) all h = let low : i < n = all.0 in times_other j i o (λ e. omega arith) ∙ outside n j o all.1 h
 
+-- numbers below n, and then n + 1, are below n + 2
 widened : (n : ℕ) (o : List ℕ) → AllByRecursion (λ i. i < n) o → AllByRecursion (λ i. i < n + 2) (o ++ (n + 1) ∷ [])
 widened n [] all = (omega arith, tt)
 widened n (i ∷ o) all = let low : i < n = all.0 in (omega arith, widened n o all.1)
 
 module _ (n : ℕ) (before : ℕ → ℕ → Type 0) where
+  -- nothing comes before node n
   pub none_before : (a : ℕ) → Around n before a n → ⊥
   none_before a (inl h) = h.1 refl
   none_before a (inr (inl h)) = let e = h.0 in omega arith
   none_before a (inr (inr h)) = let low = h.1 in omega arith
 
+  -- node n + 1 comes before nothing
   pub none_after : (b : ℕ) → Around n before (n + 1) b → ⊥
   none_after b (inl h) = let e = h.0 in omega arith
   none_after b (inr (inl h)) = h.1 refl
   none_after b (inr (inr h)) = let low = h.0 in omega arith
 
+  -- between the other nodes the order is theirs
   among : (a b : ℕ) → a < n → b < n → Around n before a b → before a b
   among a b h g (inl k) = let e = k.0 in absurd (omega arith)
   among a b h g (inr (inl k)) = let e = k.0 in absurd (omega arith)
@@ -40,6 +45,7 @@ module _ (n : ℕ) (before : ℕ → ℕ → Type 0) where
   abbrev pub wrapped : List ℕ → List ℕ
   wrapped mid = n ∷ (mid ++ (n + 1) ∷ [])
 
+  -- each node stands once in it
   counted : (mid : List ℕ) (k : ℕ) → IsLinearExtension n before mid → k < n + 2 → times k (wrapped mid) ≡ 1
   counted mid k a h = by (nat_lt k n) refl
     where
@@ -63,6 +69,7 @@ module _ (n : ℕ) (before : ℕ → ℕ → Type 0) where
                 omega (arith, times_other k n (mid ++ (n + 1) ∷ []) (λ g. other g), apart, none, subst (λ m. times k (m ∷ []) ≡ 1 + times k []) last (times_itself k []))
           ] refl
 
+  -- an allowed order of the nodes between is allowed with the two others at its ends
   pub wraps : (mid : List ℕ) → IsLinearExtension n before mid → IsLinearExtension (n + 2) (Around n before) (wrapped mid)
   wraps mid a =
       let inner = extension_by n before (Around n before) among mid a in
@@ -119,6 +126,7 @@ module _ (n : ℕ) (before : ℕ → ℕ → Type 0) where
           let other : y ≢ n + 1 = λ e. omega (arith, one, count, times_itself (n + 1) (y ∷ g), subst (λ j. times j (y ∷ g) ≡ 1 + times j g) e (times_itself y g)) in
           absurd ((none_ahead_at (Around n before) f (n + 1) (y ∷ g) kept).0 (inr (inl (refl, other))))
 
+  -- and each order that is allowed with them is such an order with the two at its ends
   pub shape : (o : List ℕ) → IsLinearExtension (n + 2) (Around n before) o → Shape o
   shape [] a = absurd (omega (arith, a.once n (omega arith)))
   shape (x ∷ o) a = elim (x == n) as (λ b. (x == n) ≡ b → Shape (x ∷ o)) [
@@ -131,6 +139,7 @@ module _ (n : ℕ) (before : ℕ → ℕ → Type 0) where
 
   -- ---- the edges
 
+  -- the order around is transitive where that between is
   pub around_on : ((a b c : ℕ) → before a b → before b c → before a c) → (a b c : ℕ) → Around n before a b → Around n before b c → Around n before a c
   around_on trans a b c (inl h) (inl k) = absurd (h.1 k.0)
   around_on trans a b c (inl h) (inr (inl k)) = let e = k.0 in inl (h.0, λ f. omega (arith, e, f))
@@ -142,6 +151,7 @@ module _ (n : ℕ) (before : ℕ → ℕ → Type 0) where
   around_on trans a b c (inr (inr h)) (inr (inl k)) = let low = h.0 in inr (inl (k.0, λ f. omega (arith, low, f)))
   around_on trans a b c (inr (inr h)) (inr (inr k)) = inr (inr (h.0, k.1, trans a b c h.2 k.2))
 
+  -- around, too, no node comes before itself
   pub never_around : ((a : ℕ) → before a a → ⊥) → (a : ℕ) → Around n before a a → ⊥
   never_around never a (inl h) = h.1 h.0
   never_around never a (inr (inl h)) = h.1 h.0
@@ -153,11 +163,13 @@ module _ (n : ℕ) (before : ℕ → ℕ → Type 0) where
     pub right : e.1 < n + 2
     pub around : Around n before e.0 e.1
 
+  -- the edges from node n to another one, and from that to node n + 1, lead from what comes before
   two_from : (m : ℕ) (e : ℕ × ℕ) → m < n → Contains ((n, m) ∷ (m, n + 1) ∷ []) e → IsAround e
   two_from m e low (zero, h, at) = subst IsAround at (record { left = omega arith; right = omega arith; around = inl (refl, λ f. omega (arith, f)) })
   two_from m e low (suc zero, h, at) = subst IsAround at (record { left = omega arith; right = omega arith; around = inr (inl (refl, λ f. omega (arith, f))) })
   two_from m e low (suc (suc k), h, at) = absurd (omega (arith, h))
 
+  -- all edges of the star lead from what comes before
   pub star_from : (m : ℕ) (e : ℕ × ℕ) → m ≤ n → Contains (star n m) e → IsAround e
   star_from zero e low (zero, h, at) = subst IsAround at (record { left = omega arith; right = omega arith; around = inl (refl, λ f. omega (arith, f)) })
   star_from zero e low (suc k, h, at) = absurd (omega (arith, h))
@@ -166,10 +178,12 @@ module _ (n : ℕ) (before : ℕ → ℕ → Type 0) where
     | inr k ↦ two_from m e (omega arith) k
   ]
 
+-- the star has the edge from node n to node n + 1
 star_ends : (n m : ℕ) → Contains (star n m) (n, n + 1)
 star_ends n zero = (0, omega arith, refl)
 star_ends n (suc m) = Contains-append_left (star n m) ((n, m) ∷ (m, n + 1) ∷ []) (n, n + 1) (star_ends n m)
 
+-- it has an edge from node n to each node between
 star_first : (n m j : ℕ) → j < m → Contains (star n m) (n, j)
 star_first n zero j low = absurd (omega (arith, low))
 star_first n (suc m) j low = elim (nat_lt j m) as (λ b. nat_lt j m ≡ b → Contains (star n (suc m)) (n, j)) [
@@ -179,6 +193,7 @@ star_first n (suc m) j low = elim (nat_lt j m) as (λ b. nat_lt j m ≡ b → Co
       Contains-append_right (star n m) ((n, m) ∷ (m, n + 1) ∷ []) (n, j) (subst (λ k. Contains {X = ℕ × ℕ} ((n, m) ∷ (m, n + 1) ∷ []) (n, k)) same (0, omega arith, refl))
 ] refl
 
+-- and one from each node between to node n + 1
 star_last : (n m j : ℕ) → j < m → Contains (star n m) (j, n + 1)
 star_last n zero j low = absurd (omega (arith, low))
 star_last n (suc m) j low = elim (nat_lt j m) as (λ b. nat_lt j m ≡ b → Contains (star n (suc m)) (j, n + 1)) [
@@ -191,22 +206,27 @@ star_last n (suc m) j low = elim (nat_lt j m) as (λ b. nat_lt j m ≡ b → Con
 -- ---- the order between, by pairs that pass a test
 
 module _ (n : ℕ) (test : ℕ → ℕ → Bool) where
+  -- the pairs between, and the star
   abbrev edges : List (ℕ × ℕ)
   edges = pairs_of test n n ++ star n n
 
+  -- each edge leads from what comes before
   around_from : (e : ℕ × ℕ) → Contains edges e → IsAround n (λ a b. IsTrue (test a b)) e
   around_from e h = elim (Contains-append_cases (pairs_of test n n) (star n n) e h) [
     | inl k ↦ let p = pairs_from test n n e k in record { left = omega (arith, p.left); right = omega (arith, p.right); around = inr (inr (p.left, p.right, p.passes)) }
     | inr k ↦ star_from n (λ a b. IsTrue (test a b)) n e (omega arith) k
   ]
 
+  -- the ends of the edges are nodes
   pub edges_bounded : EndsBelow (n + 2) edges
   edges_bounded k d h = let p = around_from _ (Contains-get_or edges k d h) in (p.left, p.right)
 
+  -- a path of edges leads only from what comes before
   pub around_path : ((a b c : ℕ) → IsTrue (test a b) → IsTrue (test b c) → IsTrue (test a c)) → (i j : ℕ) → Path edges i j → Around n (λ a b. IsTrue (test a b)) i j
   around_path trans i j (edge h) = (around_from (i, j) h).around
   around_path trans i j (and_on h more) = around_on n (λ a b. IsTrue (test a b)) trans _ _ _ (around_from _ h).around (around_path trans _ j more)
 
+  -- and what comes before leads on by a path of edges
   pub path_around : (i j : ℕ) → i < n + 2 → j < n + 2 → Around n (λ a b. IsTrue (test a b)) i j → Path edges i j
   path_around i j left right (inl h) = edge (Contains-append_right (pairs_of test n n) (star n n) (i, j) (by (nat_lt j n) refl))
     where
