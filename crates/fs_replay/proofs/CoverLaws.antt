@@ -4,12 +4,15 @@ use Rattle.fs_semantics.specs.FileTree.{Path, parent}
 use Rattle.fs_semantics.specs.Programs.{Test, True, False, Not, And, Or, IsFile, IsLink, IsDir, IsEmpty, IsNone, Program, Programs, Id, Err, Mkdir, Creat, Link, Rm, Cp, Steps, If, none, next}
 use Rattle.fs_interpreter.specs.Places.{Listed, Keeps, CoversTest, Covers, CoversSteps}
 
+-- a table keeps what it has
 pub keeps_same : (t : Listed) → Keeps t t
 keeps_same t = record { paths = λ p h. h; contents = λ c h. h }
 
+-- a table that keeps what another keeps of a third keeps what the third has
 pub keeps_more : (t u v : Listed) → Keeps t u → Keeps u v → Keeps t v
 keeps_more t u v a b = record { paths = λ p h. b.paths p (a.paths p h); contents = λ c h. b.contents c (a.contents c h) }
 
+-- where a table has what a test names, one that keeps it has it too
 pub test_later : (t u : Listed) (a : Test) → Keeps t u → CoversTest t a → CoversTest u a
 test_later t u True k h = tt
 test_later t u False k h = tt
@@ -23,6 +26,7 @@ test_later t u (IsEmpty p) k h = k.paths p h
 test_later t u (IsNone p) k h = k.paths p h
 
 mutual
+  -- where a table has what a program names, one that keeps it has it too
   pub covers_later : (t u : Listed) (e : Program) → Keeps t u → Covers t e → Covers u e
   covers_later t u Id k h = tt
   covers_later t u Err k h = tt
@@ -34,6 +38,7 @@ mutual
   covers_later t u (Steps es) k h = steps_later t u es k h
   covers_later t u (If a e f) k h = (test_later t u a k h.0, covers_later t u e k h.1, covers_later t u f k h.2)
 
+  -- and so it is for a list of steps
   pub steps_later : (t u : Listed) (es : Programs) → Keeps t u → CoversSteps t es → CoversSteps u es
   steps_later t u none k h = tt
   steps_later t u (next e es) k h = (covers_later t u e k h.0, steps_later t u es k h.1)
@@ -46,17 +51,21 @@ one_longer (s ∷ []) (suc k) h = absurd (omega arith)
 one_longer (s ∷ r ∷ p) zero h = refl
 one_longer (s ∷ r ∷ p) (suc k) h = ap (λ q. s ∷ q) (one_longer (r ∷ p) k (omega arith))
 
+-- the same, where the length is counted on by one
 pub front_parent : (p : Path) (k : ℕ) → k < length p → parent (take (k + 1) p) ≡ take k p
 front_parent p k h = let next : k + 1 ≡ suc k = omega arith in ap (λ n. parent (take n p)) next ∙ one_longer p k h
 
+-- what holds anyway holds where a result is good
 pub when_ok : {X E : Type 0} (r : Result X E) {P : Type 0} → P → OnOk r P
 when_ok (Ok x) p = p
 when_ok (Err e) p = tt
 
+-- what follows from two facts follows where a result is good, if there both hold
 pub both_ok : {X E : Type 0} (r : Result X E) {P Q R : Type 0} → (P → Q → R) → OnOk r P → OnOk r Q → OnOk r R
 both_ok (Ok x) f p q = f p q
 both_ok (Err e) f p q = tt
 
+-- and so does what follows from three
 pub three_ok : {X E : Type 0} (r : Result X E) {P Q R S : Type 0} → (P → Q → R → S) → OnOk r P → OnOk r Q → OnOk r R → OnOk r S
 three_ok (Ok x) f p q r = f p q r
 three_ok (Err e) f p q r = tt

@@ -23,6 +23,7 @@ pub all_ahead : {X : Type 0} (P : X → Type 0) (xs ys : List X) → AllByRecurs
 all_ahead P [] ys h = tt
 all_ahead P (x ∷ xs) ys h = (h.0, all_ahead P xs ys h.1)
 
+-- what holds of all items of a list holds of all in its back
 pub all_behind : {X : Type 0} (P : X → Type 0) (xs ys : List X) → AllByRecursion P (xs ++ ys) → AllByRecursion P ys
 all_behind P [] ys h = h
 all_behind P (x ∷ xs) ys h = all_behind P xs ys h.1

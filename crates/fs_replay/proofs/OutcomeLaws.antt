@@ -10,30 +10,36 @@ use Rattle.fs_interpreter.specs.Places.{Listed, Covers, CoversSteps}
 use Rattle.fs_interpreter.specs.States.{State}
 use Rattle.fs_interpreter.specs.Standing.{Stands, StandsFor}
 
+-- a table that has what a list of programs names has what each of them names
 pub covers_at : (t : Listed) (es : List Program) (i : ℕ) (e : Program) → CoversSteps t (programs_in es) → i < length es → e ≡ get_or es i e → Covers t (program_of e)
 covers_at t [] i e h below is = absurd (omega arith)
 covers_at t (x ∷ es) zero e h below is = subst (λ (y : Program). Covers t (program_of y)) (sym is) h.0
 covers_at t (x ∷ es) (suc i) e h below is = covers_at t es i e h.1 (omega arith) is
 
+-- what holds of all numbers of a list holds of the one at each place
 pub all_at : (P : ℕ → Type 0) (xs : List ℕ) (i : ℕ) → AllByRecursion P xs → i < length xs → P (get_or xs i 0)
 all_at P [] i h below = absurd (omega arith)
 all_at P (x ∷ xs) zero h below = h.0
 all_at P (x ∷ xs) (suc i) h below = all_at P xs i h.1 (omega arith)
 
+-- a file tree has the parents of all that stands in it
 pub parents_of : (t : Tree) → IsTree t → HasParents t
 parents_of t is = record { no_root = is.no_root; parents = is.parents }
 
 module _ (keeps : (e : Steps) (t u : Tree) → HasParents t → run e t ≡ Some u → HasParents u) where
+  -- so does what a program leaves of such a tree
   pub run_parents : (e : Steps) (t : Tree) → HasParents t → IfSome (run e t) HasParents
   run_parents e t h = elim (run e t) as (λ o. run e t ≡ o → IfSome o HasParents) [
     | None ↦ λ k. tt
     | Some u ↦ λ k. keeps e t u h k
   ] refl
 
+  -- so does what a run leaves that follows another, where both leave such trees
   pub then_parents : (o : Outcome) (f : Tree → Outcome) → IfSome o HasParents → ((t : Tree) → HasParents t → IfSome (f t) HasParents) → IfSome (and_then o f) HasParents
   then_parents None f h k = tt
   then_parents (Some t) f h k = k t h
 
+  -- so does what an order leaves
   pub outcome_parents : (es : List Steps) (order : List ℕ) (t : Tree) → HasParents t → IfSome (outcome es order t) HasParents
   outcome_parents es [] t h = h
   outcome_parents es (i ∷ order) t h = then_parents (run (get_or es i Id) t) (outcome es order) (run_parents (get_or es i Id) t h) (λ u k. outcome_parents es order u k)
@@ -43,6 +49,7 @@ pub a_tree : (table : Listed) (s : State) (o : Outcome) → s.error ≡ false �
 a_tree table s None fine h k = let clash : ◌≡◌ {A = Bool} true false = sym h ∙ fine in cc
 a_tree table s (Some t) fine h k = (t, h, k)
 
+-- where the cells stand for one outcome alone, the outcome that is told of them is that one
 pub told_is : {X E : Type 0} (r : Result X E) (f : X → Outcome) (table : Listed) (s : State) (o : Outcome) → ((a b : Outcome) → StandsFor table s a → StandsFor table s b → a ≡ b) → StandsFor table s o
     → IfOk r (λ x. StandsFor table s (f x)) → IfOk r (λ x. f x ≡ o)
 told_is (Ok x) f table s o one h k = one (f x) o k h

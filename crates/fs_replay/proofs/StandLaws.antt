@@ -24,22 +24,27 @@ pub record AreTold (table : Listed) (t : Tree) (n : ℕ) (ps fs ls : List Bool) 
   pub contents : length cs ≡ n
   pub tells : (k : ℕ) (p : Path) → k < n → slice_get table.paths k ≡ Some p → Tells table.contents (cell_in ps fs ls cs k) (map.get t p)
 
+-- an item of the first of two lists stands at its place in both together
 get_before : {X : Type 0} (xs ys : List X) (k : ℕ) → k < length xs → slice_get (xs ++ ys) k ≡ slice_get xs k
 get_before [] ys k h = absurd (omega arith)
 get_before (x ∷ xs) ys zero h = refl
 get_before (x ∷ xs) ys (suc k) h = get_before xs ys k (omega arith)
 
+-- one item more makes a list one longer
 longer : {X : Type 0} (xs : List X) (x : X) (n : ℕ) → length xs ≡ n → length (xs ++ x ∷ []) ≡ n + 1
 longer [] x n h = let z : 0 ≡ n = h in ap (λ m. m + 1) z
 longer (y ∷ xs) x n h = let more = longer xs x (length xs) refl in omega arith
 
+-- the item that was added stands last
 get_last : {X : Type 0} (xs : List X) (x : X) → slice_get (xs ++ x ∷ []) (length xs) ≡ Some x
 get_last [] x = refl
 get_last (y ∷ xs) x = get_last xs x
 
+-- it stands where the list ended before
 last_at : {X : Type 0} (xs : List X) (x : X) (n : ℕ) → length xs ≡ n → slice_get (xs ++ x ∷ []) n ≡ Some x
 last_at xs x n h = subst (λ k. slice_get (xs ++ x ∷ []) k ≡ Some x) h (get_last xs x)
 
+-- what is below the next number is below a number, or is that number
 same_or_below : (k n : ℕ) → k < n + 1 → (k < n) ⊎ (k ≡ n)
 same_or_below k zero h = inr (omega arith)
 same_or_below zero (suc n) h = inl (omega arith)
@@ -48,6 +53,7 @@ same_or_below (suc k) (suc n) h = elim (same_or_below k n (omega arith)) [
   | inr e ↦ inr (ap suc e)
 ]
 
+-- with the cell of the next place added, the lists tell what stands at one place more
 pub told_more : (table : Listed) (t : Tree) (n : ℕ) (ps fs ls : List Bool) (cs : List ℕ) (c : Cell) (p : Path) → AreTold table t n ps fs ls cs → slice_get table.paths n ≡ Some p → Tells table.contents c (map.get t p)
     → AreTold table t (n + 1) (ps ++ c.present ∷ []) (fs ++ c.folder ∷ []) (ls ++ c.link ∷ []) (cs ++ c.content ∷ [])
 told_more table t n ps fs ls cs c p so_far at tells = record {
@@ -85,6 +91,7 @@ pub record UpTo (paths : List Path) (n : ℕ) (u t : Tree) : Type 0 where
   pub above : (k : ℕ) (p : Path) → n ≤ k → slice_get paths k ≡ Some p → map.get u p ≡ None
   pub elsewhere : (p : Path) → ((k : ℕ) → slice_get paths k ≢ Some p) → map.get u p ≡ None
 
+-- the empty tree has what a tree has at no place
 pub nothing_yet : (paths : List Path) (t : Tree) → UpTo paths 0 map.empty t
 nothing_yet paths t = record {
   below = λ k p h e. absurd (omega arith);
@@ -92,6 +99,7 @@ nothing_yet paths t = record {
   elsewhere = λ p h. map.get-empty _ p;
 }
 
+-- where nothing stands at the next place, the same tree has what there is at one place more
 pub nothing_there : (table : Listed) (n : ℕ) (u t : Tree) (p : Path) → UpTo table.paths n u t → slice_get table.paths n ≡ Some p → map.get t p ≡ None → UpTo table.paths (n + 1) u t
 nothing_there table n u t p so_far at none = record {
   below = λ k q h e. elim (same_or_below k n h) [
@@ -105,6 +113,7 @@ nothing_there table n u t p so_far at none = record {
   elsewhere = so_far.elsewhere;
 }
 
+-- where an entry stands at the next place, the tree with that entry has what there is at one place more
 pub one_there : (table : Listed) (n : ℕ) (u v t : Tree) (p : Path) (x : Entry) → IsTable table → UpTo table.paths n u t → slice_get table.paths n ≡ Some p → map.get t p ≡ Some x → IsWith u v p (Some x) → UpTo table.paths (n + 1) v t
 one_there table n u v t p x is so_far at some leaves = record {
   below = λ k q h e. elim (same_or_below k n h) [
@@ -122,16 +131,19 @@ one_there table n u v t p x is so_far at some leaves = record {
 pub is_free : (table : Listed) (n : ℕ) (u t : Tree) (p : Path) → IsTable table → UpTo table.paths n u t → slice_get table.paths n ≡ Some p → IsFreeAt u p
 is_free table n u t p is so_far at = ((λ top. is.no_root n (at ∙ ap Some top)), so_far.above n p (omega arith) at)
 
+-- an entry that is said to be a folder is one
 folder_entry : (o : Option Entry) → is_folder_entry o ≡ true → o ≡ Some Folder
 folder_entry None h = cc
 folder_entry (Some Folder) h = refl
 folder_entry (Some (File c)) h = cc
 folder_entry (Some (Link c)) h = cc
 
+-- a folder is the root, or stands as an entry
 dir_word : (t : Tree) (q : Path) → IsTrue (is_dir t q) → (q ≡ []) ⊎ (map.get t q ≡ Some Folder)
 dir_word t [] h = inl refl
 dir_word t (s ∷ q) h = inr (folder_entry (map.get t (s ∷ q)) h)
 
+-- the parent of a path where something stands is a folder in the tree made so far
 pub is_below_folder : (table : Listed) (n : ℕ) (u t : Tree) (p : Path) (x : Entry) → IsTable table → HasParents t → UpTo table.paths n u t → slice_get table.paths n ≡ Some p → map.get t p ≡ Some x → IsFolderAt u (parent p)
 is_below_folder table n u t p x is whole so_far at some = elim (is.parents n p at) [
   | inl top ↦ inl top
@@ -158,6 +170,7 @@ added one_entry table n u v t p c None put is so_far at one two e = subst (λ w.
 added one_entry table n u v t p c (Some x) put is so_far at one two e =
     one_there table n u v t p x is so_far at (one_entry table.contents c (map.get t p) (Some x) one two) (subst (λ w. IsWith u w p (Some x)) (sym e) (put u p x))
 
+-- and so it is where the cell of the path tells an entry
 pub above_entry : ((contents : List (List ℕ)) (c : Cell) (x y : Option Entry) → Tells contents c x → Tells contents c y → x ≡ y)
     → (table : Listed) (n : ℕ) (u t : Tree) (p : Path) (c : Cell) {X : Type 0} (f : X → Entry) (o : Option X) → IsTable table → HasParents t → UpTo table.paths n u t
     → slice_get table.paths n ≡ Some p → Tells table.contents c (map.get t p) → Tells table.contents c (option_map f o) → IfSome o (λ e. IsFolderAt u (parent p))
@@ -176,9 +189,11 @@ none_else table t root has p none = elim (map.get t p) as (λ o. map.get t p ≡
 
 -- ---- the entries of a tree
 
+-- the table has the path, and the content or target, of each of these entries
 abbrev pub HasEntries : Listed → List (Path × Entry) → Type 0
 HasEntries table es = AllByRecursion (λ e. HasNode table e.0 e.1) es
 
+-- the table has an entry that is found among them
 found_has : (table : Listed) (es : List (Path × Entry)) (p : Path) (x : Entry) → HasEntries table es → find path_cmp p es ≡ Some x → HasNode table p x
 found_has table [] p x all h = cc
 found_has table (e ∷ es) p x all h = elim (path_eq p e.0) as (λ b. path_eq p e.0 ≡ b → cond b (Some e.1) (find path_cmp p es) ≡ Some x → HasNode table p x) [
@@ -188,6 +203,7 @@ found_has table (e ∷ es) p x all h = elim (path_eq p e.0) as (λ b. path_eq p 
   | false ↦ λ k l. found_has table es p x all.1 l
 ] refl h
 
+-- a table that has the entries of a tree has the tree
 pub has_tree : (table : Listed) (t : Tree) → HasEntries table (map.entries t) → HasTree table t
 has_tree table t all = record {
   paths = λ p h. elim (map.get t p) as (λ o. map.get t p ≡ o → IsTrue (is_some o) → HasPath table p) [
@@ -200,8 +216,10 @@ has_tree table t all = record {
   ] refl h;
 }
 
+-- where a table has a tree, one that keeps it has it too
 pub tree_later : (a b : Listed) (t : Tree) → Keeps a b → HasTree a t → HasTree b t
 tree_later a b t k h = record { paths = λ p e. k.paths p (h.paths p e); contents = λ p text e. k.contents text (h.contents p text e) }
 
+-- where a table has an entry, one that keeps it has it too
 pub node_later : (a b : Listed) (p : Path) (x : Entry) → Keeps a b → HasNode a p x → HasNode b p x
 node_later a b p x k h = record { path = k.paths p h.path; text = λ text e. k.contents text (h.text text e) }
