@@ -12,21 +12,25 @@ use Rattle.order_encode.specs.Witnesses.{IsFirstExtension}
 abbrev pub LeavesTrees : Type 0
 LeavesTrees = (e : Program) (t u : Tree) → IsProper e → IsTree t → run e t ≡ Some u → IsTree u
 
+-- each of a list of proper programs is proper
 proper_at : (es : List Program) → AllByRecursion IsProper es → (i : ℕ) → IsProper (slice_index_or es i Id)
 proper_at [] all i = tt
 proper_at (e ∷ es) all zero = all.0
 proper_at (e ∷ es) all (suc i) = proper_at es all.1 i
 
+-- where two runs end in a tree, the first does, and the second from there
 split : (o : Outcome) (f : Tree → Outcome) (u : Tree) → and_then o f ≡ Some u → (t : Tree) × (o ≡ Some t) × (f t ≡ Some u)
 split None f u h = cc
 split (Some t) f u h = (t, refl, h)
 
 module _ (leaves : LeavesTrees) (es : List Program) (proper : AllByRecursion IsProper es) where
+  -- an order of proper programs leaves file trees
   pub ends_in_tree : (o : List ℕ) (t u : Tree) → IsTree t → outcome es o t ≡ Some u → IsTree u
   ends_in_tree [] t u tree h = let same : t ≡ u = cc in subst IsTree same tree
   ends_in_tree (i ∷ o) t u tree h =
       let two = split (run (slice_index_or es i Id) t) (outcome es o) u h in
       ends_in_tree o two.0 u (leaves (slice_index_or es i Id) t two.0 (proper_at es proper i) tree two.1) two.2
 
+-- the first extension is an allowed order
 pub allowed : (es : List Program) (order : Relation) (first : List ℕ) → length es ≡ order.count → IsFirstExtension order first → IsLinearExtension (length es) (Comes order) first
 allowed es order first long is = subst (λ n. IsLinearExtension n (Comes order) first) (sym long) is.allowed

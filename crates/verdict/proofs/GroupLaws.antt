@@ -27,14 +27,17 @@ use Rattle.verdict.proofs.SecondLaws.{LaidOut, Shadowed, change_over}
 
 -- ---- programs by their places in a list
 
+-- the program behind the first ones stands at the place of their count
 at_end : (front : List Program) (e : Program) (rest : List Program) → get_or (front ++ e ∷ rest) (length front) Id ≡ e
 at_end [] e rest = refl
 at_end (f ∷ front) e rest = at_end front e rest
 
+-- one program more makes a list one longer
 length_next : (front : List Program) (e : Program) → length (front ++ e ∷ []) ≡ suc (length front)
 length_next [] e = refl
 length_next (f ∷ front) e = ap suc (length_next front e)
 
+-- the programs of a group, put behind others, end in turn as the group does
 outcome_behind : (es front : List Program) (group : List ℕ) (t : Tree) → outcome (front ++ chosen es group) (up_from (length front) (length group)) t ≡ outcome es group t
 outcome_behind es front [] t = refl
 outcome_behind es front (k ∷ group) t =
@@ -45,27 +48,33 @@ outcome_behind es front (k ∷ group) t =
     ∙ then_alike (run e t) rest (outcome es group) (λ u is.
     subst₂ (λ w n. outcome w (up_from n (length group)) u ≡ outcome es group u) (append_assoc front (e ∷ []) (chosen es group)) (length_next front e) (outcome_behind es (front ++ e ∷ []) group u))
 
+-- the programs of a group by themselves end in turn as the group does
 outcome_of_group : (es : List Program) (group : List ℕ) (t : Tree) → outcome (chosen es group) (up_from 0 (length group)) t ≡ outcome es group t
 outcome_of_group es group t = outcome_behind es [] group t
 
 -- ---- where nothing comes before anything, the first extension is the list of numbers
 
+-- numbers that count up, and the next one, are one number more that counts up
 up_next : (k n m : ℕ) → k + n ≡ m → up_from k n ++ m ∷ [] ≡ up_from k (suc n)
 up_next k zero m e = ap (λ x. x ∷ []) (omega (arith, e))
 up_next k (suc n) m e = ap (λ xs. k ∷ xs) (up_next (suc k) n m (omega (arith, e)))
 
 module _ (unordered : (n : ℕ) → IsLinearExtension n Unordered (up_from 0 n)) (before : ℕ → ℕ → Type 0) (free : (a b : ℕ) → before a b → ⊥) where
+  -- none of a list comes before a number
   none_behind : (b : ℕ) (xs : List ℕ) → AllByRecursion (λ a. before a b → ⊥) xs
   none_behind b [] = tt
   none_behind b (a ∷ xs) = (free a b, none_behind b xs)
 
+  -- in no list does one come before one ahead of it
   none_ahead : (xs : List ℕ) → NoneAhead before xs
   none_ahead [] = tt
   none_ahead (b ∷ xs) = (none_behind b xs, none_ahead xs)
 
+  -- the numbers as they count up are an allowed order
   all_allowed : (n : ℕ) → IsLinearExtension n before (up_from 0 n)
   all_allowed n = record { below = (unordered n).below; once = (unordered n).once; kept = none_ahead (up_from 0 n) }
 
+  -- once all below it are taken, a number is the least that is ready
   least_ready : (n k : ℕ) → k < n → IsLeastReady n before (up_from 0 k) k
   least_ready n k low = record {
     ready = record { below = low; fresh = none_above k k (up_from 0 k) (unordered k).below (omega arith); free = λ a h. absurd (free a k h) };
@@ -75,6 +84,7 @@ module _ (unordered : (n : ℕ) → IsLinearExtension n Unordered (up_from 0 n))
         (cases_lt j k);
   }
 
+  -- from there on the numbers as they count up take the least that is ready, each time
   takes_least : (n k m : ℕ) → k + m ≡ n → TakesLeast n before (up_from 0 k) (up_from k m)
   takes_least n k zero e = tt
   takes_least n k (suc m) e =
@@ -85,12 +95,14 @@ module _ (unordered : (n : ℕ) → IsLinearExtension n Unordered (up_from 0 n))
 module _ (laid : LaidOut) (shadowed : Shadowed) (unordered : (n : ℕ) → IsLinearExtension n Unordered (up_from 0 n)) (es : List Program) (group : List ℕ) (order : Relation)
     (free : (a b : ℕ) → Comes order a b → ⊥) (count : order.count ≡ length group) (d : Domain) (is : IsLayout (chosen es group) (layout_of d)) (f : Formula)
     (exact : IsSatisfiable f ↔ HasSecondChange (chosen es group) order d) (no_model : HasNoModel f) where
+  -- the numbers as they count up are the first extension
   is_first : IsFirstExtension order (up_from 0 (length group))
   is_first = record {
     allowed = subst (λ n. IsLinearExtension n (Comes order) (up_from 0 (length group))) (sym count) (all_allowed unordered (Comes order) free (length group));
     least = subst (λ n. TakesLeast n (Comes order) [] (up_from 0 (length group))) (sym count) (takes_least unordered (Comes order) free (length group) 0 (length group) (omega arith));
   }
 
+  -- the group settles: a second run of it changes nothing
   pub settles : GroupSettles es group
   settles t u tree ends = elim (outcome_told (outcome es group u) (Some u)) [
     | inl same ↦ same
@@ -108,6 +120,7 @@ module _ (laid : LaidOut) (shadowed : Shadowed) (unordered : (n : ℕ) → IsLin
 
 -- ---- all groups
 
+-- where all numbers of the groups, in turn, are below n, those of each group are
 pub each_below : (n : ℕ) (groups : List (List ℕ)) → AllByRecursion (λ k. k < n) (in_turn groups) → AllByRecursion (AllByRecursion (λ k. k < n)) groups
 each_below n [] all = tt
 each_below n (group ∷ groups) all = (all_front (λ k. k < n) group (in_turn groups) all, each_below n groups (all_back (λ k. k < n) group (in_turn groups) all))
@@ -122,6 +135,7 @@ stated_by_any es order f same no_model = record {
   no_model = no_model;
 }
 
+-- what follows from what holds of whatever is found holds of it
 pub some_weaker : {A : Type 0} (P Q : A → Type 0) → ((a : A) → P a → Q a) → (found : Option A) → IfSome found P → IfSome found Q
 some_weaker P Q f None h = tt
 some_weaker P Q f (Some a) h = f a h

@@ -25,6 +25,7 @@ use Rattle.verdict.proofs.FirstExtension.{LeavesTrees, ends_in_tree, allowed}
 abbrev pub LaidOut : Type 0
 LaidOut = (es : List Program) (l : Layout) → IsLayout es l → IsDomain es (domain_of l)
 
+-- a second run that changes something does so from a tree over the domain too
 abbrev pub Shadowed : Type 0
 Shadowed = (es : List Program) (d : over.Domain) → IsDomain es d → (before : ℕ → ℕ → Bool) (t : Tree) (o : List ℕ) → IsSecondRunCounterexample es (Told before) t o
     → (s : Tree) × IsOver d s × IsSecondRunCounterexample es (Told before) s o
@@ -34,12 +35,14 @@ abbrev Refutable : List Program → (ℕ → ℕ → Type 0) → Type 0
 Refutable es before = IsIdempotent es before ↔ ((t : Tree) (o : List ℕ) → IsSecondRunCounterexample es before t o → ⊥)
 
 module _ (laid : LaidOut) (shadowed : Shadowed) (es : List Program) (order : Relation) where
+  -- and so does one in the first extension
   pub change_over : (d : Domain) → IsLayout es (layout_of d) → (t : Tree) (first : List ℕ) → IsFirstExtension order first → IsSecondRunCounterexample es (Comes order) t first → HasSecondChange es order d
   change_over d is t first least c =
       let w = shadowed es (domain_of (layout_of d)) (laid es (layout_of d) is) (comes order) t first c in
       record { tree = w.0; first = first; changed = record { is_first = least; over = w.1; counterexample = w.2 } }
 
   module _ (d : Domain) (is : IsLayout es (layout_of d)) (f : Formula) (exact : IsSatisfiable f ↔ HasSecondChange es order d) where
+    -- the formula states whether a second run changes anything
     pub states : StatesSecond es order f
     states e lay = (
       (λ h. let w = exact.0 h in change_over e lay w.tree w.first w.changed.is_first w.changed.counterexample),
@@ -48,6 +51,7 @@ module _ (laid : LaidOut) (shadowed : Shadowed) (es : List Program) (order : Rel
 
     -- without a model the first extension has no second run that changes anything, and so no allowed order has one
     module _ (leaves : LeavesTrees) (proper : AllByRecursion IsProper es) (long : length es ≡ order.count) (sure : IsDeterministic es (Told (comes order))) (first : List ℕ) (least : IsFirstExtension order first) where
+      -- where a second run in an allowed order changes something, one in the first extension does from the same tree
       in_first : (t : Tree) (o : List ℕ) → IsSecondRunCounterexample es (Told (comes order)) t o → IsSecondRunCounterexample es (Told (comes order)) t first
       in_first t o c =
           let may = allowed es order first long least in
@@ -60,9 +64,11 @@ module _ (laid : LaidOut) (shadowed : Shadowed) (es : List Program) (order : Rel
             changes = λ h. c.changes (sure c.after tree o first c.allowed may ∙ h);
           }
 
+      -- where the formula has no model, no second run changes anything
       pub idempotent : Refutable es (Told (comes order)) → HasNoModel f → IsIdempotent es (Told (comes order))
       idempotent exactly no_model = exactly.1 (λ t o c. let v = exact.1 (change_over d is t first least (in_first t o c)) in no_model v.0 v.1)
 
+-- what shows a change, over a domain, is a witness of a second run that changes something
 pub change : (es : List Program) (order : Relation) (d : Domain) (w : Witness) → ShowsChange es order d w → IsSecondChange es order w
 change es order d (witness.Orders tree left right) h = absurd h
 change es order d (witness.Twice tree first) h = (h.is_first, h.counterexample)
