@@ -20,6 +20,7 @@ use Rattle.equal_graphs.specs.Equal.{AreEqual, FirstsPart}
 use Rattle.equal_graphs.specs.Questions.{StatesParting, IsParting, tree_in}
 use Rattle.equal_graphs.proofs.RunLaws.{LaidOut, HaveShadows, TellTheSame, apart_over}
 
+-- an order that is allowed of as many nodes as there are programs is allowed of the programs
 pub allowed : (es : List Program) (order : Relation) (o : List ℕ) → length es ≡ order.count → IsLinearExtension order.count (Comes order) o → IsLinearExtension (length es) (Comes order) o
 allowed es order o long is = subst (λ n. IsLinearExtension n (Comes order) o) (sym long) is
 
@@ -31,9 +32,11 @@ one_outcome es order long sure t tree a b left right = sure t tree a b (allowed 
 module _ (es : List Program) (order : Relation) (fs : List Program) (other : Relation) (left_long : length es ≡ order.count) (right_long : length fs ≡ other.count)
     (left_sure : IsDeterministic es (Told (comes order))) (right_sure : IsDeterministic fs (Told (comes other))) (first second : List ℕ) (left_first : IsFirstExtension order first) (right_first : IsFirstExtension other second)
     (o p : List ℕ) (left_allowed : IsLinearExtension order.count (Comes order) o) (right_allowed : IsLinearExtension other.count (Comes other) p) where
+  -- the order of the first graph has numbers of its programs alone
   low : AllByRecursion (λ k. k < length es) o
   low = (allowed es order o left_long left_allowed).below
 
+  -- where the two orders end differently, the two first extensions do
   firsts_part : (t : Tree) → IsTree t → outcome es o t ≢ outcome fs p t → FirstsPart es order fs other t
   firsts_part t tree differ = record {
     is_tree = tree;
@@ -44,20 +47,24 @@ module _ (es : List Program) (order : Relation) (fs : List Program) (other : Rel
     differ = λ e. differ (one_outcome es order left_long left_sure t tree o first left_allowed left_first.allowed ∙ e ∙ one_outcome fs other right_long right_sure t tree second p right_first.allowed right_allowed);
   }
 
+  -- where the two first extensions end differently, the two orders do
   turns_part : (t : Tree) → FirstsPart es order fs other t → outcome es o t ≢ outcome fs p t
   turns_part t h e = h.differ (one_outcome es order left_long left_sure t h.is_tree h.left o h.left_first.allowed left_allowed ∙ e ∙ one_outcome fs other right_long right_sure t h.is_tree p h.right right_allowed h.right_first.allowed)
 
+  -- a witness of the two orders that end differently shows that the two first extensions do
   pub shown : (d : Domain) (w : Witness) → ShowsParting es o fs p d w → IsParting es order fs other w
   shown d (witness.Orders tree left right) h = absurd h
   shown d (witness.Twice tree turns) h = absurd h
   shown d (witness.Ends tree turns) h = firsts_part tree h.is_tree h.differ
 
   module _ (laid : LaidOut) (have : HaveShadows) (tell : TellTheSame) (d : Domain) (is : IsLayout (es ++ fs) (layout_of d)) (f : Formula) (exact : IsSatisfiable f ↔ HaveParting es o fs p d) where
+    -- where the two orders end differently from any tree, the formula can be true
     found : (t : Tree) → IsTree t → outcome es o t ≢ outcome fs p t → IsSatisfiable f
     found t tree differ =
         let s = apart_over laid have tell es fs d is t tree o p low differ in
         exact.1 (record { tree = s.0; parts = record { is_tree = s.1; over = s.2; differ = s.3 } })
 
+    -- the formula states whether the graphs do the same
     pub states : StatesParting es order fs other f
     states e lay = (
       (λ h.
@@ -67,6 +74,7 @@ module _ (es : List Program) (order : Relation) (fs : List Program) (other : Rel
       (λ h. found h.tree h.part.is_tree (turns_part h.tree h.part)),
     )
 
+    -- where it has no model they do
     pub equal : HasNoModel f → AreEqual es (Told (comes order)) fs (Told (comes other))
     equal no_model t tree a b left right = elim (outcome_told (outcome es a t) (outcome fs b t)) [
       | inl e ↦ e

@@ -17,14 +17,17 @@ use Rattle.order_encode.specs.Witnesses.{IsOverDomain}
 abbrev pub LaidOut : Type 0
 LaidOut = (es : List Program) (l : Layout) → IsLayout es l → IsDomain es (domain_of l)
 
+-- each file tree has a shadow over a domain of the programs
 abbrev pub HaveShadows : Type 0
 HaveShadows = (es : List Program) (d : over.Domain) → IsDomain es d → (t : Tree) → IsTree t → (m : List ℕ → List ℕ) × (s : Tree) × IsTree s × IsShadow es d m t s
 
+-- a shadow stands for its tree
 abbrev pub TellTheSame : Type 0
 TellTheSame = (es : List Program) (d : over.Domain) → IsDomain es d → (m : List ℕ → List ℕ) (t s : Tree) → IsShadow es d m t s → StandsFor es s t
 
 -- ---- an order of the one list, or of the other, is one of both together
 
+-- an order of the first list ends the same among both lists
 in_front : (es fs : List Program) (o : List ℕ) → AllByRecursion (λ k. k < length es) o → (t : Tree) → outcome (es ++ fs) o t ≡ outcome es o t
 in_front es fs [] low t = refl
 in_front es fs (i ∷ o) low t =
@@ -35,6 +38,7 @@ in_front es fs (i ∷ o) low t =
 abbrev counted_on : ℕ → List ℕ → List ℕ
 counted_on n p = map (λ i. n + i) p
 
+-- an order of the second list, counted on behind the first, ends the same among both lists
 behind : (es fs : List Program) (p : List ℕ) (t : Tree) → outcome (es ++ fs) (counted_on (length es) p) t ≡ outcome fs p t
 behind es fs [] t = refl
 behind es fs (i ∷ p) t =
@@ -44,6 +48,7 @@ behind es fs (i ∷ p) t =
 -- ---- where they end differently, they do so from a tree over the domain
 
 module _ (laid : LaidOut) (have : HaveShadows) (tell : TellTheSame) (es fs : List Program) (d : Domain) (is : IsLayout (es ++ fs) (layout_of d)) where
+  -- orders of the two lists that end differently from a tree do so from one over the domain
   pub apart_over : (t : Tree) → IsTree t → (o p : List ℕ) → AllByRecursion (λ k. k < length es) o → outcome es o t ≢ outcome fs p t
       → (s : Tree) × IsTree s × IsOverDomain d s × (outcome es o s ≢ outcome fs p s)
   apart_over t tree o p low differ =

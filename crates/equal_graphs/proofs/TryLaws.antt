@@ -10,6 +10,7 @@ use Rattle.order_encode.specs.Parting.{EndDifferently}
 use Rattle.equal_graphs.specs.Equal.{FirstsPart}
 use Rattle.equal_graphs.specs.Tried.{PartsFrom}
 
+-- numbers below a count are below it in other words
 pub below : (n m : ℕ) (order : List ℕ) → n ≡ m → AllByRecursion (λ k. k < m) order → AllByRecursion (λ k. k < n) order
 below n m order e all = subst (λ c. AllByRecursion (λ k. k < c) order) (sym e) all
 
@@ -22,6 +23,7 @@ apart_is false a b o u e h told = ((λ k eq. let bad : false ≡ true = told.1 (
 pub parts_at : (es : List Program) (o : List ℕ) (fs : List Program) (p : List ℕ) (t copy : Tree) → copy ≡ t → IsTree t → EndDifferently es o fs p t → PartsFrom es o fs p copy
 parts_at es o fs p t copy same tree differ = subst (PartsFrom es o fs p) (sym same) (tree, differ)
 
+-- a tree from which the orders that are lent end differently, if one was found, is one for the two first extensions
 pub parting_found : (es : List Program) (order : Relation) (fs : List Program) (other : Relation) (first second lent lent_too : List ℕ) → lent ≡ first → lent_too ≡ second
     → IsFirstExtension order first → IsFirstExtension other second → (found : Option Tree) → IfSome found (PartsFrom es lent fs lent_too) → IfSome found (FirstsPart es order fs other)
 parting_found es order fs other first second lent lent_too e h left right None parts = tt
