@@ -20,9 +20,11 @@ use Rattle.determinism.specs.Answers.{IsNo, StatesCommuting}
 abbrev LaidOut : Type 0
 LaidOut = (es : List Program) (l : Layout) → IsLayout es l → IsDomain es (domain_of l)
 
+-- each file tree has a shadow over a domain of the programs
 abbrev Shadowed : Type 0
 Shadowed = (es : List Program) (d : over.Domain) → IsDomain es d → (t : Tree) → IsTree t → (m : List ℕ → List ℕ) × (s : Tree) × IsTree s × IsShadow es d m t s
 
+-- a shadow stands for its tree
 abbrev Telling : Type 0
 Telling = (es : List Program) (d : over.Domain) → IsDomain es d → (m : List ℕ → List ℕ) (t s : Tree) → IsShadow es d m t s → StandsFor es s t
 
@@ -55,6 +57,7 @@ module _ (laid : LaidOut) (shadowed : Shadowed) (telling : Telling) (es : List P
   none_differ : FreeCommute es before → HasApartPair es before d → ⊥
   none_differ commute h = h.differ (pair_run es h.left h.right h.tree ∙ commute h.left h.right h.left_below h.right_below h.free h.tree h.is_tree ∙ sym (pair_run es h.right h.left h.tree))
 
+  -- a formula that can be true exactly where a pair ends apart over the domain states whether all commute
   pub commuting : (f : Formula) → IsSatisfiable f ↔ HasApartPair es before d → StatesCommuting es before f
   commuting f exact = (
     (λ no_model. none_apart (λ h. let v = exact.1 h in no_model v.0 v.1)),

@@ -35,9 +35,11 @@ OnePruning = (es : List Program) (before : ℕ → ℕ → Bool) (moves others :
     → Prunes es (Told before) moves ks kept → Prunes es (Told before) others ks left → (moves ≡ others) × (kept ≡ left)
 
 module _ {es : List Program} {order : Relation} {k : Kept} (is : IsKept es order k) where
+  -- pruning keeps what the kept graph has
   keeps : Keeps es (Told (comes order)) k.pruned.kept
   keeps = (is.pruned.moves, is.pruned.prunes)
 
+  -- what the kept graph lacks of all programs is how many are pruned
   pub pruned : (ps : List CodeProgram) (n : ℕ) → es ≡ map program_of ps → length ps ≡ order.count → n + k.order.count ≡ order.count → IsPrunedCount es (Told (comes order)) n
   pruned ps n e m h =
       let count = is.count in
@@ -57,9 +59,11 @@ module _ {es : List Program} {order : Relation} {k : Kept} (is : IsKept es order
   stated_by_any (inl kept) det f none = inl (kept, (no_order (chosen es k.pruned.kept) (between (Told (comes order)) k.pruned.kept) f kept none).1)
   stated_by_any (inr other) det f none = inr (other, (no_order es (Told (comes order)) f det none).1)
 
+  -- the formula states the question of the kept graph, or, where that isn't deterministic, of the whole one
   abbrev Asked : Formula → Type 0
   Asked f = StatesKept es (Told (comes order)) k.pruned.kept f ⊎ ((IsKeptDeterministic es (Told (comes order)) k.pruned.kept → ⊥) × States es (Told (comes order)) f)
 
+  -- a formula that was refuted makes an answer, where it states the question and the programs are deterministic
   pub judged_proved : {budget n : ℕ} {v : Refutation} → OnePruning → k.pruned.kept ≢ [] → IsPrunedCount es (Told (comes order)) n → IsDeterministic es (Told (comes order)) → Stated v.formula → HasNoModel v.formula
       → IsJudged es order budget (first.Sure n (sure.Proved v))
   judged_proved one some count det stated none = record {
@@ -71,6 +75,7 @@ module _ {es : List Program} {order : Relation} {k : Kept} (is : IsKept es order
     spent = tt;
   }
 
+  -- a witness of a difference makes an answer
   pub judged_differs : {budget n : ℕ} {w : Witness} → OnePruning → k.pruned.kept ≢ [] → IsPrunedCount es (Told (comes order)) n → IsDifference es (Told (comes order)) w → IsJudged es order budget (first.Differs n w)
   judged_differs one some count found = record {
     pruned = count;
@@ -81,6 +86,7 @@ module _ {es : List Program} {order : Relation} {k : Kept} (is : IsKept es order
     spent = tt;
   }
 
+  -- a budget that was spent makes an answer, where the formula was to be asked
   pub judged_spent : {budget n : ℕ} {f : Formula} {log : Log} → OnePruning → k.pruned.kept ≢ [] → IsPrunedCount es (Told (comes order)) n → Asked f → UsesUp budget f log.steps → IsJudged es order budget (first.Spent n f log)
   judged_spent one some count asked uses = record {
     pruned = count;
@@ -92,12 +98,15 @@ module _ {es : List Program} {order : Relation} {k : Kept} (is : IsKept es order
   }
 
   module _ (same : (t : Tree) (o p : List ℕ) → IsCounterexample (map program_of k.programs) (Comes k.order) t o p ↔ IsCounterexample (chosen es k.pruned.kept) (between (Comes order) k.pruned.kept) t o p) where
+    -- where the kept graph has different outcomes over a domain, what is kept of all programs has
     differ_too : (d : Domain) → HaveDifferentOutcomes (map program_of k.programs) (Comes k.order) d → HaveDifferentOutcomes (chosen es k.pruned.kept) (between (Comes order) k.pruned.kept) d
     differ_too d h = record { tree = h.tree; left = h.left; right = h.right; over = h.over; counterexample = (same h.tree h.left h.right).0 h.counterexample }
 
+    -- and where what is kept of all programs has, the kept graph has
     differ_back : (d : Domain) → HaveDifferentOutcomes (chosen es k.pruned.kept) (between (Comes order) k.pruned.kept) d → HaveDifferentOutcomes (map program_of k.programs) (Comes k.order) d
     differ_back d h = record { tree = h.tree; left = h.left; right = h.right; over = h.over; counterexample = (same h.tree h.left h.right).1 h.counterexample }
 
+    -- a formula that states the question of the kept graph's programs states that of what is kept of all programs
     pub states_kept : (f : Formula) → States (map program_of k.programs) (Comes k.order) f → StatesKept es (Told (comes order)) k.pruned.kept f
     states_kept f states d lay =
         let told = states d (subst (λ xs. IsLayout xs (layout_of d)) (sym is.programs) lay) in

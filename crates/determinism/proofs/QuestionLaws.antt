@@ -23,11 +23,13 @@ use Rattle.determinism.specs.Answers.{HasTwoOrders}
 abbrev LaidOut : Type 0
 LaidOut = (es : List Program) (l : Layout) → IsLayout es l → IsDomain es (domain_of l)
 
+-- orders that end differently do so from a tree over the domain too
 abbrev Shadowed : Type 0
 Shadowed = (es : List Program) (d : over.Domain) → IsDomain es d → (before : ℕ → ℕ → Bool) (t : Tree) (o p : List ℕ) → IsCounterexample es (Told before) t o p
     → (s : Tree) × IsOver d s × IsCounterexample es (Told before) s o p
 
 module _ (laid : LaidOut) (shadowed : Shadowed) (es : List Program) (before : ℕ → ℕ → Bool) where
+  -- a counterexample gives different outcomes over each domain of the programs
   pub differ_over : (d : Domain) → IsLayout es (layout_of d) → (t : Tree) (o p : List ℕ) → IsCounterexample es (Told before) t o p → HaveDifferentOutcomes es (Told before) d
   differ_over d is t o p c =
       let w = shadowed es (domain_of (layout_of d)) (laid es (layout_of d) is) before t o p c in
@@ -35,12 +37,14 @@ module _ (laid : LaidOut) (shadowed : Shadowed) (es : List Program) (before : �
 
   -- what states the question over one layout of the domain states it
   module _ (d : Domain) (is : IsLayout es (layout_of d)) (f : Formula) (exact : IsSatisfiable f ↔ HaveDifferentOutcomes es (Told before) d) where
+    -- the formula states the question
     pub states : States es (Told before) f
     states e lay = (
       (λ h. let w = exact.0 h in differ_over e lay w.tree w.left w.right w.counterexample),
       (λ w. exact.1 (differ_over d is w.tree w.left w.right w.counterexample)),
     )
 
+    -- where it has no model the programs are deterministic
     pub none_differ : (((t : Tree) (o p : List ℕ) → IsCounterexample es (Told before) t o p → ⊥) → IsDeterministic es (Told before)) → HasNoModel f → IsDeterministic es (Told before)
     none_differ law no_model = law (λ t o p c. let v = exact.1 (differ_over d is t o p c) in no_model v.0 v.1)
 
@@ -48,6 +52,7 @@ module _ (laid : LaidOut) (shadowed : Shadowed) (es : List Program) (before : �
 module _ (laid : LaidOut) (shadowed : Shadowed) (es fs : List Program) (before other : ℕ → ℕ → Bool)
     (forth : (t : Tree) (o p : List ℕ) → IsCounterexample es (Told before) t o p → (left : List ℕ) × (right : List ℕ) × IsCounterexample fs (Told other) t left right)
     (back : (t : Tree) (o p : List ℕ) → IsCounterexample fs (Told other) t o p → (left : List ℕ) × (right : List ℕ) × IsCounterexample es (Told before) t left right) where
+  -- such a formula states the question of this graph
   pub other_states : (d : Domain) → IsLayout fs (layout_of d) → (f : Formula) → States fs (Told other) f → States es (Told before) f
   other_states d is f states e lay = (
     (λ h.
@@ -59,6 +64,7 @@ module _ (laid : LaidOut) (shadowed : Shadowed) (es fs : List Program) (before o
         (states d is).1 (differ_over laid shadowed fs other d is w.tree c.0 c.1 c.2)),
   )
 
+-- what shows a difference, over a domain, is a witness of one
 pub difference : (es : List Program) (before : ℕ → ℕ → Type 0) (d : Domain) (w : Witness) → ShowsDifference es before d w → IsDifference es before w
 difference es before d (witness.Orders tree left right) h = (h.counterexample, h.exchange)
 difference es before d (witness.Twice tree order) h = absurd h

@@ -15,6 +15,7 @@ use Rattle.order_encode.specs.declared.witness.Witness.TheVariants as witness
 use Rattle.determinism.specs.First.{IsDifference}
 
 module _ (es : List Program) (order : Relation) (p : Pruned) (c : Contracted) (is : IsContracted es order p c) where
+  -- the contracted graph has two programs more than are kept
   size : length (map program_of c.programs) ≡ length p.kept + 2
   size = ap length is.programs ∙ long es p
 
@@ -23,10 +24,12 @@ module _ (es : List Program) (order : Relation) (p : Pruned) (c : Contracted) (i
       → IsCounterexample (map program_of c.programs) (Comes c.order) t o q × IsExchange (Comes c.order) o q
   shown w t o q h e = subst (IsDifference (map program_of c.programs) (Comes c.order)) e h
 
+  -- the first order of a difference has numbers of its programs alone
   pub left_below : (w : Witness) (t : Tree) (o q lent : List ℕ) → IsDifference (map program_of c.programs) (Comes c.order) w → w ≡ witness.Orders t o q → lent ≡ o
       → AllByRecursion (λ i. i < length p.kept + 2) lent
   left_below w t o q lent h e f = subst₂ (λ n l. AllByRecursion (λ i. i < n) l) size (sym f) (shown w t o q h e).0.left_allowed.below
 
+  -- and so has the second
   pub right_below : (w : Witness) (t : Tree) (o q lent : List ℕ) → IsDifference (map program_of c.programs) (Comes c.order) w → w ≡ witness.Orders t o q → lent ≡ q
       → AllByRecursion (λ i. i < length p.kept + 2) lent
   right_below w t o q lent h e f = subst₂ (λ n l. AllByRecursion (λ i. i < n) l) size (sym f) (shown w t o q h e).0.right_allowed.below
