@@ -8,7 +8,7 @@ use Rattle.fs_interpreter.specs.Places.{Listed, Keeps, CoversTest, Covers, Cover
 pub keeps_same : (t : Listed) → Keeps t t
 keeps_same t = record { paths = λ p h. h; contents = λ c h. h }
 
--- a table that keeps what another keeps of a third keeps what the third has
+-- a table that keeps another keeps what that one keeps of a third
 pub keeps_more : (t u v : Listed) → Keeps t u → Keeps u v → Keeps t v
 keeps_more t u v a b = record { paths = λ p h. b.paths p (a.paths p h); contents = λ c h. b.contents c (a.contents c h) }
 

@@ -27,19 +27,19 @@ pub parents_of : (t : Tree) → IsTree t → HasParents t
 parents_of t is = record { no_root = is.no_root; parents = is.parents }
 
 module _ (keeps : (e : Steps) (t u : Tree) → HasParents t → run e t ≡ Some u → HasParents u) where
-  -- so does what a program leaves of such a tree
+  -- so has what a program leaves of such a tree
   pub run_parents : (e : Steps) (t : Tree) → HasParents t → IfSome (run e t) HasParents
   run_parents e t h = elim (run e t) as (λ o. run e t ≡ o → IfSome o HasParents) [
     | None ↦ λ k. tt
     | Some u ↦ λ k. keeps e t u h k
   ] refl
 
-  -- so does what a run leaves that follows another, where both leave such trees
+  -- so has what a run leaves that follows another, where both leave such trees
   pub then_parents : (o : Outcome) (f : Tree → Outcome) → IfSome o HasParents → ((t : Tree) → HasParents t → IfSome (f t) HasParents) → IfSome (and_then o f) HasParents
   then_parents None f h k = tt
   then_parents (Some t) f h k = k t h
 
-  -- so does what an order leaves
+  -- so has what an order leaves
   pub outcome_parents : (es : List Steps) (order : List ℕ) (t : Tree) → HasParents t → IfSome (outcome es order t) HasParents
   outcome_parents es [] t h = h
   outcome_parents es (i ∷ order) t h = then_parents (run (get_or es i Id) t) (outcome es order) (run_parents (get_or es i Id) t h) (λ u k. outcome_parents es order u k)
