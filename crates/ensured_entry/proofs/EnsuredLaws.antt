@@ -18,7 +18,7 @@ use Rattle.determinism.specs.declared.first.Sure.{Sure}
 use Rattle.determinism.specs.declared.first.Sure.TheVariants as sure
 use Rattle.verdict.specs.declared.verdicts.Ends.{Ends}
 use Rattle.verdict.specs.declared.verdicts.Ends.TheVariants as ends
-use Rattle.verdict.specs.Questions.{StatesEnd, IsEndProof, IsEnd}
+use Rattle.success.specs.Questions.{StatesEnd, IsEndProof, IsEnd}
 use Rattle.verdict.specs.Verdicts.{IsByPruning, IfByProof}
 use Rattle.wanted_entry.specs.declared.wanted.Wanted.{Wanted}
 use Rattle.wanted_entry.specs.Entries.{Ensures}

@@ -4,7 +4,7 @@ use Rattle.fs_semantics.specs.FileTree.{Tree, IsTree}
 use Rattle.fs_semantics.specs.Programs.{Program}
 use Rattle.order_encode.specs.Missing.{EndsMissing}
 use Rattle.orders.specs.Relation.{Relation}
-use Rattle.verdict.specs.Questions.{IsEnd}
+use Rattle.success.specs.Questions.{IsEnd}
 use Rattle.wanted_entry.specs.declared.wanted.Wanted.{Wanted}
 use Rattle.ensured_entry.specs.declared.trying.Tried.{Tried}
 use Rattle.ensured_entry.specs.declared.trying.Tried.TheVariants as tried

@@ -13,7 +13,7 @@ ghost use Rattle.size_limits.specs.Limits.{HasFewPaths, IsLight};
 ghost use Rattle.determinism.specs.First.{IsPrunedCount, IsProof, IsSpent, IsDifference, IfDiffers, IfSpent};
 ghost use Rattle.determinism.specs.Answers.{IsJudged};
 ghost use Rattle.determinism.specs.declared.first.First.TheVariants as first;
-ghost use Rattle.verdict.specs.Questions.{IsEndProof, IsEnd};
+ghost use Rattle.success.specs.Questions.{IsEndProof, IsEnd};
 ghost use Rattle.verdict.specs.Verdicts.{IsByPruning, IfByProof};
 ghost use Rattle.wanted_entry.specs.Entries.{probe_of, Ensures};
 ghost use Rattle.ensured_entry.specs.Sizes.{IsTooLargeWith};
@@ -34,7 +34,8 @@ use proof_check::Verified;
 use rh_base::{Fault, NoMemory};
 use size_limits::check_size;
 use std::alloc::Global;
-use verdict::{Ends, ask_end};
+use success::ask_end;
+use verdict::Ends;
 use wanted_entry::Wanted;
 
 /// Why a graph is deterministic, and how many programs pruning doesn't keep.

@@ -15,7 +15,7 @@ use Rattle.cnf.specs.Formulas.{Formula}
 use Rattle.order_encode.specs.Witnesses.{IsFirstExtension}
 use Rattle.order_encode.specs.declared.witness.Witness.{Witness}
 use Rattle.order_encode.specs.declared.witness.Witness.TheVariants as witness
-use Rattle.verdict.specs.Questions.{StatesEnd, IsEnd}
+use Rattle.success.specs.Questions.{StatesEnd, IsEnd}
 use Rattle.given_verdict.specs.Second.{IsSecondRunFrom}
 use Rattle.given_verdict.specs.Ends.{IsRunFrom, StatesEndFrom, IsEndFrom, IsRunOf, HasOneOrder}
 use Rattle.given_verdict.proofs.AskedLaws.{layout_of_guarded}

@@ -20,7 +20,8 @@ use Rattle.verdict.specs.declared.verdicts.Second.TheVariants as second
 use Rattle.verdict.specs.declared.verdicts.Ends.TheVariants as ends
 use Rattle.verdict.specs.declared.verdicts.Verdict.{Verdict}
 use Rattle.verdict.specs.declared.verdicts.Verdict.TheVariants as verdict
-use Rattle.verdict.specs.Questions.{StatesSecond, StatesEnd, IsSecondProof, IsEndProof, IsSecondChange, IsEnd}
+use Rattle.second_runs.specs.Questions.{StatesSecond, IsSecondProof, IsSecondChange}
+use Rattle.success.specs.Questions.{StatesEnd, IsEndProof, IsEnd}
 use Rattle.verdict.specs.Verdicts.{IsSpentOn, IsKnownBefore, IsOrderProof, AreProofsBefore}
 use Rattle.verdict.specs.Answers.{IsVerdict}
 use Rattle.given_verdict.specs.First.{IsDifferenceFrom}

@@ -21,8 +21,8 @@ use guarded_graph::{Guarded, with_guard};
 use orders::Order;
 use proof_check::Verified;
 use rh_base::{NoMemory, Seq};
+use second_runs::same_in_groups;
 use std::alloc::Global;
-use verdict::same_in_groups;
 
 /// Whether a second run in another order changes anything, where one in the first extension doesn't. It doesn't where no program
 /// removes a given folder: all orders then end alike from what the first run left, too.

@@ -15,7 +15,7 @@ use order_encode::Witness;
 use orders::Order;
 use rh_base::NoMemory;
 use std::alloc::Global;
-use verdict::ask_end;
+use success::ask_end;
 
 /// A run from this tree in the first extension.
 fn first_run(alloc: Global, order: &Order, tree: &Tree) -> Result<Witness, NoMemory>

@@ -1,5 +1,2 @@
-pub mod FirstExtension
-pub mod SecondLaws
-pub mod EndLaws
+pub mod WitnessLaws
 pub mod VerdictLaws
-pub mod GroupLaws

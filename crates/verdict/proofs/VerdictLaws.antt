@@ -22,10 +22,11 @@ use Rattle.verdict.specs.declared.verdicts.Second.TheVariants as second
 use Rattle.verdict.specs.declared.verdicts.Ends.{Ends}
 use Rattle.verdict.specs.declared.verdicts.Ends.TheVariants as ends
 use Rattle.verdict.specs.declared.verdicts.Verdict.TheVariants as verdict
-use Rattle.verdict.specs.Questions.{StatesSecond, StatesEnd, IsSecondProof, IsEndProof, IsSecondChange, IsEnd}
+use Rattle.second_runs.specs.Questions.{StatesSecond, IsSecondProof, IsSecondChange}
+use Rattle.success.specs.Questions.{StatesEnd, IsEndProof, IsEnd}
 use Rattle.verdict.specs.Verdicts.{IsByPruning, IfByProof, IfSame, IfChanged, IfFrom, IfNever, IsSpentOn, IsKnownBefore, IsOrderProof, AreProofsBefore}
 use Rattle.verdict.specs.Answers.{IsVerdict, proofs_in}
-use Rattle.verdict.proofs.EndLaws.{succeeds}
+use Rattle.verdict.proofs.WitnessLaws.{succeeds}
 
 module _ (es : List Program) (order : Relation) (budget : ℕ) where
   -- ---- each kind of verdict, with the fields that say nothing of it

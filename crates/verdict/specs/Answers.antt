@@ -1,41 +1,17 @@
--- What comes of a question about the first extension, and all that is said of a verdict.
-use Rattle.std.specs.Prelude.{◌≡◌, ◌↔◌, ℕ, List, [], ◌∷◌}
+-- All that is said of a verdict.
+use Rattle.std.specs.Prelude.{◌↔◌, ℕ, List, [], ◌∷◌}
 use Rattle.fs_semantics.specs.Programs.{Program}
 use Rattle.fs_semantics.specs.Orders.{Told, IsDeterministic, IsIdempotent, Succeeds}
 use Rattle.orders.specs.Relation.{Relation, comes}
 use Rattle.commute_prune.specs.Keeping.{Keeps}
 use Rattle.proof_check.specs.Refuted.{Refutation}
-use Rattle.order_encode.specs.declared.witness.Witness.{Witness}
-use Rattle.order_encode.specs.declared.witness.Witness.TheVariants as witness
 use Rattle.determinism.specs.First.{IsPrunedCount, IsProof, IsDifference}
-use Rattle.answering.specs.Answers.{AnswersBy}
-use Rattle.answering.specs.declared.answering.Answer.{Answer}
 use Rattle.determinism.specs.declared.first.Sure.{Sure}
 use Rattle.determinism.specs.declared.first.Sure.TheVariants as sure
 use Rattle.verdict.specs.declared.verdicts.Verdict.{Verdict}
-use Rattle.verdict.specs.Questions.{StatesSecond, StatesEnd, IsSecondProof, IsEndProof, IsSecondChange, IsEnd}
+use Rattle.second_runs.specs.Questions.{IsSecondProof, IsSecondChange}
+use Rattle.success.specs.Questions.{IsEndProof, IsEnd}
 use Rattle.verdict.specs.Verdicts.{pruned_in, IsByPruning, IfByProof, IfDifferent, IfJudged, IfSame, IfChanged, IfFrom, IfNever, IfSpent, IfSpentAfter, IsSpentOn, IsKnownBefore, AreProofsBefore}
-
--- whether a second run changes anything
-abbrev pub AnswersSecond : List Program → Relation → ℕ → Answer → Type 0
-AnswersSecond es order budget a = AnswersBy (StatesSecond es order) (IsIdempotent es (Told (comes order)))
-    (IsSecondChange es order) budget a
-
--- whether the graph succeeds
-abbrev pub AnswersEnd : List Program → Relation → ℕ → Answer → Type 0
-AnswersEnd es order budget a = AnswersBy (StatesEnd es order) (Succeeds es (Told (comes order)) → ⊥) (IsEnd es order) budget a
-
--- the witness is of a second run
-abbrev pub IsTwice : Witness → Type 0
-IsTwice (witness.Orders tree left right) = ⊥
-IsTwice (witness.Twice tree order) = Unit {0}
-IsTwice (witness.Ends tree order) = ⊥
-
--- a second run begins where the first one ended: its tree and its order
-abbrev pub IsEndOf : Witness → Witness → Type 0
-IsEndOf (witness.Orders tree left right) w = ⊥
-IsEndOf (witness.Twice tree order) w = w ≡ witness.Ends tree order
-IsEndOf (witness.Ends tree order) w = ⊥
 
 -- what was refuted
 abbrev pub proofs_in : Sure → List Refutation

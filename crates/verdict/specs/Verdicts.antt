@@ -18,7 +18,8 @@ use Rattle.verdict.specs.declared.verdicts.Second.TheVariants as second
 use Rattle.verdict.specs.declared.verdicts.Ends.TheVariants as ends
 use Rattle.verdict.specs.declared.verdicts.Verdict.{Verdict}
 use Rattle.verdict.specs.declared.verdicts.Verdict.TheVariants as verdict
-use Rattle.verdict.specs.Questions.{StatesSecond, StatesEnd, IsSecondProof}
+use Rattle.second_runs.specs.Questions.{StatesSecond, IsSecondProof}
+use Rattle.success.specs.Questions.{StatesEnd}
 
 -- how many programs pruning doesn't keep
 abbrev pub pruned_in : Verdict → ℕ

@@ -8,11 +8,9 @@ ghost use Rattle.orders.specs.Relation.{comes};
 ghost use Rattle.size_limits.specs.Limits.{HasFewPaths, IsLight, IsTooLarge};
 ghost use Rattle.determinism.specs.Answers.{IsJudged};
 ghost use Rattle.determinism.specs.declared.first.First.TheVariants as first;
-ghost use Rattle.verdict.specs.Questions.{IsSecondProof};
+ghost use Rattle.second_runs.specs.Questions.{IsSecondProof};
 ghost use Rattle.verdict.specs.Answers.{IsVerdict, proofs_in};
 
-use crate::second::{ask_second, first_run};
-use crate::success::ask_end;
 use crate::verdicts::{Asked, Ends, Second, Verdict};
 use answering::Answer;
 use determinism::{First, Sure, judge_any};
@@ -20,8 +18,10 @@ use fs_lang::Program;
 use orders::Order;
 use proof_check::Verified;
 use rh_base::{Fault, NoMemory, Seq};
+use second_runs::{ask_second, first_run};
 use size_limits::check_size;
 use std::alloc::Global;
+use success::ask_end;
 
 /// What was refuted to answer the first question.
 pub fn order_proofs(alloc: Global, sure: Sure) -> Result<Seq<Verified>, NoMemory>

@@ -1,7 +1,7 @@
 use Rattle.std.proofs.Common.{map, subst, ◌∙◌}
 use Rattle.std.proofs.lemmas.List.{length-map}
 use Rattle.fs_lang.specs.Meaning.{program_of}
-use Rattle.verdict.specs.Answers.{AnswersEnd}
+use Rattle.success.specs.Answers.{AnswersEnd}
 use Rattle.ensured_entry.proofs.EnsuredLaws.{held_from, held_never, spent_on_success}
 use Rattle.ensured_entry.proofs.ensuring.ask_success.Goals as goal
 

@@ -2,7 +2,7 @@ use Rattle.std.proofs.Common.{map, subst, ◌∙◌}
 use Rattle.std.proofs.lemmas.List.{length-map}
 use Rattle.std.specs.Prelude.{IfSome}
 use Rattle.fs_lang.specs.Meaning.{program_of}
-use Rattle.verdict.specs.Questions.{IsEnd}
+use Rattle.success.specs.Questions.{IsEnd}
 use Rattle.ensured_entry.proofs.EnsuredLaws.{held_from}
 use Rattle.ensured_entry.proofs.ensuring.ensure_held.Goals as goal
 

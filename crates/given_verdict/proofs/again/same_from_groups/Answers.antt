@@ -4,7 +4,7 @@ use Rattle.fs_semantics.specs.Orders.{Told, IsDeterministic, IsIdempotent}
 use Rattle.fs_lang.specs.Meaning.{program_of}
 use Rattle.orders.specs.Relation.{comes}
 use Rattle.given_hosts.specs.Guard.{guard_before, GoesFirst}
-use Rattle.verdict.specs.Questions.{IsSecondProof}
+use Rattle.second_runs.specs.Questions.{IsSecondProof}
 use Rattle.given_verdict.specs.Second.{IsSettledFrom}
 use Rattle.given_verdict.proofs.BehindLaws.{stated_by_any}
 use Rattle.given_verdict.proofs.GroupLaws.{both_of_some}

@@ -5,8 +5,8 @@ use Rattle.fs_semantics.specs.Orders.{Told, IsDeterministic, Succeeds}
 use Rattle.fs_lang.specs.Meaning.{program_of}
 use Rattle.given_hosts.specs.Guard.{guarded, guard_before, GoesFirst}
 use Rattle.orders.specs.Relation.{comes}
-use Rattle.verdict.specs.Questions.{StatesEnd, IsEnd}
-use Rattle.verdict.specs.Answers.{AnswersEnd}
+use Rattle.success.specs.Questions.{StatesEnd, IsEnd}
+use Rattle.success.specs.Answers.{AnswersEnd}
 use Rattle.given_verdict.proofs.EndLaws.{states, shown}
 use Rattle.given_verdict.proofs.ends.ask_end_from.Goals as goal
 

@@ -1,7 +1,7 @@
 use Rattle.std.proofs.Common.{map, subst, ◌∙◌}
 use Rattle.std.proofs.lemmas.List.{length-map}
 use Rattle.fs_lang.specs.Meaning.{program_of}
-use Rattle.verdict.specs.Answers.{AnswersEnd}
+use Rattle.success.specs.Answers.{AnswersEnd}
 use Rattle.verdict.proofs.VerdictLaws.{same_from, same_never, spent_last}
 use Rattle.verdict.proofs.judging.judge_same.Goals as goal
 

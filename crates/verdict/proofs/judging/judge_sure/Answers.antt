@@ -1,8 +1,8 @@
 use Rattle.std.proofs.Common.{map, subst, ◌∙◌}
 use Rattle.std.proofs.lemmas.List.{length-map}
 use Rattle.fs_lang.specs.Meaning.{program_of}
-use Rattle.verdict.specs.Answers.{AnswersSecond}
-use Rattle.verdict.proofs.EndLaws.{end_of}
+use Rattle.second_runs.specs.Answers.{AnswersSecond}
+use Rattle.verdict.proofs.WitnessLaws.{end_of}
 use Rattle.verdict.proofs.VerdictLaws.{changed_from, spent_second}
 use Rattle.verdict.proofs.judging.judge_sure.Goals as goal
 

@@ -1,0 +1,3 @@
+pub mod FirstExtension
+pub mod SecondLaws
+pub mod GroupLaws

@@ -1,0 +1,79 @@
+//! Whether a second run changes anything.
+
+ghost use Rattle.std.specs.Prelude.{◌≡◌, ◌≤◌, map, length, IfOk};
+ghost use Rattle.fs_semantics.specs.Orders.{Told, IsDeterministic, IsIdempotent};
+ghost use Rattle.fs_lang.specs.Meaning.{program_of};
+ghost use Rattle.orders.specs.Relation.{comes};
+ghost use Rattle.proof_check.specs.Refuted.{HasNoModel};
+ghost use Rattle.order_encode.specs.Asked.{CanShow};
+ghost use Rattle.order_encode.specs.declared.witness.Witness.{Witness};
+ghost use Rattle.second_runs.specs.Questions.{StatesSecond, IsSecondChange};
+ghost use Rattle.second_runs.specs.Answers.{AnswersSecond, IsTwice, IsEndOf};
+
+use crate::groups::same_by_groups;
+use answering::{Answer, answer_to};
+use commute_prune::are_proper;
+use finite_domain::{domains, witnesses_over_the_domain};
+use fs_lang::Program;
+use fs_semantics::{constructs, counterexamples};
+use order_encode::{Question, Witness, ask_twice};
+use orders::Order;
+use path_domain::domain;
+use rh_base::{NoMemory, Seq};
+use std::alloc::Global;
+
+/// The question whether a second run changes anything. Where its formula has no model, none does: the programs are deterministic,
+/// so that the first extension stands for all allowed orders.
+fn second_question(alloc: Global, programs: &[Program], order: &Order) -> Result<Question, NoMemory>
+    requires count { length programs.now ≡ order.now.count }
+    requires deterministic { IsDeterministic (map program_of programs.now) (Told (comes order.now)) }
+    ensures states { IfOk result (λ q. StatesSecond (map program_of programs.now) order.now q.formula) }
+    ensures same { IfOk result (λ q. HasNoModel q.formula → IsIdempotent (map program_of programs.now) (Told (comes order.now))) }
+    ensures models { IfOk result (λ q. (w : Witness) → CanShow q w → IsSecondChange (map program_of programs.now) order.now w) }
+{
+    constructs();
+    counterexamples();
+    domains();
+    witnesses_over_the_domain();
+    are_proper(programs);
+    // Only that there is one: it stands for all orders.
+    let _first = order.first_extension()?;
+    let d = domain(alloc, programs)?;
+    let posed = ask_twice(alloc, programs, order, &d)?;
+    Ok(posed)
+}
+
+/// Asks whether a second run changes anything: of groups that don't touch one another, and of all where that doesn't tell.
+pub fn ask_second(
+    alloc: Global,
+    programs: &[Program],
+    order: &Order,
+    budget: u64,
+) -> Result<Answer, NoMemory>
+    requires count { length programs.now ≡ order.now.count }
+    requires budget { 1 ≤ budget }
+    requires deterministic { IsDeterministic (map program_of programs.now) (Told (comes order.now)) }
+    ensures { IfOk result (AnswersSecond (map program_of programs.now) order.now budget) }
+{
+    if let Some(same) = same_by_groups(alloc, programs, order, budget)? {
+        return Ok(Answer::Refuted(same));
+    }
+    let question = second_question(alloc, programs, order)?;
+    let found = answer_to(alloc, question, budget)?;
+    Ok(found)
+}
+
+/// The tree from which a second run changes something, and its order: the first run ends in a tree.
+pub fn first_run(alloc: Global, witness: &Witness) -> Result<Witness, NoMemory>
+    requires { IsTwice witness.now }
+    ensures { IfOk result (IsEndOf witness.now) }
+{
+    match witness {
+        Witness::Twice { tree, order } => {
+            let tree = tree.copy(alloc)?;
+            let order = Seq::from_vec(order.as_slice().to_vec(alloc)?);
+            Ok(Witness::Ends { tree, order })
+        }
+        Witness::Orders { .. } | Witness::Ends { .. } => unreachable!(),
+    }
+}
