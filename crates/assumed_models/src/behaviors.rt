@@ -9,9 +9,9 @@ ghost use Rattle.model_semantics.specs.Names.{Meets, is_name};
 ghost use Rattle.assumed_models.specs.Behaviors.{own_attributes, attributes_text, made_content, folder_made, file_made, file_edited, steps_of, unless_there, writes_files, program_of_behavior};
 
 use crate::marks::edit_mark;
-use crate::values::json_text;
 use assumed_text::Behavior;
 use catalog_semantics::{Resource, is_metaparameter};
+use catalog_text::json_text;
 use fs_lang::{Path, Program, Test};
 use model_names::named;
 use model_semantics::{Cause, ModelFault};

@@ -6,7 +6,6 @@ mod edits;
 mod laws;
 mod lost;
 mod marks;
-mod values;
 
 pub use behaviors::program_of_behavior;
 pub use edits::{Edit, Edits};

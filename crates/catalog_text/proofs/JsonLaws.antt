@@ -1,16 +1,12 @@
--- The JSON of a value has no number with a fraction; and what is stored is what is meant.
-use Rattle.std.proofs.Common.{◌≡◌, ℕ, Bool, true, false, ◌||◌, List, [], ◌∷◌, ℤ, pos, negsuc, refl, ap, ap₂, ◌∙◌, String, Global, string_bytes, string_cmp}
+-- The JSON of a value has no number with a fraction.
+use Rattle.std.proofs.Common.{◌≡◌, ℕ, Bool, true, false, ◌||◌, List, [], ◌∷◌, ℤ, pos, negsuc, refl, ap, ap₂}
 use Rattle.std.specs.declared.cmp.Ordering.{Ordering}
 use Rattle.std.specs.declared.cmp.Ordering.TheVariants.{Less, Equal, Greater}
 use Rattle.std.specs.Ordering.{nat_cmp, match_ordering}
 use Rattle.std.specs.Cmp.Lexicographic.{slice_cmp}
-use Rattle.std.specs.BTreeMap.{insert_entry}
 use Rattle.serde_json.specs.Data.{Data, number, Members, no_members, member, put}
 use Rattle.serde_json.specs.Find.{of_integer}
-use Rattle.serde_json.specs.View.{view, members_view}
 use Rattle.serde_json.specs.Written.{has_float, items_have_float, members_have_float}
-use Rattle.serde_json.specs.declared.value.Value as stored
-use Rattle.serde_json.proofs.Views.{Entry, members_view-insert_entry}
 use Rattle.pp_value.specs.declared.value.Value.{Value, Row_of-Value, end_of-Value, more_of-Value}
 use Rattle.pp_value.specs.declared.value.Value.TheVariants as v
 use Rattle.pp_value.specs.Values.{Keys}
@@ -62,8 +58,3 @@ mutual
   keyed_without so_far [] row none = none
   keyed_without so_far (k ∷ keys) end_of-Value none = none
   keyed_without so_far (k ∷ keys) (more_of-Value x row) none = keyed_without (put k.0 (data_of x) so_far) keys row (none_put k.0 (data_of x) so_far (no_float x) none)
-
--- a member that is stored is put among those that are meant
-pub put_among : (es new : List Entry) (k : String Global) (x : stored.Value) (key : List ℕ) → new ≡ insert_entry string_cmp es k x → string_bytes k ≡ key
-    → members_view new ≡ put key (view x) (members_view es)
-put_among es new k x key e key_is = ap members_view e ∙ members_view-insert_entry es k x ∙ ap (λ l. put l (view x) (members_view es)) key_is

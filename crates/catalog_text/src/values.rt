@@ -1,34 +1,15 @@
 //! Values as compact JSON.
 
 ghost use Rattle.std.specs.Prelude.{◌≡◌, ◌∷◌, ◌++◌, [], map, IfOk, OnOk};
-ghost use Rattle.serde_json.specs.Data.{string, array, object, no_members, put};
-ghost use Rattle.serde_json.specs.View.{items_of, view, members_view};
+ghost use Rattle.serde_json.specs.Data.{array, object, no_members};
+ghost use Rattle.serde_json.specs.View.{items_of, view};
 ghost use Rattle.catalog_text.specs.Json.{data_of, members_with, json};
 
+use json_parts::{put_member, text_json};
 use pp_value::{Pairs, Value, shown_ref};
 use rh_base::{NoMemory, Text};
 use serde_json::{Map, Value as Json};
 use std::alloc::Global;
-
-fn text_json(alloc: Global, text: &str) -> Result<Json, NoMemory>
-    ensures { IfOk result (λ json. view json ≡ string text.now) }
-{
-    Ok(Json::String(String::from_str(alloc, text)?))
-}
-
-/// Puts a member among those before it.
-fn put_member(
-    alloc: Global,
-    key: &Text,
-    json: Json,
-    members: &mut Map<String, Json>,
-) -> Result<(), NoMemory>
-    ensures { OnOk result (members_view members.new.entries ≡ put key.now (view json) (members_view members.old.entries)) }
-{
-    let key = String::from_str(alloc, key.as_str())?;
-    members.insert(key, json)?;
-    Ok(())
-}
 
 /// The JSON of a value.
 #[cycle(json)]
@@ -77,15 +58,15 @@ fn object_of(alloc: Global, pairs: &Pairs) -> Result<Json, NoMemory>
 {
     let mut members = Map::new(alloc);
     for pair in pairs.as_slice() {
-        let json = data_of(alloc, &pair.1)?;
-        put_member(alloc, &pair.0, json, &mut members)?;
+        let name = pair.0.copy(alloc)?;
+        put_member(name, data_of(alloc, &pair.1)?, &mut members)?;
     }
     Ok(Json::Object(members))
 }
 
 /// A value as compact JSON.
 #[tactic(auto, using(crate::proofs::JsonLaws::no_float))]
-pub(crate) fn json_text(alloc: Global, value: &Value) -> Result<Text, NoMemory>
+pub fn json_text(alloc: Global, value: &Value) -> Result<Text, NoMemory>
     ensures { IfOk result (λ text. text ≡ json value.now) }
 {
     let json = data_of(alloc, value)?;

@@ -12,10 +12,10 @@ ghost use Rattle.compiled_attributes.specs.Places.{HoldsFragments};
 
 use crate::fragments::{Fragments, gathered};
 use crate::given::{given, gives, is_untold, says};
-use crate::names::{Name, text_of};
-use crate::reading::is_concat_file;
-use crate::values::json_text;
-use compiled_text::{CompiledCatalog, CompiledResource};
+use crate::names::Name;
+use catalog_text::json_text;
+use compiled_text::{CompiledCatalog, CompiledResource, is_concat_file};
+use json_parts::text_of;
 use model_attributes::text_at;
 use pp_value::{Pairs, Value};
 use rh_base::{NoMemory, Seq, Text};

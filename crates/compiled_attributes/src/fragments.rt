@@ -5,8 +5,7 @@ ghost use Rattle.compiled_text.specs.Compiled.{counts_as};
 ghost use Rattle.compiled_attributes.specs.Fragments.{is_fragment, target_of, gathered};
 ghost use Rattle.compiled_attributes.specs.Places.{or_none, places_in, HoldsFragments, if_target, with_places, if_there, at_places};
 
-use crate::reading::is_concat_file;
-use compiled_text::{CompiledCatalog, CompiledResource};
+use compiled_text::{CompiledCatalog, CompiledResource, is_concat_file};
 use indexmap::IndexMap;
 use model_attributes::text_at;
 use rh_base::{NoMemory, Seq, Text};

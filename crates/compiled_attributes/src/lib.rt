@@ -9,7 +9,6 @@ mod laws;
 mod names;
 mod reading;
 mod rows;
-mod values;
 
 pub use attributes::{attributes_of, is_noop};
 pub use content::why_unfilled;

@@ -1,13 +1,12 @@
 //! Names, in the order of their bytes.
 
-ghost use Rattle.std.specs.Prelude.{◌≡◌, IfOk};
+ghost use Rattle.std.specs.Prelude.{◌≡◌};
 ghost use Rattle.std.specs.Cmp.{eq_by_cmp_equiv, partial_equiv_from_equiv, partial_order_from_total};
 ghost use Rattle.std.specs.Cmp.Lexicographic.{slice_cmp, nat_list_cmp_total};
 ghost use Rattle.std.specs.Ordering.{nat_cmp, as_partial_cmp, eq_by_cmp};
 ghost use Rattle.std.specs.Prelude.{refl};
 
-use rh_base::{NoMemory, Text};
-use std::alloc::Global;
+use rh_base::Text;
 use std::cmp::Ordering;
 use std::marker::Model;
 
@@ -78,11 +77,4 @@ impl Name {
         let Name { text } = self;
         text
     }
-}
-
-/// A copy of a text.
-pub(crate) fn text_of(alloc: Global, text: &str) -> Result<Text, NoMemory>
-    ensures { IfOk result (λ t. t ≡ text.now) }
-{
-    Ok(Text::from_string(String::from_str(alloc, text)?))
 }

@@ -1,10 +1,9 @@
 //! How the attributes of a resource are read.
 
 ghost use Rattle.std.specs.Prelude.{◌≡◌};
-ghost use Rattle.compiled_text.specs.Compiled.{is_concat_file};
 ghost use Rattle.compiled_attributes.specs.Attributes.{reading_of};
 
-use compiled_text::CompiledResource;
+use compiled_text::{CompiledResource, is_concat_file};
 use model_attributes::kind_of;
 use model_semantics::Kind;
 
@@ -17,14 +16,6 @@ pub(crate) enum Reading {
     Concat,
     /// those of any other native resource, whose type may have a model
     Native(Option<Kind>),
-}
-
-/// Whether a resource is a file that is put together of fragments.
-pub(crate) fn is_concat_file(r: &CompiledResource) -> bool
-    ensures { result ≡ is_concat_file r.now }
-{
-    let is_named_so = r.id.kind.as_str() == "concat_file";
-    is_named_so && !r.is_container
 }
 
 /// As what the attributes of a resource are read.

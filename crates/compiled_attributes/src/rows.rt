@@ -7,9 +7,9 @@ ghost use Rattle.catalog_text.specs.Json.{json};
 ghost use Rattle.compiled_attributes.specs.Rows.{remarks, is_noop_row, left_out_of_all, modelled, is_modelled, has_to_be_known, is_short_link, is_idle_recursion, is_idle_purge, is_idle_force, left_out_of_file, file_value, typed_value, native_value, container_value, concat_names, is_absence, is_untold_state, is_of_concat, concat_value};
 
 use crate::given::{are_addresses, gives, is_true, is_undef, is_untrue, says, says_from};
-use crate::names::text_of;
-use crate::values::json_text;
 use catalog_semantics::is_metaparameter;
+use catalog_text::json_text;
+use json_parts::text_of;
 use model_attributes::truth_of;
 use model_semantics::Kind;
 use pp_value::{Pairs, Value, has_opaque};

@@ -45,17 +45,17 @@ aliases_of r = map (ref_to r.id.kind) (texts_of (value_at (codes "alias") r.para
 abbrev pub written : List ℕ → Option (List ℕ)
 written text = option_map path_text (path_in text)
 
--- a text, or this one where none is given; another value is none
-abbrev pub text_or : List ℕ → Option Value → Option (List ℕ)
-text_or other None = Some other
-text_or other (Some v.Undef) = Some other
-text_or other (Some (v.Bool b)) = None
-text_or other (Some (v.Int n)) = None
-text_or other (Some (v.Str text)) = Some text
-text_or other (Some (v.List' shape row)) = None
-text_or other (Some (v.Map' keys row)) = None
-text_or other (Some (v.Refer r)) = None
-text_or other (Some v.Opaque) = None
+-- a text, or this one where nothing is given or undef; another value is none
+abbrev pub text_unless_undef : List ℕ → Option Value → Option (List ℕ)
+text_unless_undef other None = Some other
+text_unless_undef other (Some v.Undef) = Some other
+text_unless_undef other (Some (v.Bool b)) = None
+text_unless_undef other (Some (v.Int n)) = None
+text_unless_undef other (Some (v.Str text)) = Some text
+text_unless_undef other (Some (v.List' shape row)) = None
+text_unless_undef other (Some (v.Map' keys row)) = None
+text_unless_undef other (Some (v.Refer r)) = None
+text_unless_undef other (Some v.Opaque) = None
 
 -- a file that an agent applies as it is
 abbrev pub is_file : CompiledResource → Bool
@@ -66,7 +66,7 @@ is_file r = bytes_eq r.id.kind (codes "file") && not r.is_container
 abbrev pub path_text_of : CompiledResource → Option (List ℕ)
 path_text_of r =
     if is_concat_file r then Some (counts_as r).title
-    else (if is_file r then text_or r.id.title (value_at (codes "path") r.parameters) else None)
+    else (if is_file r then text_unless_undef r.id.title (value_at (codes "path") r.parameters) else None)
 
 -- a file with its path, as that is written
 abbrev pub paths_of : CompiledResource → List Ref

@@ -5,10 +5,10 @@ ghost use Rattle.std.specs.Prelude.{◌≡◌, ◌<◌, length, IfOk, IfSome};
 ghost use Rattle.compiled_relations.specs.Finding.{at_path, place_found, reference_found, found_by};
 ghost use Rattle.compiled_relations.specs.Tables.{calls_by, IsTable};
 
-use crate::names::{Way, calls_by, counts_as, ref_to};
+use crate::names::{Way, calls_by, ref_to};
 use crate::paths::written;
 use crate::table::Table;
-use compiled_text::{CompiledResource, reference_of};
+use compiled_text::{CompiledResource, counts_as, reference_of};
 use pp_value::Ref;
 use rh_base::{Misread, NoMemory};
 use std::alloc::Global;

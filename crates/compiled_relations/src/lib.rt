@@ -12,9 +12,9 @@ mod related;
 mod table;
 mod values;
 
+pub use compiled_text::counts_as;
 pub use index::Index;
 pub use laws::{paths_are_written_alike, relations_are_references, resources_are_found};
 pub use links::add_links;
-pub use names::counts_as;
 pub use naming::told;
 pub use values::{are_references, related_to};

@@ -32,8 +32,8 @@ fn is_file(r: &Resource) -> bool
     is_named_so && is_plain && !r.is_virtual
 }
 
-/// A text, or this one where nothing is given; another value is none.
-fn text_or<'r>(other: &'r str, value: Option<&'r Value>) -> Option<&'r str>
+/// A text, or this one where nothing is given; another value is none, undef too.
+fn text_if_given<'r>(other: &'r str, value: Option<&'r Value>) -> Option<&'r str>
     ensures { option_map (λ t. t.now) result ≡ text_or other.now (option_map (λ x. x.now) value.entry) }
 {
     match value {
@@ -46,7 +46,7 @@ fn text_or<'r>(other: &'r str, value: Option<&'r Value>) -> Option<&'r str>
 fn path_text_of(r: &Resource) -> Option<&str>
     ensures { option_map (λ t. t.now) result ≡ path_text_of r.now }
 {
-    text_or(r.id.title.as_str(), r.attrs.find("path"))
+    text_if_given(r.id.title.as_str(), r.attrs.find("path"))
 }
 
 /// The path that a file manages, if its text spells one.

@@ -4,14 +4,14 @@ ghost use Rattle.std.specs.Prelude.{◌≡◌, ◌++◌, map, option_map, IfOk, 
 ghost use Rattle.std.specs.List.{flat_map};
 ghost use Rattle.std.specs.Option.{option_to_list};
 ghost use Rattle.pp_eval.specs.Evaluation.{text_of as text_in};
-ghost use Rattle.compiled_text.specs.Compiled.{text_or as text_or_title, is_concat_file, counts_as};
-ghost use Rattle.compiled_relations.specs.Finding.{ref_to, names_of, texts_of, aliases_of, text_or, is_file, path_text_of, paths_of};
+ghost use Rattle.compiled_relations.specs.Finding.{ref_to, names_of, texts_of, aliases_of, text_unless_undef, is_file, path_text_of, paths_of};
 ghost use Rattle.compiled_relations.specs.Tables.{calls_by};
 
 use crate::paths::written;
-use compiled_text::CompiledResource;
+use compiled_text::{CompiledResource, counts_as, is_concat_file, text_or};
+use json_parts::text_of;
 use pp_value::{Ref, Value};
-use rh_base::{NoMemory, Seq, Text};
+use rh_base::{NoMemory, Seq};
 use std::alloc::Global;
 
 /// The ways in which a resource may be called.
@@ -22,12 +22,6 @@ pub enum Way {
     Path,
 }
 
-fn text_of(alloc: Global, text: &str) -> Result<Text, NoMemory>
-    ensures { IfOk result (λ t. t ≡ text.now) }
-{
-    Ok(Text::from_string(String::from_str(alloc, text)?))
-}
-
 /// The reference of a type and a title.
 pub fn ref_to(alloc: Global, kind: &str, title: &str) -> Result<Ref, NoMemory>
     ensures { IfOk result (λ r. r ≡ ref_to kind.now title.now) }
@@ -35,38 +29,6 @@ pub fn ref_to(alloc: Global, kind: &str, title: &str) -> Result<Ref, NoMemory>
     let kind = text_of(alloc, kind)?;
     let title = text_of(alloc, title)?;
     Ok(Ref { kind, title })
-}
-
-/// Whether a resource is a file that is put together of fragments.
-fn is_concat_file(r: &CompiledResource) -> bool
-    ensures { result ≡ is_concat_file r.now }
-{
-    let is_named_so = r.id.kind.as_str() == "concat_file";
-    is_named_so && !r.is_container
-}
-
-/// A value that is a text, or else this one.
-fn text_or_title<'r>(title: &'r str, value: Option<&'r Value>) -> &'r str
-    ensures { result.now ≡ text_or_title title.now (option_map (λ x. x.now) value.entry) }
-{
-    match value {
-        Some(Value::Str(text)) => text.as_str(),
-        _ => title,
-    }
-}
-
-/// The reference as which a resource counts.
-pub fn counts_as(alloc: Global, r: &CompiledResource) -> Result<Ref, NoMemory>
-    ensures { IfOk result (λ id. id ≡ counts_as r.now) }
-{
-    if !is_concat_file(r) {
-        return r.id.copy(alloc);
-    }
-    ref_to(
-        alloc,
-        "file",
-        text_or_title(r.id.title.as_str(), r.parameters.find("path")),
-    )
 }
 
 fn names_of(alloc: Global, r: &CompiledResource) -> Result<Seq<Ref>, NoMemory>
@@ -116,9 +78,9 @@ fn aliases_of(alloc: Global, r: &CompiledResource) -> Result<Seq<Ref>, NoMemory>
     Ok(refs)
 }
 
-/// A text, or this one where none is given.
-fn text_or<'r>(other: &'r str, value: Option<&'r Value>) -> Option<&'r str>
-    ensures { option_map (λ t. t.now) result ≡ text_or other.now (option_map (λ x. x.now) value.entry) }
+/// A text, or this one where nothing is given or undef; another value is none.
+fn text_unless_undef<'r>(other: &'r str, value: Option<&'r Value>) -> Option<&'r str>
+    ensures { option_map (λ t. t.now) result ≡ text_unless_undef other.now (option_map (λ x. x.now) value.entry) }
 {
     match value {
         None => Some(other),
@@ -141,10 +103,10 @@ fn path_text_of(r: &CompiledResource) -> Option<&str>
 {
     let title = r.id.title.as_str();
     if is_concat_file(r) {
-        return Some(text_or_title(title, r.parameters.find("path")));
+        return Some(text_or(title, r.parameters.find("path")));
     }
     if is_file(r) {
-        return text_or(title, r.parameters.find("path"));
+        return text_unless_undef(title, r.parameters.find("path"));
     }
     None
 }

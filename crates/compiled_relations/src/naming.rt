@@ -4,6 +4,7 @@ ghost use Rattle.std.specs.Prelude.{◌≡◌, ◌++◌, IfOk};
 ghost use Rattle.compiled_relations.specs.Finding.{place_told, told};
 
 use compiled_text::CompiledResource;
+use json_parts::text_of;
 use rh_base::{NoMemory, Text};
 use std::alloc::Global;
 
@@ -24,7 +25,7 @@ fn place_told(alloc: Global, r: &CompiledResource) -> Result<Text, NoMemory>
 pub fn told(alloc: Global, r: &CompiledResource, name: &str) -> Result<Text, NoMemory>
     ensures { IfOk result (λ text. text ≡ told r.now name.now) }
 {
-    let mut text = Text::from_string(String::from_str(alloc, name)?);
+    let mut text = text_of(alloc, name)?;
     text.push(place_told(alloc, r)?.as_str())?;
     Ok(text)
 }

@@ -14,3 +14,4 @@ pub use catalog::{CompiledCatalog, CompiledResource, Containment};
 pub use laws::{compiled_texts, untyped_values};
 pub use names::reference_of;
 pub use reading::compiled_from_json;
+pub use resources::{counts_as, is_concat_file, text_or};

@@ -12,7 +12,8 @@ ghost use Rattle.compiled_text.specs.Reading.{text_at, id_with, id_of, parameter
 use crate::catalog::CompiledResource;
 use crate::names::is_type;
 use crate::refs::Refs;
-use crate::values::{pairs_of, text_of};
+use crate::values::pairs_of;
+use json_parts::text_of;
 use pp_eval::ref_of;
 use pp_value::{Pairs, Ref, Value};
 use rh_base::{Misread, NoMemory, Seq, Text};
@@ -160,7 +161,7 @@ pub fn resources_of(alloc: Global, items: &[Json]) -> Result<Seq<CompiledResourc
 }
 
 /// A value that is a text, or else this one.
-fn text_or<'r>(other: &'r str, value: Option<&'r Value>) -> &'r str
+pub fn text_or<'r>(other: &'r str, value: Option<&'r Value>) -> &'r str
     ensures { result.now ≡ text_or other.now (option_map (λ x. x.now) value.entry) }
 {
     match value {
@@ -170,7 +171,7 @@ fn text_or<'r>(other: &'r str, value: Option<&'r Value>) -> &'r str
 }
 
 /// Whether a resource is a file that is put together of fragments.
-fn is_concat_file(r: &CompiledResource) -> bool
+pub fn is_concat_file(r: &CompiledResource) -> bool
     ensures { result ≡ is_concat_file r.now }
 {
     let is_named_so = r.id.kind.as_str() == "concat_file";
@@ -178,7 +179,7 @@ fn is_concat_file(r: &CompiledResource) -> bool
 }
 
 /// The reference as which a resource counts: that of the file which it puts together of fragments, or else its own.
-fn counts_as(alloc: Global, r: &CompiledResource) -> Result<Ref, NoMemory>
+pub fn counts_as(alloc: Global, r: &CompiledResource) -> Result<Ref, NoMemory>
     ensures { IfOk result (λ id. id ≡ counts_as r.now) }
 {
     if !is_concat_file(r) {

@@ -9,8 +9,9 @@ ghost use Rattle.pp_value.specs.Values.{HasDistinctKeys, with_pair};
 ghost use Rattle.pp_eval.specs.Facts.{whole_or_opaque};
 ghost use Rattle.compiled_text.specs.Values.{is_sensitive, object_value, value_of, values_of, pairs_of};
 
+use json_parts::text_of;
 use pp_value::{Pairs, Value, distinct_pairs_are_kept, pairs_stay_proper, wholes_are_proper};
-use rh_base::{NoMemory, Seq, Text};
+use rh_base::{NoMemory, Seq};
 use serde_json::{Map, Number, Value as Json};
 use std::alloc::Global;
 
@@ -54,13 +55,6 @@ fn number_value(number: &Number) -> Value
     }
 }
 
-/// A copy of a text.
-pub fn text_of(alloc: Global, text: &str) -> Result<Text, NoMemory>
-    ensures { IfOk result (λ t. t ≡ text.now) }
-{
-    Ok(Text::from_string(String::from_str(alloc, text)?))
-}
-
 /// The value of what JSON has: as facts are read, but for objects that say a type of their own.
 #[cycle(value_of)]
 fn value_of(alloc: Global, json: &Json) -> Result<Value, NoMemory>
@@ -95,7 +89,7 @@ fn values_of(alloc: Global, items: &Vec<Json>) -> Result<Seq<Value>, NoMemory>
 
 /// Puts a member of an object behind those before it.
 #[cycle(value_of)]
-fn put_member(alloc: Global, key: &str, member: &Json, pairs: &mut Pairs) -> Result<(), NoMemory>
+fn put_pair(alloc: Global, key: &str, member: &Json, pairs: &mut Pairs) -> Result<(), NoMemory>
     ensures pairs { OnOk result (pairs.new ≡ with_pair key.now (value_of (view member.now)) pairs.old) }
     ensures proper { OnOk result (AllByRecursion (λ pair. IsProper pair.1) pairs.old → AllByRecursion (λ pair. IsProper pair.1) pairs.new) }
 {
@@ -115,7 +109,7 @@ pub fn pairs_of(alloc: Global, members: &Map<String, Json>) -> Result<Pairs, NoM
     distinct_pairs_are_kept();
     let mut pairs = Pairs::new(alloc);
     for (key, member) in members.iter() {
-        put_member(alloc, key.as_str(), member, &mut pairs)?;
+        put_pair(alloc, key.as_str(), member, &mut pairs)?;
     }
     let _ = pairs.as_slice();
     Ok(pairs)

@@ -130,9 +130,7 @@ pub fn is_true_itself(x: &Value) -> bool
 pub fn is_digit(b: u8) -> bool
     ensures { result ≡ is_digit b }
 {
-    let low = 48 <= b;
-    let high = b <= 57;
-    low && high
+    b.is_ascii_digit()
 }
 
 /// Whether a text begins with another.

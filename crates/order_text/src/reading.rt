@@ -6,15 +6,10 @@ ghost use Rattle.rh_base.specs.Reading.{Gives};
 ghost use Rattle.rh_base.specs.Refused.{IfRefused, IsRefusal};
 ghost use Rattle.order_text.specs.OrderText.{IsOrderText, texts_of};
 
+use json_parts::text_of;
 use rh_base::{Fault, Misread, NoMemory, Seq, Text};
 use serde_json::{Category, Value as Json};
 use std::alloc::Global;
-
-fn text_of(alloc: Global, text: &str) -> Result<Text, NoMemory>
-    ensures { IfOk result (λ t. t ≡ text.now) }
-{
-    Ok(Text::from_string(String::from_str(alloc, text)?))
-}
 
 fn texts_of(alloc: Global, items: &[Json]) -> Result<Seq<Text>, Misread>
     ensures { Gives (λ ts. ts) result (texts_of (items_view items.now)) }

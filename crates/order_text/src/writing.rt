@@ -5,20 +5,15 @@ ghost use Rattle.serde_json.specs.Data.{string};
 ghost use Rattle.serde_json.specs.View.{view};
 ghost use Rattle.order_text.specs.OrderText.{IsOrderText, order_text};
 
+use json_parts::{append, text_json};
 use rh_base::{NoMemory, Text};
 use serde_json::Value as Json;
 use std::alloc::Global;
 
-fn text_json(alloc: Global, text: &Text) -> Result<Json, NoMemory>
-    ensures { IfOk result (λ json. view json ≡ string text.now) }
-{
-    Ok(Json::String(text.copy(alloc)?.into_string()))
-}
-
 fn push_text(alloc: Global, text: &Text, items: &mut Vec<Json>) -> Result<(), NoMemory>
     ensures { OnOk result (map view items.new.items ≡ map view items.old.items ++ string text.now ∷ []) }
 {
-    let json = text_json(alloc, text)?;
+    let json = text_json(alloc, text.as_str())?;
     items.push(json)?;
     Ok(())
 }
@@ -40,14 +35,6 @@ fn written(alloc: Global, texts: &[Text]) -> Result<Vec<u8>, NoMemory>
 {
     let json = Json::Array(items_of(alloc, texts)?);
     Ok(json.to_vec(alloc)?)
-}
-
-fn append(into: &mut Vec<u8>, bytes: &[u8]) -> Result<(), NoMemory>
-    ensures ok { OnOk result (into.new.items ≡ into.old.items ++ bytes.now) }
-    ensures err { OnErr result (into.new.items ≡ into.old.items) }
-{
-    into.extend_from_slice(bytes)?;
-    Ok(())
 }
 
 /// Appends the text of an order: compact JSON, from which the same references are read.

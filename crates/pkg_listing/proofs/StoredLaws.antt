@@ -1,26 +1,19 @@
 -- JSON that is stored, and what it says.
-use Rattle.std.proofs.Common.{◌≡◌, ℕ, ◌+◌, ◌<◌, ◌≤◌, false, List, [], ◌∷◌, ◌++◌, length, get_or, take, drop, add-one, Some, sym, ap, subst, ◌∙◌, String, Global, string_bytes, string_cmp}
-use Rattle.std.specs.BTreeMap.{insert_entry}
+use Rattle.std.proofs.Common.{◌≡◌, ℕ, ◌+◌, ◌<◌, ◌≤◌, false, List, [], ◌∷◌, ◌++◌, length, get_or, take, drop, add-one, Some, sym, ap, subst, ◌∙◌}
 use Rattle.std.specs.Ordering.{nat_cmp}
 use Rattle.std.specs.Cmp.Lexicographic.{slice_cmp}
 use Rattle.std.specs.List.Sorted.{IsStrictlySortedBy}
 use Rattle.std.proofs.Math.Seq.{drop-cons, take-suc}
 use Rattle.std.proofs.lemmas.List.{take-append-drop}
-use Rattle.serde_json.specs.Data.{Data, Members, put, depth}
+use Rattle.serde_json.specs.Data.{Members, put, depth}
 use Rattle.serde_json.specs.Read.{read, max_depth}
 use Rattle.serde_json.specs.Written.{compact_text, has_float}
-use Rattle.serde_json.specs.View.{view, members_view}
+use Rattle.serde_json.specs.View.{view}
 use Rattle.serde_json.specs.declared.value.Value as json
-use Rattle.serde_json.proofs.Views.{Entry, members_view-insert_entry}
 use Rattle.pkg_listing.specs.Packages.{Packages, names_of}
 use Rattle.pkg_listing.specs.declared.listing.Package.{Package}
 use Rattle.pkg_listing.specs.ListingText.{package_data, packages_data, listing_data, listing_text}
 use Rattle.pkg_listing.proofs.TextLaws.{no_float, shallow, put_last}
-
--- an entry that is inserted among those stored is a member that is put
-pub put_member : (es new : List Entry) (k : String Global) (v : json.Value) (key : List ℕ) (d : Data) → new ≡ insert_entry string_cmp es k v → string_bytes k ≡ key → view v ≡ d → members_view new ≡ put key d (members_view es)
-put_member es new k v key d e key_is data_is =
-    ap members_view e ∙ members_view-insert_entry es k v ∙ ap (λ l. put l (view v) (members_view es)) key_is ∙ ap (λ x. put key x (members_view es)) data_is
 
 -- what is stored of a listing is written as its text
 pub written_text : (ps : Packages) (v : json.Value) (bytes : List ℕ) → view v ≡ listing_data ps → (has_float (view v) ≡ false → bytes ≡ compact_text (view v)) → bytes ≡ listing_text ps

@@ -14,6 +14,7 @@ use crate::laws::listing_texts;
 use crate::listing::{DIGEST_BYTES, Listed, Listing, Package};
 use crate::paths::PathSet;
 use fs_lang::{Path, PathFault};
+use json_parts::text_of;
 use pp_value::Keyed;
 use rh_base::{Fault, Misread, NoMemory, Seq, Text};
 use serde_json::{Category, Map, Value as Json};
@@ -64,10 +65,7 @@ fn digest_text(alloc: Global, text: &str) -> Result<Text, Misread>
     if is_empty || !is_short {
         return Err(Misread::Form);
     }
-    match String::from_str(alloc, text) {
-        Ok(text) => Ok(Text::from_string(text)),
-        Err(_) => Err(Misread::Memory(NoMemory)),
-    }
+    Ok(text_of(alloc, text)?)
 }
 
 fn digest_of(alloc: Global, json: &Json) -> Result<Option<Text>, Misread>

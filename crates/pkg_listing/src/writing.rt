@@ -4,7 +4,7 @@ ghost use Rattle.std.specs.Prelude.{◌≡◌, ◌++◌, map, Some, IfOk, OnOk, 
 ghost use Rattle.std.specs.declared.cmp.Ordering.TheVariants.{Greater};
 ghost use Rattle.std.specs.Ordering.{nat_cmp};
 ghost use Rattle.std.specs.Cmp.Lexicographic.{slice_cmp};
-ghost use Rattle.serde_json.specs.Data.{string, object, put, member, no_members};
+ghost use Rattle.serde_json.specs.Data.{object, member, no_members};
 ghost use Rattle.serde_json.specs.Read.{read};
 ghost use Rattle.serde_json.specs.View.{view, members_view};
 ghost use Rattle.pkg_listing.specs.Packages.{AreFit};
@@ -13,15 +13,10 @@ ghost use Rattle.pkg_listing.specs.ListingText.{path_data, digest_data, file_dat
 
 use crate::listing::{Listed, Listing, Package};
 use fs_lang::{Path, path_texts};
+use json_parts::{append, put_member, text_json};
 use rh_base::{NoMemory, Text};
 use serde_json::{Map, Value as Json};
 use std::alloc::Global;
-
-fn text_json(alloc: Global, text: &Text) -> Result<Json, NoMemory>
-    ensures { IfOk result (λ json. view json ≡ string text.now) }
-{
-    Ok(Json::String(text.copy(alloc)?.into_string()))
-}
 
 fn path_json(alloc: Global, p: &Path) -> Result<Json, NoMemory>
     ensures { IfOk result (λ json. view json ≡ path_data p.now) }
@@ -34,7 +29,7 @@ fn digest_json(alloc: Global, digest: &Option<Text>) -> Result<Json, NoMemory>
 {
     match digest {
         None => Ok(Json::Null),
-        Some(digest) => text_json(alloc, digest),
+        Some(digest) => text_json(alloc, digest.as_str()),
     }
 }
 
@@ -86,28 +81,14 @@ fn package_json(alloc: Global, p: &Package) -> Result<Json, NoMemory>
     object(alloc, "files", files, "folders", folders)
 }
 
-/// Puts the member of a package among those before it.
-fn put_member(
-    alloc: Global,
-    name: &Text,
-    p: &Package,
-    members: &mut Map<String, Json>,
-) -> Result<(), NoMemory>
-    ensures { OnOk result (members_view members.new.entries ≡ put name.now (package_data p.now) (members_view members.old.entries)) }
-{
-    let key = name.copy(alloc)?.into_string();
-    let json = package_json(alloc, p)?;
-    members.insert(key, json)?;
-    Ok(())
-}
-
 fn packages_json(alloc: Global, packages: &[(Text, Package)]) -> Result<Map<String, Json>, NoMemory>
     requires { AreFit packages.now }
     ensures { IfOk result (λ members. members_view members.entries ≡ packages_data packages.now) }
 {
     let mut members = Map::new(alloc);
     for pair in packages {
-        put_member(alloc, &pair.0, &pair.1, &mut members)?;
+        let name = pair.0.copy(alloc)?;
+        put_member(name, package_json(alloc, &pair.1)?, &mut members)?;
     }
     Ok(members)
 }
@@ -127,14 +108,6 @@ fn written(alloc: Global, listing: &Listing) -> Result<Vec<u8>, NoMemory>
 {
     let json = listing_json(alloc, listing)?;
     Ok(json.to_vec(alloc)?)
-}
-
-fn append(into: &mut Vec<u8>, bytes: &[u8]) -> Result<(), NoMemory>
-    ensures ok { OnOk result (into.new.items ≡ into.old.items ++ bytes.now) }
-    ensures err { OnErr result (into.new.items ≡ into.old.items) }
-{
-    into.extend_from_slice(bytes)?;
-    Ok(())
 }
 
 /// Appends the text of a listing, of version 2: compact JSON, with the keys in the order of their bytes. The listing is

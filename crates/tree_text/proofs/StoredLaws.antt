@@ -1,20 +1,19 @@
 -- What JSON that is stored says.
-use Rattle.std.proofs.Common.{◌≡◌, ℕ, ◌≤◌, ◌==◌, Bool, true, false, cond, List, length, Option, Some, None, option_map, option_and_then, codes, refl, sym, ap, subst, ◌∙◌, arith, String, Global, string_bytes, string_cmp, BTreeMap}
+use Rattle.std.proofs.Common.{◌≡◌, ℕ, ◌≤◌, ◌==◌, Bool, true, false, cond, List, length, Option, Some, None, option_map, option_and_then, codes, refl, sym, ap, subst, ◌∙◌, arith, String, Global, BTreeMap}
 use Rattle.std.specs.declared.cmp.Ordering.{Ordering}
 use Rattle.std.specs.declared.cmp.Ordering.TheVariants.{Less, Equal, Greater}
 use Rattle.std.specs.Ordering.{nat_cmp, match_ordering}
 use Rattle.std.specs.Cmp.{tied_itself}
 use Rattle.std.specs.Cmp.Lexicographic.{slice_cmp, nat_list_cmp_total}
-use Rattle.std.specs.BTreeMap.{insert_entry}
 use Rattle.std.proofs.lemmas.Bool.{eqb-true}
-use Rattle.serde_json.specs.Data.{Data, null, boolean, number, string, array, object, Members, no_members, member, put, depth}
+use Rattle.serde_json.specs.Data.{Data, null, boolean, number, string, array, object, Members, no_members, member, depth}
 use Rattle.serde_json.specs.Events.{members_len}
 use Rattle.serde_json.specs.Find.{get, get_member, as_str, as_object}
 use Rattle.serde_json.specs.Read.{read, max_depth}
 use Rattle.serde_json.specs.Written.{compact_text, has_float}
 use Rattle.serde_json.specs.View.{view, members_view}
 use Rattle.serde_json.specs.declared.value.Value as json
-use Rattle.serde_json.proofs.Views.{Entry, view-Object, members_view-insert_entry, members_len-members_view}
+use Rattle.serde_json.proofs.Views.{Entry, view-Object, members_len-members_view}
 use Rattle.fs_semantics.specs.FileTree as fs
 use Rattle.fs_semantics.specs.FileTree.{Folder, File, Link, Tree}
 use Rattle.tree_text.specs.TreeText.{entry_data, members_of, tree_text}
@@ -23,11 +22,6 @@ use Rattle.tree_text.proofs.MemberLaws.{same_key}
 use Rattle.tree_text.proofs.TextLaws.{no_float, shallow}
 
 -- ---- writing
-
--- an entry that is inserted among those stored is a member that is put
-pub put_member : (es new : List Entry) (k : String Global) (v : json.Value) (key : List ℕ) (d : Data) → new ≡ insert_entry string_cmp es k v → string_bytes k ≡ key → view v ≡ d → members_view new ≡ put key d (members_view es)
-put_member es new k v key d e key_is data_is =
-    ap members_view e ∙ members_view-insert_entry es k v ∙ ap (λ l. put l (view v) (members_view es)) key_is ∙ ap (λ x. put key x (members_view es)) data_is
 
 -- what is stored with a tree's members is the object of the tree
 stored_is : (m : BTreeMap (String Global) json.Value) (t : Tree) → members_view m.entries ≡ members_of t → view (json.Object m) ≡ object (members_of t)

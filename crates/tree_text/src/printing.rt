@@ -5,8 +5,8 @@ ghost use Rattle.json.specs.Print.{quoted};
 ghost use Rattle.fs_lang.specs.Meaning.{test_of, program_of, programs_in};
 ghost use Rattle.tree_text.specs.ProgramText.{path_shown, with_path, with_two, test_text, program_text, steps_text, more_text};
 
-use crate::writing::append;
 use fs_lang::{Path, Program, Test};
+use json_parts::append;
 use rh_base::{NoMemory, Text};
 use serde_json::Value as Json;
 use std::alloc::Global;

@@ -15,7 +15,8 @@ ghost use Rattle.tree_text.specs.Reading.{IfForm, target_in, entry_in, IsKey, Fi
 use crate::laws::tree_texts;
 use fs_lang::{Entry, Path, PathFault, Tree, path_texts};
 use fs_semantics::{file_trees, paths, tests};
-use rh_base::{Fault, Misread, NoMemory, Text};
+use json_parts::text_of;
+use rh_base::{Fault, Misread, NoMemory};
 use serde_json::{Category, Map, Value as Json};
 use std::alloc::Global;
 
@@ -54,16 +55,6 @@ fn target_in(json: &Json) -> Option<&str>
     let is_one = members.len() == 1;
     let target = json.get("link").and_then(Json::as_str);
     if is_one { target } else { None }
-}
-
-fn text_of(alloc: Global, text: &str) -> Result<Text, Misread>
-    ensures text { IfOk result (λ t. t ≡ text.now) }
-    ensures none { IfErr result (λ e. IfForm e ⊥) }
-{
-    match String::from_str(alloc, text) {
-        Ok(text) => Ok(Text::from_string(text)),
-        Err(_) => Err(Misread::Memory(NoMemory)),
-    }
 }
 
 fn entry_in(alloc: Global, json: &Json) -> Result<Entry, Misread>

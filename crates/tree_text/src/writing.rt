@@ -2,32 +2,25 @@
 
 ghost use Rattle.std.specs.Prelude.{◌≡◌, ◌++◌, Some, IfOk, OnOk, OnErr, IsUtf8};
 ghost use Rattle.serde_json.specs.Read.{read};
-ghost use Rattle.serde_json.specs.Data.{string, object, put};
+ghost use Rattle.serde_json.specs.Data.{object};
 ghost use Rattle.fs_semantics.specs.FileTree.{Link};
 ghost use Rattle.serde_json.specs.View.{view, members_view};
 ghost use Rattle.fs_lang.specs.Meaning.{entry_of};
-ghost use Rattle.fs_lang.specs.PathText.{path_text};
 ghost use Rattle.tree_text.specs.TreeText.{entry_data, members_of, tree_text, IsWithinLimits, IsTreeText};
 
 use crate::laws::tree_texts;
-use fs_lang::{Entry, Path, Tree};
+use fs_lang::{Entry, Tree};
+use json_parts::{append, put_member, text_json, text_of};
 use rh_base::{NoMemory, Text};
 use serde_json::{Map, Value as Json};
 use std::alloc::Global;
 
-fn text_json(alloc: Global, text: &Text) -> Result<Json, NoMemory>
-    ensures { IfOk result (λ json. view json ≡ string text.now) }
-{
-    Ok(Json::String(text.copy(alloc)?.into_string()))
-}
-
 fn link_json(alloc: Global, target: &Text) -> Result<Json, NoMemory>
     ensures { IfOk result (λ json. view json ≡ entry_data (Link target.now)) }
 {
-    let text = text_json(alloc, target)?;
-    let key = String::from_str(alloc, "link")?;
+    let text = text_json(alloc, target.as_str())?;
     let mut members = Map::new(alloc);
-    members.insert(key, text)?;
+    put_member(text_of(alloc, "link")?, text, &mut members)?;
     Ok(Json::Object(members))
 }
 
@@ -36,25 +29,9 @@ fn entry_json(alloc: Global, entry: &Entry) -> Result<Json, NoMemory>
 {
     match entry {
         Entry::Folder => Ok(Json::Null),
-        Entry::File(content) => text_json(alloc, content),
+        Entry::File(content) => text_json(alloc, content.as_str()),
         Entry::Link(target) => link_json(alloc, target),
     }
-}
-
-/// Puts the member of an entry among those before it.
-fn put_entry(
-    alloc: Global,
-    p: &Path,
-    entry: &Entry,
-    members: &mut Map<String, Json>,
-) -> Result<(), NoMemory>
-    ensures { OnOk result (members_view members.new.entries ≡ put (path_text p.now) (entry_data (entry_of entry.now))
-        (members_view members.old.entries)) }
-{
-    let key = p.text(alloc)?.into_string();
-    let json = entry_json(alloc, entry)?;
-    members.insert(key, json)?;
-    Ok(())
 }
 
 fn members_of(alloc: Global, tree: &Tree) -> Result<Map<String, Json>, NoMemory>
@@ -62,7 +39,8 @@ fn members_of(alloc: Global, tree: &Tree) -> Result<Map<String, Json>, NoMemory>
 {
     let mut members = Map::new(alloc);
     for (p, entry) in tree.entries() {
-        put_entry(alloc, p, entry, &mut members)?;
+        let key = p.text(alloc)?;
+        put_member(key, entry_json(alloc, entry)?, &mut members)?;
     }
     Ok(members)
 }
@@ -75,15 +53,6 @@ fn written(alloc: Global, tree: &Tree) -> Result<Vec<u8>, NoMemory>
 {
     let json = Json::Object(members_of(alloc, tree)?);
     Ok(json.to_vec(alloc)?)
-}
-
-/// Appends the bytes, or leaves all as it is.
-pub fn append(into: &mut Vec<u8>, bytes: &[u8]) -> Result<(), NoMemory>
-    ensures ok { OnOk result (into.new.items ≡ into.old.items ++ bytes.now) }
-    ensures err { OnErr result (into.new.items ≡ into.old.items) }
-{
-    into.extend_from_slice(bytes)?;
-    Ok(())
 }
 
 /// Appends the text of a tree: compact JSON, with the keys in the order of their bytes. A tree whose paths are within the
