@@ -1,0 +1,4 @@
+pub mod Including
+pub mod Classes
+pub mod Depth
+pub mod Choosing

@@ -1,0 +1,4 @@
+pub mod Opening
+pub mod Bodies
+pub mod Beginning
+pub mod Parents
