@@ -7,7 +7,9 @@ mod defaults;
 mod filling;
 mod functions;
 mod ran;
+mod references;
 mod rounds;
 mod state;
 
+pub use references::copy_refs;
 pub use state::State;

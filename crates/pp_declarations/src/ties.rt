@@ -5,21 +5,10 @@ ghost use Rattle.catalog_semantics.specs.States.{tied};
 ghost use Rattle.catalog_semantics.specs.Effects.{tie_of, ties_of};
 
 use catalog_semantics::{Side, Tie};
-use pp_declaration_state::State;
+use pp_declaration_state::{State, copy_refs};
 use pp_syntax::Arrow;
-use pp_value::Ref;
-use rh_base::{NoMemory, Seq};
+use rh_base::NoMemory;
 use std::alloc::Global;
-
-fn copy_refs(alloc: Global, refs: &[Ref]) -> Result<Seq<Ref>, NoMemory>
-    ensures { IfOk result (λ copies. copies ≡ refs.now) }
-{
-    let mut copies = Seq::new(alloc);
-    for r in refs {
-        copies.push(r.copy(alloc)?)?;
-    }
-    Ok(copies)
-}
 
 /// An equal side.
 fn copy_side(alloc: Global, side: &Side) -> Result<Side, NoMemory>

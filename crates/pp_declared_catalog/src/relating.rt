@@ -8,7 +8,7 @@ ghost use Rattle.pp_declared_catalog.specs.Results.{hits};
 use crate::matching::matches;
 use catalog::Catalog;
 use catalog_semantics::{Collector, Relation, Resource, Side, Tie};
-use pp_declaration_state::State;
+use pp_declaration_state::{State, copy_refs};
 use pp_value::Ref;
 use rh_base::{NoMemory, Seq};
 use std::alloc::Global;
@@ -34,16 +34,6 @@ fn matched(alloc: Global, state: &State, c: &Collector) -> Result<Seq<Ref>, NoMe
         push_hit(alloc, c, state.get(i), &mut refs)?;
     }
     Ok(refs)
-}
-
-fn copy_refs(alloc: Global, refs: &[Ref]) -> Result<Seq<Ref>, NoMemory>
-    ensures { IfOk result (λ copies. copies ≡ refs.now) }
-{
-    let mut copies = Seq::new(alloc);
-    for r in refs {
-        copies.push(r.copy(alloc)?)?;
-    }
-    Ok(copies)
 }
 
 /// The resources that one side of an arrow names or matches.

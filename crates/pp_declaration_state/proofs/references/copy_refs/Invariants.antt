@@ -1,5 +1,5 @@
 use Rattle.std.proofs.Common.{◌≡◌, ◌++◌, drop}
-use Rattle.pp_declared_catalog.proofs.relating.copy_refs.Given as goal
+use Rattle.pp_declaration_state.proofs.references.copy_refs.Given as goal
 
 abbrev pub invariant-loop-r : goal.invariant-loop-r
 invariant-loop-r l = l.copies ++ drop l.r-index l.refs ≡ l.refs
