@@ -8,6 +8,7 @@ mod arguments;
 mod cases;
 mod conditions;
 mod fitting;
+mod frame;
 mod laws;
 mod simple;
 mod statement;

@@ -5,6 +5,7 @@ ghost use Rattle.pp_eval.specs.Verdicts.{AnswersBy};
 ghost use Rattle.catalog_semantics.specs.States.{in_turn};
 ghost use Rattle.catalog_semantics.specs.Declaring.{sort_of, resource_declared, body_declared, bodies_declared, resources_declared};
 ghost use Rattle.pp_declared_bodies.specs.Bodies.{declared_behind, ref_to};
+ghost use Rattle.pp_declared_bodies.specs.Untitled.{titled};
 
 use crate::types::known_type;
 use catalog_semantics::{Resource, Sort};
@@ -16,6 +17,24 @@ use pp_syntax::Body;
 use pp_value::{Pairs, Ref, copy_pairs};
 use rh_base::{Fault, NoMemory, Seq, Text};
 use std::alloc::Global;
+
+/// A declaration as it stands: its place, whether it is virtual, the type as it is written, and what it declares of it.
+#[derive(Clone, Copy)]
+pub struct Declaration<'t> {
+    pub at: u32,
+    pub is_virtual: bool,
+    pub kind: &'t str,
+    pub bodies: &'t [Body],
+}
+
+/// A resource that lacks its title. For each title of a body there is one.
+#[derive(Clone, Copy)]
+struct Untitled<'b> {
+    at: u32,
+    is_virtual: bool,
+    kind: &'b Text,
+    attributes: &'b Pairs,
+}
 
 fn sort_of(kind: &str) -> Sort
     ensures { result ≡ sort_of kind.now }
@@ -30,25 +49,22 @@ fn sort_of(kind: &str) -> Sort
 /// Adds a resource, which the class or defined resource holds whose body runs.
 fn declare_one(
     alloc: Global,
-    at: u32,
-    is_virtual: bool,
-    kind: &Text,
-    attributes: &Pairs,
+    untitled: &Untitled<'_>,
     title: &Text,
     state: &mut State,
 ) -> Result<(), Fault>
-    ensures { AnswersBy (λ done. state.new) (resource_declared at is_virtual kind.now attributes.now title.now state.old) result }
+    ensures { AnswersBy (λ done. state.new) (titled untitled.now title.now state.old) result }
 {
     let id = Ref {
-        kind: kind.copy(alloc)?,
+        kind: untitled.kind.copy(alloc)?,
         title: title.copy(alloc)?,
     };
-    let attrs = copy_pairs(alloc, attributes)?;
+    let attrs = copy_pairs(alloc, untitled.attributes)?;
     state.add(Resource {
         id,
-        sort: sort_of(kind.as_str()),
-        is_virtual,
-        at,
+        sort: sort_of(untitled.kind.as_str()),
+        is_virtual: untitled.is_virtual,
+        at: untitled.at,
         holder: state.running(),
         attrs,
     })
@@ -57,18 +73,14 @@ fn declare_one(
 /// Adds a resource for each title.
 fn declare_all(
     alloc: Global,
-    at: u32,
-    is_virtual: bool,
-    kind: &Text,
-    attributes: &Pairs,
+    untitled: &Untitled<'_>,
     titles: &[Text],
     state: &mut State,
 ) -> Result<(), Fault>
-    ensures { AnswersBy (λ done. state.new)
-        (in_turn (map (resource_declared at is_virtual kind.now attributes.now) titles.now) state.old) result }
+    ensures { AnswersBy (λ done. state.new) (in_turn (map (titled untitled.now) titles.now) state.old) result }
 {
     for title in titles {
-        match declare_one(alloc, at, is_virtual, kind, attributes, title, state) {
+        match declare_one(alloc, untitled, title, state) {
             Ok(()) => {}
             Err(fault) => return Err(fault),
         }
@@ -108,16 +120,14 @@ fn declare_body(
 {
     let titles = titles_at(alloc, &b.title, state.scopes())?;
     let attributes = attributes_at(alloc, b.attrs.as_slice(), state.scopes())?;
-    let names = titles.as_slice();
-    declare_all(
-        alloc,
-        b.title.at,
+    let untitled = Untitled {
+        at: b.title.at,
         is_virtual,
         kind,
-        &attributes,
-        names,
-        state,
-    )?;
+        attributes: &attributes,
+    };
+    let names = titles.as_slice();
+    declare_all(alloc, &untitled, names, state)?;
     push_refs(alloc, kind, names, refs)?;
     Ok(())
 }
@@ -149,15 +159,20 @@ fn declare_bodies(
 pub fn declare_resources(
     alloc: Global,
     site: &Site<'_>,
-    at: u32,
-    is_virtual: bool,
-    kind: &str,
-    bodies: &[Body],
+    declaration: &Declaration<'_>,
     state: &mut State,
 ) -> Result<Seq<Ref>, Fault>
-    ensures { AnswersBy (λ refs. (refs, state.new)) (resources_declared site.now at is_virtual kind.now bodies.now state.old) result }
+    ensures { AnswersBy (λ refs. (refs, state.new))
+        (resources_declared site.now declaration.now.at declaration.now.is_virtual
+        declaration.now.kind.now declaration.now.bodies.now state.old) result }
 {
-    let kind = plain_name(alloc, kind)?;
-    let kind = known_type(alloc, site, at, kind)?;
-    declare_bodies(alloc, is_virtual, &kind, bodies, state)
+    let kind = plain_name(alloc, declaration.kind)?;
+    let kind = known_type(alloc, site, declaration.at, kind)?;
+    declare_bodies(
+        alloc,
+        declaration.is_virtual,
+        &kind,
+        declaration.bodies,
+        state,
+    )
 }

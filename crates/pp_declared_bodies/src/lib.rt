@@ -13,7 +13,7 @@ mod types;
 
 pub use beginning::{begin_class, begin_defined, copy_resource};
 pub use collecting::collector_of;
-pub use declaring::declare_resources;
+pub use declaring::{Declaration, declare_resources};
 pub use functions::{fail_with, realize_all};
 pub use laws::{classes_begin_and_end, parents_go_from_the_top};
 pub use parents::{class_named, class_ref, is_declared, nearest_first, no_circle};
