@@ -9,8 +9,8 @@ use Rattle.catalog_semantics.specs.States.{defaults_of}
 use Rattle.catalog_semantics.specs.Attributes.{attributes_behind, names_of, AreFit}
 use Rattle.catalog_semantics.specs.Frames.{Each}
 use Rattle.catalog_semantics.proofs.DistinctNames.{all_fit, distinct_behind}
-use Rattle.pp_decl_values.specs.Named.{keys_of}
-use Rattle.pp_decl_state.specs.Defaulting.{noted, names_noted}
+use Rattle.pp_declared_values.specs.Named.{keys_of}
+use Rattle.pp_declaration_state.specs.Defaulting.{noted, names_noted}
 
 -- the keys of noted names are the names
 keys_are : (pairs : List Pair) → keys_of (map noted pairs) ≡ names_of pairs

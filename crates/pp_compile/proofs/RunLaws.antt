@@ -16,7 +16,7 @@ use Rattle.catalog_semantics.specs.Effects.{effect_of}
 use Rattle.catalog_semantics.specs.Frames.{Each, Extends}
 use Rattle.catalog_semantics.proofs.Keeping.{all_keep, statement_keeps}
 use Rattle.catalog_semantics.proofs.Extending.{extending, openings_only_add}
-use Rattle.pp_decl_classes.specs.Beginning.{body_ends}
+use Rattle.pp_declared_bodies.specs.Beginning.{body_ends}
 
 -- equal results have equal states
 same_state : (s t : State) → ◌≡◌ {A = Result State Refusal} (Ok s) (Ok t) → s ≡ t

@@ -22,9 +22,9 @@ use catalog_laws::holders_are_containers;
 use catalog_semantics::{catalogs_are_sound, references_stand_once, rounds_end};
 use host_limits::Limits;
 use pp_data::Data;
-use pp_decl_results::{catalog_in, few_enough};
-use pp_decl_sites::Site;
-use pp_decl_state::State;
+use pp_declaration_state::State;
+use pp_declared_catalog::{catalog_in, few_enough};
+use pp_definitions::Site;
 use pp_eval::refusal;
 use pp_syntax::Manifest;
 use pp_value::{Ref, Value, shown_ref};
@@ -41,7 +41,7 @@ fn missing(alloc: Global, at: u32, r: &Ref) -> Fault
     }
 }
 
-#[tactic(auto, using(pp_decl_classes::proofs::BeginningLaws::declared_at))]
+#[tactic(auto, using(pp_declared_bodies::proofs::BeginningLaws::declared_at))]
 fn is_declared(state: &State, r: &Ref) -> bool
     ensures { result ≡ is_declared r.now state.now }
 {

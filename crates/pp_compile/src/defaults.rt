@@ -3,10 +3,10 @@
 ghost use Rattle.pp_eval.specs.Verdicts.{AnswersBy};
 ghost use Rattle.catalog_semantics.specs.Catalogs.{default_given};
 
-use pp_decl_bodies::named_type;
-use pp_decl_sites::Site;
-use pp_decl_state::State;
-use pp_decl_values::attributes_behind;
+use pp_declaration_state::State;
+use pp_declared_bodies::named_type;
+use pp_declared_values::attributes_behind;
+use pp_definitions::Site;
 use pp_eval::plain_name;
 use pp_syntax::Attr;
 use rh_base::Fault;

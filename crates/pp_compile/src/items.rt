@@ -7,9 +7,9 @@ ghost use Rattle.catalog_semantics.specs.States.{in_turn};
 ghost use Rattle.catalog_semantics.specs.Catalogs.{item_effect, node_effect, main_code};
 
 use crate::defaults::give_default;
-use pp_decl::{run_block, run_statement};
-use pp_decl_sites::Site;
-use pp_decl_state::State;
+use pp_declaration_state::State;
+use pp_declarations::{run_block, run_statement};
+use pp_definitions::Site;
 use pp_syntax::{Item, Manifest};
 use rh_base::Fault;
 use std::alloc::Global;

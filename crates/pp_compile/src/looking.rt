@@ -11,8 +11,8 @@ ghost use Rattle.pp_compile.specs.Rounds.{realized_at};
 ghost use Rattle.pp_compile.specs.Looking.{called_by, AreLooked, IsLookedAt};
 
 use catalog_semantics::{Collector, Pending, Resource};
-use pp_decl_searches::matches;
-use pp_decl_state::State;
+use pp_declaration_state::State;
+use pp_declared_catalog::matches;
 
 /// So many collectors, realizations and resources have been looked at, each resource with each of the others.
 #[derive(Clone, Copy)]

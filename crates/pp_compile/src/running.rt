@@ -15,10 +15,10 @@ ghost use Rattle.pp_compile.specs.Looking.{AreLooked};
 
 use crate::looking::{Looked, all_looked, none_looked, realize_new};
 use catalog_semantics::{Resource, Sort};
-use pp_decl::run_block;
-use pp_decl_classes::{begin_defined, copy_resource};
-use pp_decl_sites::{Definition, Site};
-use pp_decl_state::State;
+use pp_declaration_state::State;
+use pp_declarations::run_block;
+use pp_declared_bodies::{begin_defined, copy_resource};
+use pp_definitions::{Definition, Site};
 use rh_base::Fault;
 use std::alloc::Global;
 

@@ -1,3 +1,0 @@
-pub mod Including
-pub mod Classes
-pub mod Depth

@@ -1,2 +1,0 @@
-pub mod SearchLaws
-pub mod BodyLaws

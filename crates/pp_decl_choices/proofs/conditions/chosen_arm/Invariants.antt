@@ -1,6 +1,0 @@
-use Rattle.std.proofs.Common.{◌≡◌, drop}
-use Rattle.pp_decl_choices.specs.Choosing.{chosen_arm}
-use Rattle.pp_decl_choices.proofs.conditions.chosen_arm.Given as goal
-
-abbrev pub invariant-loop-arm : goal.invariant-loop-arm
-invariant-loop-arm l = chosen_arm l.scopes (drop l.arm-index l.arms) l.other ≡ chosen_arm l.scopes l.arms l.other

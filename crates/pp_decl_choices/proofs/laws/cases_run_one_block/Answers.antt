@@ -1,5 +1,0 @@
-use Rattle.pp_decl_choices.proofs.ChoiceLaws.{case_runs}
-use Rattle.pp_decl_choices.proofs.laws.cases_run_one_block.Goals as goal
-
-pub returns : goal.returns
-returns c = case_runs

@@ -1,5 +1,0 @@
-use Rattle.pp_decl_choices.proofs.ChoiceLaws.{condition_runs}
-use Rattle.pp_decl_choices.proofs.laws.conditions_run_one_block.Goals as goal
-
-pub returns : goal.returns
-returns c = condition_runs

@@ -1,2 +1,0 @@
-pub mod BeginningLaws
-pub mod ParentLaws

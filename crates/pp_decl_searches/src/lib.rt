@@ -1,6 +1,0 @@
-//! Which resources a collector matches.
-#![tactic(auto)]
-
-mod matching;
-
-pub use matching::matches;

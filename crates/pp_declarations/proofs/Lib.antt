@@ -1,0 +1,9 @@
+pub mod DepthLaws
+pub mod FittingLaws
+pub mod OwnLaws
+pub mod StatementLaws
+pub mod BodyLaws
+pub mod SideLaws
+pub mod TieLaws
+pub mod ChoiceLaws
+pub mod OwnBlocks

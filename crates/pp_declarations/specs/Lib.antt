@@ -1,0 +1,5 @@
+pub mod Including
+pub mod Classes
+pub mod Depth
+pub mod Choosing
+pub mod Frames

@@ -1,0 +1,4 @@
+pub mod SearchLaws
+pub mod BodyLaws
+pub mod BeginningLaws
+pub mod ParentLaws
