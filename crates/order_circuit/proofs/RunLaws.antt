@@ -5,7 +5,7 @@ use Rattle.std.specs.Prelude.{slice_index_or, Result, Ok, Err, IfOk}
 use Rattle.bool_circuit.specs.declared.gate.Wire.{Wire}
 use Rattle.bool_circuit.specs.declared.gate.Gate.{Gate}
 use Rattle.fs_semantics.specs.FileTree.{Tree}
-use Rattle.fs_semantics.specs.Programs.{Program as Steps, Id, Outcome, and_then, run, next}
+use Rattle.fs_semantics.specs.Programs.{Program as Steps, Id, Outcome, and_then, run}
 use Rattle.fs_semantics.specs.Orders.{outcome}
 use Rattle.fs_lang.specs.declared.program.Program.{Program}
 use Rattle.fs_lang.specs.Meaning.{program_of, programs_in}

@@ -17,31 +17,16 @@ use rh_base::{NoMemory, Seq};
 use std::alloc::Global;
 use sym_run::{Sym, is_below};
 
-/// Whether all of it holds, and the node is taken if it comes before the other.
-fn and_taken(
-    sym: &mut Sym,
-    order: &Order,
-    taken: &Seq<Wire>,
-    a: u32,
-    i: u32,
-    all: Wire,
-) -> Result<Wire, NoMemory>
-    requires taken { AreOwnBits (circuit_meanings sym.old) taken.now }
-    requires long { length taken.now ≡ order.now.count }
-    requires a { a < order.now.count }
-    requires i { i < order.now.count }
-    requires all { all.0 < length sym.old }
+/// Whether all of it holds, and more where it is needed.
+fn and_needed(sym: &mut Sym, all: &Wire, needed: bool, more: &Wire) -> Result<Wire, NoMemory>
+    requires all { all.now.0 < length sym.old }
+    requires more { more.now.0 < length sym.old }
     ensures gives { IfOk result
         (IsBit (circuit_meanings sym.new)
-        (λ v. (circuit_meanings sym.old).bit v all &&
-        (not (comes order.now a i) || bit_at (circuit_meanings sym.old) v taken.now a))) }
+        (λ v. (circuit_meanings sym.old).bit v all.now && (not needed || (circuit_meanings sym.old).bit v more.now))) }
     ensures grows { Grows (circuit_meanings sym.old) (circuit_meanings sym.new) }
 {
-    if order.before(a, i) {
-        sym.and(&all, taken.at(a as usize))
-    } else {
-        Ok(all)
-    }
+    if needed { sym.and(all, more) } else { Ok(*all) }
 }
 
 /// Whether all that comes before the node is taken.
@@ -56,7 +41,8 @@ fn all_taken(sym: &mut Sym, order: &Order, taken: &Seq<Wire>, i: u32) -> Result<
 {
     let mut all = sym.constant(true)?;
     for a in 0..order.count() {
-        all = and_taken(sym, order, taken, a, i, all)?;
+        let earlier = order.before(a, i);
+        all = and_needed(sym, &all, earlier, taken.at(a as usize))?;
     }
     Ok(all)
 }

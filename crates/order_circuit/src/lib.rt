@@ -13,6 +13,6 @@ mod runs;
 
 pub use allowed::in_order;
 pub use exchange::exchanged_codes;
-pub use parts::{code_at, run_part};
+pub use parts::{Part, code_at, run_part};
 pub use picks::tells;
 pub use runs::{copy_cells, run_place};

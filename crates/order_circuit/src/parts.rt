@@ -23,6 +23,14 @@ use rh_base::{NoMemory, Seq};
 use std::alloc::Global;
 use sym_run::{Sym, is_below};
 
+/// The codes of an order of which those ahead of a place are meant, or those from it on.
+#[derive(Drop)]
+pub struct Part<'a> {
+    pub codes: &'a [Seq<Wire>],
+    pub place: &'a Seq<Wire>,
+    pub ahead: bool,
+}
+
 /// The code at a place.
 pub fn code_at(sym: &mut Sym, codes: &[Seq<Wire>], place: &Seq<Wire>) -> Result<Seq<Wire>, NoMemory>
     requires codes { AreRows sym.old codes.now }
@@ -68,40 +76,37 @@ fn kept_code(
 fn kept_codes(
     alloc: Global,
     sym: &mut Sym,
-    codes: &[Seq<Wire>],
-    place: &Seq<Wire>,
+    part: &Part<'_>,
     blank: u64,
-    ahead: bool,
 ) -> Result<Seq<Seq<Wire>>, NoMemory>
-    requires codes { AreRows sym.old codes.now }
-    requires place { AreWires sym.old place.now }
+    requires codes { AreRows sym.old part.now.codes.now }
+    requires place { AreWires sym.old part.now.place.now }
     ensures rows { IfOk result (AreRows sym.new) }
-    ensures value { IfOk result (λ kept. (v : Valuation)
-        → nodes sym.new v kept ≡ kept_from ahead blank (node sym.old v place.now) 0 (nodes sym.old v codes.now)) }
+    ensures value { IfOk result (λ kept. (v : Valuation) → nodes sym.new v kept ≡ kept_from part.now.ahead blank
+        (node sym.old v part.now.place.now) 0 (nodes sym.old v part.now.codes.now)) }
     ensures grows { Grows (circuit_meanings sym.old) (circuit_meanings sym.new) }
 {
+    let codes = part.codes;
     let mut kept = Seq::new(alloc);
     for k in 0..codes.len() {
-        let reached = is_below(sym, place, k as u64 + 1)?;
-        let one = kept_code(sym, &codes[k], &reached, blank, ahead)?;
+        let reached = is_below(sym, part.place, k as u64 + 1)?;
+        let one = kept_code(sym, &codes[k], &reached, blank, part.ahead)?;
         kept.push(one)?;
     }
     Ok(kept)
 }
 
-/// What the programs make of the cells, in the part of an order ahead of a place, or from it on.
+/// What the programs make of the cells in the part of an order.
 pub fn run_part(
     alloc: Global,
     sym: &mut Sym,
     domain: &Domain,
     programs: &[Program],
-    codes: &[Seq<Wire>],
-    place: &Seq<Wire>,
-    ahead: bool,
+    part: &Part<'_>,
     start: &Cells<Sym>,
 ) -> Result<Cells<Sym>, NoMemory>
-    requires codes { AreRows sym.old codes.now }
-    requires place { AreWires sym.old place.now }
+    requires codes { AreRows sym.old part.now.codes.now }
+    requires place { AreWires sym.old part.now.place.now }
     requires cells { AreCells (circuit_meanings sym.old) start.now }
     requires places { length start.now.present ≡ length domain.now.table.paths }
     requires covers { CoversSteps domain.now.table (programs_in programs.now) }
@@ -111,9 +116,9 @@ pub fn run_part(
         → StandsFor domain.now.table (state_of (circuit_meanings sym.old) v start.now) o
         → StandsFor domain.now.table (state_of (circuit_meanings sym.new) v made)
         (and_then o (outcome (map program_of programs.now)
-        (part_of ahead (node sym.old v place.now) (nodes sym.old v codes.now))))) }
+        (part_of part.now.ahead (node sym.old v part.now.place.now) (nodes sym.old v part.now.codes.now))))) }
     ensures grows { Grows (circuit_meanings sym.old) (circuit_meanings sym.new) }
 {
-    let kept = kept_codes(alloc, sym, codes, place, programs.len() as u64, ahead)?;
+    let kept = kept_codes(alloc, sym, part, programs.len() as u64)?;
     run_in_order(alloc, sym, domain, programs, kept.as_slice(), start)
 }

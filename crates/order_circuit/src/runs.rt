@@ -2,8 +2,7 @@
 //! tells; so a run costs as many times what one in a known order costs as there are programs; known orders are run without
 //! codes (`order_encode`).
 
-ghost use Rattle.std.specs.Prelude.{◌≡◌, ◌<◌, true, false, map, length, slice_index_or, IfOk};
-ghost use Rattle.bool_circuit.specs.Gates.{wire_value};
+ghost use Rattle.std.specs.Prelude.{◌≡◌, map, length, slice_index_or, IfOk};
 ghost use Rattle.fs_semantics.specs.Programs.{Outcome, Id, and_then, run};
 ghost use Rattle.fs_semantics.specs.Orders.{outcome};
 ghost use Rattle.fs_lang.specs.Meaning.{program_of, programs_in};
@@ -41,35 +40,28 @@ pub fn copy_cells(
     choose(alloc, sym, domain, cells.error, cells, cells)
 }
 
-/// What the program makes of the cells where the code tells its number, else what was made so far.
+/// What the program makes of the cells, which stay.
 fn run_one(
     alloc: Global,
     sym: &mut Sym,
     domain: &Domain,
     program: &Program,
-    when: Wire,
     cells: &Cells<Sym>,
-    other: &Cells<Sym>,
 ) -> Result<Cells<Sym>, NoMemory>
-    requires when { when.0 < length sym.old }
     requires cells { AreCells (circuit_meanings sym.old) cells.now }
     requires places { length cells.now.present ≡ length domain.now.table.paths }
-    requires other { AreCells (circuit_meanings sym.old) other.now }
-    requires other_places { length other.now.present ≡ length domain.now.table.paths }
     requires covers { Covers domain.now.table (program_of program.now) }
     ensures cells { IfOk result (AreCells (circuit_meanings sym.new)) }
     ensures places { IfOk result (λ made. length made.present ≡ length domain.now.table.paths) }
-    ensures ran { IfOk result (λ made. (v : Valuation) (o : Outcome) → wire_value sym.old v when.0 ≡ true
+    ensures stands { IfOk result (λ made. (v : Valuation) (o : Outcome)
         → StandsFor domain.now.table (state_of (circuit_meanings sym.old) v cells.now) o
         → StandsFor domain.now.table (state_of (circuit_meanings sym.new) v made)
         (and_then o (run (program_of program.now)))) }
-    ensures stayed { IfOk result (λ made. (v : Valuation) → wire_value sym.old v when.0 ≡ false
-        → state_of (circuit_meanings sym.new) v made ≡ state_of (circuit_meanings sym.old) v other.now) }
     ensures grows { Grows (circuit_meanings sym.old) (circuit_meanings sym.new) }
 {
     let mut made = copy_cells(alloc, sym, domain, cells)?;
     sym_apply(alloc, sym, domain, program, &mut made)?;
-    choose(alloc, sym, domain, when, &made, other)
+    Ok(made)
 }
 
 /// Runs the program that the code tells.
@@ -96,7 +88,8 @@ pub fn run_place(
     let mut made = copy_cells(alloc, sym, domain, cells)?;
     for i in 0..programs.len() {
         let when = tells(sym, i as u64, code)?;
-        made = run_one(alloc, sym, domain, &programs[i], when, cells, &made)?;
+        let one = run_one(alloc, sym, domain, &programs[i], cells)?;
+        made = choose(alloc, sym, domain, when, &one, &made)?;
     }
     Ok(made)
 }

@@ -105,17 +105,17 @@ pub ends_is : (table : Listed) (s : State) (o : Outcome) → StandsFor table s o
 ends_is table s None h = ((λ e. false_not_true (sym (ap not h) ∙ e)), (λ k. cc))
 ends_is table s (Some t) h = ((λ e. refl), (λ k. ap not h.no_error))
 
--- no error is told, and it isn't the same again, exactly where the outcome is a tree that f doesn't leave as it is
-pub changes_is : (table : Listed) (s : State) (f : Tree → Outcome) (o : Outcome) (same : Bool) → StandsFor table s o → (same ≡ true) ↔ (o ≡ and_then o f)
-    → ((not s.error && not same) ≡ true) ↔ ((u : Tree) × (o ≡ Some u) × (f u ≢ Some u))
-changes_is table s f None same h k = ((λ e. false_not_true (sym (ap (λ b. not b && not same) h) ∙ e)), (λ w. let none = w.1 in cc))
-changes_is table s f (Some t) same h k = (
+-- no error is told, and it is other again, exactly where the outcome is a tree that f doesn't leave as it is
+pub changes_is : (table : Listed) (s : State) (f : Tree → Outcome) (o : Outcome) (other : Bool) → StandsFor table s o → (other ≡ true) ↔ (o ≢ and_then o f)
+    → ((not s.error && other) ≡ true) ↔ ((u : Tree) × (o ≡ Some u) × (f u ≢ Some u))
+changes_is table s f None other h k = ((λ e. false_not_true (sym (ap (λ b. not b && other) h) ∙ e)), (λ w. let none = w.1 in cc))
+changes_is table s f (Some t) other h k = (
   (λ e.
-      let other = (not_is same k).0 ((and_true (not s.error) (not same) e).1) in
-      (t, refl, λ q. other (sym q))),
+      let apart = k.0 (and_true (not s.error) other e).1 in
+      (t, refl, λ q. apart (sym q))),
   (λ w.
       let is : t ≡ w.0 = got w.0 w.1 in
-      true_and (not s.error) (not same) (ap not h.no_error) ((not_is same k).1 (λ q. w.2 (subst (λ x. f x ≡ Some x) is (sym q))))),
+      true_and (not s.error) other (ap not h.no_error) (k.1 (λ q. w.2 (subst (λ x. f x ≡ Some x) is (sym q))))),
 )
   where
     got : (u : Tree) → ◌≡◌ {A = Option Tree} (Some t) (Some u) → t ≡ u

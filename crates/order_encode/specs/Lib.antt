@@ -1,3 +1,5 @@
+pub mod Plans
+pub mod Forks
 pub mod Goals
 pub mod Asking
 pub mod Asked

@@ -1,47 +1,40 @@
 //! What the questions about one order ask of their inputs, as one wire.
 
 ghost use Rattle.std.specs.Prelude.{◌≡◌, ◌↔◌, ◌<◌, true, map, length, IfOk};
-ghost use Rattle.std.specs.List.{AllByRecursion};
 ghost use Rattle.bool_circuit.specs.Gates.{wire_value};
 ghost use Rattle.fs_semantics.specs.FileTree.{Tree};
-ghost use Rattle.fs_lang.specs.Meaning.{program_of, programs_in};
+ghost use Rattle.fs_lang.specs.Meaning.{program_of};
 ghost use Rattle.fs_interpreter.specs.Meanings.{Valuation, Grows};
-ghost use Rattle.fs_interpreter.specs.Places.{CoversSteps};
 ghost use Rattle.fs_interpreter.specs.Standing.{Stands};
 ghost use Rattle.fs_interpreter.specs.States.{AreCells, state_of};
 ghost use Rattle.sym_run.specs.Wires.{circuit_meanings};
 ghost use Rattle.order_encode.specs.Asking.{AreTrees};
 ghost use Rattle.order_encode.specs.Goals.{ChangesTwice, Ends, TellsTree};
 
-use crate::known::run_known;
+use crate::known::{run_known, unlike};
+use crate::plan::Schedule;
 use bool_circuit::Wire;
 use fs_interpreter::{Bits, Cells};
-use fs_lang::Program;
-use path_domain::Domain;
 use rh_base::NoMemory;
 use std::alloc::Global;
-use sym_run::{Sym, alike};
+use sym_run::Sym;
 
 /// Whether the order ends in a tree from the one for which the cells stand.
 fn ends(
     alloc: Global,
     sym: &mut Sym,
-    domain: &Domain,
-    programs: &[Program],
-    order: &[u32],
+    schedule: &Schedule<'_>,
     start: &Cells<Sym>,
 ) -> Result<Wire, NoMemory>
-    requires nodes { AllByRecursion (λ k. k < length programs.now) order.now }
     requires cells { AreCells (circuit_meanings sym.old) start.now }
-    requires places { length start.now.present ≡ length domain.now.table.paths }
-    requires covers { CoversSteps domain.now.table (programs_in programs.now) }
+    requires places { length start.now.present ≡ length schedule.now.domain.table.paths }
     ensures wire { IfOk result (λ w. w.0 < length sym.new) }
     ensures exact { IfOk result (λ w. (v : Valuation) (t : Tree)
-        → Stands domain.now.table (state_of (circuit_meanings sym.old) v start.now) t
-        → (wire_value sym.new v w.0 ≡ true) ↔ Ends (map program_of programs.now) order.now t) }
+        → Stands schedule.now.domain.table (state_of (circuit_meanings sym.old) v start.now) t
+        → (wire_value sym.new v w.0 ≡ true) ↔ Ends (map program_of schedule.now.programs) schedule.now.order t) }
     ensures grows { Grows (circuit_meanings sym.old) (circuit_meanings sym.new) }
 {
-    let made = run_known(alloc, sym, domain, programs, order, start)?;
+    let made = run_known(alloc, sym, schedule, start)?;
     sym.not(&made.error)
 }
 
@@ -49,25 +42,20 @@ fn ends(
 fn changes(
     alloc: Global,
     sym: &mut Sym,
-    domain: &Domain,
-    programs: &[Program],
-    order: &[u32],
+    schedule: &Schedule<'_>,
     start: &Cells<Sym>,
 ) -> Result<Wire, NoMemory>
-    requires nodes { AllByRecursion (λ k. k < length programs.now) order.now }
     requires cells { AreCells (circuit_meanings sym.old) start.now }
-    requires places { length start.now.present ≡ length domain.now.table.paths }
-    requires covers { CoversSteps domain.now.table (programs_in programs.now) }
+    requires places { length start.now.present ≡ length schedule.now.domain.table.paths }
     ensures wire { IfOk result (λ w. w.0 < length sym.new) }
     ensures exact { IfOk result (λ w. (v : Valuation) (t : Tree)
-        → Stands domain.now.table (state_of (circuit_meanings sym.old) v start.now) t
-        → (wire_value sym.new v w.0 ≡ true) ↔ ChangesTwice (map program_of programs.now) order.now t) }
+        → Stands schedule.now.domain.table (state_of (circuit_meanings sym.old) v start.now) t
+        → (wire_value sym.new v w.0 ≡ true) ↔ ChangesTwice (map program_of schedule.now.programs) schedule.now.order t) }
     ensures grows { Grows (circuit_meanings sym.old) (circuit_meanings sym.new) }
 {
-    let first = run_known(alloc, sym, domain, programs, order, start)?;
-    let second = run_known(alloc, sym, domain, programs, order, &first)?;
-    let same = alike(sym, domain, &first, &second)?;
-    let other = sym.not(&same)?;
+    let first = run_known(alloc, sym, schedule, start)?;
+    let second = run_known(alloc, sym, schedule, &first)?;
+    let other = unlike(sym, schedule.domain, &first, &second)?;
     let ended = sym.not(&first.error)?;
     sym.and(&ended, &other)
 }
@@ -76,21 +64,17 @@ fn changes(
 pub(crate) fn goal_of_end(
     alloc: Global,
     sym: &mut Sym,
-    domain: &Domain,
-    programs: &[Program],
-    order: &[u32],
+    schedule: &Schedule<'_>,
     start: &Cells<Sym>,
     well: Wire,
 ) -> Result<Wire, NoMemory>
-    requires nodes { AllByRecursion (λ k. k < length programs.now) order.now }
-    requires trees { AreTrees sym.old domain.now start.now well }
-    requires covers { CoversSteps domain.now.table (programs_in programs.now) }
+    requires trees { AreTrees sym.old schedule.now.domain start.now well }
     ensures wire { IfOk result (λ w. w.0 < length sym.new) }
     ensures exact { IfOk result (λ w. (v : Valuation) → (wire_value sym.new v w.0 ≡ true)
-        ↔ TellsTree domain.now sym.old start.now (Ends (map program_of programs.now) order.now) v) }
+        ↔ TellsTree schedule.now.domain sym.old start.now (Ends (map program_of schedule.now.programs) schedule.now.order) v) }
     ensures grows { Grows (circuit_meanings sym.old) (circuit_meanings sym.new) }
 {
-    let end = ends(alloc, sym, domain, programs, order, start)?;
+    let end = ends(alloc, sym, schedule, start)?;
     sym.and(&well, &end)
 }
 
@@ -98,20 +82,16 @@ pub(crate) fn goal_of_end(
 pub(crate) fn goal_of_change(
     alloc: Global,
     sym: &mut Sym,
-    domain: &Domain,
-    programs: &[Program],
-    order: &[u32],
+    schedule: &Schedule<'_>,
     start: &Cells<Sym>,
     well: Wire,
 ) -> Result<Wire, NoMemory>
-    requires nodes { AllByRecursion (λ k. k < length programs.now) order.now }
-    requires trees { AreTrees sym.old domain.now start.now well }
-    requires covers { CoversSteps domain.now.table (programs_in programs.now) }
+    requires trees { AreTrees sym.old schedule.now.domain start.now well }
     ensures wire { IfOk result (λ w. w.0 < length sym.new) }
     ensures exact { IfOk result (λ w. (v : Valuation) → (wire_value sym.new v w.0 ≡ true)
-        ↔ TellsTree domain.now sym.old start.now (ChangesTwice (map program_of programs.now) order.now) v) }
+        ↔ TellsTree schedule.now.domain sym.old start.now (ChangesTwice (map program_of schedule.now.programs) schedule.now.order) v) }
     ensures grows { Grows (circuit_meanings sym.old) (circuit_meanings sym.new) }
 {
-    let change = changes(alloc, sym, domain, programs, order, start)?;
+    let change = changes(alloc, sym, schedule, start)?;
     sym.and(&well, &change)
 }

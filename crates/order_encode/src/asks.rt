@@ -1,4 +1,4 @@
-//! What is asked.
+//! What is asked, and what makes the answer yes.
 
 use bool_circuit::Wire;
 use rh_base::Seq;
@@ -18,4 +18,11 @@ pub(crate) enum Asks {
     Ends {
         order: Seq<u32>,
     },
+}
+
+/// What a solver is to make true, and the wires that it may try first: only how long it takes depends on these.
+#[derive(Drop)]
+pub(crate) struct Goal {
+    pub wire: Wire,
+    pub firsts: Vec<Wire>,
 }

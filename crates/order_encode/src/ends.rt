@@ -10,60 +10,109 @@ ghost use Rattle.bool_circuit.specs.Gates.{wire_value};
 ghost use Rattle.fs_semantics.specs.FileTree.{Tree};
 ghost use Rattle.fs_semantics.specs.Programs.{Outcome, and_then};
 ghost use Rattle.fs_semantics.specs.Orders.{outcome};
-ghost use Rattle.fs_lang.specs.Meaning.{program_of, programs_in};
+ghost use Rattle.fs_lang.specs.Meaning.{program_of};
 ghost use Rattle.fs_interpreter.specs.Meanings.{Valuation, Grows};
-ghost use Rattle.fs_interpreter.specs.Places.{CoversSteps};
 ghost use Rattle.fs_interpreter.specs.Standing.{Stands, StandsFor};
 ghost use Rattle.fs_interpreter.specs.States.{AreCells, state_of};
 ghost use Rattle.order_places.specs.Places.{exchanged};
 ghost use Rattle.sym_run.specs.Wires.{AreWires, circuit_meanings};
 ghost use Rattle.order_circuit.specs.Codes.{AreRows, node, nodes, part_of};
+ghost use Rattle.order_encode.specs.Forks.{IsFork};
 ghost use Rattle.order_encode.specs.Goals.{AreAllowed, AreFreeNodes, EndApartThen};
 
-use crate::fork::some_pair_differs;
+use crate::asks::Goal;
+use crate::fork::{Fork, some_pair_differs};
+use crate::known::unlike;
+use crate::plan::Plan;
 use bool_circuit::Wire;
 use fs_interpreter::{Bits, Cells};
-use fs_lang::Program;
-use order_circuit::{code_at, run_part, run_place};
+use order_circuit::{Part, code_at, run_part, run_place};
 use order_places::{allowed_orders, places};
-use orders::Order;
-use path_domain::Domain;
 use rh_base::{NoMemory, Seq};
 use std::alloc::Global;
-use sym_run::{Sym, alike};
+use sym_run::Sym;
+
+/// Runs the programs of a plan in the part of an order.
+fn run_plan(
+    alloc: Global,
+    sym: &mut Sym,
+    plan: &Plan<'_>,
+    part: &Part<'_>,
+    start: &Cells<Sym>,
+) -> Result<Cells<Sym>, NoMemory>
+    requires codes { AreRows sym.old part.now.codes.now }
+    requires place { AreWires sym.old part.now.place.now }
+    requires cells { AreCells (circuit_meanings sym.old) start.now }
+    requires places { length start.now.present ≡ length plan.now.domain.table.paths }
+    ensures cells { IfOk result (AreCells (circuit_meanings sym.new)) }
+    ensures places { IfOk result (λ made. length made.present ≡ length plan.now.domain.table.paths) }
+    ensures stands { IfOk result (λ made. (v : Valuation) (o : Outcome)
+        → StandsFor plan.now.domain.table (state_of (circuit_meanings sym.old) v start.now) o
+        → StandsFor plan.now.domain.table (state_of (circuit_meanings sym.new) v made)
+        (and_then o (outcome (map program_of plan.now.programs)
+        (part_of part.now.ahead (node sym.old v part.now.place.now) (nodes sym.old v part.now.codes.now))))) }
+    ensures grows { Grows (circuit_meanings sym.old) (circuit_meanings sym.new) }
+{
+    run_part(alloc, sym, plan.domain, plan.programs, part, start)
+}
 
 /// Runs the two programs that the codes tell, and then what stands from the place on.
 fn run_on(
     alloc: Global,
     sym: &mut Sym,
-    domain: &Domain,
-    programs: &[Program],
-    first: &Seq<Wire>,
-    second: &Seq<Wire>,
-    rest: &[Seq<Wire>],
-    place: &Seq<Wire>,
-    fork: &Cells<Sym>,
+    plan: &Plan<'_>,
+    fork: &Fork<'_>,
+    rest: &Part<'_>,
 ) -> Result<Cells<Sym>, NoMemory>
-    requires first { AreWires sym.old first.now }
-    requires second { AreWires sym.old second.now }
-    requires rest { AreRows sym.old rest.now }
-    requires place { AreWires sym.old place.now }
-    requires cells { AreCells (circuit_meanings sym.old) fork.now }
-    requires places { length fork.now.present ≡ length domain.now.table.paths }
-    requires covers { CoversSteps domain.now.table (programs_in programs.now) }
+    requires fork { IsFork sym.old plan.now.domain.table fork.now }
+    requires rest { AreRows sym.old rest.now.codes.now }
+    requires place { AreWires sym.old rest.now.place.now }
     ensures cells { IfOk result (AreCells (circuit_meanings sym.new)) }
-    ensures places { IfOk result (λ made. length made.present ≡ length domain.now.table.paths) }
+    ensures places { IfOk result (λ made. length made.present ≡ length plan.now.domain.table.paths) }
     ensures stands { IfOk result (λ made. (v : Valuation) (o : Outcome)
-        → StandsFor domain.now.table (state_of (circuit_meanings sym.old) v fork.now) o
-        → StandsFor domain.now.table (state_of (circuit_meanings sym.new) v made)
-        (and_then o (outcome (map program_of programs.now)
-        (node sym.old v first.now ∷ node sym.old v second.now ∷ part_of false (node sym.old v place.now)
-        (nodes sym.old v rest.now))))) }
+        → StandsFor plan.now.domain.table (state_of (circuit_meanings sym.old) v fork.now.cells.now) o
+        → StandsFor plan.now.domain.table (state_of (circuit_meanings sym.new) v made)
+        (and_then o (outcome (map program_of plan.now.programs)
+        (node sym.old v fork.now.first.now ∷ node sym.old v fork.now.second.now
+        ∷ part_of rest.now.ahead (node sym.old v rest.now.place.now) (nodes sym.old v rest.now.codes.now))))) }
     ensures grows { Grows (circuit_meanings sym.old) (circuit_meanings sym.new) }
 {
-    let one = run_place(alloc, sym, domain, programs, first, fork)?;
-    let two = run_place(alloc, sym, domain, programs, second, &one)?;
-    run_part(alloc, sym, domain, programs, rest, place, false, &two)
+    let domain = plan.domain;
+    let programs = plan.programs;
+    let one = run_place(alloc, sym, domain, programs, fork.first, fork.cells)?;
+    let two = run_place(alloc, sym, domain, programs, fork.second, &one)?;
+    run_part(alloc, sym, domain, programs, rest, &two)
+}
+
+/// Whether the runs of the two programs that the codes tell, the one way and the other, and then of what stands from the place
+/// on, end differently.
+fn end_apart_behind(
+    alloc: Global,
+    sym: &mut Sym,
+    plan: &Plan<'_>,
+    fork: &Fork<'_>,
+    rest: &Part<'_>,
+) -> Result<Wire, NoMemory>
+    requires fork { IsFork sym.old plan.now.domain.table fork.now }
+    requires rest { AreRows sym.old rest.now.codes.now }
+    requires place { AreWires sym.old rest.now.place.now }
+    ensures wire { IfOk result (λ w. w.0 < length sym.new) }
+    ensures exact { IfOk result (λ w. (v : Valuation) (o : Outcome)
+        → StandsFor plan.now.domain.table (state_of (circuit_meanings sym.old) v fork.now.cells.now) o
+        → (wire_value sym.new v w.0 ≡ true)
+        ↔ EndApartThen (map program_of plan.now.programs) o (node sym.old v fork.now.first.now)
+        (node sym.old v fork.now.second.now)
+        (part_of rest.now.ahead (node sym.old v rest.now.place.now) (nodes sym.old v rest.now.codes.now))) }
+    ensures grows { Grows (circuit_meanings sym.old) (circuit_meanings sym.new) }
+{
+    let turned = Fork {
+        first: fork.second,
+        second: fork.first,
+        cells: fork.cells,
+    };
+    let one = run_on(alloc, sym, plan, fork, rest)?;
+    let other = run_on(alloc, sym, plan, &turned, rest)?;
+    unlike(sym, plan.domain, &one, &other)
 }
 
 /// Whether the orders end differently in which the two programs that the codes tell come the one way and the other behind the
@@ -71,45 +120,43 @@ fn run_on(
 fn end_apart_from(
     alloc: Global,
     sym: &mut Sym,
-    domain: &Domain,
-    programs: &[Program],
-    order: &Order,
-    first: &Seq<Wire>,
-    second: &Seq<Wire>,
-    rest: &[Seq<Wire>],
-    place: &Seq<Wire>,
-    fork: &Cells<Sym>,
-    firsts: &mut Vec<Wire>,
-) -> Result<Wire, NoMemory>
-    requires count { length programs.now ≡ order.now.count }
-    requires first { AreWires sym.old first.now }
-    requires second { AreWires sym.old second.now }
-    requires rest { AreRows sym.old rest.now }
-    requires place { AreWires sym.old place.now }
-    requires cells { AreCells (circuit_meanings sym.old) fork.now }
-    requires places { length fork.now.present ≡ length domain.now.table.paths }
-    requires covers { CoversSteps domain.now.table (programs_in programs.now) }
-    ensures wire { IfOk result (λ w. w.0 < length sym.new) }
-    ensures exact { IfOk result (λ w. (v : Valuation) (o : Outcome)
-        → StandsFor domain.now.table (state_of (circuit_meanings sym.old) v fork.now) o
-        → AreFreeNodes order.now (node sym.old v first.now) (node sym.old v second.now)
-        → (wire_value sym.new v w.0 ≡ true)
-        ↔ EndApartThen (map program_of programs.now) o (node sym.old v first.now) (node sym.old v second.now)
-        (part_of false (node sym.old v place.now) (nodes sym.old v rest.now))) }
+    plan: &Plan<'_>,
+    fork: &Fork<'_>,
+    rest: &Part<'_>,
+) -> Result<Goal, NoMemory>
+    requires fork { IsFork sym.old plan.now.domain.table fork.now }
+    requires rest { AreRows sym.old rest.now.codes.now }
+    requires place { AreWires sym.old rest.now.place.now }
+    ensures wire { IfOk result (λ g. g.wire.0 < length sym.new) }
+    ensures exact { IfOk result (λ g. (v : Valuation) (o : Outcome)
+        → StandsFor plan.now.domain.table (state_of (circuit_meanings sym.old) v fork.now.cells.now) o
+        → AreFreeNodes plan.now.order (node sym.old v fork.now.first.now) (node sym.old v fork.now.second.now)
+        → (wire_value sym.new v g.wire.0 ≡ true)
+        ↔ EndApartThen (map program_of plan.now.programs) o (node sym.old v fork.now.first.now)
+        (node sym.old v fork.now.second.now)
+        (part_of rest.now.ahead (node sym.old v rest.now.place.now) (nodes sym.old v rest.now.codes.now))) }
     ensures grows { Grows (circuit_meanings sym.old) (circuit_meanings sym.new) }
 {
-    let near = some_pair_differs(
-        alloc, sym, domain, programs, order, first, second, fork, firsts,
-    )?;
-    let one = run_on(
-        alloc, sym, domain, programs, first, second, rest, place, fork,
-    )?;
-    let other = run_on(
-        alloc, sym, domain, programs, second, first, rest, place, fork,
-    )?;
-    let same = alike(sym, domain, &one, &other)?;
-    let apart = sym.not(&same)?;
-    sym.and(&near, &apart)
+    let near = some_pair_differs(alloc, sym, plan, fork)?;
+    let apart = end_apart_behind(alloc, sym, plan, fork, rest)?;
+    let wire = sym.and(&near.wire, &apart)?;
+    Ok(Goal {
+        wire,
+        firsts: near.firsts,
+    })
+}
+
+/// Where an order has no two places its nodes don't end apart.
+fn none_apart(alloc: Global, sym: &mut Sym) -> Result<Goal, NoMemory>
+    ensures wire { IfOk result (λ g. g.wire.0 < length sym.new) }
+    ensures value { IfOk result (λ g. (v : Valuation) → wire_value sym.new v g.wire.0 ≡ false) }
+    ensures grows { Grows (circuit_meanings sym.old) (circuit_meanings sym.new) }
+{
+    let wire = sym.constant(false)?;
+    Ok(Goal {
+        wire,
+        firsts: Vec::new(alloc),
+    })
 }
 
 /// Whether the order that the codes tell, and the same with the nodes at the place and the next exchanged, end differently from
@@ -117,44 +164,53 @@ fn end_apart_from(
 pub(crate) fn end_apart(
     alloc: Global,
     sym: &mut Sym,
-    domain: &Domain,
-    programs: &[Program],
-    order: &Order,
+    plan: &Plan<'_>,
     codes: &[Seq<Wire>],
     place: &Seq<Wire>,
     start: &Cells<Sym>,
-    firsts: &mut Vec<Wire>,
-) -> Result<Wire, NoMemory>
-    requires count { length programs.now ≡ order.now.count }
-    requires long { length codes.now ≡ order.now.count }
+) -> Result<Goal, NoMemory>
+    requires long { length codes.now ≡ plan.now.order.count }
     requires codes { AreRows sym.old codes.now }
     requires place { AreWires sym.old place.now }
     requires cells { AreCells (circuit_meanings sym.old) start.now }
-    requires places { length start.now.present ≡ length domain.now.table.paths }
-    requires covers { CoversSteps domain.now.table (programs_in programs.now) }
-    ensures wire { IfOk result (λ w. w.0 < length sym.new) }
-    ensures exact { IfOk result (λ w. (v : Valuation) (t : Tree)
-        → Stands domain.now.table (state_of (circuit_meanings sym.old) v start.now) t
-        → AreAllowed order.now (node sym.old v place.now) (nodes sym.old v codes.now)
+    requires places { length start.now.present ≡ length plan.now.domain.table.paths }
+    ensures wire { IfOk result (λ g. g.wire.0 < length sym.new) }
+    ensures exact { IfOk result (λ g. (v : Valuation) (t : Tree)
+        → Stands plan.now.domain.table (state_of (circuit_meanings sym.old) v start.now) t
+        → AreAllowed plan.now.order (node sym.old v place.now) (nodes sym.old v codes.now)
         (exchanged (node sym.old v place.now) (nodes sym.old v codes.now))
-        → (wire_value sym.new v w.0 ≡ true)
-        ↔ (outcome (map program_of programs.now) (nodes sym.old v codes.now) t ≢ outcome (map program_of programs.now)
+        → (wire_value sym.new v g.wire.0 ≡ true)
+        ↔ (outcome (map program_of plan.now.programs) (nodes sym.old v codes.now) t
+        ≢ outcome (map program_of plan.now.programs)
         (exchanged (node sym.old v place.now) (nodes sym.old v codes.now)) t)) }
     ensures grows { Grows (circuit_meanings sym.old) (circuit_meanings sym.new) }
 {
     allowed_orders();
     places();
-    let _nodes = order.count();
+    let _nodes = plan.count();
     if codes.len() < 2 {
-        return sym.constant(false);
+        return none_apart(alloc, sym);
     }
     let (front, _) = codes.split_at(codes.len() - 2);
     let (_, seconds) = codes.split_at(1);
     let (_, rest) = codes.split_at(2);
-    let fork = run_part(alloc, sym, domain, programs, front, place, true, start)?;
+    let ahead = Part {
+        codes: front,
+        place,
+        ahead: true,
+    };
+    let cells = run_plan(alloc, sym, plan, &ahead, start)?;
     let first = code_at(sym, codes, place)?;
     let second = code_at(sym, seconds, place)?;
-    end_apart_from(
-        alloc, sym, domain, programs, order, &first, &second, rest, place, &fork, firsts,
-    )
+    let fork = Fork {
+        first: &first,
+        second: &second,
+        cells: &cells,
+    };
+    let behind = Part {
+        codes: rest,
+        place,
+        ahead: false,
+    };
+    end_apart_from(alloc, sym, plan, &fork, &behind)
 }

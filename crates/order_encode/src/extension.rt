@@ -10,7 +10,8 @@ ghost use Rattle.order_encode.specs.declared.witness.Witness.{Witness};
 
 use crate::again::{goal_of_change, goal_of_end};
 use crate::asking::tree_inputs;
-use crate::asks::Asks;
+use crate::asks::{Asks, Goal};
+use crate::plan::Schedule;
 use crate::question::{Question, pose};
 use fs_interpreter::states;
 use fs_lang::Program;
@@ -36,23 +37,23 @@ pub fn ask_twice(
     allowed_orders();
     let first = order.first_extension()?;
     let (mut sym, cells, well) = tree_inputs(alloc, domain)?;
-    let asked = goal_of_change(
-        alloc,
-        &mut sym,
+    let schedule = Schedule {
         domain,
         programs,
-        first.as_slice(),
-        &cells,
-        well,
-    )?;
+        order: first.as_slice(),
+    };
+    let wire = goal_of_change(alloc, &mut sym, &schedule, &cells, well)?;
+    let goal = Goal {
+        wire,
+        firsts: Vec::new(alloc),
+    };
     pose(
         alloc,
         sym,
         cells,
         Asks::Twice { order: first },
-        asked,
+        goal,
         domain,
-        &[],
     )
 }
 
@@ -72,22 +73,15 @@ pub fn ask_some(
     allowed_orders();
     let first = order.first_extension()?;
     let (mut sym, cells, well) = tree_inputs(alloc, domain)?;
-    let asked = goal_of_end(
-        alloc,
-        &mut sym,
+    let schedule = Schedule {
         domain,
         programs,
-        first.as_slice(),
-        &cells,
-        well,
-    )?;
-    pose(
-        alloc,
-        sym,
-        cells,
-        Asks::Ends { order: first },
-        asked,
-        domain,
-        &[],
-    )
+        order: first.as_slice(),
+    };
+    let wire = goal_of_end(alloc, &mut sym, &schedule, &cells, well)?;
+    let goal = Goal {
+        wire,
+        firsts: Vec::new(alloc),
+    };
+    pose(alloc, sym, cells, Asks::Ends { order: first }, goal, domain)
 }

@@ -1,68 +1,67 @@
 //! Whether two programs end apart right behind the place where two orders part: a disjunction over the free pairs. The wires of
 //! the pairs are named, so that a solver tries one pair after the other and refutes each with what it learned of those before.
 
-ghost use Rattle.std.specs.Prelude.{◌≡◌, ◌↔◌, ◌==◌, ◌&&◌, ◌<◌, ℕ, true, map, length, IfOk};
+ghost use Rattle.std.specs.Prelude.{◌≡◌, ◌↔◌, ◌==◌, ◌&&◌, ◌<◌, ℕ, true, map, length, IfOk, OnOk};
 ghost use Rattle.bool_circuit.specs.Gates.{wire_value};
 ghost use Rattle.fs_semantics.specs.Programs.{Outcome};
 ghost use Rattle.fs_semantics.specs.Orders.{IsFree};
-ghost use Rattle.fs_lang.specs.Meaning.{program_of, programs_in};
+ghost use Rattle.fs_lang.specs.Meaning.{program_of};
 ghost use Rattle.fs_interpreter.specs.Meanings.{Valuation, Grows};
-ghost use Rattle.fs_interpreter.specs.Places.{CoversSteps};
 ghost use Rattle.fs_interpreter.specs.Standing.{StandsFor};
 ghost use Rattle.fs_interpreter.specs.States.{AreCells, state_of};
 ghost use Rattle.orders.specs.Relation.{Comes};
 ghost use Rattle.sym_run.specs.Wires.{AreWires, circuit_meanings};
 ghost use Rattle.order_circuit.specs.Codes.{node};
+ghost use Rattle.order_encode.specs.Forks.{IsFork};
 ghost use Rattle.order_encode.specs.Goals.{are_these, AreFreeNodes, EndApartAt};
 
-use crate::known::run_known;
+use crate::asks::Goal;
+use crate::known::{run_known, unlike};
+use crate::plan::{Pair, Plan, Schedule};
 use bool_circuit::Wire;
 use fs_interpreter::{Bits, Cells};
-use fs_lang::Program;
 use order_circuit::tells;
-use orders::Order;
-use path_domain::Domain;
 use rh_base::{NoMemory, Seq};
 use std::alloc::Global;
-use sym_run::{Sym, alike};
+use sym_run::Sym;
 
-/// Whether the one code tells this node and the other that.
-fn tells_both(
-    sym: &mut Sym,
-    i: u32,
-    first: &Seq<Wire>,
-    k: u32,
-    second: &Seq<Wire>,
-) -> Result<Wire, NoMemory>
-    requires first { AreWires sym.old first.now }
-    requires second { AreWires sym.old second.now }
+/// The place where two orders part: the codes of the two nodes there, and what the cells are when it is reached.
+#[derive(Drop)]
+pub(crate) struct Fork<'a> {
+    pub first: &'a Seq<Wire>,
+    pub second: &'a Seq<Wire>,
+    pub cells: &'a Cells<Sym>,
+}
+
+/// Whether the first code tells the one node and the second the other.
+fn tells_both(sym: &mut Sym, nodes: Pair, fork: &Fork<'_>) -> Result<Wire, NoMemory>
+    requires first { AreWires sym.old fork.now.first.now }
+    requires second { AreWires sym.old fork.now.second.now }
     ensures wire { IfOk result (λ w. w.0 < length sym.new) }
-    ensures value { IfOk result (λ w. (v : Valuation)
-        → wire_value sym.new v w.0 ≡ ((i == node sym.old v first.now) && (k == node sym.old v second.now))) }
+    ensures value { IfOk result (λ w. (v : Valuation) → wire_value sym.new v w.0
+        ≡ ((nodes.one == node sym.old v fork.now.first.now) && (nodes.other == node sym.old v fork.now.second.now))) }
     ensures grows { Grows (circuit_meanings sym.old) (circuit_meanings sym.new) }
 {
-    let one = tells(sym, u64::from(i), first)?;
-    let other = tells(sym, u64::from(k), second)?;
+    let one = tells(sym, u64::from(nodes.one), fork.first)?;
+    let other = tells(sym, u64::from(nodes.other), fork.second)?;
     sym.and(&one, &other)
 }
 
 /// Whether the codes tell these two nodes, the one way or the other.
-fn tells_pair(
-    sym: &mut Sym,
-    i: u32,
-    k: u32,
-    first: &Seq<Wire>,
-    second: &Seq<Wire>,
-) -> Result<Wire, NoMemory>
-    requires first { AreWires sym.old first.now }
-    requires second { AreWires sym.old second.now }
+fn tells_pair(sym: &mut Sym, nodes: Pair, fork: &Fork<'_>) -> Result<Wire, NoMemory>
+    requires first { AreWires sym.old fork.now.first.now }
+    requires second { AreWires sym.old fork.now.second.now }
     ensures wire { IfOk result (λ w. w.0 < length sym.new) }
-    ensures value { IfOk result (λ w. (v : Valuation)
-        → wire_value sym.new v w.0 ≡ are_these i k (node sym.old v first.now) (node sym.old v second.now)) }
+    ensures value { IfOk result (λ w. (v : Valuation) → wire_value sym.new v w.0
+        ≡ are_these nodes.one nodes.other (node sym.old v fork.now.first.now) (node sym.old v fork.now.second.now)) }
     ensures grows { Grows (circuit_meanings sym.old) (circuit_meanings sym.new) }
 {
-    let forward = tells_both(sym, i, first, k, second)?;
-    let backward = tells_both(sym, k, first, i, second)?;
+    let turned = Pair {
+        one: nodes.other,
+        other: nodes.one,
+    };
+    let forward = tells_both(sym, nodes, fork)?;
+    let backward = tells_both(sym, turned, fork)?;
     sym.mux(&forward, &forward, &backward)
 }
 
@@ -70,58 +69,58 @@ fn tells_pair(
 pub(crate) fn differ(
     alloc: Global,
     sym: &mut Sym,
-    domain: &Domain,
-    programs: &[Program],
-    i: u32,
-    k: u32,
-    fork: &Cells<Sym>,
+    plan: &Plan<'_>,
+    nodes: Pair,
+    start: &Cells<Sym>,
 ) -> Result<Wire, NoMemory>
-    requires i { i < length programs.now }
-    requires k { k < length programs.now }
-    requires cells { AreCells (circuit_meanings sym.old) fork.now }
-    requires places { length fork.now.present ≡ length domain.now.table.paths }
-    requires covers { CoversSteps domain.now.table (programs_in programs.now) }
+    requires one { nodes.one < plan.now.order.count }
+    requires other { nodes.other < plan.now.order.count }
+    requires cells { AreCells (circuit_meanings sym.old) start.now }
+    requires places { length start.now.present ≡ length plan.now.domain.table.paths }
     ensures wire { IfOk result (λ w. w.0 < length sym.new) }
     ensures exact { IfOk result (λ w. (v : Valuation) (o : Outcome)
-        → StandsFor domain.now.table (state_of (circuit_meanings sym.old) v fork.now) o
-        → (wire_value sym.new v w.0 ≡ true) ↔ EndApartAt (map program_of programs.now) o i k) }
+        → StandsFor plan.now.domain.table (state_of (circuit_meanings sym.old) v start.now) o
+        → (wire_value sym.new v w.0 ≡ true) ↔ EndApartAt (map program_of plan.now.programs) o nodes.one nodes.other) }
     ensures grows { Grows (circuit_meanings sym.old) (circuit_meanings sym.new) }
 {
-    let one = run_known(alloc, sym, domain, programs, &[i, k], fork)?;
-    let other = run_known(alloc, sym, domain, programs, &[k, i], fork)?;
-    let same = alike(sym, domain, &one, &other)?;
-    sym.not(&same)
+    let domain = plan.domain;
+    let programs = plan.programs;
+    let forward = Schedule {
+        domain,
+        programs,
+        order: &[nodes.one, nodes.other],
+    };
+    let backward = Schedule {
+        domain,
+        programs,
+        order: &[nodes.other, nodes.one],
+    };
+    let one = run_known(alloc, sym, &forward, start)?;
+    let other = run_known(alloc, sym, &backward, start)?;
+    unlike(sym, domain, &one, &other)
 }
 
 /// Whether the codes tell these two nodes, whose programs end apart.
 fn pair_differs(
     alloc: Global,
     sym: &mut Sym,
-    domain: &Domain,
-    programs: &[Program],
-    i: u32,
-    k: u32,
-    first: &Seq<Wire>,
-    second: &Seq<Wire>,
-    fork: &Cells<Sym>,
+    plan: &Plan<'_>,
+    nodes: Pair,
+    fork: &Fork<'_>,
 ) -> Result<Wire, NoMemory>
-    requires i { i < length programs.now }
-    requires k { k < length programs.now }
-    requires first { AreWires sym.old first.now }
-    requires second { AreWires sym.old second.now }
-    requires cells { AreCells (circuit_meanings sym.old) fork.now }
-    requires places { length fork.now.present ≡ length domain.now.table.paths }
-    requires covers { CoversSteps domain.now.table (programs_in programs.now) }
+    requires one { nodes.one < plan.now.order.count }
+    requires other { nodes.other < plan.now.order.count }
+    requires fork { IsFork sym.old plan.now.domain.table fork.now }
     ensures wire { IfOk result (λ w. w.0 < length sym.new) }
     ensures exact { IfOk result (λ w. (v : Valuation) (o : Outcome)
-        → StandsFor domain.now.table (state_of (circuit_meanings sym.old) v fork.now) o
+        → StandsFor plan.now.domain.table (state_of (circuit_meanings sym.old) v fork.now.cells.now) o
         → (wire_value sym.new v w.0 ≡ true)
-        ↔ ((are_these i k (node sym.old v first.now) (node sym.old v second.now) ≡ true)
-        × EndApartAt (map program_of programs.now) o i k)) }
+        ↔ ((are_these nodes.one nodes.other (node sym.old v fork.now.first.now) (node sym.old v fork.now.second.now) ≡ true)
+        × EndApartAt (map program_of plan.now.programs) o nodes.one nodes.other)) }
     ensures grows { Grows (circuit_meanings sym.old) (circuit_meanings sym.new) }
 {
-    let told = tells_pair(sym, i, k, first, second)?;
-    let apart = differ(alloc, sym, domain, programs, i, k, fork)?;
+    let told = tells_pair(sym, nodes, fork)?;
+    let apart = differ(alloc, sym, plan, nodes, fork.cells)?;
     sym.and(&told, &apart)
 }
 
@@ -130,86 +129,63 @@ fn pair_differs(
 fn with_pair(
     alloc: Global,
     sym: &mut Sym,
-    domain: &Domain,
-    programs: &[Program],
-    order: &Order,
-    i: u32,
-    k: u32,
-    first: &Seq<Wire>,
-    second: &Seq<Wire>,
-    fork: &Cells<Sym>,
-    any: Wire,
-    firsts: &mut Vec<Wire>,
-) -> Result<Wire, NoMemory>
-    requires count { length programs.now ≡ order.now.count }
-    requires i { i < order.now.count }
-    requires k { k < order.now.count }
-    requires first { AreWires sym.old first.now }
-    requires second { AreWires sym.old second.now }
-    requires cells { AreCells (circuit_meanings sym.old) fork.now }
-    requires places { length fork.now.present ≡ length domain.now.table.paths }
-    requires covers { CoversSteps domain.now.table (programs_in programs.now) }
-    requires any { any.0 < length sym.old }
-    ensures wire { IfOk result (λ w. w.0 < length sym.new) }
-    ensures stays { IfOk result (λ w. (v : Valuation) → wire_value sym.old v any.0 ≡ true → wire_value sym.new v w.0 ≡ true) }
-    ensures found { IfOk result (λ w. (v : Valuation) (o : Outcome)
-        → StandsFor domain.now.table (state_of (circuit_meanings sym.old) v fork.now) o
-        → IsFree (Comes order.now) i k → are_these i k (node sym.old v first.now) (node sym.old v second.now) ≡ true
-        → EndApartAt (map program_of programs.now) o i k → wire_value sym.new v w.0 ≡ true) }
+    plan: &Plan<'_>,
+    nodes: Pair,
+    fork: &Fork<'_>,
+    goal: &mut Goal,
+) -> Result<(), NoMemory>
+    requires one { nodes.one < plan.now.order.count }
+    requires other { nodes.other < plan.now.order.count }
+    requires fork { IsFork sym.old plan.now.domain.table fork.now }
+    requires goal { goal.old.wire.0 < length sym.old }
+    ensures wire { OnOk result (goal.new.wire.0 < length sym.new) }
+    ensures stays { OnOk result ((v : Valuation) → wire_value sym.old v goal.old.wire.0 ≡ true
+        → wire_value sym.new v goal.new.wire.0 ≡ true) }
+    ensures found { OnOk result ((v : Valuation) (o : Outcome)
+        → StandsFor plan.now.domain.table (state_of (circuit_meanings sym.old) v fork.now.cells.now) o
+        → IsFree (Comes plan.now.order) nodes.one nodes.other
+        → are_these nodes.one nodes.other (node sym.old v fork.now.first.now) (node sym.old v fork.now.second.now) ≡ true
+        → EndApartAt (map program_of plan.now.programs) o nodes.one nodes.other
+        → wire_value sym.new v goal.new.wire.0 ≡ true) }
     ensures grows { Grows (circuit_meanings sym.old) (circuit_meanings sym.new) }
 {
-    let ahead = order.before(i, k);
-    let behind = order.before(k, i);
-    if ahead {
-        return Ok(any);
+    if !plan.free(nodes) {
+        return Ok(());
     }
-    if behind {
-        return Ok(any);
-    }
-    let one = pair_differs(alloc, sym, domain, programs, i, k, first, second, fork)?;
-    firsts.push(one)?;
-    sym.mux(&any, &any, &one)
+    let one = pair_differs(alloc, sym, plan, nodes, fork)?;
+    goal.firsts.push(one)?;
+    let any = goal.wire;
+    goal.wire = sym.mux(&any, &any, &one)?;
+    Ok(())
 }
 
 /// Whether it is so already, or the codes tell this node and a later one, and their programs end apart.
 fn with_row(
     alloc: Global,
     sym: &mut Sym,
-    domain: &Domain,
-    programs: &[Program],
-    order: &Order,
+    plan: &Plan<'_>,
     i: u32,
-    first: &Seq<Wire>,
-    second: &Seq<Wire>,
-    fork: &Cells<Sym>,
-    so_far: Wire,
-    firsts: &mut Vec<Wire>,
-) -> Result<Wire, NoMemory>
-    requires count { length programs.now ≡ order.now.count }
-    requires i { i < order.now.count }
-    requires first { AreWires sym.old first.now }
-    requires second { AreWires sym.old second.now }
-    requires cells { AreCells (circuit_meanings sym.old) fork.now }
-    requires places { length fork.now.present ≡ length domain.now.table.paths }
-    requires covers { CoversSteps domain.now.table (programs_in programs.now) }
-    requires so_far { so_far.0 < length sym.old }
-    ensures wire { IfOk result (λ w. w.0 < length sym.new) }
-    ensures stays { IfOk result (λ w. (v : Valuation) → wire_value sym.old v so_far.0 ≡ true → wire_value sym.new v w.0 ≡ true) }
-    ensures found { IfOk result (λ w. (v : Valuation) (o : Outcome)
-        → StandsFor domain.now.table (state_of (circuit_meanings sym.old) v fork.now) o
-        → (k : ℕ) → i < k → k < order.now.count → IsFree (Comes order.now) i k
-        → are_these i k (node sym.old v first.now) (node sym.old v second.now) ≡ true
-        → EndApartAt (map program_of programs.now) o i k → wire_value sym.new v w.0 ≡ true) }
+    fork: &Fork<'_>,
+    goal: &mut Goal,
+) -> Result<(), NoMemory>
+    requires i { i < plan.now.order.count }
+    requires fork { IsFork sym.old plan.now.domain.table fork.now }
+    requires goal { goal.old.wire.0 < length sym.old }
+    ensures wire { OnOk result (goal.new.wire.0 < length sym.new) }
+    ensures stays { OnOk result ((v : Valuation) → wire_value sym.old v goal.old.wire.0 ≡ true
+        → wire_value sym.new v goal.new.wire.0 ≡ true) }
+    ensures found { OnOk result ((v : Valuation) (o : Outcome)
+        → StandsFor plan.now.domain.table (state_of (circuit_meanings sym.old) v fork.now.cells.now) o
+        → (k : ℕ) → i < k → k < plan.now.order.count → IsFree (Comes plan.now.order) i k
+        → are_these i k (node sym.old v fork.now.first.now) (node sym.old v fork.now.second.now) ≡ true
+        → EndApartAt (map program_of plan.now.programs) o i k → wire_value sym.new v goal.new.wire.0 ≡ true) }
     ensures grows { Grows (circuit_meanings sym.old) (circuit_meanings sym.new) }
 {
-    let n = order.count();
-    let mut any = so_far;
+    let n = plan.count();
     for k in i + 1..n {
-        any = with_pair(
-            alloc, sym, domain, programs, order, i, k, first, second, fork, any, firsts,
-        )?;
+        with_pair(alloc, sym, plan, Pair { one: i, other: k }, fork, goal)?;
     }
-    Ok(any)
+    Ok(())
 }
 
 /// Where the nodes that the codes tell are free, and their programs end apart from the cells, the one way and the other, this
@@ -217,33 +193,26 @@ fn with_row(
 pub(crate) fn some_pair_differs(
     alloc: Global,
     sym: &mut Sym,
-    domain: &Domain,
-    programs: &[Program],
-    order: &Order,
-    first: &Seq<Wire>,
-    second: &Seq<Wire>,
-    fork: &Cells<Sym>,
-    firsts: &mut Vec<Wire>,
-) -> Result<Wire, NoMemory>
-    requires count { length programs.now ≡ order.now.count }
-    requires first { AreWires sym.old first.now }
-    requires second { AreWires sym.old second.now }
-    requires cells { AreCells (circuit_meanings sym.old) fork.now }
-    requires places { length fork.now.present ≡ length domain.now.table.paths }
-    requires covers { CoversSteps domain.now.table (programs_in programs.now) }
-    ensures wire { IfOk result (λ w. w.0 < length sym.new) }
-    ensures found { IfOk result (λ w. (v : Valuation) (o : Outcome)
-        → StandsFor domain.now.table (state_of (circuit_meanings sym.old) v fork.now) o
-        → AreFreeNodes order.now (node sym.old v first.now) (node sym.old v second.now)
-        → EndApartAt (map program_of programs.now) o (node sym.old v first.now) (node sym.old v second.now)
-        → wire_value sym.new v w.0 ≡ true) }
+    plan: &Plan<'_>,
+    fork: &Fork<'_>,
+) -> Result<Goal, NoMemory>
+    requires fork { IsFork sym.old plan.now.domain.table fork.now }
+    ensures wire { IfOk result (λ g. g.wire.0 < length sym.new) }
+    ensures found { IfOk result (λ g. (v : Valuation) (o : Outcome)
+        → StandsFor plan.now.domain.table (state_of (circuit_meanings sym.old) v fork.now.cells.now) o
+        → AreFreeNodes plan.now.order (node sym.old v fork.now.first.now) (node sym.old v fork.now.second.now)
+        → EndApartAt (map program_of plan.now.programs) o (node sym.old v fork.now.first.now)
+        (node sym.old v fork.now.second.now)
+        → wire_value sym.new v g.wire.0 ≡ true) }
     ensures grows { Grows (circuit_meanings sym.old) (circuit_meanings sym.new) }
 {
-    let mut any = sym.constant(false)?;
-    for i in 0..order.count() {
-        any = with_row(
-            alloc, sym, domain, programs, order, i, first, second, fork, any, firsts,
-        )?;
+    let wire = sym.constant(false)?;
+    let mut goal = Goal {
+        wire,
+        firsts: Vec::new(alloc),
+    };
+    for i in 0..plan.count() {
+        with_row(alloc, sym, plan, i, fork, &mut goal)?;
     }
-    Ok(any)
+    Ok(goal)
 }

@@ -2,9 +2,8 @@
 
 ghost use Rattle.std.specs.Prelude.{◌≡◌, ◌↔◌, ◌<◌, true, map, length, IfOk};
 ghost use Rattle.bool_circuit.specs.Gates.{wire_value};
-ghost use Rattle.fs_lang.specs.Meaning.{program_of, programs_in};
+ghost use Rattle.fs_lang.specs.Meaning.{program_of};
 ghost use Rattle.fs_interpreter.specs.Meanings.{Valuation, Grows};
-ghost use Rattle.fs_interpreter.specs.Places.{CoversSteps};
 ghost use Rattle.order_places.specs.Places.{exchanged};
 ghost use Rattle.sym_run.specs.Wires.{AreWires, circuit_meanings};
 ghost use Rattle.order_circuit.specs.Codes.{AreRows, node, nodes};
@@ -12,13 +11,13 @@ ghost use Rattle.order_encode.specs.Goals.{AreAllowed, EndApart, TellsTree};
 ghost use Rattle.order_encode.specs.Asking.{IsAsking};
 
 use crate::asking::Asking;
+use crate::asks::Goal;
 use crate::ends::end_apart;
+use crate::plan::Plan;
 use bool_circuit::Wire;
 use fs_interpreter::Bits;
-use fs_lang::Program;
 use order_circuit::{exchanged_codes, in_order};
 use orders::Order;
-use path_domain::Domain;
 use rh_base::{NoMemory, Seq};
 use std::alloc::Global;
 use sym_run::{Sym, is_below};
@@ -53,36 +52,33 @@ fn allowed(
 pub(crate) fn goal(
     alloc: Global,
     sym: &mut Sym,
-    domain: &Domain,
-    programs: &[Program],
-    order: &Order,
+    plan: &Plan<'_>,
     asking: &Asking,
-    firsts: &mut Vec<Wire>,
-) -> Result<Wire, NoMemory>
-    requires asking { IsAsking sym.old domain.now order.now.count asking.now }
-    requires covers { CoversSteps domain.now.table (programs_in programs.now) }
-    requires count { length programs.now ≡ order.now.count }
-    ensures wire { IfOk result (λ w. w.0 < length sym.new) }
-    ensures exact { IfOk result (λ w. (v : Valuation) → (wire_value sym.new v w.0 ≡ true) ↔ TellsTree domain.now sym.old asking.now.cells
-        (EndApart (map program_of programs.now) order.now (node sym.old v asking.now.place)
+) -> Result<Goal, NoMemory>
+    requires asking { IsAsking sym.old plan.now.domain plan.now.order.count asking.now }
+    ensures wire { IfOk result (λ g. g.wire.0 < length sym.new) }
+    ensures exact { IfOk result (λ g. (v : Valuation) → (wire_value sym.new v g.wire.0 ≡ true)
+        ↔ TellsTree plan.now.domain sym.old asking.now.cells
+        (EndApart (map program_of plan.now.programs) plan.now.order (node sym.old v asking.now.place)
         (nodes sym.old v asking.now.codes)
         (exchanged (node sym.old v asking.now.place) (nodes sym.old v asking.now.codes))) v) }
     ensures grows { Grows (circuit_meanings sym.old) (circuit_meanings sym.new) }
 {
     let left = asking.codes.as_slice();
     let right = exchanged_codes(alloc, sym, left, &asking.place)?;
-    let fine = allowed(alloc, sym, order, left, right.as_slice(), &asking.place)?;
-    let both = sym.and(&asking.well, &fine)?;
-    let differ = end_apart(
+    let fine = allowed(
         alloc,
         sym,
-        domain,
-        programs,
-        order,
+        plan.order,
         left,
+        right.as_slice(),
         &asking.place,
-        &asking.cells,
-        firsts,
     )?;
-    sym.and(&both, &differ)
+    let both = sym.and(&asking.well, &fine)?;
+    let differ = end_apart(alloc, sym, plan, left, &asking.place, &asking.cells)?;
+    let wire = sym.and(&both, &differ.wire)?;
+    Ok(Goal {
+        wire,
+        firsts: differ.firsts,
+    })
 }

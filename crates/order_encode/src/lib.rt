@@ -20,6 +20,7 @@ mod missing;
 mod order;
 mod pairs;
 mod parting;
+mod plan;
 mod question;
 mod read;
 mod table;

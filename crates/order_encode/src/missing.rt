@@ -1,7 +1,6 @@
 //! The question whether the first extension ends in a tree without a wanted entry.
 
 ghost use Rattle.std.specs.Prelude.{◌≡◌, ◌↔◌, ◌<◌, true, map, length, IfOk};
-ghost use Rattle.std.specs.List.{AllByRecursion};
 ghost use Rattle.bool_circuit.specs.Gates.{wire_value};
 ghost use Rattle.cnf.specs.Formulas.{IsSatisfiable};
 ghost use Rattle.fs_semantics.specs.FileTree.{Tree};
@@ -18,8 +17,9 @@ ghost use Rattle.order_encode.specs.Missing.{EndsMissing, HasMissing, ShowsMissi
 ghost use Rattle.order_encode.specs.declared.witness.Witness.{Witness};
 
 use crate::asking::tree_inputs;
-use crate::asks::Asks;
+use crate::asks::{Asks, Goal};
 use crate::known::run_known;
+use crate::plan::Schedule;
 use crate::question::{Question, pose};
 use crate::wanted::has_wanted;
 use bool_circuit::Wire;
@@ -37,26 +37,22 @@ use wanted_entry::Wanted;
 fn misses(
     alloc: Global,
     sym: &mut Sym,
-    domain: &Domain,
-    programs: &[Program],
-    order: &[u32],
+    schedule: &Schedule<'_>,
     wanted: &Wanted,
     start: &Cells<Sym>,
 ) -> Result<Wire, NoMemory>
-    requires nodes { AllByRecursion (λ k. k < length programs.now) order.now }
     requires cells { AreCells (circuit_meanings sym.old) start.now }
-    requires places { length start.now.present ≡ length domain.now.table.paths }
-    requires covers { CoversSteps domain.now.table (programs_in programs.now) }
+    requires places { length start.now.present ≡ length schedule.now.domain.table.paths }
     ensures wire { IfOk result (λ w. w.0 < length sym.new) }
     ensures exact { IfOk result (λ w. (v : Valuation) (t : Tree)
-        → Stands domain.now.table (state_of (circuit_meanings sym.old) v start.now) t
-        → (wire_value sym.new v w.0 ≡ true) ↔ EndsMissing (map program_of programs.now) order.now wanted.now t) }
+        → Stands schedule.now.domain.table (state_of (circuit_meanings sym.old) v start.now) t
+        → (wire_value sym.new v w.0 ≡ true) ↔ EndsMissing (map program_of schedule.now.programs) schedule.now.order wanted.now t) }
     ensures grows { Grows (circuit_meanings sym.old) (circuit_meanings sym.new) }
 {
-    domain.table.is_table();
+    schedule.domain.table.is_table();
     searches();
-    let made = run_known(alloc, sym, domain, programs, order, start)?;
-    let has = has_wanted(sym, &domain.table, &made, wanted)?;
+    let made = run_known(alloc, sym, schedule, start)?;
+    let has = has_wanted(sym, &schedule.domain.table, &made, wanted)?;
     let missing = sym.not(&has)?;
     let ended = sym.not(&made.error)?;
     sym.and(&ended, &missing)
@@ -66,22 +62,18 @@ fn misses(
 fn goal_of_missing(
     alloc: Global,
     sym: &mut Sym,
-    domain: &Domain,
-    programs: &[Program],
-    order: &[u32],
+    schedule: &Schedule<'_>,
     wanted: &Wanted,
     start: &Cells<Sym>,
     well: Wire,
 ) -> Result<Wire, NoMemory>
-    requires nodes { AllByRecursion (λ k. k < length programs.now) order.now }
-    requires trees { AreTrees sym.old domain.now start.now well }
-    requires covers { CoversSteps domain.now.table (programs_in programs.now) }
+    requires trees { AreTrees sym.old schedule.now.domain start.now well }
     ensures wire { IfOk result (λ w. w.0 < length sym.new) }
     ensures exact { IfOk result (λ w. (v : Valuation) → (wire_value sym.new v w.0 ≡ true)
-        ↔ TellsTree domain.now sym.old start.now (EndsMissing (map program_of programs.now) order.now wanted.now) v) }
+        ↔ TellsTree schedule.now.domain sym.old start.now (EndsMissing (map program_of schedule.now.programs) schedule.now.order wanted.now) v) }
     ensures grows { Grows (circuit_meanings sym.old) (circuit_meanings sym.new) }
 {
-    let missed = misses(alloc, sym, domain, programs, order, wanted, start)?;
+    let missed = misses(alloc, sym, schedule, wanted, start)?;
     sym.and(&well, &missed)
 }
 
@@ -103,23 +95,15 @@ pub fn ask_missing(
     allowed_orders();
     let first = order.first_extension()?;
     let (mut sym, cells, well) = tree_inputs(alloc, domain)?;
-    let asked = goal_of_missing(
-        alloc,
-        &mut sym,
+    let schedule = Schedule {
         domain,
         programs,
-        first.as_slice(),
-        wanted,
-        &cells,
-        well,
-    )?;
-    pose(
-        alloc,
-        sym,
-        cells,
-        Asks::Ends { order: first },
-        asked,
-        domain,
-        &[],
-    )
+        order: first.as_slice(),
+    };
+    let wire = goal_of_missing(alloc, &mut sym, &schedule, wanted, &cells, well)?;
+    let goal = Goal {
+        wire,
+        firsts: Vec::new(alloc),
+    };
+    pose(alloc, sym, cells, Asks::Ends { order: first }, goal, domain)
 }

@@ -16,6 +16,7 @@ ghost use Rattle.order_encode.specs.declared.witness.Witness.{Witness};
 use crate::asking::{Asking, order_inputs};
 use crate::asks::Asks;
 use crate::goal::goal;
+use crate::plan::Plan;
 use crate::question::{Question, pose};
 use bool_circuit::Wire;
 use fs_interpreter::states;
@@ -62,17 +63,13 @@ pub fn ask_order(
     neighbours();
     let mut sym = Sym::new(alloc)?;
     let inputs = order_inputs(alloc, &mut sym, domain, order.count())?;
-    let mut firsts = Vec::new(alloc);
-    let asked = goal(
-        alloc,
-        &mut sym,
+    let plan = Plan {
         domain,
         programs,
         order,
-        &inputs,
-        &mut firsts,
-    )?;
-    try_last_place(inputs.place.as_slice(), order.count(), &mut firsts)?;
+    };
+    let mut asked = goal(alloc, &mut sym, &plan, &inputs)?;
+    try_last_place(inputs.place.as_slice(), order.count(), &mut asked.firsts)?;
     let Asking {
         cells,
         codes,
@@ -86,6 +83,5 @@ pub fn ask_order(
         Asks::Orders { codes, place },
         asked,
         domain,
-        &firsts,
     )
 }

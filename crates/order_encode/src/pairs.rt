@@ -6,7 +6,7 @@
 //! tried beside it, and where it is refuted the next one is that of the next pair. All are asked from the same cells, since
 //! what is learned of one serves the next only where they share these. What other ways took stands in bench/NOTES.md.
 
-ghost use Rattle.std.specs.Prelude.{◌≡◌, ◌↔◌, ◌⊎◌, ◌<◌, true, map, length, Some, IfOk};
+ghost use Rattle.std.specs.Prelude.{◌≡◌, ◌↔◌, ◌⊎◌, ◌<◌, true, map, length, Some, IfOk, OnOk};
 ghost use Rattle.bool_circuit.specs.Gates.{wire_value};
 ghost use Rattle.cnf.specs.Formulas.{IsSatisfiable};
 ghost use Rattle.fs_semantics.specs.Programs.{Outcome};
@@ -23,7 +23,9 @@ ghost use Rattle.order_encode.specs.Goals.{EndApartAt, ApartBehind, ApartBelow, 
 ghost use Rattle.order_encode.specs.Witnesses.{HasApartPair};
 
 use crate::asking::tree_inputs;
+use crate::asks::Goal;
 use crate::fork::differ;
+use crate::plan::{Pair, Plan};
 use bool_circuit::Wire;
 use cnf::{Cnf, Lit, from_circuit_with};
 use fs_interpreter::{Bits, Cells};
@@ -39,124 +41,112 @@ use sym_run::Sym;
 fn or_apart(
     alloc: Global,
     sym: &mut Sym,
-    domain: &Domain,
-    programs: &[Program],
-    order: &Order,
-    i: u32,
-    k: u32,
+    plan: &Plan<'_>,
+    nodes: Pair,
     start: &Cells<Sym>,
-    any: Wire,
-    firsts: &mut Vec<Wire>,
-) -> Result<Wire, NoMemory>
-    requires count { length programs.now ≡ order.now.count }
-    requires i { i < order.now.count }
-    requires k { k < order.now.count }
+    goal: &mut Goal,
+) -> Result<(), NoMemory>
+    requires one { nodes.one < plan.now.order.count }
+    requires other { nodes.other < plan.now.order.count }
     requires cells { AreCells (circuit_meanings sym.old) start.now }
-    requires places { length start.now.present ≡ length domain.now.table.paths }
-    requires covers { CoversSteps domain.now.table (programs_in programs.now) }
-    requires any { any.0 < length sym.old }
-    ensures wire { IfOk result (λ w. w.0 < length sym.new) }
-    ensures exact { IfOk result (λ w. (v : Valuation) (o : Outcome)
-        → StandsFor domain.now.table (state_of (circuit_meanings sym.old) v start.now) o
-        → (wire_value sym.new v w.0 ≡ true)
-        ↔ ((wire_value sym.old v any.0 ≡ true)
-        ⊎ (IsFree (Comes order.now) i k × EndApartAt (map program_of programs.now) o i k))) }
+    requires places { length start.now.present ≡ length plan.now.domain.table.paths }
+    requires goal { goal.old.wire.0 < length sym.old }
+    ensures wire { OnOk result (goal.new.wire.0 < length sym.new) }
+    ensures exact { OnOk result ((v : Valuation) (o : Outcome)
+        → StandsFor plan.now.domain.table (state_of (circuit_meanings sym.old) v start.now) o
+        → (wire_value sym.new v goal.new.wire.0 ≡ true)
+        ↔ ((wire_value sym.old v goal.old.wire.0 ≡ true)
+        ⊎ (IsFree (Comes plan.now.order) nodes.one nodes.other
+        × EndApartAt (map program_of plan.now.programs) o nodes.one nodes.other))) }
     ensures grows { Grows (circuit_meanings sym.old) (circuit_meanings sym.new) }
 {
-    if !order.free(i, k) {
-        return Ok(any);
+    if !plan.free(nodes) {
+        return Ok(());
     }
-    let one = differ(alloc, sym, domain, programs, i, k, start)?;
+    let one = differ(alloc, sym, plan, nodes, start)?;
+    let any = goal.wire;
     let more = sym.mux(&any, &any, &one)?;
-    firsts.push(more)?;
-    Ok(more)
+    goal.firsts.push(more)?;
+    goal.wire = more;
+    Ok(())
 }
 
 /// Whether it is so already, or this node and a later one end apart.
 fn or_row_apart(
     alloc: Global,
     sym: &mut Sym,
-    domain: &Domain,
-    programs: &[Program],
-    order: &Order,
+    plan: &Plan<'_>,
     i: u32,
     start: &Cells<Sym>,
-    so_far: Wire,
-    firsts: &mut Vec<Wire>,
-) -> Result<Wire, NoMemory>
-    requires count { length programs.now ≡ order.now.count }
-    requires i { i < order.now.count }
+    goal: &mut Goal,
+) -> Result<(), NoMemory>
+    requires i { i < plan.now.order.count }
     requires cells { AreCells (circuit_meanings sym.old) start.now }
-    requires places { length start.now.present ≡ length domain.now.table.paths }
-    requires covers { CoversSteps domain.now.table (programs_in programs.now) }
-    requires so_far { so_far.0 < length sym.old }
-    ensures wire { IfOk result (λ w. w.0 < length sym.new) }
-    ensures exact { IfOk result (λ w. (v : Valuation) (o : Outcome)
-        → StandsFor domain.now.table (state_of (circuit_meanings sym.old) v start.now) o
-        → (wire_value sym.new v w.0 ≡ true)
-        ↔ ((wire_value sym.old v so_far.0 ≡ true)
-        ⊎ ApartBehind (map program_of programs.now) order.now o i order.now.count)) }
+    requires places { length start.now.present ≡ length plan.now.domain.table.paths }
+    requires goal { goal.old.wire.0 < length sym.old }
+    ensures wire { OnOk result (goal.new.wire.0 < length sym.new) }
+    ensures exact { OnOk result ((v : Valuation) (o : Outcome)
+        → StandsFor plan.now.domain.table (state_of (circuit_meanings sym.old) v start.now) o
+        → (wire_value sym.new v goal.new.wire.0 ≡ true)
+        ↔ ((wire_value sym.old v goal.old.wire.0 ≡ true)
+        ⊎ ApartBehind (map program_of plan.now.programs) plan.now.order o i plan.now.order.count)) }
     ensures grows { Grows (circuit_meanings sym.old) (circuit_meanings sym.new) }
 {
-    let n = order.count();
-    let mut any = so_far;
+    let n = plan.count();
     for k in i + 1..n {
-        any = or_apart(
-            alloc, sym, domain, programs, order, i, k, start, any, firsts,
-        )?;
+        or_apart(alloc, sym, plan, Pair { one: i, other: k }, start, goal)?;
     }
-    Ok(any)
+    Ok(())
 }
 
 /// Whether two programs, neither of which comes before the other, end apart from the cells.
 fn some_apart(
     alloc: Global,
     sym: &mut Sym,
-    domain: &Domain,
-    programs: &[Program],
-    order: &Order,
+    plan: &Plan<'_>,
     start: &Cells<Sym>,
-    firsts: &mut Vec<Wire>,
-) -> Result<Wire, NoMemory>
-    requires count { length programs.now ≡ order.now.count }
+) -> Result<Goal, NoMemory>
     requires cells { AreCells (circuit_meanings sym.old) start.now }
-    requires places { length start.now.present ≡ length domain.now.table.paths }
-    requires covers { CoversSteps domain.now.table (programs_in programs.now) }
-    ensures wire { IfOk result (λ w. w.0 < length sym.new) }
-    ensures exact { IfOk result (λ w. (v : Valuation) (o : Outcome)
-        → StandsFor domain.now.table (state_of (circuit_meanings sym.old) v start.now) o
-        → (wire_value sym.new v w.0 ≡ true) ↔ ApartBelow (map program_of programs.now) order.now o order.now.count) }
+    requires places { length start.now.present ≡ length plan.now.domain.table.paths }
+    ensures wire { IfOk result (λ g. g.wire.0 < length sym.new) }
+    ensures exact { IfOk result (λ g. (v : Valuation) (o : Outcome)
+        → StandsFor plan.now.domain.table (state_of (circuit_meanings sym.old) v start.now) o
+        → (wire_value sym.new v g.wire.0 ≡ true)
+        ↔ ApartBelow (map program_of plan.now.programs) plan.now.order o plan.now.order.count) }
     ensures grows { Grows (circuit_meanings sym.old) (circuit_meanings sym.new) }
 {
-    let mut any = sym.constant(false)?;
-    for i in 0..order.count() {
-        any = or_row_apart(alloc, sym, domain, programs, order, i, start, any, firsts)?;
+    let wire = sym.constant(false)?;
+    let mut goal = Goal {
+        wire,
+        firsts: Vec::new(alloc),
+    };
+    for i in 0..plan.count() {
+        or_row_apart(alloc, sym, plan, i, start, &mut goal)?;
     }
-    Ok(any)
+    Ok(goal)
 }
 
 /// Whether the inputs tell a tree over the domain from which two programs, neither of which comes before the other, end apart.
 fn goal_of_pairs(
     alloc: Global,
     sym: &mut Sym,
-    domain: &Domain,
-    programs: &[Program],
-    order: &Order,
+    plan: &Plan<'_>,
     start: &Cells<Sym>,
     well: Wire,
-    firsts: &mut Vec<Wire>,
-) -> Result<Wire, NoMemory>
-    requires count { length programs.now ≡ order.now.count }
-    requires trees { AreTrees sym.old domain.now start.now well }
-    requires covers { CoversSteps domain.now.table (programs_in programs.now) }
-    ensures wire { IfOk result (λ w. w.0 < length sym.new) }
-    ensures exact { IfOk result (λ w. (v : Valuation) → (wire_value sym.new v w.0 ≡ true)
-        ↔ TellsTree domain.now sym.old start.now
-        (λ t. ApartBelow (map program_of programs.now) order.now (Some t) order.now.count) v) }
+) -> Result<Goal, NoMemory>
+    requires trees { AreTrees sym.old plan.now.domain start.now well }
+    ensures wire { IfOk result (λ g. g.wire.0 < length sym.new) }
+    ensures exact { IfOk result (λ g. (v : Valuation) → (wire_value sym.new v g.wire.0 ≡ true)
+        ↔ TellsTree plan.now.domain sym.old start.now
+        (λ t. ApartBelow (map program_of plan.now.programs) plan.now.order (Some t) plan.now.order.count) v) }
     ensures grows { Grows (circuit_meanings sym.old) (circuit_meanings sym.new) }
 {
-    let apart = some_apart(alloc, sym, domain, programs, order, start, firsts)?;
-    sym.and(&well, &apart)
+    let apart = some_apart(alloc, sym, plan, start)?;
+    let wire = sym.and(&well, &apart.wire)?;
+    Ok(Goal {
+        wire,
+        firsts: apart.firsts,
+    })
 }
 
 /// Whether two programs, neither of which comes before the other, end differently the one way and the other from a tree over the
@@ -174,16 +164,11 @@ pub fn ask_pairs(
     ensures { IfOk result (λ r. IsSatisfiable r.0 ↔ HasApartPair (map program_of programs.now) (Comes order.now) domain.now) }
 {
     let (mut sym, cells, well) = tree_inputs(alloc, domain)?;
-    let mut firsts = Vec::new(alloc);
-    let asked = goal_of_pairs(
-        alloc,
-        &mut sym,
+    let plan = Plan {
         domain,
         programs,
         order,
-        &cells,
-        well,
-        &mut firsts,
-    )?;
-    from_circuit_with(alloc, sym.circuit(), asked, &firsts)
+    };
+    let asked = goal_of_pairs(alloc, &mut sym, &plan, &cells, well)?;
+    from_circuit_with(alloc, sym.circuit(), asked.wire, &asked.firsts)
 }

@@ -19,8 +19,9 @@ ghost use Rattle.order_encode.specs.Parting.{EndDifferently, HaveParting, ShowsP
 ghost use Rattle.order_encode.specs.declared.witness.Witness.{Witness};
 
 use crate::asking::tree_inputs;
-use crate::asks::Asks;
-use crate::known::run_known;
+use crate::asks::{Asks, Goal};
+use crate::known::{run_known, unlike};
+use crate::plan::Schedule;
 use crate::question::{Question, pose};
 use bool_circuit::Wire;
 use fs_interpreter::{Bits, Cells, states};
@@ -28,61 +29,49 @@ use fs_lang::Program;
 use path_domain::Domain;
 use rh_base::{NoMemory, Seq};
 use std::alloc::Global;
-use sym_run::{Sym, alike};
+use sym_run::Sym;
 
 /// Whether the orders end differently from the tree for which the cells stand.
 fn parts(
     alloc: Global,
     sym: &mut Sym,
-    domain: &Domain,
-    left: &[Program],
-    order: &[u32],
-    right: &[Program],
-    other: &[u32],
+    left: &Schedule<'_>,
+    right: &Schedule<'_>,
     start: &Cells<Sym>,
 ) -> Result<Wire, NoMemory>
-    requires nodes { AllByRecursion (λ k. k < length left.now) order.now }
-    requires others { AllByRecursion (λ k. k < length right.now) other.now }
+    requires domain { left.now.domain ≡ right.now.domain }
     requires cells { AreCells (circuit_meanings sym.old) start.now }
-    requires places { length start.now.present ≡ length domain.now.table.paths }
-    requires left { CoversSteps domain.now.table (programs_in left.now) }
-    requires right { CoversSteps domain.now.table (programs_in right.now) }
+    requires places { length start.now.present ≡ length left.now.domain.table.paths }
     ensures wire { IfOk result (λ w. w.0 < length sym.new) }
     ensures exact { IfOk result (λ w. (v : Valuation) (t : Tree)
-        → Stands domain.now.table (state_of (circuit_meanings sym.old) v start.now) t
-        → (wire_value sym.new v w.0 ≡ true) ↔ EndDifferently (map program_of left.now) order.now (map program_of right.now) other.now t) }
+        → Stands left.now.domain.table (state_of (circuit_meanings sym.old) v start.now) t
+        → (wire_value sym.new v w.0 ≡ true) ↔ EndDifferently (map program_of left.now.programs) left.now.order
+        (map program_of right.now.programs) right.now.order t) }
     ensures grows { Grows (circuit_meanings sym.old) (circuit_meanings sym.new) }
 {
-    let one = run_known(alloc, sym, domain, left, order, start)?;
-    let second = run_known(alloc, sym, domain, right, other, start)?;
-    let same = alike(sym, domain, &one, &second)?;
-    sym.not(&same)
+    let one = run_known(alloc, sym, left, start)?;
+    let second = run_known(alloc, sym, right, start)?;
+    unlike(sym, left.domain, &one, &second)
 }
 
 /// Whether the inputs tell a tree over the domain from which the orders end differently.
 fn goal_of_parting(
     alloc: Global,
     sym: &mut Sym,
-    domain: &Domain,
-    left: &[Program],
-    order: &[u32],
-    right: &[Program],
-    other: &[u32],
+    left: &Schedule<'_>,
+    right: &Schedule<'_>,
     start: &Cells<Sym>,
     well: Wire,
 ) -> Result<Wire, NoMemory>
-    requires nodes { AllByRecursion (λ k. k < length left.now) order.now }
-    requires others { AllByRecursion (λ k. k < length right.now) other.now }
-    requires trees { AreTrees sym.old domain.now start.now well }
-    requires left { CoversSteps domain.now.table (programs_in left.now) }
-    requires right { CoversSteps domain.now.table (programs_in right.now) }
+    requires domain { left.now.domain ≡ right.now.domain }
+    requires trees { AreTrees sym.old left.now.domain start.now well }
     ensures wire { IfOk result (λ w. w.0 < length sym.new) }
     ensures exact { IfOk result (λ w. (v : Valuation) → (wire_value sym.new v w.0 ≡ true)
-        ↔ TellsTree domain.now sym.old start.now
-        (EndDifferently (map program_of left.now) order.now (map program_of right.now) other.now) v) }
+        ↔ TellsTree left.now.domain sym.old start.now
+        (EndDifferently (map program_of left.now.programs) left.now.order (map program_of right.now.programs) right.now.order) v) }
     ensures grows { Grows (circuit_meanings sym.old) (circuit_meanings sym.new) }
 {
-    let apart = parts(alloc, sym, domain, left, order, right, other, start)?;
+    let apart = parts(alloc, sym, left, right, start)?;
     sym.and(&well, &apart)
 }
 
@@ -107,16 +96,20 @@ pub fn ask_parting(
 {
     states();
     let (mut sym, cells, well) = tree_inputs(alloc, domain)?;
-    let asked = goal_of_parting(
-        alloc,
-        &mut sym,
+    let one = Schedule {
         domain,
-        left,
-        order.as_slice(),
-        right,
-        other,
-        &cells,
-        well,
-    )?;
-    pose(alloc, sym, cells, Asks::Ends { order }, asked, domain, &[])
+        programs: left,
+        order: order.as_slice(),
+    };
+    let second = Schedule {
+        domain,
+        programs: right,
+        order: other,
+    };
+    let wire = goal_of_parting(alloc, &mut sym, &one, &second, &cells, well)?;
+    let goal = Goal {
+        wire,
+        firsts: Vec::new(alloc),
+    };
+    pose(alloc, sym, cells, Asks::Ends { order }, goal, domain)
 }

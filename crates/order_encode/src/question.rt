@@ -9,9 +9,8 @@ ghost use Rattle.fs_interpreter.specs.States.{AreCells};
 ghost use Rattle.sym_run.specs.Wires.{circuit_meanings};
 ghost use Rattle.order_encode.specs.Asked.{AreWithin, IsReadable};
 
-use crate::asks::Asks;
+use crate::asks::{Asks, Goal};
 use crate::table::copy_domain;
-use bool_circuit::Wire;
 use cnf::{Cnf, Lit, from_circuit_with};
 use fs_interpreter::Cells;
 use path_domain::Domain;
@@ -71,20 +70,19 @@ pub(crate) fn pose(
     sym: Sym,
     cells: Cells<Sym>,
     asks: Asks,
-    goal: Wire,
+    goal: Goal,
     domain: &Domain,
-    firsts: &[Wire],
 ) -> Result<Question, NoMemory>
-    requires goal { goal.0 < length sym }
+    requires goal { goal.wire.0 < length sym }
     requires cells { AreCells (circuit_meanings sym) cells }
     requires places { length cells.present ≡ length domain.now.table.paths }
     requires codes { AreWithin (length sym) asks }
-    requires readable { (v : Valuation) → wire_value sym v goal.0 ≡ true → IsReadable sym domain.now.table cells asks v }
-    ensures states { IfOk result (λ q. StatesGoal sym goal.0 q.formula) }
+    requires readable { (v : Valuation) → wire_value sym v goal.wire.0 ≡ true → IsReadable sym domain.now.table cells asks v }
+    ensures states { IfOk result (λ q. StatesGoal sym goal.wire.0 q.formula) }
     ensures holds { IfOk result
         (λ q. q ≡ record { gates = sym; table = domain.now.table; cells = cells; asks = asks; formula = q.formula }) }
 {
-    let (cnf, firsts) = from_circuit_with(alloc, sym.circuit(), goal, firsts)?;
+    let (cnf, firsts) = from_circuit_with(alloc, sym.circuit(), goal.wire, &goal.firsts)?;
     let domain = copy_domain(alloc, domain)?;
     Ok(Question {
         sym,

@@ -13,7 +13,7 @@ returns-in_err-reached-clause-grows c = grows_on (circuit_meanings c.args.sym.no
 pub kept_code-requires-clause-code : goal.kept_code-requires-clause-code
 kept_code-requires-clause-code c =
     let g12 = circuit_grows c.loop-k.sym c.is_below.new.sym c.is_below.ensures.grows in
-    row_at c.is_below.new.sym c.args.codes.now c.loop-k.k c.index-codes-k.result c.index-codes-k.is (rows_stay c.loop-k.sym c.is_below.new.sym c.args.codes.now g12 c.loop-k.invariant.codes) c.loop-k-test.true
+    row_at c.is_below.new.sym c.args.part.now.codes.now c.loop-k.k c.index-codes-k.result c.index-codes-k.is (rows_stay c.loop-k.sym c.is_below.new.sym c.args.part.now.codes.now g12 c.loop-k.invariant.codes) c.loop-k-test.true
 
 pub returns-in_err-one-clause-grows : goal.returns-in_err-one-clause-grows
 returns-in_err-one-clause-grows c =
@@ -41,8 +41,8 @@ loop-k-preserved c =
     let m2 = circuit_meanings g2 in
     let m3 = circuit_meanings g3 in
     let k = c.loop-k.k in
-    let rows = c.args.codes.now in
-    let place = c.args.place.now in
+    let rows = c.args.part.now.codes.now in
+    let place = c.args.part.now.place.now in
     let code = c.index-codes-k.result in
     let one = c.in_ok-one.one in
     let own0 = row_at g0 rows k code c.index-codes-k.is c.requires.codes c.loop-k-test.true in
@@ -57,7 +57,7 @@ loop-k-preserved c =
       grows = grows_on m0 m1 m3 before.grows g13;
       whole = λ v.
           let j = node g0 v place in
-          let ahead = c.args.ahead in
+          let ahead = c.args.part.now.ahead in
           let blank = c.args.blank in
           let i = node g0 v code in
           let reached = c.in_ok-reached.ensures.value v ∙ ap (λ n. nat_lt n (k + 1)) (before.grows.code place c.requires.place v) in

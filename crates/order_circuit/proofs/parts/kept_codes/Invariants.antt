@@ -8,8 +8,8 @@ use Rattle.order_circuit.proofs.parts.kept_codes.Given as goal
 abbrev pub invariant-loop-k : goal.invariant-loop-k
 invariant-loop-k l = record {
   kept : AreRows l.sym l.kept;
-  codes : AreRows l.sym l.codes;
-  place : AreWires l.sym l.place;
-  whole : (v : Valuation) → nodes l.sym v l.kept ++ kept_from l.ahead l.blank (node l.fn.sym v l.place) l.k (nodes l.fn.sym v (drop l.k l.codes)) ≡ kept_from l.ahead l.blank (node l.fn.sym v l.place) 0 (nodes l.fn.sym v l.codes);
+  codes : AreRows l.sym l.part.codes.now;
+  place : AreWires l.sym l.part.place.now;
+  whole : (v : Valuation) → nodes l.sym v l.kept ++ kept_from l.part.ahead l.blank (node l.fn.sym v l.part.place.now) l.k (nodes l.fn.sym v (drop l.k l.part.codes.now)) ≡ kept_from l.part.ahead l.blank (node l.fn.sym v l.part.place.now) 0 (nodes l.fn.sym v l.part.codes.now);
   grows : Grows (circuit_meanings l.fn.sym) (circuit_meanings l.sym);
 }

@@ -11,7 +11,7 @@ use Rattle.order_encode.proofs.again.ends.Goals as goal
 pub returns-clause-exact : goal.returns-clause-exact
 returns-clause-exact c = IfOk-weaker c.not.result _ _ (λ w is v t h.
     let m1 = circuit_meanings c.run_known.new.sym in
-    let exact = ends_is c.args.domain.now.table (state_of m1 v c.in_ok-made.made) (outcome (map program_of c.args.programs.now) c.args.order.now t) (c.in_ok-made.ensures.stands v (Some t) h) in
+    let exact = ends_is c.args.schedule.now.domain.table (state_of m1 v c.in_ok-made.made) (outcome (map program_of c.args.schedule.now.programs) c.args.schedule.now.order t) (c.in_ok-made.ensures.stands v (Some t) h) in
     tells_same (is.means v) exact) c.not.ensures.gives
 
 pub returns-clause-grows : goal.returns-clause-grows

@@ -24,35 +24,40 @@ pub code_at-requires-2-clause-codes : goal.code_at-requires-2-clause-codes
 code_at-requires-2-clause-codes c =
     let g0 = c.args.sym.now in
     let g2 = c.code_at.new.sym in
-    let g02 = c.run_part.ensures.grows >> c.code_at.ensures.grows in
+    let g02 = c.run_plan.ensures.grows >> c.code_at.ensures.grows in
     subst (AreRows g2) (sym c.split_at-2.ensures.back) (rows_behind g2 1 c.args.codes.now (rows_stay g0 g2 c.args.codes.now g02 c.requires.codes))
 
 pub end_apart_from-requires-clause-rest : goal.end_apart_from-requires-clause-rest
 end_apart_from-requires-clause-rest c =
     let g0 = c.args.sym.now in
     let g3 = c.code_at-2.new.sym in
-    let g03 = c.run_part.ensures.grows >> c.code_at.ensures.grows >> c.code_at-2.ensures.grows in
+    let g03 = c.run_plan.ensures.grows >> c.code_at.ensures.grows >> c.code_at-2.ensures.grows in
     subst (AreRows g3) (sym c.split_at-3.ensures.back) (rows_behind g3 2 c.args.codes.now (rows_stay g0 g3 c.args.codes.now g03 c.requires.codes))
 
-pub end_apart_from-requires-clause-cells : goal.end_apart_from-requires-clause-cells
-end_apart_from-requires-clause-cells c = cells_stay _ _ _ (c.code_at.ensures.grows >> c.code_at-2.ensures.grows) c.in_ok-fork.ensures.cells
+pub end_apart_from-requires-clause-fork : goal.end_apart_from-requires-clause-fork
+end_apart_from-requires-clause-fork c = record {
+  first = c.code_at-2.ensures.grows.owns_code c.in_ok-first.first c.in_ok-first.ensures.wires;
+  second = c.in_ok-second.ensures.wires;
+  cells = cells_stay _ _ _ (c.code_at.ensures.grows >> c.code_at-2.ensures.grows) c.in_ok-cells.ensures.cells;
+  places = c.in_ok-cells.ensures.places;
+}
 
 pub returns-clause-exact : goal.returns-clause-exact
 returns-clause-exact c = IfOk-weaker c.end_apart_from.result _ _ (λ w is v t h allowed.
-    let table = c.args.domain.now.table in
-    let es = map program_of c.args.programs.now in
-    let order = c.args.order.now in
+    let table = c.args.plan.now.domain.table in
+    let es = map program_of c.args.plan.now.programs in
+    let order = c.args.plan.now.order in
     let n = order.count in
     let before = comes order in
     let codes = c.args.codes.now in
     let place = c.args.place.now in
-    let fork = c.in_ok-fork.fork in
+    let fork = c.in_ok-cells.cells in
     let g0 = c.args.sym.now in
-    let g1 = c.run_part.new.sym in
+    let g1 = c.run_plan.new.sym in
     let g2 = c.code_at.new.sym in
     let g3 = c.code_at-2.new.sym in
     let m1 = circuit_meanings g1 in
-    let g01 = c.run_part.ensures.grows in
+    let g01 = c.run_plan.ensures.grows in
     let g12 = c.code_at.ensures.grows in
     let g23 = c.code_at-2.ensures.grows in
     let g02 = g01 >> g12 in
@@ -75,8 +80,8 @@ returns-clause-exact c = IfOk-weaker c.end_apart_from.result _ _ (λ w is v t h 
     let o = outcome es (take j (take (length xs - 2) xs)) t in
     let front_is : nodes g0 v c.split_at.result.0.now ≡ take (length xs - 2) xs =
     ap (nodes g0 v) c.split_at.ensures.front ∙ nodes_ahead g0 v (length codes - 2) codes ∙ ap (λ k. take (k - 2) xs) (sym long) in
-    let fork1 = subst (λ ns. StandsFor table (state_of m1 v fork) (outcome es (take j ns) t)) front_is (c.in_ok-fork.ensures.stands v (Some t) h) in
-    let fork3 = still_stands table o g13 c.in_ok-fork.ensures.cells v fork1 in
+    let fork1 = subst (λ ns. StandsFor table (state_of m1 v fork) (outcome es (take j ns) t)) front_is (c.in_ok-cells.ensures.stands v (Some t) h) in
+    let fork3 = still_stands table o g13 c.in_ok-cells.ensures.cells v fork1 in
     let first_is : node g3 v c.in_ok-first.first ≡ a =
     g23.code c.in_ok-first.first c.in_ok-first.ensures.wires v ∙ c.in_ok-first.ensures.value v ∙ (λ i. slice_index_or (nodes_stay g0 g1 codes g01 c.requires.codes v i) (g01.code place c.requires.place v i) 0) in
     let seconds_is : nodes g2 v c.split_at-2.result.1.now ≡ drop 1 xs =
@@ -93,13 +98,13 @@ returns-clause-exact c = IfOk-weaker c.end_apart_from.result _ _ (λ w is v t h 
     λ i. and_then o (outcome es (second_is i ∷ first_is i ∷ drop (j_is i) (rest_is i))) in
     let whole = c.places.ensures.whole xs j inside in
     let exchanged_is = c.places.ensures.exchanged xs j inside in
-    same_for (wire_value c.end_apart_from.new.sym v w.0) (same_for (wire_value c.end_apart_from.new.sym v w.0) told (differ_by _ _ _ _ one other)) (apart_is_whole es j xs a b t whole exchanged_is)) c.end_apart_from.ensures.exact
+    same_for (wire_value c.end_apart_from.new.sym v w.wire.0) (same_for (wire_value c.end_apart_from.new.sym v w.wire.0) told (differ_by _ _ _ _ one other)) (apart_is_whole es j xs a b t whole exchanged_is)) c.end_apart_from.ensures.exact
 
 pub returns-in_err-first-clause-grows : goal.returns-in_err-first-clause-grows
-returns-in_err-first-clause-grows c = c.run_part.ensures.grows >> c.code_at.ensures.grows
+returns-in_err-first-clause-grows c = c.run_plan.ensures.grows >> c.code_at.ensures.grows
 
 pub returns-in_err-second-clause-grows : goal.returns-in_err-second-clause-grows
-returns-in_err-second-clause-grows c = c.run_part.ensures.grows >> c.code_at.ensures.grows >> c.code_at-2.ensures.grows
+returns-in_err-second-clause-grows c = c.run_plan.ensures.grows >> c.code_at.ensures.grows >> c.code_at-2.ensures.grows
 
 pub returns-clause-grows : goal.returns-clause-grows
-returns-clause-grows c = c.run_part.ensures.grows >> c.code_at.ensures.grows >> c.code_at-2.ensures.grows >> c.end_apart_from.ensures.grows
+returns-clause-grows c = c.run_plan.ensures.grows >> c.code_at.ensures.grows >> c.code_at-2.ensures.grows >> c.end_apart_from.ensures.grows

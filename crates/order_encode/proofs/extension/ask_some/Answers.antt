@@ -12,17 +12,17 @@ pub pose-requires-clause-cells : goal.pose-requires-clause-cells
 pose-requires-clause-cells c = cells_stay _ _ _ c.goal_of_end.ensures.grows c.in_ok-sym.ensures.trees.are_cells
 
 pub pose-requires-clause-readable : goal.pose-requires-clause-readable
-pose-requires-clause-readable c = readable (asks_order (Ends (map program_of c.args.programs.now)) c.as_slice.ensures c.in_ok-sym.ensures.trees c.in_ok-sym.ensures.every c.goal_of_end.ensures.grows c.in_ok-asked.ensures.exact) (λ v. tt)
+pose-requires-clause-readable c = readable (asks_order (Ends (map program_of c.args.programs.now)) c.as_slice.ensures c.in_ok-sym.ensures.trees c.in_ok-sym.ensures.every c.goal_of_end.ensures.grows c.in_ok-wire.ensures.exact) (λ v. tt)
 
 pub returns-clause-exact : goal.returns-clause-exact
 returns-clause-exact c =
-    let asks = asks_order (Ends (map program_of c.args.programs.now)) c.as_slice.ensures c.in_ok-sym.ensures.trees c.in_ok-sym.ensures.every c.goal_of_end.ensures.grows c.in_ok-asked.ensures.exact in
+    let asks = asks_order (Ends (map program_of c.args.programs.now)) c.as_slice.ensures c.in_ok-sym.ensures.trees c.in_ok-sym.ensures.every c.goal_of_end.ensures.grows c.in_ok-wire.ensures.exact in
     let is_first : IsFirstExtension c.args.order.now c.in_ok-first.first = record { allowed = c.in_ok-first.ensures.allowed; least = c.in_ok-first.ensures.least } in
     IfOk-weaker c.pose.result _ _ (λ q states. end_exact _ c.args.order.now c.args.domain.now c.in_ok-first.first is_first c.allowed_orders.ensures.long (tree_exact asks q.formula states)) c.pose.ensures.states
 
 pub returns-clause-models : goal.returns-clause-models
 returns-clause-models c =
-    let asks = asks_order (Ends (map program_of c.args.programs.now)) c.as_slice.ensures c.in_ok-sym.ensures.trees c.in_ok-sym.ensures.every c.goal_of_end.ensures.grows c.in_ok-asked.ensures.exact in
+    let asks = asks_order (Ends (map program_of c.args.programs.now)) c.as_slice.ensures c.in_ok-sym.ensures.trees c.in_ok-sym.ensures.every c.goal_of_end.ensures.grows c.in_ok-wire.ensures.exact in
     let is_first : IsFirstExtension c.args.order.now c.in_ok-first.first = record { allowed = c.in_ok-first.ensures.allowed; least = c.in_ok-first.ensures.least } in
     if_ok_both _ _ _ c.pose.result (λ q states holds w can. end_shown _ c.args.order.now c.args.domain.now c.in_ok-first.first is_first w (tree_shown asks c.states.ensures.outcome q holds states w can))
     c.pose.ensures.states c.pose.ensures.holds

@@ -13,7 +13,7 @@ use Rattle.order_encode.proofs.GrowthLaws.{◌>>◌}
 use Rattle.order_encode.proofs.known.run_steps.Goals as goal
 
 pub sym_apply-requires-clause-covers : goal.sym_apply-requires-clause-covers
-sym_apply-requires-clause-covers c = covers_at c.args.domain.now.table c.args.programs.now _ c.index-programs-i.result c.requires.covers c.index-programs-i.is (node_below (length c.args.programs.now) c.args.order.now c.loop-i.i-index c.requires.nodes c.loop-i-test.true)
+sym_apply-requires-clause-covers c = covers_at c.schedule.inside.domain.now.table c.schedule.inside.programs.now _ c.index-programs-i.result c.schedule.invariant.covers c.index-programs-i.is (node_below (length c.schedule.inside.programs.now) c.schedule.inside.order.now c.loop-i.i-index c.schedule.invariant.nodes c.loop-i-test.true)
 
 pub returns-in_err-sym_apply-clause-grows : goal.returns-in_err-sym_apply-clause-grows
 returns-in_err-sym_apply-clause-grows c = c.loop-i.invariant.grows >> c.sym_apply.ensures.grows
@@ -22,13 +22,13 @@ pub loop-i-preserved : goal.loop-i-preserved
 loop-i-preserved c =
     let before = c.loop-i.invariant in
     let m2 = circuit_meanings c.sym_apply.new.sym in
-    let table = c.args.domain.now.table in
-    let programs = c.args.programs.now in
+    let table = c.schedule.inside.domain.now.table in
+    let programs = c.schedule.inside.programs.now in
     let es = map program_of programs in
     let i = c.loop-i.i-index in
-    let order = c.args.order.now in
+    let order = c.schedule.inside.order.now in
     let n = get_or order i 0 in
-    let low = node_below (length programs) order i c.requires.nodes c.loop-i-test.true in
+    let low = node_below (length programs) order i c.schedule.invariant.nodes c.loop-i-test.true in
     let at = program_at programs n c.index-programs-i.result c.index-programs-i.is low in
     record {
       cells = c.in_ok-sym_apply.ensures.cells;
@@ -45,9 +45,9 @@ loop-i-preserved c =
     }
 
 pub returns-clause-stands : goal.returns-clause-stands
-returns-clause-stands c = λ v o h.
-    let es = map program_of c.args.programs.now in
-    let order = c.args.order.now in
+returns-clause-stands c = rw (← c.schedule.view_is) (λ v o h.
+    let es = map program_of c.schedule.inside.programs.now in
+    let order = c.schedule.inside.order.now in
     let so_far = c.loop-i.invariant.stands v o h in
     let none_left = rest_done order c.loop-i.i-index (omega arith) in
-    subst (StandsFor c.args.domain.now.table (state_of (circuit_meanings c.loop-i.sym) v c.loop-i.cells)) (sym (no_more es so_far.0) ∙ ap (λ ns. and_then so_far.0 (outcome es ns)) (sym none_left) ∙ so_far.2) so_far.1
+    subst (StandsFor c.schedule.inside.domain.now.table (state_of (circuit_meanings c.loop-i.sym) v c.loop-i.cells)) (sym (no_more es so_far.0) ∙ ap (λ ns. and_then so_far.0 (outcome es ns)) (sym none_left) ∙ so_far.2) so_far.1)

@@ -15,11 +15,11 @@ pose-requires-clause-cells c = cells_stay _ _ _ c.goal_of_missing.ensures.grows 
 
 pub pose-requires-clause-readable : goal.pose-requires-clause-readable
 pose-requires-clause-readable c =
-    readable (asks_order (λ o. EndsMissing (map program_of c.args.programs.now) o c.args.wanted.now) c.as_slice.ensures c.in_ok-sym.ensures.trees c.in_ok-sym.ensures.every c.goal_of_missing.ensures.grows c.in_ok-asked.ensures.exact) (λ v. tt)
+    readable (asks_order (λ o. EndsMissing (map program_of c.args.programs.now) o c.args.wanted.now) c.as_slice.ensures c.in_ok-sym.ensures.trees c.in_ok-sym.ensures.every c.goal_of_missing.ensures.grows c.in_ok-wire.ensures.exact) (λ v. tt)
 
 pub returns-clause-exact : goal.returns-clause-exact
 returns-clause-exact c =
-    let asks = asks_order (λ o. EndsMissing (map program_of c.args.programs.now) o c.args.wanted.now) c.as_slice.ensures c.in_ok-sym.ensures.trees c.in_ok-sym.ensures.every c.goal_of_missing.ensures.grows c.in_ok-asked.ensures.exact in
+    let asks = asks_order (λ o. EndsMissing (map program_of c.args.programs.now) o c.args.wanted.now) c.as_slice.ensures c.in_ok-sym.ensures.trees c.in_ok-sym.ensures.every c.goal_of_missing.ensures.grows c.in_ok-wire.ensures.exact in
     let is_first : IsFirstExtension c.args.order.now c.in_ok-first.first = record { allowed = c.in_ok-first.ensures.allowed; least = c.in_ok-first.ensures.least } in
     let same = length-map c.args.programs.now program_of ∙ c.requires.nodes in
     IfOk-weaker c.pose.result _ _
@@ -27,7 +27,7 @@ returns-clause-exact c =
 
 pub returns-clause-models : goal.returns-clause-models
 returns-clause-models c =
-    let asks = asks_order (λ o. EndsMissing (map program_of c.args.programs.now) o c.args.wanted.now) c.as_slice.ensures c.in_ok-sym.ensures.trees c.in_ok-sym.ensures.every c.goal_of_missing.ensures.grows c.in_ok-asked.ensures.exact in
+    let asks = asks_order (λ o. EndsMissing (map program_of c.args.programs.now) o c.args.wanted.now) c.as_slice.ensures c.in_ok-sym.ensures.trees c.in_ok-sym.ensures.every c.goal_of_missing.ensures.grows c.in_ok-wire.ensures.exact in
     let is_first : IsFirstExtension c.args.order.now c.in_ok-first.first = record { allowed = c.in_ok-first.ensures.allowed; least = c.in_ok-first.ensures.least } in
     let same = length-map c.args.programs.now program_of ∙ c.requires.nodes in
     if_ok_both _ _ _ c.pose.result

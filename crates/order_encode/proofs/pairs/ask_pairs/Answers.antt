@@ -17,11 +17,11 @@ returns c =
     let es = map program_of c.args.programs.now in
     let order = c.args.order.now in
     let start = c.in_ok-sym in
-    let asks : AsksOfTrees d start.sym c.goal_of_pairs.new.sym start.cells start.well c.in_ok-asked.asked (λ t. ApartBelow es order (Some t) order.count) = record {
+    let asks : AsksOfTrees d start.sym c.goal_of_pairs.new.sym start.cells start.well c.in_ok-asked.asked.wire (λ t. ApartBelow es order (Some t) order.count) = record {
       trees = start.ensures.trees;
       every = start.ensures.every;
       grows = c.goal_of_pairs.ensures.grows;
       exact = c.in_ok-asked.ensures.exact;
     } in
     IfOk-weaker c.from_circuit_with.result _ _ (λ r states. pair_is es order d (IsSatisfiable r.0) (length-map c.args.programs.now program_of ∙ c.requires.nodes) (tree_exact asks r.0 states))
-    (subst (λ (g : List Gate). IfOk c.from_circuit_with.result (λ r. StatesGoal g c.in_ok-asked.asked.0 r.0)) c.circuit.ensures c.from_circuit_with.ensures.states)
+    (subst (λ (g : List Gate). IfOk c.from_circuit_with.result (λ r. StatesGoal g c.in_ok-asked.asked.wire.0 r.0)) c.circuit.ensures c.from_circuit_with.ensures.states)

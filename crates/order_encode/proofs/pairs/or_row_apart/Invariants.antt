@@ -13,10 +13,10 @@ use Rattle.order_encode.proofs.pairs.or_row_apart.Given as goal
 -- the nodes up to place k are looked at
 abbrev pub invariant-loop-k : goal.invariant-loop-k
 invariant-loop-k l = record {
-  any : l.any.0 < length l.sym;
+  wire : l.goal.wire.0 < length l.sym;
   less : l.i < l.k;
   cells : AreCells (circuit_meanings l.sym) l.start;
-  exact : (v : Valuation) (o : Outcome) → StandsFor l.domain.table (state_of (circuit_meanings l.fn.sym) v l.start) o
-      → (wire_value l.sym v l.any.0 ≡ true) ↔ ((wire_value l.fn.sym v l.fn.so_far.0 ≡ true) ⊎ ApartBehind (map program_of l.programs) l.order o l.i l.k);
+  exact : (v : Valuation) (o : Outcome) → StandsFor l.plan.domain.table (state_of (circuit_meanings l.fn.sym) v l.start) o
+      → (wire_value l.sym v l.goal.wire.0 ≡ true) ↔ ((wire_value l.fn.sym v l.fn.goal.wire.0 ≡ true) ⊎ ApartBehind (map program_of l.plan.programs) l.plan.order o l.i l.k);
   grows : Grows (circuit_meanings l.fn.sym) (circuit_meanings l.sym);
 }

@@ -9,25 +9,25 @@ pub loop-i-init : goal.loop-i-init
 loop-i-init c =
     let g = c.constant.ensures.grows in
     record {
-      any = c.in_ok-any.ensures.gives.owned;
+      wire = c.in_ok-wire.ensures.gives.owned;
       cells = cells_stay _ _ _ g c.requires.cells;
-      exact = λ v o h. none_below (map program_of c.args.programs.now) c.args.order.now o 0 refl (λ e. let is = c.in_ok-any.ensures.gives.means v in cc);
+      exact = λ v o h. none_below (map program_of c.args.plan.now.programs) c.args.plan.now.order o 0 refl (λ e. let is = c.in_ok-wire.ensures.gives.means v in cc);
       grows = g;
     }
 
 pub loop-i-preserved : goal.loop-i-preserved
 loop-i-preserved c =
     let before = c.loop-i.invariant in
-    let es = map program_of c.args.programs.now in
-    let row = c.in_ok-any-2.ensures in
+    let es = map program_of c.args.plan.now.programs in
+    let row = c.in_ok-or_row_apart.ensures in
     record {
-      any = row.wire;
+      wire = row.wire;
       cells = cells_stay _ _ _ c.or_row_apart.ensures.grows before.cells;
       grows = before.grows >> c.or_row_apart.ensures.grows;
       exact = λ v o h.
-          let h1 = still_stands c.args.domain.now.table o before.grows c.requires.cells v h in
-          below_step es c.args.order.now o c.loop-i.i _ refl (before.exact v o h) (row.exact v o h1);
+          let h1 = still_stands c.args.plan.now.domain.table o before.grows c.requires.cells v h in
+          below_step es c.args.plan.now.order o c.loop-i.i _ refl (before.exact v o h) (row.exact v o h1);
     }
 
-pub returns-in_err-any-2-clause-grows : goal.returns-in_err-any-2-clause-grows
-returns-in_err-any-2-clause-grows c = c.loop-i.invariant.grows >> c.or_row_apart.ensures.grows
+pub returns-in_err-or_row_apart-clause-grows : goal.returns-in_err-or_row_apart-clause-grows
+returns-in_err-or_row_apart-clause-grows c = c.loop-i.invariant.grows >> c.or_row_apart.ensures.grows

@@ -13,9 +13,9 @@ use Rattle.order_encode.proofs.pairs.some_apart.Given as goal
 -- the rows of the nodes below i are looked at
 abbrev pub invariant-loop-i : goal.invariant-loop-i
 invariant-loop-i l = record {
-  any : l.any.0 < length l.sym;
+  wire : l.goal.wire.0 < length l.sym;
   cells : AreCells (circuit_meanings l.sym) l.start;
-  exact : (v : Valuation) (o : Outcome) → StandsFor l.domain.table (state_of (circuit_meanings l.fn.sym) v l.start) o
-      → (wire_value l.sym v l.any.0 ≡ true) ↔ ApartBelow (map program_of l.programs) l.order o l.i;
+  exact : (v : Valuation) (o : Outcome) → StandsFor l.plan.domain.table (state_of (circuit_meanings l.fn.sym) v l.start) o
+      → (wire_value l.sym v l.goal.wire.0 ≡ true) ↔ ApartBelow (map program_of l.plan.programs) l.plan.order o l.i;
   grows : Grows (circuit_meanings l.fn.sym) (circuit_meanings l.sym);
 }

@@ -8,7 +8,7 @@ use Rattle.order_encode.proofs.parting.goal_of_parting.Goals as goal
 
 pub returns-clause-exact : goal.returns-clause-exact
 returns-clause-exact c =
-    let holds = EndDifferently (map program_of c.args.left.now) c.args.order.now (map program_of c.args.right.now) c.args.other.now in
+    let holds = EndDifferently (map program_of c.args.left.now.programs) c.args.left.now.order (map program_of c.args.right.now.programs) c.args.right.now.order in
     IfOk-weaker c.and.result _ _ (λ w is. goal_is c.parts.new.sym c.and.new.self c.in_ok-apart.apart w holds c.requires.trees c.parts.ensures.grows c.in_ok-apart.ensures.exact is.means) c.and.ensures.gives
 
 pub returns-clause-grows : goal.returns-clause-grows

@@ -16,6 +16,6 @@ invariant_of-result c =
       codes = c.requires.codes;
       variables = subst (λ gates. input_count gates ≤ c.in_ok-cnf.cnf.vars) circuit states.variables;
       readable = λ v sat.
-          let told = subst (λ gates. wire_value gates (inputs_in v) c.args.goal.0 ≡ true) circuit (states.models v sat) in
+          let told = subst (λ gates. wire_value gates (inputs_in v) c.args.goal.wire.0 ≡ true) circuit (states.models v sat) in
           subst (λ t. IsReadable c.args.sym t c.args.cells c.args.asks (inputs_in v)) (sym table) (c.requires.readable (inputs_in v) told);
     }
