@@ -8,6 +8,7 @@ ghost use Rattle.sat_solver.specs.Resolving.{IsApart, in_clause, Reaches, IsGive
 ghost use Rattle.sat_solver.specs.Watching.{clause, IsFalse, AtRest};
 
 use crate::analyze::{Resolvent, cut, is_marked, join, to_last_literal};
+use crate::plan::Graph;
 use crate::store::Store;
 use crate::trail::Trail;
 use rh_base::NoMemory;
@@ -124,7 +125,13 @@ fn plan(r: &mut Resolvent, store: &Store, trail: &Trail, boundary: usize) -> Res
 {
     r.pending = 0;
     r.met = r.marked.len();
-    r.plan.make(&r.seen, &r.marked, store, trail, boundary)
+    let graph = Graph {
+        store,
+        trail,
+        seen: &r.seen,
+        boundary,
+    };
+    r.plan.make(&graph, &r.marked)
 }
 
 /// Resolves a clause that is false to one that has one literal of the last level, and makes it smaller; where the opposite of
