@@ -20,7 +20,7 @@ fn active_word(trail: &Trail, vars: usize, activity: &mut Activity) -> Option<u3
         if i >= vars {
             continue;
         }
-        let sign = if activity.phase(var) { 1 } else { 0 };
+        let sign = if activity.phase(var) { 0 } else { 1 };
         let word = (2 * i + sign) as u32;
         let holds = trail.holds(word);
         if holds {

@@ -17,7 +17,7 @@ use crate::decide::next_word;
 use crate::derive::{derive, refuted};
 use crate::learn::{restart, settle};
 use crate::load::load;
-use crate::propagate::propagate;
+use crate::propagate::Propagator;
 use crate::restarts::Restarts;
 use crate::store::Store;
 use crate::trail::Trail;
@@ -48,15 +48,13 @@ pub(crate) enum Turn {
     Spent,
 }
 
-/// The formula, which is lent, and how many clauses may be learned; the clause database, the assignment and the watch lists, which
+/// The formula, which is lent, and how many clauses may be learned; the clause database, the trail and the watch lists, which
 /// propagation works on; the resolvent of conflict analysis; what decisions and restarts go by; and the log of what was learned.
 #[derive(Drop)]
 pub(crate) struct Solver<'f> {
     formula: &'f Cnf,
     budget: u64,
-    store: Store,
-    trail: Trail,
-    watches: Watches,
+    propagator: Propagator,
     resolvent: Resolvent,
     activity: Activity,
     restarts: Restarts,
@@ -88,7 +86,7 @@ impl<'f> Solver<'f> {
     ) -> Result<Solver<'f>, NoMemory>
         ensures formula { IfOk result (λ s. s.formula.now ≡ formula.now) }
         ensures budget { IfOk result (λ s. s.budget ≡ budget) }
-        ensures loaded { IfOk result (λ s. IsLoaded formula.now 0 s.store s.trail s.watches) }
+        ensures loaded { IfOk result (λ s. IsLoaded formula.now 0 s.propagator.store s.propagator.trail s.propagator.watches) }
         ensures blank { IfOk result (λ s. IsBlank formula.now.vars s.resolvent.seen.items) }
         ensures steps { IfOk result (λ s. s.steps ≡ []) }
     {
@@ -101,9 +99,11 @@ impl<'f> Solver<'f> {
         Ok(Solver {
             formula,
             budget,
-            store,
-            trail,
-            watches,
+            propagator: Propagator {
+                store,
+                trail,
+                watches,
+            },
             resolvent,
             activity,
             restarts: Restarts::new(),
@@ -117,15 +117,15 @@ impl<'f> Solver<'f> {
         ensures task { OnOk result (IsSameTask self.old self.new) }
         ensures propagates { IfOk result (Propagates self.new) }
         ensures steps { OnOk result (self.new.steps ≡ self.old.steps) }
-        ensures long { OnOk result (length self.old.trail.words ≤ length self.new.trail.words) }
+        ensures long { OnOk result (length self.old.propagator.trail.words ≤ length self.new.propagator.trail.words) }
     {
-        propagate(&mut self.store, &mut self.trail, &mut self.watches)
+        self.propagator.propagate()
     }
 
     /// Learns from a clause that is false.
     fn learn(&mut self, alloc: Global, conflict: u32) -> Result<(), NoMemory>
         requires conflict { InConflict self.old conflict }
-        requires decided { 0 < length self.old.trail.starts }
+        requires decided { 0 < length self.old.propagator.trail.starts }
         ensures task { OnOk result (IsSameTask self.old self.new) }
         ensures state { OnOk result (IsState self.new) }
         ensures more { OnOk result (length self.new.steps ≡ length self.old.steps + 1) }
@@ -133,15 +133,15 @@ impl<'f> Solver<'f> {
         let (words, step) = derive(
             alloc,
             &mut self.resolvent,
-            &self.store,
-            &self.trail,
-            &self.watches,
+            &self.propagator.store,
+            &self.propagator.trail,
+            &self.propagator.watches,
             conflict,
         )?;
         settle(
-            &mut self.store,
-            &mut self.trail,
-            &mut self.watches,
+            &mut self.propagator.store,
+            &mut self.propagator.trail,
+            &mut self.propagator.watches,
             &words,
             conflict,
         )?;
@@ -152,7 +152,7 @@ impl<'f> Solver<'f> {
     /// Ends the log with the empty clause, which follows from a clause that is false ahead of all decisions.
     fn refute(&mut self, alloc: Global, conflict: u32) -> Result<(), NoMemory>
         requires conflict { InConflict self.old conflict }
-        requires level { self.old.trail.starts ≡ [] }
+        requires level { self.old.propagator.trail.starts ≡ [] }
         ensures task { OnOk result (IsSameTask self.old self.new) }
         ensures accepted { OnOk result (IsAccepted self.new.formula.now self.new.steps) }
         ensures more { OnOk result (length self.new.steps ≡ length self.old.steps + 1) }
@@ -160,9 +160,9 @@ impl<'f> Solver<'f> {
         let step = refuted(
             alloc,
             &mut self.resolvent,
-            &self.store,
-            &self.trail,
-            &self.watches,
+            &self.propagator.store,
+            &self.propagator.trail,
+            &self.propagator.watches,
             conflict,
         )?;
         self.steps.push(step)?;
@@ -171,10 +171,10 @@ impl<'f> Solver<'f> {
 
     /// Whether there are no decisions.
     fn is_ground(&self) -> bool
-        ensures yes { result ≡ true → self.now.trail.starts ≡ [] }
-        ensures not { result ≡ false → 0 < length self.now.trail.starts }
+        ensures yes { result ≡ true → self.now.propagator.trail.starts ≡ [] }
+        ensures not { result ≡ false → 0 < length self.now.propagator.trail.starts }
     {
-        self.trail.level() == 0
+        self.propagator.trail.level() == 0
     }
 
     /// After a clause was learned: restarts, where that is due, and gives the variables that are unassigned again to the heap.
@@ -185,10 +185,15 @@ impl<'f> Solver<'f> {
         ensures steps { OnOk result (self.new.steps ≡ self.old.steps) }
     {
         let due = self.restarts.is_due();
-        restart(&self.store, &mut self.trail, &self.watches, due);
-        self.activity.release(self.trail.dropped())?;
+        restart(
+            &self.propagator.store,
+            &mut self.propagator.trail,
+            &self.propagator.watches,
+            due,
+        );
+        self.activity.release(self.propagator.trail.dropped())?;
         self.activity.look_again();
-        self.trail.forget_dropped();
+        self.propagator.trail.forget_dropped();
         Ok(())
     }
 
@@ -199,7 +204,7 @@ impl<'f> Solver<'f> {
         ensures task { OnOk result (IsSameTask self.old self.new) }
         ensures turns { IfOk result (Turns self.old self.new) }
     {
-        let _long = self.trail.len();
+        let _long = self.propagator.trail.len();
         let ground = self.is_ground();
         if ground {
             self.refute(alloc, conflict)?;
@@ -223,13 +228,13 @@ impl<'f> Solver<'f> {
         ensures task { OnOk result (IsSameTask self.old self.new) }
         ensures steps { OnOk result (self.new.steps ≡ self.old.steps) }
         ensures state { OnOk result (IsState self.new) }
-        ensures more { IfOk result (λ b. b ≡ true → length self.new.trail.words ≡ length self.old.trail.words + 1) }
-        ensures full { IfOk result (λ b. b ≡ false → IsAtRest self.new × IsFull self.new.trail) }
+        ensures more { IfOk result (λ b. b ≡ true → length self.new.propagator.trail.words ≡ length self.old.propagator.trail.words + 1) }
+        ensures full { IfOk result (λ b. b ≡ false → IsAtRest self.new × IsFull self.new.propagator.trail) }
     {
         let vars = self.formula.vars() as usize;
-        match next_word(&self.trail, vars, &mut self.activity) {
+        match next_word(&self.propagator.trail, vars, &mut self.activity) {
             Some(word) => {
-                self.trail.decide(word)?;
+                self.propagator.trail.decide(word)?;
                 Ok(true)
             }
             None => Ok(false),
@@ -243,7 +248,7 @@ impl<'f> Solver<'f> {
         ensures task { OnOk result (IsSameTask self.old self.new) }
         ensures turns { IfOk result (Turns self.old self.new) }
     {
-        let _long = self.trail.len();
+        let _long = self.propagator.trail.len();
         match self.propagate()? {
             Some(conflict) => self.resolve(alloc, conflict),
             None => {
@@ -263,9 +268,7 @@ impl<'f> Solver<'f> {
         let Solver {
             formula: _,
             budget: _,
-            store: _,
-            trail: _,
-            watches: _,
+            propagator: _,
             resolvent: _,
             activity: _,
             restarts: _,
@@ -277,11 +280,11 @@ impl<'f> Solver<'f> {
     /// The values of the variables, once each has one.
     fn model(&self, alloc: Global) -> Result<Seq<bool>, NoMemory>
         requires rest { IsAtRest self.now }
-        requires full { IsFull self.now.trail }
+        requires full { IsFull self.now.propagator.trail }
         ensures long { IfOk result (λ m. length m ≡ self.now.formula.now.vars) }
         ensures satisfies { IfOk result (λ m. Satisfies (valuation_of m) self.now.formula.now.clauses) }
     {
-        let model = values(alloc, &self.trail, self.formula.vars() as usize)?;
+        let model = values(alloc, &self.propagator.trail, self.formula.vars() as usize)?;
         Ok(model)
     }
 
@@ -304,7 +307,7 @@ impl<'f> Solver<'f> {
 
     /// Takes the formula in; the clause that is false ahead of all decisions, if one is.
     fn load(&mut self, alloc: Global) -> Result<Option<u32>, NoMemory>
-        requires loaded { IsLoaded self.old.formula.now 0 self.old.store self.old.trail self.old.watches }
+        requires loaded { IsLoaded self.old.formula.now 0 self.old.propagator.store self.old.propagator.trail self.old.propagator.watches }
         requires blank { IsBlank self.old.formula.now.vars self.old.resolvent.seen.items }
         requires steps { self.old.steps ≡ [] }
         ensures task { OnOk result (IsSameTask self.old self.new) }
@@ -315,9 +318,9 @@ impl<'f> Solver<'f> {
         load(
             alloc,
             self.formula,
-            &mut self.store,
-            &mut self.trail,
-            &mut self.watches,
+            &mut self.propagator.store,
+            &mut self.propagator.trail,
+            &mut self.propagator.watches,
         )
     }
 
@@ -332,9 +335,9 @@ impl<'f> Solver<'f> {
         let step = refuted(
             alloc,
             &mut self.resolvent,
-            &self.store,
-            &self.trail,
-            &self.watches,
+            &self.propagator.store,
+            &self.propagator.trail,
+            &self.propagator.watches,
             conflict,
         )?;
         self.steps.push(step)?;

@@ -42,7 +42,7 @@ pub returns-clause-idle : goal.returns-clause-idle
 returns-clause-idle c = c.in_ok-join.ensures.marked.counted ∙ count_empty c.join.new.r.seen.items c.args.trail.now.words c.len-end.result c.len-end.result (omega arith)
 
 pub returns-clause-left : goal.returns-clause-left
-returns-clause-left c =
+returns-clause-left c p left =
     let t = c.args.trail.now in
     let f = c.args.store.now in
     let seen = c.args.r.now.seen.items in
@@ -50,7 +50,7 @@ returns-clause-left c =
     let v = get_or t.words c.args.place 0 in
     let d = clause f (c.reason-reason.result - 1) in
     let new = c.join.new.r.seen.items in
-    left_less t.words c.args.boundary c.args._left c.args.place seen new d c.requires.apart c.requires.early c.requires.within c.requires.left g.others
+    left_less t.words c.args.boundary p c.args.place seen new d c.requires.apart c.requires.early c.requires.within left g.others
     (joined_at t.words seen c.cut.new.r.seen.items new c.clause.result.now d c.word-word.result v c.word-word.ensures c.in_ok-cut.ensures.seen c.clause.ensures c.in_ok-join.ensures.seen)
 
 pub returns-clause-covered : goal.returns-clause-covered

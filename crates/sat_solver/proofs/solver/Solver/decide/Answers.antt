@@ -14,6 +14,6 @@ returns-in_ok-decide-in-Some-clause-state c =
     let w = c.in-Some.ensures.some c.in-Some.word refl in
     let e = c.in_ok-decide-in-Some.ensures.ok in
     record {
-      ready = subst (λ (x : Way). IsReady s.store x s.watches) (sym e) (decided s.store s.trail s.watches c.in-Some.word h.ready c.requires.rest.end w.0 w.1 w.2);
+      ready = subst (λ (x : Way). IsReady s.propagator.store x s.propagator.watches) (sym e) (decided s.propagator.store s.propagator.trail s.propagator.watches c.in-Some.word h.ready c.requires.rest.end w.0 w.1 w.2);
       ongoing = record { logged = h.ongoing.logged; vars = ap (λ (x : Way). x.vars) e ∙ h.ongoing.vars; blank = h.ongoing.blank };
     }

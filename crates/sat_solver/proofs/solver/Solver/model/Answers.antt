@@ -8,4 +8,4 @@ returns-clause-satisfies c =
     let h = c.requires.rest in
     let count : c.vars.result ≡ s.formula.now.vars = c.vars.ensures.count in
     let v = h.state.ongoing.vars in
-    satisfied s.formula.now s.store s.trail s.watches s.steps c.in_ok-model.model h.state.ongoing.logged h.state.ready.sound h.rest c.requires.full (λ i l. c.in_ok-model.ensures.is i (omega arith))
+    satisfied s.formula.now s.propagator.store s.propagator.trail s.propagator.watches s.steps c.in_ok-model.model h.state.ongoing.logged h.state.ready.sound h.rest c.requires.full (λ i l. c.in_ok-model.ensures.is i (omega arith))

@@ -12,4 +12,4 @@ turns-smaller c =
     let f = c.args.self.formula.now in
     let h = subst (Turns a n) c.in-Goes.is c.in_ok-turn.ensures.turns in
     let d : n.formula.now ≡ f = c.in_ok-turn.ensures.task.formula ∙ c.turns.invariant.task.formula in
-    falls f n.store a.trail n.trail a.steps n.steps c.vars-vars.ensures.formula (subst (λ (x : Formula). IsLogged x n.store n.steps) d h.0.ongoing.logged) h.2 h.3
+    falls f n.propagator.store a.propagator.trail n.propagator.trail a.steps n.steps c.vars-vars.ensures.formula (subst (λ (x : Formula). IsLogged x n.propagator.store n.steps) d h.0.ongoing.logged) h.2 h.3
