@@ -141,15 +141,16 @@ pub(crate) fn join(
 
 /// Takes the opposite of a literal out of the clause so far: names the clause that gave the literal.
 #[inline]
-pub(crate) fn cut(r: &mut Resolvent, word: u32, reason: u32) -> Result<(), NoMemory>
+pub(crate) fn cut(r: &mut Resolvent, word: u32, clause: u32) -> Result<(), NoMemory>
     requires within { word / 2 < length r.old.seen.items }
+    requires few { clause + 1 < 2 ^ 32 }
     ensures seen { OnOk result (r.new.seen.items ≡ slice_set r.old.seen.items (word / 2) false) }
     ensures pending { OnOk result (r.new.pending ≡ r.old.pending) }
     ensures marked { OnOk result (r.new.marked ≡ r.old.marked) }
-    ensures hops { OnOk result (r.new.hops.items ≡ r.old.hops.items ++ record { number = reason; pivot = opposite word } ∷ []) }
+    ensures hops { OnOk result (r.new.hops.items ≡ r.old.hops.items ++ record { number = clause + 1; pivot = opposite word } ∷ []) }
 {
     r.hops.push(Hop {
-        number: reason,
+        number: clause + 1,
         pivot: opposite(word),
     })?;
     r.seen[(word / 2) as usize] = false;
@@ -158,15 +159,16 @@ pub(crate) fn cut(r: &mut Resolvent, word: u32, reason: u32) -> Result<(), NoMem
 
 /// Takes a literal out of the clause so far, in which it is the last on the trail: names the clause that gave its opposite.
 #[inline]
-fn take_out(r: &mut Resolvent, word: u32, reason: u32) -> Result<(), NoMemory>
+fn take_out(r: &mut Resolvent, word: u32, clause: u32) -> Result<(), NoMemory>
     requires within { word / 2 < length r.old.seen.items }
+    requires few { clause + 1 < 2 ^ 32 }
     requires some { 0 < r.old.pending }
     ensures seen { OnOk result (r.new.seen.items ≡ slice_set r.old.seen.items (word / 2) false) }
     ensures pending { OnOk result (r.new.pending + 1 ≡ r.old.pending) }
     ensures marked { OnOk result (r.new.marked ≡ r.old.marked) }
-    ensures hops { OnOk result (r.new.hops.items ≡ r.old.hops.items ++ record { number = reason; pivot = opposite word } ∷ []) }
+    ensures hops { OnOk result (r.new.hops.items ≡ r.old.hops.items ++ record { number = clause + 1; pivot = opposite word } ∷ []) }
 {
-    cut(r, word, reason)?;
+    cut(r, word, clause)?;
     r.pending -= 1;
     Ok(())
 }
@@ -198,13 +200,15 @@ fn resolve_at(
         → Reaches store.now c r.new.hops.items (in_clause trail.now.words r.new.seen.items)) }
 {
     let word = trail.word(place);
-    let reason = trail.reason(place);
+    let Some(reason) = trail.reason(place) else {
+        unreachable!()
+    };
     take_out(r, word, reason)?;
     let span = Span {
         boundary,
         limit: place,
     };
-    join(r, store.clause(reason - 1), word, trail, span)?;
+    join(r, store.clause(reason), word, trail, span)?;
     Ok(())
 }
 

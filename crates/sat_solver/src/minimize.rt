@@ -43,17 +43,16 @@ fn shed_at(
     if !seen {
         return Ok(());
     }
-    let reason = trail.reason(place);
-    if reason == 0 {
+    let Some(reason) = trail.reason(place) else {
         return Ok(());
-    }
+    };
     let end = trail.len();
     cut(r, word, reason)?;
     let span = Span {
         boundary: end,
         limit: end,
     };
-    join(r, store.clause(reason - 1), word, trail, span)?;
+    join(r, store.clause(reason), word, trail, span)?;
     Ok(())
 }
 

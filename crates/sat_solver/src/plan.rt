@@ -68,9 +68,9 @@ impl Graph<'_> {
         var < self.seen.len() && self.seen[var]
     }
 
-    /// The number of the clause that gave the opposite of a literal ahead of the last level, or 0.
+    /// The clause that gave the opposite of a literal ahead of the last level.
     #[inline]
-    fn reason(&self, word: u32) -> u32 {
+    fn reason(&self, word: u32) -> Option<u32> {
         self.trail.given(word, self.boundary)
     }
 }
@@ -127,11 +127,13 @@ impl Plan {
 
     /// Looks at a reason until a literal comes first, or one is in the way.
     fn look(&self, graph: &Graph<'_>, visit: Visit) -> Look {
-        let number = graph.reason(visit.word);
-        if number == 0 || number as usize > graph.store.count() {
+        let Some(reason) = graph.reason(visit.word) else {
+            return Look::Stays;
+        };
+        if reason as usize >= graph.store.count() {
             return Look::Stays;
         }
-        let lits = graph.store.clause(number - 1);
+        let lits = graph.store.clause(reason);
         'lits: for k in visit.next..lits.len() {
             let word = lits[k];
             if word / 2 == visit.word / 2 {
@@ -141,7 +143,7 @@ impl Plan {
                 Fate::Goes => continue,
                 Fate::Stays => {}
                 Fate::Open => {
-                    if graph.reason(word) != 0 {
+                    if graph.reason(word).is_some() {
                         return Look::Open(k, word);
                     }
                 }
@@ -198,7 +200,7 @@ impl Plan {
         self.forget();
         'marked: for word in marked {
             let is_open = matches!(self.fate(*word), Fate::Open) && graph.is_marked(*word);
-            if !is_open || graph.reason(*word) == 0 {
+            if !is_open || graph.reason(*word).is_none() {
                 continue;
             }
             self.walk(graph, *word)?;

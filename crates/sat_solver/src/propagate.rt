@@ -65,7 +65,7 @@ fn force(trail: &mut Trail, clause: u32, word: u32) -> Result<Visited, NoMemory>
     if is_false {
         return Ok(Visited::False);
     }
-    trail.assign(word, clause + 1)?;
+    trail.assign(word, clause)?;
     Ok(Visited::Kept(word))
 }
 
