@@ -1,22 +1,18 @@
 -- What resolving a literal away that became false ahead of the last level does to the clause so far.
-use Rattle.std.proofs.Common.{◌≡◌, ◌⊎◌, inl, inr, ℕ, ◌-◌, ◌/◌, ◌<◌, Bool, true, false, true≢false, not, ◌||◌, ◌&&◌, List, [], ◌∷◌, ◌++◌, length, take, get_or, sym, ap, ◌∙◌, subst, arith}
+use Rattle.std.proofs.Common.{◌≡◌, ◌⊎◌, inl, inr, ℕ, ◌+◌, ◌/◌, ◌<◌, Bool, true, false, true≢false, not, ◌||◌, ◌&&◌, List, [], ◌∷◌, ◌++◌, length, take, get_or, sym, ap, ◌∙◌, subst, arith}
 use Rattle.std.specs.Prelude.{◌==◌}
 use Rattle.std.proofs.Math.ListN.{set}
 use Rattle.std.proofs.lemmas.List.{get_or-set_other}
 use Rattle.std.proofs.lemmas.Bool.{eq-eqb, and_from, or_cases}
 use Rattle.sat_solver.specs.Words.{opposite, has}
 use Rattle.sat_solver.specs.Trails.{Way}
-use Rattle.sat_solver.specs.Watching.{clause, Gives}
+use Rattle.sat_solver.specs.Watching.{clause}
 use Rattle.sat_solver.specs.Resolving.{IsApart, is_seen, in_clause, Reaches, IsLeft, IsGiven}
 use Rattle.sat_solver.specs.declared.analyze.Hop.{Hop}
 use Rattle.sat_solver.proofs.Marks.{has_at, opposite_twice, half_opposite}
 use Rattle.sat_solver.proofs.Passing.{reaches_more, resolved_is}
 use Rattle.sat_solver.proofs.Covering.{and_left, and_right, still_seen}
 use Rattle.sat_solver.proofs.Arranges.{has_less}
-
--- the clause that gave the literal at a place
-pub giver : (f : List (List ℕ)) (t : Way) (b q reason : ℕ) → IsGiven f t b → q < length t.words → reason ≡ get_or t.reasons q 0 → (reason ≡ 0 → ⊥) → Gives f (take q t.words) (get_or t.words q 0) (reason - 1)
-giver f t b q reason given within named some = given.gives q (reason - 1) within (omega arith)
 
 -- what joining the clause that gave a literal marks, where the literal's place is told
 pub joined_at : (words : List ℕ) (seen taken new : List Bool) (lits d : List ℕ) (w v : ℕ) → w ≡ v → taken ≡ set seen (w / 2) false → lits ≡ d
@@ -29,22 +25,21 @@ joined_at words seen taken new lits d w v ew et el h x q =
     ∙ ap (λ y. is_seen (set seen (v / 2) false) x || (has d x && not (x == y))) ew
 
 -- where a literal is taken out and the clause that gave its opposite is joined, the hops lead one further
-pub leads_on : (f : List (List ℕ)) (t : Way) (b p w reason : ℕ) (seen taken new : List Bool) (lits : List ℕ) (c : ℕ → Bool) (hops more : List Hop) → IsApart t.words → p < length t.words → IsGiven f t b → w ≡ get_or t.words p 0
-    → reason ≡ get_or t.reasons p 0 → (reason ≡ 0 → ⊥) → is_seen seen (get_or t.words p 0) ≡ true → length seen ≡ t.vars → taken ≡ set seen (w / 2) false → lits ≡ clause f (reason - 1)
-    → ((x : ℕ) → has t.words (opposite x) ≡ true → is_seen new x ≡ (is_seen taken x || (has lits x && not (x == w)))) → more ≡ hops ++ record { number = reason; pivot = opposite w } ∷ []
+pub leads_on : (f : List (List ℕ)) (t : Way) (b p w n : ℕ) (seen taken new : List Bool) (lits : List ℕ) (c : ℕ → Bool) (hops more : List Hop) → IsApart t.words → p < length t.words → IsGiven f t b → w ≡ get_or t.words p 0
+    → get_or t.reasons p 0 ≡ n + 1 → is_seen seen (get_or t.words p 0) ≡ true → length seen ≡ t.vars → taken ≡ set seen (w / 2) false → lits ≡ clause f n
+    → ((x : ℕ) → has t.words (opposite x) ≡ true → is_seen new x ≡ (is_seen taken x || (has lits x && not (x == w)))) → more ≡ hops ++ record { number = n + 1; pivot = opposite w } ∷ []
     → Reaches f c hops (in_clause t.words seen) → Reaches f c more (in_clause t.words new)
-leads_on f t b p w reason seen taken new lits c hops more apart within given ew er some on long et el joined em h =
-    let n = reason - 1 in
-    let g = giver f t b p reason given within er some in
+leads_on f t b p w n seen taken new lits c hops more apart within given ew er on long et el joined em h =
+    let g = given.gives p n within er in
     let v = get_or t.words p 0 in
     let d = clause f n in
     let small = given.words p within in
-    let hop : Hop = record { number = reason; pivot = opposite v } in
+    let hop : Hop = record { number = n + 1; pivot = opposite v } in
     let held : has t.words (opposite (opposite v)) ≡ true = ap (has t.words) (opposite_twice v) ∙ has_at t.words p within in
     let marked : is_seen seen (opposite v) ≡ true = ap (λ (i : ℕ). get_or seen i false) (half_opposite v) ∙ on in
     let pivot_in : in_clause t.words seen (opposite v) ≡ true = and_from (has t.words (opposite (opposite v))) (is_seen seen (opposite v)) held marked in
     let stands : has d (opposite (opposite v)) ≡ true = ap (has d) (opposite_twice v) ∙ g.stands in
-    subst (λ (hs : List Hop). Reaches f c hs (in_clause t.words new)) (sym (em ∙ ap (λ (y : ℕ). hops ++ (record { number = reason; pivot = opposite y }) ∷ []) ew))
+    subst (λ (hs : List Hop). Reaches f c hs (in_clause t.words new)) (sym (em ∙ ap (λ (y : ℕ). hops ++ (record { number = n + 1; pivot = opposite y }) ∷ []) ew))
     (reaches_more f c (in_clause t.words seen) (in_clause t.words new) hops hop n h (omega arith) g.there pivot_in stands
     (resolved_is t.words seen new p d apart within (omega arith) g.others (joined_at t.words seen taken new lits d w v ew et el joined)))
 

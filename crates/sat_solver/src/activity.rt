@@ -15,9 +15,6 @@ use cnf::Lit;
 use rh_base::NoMemory;
 use std::alloc::Global;
 
-/// No place in the heap.
-const OUTSIDE: u32 = u32::MAX;
-
 /// What a conflict adds to the activity of a variable at first.
 const FIRST_BUMP: u64 = 1 << 10;
 
@@ -47,14 +44,14 @@ fn word_within(lit: Lit, vars: usize) -> Option<u32>
     Some((2 * (lit.var - 1) + sign) as u32)
 }
 
-/// The variables as a heap, the most active on top, and the sign that each had last. Only where the search looks first depends on
-/// it: each access is tested, and what it gives is tested again.
+/// The variables as a heap, the most active on top, the place of each in it, where it has one, and the value that each had last. Only
+/// where the search looks first depends on it: each access is tested, and what it gives is tested again.
 #[derive(Drop)]
 pub(crate) struct Activity {
     values: Vec<u64>,
     phases: Vec<bool>,
     heap: Vec<u32>,
-    places: Vec<u32>,
+    places: Vec<Option<u32>>,
     bump: u64,
     firsts: Vec<u32>,
     passed: usize,
@@ -67,9 +64,9 @@ impl Activity {
     {
         let mut activity = Activity {
             values: vec![in alloc; 0; vars]?,
-            phases: vec![in alloc; true; vars]?,
+            phases: vec![in alloc; false; vars]?,
             heap: Vec::new(alloc),
-            places: vec![in alloc; OUTSIDE; vars]?,
+            places: vec![in alloc; None; vars]?,
             bump: FIRST_BUMP,
             firsts: Vec::new(alloc),
             passed: 0,
@@ -154,10 +151,9 @@ impl Activity {
             return;
         }
         self.values[i] = self.values[i].saturating_add(self.bump.saturating_mul(times));
-        let place = self.place(var);
-        if place == OUTSIDE {
+        let Some(place) = self.place(var) else {
             return;
-        }
+        };
         self.rise(place as usize, var);
     }
 
@@ -170,13 +166,13 @@ impl Activity {
         0
     }
 
-    /// The last sign of a variable, true where it was false.
+    /// The value that a variable had last, at first false.
     pub(crate) fn phase(&self, var: u32) -> bool {
         let i = var as usize;
         if i < self.phases.len() {
             return self.phases[i];
         }
-        true
+        false
     }
 
     /// The variable at a place of the heap.
@@ -187,17 +183,17 @@ impl Activity {
         0
     }
 
-    /// The place of a variable.
-    fn place(&self, var: u32) -> u32 {
+    /// The place of a variable, where it stands in the heap.
+    fn place(&self, var: u32) -> Option<u32> {
         let i = var as usize;
         if i < self.places.len() {
             return self.places[i];
         }
-        OUTSIDE
+        None
     }
 
-    /// Writes down where a variable stands.
-    fn set_place(&mut self, var: u32, place: u32)
+    /// Writes down where a variable stands, if it does.
+    fn set_place(&mut self, var: u32, place: Option<u32>)
         ensures heap { self.new.heap ≡ self.old.heap }
         ensures firsts { self.new.firsts ≡ self.old.firsts }
     {
@@ -216,7 +212,7 @@ impl Activity {
             return;
         }
         self.heap[place] = var;
-        self.set_place(var, place as u32);
+        self.set_place(var, Some(place as u32));
     }
 
     /// Whether what stands above a place is less active.
@@ -294,18 +290,18 @@ impl Activity {
             return None;
         };
         if self.heap.len() == 0 {
-            self.set_place(last, OUTSIDE);
+            self.set_place(last, None);
             return Some(last);
         }
         let top = self.at(0);
-        self.set_place(top, OUTSIDE);
+        self.set_place(top, None);
         self.sink(last);
         Some(top)
     }
 
     /// A variable may be chosen again.
     fn insert(&mut self, var: u32) -> Result<(), NoMemory> {
-        if self.place(var) != OUTSIDE {
+        if self.place(var).is_some() {
             return Ok(());
         }
         let last = self.heap.len();
@@ -322,7 +318,7 @@ impl Activity {
             if var >= self.phases.len() {
                 continue;
             }
-            self.phases[var] = word % 2 == 1;
+            self.phases[var] = word % 2 == 0;
             self.insert(word / 2)?;
         }
         Ok(())

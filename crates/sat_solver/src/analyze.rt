@@ -61,6 +61,13 @@ impl Resolvent {
     }
 }
 
+/// A part of the trail: from where the last level begins up to a limit, from which on nothing is marked.
+#[derive(Clone, Copy)]
+pub(crate) struct Span {
+    pub boundary: usize,
+    pub limit: usize,
+}
+
 /// Whether the variable of a literal is marked.
 #[inline]
 pub(crate) fn is_marked(seen: &[bool], word: u32) -> bool
@@ -72,20 +79,14 @@ pub(crate) fn is_marked(seen: &[bool], word: u32) -> bool
 
 /// Marks the variable of a literal that is false.
 #[inline]
-fn mark(
-    r: &mut Resolvent,
-    word: u32,
-    trail: &Trail,
-    boundary: usize,
-    _limit: usize,
-) -> Result<(), NoMemory>
+fn mark(r: &mut Resolvent, word: u32, trail: &Trail, span: Span) -> Result<(), NoMemory>
     requires apart { IsApart trail.now.words }
     requires short { length trail.now.words < 2 ^ 32 }
-    requires fits { _limit ≤ length trail.now.words }
+    requires fits { span.limit ≤ length trail.now.words }
     requires below { word < 2 * trail.now.vars }
-    requires is_false { has (take _limit trail.now.words) (opposite word) ≡ true }
-    requires marked { IsMarked trail.now.words trail.now.vars boundary _limit r.old.seen.items r.old.pending }
-    ensures marked { OnOk result (IsMarked trail.now.words trail.now.vars boundary _limit r.new.seen.items r.new.pending) }
+    requires is_false { has (take span.limit trail.now.words) (opposite word) ≡ true }
+    requires marked { IsMarked trail.now.words trail.now.vars span.boundary span.limit r.old.seen.items r.old.pending }
+    ensures marked { OnOk result (IsMarked trail.now.words trail.now.vars span.boundary span.limit r.new.seen.items r.new.pending) }
     ensures grows { OnOk result (r.old.pending ≤ r.new.pending) }
     ensures seen { OnOk result ((x : ℕ) → has trail.now.words (opposite x) ≡ true
         → is_seen r.new.seen.items x ≡ (is_seen r.old.seen.items x || (x == word))) }
@@ -100,7 +101,7 @@ fn mark(
     r.marked.push(word)?;
     r.seen[(word / 2) as usize] = true;
     let place = trail.place(word);
-    if place < boundary {
+    if place < span.boundary {
         return Ok(());
     }
     r.pending += 1;
@@ -113,16 +114,15 @@ pub(crate) fn join(
     lits: &[u32],
     skip: u32,
     trail: &Trail,
-    boundary: usize,
-    limit: usize,
+    span: Span,
 ) -> Result<(), NoMemory>
     requires apart { IsApart trail.now.words }
     requires short { length trail.now.words < 2 ^ 32 }
-    requires fits { limit ≤ length trail.now.words }
+    requires fits { span.limit ≤ length trail.now.words }
     requires below { (x : ℕ) → has lits.now x ≡ true → x < 2 * trail.now.vars }
-    requires are_false { (x : ℕ) → has lits.now x ≡ true → (x ≡ skip) ⊎ (has (take limit trail.now.words) (opposite x) ≡ true) }
-    requires marked { IsMarked trail.now.words trail.now.vars boundary limit r.old.seen.items r.old.pending }
-    ensures marked { OnOk result (IsMarked trail.now.words trail.now.vars boundary limit r.new.seen.items r.new.pending) }
+    requires are_false { (x : ℕ) → has lits.now x ≡ true → (x ≡ skip) ⊎ (has (take span.limit trail.now.words) (opposite x) ≡ true) }
+    requires marked { IsMarked trail.now.words trail.now.vars span.boundary span.limit r.old.seen.items r.old.pending }
+    ensures marked { OnOk result (IsMarked trail.now.words trail.now.vars span.boundary span.limit r.new.seen.items r.new.pending) }
     ensures grows { OnOk result (r.old.pending ≤ r.new.pending) }
     ensures seen { OnOk result ((x : ℕ) → has trail.now.words (opposite x) ≡ true
         → is_seen r.new.seen.items x ≡ (is_seen r.old.seen.items x || (has lits.now x && not (x == skip)))) }
@@ -134,22 +134,23 @@ pub(crate) fn join(
         if *word == skip {
             continue;
         }
-        mark(r, *word, trail, boundary, limit)?;
+        mark(r, *word, trail, span)?;
     }
     Ok(())
 }
 
 /// Takes the opposite of a literal out of the clause so far: names the clause that gave the literal.
 #[inline]
-pub(crate) fn cut(r: &mut Resolvent, word: u32, reason: u32) -> Result<(), NoMemory>
+pub(crate) fn cut(r: &mut Resolvent, word: u32, clause: u32) -> Result<(), NoMemory>
     requires within { word / 2 < length r.old.seen.items }
+    requires few { clause + 1 < 2 ^ 32 }
     ensures seen { OnOk result (r.new.seen.items ≡ slice_set r.old.seen.items (word / 2) false) }
     ensures pending { OnOk result (r.new.pending ≡ r.old.pending) }
     ensures marked { OnOk result (r.new.marked ≡ r.old.marked) }
-    ensures hops { OnOk result (r.new.hops.items ≡ r.old.hops.items ++ record { number = reason; pivot = opposite word } ∷ []) }
+    ensures hops { OnOk result (r.new.hops.items ≡ r.old.hops.items ++ record { number = clause + 1; pivot = opposite word } ∷ []) }
 {
     r.hops.push(Hop {
-        number: reason,
+        number: clause + 1,
         pivot: opposite(word),
     })?;
     r.seen[(word / 2) as usize] = false;
@@ -158,15 +159,16 @@ pub(crate) fn cut(r: &mut Resolvent, word: u32, reason: u32) -> Result<(), NoMem
 
 /// Takes a literal out of the clause so far, in which it is the last on the trail: names the clause that gave its opposite.
 #[inline]
-fn take_out(r: &mut Resolvent, word: u32, reason: u32) -> Result<(), NoMemory>
+fn take_out(r: &mut Resolvent, word: u32, clause: u32) -> Result<(), NoMemory>
     requires within { word / 2 < length r.old.seen.items }
+    requires few { clause + 1 < 2 ^ 32 }
     requires some { 0 < r.old.pending }
     ensures seen { OnOk result (r.new.seen.items ≡ slice_set r.old.seen.items (word / 2) false) }
     ensures pending { OnOk result (r.new.pending + 1 ≡ r.old.pending) }
     ensures marked { OnOk result (r.new.marked ≡ r.old.marked) }
-    ensures hops { OnOk result (r.new.hops.items ≡ r.old.hops.items ++ record { number = reason; pivot = opposite word } ∷ []) }
+    ensures hops { OnOk result (r.new.hops.items ≡ r.old.hops.items ++ record { number = clause + 1; pivot = opposite word } ∷ []) }
 {
-    cut(r, word, reason)?;
+    cut(r, word, clause)?;
     r.pending -= 1;
     Ok(())
 }
@@ -198,9 +200,15 @@ fn resolve_at(
         → Reaches store.now c r.new.hops.items (in_clause trail.now.words r.new.seen.items)) }
 {
     let word = trail.word(place);
-    let reason = trail.reason(place);
+    let Some(reason) = trail.reason(place) else {
+        unreachable!()
+    };
     take_out(r, word, reason)?;
-    join(r, store.clause(reason - 1), word, trail, boundary, place)?;
+    let span = Span {
+        boundary,
+        limit: place,
+    };
+    join(r, store.clause(reason), word, trail, span)?;
     Ok(())
 }
 
@@ -299,7 +307,7 @@ fn begin(
     let lits = store.clause(conflict);
     let limit = trail.len();
     let skip = trail.word(boundary);
-    join(r, lits, skip, trail, boundary, limit)?;
+    join(r, lits, skip, trail, Span { boundary, limit })?;
     Ok(())
 }
 
@@ -392,7 +400,8 @@ fn begin_all(r: &mut Resolvent, store: &Store, trail: &Trail, conflict: u32) -> 
     }
     let limit = trail.len();
     let skip = opposite(word_at(lits, 0));
-    join(r, lits, skip, trail, 0, limit)?;
+    let span = Span { boundary: 0, limit };
+    join(r, lits, skip, trail, span)?;
     Ok(())
 }
 

@@ -60,7 +60,7 @@ pub(crate) fn learn_long(
     let clause = store.count() as u32;
     watch(watches, clause, words[0], words[1])?;
     store.push(words)?;
-    trail.assign(words[0], clause + 1)?;
+    trail.assign(words[0], clause)?;
     Ok(())
 }
 
@@ -80,7 +80,7 @@ pub(crate) fn learn_unit(
 {
     let clause = store.count() as u32;
     store.push(words)?;
-    trail.assign(words[0], clause + 1)?;
+    trail.assign(words[0], clause)?;
     Ok(())
 }
 

@@ -7,7 +7,8 @@ ghost use Rattle.sat_solver.specs.Words.{has};
 ghost use Rattle.sat_solver.specs.Resolving.{IsApart, in_clause, Reaches, IsGiven, IsLeft, IsClear, Covers};
 ghost use Rattle.sat_solver.specs.Watching.{clause, IsFalse, AtRest};
 
-use crate::analyze::{Resolvent, cut, is_marked, join, to_last_literal};
+use crate::analyze::{Resolvent, Span, cut, is_marked, join, to_last_literal};
+use crate::plan::Graph;
 use crate::store::Store;
 use crate::trail::Trail;
 use rh_base::NoMemory;
@@ -18,7 +19,6 @@ fn shed_at(
     store: &Store,
     trail: &Trail,
     boundary: usize,
-    _left: usize,
     place: usize,
 ) -> Result<(), NoMemory>
     requires apart { IsApart trail.now.words }
@@ -27,11 +27,11 @@ fn shed_at(
     requires within { place < length trail.now.words }
     requires idle { r.old.pending ≡ 0 }
     requires long { length r.old.seen.items ≡ trail.now.vars }
-    requires left { IsLeft trail.now.words boundary _left r.old.seen.items }
     requires reasons { IsGiven store.now trail.now boundary }
     ensures idle { OnOk result (r.new.pending ≡ 0) }
     ensures long { OnOk result (length r.new.seen.items ≡ trail.now.vars) }
-    ensures left { OnOk result (IsLeft trail.now.words boundary _left r.new.seen.items) }
+    ensures left { OnOk result ((p : ℕ) → IsLeft trail.now.words boundary p r.old.seen.items
+        → IsLeft trail.now.words boundary p r.new.seen.items) }
     ensures covered { OnOk result (Covers trail.now.words r.old.seen.items r.old.marked.items
         → Covers trail.now.words r.new.seen.items r.new.marked.items) }
     ensures leads { OnOk result ((c : ℕ → Bool)
@@ -43,13 +43,16 @@ fn shed_at(
     if !seen {
         return Ok(());
     }
-    let reason = trail.reason(place);
-    if reason == 0 {
+    let Some(reason) = trail.reason(place) else {
         return Ok(());
-    }
+    };
     let end = trail.len();
     cut(r, word, reason)?;
-    join(r, store.clause(reason - 1), word, trail, end, end)?;
+    let span = Span {
+        boundary: end,
+        limit: end,
+    };
+    join(r, store.clause(reason), word, trail, span)?;
     Ok(())
 }
 
@@ -60,18 +63,17 @@ fn shed(
     store: &Store,
     trail: &Trail,
     boundary: usize,
-    left: usize,
     word: u32,
 ) -> Result<(), NoMemory>
     requires apart { IsApart trail.now.words }
     requires short { length trail.now.words < 2 ^ 32 }
     requires idle { r.old.pending ≡ 0 }
     requires long { length r.old.seen.items ≡ trail.now.vars }
-    requires left { IsLeft trail.now.words boundary left r.old.seen.items }
     requires reasons { IsGiven store.now trail.now boundary }
     ensures idle { OnOk result (r.new.pending ≡ 0) }
     ensures long { OnOk result (length r.new.seen.items ≡ trail.now.vars) }
-    ensures left { OnOk result (IsLeft trail.now.words boundary left r.new.seen.items) }
+    ensures left { OnOk result ((p : ℕ) → IsLeft trail.now.words boundary p r.old.seen.items
+        → IsLeft trail.now.words boundary p r.new.seen.items) }
     ensures covered { OnOk result (Covers trail.now.words r.old.seen.items r.old.marked.items
         → Covers trail.now.words r.new.seen.items r.new.marked.items) }
     ensures leads { OnOk result ((c : ℕ → Bool)
@@ -81,25 +83,19 @@ fn shed(
     let Some(place) = trail.place_ahead(word, boundary) else {
         return Ok(());
     };
-    shed_at(r, store, trail, boundary, left, place)
+    shed_at(r, store, trail, boundary, place)
 }
 
 /// Resolves away what goes.
-fn shrink(
-    r: &mut Resolvent,
-    store: &Store,
-    trail: &Trail,
-    boundary: usize,
-    left: usize,
-) -> Result<(), NoMemory>
+fn shrink(r: &mut Resolvent, store: &Store, trail: &Trail, boundary: usize) -> Result<(), NoMemory>
     requires apart { IsApart trail.now.words }
     requires short { length trail.now.words < 2 ^ 32 }
     requires idle { r.old.pending ≡ 0 }
     requires long { length r.old.seen.items ≡ trail.now.vars }
-    requires left { IsLeft trail.now.words boundary left r.old.seen.items }
     requires reasons { IsGiven store.now trail.now boundary }
     ensures long { OnOk result (length r.new.seen.items ≡ trail.now.vars) }
-    ensures left { OnOk result (IsLeft trail.now.words boundary left r.new.seen.items) }
+    ensures left { OnOk result ((p : ℕ) → IsLeft trail.now.words boundary p r.old.seen.items
+        → IsLeft trail.now.words boundary p r.new.seen.items) }
     ensures covered { OnOk result (Covers trail.now.words r.old.seen.items r.old.marked.items
         → Covers trail.now.words r.new.seen.items r.new.marked.items) }
     ensures leads { OnOk result ((c : ℕ → Bool)
@@ -108,7 +104,7 @@ fn shrink(
 {
     'shed: for _literal in 0..r.plan.len() {
         match r.plan.pop() {
-            Some(word) => shed(r, store, trail, boundary, left, word)?,
+            Some(word) => shed(r, store, trail, boundary, word)?,
             None => {}
         }
     }
@@ -124,7 +120,13 @@ fn plan(r: &mut Resolvent, store: &Store, trail: &Trail, boundary: usize) -> Res
 {
     r.pending = 0;
     r.met = r.marked.len();
-    r.plan.make(&r.seen, &r.marked, store, trail, boundary)
+    let graph = Graph {
+        store,
+        trail,
+        seen: &r.seen,
+        boundary,
+    };
+    r.plan.make(&graph, &r.marked)
 }
 
 /// Resolves a clause that is false to one that has one literal of the last level, and makes it smaller; where the opposite of
@@ -152,6 +154,6 @@ pub(crate) fn analyze(
 {
     let place = to_last_literal(r, store, trail, boundary, conflict)?;
     plan(r, store, trail, boundary)?;
-    shrink(r, store, trail, boundary, place)?;
+    shrink(r, store, trail, boundary)?;
     Ok(place)
 }

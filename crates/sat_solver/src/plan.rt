@@ -30,6 +30,16 @@ struct Visit {
     next: usize,
 }
 
+/// What a plan is made for: the implication graph as the trail and the clauses have it, the marks of the clause so far, and where the
+/// last level begins.
+#[derive(Clone, Copy)]
+pub(crate) struct Graph<'g> {
+    pub store: &'g Store,
+    pub trail: &'g Trail,
+    pub seen: &'g [bool],
+    pub boundary: usize,
+}
+
 /// What a look at a reason says.
 #[derive(Clone, Copy)]
 enum Look {
@@ -50,11 +60,19 @@ pub(crate) struct Plan {
     patience: u32,
 }
 
-/// Whether the variable of a literal is marked.
-#[inline]
-fn is_marked(seen: &[bool], word: u32) -> bool {
-    let var = (word / 2) as usize;
-    var < seen.len() && seen[var]
+impl Graph<'_> {
+    /// Whether the variable of a literal is marked.
+    #[inline]
+    fn is_marked(&self, word: u32) -> bool {
+        let var = (word / 2) as usize;
+        var < self.seen.len() && self.seen[var]
+    }
+
+    /// The clause that gave the opposite of a literal ahead of the last level.
+    #[inline]
+    fn reason(&self, word: u32) -> Option<u32> {
+        self.trail.given(word, self.boundary)
+    }
 }
 
 impl Plan {
@@ -108,19 +126,14 @@ impl Plan {
     }
 
     /// Looks at a reason until a literal comes first, or one is in the way.
-    fn look(
-        &self,
-        seen: &[bool],
-        store: &Store,
-        trail: &Trail,
-        boundary: usize,
-        visit: Visit,
-    ) -> Look {
-        let number = trail.given(visit.word, boundary);
-        if number == 0 || number as usize > store.count() {
+    fn look(&self, graph: &Graph<'_>, visit: Visit) -> Look {
+        let Some(reason) = graph.reason(visit.word) else {
+            return Look::Stays;
+        };
+        if reason as usize >= graph.store.count() {
             return Look::Stays;
         }
-        let lits = store.clause(number - 1);
+        let lits = graph.store.clause(reason);
         'lits: for k in visit.next..lits.len() {
             let word = lits[k];
             if word / 2 == visit.word / 2 {
@@ -130,12 +143,12 @@ impl Plan {
                 Fate::Goes => continue,
                 Fate::Stays => {}
                 Fate::Open => {
-                    if trail.given(word, boundary) != 0 {
+                    if graph.reason(word).is_some() {
                         return Look::Open(k, word);
                     }
                 }
             }
-            if !is_marked(seen, word) {
+            if !graph.is_marked(word) {
                 return Look::Stays;
             }
         }
@@ -150,15 +163,8 @@ impl Plan {
     }
 
     /// Goes on with the last literal that is looked at.
-    fn go_on(
-        &mut self,
-        seen: &[bool],
-        store: &Store,
-        trail: &Trail,
-        boundary: usize,
-        visit: Visit,
-    ) -> Result<(), NoMemory> {
-        match self.look(seen, store, trail, boundary, visit) {
+    fn go_on(&mut self, graph: &Graph<'_>, visit: Visit) -> Result<(), NoMemory> {
+        match self.look(graph, visit) {
             Look::Goes => {
                 self.settle(visit.word, Fate::Goes)?;
                 self.order.push(visit.word)?;
@@ -176,14 +182,7 @@ impl Plan {
     }
 
     /// Looks at a literal, and at those that come first, while there is patience.
-    fn walk(
-        &mut self,
-        seen: &[bool],
-        store: &Store,
-        trail: &Trail,
-        boundary: usize,
-        word: u32,
-    ) -> Result<(), NoMemory> {
+    fn walk(&mut self, graph: &Graph<'_>, word: u32) -> Result<(), NoMemory> {
         self.path.clear();
         self.path.push(Visit { word, next: 0 })?;
         'walk: for _look in 0..self.patience {
@@ -191,27 +190,20 @@ impl Plan {
                 return Ok(());
             };
             self.patience = self.patience.saturating_sub(1);
-            self.go_on(seen, store, trail, boundary, visit)?;
+            self.go_on(graph, visit)?;
         }
         Ok(())
     }
 
     /// Plans which of the marked literals go that became false ahead of a place.
-    pub(crate) fn make(
-        &mut self,
-        seen: &[bool],
-        marked: &[u32],
-        store: &Store,
-        trail: &Trail,
-        boundary: usize,
-    ) -> Result<(), NoMemory> {
+    pub(crate) fn make(&mut self, graph: &Graph<'_>, marked: &[u32]) -> Result<(), NoMemory> {
         self.forget();
         'marked: for word in marked {
-            let is_open = matches!(self.fate(*word), Fate::Open) && is_marked(seen, *word);
-            if !is_open || trail.given(*word, boundary) == 0 {
+            let is_open = matches!(self.fate(*word), Fate::Open) && graph.is_marked(*word);
+            if !is_open || graph.reason(*word).is_none() {
                 continue;
             }
-            self.walk(seen, store, trail, boundary, *word)?;
+            self.walk(graph, *word)?;
         }
         Ok(())
     }

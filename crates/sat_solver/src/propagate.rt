@@ -28,6 +28,14 @@ pub(crate) enum Visited {
     False,
 }
 
+/// What unit propagation works on: the clause database, the trail and the watch lists.
+#[derive(Drop)]
+pub(crate) struct Propagator {
+    pub store: Store,
+    pub trail: Trail,
+    pub watches: Watches,
+}
+
 /// The first place from 2 on of a literal that isn't false.
 #[inline]
 fn free_place(trail: &Trail, lits: &[u32]) -> Option<usize>
@@ -57,99 +65,8 @@ fn force(trail: &mut Trail, clause: u32, word: u32) -> Result<Visited, NoMemory>
     if is_false {
         return Ok(Visited::False);
     }
-    trail.assign(word, clause + 1)?;
+    trail.assign(word, clause)?;
     Ok(Visited::Kept(word))
-}
-
-/// The clause watches its literal at place k from now on, in place of the one at a side.
-#[inline]
-fn shift(
-    store: &mut Store,
-    watches: &mut Watches,
-    watcher: Watcher,
-    side: usize,
-    k: usize,
-    word: u32,
-) -> Result<(), NoMemory>
-    requires there { watcher.clause < length store.old }
-    requires near { side < length (clause store.old watcher.clause) }
-    requires far { k < length (clause store.old watcher.clause) }
-    requires below { word < length watches.old }
-    ensures store { OnOk result (store.new ≡ slice_set store.old watcher.clause (exchanged (clause store.old watcher.clause) side k)) }
-    ensures watches { OnOk result (watches.new ≡ slice_set watches.old word (slice_index_or watches.old word [] ++ watcher ∷ [])) }
-{
-    watches.push(word, watcher)?;
-    store.exchange(watcher.clause, side, k);
-    Ok(())
-}
-
-/// Visits a clause of which the watched literal at a side became false.
-#[inline]
-#[tactic(auto, using(crate::proofs::Extending::continues_same))]
-fn visit_at(
-    store: &mut Store,
-    trail: &mut Trail,
-    watches: &mut Watches,
-    watcher: Watcher,
-    falsified: u32,
-    side: usize,
-) -> Result<Visited, NoMemory>
-    requires sound { IsSound store.old trail.old watches.old }
-    requires entry { IsEntry store.old watcher }
-    requires near { side < 2 }
-    requires here { slice_index (clause store.old watcher.clause) side ≡ falsified }
-    ensures goes { OnOk result (Continues store.old trail.old store.new trail.new) }
-    ensures visits { IfOk result (λ out. (front rest : List Watcher)
-        → Scanning store.old trail.old watches.old front (watcher ∷ rest) falsified None
-        → IsAfter store.new trail.new watches.new front rest falsified watcher out) }
-{
-    let lits = store.clause(watcher.clause);
-    let other = lits[1 - side];
-    let holds = trail.holds(other);
-    if holds {
-        return Ok(Visited::Kept(other));
-    }
-    match free_place(trail, lits) {
-        None => Ok(force(trail, watcher.clause, other)?),
-        Some(k) => {
-            let word = lits[k];
-            let moved = Watcher {
-                clause: watcher.clause,
-                blocker: other,
-            };
-            shift(store, watches, moved, side, k, word)?;
-            Ok(Visited::Gone)
-        }
-    }
-}
-
-/// Visits a clause of which a watched literal became false.
-#[inline]
-#[tactic(auto, using(crate::proofs::Extending::continues_same))]
-fn visit(
-    store: &mut Store,
-    trail: &mut Trail,
-    watches: &mut Watches,
-    watcher: Watcher,
-    falsified: u32,
-) -> Result<Visited, NoMemory>
-    requires sound { IsSound store.old trail.old watches.old }
-    requires entry { IsEntry store.old watcher }
-    ensures goes { OnOk result (Continues store.old trail.old store.new trail.new) }
-    ensures visits { IfOk result (λ out. (front rest : List Watcher)
-        → Scanning store.old trail.old watches.old front (watcher ∷ rest) falsified None
-        → IsAfter store.new trail.new watches.new front rest falsified watcher out) }
-{
-    let lits = store.clause(watcher.clause);
-    let first = lits[0];
-    let second = lits[1];
-    if first == falsified {
-        return visit_at(store, trail, watches, watcher, falsified, 0);
-    }
-    if second == falsified {
-        return visit_at(store, trail, watches, watcher, falsified, 1);
-    }
-    Ok(Visited::Gone)
 }
 
 /// The watchers of a literal that became false: those ahead of `kept` stay, those from `next` on are to be visited. The
@@ -198,84 +115,6 @@ fn remains(scan: &Scan) -> bool
     scan.next < scan.list.len()
 }
 
-/// Visits the next watcher, where no clause was found to be false.
-#[inline]
-#[tactic(auto, using(crate::proofs::Extending::continues_same))]
-fn step_on(
-    store: &mut Store,
-    trail: &mut Trail,
-    watches: &mut Watches,
-    scan: &mut Scan,
-    watcher: Watcher,
-    falsified: u32,
-) -> Result<(), NoMemory>
-    requires order { scan.old.kept ≤ scan.old.next }
-    requires within { scan.old.next < length scan.old.list.items }
-    requires none { scan.old.conflict ≡ None }
-    requires scanning { Scanning store.old trail.old watches.old (take scan.old.kept scan.old.list.items)
-        (watcher ∷ drop (scan.old.next + 1) scan.old.list.items) falsified None }
-    ensures goes { OnOk result (Continues store.old trail.old store.new trail.new) }
-    ensures scanning { OnOk result
-        (Scanning store.new trail.new watches.new (take scan.new.kept scan.new.list.items)
-        (drop scan.new.next scan.new.list.items) falsified scan.new.conflict) }
-    ensures order { OnOk result (scan.new.kept ≤ scan.new.next) }
-    ensures next { OnOk result (scan.new.next ≡ scan.old.next + 1) }
-    ensures long { OnOk result (length scan.new.list.items ≡ length scan.old.list.items) }
-{
-    let holds = trail.holds(watcher.blocker);
-    if holds {
-        keep(scan, watcher.clause, watcher.blocker);
-        return Ok(());
-    }
-    match visit(store, trail, watches, watcher, falsified)? {
-        Visited::Gone => {
-            scan.next += 1;
-            Ok(())
-        }
-        Visited::Kept(blocker) => {
-            keep(scan, watcher.clause, blocker);
-            Ok(())
-        }
-        Visited::False => {
-            keep(scan, watcher.clause, watcher.blocker);
-            scan.conflict = Some(watcher.clause);
-            Ok(())
-        }
-    }
-}
-
-/// Visits the next watcher; after a clause that is false it stays.
-#[inline]
-#[tactic(auto, using(crate::proofs::Extending::continues_same))]
-fn step(
-    store: &mut Store,
-    trail: &mut Trail,
-    watches: &mut Watches,
-    scan: &mut Scan,
-    falsified: u32,
-) -> Result<(), NoMemory>
-    requires order { scan.old.kept ≤ scan.old.next }
-    requires within { scan.old.next < length scan.old.list.items }
-    requires scanning { Scanning store.old trail.old watches.old (take scan.old.kept scan.old.list.items)
-        (drop scan.old.next scan.old.list.items) falsified scan.old.conflict }
-    ensures goes { OnOk result (Continues store.old trail.old store.new trail.new) }
-    ensures scanning { OnOk result
-        (Scanning store.new trail.new watches.new (take scan.new.kept scan.new.list.items)
-        (drop scan.new.next scan.new.list.items) falsified scan.new.conflict) }
-    ensures order { OnOk result (scan.new.kept ≤ scan.new.next) }
-    ensures next { OnOk result (scan.new.next ≡ scan.old.next + 1) }
-    ensures long { OnOk result (length scan.new.list.items ≡ length scan.old.list.items) }
-{
-    let watcher = next_watcher(scan);
-    match scan.conflict {
-        Some(_found) => {
-            keep(scan, watcher.clause, watcher.blocker);
-            Ok(())
-        }
-        None => step_on(store, trail, watches, scan, watcher, falsified),
-    }
-}
-
 /// Gives the watchers that stay back to their literal.
 #[inline]
 fn finish(watches: &mut Watches, scan: Scan, falsified: u32) -> Option<u32>
@@ -294,48 +133,183 @@ fn finish(watches: &mut Watches, scan: Scan, falsified: u32) -> Option<u32>
     conflict
 }
 
-/// Visits all clauses that watch a literal which became false.
-fn propagate_word(
-    store: &mut Store,
-    trail: &mut Trail,
-    watches: &mut Watches,
-    falsified: u32,
-) -> Result<Option<u32>, NoMemory>
-    requires below { falsified < length watches.old }
-    requires scanning { Scanning store.old trail.old (slice_set watches.old falsified []) []
-        (slice_index_or watches.old falsified []) falsified None }
-    ensures goes { OnOk result (Continues store.old trail.old store.new trail.new) }
-    ensures ends { IfOk result (λ conflict. Ends store.new trail.new watches.new conflict) }
-{
-    let mut scan = Scan {
-        list: watches.take(falsified),
-        next: 0,
-        kept: 0,
-        conflict: None,
-    };
-    'scan: while remains(&scan) {
-        step(store, trail, watches, &mut scan, falsified)?;
+impl Propagator {
+    /// The clause watches its literal at place k from now on, in place of the one at a side.
+    #[inline]
+    fn shift(&mut self, watcher: Watcher, side: usize, k: usize, word: u32) -> Result<(), NoMemory>
+        requires there { watcher.clause < length self.old.store }
+        requires near { side < length (clause self.old.store watcher.clause) }
+        requires far { k < length (clause self.old.store watcher.clause) }
+        requires below { word < length self.old.watches }
+        ensures store { OnOk result (self.new.store ≡ slice_set self.old.store watcher.clause (exchanged (clause self.old.store watcher.clause) side k)) }
+        ensures trail { OnOk result (self.new.trail ≡ self.old.trail) }
+        ensures watches { OnOk result (self.new.watches ≡ slice_set self.old.watches word (slice_index_or self.old.watches word [] ++ watcher ∷ [])) }
+    {
+        self.watches.push(word, watcher)?;
+        self.store.exchange(watcher.clause, side, k);
+        Ok(())
     }
-    Ok(finish(watches, scan, falsified))
-}
 
-/// Sets what follows, until nothing more does or all literals of some clause are false.
-pub(crate) fn propagate(
-    store: &mut Store,
-    trail: &mut Trail,
-    watches: &mut Watches,
-) -> Result<Option<u32>, NoMemory>
-    requires { IsReady store.old trail.old watches.old }
-    ensures goes { OnOk result (Extends store.old trail.old store.new trail.new) }
-    ensures ends { IfOk result (λ conflict. Ends store.new trail.new watches.new conflict) }
-    ensures rest { IfOk result (λ conflict. conflict ≡ None → AtRest store.new trail.new.words) }
-    ensures end { IfOk result (λ conflict. conflict ≡ None → trail.new.done ≡ length trail.new.words) }
-{
-    'words: while let Some(word) = trail.next() {
-        match propagate_word(store, trail, watches, opposite(word))? {
-            Some(found) => return Ok(Some(found)),
-            None => {}
+    /// Visits a clause of which the watched literal at a side became false.
+    #[inline]
+    #[tactic(auto, using(crate::proofs::Extending::continues_same))]
+    fn visit_at(
+        &mut self,
+        watcher: Watcher,
+        falsified: u32,
+        side: usize,
+    ) -> Result<Visited, NoMemory>
+        requires sound { IsSound self.old.store self.old.trail self.old.watches }
+        requires entry { IsEntry self.old.store watcher }
+        requires near { side < 2 }
+        requires here { slice_index (clause self.old.store watcher.clause) side ≡ falsified }
+        ensures goes { OnOk result (Continues self.old.store self.old.trail self.new.store self.new.trail) }
+        ensures visits { IfOk result (λ out. (front rest : List Watcher)
+            → Scanning self.old.store self.old.trail self.old.watches front (watcher ∷ rest) falsified None
+            → IsAfter self.new.store self.new.trail self.new.watches front rest falsified watcher out) }
+    {
+        let lits = self.store.clause(watcher.clause);
+        let other = lits[1 - side];
+        let holds = self.trail.holds(other);
+        if holds {
+            return Ok(Visited::Kept(other));
+        }
+        match free_place(&self.trail, lits) {
+            None => Ok(force(&mut self.trail, watcher.clause, other)?),
+            Some(k) => {
+                let word = lits[k];
+                let moved = Watcher {
+                    clause: watcher.clause,
+                    blocker: other,
+                };
+                self.shift(moved, side, k, word)?;
+                Ok(Visited::Gone)
+            }
         }
     }
-    Ok(None)
+
+    /// Visits a clause of which a watched literal became false.
+    #[inline]
+    #[tactic(auto, using(crate::proofs::Extending::continues_same))]
+    fn visit(&mut self, watcher: Watcher, falsified: u32) -> Result<Visited, NoMemory>
+        requires sound { IsSound self.old.store self.old.trail self.old.watches }
+        requires entry { IsEntry self.old.store watcher }
+        ensures goes { OnOk result (Continues self.old.store self.old.trail self.new.store self.new.trail) }
+        ensures visits { IfOk result (λ out. (front rest : List Watcher)
+            → Scanning self.old.store self.old.trail self.old.watches front (watcher ∷ rest) falsified None
+            → IsAfter self.new.store self.new.trail self.new.watches front rest falsified watcher out) }
+    {
+        let lits = self.store.clause(watcher.clause);
+        let first = lits[0];
+        let second = lits[1];
+        if first == falsified {
+            return self.visit_at(watcher, falsified, 0);
+        }
+        if second == falsified {
+            return self.visit_at(watcher, falsified, 1);
+        }
+        Ok(Visited::Gone)
+    }
+
+    /// Visits the next watcher, where no clause was found to be false.
+    #[inline]
+    #[tactic(auto, using(crate::proofs::Extending::continues_same))]
+    fn step_on(&mut self, scan: &mut Scan, watcher: Watcher, falsified: u32) -> Result<(), NoMemory>
+        requires order { scan.old.kept ≤ scan.old.next }
+        requires within { scan.old.next < length scan.old.list.items }
+        requires none { scan.old.conflict ≡ None }
+        requires scanning { Scanning self.old.store self.old.trail self.old.watches (take scan.old.kept scan.old.list.items)
+            (watcher ∷ drop (scan.old.next + 1) scan.old.list.items) falsified None }
+        ensures goes { OnOk result (Continues self.old.store self.old.trail self.new.store self.new.trail) }
+        ensures scanning { OnOk result
+            (Scanning self.new.store self.new.trail self.new.watches (take scan.new.kept scan.new.list.items)
+            (drop scan.new.next scan.new.list.items) falsified scan.new.conflict) }
+        ensures order { OnOk result (scan.new.kept ≤ scan.new.next) }
+        ensures next { OnOk result (scan.new.next ≡ scan.old.next + 1) }
+        ensures long { OnOk result (length scan.new.list.items ≡ length scan.old.list.items) }
+    {
+        let holds = self.trail.holds(watcher.blocker);
+        if holds {
+            keep(scan, watcher.clause, watcher.blocker);
+            return Ok(());
+        }
+        match self.visit(watcher, falsified)? {
+            Visited::Gone => {
+                scan.next += 1;
+                Ok(())
+            }
+            Visited::Kept(blocker) => {
+                keep(scan, watcher.clause, blocker);
+                Ok(())
+            }
+            Visited::False => {
+                keep(scan, watcher.clause, watcher.blocker);
+                scan.conflict = Some(watcher.clause);
+                Ok(())
+            }
+        }
+    }
+
+    /// Visits the next watcher; after a clause that is false it stays.
+    #[inline]
+    #[tactic(auto, using(crate::proofs::Extending::continues_same))]
+    fn step(&mut self, scan: &mut Scan, falsified: u32) -> Result<(), NoMemory>
+        requires order { scan.old.kept ≤ scan.old.next }
+        requires within { scan.old.next < length scan.old.list.items }
+        requires scanning { Scanning self.old.store self.old.trail self.old.watches (take scan.old.kept scan.old.list.items)
+            (drop scan.old.next scan.old.list.items) falsified scan.old.conflict }
+        ensures goes { OnOk result (Continues self.old.store self.old.trail self.new.store self.new.trail) }
+        ensures scanning { OnOk result
+            (Scanning self.new.store self.new.trail self.new.watches (take scan.new.kept scan.new.list.items)
+            (drop scan.new.next scan.new.list.items) falsified scan.new.conflict) }
+        ensures order { OnOk result (scan.new.kept ≤ scan.new.next) }
+        ensures next { OnOk result (scan.new.next ≡ scan.old.next + 1) }
+        ensures long { OnOk result (length scan.new.list.items ≡ length scan.old.list.items) }
+    {
+        let watcher = next_watcher(scan);
+        match scan.conflict {
+            Some(_found) => {
+                keep(scan, watcher.clause, watcher.blocker);
+                Ok(())
+            }
+            None => self.step_on(scan, watcher, falsified),
+        }
+    }
+
+    /// Visits all clauses that watch a literal which became false.
+    fn propagate_word(&mut self, falsified: u32) -> Result<Option<u32>, NoMemory>
+        requires below { falsified < length self.old.watches }
+        requires scanning { Scanning self.old.store self.old.trail (slice_set self.old.watches falsified []) []
+            (slice_index_or self.old.watches falsified []) falsified None }
+        ensures goes { OnOk result (Continues self.old.store self.old.trail self.new.store self.new.trail) }
+        ensures ends { IfOk result (λ conflict. Ends self.new.store self.new.trail self.new.watches conflict) }
+    {
+        let mut scan = Scan {
+            list: self.watches.take(falsified),
+            next: 0,
+            kept: 0,
+            conflict: None,
+        };
+        'scan: while remains(&scan) {
+            self.step(&mut scan, falsified)?;
+        }
+        Ok(finish(&mut self.watches, scan, falsified))
+    }
+
+    /// Sets what follows, until nothing more does or all literals of some clause are false.
+    pub(crate) fn propagate(&mut self) -> Result<Option<u32>, NoMemory>
+        requires { IsReady self.old.store self.old.trail self.old.watches }
+        ensures goes { OnOk result (Extends self.old.store self.old.trail self.new.store self.new.trail) }
+        ensures ends { IfOk result (λ conflict. Ends self.new.store self.new.trail self.new.watches conflict) }
+        ensures rest { IfOk result (λ conflict. conflict ≡ None → AtRest self.new.store self.new.trail.words) }
+        ensures end { IfOk result (λ conflict. conflict ≡ None → self.new.trail.done ≡ length self.new.trail.words) }
+    {
+        'words: while let Some(word) = self.trail.next() {
+            match self.propagate_word(opposite(word))? {
+                Some(found) => return Ok(Some(found)),
+                None => {}
+            }
+        }
+        Ok(None)
+    }
 }

@@ -1,7 +1,8 @@
 //! The trail: the assignment as a stack of literals, with the decision levels and the reasons (antecedents) of an implication graph
 //! (GRASP, Marques-Silva and Sakallah 1996), kept as MiniSat keeps them. A level begins with a decision, and `starts` has the place
 //! of each; `done` is how far the trail is propagated. Levels are counted from 0, that of the first decision; what stands ahead of
-//! it, at the field's level 0, holds in every model. A reason is the number of a clause, from 1 as in the log, and 0 for a decision.
+//! it, at the field's level 0, holds in every model. A reason is kept packed, as the number of its clause, from 1 as in the log, or 0
+//! for a decision; who asks for one gets the clause or none.
 
 ghost use Rattle.std.specs.Prelude.{◌≡◌, ℕ, ◌+◌, ◌*◌, ◌/◌, ◌<◌, ◌≤◌, ◌^◌, true, false, [], ◌∷◌, ◌++◌, length, drop, not, ◌&&◌, IfOk, OnOk, OnErr, None, Some, slice_index, slice_index_or};
 ghost use Rattle.sat_solver.specs.Words.{opposite, has};
@@ -138,9 +139,9 @@ impl Trail {
         self.holds(opposite(word))
     }
 
-    /// One more literal.
+    /// One more literal, with the number of its reason, or 0.
     #[inline]
-    pub(crate) fn assign(&mut self, word: u32, reason: u32) -> Result<(), NoMemory>
+    fn set(&mut self, word: u32, number: u32) -> Result<(), NoMemory>
         requires below { word < 2 * self.old.vars }
         requires free { has self.old.words word ≡ false }
         requires open { has self.old.words (opposite word) ≡ false }
@@ -148,15 +149,34 @@ impl Trail {
             (self.new ≡ record {
               vars = self.old.vars;
               words = self.old.words ++ word ∷ [];
-              reasons = self.old.reasons ++ reason ∷ [];
+              reasons = self.old.reasons ++ number ∷ [];
               starts = self.old.starts;
               done = self.old.done;
             }) }
     {
-        let place = push_both(&mut self.words, &mut self.reasons, word, reason)?;
+        let place = push_both(&mut self.words, &mut self.reasons, word, number)?;
         self.holds[word as usize] = true;
         self.places[(word / 2) as usize] = place as u32;
         Ok(())
+    }
+
+    /// One more literal, which a clause gave.
+    #[inline]
+    pub(crate) fn assign(&mut self, word: u32, clause: u32) -> Result<(), NoMemory>
+        requires below { word < 2 * self.old.vars }
+        requires few { clause + 1 < 2 ^ 32 }
+        requires free { has self.old.words word ≡ false }
+        requires open { has self.old.words (opposite word) ≡ false }
+        ensures ok { OnOk result
+            (self.new ≡ record {
+              vars = self.old.vars;
+              words = self.old.words ++ word ∷ [];
+              reasons = self.old.reasons ++ (clause + 1) ∷ [];
+              starts = self.old.starts;
+              done = self.old.done;
+            }) }
+    {
+        self.set(word, clause + 1)
     }
 
     /// The next literal that is to be propagated.
@@ -226,13 +246,19 @@ impl Trail {
         self.words[place]
     }
 
-    /// The number of the clause that gave the literal at a place, or 0.
+    /// The clause that gave the literal at a place; none gave a decision.
     #[inline]
-    pub(crate) fn reason(&self, place: usize) -> u32
+    pub(crate) fn reason(&self, place: usize) -> Option<u32>
         requires { place < length self.now.reasons }
-        ensures { result ≡ slice_index self.now.reasons place }
+        ensures some { (n : ℕ) → result ≡ Some n → slice_index self.now.reasons place ≡ n + 1 }
+        ensures few { (n : ℕ) → result ≡ Some n → n + 1 < 2 ^ 32 }
+        ensures none { result ≡ None → slice_index self.now.reasons place ≡ 0 }
     {
-        self.reasons[place]
+        let number = self.reasons[place];
+        if number == 0 {
+            return None;
+        }
+        Some(number - 1)
     }
 
     /// Where the opposite of a literal stands.
@@ -263,13 +289,13 @@ impl Trail {
         Some(place)
     }
 
-    /// The number of the clause that gave the opposite of a literal, where it stands ahead of a place; else 0. Only the size of
-    /// learned clauses depends on it.
+    /// The clause that gave the opposite of a literal, where that stands ahead of a place. Only the size of learned clauses depends
+    /// on it.
     #[inline]
-    pub(crate) fn given(&self, word: u32, end: usize) -> u32 {
+    pub(crate) fn given(&self, word: u32, end: usize) -> Option<u32> {
         match self.place_ahead(word, end) {
             Some(place) => self.reason(place),
-            None => 0,
+            None => None,
         }
     }
 
@@ -303,7 +329,7 @@ impl Trail {
     {
         let place = self.len();
         let _levels = self.level();
-        self.assign(word, 0)?;
+        self.set(word, 0)?;
         self.open_level(place)
     }
 

@@ -1,20 +1,20 @@
-use Rattle.std.proofs.Common.{◌≡◌, ◌⊎◌, ℕ, ◌/◌, Bool, true, false, List, take, sym, ap, ◌∙◌, subst, arith}
+use Rattle.std.proofs.Common.{◌≡◌, ◌⊎◌, ℕ, ◌/◌, Bool, true, false, List, take, refl, sym, ap, ◌∙◌, subst, arith}
 use Rattle.std.proofs.Math.ListN.{set}
 use Rattle.sat_solver.specs.Words.{opposite, has}
 use Rattle.sat_solver.specs.Resolving.{IsMarked}
 use Rattle.sat_solver.proofs.Passing.{unmarked}
 use Rattle.sat_solver.proofs.Covering.{covers_less}
-use Rattle.sat_solver.proofs.Shedding.{giver, leads_on}
+use Rattle.sat_solver.proofs.Shedding.{leads_on}
 use Rattle.sat_solver.proofs.analyze.resolve_at.Goals as goal
 
 pub clause-requires : goal.clause-requires
 clause-requires c =
-    (giver c.args.store.now c.args.trail.now c.args.boundary c.args.place c.reason-reason.result c.requires.reasons c.requires.within c.reason-reason.ensures (λ e. c.requires.given (sym c.reason-reason.ensures ∙ e))).there
+    (c.requires.reasons.gives c.args.place c.in-Some.reason c.requires.within (c.in-Some.ensures.some c.in-Some.reason refl)).there
 
 pub join-requires-clause-are_false : goal.join-requires-clause-are_false
 join-requires-clause-are_false c x h =
     let t = c.args.trail.now in
-    let g = giver c.args.store.now t c.args.boundary c.args.place c.reason-reason.result c.requires.reasons c.requires.within c.reason-reason.ensures (λ e. c.requires.given (sym c.reason-reason.ensures ∙ e)) in
+    let g = c.requires.reasons.gives c.args.place c.in-Some.reason c.requires.within (c.in-Some.ensures.some c.in-Some.reason refl) in
     subst (λ (y : ℕ). (x ≡ y) ⊎ (has (take c.args.place t.words) (opposite x) ≡ true)) (sym c.word-word.ensures) (g.others x (subst (λ (d : List ℕ). has d x ≡ true) c.clause.ensures h))
 
 pub join-requires-clause-marked : goal.join-requires-clause-marked
@@ -30,8 +30,8 @@ join-requires-clause-marked c =
 
 pub returns-clause-leads : goal.returns-clause-leads
 returns-clause-leads c start h =
-    leads_on c.args.store.now c.args.trail.now c.args.boundary c.args.place c.word-word.result c.reason-reason.result c.args.r.now.seen.items c.take_out.new.r.seen.items c.join.new.r.seen.items c.clause.result.now start
-    c.args.r.now.hops.items c.join.new.r.hops.items c.requires.apart c.requires.within c.requires.reasons c.word-word.ensures c.reason-reason.ensures (λ e. c.requires.given (sym c.reason-reason.ensures ∙ e)) c.requires.seen c.requires.marked.long
+    leads_on c.args.store.now c.args.trail.now c.args.boundary c.args.place c.word-word.result c.in-Some.reason c.args.r.now.seen.items c.take_out.new.r.seen.items c.join.new.r.seen.items c.clause.result.now start
+    c.args.r.now.hops.items c.join.new.r.hops.items c.requires.apart c.requires.within c.requires.reasons c.word-word.ensures (c.in-Some.ensures.some c.in-Some.reason refl) c.requires.seen c.requires.marked.long
     c.in_ok-take_out.ensures.seen c.clause.ensures c.in_ok-join.ensures.seen (ap (λ (z : _). z.items) c.in_ok-join.ensures.hops ∙ c.in_ok-take_out.ensures.hops) h
 
 pub returns-clause-covered : goal.returns-clause-covered

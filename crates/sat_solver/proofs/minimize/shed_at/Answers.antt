@@ -1,4 +1,4 @@
-use Rattle.std.proofs.Common.{◌≡◌, inl, inr, ℕ, ◌-◌, ◌/◌, Bool, true, false, List, length, get_or, sym, ap, ◌∙◌, subst, arith}
+use Rattle.std.proofs.Common.{◌≡◌, inl, inr, ℕ, ◌-◌, ◌/◌, Bool, true, false, List, length, get_or, refl, sym, ap, ◌∙◌, subst, arith}
 use Rattle.std.proofs.Math.ListN.{length-set}
 use Rattle.sat_solver.specs.Words.{opposite, has}
 use Rattle.sat_solver.specs.Watching.{clause}
@@ -6,21 +6,21 @@ use Rattle.sat_solver.specs.Resolving.{is_seen}
 use Rattle.sat_solver.proofs.Counts.{count_empty}
 use Rattle.sat_solver.proofs.Arranges.{has_less}
 use Rattle.sat_solver.proofs.Covering.{covers_less}
-use Rattle.sat_solver.proofs.Shedding.{giver, joined_at, left_less, leads_on}
+use Rattle.sat_solver.proofs.Shedding.{joined_at, left_less, leads_on}
 use Rattle.sat_solver.proofs.minimize.shed_at.Goals as goal
 
 pub clause-requires : goal.clause-requires
-clause-requires c = (giver c.args.store.now c.args.trail.now c.args.boundary c.args.place c.reason-reason.result c.requires.reasons c.requires.within c.reason-reason.ensures c.if-reason-eq0.false).there
+clause-requires c = (c.requires.reasons.gives c.args.place c.in-Some.reason c.requires.within (c.in-Some.ensures.some c.in-Some.reason refl)).there
 
 pub join-requires-clause-below : goal.join-requires-clause-below
 join-requires-clause-below c x h =
-    let g = giver c.args.store.now c.args.trail.now c.args.boundary c.args.place c.reason-reason.result c.requires.reasons c.requires.within c.reason-reason.ensures c.if-reason-eq0.false in
-    c.requires.reasons.within (c.reason-reason.result - 1) x g.there (subst (λ (d : List ℕ). has d x ≡ true) c.clause.ensures h)
+    let g = c.requires.reasons.gives c.args.place c.in-Some.reason c.requires.within (c.in-Some.ensures.some c.in-Some.reason refl) in
+    c.requires.reasons.within c.in-Some.reason x g.there (subst (λ (d : List ℕ). has d x ≡ true) c.clause.ensures h)
 
 pub join-requires-clause-are_false : goal.join-requires-clause-are_false
 join-requires-clause-are_false c x h =
     let t = c.args.trail.now in
-    let g = giver c.args.store.now t c.args.boundary c.args.place c.reason-reason.result c.requires.reasons c.requires.within c.reason-reason.ensures c.if-reason-eq0.false in
+    let g = c.requires.reasons.gives c.args.place c.in-Some.reason c.requires.within (c.in-Some.ensures.some c.in-Some.reason refl) in
     let count : c.len-end.result ≡ length t.words = c.len-end.ensures.count in
     let within = c.requires.within in
     elim (g.others x (subst (λ (d : List ℕ). has d x ≡ true) c.clause.ensures h)) [
@@ -42,15 +42,15 @@ pub returns-clause-idle : goal.returns-clause-idle
 returns-clause-idle c = c.in_ok-join.ensures.marked.counted ∙ count_empty c.join.new.r.seen.items c.args.trail.now.words c.len-end.result c.len-end.result (omega arith)
 
 pub returns-clause-left : goal.returns-clause-left
-returns-clause-left c =
+returns-clause-left c p left =
     let t = c.args.trail.now in
     let f = c.args.store.now in
     let seen = c.args.r.now.seen.items in
-    let g = giver f t c.args.boundary c.args.place c.reason-reason.result c.requires.reasons c.requires.within c.reason-reason.ensures c.if-reason-eq0.false in
+    let g = c.requires.reasons.gives c.args.place c.in-Some.reason c.requires.within (c.in-Some.ensures.some c.in-Some.reason refl) in
     let v = get_or t.words c.args.place 0 in
-    let d = clause f (c.reason-reason.result - 1) in
+    let d = clause f c.in-Some.reason in
     let new = c.join.new.r.seen.items in
-    left_less t.words c.args.boundary c.args._left c.args.place seen new d c.requires.apart c.requires.early c.requires.within c.requires.left g.others
+    left_less t.words c.args.boundary p c.args.place seen new d c.requires.apart c.requires.early c.requires.within left g.others
     (joined_at t.words seen c.cut.new.r.seen.items new c.clause.result.now d c.word-word.result v c.word-word.ensures c.in_ok-cut.ensures.seen c.clause.ensures c.in_ok-join.ensures.seen)
 
 pub returns-clause-covered : goal.returns-clause-covered
@@ -59,7 +59,7 @@ returns-clause-covered c h =
 
 pub returns-clause-leads : goal.returns-clause-leads
 returns-clause-leads c start h =
-    leads_on c.args.store.now c.args.trail.now c.args.boundary c.args.place c.word-word.result c.reason-reason.result c.args.r.now.seen.items c.cut.new.r.seen.items c.join.new.r.seen.items c.clause.result.now start
-    c.args.r.now.hops.items c.join.new.r.hops.items c.requires.apart c.requires.within c.requires.reasons c.word-word.ensures c.reason-reason.ensures c.if-reason-eq0.false
+    leads_on c.args.store.now c.args.trail.now c.args.boundary c.args.place c.word-word.result c.in-Some.reason c.args.r.now.seen.items c.cut.new.r.seen.items c.join.new.r.seen.items c.clause.result.now start
+    c.args.r.now.hops.items c.join.new.r.hops.items c.requires.apart c.requires.within c.requires.reasons c.word-word.ensures (c.in-Some.ensures.some c.in-Some.reason refl)
     (sym (c.is_marked-seen.ensures ∙ ap (λ (x : List Bool). is_seen x c.word-word.result) c.deref.ensures.value ∙ ap (is_seen c.args.r.now.seen.items) c.word-word.ensures) ∙ c.if-not-seen.false) c.requires.long
     c.in_ok-cut.ensures.seen c.clause.ensures c.in_ok-join.ensures.seen (ap (λ (z : _). z.items) c.in_ok-join.ensures.hops ∙ c.in_ok-cut.ensures.hops) h

@@ -6,7 +6,7 @@ abbrev pub invariant-shed : goal.invariant-shed
 invariant-shed l = record {
   idle : l.r.pending ≡ 0;
   long : length l.r.seen.items ≡ l.trail.vars;
-  left : IsLeft l.trail.words l.boundary l.left l.r.seen.items;
+  left : (p : ℕ) → IsLeft l.trail.words l.boundary p l.initial.r.seen.items → IsLeft l.trail.words l.boundary p l.r.seen.items;
   covered : Covers l.trail.words l.initial.r.seen.items l.initial.r.marked.items → Covers l.trail.words l.r.seen.items l.r.marked.items;
   leads : (c : ℕ → Bool) → Reaches l.store c l.initial.r.hops.items (in_clause l.trail.words l.initial.r.seen.items) → Reaches l.store c l.r.hops.items (in_clause l.trail.words l.r.seen.items);
 }

@@ -1,0 +1,12 @@
+use Rattle.std.proofs.Common.{◌-◌, ◌^◌}
+use Rattle.sat_solver.specs.Watching.{IsReady, Extends}
+use Rattle.sat_solver.proofs.propagate.Propagator.propagate.Given as goal
+
+abbrev pub decreases-words : goal.decreases-words
+decreases-words l = 2 ^ 32 - l.self.trail.done
+
+abbrev pub invariant-words : goal.invariant-words
+invariant-words l = record {
+  goes : Extends l.initial.self.store l.initial.self.trail l.self.store l.self.trail;
+  ready : IsReady l.self.store l.self.trail l.self.watches;
+}
