@@ -46,7 +46,7 @@ mod proofs;
 #[cfg(test)]
 mod repairs;
 #[cfg(test)]
-mod second_runs;
+mod run_again;
 #[cfg(test)]
 mod sizes;
 #[cfg(test)]
