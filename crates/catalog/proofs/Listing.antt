@@ -10,16 +10,16 @@ use Rattle.host_limits.specs.declared.limits.Limits.{Limits}
 use Rattle.host_limits.specs.Limits.{declared_limit}
 use Rattle.pp_value.specs.Values.{Pair}
 use Rattle.pp_value.specs.Shown.{shown_ref}
-use Rattle.pp_eval.specs.Verdicts.{Refuses, refusal}
+use Rattle.pp_eval.specs.Evaluating.{Refuses, refusal}
 use Rattle.catalog_semantics.specs.declared.catalog.Resource.{Resource}
 use Rattle.catalog_semantics.specs.States.{references_of, stands_in, within_size, attributes_limit, size_of_resources, size_of_attributes}
 use Rattle.catalog.specs.Adding.{added_last, added_to, filled_at, changed_at, given, place_in_text}
 use Rattle.catalog.proofs.SizeLaws.{size_last, place_is}
 
 -- a refusal that is the one that is due is due
-pub refused_with : {Y : Type 0} (verdict : Result Y Refusal) (x : Refusal) → verdict ≡ Err x → (e : Fault) → IfRefused e (λ y. y ≡ x) → Refuses verdict e
-refused_with verdict x h (fault.Refused y) k = h ∙ ap Err (sym k)
-refused_with verdict x h (fault.Memory m) k = tt
+pub refused_with : {Y : Type 0} (wanted : Result Y Refusal) (x : Refusal) → wanted ≡ Err x → (e : Fault) → IfRefused e (λ y. y ≡ x) → Refuses wanted e
+refused_with wanted x h (fault.Refused y) k = h ∙ ap Err (sym k)
+refused_with wanted x h (fault.Memory m) k = tt
 
 module _ (limits : Limits) (r : Resource) (resources : List Resource) where
   -- a resource whose reference stands already is refused with code 24

@@ -1,7 +1,7 @@
 //! The catalog and its calls. Members of a container are found by one scan of the resources, of which there are at most 16,384.
 
 ghost use Rattle.std.specs.Prelude.{◌≡◌, ◌<◌, ◌≤◌, ◌^◌, ◌++◌, ◌∷◌, [], Some, length, slice_get, IfOk, OnOk, OnErr};
-ghost use Rattle.pp_eval.specs.Verdicts.{AnswersBy};
+ghost use Rattle.pp_eval.specs.Evaluating.{AnswersBy};
 ghost use Rattle.catalog_semantics.specs.States.{place_of, declared_bound};
 ghost use Rattle.catalog.specs.Adding.{with_added, with_filled, with_realized};
 ghost use Rattle.catalog.specs.Members.{inside, is_inside, members_of};

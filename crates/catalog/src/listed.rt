@@ -5,7 +5,7 @@ ghost use Rattle.std.specs.Prelude.{◌≡◌, ◌<◌, ◌≤◌, ◌++◌, ◌
 ghost use Rattle.rh_base.specs.Refused.{IfRefused};
 ghost use Rattle.host_limits.specs.Limits.{declared_limit};
 ghost use Rattle.pp_value.specs.Shown.{shown_ref};
-ghost use Rattle.pp_eval.specs.Verdicts.{AnswersBy, refusal};
+ghost use Rattle.pp_eval.specs.Evaluating.{AnswersBy, refusal};
 ghost use Rattle.catalog.specs.Places.{place_among};
 ghost use Rattle.catalog_semantics.specs.States.{place_of, declared_bound, lacks};
 ghost use Rattle.catalog.specs.Adding.{added_to, with_lacking, filled_at, made_real, changed_at};

@@ -11,7 +11,7 @@ use Rattle.pp_syntax.specs.declared.tree.Manifest.{Manifest}
 use Rattle.pp_value.specs.declared.value.Ref.{Ref}
 use Rattle.pp_value.specs.declared.value.Value.{Value}
 use Rattle.pp_value.specs.Values.{same_ref}
-use Rattle.pp_eval.specs.Verdicts.{◌>>=◌}
+use Rattle.pp_eval.specs.Evaluating.{◌>>=◌}
 use Rattle.pp_eval.specs.Scoping.{pairs_in}
 use Rattle.pp_data.specs.declared.data.Level.{Level}
 use Rattle.catalog_semantics.specs.declared.catalog.Sort.{Sort}

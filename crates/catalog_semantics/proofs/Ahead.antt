@@ -6,7 +6,7 @@ use Rattle.std.specs.Str.{bytes_eq}
 use Rattle.std.proofs.lemmas.Bool.{ltb-false}
 use Rattle.std.proofs.lemmas.Slice.Eq.{bytes_eq-Decides}
 use Rattle.rh_base.specs.declared.fault.Refusal.{Refusal}
-use Rattle.pp_eval.specs.Verdicts.{◌>>=◌}
+use Rattle.pp_eval.specs.Evaluating.{◌>>=◌}
 use Rattle.catalog_semantics.specs.Sites.{Definition, Site, definition_of, line_of, inherits_itself}
 use Rattle.catalog_semantics.specs.States.{State, is_declared}
 use Rattle.catalog_semantics.specs.Declaring.{class_ref, if_class, class_named, parents_by, line_down_to, parents_of}

@@ -9,7 +9,7 @@ use Rattle.pp_syntax.specs.declared.tree.Attr.{Attr}
 use Rattle.pp_value.specs.declared.value.Ref.{Ref}
 use Rattle.pp_value.specs.declared.value.Value.{Value}
 use Rattle.pp_value.specs.Values.{Pair, value_at, has_opaque, is_undef, HasDistinctKeys}
-use Rattle.pp_eval.specs.Verdicts.{◌>>=◌, refusal, no_result}
+use Rattle.pp_eval.specs.Evaluating.{◌>>=◌, refusal, no_result}
 use Rattle.pp_eval.specs.Scoping.{Scoped}
 use Rattle.pp_eval.specs.Evaluation.{value_of}
 use Rattle.catalog_semantics.specs.States.{lacks}

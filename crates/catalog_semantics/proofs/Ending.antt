@@ -14,7 +14,7 @@ use Rattle.host_limits.specs.declared.limits.Limits.TheVariants as chosen
 use Rattle.host_limits.specs.Limits.{declared_limit}
 use Rattle.pp_syntax.specs.declared.tree.Item.{Item}
 use Rattle.pp_value.specs.declared.value.Value.{Value}
-use Rattle.pp_eval.specs.Verdicts.{◌>>=◌}
+use Rattle.pp_eval.specs.Evaluating.{◌>>=◌}
 use Rattle.pp_eval.specs.Scoping.{defined_scope}
 use Rattle.catalog_semantics.specs.declared.catalog.Resource.{Resource}
 use Rattle.catalog_semantics.specs.Sites.{Definition, Site, definition_of}

@@ -25,7 +25,7 @@ use Rattle.pp_value.specs.declared.value.Value.TheVariants as v
 use Rattle.pp_value.specs.Values.{Pair, value_at}
 use Rattle.pp_eval.specs.declared.scope.Scope.{Scope}
 use Rattle.pp_eval.specs.References.{plain_name}
-use Rattle.pp_eval.specs.Verdicts.{◌>>=◌, bound_again, if_there}
+use Rattle.pp_eval.specs.Evaluating.{◌>>=◌, bound_again, if_there}
 use Rattle.pp_eval.specs.Scoping.{class_scope, bindings_now, with_binding}
 use Rattle.pp_eval.specs.Evaluation.{value_of}
 use Rattle.catalog_semantics.specs.declared.catalog.Resource.{Resource}

@@ -9,7 +9,7 @@ use Rattle.pp_syntax.specs.declared.tree.Item.TheVariants as item
 use Rattle.pp_syntax.specs.declared.tree.Manifest.{Manifest}
 use Rattle.pp_value.specs.declared.value.Value.{Value}
 use Rattle.pp_eval.specs.References.{plain_name}
-use Rattle.pp_eval.specs.Verdicts.{◌>>=◌}
+use Rattle.pp_eval.specs.Evaluating.{◌>>=◌}
 use Rattle.pp_eval.specs.Scoping.{pairs_in}
 use Rattle.pp_data.specs.declared.data.Level.{Level}
 use Rattle.pp_data.specs.Lookup.{key_of, lookup}

@@ -23,7 +23,7 @@ use Rattle.pp_value.specs.declared.value.Value.{Value}
 use Rattle.pp_value.specs.Values.{Pair}
 use Rattle.pp_eval.specs.declared.scope.Scope.{Scope}
 use Rattle.pp_eval.specs.References.{plain_name}
-use Rattle.pp_eval.specs.Verdicts.{◌>>=◌, if_there}
+use Rattle.pp_eval.specs.Evaluating.{◌>>=◌, if_there}
 use Rattle.pp_eval.specs.Scoping.{class_scope}
 use Rattle.pp_eval.specs.Evaluation.{value_of}
 use Rattle.catalog_semantics.specs.declared.catalog.Resource.{Resource}

@@ -14,7 +14,7 @@ use Rattle.pp_value.specs.declared.value.Value.{Value}
 use Rattle.pp_value.specs.Values.{Pair, same_ref}
 use Rattle.pp_value.specs.Shown.{shown_ref}
 use Rattle.pp_eval.specs.References.{plain_name}
-use Rattle.pp_eval.specs.Verdicts.{◌>>=◌, refusal}
+use Rattle.pp_eval.specs.Evaluating.{◌>>=◌, refusal}
 use Rattle.pp_eval.specs.Scoping.{entered, node_scope_new, defined_scope, at_start, pairs_in}
 use Rattle.pp_data.specs.declared.data.Level.{Level}
 use Rattle.catalog_semantics.specs.declared.catalog.Sort.{Sort}

@@ -10,7 +10,7 @@ use Rattle.pp_value.specs.declared.value.Value.{Value}
 use Rattle.pp_value.specs.declared.value.Value.TheVariants as v
 use Rattle.pp_value.specs.Values.{value_at, has_opaque, same, on_list, passes}
 use Rattle.pp_eval.specs.References.{plain_name}
-use Rattle.pp_eval.specs.Verdicts.{◌>>=◌, no_result}
+use Rattle.pp_eval.specs.Evaluating.{◌>>=◌, no_result}
 use Rattle.pp_eval.specs.Scoping.{Scoped}
 use Rattle.pp_eval.specs.Evaluation.{value_of}
 use Rattle.catalog_semantics.specs.declared.catalog.Resource.{Resource}

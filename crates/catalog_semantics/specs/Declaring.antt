@@ -15,7 +15,7 @@ use Rattle.pp_value.specs.Values.{Pair, value_at}
 use Rattle.pp_value.specs.Types.{is_fit}
 use Rattle.pp_eval.specs.declared.scope.Scope.{Scope}
 use Rattle.pp_eval.specs.References.{plain_name}
-use Rattle.pp_eval.specs.Verdicts.{Verdict, ◌>>=◌, refusal, limited}
+use Rattle.pp_eval.specs.Evaluating.{Evaluation, ◌>>=◌, refusal, limited}
 use Rattle.pp_eval.specs.Scoping.{entered, left, class_scope}
 use Rattle.pp_eval.specs.Evaluation.{value_of}
 use Rattle.catalog_semantics.specs.declared.catalog.Sort.{Sort}
@@ -46,17 +46,17 @@ one_more_body at (Some run) = Ok run
 -- ---- parameters
 
 -- the default; a parameter without one is refused
-abbrev pub preset_of : Resource → Parameter → Option Expr → State → Verdict
+abbrev pub preset_of : Resource → Parameter → Option Expr → State → Evaluation
 preset_of r p None s = Err (refusal 25 r.at p.name)
 preset_of r p (Some e) s = value_of s.scopes e
 
 -- the value from data, or else the default
-abbrev pub looked_up : Resource → Parameter → Option Value → State → Verdict
+abbrev pub looked_up : Resource → Parameter → Option Value → State → Evaluation
 looked_up r p (Some x) s = limited r.at x
 looked_up r p None s = preset_of r p p.default s
 
 -- the given value, or else that from data, or else the default
-abbrev pub given_or_else : Resource → Parameter → Option Value → State → Verdict
+abbrev pub given_or_else : Resource → Parameter → Option Value → State → Evaluation
 given_or_else r p (Some x) s = Ok x
 given_or_else r p None s = looked_up r p p.from_data s
 
@@ -65,7 +65,7 @@ is_of_kind None x = true
 is_of_kind (Some kind) x = is_fit kind x
 
 -- a value of the parameter's type
-abbrev pub fitting : ℕ → Parameter → Value → Verdict
+abbrev pub fitting : ℕ → Parameter → Value → Evaluation
 fitting at p x = if is_of_kind p.kind x then Ok x else Err (refusal 27 at p.name)
 
 -- A parameter is bound to its value, in the scope of the body.

@@ -18,7 +18,7 @@ use Rattle.pp_syntax.specs.declared.tree.Arm.{Arm, out-Arm}
 use Rattle.pp_syntax.specs.declared.tree.CaseArm.{CaseArm, out-CaseArm}
 use Rattle.pp_value.specs.declared.value.Ref.{Ref}
 use Rattle.pp_value.specs.declared.value.Value.{Value}
-use Rattle.pp_eval.specs.Verdicts.{◌>>=◌, if_there}
+use Rattle.pp_eval.specs.Evaluating.{◌>>=◌, if_there}
 use Rattle.pp_eval.specs.Scoping.{Scoped}
 use Rattle.pp_eval.specs.declared.blame.Blame.TheVariants as blame
 use Rattle.pp_eval.specs.Evaluation.{value_of, evaluated, truth_at, is_equal}

@@ -1,7 +1,7 @@
 -- How defaults take hold, said of all resources at once.
 use Rattle.std.specs.Prelude.{◌≡◌, ℕ, ◌<◌, ◌≤◌, List, [], ◌∷◌, ◌++◌, map, codes}
 use Rattle.rh_base.specs.declared.fault.Refusal.{Refusal}
-use Rattle.pp_eval.specs.Verdicts.{refusal}
+use Rattle.pp_eval.specs.Evaluating.{refusal}
 use Rattle.catalog_semantics.specs.declared.catalog.Resource.{Resource}
 use Rattle.catalog_semantics.specs.declared.state.Default.{Default}
 use Rattle.catalog_semantics.specs.States.{filled, size_of_resources, attributes_limit}

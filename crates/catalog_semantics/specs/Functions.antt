@@ -10,7 +10,7 @@ use Rattle.pp_value.specs.declared.value.Ref.{Ref}
 use Rattle.pp_value.specs.declared.value.Value.{Value, items-the_row-Value}
 use Rattle.pp_value.specs.declared.value.Value.TheVariants as v
 use Rattle.pp_eval.specs.References.{plain_name}
-use Rattle.pp_eval.specs.Verdicts.{◌>>=◌, refusal, if_there}
+use Rattle.pp_eval.specs.Evaluating.{◌>>=◌, refusal, if_there}
 use Rattle.pp_eval.specs.Scoping.{Scoped}
 use Rattle.pp_eval.specs.Evaluation.{evaluated, values_in, shown_of, limited_text}
 use Rattle.catalog_semantics.specs.declared.catalog.Resource.{Resource}

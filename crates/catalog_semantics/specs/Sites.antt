@@ -16,7 +16,7 @@ use Rattle.pp_value.specs.declared.value.Value.{Value}
 use Rattle.pp_value.specs.Values.{Pair}
 use Rattle.pp_value.specs.Texts.{same_text}
 use Rattle.pp_eval.specs.References.{plain_name}
-use Rattle.pp_eval.specs.Verdicts.{◌>>=◌, refusal}
+use Rattle.pp_eval.specs.Evaluating.{◌>>=◌, refusal}
 use Rattle.pp_data.specs.declared.data.Level.{Level}
 use Rattle.pp_data.specs.Lookup.{key_of, lookup}
 

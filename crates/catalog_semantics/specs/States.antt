@@ -11,7 +11,7 @@ use Rattle.pp_value.specs.declared.value.Ref.{Ref}
 use Rattle.pp_value.specs.declared.value.Value.{Value}
 use Rattle.pp_value.specs.Values.{Pair, value_at, same_ref, size_of}
 use Rattle.pp_value.specs.Shown.{shown_ref}
-use Rattle.pp_eval.specs.Verdicts.{◌>>=◌, refusal}
+use Rattle.pp_eval.specs.Evaluating.{◌>>=◌, refusal}
 use Rattle.pp_eval.specs.Scoping.{Scoped, bound as scopes_with}
 use Rattle.catalog_semantics.specs.declared.catalog.Sort.{Sort}
 use Rattle.catalog_semantics.specs.declared.catalog.Sort.TheVariants as sort

@@ -19,7 +19,7 @@ ghost use Rattle.pp_value.specs.declared.value.Ref.{Ref};
 ghost use Rattle.pp_value.specs.declared.value.Value.{Value};
 ghost use Rattle.pp_value.specs.Values.{Pair, value_at};
 ghost use Rattle.pp_eval.specs.declared.scope.Scope.{Scope};
-ghost use Rattle.pp_eval.specs.Verdicts.{limited};
+ghost use Rattle.pp_eval.specs.Evaluating.{limited};
 ghost use Rattle.pp_eval.specs.Scoping.{pairs_in};
 ghost use Rattle.pp_data.specs.declared.data.Level.{Level};
 ghost use Rattle.pp_data.specs.Lookup.{lookup};

@@ -14,7 +14,7 @@ use Rattle.host_limits.specs.Limits.{declared_limit}
 use Rattle.pp_value.specs.declared.value.Ref.{Ref}
 use Rattle.pp_value.specs.Values.{Pair}
 use Rattle.pp_value.specs.Shown.{shown_ref}
-use Rattle.pp_eval.specs.Verdicts.{◌>>=◌, Refuses, refusal}
+use Rattle.pp_eval.specs.Evaluating.{◌>>=◌, Refuses, refusal}
 use Rattle.catalog_semantics.specs.declared.catalog.Resource.{Resource}
 use Rattle.catalog_semantics.specs.Catalogs.{Catalog}
 use Rattle.catalog_semantics.specs.States.{references_of, stands_in, within_size, attributes_limit, size_of_resources}

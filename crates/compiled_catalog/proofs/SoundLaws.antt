@@ -12,7 +12,7 @@ use Rattle.host_limits.specs.declared.limits.Limits.{Limits}
 use Rattle.pp_value.specs.declared.value.Ref.{Ref}
 use Rattle.pp_value.specs.declared.value.Value.{Value}
 use Rattle.pp_value.specs.Values.{Pair, value_at, with_pair, HasDistinctKeys, same_ref, has_opaque}
-use Rattle.pp_eval.specs.Verdicts.{◌>>=◌}
+use Rattle.pp_eval.specs.Evaluating.{◌>>=◌}
 use Rattle.catalog_semantics.specs.declared.catalog.Resource.{Resource}
 use Rattle.catalog_semantics.specs.Attributes.{is_metaparameter, is_one_of, metaparameters, IsClean, AreClean}
 use Rattle.catalog_semantics.specs.Catalogs.{Catalog}

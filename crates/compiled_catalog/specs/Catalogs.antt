@@ -4,7 +4,7 @@ use Rattle.rh_base.specs.declared.fault.Refusal.{Refusal}
 use Rattle.host_limits.specs.declared.limits.Limits.{Limits}
 use Rattle.host_limits.specs.Limits.{declared_limit, resource_limit}
 use Rattle.pp_value.specs.Values.{Pair}
-use Rattle.pp_eval.specs.Verdicts.{◌>>=◌, refusal}
+use Rattle.pp_eval.specs.Evaluating.{◌>>=◌, refusal}
 use Rattle.catalog_semantics.specs.declared.catalog.Resource.{Resource}
 use Rattle.catalog_semantics.specs.declared.catalog.Sort.{Sort}
 use Rattle.catalog_semantics.specs.declared.catalog.Sort.TheVariants as sort

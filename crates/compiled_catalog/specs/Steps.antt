@@ -1,7 +1,7 @@
 -- A catalog that grows resource by resource.
 use Rattle.std.specs.Prelude.{◌≡◌, ℕ, List, [], map, take, Result, Ok}
 use Rattle.rh_base.specs.declared.fault.Refusal.{Refusal}
-use Rattle.pp_eval.specs.Verdicts.{◌>>=◌}
+use Rattle.pp_eval.specs.Evaluating.{◌>>=◌}
 use Rattle.catalog_semantics.specs.declared.catalog.Resource.{Resource}
 use Rattle.catalog_semantics.specs.Catalogs.{Catalog}
 use Rattle.catalog_semantics.specs.States.{references_of}

@@ -2,7 +2,7 @@
 
 ghost use Rattle.std.specs.Prelude.{◌≡◌, IfOk};
 ghost use Rattle.rh_base.specs.Refused.{IfRefused};
-ghost use Rattle.pp_eval.specs.Verdicts.{AnswersBy, refusal};
+ghost use Rattle.pp_eval.specs.Evaluating.{AnswersBy, refusal};
 ghost use Rattle.pp_value.specs.Values.{value_at};
 ghost use Rattle.compiled_attributes.specs.Places.{HoldsFragments};
 ghost use Rattle.compiled_catalog.specs.Attributes.{attribute_name, none_is, is_large, is_unknown, with_related, settled, settled_attributes};

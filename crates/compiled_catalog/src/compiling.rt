@@ -2,7 +2,7 @@
 
 ghost use Rattle.std.specs.Prelude.{◌≡◌, ◌<◌, ◌≤◌, ◌+◌, ◌++◌, [], Some, length, slice_get, IfOk, OnOk};
 ghost use Rattle.host_limits.specs.Limits.{declared_limit};
-ghost use Rattle.pp_eval.specs.Verdicts.{AnswersBy};
+ghost use Rattle.pp_eval.specs.Evaluating.{AnswersBy};
 ghost use Rattle.catalog_semantics.specs.States.{declared_bound};
 ghost use Rattle.compiled_attributes.specs.Places.{HoldsFragments};
 ghost use Rattle.compiled_text.specs.Compiled.{IsSound, holder_of, is_class_at};

@@ -1,7 +1,7 @@
 //! How many resources there are.
 
 ghost use Rattle.std.specs.Prelude.{◌≡◌, ◌≤◌, length, filter, not, OnOk};
-ghost use Rattle.pp_eval.specs.Verdicts.{AnswersBy};
+ghost use Rattle.pp_eval.specs.Evaluating.{AnswersBy};
 ghost use Rattle.host_limits.specs.Limits.{declared_limit};
 ghost use Rattle.compiled_catalog.specs.Catalogs.{few_declared, few_native};
 

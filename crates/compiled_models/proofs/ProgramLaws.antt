@@ -6,7 +6,7 @@ use Rattle.rh_base.specs.declared.fault.Fault.{Fault}
 use Rattle.rh_base.specs.declared.fault.Fault.TheVariants as faults
 use Rattle.fs_semantics.specs.FileTree.{Path}
 use Rattle.fs_semantics.specs.Programs.{Program}
-use Rattle.pp_eval.specs.Verdicts.{Refuses}
+use Rattle.pp_eval.specs.Evaluating.{Refuses}
 use Rattle.model_semantics.specs.Models.{first_and}
 use Rattle.assumed_models.specs.declared.edits.Edit.{Edit}
 use Rattle.compiled_models.specs.Programs.{Setting, Native, program_among, programs_with, programs_behind}

@@ -7,7 +7,7 @@ use Rattle.fs_semantics.specs.FileTree.{Path}
 use Rattle.fs_semantics.specs.Programs.{Program}
 use Rattle.fs_lang.specs.declared.program.Program.{Program as Stored}
 use Rattle.fs_lang.specs.Meaning.{program_of}
-use Rattle.pp_eval.specs.Verdicts.{Refuses}
+use Rattle.pp_eval.specs.Evaluating.{Refuses}
 use Rattle.pkg_listing.specs.Packages.{Packages}
 use Rattle.given_links.specs.declared.links.GivenLink.{GivenLink}
 use Rattle.model_semantics.specs.declared.kinds.Cause.{Cause}

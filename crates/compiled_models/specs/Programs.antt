@@ -10,7 +10,7 @@ use Rattle.fs_lang.specs.Reading.{path_in}
 use Rattle.pp_value.specs.declared.value.Value.TheVariants as v
 use Rattle.pp_value.specs.Values.{Pair, value_at, with_pair}
 use Rattle.pp_value.specs.Shown.{shown_ref}
-use Rattle.pp_eval.specs.Verdicts.{refusal}
+use Rattle.pp_eval.specs.Evaluating.{refusal}
 use Rattle.catalog_semantics.specs.declared.catalog.Resource.{Resource}
 use Rattle.catalog_semantics.specs.Attributes.{is_one_of}
 use Rattle.pkg_listing.specs.Packages.{Packages}

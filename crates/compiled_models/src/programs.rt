@@ -2,7 +2,7 @@
 
 ghost use Rattle.std.specs.Prelude.{◌≡◌, [], ◌<◌, length, map, Ok, IfOk};
 ghost use Rattle.std.specs.List.{AllByRecursion};
-ghost use Rattle.pp_eval.specs.Verdicts.{AnswersBy};
+ghost use Rattle.pp_eval.specs.Evaluating.{AnswersBy};
 ghost use Rattle.fs_lang.specs.Meaning.{program_of as meaning};
 ghost use Rattle.fs_semantics.specs.FileTree.{is_among};
 ghost use Rattle.given_links.specs.Reading.{program_read_as};

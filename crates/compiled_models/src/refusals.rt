@@ -2,7 +2,7 @@
 
 ghost use Rattle.std.specs.Prelude.{◌≡◌, IfOk};
 ghost use Rattle.rh_base.specs.Refused.{IfRefused};
-ghost use Rattle.pp_eval.specs.Verdicts.{refusal};
+ghost use Rattle.pp_eval.specs.Evaluating.{refusal};
 ghost use Rattle.compiled_models.specs.Programs.{name_told, attribute_told, unmodelled, refusal_of};
 ghost use Rattle.compiled_models.specs.Hosts.{native_of, IsFaultOf};
 

@@ -6,7 +6,7 @@ use Rattle.pp_value.specs.declared.value.Value.{Value}
 use Rattle.pp_value.specs.declared.value.Value.TheVariants as v
 use Rattle.pp_value.specs.declared.value.Value.TheBlock as block
 use Rattle.pp_value.specs.Values.{is_undef}
-use Rattle.pp_eval.specs.Verdicts.{◌>>=◌}
+use Rattle.pp_eval.specs.Evaluating.{◌>>=◌}
 use Rattle.compiled_text.specs.declared.catalog.CompiledResource.{CompiledResource}
 use Rattle.compiled_relations.specs.Values.{are_references, related_to, related_to_row}
 use Rattle.compiled_relations.specs.Lists.{are_all_references, related_to_all}

@@ -8,7 +8,7 @@ use Rattle.pp_value.specs.declared.value.Value.{Value, Row_of-Value, end_of-Valu
 use Rattle.pp_value.specs.declared.value.Value.TheVariants as v
 use Rattle.pp_value.specs.declared.value.Value.TheBlock as block
 use Rattle.pp_value.specs.Values.{is_undef}
-use Rattle.pp_eval.specs.Verdicts.{◌>>=◌}
+use Rattle.pp_eval.specs.Evaluating.{◌>>=◌}
 use Rattle.catalog_semantics.specs.Attributes.{references_in, references_in_row}
 use Rattle.graph_semantics.specs.Relations.{references_within, references_within_row}
 use Rattle.compiled_text.specs.declared.catalog.CompiledResource.{CompiledResource}

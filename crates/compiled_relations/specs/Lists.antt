@@ -3,7 +3,7 @@ use Rattle.std.specs.Prelude.{Bool, true, ◌||◌, ◌&&◌, if◌then◌else�
 use Rattle.rh_base.specs.declared.fault.Refusal.{Refusal}
 use Rattle.pp_value.specs.declared.value.Value.{Value}
 use Rattle.pp_value.specs.Values.{is_undef}
-use Rattle.pp_eval.specs.Verdicts.{◌>>=◌}
+use Rattle.pp_eval.specs.Evaluating.{◌>>=◌}
 use Rattle.compiled_text.specs.declared.catalog.CompiledResource.{CompiledResource}
 use Rattle.compiled_relations.specs.Values.{are_references, related_to}
 

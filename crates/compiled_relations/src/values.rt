@@ -3,7 +3,7 @@
 
 ghost use Rattle.std.specs.Prelude.{◌≡◌, is_some, IfOk};
 ghost use Rattle.rh_base.specs.Refused.{IfRefused};
-ghost use Rattle.pp_eval.specs.Verdicts.{AnswersBy, refusal};
+ghost use Rattle.pp_eval.specs.Evaluating.{AnswersBy, refusal};
 ghost use Rattle.pp_value.specs.Values.{is_undef};
 ghost use Rattle.compiled_text.specs.Reading.{reference_of};
 ghost use Rattle.compiled_relations.specs.Finding.{found_by, told};

@@ -10,7 +10,7 @@ use Rattle.pp_value.specs.declared.value.Ref.{Ref}
 use Rattle.pp_value.specs.declared.value.Value.{Value}
 use Rattle.pp_value.specs.declared.value.Value.TheVariants as v
 use Rattle.pp_value.specs.declared.value.Value.TheBlock as block
-use Rattle.pp_eval.specs.Verdicts.{◌>>=◌, Refuses}
+use Rattle.pp_eval.specs.Evaluating.{◌>>=◌, Refuses}
 use Rattle.catalog_semantics.specs.declared.catalog.Relation.{Relation}
 use Rattle.catalog_semantics.specs.Catalogs.{Catalog}
 use Rattle.graph_semantics.specs.Relations.{references_within}

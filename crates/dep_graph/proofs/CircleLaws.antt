@@ -5,7 +5,7 @@ use Rattle.std.specs.List.{Contains, AllByRecursion, flat_map}
 use Rattle.fs_semantics.specs.Orders.{times}
 use Rattle.orders.specs.Paths.{IsCycle}
 use Rattle.orders.specs.Paths as paths
-use Rattle.pp_eval.specs.Verdicts.{refusal}
+use Rattle.pp_eval.specs.Evaluating.{refusal}
 use Rattle.catalog_semantics.specs.Catalogs.{Catalog}
 use Rattle.graph_semantics.specs.Graphs.{Node, Start, End, rank, Edge, Trail, node_text, IsCircleRefusal, plain_places}
 use Rattle.dep_graph.specs.Circles.{node_at, number_text, real_numbers, around_text}

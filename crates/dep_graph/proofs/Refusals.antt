@@ -5,7 +5,7 @@ use Rattle.rh_base.specs.Refused.{IfRefused}
 use Rattle.rh_base.specs.declared.fault.Fault.{Fault}
 use Rattle.rh_base.specs.declared.fault.Fault.TheVariants as fault
 use Rattle.rh_base.specs.declared.fault.Refusal.{Refusal}
-use Rattle.pp_eval.specs.Verdicts.{Refuses}
+use Rattle.pp_eval.specs.Evaluating.{Refuses}
 use Rattle.catalog_semantics.specs.Catalogs.{Catalog}
 use Rattle.graph_semantics.specs.Relations.{all_relations, missing_target}
 use Rattle.graph_semantics.specs.Graphs.{IsCircleRefusal, IsGraphRefusal}

@@ -6,7 +6,7 @@ use Rattle.std.proofs.lemmas.List.Elements.{Contains-append_left, Contains-push,
 use Rattle.rh_base.specs.declared.fault.Refusal.{Refusal}
 use Rattle.pp_value.specs.declared.value.Ref.{Ref}
 use Rattle.pp_value.specs.Shown.{shown_ref}
-use Rattle.pp_eval.specs.Verdicts.{◌>>=◌, refusal}
+use Rattle.pp_eval.specs.Evaluating.{◌>>=◌, refusal}
 use Rattle.catalog_semantics.specs.Catalogs.{Catalog}
 use Rattle.graph_semantics.specs.Relations.{target_of, first_missing}
 use Rattle.dep_graph.specs.Links.{side_number, numbered, with_nodes}

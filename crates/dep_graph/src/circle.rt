@@ -3,7 +3,7 @@
 ghost use Rattle.std.specs.Prelude.{◌≡◌, ◌++◌, slice_get, IfOk, OnOk};
 ghost use Rattle.rh_base.specs.Refused.{IfRefused};
 ghost use Rattle.pp_value.specs.Shown.{shown_ref};
-ghost use Rattle.pp_eval.specs.Verdicts.{refusal};
+ghost use Rattle.pp_eval.specs.Evaluating.{refusal};
 ghost use Rattle.graph_semantics.specs.Graphs.{start_text, end_text, reference_at};
 ghost use Rattle.dep_graph.specs.Circles.{number_text, around_text};
 

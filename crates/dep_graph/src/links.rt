@@ -2,7 +2,7 @@
 
 ghost use Rattle.std.specs.Prelude.{◌≤◌, ◌∷◌, [], length};
 ghost use Rattle.std.specs.List.{flat_map};
-ghost use Rattle.pp_eval.specs.Verdicts.{AnswersBy};
+ghost use Rattle.pp_eval.specs.Evaluating.{AnswersBy};
 ghost use Rattle.catalog_semantics.specs.States.{declared_bound};
 ghost use Rattle.graph_semantics.specs.Relations.{relations_by, relations_of, references_within, metaparameter_relations, all_relations};
 ghost use Rattle.dep_graph.specs.Links.{with_link, with_links};

@@ -1,9 +1,9 @@
 //! What references name, and the numbers of nodes.
 
 ghost use Rattle.std.specs.Prelude.{◌≡◌, ◌<◌, ◌≤◌, ◌+◌, ◌*◌, ◌∷◌, [], length, slice_get, option_map, IfSome};
-ghost use Rattle.pp_eval.specs.Verdicts.{AnswersBy};
+ghost use Rattle.pp_eval.specs.Evaluating.{AnswersBy};
 ghost use Rattle.rh_base.specs.Refused.{IfRefused};
-ghost use Rattle.pp_eval.specs.Verdicts.{refusal};
+ghost use Rattle.pp_eval.specs.Evaluating.{refusal};
 ghost use Rattle.pp_value.specs.Shown.{shown_ref};
 ghost use Rattle.catalog_semantics.specs.States.{declared_bound};
 ghost use Rattle.graph_semantics.specs.Relations.{target_of, real_at};

@@ -5,7 +5,7 @@ use Rattle.std.specs.List.{AllByRecursion, Contains, flat_map}
 use Rattle.rh_base.specs.declared.fault.Refusal.{Refusal}
 use Rattle.printed_names.specs.Printed.{printed}
 use Rattle.pp_value.specs.Shown.{shown_ref}
-use Rattle.pp_eval.specs.Verdicts.{refusal}
+use Rattle.pp_eval.specs.Evaluating.{refusal}
 use Rattle.fs_semantics.specs.Orders.{times}
 use Rattle.catalog_semantics.specs.declared.catalog.Resource.{Resource}
 use Rattle.catalog_semantics.specs.declared.catalog.Relation.{Relation}

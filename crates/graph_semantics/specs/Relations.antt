@@ -8,7 +8,7 @@ use Rattle.pp_value.specs.declared.value.Value.{Value, Row_of-Value, end_of-Valu
 use Rattle.pp_value.specs.declared.value.Value.TheVariants as v
 use Rattle.pp_value.specs.Values.{Pair}
 use Rattle.pp_value.specs.Shown.{shown_ref}
-use Rattle.pp_eval.specs.Verdicts.{refusal}
+use Rattle.pp_eval.specs.Evaluating.{refusal}
 use Rattle.catalog_semantics.specs.declared.catalog.Resource.{Resource}
 use Rattle.catalog_semantics.specs.declared.catalog.Relation.{Relation}
 use Rattle.catalog_semantics.specs.Attributes.{says_before, says_after}

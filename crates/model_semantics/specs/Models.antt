@@ -9,7 +9,7 @@ use Rattle.pp_value.specs.declared.value.Value.TheVariants as v
 use Rattle.pp_value.specs.Texts.{begins}
 use Rattle.pp_value.specs.Values.{Pair, value_at}
 use Rattle.pp_value.specs.Shown.{shown_int, shown_ref}
-use Rattle.pp_eval.specs.Verdicts.{refusal}
+use Rattle.pp_eval.specs.Evaluating.{refusal}
 use Rattle.catalog_semantics.specs.declared.catalog.Resource.{Resource}
 use Rattle.pkg_listing.specs.declared.listing.Package.{Package}
 use Rattle.pkg_listing.specs.Packages.{Packages}

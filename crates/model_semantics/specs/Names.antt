@@ -26,9 +26,9 @@ abbrev pub ◌>>=◌ : {A B : Type 0} → Result A Cause → (A → Result B Cau
 
 -- Where a value or a cause is due, a call answers with just that. Memory may always be refused.
 abbrev pub Meets : {X Y : Type 0} → (X → Y) → Result Y Cause → Result X ModelFault → Type 0
-Meets view verdict (Ok x) = verdict ≡ Ok (view x)
-Meets view verdict (Err (fault.Because c)) = verdict ≡ Err c
-Meets view verdict (Err (fault.Memory m)) = Unit {0}
+Meets view meaning (Ok x) = meaning ≡ Ok (view x)
+Meets view meaning (Err (fault.Because c)) = meaning ≡ Err c
+Meets view meaning (Err (fault.Memory m)) = Unit {0}
 
 -- ---- texts of attributes
 

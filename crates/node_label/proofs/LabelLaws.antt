@@ -10,7 +10,7 @@ use Rattle.pp_syntax.specs.declared.tree.Manifest.{Manifest}
 use Rattle.pp_value.specs.declared.value.Value.{Value}
 use Rattle.pp_value.specs.Values.{Pair}
 use Rattle.pp_value.specs.Texts.{same_text}
-use Rattle.pp_eval.specs.Verdicts.{◌>>=◌, refusal}
+use Rattle.pp_eval.specs.Evaluating.{◌>>=◌, refusal}
 use Rattle.pp_data.specs.declared.data.Level.{Level}
 use Rattle.pp_data.specs.Lookup.{lookup}
 use Rattle.catalog_semantics.specs.Sites.{Definition, Node, Site, is_same_node, stands_for, node_of, node_block, no_definitions, node_names, new_nodes, with_node, gathered_one, gathered, with_its_node, site_of}

@@ -6,7 +6,7 @@ use Rattle.host_limits.specs.declared.limits.Limits.{Limits}
 use Rattle.pp_syntax.specs.declared.tree.Item.{Item}
 use Rattle.pp_syntax.specs.declared.tree.Manifest.{Manifest}
 use Rattle.pp_value.specs.declared.value.Value.{Value}
-use Rattle.pp_eval.specs.Verdicts.{◌>>=◌}
+use Rattle.pp_eval.specs.Evaluating.{◌>>=◌}
 use Rattle.pp_eval.specs.Scoping.{pairs_in}
 use Rattle.pp_data.specs.declared.data.Level.{Level}
 use Rattle.catalog_semantics.specs.declared.state.State.{State}
@@ -16,10 +16,10 @@ use Rattle.catalog_semantics.specs.Catalogs.{Catalog, catalog_of, catalog_from, 
 use Rattle.catalog_semantics.proofs.Whole.{few_is}
 use Rattle.pp_compile.specs.Sources.{IsParsed, IsCatalogOf, IsSettledCatalog}
 
--- one manifest, one verdict
-pub same_verdict : ((text : List ℕ) (m n : Manifest) → IsParsed text m → IsParsed text n → m ≡ n) → (text : List ℕ) (facts : Value) (node_name : List ℕ) (data_levels : List Level) (limits : Limits) (v w : Result Catalog Refusal)
+-- one manifest, one catalog or one refusal
+pub same_catalog : ((text : List ℕ) (m n : Manifest) → IsParsed text m → IsParsed text n → m ≡ n) → (text : List ℕ) (facts : Value) (node_name : List ℕ) (data_levels : List Level) (limits : Limits) (v w : Result Catalog Refusal)
     → IsCatalogOf text facts node_name data_levels limits v → IsCatalogOf text facts node_name data_levels limits w → v ≡ w
-same_verdict one text facts node_name data_levels limits v w a b =
+same_catalog one text facts node_name data_levels limits v w a b =
     a.is ∙ (ap (λ m. catalog_of m facts node_name data_levels limits) (one text a.manifest b.manifest a.parsed b.parsed) ∙ sym b.is)
 
 -- what is so of the catalog of the manifest is so of what is answered

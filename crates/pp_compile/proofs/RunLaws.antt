@@ -4,7 +4,7 @@ use Rattle.std.specs.Prelude.{slice_get, option_and_then}
 use Rattle.rh_base.specs.declared.fault.Refusal.{Refusal}
 use Rattle.pp_syntax.specs.declared.tree.Stmt.{Stmt}
 use Rattle.pp_eval.specs.declared.scope.Scope.{Scope}
-use Rattle.pp_eval.specs.Verdicts.{◌>>=◌}
+use Rattle.pp_eval.specs.Evaluating.{◌>>=◌}
 use Rattle.pp_eval.specs.Growing.{inner_stays}
 use Rattle.pp_eval.specs.Scoping.{entered, left, defined_scope, current_scope, IsInner, IsInnerSort}
 use Rattle.catalog_semantics.specs.declared.catalog.Resource.{Resource}

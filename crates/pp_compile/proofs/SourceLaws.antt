@@ -6,7 +6,7 @@ use Rattle.rh_base.specs.declared.fault.Fault.TheVariants as fault
 use Rattle.rh_base.specs.declared.fault.Refusal.{Refusal}
 use Rattle.host_limits.specs.declared.limits.Limits.{Limits}
 use Rattle.rh_base.specs.Refused.{IfRefused}
-use Rattle.pp_eval.specs.Verdicts.{◌>>=◌, AnswersBy, Refuses}
+use Rattle.pp_eval.specs.Evaluating.{◌>>=◌, AnswersBy, Refuses}
 use Rattle.catalog_semantics.specs.Sites.{Site}
 use Rattle.pp_syntax.specs.declared.tree.Manifest.{Manifest}
 use Rattle.pp_syntax.specs.Tokens.{Lexeme}

@@ -2,7 +2,7 @@
 use Rattle.std.specs.Prelude.{ℕ, Bool, true, false, ◌++◌, map, take, drop, List, Option, Some, None, Result, Ok}
 use Rattle.rh_base.specs.declared.fault.Refusal.{Refusal}
 use Rattle.host_limits.specs.declared.limits.Limits.{Limits}
-use Rattle.pp_eval.specs.Verdicts.{◌>>=◌}
+use Rattle.pp_eval.specs.Evaluating.{◌>>=◌}
 use Rattle.pp_syntax.specs.declared.tree.Item.{Item}
 use Rattle.pp_value.specs.declared.value.Value.{Value}
 use Rattle.catalog_semantics.specs.declared.catalog.Resource.{Resource}

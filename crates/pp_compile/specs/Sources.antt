@@ -28,10 +28,10 @@ pub record IsParsed (text : List ℕ) (manifest : Manifest) : Type 0 where
 
 -- The text spells a manifest, in this language and within its depth, and within the limits this is its catalog or its first refusal.
 pub record IsCatalogOf (text : List ℕ) (facts : Value) (node_name : List ℕ) (data_levels : List Level) (limits : Limits)
-    (verdict : Result Catalog Refusal) : Type 0 where
+    (answer : Result Catalog Refusal) : Type 0 where
   pub manifest : Manifest
   pub parsed : IsParsed text manifest
-  pub is : verdict ≡ catalog_of manifest facts node_name data_levels limits
+  pub is : answer ≡ catalog_of manifest facts node_name data_levels limits
 
 -- The main code of the text's manifest and as many rounds as one likes, if they are enough, lead to a state that another round
 -- leaves as it is, and this is its catalog.

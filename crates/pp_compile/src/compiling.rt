@@ -5,7 +5,7 @@ ghost use Rattle.rh_base.specs.declared.fault.Refusal.{Refusal};
 ghost use Rattle.rh_base.specs.Refused.{IfRefused};
 ghost use Rattle.host_limits.specs.declared.limits.Limits.TheVariants.{Usual};
 ghost use Rattle.pp_value.specs.Shown.{shown_ref};
-ghost use Rattle.pp_eval.specs.Verdicts.{AnswersBy, refusal};
+ghost use Rattle.pp_eval.specs.Evaluating.{AnswersBy, refusal};
 ghost use Rattle.catalog_semantics.specs.States.{is_declared, references_of};
 ghost use Rattle.catalog_semantics.specs.Frames.{StandOnce, AreSound};
 ghost use Rattle.catalog_semantics.specs.Catalogs.{Catalog as C, all_there, round_limit, catalog_from, catalog_of};

@@ -1,6 +1,6 @@
 //! Defaults, as statements at the top give them.
 
-ghost use Rattle.pp_eval.specs.Verdicts.{AnswersBy};
+ghost use Rattle.pp_eval.specs.Evaluating.{AnswersBy};
 ghost use Rattle.catalog_semantics.specs.Catalogs.{default_given};
 
 use pp_declaration_state::State;

@@ -1,7 +1,7 @@
 //! The main code: what stands at the top, and the node's block.
 
 ghost use Rattle.std.specs.Prelude.{map};
-ghost use Rattle.pp_eval.specs.Verdicts.{AnswersBy};
+ghost use Rattle.pp_eval.specs.Evaluating.{AnswersBy};
 ghost use Rattle.catalog_semantics.specs.Sites.{node_block};
 ghost use Rattle.catalog_semantics.specs.States.{in_turn};
 ghost use Rattle.catalog_semantics.specs.Catalogs.{item_effect, node_effect, main_code};

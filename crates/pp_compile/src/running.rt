@@ -4,7 +4,7 @@
 //! many resources may be declared; as many rounds as these, and one more, are enough.
 
 ghost use Rattle.std.specs.Prelude.{◌≡◌, ◌<◌, Some, None, length, slice_get, MatchOption, OnOk};
-ghost use Rattle.pp_eval.specs.Verdicts.{AnswersBy};
+ghost use Rattle.pp_eval.specs.Evaluating.{AnswersBy};
 ghost use Rattle.pp_eval.specs.Scoping.{defined_scope};
 ghost use Rattle.catalog_semantics.specs.declared.catalog.Resource.{Resource as R};
 ghost use Rattle.catalog_semantics.specs.Declaring.{body_runs};

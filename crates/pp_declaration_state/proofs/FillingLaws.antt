@@ -5,7 +5,7 @@ use Rattle.rh_base.specs.declared.fault.Fault.{Fault}
 use Rattle.rh_base.specs.declared.fault.Fault.TheVariants as faults
 use Rattle.rh_base.specs.declared.fault.Refusal.{Refusal}
 use Rattle.pp_value.specs.Values.{Pair}
-use Rattle.pp_eval.specs.Verdicts.{◌>>=◌, refusal, Refuses}
+use Rattle.pp_eval.specs.Evaluating.{◌>>=◌, refusal, Refuses}
 use Rattle.catalog_semantics.specs.declared.catalog.Resource.{Resource}
 use Rattle.catalog_semantics.specs.declared.state.Default.{Default}
 use Rattle.catalog_semantics.specs.States.{filled, is_class, lacks, defaults_of, within_size, attributes_limit, size_of_resources}

@@ -1,7 +1,7 @@
 //! Defaults take hold.
 
 ghost use Rattle.std.specs.Prelude.{◌≡◌, ◌<◌, [], length, IfOk, OnOk};
-ghost use Rattle.pp_eval.specs.Verdicts.{AnswersBy};
+ghost use Rattle.pp_eval.specs.Evaluating.{AnswersBy};
 ghost use Rattle.catalog_semantics.specs.States.{filled};
 ghost use Rattle.catalog_semantics.specs.Catalogs.{filled_behind, main_ended};
 ghost use Rattle.catalog.specs.Adding.{given};

@@ -5,7 +5,7 @@
 //! the catalog, without relations.
 
 ghost use Rattle.std.specs.Prelude.{◌≡◌, ◌∷◌, [], length, IfOk, OnOk};
-ghost use Rattle.pp_eval.specs.Verdicts.{AnswersBy};
+ghost use Rattle.pp_eval.specs.Evaluating.{AnswersBy};
 ghost use Rattle.catalog_semantics.specs.States.{added, bound, place_of, tied, collected};
 ghost use Rattle.catalog_semantics.specs.Catalogs.{first_state};
 

@@ -11,7 +11,7 @@ use Rattle.pp_value.specs.declared.value.Ref.{Ref}
 use Rattle.pp_value.specs.Shown.{shown_ref}
 use Rattle.pp_value.specs.Values.{Pair}
 use Rattle.pp_eval.specs.declared.scope.Scope.{Scope}
-use Rattle.pp_eval.specs.Verdicts.{◌>>=◌, refusal, Refuses}
+use Rattle.pp_eval.specs.Evaluating.{◌>>=◌, refusal, Refuses}
 use Rattle.pp_eval.specs.Growing.{inner_stays}
 use Rattle.pp_eval.specs.Scoping.{Scoped, entered, left as left_scope, class_scope, current_scope, IsInner, IsInnerSort}
 use Rattle.catalog_semantics.specs.declared.catalog.Resource.{Resource}

@@ -9,7 +9,7 @@ use Rattle.pp_syntax.specs.declared.tree.Stmt.{Stmt}
 use Rattle.pp_syntax.specs.declared.tree.Arm.{Arm, out-Arm}
 use Rattle.pp_syntax.specs.declared.tree.CaseArm.{CaseArm, out-CaseArm}
 use Rattle.pp_value.specs.declared.value.Value.{Value}
-use Rattle.pp_eval.specs.Verdicts.{Verdict, ◌>>=◌}
+use Rattle.pp_eval.specs.Evaluating.{Evaluation, ◌>>=◌}
 use Rattle.pp_eval.specs.Scoping.{Scoped}
 use Rattle.pp_eval.specs.declared.blame.Blame.TheVariants as blame
 use Rattle.pp_eval.specs.Evaluation.{value_of, evaluated, is_among}
@@ -99,7 +99,7 @@ module _ (site : Site) (bodies : Bodies) where
   by_found default s (Err e) = refl
 
   -- and where the value is asked for before
-  by_value : (at : ℕ) (arms : List CaseArm) (s : State) (r : Verdict)
+  by_value : (at : ℕ) (arms : List CaseArm) (s : State) (r : Evaluation)
       → (r >>= λ x. first_option s.scopes at x (flat_map (options_with site bodies) arms) >>= λ found. chosen_block found (default_block (flat_map (options_with site bodies) arms)) s)
       ≡ ((r >>= λ x. equal_arm s.scopes at x arms >>= λ equal. Ok (option_or equal (default_arm arms))) >>= λ found. maybe_block site bodies found s)
   by_value at arms s (Ok x) =

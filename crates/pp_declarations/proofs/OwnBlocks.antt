@@ -9,7 +9,7 @@ use Rattle.pp_syntax.specs.declared.tree.Stmt.{Stmt}
 use Rattle.pp_syntax.specs.declared.tree.Arm.{Arm, out-Arm}
 use Rattle.pp_syntax.specs.declared.tree.CaseArm.{CaseArm, out-CaseArm}
 use Rattle.pp_value.specs.declared.value.Value.{Value}
-use Rattle.pp_eval.specs.Verdicts.{Verdict, ◌>>=◌}
+use Rattle.pp_eval.specs.Evaluating.{Evaluation, ◌>>=◌}
 use Rattle.pp_eval.specs.Scoping.{Scoped}
 use Rattle.pp_eval.specs.declared.blame.Blame.TheVariants as blame
 use Rattle.pp_eval.specs.Evaluation.{value_of, evaluated, is_among}
@@ -81,7 +81,7 @@ module _ (P : List Stmt → Type 0) (s : Scoped) (b : List Stmt) where
   by_equal arms (Err x) h k e = cc
 
   -- and by its value
-  by_value : (at : ℕ) (arms : List CaseArm) (r : Verdict) → AllByRecursion (λ a. P (out-CaseArm a).body) arms
+  by_value : (at : ℕ) (arms : List CaseArm) (r : Evaluation) → AllByRecursion (λ a. P (out-CaseArm a).body) arms
       → (r >>= λ x. equal_arm s at x arms >>= λ equal. Ok (option_or equal (default_arm arms))) ≡ Ok (Some b) → P b
   by_value at arms (Ok x) h e = by_equal arms (equal_arm s at x arms) (λ found k. equal_own at x arms found h k) (default_own arms h) e
   by_value at arms (Err x) h e = cc

@@ -13,7 +13,7 @@ use Rattle.pp_syntax.specs.declared.tree.Operand.{Operand}
 use Rattle.pp_syntax.specs.declared.tree.Arrow.{Arrow}
 use Rattle.pp_syntax.specs.declared.tree.Stmt.{Stmt}
 use Rattle.pp_syntax.specs.declared.tree.Stmt.TheVariants as stmt
-use Rattle.pp_eval.specs.Verdicts.{◌>>=◌, AnswersBy, Refuses}
+use Rattle.pp_eval.specs.Evaluating.{◌>>=◌, AnswersBy, Refuses}
 use Rattle.pp_eval.specs.Scoping.{Scoped}
 use Rattle.pp_eval.specs.Evaluation.{evaluated, values_in}
 use Rattle.catalog_semantics.specs.declared.state.State.{State}

@@ -1,6 +1,6 @@
 //! The classes that an argument names.
 
-ghost use Rattle.pp_eval.specs.Verdicts.{AnswersBy, if_there};
+ghost use Rattle.pp_eval.specs.Evaluating.{AnswersBy, if_there};
 ghost use Rattle.catalog_semantics.specs.Functions.{class_names};
 
 use pp_declared_values::class_names;

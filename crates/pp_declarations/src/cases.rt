@@ -2,7 +2,7 @@
 
 ghost use Rattle.std.specs.Prelude.{◌≡◌, is_none, option_map};
 ghost use Rattle.std.specs.List.{list_any};
-ghost use Rattle.pp_eval.specs.Verdicts.{AnswersBy};
+ghost use Rattle.pp_eval.specs.Evaluating.{AnswersBy};
 ghost use Rattle.pp_declarations.specs.Choosing.{equal_arm, default_arm, chosen_option};
 
 use pp_eval::{Blame, Scopes, eval, is_among};

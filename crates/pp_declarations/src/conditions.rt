@@ -1,6 +1,6 @@
 //! Which block of an `if` is chosen.
 
-ghost use Rattle.pp_eval.specs.Verdicts.{AnswersBy};
+ghost use Rattle.pp_eval.specs.Evaluating.{AnswersBy};
 ghost use Rattle.pp_declarations.specs.Choosing.{chosen_arm};
 
 use pp_declared_values::test_of;

@@ -1,7 +1,7 @@
 //! What statements do in which no body runs.
 
 ghost use Rattle.std.specs.Prelude.{◌≡◌, IfOk, OnOk};
-ghost use Rattle.pp_eval.specs.Verdicts.{AnswersBy};
+ghost use Rattle.pp_eval.specs.Evaluating.{AnswersBy};
 ghost use Rattle.catalog_semantics.specs.Declaring.{class_resource};
 ghost use Rattle.catalog_semantics.specs.Effects.{assigned};
 ghost use Rattle.pp_declarations.specs.Including.{after_include};

@@ -2,7 +2,7 @@
 //! then runs it; so choosing stands apart from this cycle of functions (`conditions`, `cases`).
 
 ghost use Rattle.std.specs.Prelude.{◌≡◌, ◌++◌, map, OnOk};
-ghost use Rattle.pp_eval.specs.Verdicts.{AnswersBy};
+ghost use Rattle.pp_eval.specs.Evaluating.{AnswersBy};
 ghost use Rattle.pp_eval.specs.References.{plain_name};
 ghost use Rattle.catalog_semantics.specs.Rooms.{in_block};
 ghost use Rattle.catalog_semantics.specs.States.{in_turn};

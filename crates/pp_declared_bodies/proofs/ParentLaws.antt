@@ -3,7 +3,7 @@ use Rattle.std.proofs.Common.{◌≡◌, arith, add-one, ℕ, zero, suc, ◌+◌
 use Rattle.std.specs.Prelude.{Option, Some, None, Result, Ok, Err}
 use Rattle.std.proofs.Math.Nat.{suc-sub-suc, sub-zero}
 use Rattle.rh_base.specs.declared.fault.Refusal.{Refusal}
-use Rattle.pp_eval.specs.Verdicts.{◌>>=◌}
+use Rattle.pp_eval.specs.Evaluating.{◌>>=◌}
 use Rattle.catalog_semantics.specs.declared.state.State.{State}
 use Rattle.catalog_semantics.specs.Sites.{Definition, Site}
 use Rattle.catalog_semantics.specs.States.{is_declared}

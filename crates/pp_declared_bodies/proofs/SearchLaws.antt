@@ -7,7 +7,7 @@ use Rattle.pp_syntax.specs.declared.tree.Search.{Search, Search-F, fold-roll-Sea
 use Rattle.pp_syntax.specs.declared.tree.Search.TheOpen as plain
 use Rattle.pp_syntax.specs.declared.tree.Search.TheVariants as search
 use Rattle.pp_syntax.specs.declared.tree.Search.TheVariants.{rolls-Or, rolls-And, rolls-Equal, rolls-Differ}
-use Rattle.pp_eval.specs.Verdicts.{◌>>=◌}
+use Rattle.pp_eval.specs.Evaluating.{◌>>=◌}
 use Rattle.pp_eval.specs.Scoping.{Scoped}
 use Rattle.catalog_semantics.specs.declared.state.Wish.{Wish}
 use Rattle.catalog_semantics.specs.declared.state.Wish.TheVariants as wish

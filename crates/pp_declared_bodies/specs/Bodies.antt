@@ -2,7 +2,7 @@
 use Rattle.std.specs.Prelude.{ℕ, List, ◌++◌, Result, Ok}
 use Rattle.rh_base.specs.declared.fault.Refusal.{Refusal}
 use Rattle.pp_value.specs.declared.value.Ref.{Ref}
-use Rattle.pp_eval.specs.Verdicts.{◌>>=◌}
+use Rattle.pp_eval.specs.Evaluating.{◌>>=◌}
 use Rattle.catalog_semantics.specs.declared.state.State.{State}
 
 -- a resource of a type

@@ -1,7 +1,7 @@
 -- The parents that aren't declared yet, the nearest first.
 use Rattle.std.specs.Prelude.{ℕ, zero, suc, if◌then◌else◌, List, [], ◌∷◌, ◌++◌, Option, Some, None, Result, Ok}
 use Rattle.rh_base.specs.declared.fault.Refusal.{Refusal}
-use Rattle.pp_eval.specs.Verdicts.{◌>>=◌}
+use Rattle.pp_eval.specs.Evaluating.{◌>>=◌}
 use Rattle.catalog_semantics.specs.declared.state.State.{State}
 use Rattle.catalog_semantics.specs.Sites.{Definition, Site}
 use Rattle.catalog_semantics.specs.States.{is_declared}

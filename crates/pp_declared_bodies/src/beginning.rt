@@ -1,7 +1,7 @@
 //! How bodies begin.
 
 ghost use Rattle.std.specs.Prelude.{◌≡◌, option_map, IfOk};
-ghost use Rattle.pp_eval.specs.Verdicts.{AnswersBy};
+ghost use Rattle.pp_eval.specs.Evaluating.{AnswersBy};
 ghost use Rattle.pp_eval.specs.Scoping.{class_scope, defined_scope};
 ghost use Rattle.catalog_semantics.specs.Declaring.{body_begins};
 ghost use Rattle.pp_declared_bodies.specs.Beginning.{class_added, class_begins};

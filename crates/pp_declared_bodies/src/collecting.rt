@@ -1,7 +1,7 @@
 //! Collectors as they are declared.
 
 ghost use Rattle.std.specs.Prelude.{map};
-ghost use Rattle.pp_eval.specs.Verdicts.{AnswersBy};
+ghost use Rattle.pp_eval.specs.Evaluating.{AnswersBy};
 ghost use Rattle.catalog_semantics.specs.Collecting.{comparable, all_of, wish_in, maybe_wish, collector_of};
 
 use crate::types::named_type;

@@ -1,7 +1,7 @@
 //! Resources as they are declared.
 
 ghost use Rattle.std.specs.Prelude.{◌≡◌, ◌++◌, map, OnOk};
-ghost use Rattle.pp_eval.specs.Verdicts.{AnswersBy};
+ghost use Rattle.pp_eval.specs.Evaluating.{AnswersBy};
 ghost use Rattle.catalog_semantics.specs.States.{in_turn};
 ghost use Rattle.catalog_semantics.specs.Declaring.{sort_of, resource_declared, body_declared, bodies_declared, resources_declared};
 ghost use Rattle.pp_declared_bodies.specs.Bodies.{declared_behind, ref_to};

@@ -1,7 +1,7 @@
 //! Functions that declare nothing.
 
 ghost use Rattle.std.specs.Prelude.{map};
-ghost use Rattle.pp_eval.specs.Verdicts.{AnswersBy};
+ghost use Rattle.pp_eval.specs.Evaluating.{AnswersBy};
 ghost use Rattle.catalog_semantics.specs.States.{in_turn};
 ghost use Rattle.catalog_semantics.specs.Functions.{placed, realizes, fails};
 

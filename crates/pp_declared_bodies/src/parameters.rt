@@ -2,7 +2,7 @@
 
 ghost use Rattle.std.specs.Prelude.{◌≡◌, map};
 ghost use Rattle.pp_value.specs.Values.{value_at};
-ghost use Rattle.pp_eval.specs.Verdicts.{AnswersBy, Answers};
+ghost use Rattle.pp_eval.specs.Evaluating.{AnswersBy, Answers};
 ghost use Rattle.catalog_semantics.specs.States.{in_turn};
 ghost use Rattle.catalog_semantics.specs.Declaring.{preset_of, looked_up, given_or_else, is_of_kind, fitting, parameter_bound, is_parameter, is_known, all_known, title_bound};
 ghost use Rattle.pp_declared_bodies.specs.Opening.{parameters_bound};

@@ -1,7 +1,7 @@
 //! Parents of classes that are still to be declared. They are collected nearest first and run from the end, without recursion.
 
 ghost use Rattle.std.specs.Prelude.{◌≡◌, ◌+◌, ◌∷◌, ◌++◌, [], length, map, option_map, IfOk, OnOk};
-ghost use Rattle.pp_eval.specs.Verdicts.{AnswersBy};
+ghost use Rattle.pp_eval.specs.Evaluating.{AnswersBy};
 ghost use Rattle.catalog_semantics.specs.States.{is_declared};
 ghost use Rattle.catalog_semantics.specs.Declaring.{class_ref, class_named, no_circle};
 ghost use Rattle.pp_declared_bodies.specs.Parents.{next_parent, nearest_first};

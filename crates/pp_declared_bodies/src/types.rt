@@ -1,6 +1,6 @@
 //! Types that a manifest may name.
 
-ghost use Rattle.pp_eval.specs.Verdicts.{AnswersBy};
+ghost use Rattle.pp_eval.specs.Evaluating.{AnswersBy};
 ghost use Rattle.catalog_semantics.specs.Declaring.{known_type, named_type};
 
 use pp_definitions::Site;

@@ -1,7 +1,7 @@
 //! How many resources a catalog may have.
 
 ghost use Rattle.std.specs.Prelude.{◌≡◌, ◌≤◌, if◌then◌else◌, length};
-ghost use Rattle.pp_eval.specs.Verdicts.{AnswersBy};
+ghost use Rattle.pp_eval.specs.Evaluating.{AnswersBy};
 ghost use Rattle.catalog_semantics.specs.Catalogs.{real_plain, few_enough};
 ghost use Rattle.pp_declared_catalog.specs.Results.{is_real_plain};
 

@@ -11,7 +11,7 @@ use Rattle.pp_syntax.specs.declared.tree.Attr.{Attr}
 use Rattle.pp_value.specs.declared.value.Value.{Value}
 use Rattle.pp_value.specs.declared.value.Ref.{Ref}
 use Rattle.pp_value.specs.Values.{Pair, value_at, has_opaque, is_undef}
-use Rattle.pp_eval.specs.Verdicts.{◌>>=◌, Verdict, refusal, no_result, AnswersBy, Refuses}
+use Rattle.pp_eval.specs.Evaluating.{◌>>=◌, Evaluation, refusal, no_result, AnswersBy, Refuses}
 use Rattle.pp_eval.specs.Scoping.{Scoped}
 use Rattle.pp_eval.specs.Evaluation.{value_of}
 use Rattle.catalog_semantics.specs.Attributes.{is_one_of, is_metaparameter, references_in, if_references, first_time, attribute_of, attributes_behind}
@@ -49,7 +49,7 @@ named a before other f false h = h
 
 -- so does an attribute by its value
 by_value : (s : Scoped) (before other : List (List ℕ)) (a : Attr) (attrs : List Attr) → is_one_of before a.name ≡ is_one_of other a.name
-    → attributes_behind s (a.name ∷ before) attrs ≡ attributes_behind s (a.name ∷ other) attrs → (r : Verdict)
+    → attributes_behind s (a.name ∷ before) attrs ≡ attributes_behind s (a.name ∷ other) attrs → (r : Evaluation)
     → (r >>= λ x. first_time before a >>= with_value s a attrs x) ≡ (r >>= λ x. first_time other a >>= with_value s a attrs x)
 by_value s before other a attrs same rest (Err e) = refl
 by_value s before other a attrs same rest (Ok x) =
@@ -97,19 +97,19 @@ next_given before new (Err e) r h = cc
 module _ (s : Scoped) (names : List (List ℕ × Bool)) (given : List Pair) (a : Attr) (attrs : List Attr) where
   -- the value is refused
   pub value_refused : (e : Refusal) → value_of s a.value ≡ Err e → given_behind given (attributes_behind s (keys_of names) (a ∷ attrs)) ≡ Err e
-  value_refused e h = ap (λ (r : Verdict). given_behind given (r >>= λ x. first_time (keys_of names) a >>= with_value s a attrs x)) h
+  value_refused e h = ap (λ (r : Evaluation). given_behind given (r >>= λ x. first_time (keys_of names) a >>= with_value s a attrs x)) h
 
   -- the name stands already
   pub name_refused : (x : Value) (e : Refusal) → value_of s a.value ≡ Ok x → first_time (keys_of names) a ≡ Err e → given_behind given (attributes_behind s (keys_of names) (a ∷ attrs)) ≡ Err e
   name_refused x e h k =
-      ap (λ (r : Verdict). given_behind given (r >>= λ y. first_time (keys_of names) a >>= with_value s a attrs y)) h
+      ap (λ (r : Evaluation). given_behind given (r >>= λ y. first_time (keys_of names) a >>= with_value s a attrs y)) h
       ∙ ap (λ (r : Result (List (List ℕ)) Refusal). given_behind given (r >>= with_value s a attrs x)) k
 
   -- an attribute whose name is new goes on by its value
   of_named : (x : Value) → value_of s a.value ≡ Ok x → value_at a.name names ≡ None
       → given_behind given (attributes_behind s (keys_of names) (a ∷ attrs)) ≡ given_behind given (with_value s a attrs x (a.name ∷ keys_of names))
   of_named x h n =
-      ap (λ (r : Verdict). given_behind given (r >>= λ y. first_time (keys_of names) a >>= with_value s a attrs y)) h
+      ap (λ (r : Evaluation). given_behind given (r >>= λ y. first_time (keys_of names) a >>= with_value s a attrs y)) h
       ∙ ap (λ (r : Result (List (List ℕ)) Refusal). given_behind given (r >>= with_value s a attrs x)) (stands_not names a n)
 
   -- a refusal of the first is one of all

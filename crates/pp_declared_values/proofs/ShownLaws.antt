@@ -8,7 +8,7 @@ use Rattle.pp_value.specs.declared.fault.Misfit.{Misfit}
 use Rattle.pp_value.specs.declared.fault.Misfit.TheVariants.{Operand}
 use Rattle.pp_value.specs.Values.{has_opaque}
 use Rattle.pp_value.specs.Shown.{show_table, shown, is_long_text}
-use Rattle.pp_eval.specs.Verdicts.{◌>>=◌, if_there, too_large}
+use Rattle.pp_eval.specs.Evaluating.{◌>>=◌, if_there, too_large}
 use Rattle.pp_eval.specs.Evaluation.{limited_text}
 use Rattle.catalog_semantics.specs.Functions.{shown_argument, spaced}
 

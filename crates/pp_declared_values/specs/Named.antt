@@ -5,7 +5,7 @@ use Rattle.rh_base.specs.declared.fault.Refusal.{Refusal}
 use Rattle.pp_syntax.specs.declared.tree.Attr.{Attr}
 use Rattle.pp_value.specs.declared.value.Value.{Value}
 use Rattle.pp_value.specs.Values.{Pair, value_at}
-use Rattle.pp_eval.specs.Verdicts.{◌>>=◌, Refuses}
+use Rattle.pp_eval.specs.Evaluating.{◌>>=◌, Refuses}
 use Rattle.pp_eval.specs.Scoping.{Scoped}
 use Rattle.catalog_semantics.specs.Attributes.{references_in, is_metaparameter, attributes_behind}
 

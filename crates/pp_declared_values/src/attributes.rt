@@ -3,7 +3,7 @@
 
 ghost use Rattle.std.specs.Prelude.{◌≡◌, ◌∷◌, ◌++◌, [], None, true, OnOk, IfOk, IfErr};
 ghost use Rattle.pp_value.specs.Values.{value_at, is_undef};
-ghost use Rattle.pp_eval.specs.Verdicts.{AnswersBy, Refuses};
+ghost use Rattle.pp_eval.specs.Evaluating.{AnswersBy, Refuses};
 ghost use Rattle.catalog_semantics.specs.Attributes.{first_time, attribute_of, attributes_behind, attributes_at};
 ghost use Rattle.pp_declared_values.specs.Named.{keys_of, given_behind, may_be_given, AllStand, GoesOn};
 

@@ -1,6 +1,6 @@
 //! Tests of conditions.
 
-ghost use Rattle.pp_eval.specs.Verdicts.{AnswersBy};
+ghost use Rattle.pp_eval.specs.Evaluating.{AnswersBy};
 ghost use Rattle.catalog_semantics.specs.Effects.{test_of};
 
 use pp_eval::{Scopes, eval, truth_at};

@@ -1,7 +1,7 @@
 //! References that stand in values.
 
 ghost use Rattle.std.specs.Prelude.{◌≡◌, IfOk};
-ghost use Rattle.pp_eval.specs.Verdicts.{AnswersBy, if_there};
+ghost use Rattle.pp_eval.specs.Evaluating.{AnswersBy, if_there};
 ghost use Rattle.catalog_semantics.specs.Attributes.{references_in};
 ghost use Rattle.catalog_semantics.specs.Effects.{named_refs};
 ghost use Rattle.pp_declared_values.specs.Found.{references_in_all, Appends, refs_behind};

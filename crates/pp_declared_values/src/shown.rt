@@ -1,7 +1,7 @@
 //! Arguments that are shown.
 
 ghost use Rattle.std.specs.Prelude.{◌≡◌, IfOk};
-ghost use Rattle.pp_eval.specs.Verdicts.{AnswersBy};
+ghost use Rattle.pp_eval.specs.Evaluating.{AnswersBy};
 ghost use Rattle.catalog_semantics.specs.Functions.{placed, shown_argument, shown_arguments, spaced};
 ghost use Rattle.pp_declared_values.specs.Found.{failure_of};
 

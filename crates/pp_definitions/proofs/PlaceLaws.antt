@@ -10,7 +10,7 @@ use Rattle.std.proofs.lemmas.List.Folds.{list_any-append}
 use Rattle.rh_base.specs.declared.fault.Refusal.{Refusal}
 use Rattle.pp_value.specs.Keys.{value_at}
 use Rattle.pp_value.specs.Texts.{lowered}
-use Rattle.pp_eval.specs.Verdicts.{◌>>=◌, refusal}
+use Rattle.pp_eval.specs.Evaluating.{◌>>=◌, refusal}
 use Rattle.catalog_semantics.specs.Sites.{Definition, Node, Site, definition_of, is_same_node, new_nodes, node_names, node_label, node_block, with_its_node, stands_twice, is_taken, is_defined, with_node, line_of, inherits_itself}
 use Rattle.pp_definitions.specs.declared.nodes.NodeNames.{NodeNames}
 use Rattle.pp_syntax.specs.declared.tree.Stmt.{Stmt}

@@ -4,7 +4,7 @@ use Rattle.std.specs.List.{list_any}
 use Rattle.rh_base.specs.declared.fault.Refusal.{Refusal}
 use Rattle.pp_value.specs.Texts.{lowered}
 use Rattle.pp_value.specs.Keys.{value_at}
-use Rattle.pp_eval.specs.Verdicts.{◌>>=◌}
+use Rattle.pp_eval.specs.Evaluating.{◌>>=◌}
 use Rattle.catalog_semantics.specs.Sites.{Definition, definition_of, is_same_node, stands_twice}
 use Rattle.pp_definitions.specs.declared.nodes.NodeNames.{NodeNames}
 

@@ -2,7 +2,7 @@
 
 ghost use Rattle.std.specs.Prelude.{◌≡◌, [], map, option_map, IfOk, OnOk};
 ghost use Rattle.pp_syntax.specs.declared.tree.Item.TheVariants as item;
-ghost use Rattle.pp_eval.specs.Verdicts.{AnswersBy};
+ghost use Rattle.pp_eval.specs.Evaluating.{AnswersBy};
 ghost use Rattle.pp_eval.specs.Scoping.{pairs_in};
 ghost use Rattle.pp_eval.specs.References.{plain_name};
 ghost use Rattle.pp_data.specs.Lookup.{lookup};

@@ -3,7 +3,7 @@
 ghost use Rattle.std.specs.Prelude.{◌≡◌, [], false, IfOk, option_map};
 ghost use Rattle.std.specs.List.{list_any};
 ghost use Rattle.pp_value.specs.Texts.{lowered, same_text};
-ghost use Rattle.pp_eval.specs.Verdicts.{AnswersBy};
+ghost use Rattle.pp_eval.specs.Evaluating.{AnswersBy};
 ghost use Rattle.catalog_semantics.specs.Sites.{is_same_node, stands_for, node_of};
 ghost use Rattle.pp_definitions.specs.Places.{noted_one, noted_all};
 

@@ -5,7 +5,7 @@
 //! class data. Parents go in a circle exactly where a chain of them is longer than there are classes, so that is counted.
 
 ghost use Rattle.std.specs.Prelude.{◌≡◌, length, option_map, IfOk};
-ghost use Rattle.pp_eval.specs.Verdicts.{AnswersBy};
+ghost use Rattle.pp_eval.specs.Evaluating.{AnswersBy};
 ghost use Rattle.catalog_semantics.specs.Sites.{definition_of, is_built_in, is_type, is_taken, is_reserved, node_block, no_definitions, with_its_node, inherits_itself};
 ghost use Rattle.pp_definitions.specs.Places.{has_some, parent_in};
 

@@ -1,14 +1,14 @@
--- Scopes that agree on what is looked up give one verdict.
+-- Scopes that agree on what is looked up give one evaluation.
 use Rattle.std.proofs.Common.{◌≡◌, ℕ, List, refl, ap}
 use Rattle.pp_syntax.specs.declared.tree.Expr.{Expr}
 use Rattle.pp_syntax.specs.declared.tree.Form.{Form, Form-F, fold-Form}
 use Rattle.pp_syntax.specs.declared.tree.Form.TheOpen as plain
 use Rattle.pp_eval.specs.Scoping.{Scoped, find_in}
-use Rattle.pp_eval.specs.Verdicts.{Verdict, Evaluated}
+use Rattle.pp_eval.specs.Evaluating.{Evaluation, Evaluated}
 use Rattle.pp_eval.specs.Evaluation.{bound_to, form_at, value_in, value_of}
 
 module _ (s t : Scoped) (agree : (name : List ℕ) → find_in s name ≡ find_in t name) where
-  -- a form whose expressions have verdicts gives the same in both
+  -- a form whose expressions have evaluations gives the same in both
   one_form : {Y : Type 0} (f : Form-F Y Evaluated) (at : ℕ) → form_at s f at ≡ form_at t f at
   one_form (plain.Int n) at = refl
   one_form (plain.Str text) at = refl
@@ -27,8 +27,8 @@ module _ (s t : Scoped) (agree : (name : List ℕ) → find_in s name ≡ find_i
   -- a form gives the same in both
   one_value : (f : Form) → value_in s f ≡ value_in t f
   unfolding value_in
-  one_value f = ap (λ (step : Form-F (ℕ → Verdict) Evaluated → ℕ → Verdict). fold-Form (ℕ → Verdict) Evaluated step (λ x. record { at = x.at; verdict = x.form x.at }) f) (λ i. λ y at. one_form y at i)
+  one_value f = ap (λ (step : Form-F (ℕ → Evaluation) Evaluated → ℕ → Evaluation). fold-Form (ℕ → Evaluation) Evaluated step (λ x. record { at = x.at; gives = x.form x.at }) f) (λ i. λ y at. one_form y at i)
 
   -- so does an expression
-  pub one_verdict : (e : Expr) → value_of s e ≡ value_of t e
-  one_verdict e = ap (λ (f : ℕ → Verdict). f e.at) (one_value e.form)
+  pub one_evaluation : (e : Expr) → value_of s e ≡ value_of t e
+  one_evaluation e = ap (λ (f : ℕ → Evaluation). f e.at) (one_value e.form)

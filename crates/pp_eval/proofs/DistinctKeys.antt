@@ -15,7 +15,7 @@ use Rattle.pp_value.specs.Proper.{IsProper}
 use Rattle.pp_value.specs.Table.{equal_table, less_table, within_table, fits_word, number, add_table, subtract_table, multiply_table, negate_table, index_table}
 use Rattle.pp_eval.specs.Operations.{operation, as_value, turned}
 use Rattle.pp_eval.specs.Scoping.{Scoped, find_in}
-use Rattle.pp_eval.specs.Verdicts.{Verdict, Evaluated, ◌>>=◌, too_large, limited, told, made, if_there}
+use Rattle.pp_eval.specs.Evaluating.{Evaluation, Evaluated, ◌>>=◌, too_large, limited, told, made, if_there}
 use Rattle.pp_eval.specs.Evaluation.{values_in, list_at, key_of, pair_in, pairs_in, keyed_in, map_at, titles_in, refer_to, one_or_list, refer_at, longer, joined_to, truth_at, as_truth, operated, chain_from, chain_at, prefixed, prefix_at, index_at, value_of}
 use Rattle.pp_eval.proofs.EveryValue.{Each, step_each, then_each, if_each, FormsKeep, so_of_each}
 
@@ -129,15 +129,15 @@ module _ (known : Known) where
   operation_gives op.Not a b h k = tt
 
   -- the truth of an operand is proper
-  truth_proper : (at : ℕ) (r : Verdict) → Each IsProper (as_truth at r)
+  truth_proper : (at : ℕ) (r : Evaluation) → Each IsProper (as_truth at r)
   truth_proper at r = step_each IsProper r _ (λ x. step_each IsProper (truth_at at x) _ (λ b. tt))
 
   -- what an operator makes by its table is proper
-  by_table : (at : ℕ) (o : Op) (x : Value) (r : Verdict) → IsProper x → Each IsProper r → Each IsProper (r >>= λ y. made at (operation o x y))
+  by_table : (at : ℕ) (o : Op) (x : Value) (r : Evaluation) → IsProper x → Each IsProper r → Each IsProper (r >>= λ y. made at (operation o x y))
   by_table at o x r h k = then_each IsProper IsProper r _ k (λ y p. made_proper at (operation o x y) (operation_gives o x y h p))
 
   -- so is what each operator makes
-  operated_proper : (at : ℕ) (o : Op) (x : Value) (r : Verdict) → IsProper x → Each IsProper r → Each IsProper (operated at o x r)
+  operated_proper : (at : ℕ) (o : Op) (x : Value) (r : Evaluation) → IsProper x → Each IsProper r → Each IsProper (operated at o x r)
   operated_proper at op.And x r h k = step_each IsProper (truth_at at x) _ (λ b. if_each IsProper b (as_truth at r) (Ok (v.Bool false)) (truth_proper at r) tt)
   operated_proper at op.Or x r h k = step_each IsProper (truth_at at x) _ (λ b. if_each IsProper b (Ok (v.Bool true)) (as_truth at r) tt (truth_proper at r))
   operated_proper at op.Less x r h k = by_table at op.Less x r h k
@@ -153,14 +153,14 @@ module _ (known : Known) where
   operated_proper at op.Not x r h k = by_table at op.Not x r h k
 
   -- so is what operators from the left make
-  from_proper : (at : ℕ) (x : Value) (more : List (Op × Evaluated)) → IsProper x → AllByRecursion (λ o. Each IsProper o.1.verdict) more → Each IsProper (chain_from at x more)
+  from_proper : (at : ℕ) (x : Value) (more : List (Op × Evaluated)) → IsProper x → AllByRecursion (λ o. Each IsProper o.1.gives) more → Each IsProper (chain_from at x more)
   from_proper at x [] h k = h
   from_proper at x (o ∷ more) h k =
-      then_each IsProper IsProper (operated at o.0 x o.1.verdict) _ (operated_proper at o.0 x o.1.verdict h k.0) (λ y p. from_proper at y more p k.1)
+      then_each IsProper IsProper (operated at o.0 x o.1.gives) _ (operated_proper at o.0 x o.1.gives h k.0) (λ y p. from_proper at y more p k.1)
 
   -- and a chain
-  chain_proper : (at : ℕ) (first : Evaluated) (more : List (Op × Evaluated)) → Each IsProper first.verdict → AllByRecursion (λ o. Each IsProper o.1.verdict) more → Each IsProper (chain_at at first more)
-  chain_proper at first more h k = then_each IsProper IsProper first.verdict _ h (λ x p. from_proper at x more p k)
+  chain_proper : (at : ℕ) (first : Evaluated) (more : List (Op × Evaluated)) → Each IsProper first.gives → AllByRecursion (λ o. Each IsProper o.1.gives) more → Each IsProper (chain_at at first more)
+  chain_proper at first more h k = then_each IsProper IsProper first.gives _ h (λ x p. from_proper at x more p k)
 
   -- what a prefix makes is proper
   prefixed_proper : (at : ℕ) (o : Op) (x : Value) → Each IsProper (prefixed at o x)
@@ -179,40 +179,40 @@ module _ (known : Known) where
   prefixed_proper at op.In x = tt
 
   -- so is what prefixes make
-  prefix_proper : (at : ℕ) (ops : List Op) (r : Verdict) → Each IsProper r → Each IsProper (prefix_at at ops r)
+  prefix_proper : (at : ℕ) (ops : List Op) (r : Evaluation) → Each IsProper r → Each IsProper (prefix_at at ops r)
   prefix_proper at [] r h = h
   prefix_proper at (o ∷ ops) r h = step_each IsProper (prefix_at at ops r) _ (λ x. prefixed_proper at o x)
 
   -- a member of a proper value is proper
-  at_proper : (at : ℕ) (base key : Evaluated) → Each IsProper base.verdict → Each IsProper (index_at at base key)
+  at_proper : (at : ℕ) (base key : Evaluated) → Each IsProper base.gives → Each IsProper (index_at at base key)
   at_proper at base key h =
-      then_each IsProper IsProper base.verdict _ h (λ x p. step_each IsProper key.verdict _ (λ k. told_proper at (index_table x k) (gives_by (index_table x k) (λ y e. known.members x k y p e))))
+      then_each IsProper IsProper base.gives _ h (λ x p. step_each IsProper key.gives _ (λ k. told_proper at (index_table x k) (gives_by (index_table x k) (λ y e. known.members x k y p e))))
 
   -- ---- lists, maps, references and texts
 
   -- the values of members are proper where each is
-  values_proper : (members : List Evaluated) → AllByRecursion (λ m. Each IsProper m.verdict) members → Each AllProper (values_in members)
+  values_proper : (members : List Evaluated) → AllByRecursion (λ m. Each IsProper m.gives) members → Each AllProper (values_in members)
   values_proper [] h = tt
   values_proper (m ∷ members) h =
-      then_each IsProper AllProper m.verdict _ h.0 (λ x p. then_each AllProper AllProper (values_in members) _ (values_proper members h.1) (λ xs ps. (p, ps)))
+      then_each IsProper AllProper m.gives _ h.0 (λ x p. then_each AllProper AllProper (values_in members) _ (values_proper members h.1) (λ xs ps. (p, ps)))
 
   -- a list of proper members is proper
-  of_list : (at : ℕ) (members : List Evaluated) → AllByRecursion (λ m. Each IsProper m.verdict) members → Each IsProper (list_at at members)
+  of_list : (at : ℕ) (members : List Evaluated) → AllByRecursion (λ m. Each IsProper m.gives) members → Each IsProper (list_at at members)
   of_list at members h = then_each AllProper IsProper (values_in members) _ (values_proper members h) (λ xs ps. limited_proper at (v.List xs) (known.lists xs ps))
 
   -- the value of a pair is proper where what gives it is
-  pair_proper : (left right : Evaluated) → Each IsProper right.verdict → Each (λ (p : Pair). IsProper p.1) (pair_in left right)
+  pair_proper : (left right : Evaluated) → Each IsProper right.gives → Each (λ (p : Pair). IsProper p.1) (pair_in left right)
   pair_proper left right h =
-      step_each (λ (p : Pair). IsProper p.1) left.verdict _ (λ k. step_each (λ (p : Pair). IsProper p.1) (if_there left.at (key_of k)) _ (λ key. then_each IsProper (λ (p : Pair). IsProper p.1) right.verdict _ h (λ x p. p)))
+      step_each (λ (p : Pair). IsProper p.1) left.gives _ (λ k. step_each (λ (p : Pair). IsProper p.1) (if_there left.at (key_of k)) _ (λ key. then_each IsProper (λ (p : Pair). IsProper p.1) right.gives _ h (λ x p. p)))
 
   -- so are the values of pairs
-  pairs_proper : (members : List (Evaluated × Evaluated)) → AllByRecursion (λ m. Each IsProper m.1.verdict) members → Each PairsProper (pairs_in members)
+  pairs_proper : (members : List (Evaluated × Evaluated)) → AllByRecursion (λ m. Each IsProper m.1.gives) members → Each PairsProper (pairs_in members)
   pairs_proper [] h = tt
   pairs_proper (m ∷ members) h =
       then_each (λ (p : Pair). IsProper p.1) PairsProper (pair_in m.0 m.1) _ (pair_proper m.0 m.1 h.0) (λ x p. then_each PairsProper PairsProper (pairs_in members) _ (pairs_proper members h.1) (λ xs ps. (p, ps)))
 
   -- a map of them is proper
-  of_map : (at : ℕ) (members : List (Evaluated × Evaluated)) → AllByRecursion (λ m. Each IsProper m.1.verdict) members → Each IsProper (map_at at members)
+  of_map : (at : ℕ) (members : List (Evaluated × Evaluated)) → AllByRecursion (λ m. Each IsProper m.1.gives) members → Each IsProper (map_at at members)
   of_map at members h =
       let keyed : Each ProperMap (keyed_in members) = then_each PairsProper ProperMap (pairs_in members) _ (pairs_proper members h) (λ xs ps. (known.distinct [] xs tt, known.proper [] xs tt ps)) in
       then_each ProperMap IsProper (keyed_in members) _ keyed (λ xs ps. limited_proper at (v.Map xs) (known.maps xs ps.0 ps.1))
@@ -236,7 +236,7 @@ module _ (known : Known) where
   -- a text in double quotes is proper
   joined_proper : (at : ℕ) (text : List ℕ) (members : List Evaluated) → Each IsProper (joined_to at text members)
   joined_proper at text [] = tt
-  joined_proper at text (m ∷ members) = step_each IsProper m.verdict _ (λ x. step_each IsProper (longer at text m.at x) _ (λ new. joined_proper at new members))
+  joined_proper at text (m ∷ members) = step_each IsProper m.gives _ (λ x. step_each IsProper (longer at text m.at x) _ (λ new. joined_proper at new members))
 
   -- ---- every expression
 

@@ -12,7 +12,7 @@ use Rattle.pp_value.specs.declared.value.Value.TheVariants as v
 use Rattle.pp_eval.specs.Scoping.{Scoped, find_in}
 use Rattle.pp_eval.proofs.Forms.{rolled}
 use Rattle.pp_eval.specs.declared.blame.Blame.TheVariants as blame
-use Rattle.pp_eval.specs.Verdicts.{Verdict, Evaluated, ◌>>=◌, limited}
+use Rattle.pp_eval.specs.Evaluating.{Evaluation, Evaluated, ◌>>=◌, limited}
 use Rattle.pp_eval.specs.Evaluation.{bound_to, list_at, map_at, refer_at, is_equal, joined_to, chain_at, prefix_at, index_at, first_equal, default_in, chosen, select_at, form_at, value_in, value_of, evaluated, pair_by, operand_by}
 
 -- so of what is given, if anything is
@@ -33,7 +33,7 @@ then_each P Q (Ok x) f h k = k x h
 then_each P Q (Err e) f h k = tt
 
 -- so does a choice of two that do
-pub if_each : (P : Value → Type 0) (b : Bool) (x y : Verdict) → Each P x → Each P y → Each P (cond b x y)
+pub if_each : (P : Value → Type 0) (b : Bool) (x y : Evaluation) → Each P x → Each P y → Each P (cond b x y)
 if_each P true x y h k = h
 if_each P false x y h k = k
 
@@ -41,15 +41,15 @@ if_each P false x y h k = k
 
 -- so of what stands behind each choice
 abbrev AreEach : (Value → Type 0) → List (Option Evaluated × Evaluated) → Type 0
-AreEach P choices = AllByRecursion (λ c. Each P c.1.verdict) choices
+AreEach P choices = AllByRecursion (λ c. Each P c.1.gives) choices
 
 -- so of what is there, if anything is
 abbrev IfEach : (Value → Type 0) → Option Evaluated → Type 0
 IfEach P None = Unit {0}
-IfEach P (Some e) = Each P e.verdict
+IfEach P (Some e) = Each P e.gives
 
 -- what is found by a test or further on is so
-tested : (P : Value → Type 0) (r : Result Bool Refusal) (e : Evaluated) (rest : Result (Option Evaluated) Refusal) → Each P e.verdict → Each (IfEach P) rest → Each (IfEach P) (r >>= λ same. cond same (Ok (Some e)) rest)
+tested : (P : Value → Type 0) (r : Result Bool Refusal) (e : Evaluated) (rest : Result (Option Evaluated) Refusal) → Each P e.gives → Each (IfEach P) rest → Each (IfEach P) (r >>= λ same. cond same (Ok (Some e)) rest)
 tested P (Ok true) e rest h k = h
 tested P (Ok false) e rest h k = k
 tested P (Err r) e rest h k = tt
@@ -74,7 +74,7 @@ chosen_each P at None None h k = tt
 -- so is what a selector gives
 select_each : (P : Value → Type 0) (at : ℕ) (control : Evaluated) (choices : List (Option Evaluated × Evaluated)) → AreEach P choices → Each P (select_at at control choices)
 select_each P at control choices h =
-    step_each P control.verdict _ (λ x. then_each (IfEach P) P (first_equal at x choices) _ (first_each P at x choices h) (λ found k. chosen_each P at found (default_in choices) k (default_each P choices h)))
+    step_each P control.gives _ (λ x. then_each (IfEach P) P (first_equal at x choices) _ (first_each P at x choices h) (λ found k. chosen_each P at found (default_in choices) k (default_each P choices h)))
 
 -- ---- variables
 
@@ -91,13 +91,13 @@ pub record FormsKeep (P : Value → Type 0) : Type 0 where
   pub str : (at : ℕ) (text : List ℕ) → Each P (limited at (v.Str text))
   pub bool : (at : ℕ) (b : Bool) → Each P (limited at (v.Bool b))
   pub undef : (at : ℕ) → Each P (limited at v.Undef)
-  pub list : (at : ℕ) (members : List Evaluated) → AllByRecursion (λ m. Each P m.verdict) members → Each P (list_at at members)
-  pub pairs : (at : ℕ) (members : List (Evaluated × Evaluated)) → AllByRecursion (λ m. Each P m.1.verdict) members → Each P (map_at at members)
+  pub list : (at : ℕ) (members : List Evaluated) → AllByRecursion (λ m. Each P m.gives) members → Each P (list_at at members)
+  pub pairs : (at : ℕ) (members : List (Evaluated × Evaluated)) → AllByRecursion (λ m. Each P m.1.gives) members → Each P (map_at at members)
   pub refer : (at : ℕ) (kind : List ℕ) (titles : List Evaluated) → Each P (refer_at at kind titles)
   pub join : (at : ℕ) (members : List Evaluated) → Each P (joined_to at [] members)
-  pub chain : (at : ℕ) (first : Evaluated) (more : List (Op × Evaluated)) → Each P first.verdict → AllByRecursion (λ o. Each P o.1.verdict) more → Each P (chain_at at first more)
-  pub prefix : (at : ℕ) (ops : List Op) (r : Verdict) → Each P r → Each P (prefix_at at ops r)
-  pub index : (at : ℕ) (base key : Evaluated) → Each P base.verdict → Each P (index_at at base key)
+  pub chain : (at : ℕ) (first : Evaluated) (more : List (Op × Evaluated)) → Each P first.gives → AllByRecursion (λ o. Each P o.1.gives) more → Each P (chain_at at first more)
+  pub prefix : (at : ℕ) (ops : List Op) (r : Evaluation) → Each P r → Each P (prefix_at at ops r)
+  pub index : (at : ℕ) (base key : Evaluated) → Each P base.gives → Each P (index_at at base key)
 
 module _ (P : Value → Type 0) (keep : FormsKeep P) (s : Scoped) (bound : (name : List ℕ) (x : Value) → find_in s name ≡ Some x → P x) where
   -- so of what the form gives at each place
@@ -121,17 +121,17 @@ module _ (P : Value → Type 0) (keep : FormsKeep P) (s : Scoped) (bound : (name
   inner e = e.0
 
   -- each member that is evaluated gives what is so
-  members_each : (members : List KnownExpr) → AllByRecursion (λ m. Each P m.verdict) (map (evaluated s) (map inner members))
+  members_each : (members : List KnownExpr) → AllByRecursion (λ m. Each P m.gives) (map (evaluated s) (map inner members))
   members_each [] = tt
   members_each (m ∷ members) = (m.1, members_each members)
 
   -- so does the value of each pair
-  pairs_each : (members : List (KnownExpr × KnownExpr)) → AllByRecursion (λ m. Each P m.1.verdict) (map (pair_by (evaluated s)) (map (pair_by inner) members))
+  pairs_each : (members : List (KnownExpr × KnownExpr)) → AllByRecursion (λ m. Each P m.1.gives) (map (pair_by (evaluated s)) (map (pair_by inner) members))
   pairs_each [] = tt
   pairs_each (m ∷ members) = (m.1.1, pairs_each members)
 
   -- so does each operand
-  operands_each : (more : List (Op × KnownExpr)) → AllByRecursion (λ o. Each P o.1.verdict) (map (operand_by (evaluated s)) (map (operand_by inner) more))
+  operands_each : (more : List (Op × KnownExpr)) → AllByRecursion (λ o. Each P o.1.gives) (map (operand_by (evaluated s)) (map (operand_by inner) more))
   operands_each [] = tt
   operands_each (o ∷ more) = (o.1.1, operands_each more)
 
@@ -144,7 +144,7 @@ module _ (P : Value → Type 0) (keep : FormsKeep P) (s : Scoped) (bound : (name
 
   -- so does a form whose expressions are known
   layer_each : (y : Form-F KnownForm KnownExpr) (at : ℕ)
-      → Each P (form_at s (map-Form Form Expr (ℕ → Verdict) Evaluated (value_in s) (evaluated s) (map-Form KnownForm KnownExpr Form Expr (λ f. f.0) (λ e. e.0) y)) at)
+      → Each P (form_at s (map-Form Form Expr (ℕ → Evaluation) Evaluated (value_in s) (evaluated s) (map-Form KnownForm KnownExpr Form Expr (λ f. f.0) (λ e. e.0) y)) at)
   layer_each (plain.Int n) at = keep.int at n
   layer_each (plain.Str text) at = keep.str at text
   layer_each (plain.Var name) at = var_each P at name (find_in s name) (bound name)

@@ -11,26 +11,26 @@ use Rattle.pp_syntax.specs.declared.tree.Form.TheShapes.{former-Form-Select-1-at
 use Rattle.pp_syntax.specs.declared.tree.Op.{Op}
 use Rattle.pp_value.specs.declared.value.Value.TheVariants as v
 use Rattle.pp_eval.specs.Scoping.{Scoped, find_in}
-use Rattle.pp_eval.specs.Verdicts.{Verdict, Evaluated, ◌>>=◌, limited}
+use Rattle.pp_eval.specs.Evaluating.{Evaluation, Evaluated, ◌>>=◌, limited}
 use Rattle.pp_eval.specs.Evaluation.{form_at, value_in, value_of, evaluated, pair_by, operand_by, choice_by, bound_to, list_at, map_at, refer_at, joined_to, chain_from, chain_at, prefix_at, index_at, selected, select_at}
 
 -- an expression as it is evaluated, from the bottom up
 folded : Scoped → Expr → Evaluated
-folded s x = fold-Expr (ℕ → Verdict) Evaluated (form_at s) (λ x. record { at = x.at; verdict = x.form x.at }) x
+folded s x = fold-Expr (ℕ → Evaluation) Evaluated (form_at s) (λ x. record { at = x.at; gives = x.form x.at }) x
 
--- that is the expression with its place and verdict
+-- that is the expression with its place and evaluation
 folded_is : (s : Scoped) (x : Expr) → folded s x ≡ evaluated s x
 unfolding folded value_in
-folded_is s x = fold_out-Expr (ℕ → Verdict) Evaluated (form_at s) (λ x. record { at = x.at; verdict = x.form x.at }) x
+folded_is s x = fold_out-Expr (ℕ → Evaluation) Evaluated (form_at s) (λ x. record { at = x.at; gives = x.form x.at }) x
 
 -- a form gives what its first step gives
-pub rolled : (s : Scoped) (d : Form-F Form Expr) (at : ℕ) → value_in s (roll-Form d) at ≡ form_at s (map-Form Form Expr (ℕ → Verdict) Evaluated (value_in s) (evaluated s) d) at
+pub rolled : (s : Scoped) (d : Form-F Form Expr) (at : ℕ) → value_in s (roll-Form d) at ≡ form_at s (map-Form Form Expr (ℕ → Evaluation) Evaluated (value_in s) (evaluated s) d) at
 unfolding folded value_in
-rolled s d at = ap (λ (f : ℕ → Verdict). f at) (fold-roll-Form (ℕ → Verdict) Evaluated (form_at s) (λ x. record { at = x.at; verdict = x.form x.at }) d)
-    ∙ ap (λ (h : Expr → Evaluated). form_at s (map-Form Form Expr (ℕ → Verdict) Evaluated (value_in s) h d) at) (λ i. λ x. folded_is s x i)
+rolled s d at = ap (λ (f : ℕ → Evaluation). f at) (fold-roll-Form (ℕ → Evaluation) Evaluated (form_at s) (λ x. record { at = x.at; gives = x.form x.at }) d)
+    ∙ ap (λ (h : Expr → Evaluated). form_at s (map-Form Form Expr (ℕ → Evaluation) Evaluated (value_in s) h d) at) (λ i. λ x. folded_is s x i)
 
 -- a form, and what it is made of
-of : (s : Scoped) (f : Form) (d : Form-F Form Expr) (at : ℕ) → roll-Form d ≡ f → value_in s f at ≡ form_at s (map-Form Form Expr (ℕ → Verdict) Evaluated (value_in s) (evaluated s) d) at
+of : (s : Scoped) (f : Form) (d : Form-F Form Expr) (at : ℕ) → roll-Form d ≡ f → value_in s f at ≡ form_at s (map-Form Form Expr (ℕ → Evaluation) Evaluated (value_in s) (evaluated s) d) at
 of s f d at is = sym (ap (λ (g : Form). value_in s g at) is) ∙ rolled s d at
 
 -- a choice is evaluated part by part

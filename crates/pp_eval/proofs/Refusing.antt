@@ -3,7 +3,7 @@ use Rattle.std.proofs.Common.{◌≡◌, ℕ, List}
 use Rattle.rh_base.specs.declared.fault.Fault.{Fault}
 use Rattle.rh_base.specs.declared.fault.Fault.TheVariants as fault
 use Rattle.rh_base.specs.Refused.{IfRefused, IsRefusal}
-use Rattle.pp_eval.specs.Verdicts.{refusal}
+use Rattle.pp_eval.specs.Evaluating.{refusal}
 
 -- a refusal of this number, place and name is just that one
 pub is_refusal : (e : Fault) (number at : ℕ) (name : List ℕ) → IfRefused e (IsRefusal number at name) → IfRefused e (λ r. r ≡ refusal number at name)

@@ -7,7 +7,7 @@ use Rattle.pp_syntax.specs.declared.tree.Op.{Op}
 use Rattle.pp_value.specs.declared.value.Value.{Value}
 use Rattle.pp_value.specs.Keys.{with_pairs}
 use Rattle.pp_value.specs.Values.{Pair, with_pair}
-use Rattle.pp_eval.specs.Verdicts.{Verdict, ◌>>=◌, if_there}
+use Rattle.pp_eval.specs.Evaluating.{Evaluation, ◌>>=◌, if_there}
 use Rattle.pp_eval.specs.Evaluation.{refer_to, with_references, prefixed, prefix_at}
 
 -- ---- what stands before the rest
@@ -61,11 +61,11 @@ next_text at kind before text (Some texts) = ap (λ (xs : List Value). Ok xs) (s
 -- ---- operators before an operand
 
 -- the last prefix is the first to be applied
-pub last_first : (at : ℕ) (front : List Op) (o : Op) (verdict : Verdict) → prefix_at at (front ++ o ∷ []) verdict ≡ prefix_at at front (verdict >>= λ x. prefixed at o x)
-last_first at [] o verdict = refl
-last_first at (p ∷ front) o verdict = ap (λ (r : Verdict). r >>= λ x. prefixed at p x) (last_first at front o verdict)
+pub last_first : (at : ℕ) (front : List Op) (o : Op) (evaluation : Evaluation) → prefix_at at (front ++ o ∷ []) evaluation ≡ prefix_at at front (evaluation >>= λ x. prefixed at o x)
+last_first at [] o evaluation = refl
+last_first at (p ∷ front) o evaluation = ap (λ (r : Evaluation). r >>= λ x. prefixed at p x) (last_first at front o evaluation)
 
 -- prefixes of what is refused are refused alike
 pub refused_operand : (at : ℕ) (ops : List Op) (e : Refusal) → prefix_at at ops (Err e) ≡ Err e
 refused_operand at [] e = refl
-refused_operand at (o ∷ ops) e = ap (λ (r : Verdict). r >>= λ x. prefixed at o x) (refused_operand at ops e)
+refused_operand at (o ∷ ops) e = ap (λ (r : Evaluation). r >>= λ x. prefixed at o x) (refused_operand at ops e)

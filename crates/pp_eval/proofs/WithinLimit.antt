@@ -12,7 +12,7 @@ use Rattle.pp_value.specs.Values.{exceeds_limits}
 use Rattle.pp_value.specs.Table.{negate_table, index_table}
 use Rattle.pp_eval.specs.Operations.{operation}
 use Rattle.pp_eval.specs.Scoping.{Scoped, find_in}
-use Rattle.pp_eval.specs.Verdicts.{Verdict, Evaluated, ◌>>=◌, too_large, limited, told, made, if_there}
+use Rattle.pp_eval.specs.Evaluating.{Evaluation, Evaluated, ◌>>=◌, too_large, limited, told, made, if_there}
 use Rattle.pp_eval.specs.Evaluation.{values_in, list_at, keyed_in, map_at, references_in, one_or_list, refer_at, shown_of, limited_text, longer, joined_to, truth_at, as_truth, operated, chain_from, chain_at, prefixed, prefix_at, index_at, value_of}
 use Rattle.pp_eval.proofs.EveryValue.{Each, step_each, then_each, if_each, FormsKeep, so_of_each}
 
@@ -21,7 +21,7 @@ abbrev Fits : Value → Type 0
 Fits x = exceeds_limits x ≡ false
 
 -- if a value is given, it fits
-abbrev IsWithin : Verdict → Type 0
+abbrev IsWithin : Evaluation → Type 0
 IsWithin r = Each Fits r
 
 -- ---- what is made
@@ -44,11 +44,11 @@ made_within at (Err Range) = tt
 -- ---- operators
 
 -- the truth of an operand fits
-truth_within : (at : ℕ) (r : Verdict) → IsWithin (as_truth at r)
+truth_within : (at : ℕ) (r : Evaluation) → IsWithin (as_truth at r)
 truth_within at r = step_each Fits r _ (λ x. step_each Fits (truth_at at x) _ (λ b. refl))
 
 -- so does what each operator makes
-operated_within : (at : ℕ) (o : Op) (x : Value) (r : Verdict) → IsWithin (operated at o x r)
+operated_within : (at : ℕ) (o : Op) (x : Value) (r : Evaluation) → IsWithin (operated at o x r)
 operated_within at op.And x r = step_each Fits (truth_at at x) _ (λ b. if_each Fits b (as_truth at r) (Ok (v.Bool false)) (truth_within at r) refl)
 operated_within at op.Or x r = step_each Fits (truth_at at x) _ (λ b. if_each Fits b (Ok (v.Bool true)) (as_truth at r) refl (truth_within at r))
 operated_within at op.Less x r = step_each Fits r _ (λ y. made_within at (operation op.Less x y))
@@ -66,11 +66,11 @@ operated_within at op.Not x r = step_each Fits r _ (λ y. made_within at (operat
 -- so does what operators from the left make
 from_within : (at : ℕ) (x : Value) (more : List (Op × Evaluated)) → Fits x → IsWithin (chain_from at x more)
 from_within at x [] h = h
-from_within at x (o ∷ more) h = then_each Fits Fits (operated at o.0 x o.1.verdict) _ (operated_within at o.0 x o.1.verdict) (λ y k. from_within at y more k)
+from_within at x (o ∷ more) h = then_each Fits Fits (operated at o.0 x o.1.gives) _ (operated_within at o.0 x o.1.gives) (λ y k. from_within at y more k)
 
 -- and a chain
-chain_within : (at : ℕ) (first : Evaluated) (more : List (Op × Evaluated)) → IsWithin first.verdict → IsWithin (chain_at at first more)
-chain_within at first more h = then_each Fits Fits first.verdict _ h (λ x k. from_within at x more k)
+chain_within : (at : ℕ) (first : Evaluated) (more : List (Op × Evaluated)) → IsWithin first.gives → IsWithin (chain_at at first more)
+chain_within at first more h = then_each Fits Fits first.gives _ h (λ x k. from_within at x more k)
 
 -- what a prefix makes fits
 prefixed_within : (at : ℕ) (o : Op) (x : Value) → IsWithin (prefixed at o x)
@@ -89,7 +89,7 @@ prefixed_within at op.Times x = tt
 prefixed_within at op.In x = tt
 
 -- so does what prefixes make
-prefix_within : (at : ℕ) (ops : List Op) (r : Verdict) → IsWithin r → IsWithin (prefix_at at ops r)
+prefix_within : (at : ℕ) (ops : List Op) (r : Evaluation) → IsWithin r → IsWithin (prefix_at at ops r)
 prefix_within at [] r h = h
 prefix_within at (o ∷ ops) r h = step_each Fits (prefix_at at ops r) _ (λ x. prefixed_within at o x)
 
@@ -104,8 +104,8 @@ told_within at (Err Operand) h = tt
 told_within at (Err Range) h = tt
 
 -- a member of what fits fits
-index_within : MembersFit → (at : ℕ) (base key : Evaluated) → IsWithin base.verdict → IsWithin (index_at at base key)
-index_within fit at base key h = then_each Fits Fits base.verdict _ h (λ x w. step_each Fits key.verdict _ (λ k. told_within at (index_table x k) (λ y e. fit x k y w e)))
+index_within : MembersFit → (at : ℕ) (base key : Evaluated) → IsWithin base.gives → IsWithin (index_at at base key)
+index_within fit at base key h = then_each Fits Fits base.gives _ h (λ x w. step_each Fits key.gives _ (λ k. told_within at (index_table x k) (λ y e. fit x k y w e)))
 
 -- ---- lists, maps, references and texts
 
@@ -149,7 +149,7 @@ longer_within at text here x new h = by_text (if_there here (shown_of x)) h
 -- a text in double quotes fits
 joined_within : (at : ℕ) (text : List ℕ) (members : List Evaluated) → Fits (v.Str text) → IsWithin (joined_to at text members)
 joined_within at text [] h = h
-joined_within at text (m ∷ members) h = step_each Fits m.verdict _ (λ x. then_each TextFits Fits (longer at text m.at x) _ (by_each TextFits (longer at text m.at x) (longer_within at text m.at x)) (λ new k. joined_within at new members k))
+joined_within at text (m ∷ members) h = step_each Fits m.gives _ (λ x. then_each TextFits Fits (longer at text m.at x) _ (by_each TextFits (longer at text m.at x) (longer_within at text m.at x)) (λ new k. joined_within at new members k))
 
 -- ---- every expression
 

@@ -1,4 +1,4 @@
--- The value of an expression, form by form, each by the verdicts of the expressions in it. What isn't evaluated has no say: its verdict isn't looked at.
+-- The value of an expression, form by form, each by the evaluations of the expressions in it. What isn't evaluated has no say: its evaluation isn't looked at.
 use Rattle.std.specs.Prelude.{ℕ, Bool, true, false, not, if◌then◌else◌, List, [], ◌∷◌, ◌++◌, map, Option, Some, None, option_map, option_and_then, is_none, Result, Ok, Err}
 use Rattle.rh_base.specs.declared.fault.Refusal.{Refusal}
 use Rattle.pp_syntax.specs.declared.tree.Expr.{Expr}
@@ -13,7 +13,7 @@ use Rattle.pp_value.specs.Keys.{with_pairs}
 use Rattle.pp_value.specs.Values.{Pair, has_opaque}
 use Rattle.pp_value.specs.Table.{equal_table, negate_table, index_table}
 use Rattle.pp_value.specs.Shown.{shown, shown_int}
-use Rattle.pp_eval.specs.Verdicts.{Verdict, Evaluated, ◌>>=◌, unbound, no_option, no_result, limited, told, made, if_there}
+use Rattle.pp_eval.specs.Evaluating.{Evaluation, Evaluated, ◌>>=◌, unbound, no_option, no_result, limited, told, made, if_there}
 use Rattle.pp_eval.specs.declared.blame.Blame.{Blame}
 use Rattle.pp_eval.specs.declared.blame.Blame.TheVariants as blame
 use Rattle.pp_eval.specs.Operations.{operation, truth_of}
@@ -23,7 +23,7 @@ use Rattle.pp_eval.specs.Scoping.{Scoped, find_in}
 -- ---- variables
 
 -- the value that is found; it isn't made here, so no limit is asked
-abbrev pub bound_to : ℕ → List ℕ → Option Value → Verdict
+abbrev pub bound_to : ℕ → List ℕ → Option Value → Evaluation
 bound_to at name (Some x) = Ok x
 bound_to at name None = Err (unbound at name)
 
@@ -33,12 +33,12 @@ bound_to at name None = Err (unbound at name)
 abbrev pub values_in : List Evaluated → Result (List Value) Refusal
 values_in [] = Ok []
 values_in (m ∷ members) = do
-  x ← m.verdict
+  x ← m.gives
   xs ← values_in members
   Ok (x ∷ xs)
 
 -- a list of these members
-abbrev pub list_at : ℕ → List Evaluated → Verdict
+abbrev pub list_at : ℕ → List Evaluated → Evaluation
 list_at at members = do
   xs ← values_in members
   limited at (v.List xs)
@@ -54,9 +54,9 @@ key_of _ = None
 -- the pairs as they stand: of each the key, which is asked for its kind, and then the value
 abbrev pub pair_in : Evaluated → Evaluated → Result Pair Refusal
 pair_in left right = do
-  k ← left.verdict
+  k ← left.gives
   key ← if_there left.at (key_of k)
-  x ← right.verdict
+  x ← right.gives
   Ok (key, x)
 
 abbrev pub pairs_in : List (Evaluated × Evaluated) → Result (List Pair) Refusal
@@ -73,7 +73,7 @@ keyed_in members = do
   Ok (with_pairs [] pairs)
 
 -- a map of these pairs
-abbrev pub map_at : ℕ → List (Evaluated × Evaluated) → Verdict
+abbrev pub map_at : ℕ → List (Evaluated × Evaluated) → Evaluation
 map_at at members = do
   pairs ← keyed_in members
   limited at (v.Map pairs)
@@ -99,7 +99,7 @@ titles_of _ = None
 abbrev pub titles_in : List Evaluated → Result (List (List ℕ)) Refusal
 titles_in [] = Ok []
 titles_in (m ∷ members) = do
-  x ← m.verdict
+  x ← m.gives
   titles ← if_there m.at (titles_of x)
   more ← titles_in members
   Ok (titles ++ more)
@@ -123,7 +123,7 @@ one_or_list (x ∷ []) = x
 one_or_list (x ∷ y ∷ more) = v.List (x ∷ y ∷ more)
 
 -- the reference to a title, or those to several
-abbrev pub refer_at : ℕ → List ℕ → List Evaluated → Verdict
+abbrev pub refer_at : ℕ → List ℕ → List Evaluated → Evaluation
 refer_at at kind members = do
   references ← references_in kind members
   limited at (one_or_list references)
@@ -147,10 +147,10 @@ longer at text here x = do
   limited_text at (text ++ more)
 
 -- the members behind a text, each asked before the next is evaluated
-abbrev pub joined_to : ℕ → List ℕ → List Evaluated → Verdict
+abbrev pub joined_to : ℕ → List ℕ → List Evaluated → Evaluation
 joined_to at text [] = Ok (v.Str text)
 joined_to at text (m ∷ members) = do
-  x ← m.verdict
+  x ← m.gives
   so_far ← longer at text m.at x
   joined_to at so_far members
 
@@ -160,14 +160,14 @@ joined_to at text (m ∷ members) = do
 abbrev pub truth_at : ℕ → Value → Result Bool Refusal
 truth_at at x = if_there at (truth_of x)
 
-abbrev pub as_truth : ℕ → Verdict → Verdict
-as_truth at verdict = do
-  x ← verdict
+abbrev pub as_truth : ℕ → Evaluation → Evaluation
+as_truth at evaluation = do
+  x ← evaluation
   b ← truth_at at x
   Ok (v.Bool b)
 
 -- `and` and `or` stop where the left operand tells the answer; any other operator goes by its table
-abbrev pub operated : ℕ → Op → Value → Verdict → Verdict
+abbrev pub operated : ℕ → Op → Value → Evaluation → Evaluation
 operated at op.And x right = do
   b ← truth_at at x
   if b then as_truth at right else Ok (v.Bool false)
@@ -179,20 +179,20 @@ operated at o x right = do
   made at (operation o x y)
 
 -- operators of one level, from the left
-abbrev pub chain_from : ℕ → Value → List (Op × Evaluated) → Verdict
+abbrev pub chain_from : ℕ → Value → List (Op × Evaluated) → Evaluation
 chain_from at x [] = Ok x
 chain_from at x (o ∷ more) = do
-  y ← operated at o.0 x o.1.verdict
+  y ← operated at o.0 x o.1.gives
   chain_from at y more
 
 -- a chain of operators of one level
-abbrev pub chain_at : ℕ → Evaluated → List (Op × Evaluated) → Verdict
+abbrev pub chain_at : ℕ → Evaluated → List (Op × Evaluated) → Evaluation
 chain_at at first more = do
-  x ← first.verdict
+  x ← first.gives
   chain_from at x more
 
 -- `!` and `-` before an operand
-abbrev pub prefixed : ℕ → Op → Value → Verdict
+abbrev pub prefixed : ℕ → Op → Value → Evaluation
 prefixed at op.Not x = do
   b ← truth_at at x
   Ok (v.Bool (not b))
@@ -200,23 +200,23 @@ prefixed at op.Minus x = made at (negate_table x)
 prefixed at _ x = Err (no_result at)
 
 -- the one next to the operand comes first
-abbrev pub prefix_at : ℕ → List Op → Verdict → Verdict
-prefix_at at [] verdict = verdict
-prefix_at at (o ∷ ops) verdict = do
-  x ← prefix_at at ops verdict
+abbrev pub prefix_at : ℕ → List Op → Evaluation → Evaluation
+prefix_at at [] evaluation = evaluation
+prefix_at at (o ∷ ops) evaluation = do
+  x ← prefix_at at ops evaluation
   prefixed at o x
 
 -- the member of a value; it isn't made here, so no limit is asked
-abbrev pub indexed : ℕ → Value → Verdict → Verdict
+abbrev pub indexed : ℕ → Value → Evaluation → Evaluation
 indexed at x key = do
   k ← key
   told at (index_table x k)
 
 -- a member of what stands before the brackets
-abbrev pub index_at : ℕ → Evaluated → Evaluated → Verdict
+abbrev pub index_at : ℕ → Evaluated → Evaluated → Evaluation
 index_at at base key = do
-  x ← base.verdict
-  indexed at x key.verdict
+  x ← base.gives
+  indexed at x key.gives
 
 -- ---- selectors
 
@@ -235,7 +235,7 @@ blamed (blame.Case at) x option = if has_opaque x then at else option
 abbrev pub is_equal : Blame → Value → Option Evaluated → Result Bool Refusal
 is_equal b x None = Ok false
 is_equal b x (Some option) = do
-  y ← option.verdict
+  y ← option.gives
   asked (blamed b x option.at) (equal_table x y)
 
 -- one of some options is equal, from the left
@@ -258,26 +258,26 @@ default_in [] = None
 default_in (c ∷ choices) = if is_none c.0 then Some c.1 else default_in choices
 
 -- that of an equal option, or else of `default`; it alone is evaluated
-abbrev pub chosen : ℕ → Option Evaluated → Option Evaluated → Verdict
-chosen at (Some equal) default = equal.verdict
-chosen at None (Some default) = default.verdict
+abbrev pub chosen : ℕ → Option Evaluated → Option Evaluated → Evaluation
+chosen at (Some equal) default = equal.gives
+chosen at None (Some default) = default.gives
 chosen at None None = Err (no_option at)
 
-abbrev pub selected : ℕ → Value → List (Option Evaluated × Evaluated) → Verdict
+abbrev pub selected : ℕ → Value → List (Option Evaluated × Evaluated) → Evaluation
 selected at x choices = do
   found ← first_equal at x choices
   chosen at found (default_in choices)
 
 -- what a selector selects
-abbrev pub select_at : ℕ → Evaluated → List (Option Evaluated × Evaluated) → Verdict
+abbrev pub select_at : ℕ → Evaluated → List (Option Evaluated × Evaluated) → Evaluation
 select_at at control choices = do
-  x ← control.verdict
+  x ← control.gives
   selected at x choices
 
 -- ---- expressions
 
--- each form, by the verdicts of the expressions in it
-abbrev pub form_at : {Y : Type 0} → Scoped → Form-F Y Evaluated → ℕ → Verdict
+-- each form, by the evaluations of the expressions in it
+abbrev pub form_at : {Y : Type 0} → Scoped → Form-F Y Evaluated → ℕ → Evaluation
 form_at s (form.Int n) at = limited at (v.Int n)
 form_at s (form.Str text) at = limited at (v.Str text)
 form_at s (form.Var name) at = bound_to at name (find_in s name)
@@ -288,21 +288,21 @@ form_at s (form.Map members) at = map_at at members
 form_at s (form.Refer kind titles) at = refer_at at kind titles
 form_at s (form.Join members) at = joined_to at [] members
 form_at s (form.Chain first more) at = chain_at at first more
-form_at s (form.Prefix ops x) at = prefix_at at ops x.verdict
+form_at s (form.Prefix ops x) at = prefix_at at ops x.gives
 form_at s (form.Index base key) at = index_at at base key
 form_at s (form.Select control choices) at = select_at at control choices
 
 -- a form at a place, in these scopes
-unfoldable pub value_in : Scoped → Form → ℕ → Verdict
-value_in s f = fold-Form (ℕ → Verdict) Evaluated (form_at s) (λ x. record { at = x.at; verdict = x.form x.at }) f
+unfoldable pub value_in : Scoped → Form → ℕ → Evaluation
+value_in s f = fold-Form (ℕ → Evaluation) Evaluated (form_at s) (λ x. record { at = x.at; gives = x.form x.at }) f
 
 -- the value of an expression, in these scopes
-abbrev pub value_of : Scoped → Expr → Verdict
+abbrev pub value_of : Scoped → Expr → Evaluation
 value_of s e = value_in s e.form e.at
 
--- an expression with its place and its verdict
+-- an expression with its place and its evaluation
 abbrev pub evaluated : Scoped → Expr → Evaluated
-evaluated s e = record { at = e.at; verdict = value_of s e }
+evaluated s e = record { at = e.at; gives = value_of s e }
 
 -- ---- the expressions beside one another in a form, each as it is evaluated
 

@@ -1,7 +1,7 @@
 pub mod Facts
 pub mod Names
 pub mod Inheriting
-pub mod Verdicts
+pub mod Evaluating
 pub mod Scoping
 pub mod Extending
 pub mod Growing

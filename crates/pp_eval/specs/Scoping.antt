@@ -15,7 +15,7 @@ use Rattle.pp_eval.specs.declared.scopes.BindFault.{BindFault}
 use Rattle.pp_eval.specs.declared.scopes.BindFault.TheVariants as fault
 use Rattle.pp_eval.specs.Inheriting.{ParentsStandBefore}
 use Rattle.pp_eval.specs.Names.{variable_in, scope_in, is_qualified}
-use Rattle.pp_eval.specs.Verdicts.{bound_again}
+use Rattle.pp_eval.specs.Evaluating.{bound_again}
 
 -- all scopes, the top first, and the places of the open ones, the current one last
 abbrev pub Scoped : Type 0
@@ -156,7 +156,7 @@ BindsNow old name x new (Ok done) = (value_at name (bindings_now old) ≡ None) 
 BindsNow old name x new (Err fault.Again) = ((value_at name (bindings_now old) ≡ None) → ⊥) × (new ≡ old)
 BindsNow old name x new (Err (fault.Memory m)) = (value_at name (bindings_now old) ≡ None) × (new ≡ old)
 
--- the same as a verdict, where the name stands at a place
+-- the same as an evaluation, where the name stands at a place
 abbrev pub bound : ℕ → List ℕ → Value → Scoped → Result Scoped Refusal
 bound at name x s = if is_none (value_at name (bindings_now s)) then Ok (with_binding name x s) else Err (bound_again at name)
 

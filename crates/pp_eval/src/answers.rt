@@ -3,7 +3,7 @@
 ghost use Rattle.std.specs.Prelude.{◌≡◌, ◌∷◌, IfOk};
 ghost use Rattle.rh_base.specs.Refused.{IfRefused};
 ghost use Rattle.pp_value.specs.declared.value.Value.TheVariants as v;
-ghost use Rattle.pp_eval.specs.Verdicts.{Answers, refusal, unbound, bound_again, no_option, no_result, too_large, out_of_range, limited};
+ghost use Rattle.pp_eval.specs.Evaluating.{Answers, refusal, unbound, bound_again, no_option, no_result, too_large, out_of_range, limited};
 
 use pp_value::{Value, exceeds_limits};
 use rh_base::{Fault, NoMemory, Text};

@@ -7,7 +7,7 @@ ghost use Rattle.std.specs.Prelude.{[], None, map, option_map};
 ghost use Rattle.pp_syntax.specs.declared.tree.Op.TheVariants as op;
 ghost use Rattle.pp_value.specs.declared.value.Value.TheVariants as v;
 ghost use Rattle.pp_eval.specs.Scoping.{find_in};
-ghost use Rattle.pp_eval.specs.Verdicts.{AnswersBy, Answers, Refuses};
+ghost use Rattle.pp_eval.specs.Evaluating.{AnswersBy, Answers, Refuses};
 ghost use Rattle.pp_eval.specs.Evaluation.{value_of, evaluated, pair_by, operand_by, choice_by, values_in, list_at, pair_in, keyed_in, map_at, references_in, refer_at, joined_to, as_truth, operated, chain_from, prefix_at, indexed, bound_to, is_equal, is_among, default_in, chosen, selected};
 ghost use Rattle.pp_eval.specs.Lending.{Lends};
 

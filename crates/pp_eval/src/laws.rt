@@ -78,7 +78,7 @@ pub fn classes_stay()
 {}
 
 /// Scopes that agree on what is looked up give an expression one value or one refusal.
-pub fn equal_look_ups_give_one_verdict()
+pub fn equal_look_ups_give_one_evaluation()
     ensures { (s t : Scoped) → ((name : List ℕ) → find_in s name ≡ find_in t name) → (e : Expr) → value_of s e ≡ value_of t e }
 {}
 

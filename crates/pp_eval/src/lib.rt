@@ -23,7 +23,7 @@ pub use evaluation::{eval, eval_all, is_among};
 pub use facts::{facts_from_json, pairs_of_json};
 pub use laws::{
     bodies_extend, bound_names_are_found, bound_names_stay, classes_stay, current_scopes_stay,
-    equal_look_ups_give_one_verdict, extensions_join, facts_are_found, inheriting_ends,
+    equal_look_ups_give_one_evaluation, extensions_join, facts_are_found, inheriting_ends,
     other_names_stay, parents_stand_before, values_stay_proper, values_stay_within,
 };
 pub use operations::truth_at;

@@ -5,7 +5,7 @@ ghost use Rattle.pp_value.specs.declared.value.Value.{Value};
 ghost use Rattle.pp_value.specs.declared.fault.Misfit.{Misfit};
 ghost use Rattle.pp_value.specs.Values.{exceeds_limits};
 ghost use Rattle.pp_value.specs.Table.{Gives, equal_table, add_table};
-ghost use Rattle.pp_eval.specs.Verdicts.{AnswersBy, Answers, Refuses, made};
+ghost use Rattle.pp_eval.specs.Evaluating.{AnswersBy, Answers, Refuses, made};
 ghost use Rattle.pp_eval.specs.Operations.{as_value, turned, operation, truth_of};
 ghost use Rattle.pp_eval.specs.Evaluation.{truth_at, asked, prefixed, prefix_at};
 

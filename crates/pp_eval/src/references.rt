@@ -3,7 +3,7 @@
 ghost use Rattle.std.specs.Prelude.{◌≡◌, [], ◌∷◌, ◌++◌, false, if◌then◌else◌, Ok, MatchOption, IfOk, OnOk};
 ghost use Rattle.pp_eval.specs.Names.{unrooted};
 ghost use Rattle.pp_eval.specs.References.{begins_with_colon, plain_name, ref_of};
-ghost use Rattle.pp_eval.specs.Verdicts.{AnswersBy, if_there};
+ghost use Rattle.pp_eval.specs.Evaluating.{AnswersBy, if_there};
 ghost use Rattle.pp_eval.specs.Evaluation.{texts_of, titles_of, refer_to, with_references, one_or_list};
 
 use crate::answers::no_result;

@@ -3,7 +3,7 @@
 ghost use Rattle.std.specs.Prelude.{◌≡◌, ◌<◌, ◌∷◌, ◌++◌, [], length, None, IfOk, OnOk, OnErr, option_map, option_and_then};
 ghost use Rattle.pp_value.specs.Texts.{lowered};
 ghost use Rattle.pp_eval.specs.ClassNames.{place_among};
-ghost use Rattle.pp_eval.specs.Verdicts.{AnswersBy};
+ghost use Rattle.pp_eval.specs.Evaluating.{AnswersBy};
 ghost use Rattle.pp_eval.specs.Scoping.{Binds, BindsAt, BindsNow, bound, place_now, at_start, class_scope, defined_scope, node_scope_new, entered, left, current_scope, IsInner};
 
 use crate::answers::bound_again;

@@ -2,7 +2,7 @@
 
 ghost use Rattle.std.specs.Prelude.{◌≡◌, ◌++◌, IfOk};
 ghost use Rattle.pp_value.specs.Shown.{shown_int};
-ghost use Rattle.pp_eval.specs.Verdicts.{AnswersBy, if_there};
+ghost use Rattle.pp_eval.specs.Evaluating.{AnswersBy, if_there};
 ghost use Rattle.pp_eval.specs.Evaluation.{key_of, limited_text, longer};
 
 use crate::answers::{no_result, too_large};

@@ -4,7 +4,7 @@ use Rattle.std.specs.Prelude.{IfOk, IfErr}
 use Rattle.rh_base.specs.declared.fault.Fault.{Fault}
 use Rattle.rh_base.specs.declared.fault.Fault.TheVariants.{Refused, Memory}
 use Rattle.rh_base.specs.Refused.{IfRefused}
-use Rattle.pp_eval.specs.Verdicts.{Refuses}
+use Rattle.pp_eval.specs.Evaluating.{Refuses}
 use Rattle.fs_semantics.specs.Programs.{Program}
 use Rattle.catalog_semantics.specs.Catalogs.{Catalog}
 use Rattle.compiled_text.specs.Compiled.{Compiled}

@@ -4,7 +4,7 @@ use Rattle.std.specs.List.{AllByRecursion}
 use Rattle.std.proofs.lemmas.List.{length-map}
 use Rattle.rh_base.specs.declared.fault.Refusal.{Refusal}
 use Rattle.host_limits.specs.declared.limits.Limits.{Limits}
-use Rattle.pp_eval.specs.Verdicts.{◌>>=◌}
+use Rattle.pp_eval.specs.Evaluating.{◌>>=◌}
 use Rattle.catalog_semantics.specs.declared.catalog.Resource.{Resource}
 use Rattle.catalog_semantics.specs.Catalogs.{Catalog}
 use Rattle.catalog_semantics.specs.States.{references_of, within_size}

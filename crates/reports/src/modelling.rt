@@ -3,7 +3,7 @@
 ghost use Rattle.std.specs.Prelude.{◌<◌, length, map, None, Some};
 ghost use Rattle.std.specs.List.{AllByRecursion};
 ghost use Rattle.fs_lang.specs.Meaning.{program_of};
-ghost use Rattle.pp_eval.specs.Verdicts.{AnswersBy};
+ghost use Rattle.pp_eval.specs.Evaluating.{AnswersBy};
 ghost use Rattle.reports.specs.Stages.{programs_in, AreTold};
 
 use catalog::Catalog;

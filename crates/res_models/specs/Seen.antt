@@ -5,7 +5,7 @@ use Rattle.rh_base.specs.declared.fault.Fault.{Fault}
 use Rattle.rh_base.specs.declared.fault.Fault.TheVariants as faults
 use Rattle.fs_semantics.specs.FileTree.{Path}
 use Rattle.fs_semantics.specs.Programs as language
-use Rattle.pp_eval.specs.Verdicts.{Refuses}
+use Rattle.pp_eval.specs.Evaluating.{Refuses}
 use Rattle.catalog_semantics.specs.declared.catalog.Resource.{Resource}
 use Rattle.pkg_listing.specs.Packages.{Packages}
 use Rattle.model_semantics.specs.Words.{sequence}

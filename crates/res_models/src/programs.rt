@@ -4,7 +4,7 @@ ghost use Rattle.std.specs.Prelude.{◌≡◌, ◌++◌, ◌∷◌, ◌<◌, [],
 ghost use Rattle.std.specs.List.{AllByRecursion};
 ghost use Rattle.rh_base.specs.Refused.{IfRefused};
 ghost use Rattle.pp_value.specs.Shown.{shown_ref};
-ghost use Rattle.pp_eval.specs.Verdicts.{AnswersBy, refusal};
+ghost use Rattle.pp_eval.specs.Evaluating.{AnswersBy, refusal};
 ghost use Rattle.fs_lang.specs.Meaning.{program_of as meaning};
 ghost use Rattle.model_semantics.specs.Names.{Meets};
 ghost use Rattle.fs_semantics.specs.FileTree.{is_among};

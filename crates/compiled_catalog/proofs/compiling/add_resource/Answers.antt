@@ -1,6 +1,6 @@
 -- That one resource more is added to the catalog, or refused.
 use Rattle.std.proofs.Common.{◌≡◌, ap, sym, subst, ◌∙◌}
-use Rattle.pp_eval.specs.Verdicts.{Refuses}
+use Rattle.pp_eval.specs.Evaluating.{Refuses}
 use Rattle.catalog.specs.Adding.{with_added}
 use Rattle.compiled_catalog.specs.Catalogs.{with_one, resource_at}
 use Rattle.compiled_catalog.specs.Steps.{catalog_with}
@@ -29,4 +29,4 @@ returns-in-Ok-clause-first c =
     (sym (as_one (goal.at.returns-in-Ok-clause-first c).In_ok-resource) ∙ c.in-Ok.ensures.answers)
 
 pub returns-in-Err-clause-answers : goal.returns-in-Err-clause-answers
-returns-in-Err-clause-answers c = subst (λ verdict. Refuses verdict c.in-Err.fault) (answered (goal.at.returns-in-Err-clause-answers c).In_ok-resource) c.in-Err.ensures.answers
+returns-in-Err-clause-answers c = subst (λ answer. Refuses answer c.in-Err.fault) (answered (goal.at.returns-in-Err-clause-answers c).In_ok-resource) c.in-Err.ensures.answers

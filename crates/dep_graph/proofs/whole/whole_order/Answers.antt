@@ -1,7 +1,7 @@
 use Rattle.std.proofs.Common.{◌≡◌, ◌≤◌, ◌*◌, sym, ap, subst, subst₂, ◌∙◌}
 use Rattle.orders.specs.Paths.{EndsBelow, Path, IsCycle}
 use Rattle.orders.specs.Faults.{IfCycle}
-use Rattle.pp_eval.specs.Verdicts.{refusal}
+use Rattle.pp_eval.specs.Evaluating.{refusal}
 use Rattle.graph_semantics.specs.Graphs.{rank, IsCircleRefusal}
 use Rattle.dep_graph.specs.Circles.{around_text}
 use Rattle.dep_graph.specs.Whole.{bound_of}

@@ -1,5 +1,5 @@
 use Rattle.std.proofs.Common.{sym, subst}
-use Rattle.pp_eval.specs.Verdicts.{AnswersBy}
+use Rattle.pp_eval.specs.Evaluating.{AnswersBy}
 use Rattle.catalog_semantics.specs.Catalogs.{round_limit}
 use Rattle.pp_compile.specs.Rounds.{catalog_after}
 use Rattle.pp_compile.proofs.RoundLaws.{catalog_is}

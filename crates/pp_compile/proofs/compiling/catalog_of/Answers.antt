@@ -1,5 +1,5 @@
 use Rattle.std.proofs.Common.{sym, subst}
-use Rattle.pp_eval.specs.Verdicts.{AnswersBy}
+use Rattle.pp_eval.specs.Evaluating.{AnswersBy}
 use Rattle.pp_eval.specs.Scoping.{pairs_in}
 use Rattle.catalog_semantics.specs.Sites.{site_of}
 use Rattle.catalog_semantics.specs.Catalogs.{catalog_from}

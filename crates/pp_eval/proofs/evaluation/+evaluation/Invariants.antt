@@ -1,5 +1,5 @@
 use Rattle.std.proofs.Common.{◌≡◌, [], map, ◌+◌, ◌*◌, drop}
-use Rattle.pp_eval.specs.Verdicts.{◌>>=◌}
+use Rattle.pp_eval.specs.Evaluating.{◌>>=◌}
 use Rattle.pp_eval.specs.Evaluation.{evaluated, pair_by, operand_by, choice_by, values_in, pairs_in, titles_in, with_references, joined_to, chain_from, first_equal, default_in, chosen, selected}
 use Rattle.pp_eval.proofs.Steps.{behind, put_into}
 use Rattle.std.specs.Prelude.{None}

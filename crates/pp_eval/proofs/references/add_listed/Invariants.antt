@@ -1,5 +1,5 @@
 use Rattle.std.proofs.Common.{◌≡◌, drop}
-use Rattle.pp_eval.specs.Verdicts.{if_there}
+use Rattle.pp_eval.specs.Evaluating.{if_there}
 use Rattle.pp_eval.specs.Evaluation.{texts_of, with_references}
 use Rattle.pp_eval.proofs.references.add_listed.Given as goal
 

@@ -9,13 +9,13 @@ use Rattle.pp_value.specs.declared.fault.Misfit.TheVariants.{Operand, Range}
 use Rattle.pp_value.specs.Values.{exceeds_limits}
 
 -- a value, or one refusal
-abbrev pub Verdict : Type 0
-Verdict = Result Value Refusal
+abbrev pub Evaluation : Type 0
+Evaluation = Result Value Refusal
 
 -- an expression that was evaluated: its place, and what it gives
 pub record Evaluated : Type 0 where
   pub at : ℕ
-  pub verdict : Verdict
+  pub gives : Evaluation
 
 -- What follows is made of a result; a refusal ends it.
 infixl 10 ◌>>=◌
@@ -56,17 +56,17 @@ out_of_range at = refusal 33 at (codes "integer")
 -- ---- what is made at a place
 
 -- a value, unless it exceeds the limits
-abbrev pub limited : ℕ → Value → Verdict
+abbrev pub limited : ℕ → Value → Evaluation
 limited at x = if exceeds_limits x then Err (too_large at) else Ok x
 
 -- what a table names
-abbrev pub told : ℕ → Result Value Misfit → Verdict
+abbrev pub told : ℕ → Result Value Misfit → Evaluation
 told at (Ok x) = Ok x
 told at (Err Operand) = Err (no_result at)
 told at (Err Range) = Err (out_of_range at)
 
 -- what a table names, unless it exceeds the limits
-abbrev pub made : ℕ → Result Value Misfit → Verdict
+abbrev pub made : ℕ → Result Value Misfit → Evaluation
 made at (Ok x) = limited at x
 made at (Err Operand) = Err (no_result at)
 made at (Err Range) = Err (out_of_range at)
@@ -80,14 +80,14 @@ if_there at None = Err (no_result at)
 
 -- The refusal that is due. Memory may always be refused.
 abbrev pub Refuses : {Y : Type 0} → Result Y Refusal → Fault → Type 0
-Refuses verdict (fault.Refused r) = verdict ≡ Err r
-Refuses verdict (fault.Memory m) = Unit {0}
+Refuses evaluation (fault.Refused r) = evaluation ≡ Err r
+Refuses evaluation (fault.Memory m) = Unit {0}
 
 -- Where a value or a refusal is due, a call answers with just that.
 abbrev pub AnswersBy : {X Y : Type 0} → (X → Y) → Result Y Refusal → Result X Fault → Type 0
-AnswersBy view verdict (Ok x) = verdict ≡ Ok (view x)
-AnswersBy view verdict (Err e) = Refuses verdict e
+AnswersBy view evaluation (Ok x) = evaluation ≡ Ok (view x)
+AnswersBy view evaluation (Err e) = Refuses evaluation e
 
 -- the value that is due, or the refusal
-abbrev pub Answers : Verdict → Result Value Fault → Type 0
-Answers verdict answer = AnswersBy (λ x. x) verdict answer
+abbrev pub Answers : Evaluation → Result Value Fault → Type 0
+Answers evaluation answer = AnswersBy (λ x. x) evaluation answer
