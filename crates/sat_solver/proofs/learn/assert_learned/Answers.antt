@@ -1,8 +1,8 @@
 use Rattle.std.proofs.Common.{◌≡◌, ◌+◌, ◌-◌, length, arith, sym, subst}
 use Rattle.sat_solver.specs.Trails.{Way}
 use Rattle.sat_solver.specs.Watching.{IsReady, IsAddable}
-use Rattle.sat_solver.proofs.Settling.{false_below, ready_back, addable_back}
-use Rattle.sat_solver.proofs.learn.settle.Goals as goal
+use Rattle.sat_solver.proofs.Backjumping.{false_below, ready_back, addable_back}
+use Rattle.sat_solver.proofs.learn.assert_learned.Goals as goal
 
 pub level_for-level-requires-clause-below : goal.level_for-level-requires-clause-below
 level_for-level-requires-clause-below c x h =
@@ -24,8 +24,8 @@ learn_unit-requires-clause-addable c =
     let e = c.level_for-level.ensures in
     let count = c.count.ensures.count in
     let n = c.if-count.false in
-    subst (λ (x : Way). IsAddable c.args.store.now x c.args.words.now) (sym c.back.ensures)
-    (addable_back c.args.store.now t c.args.watches.now c.level_for-level.result c.args._conflict e.within c.level-levels.ensures.rising c.requires.stopped c.args.words.now (omega arith) c.requires.learnable e.short e.there e.before)
+    subst (λ (x : Way). IsAddable c.args.store.now x c.args.literals.now) (sym c.back.ensures)
+    (addable_back c.args.store.now t c.args.watches.now c.level_for-level.result c.args._conflict e.within c.level-levels.ensures.rising c.requires.stopped c.args.literals.now (omega arith) c.requires.learnable e.short e.there e.before)
 
 pub learn_long-requires-clause-ready : goal.learn_long-requires-clause-ready
 learn_long-requires-clause-ready c =
@@ -39,5 +39,5 @@ learn_long-requires-clause-addable c =
     let e = c.level_for-level.ensures in
     let count = c.count.ensures.count in
     let n = c.if-count.false in
-    subst (λ (x : Way). IsAddable c.args.store.now x c.args.words.now) (sym c.back.ensures)
-    (addable_back c.args.store.now t c.args.watches.now c.level_for-level.result c.args._conflict e.within c.level-levels.ensures.rising c.requires.stopped c.args.words.now (omega arith) c.requires.learnable e.short e.there e.before)
+    subst (λ (x : Way). IsAddable c.args.store.now x c.args.literals.now) (sym c.back.ensures)
+    (addable_back c.args.store.now t c.args.watches.now c.level_for-level.result c.args._conflict e.within c.level-levels.ensures.rising c.requires.stopped c.args.literals.now (omega arith) c.requires.learnable e.short e.there e.before)
