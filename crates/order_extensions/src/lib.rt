@@ -17,5 +17,5 @@ pub fn has_first_extension(order: &Order)
     ensures { HasFirstExtension order.now }
 {
     first_extensions();
-    order.count();
+    let _nodes = order.count();
 }
