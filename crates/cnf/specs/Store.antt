@@ -1,21 +1,21 @@
--- How the clauses of a formula are kept: the literals of all clauses as words, and where each clause ends.
+-- How the clauses of a formula are kept: the indexes of the literals of all clauses, and where each clause ends.
 use Rattle.std.specs.Prelude.{◌≡◌, ℕ, zero, suc, ◌+◌, ◌-◌, ◌*◌, ◌/◌, ◌%◌, ◌^◌, ◌≤◌, ◌==◌, if◌then◌else◌, List, [], ◌∷◌, length, map}
 use Rattle.std.specs.List.{slice_range}
 use Rattle.cnf.specs.declared.lit.Lit.{Lit}
 use Rattle.cnf.specs.Formulas.{Formula, IsFormula}
 
--- the word of a literal, whose variable is counted from 1
-abbrev pub word_of : Lit → ℕ
-word_of l = 2 * (l.var - 1) + (if l.positive then 0 else 1)
+-- the index of a literal, as MiniSat numbers them; variables are counted from 1
+abbrev pub index_of : Lit → ℕ
+index_of l = 2 * (l.var - 1) + (if l.positive then 0 else 1)
 
--- the literal of a word
+-- the literal that has an index
 abbrev pub lit_of : ℕ → Lit
-lit_of word = record { var = word / 2 + 1; positive = word % 2 == 0 }
+lit_of index = record { var = index / 2 + 1; positive = index % 2 == 0 }
 
--- the clauses that begin at a place of the words and end at these
+-- the clauses whose literals have these indexes, the first from a place on, and that end at these places
 abbrev pub clauses_from : ℕ → List ℕ → List ℕ → List (List Lit)
-clauses_from start words [] = []
-clauses_from start words (end ∷ ends) = map lit_of (slice_range words start end) ∷ clauses_from end words ends
+clauses_from start literals [] = []
+clauses_from start literals (end ∷ ends) = map lit_of (slice_range literals start end) ∷ clauses_from end literals ends
 
 -- the ends rise from the start to the last place
 abbrev pub Rise : ℕ → List ℕ → ℕ → Type 0
@@ -24,13 +24,13 @@ Rise start (end ∷ ends) last = (start ≤ end) × Rise end ends last
 
 -- the formula that is kept
 abbrev pub formula_of : ℕ → List ℕ → List ℕ → Formula
-formula_of vars words ends = record { vars = vars; clauses = clauses_from 0 words ends }
+formula_of vars literals ends = record { vars = vars; clauses = clauses_from 0 literals ends }
 
--- Words and ends that keep a formula of at most 2^31 variables.
-pub record IsStored (vars : ℕ) (words ends : List ℕ) : Type 0 where
+-- Indexes of literals and ends of clauses that keep a formula of at most 2^31 variables.
+pub record IsStored (vars : ℕ) (literals ends : List ℕ) : Type 0 where
   pub small : vars ≤ 2 ^ 31
-  pub rise : Rise 0 ends (length words)
-  pub formula : IsFormula (formula_of vars words ends)
+  pub rise : Rise 0 ends (length literals)
+  pub formula : IsFormula (formula_of vars literals ends)
 
 -- where the clause with an index begins
 abbrev pub start_of : ℕ → List ℕ → ℕ → ℕ

@@ -1,9 +1,9 @@
-//! Formulas: lists of clauses, kept in one array of 32-bit words: the literals of all clauses one behind the other, and where each
-//! clause ends. A *word* is a literal as a number, 2 (v - 1) for variable v and one more for its negation, as in MiniSat. More than
-//! 2^31 variables, or 2^32 literals, are answered with want of memory.
+//! Formulas: lists of clauses, kept in one array of 32-bit numbers: the indexes of the literals of all clauses one behind the other,
+//! and where each clause ends. The *index* of a literal is 2 (v - 1) for variable v and one more for its negation, as MiniSat numbers
+//! literals. More than 2^31 variables, or 2^32 literals, are answered with want of memory.
 
 ghost use Rattle.std.specs.Prelude.{All, ◌≡◌, ◌+◌, ◌-◌, ◌*◌, ◌<◌, ◌≤◌, ◌^◌, [], ◌∷◌, ◌++◌, length, map, slice_get, slice_index, Some, IfOk, OnOk, OnErr};
-ghost use Rattle.cnf.specs.Store.{word_of, lit_of, start_of};
+ghost use Rattle.cnf.specs.Store.{index_of, lit_of, start_of};
 ghost use Rattle.cnf.specs.Literals.{HasVariable};
 
 use crate::clause::Clause;
@@ -15,11 +15,12 @@ use std::marker::Model;
 /// The greatest number of variables that a formula can have.
 const MOST_VARIABLES: u64 = 1 << 31;
 
-/// A list of clauses over the variables from 1 on. All literals stand in one array of words, of which there are fewer than 2^32.
+/// A list of clauses over the variables from 1 on. The literals of all clauses stand in one array, by their
+/// indexes; there are fewer than 2^32.
 #[derive(Debug, Drop)]
 pub struct Cnf {
     vars: u64,
-    words: Vec<u32>,
+    literals: Vec<u32>,
     ends: Vec<u32>,
 }
 
@@ -29,40 +30,40 @@ impl Model for Cnf {
 
     ghost Value = { Formula };
 
-    ghost view = { λ c. formula_of c.vars c.words.items c.ends.items };
+    ghost view = { λ c. formula_of c.vars c.literals.items c.ends.items };
 
-    ghost invariant = { λ c. IsStored c.vars c.words.items c.ends.items };
+    ghost invariant = { λ c. IsStored c.vars c.literals.items c.ends.items };
 }
 
-/// The word of a literal.
-fn word_of(lit: Lit) -> u32
+/// The index of a literal.
+fn index_of(lit: Lit) -> u32
     requires { HasVariable (2 ^ 31) lit }
-    ensures { result ≡ word_of lit }
+    ensures { result ≡ index_of lit }
 {
     let sign = if lit.positive { 0 } else { 1 };
     (2 * (lit.var - 1) + sign) as u32
 }
 
-/// The literal of a word.
-fn lit_of(word: u32) -> Lit
-    ensures { result ≡ lit_of word }
+/// The literal that has this index.
+fn lit_of(index: u32) -> Lit
+    ensures { result ≡ lit_of index }
 {
     Lit {
-        var: u64::from(word / 2) + 1,
-        positive: word % 2 == 0,
+        var: u64::from(index / 2) + 1,
+        positive: index % 2 == 0,
     }
 }
 
-/// Appends the words of these literals, or leaves the words as they are.
-fn push_words(words: &mut Vec<u32>, lits: &[Lit]) -> Result<(), NoMemory>
+/// Appends the indexes of these literals, or leaves the array as it is.
+fn push_literals(literals: &mut Vec<u32>, lits: &[Lit]) -> Result<(), NoMemory>
     requires { All (HasVariable (2 ^ 31)) lits.now }
-    ensures ok { OnOk result (words.new.items ≡ words.old.items ++ map word_of lits.now) }
-    ensures err { OnErr result (words.new.items ≡ words.old.items) }
+    ensures ok { OnOk result (literals.new.items ≡ literals.old.items ++ map index_of lits.now) }
+    ensures err { OnErr result (literals.new.items ≡ literals.old.items) }
 {
-    let before = words.len();
+    let before = literals.len();
     for lit in lits {
-        if words.push(word_of(*lit)).is_err() {
-            words.truncate(before);
+        if literals.push(index_of(*lit)).is_err() {
+            literals.truncate(before);
             return Err(NoMemory);
         }
     }
@@ -70,18 +71,18 @@ fn push_words(words: &mut Vec<u32>, lits: &[Lit]) -> Result<(), NoMemory>
 }
 
 /// Appends a clause, or leaves all as it is.
-fn push_clause(words: &mut Vec<u32>, ends: &mut Vec<u32>, lits: &[Lit]) -> Result<(), NoMemory>
+fn push_clause(literals: &mut Vec<u32>, ends: &mut Vec<u32>, lits: &[Lit]) -> Result<(), NoMemory>
     requires { All (HasVariable (2 ^ 31)) lits.now }
-    ensures words { OnOk result (words.new.items ≡ words.old.items ++ map word_of lits.now) }
-    ensures ends { OnOk result (ends.new.items ≡ ends.old.items ++ length words.new.items ∷ []) }
-    ensures words_err { OnErr result (words.new.items ≡ words.old.items) }
+    ensures literals { OnOk result (literals.new.items ≡ literals.old.items ++ map index_of lits.now) }
+    ensures ends { OnOk result (ends.new.items ≡ ends.old.items ++ length literals.new.items ∷ []) }
+    ensures literals_err { OnErr result (literals.new.items ≡ literals.old.items) }
     ensures ends_err { OnErr result (ends.new.items ≡ ends.old.items) }
 {
-    let before = words.len();
-    push_words(words, lits)?;
-    let end = words.len();
+    let before = literals.len();
+    push_literals(literals, lits)?;
+    let end = literals.len();
     if end > u32::MAX as usize || ends.push(end as u32).is_err() {
-        words.truncate(before);
+        literals.truncate(before);
         return Err(NoMemory);
     }
     Ok(())
@@ -114,7 +115,7 @@ impl Cnf {
         }
         Ok(Cnf {
             vars,
-            words: Vec::new(alloc),
+            literals: Vec::new(alloc),
             ends: Vec::new(alloc),
         })
     }
@@ -143,9 +144,9 @@ impl Cnf {
         ensures ok { OnOk result (self.new ≡ record { vars = self.old.vars; clauses = self.old.clauses ++ clause_of lits.now ∷ [] }) }
         ensures err { OnErr result (self.new ≡ self.old) }
     {
-        let alloc = *self.words.allocator();
+        let alloc = *self.literals.allocator();
         let clause = Clause::from_lits(alloc, lits)?;
-        push_clause(&mut self.words, &mut self.ends, clause.lits())?;
+        push_clause(&mut self.literals, &mut self.ends, clause.lits())?;
         Ok(())
     }
 
@@ -181,6 +182,6 @@ impl Cnf {
         ensures { slice_get (clause_at self.now i) k ≡ Some result }
     {
         let (start, _) = bounds(&self.ends, i as usize);
-        lit_of(self.words[start + k as usize])
+        lit_of(self.literals[start + k as usize])
     }
 }

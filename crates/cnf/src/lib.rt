@@ -1,5 +1,5 @@
 //! Clauses, formulas in conjunctive normal form (CNF) and proofs by resolution, and the formula that a circuit's goal can be true
-//! (the Tseitin transformation). The solver keeps literals as the same words: it cites `specs/Store`, and the laws about words in
+//! (the Tseitin transformation). The solver keeps literals by the same indexes: it cites `specs/Store`, and the laws about indexes in
 //! `proofs/StoreLaws`.
 #![tactic(auto)]
 

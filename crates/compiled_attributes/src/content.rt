@@ -201,7 +201,7 @@ fn push_piece(
     parts.push(Value::Str(order.into_text()))?;
     parts.push(Value::Str(title.into_text()))?;
     parts.push(Value::Str(content))?;
-    let text = json_text(alloc, &Value::List(parts))?;
+    let text = json_text(alloc, &Value::list(alloc, parts)?)?;
     into.push(text.as_str())
 }
 
@@ -236,7 +236,7 @@ fn frame_text(alloc: Global, ps: &Pairs) -> Result<Text, NoMemory>
     let mut parts = Seq::new(alloc);
     parts.push(copy_at(alloc, ps, "order")?)?;
     parts.push(copy_at(alloc, ps, "ensure_newline")?)?;
-    json_text(alloc, &Value::List(parts))
+    json_text(alloc, &Value::list(alloc, parts)?)
 }
 
 /// What stands for the content of a file of these fragments.

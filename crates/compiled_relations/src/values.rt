@@ -103,7 +103,7 @@ pub fn related_to(
         Value::Str(text) => found_value(alloc, index, r, text.as_str()),
         Value::List(items) => {
             let related = related_to_all(alloc, index, r, items.as_slice())?;
-            Ok(Value::List(related))
+            Ok(Value::list(alloc, related)?)
         }
         _ => Ok(Value::Undef),
     }

@@ -67,7 +67,7 @@ fn value_of(alloc: Global, json: &Json) -> Result<Value, NoMemory>
         Json::Bool(b) => Ok(Value::Bool(*b)),
         Json::Number(number) => Ok(number_value(number)),
         Json::String(text) => Ok(Value::Str(text_of(alloc, text.as_str())?)),
-        Json::Array(items) => Ok(Value::List(values_of(alloc, items)?)),
+        Json::Array(items) => Value::list(alloc, values_of(alloc, items)?),
         Json::Object(members) => {
             let pairs = pairs_of(alloc, members)?;
             object_value(alloc, json.get("__ptype"), pairs)

@@ -17,6 +17,7 @@ use answering::{Answer, answer_to};
 use finite_domain::domains;
 use fs_lang::Program;
 use order_encode::{Question, ask_missing};
+use order_extensions::has_first_extension;
 use orders::Order;
 use path_domain::Domain;
 use rh_base::NoMemory;
@@ -42,8 +43,7 @@ fn missing_question(
 {
     domains();
     wanted_entries();
-    // Only that there is one: it stands for all orders.
-    let _first = order.first_extension()?;
+    has_first_extension(order);
     let posed = ask_missing(alloc, programs, order, domain, wanted)?;
     Ok(posed)
 }

@@ -19,6 +19,7 @@ use answering::{Answer, answer_to};
 use finite_domain::{domains, shadows};
 use fs_lang::Program;
 use order_encode::{Question, ask_parting};
+use order_extensions::has_first_extension;
 use orders::Order;
 use path_domain::Domain;
 use rh_base::NoMemory;
@@ -50,9 +51,8 @@ fn parting_question(
 {
     domains();
     shadows();
-    // Only that there are such: others stand for them.
-    let _first = order.first_extension()?;
-    let _second = other.first_extension()?;
+    has_first_extension(order);
+    has_first_extension(other);
     let asked = common_turns(alloc, left, order, right, other)?;
     let Turns {
         left: one,

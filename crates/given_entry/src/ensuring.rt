@@ -14,6 +14,7 @@ use commute_prune::pruning;
 use ensured_entry::{Ensured, ensured_any};
 use fs_lang::{Path, Program};
 use guarded_graph::{guard_is_pruned, with_guard};
+use order_extensions::has_first_extension;
 use orders::Order;
 use question_terms::Terms;
 use rh_base::{Fault, NoMemory};
@@ -37,9 +38,9 @@ fn guarded_entry(
     pruning();
     guard_is_pruned();
     let graph = with_guard(alloc, programs, order, given)?;
-    // Only that there are first extensions: they stand for all orders.
-    let _first = order.first_extension()?;
-    let _whole = graph.order.first_extension()?;
+    // First extensions stand for all orders.
+    has_first_extension(order);
+    has_first_extension(&graph.order);
     let answered = ensured_any(
         alloc,
         graph.programs.as_slice(),

@@ -13,6 +13,7 @@ use commute_prune::pruning;
 use equal_graphs::{Compared, compare_any};
 use fs_lang::{Path, Program};
 use guarded_graph::{guard_is_pruned, with_guard};
+use order_extensions::has_first_extension;
 use orders::Order;
 use question_terms::Terms;
 use rh_base::{Fault, NoMemory};
@@ -38,11 +39,11 @@ fn guarded_compare(
     guard_is_pruned();
     let one = with_guard(alloc, left, order, given)?;
     let second = with_guard(alloc, right, other, given)?;
-    // Only that there are first extensions: they stand for all orders.
-    let _left_first = order.first_extension()?;
-    let _left_whole = one.order.first_extension()?;
-    let _right_first = other.first_extension()?;
-    let _right_whole = second.order.first_extension()?;
+    // First extensions stand for all orders.
+    has_first_extension(order);
+    has_first_extension(&one.order);
+    has_first_extension(other);
+    has_first_extension(&second.order);
     let answered = compare_any(
         alloc,
         one.programs.as_slice(),

@@ -18,6 +18,7 @@ use commute_prune::are_proper;
 use fs_lang::{Path, Program};
 use given_hosts::{guarded_graphs, guards, second_runs};
 use guarded_graph::{Guarded, with_guard};
+use order_extensions::has_first_extension;
 use orders::Order;
 use proof_check::Verified;
 use rh_base::{NoMemory, Seq};
@@ -43,8 +44,8 @@ fn ask_on(
 {
     second_runs();
     are_proper(programs);
-    // Only that there is one: it stands for all orders.
-    let _first = order.first_extension()?;
+    // The first extension stands for all orders.
+    has_first_extension(order);
     if all_keep(programs, given) {
         return Ok(Answer::Refuted(same));
     }

@@ -12,6 +12,7 @@ use fs_lang::{Path, Program, Tree};
 use given_hosts::{guarded_graphs, guards};
 use guarded_graph::with_guard;
 use order_encode::Witness;
+use order_extensions::has_first_extension;
 use orders::Order;
 use rh_base::NoMemory;
 use std::alloc::Global;
@@ -58,9 +59,9 @@ pub(crate) fn ask_end_from(
     guards();
     guarded_graphs();
     let graph = with_guard(alloc, programs, order, given)?;
-    // Only that there are first extensions: they stand for all orders.
-    let _first = order.first_extension()?;
-    let _whole = graph.order.first_extension()?;
+    // First extensions stand for all orders.
+    has_first_extension(order);
+    has_first_extension(&graph.order);
     let found = ask_end(alloc, graph.programs.as_slice(), &graph.order, budget)?;
     match found {
         Answer::Refuted(verified) => Ok(Answer::Refuted(verified)),

@@ -51,7 +51,7 @@ fn members(alloc: Global, word: &str) -> Result<Seq<Value>, NoMemory> {
 
 fn value(alloc: Global, word: &str) -> Result<Value, NoMemory> {
     if word.contains(',') {
-        Ok(Value::List(members(alloc, word)?))
+        Value::list(alloc, members(alloc, word)?)
     } else {
         single(alloc, word)
     }

@@ -89,7 +89,7 @@ fn list(alloc: Global, at: u32, members: &[Expr], scopes: &Scopes) -> Result<Val
     ensures { Answers (list_at at (map (evaluated scopes.now) members.now)) result }
 {
     let values = eval_all(alloc, members, scopes)?;
-    limited(alloc, at, Value::List(values))
+    limited(alloc, at, Value::list(alloc, values)?)
 }
 
 /// A key and its value.
@@ -157,7 +157,7 @@ fn refer(
     ensures { Answers (refer_at at kind.now (map (evaluated scopes.now) titles.now)) result }
 {
     let references = references(alloc, kind, titles, scopes)?;
-    limited(alloc, at, one_or_list(references))
+    limited(alloc, at, one_or_list(alloc, references)?)
 }
 
 /// A text in double quotes of these members.

@@ -36,7 +36,7 @@ pub fn value_of_json(alloc: Global, json: &Json) -> Result<Value, NoMemory>
         }
         Json::Array(items) => {
             let values = values_of_json(alloc, items)?;
-            Ok(Value::List(Seq::from_vec(values)))
+            Value::list(alloc, Seq::from_vec(values))
         }
         Json::Object(members) => Ok(Value::Map(pairs_of_json(alloc, members)?)),
     }

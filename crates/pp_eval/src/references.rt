@@ -109,15 +109,15 @@ pub fn add_references(
 }
 
 /// One reference, or a list of any other number of them.
-pub fn one_or_list(references: Seq<Value>) -> Value
-    ensures { result ≡ one_or_list references }
+pub fn one_or_list(alloc: Global, references: Seq<Value>) -> Result<Value, NoMemory>
+    ensures { IfOk result (λ x. x ≡ one_or_list references) }
 {
     if references.len() != 1 {
-        return Value::List(references);
+        return Value::list(alloc, references);
     }
     let mut references = references.into_vec();
     match references.pop() {
-        Some(reference) => reference,
-        None => Value::List(Seq::from_vec(references)),
+        Some(reference) => Ok(reference),
+        None => Value::list(alloc, Seq::from_vec(references)),
     }
 }

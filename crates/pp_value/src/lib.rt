@@ -9,6 +9,7 @@ mod laws;
 mod numbers;
 mod operations;
 mod places;
+mod shared;
 mod showing;
 mod sizes;
 mod texts;
@@ -25,6 +26,7 @@ pub use laws::{
 };
 pub use numbers::{multiply, negate, subtract};
 pub use operations::{add, member};
+pub use shared::Shared;
 pub use showing::{show, shown_ref};
 pub use sizes::{exceeds_limits, size};
 pub use texts::same_text;

@@ -8,8 +8,9 @@ ghost use Rattle.pp_value.specs.Table.{Gives, add_table, index_table, or_undef, 
 
 use crate::fault::{Misfit, ValueFault};
 use crate::numbers::sum;
+use crate::shared::Shared;
 use crate::sizes::exceeds_limits;
-use crate::value::{Pairs, Value};
+use crate::value::{Pairs, Value, copy_all};
 use rh_base::{NoMemory, Seq};
 use std::alloc::Global;
 
@@ -23,15 +24,25 @@ fn limited(value: Value) -> Result<Value, ValueFault>
     Ok(value)
 }
 
+/// The members of a list: taken where nobody else has the list, and else copied.
+fn own_members(alloc: Global, list: Shared<Value>) -> Result<Seq<Value>, NoMemory>
+    ensures { IfOk result (λ items. items ≡ list) }
+{
+    match list.into_items() {
+        Ok(items) => Ok(items),
+        Err(list) => copy_all(alloc, list.as_slice()),
+    }
+}
+
 /// The members of two lists, one list after the other.
-fn joined(alloc: Global, left: Seq<Value>, right: &[Value]) -> Result<Value, NoMemory>
+fn joined(alloc: Global, left: Shared<Value>, right: &[Value]) -> Result<Value, NoMemory>
     ensures { IfOk result (λ x. x ≡ v.List (left ++ right.now)) }
 {
-    let mut items = left;
+    let mut items = own_members(alloc, left)?;
     for item in right {
         items.push(item.copy(alloc)?)?;
     }
-    Ok(Value::List(items))
+    Value::list(alloc, items)
 }
 
 /// Two maps as one, in which the right one's values win.

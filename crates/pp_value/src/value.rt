@@ -1,8 +1,10 @@
 //! Values, and their copies.
 
 ghost use Rattle.std.specs.Prelude.{◌≡◌, IfOk};
+ghost use Rattle.pp_value.specs.declared.value.Value.TheVariants as v;
 
 use crate::keyed::Keyed;
+use crate::shared::Shared;
 use rh_base::{NoMemory, Seq, Text};
 use std::alloc::Global;
 
@@ -31,7 +33,7 @@ pub enum Value {
     Bool(bool),
     Int(i64),
     Str(Text),
-    List(Seq<Value>),
+    List(Shared<Value>),
     Map(Keyed<Value>),
     Refer(Ref),
     /// A number of the facts that isn't a whole one of 64 bits.
@@ -42,7 +44,14 @@ pub enum Value {
 pub type Pairs = Keyed<Value>;
 
 impl Value {
-    /// An equal value.
+    /// A list of these members.
+    pub fn list(alloc: Global, members: Seq<Value>) -> Result<Value, NoMemory>
+        ensures { IfOk result (λ x. x ≡ v.List members) }
+    {
+        Ok(Value::List(Shared::new(alloc, members)?))
+    }
+
+    /// An equal value. A list is shared, however long it is.
     #[cycle(copy)]
     pub fn copy(&self, alloc: Global) -> Result<Value, NoMemory>
         ensures { IfOk result (λ v. v ≡ self.now) }
@@ -52,7 +61,7 @@ impl Value {
             Value::Bool(b) => Ok(Value::Bool(*b)),
             Value::Int(n) => Ok(Value::Int(*n)),
             Value::Str(text) => Ok(Value::Str(text.copy(alloc)?)),
-            Value::List(items) => Ok(Value::List(copy_all(alloc, items.as_slice())?)),
+            Value::List(items) => Ok(Value::List(items.share()?)),
             Value::Map(pairs) => Ok(Value::Map(copy_pairs(alloc, pairs)?)),
             Value::Refer(r) => Ok(Value::Refer(r.copy(alloc)?)),
             Value::Opaque => Ok(Value::Opaque),
@@ -61,8 +70,7 @@ impl Value {
 }
 
 /// Copies of some values.
-#[cycle(copy)]
-fn copy_all(alloc: Global, items: &[Value]) -> Result<Seq<Value>, NoMemory>
+pub fn copy_all(alloc: Global, items: &[Value]) -> Result<Seq<Value>, NoMemory>
     ensures { IfOk result (λ copies. copies ≡ items.now) }
 {
     let mut copies = Seq::new(alloc);

@@ -9,3 +9,5 @@ mod circuits;
 mod common;
 #[cfg(test)]
 mod formulas;
+#[cfg(test)]
+mod trimming;

@@ -4,7 +4,7 @@ use Rattle.std.specs.List.{AllByRecursion}
 use Rattle.std.proofs.Math.ListN.{length-set}
 use Rattle.std.proofs.lemmas.List.{length-append, get_or-set_other, get_or-set_same}
 use Rattle.std.proofs.lemmas.Bool.{cases_eq}
-use Rattle.sat_solver.specs.Words.{has}
+use Rattle.sat_solver.specs.Literals.{has}
 use Rattle.sat_solver.specs.Trails.{Way}
 use Rattle.sat_solver.specs.declared.watches.Watcher.{Watcher}
 use Rattle.sat_solver.specs.Watching.{clause, names, IsQuiet, IsEntry, Gives, IsOnce, IsSound, IsListed, pushing, watching}
@@ -22,7 +22,7 @@ module _ (w : List (List Watcher)) (x : ℕ) (u : Watcher) (below : x < length w
     | inr d ↦ ap (λ l. names l m) (get_or-set_other w x y (get_or w x [] ++ u ∷ []) [] d) ∙ h
   ]
 
-  -- the list of the word names the clause of the new watcher
+  -- the list of the literal names the clause of the new watcher
   names_there : names (get_or (pushing w x u) x []) u.clause ≡ true
   names_there = ap (λ l. names l u.clause) (get_or-set_same w x (get_or w x [] ++ u ∷ []) [] below) ∙ names_last (get_or w x []) u u.clause refl
 
@@ -100,7 +100,7 @@ module _ (f : List (List ℕ)) (c : List ℕ) where
 
   -- the invariants hold with the new clause, where unit propagation had nothing to do with it ahead of any decision
   pub sound_with : (t : Way) (w : List (List Watcher)) → length f + 1 < 2 ^ 32 → ((x : ℕ) → has c x ≡ true → x < 2 * t.vars) → IsOnce c
-      → ((k : ℕ) → k < length t.starts → IsQuiet (take (get_or t.starts k 0) t.words) (take (get_or t.starts k 0) t.words) c) → IsSound f t w → IsSound with_clause t w
+      → ((k : ℕ) → k < length t.starts → IsQuiet (take (get_or t.starts k 0) t.literals) (take (get_or t.starts k 0) t.literals) c) → IsSound f t w → IsSound with_clause t w
   sound_with t w few within once quiet h = record {
     few = omega (arith, long_with);
     long = h.long;
@@ -109,10 +109,10 @@ module _ (f : List (List ℕ)) (c : List ℕ) where
     below = h.below;
     consistent = h.consistent;
     long_reasons = h.long_reasons;
-    reasons = λ p n l e. gives_more (take p t.words) (get_or t.words p 0) n (h.reasons p n l e);
+    reasons = λ p n l e. gives_more (take p t.literals) (get_or t.literals p 0) n (h.reasons p n l e);
     driven = h.driven;
     starts = h.starts;
-    settled = λ k n l m. every (IsQuiet (take (get_or t.starts k 0) t.words) (take (get_or t.starts k 0) t.words)) n m (h.settled k n l) (quiet k l);
+    settled = λ k n l m. every (IsQuiet (take (get_or t.starts k 0) t.literals) (take (get_or t.starts k 0) t.literals)) n m (h.settled k n l) (quiet k l);
     entries = λ x. entries_more (get_or w x []) (h.entries x);
   }
 

@@ -33,8 +33,8 @@ const GREATEST_BUMP: u64 = 1 << 50;
 /// What they are divided by.
 const RESCALE: u64 = 1 << 40;
 
-/// The word of a literal, if it is one of so many variables.
-fn word_within(lit: Lit, vars: usize) -> Option<u32>
+/// The index of a literal, if it is one of so many variables.
+fn index_within(lit: Lit, vars: usize) -> Option<u32>
     requires { vars ≤ 2 ^ 31 }
 {
     if lit.var == 0 || lit.var > vars as u64 {
@@ -73,10 +73,10 @@ impl Activity {
             led: firsts.len() > 0,
         };
         'firsts: for i in 0..firsts.len() {
-            let Some(word) = word_within(firsts[firsts.len() - 1 - i], vars) else {
+            let Some(literal) = index_within(firsts[firsts.len() - 1 - i], vars) else {
                 continue;
             };
-            activity.firsts.push(word)?;
+            activity.firsts.push(literal)?;
         }
         'fill: for var in 0..vars {
             activity.insert(var as u32)?;
@@ -121,7 +121,7 @@ impl Activity {
     pub(crate) fn drop_first(&mut self)
         ensures { 0 < length self.old.firsts.items → length self.new.firsts.items < length self.old.firsts.items }
     {
-        let Some(word) = self.firsts.pop() else {
+        let Some(literal) = self.firsts.pop() else {
             return;
         };
         self.passed = 0;
@@ -130,7 +130,7 @@ impl Activity {
             return;
         }
         let next = self.firsts[long - 1];
-        self.focus(word / 2, next / 2);
+        self.focus(literal / 2, next / 2);
     }
 
     /// Raises the variables behind the first of these up to the second.
@@ -311,23 +311,23 @@ impl Activity {
     }
 
     /// Literals that aren't set any more.
-    pub(crate) fn release(&mut self, words: &[u32]) -> Result<(), NoMemory> {
-        'release: for word in words {
-            let word = *word;
-            let var = (word / 2) as usize;
+    pub(crate) fn release(&mut self, literals: &[u32]) -> Result<(), NoMemory> {
+        'release: for literal in literals {
+            let literal = *literal;
+            let var = (literal / 2) as usize;
             if var >= self.phases.len() {
                 continue;
             }
-            self.phases[var] = word % 2 == 0;
-            self.insert(word / 2)?;
+            self.phases[var] = literal % 2 == 0;
+            self.insert(literal / 2)?;
         }
         Ok(())
     }
 
     /// The variables of these literals took part in a conflict.
-    pub(crate) fn raise(&mut self, words: &[u32]) {
-        'raise: for word in words {
-            self.raise_by(*word / 2, 1);
+    pub(crate) fn raise(&mut self, literals: &[u32]) {
+        'raise: for literal in literals {
+            self.raise_by(*literal / 2, 1);
         }
         self.age();
     }

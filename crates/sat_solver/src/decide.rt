@@ -2,18 +2,18 @@
 //! that it had last (`activity`), else the first that is unassigned. Each is tested here, so no clause speaks of activity.
 
 ghost use Rattle.std.specs.Prelude.{◌≡◌, ℕ, ◌*◌, ◌<◌, ◌≤◌, ◌^◌, true, false, None, Some};
-ghost use Rattle.sat_solver.specs.Words.{opposite, has};
+ghost use Rattle.sat_solver.specs.Literals.{opposite, has};
 ghost use Rattle.sat_solver.specs.Turning.{IsFull};
 
 use crate::activity::Activity;
 use crate::trail::Trail;
 
 /// A literal that is unassigned, of the most active variable that the heap has.
-fn active_word(trail: &Trail, vars: usize, activity: &mut Activity) -> Option<u32>
+fn active_literal(trail: &Trail, vars: usize, activity: &mut Activity) -> Option<u32>
     requires vars { vars ≡ trail.now.vars }
     requires small { vars ≤ 2 ^ 31 }
-    ensures { (w : ℕ) → result ≡ Some w → (w < 2 * trail.now.vars) × (has trail.now.words w ≡ false)
-        × (has trail.now.words (opposite w) ≡ false) }
+    ensures { (w : ℕ) → result ≡ Some w → (w < 2 * trail.now.vars) × (has trail.now.literals w ≡ false)
+        × (has trail.now.literals (opposite w) ≡ false) }
 {
     'active: while let Some(var) = activity.pop() {
         let i = var as usize;
@@ -21,39 +21,39 @@ fn active_word(trail: &Trail, vars: usize, activity: &mut Activity) -> Option<u3
             continue;
         }
         let sign = if activity.phase(var) { 0 } else { 1 };
-        let word = (2 * i + sign) as u32;
-        let holds = trail.holds(word);
+        let literal = (2 * i + sign) as u32;
+        let holds = trail.holds(literal);
         if holds {
             continue;
         }
-        let is_false = trail.is_false(word);
+        let is_false = trail.is_false(literal);
         if is_false {
             continue;
         }
-        return Some(word);
+        return Some(literal);
     }
     None
 }
 
 /// A literal that is unassigned.
-fn free_word(trail: &Trail, vars: usize) -> Option<u32>
+fn free_literal(trail: &Trail, vars: usize) -> Option<u32>
     requires vars { vars ≡ trail.now.vars }
     requires small { vars ≤ 2 ^ 31 }
-    ensures some { (w : ℕ) → result ≡ Some w → (w < 2 * trail.now.vars) × (has trail.now.words w ≡ false)
-        × (has trail.now.words (opposite w) ≡ false) }
+    ensures some { (w : ℕ) → result ≡ Some w → (w < 2 * trail.now.vars) × (has trail.now.literals w ≡ false)
+        × (has trail.now.literals (opposite w) ≡ false) }
     ensures none { result ≡ None → IsFull trail.now }
 {
     'vars: for var in 0..vars {
-        let word = (2 * var) as u32;
-        let holds = trail.holds(word);
+        let literal = (2 * var) as u32;
+        let holds = trail.holds(literal);
         if holds {
             continue;
         }
-        let is_false = trail.is_false(word);
+        let is_false = trail.is_false(literal);
         if is_false {
             continue;
         }
-        return Some(word);
+        return Some(literal);
     }
     None
 }
@@ -66,9 +66,9 @@ fn drop_refuted(trail: &Trail, vars: usize, activity: &mut Activity)
     if trail.level() > 0 {
         return;
     }
-    'refuted: while let Some(word) = activity.firsts().last() {
-        let word = *word;
-        let is_false = (word as usize) < 2 * vars && trail.is_false(word);
+    'refuted: while let Some(literal) = activity.firsts().last() {
+        let literal = *literal;
+        let is_false = (literal as usize) < 2 * vars && trail.is_false(literal);
         if !is_false {
             return;
         }
@@ -77,35 +77,35 @@ fn drop_refuted(trail: &Trail, vars: usize, activity: &mut Activity)
 }
 
 /// Whether this is a literal of one of so many variables, and unassigned.
-fn is_unset(trail: &Trail, vars: usize, word: u32) -> bool
+fn is_unset(trail: &Trail, vars: usize, literal: u32) -> bool
     requires vars { vars ≡ trail.now.vars }
     requires small { vars ≤ 2 ^ 31 }
-    ensures { result ≡ true → (word < 2 * trail.now.vars) × (has trail.now.words word ≡ false)
-        × (has trail.now.words (opposite word) ≡ false) }
+    ensures { result ≡ true → (literal < 2 * trail.now.vars) × (has trail.now.literals literal ≡ false)
+        × (has trail.now.literals (opposite literal) ≡ false) }
 {
-    if word as usize >= 2 * vars {
+    if literal as usize >= 2 * vars {
         return false;
     }
-    let holds = trail.holds(word);
+    let holds = trail.holds(literal);
     if holds {
         return false;
     }
-    let is_false = trail.is_false(word);
+    let is_false = trail.is_false(literal);
     !is_false
 }
 
 /// The literal that is to be tried ahead of the others: of those that are unassigned the first.
-fn first_word(trail: &Trail, vars: usize, activity: &mut Activity) -> Option<u32>
+fn first_literal(trail: &Trail, vars: usize, activity: &mut Activity) -> Option<u32>
     requires vars { vars ≡ trail.now.vars }
     requires small { vars ≤ 2 ^ 31 }
-    ensures { (w : ℕ) → result ≡ Some w → (w < 2 * trail.now.vars) × (has trail.now.words w ≡ false)
-        × (has trail.now.words (opposite w) ≡ false) }
+    ensures { (w : ℕ) → result ≡ Some w → (w < 2 * trail.now.vars) × (has trail.now.literals w ≡ false)
+        × (has trail.now.literals (opposite w) ≡ false) }
 {
     drop_refuted(trail, vars, activity);
-    'first: while let Some(word) = activity.next_first() {
-        let is_free = is_unset(trail, vars, word);
+    'first: while let Some(literal) = activity.next_first() {
+        let is_free = is_unset(trail, vars, literal);
         if is_free {
-            return Some(word);
+            return Some(literal);
         }
         activity.pass_first();
     }
@@ -113,18 +113,18 @@ fn first_word(trail: &Trail, vars: usize, activity: &mut Activity) -> Option<u32
 }
 
 /// A literal that is unassigned: the one to be tried first, the heap's, or where it has none the first that there is.
-pub(crate) fn next_word(trail: &Trail, vars: usize, activity: &mut Activity) -> Option<u32>
+pub(crate) fn next_literal(trail: &Trail, vars: usize, activity: &mut Activity) -> Option<u32>
     requires vars { vars ≡ trail.now.vars }
     requires small { vars ≤ 2 ^ 31 }
-    ensures some { (w : ℕ) → result ≡ Some w → (w < 2 * trail.now.vars) × (has trail.now.words w ≡ false)
-        × (has trail.now.words (opposite w) ≡ false) }
+    ensures some { (w : ℕ) → result ≡ Some w → (w < 2 * trail.now.vars) × (has trail.now.literals w ≡ false)
+        × (has trail.now.literals (opposite w) ≡ false) }
     ensures none { result ≡ None → IsFull trail.now }
 {
-    if let Some(word) = first_word(trail, vars, activity) {
-        return Some(word);
+    if let Some(literal) = first_literal(trail, vars, activity) {
+        return Some(literal);
     }
-    match active_word(trail, vars, activity) {
-        Some(word) => Some(word),
-        None => free_word(trail, vars),
+    match active_literal(trail, vars, activity) {
+        Some(literal) => Some(literal),
+        None => free_literal(trail, vars),
     }
 }

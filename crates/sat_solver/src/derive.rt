@@ -11,67 +11,72 @@ ghost use Rattle.sat_solver.specs.Watching.{IsStopped, IsSound, IsFalse};
 ghost use Rattle.sat_solver.specs.Working.{IsNew};
 ghost use Rattle.sat_solver.specs.Meaning.{link_of, IsStoreOf, IsDerived, IsLearnable, IsBlank};
 
-use crate::analyze::{Hop, Resolvent, collect, refute};
+use crate::analyze::{Resolution, Resolvent, collect, refute};
 use crate::arrange::put_last_second;
+use crate::literal::opposite;
 use crate::minimize::analyze;
 use crate::store::Store;
 use crate::trail::Trail;
 use crate::watches::Watches;
-use crate::word::opposite;
 use cnf::{Clause, Link, Lit, Step};
 use rh_base::{NoMemory, Seq};
 use std::alloc::Global;
 
-/// The literal of a word.
-fn lit_of(word: u32) -> Lit
-    ensures { result ≡ lit_of word }
+/// The literal that has this index.
+fn lit_of(literal: u32) -> Lit
+    ensures { result ≡ lit_of literal }
 {
     Lit {
-        var: u64::from(word / 2) + 1,
-        positive: word % 2 == 0,
+        var: u64::from(literal / 2) + 1,
+        positive: literal % 2 == 0,
     }
 }
 
-/// The literals of these words.
-fn lits_of(alloc: Global, words: &[u32]) -> Result<Vec<Lit>, NoMemory>
-    ensures { IfOk result (λ v. v.items ≡ map lit_of words.now) }
+/// The literals that have these indexes.
+fn lits_of(alloc: Global, literals: &[u32]) -> Result<Vec<Lit>, NoMemory>
+    ensures { IfOk result (λ v. v.items ≡ map lit_of literals.now) }
 {
     let mut lits = Vec::new(alloc);
-    'words: for word in words {
-        lits.push(lit_of(*word))?;
+    'literals: for literal in literals {
+        lits.push(lit_of(*literal))?;
     }
     Ok(lits)
 }
 
-/// The link of a hop.
-fn link_of(hop: &Hop) -> Link
-    ensures { result ≡ link_of hop.now }
+/// The link of a resolution.
+fn link_of(resolution: &Resolution) -> Link
+    ensures { result ≡ link_of resolution.now }
 {
     Link {
-        number: u64::from(hop.number),
-        pivot: lit_of(hop.pivot),
+        number: u64::from(resolution.number),
+        pivot: lit_of(resolution.pivot),
     }
 }
 
-/// The links of these hops.
-fn links_of(alloc: Global, hops: &[Hop]) -> Result<Vec<Link>, NoMemory>
-    ensures { IfOk result (λ v. v.items ≡ map link_of hops.now) }
+/// The links of these resolutions.
+fn links_of(alloc: Global, resolutions: &[Resolution]) -> Result<Vec<Link>, NoMemory>
+    ensures { IfOk result (λ v. v.items ≡ map link_of resolutions.now) }
 {
     let mut links = Vec::new(alloc);
-    'hops: for hop in hops {
-        links.push(link_of(hop))?;
+    'resolutions: for resolution in resolutions {
+        links.push(link_of(resolution))?;
     }
     Ok(links)
 }
 
-/// The step with these words, which these hops lead to from a clause.
-fn step_of(alloc: Global, conflict: u32, hops: &[Hop], words: &[u32]) -> Result<Step, NoMemory>
+/// The step with the clause of these literals, to which these resolutions lead from a clause.
+fn step_of(
+    alloc: Global,
+    conflict: u32,
+    resolutions: &[Resolution],
+    literals: &[u32],
+) -> Result<Step, NoMemory>
     ensures { IfOk result (λ s. s
-        ≡ record { clause = clause_of (map lit_of words.now); start = conflict + 1; chain = map link_of hops.now }) }
+        ≡ record { clause = clause_of (map lit_of literals.now); start = conflict + 1; chain = map link_of resolutions.now }) }
 {
-    let lits = lits_of(alloc, words)?;
+    let lits = lits_of(alloc, literals)?;
     let clause = Clause::from_lits(alloc, &lits)?;
-    let chain = Seq::from_vec(links_of(alloc, hops)?);
+    let chain = Seq::from_vec(links_of(alloc, resolutions)?);
     Ok(Step {
         clause,
         start: u64::from(conflict) + 1,
@@ -83,15 +88,15 @@ fn step_of(alloc: Global, conflict: u32, hops: &[Hop], words: &[u32]) -> Result<
 fn reset(r: &mut Resolvent)
     ensures seen { r.new.seen ≡ r.old.seen }
     ensures marked { r.new.marked.items ≡ [] }
-    ensures hops { r.new.hops.items ≡ [] }
+    ensures resolutions { r.new.resolutions.items ≡ [] }
     ensures none { r.new.pending ≡ 0 }
 {
     r.marked.clear();
-    r.hops.clear();
+    r.resolutions.clear();
     r.pending = 0;
 }
 
-/// The words of the clause to learn from a clause that is false, and its step.
+/// The literals of the clause to learn from a clause that is false, and its step.
 pub(crate) fn derive(
     alloc: Global,
     r: &mut Resolvent,
@@ -105,7 +110,8 @@ pub(crate) fn derive(
     requires blank { IsBlank trail.now.vars r.old.seen.items }
     ensures blank { OnOk result (IsBlank trail.now.vars r.new.seen.items) }
     ensures learnable { IfOk result (λ out. (last : ℕ) → last + 1 ≡ length trail.now.starts → IsLearnable trail.now last out.0.items) }
-    ensures derived { IfOk result (λ out. (earlier : List (List Lit)) → IsStoreOf store.now earlier → IsDerived earlier out.0.items out.1) }
+    ensures derived { IfOk result (λ out. (earlier : List (List Lit)) → IsStoreOf store.now earlier
+        → IsDerived earlier out.0.items out.1) }
     ensures fresh { IfOk result (λ out. (earlier : List (List Lit)) → IsStoreOf store.now earlier → IsNew earlier out.1.clause) }
 {
     reset(r);
@@ -113,12 +119,12 @@ pub(crate) fn derive(
     let last = trail.level() - 1;
     let boundary = trail.start(last);
     let place = analyze(r, store, trail, boundary, conflict)?;
-    let first = opposite(trail.word(place));
-    let mut words = Vec::new(alloc);
-    collect(r, trail, first, &mut words)?;
-    put_last_second(&mut words, trail);
-    let step = step_of(alloc, conflict, &r.hops, &words)?;
-    Ok((words, step))
+    let first = opposite(trail.literal(place));
+    let mut literals = Vec::new(alloc);
+    collect(r, trail, first, &mut literals)?;
+    put_last_second(&mut literals, trail);
+    let step = step_of(alloc, conflict, &r.resolutions, &literals)?;
+    Ok((literals, step))
 }
 
 /// The step with the empty clause, from a clause that is false ahead of all decisions.
@@ -131,7 +137,7 @@ pub(crate) fn refuted(
     conflict: u32,
 ) -> Result<Step, NoMemory>
     requires sound { IsSound store.now trail.now _watches.now }
-    requires is_false { IsFalse store.now trail.now.words conflict }
+    requires is_false { IsFalse store.now trail.now.literals conflict }
     requires level { trail.now.starts ≡ [] }
     requires blank { IsBlank trail.now.vars r.old.seen.items }
     ensures right { IfOk result (λ s. (earlier : List (List Lit)) → IsStoreOf store.now earlier → IsRight earlier s) }
@@ -141,6 +147,6 @@ pub(crate) fn refuted(
     let _limit = trail.len();
     refute(r, store, trail, conflict)?;
     let none = Vec::new(alloc);
-    let step = step_of(alloc, conflict, &r.hops, &none)?;
+    let step = step_of(alloc, conflict, &r.resolutions, &none)?;
     Ok(step)
 }

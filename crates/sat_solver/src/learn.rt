@@ -1,13 +1,12 @@
 //! Backjumping, or non-chronological backtracking (GRASP, Marques-Silva and Sakallah 1996). A learned clause has one literal of the
-//! last level, and is unit at the highest level of its others (it is asserting). The search goes back there, adds the clause and sets
-//! that literal: this crate calls it to *settle* the clause. With a clause of one literal it goes back ahead of all decisions, and so
-//! it does when it restarts.
+//! last level, and is unit at the highest level of its others (it is asserting). The search goes back there, adds the clause and asserts
+//! that literal. With a clause of one literal it goes back ahead of all decisions, and so it does when it restarts.
 
 ghost use Rattle.std.specs.Prelude.{◌≡◌, ℕ, ◌+◌, ◌*◌, ◌<◌, ◌≤◌, true, false, [], ◌∷◌, ◌++◌, length, take, OnOk, slice_index};
-ghost use Rattle.sat_solver.specs.Words.{opposite, has};
+ghost use Rattle.sat_solver.specs.Literals.{opposite, has};
 ghost use Rattle.sat_solver.specs.Meaning.{IsLearnable};
 ghost use Rattle.sat_solver.specs.Watching.{watching};
-ghost use Rattle.sat_solver.specs.Watching.{IsReady, IsStopped, IsAddable, with_word};
+ghost use Rattle.sat_solver.specs.Watching.{IsReady, IsStopped, IsAddable, with_literal};
 
 use crate::arrange::level_of;
 use crate::store::Store;
@@ -48,19 +47,19 @@ pub(crate) fn learn_long(
     store: &mut Store,
     trail: &mut Trail,
     watches: &mut Watches,
-    words: &[u32],
+    literals: &[u32],
 ) -> Result<(), NoMemory>
     requires ready { IsReady store.old trail.old watches.old }
-    requires addable { IsAddable store.old trail.old words.now }
-    requires two { 2 ≤ length words.now }
-    ensures store { OnOk result (store.new ≡ store.old ++ words.now ∷ []) }
-    ensures trail { OnOk result (trail.new ≡ with_word trail.old (slice_index words.now 0) (length store.old + 1)) }
+    requires addable { IsAddable store.old trail.old literals.now }
+    requires two { 2 ≤ length literals.now }
+    ensures store { OnOk result (store.new ≡ store.old ++ literals.now ∷ []) }
+    ensures trail { OnOk result (trail.new ≡ with_literal trail.old (slice_index literals.now 0) (length store.old + 1)) }
     ensures ready { OnOk result (IsReady store.new trail.new watches.new) }
 {
     let clause = store.count() as u32;
-    watch(watches, clause, words[0], words[1])?;
-    store.push(words)?;
-    trail.assign(words[0], clause)?;
+    watch(watches, clause, literals[0], literals[1])?;
+    store.push(literals)?;
+    trail.assign(literals[0], clause)?;
     Ok(())
 }
 
@@ -69,52 +68,52 @@ pub(crate) fn learn_unit(
     store: &mut Store,
     trail: &mut Trail,
     watches: &Watches,
-    words: &[u32],
+    literals: &[u32],
 ) -> Result<(), NoMemory>
     requires ready { IsReady store.old trail.old watches.now }
-    requires addable { IsAddable store.old trail.old words.now }
-    requires one { length words.now < 2 }
-    ensures store { OnOk result (store.new ≡ store.old ++ words.now ∷ []) }
-    ensures trail { OnOk result (trail.new ≡ with_word trail.old (slice_index words.now 0) (length store.old + 1)) }
+    requires addable { IsAddable store.old trail.old literals.now }
+    requires one { length literals.now < 2 }
+    ensures store { OnOk result (store.new ≡ store.old ++ literals.now ∷ []) }
+    ensures trail { OnOk result (trail.new ≡ with_literal trail.old (slice_index literals.now 0) (length store.old + 1)) }
     ensures ready { OnOk result (IsReady store.new trail.new watches.now) }
 {
     let clause = store.count() as u32;
-    store.push(words)?;
-    trail.assign(words[0], clause)?;
+    store.push(literals)?;
+    trail.assign(literals[0], clause)?;
     Ok(())
 }
 
-/// The level to go back to with the words of a learned clause.
-fn level_for(trail: &Trail, words: &[u32]) -> usize
+/// The level to go back to with the literals of a learned clause.
+fn level_for(trail: &Trail, literals: &[u32]) -> usize
     requires decided { 0 < length trail.now.starts }
-    requires below { (x : ℕ) → has words.now x ≡ true → x < 2 * trail.now.vars }
-    requires learnable { (last : ℕ) → last + 1 ≡ length trail.now.starts → IsLearnable trail.now last words.now }
+    requires below { (x : ℕ) → has literals.now x ≡ true → x < 2 * trail.now.vars }
+    requires learnable { (last : ℕ) → last + 1 ≡ length trail.now.starts → IsLearnable trail.now last literals.now }
     ensures within { result < length trail.now.starts }
-    ensures short { length words.now < 2 → result ≡ 0 }
-    ensures there { 2 ≤ length words.now
-        → has (take (slice_index trail.now.starts result) trail.now.words) (opposite (slice_index words.now 1)) ≡ true }
-    ensures before { 2 ≤ length words.now → (j : ℕ) → j < result
-        → has (take (slice_index trail.now.starts j) trail.now.words) (opposite (slice_index words.now 1)) ≡ false }
+    ensures short { length literals.now < 2 → result ≡ 0 }
+    ensures there { 2 ≤ length literals.now
+        → has (take (slice_index trail.now.starts result) trail.now.literals) (opposite (slice_index literals.now 1)) ≡ true }
+    ensures before { 2 ≤ length literals.now → (j : ℕ) → j < result
+        → has (take (slice_index trail.now.starts j) trail.now.literals) (opposite (slice_index literals.now 1)) ≡ false }
 {
-    if words.len() < 2 {
+    if literals.len() < 2 {
         return 0;
     }
     let _long = trail.len();
-    level_of(trail, words[1])
+    level_of(trail, literals[1])
 }
 
-/// Goes back, and adds the words of a learned clause.
-pub(crate) fn settle(
+/// Goes back, adds the learned clause of these literals, and asserts the first of them.
+pub(crate) fn assert_learned(
     store: &mut Store,
     trail: &mut Trail,
     watches: &mut Watches,
-    words: &[u32],
+    literals: &[u32],
     _conflict: u32,
 ) -> Result<(), NoMemory>
     requires stopped { IsStopped store.old trail.old watches.old _conflict }
     requires decided { 0 < length trail.old.starts }
-    requires learnable { (last : ℕ) → last + 1 ≡ length trail.old.starts → IsLearnable trail.old last words.now }
-    ensures store { OnOk result (store.new ≡ store.old ++ words.now ∷ []) }
+    requires learnable { (last : ℕ) → last + 1 ≡ length trail.old.starts → IsLearnable trail.old last literals.now }
+    ensures store { OnOk result (store.new ≡ store.old ++ literals.now ∷ []) }
     ensures vars { OnOk result (trail.new.vars ≡ trail.old.vars) }
     ensures ready { OnOk result (IsReady store.new trail.new watches.new) }
 {
@@ -122,12 +121,12 @@ pub(crate) fn settle(
         return Err(NoMemory);
     }
     let _levels = trail.level();
-    let level = level_for(trail, words);
+    let level = level_for(trail, literals);
     trail.back(level);
-    if words.len() < 2 {
-        return learn_unit(store, trail, watches, words);
+    if literals.len() < 2 {
+        return learn_unit(store, trail, watches, literals);
     }
-    learn_long(store, trail, watches, words)
+    learn_long(store, trail, watches, literals)
 }
 
 /// Goes back ahead of all decisions, where that is due.

@@ -1,8 +1,8 @@
 //! Which literals of a learned clause are redundant: recursive clause minimization (Sörensson and Biere 2009), as in MiniSat. A
-//! literal goes where each other literal of its reason stands in the clause or goes too; its *fate* is whether it does. Reasons are
-//! gone through depth first, with a stack in place of recursion, and each fate is found once. It took a third less time on random
-//! formulas and on colouring than clauses as analysis leaves them. At most 300 looks a conflict bound the work. Nothing but the size
-//! of a learned clause depends on the plan, and it has no contract: what it names is tested when it goes (`minimize`).
+//! literal is redundant where each other literal of its reason stands in the clause or is redundant too. Reasons are gone through
+//! depth first, with a stack in place of recursion, and whether a literal is redundant is found once. It took a third less time on
+//! random formulas and on colouring than clauses as analysis leaves them. At most 300 looks a conflict bound the work. Nothing but
+//! the size of a learned clause depends on the plan, and it has no contract: what it names is tested when it goes (`minimize`).
 
 ghost use Rattle.std.specs.Prelude.{◌≡◌};
 
@@ -14,23 +14,23 @@ use std::alloc::Global;
 /// How many looks at a reason one plan takes at most.
 const PATIENCE: u32 = 300;
 
-/// What is known of a literal that is false.
+/// Whether minimization removes a literal that is false, as far as it is known.
 #[derive(Clone, Copy)]
-enum Fate {
-    Open,
+enum Redundancy {
+    Unknown,
     /// Resolving it away leaves literals of the clause alone, once those of its reason that aren't in it went too.
-    Goes,
-    Stays,
+    Redundant,
+    Needed,
 }
 
 /// A literal whose reason is gone through, from this place on.
 #[derive(Clone, Copy)]
 struct Visit {
-    word: u32,
+    literal: u32,
     next: usize,
 }
 
-/// What a plan is made for: the implication graph as the trail and the clauses have it, the marks of the clause so far, and where the
+/// What a plan is made for: the implication graph as the trail and the clauses have it, the marks of the resolvent, and where the
 /// last level begins.
 #[derive(Clone, Copy)]
 pub(crate) struct Graph<'g> {
@@ -43,17 +43,17 @@ pub(crate) struct Graph<'g> {
 /// What a look at a reason says.
 #[derive(Clone, Copy)]
 enum Look {
-    Goes,
-    Stays,
-    /// The literal at this place comes first.
-    Open(usize, u32),
+    Redundant,
+    Needed,
+    /// It isn't known before this literal of the reason, which stands at this place.
+    Unknown(usize, u32),
 }
 
-/// The fates of the variables, the literals that go, and the literals that are looked at. A literal that goes stands behind
-/// those of its reason.
+/// Of each variable whether its literal is redundant, the literals that are, and those that are looked at. A redundant literal stands
+/// behind those of its reason.
 #[derive(Drop)]
 pub(crate) struct Plan {
-    fates: Vec<Fate>,
+    redundancies: Vec<Redundancy>,
     known: Vec<u32>,
     order: Vec<u32>,
     path: Vec<Visit>,
@@ -63,15 +63,15 @@ pub(crate) struct Plan {
 impl Graph<'_> {
     /// Whether the variable of a literal is marked.
     #[inline]
-    fn is_marked(&self, word: u32) -> bool {
-        let var = (word / 2) as usize;
+    fn is_marked(&self, literal: u32) -> bool {
+        let var = (literal / 2) as usize;
         var < self.seen.len() && self.seen[var]
     }
 
     /// The clause that gave the opposite of a literal ahead of the last level.
     #[inline]
-    fn reason(&self, word: u32) -> Option<u32> {
-        self.trail.given(word, self.boundary)
+    fn reason(&self, literal: u32) -> Option<u32> {
+        self.trail.given(literal, self.boundary)
     }
 }
 
@@ -79,7 +79,7 @@ impl Plan {
     /// Nothing is known.
     pub(crate) fn new(alloc: Global, vars: usize) -> Result<Plan, NoMemory> {
         Ok(Plan {
-            fates: vec![in alloc; Fate::Open; vars]?,
+            redundancies: vec![in alloc; Redundancy::Unknown; vars]?,
             known: Vec::new(alloc),
             order: Vec::new(alloc),
             path: Vec::new(alloc),
@@ -87,104 +87,104 @@ impl Plan {
         })
     }
 
-    /// How many literals go.
+    /// How many literals are redundant.
     pub(crate) fn len(&self) -> usize {
         self.order.len()
     }
 
-    /// The next literal that goes.
+    /// The next redundant literal.
     pub(crate) fn pop(&mut self) -> Option<u32> {
         self.order.pop()
     }
 
     #[inline]
-    fn fate(&self, word: u32) -> Fate {
-        let var = (word / 2) as usize;
-        if var < self.fates.len() {
-            return self.fates[var];
+    fn redundancy(&self, literal: u32) -> Redundancy {
+        let var = (literal / 2) as usize;
+        if var < self.redundancies.len() {
+            return self.redundancies[var];
         }
-        Fate::Stays
+        Redundancy::Needed
     }
 
-    fn set_fate(&mut self, word: u32, fate: Fate)
+    fn set_redundancy(&mut self, literal: u32, redundancy: Redundancy)
         ensures { self.new.known ≡ self.old.known }
     {
-        let var = (word / 2) as usize;
-        if var >= self.fates.len() {
+        let var = (literal / 2) as usize;
+        if var >= self.redundancies.len() {
             return;
         }
-        self.fates[var] = fate;
+        self.redundancies[var] = redundancy;
     }
 
     /// Nothing is known any more.
     fn forget(&mut self) {
-        'known: while let Some(word) = self.known.pop() {
-            self.set_fate(word, Fate::Open);
+        'known: while let Some(literal) = self.known.pop() {
+            self.set_redundancy(literal, Redundancy::Unknown);
         }
         self.order.clear();
         self.patience = PATIENCE;
     }
 
-    /// Looks at a reason until a literal comes first, or one is in the way.
+    /// Looks at a reason until a literal has to be looked at first, or one is in the way.
     fn look(&self, graph: &Graph<'_>, visit: Visit) -> Look {
-        let Some(reason) = graph.reason(visit.word) else {
-            return Look::Stays;
+        let Some(reason) = graph.reason(visit.literal) else {
+            return Look::Needed;
         };
         if reason as usize >= graph.store.count() {
-            return Look::Stays;
+            return Look::Needed;
         }
         let lits = graph.store.clause(reason);
         'lits: for k in visit.next..lits.len() {
-            let word = lits[k];
-            if word / 2 == visit.word / 2 {
+            let literal = lits[k];
+            if literal / 2 == visit.literal / 2 {
                 continue;
             }
-            match self.fate(word) {
-                Fate::Goes => continue,
-                Fate::Stays => {}
-                Fate::Open => {
-                    if graph.reason(word).is_some() {
-                        return Look::Open(k, word);
+            match self.redundancy(literal) {
+                Redundancy::Redundant => continue,
+                Redundancy::Needed => {}
+                Redundancy::Unknown => {
+                    if graph.reason(literal).is_some() {
+                        return Look::Unknown(k, literal);
                     }
                 }
             }
-            if !graph.is_marked(word) {
-                return Look::Stays;
+            if !graph.is_marked(literal) {
+                return Look::Needed;
             }
         }
-        Look::Goes
+        Look::Redundant
     }
 
-    /// The fate of a literal is known.
-    fn settle(&mut self, word: u32, fate: Fate) -> Result<(), NoMemory> {
-        self.known.push(word)?;
-        self.set_fate(word, fate);
+    /// Whether a literal is redundant is known now.
+    fn conclude(&mut self, literal: u32, redundancy: Redundancy) -> Result<(), NoMemory> {
+        self.known.push(literal)?;
+        self.set_redundancy(literal, redundancy);
         Ok(())
     }
 
     /// Goes on with the last literal that is looked at.
     fn go_on(&mut self, graph: &Graph<'_>, visit: Visit) -> Result<(), NoMemory> {
         match self.look(graph, visit) {
-            Look::Goes => {
-                self.settle(visit.word, Fate::Goes)?;
-                self.order.push(visit.word)?;
+            Look::Redundant => {
+                self.conclude(visit.literal, Redundancy::Redundant)?;
+                self.order.push(visit.literal)?;
             }
-            Look::Stays => self.settle(visit.word, Fate::Stays)?,
-            Look::Open(next, word) => {
+            Look::Needed => self.conclude(visit.literal, Redundancy::Needed)?,
+            Look::Unknown(next, literal) => {
                 self.path.push(Visit {
-                    word: visit.word,
+                    literal: visit.literal,
                     next,
                 })?;
-                self.path.push(Visit { word, next: 0 })?;
+                self.path.push(Visit { literal, next: 0 })?;
             }
         }
         Ok(())
     }
 
     /// Looks at a literal, and at those that come first, while there is patience.
-    fn walk(&mut self, graph: &Graph<'_>, word: u32) -> Result<(), NoMemory> {
+    fn walk(&mut self, graph: &Graph<'_>, literal: u32) -> Result<(), NoMemory> {
         self.path.clear();
-        self.path.push(Visit { word, next: 0 })?;
+        self.path.push(Visit { literal, next: 0 })?;
         'walk: for _look in 0..self.patience {
             let Some(visit) = self.path.pop() else {
                 return Ok(());
@@ -195,15 +195,16 @@ impl Plan {
         Ok(())
     }
 
-    /// Plans which of the marked literals go that became false ahead of a place.
+    /// Finds which of the marked literals are redundant that became false ahead of a place.
     pub(crate) fn make(&mut self, graph: &Graph<'_>, marked: &[u32]) -> Result<(), NoMemory> {
         self.forget();
-        'marked: for word in marked {
-            let is_open = matches!(self.fate(*word), Fate::Open) && graph.is_marked(*word);
-            if !is_open || graph.reason(*word).is_none() {
+        'marked: for literal in marked {
+            let is_unknown = matches!(self.redundancy(*literal), Redundancy::Unknown)
+                && graph.is_marked(*literal);
+            if !is_unknown || graph.reason(*literal).is_none() {
                 continue;
             }
-            self.walk(graph, *word)?;
+            self.walk(graph, *literal)?;
         }
         Ok(())
     }

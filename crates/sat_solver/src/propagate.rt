@@ -5,16 +5,16 @@
 //! pigeons took a third less.
 
 ghost use Rattle.std.specs.Prelude.{◌≡◌, ℕ, ◌+◌, ◌*◌, ◌<◌, ◌≤◌, ◌^◌, true, false, List, [], ◌∷◌, ◌++◌, length, take, drop, None, Some, IfOk, OnOk, slice_index, slice_index_or, slice_set};
-ghost use Rattle.sat_solver.specs.Words.{opposite, has};
+ghost use Rattle.sat_solver.specs.Literals.{opposite, has};
 ghost use Rattle.sat_solver.specs.Stored.{exchanged};
 ghost use Rattle.sat_solver.specs.declared.watches.Watcher.{Watcher};
 ghost use Rattle.sat_solver.specs.Watching.{clause, IsEntry, IsSound, IsReady, Scanning, AtRest, Extends, Continues};
 ghost use Rattle.sat_solver.specs.Visits.{Forces, IsAfter, Ends};
 
+use crate::literal::opposite;
 use crate::store::Store;
 use crate::trail::Trail;
 use crate::watches::{Watcher, Watches};
-use crate::word::opposite;
 use rh_base::NoMemory;
 
 /// What becomes of a watcher.
@@ -41,8 +41,9 @@ pub(crate) struct Propagator {
 fn free_place(trail: &Trail, lits: &[u32]) -> Option<usize>
     requires { (x : ℕ) → has lits.now x ≡ true → x < 2 * trail.now.vars }
     ensures some { (k : ℕ) → result ≡ Some k → (2 ≤ k) × (k < length lits.now)
-        × (has trail.now.words (opposite (slice_index lits.now k)) ≡ false) }
-    ensures none { result ≡ None → (k : ℕ) → 2 ≤ k → k < length lits.now → has trail.now.words (opposite (slice_index lits.now k)) ≡ true }
+        × (has trail.now.literals (opposite (slice_index lits.now k)) ≡ false) }
+    ensures none { result ≡ None → (k : ℕ) → 2 ≤ k → k < length lits.now
+        → has trail.now.literals (opposite (slice_index lits.now k)) ≡ true }
 {
     for k in 2..lits.len() {
         let is_false = trail.is_false(lits[k]);
@@ -55,18 +56,18 @@ fn free_place(trail: &Trail, lits: &[u32]) -> Option<usize>
 
 /// The clause has no other literal left that can hold.
 #[inline]
-fn force(trail: &mut Trail, clause: u32, word: u32) -> Result<Visited, NoMemory>
-    requires below { word < 2 * trail.old.vars }
+fn force(trail: &mut Trail, clause: u32, literal: u32) -> Result<Visited, NoMemory>
+    requires below { literal < 2 * trail.old.vars }
     requires few { clause + 1 < 2 ^ 32 }
-    requires free { has trail.old.words word ≡ false }
-    ensures { IfOk result (λ out. Forces trail.old trail.new word (clause + 1) out) }
+    requires free { has trail.old.literals literal ≡ false }
+    ensures { IfOk result (λ out. Forces trail.old trail.new literal (clause + 1) out) }
 {
-    let is_false = trail.is_false(word);
+    let is_false = trail.is_false(literal);
     if is_false {
         return Ok(Visited::False);
     }
-    trail.assign(word, clause)?;
-    Ok(Visited::Kept(word))
+    trail.assign(literal, clause)?;
+    Ok(Visited::Kept(literal))
 }
 
 /// The watchers of a literal that became false: those ahead of `kept` stay, those from `next` on are to be visited. The
@@ -136,16 +137,24 @@ fn finish(watches: &mut Watches, scan: Scan, falsified: u32) -> Option<u32>
 impl Propagator {
     /// The clause watches its literal at place k from now on, in place of the one at a side.
     #[inline]
-    fn shift(&mut self, watcher: Watcher, side: usize, k: usize, word: u32) -> Result<(), NoMemory>
+    fn shift(
+        &mut self,
+        watcher: Watcher,
+        side: usize,
+        k: usize,
+        literal: u32,
+    ) -> Result<(), NoMemory>
         requires there { watcher.clause < length self.old.store }
         requires near { side < length (clause self.old.store watcher.clause) }
         requires far { k < length (clause self.old.store watcher.clause) }
-        requires below { word < length self.old.watches }
-        ensures store { OnOk result (self.new.store ≡ slice_set self.old.store watcher.clause (exchanged (clause self.old.store watcher.clause) side k)) }
+        requires below { literal < length self.old.watches }
+        ensures store { OnOk result (self.new.store
+            ≡ slice_set self.old.store watcher.clause (exchanged (clause self.old.store watcher.clause) side k)) }
         ensures trail { OnOk result (self.new.trail ≡ self.old.trail) }
-        ensures watches { OnOk result (self.new.watches ≡ slice_set self.old.watches word (slice_index_or self.old.watches word [] ++ watcher ∷ [])) }
+        ensures watches { OnOk result (self.new.watches
+            ≡ slice_set self.old.watches literal (slice_index_or self.old.watches literal [] ++ watcher ∷ [])) }
     {
-        self.watches.push(word, watcher)?;
+        self.watches.push(literal, watcher)?;
         self.store.exchange(watcher.clause, side, k);
         Ok(())
     }
@@ -177,12 +186,12 @@ impl Propagator {
         match free_place(&self.trail, lits) {
             None => Ok(force(&mut self.trail, watcher.clause, other)?),
             Some(k) => {
-                let word = lits[k];
+                let literal = lits[k];
                 let moved = Watcher {
                     clause: watcher.clause,
                     blocker: other,
                 };
-                self.shift(moved, side, k, word)?;
+                self.shift(moved, side, k, literal)?;
                 Ok(Visited::Gone)
             }
         }
@@ -277,7 +286,7 @@ impl Propagator {
     }
 
     /// Visits all clauses that watch a literal which became false.
-    fn propagate_word(&mut self, falsified: u32) -> Result<Option<u32>, NoMemory>
+    fn propagate_literal(&mut self, falsified: u32) -> Result<Option<u32>, NoMemory>
         requires below { falsified < length self.old.watches }
         requires scanning { Scanning self.old.store self.old.trail (slice_set self.old.watches falsified []) []
             (slice_index_or self.old.watches falsified []) falsified None }
@@ -301,11 +310,11 @@ impl Propagator {
         requires { IsReady self.old.store self.old.trail self.old.watches }
         ensures goes { OnOk result (Extends self.old.store self.old.trail self.new.store self.new.trail) }
         ensures ends { IfOk result (λ conflict. Ends self.new.store self.new.trail self.new.watches conflict) }
-        ensures rest { IfOk result (λ conflict. conflict ≡ None → AtRest self.new.store self.new.trail.words) }
-        ensures end { IfOk result (λ conflict. conflict ≡ None → self.new.trail.done ≡ length self.new.trail.words) }
+        ensures rest { IfOk result (λ conflict. conflict ≡ None → AtRest self.new.store self.new.trail.literals) }
+        ensures end { IfOk result (λ conflict. conflict ≡ None → self.new.trail.done ≡ length self.new.trail.literals) }
     {
-        'words: while let Some(word) = self.trail.next() {
-            match self.propagate_word(opposite(word))? {
+        'literals: while let Some(literal) = self.trail.next() {
+            match self.propagate_literal(opposite(literal))? {
                 Some(found) => return Ok(Some(found)),
                 None => {}
             }

@@ -6,16 +6,16 @@
 ghost use Rattle.std.specs.Prelude.{◌≡◌, ℕ, ◌+◌, ◌-◌, ◌*◌, ◌<◌, ◌≤◌, ◌^◌, true, false, [], length, IfOk, OnOk, None, Some, slice_index_or};
 ghost use Rattle.cnf.specs.Formulas.{Satisfies, valuation_of};
 ghost use Rattle.cnf.specs.Proofs.{IsAccepted};
-ghost use Rattle.sat_solver.specs.Words.{has};
+ghost use Rattle.sat_solver.specs.Literals.{has};
 ghost use Rattle.sat_solver.specs.Meaning.{IsBlank};
 ghost use Rattle.sat_solver.specs.Solving.{IsLoaded};
 ghost use Rattle.sat_solver.specs.Turning.{IsState, IsOngoing, InConflict, IsAtRest, IsUnsatisfied, Propagates, IsSameTask, IsFull, Turns, Finds};
 
 use crate::activity::Activity;
 use crate::analyze::Resolvent;
-use crate::decide::next_word;
+use crate::decide::next_literal;
 use crate::derive::{derive, refuted};
-use crate::learn::{restart, settle};
+use crate::learn::{assert_learned, restart};
 use crate::load::load;
 use crate::propagate::Propagator;
 use crate::restarts::Restarts;
@@ -66,7 +66,7 @@ fn values(alloc: Global, trail: &Trail, vars: usize) -> Result<Seq<bool>, NoMemo
     requires vars { vars ≡ trail.now.vars }
     requires small { vars ≤ 2 ^ 31 }
     ensures long { IfOk result (λ m. length m ≡ vars) }
-    ensures is { IfOk result (λ m. (i : ℕ) → i < vars → slice_index_or m i false ≡ has trail.now.words (2 * i)) }
+    ensures is { IfOk result (λ m. (i : ℕ) → i < vars → slice_index_or m i false ≡ has trail.now.literals (2 * i)) }
 {
     let mut values = Vec::new(alloc);
     'vars: for var in 0..vars {
@@ -117,7 +117,7 @@ impl<'f> Solver<'f> {
         ensures task { OnOk result (IsSameTask self.old self.new) }
         ensures propagates { IfOk result (Propagates self.new) }
         ensures steps { OnOk result (self.new.steps ≡ self.old.steps) }
-        ensures long { OnOk result (length self.old.propagator.trail.words ≤ length self.new.propagator.trail.words) }
+        ensures long { OnOk result (length self.old.propagator.trail.literals ≤ length self.new.propagator.trail.literals) }
     {
         self.propagator.propagate()
     }
@@ -130,7 +130,7 @@ impl<'f> Solver<'f> {
         ensures state { OnOk result (IsState self.new) }
         ensures more { OnOk result (length self.new.steps ≡ length self.old.steps + 1) }
     {
-        let (words, step) = derive(
+        let (literals, step) = derive(
             alloc,
             &mut self.resolvent,
             &self.propagator.store,
@@ -138,11 +138,11 @@ impl<'f> Solver<'f> {
             &self.propagator.watches,
             conflict,
         )?;
-        settle(
+        assert_learned(
             &mut self.propagator.store,
             &mut self.propagator.trail,
             &mut self.propagator.watches,
-            &words,
+            &literals,
             conflict,
         )?;
         self.steps.push(step)?;
@@ -228,13 +228,14 @@ impl<'f> Solver<'f> {
         ensures task { OnOk result (IsSameTask self.old self.new) }
         ensures steps { OnOk result (self.new.steps ≡ self.old.steps) }
         ensures state { OnOk result (IsState self.new) }
-        ensures more { IfOk result (λ b. b ≡ true → length self.new.propagator.trail.words ≡ length self.old.propagator.trail.words + 1) }
+        ensures more { IfOk result (λ b. b ≡ true
+            → length self.new.propagator.trail.literals ≡ length self.old.propagator.trail.literals + 1) }
         ensures full { IfOk result (λ b. b ≡ false → IsAtRest self.new × IsFull self.new.propagator.trail) }
     {
         let vars = self.formula.vars() as usize;
-        match next_word(&self.propagator.trail, vars, &mut self.activity) {
-            Some(word) => {
-                self.propagator.trail.decide(word)?;
+        match next_literal(&self.propagator.trail, vars, &mut self.activity) {
+            Some(literal) => {
+                self.propagator.trail.decide(literal)?;
                 Ok(true)
             }
             None => Ok(false),

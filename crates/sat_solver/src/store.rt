@@ -1,4 +1,4 @@
-//! The clause database: the clauses of the formula and behind them those that were learned, in one array of 32-bit words. A clause is
+//! The clause database: the clauses of the formula and behind them those that were learned, in one array of literals. A clause is
 //! named by its index here, which is one less than its number in the log; its first two literals are the watched ones. No clause is
 //! ever deleted, since later steps of the log may name it.
 
@@ -9,10 +9,10 @@ use rh_base::NoMemory;
 use std::alloc::Global;
 use std::marker::Model;
 
-/// Clauses as words, one behind the other. The place where each begins, and at last where all end.
+/// Clauses as literals, one behind the other. The place where each begins, and at last where all end.
 #[derive(Drop)]
 pub(crate) struct Store {
-    words: Vec<u32>,
+    literals: Vec<u32>,
     starts: Vec<u32>,
 }
 
@@ -22,9 +22,9 @@ impl Model for Store {
 
     ghost Value = { List (List ℕ) };
 
-    ghost view = { λ s. clauses_of s.words.items s.starts.items };
+    ghost view = { λ s. clauses_of s.literals.items s.starts.items };
 
-    ghost invariant = { λ s. IsStored s.words.items s.starts.items };
+    ghost invariant = { λ s. IsStored s.literals.items s.starts.items };
 }
 
 /// Where a clause begins and ends.
@@ -37,28 +37,28 @@ fn bounds(starts: &[u32], n: usize) -> (usize, usize)
     (starts[n] as usize, starts[n + 1] as usize)
 }
 
-/// The words from one place to another.
+/// The literals from one place to another.
 #[inline]
-fn part(words: &[u32], start: usize, end: usize) -> &[u32]
+fn part(literals: &[u32], start: usize, end: usize) -> &[u32]
     requires low { start ≤ end }
-    requires high { end ≤ length words.now }
-    ensures { result.now ≡ slice_range words.now start end }
+    requires high { end ≤ length literals.now }
+    ensures { result.now ≡ slice_range literals.now start end }
 {
-    &words[start..end]
+    &literals[start..end]
 }
 
-/// Exchanges two words, which are counted from a place.
+/// Exchanges two literals, which are counted from a place.
 #[inline]
-fn exchange_words(words: &mut Vec<u32>, start: usize, j: usize, k: usize)
-    requires first { start + j < length words.old.items }
-    requires second { start + k < length words.old.items }
-    ensures { words.new.items ≡ slice_set
-        (slice_set words.old.items (start + j) (slice_index words.old.items (start + k))) (start + k)
-        (slice_index words.old.items (start + j)) }
+fn exchange_literals(literals: &mut Vec<u32>, start: usize, j: usize, k: usize)
+    requires first { start + j < length literals.old.items }
+    requires second { start + k < length literals.old.items }
+    ensures { literals.new.items ≡ slice_set
+        (slice_set literals.old.items (start + j) (slice_index literals.old.items (start + k))) (start + k)
+        (slice_index literals.old.items (start + j)) }
 {
-    let word = words[start + j];
-    words[start + j] = words[start + k];
-    words[start + k] = word;
+    let literal = literals[start + j];
+    literals[start + j] = literals[start + k];
+    literals[start + k] = literal;
 }
 
 impl Store {
@@ -68,7 +68,7 @@ impl Store {
         ensures { IfOk result (λ s. s ≡ []) }
     {
         Ok(Store {
-            words: Vec::new(alloc),
+            literals: Vec::new(alloc),
             starts: vec![in alloc; 0]?,
         })
     }
@@ -83,7 +83,7 @@ impl Store {
         self.starts.len() - 1
     }
 
-    /// The words of a clause.
+    /// The literals of a clause.
     #[inline]
     #[tactic(auto, using(crate::proofs::Ranges::bounds, crate::proofs::Ranges::at))]
     pub(crate) fn clause(&self, n: u32) -> &[u32]
@@ -91,10 +91,10 @@ impl Store {
         ensures { result.now ≡ slice_index_or self.now n [] }
     {
         let (start, end) = bounds(&self.starts, n as usize);
-        part(&self.words, start, end)
+        part(&self.literals, start, end)
     }
 
-    /// Exchanges two words of a clause.
+    /// Exchanges two literals of a clause.
     #[inline]
     #[tactic(auto, using(crate::proofs::Ranges::bounds, crate::proofs::Ranges::length_at, crate::proofs::Ranges::written_twice))]
     pub(crate) fn exchange(&mut self, n: u32, j: usize, k: usize)
@@ -104,7 +104,7 @@ impl Store {
         ensures { self.new ≡ slice_set self.old n (exchanged (slice_index_or self.old n []) j k) }
     {
         let (start, _) = bounds(&self.starts, n as usize);
-        exchange_words(&mut self.words, start, j, k);
+        exchange_literals(&mut self.literals, start, j, k);
     }
 
     /// One more clause.
@@ -112,12 +112,12 @@ impl Store {
     pub(crate) fn push(&mut self, lits: &[u32]) -> Result<(), NoMemory>
         ensures { OnOk result (self.new ≡ self.old ++ lits.now ∷ []) }
     {
-        let before = self.words.len();
-        self.words.extend_from_slice(lits)?;
-        let end = self.words.len();
+        let before = self.literals.len();
+        self.literals.extend_from_slice(lits)?;
+        let end = self.literals.len();
         let full = end > u32::MAX as usize || self.starts.len() > u32::MAX as usize;
         if full || self.starts.push(end as u32).is_err() {
-            self.words.truncate(before);
+            self.literals.truncate(before);
             return Err(NoMemory);
         }
         Ok(())

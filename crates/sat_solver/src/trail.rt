@@ -5,12 +5,12 @@
 //! for a decision; who asks for one gets the clause or none.
 
 ghost use Rattle.std.specs.Prelude.{◌≡◌, ℕ, ◌+◌, ◌*◌, ◌/◌, ◌<◌, ◌≤◌, ◌^◌, true, false, [], ◌∷◌, ◌++◌, length, drop, not, ◌&&◌, IfOk, OnOk, OnErr, None, Some, slice_index, slice_index_or};
-ghost use Rattle.sat_solver.specs.Words.{opposite, has};
+ghost use Rattle.sat_solver.specs.Literals.{opposite, has};
 ghost use Rattle.sat_solver.specs.Resolving.{IsApart};
 ghost use Rattle.sat_solver.specs.Watching.{back_to};
 ghost use Rattle.sat_solver.specs.Trails.{Rising};
 
-use crate::word::opposite;
+use crate::literal::opposite;
 use rh_base::NoMemory;
 use std::alloc::Global;
 use std::marker::Model;
@@ -20,7 +20,7 @@ use std::marker::Model;
 pub(crate) struct Trail {
     holds: Vec<bool>,
     places: Vec<u32>,
-    words: Vec<u32>,
+    literals: Vec<u32>,
     reasons: Vec<u32>,
     starts: Vec<u32>,
     done: usize,
@@ -33,9 +33,9 @@ impl Model for Trail {
 
     ghost Value = { Way };
 
-    ghost view = { λ t. way t.places.items t.words.items t.reasons.items t.starts.items t.done };
+    ghost view = { λ t. way t.places.items t.literals.items t.reasons.items t.starts.items t.done };
 
-    ghost invariant = { λ t. IsKept t.holds.items t.places.items t.words.items t.reasons.items t.starts.items t.done };
+    ghost invariant = { λ t. IsKept t.holds.items t.places.items t.literals.items t.reasons.items t.starts.items t.done };
 }
 
 /// The place of a variable.
@@ -48,53 +48,54 @@ fn place_of(places: &[u32], var: usize) -> u32
 }
 
 /// The literals from a place on.
-fn behind(words: &[u32], start: usize) -> &[u32]
-    requires { start ≤ length words.now }
-    ensures { result.now ≡ drop start words.now }
+fn behind(literals: &[u32], start: usize) -> &[u32]
+    requires { start ≤ length literals.now }
+    ensures { result.now ≡ drop start literals.now }
 {
-    &words[start..]
+    &literals[start..]
 }
 
 /// Appends these literals, as long as there is memory.
-fn keep(dropped: &mut Vec<u32>, words: &[u32]) {
-    match dropped.extend_from_slice(words) {
+fn keep(dropped: &mut Vec<u32>, literals: &[u32]) {
+    match dropped.extend_from_slice(literals) {
         Ok(()) | Err(_) => {}
     }
 }
 
 /// Takes the marks of these literals away.
-fn unmark(holds: &mut Vec<bool>, words: &[u32])
-    requires { (p : ℕ) → p < length words.now → slice_index words.now p < length holds.old.items }
+fn unmark(holds: &mut Vec<bool>, literals: &[u32])
+    requires { (p : ℕ) → p < length literals.now → slice_index literals.now p < length holds.old.items }
     ensures long { length holds.new.items ≡ length holds.old.items }
-    ensures marks { (w : ℕ) → slice_index_or holds.new.items w false ≡ (slice_index_or holds.old.items w false && not (has words.now w)) }
+    ensures marks { (w : ℕ) → slice_index_or holds.new.items w false
+        ≡ (slice_index_or holds.old.items w false && not (has literals.now w)) }
 {
-    for word in words {
-        holds[*word as usize] = false;
+    for literal in literals {
+        holds[*literal as usize] = false;
     }
 }
 
 /// Appends to both, or leaves both as they are.
 #[inline]
 fn push_both(
-    words: &mut Vec<u32>,
+    literals: &mut Vec<u32>,
     reasons: &mut Vec<u32>,
-    word: u32,
+    literal: u32,
     reason: u32,
 ) -> Result<usize, NoMemory>
-    ensures place { IfOk result (λ p. p ≡ length words.old.items) }
+    ensures place { IfOk result (λ p. p ≡ length literals.old.items) }
     ensures few { IfOk result (λ p. p + 1 < 2 ^ 32) }
-    ensures words { OnOk result (words.new.items ≡ words.old.items ++ word ∷ []) }
+    ensures literals { OnOk result (literals.new.items ≡ literals.old.items ++ literal ∷ []) }
     ensures reasons { OnOk result (reasons.new.items ≡ reasons.old.items ++ reason ∷ []) }
-    ensures words_err { OnErr result (words.new.items ≡ words.old.items) }
+    ensures literals_err { OnErr result (literals.new.items ≡ literals.old.items) }
     ensures reasons_err { OnErr result (reasons.new.items ≡ reasons.old.items) }
 {
-    let before = words.len();
+    let before = literals.len();
     if before >= u32::MAX as usize {
         return Err(NoMemory);
     }
-    words.push(word)?;
+    literals.push(literal)?;
     if reasons.push(reason).is_err() {
-        words.truncate(before);
+        literals.truncate(before);
         return Err(NoMemory);
     }
     Ok(before)
@@ -107,12 +108,12 @@ impl Trail {
     #[tactic(auto, using(crate::proofs::Marks::kept_none))]
     pub(crate) fn new(alloc: Global, vars: usize) -> Result<Trail, NoMemory>
         requires { vars ≤ 2 ^ 31 }
-        ensures { IfOk result (λ t. t ≡ record { vars = vars; words = []; reasons = []; starts = []; done = 0 }) }
+        ensures { IfOk result (λ t. t ≡ record { vars = vars; literals = []; reasons = []; starts = []; done = 0 }) }
     {
         Ok(Trail {
             holds: vec![in alloc; false; 2 * vars]?,
             places: vec![in alloc; 0; vars]?,
-            words: Vec::new(alloc),
+            literals: Vec::new(alloc),
             reasons: Vec::new(alloc),
             starts: Vec::new(alloc),
             done: 0,
@@ -122,89 +123,95 @@ impl Trail {
 
     /// Whether a literal holds.
     #[inline(always)]
-    pub(crate) fn holds(&self, word: u32) -> bool
-        requires { word < 2 * self.now.vars }
-        ensures { result ≡ has self.now.words word }
+    pub(crate) fn holds(&self, literal: u32) -> bool
+        requires { literal < 2 * self.now.vars }
+        ensures { result ≡ has self.now.literals literal }
     {
-        self.holds[word as usize]
+        self.holds[literal as usize]
     }
 
     /// Whether the opposite of a literal holds.
     #[inline(always)]
     #[tactic(auto, using(crate::proofs::Marks::opposite_below))]
-    pub(crate) fn is_false(&self, word: u32) -> bool
-        requires { word < 2 * self.now.vars }
-        ensures { result ≡ has self.now.words (opposite word) }
+    pub(crate) fn is_false(&self, literal: u32) -> bool
+        requires { literal < 2 * self.now.vars }
+        ensures { result ≡ has self.now.literals (opposite literal) }
     {
-        self.holds(opposite(word))
+        self.holds(opposite(literal))
     }
 
     /// One more literal, with the number of its reason, or 0.
     #[inline]
-    fn set(&mut self, word: u32, number: u32) -> Result<(), NoMemory>
-        requires below { word < 2 * self.old.vars }
-        requires free { has self.old.words word ≡ false }
-        requires open { has self.old.words (opposite word) ≡ false }
+    fn set(&mut self, literal: u32, number: u32) -> Result<(), NoMemory>
+        requires below { literal < 2 * self.old.vars }
+        requires free { has self.old.literals literal ≡ false }
+        requires open { has self.old.literals (opposite literal) ≡ false }
         ensures ok { OnOk result
             (self.new ≡ record {
               vars = self.old.vars;
-              words = self.old.words ++ word ∷ [];
+              literals = self.old.literals ++ literal ∷ [];
               reasons = self.old.reasons ++ number ∷ [];
               starts = self.old.starts;
               done = self.old.done;
             }) }
     {
-        let place = push_both(&mut self.words, &mut self.reasons, word, number)?;
-        self.holds[word as usize] = true;
-        self.places[(word / 2) as usize] = place as u32;
+        let place = push_both(&mut self.literals, &mut self.reasons, literal, number)?;
+        self.holds[literal as usize] = true;
+        self.places[(literal / 2) as usize] = place as u32;
         Ok(())
     }
 
     /// One more literal, which a clause gave.
     #[inline]
-    pub(crate) fn assign(&mut self, word: u32, clause: u32) -> Result<(), NoMemory>
-        requires below { word < 2 * self.old.vars }
+    pub(crate) fn assign(&mut self, literal: u32, clause: u32) -> Result<(), NoMemory>
+        requires below { literal < 2 * self.old.vars }
         requires few { clause + 1 < 2 ^ 32 }
-        requires free { has self.old.words word ≡ false }
-        requires open { has self.old.words (opposite word) ≡ false }
+        requires free { has self.old.literals literal ≡ false }
+        requires open { has self.old.literals (opposite literal) ≡ false }
         ensures ok { OnOk result
             (self.new ≡ record {
               vars = self.old.vars;
-              words = self.old.words ++ word ∷ [];
+              literals = self.old.literals ++ literal ∷ [];
               reasons = self.old.reasons ++ (clause + 1) ∷ [];
               starts = self.old.starts;
               done = self.old.done;
             }) }
     {
-        self.set(word, clause + 1)
+        self.set(literal, clause + 1)
     }
 
     /// The next literal that is to be propagated.
     #[inline]
     pub(crate) fn next(&mut self) -> Option<u32>
-        ensures none { result ≡ None → (self.new ≡ self.old) × (self.old.done ≡ length self.old.words) }
-        ensures few { length self.old.words < 2 ^ 32 }
-        ensures some { (w : ℕ) → result ≡ Some w → (self.old.done < length self.old.words)
-            × (w ≡ slice_index self.old.words self.old.done)
-            × (self.new ≡ record { vars = self.old.vars; words = self.old.words; reasons = self.old.reasons; starts = self.old.starts; done = self.old.done + 1 }) }
+        ensures none { result ≡ None → (self.new ≡ self.old) × (self.old.done ≡ length self.old.literals) }
+        ensures few { length self.old.literals < 2 ^ 32 }
+        ensures some { (w : ℕ) → result ≡ Some w → (self.old.done < length self.old.literals)
+            × (w ≡ slice_index self.old.literals self.old.done)
+            × (self.new ≡ record {
+              vars = self.old.vars;
+              literals = self.old.literals;
+              reasons = self.old.reasons;
+              starts = self.old.starts;
+              done = self.old.done + 1;
+            }) }
     {
-        if self.done == self.words.len() {
+        if self.done == self.literals.len() {
             return None;
         }
-        let word = self.words[self.done];
+        let literal = self.literals[self.done];
         self.done += 1;
-        Some(word)
+        Some(literal)
     }
 
     /// The number of literals that hold.
     #[inline]
     #[tactic(auto, using(crate::proofs::Marks::apart))]
     pub(crate) fn len(&self) -> usize
-        ensures count { result ≡ length self.now.words }
-        ensures few { length self.now.words < 2 ^ 32 }
-        ensures apart { IsApart self.now.words }
+        ensures count { result ≡ length self.now.literals }
+        ensures few { length self.now.literals < 2 ^ 32 }
+        ensures apart { IsApart self.now.literals }
     {
-        self.words.len()
+        self.literals.len()
     }
 
     /// The literals that going back has dropped.
@@ -223,7 +230,7 @@ impl Trail {
     #[inline]
     pub(crate) fn level(&self) -> usize
         ensures count { result ≡ length self.now.starts }
-        ensures rising { Rising self.now.starts (length self.now.words) }
+        ensures rising { Rising self.now.starts (length self.now.literals) }
     {
         self.starts.len()
     }
@@ -239,11 +246,11 @@ impl Trail {
 
     /// The literal at a place.
     #[inline]
-    pub(crate) fn word(&self, place: usize) -> u32
-        requires { place < length self.now.words }
-        ensures { result ≡ slice_index self.now.words place }
+    pub(crate) fn literal(&self, place: usize) -> u32
+        requires { place < length self.now.literals }
+        ensures { result ≡ slice_index self.now.literals place }
     {
-        self.words[place]
+        self.literals[place]
     }
 
     /// The clause that gave the literal at a place; none gave a decision.
@@ -264,26 +271,26 @@ impl Trail {
     /// Where the opposite of a literal stands.
     #[inline]
     #[tactic(auto, using(crate::proofs::Marks::place_is))]
-    pub(crate) fn place(&self, word: u32) -> usize
-        requires below { word < 2 * self.now.vars }
-        requires is_false { has self.now.words (opposite word) ≡ true }
-        ensures within { result < length self.now.words }
-        ensures there { slice_index self.now.words result ≡ opposite word }
+    pub(crate) fn place(&self, literal: u32) -> usize
+        requires below { literal < 2 * self.now.vars }
+        requires is_false { has self.now.literals (opposite literal) ≡ true }
+        ensures within { result < length self.now.literals }
+        ensures there { slice_index self.now.literals result ≡ opposite literal }
     {
-        place_of(&self.places, (word / 2) as usize) as usize
+        place_of(&self.places, (literal / 2) as usize) as usize
     }
 
     /// Where the opposite of a literal may stand, if it does so ahead of a place.
     #[inline]
-    pub(crate) fn place_ahead(&self, word: u32, end: usize) -> Option<usize>
-        ensures { (p : ℕ) → result ≡ Some p → (p < length self.now.words) × (p < length self.now.reasons) × (p < end) }
+    pub(crate) fn place_ahead(&self, literal: u32, end: usize) -> Option<usize>
+        ensures { (p : ℕ) → result ≡ Some p → (p < length self.now.literals) × (p < length self.now.reasons) × (p < end) }
     {
-        let var = (word / 2) as usize;
+        let var = (literal / 2) as usize;
         if var >= self.places.len() {
             return None;
         }
         let place = self.places[var] as usize;
-        if place >= end || place >= self.words.len() {
+        if place >= end || place >= self.literals.len() {
             return None;
         }
         Some(place)
@@ -292,8 +299,8 @@ impl Trail {
     /// The clause that gave the opposite of a literal, where that stands ahead of a place. Only the size of learned clauses depends
     /// on it.
     #[inline]
-    pub(crate) fn given(&self, word: u32, end: usize) -> Option<u32> {
-        match self.place_ahead(word, end) {
+    pub(crate) fn given(&self, literal: u32, end: usize) -> Option<u32> {
+        match self.place_ahead(literal, end) {
             Some(place) => self.reason(place),
             None => None,
         }
@@ -305,41 +312,47 @@ impl Trail {
         ensures { self.new ≡ back_to self.old level }
     {
         let start = place_of(&self.starts, level) as usize;
-        unmark(&mut self.holds, behind(&self.words, start));
-        keep(&mut self.dropped, behind(&self.words, start));
-        self.words.truncate(start);
+        unmark(&mut self.holds, behind(&self.literals, start));
+        keep(&mut self.dropped, behind(&self.literals, start));
+        self.literals.truncate(start);
         self.reasons.truncate(start);
         self.starts.truncate(level);
         self.done = start;
     }
 
     /// A new level, which begins with this literal.
-    pub(crate) fn decide(&mut self, word: u32) -> Result<(), NoMemory>
-        requires below { word < 2 * self.old.vars }
-        requires free { has self.old.words word ≡ false }
-        requires unset { has self.old.words (opposite word) ≡ false }
+    pub(crate) fn decide(&mut self, literal: u32) -> Result<(), NoMemory>
+        requires below { literal < 2 * self.old.vars }
+        requires free { has self.old.literals literal ≡ false }
+        requires unset { has self.old.literals (opposite literal) ≡ false }
         ensures ok { OnOk result
             (self.new ≡ record {
               vars = self.old.vars;
-              words = self.old.words ++ word ∷ [];
+              literals = self.old.literals ++ literal ∷ [];
               reasons = self.old.reasons ++ 0 ∷ [];
-              starts = self.old.starts ++ length self.old.words ∷ [];
+              starts = self.old.starts ++ length self.old.literals ∷ [];
               done = self.old.done;
             }) }
     {
         let place = self.len();
         let _levels = self.level();
-        self.set(word, 0)?;
+        self.set(literal, 0)?;
         self.open_level(place)
     }
 
     /// A new level, which begins at the last place.
     fn open_level(&mut self, place: usize) -> Result<(), NoMemory>
-        requires place { place + 1 ≡ length self.old.words }
+        requires place { place + 1 ≡ length self.old.literals }
         requires few { place < 2 ^ 32 }
         requires last { (k : ℕ) → k < length self.old.starts → slice_index self.old.starts k < place }
         ensures ok { OnOk result
-            (self.new ≡ record { vars = self.old.vars; words = self.old.words; reasons = self.old.reasons; starts = self.old.starts ++ place ∷ []; done = self.old.done }) }
+            (self.new ≡ record {
+              vars = self.old.vars;
+              literals = self.old.literals;
+              reasons = self.old.reasons;
+              starts = self.old.starts ++ place ∷ [];
+              done = self.old.done;
+            }) }
     {
         self.starts.push(place as u32)?;
         Ok(())

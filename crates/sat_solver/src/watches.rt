@@ -17,7 +17,7 @@ pub(crate) struct Watcher {
     pub blocker: u32,
 }
 
-/// For each word the clauses that watch it.
+/// For each literal the clauses that watch it.
 #[derive(Drop)]
 pub(crate) struct Watches {
     lists: Vec<Seq<Watcher>>,
@@ -33,45 +33,45 @@ impl Model for Watches {
 }
 
 impl Watches {
-    /// No clause watches any of these words.
-    pub(crate) fn new(alloc: Global, words: usize) -> Result<Watches, NoMemory>
-        ensures long { IfOk result (λ w. length w ≡ words) }
+    /// No clause watches any of these literals.
+    pub(crate) fn new(alloc: Global, literals: usize) -> Result<Watches, NoMemory>
+        ensures long { IfOk result (λ w. length w ≡ literals) }
         ensures none { IfOk result (λ w. (x : ℕ) → slice_index_or w x [] ≡ []) }
     {
         let mut lists = Vec::new(alloc);
-        'words: for _word in 0..words {
+        'literals: for _literal in 0..literals {
             lists.push(Seq::new(alloc))?;
         }
         Ok(Watches { lists })
     }
 
-    /// Takes the list of a word, which is empty then.
+    /// Takes the list of a literal, which is empty then.
     #[inline]
-    pub(crate) fn take(&mut self, word: u32) -> Vec<Watcher>
-        requires { word < length self.old }
-        ensures list { result.items ≡ slice_index_or self.old word [] }
-        ensures rest { self.new ≡ slice_set self.old word [] }
+    pub(crate) fn take(&mut self, literal: u32) -> Vec<Watcher>
+        requires { literal < length self.old }
+        ensures list { result.items ≡ slice_index_or self.old literal [] }
+        ensures rest { self.new ≡ slice_set self.old literal [] }
     {
         let alloc = *self.lists.allocator();
-        mem::replace(&mut self.lists[word as usize], Seq::new(alloc)).into_vec()
+        mem::replace(&mut self.lists[literal as usize], Seq::new(alloc)).into_vec()
     }
 
-    /// Gives the list of a word.
+    /// Gives the list of a literal.
     #[inline]
-    pub(crate) fn put(&mut self, word: u32, list: Vec<Watcher>)
-        requires { word < length self.old }
-        ensures { self.new ≡ slice_set self.old word list.items }
+    pub(crate) fn put(&mut self, literal: u32, list: Vec<Watcher>)
+        requires { literal < length self.old }
+        ensures { self.new ≡ slice_set self.old literal list.items }
     {
-        self.lists[word as usize] = Seq::from_vec(list);
+        self.lists[literal as usize] = Seq::from_vec(list);
     }
 
-    /// One more clause that watches a word.
+    /// One more clause that watches a literal.
     #[inline]
-    pub(crate) fn push(&mut self, word: u32, watcher: Watcher) -> Result<(), NoMemory>
-        requires { word < length self.old }
-        ensures ok { OnOk result (self.new ≡ slice_set self.old word (slice_index_or self.old word [] ++ watcher ∷ [])) }
+    pub(crate) fn push(&mut self, literal: u32, watcher: Watcher) -> Result<(), NoMemory>
+        requires { literal < length self.old }
+        ensures ok { OnOk result (self.new ≡ slice_set self.old literal (slice_index_or self.old literal [] ++ watcher ∷ [])) }
         ensures err { OnErr result (self.new ≡ self.old) }
     {
-        self.lists[word as usize].push(watcher)
+        self.lists[literal as usize].push(watcher)
     }
 }

@@ -17,6 +17,7 @@ use finite_domain::{domains, witnesses_over_the_domain};
 use fs_lang::Program;
 use fs_semantics::{constructs, counterexamples};
 use order_encode::{Question, Witness, ask_twice};
+use order_extensions::has_first_extension;
 use orders::Order;
 use path_domain::domain;
 use rh_base::{NoMemory, Seq};
@@ -36,8 +37,7 @@ fn second_question(alloc: Global, programs: &[Program], order: &Order) -> Result
     domains();
     witnesses_over_the_domain();
     are_proper(programs);
-    // Only that there is one: it stands for all orders.
-    let _first = order.first_extension()?;
+    has_first_extension(order);
     let d = domain(alloc, programs)?;
     let posed = ask_twice(alloc, programs, order, &d)?;
     Ok(posed)

@@ -15,6 +15,7 @@ use answering::{Answer, answer_to};
 use finite_domain::{domains, shadows};
 use fs_lang::Program;
 use order_encode::{Question, Witness, ask_some};
+use order_extensions::has_first_extension;
 use orders::Order;
 use path_domain::domain;
 use rh_base::NoMemory;
@@ -32,8 +33,7 @@ fn end_question(alloc: Global, programs: &[Program], order: &Order) -> Result<Qu
 {
     domains();
     shadows();
-    // Only that there is one: it stands for all orders.
-    let _first = order.first_extension()?;
+    has_first_extension(order);
     let d = domain(alloc, programs)?;
     let posed = ask_some(alloc, programs, order, &d)?;
     Ok(posed)

@@ -4,7 +4,7 @@ use std::test::Fail;
 
 #[test]
 fn operators_go_by_their_tables(rt: HostRuntime) -> Result<(), Fail> {
-    let rows: [(&str, &str); 36] = [
+    let rows: [(&str, &str); 38] = [
         ("$r = 'bc' in 'aBCd'", "truth true"),
         ("$r = 'bd' in 'aBCd'", "truth false"),
         ("$r = '' in ''", "truth true"),
@@ -37,6 +37,8 @@ fn operators_go_by_their_tables(rt: HostRuntime) -> Result<(), Fail> {
         ("$r = 1 + 'a'", "29 at 5: operand"),
         ("$r = (1) + 'a'", "29 at 5: operand"),
         ("$r = [1, 2] + [1, 2]", "list [1, 2, 1, 2]"),
+        ("$a = [1] $b = $a + [2] $r = $a", "list [1]"),
+        ("$a = [1] $b = $a + [2] $r = $a + $b", "list [1, 1, 2]"),
         (
             "$r = {'a' => 1, 'b' => true} + {'a' => 3, 'c' => undef}",
             "map {a => 3, b => true, c => }",

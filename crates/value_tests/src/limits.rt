@@ -64,7 +64,7 @@ fn list_of(alloc: Global, bytes: usize) -> Result<Value, Fail> {
     let text = "x".repeat(alloc, bytes)?;
     let mut items = Seq::new(alloc);
     items.push(Value::Str(Text::from_string(text)))?;
-    Ok(Value::List(items))
+    Ok(Value::list(alloc, items)?)
 }
 
 /// The size of such a list joined with itself.

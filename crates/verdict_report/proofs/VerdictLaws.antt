@@ -35,7 +35,9 @@ use Rattle.given_verdict.specs.Verdicts.{IsSpentOnFrom, IsKnownBeforeFrom, IsOrd
 use Rattle.given_verdict.specs.Answers.{IsVerdictFrom}
 use Rattle.verdict_report.specs.declared.report.Form.{Form}
 use Rattle.verdict_report.specs.declared.report.Report.{Report}
-use Rattle.verdict_report.specs.Told.{AreThreeProofs, IsSure, IsDifferent, IsChanged, IsUnanswered, IsTold, IsReportOf, HasOrders, HasTurns, IsTellable}
+use Rattle.verdict_report.specs.Lines.{succeeds_line, fails_line, lines_of}
+use Rattle.verdict_report.specs.Told.{AreThreeProofs, IsText, IsSure, IsDifferent, IsChanged, IsUnanswered, IsTold, IsReportOf, HasOrders, HasTurns, IsTellable}
+use Rattle.verdict_report.proofs.TrimmedLaws.{HaveFormulasOf, told_text, none_left, last_left}
 
 -- conflicts that are spent are given
 given_some : (given : Option ℕ) → (budget_of given ≡ 2 ^ 64 - 1 → ⊥) → (c : ℕ) × (given ≡ Some c)
@@ -114,6 +116,46 @@ module _ (given : List Path) (es : List Program) (order : Relation) where
   tellable n is budget (verdict.Judged k s (second.Differs w) e) said = tellable_turns n is w said.changed
   tellable n is budget (verdict.Spent k a cnf log proofs) said = tt
 
+module _ (given : List Path) (es : List Program) (order : Relation) where
+  -- ---- refutations of the same formulas say the same
+
+  -- of the first question
+  same_order_proof : (refuted left : List Refutation) → HaveFormulasOf refuted left → IsOrderProofFrom given es order refuted → IsOrderProofFrom given es order left
+  same_order_proof [] [] same is = is
+  same_order_proof [] (q ∷ left) same is = absurd same
+  same_order_proof (p ∷ refuted) [] same is = absurd same
+  same_order_proof (p ∷ refuted) (q ∷ left) same is = (subst (IsProofFrom given es order) (sym same.0) is.0, none_left refuted left same.1 is.1)
+
+  -- of the first two
+  same_two_proofs : (refuted left : List Refutation) → HaveFormulasOf refuted left → AreTwoProofsFrom given es order refuted → AreTwoProofsFrom given es order left
+  same_two_proofs refuted left same is =
+      let parts = last_left is.front is.last left (subst (λ ps. HaveFormulasOf ps left) is.are same) in
+      record {
+        front = parts.0;
+        last = parts.1;
+        are = parts.2;
+        first = same_order_proof is.front parts.0 parts.3 is.first;
+        second = subst (IsSecondProofFrom given es order) (sym parts.4) is.second;
+      }
+
+  -- of all three
+  same_three_proofs : (refuted left : List Refutation) → HaveFormulasOf refuted left → AreThreeProofs given es order refuted → AreThreeProofs given es order left
+  same_three_proofs refuted left same is =
+      let parts = last_left is.front is.last left (subst (λ ps. HaveFormulasOf ps left) is.are same) in
+      record {
+        front = parts.0;
+        last = parts.1;
+        are = parts.2;
+        first_two = same_two_proofs is.front parts.0 parts.3 is.first_two;
+        third = subst (IsEndProofFrom given es order) (sym parts.4) is.third;
+      }
+
+  -- of those that were asked before
+  same_proofs_before : (a : Asked) (refuted left : List Refutation) → HaveFormulasOf refuted left → AreProofsBeforeFrom given es order a refuted → AreProofsBeforeFrom given es order a left
+  same_proofs_before asked.Deterministic refuted left same is = none_left refuted left same is
+  same_proofs_before asked.Idempotent refuted left same is = same_order_proof refuted left same is
+  same_proofs_before asked.Succeeds refuted left same is = same_two_proofs refuted left same is
+
 module _ (f : Form) (terms : Terms) (notes : List ℕ) (names : List (List ℕ)) (es : List Program) (order : Relation) (budget : ℕ) where
   -- ---- the four answers
 
@@ -121,7 +163,17 @@ module _ (f : Form) (terms : Terms) (notes : List ℕ) (names : List (List ℕ))
   tells_different : (k : ℕ) (w : Witness) (report : Report) → IsDifferenceFrom terms.given es (Comes order) w
       → IsReportOf f notes names es budget (verdict.NotDeterministic k w) report → IsDifferent f terms notes names es order k report
   tells_different k (witness.Orders t left right) report shown is =
-      record { status = is.status; tree = t; left = left; right = right; counterexample = shown.0; exchange = shown.1; text = is.text }
+      let lines = lines_of names es notes budget (verdict.NotDeterministic k (witness.Orders t left right)) in
+      let told = told_text f lines [] report.text is.text in
+      record {
+        status = is.status;
+        tree = t;
+        left = left;
+        right = right;
+        counterexample = shown.0;
+        exchange = shown.1;
+        text = subst (λ ps. IsText f lines ps report.text) (none_left [] told.0 told.1 refl) told.2;
+      }
   tells_different k (witness.Twice t turns) report shown is = absurd shown
   tells_different k (witness.Ends t turns) report shown is = absurd shown
 
@@ -130,17 +182,19 @@ module _ (f : Form) (terms : Terms) (notes : List ℕ) (names : List (List ℕ))
       → IsOrderProofFrom terms.given es order (proofs_in s) → IsChangeFrom terms.given es order w → IsReportOf f notes names es budget (verdict.Judged k s (second.Differs w) e) report
       → IsChanged f terms notes names es order k report
   tells_changed k s (witness.Orders t left right) e report same refuted shown is = absurd shown
-  tells_changed k s (witness.Twice t turns) e report same refuted shown is = record {
-    status = is.status;
-    deterministic = same;
-    tree = t;
-    turns = turns;
-    counterexample = shown.0;
-    succeeds = succeeds_first terms.given es order t turns shown.0;
-    proofs = proofs_in s ++ [];
-    refuted = order_proof_alone terms.given es order s refuted;
-    text = is.text;
-  }
+  tells_changed k s (witness.Twice t turns) e report same refuted shown is =
+      let told = told_text f (lines_of names es notes budget (verdict.Judged k s (second.Differs (witness.Twice t turns)) e)) (proofs_in s ++ []) report.text is.text in
+      record {
+        status = is.status;
+        deterministic = same;
+        tree = t;
+        turns = turns;
+        counterexample = shown.0;
+        succeeds = succeeds_first terms.given es order t turns shown.0;
+        proofs = told.0;
+        refuted = same_order_proof terms.given es order (proofs_in s ++ []) told.0 told.1 (order_proof_alone terms.given es order s refuted);
+        text = told.2;
+      }
   tells_changed k s (witness.Ends t turns) e report same refuted shown is = absurd shown
 
   -- where all is well the report tells so, and whether some tree has a run without error
@@ -150,24 +204,28 @@ module _ (f : Form) (terms : Terms) (notes : List ℕ) (names : List (List ℕ))
       → IfNever (verdict.Judged k s (second.Same v) e) (λ g. SucceedsFrom terms.given es (Comes order) → ⊥)
       → IfNever (verdict.Judged k s (second.Same v) e) (IsEndProofFrom terms.given es order)
       → IsReportOf f notes names es budget (verdict.Judged k s (second.Same v) e) report → IsSure f terms notes es order k report
-  tells_sure k s v (ends.From w) report same refuted again proof succeeds fails never is = record {
-    status = is.status;
-    deterministic = same;
-    idempotent = again;
-    last = _;
-    proofs = proofs_in s ++ v ∷ [];
-    ending = inl (refl, succeeds, two_proofs terms.given es order s v refuted proof);
-    text = is.text;
-  }
-  tells_sure k s v (ends.Never u) report same refuted again proof succeeds fails never is = record {
-    status = is.status;
-    deterministic = same;
-    idempotent = again;
-    last = _;
-    proofs = proofs_in s ++ v ∷ u ∷ [];
-    ending = inr (refl, fails, three_proofs terms.given es order s v u refuted proof never);
-    text = is.text;
-  }
+  tells_sure k s v (ends.From w) report same refuted again proof succeeds fails never is =
+      let told = told_text f (lines_of names es notes budget (verdict.Judged k s (second.Same v) (ends.From w))) (proofs_in s ++ v ∷ []) report.text is.text in
+      record {
+        status = is.status;
+        deterministic = same;
+        idempotent = again;
+        last = succeeds_line;
+        proofs = told.0;
+        ending = inl (refl, succeeds, same_two_proofs terms.given es order (proofs_in s ++ v ∷ []) told.0 told.1 (two_proofs terms.given es order s v refuted proof));
+        text = told.2;
+      }
+  tells_sure k s v (ends.Never u) report same refuted again proof succeeds fails never is =
+      let told = told_text f (lines_of names es notes budget (verdict.Judged k s (second.Same v) (ends.Never u))) (proofs_in s ++ v ∷ u ∷ []) report.text is.text in
+      record {
+        status = is.status;
+        deterministic = same;
+        idempotent = again;
+        last = fails_line;
+        proofs = told.0;
+        ending = inr (refl, fails, same_three_proofs terms.given es order (proofs_in s ++ v ∷ u ∷ []) told.0 told.1 (three_proofs terms.given es order s v u refuted proof never));
+        text = told.2;
+      }
 
   -- where the budget was spent the report tells on what
   tells_spent : (k : ℕ) (a : Asked) (cnf : Formula) (log : Log) (proofs : List Refutation) (report : Report) → budget ≡ budget_of terms.conflicts
@@ -175,6 +233,7 @@ module _ (f : Form) (terms : Terms) (notes : List ℕ) (names : List (List ℕ))
       → IsReportOf f notes names es budget (verdict.Spent k a cnf log proofs) report → IsUnanswered f terms notes es order k report
   tells_spent k a cnf log proofs report same spent known refuted is =
       let told : IsReportOf f notes names es (budget_of terms.conflicts) (verdict.Spent k a cnf log proofs) report = subst (λ b. IsReportOf f notes names es b (verdict.Spent k a cnf log proofs) report) same is in
+      let text = told_text f (lines_of names es notes (budget_of terms.conflicts) (verdict.Spent k a cnf log proofs)) proofs report.text told.text in
       let some = given_some terms.conflicts (limited_in terms.given es order (budget_of terms.conflicts) a cnf log.steps spent) in
       record {
         status = told.status;
@@ -185,9 +244,9 @@ module _ (f : Form) (terms : Terms) (notes : List ℕ) (names : List (List ℕ))
         steps = log.steps;
         spent = spent;
         known = known;
-        proofs = proofs;
-        refuted = refuted;
-        text = told.text;
+        proofs = text.0;
+        refuted = same_proofs_before terms.given es order a proofs text.0 text.1 refuted;
+        text = text.2;
       }
 
   -- ---- the headline

@@ -13,6 +13,7 @@ use Rattle.cnf.specs.Formulas.{Formula}
 use Rattle.cnf.specs.Proofs.{IsAccepted}
 use Rattle.cnf.specs.declared.log.Step.{Step}
 use Rattle.proof_check.specs.Refuted.{Refutation}
+use Rattle.trimmed_proofs.specs.Trimmed.{IsTrimmed, IsTrimmedOf}
 use Rattle.order_encode.specs.declared.witness.Witness.{Witness}
 use Rattle.order_encode.specs.declared.witness.Witness.TheVariants as witness
 use Rattle.determinism.specs.First.{IsPrunedCount}
@@ -35,10 +36,10 @@ use Rattle.verdict_report.specs.Lines.{sure_text, succeeds_line, fails_line, dif
 abbrev pub IsProved : Refutation → Type 0
 IsProved p = IsAccepted p.formula p.steps
 
--- The text is these lines; or it is that of these proofs, each of which is one.
+-- The text is these lines; or it is that of these proofs, each of which is one, and has only steps that its empty clause rests on.
 abbrev pub IsText : Form → List ℕ → List Refutation → List ℕ → Type 0
 IsText form.Lines lines proofs text = text ≡ lines
-IsText form.Proofs lines proofs text = (text ≡ proofs_text proofs) × AllByRecursion IsProved proofs
+IsText form.Proofs lines proofs text = (text ≡ proofs_text proofs) × AllByRecursion IsProved proofs × AllByRecursion IsTrimmed proofs
 
 -- ---- what is told, and what holds where it is told
 
@@ -124,11 +125,23 @@ pub record IsTold (f : Form) (terms : Terms) (notes : List ℕ) (names : List (L
 
 -- ---- steps
 
+-- the refutations on the left, each with only the steps that are used, are those on the right
+abbrev pub AreTrimmedOf : List Refutation → List Refutation → Type 0
+AreTrimmedOf [] [] = Unit {0}
+AreTrimmedOf [] (q ∷ left) = ⊥
+AreTrimmedOf (p ∷ refuted) [] = ⊥
+AreTrimmedOf (p ∷ refuted) (q ∷ left) = IsTrimmedOf p q × AreTrimmedOf refuted left
+
+-- the text is these lines; or it is that of these refutations, each with only the steps that are used
+abbrev pub IsTextOf : Form → List ℕ → List Refutation → List ℕ → Type 0
+IsTextOf form.Lines lines refuted text = text ≡ lines
+IsTextOf form.Proofs lines refuted text = (left : List Refutation) × AreTrimmedOf refuted left × IsText form.Proofs lines left text
+
 -- the report has the status of the verdict, and its lines or its proofs
 pub record IsReportOf (f : Form) (notes : List ℕ) (names : List (List ℕ)) (es : List Program) (budget : ℕ)
     (judged : Verdict) (report : Report) : Type 0 where
   pub status : report.status ≡ status_of judged
-  pub text : IsText f (lines_of names es notes budget judged) (proofs_of judged) report.text
+  pub text : IsTextOf f (lines_of names es notes budget judged) (proofs_of judged) report.text
 
 -- the witness has two orders of numbers below n
 abbrev pub HasOrders : ℕ → Witness → Type 0

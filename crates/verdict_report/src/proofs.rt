@@ -5,13 +5,14 @@ ghost use Rattle.std.specs.List.{AllByRecursion, flat_map};
 ghost use Rattle.cnf.specs.ProofText.{proof_text};
 ghost use Rattle.verdict.specs.Answers.{proofs_in};
 ghost use Rattle.verdict_report.specs.Lines.{end_proofs, later_proofs, proofs_of, proofs_text};
-ghost use Rattle.verdict_report.specs.Told.{IsProved};
+ghost use Rattle.verdict_report.specs.Told.{IsProved, AreTrimmedOf};
 
 use cnf::write_proof;
 use determinism::Sure;
 use proof_check::Verified;
 use rh_base::{NoMemory, Seq};
 use std::alloc::Global;
+use trimmed_proofs::trimmed;
 use verdict::{Ends, Second, Verdict};
 use verdict_text::push_bytes;
 
@@ -67,6 +68,18 @@ pub fn proofs_of(alloc: Global, judged: Verdict) -> Result<Seq<Verified>, NoMemo
         }
         Verdict::Spent { proofs, .. } => Ok(proofs),
     }
+}
+
+/// These refutations, each with only the steps that its empty clause rests on.
+#[tactic(auto, using(crate::proofs::TrimmedLaws::trimmed_none, crate::proofs::TrimmedLaws::trimmed_more))]
+pub fn all_trimmed(alloc: Global, refuted: &[Verified]) -> Result<Seq<Verified>, NoMemory>
+    ensures { IfOk result (λ left. AreTrimmedOf refuted.now left) }
+{
+    let mut left = Seq::new(alloc);
+    for verified in refuted {
+        left.push(trimmed(alloc, verified)?)?;
+    }
+    Ok(left)
 }
 
 fn push_proof(verified: &Verified, into: &mut Vec<u8>) -> Result<(), NoMemory>

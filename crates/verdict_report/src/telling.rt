@@ -5,11 +5,11 @@ ghost use Rattle.rh_base.specs.Refused.{IfRefused};
 ghost use Rattle.fs_lang.specs.Meaning.{program_of};
 ghost use Rattle.given_verdict.specs.Limits.{IsTooLargeWith};
 ghost use Rattle.verdict_report.specs.Lines.{status_of, answer_of, lines_of, proofs_of};
-ghost use Rattle.verdict_report.specs.Told.{IsText, IsReportOf, IsTellable, IsTellableAgain, IsTold};
+ghost use Rattle.verdict_report.specs.Told.{IsTextOf, IsReportOf, IsTellable, IsTellableAgain, IsTold};
 ghost use Rattle.verdict_report.specs.declared.report.Form.TheVariants as form_is;
 
 use crate::lines::{spent_text, sure_text};
-use crate::proofs::{proofs_of, proofs_text};
+use crate::proofs::{all_trimmed, proofs_of, proofs_text};
 use crate::report::{Form, Report};
 use crate::runs::{change_text, difference_text};
 use fs_lang::Program;
@@ -86,12 +86,15 @@ fn lines_of(
     }
 }
 
-/// The proofs in a verdict.
+/// The proofs in a verdict. A solver writes a step for each conflict; only those that are used are told.
+#[tactic(auto, using(crate::proofs::TrimmedLaws::told_proofs))]
 fn proofs_in(alloc: Global, judged: Verdict) -> Result<Seq<u8>, NoMemory>
-    ensures { IfOk result (IsText form_is.Proofs [] (proofs_of judged)) }
+    ensures { IfOk result (IsTextOf form_is.Proofs [] (proofs_of judged)) }
 {
     let refuted = proofs_of(alloc, judged)?;
-    proofs_text(alloc, refuted.as_slice())
+    let left = all_trimmed(alloc, refuted.as_slice())?;
+    let text = proofs_text(alloc, left.as_slice())?;
+    Ok(text)
 }
 
 /// A verdict, as it is told.

@@ -15,7 +15,7 @@ returns-clause-ensured c =
     let es = map program_of c.args.programs.now in
     ensured c.domains.ensures.laid_out c.wanted_entries.ensures.over es c.args.order.now c.args.wanted.now c.args.domain.now c.requires.layout
     c.in_ok-posed.posed.formula c.in_ok-posed.ensures.exact (length-map c.args.programs.now program_of ∙ c.requires.count) c.requires.deterministic
-    c.in_ok-_first._first (record { allowed = c.in_ok-_first.ensures.allowed; least = c.in_ok-_first.ensures.least })
+    c.has_first_extension.ensures.first (record { allowed = c.has_first_extension.ensures.allowed; least = c.has_first_extension.ensures.least })
     (c.wanted_entries.ensures.exactly es (comes c.args.order.now) c.args.wanted.now)
 
 pub returns-clause-models : goal.returns-clause-models

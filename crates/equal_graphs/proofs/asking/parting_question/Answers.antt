@@ -11,12 +11,14 @@ pub returns-clause-states : goal.returns-clause-states
 returns-clause-states c =
     let es = map program_of c.args.left.now in
     let fs = map program_of c.args.right.now in
+    let first = c.has_first_extension.ensures in
+    let second = c.has_first_extension-2.ensures in
     let asked = c.in_ok-asked.asked in
     let f = c.in_ok-posed.posed.formula in
     let exact = subst (λ q. IsSatisfiable f ↔ HaveParting es asked.left fs q c.args.domain.now) c.as_slice.ensures c.in_ok-posed.ensures.exact in
     states es c.args.order.now fs c.args.other.now (length-map c.args.left.now program_of ∙ c.requires.left_count) (length-map c.args.right.now program_of ∙ c.requires.right_count)
-    c.requires.left_sure c.requires.right_sure c.in_ok-_first._first c.in_ok-_second._second
-    (record { allowed = c.in_ok-_first.ensures.allowed; least = c.in_ok-_first.ensures.least }) (record { allowed = c.in_ok-_second.ensures.allowed; least = c.in_ok-_second.ensures.least })
+    c.requires.left_sure c.requires.right_sure first.first second.first
+    (record { allowed = first.allowed; least = first.least }) (record { allowed = second.allowed; least = second.least })
     asked.left asked.right c.in_ok-asked.ensures.left c.in_ok-asked.ensures.right
     c.domains.ensures.laid_out c.shadows.ensures.exist c.shadows.ensures.tell c.args.domain.now c.requires.layout f exact
 
@@ -24,12 +26,14 @@ pub returns-clause-equal : goal.returns-clause-equal
 returns-clause-equal c =
     let es = map program_of c.args.left.now in
     let fs = map program_of c.args.right.now in
+    let first = c.has_first_extension.ensures in
+    let second = c.has_first_extension-2.ensures in
     let asked = c.in_ok-asked.asked in
     let f = c.in_ok-posed.posed.formula in
     let exact = subst (λ q. IsSatisfiable f ↔ HaveParting es asked.left fs q c.args.domain.now) c.as_slice.ensures c.in_ok-posed.ensures.exact in
     equal es c.args.order.now fs c.args.other.now (length-map c.args.left.now program_of ∙ c.requires.left_count) (length-map c.args.right.now program_of ∙ c.requires.right_count)
-    c.requires.left_sure c.requires.right_sure c.in_ok-_first._first c.in_ok-_second._second
-    (record { allowed = c.in_ok-_first.ensures.allowed; least = c.in_ok-_first.ensures.least }) (record { allowed = c.in_ok-_second.ensures.allowed; least = c.in_ok-_second.ensures.least })
+    c.requires.left_sure c.requires.right_sure first.first second.first
+    (record { allowed = first.allowed; least = first.least }) (record { allowed = second.allowed; least = second.least })
     asked.left asked.right c.in_ok-asked.ensures.left c.in_ok-asked.ensures.right
     c.domains.ensures.laid_out c.shadows.ensures.exist c.shadows.ensures.tell c.args.domain.now c.requires.layout f exact
 
@@ -37,9 +41,11 @@ pub returns-clause-models : goal.returns-clause-models
 returns-clause-models c = λ w told.
     let es = map program_of c.args.left.now in
     let fs = map program_of c.args.right.now in
+    let first = c.has_first_extension.ensures in
+    let second = c.has_first_extension-2.ensures in
     let asked = c.in_ok-asked.asked in
     let part = subst (λ q. ShowsParting es asked.left fs q c.args.domain.now w) c.as_slice.ensures (c.in_ok-posed.ensures.models w told) in
     shown es c.args.order.now fs c.args.other.now (length-map c.args.left.now program_of ∙ c.requires.left_count) (length-map c.args.right.now program_of ∙ c.requires.right_count)
-    c.requires.left_sure c.requires.right_sure c.in_ok-_first._first c.in_ok-_second._second
-    (record { allowed = c.in_ok-_first.ensures.allowed; least = c.in_ok-_first.ensures.least }) (record { allowed = c.in_ok-_second.ensures.allowed; least = c.in_ok-_second.ensures.least })
+    c.requires.left_sure c.requires.right_sure first.first second.first
+    (record { allowed = first.allowed; least = first.least }) (record { allowed = second.allowed; least = second.least })
     asked.left asked.right c.in_ok-asked.ensures.left c.in_ok-asked.ensures.right c.args.domain.now w part

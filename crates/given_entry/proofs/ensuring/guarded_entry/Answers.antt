@@ -27,9 +27,11 @@ returns c =
     let goes = subst (λ n. GoesFirst n (comes order) (guard_before order.count (comes order))) (sym long) (goes_first order.count (comes order)) in
     let same : map program_of c.as_slice.result.now ≡ guarded given es = ap (map program_of) c.as_slice.ensures ∙ c.in_ok-graph.ensures.programs in
     let count : length (guarded given es) ≡ graph.order.count = ap length (sym c.in_ok-graph.ensures.programs) ∙ length-map graph.programs program_of ∙ c.in_ok-graph.ensures.count in
+    let first = c.has_first_extension.ensures in
+    let whole = c.has_first_extension-2.ensures in
     entry_from given es order long c.requires.given (λ kept k. c.guard_is_pruned.ensures given es (comes order) (guard_before order.count (comes order)) goes kept k)
     (λ kept left k l. (c.pruning.ensures.one es (comes order) k.0 l.0 (up_from 0 (length es)) kept left k.1 l.1).1)
     (λ kept k. (c.pruning.ensures.some es (comes order) k.0 kept (c.pruning.ensures.leads es (comes order) k.0 (up_from 0 (length es)) kept k.1)).few)
-    c.args.wanted.now c.args.budget graph.order count c.in_ok-graph.ensures.order c.in_ok-_first._first c.in_ok-_whole._whole
-    (record { allowed = c.in_ok-_first.ensures.allowed; least = c.in_ok-_first.ensures.least }) (record { allowed = c.in_ok-_whole.ensures.allowed; least = c.in_ok-_whole.ensures.least })
+    c.args.wanted.now c.args.budget graph.order count c.in_ok-graph.ensures.order first.first whole.first
+    (record { allowed = first.allowed; least = first.least }) (record { allowed = whole.allowed; least = whole.least })
     (map program_of c.as_slice.result.now) c.in_ok-answered.answered c.in_ok-without.without same c.in_ok-answered.ensures c.in_ok-without.ensures

@@ -36,10 +36,10 @@ returns c =
       kept_by = λ kept k. c.guard_is_pruned.ensures given es (comes order) (guard_before order.count (comes order)) goes kept k;
       one = λ kept left k l. (c.pruning.ensures.one es (comes order) k.0 l.0 (up_from 0 (length es)) kept left k.1 l.1).1;
       few = λ kept k. (c.pruning.ensures.some es (comes order) k.0 kept (c.pruning.ensures.leads es (comes order) k.0 (up_from 0 (length es)) kept k.1)).few;
-      first = c.in_ok-_left_first._left_first;
-      whole = c.in_ok-_left_whole._left_whole;
-      is_first = record { allowed = c.in_ok-_left_first.ensures.allowed; least = c.in_ok-_left_first.ensures.least };
-      is_whole = record { allowed = c.in_ok-_left_whole.ensures.allowed; least = c.in_ok-_left_whole.ensures.least };
+      first = c.has_first_extension.ensures.first;
+      whole = c.has_first_extension-2.ensures.first;
+      is_first = record { allowed = c.has_first_extension.ensures.allowed; least = c.has_first_extension.ensures.least };
+      is_whole = record { allowed = c.has_first_extension-2.ensures.allowed; least = c.has_first_extension-2.ensures.least };
     } in
     let other_side : Side given fs other second.order = record {
       long = other_long;
@@ -48,10 +48,10 @@ returns c =
       kept_by = λ kept k. c.guard_is_pruned.ensures given fs (comes other) (guard_before other.count (comes other)) other_goes kept k;
       one = λ kept left k l. (c.pruning.ensures.one fs (comes other) k.0 l.0 (up_from 0 (length fs)) kept left k.1 l.1).1;
       few = λ kept k. (c.pruning.ensures.some fs (comes other) k.0 kept (c.pruning.ensures.leads fs (comes other) k.0 (up_from 0 (length fs)) kept k.1)).few;
-      first = c.in_ok-_right_first._right_first;
-      whole = c.in_ok-_right_whole._right_whole;
-      is_first = record { allowed = c.in_ok-_right_first.ensures.allowed; least = c.in_ok-_right_first.ensures.least };
-      is_whole = record { allowed = c.in_ok-_right_whole.ensures.allowed; least = c.in_ok-_right_whole.ensures.least };
+      first = c.has_first_extension-3.ensures.first;
+      whole = c.has_first_extension-4.ensures.first;
+      is_first = record { allowed = c.has_first_extension-3.ensures.allowed; least = c.has_first_extension-3.ensures.least };
+      is_whole = record { allowed = c.has_first_extension-4.ensures.allowed; least = c.has_first_extension-4.ensures.least };
     } in
     both_from given c.requires.given es order one.order side fs other second.order other_side c.args.budget (map program_of c.as_slice.result.now) (map program_of c.as_slice-2.result.now) c.in_ok-answered.answered c.in_ok-without.without
     (ap (map program_of) c.as_slice.ensures ∙ c.in_ok-one.ensures.programs) (ap (map program_of) c.as_slice-2.ensures ∙ c.in_ok-second.ensures.programs) c.in_ok-answered.ensures c.in_ok-without.ensures

@@ -10,9 +10,9 @@ pub returns-then-all_keep : goal.returns-then-all_keep
 returns-then-all_keep c =
     let es = map program_of c.args.programs.now in
     let order = c.args.order.now in
-    let first = c.in_ok-_first._first in
-    let is_first : IsFirstExtension order first = record { allowed = c.in_ok-_first.ensures.allowed; least = c.in_ok-_first.ensures.least } in
-    let allowed = subst (λ n. IsLinearExtension n (Told (comes order)) first) (sym (length-map c.args.programs.now program_of ∙ c.requires.count)) c.in_ok-_first.ensures.allowed in (
+    let first = c.has_first_extension.ensures.first in
+    let is_first : IsFirstExtension order first = record { allowed = c.has_first_extension.ensures.allowed; least = c.has_first_extension.ensures.least } in
+    let allowed = subst (λ n. IsLinearExtension n (Told (comes order)) first) (sym (length-map c.args.programs.now program_of ∙ c.requires.count)) c.has_first_extension.ensures.allowed in (
       c.second_runs.ensures.kept c.args.given.now es (comes order) c.requires.deterministic c.are_proper.ensures (c.all_keep.ensures.keeps c.if-all_keep.true) first allowed
           (λ t h. c.requires.never t first (record { is_first = is_first; shows = h })),
       c.requires.same,

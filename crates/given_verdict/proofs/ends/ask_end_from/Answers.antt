@@ -35,10 +35,12 @@ returns-in-Refuted c =
     let fails = subst (λ (gs : List Program). Succeeds gs (Told (comes more)) → ⊥) are found.0 in
     let law = c.guarded_graphs.ensures.succeeds given es (comes order) (guard_before order.count (comes order)) goes in
     let count = sym (ap length c.in_ok-graph.ensures.programs) ∙ length-map c.in_ok-graph.graph.programs program_of ∙ c.in_ok-graph.ensures.count in
+    let first = c.has_first_extension.ensures in
+    let whole = c.has_first_extension-2.ensures in
     let stated = subst (λ (gs : List Program). StatesEnd gs more c.in-Refuted.verified.formula) are found.1 in (
       (λ s. fails (subst (λ b. Succeeds (guarded given es) (Told b)) (sym c.in_ok-graph.ensures.order) (law.1 s))),
-      states given es order long c.requires.deterministic more count c.in_ok-graph.ensures.order c.requires.given c.in_ok-_first._first c.in_ok-_whole._whole
-          (record { allowed = c.in_ok-_first.ensures.allowed; least = c.in_ok-_first.ensures.least }) (record { allowed = c.in_ok-_whole.ensures.allowed; least = c.in_ok-_whole.ensures.least })
+      states given es order long c.requires.deterministic more count c.in_ok-graph.ensures.order c.requires.given first.first whole.first
+          (record { allowed = first.allowed; least = first.least }) (record { allowed = whole.allowed; least = whole.least })
           c.in-Refuted.verified.formula stated,
       found.2,
     )
@@ -65,9 +67,11 @@ returns c =
     let long : length es ≡ order.count = length-map c.args.programs.now program_of ∙ c.requires.count in
     let are = ap (map program_of) c.as_slice.ensures ∙ c.in_ok-graph.ensures.programs in
     let found = subst (AnswersEnd (map program_of c.as_slice.result.now) more c.args.budget) c.in-Spent.is c.in_ok-found.ensures in
+    let first = c.has_first_extension.ensures in
+    let whole = c.has_first_extension-2.ensures in
     let count = sym (ap length c.in_ok-graph.ensures.programs) ∙ length-map c.in_ok-graph.graph.programs program_of ∙ c.in_ok-graph.ensures.count in (
-      states given es order long c.requires.deterministic more count c.in_ok-graph.ensures.order c.requires.given c.in_ok-_first._first c.in_ok-_whole._whole
-          (record { allowed = c.in_ok-_first.ensures.allowed; least = c.in_ok-_first.ensures.least }) (record { allowed = c.in_ok-_whole.ensures.allowed; least = c.in_ok-_whole.ensures.least })
+      states given es order long c.requires.deterministic more count c.in_ok-graph.ensures.order c.requires.given first.first whole.first
+          (record { allowed = first.allowed; least = first.least }) (record { allowed = whole.allowed; least = whole.least })
           c.in-Spent.cnf (subst (λ (gs : List Program). StatesEnd gs more c.in-Spent.cnf) are found.0),
       found.1,
     )

@@ -1,15 +1,15 @@
 use Rattle.std.proofs.Common.{ap, ◌∙◌, arith}
-use Rattle.sat_solver.specs.Words.{has}
+use Rattle.sat_solver.specs.Literals.{has}
 use Rattle.sat_solver.proofs.Marks.{has_at}
 use Rattle.sat_solver.proofs.arrange.last_place.Goals as goal
 
 pub is_later-later-requires-clause-below : goal.is_later-later-requires-clause-below
 is_later-later-requires-clause-below c =
-    let list = c.args.words.now.items in
-    c.requires.below c.word_at-word.result (ap (has list) c.word_at-word.ensures ∙ has_at list c.rest.k (omega arith))
+    let list = c.args.literals.now.items in
+    c.requires.below c.literal_at-literal.result (ap (has list) c.literal_at-literal.ensures ∙ has_at list c.rest.k (omega arith))
 
 pub is_later-later-requires-clause-other_below : goal.is_later-later-requires-clause-other_below
 is_later-later-requires-clause-other_below c =
-    let list = c.args.words.now.items in
+    let list = c.args.literals.now.items in
     let within = c.rest.invariant.within in
-    c.requires.below c.word_at-so_far.result (ap (has list) c.word_at-so_far.ensures ∙ has_at list c.rest.last (omega arith))
+    c.requires.below c.literal_at-so_far.result (ap (has list) c.literal_at-so_far.ensures ∙ has_at list c.rest.last (omega arith))

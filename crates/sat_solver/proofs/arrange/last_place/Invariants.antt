@@ -6,5 +6,5 @@ abbrev pub invariant-rest : goal.invariant-rest
 invariant-rest l = record {
   low : 1 ≤ l.last;
   within : l.last < l.k;
-  behind : (i : ℕ) → 1 ≤ i → i < l.k → IsBehind l.trail.words (get_or l.words.items l.last 0) (get_or l.words.items i 0);
+  behind : (i : ℕ) → 1 ≤ i → i < l.k → IsBehind l.trail.literals (get_or l.literals.items l.last 0) (get_or l.literals.items i 0);
 }

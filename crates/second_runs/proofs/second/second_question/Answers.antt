@@ -15,7 +15,7 @@ returns-clause-same c =
     let es = map program_of c.args.programs.now in
     idempotent c.domains.ensures.laid_out c.witnesses_over_the_domain.ensures.second es c.args.order.now c.in_ok-d.d c.in_ok-d.ensures.layout
     c.in_ok-posed.posed.formula c.in_ok-posed.ensures.exact c.constructs.ensures.tree c.are_proper.ensures (length-map c.args.programs.now program_of ∙ c.requires.count) c.requires.deterministic
-    c.in_ok-_first._first (record { allowed = c.in_ok-_first.ensures.allowed; least = c.in_ok-_first.ensures.least })
+    c.has_first_extension.ensures.first (record { allowed = c.has_first_extension.ensures.allowed; least = c.has_first_extension.ensures.least })
     (c.counterexamples.ensures.idempotent es (comes c.args.order.now) c.are_proper.ensures c.requires.deterministic)
 
 pub returns-clause-models : goal.returns-clause-models

@@ -13,7 +13,7 @@ pub returns-clause-never : goal.returns-clause-never
 returns-clause-never c =
     never c.domains.ensures.laid_out c.shadows.ensures.exist c.shadows.ensures.tell (map program_of c.args.programs.now) c.args.order.now c.in_ok-d.d c.in_ok-d.ensures.layout
     c.in_ok-posed.posed.formula c.in_ok-posed.ensures.exact (length-map c.args.programs.now program_of ∙ c.requires.count) c.requires.deterministic
-    c.in_ok-_first._first (record { allowed = c.in_ok-_first.ensures.allowed; least = c.in_ok-_first.ensures.least })
+    c.has_first_extension.ensures.first (record { allowed = c.has_first_extension.ensures.allowed; least = c.has_first_extension.ensures.least })
 
 pub returns-clause-models : goal.returns-clause-models
 returns-clause-models c = λ w told.

@@ -23,8 +23,8 @@ push_clause-requires c =
 
 pub invariant_of-self : goal.invariant_of-self
 invariant_of-self c =
-    subst (λ (ws : List ℕ). IsStored c.self.inside.vars ws c.push_clause.new.ends.items) (sym c.in_err-push_clause.ensures.words_err)
-    (subst (IsStored c.self.inside.vars c.self.inside.words.items) (sym c.in_err-push_clause.ensures.ends_err) c.self.invariant)
+    subst (λ (ls : List ℕ). IsStored c.self.inside.vars ls c.push_clause.new.ends.items) (sym c.in_err-push_clause.ensures.literals_err)
+    (subst (IsStored c.self.inside.vars c.self.inside.literals.items) (sym c.in_err-push_clause.ensures.ends_err) c.self.invariant)
 
 pub returns-clause-ok : goal.returns-clause-ok
 returns-clause-ok c =
@@ -33,7 +33,7 @@ returns-clause-ok c =
     let d = c.lits.result.now in
     let value : d ≡ clause_of c.args.lits.now = c.lits.ensures.lits ∙ c.in_ok-clause.ensures.value in
     let h = subst (HasVariables n) (sym value) (subst (λ n. HasVariables n (clause_of c.args.lits.now)) is (variables c.args.self.now.vars c.args.lits.now c.requires)) in
-    pushed_formula n c.self.inside.words.items c.self.inside.ends.items c.push_clause.new.words.items c.push_clause.new.ends.items d c.self.invariant h c.in_ok-push_clause.ensures.words c.in_ok-push_clause.ensures.ends
+    pushed_formula n c.self.inside.literals.items c.self.inside.ends.items c.push_clause.new.literals.items c.push_clause.new.ends.items d c.self.invariant h c.in_ok-push_clause.ensures.literals c.in_ok-push_clause.ensures.ends
     ∙ (λ i. record { vars = sym is i; clauses = ap (λ (f : Formula). f.clauses) c.self.view_is i ++ value i ∷ [] })
 
 pub invariant_of-self-2 : goal.invariant_of-self-2
@@ -43,5 +43,5 @@ invariant_of-self-2 c =
     let d = c.lits.result.now in
     let value : d ≡ clause_of c.args.lits.now = c.lits.ensures.lits ∙ c.in_ok-clause.ensures.value in
     let h = subst (HasVariables n) (sym value) (subst (λ n. HasVariables n (clause_of c.args.lits.now)) is (variables c.args.self.now.vars c.args.lits.now c.requires)) in
-    pushed_stored n c.self.inside.words.items c.self.inside.ends.items c.push_clause.new.words.items c.push_clause.new.ends.items d c.self.invariant h c.in_ok-push_clause.ensures.words c.in_ok-push_clause.ensures.ends
+    pushed_stored n c.self.inside.literals.items c.self.inside.ends.items c.push_clause.new.literals.items c.push_clause.new.ends.items d c.self.invariant h c.in_ok-push_clause.ensures.literals c.in_ok-push_clause.ensures.ends
     (subst IsClause (sym value) (IsClause-clause_of c.args.lits.now))

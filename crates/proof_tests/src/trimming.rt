@@ -1,0 +1,156 @@
+//! Refutations of which only the steps that are used are left.
+
+use crate::common::{FIRST, PIGEONS, SECOND, Stated, formula, log};
+use cnf::write_proof;
+use proof_check::check;
+use rh_base::NoMemory;
+use std::process::Abort;
+use std::test::Fail;
+use trimmed_proofs::trimmed;
+
+/// How many variables there are, the clauses, a log over them, and the steps that are left of it.
+type Row = (
+    u64,
+    &'static [&'static [i8]],
+    &'static [Stated],
+    &'static [Stated],
+);
+
+/// All clauses of two variables.
+const FOUR: &[&[i8]] = &[&[1, 2], &[-1, 2], &[1, -2], &[-1, -2]];
+
+const PAIR: &[(u64, i8)] = &[(2, 1)];
+
+const OTHER_PAIR: &[(u64, i8)] = &[(4, 1)];
+
+const ROWS: [Row; 8] = [
+    // all are used
+    (
+        2,
+        FOUR,
+        &[
+            (&[2], 1, PAIR),
+            (&[-2], 3, OTHER_PAIR),
+            (&[], 5, &[(6, 2)]),
+        ],
+        &[
+            (&[2], 1, PAIR),
+            (&[-2], 3, OTHER_PAIR),
+            (&[], 5, &[(6, 2)]),
+        ],
+    ),
+    (
+        6,
+        &PIGEONS,
+        &[(&[-1], 9, FIRST), (&[], 6, SECOND)],
+        &[(&[-1], 9, FIRST), (&[], 6, SECOND)],
+    ),
+    // one in the middle isn't
+    (
+        2,
+        FOUR,
+        &[
+            (&[2], 1, PAIR),
+            (&[1], 1, &[(3, 2)]),
+            (&[-2], 3, OTHER_PAIR),
+            (&[], 5, &[(7, 2)]),
+        ],
+        &[
+            (&[2], 1, PAIR),
+            (&[-2], 3, OTHER_PAIR),
+            (&[], 5, &[(6, 2)]),
+        ],
+    ),
+    // nor the first, which one names that isn't used either
+    (
+        2,
+        FOUR,
+        &[
+            (&[1], 1, &[(3, 2)]),
+            (&[-2], 5, OTHER_PAIR),
+            (&[2], 1, PAIR),
+            (&[-2], 3, OTHER_PAIR),
+            (&[], 7, &[(8, 2)]),
+        ],
+        &[
+            (&[2], 1, PAIR),
+            (&[-2], 3, OTHER_PAIR),
+            (&[], 5, &[(6, 2)]),
+        ],
+    ),
+    // what is named by a step that is used is used, also where the last step doesn't name it
+    (
+        2,
+        FOUR,
+        &[
+            (&[-1], 2, &[(4, 2)]),
+            (&[1], 1, &[(3, 2)]),
+            (&[-2], 6, OTHER_PAIR),
+            (&[2], 1, PAIR),
+            (&[], 7, &[(8, -2)]),
+        ],
+        &[
+            (&[1], 1, &[(3, 2)]),
+            (&[-2], 5, OTHER_PAIR),
+            (&[2], 1, PAIR),
+            (&[], 6, &[(7, -2)]),
+        ],
+    ),
+    // an empty clause ahead of the last one
+    (
+        2,
+        FOUR,
+        &[
+            (&[2], 1, PAIR),
+            (&[-2], 3, OTHER_PAIR),
+            (&[], 5, &[(6, 2)]),
+            (&[], 6, &[(5, -2)]),
+        ],
+        &[
+            (&[2], 1, PAIR),
+            (&[-2], 3, OTHER_PAIR),
+            (&[], 6, &[(5, -2)]),
+        ],
+    ),
+    // the formula has the empty clause
+    (1, &[&[], &[1]], &[(&[1], 2, &[]), (&[], 1, &[])], &[(&[], 1, &[])]),
+    // a clause of the formula that is told once more
+    (
+        1,
+        &[&[1], &[-1]],
+        &[(&[1], 1, &[]), (&[-1], 2, &[]), (&[], 1, &[(4, 1)])],
+        &[(&[-1], 2, &[]), (&[], 1, &[(3, 1)])],
+    ),
+];
+
+/// The text of a formula with these steps.
+fn stated_text(
+    rt: &(impl Abort + AllocGlobal),
+    row: &Row,
+    steps: &[Stated],
+) -> Result<Vec<u8>, NoMemory> {
+    let cnf = formula(rt, row.0, row.1)?;
+    let mut text = Vec::new(rt.alloc());
+    write_proof(&cnf, &log(rt.alloc(), steps)?, &mut text)?;
+    Ok(text)
+}
+
+/// The text of what is left.
+fn left_text(rt: &(impl Abort + AllocGlobal), row: &Row) -> Result<Vec<u8>, Fail> {
+    let cnf = formula(rt, row.0, row.1)?;
+    let checked = check(rt.alloc(), cnf, log(rt.alloc(), row.2)?);
+    let left = trimmed(rt.alloc(), &checked.ok().ok_or("refused")?)?;
+    let mut text = Vec::new(rt.alloc());
+    write_proof(left.cnf(), left.log(), &mut text)?;
+    Ok(text)
+}
+
+#[test]
+fn only_what_is_used_is_left(rt: HostRuntime) -> Result<(), Fail> {
+    for row in ROWS {
+        let left = left_text(&rt, &row)?;
+        let wanted = stated_text(&rt, &row, row.3)?;
+        assert_eq!(rt; str::from_utf8(&left).ok(), str::from_utf8(&wanted).ok());
+    }
+    Ok(())
+}

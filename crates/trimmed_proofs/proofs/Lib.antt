@@ -1,0 +1,3 @@
+pub mod CopyLaws
+pub mod MarkLaws
+pub mod KeptLaws

@@ -1,0 +1,139 @@
+-- Laws of marks.
+use Rattle.std.proofs.Common.{◌≡◌, ◌⊎◌, inl, inr, ℕ, zero, suc, ◌+◌, ◌-◌, ◌<◌, Bool, true, false, true≢false, ◌||◌, List, [], ◌∷◌, length, get_or, set, slice_get, Some, refl, sym, ap, ◌∙◌, arith}
+use Rattle.std.specs.Prelude.{◌==◌}
+use Rattle.std.specs.List.{list_any}
+use Rattle.std.proofs.lemmas.Bool.{cases_eq, eq-eqb, ne_eqb}
+use Rattle.std.proofs.lemmas.List.{length-set, get_or-set_same, get_or-set_other}
+use Rattle.cnf.specs.declared.log.Step.{Step}
+use Rattle.trimmed_proofs.specs.Trimmed.{names}
+use Rattle.trimmed_proofs.specs.Marks.{is_marked, MarksMore, NameEarlier, AreMarkedFrom}
+
+-- one test or the other
+pub or_cases : (a b : Bool) → (a || b) ≡ true → (a ≡ true) ⊎ (b ≡ true)
+or_cases true b h = inl refl
+or_cases false b h = inr h
+
+-- nothing is added to a test by one that fails
+or_false : (a b : Bool) → b ≡ false → a ≡ (a || b)
+or_false true b h = refl
+or_false false b h = sym h
+
+-- a disjunction with a true side is true
+pub or_true : (a b : Bool) → b ≡ true → true ≡ (a || b)
+or_true true b h = refl
+or_true false b h = sym h
+
+-- three tests
+or_three : (a b c : Bool) → ((a || b) || c) ≡ (a || (b || c))
+or_three true b c = refl
+or_three false b c = refl
+
+-- what is marked stands in the list
+marked_within : (marks : List Bool) (j : ℕ) → is_marked marks j ≡ true → j < length marks
+marked_within [] j h = absurd (true≢false (sym h))
+marked_within (b ∷ marks) zero h = omega arith
+marked_within (b ∷ marks) (suc j) h = let r = marked_within marks j h in omega arith
+
+-- a number that no step has marks nothing
+pub marked_none : (count number : ℕ) (marks : List Bool) → ((j : ℕ) → j < length marks → number ≡ count + j + 1 → ⊥) → MarksMore count marks marks (λ k. number == k)
+marked_none count number marks none = record {
+  long = refl;
+  marks = λ j h. or_false (is_marked marks j) (number == (count + j + 1)) (ne_eqb number (count + j + 1) (none j h));
+}
+
+-- the number of a step marks that step
+pub marked_one : (count number place : ℕ) (marks : List Bool) → number ≡ count + place + 1 → place < length marks → MarksMore count marks (set marks place true) (λ k. number == k)
+marked_one count number place marks is within = record {
+  long = length-set marks place true;
+  marks = λ j h. elim (cases_eq j place) [
+    | inl e ↦
+        ap (λ i. get_or (set marks place true) i false) e
+        ∙ get_or-set_same marks place true false within
+        ∙ or_true (is_marked marks j) (number == (count + j + 1)) (eq-eqb number (count + j + 1) (omega arith))
+    | inr n ↦
+        get_or-set_other marks place j true false n
+        ∙ or_false (is_marked marks j) (number == (count + j + 1)) (ne_eqb number (count + j + 1) (λ e. n (omega arith)))
+  ];
+}
+
+-- marks that are made one after the other are those of both tests
+pub marked_twice : (count : ℕ) (old middle new : List Bool) (p q r : ℕ → Bool) → MarksMore count old middle p → MarksMore count middle new q
+    → ((k : ℕ) → r k ≡ (p k || q k)) → MarksMore count old new r
+marked_twice count old middle new p q r first second both = record {
+  long = second.long ∙ first.long;
+  marks = λ j h.
+      second.marks j (let e = first.long in omega arith)
+      ∙ ap (λ b. b || q (count + j + 1)) (first.marks j h)
+      ∙ or_three (is_marked old j) (p (count + j + 1)) (q (count + j + 1))
+      ∙ ap (λ b. is_marked old j || b) (sym (both (count + j + 1)));
+}
+
+-- what a step names is where its chain begins, and what its links name
+pub marked_both : (count : ℕ) (old middle new : List Bool) (step : Step) → MarksMore count old middle (λ k. step.start == k)
+    → MarksMore count middle new (λ k. list_any (λ link. link.number == k) step.chain) → MarksMore count old new (λ k. names k step)
+marked_both count old middle new step first second =
+    marked_twice count old middle new (λ k. step.start == k) (λ k. list_any (λ link. link.number == k) step.chain) (λ k. names k step) first second (λ k. refl)
+
+-- a step that isn't marked needs nothing to be marked
+pub marked_skip : (count : ℕ) (steps : List Step) (i : ℕ) (marks : List Bool) → AreMarkedFrom count steps (i + 1) marks → is_marked marks i ≡ false → AreMarkedFrom count steps i marks
+marked_skip count steps i marks m off = record {
+  long = m.long;
+  last = m.last;
+  closed = λ j k s low at on named over. elim (cases_eq j i) [
+    | inl e ↦ absurd (true≢false (sym on ∙ ap (is_marked marks) e ∙ off))
+    | inr n ↦ m.closed j k s (omega arith) at on named over
+  ];
+  used = m.used;
+}
+
+module _ (count : ℕ) (steps : List Step) (i : ℕ) (old new : List Bool) (s : Step) (at : slice_get steps i ≡ Some s) (earlier : NameEarlier count steps)
+    (m : AreMarkedFrom count steps (i + 1) old) (on : is_marked old i ≡ true) (more : MarksMore count old new (λ k. names k s)) where
+  -- what was marked stays so
+  stays : (j : ℕ) → is_marked old j ≡ true → is_marked new j ≡ true
+  stays j h = more.marks j (marked_within old j h) ∙ ap (λ b. b || names (count + j + 1) s) h
+
+  -- what is marked was so, or the step names it
+  was_or_named : (j : ℕ) → is_marked new j ≡ true → (is_marked old j ≡ true) ⊎ (names (count + j + 1) s ≡ true)
+  was_or_named j h = or_cases (is_marked old j) (names (count + j + 1) s) (sym (more.marks j (let w = marked_within new j h in let e = more.long in omega arith)) ∙ h)
+
+  -- what the step names is marked
+  now_marked : (k : ℕ) → names k s ≡ true → count < k → is_marked new (k - count - 1) ≡ true
+  now_marked k named over =
+      let low = earlier i k s at named in
+      let w = marked_within old i on in
+      let is : count + (k - count - 1) + 1 ≡ k = omega arith in
+      more.marks (k - count - 1) (omega arith) ∙ sym (or_true (is_marked old (k - count - 1)) (names (count + (k - count - 1) + 1) s) (ap (λ n. names n s) is ∙ named))
+
+  -- where a marked step marks what it names, those from it on have done so
+  pub marked_more : AreMarkedFrom count steps i new
+  marked_more = record {
+    long = more.long ∙ m.long;
+    last = stays (length steps - 1) m.last;
+    closed = λ j k t low there marked named over. elim (cases_eq j i) [
+      | inl e ↦
+          let same : Some s ≡ Some t = sym at ∙ ap (slice_get steps) (sym e) ∙ there in
+          let same' : s ≡ t = cc in
+          now_marked k (ap (names k) same' ∙ named) over
+      | inr n ↦ elim (was_or_named j marked) [
+        | inl was ↦ stays (k - count - 1) (m.closed j k t (omega arith) there was named over)
+        | inr it ↦ let a = earlier i (count + j + 1) s at it in absurd (omega arith)
+      ]
+    ];
+    used = λ j marked. elim (was_or_named j marked) [
+      | inl was ↦ elim (m.used j was) [
+        | inl last ↦ inl last
+        | inr by ↦ inr (record { place = by.place; step = by.step; behind = by.behind; at = by.at; marked = stays by.place by.marked; named = by.named })
+      ]
+      | inr it ↦ let a = earlier i (count + j + 1) s at it in inr (record { place = i; step = s; behind = omega arith; at = at; marked = stays i on; named = it })
+    ];
+  }
+
+-- where the last step alone is marked
+pub marked_last : (count : ℕ) (steps : List Step) (marks : List Bool) → length marks ≡ length steps → is_marked marks (length steps - 1) ≡ true
+    → ((j : ℕ) → is_marked marks j ≡ true → j + 1 ≡ length steps) → AreMarkedFrom count steps (length steps) marks
+marked_last count steps marks long last only = record {
+  long = long;
+  last = last;
+  closed = λ j k s low at on named over. let w = marked_within marks j on in absurd (omega arith);
+  used = λ j on. inl (only j on);
+}
