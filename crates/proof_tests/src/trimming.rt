@@ -28,16 +28,8 @@ const ROWS: [Row; 8] = [
     (
         2,
         FOUR,
-        &[
-            (&[2], 1, PAIR),
-            (&[-2], 3, OTHER_PAIR),
-            (&[], 5, &[(6, 2)]),
-        ],
-        &[
-            (&[2], 1, PAIR),
-            (&[-2], 3, OTHER_PAIR),
-            (&[], 5, &[(6, 2)]),
-        ],
+        &[(&[2], 1, PAIR), (&[-2], 3, OTHER_PAIR), (&[], 5, &[(6, 2)])],
+        &[(&[2], 1, PAIR), (&[-2], 3, OTHER_PAIR), (&[], 5, &[(6, 2)])],
     ),
     (
         6,
@@ -55,11 +47,7 @@ const ROWS: [Row; 8] = [
             (&[-2], 3, OTHER_PAIR),
             (&[], 5, &[(7, 2)]),
         ],
-        &[
-            (&[2], 1, PAIR),
-            (&[-2], 3, OTHER_PAIR),
-            (&[], 5, &[(6, 2)]),
-        ],
+        &[(&[2], 1, PAIR), (&[-2], 3, OTHER_PAIR), (&[], 5, &[(6, 2)])],
     ),
     // nor the first, which one names that isn't used either
     (
@@ -72,11 +60,7 @@ const ROWS: [Row; 8] = [
             (&[-2], 3, OTHER_PAIR),
             (&[], 7, &[(8, 2)]),
         ],
-        &[
-            (&[2], 1, PAIR),
-            (&[-2], 3, OTHER_PAIR),
-            (&[], 5, &[(6, 2)]),
-        ],
+        &[(&[2], 1, PAIR), (&[-2], 3, OTHER_PAIR), (&[], 5, &[(6, 2)])],
     ),
     // what is named by a step that is used is used, also where the last step doesn't name it
     (
@@ -113,7 +97,12 @@ const ROWS: [Row; 8] = [
         ],
     ),
     // the formula has the empty clause
-    (1, &[&[], &[1]], &[(&[1], 2, &[]), (&[], 1, &[])], &[(&[], 1, &[])]),
+    (
+        1,
+        &[&[], &[1]],
+        &[(&[1], 2, &[]), (&[], 1, &[])],
+        &[(&[], 1, &[])],
+    ),
     // a clause of the formula that is told once more
     (
         1,
