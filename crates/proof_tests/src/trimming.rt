@@ -128,7 +128,8 @@ fn stated_text(
 fn left_text(rt: &(impl Abort + AllocGlobal), row: &Row) -> Result<Vec<u8>, Fail> {
     let cnf = formula(rt, row.0, row.1)?;
     let checked = check(rt.alloc(), cnf, log(rt.alloc(), row.2)?);
-    let left = trimmed(rt.alloc(), &checked.ok().ok_or("refused")?)?;
+    let verified = checked.ok().ok_or("refused")?;
+    let left = trimmed(rt.alloc(), &verified)?;
     let mut text = Vec::new(rt.alloc());
     write_proof(left.cnf(), left.log(), &mut text)?;
     Ok(text)
