@@ -17,9 +17,9 @@ use Rattle.catalog_semantics.proofs.Whole.{few_is}
 use Rattle.pp_compile.specs.Sources.{IsParsed, IsCatalogOf, IsSettledCatalog}
 
 -- one manifest, one catalog or one refusal
-pub same_catalog : ((text : List ℕ) (m n : Manifest) → IsParsed text m → IsParsed text n → m ≡ n) → (text : List ℕ) (facts : Value) (node_name : List ℕ) (data_levels : List Level) (limits : Limits) (v w : Result Catalog Refusal)
+pub one_answer : ((text : List ℕ) (m n : Manifest) → IsParsed text m → IsParsed text n → m ≡ n) → (text : List ℕ) (facts : Value) (node_name : List ℕ) (data_levels : List Level) (limits : Limits) (v w : Result Catalog Refusal)
     → IsCatalogOf text facts node_name data_levels limits v → IsCatalogOf text facts node_name data_levels limits w → v ≡ w
-same_catalog one text facts node_name data_levels limits v w a b =
+one_answer one text facts node_name data_levels limits v w a b =
     a.is ∙ (ap (λ m. catalog_of m facts node_name data_levels limits) (one text a.manifest b.manifest a.parsed b.parsed) ∙ sym b.is)
 
 -- what is so of the catalog of the manifest is so of what is answered

@@ -1,11 +1,11 @@
 use Rattle.catalog_semantics.specs.States.{references_of}
 use Rattle.catalog_semantics.specs.Frames.{StandOnce, AreSound}
 use Rattle.catalog_laws.specs.Containers.{AreHeld, HoldClasses}
-use Rattle.pp_compile.proofs.PromiseLaws.{same_catalog, promised, is_settled}
+use Rattle.pp_compile.proofs.PromiseLaws.{one_answer, promised, is_settled}
 use Rattle.pp_compile.proofs.compiling.compile_with.Goals as goal
 
 pub returns-clause-one : goal.returns-clause-one
-returns-clause-one c = same_catalog c.one_reading.ensures.manifests c.args.text.now c.args.facts.now c.args.node.now c.args.levels.now c.args.limits
+returns-clause-one c = one_answer c.one_reading.ensures.manifests c.args.text.now c.args.facts.now c.args.node.now c.args.levels.now c.args.limits
 
 pub returns-clause-read : goal.returns-clause-read
 returns-clause-read c v r has refused = c.one_reading.ensures.refusals c.args.text.now has.manifest r has.parsed refused
