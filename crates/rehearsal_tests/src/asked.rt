@@ -351,7 +351,8 @@ const REFUSED: [Row; 18] = [
     ),
 ];
 
-const SHARED: &[u8] = br#"{"version":1,"packages":{"ntp":{"files":["/etc/ntp.conf"],"folders":[]}}}"#;
+const SHARED: &[u8] =
+    br#"{"version":1,"packages":{"ntp":{"files":["/etc/ntp.conf"],"folders":[]}}}"#;
 
 const DOCS: &[u8] =
     br#"{"version":1,"packages":{"x":{"files":["/usr/share/doc/x"],"folders":[]},"y":{"files":["/usr/share/doc/y"],"folders":[]}}}"#;
@@ -389,11 +390,7 @@ fn told_of(alloc: Global, words: &[&str], manifest: &str) -> Result<Told, Fail> 
 }
 
 /// Each row is told so with status 0, and refused so with another.
-fn all_told(
-    rt: &(impl Abort + AllocGlobal),
-    status: u8,
-    rows: &[Row],
-) -> Result<(), Fail> {
+fn all_told(rt: &(impl Abort + AllocGlobal), status: u8, rows: &[Row]) -> Result<(), Fail> {
     for (words, manifest, text) in rows {
         let told = told_of(rt.alloc(), *words, *manifest)?;
         compare_text(rt, &told, status, *text, *manifest);

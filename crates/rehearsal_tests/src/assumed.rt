@@ -1,8 +1,6 @@
 //! What is assumed of the resources of a compiled catalog: what is told of it, and which texts of it are refused.
 
-use crate::compiled::{
-    Differing, MOTD, Res, all_differ, asked, catalog, is_refused, is_told,
-};
+use crate::compiled::{Differing, MOTD, Res, all_differ, asked, catalog, is_refused, is_told};
 use std::alloc::Global;
 use std::process::Abort;
 use std::test::Fail;

@@ -1,8 +1,6 @@
 //! Catalogs that Puppet compiled, in place of manifests: what is told of them.
 
-use crate::common::{
-    NONE, ONE, TWO, Told, compare, compare_head, compare_refusal, run_over,
-};
+use crate::common::{NONE, ONE, TWO, Told, compare, compare_head, compare_refusal, run_over};
 use std::alloc::Global;
 use std::process::Abort;
 use std::test::Fail;
