@@ -173,7 +173,7 @@ fn next_run<'a>(lines: &'a str) -> (&'a str, &'a str, &'a str) {
     (order, outcome, rest)
 }
 
-/// The orders of two runs differ by one exchange, and so do their outcomes.
+/// Two runs, each an order and its outcome: the orders differ by one exchange, and the outcomes differ.
 fn are_apart(rt: &impl Abort, left: (&str, &str), right: (&str, &str), manifest: &str) {
     assert!(rt; are_exchanged(left.0, right.0), "{manifest}");
     assert!(rt; left.1 != right.1, "{manifest}");
