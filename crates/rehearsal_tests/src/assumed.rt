@@ -1,5 +1,6 @@
 //! What is assumed of the resources of a compiled catalog: what is told of it, and which texts of it are refused.
 
+use crate::common::{Told, compare_status};
 use crate::compiled::{Differing, MOTD, Res, all_differ, asked, catalog, is_refused, is_told};
 use std::alloc::Global;
 use std::process::Abort;
@@ -570,6 +571,15 @@ fn with_title(alloc: Global, length: usize) -> Result<String, Fail> {
     )?)
 }
 
+/// Whether the reference is refused.
+fn names_reference(rt: &impl Abort, told: &Told, want: bool, row: &str) {
+    assert_eq!(rt;
+        told.err.as_str().contains("52 at 0: Exec[x"),
+        want,
+        "{row}"
+    );
+}
+
 /// This is told with the status, and with status 4 the reference is refused.
 fn is_long(
     rt: &(impl Abort + AllocGlobal),
@@ -578,12 +588,8 @@ fn is_long(
     status: u8,
 ) -> Result<(), Fail> {
     let told = asked(rt.alloc(), VERIFY, catalog, assumed)?;
-    assert_eq!(rt; told.status, status, "{status} {assumed}");
-    assert_eq!(rt;
-        told.err.as_str().contains("52 at 0: Exec[x"),
-        status == 4,
-        "{status} {assumed}"
-    );
+    compare_status(rt, &told, status, assumed);
+    names_reference(rt, &told, status == 4, assumed);
     Ok(())
 }
 

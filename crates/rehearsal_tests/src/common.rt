@@ -151,8 +151,18 @@ pub fn compare_refusal(
     Ok(())
 }
 
+/// Compares the status.
+pub fn compare_status(rt: &impl Abort, told: &Told, status: u8, row: &str) {
+    assert_eq!(rt; told.status, status, "{row}");
+}
+
+/// Compares what stands on err.
+pub fn compare_err(rt: &impl Abort, told: &Told, err: &str, row: &str) {
+    assert_eq!(rt; told.err.as_str(), err, "{row}");
+}
+
 /// Compares what was told with a status and the lines in front of the report.
 pub fn compare_head(rt: &impl Abort, told: &Told, status: u8, head: &str, row: &str) {
-    assert_eq!(rt; told.status, status, "{row}");
+    compare_status(rt, told, status, row);
     assert!(rt; told.out.as_str().starts_with(head), "{row}");
 }

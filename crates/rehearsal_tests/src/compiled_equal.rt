@@ -1,6 +1,6 @@
 //! Two compiled catalogs each: whether they do the same.
 
-use crate::common::{Told, compare_head, compare_text, run_over};
+use crate::common::{Told, compare_err, compare_head, compare_text, run_over};
 use crate::compiled::{MOTD, Res, catalog};
 use std::alloc::Global;
 use std::process::Abort;
@@ -209,7 +209,7 @@ fn all_differ(rt: &(impl Abort + AllocGlobal), rows: &[(Row, u8, &str)]) -> Resu
     for (row, status, head) in rows {
         let told = of_both(rt.alloc(), row)?;
         compare_head(rt, &told, *status, *head, *head);
-        assert_eq!(rt; told.err.as_str(), "", "{head}");
+        compare_err(rt, &told, "", *head);
     }
     Ok(())
 }

@@ -1,6 +1,6 @@
 //! Manifests whose order matters: what is told of them runs as it is told.
 
-use crate::common::{Told, run_over};
+use crate::common::{Told, compare_err, compare_status, run_over};
 use std::alloc::Global;
 use std::process::Abort;
 use std::test::Fail;
@@ -204,8 +204,8 @@ fn runs_differ(rt: &(impl Abort + AllocGlobal), row: &Row, lines: &str) -> Resul
 /// These lines are told in front of two runs that differ.
 fn differs(rt: &(impl Abort + AllocGlobal), row: &Row, words: &[&str]) -> Result<(), Fail> {
     let told = told_of(rt.alloc(), row, words)?;
-    assert_eq!(rt; told.status, 1, "{}", row.0);
-    assert_eq!(rt; told.err.as_str(), "", "{}", row.0);
+    compare_status(rt, &told, 1, row.0);
+    compare_err(rt, &told, "", row.0);
     let rest = told.out.as_str().strip_prefix(row.2).unwrap_or("?");
     runs_differ(rt, row, rest)
 }
