@@ -120,10 +120,15 @@ fn is_too_large(
     is_refused(rt, manifest, line.as_str())
 }
 
+/// Where the value stands that is twice the largest that fits.
+fn place_of_doubled(alloc: Global) -> Result<usize, Fail> {
+    let fits = doubled(alloc, "xxxxxxxx", 14)?;
+    Ok(fits.len() + "$a15 = ".len())
+}
+
 #[test]
 fn texts_that_grow(rt: HostRuntime) -> Result<(), Fail> {
-    let fits = doubled(rt.alloc(), "xxxxxxxx", 14)?;
-    let at = fits.len() + "$a15 = ".len();
+    let at = place_of_doubled(rt.alloc())?;
     let large = doubled(rt.alloc(), "xxxxxxxx", 15)?;
     is_too_large(&rt, large.as_str(), at, "value")
 }
@@ -149,10 +154,15 @@ fn lists_as_large_as_may_be(rt: HostRuntime) -> Result<(), Fail> {
     is_judged(&rt, fits.as_str())
 }
 
+/// Where the list stands that has the largest that fits.
+fn place_of_box(alloc: Global) -> Result<usize, Fail> {
+    let fits = boxes(alloc, 1_000)?;
+    Ok(fits.len() + "$a1001 = ".len())
+}
+
 #[test]
 fn lists_that_grow(rt: HostRuntime) -> Result<(), Fail> {
-    let fits = boxes(rt.alloc(), 1_000)?;
-    let at = fits.len() + "$a1001 = ".len();
+    let at = place_of_box(rt.alloc())?;
     let large = boxes(rt.alloc(), 1_001)?;
     is_too_large(&rt, large.as_str(), at, "value")
 }
@@ -218,6 +228,7 @@ fn all_end(
     Ok(())
 }
 
+/// A file of each kind, in the order in which they are read.
 const FILES: &[&str] = &[
     "--ask",
     "replay",
