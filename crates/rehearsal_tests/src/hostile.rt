@@ -228,7 +228,7 @@ fn all_end(
     Ok(())
 }
 
-/// A file of each kind, in the order in which they are read.
+/// Words that name files of all kinds but class data.
 const FILES: &[&str] = &[
     "--ask",
     "replay",
