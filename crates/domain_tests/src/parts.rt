@@ -57,167 +57,174 @@ fn is_told(rt: &impl Abort, alloc: Global, left: &str, right: &str) -> bool {
 /// Each two programs are told to commute or not, whichever of them comes first.
 fn are_told(rt: &impl Abort, alloc: Global, rows: &[(&str, &str, bool)]) {
     for (left, right, want) in rows {
-        assert_eq!(rt;
-            is_told(rt, alloc, left, right),
-            *want,
-            "{left} and {right}"
-        );
-        assert_eq!(rt;
-            is_told(rt, alloc, right, left),
-            *want,
-            "{right} and {left}"
-        );
+        let forth = is_told(rt, alloc, left, right);
+        assert_eq!(rt; forth, *want, "{left} and {right}");
+        let back = is_told(rt, alloc, right, left);
+        assert_eq!(rt; back, *want, "{right} and {left}");
     }
 }
 
+/// A package that comes with two files in one folder.
+const COMES: &str = "dir /x | dir /m unless /m/a: put /x/p 1; put /x/q 2; creat /m/a";
+
 #[test]
 fn packages_that_come(rt: HostRuntime) {
-    let both = "dir /x | dir /m unless /m/a: put /x/p 1; put /x/q 2; creat /m/a";
-    let rows = [
-        // The same files with the same contents.
-        (
-            both,
-            "dir /x | dir /m unless /m/b: put /x/p 1; put /x/q 2; creat /m/b",
-            true,
-        ),
-        // One file in common and one of their own, in one folder.
-        (
-            both,
-            "dir /x | dir /m unless /m/b: put /x/p 1; put /x/r 3; creat /m/b",
-            true,
-        ),
-        (
-            both,
-            "dir /x | dir /m unless /m/b: put /x/o 3; put /x/q 2; creat /m/b",
-            true,
-        ),
-        // In other folders, too.
-        (
-            both,
-            "dir /o | dir /x | dir /x/y | dir /m unless /m/b: put /o/a 1; put /x/p 1; put /x/y/z 3; creat /m/b",
-            true,
-        ),
-        // One path with two contents.
-        (
-            both,
-            "dir /x | dir /m unless /m/b: put /x/p 3; put /x/q 2; creat /m/b",
-            false,
-        ),
-        // A folder where the other has a file.
-        (
-            both,
-            "dir /x | dir /x/p | dir /m unless /m/b: put /x/p/q 3; creat /m/b",
-            false,
-        ),
-        // The mark of the other among the files.
-        (
-            both,
-            "dir /x | dir /m unless /m/b: put /x/p 1; put /m/a 1; creat /m/b",
-            false,
-        ),
-        // Without the folder that the file is in.
-        (
-            both,
-            "dir /m unless /m/b: put /x/p 1; put /x/r 1; creat /m/b",
-            false,
-        ),
-    ];
-    are_told(&rt, rt.alloc(), &rows);
+    are_told(
+        &rt,
+        rt.alloc(),
+        &[
+            // The same files with the same contents.
+            (
+                COMES,
+                "dir /x | dir /m unless /m/b: put /x/p 1; put /x/q 2; creat /m/b",
+                true,
+            ),
+            // One file in common and one of their own, in one folder.
+            (
+                COMES,
+                "dir /x | dir /m unless /m/b: put /x/p 1; put /x/r 3; creat /m/b",
+                true,
+            ),
+            (
+                COMES,
+                "dir /x | dir /m unless /m/b: put /x/o 3; put /x/q 2; creat /m/b",
+                true,
+            ),
+            // In other folders, too.
+            (
+                COMES,
+                "dir /o | dir /x | dir /x/y | dir /m unless /m/b: put /o/a 1; put /x/p 1; put /x/y/z 3; creat /m/b",
+                true,
+            ),
+            // One path with two contents.
+            (
+                COMES,
+                "dir /x | dir /m unless /m/b: put /x/p 3; put /x/q 2; creat /m/b",
+                false,
+            ),
+            // A folder where the other has a file.
+            (
+                COMES,
+                "dir /x | dir /x/p | dir /m unless /m/b: put /x/p/q 3; creat /m/b",
+                false,
+            ),
+            // The mark of the other among the files.
+            (
+                COMES,
+                "dir /x | dir /m unless /m/b: put /x/p 1; put /m/a 1; creat /m/b",
+                false,
+            ),
+            // Without the folder that the file is in.
+            (
+                COMES,
+                "dir /m unless /m/b: put /x/p 1; put /x/r 1; creat /m/b",
+                false,
+            ),
+        ],
+    );
 }
+
+/// A package that goes with two files in a folder below another.
+const GOES: &str = "where /m/a: drop /x/y/p; drop /x/y/q; sweep /x/y; sweep /x; rm /m/a";
 
 #[test]
 fn packages_that_go(rt: HostRuntime) {
-    let both = "where /m/a: drop /x/y/p; drop /x/y/q; sweep /x/y; sweep /x; rm /m/a";
-    let rows = [
-        // The same files in the same folders.
-        (
-            both,
-            "where /m/b: drop /x/y/p; drop /x/y/q; sweep /x/y; sweep /x; rm /m/b",
-            true,
-        ),
-        // A file in common, and one elsewhere.
-        (
-            both,
-            "where /m/b: drop /o/p; drop /x/y/p; drop /x/y/q; sweep /x/y; sweep /x; rm /m/b",
-            true,
-        ),
-        // The same folders alone.
-        (
-            "where /m/a: sweep /x/y; sweep /x; rm /m/a",
-            "where /m/b: drop /o/p; sweep /x/y; sweep /x; rm /m/b",
-            true,
-        ),
-        // A file of their own in the same folders.
-        (
-            both,
-            "where /m/b: drop /x/y/o; drop /x/y/q; sweep /x/y; sweep /x; rm /m/b",
-            true,
-        ),
-        (
-            both,
-            "where /m/b: drop /x/o; drop /x/y/p; sweep /x/y; sweep /x; rm /m/b",
-            true,
-        ),
-        // A folder of its own below one of the same.
-        (
-            both,
-            "where /m/b: drop /x/z/o; sweep /x/y; sweep /x/z; sweep /x; rm /m/b",
-            true,
-        ),
-        // Shallow folders ahead of deep ones.
-        (
-            both,
-            "where /m/b: drop /x/y/o; sweep /x; sweep /x/y; rm /m/b",
-            false,
-        ),
-        // A sweep that the other doesn't make, of a folder above.
-        (both, "where /m/b: drop /x/y/o; sweep /x/y; rm /m/b", false),
-        // The mark stands in a folder that both sweep.
-        (
-            "where /m/a: drop /x/p; sweep /x; sweep /m; rm /m/a",
-            "where /m/b: drop /x/q; sweep /x; sweep /m; rm /m/b",
-            false,
-        ),
-        // One removes the last file of a folder that the other sweeps.
-        (both, "where /m/b: drop /x/y/o; rm /m/b", false),
-        (both, "where /m/b: drop /x/y/p; rm /m/b", false),
-        // One comes with a file with which the other goes.
-        (
-            both,
-            "dir /x | dir /x/y | dir /m unless /m/b: put /x/y/p 1; creat /m/b",
-            false,
-        ),
-        // One comes into a folder that the other sweeps.
-        (
-            both,
-            "dir /x | dir /x/y | dir /m unless /m/b: put /x/y/o 1; creat /m/b",
-            false,
-        ),
-    ];
-    are_told(&rt, rt.alloc(), &rows);
+    are_told(
+        &rt,
+        rt.alloc(),
+        &[
+            // The same files in the same folders.
+            (
+                GOES,
+                "where /m/b: drop /x/y/p; drop /x/y/q; sweep /x/y; sweep /x; rm /m/b",
+                true,
+            ),
+            // A file in common, and one elsewhere.
+            (
+                GOES,
+                "where /m/b: drop /o/p; drop /x/y/p; drop /x/y/q; sweep /x/y; sweep /x; rm /m/b",
+                true,
+            ),
+            // The same folders alone.
+            (
+                "where /m/a: sweep /x/y; sweep /x; rm /m/a",
+                "where /m/b: drop /o/p; sweep /x/y; sweep /x; rm /m/b",
+                true,
+            ),
+            // A file of their own in the same folders.
+            (
+                GOES,
+                "where /m/b: drop /x/y/o; drop /x/y/q; sweep /x/y; sweep /x; rm /m/b",
+                true,
+            ),
+            (
+                GOES,
+                "where /m/b: drop /x/o; drop /x/y/p; sweep /x/y; sweep /x; rm /m/b",
+                true,
+            ),
+            // A folder of its own below one of the same.
+            (
+                GOES,
+                "where /m/b: drop /x/z/o; sweep /x/y; sweep /x/z; sweep /x; rm /m/b",
+                true,
+            ),
+            // Shallow folders ahead of deep ones.
+            (
+                GOES,
+                "where /m/b: drop /x/y/o; sweep /x; sweep /x/y; rm /m/b",
+                false,
+            ),
+            // A sweep that the other doesn't make, of a folder above.
+            (GOES, "where /m/b: drop /x/y/o; sweep /x/y; rm /m/b", false),
+            // The mark stands in a folder that both sweep.
+            (
+                "where /m/a: drop /x/p; sweep /x; sweep /m; rm /m/a",
+                "where /m/b: drop /x/q; sweep /x; sweep /m; rm /m/b",
+                false,
+            ),
+            // One removes the last file of a folder that the other sweeps.
+            (GOES, "where /m/b: drop /x/y/o; rm /m/b", false),
+            (GOES, "where /m/b: drop /x/y/p; rm /m/b", false),
+            // One comes with a file with which the other goes.
+            (
+                GOES,
+                "dir /x | dir /x/y | dir /m unless /m/b: put /x/y/p 1; creat /m/b",
+                false,
+            ),
+            // One comes into a folder that the other sweeps.
+            (
+                GOES,
+                "dir /x | dir /x/y | dir /m unless /m/b: put /x/y/o 1; creat /m/b",
+                false,
+            ),
+        ],
+    );
 }
 
 #[test]
 fn programs_of_other_kinds(rt: HostRuntime) {
-    let rows = [
-        ("id", "err", true),
-        ("err", "err", true),
-        ("put /a 1", "put /a 1", true),
-        ("put /a 1", "put /a 2", false),
-        ("put /a 1", "put /b 2", true),
-        ("creat /a 1", "creat /b 1", true),
-        ("creat /a 1", "link /a 1", false),
-        ("creat /a 1", "if file? /a: id, err", false),
-        ("if file? /a: put /b 1, id", "put /a 1", false),
-        ("if emptydir? /a: put /b 1, id", "put /a/c 1", false),
-        ("if dir? /a or link? /c: put /b 1, id", "put /c 1", false),
-        ("if not none? /a: put /b 1, put /b 2", "put /c 1", true),
-        ("put /a 1; put /b 2", "put /a 1; put /c 3", true),
-        ("put /a 1; put /b 2", "put /b 2; put /a 1", false),
-        ("cp /a /b; put /c 1", "cp /a /b; put /d 1", true),
-        ("cp /a /b; put /c 1", "put /a 1; put /d 1", false),
-        ("link /a t; put /b 1", "link /a t; put /c 1", true),
-        ("rm /a; put /b 1", "mkdir /a; put /c 1", false),
-    ];
-    are_told(&rt, rt.alloc(), &rows);
+    are_told(
+        &rt,
+        rt.alloc(),
+        &[
+            ("id", "err", true),
+            ("err", "err", true),
+            ("put /a 1", "put /a 1", true),
+            ("put /a 1", "put /a 2", false),
+            ("put /a 1", "put /b 2", true),
+            ("creat /a 1", "creat /b 1", true),
+            ("creat /a 1", "link /a 1", false),
+            ("creat /a 1", "if file? /a: id, err", false),
+            ("if file? /a: put /b 1, id", "put /a 1", false),
+            ("if emptydir? /a: put /b 1, id", "put /a/c 1", false),
+            ("if dir? /a or link? /c: put /b 1, id", "put /c 1", false),
+            ("if not none? /a: put /b 1, put /b 2", "put /c 1", true),
+            ("put /a 1; put /b 2", "put /a 1; put /c 3", true),
+            ("put /a 1; put /b 2", "put /b 2; put /a 1", false),
+            ("cp /a /b; put /c 1", "cp /a /b; put /d 1", true),
+            ("cp /a /b; put /c 1", "put /a 1; put /d 1", false),
+            ("link /a t; put /b 1", "link /a t; put /c 1", true),
+            ("rm /a; put /b 1", "mkdir /a; put /c 1", false),
+        ],
+    );
 }

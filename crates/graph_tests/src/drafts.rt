@@ -201,9 +201,9 @@ fn answer(alloc: Global, text: &str) -> Result<String, Fail> {
 }
 
 /// Each text has the graph beside it, or the refusal.
-pub fn are_answered(rt: &impl Abort, alloc: Global, rows: &[(&str, &str)]) -> Result<(), Fail> {
+pub fn are_answered(rt: &(impl Abort + AllocGlobal), rows: &[(&str, &str)]) -> Result<(), Fail> {
     for (text, want) in rows {
-        let found = answer(alloc, text)?;
+        let found = answer(rt.alloc(), *text)?;
         assert_eq!(rt; found.as_str(), *want, "{text}");
     }
     Ok(())

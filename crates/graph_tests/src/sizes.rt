@@ -4,9 +4,11 @@ use catalog::Catalog;
 use catalog_semantics::{Relation, Resource, Sort};
 use dep_graph::graph;
 use host_limits::Limits;
+use orders::Order;
 use pp_value::{Pairs, Ref};
 use rh_base::{Fault, NoMemory, Seq, Text};
 use std::alloc::Global;
+use std::process::Abort;
 use std::test::Fail;
 use test_rows::text;
 
@@ -71,13 +73,26 @@ fn large(alloc: Global) -> Result<Catalog, Fault> {
     Ok(catalog)
 }
 
+/// An order of so many nodes; each row two of them, and whether the first comes before the second.
+fn are_before(rt: &impl Abort, order: &Order, count: u32, rows: &[(u32, u32, bool)]) {
+    let n = order.count();
+    assert_eq!(rt; n, count);
+    for (a, b, want) in rows {
+        assert!(rt; *a < n && *b < n);
+        assert_eq!(rt; order.before(*a, *b), *want, "{a} before {b}");
+    }
+}
+
 #[test]
 fn large_graphs(rt: HostRuntime) -> Result<(), Fail> {
     let catalog = large(rt.alloc())?;
     let found = graph(rt.alloc(), &catalog)?;
     assert_eq!(rt; found.plain.len(), 256);
-    assert_eq!(rt; found.order.count(), 256);
-    assert!(rt; found.order.before(127, 128));
-    assert!(rt; !found.order.before(126, 127));
+    are_before(
+        &rt,
+        &found.order,
+        256,
+        &[(127, 128, true), (126, 127, false)],
+    );
     Ok(())
 }

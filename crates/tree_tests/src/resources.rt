@@ -2,6 +2,7 @@
 
 use fs_lang::{Path, Program, Test};
 use res_models::put;
+use std::alloc::Global;
 use std::test::Fail;
 use test_rows::text;
 
@@ -36,20 +37,32 @@ fn replaces_motd(program: &Program) -> bool {
     }
 }
 
-#[test]
-fn a_file_with_content(rt: HostRuntime) -> Result<(), Fail> {
-    let alloc = rt.alloc();
-    let path = Path::read(alloc, "/etc/motd").ok().ok_or("a path")?;
-    let program = put(alloc, &path, &text(alloc, "hi")?).ok().ok_or("memory")?;
-    let Program::If(test, over, fresh) = &program else {
-        return Err(Fail::from("it is a choice"));
-    };
-    let asks_for_a_file = match test {
+fn asks_for_motd(test: &Test) -> bool {
+    match test {
         Test::IsFile(path) => is_motd(path),
         _ => false,
-    };
-    assert!(rt; asks_for_a_file);
-    assert!(rt; replaces_motd(over.get()));
-    assert!(rt; creates_motd(fresh.get()));
+    }
+}
+
+/// Where /etc/motd is a file, it is replaced, and else it is made.
+fn puts_motd(program: &Program) -> bool {
+    match program {
+        Program::If(test, over, fresh) => {
+            asks_for_motd(test) && replaces_motd(over.get()) && creates_motd(fresh.get())
+        }
+        _ => false,
+    }
+}
+
+fn motd(alloc: Global) -> Result<Program, Fail> {
+    let path = Path::read(alloc, "/etc/motd").ok().ok_or("a path")?;
+    let content = text(alloc, "hi")?;
+    Ok(put(alloc, &path, &content).ok().ok_or("memory")?)
+}
+
+#[test]
+fn a_file_with_content(rt: HostRuntime) -> Result<(), Fail> {
+    let program = motd(rt.alloc())?;
+    assert!(rt; puts_motd(&program));
     Ok(())
 }
