@@ -83,6 +83,12 @@ pub fn text_of(alloc: Global, resources: &str) -> Result<String, Fail> {
     Ok(format!(in alloc; r#"{{"version":1,"resources":{{{resources}}}}}"#)?)
 }
 
+/// What the text of these members says, or the refusal.
+pub fn answer_of(alloc: Global, resources: &str) -> Result<String, Fail> {
+    let text = text_of(alloc, resources)?;
+    answer(alloc, text.as_str())
+}
+
 /// Each text is refused.
 pub fn expect_refused(rt: &(impl Abort), alloc: Global, texts: &[&str]) -> Result<(), Fail> {
     for text in texts {
