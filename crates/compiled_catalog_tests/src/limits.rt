@@ -76,10 +76,14 @@ fn counts_are_limited(rt: HostRuntime) -> Result<(), Fail> {
     expect_counts(&rt, rt.alloc(), COUNTS)
 }
 
-/// A text in JSON of the size of a value's limit, or of one more.
-fn text(alloc: Global, is_large: bool) -> Result<String, Fail> {
+/// How many dots make a text of the size of a value's limit, or of one more.
+fn dots_of(is_large: bool) -> usize {
     // a text is larger by one than its bytes
-    let count = if is_large { 262_144 } else { 262_143 };
+    if is_large { 262_144 } else { 262_143 }
+}
+
+/// A text in JSON of so many dots.
+fn text(alloc: Global, count: usize) -> Result<String, Fail> {
     let dots = ".".repeat(alloc, count)?;
     Ok(format!(in alloc; r#""message":"{dots}""#)?)
 }
@@ -92,7 +96,7 @@ fn expect_texts(
     count: usize,
     want: &str,
 ) -> Result<(), Fail> {
-    let parameters = text(alloc, is_large)?;
+    let parameters = text(alloc, dots_of(is_large))?;
     let text = resources(alloc, count, NATIVE, parameters.as_str())?;
     expect_relations(rt, alloc, text.as_str(), want)
 }
