@@ -42,6 +42,19 @@ const ORDERS: &[(&str, &str)] = &[
     ("[", "63 at 0: order"),
 ];
 
+fn resource(alloc: Global, sort: Sort, kind: &str, title: &str) -> Result<Resource, Fail> {
+    let kind = text(alloc, kind)?;
+    let title = text(alloc, title)?;
+    Ok(Resource {
+        id: Ref { kind, title },
+        sort,
+        is_virtual: false,
+        at: 0,
+        holder: None,
+        attrs: Pairs::new(alloc),
+    })
+}
+
 fn push(
     alloc: Global,
     catalog: &mut Catalog,
@@ -49,19 +62,8 @@ fn push(
     kind: &str,
     title: &str,
 ) -> Result<(), Fail> {
-    let kind = text(alloc, kind)?;
-    let title = text(alloc, title)?;
-    catalog.add(
-        Resource {
-            id: Ref { kind, title },
-            sort,
-            is_virtual: false,
-            at: 0,
-            holder: None,
-            attrs: Pairs::new(alloc),
-        },
-        Limits::Usual,
-    )?;
+    let r = resource(alloc, sort, kind, title)?;
+    catalog.add(r, Limits::Usual)?;
     Ok(())
 }
 
