@@ -24,17 +24,36 @@ fn add_paths(alloc: Global, word: &str, paths: &[Path], line: &mut String) -> Re
     Ok(())
 }
 
-/// Adds each path of a behavior behind what is done to it.
-fn add_behavior(alloc: Global, b: &Behavior, line: &mut String) -> Result<(), Fail> {
-    add_paths(alloc, "needs", b.needs.as_slice(), line)?;
-    add_paths(alloc, "folders", b.folders.as_slice(), line)?;
-    add_paths(alloc, "makes", b.makes.as_slice(), line)?;
-    add_paths(alloc, "edits", b.edits.as_slice(), line)?;
-    add_paths(alloc, "removes", b.removes.as_slice(), line)?;
-    if let Some(path) = &b.creates {
-        add_path(alloc, "creates", path, line)?;
+/// Adds the paths of each row behind its word.
+fn add_rows(alloc: Global, rows: &[(&str, &[Path])], line: &mut String) -> Result<(), Fail> {
+    for (word, paths) in rows {
+        add_paths(alloc, word, *paths, line)?;
     }
     Ok(())
+}
+
+/// Adds the paths of a behavior behind what is done to them, but for that which it creates.
+fn add_done(alloc: Global, b: &Behavior, line: &mut String) -> Result<(), Fail> {
+    add_rows(
+        alloc,
+        &[
+            ("needs", b.needs.as_slice()),
+            ("folders", b.folders.as_slice()),
+            ("makes", b.makes.as_slice()),
+            ("edits", b.edits.as_slice()),
+            ("removes", b.removes.as_slice()),
+        ],
+        line,
+    )
+}
+
+/// Adds each path of a behavior behind what is done to it.
+fn add_behavior(alloc: Global, b: &Behavior, line: &mut String) -> Result<(), Fail> {
+    add_done(alloc, b, line)?;
+    match &b.creates {
+        Some(path) => add_path(alloc, "creates", path, line),
+        None => Ok(()),
+    }
 }
 
 /// Adds what is assumed.
@@ -81,6 +100,12 @@ pub fn answer(alloc: Global, text: &str) -> Result<String, Fail> {
 /// The text of assumptions of these members.
 pub fn text_of(alloc: Global, resources: &str) -> Result<String, Fail> {
     Ok(format!(in alloc; r#"{{"version":1,"resources":{{{resources}}}}}"#)?)
+}
+
+/// What the text of these members says, or the refusal.
+pub fn answer_of(alloc: Global, resources: &str) -> Result<String, Fail> {
+    let text = text_of(alloc, resources)?;
+    answer(alloc, text.as_str())
 }
 
 /// Each text is refused.

@@ -1,8 +1,9 @@
 //! Assumptions that are read, and those of types.
 
-use crate::answers::{add_assumed, answer, text_of};
+use crate::answers::{add_assumed, answer_of, text_of};
 use assumed_text::{Assumptions, assumptions_from_json};
 use std::alloc::Global;
+use std::process::Abort;
 use std::test::Fail;
 
 /// Members, and what they say.
@@ -54,14 +55,24 @@ const READ: &[(&str, &str)] = &[
     ),
 ];
 
-#[test]
-fn assumptions_are_read(rt: HostRuntime) -> Result<(), Fail> {
-    for (members, want) in READ {
-        let text = text_of(rt.alloc(), members)?;
-        let told = answer(rt.alloc(), text.as_str())?;
+/// The members of each row say what stands beside them.
+fn are_read(rt: &impl Abort, alloc: Global, rows: &[(&str, &str)]) -> Result<(), Fail> {
+    for (members, want) in rows {
+        let told = answer_of(alloc, members)?;
         assert_eq!(rt; told.as_str(), *want, "{members}");
     }
     Ok(())
+}
+
+#[test]
+fn assumptions_are_read(rt: HostRuntime) -> Result<(), Fail> {
+    are_read(&rt, rt.alloc(), READ)
+}
+
+/// Assumptions of these members.
+fn assumptions_of(alloc: Global, members: &str) -> Result<Assumptions, Fail> {
+    let text = text_of(alloc, members)?;
+    Ok(assumptions_from_json(alloc, text.as_bytes())?)
 }
 
 fn shown_of(alloc: Global, assumptions: &Assumptions, kind: &str) -> Result<String, Fail> {
@@ -83,16 +94,25 @@ const TYPES: &[(&str, &str)] = &[
     ("", "-"),
 ];
 
-#[test]
-fn types_are_found(rt: HostRuntime) -> Result<(), Fail> {
-    let text = text_of(
-        rt.alloc(),
-        r#""exec":"none","EXEC":"refused","Exec":"none","File[/a]":"none","File_line":{"edits":["/e"]},"A::b":"none""#,
-    )?;
-    let assumptions = assumptions_from_json(rt.alloc(), text.as_bytes())?;
-    for (kind, want) in TYPES {
-        let told = shown_of(rt.alloc(), &assumptions, kind)?;
+/// Of the type of each row is assumed what stands beside it.
+fn are_found(
+    rt: &impl Abort,
+    alloc: Global,
+    assumptions: &Assumptions,
+    rows: &[(&str, &str)],
+) -> Result<(), Fail> {
+    for (kind, want) in rows {
+        let told = shown_of(alloc, assumptions, kind)?;
         assert_eq!(rt; told.as_str(), *want, "{kind}");
     }
     Ok(())
+}
+
+#[test]
+fn types_are_found(rt: HostRuntime) -> Result<(), Fail> {
+    let assumptions = assumptions_of(
+        rt.alloc(),
+        r#""exec":"none","EXEC":"refused","Exec":"none","File[/a]":"none","File_line":{"edits":["/e"]},"A::b":"none""#,
+    )?;
+    are_found(&rt, rt.alloc(), &assumptions, TYPES)
 }

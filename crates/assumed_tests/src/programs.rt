@@ -9,6 +9,7 @@ use pp_eval::{facts_from_json, ref_of};
 use pp_value::{Pairs, Ref, Value};
 use rh_base::Seq;
 use std::alloc::Global;
+use std::process::Abort;
 use std::test::Fail;
 use tree_text::program_text;
 
@@ -122,6 +123,20 @@ const PROGRAMS: &[(&str, &str)] = &[
     ),
 ];
 
+/// A resource and each behavior have the program beside it.
+fn are_programs(
+    rt: &impl Abort,
+    alloc: Global,
+    r: &Resource,
+    rows: &[(&str, &str)],
+) -> Result<(), Fail> {
+    for (behavior, want) in rows {
+        let told = program_shown(alloc, r, behavior)?;
+        assert_eq!(rt; told.as_str(), *want, "{behavior}");
+    }
+    Ok(())
+}
+
 #[test]
 fn behaviors_are_programs(rt: HostRuntime) -> Result<(), Fail> {
     let r = resource(
@@ -130,11 +145,7 @@ fn behaviors_are_programs(rt: HostRuntime) -> Result<(), Fail> {
         "x",
         r#"{"before":"B","command":"/bin/c","notify":"N","require":"R","subscribe":"S","tries":2}"#,
     )?;
-    for (behavior, want) in PROGRAMS {
-        let told = program_shown(rt.alloc(), &r, behavior)?;
-        assert_eq!(rt; told.as_str(), *want, "{behavior}");
-    }
-    Ok(())
+    are_programs(&rt, rt.alloc(), &r, PROGRAMS)
 }
 
 /// Pieces of titles, how many of them, behaviors, and whether a resource of such a title has a program.
@@ -148,15 +159,35 @@ const NAMES: &[(&str, usize, &str, bool)] = &[
     ("\0", 1, r#"{"removes":["/m"]}"#, true),
 ];
 
-#[test]
-fn what_writes_has_a_name(rt: HostRuntime) -> Result<(), Fail> {
-    for (piece, count, behavior, accepted) in NAMES {
-        let title = piece.repeat(rt.alloc(), *count)?;
-        let r = resource(rt.alloc(), "exec", title.as_str(), "{}")?;
-        let told = program_shown(rt.alloc(), &r, behavior)?;
-        assert_eq!(rt; told.as_str() != "52", *accepted, "{behavior} {count}");
+/// A resource whose title is this piece so many times.
+fn titled(alloc: Global, piece: &str, count: usize) -> Result<Resource, Fail> {
+    let title = piece.repeat(alloc, count)?;
+    resource(alloc, "exec", title.as_str(), "{}")
+}
+
+/// Has such a resource a program?
+fn is_accepted(alloc: Global, piece: &str, count: usize, behavior: &str) -> Result<bool, Fail> {
+    let r = titled(alloc, piece, count)?;
+    let told = program_shown(alloc, &r, behavior)?;
+    Ok(told.as_str() != "52")
+}
+
+/// Each such resource has a program or not.
+fn are_accepted(
+    rt: &impl Abort,
+    alloc: Global,
+    rows: &[(&str, usize, &str, bool)],
+) -> Result<(), Fail> {
+    for (piece, count, behavior, want) in rows {
+        let accepted = is_accepted(alloc, piece, *count, behavior)?;
+        assert_eq!(rt; accepted, *want, "{behavior} {count}");
     }
     Ok(())
+}
+
+#[test]
+fn what_writes_has_a_name(rt: HostRuntime) -> Result<(), Fail> {
+    are_accepted(&rt, rt.alloc(), NAMES)
 }
 
 /// The mark of an edit of a path by `File_line[TITLE]`.
@@ -172,12 +203,18 @@ fn edit(alloc: Global, place: usize, title: &str) -> Result<Edit, Fail> {
     Ok(Edit { place, path, mark })
 }
 
+/// Edits of `/h` by resources of these places and titles.
+fn edits_by(alloc: Global, resources: &[(usize, &str)]) -> Result<Seq<Edit>, Fail> {
+    let mut edits = Seq::new(alloc);
+    for (place, title) in resources {
+        edits.push(edit(alloc, *place, title)?)?;
+    }
+    Ok(edits)
+}
+
 /// Edits of `/h` by the resources at the places 0 and 1.
 fn two_edits(alloc: Global) -> Result<Edits, Fail> {
-    let mut edits = Seq::new(alloc);
-    for (place, title) in [(0, "a"), (1, "b")] {
-        edits.push(edit(alloc, place, title)?)?;
-    }
+    let edits = edits_by(alloc, &[(0, "a"), (1, "b")])?;
     Ok(Edits::of(alloc, edits)?)
 }
 
@@ -233,11 +270,16 @@ const LOST: &[(usize, &str, &str)] = &[
     (2, r#"{"needs":[]}"#, "id"),
 ];
 
-#[test]
-fn edits_are_lost(rt: HostRuntime) -> Result<(), Fail> {
-    for (place, behavior, want) in LOST {
-        let told = lost_shown(rt.alloc(), *place, behavior)?;
+/// At each place and of each behavior edits are lost as the program beside them tells.
+fn are_lost(rt: &impl Abort, alloc: Global, rows: &[(usize, &str, &str)]) -> Result<(), Fail> {
+    for (place, behavior, want) in rows {
+        let told = lost_shown(alloc, *place, behavior)?;
         assert_eq!(rt; told.as_str(), *want, "{place} {behavior}");
     }
     Ok(())
+}
+
+#[test]
+fn edits_are_lost(rt: HostRuntime) -> Result<(), Fail> {
+    are_lost(&rt, rt.alloc(), LOST)
 }

@@ -1,6 +1,6 @@
 //! Texts that are no assumptions.
 
-use crate::answers::{answer, expect_refused, text_of};
+use crate::answers::{answer_of, expect_refused, text_of};
 use assumed_text::assumptions_from_json;
 use std::alloc::Global;
 use std::process::Abort;
@@ -137,6 +137,12 @@ fn other_forms_are_refused(rt: HostRuntime) -> Result<(), Fail> {
     expect_refused(&rt, rt.alloc(), FORMS)
 }
 
+/// A text with a member of this key and of what is assumed.
+fn text_with(alloc: Global, key: &str, assumed: &str) -> Result<String, Fail> {
+    let member = format!(in alloc; r#""File[/ok]":"none","{key}":{assumed}"#)?;
+    text_of(alloc, member.as_str())
+}
+
 /// A member of this key and of what is assumed is refused.
 fn expect_member_refused(
     rt: &impl Abort,
@@ -144,33 +150,44 @@ fn expect_member_refused(
     key: &str,
     assumed: &str,
 ) -> Result<(), Fail> {
-    let member = format!(in alloc; r#""File[/ok]":"none","{key}":{assumed}"#)?;
-    let text = text_of(alloc, member.as_str())?;
+    let text = text_with(alloc, key, assumed)?;
     expect_refused(rt, alloc, &[text.as_str()])
+}
+
+/// A member of each key is refused.
+fn expect_keys_refused(rt: &impl Abort, alloc: Global, keys: &[&str]) -> Result<(), Fail> {
+    for key in keys {
+        expect_member_refused(rt, alloc, key, r#""none""#)?;
+    }
+    Ok(())
 }
 
 #[test]
 fn other_keys_are_refused(rt: HostRuntime) -> Result<(), Fail> {
-    for key in KEYS {
-        expect_member_refused(&rt, rt.alloc(), key, r#""none""#)?;
+    expect_keys_refused(&rt, rt.alloc(), KEYS)
+}
+
+/// Under a key each of what is assumed is refused.
+fn expect_each_refused(
+    rt: &impl Abort,
+    alloc: Global,
+    key: &str,
+    rows: &[&str],
+) -> Result<(), Fail> {
+    for assumed in rows {
+        expect_member_refused(rt, alloc, key, assumed)?;
     }
     Ok(())
 }
 
 #[test]
 fn other_assumptions_are_refused(rt: HostRuntime) -> Result<(), Fail> {
-    for assumed in ASSUMED {
-        expect_member_refused(&rt, rt.alloc(), "Exec[x]", assumed)?;
-    }
-    Ok(())
+    expect_each_refused(&rt, rt.alloc(), "Exec[x]", ASSUMED)
 }
 
 #[test]
 fn paths_stand_once(rt: HostRuntime) -> Result<(), Fail> {
-    for assumed in TWICE {
-        expect_member_refused(&rt, rt.alloc(), "exec", assumed)?;
-    }
-    Ok(())
+    expect_each_refused(&rt, rt.alloc(), "exec", TWICE)
 }
 
 /// The keys under which paths stand, with what stands before and behind a path.
@@ -183,58 +200,85 @@ const PARTS: &[(&str, &str)] = &[
     (r#"{"needs":[],"creates":""#, r#""}"#),
 ];
 
-fn expect_path_refused(rt: &impl Abort, alloc: Global, path: &str) -> Result<(), Fail> {
-    for (before, behind) in PARTS {
+/// A path is refused between what stands before and behind it in each of these parts.
+fn expect_path_refused(
+    rt: &impl Abort,
+    alloc: Global,
+    parts: &[(&str, &str)],
+    path: &str,
+) -> Result<(), Fail> {
+    for (before, behind) in parts {
         let assumed = format!(in alloc; "{before}{path}{behind}")?;
         expect_member_refused(rt, alloc, "exec", assumed.as_str())?;
     }
     Ok(())
 }
 
-#[test]
-fn other_paths_are_refused(rt: HostRuntime) -> Result<(), Fail> {
-    for path in PATHS {
-        expect_path_refused(&rt, rt.alloc(), path)?;
+/// Each path is refused in each of these parts.
+fn expect_paths_refused(
+    rt: &impl Abort,
+    alloc: Global,
+    parts: &[(&str, &str)],
+    paths: &[&str],
+) -> Result<(), Fail> {
+    for path in paths {
+        expect_path_refused(rt, alloc, parts, path)?;
     }
     Ok(())
 }
 
-/// Adds so many paths: a letter, and numbers behind it.
-fn add_paths(alloc: Global, letter: char, count: usize, text: &mut String) -> Result<(), Fail> {
+#[test]
+fn other_paths_are_refused(rt: HostRuntime) -> Result<(), Fail> {
+    expect_paths_refused(&rt, rt.alloc(), PARTS, PATHS)
+}
+
+/// All but the last of so many paths: a letter, and numbers behind it.
+fn paths(alloc: Global, letter: char, count: usize) -> Result<String, Fail> {
+    let mut text = String::new(alloc);
     for i in 1..count {
         let path = format!(in alloc; r#"/{letter}{i}",""#)?;
         text.push_str(path.as_str())?;
     }
-    Ok(())
+    Ok(text)
 }
 
-/// A behavior of so many paths that it needs, and as many that it removes.
+/// A behavior of so many paths that it needs, and so many that it removes.
 fn of_paths(alloc: Global, needs: usize, removes: usize) -> Result<String, Fail> {
-    let mut text = String::from_str(alloc, r#""exec":{"needs":[""#)?;
-    add_paths(alloc, 'n', needs, &mut text)?;
-    text.push_str(r#"/n"],"removes":[""#)?;
-    add_paths(alloc, 'r', removes, &mut text)?;
-    text.push_str(r#"/r"],"creates":"/c"}"#)?;
-    text_of(alloc, text.as_str())
+    let needs = paths(alloc, 'n', needs)?;
+    let removes = paths(alloc, 'r', removes)?;
+    Ok(format!(in alloc;
+        r#""exec":{{"needs":["{needs}/n"],"removes":["{removes}/r"],"creates":"/c"}}"#
+    )?)
+}
+
+/// Is such a behavior read?
+fn is_read(alloc: Global, needs: usize, removes: usize) -> Result<bool, Fail> {
+    let member = of_paths(alloc, needs, removes)?;
+    let told = answer_of(alloc, member.as_str())?;
+    Ok(told.as_str() != "66 at 0: assume")
+}
+
+/// A behavior of each row, so many paths that it needs and that it removes, is read or not.
+fn expect_read(rt: &impl Abort, alloc: Global, rows: &[(usize, usize, bool)]) -> Result<(), Fail> {
+    for (needs, removes, want) in rows {
+        let accepted = is_read(alloc, *needs, *removes)?;
+        assert_eq!(rt; accepted, *want, "{needs} {removes}");
+    }
+    Ok(())
 }
 
 #[test]
 fn a_behavior_has_64_paths(rt: HostRuntime) -> Result<(), Fail> {
-    for (needs, removes, accepted) in [
-        (1, 63, true),
-        (32, 32, true),
-        (63, 2, false),
-        (33, 32, false),
-    ] {
-        let text = of_paths(rt.alloc(), needs, removes)?;
-        let told = answer(rt.alloc(), text.as_str())?;
-        assert_eq!(rt;
-            told.as_str() != "66 at 0: assume",
-            accepted,
-            "{needs} {removes}"
-        );
-    }
-    Ok(())
+    expect_read(
+        &rt,
+        rt.alloc(),
+        &[
+            (1, 63, true),
+            (32, 32, true),
+            (63, 2, false),
+            (33, 32, false),
+        ],
+    )
 }
 
 #[test]

@@ -159,6 +159,18 @@ pub fn expect(
     Ok(())
 }
 
+/// Resources and assumptions of each row are answered with what stands beside them.
+pub fn expect_each(
+    rt: &impl Abort,
+    alloc: Global,
+    rows: &[(&str, &str, &str)],
+) -> Result<(), Fail> {
+    for (resources, assumed, want) in rows {
+        expect(rt, alloc, resources, assumed, want)?;
+    }
+    Ok(())
+}
+
 /// How many native resources are assumed.
 fn count_of(
     alloc: Global,

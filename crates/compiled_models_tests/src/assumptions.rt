@@ -1,6 +1,8 @@
 //! What is assumed of native resources.
 
 use crate::answers::{assumed_of, expect};
+use std::alloc::Global;
+use std::process::Abort;
 use std::test::Fail;
 
 /// Resources of several types.
@@ -57,19 +59,29 @@ const ASSUMED: &[(&str, &str, usize)] = &[
     ),
 ];
 
+/// With each row's assumptions those resources have the programs beside them.
+fn are_assumed(rt: &impl Abort, alloc: Global, rows: &[(&str, &str, usize)]) -> Result<(), Fail> {
+    for (assumed, want, _) in rows {
+        expect(rt, alloc, RESOURCES, assumed, want)?;
+    }
+    Ok(())
+}
+
 #[test]
 fn programs_are_assumed(rt: HostRuntime) -> Result<(), Fail> {
-    for (assumed, want, _) in ASSUMED {
-        expect(&rt, rt.alloc(), RESOURCES, assumed, want)?;
+    are_assumed(&rt, rt.alloc(), ASSUMED)
+}
+
+/// With each row's assumptions so many of those resources are assumed.
+fn are_counted(rt: &impl Abort, alloc: Global, rows: &[(&str, &str, usize)]) -> Result<(), Fail> {
+    for (assumed, _, count) in rows {
+        let found = assumed_of(alloc, RESOURCES, assumed)?;
+        assert_eq!(rt; found, *count, "{assumed}");
     }
     Ok(())
 }
 
 #[test]
 fn assumed_resources_are_counted(rt: HostRuntime) -> Result<(), Fail> {
-    for (assumed, _, count) in ASSUMED {
-        let found = assumed_of(rt.alloc(), RESOURCES, assumed)?;
-        assert_eq!(rt; found, *count, "{assumed}");
-    }
-    Ok(())
+    are_counted(&rt, rt.alloc(), ASSUMED)
 }

@@ -51,13 +51,18 @@ fn beside_two(alloc: Global, parameters: &str) -> Result<String, Fail> {
     )?)
 }
 
-#[test]
-fn edits_are_lost(rt: HostRuntime) -> Result<(), Fail> {
-    for (parameters, want) in LOST {
-        let resources = beside_two(rt.alloc(), parameters)?;
-        expect_first(&rt, rt.alloc(), resources.as_str(), EDITED_BY_TWO, want)?;
+/// A file of each row's parameters, beside those two, has the program that stands there.
+fn expect_beside_two(rt: &impl Abort, alloc: Global, rows: &[(&str, &str)]) -> Result<(), Fail> {
+    for (parameters, want) in rows {
+        let resources = beside_two(alloc, parameters)?;
+        expect_first(rt, alloc, resources.as_str(), EDITED_BY_TWO, want)?;
     }
     Ok(())
+}
+
+#[test]
+fn edits_are_lost(rt: HostRuntime) -> Result<(), Fail> {
+    expect_beside_two(&rt, rt.alloc(), LOST)
 }
 
 /// What is assumed of a resource that edits `/s`.
@@ -101,11 +106,20 @@ fn beside_one(alloc: Global, parameters: &str) -> Result<String, Fail> {
     )?)
 }
 
-#[test]
-fn edited_files_are_no_sources(rt: HostRuntime) -> Result<(), Fail> {
-    for (parameters, assumed, want) in COPIED {
-        let resources = beside_one(rt.alloc(), parameters)?;
-        expect_first(&rt, rt.alloc(), resources.as_str(), assumed, want)?;
+/// Of a file of each row's parameters, beside that one, is answered what stands there.
+fn expect_beside_one(
+    rt: &impl Abort,
+    alloc: Global,
+    rows: &[(&str, &str, &str)],
+) -> Result<(), Fail> {
+    for (parameters, assumed, want) in rows {
+        let resources = beside_one(alloc, parameters)?;
+        expect_first(rt, alloc, resources.as_str(), assumed, want)?;
     }
     Ok(())
+}
+
+#[test]
+fn edited_files_are_no_sources(rt: HostRuntime) -> Result<(), Fail> {
+    expect_beside_one(&rt, rt.alloc(), COPIED)
 }

@@ -2,6 +2,7 @@
 
 use crate::answers::expect;
 use std::alloc::Global;
+use std::process::Abort;
 use std::test::Fail;
 
 /// Resources, and their programs.
@@ -53,12 +54,17 @@ const FILES: &[(&str, &str)] = &[
     ),
 ];
 
-#[test]
-fn files_are_put(rt: HostRuntime) -> Result<(), Fail> {
-    for (resources, want) in FILES {
-        expect(&rt, rt.alloc(), resources, "", want)?;
+/// The resources of each row have the programs beside them.
+fn are_put(rt: &impl Abort, alloc: Global, rows: &[(&str, &str)]) -> Result<(), Fail> {
+    for (resources, want) in rows {
+        expect(rt, alloc, resources, "", want)?;
     }
     Ok(())
+}
+
+#[test]
+fn files_are_put(rt: HostRuntime) -> Result<(), Fail> {
+    are_put(&rt, rt.alloc(), FILES)
 }
 
 /// Parameters of `Concat_file[f]`, those of a fragment of it, and what is answered.
@@ -119,11 +125,20 @@ fn put_together(alloc: Global, file: &str, fragment: &str) -> Result<String, Fai
     )?)
 }
 
-#[test]
-fn files_are_put_together(rt: HostRuntime) -> Result<(), Fail> {
-    for (file, fragment, want) in FILLED {
-        let resources = put_together(rt.alloc(), file, fragment)?;
-        expect(&rt, rt.alloc(), resources.as_str(), "", want)?;
+/// Of a file and a fragment of each row's parameters is answered what stands there.
+fn are_put_together(
+    rt: &impl Abort,
+    alloc: Global,
+    rows: &[(&str, &str, &str)],
+) -> Result<(), Fail> {
+    for (file, fragment, want) in rows {
+        let resources = put_together(alloc, file, fragment)?;
+        expect(rt, alloc, resources.as_str(), "", want)?;
     }
     Ok(())
+}
+
+#[test]
+fn files_are_put_together(rt: HostRuntime) -> Result<(), Fail> {
+    are_put_together(&rt, rt.alloc(), FILLED)
 }

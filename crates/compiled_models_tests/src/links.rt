@@ -1,6 +1,8 @@
 //! Programs read through the links that every host has.
 
 use crate::answers::answer_linked;
+use std::alloc::Global;
+use std::process::Abort;
 use std::test::Fail;
 
 /// Resources, members of assumptions, and what is answered where `/lib` is a link to `/usr/lib`.
@@ -53,11 +55,16 @@ const READ: &[(&str, &str, &str)] = &[
     ),
 ];
 
-#[test]
-fn programs_are_read(rt: HostRuntime) -> Result<(), Fail> {
-    for (resources, assumed, want) in READ {
-        let told = answer_linked(rt.alloc(), resources, assumed)?;
+/// Through the link each row's resources and assumptions are answered with what stands beside them.
+fn are_read(rt: &impl Abort, alloc: Global, rows: &[(&str, &str, &str)]) -> Result<(), Fail> {
+    for (resources, assumed, want) in rows {
+        let told = answer_linked(alloc, resources, assumed)?;
         assert_eq!(rt; told.as_str(), *want, "{resources}");
     }
     Ok(())
+}
+
+#[test]
+fn programs_are_read(rt: HostRuntime) -> Result<(), Fail> {
+    are_read(&rt, rt.alloc(), READ)
 }

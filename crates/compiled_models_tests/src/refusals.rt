@@ -1,6 +1,6 @@
 //! Native resources that are refused.
 
-use crate::answers::{answer, expect};
+use crate::answers::{answer, expect_each};
 use std::alloc::Global;
 use std::process::Abort;
 use std::test::Fail;
@@ -105,10 +105,7 @@ const REFUSED: &[(&str, &str, &str)] = &[
 
 #[test]
 fn resources_are_refused(rt: HostRuntime) -> Result<(), Fail> {
-    for (resources, assumed, want) in REFUSED {
-        expect(&rt, rt.alloc(), resources, assumed, want)?;
-    }
-    Ok(())
+    expect_each(&rt, rt.alloc(), REFUSED)
 }
 
 /// How long the title of an `Exec` is, what is assumed of it, and whether it has a program.
@@ -140,11 +137,20 @@ fn expect_accepted(
     Ok(())
 }
 
-#[test]
-fn long_references_make_nothing(rt: HostRuntime) -> Result<(), Fail> {
-    for (count, assumed, accepted) in NAMED {
-        let resources = titled(rt.alloc(), *count)?;
-        expect_accepted(&rt, rt.alloc(), resources.as_str(), assumed, *accepted)?;
+/// The same of each row's title and assumption.
+fn expect_each_accepted(
+    rt: &impl Abort,
+    alloc: Global,
+    rows: &[(usize, &str, bool)],
+) -> Result<(), Fail> {
+    for (count, assumed, accepted) in rows {
+        let resources = titled(alloc, *count)?;
+        expect_accepted(rt, alloc, resources.as_str(), assumed, *accepted)?;
     }
     Ok(())
+}
+
+#[test]
+fn long_references_make_nothing(rt: HostRuntime) -> Result<(), Fail> {
+    expect_each_accepted(&rt, rt.alloc(), NAMED)
 }

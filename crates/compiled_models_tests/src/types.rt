@@ -2,6 +2,7 @@
 
 use crate::answers::expect;
 use std::alloc::Global;
+use std::process::Abort;
 use std::test::Fail;
 
 /// Types and parameters, and the program or the refusal of such a resource of the title `t`.
@@ -38,11 +39,16 @@ fn resource(alloc: Global, kind: &str, parameters: &str) -> Result<String, Fail>
     )?)
 }
 
-#[test]
-fn types_have_programs(rt: HostRuntime) -> Result<(), Fail> {
-    for (kind, parameters, want) in TYPES {
-        let resources = resource(rt.alloc(), kind, parameters)?;
-        expect(&rt, rt.alloc(), resources.as_str(), "", want)?;
+/// A resource of each row's type and parameters has the program or the refusal beside them.
+fn have_programs(rt: &impl Abort, alloc: Global, rows: &[(&str, &str, &str)]) -> Result<(), Fail> {
+    for (kind, parameters, want) in rows {
+        let resources = resource(alloc, kind, parameters)?;
+        expect(rt, alloc, resources.as_str(), "", want)?;
     }
     Ok(())
+}
+
+#[test]
+fn types_have_programs(rt: HostRuntime) -> Result<(), Fail> {
+    have_programs(&rt, rt.alloc(), TYPES)
 }

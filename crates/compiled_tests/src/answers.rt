@@ -1,41 +1,59 @@
 //! What is answered to the texts of compiled catalogs.
 
 use compiled_text::{CompiledCatalog, CompiledResource, Containment, compiled_from_json};
-use pp_value::{Value, show, shown_ref};
+use pp_value::{Ref, Value, show, shown_ref};
 use rh_base::{Seq, Text};
 use std::alloc::Global;
 use std::process::Abort;
 use std::test::Fail;
 use test_rows::refused;
 
+/// Adds a name and a value.
+fn add_pair(alloc: Global, name: &str, value: &str, line: &mut String) -> Result<(), Fail> {
+    let told = format!(in alloc; " {name}={value}")?;
+    line.push_str(told.as_str())?;
+    Ok(())
+}
+
 /// Adds a parameter and its value. A value with an opaque one in it has no text.
 pub fn add_parameter(alloc: Global, pair: &(Text, Value), line: &mut String) -> Result<(), Fail> {
-    line.push(' ')?;
-    line.push_str(pair.0.as_str())?;
-    line.push('=')?;
     match show(alloc, &pair.1) {
-        Ok(shown) => line.push_str(shown.as_str())?,
-        Err(_) => line.push_str("opaque")?,
+        Ok(shown) => add_pair(alloc, pair.0.as_str(), shown.as_str(), line),
+        Err(_) => add_pair(alloc, pair.0.as_str(), "opaque", line),
+    }
+}
+
+/// Adds a reference.
+pub fn add_ref(alloc: Global, r: &Ref, line: &mut String) -> Result<(), Fail> {
+    let name = shown_ref(alloc, r)?;
+    line.push_str(name.as_str())?;
+    Ok(())
+}
+
+/// Adds the file of a resource that has one.
+fn add_file(alloc: Global, r: &CompiledResource, line: &mut String) -> Result<(), Fail> {
+    if let Some(file) = &r.file {
+        let place = format!(in alloc; " {}", file.as_str())?;
+        line.push_str(place.as_str())?;
+    }
+    Ok(())
+}
+
+/// Adds the number of the line of a resource that has one.
+fn add_line(alloc: Global, r: &CompiledResource, line: &mut String) -> Result<(), Fail> {
+    if let Some(n) = r.line {
+        let place = format!(in alloc; ":{n}")?;
+        line.push_str(place.as_str())?;
     }
     Ok(())
 }
 
 /// Adds the reference of a resource, a star if it is a container, and its file and line.
 fn add_names(alloc: Global, r: &CompiledResource, line: &mut String) -> Result<(), Fail> {
-    let name = shown_ref(alloc, &r.id)?;
-    line.push_str(name.as_str())?;
-    if r.is_container {
-        line.push('*')?;
-    }
-    if let Some(file) = &r.file {
-        let place = format!(in alloc; " {}", file.as_str())?;
-        line.push_str(place.as_str())?;
-    }
-    if let Some(n) = r.line {
-        let place = format!(in alloc; ":{n}")?;
-        line.push_str(place.as_str())?;
-    }
-    Ok(())
+    add_ref(alloc, &r.id, line)?;
+    line.push_str(if r.is_container { "*" } else { "" })?;
+    add_file(alloc, r, line)?;
+    add_line(alloc, r, line)
 }
 
 /// Adds a line for a resource.

@@ -2,6 +2,7 @@
 
 use crate::told::told;
 use std::alloc::Global;
+use std::process::Abort;
 use std::test::Fail;
 
 /// A type, the parameters of a resource, and its attributes.
@@ -41,13 +42,18 @@ const READ: &[(&str, &str, &str)] = &[
     ),
 ];
 
-#[test]
-fn attributes_that_are_read(rt: HostRuntime) -> Result<(), Fail> {
-    for (kind, parameters, want) in READ {
-        let shown = told(rt.alloc(), kind, parameters)?;
+/// A resource of each row's type and parameters has the line beside them.
+fn are_told(rt: &impl Abort, alloc: Global, rows: &[(&str, &str, &str)]) -> Result<(), Fail> {
+    for (kind, parameters, want) in rows {
+        let shown = told(alloc, kind, parameters)?;
         assert_eq!(rt; shown.as_str(), *want, "{kind} {parameters}");
     }
     Ok(())
+}
+
+#[test]
+fn attributes_that_are_read(rt: HostRuntime) -> Result<(), Fail> {
+    are_told(&rt, rt.alloc(), READ)
 }
 
 /// Values that hold an opaque one: those of attributes on which a model rests stay, and so do relations.
@@ -117,11 +123,7 @@ const OPAQUE: &[(&str, &str, &str)] = &[
 
 #[test]
 fn opaque_values(rt: HostRuntime) -> Result<(), Fail> {
-    for (kind, parameters, want) in OPAQUE {
-        let shown = told(rt.alloc(), kind, parameters)?;
-        assert_eq!(rt; shown.as_str(), *want, "{kind} {parameters}");
-    }
-    Ok(())
+    are_told(&rt, rt.alloc(), OPAQUE)
 }
 
 /// The parameters of a file, and its attributes.
@@ -253,12 +255,16 @@ fn line(alloc: Global, attributes: &str) -> Result<String, Fail> {
     Ok(format!(in alloc; "File[/t] {attributes}\n")?)
 }
 
-#[test]
-fn attributes_of_files(rt: HostRuntime) -> Result<(), Fail> {
-    for (parameters, attributes) in FILES {
-        let shown = told(rt.alloc(), "file", parameters)?;
-        let want = line(rt.alloc(), attributes)?;
-        assert_eq!(rt; shown.as_str(), want.as_str(), "{parameters}");
+/// A file of each row's parameters has the attributes beside them.
+fn are_of_files(rt: &impl Abort, alloc: Global, rows: &[(&str, &str)]) -> Result<(), Fail> {
+    for (parameters, attributes) in rows {
+        let want = line(alloc, attributes)?;
+        are_told(rt, alloc, &[("file", *parameters, want.as_str())])?;
     }
     Ok(())
+}
+
+#[test]
+fn attributes_of_files(rt: HostRuntime) -> Result<(), Fail> {
+    are_of_files(&rt, rt.alloc(), FILES)
 }

@@ -3,6 +3,7 @@
 use crate::answers::text_of;
 use compiled_text::{CompiledCatalog, compiled_from_json, reference_of};
 use std::alloc::Global;
+use std::process::Abort;
 use std::test::Fail;
 
 /// A class in a stage, a file in the class, and one in nothing.
@@ -35,13 +36,24 @@ const FOUND: &[(&str, Option<usize>)] = &[
     ("file", None),
 ];
 
+/// The reference of each row names the place beside it.
+fn are_found(
+    rt: &impl Abort,
+    alloc: Global,
+    compiled: &CompiledCatalog,
+    rows: &[(&str, Option<usize>)],
+) -> Result<(), Fail> {
+    for (text, want) in rows {
+        let found = find(alloc, compiled, text)?;
+        assert_eq!(rt; found, *want, "{text}");
+    }
+    Ok(())
+}
+
 #[test]
 fn references_are_found(rt: HostRuntime) -> Result<(), Fail> {
     let compiled = catalog(rt.alloc())?;
-    for (text, want) in FOUND {
-        assert_eq!(rt; find(rt.alloc(), &compiled, text)?, *want, "{text}");
-    }
-    Ok(())
+    are_found(&rt, rt.alloc(), &compiled, FOUND)
 }
 
 /// The container of each resource, or a dash.
@@ -56,10 +68,15 @@ fn holders(alloc: Global, compiled: &CompiledCatalog) -> Result<String, Fail> {
     Ok(line)
 }
 
+/// The containers of that catalog.
+fn holders_told(alloc: Global) -> Result<String, Fail> {
+    let compiled = catalog(alloc)?;
+    holders(alloc, &compiled)
+}
+
 #[test]
 fn containers_are_found(rt: HostRuntime) -> Result<(), Fail> {
-    let compiled = catalog(rt.alloc())?;
-    let line = holders(rt.alloc(), &compiled)?;
+    let line = holders_told(rt.alloc())?;
     assert_eq!(rt; line.as_str(), "- - 1 - ");
     Ok(())
 }

@@ -2,6 +2,7 @@
 
 use crate::told::told_of;
 use std::alloc::Global;
+use std::process::Abort;
 use std::test::Fail;
 
 /// Resources, and the attributes of each.
@@ -65,13 +66,18 @@ const GATHERED: &[(&str, &str)] = &[
     ),
 ];
 
-#[test]
-fn fragments_that_are_gathered(rt: HostRuntime) -> Result<(), Fail> {
-    for (resources, want) in GATHERED {
-        let told = told_of(rt.alloc(), resources)?;
+/// The resources of each row have the attributes beside them.
+fn are_gathered(rt: &impl Abort, alloc: Global, rows: &[(&str, &str)]) -> Result<(), Fail> {
+    for (resources, want) in rows {
+        let told = told_of(alloc, resources)?;
         assert_eq!(rt; told.as_str(), *want, "{resources}");
     }
     Ok(())
+}
+
+#[test]
+fn fragments_that_are_gathered(rt: HostRuntime) -> Result<(), Fail> {
+    are_gathered(&rt, rt.alloc(), GATHERED)
 }
 
 /// Parameters of a file, those of two fragments of it, and the attribute for which it has no content.
@@ -135,26 +141,50 @@ fn of_file(alloc: Global, parameters: &str) -> Result<String, Fail> {
     }
 }
 
-/// The first line for a file of these two fragments.
-fn first_line(alloc: Global, file: &str, first: &str, second: &str) -> Result<String, Fail> {
+/// A file of these parameters, and two fragments of it.
+fn of_two(alloc: Global, file: &str, first: &str, second: &str) -> Result<String, Fail> {
     let first = of_file(alloc, first)?;
     let second = of_file(alloc, second)?;
-    let resources = format!(in alloc;
+    Ok(format!(in alloc;
         r#"{{"type":"Concat_file","title":"/f","kind":"compilable_type","parameters":{file}}},{{"type":"Concat_fragment","title":"x","kind":"compilable_type","parameters":{first}}},{{"type":"Concat_fragment","title":"a","kind":"compilable_type","parameters":{second}}}"#
-    )?;
-    let told = told_of(alloc, resources.as_str())?;
+    )?)
+}
+
+/// The first line for these resources.
+fn first_of(alloc: Global, resources: &str) -> Result<String, Fail> {
+    let told = told_of(alloc, resources)?;
     match told.split_once('\n') {
         Some((line, _)) => Ok(String::from_str(alloc, line)?),
         None => Ok(told),
     }
 }
 
-#[test]
-fn files_without_content(rt: HostRuntime) -> Result<(), Fail> {
-    for (file, first, second, want) in UNFILLED {
-        let told = first_line(rt.alloc(), file, first, second)?;
-        let want = format!(in rt.alloc(); "Concat_file[/f] (no content: {want})")?;
+/// The first line for a file of these two fragments.
+fn first_line(alloc: Global, file: &str, first: &str, second: &str) -> Result<String, Fail> {
+    let resources = of_two(alloc, file, first, second)?;
+    first_of(alloc, resources.as_str())
+}
+
+/// The line of a file that has no content because of an attribute.
+fn unfilled(alloc: Global, name: &str) -> Result<String, Fail> {
+    Ok(format!(in alloc; "Concat_file[/f] (no content: {name})")?)
+}
+
+/// A file and two fragments of each row's parameters have no content because of the attribute beside them.
+fn are_unfilled(
+    rt: &impl Abort,
+    alloc: Global,
+    rows: &[(&str, &str, &str, &str)],
+) -> Result<(), Fail> {
+    for (file, first, second, name) in rows {
+        let told = first_line(alloc, file, first, second)?;
+        let want = unfilled(alloc, name)?;
         assert_eq!(rt; told.as_str(), want.as_str(), "{file} {first} {second}");
     }
     Ok(())
+}
+
+#[test]
+fn files_without_content(rt: HostRuntime) -> Result<(), Fail> {
+    are_unfilled(&rt, rt.alloc(), UNFILLED)
 }

@@ -133,20 +133,30 @@ fn expect_both_refused(
     expect_refused(rt, alloc, &[text.as_str()])
 }
 
+/// The resources of each row are refused.
+fn expect_resources_refused(rt: &impl Abort, alloc: Global, rows: &[&str]) -> Result<(), Fail> {
+    for resources in rows {
+        expect_both_refused(rt, alloc, resources, "")?;
+    }
+    Ok(())
+}
+
 #[test]
 fn other_resources_are_refused(rt: HostRuntime) -> Result<(), Fail> {
-    for resources in RESOURCES {
-        expect_both_refused(&rt, rt.alloc(), resources, "")?;
+    expect_resources_refused(&rt, rt.alloc(), RESOURCES)
+}
+
+/// The edges of each row among those resources are refused.
+fn expect_edges_refused(rt: &impl Abort, alloc: Global, rows: &[&str]) -> Result<(), Fail> {
+    for edges in rows {
+        expect_both_refused(rt, alloc, SIX, edges)?;
     }
     Ok(())
 }
 
 #[test]
 fn other_edges_are_refused(rt: HostRuntime) -> Result<(), Fail> {
-    for edges in EDGES {
-        expect_both_refused(&rt, rt.alloc(), SIX, edges)?;
-    }
-    Ok(())
+    expect_edges_refused(&rt, rt.alloc(), EDGES)
 }
 
 #[test]
@@ -156,20 +166,35 @@ fn other_bytes_are_refused(rt: HostRuntime) -> Result<(), Fail> {
     Ok(())
 }
 
-/// Is a text read of which a key that doesn't count has so many lists within one another?
-fn is_read_with(alloc: Global, lists: usize) -> Result<bool, Fail> {
+/// A text of which a key that doesn't count has so many lists within one another.
+fn with_lists(alloc: Global, lists: usize) -> Result<String, Fail> {
     let front = r#"{"catalog_format":2,"resources":[],"edges":[],"more":"#;
     let text = nested(alloc, &(front, "[", "", "]"), lists)?;
-    let whole = format!(in alloc; "{}}}", text.as_str())?;
-    let told = answer(alloc, whole.as_bytes())?;
+    Ok(format!(in alloc; "{}}}", text.as_str())?)
+}
+
+/// Is such a text read?
+fn is_read_with(alloc: Global, lists: usize) -> Result<bool, Fail> {
+    let text = with_lists(alloc, lists)?;
+    let told = answer(alloc, text.as_bytes())?;
     Ok(told.is_empty())
+}
+
+/// A text of each row's lists is read or not.
+fn expect_read(rt: &impl Abort, alloc: Global, rows: &[(usize, bool)]) -> Result<(), Fail> {
+    for (lists, want) in rows {
+        let is_read = is_read_with(alloc, *lists)?;
+        assert_eq!(rt; is_read, *want, "{lists}");
+    }
+    Ok(())
 }
 
 #[test]
 fn json_nests_127_levels(rt: HostRuntime) -> Result<(), Fail> {
     // the object around them is one level
-    for (lists, is_read) in [(1, true), (126, true), (127, false), (4000, false)] {
-        assert_eq!(rt; is_read_with(rt.alloc(), lists)?, is_read, "{lists}");
-    }
-    Ok(())
+    expect_read(
+        &rt,
+        rt.alloc(),
+        &[(1, true), (126, true), (127, false), (4000, false)],
+    )
 }

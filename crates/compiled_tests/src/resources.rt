@@ -1,6 +1,8 @@
 //! Resources and edges that are read.
 
 use crate::answers::{answer, text_of};
+use std::alloc::Global;
+use std::process::Abort;
 use std::test::Fail;
 
 /// Resources, edges, and what they say: a line for each, a star for a container.
@@ -94,12 +96,22 @@ const READ: &[(&str, &str, &str)] = &[
     ),
 ];
 
-#[test]
-fn catalogs_that_are_read(rt: HostRuntime) -> Result<(), Fail> {
-    for (resources, edges, want) in READ {
-        let text = text_of(rt.alloc(), resources, edges)?;
-        let told = answer(rt.alloc(), text.as_bytes())?;
+/// What the text of these resources and edges says, or the refusal.
+fn answer_of(alloc: Global, resources: &str, edges: &str) -> Result<String, Fail> {
+    let text = text_of(alloc, resources, edges)?;
+    answer(alloc, text.as_bytes())
+}
+
+/// The resources and edges of each row say what stands beside them.
+fn are_read(rt: &impl Abort, alloc: Global, rows: &[(&str, &str, &str)]) -> Result<(), Fail> {
+    for (resources, edges, want) in rows {
+        let told = answer_of(alloc, resources, edges)?;
         assert_eq!(rt; told.as_str(), *want, "{resources} {edges}");
     }
     Ok(())
+}
+
+#[test]
+fn catalogs_that_are_read(rt: HostRuntime) -> Result<(), Fail> {
+    are_read(&rt, rt.alloc(), READ)
 }

@@ -2,12 +2,28 @@
 
 ghost use Rattle.compiled_attributes.specs.Places.{HoldsFragments};
 
-use crate::answers::{add_parameter, text_of};
+use crate::answers::{add_parameter, add_ref, text_of};
 use compiled_attributes::{Fragments, attributes_of, is_noop, why_unfilled};
 use compiled_text::{CompiledCatalog, CompiledResource, compiled_from_json};
-use pp_value::shown_ref;
 use std::alloc::Global;
 use std::test::Fail;
+
+/// Adds why a file has no content.
+fn add_why(
+    alloc: Global,
+    catalog: &CompiledCatalog,
+    fragments: &Fragments,
+    r: &CompiledResource,
+    line: &mut String,
+) -> Result<(), Fail>
+    requires { HoldsFragments catalog.now.resources fragments.now }
+{
+    if let Some(name) = why_unfilled(alloc, catalog, fragments, r)? {
+        let mark = format!(in alloc; " (no content: {name})")?;
+        line.push_str(mark.as_str())?;
+    }
+    Ok(())
+}
 
 /// Adds a word for a resource that does nothing, and why a file has no content.
 fn add_marks(
@@ -19,12 +35,23 @@ fn add_marks(
 ) -> Result<(), Fail>
     requires { HoldsFragments catalog.now.resources fragments.now }
 {
-    if is_noop(r) {
-        line.push_str(" (noop)")?;
-    }
-    if let Some(name) = why_unfilled(alloc, catalog, fragments, r)? {
-        let mark = format!(in alloc; " (no content: {name})")?;
-        line.push_str(mark.as_str())?;
+    line.push_str(if is_noop(r) { " (noop)" } else { "" })?;
+    add_why(alloc, catalog, fragments, r, line)
+}
+
+/// Adds the attributes of a resource.
+fn add_attributes(
+    alloc: Global,
+    catalog: &CompiledCatalog,
+    fragments: &Fragments,
+    r: &CompiledResource,
+    line: &mut String,
+) -> Result<(), Fail>
+    requires { HoldsFragments catalog.now.resources fragments.now }
+{
+    let attributes = attributes_of(alloc, catalog, fragments, r)?;
+    for pair in attributes.as_slice() {
+        add_parameter(alloc, pair, line)?;
     }
     Ok(())
 }
@@ -39,12 +66,8 @@ fn add_resource(
 ) -> Result<(), Fail>
     requires { HoldsFragments catalog.now.resources fragments.now }
 {
-    let name = shown_ref(alloc, &r.id)?;
-    lines.push_str(name.as_str())?;
-    let attributes = attributes_of(alloc, catalog, fragments, r)?;
-    for pair in attributes.as_slice() {
-        add_parameter(alloc, pair, lines)?;
-    }
+    add_ref(alloc, &r.id, lines)?;
+    add_attributes(alloc, catalog, fragments, r, lines)?;
     add_marks(alloc, catalog, fragments, r, lines)?;
     lines.push('\n')?;
     Ok(())

@@ -1,7 +1,8 @@
 //! Types without a model, the lengths of names and paths, and modelled names that stand twice.
 
-use crate::drafts::{NONE, answer, both};
+use crate::drafts::{NONE, answer, are_answered, both};
 use std::alloc::Global;
+use std::process::Abort;
 use std::test::Fail;
 
 /// Two resources each, and what is answered to them.
@@ -79,53 +80,69 @@ const LENGTHS: &[(&str, &str, usize, bool)] = &[
     ("file", "/", 1_025, false),
 ];
 
-/// Is the title accepted that is this part so many times?
-fn is_accepted(alloc: Global, kind: &str, part: &str, count: usize) -> Result<bool, Fail> {
+/// A draft whose title is this part so many times.
+fn titled(alloc: Global, kind: &str, part: &str, count: usize) -> Result<String, Fail> {
     let title = part.repeat(alloc, count)?;
-    let text = format!(in alloc; "{kind}|{title}|{{}}")?;
-    Ok(
-        !answer(alloc, NONE, text.as_str())?
-            .as_str()
-            .starts_with("52 at 7: "),
-    )
+    Ok(format!(in alloc; "{kind}|{title}|{{}}")?)
+}
+
+/// Is the title of a draft accepted?
+fn is_accepted(alloc: Global, draft: &str) -> Result<bool, Fail> {
+    let found = answer(alloc, NONE, draft)?;
+    Ok(!found.starts_with("52 at 7: "))
+}
+
+/// Each two drafts have what stands beside them.
+fn are_both_answered(
+    rt: &impl Abort,
+    alloc: Global,
+    rows: &[(&str, &str, &str)],
+) -> Result<(), Fail> {
+    for (first, second, want) in rows {
+        let found = both(alloc, first, second)?;
+        assert_eq!(rt; found.as_str(), *want, "{first} {second}");
+    }
+    Ok(())
+}
+
+/// Each title is accepted or not.
+fn are_accepted(
+    rt: &impl Abort,
+    alloc: Global,
+    rows: &[(&str, &str, usize, bool)],
+) -> Result<(), Fail> {
+    for (kind, part, count, want) in rows {
+        let draft = titled(alloc, kind, part, *count)?;
+        let accepted = is_accepted(alloc, draft.as_str())?;
+        assert_eq!(rt; accepted, *want, "{kind} {count}");
+    }
+    Ok(())
 }
 
 #[test]
 fn exec_has_no_model(rt: HostRuntime) -> Result<(), Fail> {
-    let found = answer(rt.alloc(), NONE, r#"exec|ls|{"ensure":"odd","odd":1}"#)?;
-    assert_eq!(rt; found.as_str(), "50 at 7: Exec[ls]");
-    Ok(())
+    are_answered(
+        &rt,
+        rt.alloc(),
+        NONE,
+        &[(r#"exec|ls|{"ensure":"odd","odd":1}"#, "50 at 7: Exec[ls]")],
+    )
 }
 
 #[test]
 fn names_stand_once(rt: HostRuntime) -> Result<(), Fail> {
-    for (first, second, want) in PAIRS {
-        assert_eq!(rt;
-            both(rt.alloc(), first, second)?.as_str(),
-            *want,
-            "{first} {second}"
-        );
-    }
-    Ok(())
+    are_both_answered(&rt, rt.alloc(), PAIRS)
 }
 
 #[test]
 fn names_and_paths_are_short(rt: HostRuntime) -> Result<(), Fail> {
-    for (kind, part, count, accepted) in LENGTHS {
-        assert_eq!(rt;
-            is_accepted(rt.alloc(), kind, part, *count)?,
-            *accepted,
-            "{kind} {count}"
-        );
-    }
-    Ok(())
+    are_accepted(&rt, rt.alloc(), LENGTHS)
 }
 
-/// What is answered to a job that isn't to be there, whose name and user are so many slashes.
+/// A job that isn't to be there, whose name and user are so many slashes.
 fn job_of_slashes(alloc: Global, count: usize) -> Result<String, Fail> {
     let name = "/".repeat(alloc, count)?;
-    let text = format!(in alloc; r#"cron|{name}|{{"ensure":"absent","user":"{name}"}}"#)?;
-    answer(alloc, NONE, text.as_str())
+    Ok(format!(in alloc; r#"cron|{name}|{{"ensure":"absent","user":"{name}"}}"#)?)
 }
 
 /// The program that removes the mark of such a job: each slash of a name is three bytes of its segment.
@@ -138,8 +155,7 @@ fn mark_of_slashes_removed(alloc: Global, count: usize) -> Result<String, Fail> 
 /// A path below the marks has no limit.
 #[test]
 fn marks_are_as_long_as_names_make_them(rt: HostRuntime) -> Result<(), Fail> {
-    let found = job_of_slashes(rt.alloc(), 255)?;
+    let job = job_of_slashes(rt.alloc(), 255)?;
     let want = mark_of_slashes_removed(rt.alloc(), 255)?;
-    assert_eq!(rt; found.as_str(), want.as_str());
-    Ok(())
+    are_answered(&rt, rt.alloc(), NONE, &[(job.as_str(), want.as_str())])
 }
