@@ -76,15 +76,25 @@ fn push_all_members(alloc: Global, catalog: &Catalog, into: &mut String) -> Resu
     Ok(())
 }
 
+fn push_resources(alloc: Global, catalog: &Catalog, into: &mut String) -> Result<(), Fail> {
+    for i in 0..catalog.count() {
+        push_resource(alloc, catalog.get(i), into)?;
+    }
+    Ok(())
+}
+
+fn push_relations(alloc: Global, catalog: &Catalog, into: &mut String) -> Result<(), Fail> {
+    for r in catalog.relations().as_slice() {
+        push_relation(alloc, r, into)?;
+    }
+    Ok(())
+}
+
 /// The resources in order, virtual ones behind `@`, then the relations, then what is in what.
 fn catalog_line(alloc: Global, catalog: &Catalog) -> Result<String, Fail> {
     let mut into = String::new(alloc);
-    for i in 0..catalog.count() {
-        push_resource(alloc, catalog.get(i), &mut into)?;
-    }
-    for r in catalog.relations().as_slice() {
-        push_relation(alloc, r, &mut into)?;
-    }
+    push_resources(alloc, catalog, &mut into)?;
+    push_relations(alloc, catalog, &mut into)?;
     push_all_members(alloc, catalog, &mut into)?;
     Ok(into)
 }
@@ -145,11 +155,20 @@ pub fn text_of(alloc: Global, text: &str) -> Result<String, Fail> {
     }
 }
 
-/// Each text has the catalog beside it, or the refusal.
-pub fn are_compiled(rt: &impl Abort, alloc: Global, rows: &[(&str, &str)]) -> Result<(), Fail> {
+/// Under these facts each text has the catalog beside it, or the refusal.
+pub fn are_compiled_with(
+    rt: &(impl Abort + AllocGlobal),
+    facts: &str,
+    rows: &[(&str, &str)],
+) -> Result<(), Fail> {
     for (text, want) in rows {
-        let found = compiled(alloc, text)?;
+        let found = compiled_under(rt.alloc(), *text, facts, "", "")?;
         assert_eq!(rt; found.as_str(), *want, "{text}");
     }
     Ok(())
+}
+
+/// Each text has the catalog beside it, or the refusal.
+pub fn are_compiled(rt: &(impl Abort + AllocGlobal), rows: &[(&str, &str)]) -> Result<(), Fail> {
+    are_compiled_with(rt, "{}", rows)
 }
