@@ -248,8 +248,7 @@ fn blocks_in_bodies(rt: HostRuntime) -> Result<(), Fail> {
 /// A class that includes one with so many blocks, and the call of all.
 fn last_classes(alloc: Global, blocks: usize) -> Result<String, Fail> {
     let body = in_blocks(alloc, blocks, "")?;
-    let last = format!(in alloc; "class c8 {{ include c9 }}\nclass c9 {{ {body} }}\ninclude c1")?;
-    Ok(last)
+    Ok(format!(in alloc; "class c8 {{ include c9 }}\nclass c9 {{ {body} }}\ninclude c1")?)
 }
 
 /// What is told of eight classes, and of a ninth with so many blocks.
