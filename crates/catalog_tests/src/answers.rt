@@ -9,6 +9,7 @@ use pp_compile::{compile, compile_with};
 use pp_data::{Data, data_from_json};
 use pp_eval::facts_from_json;
 use pp_value::{Ref, Value, show, shown_ref};
+use rh_base::Fault;
 use std::alloc::Global;
 use std::process::Abort;
 use std::test::Fail;
@@ -106,6 +107,14 @@ fn data_of(alloc: Global, text: &str) -> Result<Data, Fail> {
     Ok(data_from_json(alloc, text.as_bytes())?)
 }
 
+/// A catalog in one line, or the refusal.
+fn told(alloc: Global, compiled: Result<Catalog, Fault>) -> Result<String, Fail> {
+    match compiled {
+        Ok(catalog) => catalog_line(alloc, &catalog),
+        Err(fault) => Ok(refused(alloc, &fault)?),
+    }
+}
+
 /// The catalog of a text under facts and class data for a node, or its refusal.
 pub fn compiled_under(
     alloc: Global,
@@ -119,10 +128,8 @@ pub fn compiled_under(
     }
     let levels = data_of(alloc, levels)?;
     let facts = facts_from_json(alloc, facts.as_bytes())?;
-    match compile_with(alloc, text.as_bytes(), &facts, node, &levels, Limits::Usual) {
-        Ok(catalog) => catalog_line(alloc, &catalog),
-        Err(fault) => Ok(refused(alloc, &fault)?),
-    }
+    let compiled = compile_with(alloc, text.as_bytes(), &facts, node, &levels, Limits::Usual);
+    told(alloc, compiled)
 }
 
 /// How many resources the catalog of a text has within limits, with no facts and no class data, or its refusal.

@@ -207,13 +207,18 @@ fn in_blocks(alloc: Global, blocks: usize, statement: &str) -> Result<String, Fa
     Ok(format!(in alloc; "{front}{statement}{behind}")?)
 }
 
+/// A class that includes the next one within so many blocks.
+fn class_in_blocks(alloc: Global, number: u32, next: u32, blocks: usize) -> Result<String, Fail> {
+    let statement = format!(in alloc; "include c{next}")?;
+    let body = in_blocks(alloc, blocks, statement.as_str())?;
+    Ok(format!(in alloc; "class c{number} {{ {body} }}\n")?)
+}
+
 /// Classes `c1`, `c2` and so on, each of which includes the next within so many blocks, and the last of which has such blocks.
 fn classes_in_blocks(alloc: Global, count: u32, blocks: usize) -> Result<String, Fail> {
     let mut classes = String::new(alloc);
     for i in 1..count {
-        let next = format!(in alloc; "include c{}", i + 1)?;
-        let body = in_blocks(alloc, blocks, next.as_str())?;
-        let class = format!(in alloc; "class c{i} {{ {body} }}\n")?;
+        let class = class_in_blocks(alloc, i, i + 1, blocks)?;
         classes.push_str(class.as_str())?;
     }
     let last = in_blocks(alloc, blocks, "")?;
