@@ -113,13 +113,13 @@ fn and_gates_are_looked_through(rt: HostRuntime) -> Result<(), Fail> {
     Ok(())
 }
 
-/// The values of the eight wires that are asked for first.
-fn values_at(rt: &impl Abort, circuit: &Circuit, inputs: &[bool; 3]) -> [bool; 8] {
+/// The eight wires that are asked for first have these values.
+fn has_all_values(rt: &impl Abort, circuit: &Circuit, inputs: &[bool; 3], wanted: &[bool; 8]) {
     let mut values = [true; 8];
     assert_eq!(rt; circuit.inputs(), 3);
     assert_eq!(rt; circuit.wires(), 8);
     circuit.value(inputs, &mut values);
-    values
+    assert_eq!(rt; values, *wanted, "at {inputs:?}");
 }
 
 /// The wires have these values at the inputs beside them.
@@ -129,7 +129,7 @@ fn have_values(
 ) -> Result<(), Fail> {
     let circuit = asked(rt)?;
     for (inputs, wanted) in rows {
-        assert_eq!(rt; values_at(rt, &circuit, inputs), *wanted, "at {inputs:?}");
+        has_all_values(rt, &circuit, inputs, wanted);
     }
     Ok(())
 }
