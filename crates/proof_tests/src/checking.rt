@@ -61,67 +61,64 @@ fn are_checked(rt: &(impl Abort + AllocGlobal), rows: &[Row]) -> Result<(), Fail
     Ok(())
 }
 
+/// The proof; without its literal; without its end; with a pivot that isn't there.
+const OF_PIGEONS: [Row; 4] = [
+    (6, &PIGEONS, &[(&[-1], 9, FIRST), (&[], 6, SECOND)], 0, "ok"),
+    (
+        6,
+        &PIGEONS,
+        &[(&[], 9, FIRST), (&[], 6, SECOND)],
+        1,
+        "resolvent of 1",
+    ),
+    (6, &PIGEONS, &[(&[-1], 9, FIRST)], 1, "not empty"),
+    (
+        6,
+        &PIGEONS,
+        &[(&[-1], 9, FIRST), (&[], 6, &[(3, -4)])],
+        2,
+        "no pivot 1",
+    ),
+];
+
 #[test]
 fn three_pigeons_have_no_two_holes(rt: HostRuntime) -> Result<(), Fail> {
-    are_checked(
-        &rt,
-        &[
-            // the proof; without its literal; without its end; with a pivot that isn't there
-            (6, &PIGEONS, &[(&[-1], 9, FIRST), (&[], 6, SECOND)], 0, "ok"),
-            (
-                6,
-                &PIGEONS,
-                &[(&[], 9, FIRST), (&[], 6, SECOND)],
-                1,
-                "resolvent of 1",
-            ),
-            (6, &PIGEONS, &[(&[-1], 9, FIRST)], 1, "not empty"),
-            (
-                6,
-                &PIGEONS,
-                &[(&[-1], 9, FIRST), (&[], 6, &[(3, -4)])],
-                2,
-                "no pivot 1",
-            ),
-        ],
-    )
+    are_checked(&rt, &OF_PIGEONS)
 }
+
+const FAULTS: [Row; 4] = [
+    (1, &[&[1]], &[], 0, "no step"),
+    // a step, and a link, that names the step itself
+    (1, &[&[1]], &[(&[], 2, &[])], 1, "no clause 2"),
+    (1, &[&[1]], &[(&[], 1, &[(2, 1)])], 1, "no clause 2"),
+    (1, &[&[1]], &[(&[], 0, &[])], 1, "no clause 0"),
+];
 
 #[test]
 fn the_first_fault_is_named(rt: HostRuntime) -> Result<(), Fail> {
-    are_checked(
-        &rt,
-        &[
-            (1, &[&[1]], &[], 0, "no step"),
-            // a step, and a link, that names the step itself
-            (1, &[&[1]], &[(&[], 2, &[])], 1, "no clause 2"),
-            (1, &[&[1]], &[(&[], 1, &[(2, 1)])], 1, "no clause 2"),
-            (1, &[&[1]], &[(&[], 0, &[])], 1, "no clause 0"),
-        ],
-    )
+    are_checked(&rt, &FAULTS)
 }
+
+const RESOLVENTS: [Row; 2] = [
+    (
+        1,
+        &[&[1, -1], &[-1]],
+        &[(&[], 1, &[(2, 1)])],
+        1,
+        "resolvent of 1",
+    ),
+    (
+        1,
+        &[&[1, -1], &[-1]],
+        &[(&[-1], 1, &[(2, 1)])],
+        1,
+        "not empty",
+    ),
+];
 
 #[test]
 fn a_resolvent_keeps_the_literal_that_is_not_taken_out(rt: HostRuntime) -> Result<(), Fail> {
-    are_checked(
-        &rt,
-        &[
-            (
-                1,
-                &[&[1, -1], &[-1]],
-                &[(&[], 1, &[(2, 1)])],
-                1,
-                "resolvent of 1",
-            ),
-            (
-                1,
-                &[&[1, -1], &[-1]],
-                &[(&[-1], 1, &[(2, 1)])],
-                1,
-                "not empty",
-            ),
-        ],
-    )
+    are_checked(&rt, &RESOLVENTS)
 }
 
 /// How many variables the long chain has.
