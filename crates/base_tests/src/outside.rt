@@ -58,49 +58,99 @@ fn shelves_in_memory_give_what_they_hold(rt: HostRuntime) -> Result<(), Fail> {
     let alloc = rt.alloc();
     let files = files(alloc, &[("a", b"first"), ("a", b"second")])?;
     let mut shelf = MemoryShelf::new(files, vec![in alloc; 2u64]?);
-    let rows: [Row; 4] = [
-        ("a", 5, Ok(Fetched::Whole), b"first"),
-        ("a", 5, Err(ShelfFault::Failed), b""),
-        ("a", 4, Ok(Fetched::Longer), b""),
-        ("b", 4, Err(ShelfFault::Failed), b""),
-    ];
-    are_fetched(&rt, &mut shelf, &rows);
+    are_fetched(
+        &rt,
+        &mut shelf,
+        &[
+            ("a", 5, Ok(Fetched::Whole), b"first"),
+            ("a", 5, Err(ShelfFault::Failed), b""),
+            ("a", 4, Ok(Fetched::Longer), b""),
+            ("b", 4, Err(ShelfFault::Failed), b""),
+        ],
+    );
     Ok(())
 }
 
 #[test]
 fn sure_shelves_give_what_they_hold(rt: HostRuntime) -> Result<(), Fail> {
     let mut shelf = SureShelf::new(files(rt.alloc(), &[("a", b"first")])?);
-    let rows: [Row; 2] = [
-        ("a", 5, Ok(Fetched::Whole), b"first"),
-        ("b", 5, Ok(Fetched::Whole), b""),
-    ];
-    are_fetched(&rt, &mut shelf, &rows);
+    are_fetched(
+        &rt,
+        &mut shelf,
+        &[
+            ("a", 5, Ok(Fetched::Whole), b"first"),
+            ("b", 5, Ok(Fetched::Whole), b""),
+        ],
+    );
     Ok(())
+}
+
+/// Pieces that are put one after the other are answered so.
+fn are_put<S: Sink>(rt: &impl Abort, sink: &mut S, rows: &[(&[u8], Result<(), SinkFault>)]) {
+    for (piece, want) in rows {
+        assert_eq!(rt; sink.put(*piece), *want);
+    }
 }
 
 #[test]
 fn sinks_in_memory_keep_what_is_put(rt: HostRuntime) -> Result<(), Fail> {
     let alloc = rt.alloc();
     let mut sink = MemorySink::new(alloc, vec![in alloc; 2u64]?);
-    assert_eq!(rt; sink.put(b""), Ok(()));
+    are_put(&rt, &mut sink, &[(b"", Ok(()))]);
     assert!(rt; sink.reserve(10).is_ok());
-    assert_eq!(rt; sink.put(b"abc"), Ok(()));
-    assert_eq!(rt; sink.put(b"defgh"), Err(SinkFault::Failed));
-    assert_eq!(rt; sink.put(b"xyz"), Ok(()));
+    are_put(
+        &rt,
+        &mut sink,
+        &[
+            (b"abc", Ok(())),
+            (b"defgh", Err(SinkFault::Failed)),
+            (b"xyz", Ok(())),
+        ],
+    );
     assert_eq!(rt; sink.bytes(), b"abcdexyz".as_slice());
-    let mut sure = SureSink::new(alloc);
-    assert!(rt; sure.reserve(5).is_ok());
-    assert_eq!(rt; sure.put(b"12345"), Ok(()));
-    assert_eq!(rt; sure.bytes(), b"12345".as_slice());
     Ok(())
+}
+
+#[test]
+fn sure_sinks_keep_what_is_put(rt: HostRuntime) {
+    let mut sure = SureSink::new(rt.alloc());
+    assert!(rt; sure.reserve(5).is_ok());
+    are_put(&rt, &mut sure, &[(b"12345", Ok(()))]);
+    assert_eq!(rt; sure.bytes(), b"12345".as_slice());
 }
 
 #[test]
 fn streams_of_the_system(rt: HostRuntime) {
     let mut out = StdSink::new(rt.stdout());
-    assert_eq!(rt; out.put(b""), Ok(()));
-    assert_eq!(rt; out.put(b"a line on standard output\n"), Ok(()));
+    are_put(
+        &rt,
+        &mut out,
+        &[(b"", Ok(())), (b"a line on standard output\n", Ok(()))],
+    );
+}
+
+/// Whether a fetch is answered so.
+fn is_fetched<S: Shelf>(shelf: &mut S, alloc: Global, row: &Row) -> bool {
+    let (name, limit, want, bytes) = row;
+    if *limit < usize::MAX {
+        let (answer, read) = fetched(shelf, alloc, *name, *limit);
+        return answer == *want && read.as_slice() == *bytes;
+    }
+    false
+}
+
+/// Fetches one after the other are answered so, or the rule is told that one breaks.
+fn follow_rules<S: Shelf>(
+    shelf: &mut S,
+    alloc: Global,
+    rows: &[(&'static str, Row)],
+) -> Result<(), Fail> {
+    for (rule, row) in rows {
+        if !is_fetched(shelf, alloc, row) {
+            return Err(Fail::from(*rule));
+        }
+    }
+    Ok(())
 }
 
 #[test]
@@ -108,18 +158,26 @@ fn files_of_the_system(rt: HostRuntime) -> Result<(), Fail> {
     let alloc = rt.alloc();
     fs::write(&rt, "shelved.txt", "0123456789")?;
     let mut shelf = FileShelf::new(rt);
-    let (answer, whole) = fetched(&mut shelf, alloc, "shelved.txt", 10);
-    if answer != Ok(Fetched::Whole) || whole.as_slice() != b"0123456789".as_slice() {
-        return Err(Fail::from("a file within the limit is read whole"));
-    }
-    let (answer, none) = fetched(&mut shelf, alloc, "shelved.txt", 9);
-    if answer != Ok(Fetched::Longer) || !none.is_empty() {
-        return Err(Fail::from("a longer file gives nothing"));
-    }
-    let (missing, _) = fetched(&mut shelf, alloc, "no such file", 9);
-    let (folder, _) = fetched(&mut shelf, alloc, ".", 9);
-    if missing != Err(ShelfFault::Failed) || folder != Err(ShelfFault::Failed) {
-        return Err(Fail::from("a missing file and a folder are faults"));
-    }
-    Ok(())
+    follow_rules(
+        &mut shelf,
+        alloc,
+        &[
+            (
+                "a file within the limit is read whole",
+                ("shelved.txt", 10, Ok(Fetched::Whole), b"0123456789"),
+            ),
+            (
+                "a longer file gives nothing",
+                ("shelved.txt", 9, Ok(Fetched::Longer), b""),
+            ),
+            (
+                "a missing file is a fault",
+                ("no such file", 9, Err(ShelfFault::Failed), b""),
+            ),
+            (
+                "a folder is a fault",
+                (".", 9, Err(ShelfFault::Failed), b""),
+            ),
+        ],
+    )
 }

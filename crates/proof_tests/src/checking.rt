@@ -35,53 +35,90 @@ fn word(alloc: Global, cause: &Cause) -> Result<String, AllocError> {
     }
 }
 
-#[test]
-fn three_pigeons_have_no_two_holes(rt: HostRuntime) -> Result<(), Fail> {
-    // the proof; without its literal; without its end; with a pivot that isn't there
-    let rows: [(&[Stated], u64, &str); 4] = [
-        (&[(&[-1], 9, FIRST), (&[], 6, SECOND)], 0, "ok"),
-        (&[(&[], 9, FIRST), (&[], 6, SECOND)], 1, "resolvent of 1"),
-        (&[(&[-1], 9, FIRST)], 1, "not empty"),
-        (&[(&[-1], 9, FIRST), (&[], 6, &[(3, -4)])], 2, "no pivot 1"),
-    ];
-    for (steps, number, wanted) in rows {
-        let cnf = formula(&rt, 6, &PIGEONS)?;
-        let found = answer(&rt, check(rt.alloc(), cnf, log(rt.alloc(), steps)?))?;
-        assert_eq!(rt; found.0, number);
-        assert_eq!(rt; found.1.as_str(), wanted);
+/// How many variables there are, the clauses, a log over them, the first step that fails, and a word for its cause.
+type Row = (
+    u64,
+    &'static [&'static [i8]],
+    &'static [Stated],
+    u64,
+    &'static str,
+);
+
+/// What the check of a row answers.
+fn checked(rt: &(impl Abort + AllocGlobal), row: &Row) -> Result<(u64, String), Fail> {
+    let cnf = formula(rt, row.0, row.1)?;
+    let log = log(rt.alloc(), row.2)?;
+    answer(rt, check(rt.alloc(), cnf, log))
+}
+
+/// Each log is answered so.
+fn are_checked(rt: &(impl Abort + AllocGlobal), rows: &[Row]) -> Result<(), Fail> {
+    for row in rows {
+        let found = checked(rt, row)?;
+        assert_eq!(rt; found.0, row.3);
+        assert_eq!(rt; found.1.as_str(), row.4);
     }
     Ok(())
 }
 
-/// Checks a log over a formula of one variable.
-fn compare(
-    rt: &(impl Abort + AllocGlobal),
-    clauses: &[&[i8]],
-    steps: &[Stated],
-    number: u64,
-    wanted: &str,
-) -> Result<(), Fail> {
-    let cnf = formula(rt, 1, clauses)?;
-    let found = answer(rt, check(rt.alloc(), cnf, log(rt.alloc(), steps)?))?;
-    assert_eq!(rt; found.0, number);
-    assert_eq!(rt; found.1.as_str(), wanted);
-    Ok(())
+/// The proof; without its literal; without its end; with a pivot that isn't there.
+const OF_PIGEONS: [Row; 4] = [
+    (6, &PIGEONS, &[(&[-1], 9, FIRST), (&[], 6, SECOND)], 0, "ok"),
+    (
+        6,
+        &PIGEONS,
+        &[(&[], 9, FIRST), (&[], 6, SECOND)],
+        1,
+        "resolvent of 1",
+    ),
+    (6, &PIGEONS, &[(&[-1], 9, FIRST)], 1, "not empty"),
+    (
+        6,
+        &PIGEONS,
+        &[(&[-1], 9, FIRST), (&[], 6, &[(3, -4)])],
+        2,
+        "no pivot 1",
+    ),
+];
+
+#[test]
+fn three_pigeons_have_no_two_holes(rt: HostRuntime) -> Result<(), Fail> {
+    are_checked(&rt, &OF_PIGEONS)
 }
+
+const FAULTS: [Row; 4] = [
+    (1, &[&[1]], &[], 0, "no step"),
+    // a step, and a link, that names the step itself
+    (1, &[&[1]], &[(&[], 2, &[])], 1, "no clause 2"),
+    (1, &[&[1]], &[(&[], 1, &[(2, 1)])], 1, "no clause 2"),
+    (1, &[&[1]], &[(&[], 0, &[])], 1, "no clause 0"),
+];
 
 #[test]
 fn the_first_fault_is_named(rt: HostRuntime) -> Result<(), Fail> {
-    compare(&rt, &[&[1]], &[], 0, "no step")?;
-    // a step, and a link, that names the step itself
-    compare(&rt, &[&[1]], &[(&[], 2, &[])], 1, "no clause 2")?;
-    compare(&rt, &[&[1]], &[(&[], 1, &[(2, 1)])], 1, "no clause 2")?;
-    compare(&rt, &[&[1]], &[(&[], 0, &[])], 1, "no clause 0")
+    are_checked(&rt, &FAULTS)
 }
+
+const RESOLVENTS: [Row; 2] = [
+    (
+        1,
+        &[&[1, -1], &[-1]],
+        &[(&[], 1, &[(2, 1)])],
+        1,
+        "resolvent of 1",
+    ),
+    (
+        1,
+        &[&[1, -1], &[-1]],
+        &[(&[-1], 1, &[(2, 1)])],
+        1,
+        "not empty",
+    ),
+];
 
 #[test]
 fn a_resolvent_keeps_the_literal_that_is_not_taken_out(rt: HostRuntime) -> Result<(), Fail> {
-    let clauses: [&[i8]; 2] = [&[1, -1], &[-1]];
-    compare(&rt, &clauses, &[(&[], 1, &[(2, 1)])], 1, "resolvent of 1")?;
-    compare(&rt, &clauses, &[(&[-1], 1, &[(2, 1)])], 1, "not empty")
+    are_checked(&rt, &RESOLVENTS)
 }
 
 /// How many variables the long chain has.
@@ -132,10 +169,16 @@ fn long_log(alloc: Global) -> Result<Log, NoMemory> {
     Ok(Log { steps })
 }
 
+/// The long chain, checked.
+fn long_verified(rt: &(impl Abort + AllocGlobal)) -> Result<Verified, Fail> {
+    let cnf = long_formula(rt)?;
+    let checked = check(rt.alloc(), cnf, long_log(rt.alloc())?);
+    Ok(checked.ok().ok_or("refused")?)
+}
+
 #[test]
 fn a_step_may_have_four_hundred_thousand_links(rt: HostRuntime) -> Result<(), Fail> {
-    let result = check(rt.alloc(), long_formula(&rt)?, long_log(rt.alloc())?);
-    let verified = result.ok().ok_or("refused")?;
+    let verified = long_verified(&rt)?;
     assert_eq!(rt; verified.cnf().count(), LONG + 1);
     assert_eq!(rt; verified.log().steps.len(), 1);
     Ok(())
@@ -166,57 +209,63 @@ fn read_and_check(rt: &(impl Abort + AllocGlobal), text: &[u8]) -> Result<(u64, 
     }
 }
 
-#[test]
-fn proof_texts_are_read(rt: HostRuntime) -> Result<(), Fail> {
-    let rows: [(&str, u64, &str); 14] = [
-        ("proofs 0", 0, "none"),
-        // many variables, and a clause or two: what is held is small
-        (
-            "proofs 1\np cnf 2147483648 1\n1 0\nlog 1\n0 1 0",
-            1,
-            "resolvent of 1",
-        ),
-        (
-            "proofs 1\np cnf 2147483648 2\n2147483648 0\n-2147483648 0\nlog 1\n0 1 2 2147483648 0",
-            0,
-            "ok",
-        ),
-        (
-            "c a comment\n proofs 1\np cnf 1 1\n1 0\nlog 0\n",
-            0,
-            "no step",
-        ),
-        ("proofs 1 p cnf 1 1 1 0 log 1 0 2 0", 1, "no clause 2"),
-        (
-            "proofs 1\np cnf 1 2\n1 -1 0\n-1 0\nlog 1\n0 1 2 1 0",
-            1,
-            "resolvent of 1",
-        ),
-        ("proofs 1\np cnf 1 9223372036854775807\n", 80, "proof"),
-        ("proofs 1\np cnf 9223372036854775807 0\nlog 0", 80, "proof"),
-        ("proofs 1\np cnf 1 1\n01 0\nlog 0", 80, "proof"),
-        ("proofs 1\np cnf 1 1\n-0 0\nlog 0", 80, "proof"),
-        ("proofs 1\np cnf 1 1\n2 0\nlog 0", 80, "proof"),
-        ("proofs 1\np cnf 1 1\n1 0\nlog 0 0", 80, "proof"),
-        ("proofs", 80, "proof"),
-        ("", 80, "proof"),
-    ];
+/// What reading and checking each text answers.
+fn are_read(rt: &(impl Abort + AllocGlobal), rows: &[(&str, u64, &str)]) -> Result<(), Fail> {
     for (text, number, wanted) in rows {
-        let found = read_and_check(&rt, text.as_bytes())?;
-        assert_eq!(rt; found.0, number, "of {text}");
-        assert_eq!(rt; found.1.as_str(), wanted, "of {text}");
+        let found = read_and_check(rt, text.as_bytes())?;
+        assert_eq!(rt; found.0, *number, "of {text}");
+        assert_eq!(rt; found.1.as_str(), *wanted, "of {text}");
     }
     Ok(())
 }
 
 #[test]
+fn proof_texts_are_read(rt: HostRuntime) -> Result<(), Fail> {
+    are_read(
+        &rt,
+        &[
+            ("proofs 0", 0, "none"),
+            // many variables, and a clause or two: what is held is small
+            (
+                "proofs 1\np cnf 2147483648 1\n1 0\nlog 1\n0 1 0",
+                1,
+                "resolvent of 1",
+            ),
+            (
+                "proofs 1\np cnf 2147483648 2\n2147483648 0\n-2147483648 0\nlog 1\n0 1 2 2147483648 0",
+                0,
+                "ok",
+            ),
+            (
+                "c a comment\n proofs 1\np cnf 1 1\n1 0\nlog 0\n",
+                0,
+                "no step",
+            ),
+            ("proofs 1 p cnf 1 1 1 0 log 1 0 2 0", 1, "no clause 2"),
+            (
+                "proofs 1\np cnf 1 2\n1 -1 0\n-1 0\nlog 1\n0 1 2 1 0",
+                1,
+                "resolvent of 1",
+            ),
+            ("proofs 1\np cnf 1 9223372036854775807\n", 80, "proof"),
+            ("proofs 1\np cnf 9223372036854775807 0\nlog 0", 80, "proof"),
+            ("proofs 1\np cnf 1 1\n01 0\nlog 0", 80, "proof"),
+            ("proofs 1\np cnf 1 1\n-0 0\nlog 0", 80, "proof"),
+            ("proofs 1\np cnf 1 1\n2 0\nlog 0", 80, "proof"),
+            ("proofs 1\np cnf 1 1\n1 0\nlog 0 0", 80, "proof"),
+            ("proofs", 80, "proof"),
+            ("", 80, "proof"),
+        ],
+    )
+}
+
+#[test]
 fn the_text_of_three_pigeons_is_read(rt: HostRuntime) -> Result<(), Fail> {
-    let found = read_and_check(&rt, PIGEONS_TEXT.as_bytes())?;
-    assert_eq!(rt; found.0, 0);
-    assert_eq!(rt; found.1.as_str(), "ok");
+    are_read(&rt, &[(PIGEONS_TEXT, 0, "ok")])
+}
+
+#[test]
+fn a_text_without_a_literal_is_no_proof(rt: HostRuntime) -> Result<(), Fail> {
     let text = PIGEONS_TEXT.replace(rt.alloc(), "\n-1 0 9", "\n0 9")?;
-    let found = read_and_check(&rt, text.as_str().as_bytes())?;
-    assert_eq!(rt; found.0, 1);
-    assert_eq!(rt; found.1.as_str(), "resolvent of 1");
-    Ok(())
+    are_read(&rt, &[(text.as_str(), 1, "resolvent of 1")])
 }

@@ -76,104 +76,155 @@ fn asked(rt: &(impl Abort + AllocGlobal)) -> Result<Circuit, NoMemory> {
     Ok(circuit)
 }
 
+/// Each wire has its gate.
+fn have_gates(rt: &impl Abort, circuit: &Circuit, rows: &[(Gate, Wire, u64)]) {
+    for (gate, wire, _) in rows {
+        assert!(rt; wire.0 < circuit.wires());
+        assert_eq!(rt; circuit.gate(*wire), *gate);
+    }
+}
+
 #[test]
 fn equal_gates_are_shared_and_what_folds_is_folded(rt: HostRuntime) -> Result<(), Fail> {
     let circuit = asked(&rt)?;
     assert_eq!(rt; circuit.inputs(), 3);
-    for (gate, wire, _) in &ASKED[..8] {
-        assert!(rt; wire.0 < circuit.wires());
-        assert_eq!(rt; circuit.gate(*wire), *gate);
-    }
+    have_gates(&rt, &circuit, &ASKED[..8]);
     Ok(())
 }
 
+/// The and of all three inputs.
+const ALL: Wire = Wire(8);
+
 #[test]
 fn and_gates_are_looked_through(rt: HostRuntime) -> Result<(), Fail> {
-    let all = Wire(8);
-    let rows = [
-        (Gate::And(BOTH, C), all, 9),
-        (Gate::And(A, all), all, 9),
-        (Gate::And(all, B), all, 9),
-        (Gate::And(NOT_A, all), NO, 9),
-        // the opposite of all three stands in between
-        (Gate::Mux(all, A, NO), all, 10),
-    ];
     let mut circuit = asked(&rt)?;
-    ask_all(&rt, &mut circuit, &rows)?;
+    ask_all(
+        &rt,
+        &mut circuit,
+        &[
+            (Gate::And(BOTH, C), ALL, 9),
+            (Gate::And(A, ALL), ALL, 9),
+            (Gate::And(ALL, B), ALL, 9),
+            (Gate::And(NOT_A, ALL), NO, 9),
+            // the opposite of all three stands in between
+            (Gate::Mux(ALL, A, NO), ALL, 10),
+        ],
+    )?;
+    Ok(())
+}
+
+/// The eight wires that are asked for first have these values.
+fn has_all_values(rt: &impl Abort, circuit: &Circuit, inputs: &[bool; 3], wanted: &[bool; 8]) {
+    let mut values = [true; 8];
+    assert_eq!(rt; circuit.inputs(), 3);
+    assert_eq!(rt; circuit.wires(), 8);
+    circuit.value(inputs, &mut values);
+    assert_eq!(rt; values, *wanted, "at {inputs:?}");
+}
+
+/// The wires have these values at the inputs beside them.
+fn have_values(
+    rt: &(impl Abort + AllocGlobal),
+    rows: &[([bool; 3], [bool; 8])],
+) -> Result<(), Fail> {
+    let circuit = asked(rt)?;
+    for (inputs, wanted) in rows {
+        has_all_values(rt, &circuit, inputs, wanted);
+    }
     Ok(())
 }
 
 #[test]
 fn wires_have_their_values(rt: HostRuntime) -> Result<(), Fail> {
-    let circuit = asked(&rt)?;
-    // a, b and c; these, true, false, not a, a and b, b where a holds and else c
-    let rows = [
-        (
-            [false, false, false],
-            [false, false, false, true, false, true, false, false],
-        ),
-        (
-            [false, true, true],
-            [false, true, true, true, false, true, false, true],
-        ),
-        (
-            [true, false, false],
-            [true, false, false, true, false, false, false, false],
-        ),
-        (
-            [true, true, true],
-            [true, true, true, true, false, false, true, true],
-        ),
-    ];
-    for (inputs, wanted) in rows {
-        let mut values = [true; 8];
-        assert_eq!(rt; circuit.inputs(), 3);
-        assert_eq!(rt; circuit.wires(), 8);
-        circuit.value(&inputs, &mut values);
-        assert_eq!(rt; values, wanted, "at {inputs:?}");
-    }
-    Ok(())
+    have_values(
+        &rt,
+        &[
+            // a, b and c; these, true, false, not a, a and b, b where a holds and else c
+            (
+                [false, false, false],
+                [false, false, false, true, false, true, false, false],
+            ),
+            (
+                [false, true, true],
+                [false, true, true, true, false, true, false, true],
+            ),
+            (
+                [true, false, false],
+                [true, false, false, true, false, false, false, false],
+            ),
+            (
+                [true, true, true],
+                [true, true, true, true, false, false, true, true],
+            ),
+        ],
+    )
 }
 
-#[test]
-fn lists_of_wires_are_compared(rt: HostRuntime) -> Result<(), Fail> {
-    let rows = [
-        (&[A, B][..], &[A, B][..], [true, true, true, true]),
-        (&[A, B][..], &[B, B][..], [true, false, false, true]),
-        (&[NOT_A, YES][..], &[B, YES][..], [false, true, true, false]),
-        (&[][..], &[][..], [true, true, true, true]),
-    ];
-    for (left, right, wanted) in rows {
-        compare(&rt, left, right, wanted)?;
-    }
-    Ok(())
-}
-
-/// The value of the comparison at the four values of the first two inputs.
-fn compare(
+/// A circuit in which two lists of wires are compared, and the wire that says whether they are equal.
+fn compared(
     rt: &(impl Abort + AllocGlobal),
     left: &[Wire],
     right: &[Wire],
-    wanted: [bool; 4],
-) -> Result<(), Fail> {
+) -> Result<(Circuit, Wire), NoMemory> {
     let mut circuit = asked(rt)?;
     let wires = circuit.wires();
     assert_eq!(rt; left.len(), right.len());
     assert!(rt; left.iter().all(|w| w.0 < wires));
     assert!(rt; right.iter().all(|w| w.0 < wires));
     let equal = circuit.equal(left, right)?;
+    Ok((circuit, equal))
+}
+
+/// The value of a wire at the first two inputs, with the third false.
+fn value_at(
+    rt: &(impl Abort + AllocGlobal),
+    circuit: &Circuit,
+    wire: Wire,
+    a: bool,
+    b: bool,
+) -> Result<Option<bool>, Fail> {
     let mut values = vec![in rt.alloc(); false; circuit.wires() as usize]?;
-    for (row, (a, b)) in [(false, false), (false, true), (true, false), (true, true)]
-        .iter()
-        .enumerate()
-    {
-        assert_eq!(rt; circuit.inputs(), 3);
-        assert_eq!(rt; circuit.wires() as usize, values.len());
-        circuit.value(&[*a, *b, false], &mut values);
-        assert_eq!(rt;
-            values.get(equal.0 as usize).copied(),
-            wanted.get(row).copied()
-        );
+    assert_eq!(rt; circuit.inputs(), 3);
+    assert_eq!(rt; circuit.wires() as usize, values.len());
+    circuit.value(&[a, b, false], &mut values);
+    Ok(values.get(wire.0 as usize).copied())
+}
+
+/// A wire has these values at the four values of the first two inputs.
+fn has_values(
+    rt: &(impl Abort + AllocGlobal),
+    circuit: &Circuit,
+    wire: Wire,
+    wanted: &[bool],
+) -> Result<(), Fail> {
+    for (row, want) in wanted.iter().enumerate() {
+        let found = value_at(rt, circuit, wire, row & 2 != 0, row & 1 != 0)?;
+        assert_eq!(rt; found, Some(*want));
     }
     Ok(())
+}
+
+/// The comparison of the lists has the values beside them.
+fn are_compared(
+    rt: &(impl Abort + AllocGlobal),
+    rows: &[(&[Wire], &[Wire], [bool; 4])],
+) -> Result<(), Fail> {
+    for (left, right, wanted) in rows {
+        let (circuit, equal) = compared(rt, *left, *right)?;
+        has_values(rt, &circuit, equal, wanted)?;
+    }
+    Ok(())
+}
+
+#[test]
+fn lists_of_wires_are_compared(rt: HostRuntime) -> Result<(), Fail> {
+    are_compared(
+        &rt,
+        &[
+            (&[A, B], &[A, B], [true, true, true, true]),
+            (&[A, B], &[B, B], [true, false, false, true]),
+            (&[NOT_A, YES], &[B, YES], [false, true, true, false]),
+            (&[], &[], [true, true, true, true]),
+        ],
+    )
 }

@@ -1,7 +1,7 @@
 //! Gates, literals, formulas and logs, as tests state them.
 
 use bool_circuit::{Circuit, Gate, Wire};
-use cnf::{Clause, Cnf, Link, Lit, Log, Step};
+use cnf::{Clause, Cnf, Link, Lit, Log, Step, write_proof};
 use rh_base::{NoMemory, Seq};
 use std::alloc::Global;
 use std::process::Abort;
@@ -87,6 +87,20 @@ pub fn log(alloc: Global, stated: &[Stated]) -> Result<Log, NoMemory> {
         steps.push(step(alloc, s)?)?;
     }
     Ok(Log { steps })
+}
+
+/// The text of a formula of these clauses with these steps.
+pub fn stated_text(
+    rt: &(impl Abort + AllocGlobal),
+    vars: u64,
+    clauses: &[&[i8]],
+    steps: &[Stated],
+) -> Result<Vec<u8>, NoMemory> {
+    let cnf = formula(rt, vars, clauses)?;
+    let log = log(rt.alloc(), steps)?;
+    let mut text = Vec::new(rt.alloc());
+    write_proof(&cnf, &log, &mut text)?;
+    Ok(text)
 }
 
 /// Three pigeons in two holes.

@@ -1,25 +1,57 @@
 //! Clauses, formulas, and the formula of a goal.
 
-use crate::common::{FIRST, PIGEONS, SECOND, ask, formula, lit, lits, log};
+use crate::common::{FIRST, PIGEONS, SECOND, ask, formula, lit, lits, stated_text};
 use bool_circuit::{Circuit, Gate, Wire};
-use cnf::{Clause, Cnf, from_circuit, from_circuit_with, write_proof};
-use rh_base::NoMemory;
+use cnf::{Clause, Cnf, Lit, from_circuit, from_circuit_with};
+use rh_base::{NoMemory, Seq};
+use std::alloc::Global;
 use std::process::Abort;
 use std::test::Fail;
 use test_rows::PIGEONS as PIGEONS_TEXT;
 
-#[test]
-fn a_clause_is_in_order_and_has_each_literal_once(rt: HostRuntime) -> Result<(), Fail> {
-    let rows = [
-        (&[][..], &[][..]),
-        (&[3, -1, 2, 2, -1][..], &[-1, 2, 3][..]),
-        (&[-2, 2, -2, 1][..], &[1, 2, -2][..]),
-    ];
+/// The clause of these literals.
+fn clause_of(alloc: Global, numbers: &[i8]) -> Result<Clause, NoMemory> {
+    let lits = lits(alloc, numbers)?;
+    Clause::from_lits(alloc, &lits)
+}
+
+/// The clause of each list of literals has those beside it.
+fn are_clauses(rt: &(impl Abort + AllocGlobal), rows: &[(&[i8], &[i8])]) -> Result<(), Fail> {
     for (given, wanted) in rows {
-        let clause = Clause::from_lits(rt.alloc(), &lits(rt.alloc(), given)?)?;
-        assert_eq!(rt; clause.lits(), lits(rt.alloc(), wanted)?.as_slice());
+        let clause = clause_of(rt.alloc(), *given)?;
+        let wanted = lits(rt.alloc(), *wanted)?;
+        assert_eq!(rt; clause.lits(), wanted.as_slice());
     }
     Ok(())
+}
+
+#[test]
+fn a_clause_is_in_order_and_has_each_literal_once(rt: HostRuntime) -> Result<(), Fail> {
+    are_clauses(
+        &rt,
+        &[
+            (&[], &[]),
+            (&[3, -1, 2, 2, -1], &[-1, 2, 3]),
+            (&[-2, 2, -2, 1], &[1, 2, -2]),
+        ],
+    )
+}
+
+/// The clauses with these numbers have so many literals.
+fn have_lengths(rt: &impl Abort, cnf: &Cnf, rows: &[(u64, u64)]) {
+    for (i, length) in rows {
+        assert!(rt; 1 <= *i && *i <= cnf.count());
+        assert_eq!(rt; cnf.length(*i), *length, "of clause {i}");
+    }
+}
+
+/// The clauses with these numbers have these literals at these places.
+fn have_literals(rt: &impl Abort, cnf: &Cnf, rows: &[(u64, u64, i8)]) {
+    for (i, k, number) in rows {
+        assert!(rt; 1 <= *i && *i <= cnf.count());
+        assert!(rt; *k < cnf.length(*i));
+        assert_eq!(rt; cnf.lit(*i, *k), lit(*number), "of clause {i}");
+    }
 }
 
 #[test]
@@ -27,15 +59,19 @@ fn a_formula_gives_its_clauses_back(rt: HostRuntime) -> Result<(), Fail> {
     let cnf = formula(&rt, 3, &[&[3, -1, 3], &[], &[2]])?;
     assert_eq!(rt; cnf.vars(), 3);
     assert_eq!(rt; cnf.count(), 3);
-    assert_eq!(rt; cnf.length(1), 2);
-    assert_eq!(rt; cnf.length(2), 0);
-    assert_eq!(rt; cnf.length(3), 1);
-    assert_eq!(rt; cnf.lit(1, 0), lit(-1));
-    assert_eq!(rt; cnf.lit(1, 1), lit(3));
-    assert_eq!(rt; cnf.lit(3, 0), lit(2));
-    assert!(rt; Cnf::new(rt.alloc(), 2_147_483_648).is_ok());
-    assert!(rt; Cnf::new(rt.alloc(), 2_147_483_649).is_err());
+    have_lengths(&rt, &cnf, &[(1, 2), (2, 0), (3, 1)]);
+    have_literals(&rt, &cnf, &[(1, 0, -1), (1, 1, 3), (3, 0, 2)]);
     Ok(())
+}
+
+#[test]
+fn a_formula_may_have_the_most_variables(rt: HostRuntime) {
+    assert!(rt; Cnf::new(rt.alloc(), 2_147_483_648).is_ok());
+}
+
+#[test]
+fn a_formula_has_no_more_variables(rt: HostRuntime) {
+    assert!(rt; Cnf::new(rt.alloc(), 2_147_483_649).is_err());
 }
 
 /// Whether the valuation, a bit per variable, makes each clause true.
@@ -89,27 +125,43 @@ fn inputs_with_models(rt: &impl Abort, cnf: &Cnf) -> u32 {
     found
 }
 
-#[test]
-fn models_begin_with_inputs_that_make_the_goal_true(rt: HostRuntime) -> Result<(), Fail> {
-    let circuit = circuit_of_gates(&rt)?;
-    // the goal, the inputs (a + 2 b + 4 c) that make it true, and the counts of variables and of clauses
-    let rows = [
-        (0, 0b1010_1010, 3, 1),
-        (3, 0b0101_0101, 3, 1),
-        (4, 0b0100_0100, 4, 4),
-        (5, 0b0100_1010, 5, 10),
-        (6, 0b1111_1111, 4, 2),
-        (7, 0b0100_0000, 6, 13),
-        (8, 0b0101_1010, 4, 5),
-    ];
-    for (goal, wanted, vars, clauses) in rows {
-        assert!(rt; goal < circuit.wires());
-        let cnf = from_circuit(rt.alloc(), &circuit, Wire(goal))?;
-        assert_eq!(rt; inputs_with_models(&rt, &cnf), wanted, "of wire {goal}");
-        assert_eq!(rt; cnf.vars(), vars, "of wire {goal}");
-        assert_eq!(rt; cnf.count(), clauses, "of wire {goal}");
+/// A goal, the inputs (a + 2 b + 4 c) that make it true, and the counts of variables and of clauses.
+type Goal = (u64, u32, u64, u64);
+
+/// The formula of a goal has these models, variables and clauses.
+fn has_models(rt: &(impl Abort + AllocGlobal), circuit: &Circuit, row: &Goal) -> Result<(), Fail> {
+    let (goal, wanted, vars, clauses) = *row;
+    assert!(rt; goal < circuit.wires());
+    let cnf = from_circuit(rt.alloc(), circuit, Wire(goal))?;
+    assert_eq!(rt; inputs_with_models(rt, &cnf), wanted, "of wire {goal}");
+    assert_eq!(rt; cnf.vars(), vars, "of wire {goal}");
+    assert_eq!(rt; cnf.count(), clauses, "of wire {goal}");
+    Ok(())
+}
+
+/// The formulas of these goals have the models beside them.
+fn have_models(rt: &(impl Abort + AllocGlobal), rows: &[Goal]) -> Result<(), Fail> {
+    let circuit = circuit_of_gates(rt)?;
+    for row in rows {
+        has_models(rt, &circuit, row)?;
     }
     Ok(())
+}
+
+#[test]
+fn models_begin_with_inputs_that_make_the_goal_true(rt: HostRuntime) -> Result<(), Fail> {
+    have_models(
+        &rt,
+        &[
+            (0, 0b1010_1010, 3, 1),
+            (3, 0b0101_0101, 3, 1),
+            (4, 0b0100_0100, 4, 4),
+            (5, 0b0100_1010, 5, 10),
+            (6, 0b1111_1111, 4, 2),
+            (7, 0b0100_0000, 6, 13),
+            (8, 0b0101_1010, 4, 5),
+        ],
+    )
 }
 
 /// The same circuit with the opposite of the second input, on which no goal stands; and a goal.
@@ -120,31 +172,53 @@ fn circuit_and_goal(rt: &(impl Abort + AllocGlobal)) -> Result<(Circuit, Wire), 
     Ok((circuit, goal))
 }
 
-#[test]
-fn wires_are_named_by_their_literals(rt: HostRuntime) -> Result<(), Fail> {
-    let (circuit, goal) = circuit_and_goal(&rt)?;
-    let rows = [
-        (&[][..], &[][..]),
-        (&[Wire(1), Wire(0)][..], &[2, 1][..]),
-        (&[Wire(9), Wire(3)][..], &[-2, -1][..]),
-        (&[Wire(10), Wire(2), Wire(5), Wire(11)][..], &[4][..]),
-    ];
-    assert_eq!(rt; goal, Wire(10));
+/// The literals of wires in the formula of a goal.
+fn named(
+    rt: &(impl Abort + AllocGlobal),
+    circuit: &Circuit,
+    goal: Wire,
+    wires: &[Wire],
+) -> Result<Seq<Lit>, NoMemory> {
     assert!(rt; goal.0 < circuit.wires());
+    let (_, literals) = from_circuit_with(rt.alloc(), circuit, goal, wires)?;
+    Ok(literals)
+}
+
+/// In the formula of a goal these wires have these literals.
+fn are_named(
+    rt: &(impl Abort + AllocGlobal),
+    circuit: &Circuit,
+    goal: Wire,
+    rows: &[(&[Wire], &[i8])],
+) -> Result<(), Fail> {
     for (wires, wanted) in rows {
-        let (_, named) = from_circuit_with(rt.alloc(), &circuit, goal, wires)?;
-        assert_eq!(rt; named.as_slice(), lits(rt.alloc(), wanted)?.as_slice());
+        let found = named(rt, circuit, goal, *wires)?;
+        let wanted = lits(rt.alloc(), *wanted)?;
+        assert_eq!(rt; found.as_slice(), wanted.as_slice());
     }
     Ok(())
 }
 
 #[test]
+fn wires_are_named_by_their_literals(rt: HostRuntime) -> Result<(), Fail> {
+    let (circuit, goal) = circuit_and_goal(&rt)?;
+    assert_eq!(rt; goal, Wire(10));
+    are_named(
+        &rt,
+        &circuit,
+        goal,
+        &[
+            (&[], &[]),
+            (&[Wire(1), Wire(0)], &[2, 1]),
+            (&[Wire(9), Wire(3)], &[-2, -1]),
+            (&[Wire(10), Wire(2), Wire(5), Wire(11)], &[4]),
+        ],
+    )
+}
+
+#[test]
 fn three_pigeons_in_two_holes_are_written(rt: HostRuntime) -> Result<(), Fail> {
-    let alloc = rt.alloc();
-    let cnf = formula(&rt, 6, &PIGEONS)?;
-    let log = log(alloc, &[(&[-1], 9, FIRST), (&[], 6, SECOND)])?;
-    let mut text = Vec::new(alloc);
-    write_proof(&cnf, &log, &mut text)?;
+    let text = stated_text(&rt, 6, &PIGEONS, &[(&[-1], 9, FIRST), (&[], 6, SECOND)])?;
     let block = PIGEONS_TEXT.strip_prefix("proofs 1\n");
     assert_eq!(rt; block.map(|b| b.as_bytes()), Some(text.as_slice()));
     Ok(())

@@ -1,9 +1,8 @@
 //! Refutations of which only the steps that are used are left.
 
-use crate::common::{FIRST, PIGEONS, SECOND, Stated, formula, log};
+use crate::common::{FIRST, PIGEONS, SECOND, Stated, formula, log, stated_text};
 use cnf::write_proof;
-use proof_check::check;
-use rh_base::NoMemory;
+use proof_check::{Verified, check};
 use std::process::Abort;
 use std::test::Fail;
 use trimmed_proofs::trimmed;
@@ -112,35 +111,33 @@ const ROWS: [Row; 8] = [
     ),
 ];
 
-/// The text of a formula with these steps.
-fn stated_text(
-    rt: &(impl Abort + AllocGlobal),
-    row: &Row,
-    steps: &[Stated],
-) -> Result<Vec<u8>, NoMemory> {
+/// The log of a row, checked.
+fn verified(rt: &(impl Abort + AllocGlobal), row: &Row) -> Result<Verified, Fail> {
     let cnf = formula(rt, row.0, row.1)?;
-    let mut text = Vec::new(rt.alloc());
-    write_proof(&cnf, &log(rt.alloc(), steps)?, &mut text)?;
-    Ok(text)
+    let checked = check(rt.alloc(), cnf, log(rt.alloc(), row.2)?);
+    Ok(checked.ok().ok_or("refused")?)
 }
 
 /// The text of what is left.
 fn left_text(rt: &(impl Abort + AllocGlobal), row: &Row) -> Result<Vec<u8>, Fail> {
-    let cnf = formula(rt, row.0, row.1)?;
-    let checked = check(rt.alloc(), cnf, log(rt.alloc(), row.2)?);
-    let verified = checked.ok().ok_or("refused")?;
-    let left = trimmed(rt.alloc(), &verified)?;
+    let whole = verified(rt, row)?;
+    let left = trimmed(rt.alloc(), &whole)?;
     let mut text = Vec::new(rt.alloc());
     write_proof(left.cnf(), left.log(), &mut text)?;
     Ok(text)
 }
 
-#[test]
-fn only_what_is_used_is_left(rt: HostRuntime) -> Result<(), Fail> {
-    for row in ROWS {
-        let left = left_text(&rt, &row)?;
-        let wanted = stated_text(&rt, &row, row.3)?;
+/// Of the log of each row just the steps beside it are left.
+fn are_left(rt: &(impl Abort + AllocGlobal), rows: &[Row]) -> Result<(), Fail> {
+    for row in rows {
+        let left = left_text(rt, row)?;
+        let wanted = stated_text(rt, row.0, row.1, row.3)?;
         assert_eq!(rt; left.as_slice(), wanted.as_slice());
     }
     Ok(())
+}
+
+#[test]
+fn only_what_is_used_is_left(rt: HostRuntime) -> Result<(), Fail> {
+    are_left(&rt, &ROWS)
 }

@@ -34,7 +34,7 @@ pub fn printed_behind(alloc: Global, front: &str, text: &str) -> Result<String, 
 }
 
 /// The canonical text of what a text spells, or the refusal.
-pub fn printed(alloc: Global, text: &str) -> Result<String, Fail> {
+fn printed(alloc: Global, text: &str) -> Result<String, Fail> {
     printed_behind(alloc, "", text)
 }
 
@@ -60,27 +60,27 @@ pub fn tokens_of(alloc: Global, text: &[u8]) -> Result<String, Fail> {
 }
 
 /// Each text has the canonical text beside it, or the refusal.
-pub fn are_printed(rt: &impl Abort, alloc: Global, rows: &[(&str, &str)]) -> Result<(), Fail> {
+pub fn are_printed(rt: &(impl Abort + AllocGlobal), rows: &[(&str, &str)]) -> Result<(), Fail> {
     for (text, want) in rows {
-        let found = printed(alloc, text)?;
+        let found = printed(rt.alloc(), *text)?;
         assert_eq!(rt; found.as_str(), *want, "{text}");
     }
     Ok(())
 }
 
 /// Each text has the tokens beside it, or the refusal.
-pub fn are_tokens(rt: &impl Abort, alloc: Global, rows: &[(&str, &str)]) -> Result<(), Fail> {
+pub fn are_tokens(rt: &(impl Abort + AllocGlobal), rows: &[(&str, &str)]) -> Result<(), Fail> {
     for (text, want) in rows {
-        let found = tokens_of(alloc, text.as_bytes())?;
+        let found = tokens_of(rt.alloc(), text.as_bytes())?;
         assert_eq!(rt; found.as_str(), *want, "{text}");
     }
     Ok(())
 }
 
 /// The same of bytes that are no text.
-pub fn are_bytes(rt: &impl Abort, alloc: Global, rows: &[(&[u8], &str)]) -> Result<(), Fail> {
+pub fn are_bytes(rt: &(impl Abort + AllocGlobal), rows: &[(&[u8], &str)]) -> Result<(), Fail> {
     for (text, want) in rows {
-        let found = tokens_of(alloc, text)?;
+        let found = tokens_of(rt.alloc(), *text)?;
         assert_eq!(rt; found.as_str(), *want);
     }
     Ok(())

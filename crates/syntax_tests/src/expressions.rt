@@ -25,7 +25,7 @@ const TOKENS_HAVE_THEIR_VALUES: [(&str, &str); 18] = [
 
 #[test]
 fn tokens_have_their_values(rt: HostRuntime) -> Result<(), Fail> {
-    are_printed(&rt, rt.alloc(), &TOKENS_HAVE_THEIR_VALUES)
+    are_printed(&rt, &TOKENS_HAVE_THEIR_VALUES)
 }
 
 const OPERATORS_HAVE_LEVELS: [(&str, &str); 15] = [
@@ -54,7 +54,7 @@ const OPERATORS_HAVE_LEVELS: [(&str, &str); 15] = [
 
 #[test]
 fn operators_have_levels(rt: HostRuntime) -> Result<(), Fail> {
-    are_printed(&rt, rt.alloc(), &OPERATORS_HAVE_LEVELS)
+    are_printed(&rt, &OPERATORS_HAVE_LEVELS)
 }
 
 const OPERANDS_HAVE_THEIR_BRACKETS: [(&str, &str); 15] = [
@@ -83,7 +83,7 @@ const OPERANDS_HAVE_THEIR_BRACKETS: [(&str, &str); 15] = [
 
 #[test]
 fn operands_have_their_brackets(rt: HostRuntime) -> Result<(), Fail> {
-    are_printed(&rt, rt.alloc(), &OPERANDS_HAVE_THEIR_BRACKETS)
+    are_printed(&rt, &OPERANDS_HAVE_THEIR_BRACKETS)
 }
 
 const MEMBERS_STAND_IN_HOLES: [(&str, &str); 12] = [
@@ -109,5 +109,5 @@ const MEMBERS_STAND_IN_HOLES: [(&str, &str); 12] = [
 
 #[test]
 fn members_stand_in_holes(rt: HostRuntime) -> Result<(), Fail> {
-    are_printed(&rt, rt.alloc(), &MEMBERS_STAND_IN_HOLES)
+    are_printed(&rt, &MEMBERS_STAND_IN_HOLES)
 }

@@ -1,6 +1,5 @@
 //! Rows of the depth at which a token is refused.
 use crate::answers::refusal_of;
-use std::alloc::Global;
 use std::process::Abort;
 use std::test::Fail;
 use test_rows::{Pieces, nested};
@@ -29,10 +28,13 @@ const LIMITS: [(Pieces, usize, &str); 21] = [
     (("User <| ", "(", "a==1", ")"), 64, "13 at 71: nesting"),
 ];
 
-fn are_refused(rt: &impl Abort, alloc: Global, rows: &[(Pieces, usize, &str)]) -> Result<(), Fail> {
+fn are_refused(
+    rt: &(impl Abort + AllocGlobal),
+    rows: &[(Pieces, usize, &str)],
+) -> Result<(), Fail> {
     for (pieces, count, want) in rows {
-        let text = nested(alloc, pieces, *count)?;
-        let found = refusal_of(alloc, text.as_str())?;
+        let text = nested(rt.alloc(), pieces, *count)?;
+        let found = refusal_of(rt.alloc(), text.as_str())?;
         assert_eq!(rt; found.as_str(), *want, "{text}");
     }
     Ok(())
@@ -40,5 +42,5 @@ fn are_refused(rt: &impl Abort, alloc: Global, rows: &[(Pieces, usize, &str)]) -
 
 #[test]
 fn tokens_nest_up_to_the_limit(rt: HostRuntime) -> Result<(), Fail> {
-    are_refused(&rt, rt.alloc(), &LIMITS)
+    are_refused(&rt, &LIMITS)
 }

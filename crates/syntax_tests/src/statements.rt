@@ -36,7 +36,7 @@ const CHAINS_HAVE_THEIR_OPERANDS: [(&str, &str); 14] = [
 
 #[test]
 fn chains_have_their_operands(rt: HostRuntime) -> Result<(), Fail> {
-    are_printed(&rt, rt.alloc(), &CHAINS_HAVE_THEIR_OPERANDS)
+    are_printed(&rt, &CHAINS_HAVE_THEIR_OPERANDS)
 }
 
 const STATEMENTS_HAVE_THEIR_PARTS: [(&str, &str); 16] = [
@@ -75,7 +75,7 @@ const STATEMENTS_HAVE_THEIR_PARTS: [(&str, &str); 16] = [
 
 #[test]
 fn statements_have_their_parts(rt: HostRuntime) -> Result<(), Fail> {
-    are_printed(&rt, rt.alloc(), &STATEMENTS_HAVE_THEIR_PARTS)
+    are_printed(&rt, &STATEMENTS_HAVE_THEIR_PARTS)
 }
 
 const OTHER_TOKENS_BEGIN_NO_STATEMENT: [(&str, &str); 16] = [
@@ -99,5 +99,5 @@ const OTHER_TOKENS_BEGIN_NO_STATEMENT: [(&str, &str); 16] = [
 
 #[test]
 fn other_tokens_begin_no_statement(rt: HostRuntime) -> Result<(), Fail> {
-    are_printed(&rt, rt.alloc(), &OTHER_TOKENS_BEGIN_NO_STATEMENT)
+    are_printed(&rt, &OTHER_TOKENS_BEGIN_NO_STATEMENT)
 }

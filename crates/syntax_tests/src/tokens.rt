@@ -49,7 +49,7 @@ const TOKENS_OF_EACH_KIND: [(&str, &str); 17] = [
 
 #[test]
 fn tokens_of_each_kind(rt: HostRuntime) -> Result<(), Fail> {
-    are_tokens(&rt, rt.alloc(), &TOKENS_OF_EACH_KIND)
+    are_tokens(&rt, &TOKENS_OF_EACH_KIND)
 }
 
 const TEXTS_THAT_SPELL_NO_TOKENS: [(&str, &str); 26] = [
@@ -86,7 +86,7 @@ const TEXTS_THAT_SPELL_NO_TOKENS: [(&str, &str); 26] = [
 
 #[test]
 fn texts_that_spell_no_tokens(rt: HostRuntime) -> Result<(), Fail> {
-    are_tokens(&rt, rt.alloc(), &TEXTS_THAT_SPELL_NO_TOKENS)
+    are_tokens(&rt, &TEXTS_THAT_SPELL_NO_TOKENS)
 }
 
 const BYTES_THAT_ARE_NO_TEXT: [(&[u8], &str); 3] = [
@@ -97,5 +97,5 @@ const BYTES_THAT_ARE_NO_TEXT: [(&[u8], &str); 3] = [
 
 #[test]
 fn bytes_that_are_no_text(rt: HostRuntime) -> Result<(), Fail> {
-    are_bytes(&rt, rt.alloc(), &BYTES_THAT_ARE_NO_TEXT)
+    are_bytes(&rt, &BYTES_THAT_ARE_NO_TEXT)
 }

@@ -91,9 +91,9 @@ pub fn assigned(alloc: Global, facts: &str, text: &str) -> Result<String, Fail> 
 }
 
 /// Each assignment to `$r`, under `FACTS`, gives the value beside it, or the refusal.
-pub fn are_assigned(rt: &impl Abort, alloc: Global, rows: &[(&str, &str)]) -> Result<(), Fail> {
+pub fn are_assigned(rt: &(impl Abort + AllocGlobal), rows: &[(&str, &str)]) -> Result<(), Fail> {
     for (text, want) in rows {
-        let found = assigned(alloc, FACTS, text)?;
+        let found = assigned(rt.alloc(), FACTS, *text)?;
         assert_eq!(rt; found.as_str(), *want, "{text}");
     }
     Ok(())

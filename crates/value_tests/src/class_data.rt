@@ -4,6 +4,7 @@ use pp_eval::facts_from_json;
 use pp_value::{Value, show};
 use rh_base::Fault;
 use std::alloc::Global;
+use std::process::Abort;
 use std::test::Fail;
 
 /// A level for machines in production, and one for all.
@@ -48,25 +49,34 @@ fn is_refused(alloc: Global, text: &[u8]) -> bool {
     }
 }
 
-#[test]
-fn the_first_level_that_applies_counts(rt: HostRuntime) -> Result<(), Fail> {
-    let rows: [(&str, &str, &str); 7] = [
-        ("{\"env\":\"Prod\"}", "c", "y"),
-        ("{}", "c", "z"),
-        ("{\"env\":\"test\"}", "c", "z"),
-        ("{\"ENV\":\"prod\"}", "c", "z"),
-        ("{\"env\":\"prod\"}", "::C", "y"),
-        ("{\"env\":\"prod\"}", "C", "y"),
-        ("{\"env\":\"prod\"}", "d", "none"),
-    ];
+/// A text of data has this for the parameter `p` of each class, under each text of facts.
+fn are_found(
+    rt: &(impl Abort + AllocGlobal),
+    data: &str,
+    rows: &[(&str, &str, &str)],
+) -> Result<(), Fail> {
     for (facts, class, want) in rows {
-        assert_eq!(rt;
-            found(rt.alloc(), TWO_LEVELS, facts, class)?.as_str(),
-            want,
-            "{facts} {class}"
-        );
+        let value = found(rt.alloc(), data, *facts, *class)?;
+        assert_eq!(rt; value.as_str(), *want, "{facts} {class}");
     }
     Ok(())
+}
+
+#[test]
+fn the_first_level_that_applies_counts(rt: HostRuntime) -> Result<(), Fail> {
+    are_found(
+        &rt,
+        TWO_LEVELS,
+        &[
+            ("{\"env\":\"Prod\"}", "c", "y"),
+            ("{}", "c", "z"),
+            ("{\"env\":\"test\"}", "c", "z"),
+            ("{\"ENV\":\"prod\"}", "c", "z"),
+            ("{\"env\":\"prod\"}", "::C", "y"),
+            ("{\"env\":\"prod\"}", "C", "y"),
+            ("{\"env\":\"prod\"}", "d", "none"),
+        ],
+    )
 }
 
 /// What one level has for `c::p`, of the texts of its `when`, its `values` and the facts.
@@ -75,103 +85,139 @@ fn in_level(alloc: Global, when: &str, values: &str, facts: &str) -> Result<Stri
     found(alloc, text.as_str(), facts, "c")
 }
 
-#[test]
-fn a_level_asks_for_each_fact(rt: HostRuntime) -> Result<(), Fail> {
-    let rows: [(&str, &str, &str); 8] = [
-        // an opaque number meets nothing, not even itself
-        ("{\"n\":1.5}", "{\"n\":1.5}", "none"),
-        ("{\"n\":[1.5]}", "{\"n\":2}", "none"),
-        // what isn't there isn't null
-        ("{\"n\":null}", "{}", "none"),
-        ("{\"n\":null}", "{\"n\":null}", "7"),
-        ("{\"a\":1,\"b\":2}", "{\"a\":1,\"b\":3}", "none"),
-        ("{\"a\":1,\"b\":2}", "{\"b\":2,\"a\":1}", "7"),
-        // maps in any order, texts of any case
-        (
-            "{\"os\":{\"x\":\"A\",\"y\":[1]}}",
-            "{\"os\":{\"y\":[1],\"x\":\"a\"}}",
-            "7",
-        ),
-        ("{}", "{}", "7"),
-    ];
-    for (when, facts, want) in rows {
-        assert_eq!(rt;
-            in_level(rt.alloc(), when, "{\"c::p\":7}", facts)?.as_str(),
-            want,
-            "{when}"
-        );
+/// Values in which the parameter is 7.
+const SEVEN: &str = "{\"c::p\":7}";
+
+/// Each level of a `when` and values has this for `c::p`, under each text of facts.
+fn are_in_level(
+    rt: &(impl Abort + AllocGlobal),
+    rows: &[(&str, &str, &str, &str)],
+) -> Result<(), Fail> {
+    for (when, values, facts, want) in rows {
+        let value = in_level(rt.alloc(), *when, *values, *facts)?;
+        assert_eq!(rt; value.as_str(), *want, "{when} {values}");
     }
     Ok(())
+}
+
+#[test]
+fn a_level_asks_for_each_fact(rt: HostRuntime) -> Result<(), Fail> {
+    are_in_level(
+        &rt,
+        &[
+            // an opaque number meets nothing, not even itself
+            ("{\"n\":1.5}", SEVEN, "{\"n\":1.5}", "none"),
+            ("{\"n\":[1.5]}", SEVEN, "{\"n\":2}", "none"),
+            // what isn't there isn't null
+            ("{\"n\":null}", SEVEN, "{}", "none"),
+            ("{\"n\":null}", SEVEN, "{\"n\":null}", "7"),
+            ("{\"a\":1,\"b\":2}", SEVEN, "{\"a\":1,\"b\":3}", "none"),
+            ("{\"a\":1,\"b\":2}", SEVEN, "{\"b\":2,\"a\":1}", "7"),
+            // maps in any order, texts of any case
+            (
+                "{\"os\":{\"x\":\"A\",\"y\":[1]}}",
+                SEVEN,
+                "{\"os\":{\"y\":[1],\"x\":\"a\"}}",
+                "7",
+            ),
+            ("{}", SEVEN, "{}", "7"),
+        ],
+    )
 }
 
 #[test]
 fn values_are_read_as_facts_are(rt: HostRuntime) -> Result<(), Fail> {
-    let rows: [(&str, &str); 6] = [
-        ("{\"c::p\":null}", "none"),
-        ("{}", "none"),
-        ("{\"c::p\":[1,{\"k\":false}]}", "[1, {k => false}]"),
-        // nothing is put into texts
-        ("{\"c::p\":\"%{env}\"}", "%{env}"),
-        // any text is a key, and keys are compared exactly
-        ("{\"\":1,\"C::p\":2,\"p\":3}", "none"),
-        // of equal keys the last counts
-        ("{\"c::p\":1,\"c::p\":2}", "2"),
-    ];
-    for (values, want) in rows {
-        assert_eq!(rt;
-            in_level(rt.alloc(), "{}", values, "{}")?.as_str(),
-            want,
-            "{values}"
-        );
-    }
-    Ok(())
+    are_in_level(
+        &rt,
+        &[
+            ("{}", "{\"c::p\":null}", "{}", "none"),
+            ("{}", "{}", "{}", "none"),
+            (
+                "{}",
+                "{\"c::p\":[1,{\"k\":false}]}",
+                "{}",
+                "[1, {k => false}]",
+            ),
+            // nothing is put into texts
+            ("{}", "{\"c::p\":\"%{env}\"}", "{}", "%{env}"),
+            // any text is a key, and keys are compared exactly
+            ("{}", "{\"\":1,\"C::p\":2,\"p\":3}", "{}", "none"),
+            // of equal keys the last counts
+            ("{}", "{\"c::p\":1,\"c::p\":2}", "{}", "2"),
+        ],
+    )
 }
 
 #[test]
 fn null_passes_on(rt: HostRuntime) -> Result<(), Fail> {
-    let text = "{\"levels\":[{\"values\":{\"c::p\":null}},{\"values\":{\"c::p\":\"z\"}}]}";
-    assert_eq!(rt; found(rt.alloc(), text, "{}", "c")?.as_str(), "z");
-    Ok(())
+    are_found(
+        &rt,
+        "{\"levels\":[{\"values\":{\"c::p\":null}},{\"values\":{\"c::p\":\"z\"}}]}",
+        &[("{}", "c", "z")],
+    )
+}
+
+/// Each text is refused.
+fn are_refused(rt: &(impl Abort + AllocGlobal), texts: &[&str]) {
+    for text in texts {
+        assert!(rt; is_refused(rt.alloc(), text.as_bytes()), "{text}");
+    }
 }
 
 #[test]
 fn other_texts_are_refused(rt: HostRuntime) {
-    let rows: [&str; 14] = [
-        "{\"levels\":{}}",
-        "{}",
-        "[]",
-        "",
-        "{\"levels\":[",
-        "{\"levels\":[],\"merge\":true}",
-        "{\"Levels\":[]}",
-        "{\"levels\":[7]}",
-        "{\"levels\":[{}]}",
-        "{\"levels\":[{\"values\":{},\"name\":\"n\"}]}",
-        "{\"levels\":[{\"values\":null}]}",
-        "{\"levels\":[{\"when\":null,\"values\":{}}]}",
-        "{\"levels\":[{\"when\":\"env\",\"values\":{}}]}",
-        "{\"levels\":[{\"values\":{}},{\"when\":{}}]}",
-    ];
-    for text in rows {
-        assert!(rt; is_refused(rt.alloc(), text.as_bytes()), "{text}");
-    }
+    are_refused(
+        &rt,
+        &[
+            "{\"levels\":{}}",
+            "{}",
+            "[]",
+            "",
+            "{\"levels\":[",
+            "{\"levels\":[],\"merge\":true}",
+            "{\"Levels\":[]}",
+            "{\"levels\":[7]}",
+            "{\"levels\":[{}]}",
+            "{\"levels\":[{\"values\":{},\"name\":\"n\"}]}",
+            "{\"levels\":[{\"values\":null}]}",
+            "{\"levels\":[{\"when\":null,\"values\":{}}]}",
+            "{\"levels\":[{\"when\":\"env\",\"values\":{}}]}",
+            "{\"levels\":[{\"values\":{}},{\"when\":{}}]}",
+        ],
+    );
+}
+
+#[test]
+fn other_bytes_are_refused(rt: HostRuntime) {
     assert!(rt;
         is_refused(
             rt.alloc(),
             b"{\"levels\":[{\"values\":{\"c::p\":\"\xff\"}}]}"
         )
     );
+}
+
+#[test]
+fn blanks_are_not_refused(rt: HostRuntime) {
     assert!(rt; !is_refused(rt.alloc(), b" {\"levels\" : [ {\"values\":{}} ] } "));
+}
+
+/// A copy of a text of data has this for `c::p`, under each text of facts.
+fn are_found_in_copy(
+    rt: &(impl Abort + AllocGlobal),
+    data: &str,
+    rows: &[(&str, &str)],
+) -> Result<(), Fail> {
+    for (facts, want) in rows {
+        let value = found_in_copy(rt.alloc(), data, *facts)?;
+        assert_eq!(rt; value.as_str(), *want, "{facts}");
+    }
+    Ok(())
 }
 
 #[test]
 fn a_copy_has_the_same(rt: HostRuntime) -> Result<(), Fail> {
-    assert_eq!(rt;
-        found_in_copy(rt.alloc(), TWO_LEVELS, "{\"env\":\"prod\"}")?.as_str(),
-        "y"
-    );
-    assert_eq!(rt; found_in_copy(rt.alloc(), TWO_LEVELS, "{}")?.as_str(), "z");
-    Ok(())
+    are_found_in_copy(&rt, TWO_LEVELS, &[("{\"env\":\"prod\"}", "y"), ("{}", "z")])
 }
 
 #[test]
@@ -202,18 +248,29 @@ fn refused(alloc: Global, text: &[u8]) -> u16 {
     }
 }
 
+/// Each text of facts is refused with this number, or with none.
+fn are_refused_facts(rt: &(impl Abort + AllocGlobal), rows: &[(&str, u16)]) {
+    for (text, want) in rows {
+        assert_eq!(rt; refused(rt.alloc(), text.as_bytes()), *want, "{text}");
+    }
+}
+
 #[test]
 fn facts_are_a_json_object(rt: HostRuntime) {
-    let rows: [(&str, u16); 5] = [
-        ("[1]", 60),
-        ("{\"a\": }", 60),
-        ("{\"a\": 1}", 0),
-        ("", 60),
-        ("{} {}", 60),
-    ];
-    for (text, want) in rows {
-        assert_eq!(rt; refused(rt.alloc(), text.as_bytes()), want, "{text}");
-    }
+    are_refused_facts(
+        &rt,
+        &[
+            ("[1]", 60),
+            ("{\"a\": }", 60),
+            ("{\"a\": 1}", 0),
+            ("", 60),
+            ("{} {}", 60),
+        ],
+    );
+}
+
+#[test]
+fn facts_are_a_text(rt: HostRuntime) {
     assert_eq!(rt; refused(rt.alloc(), b"{\"a\": \"\xff\"}"), 60);
 }
 
@@ -225,12 +282,17 @@ fn nested_is_refused(alloc: Global, lists: usize) -> Result<bool, Fail> {
     Ok(refused(alloc, text.as_bytes()) == 60)
 }
 
-#[test]
-fn facts_nest_a_few_levels(rt: HostRuntime) -> Result<(), Fail> {
-    for (lists, want) in [(126, false), (127, true)] {
-        assert_eq!(rt; nested_is_refused(rt.alloc(), lists)?, want, "{lists}");
+/// Facts that nest so many lists are refused, or are not.
+fn are_nested(rt: &(impl Abort + AllocGlobal), rows: &[(usize, bool)]) -> Result<(), Fail> {
+    for (lists, want) in rows {
+        assert_eq!(rt; nested_is_refused(rt.alloc(), *lists)?, *want, "{lists}");
     }
     Ok(())
+}
+
+#[test]
+fn facts_nest_a_few_levels(rt: HostRuntime) -> Result<(), Fail> {
+    are_nested(&rt, &[(126, false), (127, true)])
 }
 
 /// Whether class data are refused in which a value nests so many lists; four levels stand around it.
@@ -241,14 +303,19 @@ fn nested_data_are_refused(alloc: Global, lists: usize) -> Result<bool, Fail> {
     Ok(is_refused(alloc, text.as_bytes()))
 }
 
-#[test]
-fn class_data_nest_a_few_levels(rt: HostRuntime) -> Result<(), Fail> {
-    for (lists, want) in [(123, false), (124, true)] {
+/// Class data in which a value nests so many lists are refused, or are not.
+fn are_nested_data(rt: &(impl Abort + AllocGlobal), rows: &[(usize, bool)]) -> Result<(), Fail> {
+    for (lists, want) in rows {
         assert_eq!(rt;
-            nested_data_are_refused(rt.alloc(), lists)?,
-            want,
+            nested_data_are_refused(rt.alloc(), *lists)?,
+            *want,
             "{lists}"
         );
     }
     Ok(())
+}
+
+#[test]
+fn class_data_nest_a_few_levels(rt: HostRuntime) -> Result<(), Fail> {
+    are_nested_data(&rt, &[(123, false), (124, true)])
 }

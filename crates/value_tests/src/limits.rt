@@ -3,6 +3,7 @@ use crate::answers::{FACTS, assigned};
 use pp_value::{Value, ValueFault, add, size};
 use rh_base::{Seq, Text};
 use std::alloc::Global;
+use std::process::Abort;
 use std::test::Fail;
 use test_rows::boxes;
 
@@ -29,34 +30,41 @@ fn with_name(alloc: Global, kind: &str, rest: &str) -> Result<String, Fail> {
     }
 }
 
-#[test]
-fn a_value_has_a_greatest_size(rt: HostRuntime) -> Result<(), Fail> {
-    let rows: [(usize, &str, &str); 16] = [
-        (131_070, "$r = [$a] + [$a]", "list"),
-        (131_071, "$r = [$a] + [$a]", "32 value"),
-        (131_070, "$r = [$a, $a]", "list"),
-        (131_071, "$r = [$a, $a]", "32 value"),
-        (131_071, "$r = [$a, $a, $z]", "20 $z"),
-        (131_071, "$r = \"${a}${a}\"", "text"),
-        (131_072, "$r = \"${a}${a}\"", "32 value"),
-        (131_072, "$r = \"${a}${a}${z}\"", "32 value"),
-        (131_068, "$r = {'a' => $a} + {'b' => $a}", "map"),
-        (131_069, "$r = {'a' => $a} + {'b' => $a}", "32 value"),
-        (131_068, "$r = {'a' => $a, 'b' => $a}", "map"),
-        (131_069, "$r = {'a' => $a, 'b' => $a}", "32 value"),
-        (262_139, "$r = File[$a]", "reference"),
-        (262_140, "$r = File[$a]", "32 value"),
-        (262_143, "$r = $a", "text"),
-        (262_144, "$r = 1", "32 value"),
-    ];
+/// Each value behind a text of so many bytes is of the kind beside it, or refused.
+fn are_behind_long(
+    rt: &(impl Abort + AllocGlobal),
+    rows: &[(usize, &str, &str)],
+) -> Result<(), Fail> {
     for (bytes, text, want) in rows {
-        assert_eq!(rt;
-            behind_long(rt.alloc(), bytes, text)?.as_str(),
-            want,
-            "{bytes} {text}"
-        );
+        let found = behind_long(rt.alloc(), *bytes, *text)?;
+        assert_eq!(rt; found.as_str(), *want, "{bytes} {text}");
     }
     Ok(())
+}
+
+#[test]
+fn a_value_has_a_greatest_size(rt: HostRuntime) -> Result<(), Fail> {
+    are_behind_long(
+        &rt,
+        &[
+            (131_070, "$r = [$a] + [$a]", "list"),
+            (131_071, "$r = [$a] + [$a]", "32 value"),
+            (131_070, "$r = [$a, $a]", "list"),
+            (131_071, "$r = [$a, $a]", "32 value"),
+            (131_071, "$r = [$a, $a, $z]", "20 $z"),
+            (131_071, "$r = \"${a}${a}\"", "text"),
+            (131_072, "$r = \"${a}${a}\"", "32 value"),
+            (131_072, "$r = \"${a}${a}${z}\"", "32 value"),
+            (131_068, "$r = {'a' => $a} + {'b' => $a}", "map"),
+            (131_069, "$r = {'a' => $a} + {'b' => $a}", "32 value"),
+            (131_068, "$r = {'a' => $a, 'b' => $a}", "map"),
+            (131_069, "$r = {'a' => $a, 'b' => $a}", "32 value"),
+            (262_139, "$r = File[$a]", "reference"),
+            (262_140, "$r = File[$a]", "32 value"),
+            (262_143, "$r = $a", "text"),
+            (262_144, "$r = 1", "32 value"),
+        ],
+    )
 }
 
 /// A list of one text of so many bytes.
@@ -78,12 +86,17 @@ fn joined_size(alloc: Global, bytes: usize) -> Result<Option<u64>, Fail> {
     }
 }
 
-#[test]
-fn a_sum_has_a_greatest_size(rt: HostRuntime) -> Result<(), Fail> {
-    for (bytes, want) in [(131_070, Some(262_143)), (131_071, None)] {
-        assert_eq!(rt; joined_size(rt.alloc(), bytes)?, want, "{bytes}");
+/// Lists of texts of so many bytes have these sizes when they are joined.
+fn are_joined(rt: &(impl Abort + AllocGlobal), rows: &[(usize, Option<u64>)]) -> Result<(), Fail> {
+    for (bytes, want) in rows {
+        assert_eq!(rt; joined_size(rt.alloc(), *bytes)?, *want, "{bytes}");
     }
     Ok(())
+}
+
+#[test]
+fn a_sum_has_a_greatest_size(rt: HostRuntime) -> Result<(), Fail> {
+    are_joined(&rt, &[(131_070, Some(262_143)), (131_071, None)])
 }
 
 /// The kind of what a list of lists of so many levels is assigned to last, or its refusal.
@@ -94,22 +107,26 @@ fn nested(alloc: Global, levels: usize, last: &str) -> Result<String, Fail> {
     kind_in(alloc, answer.as_str())
 }
 
-#[test]
-fn a_value_nests_a_thousand_levels(rt: HostRuntime) -> Result<(), Fail> {
-    let rows: [(usize, &str, &str); 6] = [
-        (999, "$r = [$b]", "list"),
-        (1_000, "$r = [$b]", "32 value"),
-        (999, "$r = {'k' => $b}", "map"),
-        (1_000, "$r = {'k' => $b}", "32 value"),
-        (1_000, "$r = $b == $b", "truth"),
-        (1_000, "$r = \"${b}\"", "text"),
-    ];
+/// What lists of so many levels are assigned to last is of the kind beside it, or refused.
+fn are_nested(rt: &(impl Abort + AllocGlobal), rows: &[(usize, &str, &str)]) -> Result<(), Fail> {
     for (levels, last, want) in rows {
-        assert_eq!(rt;
-            nested(rt.alloc(), levels, last)?.as_str(),
-            want,
-            "{levels} {last}"
-        );
+        let found = nested(rt.alloc(), *levels, *last)?;
+        assert_eq!(rt; found.as_str(), *want, "{levels} {last}");
     }
     Ok(())
+}
+
+#[test]
+fn a_value_nests_a_thousand_levels(rt: HostRuntime) -> Result<(), Fail> {
+    are_nested(
+        &rt,
+        &[
+            (999, "$r = [$b]", "list"),
+            (1_000, "$r = [$b]", "32 value"),
+            (999, "$r = {'k' => $b}", "map"),
+            (1_000, "$r = {'k' => $b}", "32 value"),
+            (1_000, "$r = $b == $b", "truth"),
+            (1_000, "$r = \"${b}\"", "text"),
+        ],
+    )
 }

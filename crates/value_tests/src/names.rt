@@ -3,6 +3,7 @@ use crate::answers::{scopes_of, shown};
 use pp_eval::{BindFault, Scopes, plain_name, ref_of};
 use pp_value::{Ref, Value};
 use std::alloc::Global;
+use std::process::Abort;
 use std::test::Fail;
 
 fn found(alloc: Global, scopes: &Scopes, name: &str) -> Result<String, Fail> {
@@ -23,17 +24,41 @@ fn all_found(alloc: Global, scopes: &Scopes, names: &[&str]) -> Result<String, F
     Ok(line)
 }
 
-#[test]
-fn a_name_is_bound_once_in_a_scope(rt: HostRuntime) -> Result<(), Fail> {
-    let mut scopes = scopes_of(rt.alloc(), "{\"x\": 1}")?;
+/// Binds a name that is bound already, and one that isn't; the facts stay a map.
+fn bind_two(rt: &impl Abort, scopes: &mut Scopes) {
     assert_eq!(rt; scopes.bind("x", Value::Int(5)), Err(BindFault::Again));
     assert_eq!(rt; scopes.bind("y", Value::Int(6)), Ok(()));
     assert!(rt; matches!(scopes.facts(), Some(Value::Map(_))));
-    let answers = all_found(rt.alloc(), &scopes, &["x", "::x", "y", "z", "::a::x"])?;
-    assert_eq!(rt;
-        answers.as_str(),
-        "number 1; number 1; number 6; none; none; "
-    );
+}
+
+/// These names are found so.
+fn are_found(
+    rt: &(impl Abort + AllocGlobal),
+    scopes: &Scopes,
+    names: &[&str],
+    want: &str,
+) -> Result<(), Fail> {
+    let answers = all_found(rt.alloc(), scopes, names)?;
+    assert_eq!(rt; answers.as_str(), want);
+    Ok(())
+}
+
+#[test]
+fn a_name_is_bound_once_in_a_scope(rt: HostRuntime) -> Result<(), Fail> {
+    let mut scopes = scopes_of(rt.alloc(), "{\"x\": 1}")?;
+    bind_two(&rt, &mut scopes);
+    are_found(
+        &rt,
+        &scopes,
+        &["x", "::x", "y", "z", "::a::x"],
+        "number 1; number 1; number 6; none; none; ",
+    )
+}
+
+#[test]
+fn names_lose_their_root_and_their_capitals(rt: HostRuntime) -> Result<(), Fail> {
+    let plain = plain_name(rt.alloc(), "::Web::Vhost")?;
+    assert_eq!(rt; plain.as_str(), "web::vhost");
     Ok(())
 }
 
@@ -42,11 +67,7 @@ fn reference(alloc: Global, kind: &str, title: &str) -> Result<Ref, Fail> {
 }
 
 #[test]
-fn names_lose_their_root_and_their_capitals(rt: HostRuntime) -> Result<(), Fail> {
-    assert_eq!(rt;
-        plain_name(rt.alloc(), "::Web::Vhost")?.as_str(),
-        "web::vhost"
-    );
+fn titles_of_classes_lose_their_root(rt: HostRuntime) -> Result<(), Fail> {
     let class = reference(rt.alloc(), "Class", "::Web")?;
     let same = reference(rt.alloc(), "class", "web")?;
     assert!(rt; class == same);

@@ -7,6 +7,7 @@ use pp_syntax::{Item, Param};
 use pp_value::fits;
 use rh_base::Fault;
 use std::alloc::Global;
+use std::process::Abort;
 use std::test::Fail;
 use test_rows::refused;
 
@@ -51,42 +52,46 @@ fn told(alloc: Global, answer: Result<&'static str, Fault>) -> Result<String, Fa
     }
 }
 
-#[test]
-fn types_bound_values(rt: HostRuntime) -> Result<(), Fail> {
-    let rows: [(&str, &str, &str); 26] = [
-        ("Integer[1, 3]", "3", "fits"),
-        ("Integer[1, 3]", "4", "doesn't"),
-        ("Integer[1, 3]", "0", "doesn't"),
-        ("Integer", "'1'", "doesn't"),
-        ("String[2, 2]", "'é1'", "fits"),
-        ("String[3]", "'é1'", "doesn't"),
-        ("String", "1", "doesn't"),
-        ("Boolean", "false", "fits"),
-        ("Boolean", "undef", "doesn't"),
-        ("Hash", "{}", "fits"),
-        ("Hash", "[]", "doesn't"),
-        ("Array", "[1, 'a']", "fits"),
-        ("Array[Integer]", "[1, 2]", "fits"),
-        ("Array[Integer]", "[1, 'a']", "doesn't"),
-        ("Array[Any]", "[$load]", "fits"),
-        ("Optional[Integer]", "undef", "fits"),
-        ("Optional[Integer]", "'a'", "doesn't"),
-        ("Optional[Any]", "$load", "fits"),
-        ("Enum['a', 'b']", "'b'", "fits"),
-        ("Enum['a', 'b']", "'B'", "doesn't"),
-        ("Variant[Integer, Boolean]", "true", "fits"),
-        ("Variant[Integer, Boolean]", "'a'", "doesn't"),
-        ("Variant[Integer, Any]", "$load", "fits"),
-        ("Integer", "$load", "doesn't"),
-        ("Any", "$load", "fits"),
-        ("Any", "File['/a']", "fits"),
-    ];
+/// Each type and default is answered so.
+fn are_answered(rt: &(impl Abort + AllocGlobal), rows: &[(&str, &str, &str)]) -> Result<(), Fail> {
     for (kind, value, want) in rows {
-        assert_eq!(rt;
-            answer(rt.alloc(), kind, value)?.as_str(),
-            want,
-            "{kind} {value}"
-        );
+        let found = answer(rt.alloc(), *kind, *value)?;
+        assert_eq!(rt; found.as_str(), *want, "{kind} {value}");
     }
     Ok(())
+}
+
+#[test]
+fn types_bound_values(rt: HostRuntime) -> Result<(), Fail> {
+    are_answered(
+        &rt,
+        &[
+            ("Integer[1, 3]", "3", "fits"),
+            ("Integer[1, 3]", "4", "doesn't"),
+            ("Integer[1, 3]", "0", "doesn't"),
+            ("Integer", "'1'", "doesn't"),
+            ("String[2, 2]", "'é1'", "fits"),
+            ("String[3]", "'é1'", "doesn't"),
+            ("String", "1", "doesn't"),
+            ("Boolean", "false", "fits"),
+            ("Boolean", "undef", "doesn't"),
+            ("Hash", "{}", "fits"),
+            ("Hash", "[]", "doesn't"),
+            ("Array", "[1, 'a']", "fits"),
+            ("Array[Integer]", "[1, 2]", "fits"),
+            ("Array[Integer]", "[1, 'a']", "doesn't"),
+            ("Array[Any]", "[$load]", "fits"),
+            ("Optional[Integer]", "undef", "fits"),
+            ("Optional[Integer]", "'a'", "doesn't"),
+            ("Optional[Any]", "$load", "fits"),
+            ("Enum['a', 'b']", "'b'", "fits"),
+            ("Enum['a', 'b']", "'B'", "doesn't"),
+            ("Variant[Integer, Boolean]", "true", "fits"),
+            ("Variant[Integer, Boolean]", "'a'", "doesn't"),
+            ("Variant[Integer, Any]", "$load", "fits"),
+            ("Integer", "$load", "doesn't"),
+            ("Any", "$load", "fits"),
+            ("Any", "File['/a']", "fits"),
+        ],
+    )
 }
