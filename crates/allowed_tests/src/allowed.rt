@@ -9,6 +9,7 @@ use host_limits::Limits;
 use orders::Order;
 use pp_value::{Pairs, Ref};
 use std::alloc::Global;
+use std::process::Abort;
 use std::test::Fail;
 use test_rows::{refused, text};
 
@@ -41,6 +42,19 @@ const ORDERS: &[(&str, &str)] = &[
     ("[", "63 at 0: order"),
 ];
 
+fn resource(alloc: Global, sort: Sort, kind: &str, title: &str) -> Result<Resource, Fail> {
+    let kind = text(alloc, kind)?;
+    let title = text(alloc, title)?;
+    Ok(Resource {
+        id: Ref { kind, title },
+        sort,
+        is_virtual: false,
+        at: 0,
+        holder: None,
+        attrs: Pairs::new(alloc),
+    })
+}
+
 fn push(
     alloc: Global,
     catalog: &mut Catalog,
@@ -48,19 +62,15 @@ fn push(
     kind: &str,
     title: &str,
 ) -> Result<(), Fail> {
-    let kind = text(alloc, kind)?;
-    let title = text(alloc, title)?;
-    catalog.add(
-        Resource {
-            id: Ref { kind, title },
-            sort,
-            is_virtual: false,
-            at: 0,
-            holder: None,
-            attrs: Pairs::new(alloc),
-        },
-        Limits::Usual,
-    )?;
+    let r = resource(alloc, sort, kind, title)?;
+    catalog.add(r, Limits::Usual)?;
+    Ok(())
+}
+
+fn push_files(alloc: Global, catalog: &mut Catalog, titles: &[&str]) -> Result<(), Fail> {
+    for title in titles {
+        push(alloc, catalog, Sort::Plain, "file", title)?;
+    }
     Ok(())
 }
 
@@ -68,9 +78,7 @@ fn push(
 fn catalog(alloc: Global) -> Result<Catalog, Fail> {
     let mut catalog = Catalog::new(alloc);
     push(alloc, &mut catalog, Sort::Class, "class", "main")?;
-    for title in ["/a", "/b", "/c"] {
-        push(alloc, &mut catalog, Sort::Plain, "file", title)?;
-    }
+    push_files(alloc, &mut catalog, &["/a", "/b", "/c"])?;
     Ok(catalog)
 }
 
@@ -98,10 +106,16 @@ fn ordered(alloc: Global, text: &str) -> Result<String, Fail> {
     }
 }
 
-#[test]
-fn orders_that_are_allowed(rt: HostRuntime) -> Result<(), Fail> {
-    for (text, want) in ORDERS {
-        assert_eq!(rt; ordered(rt.alloc(), text)?.as_str(), *want, "{text}");
+/// The text of each row names the order beside it, or is refused.
+fn are_ordered(rt: &impl Abort, alloc: Global, rows: &[(&str, &str)]) -> Result<(), Fail> {
+    for (text, want) in rows {
+        let found = ordered(alloc, text)?;
+        assert_eq!(rt; found.as_str(), *want, "{text}");
     }
     Ok(())
+}
+
+#[test]
+fn orders_that_are_allowed(rt: HostRuntime) -> Result<(), Fail> {
+    are_ordered(&rt, rt.alloc(), ORDERS)
 }

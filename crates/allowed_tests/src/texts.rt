@@ -3,6 +3,7 @@
 use order_text::{order_from_json, order_to_json};
 use rh_base::{Seq, Text};
 use std::alloc::Global;
+use std::process::Abort;
 use std::test::Fail;
 use test_rows::refused;
 
@@ -69,31 +70,51 @@ fn rewritten(alloc: Global, text: &str) -> Result<String, Fail> {
     }
 }
 
+/// The text of each row lists the references beside it, or is refused.
+fn are_listed(rt: &impl Abort, alloc: Global, rows: &[(&str, &str)]) -> Result<(), Fail> {
+    for (text, want) in rows {
+        let found = listed(alloc, text)?;
+        assert_eq!(rt; found.as_str(), *want, "{text}");
+    }
+    Ok(())
+}
+
 #[test]
 fn references_that_are_listed(rt: HostRuntime) -> Result<(), Fail> {
-    for (text, want) in TEXTS {
-        assert_eq!(rt; listed(rt.alloc(), text)?.as_str(), *want, "{text}");
+    are_listed(&rt, rt.alloc(), TEXTS)
+}
+
+/// The text of each row is written as it stands beside it.
+fn are_written(rt: &impl Abort, alloc: Global, rows: &[(&str, &str)]) -> Result<(), Fail> {
+    for (text, want) in rows {
+        let found = rewritten(alloc, text)?;
+        assert_eq!(rt; found.as_str(), *want, "{text}");
     }
     Ok(())
 }
 
 #[test]
 fn orders_that_are_written(rt: HostRuntime) -> Result<(), Fail> {
-    for (text, want) in WRITTEN {
-        assert_eq!(rt; rewritten(rt.alloc(), text)?.as_str(), *want, "{text}");
+    are_written(&rt, rt.alloc(), WRITTEN)
+}
+
+/// What a text lists once it is written.
+fn listed_again(alloc: Global, text: &str) -> Result<String, Fail> {
+    let again = rewritten(alloc, text)?;
+    listed(alloc, again.as_str())
+}
+
+/// What the text of each row lists is listed again once it is written.
+fn are_read_back(rt: &impl Abort, alloc: Global, rows: &[(&str, &str)]) -> Result<(), Fail> {
+    for (text, _) in rows {
+        let again = listed_again(alloc, text)?;
+        let once = listed(alloc, text)?;
+        assert_eq!(rt; again.as_str(), once.as_str(), "{text}");
     }
     Ok(())
 }
 
 #[test]
 fn written_orders_are_read_back(rt: HostRuntime) -> Result<(), Fail> {
-    for (text, _) in WRITTEN {
-        let again = rewritten(rt.alloc(), text)?;
-        assert_eq!(rt;
-            listed(rt.alloc(), again.as_str())?.as_str(),
-            listed(rt.alloc(), text)?.as_str(),
-            "{text}"
-        );
-    }
-    Ok(())
+    are_read_back(&rt, rt.alloc(), WRITTEN)
 }

@@ -9,6 +9,7 @@ use pp_compile::{compile, compile_with};
 use pp_data::{Data, data_from_json};
 use pp_eval::facts_from_json;
 use pp_value::{Ref, Value, show, shown_ref};
+use rh_base::Fault;
 use std::alloc::Global;
 use std::process::Abort;
 use std::test::Fail;
@@ -76,15 +77,25 @@ fn push_all_members(alloc: Global, catalog: &Catalog, into: &mut String) -> Resu
     Ok(())
 }
 
+fn push_resources(alloc: Global, catalog: &Catalog, into: &mut String) -> Result<(), Fail> {
+    for i in 0..catalog.count() {
+        push_resource(alloc, catalog.get(i), into)?;
+    }
+    Ok(())
+}
+
+fn push_relations(alloc: Global, catalog: &Catalog, into: &mut String) -> Result<(), Fail> {
+    for r in catalog.relations().as_slice() {
+        push_relation(alloc, r, into)?;
+    }
+    Ok(())
+}
+
 /// The resources in order, virtual ones behind `@`, then the relations, then what is in what.
 fn catalog_line(alloc: Global, catalog: &Catalog) -> Result<String, Fail> {
     let mut into = String::new(alloc);
-    for i in 0..catalog.count() {
-        push_resource(alloc, catalog.get(i), &mut into)?;
-    }
-    for r in catalog.relations().as_slice() {
-        push_relation(alloc, r, &mut into)?;
-    }
+    push_resources(alloc, catalog, &mut into)?;
+    push_relations(alloc, catalog, &mut into)?;
     push_all_members(alloc, catalog, &mut into)?;
     Ok(into)
 }
@@ -94,6 +105,14 @@ fn data_of(alloc: Global, text: &str) -> Result<Data, Fail> {
         return Ok(Data::empty(alloc));
     }
     Ok(data_from_json(alloc, text.as_bytes())?)
+}
+
+/// A catalog in one line, or the refusal.
+fn told(alloc: Global, compiled: Result<Catalog, Fault>) -> Result<String, Fail> {
+    match compiled {
+        Ok(catalog) => catalog_line(alloc, &catalog),
+        Err(fault) => Ok(refused(alloc, &fault)?),
+    }
 }
 
 /// The catalog of a text under facts and class data for a node, or its refusal.
@@ -109,10 +128,8 @@ pub fn compiled_under(
     }
     let levels = data_of(alloc, levels)?;
     let facts = facts_from_json(alloc, facts.as_bytes())?;
-    match compile_with(alloc, text.as_bytes(), &facts, node, &levels, Limits::Usual) {
-        Ok(catalog) => catalog_line(alloc, &catalog),
-        Err(fault) => Ok(refused(alloc, &fault)?),
-    }
+    let compiled = compile_with(alloc, text.as_bytes(), &facts, node, &levels, Limits::Usual);
+    told(alloc, compiled)
 }
 
 /// How many resources the catalog of a text has within limits, with no facts and no class data, or its refusal.
@@ -145,11 +162,20 @@ pub fn text_of(alloc: Global, text: &str) -> Result<String, Fail> {
     }
 }
 
-/// Each text has the catalog beside it, or the refusal.
-pub fn are_compiled(rt: &impl Abort, alloc: Global, rows: &[(&str, &str)]) -> Result<(), Fail> {
+/// Under these facts each text has the catalog beside it, or the refusal.
+pub fn are_compiled_with(
+    rt: &(impl Abort + AllocGlobal),
+    facts: &str,
+    rows: &[(&str, &str)],
+) -> Result<(), Fail> {
     for (text, want) in rows {
-        let found = compiled(alloc, text)?;
+        let found = compiled_under(rt.alloc(), *text, facts, "", "")?;
         assert_eq!(rt; found.as_str(), *want, "{text}");
     }
     Ok(())
+}
+
+/// Each text has the catalog beside it, or the refusal.
+pub fn are_compiled(rt: &(impl Abort + AllocGlobal), rows: &[(&str, &str)]) -> Result<(), Fail> {
+    are_compiled_with(rt, "{}", rows)
 }

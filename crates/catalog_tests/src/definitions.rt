@@ -1,44 +1,47 @@
 //! Rows of classes, defined types, nodes and class data.
 use crate::answers::{are_compiled, compiled_under};
+use std::process::Abort;
 use std::test::Fail;
 
 #[test]
 fn classes_run_once(rt: HostRuntime) -> Result<(), Fail> {
-    let rows: [(&str, &str); 8] = [
-        (
-            "class c { file { '/c': } } include c include c",
-            "Class[c]; File[/c]; 0<1 ",
-        ),
-        (
-            "class c { file { '/c': } }\ninclude c\ninclude c\nclass { 'c': }",
-            "24 at 55: Class[c]",
-        ),
-        (
-            "class c($p = 'x') { file { '/f': content => $p } } class { 'c': p => 'w' }",
-            "Class[c] p=w; File[/f] content=w; 0<1 ",
-        ),
-        (
-            "class a { file { '/a': } } class b inherits a { file { '/b': } } include b",
-            "Class[a]; File[/a]; Class[b]; File[/b]; 0<1 2<3 ",
-        ),
-        (
-            "class a { $x = 'q' } class b inherits a { file { '/b': content => $x } } include b",
-            "Class[a]; Class[b]; File[/b] content=q; 1<2 ",
-        ),
-        (
-            "class a { } class b { contain a } include b",
-            "Class[b]; Class[a]; 0<1 ",
-        ),
-        (
-            "class a { } class b { require a } include b",
-            "Class[b]; Class[a]; Class[a] -> Class[b] ",
-        ),
-        (
-            "class empty { } include empty file { ['/a', '/b']: } File['/a'] -> Class['empty'] -> File['/b']",
-            "Class[empty]; File[/a]; File[/b]; File[/a] -> Class[empty] Class[empty] -> File[/b] ",
-        ),
-    ];
-    are_compiled(&rt, rt.alloc(), &rows)
+    are_compiled(
+        &rt,
+        &[
+            (
+                "class c { file { '/c': } } include c include c",
+                "Class[c]; File[/c]; 0<1 ",
+            ),
+            (
+                "class c { file { '/c': } }\ninclude c\ninclude c\nclass { 'c': }",
+                "24 at 55: Class[c]",
+            ),
+            (
+                "class c($p = 'x') { file { '/f': content => $p } } class { 'c': p => 'w' }",
+                "Class[c] p=w; File[/f] content=w; 0<1 ",
+            ),
+            (
+                "class a { file { '/a': } } class b inherits a { file { '/b': } } include b",
+                "Class[a]; File[/a]; Class[b]; File[/b]; 0<1 2<3 ",
+            ),
+            (
+                "class a { $x = 'q' } class b inherits a { file { '/b': content => $x } } include b",
+                "Class[a]; Class[b]; File[/b] content=q; 1<2 ",
+            ),
+            (
+                "class a { } class b { contain a } include b",
+                "Class[b]; Class[a]; 0<1 ",
+            ),
+            (
+                "class a { } class b { require a } include b",
+                "Class[b]; Class[a]; Class[a] -> Class[b] ",
+            ),
+            (
+                "class empty { } include empty file { ['/a', '/b']: } File['/a'] -> Class['empty'] -> File['/b']",
+                "Class[empty]; File[/a]; File[/b]; File[/a] -> Class[empty] Class[empty] -> File[/b] ",
+            ),
+        ],
+    )
 }
 
 /// Texts, references to classes, and lists of these.
@@ -64,60 +67,89 @@ const NAMED: [(&str, &str); 8] = [
 
 #[test]
 fn classes_are_named(rt: HostRuntime) -> Result<(), Fail> {
-    are_compiled(&rt, rt.alloc(), &NAMED)
+    are_compiled(&rt, &NAMED)
 }
+
+/// A text, its facts, its node and its class data, and the catalog that it has, or the refusal.
+type Row = (
+    &'static str,
+    &'static str,
+    &'static str,
+    &'static str,
+    &'static str,
+);
+
+/// Each text has the catalog beside it, or the refusal.
+fn are_compiled_under(rt: &(impl Abort + AllocGlobal), rows: &[Row]) -> Result<(), Fail> {
+    for (text, facts, node, levels, want) in rows {
+        let found = compiled_under(rt.alloc(), *text, *facts, *node, *levels)?;
+        assert_eq!(rt; found.as_str(), *want, "{text} {facts} {node}");
+    }
+    Ok(())
+}
+
+/// A block for one node, and one for all others.
+const TWO_NODES: &str =
+    "$t = 'u' node 'A' { $x = $t file { '/a': content => $x } } node default { file { '/d': } }";
 
 #[test]
 fn nodes_have_their_block(rt: HostRuntime) -> Result<(), Fail> {
-    let text =
-        "$t = 'u' node 'A' { $x = $t file { '/a': content => $x } } node default { file { '/d': } }";
-    let rows: [(&str, &str); 3] = [
-        ("a", "File[/a] content=u; "),
-        ("A", "File[/a] content=u; "),
-        ("b", "File[/d]; "),
-    ];
-    for (node, want) in rows {
-        let found = compiled_under(rt.alloc(), text, "{}", node, "")?;
-        assert_eq!(rt; found.as_str(), want, "{node}");
-    }
-    let none = compiled_under(rt.alloc(), "node 'a' { }", "{}", "b", "")?;
-    assert_eq!(rt; none.as_str(), "31 at 0: b");
-    let twice = compiled_under(rt.alloc(), "node 'a' { } node 'a' { }", "{}", "b", "")?;
-    assert_eq!(rt; twice.as_str(), "24 at 13: a");
-    Ok(())
+    are_compiled_under(
+        &rt,
+        &[
+            (TWO_NODES, "{}", "a", "", "File[/a] content=u; "),
+            (TWO_NODES, "{}", "A", "", "File[/a] content=u; "),
+            (TWO_NODES, "{}", "b", "", "File[/d]; "),
+            ("node 'a' { }", "{}", "b", "", "31 at 0: b"),
+            ("node 'a' { } node 'a' { }", "{}", "b", "", "24 at 13: a"),
+        ],
+    )
 }
+
+/// A class with a default, that is included.
+const INCLUDED: &str = "class c($p = 'x') { file { '/f': content => $p } } include c";
+
+/// The same class, that is given a value.
+const GIVEN: &str = "class c($p = 'x') { file { '/f': content => $p } } class { 'c': p => 'w' }";
+
+/// Class data with a level for machines in production, and one for all.
+const TWO_LEVELS: &str =
+    "{\"levels\":[{\"when\":{\"env\":\"prod\"},\"values\":{\"c::p\":\"y\"}},{\"values\":{\"c::p\":\"z\"}}]}";
 
 #[test]
 fn class_data_give_parameters(rt: HostRuntime) -> Result<(), Fail> {
-    let text = "class c($p = 'x') { file { '/f': content => $p } } include c";
-    let given = "class c($p = 'x') { file { '/f': content => $p } } class { 'c': p => 'w' }";
-    let levels =
-        "{\"levels\":[{\"when\":{\"env\":\"prod\"},\"values\":{\"c::p\":\"y\"}},{\"values\":{\"c::p\":\"z\"}}]}";
-    let rows: [(&str, &str, &str, &str); 5] = [
-        (
-            text,
-            "{\"env\":\"Prod\"}",
-            levels,
-            "Class[c]; File[/f] content=y; 0<1 ",
-        ),
-        (text, "{}", levels, "Class[c]; File[/f] content=z; 0<1 "),
-        (text, "{}", "", "Class[c]; File[/f] content=x; 0<1 "),
-        (
-            given,
-            "{\"env\":\"Prod\"}",
-            levels,
-            "Class[c] p=w; File[/f] content=w; 0<1 ",
-        ),
-        (
-            "class c(Integer $p) { }\ninclude c",
-            "{}",
-            "{\"levels\":[{\"values\":{\"c::p\":\"a\"}}]}",
-            "27 at 24: p",
-        ),
-    ];
-    for (text, facts, levels, want) in rows {
-        let found = compiled_under(rt.alloc(), text, facts, "", levels)?;
-        assert_eq!(rt; found.as_str(), want, "{text} {facts}");
-    }
-    Ok(())
+    are_compiled_under(
+        &rt,
+        &[
+            (
+                INCLUDED,
+                "{\"env\":\"Prod\"}",
+                "",
+                TWO_LEVELS,
+                "Class[c]; File[/f] content=y; 0<1 ",
+            ),
+            (
+                INCLUDED,
+                "{}",
+                "",
+                TWO_LEVELS,
+                "Class[c]; File[/f] content=z; 0<1 ",
+            ),
+            (INCLUDED, "{}", "", "", "Class[c]; File[/f] content=x; 0<1 "),
+            (
+                GIVEN,
+                "{\"env\":\"Prod\"}",
+                "",
+                TWO_LEVELS,
+                "Class[c] p=w; File[/f] content=w; 0<1 ",
+            ),
+            (
+                "class c(Integer $p) { }\ninclude c",
+                "{}",
+                "",
+                "{\"levels\":[{\"values\":{\"c::p\":\"a\"}}]}",
+                "27 at 24: p",
+            ),
+        ],
+    )
 }

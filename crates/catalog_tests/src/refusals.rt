@@ -1,5 +1,5 @@
 //! Rows of refusals, one or more for each cause.
-use crate::answers::{are_compiled, compiled_under};
+use crate::answers::{are_compiled, are_compiled_with};
 use std::test::Fail;
 
 /// Variables that are bound nowhere, or again.
@@ -30,7 +30,7 @@ const OF_VARIABLES: [(&str, &str); 15] = [
 
 #[test]
 fn variables_that_are_refused(rt: HostRuntime) -> Result<(), Fail> {
-    are_compiled(&rt, rt.alloc(), &OF_VARIABLES)
+    are_compiled(&rt, &OF_VARIABLES)
 }
 
 /// Classes and types that there are none of.
@@ -65,7 +65,7 @@ const OF_NAMES: [(&str, &str); 23] = [
 
 #[test]
 fn classes_and_types_that_are_refused(rt: HostRuntime) -> Result<(), Fail> {
-    are_compiled(&rt, rt.alloc(), &OF_NAMES)
+    are_compiled(&rt, &OF_NAMES)
 }
 
 /// Definitions, references and attributes.
@@ -121,7 +121,7 @@ const TWICE: [(&str, &str); 27] = [
 
 #[test]
 fn what_stands_twice_is_refused(rt: HostRuntime) -> Result<(), Fail> {
-    are_compiled(&rt, rt.alloc(), &TWICE)
+    are_compiled(&rt, &TWICE)
 }
 
 /// Parameters without a value, that there are none of, and of another type.
@@ -168,7 +168,7 @@ const OF_PARAMETERS: [(&str, &str); 16] = [
 
 #[test]
 fn parameters_that_are_refused(rt: HostRuntime) -> Result<(), Fail> {
-    are_compiled(&rt, rt.alloc(), &OF_PARAMETERS)
+    are_compiled(&rt, &OF_PARAMETERS)
 }
 
 /// Titles, relations and arguments of another kind.
@@ -200,7 +200,7 @@ const OF_ANOTHER_KIND: [(&str, &str); 19] = [
 
 #[test]
 fn values_of_another_kind_are_refused(rt: HostRuntime) -> Result<(), Fail> {
-    are_compiled(&rt, rt.alloc(), &OF_ANOTHER_KIND)
+    are_compiled(&rt, &OF_ANOTHER_KIND)
 }
 
 /// Selectors, failures, nodes, numbers, circles of classes, and what is realized.
@@ -242,7 +242,7 @@ const OTHERS: [(&str, &str); 15] = [
 
 #[test]
 fn other_causes_are_refused(rt: HostRuntime) -> Result<(), Fail> {
-    are_compiled(&rt, rt.alloc(), &OTHERS)
+    are_compiled(&rt, &OTHERS)
 }
 
 /// Opaque values, beside a fact whose number is no whole one.
@@ -275,9 +275,5 @@ const OPAQUE: [(&str, &str); 19] = [
 
 #[test]
 fn opaque_values_are_refused(rt: HostRuntime) -> Result<(), Fail> {
-    for (text, want) in OPAQUE {
-        let found = compiled_under(rt.alloc(), text, "{\"load\":0.5}", "", "")?;
-        assert_eq!(rt; found.as_str(), want, "{text}");
-    }
-    Ok(())
+    are_compiled_with(&rt, "{\"load\":0.5}", &OPAQUE)
 }

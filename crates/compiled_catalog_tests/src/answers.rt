@@ -164,3 +164,15 @@ pub fn expect_relations(
         want,
     )
 }
+
+/// The same of each row's resources.
+pub fn expect_each_relations(
+    rt: &impl Abort,
+    alloc: Global,
+    rows: &[(&str, &str)],
+) -> Result<(), Fail> {
+    for (resources, want) in rows {
+        expect_relations(rt, alloc, resources, want)?;
+    }
+    Ok(())
+}

@@ -2,6 +2,8 @@
 
 use crate::answers::{Part, expect};
 use host_limits::Limits;
+use std::alloc::Global;
+use std::process::Abort;
 use std::test::Fail;
 
 /// Resources and edges, and what stands where: the sort of each resource, its reference, the place of its container, and what is in it.
@@ -27,20 +29,22 @@ const PLACED: &[(&str, &str, &str)] = &[
     ),
 ];
 
-#[test]
-fn resources_in_containers(rt: HostRuntime) -> Result<(), Fail> {
-    for (resources, edges, want) in PLACED {
-        expect(
-            &rt,
-            rt.alloc(),
-            Part::Resources,
-            Limits::Host,
-            resources,
-            edges,
-            want,
-        )?;
+/// Of each row's resources and edges a part of the catalog is what stands beside them.
+fn expect_part(
+    rt: &impl Abort,
+    alloc: Global,
+    part: Part,
+    rows: &[(&str, &str, &str)],
+) -> Result<(), Fail> {
+    for (resources, edges, want) in rows {
+        expect(rt, alloc, part, Limits::Host, resources, edges, want)?;
     }
     Ok(())
+}
+
+#[test]
+fn resources_in_containers(rt: HostRuntime) -> Result<(), Fail> {
+    expect_part(&rt, rt.alloc(), Part::Resources, PLACED)
 }
 
 /// Resources, and the text of their catalog.
@@ -69,18 +73,15 @@ const TEXTS: &[(&str, &str)] = &[
     ),
 ];
 
-#[test]
-fn texts_of_catalogs(rt: HostRuntime) -> Result<(), Fail> {
-    for (resources, want) in TEXTS {
-        expect(
-            &rt,
-            rt.alloc(),
-            Part::Text,
-            Limits::Host,
-            resources,
-            "",
-            want,
-        )?;
+/// The catalog of each row's resources has the text beside them.
+fn expect_texts(rt: &impl Abort, alloc: Global, rows: &[(&str, &str)]) -> Result<(), Fail> {
+    for (resources, want) in rows {
+        expect(rt, alloc, Part::Text, Limits::Host, resources, "", want)?;
     }
     Ok(())
+}
+
+#[test]
+fn texts_of_catalogs(rt: HostRuntime) -> Result<(), Fail> {
+    expect_texts(&rt, rt.alloc(), TEXTS)
 }

@@ -90,19 +90,34 @@ fn found(alloc: Global, index: &Index, text: &str) -> Result<String, Fail> {
 }
 
 /// Each reference finds what its row has.
-fn expect_found(rt: &impl Abort, alloc: Global, index: &Index) -> Result<(), Fail> {
-    for (text, want) in FOUND {
+fn expect_found(
+    rt: &impl Abort,
+    alloc: Global,
+    index: &Index,
+    rows: &[(&str, &str)],
+) -> Result<(), Fail> {
+    for (text, want) in rows {
         let told = found(alloc, index, text)?;
         assert_eq!(rt; told.as_str(), *want, "{text}");
     }
     Ok(())
 }
 
+/// The same among these resources.
+fn expect_found_in(
+    rt: &impl Abort,
+    alloc: Global,
+    resources: &[CompiledResource],
+    rows: &[(&str, &str)],
+) -> Result<(), Fail> {
+    let index = Index::new(alloc, resources)?;
+    expect_found(rt, alloc, &index, rows)
+}
+
 #[test]
 fn references_find(rt: HostRuntime) -> Result<(), Fail> {
     let compiled = compiled(rt.alloc(), RESOURCES, "")?;
-    let index = Index::new(rt.alloc(), compiled.resources())?;
-    expect_found(&rt, rt.alloc(), &index)
+    expect_found_in(&rt, rt.alloc(), compiled.resources(), FOUND)
 }
 
 /// A value in JSON, and what it is as a relation of a resource.
@@ -181,17 +196,22 @@ fn requiring(alloc: Global, value: &str) -> Result<CompiledCatalog, Fail> {
     compiled(alloc, resources.as_str(), "")
 }
 
-fn expect_related(rt: &impl Abort, alloc: Global, value: &str, want: &str) -> Result<(), Fail> {
+/// What a value is as a relation of the resource that requires it.
+fn related_shown(alloc: Global, value: &str) -> Result<String, Fail> {
     let compiled = requiring(alloc, value)?;
-    let told = related_last(alloc, compiled.resources())?;
-    assert_eq!(rt; told.as_str(), want, "{value}");
+    related_last(alloc, compiled.resources())
+}
+
+/// The value of each row is as a relation what stands beside it.
+fn expect_related(rt: &impl Abort, alloc: Global, rows: &[(&str, &str)]) -> Result<(), Fail> {
+    for (value, want) in rows {
+        let told = related_shown(alloc, value)?;
+        assert_eq!(rt; told.as_str(), *want, "{value}");
+    }
     Ok(())
 }
 
 #[test]
 fn values_of_relations(rt: HostRuntime) -> Result<(), Fail> {
-    for (value, want) in VALUES {
-        expect_related(&rt, rt.alloc(), value, want)?;
-    }
-    Ok(())
+    expect_related(&rt, rt.alloc(), VALUES)
 }

@@ -59,26 +59,33 @@ fn expect_count(
     expect(rt, alloc, Part::Relations, limits, text.as_str(), "", want)
 }
 
-#[test]
-fn counts_are_limited(rt: HostRuntime) -> Result<(), Fail> {
-    for (count, front, limits, want) in COUNTS {
-        expect_count(&rt, rt.alloc(), *count, front, *limits, want)?;
+/// The same of each row.
+fn expect_counts(
+    rt: &impl Abort,
+    alloc: Global,
+    rows: &[(usize, &str, Limits, &str)],
+) -> Result<(), Fail> {
+    for (count, front, limits, want) in rows {
+        expect_count(rt, alloc, *count, front, *limits, want)?;
     }
     Ok(())
 }
 
-const PIECE: &str = "................................................................";
+#[test]
+fn counts_are_limited(rt: HostRuntime) -> Result<(), Fail> {
+    expect_counts(&rt, rt.alloc(), COUNTS)
+}
 
-/// A text in JSON of the size of a value's limit, or of one more.
-fn text(alloc: Global, is_large: bool) -> Result<String, Fail> {
-    let mut text = String::from_str(alloc, r#""message":""#)?;
-    for _ in 1..4_096 {
-        text.push_str(PIECE)?;
-    }
+/// How many dots make a text of the size of a value's limit, or of one more.
+fn dots_of(is_large: bool) -> usize {
     // a text is larger by one than its bytes
-    text.push_str(&PIECE[1..])?;
-    text.push_str(if is_large { ".\"" } else { "\"" })?;
-    Ok(text)
+    if is_large { 262_144 } else { 262_143 }
+}
+
+/// A text in JSON of so many dots.
+fn text(alloc: Global, count: usize) -> Result<String, Fail> {
+    let dots = ".".repeat(alloc, count)?;
+    Ok(format!(in alloc; r#""message":"{dots}""#)?)
 }
 
 /// What is answered where so many resources have such a text.
@@ -89,7 +96,7 @@ fn expect_texts(
     count: usize,
     want: &str,
 ) -> Result<(), Fail> {
-    let parameters = text(alloc, is_large)?;
+    let parameters = text(alloc, dots_of(is_large))?;
     let text = resources(alloc, count, NATIVE, parameters.as_str())?;
     expect_relations(rt, alloc, text.as_str(), want)
 }
@@ -103,10 +110,15 @@ const SIZES: &[(bool, usize, &str)] = &[
     (false, 65, "32 at 0: attributes"),
 ];
 
-#[test]
-fn values_are_limited(rt: HostRuntime) -> Result<(), Fail> {
-    for (is_large, count, want) in SIZES {
-        expect_texts(&rt, rt.alloc(), *is_large, *count, want)?;
+/// The same of each row.
+fn expect_sizes(rt: &impl Abort, alloc: Global, rows: &[(bool, usize, &str)]) -> Result<(), Fail> {
+    for (is_large, count, want) in rows {
+        expect_texts(rt, alloc, *is_large, *count, want)?;
     }
     Ok(())
+}
+
+#[test]
+fn values_are_limited(rt: HostRuntime) -> Result<(), Fail> {
+    expect_sizes(&rt, rt.alloc(), SIZES)
 }

@@ -1,6 +1,6 @@
 //! Compiled catalogs that are refused.
 
-use crate::answers::expect_relations;
+use crate::answers::expect_each_relations;
 use std::test::Fail;
 
 /// Resources, and the refusal.
@@ -57,8 +57,5 @@ const REFUSED: &[(&str, &str)] = &[
 
 #[test]
 fn catalogs_that_are_refused(rt: HostRuntime) -> Result<(), Fail> {
-    for (resources, want) in REFUSED {
-        expect_relations(&rt, rt.alloc(), resources, want)?;
-    }
-    Ok(())
+    expect_each_relations(&rt, rt.alloc(), REFUSED)
 }

@@ -1,7 +1,6 @@
 //! Listings from texts, and as they are written.
 
 use crate::answers::answer;
-use std::alloc::Global;
 use std::process::Abort;
 use std::test::Fail;
 
@@ -102,17 +101,23 @@ const PATHS: &[&str] = &[
     r#"{"version":2,"packages":{"a":{"files":[["/a",null]],"folders":[]},"b":{"files":[["b",null]],"folders":[]}}}"#,
 ];
 
-#[test]
-fn listings_that_are_read(rt: HostRuntime) -> Result<(), Fail> {
-    for (text, want) in READ {
-        assert_eq!(rt; answer(rt.alloc(), text)?.as_str(), *want, "{text}");
+/// The listing of each text is written so.
+fn are_written(rt: &(impl Abort + AllocGlobal), rows: &[(&str, &str)]) -> Result<(), Fail> {
+    for (text, want) in rows {
+        let found = answer(rt.alloc(), *text)?;
+        assert_eq!(rt; found.as_str(), *want, "{text}");
     }
     Ok(())
 }
 
-fn are_refused(rt: &impl Abort, alloc: Global, texts: &[&str]) -> Result<(), Fail> {
+#[test]
+fn listings_that_are_read(rt: HostRuntime) -> Result<(), Fail> {
+    are_written(&rt, READ)
+}
+
+fn are_refused(rt: &(impl Abort + AllocGlobal), texts: &[&str]) -> Result<(), Fail> {
     for text in texts {
-        let found = answer(alloc, text)?;
+        let found = answer(rt.alloc(), *text)?;
         assert_eq!(rt; found.as_str(), "61 at 0: packages", "{text}");
     }
     Ok(())
@@ -120,10 +125,10 @@ fn are_refused(rt: &impl Abort, alloc: Global, texts: &[&str]) -> Result<(), Fai
 
 #[test]
 fn other_shapes_are_refused(rt: HostRuntime) -> Result<(), Fail> {
-    are_refused(&rt, rt.alloc(), SHAPES)
+    are_refused(&rt, SHAPES)
 }
 
 #[test]
 fn other_paths_are_refused(rt: HostRuntime) -> Result<(), Fail> {
-    are_refused(&rt, rt.alloc(), PATHS)
+    are_refused(&rt, PATHS)
 }

@@ -1,18 +1,24 @@
 //! Answers to the question of order, and programs that are too large for it.
 
-use crate::programs::{all_again, in_turn, unordered};
+use crate::programs::{all_again, one_in_turn, unordered};
 use determinism::{First, Sure, judge_order};
 use fs_lang::Program;
 use orders::Order;
-use rh_base::{Fault, Refusal};
+use rh_base::Fault;
 use std::alloc::Global;
+use std::process::Abort;
 use std::test::Fail;
 
 /// A refusal, as `70 weight`.
-pub fn refused(alloc: Global, refusal: &Refusal) -> Result<String, Fail> {
-    let number = refusal.number;
-    let name = refusal.name.as_str();
-    Ok(format!(in alloc; "{number} {name}")?)
+pub fn refused(alloc: Global, fault: &Fault) -> Result<String, Fail> {
+    match fault {
+        Fault::Refused(refusal) => {
+            let number = refusal.number;
+            let name = refusal.name.as_str();
+            Ok(format!(in alloc; "{number} {name}")?)
+        }
+        Fault::Memory(_) => Err(Fail::from("memory")),
+    }
 }
 
 fn sure(alloc: Global, pruned: u32, sure: &Sure) -> Result<String, Fail> {
@@ -30,16 +36,20 @@ fn answered(alloc: Global, first: &First) -> Result<String, Fail> {
     }
 }
 
+fn shown(alloc: Global, judged: &Result<First, Fault>) -> Result<String, Fail> {
+    match judged {
+        Ok(first) => answered(alloc, first),
+        Err(fault) => refused(alloc, fault),
+    }
+}
+
 /// What is answered of programs in this order.
 pub fn told_by(alloc: Global, programs: &[Program], order: &Order) -> Result<String, Fail> {
     if order.count() as usize != programs.len() {
         return Err(Fail::from("as many nodes as programs"));
     }
-    match judge_order(alloc, programs, order, u64::MAX) {
-        Ok(first) => answered(alloc, &first),
-        Err(Fault::Refused(refusal)) => refused(alloc, &refusal),
-        Err(Fault::Memory(_)) => Err(Fail::from("memory")),
-    }
+    let judged = judge_order(alloc, programs, order, u64::MAX);
+    shown(alloc, &judged)
 }
 
 /// What is answered of programs without an order between them.
@@ -48,25 +58,38 @@ pub fn told(alloc: Global, programs: &[Program]) -> Result<String, Fail> {
     told_by(alloc, programs, &order)
 }
 
+/// This is answered of one program that makes so many folders.
+fn are_told_in_turn(rt: &(impl Abort + AllocGlobal), rows: &[(u32, &str)]) -> Result<(), Fail> {
+    for (count, want) in rows {
+        let all = one_in_turn(rt.alloc(), *count)?;
+        let text = told(rt.alloc(), &all)?;
+        assert_eq!(rt; text.as_str(), *want, "{count}");
+    }
+    Ok(())
+}
+
 #[test]
 fn paths_of_the_domain(rt: HostRuntime) -> Result<(), Fail> {
-    let alloc = rt.alloc();
-    for (count, want) in [(4_096u32, "sure, 1 pruned"), (4_097, "70 domain")] {
-        let program = in_turn(alloc, count)?;
-        let all = vec![in alloc; program]?;
-        assert_eq!(rt; told(alloc, all.as_slice())?.as_str(), want, "{count}");
+    are_told_in_turn(&rt, &[(4_096, "sure, 1 pruned"), (4_097, "70 domain")])
+}
+
+/// This is answered of so many programs, each of which makes a folder so many times.
+fn are_told_again(rt: &(impl Abort + AllocGlobal), rows: &[(u32, u32, &str)]) -> Result<(), Fail> {
+    for (n, times, want) in rows {
+        let all = all_again(rt.alloc(), *n, *times)?;
+        let text = told(rt.alloc(), &all)?;
+        assert_eq!(rt; text.as_str(), *want, "{n}");
     }
     Ok(())
 }
 
 #[test]
 fn weights_of_programs(rt: HostRuntime) -> Result<(), Fail> {
-    for (n, times, want) in [
-        (100u32, 35u32, "sure, 100 pruned"),
-        (3, 38_889, "70 weight"),
-    ] {
-        let all = all_again(rt.alloc(), n, times)?;
-        assert_eq!(rt; told(rt.alloc(), all.as_slice())?.as_str(), want, "{n}");
-    }
-    Ok(())
+    are_told_again(
+        &rt,
+        &[
+            (100u32, 35u32, "sure, 100 pruned"),
+            (3, 38_889, "70 weight"),
+        ],
+    )
 }

@@ -1,11 +1,10 @@
 //! Programs that write at one path: whether any two commute, and whether those that don't ever meet.
 
-ghost use Rattle.orders.specs.Paths.{EndsBelow};
-
 use crate::judging::{told, told_by};
+use crate::programs::ordered;
 use fs_lang::Program;
-use orders::Order;
 use std::alloc::Global;
+use std::process::Abort;
 use std::test::Fail;
 use test_programs::{program, programs};
 
@@ -24,21 +23,27 @@ fn all_put(alloc: Global, letters: &[&str]) -> Result<Vec<Program>, Fail> {
     Ok(all)
 }
 
-#[test]
-fn files_that_are_put_once(rt: HostRuntime) -> Result<(), Fail> {
-    let alloc = rt.alloc();
-    let rows: [(&[&str], &str); 4] = [
-        (&["a", "a"], "proved, 0 pruned"),
-        (&["a", "b"], "differs, 0 pruned"),
-        (&["a", "a", "a", "a"], "proved, 0 pruned"),
-        (&["a", "a", "a", "b"], "differs, 0 pruned"),
-    ];
+/// Each row: the contents of files at /d0, and what is answered of their programs.
+fn are_put(rt: &(impl Abort + AllocGlobal), rows: &[(&[&str], &str)]) -> Result<(), Fail> {
     for (letters, want) in rows {
-        let all = all_put(alloc, letters)?;
-        let answer = told(alloc, all.as_slice())?;
-        assert_eq!(rt; answer.as_str(), want);
+        let all = all_put(rt.alloc(), *letters)?;
+        let answer = told(rt.alloc(), &all)?;
+        assert_eq!(rt; answer.as_str(), *want);
     }
     Ok(())
+}
+
+#[test]
+fn files_that_are_put_once(rt: HostRuntime) -> Result<(), Fail> {
+    are_put(
+        &rt,
+        &[
+            (&["a", "a"], "proved, 0 pruned"),
+            (&["a", "b"], "differs, 0 pruned"),
+            (&["a", "a", "a", "a"], "proved, 0 pruned"),
+            (&["a", "a", "a", "b"], "differs, 0 pruned"),
+        ],
+    )
 }
 
 /// One removes /d1, and two put different files at /d0 where something is at /d1.
@@ -47,28 +52,34 @@ const THREE: &str = "rm /d1 \
     | if none? /d1: id, if none? /d0: creat /d0 b, id";
 
 /// What is answered of these three in the order that edges make.
-fn told_of_three(alloc: Global, edges: &[(u32, u32)]) -> Result<String, Fail>
-    requires { EndsBelow 3 edges.now }
-{
-    let all = programs(alloc, THREE)?;
-    let order = Order::from_edges(alloc, 3, edges)?;
-    told_by(alloc, all.as_slice(), &order)
+fn told_of_three(rt: &(impl Abort + AllocGlobal), edges: &[(u32, u32)]) -> Result<String, Fail> {
+    let all = programs(rt.alloc(), THREE)?;
+    let order = ordered(rt, all.as_slice(), edges)?;
+    told_by(rt.alloc(), all.as_slice(), &order)
+}
+
+/// Each row: edges between these three, and what is answered.
+fn are_told(rt: &(impl Abort + AllocGlobal), rows: &[(&[(u32, u32)], &str)]) -> Result<(), Fail> {
+    for (edges, want) in rows {
+        let answer = told_of_three(rt, *edges)?;
+        assert_eq!(rt; answer.as_str(), *want);
+    }
+    Ok(())
 }
 
 #[test]
 fn files_that_are_put_in_some_orders(rt: HostRuntime) -> Result<(), Fail> {
-    let free = told_of_three(rt.alloc(), &[])?;
-    let one = told_of_three(rt.alloc(), &[(0, 1)])?;
-    let ahead = told_of_three(rt.alloc(), &[(1, 0), (2, 0)])?;
-    assert_eq!(rt; free.as_str(), "differs, 0 pruned");
-    assert_eq!(rt; one.as_str(), "differs, 0 pruned");
-    assert_eq!(rt; ahead.as_str(), "differs, 1 pruned");
-    Ok(())
+    are_told(
+        &rt,
+        &[
+            (&[], "differs, 0 pruned"),
+            (&[(0, 1)], "differs, 0 pruned"),
+            (&[(1, 0), (2, 0)], "differs, 1 pruned"),
+        ],
+    )
 }
 
 #[test]
 fn files_that_are_never_put(rt: HostRuntime) -> Result<(), Fail> {
-    let behind = told_of_three(rt.alloc(), &[(0, 1), (0, 2)])?;
-    assert_eq!(rt; behind.as_str(), "proved, 1 pruned");
-    Ok(())
+    are_told(&rt, &[(&[(0, 1), (0, 2)], "proved, 1 pruned")])
 }

@@ -1,4 +1,4 @@
-//! Programs that make folders, and no order between programs.
+//! Programs that make folders, and orders of programs.
 
 ghost use Rattle.std.specs.Prelude.{◌≡◌, IfOk, length};
 
@@ -6,6 +6,7 @@ use fs_lang::Program;
 use orders::Order;
 use rh_base::Seq;
 use std::alloc::Global;
+use std::process::Abort;
 use std::test::Fail;
 use test_programs::program;
 
@@ -22,6 +23,12 @@ pub fn in_turn(alloc: Global, count: u32) -> Result<Program, Fail> {
         steps.push(numbered(alloc, i + 1)?)?;
     }
     Ok(Program::Steps(steps))
+}
+
+/// One program, which makes the folders of so many numbers.
+pub fn one_in_turn(alloc: Global, count: u32) -> Result<Vec<Program>, Fail> {
+    let program = in_turn(alloc, count)?;
+    Ok(vec![in alloc; program]?)
 }
 
 /// Makes the folder of a number so many times.
@@ -48,4 +55,15 @@ pub fn unordered(alloc: Global, programs: &[Program]) -> Result<Order, Fail>
 {
     let n = u32::try_from(programs.len())?;
     Ok(Order::from_edges(alloc, n, &[])?)
+}
+
+/// The order of these programs that edges make.
+pub fn ordered(
+    rt: &(impl Abort + AllocGlobal),
+    programs: &[Program],
+    edges: &[(u32, u32)],
+) -> Result<Order, Fail> {
+    let n = u32::try_from(programs.len())?;
+    assert!(rt; edges.iter().all(|e| e.0 < n && e.1 < n));
+    Ok(Order::from_edges(rt.alloc(), n, edges)?)
 }

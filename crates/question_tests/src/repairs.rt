@@ -1,14 +1,13 @@
 //! Arrows that are missing between programs, each row with those that are answered.
 
-ghost use Rattle.orders.specs.Paths.{EndsBelow};
-
 use crate::judging::refused;
-use crate::programs::{all_again, unordered};
+use crate::programs::{all_again, ordered, unordered};
 use fs_lang::Program;
 use orders::Order;
 use repair::{Repaired, arrows, repair};
 use rh_base::Fault;
 use std::alloc::Global;
+use std::process::Abort;
 use std::test::Fail;
 use test_programs::programs;
 
@@ -26,83 +25,88 @@ fn listed(alloc: Global, added: &[(u32, u32)]) -> Result<String, Fail> {
     Ok(text)
 }
 
-fn shown(alloc: Global, repaired: &Repaired) -> Result<String, Fail> {
+fn listed_after(alloc: Global, word: &str, added: &[(u32, u32)]) -> Result<String, Fail> {
+    let words = listed(alloc, added)?;
+    Ok(format!(in alloc; "{word}{words}")?)
+}
+
+fn shown(alloc: Global, repaired: &Result<Repaired, Fault>) -> Result<String, Fail> {
     match repaired {
-        Repaired::Done { added } => {
-            let words = listed(alloc, added.as_slice())?;
-            Ok(format!(in alloc; "done{words}")?)
-        }
-        Repaired::Spent { added, .. } => {
-            let words = listed(alloc, added.as_slice())?;
-            Ok(format!(in alloc; "spent{words}")?)
-        }
+        Ok(Repaired::Done { added }) => listed_after(alloc, "done", added.as_slice()),
+        Ok(Repaired::Spent { added, .. }) => listed_after(alloc, "spent", added.as_slice()),
+        Err(fault) => refused(alloc, fault),
     }
 }
 
 /// What is answered of programs in this order.
-fn told_by(
-    alloc: Global,
-    programs: &[Program],
-    order: &Order,
-    budget: u64,
-) -> Result<String, Fail> {
+fn told_by(alloc: Global, programs: &[Program], order: &Order) -> Result<String, Fail> {
     arrows();
-    if order.count() as usize != programs.len() || budget == 0 {
-        return Err(Fail::from("as many nodes as programs, and a budget"));
+    if order.count() as usize != programs.len() {
+        return Err(Fail::from("as many nodes as programs"));
     }
-    match repair(alloc, programs, order, budget) {
-        Ok(repaired) => shown(alloc, &repaired),
-        Err(Fault::Refused(refusal)) => refused(alloc, &refusal),
-        Err(Fault::Memory(_)) => Err(Fail::from("memory")),
-    }
+    let repaired = repair(alloc, programs, order, u64::MAX);
+    shown(alloc, &repaired)
 }
 
-fn told(alloc: Global, words: &str) -> Result<String, Fail> {
+/// The same of programs without an order between them.
+fn told(alloc: Global, programs: &[Program]) -> Result<String, Fail> {
+    let order = unordered(alloc, programs)?;
+    told_by(alloc, programs, &order)
+}
+
+/// The same, in words.
+fn told_of(alloc: Global, words: &str) -> Result<String, Fail> {
     let all = programs(alloc, words)?;
-    let order = unordered(alloc, all.as_slice())?;
-    told_by(alloc, all.as_slice(), &order, u64::MAX)
+    told(alloc, all.as_slice())
 }
 
-#[test]
-fn missing_arrows(rt: HostRuntime) -> Result<(), Fail> {
-    let rows: [(&str, &str); 10] = [
-        // no program, and one
-        ("", "done"),
-        ("put /a x", "done"),
-        // a graph that is deterministic
-        ("put /a x | put /b y", "done"),
-        // one that fails from every tree, whatever the order
-        ("err | put /etc/a x | dir /etc", "done"),
-        ("mkdir /a | mkdir /a", "done"),
-        // a package and its configuration, declared in either order
-        (
-            "dir /etc; if none? /etc/a: creat /etc/a pkg, id | put /etc/a x",
-            "done 0>1",
-        ),
-        (
-            "put /etc/a x | dir /etc; if none? /etc/a: creat /etc/a pkg, id",
-            "done 1>0",
-        ),
-        // and a service that needs a file of the package
-        (
-            "if file? /etc/a: id, err | dir /etc; if none? /etc/a: creat /etc/a pkg, id",
-            "done 1>0",
-        ),
-        // two packages and their files
-        ("dir /a | put /a/x 1 | put /b/x 2 | dir /b", "done 0>1 3>2"),
-        // a folder in a folder, and a file in that
-        ("put /a/b/c x | dir /a/b | dir /a", "done 1>0 2>1"),
-    ];
+/// Each row: programs, and the arrows that are answered.
+fn are_told(rt: &(impl Abort + AllocGlobal), rows: &[(&str, &str)]) -> Result<(), Fail> {
     for (words, want) in rows {
-        let text = told(rt.alloc(), words)?;
-        assert_eq!(rt; text.as_str(), want, "{words}");
+        let text = told_of(rt.alloc(), *words)?;
+        assert_eq!(rt; text.as_str(), *want, "{words}");
     }
     Ok(())
 }
 
 #[test]
+fn missing_arrows(rt: HostRuntime) -> Result<(), Fail> {
+    are_told(
+        &rt,
+        &[
+            // no program, and one
+            ("", "done"),
+            ("put /a x", "done"),
+            // a graph that is deterministic
+            ("put /a x | put /b y", "done"),
+            // one that fails from every tree, whatever the order
+            ("err | put /etc/a x | dir /etc", "done"),
+            ("mkdir /a | mkdir /a", "done"),
+            // a package and its configuration, declared in either order
+            (
+                "dir /etc; if none? /etc/a: creat /etc/a pkg, id | put /etc/a x",
+                "done 0>1",
+            ),
+            (
+                "put /etc/a x | dir /etc; if none? /etc/a: creat /etc/a pkg, id",
+                "done 1>0",
+            ),
+            // and a service that needs a file of the package
+            (
+                "if file? /etc/a: id, err | dir /etc; if none? /etc/a: creat /etc/a pkg, id",
+                "done 1>0",
+            ),
+            // two packages and their files
+            ("dir /a | put /a/x 1 | put /b/x 2 | dir /b", "done 0>1 3>2"),
+            // a folder in a folder, and a file in that
+            ("put /a/b/c x | dir /a/b | dir /a", "done 1>0 2>1"),
+        ],
+    )
+}
+
+#[test]
 fn either_arrow(rt: HostRuntime) -> Result<(), Fail> {
-    let text = told(rt.alloc(), "put /a x | put /a y")?;
+    let text = told_of(rt.alloc(), "put /a x | put /a y")?;
     assert!(rt;
         text.as_str() == "done 0>1" || text.as_str() == "done 1>0",
         "{text}"
@@ -111,32 +115,40 @@ fn either_arrow(rt: HostRuntime) -> Result<(), Fail> {
 }
 
 /// What is answered of a folder and two files in it, in the order that edges make.
-fn told_of_three(alloc: Global, edges: &[(u32, u32)]) -> Result<String, Fail>
-    requires { EndsBelow 3 edges.now }
-{
-    let all = programs(alloc, "dir /etc | put /etc/a x | put /etc/b y")?;
-    let order = Order::from_edges(alloc, 3, edges)?;
-    told_by(alloc, all.as_slice(), &order, u64::MAX)
+fn told_of_three(rt: &(impl Abort + AllocGlobal), edges: &[(u32, u32)]) -> Result<String, Fail> {
+    let all = programs(rt.alloc(), "dir /etc | put /etc/a x | put /etc/b y")?;
+    let order = ordered(rt, all.as_slice(), edges)?;
+    told_by(rt.alloc(), all.as_slice(), &order)
 }
 
-#[test]
-fn arrows_that_are_there(rt: HostRuntime) -> Result<(), Fail> {
-    let alloc = rt.alloc();
-    let one = told_of_three(alloc, &[(0, 1)])?;
-    assert_eq!(rt; one.as_str(), "done 0>2");
-    let through = told_of_three(alloc, &[(1, 2)])?;
-    assert_eq!(rt; through.as_str(), "done 0>1");
-    let both = told_of_three(alloc, &[(0, 1), (0, 2)])?;
-    assert_eq!(rt; both.as_str(), "done");
+/// Each row: edges between these three, and the arrows that are answered.
+fn are_told_of_three(
+    rt: &(impl Abort + AllocGlobal),
+    rows: &[(&[(u32, u32)], &str)],
+) -> Result<(), Fail> {
+    for (edges, want) in rows {
+        let text = told_of_three(rt, *edges)?;
+        assert_eq!(rt; text.as_str(), *want);
+    }
     Ok(())
 }
 
 #[test]
+fn arrows_that_are_there(rt: HostRuntime) -> Result<(), Fail> {
+    are_told_of_three(
+        &rt,
+        &[
+            (&[(0, 1)], "done 0>2"),
+            (&[(1, 2)], "done 0>1"),
+            (&[(0, 1), (0, 2)], "done"),
+        ],
+    )
+}
+
+#[test]
 fn too_heavy(rt: HostRuntime) -> Result<(), Fail> {
-    let alloc = rt.alloc();
-    let all = all_again(alloc, 3, 38_889)?;
-    let order = unordered(alloc, all.as_slice())?;
-    let text = told_by(alloc, all.as_slice(), &order, u64::MAX)?;
+    let all = all_again(rt.alloc(), 3, 38_889)?;
+    let text = told(rt.alloc(), &all)?;
     assert_eq!(rt; text.as_str(), "70 weight");
     Ok(())
 }

@@ -1,44 +1,49 @@
 //! Pairs of programs that are tried on a few trees, each row with what is found: two orders, and the paths of the tree.
 
-ghost use Rattle.orders.specs.Paths.{EndsBelow};
-
-use crate::programs::unordered;
+use crate::programs::{ordered, unordered};
 use fs_lang::{Program, Tree};
 use orders::Order;
 use std::alloc::Global;
+use std::process::Abort;
 use std::test::Fail;
 use test_programs::programs;
 use tried_trees::{Difference, try_pairs, try_tree};
 
-/// The numbers with blanks between.
-fn numbers(alloc: Global, order: &[u32]) -> Result<String, Fail> {
-    let mut text = String::new(alloc);
+/// Appends the numbers, each after a blank.
+fn push_numbers(alloc: Global, text: &mut String, order: &[u32]) -> Result<(), Fail> {
     for k in order {
         let word = format!(in alloc; " {k}")?;
         text.push_str(word.as_str())?;
     }
-    Ok(text)
+    Ok(())
 }
 
-/// The paths of a tree, each after a blank.
-fn standing(alloc: Global, tree: &Tree) -> Result<String, Fail> {
-    let mut text = String::new(alloc);
+/// Appends the paths of a tree, each after a blank.
+fn push_paths(alloc: Global, text: &mut String, tree: &Tree) -> Result<(), Fail> {
     for (p, _) in tree.entries() {
         let word = p.text(alloc)?;
         text.push_str(" ")?;
         text.push_str(word.as_str())?;
     }
-    Ok(text)
+    Ok(())
+}
+
+fn push_difference(alloc: Global, text: &mut String, d: &Difference) -> Result<(), Fail> {
+    text.push_str("from")?;
+    push_paths(alloc, text, &d.tree)?;
+    text.push_str(":")?;
+    push_numbers(alloc, text, d.left.as_slice())?;
+    text.push_str(",")?;
+    push_numbers(alloc, text, d.right.as_slice())
 }
 
 fn shown(alloc: Global, found: &Option<Difference>) -> Result<String, Fail> {
-    let Some(d) = found else {
-        return Ok(format!(in alloc; "none")?);
-    };
-    let left = numbers(alloc, d.left.as_slice())?;
-    let right = numbers(alloc, d.right.as_slice())?;
-    let paths = standing(alloc, &d.tree)?;
-    Ok(format!(in alloc; "from{paths}:{left},{right}")?)
+    let mut text = String::new(alloc);
+    match found {
+        None => text.push_str("none")?,
+        Some(d) => push_difference(alloc, &mut text, d)?,
+    }
+    Ok(text)
 }
 
 /// What is found of one pair of these programs.
@@ -55,127 +60,165 @@ fn found_by(
     shown(alloc, &found)
 }
 
-fn found(alloc: Global, words: &str, pair: (u32, u32)) -> Result<String, Fail> {
-    let all = programs(alloc, words)?;
-    let order = unordered(alloc, all.as_slice())?;
-    found_by(alloc, all.as_slice(), &order, pair)
+/// The same of programs in words, in the order that edges make.
+fn found_of(
+    rt: &(impl Abort + AllocGlobal),
+    words: &str,
+    edges: &[(u32, u32)],
+    pair: (u32, u32),
+) -> Result<String, Fail> {
+    let all = programs(rt.alloc(), words)?;
+    let order = ordered(rt, all.as_slice(), edges)?;
+    found_by(rt.alloc(), all.as_slice(), &order, pair)
+}
+
+/// Each row: programs without an order between them, a pair of them, and what is found.
+fn are_found(
+    rt: &(impl Abort + AllocGlobal),
+    rows: &[(&str, (u32, u32), &str)],
+) -> Result<(), Fail> {
+    for (words, pair, want) in rows {
+        let text = found_of(rt, *words, &[], *pair)?;
+        assert_eq!(rt; text.as_str(), *want, "{words}");
+    }
+    Ok(())
 }
 
 #[test]
 fn pairs_without_an_order(rt: HostRuntime) -> Result<(), Fail> {
-    let rows: [(&str, (u32, u32), &str); 15] = [
-        // a missing arrow, which the empty tree shows
-        ("dir /etc | put /etc/a x", (0, 1), "from: 0 1, 1 0"),
-        ("dir /etc | put /etc/a x", (1, 0), "from: 1 0, 0 1"),
-        // a service without its package
-        (
-            "if file? /u or file? /v: id, err | put /v x",
-            (0, 1),
-            "from: 0 1, 1 0",
-        ),
-        // all orders fail unless a folder or a file stands that none of the programs makes
-        ("put /srv/a x | drop /srv/a", (0, 1), "from /srv: 0 1, 1 0"),
-        (
-            "if file? /u or file? /v: id, err | put /v x | if file? /g: id, err",
-            (0, 1),
-            "from /g: 0 1 2, 1 0 2",
-        ),
-        // a folder without which a third program ends in Error, though it makes it afterwards
-        (
-            "put /a x | put /a y | if dir? /srv/b: id, err | dir /srv/b",
-            (0, 1),
-            "from /srv /srv/b: 0 1 2 3, 1 0 2 3",
-        ),
-        // one that a third program makes
-        (
-            "put /srv/a x | drop /srv/a | dir /srv",
-            (0, 1),
-            "from /srv: 0 1 2, 1 0 2",
-        ),
-        // a file that is removed only where a mark stands that another program removes
-        (
-            "if file? /m: drop /a, id | put /a x | drop /m",
-            (0, 1),
-            "from /a /m: 0 1 2, 1 0 2",
-        ),
-        // what a third one writes hides the two, unless it goes first
-        (
-            "put /a x | put /a y | put /a z",
-            (0, 1),
-            "from: 2 0 1, 2 1 0",
-        ),
-        // a host on which nothing was done yet: what is to go is there, and what is to come isn't
-        (
-            "if file? /u: id, put /h x; if file? /u: id, creat /u y | if file? /m: drop /h, id; drop /m",
-            (0, 1),
-            "from /m: 0 1, 1 0",
-        ),
-        // files that are copied to one another, of which each has a content of its own
-        (
-            "drop /a; cp /b /a | drop /b; cp /a /b",
-            (0, 1),
-            "from /a /b: 0 1, 1 0",
-        ),
-        // a folder that nothing makes stands, and those above it, which one makes
-        (
-            "dir /etc | dir /etc/default | put /etc/default/a x | put /etc/d/b y",
-            (1, 2),
-            "from /etc /etc/d: 1 2 0 3, 2 1 0 3",
-        ),
-        // programs that commute, one program, and a number that is none
-        ("put /a x | put /b y", (0, 1), "none"),
-        ("dir /etc | put /etc/a x", (1, 1), "none"),
-        ("dir /etc | put /etc/a x", (0, 2), "none"),
-    ];
-    for (words, pair, want) in rows {
-        let text = found(rt.alloc(), words, pair)?;
-        assert_eq!(rt; text.as_str(), want, "{words}");
-    }
-    Ok(())
+    are_found(
+        &rt,
+        &[
+            // a missing arrow, which the empty tree shows
+            ("dir /etc | put /etc/a x", (0, 1), "from: 0 1, 1 0"),
+            ("dir /etc | put /etc/a x", (1, 0), "from: 1 0, 0 1"),
+            // a service without its package
+            (
+                "if file? /u or file? /v: id, err | put /v x",
+                (0, 1),
+                "from: 0 1, 1 0",
+            ),
+            // all orders fail unless a folder or a file stands that none of the programs makes
+            ("put /srv/a x | drop /srv/a", (0, 1), "from /srv: 0 1, 1 0"),
+            (
+                "if file? /u or file? /v: id, err | put /v x | if file? /g: id, err",
+                (0, 1),
+                "from /g: 0 1 2, 1 0 2",
+            ),
+            // a folder without which a third program ends in Error, though it makes it afterwards
+            (
+                "put /a x | put /a y | if dir? /srv/b: id, err | dir /srv/b",
+                (0, 1),
+                "from /srv /srv/b: 0 1 2 3, 1 0 2 3",
+            ),
+            // one that a third program makes
+            (
+                "put /srv/a x | drop /srv/a | dir /srv",
+                (0, 1),
+                "from /srv: 0 1 2, 1 0 2",
+            ),
+            // a file that is removed only where a mark stands that another program removes
+            (
+                "if file? /m: drop /a, id | put /a x | drop /m",
+                (0, 1),
+                "from /a /m: 0 1 2, 1 0 2",
+            ),
+            // what a third one writes hides the two, unless it goes first
+            (
+                "put /a x | put /a y | put /a z",
+                (0, 1),
+                "from: 2 0 1, 2 1 0",
+            ),
+            // a host on which nothing was done yet: what is to go is there, and what is to come isn't
+            (
+                "if file? /u: id, put /h x; if file? /u: id, creat /u y | if file? /m: drop /h, id; drop /m",
+                (0, 1),
+                "from /m: 0 1, 1 0",
+            ),
+            // files that are copied to one another, of which each has a content of its own
+            (
+                "drop /a; cp /b /a | drop /b; cp /a /b",
+                (0, 1),
+                "from /a /b: 0 1, 1 0",
+            ),
+            // a folder that nothing makes stands, and those above it, which one makes
+            (
+                "dir /etc | dir /etc/default | put /etc/default/a x | put /etc/d/b y",
+                (1, 2),
+                "from /etc /etc/d: 1 2 0 3, 2 1 0 3",
+            ),
+            // programs that commute, one program, and a number that is none
+            ("put /a x | put /b y", (0, 1), "none"),
+            ("dir /etc | put /etc/a x", (1, 1), "none"),
+            ("dir /etc | put /etc/a x", (0, 2), "none"),
+        ],
+    )
 }
 
-/// What is found of a pair of three programs in the order that edges make.
-fn found_of_three(alloc: Global, edges: &[(u32, u32)], pair: (u32, u32)) -> Result<String, Fail>
-    requires { EndsBelow 3 edges.now }
-{
-    let all = programs(alloc, "dir /etc | put /etc/a x | put /etc/a y")?;
-    let order = Order::from_edges(alloc, 3, edges)?;
-    found_by(alloc, all.as_slice(), &order, pair)
+/// Makes a folder, and two times a file in it.
+const THREE: &str = "dir /etc | put /etc/a x | put /etc/a y";
+
+/// Each row: edges between these three, a pair of them, and what is found.
+fn are_found_of_three(
+    rt: &(impl Abort + AllocGlobal),
+    rows: &[(&[(u32, u32)], (u32, u32), &str)],
+) -> Result<(), Fail> {
+    for (edges, pair, want) in rows {
+        let text = found_of(rt, THREE, *edges, *pair)?;
+        assert_eq!(rt; text.as_str(), *want);
+    }
+    Ok(())
 }
 
 #[test]
 fn pairs_in_an_order(rt: HostRuntime) -> Result<(), Fail> {
-    let alloc = rt.alloc();
-    let behind = found_of_three(alloc, &[(0, 1), (0, 2)], (1, 2))?;
-    assert_eq!(rt; behind.as_str(), "from: 0 1 2, 0 2 1");
-    let fixed = found_of_three(alloc, &[(0, 1), (1, 2)], (1, 2))?;
-    assert_eq!(rt; fixed.as_str(), "none");
-    let around = found_of_three(alloc, &[(0, 1), (1, 2)], (2, 0))?;
-    assert_eq!(rt; around.as_str(), "none");
-    Ok(())
+    are_found_of_three(
+        &rt,
+        &[
+            // both behind the first
+            (&[(0, 1), (0, 2)], (1, 2), "from: 0 1 2, 0 2 1"),
+            // one behind another
+            (&[(0, 1), (1, 2)], (1, 2), "none"),
+            (&[(0, 1), (1, 2)], (2, 0), "none"),
+        ],
+    )
 }
 
 /// What is found of the first two of these programs from the empty tree alone.
-fn found_from_nothing(alloc: Global, words: &str) -> Result<String, Fail> {
-    let all = programs(alloc, words)?;
-    let order = unordered(alloc, all.as_slice())?;
+fn found_from_nothing(alloc: Global, programs: &[Program], order: &Order) -> Result<String, Fail> {
+    if order.count() as usize != programs.len() {
+        return Err(Fail::from("as many nodes as programs"));
+    }
     let tree = Tree::empty(alloc)?;
-    let found = try_tree(alloc, all.as_slice(), &order, &[(0, 1)], &tree)?;
+    let found = try_tree(alloc, programs, order, &[(0, 1)], &tree)?;
     shown(alloc, &found)
+}
+
+/// Each row: programs without an order between them, and what is so found.
+fn are_found_from_nothing(
+    rt: &(impl Abort + AllocGlobal),
+    rows: &[(&str, &str)],
+) -> Result<(), Fail> {
+    for (words, want) in rows {
+        let all = programs(rt.alloc(), *words)?;
+        let order = unordered(rt.alloc(), all.as_slice())?;
+        let text = found_from_nothing(rt.alloc(), all.as_slice(), &order)?;
+        assert_eq!(rt; text.as_str(), *want, "{words}");
+    }
+    Ok(())
 }
 
 #[test]
 fn pairs_on_one_tree(rt: HostRuntime) -> Result<(), Fail> {
-    for (words, want) in [
-        ("dir /etc | put /etc/a x", "from: 0 1, 1 0"),
-        ("put /srv/a x | drop /srv/a", "none"),
-        (
-            "put /srv/a x | drop /srv/a | dir /srv",
-            "from: 2 0 1, 2 1 0",
-        ),
-    ] {
-        let text = found_from_nothing(rt.alloc(), words)?;
-        assert_eq!(rt; text.as_str(), want, "{words}");
-    }
-    Ok(())
+    are_found_from_nothing(
+        &rt,
+        &[
+            ("dir /etc | put /etc/a x", "from: 0 1, 1 0"),
+            ("put /srv/a x | drop /srv/a", "none"),
+            (
+                "put /srv/a x | drop /srv/a | dir /srv",
+                "from: 2 0 1, 2 1 0",
+            ),
+        ],
+    )
 }

@@ -43,20 +43,29 @@ fn read(rt: &impl Abort, alloc: Global, n: u32) -> Result<(Catalog, Listing), Fa
     Ok((catalog, listing_from_json(alloc, &listing)?))
 }
 
+/// The programs of a workload.
+fn programs_of(rt: &impl Abort, alloc: Global, n: u32) -> Result<Seq<Program>, Fault> {
+    let (catalog, listing) = read(rt, alloc, n)?;
+    programs(alloc, &catalog, &listing)
+}
+
 /// The weight of a workload's programs.
 fn weight_of(rt: &impl Abort, alloc: Global, n: u32) -> Result<u64, Fault> {
-    let (catalog, listing) = read(rt, alloc, n)?;
-    let all = programs(alloc, &catalog, &listing)?;
+    let all = programs_of(rt, alloc, n)?;
     Ok(weight(alloc, all.as_slice())?)
 }
 
-#[test]
-fn weights_of_workloads(rt: HostRuntime) -> Result<(), Fail> {
-    let alloc = rt.alloc();
-    for (n, want) in [(40u32, 384_896u64), (54, 691_888)] {
-        assert_eq!(rt; weight_of(&rt, alloc, n).ok(), Some(want), "{n}");
+/// Each row: the number of a workload, and its weight.
+fn are_weighed(rt: &(impl Abort + AllocGlobal), rows: &[(u32, u64)]) {
+    for (n, want) in rows {
+        let found = weight_of(rt, rt.alloc(), *n).ok();
+        assert_eq!(rt; found, Some(*want), "{n}");
     }
-    Ok(())
+}
+
+#[test]
+fn weights_of_workloads(rt: HostRuntime) {
+    are_weighed(&rt, &[(40, 384_896), (54, 691_888)]);
 }
 
 /// The smallest manifest, one declaration a line.

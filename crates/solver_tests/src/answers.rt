@@ -73,19 +73,37 @@ fn checked(
     }
 }
 
-/// What the solver answers, in words.
-fn answer(rt: &(impl Abort + AllocGlobal), text: &str, budget: u64) -> Result<String, Fail> {
-    let alloc = rt.alloc();
-    let cnf = formula(rt, text)?;
-    assert!(rt; 1 <= budget);
-    match solve(alloc, &cnf, budget)? {
+/// What the solver found, in words.
+fn told(rt: &(impl Abort + AllocGlobal), cnf: Cnf, found: Found) -> Result<String, Fail> {
+    match found {
         Found::Refuted(log) => checked(rt, cnf, log, "refuted"),
         Found::Spent(log) => checked(rt, cnf, log, "spent"),
         Found::Model(values) => {
             let holds = satisfies(rt, &cnf, values.as_slice());
-            Ok(format!(in alloc; "model: {holds}")?)
+            Ok(format!(in rt.alloc(); "model: {holds}")?)
         }
     }
+}
+
+/// What the solver answers, in words.
+fn answer(rt: &(impl Abort + AllocGlobal), text: &str, budget: u64) -> Result<String, Fail> {
+    let cnf = formula(rt, text)?;
+    assert!(rt; 1 <= budget);
+    let found = solve(rt.alloc(), &cnf, budget)?;
+    told(rt, cnf, found)
+}
+
+/// Within a budget the formula of each text is answered so.
+fn are_answered(
+    rt: &(impl Abort + AllocGlobal),
+    budget: u64,
+    rows: &[(&str, &str)],
+) -> Result<(), Fail> {
+    for (text, wanted) in rows {
+        let found = answer(rt, *text, budget)?;
+        assert_eq!(rt; found.as_str(), *wanted, "of {text}");
+    }
+    Ok(())
 }
 
 /// Four pigeons in three holes.
@@ -133,35 +151,43 @@ const ANSWERED: [(&str, &str); 17] = [
 
 #[test]
 fn formulas_are_answered(rt: HostRuntime) -> Result<(), Fail> {
-    for (text, wanted) in ANSWERED {
-        assert_eq!(rt; answer(&rt, text, 1_000)?.as_str(), wanted, "of {text}");
-        assert_eq!(rt; answer(&rt, text, u64::MAX)?.as_str(), wanted, "of {text}");
-    }
-    Ok(())
+    are_answered(&rt, 1_000, &ANSWERED)
+}
+
+#[test]
+fn formulas_are_answered_within_any_budget(rt: HostRuntime) -> Result<(), Fail> {
+    are_answered(&rt, u64::MAX, &ANSWERED)
 }
 
 #[test]
 fn a_budget_is_spent(rt: HostRuntime) -> Result<(), Fail> {
-    // the empty clause alone is one step
-    let rows = [
-        (PIGEONS, 1, "spent, 1 right"),
-        (PIGEONS, 1_000, "refuted, accepted"),
-        ("p cnf 1 2\n1 0 -1 0", 1, "refuted, accepted"),
-        (
+    are_answered(
+        &rt,
+        1,
+        &[
+            (PIGEONS, "spent, 1 right"),
+            // the empty clause alone is one step
+            ("p cnf 1 2\n1 0 -1 0", "refuted, accepted"),
+            ("p cnf 2 4\n1 2 0 -1 2 0 1 -2 0 -1 -2 0", "spent, 1 right"),
+        ],
+    )
+}
+
+#[test]
+fn two_steps_are_enough(rt: HostRuntime) -> Result<(), Fail> {
+    are_answered(
+        &rt,
+        2,
+        &[(
             "p cnf 2 4\n1 2 0 -1 2 0 1 -2 0 -1 -2 0",
-            1,
-            "spent, 1 right",
-        ),
-        (
-            "p cnf 2 4\n1 2 0 -1 2 0 1 -2 0 -1 -2 0",
-            2,
             "refuted, accepted",
-        ),
-    ];
-    for (text, budget, wanted) in rows {
-        assert_eq!(rt; answer(&rt, text, budget)?.as_str(), wanted, "of {text}");
-    }
-    Ok(())
+        )],
+    )
+}
+
+#[test]
+fn a_thousand_steps_are_enough(rt: HostRuntime) -> Result<(), Fail> {
+    are_answered(&rt, 1_000, &[(PIGEONS, "refuted, accepted")])
 }
 
 /// How many variables the chain has but for its last.
@@ -177,14 +203,16 @@ fn long_chain(alloc: Global) -> Result<String, Fail> {
     Ok(clauses)
 }
 
-#[test]
-fn a_chain_is_followed_from_its_last_clause(rt: HostRuntime) -> Result<(), Fail> {
-    let alloc = rt.alloc();
+/// The text of the chain, whose first variable holds and whose last is called for and ruled out.
+fn long_text(alloc: Global) -> Result<String, Fail> {
     let chain = long_chain(alloc)?;
     let (last, count) = (LONG + 1, LONG + 2);
-    let text = format!(in alloc;
-        "p cnf {last} {count}\n{chain}1 0\n-{LONG} {last} 0\n-{LONG} -{last} 0"
-    )?;
+    Ok(format!(in alloc; "p cnf {last} {count}\n{chain}1 0\n-{LONG} {last} 0\n-{LONG} -{last} 0")?)
+}
+
+#[test]
+fn a_chain_is_followed_from_its_last_clause(rt: HostRuntime) -> Result<(), Fail> {
+    let text = long_text(rt.alloc())?;
     let found = answer(&rt, text.as_str(), 1_000_000)?;
     assert_eq!(rt; found.as_str(), "refuted, accepted");
     Ok(())

@@ -9,19 +9,19 @@ use test_programs::{program, programs};
 use test_rows::text;
 use tree_text::program_text;
 
-fn printed(rt: &impl Abort, alloc: Global, program: &Program) -> Vec<u8> {
-    let mut bytes = Vec::new(alloc);
-    program_text(alloc, program, &mut bytes)
+fn printed(rt: &(impl Abort + AllocGlobal), program: &Program) -> Vec<u8> {
+    let mut bytes = Vec::new(rt.alloc());
+    program_text(rt.alloc(), program, &mut bytes)
         .ok()
         .expect(rt, "memory");
     bytes
 }
 
 /// Each program is printed so.
-fn are_printed(rt: &impl Abort, alloc: Global, rows: &[(&str, &str)]) {
+fn are_printed(rt: &(impl Abort + AllocGlobal), rows: &[(&str, &str)]) {
     for (words, want) in rows {
-        let program = program(alloc, words).ok().expect(rt, "a program");
-        let found = printed(rt, alloc, &program);
+        let program = program(rt.alloc(), *words).ok().expect(rt, "a program");
+        let found = printed(rt, &program);
         assert_eq!(rt; found.as_slice(), want.as_bytes(), "{words}");
     }
 }
@@ -58,47 +58,61 @@ const CHOICES: [(&str, &str); 8] = [
 
 #[test]
 fn tests_in_choices(rt: HostRuntime) {
-    are_printed(&rt, rt.alloc(), &CHOICES);
+    are_printed(&rt, &CHOICES);
 }
 
 #[test]
 fn single_programs(rt: HostRuntime) {
-    let rows = [
-        ("id", "id"),
-        ("err", "err"),
-        ("mkdir /a", r#"mkdir("/a")"#),
-        ("creat /a x\n", r#"creat("/a","x\n")"#),
-        ("link /a /b", r#"link("/a","/b")"#),
-        ("rm /a", r#"rm("/a")"#),
-        ("cp /a /b/c", r#"cp("/a","/b/c")"#),
-    ];
-    are_printed(&rt, rt.alloc(), &rows);
+    are_printed(
+        &rt,
+        &[
+            ("id", "id"),
+            ("err", "err"),
+            ("mkdir /a", r#"mkdir("/a")"#),
+            ("creat /a x\n", r#"creat("/a","x\n")"#),
+            ("link /a /b", r#"link("/a","/b")"#),
+            ("rm /a", r#"rm("/a")"#),
+            ("cp /a /b/c", r#"cp("/a","/b/c")"#),
+        ],
+    );
 }
 
-#[test]
-fn sequences(rt: HostRuntime) -> Result<(), Fail> {
-    let alloc = rt.alloc();
-    for (words, want) in [
-        ("", "[]"),
-        ("rm /a", r#"[rm("/a")]"#),
-        (
-            "rm /a | link /a /b | id",
-            r#"[rm("/a"); link("/a","/b"); id]"#,
-        ),
-    ] {
-        let steps = programs(alloc, words)?;
-        let found = printed(&rt, alloc, &Program::Steps(steps));
+/// The steps of each list of programs are printed so.
+fn are_sequences(rt: &(impl Abort + AllocGlobal), rows: &[(&str, &str)]) -> Result<(), Fail> {
+    for (words, want) in rows {
+        let steps = programs(rt.alloc(), *words)?;
+        let found = printed(rt, &Program::Steps(steps));
         assert_eq!(rt; found.as_slice(), want.as_bytes());
     }
     Ok(())
 }
 
 #[test]
+fn sequences(rt: HostRuntime) -> Result<(), Fail> {
+    are_sequences(
+        &rt,
+        &[
+            ("", "[]"),
+            ("rm /a", r#"[rm("/a")]"#),
+            (
+                "rm /a | link /a /b | id",
+                r#"[rm("/a"); link("/a","/b"); id]"#,
+            ),
+        ],
+    )
+}
+
+/// The program that puts a text at a path.
+fn putting(alloc: Global, path: &str, content: &str) -> Result<Program, Fail> {
+    let path = Path::read(alloc, path)?;
+    let content = text(alloc, content)?;
+    Ok(put(alloc, &path, &content)?)
+}
+
+#[test]
 fn a_file_that_is_put(rt: HostRuntime) -> Result<(), Fail> {
-    let alloc = rt.alloc();
-    let path = Path::read(alloc, "/etc/ntp.conf")?;
-    let program = put(alloc, &path, &text(alloc, "server a")?)?;
-    let found = printed(&rt, alloc, &program);
+    let program = putting(rt.alloc(), "/etc/ntp.conf", "server a")?;
+    let found = printed(&rt, &program);
     let want =
         r#"if file?("/etc/ntp.conf") then [rm("/etc/ntp.conf"); creat("/etc/ntp.conf","server a")] else creat("/etc/ntp.conf","server a")"#;
     assert_eq!(rt; found.as_slice(), want.as_bytes());

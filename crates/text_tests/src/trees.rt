@@ -7,112 +7,128 @@ use std::test::Fail;
 use test_rows::refused;
 use tree_text::{tree_from_json, tree_to_json};
 
-fn written(rt: &impl Abort, alloc: Global, tree: &Tree) -> Vec<u8> {
-    let mut bytes = Vec::new(alloc);
-    tree_to_json(alloc, tree, &mut bytes)
+fn written(rt: &(impl Abort + AllocGlobal), tree: &Tree) -> Vec<u8> {
+    let mut bytes = Vec::new(rt.alloc());
+    tree_to_json(rt.alloc(), tree, &mut bytes)
         .ok()
         .expect(rt, "memory");
     bytes
 }
 
 /// The tree of a text as it is written, or the refusal.
-fn answer(rt: &impl Abort, alloc: Global, text: &[u8]) -> Vec<u8> {
-    match tree_from_json(alloc, text) {
-        Ok(tree) => written(rt, alloc, &tree),
+fn answer(rt: &(impl Abort + AllocGlobal), text: &[u8]) -> Vec<u8> {
+    match tree_from_json(rt.alloc(), text) {
+        Ok(tree) => written(rt, &tree),
         Err(fault) => {
-            let shown = refused(alloc, &fault);
+            let shown = refused(rt.alloc(), &fault);
             shown.ok().expect(rt, "memory").into_bytes()
         }
     }
 }
 
-#[test]
-fn trees_that_are_read(rt: HostRuntime) -> Result<(), Fail> {
-    let alloc = rt.alloc();
-    for (text, want) in [
-        ("{}", "{}"),
-        (" { } ", "{}"),
-        (r#"{"/a":null}"#, r#"{"/a":null}"#),
-        (r#"{"/a":"x"}"#, r#"{"/a":"x"}"#),
-        (r#"{"/a":""}"#, r#"{"/a":""}"#),
-        (r#"{"/a": {"link": "/b"}}"#, r#"{"/a":{"link":"/b"}}"#),
-        (r#"{"/a/b":null,"/a":null}"#, r#"{"/a":null,"/a/b":null}"#),
-        (
-            r#"{"/a/b":null,"/a.b":null,"/a":null,"/a-":null}"#,
-            r#"{"/a":null,"/a-":null,"/a.b":null,"/a/b":null}"#,
-        ),
-        (r#"{"/a":null,"/a":"x"}"#, r#"{"/a":"x"}"#),
-        (
-            r#"{"/ü":"\u00fc\n\u0001\"\\/"}"#,
-            r#"{"/ü":"ü\n\u0001\"\\/"}"#,
-        ),
-        (r#"{"/a\u000a":null}"#, r#"{"/a\n":null}"#),
-        (
-            r#"{"/.rehearsal":null,"/.rehearsal/package":null,"/.rehearsal/package/p":"","/opt":null,"/opt/p":null,"/opt/p/z":"q"}"#,
-            r#"{"/.rehearsal":null,"/.rehearsal/package":null,"/.rehearsal/package/p":"","/opt":null,"/opt/p":null,"/opt/p/z":"q"}"#,
-        ),
-    ] {
-        let found = answer(&rt, alloc, text.as_bytes());
+/// The tree of each text is written so.
+fn are_answered(rt: &(impl Abort + AllocGlobal), rows: &[(&str, &str)]) {
+    for (text, want) in rows {
+        let found = answer(rt, text.as_bytes());
         assert_eq!(rt; found.as_slice(), want.as_bytes(), "{text}");
     }
-    Ok(())
 }
 
-fn is_refused(rt: &impl Abort, alloc: Global, text: &[u8], row: &str) {
-    let found = answer(rt, alloc, text);
+#[test]
+fn trees_that_are_read(rt: HostRuntime) {
+    are_answered(
+        &rt,
+        &[
+            ("{}", "{}"),
+            (" { } ", "{}"),
+            (r#"{"/a":null}"#, r#"{"/a":null}"#),
+            (r#"{"/a":"x"}"#, r#"{"/a":"x"}"#),
+            (r#"{"/a":""}"#, r#"{"/a":""}"#),
+            (r#"{"/a": {"link": "/b"}}"#, r#"{"/a":{"link":"/b"}}"#),
+            (r#"{"/a/b":null,"/a":null}"#, r#"{"/a":null,"/a/b":null}"#),
+            (
+                r#"{"/a/b":null,"/a.b":null,"/a":null,"/a-":null}"#,
+                r#"{"/a":null,"/a-":null,"/a.b":null,"/a/b":null}"#,
+            ),
+            (r#"{"/a":null,"/a":"x"}"#, r#"{"/a":"x"}"#),
+            (
+                r#"{"/ü":"\u00fc\n\u0001\"\\/"}"#,
+                r#"{"/ü":"ü\n\u0001\"\\/"}"#,
+            ),
+            (r#"{"/a\u000a":null}"#, r#"{"/a\n":null}"#),
+            (
+                r#"{"/.rehearsal":null,"/.rehearsal/package":null,"/.rehearsal/package/p":"","/opt":null,"/opt/p":null,"/opt/p/z":"q"}"#,
+                r#"{"/.rehearsal":null,"/.rehearsal/package":null,"/.rehearsal/package/p":"","/opt":null,"/opt/p":null,"/opt/p/z":"q"}"#,
+            ),
+        ],
+    );
+}
+
+fn is_refused(rt: &(impl Abort + AllocGlobal), text: &[u8], row: &str) {
+    let found = answer(rt, text);
     assert_eq!(rt; found.as_slice(), b"62 at 0: tree".as_slice(), "{row}");
+}
+
+fn are_refused(rt: &(impl Abort + AllocGlobal), texts: &[&str]) {
+    for text in texts {
+        is_refused(rt, text.as_bytes(), *text);
+    }
 }
 
 #[test]
 fn texts_of_another_shape(rt: HostRuntime) {
-    let alloc = rt.alloc();
-    for text in [
-        "",
-        "x",
-        "{",
-        "{}x",
-        "null",
-        "1",
-        "true",
-        r#""/a""#,
-        "[]",
-        r#"["/a"]"#,
-        r#"{"/a"}"#,
-        r#"{"/a":1}"#,
-        r#"{"/a":true}"#,
-        r#"{"/a":[]}"#,
-        r#"{"/a":{}}"#,
-        r#"{"/a":{"link":null}}"#,
-        r#"{"/a":{"link":1}}"#,
-        r#"{"/a":{"target":"/b"}}"#,
-        r#"{"/a":{"link":"/b","more":null}}"#,
-        r#"{"/a":{"link":{"link":"/b"}}}"#,
-    ] {
-        is_refused(&rt, alloc, text.as_bytes(), text);
-    }
-    is_refused(&rt, alloc, b"{\"/\xff\":null}", "no text");
+    are_refused(
+        &rt,
+        &[
+            "",
+            "x",
+            "{",
+            "{}x",
+            "null",
+            "1",
+            "true",
+            r#""/a""#,
+            "[]",
+            r#"["/a"]"#,
+            r#"{"/a"}"#,
+            r#"{"/a":1}"#,
+            r#"{"/a":true}"#,
+            r#"{"/a":[]}"#,
+            r#"{"/a":{}}"#,
+            r#"{"/a":{"link":null}}"#,
+            r#"{"/a":{"link":1}}"#,
+            r#"{"/a":{"target":"/b"}}"#,
+            r#"{"/a":{"link":"/b","more":null}}"#,
+            r#"{"/a":{"link":{"link":"/b"}}}"#,
+        ],
+    );
+}
+
+#[test]
+fn bytes_that_are_no_text(rt: HostRuntime) {
+    is_refused(&rt, b"{\"/\xff\":null}", "no text");
 }
 
 #[test]
 fn paths_that_are_refused(rt: HostRuntime) {
-    let alloc = rt.alloc();
-    for text in [
-        r#"{"/":null}"#,
-        r#"{"":null}"#,
-        r#"{"a":null}"#,
-        r#"{"/a/":null}"#,
-        r#"{"//a":null}"#,
-        r#"{"/a":null,"/a//b":null}"#,
-        r#"{"/.":null}"#,
-        r#"{"/a":null,"/a/..":null}"#,
-        r#"{"/a\u0000":null}"#,
-        r#"{"/a/b":null}"#,
-        r#"{"/a":"x","/a/b":null}"#,
-        r#"{"/a":{"link":"/"},"/a/b":null}"#,
-        r#"{"/a":null,"/a/b/c":"x"}"#,
-    ] {
-        is_refused(&rt, alloc, text.as_bytes(), text);
-    }
+    are_refused(
+        &rt,
+        &[
+            r#"{"/":null}"#,
+            r#"{"":null}"#,
+            r#"{"a":null}"#,
+            r#"{"/a/":null}"#,
+            r#"{"//a":null}"#,
+            r#"{"/a":null,"/a//b":null}"#,
+            r#"{"/.":null}"#,
+            r#"{"/a":null,"/a/..":null}"#,
+            r#"{"/a\u0000":null}"#,
+            r#"{"/a/b":null}"#,
+            r#"{"/a":"x","/a/b":null}"#,
+            r#"{"/a":{"link":"/"},"/a/b":null}"#,
+            r#"{"/a":null,"/a/b/c":"x"}"#,
+        ],
+    );
 }
 
 /// The text of a tree of one file, whose path has this many bytes.
@@ -121,14 +137,23 @@ fn long_path(alloc: Global, bytes: usize) -> Result<String, Fail> {
     Ok(format!(in alloc; "{{\"/{path}\":\"x\"}}")?)
 }
 
+/// The text is that of a tree, as it is written.
+fn is_written(rt: &(impl Abort + AllocGlobal), text: &str) {
+    let found = answer(rt, text.as_bytes());
+    assert_eq!(rt; found.as_slice(), text.as_bytes());
+}
+
 #[test]
-fn limits_of_paths(rt: HostRuntime) -> Result<(), Fail> {
-    let alloc = rt.alloc();
-    let longest = long_path(alloc, 1024)?;
-    let found = answer(&rt, alloc, longest.as_bytes());
-    assert_eq!(rt; found.as_slice(), longest.as_bytes());
-    let longer = long_path(alloc, 1025)?;
-    is_refused(&rt, alloc, longer.as_bytes(), "a longer path");
+fn the_longest_path(rt: HostRuntime) -> Result<(), Fail> {
+    let longest = long_path(rt.alloc(), 1024)?;
+    is_written(&rt, longest.as_str());
+    Ok(())
+}
+
+#[test]
+fn longer_paths(rt: HostRuntime) -> Result<(), Fail> {
+    let longer = long_path(rt.alloc(), 1025)?;
+    is_refused(&rt, longer.as_bytes(), "a longer path");
     Ok(())
 }
 
@@ -150,12 +175,15 @@ fn nested(alloc: Global, depth: usize) -> Result<String, Fail> {
 }
 
 #[test]
-fn deep_trees(rt: HostRuntime) -> Result<(), Fail> {
-    let alloc = rt.alloc();
-    let deepest = nested(alloc, 32)?;
-    let found = answer(&rt, alloc, deepest.as_bytes());
-    assert_eq!(rt; found.as_slice(), deepest.as_bytes());
-    let deeper = nested(alloc, 33)?;
-    is_refused(&rt, alloc, deeper.as_bytes(), "a deeper path");
+fn the_deepest_tree(rt: HostRuntime) -> Result<(), Fail> {
+    let deepest = nested(rt.alloc(), 32)?;
+    is_written(&rt, deepest.as_str());
+    Ok(())
+}
+
+#[test]
+fn deeper_trees(rt: HostRuntime) -> Result<(), Fail> {
+    let deeper = nested(rt.alloc(), 33)?;
+    is_refused(&rt, deeper.as_bytes(), "a deeper path");
     Ok(())
 }
