@@ -19,6 +19,7 @@ use Rattle.command_line.specs.declared.table.Role.TheVariants as role
 use Rattle.known_inputs.specs.Inputs.{bytes_of, input_of, IsCompiledOf, IsKnown, FirstUnread}
 use Rattle.reports.proofs.Places.{places_within}
 use Rattle.reports.proofs.CompiledLaws.{are_told}
+use Rattle.reports.specs.Reports.{IsGraphShown, IsGraphReport}
 use Rattle.reports.specs.Stages as stages
 use Rattle.reports.specs.Stages.{node_name, HasCatalog, HasNoCatalog, IsCompiled, IsPlanned, IsModelled, AreTold, programs_in, CatalogRefusal, GraphRefusal, ProgramsRefusal}
 
@@ -72,6 +73,24 @@ unread_graph i e first = before_graph i e (unread i e first)
 pub in_graph : (i : Inputs) (k : Known) (m : Option Compiled) (c : Catalog) (e : Fault) → IsCompiled i k m c → IfRefused e (IsGraphRefusal c) → IfRefused e (GraphRefusal i)
 in_graph i k m c (Refused r) compiled none = stages.in_graph k m c compiled none
 in_graph i k m c (Memory x) compiled none = tt
+
+-- what is shown of a graph of the files' catalog is the report on them
+pub graph_answer : (i : Inputs) (k : Known) (m : Option Compiled) (c : Catalog) → IsCompiled i k m c → (said : Result (List ℕ) Fault) → IfOk said (IsGraphShown c) → IfOk said (IsGraphReport i)
+graph_answer i k m c compiled (Ok lines) shown = record {
+  known = k;
+  source = m;
+  catalog = c;
+  graph = shown.graph;
+  planned = record { compiled = compiled; graph = shown.of; count = shown.count; strict = shown.strict };
+  text = shown.text;
+}
+graph_answer i k m c compiled (Err e) shown = tt
+
+-- and what is refused is their refusal
+pub graph_refused : (i : Inputs) (k : Known) (m : Option Compiled) (c : Catalog) → IsCompiled i k m c → (said : Result (List ℕ) Fault) → IfErr said (λ e. IfRefused e (IsGraphRefusal c))
+    → IfErr said (λ e. IfRefused e (GraphRefusal i))
+graph_refused i k m c compiled (Ok lines) none = tt
+graph_refused i k m c compiled (Err e) none = in_graph i k m c e compiled none
 
 -- ---- programs
 

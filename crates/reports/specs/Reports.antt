@@ -1,11 +1,11 @@
 -- What is told of a catalog, of its graph, and of what its resources do.
-use Rattle.std.specs.Prelude.{◌≡◌, ℕ, Bool, true, false, List, [], ◌∷◌, ◌++◌, Option, Some, None, codes}
-use Rattle.orders.specs.Relation.{comes}
+use Rattle.std.specs.Prelude.{◌≡◌, ℕ, Bool, true, false, List, [], ◌∷◌, ◌++◌, length, Option, Some, None, codes}
+use Rattle.orders.specs.Relation.{comes, Comes, IsStrictOrder}
 use Rattle.fs_semantics.specs.Programs.{Program}
 use Rattle.tree_text.specs.ProgramText.{program_text}
 use Rattle.catalog_semantics.specs.Catalogs.{Catalog}
 use Rattle.catalog_text.specs.CatalogText.{catalog_text}
-use Rattle.graph_semantics.specs.Graphs.{printed_at, graph_text}
+use Rattle.graph_semantics.specs.Graphs.{printed_at, graph_text, IsGraphOf}
 use Rattle.dep_graph.specs.declared.answer.Graph.{Graph}
 use Rattle.known_inputs.specs.declared.inputs.Inputs.{Inputs}
 use Rattle.known_inputs.specs.declared.inputs.Known.{Known}
@@ -20,6 +20,14 @@ pub record IsCatalogReport (i : Inputs) (report : List ℕ) : Type 0 where
   pub catalog : Catalog
   pub compiled : IsCompiled i known source catalog
   pub text : report ≡ catalog_text catalog
+
+-- The lines of a catalog's graph: its real plain resources, and which of them comes before which.
+pub record IsGraphShown (c : Catalog) (lines : List ℕ) : Type 0 where
+  pub graph : Graph
+  pub of : IsGraphOf c graph.plain (Comes graph.order)
+  pub count : graph.order.count ≡ length graph.plain
+  pub strict : IsStrictOrder graph.order
+  pub text : lines ≡ graph_text c graph.plain (comes graph.order)
 
 -- The text of that catalog's graph.
 pub record IsGraphReport (i : Inputs) (report : List ℕ) : Type 0 where

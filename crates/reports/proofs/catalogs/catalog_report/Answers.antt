@@ -1,4 +1,3 @@
-use Rattle.std.proofs.Common.{◌∙◌}
 use Rattle.std.proofs.lemmas.Result.{err_from_is_err_and}
 use Rattle.reports.proofs.StageLaws.{unread}
 use Rattle.reports.proofs.catalogs.catalog_report.Goals as goal
@@ -7,22 +6,3 @@ pub returns-in_err-known-clause-refused : goal.returns-in_err-known-clause-refus
 returns-in_err-known-clause-refused c =
     let p = err_from_is_err_and c.from_residual.result c.from_residual.ensures.1 in
     rw (p.1, p.2) (unread c.args.inputs.now c.in_err-known.field-0.0 c.in_err-known.ensures.refused)
-
-pub returns-in_err-catalog-clause-refused : goal.returns-in_err-catalog-clause-refused
-returns-in_err-catalog-clause-refused c =
-    let p = err_from_is_err_and c.from_residual-in_err-catalog.result c.from_residual-in_err-catalog.ensures.1 in
-    rw (p.1, p.2) c.in_err-catalog.ensures.refused
-
-pub returns-in_err-text-clause-refused : goal.returns-in_err-text-clause-refused
-returns-in_err-text-clause-refused c =
-    let p = err_from_is_err_and c.from_residual-in_err-text.result c.from_residual-in_err-text.ensures.1 in
-    rw (p.1, p.2) tt
-
-pub returns-clause-report : goal.returns-clause-report
-returns-clause-report c = record {
-  known = c.in_ok-known.known;
-  source = c.in_ok-known.source;
-  catalog = c.in_ok-catalog.catalog;
-  compiled = c.in_ok-catalog.ensures.compiled;
-  text = c.bytes_of.ensures ∙ c.in_ok-text.ensures;
-}
