@@ -13,9 +13,9 @@ use fs_lang::{Path, Program, Test};
 use model_attributes::{begins, text_at};
 use model_names::{Model, is_reserved, spelled, text_or, unless_reserved};
 use model_semantics::{Ensure, FileState, ModelFault};
-use model_words::{choice, copied, creation, dir, is_file, is_taken, linked, push, put, removal};
+use model_words::{branching, copied, creation, dir, is_file, is_taken, linked, push, put, removal};
 use pp_value::Pairs;
-use rh_base::{NoMemory, Seq, Text};
+use rh_base::{Boxed, NoMemory, Seq, Text};
 use std::alloc::Global;
 
 fn text_of(alloc: Global, text: &str) -> Result<Text, NoMemory>
@@ -69,25 +69,28 @@ pub fn file_state(alloc: Global, e: Ensure, attrs: &Pairs) -> Result<FileState, 
 fn present(alloc: Global, p: &Path) -> Result<Program, NoMemory>
     ensures { IfOk result (λ e. program_of e ≡ file_row p.now file.Present) }
 {
+    let made = Boxed::new(alloc, creation(alloc, p, "")?)?;
+    let nothing = Boxed::new(alloc, Program::Id)?;
     let test = Test::IsNone(p.copy(alloc)?);
-    let made = creation(alloc, p, "")?;
-    choice(alloc, test, made, Program::Id)
+    Ok(branching(test, made, nothing))
 }
 
 fn existing(alloc: Global, p: &Path) -> Result<Program, NoMemory>
     ensures { IfOk result (λ e. program_of e ≡ file_row p.now file.File) }
 {
+    let nothing = Boxed::new(alloc, Program::Id)?;
+    let made = Boxed::new(alloc, creation(alloc, p, "")?)?;
     let test = is_file(alloc, p)?;
-    let made = creation(alloc, p, "")?;
-    choice(alloc, test, Program::Id, made)
+    Ok(branching(test, nothing, made))
 }
 
 fn absent(alloc: Global, p: &Path) -> Result<Program, NoMemory>
     ensures { IfOk result (λ e. program_of e ≡ file_row p.now file.Absent) }
 {
+    let gone = Boxed::new(alloc, removal(alloc, p)?)?;
+    let nothing = Boxed::new(alloc, Program::Id)?;
     let test = is_taken(alloc, p)?;
-    let gone = removal(alloc, p)?;
-    choice(alloc, test, gone, Program::Id)
+    Ok(branching(test, gone, nothing))
 }
 
 fn fetched(alloc: Global, p: &Path, address: &Text) -> Result<Program, NoMemory>
