@@ -2,7 +2,7 @@
 
 ghost use Rattle.std.specs.Prelude.{◌≡◌, ◌++◌, ◌∷◌, [], map, IfOk, OnOk};
 ghost use Rattle.fs_lang.specs.Meaning.{program_of};
-ghost use Rattle.fs_semantics.specs.Programs.{Creat, Rm};
+ghost use Rattle.fs_semantics.specs.Programs.{Id, Creat, Rm, If, IsFile};
 ghost use Rattle.model_semantics.specs.declared.states.Ensure.TheVariants as ensure;
 ghost use Rattle.model_semantics.specs.Words.{sequence, drop_file, sweep, deepest_first};
 ghost use Rattle.model_semantics.specs.Rows.{content_of, installed_file, package_row};
@@ -16,10 +16,10 @@ use fs_lang::{Path, Program};
 use model_names::{Model, mark_named, name_of};
 use model_semantics::{Cause, Ensure, ModelFault};
 use model_words::{
-    choice, creation, drop_file, is_file, push, push_sweeps, put, removal, sequence,
+    branching, creation, drop_file, is_file, push, push_sweeps, put, removal, sequence,
 };
 use pkg_listing::{Listed, Listing, Package};
-use rh_base::{NoMemory, Seq, Text};
+use rh_base::{Boxed, NoMemory, Seq, Text};
 use std::alloc::Global;
 
 /// What stands for the content of a package's file.
@@ -99,14 +99,34 @@ fn files_removed(alloc: Global, p: &Package, m: &Path) -> Result<Program, NoMemo
     Ok(sequence(steps))
 }
 
+/// Writes the files of a package unless its mark is there.
+fn unless_marked(alloc: Global, name: &str, p: &Package, m: &Path) -> Result<Program, NoMemory>
+    ensures { IfOk result (λ e. program_of e ≡ If (IsFile m.now) Id
+        (sequence (map (installed_file name.now) p.now.files ++ Creat m.now [] ∷ []))) }
+{
+    let nothing = Boxed::new(alloc, Program::Id)?;
+    let written = Boxed::new(alloc, files_written(alloc, name, p, m)?)?;
+    let test = is_file(alloc, m)?;
+    Ok(branching(test, nothing, written))
+}
+
+/// Removes the files of a package if its mark is there.
+fn if_marked(alloc: Global, p: &Package, m: &Path) -> Result<Program, NoMemory>
+    ensures { IfOk result (λ e. program_of e ≡ If (IsFile m.now) (sequence
+        (map (λ f. drop_file f.path) p.now.files ++ (map sweep (deepest_first p.now.folders) ++ Rm m.now ∷ []))) Id) }
+{
+    let removed = Boxed::new(alloc, files_removed(alloc, p, m)?)?;
+    let nothing = Boxed::new(alloc, Program::Id)?;
+    let test = is_file(alloc, m)?;
+    Ok(branching(test, removed, nothing))
+}
+
 fn installed(alloc: Global, name: &str, p: &Package, m: &Path) -> Result<Seq<Program>, NoMemory>
     ensures { IfOk result (λ es. map program_of es ≡ package_row name.now p.now m.now ensure.Present) }
 {
     let mut steps = Seq::new(alloc);
     push_folders(alloc, p, m, &mut steps)?;
-    let test = is_file(alloc, m)?;
-    let written = files_written(alloc, name, p, m)?;
-    let step = choice(alloc, test, Program::Id, written)?;
+    let step = unless_marked(alloc, name, p, m)?;
     push(&mut steps, step)?;
     Ok(steps)
 }
@@ -115,9 +135,7 @@ fn uninstalled(alloc: Global, name: &str, p: &Package, m: &Path) -> Result<Seq<P
     ensures { IfOk result (λ es. map program_of es ≡ package_row name.now p.now m.now ensure.Absent) }
 {
     let mut steps = Seq::new(alloc);
-    let test = is_file(alloc, m)?;
-    let removed = files_removed(alloc, p, m)?;
-    let step = choice(alloc, test, removed, Program::Id)?;
+    let step = if_marked(alloc, p, m)?;
     push(&mut steps, step)?;
     Ok(steps)
 }
