@@ -2,6 +2,7 @@
 
 ghost use Rattle.std.specs.Prelude.{◌≡◌, ◌++◌, ◌∷◌, [], true, codes, map, IfOk, OnOk};
 ghost use Rattle.fs_lang.specs.Meaning.{test_of, program_of};
+ghost use Rattle.fs_semantics.specs.Programs.{Err, If, Or, IsFile};
 ghost use Rattle.model_semantics.specs.Words.{sequence, drop_file, mark};
 ghost use Rattle.model_semantics.specs.Rows.{is_installed, switched, run_part, enable_part, service_row};
 ghost use Rattle.model_semantics.specs.Names.{Meets, unit_name, unit_file, units_at, units_of};
@@ -12,8 +13,8 @@ use catalog_semantics::Resource;
 use fs_lang::{Path, Program, Test};
 use model_names::{Model, below, mark_named, name_of, named, top};
 use model_semantics::{Ensure, ModelFault, States, Units};
-use model_words::{choice, drop_file, either, is_file, push, push_mark, sequence};
-use rh_base::{NoMemory, Seq, Text};
+use model_words::{branching, drop_file, either, is_file, push, push_mark, sequence};
+use rh_base::{Boxed, NoMemory, Seq, Text};
 use std::alloc::Global;
 
 /// The name without a trailing `.service`.
@@ -84,16 +85,21 @@ fn units_of(alloc: Global, name: &str) -> Result<Units, ModelFault>
     Ok(units_at(alloc, s.as_str())?)
 }
 
+/// Whether a test holds or a file stands at a path.
+fn or_file(alloc: Global, a: Test, p: &Path) -> Result<Test, NoMemory>
+    ensures { IfOk result (λ t. test_of t ≡ Or (test_of a) (IsFile p.now)) }
+{
+    let file = is_file(alloc, p)?;
+    either(alloc, a, file)
+}
+
 fn is_installed(alloc: Global, u: &Units) -> Result<Test, NoMemory>
     ensures { IfOk result (λ t. test_of t ≡ is_installed u.now) }
 {
     let own = is_file(alloc, &u.own)?;
-    let lib = is_file(alloc, &u.lib)?;
-    let two = either(alloc, own, lib)?;
-    let usr = is_file(alloc, &u.usr)?;
-    let three = either(alloc, two, usr)?;
-    let init = is_file(alloc, &u.init)?;
-    either(alloc, three, init)
+    let two = or_file(alloc, own, &u.lib)?;
+    let three = or_file(alloc, two, &u.usr)?;
+    or_file(alloc, three, &u.init)
 }
 
 fn marking(alloc: Global, m: &Path) -> Result<Program, NoMemory>
@@ -104,13 +110,21 @@ fn marking(alloc: Global, m: &Path) -> Result<Program, NoMemory>
     Ok(sequence(steps))
 }
 
+/// Marks a service as on, and fails where it isn't installed.
+fn turned_on(alloc: Global, u: &Units, m: &Path) -> Result<Program, NoMemory>
+    ensures { IfOk result (λ e. program_of e ≡ If (is_installed u.now) (sequence (mark m.now)) Err) }
+{
+    let marked = Boxed::new(alloc, marking(alloc, m)?)?;
+    let missing = Boxed::new(alloc, Program::Err)?;
+    let test = is_installed(alloc, u)?;
+    Ok(branching(test, marked, missing))
+}
+
 /// Adds the step that marks a service as on.
 fn push_on(alloc: Global, u: &Units, m: &Path, steps: &mut Seq<Program>) -> Result<(), NoMemory>
     ensures { OnOk result (map program_of steps.new ≡ map program_of steps.old ++ switched u.now m.now true) }
 {
-    let test = is_installed(alloc, u)?;
-    let marked = marking(alloc, m)?;
-    let step = choice(alloc, test, marked, Program::Err)?;
+    let step = turned_on(alloc, u, m)?;
     push(steps, step)
 }
 
