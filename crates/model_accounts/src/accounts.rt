@@ -21,10 +21,10 @@ use model_names::{
 };
 use model_semantics::{Ensure, ModelFault};
 use model_words::{
-    choice, creation, drop_file, is_file, need, push, push_dir, push_dirs, push_mark, sequence,
+    branching, creation, drop_file, is_file, need, push, push_dir, push_dirs, push_mark, sequence,
 };
 use pp_value::{Pairs, Value};
-use rh_base::{NoMemory, Seq, Text};
+use rh_base::{Boxed, NoMemory, Seq, Text};
 use std::alloc::Global;
 
 fn are_digits(text: &[u8]) -> bool
@@ -236,15 +236,23 @@ fn home_made(alloc: Global, m: &Path, home: &Path) -> Result<Program, NoMemory>
     Ok(sequence(steps))
 }
 
+/// Makes the home of a user and then the mark, unless the mark is there.
+fn unless_marked(alloc: Global, m: &Path, home: &Path) -> Result<Program, NoMemory>
+    ensures { IfOk result (λ e. program_of e ≡ If (IsFile m.now) Id (sequence (dirs home.now ++ (dir home.now ∷ Creat m.now [] ∷ [])))) }
+{
+    let nothing = Boxed::new(alloc, Program::Id)?;
+    let made = Boxed::new(alloc, home_made(alloc, m, home)?)?;
+    let test = is_file(alloc, m)?;
+    Ok(branching(test, nothing, made))
+}
+
 /// Adds the mark of a user whose home is made with it.
 fn push_home(alloc: Global, m: &Path, home: &Path, steps: &mut Seq<Program>) -> Result<(), NoMemory>
     ensures { OnOk result (map program_of steps.new ≡ map program_of steps.old ++
         (dirs m.now ++ If (IsFile m.now) Id (sequence (dirs home.now ++ (dir home.now ∷ Creat m.now [] ∷ []))) ∷ [])) }
 {
     push_dirs(alloc, m, steps)?;
-    let test = is_file(alloc, m)?;
-    let made = home_made(alloc, m, home)?;
-    let step = choice(alloc, test, Program::Id, made)?;
+    let step = unless_marked(alloc, m, home)?;
     push(steps, step)
 }
 
