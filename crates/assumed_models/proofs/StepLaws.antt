@@ -1,5 +1,5 @@
 -- Steps of behaviors, and of programs in which edits are lost, as the code has them.
-use Rattle.std.proofs.Common.{◌≡◌, ◌+◌, ◌<◌, List, [], ◌∷◌, ◌++◌, map, Result, Ok, Err, IfOk, refl, sym, ap, ap₂, subst, ◌∙◌, arith}
+use Rattle.std.proofs.Common.{◌≡◌, ◌+◌, ◌<◌, List, [], ◌∷◌, ◌++◌, map, Result, Ok, Err, IfOk, refl, sym, ap, subst, ◌∙◌, arith}
 use Rattle.std.specs.List.{flat_map}
 use Rattle.fs_semantics.specs.FileTree.{Path}
 use Rattle.fs_semantics.specs.Programs as language
@@ -35,12 +35,11 @@ same_ok a b (Ok g) e h = h ∙ e
 same_ok a b (Err m) e h = tt
 
 -- a choice in whose branches edits are lost
-pub choice_inside : (marks : Path → List Path) (x : Program) (a : Test) (e f l m : Program) (r : Result Program NoMemory) → x ≡ program.If a e f → l ≡ e → m ≡ f
-    → IfOk r (λ g. program_of g ≡ language.If (test_of a) (with_lost_edits marks (program_of l)) (with_lost_edits marks (program_of m))) → IfOk r (λ g. program_of g ≡ inside marks (program_of x))
-choice_inside marks x a e f l m r is left right h =
-    same_ok (language.If (test_of a) (with_lost_edits marks (program_of l)) (with_lost_edits marks (program_of m))) (inside marks (program_of x)) r
-    (ap₂ (λ y z. language.If (test_of a) (with_lost_edits marks (program_of y)) (with_lost_edits marks (program_of z))) left right
-    ∙ sym (ap (inside marks) (ap program_of is ∙ program_of_if a e f))) h
+pub choice_inside : (marks : Path → List Path) (x : Program) (a : Test) (e f : Program) (r : Result Program NoMemory) → x ≡ program.If a e f
+    → IfOk r (λ g. program_of g ≡ language.If (test_of a) (with_lost_edits marks (program_of e)) (with_lost_edits marks (program_of f))) → IfOk r (λ g. program_of g ≡ inside marks (program_of x))
+choice_inside marks x a e f r is h =
+    same_ok (language.If (test_of a) (with_lost_edits marks (program_of e)) (with_lost_edits marks (program_of f))) (inside marks (program_of x)) r
+    (sym (ap (inside marks) (ap program_of is ∙ program_of_if a e f))) h
 
 -- ---- sizes
 

@@ -1,10 +1,10 @@
 //! The programs of behaviors.
 
-ghost use Rattle.std.specs.Prelude.{◌≡◌, ◌++◌, map, not, IfOk, OnOk};
+ghost use Rattle.std.specs.Prelude.{◌≡◌, ◌∷◌, ◌++◌, [], map, not, IfOk, OnOk};
 ghost use Rattle.std.specs.List.{flat_map};
 ghost use Rattle.fs_lang.specs.Meaning.{program_of};
 ghost use Rattle.pp_value.specs.Shown.{shown_ref};
-ghost use Rattle.model_semantics.specs.Words.{need, drop_file};
+ghost use Rattle.model_semantics.specs.Words.{need, drop_file, put};
 ghost use Rattle.model_semantics.specs.Names.{Meets, is_name};
 ghost use Rattle.assumed_models.specs.Behaviors.{own_attributes, attributes_text, made_content, folder_made, file_made, file_edited, steps_of, unless_there, writes_files, program_of_behavior};
 
@@ -15,9 +15,9 @@ use catalog_text::json_text;
 use fs_lang::{Path, Program, Test};
 use model_names::named;
 use model_semantics::{Cause, ModelFault};
-use model_words::{choice, drop_file, need, push, push_dir, push_dirs, put, sequence};
+use model_words::{branching, drop_file, need, push, push_dir, push_dirs, put, sequence};
 use pp_value::{Pairs, Value, distinct_pairs_are_kept, shown_ref};
-use rh_base::{NoMemory, Seq, Text};
+use rh_base::{Boxed, NoMemory, Seq, Text};
 use std::alloc::Global;
 
 /// The attributes that say nothing of the order.
@@ -60,13 +60,20 @@ fn made_content(alloc: Global, r: &Resource, p: &Path) -> Result<Text, NoMemory>
     Ok(Text::from_string(content))
 }
 
+/// Adds the step that needs a file.
+fn push_need(alloc: Global, p: &Path, steps: &mut Seq<Program>) -> Result<(), NoMemory>
+    ensures { OnOk result (map program_of steps.new ≡ map program_of steps.old ++ need p.now ∷ []) }
+{
+    let step = need(alloc, p)?;
+    push(steps, step)
+}
+
 /// Adds the steps that need files.
 fn push_needs(alloc: Global, paths: &[Path], steps: &mut Seq<Program>) -> Result<(), NoMemory>
     ensures { OnOk result (map program_of steps.new ≡ map program_of steps.old ++ map need paths.now) }
 {
     for p in paths {
-        let step = need(alloc, p)?;
-        push(steps, step)?;
+        push_need(alloc, p, steps)?;
     }
     Ok(())
 }
@@ -99,6 +106,20 @@ fn push_made(
     Ok(())
 }
 
+/// Adds the step that writes the mark of an edit.
+fn push_written(
+    alloc: Global,
+    r: &Resource,
+    mark: &Path,
+    steps: &mut Seq<Program>,
+) -> Result<(), NoMemory>
+    ensures { OnOk result (map program_of steps.new ≡ map program_of steps.old ++ put mark.now (attributes_text r.now) ∷ []) }
+{
+    let content = attributes_text(alloc, r)?;
+    let step = put(alloc, mark, content.as_str())?;
+    push(steps, step)
+}
+
 /// Adds the steps of the edit of a file.
 fn push_edit(
     alloc: Global,
@@ -108,13 +129,10 @@ fn push_edit(
 ) -> Result<(), NoMemory>
     ensures { OnOk result (map program_of steps.new ≡ map program_of steps.old ++ file_edited r.now p.now) }
 {
-    let needed = need(alloc, p)?;
-    push(steps, needed)?;
+    push_need(alloc, p, steps)?;
     let mark = edit_mark(alloc, r, p)?;
     push_dirs(alloc, &mark, steps)?;
-    let content = attributes_text(alloc, r)?;
-    let step = put(alloc, &mark, content.as_str())?;
-    push(steps, step)
+    push_written(alloc, r, &mark, steps)
 }
 
 /// Adds the steps of the edits of files.
@@ -157,15 +175,20 @@ fn steps_of(alloc: Global, r: &Resource, b: &Behavior) -> Result<Seq<Program>, N
 }
 
 /// The program, only where nothing stands at the path, if there is one.
-fn unless_there(alloc: Global, creates: &Option<Path>, e: Program) -> Result<Program, NoMemory>
+fn unless_there(
+    alloc: Global,
+    creates: &Option<Path>,
+    e: Boxed<Program>,
+) -> Result<Program, NoMemory>
     ensures { IfOk result (λ f. program_of f ≡ unless_there creates.now (program_of e)) }
 {
     match creates {
         Some(c) => {
+            let nothing = Boxed::new(alloc, Program::Id)?;
             let test = Test::IsNone(c.copy(alloc)?);
-            choice(alloc, test, e, Program::Id)
+            Ok(branching(test, e, nothing))
         }
-        None => Ok(e),
+        None => Ok(e.into_inner()),
     }
 }
 
@@ -201,5 +224,6 @@ pub fn program_of_behavior(alloc: Global, r: &Resource, b: &Behavior) -> Result<
         }
     }
     let steps = steps_of(alloc, r, b)?;
-    Ok(unless_there(alloc, &b.creates, sequence(steps))?)
+    let program = Boxed::new(alloc, sequence(steps))?;
+    Ok(unless_there(alloc, &b.creates, program)?)
 }

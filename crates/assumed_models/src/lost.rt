@@ -9,8 +9,8 @@ ghost use Rattle.assumed_models.specs.LostEdits.{drops_behind, inside, lost_step
 
 use crate::edits::Edits;
 use fs_lang::{Program, Test};
-use model_words::{choice, push, sequence};
-use rh_base::{NoMemory, Seq};
+use model_words::{branching, push, sequence};
+use rh_base::{Boxed, NoMemory, Seq};
 use std::alloc::Global;
 
 /// What follows a construct.
@@ -49,13 +49,13 @@ fn push_lost(
     alloc: Global,
     edits: &Edits,
     place: usize,
-    program: Program,
+    program: Boxed<Program>,
     steps: &mut Seq<Program>,
 ) -> Result<(), NoMemory>
     ensures { OnOk result (map program_of steps.new ≡ map program_of steps.old ++ lost_steps
         (marks_of (edits_beside place edits.now)) (program_of program)) }
 {
-    let drops = drops_behind(alloc, edits, place, &program)?;
+    let drops = drops_behind(alloc, edits, place, program.get())?;
     let step = inside(alloc, edits, place, program)?;
     push(steps, step)?;
     push_all(drops, steps)
@@ -74,7 +74,8 @@ fn all_inside(
 {
     let mut steps = Seq::new(alloc);
     for program in programs.into_vec() {
-        push_lost(alloc, edits, place, program, &mut steps)?;
+        let whole = Boxed::new(alloc, program)?;
+        push_lost(alloc, edits, place, whole, &mut steps)?;
     }
     Ok(steps)
 }
@@ -86,33 +87,52 @@ fn branches(
     edits: &Edits,
     place: usize,
     a: Test,
-    e: Program,
-    f: Program,
+    e: Boxed<Program>,
+    f: Boxed<Program>,
 ) -> Result<Program, NoMemory>
     ensures { IfOk result (λ g. program_of g ≡ If (test_of a)
         (with_lost_edits (marks_of (edits_beside place edits.now)) (program_of e))
         (with_lost_edits (marks_of (edits_beside place edits.now)) (program_of f))) }
 {
-    let left = with_lost_edits(alloc, edits, place, e)?;
-    let right = with_lost_edits(alloc, edits, place, f)?;
-    choice(alloc, a, left, right)
+    let left = with_lost(alloc, edits, place, e)?;
+    let right = with_lost(alloc, edits, place, f)?;
+    Ok(branching(a, left, right))
 }
 
 /// A construct in which edits are lost, without what follows it.
 #[cycle(lost)]
-fn inside(alloc: Global, edits: &Edits, place: usize, program: Program) -> Result<Program, NoMemory>
+fn inside(
+    alloc: Global,
+    edits: &Edits,
+    place: usize,
+    program: Boxed<Program>,
+) -> Result<Program, NoMemory>
     ensures { IfOk result (λ g. program_of g ≡ inside (marks_of (edits_beside place edits.now)) (program_of program)) }
 {
-    match program {
+    match program.into_inner() {
         Program::Steps(es) => Ok(Program::Steps(all_inside(alloc, edits, place, es)?)),
-        Program::If(a, e, f) => branches(alloc, edits, place, a, e.into_inner(), f.into_inner()),
+        Program::If(a, e, f) => branches(alloc, edits, place, a, e, f),
         other => Ok(other),
     }
 }
 
+/// A construct in which edits are lost, with what follows it.
+#[cycle(lost)]
+fn with_lost(
+    alloc: Global,
+    edits: &Edits,
+    place: usize,
+    program: Boxed<Program>,
+) -> Result<Boxed<Program>, NoMemory>
+    ensures { IfOk result (λ g. program_of g ≡ with_lost_edits (marks_of (edits_beside place edits.now)) (program_of program)) }
+{
+    let mut steps = Seq::new(alloc);
+    push_lost(alloc, edits, place, program, &mut steps)?;
+    Boxed::new(alloc, sequence(steps))
+}
+
 /// The program of the resource at a place, in which each construct that writes a path is directly followed by the drops of the marks of
 /// the path's edits by other resources.
-#[cycle(lost)]
 pub fn with_lost_edits(
     alloc: Global,
     edits: &Edits,
@@ -121,7 +141,7 @@ pub fn with_lost_edits(
 ) -> Result<Program, NoMemory>
     ensures { IfOk result (λ g. program_of g ≡ with_lost_edits (marks_of (edits_beside place edits.now)) (program_of program)) }
 {
-    let mut steps = Seq::new(alloc);
-    push_lost(alloc, edits, place, program, &mut steps)?;
-    Ok(sequence(steps))
+    let whole = Boxed::new(alloc, program)?;
+    let lost = with_lost(alloc, edits, place, whole)?;
+    Ok(lost.into_inner())
 }

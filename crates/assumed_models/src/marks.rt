@@ -1,8 +1,10 @@
 //! The files that stand for edits.
 
-ghost use Rattle.std.specs.Prelude.{◌≡◌, ◌∷◌, ◌++◌, ◌<◌, IsTrue, IfOk, MatchOption};
+ghost use Rattle.std.specs.Prelude.{◌≡◌, [], ◌∷◌, ◌++◌, ◌<◌, codes, IsTrue, IfOk, MatchOption};
 ghost use Rattle.fs_lang.specs.Reading.{HasNo};
 ghost use Rattle.fs_lang.specs.Names.{replaced, is_dots, segment_of};
+ghost use Rattle.fs_lang.specs.PathText.{path_text};
+ghost use Rattle.model_semantics.specs.Words.{marked};
 ghost use Rattle.assumed_models.specs.Behaviors.{edit_mark};
 
 use catalog_semantics::Resource;
@@ -51,16 +53,30 @@ fn segment_of(alloc: Global, name: &str) -> Result<Text, NoMemory>
     replaced(alloc, escaped.as_str(), '/', "%2F")
 }
 
+/// The folder of the marks of edits.
+fn edits_folder(alloc: Global) -> Result<Path, NoMemory>
+    ensures { IfOk result (λ p. p ≡ marked (codes "edit") []) }
+{
+    let marks = top(alloc, ".rehearsal")?;
+    below(alloc, &marks, "edit")
+}
+
+/// The folder of the marks of a file's edits.
+fn edits_of(alloc: Global, p: &Path) -> Result<Path, NoMemory>
+    ensures { IfOk result (λ q. q ≡ marked (codes "edit") (segment_of (path_text p.now) ∷ [])) }
+{
+    let edits = edits_folder(alloc)?;
+    let text = p.text(alloc)?;
+    let file = segment_of(alloc, text.as_str())?;
+    below(alloc, &edits, file.as_str())
+}
+
 /// The file that stands for an edit of a file by a resource.
 pub fn edit_mark(alloc: Global, r: &Resource, p: &Path) -> Result<Path, NoMemory>
     ensures { IfOk result (λ m. m ≡ edit_mark r.now p.now) }
 {
-    let text = p.text(alloc)?;
+    let edits = edits_of(alloc, p)?;
     let name = shown_ref(alloc, &r.id)?;
-    let marks = top(alloc, ".rehearsal")?;
-    let edits = below(alloc, &marks, "edit")?;
-    let file = segment_of(alloc, text.as_str())?;
-    let of_file = below(alloc, &edits, file.as_str())?;
     let by = segment_of(alloc, name.as_str())?;
-    below(alloc, &of_file, by.as_str())
+    below(alloc, &edits, by.as_str())
 }

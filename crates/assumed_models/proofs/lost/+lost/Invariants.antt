@@ -12,8 +12,8 @@ decreases-inside l = 4 * program_size (program_of l.program)
 abbrev pub decreases-push_lost : goal.decreases-push_lost
 decreases-push_lost l = 4 * program_size (program_of l.program) + 1
 
-abbrev pub decreases-with_lost_edits : goal.decreases-with_lost_edits
-decreases-with_lost_edits l = 4 * program_size (program_of l.program) + 2
+abbrev pub decreases-with_lost : goal.decreases-with_lost
+decreases-with_lost l = 4 * program_size (program_of l.program) + 2
 
 abbrev pub decreases-all_inside : goal.decreases-all_inside
 decreases-all_inside l = 4 * programs_size (programs_in l.programs)
