@@ -1,7 +1,7 @@
 //! The models of files that are put only where nothing stands.
 
 ghost use Rattle.std.specs.Prelude.{◌≡◌, ◌∷◌, [], IfOk};
-ghost use Rattle.fs_semantics.specs.Programs.{Cp};
+ghost use Rattle.fs_semantics.specs.Programs.{Creat, Cp};
 ghost use Rattle.fs_lang.specs.Meaning.{program_of};
 ghost use Rattle.model_semantics.specs.Names.{Meets};
 ghost use Rattle.model_names.specs.Seen.{seen};
@@ -14,8 +14,8 @@ use model_attributes::truth_of;
 use model_files::{are_free, file_row, file_state, one_step};
 use model_names::{Model, spelled, text_or};
 use model_semantics::{Ensure, FileState, ModelFault};
-use model_words::{choice, creation};
-use rh_base::{NoMemory, Text};
+use model_words::{branching, creation};
+use rh_base::{Boxed, NoMemory, Text};
 use std::alloc::Global;
 
 /// Whether what stands there already stays as it is.
@@ -32,19 +32,29 @@ pub(crate) fn is_spared(r: &Resource) -> bool
 }
 
 /// Puts something where nothing stands.
-fn where_none(alloc: Global, p: &Path, put: Program) -> Result<Program, NoMemory>
+fn where_none(alloc: Global, p: &Path, put: Boxed<Program>) -> Result<Program, NoMemory>
     ensures { IfOk result (λ e. program_of e ≡ where_none p.now (program_of put)) }
 {
+    let nothing = Boxed::new(alloc, Program::Id)?;
     let test = Test::IsNone(p.copy(alloc)?);
-    choice(alloc, test, put, Program::Id)
+    Ok(branching(test, put, nothing))
 }
 
-/// Copies a file.
+/// Makes a file with this content where nothing stands.
+fn created(alloc: Global, p: &Path, content: &str) -> Result<Program, NoMemory>
+    ensures { IfOk result (λ e. program_of e ≡ where_none p.now (Creat p.now content.now)) }
+{
+    let put = Boxed::new(alloc, creation(alloc, p, content)?)?;
+    where_none(alloc, p, put)
+}
+
+/// Copies a file where nothing stands.
 fn copied(alloc: Global, from: &Path, p: &Path) -> Result<Program, NoMemory>
-    ensures { IfOk result (λ e. program_of e ≡ Cp from.now p.now) }
+    ensures { IfOk result (λ e. program_of e ≡ where_none p.now (Cp from.now p.now)) }
 {
     let source = from.copy(alloc)?;
-    Ok(Program::Cp(source, p.copy(alloc)?))
+    let put = Boxed::new(alloc, Program::Cp(source, p.copy(alloc)?))?;
+    where_none(alloc, p, put)
 }
 
 /// What stands for the content at an address.
@@ -54,8 +64,7 @@ fn fetched(alloc: Global, p: &Path, address: &Text) -> Result<Program, NoMemory>
     let mut content = Text::new(alloc);
     content.push("source:")?;
     content.push(address.as_str())?;
-    let put = creation(alloc, p, content.as_str())?;
-    where_none(alloc, p, put)
+    created(alloc, p, content.as_str())
 }
 
 /// The program of a file that is put only where nothing stands.
@@ -63,14 +72,8 @@ fn spared_row(alloc: Global, p: &Path, state: &FileState) -> Result<Program, NoM
     ensures { IfOk result (λ e. program_of e ≡ spared_row p.now state.now) }
 {
     match state {
-        FileState::Content(content) => {
-            let put = creation(alloc, p, content.as_str())?;
-            where_none(alloc, p, put)
-        }
-        FileState::Copied(from) => {
-            let put = copied(alloc, from, p)?;
-            where_none(alloc, p, put)
-        }
+        FileState::Content(content) => created(alloc, p, content.as_str()),
+        FileState::Copied(from) => copied(alloc, from, p),
         FileState::Fetched(address) => fetched(alloc, p, address),
         FileState::Unsaid
         | FileState::Present
