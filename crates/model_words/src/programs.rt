@@ -48,12 +48,10 @@ pub fn copy(alloc: Global, from: &Path, p: &Path) -> Result<Program, NoMemory>
 
 /// One program where a test holds, and another where it doesn't.
 #[tactic(auto, using(fs_lang::specs::Meaning::program_of_if))]
-pub fn choice(alloc: Global, a: Test, e: Program, f: Program) -> Result<Program, NoMemory>
-    ensures { IfOk result (λ g. program_of g ≡ If (test_of a) (program_of e) (program_of f)) }
+pub fn branching(a: Test, e: Boxed<Program>, f: Boxed<Program>) -> Program
+    ensures { program_of result ≡ If (test_of a) (program_of e) (program_of f) }
 {
-    let left = Boxed::new(alloc, e)?;
-    let right = Boxed::new(alloc, f)?;
-    Ok(Program::If(a, left, right))
+    Program::If(a, e, f)
 }
 
 /// Whether one of two tests holds.

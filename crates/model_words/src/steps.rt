@@ -2,12 +2,13 @@
 
 ghost use Rattle.std.specs.Prelude.{◌≡◌, ◌∷◌, ◌++◌, [], ◌==◌, filter, map, length, IfOk, OnOk};
 ghost use Rattle.fs_lang.specs.Meaning.{program_of};
+ghost use Rattle.fs_semantics.specs.Programs.{Id, Creat, If, IsFile};
 ghost use Rattle.model_semantics.specs.Words.{sequence, dir, dirs, sweep, mark, deepest, deepest_first};
 
-use crate::programs::{choice, creation, is_file};
+use crate::programs::{branching, creation, is_file};
 use crate::words::{dir, sweep};
 use fs_lang::{Path, Program};
-use rh_base::{NoMemory, Seq};
+use rh_base::{Boxed, NoMemory, Seq};
 use std::alloc::Global;
 
 /// The program of some steps.
@@ -44,16 +45,6 @@ pub fn push(steps: &mut Seq<Program>, step: Program) -> Result<(), NoMemory>
     steps.push(step)
 }
 
-/// The program of two steps.
-pub fn pair(alloc: Global, first: Program, second: Program) -> Result<Program, NoMemory>
-    ensures { IfOk result (λ e. program_of e ≡ sequence (program_of first ∷ program_of second ∷ [])) }
-{
-    let mut steps = Seq::new(alloc);
-    push(&mut steps, first)?;
-    push(&mut steps, second)?;
-    Ok(sequence(steps))
-}
-
 /// Adds the step that makes a folder.
 pub fn push_dir(alloc: Global, p: &Path, steps: &mut Seq<Program>) -> Result<(), NoMemory>
     ensures { OnOk result (map program_of steps.new ≡ map program_of steps.old ++ dir p.now ∷ []) }
@@ -74,14 +65,22 @@ pub fn push_dirs(alloc: Global, p: &Path, steps: &mut Seq<Program>) -> Result<()
     Ok(())
 }
 
+/// Makes an empty file unless a file is there.
+fn empty_file(alloc: Global, m: &Path) -> Result<Program, NoMemory>
+    ensures { IfOk result (λ e. program_of e ≡ If (IsFile m.now) Id (Creat m.now [])) }
+{
+    let nothing = Boxed::new(alloc, Program::Id)?;
+    let fresh = Boxed::new(alloc, creation(alloc, m, "")?)?;
+    let test = is_file(alloc, m)?;
+    Ok(branching(test, nothing, fresh))
+}
+
 /// Adds the steps of a mark.
 pub fn push_mark(alloc: Global, m: &Path, steps: &mut Seq<Program>) -> Result<(), NoMemory>
     ensures { OnOk result (map program_of steps.new ≡ map program_of steps.old ++ mark m.now) }
 {
     push_dirs(alloc, m, steps)?;
-    let test = is_file(alloc, m)?;
-    let fresh = creation(alloc, m, "")?;
-    let step = choice(alloc, test, Program::Id, fresh)?;
+    let step = empty_file(alloc, m)?;
     push(steps, step)
 }
 
