@@ -1,7 +1,7 @@
 //! The guard, and the graph with it.
 
 ghost use Rattle.std.specs.Prelude.{◌≡◌, ◌+◌, ◌∷◌, ◌++◌, [], length, map, IfOk};
-ghost use Rattle.fs_semantics.specs.Programs.{IsDir, Id, If};
+ghost use Rattle.fs_semantics.specs.Programs.{IsDir, Id, Err, Mkdir, If};
 ghost use Rattle.fs_lang.specs.Meaning.{test_of, program_of};
 ghost use Rattle.orders.specs.Relation.{comes};
 ghost use Rattle.given_hosts.specs.Guard.{need, guard, guarded, guard_before};
@@ -21,20 +21,35 @@ pub struct Guarded {
 
 /// One program where a test holds, and another where it doesn't.
 #[tactic(auto, using(fs_lang::specs::Meaning::program_of_if))]
-fn choice(alloc: Global, a: Test, e: Program, f: Program) -> Result<Program, NoMemory>
-    ensures { IfOk result (λ g. program_of g ≡ If (test_of a) (program_of e) (program_of f)) }
+fn branching(a: Test, e: Boxed<Program>, f: Boxed<Program>) -> Program
+    ensures { program_of result ≡ If (test_of a) (program_of e) (program_of f) }
 {
-    let left = Boxed::new(alloc, e)?;
-    let right = Boxed::new(alloc, f)?;
-    Ok(Program::If(a, left, right))
+    Program::If(a, e, f)
 }
 
 /// Nothing where the path is a folder, and the program where it isn't.
-#[tactic(auto, using(fs_lang::specs::Meaning::program_of_if))]
-fn unless_folder(alloc: Global, p: &Path, e: Program) -> Result<Program, NoMemory>
+fn unless_folder(alloc: Global, p: &Path, e: Boxed<Program>) -> Result<Program, NoMemory>
     ensures { IfOk result (λ f. program_of f ≡ If (IsDir p.now) Id (program_of e)) }
 {
-    choice(alloc, Test::IsDir(p.copy(alloc)?), Program::Id, e)
+    let nothing = Boxed::new(alloc, Program::Id)?;
+    let test = Test::IsDir(p.copy(alloc)?);
+    Ok(branching(test, nothing, e))
+}
+
+/// Ends in Error where the path isn't a folder.
+fn fails_unless_folder(alloc: Global, p: &Path) -> Result<Program, NoMemory>
+    ensures { IfOk result (λ e. program_of e ≡ If (IsDir p.now) Id Err) }
+{
+    let failing = Boxed::new(alloc, Program::Err)?;
+    unless_folder(alloc, p, failing)
+}
+
+/// Makes a folder at the path where there is none.
+fn made_folder(alloc: Global, p: &Path) -> Result<Program, NoMemory>
+    ensures { IfOk result (λ e. program_of e ≡ If (IsDir p.now) Id (Mkdir p.now)) }
+{
+    let making = Boxed::new(alloc, Program::Mkdir(p.copy(alloc)?))?;
+    unless_folder(alloc, p, making)
 }
 
 /// Ends in Error where the folder doesn't stand, and makes sure of it.
@@ -43,8 +58,8 @@ fn need(alloc: Global, p: &Path) -> Result<Program, NoMemory>
     ensures { IfOk result (λ e. program_of e ≡ need p.now) }
 {
     let mut steps = Seq::new(alloc);
-    steps.push(unless_folder(alloc, p, Program::Err)?)?;
-    steps.push(unless_folder(alloc, p, Program::Mkdir(p.copy(alloc)?))?)?;
+    steps.push(fails_unless_folder(alloc, p)?)?;
+    steps.push(made_folder(alloc, p)?)?;
     Ok(Program::Steps(steps))
 }
 
@@ -78,11 +93,15 @@ fn copies(alloc: Global, programs: &[Program]) -> Result<Seq<Program>, NoMemory>
 }
 
 /// The programs, and behind them one more.
-fn with_last(alloc: Global, programs: &[Program], last: Program) -> Result<Seq<Program>, NoMemory>
+fn with_last(
+    alloc: Global,
+    programs: &[Program],
+    last: Boxed<Program>,
+) -> Result<Seq<Program>, NoMemory>
     ensures { IfOk result (λ all. map program_of all ≡ map program_of programs.now ++ program_of last ∷ []) }
 {
     let mut all = copies(alloc, programs)?;
-    all.push(last)?;
+    all.push(last.into_inner())?;
     Ok(all)
 }
 
@@ -94,7 +113,7 @@ pub fn guarded_programs(
 ) -> Result<Seq<Program>, NoMemory>
     ensures { IfOk result (λ all. map program_of all ≡ guarded given.now (map program_of programs.now)) }
 {
-    let last = guard_of(alloc, given)?;
+    let last = Boxed::new(alloc, guard_of(alloc, given)?)?;
     with_last(alloc, programs, last)
 }
 
@@ -111,7 +130,8 @@ pub fn with_first(
     ensures more { IfOk result (λ g. g.order.count ≡ order.now.count + 1) }
     ensures order { IfOk result (λ g. comes g.order ≡ guard_before order.now.count (comes order.now)) }
 {
-    let all = with_last(alloc, programs, first)?;
+    let last = Boxed::new(alloc, first)?;
+    let all = with_last(alloc, programs, last)?;
     let behind = order_behind(alloc, order)?;
     Ok(Guarded {
         programs: all,
