@@ -42,8 +42,7 @@ pub(crate) fn question(
     domains();
     witnesses_over_the_domain();
     let d = domain(alloc, programs)?;
-    let posed = ask_order(alloc, programs, order, &d)?;
-    Ok(posed)
+    ask_order(alloc, programs, order, &d)
 }
 
 /// Asks whether allowed orders have different outcomes.
@@ -58,8 +57,7 @@ pub(crate) fn ask_orders(
     ensures { IfOk result (AnswersOrder (map program_of programs.now) order.now budget) }
 {
     let question = question(alloc, programs, order)?;
-    let found = answer_to(alloc, question, budget)?;
-    Ok(found)
+    answer_to(alloc, question, budget)
 }
 
 /// Asks whether allowed orders have different outcomes. They have not where all programs commute of which neither comes before the

@@ -53,8 +53,7 @@ fn commute(
     let two = two_programs(alloc, programs, a, b)?;
     let order = unordered(alloc, 2)?;
     let (cnf, firsts) = question(alloc, two.as_slice(), &order)?;
-    let found = refuted(alloc, cnf, firsts.as_slice(), budget)?;
-    Ok(found)
+    refuted(alloc, cnf, firsts.as_slice(), budget)
 }
 
 /// A refuted formula, where the programs of a pair commute. There is none where they don't, where the budget was spent, or where the

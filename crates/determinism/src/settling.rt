@@ -194,6 +194,5 @@ pub(crate) fn settle(
     }
     let trees = untried(alloc, programs, pairs)?;
     let rest = trees.as_slice();
-    let settled = look_at_all(alloc, programs, order, pairs, rest, budget)?;
-    Ok(settled)
+    look_at_all(alloc, programs, order, pairs, rest, budget)
 }

@@ -59,8 +59,7 @@ fn ask_contracted(
     contractions();
     are_proper(programs);
     let question = question(alloc, contracted.programs.as_slice(), &contracted.order)?;
-    let found = answer_to(alloc, question, budget)?;
-    Ok(found)
+    answer_to(alloc, question, budget)
 }
 
 /// The difference of the whole graph that one of the contracted graph stands for.

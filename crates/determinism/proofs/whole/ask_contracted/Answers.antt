@@ -1,4 +1,5 @@
 use Rattle.std.proofs.Common.{map, subst}
+use Rattle.std.proofs.lemmas.Result.{IfOk-weaker}
 use Rattle.fs_semantics.specs.Orders.{Told, IsDeterministic}
 use Rattle.fs_lang.specs.Meaning.{program_of}
 use Rattle.finite_domain.specs.Layouts.{IsLayout}
@@ -16,7 +17,7 @@ use Rattle.determinism.proofs.QuestionLaws.{other_states}
 use Rattle.determinism.proofs.whole.ask_contracted.Goals as goal
 
 pub returns : goal.returns
-returns c =
+returns c = IfOk-weaker c.answer_to.result _ _ (λ found is.
     let es = map program_of c.args.programs.now in
     let order = c.args.order.now in
     let before = Told (comes order) in
@@ -36,4 +37,4 @@ returns c =
     (λ t o x. law.counterexample es proper order p pruned k contracted t o x)
     (λ t o x h. (expanded p o, expanded p x, law.expanded es proper order p pruned k contracted t o x h)) posed.0.0 posed.0.1 q.formula posed.1 in
     in_its_words q c.args.budget (States es before) (IsDeterministic es before) (IsDifference fs after) states
-    (λ none. law.deterministic es proper order p pruned k contracted (posed.2 none)) posed.3 c.in_ok-found.found c.in_ok-found.ensures
+    (λ none. law.deterministic es proper order p pruned k contracted (posed.2 none)) posed.3 found is) c.answer_to.ensures
