@@ -45,8 +45,7 @@ fn group_question(alloc: Global, programs: &[Program], group: &[u32]) -> Result<
     let some = chosen(alloc, programs, group)?;
     let order = unordered(alloc, group.len() as u32)?;
     let d = domain(alloc, some.as_slice())?;
-    let posed = ask_twice(alloc, some.as_slice(), &order, &d)?;
-    Ok(posed)
+    ask_twice(alloc, some.as_slice(), &order, &d)
 }
 
 /// A refuted formula, where these programs alone settle. There is none where they don't, or where the budget was spent.

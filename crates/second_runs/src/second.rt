@@ -39,8 +39,7 @@ fn second_question(alloc: Global, programs: &[Program], order: &Order) -> Result
     are_proper(programs);
     has_first_extension(order);
     let d = domain(alloc, programs)?;
-    let posed = ask_twice(alloc, programs, order, &d)?;
-    Ok(posed)
+    ask_twice(alloc, programs, order, &d)
 }
 
 /// Asks whether a second run changes anything: of groups that don't touch one another, and of all where that doesn't tell.
@@ -59,8 +58,7 @@ pub fn ask_second(
         return Ok(Answer::Refuted(same));
     }
     let question = second_question(alloc, programs, order)?;
-    let found = answer_to(alloc, question, budget)?;
-    Ok(found)
+    answer_to(alloc, question, budget)
 }
 
 /// The tree from which a second run changes something, and its order: the first run ends in a tree.
