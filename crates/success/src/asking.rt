@@ -35,8 +35,7 @@ fn end_question(alloc: Global, programs: &[Program], order: &Order) -> Result<Qu
     shadows();
     has_first_extension(order);
     let d = domain(alloc, programs)?;
-    let posed = ask_some(alloc, programs, order, &d)?;
-    Ok(posed)
+    ask_some(alloc, programs, order, &d)
 }
 
 /// The first of a few trees from which the first extension ends in a tree, before any formula is made.
@@ -69,6 +68,5 @@ pub fn ask_end(
         return Ok(Answer::Shown(witness));
     }
     let question = end_question(alloc, programs, order)?;
-    let found = answer_to(alloc, question, budget)?;
-    Ok(found)
+    answer_to(alloc, question, budget)
 }
