@@ -93,6 +93,5 @@ pub(crate) fn first_from(
     guard_is_pruned();
     let graph = with_guard(alloc, programs, order, given)?;
     let answered = judge_any(alloc, graph.programs.as_slice(), &graph.order, budget)?;
-    let without = answer_without(alloc, answered)?;
-    Ok(without)
+    answer_without(alloc, answered)
 }

@@ -161,8 +161,7 @@ fn judged_from(
 {
     none_given();
     if given.is_empty() {
-        let verdict = judged(alloc, programs, order, budget)?;
-        return Ok(verdict);
+        return judged(alloc, programs, order, budget);
     }
     let answered = first_from(alloc, programs, order, given, budget)?;
     judge_on(alloc, programs, order, given, budget, answered)

@@ -66,19 +66,18 @@ fn second_question(
     allowed_orders();
     let first = order.first_extension()?;
     let all = guarded_programs(alloc, programs, given)?;
-    let d = domain(alloc, all.as_slice())?;
     let guard = order.count();
     let once = one_run(alloc, guard, first.as_slice())?;
     let twice = two_runs(alloc, guard, first.as_slice())?;
-    let posed = ask_parting(
+    let d = domain(alloc, all.as_slice())?;
+    ask_parting(
         alloc,
         all.as_slice(),
         once,
         all.as_slice(),
         twice.as_slice(),
         &d,
-    )?;
-    Ok(posed)
+    )
 }
 
 /// The tree, with the first extension.
@@ -111,8 +110,7 @@ fn ask_runs(
         (IsChangeTree given.now (map program_of programs.now) order.now) budget) }
 {
     let question = second_question(alloc, programs, order, given)?;
-    let found = answer_to(alloc, question, budget)?;
-    Ok(found)
+    answer_to(alloc, question, budget)
 }
 
 /// Asks whether a second run in the first extension changes anything, where the first run begins in a tree in which the given folders

@@ -1,13 +1,14 @@
 use Rattle.std.proofs.Common.{map}
+use Rattle.std.proofs.lemmas.Result.{IfOk-weaker}
 use Rattle.fs_lang.specs.Meaning.{program_of}
 use Rattle.answering.specs.Answers.{in_its_words}
 use Rattle.given_verdict.specs.Second.{StatesSecondFrom, NeverChangedFrom, IsChangeTree}
 use Rattle.given_verdict.proofs.second.ask_runs.Goals as goal
 
 pub returns : goal.returns
-returns c =
+returns c = IfOk-weaker c.answer_to.result _ _ (λ found is.
     let es = map program_of c.args.programs.now in
     let order = c.args.order.now in
     let given = c.args.given.now in
     let q = c.in_ok-question in
-    in_its_words q.question c.args.budget (StatesSecondFrom given es order) (NeverChangedFrom given es order) (IsChangeTree given es order) q.ensures.states q.ensures.never q.ensures.models c.in_ok-found.found c.in_ok-found.ensures
+    in_its_words q.question c.args.budget (StatesSecondFrom given es order) (NeverChangedFrom given es order) (IsChangeTree given es order) q.ensures.states q.ensures.never q.ensures.models found is) c.answer_to.ensures
