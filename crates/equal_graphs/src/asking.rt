@@ -58,8 +58,7 @@ fn parting_question(
         left: one,
         right: second,
     } = asked;
-    let posed = ask_parting(alloc, left, one, right, second.as_slice(), domain)?;
-    Ok(posed)
+    ask_parting(alloc, left, one, right, second.as_slice(), domain)
 }
 
 /// Asks whether the graphs do the same.
@@ -83,6 +82,5 @@ pub(crate) fn ask_equal(
     ensures { IfOk result (AnswersParting (map program_of left.now) order.now (map program_of right.now) other.now budget) }
 {
     let question = parting_question(alloc, left, order, right, other, domain)?;
-    let found = answer_to(alloc, question, budget)?;
-    Ok(found)
+    answer_to(alloc, question, budget)
 }

@@ -183,10 +183,9 @@ fn judge_right(
     ensures { IfOk result (IsCompared (map program_of left.now) order.now (map program_of right.now) other.now budget) }
 {
     let answered = judge_any(alloc, right, other, budget)?;
-    let compared = compare_right(
+    compare_right(
         alloc, left, order, right, other, domain, budget, one, answered,
-    )?;
-    Ok(compared)
+    )
 }
 
 /// Goes on from the answer to the question of order of the left graph.
@@ -245,8 +244,7 @@ pub fn compare_any(
 {
     let d = domain_of_both(alloc, left, right)?;
     let answered = judge_any(alloc, left, order, budget)?;
-    let compared = compare_left(alloc, left, order, right, other, &d, budget, answered)?;
-    Ok(compared)
+    compare_left(alloc, left, order, right, other, &d, budget, answered)
 }
 
 /// Whether two graphs do the same. First it is asked whether the left one is deterministic, and then whether the right one is, as

@@ -53,8 +53,7 @@ pub(crate) fn domain_of_both(
     ensures right { IfOk result (λ d. CoversSteps d.table (programs_in right.now)) }
 {
     let all = joined(alloc, left, right)?;
-    let d = domain(alloc, all.as_slice())?;
-    Ok(d)
+    domain(alloc, all.as_slice())
 }
 
 /// How many paths a domain has.

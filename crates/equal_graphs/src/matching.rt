@@ -98,6 +98,21 @@ fn if_allowed(alloc: Global, order: &Order, list: Seq<u32>) -> Result<Option<Seq
     Ok(None)
 }
 
+/// The numbers of an order in such turns, if the graph allows it.
+fn in_allowed_turns_of(
+    alloc: Global,
+    order: &Order,
+    texts: &[Vec<u8>],
+    numbers: &[u32],
+    wanted: &[Vec<u8>],
+    turns: &[u32],
+) -> Result<Option<Seq<u32>>, NoMemory>
+    ensures { IfOk result (λ kept. IfSome kept (IsLinearExtension order.now.count (Comes order.now))) }
+{
+    let turned = in_turns_of(alloc, texts, numbers, wanted, turns)?;
+    if_allowed(alloc, order, turned)
+}
+
 /// An allowed order of each graph: the first extension of the one, and beside it, where that is allowed, the order of the other in which
 /// the same programs come in the same turns; else both first extensions.
 pub(crate) fn common_turns(
@@ -114,27 +129,29 @@ pub(crate) fn common_turns(
     let second = other.first_extension()?;
     let texts_left = texts(alloc, left)?;
     let texts_right = texts(alloc, right)?;
-    let turned = in_turns_of(
+    let turned = in_allowed_turns_of(
         alloc,
+        other,
         texts_right.as_slice(),
         second.as_slice(),
         texts_left.as_slice(),
         first.as_slice(),
     )?;
-    if let Some(kept) = if_allowed(alloc, other, turned)? {
+    if let Some(kept) = turned {
         return Ok(Turns {
             left: first,
             right: kept,
         });
     }
-    let turned = in_turns_of(
+    let turned = in_allowed_turns_of(
         alloc,
+        order,
         texts_left.as_slice(),
         first.as_slice(),
         texts_right.as_slice(),
         second.as_slice(),
     )?;
-    match if_allowed(alloc, order, turned)? {
+    match turned {
         Some(kept) => Ok(Turns {
             left: kept,
             right: second,

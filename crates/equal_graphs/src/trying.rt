@@ -58,6 +58,16 @@ fn first_parting(
     Ok(None)
 }
 
+/// A few trees over the paths of both.
+fn trees_of_both(
+    alloc: Global,
+    left: &[Program],
+    right: &[Program],
+) -> Result<Seq<Tree>, NoMemory> {
+    let all = joined(alloc, left, right)?;
+    first_trees(alloc, all.as_slice())
+}
+
 /// Runs both first extensions from a few trees.
 pub(crate) fn try_runs(
     alloc: Global,
@@ -72,15 +82,13 @@ pub(crate) fn try_runs(
 {
     let one = order.first_extension()?;
     let second = other.first_extension()?;
-    let all = joined(alloc, left, right)?;
-    let trees = first_trees(alloc, all.as_slice())?;
-    let found = first_parting(
+    let trees = trees_of_both(alloc, left, right)?;
+    first_parting(
         alloc,
         left,
         one.as_slice(),
         right,
         second.as_slice(),
         trees.as_slice(),
-    )?;
-    Ok(found)
+    )
 }

@@ -1,4 +1,5 @@
 use Rattle.std.proofs.Common.{map, ◌∙◌, subst}
+use Rattle.std.proofs.lemmas.Result.{IfOk-weaker}
 use Rattle.std.specs.Prelude.{◌↔◌}
 use Rattle.std.proofs.lemmas.List.{length-map}
 use Rattle.cnf.specs.Formulas.{IsSatisfiable}
@@ -8,44 +9,44 @@ use Rattle.equal_graphs.proofs.PartLaws.{states, equal, shown}
 use Rattle.equal_graphs.proofs.asking.parting_question.Goals as goal
 
 pub returns-clause-states : goal.returns-clause-states
-returns-clause-states c =
+returns-clause-states c = IfOk-weaker c.ask_parting.result _ _ (λ q held.
     let es = map program_of c.args.left.now in
     let fs = map program_of c.args.right.now in
     let first = c.has_first_extension.ensures in
     let second = c.has_first_extension-2.ensures in
     let asked = c.in_ok-asked.asked in
-    let f = c.in_ok-posed.posed.formula in
-    let exact = subst (λ q. IsSatisfiable f ↔ HaveParting es asked.left fs q c.args.domain.now) c.as_slice.ensures c.in_ok-posed.ensures.exact in
+    let f = q.formula in
+    let exact = subst (λ q. IsSatisfiable f ↔ HaveParting es asked.left fs q c.args.domain.now) c.as_slice.ensures held in
     states es c.args.order.now fs c.args.other.now (length-map c.args.left.now program_of ∙ c.requires.left_count) (length-map c.args.right.now program_of ∙ c.requires.right_count)
     c.requires.left_sure c.requires.right_sure first.first second.first
     (record { allowed = first.allowed; least = first.least }) (record { allowed = second.allowed; least = second.least })
     asked.left asked.right c.in_ok-asked.ensures.left c.in_ok-asked.ensures.right
-    c.domains.ensures.laid_out c.shadows.ensures.exist c.shadows.ensures.tell c.args.domain.now c.requires.layout f exact
+    c.domains.ensures.laid_out c.shadows.ensures.exist c.shadows.ensures.tell c.args.domain.now c.requires.layout f exact) c.ask_parting.ensures.exact
 
 pub returns-clause-equal : goal.returns-clause-equal
-returns-clause-equal c =
+returns-clause-equal c = IfOk-weaker c.ask_parting.result _ _ (λ q held.
     let es = map program_of c.args.left.now in
     let fs = map program_of c.args.right.now in
     let first = c.has_first_extension.ensures in
     let second = c.has_first_extension-2.ensures in
     let asked = c.in_ok-asked.asked in
-    let f = c.in_ok-posed.posed.formula in
-    let exact = subst (λ q. IsSatisfiable f ↔ HaveParting es asked.left fs q c.args.domain.now) c.as_slice.ensures c.in_ok-posed.ensures.exact in
+    let f = q.formula in
+    let exact = subst (λ q. IsSatisfiable f ↔ HaveParting es asked.left fs q c.args.domain.now) c.as_slice.ensures held in
     equal es c.args.order.now fs c.args.other.now (length-map c.args.left.now program_of ∙ c.requires.left_count) (length-map c.args.right.now program_of ∙ c.requires.right_count)
     c.requires.left_sure c.requires.right_sure first.first second.first
     (record { allowed = first.allowed; least = first.least }) (record { allowed = second.allowed; least = second.least })
     asked.left asked.right c.in_ok-asked.ensures.left c.in_ok-asked.ensures.right
-    c.domains.ensures.laid_out c.shadows.ensures.exist c.shadows.ensures.tell c.args.domain.now c.requires.layout f exact
+    c.domains.ensures.laid_out c.shadows.ensures.exist c.shadows.ensures.tell c.args.domain.now c.requires.layout f exact) c.ask_parting.ensures.exact
 
 pub returns-clause-models : goal.returns-clause-models
-returns-clause-models c = λ w told.
+returns-clause-models c = IfOk-weaker c.ask_parting.result _ _ (λ q models w told.
     let es = map program_of c.args.left.now in
     let fs = map program_of c.args.right.now in
     let first = c.has_first_extension.ensures in
     let second = c.has_first_extension-2.ensures in
     let asked = c.in_ok-asked.asked in
-    let part = subst (λ q. ShowsParting es asked.left fs q c.args.domain.now w) c.as_slice.ensures (c.in_ok-posed.ensures.models w told) in
+    let part = subst (λ q. ShowsParting es asked.left fs q c.args.domain.now w) c.as_slice.ensures (models w told) in
     shown es c.args.order.now fs c.args.other.now (length-map c.args.left.now program_of ∙ c.requires.left_count) (length-map c.args.right.now program_of ∙ c.requires.right_count)
     c.requires.left_sure c.requires.right_sure first.first second.first
     (record { allowed = first.allowed; least = first.least }) (record { allowed = second.allowed; least = second.least })
-    asked.left asked.right c.in_ok-asked.ensures.left c.in_ok-asked.ensures.right c.args.domain.now w part
+    asked.left asked.right c.in_ok-asked.ensures.left c.in_ok-asked.ensures.right c.args.domain.now w part) c.ask_parting.ensures.models
