@@ -52,8 +52,7 @@ fn guarded_compare(
         &second.order,
         budget,
     )?;
-    let without = compared_without(alloc, answered)?;
-    Ok(without)
+    compared_without(alloc, answered)
 }
 
 /// The answer, however large the graphs are. Where no folder is given the graphs themselves are asked about.
@@ -72,8 +71,7 @@ fn compared_from(
     ensures { IfOk result (IsComparedFrom given.now (map program_of left.now) order.now (map program_of right.now) other.now budget) }
 {
     if given.is_empty() {
-        let compared = compare_any(alloc, left, order, right, other, budget)?;
-        return Ok(compared);
+        return compare_any(alloc, left, order, right, other, budget);
     }
     guarded_compare(alloc, left, order, right, other, given, budget)
 }

@@ -1,4 +1,5 @@
 use Rattle.std.proofs.Common.{◌≡◌, map, length, sym, ap, subst, ◌∙◌}
+use Rattle.std.proofs.lemmas.Result.{IfOk-weaker}
 use Rattle.std.proofs.lemmas.List.{length-map}
 use Rattle.fs_semantics.specs.Orders.{Told, up_from}
 use Rattle.fs_lang.specs.Meaning.{program_of}
@@ -17,7 +18,7 @@ compared_without-requires-clause-right c =
     right_orders (map program_of c.as_slice.result.now) c.in_ok-one.one.order (map program_of c.as_slice-2.result.now) c.in_ok-second.second.order c.args.budget c.in_ok-answered.answered c.in_ok-answered.ensures
 
 pub returns : goal.returns
-returns c =
+returns c = IfOk-weaker c.compared_without.result _ _ (λ without is.
     let es = map program_of c.args.left.now in
     let fs = map program_of c.args.right.now in
     let order = c.args.order.now in
@@ -53,5 +54,5 @@ returns c =
       is_first = record { allowed = c.has_first_extension-3.ensures.allowed; least = c.has_first_extension-3.ensures.least };
       is_whole = record { allowed = c.has_first_extension-4.ensures.allowed; least = c.has_first_extension-4.ensures.least };
     } in
-    both_from given c.requires.given es order one.order side fs other second.order other_side c.args.budget (map program_of c.as_slice.result.now) (map program_of c.as_slice-2.result.now) c.in_ok-answered.answered c.in_ok-without.without
-    (ap (map program_of) c.as_slice.ensures ∙ c.in_ok-one.ensures.programs) (ap (map program_of) c.as_slice-2.ensures ∙ c.in_ok-second.ensures.programs) c.in_ok-answered.ensures c.in_ok-without.ensures
+    both_from given c.requires.given es order one.order side fs other second.order other_side c.args.budget (map program_of c.as_slice.result.now) (map program_of c.as_slice-2.result.now) c.in_ok-answered.answered without
+    (ap (map program_of) c.as_slice.ensures ∙ c.in_ok-one.ensures.programs) (ap (map program_of) c.as_slice-2.ensures ∙ c.in_ok-second.ensures.programs) c.in_ok-answered.ensures is) c.compared_without.ensures
