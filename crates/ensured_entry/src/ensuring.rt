@@ -274,8 +274,7 @@ pub fn ensured_any(
 {
     let d = domain_with_probe(alloc, programs, wanted)?;
     let answered = judge_any(alloc, programs, order, budget)?;
-    let ensured = ensure_on(alloc, programs, order, &d, wanted, budget, answered)?;
-    Ok(ensured)
+    ensure_on(alloc, programs, order, &d, wanted, budget, answered)
 }
 
 /// Whether every run that ends has the wanted entry. First it is asked whether the programs are deterministic, as `judge_order`

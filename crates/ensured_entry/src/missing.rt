@@ -44,8 +44,7 @@ fn missing_question(
     domains();
     wanted_entries();
     has_first_extension(order);
-    let posed = ask_missing(alloc, programs, order, domain, wanted)?;
-    Ok(posed)
+    ask_missing(alloc, programs, order, domain, wanted)
 }
 
 /// Asks whether a run ends without the entry.
@@ -65,6 +64,5 @@ pub(crate) fn ask_run(
     ensures { IfOk result (AnswersMissing (map program_of programs.now) order.now wanted.now budget) }
 {
     let question = missing_question(alloc, programs, order, domain, wanted)?;
-    let found = answer_to(alloc, question, budget)?;
-    Ok(found)
+    answer_to(alloc, question, budget)
 }

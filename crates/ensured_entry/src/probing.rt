@@ -54,8 +54,7 @@ pub(crate) fn domain_with_probe(
     ensures covers { IfOk result (λ d. CoversSteps d.table (programs_in programs.now)) }
 {
     let all = with_probe(alloc, programs, wanted)?;
-    let d = domain(alloc, all.as_slice())?;
-    Ok(d)
+    domain(alloc, all.as_slice())
 }
 
 /// How many paths a domain has.
