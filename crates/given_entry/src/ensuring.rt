@@ -48,8 +48,7 @@ fn guarded_entry(
         wanted,
         budget,
     )?;
-    let without = ensured_without(alloc, order, answered)?;
-    Ok(without)
+    ensured_without(alloc, order, answered)
 }
 
 /// The answer, however large the graph is. Where no folder is given the graph itself is asked.
@@ -66,8 +65,7 @@ fn entry_from(
     ensures { IfOk result (IsEnsuredFrom given.now (map program_of programs.now) order.now wanted.now budget) }
 {
     if given.is_empty() {
-        let ensured = ensured_any(alloc, programs, order, wanted, budget)?;
-        return Ok(ensured);
+        return ensured_any(alloc, programs, order, wanted, budget);
     }
     guarded_entry(alloc, programs, order, given, wanted, budget)
 }

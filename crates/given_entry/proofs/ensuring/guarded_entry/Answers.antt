@@ -1,4 +1,5 @@
 use Rattle.std.proofs.Common.{◌≡◌, map, length, sym, ap, subst, ◌∙◌}
+use Rattle.std.proofs.lemmas.Result.{IfOk-weaker}
 use Rattle.std.proofs.lemmas.List.{length-map}
 use Rattle.fs_semantics.specs.Orders.{Told, up_from}
 use Rattle.fs_lang.specs.Meaning.{program_of}
@@ -18,7 +19,7 @@ pub ensured_without-requires-clause-fails : goal.ensured_without-requires-clause
 ensured_without-requires-clause-fails c = fails_order (map program_of c.as_slice.result.now) c.in_ok-graph.graph.order c.args.wanted.now c.args.budget c.in_ok-answered.answered c.in_ok-answered.ensures
 
 pub returns : goal.returns
-returns c =
+returns c = IfOk-weaker c.ensured_without.result _ _ (λ without is.
     let es = map program_of c.args.programs.now in
     let order = c.args.order.now in
     let given = c.args.given.now in
@@ -34,4 +35,4 @@ returns c =
     (λ kept k. (c.pruning.ensures.some es (comes order) k.0 kept (c.pruning.ensures.leads es (comes order) k.0 (up_from 0 (length es)) kept k.1)).few)
     c.args.wanted.now c.args.budget graph.order count c.in_ok-graph.ensures.order first.first whole.first
     (record { allowed = first.allowed; least = first.least }) (record { allowed = whole.allowed; least = whole.least })
-    (map program_of c.as_slice.result.now) c.in_ok-answered.answered c.in_ok-without.without same c.in_ok-answered.ensures c.in_ok-without.ensures
+    (map program_of c.as_slice.result.now) c.in_ok-answered.answered without same c.in_ok-answered.ensures is) c.ensured_without.ensures
