@@ -5,10 +5,10 @@
 //! of the two programs right behind the fork is asked besides: it follows from a difference at the end, so the question is the
 //! same.
 
-ghost use Rattle.std.specs.Prelude.{◌≡◌, ◌≢◌, ◌↔◌, ◌<◌, ◌∷◌, true, false, map, length, IfOk};
+ghost use Rattle.std.specs.Prelude.{◌≡◌, ◌≢◌, ◌↔◌, ◌<◌, ◌∷◌, true, false, map, length, slice_index_or, IfOk};
 ghost use Rattle.bool_circuit.specs.Gates.{wire_value};
 ghost use Rattle.fs_semantics.specs.FileTree.{Tree};
-ghost use Rattle.fs_semantics.specs.Programs.{Outcome, and_then};
+ghost use Rattle.fs_semantics.specs.Programs.{Outcome, Id, and_then, run};
 ghost use Rattle.fs_semantics.specs.Orders.{outcome};
 ghost use Rattle.fs_lang.specs.Meaning.{program_of};
 ghost use Rattle.fs_interpreter.specs.Meanings.{Valuation, Grows};
@@ -56,6 +56,30 @@ fn run_plan(
     run_part(alloc, sym, plan.domain, plan.programs, part, start)
 }
 
+/// Runs the two programs that the codes tell.
+fn run_fork(
+    alloc: Global,
+    sym: &mut Sym,
+    plan: &Plan<'_>,
+    fork: &Fork<'_>,
+) -> Result<Cells<Sym>, NoMemory>
+    requires fork { IsFork sym.old plan.now.domain.table fork.now }
+    ensures cells { IfOk result (AreCells (circuit_meanings sym.new)) }
+    ensures places { IfOk result (λ made. length made.present ≡ length plan.now.domain.table.paths) }
+    ensures stands { IfOk result (λ made. (v : Valuation) (o : Outcome)
+        → StandsFor plan.now.domain.table (state_of (circuit_meanings sym.old) v fork.now.cells.now) o
+        → StandsFor plan.now.domain.table (state_of (circuit_meanings sym.new) v made)
+        (and_then (and_then o
+        (run (slice_index_or (map program_of plan.now.programs) (node sym.old v fork.now.first.now) Id)))
+        (run (slice_index_or (map program_of plan.now.programs) (node sym.old v fork.now.second.now) Id)))) }
+    ensures grows { Grows (circuit_meanings sym.old) (circuit_meanings sym.new) }
+{
+    let domain = plan.domain;
+    let programs = plan.programs;
+    let one = run_place(alloc, sym, domain, programs, fork.first, fork.cells)?;
+    run_place(alloc, sym, domain, programs, fork.second, &one)
+}
+
 /// Runs the two programs that the codes tell, and then what stands from the place on.
 fn run_on(
     alloc: Global,
@@ -77,11 +101,8 @@ fn run_on(
         ∷ part_of rest.now.ahead (node sym.old v rest.now.place.now) (nodes sym.old v rest.now.codes.now))))) }
     ensures grows { Grows (circuit_meanings sym.old) (circuit_meanings sym.new) }
 {
-    let domain = plan.domain;
-    let programs = plan.programs;
-    let one = run_place(alloc, sym, domain, programs, fork.first, fork.cells)?;
-    let two = run_place(alloc, sym, domain, programs, fork.second, &one)?;
-    run_part(alloc, sym, domain, programs, rest, &two)
+    let two = run_fork(alloc, sym, plan, fork)?;
+    run_plan(alloc, sym, plan, rest, &two)
 }
 
 /// Whether the runs of the two programs that the codes tell, the one way and the other, and then of what stands from the place

@@ -1,18 +1,19 @@
 //! The question whether the first extension ends in a tree without a wanted entry.
 
-ghost use Rattle.std.specs.Prelude.{◌≡◌, ◌↔◌, ◌<◌, true, map, length, IfOk};
+ghost use Rattle.std.specs.Prelude.{◌≡◌, ◌↔◌, ◌<◌, ◌&&◌, true, not, map, length, IfOk};
 ghost use Rattle.bool_circuit.specs.Gates.{wire_value};
 ghost use Rattle.cnf.specs.Formulas.{IsSatisfiable};
 ghost use Rattle.fs_semantics.specs.FileTree.{Tree};
 ghost use Rattle.fs_lang.specs.Meaning.{program_of, programs_in};
-ghost use Rattle.fs_interpreter.specs.Meanings.{Valuation, Grows};
+ghost use Rattle.fs_interpreter.specs.Meanings.{Valuation, Grows, IsBit};
 ghost use Rattle.fs_interpreter.specs.Places.{CoversSteps};
 ghost use Rattle.fs_interpreter.specs.Standing.{Stands};
-ghost use Rattle.fs_interpreter.specs.States.{AreCells, state_of};
+ghost use Rattle.fs_interpreter.specs.States.{AreCells, cell_at, state_of};
 ghost use Rattle.sym_run.specs.Wires.{circuit_meanings};
 ghost use Rattle.order_encode.specs.Asking.{AreTrees};
 ghost use Rattle.order_encode.specs.Asked.{CanShow};
 ghost use Rattle.order_encode.specs.Goals.{TellsTree};
+ghost use Rattle.order_encode.specs.Told.{wanted_told};
 ghost use Rattle.order_encode.specs.Missing.{EndsMissing, HasMissing, ShowsMissing};
 ghost use Rattle.order_encode.specs.declared.witness.Witness.{Witness};
 
@@ -33,6 +34,27 @@ use std::alloc::Global;
 use sym_run::Sym;
 use wanted_entry::Wanted;
 
+/// Whether the cells stand for a tree without the entry.
+fn lack(
+    sym: &mut Sym,
+    domain: &Domain,
+    cells: &Cells<Sym>,
+    wanted: &Wanted,
+) -> Result<Wire, NoMemory>
+    requires cells { AreCells (circuit_meanings sym.old) cells.now }
+    requires places { length cells.now.present ≡ length domain.now.table.paths }
+    ensures gives { IfOk result
+        (IsBit (circuit_meanings sym.new)
+        (λ v. not (state_of (circuit_meanings sym.old) v cells.now).error
+        && not (wanted_told domain.now.table wanted.now (cell_at (circuit_meanings sym.old) v cells.now)))) }
+    ensures grows { Grows (circuit_meanings sym.old) (circuit_meanings sym.new) }
+{
+    let has = has_wanted(sym, &domain.table, cells, wanted)?;
+    let missing = sym.not(&has)?;
+    let ended = sym.not(&cells.error)?;
+    sym.and(&ended, &missing)
+}
+
 /// Whether the order ends in a tree without the entry, from the tree for which the cells stand.
 fn misses(
     alloc: Global,
@@ -52,10 +74,7 @@ fn misses(
     schedule.domain.table.is_table();
     searches();
     let made = run_known(alloc, sym, schedule, start)?;
-    let has = has_wanted(sym, &schedule.domain.table, &made, wanted)?;
-    let missing = sym.not(&has)?;
-    let ended = sym.not(&made.error)?;
-    sym.and(&ended, &missing)
+    lack(sym, schedule.domain, &made, wanted)
 }
 
 /// Whether the inputs tell a tree over the domain from which the order ends in a tree without the entry.

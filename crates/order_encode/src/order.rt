@@ -4,17 +4,24 @@
 //! tell one order and a place, and not two orders. The place is a number of inputs, and a node stands at each place by what its
 //! code tells; so no clause says that just one does.
 
-ghost use Rattle.std.specs.Prelude.{◌≡◌, ◌↔◌, map, length, IfOk};
+ghost use Rattle.std.specs.Prelude.{◌≡◌, ◌↔◌, ◌<◌, true, map, length, IfOk};
+ghost use Rattle.bool_circuit.specs.Gates.{wire_value};
 ghost use Rattle.cnf.specs.Formulas.{IsSatisfiable};
 ghost use Rattle.fs_lang.specs.Meaning.{program_of, programs_in};
+ghost use Rattle.fs_interpreter.specs.Meanings.{Valuation, Grows};
 ghost use Rattle.fs_interpreter.specs.Places.{CoversSteps};
+ghost use Rattle.order_places.specs.Places.{exchanged};
+ghost use Rattle.sym_run.specs.Wires.{circuit_meanings};
+ghost use Rattle.order_circuit.specs.Codes.{node, nodes};
 ghost use Rattle.orders.specs.Relation.{Comes};
 ghost use Rattle.order_encode.specs.Asked.{CanShow};
+ghost use Rattle.order_encode.specs.Asking.{IsAsking};
+ghost use Rattle.order_encode.specs.Goals.{EndApart, TellsTree};
 ghost use Rattle.order_encode.specs.Witnesses.{HaveDifferentOutcomes, ShowsDifference};
 ghost use Rattle.order_encode.specs.declared.witness.Witness.{Witness};
 
 use crate::asking::{Asking, order_inputs};
-use crate::asks::Asks;
+use crate::asks::{Asks, Goal};
 use crate::goal::goal;
 use crate::plan::Plan;
 use crate::question::{Question, pose};
@@ -40,6 +47,27 @@ fn try_last_place(place: &[Wire], n: u32, firsts: &mut Vec<Wire>) -> Result<(), 
         number = number / 2;
     }
     Ok(())
+}
+
+/// What is asked of the inputs, and the place that a solver may try first.
+fn goal_of_order(
+    alloc: Global,
+    sym: &mut Sym,
+    plan: &Plan<'_>,
+    asking: &Asking,
+) -> Result<Goal, NoMemory>
+    requires asking { IsAsking sym.old plan.now.domain plan.now.order.count asking.now }
+    ensures wire { IfOk result (λ g. g.wire.0 < length sym.new) }
+    ensures exact { IfOk result (λ g. (v : Valuation) → (wire_value sym.new v g.wire.0 ≡ true)
+        ↔ TellsTree plan.now.domain sym.old asking.now.cells
+        (EndApart (map program_of plan.now.programs) plan.now.order (node sym.old v asking.now.place)
+        (nodes sym.old v asking.now.codes)
+        (exchanged (node sym.old v asking.now.place) (nodes sym.old v asking.now.codes))) v) }
+    ensures grows { Grows (circuit_meanings sym.old) (circuit_meanings sym.new) }
+{
+    let mut asked = goal(alloc, sym, plan, asking)?;
+    try_last_place(asking.place.as_slice(), plan.count(), &mut asked.firsts)?;
+    Ok(asked)
 }
 
 /// Whether two allowed orders have different outcomes from a tree over the domain. The inputs tell one order and a place in
@@ -68,8 +96,7 @@ pub fn ask_order(
         programs,
         order,
     };
-    let mut asked = goal(alloc, &mut sym, &plan, &inputs)?;
-    try_last_place(inputs.place.as_slice(), order.count(), &mut asked.firsts)?;
+    let asked = goal_of_order(alloc, &mut sym, &plan, &inputs)?;
     let Asking {
         cells,
         codes,

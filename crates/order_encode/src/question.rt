@@ -10,23 +10,29 @@ ghost use Rattle.sym_run.specs.Wires.{circuit_meanings};
 ghost use Rattle.order_encode.specs.Asked.{AreWithin, IsReadable};
 
 use crate::asks::{Asks, Goal};
-use crate::table::copy_domain;
+use crate::table::boxed_domain;
 use cnf::{Cnf, Lit, from_circuit_with};
 use fs_interpreter::Cells;
 use path_domain::Domain;
-use rh_base::{NoMemory, Seq};
+use rh_base::{Boxed, NoMemory, Seq};
 use std::alloc::Global;
 use std::marker::Model;
 use sym_run::Sym;
 
+/// The circuit that a formula states, the cells of its tree, and what is asked.
+#[derive(Drop)]
+pub(crate) struct Posed {
+    pub sym: Sym,
+    pub cells: Cells<Sym>,
+    pub asks: Asks,
+}
+
 /// A formula with the circuit that it states, so that its models can be read.
 #[derive(Drop)]
 pub struct Question {
-    pub(crate) sym: Sym,
-    pub(crate) cells: Cells<Sym>,
-    pub(crate) asks: Asks,
-    pub(crate) domain: Domain,
-    pub(crate) cnf: Cnf,
+    pub(crate) posed: Boxed<Posed>,
+    pub(crate) domain: Boxed<Domain>,
+    cnf: Boxed<Cnf>,
     firsts: Seq<Lit>,
 }
 
@@ -37,9 +43,21 @@ impl Model for Question {
 
     ghost Value = { Asked (List Gate) };
 
-    ghost view = { λ q. record { gates = q.sym; table = q.domain.table; cells = q.cells; asks = q.asks; formula = q.cnf } };
+    ghost view = { λ q. record {
+      gates = q.posed.sym;
+      table = q.domain.table;
+      cells = q.posed.cells;
+      asks = q.posed.asks;
+      formula = q.cnf;
+    } };
 
-    ghost invariant = { λ q. IsAsked (record { gates = q.sym; table = q.domain.table; cells = q.cells; asks = q.asks; formula = q.cnf }) };
+    ghost invariant = { λ q. IsAsked (record {
+      gates = q.posed.sym;
+      table = q.domain.table;
+      cells = q.posed.cells;
+      asks = q.posed.asks;
+      formula = q.cnf;
+    }) };
 }
 
 impl Question {
@@ -47,7 +65,7 @@ impl Question {
     pub fn cnf(&self) -> &Cnf
         ensures { result.now ≡ self.now.formula }
     {
-        &self.cnf
+        self.cnf.get()
     }
 
     /// Literals of the formula that a solver may try first: only how long it takes depends on them.
@@ -60,7 +78,7 @@ impl Question {
         ensures { result ≡ self.formula }
     {
         let Question { cnf, .. } = self;
-        cnf
+        cnf.into_inner()
     }
 }
 
@@ -82,12 +100,13 @@ pub(crate) fn pose(
     ensures holds { IfOk result
         (λ q. q ≡ record { gates = sym; table = domain.now.table; cells = cells; asks = asks; formula = q.formula }) }
 {
-    let (cnf, firsts) = from_circuit_with(alloc, sym.circuit(), goal.wire, &goal.firsts)?;
-    let domain = copy_domain(alloc, domain)?;
+    let posed = Boxed::new(alloc, Posed { sym, cells, asks })?;
+    let circuit = posed.get().sym.circuit();
+    let (formula, firsts) = from_circuit_with(alloc, circuit, goal.wire, &goal.firsts)?;
+    let cnf = Boxed::new(alloc, formula)?;
+    let domain = boxed_domain(alloc, domain)?;
     Ok(Question {
-        sym,
-        cells,
-        asks,
+        posed,
         domain,
         cnf,
         firsts,

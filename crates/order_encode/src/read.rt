@@ -126,9 +126,10 @@ impl Question {
         requires model { Satisfies (valuation_of model.now) self.now.formula.clauses }
         ensures { IfOk result (CanShow self.now) }
     {
-        let inputs = inputs_of(self.sym.circuit(), model);
-        let tree = self.sym.tree(&self.domain, &self.cells, inputs)?;
-        let values = values_of(alloc, self.sym.circuit(), inputs)?;
-        witness_by(alloc, &self.asks, &values, tree)
+        let posed = self.posed.get();
+        let inputs = inputs_of(posed.sym.circuit(), model);
+        let tree = posed.sym.tree(self.domain.get(), &posed.cells, inputs)?;
+        let values = values_of(alloc, posed.sym.circuit(), inputs)?;
+        witness_by(alloc, &posed.asks, &values, tree)
     }
 }

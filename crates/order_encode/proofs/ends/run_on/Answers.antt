@@ -14,27 +14,20 @@ use Rattle.order_encode.proofs.GrowthLaws.{◌>>◌}
 use Rattle.order_encode.proofs.ends.run_on.Goals as goal
 
 pub returns-clause-stands : goal.returns-clause-stands
-returns-clause-stands c = rw (← c.plan.view_is) (IfOk-weaker c.run_part.result _ _ (λ made stands v o h.
-    let table = c.plan.inside.domain.now.table in
-    let es = map program_of c.plan.inside.programs.now in
+returns-clause-stands c = IfOk-weaker c.run_plan.result _ _ (λ made stands v o h.
+    let table = c.args.plan.now.domain.table in
+    let es = map program_of c.args.plan.now.programs in
     let g0 = c.args.sym.now in
-    let g2 = c.run_place-2.new.sym in
-    let g01 = c.run_place.ensures.grows in
-    let g02 = g01 >> c.run_place-2.ensures.grows in
+    let g1 = c.run_fork.new.sym in
+    let g01 = c.run_fork.ensures.grows in
     let x = node g0 v c.args.fork.now.first.now in
     let y = node g0 v c.args.fork.now.second.now in
-    let y_is = g01.code c.args.fork.now.second.now c.requires.fork.second v in
-    let j_is = g02.code c.args.rest.now.place.now c.requires.place v in
-    let rest_is = nodes_stay g0 g2 c.args.rest.now.codes.now g02 c.requires.rest v in
+    let j_is = g01.code c.args.rest.now.place.now c.requires.place v in
+    let rest_is = nodes_stay g0 g1 c.args.rest.now.codes.now g01 c.requires.rest v in
     let rest = part_of c.args.rest.now.ahead (node g0 v c.args.rest.now.place.now) (nodes g0 v c.args.rest.now.codes.now) in
-    let so_far = and_then o (run (slice_index_or es x Id)) in
-    let one = c.in_ok-one.ensures.stands v o h in
-    let two = subst (λ n. StandsFor table (state_of (circuit_meanings g2) v c.in_ok-two.two) (and_then so_far (run (slice_index_or es n Id)))) y_is (c.in_ok-two.ensures.stands v so_far one) in
-    let ran = and_then so_far (run (slice_index_or es y Id)) in
-    subst (StandsFor table (state_of (circuit_meanings c.run_part.new.sym) v made)) ((λ t. and_then ran (outcome es (part_of c.args.rest.now.ahead (j_is t) (rest_is t)))) ∙ two_more es x y rest o) (stands v ran two)) c.run_part.ensures.stands)
-
-pub returns-in_err-two-clause-grows : goal.returns-in_err-two-clause-grows
-returns-in_err-two-clause-grows c = c.run_place.ensures.grows >> c.run_place-2.ensures.grows
+    let ran = and_then (and_then o (run (slice_index_or es x Id))) (run (slice_index_or es y Id)) in
+    let two = c.in_ok-two.ensures.stands v o h in
+    subst (StandsFor table (state_of (circuit_meanings c.run_plan.new.sym) v made)) ((λ t. and_then ran (outcome es (part_of c.args.rest.now.ahead (j_is t) (rest_is t)))) ∙ two_more es x y rest o) (stands v ran two)) c.run_plan.ensures.stands
 
 pub returns-clause-grows : goal.returns-clause-grows
-returns-clause-grows c = c.run_place.ensures.grows >> c.run_place-2.ensures.grows >> c.run_part.ensures.grows
+returns-clause-grows c = c.run_fork.ensures.grows >> c.run_plan.ensures.grows
