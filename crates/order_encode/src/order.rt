@@ -15,7 +15,7 @@ ghost use Rattle.sym_run.specs.Wires.{circuit_meanings};
 ghost use Rattle.order_circuit.specs.Codes.{node, nodes};
 ghost use Rattle.orders.specs.Relation.{Comes};
 ghost use Rattle.order_encode.specs.Asked.{CanShow};
-ghost use Rattle.order_encode.specs.Asking.{IsAsking};
+ghost use Rattle.order_encode.specs.Asking.{AsksOfOrders, IsAsking};
 ghost use Rattle.order_encode.specs.Goals.{EndApart, TellsTree};
 ghost use Rattle.order_encode.specs.Witnesses.{HaveDifferentOutcomes, ShowsDifference};
 ghost use Rattle.order_encode.specs.declared.witness.Witness.{Witness};
@@ -70,6 +70,16 @@ fn goal_of_order(
     Ok(asked)
 }
 
+/// New inputs of a question of order, and what is asked of them.
+fn asked_order(alloc: Global, sym: &mut Sym, plan: &Plan<'_>) -> Result<(Asking, Goal), NoMemory>
+    ensures wire { IfOk result (λ r. r.1.wire.0 < length sym.new) }
+    ensures asks { IfOk result (λ r. AsksOfOrders (map program_of plan.now.programs) plan.now.order plan.now.domain sym.new r.0 r.1.wire) }
+{
+    let asking = order_inputs(alloc, sym, plan.domain, plan.count())?;
+    let asked = goal_of_order(alloc, sym, plan, &asking)?;
+    Ok((asking, asked))
+}
+
 /// Whether two allowed orders have different outcomes from a tree over the domain. The inputs tell one order and a place in
 /// it; the other order is the one with the nodes at that place and the next exchanged.
 pub fn ask_order(
@@ -89,14 +99,14 @@ pub fn ask_order(
     allowed_orders();
     exchanges();
     neighbours();
-    let mut sym = Sym::new(alloc)?;
-    let inputs = order_inputs(alloc, &mut sym, domain, order.count())?;
+    let _nodes = order.count();
     let plan = Plan {
         domain,
         programs,
         order,
     };
-    let asked = goal_of_order(alloc, &mut sym, &plan, &inputs)?;
+    let mut sym = Sym::new(alloc)?;
+    let (inputs, asked) = asked_order(alloc, &mut sym, &plan)?;
     let Asking {
         cells,
         codes,
