@@ -109,11 +109,17 @@ fn commute_behind_folders(
 ) -> Result<bool, NoMemory>
     ensures { IfOk result (λ told. IsTrue told → SwapFrom (TreeWith folders.now) (runs es.now) (runs fs.now)) }
 {
-    let left = divide(alloc, es)?;
-    let right = divide(alloc, fs)?;
-    match folders_behind(alloc, folders, &left, &right)? {
+    let divided = divide(alloc, es)?;
+    let others = divide(alloc, fs)?;
+    let left = divided.get();
+    let right = others.get();
+    match folders_behind(alloc, folders, left, right)? {
         None => Ok(false),
-        Some(behind) => commute_with(alloc, depth, &behind, &left.rest, &right.rest),
+        Some(behind) => {
+            let rest = left.rest.get();
+            let other = right.rest.get();
+            commute_with(alloc, depth, &behind, rest, other)
+        }
     }
 }
 

@@ -27,18 +27,22 @@ pub(crate) fn folders_behind(
         → CommuteWith behind (program_of left.now.rest) (program_of right.now.rest)
         → SwapFrom (TreeWith folders.now) (runs es) (runs fs))) }
 {
-    if !are_apart(folders, &left.made_print, &right.made_print) {
+    let left_made = left.made_print.get();
+    let right_made = right.made_print.get();
+    let left_rest = left.rest_print.get();
+    let right_rest = right.rest_print.get();
+    if !are_apart(folders, left_made, right_made) {
         return Ok(None);
     }
-    let after_left = joined(alloc, folders, left.made_print.sure())?;
-    if !are_apart(&after_left, &left.rest_print, &right.made_print) {
+    let after_left = joined(alloc, folders, left_made.sure())?;
+    if !are_apart(&after_left, left_rest, right_made) {
         return Ok(None);
     }
-    let after_right = joined(alloc, folders, right.made_print.sure())?;
-    if !are_apart(&after_right, &right.rest_print, &left.made_print) {
+    let after_right = joined(alloc, folders, right_made.sure())?;
+    if !are_apart(&after_right, right_rest, left_made) {
         return Ok(None);
     }
-    let behind = joined(alloc, &after_left, right.made_print.sure())?;
+    let behind = joined(alloc, &after_left, right_made.sure())?;
     prints();
     Ok(Some(behind))
 }

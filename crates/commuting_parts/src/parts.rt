@@ -108,16 +108,19 @@ fn parts_are_apart(
     if !same_steps(shared.as_slice(), others.as_slice()) {
         return Ok(false);
     }
-    let print = print_of_steps(alloc, shared)?;
-    if !steps_are_apart(alloc, folders, own.as_slice(), &print)? {
+    let of_shared = print_of_steps(alloc, shared)?;
+    let print = of_shared.get();
+    if !steps_are_apart(alloc, folders, own.as_slice(), print)? {
         return Ok(false);
     }
-    if !steps_are_apart(alloc, folders, other.as_slice(), &print)? {
+    if !steps_are_apart(alloc, folders, other.as_slice(), print)? {
         return Ok(false);
     }
-    let own = print_of_steps(alloc, own)?;
-    let other = print_of_steps(alloc, other)?;
-    Ok(all_apart(folders, &own, &other, &print))
+    let of_own = print_of_steps(alloc, own)?;
+    let of_other = print_of_steps(alloc, other)?;
+    let left = of_own.get();
+    let right = of_other.get();
+    Ok(all_apart(folders, left, right, print))
 }
 
 /// Whether each two of the three are apart.

@@ -1,4 +1,4 @@
-use Rattle.std.proofs.Common.{ap, sym, subst, ◌∙◌}
+use Rattle.std.proofs.Common.{ap, sym, subst, subst₂, ◌∙◌}
 use Rattle.std.specs.Prelude.{IsTrue, IfSome, List}
 use Rattle.std.specs.BTreeSet.{BTreeSet}
 use Rattle.std.proofs.lemmas.Result.{IfOk-weaker}
@@ -27,11 +27,16 @@ choice_commutes-returns t c =
 pub commute_behind_folders-returns : goal.commute_behind_folders-returns
 commute_behind_folders-returns t c =
     let folders = c.args.folders.now in
-    let l = c.in_ok-left.left in
-    let r = c.in_ok-right.right in
+    let es = c.args.es.now in
+    let fs = c.args.fs.now in
+    let l = c.get-left.result.now in
+    let r = c.get-right.result.now in
     let Behind : BTreeSet Path → Type 0 = λ behind. (es fs : List Program) → IsDivided es l → IsDivided fs r
     → CommuteWith behind (program_of l.rest) (program_of r.rest) → SwapFrom (TreeWith folders) (runs es) (runs fs) in
+    let Commute : Program → Program → Type 0 = λ x y. CommuteWith c.in-Some.behind (program_of x) (program_of y) in
     let found = subst (λ o. IfSome o Behind) c.in-Some.is c.in_ok-folders_behind.ensures in
-    IfOk-weaker c.commute_with.result (λ told. IsTrue told → CommuteWith c.in-Some.behind (program_of l.rest) (program_of r.rest))
-    (λ told. IsTrue told → SwapFrom (TreeWith folders) (runs c.args.es.now) (runs c.args.fs.now))
-    (λ told commute h. found c.args.es.now c.args.fs.now c.in_ok-left.ensures c.in_ok-right.ensures (commute h)) c.commute_with.ensures
+    let left = subst (IsDivided es) (sym c.get-left.ensures) c.in_ok-divided.ensures in
+    let right = subst (IsDivided fs) (sym c.get-right.ensures) c.in_ok-others.ensures in
+    IfOk-weaker c.commute_with.result (λ told. IsTrue told → Commute c.get-rest.result.now c.get-other.result.now)
+    (λ told. IsTrue told → SwapFrom (TreeWith folders) (runs es) (runs fs))
+    (λ told commute h. found es fs left right (subst₂ Commute c.get-rest.ensures c.get-other.ensures (commute h))) c.commute_with.ensures

@@ -1,16 +1,17 @@
-use Rattle.std.proofs.Common.{ap, sym, subst₂, ◌∙◌}
+use Rattle.std.proofs.Common.{ap, sym, subst, subst₂, ◌∙◌}
 use Rattle.fs_lang.specs.Meaning.{programs_in}
 use Rattle.effect_sets.specs.Members.{members}
-use Rattle.commuting_parts.specs.Prints.{AreApartIn}
+use Rattle.commuting_parts.specs.Prints.{AreApartIn, IsPrintOf}
+use Rattle.commuting_parts.specs.Parts.{part}
 use Rattle.commuting_parts.proofs.PartLaws.{each_apart}
 use Rattle.commuting_parts.proofs.parts.parts_are_apart.Goals as goal
 
 pub returns : goal.returns
 returns c h =
     let folders = c.args.folders.now in
-    let own = c.in_ok-own.ensures in
-    let other = c.in_ok-other.ensures in
-    let shared = c.in_ok-print.ensures in
+    let own = subst (IsPrintOf (part c.args.left.own)) (sym c.get-left.ensures) c.in_ok-of_own.ensures in
+    let other = subst (IsPrintOf (part c.args.right.own)) (sym c.get-right.ensures) c.in_ok-of_other.ensures in
+    let shared = subst (IsPrintOf (part c.args.left.shared)) (sym c.get-print.ensures) c.in_ok-of_shared.ensures in
     record {
       same = sym (ap programs_in c.as_slice.ensures) ∙ c.same_steps.ensures c.if-not-same_steps.false ∙ ap programs_in c.as_slice-2.ensures;
       proper = shared.proper;
