@@ -1,7 +1,6 @@
 //! Fourteen hosts whose catalogs Puppet compiled: what is told of each, alone and with a listing and assumptions.
 
 use crate::common::{Told, compare, run_over};
-use crate::workloads::is_well;
 use std::alloc::Global;
 use std::process::Abort;
 use std::test::Fail;
@@ -184,17 +183,13 @@ const REFUSED: [Refused; 20] = [
     ),
 ];
 
-fn all_refused(rt: &(impl Abort + AllocGlobal), rows: &[Refused]) -> Result<(), Fail> {
-    for (catalog, words, assumed, line) in rows {
-        let told = asked(rt.alloc(), *words, *catalog, *assumed)?;
-        compare(rt, &told, 4, "", *line, *line);
-    }
-    Ok(())
-}
-
 #[test]
 fn what_is_refused_first(rt: HostRuntime) -> Result<(), Fail> {
-    all_refused(&rt, &REFUSED)
+    for (catalog, words, assumed, line) in REFUSED {
+        let told = asked(rt.alloc(), words, catalog, assumed)?;
+        compare(&rt, &told, 4, "", line, line);
+    }
+    Ok(())
 }
 
 /// A catalog, what is asked, what is assumed, and the first lines of a yes.
@@ -276,17 +271,20 @@ const ANSWERED: [Answered; 14] = [
     (host::WEBROOT_EPP, LISTED, "", "resources 8\npruned 8\n"),
 ];
 
-fn all_answered(rt: &(impl Abort + AllocGlobal), rows: &[Answered]) -> Result<(), Fail> {
-    for (catalog, words, assumed, head) in rows {
-        let told = asked(rt.alloc(), *words, *catalog, *assumed)?;
-        is_well(rt, &told, *head);
-    }
-    Ok(())
-}
-
 #[test]
 fn what_is_answered(rt: HostRuntime) -> Result<(), Fail> {
-    all_answered(&rt, &ANSWERED)
+    for (catalog, words, assumed, head) in ANSWERED {
+        let told = asked(rt.alloc(), words, catalog, assumed)?;
+        let rest = told.out.as_str().strip_prefix(head).unwrap_or("?");
+        assert_eq!(rt;
+            rest,
+            "deterministic\nidempotent\nsucceeds from some tree\n",
+            "{head}"
+        );
+        assert_eq!(rt; told.status, 0, "{head}");
+        assert_eq!(rt; told.err.as_str(), "", "{head}");
+    }
+    Ok(())
 }
 
 /// Where the host's line does nothing, the empty tree shows that either file may come ahead of the package that brings /etc.
@@ -304,36 +302,25 @@ fn a_file_ahead_of_its_folder(rt: HostRuntime) -> Result<(), Fail> {
     Ok(())
 }
 
-/// Each row: a catalog, and a line of its graph.
-fn all_before(rt: &(impl Abort + AllocGlobal), rows: &[(&str, &str)]) -> Result<(), Fail> {
-    for (catalog, line) in rows {
-        let told = asked(
-            rt.alloc(),
-            &["--ask", "graph", "--compiled", "host"],
-            *catalog,
-            "",
-        )?;
-        assert!(rt; told.out.as_str().contains(*line), "{line}");
-        assert_eq!(rt; told.status, 0, "{line}");
-    }
-    Ok(())
-}
-
 /// An alias is found, and so is what a link leads to.
 #[test]
 fn what_comes_before(rt: HostRuntime) -> Result<(), Fail> {
-    all_before(
-        &rt,
-        &[
-            (
-                host::VIRTUAL_EXPORTED,
-                "\nFile[/srv/data] -> File[/srv/data/x]\n",
-            ),
-            (host::VIRTUAL_EXPORTED, "\nGroup[postgres] -> User[dba]\n"),
-            (
-                host::NGINX_PROFILE,
-                "\nFile[/etc/nginx/sites-available/app] -> File[/etc/nginx/sites-enabled/app]\n",
-            ),
-        ],
-    )
+    let rows: [(&str, &str); 3] = [
+        (
+            host::VIRTUAL_EXPORTED,
+            "\nFile[/srv/data] -> File[/srv/data/x]\n",
+        ),
+        (host::VIRTUAL_EXPORTED, "\nGroup[postgres] -> User[dba]\n"),
+        (
+            host::NGINX_PROFILE,
+            "\nFile[/etc/nginx/sites-available/app] -> File[/etc/nginx/sites-enabled/app]\n",
+        ),
+    ];
+    let words: &[&str] = &["--ask", "graph", "--compiled", "host"];
+    for (catalog, line) in rows {
+        let told = asked(rt.alloc(), words, catalog, "")?;
+        assert!(rt; told.out.as_str().contains(line), "{line}");
+        assert_eq!(rt; told.status, 0, "{line}");
+    }
+    Ok(())
 }
