@@ -13,7 +13,9 @@ use fs_lang::{Path, Program, Test};
 use model_attributes::{begins, text_at};
 use model_names::{Model, is_reserved, spelled, text_or, unless_reserved};
 use model_semantics::{Ensure, FileState, ModelFault};
-use model_words::{branching, copied, creation, dir, is_file, is_taken, linked, push, put, removal};
+use model_words::{
+    branching, copied, creation, dir, is_file, is_taken, linked, push, put, removal,
+};
 use pp_value::Pairs;
 use rh_base::{Boxed, NoMemory, Seq, Text};
 use std::alloc::Global;
