@@ -1,6 +1,6 @@
 //! Catalogs, graphs and programs that are asked for, over the files beside a manifest.
 
-use crate::common::{ONE, TWO, compare, run_over};
+use crate::common::{ONE, TWO, Told, compare_text, run_over};
 use std::alloc::Global;
 use std::process::Abort;
 use std::test::Fail;
@@ -8,13 +8,13 @@ use std::test::Fail;
 const NTP: &str =
     "class ntp($servers = ['a', 'b']) { package { 'ntp': ensure => installed } file { '/etc/ntp.conf': ensure => file, owner => 'root', mode => '0644', content => \"servers ${servers}\\n\", require => Package['ntp'] } service { 'ntp': ensure => running, enable => true, subscribe => File['/etc/ntp.conf'] } } include ntp";
 
-const LISTING: &str =
-    r#"{"version":1,"packages":{"ntp":{"files":["/etc/ntp.conf","/lib/systemd/system/ntp.service"],"folders":[]}}}"#;
+const LISTING: &[u8] =
+    br#"{"version":1,"packages":{"ntp":{"files":["/etc/ntp.conf","/lib/systemd/system/ntp.service"],"folders":[]}}}"#;
 
-const FACTS: &str = r#"{"os":{"family":"Debian"},"load":0.5}"#;
+const FACTS: &[u8] = br#"{"os":{"family":"Debian"},"load":0.5}"#;
 
-const DATA: &str =
-    r#"{"levels":[{"when":{"os":{"family":"debian"}},"values":{"ntp::servers":["c"]}}]}"#;
+const DATA: &[u8] =
+    br#"{"levels":[{"when":{"os":{"family":"debian"}},"values":{"ntp::servers":["c"]}}]}"#;
 
 /// What is told of two resources that pruning keeps.
 const NONE_PRUNED: &str =
@@ -351,67 +351,64 @@ const REFUSED: [Row; 18] = [
     ),
 ];
 
-const SHARED: &str = r#"{"version":1,"packages":{"ntp":{"files":["/etc/ntp.conf"],"folders":[]}}}"#;
+const SHARED: &[u8] =
+    br#"{"version":1,"packages":{"ntp":{"files":["/etc/ntp.conf"],"folders":[]}}}"#;
 
-const DOCS: &str =
-    r#"{"version":1,"packages":{"x":{"files":["/usr/share/doc/x"],"folders":[]},"y":{"files":["/usr/share/doc/y"],"folders":[]}}}"#;
+const DOCS: &[u8] =
+    br#"{"version":1,"packages":{"x":{"files":["/usr/share/doc/x"],"folders":[]},"y":{"files":["/usr/share/doc/y"],"folders":[]}}}"#;
 
-const OPT: &str = r#"{"version":1,"packages":{"p":{"files":[],"folders":["/opt/p"]}}}"#;
+const OPT: &[u8] = br#"{"version":1,"packages":{"p":{"files":[],"folders":["/opt/p"]}}}"#;
 
-const TREE: &str =
-    r#"{"/.rehearsal":null,"/.rehearsal/package":null,"/.rehearsal/package/p":"","/opt":null,"/opt/p":null,"/opt/p/z":"q"}"#;
+const TREE: &[u8] =
+    br#"{"/.rehearsal":null,"/.rehearsal/package":null,"/.rehearsal/package/p":"","/opt":null,"/opt/p":null,"/opt/p/z":"q"}"#;
 
-const ALIKE: &str =
-    r#"{"version":2,"packages":{"a":{"files":[["/opt/x","d1"]],"folders":[]},"b":{"files":[["/opt/x","d1"]],"folders":[]}}}"#;
+const ALIKE: &[u8] =
+    br#"{"version":2,"packages":{"a":{"files":[["/opt/x","d1"]],"folders":[]},"b":{"files":[["/opt/x","d1"]],"folders":[]}}}"#;
 
-/// The files beside a manifest.
-const BESIDE: [(&str, &str); 16] = [
-    ("facts", FACTS),
-    ("data", DATA),
-    ("listing", LISTING),
-    ("shared", SHARED),
-    ("docs", DOCS),
-    ("none", "[1]"),
-    ("third", r#"{"version":3,"packages":{}}"#),
-    ("opt", OPT),
-    ("alike", ALIKE),
-    ("tree", TREE),
-    ("link", r#"{"/a":{"link":"/b"}}"#),
-    ("hanging", r#"{"/a/b":null}"#),
-    ("missing", r#"["File[/x]"]"#),
-    ("turned", r#"["File[/b]","File[/a]"]"#),
-    ("conf", r#"["File[/etc/ntp.conf]","Package[ntp]"]"#),
-    ("packed", r#"["Package[ntp]","File[/etc/ntp.conf]"]"#),
-];
+/// What words give over a manifest and the files beside it.
+fn told_of(alloc: Global, words: &[&str], manifest: &str) -> Result<Told, Fail> {
+    let over: [(&str, &[u8]); 17] = [
+        ("site.pp", manifest.as_bytes()),
+        ("facts", FACTS),
+        ("data", DATA),
+        ("listing", LISTING),
+        ("shared", SHARED),
+        ("docs", DOCS),
+        ("none", b"[1]"),
+        ("third", br#"{"version":3,"packages":{}}"#),
+        ("opt", OPT),
+        ("alike", ALIKE),
+        ("tree", TREE),
+        ("link", br#"{"/a":{"link":"/b"}}"#),
+        ("hanging", br#"{"/a/b":null}"#),
+        ("missing", br#"["File[/x]"]"#),
+        ("turned", br#"["File[/b]","File[/a]"]"#),
+        ("conf", br#"["File[/etc/ntp.conf]","Package[ntp]"]"#),
+        ("packed", br#"["Package[ntp]","File[/etc/ntp.conf]"]"#),
+    ];
+    run_over(alloc, words, &over)
+}
 
-/// Runs each row over the files beside the manifest.
-fn run_rows(alloc: Global, rt: &impl Abort, rows: &[Row], status: u8) -> Result<(), Fail> {
-    for (words, manifest, told) in rows {
-        let mut over: [(&str, &[u8]); 17] = [("site.pp", manifest.as_bytes()); 17];
-        for i in 0..16 {
-            over[i + 1] = (BESIDE[i].0, BESIDE[i].1.as_bytes());
-        }
-        let ended = run_over(alloc, words, &over)?;
-        if status == 0 {
-            compare(rt, &ended, 0, told, "", manifest);
-        } else {
-            compare(rt, &ended, status, "", told, manifest);
-        }
+/// Each row is told so with status 0, and refused so with another.
+fn all_told(rt: &(impl Abort + AllocGlobal), status: u8, rows: &[Row]) -> Result<(), Fail> {
+    for (words, manifest, text) in rows {
+        let told = told_of(rt.alloc(), *words, *manifest)?;
+        compare_text(rt, &told, status, *text, *manifest);
     }
     Ok(())
 }
 
 #[test]
 fn what_is_asked(rt: HostRuntime) -> Result<(), Fail> {
-    run_rows(rt.alloc(), &rt, &ROWS, 0)
+    all_told(&rt, 0, &ROWS)
 }
 
 #[test]
 fn outcomes_of_runs(rt: HostRuntime) -> Result<(), Fail> {
-    run_rows(rt.alloc(), &rt, &RUNS, 0)
+    all_told(&rt, 0, &RUNS)
 }
 
 #[test]
 fn what_is_refused(rt: HostRuntime) -> Result<(), Fail> {
-    run_rows(rt.alloc(), &rt, &REFUSED, 4)
+    all_told(&rt, 4, &REFUSED)
 }

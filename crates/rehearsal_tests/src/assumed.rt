@@ -1,7 +1,7 @@
 //! What is assumed of the resources of a compiled catalog: what is told of it, and which texts of it are refused.
 
-use crate::common::compare;
-use crate::compiled::{MOTD, Res, asked, catalog};
+use crate::common::{Told, compare_status};
+use crate::compiled::{Differing, MOTD, Res, all_differ, asked, catalog, is_refused, is_told};
 use std::alloc::Global;
 use std::process::Abort;
 use std::test::Fail;
@@ -101,7 +101,7 @@ const EDITS: &str = r#"{"version":1,"resources":{"File_line":{"edits":["/etc/hos
 
 const NOTHING: &str = r#"{"version":1,"resources":{}}"#;
 
-/// The words, the resources, what is assumed, and what is told with status 0.
+/// The words, the resources, what is assumed, and what is told with status 0 or refused.
 type Row = (
     &'static [&'static str],
     &'static [Res],
@@ -333,31 +333,37 @@ const ROWS: [Row; 25] = [
     ),
 ];
 
-#[test]
-fn what_is_told_where_something_is_assumed(rt: HostRuntime) -> Result<(), Fail> {
-    for (words, all, assumed, report) in ROWS {
-        let text = catalog(rt.alloc(), all, &[])?;
-        let told = asked(rt.alloc(), words, text.as_str(), assumed)?;
-        compare(&rt, &told, 0, report, "", assumed);
+/// Each row is told so.
+fn all_told(rt: &(impl Abort + AllocGlobal), rows: &[Row]) -> Result<(), Fail> {
+    for (words, all, assumed, report) in rows {
+        let text = catalog(rt.alloc(), *all, &[])?;
+        is_told(rt, *words, text.as_str(), *assumed, *report, *assumed)?;
     }
     Ok(())
 }
 
-/// Resources and what is assumed, and the lines in front of the tree.
-const DIFFER: [(&[Res], &str, &str); 3] = [
+#[test]
+fn what_is_told_where_something_is_assumed(rt: HostRuntime) -> Result<(), Fail> {
+    all_told(&rt, &ROWS)
+}
+
+const DIFFER: [Differing; 3] = [
     (
+        VERIFY,
         &[HOSTS, ("File_line", "db", r#""line":"db""#, "")],
         EDITS,
         "resources 2\nassumed 1\npruned 0\nnot deterministic\n",
     ),
     // One needs what the other makes.
     (
+        VERIFY,
         &[EXEC, ("File", "/opt/x", r#""content":"x""#, "")],
         r#"{"version":1,"resources":{"Exec":{"needs":["/opt/x"]}}}"#,
         "resources 2\nassumed 1\npruned 0\nnot deterministic\n",
     ),
     // Both make one file.
     (
+        VERIFY,
         &[EXEC, ("Exec", "f", r#""command":"/bin/e""#, "")],
         r#"{"version":1,"resources":{"Exec":{"makes":["/opt/x"]}}}"#,
         "resources 2\nassumed 2\npruned 0\nnot deterministic\n",
@@ -366,13 +372,7 @@ const DIFFER: [(&[Res], &str, &str); 3] = [
 
 #[test]
 fn orders_that_matter(rt: HostRuntime) -> Result<(), Fail> {
-    for (all, assumed, head) in DIFFER {
-        let text = catalog(rt.alloc(), all, &[])?;
-        let told = asked(rt.alloc(), VERIFY, text.as_str(), assumed)?;
-        assert_eq!(rt; told.status, 1, "{head}");
-        assert!(rt; told.out.as_str().starts_with(head), "{assumed}");
-    }
-    Ok(())
+    all_differ(&rt, &DIFFER)
 }
 
 /// Texts of no assumptions.
@@ -405,21 +405,29 @@ const TEXTS: [&str; 25] = [
     r#"{"version":1,"resources":{"Nothing[x]":{"needs":[7]}}}"#,
 ];
 
+/// Each of these texts is refused beside this catalog.
+fn texts_are_refused(
+    rt: &(impl Abort + AllocGlobal),
+    catalog: &str,
+    texts: &[&str],
+) -> Result<(), Fail> {
+    for text in texts {
+        is_refused(rt, VERIFY, catalog, *text, "66 at 0: assume", *text)?;
+    }
+    Ok(())
+}
+
 #[test]
 fn texts_of_no_assumptions(rt: HostRuntime) -> Result<(), Fail> {
     let catalog = catalog(rt.alloc(), &[MOTD], &[])?;
-    for text in TEXTS {
-        let told = asked(rt.alloc(), VERIFY, catalog.as_str(), text)?;
-        compare(&rt, &told, 4, "", "refused 66 at 0: assume\n", text);
-    }
-    Ok(())
+    texts_are_refused(&rt, catalog.as_str(), &TEXTS)
 }
 
 /// Where a resource is declared.
 const AT: &str = r#","file":"/m/a.pp","line":7"#;
 
 /// The words, the resources, what is assumed, and the refusal.
-const REFUSED: [(&[&str], &[Res], &str, &str); 12] = [
+const REFUSED: [Row; 12] = [
     (
         VERIFY,
         &[("Exec", "e", "", AT)],
@@ -540,25 +548,56 @@ const REFUSED: [(&[&str], &[Res], &str, &str); 12] = [
     (HELD, &[HOSTS, HOSTS], EDITS, "65 at 0: compiled"),
 ];
 
-fn is_refused(
-    alloc: Global,
-    rt: &impl Abort,
-    words: &[&str],
-    all: &[Res],
-    assumed: &str,
-    line: &str,
-) -> Result<(), Fail> {
-    let text = catalog(alloc, all, &[])?;
-    let told = asked(alloc, words, text.as_str(), assumed)?;
-    let err = format!(in alloc; "refused {line}\n")?;
-    compare(rt, &told, 4, "", err.as_str(), text.as_str());
+/// Each row is refused so.
+fn all_refused(rt: &(impl Abort + AllocGlobal), rows: &[Row]) -> Result<(), Fail> {
+    for (words, all, assumed, line) in rows {
+        let text = catalog(rt.alloc(), *all, &[])?;
+        is_refused(rt, *words, text.as_str(), *assumed, *line, text.as_str())?;
+    }
     Ok(())
 }
 
 #[test]
 fn what_is_refused_where_something_is_assumed(rt: HostRuntime) -> Result<(), Fail> {
-    for (words, all, assumed, line) in REFUSED {
-        is_refused(rt.alloc(), &rt, words, all, assumed, line)?;
+    all_refused(&rt, &REFUSED)
+}
+
+/// A resource with a title of so many bytes: `Exec[` and `]` are six more.
+fn with_title(alloc: Global, length: usize) -> Result<String, Fail> {
+    let title = "x".repeat(alloc, length)?;
+    Ok(format!(in alloc;
+        r#"{{"catalog_format":2,"resources":[{{"type":"Exec","title":"{}","kind":"compilable_type"}}],"edges":[]}}"#,
+        title.as_str()
+    )?)
+}
+
+/// Whether the reference is refused.
+fn names_reference(rt: &impl Abort, told: &Told, want: bool, row: &str) {
+    assert_eq!(rt;
+        told.err.as_str().contains("52 at 0: Exec[x"),
+        want,
+        "{row}"
+    );
+}
+
+/// This is told with the status, and with status 4 the reference is refused.
+fn is_long(
+    rt: &(impl Abort + AllocGlobal),
+    catalog: &str,
+    assumed: &str,
+    status: u8,
+) -> Result<(), Fail> {
+    let told = asked(rt.alloc(), VERIFY, catalog, assumed)?;
+    compare_status(rt, &told, status, assumed);
+    names_reference(rt, &told, status == 4, assumed);
+    Ok(())
+}
+
+/// Each row: how long a title is, what is assumed, and the status.
+fn all_long(rt: &(impl Abort + AllocGlobal), rows: &[(usize, &str, u8)]) -> Result<(), Fail> {
+    for (length, assumed, status) in rows {
+        let text = with_title(rt.alloc(), *length)?;
+        is_long(rt, text.as_str(), *assumed, *status)?;
     }
     Ok(())
 }
@@ -566,53 +605,29 @@ fn what_is_refused_where_something_is_assumed(rt: HostRuntime) -> Result<(), Fai
 /// A reference of so many bytes names a file of its own, where the resource makes or edits something.
 #[test]
 fn references_that_are_long(rt: HostRuntime) -> Result<(), Fail> {
-    let rows: [(usize, &str, u8); 4] = [
-        (
-            249,
-            r#"{"version":1,"resources":{"Exec":{"makes":["/x"]}}}"#,
-            0,
-        ),
-        (
-            250,
-            r#"{"version":1,"resources":{"Exec":{"makes":["/x"]}}}"#,
-            4,
-        ),
-        (
-            250,
-            r#"{"version":1,"resources":{"Exec":{"edits":["/x"]}}}"#,
-            4,
-        ),
-        (
-            250,
-            r#"{"version":1,"resources":{"Exec":{"makes":[],"removes":["/x"]}}}"#,
-            0,
-        ),
-    ];
-    for (length, assumed, status) in rows {
-        is_long(rt.alloc(), &rt, length, assumed, status)?;
-    }
-    Ok(())
-}
-
-/// A resource with a title of so many bytes: `Exec[` and `]` are six more.
-fn is_long(
-    alloc: Global,
-    rt: &impl Abort,
-    length: usize,
-    assumed: &str,
-    status: u8,
-) -> Result<(), Fail> {
-    let title = "x".repeat(alloc, length)?;
-    let text = format!(in alloc;
-        r#"{{"catalog_format":2,"resources":[{{"type":"Exec","title":"{}","kind":"compilable_type"}}],"edges":[]}}"#,
-        title.as_str()
-    )?;
-    let told = asked(alloc, VERIFY, text.as_str(), assumed)?;
-    assert_eq!(rt; told.status, status, "{length} {assumed}");
-    assert_eq!(rt;
-        told.err.as_str().contains("52 at 0: Exec[x"),
-        status == 4,
-        "{length} {assumed}"
-    );
-    Ok(())
+    all_long(
+        &rt,
+        &[
+            (
+                249,
+                r#"{"version":1,"resources":{"Exec":{"makes":["/x"]}}}"#,
+                0,
+            ),
+            (
+                250,
+                r#"{"version":1,"resources":{"Exec":{"makes":["/x"]}}}"#,
+                4,
+            ),
+            (
+                250,
+                r#"{"version":1,"resources":{"Exec":{"edits":["/x"]}}}"#,
+                4,
+            ),
+            (
+                250,
+                r#"{"version":1,"resources":{"Exec":{"makes":[],"removes":["/x"]}}}"#,
+                0,
+            ),
+        ],
+    )
 }

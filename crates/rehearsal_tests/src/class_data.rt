@@ -1,7 +1,8 @@
 //! Parameters of classes, from data by levels, from what is given, and from their defaults.
 
-use crate::common::{Told, compare, run_over};
+use crate::common::{Told, compare_text, run_over};
 use std::alloc::Global;
+use std::process::Abort;
 use std::test::Fail;
 
 /// A level for machines in production, and one for all.
@@ -80,20 +81,21 @@ fn told_of(alloc: Global, words: &[&str], manifest: &str) -> Result<Told, Fail> 
     run_over(alloc, words, &over)
 }
 
-#[test]
-fn parameters_of_classes(rt: HostRuntime) -> Result<(), Fail> {
-    for (words, manifest, report) in ROWS {
-        let told = told_of(rt.alloc(), words, manifest)?;
-        compare(&rt, &told, 0, report, "", manifest);
+/// Each row is told so with status 0, and refused so with another.
+fn all_told(rt: &(impl Abort + AllocGlobal), status: u8, rows: &[Row]) -> Result<(), Fail> {
+    for (words, manifest, text) in rows {
+        let told = told_of(rt.alloc(), *words, *manifest)?;
+        compare_text(rt, &told, status, *text, *manifest);
     }
     Ok(())
 }
 
 #[test]
+fn parameters_of_classes(rt: HostRuntime) -> Result<(), Fail> {
+    all_told(&rt, 0, &ROWS)
+}
+
+#[test]
 fn data_that_are_refused(rt: HostRuntime) -> Result<(), Fail> {
-    for (words, manifest, line) in REFUSED {
-        let told = told_of(rt.alloc(), words, manifest)?;
-        compare(&rt, &told, 4, "", line, manifest);
-    }
-    Ok(())
+    all_told(&rt, 4, &REFUSED)
 }

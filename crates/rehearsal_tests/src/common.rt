@@ -129,3 +129,40 @@ pub fn compare(rt: &impl Abort, told: &Told, status: u8, out: &str, err: &str, r
     assert_eq!(rt; told.err.as_str(), err, "{row}");
     assert_eq!(rt; told.status, status, "{row}");
 }
+
+/// Compares what was told with one text: with status 0 the report, and with another the line on err.
+pub fn compare_text(rt: &impl Abort, told: &Told, status: u8, text: &str, row: &str) {
+    if status == 0 {
+        compare(rt, told, 0, text, "", row);
+    } else {
+        compare(rt, told, status, "", text, row);
+    }
+}
+
+/// Compares what was told with a refusal: the line on err without its first word.
+pub fn compare_refusal(
+    rt: &(impl Abort + AllocGlobal),
+    told: &Told,
+    line: &str,
+    row: &str,
+) -> Result<(), Fail> {
+    let err = format!(in rt.alloc(); "refused {line}\n")?;
+    compare(rt, told, 4, "", err.as_str(), row);
+    Ok(())
+}
+
+/// Compares the status.
+pub fn compare_status(rt: &impl Abort, told: &Told, status: u8, row: &str) {
+    assert_eq!(rt; told.status, status, "{row}");
+}
+
+/// Compares what stands on err.
+pub fn compare_err(rt: &impl Abort, told: &Told, err: &str, row: &str) {
+    assert_eq!(rt; told.err.as_str(), err, "{row}");
+}
+
+/// Compares what was told with a status and the lines in front of the report.
+pub fn compare_head(rt: &impl Abort, told: &Told, status: u8, head: &str, row: &str) {
+    compare_status(rt, told, status, row);
+    assert!(rt; told.out.as_str().starts_with(head), "{row}");
+}

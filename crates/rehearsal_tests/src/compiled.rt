@@ -1,6 +1,6 @@
 //! Catalogs that Puppet compiled, in place of manifests: what is told of them.
 
-use crate::common::{NONE, ONE, TWO, Told, compare, run_over};
+use crate::common::{NONE, ONE, TWO, Told, compare, compare_head, compare_refusal, run_over};
 use std::alloc::Global;
 use std::process::Abort;
 use std::test::Fail;
@@ -23,13 +23,20 @@ fn resource(alloc: Global, r: &Res) -> Result<String, Fail> {
     )?)
 }
 
+/// Adds one behind those of a list in JSON.
+pub fn push_listed(list: &mut String, one: &str) -> Result<(), Fail> {
+    if !list.is_empty() {
+        list.push(',')?;
+    }
+    list.push_str(one)?;
+    Ok(())
+}
+
 fn resources(alloc: Global, all: &[Res]) -> Result<String, Fail> {
     let mut text = String::new(alloc);
     for r in all {
-        if !text.is_empty() {
-            text.push(',')?;
-        }
-        text.push_str(resource(alloc, r)?.as_str())?;
+        let one = resource(alloc, r)?;
+        push_listed(&mut text, one.as_str())?;
     }
     Ok(text)
 }
@@ -42,10 +49,8 @@ fn edge(alloc: Global, e: &Edge) -> Result<String, Fail> {
 fn edges(alloc: Global, all: &[Edge]) -> Result<String, Fail> {
     let mut text = String::new(alloc);
     for e in all {
-        if !text.is_empty() {
-            text.push(',')?;
-        }
-        text.push_str(edge(alloc, e)?.as_str())?;
+        let one = edge(alloc, e)?;
+        push_listed(&mut text, one.as_str())?;
     }
     Ok(text)
 }
@@ -83,6 +88,33 @@ pub fn asked<'a>(
     run_over(alloc, words, &over)
 }
 
+/// Words over the text of a compiled catalog, and what is assumed, are told so with status 0.
+pub fn is_told(
+    rt: &(impl Abort + AllocGlobal),
+    words: &[&str],
+    catalog: &str,
+    assumed: &str,
+    report: &str,
+    row: &str,
+) -> Result<(), Fail> {
+    let told = asked(rt.alloc(), words, catalog, assumed)?;
+    compare(rt, &told, 0, report, "", row);
+    Ok(())
+}
+
+/// Words over the text of a compiled catalog, and what is assumed, are refused so.
+pub fn is_refused(
+    rt: &(impl Abort + AllocGlobal),
+    words: &[&str],
+    catalog: &str,
+    assumed: &str,
+    line: &str,
+    row: &str,
+) -> Result<(), Fail> {
+    let told = asked(rt.alloc(), words, catalog, assumed)?;
+    compare_refusal(rt, &told, line, row)
+}
+
 pub const VERIFY: &[&str] = &["--compiled", "c", "--packages", "listing"];
 
 const GIVEN: &[&str] = &["--compiled", "c", "--packages", "listing", "--given", "etc"];
@@ -111,6 +143,17 @@ const EXPLAIN: &[&str] = &[
     "explain",
     "--packages",
     "listing",
+];
+
+const EXPLAIN_LINKED: &[&str] = &[
+    "--compiled",
+    "c",
+    "--packages",
+    "listing",
+    "--given",
+    "lib",
+    "--ask",
+    "explain",
 ];
 
 const ENSURES: &[&str] = &[
@@ -465,39 +508,83 @@ const ROWS: [Row; 24] = [
     ),
 ];
 
-#[test]
-fn what_is_told_of_compiled_catalogs(rt: HostRuntime) -> Result<(), Fail> {
-    for (words, all, held, report) in ROWS {
-        let text = catalog(rt.alloc(), all, held)?;
-        let told = asked(rt.alloc(), words, text.as_str(), "")?;
-        compare(&rt, &told, 0, report, "", text.as_str());
+/// Each row is told so.
+fn all_told(rt: &(impl Abort + AllocGlobal), rows: &[Row]) -> Result<(), Fail> {
+    for (words, all, held, report) in rows {
+        let text = catalog(rt.alloc(), *all, *held)?;
+        is_told(rt, *words, text.as_str(), "", *report, text.as_str())?;
     }
     Ok(())
 }
 
-/// The words, the resources, and the lines in front of the tree.
-const DIFFER: [(&[&str], &[Res], &str); 3] = [
+#[test]
+fn what_is_told_of_compiled_catalogs(rt: HostRuntime) -> Result<(), Fail> {
+    all_told(&rt, &ROWS)
+}
+
+/// The words, the resources, what is assumed, and the lines in front of the tree.
+pub type Differing = (
+    &'static [&'static str],
+    &'static [Res],
+    &'static str,
+    &'static str,
+);
+
+/// Words over the text of a compiled catalog, and what is assumed, are told with status 1 and these lines in front.
+fn differs(
+    rt: &(impl Abort + AllocGlobal),
+    words: &[&str],
+    catalog: &str,
+    assumed: &str,
+    head: &str,
+) -> Result<(), Fail> {
+    let told = asked(rt.alloc(), words, catalog, assumed)?;
+    compare_head(rt, &told, 1, head, catalog);
+    Ok(())
+}
+
+/// Each row is told with status 1.
+pub fn all_differ(rt: &(impl Abort + AllocGlobal), rows: &[Differing]) -> Result<(), Fail> {
+    for (words, all, assumed, head) in rows {
+        let text = catalog(rt.alloc(), *all, &[])?;
+        differs(rt, *words, text.as_str(), *assumed, *head)?;
+    }
+    Ok(())
+}
+
+const DIFFER: [Differing; 3] = [
     (
         VERIFY,
         &[NTP, NTP_CONF, SERVICE],
+        "",
         "resources 3\npruned 1\nnot deterministic\n",
     ),
-    (VERIFY, SHARED, "resources 2\npruned 0\nnot deterministic\n"),
+    (
+        VERIFY,
+        SHARED,
+        "",
+        "resources 2\npruned 0\nnot deterministic\n",
+    ),
     (
         LINKED,
         UNIT,
+        "",
         "resources 2\ngiven 4\npruned 0\nnot deterministic\n",
     ),
 ];
 
 #[test]
 fn orders_that_matter(rt: HostRuntime) -> Result<(), Fail> {
-    for (words, all, head) in DIFFER {
-        let text = catalog(rt.alloc(), all, &[])?;
-        let told = asked(rt.alloc(), words, text.as_str(), "")?;
-        assert_eq!(rt; told.status, 1, "{head}");
-        assert!(rt; told.out.as_str().starts_with(head), "{head}");
-    }
+    all_differ(&rt, &DIFFER)
+}
+
+/// The path at which two orders of this catalog differ is the target of the link.
+fn place_is_told(rt: &(impl Abort + AllocGlobal), catalog: &str) -> Result<(), Fail> {
+    let told = asked(rt.alloc(), EXPLAIN_LINKED, catalog, "")?;
+    assert_eq!(rt; told.status, 1);
+    let (_, at) = told.out.as_str().split_once("\nat ").unwrap_or(("", "?"));
+    let place = "\"/usr/lib/systemd/system/cron.service\": ";
+    assert!(rt; at.starts_with(place), "{at}");
     Ok(())
 }
 
@@ -505,22 +592,7 @@ fn orders_that_matter(rt: HostRuntime) -> Result<(), Fail> {
 #[test]
 fn one_place_under_two_names(rt: HostRuntime) -> Result<(), Fail> {
     let text = catalog(rt.alloc(), UNIT, &[])?;
-    let words = [
-        "--compiled",
-        "c",
-        "--packages",
-        "listing",
-        "--given",
-        "lib",
-        "--ask",
-        "explain",
-    ];
-    let told = asked(rt.alloc(), &words, text.as_str(), "")?;
-    assert_eq!(rt; told.status, 1);
-    let (_, at) = told.out.as_str().split_once("\nat ").unwrap_or(("", "?"));
-    let place = "\"/usr/lib/systemd/system/cron.service\": ";
-    assert!(rt; at.starts_with(place), "{at}");
-    Ok(())
+    place_is_told(&rt, text.as_str())
 }
 
 /// A resource, and how the run ends in which it comes first.
@@ -542,66 +614,62 @@ fn explained(alloc: Global, first: &Run, second: &Run) -> Result<String, Fail> {
     )?)
 }
 
-/// Which order is told first is free.
+/// What was told explains these runs, in this order.
+fn is_explained(
+    rt: &(impl Abort + AllocGlobal),
+    told: &Told,
+    first: &Run,
+    second: &Run,
+) -> Result<(), Fail> {
+    let want = explained(rt.alloc(), first, second)?;
+    compare(rt, told, 1, want.as_str(), "", "lines");
+    Ok(())
+}
+
+/// Both runs of this catalog are explained; which order is told first is free.
+fn runs_are_explained(rt: &(impl Abort + AllocGlobal), catalog: &str) -> Result<(), Fail> {
+    let told = asked(rt.alloc(), EXPLAIN, catalog, "")?;
+    if told.out.as_str().contains("exchanged Package") {
+        is_explained(rt, &told, &PACKAGE_ENDS, &FILE_FAILS)
+    } else {
+        is_explained(rt, &told, &FILE_FAILS, &PACKAGE_ENDS)
+    }
+}
+
 #[test]
 fn explanations_tell_lines(rt: HostRuntime) -> Result<(), Fail> {
     let text = catalog(rt.alloc(), &[NTP, NTP_CONF, SERVICE], &[])?;
-    let told = asked(rt.alloc(), EXPLAIN, text.as_str(), "")?;
-    let (one, other) = if told.out.as_str().contains("exchanged Package") {
-        (PACKAGE_ENDS, FILE_FAILS)
-    } else {
-        (FILE_FAILS, PACKAGE_ENDS)
-    };
-    let want = explained(rt.alloc(), &one, &other)?;
-    compare(&rt, &told, 1, want.as_str(), "", "lines");
-    Ok(())
+    runs_are_explained(&rt, text.as_str())
 }
 
-/// A manifest and what Puppet makes of it: what is told is the same, but for proofs and explanations, which have places.
-#[test]
-fn a_manifest_and_its_catalog(rt: HostRuntime) -> Result<(), Fail> {
-    let all: &[Res] = &[
-        ("Package", "ntp", r#""ensure":"installed""#, ""),
-        (
-            "File",
-            "/etc/ntp.conf",
-            r#""content":"a","require":"Package[ntp]""#,
-            "",
-        ),
-        (
-            "Service",
-            "ntp",
-            r#""ensure":"running","subscribe":"File[/etc/ntp.conf]""#,
-            "",
-        ),
-    ];
-    let manifest =
-        "package { 'ntp': ensure => installed } -> file { '/etc/ntp.conf': content => 'a' } ~> service { 'ntp': ensure => running }";
-    let text = catalog(rt.alloc(), all, &[])?;
-    for ask in ["verify", "proof", "graph", "programs", "replay", "repair"] {
-        is_told_alike(rt.alloc(), &rt, ask, text.as_str(), manifest)?;
-    }
-    Ok(())
-}
+const MANIFEST: &str =
+    "package { 'ntp': ensure => installed } -> file { '/etc/ntp.conf': content => 'a' } ~> service { 'ntp': ensure => running }";
 
-/// With this value of `--ask` the same is told of a compiled catalog and of a manifest.
-fn is_told_alike<'a>(
-    alloc: Global,
-    rt: &impl Abort,
-    ask: &'a str,
-    catalog: &'a str,
-    manifest: &'a str,
-) -> Result<(), Fail> {
+/// What Puppet makes of the manifest.
+const COMPILED: &[Res] = &[
+    ("Package", "ntp", r#""ensure":"installed""#, ""),
+    (
+        "File",
+        "/etc/ntp.conf",
+        r#""content":"a","require":"Package[ntp]""#,
+        "",
+    ),
+    (
+        "Service",
+        "ntp",
+        r#""ensure":"running","subscribe":"File[/etc/ntp.conf]""#,
+        "",
+    ),
+];
+
+/// What words give over a compiled catalog, the manifest and the listing.
+fn told_of(alloc: Global, words: &[&str], catalog: &str) -> Result<Told, Fail> {
     let over: [(&str, &[u8]); 3] = [
         ("c", catalog.as_bytes()),
-        ("site.pp", manifest.as_bytes()),
+        ("site.pp", MANIFEST.as_bytes()),
         ("listing", LISTING.as_bytes()),
     ];
-    let told = run_over(alloc, &words_for(ask, "--compiled", "c"), &over)?;
-    let as_manifest = run_over(alloc, &words_for(ask, "--", "site.pp"), &over)?;
-    let said = as_manifest.out.as_str();
-    compare(rt, &told, 0, said, "", ask);
-    Ok(())
+    run_over(alloc, words, &over)
 }
 
 /// The words that ask this about what the last two name; a graph takes no listing.
@@ -611,4 +679,40 @@ fn words_for<'w>(ask: &'w str, option: &'w str, name: &'w str) -> [&'w str; 6] {
     } else {
         ["--ask", ask, "--packages", "listing", option, name]
     }
+}
+
+/// With this value of `--ask` this is told of a compiled catalog.
+fn catalog_is_told(
+    rt: &(impl Abort + AllocGlobal),
+    ask: &str,
+    catalog: &str,
+    report: &str,
+) -> Result<(), Fail> {
+    let told = told_of(rt.alloc(), &words_for(ask, "--compiled", "c"), catalog)?;
+    compare(rt, &told, 0, report, "", ask);
+    Ok(())
+}
+
+/// With each of these values of `--ask` the same is told of a compiled catalog and of the manifest.
+fn all_told_alike(
+    rt: &(impl Abort + AllocGlobal),
+    catalog: &str,
+    asks: &[&str],
+) -> Result<(), Fail> {
+    for ask in asks {
+        let told = told_of(rt.alloc(), &words_for(*ask, "--", "site.pp"), catalog)?;
+        catalog_is_told(rt, *ask, catalog, told.out.as_str())?;
+    }
+    Ok(())
+}
+
+/// A manifest and what Puppet makes of it: what is told is the same, but for proofs and explanations, which have places.
+#[test]
+fn a_manifest_and_its_catalog(rt: HostRuntime) -> Result<(), Fail> {
+    let text = catalog(rt.alloc(), COMPILED, &[])?;
+    all_told_alike(
+        &rt,
+        text.as_str(),
+        &["verify", "proof", "graph", "programs", "replay", "repair"],
+    )
 }

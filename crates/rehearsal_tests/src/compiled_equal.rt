@@ -1,6 +1,6 @@
 //! Two compiled catalogs each: whether they do the same.
 
-use crate::common::{Told, compare, run_over};
+use crate::common::{Told, compare_err, compare_head, compare_text, run_over};
 use crate::compiled::{MOTD, Res, catalog};
 use std::alloc::Global;
 use std::process::Abort;
@@ -126,20 +126,31 @@ const SAME: [(Row, &str); 6] = [
     ),
 ];
 
-fn of_both(alloc: Global, row: &Row) -> Result<Told, Fail> {
-    let (words, assumed, left, right) = *row;
-    let text = catalog(alloc, left, &[])?;
+/// What is told of the right catalog of a row beside the text of the left one.
+fn beside(alloc: Global, row: &Row, catalog_text: &str) -> Result<Told, Fail> {
+    let (words, assumed, _, right) = *row;
     let other = catalog(alloc, right, &[])?;
-    asked(alloc, words, text.as_str(), other.as_str(), assumed)
+    asked(alloc, words, catalog_text, other.as_str(), assumed)
+}
+
+/// What is told of both catalogs of a row.
+fn of_both(alloc: Global, row: &Row) -> Result<Told, Fail> {
+    let text = catalog(alloc, row.2, &[])?;
+    beside(alloc, row, text.as_str())
+}
+
+/// Each row is told so with status 0, and refused so with another.
+fn all_told(rt: &(impl Abort + AllocGlobal), status: u8, rows: &[(Row, &str)]) -> Result<(), Fail> {
+    for (row, text) in rows {
+        let told = of_both(rt.alloc(), row)?;
+        compare_text(rt, &told, status, *text, *text);
+    }
+    Ok(())
 }
 
 #[test]
 fn compiled_catalogs_that_do_the_same(rt: HostRuntime) -> Result<(), Fail> {
-    for (row, report) in SAME {
-        let told = of_both(rt.alloc(), &row)?;
-        compare(&rt, &told, 0, report, "", report);
-    }
-    Ok(())
+    all_told(&rt, 0, &SAME)
 }
 
 /// What is told with status 10 or 1, ahead of the tree.
@@ -193,15 +204,19 @@ const OTHERWISE: [(Row, u8, &str); 5] = [
     ),
 ];
 
-#[test]
-fn compiled_catalogs_that_do_otherwise(rt: HostRuntime) -> Result<(), Fail> {
-    for (row, status, head) in OTHERWISE {
-        let told = of_both(rt.alloc(), &row)?;
-        assert_eq!(rt; told.status, status, "{head}");
-        assert!(rt; told.out.as_str().starts_with(head), "{head}");
-        assert_eq!(rt; told.err.as_str(), "", "{head}");
+/// Each row is told with its status and these lines in front.
+fn all_differ(rt: &(impl Abort + AllocGlobal), rows: &[(Row, u8, &str)]) -> Result<(), Fail> {
+    for (row, status, head) in rows {
+        let told = of_both(rt.alloc(), row)?;
+        compare_head(rt, &told, *status, *head, *head);
+        compare_err(rt, &told, "", *head);
     }
     Ok(())
+}
+
+#[test]
+fn compiled_catalogs_that_do_otherwise(rt: HostRuntime) -> Result<(), Fail> {
+    all_differ(&rt, &OTHERWISE)
 }
 
 /// Where a resource is declared.
@@ -211,24 +226,24 @@ const AT: &str = r#","file":"/m/a.pp","line":7"#;
 const REFUSED: [(Row, &str); 9] = [
     (
         (ASSUMED, EXECS, &[MOTD, MOTD], &[MOTD, MOTD]),
-        "65 at 0: compiled",
+        "refused 65 at 0: compiled\n",
     ),
     (
         (ASSUMED, EXECS, &[MOTD], &[MOTD, MOTD]),
-        "65 at 0 in other: compiled",
+        "refused 65 at 0 in other: compiled\n",
     ),
     (
         (ASSUMED, EXECS, &[MOTD], &[("Exec", "f", "", AT)]),
-        "50 at 0 in other: Exec[f] (/m/a.pp:7)",
+        "refused 50 at 0 in other: Exec[f] (/m/a.pp:7)\n",
     ),
     (
         (ASSUMED, EXECS, &[("Exec", "f", "", AT)], &[MOTD]),
-        "50 at 0: Exec[f] (/m/a.pp:7)",
+        "refused 50 at 0: Exec[f] (/m/a.pp:7)\n",
     ),
     // all of the left one comes ahead of the right one's text
     (
         (ASSUMED, EXECS, &[("Exec", "f", "", "")], &[MOTD, MOTD]),
-        "50 at 0: Exec[f]",
+        "refused 50 at 0: Exec[f]\n",
     ),
     (
         (
@@ -237,7 +252,7 @@ const REFUSED: [(Row, &str); 9] = [
             &[("File", "/a", r#""require":7"#, "")],
             &[MOTD, MOTD],
         ),
-        "29 at 0: File[/a] require",
+        "refused 29 at 0: File[/a] require\n",
     ),
     (
         (
@@ -246,7 +261,7 @@ const REFUSED: [(Row, &str); 9] = [
             &[MOTD],
             &[("File", "/a", r#""before":"File[/a]""#, "")],
         ),
-        "41 at 0 in other: File[/a] -> File[/a]",
+        "refused 41 at 0 in other: File[/a] -> File[/a]\n",
     ),
     (
         (
@@ -255,40 +270,32 @@ const REFUSED: [(Row, &str); 9] = [
             &[MOTD],
             &[("File", "/a", r#""before":"File[/b]""#, "")],
         ),
-        "40 at 0 in other: File[/b]",
+        "refused 40 at 0 in other: File[/b]\n",
     ),
     // what is assumed is said of both, and is refused of neither
-    ((ASSUMED, "[]", &[MOTD], &[MOTD, MOTD]), "66 at 0: assume"),
+    (
+        (ASSUMED, "[]", &[MOTD], &[MOTD, MOTD]),
+        "refused 66 at 0: assume\n",
+    ),
 ];
-
-fn is_refused(alloc: Global, rt: &impl Abort, row: &Row, line: &str) -> Result<(), Fail> {
-    let told = of_both(alloc, row)?;
-    let err = format!(in alloc; "refused {line}\n")?;
-    compare(rt, &told, 4, "", err.as_str(), line);
-    Ok(())
-}
 
 #[test]
 fn compiled_catalogs_that_are_refused(rt: HostRuntime) -> Result<(), Fail> {
-    for (row, line) in REFUSED {
-        is_refused(rt.alloc(), &rt, &row, line)?;
-    }
-    Ok(())
+    all_told(&rt, 4, &REFUSED)
 }
+
+const BESIDE_MANIFEST: [(Row, &str); 1] = [(
+    (
+        &["--ask", "equal", "--compiled", "c", "--other", "site.pp"],
+        "",
+        &[MOTD],
+        &[],
+    ),
+    "refused 65 at 0 in other: compiled\n",
+)];
 
 /// Beside a compiled catalog a manifest is none.
 #[test]
 fn a_manifest_beside_a_compiled_catalog(rt: HostRuntime) -> Result<(), Fail> {
-    let text = catalog(rt.alloc(), &[MOTD], &[])?;
-    let words = ["--ask", "equal", "--compiled", "c", "--other", "site.pp"];
-    let told = asked(rt.alloc(), &words, text.as_str(), "", "")?;
-    compare(
-        &rt,
-        &told,
-        4,
-        "",
-        "refused 65 at 0 in other: compiled\n",
-        "a manifest",
-    );
-    Ok(())
+    all_told(&rt, 4, &BESIDE_MANIFEST)
 }

@@ -1,14 +1,15 @@
 //! Catalogs that Puppet compiled, and what is refused of them.
 
-use crate::common::compare;
-use crate::compiled::{Edge, Res, VERIFY, asked, catalog, catalog_with};
-use std::alloc::Global;
+use crate::compiled::{Edge, Res, VERIFY, catalog, catalog_with, is_refused};
 use std::process::Abort;
 use std::test::Fail;
 
 const RESOURCES: &[&str] = &["--compiled", "c", "--ask", "graph"];
 
 const USUAL: &[&str] = &["--compiled", "c", "--limits", "usual"];
+
+/// The refusal of a text that is no compiled catalog.
+const MALFORMED: &str = "65 at 0: compiled";
 
 /// Texts of no compiled catalog.
 const TEXTS: [&str; 17] = [
@@ -31,13 +32,17 @@ const TEXTS: [&str; 17] = [
     "file { '/a': }",
 ];
 
-#[test]
-fn texts_of_no_compiled_catalog(rt: HostRuntime) -> Result<(), Fail> {
-    for text in TEXTS {
-        let told = asked(rt.alloc(), VERIFY, text, "")?;
-        compare(&rt, &told, 4, "", "refused 65 at 0: compiled\n", text);
+/// Each text is refused.
+fn texts_are_refused(rt: &(impl Abort + AllocGlobal), texts: &[&str]) -> Result<(), Fail> {
+    for text in texts {
+        is_refused(rt, VERIFY, *text, "", MALFORMED, *text)?;
     }
     Ok(())
+}
+
+#[test]
+fn texts_of_no_compiled_catalog(rt: HostRuntime) -> Result<(), Fail> {
+    texts_are_refused(&rt, &TEXTS)
 }
 
 /// Resources of another form, and resources that can't stand beside one another.
@@ -60,14 +65,18 @@ const FORMS: [&str; 14] = [
     r#"{"type":"Concat_file","title":"a","kind":"compilable_type","parameters":{"path":"/a"}},{"type":"Concat_file","title":"b","kind":"compilable_type","parameters":{"path":"/a"}}"#,
 ];
 
-#[test]
-fn resources_of_no_compiled_catalog(rt: HostRuntime) -> Result<(), Fail> {
-    for resources in FORMS {
-        let text = catalog_with(rt.alloc(), resources, "")?;
-        let told = asked(rt.alloc(), VERIFY, text.as_str(), "")?;
-        compare(&rt, &told, 4, "", "refused 65 at 0: compiled\n", resources);
+/// Each of these resources, as they stand in JSON, is refused.
+fn forms_are_refused(rt: &(impl Abort + AllocGlobal), forms: &[&str]) -> Result<(), Fail> {
+    for resources in forms {
+        let text = catalog_with(rt.alloc(), *resources, "")?;
+        is_refused(rt, VERIFY, text.as_str(), "", MALFORMED, *resources)?;
     }
     Ok(())
+}
+
+#[test]
+fn resources_of_no_compiled_catalog(rt: HostRuntime) -> Result<(), Fail> {
+    forms_are_refused(&rt, &FORMS)
 }
 
 /// A class and two files, of which one is in a defined resource, and edges that can't stand there.
@@ -92,21 +101,18 @@ const EDGES: [&[Edge]; 9] = [
     &[("Class[main]", "File[/b]")],
 ];
 
-#[test]
-fn edges_of_no_compiled_catalog(rt: HostRuntime) -> Result<(), Fail> {
-    for held in EDGES {
-        let text = catalog(rt.alloc(), HELD, held)?;
-        let told = asked(rt.alloc(), RESOURCES, text.as_str(), "")?;
-        compare(
-            &rt,
-            &told,
-            4,
-            "",
-            "refused 65 at 0: compiled\n",
-            text.as_str(),
-        );
+/// The class and the files are refused with each of these edges.
+fn edges_are_refused(rt: &(impl Abort + AllocGlobal), rows: &[&[Edge]]) -> Result<(), Fail> {
+    for held in rows {
+        let text = catalog(rt.alloc(), HELD, *held)?;
+        is_refused(rt, RESOURCES, text.as_str(), "", MALFORMED, text.as_str())?;
     }
     Ok(())
+}
+
+#[test]
+fn edges_of_no_compiled_catalog(rt: HostRuntime) -> Result<(), Fail> {
+    edges_are_refused(&rt, &EDGES)
 }
 
 /// Where a resource is declared.
@@ -496,33 +502,35 @@ const PROGRAMS: [Row; 37] = [
     ),
 ];
 
-fn is_refused(alloc: Global, rt: &impl Abort, row: &Row) -> Result<(), Fail> {
-    let (words, all, line) = *row;
-    let text = catalog(alloc, all, &[])?;
-    let told = asked(alloc, words, text.as_str(), "")?;
-    let err = format!(in alloc; "refused {line}\n")?;
-    compare(rt, &told, 4, "", err.as_str(), text.as_str());
+/// Each row is refused so.
+fn all_refused(rt: &(impl Abort + AllocGlobal), rows: &[Row]) -> Result<(), Fail> {
+    for (words, all, line) in rows {
+        let text = catalog(rt.alloc(), *all, &[])?;
+        is_refused(rt, *words, text.as_str(), "", *line, text.as_str())?;
+    }
     Ok(())
 }
 
 #[test]
 fn catalogs_that_are_refused(rt: HostRuntime) -> Result<(), Fail> {
-    for row in CATALOGS {
-        is_refused(rt.alloc(), &rt, &row)?;
-    }
-    Ok(())
+    all_refused(&rt, &CATALOGS)
 }
 
 #[test]
 fn programs_that_are_refused(rt: HostRuntime) -> Result<(), Fail> {
-    for row in PROGRAMS {
-        is_refused(rt.alloc(), &rt, &row)?;
-    }
-    Ok(())
+    all_refused(&rt, &PROGRAMS)
 }
 
-/// The words, the text of the compiled catalog and that of assumptions, and the refusal: texts in their order.
-const ORDER: [(&[&str], &str, &str, &str); 9] = [
+/// The words, the text of the compiled catalog and that of assumptions, and the refusal.
+type Texts = (
+    &'static [&'static str],
+    &'static str,
+    &'static str,
+    &'static str,
+);
+
+/// Texts in their order.
+const ORDER: [Texts; 9] = [
     (
         &["--compiled", "c", "--packages", "assumed"],
         "[]",
@@ -596,12 +604,15 @@ const ORDER: [(&[&str], &str, &str, &str); 9] = [
     ),
 ];
 
-#[test]
-fn which_refusal_comes_first(rt: HostRuntime) -> Result<(), Fail> {
-    for (words, text, assumed, line) in ORDER {
-        let told = asked(rt.alloc(), words, text, assumed)?;
-        let err = format!(in rt.alloc(); "refused {line}\n")?;
-        compare(&rt, &told, 4, "", err.as_str(), line);
+/// Each row has this refusal first.
+fn all_refused_first(rt: &(impl Abort + AllocGlobal), rows: &[Texts]) -> Result<(), Fail> {
+    for (words, text, assumed, line) in rows {
+        is_refused(rt, *words, *text, *assumed, *line, *line)?;
     }
     Ok(())
+}
+
+#[test]
+fn which_refusal_comes_first(rt: HostRuntime) -> Result<(), Fail> {
+    all_refused_first(&rt, &ORDER)
 }

@@ -1,6 +1,6 @@
 //! Manifests whose order matters: what is told of them runs as it is told.
 
-use crate::common::{Told, run_over};
+use crate::common::{Told, compare_err, compare_status, run_over};
 use std::alloc::Global;
 use std::process::Abort;
 use std::test::Fail;
@@ -96,6 +96,35 @@ pub fn behind<'a>(lines: &'a str, word: &str) -> (&'a str, &'a str) {
     rest.split_once('\n').unwrap_or(("?", ""))
 }
 
+const REPLAY: &[&str] = &[
+    "--ask",
+    "replay",
+    "--packages",
+    "listing",
+    "--tree",
+    "tree",
+    "--order",
+    "order",
+    "site.pp",
+];
+
+/// What is told of an order over a tree.
+fn replayed<'x>(
+    alloc: Global,
+    manifest: &'x str,
+    listing: &'x str,
+    tree: &'x str,
+    order: &'x str,
+) -> Result<Told, Fail> {
+    let over: [(&'x str, &'x [u8]); 4] = [
+        ("site.pp", manifest.as_bytes()),
+        ("listing", listing.as_bytes()),
+        ("tree", tree.as_bytes()),
+        ("order", order.as_bytes()),
+    ];
+    run_over(alloc, REPLAY, &over)
+}
+
 /// Replays an order over the tree that was told, and compares the outcomes.
 pub fn replays<'x>(
     alloc: Global,
@@ -106,24 +135,7 @@ pub fn replays<'x>(
     order: &'x str,
     outcome: &str,
 ) -> Result<(), Fail> {
-    let over: [(&'x str, &'x [u8]); 4] = [
-        ("site.pp", manifest.as_bytes()),
-        ("listing", listing.as_bytes()),
-        ("tree", tree.as_bytes()),
-        ("order", order.as_bytes()),
-    ];
-    let words = [
-        "--ask",
-        "replay",
-        "--packages",
-        "listing",
-        "--tree",
-        "tree",
-        "--order",
-        "order",
-        "site.pp",
-    ];
-    let told = run_over(alloc, &words, &over)?;
+    let told = replayed(alloc, manifest, listing, tree, order)?;
     let (ran, rest) = behind(told.out.as_str(), "outcome ");
     assert_eq!(rt; ran, outcome, "{manifest}");
     assert_eq!(rt; rest, "", "{manifest}");
@@ -154,34 +166,68 @@ fn told_of(alloc: Global, row: &Row, words: &[&str]) -> Result<Told, Fail> {
     run_over(alloc, words, &over)
 }
 
-/// Both outcomes that are told differ, and are those of the orders on the tree; and the orders differ by one exchange.
-fn differs(alloc: Global, rt: &impl Abort, row: &Row, words: &[&str]) -> Result<(), Fail> {
-    let told = told_of(alloc, row, words)?;
-    assert_eq!(rt; told.status, 1, "{}", row.0);
-    let rest = told.out.as_str().strip_prefix(row.2).unwrap_or("?");
-    let (tree, rest) = behind(rest, "tree ");
-    let (left, rest) = behind(rest, "order ");
-    let (first, rest) = behind(rest, "outcome ");
-    let (right, rest) = behind(rest, "order ");
-    let (second, rest) = behind(rest, "outcome ");
+/// An order, its outcome, and the lines behind them.
+fn next_run<'a>(lines: &'a str) -> (&'a str, &'a str, &'a str) {
+    let (order, rest) = behind(lines, "order ");
+    let (outcome, rest) = behind(rest, "outcome ");
+    (order, outcome, rest)
+}
+
+/// Two runs, each an order and its outcome: the orders differ by one exchange, and the outcomes differ.
+fn are_apart(rt: &impl Abort, left: (&str, &str), right: (&str, &str), manifest: &str) {
+    assert!(rt; are_exchanged(left.0, right.0), "{manifest}");
+    assert!(rt; left.1 != right.1, "{manifest}");
+}
+
+/// Both runs of a row end so on the tree.
+fn both_replay(
+    rt: &(impl Abort + AllocGlobal),
+    row: &Row,
+    tree: &str,
+    left: (&str, &str),
+    right: (&str, &str),
+) -> Result<(), Fail> {
+    replays(rt.alloc(), rt, row.0, row.1, tree, left.0, left.1)?;
+    replays(rt.alloc(), rt, row.0, row.1, tree, right.0, right.1)
+}
+
+/// Both outcomes that these lines tell differ, and are those of the orders on the tree; and the orders differ by one exchange.
+fn runs_differ(rt: &(impl Abort + AllocGlobal), row: &Row, lines: &str) -> Result<(), Fail> {
+    let (tree, rest) = behind(lines, "tree ");
+    let (left, first, rest) = next_run(rest);
+    let (right, second, rest) = next_run(rest);
     assert_eq!(rt; rest, "", "{}", row.0);
-    assert_eq!(rt; told.err.as_str(), "", "{}", row.0);
-    assert!(rt; are_exchanged(left, right), "{}", row.0);
-    assert!(rt; first != second, "{}", row.0);
-    replays(alloc, rt, row.0, row.1, tree, left, first)?;
-    replays(alloc, rt, row.0, row.1, tree, right, second)
+    are_apart(rt, (left, first), (right, second), row.0);
+    both_replay(rt, row, tree, (left, first), (right, second))
+}
+
+/// These lines are told in front of two runs that differ.
+fn differs(rt: &(impl Abort + AllocGlobal), row: &Row, words: &[&str]) -> Result<(), Fail> {
+    let told = told_of(rt.alloc(), row, words)?;
+    compare_status(rt, &told, 1, row.0);
+    compare_err(rt, &told, "", row.0);
+    let rest = told.out.as_str().strip_prefix(row.2).unwrap_or("?");
+    runs_differ(rt, row, rest)
+}
+
+/// Each row is told with two runs that differ.
+fn all_differ(rt: &(impl Abort + AllocGlobal), words: &[&str], rows: &[Row]) -> Result<(), Fail> {
+    for row in rows {
+        differs(rt, row, words)?;
+    }
+    Ok(())
 }
 
 #[test]
 fn orders_that_matter(rt: HostRuntime) -> Result<(), Fail> {
-    for row in ROWS {
-        differs(rt.alloc(), &rt, &row, &["--packages", "listing", "site.pp"])?;
-        differs(
-            rt.alloc(),
-            &rt,
-            &row,
-            &["--packages", "listing", "--conflicts", "1000000", "site.pp"],
-        )?;
-    }
-    Ok(())
+    all_differ(&rt, &["--packages", "listing", "site.pp"], &ROWS)
+}
+
+#[test]
+fn orders_that_matter_within_conflicts(rt: HostRuntime) -> Result<(), Fail> {
+    all_differ(
+        &rt,
+        &["--packages", "listing", "--conflicts", "1000000", "site.pp"],
+        &ROWS,
+    )
 }

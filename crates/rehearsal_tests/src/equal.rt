@@ -2,6 +2,7 @@
 
 use crate::common::{Told, compare, run_over};
 use crate::differences::{behind, replays};
+use crate::verify::is_told;
 use std::alloc::Global;
 use std::process::Abort;
 use std::test::Fail;
@@ -55,153 +56,252 @@ fn asked<'a>(
     run_over(alloc, words, &over)
 }
 
-/// What is told of so many resources, of which pruning leaves so many aside.
-fn head(alloc: Global, n: u32, pruned: u32) -> Result<String, Fail> {
-    Ok(format!(in alloc; "resources {n}\npruned {pruned}\ndeterministic\n")?)
+/// Each row: an input and another manifest, and what is told of them with this status.
+fn all_told(
+    rt: &(impl Abort + AllocGlobal),
+    words: &[&str],
+    status: u8,
+    rows: &[(&str, &str, &str)],
+) -> Result<(), Fail> {
+    for (manifest, other, want) in rows {
+        let told = asked(rt.alloc(), words, *manifest, *other)?;
+        is_told(rt, &told, status, *want, *other);
+    }
+    Ok(())
 }
 
 const X: &str = "file { '/a': content => 'x' }";
 
+/// What is told of manifests that do the same, where either has no resource, one or two.
+const SAME_NONE: &str =
+    "resources 0\npruned 0\ndeterministic\nresources 0\npruned 0\ndeterministic\nequal\n";
+
+const SAME_ONE: &str =
+    "resources 1\npruned 1\ndeterministic\nresources 1\npruned 1\ndeterministic\nequal\n";
+
+const SAME_TWO: &str =
+    "resources 2\npruned 2\ndeterministic\nresources 2\npruned 2\ndeterministic\nequal\n";
+
 #[test]
 fn manifests_that_do_the_same(rt: HostRuntime) -> Result<(), Fail> {
-    // how many resources either has
-    let rows: [(&str, &str, u32, u32); 9] = [
-        ("", "", 0, 0),
-        (X, X, 1, 1),
-        // Another title, and what is the same without saying so.
-        (
-            X,
-            "file { 'q': path => '/a', ensure => file, content => 'x' }",
-            1,
-            1,
-        ),
-        // An arrow that doesn't matter.
-        (
-            "file { ['/a', '/b']: content => 'x' }",
-            "file { ['/a', '/b']: content => 'x' } File['/a'] -> File['/b']",
-            2,
-            2,
-        ),
-        // Another order in the text.
-        (
-            "file { '/a': content => 'x' } file { '/b': content => 'y' }",
-            "file { '/b': content => 'y' } file { '/a': content => 'x' }",
-            2,
-            2,
-        ),
-        // A class that is split in two.
-        (
-            "class all { file { '/d': ensure => directory } file { '/d/a': content => 'x' } } include all",
-            "class one { file { '/d': ensure => directory } } class two { file { '/d/a': content => 'x' } } class all { contain one contain two } include all",
-            2,
-            2,
-        ),
-        // What the class data and the facts say, both share.
-        (
-            "class c($text) { file { '/a': content => $text } } include c",
-            "file { '/a': content => $word }",
-            1,
-            1,
-        ),
-        // A virtual resource is none.
-        (
-            X,
-            "file { '/a': content => 'x' } @file { '/b': content => 'y' }",
-            1,
-            1,
-        ),
-        (
-            "package { 'ntp': }",
-            "class ntp { package { 'ntp': ensure => installed } } include ntp",
-            1,
-            1,
-        ),
-    ];
-    for (manifest, other, n, m) in rows {
-        let told = asked(rt.alloc(), ASKED, manifest, other)?;
-        let one = head(rt.alloc(), n, n)?;
-        let second = head(rt.alloc(), m, m)?;
-        let report = format!(in rt.alloc(); "{one}{second}equal\n")?;
-        compare(&rt, &told, 0, report.as_str(), "", other);
+    all_told(
+        &rt,
+        ASKED,
+        0,
+        &[
+            ("", "", SAME_NONE),
+            (X, X, SAME_ONE),
+            // Another title, and what is the same without saying so.
+            (
+                X,
+                "file { 'q': path => '/a', ensure => file, content => 'x' }",
+                SAME_ONE,
+            ),
+            // An arrow that doesn't matter.
+            (
+                "file { ['/a', '/b']: content => 'x' }",
+                "file { ['/a', '/b']: content => 'x' } File['/a'] -> File['/b']",
+                SAME_TWO,
+            ),
+            // Another order in the text.
+            (
+                "file { '/a': content => 'x' } file { '/b': content => 'y' }",
+                "file { '/b': content => 'y' } file { '/a': content => 'x' }",
+                SAME_TWO,
+            ),
+            // A class that is split in two.
+            (
+                "class all { file { '/d': ensure => directory } file { '/d/a': content => 'x' } } include all",
+                "class one { file { '/d': ensure => directory } } class two { file { '/d/a': content => 'x' } } class all { contain one contain two } include all",
+                SAME_TWO,
+            ),
+            // What the class data and the facts say, both share.
+            (
+                "class c($text) { file { '/a': content => $text } } include c",
+                "file { '/a': content => $word }",
+                SAME_ONE,
+            ),
+            // A virtual resource is none.
+            (
+                X,
+                "file { '/a': content => 'x' } @file { '/b': content => 'y' }",
+                SAME_ONE,
+            ),
+            (
+                "package { 'ntp': }",
+                "class ntp { package { 'ntp': ensure => installed } } include ntp",
+                SAME_ONE,
+            ),
+        ],
+    )
+}
+
+/// What is told of two orders from one tree: the tree, and each order with what it ends with.
+#[derive(Drop)]
+pub struct Apart<'a> {
+    pub tree: &'a str,
+    pub order: &'a str,
+    pub outcome: &'a str,
+    pub other_order: &'a str,
+    pub other_outcome: &'a str,
+    pub rest: &'a str,
+}
+
+pub fn read_apart(lines: &str) -> Apart {
+    let (tree, rest) = behind(lines, "tree ");
+    let (order, rest) = behind(rest, "order ");
+    let (outcome, rest) = behind(rest, "outcome ");
+    let (other_order, rest) = behind(rest, "order ");
+    let (other_outcome, rest) = behind(rest, "outcome ");
+    Apart {
+        tree,
+        order,
+        outcome,
+        other_order,
+        other_outcome,
+        rest,
     }
-    Ok(())
+}
+
+/// Both outcomes differ, and nothing is told behind them.
+pub fn differ(rt: &impl Abort, apart: &Apart, row: &str) {
+    assert_eq!(rt; apart.rest, "", "{row}");
+    assert!(rt; apart.outcome != apart.other_outcome, "{row}");
+}
+
+/// Something is told on out alone, with the status of manifests that do otherwise.
+fn is_told_to_differ(rt: &impl Abort, told: &Told, row: &str) {
+    assert_eq!(rt; told.status, 10, "{row}");
+    assert_eq!(rt; told.err.as_str(), "", "{row}");
+}
+
+/// Each manifest has a run from the tree that is told, with its order and outcome.
+fn both_replay(
+    rt: &(impl Abort + AllocGlobal),
+    manifest: &str,
+    other: &str,
+    apart: &Apart,
+) -> Result<(), Fail> {
+    let alloc = rt.alloc();
+    replays(
+        alloc,
+        rt,
+        manifest,
+        LISTING,
+        apart.tree,
+        apart.order,
+        apart.outcome,
+    )?;
+    replays(
+        alloc,
+        rt,
+        other,
+        LISTING,
+        apart.tree,
+        apart.other_order,
+        apart.other_outcome,
+    )
 }
 
 /// A run of either from one tree: they are told, differ, and run so.
 fn end_apart(
-    alloc: Global,
-    rt: &impl Abort,
+    rt: &(impl Abort + AllocGlobal),
     manifest: &str,
     other: &str,
     front: &str,
 ) -> Result<(), Fail> {
-    let told = asked(alloc, ASKED, manifest, other)?;
-    assert_eq!(rt; told.status, 10, "{other}");
-    assert_eq!(rt; told.err.as_str(), "", "{other}");
-    let rest = told.out.as_str().strip_prefix(front).unwrap_or("?");
-    let (tree, rest) = behind(rest, "tree ");
-    let (first, rest) = behind(rest, "order ");
-    let (ended, rest) = behind(rest, "outcome ");
-    let (second, rest) = behind(rest, "order ");
-    let (ended_too, rest) = behind(rest, "outcome ");
-    assert_eq!(rt; rest, "", "{other}");
-    assert!(rt; ended != ended_too, "{other}");
-    replays(alloc, rt, manifest, LISTING, tree, first, ended)?;
-    replays(alloc, rt, other, LISTING, tree, second, ended_too)
+    let told = asked(rt.alloc(), ASKED, manifest, other)?;
+    is_told_to_differ(rt, &told, other);
+    let apart = read_apart(told.out.as_str().strip_prefix(front).unwrap_or("?"));
+    differ(rt, &apart, other);
+    both_replay(rt, manifest, other, &apart)
 }
 
-#[test]
-fn manifests_that_do_otherwise(rt: HostRuntime) -> Result<(), Fail> {
-    let rows: [(&str, &str, u32, u32); 6] = [
-        (X, "file { '/a': content => 'y' }", 1, 1),
-        (X, "", 1, 0),
-        // A resource more.
-        (X, "file { ['/a', '/b']: content => 'x' }", 1, 2),
-        // A file that is there may hold another text.
-        (
-            "file { '/a': ensure => file }",
-            "file { '/a': content => '' }",
-            1,
-            1,
-        ),
-        (
-            "package { 'ntp': }",
-            "package { 'ntp': ensure => absent }",
-            1,
-            1,
-        ),
-        // Where /d is no folder, the one fails.
-        (
-            "file { '/d': ensure => directory } file { '/d/a': content => 'x' }",
-            "file { '/d/a': content => 'x' }",
-            2,
-            1,
-        ),
-    ];
-    for (manifest, other, n, m) in rows {
-        let one = head(rt.alloc(), n, n)?;
-        let second = head(rt.alloc(), m, m)?;
-        let front = format!(in rt.alloc(); "{one}{second}not equal\n")?;
-        end_apart(rt.alloc(), &rt, manifest, other, front.as_str())?;
+/// Each row: two manifests, and the lines in front of the tree from which they end apart.
+fn all_end_apart(rt: &(impl Abort + AllocGlobal), rows: &[(&str, &str, &str)]) -> Result<(), Fail> {
+    for (manifest, other, front) in rows {
+        end_apart(rt, *manifest, *other, *front)?;
     }
     Ok(())
 }
 
+/// The lines in front of the tree, where either manifest has one resource.
+const APART_ONE: &str =
+    "resources 1\npruned 1\ndeterministic\nresources 1\npruned 1\ndeterministic\nnot equal\n";
+
+#[test]
+fn manifests_that_do_otherwise(rt: HostRuntime) -> Result<(), Fail> {
+    all_end_apart(
+        &rt,
+        &[
+            (X, "file { '/a': content => 'y' }", APART_ONE),
+            (
+                X,
+                "",
+                "resources 1\npruned 1\ndeterministic\nresources 0\npruned 0\ndeterministic\nnot equal\n",
+            ),
+            // A resource more.
+            (
+                X,
+                "file { ['/a', '/b']: content => 'x' }",
+                "resources 1\npruned 1\ndeterministic\nresources 2\npruned 2\ndeterministic\nnot equal\n",
+            ),
+            // A file that is there may hold another text.
+            (
+                "file { '/a': ensure => file }",
+                "file { '/a': content => '' }",
+                APART_ONE,
+            ),
+            (
+                "package { 'ntp': }",
+                "package { 'ntp': ensure => absent }",
+                APART_ONE,
+            ),
+            // Where /d is no folder, the one fails.
+            (
+                "file { '/d': ensure => directory } file { '/d/a': content => 'x' }",
+                "file { '/d/a': content => 'x' }",
+                "resources 2\npruned 2\ndeterministic\nresources 1\npruned 1\ndeterministic\nnot equal\n",
+            ),
+        ],
+    )
+}
+
 const RACE: &str = "package { 'ntp': } file { '/etc/ntp.conf': content => 'server a' }";
+
+/// Behind these lines is told what is told of the one whose order matters.
+fn is_told_alone(rt: &impl Abort, told: &Told, front: &str, alone: &str, row: &str) {
+    let rest = told.out.as_str().strip_prefix(front).unwrap_or("?");
+    assert_eq!(rt; rest, alone, "{row}");
+    assert_eq!(rt; told.err.as_str(), "", "{row}");
+    assert_eq!(rt; told.status, 1, "{row}");
+}
+
+/// Each row: two manifests, and the lines in front of what is told of the one whose order matters.
+fn all_told_alone(
+    rt: &(impl Abort + AllocGlobal),
+    alone: &str,
+    rows: &[(&str, &str, &str)],
+) -> Result<(), Fail> {
+    for (manifest, other, front) in rows {
+        let told = asked(rt.alloc(), ASKED, *manifest, *other)?;
+        is_told_alone(rt, &told, *front, alone, *manifest);
+    }
+    Ok(())
+}
 
 #[test]
 fn manifests_of_which_one_differs(rt: HostRuntime) -> Result<(), Fail> {
     let alone = asked(rt.alloc(), &["--packages", "listing", "site.pp"], RACE, "")?;
-    let told = asked(rt.alloc(), ASKED, RACE, X)?;
-    compare(&rt, &told, 1, alone.out.as_str(), "", "left");
-    let both = asked(rt.alloc(), ASKED, RACE, RACE)?;
-    compare(&rt, &both, 1, alone.out.as_str(), "", "both");
-    let told = asked(rt.alloc(), ASKED, X, RACE)?;
-    let front = head(rt.alloc(), 1, 1)?;
-    let rest = alone.out.as_str();
-    let report = format!(in rt.alloc(); "{front}{rest}")?;
-    compare(&rt, &told, 1, report.as_str(), "", "right");
-    Ok(())
+    all_told_alone(
+        &rt,
+        alone.out.as_str(),
+        &[
+            (RACE, X, ""),
+            (RACE, RACE, ""),
+            (X, RACE, "resources 1\npruned 1\ndeterministic\n"),
+        ],
+    )
 }
 
 /// The orders of these end apart, which takes more than one conflict to find.
@@ -216,99 +316,106 @@ const MADE_SURE: &str =
 /// The number of conflicts is that of each question.
 #[test]
 fn manifests_whose_conflicts_are_spent(rt: HostRuntime) -> Result<(), Fail> {
-    let rows: [(&str, &str, &str); 4] = [
-        (PAIR, X, "resources 2\npruned 0\nspent deterministic 1\n"),
-        (PAIR, PAIR, "resources 2\npruned 0\nspent deterministic 1\n"),
-        (
-            X,
-            PAIR,
-            "resources 1\npruned 1\ndeterministic\nresources 2\npruned 0\nspent deterministic 1\n",
-        ),
-        (
-            SERVED,
-            MADE_SURE,
-            "resources 2\npruned 2\ndeterministic\nresources 3\npruned 3\ndeterministic\nspent equal 1\n",
-        ),
-    ];
-    for (manifest, other, report) in rows {
-        let told = asked(rt.alloc(), WITHIN, manifest, other)?;
-        compare(&rt, &told, 3, report, "", other);
-    }
-    Ok(())
+    all_told(
+        &rt,
+        WITHIN,
+        3,
+        &[
+            (PAIR, X, "resources 2\npruned 0\nspent deterministic 1\n"),
+            (PAIR, PAIR, "resources 2\npruned 0\nspent deterministic 1\n"),
+            (
+                X,
+                PAIR,
+                "resources 1\npruned 1\ndeterministic\nresources 2\npruned 0\nspent deterministic 1\n",
+            ),
+            (
+                SERVED,
+                MADE_SURE,
+                "resources 2\npruned 2\ndeterministic\nresources 3\npruned 3\ndeterministic\nspent equal 1\n",
+            ),
+        ],
+    )
 }
 
 #[test]
 fn manifests_that_are_refused(rt: HostRuntime) -> Result<(), Fail> {
-    let rows: [(&str, &str, &str); 10] = [
-        (X, "include z", "refused 22 at 0 in other: z\n"),
-        ("include z", X, "refused 22 at 0: z\n"),
-        // The input's refusals come first, those of its programs too.
-        ("exec { 'ls': }", "include z", "refused 50 at 7: Exec[ls]\n"),
-        (X, "exec { 'ls': }", "refused 50 at 7 in other: Exec[ls]\n"),
-        (X, "$x = 09", "refused 11 at 5 in other: lexical\n"),
-        (X, "file { '/a'", "refused 12 at 11 in other: syntax\n"),
-        (
-            X,
-            "file { '/a': require => File['/b'] }",
-            "refused 40 at 7 in other: File[/b]\n",
-        ),
-        (
-            X,
-            "file { '/a': before => File['/a'] }",
-            "refused 41 at 0 in other: File[/a] -> File[/a]\n",
-        ),
-        (
-            X,
-            "package { 'p': }",
-            "refused 54 at 10 in other: Package[p]\n",
-        ),
-        (
-            X,
-            "fail(' in other')",
-            "refused 30 at 0 in other:  in other\n",
-        ),
+    all_told(
+        &rt,
+        ASKED,
+        4,
+        &[
+            (X, "include z", "refused 22 at 0 in other: z\n"),
+            ("include z", X, "refused 22 at 0: z\n"),
+            // The input's refusals come first, those of its programs too.
+            ("exec { 'ls': }", "include z", "refused 50 at 7: Exec[ls]\n"),
+            (X, "exec { 'ls': }", "refused 50 at 7 in other: Exec[ls]\n"),
+            (X, "$x = 09", "refused 11 at 5 in other: lexical\n"),
+            (X, "file { '/a'", "refused 12 at 11 in other: syntax\n"),
+            (
+                X,
+                "file { '/a': require => File['/b'] }",
+                "refused 40 at 7 in other: File[/b]\n",
+            ),
+            (
+                X,
+                "file { '/a': before => File['/a'] }",
+                "refused 41 at 0 in other: File[/a] -> File[/a]\n",
+            ),
+            (
+                X,
+                "package { 'p': }",
+                "refused 54 at 10 in other: Package[p]\n",
+            ),
+            (
+                X,
+                "fail(' in other')",
+                "refused 30 at 0 in other:  in other\n",
+            ),
+        ],
+    )
+}
+
+/// What is told where a file that an option names is none of its kind.
+fn told_of_bad(alloc: Global, option: &str) -> Result<Told, Fail> {
+    let words: [&str; 7] = [
+        "--ask", "equal", option, "bad", "--other", "old.pp", "site.pp",
     ];
-    for (manifest, other, line) in rows {
-        let told = asked(rt.alloc(), ASKED, manifest, other)?;
-        compare(&rt, &told, 4, "", line, other);
+    let over: [(&str, &[u8]); 3] = [
+        ("site.pp", X.as_bytes()),
+        ("old.pp", b"include z"),
+        ("bad", b"[]"),
+    ];
+    run_over(alloc, &words, &over)
+}
+
+/// Each row: an option whose file is none of its kind, and the line of the refusal.
+fn all_bad(rt: &(impl Abort + AllocGlobal), rows: &[(&str, &str)]) -> Result<(), Fail> {
+    for (option, line) in rows {
+        let told = told_of_bad(rt.alloc(), *option)?;
+        compare(rt, &told, 4, "", *line, *option);
     }
     Ok(())
 }
 
-/// Files that both share, and a file that is too long.
+/// Files that both share.
 #[test]
 fn files_of_both(rt: HostRuntime) -> Result<(), Fail> {
-    let rows: [(&str, &str); 3] = [
-        ("--facts", "refused 60 at 0: facts\n"),
-        ("--packages", "refused 61 at 0: packages\n"),
-        ("--data", "refused 64 at 0: data\n"),
-    ];
-    for (option, line) in rows {
-        let words: [&str; 7] = [
-            "--ask", "equal", option, "bad", "--other", "old.pp", "site.pp",
-        ];
-        let over: [(&str, &[u8]); 3] = [
-            ("site.pp", X.as_bytes()),
-            ("old.pp", b"include z"),
-            ("bad", b"[]"),
-        ];
-        let told = run_over(rt.alloc(), &words, &over)?;
-        compare(&rt, &told, 4, "", line, option);
-    }
-    let mut long = Vec::new(rt.alloc());
-    for _byte in 0..262_145u32 {
-        long.push(b' ')?;
-    }
-    let over: [(&str, &[u8]); 2] = [("site.pp", b"include z"), ("old.pp", &long)];
-    let words: [&str; 5] = ["--ask", "equal", "--other", "old.pp", "site.pp"];
-    let told = run_over(rt.alloc(), &words, &over)?;
-    compare(
+    all_bad(
         &rt,
-        &told,
-        4,
-        "",
-        "refused 17 at 0: other\n",
-        "a long manifest",
-    );
+        &[
+            ("--facts", "refused 60 at 0: facts\n"),
+            ("--packages", "refused 61 at 0: packages\n"),
+            ("--data", "refused 64 at 0: data\n"),
+        ],
+    )
+}
+
+/// The other manifest is too long.
+#[test]
+fn another_manifest_that_is_long(rt: HostRuntime) -> Result<(), Fail> {
+    let long = " ".repeat(rt.alloc(), 262_145)?;
+    let words: [&str; 5] = ["--ask", "equal", "--other", "old.pp", "site.pp"];
+    let told = asked(rt.alloc(), &words, "include z", long.as_str())?;
+    is_told(&rt, &told, 4, "refused 17 at 0: other\n", "a long manifest");
     Ok(())
 }

@@ -19,12 +19,10 @@ fn asked(alloc: Global, words: &[&str], manifest: &str) -> Result<Told, Fail> {
     run_over(alloc, words, &over)
 }
 
+const EXPLAIN: &[&str] = &["--ask", "explain", "--packages", "listing", "site.pp"];
+
 fn told_of(alloc: Global, manifest: &str) -> Result<Told, Fail> {
-    asked(
-        alloc,
-        &["--ask", "explain", "--packages", "listing", "site.pp"],
-        manifest,
-    )
+    asked(alloc, EXPLAIN, manifest)
 }
 
 /// A resource, and how the run ends in which it comes first.
@@ -124,117 +122,162 @@ const ROWS: [Row; 9] = [
     ),
 ];
 
-/// What is told where the first comes ahead of the second in the first order.
-fn text(alloc: Global, tree: &str, first: &Run, second: &Run) -> Result<String, Fail> {
+/// Whether this is told where the first comes ahead of the second in the first order.
+fn tells(alloc: Global, told: &str, tree: &str, first: &Run, second: &Run) -> Result<bool, Fail> {
     let (a, how) = *first;
     let (b, other) = *second;
-    Ok(format!(in alloc;
+    let text = format!(in alloc;
         "resources 2\npruned 0\nnot deterministic\nexchanged {a} and {b}\ntree {tree}\n{a} first: {how}\n{b} first: {other}\n"
-    )?)
+    )?;
+    Ok(told == text.as_str())
 }
 
-fn is_explained(alloc: Global, rt: &impl Abort, row: &Row) -> Result<(), Fail> {
-    let (manifest, tree, left, right) = row;
-    let told = told_of(alloc, manifest)?;
-    let one = text(alloc, tree, left, right)?;
-    let other = text(alloc, tree, right, left)?;
-    let said = if told.out.as_str() == other.as_str() {
-        &other
-    } else {
-        &one
-    };
-    compare(rt, &told, 1, said.as_str(), "", manifest);
+/// Whether a row is told, with either run first.
+fn tells_row(alloc: Global, told: &str, row: &Row) -> Result<bool, Fail> {
+    let is_left = tells(alloc, told, row.1, &row.2, &row.3)?;
+    let is_right = tells(alloc, told, row.1, &row.3, &row.2)?;
+    Ok(is_left || is_right)
+}
+
+/// What is wanted is told on out alone, with the status of a manifest whose order matters.
+fn is_apart(rt: &impl Abort, told: &Told, is_wanted: bool) {
+    assert!(rt; is_wanted, "{}", told.out.as_str());
+    assert_eq!(rt; told.err.as_str(), "");
+    assert_eq!(rt; told.status, 1);
+}
+
+fn is_explained(rt: &(impl Abort + AllocGlobal), row: &Row) -> Result<(), Fail> {
+    let told = told_of(rt.alloc(), row.0)?;
+    let is_wanted = tells_row(rt.alloc(), told.out.as_str(), row)?;
+    is_apart(rt, &told, is_wanted);
+    Ok(())
+}
+
+fn all_explained(rt: &(impl Abort + AllocGlobal), rows: &[Row]) -> Result<(), Fail> {
+    for row in rows {
+        is_explained(rt, row)?;
+    }
     Ok(())
 }
 
 #[test]
 fn orders_that_end_apart(rt: HostRuntime) -> Result<(), Fail> {
-    for row in ROWS {
-        is_explained(rt.alloc(), &rt, &row)?;
-    }
-    Ok(())
+    all_explained(&rt, &ROWS)
 }
+
+/// What is told of two packages. Which order is told first is free; the package that comes last has its content there.
+const PACKAGES: [&str; 2] = [
+    concat!(
+        "resources 2\npruned 0\nnot deterministic\nexchanged Package[a] (1:11) and Package[b] (1:11)\ntree {}\n",
+        "Package[a] (1:11) first: ends\nPackage[b] (1:11) first: ends\n",
+        "at \"/usr/share/x\": file \"digest:digest2\" | file \"digest:digest1\"\n"
+    ),
+    concat!(
+        "resources 2\npruned 0\nnot deterministic\nexchanged Package[b] (1:11) and Package[a] (1:11)\ntree {}\n",
+        "Package[b] (1:11) first: ends\nPackage[a] (1:11) first: ends\n",
+        "at \"/usr/share/x\": file \"digest:digest1\" | file \"digest:digest2\"\n"
+    ),
+];
 
 #[test]
 fn paths_at_which_outcomes_differ(rt: HostRuntime) -> Result<(), Fail> {
     let told = told_of(rt.alloc(), "package { ['a', 'b']: }")?;
-    // Which order is told first is free; the package that comes last has its content there.
-    let (first, last) = if told.out.as_str().contains("exchanged Package[a]") {
-        ("a", "b")
-    } else {
-        ("b", "a")
-    };
-    let (x, y) = if first == "a" { (2, 1) } else { (1, 2) };
-    let want = format!(in rt.alloc();
-        "resources 2\npruned 0\nnot deterministic\nexchanged Package[{first}] (1:11) and Package[{last}] (1:11)\ntree {{}}\nPackage[{first}] (1:11) first: ends\nPackage[{last}] (1:11) first: ends\nat \"/usr/share/x\": file \"digest:digest{x}\" | file \"digest:digest{y}\"\n"
-    )?;
-    compare(&rt, &told, 1, want.as_str(), "", "two packages");
+    is_apart(&rt, &told, PACKAGES.contains(&told.out.as_str()));
     Ok(())
 }
 
-/// Manifests that fail from every tree, the lines between `resources` and `pruned`, how many resources there are, and where the
-/// first extension fails from the empty tree. No model removes what it hasn't asked about, so `rm` fails in none of them.
-const NEVER: [(&str, &str, u32, u32, &str); 6] = [
+/// Words, a manifest, the status, and what is told on out and err.
+type Asked = (
+    &'static [&'static str],
+    &'static str,
+    u8,
+    &'static str,
+    &'static str,
+);
+
+fn all_told(rt: &(impl Abort + AllocGlobal), rows: &[Asked]) -> Result<(), Fail> {
+    for (words, manifest, status, out, err) in rows {
+        let told = asked(rt.alloc(), *words, *manifest)?;
+        compare(rt, &told, *status, *out, *err, *manifest);
+    }
+    Ok(())
+}
+
+/// Manifests that fail from every tree, and where the first extension fails from the empty tree. No model removes what it hasn't asked
+/// about, so `rm` fails in none of them.
+const NEVER: [Asked; 6] = [
     (
+        EXPLAIN,
         "package { 'p': } -> file { '/opt/p': content => 'x' }",
+        0,
+        concat!(
+            "resources 2\npruned 2\ndeterministic\nidempotent\nfails from every tree\n",
+            "from {}: fails at File[/opt/p] (1:28): creat \"/opt/p\": exists\n"
+        ),
         "",
-        2,
-        2,
-        r#"File[/opt/p] (1:28): creat "/opt/p": exists"#,
     ),
     (
+        EXPLAIN,
         "package { 'p': } -> file { '/opt/p': ensure => link, target => '/t' }",
+        0,
+        concat!(
+            "resources 2\npruned 2\ndeterministic\nidempotent\nfails from every tree\n",
+            "from {}: fails at File[/opt/p] (1:28): link \"/opt/p\": exists\n"
+        ),
         "",
-        2,
-        2,
-        r#"File[/opt/p] (1:28): link "/opt/p": exists"#,
     ),
     (
+        EXPLAIN,
         "file { '/opt': content => 'x' } -> package { 'p': }",
+        0,
+        concat!(
+            "resources 2\npruned 2\ndeterministic\nidempotent\nfails from every tree\n",
+            "from {}: fails at Package[p] (1:46): mkdir \"/opt\": exists\n"
+        ),
         "",
-        2,
-        2,
-        r#"Package[p] (1:46): mkdir "/opt": exists"#,
     ),
     (
+        EXPLAIN,
         "package { 'p': } -> file { '/s': content => 'x' } -> file { '/opt/p': source => '/s' }",
+        0,
+        concat!(
+            "resources 3\npruned 3\ndeterministic\nidempotent\nfails from every tree\n",
+            "from {}: fails at File[/opt/p] (1:61): cp \"/s\" \"/opt/p\": exists \"/opt/p\"\n"
+        ),
         "",
-        3,
-        3,
-        r#"File[/opt/p] (1:61): cp "/s" "/opt/p": exists "/opt/p""#,
     ),
     (
+        EXPLAIN,
         "file { '/q': content => 'x' } -> file { '/q/d': source => '/q' }",
+        0,
+        concat!(
+            "resources 2\npruned 2\ndeterministic\nidempotent\nfails from every tree\n",
+            "from {}: fails at File[/q/d] (1:41): cp \"/q\" \"/q/d\": no folder \"/q\"\n"
+        ),
         "",
-        2,
-        2,
-        r#"File[/q/d] (1:41): cp "/q" "/q/d": no folder "/q""#,
     ),
     (
+        EXPLAIN,
         "node default { cron { 'c': command => 'x', user => 'u' } user { 'u': ensure => absent } }",
-        "node default\n",
-        2,
-        2,
-        r#"Cron[c] (1:23): needs file?("/.rehearsal/user/u")"#,
+        0,
+        concat!(
+            "resources 2\nnode default\npruned 2\ndeterministic\nidempotent\nfails from every tree\n",
+            "from {}: fails at Cron[c] (1:23): needs file?(\"/.rehearsal/user/u\")\n"
+        ),
+        "",
     ),
 ];
 
 #[test]
 fn manifests_that_never_succeed(rt: HostRuntime) -> Result<(), Fail> {
-    for (manifest, notes, n, pruned, fails) in NEVER {
-        let alloc = rt.alloc();
-        let told = told_of(alloc, manifest)?;
-        let want = format!(in alloc;
-            "resources {n}\n{notes}pruned {pruned}\ndeterministic\nidempotent\nfails from every tree\nfrom {{}}: fails at {fails}\n"
-        )?;
-        compare(&rt, &told, 0, want.as_str(), "", manifest);
-    }
-    Ok(())
+    all_told(&rt, &NEVER)
 }
 
-/// Manifests of which a second run changes something, the lines in front of the tree, and those behind it: how the second run ends,
+/// A manifest of which a second run changes something, the lines in front of the tree, and those behind it: how the second run ends,
 /// and how the lines on what it changed begin and end. The content in the tree is free.
-const AGAIN: [(&str, &str, &str, &str); 3] = [
+type Again = (&'static str, &'static str, &'static str, &'static str);
+
+const AGAIN: [Again; 3] = [
     (
         "file { '/dst': source => '/src' } -> file { '/src': ensure => absent }",
         "resources 2\npruned 2\ndeterministic\nnot idempotent\n",
@@ -255,76 +298,108 @@ const AGAIN: [(&str, &str, &str, &str); 3] = [
     ),
 ];
 
-#[test]
-fn second_runs_that_are_explained(rt: HostRuntime) -> Result<(), Fail> {
-    let words = [
-        "--ask",
-        "explain",
-        "--node",
-        "web",
-        "--packages",
-        "listing",
-        "site.pp",
-    ];
-    for (manifest, head, begins, ends) in AGAIN {
-        let told = asked(rt.alloc(), &words, manifest)?;
-        assert_eq!(rt; told.status, 2, "{manifest}");
-        assert_eq!(rt; told.err.len(), 0, "{manifest}");
-        let rest = told.out.as_str().strip_prefix(head).unwrap_or("?");
-        let (_, lines) = behind(rest, "tree ");
-        assert!(rt; lines.starts_with(begins), "{manifest}");
-        assert!(rt; lines.ends_with(ends), "{manifest}");
+const EXPLAIN_WEB: &[&str] = &[
+    "--ask",
+    "explain",
+    "--node",
+    "web",
+    "--packages",
+    "listing",
+    "site.pp",
+];
+
+/// Behind the tree the lines begin and end as a row has them.
+fn changes_again(rt: &impl Abort, rest: &str, row: &Again) {
+    let (_, lines) = behind(rest, "tree ");
+    assert!(rt; lines.starts_with(row.2), "{}", row.0);
+    assert!(rt; lines.ends_with(row.3), "{}", row.0);
+}
+
+fn is_changed_again(rt: &(impl Abort + AllocGlobal), row: &Again) -> Result<(), Fail> {
+    let told = asked(rt.alloc(), EXPLAIN_WEB, row.0)?;
+    assert_eq!(rt; told.status, 2, "{}", row.0);
+    assert_eq!(rt; told.err.len(), 0, "{}", row.0);
+    changes_again(
+        rt,
+        told.out.as_str().strip_prefix(row.1).unwrap_or("?"),
+        row,
+    );
+    Ok(())
+}
+
+fn all_changed_again(rt: &(impl Abort + AllocGlobal), rows: &[Again]) -> Result<(), Fail> {
+    for row in rows {
+        is_changed_again(rt, row)?;
     }
     Ok(())
 }
 
-/// The words between `--ask explain` and the manifest, the manifest, the status and what is told.
-const ASIDE: [(&[&str], &str, u8, &str, &str); 8] = [
+#[test]
+fn second_runs_that_are_explained(rt: HostRuntime) -> Result<(), Fail> {
+    all_changed_again(&rt, &AGAIN)
+}
+
+/// What is told with a node, and what is refused.
+const ASIDE: [Asked; 8] = [
     (
-        &[],
+        &["--ask", "explain", "site.pp"],
         "",
         0,
         "resources 0\npruned 0\ndeterministic\nidempotent\nsucceeds from some tree\n",
         "",
     ),
     (
-        &["--node", "WEB1.example.org"],
+        &["--ask", "explain", "--node", "WEB1.example.org", "site.pp"],
         "node 'a', 'Web1.Example.org' { } node default { }",
         0,
         "resources 0\nnode Web1.Example.org\npruned 0\ndeterministic\nidempotent\nsucceeds from some tree\n",
         "",
     ),
     (
-        &["--node", "web2"],
+        &["--ask", "explain", "--node", "web2", "site.pp"],
         "node 'web1' { } node default { file { '/a': content => 'x' } }",
         0,
         "resources 1\nnode default\npruned 1\ndeterministic\nidempotent\nsucceeds from some tree\n",
         "",
     ),
     (
-        &["--node", "web2"],
+        &["--ask", "explain", "--node", "web2", "site.pp"],
         "node 'web1' { }",
         4,
         "",
         "refused 31 at 0: web2\n",
     ),
     (
-        &["--packages", "listing", "--conflicts", "1"],
+        &[
+            "--ask",
+            "explain",
+            "--packages",
+            "listing",
+            "--conflicts",
+            "1",
+            "site.pp",
+        ],
         "package { ['a', 'b']: }",
         3,
         "resources 2\npruned 0\nspent deterministic 1\n",
         "",
     ),
-    (&[], "exec { 'x': }", 4, "", "refused 50 at 7: Exec[x]\n"),
     (
-        &["--path", "/a"],
+        &["--ask", "explain", "site.pp"],
+        "exec { 'x': }",
+        4,
+        "",
+        "refused 50 at 7: Exec[x]\n",
+    ),
+    (
+        &["--ask", "explain", "--path", "/a", "site.pp"],
         "",
         5,
         "",
         "usage: rehearsal [--facts F] [--packages P] [--node N] [--conflicts C] [--ask A] [--tree T] [--order O] [--workload N] [--path P] [--content T] [--other M] [--data D] [--compiled C] [--assume S] [--given G] [--limits L] [INPUT]\n",
     ),
     (
-        &["--tree", "listing"],
+        &["--ask", "explain", "--tree", "listing", "site.pp"],
         "",
         5,
         "",
@@ -334,14 +409,5 @@ const ASIDE: [(&[&str], &str, u8, &str, &str); 8] = [
 
 #[test]
 fn nodes_and_refusals(rt: HostRuntime) -> Result<(), Fail> {
-    for (words, manifest, status, out, err) in ASIDE {
-        let alloc = rt.alloc();
-        let mut named = Vec::new(alloc);
-        named.extend_from_slice(&["--ask", "explain"])?;
-        named.extend_from_slice(words)?;
-        named.push("site.pp")?;
-        let told = asked(alloc, &named, manifest)?;
-        compare(&rt, &told, status, out, err, manifest);
-    }
-    Ok(())
+    all_told(&rt, &ASIDE)
 }

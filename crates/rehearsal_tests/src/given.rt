@@ -1,7 +1,9 @@
 //! Folders and links that every host has: what is told where they are given, and which texts of them are refused.
 
 use crate::common::{Told, compare, run_over};
-use crate::differences::behind;
+use crate::equal::{differ, read_apart};
+use crate::run_again::{Runs, read_runs};
+use crate::verify::is_told;
 use std::alloc::Global;
 use std::process::Abort;
 use std::test::Fail;
@@ -208,37 +210,53 @@ const ROWS: [Row; 17] = [
     ),
 ];
 
+/// Each row: words, a manifest and what is given, and what is told of them with this status.
+fn all_told(
+    rt: &(impl Abort + AllocGlobal),
+    status: u8,
+    rows: &[(&[&str], &str, &str, &str)],
+) -> Result<(), Fail> {
+    for (words, manifest, given, want) in rows {
+        let told = asked(rt.alloc(), *words, *manifest, *given)?;
+        is_told(rt, &told, status, *want, *manifest);
+    }
+    Ok(())
+}
+
 #[test]
 fn what_is_told_where_folders_are_given(rt: HostRuntime) -> Result<(), Fail> {
-    for (words, manifest, given, report) in ROWS {
-        let told = asked(rt.alloc(), words, manifest, given)?;
-        compare(&rt, &told, 0, report, "", manifest);
+    all_told(&rt, 0, &ROWS)
+}
+
+/// Each row: words that give nothing, a manifest, and the status; and nothing is told to be given.
+fn all_without(rt: &(impl Abort + AllocGlobal), rows: &[(&[&str], &str, u8)]) -> Result<(), Fail> {
+    for (words, manifest, status) in rows {
+        let told = asked(rt.alloc(), *words, *manifest, "")?;
+        assert_eq!(rt; told.status, *status, "{manifest}");
+        assert!(rt; !told.out.as_str().contains("given"), "{manifest}");
     }
     Ok(())
 }
 
 #[test]
 fn what_is_told_where_none_are(rt: HostRuntime) -> Result<(), Fail> {
-    let rows: [(&[&str], &str, u8); 4] = [
-        (&["--packages", "listing", "site.pp"], MOTD, 1),
-        (
-            &["--ask", "ensures", "--path", "/lib/x", "site.pp"],
-            "file { '/usr/lib/x': content => 'c' }",
-            9,
-        ),
-        (
-            &["--ask", "equal", "--other", "other.pp", "site.pp"],
-            "file { '/lib/x': content => 'c' }",
-            10,
-        ),
-        (&["--packages", "listing", "site.pp"], UNIT, 0),
-    ];
-    for (words, manifest, status) in rows {
-        let told = asked(rt.alloc(), words, manifest, "")?;
-        assert_eq!(rt; told.status, status, "{manifest}");
-        assert!(rt; !told.out.as_str().contains("given"), "{manifest}");
-    }
-    Ok(())
+    all_without(
+        &rt,
+        &[
+            (&["--packages", "listing", "site.pp"], MOTD, 1),
+            (
+                &["--ask", "ensures", "--path", "/lib/x", "site.pp"],
+                "file { '/usr/lib/x': content => 'c' }",
+                9,
+            ),
+            (
+                &["--ask", "equal", "--other", "other.pp", "site.pp"],
+                "file { '/lib/x': content => 'c' }",
+                10,
+            ),
+            (&["--packages", "listing", "site.pp"], UNIT, 0),
+        ],
+    )
 }
 
 /// The tree that is told has each of these members.
@@ -248,43 +266,66 @@ fn has_members(rt: &impl Abort, tree: &str, members: &[&str]) {
     }
 }
 
+/// Behind these lines two outcomes are told that differ, from a tree that has each of these members.
+fn matters(
+    rt: &(impl Abort + AllocGlobal),
+    manifest: &str,
+    given: &str,
+    head: &str,
+    members: &[&str],
+) -> Result<(), Fail> {
+    let told = asked(rt.alloc(), VERIFY, manifest, given)?;
+    assert_eq!(rt; told.status, 1, "{manifest}");
+    let apart = read_apart(told.out.as_str().strip_prefix(head).unwrap_or("?"));
+    has_members(rt, apart.tree, members);
+    differ(rt, &apart, manifest);
+    Ok(())
+}
+
+/// Each row: a manifest and what is given, the lines in front of the tree, and members of it.
+fn all_matter(
+    rt: &(impl Abort + AllocGlobal),
+    rows: &[(&str, &str, &str, &[&str])],
+) -> Result<(), Fail> {
+    for (manifest, given, head, members) in rows {
+        matters(rt, *manifest, *given, *head, *members)?;
+    }
+    Ok(())
+}
+
 /// Two outcomes that differ, from a tree with the folders that are given.
 #[test]
 fn orders_that_matter(rt: HostRuntime) -> Result<(), Fail> {
-    let rows: [(&str, &str, &str, &[&str]); 2] = [
-        (
-            UNIT,
-            LIB,
-            "resources 2\ngiven 4\npruned 0\nnot deterministic\n",
-            &[
-                r#""/usr":null"#,
-                r#""/usr/lib":null"#,
-                r#""/usr/lib/systemd":null"#,
-                r#""/usr/lib/systemd/system":null"#,
-            ],
-        ),
-        // The folder has nothing to do with what the packages have.
-        (
-            "package { ['a', 'b']: }",
-            ETC,
-            "resources 2\ngiven 1\npruned 0\nnot deterministic\n",
-            &[r#""/etc":null"#],
-        ),
-    ];
-    for (manifest, given, head, members) in rows {
-        let told = asked(rt.alloc(), VERIFY, manifest, given)?;
-        assert_eq!(rt; told.status, 1, "{manifest}");
-        let rest = told.out.as_str().strip_prefix(head).unwrap_or("?");
-        let (tree, rest) = behind(rest, "tree ");
-        has_members(&rt, tree, members);
-        let (_, rest) = behind(rest, "order ");
-        let (first, rest) = behind(rest, "outcome ");
-        let (_, rest) = behind(rest, "order ");
-        let (second, rest) = behind(rest, "outcome ");
-        assert_eq!(rt; rest, "", "{manifest}");
-        assert!(rt; first != second, "{manifest}");
-    }
-    Ok(())
+    all_matter(
+        &rt,
+        &[
+            (
+                UNIT,
+                LIB,
+                "resources 2\ngiven 4\npruned 0\nnot deterministic\n",
+                &[
+                    r#""/usr":null"#,
+                    r#""/usr/lib":null"#,
+                    r#""/usr/lib/systemd":null"#,
+                    r#""/usr/lib/systemd/system":null"#,
+                ],
+            ),
+            // The folder has nothing to do with what the packages have.
+            (
+                "package { ['a', 'b']: }",
+                ETC,
+                "resources 2\ngiven 1\npruned 0\nnot deterministic\n",
+                &[r#""/etc":null"#],
+            ),
+        ],
+    )
+}
+
+/// The outcomes of a text differ at this place alone.
+fn differs_at(rt: &impl Abort, text: &str, place: &str) {
+    let (_, at) = text.split_once("\nat ").unwrap_or(("", "?"));
+    assert!(rt; at.starts_with(place), "{at}");
+    assert!(rt; !at.contains("\nat "), "{at}");
 }
 
 /// Both names of one place are one path of the outcomes.
@@ -292,11 +333,20 @@ fn orders_that_matter(rt: HostRuntime) -> Result<(), Fail> {
 fn one_place_under_two_names(rt: HostRuntime) -> Result<(), Fail> {
     let told = asked(rt.alloc(), EXPLAIN, UNIT, LIB)?;
     assert_eq!(rt; told.status, 1);
-    let (_, at) = told.out.as_str().split_once("\nat ").unwrap_or(("", "?"));
-    let place = "\"/usr/lib/systemd/system/cron.service\": ";
-    assert!(rt; at.starts_with(place), "{at}");
-    assert!(rt; !at.contains("\nat "), "{at}");
+    differs_at(
+        &rt,
+        told.out.as_str(),
+        "\"/usr/lib/systemd/system/cron.service\": ",
+    );
     Ok(())
+}
+
+/// The folder stands in the tree and behind the second run, but not behind the first.
+fn is_made_again(rt: &impl Abort, runs: &Runs) {
+    has_members(rt, runs.tree, &[r#""/srv":null"#, r#""/srv/x":null"#]);
+    assert!(rt; !runs.first.contains("/srv/x"), "{}", runs.first);
+    assert!(rt; runs.second.contains("/srv/x"), "{}", runs.second);
+    assert_eq!(rt; runs.rest, "succeeds from some tree\n");
 }
 
 /// The folder stands when a first run begins, which removes it; a second one makes it again.
@@ -306,15 +356,8 @@ fn second_runs_where_a_folder_is_gone(rt: HostRuntime) -> Result<(), Fail> {
     let told = asked(rt.alloc(), VERIFY, manifest, SRV)?;
     assert_eq!(rt; told.status, 2);
     let head = "resources 2\ngiven 2\npruned 2\ndeterministic\nnot idempotent\n";
-    let rest = told.out.as_str().strip_prefix(head).unwrap_or("?");
-    let (tree, rest) = behind(rest, "tree ");
-    has_members(&rt, tree, &[r#""/srv":null"#, r#""/srv/x":null"#]);
-    let (_, rest) = behind(rest, "order ");
-    let (first, rest) = behind(rest, "outcome ");
-    assert!(rt; !first.contains("/srv/x"), "{first}");
-    let (second, rest) = behind(rest, "outcome ");
-    assert!(rt; second.contains("/srv/x"), "{second}");
-    assert_eq!(rt; rest, "succeeds from some tree\n");
+    let runs = read_runs(told.out.as_str().strip_prefix(head).unwrap_or("?"));
+    is_made_again(&rt, &runs);
     Ok(())
 }
 
@@ -346,79 +389,84 @@ const TEXTS: [&str; 24] = [
     r#"{"version":1,"folders":["/lib/x"],"links":{"/lib":"/usr/lib"}}"#,
 ];
 
-#[test]
-fn texts_that_give_nothing(rt: HostRuntime) -> Result<(), Fail> {
-    for text in TEXTS {
-        let told = asked(rt.alloc(), VERIFY, "", text)?;
-        compare(&rt, &told, 4, "", "refused 67 at 0: given\n", text);
+fn all_give_nothing(rt: &(impl Abort + AllocGlobal), rows: &[&str]) -> Result<(), Fail> {
+    for text in rows {
+        let told = asked(rt.alloc(), VERIFY, "", *text)?;
+        compare(rt, &told, 4, "", "refused 67 at 0: given\n", *text);
     }
     Ok(())
 }
 
 #[test]
+fn texts_that_give_nothing(rt: HostRuntime) -> Result<(), Fail> {
+    all_give_nothing(&rt, &TEXTS)
+}
+
+/// A run from the tree `none`.
+const TOLD: &[&str] = &[
+    "--ask", "replay", "--tree", "none", "--given", "given", "site.pp",
+];
+
+#[test]
 fn refusals_where_folders_are_given(rt: HostRuntime) -> Result<(), Fail> {
-    let told: &[&str] = &[
-        "--ask", "replay", "--tree", "none", "--given", "given", "site.pp",
-    ];
-    let rows: [(&[&str], &str, &str, &str); 8] = [
-        // A tree in which the folder doesn't stand; a text that gives nothing comes first.
-        (told, "", ETC, "refused 62 at 0: tree\n"),
-        (told, "", "[]", "refused 67 at 0: given\n"),
-        // The tree that is no tree comes before that text, which comes before the manifest.
-        (
-            &[
-                "--ask", "replay", "--tree", "site.pp", "--given", "given", "site.pp",
-            ],
-            "'",
-            "[]",
-            "refused 62 at 0: tree\n",
-        ),
-        (VERIFY, "'", "[]", "refused 67 at 0: given\n"),
-        // The file's path is the link's.
-        (
-            VERIFY,
-            "file { '/a': } file { '/lib': ensure => directory } file { '/b': replace => false }",
-            LIB,
-            "refused 53 at 22: File[/lib]\n",
-        ),
-        // What is refused of a resource ahead of it comes first, and what is refused of it ahead of its path.
-        (
-            VERIFY,
-            "file { '/a': replace => false } file { '/lib': ensure => directory }",
-            LIB,
-            "refused 51 at 7: replace\n",
-        ),
-        (
-            VERIFY,
-            "file { '/lib': replace => false }",
-            LIB,
-            "refused 51 at 7: replace\n",
-        ),
-        (
-            VERIFY,
-            "file { '/lib': } file { 'x': path => '/lib/' }",
-            LIB,
-            "refused 53 at 7: File[/lib]\n",
-        ),
-    ];
-    for (words, manifest, given, line) in rows {
-        let told = asked(rt.alloc(), words, manifest, given)?;
-        compare(&rt, &told, 4, "", line, manifest);
-    }
+    all_told(
+        &rt,
+        4,
+        &[
+            // A tree in which the folder doesn't stand; a text that gives nothing comes first.
+            (TOLD, "", ETC, "refused 62 at 0: tree\n"),
+            (TOLD, "", "[]", "refused 67 at 0: given\n"),
+            // The tree that is no tree comes before that text, which comes before the manifest.
+            (
+                &[
+                    "--ask", "replay", "--tree", "site.pp", "--given", "given", "site.pp",
+                ],
+                "'",
+                "[]",
+                "refused 62 at 0: tree\n",
+            ),
+            (VERIFY, "'", "[]", "refused 67 at 0: given\n"),
+            // The file's path is the link's.
+            (
+                VERIFY,
+                "file { '/a': } file { '/lib': ensure => directory } file { '/b': replace => false }",
+                LIB,
+                "refused 53 at 22: File[/lib]\n",
+            ),
+            // What is refused of a resource ahead of it comes first, and what is refused of it ahead of its path.
+            (
+                VERIFY,
+                "file { '/a': replace => false } file { '/lib': ensure => directory }",
+                LIB,
+                "refused 51 at 7: replace\n",
+            ),
+            (
+                VERIFY,
+                "file { '/lib': replace => false }",
+                LIB,
+                "refused 51 at 7: replace\n",
+            ),
+            (
+                VERIFY,
+                "file { '/lib': } file { 'x': path => '/lib/' }",
+                LIB,
+                "refused 53 at 7: File[/lib]\n",
+            ),
+        ],
+    )
+}
+
+/// The refusal of so many blanks.
+fn is_refused(rt: &(impl Abort + AllocGlobal), length: usize, line: &str) -> Result<(), Fail> {
+    let text = " ".repeat(rt.alloc(), length)?;
+    let told = asked(rt.alloc(), VERIFY, "", text.as_str())?;
+    compare(rt, &told, 4, "", line, "a long text");
     Ok(())
 }
 
 /// A text at the limit and one over it.
 #[test]
 fn texts_that_are_long(rt: HostRuntime) -> Result<(), Fail> {
-    let rows: [(usize, &str); 2] = [
-        (1_048_576, "refused 67 at 0: given\n"),
-        (1_048_577, "refused 17 at 0: given\n"),
-    ];
-    for (length, line) in rows {
-        let text = " ".repeat(rt.alloc(), length)?;
-        let told = asked(rt.alloc(), VERIFY, "", text.as_str())?;
-        compare(&rt, &told, 4, "", line, "a long text");
-    }
-    Ok(())
+    is_refused(&rt, 1_048_576, "refused 67 at 0: given\n")?;
+    is_refused(&rt, 1_048_577, "refused 17 at 0: given\n")
 }

@@ -1,6 +1,7 @@
 //! Fourteen hosts whose catalogs Puppet compiled: what is told of each, alone and with a listing and assumptions.
 
 use crate::common::{Told, compare, run_over};
+use crate::workloads::is_well;
 use std::alloc::Global;
 use std::process::Abort;
 use std::test::Fail;
@@ -59,137 +60,169 @@ type Refused = (
     &'static str,
 );
 
-/// The first resource of which nothing can be said.
-const REFUSED: [Refused; 20] = [
-    (
-        host::NGINX_PROFILE,
-        ALONE,
-        "",
-        "refused 54 at 0: Package[nginx] (/etc/puppet/hosts/h01-nginx-profile.pp:2)\n",
-    ),
-    (
-        host::USERS,
-        ALONE,
-        "",
-        "refused 51 at 0: User[mallory] managehome (/etc/puppet/hosts/h02-users.pp:10)\n",
-    ),
-    (
-        host::BACKUP_CRON,
-        ALONE,
-        "",
-        "refused 54 at 0: Package[rsync] (/etc/puppet/hosts/h03-backup-cron.pp:2)\n",
-    ),
-    (
-        host::SSHD,
-        ALONE,
-        "",
-        "refused 54 at 0: Package[openssh-server] (/etc/puppet/hosts/h04-sshd.pp:2)\n",
-    ),
-    (
-        host::APP_TARBALL,
-        LISTED,
-        "",
-        "refused 50 at 0: Exec[fetch app] (/etc/puppet/hosts/h05-app-tarball.pp:4)\n",
-    ),
-    (
-        host::CONFD,
-        ALONE,
-        "",
-        "refused 54 at 0: Package[telegraf] (/etc/puppet/hosts/h06-confd.pp:3)\n",
-    ),
-    (
-        host::CONFD,
-        LISTED,
-        "",
-        "refused 51 at 0: File[/etc/telegraf/telegraf.d] purge (/etc/puppet/hosts/h06-confd.pp:4)\n",
-    ),
-    (
-        host::STAGES,
-        LISTED,
-        "",
-        "refused 50 at 0: Exec[apt-get update] (/etc/puppet/hosts/h07-stages.pp:3)\n",
-    ),
-    (
-        host::VALUES,
-        LISTED,
-        "",
-        "refused 51 at 0: File[/a/] force (/etc/puppet/hosts/h09-values.pp:4)\n",
-    ),
-    (
-        host::VALUES,
-        ASSUMED,
-        r#"{"version":1,"resources":{"File[/a]":"none"}}"#,
-        "refused 51 at 0: File[named] source (/etc/puppet/hosts/h09-values.pp:5)\n",
-    ),
-    (
-        host::VALUES,
-        ASSUMED,
-        r#"{"version":1,"resources":{"File":"none"}}"#,
-        "refused 55 at 0: Service[s] (/etc/puppet/hosts/h09-values.pp:9)\n",
-    ),
-    (
-        host::VALUES,
-        ASSUMED,
-        r#"{"version":1,"resources":{"File":"none","Service[s]":"none"}}"#,
-        "refused 54 at 0: Package[p] (/etc/puppet/hosts/h09-values.pp:11)\n",
-    ),
-    (
-        host::VALUES,
-        ASSUMED,
-        r#"{"version":1,"resources":{"File":"none","Service[s]":"none","Package[p]":"none"}}"#,
-        "refused 55 at 0: Package[q] (/etc/puppet/hosts/h09-values.pp:12)\n",
-    ),
-    (
-        host::VALUES,
-        ASSUMED,
-        r#"{"version":1,"resources":{"File":"none","Service[s]":"none","Package":"none"}}"#,
-        "refused 23 at 0: Resources[cron] (/etc/puppet/hosts/h09-values.pp:16)\n",
-    ),
-    (
-        host::POSTGRES_MANUAL,
-        LISTED,
-        "",
-        "refused 50 at 0: Exec[create role app] (/etc/puppet/hosts/h10-postgres-manual.pp:6)\n",
-    ),
-    (
-        host::MOTD_HOSTS,
-        LISTED,
-        "",
-        "refused 23 at 0: Host[db1] (/etc/puppet/hosts/h11-motd-hosts.pp:3)\n",
-    ),
-    (
-        host::MOTD_HOSTS,
-        ASSUMED,
-        r#"{"version":1,"resources":{"Host":"none","Mount":"none"}}"#,
-        "refused 23 at 0: Tidy[/tmp/old] (/etc/puppet/hosts/h11-motd-hosts.pp:7)\n",
-    ),
-    (
-        host::DOCKER_HOST,
-        LISTED,
-        "",
-        "refused 50 at 0: Exec[sysctl --system] (/etc/puppet/hosts/h12-docker-host.pp:8)\n",
-    ),
-    (
-        host::MAIL_RELAY,
-        LISTED,
-        "",
-        "refused 50 at 0: Exec[newaliases] (/etc/puppet/hosts/h13-mail-relay.pp:8)\n",
-    ),
-    (
-        host::WEBROOT_EPP,
-        ALONE,
-        "",
-        "refused 54 at 0: Package[apache2] (/etc/puppet/hosts/h14-webroot-epp.pp:2)\n",
-    ),
-];
-
-#[test]
-fn what_is_refused_first(rt: HostRuntime) -> Result<(), Fail> {
-    for (catalog, words, assumed, line) in REFUSED {
-        let told = asked(rt.alloc(), words, catalog, assumed)?;
-        compare(&rt, &told, 4, "", line, line);
+/// Each row: what is told is the refusal of the first resource of which nothing can be said.
+fn all_refused(rt: &(impl Abort + AllocGlobal), rows: &[Refused]) -> Result<(), Fail> {
+    for (catalog, words, assumed, line) in rows {
+        let told = asked(rt.alloc(), *words, *catalog, *assumed)?;
+        compare(rt, &told, 4, "", *line, *line);
     }
     Ok(())
+}
+
+#[test]
+fn what_is_refused_of_packages_users_and_commands(rt: HostRuntime) -> Result<(), Fail> {
+    all_refused(
+        &rt,
+        &[
+            (
+                host::NGINX_PROFILE,
+                ALONE,
+                "",
+                "refused 54 at 0: Package[nginx] (/etc/puppet/hosts/h01-nginx-profile.pp:2)\n",
+            ),
+            (
+                host::USERS,
+                ALONE,
+                "",
+                "refused 51 at 0: User[mallory] managehome (/etc/puppet/hosts/h02-users.pp:10)\n",
+            ),
+            (
+                host::BACKUP_CRON,
+                ALONE,
+                "",
+                "refused 54 at 0: Package[rsync] (/etc/puppet/hosts/h03-backup-cron.pp:2)\n",
+            ),
+            (
+                host::SSHD,
+                ALONE,
+                "",
+                "refused 54 at 0: Package[openssh-server] (/etc/puppet/hosts/h04-sshd.pp:2)\n",
+            ),
+            (
+                host::APP_TARBALL,
+                LISTED,
+                "",
+                "refused 50 at 0: Exec[fetch app] (/etc/puppet/hosts/h05-app-tarball.pp:4)\n",
+            ),
+        ],
+    )
+}
+
+#[test]
+fn what_is_refused_of_folders_and_stages(rt: HostRuntime) -> Result<(), Fail> {
+    all_refused(
+        &rt,
+        &[
+            (
+                host::CONFD,
+                ALONE,
+                "",
+                "refused 54 at 0: Package[telegraf] (/etc/puppet/hosts/h06-confd.pp:3)\n",
+            ),
+            (
+                host::CONFD,
+                LISTED,
+                "",
+                "refused 51 at 0: File[/etc/telegraf/telegraf.d] purge (/etc/puppet/hosts/h06-confd.pp:4)\n",
+            ),
+            (
+                host::STAGES,
+                LISTED,
+                "",
+                "refused 50 at 0: Exec[apt-get update] (/etc/puppet/hosts/h07-stages.pp:3)\n",
+            ),
+        ],
+    )
+}
+
+#[test]
+fn values_that_are_refused_one_after_the_other(rt: HostRuntime) -> Result<(), Fail> {
+    all_refused(
+        &rt,
+        &[
+            (
+                host::VALUES,
+                LISTED,
+                "",
+                "refused 51 at 0: File[/a/] force (/etc/puppet/hosts/h09-values.pp:4)\n",
+            ),
+            (
+                host::VALUES,
+                ASSUMED,
+                r#"{"version":1,"resources":{"File[/a]":"none"}}"#,
+                "refused 51 at 0: File[named] source (/etc/puppet/hosts/h09-values.pp:5)\n",
+            ),
+            (
+                host::VALUES,
+                ASSUMED,
+                r#"{"version":1,"resources":{"File":"none"}}"#,
+                "refused 55 at 0: Service[s] (/etc/puppet/hosts/h09-values.pp:9)\n",
+            ),
+            (
+                host::VALUES,
+                ASSUMED,
+                r#"{"version":1,"resources":{"File":"none","Service[s]":"none"}}"#,
+                "refused 54 at 0: Package[p] (/etc/puppet/hosts/h09-values.pp:11)\n",
+            ),
+            (
+                host::VALUES,
+                ASSUMED,
+                r#"{"version":1,"resources":{"File":"none","Service[s]":"none","Package[p]":"none"}}"#,
+                "refused 55 at 0: Package[q] (/etc/puppet/hosts/h09-values.pp:12)\n",
+            ),
+            (
+                host::VALUES,
+                ASSUMED,
+                r#"{"version":1,"resources":{"File":"none","Service[s]":"none","Package":"none"}}"#,
+                "refused 23 at 0: Resources[cron] (/etc/puppet/hosts/h09-values.pp:16)\n",
+            ),
+        ],
+    )
+}
+
+#[test]
+fn what_is_refused_of_databases_and_mail(rt: HostRuntime) -> Result<(), Fail> {
+    all_refused(
+        &rt,
+        &[
+            (
+                host::POSTGRES_MANUAL,
+                LISTED,
+                "",
+                "refused 50 at 0: Exec[create role app] (/etc/puppet/hosts/h10-postgres-manual.pp:6)\n",
+            ),
+            (
+                host::MOTD_HOSTS,
+                LISTED,
+                "",
+                "refused 23 at 0: Host[db1] (/etc/puppet/hosts/h11-motd-hosts.pp:3)\n",
+            ),
+            (
+                host::MOTD_HOSTS,
+                ASSUMED,
+                r#"{"version":1,"resources":{"Host":"none","Mount":"none"}}"#,
+                "refused 23 at 0: Tidy[/tmp/old] (/etc/puppet/hosts/h11-motd-hosts.pp:7)\n",
+            ),
+            (
+                host::DOCKER_HOST,
+                LISTED,
+                "",
+                "refused 50 at 0: Exec[sysctl --system] (/etc/puppet/hosts/h12-docker-host.pp:8)\n",
+            ),
+            (
+                host::MAIL_RELAY,
+                LISTED,
+                "",
+                "refused 50 at 0: Exec[newaliases] (/etc/puppet/hosts/h13-mail-relay.pp:8)\n",
+            ),
+            (
+                host::WEBROOT_EPP,
+                ALONE,
+                "",
+                "refused 54 at 0: Package[apache2] (/etc/puppet/hosts/h14-webroot-epp.pp:2)\n",
+            ),
+        ],
+    )
 }
 
 /// A catalog, what is asked, what is assumed, and the first lines of a yes.
@@ -200,91 +233,116 @@ type Answered = (
     &'static str,
 );
 
-const ANSWERED: [Answered; 14] = [
-    (host::NGINX_PROFILE, LISTED, "", "resources 6\npruned 6\n"),
-    (
-        host::USERS,
-        ASSUMED,
-        r#"{"version":1,"resources":{"User[mallory]":"none"}}"#,
-        "resources 12\nassumed 1\npruned 12\n",
-    ),
-    (host::BACKUP_CRON, LISTED, "", "resources 5\npruned 5\n"),
-    (host::SSHD, LISTED, "", "resources 3\npruned 3\n"),
-    (
-        host::APP_TARBALL,
-        ASSUMED,
-        concat!(
-            r#"{"version":1,"resources":{"Exec[fetch app]":{"makes":["/opt/app/releases/app-1.4.2.tgz"],"creates":"/opt/app/releases/app-1.4.2.tgz"},"#,
-            r#""Exec[unpack app]":{"needs":["/opt/app/releases/app-1.4.2.tgz"],"folders":["/opt/app/releases/app-1.4.2"],"#,
-            r#""creates":"/opt/app/releases/app-1.4.2"},"Exec[daemon-reload]":"none"}}"#
-        ),
-        "resources 10\nassumed 3\npruned 10\n",
-    ),
-    (
-        host::CONFD,
-        ASSUMED,
-        r#"{"version":1,"resources":{"File[/etc/telegraf/telegraf.d]":{"folders":["/etc/telegraf/telegraf.d"]}}}"#,
-        "resources 6\nassumed 1\npruned 6\n",
-    ),
-    (
-        host::STAGES,
-        ASSUMED,
-        r#"{"version":1,"resources":{"Exec":"none"}}"#,
-        "resources 7\nassumed 1\npruned 7\n",
-    ),
-    (host::VIRTUAL_EXPORTED, ALONE, "", "resources 5\npruned 5\n"),
-    (
-        host::VALUES,
-        ASSUMED,
-        concat!(
-            r#"{"version":1,"resources":{"File[/a/]":{"folders":["/a"]},"File[named]":{"makes":["/b/c"],"creates":"/b/c"},"#,
-            r#""Service[s]":"none","Package":"none","Resources":"none"}}"#
-        ),
-        "resources 18\nassumed 7\npruned 18\n",
-    ),
-    (
-        host::POSTGRES_MANUAL,
-        ASSUMED,
-        r#"{"version":1,"resources":{"Exec[create role app]":"none"}}"#,
-        "resources 6\nassumed 1\npruned 6\n",
-    ),
-    // The two files and vim need /etc, of which nothing else makes sure. But without /etc no run ends: the host's line needs a file there.
-    (
-        host::MOTD_HOSTS,
-        ASSUMED,
-        r#"{"version":1,"resources":{"Host":{"edits":["/etc/hosts"]},"Tidy":"none","Mount":"none"}}"#,
-        "resources 13\nassumed 3\npruned 10\n",
-    ),
-    // So do the package and its folder, and without /etc no run ends either: the settings of the kernel need a folder there.
-    (
-        host::DOCKER_HOST,
-        ASSUMED,
-        r#"{"version":1,"resources":{"Exec":"none"}}"#,
-        "resources 8\nassumed 1\npruned 6\n",
-    ),
-    (
-        host::MAIL_RELAY,
-        ASSUMED,
-        r#"{"version":1,"resources":{"Exec[newaliases]":{"needs":["/etc/aliases"],"makes":["/etc/aliases.db"]}}}"#,
-        "resources 7\nassumed 1\npruned 7\n",
-    ),
-    (host::WEBROOT_EPP, LISTED, "", "resources 8\npruned 8\n"),
-];
-
-#[test]
-fn what_is_answered(rt: HostRuntime) -> Result<(), Fail> {
-    for (catalog, words, assumed, head) in ANSWERED {
-        let told = asked(rt.alloc(), words, catalog, assumed)?;
-        let rest = told.out.as_str().strip_prefix(head).unwrap_or("?");
-        assert_eq!(rt;
-            rest,
-            "deterministic\nidempotent\nsucceeds from some tree\n",
-            "{head}"
-        );
-        assert_eq!(rt; told.status, 0, "{head}");
-        assert_eq!(rt; told.err.as_str(), "", "{head}");
+fn all_answered(rt: &(impl Abort + AllocGlobal), rows: &[Answered]) -> Result<(), Fail> {
+    for (catalog, words, assumed, head) in rows {
+        let told = asked(rt.alloc(), *words, *catalog, *assumed)?;
+        is_well(rt, &told, *head);
     }
     Ok(())
+}
+
+#[test]
+fn what_is_answered_of_packages_and_users(rt: HostRuntime) -> Result<(), Fail> {
+    all_answered(
+        &rt,
+        &[
+            (host::NGINX_PROFILE, LISTED, "", "resources 6\npruned 6\n"),
+            (
+                host::USERS,
+                ASSUMED,
+                r#"{"version":1,"resources":{"User[mallory]":"none"}}"#,
+                "resources 12\nassumed 1\npruned 12\n",
+            ),
+            (host::BACKUP_CRON, LISTED, "", "resources 5\npruned 5\n"),
+            (host::SSHD, LISTED, "", "resources 3\npruned 3\n"),
+        ],
+    )
+}
+
+#[test]
+fn what_is_answered_of_commands_and_folders(rt: HostRuntime) -> Result<(), Fail> {
+    all_answered(
+        &rt,
+        &[
+            (
+                host::APP_TARBALL,
+                ASSUMED,
+                concat!(
+                    r#"{"version":1,"resources":{"Exec[fetch app]":{"makes":["/opt/app/releases/app-1.4.2.tgz"],"creates":"/opt/app/releases/app-1.4.2.tgz"},"#,
+                    r#""Exec[unpack app]":{"needs":["/opt/app/releases/app-1.4.2.tgz"],"folders":["/opt/app/releases/app-1.4.2"],"#,
+                    r#""creates":"/opt/app/releases/app-1.4.2"},"Exec[daemon-reload]":"none"}}"#
+                ),
+                "resources 10\nassumed 3\npruned 10\n",
+            ),
+            (
+                host::CONFD,
+                ASSUMED,
+                r#"{"version":1,"resources":{"File[/etc/telegraf/telegraf.d]":{"folders":["/etc/telegraf/telegraf.d"]}}}"#,
+                "resources 6\nassumed 1\npruned 6\n",
+            ),
+            (
+                host::STAGES,
+                ASSUMED,
+                r#"{"version":1,"resources":{"Exec":"none"}}"#,
+                "resources 7\nassumed 1\npruned 7\n",
+            ),
+            (host::VIRTUAL_EXPORTED, ALONE, "", "resources 5\npruned 5\n"),
+        ],
+    )
+}
+
+#[test]
+fn what_is_answered_of_values_and_databases(rt: HostRuntime) -> Result<(), Fail> {
+    all_answered(
+        &rt,
+        &[
+            (
+                host::VALUES,
+                ASSUMED,
+                concat!(
+                    r#"{"version":1,"resources":{"File[/a/]":{"folders":["/a"]},"File[named]":{"makes":["/b/c"],"creates":"/b/c"},"#,
+                    r#""Service[s]":"none","Package":"none","Resources":"none"}}"#
+                ),
+                "resources 18\nassumed 7\npruned 18\n",
+            ),
+            (
+                host::POSTGRES_MANUAL,
+                ASSUMED,
+                r#"{"version":1,"resources":{"Exec[create role app]":"none"}}"#,
+                "resources 6\nassumed 1\npruned 6\n",
+            ),
+        ],
+    )
+}
+
+#[test]
+fn what_is_answered_where_the_host_has_files(rt: HostRuntime) -> Result<(), Fail> {
+    all_answered(
+        &rt,
+        &[
+            // The two files and vim need /etc, of which nothing else makes sure. But without /etc no run ends: the host's line needs a file there.
+            (
+                host::MOTD_HOSTS,
+                ASSUMED,
+                r#"{"version":1,"resources":{"Host":{"edits":["/etc/hosts"]},"Tidy":"none","Mount":"none"}}"#,
+                "resources 13\nassumed 3\npruned 10\n",
+            ),
+            // So do the package and its folder, and without /etc no run ends either: the settings of the kernel need a folder there.
+            (
+                host::DOCKER_HOST,
+                ASSUMED,
+                r#"{"version":1,"resources":{"Exec":"none"}}"#,
+                "resources 8\nassumed 1\npruned 6\n",
+            ),
+            (
+                host::MAIL_RELAY,
+                ASSUMED,
+                r#"{"version":1,"resources":{"Exec[newaliases]":{"needs":["/etc/aliases"],"makes":["/etc/aliases.db"]}}}"#,
+                "resources 7\nassumed 1\npruned 7\n",
+            ),
+            (host::WEBROOT_EPP, LISTED, "", "resources 8\npruned 8\n"),
+        ],
+    )
 }
 
 /// Where the host's line does nothing, the empty tree shows that either file may come ahead of the package that brings /etc.
@@ -302,25 +360,36 @@ fn a_file_ahead_of_its_folder(rt: HostRuntime) -> Result<(), Fail> {
     Ok(())
 }
 
-/// An alias is found, and so is what a link leads to.
-#[test]
-fn what_comes_before(rt: HostRuntime) -> Result<(), Fail> {
-    let rows: [(&str, &str); 3] = [
-        (
-            host::VIRTUAL_EXPORTED,
-            "\nFile[/srv/data] -> File[/srv/data/x]\n",
-        ),
-        (host::VIRTUAL_EXPORTED, "\nGroup[postgres] -> User[dba]\n"),
-        (
-            host::NGINX_PROFILE,
-            "\nFile[/etc/nginx/sites-available/app] -> File[/etc/nginx/sites-enabled/app]\n",
-        ),
-    ];
-    let words: &[&str] = &["--ask", "graph", "--compiled", "host"];
+/// Each row: a catalog, and a line of its graph.
+fn all_before(rt: &(impl Abort + AllocGlobal), rows: &[(&str, &str)]) -> Result<(), Fail> {
     for (catalog, line) in rows {
-        let told = asked(rt.alloc(), words, catalog, "")?;
-        assert!(rt; told.out.as_str().contains(line), "{line}");
+        let told = asked(
+            rt.alloc(),
+            &["--ask", "graph", "--compiled", "host"],
+            *catalog,
+            "",
+        )?;
+        assert!(rt; told.out.as_str().contains(*line), "{line}");
         assert_eq!(rt; told.status, 0, "{line}");
     }
     Ok(())
+}
+
+/// An alias is found, and so is what a link leads to.
+#[test]
+fn what_comes_before(rt: HostRuntime) -> Result<(), Fail> {
+    all_before(
+        &rt,
+        &[
+            (
+                host::VIRTUAL_EXPORTED,
+                "\nFile[/srv/data] -> File[/srv/data/x]\n",
+            ),
+            (host::VIRTUAL_EXPORTED, "\nGroup[postgres] -> User[dba]\n"),
+            (
+                host::NGINX_PROFILE,
+                "\nFile[/etc/nginx/sites-available/app] -> File[/etc/nginx/sites-enabled/app]\n",
+            ),
+        ],
+    )
 }

@@ -66,6 +66,20 @@ fn put(alloc: Global, coins: &mut Coins, line: &str, manifest: &mut String) -> R
     Ok(())
 }
 
+/// The line of a part of a package, with its arrow or without it.
+fn part_line(
+    alloc: Global,
+    part: (&str, &str),
+    name: &str,
+    is_plain: bool,
+) -> Result<String, Fail> {
+    let (front, back) = part;
+    if is_plain {
+        return Ok(format!(in alloc; "{front}{name}{back} }}")?);
+    }
+    Ok(format!(in alloc; "{front}{name}{back}, require => Package['{name}'] }}")?)
+}
+
 /// Puts a part of a package, with its arrow or without it.
 fn put_part(
     alloc: Global,
@@ -74,10 +88,8 @@ fn put_part(
     name: &str,
     manifest: &mut String,
 ) -> Result<(), Fail> {
-    let (front, back) = part;
-    let plain = format!(in alloc; "{front}{name}{back} }}")?;
-    let ordered = format!(in alloc; "{front}{name}{back}, require => Package['{name}'] }}")?;
-    let line = if coins.is_head() { plain } else { ordered };
+    let is_plain = coins.is_head();
+    let line = part_line(alloc, part, name, is_plain)?;
     put(alloc, coins, line.as_str(), manifest)
 }
 
@@ -98,19 +110,31 @@ fn put_package(
     Ok(())
 }
 
+/// Puts some of the packages, each with some of what goes with it.
+fn put_packages(alloc: Global, coins: &mut Coins, manifest: &mut String) -> Result<(), Fail> {
+    for name in NAMES {
+        if coins.is_usual() {
+            put_package(alloc, coins, name, manifest)?;
+        }
+    }
+    Ok(())
+}
+
+/// Puts some of what stands beside these.
+fn put_others(alloc: Global, coins: &mut Coins, manifest: &mut String) -> Result<(), Fail> {
+    for line in OTHERS {
+        if coins.is_head() {
+            put(alloc, coins, line, manifest)?;
+        }
+    }
+    Ok(())
+}
+
 /// The manifest of a number.
 pub fn made_up(alloc: Global, seed: u32) -> Result<String, Fail> {
     let mut coins = Coins { state: seed };
     let mut manifest = String::new(alloc);
-    for name in NAMES {
-        if coins.is_usual() {
-            put_package(alloc, &mut coins, name, &mut manifest)?;
-        }
-    }
-    for line in OTHERS {
-        if coins.is_head() {
-            put(alloc, &mut coins, line, &mut manifest)?;
-        }
-    }
+    put_packages(alloc, &mut coins, &mut manifest)?;
+    put_others(alloc, &mut coins, &mut manifest)?;
     Ok(manifest)
 }

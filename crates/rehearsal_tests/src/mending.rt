@@ -116,6 +116,28 @@ fn with_lines(alloc: Global, graph: &str, arrows: &str) -> Result<String, Fail> 
     Ok(all)
 }
 
+/// Whether a line is empty or stands in a text that begins with a line's end.
+fn has_line(alloc: Global, held: &str, line: &str) -> Result<bool, Fail> {
+    let framed = format!(in alloc; "\n{line}\n")?;
+    Ok(line.is_empty() || held.contains(framed.as_str()))
+}
+
+/// Each line of a text stands in the other one.
+fn has_lines(
+    alloc: Global,
+    rt: &impl Abort,
+    left: &str,
+    right: &str,
+    row: &str,
+) -> Result<(), Fail> {
+    let held = format!(in alloc; "\n{right}")?;
+    for line in left.split('\n') {
+        let is_there = has_line(alloc, held.as_str(), line)?;
+        assert!(rt; is_there, "{line} in {row}");
+    }
+    Ok(())
+}
+
 /// Two texts have the same lines, of which none stands twice.
 fn have_same_lines(
     alloc: Global,
@@ -125,13 +147,13 @@ fn have_same_lines(
     row: &str,
 ) -> Result<(), Fail> {
     assert_eq!(rt; left.len(), right.len(), "{row}");
-    let held = format!(in alloc; "\n{right}")?;
-    for line in left.split('\n') {
-        let framed = format!(in alloc; "\n{line}\n")?;
-        let is_there = line.is_empty() || held.contains(framed.as_str());
-        assert!(rt; is_there, "{line} in {row}");
-    }
-    Ok(())
+    has_lines(alloc, rt, left, right, row)
+}
+
+/// The graph of a manifest, with arrows.
+fn graph_with(alloc: Global, site: Site, arrows: &str) -> Result<String, Fail> {
+    let graph = asked(alloc, &GRAPH, site)?;
+    with_lines(alloc, graph.out.as_str(), arrows)
 }
 
 /// The manifest has the graph of the other one with just these arrows.
@@ -142,21 +164,30 @@ fn has_these_arrows(
     with: Site,
     arrows: &str,
 ) -> Result<(), Fail> {
-    let graph = asked(alloc, &GRAPH, site)?;
+    let wanted = graph_with(alloc, site, arrows)?;
     let mended = asked(alloc, &GRAPH, with)?;
-    let wanted = with_lines(alloc, graph.out.as_str(), arrows)?;
     have_same_lines(alloc, rt, wanted.as_str(), mended.out.as_str(), with.0)
+}
+
+fn is_deterministic(alloc: Global, rt: &impl Abort, site: Site) -> Result<(), Fail> {
+    let judged = asked(alloc, &VERIFY, site)?;
+    let is_sure = judged.out.as_str().contains("\ndeterministic\n");
+    assert!(rt; is_sure, "{}", site.0);
+    Ok(())
+}
+
+/// This is told of the repair of the manifest.
+pub fn is_repaired(alloc: Global, rt: &impl Abort, site: Site, report: &str) -> Result<(), Fail> {
+    let told = asked(alloc, &REPAIR, site)?;
+    compare(rt, &told, 0, report, "", site.0);
+    Ok(())
 }
 
 /// The manifest is deterministic and lacks no arrow.
 fn lacks_none(alloc: Global, rt: &impl Abort, site: Site, count: &str) -> Result<(), Fail> {
-    let judged = asked(alloc, &VERIFY, site)?;
-    let is_sure = judged.out.as_str().contains("\ndeterministic\n");
-    assert!(rt; is_sure, "{}", site.0);
-    let again = asked(alloc, &REPAIR, site)?;
+    is_deterministic(alloc, rt, site)?;
     let report = format!(in alloc; "resources {count}\nedges 0\ndeterministic\n")?;
-    compare(rt, &again, 0, report.as_str(), "", site.0);
-    Ok(())
+    is_repaired(alloc, rt, site, report.as_str())
 }
 
 /// The arrows that are told to be missing.
@@ -187,14 +218,19 @@ fn are_missing(alloc: Global, rt: &impl Abort, site: Site, lacks: &Missing) -> R
     has_these_arrows(alloc, rt, site, mended, lacks.arrows)
 }
 
+/// As many arrows stand there as are told. How many.
+fn count_of(alloc: Global, rt: &impl Abort, lacks: &Missing, row: &str) -> Result<usize, Fail> {
+    let count = lacks.arrows.split('\n').count().saturating_sub(1);
+    let shown = format!(in alloc; "{count}")?;
+    assert_eq!(rt; lacks.count, shown.as_str(), "{row}");
+    Ok(count)
+}
+
 /// The arrows that are told to be missing mend the manifest. How many there are.
 pub fn is_mended(alloc: Global, rt: &impl Abort, site: Site) -> Result<usize, Fail> {
     let told = asked(alloc, &REPAIR, site)?;
     assert_eq!(rt; told.status, 0, "{}", site.0);
     let lacks = read_repair(told.out.as_str());
     are_missing(alloc, rt, site, &lacks)?;
-    let count = lacks.arrows.split('\n').count().saturating_sub(1);
-    let shown = format!(in alloc; "{count}")?;
-    assert_eq!(rt; lacks.count, shown.as_str(), "{}", site.0);
-    Ok(count)
+    count_of(alloc, rt, &lacks, site.0)
 }

@@ -1,7 +1,6 @@
 //! Proofs that are printed: the program reads them back, and finds them right.
 
 use crate::common::{Told, compare, run};
-use std::alloc::Global;
 use std::process::Abort;
 use std::test::Fail;
 
@@ -63,28 +62,37 @@ fn has_variables(rt: &impl Abort, text: &str, least: u64) {
     }
 }
 
-/// What the program says of a text of proofs.
-fn verified(alloc: Global, text: &str) -> Result<Told, Fail> {
-    run(alloc, &["--ask", "check", "site.pp"], text.as_bytes())
+/// So many proofs are told of, whose formulas are as large, with this status.
+fn has_formulas(rt: &impl Abort, told: &Told, row: &Row) {
+    assert_eq!(rt; told.status, row.2, "{}", row.1);
+    assert_eq!(rt; told.err.len(), 0, "{}", row.1);
+    has_proofs(rt, told.out.as_str(), row.3);
+    has_variables(rt, told.out.as_str(), row.4);
 }
 
-fn is_verified(alloc: Global, rt: &impl Abort, row: &Row) -> Result<(), Fail> {
-    let (words, manifest, status, proofs, least) = *row;
-    let told = run(alloc, words, manifest.as_bytes())?;
-    assert_eq!(rt; told.status, status, "{manifest}");
-    assert_eq!(rt; told.err.len(), 0, "{manifest}");
-    has_proofs(rt, told.out.as_str(), proofs);
-    has_variables(rt, told.out.as_str(), least);
-    let checked = verified(alloc, told.out.as_str())?;
-    let line = format!(in alloc; "verified {proofs}\n")?;
-    compare(rt, &checked, 0, line.as_str(), "", manifest);
+/// The program reads so many proofs in a text, and finds them right.
+fn are_right(rt: &(impl Abort + AllocGlobal), text: &str, row: &Row) -> Result<(), Fail> {
+    let alloc = rt.alloc();
+    let line = format!(in alloc; "verified {}\n", row.3)?;
+    let checked = run(alloc, &["--ask", "check", "site.pp"], text.as_bytes())?;
+    compare(rt, &checked, 0, line.as_str(), "", row.1);
+    Ok(())
+}
+
+fn is_verified(rt: &(impl Abort + AllocGlobal), row: &Row) -> Result<(), Fail> {
+    let told = run(rt.alloc(), row.0, row.1.as_bytes())?;
+    has_formulas(rt, &told, row);
+    are_right(rt, told.out.as_str(), row)
+}
+
+fn all_verified(rt: &(impl Abort + AllocGlobal), rows: &[Row]) -> Result<(), Fail> {
+    for row in rows {
+        is_verified(rt, row)?;
+    }
     Ok(())
 }
 
 #[test]
 fn proofs_that_are_read_back(rt: HostRuntime) -> Result<(), Fail> {
-    for row in ROWS {
-        is_verified(rt.alloc(), &rt, &row)?;
-    }
-    Ok(())
+    all_verified(&rt, &ROWS)
 }

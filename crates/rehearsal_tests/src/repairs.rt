@@ -3,7 +3,8 @@
 use crate::common::compare;
 use crate::made_up;
 use crate::made_up::made_up;
-use crate::mending::{REPAIR, asked, is_mended};
+use crate::mending::{REPAIR, asked, is_mended, is_repaired};
+use std::process::Abort;
 use std::test::Fail;
 
 /// Each package brings the unit of the service of its name; `it's\p` that of ntp too, and `pair` and `twin` one file with two contents.
@@ -58,23 +59,30 @@ const ROWS: [Row; 9] = [
     ),
 ];
 
+/// A manifest, its listing, and how many arrows it lacks.
+type Lacking = (&'static str, &'static str, usize);
+
 /// Manifests that lack arrows, of which there is more than one choice or order, and how many are told.
-const OPEN: [(&str, usize); 5] = [
+const OPEN: [Lacking; 5] = [
     (
         "package { 'ntp': } file { '/etc/ntp.conf': content => 'server a' }",
+        LISTING,
         1,
     ),
-    ("package { ['pair', 'twin']: }", 1),
+    ("package { ['pair', 'twin']: }", LISTING, 1),
     (
         "package { ['ntp', 'ssh']: } service { ['ntp', 'ssh']: ensure => running }",
+        LISTING,
         2,
     ),
     (
         "package { 'ntp': } file { '/etc/ntp.conf': content => 'server a' } service { 'ntp': ensure => running }",
+        LISTING,
         2,
     ),
     (
         "file { '/a': content => 'x' } file { '/b': source => '/a' } file { '/c': source => '/b' }",
+        LISTING,
         2,
     ),
 ];
@@ -86,7 +94,7 @@ const NTP: &str =
 const COLOURS: &str =
     r#"{"version":2,"packages":{"red":{"files":[["/usr/share/common/licence","3f2a"]],"folders":[]},"blue":{"files":[["/usr/share/common/licence","91c0"]],"folders":[]}}}"#;
 
-const EXAMPLES: [(&str, &str, usize); 9] = [
+const EXAMPLES: [Lacking; 9] = [
     (
         "class ntp($servers = ['a', 'b']) { $unit = $facts['os']['family'] ? { 'Debian' => 'ntp', default => 'ntpd' } package { 'ntp': ensure => installed } file { '/etc/ntp.conf': ensure => file, owner => 'root', mode => '0644', content => \"servers ${servers}\\n\", require => Package['ntp'] } service { $unit: ensure => running, enable => true, subscribe => File['/etc/ntp.conf'] } } include ntp",
         NTP,
@@ -134,84 +142,108 @@ const EXAMPLES: [(&str, &str, usize); 9] = [
     ),
 ];
 
+fn all_repaired(rt: &(impl Abort + AllocGlobal), rows: &[Row]) -> Result<(), Fail> {
+    for (manifest, report) in rows {
+        is_repaired(rt.alloc(), rt, (*manifest, LISTING), *report)?;
+        is_mended(rt.alloc(), rt, (*manifest, LISTING))?;
+    }
+    Ok(())
+}
+
 #[test]
 fn arrows_that_are_missing(rt: HostRuntime) -> Result<(), Fail> {
-    for (manifest, report) in ROWS {
-        let told = asked(rt.alloc(), &REPAIR, (manifest, LISTING))?;
-        compare(&rt, &told, 0, report, "", manifest);
-        is_mended(rt.alloc(), &rt, (manifest, LISTING))?;
+    all_repaired(&rt, &ROWS)
+}
+
+fn all_mended(rt: &(impl Abort + AllocGlobal), rows: &[Lacking]) -> Result<(), Fail> {
+    for (manifest, listing, count) in rows {
+        let found = is_mended(rt.alloc(), rt, (*manifest, *listing))?;
+        assert_eq!(rt; found, *count, "{manifest}");
     }
     Ok(())
 }
 
 #[test]
 fn arrows_of_more_than_one_choice(rt: HostRuntime) -> Result<(), Fail> {
-    for (manifest, count) in OPEN {
-        let found = is_mended(rt.alloc(), &rt, (manifest, LISTING))?;
-        assert_eq!(rt; found, count, "{manifest}");
-    }
-    Ok(())
+    all_mended(&rt, &OPEN)
 }
 
 #[test]
 fn arrows_of_examples(rt: HostRuntime) -> Result<(), Fail> {
-    for (manifest, listing, count) in EXAMPLES {
-        let found = is_mended(rt.alloc(), &rt, (manifest, listing))?;
-        assert_eq!(rt; found, count, "{manifest}");
+    all_mended(&rt, &EXAMPLES)
+}
+
+/// How many arrows the manifest of a number lacks.
+fn lacking(rt: &(impl Abort + AllocGlobal), seed: u32) -> Result<usize, Fail> {
+    let manifest = made_up(rt.alloc(), seed)?;
+    is_mended(rt.alloc(), rt, (manifest.as_str(), made_up::LISTING))
+}
+
+/// How many arrows the manifests of these numbers lack together.
+fn all_lacking(rt: &(impl Abort + AllocGlobal), seeds: &[u32]) -> Result<usize, Fail> {
+    let mut all = 0usize;
+    for seed in seeds {
+        let count = lacking(rt, *seed)?;
+        all = all.saturating_add(count);
     }
-    Ok(())
+    Ok(all)
 }
 
 #[test]
 fn arrows_of_made_up_manifests(rt: HostRuntime) -> Result<(), Fail> {
-    let mut all = 0usize;
     // Numbers whose manifests are answered quickly.
-    for seed in [8, 9, 15, 17, 26, 31] {
-        let manifest = made_up(rt.alloc(), seed)?;
-        let count = is_mended(rt.alloc(), &rt, (manifest.as_str(), made_up::LISTING))?;
-        all = all.saturating_add(count);
-    }
+    let all = all_lacking(&rt, &[8, 9, 15, 17, 26, 31])?;
     // Most of them lack some.
     assert!(rt; all > 6, "{all}");
     Ok(())
 }
 
-#[test]
-fn repairs_that_are_not_made(rt: HostRuntime) -> Result<(), Fail> {
-    let rows: [(&[&str], &str, u8, &str, &str); 3] = [
-        (
-            &[
-                "--ask",
-                "repair",
-                "--packages",
-                "listing",
-                "--conflicts",
-                "1",
-                "site.pp",
-            ],
-            "package { ['pair', 'twin']: }",
-            3,
-            "resources 2\nspent deterministic 1\n",
-            "",
-        ),
-        (
-            &REPAIR,
-            "package { 'none': }",
-            4,
-            "",
-            "refused 54 at 10: Package[none]\n",
-        ),
-        (
-            &REPAIR,
-            "exec { 'x': }",
-            4,
-            "",
-            "refused 50 at 7: Exec[x]\n",
-        ),
-    ];
+/// Each row: words, a manifest, the status, and what stands on out and err.
+fn all_told(
+    rt: &(impl Abort + AllocGlobal),
+    rows: &[(&[&str], &str, u8, &str, &str)],
+) -> Result<(), Fail> {
     for (words, manifest, status, out, err) in rows {
-        let told = asked(rt.alloc(), words, (manifest, LISTING))?;
-        compare(&rt, &told, status, out, err, manifest);
+        let told = asked(rt.alloc(), *words, (*manifest, LISTING))?;
+        compare(rt, &told, *status, *out, *err, *manifest);
     }
     Ok(())
+}
+
+#[test]
+fn repairs_that_are_not_made(rt: HostRuntime) -> Result<(), Fail> {
+    all_told(
+        &rt,
+        &[
+            (
+                &[
+                    "--ask",
+                    "repair",
+                    "--packages",
+                    "listing",
+                    "--conflicts",
+                    "1",
+                    "site.pp",
+                ],
+                "package { ['pair', 'twin']: }",
+                3,
+                "resources 2\nspent deterministic 1\n",
+                "",
+            ),
+            (
+                &REPAIR,
+                "package { 'none': }",
+                4,
+                "",
+                "refused 54 at 10: Package[none]\n",
+            ),
+            (
+                &REPAIR,
+                "exec { 'x': }",
+                4,
+                "",
+                "refused 50 at 7: Exec[x]\n",
+            ),
+        ],
+    )
 }

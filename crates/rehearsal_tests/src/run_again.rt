@@ -33,26 +33,66 @@ fn told_of(alloc: Global, row: &Row) -> Result<Told, Fail> {
     run_over(alloc, &["--packages", "listing", "site.pp"], &over)
 }
 
-/// The second outcome differs from the first, and both are those of the order, the second from the first.
-fn changes(alloc: Global, rt: &impl Abort, row: &Row) -> Result<(), Fail> {
-    let told = told_of(alloc, row)?;
-    assert_eq!(rt; told.status, 2, "{}", row.0);
-    assert_eq!(rt; told.err.len(), 0, "{}", row.0);
-    let rest = told.out.as_str().strip_prefix(row.2).unwrap_or("?");
-    let (tree, rest) = behind(rest, "tree ");
+/// What is told of a second run: a tree, an order, what the first run and the second end with, and the lines behind these.
+#[derive(Drop)]
+pub struct Runs<'a> {
+    pub tree: &'a str,
+    pub order: &'a str,
+    pub first: &'a str,
+    pub second: &'a str,
+    pub rest: &'a str,
+}
+
+pub fn read_runs(lines: &str) -> Runs {
+    let (tree, rest) = behind(lines, "tree ");
     let (order, rest) = behind(rest, "order ");
     let (first, rest) = behind(rest, "outcome ");
     let (second, rest) = behind(rest, "outcome ");
-    assert_eq!(rt; rest, "succeeds from some tree\n", "{}", row.0);
-    assert!(rt; first != second, "{}", row.0);
-    replays(alloc, rt, row.0, row.1, tree, order, first)?;
-    replays(alloc, rt, row.0, row.1, first, order, second)
+    Runs {
+        tree,
+        order,
+        first,
+        second,
+        rest,
+    }
+}
+
+/// Something is told on out alone, with the status of what a second run changes.
+fn is_told_to_change(rt: &impl Abort, told: &Told, manifest: &str) {
+    assert_eq!(rt; told.status, 2, "{manifest}");
+    assert_eq!(rt; told.err.len(), 0, "{manifest}");
+}
+
+/// The second outcome differs from the first, and a run that succeeds is told behind both.
+fn differ(rt: &impl Abort, runs: &Runs, manifest: &str) {
+    assert_eq!(rt; runs.rest, "succeeds from some tree\n", "{manifest}");
+    assert!(rt; runs.first != runs.second, "{manifest}");
+}
+
+/// Both outcomes are those of the order, the second from the first.
+fn both_replay(rt: &(impl Abort + AllocGlobal), row: &Row, runs: &Runs) -> Result<(), Fail> {
+    let alloc = rt.alloc();
+    replays(alloc, rt, row.0, row.1, runs.tree, runs.order, runs.first)?;
+    replays(alloc, rt, row.0, row.1, runs.first, runs.order, runs.second)
+}
+
+/// The second outcome differs from the first, and both are those of the order.
+fn changes(rt: &(impl Abort + AllocGlobal), row: &Row) -> Result<(), Fail> {
+    let told = told_of(rt.alloc(), row)?;
+    is_told_to_change(rt, &told, row.0);
+    let runs = read_runs(told.out.as_str().strip_prefix(row.2).unwrap_or("?"));
+    differ(rt, &runs, row.0);
+    both_replay(rt, row, &runs)
+}
+
+fn all_change(rt: &(impl Abort + AllocGlobal), rows: &[Row]) -> Result<(), Fail> {
+    for row in rows {
+        changes(rt, row)?;
+    }
+    Ok(())
 }
 
 #[test]
 fn second_runs_that_change_something(rt: HostRuntime) -> Result<(), Fail> {
-    for row in ROWS {
-        changes(rt.alloc(), &rt, &row)?;
-    }
-    Ok(())
+    all_change(&rt, &ROWS)
 }

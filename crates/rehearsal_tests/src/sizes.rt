@@ -1,6 +1,7 @@
 //! Files at the limits of what is read, and graphs at the limits of what is asked about: how many paths, and which weight.
 
 use crate::common::{ONE, Told, compare, run_over};
+use crate::verify::is_told;
 use std::alloc::Global;
 use std::process::Abort;
 use std::test::Fail;
@@ -51,10 +52,13 @@ const HOST: &[&str] = &["--packages", "listing", "--limits", "host", "site.pp"];
 
 const GIVEN: &[&str] = &["--packages", "listing", "--given", "given", "site.pp"];
 
-/// What is told of so many packages with so many folders, and of one folder more that every host has, where the words name it.
-fn told_of(alloc: Global, words: &[&str], count: u32, with: u32) -> Result<Told, Fail> {
-    let manifest = manifest(alloc, count)?;
-    let listing = listing(alloc, count, with)?;
+/// What is told of a manifest under a listing, with a folder that every host has where the words name it.
+fn told_beside<'a>(
+    alloc: Global,
+    words: &[&str],
+    manifest: &'a str,
+    listing: &'a str,
+) -> Result<Told, Fail> {
     let over: [(&str, &[u8]); 3] = [
         ("site.pp", manifest.as_bytes()),
         ("listing", listing.as_bytes()),
@@ -63,73 +67,81 @@ fn told_of(alloc: Global, words: &[&str], count: u32, with: u32) -> Result<Told,
     run_over(alloc, words, &over)
 }
 
+/// What is told of so many packages with so many folders, and of one folder more that every host has, where the words name it.
+fn told_of(alloc: Global, words: &[&str], count: u32, with: u32) -> Result<Told, Fail> {
+    let manifest = manifest(alloc, count)?;
+    let listing = listing(alloc, count, with)?;
+    told_beside(alloc, words, manifest.as_str(), listing.as_str())
+}
+
+/// Each row: words, how many packages there are and with how many folders, and the status and what is told of them.
+fn all_told(
+    rt: &(impl Abort + AllocGlobal),
+    rows: &[(&[&str], u32, u32, u8, &str)],
+) -> Result<(), Fail> {
+    for (words, count, with, status, want) in rows {
+        let told = told_of(rt.alloc(), *words, *count, *with)?;
+        is_told(rt, &told, *status, *want, *want);
+    }
+    Ok(())
+}
+
 /// The folders, the two above the mark, and the mark of the package: 4,096 paths.
 #[test]
 fn a_graph_of_as_many_paths_as_may_be(rt: HostRuntime) -> Result<(), Fail> {
-    let told = told_of(rt.alloc(), USUAL, 1, 4_093)?;
-    compare(&rt, &told, 0, ONE, "", "4,096 paths");
-    Ok(())
+    all_told(&rt, &[(USUAL, 1, 4_093, 0, ONE)])
 }
 
 /// The limit of a host is another one.
 #[test]
 fn a_graph_of_more_paths(rt: HostRuntime) -> Result<(), Fail> {
-    let told = told_of(rt.alloc(), HOST, 1, 4_094)?;
-    compare(&rt, &told, 0, ONE, "", "4,097 paths");
-    Ok(())
+    all_told(&rt, &[(HOST, 1, 4_094, 0, ONE)])
 }
+
+/// What is told of 50 packages.
+const FIFTY: &str = "resources 50\npruned 50\ndeterministic\nidempotent\nsucceeds from some tree\n";
 
 /// Each of the 50 packages asks for 69 folders and its mark, and makes them: 2 * 50 * 50 * (2 * 69 + 2).
 #[test]
 fn a_graph_as_heavy_as_may_be(rt: HostRuntime) -> Result<(), Fail> {
-    let report = "resources 50\npruned 50\ndeterministic\nidempotent\nsucceeds from some tree\n";
-    let told = told_of(rt.alloc(), USUAL, 50, 67)?;
-    compare(&rt, &told, 0, report, "", "a weight of 700,000");
-    Ok(())
+    all_told(&rt, &[(USUAL, 50, 67, 0, FIFTY)])
 }
 
 /// A host's weight has no limit.
 #[test]
 fn a_graph_that_is_heavier(rt: HostRuntime) -> Result<(), Fail> {
-    let report = "resources 50\npruned 50\ndeterministic\nidempotent\nsucceeds from some tree\n";
-    let told = told_of(rt.alloc(), HOST, 50, 68)?;
-    compare(&rt, &told, 0, report, "", "a weight over 700,000");
-    Ok(())
+    all_told(&rt, &[(HOST, 50, 68, 0, FIFTY)])
 }
 
 /// A given folder is a path, and weighs nothing.
 #[test]
 fn a_folder_more_that_is_given(rt: HostRuntime) -> Result<(), Fail> {
-    let told = told_of(rt.alloc(), GIVEN, 1, 4_093)?;
-    compare(
+    all_told(
         &rt,
-        &told,
-        4,
-        "",
-        "refused 70 at 0: domain\n",
-        "4,097 paths",
-    );
-    let report =
-        "resources 50\ngiven 1\npruned 50\ndeterministic\nidempotent\nsucceeds from some tree\n";
-    let told = told_of(rt.alloc(), GIVEN, 50, 67)?;
-    compare(&rt, &told, 0, report, "", "a weight of 700,000");
-    Ok(())
+        &[
+            (GIVEN, 1, 4_093, 4, "refused 70 at 0: domain\n"),
+            (
+                GIVEN,
+                50,
+                67,
+                0,
+                "resources 50\ngiven 1\npruned 50\ndeterministic\nidempotent\nsucceeds from some tree\n",
+            ),
+        ],
+    )
 }
 
 #[test]
 fn graphs_that_are_too_large(rt: HostRuntime) -> Result<(), Fail> {
-    let domain = "refused 70 at 0: domain\n";
-    let rows: [(u32, u32, &str); 3] = [
-        (1, 4_094, domain),
-        (50, 68, "refused 70 at 0: weight\n"),
-        // too many paths, and too heavy
-        (8, 4_094, domain),
-    ];
-    for (count, with, line) in rows {
-        let told = told_of(rt.alloc(), USUAL, count, with)?;
-        compare(&rt, &told, 4, "", line, line);
-    }
-    Ok(())
+    all_told(
+        &rt,
+        &[
+            (USUAL, 1, 4_094, 4, "refused 70 at 0: domain\n"),
+            (USUAL, 50, 68, 4, "refused 70 at 0: weight\n"),
+            // too many paths, and too heavy
+            (USUAL, 8, 4_094, 4, "refused 70 at 0: domain\n"),
+        ],
+    )
 }
 
 const OF_TWO: [&str; 7] = [
@@ -157,47 +169,59 @@ fn told_under<'a>(
     run_over(alloc, &OF_TWO, &over)
 }
 
-/// What is told of the packages `one` and `two`, which have so many folders, no two the same, in a manifest each.
-fn told_of_two(alloc: Global, one: u32, two: u32) -> Result<Told, Fail> {
+/// So many folders that are none of `folders`.
+fn other_folders(alloc: Global, count: u32) -> Result<String, Fail> {
+    Ok(folders(alloc, count)?.replace(alloc, "/d", "/e")?)
+}
+
+/// A listing of the packages `one` and `two`, which have so many folders, no two the same.
+fn listing_of_two(alloc: Global, one: u32, two: u32) -> Result<String, Fail> {
     let lists = folders(alloc, one)?;
-    let others = folders(alloc, two)?.replace(alloc, "/d", "/e")?;
-    let listing = format!(in alloc;
+    let others = other_folders(alloc, two)?;
+    Ok(format!(in alloc;
         "{{\"version\":1,\"packages\":{{\"one\":{{\"files\":[],\"folders\":[{}]}},\"two\":{{\"files\":[],\"folders\":[{}]}}}}}}",
         lists.as_str(),
         others.as_str()
-    )?;
+    )?)
+}
+
+/// What is told of these packages, in a manifest each.
+fn told_of_two(alloc: Global, one: u32, two: u32) -> Result<Told, Fail> {
+    let listing = listing_of_two(alloc, one, two)?;
     let one = "package { 'one': }";
     told_under(alloc, one, "package { 'two': }", listing.as_str())
 }
 
-/// The folders of both, the two above the marks, and the marks of both packages: 4,096 paths, and one more.
+/// The folders of both, the two above the marks, and the marks of both packages: 4,096 paths.
 #[test]
-fn manifests_that_are_too_large_together(rt: HostRuntime) -> Result<(), Fail> {
+fn manifests_as_large_together_as_may_be(rt: HostRuntime) -> Result<(), Fail> {
     let told = told_of_two(rt.alloc(), 2_046, 2_046)?;
     assert_eq!(rt; told.status, 10, "4,096 paths");
-    let told = told_of_two(rt.alloc(), 2_046, 2_047)?;
-    compare(
-        &rt,
-        &told,
-        4,
-        "",
-        "refused 70 at 0: domain\n",
-        "4,097 paths",
-    );
     Ok(())
 }
 
-/// Of the weights each stands for itself, and the refusal tells of neither.
+/// One path more.
+#[test]
+fn manifests_that_are_too_large_together(rt: HostRuntime) -> Result<(), Fail> {
+    let told = told_of_two(rt.alloc(), 2_046, 2_047)?;
+    is_told(&rt, &told, 4, "refused 70 at 0: domain\n", "4,097 paths");
+    Ok(())
+}
+
+/// Under a listing of 50 packages with 68 folders the weight is refused, and the refusal tells of neither manifest.
+fn are_too_heavy(rt: &(impl Abort + AllocGlobal), manifest: &str, other: &str) -> Result<(), Fail> {
+    let listing = listing(rt.alloc(), 50, 68)?;
+    let told = told_under(rt.alloc(), manifest, other, listing.as_str())?;
+    is_told(rt, &told, 4, "refused 70 at 0: weight\n", manifest);
+    Ok(())
+}
+
+/// Of the weights each stands for itself.
 #[test]
 fn manifests_of_which_one_is_too_heavy(rt: HostRuntime) -> Result<(), Fail> {
     let heavy = manifest(rt.alloc(), 50)?;
-    let listing = listing(rt.alloc(), 50, 68)?;
-    let rows: [(&str, &str); 2] = [(heavy.as_str(), ""), ("", heavy.as_str())];
-    for (manifest, other) in rows {
-        let told = told_under(rt.alloc(), manifest, other, listing.as_str())?;
-        compare(&rt, &told, 4, "", "refused 70 at 0: weight\n", manifest);
-    }
-    Ok(())
+    are_too_heavy(&rt, heavy.as_str(), "")?;
+    are_too_heavy(&rt, "", heavy.as_str())
 }
 
 /// The words, the greatest number of bytes of the file `long`, what is refused of so many blanks, and of one more.
@@ -242,26 +266,34 @@ const LONG: [Long; 6] = [
     ),
 ];
 
+/// What is told where the file `long` has so many blanks.
+fn told_of_blanks(alloc: Global, words: &[&str], bytes: usize) -> Result<Told, Fail> {
+    let blanks = vec![in alloc; b' '; bytes]?;
+    let over: [(&str, &[u8]); 2] = [("site.pp", b""), ("long", &blanks)];
+    run_over(alloc, words, &over)
+}
+
 /// What is refused where the file `long` has so many blanks.
 fn is_refused(
-    alloc: Global,
-    rt: &impl Abort,
+    rt: &(impl Abort + AllocGlobal),
     words: &[&str],
     bytes: usize,
     line: &str,
 ) -> Result<(), Fail> {
-    let blanks = vec![in alloc; b' '; bytes]?;
-    let over: [(&str, &[u8]); 2] = [("site.pp", b""), ("long", &blanks)];
-    let told = run_over(alloc, words, &over)?;
+    let told = told_of_blanks(rt.alloc(), words, bytes)?;
     compare(rt, &told, 4, "", line, line);
+    Ok(())
+}
+
+fn all_refused(rt: &(impl Abort + AllocGlobal), rows: &[Long]) -> Result<(), Fail> {
+    for (words, most, within, longer) in rows {
+        is_refused(rt, *words, *most, *within)?;
+        is_refused(rt, *words, most.saturating_add(1), *longer)?;
+    }
     Ok(())
 }
 
 #[test]
 fn files_that_are_too_long(rt: HostRuntime) -> Result<(), Fail> {
-    for (words, most, within, longer) in LONG {
-        is_refused(rt.alloc(), &rt, words, most, within)?;
-        is_refused(rt.alloc(), &rt, words, most.saturating_add(1), longer)?;
-    }
-    Ok(())
+    all_refused(&rt, &LONG)
 }

@@ -3,73 +3,110 @@
 use crate::common::{NONE, ONE, TWO, Told, compare, run, run_over};
 use crate::differences::USUAL;
 use std::alloc::Global;
+use std::process::Abort;
 use std::test::Fail;
 
-/// What a manifest gives.
-fn told_of(alloc: Global, manifest: &[u8]) -> Result<Told, Fail> {
-    run(alloc, &["site.pp"], manifest)
+/// Compares what was told with a report, or with a refusal, whose status is 4 or 5.
+pub fn is_told(rt: &impl Abort, told: &Told, status: u8, text: &str, row: &str) {
+    if status == 4 || status == 5 {
+        compare(rt, told, status, "", text, row);
+    } else {
+        compare(rt, told, status, text, "", row);
+    }
 }
 
-#[test]
-fn manifests_that_are_judged(rt: HostRuntime) -> Result<(), Fail> {
-    let rows: [(&str, &str); 7] = [
-        ("", NONE),
-        (" \n", NONE),
-        (
-            "# one file\nfile { '/etc/motd': /* its text */ content => \"hi\" }",
-            ONE,
-        ),
-        ("file { '/a': content => 'x'; '/b': content => 'y'; }", TWO),
-        ("file { '/etc/motd': content => 'hi' }", ONE),
-        (
-            "file{'/a':content=>'x',}file { '/b\\'\\\\c': content => '\\n' , } ",
-            TWO,
-        ),
-        (
-            "file { '/a/b': content => '' } file { '/a/c': content => '' }",
-            TWO,
-        ),
-    ];
-    for (manifest, report) in rows {
-        let told = told_of(rt.alloc(), manifest.as_bytes())?;
-        compare(&rt, &told, 0, report, "", manifest);
+/// Each row: the text of the file `site.pp`, and what the words give over it, with this status.
+pub fn all_told(
+    rt: &(impl Abort + AllocGlobal),
+    words: &[&str],
+    status: u8,
+    rows: &[(&str, &str)],
+) -> Result<(), Fail> {
+    for (text, want) in rows {
+        let told = run(rt.alloc(), words, text.as_bytes())?;
+        is_told(rt, &told, status, *want, *text);
     }
     Ok(())
 }
 
 #[test]
+fn manifests_that_are_judged(rt: HostRuntime) -> Result<(), Fail> {
+    all_told(
+        &rt,
+        &["site.pp"],
+        0,
+        &[
+            ("", NONE),
+            (" \n", NONE),
+            (
+                "# one file\nfile { '/etc/motd': /* its text */ content => \"hi\" }",
+                ONE,
+            ),
+            ("file { '/a': content => 'x'; '/b': content => 'y'; }", TWO),
+            ("file { '/etc/motd': content => 'hi' }", ONE),
+            (
+                "file{'/a':content=>'x',}file { '/b\\'\\\\c': content => '\\n' , } ",
+                TWO,
+            ),
+            (
+                "file { '/a/b': content => '' } file { '/a/c': content => '' }",
+                TWO,
+            ),
+        ],
+    )
+}
+
+#[test]
 fn orders_that_do_not_matter(rt: HostRuntime) -> Result<(), Fail> {
-    let rows: [(&str, &str); 8] = [
-        ("$x = 010", NONE),
-        ("@file { '/v': content => 'x' }", NONE),
-        (
-            "@file { '/v': content => 'x' } File <| content == 'x' |>",
-            ONE,
-        ),
-        (
-            "define d() { @file { '/w': content => 'x' } } @d { 'a': } D <| |> File <| |>",
-            ONE,
-        ),
-        (
-            "file { '/a': ensure => directory } file { '/a/b': content => 'x' }",
-            TWO,
-        ),
-        (
-            "file { '/a': ensure => directory } file { '/a/b': content => 'x' } File['/a/b'] -> File['/a']",
-            TWO,
-        ),
-        (
-            "file { '/a': ensure => file } file { '/a/b': ensure => file }",
-            "resources 2\npruned 2\ndeterministic\nidempotent\nfails from every tree\n",
-        ),
-        (
-            "file { '/a': content => 'x' } file { '/a/b': content => 'y' }",
-            "resources 2\npruned 2\ndeterministic\nidempotent\nfails from every tree\n",
-        ),
+    all_told(
+        &rt,
+        &["site.pp"],
+        0,
+        &[
+            ("$x = 010", NONE),
+            ("@file { '/v': content => 'x' }", NONE),
+            (
+                "@file { '/v': content => 'x' } File <| content == 'x' |>",
+                ONE,
+            ),
+            (
+                "define d() { @file { '/w': content => 'x' } } @d { 'a': } D <| |> File <| |>",
+                ONE,
+            ),
+            (
+                "file { '/a': ensure => directory } file { '/a/b': content => 'x' }",
+                TWO,
+            ),
+            (
+                "file { '/a': ensure => directory } file { '/a/b': content => 'x' } File['/a/b'] -> File['/a']",
+                TWO,
+            ),
+            (
+                "file { '/a': ensure => file } file { '/a/b': ensure => file }",
+                "resources 2\npruned 2\ndeterministic\nidempotent\nfails from every tree\n",
+            ),
+            (
+                "file { '/a': content => 'x' } file { '/a/b': content => 'y' }",
+                "resources 2\npruned 2\ndeterministic\nidempotent\nfails from every tree\n",
+            ),
+        ],
+    )
+}
+
+/// What is told of a manifest beside the listing of usual packages.
+fn told_beside(alloc: Global, manifest: &str) -> Result<Told, Fail> {
+    let over: [(&str, &[u8]); 2] = [
+        ("site.pp", manifest.as_bytes()),
+        ("listing", USUAL.as_bytes()),
     ];
+    run_over(alloc, &["--packages", "listing", "site.pp"], &over)
+}
+
+/// Each row: a manifest beside that listing, and what is told of it.
+fn all_judged(rt: &(impl Abort + AllocGlobal), rows: &[(&str, &str)]) -> Result<(), Fail> {
     for (manifest, report) in rows {
-        let told = told_of(rt.alloc(), manifest.as_bytes())?;
-        compare(&rt, &told, 0, report, "", manifest);
+        let told = told_beside(rt.alloc(), *manifest)?;
+        compare(rt, &told, 0, *report, "", *manifest);
     }
     Ok(())
 }
@@ -77,61 +114,49 @@ fn orders_that_do_not_matter(rt: HostRuntime) -> Result<(), Fail> {
 /// Usual hosts, on which pruning keeps files and packages though no order matters.
 #[test]
 fn usual_hosts(rt: HostRuntime) -> Result<(), Fail> {
-    let rows: [(&str, &str); 3] = [
-        (
-            "package { ['a', 'b', 'c']: } file { '/etc/a.conf': content => 'a', require => Package['a'] } file { '/etc/b.conf': content => 'b', require => Package['b'] } file { '/etc/c.conf': content => 'c', require => Package['c'] }",
-            "resources 6\npruned 0\ndeterministic\nidempotent\nsucceeds from some tree\n",
-        ),
-        // Two packages have one file with one digest.
-        (
-            "package { ['a', 'b', 'c']: } file { '/etc/a.conf': content => 'a', require => Package['a'] } file { '/etc/b.conf': content => 'b', require => Package['b'] } file { '/etc/c.conf': content => 'c', require => Package['c'] } package { ['x', 'y']: }",
-            "resources 8\npruned 0\ndeterministic\nidempotent\nsucceeds from some tree\n",
-        ),
-        // The folder is declared, so that each file in it comes after it.
-        (
-            "file { '/etc': ensure => directory } file { ['/etc/a.conf', '/etc/b.conf', '/etc/c.conf']: content => 'x' } package { ['a', 'b', 'c']: }",
-            "resources 7\npruned 1\ndeterministic\nidempotent\nsucceeds from some tree\n",
-        ),
-    ];
-    for (manifest, report) in rows {
-        let over: [(&str, &[u8]); 2] = [
-            ("site.pp", manifest.as_bytes()),
-            ("listing", USUAL.as_bytes()),
-        ];
-        let told = run_over(rt.alloc(), &["--packages", "listing", "site.pp"], &over)?;
-        compare(&rt, &told, 0, report, "", manifest);
-    }
-    Ok(())
+    all_judged(
+        &rt,
+        &[
+            (
+                "package { ['a', 'b', 'c']: } file { '/etc/a.conf': content => 'a', require => Package['a'] } file { '/etc/b.conf': content => 'b', require => Package['b'] } file { '/etc/c.conf': content => 'c', require => Package['c'] }",
+                "resources 6\npruned 0\ndeterministic\nidempotent\nsucceeds from some tree\n",
+            ),
+            // Two packages have one file with one digest.
+            (
+                "package { ['a', 'b', 'c']: } file { '/etc/a.conf': content => 'a', require => Package['a'] } file { '/etc/b.conf': content => 'b', require => Package['b'] } file { '/etc/c.conf': content => 'c', require => Package['c'] } package { ['x', 'y']: }",
+                "resources 8\npruned 0\ndeterministic\nidempotent\nsucceeds from some tree\n",
+            ),
+            // The folder is declared, so that each file in it comes after it.
+            (
+                "file { '/etc': ensure => directory } file { ['/etc/a.conf', '/etc/b.conf', '/etc/c.conf']: content => 'x' } package { ['a', 'b', 'c']: }",
+                "resources 7\npruned 1\ndeterministic\nidempotent\nsucceeds from some tree\n",
+            ),
+        ],
+    )
 }
 
 /// What pruning keeps isn't deterministic by itself, since two packages have one file with two digests; but a file in a file makes
 /// every order of the whole end in Error.
 #[test]
 fn graphs_that_always_fail(rt: HostRuntime) -> Result<(), Fail> {
-    let rows: [(&str, &str); 3] = [
-        (
-            "package { ['x', 'z']: } file { '/f': content => 'f' } file { '/f/g': content => 'g' }",
-            "resources 4\npruned 2\ndeterministic\nidempotent\nfails from every tree\n",
-        ),
-        (
-            "package { ['x', 'z']: } file { '/f': content => 'f' } file { '/f/g': content => 'g' } file { ['/a', '/b', '/c', '/d', '/e']: content => 'q' }",
-            "resources 9\npruned 7\ndeterministic\nidempotent\nfails from every tree\n",
-        ),
-        // The part that fails comes first.
-        (
-            "file { '/f': content => 'f' } file { '/f/g': content => 'g' } -> package { ['x', 'z']: }",
-            "resources 4\npruned 2\ndeterministic\nidempotent\nfails from every tree\n",
-        ),
-    ];
-    for (manifest, report) in rows {
-        let over: [(&str, &[u8]); 2] = [
-            ("site.pp", manifest.as_bytes()),
-            ("listing", USUAL.as_bytes()),
-        ];
-        let told = run_over(rt.alloc(), &["--packages", "listing", "site.pp"], &over)?;
-        compare(&rt, &told, 0, report, "", manifest);
-    }
-    Ok(())
+    all_judged(
+        &rt,
+        &[
+            (
+                "package { ['x', 'z']: } file { '/f': content => 'f' } file { '/f/g': content => 'g' }",
+                "resources 4\npruned 2\ndeterministic\nidempotent\nfails from every tree\n",
+            ),
+            (
+                "package { ['x', 'z']: } file { '/f': content => 'f' } file { '/f/g': content => 'g' } file { ['/a', '/b', '/c', '/d', '/e']: content => 'q' }",
+                "resources 9\npruned 7\ndeterministic\nidempotent\nfails from every tree\n",
+            ),
+            // The part that fails comes first.
+            (
+                "file { '/f': content => 'f' } file { '/f/g': content => 'g' } -> package { ['x', 'z']: }",
+                "resources 4\npruned 2\ndeterministic\nidempotent\nfails from every tree\n",
+            ),
+        ],
+    )
 }
 
 /// Each cause of a refusal in the text, the catalog, the graph or the programs of a manifest.
@@ -226,33 +251,30 @@ const REFUSED: [(&str, &str); 38] = [
 
 #[test]
 fn manifests_that_are_refused(rt: HostRuntime) -> Result<(), Fail> {
-    for (manifest, line) in REFUSED {
-        let told = told_of(rt.alloc(), manifest.as_bytes())?;
-        compare(&rt, &told, 4, "", line, manifest);
-    }
-    Ok(())
+    all_told(&rt, &["site.pp"], 4, &REFUSED)
 }
 
-/// What is told of a manifest that is refused.
-fn refusal_of(alloc: Global, manifest: &[u8]) -> Result<String, Fail> {
-    let told = told_of(alloc, manifest)?;
-    if told.status != 4 || !told.out.as_str().is_empty() {
-        return Err(Fail::from("a refusal"));
+/// Each row: bytes, and the line of their refusal.
+fn all_refused(rt: &(impl Abort + AllocGlobal), rows: &[(&[u8], &str)]) -> Result<(), Fail> {
+    for (bytes, line) in rows {
+        let told = run(rt.alloc(), &["site.pp"], *bytes)?;
+        compare(rt, &told, 4, "", *line, *line);
     }
-    Ok(told.err)
+    Ok(())
 }
 
 #[test]
 fn bytes_that_are_no_text(rt: HostRuntime) -> Result<(), Fail> {
-    assert_eq!(rt;
-        refusal_of(rt.alloc(), b"\xff")?.as_str(),
-        "refused 10 at 0: utf8\n"
-    );
-    assert_eq!(rt;
-        refusal_of(rt.alloc(), b"file { '/a': content => '\xff' }")?.as_str(),
-        "refused 10 at 25: utf8\n"
-    );
-    Ok(())
+    all_refused(
+        &rt,
+        &[
+            (b"\xff", "refused 10 at 0: utf8\n"),
+            (
+                b"file { '/a': content => '\xff' }",
+                "refused 10 at 25: utf8\n",
+            ),
+        ],
+    )
 }
 
 /// So many files, each at a path of its own.
@@ -271,36 +293,65 @@ fn told_of_files(alloc: Global, words: &[&str], count: u32) -> Result<Told, Fail
     run(alloc, words, manifest.as_bytes())
 }
 
+/// Each row: words, how many files there are, and the status and what is told of them.
+fn all_files(
+    rt: &(impl Abort + AllocGlobal),
+    rows: &[(&[&str], u32, u8, &str)],
+) -> Result<(), Fail> {
+    for (words, count, status, want) in rows {
+        let told = told_of_files(rt.alloc(), *words, *count)?;
+        is_told(rt, &told, *status, *want, "many files");
+    }
+    Ok(())
+}
+
 #[test]
 fn many_files(rt: HostRuntime) -> Result<(), Fail> {
-    let usual: &[&str] = &["site.pp"];
-    let host: &[&str] = &["--limits", "host", "site.pp"];
-    let most = "resources 256\npruned 256\ndeterministic\nidempotent\nsucceeds from some tree\n";
-    let more = "resources 257\npruned 257\ndeterministic\nidempotent\nsucceeds from some tree\n";
-    let refused = "refused 32 at 0: resources\n";
-    let rows: [(&[&str], u32, u8, &str, &str); 4] = [
-        (usual, 256, 0, most, ""),
-        (usual, 257, 4, "", refused),
-        (host, 257, 0, more, ""),
-        (host, 1025, 4, "", refused),
-    ];
-    for (words, count, status, out, err) in rows {
-        let told = told_of_files(rt.alloc(), words, count)?;
-        compare(&rt, &told, status, out, err, "many files");
+    all_files(
+        &rt,
+        &[
+            (
+                &["site.pp"],
+                256,
+                0,
+                "resources 256\npruned 256\ndeterministic\nidempotent\nsucceeds from some tree\n",
+            ),
+            (&["site.pp"], 257, 4, "refused 32 at 0: resources\n"),
+            (
+                &["--limits", "host", "site.pp"],
+                257,
+                0,
+                "resources 257\npruned 257\ndeterministic\nidempotent\nsucceeds from some tree\n",
+            ),
+            (
+                &["--limits", "host", "site.pp"],
+                1025,
+                4,
+                "refused 32 at 0: resources\n",
+            ),
+        ],
+    )
+}
+
+/// What is told of so many blanks.
+fn told_of_blanks(alloc: Global, count: usize) -> Result<Told, Fail> {
+    let manifest = vec![in alloc; b' '; count]?;
+    run(alloc, &["site.pp"], &manifest)
+}
+
+/// Each row: how many blanks there are, and the status and what is told of them.
+fn all_blanks(rt: &(impl Abort + AllocGlobal), rows: &[(usize, u8, &str)]) -> Result<(), Fail> {
+    for (count, status, want) in rows {
+        let told = told_of_blanks(rt.alloc(), *count)?;
+        is_told(rt, &told, *status, *want, "blanks");
     }
     Ok(())
 }
 
 #[test]
 fn a_manifest_at_its_limit(rt: HostRuntime) -> Result<(), Fail> {
-    let rows: [(usize, u8, &str, &str); 2] = [
-        (262_144, 0, NONE, ""),
-        (262_145, 4, "", "refused 17 at 0: input\n"),
-    ];
-    for (blanks, status, out, err) in rows {
-        let manifest = vec![in rt.alloc(); b' '; blanks]?;
-        let told = told_of(rt.alloc(), &manifest)?;
-        compare(&rt, &told, status, out, err, "blanks");
-    }
-    Ok(())
+    all_blanks(
+        &rt,
+        &[(262_144, 0, NONE), (262_145, 4, "refused 17 at 0: input\n")],
+    )
 }

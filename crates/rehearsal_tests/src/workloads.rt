@@ -1,6 +1,6 @@
 //! Workloads.
 
-use crate::common::{Told, compare, run_over};
+use crate::common::{Told, run_over};
 use std::alloc::Global;
 use std::process::Abort;
 use std::test::Fail;
@@ -9,65 +9,81 @@ fn told_of(alloc: Global, words: &[&str]) -> Result<Told, Fail> {
     run_over(alloc, words, &[])
 }
 
-/// So many resources, of which so many are pruned, and all is well.
-fn is_well(
-    alloc: Global,
-    rt: &impl Abort,
-    words: &[&str],
-    resources: u32,
-    pruned: u32,
-) -> Result<(), Fail> {
-    let report = format!(in alloc;
-        "resources {resources}\npruned {pruned}\ndeterministic\nidempotent\nsucceeds from some tree\n"
-    )?;
-    let told = told_of(alloc, words)?;
-    compare(rt, &told, 0, report.as_str(), "", "a workload");
-    Ok(())
+/// Behind these first lines is told that all is well.
+pub fn is_well(rt: &impl Abort, told: &Told, head: &str) {
+    let rest = told.out.as_str().strip_prefix(head).unwrap_or("?");
+    assert_eq!(rt;
+        rest,
+        "deterministic\nidempotent\nsucceeds from some tree\n",
+        "{head}"
+    );
+    assert_eq!(rt; told.err.as_str(), "", "{head}");
+    assert_eq!(rt; told.status, 0, "{head}");
 }
 
-#[test]
-fn small_workloads(rt: HostRuntime) -> Result<(), Fail> {
-    let rows: [(&[&str], u32, u32); 4] = [
-        (&["--workload", "1"], 7, 3),
-        (&["--workload", "5"], 19, 15),
-        (&["--conflicts", "1000000", "--workload=5"], 19, 15),
-        (&["--ask", "explain", "--workload", "5"], 19, 15),
-    ];
-    for (words, resources, pruned) in rows {
-        is_well(rt.alloc(), &rt, words, resources, pruned)?;
+/// Each row: words, how many resources they give and how many of these are pruned, and all is well.
+fn all_well(rt: &(impl Abort + AllocGlobal), rows: &[(&[&str], &str)]) -> Result<(), Fail> {
+    for (words, head) in rows {
+        let told = told_of(rt.alloc(), *words)?;
+        is_well(rt, &told, *head);
     }
     Ok(())
 }
 
 #[test]
+fn small_workloads(rt: HostRuntime) -> Result<(), Fail> {
+    all_well(
+        &rt,
+        &[
+            (&["--workload", "1"], "resources 7\npruned 3\n"),
+            (&["--workload", "5"], "resources 19\npruned 15\n"),
+            (
+                &["--conflicts", "1000000", "--workload=5"],
+                "resources 19\npruned 15\n",
+            ),
+            (
+                &["--ask", "explain", "--workload", "5"],
+                "resources 19\npruned 15\n",
+            ),
+        ],
+    )
+}
+
+#[test]
 fn a_workload_of_forty(rt: HostRuntime) -> Result<(), Fail> {
-    is_well(rt.alloc(), &rt, &["--workload", "40"], 124, 120)
+    all_well(
+        &rt,
+        &[(&["--workload", "40"], "resources 124\npruned 120\n")],
+    )
 }
 
 #[test]
 fn a_workload_of_forty_with_conflicts(rt: HostRuntime) -> Result<(), Fail> {
-    is_well(
-        rt.alloc(),
+    all_well(
         &rt,
-        &["--conflicts", "1000000", "--workload", "40"],
-        124,
-        120,
+        &[(
+            &["--conflicts", "1000000", "--workload", "40"],
+            "resources 124\npruned 120\n",
+        )],
     )
 }
 
 #[test]
 fn the_largest_workload(rt: HostRuntime) -> Result<(), Fail> {
-    is_well(rt.alloc(), &rt, &["--workload", "54"], 166, 162)
+    all_well(
+        &rt,
+        &[(&["--workload", "54"], "resources 166\npruned 162\n")],
+    )
 }
 
 #[test]
 fn the_largest_workload_with_conflicts(rt: HostRuntime) -> Result<(), Fail> {
-    is_well(
-        rt.alloc(),
+    all_well(
         &rt,
-        &["--conflicts", "1000000", "--workload", "54"],
-        166,
-        162,
+        &[(
+            &["--conflicts", "1000000", "--workload", "54"],
+            "resources 166\npruned 162\n",
+        )],
     )
 }
 
@@ -78,6 +94,15 @@ const AHEAD: [&str; 3] = [
     "deterministic\nidempotent\nspent succeeds 1\n",
 ];
 
+/// The conflicts are spent, and that is told, or they were enough.
+fn is_spent_or_well(rt: &impl Abort, status: u8, rest: &str) {
+    if status == 3 {
+        assert!(rt; AHEAD.contains(&rest), "{rest}");
+    } else {
+        assert_eq!(rt; status, 0);
+    }
+}
+
 #[test]
 fn one_conflict(rt: HostRuntime) -> Result<(), Fail> {
     let told = told_of(rt.alloc(), &["--workload", "5", "--conflicts", "1"])?;
@@ -86,11 +111,7 @@ fn one_conflict(rt: HostRuntime) -> Result<(), Fail> {
         .as_str()
         .strip_prefix("resources 19\npruned 15\n")
         .unwrap_or("?");
-    if told.status == 3 {
-        assert!(rt; AHEAD.contains(&rest), "{rest}");
-    } else {
-        assert_eq!(rt; told.status, 0);
-    }
+    is_spent_or_well(&rt, told.status, rest);
     assert_eq!(rt; told.err.as_str(), "");
     Ok(())
 }
