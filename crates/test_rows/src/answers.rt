@@ -6,6 +6,7 @@ ghost use Rattle.rh_base.specs.Refused.{IfRefused};
 
 use rh_base::{Fault, NoMemory, Text};
 use std::alloc::Global;
+use std::test::Fail;
 
 pub fn text(alloc: Global, piece: &str) -> Result<Text, NoMemory>
     ensures { IfOk result (λ text. text ≡ piece.now) }
@@ -27,4 +28,37 @@ pub fn refused(alloc: Global, fault: &Fault) -> Result<String, NoMemory>
         }
         Fault::Memory(m) => Err(*m),
     }
+}
+
+/// The parts one behind the other.
+pub fn joined(alloc: Global, parts: &[&str]) -> Result<String, NoMemory> {
+    let mut whole = String::new(alloc);
+    for part in parts {
+        whole.push_str(*part)?;
+    }
+    Ok(whole)
+}
+
+/// A failure that shows the row, what was got and what was wanted, where these two differ.
+///
+/// An `assert_eq!` that shows them takes the prover three times as long, in each driver that has one.
+pub fn same(alloc: Global, row: &str, got: &str, want: &str) -> Result<(), Fail>
+    ensures { IfOk result (λ _. got.now ≡ want.now) }
+{
+    if got == want {
+        return Ok(());
+    }
+    let told = joined(alloc, &[row, ": got ", got, ", not ", want])?;
+    Err(Fail::new(told))
+}
+
+/// The same of numbers.
+pub fn same_number(alloc: Global, row: &str, got: u64, want: u64) -> Result<(), Fail>
+    ensures { IfOk result (λ _. got ≡ want) }
+{
+    if got == want {
+        return Ok(());
+    }
+    let told = format!(in alloc; "{row}: got {got}, not {want}")?;
+    Err(Fail::new(told))
 }

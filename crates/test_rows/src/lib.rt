@@ -4,5 +4,5 @@
 mod answers;
 mod texts;
 
-pub use answers::{refused, text};
+pub use answers::{joined, refused, same, same_number, text};
 pub use texts::{PIGEONS, Pieces, boxes, doubled, nested, titles};
