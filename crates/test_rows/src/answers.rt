@@ -56,9 +56,9 @@ pub fn same(alloc: Global, row: &str, got: &str, want: &str) -> Result<(), Fail>
 pub fn same_number(alloc: Global, row: &str, got: u64, want: u64) -> Result<(), Fail>
     ensures { IfOk result (λ _. got ≡ want) }
 {
-    if got == want {
-        return Ok(());
+    if got != want {
+        let told = format!(in alloc; "{row}: got {got}, not {want}")?;
+        return Err(Fail::new(told));
     }
-    let told = format!(in alloc; "{row}: got {got}, not {want}")?;
-    Err(Fail::new(told))
+    Ok(())
 }
