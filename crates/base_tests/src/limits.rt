@@ -5,62 +5,58 @@ use rh_base::limits::{
     NAME_BYTES, NESTING, ORDER_BYTES, PATH_BYTES, PATH_SEGMENTS, PROOF_BYTES, RESOURCES,
     TREE_BYTES, VALUE_DEPTH, VALUE_SIZE, WEIGHT,
 };
-use std::process::Abort;
+use std::alloc::Global;
+use std::test::Fail;
+use test_rows::same_number;
 
-/// Each limit is the one that is stated.
-fn are_stated(rt: &impl Abort, rows: &[(usize, usize)]) {
-    for (limit, stated) in rows {
-        assert_eq!(rt; *limit, *stated);
+/// Each row: what is limited, the limit, and the one that is stated.
+fn are_stated(alloc: Global, rows: &[(&str, u64, u64)]) -> Result<(), Fail> {
+    for (words, limit, stated) in rows {
+        same_number(alloc, *words, *limit, *stated)?;
     }
+    Ok(())
 }
 
 #[test]
-fn limits_of_what_is_read(rt: HostRuntime) {
+fn limits_of_what_is_read(rt: HostRuntime) -> Result<(), Fail> {
     are_stated(
-        &rt,
+        rt.alloc(),
         &[
-            (MANIFEST_BYTES, 262_144),
-            (FACTS_BYTES, 262_144),
-            (LISTING_BYTES, 4_194_304),
-            (TREE_BYTES, 4_194_304),
-            (ORDER_BYTES, 1_048_576),
-            (PROOF_BYTES, 67_108_864),
-            (PATH_BYTES, 1_024),
-            (PATH_SEGMENTS, 32),
-            (NAME_BYTES, 255),
+            ("bytes of a manifest", MANIFEST_BYTES as u64, 262_144),
+            ("bytes of facts", FACTS_BYTES as u64, 262_144),
+            ("bytes of a listing", LISTING_BYTES as u64, 4_194_304),
+            ("bytes of a tree", TREE_BYTES as u64, 4_194_304),
+            ("bytes of an order", ORDER_BYTES as u64, 1_048_576),
+            ("bytes of proofs", PROOF_BYTES as u64, 67_108_864),
+            ("bytes of a path", PATH_BYTES as u64, 1_024),
+            ("segments of a path", PATH_SEGMENTS as u64, 32),
+            ("bytes of a name", NAME_BYTES as u64, 255),
         ],
-    );
-}
-
-/// The same of sizes.
-fn are_stated_sizes(rt: &impl Abort, rows: &[(u64, u64)]) {
-    for (limit, stated) in rows {
-        assert_eq!(rt; *limit, *stated);
-    }
+    )
 }
 
 #[test]
-fn limits_of_what_is_worked_on(rt: HostRuntime) {
-    are_stated_sizes(
-        &rt,
+fn limits_of_what_is_worked_on(rt: HostRuntime) -> Result<(), Fail> {
+    are_stated(
+        rt.alloc(),
         &[
-            (VALUE_SIZE, 262_144),
-            (VALUE_DEPTH, 1_000),
-            (ATTRIBUTES_SIZE, 16_777_216),
-            (DOMAIN_PATHS, 4_096),
-            (WEIGHT, 700_000),
+            ("size of a value", VALUE_SIZE, 262_144),
+            ("depth of a value", VALUE_DEPTH, 1_000),
+            ("size of attributes", ATTRIBUTES_SIZE, 16_777_216),
+            ("paths of a domain", DOMAIN_PATHS, 4_096),
+            ("weight", WEIGHT, 700_000),
         ],
-    );
-}
-
-/// The same of counts.
-fn are_stated_counts(rt: &impl Abort, rows: &[(u32, u32)]) {
-    for (limit, stated) in rows {
-        assert_eq!(rt; *limit, *stated);
-    }
+    )
 }
 
 #[test]
-fn limits_of_what_is_declared(rt: HostRuntime) {
-    are_stated_counts(&rt, &[(NESTING, 64), (DECLARED, 4_096), (RESOURCES, 256)]);
+fn limits_of_what_is_declared(rt: HostRuntime) -> Result<(), Fail> {
+    are_stated(
+        rt.alloc(),
+        &[
+            ("nesting", u64::from(NESTING), 64),
+            ("declared", u64::from(DECLARED), 4_096),
+            ("resources", u64::from(RESOURCES), 256),
+        ],
+    )
 }
