@@ -5,171 +5,294 @@ use rh_base::Seq;
 use std::alloc::Global;
 use std::process::Abort;
 use std::test::Fail;
+use test_rows::same;
 
-/// The order of so many nodes that these edges make.
-fn order_of(rt: &(impl Abort + AllocGlobal), n: u32, edges: &[(u32, u32)]) -> Result<Order, Fail> {
-    assert!(rt; edges.iter().all(|e| e.0 < n && e.1 < n));
-    Ok(Order::from_edges(rt.alloc(), n, edges)?)
+/// A word and the numbers.
+fn listed(alloc: Global, word: &str, numbers: &[u32]) -> Result<String, Fail> {
+    let mut shown = String::from_str(alloc, word)?;
+    for n in numbers {
+        let number = format!(in alloc; " {n}")?;
+        shown.push_str(number.as_str())?;
+    }
+    Ok(shown)
 }
 
-/// That order with one node left out.
-fn left_out(
-    rt: &(impl Abort + AllocGlobal),
-    n: u32,
-    edges: &[(u32, u32)],
-    r: u32,
-) -> Result<Order, Fail> {
-    assert!(rt; edges.iter().all(|e| e.0 < n && e.1 < n));
-    assert!(rt; r < n);
-    let order = Order::from_edges(rt.alloc(), n, edges)?;
-    Ok(order.without(r)?)
-}
-
-/// An order of so many nodes; each row two of them, and whether the first comes before the second.
-fn are_before(rt: &impl Abort, order: &Order, count: u32, rows: &[(u32, u32, bool)]) {
+/// How the first of two nodes stands to the second.
+fn relation(order: &Order, a: u32, b: u32) -> &'static str {
     let n = order.count();
-    assert_eq!(rt; n, count);
-    for (a, b, want) in rows {
-        assert!(rt; *a < n && *b < n);
-        assert_eq!(rt; order.before(*a, *b), *want, "{a} before {b}");
+    if a >= n || b >= n {
+        return "not there";
+    }
+    match (order.before(a, b), order.free(a, b)) {
+        (true, false) => "before",
+        (false, true) => "free",
+        (false, false) => "neither",
+        (true, true) => "both",
     }
 }
 
-/// Each row two nodes, and whether they differ and may stand in either order.
-fn are_free(rt: &impl Abort, order: &Order, rows: &[(u32, u32, bool)]) {
-    let n = order.count();
-    for (a, b, want) in rows {
-        assert!(rt; *a < n && *b < n);
-        assert_eq!(rt; order.free(*a, *b), *want, "{a} and {b}");
+/// The order with one node left out.
+fn without(order: &Order, r: u32) -> Result<Order, Fail> {
+    if r < order.count() {
+        return Ok(order.without(r)?);
+    }
+    Err("a node that isn't there".into())
+}
+
+fn count(alloc: Global, order: &Order) -> Result<String, Fail> {
+    listed(alloc, "nodes", &[order.count()])
+}
+
+/// How the first of two nodes stands to the second.
+fn between(alloc: Global, order: &Order, of: &[u32]) -> Result<String, Fail> {
+    let [a, b] = of else {
+        return Err("no two nodes".into());
+    };
+    Ok(String::from_str(alloc, relation(order, *a, *b))?)
+}
+
+/// What is answered without the first node: how many there are, or how two stand, by their numbers without it.
+fn rest(alloc: Global, order: &Order, of: &[u32]) -> Result<String, Fail> {
+    let Some((r, others)) = of.split_first() else {
+        return Err("no node".into());
+    };
+    let rest = without(order, *r)?;
+    if others.is_empty() {
+        count(alloc, &rest)
+    } else {
+        between(alloc, &rest, others)
     }
 }
 
-#[test]
-fn before_follows_paths(rt: HostRuntime) -> Result<(), Fail> {
-    let order = order_of(&rt, 4, &[(1, 2), (0, 1)])?;
-    are_before(
-        &rt,
-        &order,
-        4,
-        &[(0, 1, true), (0, 2, true), (2, 0, false), (0, 0, false)],
-    );
-    Ok(())
+/// Whether a list is an extension of an order of at most three nodes.
+fn extension(alloc: Global, order: &Order, list: &[u32]) -> Result<String, Fail> {
+    let n = order.count() as usize;
+    let mut marks = [true, false, true];
+    if n <= 3 && order.is_extension(list, &mut marks[..n]) {
+        return Ok(String::from_str(alloc, "an extension")?);
+    }
+    Ok(String::from_str(alloc, "none")?)
 }
 
-#[test]
-fn nodes_without_a_path_are_free(rt: HostRuntime) -> Result<(), Fail> {
-    let order = order_of(&rt, 4, &[(1, 2), (0, 1)])?;
-    are_free(
-        &rt,
-        &order,
-        &[(0, 3, true), (0, 2, false), (2, 0, false), (3, 3, false)],
-    );
-    Ok(())
+fn first_extension(alloc: Global, order: &Order) -> Result<String, Fail> {
+    let first = order.first_extension()?;
+    listed(alloc, "first", first.as_slice())
 }
 
-#[test]
-fn one_left_out(rt: HostRuntime) -> Result<(), Fail> {
-    let rest = left_out(&rt, 3, &[(0, 1), (1, 2)], 1)?;
-    are_before(&rt, &rest, 2, &[(0, 1, true), (1, 0, false)]);
-    Ok(())
+/// The orders of three nodes on the walk between two, of which these are the nodes.
+fn walked(order: &Order, of: &[u32]) -> Result<Seq<Seq<u32>>, Fail> {
+    let mut marks = [false; 3];
+    if of.len() == 6 && order.count() == 3 {
+        let (from, to) = of.split_at(3);
+        if order.is_extension(from, &mut marks) && order.is_extension(to, &mut marks) {
+            return Ok(order.walk(from, to)?);
+        }
+    }
+    Err("orders that aren't allowed".into())
 }
 
-/// The nodes of the cycle that these edges make, or none.
-fn cycle_of(
+/// How many orders stand on a walk.
+fn walk(alloc: Global, order: &Order, of: &[u32]) -> Result<String, Fail> {
+    let orders = walked(order, of)?;
+    Ok(format!(in alloc; "orders {}", orders.len())?)
+}
+
+/// The order that stands on a walk at the place of the first number.
+fn walk_at(alloc: Global, order: &Order, of: &[u32]) -> Result<String, Fail> {
+    let Some((k, of)) = of.split_first() else {
+        return Err("no place".into());
+    };
+    let orders = walked(order, of)?;
+    match orders.as_slice().get(*k as usize) {
+        Some(at) => listed(alloc, "order", at.as_slice()),
+        None => Err("a place behind the walk".into()),
+    }
+}
+
+/// What is answered of an order.
+fn told(alloc: Global, order: &Order, ask: &str, of: &[u32]) -> Result<String, Fail> {
+    match ask {
+        "nodes" => count(alloc, order),
+        "between" => between(alloc, order, of),
+        "without" => rest(alloc, order, of),
+        "extension" => extension(alloc, order, of),
+        "first" => first_extension(alloc, order),
+        "walk" => walk(alloc, order, of),
+        "walk at" => walk_at(alloc, order, of),
+        _ => Err("no question".into()),
+    }
+}
+
+/// The order of so many nodes that these edges make, or their cycle.
+fn made(
     rt: &(impl Abort + AllocGlobal),
     n: u32,
     edges: &[(u32, u32)],
-) -> Result<Seq<u32>, Fail> {
+) -> Result<Order, OrderFault> {
     assert!(rt; edges.iter().all(|e| e.0 < n && e.1 < n));
-    match Order::from_edges(rt.alloc(), n, edges) {
-        Ok(_) => Ok(Seq::new(rt.alloc())),
-        Err(OrderFault::Cycle(nodes)) => Ok(nodes),
+    Order::from_edges(rt.alloc(), n, edges)
+}
+
+/// What is answered of the order that these edges make, or the nodes of their cycle.
+fn answer(
+    rt: &(impl Abort + AllocGlobal),
+    n: u32,
+    edges: &[(u32, u32)],
+    asked: &Asked,
+) -> Result<String, Fail> {
+    match made(rt, n, edges) {
+        Ok(order) => told(rt.alloc(), &order, asked.0, asked.1),
+        Err(OrderFault::Cycle(nodes)) => listed(rt.alloc(), "cycle", nodes.as_slice()),
         Err(OrderFault::Memory(_)) => Err("memory".into()),
     }
 }
 
-/// Each row: how many nodes there are, edges between them, and nodes that are answered of these.
-type Row = (u32, &'static [(u32, u32)], &'static [u32]);
+/// What is asked, of which nodes, and what is answered.
+type Asked = (&'static str, &'static [u32], &'static str);
 
-fn are_cycles(rt: &(impl Abort + AllocGlobal), rows: &[Row]) -> Result<(), Fail> {
-    for (n, edges, want) in rows {
-        let nodes = cycle_of(rt, *n, *edges)?;
-        assert_eq!(rt; nodes.as_slice(), *want);
+/// What is asked, in words.
+fn words(alloc: Global, asked: &Asked) -> Result<String, Fail> {
+    listed(alloc, asked.0, asked.1)
+}
+
+fn is_answered(
+    rt: &(impl Abort + AllocGlobal),
+    n: u32,
+    edges: &[(u32, u32)],
+    asked: &Asked,
+) -> Result<(), Fail> {
+    let words = words(rt.alloc(), asked)?;
+    let got = answer(rt, n, edges, asked)?;
+    same(rt.alloc(), words.as_str(), got.as_str(), asked.2)
+}
+
+/// Each row: what is asked of the order of so many nodes that these edges make.
+fn are_answered(
+    rt: &(impl Abort + AllocGlobal),
+    n: u32,
+    edges: &[(u32, u32)],
+    rows: &[Asked],
+) -> Result<(), Fail> {
+    for row in rows {
+        is_answered(rt, n, edges, row)?;
     }
     Ok(())
 }
 
+/// Each row: how many nodes there are, edges between them, and what is asked of their order.
+type Row = (u32, &'static [(u32, u32)], Asked);
+
+fn all_answered(rt: &(impl Abort + AllocGlobal), rows: &[Row]) -> Result<(), Fail> {
+    for (n, edges, asked) in rows {
+        is_answered(rt, *n, *edges, asked)?;
+    }
+    Ok(())
+}
+
+/// Three of four nodes one before the other; the second edge stands first.
+const PATH: &[(u32, u32)] = &[(1, 2), (0, 1)];
+
 #[test]
-fn cycles_begin_with_their_least_node(rt: HostRuntime) -> Result<(), Fail> {
-    are_cycles(
+fn before_follows_paths(rt: HostRuntime) -> Result<(), Fail> {
+    are_answered(
         &rt,
+        4,
+        PATH,
         &[
-            (5, &[(4, 3), (3, 1), (0, 3), (1, 2), (2, 3)], &[1, 2, 3]),
-            (3, &[(0, 2), (1, 1)], &[1]),
-            (3, &[(0, 2), (1, 2), (0, 1), (0, 1)], &[]),
+            ("nodes", &[], "nodes 4"),
+            ("between", &[0, 1], "before"),
+            ("between", &[0, 2], "before"),
+            ("between", &[2, 0], "neither"),
+            ("between", &[0, 0], "neither"),
         ],
     )
 }
 
-/// Of three nodes, the last of which comes before the first: each row a list, and whether it is an extension.
-fn are_extensions(rt: &(impl Abort + AllocGlobal), rows: &[(&[u32], bool)]) -> Result<(), Fail> {
-    let order = Order::from_edges(rt.alloc(), 3, &[(2, 0)])?;
-    let mut marks = [true, false, true];
-    for (list, allowed) in rows {
-        assert_eq!(rt; order.is_extension(*list, &mut marks), *allowed);
-    }
-    Ok(())
+#[test]
+fn nodes_without_a_path_are_free(rt: HostRuntime) -> Result<(), Fail> {
+    are_answered(
+        &rt,
+        4,
+        PATH,
+        &[
+            ("between", &[0, 3], "free"),
+            ("between", &[0, 2], "before"),
+            ("between", &[2, 0], "neither"),
+            ("between", &[3, 3], "neither"),
+        ],
+    )
 }
 
 #[test]
-fn extensions_have_each_node_once_in_order(rt: HostRuntime) -> Result<(), Fail> {
-    are_extensions(
+fn one_left_out(rt: HostRuntime) -> Result<(), Fail> {
+    are_answered(
+        &rt,
+        3,
+        &[(0, 1), (1, 2)],
+        &[
+            ("without", &[1], "nodes 2"),
+            ("without", &[1, 0, 1], "before"),
+            ("without", &[1, 1, 0], "neither"),
+        ],
+    )
+}
+
+#[test]
+fn cycles_begin_with_their_least_node(rt: HostRuntime) -> Result<(), Fail> {
+    all_answered(
         &rt,
         &[
-            (&[2, 0, 1], true),
-            (&[1, 2, 0], true),
-            (&[0, 2, 1], false),
-            (&[2, 0], false),
-            (&[2, 0, 0], false),
-            (&[2, 1, 0, 1], false),
-            (&[2, 3, 0], false),
-            (&[], false),
+            (
+                5,
+                &[(4, 3), (3, 1), (0, 3), (1, 2), (2, 3)],
+                ("nodes", &[], "cycle 1 2 3"),
+            ),
+            (3, &[(0, 2), (1, 1)], ("nodes", &[], "cycle 1")),
+            (
+                3,
+                &[(0, 2), (1, 2), (0, 1), (0, 1)],
+                ("nodes", &[], "nodes 3"),
+            ),
+        ],
+    )
+}
+
+/// Of three nodes, the last of which comes before the first.
+#[test]
+fn extensions_have_each_node_once_in_order(rt: HostRuntime) -> Result<(), Fail> {
+    are_answered(
+        &rt,
+        3,
+        &[(2, 0)],
+        &[
+            ("extension", &[2, 0, 1], "an extension"),
+            ("extension", &[1, 2, 0], "an extension"),
+            ("extension", &[0, 2, 1], "none"),
+            ("extension", &[2, 0], "none"),
+            ("extension", &[2, 0, 0], "none"),
+            ("extension", &[2, 1, 0, 1], "none"),
+            ("extension", &[2, 3, 0], "none"),
+            ("extension", &[], "none"),
         ],
     )
 }
 
 #[test]
 fn the_empty_list_extends_the_empty_order(rt: HostRuntime) -> Result<(), Fail> {
-    let empty = Order::from_edges(rt.alloc(), 0, &[])?;
-    assert!(rt; empty.is_extension(&[], &mut []));
-    Ok(())
-}
-
-/// The first extension of the order that these edges make.
-fn first_of(
-    rt: &(impl Abort + AllocGlobal),
-    n: u32,
-    edges: &[(u32, u32)],
-) -> Result<Seq<u32>, Fail> {
-    let order = order_of(rt, n, edges)?;
-    Ok(order.first_extension()?)
-}
-
-fn are_first(rt: &(impl Abort + AllocGlobal), rows: &[Row]) -> Result<(), Fail> {
-    for (n, edges, want) in rows {
-        let first = first_of(rt, *n, *edges)?;
-        assert_eq!(rt; first.as_slice(), *want);
-    }
-    Ok(())
+    are_answered(&rt, 0, &[], &[("extension", &[], "an extension")])
 }
 
 #[test]
 fn the_first_extension_takes_the_least(rt: HostRuntime) -> Result<(), Fail> {
-    are_first(
+    all_answered(
         &rt,
         &[
-            (5, &[(4, 0), (3, 1), (4, 3)], &[2, 4, 0, 3, 1]),
-            (3, &[], &[0, 1, 2]),
+            (
+                5,
+                &[(4, 0), (3, 1), (4, 3)],
+                ("first", &[], "first 2 4 0 3 1"),
+            ),
+            (3, &[], ("first", &[], "first 0 1 2")),
         ],
     )
 }
@@ -186,74 +309,57 @@ fn chain(alloc: Global, count: u32) -> Result<Vec<(u32, u32)>, Fail> {
 #[test]
 fn rows_are_longer_than_a_word(rt: HostRuntime) -> Result<(), Fail> {
     let edges = chain(rt.alloc(), 129)?;
-    let order = order_of(&rt, 130, &edges)?;
-    are_before(
+    are_answered(
         &rt,
-        &order,
         130,
-        &[(129, 0, true), (0, 129, false), (128, 63, true)],
-    );
-    Ok(())
+        &edges,
+        &[
+            ("nodes", &[], "nodes 130"),
+            ("between", &[129, 0], "before"),
+            ("between", &[0, 129], "neither"),
+            ("between", &[128, 63], "before"),
+        ],
+    )
 }
 
 #[test]
 fn one_left_out_of_long_rows(rt: HostRuntime) -> Result<(), Fail> {
     let edges = chain(rt.alloc(), 129)?;
-    let rest = left_out(&rt, 130, &edges, 64)?;
-    are_before(&rt, &rest, 129, &[(64, 63, true), (63, 64, false)]);
-    Ok(())
-}
-
-/// The orders of three nodes on the walk between two that these edges allow.
-fn walked(
-    rt: &(impl Abort + AllocGlobal),
-    edges: &[(u32, u32)],
-    from: &[u32],
-    to: &[u32],
-) -> Result<Seq<Seq<u32>>, Fail> {
-    assert!(rt; edges.iter().all(|e| e.0 < 3 && e.1 < 3));
-    let mut marks = [false; 3];
-    let order = Order::from_edges(rt.alloc(), 3, edges)?;
-    assert!(rt; order.is_extension(from, &mut marks));
-    assert!(rt; order.is_extension(to, &mut marks));
-    Ok(order.walk(from, to)?)
-}
-
-/// Edges, two orders that they allow, and how many stand on the walk between these.
-type Walk = (&'static [(u32, u32)], &'static [u32], &'static [u32], usize);
-
-fn are_walked(rt: &(impl Abort + AllocGlobal), rows: &[Walk]) -> Result<(), Fail> {
-    for (edges, from, to, count) in rows {
-        let orders = walked(rt, *edges, *from, *to)?;
-        assert_eq!(rt; orders.len(), *count);
-    }
-    Ok(())
-}
-
-#[test]
-fn walks_exchange_neighbours(rt: HostRuntime) -> Result<(), Fail> {
-    are_walked(
+    are_answered(
         &rt,
+        130,
+        &edges,
         &[
-            (&[], &[0, 1, 2], &[2, 1, 0], 4),
-            (&[], &[2, 1, 0], &[2, 1, 0], 1),
-            (&[(0, 1)], &[0, 1, 2], &[2, 0, 1], 3),
+            ("without", &[64], "nodes 129"),
+            ("without", &[64, 64, 63], "before"),
+            ("without", &[64, 63, 64], "neither"),
         ],
     )
 }
 
-/// An order stands at this place of a walk.
-fn is_at(rt: &impl Abort, orders: &[Seq<u32>], k: usize, want: &[u32]) {
-    assert!(rt; k < orders.len());
-    assert_eq!(rt; orders[k].as_slice(), want);
+#[test]
+fn walks_exchange_neighbours(rt: HostRuntime) -> Result<(), Fail> {
+    all_answered(
+        &rt,
+        &[
+            (3, &[], ("walk", &[0, 1, 2, 2, 1, 0], "orders 4")),
+            (3, &[], ("walk", &[2, 1, 0, 2, 1, 0], "orders 1")),
+            (3, &[(0, 1)], ("walk", &[0, 1, 2, 2, 0, 1], "orders 3")),
+        ],
+    )
 }
 
 #[test]
 fn orders_of_a_walk(rt: HostRuntime) -> Result<(), Fail> {
-    let orders = walked(&rt, &[(0, 1)], &[0, 1, 2], &[2, 0, 1])?;
-    is_at(&rt, orders.as_slice(), 1, &[0, 2, 1]);
-    is_at(&rt, orders.as_slice(), 2, &[2, 0, 1]);
-    Ok(())
+    are_answered(
+        &rt,
+        3,
+        &[(0, 1)],
+        &[
+            ("walk at", &[1, 0, 1, 2, 2, 0, 1], "order 0 2 1"),
+            ("walk at", &[2, 0, 1, 2, 2, 0, 1], "order 2 0 1"),
+        ],
+    )
 }
 
 #[test]
