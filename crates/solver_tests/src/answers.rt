@@ -2,10 +2,12 @@
 
 use cnf::{Cnf, Log};
 use proof_check::{Bad, Cause, CheckFault, check, read_proofs};
+use rh_base::NoMemory;
 use sat_solver::{Found, solve};
 use std::alloc::Global;
 use std::process::Abort;
 use std::test::Fail;
+use test_rows::{joined, same};
 
 /// Three pigeons in two holes.
 const PIGEONS: &str = "p cnf 6 9
@@ -13,16 +15,21 @@ const PIGEONS: &str = "p cnf 6 9
 -1 -3 0 -1 -5 0 -3 -5 0
 -2 -4 0 -2 -6 0 -4 -6 0";
 
+/// The formula of a text of proofs.
+fn read(alloc: Global, text: &str) -> Result<Cnf, Fail> {
+    let Ok(mut proofs) = read_proofs(alloc, text.as_bytes()) else {
+        return Err("no formula".into());
+    };
+    match proofs.pop() {
+        Some((cnf, _)) => Ok(cnf),
+        None => Err("no formula".into()),
+    }
+}
+
 /// The formula of a text.
-fn formula(rt: &(impl Abort + AllocGlobal), text: &str) -> Result<Cnf, Fail> {
-    let alloc = rt.alloc();
-    let text = format!(in alloc; "proofs 1\n{text}\nlog 0\n")?;
-    let found = read_proofs(alloc, text.as_str().as_bytes());
-    let (cnf, _) = found
-        .ok()
-        .and_then(|mut proofs| proofs.pop())
-        .ok_or("no formula")?;
-    Ok(cnf)
+fn formula(alloc: Global, text: &str) -> Result<Cnf, Fail> {
+    let proofs = joined(alloc, &["proofs 1\n", text, "\nlog 0\n"])?;
+    read(alloc, proofs.as_str())
 }
 
 /// Whether some literal of the clause with this number is true.
@@ -51,57 +58,78 @@ fn satisfies(rt: &impl Abort, cnf: &Cnf, values: &[bool]) -> bool {
     true
 }
 
-/// What the checker says of a log, in a word: of the steps that are right without an empty one at the end, how many.
-fn checked(
-    rt: &(impl Abort + AllocGlobal),
-    cnf: Cnf,
-    log: Log,
-    name: &str,
-) -> Result<String, Fail> {
-    let alloc = rt.alloc();
-    match check(alloc, cnf, log) {
-        Ok(_) => Ok(format!(in alloc; "{name}, accepted")?),
-        Err(
-            CheckFault::Bad(
-                Bad {
-                    step,
-                    cause: Cause::NotEmpty,
-                },
-            ),
-        ) => Ok(format!(in alloc; "{name}, {step} right")?),
-        Err(_) => Ok(format!(in alloc; "{name}, wrong")?),
+/// What is wrong with a log, in a word: of the steps that are right without an empty one at the end, how many.
+fn wrong(alloc: Global, name: &str, bad: &Bad) -> Result<String, NoMemory> {
+    let step = bad.step;
+    match bad.cause {
+        Cause::NotEmpty => Ok(format!(in alloc; "{name}, {step} right")?),
+        _ => joined(alloc, &[name, ", wrong"]),
     }
+}
+
+/// What the checker says of a log, in a word.
+fn checked(alloc: Global, cnf: Cnf, log: Log, name: &str) -> Result<String, NoMemory> {
+    match check(alloc, cnf, log) {
+        Ok(_) => joined(alloc, &[name, ", accepted"]),
+        Err(CheckFault::Bad(bad)) => wrong(alloc, name, &bad),
+        Err(CheckFault::Memory(m)) => Err(m),
+    }
+}
+
+/// Whether the values make the formula true, in words.
+fn told_model(
+    rt: &(impl Abort + AllocGlobal),
+    cnf: &Cnf,
+    values: &[bool],
+) -> Result<String, NoMemory> {
+    let holds = if satisfies(rt, cnf, values) {
+        "true"
+    } else {
+        "false"
+    };
+    joined(rt.alloc(), &["model: ", holds])
 }
 
 /// What the solver found, in words.
-fn told(rt: &(impl Abort + AllocGlobal), cnf: Cnf, found: Found) -> Result<String, Fail> {
+fn told(rt: &(impl Abort + AllocGlobal), cnf: Cnf, found: Found) -> Result<String, NoMemory> {
     match found {
-        Found::Refuted(log) => checked(rt, cnf, log, "refuted"),
-        Found::Spent(log) => checked(rt, cnf, log, "spent"),
-        Found::Model(values) => {
-            let holds = satisfies(rt, &cnf, values.as_slice());
-            Ok(format!(in rt.alloc(); "model: {holds}")?)
-        }
+        Found::Refuted(log) => checked(rt.alloc(), cnf, log, "refuted"),
+        Found::Spent(log) => checked(rt.alloc(), cnf, log, "spent"),
+        Found::Model(values) => told_model(rt, &cnf, values.as_slice()),
     }
 }
 
-/// What the solver answers, in words.
-fn answer(rt: &(impl Abort + AllocGlobal), text: &str, budget: u64) -> Result<String, Fail> {
-    let cnf = formula(rt, text)?;
+/// What the solver answers of a formula, in words.
+fn solved(rt: &(impl Abort + AllocGlobal), cnf: Cnf, budget: u64) -> Result<String, NoMemory> {
     assert!(rt; 1 <= budget);
     let found = solve(rt.alloc(), &cnf, budget)?;
     told(rt, cnf, found)
 }
 
-/// Within a budget the formula of each text is answered so.
+/// What the solver answers of the formula of a text, in words.
+fn answer(rt: &(impl Abort + AllocGlobal), text: &str, budget: u64) -> Result<String, Fail> {
+    let cnf = formula(rt.alloc(), text)?;
+    Ok(solved(rt, cnf, budget)?)
+}
+
+fn is_answered(
+    rt: &(impl Abort + AllocGlobal),
+    budget: u64,
+    text: &str,
+    want: &str,
+) -> Result<(), Fail> {
+    let got = answer(rt, text, budget)?;
+    same(rt.alloc(), text, got.as_str(), want)
+}
+
+/// Each row: the text of a formula, and what is answered of it within the budget.
 fn are_answered(
     rt: &(impl Abort + AllocGlobal),
     budget: u64,
     rows: &[(&str, &str)],
 ) -> Result<(), Fail> {
-    for (text, wanted) in rows {
-        let found = answer(rt, *text, budget)?;
-        assert_eq!(rt; found.as_str(), *wanted, "of {text}");
+    for (text, want) in rows {
+        is_answered(rt, budget, *text, *want)?;
     }
     Ok(())
 }
@@ -213,7 +241,11 @@ fn long_text(alloc: Global) -> Result<String, Fail> {
 #[test]
 fn a_chain_is_followed_from_its_last_clause(rt: HostRuntime) -> Result<(), Fail> {
     let text = long_text(rt.alloc())?;
-    let found = answer(&rt, text.as_str(), 1_000_000)?;
-    assert_eq!(rt; found.as_str(), "refuted, accepted");
-    Ok(())
+    let got = answer(&rt, text.as_str(), 1_000_000)?;
+    same(
+        rt.alloc(),
+        "a long chain",
+        got.as_str(),
+        "refuted, accepted",
+    )
 }
