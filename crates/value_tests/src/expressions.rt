@@ -1,12 +1,11 @@
 //! Rows of expressions: each an assignment to `$r`, and its value or refusal.
-use crate::answers::{are_assigned, assigned};
-use std::process::Abort;
+use crate::answers::{are_assigned, are_assigned_under};
 use std::test::Fail;
 
 #[test]
-fn operators_go_by_their_tables(rt: HostRuntime) -> Result<(), Fail> {
+fn members_and_orders_go_by_their_tables(rt: HostRuntime) -> Result<(), Fail> {
     are_assigned(
-        &rt,
+        rt.alloc(),
         &[
             ("$r = 'bc' in 'aBCd'", "truth true"),
             ("$r = 'bd' in 'aBCd'", "truth false"),
@@ -19,14 +18,21 @@ fn operators_go_by_their_tables(rt: HostRuntime) -> Result<(), Fail> {
             ("$r = 'B' in ['a', 'b']", "truth true"),
             ("$r = [1] in [[1], 2]", "truth true"),
             ("$r = 'a' in 1", "29 at 5: operand"),
-            ("$r = 7 - 2 * 3", "number 1"),
-            ("$r = -(2)", "number -2"),
             ("$r = 1 < 2", "truth true"),
             ("$r = 'a' < 'B'", "truth true"),
             ("$r = 'a' <= 'A'", "truth true"),
             ("$r = 'b' > 'A'", "truth true"),
             ("$r = 'ab' < 'a'", "truth false"),
             ("$r = 1 < 'a'", "29 at 5: operand"),
+        ],
+    )
+}
+
+#[test]
+fn values_are_equal_or_have_a_sum(rt: HostRuntime) -> Result<(), Fail> {
+    are_assigned(
+        rt.alloc(),
+        &[
             ("$r = 'b' == 'B'", "truth true"),
             ("$r = [1, 'a'] == [1, 'A']", "truth true"),
             (
@@ -47,6 +53,8 @@ fn operators_go_by_their_tables(rt: HostRuntime) -> Result<(), Fail> {
                 "map {a => 3, b => true, c => }",
             ),
             ("$r = [1] + {'a' => 1}", "29 at 5: operand"),
+            ("$r = 7 - 2 * 3", "number 1"),
+            ("$r = -(2)", "number -2"),
             ("$r = 9223372036854775807 + 1", "33 at 5: integer"),
             (
                 "$m = -9223372036854775807 - 1 $r = -1 - $m",
@@ -66,33 +74,34 @@ fn operators_go_by_their_tables(rt: HostRuntime) -> Result<(), Fail> {
 }
 
 /// Operations that have no result for these operands.
-const NO_RESULT: [(&str, &str); 15] = [
-    ("$r = 'a' - 1", "29 at 5: operand"),
-    ("$r = [] * 2", "29 at 5: operand"),
-    ("$r = -'a'", "29 at 5: operand"),
-    ("$r = true < false", "29 at 5: operand"),
-    ("$r = 1 >= undef", "29 at 5: operand"),
-    ("$r = 1 in '1'", "29 at 5: operand"),
-    ("$r = 1 in {'a' => 1}", "29 at 5: operand"),
-    ("$r = 'a' in undef", "29 at 5: operand"),
-    ("$r = $load in [1]", "29 at 5: operand"),
-    ("$r = 1 in [[$load]]", "29 at 5: operand"),
-    ("$r = 1 == [$load]", "29 at 5: operand"),
-    ("$r = {'a' => $load} != 1", "29 at 5: operand"),
-    ("$r = [1]['a']", "29 at 5: operand"),
-    ("$r = (undef)[0]", "29 at 5: operand"),
-    ("$r = File['/a'][0]", "29 at 5: operand"),
-];
-
 #[test]
 fn other_operands_are_refused(rt: HostRuntime) -> Result<(), Fail> {
-    are_assigned(&rt, &NO_RESULT)
+    are_assigned(
+        rt.alloc(),
+        &[
+            ("$r = 'a' - 1", "29 at 5: operand"),
+            ("$r = [] * 2", "29 at 5: operand"),
+            ("$r = -'a'", "29 at 5: operand"),
+            ("$r = true < false", "29 at 5: operand"),
+            ("$r = 1 >= undef", "29 at 5: operand"),
+            ("$r = 1 in '1'", "29 at 5: operand"),
+            ("$r = 1 in {'a' => 1}", "29 at 5: operand"),
+            ("$r = 'a' in undef", "29 at 5: operand"),
+            ("$r = $load in [1]", "29 at 5: operand"),
+            ("$r = 1 in [[$load]]", "29 at 5: operand"),
+            ("$r = 1 == [$load]", "29 at 5: operand"),
+            ("$r = {'a' => $load} != 1", "29 at 5: operand"),
+            ("$r = [1]['a']", "29 at 5: operand"),
+            ("$r = (undef)[0]", "29 at 5: operand"),
+            ("$r = File['/a'][0]", "29 at 5: operand"),
+        ],
+    )
 }
 
 #[test]
 fn truths_are_asked_from_the_left(rt: HostRuntime) -> Result<(), Fail> {
     are_assigned(
-        &rt,
+        rt.alloc(),
         &[
             ("$r = false and $z", "truth false"),
             ("$r = true and $z", "20 at 14: $z"),
@@ -115,7 +124,7 @@ fn truths_are_asked_from_the_left(rt: HostRuntime) -> Result<(), Fail> {
 #[test]
 fn members_are_found(rt: HostRuntime) -> Result<(), Fail> {
     are_assigned(
-        &rt,
+        rt.alloc(),
         &[
             ("$r = $z", "20 at 5: $z"),
             ("$r = [1, 2][-1]", "number 2"),
@@ -141,7 +150,7 @@ fn members_are_found(rt: HostRuntime) -> Result<(), Fail> {
 #[test]
 fn the_first_equal_option_is_chosen(rt: HostRuntime) -> Result<(), Fail> {
     are_assigned(
-        &rt,
+        rt.alloc(),
         &[
             ("$r = 'b' ? { default => 1, 'B' => 2 }", "number 2"),
             ("$r = 'c' ? { default => 1, 'B' => 2 }", "number 1"),
@@ -169,7 +178,7 @@ fn the_first_equal_option_is_chosen(rt: HostRuntime) -> Result<(), Fail> {
 #[test]
 fn texts_maps_and_references_are_made(rt: HostRuntime) -> Result<(), Fail> {
     are_assigned(
-        &rt,
+        rt.alloc(),
         &[
             ("$r = \"a${[1, 'b']}\"", "text a[1, b]"),
             ("$r = \"${1}${undef}${true}\"", "text 1true"),
@@ -196,22 +205,10 @@ fn texts_maps_and_references_are_made(rt: HostRuntime) -> Result<(), Fail> {
     )
 }
 
-/// Each assignment to `$r`, under the facts ahead of it, gives the value behind it.
-fn are_assigned_under(
-    rt: &(impl Abort + AllocGlobal),
-    rows: &[(&str, &str, &str)],
-) -> Result<(), Fail> {
-    for (facts, text, want) in rows {
-        let found = assigned(rt.alloc(), *facts, *text)?;
-        assert_eq!(rt; found.as_str(), *want, "{facts} {text}");
-    }
-    Ok(())
-}
-
 #[test]
 fn facts_are_values(rt: HostRuntime) -> Result<(), Fail> {
     are_assigned_under(
-        &rt,
+        rt.alloc(),
         &[
             ("{\"x\": 1}", "$r = $::x", "number 1"),
             (

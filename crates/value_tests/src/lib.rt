@@ -8,6 +8,8 @@ mod class_data;
 #[cfg(test)]
 mod expressions;
 #[cfg(test)]
+mod labels;
+#[cfg(test)]
 mod limits;
 #[cfg(test)]
 mod names;

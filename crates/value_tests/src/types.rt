@@ -2,21 +2,21 @@
 ghost use Rattle.std.specs.Prelude.{◌<◌, ◌^◌, length};
 
 use crate::answers::{FACTS, manifest_of, scopes_of};
+use crate::labels::same_of;
 use pp_eval::{Scopes, eval};
 use pp_syntax::{Item, Param};
 use pp_value::fits;
-use rh_base::Fault;
+use rh_base::{Boxed, Fault, NoMemory};
 use std::alloc::Global;
-use std::process::Abort;
 use std::test::Fail;
-use test_rows::refused;
+use test_rows::{joined, refused};
 
 fn fits_itself(alloc: Global, param: &Param, scopes: &Scopes) -> Result<&'static str, Fault> {
     let (Some(kind), Some(value)) = (&param.kind, &param.default) else {
         return Ok("no type");
     };
-    let value = eval(alloc, value, scopes)?;
-    if fits(&value, kind) {
+    let value = Boxed::new(alloc, eval(alloc, value, scopes)?)?;
+    if fits(value.get(), kind) {
         Ok("fits")
     } else {
         Ok("doesn't")
@@ -36,27 +36,36 @@ fn first_fits(alloc: Global, text: &str, scopes: &Scopes) -> Result<&'static str
     }
 }
 
-fn answer(alloc: Global, kind: &str, value: &str) -> Result<String, Fail> {
-    let text = format!(in alloc; "define d({kind} $p = {value}) {{ }}")?;
+fn told(alloc: Global, answer: Result<&'static str, Fault>) -> Result<String, NoMemory> {
+    match answer {
+        Ok(word) => joined(alloc, &[word]),
+        Err(fault) => refused(alloc, &fault),
+    }
+}
+
+/// Whether the default of the first parameter that a text defines fits its type.
+fn answer(alloc: Global, text: &str) -> Result<String, Fail> {
     if text.len() > 1_000 {
         return Err(Fail::from("a long text"));
     }
     let scopes = scopes_of(alloc, FACTS)?;
-    told(alloc, first_fits(alloc, text.as_str(), &scopes))
+    Ok(told(alloc, first_fits(alloc, text, &scopes))?)
 }
 
-fn told(alloc: Global, answer: Result<&'static str, Fault>) -> Result<String, Fail> {
-    match answer {
-        Ok(word) => Ok(String::from_str(alloc, word)?),
-        Err(fault) => Ok(refused(alloc, &fault)?),
-    }
+fn answer_of(alloc: Global, kind: &str, value: &str) -> Result<String, Fail> {
+    let text = joined(alloc, &["define d(", kind, " $p = ", value, ") { }"])?;
+    answer(alloc, text.as_str())
 }
 
-/// Each type and default is answered so.
-fn are_answered(rt: &(impl Abort + AllocGlobal), rows: &[(&str, &str, &str)]) -> Result<(), Fail> {
+fn is_answered(alloc: Global, kind: &str, value: &str, want: &str) -> Result<(), Fail> {
+    let told = answer_of(alloc, kind, value)?;
+    same_of(alloc, &[kind, " ", value], told.as_str(), want)
+}
+
+/// Each row: a type, a default, and whether that fits.
+fn are_answered(alloc: Global, rows: &[(&str, &str, &str)]) -> Result<(), Fail> {
     for (kind, value, want) in rows {
-        let found = answer(rt.alloc(), *kind, *value)?;
-        assert_eq!(rt; found.as_str(), *want, "{kind} {value}");
+        is_answered(alloc, *kind, *value, *want)?;
     }
     Ok(())
 }
@@ -64,7 +73,7 @@ fn are_answered(rt: &(impl Abort + AllocGlobal), rows: &[(&str, &str, &str)]) ->
 #[test]
 fn types_bound_values(rt: HostRuntime) -> Result<(), Fail> {
     are_answered(
-        &rt,
+        rt.alloc(),
         &[
             ("Integer[1, 3]", "3", "fits"),
             ("Integer[1, 3]", "4", "doesn't"),
@@ -81,6 +90,15 @@ fn types_bound_values(rt: HostRuntime) -> Result<(), Fail> {
             ("Array[Integer]", "[1, 2]", "fits"),
             ("Array[Integer]", "[1, 'a']", "doesn't"),
             ("Array[Any]", "[$load]", "fits"),
+        ],
+    )
+}
+
+#[test]
+fn types_leave_a_choice(rt: HostRuntime) -> Result<(), Fail> {
+    are_answered(
+        rt.alloc(),
+        &[
             ("Optional[Integer]", "undef", "fits"),
             ("Optional[Integer]", "'a'", "doesn't"),
             ("Optional[Any]", "$load", "fits"),
