@@ -1,32 +1,56 @@
 //! Programs in a few words.
 
 use crate::questions::single;
-use fs_lang::{Path, PathFault, Program, Test};
-use rh_base::{Boxed, NoMemory, Seq};
+use fs_lang::{Path, PathFault, Program};
+use rh_base::{Boxed, Seq};
 use std::alloc::Global;
 use test_rows::text;
 
-/// Makes a file of this content, or a link to it.
-fn made(alloc: Global, word: &str, path: Path, content: &str) -> Result<Program, PathFault> {
-    let content = text(alloc, content)?;
-    match word {
-        "creat" => Ok(Program::Creat(path, content)),
-        "link" => Ok(Program::Link(path, content)),
-        _ => Err(PathFault::Bad),
-    }
+fn mkdir(alloc: Global, path: &str) -> Result<Program, PathFault> {
+    Ok(Program::Mkdir(Path::read(alloc, path)?))
+}
+
+fn rm(alloc: Global, path: &str) -> Result<Program, PathFault> {
+    Ok(Program::Rm(Path::read(alloc, path)?))
+}
+
+fn creat(alloc: Global, path: &str, content: &str) -> Result<Program, PathFault> {
+    let path = Path::read(alloc, path)?;
+    Ok(Program::Creat(path, text(alloc, content)?))
+}
+
+fn link(alloc: Global, path: &str, target: &str) -> Result<Program, PathFault> {
+    let path = Path::read(alloc, path)?;
+    Ok(Program::Link(path, text(alloc, target)?))
+}
+
+fn cp(alloc: Global, source: &str, path: &str) -> Result<Program, PathFault> {
+    let source = Path::read(alloc, source)?;
+    Ok(Program::Cp(source, Path::read(alloc, path)?))
 }
 
 /// One change, as `creat /a x`.
 fn change(alloc: Global, word: &str, first: &str, second: &str) -> Result<Program, PathFault> {
-    let path = Path::read(alloc, first)?;
     match word {
         "id" => Ok(Program::Id),
-        "mkdir" => Ok(Program::Mkdir(path)),
-        "rm" => Ok(Program::Rm(path)),
-        "cp" => Ok(Program::Cp(path, Path::read(alloc, second)?)),
         "err" => Ok(Program::Err),
-        _ => made(alloc, word, path, second),
+        "mkdir" => mkdir(alloc, first),
+        "rm" => rm(alloc, first),
+        "cp" => cp(alloc, first, second),
+        "creat" => creat(alloc, first, second),
+        "link" => link(alloc, first, second),
+        _ => Err(PathFault::Bad),
     }
+}
+
+fn push_change(
+    alloc: Global,
+    steps: &mut Seq<Program>,
+    word: &str,
+    path: &str,
+    content: &str,
+) -> Result<(), PathFault> {
+    Ok(steps.push(change(alloc, word, path, content)?)?)
 }
 
 /// One change to a path, or several after one another.
@@ -36,53 +60,74 @@ fn changes(alloc: Global, words: &[&str], path: &str, content: &str) -> Result<P
     }
     let mut steps = Seq::new(alloc);
     for word in words {
-        steps.push(change(alloc, *word, path, content)?)?;
+        push_change(alloc, &mut steps, *word, path, content)?;
     }
     Ok(Program::Steps(steps))
 }
 
-/// The first program where a question is true, and the other one where it isn't.
-pub fn choice(
+fn boxed_changes(
     alloc: Global,
-    asked: Test,
-    left: Program,
-    right: Program,
-) -> Result<Program, NoMemory> {
-    let left = Boxed::new(alloc, left)?;
-    Ok(Program::If(asked, left, Boxed::new(alloc, right)?))
-}
-
-/// A change to a path where the question about it is true, and another one where it isn't.
-fn either(
-    alloc: Global,
-    word: &str,
+    words: &[&str],
     path: &str,
-    left: Program,
-    right: Program,
-) -> Result<Program, PathFault> {
-    let asked = single(alloc, word, path)?;
-    Ok(choice(alloc, asked, left, right)?)
+    content: &str,
+) -> Result<Boxed<Program>, PathFault> {
+    Ok(Boxed::new(alloc, changes(alloc, words, path, content)?)?)
 }
 
-/// The starts of resources' programs: what is asked of the path, the changes where it is so, and those where it isn't.
-const STARTS: [(&str, &str, &[&str], &[&str]); 4] = [
+/// The start of a resource's program: its word, what is asked of the path, the changes where it is so, and those where
+/// it isn't.
+type Start = (
+    &'static str,
+    &'static str,
+    &'static [&'static str],
+    &'static [&'static str],
+);
+
+const STARTS: [Start; 4] = [
     ("dir", "dir?", &["id"], &["mkdir"]),
     ("drop", "file?", &["rm"], &["id"]),
     ("sweep", "emptydir?", &["rm"], &["id"]),
     ("put", "file?", &["rm", "creat"], &["creat"]),
 ];
 
+/// A choice whose changes where it is so are made.
+fn otherwise(
+    alloc: Global,
+    start: &Start,
+    left: Boxed<Program>,
+    path: &str,
+    content: &str,
+) -> Result<Program, PathFault> {
+    let right = boxed_changes(alloc, start.3, path, content)?;
+    Ok(Program::If(single(alloc, start.1, path)?, left, right))
+}
+
+/// The start, with this path and content.
+fn started(alloc: Global, start: &Start, path: &str, content: &str) -> Result<Program, PathFault> {
+    let left = boxed_changes(alloc, start.2, path, content)?;
+    otherwise(alloc, start, left, path, content)
+}
+
+fn start_of(word: &str) -> Option<Start> {
+    for start in STARTS {
+        if start.0 == word {
+            return Some(start);
+        }
+    }
+    None
+}
+
 /// A change, or the start of a resource's program: `dir` makes sure of a folder, `put` of a file with a content, `drop`
 /// removes a file, `sweep` an empty folder.
 pub fn part(alloc: Global, words: &str) -> Result<Program, PathFault> {
     let (word, rest) = words.split_once(' ').unwrap_or((words, "/"));
     let (first, second) = rest.split_once(' ').unwrap_or((rest, "/"));
-    for (start, asked, left, right) in STARTS {
-        if start == word {
-            let left = changes(alloc, left, first, second)?;
-            let right = changes(alloc, right, first, second)?;
-            return either(alloc, asked, first, left, right);
-        }
+    match start_of(word) {
+        Some(start) => started(alloc, &start, first, second),
+        None => change(alloc, word, first, second),
     }
-    change(alloc, word, first, second)
+}
+
+pub fn boxed_part(alloc: Global, words: &str) -> Result<Boxed<Program>, PathFault> {
+    Ok(Boxed::new(alloc, part(alloc, words)?)?)
 }

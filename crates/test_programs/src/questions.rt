@@ -4,19 +4,24 @@ use fs_lang::{Path, PathFault, Test};
 use rh_base::Boxed;
 use std::alloc::Global;
 
+fn at(alloc: Global, word: &str, path: &str) -> Result<Test, PathFault> {
+    match word {
+        "file?" => Ok(Test::IsFile(Path::read(alloc, path)?)),
+        "link?" => Ok(Test::IsLink(Path::read(alloc, path)?)),
+        "dir?" => Ok(Test::IsDir(Path::read(alloc, path)?)),
+        "emptydir?" => Ok(Test::IsEmpty(Path::read(alloc, path)?)),
+        "none?" => Ok(Test::IsNone(Path::read(alloc, path)?)),
+        _ => Err(PathFault::Bad),
+    }
+}
+
 /// A question about a path, as `file? /a`, or `true` or `false`.
 pub fn single(alloc: Global, word: &str, path: &str) -> Result<Test, PathFault> {
-    let path = Path::read(alloc, path)?;
-    Ok(match word {
-        "true" => Test::True,
-        "file?" => Test::IsFile(path),
-        "link?" => Test::IsLink(path),
-        "dir?" => Test::IsDir(path),
-        "emptydir?" => Test::IsEmpty(path),
-        "none?" => Test::IsNone(path),
-        "false" => Test::False,
-        _ => return Err(PathFault::Bad),
-    })
+    match word {
+        "true" => Ok(Test::True),
+        "false" => Ok(Test::False),
+        _ => at(alloc, word, path),
+    }
 }
 
 fn asked(alloc: Global, words: &str) -> Result<Test, PathFault> {
@@ -28,35 +33,50 @@ fn boxed(alloc: Global, words: &str) -> Result<Boxed<Test>, PathFault> {
     Ok(Boxed::new(alloc, asked(alloc, words)?)?)
 }
 
-/// One question, or two with `and` between.
-fn both(alloc: Global, words: &str) -> Result<Test, PathFault> {
-    let Some((left, right)) = words.split_once(" and ") else {
-        return asked(alloc, words);
-    };
+fn and(alloc: Global, left: &str, right: &str) -> Result<Test, PathFault> {
     let left = boxed(alloc, left)?;
     Ok(Test::And(left, boxed(alloc, right)?))
 }
 
-/// The same, or its denial, which has parentheses around two.
-fn denied(alloc: Global, words: &str) -> Result<Test, PathFault> {
-    let Some(rest) = words.strip_prefix("not ") else {
-        return both(alloc, words);
-    };
-    let inner = rest.strip_prefix('(').unwrap_or(rest);
-    let inner = inner.strip_suffix(')').unwrap_or(inner);
-    Ok(Test::Not(Boxed::new(alloc, both(alloc, inner)?)?))
+/// One question, or two with `and` between.
+fn both(alloc: Global, words: &str) -> Result<Test, PathFault> {
+    match words.split_once(" and ") {
+        Some((left, right)) => and(alloc, left, right),
+        None => asked(alloc, words),
+    }
 }
 
-fn or(alloc: Global, left: Test, right: Test) -> Result<Test, PathFault> {
-    let left = Boxed::new(alloc, left)?;
-    Ok(Test::Or(left, Boxed::new(alloc, right)?))
+fn boxed_both(alloc: Global, words: &str) -> Result<Boxed<Test>, PathFault> {
+    Ok(Boxed::new(alloc, both(alloc, words)?)?)
+}
+
+/// The words without the parentheses around them.
+fn bare(words: &str) -> &str {
+    let inner = words.strip_prefix('(').unwrap_or(words);
+    inner.strip_suffix(')').unwrap_or(inner)
+}
+
+/// The same, or its denial, which has parentheses around two.
+fn denied(alloc: Global, words: &str) -> Result<Test, PathFault> {
+    match words.strip_prefix("not ") {
+        Some(rest) => Ok(Test::Not(boxed_both(alloc, bare(rest))?)),
+        None => both(alloc, words),
+    }
+}
+
+fn boxed_denied(alloc: Global, words: &str) -> Result<Boxed<Test>, PathFault> {
+    Ok(Boxed::new(alloc, denied(alloc, words)?)?)
+}
+
+fn or(alloc: Global, left: &str, right: &str) -> Result<Test, PathFault> {
+    let left = boxed_denied(alloc, left)?;
+    Ok(Test::Or(left, boxed_denied(alloc, right)?))
 }
 
 /// A question, `not` before one, `and` or `or` between two: `not (file? /a and dir? /b) or none? /c`.
 pub fn question(alloc: Global, words: &str) -> Result<Test, PathFault> {
-    let Some((left, right)) = words.split_once(" or ") else {
-        return denied(alloc, words);
-    };
-    let left = denied(alloc, left)?;
-    or(alloc, left, denied(alloc, right)?)
+    match words.split_once(" or ") {
+        Some((left, right)) => or(alloc, left, right),
+        None => denied(alloc, words),
+    }
 }
