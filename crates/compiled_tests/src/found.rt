@@ -1,10 +1,11 @@
 //! References and containers that are found.
 
-use crate::answers::text_of;
+use crate::answers::{add_all, text_of};
 use compiled_text::{CompiledCatalog, compiled_from_json, reference_of};
+use rh_base::NoMemory;
 use std::alloc::Global;
-use std::process::Abort;
 use std::test::Fail;
+use test_rows::same;
 
 /// A class in a stage, a file in the class, and one in nothing.
 fn catalog(alloc: Global) -> Result<CompiledCatalog, Fail> {
@@ -16,36 +17,38 @@ fn catalog(alloc: Global) -> Result<CompiledCatalog, Fail> {
     Ok(compiled_from_json(alloc, text.as_bytes())?)
 }
 
-fn find(alloc: Global, compiled: &CompiledCatalog, text: &str) -> Result<Option<usize>, Fail> {
+fn find(alloc: Global, compiled: &CompiledCatalog, text: &str) -> Option<usize> {
     match reference_of(alloc, text) {
-        Ok(reference) => Ok(compiled.find(&reference)),
-        Err(_) => Ok(None),
+        Ok(reference) => compiled.find(&reference),
+        Err(_) => None,
     }
 }
 
-/// References, and the places that they name.
-const FOUND: &[(&str, Option<usize>)] = &[
-    ("Stage[main]", Some(0)),
-    ("class[::a]", Some(1)),
-    ("Class[A]", Some(1)),
-    ("File[/f]", Some(2)),
-    ("FILE[/g]", Some(3)),
-    ("File[/F]", None),
-    ("Stage[Main]", None),
-    ("File[]", None),
-    ("file", None),
-];
+/// The place of a resource, or a dash.
+fn place(found: Option<usize>) -> &'static str {
+    match found {
+        Some(0) => "0",
+        Some(1) => "1",
+        Some(2) => "2",
+        Some(3) => "3",
+        Some(_) => "another",
+        None => "-",
+    }
+}
 
-/// The reference of each row names the place beside it.
+/// Each row: a reference, and the place that it names.
 fn are_found(
-    rt: &impl Abort,
     alloc: Global,
     compiled: &CompiledCatalog,
     rows: &[(&str, Option<usize>)],
 ) -> Result<(), Fail> {
     for (text, want) in rows {
-        let found = find(alloc, compiled, text)?;
-        assert_eq!(rt; found, *want, "{text}");
+        same(
+            alloc,
+            *text,
+            place(find(alloc, compiled, *text)),
+            place(*want),
+        )?;
     }
     Ok(())
 }
@@ -53,30 +56,44 @@ fn are_found(
 #[test]
 fn references_are_found(rt: HostRuntime) -> Result<(), Fail> {
     let compiled = catalog(rt.alloc())?;
-    are_found(&rt, rt.alloc(), &compiled, FOUND)
+    are_found(
+        rt.alloc(),
+        &compiled,
+        &[
+            ("Stage[main]", Some(0)),
+            ("class[::a]", Some(1)),
+            ("Class[A]", Some(1)),
+            ("File[/f]", Some(2)),
+            ("FILE[/g]", Some(3)),
+            ("File[/F]", None),
+            ("Stage[Main]", None),
+            ("File[]", None),
+            ("file", None),
+        ],
+    )
 }
 
-/// The container of each resource, or a dash.
-fn holders(alloc: Global, compiled: &CompiledCatalog) -> Result<String, Fail> {
-    let mut line = String::new(alloc);
-    for place in 0..compiled.resources().len() {
-        match compiled.holder(place) {
-            Some(outer) => line.push_str(format!(in alloc; "{outer} ")?.as_str())?,
-            None => line.push_str("- ")?,
-        }
+/// Adds the container of each resource, or a dash.
+fn add_holders(compiled: &CompiledCatalog, line: &mut String) -> Result<(), NoMemory> {
+    for i in 0..compiled.resources().len() {
+        add_all(&[place(compiled.holder(i)), " "], line)?;
     }
+    Ok(())
+}
+
+fn holders(alloc: Global, compiled: &CompiledCatalog) -> Result<String, NoMemory> {
+    let mut line = String::new(alloc);
+    add_holders(compiled, &mut line)?;
     Ok(line)
 }
 
-/// The containers of that catalog.
-fn holders_told(alloc: Global) -> Result<String, Fail> {
-    let compiled = catalog(alloc)?;
-    holders(alloc, &compiled)
+fn have_holders(alloc: Global, compiled: &CompiledCatalog, want: &str) -> Result<(), Fail> {
+    let line = holders(alloc, compiled)?;
+    same(alloc, "containers", line.as_str(), want)
 }
 
 #[test]
 fn containers_are_found(rt: HostRuntime) -> Result<(), Fail> {
-    let line = holders_told(rt.alloc())?;
-    assert_eq!(rt; line.as_str(), "- - 1 - ");
-    Ok(())
+    let compiled = catalog(rt.alloc())?;
+    have_holders(rt.alloc(), &compiled, "- - 1 - ")
 }

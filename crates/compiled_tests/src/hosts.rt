@@ -1,9 +1,8 @@
 //! Catalogs that Puppet compiled of fourteen manifests. Each is a text, and what it says: a line for each resource, and then one for
 //! each edge.
 
-use crate::answers::answer;
+use crate::answers::is_answered;
 use std::alloc::Global;
-use std::process::Abort;
 use std::test::Fail;
 use test_hosts as host;
 
@@ -442,78 +441,76 @@ File[/etc/apache2/sites-enabled/b.example.com.conf] /etc/puppet/hosts/h14-webroo
 "##,
 );
 
-fn expect(rt: &impl Abort, alloc: Global, host: Host) -> Result<(), Fail> {
-    let told = answer(alloc, host.0.as_bytes())?;
-    assert_eq!(rt; told.as_str(), host.1);
-    Ok(())
+fn expect(alloc: Global, host: Host) -> Result<(), Fail> {
+    is_answered(alloc, "a host", host.0.as_bytes(), host.1)
 }
 
 #[test]
 fn nginx_profile_is_read(rt: HostRuntime) -> Result<(), Fail> {
-    expect(&rt, rt.alloc(), NGINX_PROFILE)
+    expect(rt.alloc(), NGINX_PROFILE)
 }
 
 #[test]
 fn users_is_read(rt: HostRuntime) -> Result<(), Fail> {
-    expect(&rt, rt.alloc(), USERS)
+    expect(rt.alloc(), USERS)
 }
 
 #[test]
 fn backup_cron_is_read(rt: HostRuntime) -> Result<(), Fail> {
-    expect(&rt, rt.alloc(), BACKUP_CRON)
+    expect(rt.alloc(), BACKUP_CRON)
 }
 
 #[test]
 fn sshd_is_read(rt: HostRuntime) -> Result<(), Fail> {
-    expect(&rt, rt.alloc(), SSHD)
+    expect(rt.alloc(), SSHD)
 }
 
 #[test]
 fn app_tarball_is_read(rt: HostRuntime) -> Result<(), Fail> {
-    expect(&rt, rt.alloc(), APP_TARBALL)
+    expect(rt.alloc(), APP_TARBALL)
 }
 
 #[test]
 fn confd_is_read(rt: HostRuntime) -> Result<(), Fail> {
-    expect(&rt, rt.alloc(), CONFD)
+    expect(rt.alloc(), CONFD)
 }
 
 #[test]
 fn stages_is_read(rt: HostRuntime) -> Result<(), Fail> {
-    expect(&rt, rt.alloc(), STAGES)
+    expect(rt.alloc(), STAGES)
 }
 
 #[test]
 fn virtual_exported_is_read(rt: HostRuntime) -> Result<(), Fail> {
-    expect(&rt, rt.alloc(), VIRTUAL_EXPORTED)
+    expect(rt.alloc(), VIRTUAL_EXPORTED)
 }
 
 #[test]
 fn values_is_read(rt: HostRuntime) -> Result<(), Fail> {
-    expect(&rt, rt.alloc(), VALUES)
+    expect(rt.alloc(), VALUES)
 }
 
 #[test]
 fn postgres_manual_is_read(rt: HostRuntime) -> Result<(), Fail> {
-    expect(&rt, rt.alloc(), POSTGRES_MANUAL)
+    expect(rt.alloc(), POSTGRES_MANUAL)
 }
 
 #[test]
 fn motd_hosts_is_read(rt: HostRuntime) -> Result<(), Fail> {
-    expect(&rt, rt.alloc(), MOTD_HOSTS)
+    expect(rt.alloc(), MOTD_HOSTS)
 }
 
 #[test]
 fn docker_host_is_read(rt: HostRuntime) -> Result<(), Fail> {
-    expect(&rt, rt.alloc(), DOCKER_HOST)
+    expect(rt.alloc(), DOCKER_HOST)
 }
 
 #[test]
 fn mail_relay_is_read(rt: HostRuntime) -> Result<(), Fail> {
-    expect(&rt, rt.alloc(), MAIL_RELAY)
+    expect(rt.alloc(), MAIL_RELAY)
 }
 
 #[test]
 fn webroot_epp_is_read(rt: HostRuntime) -> Result<(), Fail> {
-    expect(&rt, rt.alloc(), WEBROOT_EPP)
+    expect(rt.alloc(), WEBROOT_EPP)
 }

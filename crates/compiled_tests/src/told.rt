@@ -2,11 +2,12 @@
 
 ghost use Rattle.compiled_attributes.specs.Places.{HoldsFragments};
 
-use crate::answers::{add_parameter, add_ref, text_of};
+use crate::answers::{add_all, add_parameter, add_ref, text_of};
 use compiled_attributes::{Fragments, attributes_of, is_noop, why_unfilled};
 use compiled_text::{CompiledCatalog, CompiledResource, compiled_from_json};
 use std::alloc::Global;
 use std::test::Fail;
+use test_rows::joined;
 
 /// Adds why a file has no content.
 fn add_why(
@@ -19,8 +20,7 @@ fn add_why(
     requires { HoldsFragments catalog.now.resources fragments.now }
 {
     if let Some(name) = why_unfilled(alloc, catalog, fragments, r)? {
-        let mark = format!(in alloc; " (no content: {name})")?;
-        line.push_str(mark.as_str())?;
+        add_all(&[" (no content: ", name, ")"], line)?;
     }
     Ok(())
 }
@@ -69,31 +69,57 @@ fn add_resource(
     add_ref(alloc, &r.id, lines)?;
     add_attributes(alloc, catalog, fragments, r, lines)?;
     add_marks(alloc, catalog, fragments, r, lines)?;
-    lines.push('\n')?;
+    Ok(lines.push('\n')?)
+}
+
+fn add_resources(
+    alloc: Global,
+    catalog: &CompiledCatalog,
+    fragments: &Fragments,
+    lines: &mut String,
+) -> Result<(), Fail>
+    requires { HoldsFragments catalog.now.resources fragments.now }
+{
+    for r in catalog.resources() {
+        add_resource(alloc, catalog, fragments, r, lines)?;
+    }
     Ok(())
 }
 
-/// A line for each resource of a compiled catalog.
-pub fn shown(alloc: Global, catalog: &CompiledCatalog) -> Result<String, Fail> {
+/// Adds a line for each resource of a compiled catalog.
+fn add_shown(alloc: Global, catalog: &CompiledCatalog, lines: &mut String) -> Result<(), Fail> {
     let fragments = Fragments::of(alloc, catalog)?;
+    add_resources(alloc, catalog, &fragments, lines)
+}
+
+fn shown(alloc: Global, catalog: &CompiledCatalog) -> Result<String, Fail> {
     let mut lines = String::new(alloc);
-    for r in catalog.resources() {
-        add_resource(alloc, catalog, &fragments, r, &mut lines)?;
-    }
+    add_shown(alloc, catalog, &mut lines)?;
     Ok(lines)
+}
+
+fn shown_of(alloc: Global, text: &str) -> Result<String, Fail> {
+    let catalog = compiled_from_json(alloc, text.as_bytes())?;
+    shown(alloc, &catalog)
 }
 
 /// The lines of these resources.
 pub fn told_of(alloc: Global, resources: &str) -> Result<String, Fail> {
     let text = text_of(alloc, resources, "")?;
-    let catalog = compiled_from_json(alloc, text.as_bytes())?;
-    shown(alloc, &catalog)
+    shown_of(alloc, text.as_str())
 }
 
 /// The line of one native resource with these parameters.
 pub fn told(alloc: Global, kind: &str, parameters: &str) -> Result<String, Fail> {
-    let resource = format!(in alloc;
-        r#"{{"type":"{kind}","title":"/t","kind":"compilable_type","parameters":{parameters}}}"#
+    let resource = joined(
+        alloc,
+        &[
+            r#"{"type":""#,
+            kind,
+            r#"","title":"/t","kind":"compilable_type","parameters":"#,
+            parameters,
+            "}",
+        ],
     )?;
     told_of(alloc, resource.as_str())
 }
