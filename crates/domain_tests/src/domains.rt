@@ -1,64 +1,101 @@
 //! The finite domain: its paths in order, the places of its fresh children, and its contents.
 
-use crate::words::{program, programs, push_number, push_path, push_word};
+use crate::words::{push_number, push_path, push_word};
 use fs_lang::Program;
 use path_domain::{Domain, domain, named};
-use rh_base::Text;
+use rh_base::{NoMemory, Seq, Text};
 use std::alloc::Global;
-use std::process::Abort;
+use std::test::Fail;
+use test_programs::{program, programs};
+use test_rows::{same, same_number};
 
-fn domain_of(rt: &impl Abort, alloc: Global, words: &str) -> Domain {
-    let all = programs(rt, alloc, words);
-    domain(alloc, all.as_slice()).ok().expect(rt, "memory")
+/// What is shown: the paths of a domain and the places of its fresh children, its contents, or the paths that are named.
+#[derive(Clone, Copy)]
+enum Shown {
+    Paths,
+    Contents,
+    Named,
 }
 
-/// The paths, then the places of the fresh children.
-fn paths_of(rt: &impl Abort, alloc: Global, words: &str) -> Text {
-    let d = domain_of(rt, alloc, words);
-    let mut shown = Text::new(alloc);
+fn push_paths(alloc: Global, shown: &mut Text, d: &Domain) -> Result<(), NoMemory> {
     for i in 0..d.table.path_count() {
-        push_path(rt, alloc, &mut shown, d.table.path(i));
+        push_path(alloc, shown, d.table.path(i))?;
     }
+    Ok(())
+}
+
+fn push_fresh(alloc: Global, shown: &mut Text, d: &Domain) -> Result<(), NoMemory> {
     for i in d.fresh.as_slice() {
-        push_number(rt, alloc, &mut shown, *i);
+        push_number(alloc, shown, *i)?;
     }
-    shown
+    Ok(())
 }
 
-/// The contents, each in brackets.
-fn contents_of(rt: &impl Abort, alloc: Global, words: &str) -> Text {
-    let d = domain_of(rt, alloc, words);
-    let mut shown = Text::new(alloc);
+/// Appends a content behind a bracket.
+fn push_content(shown: &mut Text, content: &str) -> Result<(), NoMemory> {
+    push_word(shown, "[")?;
+    push_word(shown, content)
+}
+
+fn push_contents(shown: &mut Text, d: &Domain) -> Result<(), NoMemory> {
     for n in 0..d.table.content_count() {
-        push_word(rt, &mut shown, "[");
-        push_word(rt, &mut shown, d.table.content(n).as_str());
+        push_content(shown, d.table.content(n).as_str())?;
     }
-    shown
+    Ok(())
 }
 
-fn named_of(rt: &impl Abort, alloc: Global, words: &str) -> Text {
-    let all = programs(rt, alloc, words);
-    let paths = named(alloc, all.as_slice()).ok().expect(rt, "memory");
-    let mut shown = Text::new(alloc);
+fn push_domain(alloc: Global, shown: &mut Text, d: &Domain) -> Result<(), NoMemory> {
+    push_paths(alloc, shown, d)?;
+    push_fresh(alloc, shown, d)
+}
+
+fn push_paths_of(alloc: Global, shown: &mut Text, all: &[Program]) -> Result<(), NoMemory> {
+    let d = domain(alloc, all)?;
+    push_domain(alloc, shown, &d)
+}
+
+fn push_contents_of(alloc: Global, shown: &mut Text, all: &[Program]) -> Result<(), NoMemory> {
+    let d = domain(alloc, all)?;
+    push_contents(shown, &d)
+}
+
+fn push_named(alloc: Global, shown: &mut Text, all: &[Program]) -> Result<(), NoMemory> {
+    let paths = named(alloc, all)?;
     for p in &paths {
-        push_path(rt, alloc, &mut shown, p);
+        push_path(alloc, shown, p)?;
     }
-    shown
+    Ok(())
 }
 
-/// The domain of each has the paths and places beside it.
-fn have_paths(rt: &impl Abort, alloc: Global, rows: &[(&str, &str)]) {
+fn told(alloc: Global, what: Shown, all: &[Program]) -> Result<Text, NoMemory> {
+    let mut shown = Text::new(alloc);
+    match what {
+        Shown::Paths => push_paths_of(alloc, &mut shown, all),
+        Shown::Contents => push_contents_of(alloc, &mut shown, all),
+        Shown::Named => push_named(alloc, &mut shown, all),
+    }?;
+    Ok(shown)
+}
+
+fn is_shown(alloc: Global, what: Shown, words: &str, want: &str) -> Result<(), Fail> {
+    let all = programs(alloc, words)?;
+    let shown = told(alloc, what, all.as_slice())?;
+    same(alloc, words, shown.as_str(), want)
+}
+
+/// Each row: programs, and what is shown of them.
+fn are_shown(alloc: Global, what: Shown, rows: &[(&str, &str)]) -> Result<(), Fail> {
     for (words, want) in rows {
-        let found = paths_of(rt, alloc, words);
-        assert_eq!(rt; found.as_str(), *want, "{words}");
+        is_shown(alloc, what, *words, *want)?;
     }
+    Ok(())
 }
 
 #[test]
-fn paths_and_fresh_children(rt: HostRuntime) {
-    have_paths(
-        &rt,
+fn paths_of_changes(rt: HostRuntime) -> Result<(), Fail> {
+    are_shown(
         rt.alloc(),
+        Shown::Paths,
         &[
             ("", ""),
             ("id", ""),
@@ -68,6 +105,16 @@ fn paths_and_fresh_children(rt: HostRuntime) {
             ("cp /a /b/c", "/a /b /b/c"),
             ("link /a /b/c", "/a"),
             ("if file? /x/y: id, err", "/x /x/y"),
+        ],
+    )
+}
+
+#[test]
+fn fresh_children(rt: HostRuntime) -> Result<(), Fail> {
+    are_shown(
+        rt.alloc(),
+        Shown::Paths,
+        &[
             ("rm /a", "/a /a/other 1"),
             ("if emptydir? /a: id, err", "/a /a/other 1"),
             ("if emptydir? /: id, err", "/other 0"),
@@ -80,14 +127,14 @@ fn paths_and_fresh_children(rt: HostRuntime) {
                 "/.rehearsal /.rehearsal/package /.rehearsal/package/p /.rehearsal/package/p/other /opt /opt/p /opt/p/other 3 6",
             ),
         ],
-    );
+    )
 }
 
 #[test]
-fn segments_that_are_taken(rt: HostRuntime) {
-    have_paths(
-        &rt,
+fn segments_that_are_taken(rt: HostRuntime) -> Result<(), Fail> {
+    are_shown(
         rt.alloc(),
+        Shown::Paths,
         &[
             ("mkdir /other | rm /a", "/a /a/otherx /other 1"),
             ("mkdir /otherx | rm /a", "/a /a/other /otherx 1"),
@@ -103,21 +150,14 @@ fn segments_that_are_taken(rt: HostRuntime) {
             ("rm /other", "/other /other/otherx 1"),
             ("rm /other/a", "/other /other/a /other/a/otherx 2"),
         ],
-    );
-}
-
-/// The domain of each has the contents beside it.
-fn have_contents(rt: &(impl Abort + AllocGlobal), rows: &[(&str, &str)]) {
-    for (words, want) in rows {
-        let found = contents_of(rt, rt.alloc(), *words);
-        assert_eq!(rt; found.as_str(), *want, "{words}");
-    }
+    )
 }
 
 #[test]
-fn contents_and_fresh_texts(rt: HostRuntime) {
-    have_contents(
-        &rt,
+fn contents_and_fresh_texts(rt: HostRuntime) -> Result<(), Fail> {
+    are_shown(
+        rt.alloc(),
+        Shown::Contents,
         &[
             ("", "[ "),
             ("mkdir /a", "[  [ text0"),
@@ -130,6 +170,16 @@ fn contents_and_fresh_texts(rt: HostRuntime) {
                 "[  [ y [ x [ text0 [ text1",
             ),
             ("if true: creat /a x, creat /a z", "[  [ x [ z [ text0"),
+        ],
+    )
+}
+
+#[test]
+fn fresh_texts_beside_similar_ones(rt: HostRuntime) -> Result<(), Fail> {
+    are_shown(
+        rt.alloc(),
+        Shown::Contents,
+        &[
             ("creat /a text", "[  [ text [ textx0"),
             ("creat /a textual", "[  [ textual [ textx0"),
             ("creat /a text7", "[  [ text7 [ textx0"),
@@ -141,59 +191,55 @@ fn contents_and_fresh_texts(rt: HostRuntime) {
             ("creat /a tex", "[  [ tex [ text0"),
             ("creat /a a.text", "[  [ a.text [ text0"),
         ],
-    );
-}
-
-/// Each of these names the paths beside it.
-fn are_named(rt: &(impl Abort + AllocGlobal), rows: &[(&str, &str)]) {
-    for (words, want) in rows {
-        let found = named_of(rt, rt.alloc(), *words);
-        assert_eq!(rt; found.as_str(), *want, "{words}");
-    }
+    )
 }
 
 #[test]
-fn named_paths(rt: HostRuntime) {
-    are_named(
-        &rt,
+fn named_paths(rt: HostRuntime) -> Result<(), Fail> {
+    are_shown(
+        rt.alloc(),
+        Shown::Named,
         &[
             ("", ""),
             ("rm /a/b", "/a /a/b"),
             ("if emptydir? /: id, err", ""),
             ("mkdir /b/c | cp /a /b/d", "/a /b /b/c /b/d"),
         ],
-    );
+    )
 }
 
-/// Puts a file into a folder, by their numbers.
-fn file(rt: &impl Abort, alloc: Global, i: u32, j: u32) -> Program {
-    let words = format!(in alloc; "creat /d{i}/f{j} x")
-        .ok()
-        .expect(rt, "memory");
-    program(rt, alloc, words.as_str())
+/// Adds a file to a folder, by their numbers.
+fn push_file(alloc: Global, all: &mut Seq<Program>, i: u32, j: u32) -> Result<(), Fail> {
+    let words = format!(in alloc; "creat /d{i}/f{j} x")?;
+    Ok(all.push(program(alloc, words.as_str())?)?)
 }
 
 /// A file in each of so many folders, so many times.
-fn files(rt: &impl Abort, alloc: Global, folders: u32, times: u32) -> Vec<Program> {
-    let mut all = Vec::new(alloc);
+fn files(alloc: Global, folders: u32, times: u32) -> Result<Seq<Program>, Fail> {
+    let mut all = Seq::new(alloc);
     for i in 0..folders {
         for j in 0..times {
-            all.push(file(rt, alloc, i, j)).ok().expect(rt, "memory");
+            push_file(alloc, &mut all, i, j)?;
         }
     }
-    all
+    Ok(all)
 }
 
 /// A domain has so many paths and contents, and no fresh children.
-fn is_counted(rt: &impl Abort, d: &Domain, paths: u64, contents: u64) {
-    assert_eq!(rt; d.table.path_count(), paths);
-    assert_eq!(rt; d.table.content_count(), contents);
-    assert_eq!(rt; d.fresh.len(), 0);
+fn is_counted(alloc: Global, d: &Domain, paths: u64, contents: u64) -> Result<(), Fail> {
+    same_number(alloc, "paths", d.table.path_count(), paths)?;
+    same_number(alloc, "contents", d.table.content_count(), contents)?;
+    same_number(alloc, "fresh", d.fresh.len() as u64, 0)
+}
+
+/// The domain of these files is counted.
+fn are_counted(alloc: Global, all: &[Program], paths: u64, contents: u64) -> Result<(), Fail> {
+    let d = domain(alloc, all)?;
+    is_counted(alloc, &d, paths, contents)
 }
 
 #[test]
-fn thousands_of_paths(rt: HostRuntime) {
-    let all = files(&rt, rt.alloc(), 64, 63);
-    let d = domain(rt.alloc(), &all).ok().expect(&rt, "memory");
-    is_counted(&rt, &d, 4_096, 4_098);
+fn thousands_of_paths(rt: HostRuntime) -> Result<(), Fail> {
+    let all = files(rt.alloc(), 64, 63)?;
+    are_counted(rt.alloc(), all.as_slice(), 4_096, 4_098)
 }

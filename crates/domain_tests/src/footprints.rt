@@ -1,54 +1,68 @@
 //! Footprints, and which of them are apart.
 
-use crate::words::{program, push_path, push_word};
+use crate::words::{both, is_answered, push_path, push_word};
 use effect_sets::{Footprint, apart, footprint_of};
 use fs_lang::Path;
-use rh_base::Text;
+use rh_base::{NoMemory, Text};
 use std::alloc::Global;
 use std::collections::BTreeSet;
-use std::process::Abort;
+use std::test::Fail;
+use test_programs::program;
+use test_rows::same;
 
-fn footprint(rt: &impl Abort, alloc: Global, words: &str) -> Footprint {
-    let e = program(rt, alloc, words);
-    footprint_of(alloc, &e).ok().expect(rt, "memory")
+fn footprint(alloc: Global, words: &str) -> Result<Footprint, Fail> {
+    let e = program(alloc, words)?;
+    Ok(footprint_of(alloc, &e)?)
 }
 
 fn push_paths(
-    rt: &impl Abort,
     alloc: Global,
     shown: &mut Text,
     name: &str,
     paths: &BTreeSet<Path>,
-) {
-    push_word(rt, shown, name);
+) -> Result<(), NoMemory> {
+    push_word(shown, name)?;
     for p in paths {
-        push_path(rt, alloc, shown, p);
+        push_path(alloc, shown, p)?;
     }
+    Ok(())
+}
+
+fn push_footprint(alloc: Global, shown: &mut Text, f: &Footprint) -> Result<(), NoMemory> {
+    push_paths(alloc, shown, "R", f.reads())?;
+    push_paths(alloc, shown, "W", f.writes())?;
+    push_paths(alloc, shown, "F", f.folders())?;
+    push_paths(alloc, shown, "C", f.children())
 }
 
 /// What is looked at, written and made sure of, and whose children matter.
-fn shown(rt: &impl Abort, alloc: Global, words: &str) -> Text {
-    let f = footprint(rt, alloc, words);
+fn shown(alloc: Global, f: &Footprint) -> Result<Text, NoMemory> {
     let mut text = Text::new(alloc);
-    push_paths(rt, alloc, &mut text, "R", f.reads());
-    push_paths(rt, alloc, &mut text, "W", f.writes());
-    push_paths(rt, alloc, &mut text, "F", f.folders());
-    push_paths(rt, alloc, &mut text, "C", f.children());
-    text
+    push_footprint(alloc, &mut text, f)?;
+    Ok(text)
 }
 
-/// Each program has the footprint beside it.
-fn are_shown(rt: &impl Abort, alloc: Global, rows: &[(&str, &str)]) {
+fn told(alloc: Global, words: &str) -> Result<Text, Fail> {
+    let f = footprint(alloc, words)?;
+    Ok(shown(alloc, &f)?)
+}
+
+fn is_shown(alloc: Global, words: &str, want: &str) -> Result<(), Fail> {
+    let found = told(alloc, words)?;
+    same(alloc, words, found.as_str(), want)
+}
+
+/// Each row: a program, and its footprint.
+fn are_shown(alloc: Global, rows: &[(&str, &str)]) -> Result<(), Fail> {
     for (words, want) in rows {
-        let found = shown(rt, alloc, words);
-        assert_eq!(rt; found.as_str(), *want, "{words}");
+        is_shown(alloc, *words, *want)?;
     }
+    Ok(())
 }
 
 #[test]
-fn footprints_of_one_step(rt: HostRuntime) {
+fn footprints_of_questions(rt: HostRuntime) -> Result<(), Fail> {
     are_shown(
-        &rt,
         rt.alloc(),
         &[
             ("id", "R W F C"),
@@ -60,10 +74,19 @@ fn footprints_of_one_step(rt: HostRuntime) {
             ("if dir? /: id, err", "R W F C"),
             ("if emptydir? /a: id, err", "R /a W F C /a"),
             ("if emptydir? /: id, err", "R W F C /"),
-            ("mkdir /", "R W / F C"),
-            ("dir /", "R W F / C"),
             ("if not file? /a: id, err", "R /a W F C"),
             ("if file? /b or link? /a: id, err", "R /a /b W F C"),
+        ],
+    )
+}
+
+#[test]
+fn footprints_of_changes(rt: HostRuntime) -> Result<(), Fail> {
+    are_shown(
+        rt.alloc(),
+        &[
+            ("mkdir /", "R W / F C"),
+            ("dir /", "R W F / C"),
             ("mkdir /a", "R /a W /a F C"),
             ("mkdir /a/b", "R /a /a/b W /a/b F C"),
             ("creat /a/b x", "R /a /a/b W /a/b F C"),
@@ -75,13 +98,12 @@ fn footprints_of_one_step(rt: HostRuntime) {
             ("if dir? /a: id, mkdir /b", "R /a /b W /b F C"),
             ("if file? /a: mkdir /b, mkdir /c", "R /a /b /c W /b /c F C"),
         ],
-    );
+    )
 }
 
 #[test]
-fn footprints_from_left_to_right(rt: HostRuntime) {
+fn footprints_from_left_to_right(rt: HostRuntime) -> Result<(), Fail> {
     are_shown(
-        &rt,
         rt.alloc(),
         &[
             ("dir /a; creat /a/b x", "R /a/b W /a/b F /a C"),
@@ -105,23 +127,36 @@ fn footprints_from_left_to_right(rt: HostRuntime) {
                 "R /a /a/b /x W /a /a/b F /a C /a",
             ),
         ],
-    );
+    )
 }
 
-/// Each two programs are apart or not, whichever of them comes first.
-fn are_apart(rt: &(impl Abort + AllocGlobal), rows: &[(&str, &str, bool)]) {
+fn told_beside(alloc: Global, f: &Footprint, right: &str) -> Result<&'static str, Fail> {
+    let g = footprint(alloc, right)?;
+    Ok(both(apart(f, &g), apart(&g, f)))
+}
+
+fn told_apart(alloc: Global, left: &str, right: &str) -> Result<&'static str, Fail> {
+    let f = footprint(alloc, left)?;
+    told_beside(alloc, &f, right)
+}
+
+fn is_apart(alloc: Global, left: &str, right: &str, want: bool) -> Result<(), Fail> {
+    let got = told_apart(alloc, left, right)?;
+    is_answered(alloc, left, right, got, want)
+}
+
+/// Each row: two programs, and whether they are apart, whichever of them comes first.
+fn are_apart(alloc: Global, rows: &[(&str, &str, bool)]) -> Result<(), Fail> {
     for (left, right, want) in rows {
-        let f = footprint(rt, rt.alloc(), *left);
-        let g = footprint(rt, rt.alloc(), *right);
-        assert_eq!(rt; apart(&f, &g), *want, "{left} {right}");
-        assert_eq!(rt; apart(&g, &f), *want, "{right} {left}");
+        is_apart(alloc, *left, *right, *want)?;
     }
+    Ok(())
 }
 
 #[test]
-fn pairs_that_are_apart_or_not(rt: HostRuntime) {
+fn pairs_that_are_apart_or_not(rt: HostRuntime) -> Result<(), Fail> {
     are_apart(
-        &rt,
+        rt.alloc(),
         &[
             ("mkdir /a", "mkdir /b", true),
             ("mkdir /a", "mkdir /a", false),
@@ -133,6 +168,15 @@ fn pairs_that_are_apart_or_not(rt: HostRuntime) {
             ("dir /a", "creat /a/b x", false),
             ("dir /a; creat /a/b x", "dir /a; creat /a/c x", true),
             ("dir /a; creat /a/b x", "dir /a; creat /a/b x", false),
+        ],
+    )
+}
+
+#[test]
+fn folders_and_copies_that_are_apart_or_not(rt: HostRuntime) -> Result<(), Fail> {
+    are_apart(
+        rt.alloc(),
+        &[
             ("mkdir /a", "creat /a/b x", false),
             ("if emptydir? /a: id, err", "mkdir /a/b", false),
             ("if emptydir? /a: id, err", "dir /a/b", false),
@@ -143,5 +187,5 @@ fn pairs_that_are_apart_or_not(rt: HostRuntime) {
             ("cp /a /b", "if file? /a: id, err", true),
             ("cp /a /b", "rm /a", false),
         ],
-    );
+    )
 }

@@ -1,39 +1,59 @@
 //! Programs that commute by their parts.
 
+use crate::words::{both, is_answered};
 use commuting_parts::commute_by_parts;
 use fs_lang::{Path, PathFault, Program, Test};
-use rh_base::{Boxed, Seq};
+use rh_base::{Boxed, NoMemory, Seq};
 use std::alloc::Global;
-use std::process::Abort;
+use std::test::Fail;
 use test_programs::{program, programs};
+
+fn push_step(alloc: Global, all: &mut Seq<Program>, words: &str) -> Result<(), PathFault> {
+    Ok(all.push(program(alloc, words)?)?)
+}
 
 /// Steps with `; ` between them, as one program.
 fn steps(alloc: Global, words: &str) -> Result<Program, PathFault> {
     let mut all = Seq::new(alloc);
     for one in words.split("; ") {
-        all.push(program(alloc, one)?)?;
+        push_step(alloc, &mut all, one)?;
     }
     Ok(Program::Steps(all))
 }
 
-fn choice(alloc: Global, mark: &str, e: Program, f: Program) -> Result<Program, PathFault> {
-    let test = Test::IsFile(Path::read(alloc, mark)?);
-    let left = Boxed::new(alloc, e)?;
-    Ok(Program::If(test, left, Boxed::new(alloc, f)?))
+fn boxed_steps(alloc: Global, words: &str) -> Result<Boxed<Program>, PathFault> {
+    Ok(Boxed::new(alloc, steps(alloc, words)?)?)
+}
+
+/// The first program where the mark is there, and the other one where it isn't.
+fn choice(
+    alloc: Global,
+    mark: &str,
+    left: Boxed<Program>,
+    right: Boxed<Program>,
+) -> Result<Program, PathFault> {
+    let mark = Path::read(alloc, mark)?;
+    Ok(Program::If(Test::IsFile(mark), left, right))
 }
 
 /// A package that goes, as `/m/a: drop /x/b; rm /m/a`: where its mark is there, the steps are made.
 fn going(alloc: Global, words: &str) -> Result<Program, PathFault> {
     let (mark, rest) = words.split_once(": ").unwrap_or(("/", words));
-    choice(alloc, mark, steps(alloc, rest)?, Program::Id)
+    let left = boxed_steps(alloc, rest)?;
+    choice(alloc, mark, left, Boxed::new(alloc, Program::Id)?)
+}
+
+/// Steps that are made unless a mark is there, as `/m/a: put /x/b 1; creat /m/a`.
+fn unless(alloc: Global, words: &str) -> Result<Program, PathFault> {
+    let (mark, rest) = words.split_once(": ").unwrap_or(("/", words));
+    let right = boxed_steps(alloc, rest)?;
+    choice(alloc, mark, Boxed::new(alloc, Program::Id)?, right)
 }
 
 /// A package that comes, as `dir /x` and `/m/a: put /x/b 1; creat /m/a`: its folders, and the other steps unless its mark is there.
 fn coming(alloc: Global, folders: &str, words: &str) -> Result<Program, PathFault> {
-    let (mark, rest) = words.split_once(": ").unwrap_or(("/", words));
-    let files = choice(alloc, mark, Program::Id, steps(alloc, rest)?)?;
     let mut all = programs(alloc, folders)?;
-    all.push(files)?;
+    all.push(unless(alloc, words)?)?;
     Ok(Program::Steps(all))
 }
 
@@ -48,29 +68,42 @@ fn read(alloc: Global, words: &str) -> Result<Program, PathFault> {
     }
 }
 
-fn is_told(rt: &impl Abort, alloc: Global, left: &str, right: &str) -> bool {
-    let e = read(alloc, left).ok().expect(rt, "a program");
-    let f = read(alloc, right).ok().expect(rt, "a program");
-    commute_by_parts(alloc, &e, &f).ok().expect(rt, "memory")
+/// The answer for two programs, whichever of them comes first.
+fn told_both(alloc: Global, e: &Program, f: &Program) -> Result<&'static str, NoMemory> {
+    let forth = commute_by_parts(alloc, e, f)?;
+    let back = commute_by_parts(alloc, f, e)?;
+    Ok(both(forth, back))
 }
 
-/// Each two programs are told to commute or not, whichever of them comes first.
-fn are_told(rt: &impl Abort, alloc: Global, rows: &[(&str, &str, bool)]) {
+fn told_beside(alloc: Global, e: &Program, right: &str) -> Result<&'static str, Fail> {
+    let f = read(alloc, right)?;
+    Ok(told_both(alloc, e, &f)?)
+}
+
+fn told(alloc: Global, left: &str, right: &str) -> Result<&'static str, Fail> {
+    let e = read(alloc, left)?;
+    told_beside(alloc, &e, right)
+}
+
+fn is_told(alloc: Global, left: &str, right: &str, want: bool) -> Result<(), Fail> {
+    let got = told(alloc, left, right)?;
+    is_answered(alloc, left, right, got, want)
+}
+
+/// Each row: two programs, and whether they are told to commute, whichever of them comes first.
+fn are_told(alloc: Global, rows: &[(&str, &str, bool)]) -> Result<(), Fail> {
     for (left, right, want) in rows {
-        let forth = is_told(rt, alloc, left, right);
-        assert_eq!(rt; forth, *want, "{left} and {right}");
-        let back = is_told(rt, alloc, right, left);
-        assert_eq!(rt; back, *want, "{right} and {left}");
+        is_told(alloc, *left, *right, *want)?;
     }
+    Ok(())
 }
 
 /// A package that comes with two files in one folder.
 const COMES: &str = "dir /x | dir /m unless /m/a: put /x/p 1; put /x/q 2; creat /m/a";
 
 #[test]
-fn packages_that_come(rt: HostRuntime) {
+fn packages_that_come(rt: HostRuntime) -> Result<(), Fail> {
     are_told(
-        &rt,
         rt.alloc(),
         &[
             // The same files with the same contents.
@@ -121,16 +154,15 @@ fn packages_that_come(rt: HostRuntime) {
                 false,
             ),
         ],
-    );
+    )
 }
 
 /// A package that goes with two files in a folder below another.
 const GOES: &str = "where /m/a: drop /x/y/p; drop /x/y/q; sweep /x/y; sweep /x; rm /m/a";
 
 #[test]
-fn packages_that_go(rt: HostRuntime) {
+fn packages_that_go(rt: HostRuntime) -> Result<(), Fail> {
     are_told(
-        &rt,
         rt.alloc(),
         &[
             // The same files in the same folders.
@@ -168,6 +200,15 @@ fn packages_that_go(rt: HostRuntime) {
                 "where /m/b: drop /x/z/o; sweep /x/y; sweep /x/z; sweep /x; rm /m/b",
                 true,
             ),
+        ],
+    )
+}
+
+#[test]
+fn packages_that_do_not_go_in_any_order(rt: HostRuntime) -> Result<(), Fail> {
+    are_told(
+        rt.alloc(),
+        &[
             // Shallow folders ahead of deep ones.
             (
                 GOES,
@@ -198,13 +239,12 @@ fn packages_that_go(rt: HostRuntime) {
                 false,
             ),
         ],
-    );
+    )
 }
 
 #[test]
-fn programs_of_other_kinds(rt: HostRuntime) {
+fn changes_and_choices(rt: HostRuntime) -> Result<(), Fail> {
     are_told(
-        &rt,
         rt.alloc(),
         &[
             ("id", "err", true),
@@ -219,6 +259,15 @@ fn programs_of_other_kinds(rt: HostRuntime) {
             ("if emptydir? /a: put /b 1, id", "put /a/c 1", false),
             ("if dir? /a or link? /c: put /b 1, id", "put /c 1", false),
             ("if not none? /a: put /b 1, put /b 2", "put /c 1", true),
+        ],
+    )
+}
+
+#[test]
+fn sequences(rt: HostRuntime) -> Result<(), Fail> {
+    are_told(
+        rt.alloc(),
+        &[
             ("put /a 1; put /b 2", "put /a 1; put /c 3", true),
             ("put /a 1; put /b 2", "put /b 2; put /a 1", false),
             ("cp /a /b; put /c 1", "cp /a /b; put /d 1", true),
@@ -226,5 +275,5 @@ fn programs_of_other_kinds(rt: HostRuntime) {
             ("link /a t; put /b 1", "link /a t; put /c 1", true),
             ("rm /a; put /b 1", "mkdir /a; put /c 1", false),
         ],
-    );
+    )
 }

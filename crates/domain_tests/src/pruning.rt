@@ -1,57 +1,89 @@
 //! Which programs are kept, and which go first and last.
 
-use crate::words::{program, programs, push_number, push_word};
+use crate::words::{push_number, push_word};
 use commute_prune::{Pruned, prune};
 use fs_lang::Program;
 use orders::Order;
-use rh_base::Text;
+use rh_base::{NoMemory, Seq, Text};
 use std::alloc::Global;
-use std::process::Abort;
+use std::test::Fail;
+use test_programs::{program, programs};
+use test_rows::{same, same_number};
 
-fn push_numbers(rt: &impl Abort, alloc: Global, shown: &mut Text, name: &str, numbers: &[u32]) {
-    push_word(rt, shown, name);
+fn push_numbers(
+    alloc: Global,
+    shown: &mut Text,
+    name: &str,
+    numbers: &[u32],
+) -> Result<(), NoMemory> {
+    push_word(shown, name)?;
     for n in numbers {
-        push_number(rt, alloc, shown, *n as u64);
+        push_number(alloc, shown, *n as u64)?;
     }
+    Ok(())
 }
 
-fn shown(rt: &impl Abort, alloc: Global, p: &Pruned) -> Text {
+fn push_pruned(alloc: Global, shown: &mut Text, p: &Pruned) -> Result<(), NoMemory> {
+    push_numbers(alloc, shown, "kept", p.kept.as_slice())?;
+    push_numbers(alloc, shown, "first", p.first.as_slice())?;
+    push_numbers(alloc, shown, "last", p.last.as_slice())
+}
+
+fn shown(alloc: Global, p: &Pruned) -> Result<Text, NoMemory> {
     let mut shown = Text::new(alloc);
-    push_numbers(rt, alloc, &mut shown, "kept", p.kept.as_slice());
-    push_numbers(rt, alloc, &mut shown, "first", p.first.as_slice());
-    push_numbers(rt, alloc, &mut shown, "last", p.last.as_slice());
-    shown
+    push_pruned(alloc, &mut shown, p)?;
+    Ok(shown)
 }
 
 /// The order of so many programs that these edges make.
-fn order_of(rt: &impl Abort, alloc: Global, n: u32, edges: &[(u32, u32)]) -> Order {
-    assert!(rt; edges.iter().all(|e| e.0 < n && e.1 < n));
-    Order::from_edges(alloc, n, edges)
-        .ok()
-        .expect(rt, "an order")
-}
-
-/// What is kept of programs in this order, and what goes first and last.
-fn pruned(rt: &impl Abort, alloc: Global, programs: &[Program], order: &Order) -> Text {
-    assert_eq!(rt; programs.len(), order.count() as usize);
-    let p = prune(alloc, programs, order).ok().expect(rt, "memory");
-    shown(rt, alloc, &p)
-}
-
-/// Each row: how many programs, edges between them, their words, and what is kept.
-fn are_pruned(rt: &(impl Abort + AllocGlobal), rows: &[(u32, &[(u32, u32)], &str, &str)]) {
-    for (n, edges, words, want) in rows {
-        let all = programs(rt, rt.alloc(), *words);
-        let order = order_of(rt, rt.alloc(), *n, *edges);
-        let found = pruned(rt, rt.alloc(), all.as_slice(), &order);
-        assert_eq!(rt; found.as_str(), *want, "{words}");
+fn order_of(alloc: Global, n: u32, edges: &[(u32, u32)]) -> Result<Order, Fail> {
+    if !edges.iter().all(|e| e.0 < n && e.1 < n) {
+        return Err("an edge of no program".into());
     }
+    Ok(Order::from_edges(alloc, n, edges)?)
+}
+
+fn pruned(alloc: Global, programs: &[Program], order: &Order) -> Result<Pruned, Fail> {
+    if programs.len() != order.count() as usize {
+        return Err("an order of more or fewer programs".into());
+    }
+    Ok(prune(alloc, programs, order)?)
+}
+
+/// What is kept of programs in an order, and what goes first and last.
+fn told_in(alloc: Global, programs: &[Program], order: &Order) -> Result<Text, Fail> {
+    let p = pruned(alloc, programs, order)?;
+    Ok(shown(alloc, &p)?)
+}
+
+/// The same in the order that these edges make.
+fn told(alloc: Global, programs: &[Program], n: u32, edges: &[(u32, u32)]) -> Result<Text, Fail> {
+    let order = order_of(alloc, n, edges)?;
+    told_in(alloc, programs, &order)
+}
+
+/// How many programs there are, edges between them, their words, and what is kept.
+type Row = (u32, &'static [(u32, u32)], &'static str, &'static str);
+
+fn is_pruned(alloc: Global, row: &Row) -> Result<(), Fail> {
+    let (n, edges, words, want) = *row;
+    let all = programs(alloc, words)?;
+    let found = told(alloc, all.as_slice(), n, edges)?;
+    same(alloc, words, found.as_str(), want)
+}
+
+/// Each row: as above.
+fn are_pruned(alloc: Global, rows: &[Row]) -> Result<(), Fail> {
+    for row in rows {
+        is_pruned(alloc, row)?;
+    }
+    Ok(())
 }
 
 #[test]
-fn programs_without_edges(rt: HostRuntime) {
+fn programs_without_edges(rt: HostRuntime) -> Result<(), Fail> {
     are_pruned(
-        &rt,
+        rt.alloc(),
         &[
             (0, &[], "", "kept first last"),
             (1, &[], "rm /a", "kept first last 0"),
@@ -84,13 +116,13 @@ fn programs_without_edges(rt: HostRuntime) {
                 "kept first last 1 0",
             ),
         ],
-    );
+    )
 }
 
 #[test]
-fn programs_with_edges(rt: HostRuntime) {
+fn programs_with_edges(rt: HostRuntime) -> Result<(), Fail> {
     are_pruned(
-        &rt,
+        rt.alloc(),
         &[
             (
                 2,
@@ -128,13 +160,13 @@ fn programs_with_edges(rt: HostRuntime) {
                 "kept first last 0 1",
             ),
         ],
-    );
+    )
 }
 
 #[test]
-fn programs_that_are_kept(rt: HostRuntime) {
+fn programs_that_are_kept(rt: HostRuntime) -> Result<(), Fail> {
     are_pruned(
-        &rt,
+        rt.alloc(),
         &[
             // The first one goes to the front, since two clash behind it.
             (
@@ -158,31 +190,33 @@ fn programs_that_are_kept(rt: HostRuntime) {
                 "kept 1 2 first 3 0 last",
             ),
         ],
-    );
+    )
+}
+
+/// Adds a file with content.
+fn push_file(alloc: Global, all: &mut Seq<Program>, i: u32) -> Result<(), Fail> {
+    let words = format!(in alloc; "put /f{i} x")?;
+    Ok(all.push(program(alloc, words.as_str())?)?)
 }
 
 /// So many files with content.
-fn files(rt: &impl Abort, alloc: Global, n: u32) -> Vec<Program> {
-    let mut all = Vec::new(alloc);
+fn files(alloc: Global, n: u32) -> Result<Seq<Program>, Fail> {
+    let mut all = Seq::new(alloc);
     for i in 1..=n {
-        let words = format!(in alloc; "put /f{i} x").ok().expect(rt, "memory");
-        all.push(program(rt, alloc, words.as_str()))
-            .ok()
-            .expect(rt, "memory");
+        push_file(alloc, &mut all, i)?;
     }
-    all
+    Ok(all)
 }
 
-/// How many of these programs are kept in this order.
-fn kept(rt: &impl Abort, alloc: Global, programs: &[Program], order: &Order) -> usize {
-    assert_eq!(rt; programs.len(), order.count() as usize);
-    let p = prune(alloc, programs, order).ok().expect(rt, "memory");
-    p.kept.len()
+/// How many of these programs are kept without edges.
+fn kept(alloc: Global, programs: &[Program], n: u32) -> Result<usize, Fail> {
+    let order = order_of(alloc, n, &[])?;
+    Ok(pruned(alloc, programs, &order)?.kept.len())
 }
 
 #[test]
-fn many_files(rt: HostRuntime) {
-    let all = files(&rt, rt.alloc(), 256);
-    let order = order_of(&rt, rt.alloc(), 256, &[]);
-    assert_eq!(rt; kept(&rt, rt.alloc(), &all, &order), 0);
+fn many_files(rt: HostRuntime) -> Result<(), Fail> {
+    let all = files(rt.alloc(), 256)?;
+    let kept = kept(rt.alloc(), all.as_slice(), 256)?;
+    same_number(rt.alloc(), "kept", kept as u64, 0)
 }

@@ -1,28 +1,30 @@
 //! The weight of programs.
 
-use crate::words::programs;
 use fs_lang::{Path, Program};
 use rh_base::Seq;
 use size_limits::weight;
 use std::alloc::Global;
-use std::process::Abort;
+use std::test::Fail;
+use test_programs::programs;
+use test_rows::same_number;
 
-fn weight_of(rt: &impl Abort, alloc: Global, words: &str) -> u64 {
-    let all = programs(rt, alloc, words);
-    weight(alloc, all.as_slice()).ok().expect(rt, "memory")
+/// Each row: programs, and their weight.
+fn are_weighed(alloc: Global, rows: &[(&str, u64)]) -> Result<(), Fail> {
+    for (words, want) in rows {
+        is_weighed(alloc, *words, *want)?;
+    }
+    Ok(())
 }
 
-/// The programs of each have the weight beside them.
-fn are_weighed(rt: &(impl Abort + AllocGlobal), rows: &[(&str, u64)]) {
-    for (words, want) in rows {
-        assert_eq!(rt; weight_of(rt, rt.alloc(), *words), *want, "{words}");
-    }
+fn is_weighed(alloc: Global, words: &str, want: u64) -> Result<(), Fail> {
+    let all = programs(alloc, words)?;
+    same_number(alloc, words, weight(alloc, all.as_slice())?, want)
 }
 
 #[test]
-fn weights(rt: HostRuntime) {
+fn weights_of_changes(rt: HostRuntime) -> Result<(), Fail> {
     are_weighed(
-        &rt,
+        rt.alloc(),
         &[
             ("", 0u64),
             ("id", 0),
@@ -34,6 +36,15 @@ fn weights(rt: HostRuntime) {
             ("rm /a", 2),
             ("mkdir /a; mkdir /b", 4),
             ("mkdir /a | mkdir /b", 8),
+        ],
+    )
+}
+
+#[test]
+fn weights_of_choices_and_removals(rt: HostRuntime) -> Result<(), Fail> {
+    are_weighed(
+        rt.alloc(),
+        &[
             ("if true: id, err", 0),
             ("if false: id, err", 0),
             ("if file? /a: id, err", 2),
@@ -47,40 +58,48 @@ fn weights(rt: HostRuntime) {
             ("if emptydir? /: id, err | mkdir /a/b", 12),
             ("if emptydir? /a: rm /a, id | mkdir /a/b | mkdir /a/c", 48),
         ],
-    );
+    )
+}
+
+fn push_step(alloc: Global, steps: &mut Seq<Program>, path: &str) -> Result<(), Fail> {
+    Ok(steps.push(Program::Mkdir(Path::read(alloc, path)?))?)
 }
 
 /// A folder that is made so many times.
-fn made(rt: &impl Abort, alloc: Global, text: &str, times: u32) -> Program {
+fn made(alloc: Global, path: &str, times: u32) -> Result<Program, Fail> {
     let mut steps = Seq::new(alloc);
     for _turn in 0..times {
-        let p = Path::read(alloc, text).ok().expect(rt, "a path");
-        steps.push(Program::Mkdir(p)).ok().expect(rt, "memory");
+        push_step(alloc, &mut steps, path)?;
     }
-    Program::Steps(steps)
+    Ok(Program::Steps(steps))
+}
+
+fn push_made(alloc: Global, all: &mut Seq<Program>, i: u32, times: u32) -> Result<(), Fail> {
+    let path = format!(in alloc; "/a{i}")?;
+    Ok(all.push(made(alloc, path.as_str(), times)?)?)
 }
 
 /// So many programs, each of which makes a folder of its own so many times.
-fn all_made(rt: &impl Abort, alloc: Global, n: u32, times: u32) -> Vec<Program> {
-    let mut all = Vec::new(alloc);
+fn all_made(alloc: Global, n: u32, times: u32) -> Result<Seq<Program>, Fail> {
+    let mut all = Seq::new(alloc);
     for i in 0..n {
-        let text = format!(in alloc; "/a{i}").ok().expect(rt, "memory");
-        let program = made(rt, alloc, text.as_str(), times);
-        all.push(program).ok().expect(rt, "memory");
+        push_made(alloc, &mut all, i, times)?;
     }
-    all
+    Ok(all)
 }
 
-/// Each row: how many programs, how many times each makes its folder, and the weight.
-fn are_weighed_when_made(rt: &(impl Abort + AllocGlobal), rows: &[(u32, u32, u64)]) {
-    for (n, times, want) in rows {
-        let all = all_made(rt, rt.alloc(), *n, *times);
-        let found = weight(rt.alloc(), &all).ok().expect(rt, "memory");
-        assert_eq!(rt; found, *want, "{n} {times}");
-    }
+/// So many programs, each of which makes its folder so many times, have this weight.
+fn is_weighed_when_made(alloc: Global, n: u32, times: u32, want: u64) -> Result<(), Fail> {
+    let all = all_made(alloc, n, times)?;
+    same_number(alloc, "weight", weight(alloc, all.as_slice())?, want)
 }
 
 #[test]
-fn large_weights(rt: HostRuntime) {
-    are_weighed_when_made(&rt, &[(100, 35, 700_000), (3, 38_889, 700_002)]);
+fn the_weight_of_many_programs(rt: HostRuntime) -> Result<(), Fail> {
+    is_weighed_when_made(rt.alloc(), 100, 35, 700_000)
+}
+
+#[test]
+fn the_weight_of_large_programs(rt: HostRuntime) -> Result<(), Fail> {
+    is_weighed_when_made(rt.alloc(), 3, 38_889, 700_002)
 }

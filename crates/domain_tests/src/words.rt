@@ -1,34 +1,46 @@
-//! Programs in words, and words that are appended to what is shown.
+//! Words that are appended to what is shown, and answers of yes or no.
 
-use fs_lang::{Path, Program};
-use rh_base::{Seq, Text};
+use fs_lang::Path;
+use rh_base::{NoMemory, Text};
 use std::alloc::Global;
-use std::process::Abort;
-
-pub(crate) fn program(rt: &impl Abort, alloc: Global, words: &str) -> Program {
-    let found = test_programs::program(alloc, words);
-    found.ok().expect(rt, "a program")
-}
-
-pub(crate) fn programs(rt: &impl Abort, alloc: Global, words: &str) -> Seq<Program> {
-    let found = test_programs::programs(alloc, words);
-    found.ok().expect(rt, "programs")
-}
+use std::test::Fail;
+use test_rows::{joined, same};
 
 /// Appends a word, apart from what stands before it.
-pub(crate) fn push_word(rt: &impl Abort, shown: &mut Text, word: &str) {
+pub(crate) fn push_word(shown: &mut Text, word: &str) -> Result<(), NoMemory> {
     if !shown.is_empty() {
-        shown.push(" ").ok().expect(rt, "memory");
+        shown.push(" ")?;
     }
-    shown.push(word).ok().expect(rt, "memory");
+    shown.push(word)
 }
 
-pub(crate) fn push_path(rt: &impl Abort, alloc: Global, shown: &mut Text, p: &Path) {
-    let word = p.text(alloc).ok().expect(rt, "memory");
-    push_word(rt, shown, word.as_str());
+pub(crate) fn push_path(alloc: Global, shown: &mut Text, p: &Path) -> Result<(), NoMemory> {
+    let word = p.text(alloc)?;
+    push_word(shown, word.as_str())
 }
 
-pub(crate) fn push_number(rt: &impl Abort, alloc: Global, shown: &mut Text, n: u64) {
-    let word = format!(in alloc; "{n}").ok().expect(rt, "memory");
-    push_word(rt, shown, word.as_str());
+pub(crate) fn push_number(alloc: Global, shown: &mut Text, n: u64) -> Result<(), NoMemory> {
+    let word = format!(in alloc; "{n}")?;
+    push_word(shown, word.as_str())
+}
+
+/// An answer both ways round.
+pub(crate) fn both(forth: bool, back: bool) -> &'static str {
+    match (forth, back) {
+        (true, true) => "yes",
+        (false, false) => "no",
+        _ => "yes one way round",
+    }
+}
+
+/// Two programs get the answer that is wanted.
+pub(crate) fn is_answered(
+    alloc: Global,
+    left: &str,
+    right: &str,
+    got: &str,
+    want: bool,
+) -> Result<(), Fail> {
+    let row = joined(alloc, &[left, " and ", right])?;
+    same(alloc, row.as_str(), got, both(want, want))
 }
