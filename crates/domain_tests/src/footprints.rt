@@ -2,18 +2,13 @@
 
 use crate::words::{both, is_answered, push_path, push_word};
 use effect_sets::{Footprint, apart, footprint_of};
-use fs_lang::Path;
+use fs_lang::{Path, Program};
 use rh_base::{NoMemory, Text};
 use std::alloc::Global;
 use std::collections::BTreeSet;
 use std::test::Fail;
 use test_programs::program;
 use test_rows::same;
-
-fn footprint(alloc: Global, words: &str) -> Result<Footprint, Fail> {
-    let e = program(alloc, words)?;
-    Ok(footprint_of(alloc, &e)?)
-}
 
 fn push_paths(
     alloc: Global,
@@ -42,9 +37,14 @@ fn shown(alloc: Global, f: &Footprint) -> Result<Text, NoMemory> {
     Ok(text)
 }
 
-fn told(alloc: Global, words: &str) -> Result<Text, Fail> {
-    let f = footprint(alloc, words)?;
+fn told_of(alloc: Global, e: &Program) -> Result<Text, Fail> {
+    let f = footprint_of(alloc, e)?;
     Ok(shown(alloc, &f)?)
+}
+
+fn told(alloc: Global, words: &str) -> Result<Text, Fail> {
+    let e = program(alloc, words)?;
+    told_of(alloc, &e)
 }
 
 fn is_shown(alloc: Global, words: &str, want: &str) -> Result<(), Fail> {
@@ -130,14 +130,24 @@ fn footprints_from_left_to_right(rt: HostRuntime) -> Result<(), Fail> {
     )
 }
 
-fn told_beside(alloc: Global, f: &Footprint, right: &str) -> Result<&'static str, Fail> {
-    let g = footprint(alloc, right)?;
+fn told_beside(alloc: Global, f: &Footprint, e: &Program) -> Result<&'static str, Fail> {
+    let g = footprint_of(alloc, e)?;
     Ok(both(apart(f, &g), apart(&g, f)))
 }
 
+fn told_with(alloc: Global, f: &Footprint, right: &str) -> Result<&'static str, Fail> {
+    let e = program(alloc, right)?;
+    told_beside(alloc, f, &e)
+}
+
+fn told_first(alloc: Global, e: &Program, right: &str) -> Result<&'static str, Fail> {
+    let f = footprint_of(alloc, e)?;
+    told_with(alloc, &f, right)
+}
+
 fn told_apart(alloc: Global, left: &str, right: &str) -> Result<&'static str, Fail> {
-    let f = footprint(alloc, left)?;
-    told_beside(alloc, &f, right)
+    let e = program(alloc, left)?;
+    told_first(alloc, &e, right)
 }
 
 fn is_apart(alloc: Global, left: &str, right: &str, want: bool) -> Result<(), Fail> {

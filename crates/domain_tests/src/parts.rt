@@ -3,7 +3,7 @@
 use crate::words::{both, is_answered};
 use commuting_parts::commute_by_parts;
 use fs_lang::{Path, PathFault, Program, Test};
-use rh_base::{Boxed, NoMemory, Seq};
+use rh_base::{Boxed, Seq};
 use std::alloc::Global;
 use std::test::Fail;
 use test_programs::{program, programs};
@@ -69,7 +69,7 @@ fn read(alloc: Global, words: &str) -> Result<Program, PathFault> {
 }
 
 /// The answer for two programs, whichever of them comes first.
-fn told_both(alloc: Global, e: &Program, f: &Program) -> Result<&'static str, NoMemory> {
+fn told_both(alloc: Global, e: &Program, f: &Program) -> Result<&'static str, Fail> {
     let forth = commute_by_parts(alloc, e, f)?;
     let back = commute_by_parts(alloc, f, e)?;
     Ok(both(forth, back))
@@ -77,7 +77,7 @@ fn told_both(alloc: Global, e: &Program, f: &Program) -> Result<&'static str, No
 
 fn told_beside(alloc: Global, e: &Program, right: &str) -> Result<&'static str, Fail> {
     let f = read(alloc, right)?;
-    Ok(told_both(alloc, e, &f)?)
+    told_both(alloc, e, &f)
 }
 
 fn told(alloc: Global, left: &str, right: &str) -> Result<&'static str, Fail> {
