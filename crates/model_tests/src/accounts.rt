@@ -144,15 +144,15 @@ const USERS_REFUSED: &[(&str, &str)] = &[
 
 #[test]
 fn programs_of_groups(rt: HostRuntime) -> Result<(), Fail> {
-    are_answered(&rt, rt.alloc(), NONE, GROUPS)
+    are_answered(rt.alloc(), NONE, GROUPS)
 }
 
 #[test]
 fn programs_of_users(rt: HostRuntime) -> Result<(), Fail> {
-    are_answered(&rt, rt.alloc(), NONE, USERS)
+    are_answered(rt.alloc(), NONE, USERS)
 }
 
 #[test]
 fn refusals_of_users(rt: HostRuntime) -> Result<(), Fail> {
-    are_answered(&rt, rt.alloc(), NONE, USERS_REFUSED)
+    are_answered(rt.alloc(), NONE, USERS_REFUSED)
 }

@@ -119,10 +119,10 @@ const KEYS: &[(&str, &str)] = &[
 
 #[test]
 fn programs_of_cron_jobs(rt: HostRuntime) -> Result<(), Fail> {
-    are_answered(&rt, rt.alloc(), NONE, JOBS)
+    are_answered(rt.alloc(), NONE, JOBS)
 }
 
 #[test]
 fn keys_of_ssh(rt: HostRuntime) -> Result<(), Fail> {
-    are_answered(&rt, rt.alloc(), NONE, KEYS)
+    are_answered(rt.alloc(), NONE, KEYS)
 }

@@ -238,15 +238,15 @@ const STATES_AND_PATHS: &[(&str, &str)] = &[
 
 #[test]
 fn programs_of_files(rt: HostRuntime) -> Result<(), Fail> {
-    are_answered(&rt, rt.alloc(), NONE, PROGRAMS)
+    are_answered(rt.alloc(), NONE, PROGRAMS)
 }
 
 #[test]
 fn attributes_of_files(rt: HostRuntime) -> Result<(), Fail> {
-    are_answered(&rt, rt.alloc(), NONE, ATTRIBUTES)
+    are_answered(rt.alloc(), NONE, ATTRIBUTES)
 }
 
 #[test]
 fn states_and_paths_of_files(rt: HostRuntime) -> Result<(), Fail> {
-    are_answered(&rt, rt.alloc(), NONE, STATES_AND_PATHS)
+    are_answered(rt.alloc(), NONE, STATES_AND_PATHS)
 }

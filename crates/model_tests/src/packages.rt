@@ -95,15 +95,15 @@ const REFUSED: &[(&str, &str)] = &[
 
 #[test]
 fn installed_packages(rt: HostRuntime) -> Result<(), Fail> {
-    are_answered(&rt, rt.alloc(), NTP, INSTALLED)
+    are_answered(rt.alloc(), NTP, INSTALLED)
 }
 
 #[test]
 fn digests_and_sweeps(rt: HostRuntime) -> Result<(), Fail> {
-    are_answered(&rt, rt.alloc(), TWO, OF_TWO)
+    are_answered(rt.alloc(), TWO, OF_TWO)
 }
 
 #[test]
 fn refusals_of_packages(rt: HostRuntime) -> Result<(), Fail> {
-    are_answered(&rt, rt.alloc(), NTP, REFUSED)
+    are_answered(rt.alloc(), NTP, REFUSED)
 }

@@ -47,5 +47,5 @@ const EXAMPLES: &[(&str, &str)] = &[
 
 #[test]
 fn examples_of_the_page(rt: HostRuntime) -> Result<(), Fail> {
-    are_answered(&rt, rt.alloc(), NTP, EXAMPLES)
+    are_answered(rt.alloc(), NTP, EXAMPLES)
 }

@@ -85,10 +85,10 @@ const REFUSED: &[(&str, &str)] = &[
 
 #[test]
 fn programs_of_services(rt: HostRuntime) -> Result<(), Fail> {
-    are_answered(&rt, rt.alloc(), NONE, PROGRAMS)
+    are_answered(rt.alloc(), NONE, PROGRAMS)
 }
 
 #[test]
 fn refusals_of_services(rt: HostRuntime) -> Result<(), Fail> {
-    are_answered(&rt, rt.alloc(), NONE, REFUSED)
+    are_answered(rt.alloc(), NONE, REFUSED)
 }
