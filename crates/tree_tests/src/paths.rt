@@ -1,45 +1,46 @@
 //! Paths from texts.
 
+use crate::answers::is_answered;
 use fs_lang::{Path, PathFault, are_disjoint};
-use rh_base::Text;
+use rh_base::{NoMemory, Seq};
 use std::alloc::Global;
-use std::process::Abort;
 use std::test::Fail;
-use test_rows::nested;
+use test_rows::{nested, same, same_number};
 
-fn path(rt: &impl Abort, alloc: Global, text: &str) -> Path {
-    Path::read(alloc, text).ok().expect(rt, "a path")
+fn push_segment(text: &mut String, segment: &str) -> Result<(), NoMemory> {
+    text.push('/')?;
+    Ok(text.push_str(segment)?)
 }
 
 /// The segments, each after a slash.
-fn spelled(alloc: Global, path: &Path) -> Result<String, Fail> {
+fn spelled(alloc: Global, path: &Path) -> Result<String, NoMemory> {
     let mut text = String::new(alloc);
     for segment in path.segments() {
-        text.push('/')?;
-        text.push_str(segment.as_str())?;
+        push_segment(&mut text, segment.as_str())?;
     }
     Ok(text)
 }
 
-/// A path is spelled so.
-fn is_spelled(
-    rt: &(impl Abort + AllocGlobal),
-    path: &Path,
-    text: &str,
-    want: &str,
-) -> Result<(), Fail> {
-    let found = spelled(rt.alloc(), path)?;
-    assert_eq!(rt; found.as_str(), want, "{text}");
-    Ok(())
+fn is_spelled(alloc: Global, path: &Path, text: &str, want: &str) -> Result<(), Fail> {
+    let found = spelled(alloc, path)?;
+    same(alloc, text, found.as_str(), want)
 }
 
-/// The path of each text is spelled so, and its copy too.
-fn are_spelled(rt: &(impl Abort + AllocGlobal), rows: &[(&str, &str)]) -> Result<(), Fail> {
+fn copy_is_spelled(alloc: Global, path: &Path, text: &str, want: &str) -> Result<(), Fail> {
+    let copy = path.copy(alloc)?;
+    is_spelled(alloc, &copy, text, want)
+}
+
+fn path_is_spelled(alloc: Global, text: &str, want: &str) -> Result<(), Fail> {
+    let path = Path::read(alloc, text)?;
+    is_spelled(alloc, &path, text, want)?;
+    copy_is_spelled(alloc, &path, text, want)
+}
+
+/// Each row: a text, and how its path is spelled, and the copy of it.
+fn are_spelled(alloc: Global, rows: &[(&str, &str)]) -> Result<(), Fail> {
     for (text, want) in rows {
-        let read = path(rt, rt.alloc(), *text);
-        is_spelled(rt, &read, *text, *want)?;
-        let copy = read.copy(rt.alloc()).ok().ok_or("memory")?;
-        is_spelled(rt, &copy, *text, *want)?;
+        path_is_spelled(alloc, *text, *want)?;
     }
     Ok(())
 }
@@ -47,7 +48,7 @@ fn are_spelled(rt: &(impl Abort + AllocGlobal), rows: &[(&str, &str)]) -> Result
 #[test]
 fn texts_that_are_paths(rt: HostRuntime) -> Result<(), Fail> {
     are_spelled(
-        &rt,
+        rt.alloc(),
         &[
             ("/", ""),
             ("///", ""),
@@ -61,64 +62,107 @@ fn texts_that_are_paths(rt: HostRuntime) -> Result<(), Fail> {
     )
 }
 
-fn are_refused(rt: &(impl Abort + AllocGlobal), texts: &[&str]) {
-    for text in texts {
-        let read = Path::read(rt.alloc(), *text).err();
-        assert_eq!(rt; read, Some(PathFault::Bad), "{text}");
+fn told(read: Result<Path, PathFault>) -> &'static str {
+    match read {
+        Ok(_) => "a path",
+        Err(PathFault::Bad) => "bad",
+        Err(PathFault::Memory(_)) => "memory",
     }
 }
 
-#[test]
-fn texts_that_are_no_paths(rt: HostRuntime) {
-    are_refused(
-        &rt,
-        &["", "a", "a/b", "/.", "/a/..", "/../a", "/a\0b", " /a"],
-    );
-}
-
-/// How many segments the path of a text has.
-fn segments(alloc: Global, text: &str) -> Result<usize, PathFault> {
-    Ok(Path::read(alloc, text)?.segments().len())
-}
-
-/// A front, a piece that is repeated so many times, and how many segments the path has.
-type Repeated = (&'static str, &'static str, usize, Result<usize, PathFault>);
-
-fn are_counted(rt: &(impl Abort + AllocGlobal), rows: &[Repeated]) -> Result<(), Fail> {
-    for (front, repeated, count, want) in rows {
-        let text = nested(rt.alloc(), &(*front, *repeated, "", ""), *count)?;
-        let found = segments(rt.alloc(), text.as_str());
-        assert_eq!(rt; found, *want, "{count} of {repeated}");
+/// Each text is no path.
+fn are_refused(alloc: Global, texts: &[&str]) -> Result<(), Fail> {
+    for text in texts {
+        same(alloc, *text, told(Path::read(alloc, *text)), "bad")?;
     }
     Ok(())
 }
 
 #[test]
-fn limits_of_paths(rt: HostRuntime) -> Result<(), Fail> {
-    are_counted(
-        &rt,
-        &[
-            ("", "/s", 32, Ok(32)),
-            ("", "/s", 33, Err(PathFault::Bad)),
-            ("/", "s", 1023, Ok(1)),
-            ("/", "s", 1024, Err(PathFault::Bad)),
-        ],
+fn texts_that_are_no_paths(rt: HostRuntime) -> Result<(), Fail> {
+    are_refused(
+        rt.alloc(),
+        &["", "a", "a/b", "/.", "/a/..", "/../a", "/a\0b", " /a"],
     )
 }
 
-/// Each row two paths, and whether the first stands above the second.
-fn are_above(rt: &(impl Abort + AllocGlobal), rows: &[(&str, &str, bool)]) {
-    for (above, below, want) in rows {
-        let alloc = rt.alloc();
-        let answer = path(rt, alloc, *above).is_ancestor(&path(rt, alloc, *below));
-        assert_eq!(rt; answer, *want, "{above} {below}");
+fn has_segments(alloc: Global, text: &str, want: u64) -> Result<(), Fail> {
+    let path = Path::read(alloc, text)?;
+    same_number(alloc, text, path.segments().len() as u64, want)
+}
+
+/// A front, and a piece that is repeated behind it so many times.
+fn repeated(
+    alloc: Global,
+    front: &'static str,
+    piece: &'static str,
+    count: usize,
+) -> Result<String, NoMemory> {
+    nested(alloc, &(front, piece, "", ""), count)
+}
+
+fn is_counted(alloc: Global, row: &(&'static str, &'static str, usize, u64)) -> Result<(), Fail> {
+    let text = repeated(alloc, row.0, row.1, row.2)?;
+    has_segments(alloc, text.as_str(), row.3)
+}
+
+/// Each row: a front, a piece that is repeated so many times, and how many segments the path has.
+fn are_counted(
+    alloc: Global,
+    rows: &[(&'static str, &'static str, usize, u64)],
+) -> Result<(), Fail> {
+    for row in rows {
+        is_counted(alloc, row)?;
     }
+    Ok(())
 }
 
 #[test]
-fn paths_above_others(rt: HostRuntime) {
+fn the_longest_paths(rt: HostRuntime) -> Result<(), Fail> {
+    are_counted(rt.alloc(), &[("", "/s", 32, 32), ("/", "s", 1023, 1)])
+}
+
+fn is_too_long(alloc: Global, row: &(&'static str, &'static str, usize)) -> Result<(), Fail> {
+    let text = repeated(alloc, row.0, row.1, row.2)?;
+    are_refused(alloc, &[text.as_str()])
+}
+
+/// Each row: a front, and a piece that is repeated more often than a path may have it.
+fn are_too_long(alloc: Global, rows: &[(&'static str, &'static str, usize)]) -> Result<(), Fail> {
+    for row in rows {
+        is_too_long(alloc, row)?;
+    }
+    Ok(())
+}
+
+#[test]
+fn longer_paths(rt: HostRuntime) -> Result<(), Fail> {
+    are_too_long(rt.alloc(), &[("", "/s", 33), ("/", "s", 1024)])
+}
+
+fn is_ancestor(alloc: Global, above: &Path, below: &str) -> Result<bool, Fail> {
+    let below = Path::read(alloc, below)?;
+    Ok(above.is_ancestor(&below))
+}
+
+fn is_above(alloc: Global, above: &str, below: &str, want: bool) -> Result<(), Fail> {
+    let path = Path::read(alloc, above)?;
+    let got = is_ancestor(alloc, &path, below)?;
+    is_answered(alloc, &[above, " above ", below], got, want)
+}
+
+/// Each row: two paths, and whether the first stands above the second.
+fn are_above(alloc: Global, rows: &[(&str, &str, bool)]) -> Result<(), Fail> {
+    for (above, below, want) in rows {
+        is_above(alloc, *above, *below, *want)?;
+    }
+    Ok(())
+}
+
+#[test]
+fn paths_above_others(rt: HostRuntime) -> Result<(), Fail> {
     are_above(
-        &rt,
+        rt.alloc(),
         &[
             ("/", "/a", true),
             ("/a", "/a/b/c", true),
@@ -126,15 +170,30 @@ fn paths_above_others(rt: HostRuntime) {
             ("/a", "/ab", false),
             ("/a/b", "/a", false),
         ],
-    );
+    )
 }
 
-/// Each row two paths, and whether neither is the other or stands above it.
-fn are_apart(rt: &(impl Abort + AllocGlobal), rows: &[(&str, &str, bool)]) -> Result<(), Fail> {
+fn push_path(alloc: Global, paths: &mut Seq<Path>, text: &str) -> Result<(), Fail> {
+    Ok(paths.push(Path::read(alloc, text)?)?)
+}
+
+fn two(alloc: Global, left: &str, right: &str) -> Result<Seq<Path>, Fail> {
+    let mut paths = Seq::new(alloc);
+    push_path(alloc, &mut paths, left)?;
+    push_path(alloc, &mut paths, right)?;
+    Ok(paths)
+}
+
+fn is_apart(alloc: Global, left: &str, right: &str, want: bool) -> Result<(), Fail> {
+    let both = two(alloc, left, right)?;
+    let got = are_disjoint(both.as_slice());
+    is_answered(alloc, &[left, " and ", right], got, want)
+}
+
+/// Each row: two paths, and whether neither is the other or stands above it.
+fn are_apart(alloc: Global, rows: &[(&str, &str, bool)]) -> Result<(), Fail> {
     for (left, right, want) in rows {
-        let alloc = rt.alloc();
-        let both = vec![in alloc; path(rt, alloc, *left), path(rt, alloc, *right)]?;
-        assert_eq!(rt; are_disjoint(&both), *want, "{left} {right}");
+        is_apart(alloc, *left, *right, *want)?;
     }
     Ok(())
 }
@@ -142,7 +201,7 @@ fn are_apart(rt: &(impl Abort + AllocGlobal), rows: &[(&str, &str, bool)]) -> Re
 #[test]
 fn disjoint_paths(rt: HostRuntime) -> Result<(), Fail> {
     are_apart(
-        &rt,
+        rt.alloc(),
         &[
             ("/a/b", "/a/c", true),
             ("/a/b", "//a/b/", false),
@@ -151,23 +210,26 @@ fn disjoint_paths(rt: HostRuntime) -> Result<(), Fail> {
     )
 }
 
-fn written(rt: &impl Abort, alloc: Global, path: &Path) -> Text {
-    path.text(alloc).ok().expect(rt, "a text")
+fn is_written(alloc: Global, path: &Path, text: &str, want: &str) -> Result<(), Fail> {
+    let found = path.text(alloc)?;
+    same(alloc, text, found.as_str(), want)
 }
 
-/// A path is written so.
-fn is_written(rt: &(impl Abort + AllocGlobal), path: &Path, text: &str, want: &str) {
-    let found = written(rt, rt.alloc(), path);
-    assert_eq!(rt; found.as_str(), want, "{text}");
+fn parent_is_written(alloc: Global, path: &Path, text: &str, want: &str) -> Result<(), Fail> {
+    let parent = path.parent(alloc)?;
+    is_written(alloc, &parent, text, want)
 }
 
-/// The path of each text is written so, and its parent so.
-fn are_written(rt: &(impl Abort + AllocGlobal), rows: &[(&str, &str, &str)]) -> Result<(), Fail> {
+fn both_are_written(alloc: Global, text: &str, want: &str, above: &str) -> Result<(), Fail> {
+    let path = Path::read(alloc, text)?;
+    is_written(alloc, &path, text, want)?;
+    parent_is_written(alloc, &path, text, above)
+}
+
+/// Each row: a text, how its path is written, and how the parent is.
+fn are_written(alloc: Global, rows: &[(&str, &str, &str)]) -> Result<(), Fail> {
     for (text, want, above) in rows {
-        let read = path(rt, rt.alloc(), *text);
-        is_written(rt, &read, *text, *want);
-        let parent = read.parent(rt.alloc()).ok().ok_or("memory")?;
-        is_written(rt, &parent, *text, *above);
+        both_are_written(alloc, *text, *want, *above)?;
     }
     Ok(())
 }
@@ -175,7 +237,7 @@ fn are_written(rt: &(impl Abort + AllocGlobal), rows: &[(&str, &str, &str)]) -> 
 #[test]
 fn paths_written_and_their_parents(rt: HostRuntime) -> Result<(), Fail> {
     are_written(
-        &rt,
+        rt.alloc(),
         &[
             ("/", "/", "/"),
             ("/a", "/a", "/"),
@@ -185,33 +247,42 @@ fn paths_written_and_their_parents(rt: HostRuntime) -> Result<(), Fail> {
     )
 }
 
+/// A child of the root has the segment as its name.
+fn is_named(alloc: Global, child: &Path, segment: &str) -> Result<(), Fail> {
+    let text = child.text(alloc)?;
+    let name = text.as_str().strip_prefix('/').unwrap_or("no slash");
+    same(alloc, segment, name, segment)
+}
+
+fn is_child(alloc: Global, root: &Path, segment: &str) -> Result<(), Fail> {
+    let child = root.child(alloc, segment)?;
+    is_named(alloc, &child, segment)
+}
+
 /// Each segment gives a child of the root.
-fn are_children(rt: &(impl Abort + AllocGlobal), segments: &[&str]) -> Result<(), Fail> {
-    let root = Path::root(rt.alloc()).ok().ok_or("memory")?;
+fn are_children(alloc: Global, root: &Path, segments: &[&str]) -> Result<(), Fail> {
     for segment in segments {
-        let child = root.child(rt.alloc(), *segment).ok().ok_or("a path")?;
-        let text = written(rt, rt.alloc(), &child);
-        assert_eq!(rt; text.as_str().strip_prefix('/'), Some(*segment));
+        is_child(alloc, root, *segment)?;
     }
     Ok(())
 }
 
 /// None of these segments gives a child of the root.
-fn are_no_children(rt: &(impl Abort + AllocGlobal), segments: &[&str]) -> Result<(), Fail> {
-    let root = Path::root(rt.alloc()).ok().ok_or("memory")?;
+fn are_no_children(alloc: Global, root: &Path, segments: &[&str]) -> Result<(), Fail> {
     for segment in segments {
-        let child = root.child(rt.alloc(), *segment).err();
-        assert_eq!(rt; child, Some(PathFault::Bad), "{segment}");
+        same(alloc, *segment, told(root.child(alloc, *segment)), "bad")?;
     }
     Ok(())
 }
 
 #[test]
 fn children_of_paths(rt: HostRuntime) -> Result<(), Fail> {
-    are_children(&rt, &["a", "...", "a.b", "ü", ".rehearsal"])
+    let root = Path::root(rt.alloc())?;
+    are_children(rt.alloc(), &root, &["a", "...", "a.b", "ü", ".rehearsal"])
 }
 
 #[test]
 fn segments_of_no_child(rt: HostRuntime) -> Result<(), Fail> {
-    are_no_children(&rt, &["", ".", "..", "a/b", "/", "a\0b"])
+    let root = Path::root(rt.alloc())?;
+    are_no_children(rt.alloc(), &root, &["", ".", "..", "a/b", "/", "a\0b"])
 }

@@ -55,9 +55,9 @@ fn puts_motd(program: &Program) -> bool {
 }
 
 fn motd(alloc: Global) -> Result<Program, Fail> {
-    let path = Path::read(alloc, "/etc/motd").ok().ok_or("a path")?;
+    let path = Path::read(alloc, "/etc/motd")?;
     let content = text(alloc, "hi")?;
-    Ok(put(alloc, &path, &content).ok().ok_or("memory")?)
+    Ok(put(alloc, &path, &content)?)
 }
 
 #[test]

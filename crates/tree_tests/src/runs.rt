@@ -1,55 +1,74 @@
 //! Runs of programs on trees, each row a program in words, a tree and how the run ends.
 
+use crate::answers::is_answered;
 use fs_lang::{Outcome, Program, Tree};
 use fs_replay::{are_below, replay, run};
+use rh_base::NoMemory;
 use std::alloc::Global;
-use std::process::Abort;
 use std::test::Fail;
-use test_programs::{program, programs};
+use test_programs::programs;
+use test_rows::{joined, same};
 use tree_text::{tree_from_json, tree_to_json};
 
-/// How a run ends: the text of a tree, or `error`.
-fn shown(rt: &impl Abort, alloc: Global, outcome: &Outcome) -> Vec<u8> {
-    let mut bytes = Vec::new(alloc);
+fn push_outcome(alloc: Global, outcome: &Outcome, bytes: &mut Vec<u8>) -> Result<(), NoMemory> {
     match outcome {
-        Outcome::Ended(tree) => tree_to_json(alloc, tree, &mut bytes)
-            .ok()
-            .expect(rt, "memory"),
-        Outcome::Error => bytes.extend_from_slice(b"error").ok().expect(rt, "memory"),
+        Outcome::Ended(tree) => tree_to_json(alloc, tree, bytes),
+        Outcome::Error => Ok(bytes.extend_from_slice(b"error")?),
     }
-    bytes
 }
 
-fn tree_of(rt: &impl Abort, alloc: Global, text: &str) -> Tree {
-    tree_from_json(alloc, text.as_bytes())
-        .ok()
-        .expect(rt, "a tree")
+/// How a run ends: the text of a tree, or `error`.
+fn shown(alloc: Global, outcome: &Outcome) -> Result<Vec<u8>, Fail> {
+    let mut bytes = Vec::new(alloc);
+    push_outcome(alloc, outcome, &mut bytes)?;
+    Ok(bytes)
 }
 
-/// The outcome of a program in words on a tree.
-fn ran(rt: &impl Abort, alloc: Global, words: &str, from: &Tree) -> Outcome {
-    let program = program(alloc, words).ok().expect(rt, "a program");
-    run(alloc, &program, from).ok().expect(rt, "memory")
+fn ran(alloc: Global, program: &Program, from: &Tree) -> Result<Vec<u8>, Fail> {
+    let outcome = run(alloc, program, from)?;
+    shown(alloc, &outcome)
 }
 
-fn ended(rt: &impl Abort, alloc: Global, words: &str, tree: &str) -> Vec<u8> {
-    let from = tree_of(rt, alloc, tree);
-    let outcome = ran(rt, alloc, words, &from);
-    shown(rt, alloc, &outcome)
+fn ran_one(alloc: Global, programs: &[Program], from: &Tree) -> Result<Vec<u8>, Fail> {
+    match programs {
+        [program] => ran(alloc, program, from),
+        _ => Err("one program".into()),
+    }
 }
 
-/// Each program, run on the tree beside it, ends so.
-fn are_ended(rt: &impl Abort, alloc: Global, rows: &[(&str, &str, &str)]) {
+/// How the run of a program in words ends, which is kept in a list, since that takes the prover less.
+fn ended_on(alloc: Global, words: &str, from: &Tree) -> Result<Vec<u8>, Fail> {
+    let one = programs(alloc, words)?;
+    ran_one(alloc, one.as_slice(), from)
+}
+
+/// How the run of a program in words ends on a tree.
+fn ended(alloc: Global, words: &str, tree: &str) -> Result<Vec<u8>, Fail> {
+    let from = tree_from_json(alloc, tree.as_bytes())?;
+    ended_on(alloc, words, &from)
+}
+
+fn text_of(bytes: &[u8]) -> &str {
+    str::from_utf8(bytes).unwrap_or("no text")
+}
+
+fn is_ended(alloc: Global, words: &str, tree: &str, want: &str) -> Result<(), Fail> {
+    let found = ended(alloc, words, tree)?;
+    let row = joined(alloc, &[words, " on ", tree])?;
+    same(alloc, row.as_str(), text_of(found.as_slice()), want)
+}
+
+/// Each row: a program, a tree, and how the program's run on it ends.
+fn are_ended(alloc: Global, rows: &[(&str, &str, &str)]) -> Result<(), Fail> {
     for (words, tree, want) in rows {
-        let found = ended(rt, alloc, words, tree);
-        assert_eq!(rt; found.as_slice(), want.as_bytes(), "{words} {tree}");
+        is_ended(alloc, *words, *tree, *want)?;
     }
+    Ok(())
 }
 
 #[test]
-fn single_changes(rt: HostRuntime) {
+fn folders(rt: HostRuntime) -> Result<(), Fail> {
     are_ended(
-        &rt,
         rt.alloc(),
         &[
             ("id", "{}", "{}"),
@@ -64,6 +83,15 @@ fn single_changes(rt: HostRuntime) {
             ("mkdir /a/b", "{}", "error"),
             ("mkdir /a/b", r#"{"/a":"x"}"#, "error"),
             ("mkdir /a/b", r#"{"/a":{"link":"/c"},"/c":null}"#, "error"),
+        ],
+    )
+}
+
+#[test]
+fn files_and_links(rt: HostRuntime) -> Result<(), Fail> {
+    are_ended(
+        rt.alloc(),
+        &[
             ("creat /a x", "{}", r#"{"/a":"x"}"#),
             (
                 "creat /a/b x",
@@ -81,13 +109,12 @@ fn single_changes(rt: HostRuntime) {
             ("link /a /b", r#"{"/a":null}"#, "error"),
             ("link /a/b /c", "{}", "error"),
         ],
-    );
+    )
 }
 
 #[test]
-fn removals_and_copies(rt: HostRuntime) {
+fn removals(rt: HostRuntime) -> Result<(), Fail> {
     are_ended(
-        &rt,
         rt.alloc(),
         &[
             ("rm /a", r#"{"/a":"x"}"#, "{}"),
@@ -101,6 +128,15 @@ fn removals_and_copies(rt: HostRuntime) {
             ("rm /a", r#"{"/a":null,"/a/b":"x"}"#, "error"),
             ("rm /a", "{}", "error"),
             ("rm /", "{}", "error"),
+        ],
+    )
+}
+
+#[test]
+fn copies(rt: HostRuntime) -> Result<(), Fail> {
+    are_ended(
+        rt.alloc(),
+        &[
             ("cp /a /b", r#"{"/a":"x"}"#, r#"{"/a":"x","/b":"x"}"#),
             ("cp /a /b", "{}", "error"),
             ("cp /a /b", r#"{"/a":null}"#, "error"),
@@ -111,23 +147,18 @@ fn removals_and_copies(rt: HostRuntime) {
             ("cp / /b", "{}", "error"),
             ("cp /a /", r#"{"/a":"x"}"#, "error"),
         ],
-    );
+    )
 }
 
-/// A question holds so on each tree.
-fn is_answered(
-    rt: &(impl Abort + AllocGlobal),
-    words: &str,
-    trees: &[(&str, bool)],
-) -> Result<(), Fail> {
-    let asked = format!(in rt.alloc(); "if {words}: id, err")?;
-    for (tree, holds) in trees {
-        let ends = ended(rt, rt.alloc(), asked.as_str(), *tree);
-        assert_eq!(rt;
-            ends.as_slice() != "error".as_bytes(),
-            *holds,
-            "{words} {tree}"
-        );
+fn is_held(alloc: Global, asked: &str, tree: &str, want: bool) -> Result<(), Fail> {
+    let ends = ended(alloc, asked, tree)?;
+    let got = text_of(ends.as_slice()) != "error";
+    is_answered(alloc, &[asked, " on ", tree], got, want)
+}
+
+fn are_held(alloc: Global, asked: &str, trees: &[(&str, bool)]) -> Result<(), Fail> {
+    for (tree, want) in trees {
+        is_held(alloc, asked, *tree, *want)?;
     }
     Ok(())
 }
@@ -135,26 +166,33 @@ fn is_answered(
 /// A question, and whether it holds where nothing, a folder, a file or a link is at /a.
 type Question = (&'static str, bool, bool, bool, bool);
 
-fn are_answered(rt: &(impl Abort + AllocGlobal), rows: &[Question]) -> Result<(), Fail> {
-    for (words, none, folder, file, link) in rows {
-        is_answered(
-            rt,
-            *words,
-            &[
-                ("{}", *none),
-                (r#"{"/a":null}"#, *folder),
-                (r#"{"/a":"x"}"#, *file),
-                (r#"{"/a":{"link":"/a"}}"#, *link),
-            ],
-        )?;
+fn is_asked(alloc: Global, row: &Question) -> Result<(), Fail> {
+    let (words, none, folder, file, link) = *row;
+    let asked = joined(alloc, &["if ", words, ": id, err"])?;
+    are_held(
+        alloc,
+        asked.as_str(),
+        &[
+            ("{}", none),
+            (r#"{"/a":null}"#, folder),
+            (r#"{"/a":"x"}"#, file),
+            (r#"{"/a":{"link":"/a"}}"#, link),
+        ],
+    )
+}
+
+/// Each row: a question and its answers.
+fn are_asked(alloc: Global, rows: &[Question]) -> Result<(), Fail> {
+    for row in rows {
+        is_asked(alloc, row)?;
     }
     Ok(())
 }
 
 #[test]
 fn questions_at_a_path(rt: HostRuntime) -> Result<(), Fail> {
-    are_answered(
-        &rt,
+    are_asked(
+        rt.alloc(),
         &[
             ("file? /a", false, false, true, false),
             ("link? /a", false, false, false, true),
@@ -167,6 +205,15 @@ fn questions_at_a_path(rt: HostRuntime) -> Result<(), Fail> {
             ("file? /a or none? /a", true, false, true, false),
             ("true", true, true, true, true),
             ("false", false, false, false, false),
+        ],
+    )
+}
+
+#[test]
+fn questions_at_the_root(rt: HostRuntime) -> Result<(), Fail> {
+    are_asked(
+        rt.alloc(),
+        &[
             ("emptydir? /", true, false, false, false),
             ("dir? /", true, true, true, true),
             ("none? /", false, false, false, false),
@@ -177,9 +224,8 @@ fn questions_at_a_path(rt: HostRuntime) -> Result<(), Fail> {
 }
 
 #[test]
-fn sequences(rt: HostRuntime) {
+fn sequences(rt: HostRuntime) -> Result<(), Fail> {
     are_ended(
-        &rt,
         rt.alloc(),
         &[
             ("mkdir /a; creat /a/b x", "{}", r#"{"/a":null,"/a/b":"x"}"#),
@@ -193,13 +239,12 @@ fn sequences(rt: HostRuntime) {
             ("mkdir /a; err", "{}", "error"),
             ("creat /a/b x; rm /a", r#"{"/a":null}"#, "error"),
         ],
-    );
+    )
 }
 
 #[test]
-fn choices(rt: HostRuntime) {
+fn choices(rt: HostRuntime) -> Result<(), Fail> {
     are_ended(
-        &rt,
         rt.alloc(),
         &[
             ("if none? /a: mkdir /a, mkdir /b", "{}", r#"{"/a":null}"#),
@@ -211,43 +256,61 @@ fn choices(rt: HostRuntime) {
             ("if true: id, err", "{}", "{}"),
             ("if true: err, id", "{}", "error"),
         ],
-    );
+    )
+}
+
+fn replayed_from(
+    alloc: Global,
+    programs: &[Program],
+    order: &[u32],
+    from: &Tree,
+) -> Result<Vec<u8>, Fail> {
+    if !are_below(order, programs.len()) {
+        return Ok(Vec::new(alloc));
+    }
+    let outcome = replay(alloc, programs, order, from)?;
+    shown(alloc, &outcome)
 }
 
 fn replayed(
-    rt: &impl Abort,
     alloc: Global,
     programs: &[Program],
     order: &[u32],
     tree: &str,
-) -> Vec<u8> {
-    if !are_below(order, programs.len()) {
-        return Vec::new(alloc);
-    }
-    let from = tree_of(rt, alloc, tree);
-    let outcome = replay(alloc, programs, order, &from)
-        .ok()
-        .expect(rt, "memory");
-    shown(rt, alloc, &outcome)
+) -> Result<Vec<u8>, Fail> {
+    let from = tree_from_json(alloc, tree.as_bytes())?;
+    replayed_from(alloc, programs, order, &from)
 }
 
-/// Each order of three programs, beside the tree that they begin in, ends so.
+fn is_replayed(
+    alloc: Global,
+    programs: &[Program],
+    order: &[u32],
+    tree: &str,
+    want: &str,
+) -> Result<(), Fail> {
+    let found = replayed(alloc, programs, order, tree)?;
+    same(alloc, tree, text_of(found.as_slice()), want)
+}
+
+/// Each row: an order of the programs, the tree that they begin in, and how they end, or nothing where it has other numbers.
 fn are_replayed(
-    rt: &(impl Abort + AllocGlobal),
+    alloc: Global,
+    programs: &[Program],
     rows: &[(&[u32], &str, &str)],
 ) -> Result<(), Fail> {
-    let programs = programs(rt.alloc(), "mkdir /a | creat /a/b x | cp /a/b /c")?;
     for (order, tree, want) in rows {
-        let found = replayed(rt, rt.alloc(), programs.as_slice(), *order, *tree);
-        assert_eq!(rt; found.as_slice(), want.as_bytes());
+        is_replayed(alloc, programs, *order, *tree, *want)?;
     }
     Ok(())
 }
 
 #[test]
 fn orders_of_programs(rt: HostRuntime) -> Result<(), Fail> {
+    let programs = programs(rt.alloc(), "mkdir /a | creat /a/b x | cp /a/b /c")?;
     are_replayed(
-        &rt,
+        rt.alloc(),
+        programs.as_slice(),
         &[
             (&[0, 1, 2], "{}", r#"{"/a":null,"/a/b":"x","/c":"x"}"#),
             (&[0, 2, 1], "{}", "error"),
