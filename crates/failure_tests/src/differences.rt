@@ -2,40 +2,51 @@
 
 use explained_text::push_differences;
 use fs_lang::Tree;
-use rh_base::Text;
+use rh_base::{NoMemory, Text};
 use std::alloc::Global;
-use std::process::Abort;
 use std::test::Fail;
-use tree_differences::differences;
+use test_rows::{joined, same};
+use tree_differences::{Difference, differences};
 use tree_text::tree_from_json;
 
-fn tree(rt: &impl Abort, alloc: Global, text: &str) -> Tree {
-    tree_from_json(alloc, text.as_bytes())
-        .ok()
-        .expect(rt, "a tree")
+pub fn tree(alloc: Global, text: &str) -> Result<Tree, Fail> {
+    match tree_from_json(alloc, text.as_bytes()) {
+        Ok(tree) => Ok(tree),
+        Err(_) => Err("no tree".into()),
+    }
 }
 
-/// The lines of what differs between two trees.
-fn lines_of(rt: &impl Abort, alloc: Global, left: &Tree, right: &Tree) -> Result<Text, Fail> {
-    let list = differences(alloc, left, right).ok().expect(rt, "memory");
+fn text_of(alloc: Global, list: &[Difference]) -> Result<Text, Fail> {
     let mut text = Text::new(alloc);
-    push_differences(alloc, &list, &mut text)
-        .ok()
-        .ok_or("memory")?;
+    push_differences(alloc, list, &mut text)?;
     Ok(text)
 }
 
-fn lines(rt: &impl Abort, alloc: Global, first: &str, second: &str) -> Result<Text, Fail> {
-    let left = tree(rt, alloc, first);
-    let right = tree(rt, alloc, second);
-    lines_of(rt, alloc, &left, &right)
+/// The lines of what differs between two trees.
+fn lines_of(alloc: Global, left: &Tree, right: &Tree) -> Result<Text, Fail> {
+    let list = differences(alloc, left, right)?;
+    text_of(alloc, &list)
+}
+
+fn lines_beside(alloc: Global, left: &Tree, second: &str) -> Result<Text, Fail> {
+    let right = tree(alloc, second)?;
+    lines_of(alloc, left, &right)
+}
+
+fn lines(alloc: Global, first: &str, second: &str) -> Result<Text, Fail> {
+    let left = tree(alloc, first)?;
+    lines_beside(alloc, &left, second)
+}
+
+fn is_told(alloc: Global, first: &str, second: &str, want: &str) -> Result<(), Fail> {
+    let found = lines(alloc, first, second)?;
+    same(alloc, first, found.as_str(), want)
 }
 
 /// Each two trees differ as these lines say.
-fn are_told(rt: &(impl Abort + AllocGlobal), rows: &[(&str, &str, &str)]) -> Result<(), Fail> {
+fn are_told(alloc: Global, rows: &[(&str, &str, &str)]) -> Result<(), Fail> {
     for (first, second, want) in rows {
-        let found = lines(rt, rt.alloc(), *first, *second)?;
-        assert_eq!(rt; found.as_str(), *want, "{first} {second}");
+        is_told(alloc, *first, *second, *want)?;
     }
     Ok(())
 }
@@ -43,7 +54,7 @@ fn are_told(rt: &(impl Abort + AllocGlobal), rows: &[(&str, &str, &str)]) -> Res
 #[test]
 fn trees_that_differ(rt: HostRuntime) -> Result<(), Fail> {
     are_told(
-        &rt,
+        rt.alloc(),
         &[
             ("{}", "{}", ""),
             (r#"{"/a":null,"/a/b":"x"}"#, r#"{"/a":null,"/a/b":"x"}"#, ""),
@@ -72,18 +83,31 @@ fn trees_that_differ(rt: HostRuntime) -> Result<(), Fail> {
     )
 }
 
+/// The tree of a file of this content alone.
+fn of_content(alloc: Global, content: &str) -> Result<String, NoMemory> {
+    joined(alloc, &["{\"/a\":\"", content, "\"}"])
+}
+
 /// The line of a file of this content where nothing else is.
-fn cut(rt: &(impl Abort + AllocGlobal), content: &str) -> Result<Text, Fail> {
-    let tree = format!(in rt.alloc(); "{{\"/a\":\"{content}\"}}")?;
-    lines(rt, rt.alloc(), tree.as_str(), "{}")
+fn cut(alloc: Global, content: &str) -> Result<Text, Fail> {
+    let tree = of_content(alloc, content)?;
+    lines(alloc, tree.as_str(), "{}")
+}
+
+fn is_line(alloc: Global, content: &str, line: &str) -> Result<(), Fail> {
+    let found = cut(alloc, content)?;
+    same(alloc, content, found.as_str(), line)
+}
+
+fn is_cut(alloc: Global, content: &str, want: &str) -> Result<(), Fail> {
+    let line = joined(alloc, &["at \"/a\": file ", want, " | nothing\n"])?;
+    is_line(alloc, content, line.as_str())
 }
 
 /// Each content is written so.
-fn are_cut(rt: &(impl Abort + AllocGlobal), rows: &[(&str, &str)]) -> Result<(), Fail> {
+fn are_cut(alloc: Global, rows: &[(&str, &str)]) -> Result<(), Fail> {
     for (content, want) in rows {
-        let line = format!(in rt.alloc(); "at \"/a\": file {want} | nothing\n")?;
-        let found = cut(rt, *content)?;
-        assert_eq!(rt; found.as_str(), line.as_str(), "{content}");
+        is_cut(alloc, *content, *want)?;
     }
     Ok(())
 }
@@ -91,7 +115,7 @@ fn are_cut(rt: &(impl Abort + AllocGlobal), rows: &[(&str, &str)]) -> Result<(),
 #[test]
 fn long_contents_are_cut(rt: HostRuntime) -> Result<(), Fail> {
     are_cut(
-        &rt,
+        rt.alloc(),
         &[
             (
                 "123456789012345678901234567890123456789012345678901234567890",

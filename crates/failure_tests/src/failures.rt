@@ -1,15 +1,15 @@
 //! Where programs fail, each row programs in words, a tree, and what is told of a run of them in turn.
 
+use crate::differences::tree;
 use explained_text::push_failure;
 use failure_search::{Failed, find_failure};
 use fs_lang::{Program, Tree};
 use fs_replay::are_below;
 use rh_base::Text;
 use std::alloc::Global;
-use std::process::Abort;
 use std::test::Fail;
 use test_programs::programs;
-use tree_text::tree_from_json;
+use test_rows::same;
 
 /// The numbers below this one, in turn.
 fn numbers(alloc: Global, n: usize) -> Result<Vec<u32>, Fail> {
@@ -20,57 +20,66 @@ fn numbers(alloc: Global, n: usize) -> Result<Vec<u32>, Fail> {
     Ok(order)
 }
 
-fn shown(alloc: Global, found: Option<Failed>) -> Result<Text, Fail> {
+fn push_failed(alloc: Global, failed: &Failed, text: &mut Text) -> Result<(), Fail> {
+    let name = format!(in alloc; "{}", failed.resource)?;
+    push_failure(alloc, name.as_str(), &failed.failure, text)?;
+    Ok(())
+}
+
+fn shown(alloc: Global, found: &Option<Failed>) -> Result<Text, Fail> {
     let mut text = Text::new(alloc);
     match found {
-        None => text.push("ends").ok().ok_or("memory")?,
-        Some(failed) => {
-            let name = format!(in alloc; "{}", failed.resource)?;
-            push_failure(alloc, name.as_str(), &failed.failure, &mut text)
-                .ok()
-                .ok_or("memory")?;
-        }
+        None => text.push("ends")?,
+        Some(failed) => push_failed(alloc, failed, &mut text)?,
     }
     Ok(text)
 }
 
-/// What is told of a run of programs in turn.
-fn told_of(
-    rt: &impl Abort,
-    alloc: Global,
-    programs: &[Program],
-    from: &Tree,
-) -> Result<Text, Fail> {
-    let order = numbers(alloc, programs.len())?;
-    assert!(rt; are_below(&order, programs.len()), "numbers of programs");
-    let found = find_failure(alloc, programs, &order, from)
-        .ok()
-        .expect(rt, "memory");
-    shown(alloc, found)
+/// What is told of a run of programs in this order.
+fn told_in(alloc: Global, programs: &[Program], order: &[u32], from: &Tree) -> Result<Text, Fail> {
+    if !are_below(order, programs.len()) {
+        return Err("numbers that are of no program".into());
+    }
+    let found = find_failure(alloc, programs, order, from)?;
+    shown(alloc, &found)
 }
 
-fn told(rt: &impl Abort, alloc: Global, words: &str, tree: &str) -> Result<Text, Fail> {
-    let programs = programs(alloc, words).ok().expect(rt, "programs");
-    let from = tree_from_json(alloc, tree.as_bytes())
-        .ok()
-        .expect(rt, "a tree");
-    told_of(rt, alloc, programs.as_slice(), &from)
+/// What is told of a run of programs in turn.
+fn told_of(alloc: Global, programs: &[Program], from: &Tree) -> Result<Text, Fail> {
+    let order = numbers(alloc, programs.len())?;
+    told_in(alloc, programs, &order, from)
+}
+
+fn told_from(alloc: Global, words: &str, from: &Tree) -> Result<Text, Fail> {
+    match programs(alloc, words) {
+        Ok(programs) => told_of(alloc, programs.as_slice(), from),
+        Err(_) => Err("no programs".into()),
+    }
+}
+
+fn told(alloc: Global, words: &str, text: &str) -> Result<Text, Fail> {
+    let from = tree(alloc, text)?;
+    told_from(alloc, words, &from)
+}
+
+fn is_failing(alloc: Global, words: &str, tree: &str, want: &str) -> Result<(), Fail> {
+    let found = told(alloc, words, tree)?;
+    let step = found.as_str().strip_prefix("fails at 0: ");
+    same(alloc, words, step.unwrap_or("it ends"), want)
 }
 
 /// Each construct, run on the tree beside it, fails so.
-fn are_failing(rt: &(impl Abort + AllocGlobal), rows: &[(&str, &str, &str)]) -> Result<(), Fail> {
+fn are_failing(alloc: Global, rows: &[(&str, &str, &str)]) -> Result<(), Fail> {
     for (words, tree, want) in rows {
-        let found = told(rt, rt.alloc(), *words, *tree)?;
-        let step = found.as_str().strip_prefix("fails at 0: ");
-        assert_eq!(rt; step, Some(*want), "{words} {tree}");
+        is_failing(alloc, *words, *tree, *want)?;
     }
     Ok(())
 }
 
 #[test]
-fn constructs_that_fail(rt: HostRuntime) -> Result<(), Fail> {
+fn creations_that_fail(rt: HostRuntime) -> Result<(), Fail> {
     are_failing(
-        &rt,
+        rt.alloc(),
         &[
             ("mkdir /a", r#"{"/a":null}"#, r#"mkdir "/a": exists"#),
             ("mkdir /", "{}", r#"mkdir "/": exists"#),
@@ -84,6 +93,15 @@ fn constructs_that_fail(rt: HostRuntime) -> Result<(), Fail> {
             ("creat /a/b x", "{}", r#"creat "/a/b": no folder "/a""#),
             ("link /a /b", r#"{"/a":"x"}"#, r#"link "/a": exists"#),
             ("link /a/b /c", "{}", r#"link "/a/b": no folder "/a""#),
+        ],
+    )
+}
+
+#[test]
+fn copies_that_fail(rt: HostRuntime) -> Result<(), Fail> {
+    are_failing(
+        rt.alloc(),
+        &[
             ("cp /a /b", "{}", r#"cp "/a" "/b": no file "/a""#),
             (
                 "cp /a /b",
@@ -100,6 +118,15 @@ fn constructs_that_fail(rt: HostRuntime) -> Result<(), Fail> {
                 r#"{"/a":"x"}"#,
                 r#"cp "/a" "/b/c": no folder "/b""#,
             ),
+        ],
+    )
+}
+
+#[test]
+fn removals_that_fail(rt: HostRuntime) -> Result<(), Fail> {
+    are_failing(
+        rt.alloc(),
+        &[
             ("rm /a", "{}", r#"rm "/a": nothing there"#),
             (
                 "rm /a",
@@ -108,6 +135,15 @@ fn constructs_that_fail(rt: HostRuntime) -> Result<(), Fail> {
             ),
             ("rm /", r#"{"/a":null}"#, r#"rm "/": not empty"#),
             ("rm /", "{}", r#"rm "/": the root"#),
+        ],
+    )
+}
+
+#[test]
+fn conditions_and_sequences_that_fail(rt: HostRuntime) -> Result<(), Fail> {
+    are_failing(
+        rt.alloc(),
+        &[
             ("err", "{}", "err"),
             ("if file? /a: id, err", "{}", r#"needs file?("/a")"#),
             (
@@ -129,11 +165,15 @@ fn constructs_that_fail(rt: HostRuntime) -> Result<(), Fail> {
     )
 }
 
+fn is_told(alloc: Global, words: &str, tree: &str, want: &str) -> Result<(), Fail> {
+    let found = told(alloc, words, tree)?;
+    same(alloc, words, found.as_str(), want)
+}
+
 /// This is told of programs that are run in turn on the tree beside them.
-fn are_told(rt: &(impl Abort + AllocGlobal), rows: &[(&str, &str, &str)]) -> Result<(), Fail> {
+fn are_told(alloc: Global, rows: &[(&str, &str, &str)]) -> Result<(), Fail> {
     for (words, tree, want) in rows {
-        let found = told(rt, rt.alloc(), *words, *tree)?;
-        assert_eq!(rt; found.as_str(), *want, "{words} {tree}");
+        is_told(alloc, *words, *tree, *want)?;
     }
     Ok(())
 }
@@ -141,7 +181,7 @@ fn are_told(rt: &(impl Abort + AllocGlobal), rows: &[(&str, &str, &str)]) -> Res
 #[test]
 fn resources_that_fail(rt: HostRuntime) -> Result<(), Fail> {
     are_told(
-        &rt,
+        rt.alloc(),
         &[
             ("", "{}", "ends"),
             ("mkdir /a | mkdir /a/b", "{}", "ends"),

@@ -1,20 +1,28 @@
 //! Lines and columns.
 
-use std::process::Abort;
+use std::alloc::Global;
+use std::test::Fail;
+use test_rows::same_number;
 use text_places::place_of;
 
+fn is_placed(alloc: Global, text: &str, at: usize, line: usize, column: usize) -> Result<(), Fail> {
+    let place = place_of(text.as_bytes(), at);
+    same_number(alloc, text, place.line as u64, line as u64)?;
+    same_number(alloc, text, place.column as u64, column as u64)
+}
+
 /// Each row: a text, a byte of it, and the line and column of this byte.
-fn are_placed(rt: &impl Abort, rows: &[(&str, usize, usize, usize)]) {
+fn are_placed(alloc: Global, rows: &[(&str, usize, usize, usize)]) -> Result<(), Fail> {
     for (text, at, line, column) in rows {
-        let place = place_of(text.as_bytes(), *at);
-        assert_eq!(rt; (place.line, place.column), (*line, *column), "{text} {at}");
+        is_placed(alloc, *text, *at, *line, *column)?;
     }
+    Ok(())
 }
 
 #[test]
-fn places_of_bytes(rt: HostRuntime) {
+fn places_of_bytes(rt: HostRuntime) -> Result<(), Fail> {
     are_placed(
-        &rt,
+        rt.alloc(),
         &[
             ("", 0usize, 1usize, 1usize),
             ("ab", 1, 1, 2),
@@ -25,5 +33,5 @@ fn places_of_bytes(rt: HostRuntime) {
             ("ü\r\nx", 3, 1, 4),
             ("ab", 9, 1, 3),
         ],
-    );
+    )
 }

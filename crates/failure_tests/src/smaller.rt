@@ -1,87 +1,115 @@
 //! Smaller trees that show the same, each row programs in words, orders, a tree and what is left of it.
 
+use crate::differences::tree;
 use fs_lang::{Path, Program, Tree};
 use fs_replay::are_below;
 use smaller_witness::{smaller_again, smaller_apart};
 use std::alloc::Global;
-use std::process::Abort;
+use std::test::Fail;
 use test_programs::programs;
-use tree_text::{tree_from_json, tree_to_json};
+use test_rows::same;
+use tree_text::tree_to_json;
+
+fn path(alloc: Global, text: &str) -> Result<Path, Fail> {
+    match Path::read(alloc, text) {
+        Ok(path) => Ok(path),
+        Err(_) => Err("no path".into()),
+    }
+}
 
 /// The folders that words name.
-fn folders(rt: &impl Abort, alloc: Global, words: &str) -> Vec<Path> {
+fn folders(alloc: Global, words: &str) -> Result<Vec<Path>, Fail> {
     let mut all = Vec::new(alloc);
     for text in words.split(' ') {
         if !text.is_empty() {
-            let p = Path::read(alloc, text).ok().expect(rt, "a path");
-            all.push(p).ok().expect(rt, "memory");
+            all.push(path(alloc, text)?)?;
         }
     }
-    all
-}
-
-fn shown(rt: &impl Abort, alloc: Global, tree: &Tree) -> Vec<u8> {
-    let mut bytes = Vec::new(alloc);
-    tree_to_json(alloc, tree, &mut bytes)
-        .ok()
-        .expect(rt, "memory");
-    bytes
+    Ok(all)
 }
 
 /// A smaller tree from which programs end apart in the two orders; or in a second run in the first one, where there is no other.
 fn smaller(
-    rt: &impl Abort,
     alloc: Global,
     programs: &[Program],
     orders: (&[u32], &[u32]),
     from: &Tree,
     given: &[Path],
-) -> Tree {
+) -> Result<Tree, Fail> {
     let (first, second) = orders;
-    assert!(rt; are_below(first, programs.len()), "numbers of programs");
-    assert!(rt; are_below(second, programs.len()), "numbers of programs");
-    let found = if second.is_empty() {
-        smaller_again(alloc, programs, first, from, given)
+    if !are_below(first, programs.len()) || !are_below(second, programs.len()) {
+        return Err("numbers that are of no program".into());
+    }
+    if second.is_empty() {
+        Ok(smaller_again(alloc, programs, first, from, given)?)
     } else {
-        smaller_apart(alloc, programs, first, second, from, given)
-    };
-    found.ok().expect(rt, "memory")
-}
-
-/// What is left of a tree. The given folders stay.
-fn left(
-    rt: &impl Abort,
-    alloc: Global,
-    words: &str,
-    orders: (&[u32], &[u32]),
-    tree: &str,
-    given: &[Path],
-) -> Vec<u8> {
-    let programs = programs(alloc, words).ok().expect(rt, "programs");
-    let from = tree_from_json(alloc, tree.as_bytes())
-        .ok()
-        .expect(rt, "a tree");
-    let found = smaller(rt, alloc, programs.as_slice(), orders, &from, given);
-    shown(rt, alloc, &found)
-}
-
-/// Each row: programs, a tree, the given folders, and what is left of the tree.
-fn are_left(
-    rt: &(impl Abort + AllocGlobal),
-    orders: (&[u32], &[u32]),
-    rows: &[(&str, &str, &str, &str)],
-) {
-    for (words, tree, given, want) in rows {
-        let folders = folders(rt, rt.alloc(), *given);
-        let found = left(rt, rt.alloc(), *words, orders, *tree, &folders);
-        assert_eq!(rt; found.as_slice(), want.as_bytes(), "{words} {tree} {given}");
+        Ok(smaller_apart(alloc, programs, first, second, from, given)?)
     }
 }
 
+/// Programs in words, a tree, the given folders, and what is left of the tree.
+type Row = (&'static str, &'static str, &'static str, &'static str);
+
+/// The text of a tree is a row's last.
+fn is_text(alloc: Global, row: &Row, tree: &Tree) -> Result<(), Fail> {
+    let mut bytes = Vec::new(alloc);
+    tree_to_json(alloc, tree, &mut bytes)?;
+    let text = str::from_utf8(&bytes).unwrap_or("no text");
+    same(alloc, row.0, text, row.3)
+}
+
+fn programs_leave(
+    alloc: Global,
+    row: &Row,
+    orders: (&[u32], &[u32]),
+    programs: &[Program],
+    from: &Tree,
+    given: &[Path],
+) -> Result<(), Fail> {
+    let left = smaller(alloc, programs, orders, from, given)?;
+    is_text(alloc, row, &left)
+}
+
+fn words_leave(
+    alloc: Global,
+    row: &Row,
+    orders: (&[u32], &[u32]),
+    from: &Tree,
+    given: &[Path],
+) -> Result<(), Fail> {
+    match programs(alloc, row.0) {
+        Ok(all) => programs_leave(alloc, row, orders, all.as_slice(), from, given),
+        Err(_) => Err("no programs".into()),
+    }
+}
+
+fn tree_leaves(
+    alloc: Global,
+    row: &Row,
+    orders: (&[u32], &[u32]),
+    given: &[Path],
+) -> Result<(), Fail> {
+    let from = tree(alloc, row.1)?;
+    words_leave(alloc, row, orders, &from, given)
+}
+
+fn is_left(alloc: Global, orders: (&[u32], &[u32]), row: &Row) -> Result<(), Fail> {
+    let given = folders(alloc, row.2)?;
+    tree_leaves(alloc, row, orders, &given)
+}
+
+/// In these orders each row's tree is left so. The given folders stay.
+fn are_left(alloc: Global, orders: (&[u32], &[u32]), rows: &[Row]) -> Result<(), Fail> {
+    for row in rows {
+        is_left(alloc, orders, row)?;
+    }
+    Ok(())
+}
+
 #[test]
-fn trees_that_show_the_same(rt: HostRuntime) {
+fn trees_that_show_the_same(rt: HostRuntime) -> Result<(), Fail> {
     are_left(
-        &rt,
+        rt.alloc(),
         (&[0, 1], &[1, 0]),
         &[
             (
@@ -105,13 +133,13 @@ fn trees_that_show_the_same(rt: HostRuntime) {
             ),
             ("mkdir /a | mkdir /b", r#"{"/c":"d"}"#, "", r#"{"/c":"d"}"#),
         ],
-    );
+    )
 }
 
 #[test]
-fn trees_that_show_the_same_of_a_second_run(rt: HostRuntime) {
+fn trees_that_show_the_same_of_a_second_run(rt: HostRuntime) -> Result<(), Fail> {
     are_left(
-        &rt,
+        rt.alloc(),
         (&[0], &[]),
         &[
             (
@@ -127,5 +155,5 @@ fn trees_that_show_the_same_of_a_second_run(rt: HostRuntime) {
                 r#"{"/s":"x","/z":null}"#,
             ),
         ],
-    );
+    )
 }
