@@ -5,6 +5,7 @@ use bool_circuit::{Circuit, Gate, Wire};
 use rh_base::NoMemory;
 use std::process::Abort;
 use std::test::Fail;
+use test_rows::same_number;
 
 const A: Wire = Wire(0);
 
@@ -23,7 +24,7 @@ const BOTH: Wire = Wire(6);
 const CHOICE: Wire = Wire(7);
 
 /// What each gate is answered with, and how many wires there are then.
-const ASKED: [(Gate, Wire, u64); 28] = [
+const ASKED: &[(Gate, Wire, u64)] = &[
     (Gate::Input(0), A, 1),
     (Gate::Input(1), B, 2),
     (Gate::Input(2), C, 3),
@@ -55,71 +56,96 @@ const ASKED: [(Gate, Wire, u64); 28] = [
     (Gate::Mux(A, B, C), CHOICE, 8),
 ];
 
+fn word(gate: &Gate) -> &'static str {
+    match gate {
+        Gate::Input(_) => "input",
+        Gate::Constant(_) => "constant",
+        Gate::Not(_) => "not",
+        Gate::And(_, _) => "and",
+        Gate::Mux(_, _, _) => "mux",
+    }
+}
+
+fn is_answered(
+    rt: &(impl Abort + AllocGlobal),
+    circuit: &mut Circuit,
+    row: &(Gate, Wire, u64),
+) -> Result<(), Fail> {
+    let (gate, wire, wires) = *row;
+    let found = ask(rt, circuit, gate)?;
+    same_number(rt.alloc(), word(&gate), found.0, wire.0)?;
+    same_number(rt.alloc(), word(&gate), circuit.wires(), wires)
+}
+
 /// Asks for gates one after the other.
 fn ask_all(
-    rt: &impl Abort,
+    rt: &(impl Abort + AllocGlobal),
     circuit: &mut Circuit,
     rows: &[(Gate, Wire, u64)],
-) -> Result<(), NoMemory> {
-    for (gate, wire, wires) in rows {
-        let found = ask(rt, circuit, *gate)?;
-        assert_eq!(rt; found, *wire, "for {gate:?}");
-        assert_eq!(rt; circuit.wires(), *wires, "after {gate:?}");
+) -> Result<(), Fail> {
+    for row in rows {
+        is_answered(rt, circuit, row)?;
     }
     Ok(())
 }
 
 /// A circuit in which all of these were asked for.
-fn asked(rt: &(impl Abort + AllocGlobal)) -> Result<Circuit, NoMemory> {
+fn asked(rt: &(impl Abort + AllocGlobal)) -> Result<Circuit, Fail> {
     let mut circuit = Circuit::new(rt.alloc())?;
-    ask_all(rt, &mut circuit, &ASKED)?;
+    ask_all(rt, &mut circuit, ASKED)?;
     Ok(circuit)
+}
+
+fn has_gate(rt: &impl Abort, circuit: &Circuit, wire: Wire, gate: Gate) {
+    assert!(rt; wire.0 < circuit.wires());
+    assert!(rt; circuit.gate(wire) == gate);
 }
 
 /// Each wire has its gate.
 fn have_gates(rt: &impl Abort, circuit: &Circuit, rows: &[(Gate, Wire, u64)]) {
     for (gate, wire, _) in rows {
-        assert!(rt; wire.0 < circuit.wires());
-        assert_eq!(rt; circuit.gate(*wire), *gate);
+        has_gate(rt, circuit, *wire, *gate);
     }
+}
+
+/// The circuit has three inputs, and each wire the gate that was asked for first.
+fn has_first_gates(rt: &impl Abort, circuit: &Circuit) {
+    assert!(rt; circuit.inputs() == 3);
+    have_gates(rt, circuit, ASKED.get(..8).unwrap_or(ASKED));
 }
 
 #[test]
 fn equal_gates_are_shared_and_what_folds_is_folded(rt: HostRuntime) -> Result<(), Fail> {
     let circuit = asked(&rt)?;
-    assert_eq!(rt; circuit.inputs(), 3);
-    have_gates(&rt, &circuit, &ASKED[..8]);
+    has_first_gates(&rt, &circuit);
     Ok(())
 }
 
 /// The and of all three inputs.
 const ALL: Wire = Wire(8);
 
+const LOOKED_THROUGH: &[(Gate, Wire, u64)] = &[
+    (Gate::And(BOTH, C), ALL, 9),
+    (Gate::And(A, ALL), ALL, 9),
+    (Gate::And(ALL, B), ALL, 9),
+    (Gate::And(NOT_A, ALL), NO, 9),
+    // the opposite of all three stands in between
+    (Gate::Mux(ALL, A, NO), ALL, 10),
+];
+
 #[test]
 fn and_gates_are_looked_through(rt: HostRuntime) -> Result<(), Fail> {
     let mut circuit = asked(&rt)?;
-    ask_all(
-        &rt,
-        &mut circuit,
-        &[
-            (Gate::And(BOTH, C), ALL, 9),
-            (Gate::And(A, ALL), ALL, 9),
-            (Gate::And(ALL, B), ALL, 9),
-            (Gate::And(NOT_A, ALL), NO, 9),
-            // the opposite of all three stands in between
-            (Gate::Mux(ALL, A, NO), ALL, 10),
-        ],
-    )?;
-    Ok(())
+    ask_all(&rt, &mut circuit, LOOKED_THROUGH)
 }
 
 /// The eight wires that are asked for first have these values.
 fn has_all_values(rt: &impl Abort, circuit: &Circuit, inputs: &[bool; 3], wanted: &[bool; 8]) {
     let mut values = [true; 8];
-    assert_eq!(rt; circuit.inputs(), 3);
-    assert_eq!(rt; circuit.wires(), 8);
+    assert!(rt; circuit.inputs() == 3);
+    assert!(rt; circuit.wires() == 8);
     circuit.value(inputs, &mut values);
-    assert_eq!(rt; values, *wanted, "at {inputs:?}");
+    assert!(rt; values == *wanted);
 }
 
 /// The wires have these values at the inputs beside them.
@@ -160,19 +186,18 @@ fn wires_have_their_values(rt: HostRuntime) -> Result<(), Fail> {
     )
 }
 
-/// A circuit in which two lists of wires are compared, and the wire that says whether they are equal.
+/// The wire that says whether two lists of wires are equal.
 fn compared(
-    rt: &(impl Abort + AllocGlobal),
+    rt: &impl Abort,
+    circuit: &mut Circuit,
     left: &[Wire],
     right: &[Wire],
-) -> Result<(Circuit, Wire), NoMemory> {
-    let mut circuit = asked(rt)?;
+) -> Result<Wire, NoMemory> {
     let wires = circuit.wires();
-    assert_eq!(rt; left.len(), right.len());
+    assert!(rt; left.len() == right.len());
     assert!(rt; left.iter().all(|w| w.0 < wires));
     assert!(rt; right.iter().all(|w| w.0 < wires));
-    let equal = circuit.equal(left, right)?;
-    Ok((circuit, equal))
+    circuit.equal(left, right)
 }
 
 /// The value of a wire at the first two inputs, with the third false.
@@ -184,10 +209,23 @@ fn value_at(
     b: bool,
 ) -> Result<Option<bool>, Fail> {
     let mut values = vec![in rt.alloc(); false; circuit.wires() as usize]?;
-    assert_eq!(rt; circuit.inputs(), 3);
-    assert_eq!(rt; circuit.wires() as usize, values.len());
+    assert!(rt; circuit.inputs() == 3);
+    assert!(rt; circuit.wires() as usize == values.len());
     circuit.value(&[a, b, false], &mut values);
     Ok(values.get(wire.0 as usize).copied())
+}
+
+/// A wire has this value at the values of the first two inputs that the bits of a number are.
+fn has_value(
+    rt: &(impl Abort + AllocGlobal),
+    circuit: &Circuit,
+    wire: Wire,
+    bits: usize,
+    want: bool,
+) -> Result<(), Fail> {
+    let found = value_at(rt, circuit, wire, bits & 2 != 0, bits & 1 != 0)?;
+    assert!(rt; found == Some(want));
+    Ok(())
 }
 
 /// A wire has these values at the four values of the first two inputs.
@@ -197,11 +235,31 @@ fn has_values(
     wire: Wire,
     wanted: &[bool],
 ) -> Result<(), Fail> {
-    for (row, want) in wanted.iter().enumerate() {
-        let found = value_at(rt, circuit, wire, row & 2 != 0, row & 1 != 0)?;
-        assert_eq!(rt; found, Some(*want));
+    for (bits, want) in wanted.iter().enumerate() {
+        has_value(rt, circuit, wire, bits, *want)?;
     }
     Ok(())
+}
+
+fn has_comparison(
+    rt: &(impl Abort + AllocGlobal),
+    circuit: &mut Circuit,
+    left: &[Wire],
+    right: &[Wire],
+    wanted: &[bool],
+) -> Result<(), Fail> {
+    let equal = compared(rt, circuit, left, right)?;
+    has_values(rt, circuit, equal, wanted)
+}
+
+fn is_compared(
+    rt: &(impl Abort + AllocGlobal),
+    left: &[Wire],
+    right: &[Wire],
+    wanted: &[bool],
+) -> Result<(), Fail> {
+    let mut circuit = asked(rt)?;
+    has_comparison(rt, &mut circuit, left, right, wanted)
 }
 
 /// The comparison of the lists has the values beside them.
@@ -210,8 +268,7 @@ fn are_compared(
     rows: &[(&[Wire], &[Wire], [bool; 4])],
 ) -> Result<(), Fail> {
     for (left, right, wanted) in rows {
-        let (circuit, equal) = compared(rt, *left, *right)?;
-        has_values(rt, &circuit, equal, wanted)?;
+        is_compared(rt, *left, *right, wanted)?;
     }
     Ok(())
 }
