@@ -1,12 +1,13 @@
 //! Rows of classes, defined types, nodes and class data.
 use crate::answers::{are_compiled, compiled_under};
-use std::process::Abort;
+use crate::labels::same_of;
+use std::alloc::Global;
 use std::test::Fail;
 
 #[test]
 fn classes_run_once(rt: HostRuntime) -> Result<(), Fail> {
     are_compiled(
-        &rt,
+        rt.alloc(),
         &[
             (
                 "class c { file { '/c': } } include c include c",
@@ -45,29 +46,30 @@ fn classes_run_once(rt: HostRuntime) -> Result<(), Fail> {
 }
 
 /// Texts, references to classes, and lists of these.
-const NAMED: [(&str, &str); 8] = [
-    ("class c { } include Class['c']", "Class[c]; "),
-    ("class c { } include '::C'", "Class[c]; "),
-    ("class c { } include []", ""),
-    (
-        "class c { } class d { } include ['c', Class['d']]",
-        "Class[c]; Class[d]; ",
-    ),
-    (
-        "class c { } class d { } include c, ['d', 'c']",
-        "Class[c]; Class[d]; ",
-    ),
-    ("class c { } contain c", "Class[c]; "),
-    ("class c { } require c", "Class[c]; "),
-    (
-        "class a { $x = 'q' } class b inherits a { } include b file { '/f': content => $b::x }",
-        "Class[a]; Class[b]; File[/f] content=q; ",
-    ),
-];
-
 #[test]
 fn classes_are_named(rt: HostRuntime) -> Result<(), Fail> {
-    are_compiled(&rt, &NAMED)
+    are_compiled(
+        rt.alloc(),
+        &[
+            ("class c { } include Class['c']", "Class[c]; "),
+            ("class c { } include '::C'", "Class[c]; "),
+            ("class c { } include []", ""),
+            (
+                "class c { } class d { } include ['c', Class['d']]",
+                "Class[c]; Class[d]; ",
+            ),
+            (
+                "class c { } class d { } include c, ['d', 'c']",
+                "Class[c]; Class[d]; ",
+            ),
+            ("class c { } contain c", "Class[c]; "),
+            ("class c { } require c", "Class[c]; "),
+            (
+                "class a { $x = 'q' } class b inherits a { } include b file { '/f': content => $b::x }",
+                "Class[a]; Class[b]; File[/f] content=q; ",
+            ),
+        ],
+    )
 }
 
 /// A text, its facts, its node and its class data, and the catalog that it has, or the refusal.
@@ -79,11 +81,16 @@ type Row = (
     &'static str,
 );
 
-/// Each text has the catalog beside it, or the refusal.
-fn are_compiled_under(rt: &(impl Abort + AllocGlobal), rows: &[Row]) -> Result<(), Fail> {
-    for (text, facts, node, levels, want) in rows {
-        let found = compiled_under(rt.alloc(), *text, *facts, *node, *levels)?;
-        assert_eq!(rt; found.as_str(), *want, "{text} {facts} {node}");
+fn is_compiled_under(alloc: Global, row: &Row) -> Result<(), Fail> {
+    let (text, facts, node, levels, want) = *row;
+    let line = compiled_under(alloc, text, facts, node, levels)?;
+    same_of(alloc, &[text, " ", facts, " ", node], line.as_str(), want)
+}
+
+/// Each row: a text, facts, a node, class data, and the catalog, or the refusal.
+fn are_compiled_under(alloc: Global, rows: &[Row]) -> Result<(), Fail> {
+    for row in rows {
+        is_compiled_under(alloc, row)?;
     }
     Ok(())
 }
@@ -95,7 +102,7 @@ const TWO_NODES: &str =
 #[test]
 fn nodes_have_their_block(rt: HostRuntime) -> Result<(), Fail> {
     are_compiled_under(
-        &rt,
+        rt.alloc(),
         &[
             (TWO_NODES, "{}", "a", "", "File[/a] content=u; "),
             (TWO_NODES, "{}", "A", "", "File[/a] content=u; "),
@@ -119,7 +126,7 @@ const TWO_LEVELS: &str =
 #[test]
 fn class_data_give_parameters(rt: HostRuntime) -> Result<(), Fail> {
     are_compiled_under(
-        &rt,
+        rt.alloc(),
         &[
             (
                 INCLUDED,

@@ -6,7 +6,13 @@ mod answers;
 #[cfg(test)]
 mod definitions;
 #[cfg(test)]
+mod depths;
+#[cfg(test)]
+mod labels;
+#[cfg(test)]
 mod limits;
+#[cfg(test)]
+mod lines;
 #[cfg(test)]
 mod refusals;
 #[cfg(test)]

@@ -5,7 +5,7 @@ use std::test::Fail;
 #[test]
 fn resources_have_their_attributes_and_defaults(rt: HostRuntime) -> Result<(), Fail> {
     are_compiled(
-        &rt,
+        rt.alloc(),
         &[
             ("", ""),
             (
@@ -53,7 +53,7 @@ fn resources_have_their_attributes_and_defaults(rt: HostRuntime) -> Result<(), F
 #[test]
 fn conditions_choose_one_block(rt: HostRuntime) -> Result<(), Fail> {
     are_compiled(
-        &rt,
+        rt.alloc(),
         &[
             (
                 "if true { file { '/a': } } else { file { '/b': } }",
@@ -88,7 +88,7 @@ fn conditions_choose_one_block(rt: HostRuntime) -> Result<(), Fail> {
 #[test]
 fn facts_are_variables(rt: HostRuntime) -> Result<(), Fail> {
     are_compiled_with(
-        &rt,
+        rt.alloc(),
         "{\"os\":{\"family\":\"Debian\"},\"load\":0.5}",
         &[
             (

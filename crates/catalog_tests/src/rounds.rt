@@ -5,7 +5,7 @@ use std::test::Fail;
 #[test]
 fn defined_resources_run(rt: HostRuntime) -> Result<(), Fail> {
     are_compiled(
-        &rt,
+        rt.alloc(),
         &[
             (
                 "define d($p) { file { $title: content => $p } } d { '/x': p => 'q' } d { '/y': p => 'r' }",
@@ -24,7 +24,7 @@ fn defined_resources_run(rt: HostRuntime) -> Result<(), Fail> {
 #[test]
 fn collectors_make_real(rt: HostRuntime) -> Result<(), Fail> {
     are_compiled(
-        &rt,
+        rt.alloc(),
         &[
             ("@file { '/v': content => 'x' }", "@File[/v] content=x; "),
             (

@@ -1,13 +1,18 @@
 //! Rows of the text of a catalog.
 use crate::answers::text_of;
-use std::process::Abort;
+use std::alloc::Global;
 use std::test::Fail;
+use test_rows::same;
 
-/// The catalog of each manifest has the text beside it, or the manifest is refused so.
-fn are_printed(rt: &(impl Abort + AllocGlobal), rows: &[(&str, &str)]) -> Result<(), Fail> {
+fn is_printed(alloc: Global, text: &str, want: &str) -> Result<(), Fail> {
+    let printed = text_of(alloc, text)?;
+    same(alloc, text, printed.as_str(), want)
+}
+
+/// Each row: a manifest, and the text of its catalog, or the refusal.
+fn are_printed(alloc: Global, rows: &[(&str, &str)]) -> Result<(), Fail> {
     for (text, want) in rows {
-        let found = text_of(rt.alloc(), *text)?;
-        assert_eq!(rt; found.as_str(), *want, "{text}");
+        is_printed(alloc, *text, *want)?;
     }
     Ok(())
 }
@@ -15,7 +20,7 @@ fn are_printed(rt: &(impl Abort + AllocGlobal), rows: &[(&str, &str)]) -> Result
 #[test]
 fn real_resources_are_printed_with_their_attributes(rt: HostRuntime) -> Result<(), Fail> {
     are_printed(
-        &rt,
+        rt.alloc(),
         &[
             (
                 "File { mode => '0644' } file { '/a': content => 'x' }",
