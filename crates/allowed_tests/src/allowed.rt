@@ -9,9 +9,8 @@ use host_limits::Limits;
 use orders::Order;
 use pp_value::{Pairs, Ref};
 use std::alloc::Global;
-use std::process::Abort;
 use std::test::Fail;
-use test_rows::{refused, text};
+use test_rows::{refused, same, text};
 
 /// Orders of three files behind a class, of which the first comes before the third.
 const ORDERS: &[(&str, &str)] = &[
@@ -42,17 +41,10 @@ const ORDERS: &[(&str, &str)] = &[
     ("[", "63 at 0: order"),
 ];
 
-fn resource(alloc: Global, sort: Sort, kind: &str, title: &str) -> Result<Resource, Fail> {
+fn reference(alloc: Global, kind: &str, title: &str) -> Result<Ref, Fail> {
     let kind = text(alloc, kind)?;
     let title = text(alloc, title)?;
-    Ok(Resource {
-        id: Ref { kind, title },
-        sort,
-        is_virtual: false,
-        at: 0,
-        holder: None,
-        attrs: Pairs::new(alloc),
-    })
+    Ok(Ref { kind, title })
 }
 
 fn push(
@@ -62,8 +54,16 @@ fn push(
     kind: &str,
     title: &str,
 ) -> Result<(), Fail> {
-    let r = resource(alloc, sort, kind, title)?;
-    catalog.add(r, Limits::Usual)?;
+    let id = reference(alloc, kind, title)?;
+    let resource = Resource {
+        id,
+        sort,
+        is_virtual: false,
+        at: 0,
+        holder: None,
+        attrs: Pairs::new(alloc),
+    };
+    catalog.add(resource, Limits::Usual)?;
     Ok(())
 }
 
@@ -74,11 +74,15 @@ fn push_files(alloc: Global, catalog: &mut Catalog, titles: &[&str]) -> Result<(
     Ok(())
 }
 
+fn fill(alloc: Global, catalog: &mut Catalog) -> Result<(), Fail> {
+    push(alloc, catalog, Sort::Class, "class", "main")?;
+    push_files(alloc, catalog, &["/a", "/b", "/c"])
+}
+
 /// A class and three files.
 fn catalog(alloc: Global) -> Result<Catalog, Fail> {
     let mut catalog = Catalog::new(alloc);
-    push(alloc, &mut catalog, Sort::Class, "class", "main")?;
-    push_files(alloc, &mut catalog, &["/a", "/b", "/c"])?;
+    fill(alloc, &mut catalog)?;
     Ok(catalog)
 }
 
@@ -97,25 +101,42 @@ fn numbers(alloc: Global, positions: &[u32]) -> Result<String, Fail> {
     Ok(shown)
 }
 
-fn ordered(alloc: Global, text: &str) -> Result<String, Fail> {
-    let catalog = catalog(alloc)?;
-    let order = order(alloc)?;
-    match order_of(alloc, text.as_bytes(), &catalog, &[1, 2, 3], &order) {
+/// The positions in a catalog that a text names, each with a blank behind it; or the refusal.
+fn ordered_in(alloc: Global, text: &str, catalog: &Catalog, order: &Order) -> Result<String, Fail>
+    requires { order.now.count ≡ 3 }
+{
+    match order_of(alloc, text.as_bytes(), catalog, &[1, 2, 3], order) {
         Ok(positions) => numbers(alloc, positions.as_slice()),
         Err(fault) => Ok(refused(alloc, &fault)?),
     }
 }
 
+fn ordered_by(alloc: Global, text: &str, order: &Order) -> Result<String, Fail>
+    requires { order.now.count ≡ 3 }
+{
+    let catalog = catalog(alloc)?;
+    ordered_in(alloc, text, &catalog, order)
+}
+
+fn ordered(alloc: Global, text: &str) -> Result<String, Fail> {
+    let order = order(alloc)?;
+    ordered_by(alloc, text, &order)
+}
+
+fn is_ordered(alloc: Global, text: &str, want: &str) -> Result<(), Fail> {
+    let found = ordered(alloc, text)?;
+    same(alloc, text, found.as_str(), want)
+}
+
 /// The text of each row names the order beside it, or is refused.
-fn are_ordered(rt: &impl Abort, alloc: Global, rows: &[(&str, &str)]) -> Result<(), Fail> {
+fn are_ordered(alloc: Global, rows: &[(&str, &str)]) -> Result<(), Fail> {
     for (text, want) in rows {
-        let found = ordered(alloc, text)?;
-        assert_eq!(rt; found.as_str(), *want, "{text}");
+        is_ordered(alloc, *text, *want)?;
     }
     Ok(())
 }
 
 #[test]
 fn orders_that_are_allowed(rt: HostRuntime) -> Result<(), Fail> {
-    are_ordered(&rt, rt.alloc(), ORDERS)
+    are_ordered(rt.alloc(), ORDERS)
 }

@@ -3,9 +3,8 @@
 use order_text::{order_from_json, order_to_json};
 use rh_base::{Seq, Text};
 use std::alloc::Global;
-use std::process::Abort;
 use std::test::Fail;
-use test_rows::refused;
+use test_rows::{refused, same};
 
 /// The references that a text lists, each with `;` behind it; or the refusal.
 const TEXTS: &[(&str, &str)] = &[
@@ -70,32 +69,40 @@ fn rewritten(alloc: Global, text: &str) -> Result<String, Fail> {
     }
 }
 
+fn is_listed(alloc: Global, text: &str, want: &str) -> Result<(), Fail> {
+    let found = listed(alloc, text)?;
+    same(alloc, text, found.as_str(), want)
+}
+
 /// The text of each row lists the references beside it, or is refused.
-fn are_listed(rt: &impl Abort, alloc: Global, rows: &[(&str, &str)]) -> Result<(), Fail> {
+fn are_listed(alloc: Global, rows: &[(&str, &str)]) -> Result<(), Fail> {
     for (text, want) in rows {
-        let found = listed(alloc, text)?;
-        assert_eq!(rt; found.as_str(), *want, "{text}");
+        is_listed(alloc, *text, *want)?;
     }
     Ok(())
 }
 
 #[test]
 fn references_that_are_listed(rt: HostRuntime) -> Result<(), Fail> {
-    are_listed(&rt, rt.alloc(), TEXTS)
+    are_listed(rt.alloc(), TEXTS)
+}
+
+fn is_written(alloc: Global, text: &str, want: &str) -> Result<(), Fail> {
+    let found = rewritten(alloc, text)?;
+    same(alloc, text, found.as_str(), want)
 }
 
 /// The text of each row is written as it stands beside it.
-fn are_written(rt: &impl Abort, alloc: Global, rows: &[(&str, &str)]) -> Result<(), Fail> {
+fn are_written(alloc: Global, rows: &[(&str, &str)]) -> Result<(), Fail> {
     for (text, want) in rows {
-        let found = rewritten(alloc, text)?;
-        assert_eq!(rt; found.as_str(), *want, "{text}");
+        is_written(alloc, *text, *want)?;
     }
     Ok(())
 }
 
 #[test]
 fn orders_that_are_written(rt: HostRuntime) -> Result<(), Fail> {
-    are_written(&rt, rt.alloc(), WRITTEN)
+    are_written(rt.alloc(), WRITTEN)
 }
 
 /// What a text lists once it is written.
@@ -104,17 +111,21 @@ fn listed_again(alloc: Global, text: &str) -> Result<String, Fail> {
     listed(alloc, again.as_str())
 }
 
+/// What a text lists is listed again once it is written.
+fn is_read_back(alloc: Global, text: &str) -> Result<(), Fail> {
+    let again = listed_again(alloc, text)?;
+    is_listed(alloc, text, again.as_str())
+}
+
 /// What the text of each row lists is listed again once it is written.
-fn are_read_back(rt: &impl Abort, alloc: Global, rows: &[(&str, &str)]) -> Result<(), Fail> {
+fn are_read_back(alloc: Global, rows: &[(&str, &str)]) -> Result<(), Fail> {
     for (text, _) in rows {
-        let again = listed_again(alloc, text)?;
-        let once = listed(alloc, text)?;
-        assert_eq!(rt; again.as_str(), once.as_str(), "{text}");
+        is_read_back(alloc, *text)?;
     }
     Ok(())
 }
 
 #[test]
 fn written_orders_are_read_back(rt: HostRuntime) -> Result<(), Fail> {
-    are_read_back(&rt, rt.alloc(), WRITTEN)
+    are_read_back(rt.alloc(), WRITTEN)
 }
