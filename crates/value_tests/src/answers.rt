@@ -98,12 +98,18 @@ fn assigned_in(alloc: Global, text: &str, scopes: &mut Scopes) -> Result<String,
 }
 
 /// The same, where a text of facts is given.
+fn assigned_under(alloc: Global, facts: &str, text: &str) -> Result<String, Fault>
+    requires { length text.now < 2 ^ 32 }
+{
+    let mut scopes = scopes_of(alloc, facts)?;
+    Ok(assigned_in(alloc, text, &mut scopes)?)
+}
+
 pub fn assigned(alloc: Global, facts: &str, text: &str) -> Result<String, Fail> {
     if text.len() > 1_000_000 {
         return Err(Fail::from("a long text"));
     }
-    let mut scopes = scopes_of(alloc, facts)?;
-    Ok(assigned_in(alloc, text, &mut scopes)?)
+    Ok(assigned_under(alloc, facts, text)?)
 }
 
 fn is_assigned(alloc: Global, text: &str, want: &str) -> Result<(), Fail> {

@@ -90,9 +90,9 @@ fn list_of(alloc: Global, bytes: usize) -> Result<Value, Fail> {
 }
 
 /// The size of a sum.
-fn size_told(alloc: Global, sum: Result<Value, ValueFault>) -> Result<String, NoMemory> {
+fn size_told(alloc: Global, sum: &Result<Value, ValueFault>) -> Result<String, NoMemory> {
     match sum {
-        Ok(both) => number_text(alloc, size(&both)),
+        Ok(both) => number_text(alloc, size(both)),
         Err(ValueFault::Large) => joined(alloc, &["too large"]),
         Err(_) => joined(alloc, &["another fault"]),
     }
@@ -101,7 +101,8 @@ fn size_told(alloc: Global, sum: Result<Value, ValueFault>) -> Result<String, No
 /// The size of a list of one text of so many bytes, joined with another.
 fn size_with(alloc: Global, bytes: usize, other: &Value) -> Result<String, Fail> {
     let list = list_of(alloc, bytes)?;
-    Ok(size_told(alloc, add(alloc, list, other))?)
+    let sum = Boxed::new(alloc, add(alloc, list, other))?;
+    Ok(size_told(alloc, sum.get())?)
 }
 
 /// The size of such a list joined with itself.

@@ -41,9 +41,10 @@ fn are_found(alloc: Global, scopes: &Scopes, rows: &[(&str, &str)]) -> Result<()
     Ok(())
 }
 
-/// Binds two names where `x` is a fact, and finds what they were bound to first.
+/// Binds two names where `x` is a fact, and finds what they were bound to first; the facts stay a map.
 fn are_bound_once(alloc: Global, scopes: &mut Scopes) -> Result<(), Fail> {
     bind_two(alloc, scopes)?;
+    same(alloc, "facts", kind_of_facts(scopes), "map")?;
     are_found(
         alloc,
         scopes,
@@ -61,18 +62,6 @@ fn are_bound_once(alloc: Global, scopes: &mut Scopes) -> Result<(), Fail> {
 fn a_name_is_bound_once_in_a_scope(rt: HostRuntime) -> Result<(), Fail> {
     let mut scopes = scopes_of(rt.alloc(), "{\"x\": 1}")?;
     are_bound_once(rt.alloc(), &mut scopes)
-}
-
-/// Binds two names, and asks of what kind the facts are.
-fn facts_stay(alloc: Global, scopes: &mut Scopes) -> Result<(), Fail> {
-    bind_two(alloc, scopes)?;
-    same(alloc, "facts", kind_of_facts(scopes), "map")
-}
-
-#[test]
-fn facts_stay_a_map(rt: HostRuntime) -> Result<(), Fail> {
-    let mut scopes = scopes_of(rt.alloc(), "{\"x\": 1}")?;
-    facts_stay(rt.alloc(), &mut scopes)
 }
 
 fn is_plain(alloc: Global, name: &str, want: &str) -> Result<(), Fail> {

@@ -4,17 +4,19 @@ ghost use Rattle.std.specs.Prelude.{◌<◌, ◌^◌, length};
 use crate::answers::{FACTS, manifest_of, scopes_of};
 use crate::labels::same_of;
 use pp_eval::{Scopes, eval};
-use pp_syntax::{Item, Param};
+use pp_syntax::{Expr, Item, Param, TypeName};
 use pp_value::fits;
 use rh_base::{Boxed, Fault, NoMemory};
 use std::alloc::Global;
 use std::test::Fail;
 use test_rows::{joined, refused};
 
-fn fits_itself(alloc: Global, param: &Param, scopes: &Scopes) -> Result<&'static str, Fault> {
-    let (Some(kind), Some(value)) = (&param.kind, &param.default) else {
-        return Ok("no type");
-    };
+fn fits_type(
+    alloc: Global,
+    kind: &TypeName,
+    value: &Expr,
+    scopes: &Scopes,
+) -> Result<&'static str, Fault> {
     let value = Boxed::new(alloc, eval(alloc, value, scopes)?)?;
     if fits(value.get(), kind) {
         Ok("fits")
@@ -23,17 +25,28 @@ fn fits_itself(alloc: Global, param: &Param, scopes: &Scopes) -> Result<&'static
     }
 }
 
-fn first_fits(alloc: Global, text: &str, scopes: &Scopes) -> Result<&'static str, Fault>
-    requires { length text.now < 2 ^ 32 }
-{
-    let manifest = manifest_of(alloc, text)?;
-    match manifest.items.as_slice().first() {
+fn fits_itself(alloc: Global, param: &Param, scopes: &Scopes) -> Result<&'static str, Fault> {
+    match (&param.kind, &param.default) {
+        (Some(kind), Some(value)) => fits_type(alloc, kind, value, scopes),
+        _ => Ok("no type"),
+    }
+}
+
+fn first_param_fits(alloc: Global, items: &[Item], scopes: &Scopes) -> Result<&'static str, Fault> {
+    match items.first() {
         Some(Item::Define { params, .. }) => match params.as_slice().first() {
             Some(param) => fits_itself(alloc, param, scopes),
             None => Ok("no parameter"),
         },
-        _ => Ok("no type"),
+        _ => Ok("no definition"),
     }
+}
+
+fn first_fits(alloc: Global, text: &str, scopes: &Scopes) -> Result<&'static str, Fault>
+    requires { length text.now < 2 ^ 32 }
+{
+    let manifest = manifest_of(alloc, text)?;
+    first_param_fits(alloc, manifest.items.as_slice(), scopes)
 }
 
 fn told(alloc: Global, answer: Result<&'static str, Fault>) -> Result<String, NoMemory> {
@@ -44,12 +57,25 @@ fn told(alloc: Global, answer: Result<&'static str, Fault>) -> Result<String, No
 }
 
 /// Whether the default of the first parameter that a text defines fits its type.
+fn answer_in(alloc: Global, text: &str, scopes: &Scopes) -> Result<String, NoMemory>
+    requires { length text.now < 2 ^ 32 }
+{
+    told(alloc, first_fits(alloc, text, scopes))
+}
+
+/// The same under `FACTS`.
+fn answer_under(alloc: Global, text: &str) -> Result<String, Fault>
+    requires { length text.now < 2 ^ 32 }
+{
+    let scopes = scopes_of(alloc, FACTS)?;
+    Ok(answer_in(alloc, text, &scopes)?)
+}
+
 fn answer(alloc: Global, text: &str) -> Result<String, Fail> {
     if text.len() > 1_000 {
         return Err(Fail::from("a long text"));
     }
-    let scopes = scopes_of(alloc, FACTS)?;
-    Ok(told(alloc, first_fits(alloc, text, &scopes))?)
+    Ok(answer_under(alloc, text)?)
 }
 
 fn answer_of(alloc: Global, kind: &str, value: &str) -> Result<String, Fail> {
