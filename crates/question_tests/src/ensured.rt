@@ -1,30 +1,32 @@
 //! Entries that graphs ensure, each row with what is answered.
 
 use crate::judging::refused;
+use crate::labels::{same_at, same_of};
 use crate::programs::{one_in_turn, ordered, unordered};
 use determinism::First;
 use ensured_entry::{Ensured, Late, Wanted, judge_entry};
-use fs_lang::{Path, Program};
+use fs_lang::{Path, PathFault, Program};
 use order_encode::Witness;
 use orders::Order;
-use rh_base::{Fault, Text};
+use rh_base::{Boxed, Fault, NoMemory};
 use std::alloc::Global;
-use std::process::Abort;
 use std::test::Fail;
 use test_programs::programs;
+use test_rows::{joined, text};
 use verdict::Ends;
 
-fn text(alloc: Global, words: &str) -> Result<Text, Fail> {
-    Ok(Text::from_string(String::from_str(alloc, words)?))
+fn wanted_file(alloc: Global, path: &str, content: &str) -> Result<Wanted, PathFault> {
+    let path = Path::read(alloc, path)?;
+    Ok(Wanted {
+        path,
+        content: Some(text(alloc, content)?),
+    })
 }
 
 /// A path alone, or a path, a blank and a content.
-fn wanted(alloc: Global, words: &str) -> Result<Wanted, Fail> {
+fn wanted(alloc: Global, words: &str) -> Result<Wanted, PathFault> {
     match words.split_once(' ') {
-        Some((path, content)) => Ok(Wanted {
-            path: Path::read(alloc, path)?,
-            content: Some(text(alloc, content)?),
-        }),
+        Some((path, content)) => wanted_file(alloc, path, content),
         None => Ok(Wanted {
             path: Path::read(alloc, words)?,
             content: None,
@@ -70,14 +72,29 @@ fn answered(ensured: &Ensured) -> &'static str {
     }
 }
 
-fn shown(alloc: Global, judged: &Result<Ensured, Fault>) -> Result<String, Fail> {
+fn shown(alloc: Global, judged: &Result<Ensured, Fault>) -> Result<String, NoMemory> {
     match judged {
-        Ok(ensured) => Ok(String::from_str(alloc, answered(ensured))?),
+        Ok(ensured) => joined(alloc, &[answered(ensured)]),
         Err(fault) => refused(alloc, fault),
     }
 }
 
 /// What is answered of these programs and this entry.
+fn told_by(
+    alloc: Global,
+    programs: &[Program],
+    order: &Order,
+    wanted: &Wanted,
+    budget: u64,
+) -> Result<String, Fail> {
+    if order.count() as usize != programs.len() || budget == 0 {
+        return Err(Fail::from("as many nodes as programs, and a budget"));
+    }
+    let answer = Boxed::new(alloc, judge_entry(alloc, programs, order, wanted, budget))?;
+    Ok(shown(alloc, answer.get())?)
+}
+
+/// The same, of an entry in words.
 fn told(
     alloc: Global,
     programs: &[Program],
@@ -85,37 +102,49 @@ fn told(
     entry: &str,
     budget: u64,
 ) -> Result<String, Fail> {
-    if order.count() as usize != programs.len() || budget == 0 {
-        return Err(Fail::from("as many nodes as programs, and a budget"));
-    }
     let wanted = wanted(alloc, entry)?;
-    let judged = judge_entry(alloc, programs, order, &wanted, budget);
-    shown(alloc, &judged)
+    told_by(alloc, programs, order, &wanted, budget)
+}
+
+fn told_in(
+    alloc: Global,
+    programs: &[Program],
+    edges: &[(u32, u32)],
+    entry: &str,
+    budget: u64,
+) -> Result<String, Fail> {
+    let order = ordered(alloc, programs, edges)?;
+    told(alloc, programs, &order, entry, budget)
 }
 
 /// The same, with programs in words, in the order that edges make.
 fn told_of(
-    rt: &(impl Abort + AllocGlobal),
+    alloc: Global,
     words: &str,
     edges: &[(u32, u32)],
     entry: &str,
     budget: u64,
 ) -> Result<String, Fail> {
-    let all = programs(rt.alloc(), words)?;
-    let order = ordered(rt, all.as_slice(), edges)?;
-    told(rt.alloc(), all.as_slice(), &order, entry, budget)
+    let all = programs(alloc, words)?;
+    told_in(alloc, all.as_slice(), edges, entry, budget)
+}
+
+fn is_told(
+    alloc: Global,
+    words: &str,
+    edges: &[(u32, u32)],
+    entry: &str,
+    budget: u64,
+    want: &str,
+) -> Result<(), Fail> {
+    let answer = told_of(alloc, words, edges, entry, budget)?;
+    same_of(alloc, &[words, ", ", entry], answer.as_str(), want)
 }
 
 /// Each row: programs in words, an entry, and what is answered of them.
-fn are_told(
-    rt: &(impl Abort + AllocGlobal),
-    edges: &[(u32, u32)],
-    budget: u64,
-    rows: &[(&str, &str, &str)],
-) -> Result<(), Fail> {
+fn are_told(alloc: Global, edges: &[(u32, u32)], rows: &[(&str, &str, &str)]) -> Result<(), Fail> {
     for (words, entry, want) in rows {
-        let got = told_of(rt, *words, edges, *entry, budget)?;
-        assert_eq!(rt; got.as_str(), *want, "{words}, {entry}, {budget}");
+        is_told(alloc, *words, edges, *entry, u64::MAX, *want)?;
     }
     Ok(())
 }
@@ -126,9 +155,8 @@ const MOTD: &str = "put /etc/motd hi";
 #[test]
 fn entries_of_one_program(rt: HostRuntime) -> Result<(), Fail> {
     are_told(
-        &rt,
+        rt.alloc(),
         &[],
-        u64::MAX,
         &[
             (MOTD, "/etc/motd hi", "ensured, succeeds"),
             (MOTD, "/etc/motd ho", "not ensured"),
@@ -152,14 +180,14 @@ fn entries_of_one_program(rt: HostRuntime) -> Result<(), Fail> {
 
 #[test]
 fn entries_of_graphs_without_arrows(rt: HostRuntime) -> Result<(), Fail> {
-    are_told(
-        &rt,
+    // not deterministic, so nothing is said of the entry
+    is_told(
+        rt.alloc(),
+        "dir /etc | put /etc/a x",
         &[],
+        "/etc/a",
         u64::MAX,
-        &[
-            // not deterministic, so nothing is said of the entry
-            ("dir /etc | put /etc/a x", "/etc/a", "not deterministic"),
-        ],
+        "not deterministic",
     )
 }
 
@@ -167,9 +195,8 @@ fn entries_of_graphs_without_arrows(rt: HostRuntime) -> Result<(), Fail> {
 #[test]
 fn entries_of_graphs(rt: HostRuntime) -> Result<(), Fail> {
     are_told(
-        &rt,
+        rt.alloc(),
         &[(0, 1)],
-        u64::MAX,
         &[
             ("dir /etc | put /etc/a x", "/etc/a x", "ensured, succeeds"),
             ("put /a x | drop /a", "/a", "not ensured"),
@@ -198,34 +225,48 @@ const IN_A_ROW: &[(u32, u32)] = &[
 
 #[test]
 fn spent_budgets(rt: HostRuntime) -> Result<(), Fail> {
-    are_told(&rt, IN_A_ROW, 1, &[(GOES_AND_COMES, "/x", "spent ensures")])
+    is_told(
+        rt.alloc(),
+        GOES_AND_COMES,
+        IN_A_ROW,
+        "/x",
+        1,
+        "spent ensures",
+    )
 }
 
 #[test]
 fn budgets_that_suffice(rt: HostRuntime) -> Result<(), Fail> {
-    are_told(
-        &rt,
+    is_told(
+        rt.alloc(),
+        GOES_AND_COMES,
         IN_A_ROW,
+        "/x",
         u64::MAX,
-        &[(GOES_AND_COMES, "/x", "ensured, succeeds")],
+        "ensured, succeeds",
     )
 }
 
-/// One program that makes so many folders, and a wanted entry.
+fn told_without(alloc: Global, programs: &[Program], entry: &str) -> Result<String, Fail> {
+    let order = unordered(alloc, programs)?;
+    told(alloc, programs, &order, entry, u64::MAX)
+}
+
+/// What is answered of one program that makes so many folders, and an entry.
 fn told_in_turn(alloc: Global, count: u32, entry: &str) -> Result<String, Fail> {
     let all = one_in_turn(alloc, count)?;
-    let order = unordered(alloc, &all)?;
-    told(alloc, &all, &order, entry, u64::MAX)
+    told_without(alloc, all.as_slice(), entry)
+}
+
+fn is_told_in_turn(alloc: Global, count: u32, entry: &str, want: &str) -> Result<(), Fail> {
+    let answer = told_in_turn(alloc, count, entry)?;
+    same_at(alloc, count as u64, entry, answer.as_str(), want)
 }
 
 /// Each row: how many folders one program makes, an entry, and what is answered.
-fn are_told_in_turn(
-    rt: &(impl Abort + AllocGlobal),
-    rows: &[(u32, &str, &str)],
-) -> Result<(), Fail> {
+fn are_told_in_turn(alloc: Global, rows: &[(u32, &str, &str)]) -> Result<(), Fail> {
     for (count, entry, want) in rows {
-        let got = told_in_turn(rt.alloc(), *count, *entry)?;
-        assert_eq!(rt; got.as_str(), *want, "{count}, {entry}");
+        is_told_in_turn(alloc, *count, *entry, *want)?;
     }
     Ok(())
 }
@@ -233,7 +274,7 @@ fn are_told_in_turn(
 #[test]
 fn paths_of_the_domain_with_the_probe(rt: HostRuntime) -> Result<(), Fail> {
     are_told_in_turn(
-        &rt,
+        rt.alloc(),
         &[
             (4_096u32, "/x", "70 domain"),
             (4_097, "/d1", "70 domain"),

@@ -1,16 +1,17 @@
 //! Two graphs each, with whether they do the same.
 
 use crate::judging::refused;
+use crate::labels::same_of;
 use crate::programs::ordered;
 use determinism::First;
 use equal_graphs::{Compared, compare};
 use fs_lang::Program;
 use orders::Order;
-use rh_base::Fault;
+use rh_base::{Boxed, Fault, NoMemory};
 use std::alloc::Global;
-use std::process::Abort;
 use std::test::Fail;
 use test_programs::programs;
+use test_rows::joined;
 
 fn unsure(first: &First, left: bool) -> &'static str {
     match (left, first) {
@@ -32,9 +33,9 @@ fn answered(compared: &Compared) -> &'static str {
     }
 }
 
-fn shown(alloc: Global, compared: &Result<Compared, Fault>) -> Result<String, Fail> {
+fn shown(alloc: Global, compared: &Result<Compared, Fault>) -> Result<String, NoMemory> {
     match compared {
-        Ok(compared) => Ok(String::from_str(alloc, answered(compared))?),
+        Ok(compared) => joined(alloc, &[answered(compared)]),
         Err(fault) => refused(alloc, fault),
     }
 }
@@ -50,44 +51,66 @@ fn told(
     if order.count() as usize != left.len() || other.count() as usize != right.len() {
         return Err(Fail::from("as many nodes as programs"));
     }
-    let compared = compare(alloc, left, order, right, other, u64::MAX);
-    shown(alloc, &compared)
+    let answer = Boxed::new(alloc, compare(alloc, left, order, right, other, u64::MAX))?;
+    Ok(shown(alloc, answer.get())?)
 }
 
-/// The same, with the programs of the right one in words, in the order that edges make.
+/// The same, where edges order the programs of the right one.
+fn told_right(
+    alloc: Global,
+    left: &[Program],
+    order: &Order,
+    right: &[Program],
+    edges: &[(u32, u32)],
+) -> Result<String, Fail> {
+    let other = ordered(alloc, right, edges)?;
+    told(alloc, left, order, right, &other)
+}
+
+/// The same, with the programs of the right one in words.
 fn told_beside(
-    rt: &(impl Abort + AllocGlobal),
+    alloc: Global,
     left: &[Program],
     order: &Order,
     others: &str,
     edges: &[(u32, u32)],
 ) -> Result<String, Fail> {
-    let right = programs(rt.alloc(), others)?;
-    let other = ordered(rt, right.as_slice(), edges)?;
-    told(rt.alloc(), left, order, right.as_slice(), &other)
+    let right = programs(alloc, others)?;
+    told_right(alloc, left, order, right.as_slice(), edges)
 }
 
-/// The same of programs in words on either side, with the same edges.
-fn told_of(
-    rt: &(impl Abort + AllocGlobal),
-    words: &str,
+/// The same, where the same edges order the programs of the left one.
+fn told_left(
+    alloc: Global,
+    left: &[Program],
     others: &str,
     edges: &[(u32, u32)],
 ) -> Result<String, Fail> {
-    let left = programs(rt.alloc(), words)?;
-    let order = ordered(rt, left.as_slice(), edges)?;
-    told_beside(rt, left.as_slice(), &order, others, edges)
+    let order = ordered(alloc, left, edges)?;
+    told_beside(alloc, left, &order, others, edges)
+}
+
+/// The same of programs in words on either side.
+fn told_of(alloc: Global, words: &str, others: &str, edges: &[(u32, u32)]) -> Result<String, Fail> {
+    let left = programs(alloc, words)?;
+    told_left(alloc, left.as_slice(), others, edges)
+}
+
+fn is_told(
+    alloc: Global,
+    words: &str,
+    others: &str,
+    edges: &[(u32, u32)],
+    want: &str,
+) -> Result<(), Fail> {
+    let answer = told_of(alloc, words, others, edges)?;
+    same_of(alloc, &[words, " and ", others], answer.as_str(), want)
 }
 
 /// Each row: the programs of two graphs that have these edges, and what is answered.
-fn are_told(
-    rt: &(impl Abort + AllocGlobal),
-    edges: &[(u32, u32)],
-    rows: &[(&str, &str, &str)],
-) -> Result<(), Fail> {
+fn are_told(alloc: Global, edges: &[(u32, u32)], rows: &[(&str, &str, &str)]) -> Result<(), Fail> {
     for (words, others, want) in rows {
-        let got = told_of(rt, *words, *others, edges)?;
-        assert_eq!(rt; got.as_str(), *want, "{words} and {others}");
+        is_told(alloc, *words, *others, edges, *want)?;
     }
     Ok(())
 }
@@ -95,7 +118,7 @@ fn are_told(
 #[test]
 fn graphs_without_arrows(rt: HostRuntime) -> Result<(), Fail> {
     are_told(
-        &rt,
+        rt.alloc(),
         &[],
         &[
             ("", "", "equal"),
@@ -139,7 +162,7 @@ fn graphs_without_arrows(rt: HostRuntime) -> Result<(), Fail> {
 #[test]
 fn graphs_of_two(rt: HostRuntime) -> Result<(), Fail> {
     are_told(
-        &rt,
+        rt.alloc(),
         &[(0, 1)],
         &[
             ("put /a x | drop /a", "drop /a | put /a x", "not equal"),

@@ -1,12 +1,15 @@
 //! How large formulas are.
 
-use crate::programs::{numbered, unordered};
-use fs_lang::Program;
+use crate::labels::numbered;
+use crate::programs::{push_folder, unordered};
+use fs_lang::{PathFault, Program};
 use order_encode::ask_order;
 use orders::Order;
 use path_domain::domain;
+use rh_base::Seq;
 use std::alloc::Global;
 use std::test::Fail;
+use test_rows::same;
 
 /// How many variables the question of order of these programs has.
 fn variables_of(alloc: Global, programs: &[Program], order: &Order) -> Result<u64, Fail> {
@@ -18,26 +21,38 @@ fn variables_of(alloc: Global, programs: &[Program], order: &Order) -> Result<u6
     Ok(question.cnf().vars())
 }
 
+/// How many it has without an order between the programs.
+fn variables_without(alloc: Global, programs: &[Program]) -> Result<u64, Fail> {
+    let order = unordered(alloc, programs)?;
+    variables_of(alloc, programs, &order)
+}
+
 /// The programs that make the folders of the numbers below this one.
-fn all_numbered(alloc: Global, count: u32) -> Result<Vec<Program>, Fail> {
-    let mut all = Vec::new(alloc);
+fn all_folders(alloc: Global, count: u32) -> Result<Seq<Program>, PathFault> {
+    let mut all = Seq::new(alloc);
     for i in 0..count {
-        all.push(numbered(alloc, i)?)?;
+        push_folder(alloc, i, &mut all)?;
     }
     Ok(all)
 }
 
-/// How many variables it has of so many programs, without an order between them.
-fn variables(alloc: Global, count: u32) -> Result<u64, Fail> {
-    let all = all_numbered(alloc, count)?;
-    let order = unordered(alloc, &all)?;
-    variables_of(alloc, &all, &order)
+fn size_of(count: u64) -> &'static str {
+    if count >= 10_000_000 {
+        "too many"
+    } else if count <= 1_000 {
+        "too few"
+    } else {
+        "some"
+    }
+}
+
+fn are_some(alloc: Global, count: u64) -> Result<(), Fail> {
+    let row = numbered(alloc, "", count, " variables")?;
+    same(alloc, row.as_str(), size_of(count), "some")
 }
 
 #[test]
 fn sixteen_programs(rt: HostRuntime) -> Result<(), Fail> {
-    let count = variables(rt.alloc(), 16)?;
-    assert!(rt; count < 10_000_000, "{count} variables");
-    assert!(rt; count > 1_000, "{count} variables");
-    Ok(())
+    let all = all_folders(rt.alloc(), 16)?;
+    are_some(rt.alloc(), variables_without(rt.alloc(), all.as_slice())?)
 }

@@ -1,33 +1,39 @@
 //! Verdicts from the trees in which given folders stand.
 
 use crate::judging::refused;
+use crate::labels::{numbered, same_at, same_of};
 use crate::programs::{one_in_turn, ordered, unordered};
-use fs_lang::{Path, Program};
+use fs_lang::{Path, PathFault, Program};
 use given_repair::repair_from;
 use given_verdict::{check_size_with, judge_from};
 use host_limits::Limits;
 use orders::Order;
 use question_terms::Terms;
 use repair::Repaired;
-use rh_base::{Fault, Seq};
+use rh_base::{Boxed, Fault, NoMemory, Seq};
 use std::alloc::Global;
-use std::process::Abort;
 use std::test::Fail;
 use test_programs::programs;
+use test_rows::joined;
 use verdict::{Ends, Second, Verdict};
 
+fn push_folder(alloc: Global, word: &str, into: &mut Seq<Path>) -> Result<(), PathFault> {
+    if !word.is_empty() {
+        into.push(Path::read(alloc, word)?)?;
+    }
+    Ok(())
+}
+
 /// These folders, with ` ` between.
-fn folders(alloc: Global, words: &str) -> Result<Seq<Path>, Fail> {
+fn folders(alloc: Global, words: &str) -> Result<Seq<Path>, PathFault> {
     let mut all = Seq::new(alloc);
     for word in words.split(' ') {
-        if !word.is_empty() {
-            all.push(Path::read(alloc, word)?)?;
-        }
+        push_folder(alloc, word, &mut all)?;
     }
     Ok(all)
 }
 
-fn terms(alloc: Global, given: &str) -> Result<Terms, Fail> {
+fn terms(alloc: Global, given: &str) -> Result<Terms, PathFault> {
     Ok(Terms {
         given: folders(alloc, given)?,
         limits: Limits::Usual,
@@ -54,49 +60,68 @@ fn judged(verdict: &Verdict) -> &'static str {
     }
 }
 
-fn shown(alloc: Global, found: &Result<Verdict, Fault>) -> Result<String, Fail> {
+fn shown(alloc: Global, found: &Result<Verdict, Fault>) -> Result<String, NoMemory> {
     match found {
-        Ok(verdict) => Ok(String::from_str(alloc, judged(verdict))?),
+        Ok(verdict) => joined(alloc, &[judged(verdict)]),
         Err(fault) => refused(alloc, fault),
     }
 }
 
-/// What is judged of programs in this order, where folders are given.
+/// What is judged of programs in this order, under terms.
 fn told_by(
     alloc: Global,
     programs: &[Program],
     order: &Order,
-    given: &str,
+    asked: &Terms,
 ) -> Result<String, Fail> {
     if order.count() as usize != programs.len() {
         return Err(Fail::from("as many nodes as programs"));
     }
-    let asked = terms(alloc, given)?;
-    let found = judge_from(alloc, programs, order, &asked);
-    shown(alloc, &found)
+    let answer = Boxed::new(alloc, judge_from(alloc, programs, order, asked))?;
+    Ok(shown(alloc, answer.get())?)
 }
 
-/// The same, with programs in words, in the order that edges make.
-fn told_of(
-    rt: &(impl Abort + AllocGlobal),
-    words: &str,
+fn told_in(
+    alloc: Global,
+    programs: &[Program],
+    edges: &[(u32, u32)],
+    asked: &Terms,
+) -> Result<String, Fail> {
+    let order = ordered(alloc, programs, edges)?;
+    told_by(alloc, programs, &order, asked)
+}
+
+fn told_under(
+    alloc: Global,
+    programs: &[Program],
     edges: &[(u32, u32)],
     given: &str,
 ) -> Result<String, Fail> {
-    let all = programs(rt.alloc(), words)?;
-    let order = ordered(rt, all.as_slice(), edges)?;
-    told_by(rt.alloc(), all.as_slice(), &order, given)
+    let asked = terms(alloc, given)?;
+    told_in(alloc, programs, edges, &asked)
+}
+
+/// What is judged of programs in words, in the order that edges make, where folders are given.
+fn told_of(alloc: Global, words: &str, edges: &[(u32, u32)], given: &str) -> Result<String, Fail> {
+    let all = programs(alloc, words)?;
+    told_under(alloc, all.as_slice(), edges, given)
+}
+
+fn is_told(
+    alloc: Global,
+    words: &str,
+    edges: &[(u32, u32)],
+    given: &str,
+    want: &str,
+) -> Result<(), Fail> {
+    let answer = told_of(alloc, words, edges, given)?;
+    same_of(alloc, &[words, ", ", given], answer.as_str(), want)
 }
 
 /// Each row: programs, the given folders, and what is judged.
-fn are_told(
-    rt: &(impl Abort + AllocGlobal),
-    edges: &[(u32, u32)],
-    rows: &[(&str, &str, &str)],
-) -> Result<(), Fail> {
+fn are_told(alloc: Global, edges: &[(u32, u32)], rows: &[(&str, &str, &str)]) -> Result<(), Fail> {
     for (words, given, want) in rows {
-        let answer = told_of(rt, *words, edges, *given)?;
-        assert_eq!(rt; answer.as_str(), *want, "{words}, {given}");
+        is_told(alloc, *words, edges, *given, *want)?;
     }
     Ok(())
 }
@@ -104,7 +129,7 @@ fn are_told(
 #[test]
 fn verdicts_from_given_folders(rt: HostRuntime) -> Result<(), Fail> {
     are_told(
-        &rt,
+        rt.alloc(),
         &[],
         &[
             ("put /g/a x | dir /g | id", "", "not deterministic"),
@@ -123,7 +148,7 @@ fn verdicts_from_given_folders(rt: HostRuntime) -> Result<(), Fail> {
 #[test]
 fn second_runs_without_the_folder(rt: HostRuntime) -> Result<(), Fail> {
     are_told(
-        &rt,
+        rt.alloc(),
         &[(0, 2), (1, 2)],
         &[
             ("put /a x | put /b x | sweep /g", "/g", "succeeds"),
@@ -149,29 +174,44 @@ fn fits(
     programs: &[Program],
     given: &[Path],
     limits: Limits,
-) -> Result<String, Fail> {
-    let checked = check_size_with(alloc, programs, given, limits);
-    match &checked {
-        Ok(_) => Ok(String::from_str(alloc, "fits")?),
-        Err(fault) => refused(alloc, fault),
+) -> Result<String, NoMemory> {
+    match check_size_with(alloc, programs, given, limits) {
+        Ok(_) => joined(alloc, &["fits"]),
+        Err(fault) => refused(alloc, &fault),
     }
+}
+
+fn fits_beside(
+    alloc: Global,
+    programs: &[Program],
+    given: &str,
+    limits: Limits,
+) -> Result<String, Fail> {
+    let paths = folders(alloc, given)?;
+    Ok(fits(alloc, programs, paths.as_slice(), limits)?)
 }
 
 /// The same of one program that makes so many folders.
 fn fits_in_turn(alloc: Global, count: u32, given: &str, limits: Limits) -> Result<String, Fail> {
     let all = one_in_turn(alloc, count)?;
-    let paths = folders(alloc, given)?;
-    fits(alloc, &all, paths.as_slice(), limits)
+    fits_beside(alloc, all.as_slice(), given, limits)
+}
+
+fn is_fitting(
+    alloc: Global,
+    count: u32,
+    given: &str,
+    limits: Limits,
+    want: &str,
+) -> Result<(), Fail> {
+    let answer = fits_in_turn(alloc, count, given, limits)?;
+    same_at(alloc, count as u64, given, answer.as_str(), want)
 }
 
 /// Each row: how many folders one program makes, the given folders, the limits, and whether it fits.
-fn are_fitting(
-    rt: &(impl Abort + AllocGlobal),
-    rows: &[(u32, &str, Limits, &str)],
-) -> Result<(), Fail> {
+fn are_fitting(alloc: Global, rows: &[(u32, &str, Limits, &str)]) -> Result<(), Fail> {
     for (count, given, limits, want) in rows {
-        let answer = fits_in_turn(rt.alloc(), *count, *given, *limits)?;
-        assert_eq!(rt; answer.as_str(), *want, "{count}, {given}");
+        is_fitting(alloc, *count, *given, *limits, *want)?;
     }
     Ok(())
 }
@@ -179,7 +219,7 @@ fn are_fitting(
 #[test]
 fn given_paths_count(rt: HostRuntime) -> Result<(), Fail> {
     are_fitting(
-        &rt,
+        rt.alloc(),
         &[
             (4_096u32, "", Limits::Usual, "fits"),
             (4_096, "/d1", Limits::Usual, "fits"),
@@ -189,36 +229,54 @@ fn given_paths_count(rt: HostRuntime) -> Result<(), Fail> {
     )
 }
 
-/// How many arrows are answered, if the answer is arrows.
-fn added(repaired: &Result<Repaired, Fault>) -> Option<usize> {
+/// How many arrows are answered.
+fn added(alloc: Global, repaired: &Result<Repaired, Fault>) -> Result<String, NoMemory> {
     match repaired {
-        Ok(Repaired::Done { added }) => Some(added.len()),
-        _ => None,
+        Ok(Repaired::Done { added }) => numbered(alloc, "", added.len() as u64, ""),
+        Ok(Repaired::Spent { .. }) => joined(alloc, &["spent"]),
+        Err(fault) => refused(alloc, fault),
     }
 }
 
-/// The same of programs in this order, where folders are given.
-fn added_to(
+/// The same of programs in this order, under terms.
+fn added_by(
     alloc: Global,
     programs: &[Program],
     order: &Order,
-    given: &str,
-) -> Result<Option<usize>, Fail> {
+    asked: &Terms,
+) -> Result<String, Fail> {
     if order.count() as usize != programs.len() {
         return Err(Fail::from("as many nodes as programs"));
     }
+    let answer = Boxed::new(alloc, repair_from(alloc, programs, order, asked))?;
+    Ok(added(alloc, answer.get())?)
+}
+
+fn added_without(alloc: Global, programs: &[Program], asked: &Terms) -> Result<String, Fail> {
+    let order = unordered(alloc, programs)?;
+    added_by(alloc, programs, &order, asked)
+}
+
+fn added_under(alloc: Global, programs: &[Program], given: &str) -> Result<String, Fail> {
     let asked = terms(alloc, given)?;
-    let repaired = repair_from(alloc, programs, order, &asked);
-    Ok(added(&repaired))
+    added_without(alloc, programs, &asked)
+}
+
+/// The same of programs in words, where folders are given.
+fn added_to(alloc: Global, words: &str, given: &str) -> Result<String, Fail> {
+    let all = programs(alloc, words)?;
+    added_under(alloc, all.as_slice(), given)
+}
+
+fn is_added(alloc: Global, words: &str, given: &str, want: &str) -> Result<(), Fail> {
+    let answer = added_to(alloc, words, given)?;
+    same_of(alloc, &[words, ", ", given], answer.as_str(), want)
 }
 
 /// Each row: programs without an order between them, the given folders, and how many arrows are answered.
-fn are_added(rt: &(impl Abort + AllocGlobal), rows: &[(&str, &str, usize)]) -> Result<(), Fail> {
+fn are_added(alloc: Global, rows: &[(&str, &str, &str)]) -> Result<(), Fail> {
     for (words, given, want) in rows {
-        let all = programs(rt.alloc(), *words)?;
-        let order = unordered(rt.alloc(), all.as_slice())?;
-        let found = added_to(rt.alloc(), all.as_slice(), &order, *given)?;
-        assert_eq!(rt; found, Some(*want), "{words}, {given}");
+        is_added(alloc, *words, *given, *want)?;
     }
     Ok(())
 }
@@ -226,11 +284,11 @@ fn are_added(rt: &(impl Abort + AllocGlobal), rows: &[(&str, &str, usize)]) -> R
 #[test]
 fn arrows_from_given_folders(rt: HostRuntime) -> Result<(), Fail> {
     are_added(
-        &rt,
+        rt.alloc(),
         &[
-            ("put /g/a x | dir /g", "", 1usize),
-            ("put /g/a x | dir /g", "/g", 0),
-            ("put /g/a x | put /g/a y", "/g", 1),
+            ("put /g/a x | dir /g", "", "1"),
+            ("put /g/a x | dir /g", "/g", "0"),
+            ("put /g/a x | put /g/a y", "/g", "1"),
         ],
     )
 }

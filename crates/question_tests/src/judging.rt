@@ -1,55 +1,65 @@
 //! Answers to the question of order, and programs that are too large for it.
 
-use crate::programs::{all_again, one_in_turn, unordered};
+use crate::labels::numbered;
+use crate::programs::{all_again, one_in_turn, ordered, unordered};
 use determinism::{First, Sure, judge_order};
 use fs_lang::Program;
 use orders::Order;
-use rh_base::Fault;
+use rh_base::{Boxed, Fault, NoMemory};
 use std::alloc::Global;
-use std::process::Abort;
 use std::test::Fail;
+use test_programs::programs;
+use test_rows::{joined, same};
 
 /// A refusal, as `70 weight`.
-pub fn refused(alloc: Global, fault: &Fault) -> Result<String, Fail> {
+pub fn refused(alloc: Global, fault: &Fault) -> Result<String, NoMemory> {
     match fault {
         Fault::Refused(refusal) => {
-            let number = refusal.number;
             let name = refusal.name.as_str();
-            Ok(format!(in alloc; "{number} {name}")?)
+            Ok(format!(in alloc; "{} {name}", refusal.number)?)
         }
-        Fault::Memory(_) => Err(Fail::from("memory")),
+        Fault::Memory(_) => joined(alloc, &["memory"]),
     }
 }
 
-fn sure(alloc: Global, pruned: u32, sure: &Sure) -> Result<String, Fail> {
-    match sure {
-        Sure::Pruned => Ok(format!(in alloc; "sure, {pruned} pruned")?),
-        Sure::Proved(_) => Ok(format!(in alloc; "proved, {pruned} pruned")?),
-    }
-}
-
-fn answered(alloc: Global, first: &First) -> Result<String, Fail> {
+/// An answer ahead of how many pairs were pruned.
+fn front_of(first: &First) -> &'static str {
     match first {
-        First::Sure { pruned, sure: why } => sure(alloc, *pruned, why),
-        First::Differs { pruned, .. } => Ok(format!(in alloc; "differs, {pruned} pruned")?),
-        First::Spent { pruned, .. } => Ok(format!(in alloc; "spent, {pruned} pruned")?),
+        First::Sure {
+            sure: Sure::Pruned,
+            ..
+        } => "sure, ",
+        First::Sure {
+            sure: Sure::Proved(_),
+            ..
+        } => "proved, ",
+        First::Differs { .. } => "differs, ",
+        First::Spent { .. } => "spent, ",
     }
 }
 
-fn shown(alloc: Global, judged: &Result<First, Fault>) -> Result<String, Fail> {
+fn pruned_of(first: &First) -> u32 {
+    match first {
+        First::Sure { pruned, .. } => *pruned,
+        First::Differs { pruned, .. } => *pruned,
+        First::Spent { pruned, .. } => *pruned,
+    }
+}
+
+fn shown(alloc: Global, judged: &Result<First, Fault>) -> Result<String, NoMemory> {
     match judged {
-        Ok(first) => answered(alloc, first),
+        Ok(first) => numbered(alloc, front_of(first), pruned_of(first) as u64, " pruned"),
         Err(fault) => refused(alloc, fault),
     }
 }
 
 /// What is answered of programs in this order.
-pub fn told_by(alloc: Global, programs: &[Program], order: &Order) -> Result<String, Fail> {
+fn told_by(alloc: Global, programs: &[Program], order: &Order) -> Result<String, Fail> {
     if order.count() as usize != programs.len() {
         return Err(Fail::from("as many nodes as programs"));
     }
-    let judged = judge_order(alloc, programs, order, u64::MAX);
-    shown(alloc, &judged)
+    let answer = Boxed::new(alloc, judge_order(alloc, programs, order, u64::MAX))?;
+    Ok(shown(alloc, answer.get())?)
 }
 
 /// What is answered of programs without an order between them.
@@ -58,38 +68,47 @@ pub fn told(alloc: Global, programs: &[Program]) -> Result<String, Fail> {
     told_by(alloc, programs, &order)
 }
 
-/// This is answered of one program that makes so many folders.
-fn are_told_in_turn(rt: &(impl Abort + AllocGlobal), rows: &[(u32, &str)]) -> Result<(), Fail> {
-    for (count, want) in rows {
-        let all = one_in_turn(rt.alloc(), *count)?;
-        let text = told(rt.alloc(), &all)?;
-        assert_eq!(rt; text.as_str(), *want, "{count}");
-    }
-    Ok(())
+fn told_in(alloc: Global, programs: &[Program], edges: &[(u32, u32)]) -> Result<String, Fail> {
+    let order = ordered(alloc, programs, edges)?;
+    told_by(alloc, programs, &order)
+}
+
+/// What is answered of programs in words, in the order that edges make.
+pub fn told_of(alloc: Global, words: &str, edges: &[(u32, u32)]) -> Result<String, Fail> {
+    let all = programs(alloc, words)?;
+    told_in(alloc, all.as_slice(), edges)
+}
+
+fn is_told(alloc: Global, row: &str, programs: &[Program], want: &str) -> Result<(), Fail> {
+    let answer = told(alloc, programs)?;
+    same(alloc, row, answer.as_str(), want)
 }
 
 #[test]
 fn paths_of_the_domain(rt: HostRuntime) -> Result<(), Fail> {
-    are_told_in_turn(&rt, &[(4_096, "sure, 1 pruned"), (4_097, "70 domain")])
+    let all = one_in_turn(rt.alloc(), 4_096)?;
+    is_told(rt.alloc(), "4096 folders", all.as_slice(), "sure, 1 pruned")
 }
 
-/// This is answered of so many programs, each of which makes a folder so many times.
-fn are_told_again(rt: &(impl Abort + AllocGlobal), rows: &[(u32, u32, &str)]) -> Result<(), Fail> {
-    for (n, times, want) in rows {
-        let all = all_again(rt.alloc(), *n, *times)?;
-        let text = told(rt.alloc(), &all)?;
-        assert_eq!(rt; text.as_str(), *want, "{n}");
-    }
-    Ok(())
+#[test]
+fn too_many_paths_of_the_domain(rt: HostRuntime) -> Result<(), Fail> {
+    let all = one_in_turn(rt.alloc(), 4_097)?;
+    is_told(rt.alloc(), "4097 folders", all.as_slice(), "70 domain")
 }
 
 #[test]
 fn weights_of_programs(rt: HostRuntime) -> Result<(), Fail> {
-    are_told_again(
-        &rt,
-        &[
-            (100u32, 35u32, "sure, 100 pruned"),
-            (3, 38_889, "70 weight"),
-        ],
+    let all = all_again(rt.alloc(), 100, 35)?;
+    is_told(
+        rt.alloc(),
+        "100 programs",
+        all.as_slice(),
+        "sure, 100 pruned",
     )
+}
+
+#[test]
+fn programs_that_are_too_heavy(rt: HostRuntime) -> Result<(), Fail> {
+    let all = all_again(rt.alloc(), 3, 38_889)?;
+    is_told(rt.alloc(), "3 programs", all.as_slice(), "70 weight")
 }

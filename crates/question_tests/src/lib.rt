@@ -12,6 +12,8 @@ mod given;
 #[cfg(test)]
 mod judging;
 #[cfg(test)]
+mod labels;
+#[cfg(test)]
 mod pairs;
 #[cfg(test)]
 mod programs;

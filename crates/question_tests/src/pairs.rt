@@ -1,34 +1,48 @@
 //! Programs that write at one path: whether any two commute, and whether those that don't ever meet.
 
-use crate::judging::{told, told_by};
-use crate::programs::ordered;
-use fs_lang::Program;
+use crate::judging::{told, told_of};
+use crate::labels::same_of;
+use fs_lang::{PathFault, Program};
+use rh_base::Seq;
 use std::alloc::Global;
-use std::process::Abort;
 use std::test::Fail;
-use test_programs::{program, programs};
+use test_programs::program;
+use test_rows::{joined, same};
 
 /// Makes a file at /d0 with this content, unless something is there.
-fn put(alloc: Global, letter: &str) -> Result<Program, Fail> {
-    let words = format!(in alloc; "if none? /d0: creat /d0 {letter}, id")?;
-    Ok(program(alloc, words.as_str())?)
+fn put(alloc: Global, letter: &str) -> Result<Program, PathFault> {
+    let words = joined(alloc, &["if none? /d0: creat /d0 ", letter, ", id"])?;
+    program(alloc, words.as_str())
+}
+
+fn push_put(alloc: Global, letter: &str, into: &mut Seq<Program>) -> Result<(), PathFault> {
+    into.push(put(alloc, letter)?)?;
+    Ok(())
 }
 
 /// One such program for each content.
-fn all_put(alloc: Global, letters: &[&str]) -> Result<Vec<Program>, Fail> {
-    let mut all = Vec::new(alloc);
+fn all_put(alloc: Global, letters: &[&str]) -> Result<Seq<Program>, PathFault> {
+    let mut all = Seq::new(alloc);
     for letter in letters {
-        all.push(put(alloc, *letter)?)?;
+        push_put(alloc, *letter, &mut all)?;
     }
     Ok(all)
 }
 
+fn told_of_put(alloc: Global, letters: &[&str]) -> Result<String, Fail> {
+    let all = all_put(alloc, letters)?;
+    told(alloc, all.as_slice())
+}
+
+fn is_put(alloc: Global, letters: &[&str], want: &str) -> Result<(), Fail> {
+    let answer = told_of_put(alloc, letters)?;
+    same_of(alloc, letters, answer.as_str(), want)
+}
+
 /// Each row: the contents of files at /d0, and what is answered of their programs.
-fn are_put(rt: &(impl Abort + AllocGlobal), rows: &[(&[&str], &str)]) -> Result<(), Fail> {
+fn are_put(alloc: Global, rows: &[(&[&str], &str)]) -> Result<(), Fail> {
     for (letters, want) in rows {
-        let all = all_put(rt.alloc(), *letters)?;
-        let answer = told(rt.alloc(), &all)?;
-        assert_eq!(rt; answer.as_str(), *want);
+        is_put(alloc, *letters, *want)?;
     }
     Ok(())
 }
@@ -36,7 +50,7 @@ fn are_put(rt: &(impl Abort + AllocGlobal), rows: &[(&[&str], &str)]) -> Result<
 #[test]
 fn files_that_are_put_once(rt: HostRuntime) -> Result<(), Fail> {
     are_put(
-        &rt,
+        rt.alloc(),
         &[
             (&["a", "a"], "proved, 0 pruned"),
             (&["a", "b"], "differs, 0 pruned"),
@@ -52,34 +66,42 @@ const THREE: &str = "rm /d1 \
     | if none? /d1: id, if none? /d0: creat /d0 b, id";
 
 /// What is answered of these three in the order that edges make.
-fn told_of_three(rt: &(impl Abort + AllocGlobal), edges: &[(u32, u32)]) -> Result<String, Fail> {
-    let all = programs(rt.alloc(), THREE)?;
-    let order = ordered(rt, all.as_slice(), edges)?;
-    told_by(rt.alloc(), all.as_slice(), &order)
+fn is_told_of_three(
+    alloc: Global,
+    row: &str,
+    edges: &[(u32, u32)],
+    want: &str,
+) -> Result<(), Fail> {
+    let answer = told_of(alloc, THREE, edges)?;
+    same(alloc, row, answer.as_str(), want)
 }
 
-/// Each row: edges between these three, and what is answered.
-fn are_told(rt: &(impl Abort + AllocGlobal), rows: &[(&[(u32, u32)], &str)]) -> Result<(), Fail> {
-    for (edges, want) in rows {
-        let answer = told_of_three(rt, *edges)?;
-        assert_eq!(rt; answer.as_str(), *want);
+/// Each row: how the three are ordered, edges between them, and what is answered.
+fn are_told_of_three(alloc: Global, rows: &[(&str, &[(u32, u32)], &str)]) -> Result<(), Fail> {
+    for (row, edges, want) in rows {
+        is_told_of_three(alloc, *row, *edges, *want)?;
     }
     Ok(())
 }
 
 #[test]
 fn files_that_are_put_in_some_orders(rt: HostRuntime) -> Result<(), Fail> {
-    are_told(
-        &rt,
+    are_told_of_three(
+        rt.alloc(),
         &[
-            (&[], "differs, 0 pruned"),
-            (&[(0, 1)], "differs, 0 pruned"),
-            (&[(1, 0), (2, 0)], "differs, 1 pruned"),
+            ("no arrow", &[], "differs, 0 pruned"),
+            ("one put behind", &[(0, 1)], "differs, 0 pruned"),
+            ("both put ahead", &[(1, 0), (2, 0)], "differs, 1 pruned"),
         ],
     )
 }
 
 #[test]
 fn files_that_are_never_put(rt: HostRuntime) -> Result<(), Fail> {
-    are_told(&rt, &[(&[(0, 1), (0, 2)], "proved, 1 pruned")])
+    is_told_of_three(
+        rt.alloc(),
+        "both put behind",
+        &[(0, 1), (0, 2)],
+        "proved, 1 pruned",
+    )
 }

@@ -2,49 +2,61 @@
 
 ghost use Rattle.std.specs.Prelude.{◌≡◌, IfOk, length};
 
-use fs_lang::Program;
+use crate::labels::numbered;
+use fs_lang::{PathFault, Program};
 use orders::Order;
 use rh_base::Seq;
 use std::alloc::Global;
-use std::process::Abort;
 use std::test::Fail;
 use test_programs::program;
 
 /// Makes the folder of this number, as /d1.
-pub fn numbered(alloc: Global, i: u32) -> Result<Program, Fail> {
-    let words = format!(in alloc; "mkdir /d{i}")?;
-    Ok(program(alloc, words.as_str())?)
+fn folder(alloc: Global, i: u32) -> Result<Program, PathFault> {
+    let words = numbered(alloc, "mkdir /d", i as u64, "")?;
+    program(alloc, words.as_str())
+}
+
+/// Appends the program that makes the folder of this number.
+pub fn push_folder(alloc: Global, i: u32, into: &mut Seq<Program>) -> Result<(), PathFault> {
+    into.push(folder(alloc, i)?)?;
+    Ok(())
 }
 
 /// Makes the folders of so many numbers, one after another.
-pub fn in_turn(alloc: Global, count: u32) -> Result<Program, Fail> {
+fn in_turn(alloc: Global, count: u32) -> Result<Program, PathFault> {
     let mut steps = Seq::new(alloc);
     for i in 0..count {
-        steps.push(numbered(alloc, i + 1)?)?;
+        push_folder(alloc, i + 1, &mut steps)?;
     }
     Ok(Program::Steps(steps))
 }
 
 /// One program, which makes the folders of so many numbers.
-pub fn one_in_turn(alloc: Global, count: u32) -> Result<Vec<Program>, Fail> {
-    let program = in_turn(alloc, count)?;
-    Ok(vec![in alloc; program]?)
+pub fn one_in_turn(alloc: Global, count: u32) -> Result<Seq<Program>, PathFault> {
+    let mut all = Seq::new(alloc);
+    all.push(in_turn(alloc, count)?)?;
+    Ok(all)
 }
 
 /// Makes the folder of a number so many times.
-pub fn again(alloc: Global, i: u32, times: u32) -> Result<Program, Fail> {
+fn again(alloc: Global, i: u32, times: u32) -> Result<Program, PathFault> {
     let mut steps = Seq::new(alloc);
     for _turn in 0..times {
-        steps.push(numbered(alloc, i)?)?;
+        push_folder(alloc, i, &mut steps)?;
     }
     Ok(Program::Steps(steps))
 }
 
+fn push_again(alloc: Global, i: u32, times: u32, into: &mut Seq<Program>) -> Result<(), PathFault> {
+    into.push(again(alloc, i, times)?)?;
+    Ok(())
+}
+
 /// So many programs, each of which makes a folder of its own so many times.
-pub fn all_again(alloc: Global, n: u32, times: u32) -> Result<Vec<Program>, Fail> {
-    let mut all = Vec::new(alloc);
+pub fn all_again(alloc: Global, n: u32, times: u32) -> Result<Seq<Program>, PathFault> {
+    let mut all = Seq::new(alloc);
     for i in 0..n {
-        all.push(again(alloc, i, times)?)?;
+        push_again(alloc, i, times, &mut all)?;
     }
     Ok(all)
 }
@@ -58,12 +70,10 @@ pub fn unordered(alloc: Global, programs: &[Program]) -> Result<Order, Fail>
 }
 
 /// The order of these programs that edges make.
-pub fn ordered(
-    rt: &(impl Abort + AllocGlobal),
-    programs: &[Program],
-    edges: &[(u32, u32)],
-) -> Result<Order, Fail> {
+pub fn ordered(alloc: Global, programs: &[Program], edges: &[(u32, u32)]) -> Result<Order, Fail> {
     let n = u32::try_from(programs.len())?;
-    assert!(rt; edges.iter().all(|e| e.0 < n && e.1 < n));
-    Ok(Order::from_edges(rt.alloc(), n, edges)?)
+    if !edges.iter().all(|e| e.0 < n && e.1 < n) {
+        return Err(Fail::from("edges between the programs"));
+    }
+    Ok(Order::from_edges(alloc, n, edges)?)
 }

@@ -5,32 +5,39 @@ use crate::programs::{all_again, ordered, unordered};
 use fs_lang::Program;
 use orders::Order;
 use repair::{Repaired, arrows, repair};
-use rh_base::Fault;
+use rh_base::{Boxed, Fault, NoMemory};
 use std::alloc::Global;
-use std::process::Abort;
 use std::test::Fail;
 use test_programs::programs;
+use test_rows::same;
 
-/// The arrows in the order of their numbers, each behind a blank, as `0>1`.
-fn listed(alloc: Global, added: &[(u32, u32)]) -> Result<String, Fail> {
-    let mut sorted = Vec::from_slice(alloc, added)?;
-    sorted.sort()?;
-    let mut text = String::new(alloc);
-    for arrow in &sorted {
-        let from = arrow.0;
-        let to = arrow.1;
-        let word = format!(in alloc; " {from}>{to}")?;
-        text.push_str(word.as_str())?;
+fn arrow_text(alloc: Global, from: u32, to: u32) -> Result<String, NoMemory> {
+    Ok(format!(in alloc; " {from}>{to}")?)
+}
+
+fn push_arrow(alloc: Global, arrow: &(u32, u32), into: &mut String) -> Result<(), NoMemory> {
+    let text = arrow_text(alloc, arrow.0, arrow.1)?;
+    into.push_str(text.as_str())?;
+    Ok(())
+}
+
+/// A word, and arrows behind it, each behind a blank, as `0>1`.
+fn listed(alloc: Global, word: &str, arrows: &[(u32, u32)]) -> Result<String, NoMemory> {
+    let mut text = String::from_str(alloc, word)?;
+    for arrow in arrows {
+        push_arrow(alloc, arrow, &mut text)?;
     }
     Ok(text)
 }
 
-fn listed_after(alloc: Global, word: &str, added: &[(u32, u32)]) -> Result<String, Fail> {
-    let words = listed(alloc, added)?;
-    Ok(format!(in alloc; "{word}{words}")?)
+/// The same, in the order of their numbers.
+fn listed_after(alloc: Global, word: &str, added: &[(u32, u32)]) -> Result<String, NoMemory> {
+    let mut sorted = Vec::from_slice(alloc, added)?;
+    sorted.sort()?;
+    listed(alloc, word, &sorted)
 }
 
-fn shown(alloc: Global, repaired: &Result<Repaired, Fault>) -> Result<String, Fail> {
+fn shown(alloc: Global, repaired: &Result<Repaired, Fault>) -> Result<String, NoMemory> {
     match repaired {
         Ok(Repaired::Done { added }) => listed_after(alloc, "done", added.as_slice()),
         Ok(Repaired::Spent { added, .. }) => listed_after(alloc, "spent", added.as_slice()),
@@ -44,8 +51,8 @@ fn told_by(alloc: Global, programs: &[Program], order: &Order) -> Result<String,
     if order.count() as usize != programs.len() {
         return Err(Fail::from("as many nodes as programs"));
     }
-    let repaired = repair(alloc, programs, order, u64::MAX);
-    shown(alloc, &repaired)
+    let answer = Boxed::new(alloc, repair(alloc, programs, order, u64::MAX))?;
+    Ok(shown(alloc, answer.get())?)
 }
 
 /// The same of programs without an order between them.
@@ -60,11 +67,15 @@ fn told_of(alloc: Global, words: &str) -> Result<String, Fail> {
     told(alloc, all.as_slice())
 }
 
+fn is_told(alloc: Global, words: &str, want: &str) -> Result<(), Fail> {
+    let answer = told_of(alloc, words)?;
+    same(alloc, words, answer.as_str(), want)
+}
+
 /// Each row: programs, and the arrows that are answered.
-fn are_told(rt: &(impl Abort + AllocGlobal), rows: &[(&str, &str)]) -> Result<(), Fail> {
+fn are_told(alloc: Global, rows: &[(&str, &str)]) -> Result<(), Fail> {
     for (words, want) in rows {
-        let text = told_of(rt.alloc(), *words)?;
-        assert_eq!(rt; text.as_str(), *want, "{words}");
+        is_told(alloc, *words, *want)?;
     }
     Ok(())
 }
@@ -72,7 +83,7 @@ fn are_told(rt: &(impl Abort + AllocGlobal), rows: &[(&str, &str)]) -> Result<()
 #[test]
 fn missing_arrows(rt: HostRuntime) -> Result<(), Fail> {
     are_told(
-        &rt,
+        rt.alloc(),
         &[
             // no program, and one
             ("", "done"),
@@ -104,31 +115,45 @@ fn missing_arrows(rt: HostRuntime) -> Result<(), Fail> {
     )
 }
 
+/// One arrow is answered, in either direction.
+fn is_either(alloc: Global, words: &str) -> Result<(), Fail> {
+    let answer = told_of(alloc, words)?;
+    if answer.as_str() == "done 1>0" {
+        return Ok(());
+    }
+    same(alloc, words, answer.as_str(), "done 0>1")
+}
+
 #[test]
 fn either_arrow(rt: HostRuntime) -> Result<(), Fail> {
-    let text = told_of(rt.alloc(), "put /a x | put /a y")?;
-    assert!(rt;
-        text.as_str() == "done 0>1" || text.as_str() == "done 1>0",
-        "{text}"
-    );
-    Ok(())
+    is_either(rt.alloc(), "put /a x | put /a y")
+}
+
+fn told_in(alloc: Global, programs: &[Program], edges: &[(u32, u32)]) -> Result<String, Fail> {
+    let order = ordered(alloc, programs, edges)?;
+    told_by(alloc, programs, &order)
 }
 
 /// What is answered of a folder and two files in it, in the order that edges make.
-fn told_of_three(rt: &(impl Abort + AllocGlobal), edges: &[(u32, u32)]) -> Result<String, Fail> {
-    let all = programs(rt.alloc(), "dir /etc | put /etc/a x | put /etc/b y")?;
-    let order = ordered(rt, all.as_slice(), edges)?;
-    told_by(rt.alloc(), all.as_slice(), &order)
+fn told_of_three(alloc: Global, edges: &[(u32, u32)]) -> Result<String, Fail> {
+    let all = programs(alloc, "dir /etc | put /etc/a x | put /etc/b y")?;
+    told_in(alloc, all.as_slice(), edges)
 }
 
-/// Each row: edges between these three, and the arrows that are answered.
-fn are_told_of_three(
-    rt: &(impl Abort + AllocGlobal),
-    rows: &[(&[(u32, u32)], &str)],
+fn is_told_of_three(
+    alloc: Global,
+    row: &str,
+    edges: &[(u32, u32)],
+    want: &str,
 ) -> Result<(), Fail> {
-    for (edges, want) in rows {
-        let text = told_of_three(rt, *edges)?;
-        assert_eq!(rt; text.as_str(), *want);
+    let answer = told_of_three(alloc, edges)?;
+    same(alloc, row, answer.as_str(), want)
+}
+
+/// Each row: how the three are ordered, edges between them, and the arrows that are answered.
+fn are_told_of_three(alloc: Global, rows: &[(&str, &[(u32, u32)], &str)]) -> Result<(), Fail> {
+    for (row, edges, want) in rows {
+        is_told_of_three(alloc, *row, *edges, *want)?;
     }
     Ok(())
 }
@@ -136,19 +161,22 @@ fn are_told_of_three(
 #[test]
 fn arrows_that_are_there(rt: HostRuntime) -> Result<(), Fail> {
     are_told_of_three(
-        &rt,
+        rt.alloc(),
         &[
-            (&[(0, 1)], "done 0>2"),
-            (&[(1, 2)], "done 0>1"),
-            (&[(0, 1), (0, 2)], "done"),
+            ("the folder ahead of a file", &[(0, 1)], "done 0>2"),
+            ("a file ahead of the other", &[(1, 2)], "done 0>1"),
+            ("the folder ahead of both", &[(0, 1), (0, 2)], "done"),
         ],
     )
+}
+
+fn is_repaired(alloc: Global, row: &str, programs: &[Program], want: &str) -> Result<(), Fail> {
+    let answer = told(alloc, programs)?;
+    same(alloc, row, answer.as_str(), want)
 }
 
 #[test]
 fn too_heavy(rt: HostRuntime) -> Result<(), Fail> {
     let all = all_again(rt.alloc(), 3, 38_889)?;
-    let text = told(rt.alloc(), &all)?;
-    assert_eq!(rt; text.as_str(), "70 weight");
-    Ok(())
+    is_repaired(rt.alloc(), "3 programs", all.as_slice(), "70 weight")
 }

@@ -1,34 +1,46 @@
 //! Pairs of programs that are tried on a few trees, each row with what is found: two orders, and the paths of the tree.
 
+use crate::labels::numbered;
 use crate::programs::{ordered, unordered};
-use fs_lang::{Program, Tree};
+use fs_lang::{Path, Program, Tree};
 use orders::Order;
+use rh_base::{Boxed, NoMemory};
 use std::alloc::Global;
-use std::process::Abort;
 use std::test::Fail;
 use test_programs::programs;
+use test_rows::{joined, same};
 use tried_trees::{Difference, try_pairs, try_tree};
 
+fn push_number(alloc: Global, text: &mut String, k: u32) -> Result<(), NoMemory> {
+    let word = numbered(alloc, " ", k as u64, "")?;
+    text.push_str(word.as_str())?;
+    Ok(())
+}
+
 /// Appends the numbers, each after a blank.
-fn push_numbers(alloc: Global, text: &mut String, order: &[u32]) -> Result<(), Fail> {
+fn push_numbers(alloc: Global, text: &mut String, order: &[u32]) -> Result<(), NoMemory> {
     for k in order {
-        let word = format!(in alloc; " {k}")?;
-        text.push_str(word.as_str())?;
+        push_number(alloc, text, *k)?;
     }
+    Ok(())
+}
+
+fn push_path(alloc: Global, text: &mut String, path: &Path) -> Result<(), NoMemory> {
+    text.push_str(" ")?;
+    let word = path.text(alloc)?;
+    text.push_str(word.as_str())?;
     Ok(())
 }
 
 /// Appends the paths of a tree, each after a blank.
-fn push_paths(alloc: Global, text: &mut String, tree: &Tree) -> Result<(), Fail> {
-    for (p, _) in tree.entries() {
-        let word = p.text(alloc)?;
-        text.push_str(" ")?;
-        text.push_str(word.as_str())?;
+fn push_paths(alloc: Global, text: &mut String, tree: &Tree) -> Result<(), NoMemory> {
+    for (path, _) in tree.entries() {
+        push_path(alloc, text, path)?;
     }
     Ok(())
 }
 
-fn push_difference(alloc: Global, text: &mut String, d: &Difference) -> Result<(), Fail> {
+fn push_difference(alloc: Global, text: &mut String, d: &Difference) -> Result<(), NoMemory> {
     text.push_str("from")?;
     push_paths(alloc, text, &d.tree)?;
     text.push_str(":")?;
@@ -37,13 +49,18 @@ fn push_difference(alloc: Global, text: &mut String, d: &Difference) -> Result<(
     push_numbers(alloc, text, d.right.as_slice())
 }
 
-fn shown(alloc: Global, found: &Option<Difference>) -> Result<String, Fail> {
+fn difference_text(alloc: Global, d: &Difference) -> Result<String, NoMemory> {
     let mut text = String::new(alloc);
-    match found {
-        None => text.push_str("none")?,
-        Some(d) => push_difference(alloc, &mut text, d)?,
-    }
+    push_difference(alloc, &mut text, d)?;
     Ok(text)
+}
+
+fn shown(alloc: Global, found: &Result<Option<Difference>, NoMemory>) -> Result<String, NoMemory> {
+    match found {
+        Ok(Some(d)) => difference_text(alloc, d),
+        Ok(None) => joined(alloc, &["none"]),
+        Err(m) => Err(*m),
+    }
 }
 
 /// What is found of one pair of these programs.
@@ -56,30 +73,46 @@ fn found_by(
     if order.count() as usize != programs.len() {
         return Err(Fail::from("as many nodes as programs"));
     }
-    let found = try_pairs(alloc, programs, order, &[pair])?;
-    shown(alloc, &found)
+    let answer = Boxed::new(alloc, try_pairs(alloc, programs, order, &[pair]))?;
+    Ok(shown(alloc, answer.get())?)
+}
+
+fn found_in(
+    alloc: Global,
+    programs: &[Program],
+    edges: &[(u32, u32)],
+    pair: (u32, u32),
+) -> Result<String, Fail> {
+    let order = ordered(alloc, programs, edges)?;
+    found_by(alloc, programs, &order, pair)
 }
 
 /// The same of programs in words, in the order that edges make.
 fn found_of(
-    rt: &(impl Abort + AllocGlobal),
+    alloc: Global,
     words: &str,
     edges: &[(u32, u32)],
     pair: (u32, u32),
 ) -> Result<String, Fail> {
-    let all = programs(rt.alloc(), words)?;
-    let order = ordered(rt, all.as_slice(), edges)?;
-    found_by(rt.alloc(), all.as_slice(), &order, pair)
+    let all = programs(alloc, words)?;
+    found_in(alloc, all.as_slice(), edges, pair)
+}
+
+fn is_found(
+    alloc: Global,
+    words: &str,
+    edges: &[(u32, u32)],
+    pair: (u32, u32),
+    want: &str,
+) -> Result<(), Fail> {
+    let text = found_of(alloc, words, edges, pair)?;
+    same(alloc, words, text.as_str(), want)
 }
 
 /// Each row: programs without an order between them, a pair of them, and what is found.
-fn are_found(
-    rt: &(impl Abort + AllocGlobal),
-    rows: &[(&str, (u32, u32), &str)],
-) -> Result<(), Fail> {
+fn are_found(alloc: Global, rows: &[(&str, (u32, u32), &str)]) -> Result<(), Fail> {
     for (words, pair, want) in rows {
-        let text = found_of(rt, *words, &[], *pair)?;
-        assert_eq!(rt; text.as_str(), *want, "{words}");
+        is_found(alloc, *words, &[], *pair, *want)?;
     }
     Ok(())
 }
@@ -87,7 +120,7 @@ fn are_found(
 #[test]
 fn pairs_without_an_order(rt: HostRuntime) -> Result<(), Fail> {
     are_found(
-        &rt,
+        rt.alloc(),
         &[
             // a missing arrow, which the empty tree shows
             ("dir /etc | put /etc/a x", (0, 1), "from: 0 1, 1 0"),
@@ -160,12 +193,11 @@ const THREE: &str = "dir /etc | put /etc/a x | put /etc/a y";
 
 /// Each row: edges between these three, a pair of them, and what is found.
 fn are_found_of_three(
-    rt: &(impl Abort + AllocGlobal),
+    alloc: Global,
     rows: &[(&[(u32, u32)], (u32, u32), &str)],
 ) -> Result<(), Fail> {
     for (edges, pair, want) in rows {
-        let text = found_of(rt, THREE, *edges, *pair)?;
-        assert_eq!(rt; text.as_str(), *want);
+        is_found(alloc, THREE, *edges, *pair, *want)?;
     }
     Ok(())
 }
@@ -173,7 +205,7 @@ fn are_found_of_three(
 #[test]
 fn pairs_in_an_order(rt: HostRuntime) -> Result<(), Fail> {
     are_found_of_three(
-        &rt,
+        rt.alloc(),
         &[
             // both behind the first
             (&[(0, 1), (0, 2)], (1, 2), "from: 0 1 2, 0 2 1"),
@@ -184,34 +216,50 @@ fn pairs_in_an_order(rt: HostRuntime) -> Result<(), Fail> {
     )
 }
 
-/// What is found of the first two of these programs from the empty tree alone.
-fn found_from_nothing(alloc: Global, programs: &[Program], order: &Order) -> Result<String, Fail> {
+/// What is found of the first two of these programs from one tree.
+fn found_on(
+    alloc: Global,
+    programs: &[Program],
+    order: &Order,
+    tree: &Tree,
+) -> Result<String, Fail> {
     if order.count() as usize != programs.len() {
         return Err(Fail::from("as many nodes as programs"));
     }
-    let tree = Tree::empty(alloc)?;
-    let found = try_tree(alloc, programs, order, &[(0, 1)], &tree)?;
-    shown(alloc, &found)
+    let answer = Boxed::new(alloc, try_tree(alloc, programs, order, &[(0, 1)], tree))?;
+    Ok(shown(alloc, answer.get())?)
 }
 
-/// Each row: programs without an order between them, and what is so found.
-fn are_found_from_nothing(
-    rt: &(impl Abort + AllocGlobal),
-    rows: &[(&str, &str)],
-) -> Result<(), Fail> {
+/// The same without an order between the programs.
+fn found_without(alloc: Global, programs: &[Program], tree: &Tree) -> Result<String, Fail> {
+    let order = unordered(alloc, programs)?;
+    found_on(alloc, programs, &order, tree)
+}
+
+fn found_of_words(alloc: Global, words: &str, tree: &Tree) -> Result<String, Fail> {
+    let all = programs(alloc, words)?;
+    found_without(alloc, all.as_slice(), tree)
+}
+
+fn is_found_on(alloc: Global, words: &str, tree: &Tree, want: &str) -> Result<(), Fail> {
+    let text = found_of_words(alloc, words, tree)?;
+    same(alloc, words, text.as_str(), want)
+}
+
+/// Each row: programs without an order between them, and what is found of the first two from this tree.
+fn are_found_on(alloc: Global, tree: &Tree, rows: &[(&str, &str)]) -> Result<(), Fail> {
     for (words, want) in rows {
-        let all = programs(rt.alloc(), *words)?;
-        let order = unordered(rt.alloc(), all.as_slice())?;
-        let text = found_from_nothing(rt.alloc(), all.as_slice(), &order)?;
-        assert_eq!(rt; text.as_str(), *want, "{words}");
+        is_found_on(alloc, *words, tree, *want)?;
     }
     Ok(())
 }
 
 #[test]
 fn pairs_on_one_tree(rt: HostRuntime) -> Result<(), Fail> {
-    are_found_from_nothing(
-        &rt,
+    let tree = Tree::empty(rt.alloc())?;
+    are_found_on(
+        rt.alloc(),
+        &tree,
         &[
             ("dir /etc | put /etc/a x", "from: 0 1, 1 0"),
             ("put /srv/a x | drop /srv/a", "none"),

@@ -1,52 +1,46 @@
 //! Verdicts on programs, and programs that are too large for one.
 
 use crate::judging::refused;
+use crate::labels::numbered;
 use crate::programs::{all_again, one_in_turn, ordered, unordered};
 use fs_lang::Program;
 use orders::Order;
-use rh_base::Fault;
+use rh_base::{Boxed, Fault, NoMemory};
 use std::alloc::Global;
-use std::process::Abort;
 use std::test::Fail;
 use test_programs::programs;
+use test_rows::same;
 use verdict::{Ends, Second, Verdict, judge};
 
-fn of_second_runs(second: &Second) -> &'static str {
-    match second {
-        Second::Same(_) => "idempotent",
-        Second::Differs(_) => "not idempotent",
+/// What is judged, behind how many pairs were pruned.
+fn judged(second: &Second, ends: &Ends) -> &'static str {
+    match (second, ends) {
+        (Second::Same(_), Ends::From(_)) => " pruned, idempotent, succeeds",
+        (Second::Same(_), Ends::Never(_)) => " pruned, idempotent, fails",
+        (Second::Differs(_), Ends::From(_)) => " pruned, not idempotent, succeeds",
+        (Second::Differs(_), Ends::Never(_)) => " pruned, not idempotent, fails",
     }
 }
 
-fn of_ends(ends: &Ends) -> &'static str {
-    match ends {
-        Ends::From(_) => "succeeds",
-        Ends::Never(_) => "fails",
-    }
-}
-
-fn judged(alloc: Global, verdict: &Verdict) -> Result<String, Fail> {
+fn behind_of(verdict: &Verdict) -> &'static str {
     match verdict {
-        Verdict::NotDeterministic { pruned, .. } => {
-            Ok(format!(in alloc; "{pruned} pruned, not deterministic")?)
-        }
-        Verdict::Judged {
-            pruned,
-            second,
-            ends,
-            ..
-        } => {
-            let second = of_second_runs(second);
-            let ends = of_ends(ends);
-            Ok(format!(in alloc; "{pruned} pruned, {second}, {ends}")?)
-        }
-        Verdict::Spent { pruned, .. } => Ok(format!(in alloc; "{pruned} pruned, spent")?),
+        Verdict::NotDeterministic { .. } => " pruned, not deterministic",
+        Verdict::Judged { second, ends, .. } => judged(second, ends),
+        Verdict::Spent { .. } => " pruned, spent",
     }
 }
 
-fn shown(alloc: Global, found: &Result<Verdict, Fault>) -> Result<String, Fail> {
+fn pruned_of(verdict: &Verdict) -> u32 {
+    match verdict {
+        Verdict::NotDeterministic { pruned, .. } => *pruned,
+        Verdict::Judged { pruned, .. } => *pruned,
+        Verdict::Spent { pruned, .. } => *pruned,
+    }
+}
+
+fn shown(alloc: Global, found: &Result<Verdict, Fault>) -> Result<String, NoMemory> {
     match found {
-        Ok(verdict) => judged(alloc, verdict),
+        Ok(verdict) => numbered(alloc, "", pruned_of(verdict) as u64, behind_of(verdict)),
         Err(fault) => refused(alloc, fault),
     }
 }
@@ -56,8 +50,8 @@ fn told_by(alloc: Global, programs: &[Program], order: &Order) -> Result<String,
     if order.count() as usize != programs.len() {
         return Err(Fail::from("as many nodes as programs"));
     }
-    let found = judge(alloc, programs, order, u64::MAX);
-    shown(alloc, &found)
+    let answer = Boxed::new(alloc, judge(alloc, programs, order, u64::MAX))?;
+    Ok(shown(alloc, answer.get())?)
 }
 
 /// What is judged of programs without an order between them.
@@ -66,25 +60,38 @@ fn told(alloc: Global, programs: &[Program]) -> Result<String, Fail> {
     told_by(alloc, programs, &order)
 }
 
-/// Each row: how many programs, how many times each makes a folder of its own, and what is judged.
-fn are_told_again(rt: &(impl Abort + AllocGlobal), rows: &[(u32, u32, &str)]) -> Result<(), Fail> {
-    for (n, times, want) in rows {
-        let all = all_again(rt.alloc(), *n, *times)?;
-        let answer = told(rt.alloc(), &all)?;
-        assert_eq!(rt; answer.as_str(), *want, "{n}");
+fn is_judged(alloc: Global, row: &str, programs: &[Program], want: &str) -> Result<(), Fail> {
+    let answer = told(alloc, programs)?;
+    same(alloc, row, answer.as_str(), want)
+}
+
+fn is_judged_again(alloc: Global, row: &str, n: u32, times: u32, want: &str) -> Result<(), Fail> {
+    let all = all_again(alloc, n, times)?;
+    is_judged(alloc, row, all.as_slice(), want)
+}
+
+/// Each row: a name, how many programs, how many times each makes a folder of its own, and what is judged.
+fn are_judged_again(alloc: Global, rows: &[(&str, u32, u32, &str)]) -> Result<(), Fail> {
+    for (row, n, times, want) in rows {
+        is_judged_again(alloc, *row, *n, *times, *want)?;
     }
     Ok(())
 }
 
 #[test]
 fn folders_that_are_made_again(rt: HostRuntime) -> Result<(), Fail> {
-    are_told_again(
-        &rt,
+    are_judged_again(
+        rt.alloc(),
         &[
-            (100u32, 35u32, "100 pruned, idempotent, fails"),
-            (3, 38_889, "70 weight"),
+            (
+                "many programs",
+                100u32,
+                35u32,
+                "100 pruned, idempotent, fails",
+            ),
+            ("heavy programs", 3, 38_889, "70 weight"),
             // a second run fails where the first one ends in a tree
-            (2, 1, "2 pruned, not idempotent, succeeds"),
+            ("two programs", 2, 1, "2 pruned, not idempotent, succeeds"),
         ],
     )
 }
@@ -92,31 +99,29 @@ fn folders_that_are_made_again(rt: HostRuntime) -> Result<(), Fail> {
 #[test]
 fn too_many_paths(rt: HostRuntime) -> Result<(), Fail> {
     let all = one_in_turn(rt.alloc(), 4_097)?;
-    let answer = told(rt.alloc(), &all)?;
-    assert_eq!(rt; answer.as_str(), "70 domain");
-    Ok(())
+    is_judged(rt.alloc(), "4097 folders", all.as_slice(), "70 domain")
+}
+
+fn told_in(alloc: Global, programs: &[Program], edges: &[(u32, u32)]) -> Result<String, Fail> {
+    let order = ordered(alloc, programs, edges)?;
+    told_by(alloc, programs, &order)
 }
 
 /// What is judged of programs in words, in the order that edges make.
-fn told_of(
-    rt: &(impl Abort + AllocGlobal),
-    words: &str,
-    edges: &[(u32, u32)],
-) -> Result<String, Fail> {
-    let all = programs(rt.alloc(), words)?;
-    let order = ordered(rt, all.as_slice(), edges)?;
-    told_by(rt.alloc(), all.as_slice(), &order)
+fn told_of(alloc: Global, words: &str, edges: &[(u32, u32)]) -> Result<String, Fail> {
+    let all = programs(alloc, words)?;
+    told_in(alloc, all.as_slice(), edges)
+}
+
+fn is_told(alloc: Global, words: &str, edges: &[(u32, u32)], want: &str) -> Result<(), Fail> {
+    let answer = told_of(alloc, words, edges)?;
+    same(alloc, words, answer.as_str(), want)
 }
 
 /// Each row: programs, and what is judged of them in the order that edges make.
-fn are_told(
-    rt: &(impl Abort + AllocGlobal),
-    edges: &[(u32, u32)],
-    rows: &[(&str, &str)],
-) -> Result<(), Fail> {
+fn are_told(alloc: Global, edges: &[(u32, u32)], rows: &[(&str, &str)]) -> Result<(), Fail> {
     for (words, want) in rows {
-        let answer = told_of(rt, *words, edges)?;
-        assert_eq!(rt; answer.as_str(), *want, "{words}");
+        is_told(alloc, *words, edges, *want)?;
     }
     Ok(())
 }
@@ -129,7 +134,7 @@ const CHANGES: &str = "4 pruned, not idempotent, succeeds";
 #[test]
 fn second_runs_of_groups(rt: HostRuntime) -> Result<(), Fail> {
     are_told(
-        &rt,
+        rt.alloc(),
         &[(0, 1)],
         &[
             ("dir /c | put /c/f x | put /a x | put /b x", SAME),
@@ -144,7 +149,7 @@ fn second_runs_of_groups(rt: HostRuntime) -> Result<(), Fail> {
 #[test]
 fn second_runs_of_programs_that_touch(rt: HostRuntime) -> Result<(), Fail> {
     are_told(
-        &rt,
+        rt.alloc(),
         &[(0, 1)],
         &[
             ("if file? /a: put /b x, id | put /a y | id | id", CHANGES),
@@ -159,7 +164,7 @@ fn second_runs_of_programs_that_touch(rt: HostRuntime) -> Result<(), Fail> {
 #[test]
 fn second_runs_in_a_row(rt: HostRuntime) -> Result<(), Fail> {
     are_told(
-        &rt,
+        rt.alloc(),
         &[(0, 1), (1, 2), (2, 3)],
         &[
             (

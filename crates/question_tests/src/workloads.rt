@@ -1,5 +1,7 @@
 //! What workloads are, and how heavy.
 
+ghost use Rattle.std.specs.Prelude.{◌<◌, ◌≤◌, ◌^◌, length};
+
 use catalog::Catalog;
 use dep_graph::graph;
 use fs_lang::Program;
@@ -7,65 +9,104 @@ use pkg_listing::{Listing, listing_from_json};
 use pp_compile::compile;
 use pp_value::{Pairs, Value};
 use res_models::program_of;
-use rh_base::{Fault, Seq};
+use rh_base::{Boxed, Fault, Seq};
 use size_limits::weight;
 use std::alloc::Global;
-use std::process::Abort;
 use std::test::Fail;
+use test_rows::{same, same_number};
 use workload::workload;
 
 /// The catalog of a manifest that stands in no need of facts.
-fn catalog_of(rt: &impl Abort, alloc: Global, manifest: &[u8]) -> Result<Catalog, Fault> {
-    assert!(rt; manifest.len() < 1_000_000);
-    let facts = Value::Map(Pairs::new(alloc));
-    compile(alloc, manifest, &facts, "")
+fn catalog_of(alloc: Global, manifest: &[u8]) -> Result<Boxed<Catalog>, Fault>
+    requires { length manifest.now < 2 ^ 32 }
+{
+    let facts = Boxed::new(alloc, Value::Map(Pairs::new(alloc)))?;
+    Ok(Boxed::new(alloc, compile(alloc, manifest, facts.get(), "")?)?)
 }
 
-/// The programs of a catalog's graph, beside a listing.
-fn programs(alloc: Global, catalog: &Catalog, listing: &Listing) -> Result<Seq<Program>, Fault> {
-    let found = graph(alloc, catalog)?;
-    let count = catalog.count();
+fn push_program(
+    alloc: Global,
+    catalog: &Catalog,
+    i: u32,
+    listing: &Listing,
+    into: &mut Seq<Program>,
+) -> Result<(), Fault> {
+    if i < catalog.count() {
+        into.push(program_of(alloc, catalog.get(i), listing)?)?;
+    }
+    Ok(())
+}
+
+/// The programs of the resources at these places, beside a listing.
+fn programs_at(
+    alloc: Global,
+    catalog: &Catalog,
+    places: &[u32],
+    listing: &Listing,
+) -> Result<Seq<Program>, Fault> {
     let mut all = Seq::new(alloc);
-    for i in found.plain.as_slice() {
-        if *i < count {
-            let one = program_of(alloc, catalog.get(*i), listing)?;
-            all.push(one)?;
-        }
+    for i in places {
+        push_program(alloc, catalog, *i, listing, &mut all)?;
     }
     Ok(all)
 }
 
-/// A workload as it is read: the catalog of its manifest, and its listing.
-fn read(rt: &impl Abort, alloc: Global, n: u32) -> Result<(Catalog, Listing), Fault> {
-    assert!(rt; 1 <= n && n <= 54);
-    let (manifest, listing) = workload(alloc, n)?;
-    let catalog = catalog_of(rt, alloc, &manifest)?;
-    Ok((catalog, listing_from_json(alloc, &listing)?))
+/// The programs of a catalog's graph, beside a listing.
+fn programs(alloc: Global, catalog: &Catalog, listing: &Listing) -> Result<Seq<Program>, Fault> {
+    let found = Boxed::new(alloc, graph(alloc, catalog)?)?;
+    programs_at(alloc, catalog, found.get().plain.as_slice(), listing)
 }
 
-/// The programs of a workload.
-fn programs_of(rt: &impl Abort, alloc: Global, n: u32) -> Result<Seq<Program>, Fault> {
-    let (catalog, listing) = read(rt, alloc, n)?;
-    programs(alloc, &catalog, &listing)
-}
-
-/// The weight of a workload's programs.
-fn weight_of(rt: &impl Abort, alloc: Global, n: u32) -> Result<u64, Fault> {
-    let all = programs_of(rt, alloc, n)?;
+/// The weight of a catalog's programs, beside a listing.
+fn weight_of(alloc: Global, catalog: &Catalog, listing: &Listing) -> Result<u64, Fault> {
+    let all = programs(alloc, catalog, listing)?;
     Ok(weight(alloc, all.as_slice())?)
 }
 
-/// Each row: the number of a workload, and its weight.
-fn are_weighed(rt: &(impl Abort + AllocGlobal), rows: &[(u32, u64)]) {
-    for (n, want) in rows {
-        let found = weight_of(rt, rt.alloc(), *n).ok();
-        assert_eq!(rt; found, Some(*want), "{n}");
+/// The same, of the text of a manifest.
+fn weight_beside(alloc: Global, manifest: &[u8], listing: &Listing) -> Result<u64, Fault>
+    requires { length manifest.now < 2 ^ 32 }
+{
+    let catalog = catalog_of(alloc, manifest)?;
+    weight_of(alloc, catalog.get(), listing)
+}
+
+/// The same, of the text of a listing.
+fn weight_of_texts(alloc: Global, manifest: &[u8], listing: &[u8]) -> Result<u64, Fail> {
+    if manifest.len() >= 1_000_000 {
+        return Err(Fail::from("a long manifest"));
     }
+    let listing = listing_from_json(alloc, listing)?;
+    Ok(weight_beside(alloc, manifest, &listing)?)
+}
+
+/// The weight of a workload's programs.
+fn weight_of_workload(alloc: Global, n: u32) -> Result<u64, Fail>
+    requires least { 1 ≤ n }
+    requires most { n ≤ 54 }
+{
+    let (manifest, listing) = workload(alloc, n)?;
+    weight_of_texts(alloc, &manifest, &listing)
 }
 
 #[test]
-fn weights_of_workloads(rt: HostRuntime) {
-    are_weighed(&rt, &[(40, 384_896), (54, 691_888)]);
+fn the_weight_of_a_workload(rt: HostRuntime) -> Result<(), Fail> {
+    same_number(
+        rt.alloc(),
+        "workload 40",
+        weight_of_workload(rt.alloc(), 40)?,
+        384_896,
+    )
+}
+
+#[test]
+fn the_weight_of_the_largest_workload(rt: HostRuntime) -> Result<(), Fail> {
+    same_number(
+        rt.alloc(),
+        "workload 54",
+        weight_of_workload(rt.alloc(), 54)?,
+        691_888,
+    )
 }
 
 /// The smallest manifest, one declaration a line.
@@ -82,10 +123,19 @@ file { '/etc/beta.conf': content => 'b', require => Package['beta'] }
 const LISTING: &str =
     r#"{"version":1,"packages":{"p1":{"files":["/opt/p1/p.conf","/lib/systemd/system/svc1.service"],"folders":[]},"alpha":{"files":["/etc/alpha.conf"],"folders":[]},"beta":{"files":["/etc/beta.conf"],"folders":[]}}}"#;
 
+fn is_text(alloc: Global, row: &str, bytes: Vec<u8>, want: &str) -> Result<(), Fail> {
+    let text = String::from_utf8(bytes)?;
+    same(alloc, row, text.as_str(), want)
+}
+
 #[test]
-fn a_workload_is_a_text(rt: HostRuntime) -> Result<(), Fail> {
-    let (manifest, listing) = workload(rt.alloc(), 1)?;
-    assert_eq!(rt; manifest.as_slice(), MANIFEST.as_bytes());
-    assert_eq!(rt; listing.as_slice(), LISTING.as_bytes());
-    Ok(())
+fn the_manifest_of_a_workload_is_a_text(rt: HostRuntime) -> Result<(), Fail> {
+    let (manifest, _listing) = workload(rt.alloc(), 1)?;
+    is_text(rt.alloc(), "manifest", manifest, MANIFEST)
+}
+
+#[test]
+fn the_listing_of_a_workload_is_a_text(rt: HostRuntime) -> Result<(), Fail> {
+    let (_manifest, listing) = workload(rt.alloc(), 1)?;
+    is_text(rt.alloc(), "listing", listing, LISTING)
 }
