@@ -89,10 +89,6 @@ pub says_none : ReferencesWhere → OnceWhere → (d : Data) (e : Misread) → F
 says_none references once d misread.Form none = λ rows h. no_value rows (sym none ∙ says_back references once d rows h)
 says_none references once d (misread.Memory m) none = tt
 
--- a text that isn't read as JSON says none
-pub reads_none : (bytes : List ℕ) → read bytes ≡ None → (rows : List Assumption) → IsAssumptionsText bytes rows → ⊥
-reads_none bytes none rows text = no_value text.json (sym none ∙ text.is_read)
-
 -- a text whose JSON says none says none
 no_text : (bytes : List ℕ) (d : Data) → read bytes ≡ Some d → ((rows : List Assumption) → SaysAssumptions rows d → ⊥) → (rows : List Assumption) → IsAssumptionsText bytes rows → ⊥
 no_text bytes d is none rows text = none rows (subst (SaysAssumptions rows) (same_some text.json d (sym text.is_read ∙ is)) text.says)

@@ -12,8 +12,8 @@ abbrev pub numbered : List (List Lit) → ℕ → Option (List Lit)
 numbered clauses zero = None
 numbered clauses (suc n) = slice_get clauses n
 
--- The chain leads from a clause to another: each link names an earlier clause. Its pivot is in the clause so far, and
--- the pivot's opposite is in the named clause; the next clause so far is their resolvent.
+-- The chain leads from a clause to another: each link names an earlier clause. Its pivot is in the resolvent of the links
+-- before, and the pivot's opposite is in the named clause; the next resolvent is that of the two.
 abbrev pub Leads : List (List Lit) → List Lit → List Link → List Lit → Type 0
 Leads earlier c [] d = c ≡ d
 Leads earlier c (link ∷ chain) d = (named : List Lit) × (numbered earlier link.number ≡ Some named)

@@ -7,7 +7,7 @@ use crate::clause::Clause;
 use crate::lit::Lit;
 use rh_base::Seq;
 
-/// One resolution: the number of the clause that is named, and the literal of the clause so far that is taken out.
+/// One resolution: the number of the clause that is named, and the pivot, which the resolvent of the links before has.
 #[derive(Clone, Copy, Debug)]
 pub struct Link {
     pub number: u64,

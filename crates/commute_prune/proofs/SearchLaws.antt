@@ -116,23 +116,6 @@ module _ (lets_go : ℕ → ℕ → Bool) (n : ℕ) (kept : List ℕ) (stays : L
       | inr later ↦ passes j (passed j (let b = ltb-false j (get_or seen k 0) later in omega (arith, b)) less) there
     ]
 
-    -- what was seen is noted
-    pub seen_more : IsSeen lets_go n kept (slice_set seen k at)
-    seen_more = record {
-      long = length-set seen k at ∙ h.long;
-      few = λ i. elim (cases_Bool (i == k)) [
-        | inl here ↦ let e = ap (λ m. get_or (slice_set seen k at) m 0) (eqb-true i k here) ∙ get_or-set_same seen k at 0 (omega (arith, h.long, within)) in omega (arith, e, few)
-        | inr other ↦ let e = get_or-set_other seen k i at 0 (eqb-false i k other) in omega (arith, e, h.few i)
-      ];
-      passed = λ i j less there. elim (cases_Bool (i == k)) [
-        | inl here ↦
-            let same = eqb-true i k here in
-            let e = ap (λ m. get_or (slice_set seen k at) m 0) same ∙ get_or-set_same seen k at 0 (omega (arith, h.long, within)) in
-            ap (λ m. lets_go m j) same ∙ now_seen j (omega (arith, e, less)) there
-        | inr other ↦ let e = get_or-set_other seen k i at 0 (eqb-false i k other) in h.passed i j (omega (arith, e, less)) there
-      ];
-    }
-
     -- it may go where none of the kept ones stops it
     pub may_go : AllByRecursion (λ j. j < n) kept → at ≡ n → list_all (lets_go k) kept ≡ true
     may_go below all = true_all (lets_go k) kept (λ j there. now_seen j (let b = all_at (λ j. j < n) kept j below there in omega (arith, b, all)) there)

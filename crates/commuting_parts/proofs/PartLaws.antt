@@ -1,6 +1,6 @@
 -- Lists of steps, part by part.
-use Rattle.std.proofs.Common.{◌≡◌, ℕ, suc, ◌+◌, ◌<◌, Bool, true, false, cond, List, [], ◌∷◌, ◌++◌, length, get_or, take, drop, Some, None, refl, sym, ap, subst, subst₂, ◌∙◌, append-nil, append_assoc, arith}
-use Rattle.std.proofs.lemmas.List.{drop_more, take-append-drop}
+use Rattle.std.proofs.Common.{◌≡◌, ℕ, suc, ◌+◌, Bool, true, false, cond, List, [], ◌∷◌, ◌++◌, take, drop, Some, None, refl, sym, ap, subst, subst₂, ◌∙◌, append-nil, append_assoc}
+use Rattle.std.proofs.lemmas.List.{take-append-drop}
 use Rattle.std.specs.List.{AllByRecursion}
 use Rattle.std.specs.BTreeSet.{BTreeSet}
 use Rattle.fs_semantics.specs.FileTree.{Path, Tree}
@@ -157,32 +157,6 @@ module _ (commute : (folders : BTreeSet Path) (e f : model.Program) → IsProper
       (commute folders other shared a.right.0 a.proper a.right.1))
 
 -- ---- a list that is walked
-
--- what is marked so far, and what follows
-pub one_marked : (marks : ℕ → Bool) (i : ℕ) (es : List Program) (e : Program) (old new : List Program) → i < length es → e ≡ get_or es i e
-    → new ≡ cond (marks i) (old ++ e ∷ []) old → new ++ marked marks (i + 1) (drop (i + 1) es) ≡ old ++ marked marks i (drop i es)
-one_marked marks i es e old new h is now =
-    let one : suc i ≡ i + 1 = omega arith in
-    ap (λ xs. xs ++ marked marks (i + 1) (drop (i + 1) es)) now
-    ∙ ap (λ n. cond (marks i) (old ++ e ∷ []) old ++ marked marks n (drop (i + 1) es)) (sym one) ∙ by (marks i)
-    ∙ ap (λ xs. old ++ marked marks i xs) (sym (drop_more es i e h ∙ ap (λ x. x ∷ drop (i + 1) es) (sym is)))
-  where
-    by : (b : Bool) → cond b (old ++ e ∷ []) old ++ marked marks (suc i) (drop (i + 1) es) ≡ old ++ cond b (e ∷ marked marks (suc i) (drop (i + 1) es)) (marked marks (suc i) (drop (i + 1) es))
-    by true = append_assoc old (e ∷ []) (marked marks (suc i) (drop (i + 1) es))
-    by false = refl
-
--- what isn't marked so far, and what follows
-pub one_unmarked : (marks : ℕ → Bool) (i : ℕ) (es : List Program) (e : Program) (old new : List Program) → i < length es → e ≡ get_or es i e
-    → new ≡ cond (marks i) old (old ++ e ∷ []) → new ++ unmarked marks (i + 1) (drop (i + 1) es) ≡ old ++ unmarked marks i (drop i es)
-one_unmarked marks i es e old new h is now =
-    let one : suc i ≡ i + 1 = omega arith in
-    ap (λ xs. xs ++ unmarked marks (i + 1) (drop (i + 1) es)) now
-    ∙ ap (λ n. cond (marks i) old (old ++ e ∷ []) ++ unmarked marks n (drop (i + 1) es)) (sym one) ∙ by (marks i)
-    ∙ ap (λ xs. old ++ unmarked marks i xs) (sym (drop_more es i e h ∙ ap (λ x. x ∷ drop (i + 1) es) (sym is)))
-  where
-    by : (b : Bool) → cond b old (old ++ e ∷ []) ++ unmarked marks (suc i) (drop (i + 1) es) ≡ old ++ cond b (unmarked marks (suc i) (drop (i + 1) es)) (e ∷ unmarked marks (suc i) (drop (i + 1) es))
-    by true = refl
-    by false = append_assoc old (e ∷ []) (unmarked marks (suc i) (drop (i + 1) es))
 
 -- ---- a list and its first steps
 

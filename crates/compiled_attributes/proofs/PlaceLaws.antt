@@ -6,7 +6,6 @@ use Rattle.std.specs.Cmp.{nat_cmp_is}
 use Rattle.std.specs.Ordering.{nat_cmp, match_ordering}
 use Rattle.std.specs.BTreeSet.{insert_key}
 use Rattle.std.specs.List.{AllByRecursion, filter}
-use Rattle.std.proofs.lemmas.List.{map-append}
 use Rattle.compiled_text.specs.declared.catalog.CompiledResource.{CompiledResource}
 use Rattle.compiled_text.specs.Compiled.{counts_as}
 use Rattle.compiled_attributes.specs.Fragments.{is_for, is_gathered_by, gathered}
@@ -124,11 +123,6 @@ module _ {X : Type 0} where
       ap (λ l. l ++ at_places all rest) is
       ∙ (append_assoc found (if_there (slice_get all p) []) (at_places all rest)
       ∙ (ap (λ l. found ++ l) (there (slice_get all p) (at_places all rest)) ∙ (ap (λ l. found ++ at_places all l) (sym next) ∙ so_far)))
-
--- the resource that was found at a place is added
-pub found_there : {X : Type 0} (new found : List (Bor X)) (r : Bor X) (o : Option X) → new ≡ found ++ r ∷ [] → o ≡ Some r.now → map (λ x. x.now) new ≡ map (λ x. x.now) found ++ if_there o []
-found_there new found r o is there =
-    ap (map (λ x. x.now)) is ∙ (map-append (λ x. x.now) found (r ∷ []) ∙ ap (λ p. map (λ x. x.now) found ++ if_there p []) (sym there))
 
 -- nothing is added, where there is none
 pub none_there : {X : Type 0} (found : List (Bor X)) (o : Option X) → o ≡ None → map (λ x. x.now) found ≡ map (λ x. x.now) found ++ if_there o []

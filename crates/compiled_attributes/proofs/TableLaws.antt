@@ -1,12 +1,10 @@
 -- The places that a table has, by its targets.
-use Rattle.std.proofs.Common.{◌≡◌, ℕ, ◌+◌, Bool, true, false, true≢false, cond, List, [], ◌∷◌, ◌++◌, drop, Option, Some, None, refl, ap, sym, ◌∙◌, append_assoc, append-nil}
+use Rattle.std.proofs.Common.{◌≡◌, ℕ, ◌+◌, Bool, true, false, true≢false, cond, List, [], ◌∷◌, ◌++◌, Option, Some, refl, ap, sym, ◌∙◌, append-nil}
 use Rattle.std.specs.Map.{lookup}
 use Rattle.std.specs.Str.{bytes_eq}
 use Rattle.std.proofs.lemmas.Slice.Eq.{bytes_eq-Decides}
 use Rattle.indexmap.specs.IndexMap.{insert_entry}
-use Rattle.compiled_text.specs.declared.catalog.CompiledResource.{CompiledResource}
-use Rattle.compiled_attributes.specs.Fragments.{target_of, is_target, is_for}
-use Rattle.compiled_attributes.specs.Places.{places_where, or_none, places_in, if_target}
+use Rattle.compiled_attributes.specs.Places.{or_none, places_in, if_target}
 
 -- targets, each with its places
 abbrev Table : Type 0
@@ -69,23 +67,3 @@ noted old mid last k new mine n first second was is x =
     ∙ if_same (bytes_eq x k) x k new mine (lookup (bytes_eq x) old) n (λ h. was ∙ ap (λ y. or_none (lookup (bytes_eq y) old)) (sym (same x k h))) is)
 
 -- ---- all places
-
--- one more place goes ahead of those further on, if the target is the text
-next_if : (o : Option (List ℕ)) (x : List ℕ) (n : ℕ) (ps : List ℕ) → if_target x o n ++ ps ≡ cond (is_target x o) (n ∷ ps) ps
-next_if None x n ps = refl
-next_if (Some text) x n ps = at (bytes_eq x text)
-  where
-    at : (t : Bool) → cond t (n ∷ []) [] ++ ps ≡ cond t (n ∷ ps) ps
-    at true = refl
-    at false = refl
-
--- with one more resource the table and what is left are still the places of all
-pub next_noted : (all : List CompiledResource) (old new : Table) (n : ℕ) (r : CompiledResource) → drop n all ≡ r ∷ drop (n + 1) all
-    → ((x : List ℕ) → places_in new x ≡ places_in old x ++ if_target x (target_of r) n)
-    → ((x : List ℕ) → places_in old x ++ places_where (is_for x) n (drop n all) ≡ places_where (is_for x) 0 all)
-    → (x : List ℕ) → places_in new x ++ places_where (is_for x) (n + 1) (drop (n + 1) all) ≡ places_where (is_for x) 0 all
-next_noted all old new n r next is so_far x =
-    ap (λ l. l ++ places_where (is_for x) (n + 1) (drop (n + 1) all)) (is x)
-    ∙ (append_assoc (places_in old x) (if_target x (target_of r) n) (places_where (is_for x) (n + 1) (drop (n + 1) all))
-    ∙ (ap (λ l. places_in old x ++ l) (next_if (target_of r) x n (places_where (is_for x) (n + 1) (drop (n + 1) all)))
-    ∙ (ap (λ l. places_in old x ++ places_where (is_for x) n l) (sym next) ∙ so_far x)))

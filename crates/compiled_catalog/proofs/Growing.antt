@@ -4,7 +4,7 @@ use Rattle.std.specs.Prelude.{Result, Ok, Err}
 use Rattle.std.specs.List.{AllByRecursion}
 use Rattle.std.proofs.Math.Seq.{take-suc}
 use Rattle.std.proofs.lemmas.Bool.{lt-ltb}
-use Rattle.std.proofs.lemmas.List.{drop_more, drop_all, length-take-le}
+use Rattle.std.proofs.lemmas.List.{drop_more, length-take-le}
 use Rattle.std.proofs.lemmas.Option.{slice_get_within}
 use Rattle.rh_base.specs.declared.fault.Fault.{Fault}
 use Rattle.rh_base.specs.declared.fault.Fault.TheVariants as fault
@@ -160,10 +160,6 @@ pub record IsUnderway (c : Compiled) (n : ℕ) (k : Catalog) : Type 0 where
   pub first : HasFirst c n k
   pub rest : catalog_with (with_all c k.resources (drop n c.resources)) ≡ catalog_with (with_all c [] c.resources)
 
--- an empty catalog is the beginning
-pub begins : (c : Compiled) (k : Catalog) → k ≡ record { resources = []; holdings = []; relations = [] } → IsUnderway c 0 k
-begins c k h = subst (IsUnderway c 0) (sym h) (record { first = record { references = refl; no_holdings = refl; no_relations = refl }; rest = refl })
-
 -- what was found, and then the others
 abbrev then_all : Compiled → Result (List Resource) Refusal → List CompiledResource → Result (List Resource) Refusal
 then_all c found rest = found >>= (λ so_far. with_all c so_far rest)
@@ -193,10 +189,3 @@ module _ (c : Compiled) (n : ℕ) (k : Catalog) (r : CompiledResource) (there : 
       refused (Ok rs) k = cc
       refused (Err y) k = k
   ends (fault.Memory m) h = tt
-
--- with all resources the catalog is the whole
-pub whole : (c : Compiled) (n : ℕ) (k : Catalog) → length c.resources ≤ n → IsUnderway c n k → catalog_with (with_all c [] c.resources) ≡ Ok k
-whole c n k h underway =
-    sym underway.rest
-    ∙ (ap (λ rs. catalog_with (with_all c k.resources rs)) (drop_all n c.resources h)
-    ∙ (λ i. Ok (record { resources = k.resources; holdings = sym underway.first.no_holdings i; relations = sym underway.first.no_relations i })))

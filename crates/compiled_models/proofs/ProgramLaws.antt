@@ -1,5 +1,5 @@
 -- Programs, one resource after another.
-use Rattle.std.proofs.Common.{◌≡◌, List, [], ◌∷◌, ◌++◌, append-nil, append_assoc, refl, sym, ap, ◌∙◌}
+use Rattle.std.proofs.Common.{◌≡◌, List, [], ◌∷◌, ◌++◌, append_assoc, refl, sym, ap, ◌∙◌}
 use Rattle.std.specs.Prelude.{Result, Ok, Err}
 use Rattle.rh_base.specs.declared.fault.Refusal.{Refusal}
 use Rattle.rh_base.specs.declared.fault.Fault.{Fault}
@@ -21,15 +21,6 @@ behind made (Err r) = Err r
 abbrev pub AreMade : Setting → List Edit → List Path → List Program → List Native → Result (List Program) Refusal → Type 0
 AreMade s edits seen made rest whole = whole ≡ behind made (programs_behind s edits seen rest)
 
--- behind no programs all are as they are found
-behind_none : (r : Result (List Program) Refusal) → r ≡ behind [] r
-behind_none (Ok es) = refl
-behind_none (Err r) = refl
-
--- at first none are made
-pub none_made : (s : Setting) (edits : List Edit) (ns : List Native) → AreMade s edits [] [] ns (programs_behind s edits [] ns)
-none_made s edits ns = behind_none (programs_behind s edits [] ns)
-
 -- one more in front is one less to make
 one_first : (made : List Program) (e : Program) (r : Result (List Program) Refusal) → behind made (first_and e r) ≡ behind (made ++ e ∷ []) r
 one_first made e (Ok es) = ap (λ (l : List Program). Ok l) (sym (append_assoc made (e ∷ []) es))
@@ -42,10 +33,6 @@ more_made s edits seen now old new n rest whole h (d, is, places, made) =
     h ∙ ap (λ v. behind old (programs_with (program_among s edits n) v (λ places. programs_behind s edits (seen ++ places) rest))) is
     ∙ one_first old (program_among s edits n d.0) (programs_behind s edits (seen ++ d.1) rest)
     ∙ (λ i. behind (sym made i) (programs_behind s edits (sym places i) rest))
-
--- where none is left, all programs are made
-pub all_made : (s : Setting) (edits : List Edit) (seen : List Path) (made : List Program) (whole : Result (List Program) Refusal) → AreMade s edits seen made [] whole → whole ≡ Ok made
-all_made s edits seen made whole h = h ∙ ap (λ (l : List Program). Ok l) (append-nil made)
 
 -- a refusal of one resource is that of all
 pub none_more : (s : Setting) (edits : List Edit) (seen now : List Path) (old new : List Program) (n : Native) (rest : List Native) (whole : Result (List Program) Refusal) (e : Fault)

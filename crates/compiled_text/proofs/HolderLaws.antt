@@ -55,14 +55,6 @@ pub record AreNoted (resources : List CompiledResource) (all done left : List Co
   pub slots : AreHolders resources done holders
   pub free : are_free resources done left ≡ are_free resources [] all
 
--- at first no containers are noted
-pub none_noted : (resources : List CompiledResource) (all : List Containment) (holders : List (Option ℕ)) → ((place : ℕ) → place < length resources → slice_get holders place ≡ Some None) → AreNoted resources all [] all holders
-none_noted resources all holders h = record { slots = λ place k. h place k ∙ none (is_class_at resources place); free = refl }
-  where
-    none : (t : Bool) → ◌≡◌ {A = Option (Option ℕ)} (Some None) (Some (cond t None None))
-    none true = refl
-    none false = refl
-
 -- each resource has a slot
 slot_there : (resources : List CompiledResource) (all done left : List Containment) (holders : List (Option ℕ)) (place : ℕ) → AreNoted resources all done left holders → place < length resources → place < length holders
 slot_there resources all done left holders place n h = slice_get_within holders place (holder_of (compiled_with resources done) place) (n.slots place h)

@@ -25,10 +25,6 @@ says_none : (bytes : List ℕ) (d : Data) → read bytes ≡ Some d → compiled
 says_none bytes d is none c text =
     nothing c (sym none ∙ compiled_back d c (subst (λ e. IsCompiled c e) (one_some text.json d (sym text.is_read ∙ is)) text.says))
 
--- nor do those that are no JSON
-pub reads_none : (bytes : List ℕ) → read bytes ≡ None → (c : Compiled) → IsCompiledText bytes c → ⊥
-reads_none bytes none c text = nothing text.json (sym none ∙ text.is_read)
-
 -- the refusal of code 65 comes where the bytes say none
 pub refused_with : (bytes : List ℕ) (d : Data) (f : Fault) → read bytes ≡ Some d → compiled_of d ≡ None → IfRefused f (IsRefusal 65 0 (codes "compiled"))
     → IfRefused f (λ r. IsRefusal 65 0 (codes "compiled") r × ((c : Compiled) → IsCompiledText bytes c → ⊥))

@@ -1,15 +1,13 @@
 -- Values: those of arrays and objects, and those in which no object says its type.
-use Rattle.std.proofs.Common.{◌≡◌, ℕ, Bool, true, false, cond, List, [], ◌∷◌, Option, Some, None, codes, Result, Ok, Err, IfOk, OnOk, Less, is_eq, refl, ap, ap₂, sym, ◌∙◌, subst, Vec, BTreeMap, String, Global, string_bytes, string_cmp, bytes_eq}
+use Rattle.std.proofs.Common.{◌≡◌, ℕ, Bool, true, false, cond, List, [], ◌∷◌, Option, Some, None, Result, Ok, Err, IfOk, OnOk, Less, is_eq, refl, ap, ap₂, sym, ◌∙◌, subst, String, Global, string_bytes, string_cmp, bytes_eq}
 use Rattle.std.specs.List.{AllByRecursion}
 use Rattle.std.specs.List.Sorted.{IsStrictlySortedBy}
 use Rattle.std.specs.Map.{keys_of}
 use Rattle.std.proofs.lemmas.Map.Text.{is_eq-slice_cmp}
 use Rattle.std.proofs.lemmas.Slice.Eq.{bytes_eq-Decides}
 use Rattle.serde_json.specs.Data.{Data, null, boolean, number, string, array, object, Items, no_items, item, Members, no_members, member}
-use Rattle.serde_json.specs.Find.{get, get_member}
-use Rattle.serde_json.specs.View.{view, items_view, members_view}
-use Rattle.serde_json.specs.declared.value.Value as json
-use Rattle.serde_json.proofs.Views.{Entry, view-Array, view-Object}
+use Rattle.serde_json.specs.View.{view, members_view}
+use Rattle.serde_json.proofs.Views.{Entry}
 use Rattle.rh_base.specs.declared.text.NoMemory.{NoMemory}
 use Rattle.pp_value.specs.declared.value.Value.{Value}
 use Rattle.pp_value.specs.declared.value.Value.TheVariants as v
@@ -42,21 +40,6 @@ mutual
   untyped_members (member key d members) h = ap₂ (λ x xs. (key, x) ∷ xs) (untyped d h.0) (untyped_members members h.1)
 
 -- ---- arrays and objects
-
--- a JSON array is a list of its items' values
-pub of_array : (items : Vec json.Value Global) → value_of (view (json.Array items)) ≡ v.List (values_of (items_view items.items))
-of_array items = ap value_of (view-Array items)
-
--- a JSON object is a map of its members' values, or what its type says
-pub of_object : (members : BTreeMap (String Global) json.Value) → value_of (view (json.Object members)) ≡ object_value (get_member (codes "__ptype") (members_view members.entries)) (pairs_of (members_view members.entries))
-of_object members = ap value_of (view-Object members)
-
--- the value of an object of these pairs, whose own type is got from it
-pub object_is : (d : Data) (members : BTreeMap (String Global) json.Value) (own : Option Data) (pairs : List Pair) (x : Value) → d ≡ view (json.Object members) → own ≡ get (codes "__ptype") d
-    → pairs ≡ pairs_of (members_view members.entries) → x ≡ object_value own pairs → x ≡ value_of d
-object_is d members own pairs x is own_is pairs_are x_is =
-    let object_of = is ∙ view-Object members in
-    x_is ∙ (ap₂ object_value (own_is ∙ ap (get (codes "__ptype")) object_of) pairs_are ∙ sym (ap value_of object_of))
 
 -- ---- keys that differ
 

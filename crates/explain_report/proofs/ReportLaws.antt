@@ -1,57 +1,36 @@
 -- From a verdict to what is explained of it.
-use Rattle.std.proofs.Common.{◌≡◌, inl, inr, ◌-◌, ◌^◌, ℕ, List, [], ◌++◌, Option, Some, None, refl, sym, ap, subst, subst₂, ◌∙◌, append-nil}
+use Rattle.std.proofs.Common.{◌≡◌, inr, ◌-◌, ℕ, List, [], ◌++◌, Some, None, refl, sym, ap, subst, subst₂, ◌∙◌}
 use Rattle.std.specs.Prelude.{IsSome}
 use Rattle.fs_semantics.specs.Programs.{Program, Outcome}
 use Rattle.fs_semantics.specs.Orders.{IsExchange, outcome}
 use Rattle.fs_semantics.specs.FileTree.{Path, Tree}
 use Rattle.given_hosts.specs.Given.{IsDeterministicFrom, IsCounterexampleFrom, SucceedsFrom, IsSecondRunCounterexampleFrom}
-use Rattle.question_terms.specs.Terms.{budget_of}
-use Rattle.question_terms.specs.declared.terms.Terms.{Terms}
 use Rattle.orders.specs.Relation.{Relation, Comes}
-use Rattle.cnf.specs.Formulas.{Formula}
-use Rattle.cnf.specs.declared.log.Step.{Step}
-use Rattle.cnf.specs.declared.log.Log.{Log}
-use Rattle.proof_check.specs.Refuted.{Refutation}
 use Rattle.order_encode.specs.declared.witness.Witness.{Witness}
 use Rattle.order_encode.specs.declared.witness.Witness.TheVariants as witness
 use Rattle.determinism.specs.declared.first.Sure.{Sure}
-use Rattle.verdict.specs.declared.verdicts.Asked.{Asked}
-use Rattle.verdict.specs.declared.verdicts.Asked.TheVariants as asked
 use Rattle.verdict.specs.declared.verdicts.Second.{Second}
 use Rattle.verdict.specs.declared.verdicts.Second.TheVariants as second
 use Rattle.verdict.specs.declared.verdicts.Ends.{Ends}
 use Rattle.verdict.specs.declared.verdicts.Ends.TheVariants as ends
 use Rattle.verdict.specs.declared.verdicts.Verdict.{Verdict}
 use Rattle.verdict.specs.declared.verdicts.Verdict.TheVariants as verdict
-use Rattle.verdict.specs.Verdicts.{IfFrom, IfNever}
 use Rattle.given_verdict.specs.First.{IsDifferenceFrom}
 use Rattle.order_encode.specs.Witnesses.{IsFirstExtension}
 use Rattle.given_verdict.specs.Second.{IsChangeFrom}
-use Rattle.given_verdict.specs.Verdicts.{IsSpentOnFrom}
 use Rattle.given_verdict.specs.Answers.{IsVerdictFrom}
-use Rattle.verdict_report.specs.declared.report.Report.{Report}
-use Rattle.verdict_report.specs.Lines.{succeeds_line, fails_line}
+use Rattle.verdict_report.specs.Lines.{fails_line}
 use Rattle.explained_runs.specs.Told.{TellsApart, TellsAgain, TellsFromNothing}
-use Rattle.explain_report.specs.Lines.{apart_text, again_text, spent_text}
+use Rattle.explain_report.specs.Lines.{apart_text, again_text}
 use Rattle.explain_report.specs.Steps.{EndHolds}
-use Rattle.explain_report.specs.Told.{IsEnding, ExplainsDifference, ExplainsChange, ExplainsSpent}
+use Rattle.explain_report.specs.Told.{IsEnding, ExplainsDifference, ExplainsChange}
 
 -- ---- the end of the text
-
--- where some tree has a run without error the last line tells so
-pub ends_well : (given : List Path) (names : List (List ℕ)) (es : List Program) (order : Relation) (last : List ℕ) → SucceedsFrom given es (Comes order) → last ≡ succeeds_line ++ [] → IsEnding given names es order last
-ends_well given names es order last succeeds is = inl (is ∙ append-nil succeeds_line, succeeds)
 
 -- and where none has, it tells where the first extension fails from the given folders alone
 pub ends_never : (given : List Path) (names : List (List ℕ)) (es : List Program) (order : Relation) (line last : List ℕ) → (SucceedsFrom given es (Comes order) → ⊥) → TellsFromNothing given names es order line → last ≡ fails_line ++ line
     → IsEnding given names es order last
 ends_never given names es order line last never told is = inr (never, line, told, is)
-
--- what is said of success in an answer is so
-pub end_holds : (given : List Path) (es : List Program) (order : Relation) (k : ℕ) (s : Sure) (v : Refutation) (e : Ends) → IfFrom (verdict.Judged k s (second.Same v) e) (λ w. SucceedsFrom given es (Comes order))
-    → IfNever (verdict.Judged k s (second.Same v) e) (λ f. SucceedsFrom given es (Comes order) → ⊥) → EndHolds given es order e
-end_holds given es order k s v (ends.From w) succeeds never = succeeds
-end_holds given es order k s v (ends.Never u) succeeds never = never
 
 -- ---- a second run
 
@@ -101,36 +80,6 @@ explains_difference given names es order head lines shown text w t l r left righ
     record { status = refl; lines = lines; told = told order by.0 by.1; text = whole ∙ ap (apart_text head) all }
 
 -- ---- conflicts that are spent
-
--- conflicts that are spent are given
-given_some : (given : Option ℕ) → (budget_of given ≡ 2 ^ 64 - 1 → ⊥) → (c : ℕ) × (given ≡ Some c)
-given_some None limited = absurd (limited refl)
-given_some (Some c) limited = (c, refl)
-
--- where the budget was spent on a question it isn't the greatest number
-limited_in : (given : List Path) (es : List Program) (order : Relation) (budget : ℕ) (a : Asked) (f : Formula) (steps : List Step) → IsSpentOnFrom given es order budget a f steps → budget ≡ 2 ^ 64 - 1 → ⊥
-limited_in given es order budget asked.Deterministic f steps spent = spent.limited
-limited_in given es order budget asked.Idempotent f steps (inl spent) = spent.1.limited
-limited_in given es order budget asked.Idempotent f steps (inr spent) = spent.spent.limited
-limited_in given es order budget asked.Succeeds f steps spent = spent.1.limited
-
--- where the budget was spent the report explains on what
-pub explains_spent : (terms : Terms) (es : List Program) (order : Relation) (head : List ℕ) (k : ℕ) (a : Asked) (f : Formula) (log : Log) (proofs : List Refutation) (budget : ℕ) (report : Report)
-    → budget ≡ budget_of terms.conflicts → IsVerdictFrom terms.given es order (budget_of terms.conflicts) (verdict.Spent k a f log proofs) → report ≡ record { status = 3; text = spent_text head a budget }
-    → ExplainsSpent terms es order head report
-explains_spent terms es order head k a f log proofs budget report same said is =
-    let some = given_some terms.conflicts (limited_in terms.given es order (budget_of terms.conflicts) a f log.steps said.spent) in
-    subst (ExplainsSpent terms es order head) (sym is) (record {
-      status = refl;
-      conflicts = some.0;
-      limited = some.1;
-      asked = a;
-      formula = f;
-      steps = log.steps;
-      spent = said.spent;
-      known = said.known;
-      text = ap (spent_text head a) same;
-    })
 
 -- ---- the last question
 

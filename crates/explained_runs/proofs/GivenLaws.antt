@@ -90,10 +90,6 @@ added p t free = record {
 
 -- ---- down to a path
 
--- at the start a tree has grown down to the root
-pub begun : (p : Path) (t : Tree) → IsGrown 0 p t t
-begun p t = record { folder = inl refl; kept = λ q x h. h; new = λ q x h. inl h }
-
 -- a tree of folders is one after it has grown
 pub only_folders : (n : ℕ) (p : Path) (t u : Tree) → HasOnlyFolders t → IsGrown n p t u → HasOnlyFolders u
 only_folders n p t u h g q x there = elim (g.new q x there) [ inl old ↦ h q x old | inr new ↦ new.0 ]
@@ -142,7 +138,3 @@ nothing_given given t e p x h = let clash : ◌≡◌ {A = Option Entry} None (S
 -- and so has a tree that has grown to one of the given folders
 pub only_more : (given : List Path) (p : Path) (t u : Tree) → ((q : Path) → IsFront q p → IsAtOrAbove q given) → HasOnlyGiven given t → IsGrown (length p) p t u → HasOnlyGiven given u
 only_more given p t u among h g q x there = elim (g.new q x there) [ inl old ↦ h q x old | inr new ↦ (new.0, among q new.1) ]
-
--- a tree of nothing but what is given has only folders
-pub are_folders : (given : List Path) (t : Tree) → HasOnlyGiven given t → HasOnlyFolders t
-are_folders given t h p x there = (h p x there).0

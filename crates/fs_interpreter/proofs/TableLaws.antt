@@ -77,19 +77,6 @@ no_number t c kept none = elim (content_place t.contents.items c) as (λ o. cont
 pub all_children_below : (paths : List Path) (p : Path) (places : List ℕ) → places ≡ children_in paths p → AllByRecursion (λ i. i < length paths) places
 all_children_below paths p places e = subst (λ is. AllByRecursion (λ i. i < length paths) is) (sym e) (children_below paths p)
 
--- a table of nothing is kept
-pub empty_is_kept : (t : Inside) → t.nodes.items ≡ [] → t.top.items ≡ [] → t.contents.items ≡ [] → IsKept t
-empty_is_kept t nodes top contents =
-    let paths : paths_of t.nodes.items ≡ [] = ap paths_of nodes in
-    record {
-      table = subst IsTable (λ i. record { paths = sym paths i; contents = sym contents i }) (record { once = λ i j p h k. cc; no_root = λ i h. cc; parents = λ i p h. cc; before = λ i j p h k. cc; contents_once = λ i j c h k. cc });
-      top = top ∙ sym (ap (λ ps. children_in ps []) paths);
-      children = λ i n h. let no : ◌≡◌ {A = Option Node} None (Some n) = sym (ap (λ ns. slice_get ns i) nodes) ∙ h in cc;
-      parents = λ i n h. let no : ◌≡◌ {A = Option Node} None (Some n) = sym (ap (λ ns. slice_get ns i) nodes) ∙ h in cc;
-      places = λ p i h. let no : ◌≡◌ {A = Option ℕ} None (Some i) = sym (ap (λ ps. place_in ps p) paths) ∙ h in cc;
-      numbers = λ c i h. let no : ◌≡◌ {A = Option ℕ} None (Some i) = sym (ap (λ cs. content_place cs c) contents) ∙ h in cc;
-    }
-
 -- ---- in the lists that contracts see
 
 -- the comparison at a place tells whether this path stands there

@@ -66,10 +66,6 @@ empty_tree = record {
 pub no_entries : (m : BTreeMap Path Entry) → m.entries ≡ [] → tree_of m ≡ finite.empty
 no_entries m e = ap (λ es. finite.from_entries (entries_of es)) e
 
--- maps with the same entries are the same tree
-pub unchanged : (m n : BTreeMap Path Entry) → n.entries ≡ m.entries → tree_of n ≡ tree_of m
-unchanged m n e = ap (λ es. finite.from_entries (entries_of es)) e
-
 -- two functions on what may be there, one after the other, are both at once
 pub mapped_twice : {A B C : Type 0} (f : A → B) (g : B → C) (r : Option A) → option_map (λ x. g (f x)) r ≡ option_map g (option_map f r)
 mapped_twice f g None = refl

@@ -1,5 +1,5 @@
 -- Folders that are added one after the other.
-use Rattle.std.proofs.Common.{◌≡◌, ◌≢◌, inl, inr, ℕ, zero, suc, ◌+◌, ◌<◌, Bool, true, false, cond, [], ◌∷◌, length, take, drop, map, Option, Some, None, add-one, refl, sym, ap, subst, ◌∙◌, arith}
+use Rattle.std.proofs.Common.{◌≡◌, ◌≢◌, inr, ℕ, zero, suc, ◌+◌, ◌<◌, Bool, true, false, cond, [], ◌∷◌, length, take, drop, map, Option, Some, None, add-one, refl, sym, ap, subst, ◌∙◌, arith}
 use Rattle.std.proofs.lemmas.List.{drop-map}
 use Rattle.std.specs.FinMap as finite
 use Rattle.std.specs.FinMap.{get-empty, get-insert}
@@ -72,10 +72,6 @@ pub record Climbs (p : Path) (n : ℕ) (first t : Tree) : Type 0 where
   pub rest : with_folders t (drop n (fronts p)) ≡ with_folders first (fronts p)
   pub only : HasOnlyFolders t
   pub here : IsFolderAt t (take n p)
-
--- at the start the tree has none of the fronts, and all are left
-pub begins : (p : Path) (t : Tree) → HasOnlyFolders t → Climbs p 0 t t
-begins p t only = record { rest = refl; only = only; here = inl refl }
 
 -- the next front isn't the root
 pub below : (p front : Path) (n : ℕ) → n < length p → front ≡ take (n + 1) p → front ≢ []

@@ -51,10 +51,6 @@ not_sound d s states n g is = n (subst IsSound (same_stated d is.stated s is.sta
 pub gives_none : (bytes : List ℕ) (d : Data) → read bytes ≡ Some d → ((g : Given) → IsGivenBy d g → ⊥) → (g : Given) → IsGivenText bytes g → ⊥
 gives_none bytes d is n g text = n g (subst (λ e. IsGivenBy e g) (same_some text.json d (sym text.is_read ∙ is)) text.gives)
 
--- a text that isn't read as JSON gives nothing
-pub reads_none : (bytes : List ℕ) → read bytes ≡ None → (g : Given) → IsGivenText bytes g → ⊥
-reads_none bytes none g text = no_value text.json (sym none ∙ text.is_read)
-
 -- where the fault is the form, the JSON gives nothing
 pub not_stated : (d : Data) (e : Misread) → Fails e (stated_of d) → IfForm e ((g : Given) → IsGivenBy d g → ⊥)
 not_stated d misread.Form none = states_none d none

@@ -9,7 +9,6 @@ use Rattle.orders.specs.Relation.{Relation, comes}
 use Rattle.cnf.specs.Formulas.{Formula}
 use Rattle.cnf.specs.declared.log.Step.{Step}
 use Rattle.determinism.specs.First.{IsProof, IsSpent}
-use Rattle.size_limits.specs.Limits.{HasPaths}
 use Rattle.given_verdict.specs.Graphs.{asked_programs}
 use Rattle.given_verdict.specs.First.{IsProofFrom, IsSpentFrom}
 
@@ -29,8 +28,3 @@ pub spent_of_guarded : (given : List Path) (es : List Program) (order : Relation
     → IsSpent (guarded given es) (Told (guard_before order.count (comes order))) budget f steps → IsSpentFrom given es order budget f steps
 spent_of_guarded [] es order some budget f steps h = absurd (some refl)
 spent_of_guarded (p ∷ ps) es order some budget f steps h = h
-
--- the programs with the guard have as many paths as what is asked about
-pub paths_of_guarded : (given : List Path) (es : List Program) → given ≢ [] → (n : ℕ) → HasPaths (guarded given es) n → HasPaths (asked_programs given es) n
-paths_of_guarded [] es some n h = absurd (some refl)
-paths_of_guarded (p ∷ ps) es some n h = h

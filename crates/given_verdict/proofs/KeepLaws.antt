@@ -1,9 +1,9 @@
 -- Programs that have no removal of a given folder leave them standing.
-use Rattle.std.proofs.Common.{◌≡◌, Bool, true, false, not, ◌||◌, List, [], ◌∷◌, map, Some, inl, inr, refl, sym, ap, subst, ◌∙◌}
+use Rattle.std.proofs.Common.{◌≡◌, Bool, true, false, ◌||◌, List, [], ◌∷◌, map, Some, inl, inr, refl}
 use Rattle.std.specs.Prelude.{IsTrue}
 use Rattle.std.specs.List.{AllByRecursion}
 use Rattle.fs_semantics.specs.FileTree.{Path, Tree, is_dir, is_among, path_eq}
-use Rattle.fs_semantics.specs.Programs.{Test, Program, Programs, Rm, Steps, If, run}
+use Rattle.fs_semantics.specs.Programs.{Test, Program, Programs, Steps, If, run}
 use Rattle.fs_semantics.proofs.Trees.{path_eq_refl}
 use Rattle.given_hosts.specs.Given.{Stand}
 use Rattle.given_hosts.specs.Guard.{KeepsGiven}
@@ -11,15 +11,6 @@ use Rattle.fs_lang.specs.Meaning.{program_of, programs_in}
 use Rattle.fs_lang.specs.declared.program.Program.{Program as Code}
 use Rattle.sure_folders.specs.Folders.{MayRemove, MayRemoveInSteps}
 use Rattle.given_verdict.specs.Keeping.{Spares}
-
--- nothing holds together with its denial
-absent : (b : Bool) → IsTrue (not b) → IsTrue b → ⊥
-absent true h k = cc
-absent false h k = cc
-
--- the removal of a path that isn't given spares the given folders
-pub spares_removal : (given : List Path) (p : Path) → IsTrue (not (is_among p given)) → Spares given (Rm p)
-spares_removal given p h q among e = absent (is_among p given) h (subst (λ r. IsTrue (is_among r given)) e among)
 
 -- where each program of a list spares them, none of the steps may remove one
 spares_each : (given : List Path) (es : List Code) → AllByRecursion (Spares given) (map program_of es) → (p : Path) → IsTrue (is_among p given) → MayRemoveInSteps (programs_in es) p → ⊥

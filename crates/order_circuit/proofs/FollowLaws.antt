@@ -10,10 +10,6 @@ module _ (before : ℕ → ℕ → Bool) (n : ℕ) where
   abbrev asked : (ℕ → Bool) → ℕ → Bool
   asked taken i = not (taken i) && all_taken before taken i n
 
-  -- a number is itself
-  same_is : (i : ℕ) → (i == i) ≡ true
-  same_is i = elim (i == i) as (λ b. (i == i) ≡ b → b ≡ true) [ true ↦ λ k. refl | false ↦ λ k. absurd (eqb-false i i k refl) ] refl
-
   -- numbers that differ aren't told to be the same
   other_is : (i m : ℕ) → (i ≡ m → ⊥) → (i == m) ≡ false
   other_is i m h = elim (i == m) as (λ b. (i == m) ≡ b → b ≡ false) [ true ↦ λ k. absurd (h (eqb-true i m k)) | false ↦ λ k. refl ] refl

@@ -18,10 +18,6 @@ either_is true b free h = ((λ e. inl refl), (λ s. refl))
 either_is false b free h = ((λ e. inr (free, h.0 e)), (λ s. at_either s (λ e. cc) (λ p. h.1 p.1)))
 
 module _ (es : List Program) (order : Relation) (o : Outcome) (i : ℕ) where
-  -- directly behind a node there is none yet, so nothing more is asked
-  pub none_behind : {S : Type 0} (k : ℕ) → k ≡ i + 1 → S ↔ (S ⊎ ApartBehind es order o i k)
-  none_behind k e = ((λ s. inl s), (λ h. at_either h (λ s. s) (λ b. let low = b.1 in let high = b.2 in absurd (omega (arith, e, low, high)))))
-
   -- one node more is looked at
   pub behind_step : {A B S : Type 0} (k next : ℕ) → next ≡ k + 1 → i < k → A ↔ (S ⊎ ApartBehind es order o i k) → B ↔ (A ⊎ (IsFree (Comes order) i k × EndApartAt es o i k)) → B ↔ (S ⊎ ApartBehind es order o i next)
   behind_step {B = B} k next e less before now = (

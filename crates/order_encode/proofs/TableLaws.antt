@@ -1,7 +1,6 @@
 -- A table made again, path by path and content by content.
-use Rattle.std.proofs.Common.{◌≡◌, inl, inr, ℕ, zero, suc, ◌+◌, ◌<◌, List, [], ◌∷◌, ◌++◌, take, Option, Some, None, slice_get, refl, ap, ◌∙◌, arith}
-use Rattle.fs_semantics.specs.FileTree.{Path, parent}
-use Rattle.fs_interpreter.specs.Places.{Listed, IsTable, HasPath, or_added}
+use Rattle.std.proofs.Common.{◌≡◌, ℕ, zero, suc, ◌+◌, ◌<◌, List, [], ◌∷◌, ◌++◌, take, Option, Some, None, slice_get, refl, ap, ◌∙◌, arith}
+use Rattle.fs_interpreter.specs.Places.{or_added}
 
 -- what stands in a front stands in the list, at a place within the front
 front_get : {X : Type 0} (i : ℕ) (xs : List X) (j : ℕ) (x : X) → slice_get (take i xs) j ≡ Some x → (j < i) × (slice_get xs j ≡ Some x)
@@ -33,10 +32,3 @@ added xs i x (Some j) found once at =
     let there = front_get i xs j x (found j refl) in
     let same = once j i x there.1 at in
     absurd (omega (arith, there.0, same))
-
--- the parent is there already
-pub above_there : (table : Listed) (i : ℕ) (p : Path) (contents : List (List ℕ)) → IsTable table → slice_get table.paths i ≡ Some p → HasPath (record { paths = take i table.paths; contents = contents }) (parent p)
-above_there table i p contents is at = elim (is.parents i p at) [
-  | inl root ↦ inl root
-  | inr there ↦ inr (there.0, get_front i table.paths there.0 (parent p) (is.before i there.0 p at there.1) there.1)
-]

@@ -72,10 +72,6 @@ child_put old rest p made name f g q next is put =
     ∙ moved (list_any (λ r. path_eq q (r ++ name ∷ [])) rest) (path_eq q (p ++ name ∷ [])) (f q)
     ∙ sym (ap (λ l. list_any (λ r. path_eq q (r ++ name ∷ [])) l || f q) next)
 
--- what is false adds nothing to a disjunction
-pub none_yet : (b x : Bool) → b ≡ false → (x || b) ≡ x
-none_yet b x h = ap (λ y. x || y) h ∙ or_none x
-
 -- ---- in order
 
 -- a parent is less than its child

@@ -10,9 +10,7 @@ use Rattle.std.specs.Map.{keys_of}
 use Rattle.serde_json.specs.declared.value.Value.{Value}
 use Rattle.serde_json.specs.View.{view, items_view, members_view}
 use Rattle.serde_json.proofs.Views.{Entry}
-use Rattle.rh_base.specs.Reading.{◌>>=◌, Fails}
-use Rattle.rh_base.specs.declared.misread.Misread.{Misread}
-use Rattle.rh_base.specs.declared.misread.Misread.TheVariants as misread
+use Rattle.rh_base.specs.Reading.{◌>>=◌}
 use Rattle.rh_base.specs.declared.text.NoMemory.{NoMemory}
 use Rattle.fs_semantics.specs.FileTree.{Path}
 use Rattle.pp_value.specs.Keys.{with_pair}
@@ -35,15 +33,6 @@ pub record AreRead (version : Version) (ps : Packages) (es : List Entry) (whole 
   pub before : ComeBefore ps (keys_of es)
   pub sorted : IsStrictlySortedBy string_cmp (keys_of es)
   pub proper : AreProper ps
-
--- what is made of something, and is that itself, is what was there
-option_same : {X : Type 0} (o : Option X) → option_map (λ x. x) o ≡ o
-option_same None = refl
-option_same (Some x) = refl
-
--- at the start nothing is read, and all members are left
-pub nothing_read : (version : Version) (es : List Entry) → IsStrictlySortedBy string_cmp (keys_of es) → AreRead version [] es (packages_of version (members_view es))
-nothing_read version es h = record { read = option_same (packages_of version (members_view es)); before = tt; sorted = h; proper = tt }
 
 -- names that come before all keys come before the first
 heads : (k : String Global) (ks : List (String Global)) (ps : Packages) → ComeBefore ps (k ∷ ks) → AllByRecursion (λ q. slice_cmp nat_cmp q.0 (string_bytes k) ≡ Less) ps
@@ -96,17 +85,6 @@ pub next_read : (version : Version) (ps new : Packages) (es rest : List Entry) (
 next_read version ps new es rest k v name whole next name_is added r =
     let read = subst (λ l. AreRead version ps l whole) next r in
     subst (λ qs. AreRead version qs rest whole) (ap (λ n. with_pair n added.0 ps) (sym name_is) ∙ sym added.3) (one_more version ps (k, v) rest added.0 whole added.1 added.2 read)
-
--- where the next member is no package, there is no whole
-pub no_more : (version : Version) (ps : Packages) (es rest : List Entry) (k : String Global) (v : Value) (whole : Option Packages) → es ≡ (k, v) ∷ rest → package_of version (view v) ≡ None → AreRead version ps es whole → whole ≡ None
-no_more version ps es rest k v whole next none r =
-    let read = subst (λ l. AreRead version ps l whole) next r in
-    sym read.read ∙ ap (λ o. option_map (λ more. ps ++ more) (o >>= (λ q. option_map (λ qs. (string_bytes k, q) ∷ qs) (packages_of version (members_view rest))))) none
-
--- a fault of the next member is one of the whole
-pub passed : (version : Version) (ps : Packages) (es rest : List Entry) (k : String Global) (v : Value) (whole : Option Packages) (e : Misread) → es ≡ (k, v) ∷ rest → Fails e (package_of version (view v)) → AreRead version ps es whole → Fails e whole
-passed version ps es rest k v whole misread.Form next none r = no_more version ps es rest k v whole next none r
-passed version ps es rest k v whole (misread.Memory m) next none r = tt
 
 -- where no members are left, what was read is the whole
 pub all_read : (version : Version) (ps : Packages) (es : List Entry) (whole : Option Packages) → es ≡ [] → AreRead version ps es whole → whole ≡ Some ps

@@ -59,10 +59,6 @@ changed_next f n [] h = absurd (omega arith)
 changed_next f zero (r ∷ resources) h = refl
 changed_next f (suc n) (r ∷ resources) h = ap (λ (more : List Resource). f r ∷ more) (changed_next f n resources (omega arith))
 
--- at first nothing is made real
-pub none_yet : (s : State) → s ≡ realized_below 0 s
-none_yet s = refl
-
 -- one more place is one more that is real
 pub one_more : (n : ℕ) (s : State) → n < length s.resources → realized_at n (realized_below n s) ≡ realized_below (n + 1) s
 one_more n s h =

@@ -21,10 +21,6 @@ use Rattle.pp_declarations.specs.Choosing.{chosen_arm, equal_arm, default_arm, c
 same_body : (x y : List Stmt) → ◌≡◌ {A = Result (List Stmt) Refusal} (Ok x) (Ok y) → x ≡ y
 same_body x y h = cc
 
--- equal blocks as found are equal
-same_some : (x y : List Stmt) → ◌≡◌ {A = Option (List Stmt)} (Some x) (Some y) → x ≡ y
-same_some x y h = cc
-
 -- and so are results of them
 same_found : (x y : Option (List Stmt)) → ◌≡◌ {A = Result (Option (List Stmt)) Refusal} (Ok x) (Ok y) → x ≡ y
 same_found x y h = cc

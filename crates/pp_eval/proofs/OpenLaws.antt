@@ -8,27 +8,18 @@ use Rattle.pp_eval.specs.declared.scope.Scope.{Scope}
 use Rattle.pp_eval.specs.declared.scopes.BindFault.{BindFault}
 use Rattle.pp_eval.specs.declared.scopes.BindFault.TheVariants as fault
 use Rattle.pp_eval.specs.Inheriting.{ParentsStandBefore}
-use Rattle.pp_eval.specs.Scoping.{AreScopes, HasTop, BeginsWithTop, place_now, BindsAt, bindings_at, with_bindings_at}
+use Rattle.pp_eval.specs.Scoping.{AreScopes, HasTop, BeginsWithTop, BindsAt, bindings_at, with_bindings_at}
 use Rattle.pp_eval.proofs.Inheritance.{last_or_not}
 
 -- each place is below this number
 abbrev Below : ℕ → List ℕ → Type 0
 Below n places = AllByRecursion (λ place. place < n) places
 
--- scopes with a top are one or more
-some_scope : (scopes : List Scope) → HasTop scopes → 0 < length scopes
-some_scope [] h = absurd h
-some_scope (s ∷ scopes) h = omega arith
-
 -- a place among those below a number, or 0, is below it
 below_get : (n : ℕ) (places : List ℕ) (i : ℕ) → 0 < n → Below n places → unwrap_or (slice_get places i) 0 < n
 below_get n [] i some h = some
 below_get n (x ∷ places) zero some h = h.0
 below_get n (x ∷ places) (suc i) some h = below_get n places i some h.1
-
--- the current place is within the scopes
-pub place_below : (scopes : List Scope) (opened : List ℕ) → AreScopes scopes opened → place_now opened < length scopes
-place_below scopes opened h = below_get (length scopes) opened (length opened - 1) (some_scope scopes h.top) h.below
 
 -- ---- entering
 

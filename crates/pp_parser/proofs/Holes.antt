@@ -151,10 +151,6 @@ first_kind k s at us more t = ap (λ (l : List Lexeme). kind_of_first (l ++ more
 first_of_then : (A B : List Lexeme → Type 0) (k : Kind) (us more : List Lexeme) → ((vs ws : List Lexeme) → A vs → kind_of_first (vs ++ ws) ≡ prelude.Some k) → (A then B) us → kind_of_first (us ++ more) ≡ prelude.Some k
 first_of_then A B k us more f h = ap (λ (l : List Lexeme). kind_of_first (l ++ more)) h.whole ∙ ap kind_of_first (append_assoc h.front h.back more) ∙ f h.front (h.back ++ more) h.first
 
--- a kind that is WORD is there as such
-some_kind : (k : Kind) → k ≡ kind.Word → prelude.Some k ≡ prelude.Some kind.Word
-some_kind k e = ap prelude.Some e
-
 -- no other operand begins with a WORD and is read as a variable
 word_operand : (d : ℕ) (x b : Expr) (us more : List Lexeme) → PrimaryOf (IsExprAt d) x us → ReadAsVariable x b → kind_of_first (us ++ more) ≡ prelude.Some kind.Word
     → (name : List ℕ) × Token kind.Word name x.at us × (b.form ≡ form.Var name) × (b.at ≡ x.at)

@@ -336,10 +336,6 @@ word_found w (v ∷ ws) x h =
     let same : ◌≡◌ {A = Unit {0} × List Word} (tt, ws) x = cc in
     ap (λ u. u ∷ ws) ((bytes_eq-Decides v w).0 f.0) ∙ ap (λ (p : Unit {0} × List Word). w ∷ p.1) same
 
--- a fixed word is read as itself
-word_read : (w : Word) (rest : List Word) → word_is w (w ∷ rest) ≡ Some (tt, rest)
-word_read w rest = ap (λ b. if b then Some (tt, rest) else None) ((bytes_eq-Decides w w).1 refl)
-
 -- ---- links
 
 -- these words begin with links and a 0, whose numbers fit and whose pivots are over the variables

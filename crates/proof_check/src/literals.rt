@@ -1,6 +1,6 @@
-//! The clause so far of a chain, which is the resolvent behind the links up to one, as a hash set of literals. It takes memory by the
-//! literals that it has, where marks by variable would take it by the number of variables that a text states; and a link costs as
-//! much as the clause that it names.
+//! The resolvent of a chain behind its links up to one, as a hash set of literals. It takes memory by the literals that it has,
+//! where marks by variable would take it by the number of variables that a text states; and a link costs as much as the clause
+//! that it names.
 
 ghost use Rattle.std.specs.Prelude.{◌≡◌, true, false, [], cond, IfOk, OnOk, OnErr};
 ghost use Rattle.cnf.specs.Literals.{HasVariable, same_lit};

@@ -1,6 +1,6 @@
 -- Lines of programs: one more of them, and the end, when no program is left.
 use Rattle.std.proofs.Common.{◌≡◌, ◌+◌, ◌<◌, ◌≤◌, ℕ, suc, Bool, false, List, [], ◌∷◌, ◌++◌, length, map, get_or, drop, Option, sym, ap, ◌∙◌, append-nil, append_assoc, drop-cons, arith}
-use Rattle.std.proofs.lemmas.List.{length-map, get_or-map, drop_all}
+use Rattle.std.proofs.lemmas.List.{get_or-map, drop_all}
 use Rattle.catalog_semantics.specs.Catalogs.{Catalog}
 use Rattle.compiled_text.specs.Compiled.{Compiled}
 use Rattle.fs_semantics.specs.Programs as model
@@ -18,10 +18,6 @@ one_unmarked plain i marks h =
     append_assoc marks (false ∷ []) (map (λ place. false) (drop (i + 1) plain)) ∙ ap (λ ps. marks ++ map (λ place. false) ps) (sym places)
 
 module _ (k : Known) (m : Option Compiled) (c : Catalog) (plain : List ℕ) where
-  -- there are as many marks as resources
-  pub marked : (marks : List Bool) → marks ≡ map (is_assumed_at k m) plain → length marks ≡ length plain
-  marked marks are = ap length are ∙ length-map plain (is_assumed_at k m)
-
   -- the mark of the resource at an index
   mark_at : (marks : List Bool) (i : ℕ) (d : Bool) → marks ≡ map (is_assumed_at k m) plain → i < length plain → get_or marks i d ≡ is_assumed_at k m (get_or plain i 0)
   mark_at marks i d are h = ap (λ bs. get_or bs i d) are ∙ get_or-map (is_assumed_at k m) plain i 0 d h

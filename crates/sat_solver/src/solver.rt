@@ -9,7 +9,7 @@ ghost use Rattle.cnf.specs.Proofs.{IsAccepted};
 ghost use Rattle.sat_solver.specs.Literals.{has};
 ghost use Rattle.sat_solver.specs.Meaning.{IsBlank};
 ghost use Rattle.sat_solver.specs.Solving.{IsLoaded};
-ghost use Rattle.sat_solver.specs.Turning.{IsState, IsOngoing, InConflict, IsAtRest, IsUnsatisfied, Propagates, IsSameTask, IsFull, Turns, Finds};
+ghost use Rattle.sat_solver.specs.Turning.{IsState, InConflict, IsAtRest, IsUnsatisfied, Propagates, IsSameTask, IsFull, Turns, Finds};
 
 use crate::activity::Activity;
 use crate::analyze::Resolvent;

@@ -3,8 +3,7 @@ use Rattle.std.proofs.Common.{◌≡◌, ℕ, ◌≤◌, ◌==◌, Bool, true, f
 use Rattle.std.specs.declared.cmp.Ordering.{Ordering}
 use Rattle.std.specs.declared.cmp.Ordering.TheVariants.{Less, Equal, Greater}
 use Rattle.std.specs.Ordering.{nat_cmp, match_ordering}
-use Rattle.std.specs.Cmp.{tied_itself}
-use Rattle.std.specs.Cmp.Lexicographic.{slice_cmp, nat_list_cmp_total}
+use Rattle.std.specs.Cmp.Lexicographic.{slice_cmp}
 use Rattle.std.proofs.lemmas.Bool.{eqb-true}
 use Rattle.serde_json.specs.Data.{Data, null, boolean, number, string, array, object, Members, no_members, member, depth}
 use Rattle.serde_json.specs.Events.{members_len}
@@ -115,13 +114,3 @@ entry_is (object ms) x h = at (target_in ms) refl h
     at : (o : Option (List ℕ)) → target_in ms ≡ o → option_map Link o ≡ Some x → object ms ≡ entry_data x
     at None e h = cc
     at (Some s) e h = ap object (link_is ms s e) ∙ ap entry_data (some_same (Link s) x h)
-
--- and what stands for an entry is read as it
-pub entry_back : (x : fs.Entry) → entry_in (entry_data x) ≡ Some x
-entry_back Folder = refl
-entry_back (File content) = refl
-entry_back (Link target) = ap (λ o. option_map Link (option_and_then as_str (match_ordering o None (Some (string target)) None))) (tied_itself nat_list_cmp_total (codes "link"))
-
--- JSON that isn't read as an entry stands for none
-pub no_entry : (d : Data) (x : fs.Entry) → entry_in d ≡ None → d ≡ entry_data x → ⊥
-no_entry d x h e = let clash : ◌≡◌ {A = Option fs.Entry} None (Some x) = sym h ∙ ap entry_in e ∙ entry_back x in cc

@@ -1,9 +1,8 @@
 -- Laws of marks.
-use Rattle.std.proofs.Common.{◌≡◌, ◌⊎◌, inl, inr, ℕ, zero, suc, ◌+◌, ◌-◌, ◌<◌, Bool, true, false, true≢false, ◌||◌, List, [], ◌∷◌, length, get_or, set, slice_get, Some, refl, sym, ap, ◌∙◌, arith}
+use Rattle.std.proofs.Common.{◌≡◌, ◌⊎◌, inl, inr, ℕ, zero, suc, ◌+◌, ◌-◌, ◌<◌, Bool, true, false, true≢false, ◌||◌, List, [], ◌∷◌, length, slice_get, Some, refl, sym, ap, ◌∙◌, arith}
 use Rattle.std.specs.Prelude.{◌==◌}
 use Rattle.std.specs.List.{list_any}
-use Rattle.std.proofs.lemmas.Bool.{cases_eq, eq-eqb, ne_eqb}
-use Rattle.std.proofs.lemmas.List.{length-set, get_or-set_same, get_or-set_other}
+use Rattle.std.proofs.lemmas.Bool.{cases_eq}
 use Rattle.cnf.specs.declared.log.Step.{Step}
 use Rattle.trimmed_proofs.specs.Trimmed.{names}
 use Rattle.trimmed_proofs.specs.Marks.{is_marked, MarksMore, NameEarlier, AreMarkedFrom}
@@ -12,11 +11,6 @@ use Rattle.trimmed_proofs.specs.Marks.{is_marked, MarksMore, NameEarlier, AreMar
 pub or_cases : (a b : Bool) → (a || b) ≡ true → (a ≡ true) ⊎ (b ≡ true)
 or_cases true b h = inl refl
 or_cases false b h = inr h
-
--- nothing is added to a test by one that fails
-or_false : (a b : Bool) → b ≡ false → a ≡ (a || b)
-or_false true b h = refl
-or_false false b h = sym h
 
 -- a disjunction with a true side is true
 pub or_true : (a b : Bool) → b ≡ true → true ≡ (a || b)
@@ -33,28 +27,6 @@ marked_within : (marks : List Bool) (j : ℕ) → is_marked marks j ≡ true →
 marked_within [] j h = absurd (true≢false (sym h))
 marked_within (b ∷ marks) zero h = omega arith
 marked_within (b ∷ marks) (suc j) h = let r = marked_within marks j h in omega arith
-
--- a number that no step has marks nothing
-pub marked_none : (count number : ℕ) (marks : List Bool) → ((j : ℕ) → j < length marks → number ≡ count + j + 1 → ⊥) → MarksMore count marks marks (λ k. number == k)
-marked_none count number marks none = record {
-  long = refl;
-  marks = λ j h. or_false (is_marked marks j) (number == (count + j + 1)) (ne_eqb number (count + j + 1) (none j h));
-}
-
--- the number of a step marks that step
-pub marked_one : (count number place : ℕ) (marks : List Bool) → number ≡ count + place + 1 → place < length marks → MarksMore count marks (set marks place true) (λ k. number == k)
-marked_one count number place marks is within = record {
-  long = length-set marks place true;
-  marks = λ j h. elim (cases_eq j place) [
-    | inl e ↦
-        ap (λ i. get_or (set marks place true) i false) e
-        ∙ get_or-set_same marks place true false within
-        ∙ or_true (is_marked marks j) (number == (count + j + 1)) (eq-eqb number (count + j + 1) (omega arith))
-    | inr n ↦
-        get_or-set_other marks place j true false n
-        ∙ or_false (is_marked marks j) (number == (count + j + 1)) (ne_eqb number (count + j + 1) (λ e. n (omega arith)))
-  ];
-}
 
 -- marks that are made one after the other are those of both tests
 pub marked_twice : (count : ℕ) (old middle new : List Bool) (p q r : ℕ → Bool) → MarksMore count old middle p → MarksMore count middle new q
@@ -127,13 +99,3 @@ module _ (count : ℕ) (steps : List Step) (i : ℕ) (old new : List Bool) (s : 
       | inr it ↦ let a = earlier i (count + j + 1) s at it in inr (record { place = i; step = s; behind = omega arith; at = at; marked = stays i on; named = it })
     ];
   }
-
--- where the last step alone is marked
-pub marked_last : (count : ℕ) (steps : List Step) (marks : List Bool) → length marks ≡ length steps → is_marked marks (length steps - 1) ≡ true
-    → ((j : ℕ) → is_marked marks j ≡ true → j + 1 ≡ length steps) → AreMarkedFrom count steps (length steps) marks
-marked_last count steps marks long last only = record {
-  long = long;
-  last = last;
-  closed = λ j k s low at on named over. let w = marked_within marks j on in absurd (omega arith);
-  used = λ j on. inl (only j on);
-}
