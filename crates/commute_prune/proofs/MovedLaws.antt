@@ -11,8 +11,9 @@ use Rattle.fs_semantics.proofs.Counts.{times_append, times_found, all_from, all_
 use Rattle.fs_semantics.proofs.Permuted.{and_then_assoc, then_alike}
 use Rattle.fs_semantics.proofs.Commuting.{outcome-append}
 use Rattle.effect_sets.specs.Footprints.{footprint, AreApart}
-use Rattle.commute_prune.specs.Pruning.{without, IsOrderOf, ApartAt, MayBeLast, MayBeFirst, Move, ToFirst, ToLast, Leads, firsts, lasts}
-use Rattle.commute_prune.proofs.Lists.{none_left, others_left}
+use Rattle.commute_prune.specs.Pruning.{ApartAt, MayBeLast, MayBeFirst, Leads}
+use Rattle.sure_folders.specs.Pruning.{without, IsOrderOf, Move, ToFirst, ToLast, firsts, lasts}
+use Rattle.sure_folders.proofs.Lists.{none_left, others_left}
 
 -- all orders of ks end alike
 abbrev pub AllAgree : List Program → (ℕ → ℕ → Type 0) → List ℕ → Type 0

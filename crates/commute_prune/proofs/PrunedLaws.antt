@@ -8,7 +8,8 @@ use Rattle.fs_semantics.specs.Orders.{Told, times, up_from}
 use Rattle.fs_semantics.proofs.Counts.{times_itself, times_other, all_at}
 use Rattle.orders.specs.Relation.{Relation, comes}
 use Rattle.commute_prune.specs.Matrix.{cell, IsMatrix}
-use Rattle.commute_prune.specs.Pruning.{Move, ToFirst, ToLast, without, ApartAt, MayBeLast, MayBeFirst, IsLeast, Never, Prunes, lasts}
+use Rattle.commute_prune.specs.Pruning.{ApartAt, MayBeLast, MayBeFirst, IsLeast, Never, Prunes}
+use Rattle.sure_folders.specs.Pruning.{Move, ToFirst, ToLast, without, lasts}
 use Rattle.commute_prune.specs.Steps.{are_apart, lets_last, lets_first, may_last, may_first, next_move}
 use Rattle.commute_prune.specs.Pruned.{lates, Finds, Rises}
 use Rattle.commute_prune.proofs.StepLaws.{or_last, or_other, or_none, found_there, without_keeps}

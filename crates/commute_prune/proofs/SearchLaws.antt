@@ -9,11 +9,11 @@ use Rattle.fs_semantics.proofs.Counts.{all_at}
 use Rattle.orders.specs.Relation.{Relation}
 use Rattle.commute_prune.specs.declared.search.End.TheVariants as end
 use Rattle.commute_prune.specs.declared.search.Search.{Search}
-use Rattle.commute_prune.specs.Pruning.{without}
+use Rattle.sure_folders.specs.Pruning.{without}
 use Rattle.commute_prune.specs.Steps.{lets}
 use Rattle.commute_prune.specs.Search.{blocks, AreMarked, IsSeen, IsSearch, IsNothingSeen}
-use Rattle.commute_prune.proofs.Kept.{up_once, higher_none}
-use Rattle.commute_prune.proofs.Lists.{none_left, others_left}
+use Rattle.sure_folders.proofs.Places.{up_once, higher_none}
+use Rattle.sure_folders.proofs.Lists.{none_left, others_left}
 use Rattle.commute_prune.proofs.PrunedLaws.{all_true, true_all}
 
 -- ---- nothing seen

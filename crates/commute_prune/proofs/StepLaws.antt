@@ -8,7 +8,7 @@ use Rattle.fs_semantics.proofs.Keys.{same_bool}
 use Rattle.fs_semantics.proofs.Counts.{times_itself}
 use Rattle.orders.specs.Relation.{Relation, comes, Comes}
 use Rattle.commute_prune.specs.declared.settling.Pruning.{Pruning}
-use Rattle.commute_prune.specs.Pruning.{Move, ToFirst, ToLast, without, firsts}
+use Rattle.sure_folders.specs.Pruning.{Move, ToFirst, ToLast, without, firsts}
 use Rattle.commute_prune.specs.Steps.{may_last, may_first, or_first, next_move}
 use Rattle.commute_prune.specs.Pruned.{lates, Stepped, Finds, subject, IsStart, IsOnTheWay}
 

@@ -6,7 +6,8 @@ use Rattle.fs_semantics.specs.Orders.{up_from}
 use Rattle.orders.specs.Relation.{Relation}
 use Rattle.commute_prune.specs.declared.settling.Pruned.{Pruned}
 use Rattle.commute_prune.specs.declared.settling.Pruning.{Pruning}
-use Rattle.commute_prune.specs.Pruning.{Move, ToFirst, ToLast, without, Prunes, firsts, lasts}
+use Rattle.commute_prune.specs.Pruning.{Prunes}
+use Rattle.sure_folders.specs.Pruning.{Move, ToFirst, ToLast, without, firsts, lasts}
 use Rattle.commute_prune.specs.Steps.{next_move}
 
 -- The moves of pruning, from all programs on, lead to what is kept.

@@ -1,20 +1,11 @@
 -- Setting aside programs whose order doesn't matter.
-use Rattle.std.specs.Prelude.{◌≡◌, ◌≢◌, ◌==◌, ℕ, ◌<◌, ◌≤◌, List, [], ◌∷◌, ◌++◌, map, slice_index_or, length, if◌then◌else◌}
+use Rattle.std.specs.Prelude.{◌≡◌, ◌≢◌, ℕ, ◌<◌, ◌≤◌, List, [], ◌∷◌, ◌++◌, map, slice_index_or, length}
 use Rattle.std.specs.List.{AllByRecursion}
 use Rattle.fs_semantics.specs.FileTree.{Tree, IsTree}
 use Rattle.fs_semantics.specs.Programs.{Program, Id}
-use Rattle.fs_semantics.specs.Orders.{NoneAhead, IsLinearExtension, times, outcome}
+use Rattle.fs_semantics.specs.Orders.{IsLinearExtension, times, outcome}
 use Rattle.effect_sets.specs.Footprints.{footprint, AreApart}
-
--- these numbers, without one of them
-abbrev pub without : ℕ → List ℕ → List ℕ
-without k [] = []
-without k (j ∷ js) = if j == k then without k js else (j ∷ without k js)
-
--- each number as often as in ks, and none ahead of one that comes before it
-pub record IsOrderOf (before : ℕ → ℕ → Type 0) (ks o : List ℕ) : Type 0 where
-  pub same : (k : ℕ) → times k o ≡ times k ks
-  pub kept : NoneAhead before o
+use Rattle.sure_folders.specs.Pruning.{without, Move, ToFirst, ToLast, firsts, lasts, chosen, between}
 
 -- the programs with these two numbers are apart
 abbrev pub ApartAt : List Program → ℕ → ℕ → Type 0
@@ -31,11 +22,6 @@ pub record MayBeFirst (es : List Program) (before : ℕ → ℕ → Type 0) (ks 
   pub once : times k ks ≡ 1
   pub none_before : (j : ℕ) → 0 < times j ks → before j k → ⊥
   pub apart : (j : ℕ) → 0 < times j ks → j ≢ k → (before k j → ⊥) → ApartAt es k j
-
--- the program with this number goes first, or last
-pub data Move : Type 0 where
-  ToFirst : ℕ → Move
-  ToLast : ℕ → Move
 
 -- these moves, one after the other, lead from all of ks to those that are kept
 abbrev pub Leads : List Program → (ℕ → ℕ → Type 0) → List Move → List ℕ → List ℕ → Type 0
@@ -58,24 +44,6 @@ Prunes es before [] ks kept = (kept ≡ ks) × Never (MayBeLast es before ks) ×
 Prunes es before (ToFirst k ∷ moves) ks kept = Never (MayBeLast es before ks) × IsLeast (MayBeFirst es before ks) k
     × Prunes es before moves (without k ks) kept
 Prunes es before (ToLast k ∷ moves) ks kept = IsLeast (MayBeLast es before ks) k × Prunes es before moves (without k ks) kept
-
--- what goes first, in order, and what goes last
-abbrev pub firsts : List Move → List ℕ
-firsts [] = []
-firsts (ToFirst k ∷ moves) = k ∷ firsts moves
-firsts (ToLast k ∷ moves) = firsts moves
-
-abbrev pub lasts : List Move → List ℕ
-lasts [] = []
-lasts (ToFirst k ∷ moves) = lasts moves
-lasts (ToLast k ∷ moves) = lasts moves ++ k ∷ []
-
--- the programs with these numbers, and what comes before what among them
-abbrev pub chosen : List Program → List ℕ → List Program
-chosen es ks = map (λ k. slice_index_or es k Id) ks
-
-abbrev pub between : (ℕ → ℕ → Type 0) → List ℕ → ℕ → ℕ → Type 0
-between before ks a b = before (slice_index_or ks a 0) (slice_index_or ks b 0)
 
 -- numbers below n, each at most once
 pub record AreSome (n : ℕ) (ks : List ℕ) : Type 0 where

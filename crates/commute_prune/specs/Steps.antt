@@ -5,7 +5,7 @@ use Rattle.orders.specs.Relation.{Relation, comes}
 use Rattle.commute_prune.specs.Matrix.{cell}
 use Rattle.commute_prune.specs.declared.search.End.{End}
 use Rattle.commute_prune.specs.declared.search.End.TheVariants as end
-use Rattle.commute_prune.specs.Pruning.{Move, ToFirst, ToLast}
+use Rattle.sure_folders.specs.Pruning.{Move, ToFirst, ToLast}
 
 -- neither program changes what the other one looks at
 abbrev pub are_apart : List (List Bool) → ℕ → ℕ → Bool

@@ -8,7 +8,8 @@ ghost use Rattle.fs_semantics.specs.Orders.{Told, up_from, IsLinearExtension, Is
 ghost use Rattle.sure_folders.specs.Folders.{nowhere, IsTreeWith};
 ghost use Rattle.sure_folders.specs.Before.{IsSureBeforeEither};
 ghost use Rattle.commute_prune.specs.Doubtful.{AreApartWhereSure, AreDoubtful};
-ghost use Rattle.commute_prune.specs.Pruning.{Move, Leads, Prunes, firsts, lasts, chosen, between, AreSome, EndsAsKept};
+ghost use Rattle.commute_prune.specs.Pruning.{Leads, Prunes, AreSome, EndsAsKept};
+ghost use Rattle.sure_folders.specs.Pruning.{Move, firsts, lasts, chosen, between};
 
 use effect_sets::apart_programs;
 use sure_folders::{apart_where_sure, sure_before};

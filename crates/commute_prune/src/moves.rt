@@ -3,7 +3,7 @@
 ghost use Rattle.std.specs.Prelude.{◌≡◌, ◌<◌, IfOk};
 ghost use Rattle.orders.specs.Relation.{comes};
 ghost use Rattle.commute_prune.specs.Matrix.{cell};
-ghost use Rattle.commute_prune.specs.Pruning.{without};
+ghost use Rattle.sure_folders.specs.Pruning.{without};
 ghost use Rattle.commute_prune.specs.Steps.{are_apart, lets_last, lets_first};
 
 use orders::Order;

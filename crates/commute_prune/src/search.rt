@@ -7,7 +7,7 @@
 ghost use Rattle.std.specs.Prelude.{◌≡◌, ℕ, ◌<◌, ◌≤◌, Bool, true, false, List, length, slice_index_or, IfOk, IfSome};
 ghost use Rattle.std.specs.List.{AllByRecursion, find};
 ghost use Rattle.orders.specs.Relation.{Relation};
-ghost use Rattle.commute_prune.specs.Pruning.{without};
+ghost use Rattle.sure_folders.specs.Pruning.{without};
 ghost use Rattle.commute_prune.specs.Steps.{lets, may};
 ghost use Rattle.commute_prune.specs.Search.{blocks, AreMarked, IsSeen, IsSearch, IsNothingSeen};
 

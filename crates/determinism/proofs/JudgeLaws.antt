@@ -11,7 +11,8 @@ use Rattle.path_domain.specs.Laid.{layout_of}
 use Rattle.fs_lang.specs.declared.program.Program.{Program as CodeProgram}
 use Rattle.fs_lang.specs.Meaning.{program_of}
 use Rattle.orders.specs.Relation.{Relation, comes, Comes}
-use Rattle.commute_prune.specs.Pruning.{Move, Prunes, chosen, between}
+use Rattle.commute_prune.specs.Pruning.{Prunes}
+use Rattle.sure_folders.specs.Pruning.{Move, chosen, between}
 use Rattle.commute_prune.specs.Keeping.{Keeps}
 use Rattle.cnf.specs.Formulas.{Formula}
 use Rattle.cnf.specs.declared.log.Log.{Log}

@@ -5,7 +5,7 @@ use Rattle.fs_semantics.specs.Orders.{IsDeterministic}
 use Rattle.finite_domain.specs.Layouts.{IsLayout}
 use Rattle.path_domain.specs.declared.listed.Domain.{Domain}
 use Rattle.path_domain.specs.Laid.{layout_of}
-use Rattle.commute_prune.specs.Pruning.{chosen, between}
+use Rattle.sure_folders.specs.Pruning.{chosen, between}
 use Rattle.cnf.specs.Formulas.{Formula, IsSatisfiable}
 use Rattle.order_encode.specs.Witnesses.{HaveDifferentOutcomes}
 

@@ -1,25 +1,23 @@
 -- What stands behind a first run: all orders end alike there, or one of two shows a second run that changes something.
 use Rattle.std.proofs.Common.{◌≡◌, ◌≢◌, ◌⊎◌, inl, inr, ℕ, Bool, true, false, ◌+◌, ◌<◌, List, [], ◌∷◌, ◌++◌, length, length-append, map, drop, get_or, Some, None, refl, sym, ap, ap₂, subst, ◌∙◌}
-use Rattle.std.specs.Prelude.{◌↔◌}
 use Rattle.std.specs.List.{AllByRecursion}
 use Rattle.fs_semantics.specs.FileTree.{Path, Tree}
 use Rattle.fs_semantics.specs.Programs.{Program, Programs, Id, Steps, none, next, Outcome, and_then}
 use Rattle.fs_semantics.specs.Orders.{Told, IsLinearExtension, outcome, IsDeterministic, IsCounterexample}
 use Rattle.fs_semantics.proofs.Commuting.{outcome-append}
-use Rattle.given_hosts.specs.Given.{Stand, IsDeterministicFrom, IsIdempotentFrom, IsSecondRunCounterexampleFrom}
+use Rattle.given_hosts.specs.Given.{IsDeterministicFrom, IsIdempotentFrom, IsSecondRunCounterexampleFrom}
 use Rattle.given_hosts.specs.Guard.{guard, GoesFirst, steps_in, first_run, after_first, guard_before}
 use Rattle.given_hosts.proofs.GuardLaws.{guard_first, goes_first}
 use Rattle.given_hosts.proofs.SecondRuns.{after_one, one_changes}
 use Rattle.fs_lang.specs.Meaning.{program_of, programs_in}
 use Rattle.fs_lang.specs.declared.program.Program.{Program as Code}
-use Rattle.commute_prune.specs.Pruning.{chosen}
-use Rattle.orders.specs.Relation.{Relation, comes, Comes}
+use Rattle.sure_folders.specs.Pruning.{chosen}
+use Rattle.orders.specs.Relation.{Relation, comes}
 use Rattle.cnf.specs.Formulas.{Formula}
 use Rattle.proof_check.specs.Refuted.{HasNoModel}
 use Rattle.order_encode.specs.Witnesses.{IsFirstExtension}
 use Rattle.order_encode.specs.declared.witness.Witness.{Witness}
 use Rattle.order_encode.specs.declared.witness.Witness.TheVariants as witness
-use Rattle.determinism.specs.First.{IsDifference}
 use Rattle.given_verdict.specs.Second.{NeverChangedFrom, IsSecondChangeFrom, IsSecondProofFrom, IsSecondRunFrom}
 use Rattle.given_verdict.specs.Behind.{IsDifferenceBehind, EndsDifferently, IsDifferentOf}
 

@@ -7,7 +7,7 @@ ghost use Rattle.fs_semantics.specs.Orders.{Told};
 ghost use Rattle.fs_lang.specs.Meaning.{program_of};
 ghost use Rattle.given_hosts.specs.Given.{IsDeterministicFrom};
 ghost use Rattle.given_hosts.specs.Guard.{first_run};
-ghost use Rattle.commute_prune.specs.Pruning.{chosen};
+ghost use Rattle.sure_folders.specs.Pruning.{chosen};
 ghost use Rattle.orders.specs.Relation.{comes};
 ghost use Rattle.proof_check.specs.Refuted.{HasNoModel};
 ghost use Rattle.given_verdict.specs.Second.{NeverChangedFrom, IsSecondRunFrom, AnswersAgainFrom};

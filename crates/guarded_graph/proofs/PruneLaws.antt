@@ -1,20 +1,20 @@
 -- Pruning keeps of a graph with the guard in front just what it keeps of the graph: nothing may go first while the guard is there, and
 -- it goes where nothing else may go last.
-use Rattle.std.proofs.Common.{◌≡◌, ◌≢◌, ◌↔◌, ℕ, zero, suc, ◌+◌, ◌<◌, ◌≤◌, ◌==◌, true, false, cond, inl, inr, List, [], ◌∷◌, ◌++◌, length, length-append, get_or, refl, sym, ap, subst, ◌∙◌, arith, add-one, zero-add, eqb-true, eq-eqb, ne_eqb}
+use Rattle.std.proofs.Common.{◌≡◌, ◌≢◌, ◌↔◌, ℕ, zero, suc, ◌+◌, ◌<◌, ◌≤◌, ◌==◌, true, false, cond, inl, inr, List, [], ◌∷◌, ◌++◌, length, length-append, get_or, refl, sym, ap, subst, ◌∙◌, arith, add-one, zero-add, eq-eqb, ne_eqb}
 use Rattle.std.proofs.lemmas.Bool.{cases_Bool, cases_eq, eqb-false}
-use Rattle.std.specs.Prelude.{IsTrue}
 use Rattle.std.specs.List.{AllByRecursion}
 use Rattle.fs_semantics.specs.FileTree.{Path}
 use Rattle.fs_semantics.specs.Programs.{Program, Id}
-use Rattle.fs_semantics.specs.Orders.{Told, times, up_from}
-use Rattle.fs_semantics.proofs.Counts.{times_append, times_itself, times_other, all_at}
+use Rattle.fs_semantics.specs.Orders.{times, up_from}
+use Rattle.fs_semantics.proofs.Counts.{times_append, times_itself, all_at}
 use Rattle.fs_semantics.proofs.Commuting.{none_above}
 use Rattle.effect_sets.specs.Footprints.{footprint, AreApart}
-use Rattle.commute_prune.specs.Pruning.{without, ApartAt, MayBeLast, MayBeFirst, Move, ToFirst, ToLast, IsLeast, Never, Prunes}
+use Rattle.commute_prune.specs.Pruning.{ApartAt, MayBeLast, MayBeFirst, Prunes}
+use Rattle.sure_folders.specs.Pruning.{without, Move, ToFirst, ToLast}
 use Rattle.commute_prune.specs.Keeping.{Keeps}
-use Rattle.commute_prune.proofs.Lists.{none_left, others_left}
+use Rattle.sure_folders.proofs.Lists.{none_left, others_left}
 use Rattle.commute_prune.proofs.StepLaws.{up_below, without_keeps}
-use Rattle.given_hosts.specs.Guard.{guard, guarded, GoesFirst}
+use Rattle.given_hosts.specs.Guard.{guard, guarded}
 
 -- ---- numbers that are taken out
 

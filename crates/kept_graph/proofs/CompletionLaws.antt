@@ -6,7 +6,7 @@ use Rattle.fs_semantics.specs.Programs.{Program}
 use Rattle.fs_semantics.specs.Orders.{Told, NoneAhead, times, IsLinearExtension, IsFree, IsExchange}
 use Rattle.fs_semantics.proofs.Counts.{times_itself, all_back}
 use Rattle.orders.specs.Relation.{Relation, comes, Comes}
-use Rattle.commute_prune.specs.Pruning.{firsts, lasts, chosen, between}
+use Rattle.sure_folders.specs.Pruning.{firsts, lasts, chosen, between}
 use Rattle.kept_graph.specs.declared.kept.Kept.{Kept}
 use Rattle.kept_graph.specs.Kept.{IsKept, completion}
 

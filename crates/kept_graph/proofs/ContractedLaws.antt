@@ -12,7 +12,8 @@ use Rattle.fs_lang.specs.declared.program.Program.TheVariants as code
 use Rattle.fs_lang.specs.Meaning.{program_of, programs_in, program_of_steps}
 use Rattle.orders.specs.Relation.{Relation, comes, Comes}
 use Rattle.commute_prune.specs.declared.settling.Pruned.{Pruned}
-use Rattle.commute_prune.specs.Pruning.{Move, ToFirst, ToLast, Leads, firsts, lasts, chosen, between, without, EndsAsKept}
+use Rattle.commute_prune.specs.Pruning.{Leads, EndsAsKept}
+use Rattle.sure_folders.specs.Pruning.{Move, ToFirst, ToLast, firsts, lasts, chosen, between, without}
 use Rattle.commute_prune.specs.Pruned.{IsPruned}
 use Rattle.commute_prune.proofs.StepLaws.{without_keeps}
 use Rattle.kept_graph.specs.declared.contracted.Contracted.{Contracted}

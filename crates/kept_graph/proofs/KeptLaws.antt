@@ -9,7 +9,7 @@ use Rattle.fs_semantics.specs.Orders.{Told, IsLinearExtension, IsDeterministic, 
 use Rattle.fs_lang.specs.declared.program.Program.{Program as CodeProgram}
 use Rattle.fs_lang.specs.Meaning.{program_of}
 use Rattle.orders.specs.Relation.{Relation, comes, Comes}
-use Rattle.commute_prune.specs.Pruning.{chosen, between}
+use Rattle.sure_folders.specs.Pruning.{chosen, between}
 use Rattle.kept_graph.specs.declared.kept.Kept.{Kept}
 use Rattle.kept_graph.specs.declared.counterexamples.Completed.{Completed}
 use Rattle.kept_graph.specs.Kept.{IsKept, completion}

@@ -4,7 +4,7 @@ use Rattle.fs_semantics.specs.Programs.{Program, Programs, Steps, none, next}
 use Rattle.fs_lang.specs.Meaning.{program_of}
 use Rattle.orders.specs.Relation.{Relation, Comes}
 use Rattle.commute_prune.specs.declared.settling.Pruned.{Pruned}
-use Rattle.commute_prune.specs.Pruning.{chosen, between}
+use Rattle.sure_folders.specs.Pruning.{chosen, between}
 use Rattle.kept_graph.specs.declared.contracted.Contracted.{Contracted}
 
 -- n nodes with an order, a node n that comes before all others, and a node n + 1 that comes after all others

@@ -5,7 +5,8 @@ use Rattle.fs_semantics.specs.Orders.{Told}
 use Rattle.fs_lang.specs.Meaning.{program_of}
 use Rattle.orders.specs.Relation.{Relation, comes, Comes}
 use Rattle.commute_prune.specs.declared.settling.Pruned.{Pruned}
-use Rattle.commute_prune.specs.Pruning.{chosen, between, AreSome}
+use Rattle.commute_prune.specs.Pruning.{AreSome}
+use Rattle.sure_folders.specs.Pruning.{chosen, between}
 use Rattle.commute_prune.specs.Pruned.{IsPruned}
 use Rattle.kept_graph.specs.declared.kept.Kept.{Kept}
 

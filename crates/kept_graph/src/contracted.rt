@@ -10,7 +10,7 @@ ghost use Rattle.fs_semantics.specs.Orders.{Told, IsDeterministic, IsExchange, I
 ghost use Rattle.fs_lang.specs.Meaning.{program_of};
 ghost use Rattle.orders.specs.Relation.{Relation, comes, Comes};
 ghost use Rattle.commute_prune.specs.declared.settling.Pruned.{Pruned as P};
-ghost use Rattle.commute_prune.specs.Pruning.{between};
+ghost use Rattle.sure_folders.specs.Pruning.{between};
 ghost use Rattle.commute_prune.specs.Pruned.{IsPruned};
 ghost use Rattle.kept_graph.specs.declared.contracted.Contracted.{Contracted as C};
 ghost use Rattle.kept_graph.specs.Kept.{IsKept};

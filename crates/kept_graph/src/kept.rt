@@ -7,7 +7,7 @@ ghost use Rattle.fs_semantics.specs.Programs.{Program as E, Id};
 ghost use Rattle.fs_semantics.specs.Orders.{Told, IsDeterministic, IsCounterexample};
 ghost use Rattle.fs_lang.specs.Meaning.{program_of};
 ghost use Rattle.orders.specs.Relation.{Relation, comes, Comes};
-ghost use Rattle.commute_prune.specs.Pruning.{chosen, between};
+ghost use Rattle.sure_folders.specs.Pruning.{chosen, between};
 ghost use Rattle.kept_graph.specs.declared.kept.Kept.{Kept as K};
 ghost use Rattle.kept_graph.specs.Kept.{IsKept};
 

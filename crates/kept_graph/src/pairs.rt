@@ -3,7 +3,7 @@
 ghost use Rattle.std.specs.Prelude.{◌≡◌, ◌↔◌, ◌<◌, ◌≤◌, ◌++◌, ℕ, length, slice_index_or, IfOk, OnOk};
 ghost use Rattle.std.specs.List.{AllByRecursion};
 ghost use Rattle.orders.specs.Relation.{Comes};
-ghost use Rattle.commute_prune.specs.Pruning.{between};
+ghost use Rattle.sure_folders.specs.Pruning.{between};
 ghost use Rattle.commute_prune.specs.Pairs.{pair_if, row_of, pairs_of};
 ghost use Rattle.kept_graph.specs.Pairs.{comes_at};
 

@@ -17,7 +17,7 @@ use Rattle.path_domain.specs.declared.listed.Domain.{Domain}
 use Rattle.path_domain.specs.Laid.{layout_of}
 use Rattle.orders.specs.Relation.{Relation, comes, Comes}
 use Rattle.orders.specs.Extensions.{IsLeastReady, TakesLeast}
-use Rattle.commute_prune.specs.Pruning.{chosen}
+use Rattle.sure_folders.specs.Pruning.{chosen}
 use Rattle.cnf.specs.Formulas.{Formula, IsSatisfiable}
 use Rattle.proof_check.specs.Refuted.{HasNoModel}
 use Rattle.order_encode.specs.Witnesses.{IsFirstExtension, HasSecondChange}

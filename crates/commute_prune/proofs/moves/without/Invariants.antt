@@ -1,5 +1,5 @@
 use Rattle.std.proofs.Common.{◌≡◌, ◌++◌, drop}
-use Rattle.commute_prune.specs.Pruning.{without}
+use Rattle.sure_folders.specs.Pruning.{without}
 use Rattle.commute_prune.proofs.moves.without.Given as goal
 
 -- those so far, and what is left of the others

@@ -1,6 +1,6 @@
 use Rattle.std.proofs.Common.{◌≡◌, None, Some, refl, sym, ap, subst, ◌∙◌}
 use Rattle.std.specs.List.{find}
-use Rattle.commute_prune.specs.Pruning.{without}
+use Rattle.sure_folders.specs.Pruning.{without}
 use Rattle.commute_prune.specs.Search.{IsSearch}
 use Rattle.commute_prune.specs.Steps.{may_last, may_first}
 use Rattle.commute_prune.proofs.StepLaws.{stepped_first}

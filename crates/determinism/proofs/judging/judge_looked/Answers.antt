@@ -1,7 +1,7 @@
 use Rattle.std.proofs.Common.{map, subst, refl, get_or}
 use Rattle.fs_lang.specs.Meaning.{program_of}
 use Rattle.orders.specs.Relation.{comes}
-use Rattle.commute_prune.specs.Pruning.{chosen}
+use Rattle.sure_folders.specs.Pruning.{chosen}
 use Rattle.determinism.specs.Settled.{IsSettled}
 use Rattle.determinism.proofs.JudgeLaws.{pruned, stated_by_any, judged_proved, judged_differs}
 use Rattle.determinism.proofs.judging.judge_looked.Goals as goal

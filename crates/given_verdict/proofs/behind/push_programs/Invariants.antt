@@ -1,6 +1,6 @@
 use Rattle.std.proofs.Common.{◌≡◌, ◌++◌, map, take}
 use Rattle.fs_lang.specs.Meaning.{program_of}
-use Rattle.commute_prune.specs.Pruning.{chosen}
+use Rattle.sure_folders.specs.Pruning.{chosen}
 use Rattle.given_verdict.proofs.behind.push_programs.Given as goal
 
 -- those so far, behind what was there

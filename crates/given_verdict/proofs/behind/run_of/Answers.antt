@@ -1,6 +1,6 @@
 use Rattle.std.proofs.Common.{◌∷◌, ◌++◌, [], map, ap, ◌∙◌}
 use Rattle.fs_lang.specs.Meaning.{program_of, program_of_steps}
-use Rattle.commute_prune.specs.Pruning.{chosen}
+use Rattle.sure_folders.specs.Pruning.{chosen}
 use Rattle.given_verdict.proofs.BehindLaws.{run_is}
 use Rattle.given_verdict.proofs.behind.run_of.Goals as goal
 
