@@ -1,7 +1,6 @@
 //! What is answered to a manifest, as the rows have it.
 ghost use Rattle.std.specs.Prelude.{◌<◌, ◌^◌, length};
 
-use crate::labels::number_text;
 use crate::lines::catalog_line;
 use catalog::Catalog;
 use catalog_text::catalog_text;
@@ -13,7 +12,7 @@ use pp_value::Value;
 use rh_base::{Boxed, Fault, NoMemory};
 use std::alloc::Global;
 use std::test::Fail;
-use test_rows::{refused, same};
+use test_rows::{number_text, refused, same};
 
 fn data_of(alloc: Global, text: &str) -> Result<Data, Fault> {
     if text.is_empty() {

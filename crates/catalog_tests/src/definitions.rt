@@ -1,8 +1,8 @@
 //! Rows of classes, defined types, nodes and class data.
 use crate::answers::{are_compiled, compiled_under};
-use crate::labels::same_of;
 use std::alloc::Global;
 use std::test::Fail;
+use test_rows::same_of;
 
 #[test]
 fn classes_run_once(rt: HostRuntime) -> Result<(), Fail> {

@@ -1,12 +1,11 @@
 //! Rows on how deep what is declared may be.
 ghost use Rattle.std.specs.Prelude.{◌<◌};
 
-use crate::labels::{number_text, same_of};
 use crate::limits::{behind_begins, told_behind};
 use rh_base::NoMemory;
 use std::alloc::Global;
 use std::test::Fail;
-use test_rows::joined;
+use test_rows::{joined, number_text, same_of};
 
 /// What stands in front of a number, between it and the one before it, and behind that.
 type Pieces = (&'static str, &'static str, &'static str);

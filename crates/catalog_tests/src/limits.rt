@@ -2,12 +2,12 @@
 ghost use Rattle.std.specs.Prelude.{◌<◌};
 
 use crate::answers::{compiled, compiled_under, counted};
-use crate::labels::{begins, same_at, told_at};
+use crate::labels::{begins, told_at};
 use host_limits::Limits;
 use rh_base::NoMemory;
 use std::alloc::Global;
 use std::test::Fail;
-use test_rows::{doubled, joined, same, titles};
+use test_rows::{doubled, joined, same, same_at, titles};
 
 /// What is told of a text that is doubled so many times.
 fn told_of_doubled(alloc: Global, times: u32) -> Result<String, Fail> {

@@ -134,9 +134,12 @@ pub fn stated_text(
     text_with(rt.alloc(), &cnf, steps)
 }
 
-/// The bytes, if they are a text.
-pub fn shown(bytes: &[u8]) -> &str {
-    str::from_utf8(bytes).unwrap_or("no text")
+/// The bytes as a text, which they have to be.
+pub fn shown(bytes: &[u8]) -> Result<&str, Fail> {
+    match str::from_utf8(bytes) {
+        Ok(text) => Ok(text),
+        Err(_) => Err("no text".into()),
+    }
 }
 
 /// Three pigeons in two holes.

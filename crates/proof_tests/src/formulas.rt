@@ -268,5 +268,5 @@ fn wires_are_named_by_their_literals(rt: HostRuntime) -> Result<(), Fail> {
 fn three_pigeons_in_two_holes_are_written(rt: HostRuntime) -> Result<(), Fail> {
     let text = stated_text(&rt, 6, PIGEONS, &[(&[-1], 9, FIRST), (&[], 6, SECOND)])?;
     let block = PIGEONS_TEXT.strip_prefix("proofs 1\n").unwrap_or("?");
-    same(rt.alloc(), "three pigeons", shown(&text), block)
+    same(rt.alloc(), "three pigeons", shown(&text)?, block)
 }

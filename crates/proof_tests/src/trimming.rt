@@ -143,7 +143,7 @@ fn left_text(rt: &(impl Abort + AllocGlobal), row: &Row) -> Result<Vec<u8>, Fail
 /// Just the steps that a row has at its end are in this text.
 fn has_steps(rt: &(impl Abort + AllocGlobal), row: &Row, left: &[u8]) -> Result<(), Fail> {
     let want = stated_text(rt, row.0, row.1, row.3)?;
-    same(rt.alloc(), "what is left", shown(left), shown(&want))
+    same(rt.alloc(), "what is left", shown(left)?, shown(&want)?)
 }
 
 fn is_left(rt: &(impl Abort + AllocGlobal), row: &Row) -> Result<(), Fail> {

@@ -1,7 +1,6 @@
 //! Entries that graphs ensure, each row with what is answered.
 
 use crate::judging::refused;
-use crate::labels::{same_at, same_of};
 use crate::programs::{one_in_turn, ordered, unordered};
 use determinism::First;
 use ensured_entry::{Ensured, Late, Wanted, judge_entry};
@@ -12,7 +11,7 @@ use rh_base::{Boxed, Fault, NoMemory};
 use std::alloc::Global;
 use std::test::Fail;
 use test_programs::programs;
-use test_rows::{joined, text};
+use test_rows::{joined, same_at, same_of, text};
 use verdict::Ends;
 
 fn wanted_file(alloc: Global, path: &str, content: &str) -> Result<Wanted, PathFault> {

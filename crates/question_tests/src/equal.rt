@@ -1,7 +1,6 @@
 //! Two graphs each, with whether they do the same.
 
 use crate::judging::refused;
-use crate::labels::same_of;
 use crate::programs::ordered;
 use determinism::First;
 use equal_graphs::{Compared, compare};
@@ -11,7 +10,7 @@ use rh_base::{Boxed, Fault, NoMemory};
 use std::alloc::Global;
 use std::test::Fail;
 use test_programs::programs;
-use test_rows::joined;
+use test_rows::{joined, same_of};
 
 fn unsure(first: &First, left: bool) -> &'static str {
     match (left, first) {

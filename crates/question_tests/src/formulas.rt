@@ -1,6 +1,5 @@
 //! How large formulas are.
 
-use crate::labels::numbered;
 use crate::programs::{push_folder, unordered};
 use fs_lang::{PathFault, Program};
 use order_encode::ask_order;
@@ -9,7 +8,7 @@ use path_domain::domain;
 use rh_base::Seq;
 use std::alloc::Global;
 use std::test::Fail;
-use test_rows::same;
+use test_rows::{numbered, same};
 
 /// How many variables the question of order of these programs has.
 fn variables_of(alloc: Global, programs: &[Program], order: &Order) -> Result<u64, Fail> {

@@ -1,7 +1,6 @@
 //! Verdicts from the trees in which given folders stand.
 
 use crate::judging::refused;
-use crate::labels::{numbered, same_at, same_of};
 use crate::programs::{one_in_turn, ordered, unordered};
 use fs_lang::{Path, PathFault, Program};
 use given_repair::repair_from;
@@ -14,7 +13,7 @@ use rh_base::{Boxed, Fault, NoMemory, Seq};
 use std::alloc::Global;
 use std::test::Fail;
 use test_programs::programs;
-use test_rows::joined;
+use test_rows::{joined, numbered, same_at, same_of};
 use verdict::{Ends, Second, Verdict};
 
 fn push_folder(alloc: Global, word: &str, into: &mut Seq<Path>) -> Result<(), PathFault> {

@@ -1,6 +1,5 @@
 //! Answers to the question of order, and programs that are too large for it.
 
-use crate::labels::numbered;
 use crate::programs::{all_again, one_in_turn, ordered, unordered};
 use determinism::{First, Sure, judge_order};
 use fs_lang::Program;
@@ -9,7 +8,7 @@ use rh_base::{Boxed, Fault, NoMemory};
 use std::alloc::Global;
 use std::test::Fail;
 use test_programs::programs;
-use test_rows::{joined, same};
+use test_rows::{joined, numbered, same};
 
 /// A refusal, as `70 weight`.
 pub fn refused(alloc: Global, fault: &Fault) -> Result<String, NoMemory> {

@@ -12,7 +12,6 @@ mod given;
 #[cfg(test)]
 mod judging;
 #[cfg(test)]
-mod labels;
 #[cfg(test)]
 mod pairs;
 #[cfg(test)]

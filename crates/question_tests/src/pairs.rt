@@ -1,13 +1,12 @@
 //! Programs that write at one path: whether any two commute, and whether those that don't ever meet.
 
 use crate::judging::{told, told_of};
-use crate::labels::same_of;
 use fs_lang::{PathFault, Program};
 use rh_base::Seq;
 use std::alloc::Global;
 use std::test::Fail;
 use test_programs::program;
-use test_rows::{joined, same};
+use test_rows::{joined, same, same_of};
 
 /// Makes a file at /d0 with this content, unless something is there.
 fn put(alloc: Global, letter: &str) -> Result<Program, PathFault> {

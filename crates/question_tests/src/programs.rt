@@ -2,13 +2,13 @@
 
 ghost use Rattle.std.specs.Prelude.{◌≡◌, IfOk, length};
 
-use crate::labels::numbered;
 use fs_lang::{PathFault, Program};
 use orders::Order;
 use rh_base::Seq;
 use std::alloc::Global;
 use std::test::Fail;
 use test_programs::program;
+use test_rows::numbered;
 
 /// Makes the folder of this number, as /d1.
 fn folder(alloc: Global, i: u32) -> Result<Program, PathFault> {

@@ -1,6 +1,5 @@
 //! Pairs of programs that are tried on a few trees, each row with what is found: two orders, and the paths of the tree.
 
-use crate::labels::numbered;
 use crate::programs::{ordered, unordered};
 use fs_lang::{Path, Program, Tree};
 use orders::Order;
@@ -8,7 +7,7 @@ use rh_base::{Boxed, NoMemory};
 use std::alloc::Global;
 use std::test::Fail;
 use test_programs::programs;
-use test_rows::{joined, same};
+use test_rows::{joined, numbered, same};
 use tried_trees::{Difference, try_pairs, try_tree};
 
 fn push_number(alloc: Global, text: &mut String, k: u32) -> Result<(), NoMemory> {

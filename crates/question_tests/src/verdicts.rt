@@ -1,7 +1,6 @@
 //! Verdicts on programs, and programs that are too large for one.
 
 use crate::judging::refused;
-use crate::labels::numbered;
 use crate::programs::{all_again, one_in_turn, ordered, unordered};
 use fs_lang::Program;
 use orders::Order;
@@ -9,7 +8,7 @@ use rh_base::{Boxed, Fault, NoMemory};
 use std::alloc::Global;
 use std::test::Fail;
 use test_programs::programs;
-use test_rows::same;
+use test_rows::{numbered, same};
 use verdict::{Ends, Second, Verdict, judge};
 
 /// What is judged, behind how many pairs were pruned.

@@ -30,6 +30,20 @@ pub fn refused(alloc: Global, fault: &Fault) -> Result<String, NoMemory>
     }
 }
 
+/// A number between two words.
+pub fn numbered(alloc: Global, front: &str, number: u64, behind: &str) -> Result<String, NoMemory>
+    ensures { IfOk result (λ line. string_bytes line ≡ front.now ++ (decimal number ++ behind.now)) }
+{
+    Ok(format!(in alloc; "{front}{number}{behind}")?)
+}
+
+/// A number in decimal.
+pub fn number_text(alloc: Global, number: u64) -> Result<String, NoMemory>
+    ensures { IfOk result (λ line. string_bytes line ≡ decimal number) }
+{
+    Ok(format!(in alloc; "{number}")?)
+}
+
 /// The parts one behind the other.
 pub fn joined(alloc: Global, parts: &[&str]) -> Result<String, NoMemory> {
     let mut whole = String::new(alloc);
@@ -61,4 +75,20 @@ pub fn same_number(alloc: Global, row: &str, got: u64, want: u64) -> Result<(), 
         return Err(Fail::new(told));
     }
     Ok(())
+}
+
+/// The same of texts, of a row of several words.
+pub fn same_of(alloc: Global, words: &[&str], got: &str, want: &str) -> Result<(), Fail>
+    ensures { IfOk result (λ _. got.now ≡ want.now) }
+{
+    let row = joined(alloc, words)?;
+    same(alloc, row.as_str(), got, want)
+}
+
+/// The same of texts, of a row of a number and a word.
+pub fn same_at(alloc: Global, number: u64, word: &str, got: &str, want: &str) -> Result<(), Fail>
+    ensures { IfOk result (λ _. got.now ≡ want.now) }
+{
+    let row = numbered(alloc, "", number, " ")?;
+    same_of(alloc, &[row.as_str(), word], got, want)
 }

@@ -1,7 +1,6 @@
 //! What is answered to a text, as the rows have it.
 ghost use Rattle.std.specs.Prelude.{◌<◌, ◌^◌, length};
 
-use crate::labels::same_of;
 use pp_eval::{Scopes, eval, facts_from_json};
 use pp_parser::parse;
 use pp_syntax::{Item, Manifest, Stmt, lex};
@@ -9,7 +8,7 @@ use pp_value::{Value, show};
 use rh_base::{Boxed, Fault, NoMemory};
 use std::alloc::Global;
 use std::test::Fail;
-use test_rows::{joined, refused, same};
+use test_rows::{joined, refused, same, same_of};
 
 /// Facts with an opaque number, and a map in a map.
 pub const FACTS: &str = "{\"load\": 0.5, \"os\": {\"family\": \"Debian\"}}";

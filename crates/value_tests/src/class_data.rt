@@ -1,12 +1,11 @@
 //! Rows of class data: what the levels say of a parameter, and which texts are refused.
 use crate::answers::facts_of;
-use crate::labels::{same_at, same_of};
 use pp_data::{Data, data_from_json};
 use pp_value::{Value, show};
 use rh_base::{Boxed, Fault, NoMemory};
 use std::alloc::Global;
 use std::test::Fail;
-use test_rows::{Pieces, joined, nested, refused, same, same_number};
+use test_rows::{Pieces, joined, nested, refused, same, same_at, same_number, same_of};
 
 /// A level for machines in production, and one for all.
 const TWO_LEVELS: &str =

@@ -8,7 +8,6 @@ mod class_data;
 #[cfg(test)]
 mod expressions;
 #[cfg(test)]
-mod labels;
 #[cfg(test)]
 mod limits;
 #[cfg(test)]

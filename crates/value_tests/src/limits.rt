@@ -1,11 +1,10 @@
 //! Rows at the limits of one value: its size and its depth.
 use crate::answers::{FACTS, assigned};
-use crate::labels::{number_text, same_at};
 use pp_value::{Value, ValueFault, add, size};
 use rh_base::{Boxed, NoMemory, Seq, Text};
 use std::alloc::Global;
 use std::test::Fail;
-use test_rows::{boxes, joined};
+use test_rows::{boxes, joined, number_text, same_at};
 
 fn with_name(alloc: Global, kind: &str, rest: &str) -> Result<String, NoMemory> {
     match rest.split_once(": ") {

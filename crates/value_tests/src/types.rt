@@ -2,14 +2,13 @@
 ghost use Rattle.std.specs.Prelude.{◌<◌, ◌^◌, length};
 
 use crate::answers::{FACTS, manifest_of, scopes_of};
-use crate::labels::same_of;
 use pp_eval::{Scopes, eval};
 use pp_syntax::{Expr, Item, Param, TypeName};
 use pp_value::fits;
 use rh_base::{Boxed, Fault, NoMemory};
 use std::alloc::Global;
 use std::test::Fail;
-use test_rows::{joined, refused};
+use test_rows::{joined, refused, same_of};
 
 fn fits_type(
     alloc: Global,
