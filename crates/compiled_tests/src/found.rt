@@ -17,13 +17,6 @@ fn catalog(alloc: Global) -> Result<CompiledCatalog, Fail> {
     Ok(compiled_from_json(alloc, text.as_bytes())?)
 }
 
-fn find(alloc: Global, compiled: &CompiledCatalog, text: &str) -> Option<usize> {
-    match reference_of(alloc, text) {
-        Ok(reference) => compiled.find(&reference),
-        Err(_) => None,
-    }
-}
-
 /// The place of a resource, or a dash.
 fn place(found: Option<usize>) -> &'static str {
     match found {
@@ -36,14 +29,18 @@ fn place(found: Option<usize>) -> &'static str {
     }
 }
 
-/// Each row: a reference, and the place that it names, or a dash.
-fn are_found(
-    alloc: Global,
-    compiled: &CompiledCatalog,
-    rows: &[(&str, &str)],
-) -> Result<(), Fail> {
+/// The place of the resource that a reference names, if the text is one.
+fn find(alloc: Global, compiled: &CompiledCatalog, text: &str) -> &'static str {
+    match reference_of(alloc, text) {
+        Ok(reference) => place(compiled.find(&reference)),
+        Err(_) => "no reference",
+    }
+}
+
+/// Each row: a reference, and the place that it names, a dash for none, and what is no reference.
+fn are_found(alloc: Global, compiled: &CompiledCatalog, rows: &[(&str, &str)]) -> Result<(), Fail> {
     for (text, want) in rows {
-        same(alloc, *text, place(find(alloc, compiled, *text)), *want)?;
+        same(alloc, *text, find(alloc, compiled, *text), *want)?;
     }
     Ok(())
 }
@@ -62,8 +59,8 @@ fn references_are_found(rt: HostRuntime) -> Result<(), Fail> {
             ("FILE[/g]", "3"),
             ("File[/F]", "-"),
             ("Stage[Main]", "-"),
-            ("File[]", "-"),
-            ("file", "-"),
+            ("File[]", "no reference"),
+            ("file", "no reference"),
         ],
     )
 }

@@ -18,7 +18,11 @@ fn listed(alloc: Global, word: &str, numbers: &[u32]) -> Result<String, Fail> {
 }
 
 /// The order of so many nodes that these edges make, or their cycle.
-fn made(rt: &(impl Abort + AllocGlobal), n: u32, edges: &[(u32, u32)]) -> Result<Order, OrderFault> {
+fn made(
+    rt: &(impl Abort + AllocGlobal),
+    n: u32,
+    edges: &[(u32, u32)],
+) -> Result<Order, OrderFault> {
     assert!(rt; edges.iter().all(|e| e.0 < n && e.1 < n));
     Order::from_edges(rt.alloc(), n, edges)
 }
@@ -156,23 +160,14 @@ fn rows_are_longer_than_a_word(rt: HostRuntime) -> Result<(), Fail> {
         &rt,
         130,
         &edges,
-        &[
-            (129, 0, "before"),
-            (0, 129, "neither"),
-            (128, 63, "before"),
-        ],
+        &[(129, 0, "before"), (0, 129, "neither"), (128, 63, "before")],
     )
 }
 
 #[test]
 fn one_left_out_of_long_rows(rt: HostRuntime) -> Result<(), Fail> {
     let edges = chain(rt.alloc(), 129)?;
-    chain_without(
-        &rt,
-        &edges,
-        64,
-        &[(64, 63, "before"), (63, 64, "neither")],
-    )
+    chain_without(&rt, &edges, 64, &[(64, 63, "before"), (63, 64, "neither")])
 }
 
 // ---- cycles
@@ -202,11 +197,7 @@ fn cycles_begin_with_their_least_node(rt: HostRuntime) -> Result<(), Fail> {
     make(
         &rt,
         &[
-            (
-                5,
-                &[(4, 3), (3, 1), (0, 3), (1, 2), (2, 3)],
-                "cycle 1 2 3",
-            ),
+            (5, &[(4, 3), (3, 1), (0, 3), (1, 2), (2, 3)], "cycle 1 2 3"),
             (3, &[(0, 2), (1, 1)], "cycle 1"),
             (3, &[(0, 2), (1, 2), (0, 1), (0, 1)], "nodes 3"),
         ],
@@ -308,11 +299,7 @@ struct Way {
 }
 
 /// So many orders stand on the way.
-fn has_orders(
-    rt: &(impl Abort + AllocGlobal),
-    way: &Way,
-    count: u64,
-) -> Result<(), Fail> {
+fn has_orders(rt: &(impl Abort + AllocGlobal), way: &Way, count: u64) -> Result<(), Fail> {
     let order = ordered(rt, 3, way.edges)?;
     let orders = walked(&order, way.from, way.to)?;
     same_number(rt.alloc(), "orders", orders.len() as u64, count)

@@ -4,5 +4,7 @@
 mod answers;
 mod texts;
 
-pub use answers::{joined, number_text, numbered, refused, same, same_at, same_number, same_of, text};
+pub use answers::{
+    joined, number_text, numbered, refused, same, same_at, same_number, same_of, text,
+};
 pub use texts::{PIGEONS, Pieces, boxes, doubled, nested, titles};
