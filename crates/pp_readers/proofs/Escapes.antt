@@ -1,9 +1,10 @@
 -- The value of a text in single quotes, as the code takes it.
-use Rattle.std.proofs.Common.{◌≡◌, ◌≢◌, ℕ, suc, ◌<◌, ◌==◌, true, false, cond, List, [], ◌∷◌, ◌++◌, length, refl, sym, ap, ◌∙◌, arith, append_assoc, length-append, Option, Some, None, Bor}
+use Rattle.std.proofs.Common.{◌≡◌, ◌≢◌, ◌⊎◌, inl, inr, ℕ, suc, ◌<◌, ◌==◌, ◌||◌, true, false, cond, List, [], ◌∷◌, ◌++◌, length, refl, sym, ap, ◌∙◌, arith, append_assoc, length-append, Option, Some, None, Bor}
 use Rattle.std.specs.Option.{MatchOption, option_map}
 use Rattle.std.proofs.Common.{eq-eqb}
 use Rattle.std.proofs.lemmas.Bool.{eqb-true}
 use Rattle.std.proofs.lemmas.Str.Pattern.{split_parts, IsSplitOnceResult}
+use Rattle.std.proofs.lemmas.List.{append-nil}
 use Rattle.std.proofs.lemmas.Bool.{ne_eqb}
 use Rattle.pp_syntax.specs.TokenValues.{sq_value, sq_escaped}
 use Rattle.pp_readers.specs.Values.{HasNoBackslash, behind_byte, before_quote}
@@ -18,6 +19,18 @@ value-front (b ∷ a) r none =
 -- at the first backslash the value is the front, and what the escape makes
 pub at_backslash : (t a r : List ℕ) → t ≡ a ++ 92 ∷ r → HasNoBackslash a → sq_value t ≡ a ++ sq_escaped r
 at_backslash t a r e none = ap sq_value e ∙ value-front a (92 ∷ r) none
+
+-- without a backslash a text is its own value
+pub at_end : (t : List ℕ) → HasNoBackslash t → sq_value t ≡ t
+at_end t none = ap sq_value (sym (append-nil t)) ∙ value-front t [] none ∙ append-nil t
+
+-- a backslash and an escaped character
+pub escaped : (t r : List ℕ) (c : ℕ) → t ≡ c ∷ r → (c ≡ 92) ⊎ (c ≡ 39) → sq_escaped t ≡ c ∷ sq_value r
+escaped t r c e f = ap sq_escaped e ∙ ap (λ v. cond v (c ∷ sq_value r) (92 ∷ c ∷ sq_value r)) (test f)
+  where
+    test : (c ≡ 92) ⊎ (c ≡ 39) → ((c == 92) || (c == 39)) ≡ true
+    test (inl e) = ap (λ d. (d == 92) || (d == 39)) e
+    test (inr e) = ap (λ d. (d == 92) || (d == 39)) e
 
 -- the value so far, a front, and an escape
 pub one_escape : (v w raw t a r more : List ℕ) (c : ℕ) → v ++ sq_value t ≡ sq_value raw → t ≡ a ++ 92 ∷ r → HasNoBackslash a → sq_escaped r ≡ c ∷ sq_value more → w ≡ (v ++ a) ++ c ∷ []
