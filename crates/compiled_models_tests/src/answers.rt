@@ -14,20 +14,26 @@ use given_links::GivenLink;
 use host_limits::Limits;
 use pkg_listing::{Listing, listing_from_json};
 use std::alloc::Global;
-use std::process::Abort;
 use std::test::Fail;
-use test_rows::refused;
+use test_rows::{joined, refused, same_of};
 use tree_text::program_text;
 
 /// A compiled catalog of these resources.
 fn compiled(alloc: Global, resources: &str) -> Result<CompiledCatalog, Fail> {
-    let text = format!(in alloc; r#"{{"catalog_format":2,"resources":[{resources}],"edges":[]}}"#)?;
+    let text = joined(
+        alloc,
+        &[
+            r#"{"catalog_format":2,"resources":["#,
+            resources,
+            r#"],"edges":[]}"#,
+        ],
+    )?;
     Ok(compiled_from_json(alloc, text.as_bytes())?)
 }
 
 /// Assumptions of these members.
 fn assumptions(alloc: Global, members: &str) -> Result<Assumptions, Fail> {
-    let text = format!(in alloc; r#"{{"version":1,"resources":{{{members}}}}}"#)?;
+    let text = joined(alloc, &[r#"{"version":1,"resources":{"#, members, r#"}}"#])?;
     Ok(assumptions_from_json(alloc, text.as_bytes())?)
 }
 
@@ -82,6 +88,25 @@ fn marked(
 }
 
 /// The programs of the resources at these places, or the refusal.
+fn programs_with(
+    alloc: Global,
+    texts: &CompiledCatalog,
+    catalog: &Catalog,
+    plain: &[u32],
+    assumptions: &Assumptions,
+    listing: &Listing,
+    links: &[GivenLink],
+) -> Result<String, Fail>
+    requires told { AllByRecursion (λ i. i < length texts.now.resources) plain.now }
+    requires made { AllByRecursion (λ i. i < length catalog.now.resources) plain.now }
+{
+    match native_programs(alloc, texts, catalog, plain, assumptions, listing, links) {
+        Ok(programs) => marked(alloc, texts, plain, assumptions, programs.as_slice()),
+        Err(fault) => Ok(refused(alloc, &fault)?),
+    }
+}
+
+/// The same, with the package `p`.
 fn programs_at(
     alloc: Global,
     texts: &CompiledCatalog,
@@ -94,10 +119,7 @@ fn programs_at(
     requires made { AllByRecursion (λ i. i < length catalog.now.resources) plain.now }
 {
     let listing = listing(alloc)?;
-    match native_programs(alloc, texts, catalog, plain, assumptions, &listing, links) {
-        Ok(programs) => marked(alloc, texts, plain, assumptions, programs.as_slice()),
-        Err(fault) => Ok(refused(alloc, &fault)?),
-    }
+    programs_with(alloc, texts, catalog, plain, assumptions, &listing, links)
 }
 
 /// The same of all native resources.
@@ -123,16 +145,26 @@ fn programs_of(
     programs_in(alloc, texts, &catalog, assumptions, links)
 }
 
-/// The same of a text of resources, the members of assumptions, and links.
+/// The same of a text of resources.
+fn answer_under(
+    alloc: Global,
+    resources: &str,
+    assumptions: &Assumptions,
+    links: &[GivenLink],
+) -> Result<String, Fail> {
+    let texts = compiled(alloc, resources)?;
+    programs_of(alloc, &texts, assumptions, links)
+}
+
+/// The same with the members of assumptions.
 fn answer_with(
     alloc: Global,
     resources: &str,
     assumed: &str,
     links: &[GivenLink],
 ) -> Result<String, Fail> {
-    let texts = compiled(alloc, resources)?;
     let assumptions = assumptions(alloc, assumed)?;
-    programs_of(alloc, &texts, &assumptions, links)
+    answer_under(alloc, resources, &assumptions, links)
 }
 
 /// The same where `/lib` is a link.
@@ -147,44 +179,48 @@ pub fn answer(alloc: Global, resources: &str, assumed: &str) -> Result<String, F
 }
 
 /// This is answered.
-pub fn expect(
-    rt: &impl Abort,
-    alloc: Global,
-    resources: &str,
-    assumed: &str,
-    want: &str,
-) -> Result<(), Fail> {
+pub fn is_answered(alloc: Global, resources: &str, assumed: &str, want: &str) -> Result<(), Fail> {
     let told = answer(alloc, resources, assumed)?;
-    assert_eq!(rt; told.as_str(), want, "{resources} {assumed}");
-    Ok(())
+    same_of(alloc, &[resources, " ", assumed], told.as_str(), want)
 }
 
 /// Resources and assumptions of each row are answered with what stands beside them.
-pub fn expect_each(
-    rt: &impl Abort,
-    alloc: Global,
-    rows: &[(&str, &str, &str)],
-) -> Result<(), Fail> {
+pub fn are_answered(alloc: Global, rows: &[(&str, &str, &str)]) -> Result<(), Fail> {
     for (resources, assumed, want) in rows {
-        expect(rt, alloc, resources, assumed, want)?;
+        is_answered(alloc, *resources, *assumed, *want)?;
     }
     Ok(())
 }
 
-/// How many native resources are assumed.
+/// How many native resources that both have are assumed.
+fn count_in(
+    alloc: Global,
+    texts: &CompiledCatalog,
+    catalog: &Catalog,
+    assumptions: &Assumptions,
+) -> Result<usize, Fail> {
+    let plain = native_places(alloc, texts, catalog)?;
+    Ok(count_assumed(alloc, texts, plain.as_slice(), assumptions)?)
+}
+
+/// The same of those that a text has.
 fn count_of(
     alloc: Global,
     texts: &CompiledCatalog,
     assumptions: &Assumptions,
 ) -> Result<usize, Fail> {
     let catalog = catalog_of(alloc, texts, Limits::Host)?;
-    let plain = native_places(alloc, texts, &catalog)?;
-    Ok(count_assumed(alloc, texts, plain.as_slice(), assumptions)?)
+    count_in(alloc, texts, &catalog, assumptions)
 }
 
-/// The same of a text of resources, and the members of assumptions.
-pub fn assumed_of(alloc: Global, resources: &str, assumed: &str) -> Result<usize, Fail> {
+/// The same of a text of resources.
+fn count_under(alloc: Global, resources: &str, assumptions: &Assumptions) -> Result<usize, Fail> {
     let texts = compiled(alloc, resources)?;
+    count_of(alloc, &texts, assumptions)
+}
+
+/// The same with the members of assumptions.
+pub fn assumed_of(alloc: Global, resources: &str, assumed: &str) -> Result<usize, Fail> {
     let assumptions = assumptions(alloc, assumed)?;
-    count_of(alloc, &texts, &assumptions)
+    count_under(alloc, resources, &assumptions)
 }

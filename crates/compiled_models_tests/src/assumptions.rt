@@ -1,9 +1,9 @@
 //! What is assumed of native resources.
 
-use crate::answers::{assumed_of, expect};
+use crate::answers::{assumed_of, is_answered};
 use std::alloc::Global;
-use std::process::Abort;
 use std::test::Fail;
+use test_rows::same_number;
 
 /// Resources of several types.
 const RESOURCES: &str = concat!(
@@ -60,28 +60,33 @@ const ASSUMED: &[(&str, &str, usize)] = &[
 ];
 
 /// With each row's assumptions those resources have the programs beside them.
-fn are_assumed(rt: &impl Abort, alloc: Global, rows: &[(&str, &str, usize)]) -> Result<(), Fail> {
+fn are_assumed(alloc: Global, rows: &[(&str, &str, usize)]) -> Result<(), Fail> {
     for (assumed, want, _) in rows {
-        expect(rt, alloc, RESOURCES, assumed, want)?;
+        is_answered(alloc, RESOURCES, *assumed, *want)?;
     }
     Ok(())
 }
 
 #[test]
 fn programs_are_assumed(rt: HostRuntime) -> Result<(), Fail> {
-    are_assumed(&rt, rt.alloc(), ASSUMED)
+    are_assumed(rt.alloc(), ASSUMED)
 }
 
-/// With each row's assumptions so many of those resources are assumed.
-fn are_counted(rt: &impl Abort, alloc: Global, rows: &[(&str, &str, usize)]) -> Result<(), Fail> {
+/// With these assumptions so many of those resources are assumed.
+fn is_counted(alloc: Global, assumed: &str, count: usize) -> Result<(), Fail> {
+    let found = assumed_of(alloc, RESOURCES, assumed)?;
+    same_number(alloc, assumed, found as u64, count as u64)
+}
+
+/// The same of each row's assumptions.
+fn are_counted(alloc: Global, rows: &[(&str, &str, usize)]) -> Result<(), Fail> {
     for (assumed, _, count) in rows {
-        let found = assumed_of(alloc, RESOURCES, assumed)?;
-        assert_eq!(rt; found, *count, "{assumed}");
+        is_counted(alloc, *assumed, *count)?;
     }
     Ok(())
 }
 
 #[test]
 fn assumed_resources_are_counted(rt: HostRuntime) -> Result<(), Fail> {
-    are_counted(&rt, rt.alloc(), ASSUMED)
+    are_counted(rt.alloc(), ASSUMED)
 }

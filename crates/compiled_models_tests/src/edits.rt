@@ -2,8 +2,8 @@
 
 use crate::answers::answer;
 use std::alloc::Global;
-use std::process::Abort;
 use std::test::Fail;
+use test_rows::{joined, same_of};
 
 /// The first line of what is answered.
 fn first_line(told: &str) -> &str {
@@ -14,17 +14,14 @@ fn first_line(told: &str) -> &str {
 }
 
 /// What is answered begins with this line.
-fn expect_first(
-    rt: &impl Abort,
-    alloc: Global,
-    resources: &str,
-    assumed: &str,
-    want: &str,
-) -> Result<(), Fail> {
+fn is_first(alloc: Global, resources: &str, assumed: &str, want: &str) -> Result<(), Fail> {
     let told = answer(alloc, resources, assumed)?;
-    let first = first_line(told.as_str());
-    assert_eq!(rt; first, want, "{resources} {assumed}");
-    Ok(())
+    same_of(
+        alloc,
+        &[resources, " ", assumed],
+        first_line(told.as_str()),
+        want,
+    )
 }
 
 /// The parameters of `File[/h]`, and its program beside two resources that edit `/h`.
@@ -46,23 +43,33 @@ const EDITED_BY_TWO: &str =
 
 /// A file beside two resources.
 fn beside_two(alloc: Global, parameters: &str) -> Result<String, Fail> {
-    Ok(format!(in alloc;
-        r#"{{"type":"File","title":"/h","kind":"compilable_type","parameters":{{{parameters}}}}},{{"type":"File_line","title":"a","kind":"compilable_type"}},{{"type":"Exec","title":"b","kind":"compilable_type"}}"#
+    Ok(joined(
+        alloc,
+        &[
+            r#"{"type":"File","title":"/h","kind":"compilable_type","parameters":{"#,
+            parameters,
+            r#"}},{"type":"File_line","title":"a","kind":"compilable_type"},{"type":"Exec","title":"b","kind":"compilable_type"}"#,
+        ],
     )?)
 }
 
+/// A file of these parameters, beside those two, has this program.
+fn is_lost(alloc: Global, parameters: &str, want: &str) -> Result<(), Fail> {
+    let resources = beside_two(alloc, parameters)?;
+    is_first(alloc, resources.as_str(), EDITED_BY_TWO, want)
+}
+
 /// A file of each row's parameters, beside those two, has the program that stands there.
-fn expect_beside_two(rt: &impl Abort, alloc: Global, rows: &[(&str, &str)]) -> Result<(), Fail> {
+fn are_lost(alloc: Global, rows: &[(&str, &str)]) -> Result<(), Fail> {
     for (parameters, want) in rows {
-        let resources = beside_two(alloc, parameters)?;
-        expect_first(rt, alloc, resources.as_str(), EDITED_BY_TWO, want)?;
+        is_lost(alloc, *parameters, *want)?;
     }
     Ok(())
 }
 
 #[test]
 fn edits_are_lost(rt: HostRuntime) -> Result<(), Fail> {
-    expect_beside_two(&rt, rt.alloc(), LOST)
+    are_lost(rt.alloc(), LOST)
 }
 
 /// What is assumed of a resource that edits `/s`.
@@ -101,25 +108,31 @@ const COPIED: &[(&str, &str, &str)] = &[
 
 /// A file beside one resource.
 fn beside_one(alloc: Global, parameters: &str) -> Result<String, Fail> {
-    Ok(format!(in alloc;
-        r#"{{"type":"File","title":"/a","kind":"compilable_type","parameters":{{{parameters}}}}},{{"type":"File_line","title":"l","kind":"compilable_type"}}"#
+    Ok(joined(
+        alloc,
+        &[
+            r#"{"type":"File","title":"/a","kind":"compilable_type","parameters":{"#,
+            parameters,
+            r#"}},{"type":"File_line","title":"l","kind":"compilable_type"}"#,
+        ],
     )?)
 }
 
+/// This is answered of a file of these parameters, beside that one.
+fn is_copied(alloc: Global, parameters: &str, assumed: &str, want: &str) -> Result<(), Fail> {
+    let resources = beside_one(alloc, parameters)?;
+    is_first(alloc, resources.as_str(), assumed, want)
+}
+
 /// Of a file of each row's parameters, beside that one, is answered what stands there.
-fn expect_beside_one(
-    rt: &impl Abort,
-    alloc: Global,
-    rows: &[(&str, &str, &str)],
-) -> Result<(), Fail> {
+fn are_copied(alloc: Global, rows: &[(&str, &str, &str)]) -> Result<(), Fail> {
     for (parameters, assumed, want) in rows {
-        let resources = beside_one(alloc, parameters)?;
-        expect_first(rt, alloc, resources.as_str(), assumed, want)?;
+        is_copied(alloc, *parameters, *assumed, *want)?;
     }
     Ok(())
 }
 
 #[test]
 fn edited_files_are_no_sources(rt: HostRuntime) -> Result<(), Fail> {
-    expect_beside_one(&rt, rt.alloc(), COPIED)
+    are_copied(rt.alloc(), COPIED)
 }

@@ -1,9 +1,9 @@
 //! Files, those among them that are put only where nothing stands, and those that are put together of fragments.
 
-use crate::answers::expect;
+use crate::answers::is_answered;
 use std::alloc::Global;
-use std::process::Abort;
 use std::test::Fail;
+use test_rows::joined;
 
 /// Resources, and their programs.
 const FILES: &[(&str, &str)] = &[
@@ -55,16 +55,16 @@ const FILES: &[(&str, &str)] = &[
 ];
 
 /// The resources of each row have the programs beside them.
-fn are_put(rt: &impl Abort, alloc: Global, rows: &[(&str, &str)]) -> Result<(), Fail> {
+fn are_put(alloc: Global, rows: &[(&str, &str)]) -> Result<(), Fail> {
     for (resources, want) in rows {
-        expect(rt, alloc, resources, "", want)?;
+        is_answered(alloc, *resources, "", *want)?;
     }
     Ok(())
 }
 
 #[test]
 fn files_are_put(rt: HostRuntime) -> Result<(), Fail> {
-    are_put(&rt, rt.alloc(), FILES)
+    are_put(rt.alloc(), FILES)
 }
 
 /// Parameters of `Concat_file[f]`, those of a fragment of it, and what is answered.
@@ -120,25 +120,33 @@ const FILLED: &[(&str, &str, &str)] = &[
 
 /// A file that is put together, and a fragment.
 fn put_together(alloc: Global, file: &str, fragment: &str) -> Result<String, Fail> {
-    Ok(format!(in alloc;
-        r#"{{"type":"Concat_file","title":"f","kind":"compilable_type","parameters":{{{file}}}}},{{"type":"Concat_fragment","title":"g","kind":"compilable_type","parameters":{{{fragment}}}}}"#
+    Ok(joined(
+        alloc,
+        &[
+            r#"{"type":"Concat_file","title":"f","kind":"compilable_type","parameters":{"#,
+            file,
+            r#"}},{"type":"Concat_fragment","title":"g","kind":"compilable_type","parameters":{"#,
+            fragment,
+            r#"}}"#,
+        ],
     )?)
 }
 
+/// This is answered of a file and a fragment of these parameters.
+fn is_put_together(alloc: Global, file: &str, fragment: &str, want: &str) -> Result<(), Fail> {
+    let resources = put_together(alloc, file, fragment)?;
+    is_answered(alloc, resources.as_str(), "", want)
+}
+
 /// Of a file and a fragment of each row's parameters is answered what stands there.
-fn are_put_together(
-    rt: &impl Abort,
-    alloc: Global,
-    rows: &[(&str, &str, &str)],
-) -> Result<(), Fail> {
+fn are_put_together(alloc: Global, rows: &[(&str, &str, &str)]) -> Result<(), Fail> {
     for (file, fragment, want) in rows {
-        let resources = put_together(alloc, file, fragment)?;
-        expect(rt, alloc, resources.as_str(), "", want)?;
+        is_put_together(alloc, *file, *fragment, *want)?;
     }
     Ok(())
 }
 
 #[test]
 fn files_are_put_together(rt: HostRuntime) -> Result<(), Fail> {
-    are_put_together(&rt, rt.alloc(), FILLED)
+    are_put_together(rt.alloc(), FILLED)
 }

@@ -2,8 +2,8 @@
 
 use crate::answers::answer_linked;
 use std::alloc::Global;
-use std::process::Abort;
 use std::test::Fail;
+use test_rows::same;
 
 /// Resources, members of assumptions, and what is answered where `/lib` is a link to `/usr/lib`.
 const READ: &[(&str, &str, &str)] = &[
@@ -55,16 +55,21 @@ const READ: &[(&str, &str, &str)] = &[
     ),
 ];
 
+/// Through the link this is answered.
+fn is_read(alloc: Global, resources: &str, assumed: &str, want: &str) -> Result<(), Fail> {
+    let told = answer_linked(alloc, resources, assumed)?;
+    same(alloc, resources, told.as_str(), want)
+}
+
 /// Through the link each row's resources and assumptions are answered with what stands beside them.
-fn are_read(rt: &impl Abort, alloc: Global, rows: &[(&str, &str, &str)]) -> Result<(), Fail> {
+fn are_read(alloc: Global, rows: &[(&str, &str, &str)]) -> Result<(), Fail> {
     for (resources, assumed, want) in rows {
-        let told = answer_linked(alloc, resources, assumed)?;
-        assert_eq!(rt; told.as_str(), *want, "{resources}");
+        is_read(alloc, *resources, *assumed, *want)?;
     }
     Ok(())
 }
 
 #[test]
 fn programs_are_read(rt: HostRuntime) -> Result<(), Fail> {
-    are_read(&rt, rt.alloc(), READ)
+    are_read(rt.alloc(), READ)
 }

@@ -1,9 +1,9 @@
 //! Native resources that are refused.
 
-use crate::answers::{answer, expect_each};
+use crate::answers::{answer, are_answered};
 use std::alloc::Global;
-use std::process::Abort;
 use std::test::Fail;
+use test_rows::{joined, same_at};
 
 /// Resources, members of assumptions, and what is answered.
 const REFUSED: &[(&str, &str, &str)] = &[
@@ -105,7 +105,7 @@ const REFUSED: &[(&str, &str, &str)] = &[
 
 #[test]
 fn resources_are_refused(rt: HostRuntime) -> Result<(), Fail> {
-    expect_each(&rt, rt.alloc(), REFUSED)
+    are_answered(rt.alloc(), REFUSED)
 }
 
 /// How long the title of an `Exec` is, what is assumed of it, and whether it has a program.
@@ -120,37 +120,46 @@ const NAMED: &[(usize, &str, bool)] = &[
 /// An `Exec` of such a title.
 fn titled(alloc: Global, count: usize) -> Result<String, Fail> {
     let title = "x".repeat(alloc, count)?;
-    Ok(format!(in alloc; r#"{{"type":"Exec","title":"{title}","kind":"compilable_type"}}"#)?)
+    Ok(joined(
+        alloc,
+        &[
+            r#"{"type":"Exec","title":""#,
+            title.as_str(),
+            r#"","kind":"compilable_type"}"#,
+        ],
+    )?)
+}
+
+fn word(accepted: bool) -> &'static str {
+    if accepted { "accepted" } else { "refused" }
 }
 
 /// Whether a resource has a program, or is refused because of its name.
-fn expect_accepted(
-    rt: &impl Abort,
-    alloc: Global,
-    resources: &str,
-    assumed: &str,
-    accepted: bool,
-) -> Result<(), Fail> {
+fn accepted_in(alloc: Global, resources: &str, assumed: &str) -> Result<bool, Fail> {
     let told = answer(alloc, resources, assumed)?;
-    let is_refused = told.starts_with("52 at 0: Exec[xx");
-    assert_eq!(rt; !is_refused, accepted, "{assumed}");
-    Ok(())
+    Ok(!told.starts_with("52 at 0: Exec[xx"))
+}
+
+/// The same of an `Exec` whose title is so long.
+fn accepted_of(alloc: Global, count: usize, assumed: &str) -> Result<bool, Fail> {
+    let resources = titled(alloc, count)?;
+    accepted_in(alloc, resources.as_str(), assumed)
+}
+
+fn is_accepted(alloc: Global, count: usize, assumed: &str, want: bool) -> Result<(), Fail> {
+    let accepted = accepted_of(alloc, count, assumed)?;
+    same_at(alloc, count as u64, assumed, word(accepted), word(want))
 }
 
 /// The same of each row's title and assumption.
-fn expect_each_accepted(
-    rt: &impl Abort,
-    alloc: Global,
-    rows: &[(usize, &str, bool)],
-) -> Result<(), Fail> {
-    for (count, assumed, accepted) in rows {
-        let resources = titled(alloc, *count)?;
-        expect_accepted(rt, alloc, resources.as_str(), assumed, *accepted)?;
+fn are_accepted(alloc: Global, rows: &[(usize, &str, bool)]) -> Result<(), Fail> {
+    for (count, assumed, want) in rows {
+        is_accepted(alloc, *count, *assumed, *want)?;
     }
     Ok(())
 }
 
 #[test]
 fn long_references_make_nothing(rt: HostRuntime) -> Result<(), Fail> {
-    expect_each_accepted(&rt, rt.alloc(), NAMED)
+    are_accepted(rt.alloc(), NAMED)
 }

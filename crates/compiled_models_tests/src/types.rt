@@ -1,9 +1,9 @@
 //! Types that do nothing, and resources that aren't to be changed.
 
-use crate::answers::expect;
+use crate::answers::is_answered;
 use std::alloc::Global;
-use std::process::Abort;
 use std::test::Fail;
+use test_rows::joined;
 
 /// Types and parameters, and the program or the refusal of such a resource of the title `t`.
 const TYPES: &[(&str, &str, &str)] = &[
@@ -34,21 +34,33 @@ const TYPES: &[(&str, &str, &str)] = &[
 
 /// A resource of this type and with these parameters.
 fn resource(alloc: Global, kind: &str, parameters: &str) -> Result<String, Fail> {
-    Ok(format!(in alloc;
-        r#"{{"type":"{kind}","title":"t","kind":"compilable_type","parameters":{{{parameters}}}}}"#
+    Ok(joined(
+        alloc,
+        &[
+            r#"{"type":""#,
+            kind,
+            r#"","title":"t","kind":"compilable_type","parameters":{"#,
+            parameters,
+            r#"}}"#,
+        ],
     )?)
 }
 
+/// A resource of this type and these parameters has this program or refusal.
+fn has_program(alloc: Global, kind: &str, parameters: &str, want: &str) -> Result<(), Fail> {
+    let resources = resource(alloc, kind, parameters)?;
+    is_answered(alloc, resources.as_str(), "", want)
+}
+
 /// A resource of each row's type and parameters has the program or the refusal beside them.
-fn have_programs(rt: &impl Abort, alloc: Global, rows: &[(&str, &str, &str)]) -> Result<(), Fail> {
+fn have_programs(alloc: Global, rows: &[(&str, &str, &str)]) -> Result<(), Fail> {
     for (kind, parameters, want) in rows {
-        let resources = resource(alloc, kind, parameters)?;
-        expect(rt, alloc, resources.as_str(), "", want)?;
+        has_program(alloc, *kind, *parameters, *want)?;
     }
     Ok(())
 }
 
 #[test]
 fn types_have_programs(rt: HostRuntime) -> Result<(), Fail> {
-    have_programs(&rt, rt.alloc(), TYPES)
+    have_programs(rt.alloc(), TYPES)
 }
