@@ -1,8 +1,8 @@
 //! Catalogs that Puppet compiled, in place of manifests: what is told of them.
 
 use crate::common::{
-    NONE, ONE, TWO, Told, begins, compare, compare_head, compare_refusal, compare_status, push_all,
-    run_over,
+    NONE, ONE, TWO, Told, begins, compare, compare_head, compare_refusal, compare_status, holds,
+    push_all, run_over,
 };
 use std::alloc::Global;
 use std::test::Fail;
@@ -752,10 +752,16 @@ fn catalog_is_told(alloc: Global, ask: &str, catalog: &str, report: &str) -> Res
     compare(alloc, &told, 0, report, "", ask)
 }
 
+/// Something was told of the manifest, and the same is told of a compiled catalog.
+fn tells_alike(alloc: Global, told: &Told, ask: &str, catalog: &str) -> Result<(), Fail> {
+    holds(alloc, &["something, ", ask], !told.out.is_empty())?;
+    catalog_is_told(alloc, ask, catalog, told.out.as_str())
+}
+
 /// With this value of `--ask` the same is told of a compiled catalog and of the manifest.
 fn is_told_alike(alloc: Global, catalog: &str, ask: &str) -> Result<(), Fail> {
     let told = told_of(alloc, &words_for(ask, "--", "site.pp"), catalog)?;
-    catalog_is_told(alloc, ask, catalog, told.out.as_str())
+    tells_alike(alloc, &told, ask, catalog)
 }
 
 fn all_told_of(alloc: Global, catalog: &str, asks: &[&str]) -> Result<(), Fail> {

@@ -164,7 +164,7 @@ fn files_behind(alloc: Global, values: &str) -> Result<String, Fail> {
 /// Behind these lines, the attributes of 128 files are refused.
 fn are_refused_behind(alloc: Global, values: &str) -> Result<(), Fail> {
     let large = files_behind(alloc, values)?;
-    let at = values.len() + "@file { ".len();
+    let at = values.len().saturating_add("@file { ".len());
     is_too_large(alloc, large.as_str(), at, "attributes")
 }
 
