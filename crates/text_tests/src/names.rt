@@ -1,14 +1,20 @@
 //! Names as segments, and paths that may be managed.
 
 use fs_lang::{Path, PathFault, segment};
-use std::process::Abort;
+use std::alloc::Global;
 use std::test::Fail;
+use test_rows::{same, same_number};
+
+/// A name has this segment.
+fn is_segment(alloc: Global, name: &str, want: &str) -> Result<(), Fail> {
+    let found = segment(alloc, name)?;
+    same(alloc, name, found.as_str(), want)
+}
 
 /// Each name has the segment beside it.
-fn are_segments(rt: &(impl Abort + AllocGlobal), rows: &[(&str, &str)]) -> Result<(), Fail> {
+fn are_segments(alloc: Global, rows: &[(&str, &str)]) -> Result<(), Fail> {
     for (name, want) in rows {
-        let found = segment(rt.alloc(), *name).ok().ok_or("a segment")?;
-        assert_eq!(rt; found.as_str(), *want, "{name}");
+        is_segment(alloc, *name, *want)?;
     }
     Ok(())
 }
@@ -16,7 +22,7 @@ fn are_segments(rt: &(impl Abort + AllocGlobal), rows: &[(&str, &str)]) -> Resul
 #[test]
 fn names_and_their_segments(rt: HostRuntime) -> Result<(), Fail> {
     are_segments(
-        &rt,
+        rt.alloc(),
         &[
             ("ntp", "ntp"),
             ("a/b%", "a%2Fb%25"),
@@ -31,40 +37,80 @@ fn names_and_their_segments(rt: HostRuntime) -> Result<(), Fail> {
     )
 }
 
-/// Names that have no segment.
-fn are_bad(rt: &(impl Abort + AllocGlobal), names: &[&str]) {
-    for name in names {
-        let found = segment(rt.alloc(), *name);
-        assert_eq!(rt; found.err(), Some(PathFault::Bad), "{name}");
+fn fault_of(alloc: Global, name: &str) -> &'static str {
+    match segment(alloc, name) {
+        Ok(_) => "a segment",
+        Err(PathFault::Bad) => "bad",
+        Err(PathFault::Memory(_)) => "memory",
     }
 }
 
+/// A name has no segment.
+fn is_bad(alloc: Global, name: &str) -> Result<(), Fail> {
+    same(alloc, name, fault_of(alloc, name), "bad")
+}
+
+/// Names that have no segment.
+fn are_bad(alloc: Global, names: &[&str]) -> Result<(), Fail> {
+    for name in names {
+        is_bad(alloc, *name)?;
+    }
+    Ok(())
+}
+
 #[test]
-fn names_without_a_segment(rt: HostRuntime) {
-    are_bad(&rt, &["", "\0", "a\0b"]);
+fn names_without_a_segment(rt: HostRuntime) -> Result<(), Fail> {
+    are_bad(rt.alloc(), &["", "\0", "a\0b"])
+}
+
+/// How many bytes the segment of a name has.
+fn size_of(alloc: Global, name: &str) -> Result<u64, Fail> {
+    let found = segment(alloc, name)?;
+    Ok(found.as_str().len() as u64)
+}
+
+/// The same of a name of so many slashes.
+fn size_of_slashes(alloc: Global, count: usize) -> Result<u64, Fail> {
+    let name = "/".repeat(alloc, count)?;
+    size_of(alloc, name.as_str())
 }
 
 #[test]
 fn the_longest_name(rt: HostRuntime) -> Result<(), Fail> {
-    let name = "/".repeat(rt.alloc(), 255)?;
-    let found = segment(rt.alloc(), name.as_str()).ok().ok_or("a segment")?;
-    assert_eq!(rt; found.as_str().len(), 765);
-    Ok(())
+    same_number(
+        rt.alloc(),
+        "slashes",
+        size_of_slashes(rt.alloc(), 255)?,
+        765,
+    )
 }
 
 #[test]
 fn longer_names(rt: HostRuntime) -> Result<(), Fail> {
     let name = "/".repeat(rt.alloc(), 256)?;
-    are_bad(&rt, &[name.as_str()]);
-    Ok(())
+    is_bad(rt.alloc(), name.as_str())
 }
 
-/// Whether each path is reserved, and whether it may be managed.
-fn are_told(rt: &(impl Abort + AllocGlobal), rows: &[(&str, bool, bool)]) -> Result<(), Fail> {
+fn word(reserved: bool, managed: bool) -> &'static str {
+    match (reserved, managed) {
+        (true, true) => "reserved, and may be managed",
+        (true, false) => "reserved",
+        (false, true) => "may be managed",
+        (false, false) => "neither",
+    }
+}
+
+/// Whether a path is reserved, and whether it may be managed.
+fn is_told(alloc: Global, text: &str, reserved: bool, managed: bool) -> Result<(), Fail> {
+    let path = Path::read(alloc, text)?;
+    let told = word(path.is_reserved(), path.may_be_managed());
+    same(alloc, text, told, word(reserved, managed))
+}
+
+/// The same of each row's path.
+fn are_told(alloc: Global, rows: &[(&str, bool, bool)]) -> Result<(), Fail> {
     for (text, reserved, managed) in rows {
-        let path = Path::read(rt.alloc(), *text).ok().ok_or("a path")?;
-        assert_eq!(rt; path.is_reserved(), *reserved, "{text}");
-        assert_eq!(rt; path.may_be_managed(), *managed, "{text}");
+        is_told(alloc, *text, *reserved, *managed)?;
     }
     Ok(())
 }
@@ -72,7 +118,7 @@ fn are_told(rt: &(impl Abort + AllocGlobal), rows: &[(&str, bool, bool)]) -> Res
 #[test]
 fn paths_that_may_be_managed(rt: HostRuntime) -> Result<(), Fail> {
     are_told(
-        &rt,
+        rt.alloc(),
         &[
             ("/", false, false),
             ("/etc/motd", false, true),

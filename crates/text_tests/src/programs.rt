@@ -3,27 +3,42 @@
 use fs_lang::{Path, Program};
 use res_models::put;
 use std::alloc::Global;
-use std::process::Abort;
 use std::test::Fail;
-use test_programs::{program, programs};
-use test_rows::text;
+use test_programs::programs;
+use test_rows::{same, same_of, text};
 use tree_text::program_text;
 
-fn printed(rt: &(impl Abort + AllocGlobal), program: &Program) -> Vec<u8> {
-    let mut bytes = Vec::new(rt.alloc());
-    program_text(rt.alloc(), program, &mut bytes)
-        .ok()
-        .expect(rt, "memory");
-    bytes
+fn printed(alloc: Global, program: &Program) -> Result<String, Fail> {
+    let mut bytes = Vec::new(alloc);
+    program_text(alloc, program, &mut bytes)?;
+    Ok(String::from_utf8(bytes)?)
+}
+
+fn printed_one(alloc: Global, programs: &[Program]) -> Result<String, Fail> {
+    match programs {
+        [program] => printed(alloc, program),
+        _ => Err(Fail::from("a program")),
+    }
+}
+
+/// A program in words as it is printed.
+fn printed_of(alloc: Global, words: &str) -> Result<String, Fail> {
+    let one = programs(alloc, words)?;
+    printed_one(alloc, one.as_slice())
+}
+
+/// A program is printed so.
+fn is_printed(alloc: Global, words: &str, want: &str) -> Result<(), Fail> {
+    let found = printed_of(alloc, words)?;
+    same(alloc, words, found.as_str(), want)
 }
 
 /// Each program is printed so.
-fn are_printed(rt: &(impl Abort + AllocGlobal), rows: &[(&str, &str)]) {
+fn are_printed(alloc: Global, rows: &[(&str, &str)]) -> Result<(), Fail> {
     for (words, want) in rows {
-        let program = program(rt.alloc(), *words).ok().expect(rt, "a program");
-        let found = printed(rt, &program);
-        assert_eq!(rt; found.as_slice(), want.as_bytes(), "{words}");
+        is_printed(alloc, *words, *want)?;
     }
+    Ok(())
 }
 
 /// Choices, and the tests in them.
@@ -57,14 +72,14 @@ const CHOICES: [(&str, &str); 8] = [
 ];
 
 #[test]
-fn tests_in_choices(rt: HostRuntime) {
-    are_printed(&rt, &CHOICES);
+fn tests_in_choices(rt: HostRuntime) -> Result<(), Fail> {
+    are_printed(rt.alloc(), &CHOICES)
 }
 
 #[test]
-fn single_programs(rt: HostRuntime) {
+fn single_programs(rt: HostRuntime) -> Result<(), Fail> {
     are_printed(
-        &rt,
+        rt.alloc(),
         &[
             ("id", "id"),
             ("err", "err"),
@@ -74,15 +89,25 @@ fn single_programs(rt: HostRuntime) {
             ("rm /a", r#"rm("/a")"#),
             ("cp /a /b/c", r#"cp("/a","/b/c")"#),
         ],
-    );
+    )
+}
+
+/// The steps of a list of programs as they are printed.
+fn printed_steps(alloc: Global, words: &str) -> Result<String, Fail> {
+    let steps = Program::Steps(programs(alloc, words)?);
+    printed(alloc, &steps)
+}
+
+/// The steps of a list of programs are printed so.
+fn is_sequence(alloc: Global, words: &str, want: &str) -> Result<(), Fail> {
+    let found = printed_steps(alloc, words)?;
+    same(alloc, words, found.as_str(), want)
 }
 
 /// The steps of each list of programs are printed so.
-fn are_sequences(rt: &(impl Abort + AllocGlobal), rows: &[(&str, &str)]) -> Result<(), Fail> {
+fn are_sequences(alloc: Global, rows: &[(&str, &str)]) -> Result<(), Fail> {
     for (words, want) in rows {
-        let steps = programs(rt.alloc(), *words)?;
-        let found = printed(rt, &Program::Steps(steps));
-        assert_eq!(rt; found.as_slice(), want.as_bytes());
+        is_sequence(alloc, *words, *want)?;
     }
     Ok(())
 }
@@ -90,7 +115,7 @@ fn are_sequences(rt: &(impl Abort + AllocGlobal), rows: &[(&str, &str)]) -> Resu
 #[test]
 fn sequences(rt: HostRuntime) -> Result<(), Fail> {
     are_sequences(
-        &rt,
+        rt.alloc(),
         &[
             ("", "[]"),
             ("rm /a", r#"[rm("/a")]"#),
@@ -103,18 +128,35 @@ fn sequences(rt: HostRuntime) -> Result<(), Fail> {
 }
 
 /// The program that puts a text at a path.
+fn putting_at(alloc: Global, path: &Path, content: &str) -> Result<Program, Fail> {
+    let content = text(alloc, content)?;
+    Ok(put(alloc, path, &content)?)
+}
+
+/// The same of the text of a path.
 fn putting(alloc: Global, path: &str, content: &str) -> Result<Program, Fail> {
     let path = Path::read(alloc, path)?;
-    let content = text(alloc, content)?;
-    Ok(put(alloc, &path, &content)?)
+    putting_at(alloc, &path, content)
+}
+
+/// That program as it is printed.
+fn printed_put(alloc: Global, path: &str, content: &str) -> Result<String, Fail> {
+    let program = putting(alloc, path, content)?;
+    printed(alloc, &program)
+}
+
+/// That program is printed so.
+fn is_put(alloc: Global, path: &str, content: &str, want: &str) -> Result<(), Fail> {
+    let found = printed_put(alloc, path, content)?;
+    same_of(alloc, &[path, " ", content], found.as_str(), want)
 }
 
 #[test]
 fn a_file_that_is_put(rt: HostRuntime) -> Result<(), Fail> {
-    let program = putting(rt.alloc(), "/etc/ntp.conf", "server a")?;
-    let found = printed(&rt, &program);
-    let want =
-        r#"if file?("/etc/ntp.conf") then [rm("/etc/ntp.conf"); creat("/etc/ntp.conf","server a")] else creat("/etc/ntp.conf","server a")"#;
-    assert_eq!(rt; found.as_slice(), want.as_bytes());
-    Ok(())
+    is_put(
+        rt.alloc(),
+        "/etc/ntp.conf",
+        "server a",
+        r#"if file?("/etc/ntp.conf") then [rm("/etc/ntp.conf"); creat("/etc/ntp.conf","server a")] else creat("/etc/ntp.conf","server a")"#,
+    )
 }

@@ -2,42 +2,42 @@
 
 use fs_lang::Tree;
 use std::alloc::Global;
-use std::process::Abort;
 use std::test::Fail;
-use test_rows::refused;
+use test_rows::{joined, refused, same};
 use tree_text::{tree_from_json, tree_to_json};
 
-fn written(rt: &(impl Abort + AllocGlobal), tree: &Tree) -> Vec<u8> {
-    let mut bytes = Vec::new(rt.alloc());
-    tree_to_json(rt.alloc(), tree, &mut bytes)
-        .ok()
-        .expect(rt, "memory");
-    bytes
+fn written(alloc: Global, tree: &Tree) -> Result<String, Fail> {
+    let mut bytes = Vec::new(alloc);
+    tree_to_json(alloc, tree, &mut bytes)?;
+    Ok(String::from_utf8(bytes)?)
 }
 
 /// The tree of a text as it is written, or the refusal.
-fn answer(rt: &(impl Abort + AllocGlobal), text: &[u8]) -> Vec<u8> {
-    match tree_from_json(rt.alloc(), text) {
-        Ok(tree) => written(rt, &tree),
-        Err(fault) => {
-            let shown = refused(rt.alloc(), &fault);
-            shown.ok().expect(rt, "memory").into_bytes()
-        }
+fn answer(alloc: Global, text: &[u8]) -> Result<String, Fail> {
+    match tree_from_json(alloc, text) {
+        Ok(tree) => written(alloc, &tree),
+        Err(fault) => Ok(refused(alloc, &fault)?),
     }
+}
+
+/// This is answered to the text that a row has.
+fn is_answered(alloc: Global, row: &str, text: &[u8], want: &str) -> Result<(), Fail> {
+    let found = answer(alloc, text)?;
+    same(alloc, row, found.as_str(), want)
 }
 
 /// The tree of each text is written so.
-fn are_answered(rt: &(impl Abort + AllocGlobal), rows: &[(&str, &str)]) {
+fn are_answered(alloc: Global, rows: &[(&str, &str)]) -> Result<(), Fail> {
     for (text, want) in rows {
-        let found = answer(rt, text.as_bytes());
-        assert_eq!(rt; found.as_slice(), want.as_bytes(), "{text}");
+        is_answered(alloc, *text, text.as_bytes(), *want)?;
     }
+    Ok(())
 }
 
 #[test]
-fn trees_that_are_read(rt: HostRuntime) {
+fn trees_that_are_read(rt: HostRuntime) -> Result<(), Fail> {
     are_answered(
-        &rt,
+        rt.alloc(),
         &[
             ("{}", "{}"),
             (" { } ", "{}"),
@@ -61,24 +61,24 @@ fn trees_that_are_read(rt: HostRuntime) {
                 r#"{"/.rehearsal":null,"/.rehearsal/package":null,"/.rehearsal/package/p":"","/opt":null,"/opt/p":null,"/opt/p/z":"q"}"#,
             ),
         ],
-    );
+    )
 }
 
-fn is_refused(rt: &(impl Abort + AllocGlobal), text: &[u8], row: &str) {
-    let found = answer(rt, text);
-    assert_eq!(rt; found.as_slice(), b"62 at 0: tree".as_slice(), "{row}");
+fn is_refused(alloc: Global, text: &[u8], row: &str) -> Result<(), Fail> {
+    is_answered(alloc, row, text, "62 at 0: tree")
 }
 
-fn are_refused(rt: &(impl Abort + AllocGlobal), texts: &[&str]) {
+fn are_refused(alloc: Global, texts: &[&str]) -> Result<(), Fail> {
     for text in texts {
-        is_refused(rt, text.as_bytes(), *text);
+        is_refused(alloc, text.as_bytes(), *text)?;
     }
+    Ok(())
 }
 
 #[test]
-fn texts_of_another_shape(rt: HostRuntime) {
+fn texts_of_another_shape(rt: HostRuntime) -> Result<(), Fail> {
     are_refused(
-        &rt,
+        rt.alloc(),
         &[
             "",
             "x",
@@ -101,18 +101,18 @@ fn texts_of_another_shape(rt: HostRuntime) {
             r#"{"/a":{"link":"/b","more":null}}"#,
             r#"{"/a":{"link":{"link":"/b"}}}"#,
         ],
-    );
+    )
 }
 
 #[test]
-fn bytes_that_are_no_text(rt: HostRuntime) {
-    is_refused(&rt, b"{\"/\xff\":null}", "no text");
+fn bytes_that_are_no_text(rt: HostRuntime) -> Result<(), Fail> {
+    is_refused(rt.alloc(), b"{\"/\xff\":null}", "no text")
 }
 
 #[test]
-fn paths_that_are_refused(rt: HostRuntime) {
+fn paths_that_are_refused(rt: HostRuntime) -> Result<(), Fail> {
     are_refused(
-        &rt,
+        rt.alloc(),
         &[
             r#"{"/":null}"#,
             r#"{"":null}"#,
@@ -128,39 +128,41 @@ fn paths_that_are_refused(rt: HostRuntime) {
             r#"{"/a":{"link":"/"},"/a/b":null}"#,
             r#"{"/a":null,"/a/b/c":"x"}"#,
         ],
-    );
+    )
 }
 
 /// The text of a tree of one file, whose path has this many bytes.
 fn long_path(alloc: Global, bytes: usize) -> Result<String, Fail> {
     let path = "s".repeat(alloc, bytes.saturating_sub(1))?;
-    Ok(format!(in alloc; "{{\"/{path}\":\"x\"}}")?)
+    Ok(joined(alloc, &["{\"/", path.as_str(), "\":\"x\"}"])?)
 }
 
 /// The text is that of a tree, as it is written.
-fn is_written(rt: &(impl Abort + AllocGlobal), text: &str) {
-    let found = answer(rt, text.as_bytes());
-    assert_eq!(rt; found.as_slice(), text.as_bytes());
+fn is_written(alloc: Global, text: &str) -> Result<(), Fail> {
+    is_answered(alloc, text, text.as_bytes(), text)
 }
 
 #[test]
 fn the_longest_path(rt: HostRuntime) -> Result<(), Fail> {
     let longest = long_path(rt.alloc(), 1024)?;
-    is_written(&rt, longest.as_str());
-    Ok(())
+    is_written(rt.alloc(), longest.as_str())
 }
 
 #[test]
 fn longer_paths(rt: HostRuntime) -> Result<(), Fail> {
     let longer = long_path(rt.alloc(), 1025)?;
-    is_refused(&rt, longer.as_bytes(), "a longer path");
-    Ok(())
+    is_refused(rt.alloc(), longer.as_bytes(), "a longer path")
+}
+
+/// A folder so deep, behind a comma.
+fn folder(alloc: Global, depth: usize) -> Result<String, Fail> {
+    let path = "/s".repeat(alloc, depth)?;
+    Ok(joined(alloc, &[",\"", path.as_str(), "\":null"])?)
 }
 
 /// Adds a folder so deep.
 fn add_folder(alloc: Global, text: &mut String, depth: usize) -> Result<(), Fail> {
-    let path = "/s".repeat(alloc, depth)?;
-    let entry = format!(in alloc; ",\"{path}\":null")?;
+    let entry = folder(alloc, depth)?;
     Ok(text.push_str(entry.as_str())?)
 }
 
@@ -177,13 +179,11 @@ fn nested(alloc: Global, depth: usize) -> Result<String, Fail> {
 #[test]
 fn the_deepest_tree(rt: HostRuntime) -> Result<(), Fail> {
     let deepest = nested(rt.alloc(), 32)?;
-    is_written(&rt, deepest.as_str());
-    Ok(())
+    is_written(rt.alloc(), deepest.as_str())
 }
 
 #[test]
 fn deeper_trees(rt: HostRuntime) -> Result<(), Fail> {
     let deeper = nested(rt.alloc(), 33)?;
-    is_refused(&rt, deeper.as_bytes(), "a deeper path");
-    Ok(())
+    is_refused(rt.alloc(), deeper.as_bytes(), "a deeper path")
 }
