@@ -5,7 +5,7 @@ use std::test::Fail;
 #[test]
 fn files_come_after_what_is_above(rt: HostRuntime) -> Result<(), Fail> {
     are_answered(
-        &rt,
+        rt.alloc(),
         &[
             (
                 "plain file[/a]; plain file[/a/b]",
@@ -60,7 +60,7 @@ fn files_come_after_what_is_above(rt: HostRuntime) -> Result<(), Fail> {
 #[test]
 fn resources_come_after_whom_they_name(rt: HostRuntime) -> Result<(), Fail> {
     are_answered(
-        &rt,
+        rt.alloc(),
         &[
             (
                 "plain file[/f] owner=u group=g; plain user[u]; plain group[g]; plain user[g]",

@@ -5,7 +5,7 @@ use std::test::Fail;
 #[test]
 fn circles_are_refused(rt: HostRuntime) -> Result<(), Fail> {
     are_answered(
-        &rt,
+        rt.alloc(),
         &[
             (
                 "plain file[/a]; plain file[/b]; arrow file[/a] file[/b]; arrow file[/b] file[/a]",

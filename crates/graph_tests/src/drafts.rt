@@ -12,9 +12,8 @@ use host_limits::Limits;
 use pp_value::{Pairs, Ref, Value};
 use rh_base::{Fault, NoMemory, Seq, Text};
 use std::alloc::Global;
-use std::process::Abort;
 use std::test::Fail;
-use test_rows::{refused, text};
+use test_rows::{refused, same, text};
 
 /// The reference that a word spells, as `file[/a]`.
 fn reference(alloc: Global, word: &str) -> Result<Option<Ref>, NoMemory> {
@@ -29,22 +28,31 @@ fn reference(alloc: Global, word: &str) -> Result<Option<Ref>, NoMemory> {
     Ok(Some(Ref { kind, title }))
 }
 
-/// A reference, a number or a text.
-fn single(alloc: Global, word: &str) -> Result<Value, NoMemory> {
-    if let Some(r) = reference(alloc, word)? {
-        return Ok(Value::Refer(r));
-    }
+/// A number or a text.
+fn plain(alloc: Global, word: &str) -> Result<Value, NoMemory> {
     if word.starts_with('#') {
         return Ok(Value::Int(7));
     }
     Ok(Value::Str(text(alloc, word)?))
 }
 
+/// A reference, a number or a text.
+fn single(alloc: Global, word: &str) -> Result<Value, NoMemory> {
+    match reference(alloc, word)? {
+        Some(r) => Ok(Value::Refer(r)),
+        None => plain(alloc, word),
+    }
+}
+
+fn push_member(alloc: Global, part: &str, found: &mut Seq<Value>) -> Result<(), NoMemory> {
+    found.push(single(alloc, part)?)
+}
+
 /// The members between commas.
 fn members(alloc: Global, word: &str) -> Result<Seq<Value>, NoMemory> {
     let mut found = Seq::new(alloc);
     for part in word.split(',') {
-        found.push(single(alloc, part)?)?;
+        push_member(alloc, part, &mut found)?;
     }
     Ok(found)
 }
@@ -57,13 +65,18 @@ fn value(alloc: Global, word: &str) -> Result<Value, NoMemory> {
     }
 }
 
+fn push_reference(alloc: Global, part: &str, refs: &mut Seq<Ref>) -> Result<(), NoMemory> {
+    match reference(alloc, part)? {
+        Some(r) => refs.push(r),
+        None => Ok(()),
+    }
+}
+
 /// The references between commas.
 fn references(alloc: Global, word: &str) -> Result<Seq<Ref>, NoMemory> {
     let mut refs = Seq::new(alloc);
     for part in word.split(',') {
-        if let Some(r) = reference(alloc, part)? {
-            refs.push(r)?;
-        }
+        push_reference(alloc, part, &mut refs)?;
     }
     Ok(refs)
 }
@@ -85,14 +98,20 @@ fn put_attribute(
     pairs.put(text(alloc, name)?, value(alloc, given)?)
 }
 
-/// The attributes among some words; `in` is none.
+/// Puts the attribute of a word; `in` is none.
+fn put_word(alloc: Global, pairs: &mut Pairs, word: &str) -> Result<(), NoMemory> {
+    let (name, given) = word.split_once('=').unwrap_or(("in", ""));
+    if name == "in" {
+        return Ok(());
+    }
+    put_attribute(alloc, pairs, name, given)
+}
+
+/// The attributes among some words.
 fn attributes(alloc: Global, words: &str) -> Result<Pairs, NoMemory> {
     let mut pairs = Pairs::new(alloc);
     for word in words.split(' ') {
-        let (name, given) = word.split_once('=').unwrap_or(("in", ""));
-        if name != "in" {
-            put_attribute(alloc, &mut pairs, name, given)?;
-        }
+        put_word(alloc, &mut pairs, word)?;
     }
     Ok(pairs)
 }
@@ -115,6 +134,25 @@ fn sort_of(kind: &str) -> Sort {
     }
 }
 
+/// The resource of a reference, with the attributes among some words.
+fn resource(
+    alloc: Global,
+    kind: &str,
+    at: u32,
+    id: Ref,
+    holder: Option<u32>,
+    words: &str,
+) -> Result<Resource, NoMemory> {
+    Ok(Resource {
+        id,
+        sort: sort_of(kind),
+        is_virtual: kind == "virtual",
+        at,
+        holder,
+        attrs: attributes(alloc, words)?,
+    })
+}
+
 /// Adds a resource of some words: its reference, and then its attributes.
 fn add_resource(
     alloc: Global,
@@ -125,19 +163,15 @@ fn add_resource(
     words: &str,
 ) -> Result<(), Fault> {
     let holder = holder(alloc, catalog, words)?;
-    let attrs = attributes(alloc, words)?;
-    catalog.add(
-        Resource {
-            id,
-            sort: sort_of(kind),
-            is_virtual: kind == "virtual",
-            at,
-            holder,
-            attrs,
-        },
-        Limits::Usual,
-    )?;
+    let resource = resource(alloc, kind, at, id, holder, words)?;
+    catalog.add(resource, Limits::Usual)?;
     Ok(())
+}
+
+/// The relation of references to those between commas.
+fn relation(alloc: Global, at: u32, from: Seq<Ref>, to: &str) -> Result<Relation, NoMemory> {
+    let to = references(alloc, to)?;
+    Ok(Relation { from, to, at })
 }
 
 fn relate(
@@ -148,8 +182,7 @@ fn relate(
     to: &str,
 ) -> Result<(), NoMemory> {
     let from = references(alloc, from)?;
-    let to = references(alloc, to)?;
-    catalog.relate(Relation { from, to, at })
+    catalog.relate(relation(alloc, at, from, to)?)
 }
 
 fn contain(alloc: Global, catalog: &mut Catalog, outer: &str, class: &str) -> Result<(), NoMemory> {
@@ -186,10 +219,14 @@ fn catalog_of(alloc: Global, text: &str) -> Result<Catalog, Fault> {
     Ok(catalog)
 }
 
+fn graph_in(alloc: Global, catalog: &Catalog) -> Result<Text, Fault> {
+    let found = graph(alloc, catalog)?;
+    Ok(graph_text(alloc, catalog, &found)?)
+}
+
 fn graph_of(alloc: Global, text: &str) -> Result<Text, Fault> {
     let catalog = catalog_of(alloc, text)?;
-    let found = graph(alloc, &catalog)?;
-    Ok(graph_text(alloc, &catalog, &found)?)
+    graph_in(alloc, &catalog)
 }
 
 /// The text of the graph of a catalog, or the refusal as `40 at 1: File[/z]`.
@@ -200,11 +237,16 @@ fn answer(alloc: Global, text: &str) -> Result<String, Fail> {
     }
 }
 
+/// A text has this graph, or this refusal.
+fn is_answered(alloc: Global, text: &str, want: &str) -> Result<(), Fail> {
+    let found = answer(alloc, text)?;
+    same(alloc, text, found.as_str(), want)
+}
+
 /// Each text has the graph beside it, or the refusal.
-pub fn are_answered(rt: &(impl Abort + AllocGlobal), rows: &[(&str, &str)]) -> Result<(), Fail> {
+pub fn are_answered(alloc: Global, rows: &[(&str, &str)]) -> Result<(), Fail> {
     for (text, want) in rows {
-        let found = answer(rt.alloc(), *text)?;
-        assert_eq!(rt; found.as_str(), *want, "{text}");
+        is_answered(alloc, *text, *want)?;
     }
     Ok(())
 }

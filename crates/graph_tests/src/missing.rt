@@ -5,7 +5,7 @@ use std::test::Fail;
 #[test]
 fn references_to_nothing_are_refused(rt: HostRuntime) -> Result<(), Fail> {
     are_answered(
-        &rt,
+        rt.alloc(),
         &[
             (
                 "class class[c]; plain file[/a] require=file[/z]",

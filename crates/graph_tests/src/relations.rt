@@ -5,7 +5,7 @@ use std::test::Fail;
 #[test]
 fn metaparameters_and_arrows(rt: HostRuntime) -> Result<(), Fail> {
     are_answered(
-        &rt,
+        rt.alloc(),
         &[
             ("", ""),
             (
@@ -66,7 +66,7 @@ fn metaparameters_and_arrows(rt: HostRuntime) -> Result<(), Fail> {
 #[test]
 fn containers(rt: HostRuntime) -> Result<(), Fail> {
     are_answered(
-        &rt,
+        rt.alloc(),
         &[
             // a class that isn't contained may run at any time
             (
