@@ -2,18 +2,26 @@
 
 use assumed_text::{Assumed, Assumption, Behavior, Subject, assumptions_from_json};
 use fs_lang::Path;
-use pp_value::shown_ref;
+use pp_value::{Ref, shown_ref};
 use std::alloc::Global;
-use std::process::Abort;
 use std::test::Fail;
-use test_rows::refused;
+use test_rows::{joined, refused, same};
+
+/// The refusal of a text that is no assumptions.
+pub const REFUSED: &str = "66 at 0: assume";
+
+/// Adds each of these words.
+fn add_words(words: &[&str], line: &mut String) -> Result<(), Fail> {
+    for word in words {
+        line.push_str(*word)?;
+    }
+    Ok(())
+}
 
 /// Adds a word and a path.
 fn add_path(alloc: Global, word: &str, path: &Path, line: &mut String) -> Result<(), Fail> {
     let text = path.text(alloc)?;
-    let piece = format!(in alloc; " {word} {}", text.as_str())?;
-    line.push_str(piece.as_str())?;
-    Ok(())
+    add_words(&[" ", word, " ", text.as_str()], line)
 }
 
 /// Adds the word before each of these paths.
@@ -27,7 +35,7 @@ fn add_paths(alloc: Global, word: &str, paths: &[Path], line: &mut String) -> Re
 /// Adds the paths of each row behind its word.
 fn add_rows(alloc: Global, rows: &[(&str, &[Path])], line: &mut String) -> Result<(), Fail> {
     for (word, paths) in rows {
-        add_paths(alloc, word, *paths, line)?;
+        add_paths(alloc, *word, *paths, line)?;
     }
     Ok(())
 }
@@ -59,22 +67,30 @@ fn add_behavior(alloc: Global, b: &Behavior, line: &mut String) -> Result<(), Fa
 /// Adds what is assumed.
 pub fn add_assumed(alloc: Global, assumed: &Assumed, line: &mut String) -> Result<(), Fail> {
     match assumed {
-        Assumed::Nothing => line.push_str(" nothing")?,
-        Assumed::Refused => line.push_str(" refused")?,
-        Assumed::Does(behavior) => add_behavior(alloc, behavior, line)?,
+        Assumed::Nothing => add_words(&[" nothing"], line),
+        Assumed::Refused => add_words(&[" refused"], line),
+        Assumed::Does(behavior) => add_behavior(alloc, behavior, line),
     }
-    Ok(())
+}
+
+fn add_ref(alloc: Global, r: &Ref, line: &mut String) -> Result<(), Fail> {
+    let name = shown_ref(alloc, r)?;
+    add_words(&[name.as_str()], line)
 }
 
 /// Adds a reference, or a type with dots behind it.
 fn add_subject(alloc: Global, subject: &Subject, line: &mut String) -> Result<(), Fail> {
     match subject {
-        Subject::One(r) => line.push_str(shown_ref(alloc, r)?.as_str())?,
-        Subject::EachOf(kind) => {
-            line.push_str(kind.as_str())?;
-            line.push_str("[..]")?;
-        }
+        Subject::One(r) => add_ref(alloc, r, line),
+        Subject::EachOf(kind) => add_words(&[kind.as_str(), "[..]"], line),
     }
+}
+
+/// Adds a line for an assumption.
+fn add_line(alloc: Global, row: &Assumption, lines: &mut String) -> Result<(), Fail> {
+    add_subject(alloc, &row.subject, lines)?;
+    add_assumed(alloc, &row.assumed, lines)?;
+    lines.push('\n')?;
     Ok(())
 }
 
@@ -82,16 +98,14 @@ fn add_subject(alloc: Global, subject: &Subject, line: &mut String) -> Result<()
 fn shown(alloc: Global, rows: &[Assumption]) -> Result<String, Fail> {
     let mut lines = String::new(alloc);
     for row in rows {
-        add_subject(alloc, &row.subject, &mut lines)?;
-        add_assumed(alloc, &row.assumed, &mut lines)?;
-        lines.push('\n')?;
+        add_line(alloc, row, &mut lines)?;
     }
     Ok(lines)
 }
 
 /// What a text says, or the refusal.
-pub fn answer(alloc: Global, text: &str) -> Result<String, Fail> {
-    match assumptions_from_json(alloc, text.as_bytes()) {
+fn answer(alloc: Global, text: &[u8]) -> Result<String, Fail> {
+    match assumptions_from_json(alloc, text) {
         Ok(assumptions) => shown(alloc, assumptions.rows()),
         Err(fault) => Ok(refused(alloc, &fault)?),
     }
@@ -99,20 +113,28 @@ pub fn answer(alloc: Global, text: &str) -> Result<String, Fail> {
 
 /// The text of assumptions of these members.
 pub fn text_of(alloc: Global, resources: &str) -> Result<String, Fail> {
-    Ok(format!(in alloc; r#"{{"version":1,"resources":{{{resources}}}}}"#)?)
+    Ok(joined(
+        alloc,
+        &[r#"{"version":1,"resources":{"#, resources, r#"}}"#],
+    )?)
 }
 
 /// What the text of these members says, or the refusal.
 pub fn answer_of(alloc: Global, resources: &str) -> Result<String, Fail> {
     let text = text_of(alloc, resources)?;
-    answer(alloc, text.as_str())
+    answer(alloc, text.as_bytes())
+}
+
+/// Bytes that this row has are refused.
+pub fn is_refused(alloc: Global, row: &str, text: &[u8]) -> Result<(), Fail> {
+    let told = answer(alloc, text)?;
+    same(alloc, row, told.as_str(), REFUSED)
 }
 
 /// Each text is refused.
-pub fn expect_refused(rt: &(impl Abort), alloc: Global, texts: &[&str]) -> Result<(), Fail> {
+pub fn are_refused(alloc: Global, texts: &[&str]) -> Result<(), Fail> {
     for text in texts {
-        let told = answer(alloc, text)?;
-        assert_eq!(rt; told.as_str(), "66 at 0: assume", "{text}");
+        is_refused(alloc, *text, text.as_bytes())?;
     }
     Ok(())
 }

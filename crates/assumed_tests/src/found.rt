@@ -1,10 +1,10 @@
 //! Assumptions that are read, and those of types.
 
 use crate::answers::{add_assumed, answer_of, text_of};
-use assumed_text::{Assumptions, assumptions_from_json};
+use assumed_text::{Assumed, Assumptions, assumptions_from_json};
 use std::alloc::Global;
-use std::process::Abort;
 use std::test::Fail;
+use test_rows::same;
 
 /// Members, and what they say.
 const READ: &[(&str, &str)] = &[
@@ -55,18 +55,23 @@ const READ: &[(&str, &str)] = &[
     ),
 ];
 
+/// These members say this.
+fn is_read(alloc: Global, members: &str, want: &str) -> Result<(), Fail> {
+    let told = answer_of(alloc, members)?;
+    same(alloc, members, told.as_str(), want)
+}
+
 /// The members of each row say what stands beside them.
-fn are_read(rt: &impl Abort, alloc: Global, rows: &[(&str, &str)]) -> Result<(), Fail> {
+fn are_read(alloc: Global, rows: &[(&str, &str)]) -> Result<(), Fail> {
     for (members, want) in rows {
-        let told = answer_of(alloc, members)?;
-        assert_eq!(rt; told.as_str(), *want, "{members}");
+        is_read(alloc, *members, *want)?;
     }
     Ok(())
 }
 
 #[test]
 fn assumptions_are_read(rt: HostRuntime) -> Result<(), Fail> {
-    are_read(&rt, rt.alloc(), READ)
+    are_read(rt.alloc(), READ)
 }
 
 /// Assumptions of these members.
@@ -75,12 +80,17 @@ fn assumptions_of(alloc: Global, members: &str) -> Result<Assumptions, Fail> {
     Ok(assumptions_from_json(alloc, text.as_bytes())?)
 }
 
+/// Adds what is assumed, or a dash.
+fn add_found(alloc: Global, found: Option<&Assumed>, line: &mut String) -> Result<(), Fail> {
+    match found {
+        Some(assumed) => add_assumed(alloc, assumed, line),
+        None => Ok(line.push_str("-")?),
+    }
+}
+
 fn shown_of(alloc: Global, assumptions: &Assumptions, kind: &str) -> Result<String, Fail> {
     let mut line = String::new(alloc);
-    match assumptions.of_type(kind) {
-        Some(assumed) => add_assumed(alloc, assumed, &mut line)?,
-        None => line.push_str("-")?,
-    }
+    add_found(alloc, assumptions.of_type(kind), &mut line)?;
     Ok(line)
 }
 
@@ -94,16 +104,16 @@ const TYPES: &[(&str, &str)] = &[
     ("", "-"),
 ];
 
+/// Of this type this is assumed.
+fn is_found(alloc: Global, assumptions: &Assumptions, kind: &str, want: &str) -> Result<(), Fail> {
+    let told = shown_of(alloc, assumptions, kind)?;
+    same(alloc, kind, told.as_str(), want)
+}
+
 /// Of the type of each row is assumed what stands beside it.
-fn are_found(
-    rt: &impl Abort,
-    alloc: Global,
-    assumptions: &Assumptions,
-    rows: &[(&str, &str)],
-) -> Result<(), Fail> {
+fn are_found(alloc: Global, assumptions: &Assumptions, rows: &[(&str, &str)]) -> Result<(), Fail> {
     for (kind, want) in rows {
-        let told = shown_of(alloc, assumptions, kind)?;
-        assert_eq!(rt; told.as_str(), *want, "{kind}");
+        is_found(alloc, assumptions, *kind, *want)?;
     }
     Ok(())
 }
@@ -114,5 +124,5 @@ fn types_are_found(rt: HostRuntime) -> Result<(), Fail> {
         rt.alloc(),
         r#""exec":"none","EXEC":"refused","Exec":"none","File[/a]":"none","File_line":{"edits":["/e"]},"A::b":"none""#,
     )?;
-    are_found(&rt, rt.alloc(), &assumptions, TYPES)
+    are_found(rt.alloc(), &assumptions, TYPES)
 }

@@ -9,16 +9,20 @@ use pp_eval::{facts_from_json, ref_of};
 use pp_value::{Pairs, Ref, Value};
 use rh_base::Seq;
 use std::alloc::Global;
-use std::process::Abort;
 use std::test::Fail;
+use test_rows::{joined, same, same_at};
 use tree_text::program_text;
+
+fn pairs_of(value: Value) -> Result<Pairs, Fail> {
+    match value {
+        Value::Map(pairs) => Ok(pairs),
+        _ => Err(Fail::from("an object")),
+    }
+}
 
 /// The attributes of an object of JSON.
 fn attributes(alloc: Global, text: &str) -> Result<Pairs, Fail> {
-    match facts_from_json(alloc, text.as_bytes())? {
-        Value::Map(pairs) => Ok(pairs),
-        _ => Ok(Pairs::new(alloc)),
-    }
+    pairs_of(facts_from_json(alloc, text.as_bytes())?)
 }
 
 /// A native resource.
@@ -33,15 +37,22 @@ fn native(id: Ref, attrs: Pairs) -> Resource {
     }
 }
 
-/// A native resource of a type, a title and attributes.
+/// A native resource of these attributes.
+fn native_with(alloc: Global, id: Ref, attrs: &str) -> Result<Resource, Fail> {
+    Ok(native(id, attributes(alloc, attrs)?))
+}
+
+/// The same of a type and a title.
 fn resource(alloc: Global, kind: &str, title: &str, attrs: &str) -> Result<Resource, Fail> {
-    let attrs = attributes(alloc, attrs)?;
-    Ok(native(ref_of(alloc, kind, title)?, attrs))
+    native_with(alloc, ref_of(alloc, kind, title)?, attrs)
 }
 
 /// Assumptions of the type `exec`.
 fn assumptions(alloc: Global, behavior: &str) -> Result<Assumptions, Fail> {
-    let text = format!(in alloc; r#"{{"version":1,"resources":{{"exec":{behavior}}}}}"#)?;
+    let text = joined(
+        alloc,
+        &[r#"{"version":1,"resources":{"exec":"#, behavior, r#"}}"#],
+    )?;
     Ok(assumptions_from_json(alloc, text.as_bytes())?)
 }
 
@@ -81,7 +92,7 @@ fn program_shown(alloc: Global, r: &Resource, behavior: &str) -> Result<String, 
     let assumptions = assumptions(alloc, behavior)?;
     match behavior_in(&assumptions) {
         Some(behavior) => program_of(alloc, r, behavior),
-        None => Ok(String::from_str(alloc, "no behavior")?),
+        None => Err(Fail::from("no behavior")),
     }
 }
 
@@ -123,16 +134,16 @@ const PROGRAMS: &[(&str, &str)] = &[
     ),
 ];
 
+/// A resource and a behavior have this program.
+fn is_program(alloc: Global, r: &Resource, behavior: &str, want: &str) -> Result<(), Fail> {
+    let told = program_shown(alloc, r, behavior)?;
+    same(alloc, behavior, told.as_str(), want)
+}
+
 /// A resource and each behavior have the program beside it.
-fn are_programs(
-    rt: &impl Abort,
-    alloc: Global,
-    r: &Resource,
-    rows: &[(&str, &str)],
-) -> Result<(), Fail> {
+fn are_programs(alloc: Global, r: &Resource, rows: &[(&str, &str)]) -> Result<(), Fail> {
     for (behavior, want) in rows {
-        let told = program_shown(alloc, r, behavior)?;
-        assert_eq!(rt; told.as_str(), *want, "{behavior}");
+        is_program(alloc, r, *behavior, *want)?;
     }
     Ok(())
 }
@@ -145,7 +156,7 @@ fn behaviors_are_programs(rt: HostRuntime) -> Result<(), Fail> {
         "x",
         r#"{"before":"B","command":"/bin/c","notify":"N","require":"R","subscribe":"S","tries":2}"#,
     )?;
-    are_programs(&rt, rt.alloc(), &r, PROGRAMS)
+    are_programs(rt.alloc(), &r, PROGRAMS)
 }
 
 /// Pieces of titles, how many of them, behaviors, and whether a resource of such a title has a program.
@@ -165,29 +176,45 @@ fn titled(alloc: Global, piece: &str, count: usize) -> Result<Resource, Fail> {
     resource(alloc, "exec", title.as_str(), "{}")
 }
 
-/// Has such a resource a program?
-fn is_accepted(alloc: Global, piece: &str, count: usize, behavior: &str) -> Result<bool, Fail> {
+/// The program of such a resource and a behavior, or the rule that is broken.
+fn program_titled(
+    alloc: Global,
+    piece: &str,
+    count: usize,
+    behavior: &str,
+) -> Result<String, Fail> {
     let r = titled(alloc, piece, count)?;
-    let told = program_shown(alloc, &r, behavior)?;
-    Ok(told.as_str() != "52")
+    program_shown(alloc, &r, behavior)
+}
+
+fn word(accepted: bool) -> &'static str {
+    if accepted { "accepted" } else { "refused" }
+}
+
+/// Such a resource has a program or not.
+fn is_accepted(
+    alloc: Global,
+    piece: &str,
+    count: usize,
+    behavior: &str,
+    want: bool,
+) -> Result<(), Fail> {
+    let told = program_titled(alloc, piece, count, behavior)?;
+    let accepted = told.as_str() != "52";
+    same_at(alloc, count as u64, behavior, word(accepted), word(want))
 }
 
 /// Each such resource has a program or not.
-fn are_accepted(
-    rt: &impl Abort,
-    alloc: Global,
-    rows: &[(&str, usize, &str, bool)],
-) -> Result<(), Fail> {
+fn are_accepted(alloc: Global, rows: &[(&str, usize, &str, bool)]) -> Result<(), Fail> {
     for (piece, count, behavior, want) in rows {
-        let accepted = is_accepted(alloc, piece, *count, behavior)?;
-        assert_eq!(rt; accepted, *want, "{behavior} {count}");
+        is_accepted(alloc, *piece, *count, *behavior, *want)?;
     }
     Ok(())
 }
 
 #[test]
 fn what_writes_has_a_name(rt: HostRuntime) -> Result<(), Fail> {
-    are_accepted(&rt, rt.alloc(), NAMES)
+    are_accepted(rt.alloc(), NAMES)
 }
 
 /// The mark of an edit of a path by `File_line[TITLE]`.
@@ -203,11 +230,15 @@ fn edit(alloc: Global, place: usize, title: &str) -> Result<Edit, Fail> {
     Ok(Edit { place, path, mark })
 }
 
+fn push_edit(alloc: Global, place: usize, title: &str, edits: &mut Seq<Edit>) -> Result<(), Fail> {
+    Ok(edits.push(edit(alloc, place, title)?)?)
+}
+
 /// Edits of `/h` by resources of these places and titles.
 fn edits_by(alloc: Global, resources: &[(usize, &str)]) -> Result<Seq<Edit>, Fail> {
     let mut edits = Seq::new(alloc);
     for (place, title) in resources {
-        edits.push(edit(alloc, *place, title)?)?;
+        push_edit(alloc, *place, *title, &mut edits)?;
     }
     Ok(edits)
 }
@@ -218,29 +249,50 @@ fn two_edits(alloc: Global) -> Result<Edits, Fail> {
     Ok(Edits::of(alloc, edits)?)
 }
 
-/// A program in which these edits are lost.
-fn lost(alloc: Global, place: usize, program: Program) -> Result<String, Fail> {
-    let edits = two_edits(alloc)?;
-    let lost = with_lost_edits(alloc, &edits, place, program)?;
+/// A program in which edits are lost.
+fn lost(alloc: Global, edits: &Edits, place: usize, program: Program) -> Result<String, Fail> {
+    let lost = with_lost_edits(alloc, edits, place, program)?;
     shown(alloc, &lost)
 }
 
-/// The program of `Exec[x]` and a behavior, in which these edits are lost.
-fn lost_of(alloc: Global, place: usize, behavior: &Behavior) -> Result<String, Fail> {
-    let r = resource(alloc, "exec", "x", "{}")?;
-    match program_of_behavior(alloc, &r, behavior) {
-        Ok(program) => lost(alloc, place, program),
+/// The program of a resource and a behavior, in which edits are lost.
+fn lost_by(
+    alloc: Global,
+    edits: &Edits,
+    place: usize,
+    r: &Resource,
+    behavior: &Behavior,
+) -> Result<String, Fail> {
+    match program_of_behavior(alloc, r, behavior) {
+        Ok(program) => lost(alloc, edits, place, program),
         Err(fault) => Ok(String::from_str(alloc, fault_shown(&fault))?),
     }
 }
 
+/// The same of `Exec[x]`.
+fn lost_of(
+    alloc: Global,
+    edits: &Edits,
+    place: usize,
+    behavior: &Behavior,
+) -> Result<String, Fail> {
+    let r = resource(alloc, "exec", "x", "{}")?;
+    lost_by(alloc, edits, place, &r, behavior)
+}
+
 /// The same of the text of a behavior.
-fn lost_shown(alloc: Global, place: usize, behavior: &str) -> Result<String, Fail> {
+fn lost_in(alloc: Global, edits: &Edits, place: usize, behavior: &str) -> Result<String, Fail> {
     let assumptions = assumptions(alloc, behavior)?;
     match behavior_in(&assumptions) {
-        Some(behavior) => lost_of(alloc, place, behavior),
-        None => Ok(String::from_str(alloc, "no behavior")?),
+        Some(behavior) => lost_of(alloc, edits, place, behavior),
+        None => Err(Fail::from("no behavior")),
     }
+}
+
+/// The same of the two edits.
+fn lost_shown(alloc: Global, place: usize, behavior: &str) -> Result<String, Fail> {
+    let edits = two_edits(alloc)?;
+    lost_in(alloc, &edits, place, behavior)
 }
 
 /// Places, behaviors, and the programs in which edits are lost.
@@ -270,16 +322,21 @@ const LOST: &[(usize, &str, &str)] = &[
     (2, r#"{"needs":[]}"#, "id"),
 ];
 
+/// At a place and of a behavior edits are lost as this program tells.
+fn is_lost(alloc: Global, place: usize, behavior: &str, want: &str) -> Result<(), Fail> {
+    let told = lost_shown(alloc, place, behavior)?;
+    same_at(alloc, place as u64, behavior, told.as_str(), want)
+}
+
 /// At each place and of each behavior edits are lost as the program beside them tells.
-fn are_lost(rt: &impl Abort, alloc: Global, rows: &[(usize, &str, &str)]) -> Result<(), Fail> {
+fn are_lost(alloc: Global, rows: &[(usize, &str, &str)]) -> Result<(), Fail> {
     for (place, behavior, want) in rows {
-        let told = lost_shown(alloc, *place, behavior)?;
-        assert_eq!(rt; told.as_str(), *want, "{place} {behavior}");
+        is_lost(alloc, *place, *behavior, *want)?;
     }
     Ok(())
 }
 
 #[test]
 fn edits_are_lost(rt: HostRuntime) -> Result<(), Fail> {
-    are_lost(&rt, rt.alloc(), LOST)
+    are_lost(rt.alloc(), LOST)
 }

@@ -1,10 +1,9 @@
 //! Texts that are no assumptions.
 
-use crate::answers::{answer_of, expect_refused, text_of};
-use assumed_text::assumptions_from_json;
+use crate::answers::{REFUSED, answer_of, are_refused, is_refused, text_of};
 use std::alloc::Global;
-use std::process::Abort;
 use std::test::Fail;
+use test_rows::{joined, numbered, same_at};
 
 /// Texts of another form.
 const FORMS: &[&str] = &[
@@ -134,60 +133,50 @@ const TWICE: &[&str] = &[
 
 #[test]
 fn other_forms_are_refused(rt: HostRuntime) -> Result<(), Fail> {
-    expect_refused(&rt, rt.alloc(), FORMS)
+    are_refused(rt.alloc(), FORMS)
 }
 
 /// A text with a member of this key and of what is assumed.
 fn text_with(alloc: Global, key: &str, assumed: &str) -> Result<String, Fail> {
-    let member = format!(in alloc; r#""File[/ok]":"none","{key}":{assumed}"#)?;
+    let member = joined(alloc, &[r#""File[/ok]":"none",""#, key, r#"":"#, assumed])?;
     text_of(alloc, member.as_str())
 }
 
 /// A member of this key and of what is assumed is refused.
-fn expect_member_refused(
-    rt: &impl Abort,
-    alloc: Global,
-    key: &str,
-    assumed: &str,
-) -> Result<(), Fail> {
+fn is_refused_member(alloc: Global, key: &str, assumed: &str) -> Result<(), Fail> {
     let text = text_with(alloc, key, assumed)?;
-    expect_refused(rt, alloc, &[text.as_str()])
+    is_refused(alloc, text.as_str(), text.as_bytes())
 }
 
 /// A member of each key is refused.
-fn expect_keys_refused(rt: &impl Abort, alloc: Global, keys: &[&str]) -> Result<(), Fail> {
+fn are_refused_keys(alloc: Global, keys: &[&str]) -> Result<(), Fail> {
     for key in keys {
-        expect_member_refused(rt, alloc, key, r#""none""#)?;
+        is_refused_member(alloc, *key, r#""none""#)?;
     }
     Ok(())
 }
 
 #[test]
 fn other_keys_are_refused(rt: HostRuntime) -> Result<(), Fail> {
-    expect_keys_refused(&rt, rt.alloc(), KEYS)
+    are_refused_keys(rt.alloc(), KEYS)
 }
 
 /// Under a key each of what is assumed is refused.
-fn expect_each_refused(
-    rt: &impl Abort,
-    alloc: Global,
-    key: &str,
-    rows: &[&str],
-) -> Result<(), Fail> {
+fn are_refused_members(alloc: Global, key: &str, rows: &[&str]) -> Result<(), Fail> {
     for assumed in rows {
-        expect_member_refused(rt, alloc, key, assumed)?;
+        is_refused_member(alloc, key, *assumed)?;
     }
     Ok(())
 }
 
 #[test]
 fn other_assumptions_are_refused(rt: HostRuntime) -> Result<(), Fail> {
-    expect_each_refused(&rt, rt.alloc(), "Exec[x]", ASSUMED)
+    are_refused_members(rt.alloc(), "Exec[x]", ASSUMED)
 }
 
 #[test]
 fn paths_stand_once(rt: HostRuntime) -> Result<(), Fail> {
-    expect_each_refused(&rt, rt.alloc(), "exec", TWICE)
+    are_refused_members(rt.alloc(), "exec", TWICE)
 }
 
 /// The keys under which paths stand, with what stands before and behind a path.
@@ -200,77 +189,96 @@ const PARTS: &[(&str, &str)] = &[
     (r#"{"needs":[],"creates":""#, r#""}"#),
 ];
 
-/// A path is refused between what stands before and behind it in each of these parts.
-fn expect_path_refused(
-    rt: &impl Abort,
-    alloc: Global,
-    parts: &[(&str, &str)],
-    path: &str,
-) -> Result<(), Fail> {
+/// A path is refused between what stands before and behind it.
+fn is_refused_between(alloc: Global, before: &str, path: &str, behind: &str) -> Result<(), Fail> {
+    let assumed = joined(alloc, &[before, path, behind])?;
+    is_refused_member(alloc, "exec", assumed.as_str())
+}
+
+/// A path is refused in each of these parts.
+fn is_refused_path(alloc: Global, parts: &[(&str, &str)], path: &str) -> Result<(), Fail> {
     for (before, behind) in parts {
-        let assumed = format!(in alloc; "{before}{path}{behind}")?;
-        expect_member_refused(rt, alloc, "exec", assumed.as_str())?;
+        is_refused_between(alloc, *before, path, *behind)?;
     }
     Ok(())
 }
 
 /// Each path is refused in each of these parts.
-fn expect_paths_refused(
-    rt: &impl Abort,
-    alloc: Global,
-    parts: &[(&str, &str)],
-    paths: &[&str],
-) -> Result<(), Fail> {
+fn are_refused_paths(alloc: Global, parts: &[(&str, &str)], paths: &[&str]) -> Result<(), Fail> {
     for path in paths {
-        expect_path_refused(rt, alloc, parts, path)?;
+        is_refused_path(alloc, parts, *path)?;
     }
     Ok(())
 }
 
 #[test]
 fn other_paths_are_refused(rt: HostRuntime) -> Result<(), Fail> {
-    expect_paths_refused(&rt, rt.alloc(), PARTS, PATHS)
+    are_refused_paths(rt.alloc(), PARTS, PATHS)
 }
 
-/// All but the last of so many paths: a letter, and numbers behind it.
-fn paths(alloc: Global, letter: char, count: usize) -> Result<String, Fail> {
+fn push_path(alloc: Global, front: &str, i: usize, text: &mut String) -> Result<(), Fail> {
+    let path = numbered(alloc, front, i as u64, r#"",""#)?;
+    Ok(text.push_str(path.as_str())?)
+}
+
+/// All but the last of so many paths: the same front, and numbers behind it.
+fn paths(alloc: Global, front: &str, count: usize) -> Result<String, Fail> {
     let mut text = String::new(alloc);
     for i in 1..count {
-        let path = format!(in alloc; r#"/{letter}{i}",""#)?;
-        text.push_str(path.as_str())?;
+        push_path(alloc, front, i, &mut text)?;
     }
     Ok(text)
 }
 
-/// A behavior of so many paths that it needs, and so many that it removes.
-fn of_paths(alloc: Global, needs: usize, removes: usize) -> Result<String, Fail> {
-    let needs = paths(alloc, 'n', needs)?;
-    let removes = paths(alloc, 'r', removes)?;
-    Ok(format!(in alloc;
-        r#""exec":{{"needs":["{needs}/n"],"removes":["{removes}/r"],"creates":"/c"}}"#
+/// A behavior of paths that it needs, and so many that it removes.
+fn with_needs(alloc: Global, needs: &str, removes: usize) -> Result<String, Fail> {
+    let removes = paths(alloc, "/r", removes)?;
+    Ok(joined(
+        alloc,
+        &[
+            r#""exec":{"needs":[""#,
+            needs,
+            r#"/n"],"removes":[""#,
+            removes.as_str(),
+            r#"/r"],"creates":"/c"}"#,
+        ],
     )?)
 }
 
-/// Is such a behavior read?
-fn is_read(alloc: Global, needs: usize, removes: usize) -> Result<bool, Fail> {
+/// A behavior of so many paths that it needs, and so many that it removes.
+fn of_paths(alloc: Global, needs: usize, removes: usize) -> Result<String, Fail> {
+    let needs = paths(alloc, "/n", needs)?;
+    with_needs(alloc, needs.as_str(), removes)
+}
+
+/// What is answered of such a behavior.
+fn told_of_paths(alloc: Global, needs: usize, removes: usize) -> Result<String, Fail> {
     let member = of_paths(alloc, needs, removes)?;
-    let told = answer_of(alloc, member.as_str())?;
-    Ok(told.as_str() != "66 at 0: assume")
+    answer_of(alloc, member.as_str())
+}
+
+fn word(read: bool) -> &'static str {
+    if read { "read" } else { "refused" }
+}
+
+/// Such a behavior is read or not.
+fn is_read(alloc: Global, needs: usize, removes: usize, want: bool) -> Result<(), Fail> {
+    let told = told_of_paths(alloc, needs, removes)?;
+    let read = told.as_str() != REFUSED;
+    same_at(alloc, needs as u64, "needed paths", word(read), word(want))
 }
 
 /// A behavior of each row, so many paths that it needs and that it removes, is read or not.
-fn expect_read(rt: &impl Abort, alloc: Global, rows: &[(usize, usize, bool)]) -> Result<(), Fail> {
+fn are_read(alloc: Global, rows: &[(usize, usize, bool)]) -> Result<(), Fail> {
     for (needs, removes, want) in rows {
-        let accepted = is_read(alloc, *needs, *removes)?;
-        assert_eq!(rt; accepted, *want, "{needs} {removes}");
+        is_read(alloc, *needs, *removes, *want)?;
     }
     Ok(())
 }
 
 #[test]
 fn a_behavior_has_64_paths(rt: HostRuntime) -> Result<(), Fail> {
-    expect_read(
-        &rt,
+    are_read(
         rt.alloc(),
         &[
             (1, 63, true),
@@ -283,7 +291,5 @@ fn a_behavior_has_64_paths(rt: HostRuntime) -> Result<(), Fail> {
 
 #[test]
 fn other_bytes_are_refused(rt: HostRuntime) -> Result<(), Fail> {
-    let found = assumptions_from_json(rt.alloc(), &[b'{', 255, b'}']);
-    assert_eq!(rt; found.is_ok(), false);
-    Ok(())
+    is_refused(rt.alloc(), "no text", &[b'{', 255, b'}'])
 }
