@@ -7,12 +7,12 @@ use catalog::Catalog;
 use catalog_semantics::{Relation, Resource, Sort};
 use catalog_text::catalog_text;
 use compiled_catalog::catalog_of;
+use compiled_text::CompiledCatalog;
 use host_limits::Limits;
 use pp_value::{Ref, shown_ref};
 use std::alloc::Global;
-use std::process::Abort;
 use std::test::Fail;
-use test_rows::refused;
+use test_rows::{numbered, refused, same};
 
 fn add_ref(alloc: Global, r: &Ref, line: &mut String) -> Result<(), Fail> {
     let name = shown_ref(alloc, r)?;
@@ -31,7 +31,7 @@ fn letter(sort: Sort) -> &'static str {
 
 /// Adds a place behind a word.
 fn add_place(alloc: Global, word: &str, place: u32, line: &mut String) -> Result<(), Fail> {
-    let told = format!(in alloc; "{word}{place}")?;
+    let told = numbered(alloc, word, place as u64, "")?;
     line.push_str(told.as_str())?;
     Ok(())
 }
@@ -118,6 +118,19 @@ fn part_of(alloc: Global, part: Part, catalog: &Catalog) -> Result<String, Fail>
 }
 
 /// A part of the catalog, or the refusal.
+fn answer_of(
+    alloc: Global,
+    part: Part,
+    limits: Limits,
+    compiled: &CompiledCatalog,
+) -> Result<String, Fail> {
+    match catalog_of(alloc, compiled, limits) {
+        Ok(catalog) => part_of(alloc, part, &catalog),
+        Err(fault) => Ok(refused(alloc, &fault)?),
+    }
+}
+
+/// The same of texts of resources and edges.
 fn answer(
     alloc: Global,
     part: Part,
@@ -126,15 +139,11 @@ fn answer(
     edges: &str,
 ) -> Result<String, Fail> {
     let compiled = compiled(alloc, resources, edges)?;
-    match catalog_of(alloc, &compiled, limits) {
-        Ok(catalog) => part_of(alloc, part, &catalog),
-        Err(fault) => Ok(refused(alloc, &fault)?),
-    }
+    answer_of(alloc, part, limits, &compiled)
 }
 
 /// This is answered.
-pub fn expect(
-    rt: &impl Abort,
+pub fn is_answered(
     alloc: Global,
     part: Part,
     limits: Limits,
@@ -143,36 +152,18 @@ pub fn expect(
     want: &str,
 ) -> Result<(), Fail> {
     let told = answer(alloc, part, limits, resources, edges)?;
-    assert_eq!(rt; told.as_str(), want, "{resources}");
-    Ok(())
+    same(alloc, resources, told.as_str(), want)
 }
 
 /// The same of what comes before links, within the limits of a host.
-pub fn expect_relations(
-    rt: &impl Abort,
-    alloc: Global,
-    resources: &str,
-    want: &str,
-) -> Result<(), Fail> {
-    expect(
-        rt,
-        alloc,
-        Part::Relations,
-        Limits::Host,
-        resources,
-        "",
-        want,
-    )
+pub fn is_related(alloc: Global, resources: &str, want: &str) -> Result<(), Fail> {
+    is_answered(alloc, Part::Relations, Limits::Host, resources, "", want)
 }
 
 /// The same of each row's resources.
-pub fn expect_each_relations(
-    rt: &impl Abort,
-    alloc: Global,
-    rows: &[(&str, &str)],
-) -> Result<(), Fail> {
+pub fn are_related(alloc: Global, rows: &[(&str, &str)]) -> Result<(), Fail> {
     for (resources, want) in rows {
-        expect_relations(rt, alloc, resources, want)?;
+        is_related(alloc, *resources, *want)?;
     }
     Ok(())
 }

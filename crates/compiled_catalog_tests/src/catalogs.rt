@@ -1,9 +1,8 @@
 //! Catalogs of small hosts.
 
-use crate::answers::{Part, expect};
+use crate::answers::{Part, is_answered};
 use host_limits::Limits;
 use std::alloc::Global;
-use std::process::Abort;
 use std::test::Fail;
 
 /// Resources and edges, and what stands where: the sort of each resource, its reference, the place of its container, and what is in it.
@@ -29,22 +28,22 @@ const PLACED: &[(&str, &str, &str)] = &[
     ),
 ];
 
-/// Of each row's resources and edges a part of the catalog is what stands beside them.
-fn expect_part(
-    rt: &impl Abort,
-    alloc: Global,
-    part: Part,
-    rows: &[(&str, &str, &str)],
-) -> Result<(), Fail> {
+/// The resources of these texts are placed so.
+fn is_placed(alloc: Global, resources: &str, edges: &str, want: &str) -> Result<(), Fail> {
+    is_answered(alloc, Part::Resources, Limits::Host, resources, edges, want)
+}
+
+/// The resources of each row's texts are placed as what stands beside them.
+fn are_placed(alloc: Global, rows: &[(&str, &str, &str)]) -> Result<(), Fail> {
     for (resources, edges, want) in rows {
-        expect(rt, alloc, part, Limits::Host, resources, edges, want)?;
+        is_placed(alloc, *resources, *edges, *want)?;
     }
     Ok(())
 }
 
 #[test]
 fn resources_in_containers(rt: HostRuntime) -> Result<(), Fail> {
-    expect_part(&rt, rt.alloc(), Part::Resources, PLACED)
+    are_placed(rt.alloc(), PLACED)
 }
 
 /// Resources, and the text of their catalog.
@@ -73,15 +72,20 @@ const TEXTS: &[(&str, &str)] = &[
     ),
 ];
 
+/// The catalog of these resources has this text.
+fn has_text(alloc: Global, resources: &str, want: &str) -> Result<(), Fail> {
+    is_answered(alloc, Part::Text, Limits::Host, resources, "", want)
+}
+
 /// The catalog of each row's resources has the text beside them.
-fn expect_texts(rt: &impl Abort, alloc: Global, rows: &[(&str, &str)]) -> Result<(), Fail> {
+fn have_texts(alloc: Global, rows: &[(&str, &str)]) -> Result<(), Fail> {
     for (resources, want) in rows {
-        expect(rt, alloc, Part::Text, Limits::Host, resources, "", want)?;
+        has_text(alloc, *resources, *want)?;
     }
     Ok(())
 }
 
 #[test]
 fn texts_of_catalogs(rt: HostRuntime) -> Result<(), Fail> {
-    expect_texts(&rt, rt.alloc(), TEXTS)
+    have_texts(rt.alloc(), TEXTS)
 }

@@ -3,11 +3,11 @@
 use crate::texts::compiled;
 use compiled_relations::{Index, are_references, related_to};
 use compiled_text::{CompiledCatalog, CompiledResource};
-use pp_value::{Value, show, shown_ref};
+use pp_value::{Ref, Value, show, shown_ref};
+use rh_base::{Boxed, Fault};
 use std::alloc::Global;
-use std::process::Abort;
 use std::test::Fail;
-use test_rows::refused;
+use test_rows::{joined, refused, same};
 
 /// Two files, of which the first has an alias, a package with aliases, a class, files with paths of their own, and files that are put
 /// together of fragments.
@@ -82,42 +82,47 @@ const FOUND: &[(&str, &str)] = &[
     ("", "-"),
 ];
 
-fn found(alloc: Global, index: &Index, text: &str) -> Result<String, Fail> {
-    match index.found_by(alloc, text)? {
-        Some(r) => Ok(shown_ref(alloc, &r)?.into_string()),
+/// What is found, or a dash.
+fn found_shown(alloc: Global, found: &Option<Ref>) -> Result<String, Fail> {
+    match found {
+        Some(r) => Ok(shown_ref(alloc, r)?.into_string()),
         None => Ok(String::from_str(alloc, "-")?),
     }
 }
 
+fn found(alloc: Global, index: &Index, text: &str) -> Result<String, Fail> {
+    let found = index.found_by(alloc, text)?;
+    found_shown(alloc, &found)
+}
+
+/// A reference finds this.
+fn is_found(alloc: Global, index: &Index, text: &str, want: &str) -> Result<(), Fail> {
+    let told = found(alloc, index, text)?;
+    same(alloc, text, told.as_str(), want)
+}
+
 /// Each reference finds what its row has.
-fn expect_found(
-    rt: &impl Abort,
-    alloc: Global,
-    index: &Index,
-    rows: &[(&str, &str)],
-) -> Result<(), Fail> {
+fn are_found(alloc: Global, index: &Index, rows: &[(&str, &str)]) -> Result<(), Fail> {
     for (text, want) in rows {
-        let told = found(alloc, index, text)?;
-        assert_eq!(rt; told.as_str(), *want, "{text}");
+        is_found(alloc, index, *text, *want)?;
     }
     Ok(())
 }
 
 /// The same among these resources.
-fn expect_found_in(
-    rt: &impl Abort,
+fn are_found_in(
     alloc: Global,
     resources: &[CompiledResource],
     rows: &[(&str, &str)],
 ) -> Result<(), Fail> {
     let index = Index::new(alloc, resources)?;
-    expect_found(rt, alloc, &index, rows)
+    are_found(alloc, &index, rows)
 }
 
 #[test]
 fn references_find(rt: HostRuntime) -> Result<(), Fail> {
     let compiled = compiled(rt.alloc(), RESOURCES, "")?;
-    expect_found_in(&rt, rt.alloc(), compiled.resources(), FOUND)
+    are_found_in(rt.alloc(), compiled.resources(), FOUND)
 }
 
 /// A value in JSON, and what it is as a relation of a resource.
@@ -155,6 +160,18 @@ const VALUES: &[(&str, &str)] = &[
     ),
 ];
 
+fn text_of(alloc: Global, value: &Value) -> Result<String, Fail> {
+    Ok(show(alloc, value)?.into_string())
+}
+
+/// A value as it is shown, or the refusal.
+fn shown(alloc: Global, related: &Result<Value, Fault>) -> Result<String, Fail> {
+    match related {
+        Ok(value) => text_of(alloc, value),
+        Err(fault) => Ok(refused(alloc, fault)?),
+    }
+}
+
 /// What a value is as a relation of a resource.
 fn value_shown(
     alloc: Global,
@@ -162,16 +179,14 @@ fn value_shown(
     r: &CompiledResource,
     value: &Value,
 ) -> Result<String, Fail> {
-    match related_to(alloc, index, r, value) {
-        Ok(value) => Ok(show(alloc, &value)?.into_string()),
-        Err(fault) => Ok(refused(alloc, &fault)?),
-    }
+    let related = Boxed::new(alloc, related_to(alloc, index, r, value))?;
+    shown(alloc, related.get())
 }
 
 /// The same of what a resource requires, if that is a reference or references.
 fn related(alloc: Global, index: &Index, r: &CompiledResource) -> Result<String, Fail> {
     let Some(value) = r.parameters.find("require") else {
-        return Ok(String::new(alloc));
+        return Err(Fail::from("a resource that requires"));
     };
     if !are_references(alloc, value)? {
         return Ok(String::from_str(alloc, "29")?);
@@ -184,14 +199,20 @@ fn related_last(alloc: Global, resources: &[CompiledResource]) -> Result<String,
     let index = Index::new(alloc, resources)?;
     match resources.last() {
         Some(r) => related(alloc, &index, r),
-        None => Ok(String::new(alloc)),
+        None => Err(Fail::from("a last resource")),
     }
 }
 
 /// The resources, and one that requires a value.
 fn requiring(alloc: Global, value: &str) -> Result<CompiledCatalog, Fail> {
-    let resources = format!(in alloc;
-        r#"{RESOURCES},{{"type":"Exec","title":"e","kind":"compilable_type","file":"/m/a.pp","line":7,"parameters":{{"require":{value}}}}}"#
+    let resources = joined(
+        alloc,
+        &[
+            RESOURCES,
+            r#",{"type":"Exec","title":"e","kind":"compilable_type","file":"/m/a.pp","line":7,"parameters":{"require":"#,
+            value,
+            r#"}}"#,
+        ],
     )?;
     compiled(alloc, resources.as_str(), "")
 }
@@ -202,16 +223,21 @@ fn related_shown(alloc: Global, value: &str) -> Result<String, Fail> {
     related_last(alloc, compiled.resources())
 }
 
+/// A value is this as a relation.
+fn is_relation(alloc: Global, value: &str, want: &str) -> Result<(), Fail> {
+    let told = related_shown(alloc, value)?;
+    same(alloc, value, told.as_str(), want)
+}
+
 /// The value of each row is as a relation what stands beside it.
-fn expect_related(rt: &impl Abort, alloc: Global, rows: &[(&str, &str)]) -> Result<(), Fail> {
+fn are_relations(alloc: Global, rows: &[(&str, &str)]) -> Result<(), Fail> {
     for (value, want) in rows {
-        let told = related_shown(alloc, value)?;
-        assert_eq!(rt; told.as_str(), *want, "{value}");
+        is_relation(alloc, *value, *want)?;
     }
     Ok(())
 }
 
 #[test]
 fn values_of_relations(rt: HostRuntime) -> Result<(), Fail> {
-    expect_related(&rt, rt.alloc(), VALUES)
+    are_relations(rt.alloc(), VALUES)
 }

@@ -1,12 +1,25 @@
 //! How many resources there may be, and how large their attributes.
 
-use crate::answers::{Part, expect, expect_relations};
+use crate::answers::{Part, is_answered, is_related};
 use host_limits::Limits;
 use std::alloc::Global;
-use std::process::Abort;
 use std::test::Fail;
+use test_rows::{joined, numbered};
 
-/// Adds a resource with a number for its title, behind a comma if it isn't the first.
+fn comma(i: usize) -> &'static str {
+    if i > 0 { "," } else { "" }
+}
+
+/// A resource with a number for its title, behind a comma if it isn't the first.
+fn resource(alloc: Global, i: usize, front: &str, parameters: &str) -> Result<String, Fail> {
+    let title = numbered(alloc, r#","title":"/"#, i as u64, r#"","parameters":{"#)?;
+    Ok(joined(
+        alloc,
+        &[comma(i), "{", front, title.as_str(), parameters, "}}"],
+    )?)
+}
+
+/// Adds such a resource.
 fn add_resource(
     alloc: Global,
     i: usize,
@@ -14,12 +27,8 @@ fn add_resource(
     parameters: &str,
     text: &mut String,
 ) -> Result<(), Fail> {
-    let comma = if i > 0 { "," } else { "" };
-    let one = format!(in alloc;
-        r#"{comma}{{{front},"title":"/{i}","parameters":{{{parameters}}}}}"#
-    )?;
-    text.push_str(one.as_str())?;
-    Ok(())
+    let one = resource(alloc, i, front, parameters)?;
+    Ok(text.push_str(one.as_str())?)
 }
 
 /// So many resources of a type and a kind, each with these parameters.
@@ -47,8 +56,8 @@ const COUNTS: &[(usize, &str, Limits, &str)] = &[
     (4_097, CONTAINER, Limits::Host, ""),
 ];
 
-fn expect_count(
-    rt: &impl Abort,
+/// This is answered of so many within these limits.
+fn is_counted(
     alloc: Global,
     count: usize,
     front: &str,
@@ -56,24 +65,20 @@ fn expect_count(
     want: &str,
 ) -> Result<(), Fail> {
     let text = resources(alloc, count, front, "")?;
-    expect(rt, alloc, Part::Relations, limits, text.as_str(), "", want)
+    is_answered(alloc, Part::Relations, limits, text.as_str(), "", want)
 }
 
 /// The same of each row.
-fn expect_counts(
-    rt: &impl Abort,
-    alloc: Global,
-    rows: &[(usize, &str, Limits, &str)],
-) -> Result<(), Fail> {
+fn are_counted(alloc: Global, rows: &[(usize, &str, Limits, &str)]) -> Result<(), Fail> {
     for (count, front, limits, want) in rows {
-        expect_count(rt, alloc, *count, front, *limits, want)?;
+        is_counted(alloc, *count, *front, *limits, *want)?;
     }
     Ok(())
 }
 
 #[test]
 fn counts_are_limited(rt: HostRuntime) -> Result<(), Fail> {
-    expect_counts(&rt, rt.alloc(), COUNTS)
+    are_counted(rt.alloc(), COUNTS)
 }
 
 /// How many dots make a text of the size of a value's limit, or of one more.
@@ -85,20 +90,19 @@ fn dots_of(is_large: bool) -> usize {
 /// A text in JSON of so many dots.
 fn text(alloc: Global, count: usize) -> Result<String, Fail> {
     let dots = ".".repeat(alloc, count)?;
-    Ok(format!(in alloc; r#""message":"{dots}""#)?)
+    Ok(joined(alloc, &[r#""message":""#, dots.as_str(), r#"""#])?)
 }
 
-/// What is answered where so many resources have such a text.
-fn expect_texts(
-    rt: &impl Abort,
-    alloc: Global,
-    is_large: bool,
-    count: usize,
-    want: &str,
-) -> Result<(), Fail> {
-    let parameters = text(alloc, dots_of(is_large))?;
-    let text = resources(alloc, count, NATIVE, parameters.as_str())?;
-    expect_relations(rt, alloc, text.as_str(), want)
+/// So many resources, each with a text of so many dots.
+fn with_texts(alloc: Global, dots: usize, count: usize) -> Result<String, Fail> {
+    let parameters = text(alloc, dots)?;
+    resources(alloc, count, NATIVE, parameters.as_str())
+}
+
+/// This is answered where so many resources have such a text.
+fn is_sized(alloc: Global, is_large: bool, count: usize, want: &str) -> Result<(), Fail> {
+    let text = with_texts(alloc, dots_of(is_large), count)?;
+    is_related(alloc, text.as_str(), want)
 }
 
 /// Whether a text is too large, how many resources have it, and the refusal.
@@ -111,14 +115,14 @@ const SIZES: &[(bool, usize, &str)] = &[
 ];
 
 /// The same of each row.
-fn expect_sizes(rt: &impl Abort, alloc: Global, rows: &[(bool, usize, &str)]) -> Result<(), Fail> {
+fn are_sized(alloc: Global, rows: &[(bool, usize, &str)]) -> Result<(), Fail> {
     for (is_large, count, want) in rows {
-        expect_texts(rt, alloc, *is_large, *count, want)?;
+        is_sized(alloc, *is_large, *count, *want)?;
     }
     Ok(())
 }
 
 #[test]
 fn values_are_limited(rt: HostRuntime) -> Result<(), Fail> {
-    expect_sizes(&rt, rt.alloc(), SIZES)
+    are_sized(rt.alloc(), SIZES)
 }

@@ -1,6 +1,6 @@
 //! What comes before links.
 
-use crate::answers::expect_each_relations;
+use crate::answers::are_related;
 use std::test::Fail;
 
 /// Resources, and what comes before which link.
@@ -84,5 +84,5 @@ const LINKS: &[(&str, &str)] = &[
 
 #[test]
 fn links_come_after_their_targets(rt: HostRuntime) -> Result<(), Fail> {
-    expect_each_relations(&rt, rt.alloc(), LINKS)
+    are_related(rt.alloc(), LINKS)
 }

@@ -1,6 +1,6 @@
 //! Compiled catalogs that are refused.
 
-use crate::answers::expect_each_relations;
+use crate::answers::are_related;
 use std::test::Fail;
 
 /// Resources, and the refusal.
@@ -57,5 +57,5 @@ const REFUSED: &[(&str, &str)] = &[
 
 #[test]
 fn catalogs_that_are_refused(rt: HostRuntime) -> Result<(), Fail> {
-    expect_each_relations(&rt, rt.alloc(), REFUSED)
+    are_related(rt.alloc(), REFUSED)
 }

@@ -3,10 +3,20 @@
 use compiled_text::{CompiledCatalog, compiled_from_json};
 use std::alloc::Global;
 use std::test::Fail;
+use test_rows::joined;
 
 /// The text of these resources and edges.
 pub fn text_of(alloc: Global, resources: &str, edges: &str) -> Result<String, Fail> {
-    Ok(format!(in alloc; r#"{{"catalog_format":2,"resources":[{resources}],"edges":[{edges}]}}"#)?)
+    Ok(joined(
+        alloc,
+        &[
+            r#"{"catalog_format":2,"resources":["#,
+            resources,
+            r#"],"edges":["#,
+            edges,
+            r#"]}"#,
+        ],
+    )?)
 }
 
 /// The compiled catalog of these resources and edges.
