@@ -88,17 +88,17 @@ fn without(order: &Order, r: u32) -> Result<Order, Fail> {
     Err("a node that isn't there".into())
 }
 
-/// Of a chain of so many nodes, the last of which is the first, these stand so without one, by their numbers without it.
-fn chain_without(
+/// Of so many nodes with these edges, these stand so without one, by their numbers without it.
+fn edges_order_without(
     rt: &(impl Abort + AllocGlobal),
+    n: u32,
     edges: &[(u32, u32)],
     left_out: u32,
     pairs: &[Pair],
 ) -> Result<(), Fail> {
-    let count = edges.len() as u32;
-    let order = ordered(rt, count + 1, edges)?;
+    let order = ordered(rt, n, edges)?;
     let rest = without(&order, left_out)?;
-    stand(rt.alloc(), &rest, count, pairs)
+    stand(rt.alloc(), &rest, n.saturating_sub(1), pairs)
 }
 
 /// Three of four nodes one before the other; the second edge stands first.
@@ -136,8 +136,9 @@ fn nodes_without_a_path_are_free(rt: HostRuntime) -> Result<(), Fail> {
 
 #[test]
 fn one_left_out(rt: HostRuntime) -> Result<(), Fail> {
-    chain_without(
+    edges_order_without(
         &rt,
+        3,
         &[(0, 1), (1, 2)],
         1,
         &[(0, 1, "before"), (1, 0, "neither")],
@@ -167,7 +168,13 @@ fn rows_are_longer_than_a_word(rt: HostRuntime) -> Result<(), Fail> {
 #[test]
 fn one_left_out_of_long_rows(rt: HostRuntime) -> Result<(), Fail> {
     let edges = chain(rt.alloc(), 129)?;
-    chain_without(&rt, &edges, 64, &[(64, 63, "before"), (63, 64, "neither")])
+    edges_order_without(
+        &rt,
+        130,
+        &edges,
+        64,
+        &[(64, 63, "before"), (63, 64, "neither")],
+    )
 }
 
 // ---- cycles
