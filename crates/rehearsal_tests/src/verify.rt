@@ -1,26 +1,30 @@
 //! Manifests that are judged, and manifests that are refused.
 
-use crate::common::{NONE, ONE, TWO, Told, compare, compare_told, push_all, run, run_over};
+use crate::common::{NONE, ONE, TWO, Told, compare, run, run_over};
 use crate::differences::USUAL;
 use std::alloc::Global;
+use std::process::Abort;
 use std::test::Fail;
-use test_rows::number_text;
 
-/// Words over a file `site.pp` of this text give so much, with this status.
-fn is_told(alloc: Global, words: &[&str], status: u8, text: &str, want: &str) -> Result<(), Fail> {
-    let told = run(alloc, words, text.as_bytes())?;
-    compare_told(alloc, &told, status, want, text)
+/// Compares what was told with a report, or with a refusal, whose status is 4 or 5.
+pub fn is_told(rt: &impl Abort, told: &Told, status: u8, text: &str, row: &str) {
+    if status == 4 || status == 5 {
+        compare(rt, told, status, "", text, row);
+    } else {
+        compare(rt, told, status, text, "", row);
+    }
 }
 
 /// Each row: the text of the file `site.pp`, and what the words give over it, with this status.
 pub fn all_told(
-    alloc: Global,
+    rt: &(impl Abort + AllocGlobal),
     words: &[&str],
     status: u8,
     rows: &[(&str, &str)],
 ) -> Result<(), Fail> {
     for (text, want) in rows {
-        is_told(alloc, words, status, *text, *want)?;
+        let told = run(rt.alloc(), words, text.as_bytes())?;
+        is_told(rt, &told, status, *want, *text);
     }
     Ok(())
 }
@@ -28,7 +32,7 @@ pub fn all_told(
 #[test]
 fn manifests_that_are_judged(rt: HostRuntime) -> Result<(), Fail> {
     all_told(
-        rt.alloc(),
+        &rt,
         &["site.pp"],
         0,
         &[
@@ -55,7 +59,7 @@ fn manifests_that_are_judged(rt: HostRuntime) -> Result<(), Fail> {
 #[test]
 fn orders_that_do_not_matter(rt: HostRuntime) -> Result<(), Fail> {
     all_told(
-        rt.alloc(),
+        &rt,
         &["site.pp"],
         0,
         &[
@@ -98,16 +102,11 @@ fn told_beside(alloc: Global, manifest: &str) -> Result<Told, Fail> {
     run_over(alloc, &["--packages", "listing", "site.pp"], &over)
 }
 
-/// This is told of a manifest beside that listing.
-fn is_judged(alloc: Global, manifest: &str, report: &str) -> Result<(), Fail> {
-    let told = told_beside(alloc, manifest)?;
-    compare(alloc, &told, 0, report, "", manifest)
-}
-
 /// Each row: a manifest beside that listing, and what is told of it.
-fn all_judged(alloc: Global, rows: &[(&str, &str)]) -> Result<(), Fail> {
+fn all_judged(rt: &(impl Abort + AllocGlobal), rows: &[(&str, &str)]) -> Result<(), Fail> {
     for (manifest, report) in rows {
-        is_judged(alloc, *manifest, *report)?;
+        let told = told_beside(rt.alloc(), *manifest)?;
+        compare(rt, &told, 0, *report, "", *manifest);
     }
     Ok(())
 }
@@ -116,7 +115,7 @@ fn all_judged(alloc: Global, rows: &[(&str, &str)]) -> Result<(), Fail> {
 #[test]
 fn usual_hosts(rt: HostRuntime) -> Result<(), Fail> {
     all_judged(
-        rt.alloc(),
+        &rt,
         &[
             (
                 "package { ['a', 'b', 'c']: } file { '/etc/a.conf': content => 'a', require => Package['a'] } file { '/etc/b.conf': content => 'b', require => Package['b'] } file { '/etc/c.conf': content => 'c', require => Package['c'] }",
@@ -141,7 +140,7 @@ fn usual_hosts(rt: HostRuntime) -> Result<(), Fail> {
 #[test]
 fn graphs_that_always_fail(rt: HostRuntime) -> Result<(), Fail> {
     all_judged(
-        rt.alloc(),
+        &rt,
         &[
             (
                 "package { ['x', 'z']: } file { '/f': content => 'f' } file { '/f/g': content => 'g' }",
@@ -252,19 +251,14 @@ const REFUSED: [(&str, &str); 38] = [
 
 #[test]
 fn manifests_that_are_refused(rt: HostRuntime) -> Result<(), Fail> {
-    all_told(rt.alloc(), &["site.pp"], 4, &REFUSED)
-}
-
-/// These bytes are refused with this line.
-fn is_refused(alloc: Global, bytes: &[u8], line: &str) -> Result<(), Fail> {
-    let told = run(alloc, &["site.pp"], bytes)?;
-    compare(alloc, &told, 4, "", line, line)
+    all_told(&rt, &["site.pp"], 4, &REFUSED)
 }
 
 /// Each row: bytes, and the line of their refusal.
-fn all_refused(alloc: Global, rows: &[(&[u8], &str)]) -> Result<(), Fail> {
+fn all_refused(rt: &(impl Abort + AllocGlobal), rows: &[(&[u8], &str)]) -> Result<(), Fail> {
     for (bytes, line) in rows {
-        is_refused(alloc, *bytes, *line)?;
+        let told = run(rt.alloc(), &["site.pp"], *bytes)?;
+        compare(rt, &told, 4, "", *line, *line);
     }
     Ok(())
 }
@@ -272,7 +266,7 @@ fn all_refused(alloc: Global, rows: &[(&[u8], &str)]) -> Result<(), Fail> {
 #[test]
 fn bytes_that_are_no_text(rt: HostRuntime) -> Result<(), Fail> {
     all_refused(
-        rt.alloc(),
+        &rt,
         &[
             (b"\xff", "refused 10 at 0: utf8\n"),
             (
@@ -283,26 +277,12 @@ fn bytes_that_are_no_text(rt: HostRuntime) -> Result<(), Fail> {
     )
 }
 
-/// Adds a file at the path of a number.
-fn push_file(alloc: Global, manifest: &mut String, number: u64) -> Result<(), Fail> {
-    let number = number_text(alloc, number)?;
-    push_all(
-        manifest,
-        &[
-            "file { '/f",
-            number.as_str(),
-            "': content => '",
-            number.as_str(),
-            "' }\n",
-        ],
-    )
-}
-
 /// So many files, each at a path of its own.
 fn files_apart(alloc: Global, count: u32) -> Result<String, Fail> {
     let mut manifest = String::new(alloc);
     for i in 1..=count {
-        push_file(alloc, &mut manifest, i as u64)?;
+        let line = format!(in alloc; "file {{ '/f{i}': content => '{i}' }}\n")?;
+        manifest.push_str(line.as_str())?;
     }
     Ok(manifest)
 }
@@ -313,22 +293,14 @@ fn told_of_files(alloc: Global, words: &[&str], count: u32) -> Result<Told, Fail
     run(alloc, words, manifest.as_bytes())
 }
 
-/// So many files are told of so.
-fn is_told_of_files(
-    alloc: Global,
-    words: &[&str],
-    count: u32,
-    status: u8,
-    want: &str,
-) -> Result<(), Fail> {
-    let told = told_of_files(alloc, words, count)?;
-    compare_told(alloc, &told, status, want, "many files")
-}
-
 /// Each row: words, how many files there are, and the status and what is told of them.
-fn all_files(alloc: Global, rows: &[(&[&str], u32, u8, &str)]) -> Result<(), Fail> {
+fn all_files(
+    rt: &(impl Abort + AllocGlobal),
+    rows: &[(&[&str], u32, u8, &str)],
+) -> Result<(), Fail> {
     for (words, count, status, want) in rows {
-        is_told_of_files(alloc, *words, *count, *status, *want)?;
+        let told = told_of_files(rt.alloc(), *words, *count)?;
+        is_told(rt, &told, *status, *want, "many files");
     }
     Ok(())
 }
@@ -336,7 +308,7 @@ fn all_files(alloc: Global, rows: &[(&[&str], u32, u8, &str)]) -> Result<(), Fai
 #[test]
 fn many_files(rt: HostRuntime) -> Result<(), Fail> {
     all_files(
-        rt.alloc(),
+        &rt,
         &[
             (
                 &["site.pp"],
@@ -367,15 +339,11 @@ fn told_of_blanks(alloc: Global, count: usize) -> Result<Told, Fail> {
     run(alloc, &["site.pp"], &manifest)
 }
 
-fn is_told_of_blanks(alloc: Global, count: usize, status: u8, want: &str) -> Result<(), Fail> {
-    let told = told_of_blanks(alloc, count)?;
-    compare_told(alloc, &told, status, want, "blanks")
-}
-
 /// Each row: how many blanks there are, and the status and what is told of them.
-fn all_blanks(alloc: Global, rows: &[(usize, u8, &str)]) -> Result<(), Fail> {
+fn all_blanks(rt: &(impl Abort + AllocGlobal), rows: &[(usize, u8, &str)]) -> Result<(), Fail> {
     for (count, status, want) in rows {
-        is_told_of_blanks(alloc, *count, *status, *want)?;
+        let told = told_of_blanks(rt.alloc(), *count)?;
+        is_told(rt, &told, *status, *want, "blanks");
     }
     Ok(())
 }
@@ -383,7 +351,7 @@ fn all_blanks(alloc: Global, rows: &[(usize, u8, &str)]) -> Result<(), Fail> {
 #[test]
 fn a_manifest_at_its_limit(rt: HostRuntime) -> Result<(), Fail> {
     all_blanks(
-        rt.alloc(),
+        &rt,
         &[(262_144, 0, NONE), (262_145, 4, "refused 17 at 0: input\n")],
     )
 }

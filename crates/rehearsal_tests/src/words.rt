@@ -1,34 +1,24 @@
 //! Words that are taken and words that are refused.
 
-use crate::common::{NONE, compare_told, run};
-use std::alloc::Global;
+use crate::common::{NONE, run};
+use crate::verify::is_told;
+use std::process::Abort;
 use std::test::Fail;
 
 const USAGE: &str =
     "usage: rehearsal [--facts F] [--packages P] [--node N] [--conflicts C] [--ask A] [--tree T] [--order O] [--workload N] [--path P] [--content T] [--other M] [--data D] [--compiled C] [--assume S] [--given G] [--limits L] [INPUT]\n";
 
-/// Words over a file `site.pp` of these bytes give this status and text.
-fn is_told(
-    alloc: Global,
-    bytes: &[u8],
-    status: u8,
-    want: &str,
-    words: &[&str],
-) -> Result<(), Fail> {
-    let told = run(alloc, words, bytes)?;
-    compare_told(alloc, &told, status, want, "words")
-}
-
 /// Each row: words, which over a file `site.pp` of these bytes all give this status and text.
 fn all_told(
-    alloc: Global,
+    rt: &(impl Abort + AllocGlobal),
     bytes: &[u8],
     status: u8,
     want: &str,
     rows: &[&[&str]],
 ) -> Result<(), Fail> {
     for words in rows {
-        is_told(alloc, bytes, status, want, *words)?;
+        let told = run(rt.alloc(), *words, bytes)?;
+        is_told(rt, &told, status, want, "words");
     }
     Ok(())
 }
@@ -36,7 +26,7 @@ fn all_told(
 #[test]
 fn words_that_ask_to_verify(rt: HostRuntime) -> Result<(), Fail> {
     all_told(
-        rt.alloc(),
+        &rt,
         b"",
         0,
         NONE,
@@ -60,7 +50,7 @@ fn words_that_ask_to_verify(rt: HostRuntime) -> Result<(), Fail> {
 #[test]
 fn words_that_ask_about_a_catalog(rt: HostRuntime) -> Result<(), Fail> {
     all_told(
-        rt.alloc(),
+        &rt,
         br#"{"catalog_format":2,"resources":[],"edges":[]}"#,
         0,
         NONE,
@@ -182,5 +172,5 @@ const REFUSED: [&[&str]; 81] = [
 
 #[test]
 fn words_that_are_refused(rt: HostRuntime) -> Result<(), Fail> {
-    all_told(rt.alloc(), b"", 5, USAGE, &REFUSED)
+    all_told(&rt, b"", 5, USAGE, &REFUSED)
 }
