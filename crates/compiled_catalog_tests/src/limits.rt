@@ -4,22 +4,9 @@ use crate::answers::{Part, is_answered, is_related};
 use host_limits::Limits;
 use std::alloc::Global;
 use std::test::Fail;
-use test_rows::{joined, numbered};
+use test_rows::joined;
 
-fn comma(i: usize) -> &'static str {
-    if i > 0 { "," } else { "" }
-}
-
-/// A resource with a number for its title, behind a comma if it isn't the first.
-fn resource(alloc: Global, i: usize, front: &str, parameters: &str) -> Result<String, Fail> {
-    let title = numbered(alloc, r#","title":"/"#, i as u64, r#"","parameters":{"#)?;
-    Ok(joined(
-        alloc,
-        &[comma(i), "{", front, title.as_str(), parameters, "}}"],
-    )?)
-}
-
-/// Adds such a resource.
+/// Adds a resource with a number for its title, behind a comma if it isn't the first.
 fn add_resource(
     alloc: Global,
     i: usize,
@@ -27,8 +14,12 @@ fn add_resource(
     parameters: &str,
     text: &mut String,
 ) -> Result<(), Fail> {
-    let one = resource(alloc, i, front, parameters)?;
-    Ok(text.push_str(one.as_str())?)
+    let comma = if i > 0 { "," } else { "" };
+    let one = format!(in alloc;
+        r#"{comma}{{{front},"title":"/{i}","parameters":{{{parameters}}}}}"#
+    )?;
+    text.push_str(one.as_str())?;
+    Ok(())
 }
 
 /// So many resources of a type and a kind, each with these parameters.
